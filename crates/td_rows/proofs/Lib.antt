@@ -1,0 +1,9 @@
+pub mod CellLaws
+pub mod Keys
+pub mod Lookups
+pub mod Places
+pub mod Rising
+pub mod Tables
+pub mod Inserts
+pub mod Overlays
+pub mod Lists

@@ -1,0 +1,12 @@
+pub mod Text
+pub mod Keys
+pub mod Cells
+pub mod Blank
+pub mod Kinds
+pub mod Numbers
+pub mod States
+pub mod Meaning
+pub mod Table
+pub mod Kept
+pub mod Overlay
+pub mod Laws

@@ -1,0 +1,36 @@
+ghost use Rattle.std.specs.Prelude.{◌≡◌};
+ghost use Rattle.td_rows.specs.Cells.{overlap};
+
+/// Which fields of a row a kind reads and writes.
+#[derive(Clone, Copy, Debug, PartialEq, Eq)]
+pub struct Cells {
+    pub state: bool,
+    pub priority: bool,
+    pub number: bool,
+    pub dep_wait: bool,
+    pub extra: bool,
+}
+
+impl Cells {
+    ghost use Rattle.td_rows.specs.Cells.{overlap};
+
+    /// Every field.
+    pub const ALL: Cells = Cells {
+        state: true,
+        priority: true,
+        number: true,
+        dep_wait: true,
+        extra: true,
+    };
+
+    /// Whether some field is in both.
+    pub fn overlap(self, other: Cells) -> bool
+        ensures { result ≡ overlap self other }
+    {
+        (self.state && other.state)
+            || (self.priority && other.priority)
+            || (self.number && other.number)
+            || (self.dep_wait && other.dep_wait)
+            || (self.extra && other.extra)
+    }
+}

@@ -1,0 +1,135 @@
+ghost use Rattle.std.specs.Prelude.{true, false, ◌≡◌, ◌↔◌, ◌^◌, ◌<◌, ◌≢◌, ℕ, List, [], ◌∷◌, length, IfOk, IsErrOf, IsOk, string_bytes};
+ghost use Rattle.std.proofs.Common.{rules};
+ghost use Rattle.td_rows.specs.Text.{has_newline};
+ghost use Rattle.std.specs.Bool.{◌==◌};
+ghost use Rattle.std.specs.Cmp.{partial_order_from_own_ties};
+ghost use Rattle.std.specs.Cmp.Rules.{comparing, hashing};
+ghost use Rattle.std.specs.Hash as fed;
+ghost use Rattle.std.specs.Cmp.Lexicographic.{slice_cmp, pointwise};
+ghost use Rattle.std.specs.Ordering.{nat_cmp, as_partial_cmp};
+
+use std::alloc::{AllocError, Global};
+use std::cmp::Ordering;
+use std::hash::{Hash, Hasher};
+use std::marker::Model;
+use thiserror::Error;
+
+/// A text without a newline. Contracts see its bytes.
+#[derive(Debug, Drop)]
+pub struct Line {
+    text: String,
+}
+
+impl Model for Line {
+    ghost Value = { List ℕ };
+
+    ghost view = { λ l. string_bytes l.text };
+
+    ghost invariant = { λ l. has_newline (string_bytes l.text) ≡ false };
+}
+
+/// Why a text is no `Line`.
+#[derive(Clone, Copy, Debug, PartialEq, Eq, Hash, Drop, Error)]
+pub enum LineError {
+    #[error("a newline stands in the text")]
+    Newline,
+    #[error("want of memory")]
+    NoMemory,
+}
+
+impl Line {
+    /// The line without a byte. It takes no memory.
+    pub fn empty(alloc: Global) -> Line
+        ensures { result ≡ [] }
+    {
+        Line {
+            text: String::new(alloc),
+        }
+    }
+
+    /// A copy of a text.
+    pub fn new(alloc: Global, text: &str) -> Result<Line, LineError>
+        ensures ok { IfOk result (λ line. line ≡ text.now) }
+        ensures newline { IsErrOf result LineError.Newline ↔ (has_newline text.now ≡ true) }
+    {
+        if text.as_bytes().contains(&b'\n') {
+            return Err(LineError::Newline);
+        }
+        match String::from_str(alloc, text) {
+            Ok(text) => Ok(Line { text }),
+            Err(_) => Err(LineError::NoMemory),
+        }
+    }
+
+    /// A copy, which takes memory where the line isn't empty.
+    pub fn copy(&self) -> Result<Line, AllocError>
+        ensures { IfOk result (λ line. line ≡ self.now) }
+    {
+        Ok(Line {
+            text: self.text.clone()?,
+        })
+    }
+
+    /// The text, in which no newline stands.
+    pub fn as_str(&self) -> &str
+        ensures text { result.now ≡ self.now }
+        ensures one_line { has_newline self.now ≡ false }
+    {
+        self.text.as_str()
+    }
+
+    /// Whether no byte stands in it.
+    pub fn is_empty(&self) -> bool
+        ensures { result ≡ (length self.now == 0) }
+    {
+        self.text.as_str().is_empty()
+    }
+}
+
+impl PartialEq for Line {
+    ghost eq = { pointwise ◌==◌ };
+
+    ghost laws = { Prim.search (comparing, rules) };
+
+    fn eq(&self, other: &Line) -> bool {
+        self.text.as_str() == other.text.as_str()
+    }
+}
+
+impl Eq for Line {
+    ghost laws = { Prim.search (comparing, rules) };
+}
+
+impl Ord for Line {
+    ghost cmp = { slice_cmp nat_cmp };
+
+    ghost total = { Prim.search (comparing, rules) };
+
+    ghost matches_partial_cmp = { Prim.search (comparing, rules) };
+
+    ghost matches_eq = { Prim.search (comparing, rules) };
+
+    fn cmp(&self, other: &Line) -> Ordering {
+        self.text.as_str().cmp(&other.text.as_str())
+    }
+}
+
+impl PartialOrd for Line {
+    ghost partial_cmp = { as_partial_cmp (slice_cmp nat_cmp) };
+
+    ghost laws = { partial_order_from_own_ties (Prim.search (comparing, rules)) (Prim.search (comparing, rules)) };
+
+    fn partial_cmp(&self, other: &Line) -> Option<Ordering> {
+        Some(self.cmp(other))
+    }
+}
+
+impl Hash for Line {
+    ghost hash_input = { fed.str };
+
+    ghost respects_eq = { Prim.search (hashing, rules) };
+
+    fn hash<H: Hasher>(&self, state: &mut H) {
+        self.text.as_str().hash(state);
+    }
+}

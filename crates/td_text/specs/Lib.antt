@@ -1,0 +1,7 @@
+pub mod Chain
+pub mod Cut
+pub mod Exact
+pub mod FirstFault
+pub mod Lines
+pub mod Numbers
+pub mod Words

@@ -1,0 +1,39 @@
+-- A text as its lines, and a reading line by line in which the first fault decides.
+use Rattle.std.specs.Prelude.{ℕ, ◌+◌, ◌==◌, List, [], ◌∷◌, ◌++◌, Option, Some, None, Result, Ok, Err, length}
+use Rattle.std.specs.Borrow.{Bor}
+use Rattle.std.specs.List.{slice_split, flat_map}
+
+-- the lines, without their newlines: the pieces between the newlines, so that a text which ends in
+-- a newline has an empty last one
+abbrev pub lines_of : List ℕ → List (List ℕ)
+lines_of text = slice_split (λ b. b == 10) text
+
+-- the text of these lines, a newline after each
+abbrev pub text_of : List (List ℕ) → List ℕ
+text_of lines = flat_map (λ line. line ++ 10 ∷ []) lines
+
+-- a reading goes on from what was read, and a fault stays
+abbrev pub on_ok : {A B F : Type 0} → Result A F → (A → Result B F) → Result B F
+on_ok (Ok x) f = f x
+on_ok (Err e) f = Err e
+
+-- a step takes the number of a line, what was seen before it, and the line, and gives what is seen
+-- with it or a fault; over lines, the first fault decides
+unfoldable pub over_lines : {S F : Type 0} → (ℕ → S → List ℕ → Result S F) → ℕ → S → List (List ℕ) → Result S F
+over_lines step number seen [] = Ok seen
+over_lines step number seen (line ∷ lines) = on_ok (step number seen line) (λ more. over_lines step (number + 1) more lines)
+
+-- the lines of what is left of a text; None: not even an empty line
+abbrev pub lines_left : Option (Bor (List ℕ)) → List (List ℕ)
+lines_left None = []
+lines_left (Some rest) = lines_of rest.now
+
+-- the text that is left, with the newline before it
+abbrev pub left_text : Option (Bor (List ℕ)) → List ℕ
+left_text None = []
+left_text (Some rest) = 10 ∷ rest.now
+
+-- how much is left, one for the line that an empty text has
+abbrev pub left_len : Option (Bor (List ℕ)) → ℕ
+left_len None = 0
+left_len (Some rest) = length rest.now + 1

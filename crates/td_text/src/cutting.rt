@@ -1,0 +1,33 @@
+ghost use Rattle.std.specs.Prelude.{◌≡◌, ◌<◌, ◌∷◌, ◌++◌, option_map, IfSome, IfNone};
+ghost use Rattle.td_text.specs.Cut.{Without, cut, part, strip as strip_of};
+
+/// The text before the first `mark`, an ASCII character, and what follows that.
+pub fn cut_at(text: &str, mark: char) -> Option<(&str, &str)>
+    requires { mark < 128 }
+    ensures value { option_map (λ x. (x.0.now, x.1.now)) result ≡ cut mark text.now }
+    ensures found { IfSome result (λ x. (text.now ≡ x.0.now ++ mark ∷ x.1.now) × Without mark x.0.now) }
+    ensures none { IfNone result (Without mark text.now) }
+{
+    text.split_once(mark)
+}
+
+/// The text before the first `mark`, an ASCII character, and the text from there on.
+pub fn part_at(text: &str, mark: char) -> (&str, &str)
+    requires { mark < 128 }
+    ensures value { (result.0.now, result.1.now) ≡ part mark text.now }
+    ensures joined { text.now ≡ result.0.now ++ result.1.now }
+    ensures before { Without mark result.0.now }
+{
+    match text.find(mark) {
+        Some(place) => text.split_at(place),
+        None => (text, ""),
+    }
+}
+
+/// What follows the prefix.
+pub fn strip<'a>(text: &'a str, prefix: &str) -> Option<&'a str>
+    ensures value { option_map (λ x. x.now) result ≡ strip_of prefix.now text.now }
+    ensures found { IfSome result (λ x. text.now ≡ prefix.now ++ x.now) }
+{
+    text.strip_prefix(prefix)
+}

@@ -1,0 +1,23 @@
+//! What the readers and writers of text share: cuts at a character, lines, numbers as the formats
+//! write them, package names and architecture words.
+//!
+//! Start at `cut_at`, `next_line` and `number`. Readers borrow from the text, take no memory, and
+//! answer `None` where the text isn't of their form; writers append, or leave the text as it was.
+//! Promised: a cut is at the first place, and a number is read exactly where it is written so.
+//! `specs/Lines.antt` and `specs/FirstFault.antt` say what a reader of lines gives, whatever it
+//! reads from a line.
+#![tactic(auto)]
+
+mod cutting;
+mod line;
+mod numeral;
+#[cfg(test)]
+mod tests;
+mod word;
+mod writing;
+
+pub use cutting::{cut_at, part_at, strip};
+pub use line::next_line;
+pub use numeral::{number, numbers_are_exact, signed};
+pub use word::{is_arch, is_name};
+pub use writing::{put_number, put_signed};
