@@ -7,3 +7,9 @@ pub mod Tables
 pub mod Inserts
 pub mod Overlays
 pub mod Lists
+pub mod KeyTexts
+pub mod StateWords
+pub mod NoteTexts
+pub mod RowLines
+pub mod Sorting
+pub mod StateTexts

@@ -10,3 +10,11 @@ pub mod Table
 pub mod Kept
 pub mod Overlay
 pub mod Laws
+pub mod KeyText
+pub mod StateWord
+pub mod Notes
+pub mod RowLine
+pub mod RowReading
+pub mod RowText
+pub mod StateFile
+pub mod StateReading

@@ -61,6 +61,16 @@ impl Line {
         }
     }
 
+    /// A copy of a text in which no newline stands.
+    pub fn from_line(alloc: Global, text: &str) -> Result<Line, AllocError>
+        requires { has_newline text.now ≡ false }
+        ensures { IfOk result (λ line. line ≡ text.now) }
+    {
+        Ok(Line {
+            text: String::from_str(alloc, text)?,
+        })
+    }
+
     /// A copy, which takes memory where the line isn't empty.
     pub fn copy(&self) -> Result<Line, AllocError>
         ensures { IfOk result (λ line. line ≡ self.now) }

@@ -1,0 +1,30 @@
+ghost use Rattle.std.specs.Prelude.{◌≡◌, ◌++◌, option_map, OnOk, OnErr};
+ghost use Rattle.std.specs.String.{string_bytes};
+ghost use Rattle.td_rows.specs.declared.key.Key.{Key};
+ghost use Rattle.td_rows.specs.KeyText.{key_text, key_at};
+
+use crate::key::Key;
+use std::alloc::AllocError;
+use td_text::{cut_at, is_arch, is_name};
+
+/// The source and the architecture of `source/arch`.
+#[tactic(auto, unfolding(crate::specs::KeyText::key_at))]
+pub fn read_key(text: &str) -> Option<(&str, &str)>
+    ensures { option_map (λ p. record { source = p.0.now; arch = p.1.now }) result ≡ key_at text.now }
+{
+    let (source, arch) = cut_at(text, '/')?;
+    if is_name(source) && is_arch(arch) {
+        Some((source, arch))
+    } else {
+        None
+    }
+}
+
+/// Appends the key as `source/arch`.
+pub fn put_key(out: &mut String, key: &Key) -> Result<(), AllocError>
+    ensures { OnOk result (string_bytes out.new ≡ string_bytes out.old ++ key_text key.now) }
+{
+    out.push_str(key.source.as_str())?;
+    out.push_str("/")?;
+    out.push_str(key.arch.as_str())
+}

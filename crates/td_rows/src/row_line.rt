@@ -1,0 +1,129 @@
+ghost use Rattle.std.specs.Prelude.{◌≡◌, ◌≤◌, ◌++◌, ◌∷◌, option_map, IfSome, OnOk, decimal};
+ghost use Rattle.std.specs.Fmt.{signed_decimal};
+ghost use Rattle.std.specs.String.{string_bytes};
+ghost use Rattle.td_text.specs.Numbers.{number_at, signed_at};
+ghost use Rattle.td_rows.specs.Notes.{notes};
+ghost use Rattle.td_rows.specs.RowLine.{row_line, row_words};
+ghost use Rattle.td_rows.specs.RowReading.{row_at};
+
+use crate::key::Key;
+use crate::key_text::{put_key, read_key};
+use crate::line::Line;
+use crate::notes::{put_notes, read_notes};
+use crate::number::{Priority, RebuildNumber};
+use crate::row::Row;
+use crate::state::State;
+use crate::state_word::{put_state_word, read_state_word};
+use std::alloc::{AllocError, Global};
+use td_text::{cut_at, number, part_at, put_number, put_signed, signed};
+
+/// A row, by slices of the line that it was read from.
+#[derive(Clone, Copy, Debug)]
+pub struct RowText<'a> {
+    pub source: &'a str,
+    pub arch: &'a str,
+    pub state: State,
+    pub priority: Priority,
+    pub number: RebuildNumber,
+    pub extra: &'a str,
+    pub dep_wait: &'a str,
+}
+
+fn read_priority(text: &str) -> Option<Priority>
+    ensures { result ≡ signed_at 9999 text.now }
+{
+    let value = signed(text, 9999)?;
+    Priority::new(value)
+}
+
+fn read_number(text: &str) -> Option<RebuildNumber>
+    ensures { result ≡ number_at 9999 text.now }
+{
+    let value = number(text, 9999)?;
+    RebuildNumber::new(value as u16)
+}
+
+impl<'a> RowText<'a> {
+    ghost use Rattle.std.specs.Prelude.{◌≡◌, false, IfOk, option_map};
+    ghost use Rattle.td_rows.specs.Text.{has_newline};
+    ghost use Rattle.td_rows.specs.RowReading.{row_at};
+    ghost use Rattle.td_rows.specs.RowText.{row_of_text};
+
+    /// The row whose line it is.
+    #[tactic(auto, unfolding(crate::specs::RowReading::row_at))]
+    pub fn read(line: &'a str) -> Option<RowText<'a>>
+        ensures { option_map row_of_text result ≡ row_at line.now }
+    {
+        let (key, rest) = cut_at(line, ' ')?;
+        let (source, arch) = read_key(key)?;
+        let (state, rest) = cut_at(rest, ' ')?;
+        let state = read_state_word(state)?;
+        let (priority, rest) = cut_at(rest, ' ')?;
+        let priority = read_priority(priority)?;
+        let (number, texts) = part_at(rest, ' ');
+        let number = read_number(number)?;
+        let (extra, dep_wait) = read_notes(texts)?;
+        Some(RowText {
+            source,
+            arch,
+            state,
+            priority,
+            number,
+            extra,
+            dep_wait,
+        })
+    }
+
+    /// The key, in memory of its own. No newline stands in a line.
+    pub fn key(&self, alloc: Global) -> Result<Key, AllocError>
+        requires source { has_newline self.now.source.now ≡ false }
+        requires arch { has_newline self.now.arch.now ≡ false }
+        ensures { IfOk result (λ key. key ≡ (row_of_text self.now).0) }
+    {
+        Ok(Key {
+            source: Line::from_line(alloc, self.source)?,
+            arch: Line::from_line(alloc, self.arch)?,
+        })
+    }
+
+    /// The row, in memory of its own. No newline stands in a line.
+    pub fn row(&self, alloc: Global) -> Result<Row, AllocError>
+        requires extra { has_newline self.now.extra.now ≡ false }
+        requires dep_wait { has_newline self.now.dep_wait.now ≡ false }
+        ensures { IfOk result (λ row. row ≡ (row_of_text self.now).1) }
+    {
+        Ok(Row {
+            state: self.state,
+            priority: self.priority,
+            number: self.number,
+            dep_wait: Line::from_line(alloc, self.dep_wait)?,
+            extra: Line::from_line(alloc, self.extra)?,
+        })
+    }
+}
+
+fn put_number_and_notes(out: &mut String, row: &Row) -> Result<(), AllocError>
+    ensures { OnOk result (string_bytes out.new ≡ string_bytes out.old ++ (decimal row.now.number ++ notes (row.now.extra, row.now.dep_wait))) }
+{
+    put_number(out, row.number.get() as u64)?;
+    put_notes(out, row.extra.as_str(), row.dep_wait.as_str())
+}
+
+fn put_words(out: &mut String, row: &Row) -> Result<(), AllocError>
+    ensures { OnOk result (string_bytes out.new ≡ string_bytes out.old ++ row_words row.now) }
+{
+    put_state_word(out, row.state)?;
+    out.push_str(" ")?;
+    put_signed(out, row.priority.get())?;
+    out.push_str(" ")?;
+    put_number_and_notes(out, row)
+}
+
+/// Appends the row's line, without a newline.
+pub fn put_row_line(out: &mut String, key: &Key, row: &Row) -> Result<(), AllocError>
+    ensures { OnOk result (string_bytes out.new ≡ string_bytes out.old ++ row_line (key.now, row.now)) }
+{
+    put_key(out, key)?;
+    out.push_str(" ")?;
+    put_words(out, row)
+}

@@ -1,0 +1,20 @@
+use thiserror::Error;
+
+/// Why a text isn't a state file: the first fault from its first line on. Lines count from 1.
+#[derive(Clone, Copy, Debug, PartialEq, Eq, Hash, Drop, Error)]
+pub enum StateFault {
+    /// The line isn't a row's.
+    #[error("line {0} isn't a row's")]
+    BadLine(usize),
+    /// An earlier line has the key.
+    #[error("line {0} has the key of an earlier one")]
+    Twice(usize),
+    /// The row is Building: no builder has a row when the desk opens.
+    #[error("the row of line {0} is Building")]
+    NotOpening(usize),
+    /// There are more rows than the limit.
+    #[error("there are too many rows")]
+    TooManyRows,
+    #[error("want of memory")]
+    NoMemory,
+}
