@@ -13,3 +13,4 @@ pub mod NoteTexts
 pub mod RowLines
 pub mod Sorting
 pub mod StateTexts
+pub mod Writing

@@ -18,3 +18,4 @@ pub mod RowReading
 pub mod RowText
 pub mod StateFile
 pub mod StateReading
+pub mod StateWriting

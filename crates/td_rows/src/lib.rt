@@ -24,6 +24,7 @@ mod state;
 mod state_file;
 mod state_reading;
 mod state_word;
+mod state_writing;
 
 pub use cells::Cells;
 pub use key::{Key, are_ascending};
@@ -40,3 +41,4 @@ pub use state::{BuilderNo, State};
 pub use state_file::StateFault;
 pub use state_reading::read_state;
 pub use state_word::{put_state_word, read_state_word};
+pub use state_writing::{rows_text, written_rows_are_read_again};
