@@ -1,5 +1,5 @@
 -- Rows that are changed one by one, and what that does to the row of a key.
-use Rattle.std.proofs.Common.{◌≡◌, ℕ, zero, suc, ◌+◌, ◌<◌, Bool, true, false, List, [], ◌∷◌, ◌++◌, Some, None, if◌then◌else◌, option_map, length, take, get_or, slice_get, ap, refl, sym, subst, ◌∙◌, arith}
+use Rattle.std.proofs.Common.{◌≡◌, ℕ, zero, suc, ◌+◌, ◌<◌, Bool, true, false, List, [], ◌∷◌, ◌++◌, Option, Some, None, if◌then◌else◌, option_map, length, take, get_or, slice_get, ap, refl, sym, subst, ◌∙◌, arith}
 use Rattle.std.specs.Ordering.{is_lt}
 use Rattle.std.proofs.lemmas.Bool.{and_parts}
 use Rattle.std.proofs.lemmas.List.{take_more}
@@ -180,3 +180,18 @@ pub applied-next : (t : Table) (kind : Kind) (ks : List Key) (i : ℕ) (k : Key)
 applied-next t kind ks i k up within is =
     let unnamed : names (take i ks) k ≡ false = subst (λ (q : Key). names (take i ks) q ≡ false) (sym is) (names-before ks i k up within) in
     sym (applied-push kind (take i ks) k t unnamed) ∙ ap (λ (qs : List Key). applied kind qs t) (ap (λ (q : Key). take i ks ++ q ∷ []) is ∙ sym (take_more ks i k within))
+
+-- a kind that applies on the keys before one, and on it, applies on the keys up to it
+pub AppliesOn-next : (t : Table) (kind : Kind) (ks : List Key) (i : ℕ) (k : Key) → i < length ks → k ≡ get_or ks i k → AppliesOn t kind (take i ks) → fits t kind k ≡ true → AppliesOn t kind (take (i + 1) ks)
+AppliesOn-next t kind ks i k within is before here q named = by (names (take i ks) q) refl (sym (names-push (take i ks) k q) ∙ ap (λ (qs : List Key). names qs q) (sym one_more) ∙ named)
+  where
+    one_more : take (i + 1) ks ≡ take i ks ++ k ∷ []
+    one_more = take_more ks i k within ∙ ap (λ (x : Key). take i ks ++ x ∷ []) (sym is)
+
+    by : (b : Bool) → names (take i ks) q ≡ b → (if b then true else same_key q k) ≡ true → fits t kind q ≡ true
+    by true e h = before q e
+    by false e h = subst (λ (x : Key). fits t kind x ≡ true) (sym (same_key-true q k h)) here
+
+-- what a look-up of the key's row tells of the kind
+pub fits-row_of : (t : Table) (kind : Kind) (k : Key) (o : Option Row) → o ≡ row_of t k → (elim o as (λ _. Bool) [ Some row ↦ applies kind row | None ↦ false ]) ≡ fits t kind k
+fits-row_of t kind k o is = ap (λ x. elim x as (λ _. Bool) [ Some row ↦ applies kind row | None ↦ false ]) is

@@ -25,8 +25,11 @@ mod state_file;
 mod state_reading;
 mod state_word;
 mod state_writing;
+#[cfg(test)]
+mod tests;
 
 pub use cells::Cells;
+pub use exchange::{has_text, texts_of};
 pub use key::{Key, are_ascending};
 pub use key_text::{put_key, read_key};
 pub use kind::{Kind, applies, cells_of};

@@ -92,7 +92,7 @@ impl Line {
     pub fn is_empty(&self) -> bool
         ensures { result ≡ (length self.now == 0) }
     {
-        self.text.as_str().is_empty()
+        self.as_str().is_empty()
     }
 }
 
@@ -102,7 +102,7 @@ impl PartialEq for Line {
     ghost laws = { Prim.search (comparing, rules) };
 
     fn eq(&self, other: &Line) -> bool {
-        self.text.as_str() == other.text.as_str()
+        self.as_str() == other.as_str()
     }
 }
 
@@ -120,7 +120,7 @@ impl Ord for Line {
     ghost matches_eq = { Prim.search (comparing, rules) };
 
     fn cmp(&self, other: &Line) -> Ordering {
-        self.text.as_str().cmp(&other.text.as_str())
+        self.as_str().cmp(&other.as_str())
     }
 }
 
@@ -140,6 +140,6 @@ impl Hash for Line {
     ghost respects_eq = { Prim.search (hashing, rules) };
 
     fn hash<H: Hasher>(&self, state: &mut H) {
-        self.text.as_str().hash(state);
+        self.as_str().hash(state);
     }
 }

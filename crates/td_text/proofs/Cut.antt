@@ -142,6 +142,15 @@ abbrev pub Begins : ℕ → List ℕ → Type 0
 Begins c [] = Unit {0}
 Begins c (x ∷ t) = x ≡ c
 
+pub part_begins : (c : ℕ) (t : List ℕ) → Begins c (part c t).1
+unfolding part
+part_begins c [] = tt
+part_begins c (x ∷ t) =
+    elim (eqb_tells x c) [
+      | inl is ↦ rw is.0 is.1
+      | inr other ↦ rw other.0 (part_begins c t)
+    ]
+
 pub part_again : (c : ℕ) (a b : List ℕ) → Without c a → Begins c b → part c (a ++ b) ≡ (a, b)
 part_again c a [] w h = rw append-nil (part_none c a w)
 part_again c a (x ∷ b) w h = rw h (part_first c a b w)

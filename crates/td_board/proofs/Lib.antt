@@ -1,0 +1,10 @@
+pub mod BuilderLaws
+pub mod BuilderMoves
+pub mod DeskLaws
+pub mod DeskMoves
+pub mod Lists
+pub mod PromiseLaws
+pub mod RowLaws
+pub mod Schedules
+pub mod SeatKeeps
+pub mod WordLaws

@@ -1,0 +1,10 @@
+pub mod Answers
+pub mod Knowledge
+pub mod OutcomeCode
+pub mod Phase
+pub mod Promises
+pub mod Rule
+pub mod Ruled
+pub mod Seats
+pub mod Steps
+pub mod Tells

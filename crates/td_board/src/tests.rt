@@ -1,0 +1,247 @@
+//! What no clause can say: that calls succeed, and that of two threads exactly one wins. Expected
+//! values are this project's own worked examples.
+ghost use Rattle.std.specs.Prelude.{◌≡◌};
+ghost use mathlib.Core.Option.{some};
+ghost use lib.ListN.{get_elem?};
+ghost use Rattle.td_board.specs.declared.views.RowView.TheVariants.{Out};
+
+use crate::{Board, BuilderSeat, DeskSeat, Hand, MakeRefusal, OutcomeCode, Withdrawal};
+use std::test::Fail;
+use std::thread;
+use std::thread::Threads;
+
+#[test]
+fn a_claim_beats_a_withdrawal_and_a_withdrawal_beats_a_claim(rt: HostRuntime) -> Result<(), Fail> {
+    let (board, mut desk, mut seats) = Board::make(rt.alloc(), 2, 2)?;
+    let (Some(mut second), Some(mut first)) = (seats.pop(), seats.pop()) else {
+        return Err(Fail::from("two seats"));
+    };
+    board.offer(&mut desk, 0);
+    let claimed = board.claim(0, &mut first);
+    assert!(rt; claimed);
+    assert_eq!(rt; board.withdraw(&mut desk, 0), Withdrawal::Held(1));
+    board.offer(&mut desk, 1);
+    assert_eq!(rt; board.withdraw(&mut desk, 1), Withdrawal::Withdrawn);
+    let claimed = board.claim(1, &mut second);
+    assert!(rt; !claimed);
+    Ok(())
+}
+
+#[test]
+fn a_builder_with_a_row_claims_no_other(rt: HostRuntime) -> Result<(), Fail> {
+    let (board, mut desk, mut seats) = Board::make(rt.alloc(), 2, 1)?;
+    let Some(mut seat) = seats.pop() else {
+        return Err(Fail::from("a seat"));
+    };
+    board.offer(&mut desk, 0);
+    board.offer(&mut desk, 1);
+    let claimed = board.claim(0, &mut seat);
+    assert!(rt; claimed);
+    let claimed = board.claim(1, &mut seat);
+    assert!(rt; !claimed);
+    assert_eq!(rt; seat.hand(), Hand::Holding(0));
+    Ok(())
+}
+
+#[test]
+fn a_board_keeps_to_its_limits(rt: HostRuntime) -> Result<(), Fail> {
+    for (rows, builders, refusal) in [
+        (2, 65, MakeRefusal::TooManyBuilders),
+        (1_048_577, 1, MakeRefusal::TooManyRows),
+        (1_048_577, 65, MakeRefusal::TooManyRows),
+    ] {
+        match Board::make(rt.alloc(), rows, builders) {
+            Ok(_) => return Err(Fail::from("a board beyond the limits")),
+            Err(found) => assert_eq!(rt; found, refusal),
+        }
+    }
+    for (rows, builders) in [(0, 0), (1_048_576, 64)] {
+        let (board, desk, seats) = Board::make(rt.alloc(), rows, builders)?;
+        assert_eq!(rt; board.rows(), rows);
+        assert_eq!(rt; desk.rows(), rows);
+        assert_eq!(rt; desk.builders(), builders as u64);
+        assert_eq!(rt; seats.len(), builders);
+        for (index, seat) in seats.iter().enumerate() {
+            assert_eq!(rt; seat.number(), index as u64 + 1);
+            assert_eq!(rt; seat.hand(), Hand::Free);
+        }
+    }
+    Ok(())
+}
+
+#[test]
+fn a_refusal_says_the_limit(rt: HostRuntime) -> Result<(), Fail> {
+    for (refusal, text) in [
+        (MakeRefusal::TooManyRows, "a board has at most 1048576 rows"),
+        (
+            MakeRefusal::TooManyBuilders,
+            "a board is made for at most 64 builders",
+        ),
+        (MakeRefusal::NoMemory, "out of memory"),
+    ] {
+        let found = format!(in rt.alloc(); "{refusal}")?;
+        assert_eq!(rt; found.as_str(), text);
+    }
+    Ok(())
+}
+
+#[test]
+fn outcomes_have_the_codes_0_to_3(rt: HostRuntime) {
+    let codes = [
+        OutcomeCode::Built.code(),
+        OutcomeCode::Attempted.code(),
+        OutcomeCode::GivenBack.code(),
+        OutcomeCode::Waits.code(),
+    ];
+    assert_eq!(rt; codes, [0, 1, 2, 3]);
+}
+
+#[test]
+fn a_finish_waits_for_the_note_and_a_settling_for_the_finish(rt: HostRuntime) -> Result<(), Fail> {
+    let (board, mut desk, mut seats) = Board::make(rt.alloc(), 1, 1)?;
+    let Some(mut seat) = seats.pop() else {
+        return Err(Fail::from("a seat"));
+    };
+    board.offer(&mut desk, 0);
+    let claimed = board.claim(0, &mut seat);
+    assert!(rt; claimed);
+    let Withdrawal::Held(_) = board.withdraw(&mut desk, 0) else {
+        return Err(Fail::from("it was claimed"));
+    };
+    let finished = board.finish(&mut seat, OutcomeCode::Attempted);
+    assert!(rt; !finished, "before the note");
+    let noted = board.note(&mut desk, 0);
+    assert_eq!(rt; noted, 1);
+    let settled = board.settle(&mut desk, 0, OutcomeCode::Attempted);
+    assert!(rt; !settled, "before the finish");
+    let finished = board.finish(&mut seat, OutcomeCode::Attempted);
+    assert!(rt; finished);
+    let settled = board.settle(&mut desk, 0, OutcomeCode::Built);
+    assert!(rt; !settled, "with another outcome");
+    let settled = board.settle(&mut desk, 0, OutcomeCode::Attempted);
+    assert!(rt; settled);
+    Ok(())
+}
+
+#[test]
+fn a_release_waits_for_the_settling(rt: HostRuntime) -> Result<(), Fail> {
+    let (board, mut desk, mut seats) = Board::make(rt.alloc(), 1, 1)?;
+    let Some(mut seat) = seats.pop() else {
+        return Err(Fail::from("a seat"));
+    };
+    board.offer(&mut desk, 0);
+    let claimed = board.claim(0, &mut seat);
+    assert!(rt; claimed);
+    let Withdrawal::Held(_) = board.withdraw(&mut desk, 0) else {
+        return Err(Fail::from("it was claimed"));
+    };
+    board.note(&mut desk, 0);
+    let finished = board.finish(&mut seat, OutcomeCode::Waits);
+    assert!(rt; finished);
+    let Hand::Finished(0, OutcomeCode::Waits) = seat.hand() else {
+        return Err(Fail::from("the hand is finished"));
+    };
+    let released = board.release(&mut seat);
+    assert!(rt; !released, "before the settling");
+    let settled = board.settle(&mut desk, 0, OutcomeCode::Waits);
+    assert!(rt; settled);
+    let Hand::Finished(0, OutcomeCode::Waits) = seat.hand() else {
+        return Err(Fail::from("the hand is still finished"));
+    };
+    let released = board.release(&mut seat);
+    assert!(rt; released);
+    assert_eq!(rt; seat.hand(), Hand::Free);
+    Ok(())
+}
+
+#[test]
+fn a_claim_releases_a_settled_finish_first(rt: HostRuntime) -> Result<(), Fail> {
+    let (board, mut desk, mut seats) = Board::make(rt.alloc(), 1, 1)?;
+    let Some(mut seat) = seats.pop() else {
+        return Err(Fail::from("a seat"));
+    };
+    board.offer(&mut desk, 0);
+    let claimed = board.claim(0, &mut seat);
+    assert!(rt; claimed);
+    let Withdrawal::Held(_) = board.withdraw(&mut desk, 0) else {
+        return Err(Fail::from("it was claimed"));
+    };
+    board.note(&mut desk, 0);
+    let finished = board.finish(&mut seat, OutcomeCode::GivenBack);
+    assert!(rt; finished);
+    let claimed = board.claim(0, &mut seat);
+    assert!(rt; !claimed, "before the settling");
+    let settled = board.settle(&mut desk, 0, OutcomeCode::GivenBack);
+    assert!(rt; settled);
+    let claimed = board.claim(0, &mut seat);
+    assert!(rt; !claimed, "before the next offer");
+    assert_eq!(rt; seat.hand(), Hand::Free);
+    board.offer(&mut desk, 0);
+    let claimed = board.claim(0, &mut seat);
+    assert!(rt; claimed);
+    assert_eq!(rt; seat.hand(), Hand::Holding(0));
+    Ok(())
+}
+
+// Both seats claim row 0 at once.
+fn two_claims<R: Threads + Sync>(
+    rt: &R,
+    board: &Board,
+    mut first: BuilderSeat,
+    mut second: BuilderSeat,
+) -> (bool, bool)
+    requires one { first.table ≡ board.now.table }
+    requires two { second.table ≡ board.now.table }
+{
+    thread::join(
+        rt,
+        move || board.claim(0, &mut first),
+        move || board.claim(0, &mut second),
+    )
+}
+
+#[test]
+fn of_two_threads_that_claim_a_row_one_wins(rt: HostRuntime) -> Result<(), Fail> {
+    for _ in 0..1000 {
+        let (board, mut desk, mut seats) = Board::make(rt.alloc(), 1, 2)?;
+        let (Some(second), Some(first)) = (seats.pop(), seats.pop()) else {
+            return Err(Fail::from("two seats"));
+        };
+        board.offer(&mut desk, 0);
+        let (one, other) = two_claims(&rt, &board, first, second);
+        assert!(rt; one != other);
+    }
+    Ok(())
+}
+
+// The builder claims row 0 while the desk takes it back: whether each did.
+fn claim_and_withdrawal<R: Threads + Sync>(
+    rt: &R,
+    board: &Board,
+    mut desk: DeskSeat,
+    mut seat: BuilderSeat,
+) -> (bool, bool)
+    requires desk { desk.table ≡ board.now.table }
+    requires seat { seat.table ≡ board.now.table }
+    requires row { get_elem? desk.desk.rows 0 ≡ some Out }
+{
+    thread::join(
+        rt,
+        move || board.claim(0, &mut seat),
+        move || board.withdraw(&mut desk, 0) == Withdrawal::Withdrawn,
+    )
+}
+
+#[test]
+fn of_a_claim_and_a_withdrawal_one_wins(rt: HostRuntime) -> Result<(), Fail> {
+    for _ in 0..1000 {
+        let (board, mut desk, mut seats) = Board::make(rt.alloc(), 1, 1)?;
+        let Some(seat) = seats.pop() else {
+            return Err(Fail::from("a seat"));
+        };
+        board.offer(&mut desk, 0);
+        let (claimed, withdrawn) = claim_and_withdrawal(&rt, &board, desk, seat);
+        assert!(rt; claimed != withdrawn);
+    }
+    Ok(())
+}

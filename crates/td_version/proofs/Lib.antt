@@ -1,0 +1,11 @@
+pub mod Digits
+pub mod Comparing
+pub mod Cuts
+pub mod Outcomes
+pub mod Epoch
+pub mod Judging
+pub mod Rebuilds
+pub mod Total
+pub mod Rising
+pub mod Suffixed
+pub mod Turns

@@ -1,0 +1,8 @@
+use Rattle.td_version.proofs.Suffixed as suffixed
+use Rattle.td_version.proofs.laws.rebuilds_rise.Goals as goal
+
+pub returns-clause-read : goal.returns-clause-read
+returns-clause-read c = suffixed.rebuilds_read
+
+pub returns-clause-rise : goal.returns-clause-rise
+returns-clause-rise c = suffixed.rebuilds_rise
