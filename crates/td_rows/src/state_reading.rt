@@ -62,13 +62,25 @@ fn opening_row(
     Ok((key, row))
 }
 
+// How many rows there may be, so that room for them is made at once.
+fn most_rows(text: &str) -> usize {
+    let newlines = text
+        .as_bytes()
+        .iter()
+        .filter(|byte| **byte == b'\n')
+        .count();
+    newlines.min(MAX_ROWS)
+}
+
 // The rows of the lines, in their order.
 fn read_rows(alloc: Global, text: &str) -> Result<IndexMap<Key, Row>, StateFault>
     requires { length text.now < 2 ^ 63 }
     ensures ok { IfOk result (λ rows. state_rows text.now ≡ Ok rows.entries) }
     ensures err { IfErr result (λ e. Fails e (state_rows text.now)) }
 {
-    let mut rows = IndexMap::new(alloc);
+    let Ok(mut rows) = IndexMap::with_capacity(alloc, most_rows(text)) else {
+        return Err(StateFault::NoMemory);
+    };
     let mut rest = Some(text);
     let mut number = 0;
     while let Some(text) = rest {

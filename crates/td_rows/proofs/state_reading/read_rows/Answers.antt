@@ -32,4 +32,4 @@ loop-rest-preserved c =
     }
 
 pub returns-clause-ok : goal.returns-clause-ok
-returns-clause-ok c = ends state_step _ _ c.loop-rest.rest _ c.in_default.is c.loop-rest.invariant.decides
+returns-clause-ok c = ends state_step _ _ c.loop-rest.rest _ c.in_default-rest.is c.loop-rest.invariant.decides
