@@ -1,0 +1,4 @@
+pub mod Numbers
+pub mod Backs
+pub mod Plans
+pub mod Passing

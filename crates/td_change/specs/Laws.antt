@@ -1,0 +1,42 @@
+-- A change that is made and given back, at once or past later entries. This project's own.
+use Rattle.std.specs.Prelude.{◌≡◌, true, List, [], ◌∷◌}
+use Rattle.td_rows.specs.declared.key.Key.{Key}
+use Rattle.td_rows.specs.declared.kind.Kind.{Kind}
+use Rattle.td_rows.specs.Cells.{Disjoint}
+use Rattle.td_rows.specs.Keys.{names, ascending}
+use Rattle.td_rows.specs.Kinds.{cells, written}
+use Rattle.td_rows.specs.Table.{Table, keys_of, applied, AppliesOn}
+use Rattle.td_change.specs.Saved.{given_back}
+
+-- kinds with the keys on which each is journalled, in order
+abbrev pub Steps : Type 0
+Steps = List (Kind × List Key)
+
+-- the rows after all of them
+abbrev pub after : Steps → Table → Table
+after [] t = t
+after (s ∷ steps) t = after steps (applied s.0 s.1 t)
+
+-- each applies, on each of its keys, to the rows after those before it
+abbrev pub Lawful : Table → Steps → Type 0
+Lawful t [] = Unit {0}
+Lawful t (s ∷ steps) = AppliesOn t s.0 s.1 × Lawful (applied s.0 s.1 t) steps
+
+-- none of them shares, at one of the keys, a cell with the kind
+abbrev pub Untouched : Kind → List Key → Steps → Type 0
+Untouched kind keys [] = Unit {0}
+Untouched kind keys (s ∷ steps) = ((k : Key) → names keys k ≡ true → names s.1 k ≡ true → Disjoint (cells s.0) (cells kind)) × Untouched kind keys steps
+
+-- what was kept, given back at once, leaves the rows as they were
+abbrev pub BackAtOnce : Type 0
+BackAtOnce = (kind : Kind) (keys : List Key) (t : Table) → ascending (keys_of t) ≡ true → given_back (written kind) keys t (applied kind keys t) ≡ t
+
+-- given back after others that share no cell with it there, it leaves the others alone
+abbrev pub BackPastOthers : Type 0
+BackPastOthers = (kind : Kind) (keys : List Key) (steps : Steps) (t : Table) → ascending (keys_of t) ≡ true → Untouched kind keys steps →
+    given_back (written kind) keys t (after steps (applied kind keys t)) ≡ after steps t
+
+-- and what was lawful with it is lawful without it
+abbrev pub LawfulWithout : Type 0
+LawfulWithout = (kind : Kind) (keys : List Key) (steps : Steps) (t : Table) → ascending (keys_of t) ≡ true → Untouched kind keys steps →
+    Lawful (applied kind keys t) steps → Lawful t steps

@@ -1,0 +1,4 @@
+pub mod Saved
+pub mod Plans
+pub mod Laws
+pub mod Inside

@@ -1,0 +1,19 @@
+//! What a kind writes into a row.
+ghost use Rattle.std.specs.Prelude.{◌≡◌};
+ghost use Rattle.td_rows.specs.Kinds.{written};
+
+use td_rows::{Cells, Kind, cells_of};
+
+/// The fields that an entry of the kind writes: its cells, but for a sweep's extra.
+pub fn written_by(kind: &Kind) -> Cells
+    ensures { result ≡ written kind.now }
+{
+    let cells = cells_of(kind);
+    match kind {
+        Kind::Sweep => Cells {
+            extra: false,
+            ..cells
+        },
+        _ => cells,
+    }
+}
