@@ -1,0 +1,15 @@
+pub mod Arch
+pub mod ArchReading
+pub mod Table
+pub mod TableView
+pub mod Fails
+pub mod TableFile
+pub mod ArchList
+pub mod Asked
+pub mod Members
+pub mod Meeting
+pub mod Offers
+pub mod Runs
+pub mod RelationGrammar
+pub mod Pieces
+pub mod RelationViews

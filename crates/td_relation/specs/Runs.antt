@@ -1,0 +1,20 @@
+-- The longest run of bytes of a kind at the front of a text.
+use Rattle.std.specs.Prelude.{ℕ, Bool, List, take, drop}
+use Rattle.std.specs.List.{list_all, prefix_len}
+use Rattle.td_relation.specs.ArchList.{is_space}
+
+-- the longest front of bytes that pass the test ..
+abbrev pub run : (ℕ → Bool) → List ℕ → List ℕ
+run test text = take (prefix_len test text) text
+
+-- .. and what follows it
+abbrev pub behind : (ℕ → Bool) → List ℕ → List ℕ
+behind test text = drop (prefix_len test text) text
+
+-- the text without the whitespace in front of it
+abbrev pub trimmed : List ℕ → List ℕ
+trimmed text = behind is_space text
+
+-- whitespace alone, or nothing
+abbrev pub is_blank : List ℕ → Bool
+is_blank text = list_all is_space text

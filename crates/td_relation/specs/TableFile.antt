@@ -1,0 +1,53 @@
+-- Which texts are tables of architectures, and what is wrong with others. This project's own.
+use Rattle.std.specs.Prelude.{◌≡◌, ◌≢◌, ℕ, ◌+◌, ◌≤◌, not, Bool, true, false, List, [], ◌∷◌, ◌++◌, length, map}
+use Rattle.std.specs.List.{filter, AllByRecursion}
+use Rattle.td_relation.specs.declared.archs.ArchsFault.{ArchsFault}
+use Rattle.td_relation.specs.declared.archs.ArchsFault.TheVariants.{BadLine, Twice, TooMany, NoMemory}
+use Rattle.td_relation.specs.Arch.{ArchWords, arch_line, ArchFits}
+use Rattle.td_relation.specs.Table.{is_named, is_skipped}
+
+-- no architecture has the name of an earlier one, nor of those seen
+abbrev pub Fresh : List ArchWords → List ArchWords → Type 0
+Fresh seen [] = Unit {0}
+Fresh seen (a ∷ archs) = (is_named seen a.name ≡ false) × Fresh (seen ++ a ∷ []) archs
+
+-- behind the architectures seen, the lines that aren't skipped are those of these, in this order
+pub record AreLinesOf (seen archs : List ArchWords) (lines : List (List ℕ)) : Type 0 where
+  pub spelled : filter (λ line. not (is_skipped line)) lines ≡ map arch_line archs
+  pub fits : AllByRecursion ArchFits archs
+  pub fresh : Fresh seen archs
+  pub limited : length (seen ++ archs) ≤ 32
+
+-- the lines of a table, and the architectures in the order of their lines
+abbrev pub IsTable : List (List ℕ) → List ArchWords → Type 0
+IsTable lines archs = AreLinesOf [] archs lines
+
+-- the line is that of an architecture whose name is among those seen, or isn't
+pub record IsLineNamed (is : Bool) (seen : List ArchWords) (line : List ℕ) : Type 0 where
+  pub arch : ArchWords
+  pub spelled : line ≡ arch_line arch
+  pub fits : ArchFits arch
+  pub named : is_named seen arch.name ≡ is
+
+-- what is wrong with a line that isn't skipped and has this number, behind the architectures seen
+abbrev pub IsFaulty : List ArchWords → ℕ → List ℕ → ArchsFault → Type 0
+IsFaulty seen number line (BadLine n) = (n ≡ number) × ((a : ArchWords) → ArchFits a → line ≢ arch_line a)
+IsFaulty seen number line (Twice n) = (n ≡ number) × IsLineNamed true seen line
+IsFaulty seen number line TooMany = IsLineNamed false seen line × (length seen ≡ 32)
+IsFaulty seen number line NoMemory = ⊥
+
+-- the first line with a fault: those before it are lines of a table
+pub record IsFirstFault (lines : List (List ℕ)) (e : ArchsFault) : Type 0 where
+  pub before : List (List ℕ)
+  pub line : List ℕ
+  pub after : List (List ℕ)
+  pub parts : lines ≡ before ++ line ∷ after
+  pub seen : List ArchWords
+  pub fine : AreLinesOf [] seen before
+  pub kept : is_skipped line ≡ false
+  pub faulty : IsFaulty seen (1 + length before) line e
+
+-- a fault is that of the first faulty line; want of memory may stand in place of any answer
+abbrev pub FaultOf : List (List ℕ) → ArchsFault → Type 0
+FaultOf lines NoMemory = Unit {0}
+FaultOf lines e = IsFirstFault lines e

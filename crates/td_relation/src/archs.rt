@@ -1,0 +1,102 @@
+ghost use Rattle.std.specs.Prelude.{◌≡◌, ◌≤◌, length, position};
+ghost use Rattle.std.specs.Str.{bytes_eq};
+
+use crate::arch::Arch;
+use crate::arch_reading;
+use std::alloc::Global;
+use thiserror::Error;
+
+/// The most architectures that a table has.
+pub const MAX_ARCHS: usize = 32;
+
+/// The architectures of a table, in the order of its lines.
+#[derive(Debug, Drop)]
+pub struct Archs<'a> {
+    list: Vec<Arch<'a>>,
+    ghost few: { length list.items ≤ 32 },
+}
+
+/// Why a text isn't a table of architectures: the first fault. Lines count from 1.
+#[derive(Clone, Copy, Debug, PartialEq, Eq, Hash, Drop, Error)]
+pub enum ArchsFault {
+    /// The line isn't `NAME OS CPU`.
+    #[error("line {0} isn't an architecture's")]
+    BadLine(usize),
+    /// An earlier line has the name.
+    #[error("line {0} has the name of an earlier one")]
+    Twice(usize),
+    /// There are more than `MAX_ARCHS`.
+    #[error("there are too many architectures")]
+    TooMany,
+    #[error("want of memory")]
+    NoMemory,
+}
+
+impl<'a> Archs<'a> {
+    ghost use Rattle.std.specs.Prelude.{◌≡◌, ◌<◌, ◌≤◌, ◌^◌, List, IfOk, IfErr, MatchResult, length, map, option_map, slice_get, Some, Ok};
+    ghost use Rattle.td_relation.specs.Arch.{words_of, matches as matches_of, ArchWords};
+    ghost use Rattle.td_relation.specs.Table.{place_of};
+    ghost use Rattle.td_relation.specs.TableView.{table};
+    ghost use Rattle.td_relation.specs.TableFile.{IsTable, FaultOf};
+    ghost use Rattle.td_relation.specs.declared.archs.ArchsFault.{ArchsFault};
+    ghost use Rattle.td_text.specs.Lines.{lines_of};
+
+    /// Reads lines `NAME OS CPU`; empty lines and lines that begin with `#` are skipped. The first
+    /// fault decides, and a name too many comes before the faults of later lines.
+    pub fn read(alloc: Global, text: &'a str) -> Result<Archs<'a>, ArchsFault>
+        requires { length text.now < 2 ^ 63 }
+        // What is read is a table.
+        ensures found { IfOk result (λ archs. IsTable (lines_of text.now) (table archs)) }
+        // A table is read, unless memory runs out.
+        ensures only { (t : List ArchWords) → IsTable (lines_of text.now) t → MatchResult result (λ archs. table archs ≡ t) (λ e. e ≡ ArchsFault.NoMemory) }
+        ensures fault { IfErr result (FaultOf (lines_of text.now)) }
+    {
+        let list = arch_reading::read_list(alloc, text)?;
+        Ok(Archs { list })
+    }
+
+    /// How many there are.
+    pub fn len(&self) -> usize
+        ensures value { result ≡ length (table self.now) }
+        ensures few { result ≤ 32 }
+    {
+        self.list.len()
+    }
+
+    pub(crate) fn at(&self, i: usize) -> Arch<'a>
+        requires { i < length (table self.now) }
+        ensures { slice_get (table self.now) i ≡ Some (words_of result) }
+    {
+        self.list[i]
+    }
+
+    /// The name of the architecture at a place.
+    pub fn name(&self, i: usize) -> &'a str
+        requires { i < length (table self.now) }
+        ensures { option_map (λ a. a.name) (slice_get (table self.now) i) ≡ Some result.now }
+    {
+        self.at(i).name
+    }
+
+    /// The place of the architecture with this name.
+    pub fn index(&self, name: &str) -> Option<usize>
+        ensures { result ≡ place_of (table self.now) name.now }
+    {
+        place(self.list.as_slice(), name)
+    }
+
+    /// Whether the word of an architecture list matches the architecture at a place.
+    pub fn matches(&self, i: usize, word: &str) -> bool
+        requires { i < length (table self.now) }
+        ensures { option_map (λ a. matches_of a word.now) (slice_get (table self.now) i) ≡ Some result }
+    {
+        self.at(i).matches(word.as_bytes())
+    }
+}
+
+// The place of the first architecture with this name.
+fn place(list: &[Arch<'_>], name: &str) -> Option<usize>
+    ensures { result ≡ position (λ a. bytes_eq a.name.now name.now) list.now }
+{
+    list.iter().position(|a| a.name == name)
+}

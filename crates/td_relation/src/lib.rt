@@ -1,0 +1,29 @@
+//! Architectures, and what a Build-Depends line asks of what is on offer: the table of
+//! architectures, relations after Debian Policy 7.1 with build profiles, and offers.
+//!
+//! Start at `Relation::read` and `met_by`; `Archs::read` reads the table that they ask for. All of
+//! them hold slices of the texts, and nothing but reading and `Offers::push` takes memory.
+//! Promised: a table is read exactly where it is one, a relation exactly as `specs/RelationGrammar`
+//! says, else the first fault is named; and a relation is met as `specs/Meeting` says.
+#![tactic(auto)]
+
+mod alternative_reading;
+mod arch;
+mod arch_list;
+mod arch_reading;
+mod archs;
+mod meeting;
+mod offers;
+mod profile_reading;
+mod relation;
+mod relation_fault;
+mod relation_reading;
+mod runs;
+#[cfg(test)]
+mod tests;
+
+pub use arch::Arch;
+pub use archs::{Archs, ArchsFault, MAX_ARCHS};
+pub use offers::{Offer, Offers};
+pub use relation::{Alternative, Operator, Relation, Restriction};
+pub use relation_fault::RelationFault;

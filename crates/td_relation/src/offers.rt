@@ -1,0 +1,58 @@
+use std::alloc::{AllocError, Global};
+use std::collections::HashMap;
+use td_version::Version;
+
+/// What is offered under a name.
+#[derive(Clone, Copy, Debug)]
+pub struct Offer<'a> {
+    pub version: Option<Version<'a>>,
+    /// The place of its architecture in the table; `None` for `all`.
+    pub arch: Option<usize>,
+}
+
+/// Offers, found by their names.
+#[derive(Debug, Drop)]
+pub struct Offers<'a> {
+    by_name: HashMap<&'a str, Vec<Offer<'a>>>,
+}
+
+impl<'a> Offers<'a> {
+    ghost use Rattle.std.specs.Prelude.{◌≡◌, List, ℕ, [], ◌∷◌, ◌++◌, OnOk, OnErr, map, if◌then◌else◌};
+    ghost use Rattle.std.specs.Str.{bytes_eq};
+    ghost use Rattle.std.specs.Option.{option_map_or};
+    ghost use Rattle.td_relation.specs.Offers.{offered, offers_of};
+
+    /// None yet.
+    pub fn new(alloc: Global) -> Offers<'a>
+        ensures { (q : List ℕ) → offers_of result q ≡ [] }
+    {
+        Offers {
+            by_name: HashMap::new(alloc),
+        }
+    }
+
+    /// Adds an offer behind those of its name. `None` for the architecture is `all`.
+    pub fn push(
+        &mut self,
+        name: &'a str,
+        version: Option<Version<'a>>,
+        arch: Option<usize>,
+    ) -> Result<(), AllocError>
+        ensures ok { OnOk result ((q : List ℕ) → offers_of self.new q ≡ (if bytes_eq q name.now then offers_of self.old q ++ offered (record { version = version.entry; arch = arch }) ∷ [] else offers_of self.old q)) }
+        ensures err { OnErr result ((q : List ℕ) → offers_of self.new q ≡ offers_of self.old q) }
+    {
+        let list = self.by_name.entry(name)?.or_default();
+        list.push(Offer { version, arch })?;
+        Ok(())
+    }
+
+    /// The offers of a name, in the order in which they came.
+    pub fn named(&self, name: &str) -> Option<&[Offer<'a>]>
+        ensures { option_map_or (λ list. map offered list.now) result [] ≡ offers_of self.now name.now }
+    {
+        match self.by_name.get(name) {
+            Some(list) => Some(list.as_slice()),
+            None => None,
+        }
+    }
+}
