@@ -183,7 +183,7 @@ fn a_claim_releases_a_settled_finish_first(rt: HostRuntime) -> Result<(), Fail> 
     Ok(())
 }
 
-// Both seats claim row 0 at once.
+// Both seats claim the one row at once.
 fn two_claims<R: Threads + Sync>(
     rt: &R,
     board: &Board,
@@ -214,7 +214,7 @@ fn of_two_threads_that_claim_a_row_one_wins(rt: HostRuntime) -> Result<(), Fail>
     Ok(())
 }
 
-// The builder claims row 0 while the desk takes it back: whether each did.
+// The builder claims the one row while the desk takes it back: whether each did.
 fn claim_and_withdrawal<R: Threads + Sync>(
     rt: &R,
     board: &Board,
