@@ -62,6 +62,7 @@ impl Change {
             keys_of was ≡ keys_of rows.old → HaveRows was keys →
             rows.new ≡ given_back (written kind) keys was rows.old }
     {
+        // (`len` says that the keys of the rows rise)
         let _rising = rows.len();
         let Change { cells, kept } = self;
         put_back(rows, cells, kept);

@@ -44,6 +44,7 @@ fn readied(
     requires rows { HaveRows rows.now keys.now }
     ensures { IfOk result (λ made. made.entries ≡ map (ready kind.now rows.now) keys.now) }
 {
+    // (`len` says that the keys of the rows rise)
     let _rising = rows.len();
     let mut made = BTreeMap::new(alloc);
     for key in keys {
@@ -84,6 +85,7 @@ impl Plan {
         ensures kept { result ≡ saved self.kind (left self) rows.old }
         ensures rows { rows.new ≡ applied self.kind (left self) rows.old }
     {
+        // (`len` says that the keys of the rows rise)
         let _rising = rows.len();
         let Plan {
             kind,
