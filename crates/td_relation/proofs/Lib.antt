@@ -5,3 +5,10 @@ pub mod PieceLaws
 pub mod ArchTexts
 pub mod VersionTexts
 pub mod MemberTexts
+pub mod RunTexts
+pub mod WordTexts
+pub mod VersionBytes
+pub mod WrittenParts
+pub mod WrittenProfiles
+pub mod WrittenAlternatives
+pub mod WrittenMembers

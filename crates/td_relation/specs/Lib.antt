@@ -13,3 +13,4 @@ pub mod Runs
 pub mod RelationGrammar
 pub mod Pieces
 pub mod RelationViews
+pub mod RelationWriting

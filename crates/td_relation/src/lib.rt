@@ -4,7 +4,8 @@
 //! Start at `Relation::read` and `met_by`; `Archs::read` reads the table that they ask for. All of
 //! them hold slices of the texts, and nothing but reading and `Offers::push` takes memory.
 //! Promised: a table is read exactly where it is one, a relation exactly as `specs/RelationGrammar`
-//! says, else the first fault is named; and a relation is met as `specs/Meeting` says.
+//! says, else the first fault is named; what is written as `specs/RelationWriting` says is read
+//! again; and a relation is met as `specs/Meeting` says.
 #![tactic(auto)]
 
 mod alternative_reading;
@@ -12,6 +13,7 @@ mod arch;
 mod arch_list;
 mod arch_reading;
 mod archs;
+mod laws;
 mod meeting;
 mod offers;
 mod profile_reading;
@@ -24,6 +26,7 @@ mod tests;
 
 pub use arch::Arch;
 pub use archs::{Archs, ArchsFault, MAX_ARCHS};
+pub use laws::written_relations_are_read_again;
 pub use offers::{Offer, Offers};
 pub use relation::{Alternative, Operator, Relation, Restriction};
 pub use relation_fault::RelationFault;

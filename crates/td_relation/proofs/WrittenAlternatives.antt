@@ -1,0 +1,88 @@
+-- An alternative that is written in the canonical way is read again.
+use Rattle.std.proofs.Common.{◌≡◌, ℕ, Bool, false, List, [], ◌∷◌, ◌++◌, Option, Some, None, Ok, refl, ap, ◌∙◌, append_assoc}
+use Rattle.std.specs.Prelude.{codes, IsTrue}
+use Rattle.td_text.specs.Cut.{Without}
+use Rattle.td_text.specs.Words.{is_name_byte, is_arch_byte, is_arch}
+use Rattle.td_text.proofs.Cut.{Without-append, Without-from_test, lacks}
+use Rattle.td_text.proofs.Words.{Without-name, Without-arch}
+use Rattle.td_relation.specs.declared.relation.Operator.{Operator}
+use Rattle.td_relation.specs.declared.relation.Operator.TheVariants.{Earlier, EarlierOrEqual, Equal, LaterOrEqual, Later}
+use Rattle.td_relation.specs.RelationGrammar.{is_version_byte, alternative_at}
+use Rattle.td_relation.specs.RelationWriting.{WrittenBound, WrittenArchs, WrittenProfile, WrittenAlternative, operator_text, marked, qualifier_part, bound_part, archs_part, profile_part, alternative_text, is_profile_byte, QualifierFits, BoundFits, ArchsFit, ProfilesFit, AlternativeFits, alternative_asked}
+use Rattle.td_relation.proofs.RunTexts.{gap}
+use Rattle.td_relation.proofs.VersionBytes.{version_bytes}
+use Rattle.td_relation.proofs.WordTexts.{each, Without-flat_map, Without-join, Without-marked}
+use Rattle.td_relation.proofs.WrittenParts.{bound_on, bound_begins, name_ends, name_again, restriction_again, archs_again}
+use Rattle.td_relation.proofs.WrittenProfiles.{profiles_lack, unprofiled_again}
+
+-- ---- it is read again, with a space in front or behind
+
+joined : (a : WrittenAlternative) (e : Bool) → alternative_text a ++ gap e ≡ a.name ++ (qualifier_part a.qualifier ++ bound_on a.bound a.archs a.profiles e)
+joined a e = simp append_assoc
+
+pub alternative_again : (f e : Bool) (a : WrittenAlternative) → AlternativeFits a → alternative_at (gap f ++ (alternative_text a ++ gap e)) ≡ Ok (alternative_asked a)
+unfolding alternative_at
+alternative_again f e a h =
+    ap (λ (t : List ℕ). alternative_at (gap f ++ t)) (joined a e)
+    ∙ rw (
+      name_again f a.name a.qualifier (bound_on a.bound a.archs a.profiles e) h.name h.qualifier (bound_begins a.bound a.archs a.profiles e) (name_ends a.bound a.archs a.profiles e),
+      restriction_again a.bound a.archs a.profiles e h.bound,
+      archs_again a.archs a.profiles e h.archs,
+      unprofiled_again a.profiles e h.profiles,
+    ) refl
+
+-- ---- the bytes that it has not
+
+-- a byte that no alternative has
+pub record Apart (c : ℕ) : Type 0 where
+  pub name : is_name_byte c ≡ false
+  pub arch : is_arch_byte c ≡ false
+  pub version : is_version_byte c ≡ false
+  pub profile : is_profile_byte c ≡ false
+  pub marks : Without c (codes " !():<=>[]")
+
+pub Apart-bar : Apart 124
+Apart-bar = record { name = refl; arch = refl; version = refl; profile = refl; marks = lacks 124 (codes " !():<=>[]") refl }
+
+pub Apart-comma : Apart 44
+Apart-comma = record { name = refl; arch = refl; version = refl; profile = refl; marks = lacks 44 (codes " !():<=>[]") refl }
+
+module _ (c : ℕ) (apart : Apart c) where
+  qualifier_lacks : (q : Option (List ℕ)) → QualifierFits q → Without c (qualifier_part q)
+  qualifier_lacks None h = tt
+  qualifier_lacks (Some word) h = let m = apart.marks in (m.1.1.1.1.0, Without-arch c word apart.arch h)
+
+  operator_lacks : (o : Operator) → Without c (operator_text o)
+  operator_lacks Earlier = let m = apart.marks.1.1.1.1.1 in (m.0, (m.0, tt))
+  operator_lacks EarlierOrEqual = let m = apart.marks.1.1.1.1.1 in (m.0, (m.1.0, tt))
+  operator_lacks Equal = let m = apart.marks.1.1.1.1.1 in (m.1.0, tt)
+  operator_lacks LaterOrEqual = let m = apart.marks.1.1.1.1.1 in (m.1.1.0, (m.1.0, tt))
+  operator_lacks Later = let m = apart.marks.1.1.1.1.1 in (m.1.1.0, (m.1.1.0, tt))
+
+  bound_lacks : (b : Option WrittenBound) → BoundFits b → Without c (bound_part b)
+  bound_lacks None h = tt
+  bound_lacks (Some b) h =
+      let m = apart.marks in
+      let version = Without-from_test is_version_byte c b.version apart.version (version_bytes b.version b.parts h) in
+      (m.0, (m.1.1.0, Without-append c (operator_text b.operator) _ (operator_lacks b.operator) (m.0, Without-append c b.version (41 ∷ []) version (m.1.1.1.0, tt))))
+
+  archs_lack : (l : Option WrittenArchs) → ArchsFit l → Without c (archs_part l)
+  archs_lack None h = tt
+  archs_lack (Some l) h =
+      let m = apart.marks in
+      let brackets = m.1.1.1.1.1.1.1.1 in
+      let names = Without-join c (marked l.negated) (codes " ") l.names (m.0, tt) (each (λ n. IsTrue (is_arch n)) (λ n. Without c (marked l.negated n)) (λ n w. Without-marked c l.negated n m.1.0 (Without-arch c n apart.arch w)) l.names h.1) in
+      (m.0, (brackets.0, Without-append c _ (93 ∷ []) names (brackets.1.0, tt)))
+
+  profile_part-lacks : (l : List WrittenProfile) → ProfilesFit l → Without c (profile_part l)
+  profile_part-lacks l h =
+      let m = apart.marks in
+      (m.0, (m.1.1.1.1.1.0, Without-append c _ (62 ∷ []) (profiles_lack c apart.profile m.1.0 m.0 l h) (m.1.1.1.1.1.1.1.0, tt)))
+
+  pub alternative_lacks : (a : WrittenAlternative) → AlternativeFits a → Without c (alternative_text a)
+  alternative_lacks a h =
+      Without-append c a.name _ (Without-name c a.name apart.name h.name)
+      (Without-append c (qualifier_part a.qualifier) _ (qualifier_lacks a.qualifier h.qualifier)
+      (Without-append c (bound_part a.bound) _ (bound_lacks a.bound h.bound)
+      (Without-append c (archs_part a.archs) _ (archs_lack a.archs h.archs)
+      (Without-flat_map c profile_part a.profiles (each ProfilesFit (λ l. Without c (profile_part l)) profile_part-lacks a.profiles h.profiles)))))
