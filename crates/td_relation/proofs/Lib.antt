@@ -12,3 +12,4 @@ pub mod WrittenParts
 pub mod WrittenProfiles
 pub mod WrittenAlternatives
 pub mod WrittenMembers
+pub mod MeetingLaws

@@ -1,9 +1,9 @@
 -- An alternative that is written in the canonical way is read again.
-use Rattle.std.proofs.Common.{◌≡◌, ℕ, Bool, false, List, [], ◌∷◌, ◌++◌, Option, Some, None, Ok, refl, ap, ◌∙◌, append_assoc}
+use Rattle.std.proofs.Common.{◌≡◌, ◌≢◌, ℕ, Bool, false, List, [], ◌∷◌, ◌++◌, Option, Some, None, Ok, refl, ap, ◌∙◌, append_assoc, arith}
 use Rattle.std.specs.Prelude.{codes, IsTrue}
 use Rattle.td_text.specs.Cut.{Without}
 use Rattle.td_text.specs.Words.{is_name_byte, is_arch_byte, is_arch}
-use Rattle.td_text.proofs.Cut.{Without-append, Without-from_test, lacks}
+use Rattle.td_text.proofs.Cut.{Without-append, Without-from_test}
 use Rattle.td_text.proofs.Words.{Without-name, Without-arch}
 use Rattle.td_relation.specs.declared.relation.Operator.{Operator}
 use Rattle.td_relation.specs.declared.relation.Operator.TheVariants.{Earlier, EarlierOrEqual, Equal, LaterOrEqual, Later}
@@ -39,45 +39,49 @@ pub record Apart (c : ℕ) : Type 0 where
   pub arch : is_arch_byte c ≡ false
   pub version : is_version_byte c ≡ false
   pub profile : is_profile_byte c ≡ false
-  pub marks : Without c (codes " !():<=>[]")
+  pub space : 32 ≢ c
+  pub mark : 33 ≢ c
+  pub opens : 40 ≢ c
+  pub closes : 41 ≢ c
+  pub colon : 58 ≢ c
+  pub less : 60 ≢ c
+  pub equal : 61 ≢ c
+  pub greater : 62 ≢ c
+  pub opens_list : 91 ≢ c
+  pub closes_list : 93 ≢ c
 
 pub Apart-bar : Apart 124
-Apart-bar = record { name = refl; arch = refl; version = refl; profile = refl; marks = lacks 124 (codes " !():<=>[]") refl }
+Apart-bar = record { name = refl; arch = refl; version = refl; profile = refl; space = λ z. omega arith; mark = λ z. omega arith; opens = λ z. omega arith; closes = λ z. omega arith; colon = λ z. omega arith; less = λ z. omega arith; equal = λ z. omega arith; greater = λ z. omega arith; opens_list = λ z. omega arith; closes_list = λ z. omega arith }
 
 pub Apart-comma : Apart 44
-Apart-comma = record { name = refl; arch = refl; version = refl; profile = refl; marks = lacks 44 (codes " !():<=>[]") refl }
+Apart-comma = record { name = refl; arch = refl; version = refl; profile = refl; space = λ z. omega arith; mark = λ z. omega arith; opens = λ z. omega arith; closes = λ z. omega arith; colon = λ z. omega arith; less = λ z. omega arith; equal = λ z. omega arith; greater = λ z. omega arith; opens_list = λ z. omega arith; closes_list = λ z. omega arith }
 
 module _ (c : ℕ) (apart : Apart c) where
   qualifier_lacks : (q : Option (List ℕ)) → QualifierFits q → Without c (qualifier_part q)
   qualifier_lacks None h = tt
-  qualifier_lacks (Some word) h = let m = apart.marks in (m.1.1.1.1.0, Without-arch c word apart.arch h)
+  qualifier_lacks (Some word) h = (apart.colon, Without-arch c word apart.arch h)
 
   operator_lacks : (o : Operator) → Without c (operator_text o)
-  operator_lacks Earlier = let m = apart.marks.1.1.1.1.1 in (m.0, (m.0, tt))
-  operator_lacks EarlierOrEqual = let m = apart.marks.1.1.1.1.1 in (m.0, (m.1.0, tt))
-  operator_lacks Equal = let m = apart.marks.1.1.1.1.1 in (m.1.0, tt)
-  operator_lacks LaterOrEqual = let m = apart.marks.1.1.1.1.1 in (m.1.1.0, (m.1.0, tt))
-  operator_lacks Later = let m = apart.marks.1.1.1.1.1 in (m.1.1.0, (m.1.1.0, tt))
+  operator_lacks Earlier = (apart.less, (apart.less, tt))
+  operator_lacks EarlierOrEqual = (apart.less, (apart.equal, tt))
+  operator_lacks Equal = (apart.equal, tt)
+  operator_lacks LaterOrEqual = (apart.greater, (apart.equal, tt))
+  operator_lacks Later = (apart.greater, (apart.greater, tt))
 
   bound_lacks : (b : Option WrittenBound) → BoundFits b → Without c (bound_part b)
   bound_lacks None h = tt
   bound_lacks (Some b) h =
-      let m = apart.marks in
       let version = Without-from_test is_version_byte c b.version apart.version (version_bytes b.version b.parts h) in
-      (m.0, (m.1.1.0, Without-append c (operator_text b.operator) _ (operator_lacks b.operator) (m.0, Without-append c b.version (41 ∷ []) version (m.1.1.1.0, tt))))
+      (apart.space, (apart.opens, Without-append c (operator_text b.operator) _ (operator_lacks b.operator) (apart.space, Without-append c b.version (41 ∷ []) version (apart.closes, tt))))
 
   archs_lack : (l : Option WrittenArchs) → ArchsFit l → Without c (archs_part l)
   archs_lack None h = tt
   archs_lack (Some l) h =
-      let m = apart.marks in
-      let brackets = m.1.1.1.1.1.1.1.1 in
-      let names = Without-join c (marked l.negated) (codes " ") l.names (m.0, tt) (each (λ n. IsTrue (is_arch n)) (λ n. Without c (marked l.negated n)) (λ n w. Without-marked c l.negated n m.1.0 (Without-arch c n apart.arch w)) l.names h.1) in
-      (m.0, (brackets.0, Without-append c _ (93 ∷ []) names (brackets.1.0, tt)))
+      let names = Without-join c (marked l.negated) (codes " ") l.names (apart.space, tt) (each (λ n. IsTrue (is_arch n)) (λ n. Without c (marked l.negated n)) (λ n w. Without-marked c l.negated n apart.mark (Without-arch c n apart.arch w)) l.names h.1) in
+      (apart.space, (apart.opens_list, Without-append c _ (93 ∷ []) names (apart.closes_list, tt)))
 
   profile_part-lacks : (l : List WrittenProfile) → ProfilesFit l → Without c (profile_part l)
-  profile_part-lacks l h =
-      let m = apart.marks in
-      (m.0, (m.1.1.1.1.1.0, Without-append c _ (62 ∷ []) (profiles_lack c apart.profile m.1.0 m.0 l h) (m.1.1.1.1.1.1.1.0, tt)))
+  profile_part-lacks l h = (apart.space, (apart.less, Without-append c _ (62 ∷ []) (profiles_lack c apart.profile apart.mark apart.space l h) (apart.greater, tt)))
 
   pub alternative_lacks : (a : WrittenAlternative) → AlternativeFits a → Without c (alternative_text a)
   alternative_lacks a h =

@@ -14,3 +14,4 @@ pub mod RelationGrammar
 pub mod Pieces
 pub mod RelationViews
 pub mod RelationWriting
+pub mod MeetingLaws

@@ -1,6 +1,15 @@
+ghost use Rattle.td_relation.specs.MeetingLaws.{ListsCount, MoreStillMeets, OthersMakeNoDifference};
 ghost use Rattle.td_relation.specs.RelationWriting.{RelationsAreReadAgain};
 
 /// A relation that is written in the canonical way is read again, as what it asks.
 pub fn written_relations_are_read_again()
     ensures { RelationsAreReadAgain }
+{}
+
+/// Whether a relation is met hangs on what is offered under the names that it names, and more
+/// offers never undo it; an architecture list counts as its names say.
+pub fn relations_ask_for_what_they_name()
+    ensures others { OthersMakeNoDifference }
+    ensures more { MoreStillMeets }
+    ensures lists { ListsCount }
 {}

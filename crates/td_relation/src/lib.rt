@@ -26,7 +26,7 @@ mod tests;
 
 pub use arch::Arch;
 pub use archs::{Archs, ArchsFault, MAX_ARCHS};
-pub use laws::written_relations_are_read_again;
+pub use laws::{relations_ask_for_what_they_name, written_relations_are_read_again};
 pub use offers::{Offer, Offers};
 pub use relation::{Alternative, Operator, Relation, Restriction};
 pub use relation_fault::RelationFault;
