@@ -1,5 +1,6 @@
 pub mod CellLaws
 pub mod Keys
+pub mod KeyPlaces
 pub mod Lookups
 pub mod Places
 pub mod Rising

@@ -1,4 +1,5 @@
 pub mod Text
+pub mod KeyModel
 pub mod Keys
 pub mod Cells
 pub mod Blank

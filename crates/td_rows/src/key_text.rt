@@ -24,7 +24,5 @@ pub fn read_key(text: &str) -> Option<(&str, &str)>
 pub fn put_key(out: &mut String, key: &Key) -> Result<(), AllocError>
     ensures { OnOk result (string_bytes out.new ≡ string_bytes out.old ++ key_text key.now) }
 {
-    out.push_str(key.source.as_str())?;
-    out.push_str("/")?;
-    out.push_str(key.arch.as_str())
+    out.push_str(key.as_str())
 }

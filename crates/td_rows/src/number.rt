@@ -59,17 +59,17 @@ impl Priority {
 /// The number of a rebuild, the `N` of `+bN`, from 0 (the source's own build) to 9999.
 #[derive(Clone, Copy, Debug, PartialEq, Eq)]
 pub struct RebuildNumber {
-    value: u16,
+    number: u16,
 }
 
 impl Model for RebuildNumber {
     ghost Value = { ℕ };
 
-    ghost view = { λ n. n.value };
+    ghost view = { λ n. n.number };
 
-    ghost invariant = { λ n. n.value ≤ 9999 };
+    ghost invariant = { λ n. n.number ≤ 9999 };
 
-    ghost inverse = { λ n. record { value = n } };
+    ghost inverse = { λ n. record { number = n } };
 }
 
 impl RebuildNumber {
@@ -77,7 +77,7 @@ impl RebuildNumber {
     pub fn zero() -> RebuildNumber
         ensures { result ≡ 0 }
     {
-        RebuildNumber { value: 0 }
+        RebuildNumber { number: 0 }
     }
 
     /// The rebuild number of a number within the limit.
@@ -86,7 +86,7 @@ impl RebuildNumber {
         ensures within { IsSome result ↔ (value ≤ 9999) }
     {
         if value <= MAX_REBUILD {
-            Some(RebuildNumber { value })
+            Some(RebuildNumber { number: value })
         } else {
             None
         }
@@ -97,7 +97,7 @@ impl RebuildNumber {
         ensures value { result ≡ self }
         ensures within { self ≤ 9999 }
     {
-        self.value
+        self.number
     }
 
     /// The number of the next rebuild: the one that is asked for, or one more than this.
@@ -108,7 +108,7 @@ impl RebuildNumber {
         match asked {
             Some(number) => number,
             None => RebuildNumber {
-                value: self.value + 1,
+                number: self.number + 1,
             },
         }
     }

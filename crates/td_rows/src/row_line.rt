@@ -80,10 +80,7 @@ impl<'a> RowText<'a> {
         requires arch { has_newline self.now.arch.now ≡ false }
         ensures { IfOk result (λ key. key ≡ (row_of_text self.now).0) }
     {
-        Ok(Key {
-            source: Line::from_line(alloc, self.source)?,
-            arch: Line::from_line(alloc, self.arch)?,
-        })
+        Key::from_lines(alloc, self.source, self.arch)
     }
 
     /// The row, in memory of its own. No newline stands in a line.
