@@ -1,0 +1,7 @@
+pub mod Histories
+pub mod Phases
+pub mod Refusing
+pub mod Suiting
+pub mod Worlds
+pub mod Promises
+pub mod Running

@@ -1,0 +1,216 @@
+-- What holds over every list of steps.
+use Rattle.std.proofs.Common.{◌≡◌, ◌↔◌, ℕ, zero, suc, ◌+◌, ◌-◌, ◌≤◌, true, false, not, ◌&&◌, ◌==◌, List, [], ◌∷◌, ◌++◌, map, length, Option, Some, None, if◌then◌else◌, slice_get, ap, refl, sym, ◌∙◌, append-nil, arith}
+use Rattle.std.specs.Prelude.{nat_lt}
+use Rattle.std.specs.Option.{option_or}
+use Rattle.std.proofs.lemmas.Bool.Decides.{nat_tests}
+use Rattle.td_rows.specs.declared.key.Key.{Key}
+use Rattle.td_rows.specs.declared.state.State.{State}
+use Rattle.td_rows.specs.declared.state.State.TheVariants.{NeedsBuild, Building}
+use Rattle.td_journal.specs.declared.entry.Entry.{Entry}
+use Rattle.td_journal.specs.declared.entry.Mark.{Mark}
+use Rattle.td_journal.specs.declared.entry.Mark.TheVariants.{Standing, Undone as Dropped}
+use Rattle.td_journal.specs.declared.entry.Marked.{Marked}
+use Rattle.td_journal.specs.Entries.{is_command, is_standing, standing, standing_entry, entry_at, undone_at, undone}
+use Rattle.td_journal.specs.Replay.{replay}
+use Rattle.td_journal.specs.Touching.{touches, latest_touching, blocker}
+use Rattle.td_journal.proofs.Undoing.{standing-append}
+use Rattle.td_core.specs.declared.step.Phase.{Phase}
+use Rattle.td_core.specs.declared.step.Phase.TheVariants.{Closed, Open, Held, Noted, Done}
+use Rattle.td_core.specs.declared.step.Hand.{Hand}
+use Rattle.td_core.specs.declared.step.Hand.TheVariants.{Free, Holding, Finished}
+use Rattle.td_core.specs.declared.step.Step.{Step}
+use Rattle.td_core.specs.declared.step.Step.TheVariants.{Offer, Withdraw, Claim, Note, Commit, Undo, Finish, Settle, Release}
+use Rattle.td_core.specs.declared.step.Refusal.{Refusal}
+use Rattle.td_core.specs.declared.step.Refusal.TheVariants.{Blocked, NotPinned, NotACommand, NoSuchEntry}
+use Rattle.td_core.specs.declared.step.Answer.{Answer}
+use Rattle.td_core.specs.declared.step.Answer.TheVariants.{Undone, Refused}
+use Rattle.td_core.specs.History.{History, rows_of, with_entry}
+use Rattle.td_core.specs.Phases.{is_pinned, is_built, Suits}
+use Rattle.td_core.specs.Worlds.{WorldView, phase_of, hand_of, journaled, world_of, IsWorld}
+use Rattle.td_core.specs.Refusals.{refused_if, first_refused, first_loose, mark_refusal, undo_refusal}
+use Rattle.td_core.specs.Steps.{refusal, accepted, noted, settled, finished, answer_to, after, after_all}
+use Rattle.td_core.specs.Promises.{EveryWorld, OfferedRowsWait, is_known_by, BuiltExactly, UndoneAtOnce, StandingCommand, BlockedExactly, UndoneElse, Stays, EntriesStay}
+use Rattle.td_core.proofs.Refusing.{commits}
+use Rattle.td_core.proofs.Worlds.{IsWorld-open, IsWorld-after, answer_to-refused, answer_to-accepted, after-accepted}
+
+IsWorld-after_all : (w : WorldView) (steps : List Step) → IsWorld w → IsWorld (after_all w steps)
+IsWorld-after_all w [] i = i
+IsWorld-after_all w (s ∷ steps) i = IsWorld-after_all (after w s) steps (IsWorld-after w s i)
+
+pub every_world : EveryWorld
+every_world t builders steps rising idle = IsWorld-after_all (world_of t builders) steps (IsWorld-open t builders rising idle)
+
+waits : (p : Phase) (s : State) → Suits p s → is_pinned p ≡ false → s ≡ NeedsBuild
+waits Closed s suits loose = cc
+waits Open s suits loose = suits
+waits (Held b) s suits loose = suits
+waits (Noted b) s suits loose = cc
+waits (Done b o) s suits loose = cc
+
+pub offered_rows_wait : OfferedRowsWait
+offered_rows_wait w k p row i phase found loose = waits p row.state (i.suits k p row phase found) loose
+
+same_number : (b c : ℕ) → (b == c) ≡ true → b ≡ c
+same_number b c h = grind (arith, nat_tests, h)
+
+number_same : (b c : ℕ) → c ≡ b → (b == c) ≡ true
+number_same b c h = grind (arith, nat_tests, h)
+
+built : (p : Phase) (s : State) (b : ℕ) → Suits p s → (s ≡ Building b) ↔ (is_known_by b p ≡ true)
+built Closed s b suits = ((λ is. absurd (let bad : true ≡ false = ap is_built (sym is) ∙ suits in cc)), (λ h. cc))
+built Open s b suits = ((λ is. absurd (let bad = sym suits ∙ is in cc)), (λ h. cc))
+built (Held c) s b suits = ((λ is. absurd (let bad = sym suits ∙ is in cc)), (λ h. cc))
+built (Noted c) s b suits = ((λ is. number_same b c (let e = sym suits ∙ is in cc)), (λ h. suits ∙ ap (λ (x : ℕ). Building x) (sym (same_number b c h))))
+built (Done c o) s b suits = ((λ is. number_same b c (let e = sym suits ∙ is in cc)), (λ h. suits ∙ ap (λ (x : ℕ). Building x) (sym (same_number b c h))))
+
+pub built_exactly : BuiltExactly
+built_exactly w k p row b i phase found = built p row.state b (i.suits k p row phase found)
+
+-- the last entry
+slice_get-last : (ms : List Marked) (m : Marked) → slice_get (ms ++ m ∷ []) (length ms) ≡ Some m
+slice_get-last [] m = refl
+slice_get-last (x ∷ ms) m = slice_get-last ms m
+
+entry_at-last : (ms : List Marked) (m : Marked) → entry_at (ms ++ m ∷ []) (length ms + 1) ≡ Some m
+entry_at-last ms m =
+    let back : length ms + 1 - 1 ≡ length ms = omega arith in
+    let not_zero : (length ms + 1 == 0) ≡ false = grind (arith, nat_tests) in
+    ap (λ b. if b then None else slice_get (ms ++ m ∷ []) (length ms + 1 - 1)) not_zero ∙ ap (slice_get (ms ++ m ∷ [])) back ∙ slice_get-last ms m
+
+-- nothing stands above the last
+latest-none : (e : Entry) (n number : ℕ) (ms : List Marked) → number + length ms ≤ n + 1 → latest_touching e n number ms ≡ None
+latest-none e n number [] h = refl
+latest-none e n number (m ∷ ms) h =
+    let below : nat_lt n number ≡ false = grind (arith, nat_tests, h) in
+    (λ j. option_or (latest-none e n (number + 1) ms (omega (arith, h)) j) (if below j && (is_standing m.mark && touches e m.entry) then Some number else None))
+
+length-push : (ms : List Marked) (m : Marked) → length (ms ++ m ∷ []) ≡ length ms + 1
+length-push [] m = refl
+length-push (x ∷ ms) m = let rest = length-push ms m in omega (arith, rest)
+
+blocker-last : (ms : List Marked) (m : Marked) → blocker (ms ++ m ∷ []) (length ms + 1) ≡ None
+blocker-last ms m = ap (λ (x : Option Marked). elim x as (λ _. Option ℕ) [ Some y ↦ latest_touching y.entry (length ms + 1) 1 (ms ++ m ∷ []) | None ↦ None ]) (entry_at-last ms m)
+    ∙ latest-none m.entry (length ms + 1) 1 (ms ++ m ∷ []) (omega (arith, length-push ms m))
+
+undone_at-last : (ms : List Marked) (m : Marked) → undone_at (ms ++ m ∷ []) (length ms) ≡ ms ++ record m { mark = Dropped } ∷ []
+undone_at-last [] m = refl
+undone_at-last (x ∷ ms) m = ap (λ (ys : List Marked). x ∷ ys) (undone_at-last ms m)
+
+standing-last : (ms : List Marked) (m : Marked) → standing (undone (ms ++ m ∷ []) (length ms + 1)) ≡ standing ms
+standing-last ms m =
+    let back : length ms + 1 - 1 ≡ length ms = omega arith in
+    ap (λ (i : ℕ). standing (undone_at (ms ++ m ∷ []) i)) back ∙ ap standing (undone_at-last ms m) ∙ standing-append ms (record m { mark = Dropped } ∷ []) ∙ append-nil (standing ms)
+
+-- the refusal of a standing command's undo
+undo_refusal-command : (w : WorldView) (n : ℕ) (m : Marked) → StandingCommand w n m → undo_refusal w n ≡ mark_refusal w m Standing (blocker w.history.journal n)
+undo_refusal-command w n m s =
+    ap (λ (x : Option Marked). elim x as (λ _. Option Refusal) [ Some y ↦ refused_if (not (is_command y.entry.kind)) NotACommand (mark_refusal w y y.mark (blocker w.history.journal n)) | None ↦ Some NoSuchEntry ]) s.there
+    ∙ ap (λ b. refused_if (not b) NotACommand (mark_refusal w m m.mark (blocker w.history.journal n))) s.command
+    ∙ ap (λ (x : Mark). mark_refusal w m x (blocker w.history.journal n)) s.stands
+
+undo_refusal-none : (w : WorldView) (n : ℕ) (m : Marked) → StandingCommand w n m → blocker w.history.journal n ≡ None → first_loose w m.entry.kind m.entry.keys ≡ None → undo_refusal w n ≡ None
+undo_refusal-none w n m s free pinned = undo_refusal-command w n m s ∙ ap (mark_refusal w m Standing) free ∙ ap (λ (o : Option Key). first_refused o (λ k. NotPinned None) None) pinned
+
+pub undone_else : UndoneElse
+undone_else w n m s free pinned = answer_to-accepted w (Undo n) (undo_refusal-none w n m s free pinned)
+
+pub blocked_exactly : BlockedExactly
+blocked_exactly w n m b s = (
+  (λ told. back (blocker w.history.journal n) refl told),
+  (λ is. answer_to-refused w (Undo n) (Blocked b) (undo_refusal-command w n m s ∙ ap (mark_refusal w m Standing) is)),
+)
+  where
+    loose : (o : Option Key) (a : Answer) → (elim (first_refused o (λ k. NotPinned None) None) as (λ _. Answer) [ Some r ↦ Refused r | None ↦ Undone n ]) ≡ Refused (Blocked b) → ⊥
+    loose None a h = cc
+    loose (Some k) a h = cc
+    back : (o : Option ℕ) → blocker w.history.journal n ≡ o → answer_to w (Undo n) ≡ Refused (Blocked b) → blocker w.history.journal n ≡ Some b
+    back (Some c) is told =
+        let named = sym (answer_to-refused w (Undo n) (Blocked c) (undo_refusal-command w n m s ∙ ap (mark_refusal w m Standing) is)) ∙ told in
+        let same : c ≡ b = cc in
+        is ∙ ap (λ (x : ℕ). Some x) same
+    back None is told =
+        absurd (loose (first_loose w m.entry.kind m.entry.keys) (Undone n)
+            (sym (ap (λ (r : Option Refusal). elim r as (λ _. Answer) [ Some x ↦ Refused x | None ↦ Undone n ]) (undo_refusal-command w n m s ∙ ap (mark_refusal w m Standing) is)) ∙ told))
+
+pub undone_at_once : UndoneAtOnce
+undone_at_once w kind keys none =
+    let n = length w.history.journal + 1 in
+    let e : Entry = record { kind = kind; keys = keys } in
+    let c = commits w kind keys none in
+    let ms = w.history.journal in
+    let next : after w (Commit kind keys) ≡ journaled w kind keys = after-accepted w (Commit kind keys) none in
+    let fine : undo_refusal (journaled w kind keys) n ≡ None = undo_refusal-none (journaled w kind keys) n (standing_entry e)
+        (record { there = entry_at-last ms (standing_entry e); stands = refl; command = c.command }) (blocker-last ms (standing_entry e)) c.none_loose in (
+      ap (λ (v : WorldView). answer_to v (Undo n)) next ∙ answer_to-accepted (journaled w kind keys) (Undo n) fine,
+      ap (λ (v : WorldView). rows_of (after v (Undo n)).history) next
+      ∙ ap (λ (v : WorldView). rows_of v.history) (after-accepted (journaled w kind keys) (Undo n) fine)
+      ∙ ap (replay w.history.opening) (standing-last ms (standing_entry e)),
+    )
+
+
+entries-append : (a b : List Marked) → map (λ (m : Marked). m.entry) (a ++ b) ≡ map (λ (m : Marked). m.entry) a ++ map (λ (m : Marked). m.entry) b
+entries-append [] b = refl
+entries-append (m ∷ a) b = ap (λ (es : List Entry). m.entry ∷ es) (entries-append a b)
+
+entries-undone_at : (ms : List Marked) (i : ℕ) → map (λ (m : Marked). m.entry) (undone_at ms i) ≡ map (λ (m : Marked). m.entry) ms
+entries-undone_at [] zero = refl
+entries-undone_at [] (suc i) = refl
+entries-undone_at (m ∷ ms) zero = refl
+entries-undone_at (m ∷ ms) (suc i) = ap (λ (es : List Entry). m.entry ∷ es) (entries-undone_at ms i)
+
+same_history : (w v : WorldView) → v.history ≡ w.history → Stays w v
+same_history w v same = record {
+  opening = ap (λ (h : History). h.opening) same;
+  added = [];
+  entries = ap (λ (h : History). map (λ (m : Marked). m.entry) h.journal) same ∙ sym (append-nil (map (λ (m : Marked). m.entry) w.history.journal));
+}
+
+one_more : (w v : WorldView) (e : Entry) → v.history ≡ with_entry w.history e → Stays w v
+one_more w v e is = record {
+  opening = ap (λ (h : History). h.opening) is;
+  added = e ∷ [];
+  entries = ap (λ (h : History). map (λ (m : Marked). m.entry) h.journal) is ∙ entries-append w.history.journal (standing_entry e ∷ []);
+}
+
+stays_accepted : (w : WorldView) (s : Step) → Stays w (accepted w s)
+stays_accepted w (Offer k) = same_history w (accepted w (Offer k)) refl
+stays_accepted w (Withdraw k) = same_history w (accepted w (Withdraw k)) refl
+stays_accepted w (Claim b k) = same_history w (accepted w (Claim b k)) refl
+stays_accepted w (Note k) = at (phase_of w k)
+  where
+    at : (p : Option Phase) → Stays w (noted w k p)
+    at None = same_history w w refl
+    at (Some Closed) = same_history w w refl
+    at (Some Open) = same_history w w refl
+    at (Some (Held b)) = one_more w (noted w k (Some (Held b))) _ refl
+    at (Some (Noted b)) = same_history w w refl
+    at (Some (Done b o)) = same_history w w refl
+stays_accepted w (Commit kind keys) = one_more w (accepted w (Commit kind keys)) _ refl
+stays_accepted w (Undo n) = record {
+  opening = refl;
+  added = [];
+  entries = entries-undone_at w.history.journal (n - 1) ∙ sym (append-nil (map (λ (m : Marked). m.entry) w.history.journal));
+}
+stays_accepted w (Finish b o) = at (hand_of w b)
+  where
+    at : (h : Option Hand) → Stays w (finished w b o h)
+    at None = same_history w w refl
+    at (Some Free) = same_history w w refl
+    at (Some (Holding k)) = same_history w (finished w b o (Some (Holding k))) refl
+    at (Some (Finished k x)) = same_history w w refl
+stays_accepted w (Settle k) = at (phase_of w k)
+  where
+    at : (p : Option Phase) → Stays w (settled w k p)
+    at None = same_history w w refl
+    at (Some Closed) = same_history w w refl
+    at (Some Open) = same_history w w refl
+    at (Some (Held b)) = same_history w w refl
+    at (Some (Noted b)) = same_history w w refl
+    at (Some (Done b o)) = one_more w (settled w k (Some (Done b o))) _ refl
+stays_accepted w (Release b) = same_history w (accepted w (Release b)) refl
+
+pub entries_stay : EntriesStay
+entries_stay w s = elim (refusal w s) as (λ r. Stays w (elim r as (λ _. WorldView) [ Some x ↦ w | None ↦ accepted w s ])) [
+  | Some x ↦ same_history w w refl
+  | None ↦ stays_accepted w s
+]

@@ -1,0 +1,359 @@
+-- What holds of a world holds after every step.
+use Rattle.std.proofs.Common.{◌≡◌, ℕ, zero, suc, ◌-◌, Bool, true, false, List, [], ◌∷◌, ◌++◌, Option, Some, None, option_map, unwrap_or, if◌then◌else◌, length, replicate, slice_get, take, drop, not, ◌==◌, ap, refl, sym, subst, ◌∙◌, arith}
+use Rattle.std.proofs.lemmas.Bool.Decides.{nat_tests}
+use Rattle.std.proofs.lemmas.List.{length-set, length-replicate}
+use Rattle.td_change.specs.Saved.{number_of}
+use Rattle.td_rows.specs.declared.key.Key.{Key}
+use Rattle.td_rows.specs.declared.row.Row.{Row}
+use Rattle.td_rows.specs.declared.state.State.{State}
+use Rattle.td_rows.specs.declared.state.State.TheVariants.{NeedsBuild, Building, Built, Uploaded, Installed, DepWait, BdUninstallable, BuildAttempted, Failed, NotForUs}
+use Rattle.td_rows.specs.declared.kind.Kind.{Kind}
+use Rattle.td_rows.specs.declared.kind.Kind.TheVariants.{Claim as Claimed, Outcome as Ended}
+use Rattle.td_rows.specs.declared.outcome.Outcome.{Outcome}
+use Rattle.td_rows.specs.declared.outcome.Outcome.TheVariants.{Built as WasBuilt, Attempted, GivenBack, Waits}
+use Rattle.td_rows.specs.Blank.{blank}
+use Rattle.td_rows.specs.Cells.{restore}
+use Rattle.td_rows.specs.Keys.{same_key, names, ascending}
+use Rattle.td_rows.specs.Kinds.{cells, written}
+use Rattle.td_rows.specs.Meaning.{applies, means}
+use Rattle.td_rows.specs.States.{is_queued, is_building_by}
+use Rattle.td_rows.specs.Table.{Table, row_of, keys_of, each_row, meant, applied, fits, AppliesOn}
+use Rattle.td_rows.proofs.Keys.{same_key-true}
+use Rattle.td_rows.proofs.Tables.{row_of-each_row, applies-fits}
+use Rattle.td_journal.specs.declared.entry.Entry.{Entry}
+use Rattle.td_journal.specs.declared.entry.Marked.{Marked}
+use Rattle.td_journal.specs.Entries.{standing, standing_entry, is_standing}
+use Rattle.td_journal.specs.Replay.{replay, row_after, Lawful}
+use Rattle.td_journal.specs.Undo.{rows_before, row_at}
+use Rattle.td_journal.proofs.Commuting.{row_after-append}
+use Rattle.td_journal.proofs.Undoing.{standing-append, standing-at, entry_at-place, LawfulAfter-rest, Lawful-push, Apart-blocker, undo_is_lawful, undo_gives_back, replay-push, replay-none}
+use Rattle.td_core.specs.declared.step.Phase.{Phase}
+use Rattle.td_core.specs.declared.step.Phase.TheVariants.{Closed, Open, Held, Noted, Done}
+use Rattle.td_core.specs.declared.step.Hand.{Hand}
+use Rattle.td_core.specs.declared.step.Hand.TheVariants.{Free, Holding, Finished}
+use Rattle.td_core.specs.declared.step.Step.{Step}
+use Rattle.td_core.specs.declared.step.Step.TheVariants.{Offer, Withdraw, Claim, Note, Commit, Undo, Finish, Settle, Release}
+use Rattle.td_core.specs.declared.step.Refusal.{Refusal}
+use Rattle.td_core.specs.declared.step.Refusal.TheVariants.{NotNoted}
+use Rattle.td_core.specs.declared.step.Answer.{Answer}
+use Rattle.td_core.specs.declared.step.Answer.TheVariants.{Refused}
+use Rattle.td_core.specs.History.{History, rows_of, with_entry, without_entry}
+use Rattle.td_core.specs.Phases.{is_built, Suits, NoneBuilt}
+use Rattle.td_core.specs.Worlds.{WorldView, phase_of, hand_of, with_phase, with_hand, journaled, world_of, IsWorld}
+use Rattle.td_core.specs.Refusals.{is_queued_at, offer_refusal, withdraw_refusal, claim_refusal, note_refusal, finish_refusal, settle_refusal, release_refusal, is_noted_by}
+use Rattle.td_core.specs.Steps.{refusal, accepted, noted, settled, finished, done, answer_to, after}
+use Rattle.td_core.proofs.Phases.{phase_of-with_phase, phase_of-other, phase_of-absent}
+use Rattle.td_core.proofs.Refusing.{Commits, Undoes, commits, undoes, not_refused, not_false}
+use Rattle.td_core.proofs.Suiting.{suits-command, suits-undone, state-row_after}
+
+-- the rows after one more entry
+pub rows_of-with_entry : (h : History) (e : Entry) → rows_of (with_entry h e) ≡ applied e.kind e.keys (rows_of h)
+rows_of-with_entry h e = ap (replay h.opening) (standing-append h.journal (standing_entry e ∷ [])) ∙ replay-push h.opening (standing h.journal) e
+
+-- a changed row, as it was
+pub found-before : (t : Table) (f : Key → Row → Row) (k : Key) (row : Row) → row_of (each_row f t) k ≡ Some row → (r : Row) × ((row_of t k ≡ Some r) × (f k r ≡ row))
+found-before t f k row h = at (row_of t k) refl (sym (row_of-each_row f t k) ∙ h)
+  where
+    same : (a b : Row) → Some a ≡ Some b → a ≡ b
+    same a b g = cc
+    at : (o : Option Row) → row_of t k ≡ o → option_map (f k) o ≡ Some row → (r : Row) × ((row_of t k ≡ Some r) × (f k r ≡ row))
+    at None is g = cc
+    at (Some r) is g = (r, (is, same (f k r) row g))
+
+-- one phase changes, and suits its row
+pub IsWorld-with_phase : (w : WorldView) (k : Key) (p : Phase) → IsWorld w → ((row : Row) → row_of (rows_of w.history) k ≡ Some row → Suits p row.state) → IsWorld (with_phase w k p)
+IsWorld-with_phase w k p i suits = record {
+  rising = i.rising;
+  lawful = i.lawful;
+  sized = length-set w.phases _ p ∙ i.sized;
+  suits = λ q x row phase found. elim (same_key q k) as (λ b. same_key q k ≡ b → Suits x row.state) [
+    | true ↦ λ is.
+        let same : q ≡ k = same_key-true q k is in
+        let given : p ≡ x = phase_of-with_phase w k p x (subst (λ (y : Key). phase_of (with_phase w k p) y ≡ Some x) same phase) in
+        subst (λ (y : Phase). Suits y row.state) given (suits row (subst (λ (y : Key). row_of (rows_of w.history) y ≡ Some row) same found))
+    | false ↦ λ is. i.suits q x row (sym (phase_of-other w k q p row found is) ∙ phase) found
+  ] refl;
+}
+
+-- hands don't matter
+pub IsWorld-with_hand : (w : WorldView) (b : ℕ) (h : Hand) → IsWorld w → IsWorld (with_hand w b h)
+IsWorld-with_hand w b h i = record { rising = i.rising; lawful = i.lawful; sized = i.sized; suits = i.suits }
+
+pub lawful-journaled : (w : WorldView) (kind : Kind) (keys : List Key) → IsWorld w → AppliesOn (rows_of w.history) kind keys → Lawful w.history.opening (standing (journaled w kind keys).history.journal)
+lawful-journaled w kind keys i applies =
+    let e : Entry = record { kind = kind; keys = keys } in
+    subst (Lawful w.history.opening) (sym (standing-append w.history.journal (standing_entry e ∷ []))) (Lawful-push w.history.opening (standing w.history.journal) e i.lawful applies)
+
+-- one more entry, after which the phases of its keys suit their rows
+pub IsWorld-journaled : (w : WorldView) (kind : Kind) (keys : List Key) → IsWorld w → AppliesOn (rows_of w.history) kind keys
+    → ((k : Key) (p : Phase) (row : Row) → names keys k ≡ true → phase_of w k ≡ Some p → row_of (rows_of w.history) k ≡ Some row → Suits p (means kind row).state) → IsWorld (journaled w kind keys)
+IsWorld-journaled w kind keys i applies suits = record {
+  rising = i.rising;
+  lawful = lawful-journaled w kind keys i applies;
+  sized = i.sized;
+  suits = λ k p row phase found.
+      let was = found-before (rows_of w.history) (meant kind keys) k row (sym (ap (λ (t : Table). row_of t k) (rows_of-with_entry w.history (record { kind = kind; keys = keys }))) ∙ found) in
+      subst (λ (r : Row). Suits p r.state) was.1.1 (elim (names keys k) as (λ b. names keys k ≡ b → Suits p (if b then means kind was.0 else was.0).state) [
+        | true ↦ λ named. suits k p was.0 named phase was.1.0
+        | false ↦ λ _. i.suits k p was.0 phase was.1.0
+      ] refl);
+}
+
+-- one more entry on one key, whose row's phase changes with it
+pub IsWorld-moved : (w : WorldView) (kind : Kind) (k : Key) (p : Phase) → IsWorld w → AppliesOn (rows_of w.history) kind (k ∷ [])
+    → ((row : Row) → row_of (rows_of w.history) k ≡ Some row → Suits p (means kind row).state) → IsWorld (with_phase (journaled w kind (k ∷ [])) k p)
+IsWorld-moved w kind k p i applies suits = record {
+  rising = i.rising;
+  lawful = lawful-journaled w kind (k ∷ []) i applies;
+  sized = length-set w.phases _ p ∙ i.sized;
+  suits = λ q x row phase found.
+      let was = found-before (rows_of w.history) (meant kind (k ∷ [])) q row (sym (ap (λ (t : Table). row_of t q) (rows_of-with_entry w.history (record { kind = kind; keys = k ∷ [] }))) ∙ found) in
+      subst (λ (r : Row). Suits x r.state) was.1.1 (elim (same_key q k) as (λ b. same_key q k ≡ b → Suits x (if (if b then true else false) then means kind was.0 else was.0).state) [
+        | true ↦ λ is.
+            let same : q ≡ k = same_key-true q k is in
+            let given : p ≡ x = phase_of-with_phase w k p x (subst (λ (y : Key). phase_of (with_phase w k p) y ≡ Some x) same phase) in
+            subst (λ (y : Phase). Suits y (means kind was.0).state) given (suits was.0 (subst (λ (y : Key). row_of (rows_of w.history) y ≡ Some was.0) same was.1.0))
+        | false ↦ λ is. i.suits q x was.0 (sym (phase_of-other w k q p was.0 was.1.0 is) ∙ phase) was.1.0
+      ] refl);
+}
+
+-- a commit that isn't refused
+pub IsWorld-commit : (w : WorldView) (kind : Kind) (keys : List Key) → IsWorld w → Commits w kind keys → IsWorld (journaled w kind keys)
+IsWorld-commit w kind keys i c = IsWorld-journaled w kind keys i c.applies (λ k p row named phase found.
+    suits-command kind p row c.command (applies-fits (rows_of w.history) kind k row found (c.applies k named)) (c.pinned k p named phase) (i.suits k p row phase found))
+
+-- what is known of the entry that is undone, at one of its keys
+pub record Undone (o : Table) (ms : List Marked) (n : ℕ) (m : Marked) (k : Key) (now : Row) : Type 0 where
+  pub applies : applies m.entry.kind (row_at (rows_before o ms n) k) ≡ true
+  pub state : (cells m.entry.kind).state ≡ true → now.state ≡ (means m.entry.kind (row_at (rows_before o ms n) k)).state
+
+pub undone-at : (w : WorldView) (n : ℕ) (k : Key) (now : Row) → IsWorld w → (u : Undoes w n) → names u.stands.marked.entry.keys k ≡ true → row_of (rows_of w.history) k ≡ Some now → Undone w.history.opening w.history.journal n u.stands.marked k now
+undone-at w n k now i u named found =
+    let o = w.history.opening in
+    let ms = w.history.journal in
+    let m = u.stands.marked in
+    let e = m.entry in
+    let place = entry_at-place ms n m u.stands.there in
+    let counts : is_standing m.mark ≡ true = ap is_standing u.stands.stands in
+    let before = standing (take (n - 1) ms) in
+    let after = standing (drop (suc (n - 1)) ms) in
+    let all : standing ms ≡ before ++ e ∷ after = standing-at ms (n - 1) m place.1 counts in
+    let law = (LawfulAfter-rest o [] before (e ∷ after) (subst (Lawful o) all i.lawful)).0 in
+    let was = found-before o (row_after (standing ms)) k now found in
+    let earlier : row_of (replay o before) k ≡ Some (row_after before k was.0) = row_of-each_row (row_after before) o k ∙ ap (option_map (row_after before k)) was.1.0 in
+    let at : row_at (rows_before o ms n) k ≡ row_after before k was.0 = ap (λ (x : Option Row). unwrap_or x blank) earlier in
+    let last : now ≡ row_after after k (meant e.kind e.keys k (row_after before k was.0)) = sym was.1.1 ∙ ap (λ (es : List Entry). row_after es k was.0) all ∙ row_after-append before (e ∷ after) k was.0 in
+    let meaning : meant e.kind e.keys k (row_after before k was.0) ≡ means e.kind (row_after before k was.0) = ap (λ b. if b then means e.kind (row_after before k was.0) else row_after before k was.0) named in
+    record {
+      applies = ap (applies e.kind) at ∙ applies-fits (replay o before) e.kind k (row_after before k was.0) earlier (law k named);
+      state = λ has. ap (λ (r : Row). r.state) last
+          ∙ state-row_after e.kind e.keys after k (meant e.kind e.keys k (row_after before k was.0)) (Apart-blocker ms n m u.stands.there u.free) named has
+          ∙ ap (λ (r : Row). r.state) meaning ∙ ap (λ (r : Row). (means e.kind r).state) (sym at);
+    }
+
+-- an undo that isn't refused
+pub IsWorld-undo : (w : WorldView) (n : ℕ) → IsWorld w → Undoes w n → IsWorld (record w { history = without_entry w.history n })
+IsWorld-undo w n i u =
+    let o = w.history.opening in
+    let ms = w.history.journal in
+    let m = u.stands.marked in
+    let counts : is_standing m.mark ≡ true = ap is_standing u.stands.stands in
+    let back = undo_gives_back o ms n m i.rising u.stands.there counts u.free in
+    record {
+      rising = i.rising;
+      lawful = undo_is_lawful o ms n m u.stands.there counts u.free i.lawful;
+      sized = i.sized;
+      suits = λ k p row phase found.
+          let was = found-before (rows_of w.history) (λ q r. if names m.entry.keys q then restore (written m.entry.kind) (row_at (rows_before o ms n) q) r else r) k row (sym (ap (λ (t : Table). row_of t k) back) ∙ found) in
+          subst (λ (r : Row). Suits p r.state) was.1.1 (elim (names m.entry.keys k) as (λ b. names m.entry.keys k ≡ b → Suits p (if b then restore (written m.entry.kind) (row_at (rows_before o ms n) k) was.0 else was.0).state) [
+            | true ↦ λ named.
+                let known = undone-at w n k was.0 i u named was.1.0 in
+                suits-undone m.entry.kind p (row_at (rows_before o ms n) k) was.0 u.stands.command known.applies known.state (u.pinned k p named phase) (i.suits k p was.0 phase was.1.0)
+            | false ↦ λ _. i.suits k p was.0 phase was.1.0
+          ] refl);
+    }
+
+-- a row with a phase is there
+pub row-there : (w : WorldView) (k : Key) (p : Phase) → IsWorld w → phase_of w k ≡ Some p → (row : Row) × (row_of (rows_of w.history) k ≡ Some row)
+row-there w k p i phase = at (row_of (rows_of w.history) k) refl
+  where
+    at : (o : Option Row) → row_of (rows_of w.history) k ≡ o → (row : Row) × (row_of (rows_of w.history) k ≡ Some row)
+    at (Some row) is = (row, is)
+    at None is = absurd (let none = sym phase ∙ phase_of-absent w k i is in cc)
+
+-- a kind that applies on the row of the one key
+pub AppliesOn-one : (t : Table) (kind : Kind) (k : Key) (row : Row) → row_of t k ≡ Some row → applies kind row ≡ true → AppliesOn t kind (k ∷ [])
+AppliesOn-one t kind k row found fit q named = elim (same_key q k) as (λ b. same_key q k ≡ b → (if b then true else false) ≡ true → fits t kind q ≡ true) [
+  | true ↦ λ is _. ap (fits t kind) (same_key-true q k is) ∙ ap (λ (o : Option Row). elim o as (λ _. Bool) [ Some r ↦ applies kind r | None ↦ false ]) found ∙ fit
+  | false ↦ λ _ h. cc
+] refl named
+
+queued-state : (s : State) → is_queued s ≡ true → s ≡ NeedsBuild
+queued-state NeedsBuild h = refl
+queued-state (Building b) h = cc
+queued-state Built h = cc
+queued-state Uploaded h = cc
+queued-state Installed h = cc
+queued-state DepWait h = cc
+queued-state BdUninstallable h = cc
+queued-state BuildAttempted h = cc
+queued-state Failed h = cc
+queued-state NotForUs h = cc
+
+same_number : (b c : ℕ) → (b == c) ≡ true → b ≡ c
+same_number b c h = grind (arith, nat_tests, h)
+
+same_itself : (b : ℕ) → (b == b) ≡ true
+same_itself b = grind (arith, nat_tests)
+
+offers : (queued : Bool) (p : Option Phase) → offer_refusal queued p ≡ None → queued ≡ true
+offers queued None h = cc
+offers true (Some Closed) h = refl
+offers false (Some Closed) h = cc
+offers queued (Some Open) h = cc
+offers queued (Some (Held b)) h = cc
+offers queued (Some (Noted b)) h = cc
+offers queued (Some (Done b o)) h = cc
+
+pub withdraws : (p : Option Phase) → withdraw_refusal p ≡ None → p ≡ Some Open
+withdraws None h = cc
+withdraws (Some Closed) h = cc
+withdraws (Some Open) h = refl
+withdraws (Some (Held b)) h = cc
+withdraws (Some (Noted b)) h = cc
+withdraws (Some (Done b o)) h = cc
+
+pub claims : (h : Option Hand) (p : Option Phase) → claim_refusal h p ≡ None → (h ≡ Some Free) × (p ≡ Some Open)
+claims None None e = cc
+claims (Some h) None e = cc
+claims None (Some p) e = cc
+claims (Some Free) (Some Closed) e = cc
+claims (Some Free) (Some Open) e = (refl, refl)
+claims (Some Free) (Some (Held b)) e = cc
+claims (Some Free) (Some (Noted b)) e = cc
+claims (Some Free) (Some (Done b o)) e = cc
+claims (Some (Holding k)) (Some p) e = cc
+claims (Some (Finished k o)) (Some p) e = cc
+
+pub notes : (p : Option Phase) → note_refusal p ≡ None → (b : ℕ) × (p ≡ Some (Held b))
+notes None h = cc
+notes (Some Closed) h = cc
+notes (Some Open) h = cc
+notes (Some (Held b)) h = (b, refl)
+notes (Some (Noted b)) h = cc
+notes (Some (Done b o)) h = cc
+
+pub settles : (p : Option Phase) → settle_refusal p ≡ None → (b : ℕ) × ((o : Outcome) × (p ≡ Some (Done b o)))
+settles None h = cc
+settles (Some Closed) h = cc
+settles (Some Open) h = cc
+settles (Some (Held b)) h = cc
+settles (Some (Noted b)) h = cc
+settles (Some (Done b o)) h = (b, (o, refl))
+
+noted_by : (b : ℕ) (p : Option Phase) → is_noted_by b p ≡ true → p ≡ Some (Noted b)
+noted_by b None h = cc
+noted_by b (Some Closed) h = cc
+noted_by b (Some Open) h = cc
+noted_by b (Some (Held c)) h = cc
+noted_by b (Some (Noted c)) h = ap (λ (x : ℕ). Some (Noted x)) (sym (same_number b c h))
+noted_by b (Some (Done c o)) h = cc
+
+pub finishes : (w : WorldView) (b : ℕ) (h : Option Hand) → finish_refusal w b h ≡ None → (k : Key) × ((h ≡ Some (Holding k)) × (phase_of w k ≡ Some (Noted b)))
+finishes w b None e = cc
+finishes w b (Some Free) e = cc
+finishes w b (Some (Finished k o)) e = cc
+finishes w b (Some (Holding k)) e = (k, (refl, noted_by b (phase_of w k) (not_false (is_noted_by b (phase_of w k)) (not_refused (not (is_noted_by b (phase_of w k))) NotNoted None e).0)))
+
+pub releases : (w : WorldView) (b : ℕ) (h : Option Hand) → release_refusal w b h ≡ None → (x : Hand) × (h ≡ Some x)
+releases w b None e = cc
+releases w b (Some h) e = (h, refl)
+
+idle-ended : (b : ℕ) (o : Outcome) (row : Row) → is_built (means (Ended b o) row).state ≡ false
+idle-ended b WasBuilt row = refl
+idle-ended b Attempted row = refl
+idle-ended b GivenBack row = refl
+idle-ended b (Waits t) row = refl
+
+IsWorld-offer : (w : WorldView) (k : Key) → IsWorld w → refusal w (Offer k) ≡ None → IsWorld (accepted w (Offer k))
+IsWorld-offer w k i none = IsWorld-with_phase w k Open i (λ row found.
+    queued-state row.state (sym (ap (λ (o : Option Row). elim o as (λ _. Bool) [ Some r ↦ is_queued r.state | None ↦ false ]) found) ∙ offers (is_queued_at (rows_of w.history) k) (phase_of w k) none))
+
+IsWorld-withdraw : (w : WorldView) (k : Key) → IsWorld w → refusal w (Withdraw k) ≡ None → IsWorld (accepted w (Withdraw k))
+IsWorld-withdraw w k i none = IsWorld-with_phase w k Closed i (λ row found. ap is_built (i.suits k Open row (withdraws (phase_of w k) none) found))
+
+IsWorld-claim : (w : WorldView) (b : ℕ) (k : Key) → IsWorld w → refusal w (Claim b k) ≡ None → IsWorld (accepted w (Claim b k))
+IsWorld-claim w b k i none = IsWorld-with_hand (with_phase w k (Held b)) b (Holding k) (IsWorld-with_phase w k (Held b) i (λ row found. i.suits k Open row (claims (hand_of w b) (phase_of w k) none).1 found))
+
+pub IsWorld-noted : (w : WorldView) (k : Key) (b : ℕ) → IsWorld w → phase_of w k ≡ Some (Held b) → AppliesOn (rows_of w.history) (Claimed b) (k ∷ []) × IsWorld (with_phase (journaled w (Claimed b) (k ∷ [])) k (Noted b))
+IsWorld-noted w k b i phase =
+    let row = row-there w k (Held b) i phase in
+    let applies = AppliesOn-one (rows_of w.history) (Claimed b) k row.0 row.1 (ap is_queued (i.suits k (Held b) row.0 phase row.1)) in
+    (applies, IsWorld-moved w (Claimed b) k (Noted b) i applies (λ r found. refl))
+
+pub IsWorld-settled : (w : WorldView) (k : Key) (b : ℕ) (o : Outcome) → IsWorld w → phase_of w k ≡ Some (Done b o) → AppliesOn (rows_of w.history) (Ended b o) (k ∷ []) × IsWorld (with_phase (journaled w (Ended b o) (k ∷ [])) k Closed)
+IsWorld-settled w k b o i phase =
+    let row = row-there w k (Done b o) i phase in
+    let applies = AppliesOn-one (rows_of w.history) (Ended b o) k row.0 row.1 (ap (is_building_by b) (i.suits k (Done b o) row.0 phase row.1) ∙ same_itself b) in
+    (applies, IsWorld-moved w (Ended b o) k Closed i applies (λ r found. idle-ended b o r))
+
+pub IsWorld-finished : (w : WorldView) (b : ℕ) (o : Outcome) (k : Key) → IsWorld w → phase_of w k ≡ Some (Noted b) → IsWorld (with_hand (with_phase w k (Done b o)) b (Finished k o))
+IsWorld-finished w b o k i phase = IsWorld-with_hand (with_phase w k (Done b o)) b (Finished k o) (IsWorld-with_phase w k (Done b o) i (λ row found. i.suits k (Noted b) row phase found))
+
+-- each step that isn't refused
+pub IsWorld-accepted : (w : WorldView) (s : Step) → IsWorld w → refusal w s ≡ None → IsWorld (accepted w s)
+IsWorld-accepted w (Offer k) i none = IsWorld-offer w k i none
+IsWorld-accepted w (Withdraw k) i none = IsWorld-withdraw w k i none
+IsWorld-accepted w (Claim b k) i none = IsWorld-claim w b k i none
+IsWorld-accepted w (Note k) i none =
+    let p = notes (phase_of w k) none in
+    subst (λ (x : Option Phase). IsWorld (noted w k x)) (sym p.1) (IsWorld-noted w k p.0 i p.1).1
+IsWorld-accepted w (Commit kind keys) i none = IsWorld-commit w kind keys i (commits w kind keys none)
+IsWorld-accepted w (Undo n) i none = IsWorld-undo w n i (undoes w n none)
+IsWorld-accepted w (Finish b o) i none =
+    let f = finishes w b (hand_of w b) none in
+    subst (λ (x : Option Hand). IsWorld (finished w b o x)) (sym f.1.0) (IsWorld-finished w b o f.0 i f.1.1)
+IsWorld-accepted w (Settle k) i none =
+    let p = settles (phase_of w k) none in
+    subst (λ (x : Option Phase). IsWorld (settled w k x)) (sym p.1.1) (IsWorld-settled w k p.0 p.1.0 i p.1.1).1
+IsWorld-accepted w (Release b) i none = IsWorld-with_hand w b Free i
+
+-- each step
+pub IsWorld-after : (w : WorldView) (s : Step) → IsWorld w → IsWorld (after w s)
+IsWorld-after w s i = elim (refusal w s) as (λ r. refusal w s ≡ r → IsWorld (elim r as (λ _. WorldView) [ Some x ↦ w | None ↦ accepted w s ])) [
+  | Some x ↦ λ _. i
+  | None ↦ λ none. IsWorld-accepted w s i none
+] refl
+
+slice_get-replicate : {A : Type 0} (n i : ℕ) (x y : A) → slice_get (replicate n x) i ≡ Some y → y ≡ x
+slice_get-replicate zero zero x y h = cc
+slice_get-replicate zero (suc i) x y h = cc
+slice_get-replicate (suc n) zero x y h = cc
+slice_get-replicate (suc n) (suc i) x y h = slice_get-replicate n i x y h
+
+-- the world at its opening
+pub IsWorld-open : (t : Table) (builders : ℕ) → ascending (keys_of t) ≡ true → NoneBuilt t → IsWorld (world_of t builders)
+IsWorld-open t builders rising idle = record {
+  rising = rising;
+  lawful = tt;
+  sized = length-replicate (length t) Closed;
+  suits = λ k p row phase found.
+      subst (λ (x : Phase). Suits x row.state) (sym (slice_get-replicate (length t) (number_of t k) Closed p phase))
+      (idle k row (sym (ap (λ (u : Table). row_of u k) (replay-none t)) ∙ found));
+}
+
+pub answer_to-refused : (w : WorldView) (s : Step) (r : Refusal) → refusal w s ≡ Some r → answer_to w s ≡ Refused r
+answer_to-refused w s r h = ap (λ (x : Option Refusal). elim x as (λ _. Answer) [ Some y ↦ Refused y | None ↦ done w s ]) h
+
+pub after-refused : (w : WorldView) (s : Step) (r : Refusal) → refusal w s ≡ Some r → after w s ≡ w
+after-refused w s r h = ap (λ (x : Option Refusal). elim x as (λ _. WorldView) [ Some y ↦ w | None ↦ accepted w s ]) h
+
+pub answer_to-accepted : (w : WorldView) (s : Step) → refusal w s ≡ None → answer_to w s ≡ done w s
+answer_to-accepted w s h = ap (λ (x : Option Refusal). elim x as (λ _. Answer) [ Some y ↦ Refused y | None ↦ done w s ]) h
+
+pub after-accepted : (w : WorldView) (s : Step) → refusal w s ≡ None → after w s ≡ accepted w s
+after-accepted w s h = ap (λ (x : Option Refusal). elim x as (λ _. WorldView) [ Some y ↦ w | None ↦ accepted w s ]) h
+
+-- a build that its builder ends
+pub after-finish : (w v : WorldView) (b : ℕ) (o : Outcome) (k : Key) → w ≡ v → refusal v (Finish b o) ≡ None → hand_of w b ≡ Some (Holding k) → with_hand (with_phase w k (Done b o)) b (Finished k o) ≡ after v (Finish b o)
+after-finish w v b o k same none hand = ap (finished w b o) (sym hand) ∙ (λ j. finished (same j) b o (hand_of (same j) b)) ∙ sym (after-accepted v (Finish b o) none)

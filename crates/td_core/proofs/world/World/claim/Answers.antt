@@ -1,0 +1,13 @@
+use Rattle.std.proofs.Common.{◌≡◌, None, sym, subst, ◌∙◌}
+use Rattle.td_core.specs.declared.step.Step.TheVariants.{Claim}
+use Rattle.td_core.specs.Worlds.{WorldView, IsWorld}
+use Rattle.td_core.specs.Steps.{refusal}
+use Rattle.td_core.proofs.Worlds.{IsWorld-accepted}
+use Rattle.td_core.proofs.world.World.claim.Goals as goal
+
+pub invariant_of-self : goal.invariant_of-self
+invariant_of-self c =
+    let w : WorldView = record { history = c.self.inside.kept.history; phases = c.self.inside.phases.items; hands = c.self.inside.hands.items } in
+    let none = subst (λ (v : WorldView). refusal v (Claim c.args.builder c.args.key) ≡ None) (sym c.self.view_is) (sym c.claim_refusal.ensures ∙ c.in_default.is) in
+    subst (λ (v : WorldView). IsWorld v) (λ j. record { history = w.history; phases = sym c.put_phase.ensures j; hands = sym c.put_hand.ensures j })
+    (IsWorld-accepted w (Claim c.args.builder c.args.key) c.self.invariant none)

@@ -1,0 +1,7 @@
+pub mod History
+pub mod Keeps
+pub mod Phases
+pub mod Worlds
+pub mod Refusals
+pub mod Steps
+pub mod Promises

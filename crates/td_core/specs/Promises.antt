@@ -1,0 +1,71 @@
+-- What holds over every list of steps. This project's own.
+use Rattle.std.specs.Prelude.{◌≡◌, ◌↔◌, ℕ, ◌+◌, Bool, true, false, ◌==◌, List, ◌++◌, map, length, Some, None}
+use Rattle.td_rows.specs.declared.key.Key.{Key}
+use Rattle.td_rows.specs.declared.row.Row.{Row}
+use Rattle.td_rows.specs.declared.state.State.TheVariants.{NeedsBuild, Building}
+use Rattle.td_rows.specs.declared.kind.Kind.{Kind}
+use Rattle.td_rows.specs.Keys.{ascending}
+use Rattle.td_rows.specs.Table.{Table, keys_of, row_of}
+use Rattle.td_journal.specs.declared.entry.Entry.{Entry}
+use Rattle.td_journal.specs.declared.entry.Marked.{Marked}
+use Rattle.td_journal.specs.declared.entry.Mark.TheVariants.{Standing}
+use Rattle.td_journal.specs.Entries.{is_command, entry_at}
+use Rattle.td_journal.specs.Touching.{blocker}
+use Rattle.td_core.specs.declared.step.Phase.{Phase}
+use Rattle.td_core.specs.declared.step.Phase.TheVariants.{Noted, Done}
+use Rattle.td_core.specs.declared.step.Step.{Step}
+use Rattle.td_core.specs.declared.step.Step.TheVariants.{Commit, Undo}
+use Rattle.td_core.specs.declared.step.Refusal.TheVariants.{Blocked}
+use Rattle.td_core.specs.declared.step.Answer.TheVariants.{Undone, Refused}
+use Rattle.td_core.specs.History.{rows_of}
+use Rattle.td_core.specs.Phases.{is_pinned, NoneBuilt}
+use Rattle.td_core.specs.Worlds.{WorldView, phase_of, world_of, IsWorld}
+use Rattle.td_core.specs.Refusals.{first_loose}
+use Rattle.td_core.specs.Steps.{refusal, answer_to, after, after_all}
+
+-- from an opening in which no row is built, every list of steps leads to a sound world
+abbrev pub EveryWorld : Type 0
+EveryWorld = (t : Table) (builders : ℕ) (steps : List Step) → ascending (keys_of t) ≡ true → NoneBuilt t → IsWorld (after_all (world_of t builders) steps)
+
+-- an offered or held row needs a build
+abbrev pub OfferedRowsWait : Type 0
+OfferedRowsWait = (w : WorldView) (k : Key) (p : Phase) (row : Row) → IsWorld w → phase_of w k ≡ Some p → row_of (rows_of w.history) k ≡ Some row → is_pinned p ≡ false → row.state ≡ NeedsBuild
+
+-- whether the journal knows that the builder claimed the row, and not yet how its build ended
+abbrev pub is_known_by : ℕ → Phase → Bool
+is_known_by b (Noted c) = b == c
+is_known_by b (Done c o) = b == c
+is_known_by b p = false
+
+-- a row is built by a builder exactly there
+abbrev pub BuiltExactly : Type 0
+BuiltExactly = (w : WorldView) (k : Key) (p : Phase) (row : Row) (b : ℕ) → IsWorld w → phase_of w k ≡ Some p → row_of (rows_of w.history) k ≡ Some row → (row.state ≡ Building b) ↔ (is_known_by b p ≡ true)
+
+-- a command followed at once by its undo: the undo is accepted, and each row is as it was
+abbrev pub UndoneAtOnce : Type 0
+UndoneAtOnce = (w : WorldView) (kind : Kind) (keys : List Key) → refusal w (Commit kind keys) ≡ None →
+    (answer_to (after w (Commit kind keys)) (Undo (length w.history.journal + 1)) ≡ Undone (length w.history.journal + 1))
+    × (rows_of (after (after w (Commit kind keys)) (Undo (length w.history.journal + 1))).history ≡ rows_of w.history)
+
+-- entry n stands and is a command
+pub record StandingCommand (w : WorldView) (n : ℕ) (m : Marked) : Type 0 where
+  pub there : entry_at w.history.journal n ≡ Some m
+  pub stands : m.mark ≡ Standing
+  pub command : is_command m.entry.kind ≡ true
+
+-- its undo names an entry exactly where that is its blocker
+abbrev pub BlockedExactly : Type 0
+BlockedExactly = (w : WorldView) (n : ℕ) (m : Marked) (b : ℕ) → StandingCommand w n m → (answer_to w (Undo n) ≡ Refused (Blocked b)) ↔ (blocker w.history.journal n ≡ Some b)
+
+-- without a blocker, and with the rows pinned of which it has the state, it is accepted
+abbrev pub UndoneElse : Type 0
+UndoneElse = (w : WorldView) (n : ℕ) (m : Marked) → StandingCommand w n m → blocker w.history.journal n ≡ None → first_loose w m.entry.kind m.entry.keys ≡ None → answer_to w (Undo n) ≡ Undone n
+
+-- a step leaves the entries, and may append one
+pub record Stays (w v : WorldView) : Type 0 where
+  pub opening : v.history.opening ≡ w.history.opening
+  pub added : List Entry
+  pub entries : map (λ (m : Marked). m.entry) v.history.journal ≡ map (λ (m : Marked). m.entry) w.history.journal ++ added
+
+abbrev pub EntriesStay : Type 0
+EntriesStay = (w : WorldView) (s : Step) → Stays w (after w s)

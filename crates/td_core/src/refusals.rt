@@ -1,0 +1,163 @@
+//! The tests of each step, in their order.
+ghost use Rattle.std.specs.Prelude.{◌≡◌, ◌==◌, None, position, if◌then◌else◌};
+ghost use Rattle.td_rows.specs.Kinds.{cells};
+ghost use Rattle.td_core.specs.History.{rows_of};
+ghost use Rattle.td_core.specs.Worlds.{phase_of, hand_of};
+ghost use Rattle.td_core.specs.Refusals.{is_queued_at, is_loose as is_loose_in, is_noted_by as is_noted_in, is_done_by as is_done_in};
+ghost use Rattle.td_core.specs.Refusals.{finish_refusal as finish_refusal_of};
+ghost use Rattle.td_core.specs.Steps.{refusal};
+ghost use Rattle.td_core.specs.declared.step.Step.{Step};
+
+use crate::searching::is_pinned;
+use crate::step::{Hand, Phase, Refusal};
+use crate::world::World;
+use td_journal::{EntryNo, is_command};
+use td_rows::{BuilderNo, Key, Kind, cells_of};
+
+impl World {
+    fn is_queued(&self, key: &Key) -> bool
+        ensures { result ≡ is_queued_at (rows_of self.now.history) key.now }
+    {
+        match self.kept.rows().get(key) {
+            Some(row) => row.state.needs_build(),
+            None => false,
+        }
+    }
+
+    fn is_loose(&self, key: &Key) -> bool
+        ensures { result ≡ is_loose_in self.now key.now }
+    {
+        match self.phase(key) {
+            Some(phase) => !is_pinned(phase),
+            None => false,
+        }
+    }
+
+    // The place of the first key whose row is offered or held.
+    fn loose_at(&self, keys: &[Key]) -> Option<usize>
+        ensures { result ≡ position (is_loose_in self.now) keys.now }
+    {
+        keys.iter().position(|key| self.is_loose(key))
+    }
+
+    /// The place of the first key whose row must be pinned for the kind and isn't.
+    pub(crate) fn first_loose(&self, kind: &Kind, keys: &[Key]) -> Option<usize>
+        ensures { result ≡ (if (cells kind.now).state then position (is_loose_in self.now) keys.now else None) }
+    {
+        if cells_of(kind).state {
+            self.loose_at(keys)
+        } else {
+            None
+        }
+    }
+
+    pub(crate) fn offer_refusal(&self, key: &Key) -> Option<Refusal>
+        ensures { result ≡ refusal self.now (Step.Offer key.now) }
+    {
+        match self.phase(key) {
+            None => Some(Refusal::NoSuchRow(None)),
+            Some(Phase::Closed) => {
+                if self.is_queued(key) {
+                    None
+                } else {
+                    Some(Refusal::NotQueued)
+                }
+            }
+            Some(_) => Some(Refusal::NotClosed),
+        }
+    }
+
+    pub(crate) fn withdraw_refusal(&self, key: &Key) -> Option<Refusal>
+        ensures { result ≡ refusal self.now (Step.Withdraw key.now) }
+    {
+        match self.phase(key) {
+            None => Some(Refusal::NoSuchRow(None)),
+            Some(Phase::Open) => None,
+            Some(_) => Some(Refusal::NotOpen),
+        }
+    }
+
+    pub(crate) fn claim_refusal(&self, builder: BuilderNo, key: &Key) -> Option<Refusal>
+        ensures { result ≡ refusal self.now (Step.Claim builder key.now) }
+    {
+        match (self.hand(builder), self.phase(key)) {
+            (_, None) => Some(Refusal::NoSuchRow(None)),
+            (None, Some(_)) => Some(Refusal::NoSuchBuilder),
+            (Some(Hand::Free), Some(Phase::Open)) => None,
+            (Some(Hand::Free), Some(_)) => Some(Refusal::NotOpen),
+            (Some(_), Some(_)) => Some(Refusal::NotFree),
+        }
+    }
+
+    pub(crate) fn undo_refusal(&self, n: EntryNo) -> Option<Refusal>
+        ensures { result ≡ refusal self.now (Step.Undo n) }
+    {
+        let Some(marked) = self.journal().entry(n) else {
+            return Some(Refusal::NoSuchEntry);
+        };
+        let entry = &marked.entry;
+        if !is_command(&entry.kind) {
+            return Some(Refusal::NotACommand);
+        }
+        if !marked.stands() {
+            return Some(Refusal::AlreadyUndone);
+        }
+        if let Some(blocker) = self.journal().blocker(n) {
+            return Some(Refusal::Blocked(blocker));
+        }
+        if self.first_loose(&entry.kind, entry.keys.as_slice()).is_some() {
+            return Some(Refusal::NotPinned(None));
+        }
+        None
+    }
+
+    fn is_noted_by(&self, builder: BuilderNo, key: &Key) -> bool
+        ensures { result ≡ is_noted_in builder (phase_of self.now key.now) }
+    {
+        match self.phase(key) {
+            Some(Phase::Noted(by)) => builder == *by,
+            _ => false,
+        }
+    }
+
+    fn is_done_by(&self, builder: BuilderNo, key: &Key) -> bool
+        ensures { result ≡ is_done_in builder (phase_of self.now key.now) }
+    {
+        match self.phase(key) {
+            Some(Phase::Done(by, _)) => builder == *by,
+            _ => false,
+        }
+    }
+
+    pub(crate) fn finish_refusal(&self, builder: BuilderNo) -> Option<Refusal>
+        ensures { result ≡ finish_refusal_of self.now builder (hand_of self.now builder) }
+    {
+        match self.hand(builder) {
+            None => Some(Refusal::NoSuchBuilder),
+            Some(Hand::Holding(key)) => {
+                if self.is_noted_by(builder, key) {
+                    None
+                } else {
+                    Some(Refusal::NotNoted)
+                }
+            }
+            Some(_) => Some(Refusal::NothingHeld),
+        }
+    }
+
+    pub(crate) fn release_refusal(&self, builder: BuilderNo) -> Option<Refusal>
+        ensures { result ≡ refusal self.now (Step.Release builder) }
+    {
+        match self.hand(builder) {
+            None => Some(Refusal::NoSuchBuilder),
+            Some(Hand::Finished(key, _)) => {
+                if self.is_done_by(builder, key) {
+                    Some(Refusal::NotSettled)
+                } else {
+                    None
+                }
+            }
+            Some(_) => Some(Refusal::NotFinished),
+        }
+    }
+}

@@ -1,0 +1,105 @@
+use crate::key_list::KeyList;
+use td_journal::EntryNo;
+use td_rows::{BuilderNo, Key, Kind, Outcome};
+
+/// Where the build of a row stands between the desk and the builders.
+#[derive(Debug, Drop)]
+pub enum Phase {
+    /// Not offered.
+    Closed,
+    /// Offered to the builders.
+    Open,
+    /// Claimed by the builder, which the journal doesn't know yet.
+    Held(BuilderNo),
+    /// Claimed by the builder, as the journal says.
+    Noted(BuilderNo),
+    /// Ended by the builder, which the journal doesn't know yet.
+    Done(BuilderNo, Outcome),
+}
+
+/// What a builder has in hand.
+#[derive(Debug, Drop)]
+pub enum Hand {
+    Free,
+    Holding(Key),
+    Finished(Key, Outcome),
+}
+
+/// One thing that happens: of the desk, or of a builder.
+#[derive(Debug, Drop)]
+pub enum Step {
+    /// The desk offers a row that needs a build.
+    Offer(Key),
+    /// The desk takes an offer back.
+    Withdraw(Key),
+    /// The builder claims an offered row.
+    Claim(BuilderNo, Key),
+    /// The desk journals a claim.
+    Note(Key),
+    /// The desk journals a command on these keys.
+    Commit(Kind, KeyList),
+    /// The desk undoes an entry.
+    Undo(EntryNo),
+    /// The builder ends the build that it holds.
+    Finish(BuilderNo, Outcome),
+    /// The desk journals how a build ended.
+    Settle(Key),
+    /// The builder lets go of a build that it ended and the desk settled.
+    Release(BuilderNo),
+}
+
+/// Why a step is refused.
+#[derive(Debug, Drop)]
+pub enum Refusal {
+    /// The key has no row. A commit names the first such of its keys.
+    NoSuchRow(Option<Key>),
+    /// The row is offered already, or a builder has it.
+    NotClosed,
+    /// The row's state isn't Needs-Build.
+    NotQueued,
+    /// The row isn't offered.
+    NotOpen,
+    /// No builder has the number.
+    NoSuchBuilder,
+    /// The builder has a build in hand.
+    NotFree,
+    /// No claim of the row waits for its note.
+    NotHeld,
+    /// The kind, or the entry, is no command.
+    NotACommand,
+    /// The keys don't strictly rise, or there are none.
+    NoKeys,
+    /// The kind doesn't apply on the row of the first such of the keys.
+    DoesNotApply(Key),
+    /// The row of the first such of the keys is offered or claimed; of an undo, some row is.
+    NotPinned(Option<Key>),
+    /// No entry has the number.
+    NoSuchEntry,
+    /// The entry is undone already.
+    AlreadyUndone,
+    /// The latest standing entry that touches the one to be undone.
+    Blocked(EntryNo),
+    /// The builder holds no row.
+    NothingHeld,
+    /// The builder's claim isn't journalled yet.
+    NotNoted,
+    /// The row's build didn't end.
+    NotDone,
+    /// The builder ended no build.
+    NotFinished,
+    /// How the build ended isn't journalled yet.
+    NotSettled,
+    /// Want of memory.
+    NoMemory,
+}
+
+/// What a step answers.
+#[derive(Debug, Drop)]
+pub enum Answer {
+    Done,
+    /// The entry was journalled under the number.
+    Entry(EntryNo),
+    /// The entry with the number was undone.
+    Undone(EntryNo),
+    Refused(Refusal),
+}

@@ -1,0 +1,111 @@
+ghost use Rattle.std.specs.Prelude.{◌≡◌, ◌<◌, ◌≤◌, ◌≢◌, ◌-◌, ◌==◌, List, None, Some, true, false, IfOk, IfSome, IfNone, OnOk, OnErr, IsOk, length, replicate, find, position, slice_get, set, if◌then◌else◌};
+ghost use Rattle.std.specs.Option.{option_copied};
+ghost use Rattle.td_rows.specs.declared.key.Key.{Key as KeyValue};
+ghost use Rattle.td_rows.specs.Keys.{ascending};
+ghost use Rattle.td_rows.specs.Table.{keys_of, row_of};
+ghost use Rattle.td_change.specs.Saved.{number_of};
+ghost use Rattle.td_core.specs.History.{rows_of};
+ghost use Rattle.td_core.specs.Phases.{is_pinned as is_pinned_in, NoneBuilt};
+ghost use Rattle.td_core.specs.Worlds.{phase_of, hand_of, world_of, IsWorld};
+ghost use Rattle.td_rows.specs.Kinds.{cells};
+ghost use Rattle.td_core.specs.Refusals.{offer_refusal, is_queued_at, are_keys as are_keys_of, is_missing, is_unfit as is_unfit_on, is_loose as is_loose_in};
+ghost use Rattle.td_core.specs.Steps.{answer_to, after};
+
+use crate::key_list::KeyList;
+use crate::kept::Kept;
+use crate::step::{Answer, Hand, Phase, Refusal};
+use std::alloc::{AllocError, Global};
+use std::marker::Model;
+use td_journal::{Entry, EntryNo, Journal, Keys, Mark, is_command};
+use td_rows::{BuilderNo, Key, Kind, Outcome, Rows, applies, are_ascending, cells_of};
+
+/// The desk and its builders, without threads: a history, a phase for each row and a hand for
+/// each builder. It goes on step by step.
+#[derive(Drop)]
+pub struct World {
+    pub(crate) kept: Kept,
+    pub(crate) phases: Vec<Phase>,
+    pub(crate) hands: Vec<Hand>,
+    pub(crate) alloc: Global,
+}
+
+impl Model for World {
+    ghost use Rattle.td_core.specs.Worlds.{WorldView, IsWorld};
+
+    ghost Value = { WorldView };
+
+    ghost view = { λ w. record { history = w.kept.history; phases = w.phases.items; hands = w.hands.items } };
+
+    ghost invariant = { λ w. IsWorld (record { history = w.kept.history; phases = w.phases.items; hands = w.hands.items }) };
+}
+
+// So many closed phases.
+fn closed(alloc: Global, count: usize) -> Result<Vec<Phase>, AllocError>
+    ensures { IfOk result (λ phases. phases.items ≡ replicate count Phase.Closed) }
+{
+    let mut phases = Vec::with_capacity(alloc, count)?;
+    for _ in 0..count {
+        phases.push(Phase::Closed)?;
+    }
+    Ok(phases)
+}
+
+// So many free hands.
+fn free(alloc: Global, count: usize) -> Result<Vec<Hand>, AllocError>
+    ensures { IfOk result (λ hands. hands.items ≡ replicate count Hand.Free) }
+{
+    let mut hands = Vec::with_capacity(alloc, count)?;
+    for _ in 0..count {
+        hands.push(Hand::Free)?;
+    }
+    Ok(hands)
+}
+
+impl World {
+    /// The world of these rows before its first step: no row is offered, and all hands are free.
+    pub fn open(alloc: Global, rows: Rows, builders: usize) -> Result<World, AllocError>
+        requires builders { builders ≤ 64 }
+        requires idle { NoneBuilt rows }
+        ensures { IfOk result (λ world. world ≡ world_of rows builders) }
+    {
+        let phases = closed(alloc, rows.len())?;
+        Ok(World {
+            kept: Kept::open(alloc, rows)?,
+            phases,
+            hands: free(alloc, builders)?,
+            alloc,
+        })
+    }
+
+    /// The rows as they are.
+    pub fn rows(&self) -> &Rows
+        ensures rows { result.now ≡ rows_of self.now.history }
+        ensures world { IsWorld self.now }
+    {
+        self.kept.rows()
+    }
+
+    /// The entries with their marks.
+    pub fn journal(&self) -> &Journal
+        ensures { result.now.entries ≡ self.now.history.journal }
+    {
+        self.kept.journal()
+    }
+
+    /// The phase of a key's row.
+    pub fn phase(&self, key: &Key) -> Option<&Phase>
+        ensures { option_copied result ≡ phase_of self.now key.now }
+    {
+        self.phases.get(self.kept.rows().number(key)?)
+    }
+
+    /// What a builder has in hand.
+    pub fn hand(&self, builder: BuilderNo) -> Option<&Hand>
+        ensures { option_copied result ≡ hand_of self.now builder }
+    {
+        if builder == 0 {
+            return None;
+        }
+        self.hands.get((builder - 1) as usize)
+    }
+}
