@@ -123,6 +123,7 @@ blocked_exactly w n m b s = (
     loose : (o : Option Key) (a : Answer) → (elim (first_refused o (λ k. NotPinned None) None) as (λ _. Answer) [ Some r ↦ Refused r | None ↦ Undone n ]) ≡ Refused (Blocked b) → ⊥
     loose None a h = cc
     loose (Some k) a h = cc
+
     back : (o : Option ℕ) → blocker w.history.journal n ≡ o → answer_to w (Undo n) ≡ Refused (Blocked b) → blocker w.history.journal n ≡ Some b
     back (Some c) is told =
         let named = sym (answer_to-refused w (Undo n) (Blocked c) (undo_refusal-command w n m s ∙ ap (mark_refusal w m Standing) is)) ∙ told in
@@ -130,7 +131,7 @@ blocked_exactly w n m b s = (
         is ∙ ap (λ (x : ℕ). Some x) same
     back None is told =
         absurd (loose (first_loose w m.entry.kind m.entry.keys) (Undone n)
-            (sym (ap (λ (r : Option Refusal). elim r as (λ _. Answer) [ Some x ↦ Refused x | None ↦ Undone n ]) (undo_refusal-command w n m s ∙ ap (mark_refusal w m Standing) is)) ∙ told))
+        (sym (ap (λ (r : Option Refusal). elim r as (λ _. Answer) [ Some x ↦ Refused x | None ↦ Undone n ]) (undo_refusal-command w n m s ∙ ap (mark_refusal w m Standing) is)) ∙ told))
 
 pub undone_at_once : UndoneAtOnce
 undone_at_once w kind keys none =
@@ -140,13 +141,12 @@ undone_at_once w kind keys none =
     let ms = w.history.journal in
     let next : after w (Commit kind keys) ≡ journaled w kind keys = after-accepted w (Commit kind keys) none in
     let fine : undo_refusal (journaled w kind keys) n ≡ None = undo_refusal-none (journaled w kind keys) n (standing_entry e)
-        (record { there = entry_at-last ms (standing_entry e); stands = refl; command = c.command }) (blocker-last ms (standing_entry e)) c.none_loose in (
+    (record { there = entry_at-last ms (standing_entry e); stands = refl; command = c.command }) (blocker-last ms (standing_entry e)) c.none_loose in (
       ap (λ (v : WorldView). answer_to v (Undo n)) next ∙ answer_to-accepted (journaled w kind keys) (Undo n) fine,
       ap (λ (v : WorldView). rows_of (after v (Undo n)).history) next
-      ∙ ap (λ (v : WorldView). rows_of v.history) (after-accepted (journaled w kind keys) (Undo n) fine)
-      ∙ ap (replay w.history.opening) (standing-last ms (standing_entry e)),
+          ∙ ap (λ (v : WorldView). rows_of v.history) (after-accepted (journaled w kind keys) (Undo n) fine)
+          ∙ ap (replay w.history.opening) (standing-last ms (standing_entry e)),
     )
-
 
 entries-append : (a b : List Marked) → map (λ (m : Marked). m.entry) (a ++ b) ≡ map (λ (m : Marked). m.entry) a ++ map (λ (m : Marked). m.entry) b
 entries-append [] b = refl

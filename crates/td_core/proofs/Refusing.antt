@@ -72,6 +72,7 @@ is_some-first_loose w kind keys o is = elim (cells kind).state as (λ b. o ≡ (
     within [] i h = absurd (omega (arith, h))
     within (x ∷ xs) zero h = refl
     within (x ∷ xs) (suc i) h = within xs i (omega (arith, h))
+
     is_some-position : (p : Key → Bool) (xs : List Key) → is_some (find p xs) ≡ is_some (position p xs)
     is_some-position p xs =
         let n = position_or_len p xs in
@@ -93,6 +94,7 @@ undo_refusal-free w n m o there command stands free is =
     mark_is : (mark : Mark) → is_standing mark ≡ true → mark ≡ Standing
     mark_is Standing h = refl
     mark_is Undone h = cc
+
     loose : (f : Option Key) → is_some f ≡ is_some o → first_refused f (λ k. NotPinned None) None ≡ (if is_some o then Some (NotPinned None) else None)
     loose None h = ap (λ b. if b then Some (NotPinned None) else None) h
     loose (Some k) h = ap (λ b. if b then Some (NotPinned None) else None) h
@@ -174,6 +176,7 @@ undoes w n h = at (entry_at w.history.journal n) refl h
     marked m Undone b g = cc
     marked m Standing (Some b) g = cc
     marked m Standing None g = (refl, (refl, (none_first (first_loose w m.entry.kind m.entry.keys) (λ k. NotPinned None) None g).0))
+
     at : (o : Option Marked) → entry_at w.history.journal n ≡ o → (elim o as (λ _. Option Refusal) [ Some m ↦ refused_if (not (is_command m.entry.kind)) NotACommand (mark_refusal w m m.mark (blocker w.history.journal n)) | None ↦ Some NoSuchEntry ]) ≡ None → Undoes w n
     at None there g = cc
     at (Some m) there g =

@@ -56,6 +56,7 @@ found-before t f k row h = at (row_of t k) refl (sym (row_of-each_row f t k) ∙
   where
     same : (a b : Row) → Some a ≡ Some b → a ≡ b
     same a b g = cc
+
     at : (o : Option Row) → row_of t k ≡ o → option_map (f k) o ≡ Some row → (r : Row) × ((row_of t k ≡ Some r) × (f k r ≡ row))
     at None is g = cc
     at (Some r) is g = (r, (is, same (f k r) row g))

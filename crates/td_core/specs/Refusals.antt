@@ -84,9 +84,9 @@ abbrev pub commit_refusal : WorldView → Kind → List Key → Option Refusal
 commit_refusal w kind keys =
     refused_if (not (is_command kind)) NotACommand
     (refused_if (not (are_keys keys)) NoKeys
-      (first_refused (find (is_missing (rows_of w.history)) keys) (λ k. NoSuchRow (Some k))
-        (first_refused (find (is_unfit (rows_of w.history) kind) keys) (λ k. DoesNotApply k)
-          (first_refused (first_loose w kind keys) (λ k. NotPinned (Some k)) None))))
+    (first_refused (find (is_missing (rows_of w.history)) keys) (λ k. NoSuchRow (Some k))
+    (first_refused (find (is_unfit (rows_of w.history) kind) keys) (λ k. DoesNotApply k)
+    (first_refused (first_loose w kind keys) (λ k. NotPinned (Some k)) None))))
 
 -- an entry that is found, with its blocker
 abbrev pub mark_refusal : WorldView → Marked → Mark → Option ℕ → Option Refusal

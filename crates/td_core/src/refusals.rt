@@ -105,7 +105,10 @@ impl World {
         if let Some(blocker) = self.journal().blocker(n) {
             return Some(Refusal::Blocked(blocker));
         }
-        if self.first_loose(&entry.kind, entry.keys.as_slice()).is_some() {
+        if self
+            .first_loose(&entry.kind, entry.keys.as_slice())
+            .is_some()
+        {
             return Some(Refusal::NotPinned(None));
         }
         None

@@ -147,7 +147,12 @@ impl World {
         }
         let told = outcome.copy()?;
         if let Some(key) = take_held(&mut self.hands, builder) {
-            put_phase(&self.kept, &mut self.phases, &key, Phase::Done(builder, told));
+            put_phase(
+                &self.kept,
+                &mut self.phases,
+                &key,
+                Phase::Done(builder, told),
+            );
             put_hand(&mut self.hands, builder, Hand::Finished(key, outcome));
         }
         Ok(Answer::Done)

@@ -11,8 +11,8 @@ ghost use Rattle.td_rows.specs.Kinds.{cells};
 ghost use Rattle.td_core.specs.Refusals.{offer_refusal, is_queued_at, are_keys as are_keys_of, is_missing, is_unfit as is_unfit_on, is_loose as is_loose_in};
 ghost use Rattle.td_core.specs.Steps.{answer_to, after};
 
-use crate::key_list::KeyList;
 use crate::kept::Kept;
+use crate::key_list::KeyList;
 use crate::step::{Answer, Hand, Phase, Refusal};
 use std::alloc::{AllocError, Global};
 use std::marker::Model;
