@@ -1,4 +1,5 @@
 pub mod Histories
+pub mod Openings
 pub mod Phases
 pub mod Refusing
 pub mod Suiting

@@ -17,6 +17,8 @@ mod runs;
 mod searching;
 mod step;
 mod stepping;
+#[cfg(test)]
+mod tests;
 mod world;
 
 pub use kept::Kept;

@@ -1,0 +1,257 @@
+//! What no clause says: that steps succeed with ample memory, and that the definitions are those
+//! of the field. The expected answers and rows are the project's own worked examples.
+ghost use Rattle.std.specs.Prelude.{IfOk};
+ghost use Rattle.td_core.specs.Phases.{NoneBuilt};
+
+use crate::{Answer, KeyList, Refusal, Step, World, run};
+use std::alloc::Global;
+use std::test::Fail;
+use td_rows::{Key, Kind, Line, Outcome, Priority, Rows, read_key, read_state, rows_text};
+
+// The rows of a state file that is short.
+fn rows(alloc: Global, text: &str) -> Result<Rows, Fail>
+    ensures { IfOk result (λ rows. NoneBuilt rows) }
+{
+    if text.len() > 1000 {
+        return Err(Fail::from("a longer text than the test reads"));
+    }
+    Ok(read_state(alloc, text)?)
+}
+
+// The key of `source/arch`.
+fn key(alloc: Global, text: &str) -> Result<Key, Fail> {
+    let (source, arch) = read_key(text).ok_or("a key")?;
+    Ok(Key::new(alloc, source, arch)?)
+}
+
+// Keys with a space between them.
+fn keys(alloc: Global, text: &str) -> Result<KeyList, Fail> {
+    let mut keys = Vec::new(alloc);
+    for word in text.split(' ') {
+        keys.push(key(alloc, word)?)?;
+    }
+    Ok(KeyList::new(keys))
+}
+
+fn number(digits: &str) -> u64 {
+    digits.parse::<u64>().unwrap_or(0)
+}
+
+fn priority(digits: &str) -> Priority {
+    Priority::new(digits.parse::<i16>().unwrap_or(0)).unwrap_or(Priority::zero())
+}
+
+// A command: `dw` waits for libxx, `nmu` is a rebuild under the row's next number.
+fn kind(alloc: Global, word: &str) -> Result<Kind, Fail> {
+    Ok(match word {
+        "gb" => Kind::Gb,
+        "dw" => Kind::Dw(Line::new(alloc, "libxx")?),
+        "nmu" => Kind::Nmu {
+            number: None,
+            extra: Line::empty(alloc),
+            message: Line::empty(alloc),
+        },
+        _ => Kind::Bp(priority(word.strip_prefix("bp=").ok_or("a command")?)),
+    })
+}
+
+// A step by its word and what stands behind it; a build that ends has failed.
+fn step(alloc: Global, spelled: &str) -> Result<Step, Fail> {
+    let (word, rest) = spelled.split_once(' ').ok_or("a step")?;
+    Ok(match word {
+        "offer" => Step::Offer(key(alloc, rest)?),
+        "claim=1" => Step::Claim(1, key(alloc, rest)?),
+        "claim=2" => Step::Claim(2, key(alloc, rest)?),
+        "note" => Step::Note(key(alloc, rest)?),
+        "attempted" => Step::Finish(number(rest), Outcome::Attempted),
+        "settle" => Step::Settle(key(alloc, rest)?),
+        "release" => Step::Release(number(rest)),
+        "undo" => Step::Undo(number(rest)),
+        _ => Step::Commit(kind(alloc, word)?, keys(alloc, rest)?),
+    })
+}
+
+// An answer, and the key that it names.
+fn spelled(alloc: Global, answer: &Answer) -> Result<String, Fail> {
+    Ok(match answer {
+        Answer::Refused(Refusal::NoSuchRow(Some(key))) => {
+            format!(in alloc; "NoSuchRow {}", key.as_str())?
+        }
+        Answer::Refused(Refusal::NotPinned(Some(key))) => {
+            format!(in alloc; "NotPinned {}", key.as_str())?
+        }
+        Answer::Refused(Refusal::DoesNotApply(key)) => {
+            format!(in alloc; "DoesNotApply {}", key.as_str())?
+        }
+        Answer::Refused(refusal) => format!(in alloc; "{refusal:?}")?,
+        answer => format!(in alloc; "{answer:?}")?,
+    })
+}
+
+// Whether a step is answered so.
+fn is_answered(alloc: Global, world: &mut World, step: Step, expected: &str) -> Result<bool, Fail> {
+    let answer = spelled(alloc, &world.step(step))?;
+    Ok(answer.as_str() == expected)
+}
+
+// The first line of the steps with their answers that is answered otherwise.
+fn otherwise<'a>(
+    alloc: Global,
+    world: &mut World,
+    steps: &'a str,
+) -> Result<Option<&'a str>, Fail> {
+    for line in steps.lines() {
+        let (spelled, expected) = line.split_once(" => ").ok_or("a step")?;
+        if !is_answered(alloc, world, step(alloc, spelled)?, expected)? {
+            return Ok(Some(line));
+        }
+    }
+    Ok(None)
+}
+
+// The rows after the steps, by two builders; the line that is answered otherwise, if one is.
+fn rows_after(alloc: Global, opening: &str, steps: &str) -> Result<String, Fail> {
+    let mut world = World::open(alloc, rows(alloc, opening)?, 2)?;
+    if let Some(line) = otherwise(alloc, &mut world, steps)? {
+        return Ok(String::from_str(alloc, line)?);
+    }
+    Ok(rows_text(alloc, world.rows())?)
+}
+
+const BACK: &str = "\
+gb bar/i386 => Entry(1)
+bp=7 bar/i386 foo/amd64 => Entry(2)
+bp=9 foo/amd64 => Entry(3)
+undo 2 => Blocked(3)
+undo 3 => Undone(3)
+undo 2 => Undone(2)
+undo 2 => AlreadyUndone
+undo 1 => Undone(1)
+gb foo/i386 => NoSuchRow foo/i386
+";
+
+#[test]
+fn commands_are_undone_from_the_last_one_back(rt: HostRuntime) -> Result<(), Fail> {
+    let opening = "bar/i386 Failed 0 2\nfoo/amd64 Built 0 1\n";
+    let rows = rows_after(rt.alloc(), opening, BACK)?;
+    assert_eq!(rt; rows.as_str(), opening);
+    Ok(())
+}
+
+const BUILD: &str = "\
+offer foo/amd64 => Done
+dw foo/amd64 => NotPinned foo/amd64
+claim=1 foo/amd64 => Done
+claim=2 foo/amd64 => NotOpen
+note foo/amd64 => Entry(1)
+dw foo/amd64 => DoesNotApply foo/amd64
+attempted 1 => Done
+settle foo/amd64 => Entry(2)
+gb foo/amd64 => Entry(3)
+claim=1 foo/amd64 => NotFree
+release 1 => Done
+undo 3 => Undone(3)
+undo 1 => NotACommand
+";
+
+#[test]
+fn a_build_goes_from_its_offer_to_its_release(rt: HostRuntime) -> Result<(), Fail> {
+    let rows = rows_after(rt.alloc(), "foo/amd64 Needs-Build 0 0\n", BUILD)?;
+    assert_eq!(rt; rows.as_str(), "foo/amd64 Build-Attempted 0 0\n");
+    Ok(())
+}
+
+const OTHER_KEYS: &str = "\
+bp=5 foo/amd64 => Entry(1)
+nmu bar/amd64 => Entry(2)
+undo 1 => Undone(1)
+";
+
+#[test]
+fn an_entry_on_other_keys_does_not_block(rt: HostRuntime) -> Result<(), Fail> {
+    let opening = "bar/amd64 Installed 0 0\nfoo/amd64 Installed 0 0\n";
+    let rows = rows_after(rt.alloc(), opening, OTHER_KEYS)?;
+    assert_eq!(rt;
+        rows.as_str(),
+        "bar/amd64 Needs-Build 0 1\nfoo/amd64 Installed 0 0\n"
+    );
+    Ok(())
+}
+
+const INSTALLED: &str = "foo/amd64 Installed 0 0\n";
+
+const EQUAL_VALUE: &str = "\
+bp=5 foo/amd64 => Entry(1)
+bp=5 foo/amd64 => Entry(2)
+undo 1 => Blocked(2)
+undo 2 => Undone(2)
+undo 1 => Undone(1)
+undo 1 => AlreadyUndone
+undo 9 => NoSuchEntry
+";
+
+#[test]
+fn an_equal_value_blocks(rt: HostRuntime) -> Result<(), Fail> {
+    let rows = rows_after(rt.alloc(), INSTALLED, EQUAL_VALUE)?;
+    assert_eq!(rt; rows.as_str(), INSTALLED);
+    Ok(())
+}
+
+const OTHER_CELLS: &str = "\
+nmu foo/amd64 => Entry(1)
+bp=7 foo/amd64 => Entry(2)
+undo 1 => Undone(1)
+";
+
+const OTHER_CELLS_BACK: &str = "\
+nmu foo/amd64 => Entry(1)
+bp=7 foo/amd64 => Entry(2)
+undo 1 => Undone(1)
+undo 2 => Undone(2)
+";
+
+#[test]
+fn an_entry_of_other_cells_does_not_block(rt: HostRuntime) -> Result<(), Fail> {
+    let raised = rows_after(rt.alloc(), INSTALLED, OTHER_CELLS)?;
+    assert_eq!(rt; raised.as_str(), "foo/amd64 Installed 7 0\n");
+    let rows = rows_after(rt.alloc(), INSTALLED, OTHER_CELLS_BACK)?;
+    assert_eq!(rt; rows.as_str(), INSTALLED);
+    Ok(())
+}
+
+const CLAIMED: &str = "\
+nmu foo/amd64 => Entry(1)
+bp=3 foo/amd64 => Entry(2)
+offer foo/amd64 => Done
+claim=1 foo/amd64 => Done
+note foo/amd64 => Entry(3)
+undo 1 => Blocked(3)
+undo 2 => Undone(2)
+";
+
+#[test]
+fn a_claim_blocks_a_rebuild_and_no_priority(rt: HostRuntime) -> Result<(), Fail> {
+    let rows = rows_after(rt.alloc(), INSTALLED, CLAIMED)?;
+    assert_eq!(rt; rows.as_str(), "foo/amd64 Building=1 0 1\n");
+    Ok(())
+}
+
+fn steps(alloc: Global, spelled: &[&str]) -> Result<Vec<Step>, Fail> {
+    let mut steps = Vec::new(alloc);
+    for line in spelled {
+        steps.push(step(alloc, line)?)?;
+    }
+    Ok(steps)
+}
+
+#[test]
+fn a_run_answers_each_step(rt: HostRuntime) -> Result<(), Fail> {
+    let steps = steps(rt.alloc(), &["offer foo/amd64", "undo 1"])?;
+    let rows = rows(rt.alloc(), "foo/amd64 Needs-Build 0 0\n")?;
+    let (world, answers) = run(rt.alloc(), rows, 0, steps)?;
+    assert!(rt; matches!(answers.first(), Some(Answer::Done)));
+    assert!(rt; matches!(answers.get(1), Some(Answer::Refused(Refusal::NoSuchEntry))));
+    assert_eq!(rt; answers.len(), 2);
+    assert_eq!(rt; world.journal().len(), 0);
+    Ok(())
+}
