@@ -6,3 +6,4 @@ pub mod Suiting
 pub mod Worlds
 pub mod Promises
 pub mod Running
+pub mod Taking

@@ -1,5 +1,6 @@
 pub mod History
 pub mod Keeps
+pub mod Committing
 pub mod Phases
 pub mod Worlds
 pub mod Refusals

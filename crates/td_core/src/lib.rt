@@ -9,6 +9,7 @@
 //! that stands touches it, and names the latest (`laws`).
 #![tactic(auto)]
 
+mod committing;
 mod kept;
 mod key_list;
 pub mod laws;
@@ -21,6 +22,7 @@ mod stepping;
 mod tests;
 mod world;
 
+pub use committing::PlannedCommand;
 pub use kept::Kept;
 pub use key_list::KeyList;
 pub use runs::run;
