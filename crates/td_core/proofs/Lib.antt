@@ -7,3 +7,4 @@ pub mod Worlds
 pub mod Promises
 pub mod Running
 pub mod Taking
+pub mod Inverse

@@ -6,3 +6,4 @@ pub mod Worlds
 pub mod Refusals
 pub mod Steps
 pub mod Promises
+pub mod Inverse
