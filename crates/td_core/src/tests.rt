@@ -236,22 +236,27 @@ fn a_claim_blocks_a_rebuild_and_no_priority(rt: HostRuntime) -> Result<(), Fail>
     Ok(())
 }
 
-fn steps(alloc: Global, spelled: &[&str]) -> Result<Vec<Step>, Fail> {
+// The steps alone.
+fn steps(alloc: Global, text: &str) -> Result<Vec<Step>, Fail> {
     let mut steps = Vec::new(alloc);
-    for line in spelled {
-        steps.push(step(alloc, line)?)?;
+    for line in text.lines() {
+        let (spelled, _) = line.split_once(" => ").ok_or("a step")?;
+        steps.push(step(alloc, spelled)?)?;
     }
     Ok(steps)
 }
 
 #[test]
-fn a_run_answers_each_step(rt: HostRuntime) -> Result<(), Fail> {
-    let steps = steps(rt.alloc(), &["offer foo/amd64", "undo 1"])?;
-    let rows = rows(rt.alloc(), "foo/amd64 Needs-Build 0 0\n")?;
-    let (world, answers) = run(rt.alloc(), rows, 0, steps)?;
-    assert!(rt; matches!(answers.first(), Some(Answer::Done)));
-    assert!(rt; matches!(answers.get(1), Some(Answer::Refused(Refusal::NoSuchEntry))));
-    assert_eq!(rt; answers.len(), 2);
-    assert_eq!(rt; world.journal().len(), 0);
+fn a_run_answers_as_step_by_step(rt: HostRuntime) -> Result<(), Fail> {
+    let opening = "bar/i386 Failed 0 2\nfoo/amd64 Built 0 1\n";
+    let steps = steps(rt.alloc(), BACK)?;
+    let (world, answers) = run(rt.alloc(), rows(rt.alloc(), opening)?, 0, steps)?;
+    assert_eq!(rt; answers.len(), BACK.lines().count());
+    for (answer, line) in answers.iter().zip(BACK.lines()) {
+        let answer = spelled(rt.alloc(), answer)?;
+        assert!(rt; line.ends_with(answer.as_str()), "{line}");
+    }
+    let rows = rows_text(rt.alloc(), world.rows())?;
+    assert_eq!(rt; rows.as_str(), opening);
     Ok(())
 }
