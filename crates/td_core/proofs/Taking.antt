@@ -57,9 +57,11 @@ below_all-filter p x (q ∷ ks) h =
     first : (a b : Bool) → (a && b) ≡ true → a ≡ true
     first true b h = refl
     first false b h = h
+
     second : (a b : Bool) → (a && b) ≡ true → b ≡ true
     second true b h = h
     second false b h = cc
+
     both : (a b : Bool) → a ≡ true → b ≡ true → (a && b) ≡ true
     both true b x y = y
     both false b x y = x
@@ -77,9 +79,11 @@ ascending-filter p (q ∷ ks) h =
     first : (a b : Bool) → (a && b) ≡ true → a ≡ true
     first true b h = refl
     first false b h = h
+
     second : (a b : Bool) → (a && b) ≡ true → b ≡ true
     second true b h = h
     second false b h = cc
+
     both : (a b : Bool) → a ≡ true → b ≡ true → (a && b) ≡ true
     both true b x y = y
     both false b x y = x

@@ -1,12 +1,18 @@
 //! What no clause says: that steps succeed with ample memory, and that the definitions are those
 //! of the field. The expected answers and rows are the project's own worked examples.
-ghost use Rattle.std.specs.Prelude.{IfOk};
+ghost use Rattle.std.specs.Prelude.{IfOk, pos};
+ghost use Rattle.td_rows.specs.declared.kind.Kind.{Kind as KindValue};
+ghost use Rattle.td_rows.specs.Table.{AppliesOn};
+ghost use Rattle.td_core.specs.History.{rows_of};
 ghost use Rattle.td_core.specs.Phases.{NoneBuilt};
 
-use crate::{Answer, KeyList, Refusal, Step, World, run};
+use crate::{Answer, Kept, KeyList, Refusal, Step, World, run};
 use std::alloc::Global;
 use std::test::Fail;
-use td_rows::{Key, Kind, Line, Outcome, Priority, Rows, read_key, read_state, rows_text};
+use td_journal::{Entry, Keys};
+use td_rows::{
+    Key, Kind, Line, Outcome, Priority, Rows, are_ascending, read_key, read_state, rows_text,
+};
 
 // The rows of a state file that is short.
 fn rows(alloc: Global, text: &str) -> Result<Rows, Fail>
@@ -258,5 +264,64 @@ fn a_run_answers_as_step_by_step(rt: HostRuntime) -> Result<(), Fail> {
     }
     let rows = rows_text(rt.alloc(), world.rows())?;
     assert_eq!(rt; rows.as_str(), opening);
+    Ok(())
+}
+
+// Keys of an entry, all with rows of the history.
+fn keys_there(alloc: Global, kept: &Kept, text: &str) -> Result<Keys, Fail>
+    ensures { IfOk result (λ keys. AppliesOn (rows_of kept.now.history) (KindValue.Bp (pos 0)) keys) }
+{
+    let keys = keys(alloc, text)?;
+    if keys.as_slice().is_empty() || !are_ascending(keys.as_slice()) {
+        return Err(Fail::from("keys that rise"));
+    }
+    let keys = keys.into_keys();
+    if kept
+        .rows()
+        .applies_on(&Kind::Bp(Priority::zero()), keys.as_slice())
+    {
+        Ok(keys)
+    } else {
+        Err(Fail::from("keys with rows"))
+    }
+}
+
+fn give_back_planned(alloc: Global, kept: &mut Kept, text: &str) -> Result<Option<u64>, Fail> {
+    let keys = keys_there(alloc, kept, text)?;
+    kept.reserve(1, keys.as_slice())?;
+    let planned = kept.plan(Kind::Gb, keys)?;
+    Ok(kept.commit(planned))
+}
+
+fn claim_reserved(kept: &mut Kept, key: &Key, alloc: Global) -> Result<u64, Fail> {
+    let keys = Keys::of_one(alloc, key)?;
+    if !kept.rows().applies_on(&Kind::Claim(1), keys.as_slice()) {
+        return Err(Fail::from("a row that needs a build"));
+    }
+    kept.reserve(1, keys.as_slice())?;
+    Ok(kept.append_reserved(Entry {
+        kind: Kind::Claim(1),
+        keys,
+    }))
+}
+
+#[test]
+fn a_planned_command_takes_the_keys_that_fit(rt: HostRuntime) -> Result<(), Fail> {
+    let opening = rows(
+        rt.alloc(),
+        "bar/amd64 Installed 0 0\nfoo/amd64 Failed 0 0\n",
+    )?;
+    let mut kept = Kept::open(rt.alloc(), opening)?;
+    let nothing = give_back_planned(rt.alloc(), &mut kept, "bar/amd64")?;
+    assert_eq!(rt; nothing, None);
+    let entry = give_back_planned(rt.alloc(), &mut kept, "bar/amd64 foo/amd64")?;
+    assert_eq!(rt; entry, Some(1));
+    let claim = claim_reserved(&mut kept, &key(rt.alloc(), "foo/amd64")?, rt.alloc())?;
+    assert_eq!(rt; claim, 2);
+    let rows = rows_text(rt.alloc(), kept.rows())?;
+    assert_eq!(rt;
+        rows.as_str(),
+        "bar/amd64 Installed 0 0\nfoo/amd64 Building=1 0 0\n"
+    );
     Ok(())
 }
