@@ -61,7 +61,7 @@ fn kind(alloc: Global, word: &str) -> Result<Kind, Fail> {
     })
 }
 
-// A step by its word and what stands behind it; a build that ends has failed.
+// A step by its word and what stands behind it.
 fn step(alloc: Global, spelled: &str) -> Result<Step, Fail> {
     let (word, rest) = spelled.split_once(' ').ok_or("a step")?;
     Ok(match word {
@@ -70,6 +70,7 @@ fn step(alloc: Global, spelled: &str) -> Result<Step, Fail> {
         "claim=2" => Step::Claim(2, key(alloc, rest)?),
         "note" => Step::Note(key(alloc, rest)?),
         "attempted" => Step::Finish(number(rest), Outcome::Attempted),
+        "built" => Step::Finish(number(rest), Outcome::Built),
         "settle" => Step::Settle(key(alloc, rest)?),
         "release" => Step::Release(number(rest)),
         "undo" => Step::Undo(number(rest)),
@@ -239,6 +240,40 @@ undo 2 => Undone(2)
 fn a_claim_blocks_a_rebuild_and_no_priority(rt: HostRuntime) -> Result<(), Fail> {
     let rows = rows_after(rt.alloc(), INSTALLED, CLAIMED)?;
     assert_eq!(rt; rows.as_str(), "foo/amd64 Building=1 0 1\n");
+    Ok(())
+}
+
+const BACK_AND_ON: &str = "\
+bp=1 foo/amd64 => Entry(1)
+gb foo/amd64 => Entry(2)
+undo 2 => Undone(2)
+undo 1 => Undone(1)
+bp=3 foo/amd64 => Entry(3)
+undo 3 => Undone(3)
+";
+
+#[test]
+fn numbers_of_entries_go_on_after_an_undo(rt: HostRuntime) -> Result<(), Fail> {
+    let opening = "foo/amd64 Failed 0 0\n";
+    let rows = rows_after(rt.alloc(), opening, BACK_AND_ON)?;
+    assert_eq!(rt; rows.as_str(), opening);
+    Ok(())
+}
+
+const PRIORITY_BACK: &str = "\
+bp=5 foo/amd64 => Entry(1)
+offer foo/amd64 => Done
+claim=1 foo/amd64 => Done
+note foo/amd64 => Entry(2)
+undo 1 => Undone(1)
+built 1 => Done
+settle foo/amd64 => Entry(3)
+";
+
+#[test]
+fn a_priority_is_taken_back_while_its_row_is_built(rt: HostRuntime) -> Result<(), Fail> {
+    let rows = rows_after(rt.alloc(), "foo/amd64 Needs-Build 0 1\n", PRIORITY_BACK)?;
+    assert_eq!(rt; rows.as_str(), "foo/amd64 Built 0 1\n");
     Ok(())
 }
 
