@@ -25,9 +25,10 @@ use Rattle.td_core.specs.declared.step.Refusal.TheVariants.{Blocked, NotPinned, 
 use Rattle.td_core.specs.declared.step.Answer.{Answer}
 use Rattle.td_core.specs.declared.step.Answer.TheVariants.{Undone, Refused}
 use Rattle.td_core.specs.History.{History, rows_of, with_entry}
-use Rattle.td_core.specs.Phases.{is_pinned, is_built, Suits}
+use Rattle.td_core.specs.Phases.{is_pinned, Suits}
+use Rattle.td_rows.specs.States.{is_building}
 use Rattle.td_core.specs.Worlds.{WorldView, phase_of, hand_of, journaled, world_of, IsWorld}
-use Rattle.td_core.specs.Refusals.{refused_if, first_refused, first_loose, mark_refusal, undo_refusal}
+use Rattle.td_core.specs.Refusals.{refused_if, first_refused, first_unpinned, mark_refusal, undo_refusal}
 use Rattle.td_core.specs.Steps.{refusal, accepted, noted, settled, finished, answer_to, after, after_all}
 use Rattle.td_core.specs.Promises.{EveryWorld, OfferedRowsWait, is_known_by, BuiltExactly, UndoneAtOnce, StandingCommand, BlockedExactly, UndoneElse, Stays, EntriesStay}
 use Rattle.td_core.proofs.Refusing.{commits}
@@ -57,7 +58,7 @@ number_same : (b c : ℕ) → c ≡ b → (b == c) ≡ true
 number_same b c h = grind (arith, nat_tests, h)
 
 built : (p : Phase) (s : State) (b : ℕ) → Suits p s → (s ≡ Building b) ↔ (is_known_by b p ≡ true)
-built Closed s b suits = ((λ is. absurd (let bad : true ≡ false = ap is_built (sym is) ∙ suits in cc)), (λ h. cc))
+built Closed s b suits = ((λ is. absurd (let bad : true ≡ false = ap is_building (sym is) ∙ suits in cc)), (λ h. cc))
 built Open s b suits = ((λ is. absurd (let bad = sym suits ∙ is in cc)), (λ h. cc))
 built (Held c) s b suits = ((λ is. absurd (let bad = sym suits ∙ is in cc)), (λ h. cc))
 built (Noted c) s b suits = ((λ is. number_same b c (let e = sym suits ∙ is in cc)), (λ h. suits ∙ ap (λ (x : ℕ). Building x) (sym (same_number b c h))))
@@ -108,7 +109,7 @@ undo_refusal-command w n m s =
     ∙ ap (λ b. refused_if (not b) NotACommand (mark_refusal w m m.mark (blocker w.history.journal n))) s.command
     ∙ ap (λ (x : Mark). mark_refusal w m x (blocker w.history.journal n)) s.stands
 
-undo_refusal-none : (w : WorldView) (n : ℕ) (m : Marked) → StandingCommand w n m → blocker w.history.journal n ≡ None → first_loose w m.entry.kind m.entry.keys ≡ None → undo_refusal w n ≡ None
+undo_refusal-none : (w : WorldView) (n : ℕ) (m : Marked) → StandingCommand w n m → blocker w.history.journal n ≡ None → first_unpinned w m.entry.kind m.entry.keys ≡ None → undo_refusal w n ≡ None
 undo_refusal-none w n m s free pinned = undo_refusal-command w n m s ∙ ap (mark_refusal w m Standing) free ∙ ap (λ (o : Option Key). first_refused o (λ k. NotPinned None) None) pinned
 
 pub undone_else : UndoneElse
@@ -130,7 +131,7 @@ blocked_exactly w n m b s = (
         let same : c ≡ b = cc in
         is ∙ ap (λ (x : ℕ). Some x) same
     back None is told =
-        absurd (loose (first_loose w m.entry.kind m.entry.keys) (Undone n)
+        absurd (loose (first_unpinned w m.entry.kind m.entry.keys) (Undone n)
         (sym (ap (λ (r : Option Refusal). elim r as (λ _. Answer) [ Some x ↦ Refused x | None ↦ Undone n ]) (undo_refusal-command w n m s ∙ ap (mark_refusal w m Standing) is)) ∙ told))
 
 pub undone_at_once : UndoneAtOnce
@@ -141,7 +142,7 @@ undone_at_once w kind keys none =
     let ms = w.history.journal in
     let next : after w (Commit kind keys) ≡ journaled w kind keys = after-accepted w (Commit kind keys) none in
     let fine : undo_refusal (journaled w kind keys) n ≡ None = undo_refusal-none (journaled w kind keys) n (standing_entry e)
-    (record { there = entry_at-last ms (standing_entry e); stands = refl; command = c.command }) (blocker-last ms (standing_entry e)) c.none_loose in (
+    (record { there = entry_at-last ms (standing_entry e); stands = refl; command = c.command }) (blocker-last ms (standing_entry e)) c.none_unpinned in (
       ap (λ (v : WorldView). answer_to v (Undo n)) next ∙ answer_to-accepted (journaled w kind keys) (Undo n) fine,
       ap (λ (v : WorldView). rows_of (after v (Undo n)).history) next
           ∙ ap (λ (v : WorldView). rows_of v.history) (after-accepted (journaled w kind keys) (Undo n) fine)

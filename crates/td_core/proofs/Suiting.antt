@@ -18,11 +18,12 @@ use Rattle.td_journal.specs.Replay.{row_after}
 use Rattle.td_journal.proofs.Commuting.{Apart}
 use Rattle.td_core.specs.declared.step.Phase.{Phase}
 use Rattle.td_core.specs.declared.step.Phase.TheVariants.{Closed, Open, Held, Noted, Done}
-use Rattle.td_core.specs.Phases.{is_pinned, is_built, Suits}
+use Rattle.td_core.specs.Phases.{is_pinned, Suits}
+use Rattle.td_rows.specs.States.{is_building}
 
 -- a command with the state cell applies to no row that is built
-pub idle-applies : (kind : Kind) (row : Row) → is_command kind ≡ true → (cells kind).state ≡ true → applies kind row ≡ true → is_built row.state ≡ false
-idle-applies kind row command state h = elim row.state as (λ s. row.state ≡ s → is_built s ≡ false) [
+pub idle-applies : (kind : Kind) (row : Row) → is_command kind ≡ true → (cells kind).state ≡ true → applies kind row ≡ true → is_building row.state ≡ false
+idle-applies kind row command state h = elim row.state as (λ s. row.state ≡ s → is_building s ≡ false) [
   | Building b ↦ λ is. absurd (unfit kind b command state (ap (λ (s : State). applies kind (record row { state = s })) (sym is) ∙ h))
   | NeedsBuild ↦ λ _. refl
   | Built ↦ λ _. refl
@@ -46,7 +47,7 @@ idle-applies kind row command state h = elim row.state as (λ s. row.state ≡ s
     unfit Sweep b c s g = cc
 
 -- nor does it leave one that is
-pub idle-means : (kind : Kind) (row : Row) → is_command kind ≡ true → (cells kind).state ≡ true → is_built (means kind row).state ≡ false
+pub idle-means : (kind : Kind) (row : Row) → is_command kind ≡ true → (cells kind).state ≡ true → is_building (means kind row).state ≡ false
 idle-means Gb row c s = refl
 idle-means (Nmu n e m) row c s = refl
 idle-means (Bp p) row c s = cc
@@ -57,12 +58,12 @@ idle-means Arrive row c s = cc
 idle-means Sweep row c s = cc
 
 -- a pinned phase that suits a row which isn't built suits each such row
-pub suits-idle : (p : Phase) (s s' : State) → is_pinned p ≡ true → Suits p s → is_built s ≡ false → is_built s' ≡ false → Suits p s'
+pub suits-idle : (p : Phase) (s s' : State) → is_pinned p ≡ true → Suits p s → is_building s ≡ false → is_building s' ≡ false → Suits p s'
 suits-idle Closed s s' pinned suits was idle = idle
 suits-idle Open s s' pinned suits was idle = cc
 suits-idle (Held b) s s' pinned suits was idle = cc
-suits-idle (Noted b) s s' pinned suits was idle = absurd (let bad : true ≡ false = ap is_built (sym suits) ∙ was in cc)
-suits-idle (Done b o) s s' pinned suits was idle = absurd (let bad : true ≡ false = ap is_built (sym suits) ∙ was in cc)
+suits-idle (Noted b) s s' pinned suits was idle = absurd (let bad : true ≡ false = ap is_building (sym suits) ∙ was in cc)
+suits-idle (Done b o) s s' pinned suits was idle = absurd (let bad : true ≡ false = ap is_building (sym suits) ∙ was in cc)
 
 -- a kind without the state cell leaves the state
 pub state-means : (kind : Kind) (row : Row) → (cells kind).state ≡ false → (means kind row).state ≡ row.state
@@ -116,7 +117,7 @@ pub suits-undone : (kind : Kind) (p : Phase) (was now : Row) → is_command kind
 suits-undone kind p was now command fits left pinned suits = elim (cells kind).state as (λ b. (cells kind).state ≡ b → Suits p (restore (written kind) was now).state) [
   | true ↦ λ is.
       let back : (restore (written kind) was now).state ≡ was.state = ap (λ b. if b then was.state else now.state) (written-state kind command ∙ is) in
-      subst (λ (s : State). Suits p s) (sym back) (suits-idle p now.state was.state (pinned is) suits (ap is_built (left is) ∙ idle-means kind was command is) (idle-applies kind was command is fits))
+      subst (λ (s : State). Suits p s) (sym back) (suits-idle p now.state was.state (pinned is) suits (ap is_building (left is) ∙ idle-means kind was command is) (idle-applies kind was command is fits))
   | false ↦ λ is.
       let same : (restore (written kind) was now).state ≡ now.state = ap (λ b. if b then was.state else now.state) (written-state kind command ∙ is) in
       subst (λ (s : State). Suits p s) (sym same) suits

@@ -38,7 +38,8 @@ use Rattle.td_core.specs.declared.step.Refusal.TheVariants.{NotNoted}
 use Rattle.td_core.specs.declared.step.Answer.{Answer}
 use Rattle.td_core.specs.declared.step.Answer.TheVariants.{Refused}
 use Rattle.td_core.specs.History.{History, rows_of, with_entry, without_entry}
-use Rattle.td_core.specs.Phases.{is_built, Suits, NoneBuilt}
+use Rattle.td_core.specs.Phases.{Suits, NoneBuilt}
+use Rattle.td_rows.specs.States.{is_building}
 use Rattle.td_core.specs.Worlds.{WorldView, phase_of, hand_of, with_phase, with_hand, journaled, world_of, IsWorld}
 use Rattle.td_core.specs.Refusals.{is_queued_at, offer_refusal, withdraw_refusal, claim_refusal, note_refusal, finish_refusal, settle_refusal, release_refusal, is_noted_by}
 use Rattle.td_core.specs.Steps.{refusal, accepted, noted, settled, finished, done, answer_to, after}
@@ -270,7 +271,7 @@ pub releases : (w : WorldView) (b : ℕ) (h : Option Hand) → release_refusal w
 releases w b None e = cc
 releases w b (Some h) e = (h, refl)
 
-idle-ended : (b : ℕ) (o : Outcome) (row : Row) → is_built (means (Ended b o) row).state ≡ false
+idle-ended : (b : ℕ) (o : Outcome) (row : Row) → is_building (means (Ended b o) row).state ≡ false
 idle-ended b WasBuilt row = refl
 idle-ended b Attempted row = refl
 idle-ended b GivenBack row = refl
@@ -281,7 +282,7 @@ IsWorld-offer w k i none = IsWorld-with_phase w k Open i (λ row found.
     queued-state row.state (sym (ap (λ (o : Option Row). elim o as (λ _. Bool) [ Some r ↦ is_queued r.state | None ↦ false ]) found) ∙ offers (is_queued_at (rows_of w.history) k) (phase_of w k) none))
 
 IsWorld-withdraw : (w : WorldView) (k : Key) → IsWorld w → refusal w (Withdraw k) ≡ None → IsWorld (accepted w (Withdraw k))
-IsWorld-withdraw w k i none = IsWorld-with_phase w k Closed i (λ row found. ap is_built (i.suits k Open row (withdraws (phase_of w k) none) found))
+IsWorld-withdraw w k i none = IsWorld-with_phase w k Closed i (λ row found. ap is_building (i.suits k Open row (withdraws (phase_of w k) none) found))
 
 IsWorld-claim : (w : WorldView) (b : ℕ) (k : Key) → IsWorld w → refusal w (Claim b k) ≡ None → IsWorld (accepted w (Claim b k))
 IsWorld-claim w b k i none = IsWorld-with_hand (with_phase w k (Held b)) b (Holding k) (IsWorld-with_phase w k (Held b) i (λ row found. i.suits k Open row (claims (hand_of w b) (phase_of w k) none).1 found))

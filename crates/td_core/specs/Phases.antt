@@ -4,6 +4,7 @@ use Rattle.td_rows.specs.declared.key.Key.{Key}
 use Rattle.td_rows.specs.declared.row.Row.{Row}
 use Rattle.td_rows.specs.declared.state.State.{State}
 use Rattle.td_rows.specs.declared.state.State.TheVariants.{NeedsBuild, Building}
+use Rattle.td_rows.specs.States.{is_building}
 use Rattle.td_rows.specs.Table.{Table, row_of}
 use Rattle.td_core.specs.declared.step.Phase.{Phase}
 use Rattle.td_core.specs.declared.step.Phase.TheVariants.{Closed, Open, Held, Noted, Done}
@@ -14,14 +15,9 @@ is_pinned Open = false
 is_pinned (Held b) = false
 is_pinned p = true
 
--- whether some builder has the row
-abbrev pub is_built : State → Bool
-is_built (Building b) = true
-is_built s = false
-
 -- an offered or claimed row needs a build; a row is built by a builder exactly where the journal knows its claim
 abbrev pub Suits : Phase → State → Type 0
-Suits Closed s = is_built s ≡ false
+Suits Closed s = is_building s ≡ false
 Suits Open s = s ≡ NeedsBuild
 Suits (Held b) s = s ≡ NeedsBuild
 Suits (Noted b) s = s ≡ Building b
@@ -29,4 +25,4 @@ Suits (Done b o) s = s ≡ Building b
 
 -- no builder has a row
 abbrev pub NoneBuilt : Table → Type 0
-NoneBuilt t = (k : Key) (row : Row) → row_of t k ≡ Some row → is_built row.state ≡ false
+NoneBuilt t = (k : Key) (row : Row) → row_of t k ≡ Some row → is_building row.state ≡ false

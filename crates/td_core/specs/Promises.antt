@@ -20,7 +20,7 @@ use Rattle.td_core.specs.declared.step.Answer.TheVariants.{Undone, Refused}
 use Rattle.td_core.specs.History.{rows_of}
 use Rattle.td_core.specs.Phases.{is_pinned, NoneBuilt}
 use Rattle.td_core.specs.Worlds.{WorldView, phase_of, world_of, IsWorld}
-use Rattle.td_core.specs.Refusals.{first_loose}
+use Rattle.td_core.specs.Refusals.{first_unpinned}
 use Rattle.td_core.specs.Steps.{refusal, answer_to, after, after_all}
 
 -- from an opening in which no row is built, every list of steps leads to a sound world
@@ -59,7 +59,7 @@ BlockedExactly = (w : WorldView) (n : ℕ) (m : Marked) (b : ℕ) → StandingCo
 
 -- without a blocker, and with the rows pinned of which it has the state, it is accepted
 abbrev pub UndoneElse : Type 0
-UndoneElse = (w : WorldView) (n : ℕ) (m : Marked) → StandingCommand w n m → blocker w.history.journal n ≡ None → first_loose w m.entry.kind m.entry.keys ≡ None → answer_to w (Undo n) ≡ Undone n
+UndoneElse = (w : WorldView) (n : ℕ) (m : Marked) → StandingCommand w n m → blocker w.history.journal n ≡ None → first_unpinned w m.entry.kind m.entry.keys ≡ None → answer_to w (Undo n) ≡ Undone n
 
 -- a step leaves the entries, and may append one
 pub record Stays (w v : WorldView) : Type 0 where

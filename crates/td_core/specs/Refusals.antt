@@ -68,8 +68,8 @@ abbrev pub is_unfit : Table → Kind → Key → Bool
 is_unfit t kind k = not (fits t kind k)
 
 -- the key's row is offered or held
-abbrev pub is_loose : WorldView → Key → Bool
-is_loose w k = elim (phase_of w k) [ Some p ↦ not (is_pinned p) | None ↦ false ]
+abbrev pub is_unpinned : WorldView → Key → Bool
+is_unpinned w k = elim (phase_of w k) [ Some p ↦ not (is_pinned p) | None ↦ false ]
 
 -- the first key that passes a test is refused, and else what comes next
 abbrev pub first_refused : Option Key → (Key → Refusal) → Option Refusal → Option Refusal
@@ -77,8 +77,8 @@ first_refused (Some k) r rest = Some (r k)
 first_refused None r rest = rest
 
 -- the first of the keys whose row must be pinned for the kind and isn't: only what reads or writes the state needs it
-abbrev pub first_loose : WorldView → Kind → List Key → Option Key
-first_loose w kind keys = if (cells kind).state then find (is_loose w) keys else None
+abbrev pub first_unpinned : WorldView → Kind → List Key → Option Key
+first_unpinned w kind keys = if (cells kind).state then find (is_unpinned w) keys else None
 
 abbrev pub commit_refusal : WorldView → Kind → List Key → Option Refusal
 commit_refusal w kind keys =
@@ -86,13 +86,13 @@ commit_refusal w kind keys =
     (refused_if (not (are_keys keys)) NoKeys
     (first_refused (find (is_missing (rows_of w.history)) keys) (λ k. NoSuchRow (Some k))
     (first_refused (find (is_unfit (rows_of w.history) kind) keys) (λ k. DoesNotApply k)
-    (first_refused (first_loose w kind keys) (λ k. NotPinned (Some k)) None))))
+    (first_refused (first_unpinned w kind keys) (λ k. NotPinned (Some k)) None))))
 
 -- an entry that is found, with its blocker
 abbrev pub mark_refusal : WorldView → Marked → Mark → Option ℕ → Option Refusal
 mark_refusal w m Undone b = Some AlreadyUndone
 mark_refusal w m Standing (Some b) = Some (Blocked b)
-mark_refusal w m Standing None = first_refused (first_loose w m.entry.kind m.entry.keys) (λ k. NotPinned None) None
+mark_refusal w m Standing None = first_refused (first_unpinned w m.entry.kind m.entry.keys) (λ k. NotPinned None) None
 
 abbrev pub undo_refusal : WorldView → ℕ → Option Refusal
 undo_refusal w n = elim (entry_at w.history.journal n) [

@@ -3,7 +3,7 @@ ghost use Rattle.std.specs.Prelude.{◌≡◌, ◌==◌, None, position, if◌th
 ghost use Rattle.td_rows.specs.Kinds.{cells};
 ghost use Rattle.td_core.specs.History.{rows_of};
 ghost use Rattle.td_core.specs.Worlds.{phase_of, hand_of};
-ghost use Rattle.td_core.specs.Refusals.{is_queued_at, is_loose as is_loose_in, is_noted_by as is_noted_in, is_done_by as is_done_in};
+ghost use Rattle.td_core.specs.Refusals.{is_queued_at, is_unpinned as is_unpinned_in, is_noted_by as is_noted_in, is_done_by as is_done_in};
 ghost use Rattle.td_core.specs.Refusals.{finish_refusal as finish_refusal_of};
 ghost use Rattle.td_core.specs.Steps.{refusal};
 ghost use Rattle.td_core.specs.declared.step.Step.{Step};
@@ -24,8 +24,8 @@ impl World {
         }
     }
 
-    fn is_loose(&self, key: &Key) -> bool
-        ensures { result ≡ is_loose_in self.now key.now }
+    fn is_unpinned(&self, key: &Key) -> bool
+        ensures { result ≡ is_unpinned_in self.now key.now }
     {
         match self.phase(key) {
             Some(phase) => !is_pinned(phase),
@@ -34,18 +34,18 @@ impl World {
     }
 
     // The place of the first key whose row is offered or held.
-    fn loose_at(&self, keys: &[Key]) -> Option<usize>
-        ensures { result ≡ position (is_loose_in self.now) keys.now }
+    fn unpinned_at(&self, keys: &[Key]) -> Option<usize>
+        ensures { result ≡ position (is_unpinned_in self.now) keys.now }
     {
-        keys.iter().position(|key| self.is_loose(key))
+        keys.iter().position(|key| self.is_unpinned(key))
     }
 
     /// The place of the first key whose row must be pinned for the kind and isn't.
-    pub(crate) fn first_loose(&self, kind: &Kind, keys: &[Key]) -> Option<usize>
-        ensures { result ≡ (if (cells kind.now).state then position (is_loose_in self.now) keys.now else None) }
+    pub(crate) fn first_unpinned(&self, kind: &Kind, keys: &[Key]) -> Option<usize>
+        ensures { result ≡ (if (cells kind.now).state then position (is_unpinned_in self.now) keys.now else None) }
     {
         if cells_of(kind).state {
-            self.loose_at(keys)
+            self.unpinned_at(keys)
         } else {
             None
         }
@@ -106,7 +106,7 @@ impl World {
             return Some(Refusal::Blocked(blocker));
         }
         if self
-            .first_loose(&entry.kind, entry.keys.as_slice())
+            .first_unpinned(&entry.kind, entry.keys.as_slice())
             .is_some()
         {
             return Some(Refusal::NotPinned(None));

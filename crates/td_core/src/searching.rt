@@ -1,4 +1,5 @@
 ghost use Rattle.std.specs.Prelude.{◌≡◌, position};
+ghost use Rattle.td_rows.specs.Table.{fits as fits_in};
 ghost use Rattle.td_core.specs.Phases.{is_pinned as is_pinned_in};
 ghost use Rattle.td_core.specs.Refusals.{are_keys as are_keys_of, is_missing, is_unfit as is_unfit_on};
 
@@ -26,12 +27,13 @@ pub(crate) fn first_missing(rows: &Rows, keys: &[Key]) -> Option<usize>
     keys.iter().position(|key| rows.get(key).is_none())
 }
 
-fn is_unfit(rows: &Rows, kind: &Kind, key: &Key) -> bool
-    ensures { result ≡ is_unfit_on rows.now kind.now key.now }
+/// Whether the key has a row on which the kind applies.
+pub(crate) fn fits(rows: &Rows, kind: &Kind, key: &Key) -> bool
+    ensures { result ≡ fits_in rows.now kind.now key.now }
 {
     match rows.get(key) {
-        Some(row) => !applies(kind, row),
-        None => true,
+        Some(row) => applies(kind, row),
+        None => false,
     }
 }
 
@@ -39,5 +41,5 @@ fn is_unfit(rows: &Rows, kind: &Kind, key: &Key) -> bool
 pub(crate) fn first_unfit(rows: &Rows, kind: &Kind, keys: &[Key]) -> Option<usize>
     ensures { result ≡ position (is_unfit_on rows.now kind.now) keys.now }
 {
-    keys.iter().position(|key| is_unfit(rows, kind, key))
+    keys.iter().position(|key| !fits(rows, kind, key))
 }

@@ -114,7 +114,7 @@ impl World {
             let key = keys.into_key(at);
             return Ok(Answer::Refused(Refusal::DoesNotApply(key)));
         }
-        if let Some(at) = self.first_loose(&kind, keys.as_slice()) {
+        if let Some(at) = self.first_unpinned(&kind, keys.as_slice()) {
             let key = keys.into_key(at);
             return Ok(Answer::Refused(Refusal::NotPinned(Some(key))));
         }

@@ -271,7 +271,7 @@ settle foo/amd64 => Entry(3)
 ";
 
 #[test]
-fn a_priority_is_taken_back_while_its_row_is_built(rt: HostRuntime) -> Result<(), Fail> {
+fn a_priority_is_taken_back_while_its_row_is_building(rt: HostRuntime) -> Result<(), Fail> {
     let rows = rows_after(rt.alloc(), "foo/amd64 Needs-Build 0 1\n", PRIORITY_BACK)?;
     assert_eq!(rt; rows.as_str(), "foo/amd64 Built 0 1\n");
     Ok(())

@@ -8,7 +8,7 @@ ghost use Rattle.td_core.specs.History.{rows_of};
 ghost use Rattle.td_core.specs.Phases.{is_pinned as is_pinned_in, NoneBuilt};
 ghost use Rattle.td_core.specs.Worlds.{phase_of, hand_of, world_of, IsWorld};
 ghost use Rattle.td_rows.specs.Kinds.{cells};
-ghost use Rattle.td_core.specs.Refusals.{offer_refusal, is_queued_at, are_keys as are_keys_of, is_missing, is_unfit as is_unfit_on, is_loose as is_loose_in};
+ghost use Rattle.td_core.specs.Refusals.{offer_refusal, is_queued_at, are_keys as are_keys_of, is_missing, is_unfit as is_unfit_on, is_unpinned as is_unpinned_in};
 ghost use Rattle.td_core.specs.Steps.{answer_to, after};
 
 use crate::kept::Kept;
