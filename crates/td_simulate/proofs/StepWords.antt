@@ -1,0 +1,298 @@
+-- The line of a step is read exactly.
+use Rattle.std.proofs.Common.{◌≡◌, ℕ, suc, ◌<◌, ◌≤◌, ◌^◌, ◌-◌, ◌&&◌, true, cond, eqb, List, [], ◌∷◌, ◌++◌, length, Option, Some, None, refl, sym, ap, subst, ◌∙◌, arith, lit<}
+use Rattle.std.specs.Prelude.{codes, decimal}
+use Rattle.std.proofs.lemmas.Bool.{eqb-true, and_parts}
+use Rattle.td_text.specs.Chain.{◌>>=◌}
+use Rattle.td_text.specs.Cut.{Without, cut, part, strip}
+use Rattle.td_text.specs.Numbers.{number_at}
+use Rattle.td_text.proofs.Chain.{chained, some_is, when_some, or_word}
+use Rattle.td_text.proofs.Cut.{cut-at, lacks, Begins, part_again, part_joined, word_found}
+use Rattle.td_text.proofs.Numbers.{number_exact, Without-decimal}
+use Rattle.td_text.proofs.Prefix.{strip_found}
+use Rattle.td_rows.specs.declared.key.Key.{Key}
+use Rattle.td_rows.specs.declared.kind.Kind.{Kind}
+use Rattle.td_rows.specs.declared.kind.Kind.TheVariants.{Gb, Nmu, Bp, Dw, Claim as Claimed, Outcome as Ended, Arrive, Sweep}
+use Rattle.td_rows.specs.declared.outcome.Outcome.{Outcome}
+use Rattle.td_rows.specs.declared.outcome.Outcome.TheVariants.{Built, Attempted, GivenBack, Waits}
+use Rattle.td_rows.specs.KeyText.{key_text, KeyFits, key_at}
+use Rattle.td_rows.specs.Notes.{text_part, notes, NotesFit, notes_at}
+use Rattle.td_rows.proofs.KeyTexts.{key_exact}
+use Rattle.td_rows.proofs.NoteTexts.{notes_exact, notes_begin}
+use Rattle.td_journal.specs.Commands.{is_command}
+use Rattle.td_journal.specs.EntryReading.{keys_at, outcome_at, told}
+use Rattle.td_journal.specs.JournalText.{kind_word, kind_notes, spaced_keys}
+use Rattle.td_journal.proofs.KeyWords.{keys_found, keys_again, spaced_begin, no_key}
+use Rattle.td_journal.proofs.KindWords.{kind_found, kind_again, kind_lacks, told_found, told_again}
+use Rattle.td_core.specs.declared.step.Step.{Step}
+use Rattle.td_core.specs.declared.step.Step.TheVariants as steps
+use Rattle.td_simulate.specs.declared.verb.Verb.{Verb}
+use Rattle.td_simulate.specs.declared.verb.Verb.TheVariants.{Offer, Withdraw, Claim, Note, Undo, Finish, Settle, Release}
+use Rattle.td_simulate.specs.StepLines.{outcome_name, outcome_text, step_line, CommandFits, StepFits}
+use Rattle.td_simulate.specs.StepReading.{verb_at, builder_at, claim_at, end_of, finish_at, deed_at, commit_at, by_word, step_at, StepsAreExact}
+
+-- the line is the step's, which can be written
+abbrev pub IsLineOf : List ℕ → Step → Type 0
+IsLineOf line s = (line ≡ step_line s) × StepFits s
+
+-- ---- verbs
+
+abbrev verb_word : Verb → List ℕ
+verb_word Offer = codes "offer"
+verb_word Withdraw = codes "withdraw"
+verb_word Claim = codes "claim"
+verb_word Note = codes "note"
+verb_word Undo = codes "undo"
+verb_word Finish = codes "finish"
+verb_word Settle = codes "settle"
+verb_word Release = codes "release"
+
+abbrev Always : Verb → Type 0
+Always v = Unit {0}
+
+verb_found : (t : List ℕ) (v : Verb) → verb_at t ≡ Some v → (t ≡ verb_word v) × Unit {0}
+unfolding verb_at
+verb_found t v e =
+    or_word verb_word Always t v Offer _ tt (
+    or_word verb_word Always t v Withdraw _ tt (
+    or_word verb_word Always t v Claim _ tt (
+    or_word verb_word Always t v Note _ tt (
+    or_word verb_word Always t v Undo _ tt (
+    or_word verb_word Always t v Finish _ tt (
+    or_word verb_word Always t v Settle _ tt (
+    or_word verb_word Always t v Release None tt (λ bad. absurd cc)))))))) e
+
+-- ---- steps of a key or a number
+
+key_step : (word rest : List ℕ) (make : Key → Step) (s : Step) → ((k : Key) → KeyFits k → IsLineOf (word ++ 32 ∷ key_text k) (make k)) → (key_at rest >>= λ k. Some (make k)) ≡ Some s → IsLineOf (word ++ 32 ∷ rest) s
+key_step word rest make s line e =
+    let a = chained (key_at rest) (λ k. Some (make k)) s e in
+    let f = key_exact.found rest a.0 a.1 in
+    subst (λ (y : Step). IsLineOf (word ++ 32 ∷ rest) y) (some_is (make a.0) s a.2)
+    (subst (λ (t : List ℕ). IsLineOf (word ++ 32 ∷ t) (make a.0)) (sym f.0) (line a.0 f.1))
+
+number_step : (word rest : List ℕ) (make : ℕ → Step) (s : Step) → ((n : ℕ) → n < 2 ^ 64 → IsLineOf (word ++ 32 ∷ decimal n) (make n)) → (number_at (2 ^ 64 - 1) rest >>= λ n. Some (make n)) ≡ Some s → IsLineOf (word ++ 32 ∷ rest) s
+number_step word rest make s line e =
+    let a = chained (number_at (2 ^ 64 - 1) rest) (λ n. Some (make n)) s e in
+    let f = (number_exact (2 ^ 64 - 1) (lit< tt)).found rest a.0 a.1 in
+    subst (λ (y : Step). IsLineOf (word ++ 32 ∷ rest) y) (some_is (make a.0) s a.2)
+    (subst (λ (t : List ℕ). IsLineOf (word ++ 32 ∷ t) (make a.0)) (sym f.0) (line a.0 (let small = f.1 in omega arith)))
+
+-- ---- a builder's number before the rest
+
+pub builder_found : (t : List ℕ) (p : ℕ × List ℕ) → builder_at t ≡ Some p → (t ≡ decimal p.0 ++ 32 ∷ p.1) × (p.0 < 2 ^ 64)
+unfolding builder_at
+builder_found t p e =
+    let a = chained (cut 32 t) (λ x. number_at (2 ^ 64 - 1) x.0 >>= λ b. Some (b, x.1)) p e in
+    let n = chained (number_at (2 ^ 64 - 1) a.0.0) (λ b. Some (b, a.0.1)) p a.2 in
+    let w = word_found 32 (number_at (2 ^ 64 - 1)) decimal (λ k. k ≤ 2 ^ 64 - 1) (number_exact (2 ^ 64 - 1) (lit< tt)) t a.0 n.0 a.1 n.1 in
+    subst (λ (y : ℕ × List ℕ). (t ≡ decimal y.0 ++ 32 ∷ y.1) × (y.0 < 2 ^ 64)) (some_is (n.0, a.0.1) p n.2) (w.0, (let small = w.1 in omega arith))
+
+builder_again : (b : ℕ) (rest : List ℕ) → b < 2 ^ 64 → builder_at (decimal b ++ 32 ∷ rest) ≡ Some (b, rest)
+unfolding builder_at
+builder_again b rest small = rw (cut-at 32 (decimal b) rest (Without-decimal 32 b (lit< tt) small), (number_exact (2 ^ 64 - 1) (lit< tt)).again b (omega arith)) refl
+
+claim_found : (rest : List ℕ) (s : Step) → claim_at rest ≡ Some s → IsLineOf (codes "claim" ++ 32 ∷ rest) s
+unfolding claim_at
+claim_found rest s e =
+    let p = chained (builder_at rest) (λ x. key_at x.1 >>= λ k. Some (steps.Claim x.0 k)) s e in
+    let k = chained (key_at p.0.1) (λ k. Some (steps.Claim p.0.0 k)) s p.2 in
+    let b = builder_found rest p.0 p.1 in
+    let f = key_exact.found p.0.1 k.0 k.1 in
+    subst (λ (y : Step). IsLineOf (codes "claim" ++ 32 ∷ rest) y) (some_is (steps.Claim p.0.0 k.0) s k.2)
+    (ap (λ (t : List ℕ). codes "claim" ++ 32 ∷ t) (b.0 ∙ ap (λ (t : List ℕ). decimal p.0.0 ++ 32 ∷ t) f.0), (b.1, f.1))
+
+-- ---- how a build ended
+
+abbrev Bare : Outcome → Type 0
+Bare o = outcome_text o ≡ []
+
+outcome_found : (t : List ℕ) (o : Outcome) → outcome_at t ≡ Some o → (t ≡ outcome_name o) × Bare o
+unfolding outcome_at
+outcome_found t o e =
+    or_word outcome_name Bare t o Built _ refl (
+    or_word outcome_name Bare t o Attempted _ refl (
+    or_word outcome_name Bare t o GivenBack _ refl (
+    or_word outcome_name Bare t o (Waits []) None refl (λ bad. absurd cc)))) e
+
+empty : (l : List ℕ) → eqb (length l) 0 ≡ true → l ≡ []
+empty [] h = refl
+empty (x ∷ l) h = absurd (let none = eqb-true (suc (length l)) 0 h in omega arith)
+
+both_empty : (e t : List ℕ) → (eqb (length e) 0 && eqb (length t) 0) ≡ true → ◌≡◌ {A = List ℕ × List ℕ} (e, t) ([], [])
+both_empty e t h =
+    let p = and_parts (eqb (length e) 0) (eqb (length t) 0) h in
+    let x = empty e p.0 in
+    let y = empty t p.1 in
+    λ i. (x i, y i)
+
+-- the end of builder b's build, whose texts are these
+record IsEnd (b : ℕ) (o : Outcome) (e t : List ℕ) (s : Step) : Type 0 where
+  outcome : Outcome
+  step : s ≡ steps.Finish b outcome
+  name : outcome_name outcome ≡ outcome_name o
+  texts : ◌≡◌ {A = List ℕ × List ℕ} (e, t) ([], outcome_text outcome)
+
+plain_end : (b : ℕ) (o : Outcome) (e t : List ℕ) (q : Kind) (s : Step) → outcome_text o ≡ [] → cond (eqb (length e) 0 && eqb (length t) 0) (Some (Ended b o)) None ≡ Some q → end_of q ≡ Some s → IsEnd b o e t s
+plain_end b o e t q s bare h is =
+    let w = when_some (eqb (length e) 0 && eqb (length t) 0) (Ended b o) q h in
+    let made : Some (steps.Finish b o) ≡ Some s = ap end_of w.1 ∙ is in
+    record { outcome = o; step = sym (some_is (steps.Finish b o) s made); name = refl; texts = both_empty e t w.0 ∙ ap (λ (l : List ℕ). ([], l)) (sym bare) }
+
+end_found : (b : ℕ) (o : Outcome) (e t : List ℕ) (q : Kind) (s : Step) → told (Ended b o) e t ≡ Some q → end_of q ≡ Some s → IsEnd b o e t s
+end_found b Built e t q s h is = plain_end b Built e t q s refl h is
+end_found b Attempted e t q s h is = plain_end b Attempted e t q s refl h is
+end_found b GivenBack e t q s h is = plain_end b GivenBack e t q s refl h is
+end_found b (Waits x) e t q s h is =
+    let w = when_some (eqb (length e) 0) (Ended b (Waits t)) q h in
+    let made : Some (steps.Finish b (Waits t)) ≡ Some s = ap end_of w.1 ∙ is in
+    record { outcome = Waits t; step = sym (some_is (steps.Finish b (Waits t)) s made); name = refl; texts = ap (λ (l : List ℕ). (l, t)) (empty e w.0) }
+
+finish_joined : (rest d more w ending name text : List ℕ) → rest ≡ d ++ 32 ∷ more → more ≡ w ++ ending → w ≡ name → ending ≡ text → rest ≡ d ++ 32 ∷ (name ++ text)
+finish_joined rest d more w ending name text h1 h2 h3 h4 = cc
+
+finish_found : (rest : List ℕ) (s : Step) → finish_at rest ≡ Some s → IsLineOf (codes "finish" ++ 32 ∷ rest) s
+unfolding finish_at
+finish_found rest s e =
+    let p = chained _ _ _ e in
+    let o = chained _ _ _ p.2 in
+    let n = chained _ _ _ o.2 in
+    let k = chained _ _ _ n.2 in
+    let b = builder_found rest p.0 p.1 in
+    let word = outcome_found (part 32 p.0.1).0 o.0 o.1 in
+    let texts = notes_exact.found (part 32 p.0.1).1 n.0 n.1 in
+    let end = end_found p.0.0 o.0 n.0.0 n.0.1 k.0 s k.1 k.2 in
+    let line = finish_joined rest (decimal p.0.0) p.0.1 (part 32 p.0.1).0 (part 32 p.0.1).1 (outcome_name end.outcome) (text_part (outcome_text end.outcome)) b.0 (part_joined 32 p.0.1) (word.0 ∙ sym end.name) (texts.0 ∙ ap notes end.texts) in
+    subst (λ (y : Step). IsLineOf (codes "finish" ++ 32 ∷ rest) y) (sym end.step) (ap (λ (t : List ℕ). codes "finish" ++ 32 ∷ t) line, b.1)
+
+text_begins : (t : List ℕ) → Begins 32 (text_part t)
+text_begins t = notes_begin ([], t)
+
+notes_text : (t : List ℕ) → notes_at (text_part t) ≡ Some ([], t)
+notes_text t = notes_exact.again ([], t) (lit< tt)
+
+name_lacks : (o : Outcome) → Without 32 (outcome_name o)
+name_lacks Built = lacks 32 (codes "built") refl
+name_lacks Attempted = lacks 32 (codes "attempted") refl
+name_lacks GivenBack = lacks 32 (codes "givenback") refl
+name_lacks (Waits t) = lacks 32 (codes "waits") refl
+
+-- an outcome without its text
+abbrev bare_outcome : Outcome → Outcome
+bare_outcome (Waits t) = Waits []
+bare_outcome o = o
+
+outcome_again : (o : Outcome) → outcome_at (outcome_name o) ≡ Some (bare_outcome o)
+unfolding outcome_at
+outcome_again Built = refl
+outcome_again Attempted = refl
+outcome_again GivenBack = refl
+outcome_again (Waits t) = refl
+
+told_end : (b : ℕ) (o : Outcome) → (told (Ended b (bare_outcome o)) [] (outcome_text o) >>= λ k. end_of k) ≡ Some (steps.Finish b o)
+told_end b Built = refl
+told_end b Attempted = refl
+told_end b GivenBack = refl
+told_end b (Waits t) = refl
+
+finish_again : (b : ℕ) (o : Outcome) → b < 2 ^ 64 → finish_at (decimal b ++ 32 ∷ (outcome_name o ++ text_part (outcome_text o))) ≡ Some (steps.Finish b o)
+unfolding finish_at
+finish_again b o small =
+    let ending = text_part (outcome_text o) in
+    rw (
+      builder_again b (outcome_name o ++ ending) small,
+      part_again 32 (outcome_name o) ending (name_lacks o) (text_begins (outcome_text o)),
+      outcome_again o,
+      notes_text (outcome_text o),
+    ) (told_end b o)
+
+-- ---- a step by its verb
+
+deed_found : (v : Verb) (rest : List ℕ) (s : Step) → deed_at v rest ≡ Some s → IsLineOf (verb_word v ++ 32 ∷ rest) s
+deed_found Offer rest s e = key_step (codes "offer") rest steps.Offer s (λ k h. (refl, h)) e
+deed_found Withdraw rest s e = key_step (codes "withdraw") rest steps.Withdraw s (λ k h. (refl, h)) e
+deed_found Claim rest s e = claim_found rest s e
+deed_found Note rest s e = key_step (codes "note") rest steps.Note s (λ k h. (refl, h)) e
+deed_found Undo rest s e = number_step (codes "undo") rest steps.Undo s (λ n h. (refl, h)) e
+deed_found Finish rest s e = finish_found rest s e
+deed_found Settle rest s e = key_step (codes "settle") rest steps.Settle s (λ k h. (refl, h)) e
+deed_found Release rest s e = number_step (codes "release") rest steps.Release s (λ n h. (refl, h)) e
+
+-- ---- commands
+
+commit_joined : (word rest ks ending ns k : List ℕ) → word ≡ k → rest ≡ ks ++ ending → ending ≡ ns → word ++ rest ≡ k ++ (ks ++ ns)
+commit_joined word rest ks ending ns k h1 h2 h3 = cc
+
+commit_found : (word rest : List ℕ) (s : Step) → commit_at word rest ≡ Some s → IsLineOf (word ++ rest) s
+unfolding commit_at
+commit_found word rest s e =
+    let bare = chained _ _ _ e in
+    let texts = chained _ _ _ bare.2 in
+    let kind = chained _ _ _ texts.2 in
+    let last = when_some (is_command kind.0) (steps.Commit kind.0 (keys_at rest).0) s kind.2 in
+    let k = kind_found word bare.0 bare.1 in
+    let ks = keys_found rest in
+    let n = notes_exact.found (keys_at rest).1 texts.0 texts.1 in
+    let w = told_found bare.0 texts.0.0 texts.0.1 kind.0 kind.1 in
+    subst (λ (y : Step). IsLineOf (word ++ rest) y) last.1 (
+      commit_joined word rest (spaced_keys (keys_at rest).0) (keys_at rest).1 (notes (kind_notes kind.0)) (kind_word kind.0) (k.0 ∙ sym w.0) ks.0 (n.0 ∙ ap notes (sym w.1)),
+      record { command = last.0; kind = w.2 k.1; keys = ks.1; texts = subst NotesFit (sym w.1) n.1 },
+    )
+
+no_verb : (k : Kind) → is_command k ≡ true → verb_at (kind_word k) ≡ None
+unfolding verb_at
+no_verb Gb h = refl
+no_verb (Nmu None e m) h = refl
+no_verb (Nmu (Some n) e m) h = refl
+no_verb (Bp p) h = refl
+no_verb (Dw t) h = refl
+no_verb (Claimed b) h = absurd cc
+no_verb (Ended b o) h = absurd cc
+no_verb Arrive h = absurd cc
+no_verb Sweep h = absurd cc
+
+commit_again : (k : Kind) (ks : List Key) → CommandFits k ks → commit_at (kind_word k) (spaced_keys ks ++ notes (kind_notes k)) ≡ Some (steps.Commit k ks)
+unfolding commit_at
+commit_again k ks h =
+    let command = h.command in
+    rw (
+      kind_again k h.kind,
+      keys_again ks (notes (kind_notes k)) h.keys (notes_begin (kind_notes k)) (no_key (kind_notes k)),
+      notes_exact.again (kind_notes k) h.texts,
+      told_again k,
+      command,
+    ) refl
+
+-- ---- the line
+
+line_parts : (line word rest : List ℕ) (v : Verb) (after : List ℕ) → line ≡ word ++ rest → word ≡ verb_word v → rest ≡ 32 ∷ after → verb_word v ++ 32 ∷ after ≡ line
+line_parts line word rest v after h1 h2 h3 = cc
+
+by_word_found : (line : List ℕ) (o : Option Verb) (s : Step) → verb_at (part 32 line).0 ≡ o → by_word o (part 32 line).0 (part 32 line).1 ≡ Some s → IsLineOf line s
+by_word_found line (Some v) s is e =
+    let a = chained (strip (codes " ") (part 32 line).1) (deed_at v) s e in
+    let word = verb_found (part 32 line).0 v is in
+    subst (λ (t : List ℕ). IsLineOf t s) (line_parts line (part 32 line).0 (part 32 line).1 v a.0 (part_joined 32 line) word.0 (strip_found (codes " ") (part 32 line).1 a.0 a.1)) (deed_found v a.0 s a.2)
+by_word_found line None s is e = subst (λ (t : List ℕ). IsLineOf t s) (sym (part_joined 32 line)) (commit_found (part 32 line).0 (part 32 line).1 s e)
+
+pub step_found : (line : List ℕ) (s : Step) → step_at line ≡ Some s → (line ≡ step_line s) × StepFits s
+unfolding step_at
+step_found line s e = by_word_found line (verb_at (part 32 line).0) s refl e
+
+step_again : (s : Step) → StepFits s → step_at (step_line s) ≡ Some s
+unfolding step_at part verb_at strip claim_at
+step_again (steps.Offer k) h = rw (key_exact.again k h) refl
+step_again (steps.Withdraw k) h = rw (key_exact.again k h) refl
+step_again (steps.Claim b k) h = rw (builder_again b (key_text k) h.0, key_exact.again k h.1) refl
+step_again (steps.Note k) h = rw (key_exact.again k h) refl
+step_again (steps.Commit k ks) h =
+    rw (
+      part_again 32 (kind_word k) (spaced_keys ks ++ notes (kind_notes k)) (kind_lacks 32 (omega arith) k h.kind) (spaced_begin ks (notes (kind_notes k)) (notes_begin (kind_notes k))),
+      no_verb k h.command,
+    ) (commit_again k ks h)
+step_again (steps.Undo n) h = rw ((number_exact (2 ^ 64 - 1) (lit< tt)).again n (omega arith)) refl
+step_again (steps.Finish b o) h = finish_again b o h
+step_again (steps.Settle k) h = rw (key_exact.again k h) refl
+step_again (steps.Release b) h = rw ((number_exact (2 ^ 64 - 1) (lit< tt)).again b (omega arith)) refl
+
+pub steps_exact : StepsAreExact
+steps_exact = record { found = step_found; again = step_again }

@@ -1,0 +1,9 @@
+use Rattle.std.proofs.Common.{List, ℕ, Option, ap, sym, ◌∙◌}
+use Rattle.std.specs.Borrow.{Bor}
+use Rattle.td_text.specs.Lines.{lines_left}
+use Rattle.td_simulate.specs.SimulationText.{ended}
+use Rattle.td_simulate.proofs.TextParts.{ended-none}
+use Rattle.td_simulate.proofs.parts.behind.Goals as goal
+
+pub returns-in-None-clause-lines : goal.returns-in-None-clause-lines
+returns-in-None-clause-lines c = ended-none ∙ ap (λ (o : Option (Bor (List ℕ))). ended (lines_left o)) (sym c.in-None.is)

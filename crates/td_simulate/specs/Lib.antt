@@ -1,0 +1,6 @@
+pub mod Answers
+pub mod Faults
+pub mod Output
+pub mod SimulationText
+pub mod StepLines
+pub mod StepReading

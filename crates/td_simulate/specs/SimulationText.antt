@@ -1,0 +1,75 @@
+-- The text of a simulation: opening rows, a line `steps`, and a line for each step. This project's own.
+use Rattle.std.specs.Prelude.{◌≡◌, ◌≢◌, ℕ, ◌+◌, Bool, List, [], ◌∷◌, ◌++◌, map, length, if◌then◌else◌, codes}
+use Rattle.std.specs.List.{AllByRecursion}
+use Rattle.std.specs.Str.{bytes_eq}
+use Rattle.td_text.specs.Lines.{lines_of}
+use Rattle.td_rows.specs.StateFile.{IsStateFile, IsFirstFault}
+use Rattle.td_rows.specs.Table.{Table}
+use Rattle.td_core.specs.declared.step.Step.{Step}
+use Rattle.td_simulate.specs.declared.fault.SimulationFault.{SimulationFault}
+use Rattle.td_simulate.specs.declared.fault.SimulationFault.TheVariants.{Opening, BadStep, NoMemory}
+use Rattle.td_simulate.specs.StepLines.{step_line, StepFits}
+
+-- the line that ends the opening rows
+abbrev pub is_mark : List ℕ → Bool
+is_mark line = bytes_eq line (codes "steps")
+
+-- of the lines of a text, what stands before the line `steps`; the whole text where there is none
+unfoldable pub opening_text : List (List ℕ) → List ℕ
+opening_text [] = []
+opening_text (line ∷ []) = if is_mark line then [] else line
+opening_text (line ∷ next ∷ lines) = if is_mark line then [] else (line ++ 10 ∷ opening_text (next ∷ lines))
+
+-- without the empty line behind a last newline
+unfoldable pub ended : List (List ℕ) → List (List ℕ)
+ended [] = []
+ended ([] ∷ []) = []
+ended (line ∷ lines) = line ∷ ended lines
+
+-- the lines behind the line `steps`, the last of which may lack its newline; none where there is no such line
+unfoldable pub lines_after : List (List ℕ) → List (List ℕ)
+lines_after [] = []
+lines_after (line ∷ lines) = if is_mark line then ended lines else lines_after lines
+
+-- the number of the line behind the line `steps`, where the first of the lines has the number given
+unfoldable pub number_after : ℕ → List (List ℕ) → ℕ
+number_after number [] = number
+number_after number (line ∷ lines) = if is_mark line then number + 1 else number_after (number + 1) lines
+
+-- the lines are those of the steps
+pub record AreSteps (lines : List (List ℕ)) (steps : List Step) : Type 0 where
+  pub spelled : lines ≡ map step_line steps
+  pub fits : AllByRecursion StepFits steps
+
+-- the rows with which a simulation opens, and its steps
+pub record IsSimulation (text : List ℕ) (t : Table) (ss : List Step) : Type 0 where
+  pub opening : IsStateFile (lines_of (opening_text (lines_of text))) t
+  pub steps : AreSteps (lines_after (lines_of text)) ss
+
+-- the first of the lines that isn't a step's; the first of all has the number given
+pub record IsFirstBad (first : ℕ) (lines : List (List ℕ)) (number : ℕ) : Type 0 where
+  pub before : List Step
+  pub line : List ℕ
+  pub after : List (List ℕ)
+  pub parts : lines ≡ map step_line before ++ line ∷ after
+  pub fits : AllByRecursion StepFits before
+  pub other : (s : Step) → StepFits s → line ≢ step_line s
+  pub counted : number ≡ first + length before
+
+-- of a fault among the lines of steps
+abbrev pub StepsFault : ℕ → List (List ℕ) → SimulationFault → Type 0
+StepsFault first lines (Opening e) = ⊥
+StepsFault first lines (BadStep number) = IsFirstBad first lines number
+StepsFault first lines NoMemory = Unit {0}
+
+-- the opening rows are such, and behind them the line with this number isn't a step's
+pub record IsBadStep (text : List ℕ) (number : ℕ) : Type 0 where
+  pub rows : Table
+  pub opening : IsStateFile (lines_of (opening_text (lines_of text))) rows
+  pub bad : IsFirstBad (number_after 1 (lines_of text)) (lines_after (lines_of text)) number
+
+-- a fault is that of the first faulty line; want of memory may stand in place of any answer
+abbrev pub FaultOf : List ℕ → SimulationFault → Type 0
+FaultOf text (Opening e) = IsFirstFault (lines_of (opening_text (lines_of text))) e
+FaultOf text (BadStep number) = IsBadStep text number
+FaultOf text NoMemory = Unit {0}

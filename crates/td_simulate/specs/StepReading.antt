@@ -1,0 +1,88 @@
+-- How the line of a step is read.
+use Rattle.std.specs.Prelude.{ℕ, ◌^◌, ◌-◌, List, Option, Some, None, if◌then◌else◌, codes}
+use Rattle.std.specs.Str.{bytes_eq}
+use Rattle.td_text.specs.Chain.{◌>>=◌}
+use Rattle.td_text.specs.Cut.{cut, part, strip}
+use Rattle.td_text.specs.Exact.{Exact}
+use Rattle.td_text.specs.Numbers.{number_at}
+use Rattle.td_rows.specs.declared.kind.Kind.{Kind}
+use Rattle.td_rows.specs.declared.kind.Kind.TheVariants.{Outcome as Ended}
+use Rattle.td_rows.specs.KeyText.{key_at}
+use Rattle.td_rows.specs.Notes.{notes_at}
+use Rattle.td_journal.specs.Commands.{is_command}
+use Rattle.td_journal.specs.EntryReading.{kind_at, keys_at, outcome_at, told}
+use Rattle.td_core.specs.declared.step.Step.{Step}
+use Rattle.td_core.specs.declared.step.Step.TheVariants as steps
+use Rattle.td_simulate.specs.declared.verb.Verb.{Verb}
+use Rattle.td_simulate.specs.declared.verb.Verb.TheVariants.{Offer, Withdraw, Claim, Note, Undo, Finish, Settle, Release}
+use Rattle.td_simulate.specs.StepLines.{step_line, StepFits}
+
+-- the verb that a word is
+unfoldable pub verb_at : List ℕ → Option Verb
+verb_at word =
+    if bytes_eq word (codes "offer") then Some Offer
+    else (if bytes_eq word (codes "withdraw") then Some Withdraw
+    else (if bytes_eq word (codes "claim") then Some Claim
+    else (if bytes_eq word (codes "note") then Some Note
+    else (if bytes_eq word (codes "undo") then Some Undo
+    else (if bytes_eq word (codes "finish") then Some Finish
+    else (if bytes_eq word (codes "settle") then Some Settle
+    else (if bytes_eq word (codes "release") then Some Release else None)))))))
+
+-- a builder's number, and what follows the space behind it
+unfoldable pub builder_at : List ℕ → Option (ℕ × List ℕ)
+builder_at rest = do
+  p ← cut 32 rest
+  b ← number_at (2 ^ 64 - 1) p.0
+  Some (b, p.1)
+
+unfoldable pub claim_at : List ℕ → Option Step
+claim_at rest = do
+  p ← builder_at rest
+  key ← key_at p.1
+  Some (steps.Claim p.0 key)
+
+-- the end of a build
+abbrev pub end_of : Kind → Option Step
+end_of (Ended b o) = Some (steps.Finish b o)
+end_of kind = None
+
+unfoldable pub finish_at : List ℕ → Option Step
+finish_at rest = do
+  p ← builder_at rest
+  outcome ← outcome_at (part 32 p.1).0
+  texts ← notes_at (part 32 p.1).1
+  kind ← told (Ended p.0 outcome) texts.0 texts.1
+  end_of kind
+
+-- a step by its verb, and what follows the space behind that
+abbrev pub deed_at : Verb → List ℕ → Option Step
+deed_at Offer rest = key_at rest >>= λ k. Some (steps.Offer k)
+deed_at Withdraw rest = key_at rest >>= λ k. Some (steps.Withdraw k)
+deed_at Claim rest = claim_at rest
+deed_at Note rest = key_at rest >>= λ k. Some (steps.Note k)
+deed_at Undo rest = number_at (2 ^ 64 - 1) rest >>= λ n. Some (steps.Undo n)
+deed_at Finish rest = finish_at rest
+deed_at Settle rest = key_at rest >>= λ k. Some (steps.Settle k)
+deed_at Release rest = number_at (2 ^ 64 - 1) rest >>= λ b. Some (steps.Release b)
+
+-- a command by its first word, and what follows that
+unfoldable pub commit_at : List ℕ → List ℕ → Option Step
+commit_at word rest = do
+  bare ← kind_at word
+  texts ← notes_at (keys_at rest).1
+  kind ← told bare texts.0 texts.1
+  if is_command kind then Some (steps.Commit kind (keys_at rest).0) else None
+
+-- a step by its first word, which is a verb's or not, and what follows that
+abbrev pub by_word : Option Verb → List ℕ → List ℕ → Option Step
+by_word (Some verb) word rest = strip (codes " ") rest >>= deed_at verb
+by_word None word rest = commit_at word rest
+
+-- the step whose line it is
+unfoldable pub step_at : List ℕ → Option Step
+step_at line = by_word (verb_at (part 32 line).0) (part 32 line).0 (part 32 line).1
+
+-- a line is read as a step exactly where it is the step's
+abbrev pub StepsAreExact : Type 0
+StepsAreExact = Exact step_at step_line StepFits

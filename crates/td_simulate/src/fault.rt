@@ -1,0 +1,53 @@
+ghost use Rattle.std.specs.Prelude.{◌≡◌};
+ghost use Rattle.td_simulate.specs.Faults.{fault_name, of_opening, state_fault_name};
+
+use td_rows::StateFault;
+use thiserror::Error;
+
+/// Why a text isn't a simulation: its first faulty line. Lines count from 1.
+#[derive(Clone, Copy, Debug, PartialEq, Eq, Drop, Error)]
+pub enum SimulationFault {
+    /// The opening rows aren't a state file.
+    #[error("{0}")]
+    Opening(StateFault),
+    /// The line isn't a step's.
+    #[error("line {0} isn't a step's")]
+    BadStep(usize),
+    #[error("want of memory")]
+    NoMemory,
+}
+
+/// A fault of the opening rows as one of the whole; want of memory has no place.
+pub fn of_opening(fault: StateFault) -> SimulationFault
+    ensures { result ≡ of_opening fault }
+{
+    match fault {
+        StateFault::NoMemory => SimulationFault::NoMemory,
+        fault => SimulationFault::Opening(fault),
+    }
+}
+
+fn state_fault_name(fault: StateFault) -> &'static str
+    ensures { result.now ≡ state_fault_name fault }
+{
+    match fault {
+        StateFault::BadLine(_) => "BadLine",
+        StateFault::Twice(_) => "Twice",
+        StateFault::NotOpening(_) => "NotOpening",
+        StateFault::TooManyRows => "TooManyRows",
+        StateFault::NoMemory => "NoMemory",
+    }
+}
+
+impl SimulationFault {
+    /// The name that the program prints.
+    pub fn name(self) -> &'static str
+        ensures { result.now ≡ fault_name self }
+    {
+        match self {
+            SimulationFault::Opening(fault) => state_fault_name(fault),
+            SimulationFault::BadStep(_) => "BadLine",
+            SimulationFault::NoMemory => "NoMemory",
+        }
+    }
+}

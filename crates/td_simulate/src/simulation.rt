@@ -1,0 +1,104 @@
+ghost use Rattle.std.specs.Prelude.{◌≡◌, ◌<◌, ◌^◌, ◌++◌, List, map, length, IfOk, IfErr, OnOk, MatchResult};
+ghost use Rattle.std.specs.List.{list_any};
+ghost use Rattle.std.specs.String.{string_bytes};
+ghost use Rattle.td_text.specs.Lines.{text_of};
+ghost use Rattle.td_rows.specs.Table.{Table};
+ghost use Rattle.td_core.specs.declared.step.Step.{Step as StepValue};
+ghost use Rattle.td_core.specs.Phases.{NoneBuilt};
+ghost use Rattle.td_simulate.specs.Answers.{answer_line, is_refused};
+ghost use Rattle.td_simulate.specs.Output.{Tells};
+ghost use Rattle.td_simulate.specs.SimulationText.{IsSimulation, FaultOf};
+
+use crate::answer_line::put_answer_line;
+use crate::fault::{SimulationFault, of_opening};
+use crate::parts::parts_of;
+use crate::steps_reading::read_steps;
+use std::alloc::{AllocError, Global};
+use td_core::{Answer, Step, run};
+use td_rows::{Rows, read_state, rows_text};
+
+/// How many builders a simulation has.
+const BUILDERS: usize = 64;
+
+/// What is told of a simulation.
+#[derive(Debug, Drop)]
+pub struct Simulated {
+    /// A line for each answer, the word `rows`, and a line for each row.
+    pub text: String,
+    /// Whether a step was refused.
+    pub refused: bool,
+}
+
+/// The opening rows and the steps of a text: row lines as those of a state file, the line
+/// `steps`, and a line for each step. Without a line `steps` there are no steps.
+pub fn read_simulation(alloc: Global, text: &str) -> Result<(Rows, Vec<Step>), SimulationFault>
+    requires { length text.now < 2 ^ 63 }
+    // What is read is what the text says.
+    ensures found { IfOk result (λ read. IsSimulation text.now read.0 read.1.items) }
+    // What is a simulation is read, unless memory runs out.
+    ensures only { (t : Table) (ss : List StepValue) → IsSimulation text.now t ss → MatchResult result (λ read. (read.0 ≡ t) × (read.1.items ≡ ss)) (λ e. e ≡ SimulationFault.NoMemory) }
+    ensures fault { IfErr result (FaultOf text.now) }
+{
+    let parts = parts_of(text);
+    let rows = match read_state(alloc, parts.opening) {
+        Ok(rows) => rows,
+        Err(fault) => return Err(of_opening(fault)),
+    };
+    match read_steps(alloc, parts.steps, parts.first) {
+        Ok(steps) => Ok((rows, steps)),
+        Err(fault) => Err(fault),
+    }
+}
+
+// Appends the lines of the answers.
+fn put_answers(out: &mut String, answers: &[Answer]) -> Result<(), AllocError>
+    ensures { OnOk result (string_bytes out.new ≡ string_bytes out.old ++ text_of (map answer_line answers.now)) }
+{
+    for answer in answers {
+        put_answer_line(out, answer)?;
+        out.push_str("\n")?;
+    }
+    Ok(())
+}
+
+fn any_refused(answers: &[Answer]) -> bool
+    ensures { result ≡ list_any is_refused answers.now }
+{
+    answers
+        .iter()
+        .any(|answer| matches!(answer, Answer::Refused(_)))
+}
+
+// What is told of these steps from these rows.
+fn tell(alloc: Global, rows: Rows, steps: Vec<Step>) -> Result<Simulated, AllocError>
+    requires { NoneBuilt rows }
+    ensures { IfOk result (Tells rows steps.items) }
+{
+    let (world, answers) = run(alloc, rows, BUILDERS, steps)?;
+    let mut text = String::new(alloc);
+    put_answers(&mut text, &answers)?;
+    text.push_str("rows\n")?;
+    text.push_str(rows_text(alloc, world.rows())?.as_str())?;
+    let refused = any_refused(&answers);
+    Ok(Simulated { text, refused })
+}
+
+/// Takes the steps of a simulation's text one after the other, and tells their answers and the
+/// rows after the last of them.
+pub fn simulate_text(alloc: Global, text: &str) -> Result<Simulated, SimulationFault>
+    requires { length text.now < 2 ^ 63 }
+    // What is told is told of the simulation that the text is.
+    ensures found { IfOk result (λ told. (t : Table) × (ss : List StepValue) × IsSimulation text.now t ss × Tells t ss told) }
+    // Of a simulation it is told, unless memory runs out.
+    ensures only { (t : Table) (ss : List StepValue) → IsSimulation text.now t ss → MatchResult result (Tells t ss) (λ e. e ≡ SimulationFault.NoMemory) }
+    ensures fault { IfErr result (FaultOf text.now) }
+{
+    let (rows, steps) = match read_simulation(alloc, text) {
+        Ok(read) => read,
+        Err(fault) => return Err(fault),
+    };
+    match tell(alloc, rows, steps) {
+        Ok(told) => Ok(told),
+        Err(_) => Err(SimulationFault::NoMemory),
+    }
+}
