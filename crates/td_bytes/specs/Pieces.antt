@@ -1,0 +1,11 @@
+-- What a reader has lost, and what a writer holds, where a call stopped midway.
+use Rattle.std.specs.Prelude.{◌≡◌, ℕ, List, ◌++◌, Option}
+use Rattle.std.specs.Io.KnownBytes.{Appends, Consumes}
+
+-- the known bytes grow by some first ones of these bytes; this project's own
+abbrev pub AppendsPrefix : Option (List ℕ) → Option (List ℕ) → List ℕ → Type 0
+AppendsPrefix old new bytes = (front : List ℕ) × (rest : List ℕ) × (bytes ≡ front ++ rest) × Appends old new front
+
+-- the known bytes lose some first ones, and keep the others; this project's own
+abbrev pub ConsumesFront : Option (List ℕ) → Option (List ℕ) → Type 0
+ConsumesFront old new = (front : List ℕ) × Consumes old new front

@@ -1,0 +1,18 @@
+//! Bytes in and bytes out: a reader is read to its end, up to a limit, and a writer is written to
+//! until it has taken all, whatever pieces they move.
+//!
+//! Start at `read_text` and `write_whole`.
+//! Promised, of any reader and writer whose bytes clauses know: `Ok` is all that remained, within
+//! the limit, and TooLong exactly more than that; a write that fails leaves a front of the bytes.
+//! std says of no read or write when it fails, so that each fault comes only then is tested.
+#![tactic(auto)]
+
+mod reading;
+#[cfg(test)]
+mod tests;
+mod text;
+mod writing;
+
+pub use reading::{ReadFault, read_whole};
+pub use text::{TextFault, read_text};
+pub use writing::{WriteFault, write_whole};
