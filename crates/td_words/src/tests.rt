@@ -1,0 +1,84 @@
+//! What each line of words asks for, and the texts: this project's own, and `clap`'s.
+use crate::{Request, WordsFault, read_words};
+use std::alloc::{AllocError, Global};
+use std::test::Fail;
+
+fn words(alloc: Global, line: &str) -> Result<Vec<String>, AllocError> {
+    let mut words = Vec::new(alloc);
+    for word in line.split(' ') {
+        words.push(String::from_str(alloc, word)?)?;
+    }
+    Ok(words)
+}
+
+fn usage(alloc: Global, line: &str) -> Result<String, WordsFault> {
+    match read_words(alloc, &words(alloc, line)?) {
+        Ok(_) => Ok(String::new(alloc)),
+        Err(WordsFault::Usage(text)) => Ok(text),
+        Err(WordsFault::NoMemory) => Err(WordsFault::NoMemory),
+    }
+}
+
+#[test]
+fn a_subcommand_is_asked_for_by_its_name(rt: HostRuntime) -> Result<(), Fail> {
+    let request = read_words(rt.alloc(), &words(rt.alloc(), "transdesk simulate")?)?;
+    assert!(rt; request == Request::Simulate);
+    Ok(())
+}
+
+// Help and the version are answered by their texts, as a bad command line is by its fault.
+#[test]
+fn other_words_are_answered_by_a_text(rt: HostRuntime) -> Result<(), Fail> {
+    for (line, front) in [
+        ("transdesk", "error: 'transdesk' requires a subcommand"),
+        ("transdesk --version", "transdesk 0.1.0\n"),
+        ("transdesk -V", "transdesk 0.1.0\n"),
+        (
+            "transdesk --help",
+            "A desk for the rebuilds of a Debian transition",
+        ),
+        (
+            "transdesk help",
+            "A desk for the rebuilds of a Debian transition",
+        ),
+        ("transdesk help simulate", "Play steps of the desk"),
+        ("transdesk simulate --help", "Play steps of the desk"),
+        (
+            "transdesk simulat",
+            "error: unrecognized subcommand 'simulat'",
+        ),
+        (
+            "transdesk simulate file",
+            "error: unexpected argument 'file' found",
+        ),
+        (
+            "transdesk simulate simulate",
+            "error: unexpected argument 'simulate' found",
+        ),
+        (
+            "transdesk --journal simulate",
+            "error: unexpected argument '--journal' found",
+        ),
+        ("transdesk run", "error: unrecognized subcommand 'run'"),
+    ] {
+        let text = usage(rt.alloc(), line)?;
+        assert!(rt; text.as_str().starts_with(front), "{line}: {text}");
+        assert!(rt; text.as_str().ends_with('\n'), "{line}: {text}");
+    }
+    Ok(())
+}
+
+#[test]
+fn help_has_the_statuses(rt: HostRuntime) -> Result<(), Fail> {
+    let text = usage(rt.alloc(), "transdesk --help")?;
+    for line in [
+        "  simulate  ",
+        "Exit status:\n  0  done\n  1  something was refused",
+        "\n  2  bad input\n  3  bad command line, or a call for help\n",
+        "\n  4  want of memory\n  5  a read or a write failed\n",
+        "docs/FORMATS.md",
+    ] {
+        assert!(rt; text.as_str().contains(line), "{text}");
+    }
+    Ok(())
+}
