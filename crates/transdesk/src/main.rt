@@ -1,0 +1,31 @@
+//! The program: a desk for the rebuilds of a Debian transition, whose undo is proved.
+//!
+//! Start at `tool`: it does what the words ask for, over any reader and writers; `simulate` is its
+//! one subcommand so far. How a simulation is read and played stands in `td_simulate`, what the
+//! words ask for in `td_words`.
+//! Promised: what is written is the answer to what was read, and nothing where that is refused; a
+//! write that fails leaves a front of it; and the status and the line on standard error say which
+//! (`specs/Ends.antt`).
+#![tactic(auto)]
+
+mod ending;
+mod input_fault;
+mod simulation;
+#[cfg(test)]
+mod tests;
+mod tool;
+
+use std::process::ExitCode;
+use std::{env, io};
+
+fn main(rt: HostRuntime) -> ExitCode {
+    let words = env::args(&rt).and_then(|words| Ok(words.collect(rt.alloc())?));
+    let status = tool::tool(
+        rt.alloc(),
+        words,
+        &mut rt.stdin(),
+        &mut io::writer(&rt),
+        &mut rt.stderr(),
+    );
+    ExitCode::from(status)
+}
