@@ -1,5 +1,5 @@
 -- The program's command line, as `clap` sees it. This project's own.
-use Rattle.std.specs.Prelude.{ℕ, true, List, [], ◌∷◌, Option, option_map, codes}
+use Rattle.std.specs.Prelude.{◌≡◌, ℕ, true, List, [], ◌∷◌, Option, Some, option_map, codes}
 use Rattle.clap.specs.Faults.{fault_of}
 use Rattle.clap.specs.Kinds.{Kinds}
 use Rattle.clap.specs.Simple.{App, new_app, new_shape, on_top, with_subcommand, subcommand_of}
@@ -15,6 +15,10 @@ asked_of words = option_map (λ p. p.0) (subcommand_of desk words)
 -- what is wrong with the words, calls for help and for the version included
 abbrev pub faults_of : List (List ℕ) → Kinds
 faults_of words = fault_of desk words
+
+-- nothing is wrong with the words, and they name this subcommand
+abbrev pub AskFor : List ℕ → List (List ℕ) → Type 0
+AskFor name words = (faults_of words ≡ []) × (asked_of words ≡ Some name)
 
 -- the words that ask for a subcommand: the program's own name, whatever it is, and the subcommand's
 abbrev pub asking_for : List ℕ → List ℕ → List (List ℕ)

@@ -1,7 +1,7 @@
-ghost use Rattle.std.specs.Prelude.{◌≡◌, ℕ, List, [], map, codes, string_bytes, MatchResult, OnOk, OnSome};
+ghost use Rattle.std.specs.Prelude.{◌≡◌, ℕ, List, map, codes, string_bytes, MatchResult, OnOk, OnSome};
 ghost use Rattle.clap.specs.Values.{kind_of};
 ghost use Rattle.clap.specs.Matches.{subcommand_name_of};
-ghost use Rattle.td_words.specs.CommandLine.{asked_of, asking_for, faults_of};
+ghost use Rattle.td_words.specs.CommandLine.{AskFor, asking_for};
 
 use crate::command::command;
 use clap::error::ErrorKind;
@@ -66,8 +66,7 @@ pub fn read_words(alloc: Global, words: &[String]) -> Result<Request, WordsFault
         → map string_bytes words.now ≡ asking_for program (codes "simulate")
         → MatchResult result (λ r. r ≡ Request.Simulate) (λ e. e ≡ WordsFault.NoMemory) }
     // Words that ask for it are without fault, and name it.
-    ensures only { OnOk result ((faults_of (map string_bytes words.now) ≡ [])
-        × (asked_of (map string_bytes words.now) ≡ Some (codes "simulate"))) }
+    ensures only { OnOk result (AskFor (codes "simulate") (map string_bytes words.now)) }
 {
     match command(alloc)?.try_get_matches_from(words) {
         Ok(matches) => match request_in(&matches) {

@@ -1,6 +1,6 @@
-ghost use Rattle.std.specs.Prelude.{◌≡◌, ◌⊎◌, ℕ, List, map, codes, string_bytes, IsOkAnd, MatchResult};
+ghost use Rattle.std.specs.Prelude.{◌≡◌, ◌⊎◌, ℕ, List, map, codes, string_bytes, IsOkAnd, MatchResult, OnOk};
 ghost use Rattle.std.specs.Io.KnownBytes.{Keeps};
-ghost use Rattle.td_words.specs.CommandLine.{asking_for};
+ghost use Rattle.td_words.specs.CommandLine.{AskFor, asking_for};
 ghost use Rattle.transdesk.specs.Ends.{Ran};
 
 use crate::ending::Ending;
@@ -18,6 +18,8 @@ fn asked(alloc: Global, words: io::Result<Vec<String>>) -> Result<Request, Words
     ensures simulate { (program : List ℕ) → IsOkAnd words (λ given.
         map string_bytes given.items ≡ asking_for program (codes "simulate"))
         → MatchResult result (λ r. r ≡ Request.Simulate) (λ e. e ≡ WordsFault.NoMemory) }
+    ensures only { OnOk result (IsOkAnd words (λ given.
+        AskFor (codes "simulate") (map string_bytes given.items))) }
 {
     let words = match words {
         Ok(words) => words,
@@ -44,8 +46,13 @@ pub fn tool<R: Read, W: Write, E: Write>(
         map string_bytes given.items ≡ asking_for program (codes "simulate"))
         → Ran (R.remaining reader.old) (W.contents output.old) (W.contents output.new)
         (E.contents faults.old) (E.contents faults.new) result }
-    // Other words may be bad, and then nothing is written.
-    ensures others { ((result ≡ BAD_WORDS) × Keeps (W.contents output.old) (W.contents output.new))
+    // Only where the words ask for it is anything written.
+    ensures only { IsOkAnd words (λ given.
+        AskFor (codes "simulate") (map string_bytes given.items))
+        ⊎ Keeps (W.contents output.old) (W.contents output.new) }
+    // Other words may be bad.
+    ensures others { ((result ≡ BAD_WORDS)
+        × Keeps (W.contents output.old) (W.contents output.new))
         ⊎ Ran (R.remaining reader.old) (W.contents output.old) (W.contents output.new)
         (E.contents faults.old) (E.contents faults.new) result }
 {
