@@ -1,0 +1,13 @@
+pub mod WordCuts
+pub mod FieldValues
+pub mod Keeping
+pub mod SourceKeeping
+pub mod Steps
+pub mod RowCounts
+pub mod Places
+pub mod SourceLookups
+pub mod StanzaLists
+pub mod ArchiveFaults
+pub mod RebuildNumbers
+pub mod Greatest
+pub mod CountingLaws

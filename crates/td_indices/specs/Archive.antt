@@ -1,0 +1,110 @@
+-- What an archive holds, which two texts it is read from, and why two texts are refused.
+use Rattle.std.specs.Prelude.{◌≡◌, ◌⊎◌, ℕ, ◌+◌, ◌<◌, ◌≤◌, ◌&&◌, Bool, List, [], ◌∷◌, Option, Ok, Err, if◌then◌else◌}
+use Rattle.std.specs.List.{find}
+use Rattle.std.specs.Str.{bytes_eq}
+use Rattle.td_stanza.specs.Field.{Entry}
+use Rattle.td_stanza.specs.StanzaGrammar.{AreStanzas}
+use Rattle.td_stanza.specs.StanzaFaults.{HasFault}
+use Rattle.td_stanza.specs.declared.fault.StanzaFault.{StanzaFault}
+use Rattle.td_stanza.specs.declared.fault.StanzaFault.TheVariants.{BadName, NoColon, ContinuationFirst, Duplicate}
+use Rattle.td_stanza.specs.declared.fault.StanzaFault.TheVariants as stanza
+use Rattle.td_relation.specs.Arch.{ArchWords}
+use Rattle.td_relation.specs.Meeting.{is_on}
+use Rattle.td_indices.specs.declared.archive_fault.IndexFile.{IndexFile}
+use Rattle.td_indices.specs.declared.archive_fault.IndexFile.TheVariants.{Packages, Sources}
+use Rattle.td_indices.specs.declared.archive_fault.ArchiveFault.{ArchiveFault}
+use Rattle.td_indices.specs.declared.archive_fault.ArchiveFault.TheVariants.{Stanza, MissingField, BadVersion, BadRelation, TooManyRows, NoMemory}
+use Rattle.td_indices.specs.Kept.{KeptBinary}
+use Rattle.td_indices.specs.Sources.{KeptSource}
+use Rattle.td_indices.specs.Reading.{binaries_at, sources_at}
+use Rattle.td_indices.specs.Rows.{row_count}
+
+-- the table of architectures, the stanzas of the two texts, and what is kept of them
+pub record Contents : Type 0 where
+  pub table : List ArchWords
+  pub packages : List (List Entry)
+  pub source_stanzas : List (List Entry)
+  pub binaries : List KeptBinary
+  pub sources : List KeptSource
+
+-- ---- 1. what is found in it
+
+-- the source of a name
+abbrev pub source_named : Contents → List ℕ → Option KeptSource
+source_named a name = find (λ s. bytes_eq name s.head.name) a.sources
+
+-- the numbers, from n on, of the items that pass a test
+abbrev pub places_from : {A : Type 0} → (A → Bool) → ℕ → List A → List ℕ
+places_from test n [] = []
+places_from test n (x ∷ xs) = if test x then n ∷ places_from test (n + 1) xs else places_from test (n + 1) xs
+
+-- a binary package is its source's where it names it
+abbrev pub is_of : List ℕ → KeptBinary → Bool
+is_of source b = bytes_eq source b.head.source
+
+-- the source's binary packages on an architecture: those there, and those of `all`
+abbrev pub is_of_on : List ℕ → ℕ → KeptBinary → Bool
+is_of_on source arch b = is_of source b && is_on arch b.head.home
+
+-- their numbers
+abbrev pub binaries_on : Contents → List ℕ → ℕ → List ℕ
+binaries_on a source arch = places_from (is_of_on source arch) 0 a.binaries
+
+-- ---- 2. which texts are an archive
+
+-- these lines are those of the archive, with the table of architectures
+pub record IsArchive (table : List ArchWords) (package_lines source_lines : List (List ℕ)) (a : Contents) : Type 0 where
+  pub same_table : a.table ≡ table
+  pub package_stanzas : AreStanzas a.packages package_lines
+  pub source_stanzas : AreStanzas a.source_stanzas source_lines
+  pub binaries : binaries_at table a.packages ≡ Ok a.binaries
+  pub sources : sources_at a.source_stanzas ≡ Ok a.sources
+  pub limited : row_count table a.sources ≤ 1048576
+
+-- ---- 3. what is wrong with others
+
+-- the stanzas of both texts have no fault as such; the first that can't be kept has this one, all of Packages before those of Sources
+pub record IsStanzaFault (table : List ArchWords) (package_lines source_lines : List (List ℕ)) (fault : ArchiveFault) : Type 0 where
+  pub package_list : List (List Entry)
+  pub source_list : List (List Entry)
+  pub package_stanzas : AreStanzas package_list package_lines
+  pub source_stanzas : AreStanzas source_list source_lines
+  pub faulty : (binaries_at table package_list ≡ Err fault) ⊎ ((binaries : List KeptBinary) × (binaries_at table package_list ≡ Ok binaries) × (sources_at source_list ≡ Err fault))
+
+-- all stanzas can be kept, and the sources have too many rows
+pub record HasTooManyRows (table : List ArchWords) (package_lines source_lines : List (List ℕ)) : Type 0 where
+  pub contents : Contents
+  pub package_stanzas : AreStanzas contents.packages package_lines
+  pub source_stanzas : AreStanzas contents.source_stanzas source_lines
+  pub binaries : binaries_at table contents.packages ≡ Ok contents.binaries
+  pub sources : sources_at contents.source_stanzas ≡ Ok contents.sources
+  pub beyond : 1048576 < row_count table contents.sources
+
+-- the fault of a text as a control file; want of memory may stand in place of any answer
+abbrev pub FaultOf : List ArchWords → List (List ℕ) → List (List ℕ) → ArchiveFault → Type 0
+FaultOf table packages sources (Stanza Packages fault) = HasFault fault packages
+FaultOf table packages sources (Stanza Sources fault) = (stanzas : List (List Entry)) × AreStanzas stanzas packages × HasFault fault sources
+FaultOf table packages sources (MissingField file number field) = IsStanzaFault table packages sources (MissingField file number field)
+FaultOf table packages sources (BadVersion file number) = IsStanzaFault table packages sources (BadVersion file number)
+FaultOf table packages sources (BadRelation file number) = IsStanzaFault table packages sources (BadRelation file number)
+FaultOf table packages sources TooManyRows = HasTooManyRows table packages sources
+FaultOf table packages sources NoMemory = Unit {0}
+
+-- ---- 4. the parts of the reading
+
+-- a fault of one of the files as a control file
+abbrev pub in_file : IndexFile → StanzaFault → ArchiveFault
+in_file file (BadName n) = Stanza file (BadName n)
+in_file file (NoColon n) = Stanza file (NoColon n)
+in_file file (ContinuationFirst n) = Stanza file (ContinuationFirst n)
+in_file file (Duplicate n) = Stanza file (Duplicate n)
+in_file file stanza.NoMemory = NoMemory
+
+-- the first fault of one text as a control file
+abbrev pub StanzaFaultOf : IndexFile → List (List ℕ) → ArchiveFault → Type 0
+StanzaFaultOf file lines (Stanza of_file fault) = (of_file ≡ file) × HasFault fault lines
+StanzaFaultOf file lines NoMemory = Unit {0}
+StanzaFaultOf file lines (MissingField of_file number field) = ⊥
+StanzaFaultOf file lines (BadVersion of_file number) = ⊥
+StanzaFaultOf file lines (BadRelation of_file number) = ⊥
+StanzaFaultOf file lines TooManyRows = ⊥

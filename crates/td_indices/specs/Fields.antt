@@ -1,0 +1,77 @@
+-- The fields of a stanza: their values, and what has to stand in some of them (Debian Policy 5.1, 5.3 and 5.4).
+use Rattle.std.specs.Prelude.{ℕ, Bool, true, false, ◌≡◌, List, [], Option, Some, None, option_map, Result, Ok, Err, if◌then◌else◌}
+use Rattle.std.specs.Borrow.{Bor}
+use Rattle.std.specs.List.{find}
+use Rattle.td_text.specs.Words.{is_name}
+use Rattle.td_stanza.specs.Field.{Entry, is_same_name}
+use Rattle.td_version.specs.Version.{Parts, parts_of}
+use Rattle.td_version.specs.Reading.{reading}
+use Rattle.td_version.specs.declared.version.Version.{Version}
+use Rattle.td_version.specs.declared.version.VersionFault.{VersionFault}
+use Rattle.td_relation.specs.Asked.{Asked}
+use Rattle.td_relation.specs.Members.{members}
+use Rattle.td_relation.specs.RelationGrammar.{relation_at}
+use Rattle.td_relation.specs.Runs.{is_blank}
+use Rattle.td_relation.specs.declared.relation.Relation.{Relation}
+use Rattle.td_relation.specs.declared.relation_fault.RelationFault.{RelationFault}
+use Rattle.td_indices.specs.declared.archive_fault.IndexField.{IndexField}
+use Rattle.td_indices.specs.declared.archive_fault.EntryFault.{EntryFault}
+use Rattle.td_indices.specs.declared.archive_fault.EntryFault.TheVariants.{Missing, BadVersion, BadRelation, NoMemory}
+
+-- the value of the field that has the name, in whatever case
+abbrev pub value_of : List Entry → List ℕ → Option (List ℕ)
+value_of fields name = option_map (λ f. f.value) (find (λ f. is_same_name name f.name) fields)
+
+-- the value of a field that a stanza needs
+abbrev pub needed : IndexField → Option (List ℕ) → Result (List ℕ) EntryFault
+needed field None = Err (Missing field)
+needed field (Some text) = Ok text
+
+-- the name of a package, where one has to stand
+abbrev pub name_in : IndexField → Option (List ℕ) → Result (List ℕ) EntryFault
+name_in field None = Err (Missing field)
+name_in field (Some text) = if is_name text then Ok text else Err (Missing field)
+
+-- a version, where one has to stand
+abbrev pub version_or_bad : Result Parts VersionFault → Result Parts EntryFault
+version_or_bad (Ok parts) = Ok parts
+version_or_bad (Err fault) = Err BadVersion
+
+abbrev pub version_in : List ℕ → Result Parts EntryFault
+version_in text = version_or_bad (reading text)
+
+-- a relation, where one has to stand
+abbrev pub relation_or_bad : Result (List (List Asked)) RelationFault → Result (List (List Asked)) EntryFault
+relation_or_bad (Ok members) = Ok members
+relation_or_bad (Err fault) = Err BadRelation
+
+-- what a relation field asks: nothing where it isn't there, or has whitespace alone (that it may is this project's own)
+abbrev pub relation_in : Option (List ℕ) → Result (List (List Asked)) EntryFault
+relation_in None = Ok []
+relation_in (Some text) = if is_blank text then Ok [] else relation_or_bad (relation_at text)
+
+-- ---- what the readers give, without where it lies in memory
+
+-- a text
+abbrev pub found_text : Result (Bor (List ℕ)) EntryFault → Result (List ℕ) EntryFault
+found_text (Ok text) = Ok text.now
+found_text (Err fault) = Err fault
+
+-- a version
+abbrev pub version_found : Result Version EntryFault → Result Parts EntryFault
+version_found (Ok version) = Ok (parts_of version)
+version_found (Err fault) = Err fault
+
+-- what a relation asks; none asks nothing
+abbrev pub asked_by : Option Relation → List (List Asked)
+asked_by None = []
+asked_by (Some relation) = members relation
+
+-- whether it is want of memory
+abbrev pub is_want : EntryFault → Bool
+is_want NoMemory = true
+is_want fault = false
+
+-- a fault is the reading's, unless it is want of memory
+abbrev pub Fails : {A : Type 0} → Result A EntryFault → EntryFault → Type 0
+Fails read fault = is_want fault ≡ false → read ≡ Err fault

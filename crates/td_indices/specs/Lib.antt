@@ -1,0 +1,13 @@
+pub mod Texts
+pub mod Fields
+pub mod Binaries
+pub mod PackageKeys
+pub mod Kept
+pub mod Sources
+pub mod Reading
+pub mod Rows
+pub mod Groups
+pub mod Archive
+pub mod Seen
+pub mod Opening
+pub mod Counting

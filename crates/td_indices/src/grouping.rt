@@ -1,0 +1,59 @@
+ghost use Rattle.std.specs.Prelude.{◌≡◌, ℕ, List, Some, IfOk, filter, slice_get};
+ghost use Rattle.std.specs.Option.{option_map_or};
+ghost use Rattle.std.specs.Prelude.{false};
+ghost use Rattle.td_relation.specs.Meeting.{is_on as is_on_of};
+ghost use Rattle.td_indices.specs.Archive.{is_of, is_of_on, places_from};
+ghost use Rattle.td_indices.specs.Groups.{group};
+ghost use Rattle.td_indices.specs.Kept.{binaries_of};
+
+use crate::groups::Groups;
+use crate::packaged::{PackageKey, Packaged};
+use indexmap::IndexMap;
+use std::alloc::{AllocError, Global};
+
+/// The numbers of the binary packages, by their sources.
+pub fn group_binaries<'a>(
+    alloc: Global,
+    binaries: &IndexMap<PackageKey<'a>, Packaged<'a>>,
+) -> Result<Groups<'a>, AllocError>
+    ensures { IfOk result (λ groups. (q : List ℕ) → group groups q ≡ places_from (is_of q) 0 (binaries_of binaries.now.entries)) }
+{
+    let mut groups = Groups::new(alloc);
+    for number in 0..binaries.len() {
+        if let Some((_, packaged)) = binaries.get_index(number) {
+            groups.push(packaged.source, number)?;
+        }
+    }
+    Ok(groups)
+}
+
+/// Whether the binary package with a number is on the architecture, or on `all`.
+fn is_on(binaries: &IndexMap<PackageKey<'_>, Packaged<'_>>, number: usize, arch: usize) -> bool
+    ensures { result ≡ option_map_or (λ b. is_on_of arch b.head.home) (slice_get (binaries_of binaries.now.entries) number) false }
+{
+    match binaries.get_index(number) {
+        Some((key, _)) => match key.arch {
+            None => true,
+            Some(place) => place == arch,
+        },
+        None => false,
+    }
+}
+
+/// Of these numbers, those of binary packages on the architecture or on `all`.
+pub fn those_on(
+    alloc: Global,
+    binaries: &IndexMap<PackageKey<'_>, Packaged<'_>>,
+    numbers: &[usize],
+    arch: usize,
+) -> Result<Vec<usize>, AllocError>
+    ensures { IfOk result (λ there. there.items ≡ filter (λ n. option_map_or (λ b. is_on_of arch b.head.home) (slice_get (binaries_of binaries.now.entries) n) false) numbers.now) }
+{
+    let mut there = Vec::new(alloc);
+    for number in numbers {
+        if is_on(binaries, *number, arch) {
+            there.push(*number)?;
+        }
+    }
+    Ok(there)
+}

@@ -1,0 +1,36 @@
+//! Debian's Packages and Sources indices as an archive: the binary packages and the sources that
+//! count, found by their names, and the rows with which a desk opens over them.
+//!
+//! Start at `Archive::read`. Texts are slices of the two files; a look-up goes by hash.
+//! Promised: what is read is an archive as `specs/Archive.antt` says, else the first fault is named;
+//! of several stanzas of one source, or of one package and architecture, the one counts that has
+//! the greatest version, the first where versions are equal in order (`specs/Counting.antt`). A key
+//! opens with the row that `specs/Opening.antt` says.
+#![tactic(auto)]
+
+mod archive;
+mod archive_fault;
+mod binary_keeping;
+mod binary_reading;
+mod field;
+mod grouping;
+mod groups;
+mod laws;
+mod opening;
+mod packaged;
+mod relation_field;
+mod rows;
+mod source_keeping;
+mod source_reading;
+mod sourced;
+mod stanza_list;
+mod stanza_reading;
+#[cfg(test)]
+mod tests;
+mod text;
+
+pub use archive::Archive;
+pub use archive_fault::{ArchiveFault, IndexField, IndexFile};
+pub use laws::greatest_versions_are_kept;
+pub use packaged::Binary;
+pub use sourced::Source;

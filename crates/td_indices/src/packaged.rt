@@ -1,0 +1,87 @@
+use std::hash::{Hash, Hasher};
+use td_relation::Relation;
+use td_version::Version;
+
+/// What a binary package is found by: its name, and the place of its architecture in the table;
+/// `None` for `all`.
+#[derive(Clone, Copy, Debug)]
+pub struct PackageKey<'a> {
+    pub name: &'a str,
+    pub arch: Option<usize>,
+}
+
+impl PartialEq for PackageKey<'_> {
+    ghost use Rattle.std.proofs.Common.{rules};
+    ghost use Rattle.std.specs.Cmp.Rules.{comparing};
+    ghost use Rattle.td_indices.specs.PackageKeys.{same_key};
+
+    ghost eq = { same_key };
+
+    ghost laws = { Prim.search (comparing, rules) };
+
+    fn eq(&self, other: &Self) -> bool {
+        self.name == other.name && self.arch == other.arch
+    }
+}
+
+impl Eq for PackageKey<'_> {
+    ghost use Rattle.std.proofs.Common.{rules};
+    ghost use Rattle.std.specs.Cmp.Rules.{comparing};
+
+    ghost laws = { Prim.search (comparing, rules) };
+}
+
+impl Hash for PackageKey<'_> {
+    ghost use Rattle.std.proofs.Common.{rules};
+    ghost use Rattle.std.specs.Prelude.{◌++◌};
+    ghost use Rattle.std.specs.Cmp.Rules.{hashing};
+    ghost use Rattle.std.specs.Hash as fed;
+
+    ghost hash_input = { λ k. fed.str k.name.now ++ fed.option fed.usize k.arch };
+
+    ghost respects_eq = { Prim.search (hashing, rules) };
+
+    fn hash<H: Hasher>(&self, state: &mut H) {
+        self.name.hash(state);
+        self.arch.hash(state);
+    }
+}
+
+/// What a stanza of Packages says of a binary package, but for its relations.
+#[derive(Clone, Copy, Debug)]
+pub struct Head<'a> {
+    pub key: PackageKey<'a>,
+    /// The version as it is written.
+    pub version: &'a str,
+    pub parts: Version<'a>,
+    pub source: &'a str,
+    pub source_parts: Version<'a>,
+}
+
+/// What is kept of a stanza of Packages beside its key.
+#[derive(Debug, Drop)]
+pub struct Packaged<'a> {
+    pub version: &'a str,
+    pub parts: Version<'a>,
+    pub source: &'a str,
+    pub source_parts: Version<'a>,
+    pub provides: Option<Relation<'a>>,
+    /// The number of its stanza, from 0.
+    pub stanza: usize,
+}
+
+/// A binary package of an archive.
+#[derive(Clone, Copy, Debug)]
+pub struct Binary<'a> {
+    pub name: &'a str,
+    /// The place of its architecture in the table; `None` for `all`.
+    pub arch: Option<usize>,
+    /// The version as it is written.
+    pub version: &'a str,
+    pub parts: Version<'a>,
+    pub source: &'a str,
+    /// The version of the source that it was built from.
+    pub source_parts: Version<'a>,
+    /// The number of its stanza in Packages, from 0.
+    pub stanza: usize,
+}

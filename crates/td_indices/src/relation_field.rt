@@ -1,0 +1,63 @@
+ghost use Rattle.std.specs.Prelude.{◌≡◌, Ok, IfOk, IfErr, option_map};
+ghost use Rattle.td_stanza.specs.StanzaGrammar.{IsDistinct};
+ghost use Rattle.td_stanza.specs.Table.{fields_of};
+ghost use Rattle.td_relation.specs.Members.{members};
+ghost use Rattle.td_relation.specs.RelationGrammar.{relation_at};
+ghost use Rattle.td_indices.specs.Fields.{Fails, asked_by, relation_in as relation_in_of, relation_or_bad};
+ghost use Rattle.td_indices.specs.Kept.{provides_at};
+
+use crate::archive_fault::EntryFault;
+use crate::field::value_of;
+use crate::text::is_blank;
+use std::alloc::Global;
+use td_relation::{Relation, RelationFault};
+use td_stanza::Stanza;
+
+fn read_relation(alloc: Global, text: &str) -> Result<Relation<'_>, EntryFault>
+    ensures ok { IfOk result (λ r. relation_or_bad (relation_at text.now) ≡ Ok (members r)) }
+    ensures err { IfErr result (λ e. Fails (relation_or_bad (relation_at text.now)) e) }
+{
+    match Relation::read(alloc, text) {
+        Ok(relation) => Ok(relation),
+        Err(RelationFault::NoMemory) => Err(EntryFault::NoMemory),
+        Err(_) => Err(EntryFault::BadRelation),
+    }
+}
+
+/// What a relation field asks; `None` where it isn't there, or has whitespace alone.
+pub fn relation_in(alloc: Global, value: Option<&str>) -> Result<Option<Relation<'_>>, EntryFault>
+    ensures ok { IfOk result (λ r. relation_in_of (option_map (λ x. x.now) value.entry) ≡ Ok (asked_by r)) }
+    ensures err { IfErr result (λ e. Fails (relation_in_of (option_map (λ x. x.now) value.entry)) e) }
+{
+    let Some(text) = value else {
+        return Ok(None);
+    };
+    if is_blank(text) {
+        return Ok(None);
+    }
+    match read_relation(alloc, text) {
+        Ok(relation) => Ok(Some(relation)),
+        Err(fault) => Err(fault),
+    }
+}
+
+/// What a binary package provides; its other relations are read for their faults alone.
+#[tactic(auto, unfolding(crate::specs::Kept::provides_at))]
+pub fn read_provides<'a>(
+    alloc: Global,
+    stanza: &Stanza<'_, 'a>,
+) -> Result<Option<Relation<'a>>, EntryFault>
+    requires { IsDistinct (fields_of stanza.now) }
+    ensures ok { IfOk result (λ r. provides_at (fields_of stanza.now) ≡ Ok (asked_by r)) }
+    ensures err { IfErr result (λ e. Fails (provides_at (fields_of stanza.now)) e) }
+{
+    match relation_in(alloc, value_of(stanza, "Depends")) {
+        Ok(_) => {}
+        Err(fault) => return Err(fault),
+    }
+    match relation_in(alloc, value_of(stanza, "Pre-Depends")) {
+        Ok(_) => {}
+        Err(fault) => return Err(fault),
+    }
+    relation_in(alloc, value_of(stanza, "Provides"))
+}

@@ -1,0 +1,95 @@
+ghost use Rattle.std.specs.Prelude.{◌≡◌, ◌≤◌, ◌<◌, OnOk, IfErr, length};
+ghost use Rattle.td_relation.specs.TableView.{table};
+ghost use Rattle.td_indices.specs.Rows.{
+  has_match as has_match_of,
+  has_row as has_row_of,
+  is_named_first as is_named_first_of,
+  matches_at,
+  row_count,
+  rows_before,
+};
+ghost use Rattle.td_indices.specs.Sources.{sources_of};
+
+use crate::archive_fault::ArchiveFault;
+use crate::sourced::Sourced;
+use crate::text::next_word;
+use indexmap::IndexMap;
+use td_relation::Archs;
+use td_rows::MAX_ROWS;
+
+fn matches(archs: &Archs<'_>, place: usize, word: &str) -> bool
+    requires { place < length (table archs.now) }
+    ensures { result ≡ matches_at (table archs.now) place word.now }
+{
+    archs.matches(place, word)
+}
+
+/// Whether some word of an Architecture field matches the architecture at a place.
+pub fn has_match(archs: &Archs<'_>, place: usize, words: &str) -> bool
+    requires { place < length (table archs.now) }
+    ensures { result ≡ has_match_of (table archs.now) place words.now }
+{
+    let mut rest = Some(words);
+    while let Some(text) = rest {
+        let (word, after) = next_word(text);
+        rest = after;
+        if !word.is_empty() && matches(archs, place, word) {
+            return true;
+        }
+    }
+    false
+}
+
+/// Whether the place is that of its architecture's name.
+fn is_named_first(archs: &Archs<'_>, place: usize) -> bool
+    requires { place < length (table archs.now) }
+    ensures { result ≡ is_named_first_of (table archs.now) place }
+{
+    match archs.index(archs.name(place)) {
+        Some(first) => first == place,
+        None => false,
+    }
+}
+
+/// Whether a source with this Architecture field has a row on the architecture at a place.
+pub fn has_row(archs: &Archs<'_>, words: &str, place: usize) -> bool
+    requires { place < length (table archs.now) }
+    ensures { result ≡ has_row_of (table archs.now) words.now place }
+{
+    is_named_first(archs, place) && has_match(archs, place, words)
+}
+
+/// How many rows a source with this Architecture field has.
+fn rows_of(archs: &Archs<'_>, words: &str) -> usize
+    ensures value { result ≡ rows_before (table archs.now) words.now (length (table archs.now)) }
+    ensures few { result ≤ 32 }
+{
+    let mut count = 0;
+    for place in 0..archs.len() {
+        if has_row(archs, words, place) {
+            count += 1;
+        }
+    }
+    count
+}
+
+/// Refuses sources that have more rows than a desk may have.
+pub fn check_rows(
+    archs: &Archs<'_>,
+    sources: &IndexMap<&str, Sourced<'_>>,
+) -> Result<(), ArchiveFault>
+    ensures ok { OnOk result (row_count (table archs.now) (sources_of sources.now.entries) ≤ 1048576) }
+    ensures too_many { IfErr result (λ e. 1048576 < row_count (table archs.now) (sources_of sources.now.entries)) }
+    ensures fault { IfErr result (λ e. e ≡ ArchiveFault.TooManyRows) }
+{
+    let mut rows = 0;
+    for number in 0..sources.len() {
+        if let Some((_, sourced)) = sources.get_index(number) {
+            rows += rows_of(archs, sourced.archs);
+            if rows > MAX_ROWS {
+                return Err(ArchiveFault::TooManyRows);
+            }
+        }
+    }
+    Ok(())
+}

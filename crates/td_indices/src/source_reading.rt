@@ -1,0 +1,117 @@
+ghost use Rattle.std.specs.Prelude.{◌≡◌, Ok, IfOk, IfErr, option_map};
+ghost use Rattle.td_stanza.specs.StanzaGrammar.{IsDistinct};
+ghost use Rattle.td_stanza.specs.Table.{fields_of};
+ghost use Rattle.td_indices.specs.Fields.{Fails};
+ghost use Rattle.td_indices.specs.Sources.{
+  is_extra as is_extra_of,
+  kept_source_at,
+  source_at,
+  source_found,
+  source_headed,
+  source_of,
+  whole_source_at,
+  with_build_relations,
+};
+
+use crate::archive_fault::{EntryFault, IndexField};
+use crate::field::{name_in, needed, value_of, version_in};
+use crate::relation_field::relation_in;
+use crate::sourced::{SourceHead, Sourced};
+use std::alloc::Global;
+use td_stanza::Stanza;
+
+/// Whether the source stands in the index only since a package was built with it.
+fn is_extra(stanza: &Stanza<'_, '_>) -> bool
+    requires { IsDistinct (fields_of stanza.now) }
+    ensures { result ≡ is_extra_of (fields_of stanza.now) }
+{
+    match value_of(stanza, "Extra-Source-Only") {
+        Some(value) => value == "yes",
+        None => false,
+    }
+}
+
+/// The source of a stanza.
+#[tactic(auto, unfolding(crate::specs::Sources::source_at))]
+fn read_head<'a>(stanza: &Stanza<'_, 'a>) -> Result<SourceHead<'a>, EntryFault>
+    requires { IsDistinct (fields_of stanza.now) }
+    ensures { source_found result ≡ source_at (fields_of stanza.now) }
+{
+    let name = name_in(IndexField::Package, value_of(stanza, "Package"))?;
+    let version = needed(IndexField::Version, value_of(stanza, "Version"))?;
+    let archs = needed(IndexField::Architecture, value_of(stanza, "Architecture"))?;
+    let parts = version_in(version)?;
+    Ok(SourceHead {
+        name,
+        version,
+        parts,
+        archs,
+    })
+}
+
+/// A source with what its build asks for.
+#[tactic(auto, unfolding(crate::specs::Sources::with_build_relations))]
+fn with_relations<'a>(
+    alloc: Global,
+    stanza: &Stanza<'_, 'a>,
+    head: SourceHead<'a>,
+    number: usize,
+) -> Result<(&'a str, Sourced<'a>), EntryFault>
+    requires { IsDistinct (fields_of stanza.now) }
+    ensures ok { IfOk result (λ p. with_build_relations number (fields_of stanza.now) (source_headed head.entry) ≡ Ok (source_of p)) }
+    ensures err { IfErr result (λ e. Fails (with_build_relations number (fields_of stanza.now) (source_headed head.entry)) e) }
+{
+    let build_depends = match relation_in(alloc, value_of(stanza, "Build-Depends")) {
+        Ok(relation) => relation,
+        Err(fault) => return Err(fault),
+    };
+    let build_depends_arch = match relation_in(alloc, value_of(stanza, "Build-Depends-Arch")) {
+        Ok(relation) => relation,
+        Err(fault) => return Err(fault),
+    };
+    let sourced = Sourced {
+        version: head.version,
+        parts: head.parts,
+        archs: head.archs,
+        build_depends,
+        build_depends_arch,
+        stanza: number,
+    };
+    Ok((head.name, sourced))
+}
+
+#[tactic(auto, unfolding(crate::specs::Sources::whole_source_at))]
+fn read_whole<'a>(
+    alloc: Global,
+    stanza: &Stanza<'_, 'a>,
+    number: usize,
+) -> Result<(&'a str, Sourced<'a>), EntryFault>
+    requires { IsDistinct (fields_of stanza.now) }
+    ensures ok { IfOk result (λ p. whole_source_at number (fields_of stanza.now) ≡ Ok (source_of p)) }
+    ensures err { IfErr result (λ e. Fails (whole_source_at number (fields_of stanza.now)) e) }
+{
+    match read_head(stanza) {
+        Ok(head) => with_relations(alloc, stanza, head, number),
+        Err(fault) => Err(fault),
+    }
+}
+
+/// What a stanza of Sources is kept as; `None` where it is extra.
+#[tactic(auto, unfolding(crate::specs::Sources::kept_source_at))]
+pub fn read_source<'a>(
+    alloc: Global,
+    stanza: &Stanza<'_, 'a>,
+    number: usize,
+) -> Result<Option<(&'a str, Sourced<'a>)>, EntryFault>
+    requires { IsDistinct (fields_of stanza.now) }
+    ensures ok { IfOk result (λ o. kept_source_at number (fields_of stanza.now) ≡ Ok (option_map source_of o)) }
+    ensures err { IfErr result (λ e. Fails (kept_source_at number (fields_of stanza.now)) e) }
+{
+    if is_extra(stanza) {
+        return Ok(None);
+    }
+    match read_whole(alloc, stanza, number) {
+        Ok(source) => Ok(Some(source)),
+        Err(fault) => Err(fault),
+    }
+}

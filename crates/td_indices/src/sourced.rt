@@ -1,0 +1,38 @@
+use td_relation::Relation;
+use td_version::Version;
+
+/// What is kept of a stanza of Sources beside the source's name.
+#[derive(Debug, Drop)]
+pub struct Sourced<'a> {
+    /// The version as it is written.
+    pub version: &'a str,
+    pub parts: Version<'a>,
+    /// The Architecture field.
+    pub archs: &'a str,
+    pub build_depends: Option<Relation<'a>>,
+    pub build_depends_arch: Option<Relation<'a>>,
+    /// The number of its stanza, from 0.
+    pub stanza: usize,
+}
+
+/// What a stanza of Sources says of a source, but for its relations.
+#[derive(Clone, Copy, Debug)]
+pub struct SourceHead<'a> {
+    pub name: &'a str,
+    pub version: &'a str,
+    pub parts: Version<'a>,
+    pub archs: &'a str,
+}
+
+/// A source of an archive.
+#[derive(Clone, Copy, Debug)]
+pub struct Source<'a> {
+    pub name: &'a str,
+    /// The version as it is written.
+    pub version: &'a str,
+    pub parts: Version<'a>,
+    /// The Architecture field.
+    pub archs: &'a str,
+    /// The number of its stanza in Sources, from 0.
+    pub stanza: usize,
+}

@@ -1,0 +1,150 @@
+use crate::{Archive, ArchiveFault, IndexField, IndexFile};
+use std::alloc::Global;
+use std::process::Abort;
+use std::test::Fail;
+use td_relation::Archs;
+use td_rows::Key;
+use td_stanza::StanzaFault;
+
+// The archive of examples/foobar.archs, foobar.packages and foobar.sources.
+const ARCHS: &str = "amd64 linux amd64\ni386 linux i386\n";
+
+const PACKAGES: &str =
+    "Package: libfoo1\nSource: foo\nVersion: 1.2-3\nArchitecture: amd64\n\nPackage: libfoo1\nSource: foo (1.2-3)\nVersion: 1.2-3+b1\nArchitecture: i386\n\nPackage: libbar-dev\nSource: bar\nVersion: 2.0-1\nArchitecture: amd64\n\nPackage: libbar-dev\nSource: bar\nVersion: 2.0-1\nArchitecture: i386\n";
+
+const SOURCES: &str =
+    "Package: foo\nVersion: 1.2-3\nArchitecture: any\nBuild-Depends: libbar-dev\n\nPackage: bar\nVersion: 2.0-1\nArchitecture: any\n";
+
+fn binary_is(rt: &impl Abort, archive: &Archive<'_, '_>, number: usize, wanted: [&str; 3]) {
+    match archive.binary(number) {
+        Some(binary) => {
+            assert_eq!(rt; binary.name, wanted[0]);
+            assert_eq!(rt; binary.version, wanted[1]);
+            assert_eq!(rt; binary.source, wanted[2]);
+        }
+        None => assert_eq!(rt; wanted[0], "there"),
+    }
+}
+
+#[test]
+fn the_small_archive_is_read(rt: HostRuntime) -> Result<(), Fail> {
+    let archs = Archs::read(rt.alloc(), ARCHS)?;
+    let archive = Archive::read(rt.alloc(), PACKAGES, SOURCES, &archs)?;
+    binary_is(&rt, &archive, 0, ["libfoo1", "1.2-3", "foo"]);
+    binary_is(&rt, &archive, 1, ["libfoo1", "1.2-3+b1", "foo"]);
+    binary_is(&rt, &archive, 3, ["libbar-dev", "2.0-1", "bar"]);
+    let foos = archive.binaries("foo", 1)?;
+    assert_eq!(rt; foos.as_slice(), [1].as_slice());
+    Ok(())
+}
+
+// `1.0` and `1.0-0` are equal in order (deb-version(7)), so the first of them counts; the package
+// of `all` is foo's on both architectures, the one of s390x is nowhere here.
+const SEVERAL: &str =
+    "Package: doc\nSource: foo\nVersion: 1.0\nArchitecture: all\n\nPackage: doc\nVersion: 1.0-0\nArchitecture: all\n\nPackage: lib\nSource: foo\nVersion: 1.9\nArchitecture: i386\n\nPackage: lib\nSource: foo (1.2-3)\nVersion: 1.10\nArchitecture: i386\n\nPackage: lib\nSource: Foo\nVersion: 1_0\nArchitecture: s390x\n";
+
+#[test]
+fn the_greatest_version_counts_and_the_first_of_equals(rt: HostRuntime) -> Result<(), Fail> {
+    let archs = Archs::read(rt.alloc(), ARCHS)?;
+    let archive = Archive::read(rt.alloc(), SEVERAL, SOURCES, &archs)?;
+    binary_is(&rt, &archive, 0, ["doc", "1.0", "foo"]);
+    binary_is(&rt, &archive, 1, ["lib", "1.10", "foo"]);
+    assert!(rt; archive.binary(2).is_none());
+    let foos = archive.binaries("foo", 0)?;
+    assert_eq!(rt; foos.as_slice(), [0].as_slice());
+    Ok(())
+}
+
+const TWICE: &str =
+    "Package: foo\nVersion: 1.2-3\nArchitecture: any\n\nPackage: foo\nVersion: 1.10\nArchitecture: amd64\n\nPackage: old\nVersion: 1\nArchitecture: any\nExtra-Source-Only: yes\n";
+
+#[test]
+fn a_source_is_found_by_its_name(rt: HostRuntime) -> Result<(), Fail> {
+    let archs = Archs::read(rt.alloc(), ARCHS)?;
+    let archive = Archive::read(rt.alloc(), "", TWICE, &archs)?;
+    assert!(rt; archive.source("old").is_none());
+    match archive.source("foo") {
+        Some(foo) => {
+            assert_eq!(rt; foo.version, "1.10");
+            assert_eq!(rt; foo.stanza, 1);
+        }
+        None => assert!(rt; archive.source_stanza(1).is_none()),
+    }
+    Ok(())
+}
+
+#[test]
+fn a_key_opens_with_the_rebuild_that_is_there(rt: HostRuntime) -> Result<(), Fail> {
+    let archs = Archs::read(rt.alloc(), ARCHS)?;
+    let archive = Archive::read(rt.alloc(), PACKAGES, SOURCES, &archs)?;
+    let key = Key::new(rt.alloc(), "foo", "i386")?;
+    match archive.opening_row(&key) {
+        Some(row) => assert_eq!(rt; row.number.get(), 1),
+        None => assert!(rt; archive.package_stanza(0).is_none()),
+    }
+    Ok(())
+}
+
+fn is_refused<'x>(
+    rt: &impl Abort,
+    alloc: Global,
+    table: &'x str,
+    packages: &'x str,
+    sources: &'x str,
+    wanted: ArchiveFault,
+) {
+    if let Ok(archs) = Archs::read(alloc, table) {
+        match Archive::read(alloc, packages, sources, &archs) {
+            Ok(_) => assert_eq!(rt; packages, "refused"),
+            Err(fault) => assert_eq!(rt; fault, wanted, "{packages}{sources}"),
+        }
+    }
+}
+
+// A stanza without what it needs, and which fault is the first one.
+#[test]
+fn the_first_fault_decides(rt: HostRuntime) {
+    let alloc = rt.alloc();
+    let packages = IndexFile::Packages;
+    let lib = "Package: lib\nArchitecture: i386\nVersion: 1\n";
+    let cases = [
+        (
+            "x",
+            "y",
+            ArchiveFault::Stanza(packages, StanzaFault::NoColon(1)),
+        ),
+        (
+            lib,
+            "y",
+            ArchiveFault::Stanza(IndexFile::Sources, StanzaFault::NoColon(1)),
+        ),
+        (
+            "Package: L\nVersion: 1\n",
+            "",
+            ArchiveFault::MissingField(packages, 1, IndexField::Package),
+        ),
+        (
+            "Package: lib\nVersion: 1_0\nArchitecture: i386\nSource: F (1)\n",
+            "",
+            ArchiveFault::MissingField(packages, 1, IndexField::Source),
+        ),
+        (
+            "Package: lib\nVersion: 1\nArchitecture: i386\nSource: foo (1_0)\nDepends: F\n",
+            "",
+            ArchiveFault::BadVersion(packages, 1),
+        ),
+        (
+            "Package: lib\nVersion: 1\nArchitecture: all\nPre-Depends: F\n",
+            "Package: foo\n",
+            ArchiveFault::BadRelation(packages, 1),
+        ),
+        (
+            lib,
+            "Package: foo\nArchitecture: any\n",
+            ArchiveFault::MissingField(IndexFile::Sources, 1, IndexField::Version),
+        ),
+    ];
+    for (packages, sources, wanted) in cases {
+        is_refused(&rt, alloc, ARCHS, packages, sources, wanted);
+    }
+}
