@@ -1,0 +1,12 @@
+pub mod Quotes
+pub mod Takes
+pub mod Scans
+pub mod Sizes
+pub mod Dots
+pub mod Flags
+pub mod Making
+pub mod Names
+pub mod Quoted
+pub mod Dotted
+pub mod Undotted
+pub mod Chosen

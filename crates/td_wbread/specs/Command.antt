@@ -1,0 +1,62 @@
+-- Which words are a command line, and what is wrong first with those that aren't. This project's own, in the style of wanna-build.
+use Rattle.std.specs.Prelude.{ℕ, List, [], Option, Some, None, Result, Ok}
+use Rattle.td_text.specs.Lines.{on_ok}
+use Rattle.td_relation.specs.Arch.{ArchWords}
+use Rattle.td_wbread.specs.declared.command.Verb.{Verb}
+use Rattle.td_wbread.specs.declared.fault.CommandFault.{CommandFault}
+use Rattle.td_wbread.specs.declared.word.Word.{Word}
+use Rattle.td_wbread.specs.declared.word.End.{End}
+use Rattle.td_wbread.specs.Archs.{archs_at, chosen_names}
+use Rattle.td_wbread.specs.Packages.{PackageText, packages_at, packages_of}
+use Rattle.td_wbread.specs.Tail.{Values, tail_at}
+use Rattle.td_wbread.specs.Verbs.{verb_at}
+use Rattle.td_wbread.specs.Words.{end_of, words_of}
+
+-- a command: the names of its architectures in the order of the table, and its texts, empty where
+-- none is given
+pub record CommandParts : Type 0 where
+  pub verb : Verb
+  pub packages : List PackageText
+  pub archs : List (List ℕ)
+  pub message : List ℕ
+  pub extra : List ℕ
+
+-- the text of a word, or none
+abbrev pub text_or_empty : Option Word → List ℕ
+text_or_empty None = []
+text_or_empty (Some word) = word.text
+
+-- the words of a command by what they are
+pub record Spoken : Type 0 where
+  pub verb : Verb
+  pub packages : List Word
+  pub archs : List Word
+  pub values : Values
+
+-- the parts of a command line, or what is wrong first: verb and number, packages, dot,
+-- architectures, and what follows these
+unfoldable pub spoken_at : List ArchWords → List (List ℕ) → End → List Word → Result Spoken CommandFault
+spoken_at table suites end words =
+    on_ok (verb_at end words) (λ verb.
+    on_ok (packages_at end verb.1) (λ packages.
+    on_ok (archs_at table end packages.1) (λ archs.
+    on_ok (tail_at verb.0 suites end archs.1) (λ values.
+    Ok (record { verb = verb.0; packages = packages.0; archs = archs.0; values = values })))))
+
+-- the command that such words are
+abbrev pub command_of : List ArchWords → Spoken → CommandParts
+command_of table s = record {
+  verb = s.verb;
+  packages = packages_of s.packages;
+  archs = chosen_names table s.archs;
+  message = text_or_empty s.values.message;
+  extra = text_or_empty s.values.extra;
+}
+
+-- the command that words are, or what is wrong first
+abbrev pub command_from : List ArchWords → List (List ℕ) → End → List Word → Result CommandParts CommandFault
+command_from table suites end words = on_ok (spoken_at table suites end words) (λ s. Ok (command_of table s))
+
+-- the command that a line is, or what is wrong first
+abbrev pub command_at : List ArchWords → List (List ℕ) → List ℕ → Result CommandParts CommandFault
+command_at table suites line = command_from table suites (end_of line) (words_of line)

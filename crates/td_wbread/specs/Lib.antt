@@ -1,0 +1,15 @@
+pub mod ArchLaws
+pub mod Archs
+pub mod ChoiceLaws
+pub mod Command
+pub mod FaultNames
+pub mod Faults
+pub mod Laws
+pub mod Naming
+pub mod PackageLaws
+pub mod Packages
+pub mod Tail
+pub mod Taking
+pub mod Verbs
+pub mod Views
+pub mod Words

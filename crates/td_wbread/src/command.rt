@@ -1,0 +1,35 @@
+use td_rows::{Line, Priority, RebuildNumber};
+
+/// What a command does to the rows that it names.
+#[derive(Clone, Copy, Debug, PartialEq, Eq)]
+pub enum Verb {
+    /// Gives builds back.
+    Gb,
+    /// Schedules rebuilds, under a number that isn't 0 or under each row's next.
+    Nmu(Option<RebuildNumber>),
+    /// Sets the priority.
+    Bp(Priority),
+    /// Lets builds wait for the relation that is the message.
+    Dw,
+}
+
+/// A package that a command names.
+#[derive(Debug, Drop)]
+pub struct Package {
+    pub source: String,
+    /// The version that the source has to have, where one is given.
+    pub version: Option<String>,
+}
+
+/// A command: what is to be done, and to which rows.
+#[derive(Debug, Drop)]
+pub struct Command<'a> {
+    pub verb: Verb,
+    pub packages: Vec<Package>,
+    /// The names of the chosen architectures, in the order of their table.
+    pub archs: Vec<&'a str>,
+    /// The message of a rebuild or the relation to wait for; empty where there is none.
+    pub message: Line,
+    /// What a rebuild needs beside its build dependencies; empty where there is none.
+    pub extra: Line,
+}

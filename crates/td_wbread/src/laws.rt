@@ -1,0 +1,27 @@
+//! Laws of the definitions, for one who doubts them.
+ghost use Rattle.td_wbread.specs.ArchLaws.{ArchsAreExact};
+ghost use Rattle.td_wbread.specs.ChoiceLaws.{ChoiceIsExact};
+ghost use Rattle.td_wbread.specs.Laws.{QuotedWordsAreRead};
+ghost use Rattle.td_wbread.specs.PackageLaws.{PackagesAreExact};
+
+/// Any texts without a newline and without `'` can be written as the words of a line.
+pub fn quoted_words_are_read()
+    ensures { QuotedWordsAreRead }
+{}
+
+/// Words are read as packages exactly where each is one, and a dot stands behind them.
+pub fn packages_are_exact()
+    ensures { PackagesAreExact }
+{}
+
+/// Words are read as architectures exactly where the first chooses, each further one chooses or
+/// takes away, and the end or a dot stands behind them.
+pub fn archs_are_exact()
+    ensures { ArchsAreExact }
+{}
+
+/// An architecture is chosen exactly where some word chooses it, and none behind that takes it
+/// away.
+pub fn choice_is_exact()
+    ensures { ChoiceIsExact }
+{}

@@ -1,0 +1,30 @@
+//! Command lines as Debian's release team writes them to wanna-build: `gb`, `nmu`, `bp` and `dw`.
+//!
+//! Start at `read_command`; `Command::is_named` and `is_matched` say which rows a command takes.
+//! `specs/Words.antt` says what the words of a line are, quoted as in a shell, `specs/Command.antt`
+//! which words are a command, and what is wrong first with others, and `specs/Naming.antt` which
+//! rows are named. Quotes have no escapes, and don't go over lines.
+//! Promised: a line is read exactly where it is a command, as that command, else the first fault
+//! from the left is named, with its place.
+#![tactic(auto)]
+
+mod arch_reading;
+mod building;
+mod command;
+mod fault;
+mod laws;
+mod naming;
+mod option_reading;
+mod package_reading;
+mod quoting;
+mod reading;
+mod scanning;
+#[cfg(test)]
+mod tests;
+mod verb_reading;
+mod word;
+
+pub use command::{Command, Package, Verb};
+pub use fault::{CommandFault, LineFault};
+pub use laws::{archs_are_exact, choice_is_exact, packages_are_exact, quoted_words_are_read};
+pub use reading::read_command;

@@ -1,0 +1,99 @@
+//! The rows that a command names.
+ghost use Rattle.std.specs.Prelude.{◌≡◌, ◌&&◌, ◌||◌, option_map, string_bytes};
+ghost use Rattle.std.specs.List.{list_any};
+ghost use Rattle.std.specs.Str.{bytes_eq};
+ghost use Rattle.td_version.specs.Reading.{parts_read, reading};
+ghost use Rattle.td_version.specs.Version.{parts_of as version_of};
+ghost use Rattle.td_wbread.specs.Naming.{is_base as is_base_of, is_numbered as is_numbered_of, is_rebuild_of, split_of, version_matches as version_matches_of};
+
+use crate::command::{Command, Package};
+use crate::package_reading::read_version;
+use td_rows::RebuildNumber;
+use td_version::{Version, is_same_version, split_rebuild};
+
+/// Whether a base is equal in order to a source's version.
+fn is_base(version: &Version<'_>, base: &str) -> bool
+    ensures { result ≡ is_base_of (version_of version.now) (reading base.now) }
+{
+    match read_version(base) {
+        Ok(read) => is_same_version(&read, version),
+        Err(_) => false,
+    }
+}
+
+fn split(text: &str) -> (&str, u16)
+    ensures { (result.0.now, result.1) ≡ split_of text.now }
+{
+    split_rebuild(text)
+}
+
+fn is_numbered(rebuild: u16, number: RebuildNumber) -> bool
+    ensures { result ≡ is_numbered_of rebuild number }
+{
+    rebuild == 0 || rebuild == number.get()
+}
+
+/// Whether a text is the source's version, or a rebuild of it with the row's number.
+fn is_rebuild(version: &Version<'_>, number: RebuildNumber, text: &str) -> bool
+    ensures { result ≡ is_rebuild_of (version_of version.now) number (split_of text.now) }
+{
+    let (base, rebuild) = split(text);
+    is_base(version, base) && is_numbered(rebuild, number)
+}
+
+fn version_matches(version: &Version<'_>, number: RebuildNumber, text: Option<&str>) -> bool
+    ensures { result ≡ version_matches_of (version_of version.now) number (option_map (λ x. x.now) text.entry) }
+{
+    match text {
+        None => true,
+        Some(text) => is_rebuild(version, number, text),
+    }
+}
+
+/// Whether some package has a source's name and a version that matches.
+fn has_package(
+    packages: &[Package],
+    source: &str,
+    version: &Version<'_>,
+    number: RebuildNumber,
+) -> bool
+    ensures { result ≡ list_any (λ p. bytes_eq (string_bytes p.source) source.now && version_matches_of (version_of version.now) number (option_map string_bytes p.version)) packages.now }
+{
+    packages.iter().any(|p| {
+        p.source.as_str() == source && version_matches(version, number, p.version.as_deref())
+    })
+}
+
+fn has_source(packages: &[Package], source: &str) -> bool
+    ensures { result ≡ list_any (λ p. bytes_eq (string_bytes p.source) source.now) packages.now }
+{
+    packages.iter().any(|p| p.source.as_str() == source)
+}
+
+fn has_arch(archs: &[&str], arch: &str) -> bool
+    ensures { result ≡ list_any (λ a. bytes_eq a.now arch.now) archs.now }
+{
+    archs.iter().any(|a| *a == arch)
+}
+
+impl Command<'_> {
+    ghost use Rattle.std.specs.Prelude.{◌≡◌};
+    ghost use Rattle.td_version.specs.Version.{parts_of as version_of};
+    ghost use Rattle.td_wbread.specs.Naming.{is_matched as is_matched_of, is_named as is_named_of};
+    ghost use Rattle.td_wbread.specs.Views.{parts_of};
+
+    /// Whether it names the row of a source on an architecture, if there is one.
+    pub fn is_named(&self, source: &str, arch: &str) -> bool
+        ensures { result ≡ is_named_of (parts_of self.now) source.now arch.now }
+    {
+        has_source(self.packages.as_slice(), source) && has_arch(self.archs.as_slice(), arch)
+    }
+
+    /// Whether the version of a row matches, given its source, the source's version and the row's
+    /// rebuild number.
+    pub fn is_matched(&self, source: &str, version: &Version<'_>, number: RebuildNumber) -> bool
+        ensures { result ≡ is_matched_of (parts_of self.now) source.now (version_of version.now) number }
+    {
+        has_package(self.packages.as_slice(), source, version, number)
+    }
+}

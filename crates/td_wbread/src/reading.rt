@@ -1,0 +1,91 @@
+//! A command line, read.
+ghost use Rattle.std.specs.Prelude.{◌≡◌, Ok, Err, IfErr, IfOk, IsErrAnd, MatchResult, map};
+ghost use Rattle.td_relation.specs.TableView.{table};
+ghost use Rattle.td_wbread.specs.Command.{CommandParts, command_at, command_from, spoken_at};
+ghost use Rattle.td_wbread.specs.Faults.{IsFaultOf, IsOrNoMemory};
+ghost use Rattle.td_wbread.specs.Views.{parts_of, spoken_of};
+ghost use Rattle.td_wbread.specs.declared.fault.CommandFault.{CommandFault};
+
+use crate::arch_reading::read_archs;
+use crate::building::{SpokenWords, make_command};
+use crate::command::Command;
+use crate::fault::CommandFault;
+use crate::option_reading::read_tail;
+use crate::package_reading::read_packages;
+use crate::scanning::read_words;
+use crate::verb_reading::read_verb;
+use crate::word::{End, Word};
+use std::alloc::Global;
+use td_relation::Archs;
+
+/// The parts of a command line.
+#[tactic(auto, unfolding(crate::specs::Command::spoken_at))]
+fn read_spoken<'w>(
+    alloc: Global,
+    archs: &Archs<'_>,
+    suites: &[&str],
+    end: End,
+    words: &'w [Word],
+) -> Result<SpokenWords<'w>, CommandFault>
+    ensures ok { IfOk result (λ s. spoken_at (table archs.now) (map (λ s. s.now) suites.now) end words.now ≡ Ok (spoken_of s)) }
+    ensures err { IfErr result (λ e. IsFaultOf (spoken_at (table archs.now) (map (λ s. s.now) suites.now) end words.now) e) }
+{
+    let (verb, words) = match read_verb(end, words) {
+        Ok(read) => read,
+        Err(fault) => return Err(fault),
+    };
+    let (packages, words) = read_packages(end, words)?;
+    let (chosen, behind) = read_archs(archs, end, words)?;
+    let options = read_tail(alloc, &verb, suites, end, behind)?;
+    Ok(SpokenWords {
+        verb,
+        packages,
+        chosen,
+        options,
+    })
+}
+
+/// The command that words are.
+fn read_from<'a>(
+    alloc: Global,
+    archs: &Archs<'a>,
+    suites: &[&str],
+    end: End,
+    words: &[Word],
+) -> Result<Command<'a>, CommandFault>
+    ensures ok { IfOk result (λ c. command_from (table archs.now) (map (λ s. s.now) suites.now) end words.now ≡ Ok (parts_of c)) }
+    ensures err { IfErr result (λ e. IsFaultOf (command_from (table archs.now) (map (λ s. s.now) suites.now) end words.now) e) }
+{
+    let spoken = match read_spoken(alloc, archs, suites, end, words) {
+        Ok(spoken) => spoken,
+        Err(fault) => return Err(fault),
+    };
+    match make_command(alloc, archs, spoken) {
+        Ok(command) => Ok(command),
+        Err(_) => Err(CommandFault::NoMemory),
+    }
+}
+
+/// Reads a command line; `suites` are the names that may stand behind the architectures.
+pub fn read_command<'a>(
+    alloc: Global,
+    line: &str,
+    archs: &Archs<'a>,
+    suites: &[&str],
+) -> Result<Command<'a>, CommandFault>
+    // What is read is the command that the line is.
+    ensures found { IfOk result (λ c. command_at (table archs.now) (map (λ s. s.now) suites.now) line.now ≡ Ok (parts_of c)) }
+    // A line that is a command is read, unless memory runs out.
+    ensures only { (p : CommandParts) → command_at (table archs.now) (map (λ s. s.now) suites.now) line.now ≡ Ok p →
+        MatchResult result (λ c. parts_of c ≡ p) (λ e. e ≡ CommandFault.NoMemory) }
+    // A fault is the line's first, or want of memory.
+    ensures fault { IfErr result (λ e. IsFaultOf (command_at (table archs.now) (map (λ s. s.now) suites.now) line.now) e) }
+    // A line with a fault is refused by the first, unless memory runs out.
+    ensures refused { (fault : CommandFault) → command_at (table archs.now) (map (λ s. s.now) suites.now) line.now ≡ Err fault →
+        IsErrAnd result (λ e. IsOrNoMemory fault e) }
+{
+    match read_words(alloc, line) {
+        Ok((words, end)) => read_from(alloc, archs, suites, end, words.as_slice()),
+        Err(_) => Err(CommandFault::NoMemory),
+    }
+}
