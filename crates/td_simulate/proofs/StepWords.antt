@@ -28,7 +28,7 @@ use Rattle.td_core.specs.declared.step.Step.TheVariants as steps
 use Rattle.td_simulate.specs.declared.verb.Verb.{Verb}
 use Rattle.td_simulate.specs.declared.verb.Verb.TheVariants.{Offer, Withdraw, Claim, Note, Undo, Finish, Settle, Release}
 use Rattle.td_simulate.specs.StepLines.{outcome_name, outcome_text, step_line, CommandFits, StepFits}
-use Rattle.td_simulate.specs.StepReading.{verb_at, builder_at, claim_at, end_of, finish_at, deed_at, commit_at, by_word, step_at, StepsAreExact}
+use Rattle.td_simulate.specs.StepReading.{verb_at, builder_at, claim_at, end_of, finish_at, by_verb, commit_at, by_word, step_at, StepsAreExact}
 
 -- the line is the step's, which can be written
 abbrev pub IsLineOf : List ℕ → Step → Type 0
@@ -207,15 +207,15 @@ finish_again b o small =
 
 -- ---- a step by its verb
 
-deed_found : (v : Verb) (rest : List ℕ) (s : Step) → deed_at v rest ≡ Some s → IsLineOf (verb_word v ++ 32 ∷ rest) s
-deed_found Offer rest s e = key_step (codes "offer") rest steps.Offer s (λ k h. (refl, h)) e
-deed_found Withdraw rest s e = key_step (codes "withdraw") rest steps.Withdraw s (λ k h. (refl, h)) e
-deed_found Claim rest s e = claim_found rest s e
-deed_found Note rest s e = key_step (codes "note") rest steps.Note s (λ k h. (refl, h)) e
-deed_found Undo rest s e = number_step (codes "undo") rest steps.Undo s (λ n h. (refl, h)) e
-deed_found Finish rest s e = finish_found rest s e
-deed_found Settle rest s e = key_step (codes "settle") rest steps.Settle s (λ k h. (refl, h)) e
-deed_found Release rest s e = number_step (codes "release") rest steps.Release s (λ n h. (refl, h)) e
+by_verb_found : (v : Verb) (rest : List ℕ) (s : Step) → by_verb v rest ≡ Some s → IsLineOf (verb_word v ++ 32 ∷ rest) s
+by_verb_found Offer rest s e = key_step (codes "offer") rest steps.Offer s (λ k h. (refl, h)) e
+by_verb_found Withdraw rest s e = key_step (codes "withdraw") rest steps.Withdraw s (λ k h. (refl, h)) e
+by_verb_found Claim rest s e = claim_found rest s e
+by_verb_found Note rest s e = key_step (codes "note") rest steps.Note s (λ k h. (refl, h)) e
+by_verb_found Undo rest s e = number_step (codes "undo") rest steps.Undo s (λ n h. (refl, h)) e
+by_verb_found Finish rest s e = finish_found rest s e
+by_verb_found Settle rest s e = key_step (codes "settle") rest steps.Settle s (λ k h. (refl, h)) e
+by_verb_found Release rest s e = number_step (codes "release") rest steps.Release s (λ n h. (refl, h)) e
 
 -- ---- commands
 
@@ -269,9 +269,9 @@ line_parts line word rest v after h1 h2 h3 = cc
 
 by_word_found : (line : List ℕ) (o : Option Verb) (s : Step) → verb_at (part 32 line).0 ≡ o → by_word o (part 32 line).0 (part 32 line).1 ≡ Some s → IsLineOf line s
 by_word_found line (Some v) s is e =
-    let a = chained (strip (codes " ") (part 32 line).1) (deed_at v) s e in
+    let a = chained (strip (codes " ") (part 32 line).1) (by_verb v) s e in
     let word = verb_found (part 32 line).0 v is in
-    subst (λ (t : List ℕ). IsLineOf t s) (line_parts line (part 32 line).0 (part 32 line).1 v a.0 (part_joined 32 line) word.0 (strip_found (codes " ") (part 32 line).1 a.0 a.1)) (deed_found v a.0 s a.2)
+    subst (λ (t : List ℕ). IsLineOf t s) (line_parts line (part 32 line).0 (part 32 line).1 v a.0 (part_joined 32 line) word.0 (strip_found (codes " ") (part 32 line).1 a.0 a.1)) (by_verb_found v a.0 s a.2)
 by_word_found line None s is e = subst (λ (t : List ℕ). IsLineOf t s) (sym (part_joined 32 line)) (commit_found (part 32 line).0 (part 32 line).1 s e)
 
 pub step_found : (line : List ℕ) (s : Step) → step_at line ≡ Some s → (line ≡ step_line s) × StepFits s

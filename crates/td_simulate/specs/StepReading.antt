@@ -56,15 +56,15 @@ finish_at rest = do
   end_of kind
 
 -- a step by its verb, and what follows the space behind that
-abbrev pub deed_at : Verb → List ℕ → Option Step
-deed_at Offer rest = key_at rest >>= λ k. Some (steps.Offer k)
-deed_at Withdraw rest = key_at rest >>= λ k. Some (steps.Withdraw k)
-deed_at Claim rest = claim_at rest
-deed_at Note rest = key_at rest >>= λ k. Some (steps.Note k)
-deed_at Undo rest = number_at (2 ^ 64 - 1) rest >>= λ n. Some (steps.Undo n)
-deed_at Finish rest = finish_at rest
-deed_at Settle rest = key_at rest >>= λ k. Some (steps.Settle k)
-deed_at Release rest = number_at (2 ^ 64 - 1) rest >>= λ b. Some (steps.Release b)
+abbrev pub by_verb : Verb → List ℕ → Option Step
+by_verb Offer rest = key_at rest >>= λ k. Some (steps.Offer k)
+by_verb Withdraw rest = key_at rest >>= λ k. Some (steps.Withdraw k)
+by_verb Claim rest = claim_at rest
+by_verb Note rest = key_at rest >>= λ k. Some (steps.Note k)
+by_verb Undo rest = number_at (2 ^ 64 - 1) rest >>= λ n. Some (steps.Undo n)
+by_verb Finish rest = finish_at rest
+by_verb Settle rest = key_at rest >>= λ k. Some (steps.Settle k)
+by_verb Release rest = number_at (2 ^ 64 - 1) rest >>= λ b. Some (steps.Release b)
 
 -- a command by its first word, and what follows that
 unfoldable pub commit_at : List ℕ → List ℕ → Option Step
@@ -76,7 +76,7 @@ commit_at word rest = do
 
 -- a step by its first word, which is a verb's or not, and what follows that
 abbrev pub by_word : Option Verb → List ℕ → List ℕ → Option Step
-by_word (Some verb) word rest = strip (codes " ") rest >>= deed_at verb
+by_word (Some verb) word rest = strip (codes " ") rest >>= by_verb verb
 by_word None word rest = commit_at word rest
 
 -- the step whose line it is

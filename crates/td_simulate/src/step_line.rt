@@ -3,7 +3,7 @@ ghost use Rattle.std.specs.Prelude.{◌≡◌, option_map, IfOk};
 ghost use Rattle.td_text.specs.Cut.{Without};
 ghost use Rattle.td_rows.specs.declared.kind.Kind.{Kind as KindValue};
 ghost use Rattle.td_rows.specs.KeyText.{key_at};
-ghost use Rattle.td_simulate.specs.StepReading.{builder_at, claim_at, finish_at, end_of, deed_at, commit_at, step_at, StepsAreExact};
+ghost use Rattle.td_simulate.specs.StepReading.{builder_at, claim_at, finish_at, end_of, by_verb, commit_at, step_at, StepsAreExact};
 
 use crate::verb::{Verb, read_verb};
 use std::alloc::{AllocError, Global};
@@ -75,9 +75,9 @@ fn read_finish(alloc: Global, text: &str) -> Result<Option<Step>, AllocError>
 }
 
 // The step of a verb, by what follows that.
-fn read_deed(alloc: Global, verb: Verb, text: &str) -> Result<Option<Step>, AllocError>
+fn read_by_verb(alloc: Global, verb: Verb, text: &str) -> Result<Option<Step>, AllocError>
     requires { Without 10 text.now }
-    ensures { IfOk result (λ step. step ≡ deed_at verb text.now) }
+    ensures { IfOk result (λ step. step ≡ by_verb verb text.now) }
 {
     match verb {
         Verb::Claim => return read_claim(alloc, text),
@@ -130,7 +130,7 @@ pub fn read_step(alloc: Global, line: &str) -> Result<Option<Step>, AllocError>
         None => read_commit(alloc, word, rest),
         Some(verb) => match strip(rest, " ") {
             None => Ok(None),
-            Some(rest) => read_deed(alloc, verb, rest),
+            Some(rest) => read_by_verb(alloc, verb, rest),
         },
     }
 }
