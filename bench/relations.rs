@@ -1,17 +1,14 @@
 //! The twin of the bench program in `bench/relations`: the same reading of relations in Rust, over
 //! std alone, into one list of alternatives and the sizes of members. Built with `rustc -O`.
-use std::io::Read;
-
 #[allow(dead_code)]
-#[derive(Clone, Copy)]
-struct Version<'a> {
-    epoch: u32,
-    upstream: &'a str,
-    revision: Option<&'a str>,
-}
+#[path = "versions.rs"]
+pub mod versions;
+
+use std::io::Read;
+use versions::{Version, is_upstream_byte};
 
 #[derive(Clone, Copy)]
-enum Operator {
+pub enum Operator {
     Earlier,
     EarlierOrEqual,
     Equal,
@@ -20,73 +17,23 @@ enum Operator {
 }
 
 #[allow(dead_code)]
-struct Alternative<'a> {
+pub struct Alternative<'a> {
     name: &'a str,
     restriction: Option<(Operator, Version<'a>)>,
     archs: Option<&'a str>,
     unprofiled: bool,
 }
 
-struct Relation<'a> {
+pub struct Relation<'a> {
     alternatives: Vec<Alternative<'a>>,
     sizes: Vec<usize>,
 }
 
-fn is_revision_byte(byte: u8) -> bool {
-    matches!(byte, b'a'..=b'z' | b'A'..=b'Z' | b'0'..=b'9' | b'.' | b'+' | b'~')
-}
-
-fn is_upstream_byte(byte: u8, has_epoch: bool) -> bool {
-    is_revision_byte(byte) || byte == b'-' || (has_epoch && byte == b':')
-}
-
-fn read_epoch(digits: &str) -> Option<u32> {
-    if digits.starts_with('+') {
-        return None;
-    }
-    digits
-        .parse::<u32>()
-        .ok()
-        .filter(|epoch| *epoch <= 2_147_483_647)
-}
-
-fn read_version(text: &str) -> Option<Version<'_>> {
-    let (epoch, rest) = match text.split_once(':') {
-        Some((digits, rest)) => (Some(digits), rest),
-        None => (None, text),
-    };
-    let (upstream, revision) = match rest.rsplit_once('-') {
-        Some((upstream, revision)) => (upstream, Some(revision)),
-        None => (rest, None),
-    };
-    let number = match epoch {
-        Some(digits) => read_epoch(digits)?,
-        None => 0,
-    };
-    if upstream.is_empty()
-        || !upstream
-            .bytes()
-            .all(|b| is_upstream_byte(b, epoch.is_some()))
-    {
-        return None;
-    }
-    if let Some(revision) = revision {
-        if revision.is_empty() || !revision.bytes().all(is_revision_byte) {
-            return None;
-        }
-    }
-    Some(Version {
-        epoch: number,
-        upstream,
-        revision,
-    })
-}
-
-fn is_space(byte: u8) -> bool {
+pub fn is_space(byte: u8) -> bool {
     byte == b' ' || byte == b'\t' || byte == b'\n'
 }
 
-fn run(text: &str, test: impl Fn(u8) -> bool) -> (&str, &str) {
+pub fn run(text: &str, test: impl Fn(u8) -> bool) -> (&str, &str) {
     text.split_at(text.bytes().take_while(|b| test(*b)).count())
 }
 
@@ -98,7 +45,7 @@ fn is_arch_byte(byte: u8) -> bool {
     matches!(byte, b'a'..=b'z' | b'0'..=b'9' | b'-')
 }
 
-fn is_name_byte(byte: u8) -> bool {
+pub fn is_name_byte(byte: u8) -> bool {
     is_arch_byte(byte) || byte == b'+' || byte == b'.'
 }
 
@@ -111,7 +58,7 @@ fn begins(text: &str, marks: &[u8]) -> bool {
     text.is_empty() || marks.contains(&text.as_bytes()[0])
 }
 
-fn words(list: &str) -> impl Iterator<Item = &[u8]> {
+pub fn words(list: &str) -> impl Iterator<Item = &[u8]> {
     list.as_bytes()
         .split(|b| is_space(*b))
         .filter(|word| !word.is_empty())
@@ -166,7 +113,7 @@ fn read_restriction(text: &str) -> Option<(Option<(Operator, Version<'_>)>, &str
         _ => return None,
     };
     let (version, rest) = run(trimmed(rest), |b| is_upstream_byte(b, true));
-    let version = read_version(version)?;
+    let version = versions::read(version)?;
     let rest = trimmed(trimmed(rest).strip_prefix(')')?);
     begins(rest, b"[<").then_some((Some((operator, version)), rest))
 }
@@ -203,7 +150,7 @@ fn read_alternative(text: &str) -> Option<Alternative<'_>> {
     })
 }
 
-fn read(text: &str) -> Option<Relation<'_>> {
+pub fn read(text: &str) -> Option<Relation<'_>> {
     let mut relation = Relation {
         alternatives: Vec::new(),
         sizes: Vec::new(),

@@ -1,14 +1,15 @@
-// The twin of `crates/read_stanzas`: the same design, over Rust's std alone.
+//! The twin of the bench program in `bench/stanzas`: the same reading of control files in Rust, over
+//! std alone. Built with `rustc -O`.
 use std::time::Instant;
 
-struct Field<'a> {
-    name: &'a str,
-    value: &'a str,
+pub struct Field<'a> {
+    pub name: &'a str,
+    pub value: &'a str,
 }
 
-struct StanzaList<'a> {
-    fields: Vec<Field<'a>>,
-    starts: Vec<usize>,
+pub struct StanzaList<'a> {
+    pub fields: Vec<Field<'a>>,
+    pub starts: Vec<usize>,
 }
 
 fn is_blank_byte(b: u8) -> bool {
@@ -64,7 +65,7 @@ fn take_field<'a>(here: &'a str, name: &'a str, after: Option<&'a str>) -> (Fiel
 }
 
 #[derive(Debug)]
-enum Fault {
+pub enum Fault {
     BadName(usize),
     NoColon(usize),
     ContinuationFirst(usize),
@@ -95,7 +96,7 @@ fn name_at<'a>(text: &str, here: &str, line: &'a str, fields: &[Field]) -> Resul
     Ok(name)
 }
 
-fn stanzas(text: &str) -> Result<StanzaList<'_>, Fault> {
+pub fn stanzas(text: &str) -> Result<StanzaList<'_>, Fault> {
     let mut list = StanzaList { fields: Vec::new(), starts: Vec::new() };
     let mut first = 0;
     let mut rest = Some(text);
@@ -117,7 +118,7 @@ fn stanzas(text: &str) -> Result<StanzaList<'_>, Fault> {
     Ok(list)
 }
 
-fn stanza<'s, 'a>(list: &'s StanzaList<'a>, number: usize) -> &'s [Field<'a>] {
+pub fn stanza<'s, 'a>(list: &'s StanzaList<'a>, number: usize) -> &'s [Field<'a>] {
     let end = list.starts.get(number + 1).copied().unwrap_or(list.fields.len());
     &list.fields[list.starts[number]..end]
 }

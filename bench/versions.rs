@@ -4,17 +4,17 @@ use std::cmp::Ordering;
 use std::io::Read;
 
 #[derive(Clone, Copy)]
-struct Version<'a> {
-    epoch: u32,
-    upstream: &'a str,
+pub struct Version<'a> {
+    pub epoch: u32,
+    pub upstream: &'a str,
     revision: Option<&'a str>,
 }
 
-fn is_revision_byte(byte: u8) -> bool {
+pub fn is_revision_byte(byte: u8) -> bool {
     matches!(byte, b'a'..=b'z' | b'A'..=b'Z' | b'0'..=b'9' | b'.' | b'+' | b'~')
 }
 
-fn is_upstream_byte(byte: u8, has_epoch: bool) -> bool {
+pub fn is_upstream_byte(byte: u8, has_epoch: bool) -> bool {
     is_revision_byte(byte) || byte == b'-' || (has_epoch && byte == b':')
 }
 
@@ -28,7 +28,7 @@ fn read_epoch(digits: &str) -> Option<u32> {
         .filter(|epoch| *epoch <= 2_147_483_647)
 }
 
-fn read(text: &str) -> Option<Version<'_>> {
+pub fn read(text: &str) -> Option<Version<'_>> {
     let (epoch, rest) = match text.split_once(':') {
         Some((digits, rest)) => (Some(digits), rest),
         None => (None, text),
@@ -120,7 +120,7 @@ fn cmp_part(a: &str, b: &str) -> Ordering {
     Ordering::Equal
 }
 
-fn cmp_version(a: &Version, b: &Version) -> Ordering {
+pub fn cmp_version(a: &Version, b: &Version) -> Ordering {
     a.epoch
         .cmp(&b.epoch)
         .then_with(|| cmp_part(a.upstream, b.upstream))
