@@ -3,7 +3,7 @@ ghost use Rattle.std.specs.Str.{bytes_eq};
 
 use crate::arch::Arch;
 use crate::arch_reading;
-use std::alloc::Global;
+use std::alloc::{AllocError, Global};
 use thiserror::Error;
 
 /// The most architectures that a table has.
@@ -52,6 +52,14 @@ impl<'a> Archs<'a> {
         ensures fault { IfErr result (FaultOf (lines_of text.now)) }
     {
         let list = arch_reading::read_list(alloc, text)?;
+        Ok(Archs { list })
+    }
+
+    /// A copy, in memory of its own; its names are slices of the same text.
+    pub fn copy(&self) -> Result<Archs<'a>, AllocError>
+        ensures { IfOk result (λ archs. table archs ≡ table self.now) }
+    {
+        let list = self.list.as_slice().to_vec(*self.list.allocator())?;
         Ok(Archs { list })
     }
 
