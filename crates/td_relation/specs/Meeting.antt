@@ -36,6 +36,10 @@ is_on place (Some arch) = arch == place
 abbrev pub is_there : ℕ → Offered → Bool
 is_there place offer = is_on place offer.arch
 
+-- an offer that is on the architecture at this place and satisfies what is asked
+abbrev pub suits : ℕ → Option Bound → Offered → Bool
+suits place bound offer = is_there place offer && satisfies bound offer.version
+
 -- an architecture list that counts, or none (Policy 7.1)
 abbrev pub is_for : ArchWords → Option (List (List ℕ)) → Bool
 is_for a None = true
@@ -45,9 +49,9 @@ is_for a (Some list) = counts a list
 abbrev pub active : ArchWords → Asked → Bool
 active a alternative = alternative.unprofiled && is_for a alternative.archs
 
--- an alternative is met by some offer of its name that is on the architecture and satisfies its restriction
+-- an alternative is met by some offer of its name that suits
 abbrev pub alternative_met : (List ℕ → List Offered) → ℕ → Asked → Bool
-alternative_met offers place alternative = list_any (λ o. is_there place o && satisfies alternative.restriction o.version) (offers alternative.name)
+alternative_met offers place alternative = list_any (λ o. suits place alternative.restriction o) (offers alternative.name)
 
 -- a member that has an active alternative has an active one that is met
 abbrev pub member_met : (List ℕ → List Offered) → ℕ → ArchWords → List Asked → Bool

@@ -1,8 +1,9 @@
 //! Architectures, and what a Build-Depends line asks of what is on offer: the table of
 //! architectures, relations after Debian Policy 7.1 with build profiles, and offers.
 //!
-//! Start at `Relation::read` and `met_by`; `Archs::read` reads the table that they ask for. All of
-//! them hold slices of the texts, and nothing but reading and `Offers::push` takes memory.
+//! Start at `Relation::read` and `met_by`; `Archs::read` reads the table that they ask for. What is
+//! on offer is any `Offering`; `Offers` is one. All of them hold slices of the texts, and nothing
+//! but reading, `Offers::push` and `Archs::copy` takes memory.
 //! Promised: a table is read exactly where it is one, a relation exactly as `specs/RelationGrammar`
 //! says, else the first fault is named; what is written as `specs/RelationWriting` says is read
 //! again; and a relation is met as `specs/Meeting` says.
@@ -15,18 +16,21 @@ mod arch_reading;
 mod archs;
 mod laws;
 mod meeting;
+mod offering;
 mod offers;
 mod profile_reading;
 mod relation;
 mod relation_fault;
 mod relation_reading;
 mod runs;
+mod suiting;
 #[cfg(test)]
 mod tests;
 
 pub use arch::Arch;
 pub use archs::{Archs, ArchsFault, MAX_ARCHS};
 pub use laws::{relations_ask_for_what_they_name, written_relations_are_read_again};
+pub use offering::Offering;
 pub use offers::{Offer, Offers};
 pub use relation::{Alternative, Operator, Relation, Restriction};
 pub use relation_fault::RelationFault;

@@ -1,52 +1,15 @@
-ghost use Rattle.std.specs.Prelude.{◌≡◌, ◌≤◌, ◌+◌, ◌&&◌, drop, length, map, option_map, take};
+ghost use Rattle.std.specs.Prelude.{◌≡◌, ◌≤◌, ◌+◌, ◌&&◌, drop, length, map, take};
 ghost use Rattle.std.specs.List.{list_all, list_any};
 ghost use Rattle.std.specs.Str.{bytes_eq};
 ghost use Rattle.td_relation.specs.Arch.{words_of};
-ghost use Rattle.td_relation.specs.Asked.{asked, restriction_of};
-ghost use Rattle.td_relation.specs.Meeting.{accepts as accepts_of, active as active_of, alternative_met, member_met, is_there as is_there_of, satisfies as satisfies_of};
+ghost use Rattle.td_relation.specs.Asked.{asked};
+ghost use Rattle.td_relation.specs.Meeting.{active as active_of, alternative_met, member_met};
 ghost use Rattle.td_relation.specs.Members.{chunked};
-ghost use Rattle.td_relation.specs.Offers.{offered, offers_of};
 
 use crate::arch::Arch;
 use crate::arch_list::counts;
-use crate::offers::{Offer, Offers};
-use crate::relation::{Alternative, Operator, Restriction};
-use std::cmp::Ordering;
-use td_version::{Version, cmp_version};
-
-fn accepts(operator: Operator, order: Ordering) -> bool
-    ensures { result ≡ accepts_of operator order }
-{
-    match operator {
-        Operator::Earlier => order.is_lt(),
-        Operator::EarlierOrEqual => order.is_le(),
-        Operator::Equal => order.is_eq(),
-        Operator::LaterOrEqual => order.is_ge(),
-        Operator::Later => order.is_gt(),
-    }
-}
-
-/// Whether a version is such as is asked. No version satisfies only no restriction.
-fn satisfies(restriction: &Option<Restriction<'_>>, version: &Option<Version<'_>>) -> bool
-    ensures { result ≡ satisfies_of (option_map restriction_of restriction.now) (offered (record { version = version.now; arch = None })).version }
-{
-    match restriction {
-        None => true,
-        Some(asked) => match version {
-            None => false,
-            Some(version) => accepts(asked.operator, cmp_version(version, &asked.version)),
-        },
-    }
-}
-
-fn is_there(place: usize, offer: &Offer<'_>) -> bool
-    ensures { result ≡ is_there_of place (offered offer.now) }
-{
-    match offer.arch {
-        None => true,
-        Some(arch) => arch == place,
-    }
-}
+use crate::offering::Offering;
+use crate::relation::Alternative;
 
 /// Whether an alternative counts on an architecture, where no build profile is active.
 fn is_active(alternative: &Alternative<'_>, arch: &Arch<'_>) -> bool
@@ -59,29 +22,20 @@ fn is_active(alternative: &Alternative<'_>, arch: &Arch<'_>) -> bool
         }
 }
 
-fn is_offered(alternative: &Alternative<'_>, offers: &[Offer<'_>], place: usize) -> bool
-    ensures { result ≡ list_any (λ o. is_there_of place (offered o) && satisfies_of (asked alternative.now).restriction (offered o).version) offers.now }
+fn is_met<O: Offering>(alternative: &Alternative<'_>, offers: &O, place: usize) -> bool
+    ensures { result ≡ alternative_met (O.on_offer offers.now) place (asked alternative.now) }
 {
-    offers.iter().any(|o| is_there(place, o) && satisfies(&alternative.restriction, &o.version))
-}
-
-fn is_met(alternative: &Alternative<'_>, offers: &Offers<'_>, place: usize) -> bool
-    ensures { result ≡ alternative_met (offers_of offers.now) place (asked alternative.now) }
-{
-    match offers.named(alternative.name) {
-        Some(list) => is_offered(alternative, list, place),
-        None => false,
-    }
+    offers.has(alternative.name, place, &alternative.restriction)
 }
 
 /// Whether a member with an active alternative has an active one that is met.
-pub fn is_member_met(
+pub fn is_member_met<O: Offering>(
     member: &[Alternative<'_>],
-    offers: &Offers<'_>,
+    offers: &O,
     arch: &Arch<'_>,
     place: usize,
 ) -> bool
-    ensures { result ≡ member_met (offers_of offers.now) place (words_of arch.now) (map asked member.now) }
+    ensures { result ≡ member_met (O.on_offer offers.now) place (words_of arch.now) (map asked member.now) }
 {
     let active = has_active(member, arch);
     let met = has_met(member, offers, arch, place);
@@ -94,8 +48,13 @@ fn has_active(member: &[Alternative<'_>], arch: &Arch<'_>) -> bool
     member.iter().any(|a| is_active(a, arch))
 }
 
-fn has_met(member: &[Alternative<'_>], offers: &Offers<'_>, arch: &Arch<'_>, place: usize) -> bool
-    ensures { result ≡ list_any (λ a. active_of (words_of arch.now) (asked a) && alternative_met (offers_of offers.now) place (asked a)) member.now }
+fn has_met<O: Offering>(
+    member: &[Alternative<'_>],
+    offers: &O,
+    arch: &Arch<'_>,
+    place: usize,
+) -> bool
+    ensures { result ≡ list_any (λ a. active_of (words_of arch.now) (asked a) && alternative_met (O.on_offer offers.now) place (asked a)) member.now }
 {
     member
         .iter()
@@ -124,14 +83,14 @@ fn member_at<'b, 'a>(
 }
 
 /// Whether each member is met; the members have these sizes.
-pub fn are_met(
+pub fn are_met<O: Offering>(
     alternatives: &[Alternative<'_>],
     sizes: &[usize],
-    offers: &Offers<'_>,
+    offers: &O,
     arch: &Arch<'_>,
     place: usize,
 ) -> bool
-    ensures { result ≡ list_all (λ m. member_met (offers_of offers.now) place (words_of arch.now) (map asked m)) (chunked sizes.now alternatives.now) }
+    ensures { result ≡ list_all (λ m. member_met (O.on_offer offers.now) place (words_of arch.now) (map asked m)) (chunked sizes.now alternatives.now) }
 {
     let mut from = 0;
     for size in sizes {

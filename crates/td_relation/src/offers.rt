@@ -1,3 +1,5 @@
+use crate::relation::Restriction;
+use crate::suiting::{is_there, satisfies};
 use std::alloc::{AllocError, Global};
 use std::collections::HashMap;
 use td_version::Version;
@@ -14,6 +16,20 @@ pub struct Offer<'a> {
 #[derive(Debug, Drop)]
 pub struct Offers<'a> {
     by_name: HashMap<&'a str, Vec<Offer<'a>>>,
+}
+
+impl<'a> Offer<'a> {
+    ghost use Rattle.std.specs.Prelude.{◌≡◌, option_map};
+    ghost use Rattle.td_relation.specs.Asked.{restriction_of};
+    ghost use Rattle.td_relation.specs.Meeting.{suits as suits_of};
+    ghost use Rattle.td_relation.specs.Offers.{offered};
+
+    /// Whether it is on the architecture at this place or on `all`, and is such as is asked.
+    pub fn suits(&self, place: usize, restriction: &Option<Restriction<'_>>) -> bool
+        ensures { result ≡ suits_of place (option_map restriction_of restriction.now) (offered self.now) }
+    {
+        is_there(place, self) && satisfies(restriction, &self.version)
+    }
 }
 
 impl<'a> Offers<'a> {

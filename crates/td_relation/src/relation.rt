@@ -1,7 +1,7 @@
 use crate::arch::Arch;
 use crate::archs::Archs;
 use crate::meeting::{are_asked, are_met};
-use crate::offers::Offers;
+use crate::offering::Offering;
 use crate::relation_fault::RelationFault;
 use crate::relation_reading::read_relation;
 use std::alloc::Global;
@@ -56,7 +56,6 @@ impl<'a> Relation<'a> {
     ghost use Rattle.td_relation.specs.RelationViews.{IsFaultOf};
     ghost use Rattle.td_relation.specs.Meeting.{met, names as names_of};
     ghost use Rattle.td_relation.specs.Members.{members};
-    ghost use Rattle.td_relation.specs.Offers.{offers_of};
     ghost use Rattle.td_relation.specs.TableView.{table};
     ghost use Rattle.td_relation.specs.Arch.{words_of};
 
@@ -73,10 +72,10 @@ impl<'a> Relation<'a> {
         read_relation(alloc, text)
     }
 
-    /// Whether the offers meet it on the architecture at this place of the table.
-    pub fn met_by(&self, offers: &Offers<'_>, archs: &Archs<'_>, arch: usize) -> bool
+    /// Whether what is on offer meets it on the architecture at this place of the table.
+    pub fn met_by<O: Offering>(&self, offers: &O, archs: &Archs<'_>, arch: usize) -> bool
         requires { arch < length (table archs.now) }
-        ensures { option_map (λ a. met (offers_of offers.now) arch a (members self.now)) (slice_get (table archs.now) arch) ≡ Some result }
+        ensures { option_map (λ a. met (O.on_offer offers.now) arch a (members self.now)) (slice_get (table archs.now) arch) ≡ Some result }
     {
         self.is_met(offers, archs.at(arch), arch)
     }
@@ -89,8 +88,8 @@ impl<'a> Relation<'a> {
         self.is_named(archs.at(arch), name)
     }
 
-    fn is_met(&self, offers: &Offers<'_>, arch: Arch<'_>, place: usize) -> bool
-        ensures { result ≡ met (offers_of offers.now) place (words_of arch.entry) (members self.now) }
+    fn is_met<O: Offering>(&self, offers: &O, arch: Arch<'_>, place: usize) -> bool
+        ensures { result ≡ met (O.on_offer offers.now) place (words_of arch.entry) (members self.now) }
     {
         are_met(
             self.alternatives.as_slice(),

@@ -5,12 +5,11 @@ use Rattle.td_relation.specs.Arch.{words_of}
 use Rattle.td_relation.specs.Asked.{asked}
 use Rattle.td_relation.specs.Meeting.{member_met}
 use Rattle.td_relation.specs.Members.{chunked}
-use Rattle.td_relation.specs.Offers.{offers_of}
 use Rattle.td_relation.proofs.meeting.are_met.Given as goal
 
 -- the members that are left decide
 abbrev pub invariant-loop-size : goal.invariant-loop-size
-invariant-loop-size l = record {
-  decides : list_all (λ (m : List Alternative). member_met (offers_of l.fn.offers) l.fn.place (words_of l.fn.arch) (map asked m)) (chunked (drop l.size-index l.sizes) (drop l.from l.alternatives)) ≡ list_all (λ (m : List Alternative). member_met (offers_of l.fn.offers) l.fn.place (words_of l.fn.arch) (map asked m)) (chunked l.sizes l.alternatives);
+invariant-loop-size g l = record {
+  decides : list_all (λ (m : List Alternative). member_met (g.O.Offering.on_offer l.fn.offers) l.fn.place (words_of l.fn.arch) (map asked m)) (chunked (drop l.size-index l.sizes) (drop l.from l.alternatives)) ≡ list_all (λ (m : List Alternative). member_met (g.O.Offering.on_offer l.fn.offers) l.fn.place (words_of l.fn.arch) (map asked m)) (chunked l.sizes l.alternatives);
   within : l.from ≤ length l.alternatives;
 }
