@@ -7,6 +7,7 @@ pub mod TableFile
 pub mod ArchList
 pub mod Asked
 pub mod Members
+pub mod MembersLeft
 pub mod Meeting
 pub mod Offers
 pub mod Runs

@@ -2,8 +2,9 @@
 //! architectures, relations after Debian Policy 7.1 with build profiles, and offers.
 //!
 //! Start at `Relation::read` and `met_by`; `Archs::read` reads the table that they ask for. What is
-//! on offer is any `Offering`; `Offers` is one. All of them hold slices of the texts, and nothing
-//! but reading, `Offers::push` and `Archs::copy` takes memory.
+//! on offer is any `Offering`; `Offers` is one. `Relation::members` goes through what a relation
+//! asks. All of them hold slices of the texts, and nothing but reading, `Offers::push` and
+//! `Archs::copy` takes memory.
 //! Promised: a table is read exactly where it is one, a relation exactly as `specs/RelationGrammar`
 //! says, else the first fault is named; what is written as `specs/RelationWriting` says is read
 //! again; and a relation is met as `specs/Meeting` says.
@@ -16,6 +17,7 @@ mod arch_reading;
 mod archs;
 mod laws;
 mod meeting;
+mod members;
 mod offering;
 mod offers;
 mod profile_reading;
@@ -30,6 +32,7 @@ mod tests;
 pub use arch::Arch;
 pub use archs::{Archs, ArchsFault, MAX_ARCHS};
 pub use laws::{relations_ask_for_what_they_name, written_relations_are_read_again};
+pub use members::Members;
 pub use offering::Offering;
 pub use offers::{Offer, Offers};
 pub use relation::{Alternative, Operator, Relation, Restriction};

@@ -1,6 +1,7 @@
 use crate::arch::Arch;
 use crate::archs::Archs;
 use crate::meeting::{are_asked, are_met};
+use crate::members::Members;
 use crate::offering::Offering;
 use crate::relation_fault::RelationFault;
 use crate::relation_reading::read_relation;
@@ -55,7 +56,8 @@ impl<'a> Relation<'a> {
     ghost use Rattle.td_relation.specs.RelationGrammar.{relation_at};
     ghost use Rattle.td_relation.specs.RelationViews.{IsFaultOf};
     ghost use Rattle.td_relation.specs.Meeting.{met, names as names_of};
-    ghost use Rattle.td_relation.specs.Members.{members};
+    ghost use Rattle.td_relation.specs.Members.{members as members_of};
+    ghost use Rattle.td_relation.specs.MembersLeft.{members_left};
     ghost use Rattle.td_relation.specs.TableView.{table};
     ghost use Rattle.td_relation.specs.Arch.{words_of};
 
@@ -63,19 +65,29 @@ impl<'a> Relation<'a> {
     /// alone is skipped. The first fault from the left decides.
     pub fn read(alloc: Global, text: &'a str) -> Result<Relation<'a>, RelationFault>
         // What is read is what the text asks.
-        ensures found { IfOk result (λ r. relation_at text.now ≡ Ok (members r)) }
+        ensures found { IfOk result (λ r. relation_at text.now ≡ Ok (members_of r)) }
         // A relation is read, unless memory runs out.
-        ensures only { (ms : List (List Asked)) → relation_at text.now ≡ Ok ms → MatchResult result (λ r. members r ≡ ms) (λ e. e ≡ RelationFault.NoMemory) }
+        ensures only { (ms : List (List Asked)) → relation_at text.now ≡ Ok ms → MatchResult result (λ r. members_of r ≡ ms) (λ e. e ≡ RelationFault.NoMemory) }
         // A fault is the text's, or want of memory.
         ensures fault { IfErr result (λ e. IsFaultOf (relation_at text.now) e) }
     {
         read_relation(alloc, text)
     }
 
+    /// The members, each as its alternatives.
+    pub fn members(&self) -> Members<'_, 'a>
+        ensures { members_left result ≡ members_of self.now }
+    {
+        Members {
+            alternatives: self.alternatives.as_slice(),
+            sizes: self.sizes.as_slice(),
+        }
+    }
+
     /// Whether what is on offer meets it on the architecture at this place of the table.
     pub fn met_by<O: Offering>(&self, offers: &O, archs: &Archs<'_>, arch: usize) -> bool
         requires { arch < length (table archs.now) }
-        ensures { option_map (λ a. met (O.on_offer offers.now) arch a (members self.now)) (slice_get (table archs.now) arch) ≡ Some result }
+        ensures { option_map (λ a. met (O.on_offer offers.now) arch a (members_of self.now)) (slice_get (table archs.now) arch) ≡ Some result }
     {
         self.is_met(offers, archs.at(arch), arch)
     }
@@ -83,13 +95,13 @@ impl<'a> Relation<'a> {
     /// Whether some alternative that is active on the architecture at this place has the name.
     pub fn names(&self, archs: &Archs<'_>, arch: usize, name: &str) -> bool
         requires { arch < length (table archs.now) }
-        ensures { option_map (λ a. names_of a name.now (members self.now)) (slice_get (table archs.now) arch) ≡ Some result }
+        ensures { option_map (λ a. names_of a name.now (members_of self.now)) (slice_get (table archs.now) arch) ≡ Some result }
     {
         self.is_named(archs.at(arch), name)
     }
 
     fn is_met<O: Offering>(&self, offers: &O, arch: Arch<'_>, place: usize) -> bool
-        ensures { result ≡ met (O.on_offer offers.now) place (words_of arch.entry) (members self.now) }
+        ensures { result ≡ met (O.on_offer offers.now) place (words_of arch.entry) (members_of self.now) }
     {
         are_met(
             self.alternatives.as_slice(),
@@ -101,7 +113,7 @@ impl<'a> Relation<'a> {
     }
 
     fn is_named(&self, arch: Arch<'_>, name: &str) -> bool
-        ensures { result ≡ names_of (words_of arch.entry) name.now (members self.now) }
+        ensures { result ≡ names_of (words_of arch.entry) name.now (members_of self.now) }
     {
         are_asked(
             self.alternatives.as_slice(),

@@ -1,4 +1,11 @@
-use crate::{Archs, ArchsFault, MAX_ARCHS, Offers, Relation, RelationFault};
+ghost use Rattle.std.specs.Prelude.{List, [], ◌∷◌, if◌then◌else◌};
+ghost use Rattle.std.specs.Str.{bytes_eq};
+ghost use Rattle.td_relation.specs.Offers.{offered};
+
+use crate::{
+    Alternative, Archs, ArchsFault, MAX_ARCHS, Offer, Offering, Offers, Relation, RelationFault,
+    Restriction,
+};
 use std::alloc::{AllocError, Global};
 use std::test::Fail;
 use td_version::Version;
@@ -171,6 +178,56 @@ fn the_first_fault_from_the_left_is_named(rt: HostRuntime) -> Result<(), Fail> {
     Ok(())
 }
 
+/// One offer, and nothing else.
+#[derive(Clone, Copy)]
+struct Sole<'a> {
+    name: &'a str,
+    offer: Offer<'a>,
+}
+
+impl<'a> Offering for Sole<'a> {
+    ghost on_offer = { λ s q. if bytes_eq q s.name.now then offered s.offer ∷ [] else [] };
+
+    fn has(&self, name: &str, place: usize, restriction: &Option<Restriction<'_>>) -> bool {
+        name == self.name && self.offer.suits(place, restriction)
+    }
+}
+
+// Policy 7.1 and 7.5, as for the offers of the worked example.
+#[test]
+fn another_type_is_asked_what_it_offers(rt: HostRuntime) -> Result<(), Fail> {
+    let alloc = rt.alloc();
+    let archs = Archs::read(alloc, TABLE)?;
+    let version = Some(Version::read("1.2")?);
+    let arch = None;
+    let sole = Sole {
+        name: "foo",
+        offer: Offer { version, arch },
+    };
+    let relation = Relation::read(alloc, "foo (>= 1) | bar, foo (<< 2)")?;
+    assert!(rt; archs.len() == 3);
+    assert!(rt; relation.met_by(&sole, &archs, 0));
+    let relation = Relation::read(alloc, "foo (>= 1), bar")?;
+    assert!(rt; !relation.met_by(&sole, &archs, 0));
+    Ok(())
+}
+
+fn first_name<'a>(member: Option<&[Alternative<'a>]>) -> Option<&'a str> {
+    Some(member?.first()?.name)
+}
+
+// Policy 7.1: commas between members, bars between alternatives.
+#[test]
+fn a_relation_is_gone_through_member_by_member(rt: HostRuntime) -> Result<(), Fail> {
+    let relation = Relation::read(rt.alloc(), "foo (= 1) | bar, , baz")?;
+    let mut members = relation.members();
+    assert_eq!(rt; members.count(), 2);
+    assert_eq!(rt; first_name(members.next()), Some("foo"));
+    assert_eq!(rt; first_name(members.next()), Some("baz"));
+    assert!(rt; members.next().is_none());
+    Ok(())
+}
+
 #[test]
 fn a_relation_names_what_is_active_there(rt: HostRuntime) -> Result<(), Fail> {
     let alloc = rt.alloc();
@@ -188,7 +245,7 @@ fn a_relation_names_what_is_active_there(rt: HostRuntime) -> Result<(), Fail> {
 #[test]
 fn a_table_names_its_architectures_and_their_wildcards(rt: HostRuntime) -> Result<(), Fail> {
     let alloc = rt.alloc();
-    let archs = Archs::read(alloc, TABLE)?;
+    let archs = Archs::read(alloc, TABLE)?.copy()?;
     assert!(rt; archs.len() == 3);
     assert_eq!(rt; archs.name(2), "kfreebsd-amd64");
     assert_eq!(rt; archs.index("i386"), Some(1));
