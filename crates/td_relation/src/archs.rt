@@ -1,5 +1,7 @@
-ghost use Rattle.std.specs.Prelude.{◌≡◌, ◌≤◌, length, position};
+ghost use Rattle.std.specs.Prelude.{◌≡◌, ◌≤◌, true, length, position};
+ghost use Rattle.std.specs.List.{list_all};
 ghost use Rattle.std.specs.Str.{bytes_eq};
+ghost use Rattle.td_text.specs.Words.{is_arch};
 
 use crate::arch::Arch;
 use crate::arch_reading;
@@ -14,6 +16,7 @@ pub const MAX_ARCHS: usize = 32;
 pub struct Archs<'a> {
     list: Vec<Arch<'a>>,
     ghost few: { length list.items ≤ 32 },
+    ghost named: { list_all (λ a. is_arch a.name.now) list.items ≡ true },
 }
 
 /// Why a text isn't a table of architectures: the first fault. Lines count from 1.
@@ -73,7 +76,8 @@ impl<'a> Archs<'a> {
 
     pub(crate) fn at(&self, i: usize) -> Arch<'a>
         requires { i < length (table self.now) }
-        ensures { slice_get (table self.now) i ≡ Some (words_of result) }
+        ensures found { slice_get (table self.now) i ≡ Some (words_of result) }
+        ensures named { is_arch result.name.now ≡ true }
     {
         self.list[i]
     }
@@ -81,7 +85,8 @@ impl<'a> Archs<'a> {
     /// The name of the architecture at a place.
     pub fn name(&self, i: usize) -> &'a str
         requires { i < length (table self.now) }
-        ensures { option_map (λ a. a.name) (slice_get (table self.now) i) ≡ Some result.now }
+        ensures name { option_map (λ a. a.name) (slice_get (table self.now) i) ≡ Some result.now }
+        ensures legal { is_arch result.now ≡ true }
     {
         self.at(i).name
     }

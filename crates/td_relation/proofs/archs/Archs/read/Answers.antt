@@ -1,7 +1,11 @@
-use Rattle.std.proofs.Common.{map}
+use Rattle.std.proofs.Common.{◌≡◌, true, List, [], ◌∷◌, map, refl}
+use Rattle.std.specs.List.{list_all, AllByRecursion}
+use Rattle.std.proofs.lemmas.Bool.{and_parts, and_from}
 use Rattle.std.proofs.lemmas.Result.{err_from_is_err_and}
 use Rattle.td_text.specs.Lines.{lines_of}
-use Rattle.td_relation.specs.Arch.{words_of}
+use Rattle.td_text.specs.Words.{is_arch}
+use Rattle.td_relation.specs.Arch.{ArchFits, words_of}
+use Rattle.td_relation.specs.declared.arch.Arch.{Arch}
 use Rattle.td_relation.proofs.ArchTexts.{IsTable-read, IsTable-one, IsTable-fails, FaultOf-read}
 use Rattle.td_relation.proofs.archs.Archs.read.Goals as goal
 
@@ -20,3 +24,11 @@ returns-clause-found c = IsTable-read (lines_of c.args.text.now) (map words_of c
 
 pub returns-clause-only : goal.returns-clause-only
 returns-clause-only c = λ t is. IsTable-one (lines_of c.args.text.now) (map words_of c.in_ok-list.list.items) t c.in_ok-list.ensures.ok is
+
+-- the names of architectures that fit are legal
+legal : (list : List Arch) → AllByRecursion ArchFits (map words_of list) → list_all (λ (a : Arch). is_arch a.name.now) list ≡ true
+legal [] fits = refl
+legal (a ∷ list) fits = and_from (is_arch a.name.now) (list_all (λ (b : Arch). is_arch b.name.now) list) (and_parts (is_arch a.name.now) _ fits.0.name).0 (legal list fits.1)
+
+pub invariant_of-result-clause-named : goal.invariant_of-result-clause-named
+invariant_of-result-clause-named c = legal c.in_ok-list.list.items (IsTable-read (lines_of c.args.text.now) (map words_of c.in_ok-list.list.items) c.in_ok-list.ensures.ok).fits
