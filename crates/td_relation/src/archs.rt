@@ -36,13 +36,22 @@ pub enum ArchsFault {
 }
 
 impl<'a> Archs<'a> {
-    ghost use Rattle.std.specs.Prelude.{◌≡◌, ◌<◌, ◌≤◌, ◌^◌, List, IfOk, IfErr, MatchResult, length, map, option_map, slice_get, Some, Ok};
+    ghost use Rattle.std.specs.Prelude.{◌≡◌, ◌<◌, ◌≤◌, ◌^◌, List, [], IfOk, IfErr, MatchResult, length, map, option_map, slice_get, Some, Ok};
     ghost use Rattle.td_relation.specs.Arch.{words_of, matches as matches_of, ArchWords};
     ghost use Rattle.td_relation.specs.Table.{place_of};
     ghost use Rattle.td_relation.specs.TableView.{table};
     ghost use Rattle.td_relation.specs.TableFile.{IsTable, FaultOf};
     ghost use Rattle.td_relation.specs.declared.archs.ArchsFault.{ArchsFault};
     ghost use Rattle.td_text.specs.Lines.{lines_of};
+
+    /// A table without architectures. It takes no memory.
+    pub fn empty(alloc: Global) -> Archs<'a>
+        ensures { table result ≡ [] }
+    {
+        Archs {
+            list: Vec::new(alloc),
+        }
+    }
 
     /// Reads lines `NAME OS CPU`; empty lines and lines that begin with `#` are skipped. The first
     /// fault decides, and a name too many comes before the faults of later lines.
