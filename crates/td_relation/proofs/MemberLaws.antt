@@ -64,6 +64,11 @@ chunked_at sizes i from xs member within is =
     ∙ ap (λ m. m ∷ chunked (drop (i + 1) sizes) (drop n (drop from xs))) (sym is)
     ∙ ap (λ ys. member ∷ chunked (drop (i + 1) sizes) ys) (sym behind)
 
+-- there are as many pieces as lengths
+pub length-chunked : {A : Type 0} (sizes : List ℕ) (xs : List A) → length (chunked sizes xs) ≡ length sizes
+length-chunked [] xs = refl
+length-chunked (n ∷ sizes) xs = ap suc (length-chunked sizes (drop n xs))
+
 -- a list of pieces that begins with this one
 pub all_next : {A : Type 0} (test : List A → Bool) (whole rest : List (List A)) (member : List A) (more : List (List A)) (b : Bool) → list_all test rest ≡ list_all test whole → rest ≡ member ∷ more → b ≡ test member → (b && list_all test more) ≡ list_all test whole
 all_next test whole rest member more b h is tested = ap (λ (a : Bool). a && list_all test more) tested ∙ sym (ap (list_all test) is) ∙ h

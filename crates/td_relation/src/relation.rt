@@ -49,7 +49,7 @@ pub struct Relation<'a> {
 }
 
 impl<'a> Relation<'a> {
-    ghost use Rattle.std.specs.Prelude.{◌≡◌, ◌<◌, length, option_map, slice_get, Some};
+    ghost use Rattle.std.specs.Prelude.{◌≡◌, ◌<◌, ◌^◌, length, option_map, slice_get, Some};
     ghost use Rattle.std.specs.Prelude.{List, Ok, IfErr, IfOk, MatchResult};
     ghost use Rattle.td_relation.specs.declared.relation_fault.RelationFault.{RelationFault};
     ghost use Rattle.td_relation.specs.Asked.{Asked};
@@ -76,7 +76,8 @@ impl<'a> Relation<'a> {
 
     /// The members, each as its alternatives.
     pub fn members(&self) -> Members<'_, 'a>
-        ensures { members_left result ≡ members_of self.now }
+        ensures all { members_left result ≡ members_of self.now }
+        ensures limited { length (members_of self.now) < 2 ^ 64 }
     {
         Members {
             alternatives: self.alternatives.as_slice(),
