@@ -4,6 +4,7 @@ pub mod Table
 pub mod TableView
 pub mod Fails
 pub mod TableFile
+pub mod FaultNames
 pub mod ArchList
 pub mod Asked
 pub mod Members

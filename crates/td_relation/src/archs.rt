@@ -2,6 +2,7 @@ ghost use Rattle.std.specs.Prelude.{◌≡◌, ◌≤◌, true, length, position
 ghost use Rattle.std.specs.List.{list_all};
 ghost use Rattle.std.specs.Str.{bytes_eq};
 ghost use Rattle.td_text.specs.Words.{is_arch};
+ghost use Rattle.td_relation.specs.FaultNames.{name_of};
 
 use crate::arch::Arch;
 use crate::arch_reading;
@@ -33,6 +34,20 @@ pub enum ArchsFault {
     TooMany,
     #[error("want of memory")]
     NoMemory,
+}
+
+impl ArchsFault {
+    /// The name that the program prints.
+    pub fn name(self) -> &'static str
+        ensures { result.now ≡ name_of self }
+    {
+        match self {
+            ArchsFault::BadLine(_) => "BadLine",
+            ArchsFault::Twice(_) => "Twice",
+            ArchsFault::TooMany => "TooMany",
+            ArchsFault::NoMemory => "NoMemory",
+        }
+    }
 }
 
 impl<'a> Archs<'a> {

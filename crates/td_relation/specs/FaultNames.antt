@@ -1,0 +1,11 @@
+-- The names of a table's faults, as they are printed. This project's own.
+use Rattle.std.specs.Prelude.{ℕ, List, codes}
+use Rattle.td_relation.specs.declared.archs.ArchsFault.{ArchsFault}
+use Rattle.td_relation.specs.declared.archs.ArchsFault.TheVariants.{BadLine, Twice, TooMany, NoMemory}
+
+-- the name alone, without the line
+abbrev pub name_of : ArchsFault → List ℕ
+name_of (BadLine number) = codes "BadLine"
+name_of (Twice number) = codes "Twice"
+name_of TooMany = codes "TooMany"
+name_of NoMemory = codes "NoMemory"
