@@ -3,7 +3,7 @@ use crate::grouping::{group_binaries, those_on};
 use crate::groups::Groups;
 use crate::opening::opening_on;
 use crate::packaged::{Binary, PackageKey, Packaged};
-use crate::rows::check_rows;
+use crate::rows::count_rows;
 use crate::sourced::{Source, Sourced};
 use crate::stanza_list::read_stanzas;
 use crate::stanza_reading::{read_binaries, read_sources};
@@ -24,6 +24,8 @@ pub struct Archive<'t, 'a> {
     binaries: IndexMap<PackageKey<'a>, Packaged<'a>>,
     sources: IndexMap<&'a str, Sourced<'a>>,
     groups: Groups<'a>,
+    // How many rows the sources have.
+    rows: usize,
     alloc: Global,
 }
 
@@ -47,16 +49,17 @@ impl<'t, 'a> Model for Archive<'t, 'a> {
     } };
 
     ghost invariant = { λ a. ((q : List ℕ) → group a.groups q ≡ places_from (is_of q) 0 (binaries_of a.binaries.entries))
-        × (row_count (table a.archs.now) (sources_of a.sources.entries) ≤ 1048576) };
+        × (a.rows ≡ row_count (table a.archs.now) (sources_of a.sources.entries)) × (a.rows ≤ 1048576) };
 }
 
 impl<'t, 'a> Archive<'t, 'a> {
-    ghost use Rattle.std.specs.Prelude.{◌≡◌, IfOk, IfErr, option_map, slice_get};
+    ghost use Rattle.std.specs.Prelude.{◌≡◌, ◌≤◌, IfOk, IfErr, length, option_map, slice_get};
     ghost use Rattle.td_text.specs.Lines.{lines_of};
     ghost use Rattle.td_stanza.specs.Table.{fields_of};
     ghost use Rattle.td_relation.specs.TableView.{table};
     ghost use Rattle.td_indices.specs.Archive.{FaultOf, IsArchive, binaries_on, source_named};
     ghost use Rattle.td_indices.specs.Opening.{opening_row as opening_row_of};
+    ghost use Rattle.td_indices.specs.Rows.{row_count};
     ghost use Rattle.td_indices.specs.Seen.{BinarySeen, SourceSeen, seen_binary, seen_source, shown_binary, shown_source};
 
     /// Reads the two indices. All faults of the stanzas as such come first, those of Packages
@@ -88,10 +91,10 @@ impl<'t, 'a> Archive<'t, 'a> {
             Ok(sources) => sources,
             Err(fault) => return Err(fault),
         };
-        match check_rows(archs, &sources) {
-            Ok(()) => {}
+        let rows = match count_rows(archs, &sources) {
+            Ok(rows) => rows,
             Err(fault) => return Err(fault),
-        }
+        };
         let Ok(groups) = group_binaries(alloc, &binaries) else {
             return Err(ArchiveFault::NoMemory);
         };
@@ -102,8 +105,31 @@ impl<'t, 'a> Archive<'t, 'a> {
             binaries,
             sources,
             groups,
+            rows,
             alloc,
         })
+    }
+
+    /// How many sources there are.
+    pub fn source_count(&self) -> usize
+        ensures { result ≡ length self.now.sources }
+    {
+        self.sources.len()
+    }
+
+    /// How many binary packages there are.
+    pub fn binary_count(&self) -> usize
+        ensures { result ≡ length self.now.binaries }
+    {
+        self.binaries.len()
+    }
+
+    /// How many rows the sources have.
+    pub fn row_count(&self) -> usize
+        ensures rows { result ≡ row_count self.now.table self.now.sources }
+        ensures limited { result ≤ 1048576 }
+    {
+        self.rows
     }
 
     /// The source of a name.

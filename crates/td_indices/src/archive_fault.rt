@@ -1,3 +1,6 @@
+ghost use Rattle.std.specs.Prelude.{◌≡◌};
+ghost use Rattle.td_indices.specs.FaultNames.{name_of};
+
 use td_stanza::StanzaFault;
 use thiserror::Error;
 
@@ -37,6 +40,22 @@ pub enum ArchiveFault {
     TooManyRows,
     #[error("want of memory")]
     NoMemory,
+}
+
+impl ArchiveFault {
+    /// The name that is printed after `refused: `.
+    pub fn name(self) -> &'static str
+        ensures { result.now ≡ name_of self }
+    {
+        match self {
+            ArchiveFault::Stanza(_, _) => "Stanza",
+            ArchiveFault::MissingField(_, _, _) => "MissingField",
+            ArchiveFault::BadVersion(_, _) => "BadVersion",
+            ArchiveFault::BadRelation(_, _) => "BadRelation",
+            ArchiveFault::TooManyRows => "TooManyRows",
+            ArchiveFault::NoMemory => "NoMemory",
+        }
+    }
 }
 
 /// What is wrong with a stanza.

@@ -1,4 +1,4 @@
-ghost use Rattle.std.specs.Prelude.{◌≡◌, ◌≤◌, ◌<◌, OnOk, IfErr, length};
+ghost use Rattle.std.specs.Prelude.{◌≡◌, ◌≤◌, ◌<◌, IfOk, IfErr, length};
 ghost use Rattle.td_relation.specs.TableView.{table};
 ghost use Rattle.td_indices.specs.Rows.{
   has_match as has_match_of,
@@ -73,12 +73,13 @@ fn rows_of(archs: &Archs<'_>, words: &str) -> usize
     count
 }
 
-/// Refuses sources that have more rows than a desk may have.
-pub fn check_rows(
+/// How many rows the sources have, where they aren't more than a desk may have.
+pub fn count_rows(
     archs: &Archs<'_>,
     sources: &IndexMap<&str, Sourced<'_>>,
-) -> Result<(), ArchiveFault>
-    ensures ok { OnOk result (row_count (table archs.now) (sources_of sources.now.entries) ≤ 1048576) }
+) -> Result<usize, ArchiveFault>
+    ensures ok { IfOk result (λ rows. rows ≡ row_count (table archs.now) (sources_of sources.now.entries)) }
+    ensures limited { IfOk result (λ rows. rows ≤ 1048576) }
     ensures too_many { IfErr result (λ e. 1048576 < row_count (table archs.now) (sources_of sources.now.entries)) }
     ensures fault { IfErr result (λ e. e ≡ ArchiveFault.TooManyRows) }
 {
@@ -91,5 +92,5 @@ pub fn check_rows(
             }
         }
     }
-    Ok(())
+    Ok(rows)
 }

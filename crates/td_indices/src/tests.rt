@@ -30,6 +30,9 @@ fn binary_is(rt: &impl Abort, archive: &Archive<'_, '_>, number: usize, wanted: 
 fn the_small_archive_is_read(rt: HostRuntime) -> Result<(), Fail> {
     let archs = Archs::read(rt.alloc(), ARCHS)?;
     let archive = Archive::read(rt.alloc(), PACKAGES, SOURCES, &archs)?;
+    assert_eq!(rt; archive.source_count(), 2);
+    assert_eq!(rt; archive.binary_count(), 4);
+    assert_eq!(rt; archive.row_count(), 4);
     binary_is(&rt, &archive, 0, ["libfoo1", "1.2-3", "foo"]);
     binary_is(&rt, &archive, 1, ["libfoo1", "1.2-3+b1", "foo"]);
     binary_is(&rt, &archive, 3, ["libbar-dev", "2.0-1", "bar"]);

@@ -18,8 +18,8 @@ returns-in-Err-read_sources-clause-fault c =
     entry_fault (table c.args.archs.now) (lines_of c.args.packages.now) (lines_of c.args.sources.now) c.in-Ok.list c.in-Ok-read_stanzas.list c.in-Err-read_sources.fault c.in-Err-read_sources.ensures.entry c.in-Ok.ensures.found c.in-Ok-read_stanzas.ensures.found
     (λ real. inr (binaries_of c.in-Ok-read_binaries.binaries.entries, c.in-Ok-read_binaries.ensures.ok, c.in-Err-read_sources.ensures.err real))
 
-pub returns-in-Err-check_rows-clause-fault : goal.returns-in-Err-check_rows-clause-fault
-returns-in-Err-check_rows-clause-fault c = subst (λ (e : ArchiveFault). FaultOf (table c.args.archs.now) (lines_of c.args.packages.now) (lines_of c.args.sources.now) e) (sym c.in-Err-check_rows.ensures.fault) (record {
+pub returns-in-Err-count_rows-clause-fault : goal.returns-in-Err-count_rows-clause-fault
+returns-in-Err-count_rows-clause-fault c = subst (λ (e : ArchiveFault). FaultOf (table c.args.archs.now) (lines_of c.args.packages.now) (lines_of c.args.sources.now) e) (sym c.in-Err-count_rows.ensures.fault) (record {
   contents = record {
     table = table c.args.archs.now;
     packages = c.in-Ok.list;
@@ -31,5 +31,5 @@ returns-in-Err-check_rows-clause-fault c = subst (λ (e : ArchiveFault). FaultOf
   source_stanzas = c.in-Ok-read_stanzas.ensures.found;
   binaries = c.in-Ok-read_binaries.ensures.ok;
   sources = c.in-Ok-read_sources.ensures.ok;
-  beyond = c.in-Err-check_rows.ensures.too_many;
+  beyond = c.in-Err-count_rows.ensures.too_many;
 })

@@ -2,7 +2,7 @@ use Rattle.std.proofs.Common.{◌≡◌, ◌+◌, ◌≤◌, drop}
 use Rattle.td_relation.specs.TableView.{table}
 use Rattle.td_indices.specs.Rows.{row_count}
 use Rattle.td_indices.specs.Sources.{sources_of}
-use Rattle.td_indices.proofs.rows.check_rows.Given as goal
+use Rattle.td_indices.proofs.rows.count_rows.Given as goal
 
 -- the rows so far, and those of the sources that are left
 abbrev pub invariant-loop-number : goal.invariant-loop-number

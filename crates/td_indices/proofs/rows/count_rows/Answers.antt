@@ -4,8 +4,8 @@ use Rattle.td_rows.proofs.Lists.{slice_get-none}
 use Rattle.td_indices.specs.Rows.{row_count}
 use Rattle.td_indices.specs.Sources.{sources_of}
 use Rattle.td_indices.proofs.RowCounts.{rows_counted}
-use Rattle.td_indices.proofs.rows.check_rows.Goals as goal
-use Rattle.td_indices.proofs.rows.check_rows.Goals.{in-Some+else-rows-gt-MAX_ROWS, in_default}
+use Rattle.td_indices.proofs.rows.count_rows.Goals as goal
+use Rattle.td_indices.proofs.rows.count_rows.Goals.{in-Some+else-rows-gt-MAX_ROWS, in_default}
 
 pub returns-then-rows-gt-MAX_ROWS-clause-too_many : goal.returns-then-rows-gt-MAX_ROWS-clause-too_many
 returns-then-rows-gt-MAX_ROWS-clause-too_many c =
