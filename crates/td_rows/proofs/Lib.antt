@@ -13,5 +13,6 @@ pub mod StateWords
 pub mod NoteTexts
 pub mod RowLines
 pub mod Sorting
+pub mod SortSteps
 pub mod StateTexts
 pub mod Writing

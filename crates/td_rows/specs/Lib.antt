@@ -8,6 +8,7 @@ pub mod Numbers
 pub mod States
 pub mod Meaning
 pub mod Table
+pub mod Moves
 pub mod Kept
 pub mod Overlay
 pub mod Laws

@@ -20,6 +20,7 @@ mod outcome;
 mod row;
 mod row_line;
 mod rows;
+mod sort;
 mod state;
 mod state_file;
 mod state_reading;
