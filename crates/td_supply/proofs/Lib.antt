@@ -1,0 +1,4 @@
+pub mod Texts
+pub mod NumberWrites
+pub mod Places
+pub mod SourceLookups

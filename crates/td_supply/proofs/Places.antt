@@ -1,0 +1,39 @@
+-- The numbers of the items that pass a test.
+use Rattle.std.proofs.Common.{◌≡◌, ℕ, zero, suc, ◌+◌, Bool, true, false, List, [], ◌∷◌, ◌++◌, length, if◌then◌else◌, refl, sym, ap, ◌∙◌, inl, inr, append_assoc, arith}
+use Rattle.std.proofs.lemmas.Bool.{cases_Bool}
+use Rattle.td_supply.specs.Places.{places_from}
+
+-- with one item more
+pub places-push : {A : Type 0} (test : A → Bool) (n : ℕ) (xs : List A) (x : A) → places_from test n (xs ++ x ∷ []) ≡ (if test x then places_from test n xs ++ (n + length xs) ∷ [] else places_from test n xs)
+places-push test n [] x =
+    let here : n ≡ n + 0 = omega arith in
+    elim (cases_Bool (test x)) [ inl is ↦ rw is (ap (λ (m : ℕ). m ∷ []) here) | inr other ↦ rw other refl ]
+places-push test n (y ∷ xs) x =
+    let later = places-push test (n + 1) xs x in
+    let far : n + 1 + length xs ≡ n + suc (length xs) = omega arith in
+    elim (cases_Bool (test x)) [
+      | inl is ↦
+          let l : places_from test (n + 1) (xs ++ x ∷ []) ≡ places_from test (n + 1) xs ++ (n + suc (length xs)) ∷ [] = later ∙ rw is refl ∙ ap (λ (m : ℕ). places_from test (n + 1) xs ++ m ∷ []) far in
+          elim (cases_Bool (test y)) [
+            | inl own ↦ rw (own, is) (ap (λ (l : List ℕ). n ∷ l) l)
+            | inr none ↦ rw (none, is) l
+          ]
+      | inr other ↦
+          let l : places_from test (n + 1) (xs ++ x ∷ []) ≡ places_from test (n + 1) xs = later ∙ rw other refl in
+          elim (cases_Bool (test y)) [
+            | inl own ↦ rw (own, other) (ap (λ (l : List ℕ). n ∷ l) l)
+            | inr none ↦ rw (none, other) l
+          ]
+    ]
+
+-- the numbers under a name agree still where the items and they have one more
+pub agrees-push : {A : Type 0} (test : A → Bool) (xs : List A) (x : A) (old new : List ℕ) (n : ℕ) → old ≡ places_from test 0 xs → n ≡ length xs → new ≡ (if test x then old ++ n ∷ [] else old) → new ≡ places_from test 0 (xs ++ x ∷ [])
+agrees-push test xs x old new n agree last is =
+    let from_zero : n ≡ 0 + length xs = omega arith in
+    is ∙ ap (λ (l : List ℕ). if test x then l ++ n ∷ [] else l) agree
+    ∙ ap (λ (m : ℕ). if test x then places_from test 0 xs ++ m ∷ [] else places_from test 0 xs) from_zero
+    ∙ sym (places-push test 0 xs x)
+
+-- the same where the item fails the test
+pub agrees-other : {A : Type 0} (test : A → Bool) (xs : List A) (x : A) (old : List ℕ) → old ≡ places_from test 0 xs → test x ≡ false → old ≡ places_from test 0 (xs ++ x ∷ [])
+agrees-other test xs x old agree other = agrees-push test xs x old old (length xs) agree refl (sym (rw other refl))

@@ -1,0 +1,131 @@
+ghost use Rattle.std.specs.Prelude.{◌≡◌, ◌<◌, ◌≤◌, List, ℕ, [], None, IfOk, OnOk, OnErr, length, map, option_map, slice_get};
+ghost use Rattle.td_version.specs.Version.{parts_of};
+ghost use Rattle.td_relation.specs.TableView.{table};
+ghost use Rattle.td_supply.specs.Supply.{arrived, meets as meets_of, nothing, opened, unstocked, version_of, with_offer, with_source};
+ghost use Rattle.td_supply.specs.SupplyViews.{built};
+
+use crate::numbers::Numbers;
+use crate::stocked::{Build, Stocked};
+use indexmap::IndexMap;
+use std::alloc::{AllocError, Global};
+use std::marker::Model;
+use td_relation::Archs;
+use td_version::Version;
+
+/// What is on offer now: the offers of an index, and the rebuilds that have arrived. Contracts see
+/// it as a `SupplyView`.
+#[derive(Drop)]
+pub struct Supply<'a> {
+    archs: Archs<'a>,
+    sources: IndexMap<&'a str, &'a str>,
+    items: Vec<Stocked<'a>>,
+    by_name: Numbers<'a>,
+    by_source: Numbers<'a>,
+    alloc: Global,
+}
+
+impl<'a> Model for Supply<'a> {
+    ghost use Rattle.std.specs.Prelude.{◌≡◌, ℕ, List, map};
+    ghost use Rattle.td_relation.specs.TableView.{table};
+    ghost use Rattle.td_supply.specs.Numbers.{numbers_of};
+    ghost use Rattle.td_supply.specs.Places.{places_from};
+    ghost use Rattle.td_supply.specs.Supply.{SupplyView};
+    ghost use Rattle.td_supply.specs.SupplyViews.{item, is_by, is_under, sources_of};
+
+    ghost Value = { SupplyView };
+
+    ghost view = { λ s. record {
+      table = table s.archs;
+      sources = sources_of s.sources.entries;
+      items = map item s.items.items;
+    } };
+
+    ghost invariant = { λ s. ((q : List ℕ) → numbers_of s.by_name q ≡ places_from (is_under q) 0 s.items.items)
+        × ((q : List ℕ) → numbers_of s.by_source q ≡ places_from (is_by q) 0 s.items.items) };
+}
+
+impl<'a> Supply<'a> {
+    /// Nothing, on no architecture. It takes no memory.
+    pub fn empty(alloc: Global) -> Supply<'a>
+        ensures { result ≡ opened nothing }
+    {
+        Supply::new(alloc, Archs::empty(alloc))
+    }
+
+    /// Nothing yet, on the architectures of this table. It takes no memory.
+    pub fn new(alloc: Global, archs: Archs<'a>) -> Supply<'a>
+        ensures { result ≡ opened (unstocked (table archs.entry)) }
+    {
+        Supply {
+            archs,
+            sources: IndexMap::new(alloc),
+            items: Vec::new(alloc),
+            by_name: Numbers::new(alloc),
+            by_source: Numbers::new(alloc),
+            alloc,
+        }
+    }
+
+    /// Adds a source with its version as it is written. Ask `version` first whether it is there.
+    pub fn push_source(&mut self, name: &'a str, version: &'a str) -> Result<(), AllocError>
+        requires absent { version_of self.old name.now ≡ None }
+        ensures ok { OnOk result (self.new ≡ with_source self.old name.now version.now) }
+        ensures err { OnErr result (self.new ≡ self.old) }
+    {
+        self.sources.insert(name, version)?;
+        Ok(())
+    }
+
+    /// Adds an offer of the index: under its name, with its version if it has one, on the
+    /// architecture with this place in the table (`None` for `all`), and with its build if it is a
+    /// binary package.
+    pub fn push(
+        &mut self,
+        name: &'a str,
+        version: Option<Version<'a>>,
+        arch: Option<usize>,
+        build: Option<Build<'a>>,
+    ) -> Result<(), AllocError>
+        ensures ok { OnOk result (self.new ≡ with_offer self.old (record { name = name.now; version = option_map parts_of version.entry; arch = arch; build = option_map built build.entry })) }
+        ensures err { OnErr result (self.new ≡ self.old) }
+    {
+        self.items.reserve(1)?;
+        let number = self.items.len();
+        self.by_name.push(name, number)?;
+        if let Some(build) = build {
+            if let Err(error) = self.by_source.push(build.source, number) {
+                self.by_name.pop(name);
+                return Err(error);
+            }
+        }
+        self.items.push_reserved(Stocked {
+            name,
+            version,
+            arch,
+            build,
+            rebuilt: None,
+        });
+        Ok(())
+    }
+
+    /// The version of a source as it is written.
+    pub fn version(&self, source: &str) -> Option<&'a str>
+        ensures { option_map (λ version. version.now) result ≡ version_of self.now source.now }
+    {
+        self.sources.get(source).copied()
+    }
+
+    /// The table of architectures.
+    pub fn archs(&self) -> &Archs<'a>
+        ensures { table result.now ≡ self.now.table }
+    {
+        &self.archs
+    }
+
+    /// How many offers there are.
+    pub fn len(&self) -> usize
+        ensures { result ≡ length self.now.items }
+    {
+        self.items.len()
+    }
+}
