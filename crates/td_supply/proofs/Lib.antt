@@ -1,4 +1,6 @@
 pub mod Texts
 pub mod NumberWrites
 pub mod Places
+pub mod Arrivals
+pub mod AskedItems
 pub mod SourceLookups

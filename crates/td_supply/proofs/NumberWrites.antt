@@ -1,6 +1,5 @@
 -- What a write to the numbers of one name does to the others'.
-use Rattle.std.proofs.Common.{◌≡◌, ℕ, ◌+◌, ◌-◌, Bool, true, false, List, [], ◌∷◌, ◌++◌, Some, if◌then◌else◌, length, take, refl, sym, ap, ◌∙◌, inl, inr, arith, Vec, Global}
-use Rattle.std.specs.Borrow.{Bor}
+use Rattle.std.proofs.Common.{◌≡◌, ℕ, ◌-◌, true, false, List, [], ◌∷◌, ◌++◌, Some, if◌then◌else◌, length, take, refl, sym, ap, ◌∙◌, inl, inr, arith, Vec, Global}
 use Rattle.std.specs.HashMap.{get_by, UpdatesBy}
 use Rattle.std.specs.Option.{option_map_or}
 use Rattle.std.specs.Str.{bytes_eq}

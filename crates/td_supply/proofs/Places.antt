@@ -1,5 +1,6 @@
 -- The numbers of the items that pass a test.
-use Rattle.std.proofs.Common.{◌≡◌, ℕ, zero, suc, ◌+◌, Bool, true, false, List, [], ◌∷◌, ◌++◌, length, if◌then◌else◌, refl, sym, ap, ◌∙◌, inl, inr, append_assoc, arith}
+use Rattle.std.proofs.Common.{◌≡◌, ℕ, zero, suc, ◌+◌, Bool, false, List, [], ◌∷◌, ◌++◌, length, if◌then◌else◌, refl, sym, ap, ◌∙◌, inl, inr, arith, map, drop, slice_get, Some}
+use Rattle.std.proofs.Math.Seq.{drop-nil}
 use Rattle.std.proofs.lemmas.Bool.{cases_Bool}
 use Rattle.td_supply.specs.Places.{places_from}
 
@@ -37,3 +38,23 @@ agrees-push test xs x old new n agree last is =
 -- the same where the item fails the test
 pub agrees-other : {A : Type 0} (test : A → Bool) (xs : List A) (x : A) (old : List ℕ) → old ≡ places_from test 0 xs → test x ≡ false → old ≡ places_from test 0 (xs ++ x ∷ [])
 agrees-other test xs x old agree other = agrees-push test xs x old old (length xs) agree refl (sym (rw other refl))
+
+-- of other items that pass as those do
+pub places-map : {A B : Type 0} (test : B → Bool) (f : A → B) (n : ℕ) (xs : List A) → places_from test n (map f xs) ≡ places_from (λ x. test (f x)) n xs
+places-map test f n [] = refl
+places-map test f n (x ∷ xs) =
+    let later = places-map test f (n + 1) xs in
+    elim (cases_Bool (test (f x))) [ inl is ↦ rw is (ap (λ (l : List ℕ). n ∷ l) later) | inr other ↦ rw other later ]
+
+pub places-same : {A : Type 0} (test other : A → Bool) (n : ℕ) (xs : List A) → ((x : A) → test x ≡ other x) → places_from test n xs ≡ places_from other n xs
+places-same test other n [] same = refl
+places-same test other n (x ∷ xs) same =
+    let later = places-same test other (n + 1) xs same in
+    ap (λ (b : Bool). if b then n ∷ places_from test (n + 1) xs else places_from test (n + 1) xs) (same x)
+    ∙ ap (λ (l : List ℕ). if other x then n ∷ l else l) later
+
+-- the first of what is left, and the rest
+pub front_of : {A : Type 0} (items : List A) (n : ℕ) (x : A) (xs : List A) → drop n items ≡ x ∷ xs → (slice_get items n ≡ Some x) × (drop (suc n) items ≡ xs)
+front_of [] n x xs h = absurd (let bad : ◌≡◌ {A = List _} [] (x ∷ xs) = sym (drop-nil n) ∙ h in cc)
+front_of (y ∷ items) zero x xs h = (cc, cc)
+front_of (y ∷ items) (suc n) x xs h = front_of items n x xs h

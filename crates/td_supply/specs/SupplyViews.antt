@@ -1,7 +1,6 @@
 -- What a supply holds, without where its texts lie in memory.
-use Rattle.std.specs.Prelude.{ℕ, Bool, List, Option, map, option_map}
+use Rattle.std.specs.Prelude.{ℕ, Bool, List, map, option_map}
 use Rattle.std.specs.Borrow.{Bor}
-use Rattle.std.specs.Option.{option_map_or}
 use Rattle.std.specs.String.{string_bytes}
 use Rattle.td_version.specs.Version.{Parts, parts_of}
 use Rattle.td_supply.specs.declared.stocked.Build.{Build}
@@ -37,3 +36,7 @@ is_by source s = is_of source (supplied s)
 -- the sources with their versions
 abbrev pub sources_of : List (Bor (List ℕ) × Bor (List ℕ)) → List (List ℕ × List ℕ)
 sources_of entries = map (λ p. (p.0.now, p.1.now)) entries
+
+-- a number with a rebuild's version
+abbrev pub rebuilt_at : ℕ × Rebuilt → ℕ × Parts
+rebuilt_at p = (p.0, rebuilt_parts p.1)

@@ -8,6 +8,8 @@
 //! and a relation is met exactly as td_relation's `specs/Meeting` says of what is on offer.
 #![tactic(auto)]
 
+mod arrival;
+mod asking;
 mod numbers;
 mod stocked;
 mod supply;

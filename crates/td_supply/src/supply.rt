@@ -4,12 +4,14 @@ ghost use Rattle.td_relation.specs.TableView.{table};
 ghost use Rattle.td_supply.specs.Supply.{arrived, meets as meets_of, nothing, opened, unstocked, version_of, with_offer, with_source};
 ghost use Rattle.td_supply.specs.SupplyViews.{built};
 
+use crate::arrival::{put_each, rebuilds};
+use crate::asking::some_suits;
 use crate::numbers::Numbers;
 use crate::stocked::{Build, Stocked};
 use indexmap::IndexMap;
 use std::alloc::{AllocError, Global};
 use std::marker::Model;
-use td_relation::Archs;
+use td_relation::{Archs, Offering, Relation, RelationFault, Restriction};
 use td_version::Version;
 
 /// What is on offer now: the offers of an index, and the rebuilds that have arrived. Contracts see
@@ -108,6 +110,23 @@ impl<'a> Supply<'a> {
         Ok(())
     }
 
+    /// A rebuild of a source with this number has arrived on an architecture: each of the source's
+    /// binary packages of exactly that architecture is offered at the rebuilt version from now on.
+    /// On an architecture that isn't in the table nothing changes.
+    pub fn arrive(&mut self, source: &str, arch: &str, number: u16) -> Result<(), AllocError>
+        requires limited { number ≤ 9999 }
+        ensures ok { OnOk result (self.new ≡ arrived self.old source.now arch.now number) }
+        ensures err { OnErr result (self.new ≡ self.old) }
+    {
+        let Some(place) = self.archs.index(arch) else {
+            return Ok(());
+        };
+        let numbers = self.by_source.of(source);
+        let made = rebuilds(self.alloc, self.items.as_slice(), numbers, place, number)?;
+        put_each(&mut self.items, made);
+        Ok(())
+    }
+
     /// The version of a source as it is written.
     pub fn version(&self, source: &str) -> Option<&'a str>
         ensures { option_map (λ version. version.now) result ≡ version_of self.now source.now }
@@ -127,5 +146,36 @@ impl<'a> Supply<'a> {
         ensures { result ≡ length self.now.items }
     {
         self.items.len()
+    }
+
+    /// Whether a text is a relation (Debian Policy 7.1) that what is on offer now meets on the
+    /// architecture with this name. It takes memory to read the text.
+    pub fn meets(&self, text: &str, arch: &str) -> Result<bool, AllocError>
+        ensures { IfOk result (λ is. is ≡ meets_of self.now text.now arch.now) }
+    {
+        let relation = match Relation::read(self.alloc, text) {
+            Ok(relation) => relation,
+            Err(RelationFault::NoMemory) => return Err(AllocError),
+            Err(_) => return Ok(false),
+        };
+        match self.archs.index(arch) {
+            Some(place) => Ok(relation.met_by(self, &self.archs, place)),
+            None => Ok(false),
+        }
+    }
+}
+
+impl<'a> Offering for Supply<'a> {
+    ghost use Rattle.td_supply.specs.Supply.{offers_of};
+
+    ghost on_offer = { λ s name. offers_of s.items name };
+
+    fn has(&self, name: &str, place: usize, restriction: &Option<Restriction<'_>>) -> bool {
+        some_suits(
+            self.items.as_slice(),
+            self.by_name.of(name),
+            place,
+            restriction,
+        )
     }
 }
