@@ -4,3 +4,4 @@ pub mod Places
 pub mod Arrivals
 pub mod AskedItems
 pub mod SourceLookups
+pub mod ArrivalLaws

@@ -5,3 +5,4 @@ pub mod Arrivals
 pub mod Supply
 pub mod SupplyViews
 pub mod Asking
+pub mod SupplyLaws

@@ -10,10 +10,14 @@
 
 mod arrival;
 mod asking;
+mod laws;
 mod numbers;
 mod stocked;
 mod supply;
+#[cfg(test)]
+mod tests;
 
+pub use laws::{arrivals_change_their_own, nothing_is_met};
 pub use numbers::Numbers;
 pub use stocked::Build;
 pub use supply::Supply;
