@@ -8,3 +8,4 @@ pub mod Promises
 pub mod Running
 pub mod Taking
 pub mod Inverse
+pub mod Arrivals

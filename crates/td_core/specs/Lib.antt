@@ -7,3 +7,4 @@ pub mod Refusals
 pub mod Steps
 pub mod Promises
 pub mod Inverse
+pub mod Offers
