@@ -9,3 +9,4 @@ pub mod Running
 pub mod Taking
 pub mod Inverse
 pub mod Arrivals
+pub mod Freeing

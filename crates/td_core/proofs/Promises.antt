@@ -19,7 +19,7 @@ use Rattle.td_core.specs.declared.step.Phase.TheVariants.{Closed, Open, Held, No
 use Rattle.td_core.specs.declared.step.Hand.{Hand}
 use Rattle.td_core.specs.declared.step.Hand.TheVariants.{Free, Holding, Finished}
 use Rattle.td_core.specs.declared.step.Step.{Step}
-use Rattle.td_core.specs.declared.step.Step.TheVariants.{Offer, Withdraw, Claim, Note, Commit, Undo, Finish, Settle, Release}
+use Rattle.td_core.specs.declared.step.Step.TheVariants.{Offer, Withdraw, Claim, Note, Commit, Undo, Finish, Settle, Release, Arrive, Sweep}
 use Rattle.td_core.specs.declared.step.Refusal.{Refusal}
 use Rattle.td_core.specs.declared.step.Refusal.TheVariants.{Blocked, NotPinned, NotACommand, NoSuchEntry}
 use Rattle.td_core.specs.declared.step.Answer.{Answer}
@@ -29,7 +29,7 @@ use Rattle.td_core.specs.Phases.{is_pinned, Suits}
 use Rattle.td_rows.specs.States.{is_building}
 use Rattle.td_core.specs.Worlds.{WorldView, phase_of, hand_of, journaled, world_of, IsWorld}
 use Rattle.td_core.specs.Refusals.{refused_if, first_refused, first_unpinned, mark_refusal, undo_refusal}
-use Rattle.td_core.specs.Steps.{refusal, accepted, noted, settled, finished, answer_to, after, after_all}
+use Rattle.td_core.specs.Steps.{refusal, accepted, noted, settled, finished, swept, swept_now, answer_to, after, after_all}
 use Rattle.td_core.specs.Promises.{EveryWorld, OfferedRowsWait, is_known_by, BuiltExactly, UndoneAtOnce, StandingCommand, BlockedExactly, UndoneElse, Stays, EntriesStay}
 use Rattle.td_core.proofs.Refusing.{commits}
 use Rattle.td_core.proofs.Worlds.{IsWorld-open, IsWorld-after, answer_to-refused, answer_to-accepted, after-accepted}
@@ -39,7 +39,7 @@ IsWorld-after_all w [] i = i
 IsWorld-after_all w (s ∷ steps) i = IsWorld-after_all (after w s) steps (IsWorld-after w s i)
 
 pub every_world : EveryWorld
-every_world t builders steps rising idle = IsWorld-after_all (world_of t builders) steps (IsWorld-open t builders rising idle)
+every_world t s builders steps rising idle = IsWorld-after_all (world_of t s builders) steps (IsWorld-open t s builders rising idle)
 
 waits : (p : Phase) (s : State) → Suits p s → is_pinned p ≡ false → s ≡ NeedsBuild
 waits Closed s suits loose = cc
@@ -209,6 +209,12 @@ stays_accepted w (Settle k) = at (phase_of w k)
     at (Some (Noted b)) = same_history w w refl
     at (Some (Done b o)) = one_more w (settled w k (Some (Done b o))) _ refl
 stays_accepted w (Release b) = same_history w (accepted w (Release b)) refl
+stays_accepted w (Arrive k) = one_more w (accepted w (Arrive k)) _ refl
+stays_accepted w Sweep = at (swept_now w)
+  where
+    at : (keys : List Key) → Stays w (swept w keys)
+    at [] = same_history w w refl
+    at (k ∷ keys) = one_more w (swept w (k ∷ keys)) _ refl
 
 pub entries_stay : EntriesStay
 entries_stay w s = elim (refusal w s) as (λ r. Stays w (elim r as (λ _. WorldView) [ Some x ↦ w | None ↦ accepted w s ])) [

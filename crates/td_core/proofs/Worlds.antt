@@ -8,7 +8,7 @@ use Rattle.td_rows.specs.declared.row.Row.{Row}
 use Rattle.td_rows.specs.declared.state.State.{State}
 use Rattle.td_rows.specs.declared.state.State.TheVariants.{NeedsBuild, Building, Built, Uploaded, Installed, DepWait, BdUninstallable, BuildAttempted, Failed, NotForUs}
 use Rattle.td_rows.specs.declared.kind.Kind.{Kind}
-use Rattle.td_rows.specs.declared.kind.Kind.TheVariants.{Claim as Claimed, Outcome as Ended}
+use Rattle.td_rows.specs.declared.kind.Kind.TheVariants.{Claim as Claimed, Outcome as Ended, Arrive as Arrived, Sweep as Swept}
 use Rattle.td_rows.specs.declared.outcome.Outcome.{Outcome}
 use Rattle.td_rows.specs.declared.outcome.Outcome.TheVariants.{Built as WasBuilt, Attempted, GivenBack, Waits}
 use Rattle.td_rows.specs.Blank.{blank}
@@ -32,20 +32,23 @@ use Rattle.td_core.specs.declared.step.Phase.TheVariants.{Closed, Open, Held, No
 use Rattle.td_core.specs.declared.step.Hand.{Hand}
 use Rattle.td_core.specs.declared.step.Hand.TheVariants.{Free, Holding, Finished}
 use Rattle.td_core.specs.declared.step.Step.{Step}
-use Rattle.td_core.specs.declared.step.Step.TheVariants.{Offer, Withdraw, Claim, Note, Commit, Undo, Finish, Settle, Release}
+use Rattle.td_core.specs.declared.step.Step.TheVariants.{Offer, Withdraw, Claim, Note, Commit, Undo, Finish, Settle, Release, Arrive, Sweep}
 use Rattle.td_core.specs.declared.step.Refusal.{Refusal}
-use Rattle.td_core.specs.declared.step.Refusal.TheVariants.{NotNoted}
+use Rattle.td_core.specs.declared.step.Refusal.TheVariants.{NotNoted, DoesNotApply}
 use Rattle.td_core.specs.declared.step.Answer.{Answer}
 use Rattle.td_core.specs.declared.step.Answer.TheVariants.{Refused}
 use Rattle.td_core.specs.History.{History, rows_of, with_entry, without_entry}
 use Rattle.td_core.specs.Phases.{Suits, NoneBuilt}
 use Rattle.td_rows.specs.States.{is_building}
 use Rattle.td_core.specs.Worlds.{WorldView, phase_of, hand_of, with_phase, with_hand, journaled, world_of, IsWorld}
-use Rattle.td_core.specs.Refusals.{is_queued_at, offer_refusal, withdraw_refusal, claim_refusal, note_refusal, finish_refusal, settle_refusal, release_refusal, is_noted_by}
-use Rattle.td_core.specs.Steps.{refusal, accepted, noted, settled, finished, done, answer_to, after}
-use Rattle.td_core.proofs.Phases.{phase_of-with_phase, phase_of-other, phase_of-absent}
+use Rattle.td_core.specs.Refusals.{is_queued_at, offer_refusal, withdraw_refusal, claim_refusal, note_refusal, finish_refusal, settle_refusal, release_refusal, arrive_refusal, is_noted_by}
+use Rattle.td_core.specs.Steps.{refusal, accepted, noted, settled, finished, swept, swept_now, supply_of, done, answer_to, after}
+use Rattle.td_core.proofs.Phases.{keys_of-rows_of, phase_of-with_phase, phase_of-other, phase_of-absent}
 use Rattle.td_core.proofs.Refusing.{Commits, Undoes, commits, undoes, not_refused, not_false}
+use Rattle.td_supply.specs.Supply.{Stock}
+use Rattle.td_core.specs.Offers.{freed}
 use Rattle.td_core.proofs.Suiting.{suits-command, suits-undone, state-row_after}
+use Rattle.td_core.proofs.Freeing.{suits-arrive, suits-sweep, AppliesOn-freed}
 
 -- the rows after one more entry
 pub rows_of-with_entry : (h : History) (e : Entry) → rows_of (with_entry h e) ≡ applied e.kind e.keys (rows_of h)
@@ -302,6 +305,25 @@ IsWorld-settled w k b o i phase =
 pub IsWorld-finished : (w : WorldView) (b : ℕ) (o : Outcome) (k : Key) → IsWorld w → phase_of w k ≡ Some (Noted b) → IsWorld (with_hand (with_phase w k (Done b o)) b (Finished k o))
 IsWorld-finished w b o k i phase = IsWorld-with_hand (with_phase w k (Done b o)) b (Finished k o) (IsWorld-with_phase w k (Done b o) i (λ row found. i.suits k (Noted b) row phase found))
 
+pub arrives : (k : Key) (o : Option Row) → arrive_refusal k o ≡ None → (row : Row) × ((o ≡ Some row) × (applies Arrived row ≡ true))
+arrives k None h = cc
+arrives k (Some row) h = (row, (refl, not_false (applies Arrived row) (not_refused (not (applies Arrived row)) (DoesNotApply k) None h).0))
+
+pub IsWorld-arrived : (w : WorldView) (k : Key) (row : Row) → IsWorld w → row_of (rows_of w.history) k ≡ Some row → applies Arrived row ≡ true → AppliesOn (rows_of w.history) Arrived (k ∷ []) × IsWorld (journaled w Arrived (k ∷ []))
+IsWorld-arrived w k row i found fit =
+    let applies = AppliesOn-one (rows_of w.history) Arrived k row found fit in
+    (applies, IsWorld-journaled w Arrived (k ∷ []) i applies (λ q p r named phase there. suits-arrive p r.state (applies-fits (rows_of w.history) Arrived q r there (applies q named)) (i.suits q p r phase there)))
+
+pub IsWorld-swept : (w : WorldView) (keys : List Key) → IsWorld w → AppliesOn (rows_of w.history) Swept keys → IsWorld (journaled w Swept keys)
+IsWorld-swept w keys i applies = IsWorld-journaled w Swept keys i applies (λ q p r named phase there. suits-sweep p r.state (applies-fits (rows_of w.history) Swept q r there (applies q named)) (i.suits q p r phase there))
+
+pub AppliesOn-swept_now : (w : WorldView) → IsWorld w → AppliesOn (rows_of w.history) Swept (swept_now w)
+AppliesOn-swept_now w i = AppliesOn-freed (supply_of w) (rows_of w.history) (ap ascending (keys_of-rows_of w.history) ∙ i.rising)
+
+IsWorld-sweep : (w : WorldView) (keys : List Key) → IsWorld w → AppliesOn (rows_of w.history) Swept keys → IsWorld (swept w keys)
+IsWorld-sweep w [] i applies = i
+IsWorld-sweep w (k ∷ keys) i applies = IsWorld-swept w (k ∷ keys) i applies
+
 -- each step that isn't refused
 pub IsWorld-accepted : (w : WorldView) (s : Step) → IsWorld w → refusal w s ≡ None → IsWorld (accepted w s)
 IsWorld-accepted w (Offer k) i none = IsWorld-offer w k i none
@@ -319,6 +341,10 @@ IsWorld-accepted w (Settle k) i none =
     let p = settles (phase_of w k) none in
     subst (λ (x : Option Phase). IsWorld (settled w k x)) (sym p.1.1) (IsWorld-settled w k p.0 p.1.0 i p.1.1).1
 IsWorld-accepted w (Release b) i none = IsWorld-with_hand w b Free i
+IsWorld-accepted w (Arrive k) i none =
+    let a = arrives k (row_of (rows_of w.history) k) none in
+    (IsWorld-arrived w k a.0 i a.1.0 a.1.1).1
+IsWorld-accepted w Sweep i none = IsWorld-sweep w (swept_now w) i (AppliesOn-swept_now w i)
 
 -- each step
 pub IsWorld-after : (w : WorldView) (s : Step) → IsWorld w → IsWorld (after w s)
@@ -334,8 +360,8 @@ slice_get-replicate (suc n) zero x y h = cc
 slice_get-replicate (suc n) (suc i) x y h = slice_get-replicate n i x y h
 
 -- the world at its opening
-pub IsWorld-open : (t : Table) (builders : ℕ) → ascending (keys_of t) ≡ true → NoneBuilt t → IsWorld (world_of t builders)
-IsWorld-open t builders rising idle = record {
+pub IsWorld-open : (t : Table) (s : Stock) (builders : ℕ) → ascending (keys_of t) ≡ true → NoneBuilt t → IsWorld (world_of t s builders)
+IsWorld-open t s builders rising idle = record {
   rising = rising;
   lawful = tt;
   sized = length-replicate (length t) Closed;

@@ -1,5 +1,7 @@
 pub mod History
 pub mod Keeps
+pub mod Offers
+pub mod Books
 pub mod Committing
 pub mod Phases
 pub mod Worlds
@@ -7,4 +9,3 @@ pub mod Refusals
 pub mod Steps
 pub mod Promises
 pub mod Inverse
-pub mod Offers

@@ -6,6 +6,7 @@ use Rattle.td_rows.specs.declared.state.State.TheVariants.{NeedsBuild, Building}
 use Rattle.td_rows.specs.declared.kind.Kind.{Kind}
 use Rattle.td_rows.specs.Keys.{ascending}
 use Rattle.td_rows.specs.Table.{Table, keys_of, row_of}
+use Rattle.td_supply.specs.Supply.{Stock}
 use Rattle.td_journal.specs.declared.entry.Entry.{Entry}
 use Rattle.td_journal.specs.declared.entry.Marked.{Marked}
 use Rattle.td_journal.specs.declared.entry.Mark.TheVariants.{Standing}
@@ -25,7 +26,7 @@ use Rattle.td_core.specs.Steps.{refusal, answer_to, after, after_all}
 
 -- from an opening in which no row is built, every list of steps leads to a sound world
 abbrev pub EveryWorld : Type 0
-EveryWorld = (t : Table) (builders : ℕ) (steps : List Step) → ascending (keys_of t) ≡ true → NoneBuilt t → IsWorld (after_all (world_of t builders) steps)
+EveryWorld = (t : Table) (s : Stock) (builders : ℕ) (steps : List Step) → ascending (keys_of t) ≡ true → NoneBuilt t → IsWorld (after_all (world_of t s builders) steps)
 
 -- an offered or held row needs a build
 abbrev pub OfferedRowsWait : Type 0

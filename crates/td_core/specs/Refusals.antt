@@ -3,8 +3,11 @@ use Rattle.std.specs.Prelude.{ℕ, Bool, false, not, List, [], ◌∷◌, Option
 use Rattle.std.specs.Bool.{◌==◌}
 use Rattle.td_rows.specs.declared.key.Key.{Key}
 use Rattle.td_rows.specs.declared.kind.Kind.{Kind}
+use Rattle.td_rows.specs.declared.kind.Kind.TheVariants.{Arrive}
+use Rattle.td_rows.specs.declared.row.Row.{Row}
 use Rattle.td_rows.specs.Keys.{ascending}
 use Rattle.td_rows.specs.Kinds.{cells}
+use Rattle.td_rows.specs.Meaning.{applies}
 use Rattle.td_rows.specs.Table.{Table, row_of, fits}
 use Rattle.td_rows.specs.States.{is_queued}
 use Rattle.td_journal.specs.declared.entry.Mark.{Mark}
@@ -124,3 +127,8 @@ abbrev pub release_refusal : WorldView → ℕ → Option Hand → Option Refusa
 release_refusal w b None = Some NoSuchBuilder
 release_refusal w b (Some (Finished k o)) = refused_if (is_done_by b (phase_of w k)) NotSettled None
 release_refusal w b (Some h) = Some NotFinished
+
+-- an arrival on the key's row, if it has one
+abbrev pub arrive_refusal : Key → Option Row → Option Refusal
+arrive_refusal k None = Some (NoSuchRow None)
+arrive_refusal k (Some row) = refused_if (not (applies Arrive row)) (DoesNotApply k) None

@@ -1,4 +1,4 @@
--- A world: a history, a phase for each row and a hand for each builder. This project's own.
+-- A world: a history, what the index offers, a phase for each row and a hand for each builder. This project's own.
 use Rattle.std.specs.Prelude.{◌≡◌, ℕ, ◌-◌, ◌==◌, true, List, length, replicate, Option, Some, None, slice_get, set, if◌then◌else◌}
 use Rattle.td_rows.specs.declared.key.Key.{Key}
 use Rattle.td_rows.specs.declared.row.Row.{Row}
@@ -14,10 +14,12 @@ use Rattle.td_core.specs.declared.step.Hand.{Hand}
 use Rattle.td_core.specs.declared.step.Hand.TheVariants.{Free}
 use Rattle.td_core.specs.History.{History, rows_of, opened, with_entry}
 use Rattle.td_core.specs.Phases.{Suits}
+use Rattle.td_supply.specs.Supply.{Stock}
 
--- its rows are a function of the history; the phases are those of the rows in order, the hands those of builders 1, 2 and so on
+-- its rows are a function of the history, its offers one of the stock and the history; the phases are those of the rows in order, the hands those of builders 1, 2 and so on
 pub record WorldView : Type 0 where
   pub history : History
+  pub supply : Stock
   pub phases : List Phase
   pub hands : List Hand
 
@@ -42,8 +44,8 @@ abbrev pub journaled : WorldView → Kind → List Key → WorldView
 journaled w kind keys = record w { history = with_entry w.history (record { kind = kind; keys = keys }) }
 
 -- the world at its opening: all rows are closed, all hands free
-abbrev pub world_of : Table → ℕ → WorldView
-world_of t builders = record { history = opened t; phases = replicate (length t) Closed; hands = replicate builders Free }
+abbrev pub world_of : Table → Stock → ℕ → WorldView
+world_of t s builders = record { history = opened t; supply = s; phases = replicate (length t) Closed; hands = replicate builders Free }
 
 -- what holds of every world
 pub record IsWorld (w : WorldView) : Type 0 where

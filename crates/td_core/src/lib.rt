@@ -9,6 +9,8 @@
 //! that stands touches it, and names the latest (`laws`).
 #![tactic(auto)]
 
+mod arriving;
+mod books;
 mod committing;
 mod kept;
 mod key_list;
@@ -18,6 +20,7 @@ mod runs;
 mod searching;
 mod step;
 mod stepping;
+mod sweeping;
 #[cfg(test)]
 mod tests;
 mod world;

@@ -14,7 +14,7 @@ use crate::world::World;
 use td_journal::{EntryNo, is_command};
 use td_rows::{BuilderNo, Key, Kind, cells_of};
 
-impl World {
+impl World<'_> {
     fn is_queued(&self, key: &Key) -> bool
         ensures { result ≡ is_queued_at (rows_of self.now.history) key.now }
     {

@@ -2,25 +2,29 @@ ghost use Rattle.std.specs.Prelude.{◌≡◌, ◌≤◌, IfOk};
 ghost use Rattle.td_core.specs.Phases.{NoneBuilt};
 ghost use Rattle.td_core.specs.Steps.{answers_to, after_all};
 ghost use Rattle.td_core.specs.Worlds.{world_of};
+ghost use Rattle.td_supply.specs.Supply.{opened, stock_of};
 
 use crate::step::{Answer, Step};
 use crate::world::World;
 use std::alloc::{AllocError, Global};
 use td_rows::Rows;
+use td_supply::Supply;
 
 /// Takes steps one after the other, from rows of which none is built, and answers each.
-pub fn run(
+pub fn run<'a>(
     alloc: Global,
     rows: Rows,
+    supply: Supply<'a>,
     builders: usize,
     steps: Vec<Step>,
-) -> Result<(World, Vec<Answer>), AllocError>
+) -> Result<(World<'a>, Vec<Answer>), AllocError>
     requires builders { builders ≤ 64 }
     requires idle { NoneBuilt rows }
-    ensures world { IfOk result (λ end. end.0 ≡ after_all (world_of rows builders) steps.items) }
-    ensures answers { IfOk result (λ end. end.1.items ≡ answers_to (world_of rows builders) steps.items) }
+    requires fresh { supply ≡ opened (stock_of supply) }
+    ensures world { IfOk result (λ end. end.0 ≡ after_all (world_of rows (stock_of supply.entry) builders) steps.items) }
+    ensures answers { IfOk result (λ end. end.1.items ≡ answers_to (world_of rows (stock_of supply.entry) builders) steps.items) }
 {
-    let mut world = World::open(alloc, rows, builders)?;
+    let mut world = World::open(alloc, rows, supply, builders)?;
     let mut answers = Vec::with_capacity(alloc, steps.len())?;
     for step in steps {
         answers.push(world.try_step(step)?)?;

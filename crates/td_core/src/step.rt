@@ -46,6 +46,10 @@ pub enum Step {
     Settle(Key),
     /// The builder lets go of a build that it ended and the desk settled.
     Release(BuilderNo),
+    /// The archive has a row's build: it is installed, and offered from now on.
+    Arrive(Key),
+    /// The desk frees each waiting row whose relation the offers meet.
+    Sweep,
 }
 
 /// Why a step is refused.
@@ -101,5 +105,7 @@ pub enum Answer {
     Entry(EntryNo),
     /// The entry with the number was undone.
     Undone(EntryNo),
+    /// A sweep freed no row.
+    Nothing,
     Refused(Refusal),
 }

@@ -3,7 +3,7 @@ ghost use Rattle.td_rows.specs.declared.key.Key.{Key as KeyValue};
 ghost use Rattle.td_change.specs.Saved.{number_of};
 ghost use Rattle.td_core.specs.Steps.{answer_to, after, takes_memory};
 
-use crate::kept::Kept;
+use crate::books::Books;
 use crate::key_list::KeyList;
 use crate::searching::{are_keys, first_missing, first_unfit};
 use crate::step::{Answer, Hand, Phase, Refusal, Step};
@@ -14,7 +14,7 @@ use td_journal::{Entry, EntryNo, Keys, is_command};
 use td_rows::{BuilderNo, Key, Kind, Outcome};
 
 // Gives the key's row the phase.
-fn put_phase(kept: &Kept, phases: &mut Vec<Phase>, key: &Key, phase: Phase)
+fn put_phase(kept: &Books<'_>, phases: &mut Vec<Phase>, key: &Key, phase: Phase)
     requires sized { length phases.old.items ≡ length kept.now.history.opening }
     ensures { phases.new.items ≡ set phases.old.items (number_of kept.now.history.opening key.now) phase }
 {
@@ -43,7 +43,7 @@ fn take_held(hands: &mut Vec<Hand>, builder: BuilderNo) -> Option<Key>
     }
 }
 
-impl World {
+impl World<'_> {
     pub(crate) fn offer(&mut self, key: &Key) -> Answer
         ensures answer { result ≡ answer_to self.old (Step.Offer key.now) }
         ensures after { self.new ≡ after self.old (Step.Offer key.now) }
@@ -186,7 +186,7 @@ impl World {
     }
 }
 
-impl World {
+impl World<'_> {
     /// Takes a step. Only a step that journals an entry or copies an outcome may want memory, and
     /// then nothing changed.
     pub fn try_step(&mut self, step: Step) -> Result<Answer, AllocError>
@@ -205,6 +205,8 @@ impl World {
             Step::Finish(builder, outcome) => self.finish(builder, outcome),
             Step::Settle(key) => self.settle(&key),
             Step::Release(builder) => Ok(self.release(builder)),
+            Step::Arrive(key) => self.arrive(key),
+            Step::Sweep => self.sweep(),
         }
     }
 

@@ -10,6 +10,7 @@ use crate::{Answer, Kept, KeyList, Refusal, Step, World, run};
 use std::alloc::Global;
 use std::test::Fail;
 use td_journal::{Entry, Keys};
+use td_supply::Supply;
 use td_rows::{
     Key, Kind, Line, Outcome, Priority, Rows, are_ascending, read_key, read_state, rows_text,
 };
@@ -74,6 +75,8 @@ fn step(alloc: Global, spelled: &str) -> Result<Step, Fail> {
         "settle" => Step::Settle(key(alloc, rest)?),
         "release" => Step::Release(number(rest)),
         "undo" => Step::Undo(number(rest)),
+        "arrive" => Step::Arrive(key(alloc, rest)?),
+        "sweep" => Step::Sweep,
         _ => Step::Commit(kind(alloc, word)?, keys(alloc, rest)?),
     })
 }
@@ -96,7 +99,7 @@ fn spelled(alloc: Global, answer: &Answer) -> Result<String, Fail> {
 }
 
 // Whether a step is answered so.
-fn is_answered(alloc: Global, world: &mut World, step: Step, expected: &str) -> Result<bool, Fail> {
+fn is_answered(alloc: Global, world: &mut World<'_>, step: Step, expected: &str) -> Result<bool, Fail> {
     let answer = spelled(alloc, &world.step(step))?;
     Ok(answer.as_str() == expected)
 }
@@ -104,7 +107,7 @@ fn is_answered(alloc: Global, world: &mut World, step: Step, expected: &str) -> 
 // The first line of the steps with their answers that is answered otherwise.
 fn otherwise<'a>(
     alloc: Global,
-    world: &mut World,
+    world: &mut World<'_>,
     steps: &'a str,
 ) -> Result<Option<&'a str>, Fail> {
     for line in steps.lines() {
@@ -118,7 +121,7 @@ fn otherwise<'a>(
 
 // The rows after the steps, by two builders; the line that is answered otherwise, if one is.
 fn rows_after(alloc: Global, opening: &str, steps: &str) -> Result<String, Fail> {
-    let mut world = World::open(alloc, rows(alloc, opening)?, 2)?;
+    let mut world = World::open(alloc, rows(alloc, opening)?, Supply::empty(alloc), 2)?;
     if let Some(line) = otherwise(alloc, &mut world, steps)? {
         return Ok(String::from_str(alloc, line)?);
     }
@@ -291,7 +294,7 @@ fn steps(alloc: Global, text: &str) -> Result<Vec<Step>, Fail> {
 fn a_run_answers_as_step_by_step(rt: HostRuntime) -> Result<(), Fail> {
     let opening = "bar/i386 Failed 0 2\nfoo/amd64 Built 0 1\n";
     let steps = steps(rt.alloc(), BACK)?;
-    let (world, answers) = run(rt.alloc(), rows(rt.alloc(), opening)?, 0, steps)?;
+    let (world, answers) = run(rt.alloc(), rows(rt.alloc(), opening)?, Supply::empty(rt.alloc()), 0, steps)?;
     assert_eq!(rt; answers.len(), BACK.lines().count());
     for (answer, line) in answers.iter().zip(BACK.lines()) {
         let answer = spelled(rt.alloc(), answer)?;

@@ -9,34 +9,36 @@ ghost use Rattle.td_core.specs.Phases.{is_pinned as is_pinned_in, NoneBuilt};
 ghost use Rattle.td_core.specs.Worlds.{phase_of, hand_of, world_of, IsWorld};
 ghost use Rattle.td_rows.specs.Kinds.{cells};
 ghost use Rattle.td_core.specs.Refusals.{offer_refusal, is_queued_at, are_keys as are_keys_of, is_missing, is_unfit as is_unfit_on, is_unpinned as is_unpinned_in};
-ghost use Rattle.td_core.specs.Steps.{answer_to, after};
+ghost use Rattle.td_core.specs.Steps.{answer_to, after, supply_of};
+ghost use Rattle.td_supply.specs.Supply.{opened, stock_of};
 
-use crate::kept::Kept;
+use crate::books::Books;
 use crate::key_list::KeyList;
 use crate::step::{Answer, Hand, Phase, Refusal};
 use std::alloc::{AllocError, Global};
 use std::marker::Model;
 use td_journal::{Entry, EntryNo, Journal, Keys, Mark, is_command};
 use td_rows::{BuilderNo, Key, Kind, Outcome, Rows, applies, are_ascending, cells_of};
+use td_supply::Supply;
 
-/// The desk and its builders, without threads: a history, a phase for each row and a hand for
-/// each builder. It goes on step by step.
+/// The desk and its builders, without threads: a history, the offers, a phase for each row and a
+/// hand for each builder. It goes on step by step.
 #[derive(Drop)]
-pub struct World {
-    pub(crate) kept: Kept,
+pub struct World<'a> {
+    pub(crate) kept: Books<'a>,
     pub(crate) phases: Vec<Phase>,
     pub(crate) hands: Vec<Hand>,
     pub(crate) alloc: Global,
 }
 
-impl Model for World {
+impl<'a> Model for World<'a> {
     ghost use Rattle.td_core.specs.Worlds.{WorldView, IsWorld};
 
     ghost Value = { WorldView };
 
-    ghost view = { λ w. record { history = w.kept.history; phases = w.phases.items; hands = w.hands.items } };
+    ghost view = { λ w. record { history = w.kept.history; supply = w.kept.stock; phases = w.phases.items; hands = w.hands.items } };
 
-    ghost invariant = { λ w. IsWorld (record { history = w.kept.history; phases = w.phases.items; hands = w.hands.items }) };
+    ghost invariant = { λ w. IsWorld (record { history = w.kept.history; supply = w.kept.stock; phases = w.phases.items; hands = w.hands.items }) };
 }
 
 // So many closed phases.
@@ -61,16 +63,23 @@ fn free(alloc: Global, count: usize) -> Result<Vec<Hand>, AllocError>
     Ok(hands)
 }
 
-impl World {
-    /// The world of these rows before its first step: no row is offered, and all hands are free.
-    pub fn open(alloc: Global, rows: Rows, builders: usize) -> Result<World, AllocError>
+impl<'a> World<'a> {
+    /// The world of these rows and offers before its first step: no row is offered, and all hands
+    /// are free.
+    pub fn open(
+        alloc: Global,
+        rows: Rows,
+        supply: Supply<'a>,
+        builders: usize,
+    ) -> Result<World<'a>, AllocError>
         requires builders { builders ≤ 64 }
         requires idle { NoneBuilt rows }
-        ensures { IfOk result (λ world. world ≡ world_of rows builders) }
+        requires fresh { supply ≡ opened (stock_of supply) }
+        ensures { IfOk result (λ world. world ≡ world_of rows (stock_of supply.entry) builders) }
     {
         let phases = closed(alloc, rows.len())?;
         Ok(World {
-            kept: Kept::open(alloc, rows)?,
+            kept: Books::open(alloc, rows, supply)?,
             phases,
             hands: free(alloc, builders)?,
             alloc,
@@ -90,6 +99,14 @@ impl World {
         ensures { result.now.entries ≡ self.now.history.journal }
     {
         self.kept.journal()
+    }
+
+    /// What is on offer now: the index's offers, and in place of those whose build has arrived,
+    /// the rebuild with the number that its row had then.
+    pub fn supply(&self) -> &Supply<'a>
+        ensures { result.now ≡ supply_of self.now }
+    {
+        self.kept.supply()
     }
 
     /// The phase of a key's row.

@@ -1,4 +1,5 @@
 use Rattle.std.proofs.Common.{[], ◌++◌, ◌∷◌, ap, sym, ◌∙◌}
+use Rattle.td_supply.specs.Supply.{stock_of}
 use Rattle.td_core.specs.Worlds.{WorldView, world_of}
 use Rattle.td_core.specs.Steps.{answer_to, after, answers_to}
 use Rattle.td_core.proofs.Running.{after_all-push, answers_to-push}
@@ -6,7 +7,7 @@ use Rattle.td_core.proofs.runs.run.Goals as goal
 
 pub loop-step-preserved : goal.loop-step-preserved
 loop-step-preserved c =
-    let start = world_of c.args.rows c.args.builders in
+    let start = world_of c.args.rows (stock_of c.args.supply) c.args.builders in
     let step = c.in-Some.step in
     record {
       world = c.in_ok-try_step.ensures.ok ∙ ap (λ (w : WorldView). after w step) c.loop-step.invariant.world ∙ sym (after_all-push start c.loop-step.yielded step);

@@ -1,4 +1,5 @@
 use Rattle.std.proofs.Common.{◌≡◌}
+use Rattle.td_supply.specs.Supply.{stock_of}
 use Rattle.td_core.specs.Worlds.{world_of}
 use Rattle.td_core.specs.Steps.{after_all, answers_to}
 use Rattle.td_core.proofs.runs.run.Given as goal
@@ -6,6 +7,6 @@ use Rattle.td_core.proofs.runs.run.Given as goal
 -- the steps so far are taken and answered
 abbrev pub invariant-loop-step : goal.invariant-loop-step
 invariant-loop-step l = record {
-  world : l.world ≡ after_all (world_of l.fn.rows l.fn.builders) l.yielded;
-  answers : l.answers.items ≡ answers_to (world_of l.fn.rows l.fn.builders) l.yielded;
+  world : l.world ≡ after_all (world_of l.fn.rows (stock_of l.fn.supply) l.fn.builders) l.yielded;
+  answers : l.answers.items ≡ answers_to (world_of l.fn.rows (stock_of l.fn.supply) l.fn.builders) l.yielded;
 }

@@ -17,7 +17,7 @@ returns c =
 
 pub returns-in_err-number : goal.returns-in_err-number
 returns-in_err-number c =
-    let w : WorldView = record { history = c.self.inside.kept.history; phases = c.self.inside.phases.items; hands = c.self.inside.hands.items } in
+    let w : WorldView = record { history = c.self.inside.kept.history; supply = c.self.inside.kept.stock; phases = c.self.inside.phases.items; hands = c.self.inside.hands.items } in
     let none = ap (λ (t : Table). row_of t c.args.key.now) (sym c.rows.ensures.rows) ∙ c.in_err-number.ensures.absent in
     ap option_copied c.from_residual.ensures
     ∙ sym (phase_of-absent w c.args.key.now c.self.invariant none)

@@ -1,6 +1,5 @@
 use Rattle.std.proofs.Common.{◌≡◌, ℕ, None, sym, subst, ◌∙◌}
 use Rattle.td_core.specs.declared.step.Step.TheVariants.{Undo}
-use Rattle.td_core.specs.History.{History}
 use Rattle.td_core.specs.Worlds.{WorldView, IsWorld}
 use Rattle.td_core.specs.Steps.{refusal}
 use Rattle.td_core.proofs.Refusing.{Undoes, undoes}
@@ -19,6 +18,6 @@ undo-requires-clause-free c = (tested _ c.args.self.now c.args.n c.self.view_is 
 
 pub invariant_of-self : goal.invariant_of-self
 invariant_of-self c =
-    let w : WorldView = record { history = c.self.inside.kept.history; phases = c.self.inside.phases.items; hands = c.self.inside.hands.items } in
+    let w : WorldView = record { history = c.self.inside.kept.history; supply = c.self.inside.kept.stock; phases = c.self.inside.phases.items; hands = c.self.inside.hands.items } in
     let u = tested w c.args.self.now c.args.n c.self.view_is (sym c.undo_refusal.ensures ∙ c.in_default.is) in
-    subst (λ (h : History). IsWorld (record w { history = h })) (sym c.undo.ensures) (IsWorld-undo w c.args.n c.self.invariant u)
+    subst (λ (v : WorldView). IsWorld v) (λ j. record w { history = sym c.undo.ensures.history j; supply = sym c.undo.ensures.stock j }) (IsWorld-undo w c.args.n c.self.invariant u)
