@@ -1,6 +1,7 @@
 -- The line of a step is read exactly.
-use Rattle.std.proofs.Common.{◌≡◌, ℕ, suc, ◌<◌, ◌≤◌, ◌^◌, ◌-◌, ◌&&◌, true, cond, eqb, List, [], ◌∷◌, ◌++◌, length, Option, Some, None, refl, sym, ap, subst, ◌∙◌, arith, lit<}
+use Rattle.std.proofs.Common.{◌≡◌, ℕ, suc, ◌<◌, ◌≤◌, ◌^◌, ◌-◌, ◌&&◌, true, cond, eqb, false, List, [], ◌∷◌, ◌++◌, length, Option, Some, None, refl, sym, ap, subst, ◌∙◌, arith, lit<}
 use Rattle.std.specs.Prelude.{codes, decimal}
+use Rattle.std.specs.Str.{bytes_eq}
 use Rattle.std.proofs.lemmas.Bool.{eqb-true, and_parts}
 use Rattle.td_text.specs.Chain.{◌>>=◌}
 use Rattle.td_text.specs.Cut.{Without, cut, part, strip}
@@ -26,7 +27,7 @@ use Rattle.td_journal.proofs.KindWords.{kind_found, kind_again, kind_lacks, told
 use Rattle.td_core.specs.declared.step.Step.{Step}
 use Rattle.td_core.specs.declared.step.Step.TheVariants as steps
 use Rattle.td_simulate.specs.declared.verb.Verb.{Verb}
-use Rattle.td_simulate.specs.declared.verb.Verb.TheVariants.{Offer, Withdraw, Claim, Note, Undo, Finish, Settle, Release}
+use Rattle.td_simulate.specs.declared.verb.Verb.TheVariants.{Offer, Withdraw, Claim, Note, Undo, Finish, Settle, Release, Arrive as Arriving}
 use Rattle.td_simulate.specs.StepLines.{outcome_name, outcome_text, step_line, CommandFits, StepFits}
 use Rattle.td_simulate.specs.StepReading.{verb_at, builder_at, claim_at, end_of, finish_at, by_verb, commit_at, by_word, step_at, StepsAreExact}
 
@@ -45,6 +46,7 @@ verb_word Undo = codes "undo"
 verb_word Finish = codes "finish"
 verb_word Settle = codes "settle"
 verb_word Release = codes "release"
+verb_word Arriving = codes "arrive"
 
 abbrev Always : Verb → Type 0
 Always v = Unit {0}
@@ -59,7 +61,8 @@ verb_found t v e =
     or_word verb_word Always t v Undo _ tt (
     or_word verb_word Always t v Finish _ tt (
     or_word verb_word Always t v Settle _ tt (
-    or_word verb_word Always t v Release None tt (λ bad. absurd cc)))))))) e
+    or_word verb_word Always t v Release _ tt (
+    or_word verb_word Always t v Arriving None tt (λ bad. absurd cc))))))))) e
 
 -- ---- steps of a key or a number
 
@@ -216,6 +219,7 @@ by_verb_found Undo rest s e = number_step (codes "undo") rest steps.Undo s (λ n
 by_verb_found Finish rest s e = finish_found rest s e
 by_verb_found Settle rest s e = key_step (codes "settle") rest steps.Settle s (λ k h. (refl, h)) e
 by_verb_found Release rest s e = number_step (codes "release") rest steps.Release s (λ n h. (refl, h)) e
+by_verb_found Arriving rest s e = key_step (codes "arrive") rest steps.Arrive s (λ k h. (refl, h)) e
 
 -- ---- commands
 
@@ -276,7 +280,19 @@ by_word_found line None s is e = subst (λ (t : List ℕ). IsLineOf t s) (sym (p
 
 pub step_found : (line : List ℕ) (s : Step) → step_at line ≡ Some s → (line ≡ step_line s) × StepFits s
 unfolding step_at
-step_found line s e = by_word_found line (verb_at (part 32 line).0) s refl e
+step_found line s e = or_word step_line StepFits line s steps.Sweep _ tt (λ other. by_word_found line (verb_at (part 32 line).0) s refl other) e
+
+-- a command's line is no sweep's
+no_sweep : (k : Kind) (rest : List ℕ) → is_command k ≡ true → bytes_eq (kind_word k ++ rest) (codes "sweep") ≡ false
+no_sweep Gb rest h = refl
+no_sweep (Nmu None e m) rest h = refl
+no_sweep (Nmu (Some n) e m) rest h = refl
+no_sweep (Bp p) rest h = refl
+no_sweep (Dw t) rest h = refl
+no_sweep (Claimed b) rest h = absurd cc
+no_sweep (Ended b o) rest h = absurd cc
+no_sweep Arrive rest h = absurd cc
+no_sweep Sweep rest h = absurd cc
 
 step_again : (s : Step) → StepFits s → step_at (step_line s) ≡ Some s
 unfolding step_at part verb_at strip claim_at
@@ -286,6 +302,7 @@ step_again (steps.Claim b k) h = rw (builder_again b (key_text k) h.0, key_exact
 step_again (steps.Note k) h = rw (key_exact.again k h) refl
 step_again (steps.Commit k ks) h =
     rw (
+      no_sweep k (spaced_keys ks ++ notes (kind_notes k)) h.command,
       part_again 32 (kind_word k) (spaced_keys ks ++ notes (kind_notes k)) (kind_lacks 32 (omega arith) k h.kind) (spaced_begin ks (notes (kind_notes k)) (notes_begin (kind_notes k))),
       no_verb k h.command,
     ) (commit_again k ks h)
@@ -293,6 +310,8 @@ step_again (steps.Undo n) h = rw ((number_exact (2 ^ 64 - 1) (lit< tt)).again n 
 step_again (steps.Finish b o) h = finish_again b o h
 step_again (steps.Settle k) h = rw (key_exact.again k h) refl
 step_again (steps.Release b) h = rw ((number_exact (2 ^ 64 - 1) (lit< tt)).again b (omega arith)) refl
+step_again (steps.Arrive k) h = rw (key_exact.again k h) refl
+step_again steps.Sweep h = refl
 
 pub steps_exact : StepsAreExact
 steps_exact = record { found = step_found; again = step_again }

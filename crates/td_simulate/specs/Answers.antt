@@ -4,7 +4,7 @@ use Rattle.td_rows.specs.KeyText.{key_text}
 use Rattle.td_core.specs.declared.step.Refusal.{Refusal}
 use Rattle.td_core.specs.declared.step.Refusal.TheVariants.{NoSuchRow, NotClosed, NotQueued, NotOpen, NoSuchBuilder, NotFree, NotHeld, NotACommand, NoKeys, DoesNotApply, NotPinned, NoSuchEntry, AlreadyUndone, Blocked, NothingHeld, NotNoted, NotDone, NotFinished, NotSettled, NoMemory}
 use Rattle.td_core.specs.declared.step.Answer.{Answer}
-use Rattle.td_core.specs.declared.step.Answer.TheVariants.{Done, Entry, Undone, Refused}
+use Rattle.td_core.specs.declared.step.Answer.TheVariants.{Done, Entry, Undone, Nothing, Refused}
 
 -- the name of a refusal
 abbrev pub refusal_name : Refusal → List ℕ
@@ -42,6 +42,7 @@ abbrev pub answer_line : Answer → List ℕ
 answer_line Done = codes "done"
 answer_line (Entry n) = codes "entry " ++ decimal n
 answer_line (Undone n) = codes "undone " ++ decimal n
+answer_line Nothing = codes "nothing to sweep"
 answer_line (Refused r) = codes "refused: " ++ (refusal_name r ++ refusal_place r)
 
 abbrev pub is_refused : Answer → Bool

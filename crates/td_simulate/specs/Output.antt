@@ -6,19 +6,20 @@ use Rattle.td_rows.specs.RowLine.{row_line}
 use Rattle.td_rows.specs.Table.{Table}
 use Rattle.td_core.specs.declared.step.Step.{Step}
 use Rattle.td_core.specs.declared.step.Answer.{Answer}
+use Rattle.td_supply.specs.Supply.{nothing}
 use Rattle.td_core.specs.History.{rows_of}
 use Rattle.td_core.specs.Worlds.{world_of}
 use Rattle.td_core.specs.Steps.{answers_to, after_all}
 use Rattle.td_simulate.specs.declared.simulation.Simulated.{Simulated}
 use Rattle.td_simulate.specs.Answers.{answer_line, is_refused}
 
--- the answers to the steps, from these rows and 64 builders
+-- the answers to the steps, from these rows, without offers, and with 64 builders
 abbrev pub answers : Table → List Step → List Answer
-answers rows steps = answers_to (world_of rows 64) steps
+answers rows steps = answers_to (world_of rows nothing 64) steps
 
 -- the rows after the last step
 abbrev pub last_rows : Table → List Step → Table
-last_rows rows steps = rows_of (after_all (world_of rows 64) steps).history
+last_rows rows steps = rows_of (after_all (world_of rows nothing 64) steps).history
 
 -- all lines
 abbrev pub output : Table → List Step → List ℕ

@@ -11,7 +11,7 @@ use Rattle.td_journal.specs.Commands.{is_command}
 use Rattle.td_journal.specs.EntryFits.{KindFits}
 use Rattle.td_journal.specs.JournalText.{kind_word, kind_notes, spaced_keys}
 use Rattle.td_core.specs.declared.step.Step.{Step}
-use Rattle.td_core.specs.declared.step.Step.TheVariants.{Offer, Withdraw, Claim, Note, Commit, Undo, Finish, Settle, Release}
+use Rattle.td_core.specs.declared.step.Step.TheVariants.{Offer, Withdraw, Claim, Note, Commit, Undo, Finish, Settle, Release, Arrive, Sweep}
 
 -- how a build ended
 abbrev pub outcome_name : Outcome → List ℕ
@@ -36,6 +36,8 @@ step_line (Undo n) = codes "undo " ++ decimal n
 step_line (Finish b o) = codes "finish " ++ (decimal b ++ 32 ∷ (outcome_name o ++ text_part (outcome_text o)))
 step_line (Settle k) = codes "settle " ++ key_text k
 step_line (Release b) = codes "release " ++ decimal b
+step_line (Arrive k) = codes "arrive " ++ key_text k
+step_line Sweep = codes "sweep"
 
 -- a command that can be written; its keys may be in any order, or none
 pub record CommandFits (k : Kind) (ks : List Key) : Type 0 where
@@ -55,3 +57,5 @@ StepFits (Undo n) = n < 2 ^ 64
 StepFits (Finish b o) = b < 2 ^ 64
 StepFits (Settle k) = KeyFits k
 StepFits (Release b) = b < 2 ^ 64
+StepFits (Arrive k) = KeyFits k
+StepFits Sweep = Unit {0}

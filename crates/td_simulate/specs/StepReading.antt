@@ -14,7 +14,7 @@ use Rattle.td_journal.specs.EntryReading.{kind_at, keys_at, outcome_at, told}
 use Rattle.td_core.specs.declared.step.Step.{Step}
 use Rattle.td_core.specs.declared.step.Step.TheVariants as steps
 use Rattle.td_simulate.specs.declared.verb.Verb.{Verb}
-use Rattle.td_simulate.specs.declared.verb.Verb.TheVariants.{Offer, Withdraw, Claim, Note, Undo, Finish, Settle, Release}
+use Rattle.td_simulate.specs.declared.verb.Verb.TheVariants.{Offer, Withdraw, Claim, Note, Undo, Finish, Settle, Release, Arrive}
 use Rattle.td_simulate.specs.StepLines.{step_line, StepFits}
 
 -- the verb that a word is
@@ -27,7 +27,8 @@ verb_at word =
     else (if bytes_eq word (codes "undo") then Some Undo
     else (if bytes_eq word (codes "finish") then Some Finish
     else (if bytes_eq word (codes "settle") then Some Settle
-    else (if bytes_eq word (codes "release") then Some Release else None)))))))
+    else (if bytes_eq word (codes "release") then Some Release
+    else (if bytes_eq word (codes "arrive") then Some Arrive else None))))))))
 
 -- a builder's number, and what follows the space behind it
 unfoldable pub builder_at : List ℕ → Option (ℕ × List ℕ)
@@ -65,6 +66,7 @@ by_verb Undo rest = number_at (2 ^ 64 - 1) rest >>= λ n. Some (steps.Undo n)
 by_verb Finish rest = finish_at rest
 by_verb Settle rest = key_at rest >>= λ k. Some (steps.Settle k)
 by_verb Release rest = number_at (2 ^ 64 - 1) rest >>= λ b. Some (steps.Release b)
+by_verb Arrive rest = key_at rest >>= λ k. Some (steps.Arrive k)
 
 -- a command by its first word, and what follows that
 unfoldable pub commit_at : List ℕ → List ℕ → Option Step
@@ -79,9 +81,9 @@ abbrev pub by_word : Option Verb → List ℕ → List ℕ → Option Step
 by_word (Some verb) word rest = strip (codes " ") rest >>= by_verb verb
 by_word None word rest = commit_at word rest
 
--- the step whose line it is
+-- the step whose line it is: a sweep has one word and nothing behind it
 unfoldable pub step_at : List ℕ → Option Step
-step_at line = by_word (verb_at (part 32 line).0) (part 32 line).0 (part 32 line).1
+step_at line = if bytes_eq line (codes "sweep") then Some steps.Sweep else by_word (verb_at (part 32 line).0) (part 32 line).0 (part 32 line).1
 
 -- a line is read as a step exactly where it is the step's
 abbrev pub StepsAreExact : Type 0

@@ -84,6 +84,7 @@ pub fn put_answer_line(out: &mut String, answer: &Answer) -> Result<(), AllocErr
             out.push_str("undone ")?;
             put_number(out, *number)
         }
+        Answer::Nothing => out.push_str("nothing to sweep"),
         Answer::Refused(refusal) => {
             out.push_str("refused: ")?;
             put_refusal(out, refusal)

@@ -5,6 +5,9 @@ ghost use Rattle.td_text.specs.Lines.{text_of};
 ghost use Rattle.td_rows.specs.Table.{Table};
 ghost use Rattle.td_core.specs.declared.step.Step.{Step as StepValue};
 ghost use Rattle.td_core.specs.Phases.{NoneBuilt};
+ghost use Rattle.td_core.specs.Steps.{after_all, answers_to};
+ghost use Rattle.td_core.specs.Worlds.{world_of};
+ghost use Rattle.td_supply.specs.Supply.{nothing};
 ghost use Rattle.td_simulate.specs.Answers.{answer_line, is_refused};
 ghost use Rattle.td_simulate.specs.Output.{Tells};
 ghost use Rattle.td_simulate.specs.SimulationText.{IsSimulation, FaultOf};
@@ -14,8 +17,9 @@ use crate::fault::{SimulationFault, of_opening};
 use crate::parts::parts_of;
 use crate::steps_reading::read_steps;
 use std::alloc::{AllocError, Global};
-use td_core::{Answer, Step, run};
+use td_core::{Answer, Step, World, run};
 use td_rows::{Rows, read_state, rows_text};
+use td_supply::Supply;
 
 /// How many builders a simulation has.
 const BUILDERS: usize = 64;
@@ -69,12 +73,25 @@ fn any_refused(answers: &[Answer]) -> bool
         .any(|answer| matches!(answer, Answer::Refused(_)))
 }
 
+// The steps from these rows, one after the other, where nothing is on offer.
+fn run_without_offers<'a>(
+    alloc: Global,
+    rows: Rows,
+    steps: Vec<Step>,
+) -> Result<(World<'a>, Vec<Answer>), AllocError>
+    requires { NoneBuilt rows }
+    ensures world { IfOk result (λ end. end.0 ≡ after_all (world_of rows nothing 64) steps.items) }
+    ensures answers { IfOk result (λ end. end.1.items ≡ answers_to (world_of rows nothing 64) steps.items) }
+{
+    run(alloc, rows, Supply::empty(alloc), BUILDERS, steps)
+}
+
 // What is told of these steps from these rows.
 fn tell(alloc: Global, rows: Rows, steps: Vec<Step>) -> Result<Simulated, AllocError>
     requires { NoneBuilt rows }
     ensures { IfOk result (Tells rows steps.items) }
 {
-    let (world, answers) = run(alloc, rows, BUILDERS, steps)?;
+    let (world, answers) = run_without_offers(alloc, rows, steps)?;
     let mut text = String::new(alloc);
     put_answers(&mut text, &answers)?;
     text.push_str("rows\n")?;

@@ -93,6 +93,7 @@ fn read_by_verb(alloc: Global, verb: Verb, text: &str) -> Result<Option<Step>, A
         Verb::Offer => Step::Offer(key),
         Verb::Withdraw => Step::Withdraw(key),
         Verb::Note => Step::Note(key),
+        Verb::Arrive => Step::Arrive(key),
         _ => Step::Settle(key),
     }))
 }
@@ -125,6 +126,9 @@ pub fn read_step(alloc: Global, line: &str) -> Result<Option<Step>, AllocError>
     requires { Without 10 line.now }
     ensures { IfOk result (λ step. step ≡ step_at line.now) }
 {
+    if line == "sweep" {
+        return Ok(Some(Step::Sweep));
+    }
     let (word, rest) = part_at(line, ' ');
     match read_verb(word) {
         None => read_commit(alloc, word, rest),

@@ -101,7 +101,15 @@ fn a_text_without_steps_tells_its_rows(rt: HostRuntime) -> Result<(), Fail> {
             "BadLine: line 3 isn't a step's",
         ),
         (
-            "aa/x Built 0 0\nsteps\nsweep",
+            "aa/x Built 0 0\nsteps\nsweep\narrive aa/x",
+            "false nothing to sweep\nentry 1\nrows\naa/x Installed 0 0\n",
+        ),
+        (
+            "aa/x Built 0 0\nsteps\nsweep aa/x",
+            "BadLine: line 3 isn't a step's",
+        ),
+        (
+            "aa/x Built 0 0\nsteps\narrive aa/x aa/y",
             "BadLine: line 3 isn't a step's",
         ),
         (

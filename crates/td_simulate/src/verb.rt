@@ -12,6 +12,7 @@ pub enum Verb {
     Finish,
     Settle,
     Release,
+    Arrive,
 }
 
 /// The verb that a word is.
@@ -28,6 +29,7 @@ pub fn read_verb(word: &str) -> Option<Verb>
         "finish" => Some(Verb::Finish),
         "settle" => Some(Verb::Settle),
         "release" => Some(Verb::Release),
+        "arrive" => Some(Verb::Arrive),
         _ => None,
     }
 }
