@@ -1,16 +1,19 @@
 //! What no clause says: that steps succeed with ample memory, and that the definitions are those
 //! of the field. The expected answers and rows are the project's own worked examples.
-ghost use Rattle.std.specs.Prelude.{IfOk, pos};
+ghost use Rattle.std.specs.Prelude.{◌≡◌, IfOk, pos};
 ghost use Rattle.td_rows.specs.declared.kind.Kind.{Kind as KindValue};
 ghost use Rattle.td_rows.specs.Table.{AppliesOn};
 ghost use Rattle.td_core.specs.History.{rows_of};
 ghost use Rattle.td_core.specs.Phases.{NoneBuilt};
+ghost use Rattle.td_supply.specs.Supply.{opened, stock_of};
 
 use crate::{Answer, Kept, KeyList, Refusal, Step, World, run};
 use std::alloc::Global;
 use std::test::Fail;
 use td_journal::{Entry, Keys};
-use td_supply::Supply;
+use td_relation::Archs;
+use td_supply::{Build, Supply};
+use td_version::Version;
 use td_rows::{
     Key, Kind, Line, Outcome, Priority, Rows, are_ascending, read_key, read_state, rows_text,
 };
@@ -64,7 +67,7 @@ fn kind(alloc: Global, word: &str) -> Result<Kind, Fail> {
 
 // A step by its word and what stands behind it.
 fn step(alloc: Global, spelled: &str) -> Result<Step, Fail> {
-    let (word, rest) = spelled.split_once(' ').ok_or("a step")?;
+    let (word, rest) = spelled.split_once(' ').unwrap_or((spelled, ""));
     Ok(match word {
         "offer" => Step::Offer(key(alloc, rest)?),
         "claim=1" => Step::Claim(1, key(alloc, rest)?),
@@ -121,7 +124,19 @@ fn otherwise<'a>(
 
 // The rows after the steps, by two builders; the line that is answered otherwise, if one is.
 fn rows_after(alloc: Global, opening: &str, steps: &str) -> Result<String, Fail> {
-    let mut world = World::open(alloc, rows(alloc, opening)?, Supply::empty(alloc), 2)?;
+    rows_with(alloc, Supply::empty(alloc), opening, steps)
+}
+
+// The same, with these offers.
+fn rows_with(
+    alloc: Global,
+    supply: Supply<'_>,
+    opening: &str,
+    steps: &str,
+) -> Result<String, Fail>
+    requires { supply ≡ opened (stock_of supply) }
+{
+    let mut world = World::open(alloc, rows(alloc, opening)?, supply, 2)?;
     if let Some(line) = otherwise(alloc, &mut world, steps)? {
         return Ok(String::from_str(alloc, line)?);
     }
@@ -277,6 +292,47 @@ settle foo/amd64 => Entry(3)
 fn a_priority_is_taken_back_while_its_row_is_building(rt: HostRuntime) -> Result<(), Fail> {
     let rows = rows_after(rt.alloc(), "foo/amd64 Needs-Build 0 1\n", PRIORITY_BACK)?;
     assert_eq!(rt; rows.as_str(), "foo/amd64 Built 0 1\n");
+    Ok(())
+}
+
+// The development files of a library, on two architectures.
+fn library(alloc: Global) -> Result<Supply<'static>, Fail>
+    ensures { IfOk result (λ supply. supply ≡ opened (stock_of supply)) }
+{
+    let base = Version::read("2.0-1")?;
+    let build = Some(Build {
+        source: "bar",
+        base,
+    });
+    let archs = Archs::read(alloc, "amd64 linux amd64\ni386 linux i386")?;
+    let mut supply = Supply::new(alloc, archs);
+    supply.push("libbar-dev", Some(base), Some(0), build)?;
+    supply.push("libbar-dev", Some(base), Some(1), build)?;
+    Ok(supply)
+}
+
+const FREED: &str = "\
+sweep => Nothing
+arrive foo/amd64 => DoesNotApply foo/amd64
+arrive bar/amd64 => Entry(1)
+sweep => Entry(2)
+sweep => Nothing
+undo 1 => NotACommand
+undo 2 => NotACommand
+";
+
+#[test]
+fn a_sweep_frees_a_row_once_its_rebuild_has_arrived(rt: HostRuntime) -> Result<(), Fail> {
+    let opening = "\
+bar/amd64 Uploaded 0 1
+foo/amd64 Dep-Wait 0 1 : libbar-dev (>= 2.0-1+b1)
+foo/i386 Dep-Wait 0 1 : libbar-dev (>= 2.0-1+b1)
+";
+    let rows = rows_with(rt.alloc(), library(rt.alloc())?, opening, FREED)?;
+    assert_eq!(rt;
+        rows.as_str(),
+        "bar/amd64 Installed 0 1\nfoo/amd64 Needs-Build 0 1\nfoo/i386 Dep-Wait 0 1 : libbar-dev (>= 2.0-1+b1)\n"
+    );
     Ok(())
 }
 
