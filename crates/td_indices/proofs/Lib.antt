@@ -11,3 +11,5 @@ pub mod ArchiveFaults
 pub mod RebuildNumbers
 pub mod Greatest
 pub mod CountingLaws
+pub mod LegalNames
+pub mod OpeningRows

@@ -11,4 +11,5 @@ pub mod Archive
 pub mod FaultNames
 pub mod Seen
 pub mod Opening
+pub mod OpeningRows
 pub mod Counting

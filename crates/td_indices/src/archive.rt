@@ -3,7 +3,7 @@ use crate::grouping::{group_binaries, those_on};
 use crate::groups::Groups;
 use crate::opening::opening_on;
 use crate::packaged::{Binary, PackageKey, Packaged};
-use crate::rows::count_rows;
+use crate::rows::{count_rows, has_row};
 use crate::sourced::{Source, Sourced};
 use crate::stanza_list::read_stanzas;
 use crate::stanza_reading::{read_binaries, read_sources};
@@ -11,7 +11,7 @@ use indexmap::IndexMap;
 use std::alloc::{AllocError, Global};
 use std::marker::Model;
 use td_relation::Archs;
-use td_rows::{Key, Row};
+use td_rows::{Key, Row, Rows};
 use td_stanza::{Stanza, StanzaList};
 
 /// The binary packages and the sources that count, with the stanzas that they stand in. Contracts
@@ -30,11 +30,12 @@ pub struct Archive<'t, 'a> {
 }
 
 impl<'t, 'a> Model for Archive<'t, 'a> {
-    ghost use Rattle.std.specs.Prelude.{◌≡◌, ℕ, ◌≤◌, List};
+    ghost use Rattle.std.specs.Prelude.{◌≡◌, ℕ, ◌≤◌, List, Ok};
     ghost use Rattle.td_relation.specs.TableView.{table};
     ghost use Rattle.td_indices.specs.Archive.{Contents, is_of, places_from};
     ghost use Rattle.td_indices.specs.Groups.{group};
     ghost use Rattle.td_indices.specs.Kept.{binaries_of};
+    ghost use Rattle.td_indices.specs.Reading.{sources_at};
     ghost use Rattle.td_indices.specs.Rows.{row_count};
     ghost use Rattle.td_indices.specs.Sources.{sources_of};
 
@@ -49,17 +50,23 @@ impl<'t, 'a> Model for Archive<'t, 'a> {
     } };
 
     ghost invariant = { λ a. ((q : List ℕ) → group a.groups q ≡ places_from (is_of q) 0 (binaries_of a.binaries.entries))
-        × (a.rows ≡ row_count (table a.archs.now) (sources_of a.sources.entries)) × (a.rows ≤ 1048576) };
+        × (a.rows ≡ row_count (table a.archs.now) (sources_of a.sources.entries)) × (a.rows ≤ 1048576)
+        × (sources_at a.source_stanzas ≡ Ok (sources_of a.sources.entries)) };
 }
 
 impl<'t, 'a> Archive<'t, 'a> {
-    ghost use Rattle.std.specs.Prelude.{◌≡◌, ◌≤◌, IfOk, IfErr, length, option_map, slice_get};
+    ghost use Rattle.std.specs.Prelude.{◌≡◌, ◌+◌, ◌≤◌, ◌<◌, ◌&&◌, true, false, IfOk, IfErr, IfSome, OnOk, length, option_map, slice_get};
+    ghost use Rattle.std.specs.Str.{bytes_eq};
     ghost use Rattle.td_text.specs.Lines.{lines_of};
+    ghost use Rattle.td_text.specs.Words.{is_name};
     ghost use Rattle.td_stanza.specs.Table.{fields_of};
     ghost use Rattle.td_relation.specs.TableView.{table};
+    ghost use Rattle.td_rows.specs.Table.{row_of};
+    ghost use Rattle.td_rows.specs.Text.{has_newline};
     ghost use Rattle.td_indices.specs.Archive.{FaultOf, IsArchive, binaries_on, source_named};
     ghost use Rattle.td_indices.specs.Opening.{opening_row as opening_row_of};
-    ghost use Rattle.td_indices.specs.Rows.{row_count};
+    ghost use Rattle.td_indices.specs.OpeningRows.{has_row_on, is_key_at, with_opening};
+    ghost use Rattle.td_indices.specs.Rows.{has_row as has_row_of, row_count, rows_before};
     ghost use Rattle.td_indices.specs.Seen.{BinarySeen, SourceSeen, seen_binary, seen_source, shown_binary, shown_source};
 
     /// Reads the two indices. All faults of the stanzas as such come first, those of Packages
@@ -196,6 +203,100 @@ impl<'t, 'a> Archive<'t, 'a> {
             sourced,
             place,
         )
+    }
+
+    // How many architectures the table has.
+    fn arch_count(&self) -> usize
+        ensures { result ≡ length self.now.table }
+    {
+        self.archs.len()
+    }
+
+    // Whether a source with this Architecture field has a row on the architecture at a place.
+    fn has_row_at(&self, archs: &str, place: usize) -> bool
+        requires { place < length self.now.table }
+        ensures { result ≡ has_row_of self.now.table archs.now place }
+    {
+        has_row(self.archs, archs, place)
+    }
+
+    // The source with a number, from 0.
+    fn source_at(&self, number: usize) -> Option<Source<'a>>
+        ensures found { option_map seen_source result ≡ option_map shown_source (slice_get self.now.sources number) }
+        ensures legal { IfSome result (λ s. is_name s.name.now ≡ true) }
+    {
+        let (name, sourced) = self.sources.get_index(number)?;
+        Some(Source {
+            name,
+            version: sourced.version,
+            parts: sourced.parts,
+            archs: sourced.archs,
+            stanza: sourced.stanza,
+        })
+    }
+
+    // Puts the row with which a source opens on the architecture at a place among others.
+    fn open_at(
+        &self,
+        rows: &mut IndexMap<Key, Row>,
+        source: &str,
+        place: usize,
+    ) -> Result<(), AllocError>
+        requires source { has_newline source.now ≡ false }
+        requires place { place < length self.now.table }
+        ensures rows { OnOk result ((k : Key) → row_of rows.new.entries k ≡ with_opening (is_key_at self.now.table source.now place k) (opening_row_of self.now k) (row_of rows.old.entries k)) }
+        ensures few { OnOk result (length rows.new.entries ≤ length rows.old.entries + 1) }
+    {
+        let key = Key::from_lines(self.alloc, source, self.archs.name(place))?;
+        match self.opening_row(&key) {
+            Some(row) => match rows.insert(key, row) {
+                Ok(_) => Ok(()),
+                Err(_) => Err(AllocError),
+            },
+            None => Ok(()),
+        }
+    }
+
+    // The same on each architecture.
+    fn open_source(
+        &self,
+        rows: &mut IndexMap<Key, Row>,
+        source: &str,
+        archs: &str,
+    ) -> Result<(), AllocError>
+        requires { has_newline source.now ≡ false }
+        ensures rows { OnOk result ((k : Key) → row_of rows.new.entries k ≡ with_opening (bytes_eq k.source source.now && has_row_on self.now.table archs.now k.arch) (opening_row_of self.now k) (row_of rows.old.entries k)) }
+        ensures few { OnOk result (length rows.new.entries ≤ length rows.old.entries + rows_before self.now.table archs.now (length self.now.table)) }
+    {
+        for place in 0..self.arch_count() {
+            if self.has_row_at(archs, place) {
+                self.open_at(rows, source, place)?;
+            }
+        }
+        Ok(())
+    }
+
+    // The rows of all sources, source by source.
+    fn open_all(&self) -> Result<IndexMap<Key, Row>, AllocError>
+        ensures rows { IfOk result (λ rows. (k : Key) → row_of rows.entries k ≡ opening_row_of self.now k) }
+        ensures few { IfOk result (λ rows. length rows.entries ≤ 1048576) }
+    {
+        let mut rows = IndexMap::with_capacity(self.alloc, self.row_count())?;
+        for number in 0..self.source_count() {
+            if let Some(source) = self.source_at(number) {
+                self.open_source(&mut rows, source.name, source.archs)?;
+            }
+        }
+        Ok(rows)
+    }
+
+    /// The rows with which a desk opens: for each key the row with which it opens, and none where
+    /// it has none.
+    pub fn opening_rows(&self) -> Result<Rows, AllocError>
+        ensures { IfOk result (λ rows. (k : Key) → row_of rows k ≡ opening_row_of self.now k) }
+    {
+        let rows = self.open_all()?;
+        Rows::sorted(self.alloc, rows)
     }
 
     /// The stanza of Packages with a number, from 0.

@@ -3,7 +3,7 @@ use std::alloc::Global;
 use std::process::Abort;
 use std::test::Fail;
 use td_relation::Archs;
-use td_rows::Key;
+use td_rows::{Key, rows_text};
 use td_stanza::StanzaFault;
 
 // The archive of examples/foobar.archs, foobar.packages and foobar.sources.
@@ -85,6 +85,19 @@ fn a_key_opens_with_the_rebuild_that_is_there(rt: HostRuntime) -> Result<(), Fai
         Some(row) => assert_eq!(rt; row.number.get(), 1),
         None => assert!(rt; archive.package_stanza(0).is_none()),
     }
+    Ok(())
+}
+
+const OPENING: &str =
+    "bar/amd64 Installed 0 0\nbar/i386 Installed 0 0\nfoo/amd64 Installed 0 0\nfoo/i386 Installed 0 1\n";
+
+#[test]
+fn a_desk_opens_with_the_rows_of_all_sources(rt: HostRuntime) -> Result<(), Fail> {
+    let archs = Archs::read(rt.alloc(), ARCHS)?;
+    let archive = Archive::read(rt.alloc(), PACKAGES, SOURCES, &archs)?;
+    let rows = archive.opening_rows()?;
+    let text = rows_text(rt.alloc(), &rows)?;
+    assert_eq!(rt; text.as_str(), OPENING);
     Ok(())
 }
 
