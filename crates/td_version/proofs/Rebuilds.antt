@@ -1,12 +1,13 @@
 -- A rebuild suffix is split off where it was written.
 use Rattle.std.proofs.Common.{◌≡◌, ◌≢◌, ℕ, suc, zero, ◌<◌, ◌≤◌, ◌||◌, eqb, List, ◌∷◌, ◌++◌, length, Some, None, refl, sym, ap, subst, ◌∙◌, arith, lit<}
-use Rattle.std.specs.Prelude.{codes}
+use Rattle.std.specs.Prelude.{Option, codes, unwrap_or}
 use Rattle.std.specs.Fmt.{decimal}
 use Rattle.std.proofs.lemmas.Bool.{eqb-false, ne_eqb, or_parts}
 use Rattle.std.proofs.lemmas.List.{append-nil}
 use Rattle.td_text.proofs.Chain.{chained, some_is, when_none}
 use Rattle.td_text.proofs.Prefix.{strip_found, strip_again}
 use Rattle.td_text.proofs.Numbers.{number_exact, Without-decimal}
+use Rattle.td_version.specs.Base.{rebuilt_from, RebuildsHaveBases}
 use Rattle.td_version.specs.Rebuild.{rebuild_suffix, rebuild_text, IsRebuild}
 use Rattle.td_version.specs.Splitting.{rebuild_at}
 use Rattle.td_version.proofs.Cuts.{IsLastCut, cut_last_is, cut_last-at}
@@ -59,6 +60,20 @@ rebuild_again base n based some bounded =
       ne_eqb (length base) 0 (λ e. omega arith),
       ne_eqb n 0 (λ e. omega arith),
     ) refl
+
+-- a part with a suffix has the part before it as its base
+pub part_again : RebuildsHaveBases
+unfolding rebuilt_from
+part_again part n some bounded =
+    let found : rebuilt_from (rebuild_text part n) ≡ Some part =
+    rw (
+      suffix-digits n some,
+      cut_last-at 43 part (codes "b" ++ decimal n) (λ e. omega arith, Without-decimal 43 n (lit< tt) (omega arith)),
+      strip_again (codes "b") (decimal n),
+      (number_exact 9999 (lit< tt)).again n bounded,
+      ne_eqb n 0 (λ e. omega arith),
+    ) refl in
+    ap (λ (o : Option (List ℕ)). unwrap_or o (rebuild_text part n)) found
 
 -- ---- of what the call returned
 

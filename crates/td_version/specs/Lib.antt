@@ -8,3 +8,4 @@ pub mod Rebuild
 pub mod Splitting
 pub mod Laws
 pub mod Runs
+pub mod Base

@@ -1,4 +1,5 @@
 ghost use Rattle.std.specs.Cmp.{IsTotalOrder};
+ghost use Rattle.td_version.specs.Base.{RebuildsHaveBases};
 ghost use Rattle.td_version.specs.Order.{version_cmp};
 ghost use Rattle.td_version.specs.Runs.{PairsAreRuns};
 ghost use Rattle.td_version.specs.Laws.{
@@ -20,8 +21,9 @@ pub fn versions_are_ordered()
     ensures runs { PairsAreRuns }
 {}
 
-/// The rebuilds of a version rise above it with their numbers.
+/// The rebuilds of a version rise above it with their numbers, and have it as their base.
 pub fn rebuilds_rise()
     ensures read { RebuildsAreVersions }
     ensures rise { RebuildsRise }
+    ensures base { RebuildsHaveBases }
 {}

@@ -7,6 +7,7 @@
 //! is that of lists of symbols and numbers; a rebuild's `+bN` is split off and written exactly.
 #![tactic(auto)]
 
+mod base;
 mod cutting;
 mod laws;
 mod order;
@@ -16,6 +17,7 @@ mod rebuild;
 mod tests;
 mod version;
 
+pub use base::base_of;
 pub use laws::{rebuilds_rise, versions_are_ordered};
 pub use order::{cmp_version, is_same_version};
 pub use rebuild::{MAX_REBUILD, split_rebuild, write_rebuild};

@@ -1,0 +1,50 @@
+ghost use Rattle.std.specs.Prelude.{◌≡◌, option_map};
+ghost use Rattle.td_version.specs.Base.{base_of as base_of_parts, base_part as base_part_of, rebuilt_from as rebuilt_from_of};
+ghost use Rattle.td_version.specs.Version.{parts_of};
+
+use crate::cutting::cut_at_last;
+use crate::rebuild::MAX_REBUILD;
+use crate::version::Version;
+use td_text::{number, strip};
+
+/// What stands before `+bN` at the end of a part, if it ends so.
+#[tactic(auto, unfolding(crate::specs::Base::rebuilt_from))]
+fn rebuilt_from(part: &str) -> Option<&str>
+    ensures { option_map (λ x. x.now) result ≡ rebuilt_from_of part.now }
+{
+    let (base, suffix) = cut_at_last(part, '+')?;
+    let digits = strip(suffix, "b")?;
+    let number = number(digits, MAX_REBUILD as u64)? as u16;
+    if number == 0 {
+        return None;
+    }
+    Some(base)
+}
+
+fn base_part(part: &str) -> &str
+    ensures { result.now ≡ base_part_of part.now }
+{
+    match rebuilt_from(part) {
+        Some(base) => base,
+        None => part,
+    }
+}
+
+/// The version without the `+bN` of a rebuild, in which its revision ends, or its upstream part
+/// where no revision is written. What is left of that part may be empty.
+pub fn base_of<'a>(version: &Version<'a>) -> Version<'a>
+    ensures { parts_of result ≡ base_of_parts (parts_of version.now) }
+{
+    match version.revision {
+        Some(revision) => Version {
+            epoch: version.epoch,
+            upstream: version.upstream,
+            revision: Some(base_part(revision)),
+        },
+        None => Version {
+            epoch: version.epoch,
+            upstream: base_part(version.upstream),
+            revision: None,
+        },
+    }
+}
