@@ -1,13 +1,21 @@
--- What `clap` reads in the words that ask for the simulation.
-use Rattle.std.proofs.Common.{◌≡◌, ℕ, true, List, Option, Some, None, option_map, codes, refl, ap, ◌∙◌}
+-- What `clap` reads in the words that ask for the simulation, and in those that ask for a check.
+use Rattle.std.proofs.Common.{◌≡◌, ℕ, true, List, [], Option, Some, None, option_map, unwrap_or, codes, string_bytes, refl, sym, ap, subst, inl, inr, ◌∙◌}
+use Rattle.std.specs.Borrow.{Bor}
 use Rattle.clap.specs.Takes.{takes}
 use Rattle.clap.specs.Faults.{is_simple_and_free}
-use Rattle.clap.specs.Simple.{HasMatchesOf}
-use Rattle.clap.specs.Matches.{subcommand_name_of}
+use Rattle.clap.specs.Kinds.{HasKind}
+use Rattle.clap.specs.Values.{kind_of}
+use Rattle.clap.specs.Matches.{found_of}
+use Rattle.clap.specs.Walk.{Row, rows_of}
+use Rattle.clap.specs.Simple.{HasMatchesOf, subcommand_of, subcommand_rows_of}
+use Rattle.clap.specs.declared.error.Error.{Error}
+use Rattle.clap.specs.declared.error.kind.ErrorKind.TheVariants.{OutOfMemory}
 use Rattle.clap.specs.declared.parser.matches.ArgMatches.{ArgMatches}
-use Rattle.clap.specs.declared.parser.matches.ArgMatches.TheViews.{out-ArgMatches}
 use Rattle.clap.proofs.OnLiterals.{clap_on_literals}
-use Rattle.td_words.specs.CommandLine.{desk, asked_of, asking_for}
+use Rattle.td_words.specs.declared.request.Request.{Request}
+use Rattle.td_words.specs.declared.request.Request.TheVariants.{Simulate, Check}
+use Rattle.td_words.specs.CommandLine.{AskForCheck, HasFiles, desk, faults_of, asked_of, asking_for, asking_for_check, name_in, rows_in}
+use Rattle.td_words.specs.Asked.{Asks, IsRequestIn}
 
 pub is_taken : (program : List ℕ) → takes desk (asking_for program (codes "simulate")) ≡ true
 unfolding clap_on_literals
@@ -21,12 +29,34 @@ pub is_plain : is_simple_and_free desk ≡ true
 unfolding clap_on_literals
 is_plain = refl
 
-first_of_both : {A B C : Type 0} (f : A → B) (g : A → C) (o : Option A) → option_map f o ≡ option_map (λ (p : B × C). p.0) (option_map (λ a. (f a, g a)) o)
-first_of_both f g None = refl
-first_of_both f g (Some a) = refl
-
--- the subcommand that the matches name is the one that the words ask for
-pub name_is_asked : (m : ArgMatches) (words : List (List ℕ)) → HasMatchesOf desk words m → subcommand_name_of m ≡ asked_of words
+-- what the matches hold is what the words ask for
+pub rows_are_asked : (m : ArgMatches) (words : List (List ℕ)) → HasMatchesOf desk words m → subcommand_rows_of m ≡ subcommand_of desk words
 unfolding clap_on_literals
-name_is_asked m words has =
-    first_of_both _ _ (out-ArgMatches m).subcommand ∙ ap (option_map (λ p. p.0)) (has refl).1
+rows_are_asked m words has = (has refl).1
+
+-- the words of a check ask for it
+pub asks_for_check : (program archs packages sources : List ℕ) → AskForCheck (asking_for_check program archs packages sources) archs packages sources
+unfolding clap_on_literals
+asks_for_check program archs packages sources =
+    ((refl, refl), record { archs_path = refl; packages_path = refl; sources_path = refl })
+
+-- the matches of a subcommand, as they are in the matches that have it
+pub rows_of_matches : (m : ArgMatches) (o : Option (Bor (List ℕ) × Bor ArgMatches)) (p : Bor (List ℕ) × Bor ArgMatches) → o ≡ Some p
+    → option_map (λ q. rows_of (found_of q.1.now)) o ≡ option_map (λ q. q.1) (subcommand_rows_of m)
+    → rows_in (subcommand_rows_of m) ≡ rows_of (found_of p.1.now)
+rows_of_matches m o p is same = go (subcommand_rows_of m) (sym same ∙ ap (option_map (λ q. rows_of (found_of q.1.now))) is)
+  where
+    go : (found : Option (List ℕ × List Row)) → option_map (λ q. q.1) found ≡ Some (rows_of (found_of p.1.now)) → rows_in found ≡ rows_of (found_of p.1.now)
+    go None e = cc
+    go (Some q) e = ap (λ (r : Option (List Row)). unwrap_or r []) e
+
+-- what a subcommand asks for, the words do
+pub asks : (words : List (List ℕ)) (found : Option (List ℕ × List Row)) (r : Request) → found ≡ subcommand_of desk words → faults_of words ≡ [] → IsRequestIn found r → Asks words r
+asks words found Simulate same fine is = (fine, sym (ap name_in same) ∙ is)
+asks words found (Check archs packages sources) same fine is =
+    ((fine, sym (ap name_in same) ∙ is.0), subst (λ o. HasFiles (rows_in o) (string_bytes archs) (string_bytes packages) (string_bytes sources)) same is.1)
+
+-- where nothing is wrong with the words, only memory is wanting
+pub no_kind : (e : Error) → HasKind [] e → kind_of e ≡ OutOfMemory
+no_kind e (inl memory) = memory
+no_kind e (inr among) = absurd among

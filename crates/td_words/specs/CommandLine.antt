@@ -1,16 +1,38 @@
 -- The program's command line, as `clap` sees it. This project's own.
-use Rattle.std.specs.Prelude.{◌≡◌, ℕ, true, List, [], ◌∷◌, Option, Some, option_map, codes}
+use Rattle.std.specs.Prelude.{◌≡◌, ℕ, true, List, [], ◌∷◌, ◌++◌, Option, Some, option_map, codes}
+use Rattle.std.specs.Option.{option_map_or}
 use Rattle.clap.specs.Faults.{fault_of}
 use Rattle.clap.specs.Kinds.{Kinds}
-use Rattle.clap.specs.Simple.{App, new_app, new_shape, on_top, with_subcommand, subcommand_of}
+use Rattle.clap.specs.Walk.{Row, Rule, first_of}
+use Rattle.clap.specs.Simple.{App, Shape, new_app, new_rule, new_shape, on_top, with_subcommand, subcommand_of}
+
+-- an option that has to be there, once, with one value
+abbrev pub needed_option : List ℕ → Rule
+needed_option name = record (new_rule name) { long = Some name; value_names = 1; required = true }
+
+-- `check` has three of them
+abbrev pub check_shape : Shape
+check_shape = record (new_shape (codes "check")) { rules = needed_option (codes "archs") ∷ needed_option (codes "packages") ∷ needed_option (codes "sources") ∷ [] }
 
 -- the program has a version, and wants one of its subcommands; `simulate` has no options
 abbrev pub desk : App
-desk = with_subcommand (on_top (λ s. record s { has_version = true; subcommand_required = true }) (new_app (codes "transdesk"))) (new_shape (codes "simulate"))
+desk =
+    let program = on_top (λ s. record s { has_version = true; subcommand_required = true }) (new_app (codes "transdesk")) in
+    with_subcommand (with_subcommand program (new_shape (codes "simulate"))) check_shape
 
--- the subcommand that the words name
+-- the name of a subcommand with its matches, and those matches
+abbrev pub name_in : Option (List ℕ × List Row) → Option (List ℕ)
+name_in found = option_map (λ p. p.0) found
+
+abbrev pub rows_in : Option (List ℕ × List Row) → List Row
+rows_in found = option_map_or (λ p. p.1) found []
+
+-- the subcommand that the words name, and what they give to its options
 abbrev pub asked_of : List (List ℕ) → Option (List ℕ)
-asked_of words = option_map (λ p. p.0) (subcommand_of desk words)
+asked_of words = name_in (subcommand_of desk words)
+
+abbrev pub options_of : List (List ℕ) → List Row
+options_of words = rows_in (subcommand_of desk words)
 
 -- what is wrong with the words, calls for help and for the version included
 abbrev pub faults_of : List (List ℕ) → Kinds
@@ -23,3 +45,22 @@ AskFor name words = (faults_of words ≡ []) × (asked_of words ≡ Some name)
 -- the words that ask for a subcommand: the program's own name, whatever it is, and the subcommand's
 abbrev pub asking_for : List ℕ → List ℕ → List (List ℕ)
 asking_for program name = program ∷ name ∷ []
+
+-- the three options have these paths
+pub record HasFiles (options : List Row) (archs packages sources : List ℕ) : Type 0 where
+  pub archs_path : first_of (codes "archs") options ≡ Some archs
+  pub packages_path : first_of (codes "packages") options ≡ Some packages
+  pub sources_path : first_of (codes "sources") options ≡ Some sources
+
+-- the words ask for a check, and give the paths of these three files
+abbrev pub AskForCheck : List (List ℕ) → List ℕ → List ℕ → List ℕ → Type 0
+AskForCheck words archs packages sources = AskFor (codes "check") words × HasFiles (options_of words) archs packages sources
+
+-- `--NAME=PATH`
+abbrev pub given : List ℕ → List ℕ → List ℕ
+given name path = codes "--" ++ (name ++ (codes "=" ++ path))
+
+-- the words that ask for a check of these files, whatever their paths are
+abbrev pub asking_for_check : List ℕ → List ℕ → List ℕ → List ℕ → List (List ℕ)
+asking_for_check program archs packages sources =
+    program ∷ codes "check" ∷ given (codes "archs") archs ∷ given (codes "packages") packages ∷ given (codes "sources") sources ∷ []

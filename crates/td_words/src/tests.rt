@@ -22,7 +22,31 @@ fn usage(alloc: Global, line: &str) -> Result<String, WordsFault> {
 #[test]
 fn a_subcommand_is_asked_for_by_its_name(rt: HostRuntime) -> Result<(), Fail> {
     let request = read_words(rt.alloc(), &words(rt.alloc(), "transdesk simulate")?)?;
-    assert!(rt; request == Request::Simulate);
+    assert!(rt; matches!(request, Request::Simulate));
+    Ok(())
+}
+
+// `transdesk check` and these words, with the paths in the order of the options in its help.
+#[test]
+fn a_check_is_asked_for_with_three_files(rt: HostRuntime) -> Result<(), Fail> {
+    for line in [
+        "transdesk check --archs a --packages p --sources s",
+        "transdesk check --archs=a --packages=p --sources=s",
+        "transdesk check --sources s --archs a --packages=p",
+    ] {
+        match read_words(rt.alloc(), &words(rt.alloc(), line)?)? {
+            Request::Check {
+                archs,
+                packages,
+                sources,
+            } => {
+                assert_eq!(rt; archs.as_str(), "a", "{line}");
+                assert_eq!(rt; packages.as_str(), "p", "{line}");
+                assert_eq!(rt; sources.as_str(), "s", "{line}");
+            }
+            Request::Simulate => return Err(Fail::from("a check is due")),
+        }
+    }
     Ok(())
 }
 
@@ -59,6 +83,23 @@ fn other_words_are_answered_by_a_text(rt: HostRuntime) -> Result<(), Fail> {
             "transdesk --journal simulate",
             "error: unexpected argument '--journal' found",
         ),
+        (
+            "transdesk check --archs a --packages p",
+            "error: the following required arguments were not provided:\n  --sources <FILE>\n",
+        ),
+        (
+            "transdesk check --archs a --archs a --packages p --sources s",
+            "error: the argument '--archs <FILE>' cannot be used multiple times",
+        ),
+        (
+            "transdesk check --archs a --packages p --sources",
+            "error: a value is required for '--sources <FILE>' but none was supplied",
+        ),
+        (
+            "transdesk check --archs a --packages p --sources s file",
+            "error: unexpected argument 'file' found",
+        ),
+        ("transdesk check --help", "Count what two package indices hold"),
         ("transdesk run", "error: unrecognized subcommand 'run'"),
     ] {
         let text = usage(rt.alloc(), line)?;
@@ -73,6 +114,7 @@ fn help_has_the_statuses(rt: HostRuntime) -> Result<(), Fail> {
     let text = usage(rt.alloc(), "transdesk --help")?;
     for line in [
         "  simulate  ",
+        "  check  ",
         "Exit status:\n  0  done\n  1  something was refused",
         "\n  2  bad input\n  3  bad command line, or a call for help\n",
         "\n  4  want of memory\n  5  a read or a write failed\n",

@@ -1,35 +1,48 @@
-use Rattle.std.proofs.Common.{◌≡◌, map, string_bytes, codes, [], true, sym, Some, None, is_some, ap, ap₂, subst, ◌∙◌}
-use Rattle.std.proofs.lemmas.Bool.{false≢true}
-use Rattle.clap.specs.Matches.{subcommand_name_of}
+use Rattle.std.proofs.Common.{◌≡◌, map, string_bytes, codes, [], true, sym, Some, MatchResult, refl, ap, ap₂, subst, ◌∙◌}
+use Rattle.std.proofs.lemmas.Result.{IfOk-weaker}
+use Rattle.clap.specs.Kinds.{HasKind}
 use Rattle.clap.specs.Faults.{fault_of, is_simple_and_free}
-use Rattle.clap.specs.Simple.{HasMatchesOf}
+use Rattle.clap.specs.Simple.{HasMatchesOf, subcommand_rows_of}
 use Rattle.clap.specs.Takes.{takes}
-use Rattle.td_words.specs.CommandLine.{asked_of}
+use Rattle.td_words.specs.CommandLine.{asked_of, name_in, rows_in, HasFiles}
+use Rattle.td_words.specs.Asked.{IsRequestIn, Asks}
 use Rattle.td_words.specs.declared.request.Request.TheVariants.{Simulate}
-use Rattle.td_words.proofs.Asking.{is_taken, is_asked, is_plain, name_is_asked}
+use Rattle.td_words.specs.declared.request.WordsFault.TheVariants.{NoMemory}
+use Rattle.td_words.proofs.Asking.{is_taken, is_asked, is_plain, rows_are_asked, asks, no_kind}
 use Rattle.td_words.proofs.request.read_words.Goals as goal
 
-pub returns-in-Ok : goal.returns-in-Ok
-returns-in-Ok c =
+pub returns-in-Ok-clause-simulate : goal.returns-in-Ok-clause-simulate
+returns-in-Ok-clause-simulate c program words =
     let m = c.in-Ok.matches in
     let texts = map string_bytes c.args.words.now in
     let has = subst (λ a. HasMatchesOf a texts m) c.in_ok-command.ensures c.in-Ok.ensures.matches in
-    record {
-      simulate = λ program words.
-          let named : subcommand_name_of m ≡ Some (codes "simulate") = name_is_asked m texts has ∙ ap asked_of words ∙ is_asked program in
-          let missed : None ≡ Some Simulate = c.in-None.ensures.simulate named in
-          absurd (false≢true (ap is_some missed));
-      only = tt;
-    }
+    let named : name_in (subcommand_rows_of m) ≡ Some (codes "simulate") = ap name_in (rows_are_asked m texts has) ∙ ap asked_of words ∙ is_asked program in
+    subst (λ r. MatchResult r (λ q. q ≡ Simulate) (λ e. e ≡ NoMemory)) (sym (c.request_in.ensures.simulate named)) refl
 
-pub returns-in-Some-clause-only : goal.returns-in-Some-clause-only
-returns-in-Some-clause-only c =
-    let texts = map string_bytes c.args.words.now in
+pub returns-in-Ok-clause-check : goal.returns-in-Ok-clause-check
+returns-in-Ok-clause-check c archs packages sources asking =
     let m = c.in-Ok.matches in
+    let texts = map string_bytes c.args.words.now in
+    let has = subst (λ a. HasMatchesOf a texts m) c.in_ok-command.ensures c.in-Ok.ensures.matches in
+    let rows = rows_are_asked m texts has in
+    c.request_in.ensures.check archs packages sources (ap name_in rows ∙ asking.0.1)
+    (subst (λ o. HasFiles (rows_in o) archs packages sources) (sym rows) asking.1)
+
+pub returns-in-Ok-clause-only : goal.returns-in-Ok-clause-only
+returns-in-Ok-clause-only c =
+    let m = c.in-Ok.matches in
+    let texts = map string_bytes c.args.words.now in
     let has = subst (λ a. HasMatchesOf a texts m) c.in_ok-command.ensures c.in-Ok.ensures.matches in
     let kinds = subst (λ a. is_simple_and_free a ≡ true → fault_of a texts ≡ []) c.in_ok-command.ensures c.in-Ok.ensures.kinds in
-    (kinds is_plain, sym (name_is_asked m texts has) ∙ c.in-Some.ensures.only)
+    IfOk-weaker c.request_in.result (IsRequestIn (subcommand_rows_of m)) (Asks texts)
+    (λ r is. asks texts (subcommand_rows_of m) r (rows_are_asked m texts has) (kinds is_plain) is) c.request_in.ensures.only
 
-pub returns-clause-simulate : goal.returns-clause-simulate
-returns-clause-simulate c program words =
+pub returns-in-Err-clause-simulate : goal.returns-in-Err-clause-simulate
+returns-in-Err-clause-simulate c program words =
     c.fault_of.ensures (c.in-Err.ensures.passes (ap₂ takes c.in_ok-command.ensures words ∙ is_taken program))
+
+pub returns-in-Err-clause-check : goal.returns-in-Err-clause-check
+returns-in-Err-clause-check c archs packages sources asking =
+    let texts = map string_bytes c.args.words.now in
+    let kinds = subst (λ a. is_simple_and_free a ≡ true → HasKind (fault_of a texts) c.in-Err.error) c.in_ok-command.ensures c.in-Err.ensures.kinds in
+    c.fault_of.ensures (no_kind c.in-Err.error (subst (λ k. HasKind k c.in-Err.error) asking.0.0 (kinds is_plain)))
