@@ -48,7 +48,7 @@ kept (Some input) old rows steps = λ read simulation. Keeps-refl old
 pub ends_stopped : (known old : Option (List ℕ)) (ending : Ending) → IsStoppedBy known ending → Ends known old old ending
 ends_stopped known old Done is = absurd is
 ends_stopped known old Refused is = absurd is
-ends_stopped known old (BadInput e) is = record { says = (is.0, Keeps-refl old); only = is.1 }
+ends_stopped known old (BadInput role e) is = record { says = (is.0, is.1, Keeps-refl old); only = is.2 }
 ends_stopped known old NoMemory is = record { says = Keeps-refl old; only = kept known old }
-ends_stopped known old CannotRead is = record { says = Keeps-refl old; only = kept known old }
+ends_stopped known old (CannotRead role) is = record { says = (is, Keeps-refl old); only = kept known old }
 ends_stopped known old CannotWrite is = absurd is

@@ -25,9 +25,9 @@ pub stopped_by_text : {T : Type 0} (known : Option (List ℕ)) (e : TextFault)
     → (IsErrOf {T = T} (Err e) text.TooLong → IfSome known (λ all. INPUT_LIMIT < length all))
     → (IsErrOf {T = T} (Err e) text.NotText → IfSome known (λ all. (length all ≤ INPUT_LIMIT) × ¬ IsUtf8 all))
     → IsStoppedBy known (ending_of_text e)
-stopped_by_text known text.CannotRead long other = tt
-stopped_by_text known text.TooLong long other = (long refl, too_long known (long refl))
-stopped_by_text known text.NotText long other = (other refl, not_text known (other refl))
+stopped_by_text known text.CannotRead long other = refl
+stopped_by_text known text.TooLong long other = (refl, long refl, too_long known (long refl))
+stopped_by_text known text.NotText long other = (refl, other refl, not_text known (other refl))
 stopped_by_text known text.NoMemory long other = tt
 
 -- a fault that isn't want of memory
@@ -50,7 +50,7 @@ has_fault (Some input) all e same read bad = subst (λ t. IsText t × FaultOf t 
 pub stopped_by_simulation : (known : Option (List ℕ)) (all : List ℕ) (e : SimulationFault) → IfSome known (λ input. all ≡ input) → IsText all → FaultOf all e
     → ((rows : Table) (steps : List Step) → IsSimulation all rows steps → e ≡ fault.NoMemory) → IsStoppedBy known (ending_of_simulation e)
 stopped_by_simulation known all (fault.Opening s) same read bad only =
-    (has_fault known all (fault.Opening s) same read bad, no_simulation known all (fault.Opening s) same tt only)
+    (refl, has_fault known all (fault.Opening s) same read bad, no_simulation known all (fault.Opening s) same tt only)
 stopped_by_simulation known all (fault.BadStep n) same read bad only =
-    (has_fault known all (fault.BadStep n) same read bad, no_simulation known all (fault.BadStep n) same tt only)
+    (refl, has_fault known all (fault.BadStep n) same read bad, no_simulation known all (fault.BadStep n) same tt only)
 stopped_by_simulation known all fault.NoMemory same read bad only = tt

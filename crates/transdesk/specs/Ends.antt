@@ -10,7 +10,8 @@ use Rattle.td_simulate.specs.SimulationText.{IsSimulation, FaultOf}
 use Rattle.transdesk.specs.declared.simulation.TheConstants.{INPUT_LIMIT}
 use Rattle.transdesk.specs.declared.input_fault.InputFault.{InputFault}
 use Rattle.transdesk.specs.declared.input_fault.InputFault.TheVariants.{TooLong, NotText, Simulation}
-use Rattle.transdesk.specs.Ending.{status_of, line_of}
+use Rattle.transdesk.specs.declared.input_fault.InputFault.TheVariants as refused
+use Rattle.transdesk.specs.declared.role.Role.TheVariants.{Input}
 use Rattle.transdesk.specs.declared.ending.Ending.{Ending}
 use Rattle.transdesk.specs.declared.ending.Ending.TheVariants.{Done, Refused, BadInput, NoMemory, CannotRead, CannotWrite}
 
@@ -24,6 +25,8 @@ HasFault input TooLong = INPUT_LIMIT < length input
 HasFault input NotText = (length input ≤ INPUT_LIMIT) × ¬ IsUtf8 input
 HasFault input (Simulation fault.NoMemory) = ⊥
 HasFault input (Simulation e) = IsText input × FaultOf input e
+HasFault input (refused.Table e) = ⊥
+HasFault input (refused.Archive e) = ⊥
 
 -- these rows and steps were read, from all that the reader had
 pub record WereRead (known : Option (List ℕ)) (rows : Table) (steps : List Step) : Type 0 where
@@ -36,9 +39,9 @@ pub record WereRead (known : Option (List ℕ)) (rows : Table) (steps : List Ste
 abbrev pub EndsAs : Table → List Step → Option (List ℕ) → Option (List ℕ) → Ending → Type 0
 EndsAs rows steps old new Done = (any_refused rows steps ≡ false) × Appends old new (output rows steps)
 EndsAs rows steps old new Refused = (any_refused rows steps ≡ true) × Appends old new (output rows steps)
-EndsAs rows steps old new (BadInput e) = ⊥
+EndsAs rows steps old new (BadInput role e) = ⊥
 EndsAs rows steps old new NoMemory = Keeps old new
-EndsAs rows steps old new CannotRead = Keeps old new
+EndsAs rows steps old new (CannotRead role) = Keeps old new
 EndsAs rows steps old new CannotWrite = AppendsPrefix old new (output rows steps)
 
 -- what was read is a simulation, and it ends so
@@ -49,19 +52,12 @@ Plays known old new ending = (rows : Table) × (steps : List Step) × WereRead k
 abbrev pub Says : Option (List ℕ) → Option (List ℕ) → Option (List ℕ) → Ending → Type 0
 Says known old new Done = Plays known old new Done
 Says known old new Refused = Plays known old new Refused
-Says known old new (BadInput e) = IfSome known (λ input. HasFault input e) × Keeps old new
+Says known old new (BadInput role e) = (role ≡ Input) × IfSome known (λ input. HasFault input e) × Keeps old new
 Says known old new NoMemory = Keeps old new
-Says known old new CannotRead = Keeps old new
+Says known old new (CannotRead role) = (role ≡ Input) × Keeps old new
 Says known old new CannotWrite = Plays known old new CannotWrite
 
 -- a run ends so: the ending is as it says, and a simulation ends as one
 pub record Ends (known old new : Option (List ℕ)) (ending : Ending) : Type 0 where
   pub says : Says known old new ending
   pub only : (rows : Table) (steps : List Step) → IfSome known (λ input. IsText input → IsSimulation input rows steps → EndsAs rows steps old new ending)
-
--- the status, what is written, and what is said on standard error are those of one ending; of the line a front is said where standard error fails
-pub record Ran (known old new said_before said : Option (List ℕ)) (status : ℕ) : Type 0 where
-  pub ending : Ending
-  pub answered : status ≡ status_of ending
-  pub ends : Ends known old new ending
-  pub line : AppendsPrefix said_before said (line_of ending)

@@ -1,10 +1,11 @@
--- What the program's inner functions answer. This project's own.
-use Rattle.std.specs.Prelude.{ℕ, List, Option, IfSome}
+-- What the inner functions of a simulation answer. This project's own.
+use Rattle.std.specs.Prelude.{◌≡◌, ℕ, List, Option, IfSome}
 use Rattle.td_rows.specs.Table.{Table}
 use Rattle.td_core.specs.declared.step.Step.{Step}
 use Rattle.td_simulate.specs.declared.simulation.Simulated.{Simulated}
 use Rattle.td_simulate.specs.Output.{Tells}
 use Rattle.td_simulate.specs.SimulationText.{IsSimulation}
+use Rattle.transdesk.specs.declared.role.Role.TheVariants.{Input}
 use Rattle.transdesk.specs.declared.ending.Ending.{Ending}
 use Rattle.transdesk.specs.declared.ending.Ending.TheVariants.{Done, Refused, BadInput, NoMemory, CannotRead, CannotWrite}
 use Rattle.transdesk.specs.Ends.{IsText, HasFault, WereRead}
@@ -22,7 +23,7 @@ IsNoSimulation known = (rows : Table) (steps : List Step) → IfSome known (λ i
 abbrev pub IsStoppedBy : Option (List ℕ) → Ending → Type 0
 IsStoppedBy known Done = ⊥
 IsStoppedBy known Refused = ⊥
-IsStoppedBy known (BadInput e) = IfSome known (λ input. HasFault input e) × IsNoSimulation known
+IsStoppedBy known (BadInput role e) = (role ≡ Input) × IfSome known (λ input. HasFault input e) × IsNoSimulation known
 IsStoppedBy known NoMemory = Unit {0}
-IsStoppedBy known CannotRead = Unit {0}
+IsStoppedBy known (CannotRead role) = role ≡ Input
 IsStoppedBy known CannotWrite = ⊥

@@ -1,3 +1,9 @@
+pub mod Roles
 pub mod Ending
+pub mod Ran
 pub mod Ends
 pub mod Inside
+pub mod Counted
+pub mod Checks
+pub mod CheckInside
+pub mod Program

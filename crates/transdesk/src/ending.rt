@@ -1,11 +1,14 @@
 ghost use Rattle.std.specs.Prelude.{◌≡◌, ◌++◌, OnOk, OnErr};
 ghost use Rattle.std.specs.Io.KnownBytes.{Appends};
 ghost use Rattle.td_bytes.specs.Pieces.{AppendsPrefix};
-ghost use Rattle.transdesk.specs.Ending.{status_of, line_of, line_with};
+ghost use Rattle.transdesk.specs.Ending.{ending_of_archive, ending_of_file, ending_of_table, status_of, line_of, line_with};
 
 use crate::input_fault::InputFault;
+use crate::role::{Role, role_of_fault};
 use std::io::Write;
 use td_bytes::{TextFault, WriteFault, write_whole};
+use td_indices::ArchiveFault;
+use td_relation::ArchsFault;
 use td_simulate::SimulationFault;
 
 /// How a run of the program ends.
@@ -15,9 +18,9 @@ pub enum Ending {
     Done,
     /// All was done, and something was refused, as the output says.
     Refused,
-    BadInput(InputFault),
+    BadInput(Role, InputFault),
     NoMemory,
-    CannotRead,
+    CannotRead(Role),
     CannotWrite,
 }
 
@@ -29,9 +32,9 @@ impl From<TextFault> for Ending {
 
     fn from(fault: TextFault) -> Ending {
         match fault {
-            TextFault::CannotRead => Ending::CannotRead,
-            TextFault::TooLong => Ending::BadInput(InputFault::TooLong),
-            TextFault::NotText => Ending::BadInput(InputFault::NotText),
+            TextFault::CannotRead => Ending::CannotRead(Role::Input),
+            TextFault::TooLong => Ending::BadInput(Role::Input, InputFault::TooLong),
+            TextFault::NotText => Ending::BadInput(Role::Input, InputFault::NotText),
             TextFault::NoMemory => Ending::NoMemory,
         }
     }
@@ -46,8 +49,39 @@ impl From<SimulationFault> for Ending {
     fn from(fault: SimulationFault) -> Ending {
         match fault {
             SimulationFault::NoMemory => Ending::NoMemory,
-            fault => Ending::BadInput(InputFault::Simulation(fault)),
+            fault => Ending::BadInput(Role::Input, InputFault::Simulation(fault)),
         }
+    }
+}
+
+/// How a run ends where no text is read from a file.
+pub fn ending_of_file(role: Role, fault: TextFault) -> Ending
+    ensures { result ≡ ending_of_file role fault }
+{
+    match fault {
+        TextFault::CannotRead | TextFault::TooLong => Ending::CannotRead(role),
+        TextFault::NotText => Ending::BadInput(role, InputFault::NotText),
+        TextFault::NoMemory => Ending::NoMemory,
+    }
+}
+
+/// How a run ends where a text is no table of architectures.
+pub fn ending_of_table(fault: ArchsFault) -> Ending
+    ensures { result ≡ ending_of_table fault }
+{
+    match fault {
+        ArchsFault::NoMemory => Ending::NoMemory,
+        fault => Ending::BadInput(Role::Archs, InputFault::Table(fault)),
+    }
+}
+
+/// How a run ends where two texts are no archive.
+pub fn ending_of_archive(fault: ArchiveFault) -> Ending
+    ensures { result ≡ ending_of_archive fault }
+{
+    match fault {
+        ArchiveFault::NoMemory => Ending::NoMemory,
+        fault => Ending::BadInput(role_of_fault(fault), InputFault::Archive(fault)),
     }
 }
 
@@ -59,9 +93,9 @@ impl Ending {
         match self {
             Ending::Done => 0,
             Ending::Refused => 1,
-            Ending::BadInput(_) => 2,
+            Ending::BadInput(_, _) => 2,
             Ending::NoMemory => 4,
-            Ending::CannotRead | Ending::CannotWrite => 5,
+            Ending::CannotRead(_) | Ending::CannotWrite => 5,
         }
     }
 
@@ -74,11 +108,25 @@ impl Ending {
     {
         match self {
             Ending::Done | Ending::Refused => Ok(()),
-            Ending::BadInput(fault) => write_line(faults, b"input: ", fault.name().as_bytes()),
+            Ending::BadInput(role, fault) => {
+                write_line(faults, role.label().as_bytes(), fault.name().as_bytes())
+            }
             Ending::NoMemory => write_line(faults, b"", b"want of memory"),
-            Ending::CannotRead => write_line(faults, b"input: ", b"cannot read"),
+            Ending::CannotRead(role) => {
+                write_line(faults, role.label().as_bytes(), b"cannot read")
+            }
             Ending::CannotWrite => write_line(faults, b"", b"cannot write"),
         }
+    }
+
+    /// `tell`, and the status. What can't be told is left.
+    pub fn answer<E: Write>(self, faults: &mut E) -> u8
+        ensures status { result ≡ status_of self }
+        ensures line { AppendsPrefix (E.contents faults.old) (E.contents faults.new)
+            (line_of self) }
+    {
+        let _ = self.tell(faults);
+        self.status()
     }
 }
 

@@ -1,18 +1,21 @@
 //! The program: a desk for the rebuilds of a Debian transition, whose undo is proved.
 //!
-//! Start at `tool`: it does what the words ask for, over any reader and writers; `simulate` is its
-//! one subcommand so far. How a simulation is read and played stands in `td_simulate`, what the
-//! words ask for in `td_words`.
+//! Start at `tool`: it does what the words ask for, over any reader, files and writers. Its two
+//! subcommands are `simulation` and `checking`. How a simulation is read and played stands in
+//! `td_simulate`, how indices are read in `td_indices`, what the words ask for in `td_words`.
 //! Promised: what is written is the answer to what was read, and nothing where that is refused; a
 //! write that fails leaves a front of it; and the status and the line on standard error say which
-//! (`specs/Ends.antt`).
+//! (`specs/Ends.antt` and `specs/Checks.antt`).
 #![tactic(auto)]
 
+mod checking;
 mod ending;
 mod input_fault;
+mod role;
 mod simulation;
 #[cfg(test)]
 mod tests;
+mod texts;
 mod tool;
 
 use std::process::ExitCode;
@@ -23,6 +26,7 @@ fn main(rt: HostRuntime) -> ExitCode {
     let status = tool::tool(
         rt.alloc(),
         words,
+        &texts::Disk(&rt),
         &mut rt.stdin(),
         &mut io::writer(&rt),
         &mut rt.stderr(),

@@ -1,11 +1,13 @@
 //! The program in memory: what it writes and answers, on worked examples of this project's own.
-ghost use Rattle.std.specs.Prelude.{Some};
+ghost use Rattle.std.specs.Prelude.{None, Some};
 
+use crate::texts::Texts;
 use crate::tool::tool;
 use std::alloc::{AllocError, Global};
 use std::io;
 use std::io::{ErrorKind, Read, Write};
 use std::test::Fail;
+use td_bytes::{TextFault, read_text};
 
 // Takes three bytes a call, and fails once its room is used up.
 #[derive(Drop)]
@@ -56,18 +58,46 @@ fn words(alloc: Global, line: &str) -> Result<Vec<String>, AllocError> {
     Ok(words)
 }
 
+// Files in memory: their paths, and their bytes.
+#[derive(Clone, Copy, Drop)]
+struct Shelf<'a>(&'a [(&'a str, &'a [u8])]);
+
+impl Texts for Shelf<'_> {
+    ghost bytes = { λ _ _. None };
+
+    fn text(&self, alloc: Global, path: &str, limit: usize) -> Result<String, TextFault> {
+        match self.0.iter().find(|file| file.0 == path) {
+            Some(file) => {
+                let mut bytes = file.1;
+                read_text(alloc, &mut bytes, limit)
+            }
+            None => Err(TextFault::CannotRead),
+        }
+    }
+}
+
 // What the program answers and writes, as `STATUS OUTPUT|FAULTS`.
-fn simulated<R: Read>(alloc: Global, input: &mut R, room: usize) -> Result<String, AllocError> {
+fn ran<R: Read>(
+    alloc: Global,
+    line: &str,
+    texts: Shelf<'_>,
+    input: &mut R,
+    room: usize,
+) -> Result<String, AllocError> {
     let mut output = Narrow {
         taken: Vec::new(alloc),
         room,
     };
     let mut faults: Vec<u8> = Vec::new(alloc);
-    let words = words(alloc, "transdesk simulate")?;
-    let status = tool(alloc, Ok(words), input, &mut output, &mut faults);
+    let words = words(alloc, line)?;
+    let status = tool(alloc, Ok(words), &texts, input, &mut output, &mut faults);
     let output = String::from_utf8_lossy(alloc, output.taken.as_slice())?;
     let faults = String::from_utf8_lossy(alloc, faults.as_slice())?;
     format!(in alloc; "{status} {output}|{faults}")
+}
+
+fn simulated<R: Read>(alloc: Global, input: &mut R, room: usize) -> Result<String, AllocError> {
+    ran(alloc, "transdesk simulate", Shelf(&[]), input, room)
 }
 
 const UNDONE: &str = "\
@@ -156,6 +186,9 @@ fn words_that_ask_for_nothing_are_answered_on_the_faults(rt: HostRuntime) -> Res
         "transdesk --version",
         "transdesk simulate --help",
         "transdesk simulate x",
+        "transdesk check --help",
+        "transdesk check --archs archs --packages packages",
+        "transdesk check --archs archs --packages packages --sources sources --sources sources",
         "transdesk frob",
     ] {
         let mut output: Vec<u8> = Vec::new(alloc);
@@ -164,12 +197,100 @@ fn words_that_ask_for_nothing_are_answered_on_the_faults(rt: HostRuntime) -> Res
         let status = tool(
             alloc,
             Ok(words),
+            &Shelf(&[]),
             &mut Breaking(b""),
             &mut output,
             &mut faults,
         );
         assert_eq!(rt; status, 3, "{line}");
         assert!(rt; output.is_empty() && !faults.is_empty(), "{line}");
+    }
+    Ok(())
+}
+
+// examples/foobar.archs, foobar.packages and foobar.sources.
+const ARCHS: &str = "amd64 linux amd64\ni386 linux i386\n";
+
+const PACKAGES: &str =
+    "Package: libfoo1\nSource: foo\nVersion: 1.2-3\nArchitecture: amd64\n\nPackage: libfoo1\nSource: foo (1.2-3)\nVersion: 1.2-3+b1\nArchitecture: i386\n\nPackage: libbar-dev\nSource: bar\nVersion: 2.0-1\nArchitecture: amd64\n\nPackage: libbar-dev\nSource: bar\nVersion: 2.0-1\nArchitecture: i386\n";
+
+const SOURCES: &str =
+    "Package: foo\nVersion: 1.2-3\nArchitecture: any\nBuild-Depends: libbar-dev\n\nPackage: bar\nVersion: 2.0-1\nArchitecture: any\n";
+
+// What the program answers and writes of these three files; a path in capitals has none.
+fn checked(
+    alloc: Global,
+    paths: [&str; 3],
+    texts: [&[u8]; 3],
+    room: usize,
+) -> Result<String, AllocError> {
+    let shelf = [("a", texts[0]), ("p", texts[1]), ("s", texts[2])];
+    let line = format!(in alloc;
+        "transdesk check --archs {} --packages {} --sources {}",
+        paths[0],
+        paths[1],
+        paths[2]
+    )?;
+    ran(alloc, line.as_str(), Shelf(&shelf), &mut Breaking(b""), room)
+}
+
+// Standard input isn't read.
+#[test]
+fn an_archive_is_counted(rt: HostRuntime) -> Result<(), Fail> {
+    let texts = [ARCHS.as_bytes(), PACKAGES.as_bytes(), SOURCES.as_bytes()];
+    for (room, told) in [
+        (99, "0 sources 2 binaries 4 rows 4\n|"),
+        (9, "5 sources 2|transdesk: cannot write\n"),
+        (0, "5 |transdesk: cannot write\n"),
+    ] {
+        let found = checked(rt.alloc(), ["a", "p", "s"], texts, room)?;
+        assert_eq!(rt; found.as_str(), told);
+    }
+    Ok(())
+}
+
+// All three are read before the first is looked at, and the first fault decides.
+#[test]
+fn the_file_that_is_refused_is_named(rt: HostRuntime) -> Result<(), Fail> {
+    for (archs, packages, sources, told) in [
+        ("\u{ff}", "", "", "archs: NotText"),
+        ("x", "\u{ff}", "\u{ff}", "packages: NotText"),
+        ("x", "x", "\u{ff}", "sources: NotText"),
+        ("x", "x", "x", "archs: BadLine"),
+        ("a b c\na b c\n", "x", "x", "archs: Twice"),
+        (ARCHS, "x", "x", "packages: Stanza"),
+        (ARCHS, "", "x", "sources: Stanza"),
+        (ARCHS, "Package: lib\n", "Package: foo\n", "packages: MissingField"),
+        (
+            ARCHS,
+            "",
+            "Package: foo\nArchitecture: any\n",
+            "sources: MissingField",
+        ),
+    ] {
+        let texts = [bytes_of(archs), bytes_of(packages), bytes_of(sources)];
+        let found = checked(rt.alloc(), ["a", "p", "s"], texts, 99)?;
+        let told = format!(in rt.alloc(); "2 |transdesk: {told}\n")?;
+        assert_eq!(rt; found.as_str(), told.as_str());
+    }
+    Ok(())
+}
+
+// What stands for bytes that are no text.
+fn bytes_of(text: &str) -> &[u8] {
+    if text == "\u{ff}" { b"\xff" } else { text.as_bytes() }
+}
+
+#[test]
+fn a_file_that_is_missing_is_named(rt: HostRuntime) -> Result<(), Fail> {
+    for (paths, told) in [
+        (["A", "P", "S"], "archs"),
+        (["a", "P", "S"], "packages"),
+        (["a", "p", "S"], "sources"),
+    ] {
+        let found = checked(rt.alloc(), paths, [b"x", b"x", b"x"], 99)?;
+        let told = format!(in rt.alloc(); "5 |transdesk: {told}: cannot read\n")?;
+        assert_eq!(rt; found.as_str(), told.as_str());
     }
     Ok(())
 }

@@ -1,0 +1,41 @@
+use std::alloc::Global;
+use std::fs::File;
+use std::io::ErrorKind;
+use td_bytes::{TextFault, read_text};
+
+/// Files that are texts, by their paths. `main` reads those of the disk; tests have theirs in
+/// memory.
+pub trait Texts {
+    ghost use Rattle.std.specs.Prelude.{◌≡◌, ℕ, ◌≤◌, List, length, Option, IfOk, IfSome, IsErrOf, IsUtf8};
+    ghost use Rattle.std.specs.String.{string_bytes};
+    ghost use Rattle.td_bytes.specs.declared.text.TextFault.TheVariants.{NotText};
+
+    // The bytes of the file with this path, where clauses know them.
+    ghost bytes: { Self → List ℕ → Option (List ℕ) };
+
+    /// Reads a whole file, a text of at most `limit` bytes.
+    fn text(&self, alloc: Global, path: &str, limit: usize) -> Result<String, TextFault>
+        ensures text { IfOk result (λ text.
+            IfSome (bytes self.now path.now) (λ all. all ≡ string_bytes text)) }
+        ensures within { IfOk result (λ text. length (string_bytes text) ≤ limit) }
+        ensures not_text { IsErrOf result NotText
+            → IfSome (bytes self.now path.now) (λ all. (length all ≤ limit) × ¬ IsUtf8 all) };
+}
+
+/// The files of the disk. Clauses know nothing of their bytes.
+#[derive(Drop)]
+pub struct Disk<'a>(pub &'a HostRuntime);
+
+impl Texts for Disk<'_> {
+    ghost use Rattle.std.specs.Prelude.{None};
+
+    ghost bytes = { λ _ _. None };
+
+    fn text(&self, alloc: Global, path: &str, limit: usize) -> Result<String, TextFault> {
+        match File::open(self.0, path) {
+            Ok(mut file) => read_text(alloc, &mut file, limit),
+            Err(error) if error.kind() == ErrorKind::OutOfMemory => Err(TextFault::NoMemory),
+            Err(_) => Err(TextFault::CannotRead),
+        }
+    }
+}
