@@ -11,12 +11,6 @@ use Rattle.td_supply.specs.declared.numbers.Numbers.{Numbers}
 use Rattle.td_supply.specs.Numbers.{but_last, numbers_of}
 use Rattle.td_supply.proofs.Texts.{same_text, bytes_eq-swap}
 
--- what is left below the last item
-pub but_last-push : {A : Type 0} (xs : List A) (x : A) → but_last (xs ++ x ∷ []) ≡ xs
-but_last-push {A} xs x =
-    let one_less : length (xs ++ x ∷ []) - 1 ≡ length xs = omega (arith, length_push xs x) in
-    ap (λ (n : ℕ). take n (xs ++ x ∷ [])) one_less ∙ take-append_seam xs (x ∷ [])
-
 -- the numbers of each name after those of one are written
 pub written : (name q : List ℕ) (a b : Numbers) (old new : Vec ℕ Global) (f : List ℕ → List ℕ) → Some old ≡ get_by (λ k. bytes_eq name k.now) a.by_name → UpdatesBy (λ x y. bytes_eq x.now y.now) (λ k. bytes_eq name k.now) a.by_name b.by_name (Some new) → new.items ≡ f old.items → numbers_of b q ≡ (if bytes_eq q name then f (numbers_of a q) else numbers_of a q)
 written name q a b old new f there updates is =
