@@ -1,5 +1,5 @@
 -- The program's command line, as `clap` sees it. This project's own.
-use Rattle.std.specs.Prelude.{◌≡◌, ℕ, true, List, [], ◌∷◌, ◌++◌, Option, Some, option_map, codes}
+use Rattle.std.specs.Prelude.{◌≡◌, ◌==◌, ℕ, true, false, List, [], ◌∷◌, ◌++◌, Option, Some, option_map, codes}
 use Rattle.std.specs.Option.{option_map_or}
 use Rattle.clap.specs.Faults.{fault_of}
 use Rattle.clap.specs.Kinds.{Kinds}
@@ -64,3 +64,21 @@ given name path = codes "--" ++ (name ++ (codes "=" ++ path))
 abbrev pub asking_for_check : List ℕ → List ℕ → List ℕ → List ℕ → List (List ℕ)
 asking_for_check program archs packages sources =
     program ∷ codes "check" ∷ given (codes "archs") archs ∷ given (codes "packages") packages ∷ given (codes "sources") sources ∷ []
+
+-- a path that isn't taken for an option: its first byte is no hyphen
+abbrev pub IsPlainPath : List ℕ → Type 0
+IsPlainPath [] = ⊥
+IsPlainPath (x ∷ xs) = (x == 45) ≡ false
+
+-- the same words with the paths as words of their own
+abbrev pub asking_apart : List ℕ → List ℕ → List ℕ → List ℕ → List (List ℕ)
+asking_apart program archs packages sources =
+    program ∷ codes "check" ∷ codes "--archs" ∷ archs ∷ codes "--packages" ∷ packages ∷ codes "--sources" ∷ sources ∷ []
+
+-- both ask for the check of these files
+abbrev pub JoinedWordsAsk : Type 0
+JoinedWordsAsk = (program archs packages sources : List ℕ) → AskForCheck (asking_for_check program archs packages sources) archs packages sources
+
+abbrev pub SeparateWordsAsk : Type 0
+SeparateWordsAsk = (program archs packages sources : List ℕ) → IsPlainPath archs → IsPlainPath packages → IsPlainPath sources
+    → AskForCheck (asking_apart program archs packages sources) archs packages sources

@@ -8,8 +8,10 @@
 #![tactic(auto)]
 
 mod command;
+mod laws;
 mod request;
 #[cfg(test)]
 mod tests;
 
+pub use laws::words_of_a_check_ask_for_it;
 pub use request::{Request, WordsFault, read_words};
