@@ -38,7 +38,7 @@ first : (a b : Bool) → (a && b) ≡ true → a ≡ true
 first true b h = refl
 first false b h = h
 
-second : (a b : Bool) → (a && b) ≡ true → b ≡ true
+pub second : (a b : Bool) → (a && b) ≡ true → b ≡ true
 second true b h = h
 second false b h = cc
 
@@ -69,6 +69,10 @@ AppliesOn-freed s (p ∷ t) up k named =
         | false ↦ λ later. later
       ] named)
     ] refl
+
+-- the key of the first row names none of the others
+pub absent-freed : (s : SupplyView) (p : Key × Row) (t : Table) (k : Key) → below_all p.0 (keys_of t) ≡ true → ascending (keys_of t) ≡ true → same_key k p.0 ≡ true → names (freed s t) k ≡ true → ⊥
+absent-freed s p t k below up is later = let bad = sym (AppliesOn-freed s t up k later) ∙ ap told (row_of-below p.0 k t below is) in cc
 
 below_all-freed : (s : SupplyView) (x : Key) (t : Table) → below_all x (keys_of t) ≡ true → below_all x (freed s t) ≡ true
 below_all-freed s x [] h = refl

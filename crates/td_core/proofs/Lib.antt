@@ -10,3 +10,4 @@ pub mod Taking
 pub mod Inverse
 pub mod Arrivals
 pub mod Freeing
+pub mod Offering

@@ -4,9 +4,9 @@ use Rattle.td_rows.specs.declared.key.Key.{Key}
 use Rattle.td_rows.specs.declared.row.Row.{Row}
 use Rattle.td_rows.specs.declared.state.State.TheVariants.{NeedsBuild, Building}
 use Rattle.td_rows.specs.declared.kind.Kind.{Kind}
-use Rattle.td_rows.specs.Keys.{ascending}
+use Rattle.td_rows.specs.Keys.{ascending, names}
 use Rattle.td_rows.specs.Table.{Table, keys_of, row_of}
-use Rattle.td_supply.specs.Supply.{Stock}
+use Rattle.td_supply.specs.Supply.{Stock, arrived}
 use Rattle.td_journal.specs.declared.entry.Entry.{Entry}
 use Rattle.td_journal.specs.declared.entry.Marked.{Marked}
 use Rattle.td_journal.specs.declared.entry.Mark.TheVariants.{Standing}
@@ -15,14 +15,15 @@ use Rattle.td_journal.specs.Touching.{blocker}
 use Rattle.td_core.specs.declared.step.Phase.{Phase}
 use Rattle.td_core.specs.declared.step.Phase.TheVariants.{Noted, Done}
 use Rattle.td_core.specs.declared.step.Step.{Step}
-use Rattle.td_core.specs.declared.step.Step.TheVariants.{Commit, Undo}
+use Rattle.td_core.specs.declared.step.Step.TheVariants.{Commit, Undo, Arrive}
 use Rattle.td_core.specs.declared.step.Refusal.TheVariants.{Blocked}
 use Rattle.td_core.specs.declared.step.Answer.TheVariants.{Undone, Refused}
 use Rattle.td_core.specs.History.{rows_of}
 use Rattle.td_core.specs.Phases.{is_pinned, NoneBuilt}
 use Rattle.td_core.specs.Worlds.{WorldView, phase_of, world_of, IsWorld}
 use Rattle.td_core.specs.Refusals.{first_unpinned}
-use Rattle.td_core.specs.Steps.{refusal, answer_to, after, after_all}
+use Rattle.td_core.specs.Offers.{number_in, is_freed}
+use Rattle.td_core.specs.Steps.{refusal, answer_to, after, after_all, supply_of, swept_now}
 
 -- from an opening in which no row is built, every list of steps leads to a sound world
 abbrev pub EveryWorld : Type 0
@@ -70,3 +71,20 @@ pub record Stays (w v : WorldView) : Type 0 where
 
 abbrev pub EntriesStay : Type 0
 EntriesStay = (w : WorldView) (s : Step) → Stays w (after w s)
+
+-- whether a step is an arrival
+abbrev pub is_arrive : Step → Bool
+is_arrive (Arrive k) = true
+is_arrive s = false
+
+-- no other step changes what is on offer, an undo neither
+abbrev pub OffersStay : Type 0
+OffersStay = (w : WorldView) (s : Step) → is_arrive s ≡ false → supply_of (after w s) ≡ supply_of w
+
+-- an arrival offers the builds of its key with the number that the key's row has
+abbrev pub ArrivalsAreOffered : Type 0
+ArrivalsAreOffered = (w : WorldView) (k : Key) → refusal w (Arrive k) ≡ None → supply_of (after w (Arrive k)) ≡ arrived (supply_of w) k.source k.arch (number_in (rows_of w.history) k)
+
+-- a sweep frees a row exactly where it waits for what the offers meet, and they meet what its rebuild needs beside it
+abbrev pub SweptExactly : Type 0
+SweptExactly = (w : WorldView) (k : Key) (row : Row) → IsWorld w → row_of (rows_of w.history) k ≡ Some row → (names (swept_now w) k ≡ true) ↔ (is_freed (supply_of w) (k, row) ≡ true)
