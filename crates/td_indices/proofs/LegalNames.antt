@@ -52,7 +52,7 @@ module _ {A : Type 0} (same lower : A → A → Bool) (at : ℕ → List Entry �
   all_over n seen [] kept h is = let e : seen ≡ kept = cc in subst (λ (k : List A). AllByRecursion P k) e h
   all_over n seen (s ∷ ss) kept h is = over_by n seen s ss kept (λ more g k. all_over (n + 1) more ss kept g k) h (at n s) refl is
 
-all_at : {A : Type 0} (P : A → Type 0) (xs : List A) (n : ℕ) (x : A) → AllByRecursion P xs → slice_get xs n ≡ Some x → P x
+pub all_at : {A : Type 0} (P : A → Type 0) (xs : List A) (n : ℕ) (x : A) → AllByRecursion P xs → slice_get xs n ≡ Some x → P x
 all_at P [] n x h at = absurd (let bad : None ≡ Some x = at in cc)
 all_at P (y ∷ xs) zero x h at = let same : y ≡ x = cc in subst P same h.0
 all_at P (y ∷ xs) (suc n) x h at = all_at P xs n x h.1 at

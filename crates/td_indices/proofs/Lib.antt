@@ -13,3 +13,4 @@ pub mod Greatest
 pub mod CountingLaws
 pub mod LegalNames
 pub mod OpeningRows
+pub mod Filling

@@ -13,3 +13,4 @@ pub mod Seen
 pub mod Opening
 pub mod OpeningRows
 pub mod Counting
+pub mod Supplying

@@ -7,12 +7,14 @@ use crate::rows::{count_rows, has_row};
 use crate::sourced::{Source, Sourced};
 use crate::stanza_list::read_stanzas;
 use crate::stanza_reading::{read_binaries, read_sources};
+use crate::supplying::stocked;
 use indexmap::IndexMap;
 use std::alloc::{AllocError, Global};
 use std::marker::Model;
 use td_relation::Archs;
 use td_rows::{Key, Row, Rows};
 use td_stanza::{Stanza, StanzaList};
+use td_supply::Supply;
 
 /// The binary packages and the sources that count, with the stanzas that they stand in. Contracts
 /// see them as `Contents`.
@@ -67,6 +69,8 @@ impl<'t, 'a> Archive<'t, 'a> {
     ghost use Rattle.td_indices.specs.Opening.{opening_row as opening_row_of};
     ghost use Rattle.td_indices.specs.OpeningRows.{has_row_on, is_key_at, with_opening};
     ghost use Rattle.td_indices.specs.Rows.{has_row as has_row_of, row_count, rows_before};
+    ghost use Rattle.td_indices.specs.Supplying.{supply_of};
+    ghost use Rattle.td_supply.specs.Supply.{opened};
     ghost use Rattle.td_indices.specs.Seen.{BinarySeen, SourceSeen, seen_binary, seen_source, shown_binary, shown_source};
 
     /// Reads the two indices. All faults of the stanzas as such come first, those of Packages
@@ -297,6 +301,13 @@ impl<'t, 'a> Archive<'t, 'a> {
     {
         let rows = self.open_all()?;
         Rows::sorted(self.alloc, rows)
+    }
+
+    /// What the archive puts on offer: its binary packages, and the names that they provide.
+    pub fn supply(&self) -> Result<Supply<'a>, AllocError>
+        ensures { IfOk result (λ supply. supply ≡ opened (supply_of self.now)) }
+    {
+        stocked(self.alloc, self.archs, &self.sources, &self.binaries)
     }
 
     /// The stanza of Packages with a number, from 0.

@@ -25,6 +25,7 @@ mod source_reading;
 mod sourced;
 mod stanza_list;
 mod stanza_reading;
+mod supplying;
 #[cfg(test)]
 mod tests;
 mod text;

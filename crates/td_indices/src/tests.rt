@@ -5,6 +5,7 @@ use std::test::Fail;
 use td_relation::Archs;
 use td_rows::{Key, rows_text};
 use td_stanza::StanzaFault;
+use td_supply::Supply;
 
 // The archive of examples/foobar.archs, foobar.packages and foobar.sources.
 const ARCHS: &str = "amd64 linux amd64\ni386 linux i386\n";
@@ -98,6 +99,27 @@ fn a_desk_opens_with_the_rows_of_all_sources(rt: HostRuntime) -> Result<(), Fail
     let rows = archive.opening_rows()?;
     let text = rows_text(rt.alloc(), &rows)?;
     assert_eq!(rt; text.as_str(), OPENING);
+    Ok(())
+}
+
+// A virtual package has no version unless the field gives one (Policy 7.5).
+const PROVIDING: &str =
+    "Package: mawk\nSource: foo\nVersion: 1.2-3+b1\nArchitecture: amd64\nProvides: awk, posix-awk (= 2)\n";
+
+fn meets(supply: &Supply<'_>, relation: &str) -> bool {
+    matches!(supply.meets(relation, "amd64"), Ok(true))
+}
+
+#[test]
+fn a_package_and_what_it_provides_are_on_offer(rt: HostRuntime) -> Result<(), Fail> {
+    let archs = Archs::read(rt.alloc(), ARCHS)?;
+    let archive = Archive::read(rt.alloc(), PROVIDING, SOURCES, &archs)?;
+    let mut supply = archive.supply()?;
+    assert!(rt; meets(&supply, "awk, posix-awk (= 2)"));
+    assert!(rt; !meets(&supply, "awk (>= 1)"));
+    assert!(rt; !meets(&supply, "mawk (>= 1.2-3+b2)"));
+    supply.arrive("foo", "amd64", 2)?;
+    assert!(rt; meets(&supply, "mawk (= 1.2-3+b2)"));
     Ok(())
 }
 
