@@ -57,7 +57,7 @@ impl<'t, 'a> Model for Archive<'t, 'a> {
 }
 
 impl<'t, 'a> Archive<'t, 'a> {
-    ghost use Rattle.std.specs.Prelude.{◌≡◌, ◌+◌, ◌≤◌, ◌<◌, ◌&&◌, true, false, IfOk, IfErr, IfSome, OnOk, length, option_map, slice_get};
+    ghost use Rattle.std.specs.Prelude.{◌≡◌, ◌+◌, ◌≤◌, ◌<◌, ◌&&◌, true, false, IfOk, IfErr, IfSome, OnOk, MatchResult, length, option_map, slice_get};
     ghost use Rattle.std.specs.Str.{bytes_eq};
     ghost use Rattle.td_text.specs.Lines.{lines_of};
     ghost use Rattle.td_text.specs.Words.{is_name};
@@ -65,7 +65,8 @@ impl<'t, 'a> Archive<'t, 'a> {
     ghost use Rattle.td_relation.specs.TableView.{table};
     ghost use Rattle.td_rows.specs.Table.{row_of};
     ghost use Rattle.td_rows.specs.Text.{has_newline};
-    ghost use Rattle.td_indices.specs.Archive.{FaultOf, IsArchive, binaries_on, source_named};
+    ghost use Rattle.td_indices.specs.declared.archive_fault.ArchiveFault.{ArchiveFault};
+    ghost use Rattle.td_indices.specs.Archive.{Contents, FaultOf, IsArchive, binaries_on, source_named};
     ghost use Rattle.td_indices.specs.Opening.{opening_row as opening_row_of};
     ghost use Rattle.td_indices.specs.OpeningRows.{has_row_on, is_key_at, with_opening};
     ghost use Rattle.td_indices.specs.Rows.{has_row as has_row_of, row_count, rows_before};
@@ -84,6 +85,8 @@ impl<'t, 'a> Archive<'t, 'a> {
     ) -> Result<Archive<'t, 'a>, ArchiveFault>
         // What is read is an archive.
         ensures found { IfOk result (IsArchive (table archs.now) (lines_of packages.now) (lines_of sources.now)) }
+        // An archive is read, unless memory runs out.
+        ensures only { (a : Contents) → IsArchive (table archs.now) (lines_of packages.now) (lines_of sources.now) a → MatchResult result (λ archive. archive ≡ a) (λ e. e ≡ ArchiveFault.NoMemory) }
         ensures fault { IfErr result (FaultOf (table archs.now) (lines_of packages.now) (lines_of sources.now)) }
     {
         let packages = match read_stanzas(alloc, IndexFile::Packages, packages) {

@@ -1,6 +1,8 @@
-ghost use Rattle.std.specs.Prelude.{◌≡◌, IfOk, IfErr};
+ghost use Rattle.std.specs.Prelude.{◌≡◌, List, IfOk, IfErr, MatchResult};
 ghost use Rattle.td_text.specs.Lines.{lines_of};
+ghost use Rattle.td_stanza.specs.Field.{Entry};
 ghost use Rattle.td_stanza.specs.StanzaGrammar.{AreStanzas};
+ghost use Rattle.td_indices.specs.declared.archive_fault.ArchiveFault.{ArchiveFault};
 ghost use Rattle.td_indices.specs.Archive.{StanzaFaultOf, in_file as in_file_of};
 
 use crate::archive_fault::{ArchiveFault, IndexFile};
@@ -27,6 +29,7 @@ pub fn read_stanzas<'a>(
     text: &'a str,
 ) -> Result<StanzaList<'a>, ArchiveFault>
     ensures found { IfOk result (λ list. AreStanzas list (lines_of text.now)) }
+    ensures only { (stanzas : List (List Entry)) → AreStanzas stanzas (lines_of text.now) → MatchResult result (λ list. list ≡ stanzas) (λ e. e ≡ ArchiveFault.NoMemory) }
     ensures fault { IfErr result (StanzaFaultOf file (lines_of text.now)) }
 {
     match stanzas(alloc, text) {
