@@ -39,11 +39,7 @@ fn push_freed(
 }
 
 /// The keys of the rows that the offers free, in their order.
-pub(crate) fn freed(
-    alloc: Global,
-    supply: &Supply<'_>,
-    rows: &Rows,
-) -> Result<Vec<Key>, AllocError>
+pub(crate) fn freed(alloc: Global, supply: &Supply<'_>, rows: &Rows) -> Result<Vec<Key>, AllocError>
     ensures { IfOk result (λ keys. keys.items ≡ freed_by supply.now rows.now) }
 {
     let mut keys = Vec::new(alloc);

@@ -12,11 +12,11 @@ use std::alloc::Global;
 use std::test::Fail;
 use td_journal::{Entry, Keys};
 use td_relation::Archs;
-use td_supply::{Build, Supply};
-use td_version::Version;
 use td_rows::{
     Key, Kind, Line, Outcome, Priority, Rows, are_ascending, read_key, read_state, rows_text,
 };
+use td_supply::{Build, Supply};
+use td_version::Version;
 
 // The rows of a state file that is short.
 fn rows(alloc: Global, text: &str) -> Result<Rows, Fail>
@@ -102,7 +102,12 @@ fn spelled(alloc: Global, answer: &Answer) -> Result<String, Fail> {
 }
 
 // Whether a step is answered so.
-fn is_answered(alloc: Global, world: &mut World<'_>, step: Step, expected: &str) -> Result<bool, Fail> {
+fn is_answered(
+    alloc: Global,
+    world: &mut World<'_>,
+    step: Step,
+    expected: &str,
+) -> Result<bool, Fail> {
     let answer = spelled(alloc, &world.step(step))?;
     Ok(answer.as_str() == expected)
 }
@@ -128,12 +133,7 @@ fn rows_after(alloc: Global, opening: &str, steps: &str) -> Result<String, Fail>
 }
 
 // The same, with these offers.
-fn rows_with(
-    alloc: Global,
-    supply: Supply<'_>,
-    opening: &str,
-    steps: &str,
-) -> Result<String, Fail>
+fn rows_with(alloc: Global, supply: Supply<'_>, opening: &str, steps: &str) -> Result<String, Fail>
     requires { supply ≡ opened (stock_of supply) }
 {
     let mut world = World::open(alloc, rows(alloc, opening)?, supply, 2)?;
@@ -350,7 +350,13 @@ fn steps(alloc: Global, text: &str) -> Result<Vec<Step>, Fail> {
 fn a_run_answers_as_step_by_step(rt: HostRuntime) -> Result<(), Fail> {
     let opening = "bar/i386 Failed 0 2\nfoo/amd64 Built 0 1\n";
     let steps = steps(rt.alloc(), BACK)?;
-    let (world, answers) = run(rt.alloc(), rows(rt.alloc(), opening)?, Supply::empty(rt.alloc()), 0, steps)?;
+    let (world, answers) = run(
+        rt.alloc(),
+        rows(rt.alloc(), opening)?,
+        Supply::empty(rt.alloc()),
+        0,
+        steps,
+    )?;
     assert_eq!(rt; answers.len(), BACK.lines().count());
     for (answer, line) in answers.iter().zip(BACK.lines()) {
         let answer = spelled(rt.alloc(), answer)?;
