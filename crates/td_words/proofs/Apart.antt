@@ -112,6 +112,7 @@ pub asks_apart : (program archs packages sources : List ℕ) → IsPlainPath arc
     → AskForCheck (asking_apart program archs packages sources) archs packages sources
 unfolding clap_on_literals
 asks_apart program a p s pa pp ps =
-    let entered = entered_is program a p s pa pp ps in
-    ((faults_are program a p s pa pp ps, ap name_in entered),
-    subst (λ o. HasFiles (rows_in o) a p s) (sym entered) (record { archs_path = refl; packages_path = refl; sources_path = refl }))
+    let entered = entered_is program a p s pa pp ps in (
+      (faults_are program a p s pa pp ps, ap name_in entered),
+      subst (λ o. HasFiles (rows_in o) a p s) (sym entered) (record { archs_path = refl; packages_path = refl; sources_path = refl }),
+    )

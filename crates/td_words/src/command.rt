@@ -67,8 +67,16 @@ fn check<'a>(alloc: Global) -> Result<Command<'a>, AllocError>
     Command::new(alloc, "check")
         .about("Count what two package indices hold, and the rows that a desk would open with")
         .after_help(CHECK)
-        .arg(file(alloc, "archs", "The table of architectures: a line `NAME OS CPU` for each"))?
-        .arg(file(alloc, "packages", "The Packages index of those architectures"))?
+        .arg(file(
+            alloc,
+            "archs",
+            "The table of architectures: a line `NAME OS CPU` for each",
+        ))?
+        .arg(file(
+            alloc,
+            "packages",
+            "The Packages index of those architectures",
+        ))?
         .arg(file(alloc, "sources", "The Sources index"))
 }
 

@@ -99,7 +99,10 @@ fn other_words_are_answered_by_a_text(rt: HostRuntime) -> Result<(), Fail> {
             "transdesk check --archs a --packages p --sources s file",
             "error: unexpected argument 'file' found",
         ),
-        ("transdesk check --help", "Count what two package indices hold"),
+        (
+            "transdesk check --help",
+            "Count what two package indices hold",
+        ),
         ("transdesk run", "error: unrecognized subcommand 'run'"),
     ] {
         let text = usage(rt.alloc(), line)?;

@@ -227,11 +227,15 @@ fn checked(
     let shelf = [("a", texts[0]), ("p", texts[1]), ("s", texts[2])];
     let line = format!(in alloc;
         "transdesk check --archs {} --packages {} --sources {}",
-        paths[0],
-        paths[1],
-        paths[2]
+        paths[0], paths[1], paths[2]
     )?;
-    ran(alloc, line.as_str(), Shelf(&shelf), &mut Breaking(b""), room)
+    ran(
+        alloc,
+        line.as_str(),
+        Shelf(&shelf),
+        &mut Breaking(b""),
+        room,
+    )
 }
 
 // Standard input isn't read.

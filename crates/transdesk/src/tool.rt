@@ -74,11 +74,13 @@ pub fn tool<T: Texts, R: Read, W: Write, E: Write>(
 {
     match asked(alloc, words) {
         Ok(Request::Simulate) => simulate(alloc, reader, output, faults),
-        Ok(Request::Check {
-            archs,
-            packages,
-            sources,
-        }) => check(
+        Ok(
+            Request::Check {
+                archs,
+                packages,
+                sources,
+            },
+        ) => check(
             alloc,
             texts,
             archs.as_str(),
