@@ -1,11 +1,12 @@
 //! Debian's Packages and Sources indices as an archive: the binary packages and the sources that
-//! count, found by their names, and the rows with which a desk opens over them.
+//! count, found by their names, the rows with which a desk opens over them, and what they put on
+//! offer.
 //!
 //! Start at `Archive::read`. Texts are slices of the two files; a look-up goes by hash.
 //! Promised: what is read is an archive as `specs/Archive.antt` says, else the first fault is named;
 //! of several stanzas of one source, or of one package and architecture, the one counts that has
 //! the greatest version, the first where versions are equal in order (`specs/Counting.antt`). A key
-//! opens with the row that `specs/Opening.antt` says.
+//! opens with the row that `specs/Opening.antt` says; `specs/Supplying.antt` says what is on offer.
 #![tactic(auto)]
 
 mod archive;

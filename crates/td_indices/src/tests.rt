@@ -123,6 +123,28 @@ fn a_package_and_what_it_provides_are_on_offer(rt: HostRuntime) -> Result<(), Fa
     Ok(())
 }
 
+// The archive of examples/waves.packages and examples/waves.sources.
+const WAVES_PACKAGES: &str =
+    "Package: pa-bin\nSource: pa\nVersion: 1\nArchitecture: amd64\nDepends: libfoo2\n\nPackage: qb-dev\nSource: qb\nVersion: 1\nArchitecture: amd64\nDepends: libfoo1 (>= 1.0)\n\nPackage: qb-bin\nSource: qb\nVersion: 1\nArchitecture: amd64\nDepends: libfoo2\n\nPackage: rc-dev\nSource: rc\nVersion: 1\nArchitecture: amd64\nDepends: libfoo1\n\nPackage: sd-dev\nSource: sd\nVersion: 1\nArchitecture: amd64\nDepends: libfoo1 | libfoo3\n\nPackage: te\nVersion: 1\nArchitecture: amd64\nDepends: libfoo10\n";
+
+const WAVES_SOURCES: &str =
+    "Package: pa\nVersion: 1\nArchitecture: any\nBuild-Depends: qb-dev\n\nPackage: qb\nVersion: 1\nArchitecture: any\nBuild-Depends: libfoo-dev\n\nPackage: rc\nVersion: 1\nArchitecture: any\nBuild-Depends: sd-dev\n\nPackage: sd\nVersion: 1\nArchitecture: any\nBuild-Depends: rc-dev\n\nPackage: te\nVersion: 1\nArchitecture: any\n";
+
+const WAVES_OPENING: &str =
+    "pa/amd64 Installed 0 0\nqb/amd64 Installed 0 0\nrc/amd64 Installed 0 0\nsd/amd64 Installed 0 0\nte/amd64 Installed 0 0\n";
+
+#[test]
+fn five_sources_have_five_rows(rt: HostRuntime) -> Result<(), Fail> {
+    let archs = Archs::read(rt.alloc(), "amd64 linux amd64\n")?;
+    let archive = Archive::read(rt.alloc(), WAVES_PACKAGES, WAVES_SOURCES, &archs)?;
+    assert_eq!(rt; archive.binary_count(), 6);
+    assert_eq!(rt; archive.row_count(), 5);
+    let rows = archive.opening_rows()?;
+    let text = rows_text(rt.alloc(), &rows)?;
+    assert_eq!(rt; text.as_str(), WAVES_OPENING);
+    Ok(())
+}
+
 fn is_refused<'x>(
     rt: &impl Abort,
     alloc: Global,
