@@ -1,14 +1,12 @@
 -- What a write to the numbers of one name does to the others'.
-use Rattle.std.proofs.Common.{◌≡◌, ℕ, ◌-◌, true, false, List, [], ◌∷◌, ◌++◌, Some, if◌then◌else◌, length, take, refl, sym, ap, ◌∙◌, inl, inr, arith, Vec, Global}
+use Rattle.std.proofs.Common.{◌≡◌, ℕ, true, false, List, [], Some, if◌then◌else◌, refl, sym, ap, ◌∙◌, inl, inr, Vec, Global}
 use Rattle.std.specs.HashMap.{get_by, UpdatesBy}
 use Rattle.std.specs.Option.{option_map_or}
 use Rattle.std.specs.Str.{bytes_eq}
 use Rattle.std.proofs.lemmas.Bool.{cases_Bool}
-use Rattle.std.proofs.lemmas.List.{length_push}
 use Rattle.std.proofs.lemmas.Map.Text.{hash_map_updates_str}
-use Rattle.std.proofs.Math.Seq.{take-append_seam}
 use Rattle.td_supply.specs.declared.numbers.Numbers.{Numbers}
-use Rattle.td_supply.specs.Numbers.{but_last, numbers_of}
+use Rattle.td_supply.specs.Numbers.{numbers_of}
 use Rattle.td_supply.proofs.Texts.{same_text, bytes_eq-swap}
 
 -- the numbers of each name after those of one are written
