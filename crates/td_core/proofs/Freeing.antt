@@ -1,15 +1,15 @@
 -- The rows that an arrival or a sweep changes: no builder has one, and none is offered.
-use Rattle.std.proofs.Common.{◌≡◌, ℕ, ◌+◌, ◌==◌, Bool, true, false, ◌&&◌, ◌||◌, List, [], ◌∷◌, ◌++◌, Option, Some, None, if◌then◌else◌, map, filter, take, slice_get, length, ap, refl, sym, ◌∙◌, append-nil}
+use Rattle.std.proofs.Common.{◌≡◌, ℕ, ◌+◌, Bool, true, false, ◌&&◌, List, [], ◌∷◌, ◌++◌, Option, Some, None, if◌then◌else◌, map, filter, take, slice_get, ap, refl, sym, ◌∙◌}
 use Rattle.std.specs.Ordering.{is_lt}
 use Rattle.td_rows.specs.declared.key.Key.{Key}
 use Rattle.td_rows.specs.declared.row.Row.{Row}
 use Rattle.td_rows.specs.declared.state.State.{State}
-use Rattle.td_rows.specs.declared.state.State.TheVariants.{NeedsBuild, Building, Built, Uploaded, Installed, DepWait, BdUninstallable, BuildAttempted, Failed, NotForUs}
+use Rattle.td_rows.specs.declared.state.State.TheVariants.{NeedsBuild, Installed}
 use Rattle.td_rows.specs.declared.kind.Kind.TheVariants.{Sweep}
 use Rattle.td_rows.specs.Keys.{same_key, names, key_cmp, below_all, ascending}
 use Rattle.td_rows.specs.Meaning.{applies}
 use Rattle.td_rows.specs.States.{is_coming, is_waiting}
-use Rattle.td_rows.specs.Table.{Table, row_of, keys_of, fits, AppliesOn}
+use Rattle.td_rows.specs.Table.{Table, row_of, keys_of, AppliesOn}
 use Rattle.td_rows.proofs.Lists.{take-next}
 use Rattle.td_rows.proofs.Tables.{row_of-below}
 use Rattle.td_supply.specs.Supply.{SupplyView}

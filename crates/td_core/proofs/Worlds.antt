@@ -46,7 +46,6 @@ use Rattle.td_core.specs.Steps.{refusal, accepted, noted, settled, finished, swe
 use Rattle.td_core.proofs.Phases.{keys_of-rows_of, phase_of-with_phase, phase_of-other, phase_of-absent}
 use Rattle.td_core.proofs.Refusing.{Commits, Undoes, commits, undoes, not_refused, not_false}
 use Rattle.td_supply.specs.Supply.{Stock}
-use Rattle.td_core.specs.Offers.{freed}
 use Rattle.td_core.proofs.Suiting.{suits-command, suits-undone, state-row_after}
 use Rattle.td_core.proofs.Freeing.{suits-arrive, suits-sweep, AppliesOn-freed}
 
