@@ -7,7 +7,7 @@ use native.Mathlib.Decide.{ℕ_discrete}
 use lib.ListN.{get_elem?, length-replicate}
 use Rattle.atomic_table.specs.Seated.{TableId}
 use Rattle.atomic_table.proofs.Lists.{at_set}
-use Rattle.td_board.specs.declared.board.TheConstants.{MAX_ROWS, MAX_BUILDERS}
+use Rattle.td_board.specs.Limits.{max_rows, max_builders}
 use Rattle.td_board.specs.declared.outcome.OutcomeCode.{OutcomeCode}
 use Rattle.td_board.specs.declared.views.RowView.{RowView}
 use Rattle.td_board.specs.declared.views.RowView.TheVariants.{In, Out, Seen, Known}
@@ -18,7 +18,7 @@ use Rattle.td_board.specs.declared.views.DeskView.{DeskView}
 use Rattle.td_board.specs.declared.views.BuilderView.{BuilderView}
 use Rattle.td_board.specs.Knowledge.{new_desk, with_builder, with_row, with_deed, noted_of, holder_at}
 use Rattle.td_board.specs.Tells.{SeatState, at_desk, at_builder, desk_in, builder_in}
-use Rattle.td_board.specs.Seats.{IsDesk, IsBuilder, HasRow, rows_of, new_seat, new_seats, DeskModel, BoardModel, BuilderModel}
+use Rattle.td_board.specs.Seats.{IsDesk, KnowsItsBuilders, IsBuilder, HasRow, rows_of, new_seat, new_seats, DeskModel, BoardModel, BuilderModel}
 use Rattle.td_board.proofs.Lists.{at_less, at_replicate}
 
 -- the builder of a row's view, or n
@@ -34,10 +34,11 @@ row_inside z d hs bs r x is at = let w = is.words in let h = at_less d.rows r x 
 
 -- what is known of the row names no builder, or the one in the list
 pub keeps_row : (z : TableId) (d d' : DeskView) (hs : List ℕ) (bs r : ℕ) (x : RowView) → IsDesk z d hs bs → d'.rows ≡ set d.rows r x → length d'.noted ≡ length d.noted
-    → ((b : ℕ) → x ≡ Seen b → slice_index hs r ≡ b) → ((b : ℕ) → x ≡ Known b → slice_index hs r ≡ b) → IsDesk z d' hs bs
-keeps_row z d d' hs bs r x is rows noted seen known = record {
+    → ((b : ℕ) → x ≡ Seen b → slice_index hs r ≡ b) → ((b : ℕ) → x ≡ Known b → slice_index hs r ≡ b)
+    → ((b : ℕ) → x ≡ Seen b → (0 < b) × (b ≤ length d.noted)) → ((b : ℕ) → x ≡ Known b → (0 < b) × (b ≤ length d.noted)) → IsDesk z d' hs bs
+keeps_row z d d' hs bs r x is rows noted seen known some_seen some_known = record {
   words = is.words ∙ ap (λ n. n + 1) (sym (ap length rows ∙ length-set d.rows r x));
-  size = subst (λ n. n ≤ MAX_ROWS) (sym (ap length rows ∙ length-set d.rows r x)) is.size;
+  size = subst (λ n. n ≤ max_rows) (sym (ap length rows ∙ length-set d.rows r x)) is.size;
   long = is.long ∙ sym (ap length rows ∙ length-set d.rows r x);
   small = is.small;
   count = is.count ∙ sym noted;
@@ -50,29 +51,39 @@ keeps_row z d d' hs bs r x is rows noted seen known = record {
       (λ (t : (q ≡ r) × (x ≡ Known b)). ap (slice_index hs) t.0 ∙ known b t.1)
       (λ (t : (q ≢ r) × (get_elem? d.rows q ≡ some (Known b))). is.known q b t.1)
       (at_set d.rows r q x (Known b) (sym (ap (λ l. get_elem? l q) rows) ∙ e));
+  seated = record {
+    seen = λ q b e. subst (λ n. (0 < b) × (b ≤ n)) (sym noted) (⊎_elim
+        (λ (t : (q ≡ r) × (x ≡ Seen b)). some_seen b t.1)
+        (λ (t : (q ≢ r) × (get_elem? d.rows q ≡ some (Seen b))). is.seated.seen q b t.1)
+        (at_set d.rows r q x (Seen b) (sym (ap (λ l. get_elem? l q) rows) ∙ e)));
+    known = λ q b e. subst (λ n. (0 < b) × (b ≤ n)) (sym noted) (⊎_elim
+        (λ (t : (q ≡ r) × (x ≡ Known b)). some_known b t.1)
+        (λ (t : (q ≢ r) × (get_elem? d.rows q ≡ some (Known b))). is.seated.known q b t.1)
+        (at_set d.rows r q x (Known b) (sym (ap (λ l. get_elem? l q) rows) ∙ e)));
+  };
 }
 
 -- the row is In again
 pub keeps_in : (z : TableId) (d : DeskView) (hs : List ℕ) (bs r : ℕ) → IsDesk z d hs bs → IsDesk z (with_row r In d) hs bs
-keeps_in z d hs bs r is = keeps_row z d (with_row r In d) hs bs r In is refl refl (λ b e. absurd (cc)) (λ b e. absurd (cc))
+keeps_in z d hs bs r is = keeps_row z d (with_row r In d) hs bs r In is refl refl (λ b e. absurd (cc)) (λ b e. absurd (cc)) (λ b e. absurd (cc)) (λ b e. absurd (cc))
 
 -- the row is Out
 pub keeps_out : (z : TableId) (d : DeskView) (hs : List ℕ) (bs r : ℕ) → IsDesk z d hs bs → IsDesk z (with_row r Out d) hs bs
-keeps_out z d hs bs r is = keeps_row z d (with_row r Out d) hs bs r Out is refl refl (λ b e. absurd (cc)) (λ b e. absurd (cc))
+keeps_out z d hs bs r is = keeps_row z d (with_row r Out d) hs bs r Out is refl refl (λ b e. absurd (cc)) (λ b e. absurd (cc)) (λ b e. absurd (cc)) (λ b e. absurd (cc))
 
 -- the list takes the builder that the row names from now on
-pub keeps_seen : (z : TableId) (d : DeskView) (hs : List ℕ) (bs r b : ℕ) → IsDesk z d hs bs → r < length d.rows → b ≤ MAX_BUILDERS → IsDesk z (with_row r (Seen b) d) (set hs r b) bs
-keeps_seen z d hs bs r b is inside small =
+pub keeps_seen : (z : TableId) (d : DeskView) (hs : List ℕ) (bs r b : ℕ) → IsDesk z d hs bs → r < length d.rows → b ≤ max_builders → 0 < b → b ≤ length d.noted → IsDesk z (with_row r (Seen b) d) (set hs r b) bs
+keeps_seen z d hs bs r b is inside small low high =
     let long = is.long in
     let here : slice_index (set hs r b) r ≡ b = get_or-set_same hs r b 0 (omega arith) in
     let else : (q : ℕ) → q ≢ r → slice_index (set hs r b) q ≡ slice_index hs q = λ q ne. get_or-set_other hs r q b 0 ne in
     record {
       words = is.words ∙ ap (λ n. n + 1) (sym (length-set d.rows r (Seen b)));
-      size = subst (λ n. n ≤ MAX_ROWS) (sym (length-set d.rows r (Seen b))) is.size;
+      size = subst (λ n. n ≤ max_rows) (sym (length-set d.rows r (Seen b))) is.size;
       long = length-set hs r b ∙ (is.long ∙ sym (length-set d.rows r (Seen b)));
       small = λ q. dite (ℕ_discrete q r)
-          (λ e. subst (λ n. n ≤ MAX_BUILDERS) (sym (ap (slice_index (set hs r b)) e ∙ here)) small)
-          (λ ne. subst (λ n. n ≤ MAX_BUILDERS) (sym (else q ne)) (is.small q));
+          (λ e. subst (λ n. n ≤ max_builders) (sym (ap (slice_index (set hs r b)) e ∙ here)) small)
+          (λ ne. subst (λ n. n ≤ max_builders) (sym (else q ne)) (is.small q));
       count = is.count;
       few = is.few;
       seen = λ q c e. ⊎_elim
@@ -83,34 +94,52 @@ keeps_seen z d hs bs r b is inside small =
           (λ (t : (q ≡ r) × (Seen b ≡ Known c)). absurd (let no : Seen b ≡ Known c = t.1 in cc))
           (λ (t : (q ≢ r) × (get_elem? d.rows q ≡ some (Known c))). else q t.0 ∙ is.known q c t.1)
           (at_set d.rows r q (Seen b) (Known c) e);
+      seated = record {
+        seen = λ q c e. ⊎_elim
+            (λ (t : (q ≡ r) × (Seen b ≡ Seen c)). subst (λ n. (0 < n) × (n ≤ length d.noted)) (ap (name_or 0) t.1) (low, high))
+            (λ (t : (q ≢ r) × (get_elem? d.rows q ≡ some (Seen c))). is.seated.seen q c t.1)
+            (at_set d.rows r q (Seen b) (Seen c) e);
+        known = λ q c e. ⊎_elim
+            (λ (t : (q ≡ r) × (Seen b ≡ Known c)). absurd (let no : Seen b ≡ Known c = t.1 in cc))
+            (λ (t : (q ≢ r) × (get_elem? d.rows q ≡ some (Known c))). is.seated.known q c t.1)
+            (at_set d.rows r q (Seen b) (Known c) e);
+      };
     }
 
 -- a claim is noted
-pub keeps_note : (z : TableId) (d : DeskView) (hs : List ℕ) (bs r b : ℕ) (e : Deed) → IsDesk z d hs bs → slice_index hs r ≡ b → IsDesk z (with_deed b e (with_row r (Known b) d)) hs bs
-keeps_note z d hs bs r b e is at = keeps_row z d (with_deed b e (with_row r (Known b) d)) hs bs r (Known b) is refl (length-set d.noted (b - 1) (noted_of d b ++ e ∷ [])) (λ c h. absurd (cc)) (λ c h. at ∙ ap (name_or 0) h)
+pub keeps_note : (z : TableId) (d : DeskView) (hs : List ℕ) (bs r b : ℕ) (e : Deed) → IsDesk z d hs bs → slice_index hs r ≡ b → 0 < b → b ≤ length d.noted → IsDesk z (with_deed b e (with_row r (Known b) d)) hs bs
+keeps_note z d hs bs r b e is at low high = keeps_row z d (with_deed b e (with_row r (Known b) d)) hs bs r (Known b) is refl (length-set d.noted (b - 1) (noted_of d b ++ e ∷ [])) (λ c h. absurd (cc)) (λ c h. at ∙ ap (name_or 0) h)
+    (λ c h. absurd (cc)) (λ c h. subst (λ n. (0 < n) × (n ≤ length d.noted)) (ap (name_or 0) h) (low, high))
 
 -- an outcome is noted
 pub keeps_settling : (z : TableId) (d : DeskView) (hs : List ℕ) (bs r b : ℕ) (e : Deed) → IsDesk z d hs bs → IsDesk z (with_deed b e (with_row r In d)) hs bs
-keeps_settling z d hs bs r b e is = keeps_row z d (with_deed b e (with_row r In d)) hs bs r In is refl (length-set d.noted (b - 1) (noted_of d b ++ e ∷ [])) (λ c h. absurd (cc)) (λ c h. absurd (cc))
+keeps_settling z d hs bs r b e is = keeps_row z d (with_deed b e (with_row r In d)) hs bs r In is refl (length-set d.noted (b - 1) (noted_of d b ++ e ∷ [])) (λ c h. absurd (cc)) (λ c h. absurd (cc)) (λ c h. absurd (cc)) (λ c h. absurd (cc))
 
 -- a builder more
-pub keeps_builder : (z : TableId) (d : DeskView) (hs : List ℕ) (bs n : ℕ) → IsDesk z d hs bs → n ≡ length d.noted + 1 → n ≤ MAX_BUILDERS → IsDesk z (with_builder d) hs n
-keeps_builder z d hs bs n is next few = record { words = is.words; size = is.size; long = is.long; small = is.small; count = next ∙ sym (length-append d.noted ([] ∷ [])); few = few; seen = is.seen; known = is.known }
+pub keeps_builder : (z : TableId) (d : DeskView) (hs : List ℕ) (bs n : ℕ) → IsDesk z d hs bs → n ≡ length d.noted + 1 → n ≤ max_builders → IsDesk z (with_builder d) hs n
+keeps_builder z d hs bs n is next few = record { words = is.words; size = is.size; long = is.long; small = is.small; count = next ∙ sym (length-append d.noted ([] ∷ [])); few = few; seen = is.seen; known = is.known; seated = record { seen = λ r b e. more b (is.seated.seen r b e); known = λ r b e. more b (is.seated.known r b e) } }
+  where
+    more : (b : ℕ) → (0 < b) × (b ≤ length d.noted) → (0 < b) × (b ≤ length (d.noted ++ [] ∷ []))
+    more b s = let long : length (d.noted ++ [] ∷ []) ≡ length d.noted + 1 = length-append d.noted ([] ∷ []) in let high : b ≤ length d.noted = s.1 in (s.0, omega arith)
 
 -- the desk's seat of a new board
-pub keeps_new : (z : TableId) (rows : ℕ) → z.words ≡ rows + 1 → rows ≤ MAX_ROWS → IsDesk z (new_desk rows 0) (replicate rows 0) 0
+pub keeps_new : (z : TableId) (rows : ℕ) → z.words ≡ rows + 1 → rows ≤ max_rows → IsDesk z (new_desk rows 0) (replicate rows 0) 0
 keeps_new z rows words few = record {
   words = words ∙ ap (λ n. n + 1) (sym (length-replicate rows In));
-  size = subst (λ n. n ≤ MAX_ROWS) (sym (length-replicate rows In)) few;
+  size = subst (λ n. n ≤ max_rows) (sym (length-replicate rows In)) few;
   long = length-replicate rows 0 ∙ sym (length-replicate rows In);
   small = zeros rows;
   count = refl;
   few = omega arith;
   seen = λ q b e. absurd (let no : In ≡ Seen b = at_replicate rows q In (Seen b) e in cc);
   known = λ q b e. absurd (let no : In ≡ Known b = at_replicate rows q In (Known b) e in cc);
+  seated = record {
+    seen = λ q b e. absurd (let no : In ≡ Seen b = at_replicate rows q In (Seen b) e in cc);
+    known = λ q b e. absurd (let no : In ≡ Known b = at_replicate rows q In (Known b) e in cc);
+  };
 }
   where
-    zeros : (n q : ℕ) → slice_index (replicate n 0) q ≤ MAX_BUILDERS
+    zeros : (n q : ℕ) → slice_index (replicate n 0) q ≤ max_builders
     zeros zero q = omega arith
     zeros (suc n) zero = omega arith
     zeros (suc n) (suc q) = zeros n q
@@ -146,7 +175,7 @@ pub record DeskUse (z zb : TableId) (me : SeatState) (hs : List ℕ) (row : ℕ)
 -- from the desk's seat, the board and what the call requires
 pub desk_use : (z zb : TableId) (me : SeatState) (hs : List ℕ) (bs : ℕ) (m : DeskModel) (bm : BoardModel) (key rows row : ℕ) (x : RowView)
     → (let v : DeskModel = record { table = z; desk = desk_in me.0 } in v) ≡ m → (let v : BoardModel = record { table = zb; rows = rows } in v) ≡ bm
-    → (me ≡ at_desk (desk_in me.0)) × IsDesk z (desk_in me.0) hs bs → (key ≡ rows) × (zb.words ≡ rows + 1) × (rows ≤ MAX_ROWS)
+    → (me ≡ at_desk (desk_in me.0)) × IsDesk z (desk_in me.0) hs bs → (key ≡ rows) × (zb.words ≡ rows + 1) × (rows ≤ max_rows)
     → m.table ≡ bm.table → get_elem? m.desk.rows row ≡ some x → DeskUse z zb me hs row x
 desk_use z zb me hs bs m bm key rows row x is is_b kept sized table at =
     let here : get_elem? (desk_in me.0).rows row ≡ some x = subst (λ (v : DeskModel). get_elem? v.desk.rows row ≡ some x) (sym is) at in
@@ -168,7 +197,7 @@ pub record BuilderUse (z zb : TableId) (rows row : ℕ) : Type 0 where
 -- from the builder's seat, the board and what the call requires
 pub builder_use : (z zb : TableId) (b : BuilderView) (m : BuilderModel) (bm : BoardModel) (key rows row : ℕ)
     → (let v : BuilderModel = record { table = z; builder = b } in v) ≡ m → (let v : BoardModel = record { table = zb; rows = rows } in v) ≡ bm
-    → (key ≡ rows) × (zb.words ≡ rows + 1) × (rows ≤ MAX_ROWS) → m.table ≡ bm.table → row < rows_of z → BuilderUse z zb key row
+    → (key ≡ rows) × (zb.words ≡ rows + 1) × (rows ≤ max_rows) → m.table ≡ bm.table → row < rows_of z → BuilderUse z zb key row
 builder_use z zb b m bm key rows row is is_b sized table at =
     let same : z ≡ zb = ap (λ (v : BuilderModel). v.table) is ∙ (table ∙ sym (ap (λ (v : BoardModel). v.table) is_b)) in
     let inside : row < zb.words - 1 = subst (λ (t : TableId). row < t.words - 1) same at in

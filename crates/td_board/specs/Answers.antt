@@ -1,6 +1,6 @@
 -- What the answers of the board's calls say, by cases. This project's own.
 use Rattle.std.specs.Prelude.{◌≡◌, ◌≢◌, ◌⊎◌, ℕ, ◌<◌, ◌≤◌, List, length}
-use Rattle.td_board.specs.declared.board.TheConstants.{MAX_ROWS, MAX_BUILDERS}
+use Rattle.td_board.specs.Limits.{max_rows, max_builders}
 use Rattle.td_board.specs.declared.outcome.OutcomeCode.{OutcomeCode}
 use Rattle.td_board.specs.declared.views.RowView.TheVariants.{In, Seen}
 use Rattle.td_board.specs.declared.views.Hand.TheVariants.{Holding, Finished}
@@ -13,17 +13,17 @@ use Rattle.td_board.specs.Seats.{BoardModel, DeskModel, BuilderModel, new_seats}
 
 -- a board of so many rows, the desk's seat, and a seat for each of so many builders
 pub record IsMade (rows builders : ℕ) (board : BoardModel) (desk : DeskModel) (seats : List BuilderModel) : Type 0 where
-  pub rows_fit : rows ≤ MAX_ROWS
-  pub builders_fit : builders ≤ MAX_BUILDERS
+  pub rows_fit : rows ≤ max_rows
+  pub builders_fit : builders ≤ max_builders
   pub board_rows : board.rows ≡ rows
   pub desk_seat : desk ≡ record { table = board.table; desk = new_desk rows builders }
   pub builder_seats : seats ≡ new_seats board.table 1 builders
 
 -- when each refusal comes, of a board for so many rows and builders: too many rows before too many builders, and want of memory only within both limits
 abbrev pub IsRefusal : ℕ → ℕ → MakeRefusal → Type 0
-IsRefusal rows builders TooManyRows = MAX_ROWS < rows
-IsRefusal rows builders TooManyBuilders = (rows ≤ MAX_ROWS) × (MAX_BUILDERS < builders)
-IsRefusal rows builders NoMemory = (rows ≤ MAX_ROWS) × (builders ≤ MAX_BUILDERS)
+IsRefusal rows builders TooManyRows = max_rows < rows
+IsRefusal rows builders TooManyBuilders = (rows ≤ max_rows) × (max_builders < builders)
+IsRefusal rows builders NoMemory = (rows ≤ max_rows) × (builders ≤ max_builders)
 
 -- a withdrawn row is In again; a held one is Seen, and its builder is one of the board's
 abbrev pub Withdraws : ℕ → DeskModel → DeskModel → Withdrawal → Type 0

@@ -1,5 +1,6 @@
 pub mod Answers
 pub mod Knowledge
+pub mod Limits
 pub mod OutcomeCode
 pub mod Phase
 pub mod Promises

@@ -1,6 +1,7 @@
 //! The board, and the seats that are made with it.
 ghost use Rattle.std.specs.Prelude.{◌≡◌, ◌+◌, ◌≤◌, [], length, IfOk, IfErr, OnOk};
 ghost use Rattle.td_board.specs.Knowledge.{new_desk, new_lists, with_builder};
+ghost use Rattle.td_board.specs.Limits.{max_rows, max_builders};
 ghost use Rattle.td_board.specs.Seats.{rows_of, new_seat, new_seats};
 ghost use Rattle.td_board.specs.Answers.{IsMade, IsRefusal};
 
@@ -33,13 +34,13 @@ impl Model for Board {
     ghost Value = { BoardModel };
 
     ghost use Rattle.std.specs.Prelude.{◌≡◌, ◌+◌, ◌≤◌};
-    ghost use Rattle.td_board.specs.declared.board.TheConstants.{MAX_ROWS};
+    ghost use Rattle.td_board.specs.Limits.{max_rows};
 
     ghost view = { λ b. record { table = b.table.shared.table_id; rows = b.rows } };
 
     ghost invariant = { λ b. (b.table.shared.key ≡ b.rows)
         × (b.table.shared.table_id.words ≡ b.rows + 1)
-        × (b.rows ≤ MAX_ROWS) };
+        × (b.rows ≤ max_rows) };
 }
 
 /// Why a board wasn't made.
@@ -83,7 +84,7 @@ impl Board {
     pub fn rows(&self) -> usize
         ensures number { result ≡ self.now.rows }
         ensures table { result ≡ rows_of self.now.table }
-        ensures bound { result ≤ MAX_ROWS }
+        ensures bound { result ≤ max_rows }
     {
         self.rows
     }
@@ -97,7 +98,7 @@ impl Board {
     ) -> Result<Vec<BuilderSeat>, AllocError>
         requires table { desk.old.table ≡ self.now.table }
         requires none { desk.old.desk.noted ≡ [] }
-        requires few { builders ≤ MAX_BUILDERS }
+        requires few { builders ≤ max_builders }
         ensures seats { IfOk result (λ v. v.items ≡ new_seats self.now.table 1 builders) }
         ensures desk { OnOk result
             (desk.new ≡ record desk.old { desk = new_lists builders desk.old.desk }) }
@@ -113,7 +114,7 @@ impl Board {
     fn seat(&self, desk: &mut DeskSeat, number: u64) -> BuilderSeat
         requires table { desk.old.table ≡ self.now.table }
         requires next { number ≡ length desk.old.desk.noted + 1 }
-        requires few { number ≤ MAX_BUILDERS }
+        requires few { number ≤ max_builders }
         ensures desk { desk.new ≡ record desk.old { desk = with_builder desk.old.desk } }
         ensures builder { result ≡ new_seat self.now.table number }
     {
@@ -129,7 +130,7 @@ impl Board {
 
 // A board with no builder yet.
 fn laid_out(alloc: Global, rows: usize) -> Result<(Board, DeskSeat), AllocError>
-    requires { rows ≤ MAX_ROWS }
+    requires { rows ≤ max_rows }
     ensures board { IfOk result (λ made. made.0.rows ≡ rows) }
     ensures desk { IfOk result (λ made.
         made.1 ≡ record { table = made.0.table; desk = new_desk rows 0 }) }

@@ -2,9 +2,9 @@
 ghost use Rattle.std.specs.Prelude.{◌≡◌, ℕ, ◌<◌, ◌≤◌, length};
 ghost use mathlib.Core.Option.{some};
 ghost use lib.ListN.{get_elem?};
-ghost use Rattle.td_board.specs.declared.board.TheConstants.{MAX_ROWS, MAX_BUILDERS};
+ghost use Rattle.td_board.specs.Limits.{max_rows, max_builders};
 ghost use Rattle.td_board.specs.declared.views.RowView.TheVariants.{Seen, Known};
-ghost use Rattle.td_board.specs.Seats.{rows_of, HasRow};
+ghost use Rattle.td_board.specs.Seats.{rows_of, HasRow, KnowsItsBuilders};
 
 use crate::views::{Hand, View};
 use atomic_table::Seat;
@@ -36,10 +36,12 @@ impl Model for DeskSeat {
 }
 
 impl DeskSeat {
-    /// How many builders have a seat at the board.
+    /// How many builders have a seat at the board. Each whom the desk knows to have a row is one
+    /// of them.
     pub fn builders(&self) -> u64
         ensures number { result ≡ length self.now.desk.noted }
-        ensures bound { result ≤ MAX_BUILDERS }
+        ensures bound { result ≤ max_builders }
+        ensures seated { KnowsItsBuilders self.now.desk }
     {
         self.builders
     }
@@ -48,7 +50,7 @@ impl DeskSeat {
     pub fn rows(&self) -> usize
         ensures number { result ≡ length self.now.desk.rows }
         ensures table { result ≡ rows_of self.now.table }
-        ensures bound { result ≤ MAX_ROWS }
+        ensures bound { result ≤ max_rows }
     {
         self.holders.len()
     }
@@ -60,7 +62,7 @@ impl DeskSeat {
             get_elem? self.now.desk.rows row ≡ some (Seen b) → result ≡ b }
         ensures known { (b : ℕ) →
             get_elem? self.now.desk.rows row ≡ some (Known b) → result ≡ b }
-        ensures small { result ≤ MAX_BUILDERS }
+        ensures small { result ≤ max_builders }
     {
         self.holders[row]
     }
@@ -94,7 +96,7 @@ impl BuilderSeat {
     /// The builder's number, from 1 on.
     pub fn number(&self) -> u64
         ensures number { result ≡ self.now.builder.number }
-        ensures bound { (0 < result) × (result ≤ MAX_BUILDERS) }
+        ensures bound { (0 < result) × (result ≤ max_builders) }
     {
         self.number
     }

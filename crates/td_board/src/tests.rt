@@ -183,6 +183,31 @@ fn a_claim_releases_a_settled_finish_first(rt: HostRuntime) -> Result<(), Fail> 
     Ok(())
 }
 
+#[test]
+fn a_claim_of_a_row_that_is_not_there_releases_a_settled_finish(
+    rt: HostRuntime,
+) -> Result<(), Fail> {
+    let (board, mut desk, mut seats) = Board::make(rt.alloc(), 1, 1)?;
+    let Some(mut seat) = seats.pop() else {
+        return Err(Fail::from("a seat"));
+    };
+    board.offer(&mut desk, 0);
+    let claimed = board.claim(0, &mut seat);
+    assert!(rt; claimed);
+    let Withdrawal::Held(_) = board.withdraw(&mut desk, 0) else {
+        return Err(Fail::from("it was claimed"));
+    };
+    board.note(&mut desk, 0);
+    let finished = board.finish(&mut seat, OutcomeCode::Built);
+    assert!(rt; finished);
+    let settled = board.settle(&mut desk, 0, OutcomeCode::Built);
+    assert!(rt; settled);
+    let claimed = board.claim(1, &mut seat);
+    assert!(rt; !claimed, "no such row");
+    assert_eq!(rt; seat.hand(), Hand::Free);
+    Ok(())
+}
+
 // Both seats claim the one row at once.
 fn two_claims<R: Threads + Sync>(
     rt: &R,

@@ -1,7 +1,7 @@
 //! The words of the board: 0 is Closed, 1 is Open, and the others have a builder's number from
 //! bit 8 on.
 ghost use Rattle.std.specs.Prelude.{◌≡◌, ◌+◌, ◌*◌, ◌≤◌};
-ghost use Rattle.td_board.specs.declared.board.TheConstants.{MAX_BUILDERS};
+ghost use Rattle.td_board.specs.Limits.{max_builders};
 ghost use Rattle.td_board.specs.Phase.{word_of, held, noted, done};
 
 use crate::outcome::OutcomeCode;
@@ -17,7 +17,7 @@ pub(crate) const PER_BUILDER: u64 = 256;
 
 /// The word of a row that this builder claimed.
 pub(crate) fn held_word(builder: u64) -> u64
-    requires { builder ≤ MAX_BUILDERS }
+    requires { builder ≤ max_builders }
     ensures { result ≡ word_of (held builder) }
 {
     2 + PER_BUILDER * builder
@@ -25,7 +25,7 @@ pub(crate) fn held_word(builder: u64) -> u64
 
 /// The word of a row whose claim by this builder is noted.
 pub(crate) fn noted_word(builder: u64) -> u64
-    requires { builder ≤ MAX_BUILDERS }
+    requires { builder ≤ max_builders }
     ensures { result ≡ word_of (noted builder) }
 {
     4 + PER_BUILDER * builder
@@ -33,7 +33,7 @@ pub(crate) fn noted_word(builder: u64) -> u64
 
 /// The word of a row whose build by this builder ended so, and isn't settled.
 pub(crate) fn done_word(builder: u64, outcome: OutcomeCode) -> u64
-    requires { builder ≤ MAX_BUILDERS }
+    requires { builder ≤ max_builders }
     ensures { result ≡ word_of (done builder outcome) }
 {
     3 + 8 * outcome.code() + PER_BUILDER * builder

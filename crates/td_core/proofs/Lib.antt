@@ -3,8 +3,10 @@ pub mod Openings
 pub mod Phases
 pub mod Refusing
 pub mod Suiting
+pub mod Hands
 pub mod Worlds
 pub mod Promises
+pub mod Staying
 pub mod Running
 pub mod Taking
 pub mod Inverse

@@ -46,8 +46,11 @@ named-row_of h k = sym (is_some-row_of (rows_of h) k ∙ ap (λ (ks : List Key).
 pub number_of-absent : (h : History) (k : Key) → row_of (rows_of h) k ≡ None → number_of h.opening k ≡ length h.opening
 number_of-absent h k none = place_of-absent (keys_of h.opening) k (named-row_of h k ∙ ap is_some none) ∙ length-keys_of h.opening
 
+pub phase_of-past : (w : WorldView) (k : Key) → length w.phases ≡ length w.history.opening → row_of (rows_of w.history) k ≡ None → phase_of w k ≡ None
+phase_of-past w k sized none = slice_get_past w.phases (number_of w.history.opening k) (omega (arith, number_of-absent w.history k none, sized))
+
 pub phase_of-absent : (w : WorldView) (k : Key) → IsWorld w → row_of (rows_of w.history) k ≡ None → phase_of w k ≡ None
-phase_of-absent w k i none = slice_get_past w.phases (number_of w.history.opening k) (omega (arith, number_of-absent w.history k none, i.sized))
+phase_of-absent w k i none = phase_of-past w k i.sized none
 
 -- what a look-up by number lends is the item with that number
 pub copied-at : {A : Type 0} (xs : List A) (i : ℕ) (o : Option (Bor A)) → IfSome o (λ x. x.now ≡ get_or xs i x.now) → MatchOption o (length xs ≤ i) (λ x. (i < length xs) × HoldsAt (λ y. x.now ≡ y) xs i) → option_copied o ≡ slice_get xs i

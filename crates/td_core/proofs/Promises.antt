@@ -1,5 +1,5 @@
 -- What holds over every list of steps.
-use Rattle.std.proofs.Common.{◌≡◌, ◌↔◌, ℕ, zero, suc, ◌+◌, ◌-◌, ◌≤◌, true, false, not, ◌&&◌, ◌==◌, List, [], ◌∷◌, ◌++◌, map, length, Option, Some, None, if◌then◌else◌, slice_get, ap, refl, sym, ◌∙◌, append-nil, arith}
+use Rattle.std.proofs.Common.{◌≡◌, ◌↔◌, ℕ, zero, suc, ◌+◌, ◌-◌, ◌≤◌, subst, true, false, not, ◌&&◌, ◌==◌, List, [], ◌∷◌, ◌++◌, map, length, Option, Some, None, if◌then◌else◌, slice_get, ap, refl, sym, ◌∙◌, append-nil, arith}
 use Rattle.std.specs.Prelude.{nat_lt}
 use Rattle.std.specs.Option.{option_or}
 use Rattle.std.proofs.lemmas.Bool.Decides.{nat_tests}
@@ -13,7 +13,9 @@ use Rattle.td_journal.specs.declared.entry.Marked.{Marked}
 use Rattle.td_journal.specs.Entries.{is_command, is_standing, standing, standing_entry, entry_at, undone_at, undone}
 use Rattle.td_journal.specs.Replay.{replay}
 use Rattle.td_journal.specs.Touching.{touches, latest_touching, blocker}
-use Rattle.td_journal.proofs.Undoing.{standing-append}
+use Rattle.td_journal.specs.IsKeys.{IsKeys}
+use Rattle.td_journal.specs.Journaled.{EachHasKeys}
+use Rattle.td_journal.proofs.Undoing.{standing-append, entry_at-place}
 use Rattle.td_core.specs.declared.step.Phase.{Phase}
 use Rattle.td_core.specs.declared.step.Phase.TheVariants.{Closed, Open, Held, Noted, Done}
 use Rattle.td_core.specs.declared.step.Hand.{Hand}
@@ -27,10 +29,11 @@ use Rattle.td_core.specs.declared.step.Answer.TheVariants.{Undone, Refused}
 use Rattle.td_core.specs.History.{History, rows_of, with_entry}
 use Rattle.td_core.specs.Phases.{is_pinned, Suits}
 use Rattle.td_rows.specs.States.{is_building}
-use Rattle.td_core.specs.Worlds.{WorldView, phase_of, hand_of, journaled, world_of, IsWorld}
+use Rattle.td_core.specs.Worlds.{WorldView, phase_of, hand_of, journaled, world_of, InHand, IsWorld}
 use Rattle.td_core.specs.Refusals.{refused_if, first_refused, first_unpinned, mark_refusal, undo_refusal}
 use Rattle.td_core.specs.Steps.{refusal, accepted, noted, settled, finished, swept, swept_now, answer_to, after, after_all}
-use Rattle.td_core.specs.Promises.{EveryWorld, OfferedRowsWait, is_known_by, BuiltExactly, UndoneAtOnce, StandingCommand, BlockedExactly, UndoneElse, Stays, EntriesStay}
+use Rattle.td_core.specs.Promises.{EveryWorld, OfferedRowsWait, is_known_by, BuiltExactly, HandsFollow, builder_in, BuildersAreThere, EntriesRise, UndoneAtOnce, StandingCommand, BlockedExactly, UndoneElse}
+use Rattle.td_core.proofs.Phases.{hand_of-within}
 use Rattle.td_core.proofs.Refusing.{commits}
 use Rattle.td_core.proofs.Worlds.{IsWorld-open, IsWorld-after, answer_to-refused, answer_to-accepted, after-accepted}
 
@@ -66,6 +69,34 @@ built (Done c o) s b suits = ((λ is. number_same b c (let e = sym suits ∙ is 
 
 pub built_exactly : BuiltExactly
 built_exactly w k p row b i phase found = built p row.state b (i.suits k p row phase found)
+
+pub hands_follow : HandsFollow
+hands_follow w k p i phase = i.held k p phase
+
+there : (w : WorldView) (b : ℕ) (h : Hand) → hand_of w b ≡ Some h → (1 ≤ b) × (b ≤ length w.hands)
+there w b h is = let within = hand_of-within w b h is in (omega (arith, within.0), omega (arith, within.0, within.1))
+
+pub builders_are_there : BuildersAreThere
+builders_are_there w k p b i phase is = at p is (i.held k p phase)
+  where
+    same : (a c : ℕ) → Some a ≡ Some c → a ≡ c
+    same a c e = cc
+
+    at : (x : Phase) → builder_in x ≡ Some b → InHand w.hands k x → (1 ≤ b) × (b ≤ length w.hands)
+    at Closed e h = cc
+    at Open e h = cc
+    at (Held c) e h = subst (λ (n : ℕ). (1 ≤ n) × (n ≤ length w.hands)) (same c b e) (there w c (Holding k) h)
+    at (Noted c) e h = subst (λ (n : ℕ). (1 ≤ n) × (n ≤ length w.hands)) (same c b e) (there w c (Holding k) h)
+    at (Done c o) e h = subst (λ (n : ℕ). (1 ≤ n) × (n ≤ length w.hands)) (same c b e) (there w c (Finished k o) h)
+
+keys-at : (ms : List Marked) (i : ℕ) (m : Marked) → EachHasKeys ms → slice_get ms i ≡ Some m → IsKeys m.entry.keys
+keys-at [] zero m h at = cc
+keys-at [] (suc i) m h at = cc
+keys-at (x ∷ ms) zero m h at = let same : x ≡ m = cc in subst (λ (y : Marked). IsKeys y.entry.keys) same h.0
+keys-at (x ∷ ms) (suc i) m h at = keys-at ms i m h.1 at
+
+pub entries_rise : EntriesRise
+entries_rise w n m i at = keys-at w.history.journal (n - 1) m i.keys (entry_at-place w.history.journal n m at).1
 
 -- the last entry
 slice_get-last : (ms : List Marked) (m : Marked) → slice_get (ms ++ m ∷ []) (length ms) ≡ Some m
@@ -148,76 +179,3 @@ undone_at_once w kind keys none =
           ∙ ap (λ (v : WorldView). rows_of v.history) (after-accepted (journaled w kind keys) (Undo n) fine)
           ∙ ap (replay w.history.opening) (standing-last ms (standing_entry e)),
     )
-
-entries-append : (a b : List Marked) → map (λ (m : Marked). m.entry) (a ++ b) ≡ map (λ (m : Marked). m.entry) a ++ map (λ (m : Marked). m.entry) b
-entries-append [] b = refl
-entries-append (m ∷ a) b = ap (λ (es : List Entry). m.entry ∷ es) (entries-append a b)
-
-entries-undone_at : (ms : List Marked) (i : ℕ) → map (λ (m : Marked). m.entry) (undone_at ms i) ≡ map (λ (m : Marked). m.entry) ms
-entries-undone_at [] zero = refl
-entries-undone_at [] (suc i) = refl
-entries-undone_at (m ∷ ms) zero = refl
-entries-undone_at (m ∷ ms) (suc i) = ap (λ (es : List Entry). m.entry ∷ es) (entries-undone_at ms i)
-
-same_history : (w v : WorldView) → v.history ≡ w.history → Stays w v
-same_history w v same = record {
-  opening = ap (λ (h : History). h.opening) same;
-  added = [];
-  entries = ap (λ (h : History). map (λ (m : Marked). m.entry) h.journal) same ∙ sym (append-nil (map (λ (m : Marked). m.entry) w.history.journal));
-}
-
-one_more : (w v : WorldView) (e : Entry) → v.history ≡ with_entry w.history e → Stays w v
-one_more w v e is = record {
-  opening = ap (λ (h : History). h.opening) is;
-  added = e ∷ [];
-  entries = ap (λ (h : History). map (λ (m : Marked). m.entry) h.journal) is ∙ entries-append w.history.journal (standing_entry e ∷ []);
-}
-
-stays_accepted : (w : WorldView) (s : Step) → Stays w (accepted w s)
-stays_accepted w (Offer k) = same_history w (accepted w (Offer k)) refl
-stays_accepted w (Withdraw k) = same_history w (accepted w (Withdraw k)) refl
-stays_accepted w (Claim b k) = same_history w (accepted w (Claim b k)) refl
-stays_accepted w (Note k) = at (phase_of w k)
-  where
-    at : (p : Option Phase) → Stays w (noted w k p)
-    at None = same_history w w refl
-    at (Some Closed) = same_history w w refl
-    at (Some Open) = same_history w w refl
-    at (Some (Held b)) = one_more w (noted w k (Some (Held b))) _ refl
-    at (Some (Noted b)) = same_history w w refl
-    at (Some (Done b o)) = same_history w w refl
-stays_accepted w (Commit kind keys) = one_more w (accepted w (Commit kind keys)) _ refl
-stays_accepted w (Undo n) = record {
-  opening = refl;
-  added = [];
-  entries = entries-undone_at w.history.journal (n - 1) ∙ sym (append-nil (map (λ (m : Marked). m.entry) w.history.journal));
-}
-stays_accepted w (Finish b o) = at (hand_of w b)
-  where
-    at : (h : Option Hand) → Stays w (finished w b o h)
-    at None = same_history w w refl
-    at (Some Free) = same_history w w refl
-    at (Some (Holding k)) = same_history w (finished w b o (Some (Holding k))) refl
-    at (Some (Finished k x)) = same_history w w refl
-stays_accepted w (Settle k) = at (phase_of w k)
-  where
-    at : (p : Option Phase) → Stays w (settled w k p)
-    at None = same_history w w refl
-    at (Some Closed) = same_history w w refl
-    at (Some Open) = same_history w w refl
-    at (Some (Held b)) = same_history w w refl
-    at (Some (Noted b)) = same_history w w refl
-    at (Some (Done b o)) = one_more w (settled w k (Some (Done b o))) _ refl
-stays_accepted w (Release b) = same_history w (accepted w (Release b)) refl
-stays_accepted w (Arrive k) = one_more w (accepted w (Arrive k)) _ refl
-stays_accepted w Sweep = at (swept_now w)
-  where
-    at : (keys : List Key) → Stays w (swept w keys)
-    at [] = same_history w w refl
-    at (k ∷ keys) = one_more w (swept w (k ∷ keys)) _ refl
-
-pub entries_stay : EntriesStay
-entries_stay w s = elim (refusal w s) as (λ r. Stays w (elim r as (λ _. WorldView) [ Some x ↦ w | None ↦ accepted w s ])) [
-  | Some x ↦ same_history w w refl
-  | None ↦ stays_accepted w s
-]

@@ -25,6 +25,9 @@ use Rattle.td_journal.specs.declared.entry.Marked.{Marked}
 use Rattle.td_journal.specs.Entries.{standing, standing_entry, is_standing}
 use Rattle.td_journal.specs.Replay.{replay, row_after, Lawful}
 use Rattle.td_journal.specs.Undo.{rows_before, row_at}
+use Rattle.td_journal.specs.IsKeys.{IsKeys}
+use Rattle.td_journal.specs.Journaled.{EachHasKeys}
+use Rattle.td_journal.proofs.Agreeing.{EachHasKeys-push, EachHasKeys-undone_at}
 use Rattle.td_journal.proofs.Commuting.{row_after-append}
 use Rattle.td_journal.proofs.Undoing.{standing-append, standing-at, entry_at-place, LawfulAfter-rest, Lawful-push, Apart-blocker, undo_is_lawful, undo_gives_back, replay-push, replay-none}
 use Rattle.td_core.specs.declared.step.Phase.{Phase}
@@ -34,20 +37,21 @@ use Rattle.td_core.specs.declared.step.Hand.TheVariants.{Free, Holding, Finished
 use Rattle.td_core.specs.declared.step.Step.{Step}
 use Rattle.td_core.specs.declared.step.Step.TheVariants.{Offer, Withdraw, Claim, Note, Commit, Undo, Finish, Settle, Release, Arrive, Sweep}
 use Rattle.td_core.specs.declared.step.Refusal.{Refusal}
-use Rattle.td_core.specs.declared.step.Refusal.TheVariants.{NotNoted, DoesNotApply}
+use Rattle.td_core.specs.declared.step.Refusal.TheVariants.{NotNoted, NotSettled, DoesNotApply}
 use Rattle.td_core.specs.declared.step.Answer.{Answer}
 use Rattle.td_core.specs.declared.step.Answer.TheVariants.{Refused}
 use Rattle.td_core.specs.History.{History, rows_of, with_entry, without_entry}
 use Rattle.td_core.specs.Phases.{Suits, NoneBuilt}
 use Rattle.td_rows.specs.States.{is_building}
-use Rattle.td_core.specs.Worlds.{WorldView, phase_of, hand_of, with_phase, with_hand, journaled, world_of, IsWorld}
-use Rattle.td_core.specs.Refusals.{is_queued_at, offer_refusal, withdraw_refusal, claim_refusal, note_refusal, finish_refusal, settle_refusal, release_refusal, arrive_refusal, is_noted_by}
+use Rattle.td_core.specs.Worlds.{WorldView, phase_of, hand_of, with_phase, with_hand, journaled, world_of, InHand, IsWorld}
+use Rattle.td_core.specs.Refusals.{is_queued_at, offer_refusal, withdraw_refusal, claim_refusal, note_refusal, finish_refusal, settle_refusal, release_refusal, arrive_refusal, is_noted_by, is_done_by, are_keys}
 use Rattle.td_core.specs.Steps.{refusal, accepted, noted, settled, finished, swept, swept_now, supply_of, done, answer_to, after}
 use Rattle.td_core.proofs.Phases.{keys_of-rows_of, phase_of-with_phase, phase_of-other, phase_of-absent}
 use Rattle.td_core.proofs.Refusing.{Commits, Undoes, commits, undoes, not_refused, not_false}
 use Rattle.td_supply.specs.Supply.{Stock}
 use Rattle.td_core.proofs.Suiting.{suits-command, suits-undone, state-row_after}
-use Rattle.td_core.proofs.Freeing.{suits-arrive, suits-sweep, AppliesOn-freed}
+use Rattle.td_core.proofs.Freeing.{suits-arrive, suits-sweep, AppliesOn-freed, ascending-freed}
+use Rattle.td_core.proofs.Hands.{AllInHand, NotHis, InHand-moved, InHand-put, hand_in-put, free-not_his, holding-not_his}
 
 -- the rows after one more entry
 pub rows_of-with_entry : (h : History) (e : Entry) → rows_of (with_entry h e) ≡ applied e.kind e.keys (rows_of h)
@@ -64,11 +68,26 @@ found-before t f k row h = at (row_of t k) refl (sym (row_of-each_row f t k) ∙
     at None is g = cc
     at (Some r) is g = (r, (is, same (f k r) row g))
 
+-- what holds of a world but for its hands
+pub record IsSuited (w : WorldView) : Type 0 where
+  pub rising : ascending (keys_of w.history.opening) ≡ true
+  pub lawful : Lawful w.history.opening (standing w.history.journal)
+  pub sized : length w.phases ≡ length w.history.opening
+  pub suits : (k : Key) (p : Phase) (row : Row) → phase_of w k ≡ Some p → row_of (rows_of w.history) k ≡ Some row → Suits p row.state
+  pub keys : EachHasKeys w.history.journal
+
+suited : (w : WorldView) → IsWorld w → IsSuited w
+suited w i = record { rising = i.rising; lawful = i.lawful; sized = i.sized; suits = i.suits; keys = i.keys }
+
+with_hands : (w : WorldView) → IsSuited w → AllInHand w w.hands → IsWorld w
+with_hands w i held = record { rising = i.rising; lawful = i.lawful; sized = i.sized; suits = i.suits; keys = i.keys; held = held }
+
 -- one phase changes, and suits its row
-pub IsWorld-with_phase : (w : WorldView) (k : Key) (p : Phase) → IsWorld w → ((row : Row) → row_of (rows_of w.history) k ≡ Some row → Suits p row.state) → IsWorld (with_phase w k p)
-IsWorld-with_phase w k p i suits = record {
+IsSuited-with_phase : (w : WorldView) (k : Key) (p : Phase) → IsSuited w → ((row : Row) → row_of (rows_of w.history) k ≡ Some row → Suits p row.state) → IsSuited (with_phase w k p)
+IsSuited-with_phase w k p i suits = record {
   rising = i.rising;
   lawful = i.lawful;
+  keys = i.keys;
   sized = length-set w.phases _ p ∙ i.sized;
   suits = λ q x row phase found. elim (same_key q k) as (λ b. same_key q k ≡ b → Suits x row.state) [
     | true ↦ λ is.
@@ -80,8 +99,20 @@ IsWorld-with_phase w k p i suits = record {
 }
 
 -- hands don't matter
-pub IsWorld-with_hand : (w : WorldView) (b : ℕ) (h : Hand) → IsWorld w → IsWorld (with_hand w b h)
-IsWorld-with_hand w b h i = record { rising = i.rising; lawful = i.lawful; sized = i.sized; suits = i.suits }
+IsSuited-with_hand : (w : WorldView) (b : ℕ) (h : Hand) → IsSuited w → IsSuited (with_hand w b h)
+IsSuited-with_hand w b h i = record { rising = i.rising; lawful = i.lawful; sized = i.sized; suits = i.suits; keys = i.keys }
+
+-- a row whose phase says nothing of a hand
+IsWorld-with_phase : (w : WorldView) (k : Key) (p : Phase) → IsWorld w → InHand w.hands k p → ((row : Row) → row_of (rows_of w.history) k ≡ Some row → Suits p row.state) → IsWorld (with_phase w k p)
+IsWorld-with_phase w k p i here suits = with_hands (with_phase w k p) (IsSuited-with_phase w k p (suited w i) suits) (InHand-moved w k p w.hands i.sized here (λ q x _ phase. i.held q x phase))
+
+-- the keys of an entry
+one_key : (k : Key) → IsKeys (k ∷ [])
+one_key k = record { rising = refl; some = omega arith }
+
+are_its_keys : (keys : List Key) → are_keys keys ≡ true → IsKeys keys
+are_its_keys [] are = cc
+are_its_keys (k ∷ keys) are = record { rising = are; some = omega arith }
 
 pub lawful-journaled : (w : WorldView) (kind : Kind) (keys : List Key) → IsWorld w → AppliesOn (rows_of w.history) kind keys → Lawful w.history.opening (standing (journaled w kind keys).history.journal)
 lawful-journaled w kind keys i applies =
@@ -89,10 +120,12 @@ lawful-journaled w kind keys i applies =
     subst (Lawful w.history.opening) (sym (standing-append w.history.journal (standing_entry e ∷ []))) (Lawful-push w.history.opening (standing w.history.journal) e i.lawful applies)
 
 -- one more entry, after which the phases of its keys suit their rows
-pub IsWorld-journaled : (w : WorldView) (kind : Kind) (keys : List Key) → IsWorld w → AppliesOn (rows_of w.history) kind keys
+pub IsWorld-journaled : (w : WorldView) (kind : Kind) (keys : List Key) → IsWorld w → IsKeys keys → AppliesOn (rows_of w.history) kind keys
     → ((k : Key) (p : Phase) (row : Row) → names keys k ≡ true → phase_of w k ≡ Some p → row_of (rows_of w.history) k ≡ Some row → Suits p (means kind row).state) → IsWorld (journaled w kind keys)
-IsWorld-journaled w kind keys i applies suits = record {
+IsWorld-journaled w kind keys i are applies suits = record {
   rising = i.rising;
+  keys = EachHasKeys-push w.history.journal (standing_entry (record { kind = kind; keys = keys })) i.keys are;
+  held = i.held;
   lawful = lawful-journaled w kind keys i applies;
   sized = i.sized;
   suits = λ k p row phase found.
@@ -104,10 +137,12 @@ IsWorld-journaled w kind keys i applies suits = record {
 }
 
 -- one more entry on one key, whose row's phase changes with it
-pub IsWorld-moved : (w : WorldView) (kind : Kind) (k : Key) (p : Phase) → IsWorld w → AppliesOn (rows_of w.history) kind (k ∷ [])
+pub IsWorld-moved : (w : WorldView) (kind : Kind) (k : Key) (p : Phase) → IsWorld w → AppliesOn (rows_of w.history) kind (k ∷ []) → InHand w.hands k p
     → ((row : Row) → row_of (rows_of w.history) k ≡ Some row → Suits p (means kind row).state) → IsWorld (with_phase (journaled w kind (k ∷ [])) k p)
-IsWorld-moved w kind k p i applies suits = record {
+IsWorld-moved w kind k p i applies here suits = record {
   rising = i.rising;
+  keys = EachHasKeys-push w.history.journal (standing_entry (record { kind = kind; keys = k ∷ [] })) i.keys (one_key k);
+  held = InHand-moved w k p w.hands i.sized here (λ q x _ phase. i.held q x phase);
   lawful = lawful-journaled w kind (k ∷ []) i applies;
   sized = length-set w.phases _ p ∙ i.sized;
   suits = λ q x row phase found.
@@ -123,7 +158,7 @@ IsWorld-moved w kind k p i applies suits = record {
 
 -- a commit that isn't refused
 pub IsWorld-commit : (w : WorldView) (kind : Kind) (keys : List Key) → IsWorld w → Commits w kind keys → IsWorld (journaled w kind keys)
-IsWorld-commit w kind keys i c = IsWorld-journaled w kind keys i c.applies (λ k p row named phase found.
+IsWorld-commit w kind keys i c = IsWorld-journaled w kind keys i (are_its_keys keys c.are) c.applies (λ k p row named phase found.
     suits-command kind p row c.command (applies-fits (rows_of w.history) kind k row found (c.applies k named)) (c.pinned k p named phase) (i.suits k p row phase found))
 
 -- what is known of the entry that is undone, at one of its keys
@@ -165,6 +200,8 @@ IsWorld-undo w n i u =
     let back = undo_gives_back o ms n m i.rising u.stands.there counts u.free in
     record {
       rising = i.rising;
+      keys = EachHasKeys-undone_at ms (n - 1) i.keys;
+      held = i.held;
       lawful = undo_is_lawful o ms n m u.stands.there counts u.free i.lawful;
       sized = i.sized;
       suits = λ k p row phase found.
@@ -269,9 +306,11 @@ finishes w b (Some Free) e = cc
 finishes w b (Some (Finished k o)) e = cc
 finishes w b (Some (Holding k)) e = (k, (refl, noted_by b (phase_of w k) (not_false (is_noted_by b (phase_of w k)) (not_refused (not (is_noted_by b (phase_of w k))) NotNoted None e).0)))
 
-pub releases : (w : WorldView) (b : ℕ) (h : Option Hand) → release_refusal w b h ≡ None → (x : Hand) × (h ≡ Some x)
+pub releases : (w : WorldView) (b : ℕ) (h : Option Hand) → release_refusal w b h ≡ None → (k : Key) × ((o : Outcome) × ((h ≡ Some (Finished k o)) × (is_done_by b (phase_of w k) ≡ false)))
 releases w b None e = cc
-releases w b (Some h) e = (h, refl)
+releases w b (Some Free) e = cc
+releases w b (Some (Holding k)) e = cc
+releases w b (Some (Finished k o)) e = (k, (o, (refl, (not_refused (is_done_by b (phase_of w k)) NotSettled None e).0)))
 
 idle-ended : (b : ℕ) (o : Outcome) (row : Row) → is_building (means (Ended b o) row).state ≡ false
 idle-ended b WasBuilt row = refl
@@ -280,29 +319,56 @@ idle-ended b GivenBack row = refl
 idle-ended b (Waits t) row = refl
 
 IsWorld-offer : (w : WorldView) (k : Key) → IsWorld w → refusal w (Offer k) ≡ None → IsWorld (accepted w (Offer k))
-IsWorld-offer w k i none = IsWorld-with_phase w k Open i (λ row found.
+IsWorld-offer w k i none = IsWorld-with_phase w k Open i tt (λ row found.
     queued-state row.state (sym (ap (λ (o : Option Row). elim o as (λ _. Bool) [ Some r ↦ is_queued r.state | None ↦ false ]) found) ∙ offers (is_queued_at (rows_of w.history) k) (phase_of w k) none))
 
 IsWorld-withdraw : (w : WorldView) (k : Key) → IsWorld w → refusal w (Withdraw k) ≡ None → IsWorld (accepted w (Withdraw k))
-IsWorld-withdraw w k i none = IsWorld-with_phase w k Closed i (λ row found. ap is_building (i.suits k Open row (withdraws (phase_of w k) none) found))
+IsWorld-withdraw w k i none = IsWorld-with_phase w k Closed i tt (λ row found. ap is_building (i.suits k Open row (withdraws (phase_of w k) none) found))
 
 IsWorld-claim : (w : WorldView) (b : ℕ) (k : Key) → IsWorld w → refusal w (Claim b k) ≡ None → IsWorld (accepted w (Claim b k))
-IsWorld-claim w b k i none = IsWorld-with_hand (with_phase w k (Held b)) b (Holding k) (IsWorld-with_phase w k (Held b) i (λ row found. i.suits k Open row (claims (hand_of w b) (phase_of w k) none).1 found))
+IsWorld-claim w b k i none =
+    let c = claims (hand_of w b) (phase_of w k) none in
+    let here = hand_in-put w.hands b Free (Holding k) c.0 in
+    with_hands (accepted w (Claim b k)) (IsSuited-with_hand (with_phase w k (Held b)) b (Holding k) (IsSuited-with_phase w k (Held b) (suited w i) (λ row found. i.suits k Open row c.1 found)))
+    (InHand-moved w k (Held b) _ i.sized here (λ q x _ phase. InHand-put w.hands b Free (Holding k) q x c.0 (free-not_his b q x) (i.held q x phase)))
 
 pub IsWorld-noted : (w : WorldView) (k : Key) (b : ℕ) → IsWorld w → phase_of w k ≡ Some (Held b) → AppliesOn (rows_of w.history) (Claimed b) (k ∷ []) × IsWorld (with_phase (journaled w (Claimed b) (k ∷ [])) k (Noted b))
 IsWorld-noted w k b i phase =
     let row = row-there w k (Held b) i phase in
     let applies = AppliesOn-one (rows_of w.history) (Claimed b) k row.0 row.1 (ap is_queued (i.suits k (Held b) row.0 phase row.1)) in
-    (applies, IsWorld-moved w (Claimed b) k (Noted b) i applies (λ r found. refl))
+    (applies, IsWorld-moved w (Claimed b) k (Noted b) i applies (i.held k (Held b) phase) (λ r found. refl))
 
 pub IsWorld-settled : (w : WorldView) (k : Key) (b : ℕ) (o : Outcome) → IsWorld w → phase_of w k ≡ Some (Done b o) → AppliesOn (rows_of w.history) (Ended b o) (k ∷ []) × IsWorld (with_phase (journaled w (Ended b o) (k ∷ [])) k Closed)
 IsWorld-settled w k b o i phase =
     let row = row-there w k (Done b o) i phase in
     let applies = AppliesOn-one (rows_of w.history) (Ended b o) k row.0 row.1 (ap (is_building_by b) (i.suits k (Done b o) row.0 phase row.1) ∙ same_itself b) in
-    (applies, IsWorld-moved w (Ended b o) k Closed i applies (λ r found. idle-ended b o r))
+    (applies, IsWorld-moved w (Ended b o) k Closed i applies tt (λ r found. idle-ended b o r))
 
-pub IsWorld-finished : (w : WorldView) (b : ℕ) (o : Outcome) (k : Key) → IsWorld w → phase_of w k ≡ Some (Noted b) → IsWorld (with_hand (with_phase w k (Done b o)) b (Finished k o))
-IsWorld-finished w b o k i phase = IsWorld-with_hand (with_phase w k (Done b o)) b (Finished k o) (IsWorld-with_phase w k (Done b o) i (λ row found. i.suits k (Noted b) row phase found))
+pub IsWorld-finished : (w : WorldView) (b : ℕ) (o : Outcome) (k : Key) → IsWorld w → hand_of w b ≡ Some (Holding k) → phase_of w k ≡ Some (Noted b) → IsWorld (with_hand (with_phase w k (Done b o)) b (Finished k o))
+IsWorld-finished w b o k i hand phase =
+    let here = hand_in-put w.hands b (Holding k) (Finished k o) hand in
+    with_hands (with_hand (with_phase w k (Done b o)) b (Finished k o))
+    (IsSuited-with_hand (with_phase w k (Done b o)) b (Finished k o) (IsSuited-with_phase w k (Done b o) (suited w i) (λ row found. i.suits k (Noted b) row phase found)))
+    (InHand-moved w k (Done b o) _ i.sized here (λ q x is there. InHand-put w.hands b (Holding k) (Finished k o) q x hand (holding-not_his b k q x is) (i.held q x there)))
+
+-- the ended build that its builder lets go of is settled, or another's
+let_go : (w : WorldView) (b : ℕ) (k q : Key) (o : Outcome) (p : Phase) → is_done_by b (phase_of w k) ≡ false → phase_of w q ≡ Some p → NotHis b (Finished k o) q p
+let_go w b k q o p settled there = record {
+  held = λ e. cc;
+  ended = λ x is e.
+      let same : k ≡ q = cc in
+      let done : phase_of w k ≡ Some (Done b x) = ap (phase_of w) same ∙ there ∙ ap (λ (y : Phase). Some y) is in
+      let yes : is_done_by b (phase_of w k) ≡ true = ap (is_done_by b) done ∙ same_itself b in
+      (let no = sym yes ∙ settled in cc);
+}
+
+IsWorld-release : (w : WorldView) (b : ℕ) → IsWorld w → refusal w (Release b) ≡ None → IsWorld (accepted w (Release b))
+IsWorld-release w b i none =
+    let r = releases w b (hand_of w b) none in
+    let k = r.0 in
+    let o = r.1.0 in
+    with_hands (with_hand w b Free) (IsSuited-with_hand w b Free (suited w i))
+    (λ q p phase. InHand-put w.hands b (Finished k o) Free q p r.1.1.0 (let_go w b k q o p r.1.1.1 phase) (i.held q p phase))
 
 pub arrives : (k : Key) (o : Option Row) → arrive_refusal k o ≡ None → (row : Row) × ((o ≡ Some row) × (applies Arrived row ≡ true))
 arrives k None h = cc
@@ -311,17 +377,20 @@ arrives k (Some row) h = (row, (refl, not_false (applies Arrived row) (not_refus
 pub IsWorld-arrived : (w : WorldView) (k : Key) (row : Row) → IsWorld w → row_of (rows_of w.history) k ≡ Some row → applies Arrived row ≡ true → AppliesOn (rows_of w.history) Arrived (k ∷ []) × IsWorld (journaled w Arrived (k ∷ []))
 IsWorld-arrived w k row i found fit =
     let applies = AppliesOn-one (rows_of w.history) Arrived k row found fit in
-    (applies, IsWorld-journaled w Arrived (k ∷ []) i applies (λ q p r named phase there. suits-arrive p r.state (applies-fits (rows_of w.history) Arrived q r there (applies q named)) (i.suits q p r phase there)))
+    (applies, IsWorld-journaled w Arrived (k ∷ []) i (one_key k) applies (λ q p r named phase there. suits-arrive p r.state (applies-fits (rows_of w.history) Arrived q r there (applies q named)) (i.suits q p r phase there)))
 
-pub IsWorld-swept : (w : WorldView) (keys : List Key) → IsWorld w → AppliesOn (rows_of w.history) Swept keys → IsWorld (journaled w Swept keys)
-IsWorld-swept w keys i applies = IsWorld-journaled w Swept keys i applies (λ q p r named phase there. suits-sweep p r.state (applies-fits (rows_of w.history) Swept q r there (applies q named)) (i.suits q p r phase there))
+pub IsWorld-swept : (w : WorldView) (keys : List Key) → IsWorld w → IsKeys keys → AppliesOn (rows_of w.history) Swept keys → IsWorld (journaled w Swept keys)
+IsWorld-swept w keys i are applies = IsWorld-journaled w Swept keys i are applies (λ q p r named phase there. suits-sweep p r.state (applies-fits (rows_of w.history) Swept q r there (applies q named)) (i.suits q p r phase there))
 
 pub AppliesOn-swept_now : (w : WorldView) → IsWorld w → AppliesOn (rows_of w.history) Swept (swept_now w)
 AppliesOn-swept_now w i = AppliesOn-freed (supply_of w) (rows_of w.history) (ap ascending (keys_of-rows_of w.history) ∙ i.rising)
 
-IsWorld-sweep : (w : WorldView) (keys : List Key) → IsWorld w → AppliesOn (rows_of w.history) Swept keys → IsWorld (swept w keys)
-IsWorld-sweep w [] i applies = i
-IsWorld-sweep w (k ∷ keys) i applies = IsWorld-swept w (k ∷ keys) i applies
+pub rising-swept_now : (w : WorldView) → IsWorld w → ascending (swept_now w) ≡ true
+rising-swept_now w i = ascending-freed (supply_of w) (rows_of w.history) (ap ascending (keys_of-rows_of w.history) ∙ i.rising)
+
+IsWorld-sweep : (w : WorldView) (keys : List Key) → IsWorld w → ascending keys ≡ true → AppliesOn (rows_of w.history) Swept keys → IsWorld (swept w keys)
+IsWorld-sweep w [] i rising applies = i
+IsWorld-sweep w (k ∷ keys) i rising applies = IsWorld-swept w (k ∷ keys) i (record { rising = rising; some = omega arith }) applies
 
 -- each step that isn't refused
 pub IsWorld-accepted : (w : WorldView) (s : Step) → IsWorld w → refusal w s ≡ None → IsWorld (accepted w s)
@@ -335,15 +404,15 @@ IsWorld-accepted w (Commit kind keys) i none = IsWorld-commit w kind keys i (com
 IsWorld-accepted w (Undo n) i none = IsWorld-undo w n i (undoes w n none)
 IsWorld-accepted w (Finish b o) i none =
     let f = finishes w b (hand_of w b) none in
-    subst (λ (x : Option Hand). IsWorld (finished w b o x)) (sym f.1.0) (IsWorld-finished w b o f.0 i f.1.1)
+    subst (λ (x : Option Hand). IsWorld (finished w b o x)) (sym f.1.0) (IsWorld-finished w b o f.0 i f.1.0 f.1.1)
 IsWorld-accepted w (Settle k) i none =
     let p = settles (phase_of w k) none in
     subst (λ (x : Option Phase). IsWorld (settled w k x)) (sym p.1.1) (IsWorld-settled w k p.0 p.1.0 i p.1.1).1
-IsWorld-accepted w (Release b) i none = IsWorld-with_hand w b Free i
+IsWorld-accepted w (Release b) i none = IsWorld-release w b i none
 IsWorld-accepted w (Arrive k) i none =
     let a = arrives k (row_of (rows_of w.history) k) none in
     (IsWorld-arrived w k a.0 i a.1.0 a.1.1).1
-IsWorld-accepted w Sweep i none = IsWorld-sweep w (swept_now w) i (AppliesOn-swept_now w i)
+IsWorld-accepted w Sweep i none = IsWorld-sweep w (swept_now w) i (rising-swept_now w i) (AppliesOn-swept_now w i)
 
 -- each step
 pub IsWorld-after : (w : WorldView) (s : Step) → IsWorld w → IsWorld (after w s)
@@ -367,6 +436,8 @@ IsWorld-open t s builders rising idle = record {
   suits = λ k p row phase found.
       subst (λ (x : Phase). Suits x row.state) (sym (slice_get-replicate (length t) (number_of t k) Closed p phase))
       (idle k row (sym (ap (λ (u : Table). row_of u k) (replay-none t)) ∙ found));
+  keys = tt;
+  held = λ k p phase. subst (InHand (replicate builders Free) k) (sym (slice_get-replicate (length t) (number_of t k) Closed p phase)) tt;
 }
 
 pub answer_to-refused : (w : WorldView) (s : Step) (r : Refusal) → refusal w s ≡ Some r → answer_to w s ≡ Refused r

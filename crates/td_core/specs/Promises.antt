@@ -1,5 +1,5 @@
 -- What holds over every list of steps. This project's own.
-use Rattle.std.specs.Prelude.{◌≡◌, ◌↔◌, ℕ, ◌+◌, Bool, true, false, ◌==◌, List, ◌++◌, map, length, Some, None}
+use Rattle.std.specs.Prelude.{◌≡◌, ◌↔◌, ◌≤◌, ℕ, ◌+◌, Bool, true, false, ◌==◌, ◌&&◌, ◌||◌, List, [], ◌∷◌, ◌++◌, map, length, Option, Some, None, is_none, option_to_list}
 use Rattle.td_rows.specs.declared.key.Key.{Key}
 use Rattle.td_rows.specs.declared.row.Row.{Row}
 use Rattle.td_rows.specs.declared.state.State.TheVariants.{NeedsBuild, Building}
@@ -9,18 +9,19 @@ use Rattle.td_rows.specs.Table.{Table, keys_of, row_of}
 use Rattle.td_supply.specs.Supply.{Stock, arrived}
 use Rattle.td_journal.specs.declared.entry.Entry.{Entry}
 use Rattle.td_journal.specs.declared.entry.Marked.{Marked}
-use Rattle.td_journal.specs.declared.entry.Mark.TheVariants.{Standing}
+use Rattle.td_journal.specs.declared.entry.Mark.TheVariants.{Standing, Undone as Dropped}
 use Rattle.td_journal.specs.Entries.{is_command, entry_at}
+use Rattle.td_journal.specs.IsKeys.{IsKeys}
 use Rattle.td_journal.specs.Touching.{blocker}
 use Rattle.td_core.specs.declared.step.Phase.{Phase}
-use Rattle.td_core.specs.declared.step.Phase.TheVariants.{Noted, Done}
+use Rattle.td_core.specs.declared.step.Phase.TheVariants.{Held, Noted, Done}
 use Rattle.td_core.specs.declared.step.Step.{Step}
 use Rattle.td_core.specs.declared.step.Step.TheVariants.{Commit, Undo, Arrive}
 use Rattle.td_core.specs.declared.step.Refusal.TheVariants.{Blocked}
 use Rattle.td_core.specs.declared.step.Answer.TheVariants.{Undone, Refused}
 use Rattle.td_core.specs.History.{rows_of}
 use Rattle.td_core.specs.Phases.{is_pinned, NoneBuilt}
-use Rattle.td_core.specs.Worlds.{WorldView, phase_of, world_of, IsWorld}
+use Rattle.td_core.specs.Worlds.{WorldView, phase_of, world_of, InHand, IsWorld}
 use Rattle.td_core.specs.Refusals.{first_unpinned}
 use Rattle.td_core.specs.Offers.{number_in, is_freed}
 use Rattle.td_core.specs.Steps.{refusal, answer_to, after, after_all, supply_of, swept_now}
@@ -43,6 +44,25 @@ is_known_by b p = false
 abbrev pub BuiltExactly : Type 0
 BuiltExactly = (w : WorldView) (k : Key) (p : Phase) (row : Row) (b : ℕ) → IsWorld w → phase_of w k ≡ Some p → row_of (rows_of w.history) k ≡ Some row → (row.state ≡ Building b) ↔ (is_known_by b p ≡ true)
 
+-- who has a row has it in hand
+abbrev pub HandsFollow : Type 0
+HandsFollow = (w : WorldView) (k : Key) (p : Phase) → IsWorld w → phase_of w k ≡ Some p → InHand w.hands k p
+
+-- the builder who has a row in the phase
+abbrev pub builder_in : Phase → Option ℕ
+builder_in (Held b) = Some b
+builder_in (Noted b) = Some b
+builder_in (Done b o) = Some b
+builder_in p = None
+
+-- it is one of the world's, which have the numbers from 1 on
+abbrev pub BuildersAreThere : Type 0
+BuildersAreThere = (w : WorldView) (k : Key) (p : Phase) (b : ℕ) → IsWorld w → phase_of w k ≡ Some p → builder_in p ≡ Some b → (1 ≤ b) × (b ≤ length w.hands)
+
+-- the keys of each entry rise, and there is one at least
+abbrev pub EntriesRise : Type 0
+EntriesRise = (w : WorldView) (n : ℕ) (m : Marked) → IsWorld w → entry_at w.history.journal n ≡ Some m → IsKeys m.entry.keys
+
 -- a command followed at once by its undo: the undo is accepted, and each row is as it was
 abbrev pub UndoneAtOnce : Type 0
 UndoneAtOnce = (w : WorldView) (kind : Kind) (keys : List Key) → refusal w (Commit kind keys) ≡ None →
@@ -63,14 +83,48 @@ BlockedExactly = (w : WorldView) (n : ℕ) (m : Marked) (b : ℕ) → StandingCo
 abbrev pub UndoneElse : Type 0
 UndoneElse = (w : WorldView) (n : ℕ) (m : Marked) → StandingCommand w n m → blocker w.history.journal n ≡ None → first_unpinned w m.entry.kind m.entry.keys ≡ None → answer_to w (Undo n) ≡ Undone n
 
--- a step leaves the entries, and may append one
-pub record Stays (w v : WorldView) : Type 0 where
+-- the entries of a world, without their marks
+abbrev pub entries_of : WorldView → List Entry
+entries_of w = map (λ (m : Marked). m.entry) w.history.journal
+
+-- whether a step is an undo of entry n that is accepted
+abbrev pub undoes : WorldView → Step → ℕ → Bool
+undoes w (Undo i) n = i == n && is_none (refusal w (Undo i))
+undoes w s n = false
+
+-- entry n, which stands and is a command, is marked as undone
+pub record IsUndone (w v : WorldView) (n : ℕ) (m : Marked) : Type 0 where
+  pub stood : m.mark ≡ Standing
+  pub command : is_command m.entry.kind ≡ true
+  pub undone : entry_at v.history.journal n ≡ Some (record m { mark = Dropped })
+
+-- a step leaves the opening rows and the entries and appends one entry at most; the marks stay, but for that of the entry that it undoes
+pub record Stays (w : WorldView) (s : Step) (v : WorldView) : Type 0 where
   pub opening : v.history.opening ≡ w.history.opening
-  pub added : List Entry
-  pub entries : map (λ (m : Marked). m.entry) v.history.journal ≡ map (λ (m : Marked). m.entry) w.history.journal ++ added
+  pub added : Option Entry
+  pub entries : entries_of v ≡ entries_of w ++ option_to_list added
+  pub marks : (n : ℕ) (m : Marked) → entry_at w.history.journal n ≡ Some m → undoes w s n ≡ false → entry_at v.history.journal n ≡ Some m
+  pub undone : (n : ℕ) (m : Marked) → entry_at w.history.journal n ≡ Some m → undoes w s n ≡ true → IsUndone w v n m
 
 abbrev pub EntriesStay : Type 0
-EntriesStay = (w : WorldView) (s : Step) → Stays w (after w s)
+EntriesStay = (w : WorldView) (s : Step) → Stays w s (after w s)
+
+-- whether one of the steps is an undo of entry n that is accepted
+abbrev pub undoes_among : WorldView → List Step → ℕ → Bool
+undoes_among w [] n = false
+undoes_among w (s ∷ steps) n = undoes w s n || undoes_among (after w s) steps n
+
+-- the same of a list of steps: it appends no more entries than it has steps
+pub record StaysAmong (w : WorldView) (steps : List Step) (v : WorldView) : Type 0 where
+  pub opening : v.history.opening ≡ w.history.opening
+  pub added : List Entry
+  pub few : length added ≤ length steps
+  pub entries : entries_of v ≡ entries_of w ++ added
+  pub marks : (n : ℕ) (m : Marked) → entry_at w.history.journal n ≡ Some m → undoes_among w steps n ≡ false → entry_at v.history.journal n ≡ Some m
+  pub undone : (n : ℕ) (m : Marked) → entry_at w.history.journal n ≡ Some m → undoes_among w steps n ≡ true → IsUndone w v n m
+
+abbrev pub EntriesStayAmong : Type 0
+EntriesStayAmong = (w : WorldView) (steps : List Step) → StaysAmong w steps (after_all w steps)
 
 -- whether a step is an arrival
 abbrev pub is_arrive : Step → Bool

@@ -7,11 +7,12 @@ use Rattle.td_rows.specs.Keys.{ascending}
 use Rattle.td_rows.specs.Table.{Table, keys_of, row_of}
 use Rattle.td_change.specs.Saved.{number_of}
 use Rattle.td_journal.specs.Entries.{standing}
+use Rattle.td_journal.specs.Journaled.{EachHasKeys}
 use Rattle.td_journal.specs.Replay.{Lawful}
 use Rattle.td_core.specs.declared.step.Phase.{Phase}
-use Rattle.td_core.specs.declared.step.Phase.TheVariants.{Closed}
+use Rattle.td_core.specs.declared.step.Phase.TheVariants.{Closed, Open, Held, Noted, Done}
 use Rattle.td_core.specs.declared.step.Hand.{Hand}
-use Rattle.td_core.specs.declared.step.Hand.TheVariants.{Free}
+use Rattle.td_core.specs.declared.step.Hand.TheVariants.{Free, Holding, Finished}
 use Rattle.td_core.specs.History.{History, rows_of, opened, with_entry}
 use Rattle.td_core.specs.Phases.{Suits}
 use Rattle.td_supply.specs.Supply.{Stock}
@@ -31,9 +32,13 @@ phase_of w k = slice_get w.phases (number_of w.history.opening k)
 abbrev pub with_phase : WorldView → Key → Phase → WorldView
 with_phase w k p = record w { phases = set w.phases (number_of w.history.opening k) p }
 
--- the hand of a builder, if there is one with the number
+-- of these hands that of a builder, if there is one with the number
+abbrev pub hand_in : List Hand → ℕ → Option Hand
+hand_in hands b = if b == 0 then None else slice_get hands (b - 1)
+
+-- the hand of a builder
 abbrev pub hand_of : WorldView → ℕ → Option Hand
-hand_of w b = if b == 0 then None else slice_get w.hands (b - 1)
+hand_of w b = hand_in w.hands b
 
 -- the world, in which the builder has that in hand
 abbrev pub with_hand : WorldView → ℕ → Hand → WorldView
@@ -47,9 +52,19 @@ journaled w kind keys = record w { history = with_entry w.history (record { kind
 abbrev pub world_of : Table → Stock → ℕ → WorldView
 world_of t s builders = record { history = opened t; supply = s; phases = replicate (length t) Closed; hands = replicate builders Free }
 
--- what holds of every world
+-- who has a row in such a phase has it in hand: who claimed it holds it, and who ended its build has ended it so
+abbrev pub InHand : List Hand → Key → Phase → Type 0
+InHand hands k Closed = Unit {0}
+InHand hands k Open = Unit {0}
+InHand hands k (Held b) = hand_in hands b ≡ Some (Holding k)
+InHand hands k (Noted b) = hand_in hands b ≡ Some (Holding k)
+InHand hands k (Done b o) = hand_in hands b ≡ Some (Finished k o)
+
+-- what holds of every world: the rows rise, the standing entries are lawful, each entry has keys that rise, each row has a phase that goes with its state, and with the hand of the builder who has it
 pub record IsWorld (w : WorldView) : Type 0 where
   pub rising : ascending (keys_of w.history.opening) ≡ true
   pub lawful : Lawful w.history.opening (standing w.history.journal)
   pub sized : length w.phases ≡ length w.history.opening
   pub suits : (k : Key) (p : Phase) (row : Row) → phase_of w k ≡ Some p → row_of (rows_of w.history) k ≡ Some row → Suits p row.state
+  pub keys : EachHasKeys w.history.journal
+  pub held : (k : Key) (p : Phase) → phase_of w k ≡ Some p → InHand w.hands k p

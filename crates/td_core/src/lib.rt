@@ -1,12 +1,16 @@
-//! The history of the rows, and the world that it changes in, step by step.
+//! The history of the rows and of what is on offer, and the world that it changes in, step by step.
 //!
 //! Start at `Kept`: the opening rows, the journal that led from them to the rows as they are, and
-//! of each standing command what it changed. `World` adds the builders: `World::step` takes one
-//! step of the desk or of a builder, and `run` takes a list of them.
+//! of each standing command what it changed. `Books` keeps beside it what is on offer: an arrival
+//! installs a row and offers its build, and a sweep frees the waiting rows whose relation the
+//! offers meet. `World` adds the builders: `World::step` takes one step of the desk, of a builder
+//! or of the archive, and `run` takes a list of them.
 //! Promised, over every list of steps: the rows are the meanings of the journal's standing
 //! entries, folded over the opening rows; a command followed at once by its undo leaves every row
-//! as it was; and the undo of a standing command is refused for a later entry exactly where one
-//! that stands touches it, and names the latest (`laws`).
+//! as it was; the undo of a standing command is refused for a later entry exactly where one that
+//! stands touches it, and names the latest; no entry is changed or removed, and no mark but by an
+//! accepted undo; who has a row has it in hand; arrivals alone change what is on offer, and a
+//! sweep frees exactly the rows that it meets (`laws`).
 #![tactic(auto)]
 
 mod arriving;
@@ -25,6 +29,7 @@ mod sweeping;
 mod tests;
 mod world;
 
+pub use books::Books;
 pub use committing::PlannedCommand;
 pub use kept::Kept;
 pub use key_list::KeyList;

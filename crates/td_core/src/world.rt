@@ -1,24 +1,17 @@
-ghost use Rattle.std.specs.Prelude.{◌≡◌, ◌<◌, ◌≤◌, ◌≢◌, ◌-◌, ◌==◌, List, None, Some, true, false, IfOk, IfSome, IfNone, OnOk, OnErr, IsOk, length, replicate, find, position, slice_get, set, if◌then◌else◌};
+ghost use Rattle.std.specs.Prelude.{◌≡◌, ◌≤◌, IfOk, replicate};
 ghost use Rattle.std.specs.Option.{option_copied};
-ghost use Rattle.td_rows.specs.declared.key.Key.{Key as KeyValue};
-ghost use Rattle.td_rows.specs.Keys.{ascending};
-ghost use Rattle.td_rows.specs.Table.{keys_of, row_of};
-ghost use Rattle.td_change.specs.Saved.{number_of};
 ghost use Rattle.td_core.specs.History.{rows_of};
-ghost use Rattle.td_core.specs.Phases.{is_pinned as is_pinned_in, NoneBuilt};
+ghost use Rattle.td_core.specs.Phases.{NoneBuilt};
 ghost use Rattle.td_core.specs.Worlds.{phase_of, hand_of, world_of, IsWorld};
-ghost use Rattle.td_rows.specs.Kinds.{cells};
-ghost use Rattle.td_core.specs.Refusals.{offer_refusal, is_queued_at, are_keys as are_keys_of, is_missing, is_unfit as is_unfit_on, is_unpinned as is_unpinned_in};
-ghost use Rattle.td_core.specs.Steps.{answer_to, after, supply_of};
+ghost use Rattle.td_core.specs.Steps.{supply_of};
 ghost use Rattle.td_supply.specs.Supply.{opened, stock_of};
 
 use crate::books::Books;
-use crate::key_list::KeyList;
-use crate::step::{Answer, Hand, Phase, Refusal};
+use crate::step::{Hand, Phase};
 use std::alloc::{AllocError, Global};
 use std::marker::Model;
-use td_journal::{Entry, EntryNo, Journal, Keys, Mark, is_command};
-use td_rows::{BuilderNo, Key, Kind, Outcome, Rows, applies, are_ascending, cells_of};
+use td_journal::Journal;
+use td_rows::{BuilderNo, Key, Rows};
 use td_supply::Supply;
 
 /// The desk and its builders, without threads: a history, the offers, a phase for each row and a

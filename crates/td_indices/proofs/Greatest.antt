@@ -7,7 +7,7 @@ use Rattle.td_rows.specs.declared.key.Key.{Key}
 use Rattle.td_indices.specs.Archive.{Contents, source_named, places_from, is_of}
 use Rattle.td_indices.specs.Kept.{KeptBinary}
 use Rattle.td_indices.specs.Opening.{rebuild_number, is_current, greater, current_number, with_number, greatest_at, opening_of, opening_on, opening_at, opening_row}
-use Rattle.td_indices.specs.Rows.{has_match}
+use Rattle.td_indices.specs.Rows.{has_row}
 use Rattle.td_indices.specs.Sources.{KeptSource}
 use Rattle.td_indices.proofs.Places.{front_of}
 
@@ -50,9 +50,9 @@ no_row a k h = sym (ap (λ (o : Option KeptSource). opening_at a o k.arch) h)
 
 -- the row of a key with a source, on an architecture of the table
 pub row_found : (a : Contents) (k : Key) (s : KeptSource) (numbers : List ℕ) (place : ℕ) → source_named a k.source ≡ Some s → place_of a.table k.arch ≡ Some place → numbers ≡ places_from (is_of s.head.name) 0 a.binaries
-    → (if has_match a.table place s.head.archs then Some (opening_of (greatest_at a.binaries s.head.parts place None numbers)) else None) ≡ opening_row a k
+    → (if has_row a.table s.head.archs place then Some (opening_of (greatest_at a.binaries s.head.parts place None numbers)) else None) ≡ opening_row a k
 row_found a k s numbers place source at is =
-    ap (λ (best : Option ℕ). if has_match a.table place s.head.archs then Some (opening_of best) else None)
+    ap (λ (best : Option ℕ). if has_row a.table s.head.archs place then Some (opening_of best) else None)
     (ap (greatest_at a.binaries s.head.parts place None) is ∙ greatest-group s.head.name s.head.parts place a.binaries a.binaries 0 None refl)
     ∙ sym (ap (opening_on a s) at)
     ∙ sym (ap (λ (o : Option KeptSource). opening_at a o k.arch) source)

@@ -8,7 +8,6 @@ use Rattle.td_text.specs.Words.{is_name}
 use Rattle.td_text.specs.Lines.{on_ok}
 use Rattle.td_text.proofs.Chain.{on_ok_parts}
 use Rattle.td_version.specs.Version.{Parts}
-use Rattle.td_relation.specs.Asked.{Asked}
 use Rattle.td_rows.proofs.Lists.{slice_get-map}
 use Rattle.td_stanza.specs.Field.{Entry}
 use Rattle.td_indices.specs.declared.archive_fault.ArchiveFault.{ArchiveFault}
@@ -47,7 +46,7 @@ module _ {A : Type 0} (same lower : A → A → Bool) (at : ℕ → List Entry �
   over_by n seen s ss kept later h (Ok None) r is = later seen h (sym (rw r refl) ∙ is)
   over_by n seen s ss kept later h (Ok (Some x)) r is = later (put same lower seen x) (all_put same lower P x seen (each n s x r) h) (sym (rw r refl) ∙ is)
 
-  all_over : (n : ℕ) (seen : List A) (ss : List (List Entry)) (kept : List A) → AllByRecursion P seen → over_stanzas (step same lower at file) n seen ss ≡ Ok kept → AllByRecursion P kept
+  pub all_over : (n : ℕ) (seen : List A) (ss : List (List Entry)) (kept : List A) → AllByRecursion P seen → over_stanzas (step same lower at file) n seen ss ≡ Ok kept → AllByRecursion P kept
   unfolding over_stanzas
   all_over n seen [] kept h is = let e : seen ≡ kept = cc in subst (λ (k : List A). AllByRecursion P k) e h
   all_over n seen (s ∷ ss) kept h is = over_by n seen s ss kept (λ more g k. all_over (n + 1) more ss kept g k) h (at n s) refl is
@@ -82,8 +81,8 @@ source_legal fields s e =
     let parts = on_ok_parts (version_in version.0) _ s archs.2 in
     subst (λ (t : List ℕ). is_name t ≡ true) (source_made name.0 version.0 archs.0 parts.0 s parts.2) (name_legal Package (value_of fields (codes "Package")) name.0 name.1)
 
-whole_made : (head : SourcePackage) (depends arch_depends : List (List Asked)) (n : ℕ) (s : KeptSource) → ◌≡◌ {A = Result KeptSource EntryFault} (Ok (record { head = head; build_depends = depends; build_depends_arch = arch_depends; stanza = n })) (Ok s) → head ≡ s.head
-whole_made head depends arch_depends n s e = cc
+whole_made : (head : SourcePackage) (n : ℕ) (s : KeptSource) → ◌≡◌ {A = Result KeptSource EntryFault} (Ok (record { head = head; stanza = n })) (Ok s) → head ≡ s.head
+whole_made head n s e = cc
 
 whole_legal : (n : ℕ) (fields : List Entry) (s : KeptSource) → whole_source_at n fields ≡ Ok s → is_name s.head.name ≡ true
 unfolding whole_source_at with_build_relations
@@ -91,7 +90,7 @@ whole_legal n fields s e =
     let head = on_ok_parts (source_at fields) _ s e in
     let depends = on_ok_parts (relation_in (value_of fields (codes "Build-Depends"))) _ s head.2 in
     let arch_depends = on_ok_parts (relation_in (value_of fields (codes "Build-Depends-Arch"))) _ s depends.2 in
-    subst (λ (h : SourcePackage). is_name h.name ≡ true) (whole_made head.0 depends.0 arch_depends.0 n s arch_depends.2) (source_legal fields head.0 head.1)
+    subst (λ (h : SourcePackage). is_name h.name ≡ true) (whole_made head.0 n s arch_depends.2) (source_legal fields head.0 head.1)
 
 kept_is : (t s : KeptSource) → ◌≡◌ {A = Result (Option KeptSource) EntryFault} (Ok (Some t)) (Ok (Some s)) → t ≡ s
 kept_is t s e = cc

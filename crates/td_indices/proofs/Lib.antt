@@ -14,3 +14,9 @@ pub mod CountingLaws
 pub mod LegalNames
 pub mod OpeningRows
 pub mod Filling
+pub mod KeptStanzas
+pub mod Names
+pub mod OwnPlaces
+pub mod FirstFaults
+pub mod Refusals
+pub mod OpeningLaws

@@ -11,7 +11,7 @@ use Rattle.std.proofs.lemmas.Slice.Eq.{bytes_eq-Decides}
 use Rattle.indexmap.specs.IndexMap.{insert_entry}
 use Rattle.td_text.proofs.Chain.{some_is, or_right}
 use Rattle.td_relation.specs.Arch.{ArchWords}
-use Rattle.td_relation.specs.Table.{place_of}
+use Rattle.td_relation.specs.Table.{IsApart, place_of}
 use Rattle.td_rows.specs.declared.key.Key.{Key}
 use Rattle.td_rows.specs.declared.row.Row.{Row}
 use Rattle.td_rows.specs.Keys.{same_key}
@@ -22,9 +22,10 @@ use Rattle.td_indices.specs.declared.sourced.Source.{Source}
 use Rattle.td_indices.specs.Archive.{Contents, source_named}
 use Rattle.td_indices.specs.Opening.{opening_on, opening_at, opening_row}
 use Rattle.td_indices.specs.OpeningRows.{is_key_at, has_row_on, has_row_before, with_opening}
-use Rattle.td_indices.specs.Rows.{has_match, has_row, is_place, row_count, rows_before, rows_of}
+use Rattle.td_indices.specs.Rows.{has_row, row_count, rows_before, rows_of}
 use Rattle.td_indices.specs.Seen.{SourceSeen, seen_source, shown_source}
 use Rattle.td_indices.specs.Sources.{KeptSource}
+use Rattle.td_indices.proofs.OwnPlaces.{place_own}
 
 -- ---- 1. a row more
 
@@ -126,7 +127,7 @@ and_none false = refl
 
 -- whether a source with this Architecture field has a row at a place of the table, and before another
 abbrev before : List ArchWords → List ℕ → ℕ → Option ℕ → Bool
-before table archs place o = option_map_or (λ p. nat_lt p place && has_match table p archs) o false
+before table archs place o = option_map_or (λ p. nat_lt p place && has_row table archs p) o false
 
 -- a place that isn't the last one is before both or before none
 ltb-next : (p place : ℕ) → p ≢ place → nat_lt p (place + 1) ≡ nat_lt p place
@@ -134,45 +135,30 @@ ltb-next p place apart = grind arith
 
 before-none : (table : List ArchWords) (archs : List ℕ) (place : ℕ) (o : Option ℕ) → o ≢ Some place → before table archs (place + 1) o ≡ before table archs place o
 before-none table archs place None apart = refl
-before-none table archs place (Some p) apart = ap (λ (b : Bool). b && has_match table p archs) (ltb-next p place (λ e. apart (ap Some e)))
+before-none table archs place (Some p) apart = ap (λ (b : Bool). b && has_row table archs p) (ltb-next p place (λ e. apart (ap Some e)))
 
-named_first : (table : List ArchWords) (archs : List ℕ) (place : ℕ) (w : ArchWords) → slice_get table place ≡ Some w → has_row table archs place ≡ (is_place place (place_of table w.name) && has_match table place archs)
-named_first table archs place w at = ap (λ (o : Option ArchWords). option_map_or (λ a. is_place place (place_of table a.name)) o false && has_match table place archs) at
-
-is_place-is : (place : ℕ) (o : Option ℕ) → is_place place o ≡ true → o ≡ Some place
-is_place-is place None h = absurd cc
-is_place-is place (Some p) h = ap Some (eqb-true p place h)
-
-pub before_next : (table : List ArchWords) (archs arch : List ℕ) (place : ℕ) (w : ArchWords) → slice_get table place ≡ Some w → has_row table archs place ≡ true → has_row_before table archs (place + 1) arch ≡ (has_row_before table archs place arch || bytes_eq w.name arch)
-before_next table archs arch place w at has =
-    let both = and_parts (is_place place (place_of table w.name)) (has_match table place archs) (sym (named_first table archs place w at) ∙ has) in
-    let first : place_of table w.name ≡ Some place = is_place-is place (place_of table w.name) both.0 in
+pub before_next : (table : List ArchWords) (archs arch : List ℕ) (place : ℕ) (w : ArchWords) → IsApart table → slice_get table place ≡ Some w → has_row table archs place ≡ true → has_row_before table archs (place + 1) arch ≡ (has_row_before table archs place arch || bytes_eq w.name arch)
+before_next table archs arch place w apart at has =
+    let own : place_of table w.name ≡ Some place = place_own table place w apart at in
     elim (cases_Bool (bytes_eq w.name arch)) [
       | inl is ↦
-          let here : place_of table arch ≡ Some place = ap (place_of table) (sym ((bytes_eq-Decides w.name arch).0 is)) ∙ first in
-          let now : before table archs (place + 1) (Some place) ≡ true = and_from (nat_lt place (place + 1)) (has_match table place archs) (grind arith) both.1 in
+          let here : place_of table arch ≡ Some place = ap (place_of table) (sym ((bytes_eq-Decides w.name arch).0 is)) ∙ own in
+          let now : before table archs (place + 1) (Some place) ≡ true = and_from (nat_lt place (place + 1)) (has_row table archs place) (grind arith) has in
           ap (before table archs (place + 1)) here ∙ now ∙ sym (or_right (has_row_before table archs place arch) (bytes_eq w.name arch) is)
       | inr other ↦
           let past : place_of table arch ≢ Some place = λ e. (let bad : true ≡ false = sym (place_named table arch place w at e) ∙ other in cc) in
           before-none table archs place (place_of table arch) past ∙ sym (ap (λ (b : Bool). has_row_before table archs place arch || b) other ∙ or_none (has_row_before table archs place arch))
     ]
 
-pub before_past : (table : List ArchWords) (archs arch : List ℕ) (place : ℕ) (w : ArchWords) → slice_get table place ≡ Some w → has_row table archs place ≡ false → has_row_before table archs (place + 1) arch ≡ has_row_before table archs place arch
-before_past table archs arch place w at none = by (place_of table arch) refl
+pub before_past : (table : List ArchWords) (archs arch : List ℕ) (place : ℕ) → has_row table archs place ≡ false → has_row_before table archs (place + 1) arch ≡ has_row_before table archs place arch
+before_past table archs arch place lacks = by (place_of table arch) refl
   where
-    unmatched : place_of table arch ≡ Some place → has_match table place archs ≡ false
-    unmatched e =
-        let same : w.name ≡ arch = (bytes_eq-Decides w.name arch).0 (place_named table arch place w at e) in
-        let first : is_place place (place_of table w.name) ≡ true = ap (λ (n : List ℕ). is_place place (place_of table n)) same ∙ ap (is_place place) e ∙ eq-eqb place place refl in
-        sym (ap (λ (b : Bool). b && has_match table place archs) first) ∙ sym (named_first table archs place w at) ∙ none
-
     by : (o : Option ℕ) → place_of table arch ≡ o → has_row_before table archs (place + 1) arch ≡ has_row_before table archs place arch
     by None e = before-none table archs place (place_of table arch) (λ h. (let bad : None ≡ Some place = sym e ∙ h in cc))
     by (Some p) e =
         elim (cases_Bool (p == place)) [
           | inl is ↦
               let at_place : place_of table arch ≡ Some place = e ∙ ap Some (eqb-true p place is) in
-              let lacks = unmatched at_place in
               ap (before table archs (place + 1)) at_place ∙ ap (λ (b : Bool). nat_lt place (place + 1) && b) lacks ∙ and_none (nat_lt place (place + 1))
               ∙ sym (ap (before table archs place) at_place ∙ ap (λ (b : Bool). nat_lt place place && b) lacks ∙ and_none (nat_lt place place))
           | inr other ↦ before-none table archs place (place_of table arch) (λ h. (let same : p ≡ place = some_is p place (sym e ∙ h) in let bad : true ≡ false = sym (eq-eqb p place same) ∙ other in cc))
@@ -187,16 +173,16 @@ before_first table archs arch = by (place_of table arch)
   where
     by : (o : Option ℕ) → before table archs 0 o ≡ false
     by None = refl
-    by (Some p) = ap (λ (b : Bool). b && has_match table p archs) (none_below p)
+    by (Some p) = ap (λ (b : Bool). b && has_row table archs p) (none_below p)
 
 pub before_end : (table : List ArchWords) (archs arch : List ℕ) → has_row_before table archs (length table) arch ≡ has_row_on table archs arch
 before_end table archs arch = by (place_of table arch) refl
   where
-    by : (o : Option ℕ) → place_of table arch ≡ o → before table archs (length table) o ≡ option_map_or (λ p. has_match table p archs) o false
+    by : (o : Option ℕ) → place_of table arch ≡ o → before table archs (length table) o ≡ option_map_or (λ p. has_row table archs p) o false
     by None e = refl
     by (Some p) e =
         let found = position-Some (λ (a : ArchWords). bytes_eq a.name arch) table p (record { name = []; os = []; cpu = [] }) e in
-        ap (λ (b : Bool). b && has_match table p archs) (lt-ltb p (length table) found.0)
+        ap (λ (b : Bool). b && has_row table archs p) (lt-ltb p (length table) found.0)
 
 -- ---- 3. over places, and over sources
 
@@ -213,11 +199,11 @@ pub opened_none : (a : Contents) (source archs : List ℕ) (k : Key) (row : Opti
 opened_none a source archs k row = sym (ap (λ (b : Bool). with_opening b (opening_row a k) row) (ap (λ (b : Bool). bytes_eq k.source source && b) (before_first a.table archs k.arch) ∙ and_none (bytes_eq k.source source)))
 
 -- the rows before a place, and the one at it
-pub opened_next : (a : Contents) (old mid new : Table) (source archs : List ℕ) (place : ℕ) → place < length a.table → has_row a.table archs place ≡ true
+pub opened_next : (a : Contents) (old mid new : Table) (source archs : List ℕ) (place : ℕ) → IsApart a.table → place < length a.table → has_row a.table archs place ≡ true
     → ((k : Key) → row_of mid k ≡ with_opening (bytes_eq k.source source && has_row_before a.table archs place k.arch) (opening_row a k) (row_of old k))
     → ((k : Key) → row_of new k ≡ with_opening (is_key_at a.table source place k) (opening_row a k) (row_of mid k))
     → (k : Key) → row_of new k ≡ with_opening (bytes_eq k.source source && has_row_before a.table archs (place + 1) k.arch) (opening_row a k) (row_of old k)
-opened_next a old mid new source archs place within has so_far here k = by (slice_get a.table place) refl
+opened_next a old mid new source archs place apart within has so_far here k = by (slice_get a.table place) refl
   where
     by : (o : Option ArchWords) → slice_get a.table place ≡ o → row_of new k ≡ with_opening (bytes_eq k.source source && has_row_before a.table archs (place + 1) k.arch) (opening_row a k) (row_of old k)
     by None e = absurd (slice_get-none a.table place e within)
@@ -227,16 +213,12 @@ opened_next a old mid new source archs place within has so_far here k = by (slic
         ∙ ap (λ (b : Bool). with_opening b (opening_row a k) (row_of mid k)) at
         ∙ ap (with_opening (bytes_eq k.source source && bytes_eq w.name k.arch) (opening_row a k)) (so_far k)
         ∙ opened_twice (bytes_eq k.source source) (has_row_before a.table archs place k.arch) (bytes_eq w.name k.arch) (opening_row a k) (row_of old k)
-        ∙ ap (λ (b : Bool). with_opening (bytes_eq k.source source && b) (opening_row a k) (row_of old k)) (sym (before_next a.table archs k.arch place w e has))
+        ∙ ap (λ (b : Bool). with_opening (bytes_eq k.source source && b) (opening_row a k) (row_of old k)) (sym (before_next a.table archs k.arch place w apart e has))
 
 -- at a place without a row nothing is opened
-pub opened_past : (a : Contents) (source archs : List ℕ) (place : ℕ) → place < length a.table → has_row a.table archs place ≡ false → (k : Key) (row : Option Row)
+pub opened_past : (a : Contents) (source archs : List ℕ) (place : ℕ) → has_row a.table archs place ≡ false → (k : Key) (row : Option Row)
     → with_opening (bytes_eq k.source source && has_row_before a.table archs place k.arch) (opening_row a k) row ≡ with_opening (bytes_eq k.source source && has_row_before a.table archs (place + 1) k.arch) (opening_row a k) row
-opened_past a source archs place within none k row = by (slice_get a.table place) refl
-  where
-    by : (o : Option ArchWords) → slice_get a.table place ≡ o → with_opening (bytes_eq k.source source && has_row_before a.table archs place k.arch) (opening_row a k) row ≡ with_opening (bytes_eq k.source source && has_row_before a.table archs (place + 1) k.arch) (opening_row a k) row
-    by None e = absurd (slice_get-none a.table place e within)
-    by (Some w) e = ap (λ (b : Bool). with_opening (bytes_eq k.source source && b) (opening_row a k) row) (sym (before_past a.table archs k.arch place w e none))
+opened_past a source archs place none k row = ap (λ (b : Bool). with_opening (bytes_eq k.source source && b) (opening_row a k) row) (sym (before_past a.table archs k.arch place none))
 
 -- whether a key's source is among sources
 abbrev pub among : List KeptSource → Key → Bool
@@ -318,7 +300,7 @@ source_opened a old new n s at so_far here k =
     either true = opened_again (opening_row a k)
     either false = refl
 
-    without : (o : Option ℕ) → option_map_or (λ p. has_match a.table p s.head.archs) o false ≡ false → opening_on a s o ≡ None
+    without : (o : Option ℕ) → option_map_or (λ p. has_row a.table s.head.archs p) o false ≡ false → opening_on a s o ≡ None
     without None e = refl
     without (Some p) e = rw e refl
 

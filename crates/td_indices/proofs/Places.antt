@@ -1,5 +1,6 @@
 -- The numbers of items that pass a test.
-use Rattle.std.proofs.Common.{◌≡◌, ℕ, zero, suc, ◌+◌, Bool, true, false, ◌&&◌, List, [], ◌∷◌, ◌++◌, Some, drop, filter, slice_get, if◌then◌else◌, refl, sym, ap, ◌∙◌, inl, inr, append_assoc, add-one}
+use Rattle.std.proofs.Common.{◌≡◌, ℕ, zero, suc, ◌+◌, ◌<◌, ◌≤◌, arith, length, Bool, true, false, ◌&&◌, List, [], ◌∷◌, ◌++◌, Some, drop, filter, slice_get, if◌then◌else◌, refl, sym, ap, ◌∙◌, inl, inr, append_assoc, add-one}
+use Rattle.std.specs.List.{AllByRecursion}
 use Rattle.std.specs.Option.{option_map_or}
 use Rattle.std.specs.Str.{bytes_eq}
 use Rattle.std.proofs.lemmas.Bool.{cases_Bool}
@@ -42,4 +43,16 @@ grouped q source old new total n bs b at is added h =
           let foreign : bytes_eq q b.head.source ≡ false = ap (bytes_eq q) is ∙ other in
           let same : old ++ places_from (is_of q) (n + 1) (drop (n + 1) bs) ≡ total = sym (rw foreign refl) ∙ whole in
           ap (λ (l : List ℕ). l ++ places_from (is_of q) (n + 1) (drop (n + 1) bs)) (added ∙ rw other refl) ∙ same
+    ]
+
+-- they are numbers of items
+pub places-within : {A : Type 0} (test : A → Bool) (m n : ℕ) (xs : List A) → n + length xs ≤ m → AllByRecursion (λ (k : ℕ). k < m) (places_from test n xs)
+places-within test m n [] h = tt
+places-within test m n (x ∷ xs) h =
+    let here : n < m = omega arith in
+    let below : (n + 1) + length xs ≤ m = omega arith in
+    let later = places-within test m (n + 1) xs below in
+    elim (cases_Bool (test x)) [
+      | inl passes ↦ rw passes (here, later)
+      | inr fails ↦ rw fails later
     ]

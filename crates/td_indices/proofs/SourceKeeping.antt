@@ -24,8 +24,6 @@ same_named k q v h =
     let names : k.now ≡ q.now = (bytes_eq-Decides k.now q.now).0 h in
     λ i. record {
       head = record { name = sym names i; version = v.version.now; parts = parts_of v.parts; archs = v.archs.now };
-      build_depends = (source_of (k, v)).build_depends;
-      build_depends_arch = (source_of (k, v)).build_depends_arch;
       stanza = v.stanza;
     }
 

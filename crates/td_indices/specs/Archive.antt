@@ -1,6 +1,7 @@
 -- What an archive holds, which two texts it is read from, and why two texts are refused.
-use Rattle.std.specs.Prelude.{◌≡◌, ◌⊎◌, ℕ, ◌+◌, ◌<◌, ◌≤◌, ◌&&◌, Bool, List, [], ◌∷◌, Option, Ok, Err, if◌then◌else◌}
+use Rattle.std.specs.Prelude.{◌≡◌, ◌⊎◌, ℕ, ◌+◌, ◌<◌, ◌≤◌, ◌&&◌, Bool, false, List, [], ◌∷◌, Option, Result, Ok, Err, position, slice_get, if◌then◌else◌}
 use Rattle.std.specs.List.{find}
+use Rattle.std.specs.Option.{option_map_or}
 use Rattle.std.specs.Str.{bytes_eq}
 use Rattle.td_stanza.specs.Field.{Entry}
 use Rattle.td_stanza.specs.StanzaGrammar.{AreStanzas}
@@ -17,7 +18,7 @@ use Rattle.td_indices.specs.declared.archive_fault.ArchiveFault.TheVariants.{Sta
 use Rattle.td_indices.specs.Kept.{KeptBinary}
 use Rattle.td_indices.specs.Sources.{KeptSource}
 use Rattle.td_indices.specs.Reading.{binaries_at, sources_at}
-use Rattle.td_indices.specs.Rows.{row_count}
+use Rattle.td_indices.specs.Rows.{has_row, row_count}
 
 -- the table of architectures, the stanzas of the two texts, and what is kept of them
 pub record Contents : Type 0 where
@@ -33,6 +34,14 @@ pub record Contents : Type 0 where
 abbrev pub source_named : Contents → List ℕ → Option KeptSource
 source_named a name = find (λ s. bytes_eq name s.head.name) a.sources
 
+-- its number, from 0
+abbrev pub number_named : Contents → List ℕ → Option ℕ
+number_named a name = position (λ s. bytes_eq name s.head.name) a.sources
+
+-- whether the source with a number has a row on the architecture at a place
+abbrev pub has_row_at : Contents → ℕ → ℕ → Bool
+has_row_at a number place = option_map_or (λ s. has_row a.table s.head.archs place) (slice_get a.sources number) false
+
 -- the numbers, from n on, of the items that pass a test
 abbrev pub places_from : {A : Type 0} → (A → Bool) → ℕ → List A → List ℕ
 places_from test n [] = []
@@ -41,6 +50,10 @@ places_from test n (x ∷ xs) = if test x then n ∷ places_from test (n + 1) xs
 -- a binary package is its source's where it names it
 abbrev pub is_of : List ℕ → KeptBinary → Bool
 is_of source b = bytes_eq source b.head.source
+
+-- the numbers of the source's binary packages, wherever they are
+abbrev pub numbers_of : Contents → List ℕ → List ℕ
+numbers_of a source = places_from (is_of source) 0 a.binaries
 
 -- the source's binary packages on an architecture: those there, and those of `all`
 abbrev pub is_of_on : List ℕ → ℕ → KeptBinary → Bool
@@ -89,6 +102,11 @@ FaultOf table packages sources (BadVersion file number) = IsStanzaFault table pa
 FaultOf table packages sources (BadRelation file number) = IsStanzaFault table packages sources (BadRelation file number)
 FaultOf table packages sources TooManyRows = HasTooManyRows table packages sources
 FaultOf table packages sources NoMemory = Unit {0}
+
+-- what was returned, unless memory ran out: this fault
+abbrev pub IsRefusedFor : {A : Type 0} → ArchiveFault → Result A ArchiveFault → Type 0
+IsRefusedFor fault (Ok archive) = ⊥
+IsRefusedFor fault (Err e) = (e ≡ NoMemory) ⊎ (e ≡ fault)
 
 -- ---- 4. the parts of the reading
 

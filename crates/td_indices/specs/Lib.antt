@@ -14,3 +14,6 @@ pub mod Opening
 pub mod OpeningRows
 pub mod Counting
 pub mod Supplying
+pub mod Stanzas
+pub mod OfferedNames
+pub mod FirstFaults

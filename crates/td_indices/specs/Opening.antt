@@ -12,7 +12,7 @@ use Rattle.td_rows.specs.declared.state.State.TheVariants.{Installed}
 use Rattle.td_indices.specs.Archive.{Contents, source_named, is_of}
 use Rattle.td_indices.specs.Kept.{KeptBinary}
 use Rattle.td_indices.specs.PackageKeys.{same_home}
-use Rattle.td_indices.specs.Rows.{has_match}
+use Rattle.td_indices.specs.Rows.{has_row}
 use Rattle.td_indices.specs.Sources.{KeptSource}
 
 -- the number of the rebuild that a version ends in; 0 where it ends in none
@@ -44,7 +44,7 @@ opening_of (Some n) = record { state = Installed; priority = blank.priority; num
 -- the row of a source on the architecture at a place, if it has one there
 abbrev pub opening_on : Contents → KeptSource → Option ℕ → Option Row
 opening_on a s None = None
-opening_on a s (Some place) = if has_match a.table place s.head.archs then Some (opening_of (greatest (current_numbers a s place))) else None
+opening_on a s (Some place) = if has_row a.table s.head.archs place then Some (opening_of (greatest (current_numbers a s place))) else None
 
 abbrev pub opening_at : Contents → Option KeptSource → List ℕ → Option Row
 opening_at a None arch = None

@@ -8,12 +8,11 @@ use Rattle.td_text.specs.Lines.{on_ok}
 use Rattle.td_stanza.specs.Field.{Entry}
 use Rattle.td_version.specs.Order.{version_cmp}
 use Rattle.td_version.specs.Version.{Parts, parts_of}
-use Rattle.td_relation.specs.Asked.{Asked}
 use Rattle.td_indices.specs.declared.archive_fault.IndexField.TheVariants.{Package, Version, Architecture}
 use Rattle.td_indices.specs.declared.archive_fault.EntryFault.{EntryFault}
 use Rattle.td_indices.specs.declared.sourced.Sourced.{Sourced}
 use Rattle.td_indices.specs.declared.sourced.SourceHead.{SourceHead}
-use Rattle.td_indices.specs.Fields.{value_of, needed, name_in, version_in, relation_in, asked_by}
+use Rattle.td_indices.specs.Fields.{value_of, needed, name_in, version_in, relation_in}
 
 -- ---- 1. the stanza
 
@@ -37,19 +36,17 @@ source_at fields =
     on_ok (version_in version) (λ parts.
     Ok (record { name = name; version = version; parts = parts; archs = archs })))))
 
--- a source with what its build asks for and the number of its stanza, from 0
+-- a source and the number of its stanza, from 0
 pub record KeptSource : Type 0 where
   pub head : SourcePackage
-  pub build_depends : List (List Asked)
-  pub build_depends_arch : List (List Asked)
   pub stanza : ℕ
 
--- a source with its relations
+-- a source, where what its build asks for can be read
 unfoldable pub with_build_relations : ℕ → List Entry → SourcePackage → Result KeptSource EntryFault
 with_build_relations number fields head =
     on_ok (relation_in (value_of fields (codes "Build-Depends"))) (λ depends.
     on_ok (relation_in (value_of fields (codes "Build-Depends-Arch"))) (λ arch_depends.
-    Ok (record { head = head; build_depends = depends; build_depends_arch = arch_depends; stanza = number })))
+    Ok (record { head = head; stanza = number })))
 
 -- what a stanza of Sources is kept as
 unfoldable pub whole_source_at : ℕ → List Entry → Result KeptSource EntryFault
@@ -79,8 +76,6 @@ source_found (Err fault) = Err fault
 abbrev pub source_of : Bor (List ℕ) × Sourced → KeptSource
 source_of p = record {
   head = record { name = p.0.now; version = p.1.version.now; parts = parts_of p.1.parts; archs = p.1.archs.now };
-  build_depends = asked_by p.1.build_depends;
-  build_depends_arch = asked_by p.1.build_depends_arch;
   stanza = p.1.stanza;
 }
 

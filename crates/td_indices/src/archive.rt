@@ -20,15 +20,15 @@ use td_supply::Supply;
 /// see them as `Contents`.
 #[derive(Drop)]
 pub struct Archive<'t, 'a> {
-    archs: &'t Archs<'a>,
-    packages: StanzaList<'a>,
-    source_stanzas: StanzaList<'a>,
-    binaries: IndexMap<PackageKey<'a>, Packaged<'a>>,
-    sources: IndexMap<&'a str, Sourced<'a>>,
-    groups: Groups<'a>,
+    pub(crate) archs: &'t Archs<'a>,
+    pub(crate) packages: StanzaList<'a>,
+    pub(crate) source_stanzas: StanzaList<'a>,
+    pub(crate) binaries: IndexMap<PackageKey<'a>, Packaged<'a>>,
+    pub(crate) sources: IndexMap<&'a str, Sourced<'a>>,
+    pub(crate) groups: Groups<'a>,
     // How many rows the sources have.
     rows: usize,
-    alloc: Global,
+    pub(crate) alloc: Global,
 }
 
 impl<'t, 'a> Model for Archive<'t, 'a> {
@@ -37,7 +37,7 @@ impl<'t, 'a> Model for Archive<'t, 'a> {
     ghost use Rattle.td_indices.specs.Archive.{Contents, is_of, places_from};
     ghost use Rattle.td_indices.specs.Groups.{group};
     ghost use Rattle.td_indices.specs.Kept.{binaries_of};
-    ghost use Rattle.td_indices.specs.Reading.{sources_at};
+    ghost use Rattle.td_indices.specs.Reading.{binaries_at, sources_at};
     ghost use Rattle.td_indices.specs.Rows.{row_count};
     ghost use Rattle.td_indices.specs.Sources.{sources_of};
 
@@ -53,22 +53,25 @@ impl<'t, 'a> Model for Archive<'t, 'a> {
 
     ghost invariant = { λ a. ((q : List ℕ) → group a.groups q ≡ places_from (is_of q) 0 (binaries_of a.binaries.entries))
         × (a.rows ≡ row_count (table a.archs.now) (sources_of a.sources.entries)) × (a.rows ≤ 1048576)
-        × (sources_at a.source_stanzas ≡ Ok (sources_of a.sources.entries)) };
+        × (sources_at a.source_stanzas ≡ Ok (sources_of a.sources.entries))
+        × (binaries_at (table a.archs.now) a.packages ≡ Ok (binaries_of a.binaries.entries)) };
 }
 
 impl<'t, 'a> Archive<'t, 'a> {
-    ghost use Rattle.std.specs.Prelude.{◌≡◌, ◌+◌, ◌≤◌, ◌<◌, ◌&&◌, true, false, IfOk, IfErr, IfSome, OnOk, MatchResult, length, option_map, slice_get};
+    ghost use Rattle.std.specs.Prelude.{◌≡◌, ◌≢◌, ◌+◌, ◌≤◌, ◌<◌, ◌&&◌, true, false, IfOk, IfErr, IfSome, OnOk, MatchResult, Some, length, option_map, slice_get};
     ghost use Rattle.std.specs.Str.{bytes_eq};
     ghost use Rattle.td_text.specs.Lines.{lines_of};
     ghost use Rattle.td_text.specs.Words.{is_name};
     ghost use Rattle.td_stanza.specs.Table.{fields_of};
     ghost use Rattle.td_relation.specs.TableView.{table};
+    ghost use Rattle.td_relation.specs.Table.{IsApart};
+    ghost use Rattle.td_rows.specs.States.{is_building};
     ghost use Rattle.td_rows.specs.Table.{row_of};
     ghost use Rattle.td_rows.specs.Text.{has_newline};
     ghost use Rattle.td_indices.specs.declared.archive_fault.ArchiveFault.{ArchiveFault};
-    ghost use Rattle.td_indices.specs.Archive.{Contents, FaultOf, IsArchive, binaries_on, source_named};
+    ghost use Rattle.td_indices.specs.Archive.{Contents, FaultOf, IsArchive, IsRefusedFor, binaries_on, source_named};
     ghost use Rattle.td_indices.specs.Opening.{opening_row as opening_row_of};
-    ghost use Rattle.td_indices.specs.OpeningRows.{has_row_on, is_key_at, with_opening};
+    ghost use Rattle.td_indices.specs.OpeningRows.{IsVersionKnown, has_row_on, is_key_at, with_opening};
     ghost use Rattle.td_indices.specs.Rows.{has_row as has_row_of, row_count, rows_before};
     ghost use Rattle.td_indices.specs.Supplying.{supply_of};
     ghost use Rattle.td_supply.specs.Supply.{opened};
@@ -86,6 +89,21 @@ impl<'t, 'a> Archive<'t, 'a> {
         // What is read is an archive.
         ensures found { IfOk result (IsArchive (table archs.now) (lines_of packages.now) (lines_of sources.now)) }
         // An archive is read, unless memory runs out.
+        ensures only { (a : Contents) → IsArchive (table archs.now) (lines_of packages.now) (lines_of sources.now) a → MatchResult result (λ archive. archive ≡ a) (λ e. e ≡ ArchiveFault.NoMemory) }
+        ensures fault { IfErr result (FaultOf (table archs.now) (lines_of packages.now) (lines_of sources.now)) }
+        // Two texts with a fault are refused for it, unless memory runs out.
+        ensures refused { (fault : ArchiveFault) → fault ≢ ArchiveFault.NoMemory → FaultOf (table archs.now) (lines_of packages.now) (lines_of sources.now) fault → IsRefusedFor fault result }
+    {
+        Archive::read_parts(alloc, packages, sources, archs)
+    }
+
+    fn read_parts(
+        alloc: Global,
+        packages: &'a str,
+        sources: &'a str,
+        archs: &'t Archs<'a>,
+    ) -> Result<Archive<'t, 'a>, ArchiveFault>
+        ensures found { IfOk result (IsArchive (table archs.now) (lines_of packages.now) (lines_of sources.now)) }
         ensures only { (a : Contents) → IsArchive (table archs.now) (lines_of packages.now) (lines_of sources.now) a → MatchResult result (λ archive. archive ≡ a) (λ e. e ≡ ArchiveFault.NoMemory) }
         ensures fault { IfErr result (FaultOf (table archs.now) (lines_of packages.now) (lines_of sources.now)) }
     {
@@ -212,8 +230,8 @@ impl<'t, 'a> Archive<'t, 'a> {
         )
     }
 
-    // How many architectures the table has.
-    fn arch_count(&self) -> usize
+    /// How many architectures the table has.
+    pub fn arch_count(&self) -> usize
         ensures { result ≡ length self.now.table }
     {
         self.archs.len()
@@ -227,8 +245,8 @@ impl<'t, 'a> Archive<'t, 'a> {
         has_row(self.archs, archs, place)
     }
 
-    // The source with a number, from 0.
-    fn source_at(&self, number: usize) -> Option<Source<'a>>
+    /// The source with a number, from 0.
+    pub fn source_at(&self, number: usize) -> Option<Source<'a>>
         ensures found { option_map seen_source result ≡ option_map shown_source (slice_get self.now.sources number) }
         ensures legal { IfSome result (λ s. is_name s.name.now ≡ true) }
     {
@@ -271,7 +289,8 @@ impl<'t, 'a> Archive<'t, 'a> {
         source: &str,
         archs: &str,
     ) -> Result<(), AllocError>
-        requires { has_newline source.now ≡ false }
+        requires source { has_newline source.now ≡ false }
+        requires apart { IsApart self.now.table }
         ensures rows { OnOk result ((k : Key) → row_of rows.new.entries k ≡ with_opening (bytes_eq k.source source.now && has_row_on self.now.table archs.now k.arch) (opening_row_of self.now k) (row_of rows.old.entries k)) }
         ensures few { OnOk result (length rows.new.entries ≤ length rows.old.entries + rows_before self.now.table archs.now (length self.now.table)) }
     {
@@ -297,13 +316,24 @@ impl<'t, 'a> Archive<'t, 'a> {
         Ok(rows)
     }
 
-    /// The rows with which a desk opens: for each key the row with which it opens, and none where
-    /// it has none.
-    pub fn opening_rows(&self) -> Result<Rows, AllocError>
+    fn sorted_rows(&self) -> Result<Rows, AllocError>
         ensures { IfOk result (λ rows. (k : Key) → row_of rows k ≡ opening_row_of self.now k) }
     {
         let rows = self.open_all()?;
         Rows::sorted(self.alloc, rows)
+    }
+
+    /// The rows with which a desk opens: for each key the row with which it opens, and none where
+    /// it has none.
+    pub fn opening_rows(&self) -> Result<Rows, AllocError>
+        ensures rows { IfOk result (λ rows. (k : Key) → row_of rows k ≡ opening_row_of self.now k) }
+        // No builder has one of them.
+        ensures free { IfOk result (λ rows. (k : Key) (row : Row) → row_of rows k ≡ Some row → is_building row.state ≡ false) }
+        // The supply has a version of the source of each.
+        ensures known { IfOk result (λ rows. (k : Key) (row : Row) → row_of rows k ≡ Some row → IsVersionKnown (opened (supply_of self.now)) k.source) }
+    {
+        let _ = &self.rows;
+        self.sorted_rows()
     }
 
     /// What the archive puts on offer: its binary packages, and the names that they provide.

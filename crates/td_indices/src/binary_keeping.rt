@@ -1,5 +1,4 @@
 ghost use Rattle.std.specs.Prelude.{◌≡◌, Ok, IfOk, IfErr, OnOk, option_map};
-ghost use Rattle.td_stanza.specs.StanzaGrammar.{IsDistinct};
 ghost use Rattle.td_stanza.specs.Table.{fields_of};
 ghost use Rattle.td_relation.specs.TableView.{table};
 ghost use Rattle.td_indices.specs.Fields.{Fails};
@@ -26,7 +25,6 @@ pub fn read_binary<'a>(
     stanza: &Stanza<'_, 'a>,
     number: usize,
 ) -> Result<Option<(PackageKey<'a>, Packaged<'a>)>, EntryFault>
-    requires { IsDistinct (fields_of stanza.now) }
     ensures ok { IfOk result (λ o. binary_at (table archs.now) number (fields_of stanza.now) ≡ Ok (option_map binary_of o)) }
     ensures err { IfErr result (λ e. Fails (binary_at (table archs.now) number (fields_of stanza.now)) e) }
 {

@@ -1,5 +1,4 @@
 ghost use Rattle.std.specs.Prelude.{◌≡◌, option_map};
-ghost use Rattle.td_stanza.specs.StanzaGrammar.{IsDistinct};
 ghost use Rattle.td_stanza.specs.Table.{fields_of};
 ghost use Rattle.td_version.specs.Version.{parts_of};
 ghost use Rattle.td_relation.specs.TableView.{table};
@@ -106,7 +105,6 @@ fn local_head<'a>(
     version: &'a str,
     arch: Option<usize>,
 ) -> Result<Head<'a>, EntryFault>
-    requires { IsDistinct (fields_of stanza.now) }
     ensures { head_found result ≡ local_at (fields_of stanza.now) name.now version.now arch }
 {
     let (source, bracket) = origin(name, value_of(stanza, "Source"))?;
@@ -127,7 +125,6 @@ pub fn read_head<'a>(
     archs: &Archs<'_>,
     stanza: &Stanza<'_, 'a>,
 ) -> Result<Option<Head<'a>>, EntryFault>
-    requires { IsDistinct (fields_of stanza.now) }
     ensures { heads_found result ≡ package_at (table archs.now) (fields_of stanza.now) }
 {
     let name = name_in(IndexField::Package, value_of(stanza, "Package"))?;

@@ -1,6 +1,5 @@
 ghost use Rattle.std.specs.Prelude.{◌≡◌, option_map};
 ghost use Rattle.std.specs.Prelude.{Ok};
-ghost use Rattle.td_stanza.specs.StanzaGrammar.{IsDistinct};
 ghost use Rattle.td_stanza.specs.Table.{fields_of};
 ghost use Rattle.td_version.specs.Reading.{parts_read, reading};
 ghost use Rattle.td_indices.specs.Fields.{
@@ -19,7 +18,6 @@ use td_version::{Version, VersionFault};
 
 /// The value of a field.
 pub fn value_of<'a>(stanza: &Stanza<'_, 'a>, name: &str) -> Option<&'a str>
-    requires { IsDistinct (fields_of stanza.now) }
     ensures { option_map (λ x. x.now) result ≡ value_in (fields_of stanza.now) name.now }
 {
     stanza.get(name)

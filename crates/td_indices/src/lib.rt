@@ -17,6 +17,8 @@ mod field;
 mod grouping;
 mod groups;
 mod laws;
+mod lookups;
+mod offered_names;
 mod opening;
 mod packaged;
 mod relation_field;
@@ -33,6 +35,9 @@ mod text;
 
 pub use archive::Archive;
 pub use archive_fault::{ArchiveFault, IndexField, IndexFile};
-pub use laws::greatest_versions_are_kept;
+pub use laws::{
+    first_faulty_stanzas_are_named, greatest_versions_are_kept, offered_names_are_those_of_offers,
+};
+pub use offered_names::OfferedNames;
 pub use packaged::Binary;
 pub use sourced::Source;

@@ -1,7 +1,7 @@
 ghost use Rattle.std.specs.Prelude.{◌≡◌, ◌<◌, Some, None, length, slice_get, if◌then◌else◌};
 ghost use Rattle.td_version.specs.Version.{parts_of};
 ghost use Rattle.td_relation.specs.TableView.{table};
-ghost use Rattle.td_indices.specs.Rows.{has_match as has_match_of};
+ghost use Rattle.td_indices.specs.Rows.{has_row as has_row_of};
 ghost use Rattle.td_indices.specs.Kept.{binaries_of, binary_of};
 ghost use Rattle.td_indices.specs.Opening.{
   current_number as current_number_of,
@@ -14,7 +14,7 @@ ghost use Rattle.td_indices.specs.Opening.{
 };
 
 use crate::packaged::{PackageKey, Packaged};
-use crate::rows::has_match;
+use crate::rows::has_row;
 use crate::sourced::Sourced;
 use indexmap::IndexMap;
 use std::alloc::Global;
@@ -136,9 +136,9 @@ pub fn opening_on(
     place: usize,
 ) -> Option<Row>
     requires { place < length (table archs.now) }
-    ensures { result ≡ (if has_match_of (table archs.now) place sourced.now.archs.now then Some (opening_of (greatest_at (binaries_of binaries.now.entries) (parts_of sourced.now.parts) place None numbers.now)) else None) }
+    ensures { result ≡ (if has_row_of (table archs.now) sourced.now.archs.now place then Some (opening_of (greatest_at (binaries_of binaries.now.entries) (parts_of sourced.now.parts) place None numbers.now)) else None) }
 {
-    if has_match(archs, place, sourced.archs) {
+    if has_row(archs, sourced.archs, place) {
         let best = greatest_number(binaries, numbers, &sourced.parts, place);
         Some(opening(alloc, best))
     } else {

@@ -1,15 +1,15 @@
-ghost use Rattle.std.specs.Prelude.{◌≡◌, Ok, IfOk, IfErr, option_map};
-ghost use Rattle.td_stanza.specs.StanzaGrammar.{IsDistinct};
+ghost use Rattle.std.specs.Prelude.{◌≡◌, List, Ok, IfOk, IfErr, option_map};
 ghost use Rattle.td_stanza.specs.Table.{fields_of};
+ghost use Rattle.td_relation.specs.Asked.{Asked};
 ghost use Rattle.td_relation.specs.Members.{members};
 ghost use Rattle.td_relation.specs.RelationGrammar.{relation_at};
-ghost use Rattle.td_indices.specs.Fields.{Fails, asked_by, relation_in as relation_in_of, relation_or_bad};
+ghost use Rattle.td_indices.specs.Fields.{Fails, asked_by, relation_in as relation_in_of, relation_or_bad, value_of as value_in};
 ghost use Rattle.td_indices.specs.Kept.{provides_at};
 
 use crate::archive_fault::EntryFault;
 use crate::field::value_of;
 use crate::text::is_blank;
-use std::alloc::Global;
+use std::alloc::{AllocError, Global};
 use td_relation::{Relation, RelationFault};
 use td_stanza::Stanza;
 
@@ -47,7 +47,6 @@ pub fn read_provides<'a>(
     alloc: Global,
     stanza: &Stanza<'_, 'a>,
 ) -> Result<Option<Relation<'a>>, EntryFault>
-    requires { IsDistinct (fields_of stanza.now) }
     ensures ok { IfOk result (λ r. provides_at (fields_of stanza.now) ≡ Ok (asked_by r)) }
     ensures err { IfErr result (λ e. Fails (provides_at (fields_of stanza.now)) e) }
 {
@@ -60,4 +59,20 @@ pub fn read_provides<'a>(
         Err(fault) => return Err(fault),
     }
     relation_in(alloc, value_of(stanza, "Provides"))
+}
+
+/// What a relation field of a stanza asks, where it was read before: only memory can be wanting.
+pub fn read_again<'a>(
+    alloc: Global,
+    stanza: &Stanza<'_, 'a>,
+    name: &str,
+) -> Result<Option<Relation<'a>>, AllocError>
+    requires { (members : List (List Asked)) × (relation_in_of (value_in (fields_of stanza.now) name.now) ≡ Ok members) }
+    ensures { IfOk result (λ r. relation_in_of (value_in (fields_of stanza.now) name.now) ≡ Ok (asked_by r)) }
+{
+    match relation_in(alloc, value_of(stanza, name)) {
+        Ok(relation) => Ok(relation),
+        Err(EntryFault::NoMemory) => Err(AllocError),
+        Err(_) => unreachable!(),
+    }
 }

@@ -1,9 +1,7 @@
 ghost use Rattle.std.specs.Prelude.{◌≡◌, ◌≤◌, ◌<◌, IfOk, IfErr, length};
 ghost use Rattle.td_relation.specs.TableView.{table};
 ghost use Rattle.td_indices.specs.Rows.{
-  has_match as has_match_of,
   has_row as has_row_of,
-  is_named_first as is_named_first_of,
   matches_at,
   row_count,
   rows_before,
@@ -24,10 +22,10 @@ fn matches(archs: &Archs<'_>, place: usize, word: &str) -> bool
     archs.matches(place, word)
 }
 
-/// Whether some word of an Architecture field matches the architecture at a place.
-pub fn has_match(archs: &Archs<'_>, place: usize, words: &str) -> bool
+/// Whether a source with this Architecture field has a row on the architecture at a place.
+pub fn has_row(archs: &Archs<'_>, words: &str, place: usize) -> bool
     requires { place < length (table archs.now) }
-    ensures { result ≡ has_match_of (table archs.now) place words.now }
+    ensures { result ≡ has_row_of (table archs.now) words.now place }
 {
     let mut rest = Some(words);
     while let Some(text) = rest {
@@ -38,25 +36,6 @@ pub fn has_match(archs: &Archs<'_>, place: usize, words: &str) -> bool
         }
     }
     false
-}
-
-/// Whether the place is that of its architecture's name.
-fn is_named_first(archs: &Archs<'_>, place: usize) -> bool
-    requires { place < length (table archs.now) }
-    ensures { result ≡ is_named_first_of (table archs.now) place }
-{
-    match archs.index(archs.name(place)) {
-        Some(first) => first == place,
-        None => false,
-    }
-}
-
-/// Whether a source with this Architecture field has a row on the architecture at a place.
-pub fn has_row(archs: &Archs<'_>, words: &str, place: usize) -> bool
-    requires { place < length (table archs.now) }
-    ensures { result ≡ has_row_of (table archs.now) words.now place }
-{
-    is_named_first(archs, place) && has_match(archs, place, words)
 }
 
 /// How many rows a source with this Architecture field has.

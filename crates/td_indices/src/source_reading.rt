@@ -1,5 +1,4 @@
 ghost use Rattle.std.specs.Prelude.{◌≡◌, Ok, IfOk, IfErr, option_map};
-ghost use Rattle.td_stanza.specs.StanzaGrammar.{IsDistinct};
 ghost use Rattle.td_stanza.specs.Table.{fields_of};
 ghost use Rattle.td_indices.specs.Fields.{Fails};
 ghost use Rattle.td_indices.specs.Sources.{
@@ -22,7 +21,6 @@ use td_stanza::Stanza;
 
 /// Whether the source stands in the index only since a package was built with it.
 fn is_extra(stanza: &Stanza<'_, '_>) -> bool
-    requires { IsDistinct (fields_of stanza.now) }
     ensures { result ≡ is_extra_of (fields_of stanza.now) }
 {
     match value_of(stanza, "Extra-Source-Only") {
@@ -34,7 +32,6 @@ fn is_extra(stanza: &Stanza<'_, '_>) -> bool
 /// The source of a stanza.
 #[tactic(auto, unfolding(crate::specs::Sources::source_at))]
 fn read_head<'a>(stanza: &Stanza<'_, 'a>) -> Result<SourceHead<'a>, EntryFault>
-    requires { IsDistinct (fields_of stanza.now) }
     ensures { source_found result ≡ source_at (fields_of stanza.now) }
 {
     let name = name_in(IndexField::Package, value_of(stanza, "Package"))?;
@@ -49,7 +46,7 @@ fn read_head<'a>(stanza: &Stanza<'_, 'a>) -> Result<SourceHead<'a>, EntryFault>
     })
 }
 
-/// A source with what its build asks for.
+/// A source, where what its build asks for can be read. It is read for its faults alone.
 #[tactic(auto, unfolding(crate::specs::Sources::with_build_relations))]
 fn with_relations<'a>(
     alloc: Global,
@@ -57,24 +54,21 @@ fn with_relations<'a>(
     head: SourceHead<'a>,
     number: usize,
 ) -> Result<(&'a str, Sourced<'a>), EntryFault>
-    requires { IsDistinct (fields_of stanza.now) }
     ensures ok { IfOk result (λ p. with_build_relations number (fields_of stanza.now) (source_headed head.entry) ≡ Ok (source_of p)) }
     ensures err { IfErr result (λ e. Fails (with_build_relations number (fields_of stanza.now) (source_headed head.entry)) e) }
 {
-    let build_depends = match relation_in(alloc, value_of(stanza, "Build-Depends")) {
-        Ok(relation) => relation,
+    match relation_in(alloc, value_of(stanza, "Build-Depends")) {
+        Ok(_) => {}
         Err(fault) => return Err(fault),
-    };
-    let build_depends_arch = match relation_in(alloc, value_of(stanza, "Build-Depends-Arch")) {
-        Ok(relation) => relation,
+    }
+    match relation_in(alloc, value_of(stanza, "Build-Depends-Arch")) {
+        Ok(_) => {}
         Err(fault) => return Err(fault),
-    };
+    }
     let sourced = Sourced {
         version: head.version,
         parts: head.parts,
         archs: head.archs,
-        build_depends,
-        build_depends_arch,
         stanza: number,
     };
     Ok((head.name, sourced))
@@ -86,7 +80,6 @@ fn read_whole<'a>(
     stanza: &Stanza<'_, 'a>,
     number: usize,
 ) -> Result<(&'a str, Sourced<'a>), EntryFault>
-    requires { IsDistinct (fields_of stanza.now) }
     ensures ok { IfOk result (λ p. whole_source_at number (fields_of stanza.now) ≡ Ok (source_of p)) }
     ensures err { IfErr result (λ e. Fails (whole_source_at number (fields_of stanza.now)) e) }
 {
@@ -103,7 +96,6 @@ pub fn read_source<'a>(
     stanza: &Stanza<'_, 'a>,
     number: usize,
 ) -> Result<Option<(&'a str, Sourced<'a>)>, EntryFault>
-    requires { IsDistinct (fields_of stanza.now) }
     ensures ok { IfOk result (λ o. kept_source_at number (fields_of stanza.now) ≡ Ok (option_map source_of o)) }
     ensures err { IfErr result (λ e. Fails (kept_source_at number (fields_of stanza.now)) e) }
 {

@@ -1,4 +1,3 @@
-use td_relation::Relation;
 use td_version::Version;
 
 /// What is kept of a stanza of Sources beside the source's name.
@@ -9,8 +8,6 @@ pub struct Sourced<'a> {
     pub parts: Version<'a>,
     /// The Architecture field.
     pub archs: &'a str,
-    pub build_depends: Option<Relation<'a>>,
-    pub build_depends_arch: Option<Relation<'a>>,
     /// The number of its stanza, from 0.
     pub stanza: usize,
 }

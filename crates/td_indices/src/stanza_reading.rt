@@ -1,5 +1,4 @@
 ghost use Rattle.std.specs.Prelude.{◌≡◌, ◌+◌, ◌<◌, ◌^◌, true, Ok, IfOk, IfErr, OnOk};
-ghost use Rattle.td_stanza.specs.StanzaGrammar.{IsDistinct};
 ghost use Rattle.td_stanza.specs.Table.{fields_of};
 ghost use Rattle.td_relation.specs.TableView.{table};
 ghost use Rattle.td_indices.specs.Kept.{binaries_of};
@@ -46,8 +45,7 @@ fn take_binary<'a>(
     stanza: &Stanza<'_, 'a>,
     number: usize,
 ) -> Result<(), ArchiveFault>
-    requires distinct { IsDistinct (fields_of stanza.now) }
-    requires small { number + 1 < 2 ^ 64 }
+    requires { number + 1 < 2 ^ 64 }
     ensures ok { OnOk result (binary_step (table archs.now) number (binaries_of kept.old.entries) (fields_of stanza.now) ≡ Ok (binaries_of kept.new.entries)) }
     ensures err { IfErr result (λ e. IsFaultOf (binary_step (table archs.now) number (binaries_of kept.old.entries) (fields_of stanza.now)) e) }
     ensures entry { IfErr result (λ e. is_entry e ≡ true) }
@@ -92,8 +90,7 @@ fn take_source<'a>(
     stanza: &Stanza<'_, 'a>,
     number: usize,
 ) -> Result<(), ArchiveFault>
-    requires distinct { IsDistinct (fields_of stanza.now) }
-    requires small { number + 1 < 2 ^ 64 }
+    requires { number + 1 < 2 ^ 64 }
     ensures ok { OnOk result (source_step number (sources_of kept.old.entries) (fields_of stanza.now) ≡ Ok (sources_of kept.new.entries)) }
     ensures err { IfErr result (λ e. IsFaultOf (source_step number (sources_of kept.old.entries) (fields_of stanza.now)) e) }
     ensures entry { IfErr result (λ e. is_entry e ≡ true) }

@@ -1,5 +1,5 @@
 use crate::{Archive, ArchiveFault, IndexField, IndexFile};
-use std::alloc::Global;
+use std::alloc::{AllocError, Global};
 use std::process::Abort;
 use std::test::Fail;
 use td_relation::Archs;
@@ -23,7 +23,7 @@ fn binary_is(rt: &impl Abort, archive: &Archive<'_, '_>, number: usize, wanted: 
             assert_eq!(rt; binary.version, wanted[1]);
             assert_eq!(rt; binary.source, wanted[2]);
         }
-        None => assert_eq!(rt; wanted[0], "there"),
+        None => panic!(rt; "no binary package {number}"),
     }
 }
 
@@ -67,13 +67,11 @@ fn a_source_is_found_by_its_name(rt: HostRuntime) -> Result<(), Fail> {
     let archs = Archs::read(rt.alloc(), ARCHS)?;
     let archive = Archive::read(rt.alloc(), "", TWICE, &archs)?;
     assert!(rt; archive.source("old").is_none());
-    match archive.source("foo") {
-        Some(foo) => {
-            assert_eq!(rt; foo.version, "1.10");
-            assert_eq!(rt; foo.stanza, 1);
-        }
-        None => assert!(rt; archive.source_stanza(1).is_none()),
-    }
+    let Some(foo) = archive.source("foo") else {
+        return Err(Fail::from("the source is kept"));
+    };
+    assert_eq!(rt; foo.version, "1.10");
+    assert_eq!(rt; foo.stanza, 1);
     Ok(())
 }
 
@@ -82,10 +80,10 @@ fn a_key_opens_with_the_rebuild_that_is_there(rt: HostRuntime) -> Result<(), Fai
     let archs = Archs::read(rt.alloc(), ARCHS)?;
     let archive = Archive::read(rt.alloc(), PACKAGES, SOURCES, &archs)?;
     let key = Key::new(rt.alloc(), "foo", "i386")?;
-    match archive.opening_row(&key) {
-        Some(row) => assert_eq!(rt; row.number.get(), 1),
-        None => assert!(rt; archive.package_stanza(0).is_none()),
-    }
+    let Some(row) = archive.opening_row(&key) else {
+        return Err(Fail::from("the key has a row"));
+    };
+    assert_eq!(rt; row.number.get(), 1);
     Ok(())
 }
 
@@ -106,8 +104,11 @@ fn a_desk_opens_with_the_rows_of_all_sources(rt: HostRuntime) -> Result<(), Fail
 const PROVIDING: &str =
     "Package: mawk\nSource: foo\nVersion: 1.2-3+b1\nArchitecture: amd64\nProvides: awk, posix-awk (= 2)\n";
 
-fn meets(supply: &Supply<'_>, relation: &str) -> bool {
-    matches!(supply.meets(relation, "amd64"), Ok(true))
+fn meets(rt: &impl Abort, supply: &Supply<'_>, relation: &str) -> bool {
+    match supply.meets(relation, "amd64") {
+        Ok(met) => met,
+        Err(_) => panic!(rt; "{relation} can't be asked"),
+    }
 }
 
 #[test]
@@ -115,11 +116,11 @@ fn a_package_and_what_it_provides_are_on_offer(rt: HostRuntime) -> Result<(), Fa
     let archs = Archs::read(rt.alloc(), ARCHS)?;
     let archive = Archive::read(rt.alloc(), PROVIDING, SOURCES, &archs)?;
     let mut supply = archive.supply()?;
-    assert!(rt; meets(&supply, "awk, posix-awk (= 2)"));
-    assert!(rt; !meets(&supply, "awk (>= 1)"));
-    assert!(rt; !meets(&supply, "mawk (>= 1.2-3+b2)"));
+    assert!(rt; meets(&rt, &supply, "awk, posix-awk (= 2)"));
+    assert!(rt; !meets(&rt, &supply, "awk (>= 1)"));
+    assert!(rt; !meets(&rt, &supply, "mawk (>= 1.2-3+b2)"));
     supply.arrive("foo", "amd64", 2)?;
-    assert!(rt; meets(&supply, "mawk (= 1.2-3+b2)"));
+    assert!(rt; meets(&rt, &supply, "mawk (= 1.2-3+b2)"));
     Ok(())
 }
 
@@ -145,6 +146,131 @@ fn five_sources_have_five_rows(rt: HostRuntime) -> Result<(), Fail> {
     Ok(())
 }
 
+// These many stanzas of Packages, and behind them one without what it needs.
+fn faulty_after(alloc: Global, count: usize) -> Result<String, AllocError> {
+    let mut text = String::new(alloc);
+    for _ in 0..count {
+        text.push_str("Package: lib\nVersion: 1\nArchitecture: all\n\n")?;
+    }
+    text.push_str("Package: lib\n")?;
+    Ok(text)
+}
+
+// The 65,537th stanza has its number like any other.
+#[test]
+fn a_fault_past_sixty_five_thousand_stanzas_is_named(rt: HostRuntime) -> Result<(), Fail> {
+    let text = faulty_after(rt.alloc(), 65536)?;
+    let fault = ArchiveFault::MissingField(IndexFile::Packages, 65537, IndexField::Version);
+    is_refused(&rt, rt.alloc(), ARCHS, text.as_str(), "", fault);
+    Ok(())
+}
+
+// This many sources, each for every architecture.
+fn sources_of_any(alloc: Global, count: usize) -> Result<String, AllocError> {
+    let mut text = String::new(alloc);
+    for number in 0..count {
+        let stanza = format!(in alloc; "Package: s{number}\nVersion: 1\nArchitecture: any\n\n")?;
+        text.push_str(stanza.as_str())?;
+    }
+    Ok(text)
+}
+
+fn table_of(alloc: Global, count: usize) -> Result<String, AllocError> {
+    let mut text = String::new(alloc);
+    for number in 0..count {
+        let line = format!(in alloc; "arch{number} linux cpu{number}\n")?;
+        text.push_str(line.as_str())?;
+    }
+    Ok(text)
+}
+
+fn rows_of(rt: &impl Abort, alloc: Global, table: &str, sources: &str) -> Option<usize> {
+    let Ok(archs) = Archs::read(alloc, table) else {
+        panic!(rt; "the table is read");
+    };
+    match Archive::read(alloc, "", sources, &archs) {
+        Ok(archive) => Some(archive.row_count()),
+        Err(fault) => {
+            assert_eq!(rt; fault, ArchiveFault::TooManyRows);
+            None
+        }
+    }
+}
+
+// 32,768 sources on 32 architectures have the 1,048,576 rows that a desk may have.
+#[test]
+fn one_row_too_many_is_too_many_rows(rt: HostRuntime) -> Result<(), Fail> {
+    let table = table_of(rt.alloc(), 32)?;
+    for (count, rows) in [(32768, Some(1048576)), (32769, None)] {
+        let sources = sources_of_any(rt.alloc(), count)?;
+        assert_eq!(rt;
+            rows_of(&rt, rt.alloc(), table.as_str(), sources.as_str()),
+            rows
+        );
+    }
+    Ok(())
+}
+
+// Policy 7.5: `(= 2)` gives a version; another restriction, or two alternatives, offer no name.
+const ASKED: &str =
+    "Package: mawk\nSource: foo\nVersion: 1.2-3\nArchitecture: amd64\nProvides: awk, posix-awk (= 2), old-awk (<< 1), nawk | gawk\n\nPackage: libbar-dev\nSource: bar\nVersion: 2.0-1\nArchitecture: all\n";
+
+fn names_are(rt: &impl Abort, archive: &Archive<'_, '_>, binary: usize, wanted: &[&str]) {
+    let mut place = 0;
+    for name in archive.offered_names(binary) {
+        assert_eq!(rt; wanted.get(place).copied(), Some(name));
+        place = place.wrapping_add(1);
+    }
+    assert_eq!(rt; place, wanted.len());
+}
+
+#[test]
+fn a_package_offers_its_name_and_those_it_provides(rt: HostRuntime) -> Result<(), Fail> {
+    let archs = Archs::read(rt.alloc(), ARCHS)?;
+    let archive = Archive::read(rt.alloc(), ASKED, SOURCES, &archs)?;
+    names_are(&rt, &archive, 0, &["mawk", "awk", "posix-awk"]);
+    names_are(&rt, &archive, 1, &["libbar-dev"]);
+    names_are(&rt, &archive, 2, &[]);
+    assert!(rt; archive.provides(0).is_some());
+    assert!(rt; archive.provides(1).is_none());
+    assert_eq!(rt; archive.packages_of("bar"), [1].as_slice());
+    Ok(())
+}
+
+fn first_source_is_foo(rt: &impl Abort, archive: &Archive<'_, '_>) {
+    assert!(rt; archive.arch_count() > 1);
+    assert!(rt; archive.has_row(0, 1));
+    assert!(rt; archive.source_count() > 0);
+    let depends = archive.stanza_of_source(0).get("build-depends");
+    assert_eq!(rt; depends, Some("libbar-dev"));
+}
+
+fn second_package_is_of_bar(rt: &impl Abort, archive: &Archive<'_, '_>) {
+    assert!(rt; archive.binary_count() > 1);
+    assert_eq!(rt; archive.stanza_of_binary(1).get("Source"), Some("bar"));
+}
+
+// Whether the first source asks for something in its two fields.
+fn asks(rt: &impl Abort, archive: &Archive<'_, '_>) -> Result<(bool, bool), AllocError> {
+    assert!(rt; archive.source_count() > 0);
+    let depends = archive.build_depends(0)?.is_some();
+    let depends_arch = archive.build_depends_arch(0)?.is_some();
+    Ok((depends, depends_arch))
+}
+
+#[test]
+fn a_source_is_asked_by_its_number(rt: HostRuntime) -> Result<(), Fail> {
+    let archs = Archs::read(rt.alloc(), ARCHS)?;
+    let archive = Archive::read(rt.alloc(), ASKED, SOURCES, &archs)?;
+    assert_eq!(rt; archive.archs().len(), archive.arch_count());
+    assert_eq!(rt; archive.source_number("bar"), Some(1));
+    assert_eq!(rt; archive.source_number("qux"), None);
+    first_source_is_foo(&rt, &archive);
+    second_package_is_of_bar(&rt, &archive);
+    assert_eq!(rt; asks(&rt, &archive)?, (true, false));
+    Ok(())
+}
+
 fn is_refused<'x>(
     rt: &impl Abort,
     alloc: Global,
@@ -153,11 +279,12 @@ fn is_refused<'x>(
     sources: &'x str,
     wanted: ArchiveFault,
 ) {
-    if let Ok(archs) = Archs::read(alloc, table) {
-        match Archive::read(alloc, packages, sources, &archs) {
-            Ok(_) => assert_eq!(rt; packages, "refused"),
-            Err(fault) => assert_eq!(rt; fault, wanted, "{packages}{sources}"),
-        }
+    let Ok(archs) = Archs::read(alloc, table) else {
+        panic!(rt; "the table is read");
+    };
+    match Archive::read(alloc, packages, sources, &archs) {
+        Ok(_) => panic!(rt; "read: {packages}{sources}"),
+        Err(fault) => assert_eq!(rt; fault, wanted, "{packages}{sources}"),
     }
 }
 

@@ -1,5 +1,5 @@
 -- A table of architectures is read exactly where its lines are those of architectures.
-use Rattle.std.proofs.Common.{◌≡◌, ◌≢◌, ℕ, ◌+◌, ◌≤◌, ◌&&◌, not, Bool, true, false, cond, eqb, ltb, List, [], ◌∷◌, ◌++◌, length, map, Option, Some, None, Result, Ok, Err, refl, sym, ap, subst, ◌∙◌, append_assoc, arith}
+use Rattle.std.proofs.Common.{◌≡◌, ◌≢◌, ℕ, ◌+◌, ◌≤◌, ◌&&◌, not, Bool, true, false, cond, eqb, ltb, List, [], ◌∷◌, ◌++◌, length, map, Option, Some, None, Result, Ok, Err, inl, inr, ◌⊎◌, refl, sym, ap, subst, ◌∙◌, append_assoc, arith}
 use Rattle.std.specs.Prelude.{codes}
 use Rattle.std.specs.List.{filter, list_all}
 use Rattle.std.specs.Str.{bytes_eq}
@@ -11,7 +11,7 @@ use Rattle.td_text.specs.Lines.{on_ok, over_lines}
 use Rattle.td_text.specs.Words.{is_alphanumeric, is_arch}
 use Rattle.td_text.proofs.Chain.{chained, when_some, on_ok_parts, guard, ok_is}
 use Rattle.td_text.proofs.Cut.{cut_found, cut-at, Without-from_test}
-use Rattle.td_text.proofs.FirstFault.{first_fault}
+use Rattle.td_text.proofs.FirstFault.{first_fault, first_fault_again}
 use Rattle.td_text.proofs.Lines.{fails}
 use Rattle.td_text.proofs.Words.{Without-arch}
 use Rattle.td_relation.specs.declared.archs.ArchsFault.{ArchsFault}
@@ -19,8 +19,8 @@ use Rattle.td_relation.specs.declared.archs.ArchsFault.TheVariants.{BadLine, Twi
 use Rattle.td_relation.specs.Arch.{ArchWords, is_table_name, is_machine_word, arch_line, ArchFits}
 use Rattle.td_relation.specs.ArchReading.{arch_at, add_arch, arch_step}
 use Rattle.td_relation.specs.Fails.{Fails}
-use Rattle.td_relation.specs.Table.{is_named, is_skipped}
-use Rattle.td_relation.specs.TableFile.{Fresh, AreLinesOf, IsTable, IsFaulty, IsFirstFault, FaultOf}
+use Rattle.td_relation.specs.Table.{Fresh, is_named, is_skipped}
+use Rattle.td_relation.specs.TableFile.{AreLinesOf, IsTable, IsFaulty, IsFirstFault, FaultOf}
 use Rattle.td_relation.proofs.Lists.{both}
 
 -- ---- a line
@@ -237,3 +237,40 @@ FaultOf-read lines NoMemory f = tt
 FaultOf-read lines (BadLine n) f = first_of lines (BadLine n) f
 FaultOf-read lines (Twice n) f = first_of lines (Twice n) f
 FaultOf-read lines TooMany f = first_of lines TooMany f
+
+-- ---- and a text with a fault has no other
+
+faulty-again : (seen : List ArchWords) (number : ℕ) (line : List ℕ) (e : ArchsFault) → IsFaulty seen number line e → add_arch number seen (arch_at line) ≡ Err e
+faulty-again seen number line (BadLine n) f = unread (arch_at line) refl
+  where
+    unread : (o : Option ArchWords) → arch_at line ≡ o → add_arch number seen (arch_at line) ≡ Err (BadLine n)
+    unread None is = ap (add_arch number seen) is ∙ ap (λ (k : ℕ). Err (BadLine k)) (sym f.0)
+    unread (Some p) is = let found = arch_exact.found line p is in absurd (f.1 p found.1 found.0)
+faulty-again seen number line (Twice n) f =
+    let read : Some f.1.arch ≡ arch_at line = sym (ap arch_at f.1.spelled ∙ arch_exact.again f.1.arch f.1.fits) in
+    add_arch-twice number seen line f.1.arch read f.1.named ∙ ap (λ (k : ℕ). Err (Twice k)) (sym f.0)
+faulty-again seen number line TooMany f =
+    let read : Some f.0.arch ≡ arch_at line = sym (ap arch_at f.0.spelled ∙ arch_exact.again f.0.arch f.0.fits) in
+    add_arch-many number seen line f.0.arch read f.0.named f.1
+faulty-again seen number line NoMemory f = absurd f
+
+pub first-again : (lines : List (List ℕ)) (e : ArchsFault) → IsFirstFault lines e → over_lines arch_step 1 [] lines ≡ Err e
+first-again lines e f =
+    first_fault_again arch_step 1 [] lines e (record {
+      before = f.before;
+      line = f.line;
+      after = f.after;
+      so_far = f.seen;
+      parts = f.parts;
+      fine = archs_again 1 [] f.seen f.before f.fine;
+      fault = step-kept (1 + length f.before) f.seen f.line f.kept ∙ faulty-again f.seen (1 + length f.before) f.line e f.faulty;
+    })
+
+pub refused-for : (lines : List (List ℕ)) (fault e : ArchsFault) → IsFirstFault lines fault → Fails e (over_lines arch_step 1 [] lines) → (e ≡ NoMemory) ⊎ (e ≡ fault)
+refused-for lines fault NoMemory is f = inl refl
+refused-for lines fault (BadLine n) is f = inr (let h = first-again lines fault is in cc)
+refused-for lines fault (Twice n) is f = inr (let h = first-again lines fault is in cc)
+refused-for lines fault TooMany is f = inr (let h = first-again lines fault is in cc)
+
+pub not-refused : (lines : List (List ℕ)) (t : List ArchWords) (fault : ArchsFault) → over_lines arch_step 1 [] lines ≡ Ok t → IsFirstFault lines fault → ⊥
+not-refused lines t fault read is = let h = first-again lines fault is in let bad : ◌≡◌ {A = Result (List ArchWords) ArchsFault} (Ok t) (Err fault) = sym read ∙ h in cc

@@ -17,3 +17,4 @@ pub mod Pieces
 pub mod RelationViews
 pub mod RelationWriting
 pub mod MeetingLaws
+pub mod Props

@@ -1,15 +1,10 @@
 -- Which texts are tables of architectures, and what is wrong with others. This project's own.
-use Rattle.std.specs.Prelude.{◌≡◌, ◌≢◌, ℕ, ◌+◌, ◌≤◌, not, Bool, true, false, List, [], ◌∷◌, ◌++◌, length, map}
+use Rattle.std.specs.Prelude.{◌≡◌, ◌≢◌, ◌⊎◌, ℕ, ◌+◌, ◌≤◌, not, Bool, true, false, List, [], ◌∷◌, ◌++◌, length, map, Result, Ok, Err}
 use Rattle.std.specs.List.{filter, AllByRecursion}
 use Rattle.td_relation.specs.declared.archs.ArchsFault.{ArchsFault}
 use Rattle.td_relation.specs.declared.archs.ArchsFault.TheVariants.{BadLine, Twice, TooMany, NoMemory}
 use Rattle.td_relation.specs.Arch.{ArchWords, arch_line, ArchFits}
-use Rattle.td_relation.specs.Table.{is_named, is_skipped}
-
--- no architecture has the name of an earlier one, nor of those seen
-abbrev pub Fresh : List ArchWords → List ArchWords → Type 0
-Fresh seen [] = Unit {0}
-Fresh seen (a ∷ archs) = (is_named seen a.name ≡ false) × Fresh (seen ++ a ∷ []) archs
+use Rattle.td_relation.specs.Table.{Fresh, is_named, is_skipped}
 
 -- behind the architectures seen, the lines that aren't skipped are those of these, in this order
 pub record AreLinesOf (seen archs : List ArchWords) (lines : List (List ℕ)) : Type 0 where
@@ -51,3 +46,8 @@ pub record IsFirstFault (lines : List (List ℕ)) (e : ArchsFault) : Type 0 wher
 abbrev pub FaultOf : List (List ℕ) → ArchsFault → Type 0
 FaultOf lines NoMemory = Unit {0}
 FaultOf lines e = IsFirstFault lines e
+
+-- what was returned, unless memory ran out: this fault
+abbrev pub IsRefusedFor : {A : Type 0} → ArchsFault → Result A ArchsFault → Type 0
+IsRefusedFor fault (Ok found) = ⊥
+IsRefusedFor fault (Err e) = (e ≡ NoMemory) ⊎ (e ≡ fault)

@@ -1,8 +1,11 @@
-ghost use Rattle.std.specs.Prelude.{◌≡◌, ◌≤◌, true, length, position};
+ghost use Rattle.std.specs.Prelude.{◌≡◌, ◌≤◌, true, length, map, position};
 ghost use Rattle.std.specs.List.{list_all};
 ghost use Rattle.std.specs.Str.{bytes_eq};
 ghost use Rattle.td_text.specs.Words.{is_arch};
+ghost use Rattle.td_relation.specs.Props.{IsApart-prop};
+ghost use Rattle.td_relation.specs.Arch.{words_of};
 ghost use Rattle.td_relation.specs.FaultNames.{name_of};
+ghost use Rattle.td_relation.specs.Table.{IsApart};
 
 use crate::arch::Arch;
 use crate::arch_reading;
@@ -12,12 +15,13 @@ use thiserror::Error;
 /// The most architectures that a table has.
 pub const MAX_ARCHS: usize = 32;
 
-/// The architectures of a table, in the order of its lines.
+/// The architectures of a table, in the order of its lines; no two have one name.
 #[derive(Debug, Drop)]
 pub struct Archs<'a> {
     list: Vec<Arch<'a>>,
     ghost few: { length list.items ≤ 32 },
     ghost named: { list_all (λ a. is_arch a.name.now) list.items ≡ true },
+    ghost apart: { IsApart (map words_of list.items) } by { IsApart-prop (map words_of list.items) },
 }
 
 /// Why a text isn't a table of architectures: the first fault. Lines count from 1.
@@ -52,10 +56,10 @@ impl ArchsFault {
 
 impl<'a> Archs<'a> {
     ghost use Rattle.std.specs.Prelude.{◌≡◌, ◌<◌, ◌≤◌, ◌^◌, List, [], IfOk, IfErr, MatchResult, length, map, option_map, slice_get, Some, Ok};
-    ghost use Rattle.td_relation.specs.Arch.{words_of, matches as matches_of, ArchWords};
+    ghost use Rattle.td_relation.specs.Arch.{matches as matches_of, ArchWords};
     ghost use Rattle.td_relation.specs.Table.{place_of};
     ghost use Rattle.td_relation.specs.TableView.{table};
-    ghost use Rattle.td_relation.specs.TableFile.{IsTable, FaultOf};
+    ghost use Rattle.td_relation.specs.TableFile.{IsTable, IsFirstFault, IsRefusedFor, FaultOf};
     ghost use Rattle.td_relation.specs.declared.archs.ArchsFault.{ArchsFault};
     ghost use Rattle.td_text.specs.Lines.{lines_of};
 
@@ -77,6 +81,8 @@ impl<'a> Archs<'a> {
         // A table is read, unless memory runs out.
         ensures only { (t : List ArchWords) → IsTable (lines_of text.now) t → MatchResult result (λ archs. table archs ≡ t) (λ e. e ≡ ArchsFault.NoMemory) }
         ensures fault { IfErr result (FaultOf (lines_of text.now)) }
+        // A text with a fault is refused for it, unless memory runs out.
+        ensures refused { (fault : ArchsFault) → IsFirstFault (lines_of text.now) fault → IsRefusedFor fault result }
     {
         let list = arch_reading::read_list(alloc, text)?;
         Ok(Archs { list })

@@ -12,7 +12,7 @@ use crate::offering::Offering;
 use crate::relation::Alternative;
 
 /// Whether an alternative counts on an architecture, where no build profile is active.
-fn is_active(alternative: &Alternative<'_>, arch: &Arch<'_>) -> bool
+pub fn is_active(alternative: &Alternative<'_>, arch: &Arch<'_>) -> bool
     ensures { result ≡ active_of (words_of arch.now) (asked alternative.now) }
 {
     alternative.unprofiled

@@ -8,6 +8,21 @@ pub struct Members<'r, 'a> {
     pub(crate) sizes: &'r [usize],
 }
 
+impl<'r, 'a> Members<'r, 'a> {
+    ghost use Rattle.std.specs.Prelude.{◌≡◌, []};
+    ghost use Rattle.td_relation.specs.MembersLeft.{members_left};
+
+    /// Those of a relation that asks nothing.
+    pub fn none() -> Members<'r, 'a>
+        ensures { members_left result ≡ [] }
+    {
+        Members {
+            alternatives: &[],
+            sizes: &[],
+        }
+    }
+}
+
 impl<'r, 'a> Iterator for Members<'r, 'a> {
     ghost use Rattle.std.specs.Prelude.{map};
     ghost use Rattle.std.specs.Iterator.{YieldsFirstBy, item_count};

@@ -1,6 +1,6 @@
 use crate::arch::Arch;
 use crate::archs::Archs;
-use crate::meeting::{are_asked, are_met};
+use crate::meeting::{are_asked, are_met, is_active};
 use crate::members::Members;
 use crate::offering::Offering;
 use crate::relation_fault::RelationFault;
@@ -39,6 +39,22 @@ pub struct Alternative<'a> {
     pub archs: Option<&'a str>,
     /// Whether the build profile lists hold where no profile is active; so where there are none.
     pub unprofiled: bool,
+}
+
+impl Alternative<'_> {
+    ghost use Rattle.std.specs.Prelude.{◌≡◌, ◌<◌, length, option_map, slice_get, Some};
+    ghost use Rattle.td_relation.specs.Asked.{asked};
+    ghost use Rattle.td_relation.specs.Meeting.{active};
+    ghost use Rattle.td_relation.specs.TableView.{table};
+
+    /// Whether it counts on the architecture at this place of the table, where no build profile is
+    /// active.
+    pub fn is_active(&self, archs: &Archs<'_>, arch: usize) -> bool
+        requires { arch < length (table archs.now) }
+        ensures { option_map (λ a. active a (asked self.now)) (slice_get (table archs.now) arch) ≡ Some result }
+    {
+        is_active(self, &archs.at(arch))
+    }
 }
 
 /// A relation: the alternatives in one list, and how many of them each member has.

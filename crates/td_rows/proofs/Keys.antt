@@ -1,24 +1,19 @@
 -- Keys compare in a total order, and only a key is the same as itself.
 use Rattle.std.proofs.Common.{◌≡◌, true, false, ap, refl, sym, subst, ◌∙◌}
-use Rattle.std.specs.Bool.{◌==◌}
 use Rattle.std.specs.Cmp.{IsTotalOrder, tied_itself}
-use Rattle.std.specs.Cmp.Lexicographic.{pointwise, same_text}
+use Rattle.std.specs.Cmp.Lexicographic.{pointwise}
 use Rattle.std.specs.Ordering.{is_lt}
 use Rattle.std.specs.declared.cmp.Ordering.TheVariants.{Equal}
-use Rattle.std.proofs.lemmas.Bool.{and_parts}
 use Rattle.std.proofs.lemmas.Cmp.{on_total, then_total, nat_list_cmp_total, nat_list_eq_equiv}
 use Rattle.td_rows.specs.declared.key.Key.{Key}
 use Rattle.td_rows.specs.Keys.{key_cmp, same_key}
+use Rattle.td_rows.specs.KeyRefs.{one_key}
 
 pub key_total : IsTotalOrder key_cmp
 key_total = then_total (on_total (λ k. k.source) nat_list_cmp_total) (on_total (λ k. k.arch) nat_list_cmp_total)
 
 pub same_key-true : (a b : Key) → same_key a b ≡ true → a ≡ b
-same_key-true a b h =
-    let both = and_parts (pointwise ◌==◌ a.source b.source) (pointwise ◌==◌ a.arch b.arch) h in
-    let sources : a.source ≡ b.source = same_text a.source b.source (sym both.0) in
-    let archs : a.arch ≡ b.arch = same_text a.arch b.arch (sym both.1) in
-    λ i. record { source = sources i; arch = archs i }
+same_key-true = one_key
 
 pub same_key-refl : (a : Key) → same_key a a ≡ true
 same_key-refl a = rw (nat_list_eq_equiv.refl a.source, nat_list_eq_equiv.refl a.arch) refl

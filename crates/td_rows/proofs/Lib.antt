@@ -2,6 +2,7 @@ pub mod CellLaws
 pub mod Keys
 pub mod KeyPlaces
 pub mod Lookups
+pub mod Appends
 pub mod Places
 pub mod Rising
 pub mod Tables

@@ -1,6 +1,8 @@
 pub mod Text
+pub mod Appending
 pub mod KeyModel
 pub mod Keys
+pub mod OutcomeCodes
 pub mod Cells
 pub mod Blank
 pub mod Kinds
@@ -12,6 +14,7 @@ pub mod Moves
 pub mod Kept
 pub mod Overlay
 pub mod Laws
+pub mod KeyRefs
 pub mod KeyText
 pub mod StateWord
 pub mod Notes

@@ -20,9 +20,10 @@ pub fn read_key(text: &str) -> Option<(&str, &str)>
     }
 }
 
-/// Appends the key as `source/arch`.
+/// Appends the key as `source/arch`; where memory runs out nothing.
 pub fn put_key(out: &mut String, key: &Key) -> Result<(), AllocError>
-    ensures { OnOk result (string_bytes out.new ≡ string_bytes out.old ++ key_text key.now) }
+    ensures ok { OnOk result (string_bytes out.new ≡ string_bytes out.old ++ key_text key.now) }
+    ensures err { OnErr result (string_bytes out.new ≡ string_bytes out.old) }
 {
     out.push_str(key.as_str())
 }

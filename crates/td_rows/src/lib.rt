@@ -10,6 +10,7 @@
 mod cells;
 mod exchange;
 mod key;
+mod key_ref;
 mod key_text;
 mod kind;
 pub mod laws;

@@ -1,4 +1,4 @@
-ghost use Rattle.std.specs.Prelude.{Some, None, true, false, ◌≡◌, ◌↔◌, ℕ, List, [], length, IfOk, IsErrOf, string_bytes};
+ghost use Rattle.std.specs.Prelude.{Some, None, true, false, ◌≡◌, ◌↔◌, ℕ, List, [], length, IfOk, IsOk, IsErrOf, string_bytes};
 ghost use Rattle.std.proofs.Common.{rules};
 ghost use Rattle.td_rows.specs.Text.{has_newline};
 ghost use Rattle.std.specs.Bool.{◌==◌};
@@ -61,10 +61,11 @@ impl Line {
         Line { text: None }
     }
 
-    /// A copy of a text.
+    /// A copy of a text. It takes memory where the text isn't empty.
     pub fn new(alloc: Global, text: &str) -> Result<Line, LineError>
         ensures ok { IfOk result (λ line. line ≡ text.now) }
         ensures newline { IsErrOf result LineError.Newline ↔ (has_newline text.now ≡ true) }
+        ensures empty { text.now ≡ [] → IsOk result }
     {
         if has_newline(text) {
             return Err(LineError::Newline);
@@ -78,7 +79,8 @@ impl Line {
     /// A copy of a text in which no newline stands. It takes memory where the text isn't empty.
     pub fn from_line(alloc: Global, text: &str) -> Result<Line, AllocError>
         requires { has_newline text.now ≡ false }
-        ensures { IfOk result (λ line. line ≡ text.now) }
+        ensures text { IfOk result (λ line. line ≡ text.now) }
+        ensures empty { text.now ≡ [] → IsOk result }
     {
         if text.is_empty() {
             return Ok(Line::empty(alloc));
@@ -91,8 +93,12 @@ impl Line {
 
     /// A copy, which takes memory where the line isn't empty.
     pub fn copy(&self) -> Result<Line, AllocError>
-        ensures { IfOk result (λ line. line ≡ self.now) }
+        ensures text { IfOk result (λ line. line ≡ self.now) }
+        ensures empty { self.now ≡ [] → IsOk result }
     {
+        if self.is_empty() {
+            return Ok(Line { text: None });
+        }
         Ok(Line {
             text: self.text.clone()?,
         })

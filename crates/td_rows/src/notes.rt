@@ -1,5 +1,6 @@
-ghost use Rattle.std.specs.Prelude.{◌≡◌, ◌++◌, option_map, OnOk};
+ghost use Rattle.std.specs.Prelude.{◌≡◌, ◌++◌, option_map, OnOk, OnErr};
 ghost use Rattle.std.specs.String.{string_bytes};
+ghost use Rattle.td_rows.specs.Appending.{Grown};
 ghost use Rattle.td_rows.specs.Notes.{extra_part, text_part, notes, counted_at, extra_at, text_at, notes_at};
 
 use std::alloc::AllocError;
@@ -51,8 +52,10 @@ pub fn read_notes(text: &str) -> Option<(&str, &str)>
     Some((extra, ending))
 }
 
+#[tactic(auto, using(crate::proofs::Appends::growing))]
 fn put_extra(out: &mut String, extra: &str) -> Result<(), AllocError>
-    ensures { OnOk result (string_bytes out.new ≡ string_bytes out.old ++ extra_part extra.now) }
+    ensures ok { OnOk result (string_bytes out.new ≡ string_bytes out.old ++ extra_part extra.now) }
+    ensures front { Grown (string_bytes out.old) (string_bytes out.new) }
 {
     if extra.is_empty() {
         return Ok(());
@@ -63,8 +66,10 @@ fn put_extra(out: &mut String, extra: &str) -> Result<(), AllocError>
     out.push_str(extra)
 }
 
+#[tactic(auto, using(crate::proofs::Appends::growing))]
 fn put_text(out: &mut String, text: &str) -> Result<(), AllocError>
-    ensures { OnOk result (string_bytes out.new ≡ string_bytes out.old ++ text_part text.now) }
+    ensures ok { OnOk result (string_bytes out.new ≡ string_bytes out.old ++ text_part text.now) }
+    ensures front { Grown (string_bytes out.old) (string_bytes out.new) }
 {
     if text.is_empty() {
         return Ok(());
@@ -73,10 +78,24 @@ fn put_text(out: &mut String, text: &str) -> Result<(), AllocError>
     out.push_str(text)
 }
 
-/// Appends the texts at a line's end, each where it isn't empty.
-pub fn put_notes(out: &mut String, extra: &str, text: &str) -> Result<(), AllocError>
-    ensures { OnOk result (string_bytes out.new ≡ string_bytes out.old ++ notes (extra.now, text.now)) }
+#[tactic(auto, using(crate::proofs::Appends::growing))]
+fn put_both(out: &mut String, extra: &str, text: &str) -> Result<(), AllocError>
+    ensures ok { OnOk result (string_bytes out.new ≡ string_bytes out.old ++ notes (extra.now, text.now)) }
+    ensures front { Grown (string_bytes out.old) (string_bytes out.new) }
 {
     put_extra(out, extra)?;
     put_text(out, text)
+}
+
+/// Appends the texts at a line's end, each where it isn't empty; where memory runs out nothing.
+pub fn put_notes(out: &mut String, extra: &str, text: &str) -> Result<(), AllocError>
+    ensures ok { OnOk result (string_bytes out.new ≡ string_bytes out.old ++ notes (extra.now, text.now)) }
+    ensures err { OnErr result (string_bytes out.new ≡ string_bytes out.old) }
+{
+    let start = out.len();
+    let done = put_both(out, extra, text);
+    if done.is_err() {
+        out.truncate(start);
+    }
+    done
 }

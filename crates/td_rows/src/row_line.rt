@@ -1,7 +1,8 @@
-ghost use Rattle.std.specs.Prelude.{◌≡◌, ◌≤◌, ◌++◌, ◌∷◌, option_map, IfSome, OnOk, decimal};
+ghost use Rattle.std.specs.Prelude.{◌≡◌, ◌≤◌, ◌++◌, ◌∷◌, option_map, IfSome, OnOk, OnErr, decimal};
 ghost use Rattle.std.specs.Fmt.{signed_decimal};
 ghost use Rattle.std.specs.String.{string_bytes};
 ghost use Rattle.td_text.specs.Numbers.{number_at, signed_at};
+ghost use Rattle.td_rows.specs.Appending.{Grown};
 ghost use Rattle.td_rows.specs.Notes.{notes};
 ghost use Rattle.td_rows.specs.RowLine.{row_line, row_words};
 ghost use Rattle.td_rows.specs.RowReading.{row_at};
@@ -99,15 +100,19 @@ impl<'a> RowText<'a> {
     }
 }
 
+#[tactic(auto, using(crate::proofs::Appends::growing))]
 fn put_number_and_notes(out: &mut String, row: &Row) -> Result<(), AllocError>
-    ensures { OnOk result (string_bytes out.new ≡ string_bytes out.old ++ (decimal row.now.number ++ notes (row.now.extra, row.now.dep_wait))) }
+    ensures ok { OnOk result (string_bytes out.new ≡ string_bytes out.old ++ (decimal row.now.number ++ notes (row.now.extra, row.now.dep_wait))) }
+    ensures front { Grown (string_bytes out.old) (string_bytes out.new) }
 {
     put_number(out, row.number.get() as u64)?;
     put_notes(out, row.extra.as_str(), row.dep_wait.as_str())
 }
 
+#[tactic(auto, using(crate::proofs::Appends::growing))]
 fn put_words(out: &mut String, row: &Row) -> Result<(), AllocError>
-    ensures { OnOk result (string_bytes out.new ≡ string_bytes out.old ++ row_words row.now) }
+    ensures ok { OnOk result (string_bytes out.new ≡ string_bytes out.old ++ row_words row.now) }
+    ensures front { Grown (string_bytes out.old) (string_bytes out.new) }
 {
     put_state_word(out, row.state)?;
     out.push_str(" ")?;
@@ -116,11 +121,25 @@ fn put_words(out: &mut String, row: &Row) -> Result<(), AllocError>
     put_number_and_notes(out, row)
 }
 
-/// Appends the row's line, without a newline.
-pub fn put_row_line(out: &mut String, key: &Key, row: &Row) -> Result<(), AllocError>
-    ensures { OnOk result (string_bytes out.new ≡ string_bytes out.old ++ row_line (key.now, row.now)) }
+#[tactic(auto, using(crate::proofs::Appends::growing))]
+fn put_key_and_words(out: &mut String, key: &Key, row: &Row) -> Result<(), AllocError>
+    ensures ok { OnOk result (string_bytes out.new ≡ string_bytes out.old ++ row_line (key.now, row.now)) }
+    ensures front { Grown (string_bytes out.old) (string_bytes out.new) }
 {
     put_key(out, key)?;
     out.push_str(" ")?;
     put_words(out, row)
+}
+
+/// Appends the row's line, without a newline; where memory runs out nothing.
+pub fn put_row_line(out: &mut String, key: &Key, row: &Row) -> Result<(), AllocError>
+    ensures ok { OnOk result (string_bytes out.new ≡ string_bytes out.old ++ row_line (key.now, row.now)) }
+    ensures err { OnErr result (string_bytes out.new ≡ string_bytes out.old) }
+{
+    let start = out.len();
+    let done = put_key_and_words(out, key, row);
+    if done.is_err() {
+        out.truncate(start);
+    }
+    done
 }

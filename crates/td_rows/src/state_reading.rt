@@ -1,4 +1,4 @@
-ghost use Rattle.std.specs.Prelude.{◌≡◌, ◌<◌, ◌≤◌, ◌^◌, ◌++◌, ◌∷◌, [], List, Ok, Err, IfOk, IfErr, OnOk, MatchResult, length, true, None};
+ghost use Rattle.std.specs.Prelude.{◌≡◌, ◌≤◌, ◌++◌, ◌∷◌, [], List, Ok, Err, IfOk, IfErr, OnOk, MatchResult, length, true, None};
 ghost use Rattle.td_text.specs.Cut.{Without};
 ghost use Rattle.td_text.specs.Lines.{lines_of};
 ghost use Rattle.td_rows.specs.Keys.{ascending, same_key};
@@ -63,7 +63,10 @@ fn opening_row(
 }
 
 // How many rows there may be, so that room for them is made at once.
-fn most_rows(text: &str) -> usize {
+fn most_rows(text: &str) -> usize
+    ensures few { result ≤ length text.now }
+    ensures limited { result ≤ 1048576 }
+{
     let newlines = text
         .as_bytes()
         .iter()
@@ -74,7 +77,6 @@ fn most_rows(text: &str) -> usize {
 
 // The rows of the lines, in their order.
 fn read_rows(alloc: Global, text: &str) -> Result<IndexMap<Key, Row>, StateFault>
-    requires { length text.now < 2 ^ 63 }
     ensures ok { IfOk result (λ rows. state_rows text.now ≡ Ok rows.entries) }
     ensures err { IfErr result (λ e. Fails e (state_rows text.now)) }
 {
@@ -82,13 +84,14 @@ fn read_rows(alloc: Global, text: &str) -> Result<IndexMap<Key, Row>, StateFault
         return Err(StateFault::NoMemory);
     };
     let mut rest = Some(text);
-    let mut number = 0;
+    // Wide, since a text has a line more than newlines. A line that isn't empty has a `usize`.
+    let mut number: u128 = 0;
     while let Some(text) = rest {
         let (line, after) = next_line(text);
         rest = after;
         number += 1;
         if !line.is_empty() {
-            let (key, row) = opening_row(alloc, &rows, number, line)?;
+            let (key, row) = opening_row(alloc, &rows, number as usize, line)?;
             push_row(&mut rows, key, row)?;
         }
     }
@@ -98,7 +101,6 @@ fn read_rows(alloc: Global, text: &str) -> Result<IndexMap<Key, Row>, StateFault
 /// The rows of a state file: row lines in any order, none Building, no key twice; empty lines
 /// are skipped. The first fault decides.
 pub fn read_state(alloc: Global, text: &str) -> Result<Rows, StateFault>
-    requires { length text.now < 2 ^ 63 }
     // What is read is a state file.
     ensures found { IfOk result (IsStateFile (lines_of text.now)) }
     // A state file is read, unless memory runs out.

@@ -1,12 +1,13 @@
 -- The line of a step is read exactly.
-use Rattle.std.proofs.Common.{◌≡◌, ℕ, suc, ◌<◌, ◌≤◌, ◌^◌, ◌-◌, ◌&&◌, true, cond, eqb, false, List, [], ◌∷◌, ◌++◌, length, Option, Some, None, refl, sym, ap, subst, ◌∙◌, arith, lit<}
+use Rattle.std.proofs.Common.{◌≡◌, ℕ, suc, ◌<◌, ◌≤◌, ◌^◌, ◌-◌, ◌&&◌, ◌==◌, true, cond, eqb, false, List, [], ◌∷◌, ◌++◌, length, Option, Some, None, refl, sym, ap, subst, ◌∙◌, arith, lit<}
 use Rattle.std.specs.Prelude.{codes, decimal}
 use Rattle.std.specs.Str.{bytes_eq}
 use Rattle.std.proofs.lemmas.Bool.{eqb-true, and_parts}
+use Rattle.std.proofs.lemmas.Bool.Decides.{nat_tests}
 use Rattle.td_text.specs.Chain.{◌>>=◌}
 use Rattle.td_text.specs.Cut.{Without, cut, part, strip}
 use Rattle.td_text.specs.Numbers.{number_at}
-use Rattle.td_text.proofs.Chain.{chained, some_is, when_some, or_word}
+use Rattle.td_text.proofs.Chain.{chained, some_is, when_some, when_none, or_word}
 use Rattle.td_text.proofs.Cut.{cut-at, lacks, Begins, part_again, part_joined, word_found}
 use Rattle.td_text.proofs.Numbers.{number_exact, Without-decimal}
 use Rattle.td_text.proofs.Prefix.{strip_found}
@@ -29,7 +30,7 @@ use Rattle.td_core.specs.declared.step.Step.TheVariants as steps
 use Rattle.td_simulate.specs.declared.verb.Verb.{Verb}
 use Rattle.td_simulate.specs.declared.verb.Verb.TheVariants.{Offer, Withdraw, Claim, Note, Undo, Finish, Settle, Release, Arrive as Arriving}
 use Rattle.td_simulate.specs.StepLines.{outcome_name, outcome_text, step_line, CommandFits, StepFits}
-use Rattle.td_simulate.specs.StepReading.{verb_at, builder_at, claim_at, end_of, finish_at, by_verb, commit_at, by_word, step_at, StepsAreExact}
+use Rattle.td_simulate.specs.StepReading.{verb_at, builder_at, claim_at, end_of, finish_at, by_verb, some_keys, commit_at, by_word, step_at, StepsAreExact}
 
 -- the line is the step's, which can be written
 abbrev pub IsLineOf : List ℕ → Step → Type 0
@@ -226,20 +227,33 @@ by_verb_found Arriving rest s e = key_step (codes "arrive") rest steps.Arrive s 
 commit_joined : (word rest ks ending ns k : List ℕ) → word ≡ k → rest ≡ ks ++ ending → ending ≡ ns → word ++ rest ≡ k ++ (ks ++ ns)
 commit_joined word rest ks ending ns k h1 h2 h3 = cc
 
+some_found : (ks found : List Key) → some_keys ks ≡ Some found → (found ≡ ks) × (0 < length ks)
+some_found ks found e =
+    let w = when_none (eqb (length ks) 0) (Some ks) found e in
+    let none : (length ks == 0) ≡ false = w.0 in
+    (sym (some_is ks found w.1), grind (arith, nat_tests, none))
+
+some_again : (ks : List Key) → 0 < length ks → some_keys ks ≡ Some ks
+some_again ks some =
+    let none : (length ks == 0) ≡ false = grind (arith, nat_tests, some) in
+    ap (λ b. cond b None (Some ks)) none
+
 commit_found : (word rest : List ℕ) (s : Step) → commit_at word rest ≡ Some s → IsLineOf (word ++ rest) s
 unfolding commit_at
 commit_found word rest s e =
     let bare = chained _ _ _ e in
-    let texts = chained _ _ _ bare.2 in
+    let some = chained _ _ _ bare.2 in
+    let texts = chained _ _ _ some.2 in
     let kind = chained _ _ _ texts.2 in
-    let last = when_some (is_command kind.0) (steps.Commit kind.0 (keys_at rest).0) s kind.2 in
+    let last = when_some (is_command kind.0) (steps.Commit kind.0 some.0) s kind.2 in
+    let named = some_found (keys_at rest).0 some.0 some.1 in
     let k = kind_found word bare.0 bare.1 in
     let ks = keys_found rest in
     let n = notes_exact.found (keys_at rest).1 texts.0 texts.1 in
     let w = told_found bare.0 texts.0.0 texts.0.1 kind.0 kind.1 in
-    subst (λ (y : Step). IsLineOf (word ++ rest) y) last.1 (
+    subst (λ (y : Step). IsLineOf (word ++ rest) y) (ap (steps.Commit kind.0) (sym named.0) ∙ last.1) (
       commit_joined word rest (spaced_keys (keys_at rest).0) (keys_at rest).1 (notes (kind_notes kind.0)) (kind_word kind.0) (k.0 ∙ sym w.0) ks.0 (n.0 ∙ ap notes (sym w.1)),
-      record { command = last.0; kind = w.2 k.1; keys = ks.1; texts = subst NotesFit (sym w.1) n.1 },
+      record { command = last.0; kind = w.2 k.1; some = named.1; keys = ks.1; texts = subst NotesFit (sym w.1) n.1 },
     )
 
 no_verb : (k : Kind) → is_command k ≡ true → verb_at (kind_word k) ≡ None
@@ -261,6 +275,7 @@ commit_again k ks h =
     rw (
       kind_again k h.kind,
       keys_again ks (notes (kind_notes k)) h.keys (notes_begin (kind_notes k)) (no_key (kind_notes k)),
+      some_again ks h.some,
       notes_exact.again (kind_notes k) h.texts,
       told_again k,
       command,

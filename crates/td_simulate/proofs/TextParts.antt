@@ -1,6 +1,7 @@
 -- The parts of a simulation's text, line by line.
 use Rattle.std.proofs.Common.{◌≡◌, ℕ, suc, ◌+◌, ◌<◌, true, false, eqb, List, [], ◌∷◌, ◌++◌, length, take, Option, Some, None, refl, sym, ap, ◌∙◌, append_assoc, arith}
-use Rattle.std.specs.Prelude.{◌≢◌}
+use Rattle.std.specs.Prelude.{◌≢◌, codes}
+use Rattle.std.proofs.lemmas.Slice.Eq.{bytes_eq-Decides}
 use Rattle.std.specs.Borrow.{Bor}
 use Rattle.std.proofs.Math.Seq.{take-append_seam}
 use Rattle.std.proofs.lemmas.Bool.{eqb-true}
@@ -67,6 +68,9 @@ taken-other text rest line after start h whole is other = record {
 
 -- ---- the lines behind the line `steps`, and their number
 
+pub length-mark : (line : List ℕ) → is_mark line ≡ true → length line ≡ 5
+length-mark line h = ap length ((bytes_eq-Decides line (codes "steps")).0 h)
+
 pub after-mark : (line : List ℕ) (lines : List (List ℕ)) → is_mark line ≡ true → lines_after (line ∷ lines) ≡ ended lines
 unfolding lines_after
 after-mark line lines h = rw h refl
@@ -87,10 +91,6 @@ number-mark n line lines h = rw h refl
 pub number-other : (n : ℕ) (line : List ℕ) (lines : List (List ℕ)) → is_mark line ≡ false → number_after n (line ∷ lines) ≡ number_after (n + 1) lines
 unfolding number_after
 number-other n line lines h = rw h refl
-
-pub number-last : (n : ℕ) (line : List ℕ) → is_mark line ≡ false → number_after n (line ∷ []) ≡ n + 1
-unfolding number_after
-number-last n line h = rw h refl
 
 -- ---- lines, the last of which may lack its newline
 

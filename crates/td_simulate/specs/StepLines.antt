@@ -1,5 +1,5 @@
 -- The lines that stand for steps. This project's own.
-use Rattle.std.specs.Prelude.{◌≡◌, ℕ, ◌<◌, ◌^◌, true, List, [], ◌∷◌, ◌++◌, codes, decimal}
+use Rattle.std.specs.Prelude.{◌≡◌, ℕ, ◌<◌, ◌^◌, true, List, [], ◌∷◌, ◌++◌, length, codes, decimal}
 use Rattle.std.specs.List.{AllByRecursion}
 use Rattle.td_rows.specs.declared.key.Key.{Key}
 use Rattle.td_rows.specs.declared.kind.Kind.{Kind}
@@ -39,10 +39,11 @@ step_line (Release b) = codes "release " ++ decimal b
 step_line (Arrive k) = codes "arrive " ++ key_text k
 step_line Sweep = codes "sweep"
 
--- a command that can be written; its keys may be in any order, or none
+-- a command that can be written: it names a key at least, and its keys may be in any order
 pub record CommandFits (k : Kind) (ks : List Key) : Type 0 where
   pub command : is_command k ≡ true
   pub kind : KindFits k
+  pub some : 0 < length ks
   pub keys : AllByRecursion KeyFits ks
   pub texts : NotesFit (kind_notes k)
 

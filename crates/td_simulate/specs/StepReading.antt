@@ -1,10 +1,11 @@
 -- How the line of a step is read.
-use Rattle.std.specs.Prelude.{ℕ, ◌^◌, ◌-◌, List, Option, Some, None, if◌then◌else◌, codes}
+use Rattle.std.specs.Prelude.{ℕ, ◌^◌, ◌-◌, ◌==◌, List, length, Option, Some, None, if◌then◌else◌, codes}
 use Rattle.std.specs.Str.{bytes_eq}
 use Rattle.td_text.specs.Chain.{◌>>=◌}
 use Rattle.td_text.specs.Cut.{cut, part, strip}
 use Rattle.td_text.specs.Exact.{Exact}
 use Rattle.td_text.specs.Numbers.{number_at}
+use Rattle.td_rows.specs.declared.key.Key.{Key}
 use Rattle.td_rows.specs.declared.kind.Kind.{Kind}
 use Rattle.td_rows.specs.declared.kind.Kind.TheVariants.{Outcome as Ended}
 use Rattle.td_rows.specs.KeyText.{key_at}
@@ -68,13 +69,18 @@ by_verb Settle rest = key_at rest >>= λ k. Some (steps.Settle k)
 by_verb Release rest = number_at (2 ^ 64 - 1) rest >>= λ b. Some (steps.Release b)
 by_verb Arrive rest = key_at rest >>= λ k. Some (steps.Arrive k)
 
+-- keys, where there is one
+abbrev pub some_keys : List Key → Option (List Key)
+some_keys keys = if length keys == 0 then None else Some keys
+
 -- a command by its first word, and what follows that
 unfoldable pub commit_at : List ℕ → List ℕ → Option Step
 commit_at word rest = do
   bare ← kind_at word
+  keys ← some_keys (keys_at rest).0
   texts ← notes_at (keys_at rest).1
   kind ← told bare texts.0 texts.1
-  if is_command kind then Some (steps.Commit kind (keys_at rest).0) else None
+  if is_command kind then Some (steps.Commit kind keys) else None
 
 -- a step by its first word, which is a verb's or not, and what follows that
 abbrev pub by_word : Option Verb → List ℕ → List ℕ → Option Step

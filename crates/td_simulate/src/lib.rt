@@ -1,7 +1,7 @@
 //! Simulations: opening rows and steps as a text, their answers and the last rows as a text.
 //!
 //! Start at `simulate_text`; `read_simulation` is its first half. A line of the text is a row's,
-//! the word `steps`, or a step's (`read_step`); a line of the answer is `put_answer_line`'s, or a
+//! the word `steps`, or a step's (`read_step`); a line of the answer is that of a step's answer, or a
 //! row's.
 //! Promised: the text is read exactly where it is opening rows and steps, and else its first
 //! faulty line is named; what is told then is what the core answers to these steps from these
@@ -18,7 +18,7 @@ mod steps_reading;
 mod tests;
 mod verb;
 
-pub use answer_line::{put_answer_line, refusal_name};
+pub use answer_line::refusal_name;
 pub use fault::SimulationFault;
 pub use simulation::{Simulated, read_simulation, simulate_text};
 pub use step_line::{read_step, step_lines_are_exact};

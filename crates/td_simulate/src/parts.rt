@@ -11,7 +11,7 @@ pub struct Parts<'a> {
     pub opening: &'a str,
     /// What stands behind it.
     pub steps: &'a str,
-    /// The number of the line behind it.
+    /// The number of the line behind it, if anything stands there.
     pub first: usize,
 }
 
@@ -26,37 +26,36 @@ pub fn behind(after: Option<&str>) -> &str
     }
 }
 
-/// Parts a text at its first line `steps`.
+/// Parts a text at its first line `steps`. Where there is none, nothing stands behind it, whose
+/// line has no number.
 pub fn parts_of(text: &str) -> Parts
-    requires { length text.now < 2 ^ 63 }
     ensures opening { result.opening.now ≡ opening_text (lines_of text.now) }
     ensures steps { ended (lines_of result.steps.now) ≡ lines_after (lines_of text.now) }
-    ensures first { result.first ≡ number_after 1 (lines_of text.now) }
-    ensures small { result.first + length result.steps.now ≤ length text.now + 2 }
+    ensures first { 0 < length result.steps.now → result.first ≡ number_after 1 (lines_of text.now) }
+    ensures small { result.first + length result.steps.now < 2 ^ 64 }
 {
+    let length = text.len();
     let mut rest = text;
-    let mut start = 0;
-    let mut first = 1;
+    let mut passed = 0;
     loop {
         let (line, after) = next_line(rest);
-        first += 1;
         if line == "steps" {
-            let (opening, _) = text.split_at(start);
+            let (opening, _) = text.split_at(length - rest.len());
             let steps = behind(after);
             return Parts {
                 opening,
                 steps,
-                first,
+                first: passed + 2,
             };
         }
         let Some(after) = after else {
             return Parts {
                 opening: text,
                 steps: "",
-                first,
+                first: 0,
             };
         };
-        start += line.len() + 1;
+        passed += 1;
         rest = after;
     }
 }

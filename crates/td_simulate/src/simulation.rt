@@ -1,4 +1,4 @@
-ghost use Rattle.std.specs.Prelude.{◌≡◌, ◌<◌, ◌^◌, ◌++◌, List, map, length, IfOk, IfErr, OnOk, MatchResult};
+ghost use Rattle.std.specs.Prelude.{◌≡◌, ◌++◌, List, map, IfOk, IfErr, OnOk, MatchResult};
 ghost use Rattle.std.specs.List.{list_any};
 ghost use Rattle.std.specs.String.{string_bytes};
 ghost use Rattle.td_text.specs.Lines.{text_of};
@@ -36,7 +36,6 @@ pub struct Simulated {
 /// The opening rows and the steps of a text: row lines as those of a state file, the line
 /// `steps`, and a line for each step. Without a line `steps` there are no steps.
 pub fn read_simulation(alloc: Global, text: &str) -> Result<(Rows, Vec<Step>), SimulationFault>
-    requires { length text.now < 2 ^ 63 }
     // What is read is what the text says.
     ensures found { IfOk result (λ read. IsSimulation text.now read.0 read.1.items) }
     // What is a simulation is read, unless memory runs out.
@@ -103,7 +102,6 @@ fn tell(alloc: Global, rows: Rows, steps: Vec<Step>) -> Result<Simulated, AllocE
 /// Takes the steps of a simulation's text one after the other, and tells their answers and the
 /// rows after the last of them.
 pub fn simulate_text(alloc: Global, text: &str) -> Result<Simulated, SimulationFault>
-    requires { length text.now < 2 ^ 63 }
     // What is told is told of the simulation that the text is.
     ensures found { IfOk result (λ told. (t : Table) × (ss : List StepValue) × IsSimulation text.now t ss × Tells t ss told) }
     // Of a simulation it is told, unless memory runs out.

@@ -3,7 +3,7 @@ ghost use Rattle.std.specs.Prelude.{◌≡◌, option_map, IfOk};
 ghost use Rattle.td_text.specs.Cut.{Without};
 ghost use Rattle.td_rows.specs.declared.kind.Kind.{Kind as KindValue};
 ghost use Rattle.td_rows.specs.KeyText.{key_at};
-ghost use Rattle.td_simulate.specs.StepReading.{builder_at, claim_at, finish_at, end_of, by_verb, commit_at, step_at, StepsAreExact};
+ghost use Rattle.td_simulate.specs.StepReading.{builder_at, claim_at, finish_at, end_of, by_verb, some_keys, commit_at, step_at, StepsAreExact};
 
 use crate::verb::{Verb, read_verb};
 use std::alloc::{AllocError, Global};
@@ -98,6 +98,17 @@ fn read_by_verb(alloc: Global, verb: Verb, text: &str) -> Result<Option<Step>, A
     }))
 }
 
+// The keys of a command, where there is one.
+fn some_keys(keys: Vec<Key>) -> Option<KeyList>
+    ensures { result ≡ some_keys keys.items }
+{
+    if keys.is_empty() {
+        None
+    } else {
+        Some(KeyList::new(keys))
+    }
+}
+
 #[tactic(auto, unfolding(crate::specs::StepReading::commit_at))]
 fn read_commit(alloc: Global, word: &str, rest: &str) -> Result<Option<Step>, AllocError>
     requires { Without 10 rest.now }
@@ -107,6 +118,9 @@ fn read_commit(alloc: Global, word: &str, rest: &str) -> Result<Option<Step>, Al
         return Ok(None);
     };
     let (keys, ending) = read_keys(alloc, rest)?;
+    let Some(keys) = some_keys(keys) else {
+        return Ok(None);
+    };
     let Some((extra, text)) = read_notes(ending) else {
         return Ok(None);
     };
@@ -114,7 +128,7 @@ fn read_commit(alloc: Global, word: &str, rest: &str) -> Result<Option<Step>, Al
         return Ok(None);
     };
     if is_command(&kind) {
-        Ok(Some(Step::Commit(kind, KeyList::new(keys))))
+        Ok(Some(Step::Commit(kind, keys)))
     } else {
         Ok(None)
     }

@@ -36,7 +36,7 @@ undo 1
 offer foo/i386
 nmu=7 foo/amd64 ;4 libx : why
 bp=-5 foo/amd64
-gb
+gb foo/amd64 foo/amd64
 withdraw foo/amd64
 ";
 
@@ -98,6 +98,10 @@ fn a_text_without_steps_tells_its_rows(rt: HostRuntime) -> Result<(), Fail> {
         ),
         (
             "aa/x Built 0 0\nsteps\nclaim=1 aa/x",
+            "BadLine: line 3 isn't a step's",
+        ),
+        (
+            "aa/x Failed 0 0\nsteps\ngb",
             "BadLine: line 3 isn't a step's",
         ),
         (

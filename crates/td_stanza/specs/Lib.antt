@@ -3,5 +3,7 @@ pub mod Value
 pub mod Field
 pub mod StanzaGrammar
 pub mod StanzaFaults
+pub mod Shown
 pub mod Table
 pub mod Continuing
+pub mod Props

@@ -1,14 +1,11 @@
 -- The stanzas that a flat list of fields has, by where each starts in it.
+pub use Rattle.td_stanza.specs.Shown.{shown}
 use Rattle.std.specs.Prelude.{◌≡◌, ℕ, ◌+◌, ◌-◌, ◌==◌, count_by, List, [], ◌∷◌, length, take, drop, map, slice_get, Option, Some, IsTrue}
 use Rattle.std.specs.List.{flat_map, AllByRecursion}
 use Rattle.td_stanza.specs.Field.{Entry, is_same_name}
 use Rattle.td_stanza.specs.StanzaGrammar.{IsDistinct}
 use Rattle.td_stanza.specs.declared.table.Stanza.{Stanza}
 use Rattle.td_stanza.specs.declared.entry.Field.{Field}
-
--- a field, without where its texts lie in memory
-abbrev pub shown : Field → Entry
-shown field = record { name = field.name.now; value = field.value.now }
 
 -- how many newlines a text has
 abbrev pub newlines : List ℕ → ℕ

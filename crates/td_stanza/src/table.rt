@@ -1,4 +1,6 @@
-ghost use Rattle.std.specs.Prelude.{◌≡◌, length, option_map, slice_get, ◌==◌, IfSome, IfNone, false};
+ghost use Rattle.std.specs.Prelude.{◌≡◌, length, map, option_map, slice_get, ◌==◌, IfSome, IfNone, false};
+ghost use Rattle.td_stanza.specs.Props.{IsDistinct-prop};
+ghost use Rattle.td_stanza.specs.Shown.{shown};
 ghost use Rattle.td_stanza.specs.StanzaGrammar.{IsDistinct, names_of, has_name};
 
 use crate::entry::Field;
@@ -25,10 +27,11 @@ impl<'a> Model for StanzaList<'a> {
     ghost invariant = { λ list. IsTable list.fields.items list.starts.items };
 }
 
-/// A stanza, a view of the list that it stands in.
+/// A stanza, a view of the list that it stands in. No two of its fields have one name.
 #[derive(Clone, Copy)]
 pub struct Stanza<'s, 'a> {
     fields: &'s [Field<'a>],
+    ghost distinct: { IsDistinct (map shown fields.now) } by { IsDistinct-prop (map shown fields.now) },
 }
 
 impl<'a> StanzaList<'a> {
@@ -89,8 +92,7 @@ impl<'a> Stanza<'_, 'a> {
         ensures found { IfSome result (λ value. HasField (fields_of self.now) name.now value.now) }
         ensures absent { IfNone result (has_name (names_of (fields_of self.now)) name.now ≡ false) }
         // No other field has the name.
-        ensures only { IsDistinct (fields_of self.now) →
-            AnswersOnly (fields_of self.now) name.now (option_map (λ x. x.now) result) }
+        ensures only { AnswersOnly (fields_of self.now) name.now (option_map (λ x. x.now) result) }
     {
         match find_field(self.fields, name) {
             Some(field) => Some(field.value),

@@ -25,7 +25,7 @@ fn shown(alloc: Global, text: &str) -> Result<String, Fail> {
 
 fn is_fault(rt: &impl Abort, alloc: Global, text: &str, fault: StanzaFault) {
     match stanzas(alloc, text) {
-        Ok(list) => assert_eq!(rt; list.len(), usize::MAX, "{text}"),
+        Ok(_) => panic!(rt; "{text} is read"),
         Err(found) => assert_eq!(rt; found, fault, "{text}"),
     }
 }
@@ -38,7 +38,7 @@ fn a_value_keeps_the_newlines_inside_it(rt: HostRuntime) -> Result<(), Fail> {
     assert_eq!(rt; list.len(), 2);
     assert!(rt; !list.is_empty());
     let Some(first) = list.stanza(0) else {
-        return Ok(());
+        return Err(Fail::from("the text has a first stanza"));
     };
     assert_eq!(rt; first.len(), 2);
     assert!(rt; !first.is_empty());
@@ -104,7 +104,7 @@ fn stanzas_of_the_archive_are_read(rt: HostRuntime) -> Result<(), Fail> {
         "Package: 0ad-data\nSource: 0ad\nVersion: 0.27.0-1\nInstalled-Size: 3218682\nMaintainer: Debian Games Team <pkg-games-devel@lists.alioth.debian.org>\nArchitecture: all\nSuggests: 0ad\nDescription: Real-time strategy game of ancient warfare (data files)\nTag: role::app-data\nSection: games\nPriority: optional\n\n";
     let list = stanzas(rt.alloc(), packages)?;
     let Some(stanza) = list.stanza(0) else {
-        return Ok(());
+        return Err(Fail::from("the text has a stanza"));
     };
     assert_eq!(rt; stanza.get("Source"), Some("0ad"));
     assert_eq!(rt; stanza.get("Version"), Some("0.27.0-1"));
@@ -113,7 +113,7 @@ fn stanzas_of_the_archive_are_read(rt: HostRuntime) -> Result<(), Fail> {
         "Package: 0ad\nBinary: 0ad, 0ad-data\nVersion: 0.27.0-1\nArchitecture: amd64 arm64 all\nFormat: 3.0 (quilt)\nFiles:\n 34bbd1a1 2391 0ad_0.27.0-1.dsc\n 4ae0c0ff 75656312 0ad_0.27.0.orig.tar.xz\nPackage-List:\n 0ad deb games optional arch=amd64,arm64\n 0ad-data deb games optional arch=all\nDirectory: pool/main/0/0ad\n";
     let list = stanzas(rt.alloc(), sources)?;
     let Some(stanza) = list.stanza(0) else {
-        return Ok(());
+        return Err(Fail::from("the text has a stanza"));
     };
     let files = "\n 34bbd1a1 2391 0ad_0.27.0-1.dsc\n 4ae0c0ff 75656312 0ad_0.27.0.orig.tar.xz";
     assert_eq!(rt; stanza.get("files"), Some(files));

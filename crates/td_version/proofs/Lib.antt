@@ -8,4 +8,5 @@ pub mod Rebuilds
 pub mod Total
 pub mod Rising
 pub mod Suffixed
+pub mod Bases
 pub mod Turns

@@ -75,6 +75,22 @@ part_again part n some bounded =
     ) refl in
     ap (λ (o : Option (List ℕ)). unwrap_or o (rebuild_text part n)) found
 
+-- what was found before a suffix has it behind it in the part
+pub rebuilt_found : (part base : List ℕ) → rebuilt_from part ≡ Some base → (n : ℕ) × (0 < n) × (n ≤ 9999) × (part ≡ rebuild_text base n)
+unfolding rebuilt_from
+rebuilt_found part base e =
+    let p = chained _ _ _ e in
+    let digits = chained _ _ _ p.2 in
+    let value = chained _ _ _ digits.2 in
+    let tested = when_none (eqb value.0 0) (Some p.0.0) base value.2 in
+    let same = some_is p.0.0 base tested.1 in
+    let cut = subst (IsLastCut 43 part) p.1 (cut_last_is 43 part) in
+    let read = (number_exact 9999 (lit< tt)).found digits.0 value.0 value.1 in
+    let number_some : value.0 ≢ 0 = eqb-false value.0 0 tested.0 in
+    let number : 0 < value.0 = above_zero value.0 number_some in
+    let suffix : 43 ∷ p.0.1 ≡ rebuild_suffix value.0 = ap (λ (l : List ℕ). 43 ∷ l) (strip_found (codes "b") p.0.1 digits.0 digits.1 ∙ ap (λ (l : List ℕ). codes "b" ++ l) read.0) ∙ sym (suffix-digits value.0 number) in
+    (value.0, number, read.1, cut.0 ∙ ap (λ (l : List ℕ). p.0.0 ++ l) suffix ∙ ap (λ (l : List ℕ). l ++ rebuild_suffix value.0) same)
+
 -- ---- of what the call returned
 
 pub found_some : (text base : List ℕ) (n : ℕ) → rebuild_at text ≡ Some (base, n) → IsRebuild text base n

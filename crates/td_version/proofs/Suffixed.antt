@@ -23,12 +23,12 @@ use Rattle.td_version.specs.Reading.{pieces}
 use Rattle.td_version.proofs.Total.{part_total}
 use Rattle.td_version.proofs.Rising.{part_cmp-suffixes}
 
-abbrev extended : Option (List ℕ) → List ℕ → Option (List ℕ) → List ℕ → Written
+abbrev pub extended : Option (List ℕ) → List ℕ → Option (List ℕ) → List ℕ → Written
 extended epoch upstream None s = record { epoch = epoch; upstream = upstream ++ s; revision = None }
 extended epoch upstream (Some revision) s = record { epoch = epoch; upstream = upstream; revision = Some (revision ++ s) }
 
 -- the pieces with a suffix behind the last of them
-abbrev extend : Written → List ℕ → Written
+abbrev pub extend : Written → List ℕ → Written
 extend w s = extended w.epoch w.upstream w.revision s
 
 first_colon-extended : (epoch : Option (List ℕ)) (upstream : List ℕ) (revision : Option (List ℕ)) (s : List ℕ) → Without 58 s → IsFirstColon epoch (upstream ++ revision_back revision) → IsFirstColon (extended epoch upstream revision s).epoch ((extended epoch upstream revision s).upstream ++ revision_back (extended epoch upstream revision s).revision)
@@ -126,7 +126,7 @@ parts_rise epoch upstream None m n lt small = rw (tied_itself nat_cmp_total (epo
 parts_rise epoch upstream (Some revision) m n lt small = rw (tied_itself nat_cmp_total (epoch_number epoch), tied_itself part_total upstream, part_cmp-suffixes revision m n lt small) refl
 
 -- the parts of a rebuild
-parts_are : (base : List ℕ) (n : ℕ) (p : Parts) → n < 2 ^ 64 → IsVersion (rebuild_text base n) p → p ≡ parts_written (extend (pieces base) (rebuild_suffix n))
+pub parts_are : (base : List ℕ) (n : ℕ) (p : Parts) → n < 2 ^ 64 → IsVersion (rebuild_text base n) p → p ≡ parts_written (extend (pieces base) (rebuild_suffix n))
 parts_are base n p small v =
     v.parts ∙ ap parts_written (sym (pieces_only (rebuild_text base n) v.written v.cut) ∙ pieces_only (rebuild_text base n) (extend (pieces base) (rebuild_suffix n)) (cut_rebuild base n small))
 

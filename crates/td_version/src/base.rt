@@ -1,5 +1,5 @@
 ghost use Rattle.std.specs.Prelude.{◌≡◌, option_map};
-ghost use Rattle.td_version.specs.Base.{base_of as base_of_parts, base_part as base_part_of, rebuilt_from as rebuilt_from_of};
+ghost use Rattle.td_version.specs.Base.{base_of as base_of_parts, base_part as base_part_of, rebuilt_from as rebuilt_from_of, upstream_base as upstream_base_of};
 ghost use Rattle.td_version.specs.Version.{parts_of};
 
 use crate::cutting::cut_at_last;
@@ -30,8 +30,20 @@ fn base_part(part: &str) -> &str
     }
 }
 
+// Where nothing else would be left of the version, the part is its own base.
+fn upstream_base(upstream: &str, epoch: u32) -> &str
+    ensures { result.now ≡ upstream_base_of epoch upstream.now }
+{
+    let base = base_part(upstream);
+    if base.is_empty() && epoch == 0 {
+        return upstream;
+    }
+    base
+}
+
 /// The version without the `+bN` of a rebuild, in which its revision ends, or its upstream part
-/// where no revision is written. What is left of that part may be empty.
+/// where no revision is written: the version of the base that `split_rebuild` gives, where that is
+/// one. Of `1.0-+b1` an empty revision is left, and `+b1` is its own base.
 pub fn base_of<'a>(version: &Version<'a>) -> Version<'a>
     ensures { parts_of result ≡ base_of_parts (parts_of version.now) }
 {
@@ -43,7 +55,7 @@ pub fn base_of<'a>(version: &Version<'a>) -> Version<'a>
         },
         None => Version {
             epoch: version.epoch,
-            upstream: base_part(version.upstream),
+            upstream: upstream_base(version.upstream, version.epoch),
             revision: None,
         },
     }

@@ -1,5 +1,5 @@
 ghost use Rattle.std.specs.Cmp.{IsTotalOrder};
-ghost use Rattle.td_version.specs.Base.{RebuildsHaveBases};
+ghost use Rattle.td_version.specs.Base.{RebuildsHaveBases, SplitsHaveBases};
 ghost use Rattle.td_version.specs.Order.{version_cmp};
 ghost use Rattle.td_version.specs.Runs.{PairsAreRuns};
 ghost use Rattle.td_version.specs.Laws.{
@@ -21,9 +21,11 @@ pub fn versions_are_ordered()
     ensures runs { PairsAreRuns }
 {}
 
-/// The rebuilds of a version rise above it with their numbers, and have it as their base.
+/// The rebuilds of a version rise above it with their numbers, and have it as their base, as the
+/// text of each splits into that of the base and the number.
 pub fn rebuilds_rise()
     ensures read { RebuildsAreVersions }
     ensures rise { RebuildsRise }
     ensures base { RebuildsHaveBases }
+    ensures splits { SplitsHaveBases }
 {}

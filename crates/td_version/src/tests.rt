@@ -1,6 +1,6 @@
 use crate::{
-    MAX_EPOCH, MAX_REBUILD, Version, VersionFault, cmp_version, is_same_version, split_rebuild,
-    write_rebuild,
+    MAX_EPOCH, MAX_REBUILD, Version, VersionFault, base_of, cmp_version, is_same_version,
+    split_rebuild, write_rebuild,
 };
 use std::alloc::{AllocError, Global};
 use std::cmp::Ordering;
@@ -202,6 +202,24 @@ fn a_rebuild_suffix_is_split_off_and_written(rt: HostRuntime) -> Result<(), Fail
         "1.0+B1",
     ] {
         assert_eq!(rt; split_rebuild(text), (text, 0), "{text}");
+    }
+    Ok(())
+}
+
+// As `split_rebuild` has it, which leaves `+b1` whole; of `1.0-+b1` nothing is left behind the hyphen.
+#[test]
+fn a_version_has_a_base(rt: HostRuntime) -> Result<(), Fail> {
+    for (text, upstream, revision) in [
+        ("1:1.2-3+b4", "1.2", Some("3")),
+        ("1.2+b1+b2", "1.2+b1", None),
+        ("1.0+b0", "1.0+b0", None),
+        ("+b1", "+b1", None),
+        ("1:+b1", "", None),
+        ("1.0-+b1", "1.0", Some("")),
+    ] {
+        let base = base_of(&Version::read(text)?);
+        assert_eq!(rt; base.upstream, upstream, "{text}");
+        assert_eq!(rt; base.revision, revision, "{text}");
     }
     Ok(())
 }

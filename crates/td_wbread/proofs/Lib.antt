@@ -10,3 +10,4 @@ pub mod Quoted
 pub mod Dotted
 pub mod Undotted
 pub mod Chosen
+pub mod Tails

@@ -4,11 +4,13 @@ pub mod ChoiceLaws
 pub mod Command
 pub mod FaultNames
 pub mod Faults
+pub mod Kinds
 pub mod Laws
 pub mod Naming
 pub mod PackageLaws
 pub mod Packages
 pub mod Tail
+pub mod TailLaws
 pub mod Taking
 pub mod Verbs
 pub mod Views

@@ -3,6 +3,7 @@ ghost use Rattle.td_wbread.specs.ArchLaws.{ArchsAreExact};
 ghost use Rattle.td_wbread.specs.ChoiceLaws.{ChoiceIsExact};
 ghost use Rattle.td_wbread.specs.Laws.{QuotedWordsAreRead};
 ghost use Rattle.td_wbread.specs.PackageLaws.{PackagesAreExact};
+ghost use Rattle.td_wbread.specs.TailLaws.{TailsAreExact};
 
 /// Any texts without a newline and without `'` can be written as the words of a line.
 pub fn quoted_words_are_read()
@@ -24,4 +25,10 @@ pub fn archs_are_exact()
 /// away.
 pub fn choice_is_exact()
     ensures { ChoiceIsExact }
+{}
+
+/// What follows the architectures is read exactly where it is the end, a last dot, a suite, a suite
+/// and options, or options, and means these.
+pub fn tails_are_exact()
+    ensures { TailsAreExact }
 {}

@@ -1,6 +1,7 @@
 //! Command lines as Debian's release team writes them to wanna-build: `gb`, `nmu`, `bp` and `dw`.
 //!
-//! Start at `read_command`; `Command::is_named` and `is_matched` say which rows a command takes.
+//! Start at `read_command`; `Command::is_named` and `is_matched` say which rows a command takes,
+//! `kind_of` what it does to them. A caller matches on `&command.verb`.
 //! `specs/Words.antt` says what the words of a line are, quoted as in a shell, `specs/Command.antt`
 //! which words are a command, and what is wrong first with others, and `specs/Naming.antt` which
 //! rows are named. Quotes have no escapes, and don't go over lines.
@@ -12,6 +13,7 @@ mod arch_reading;
 mod building;
 mod command;
 mod fault;
+mod kind;
 mod laws;
 mod naming;
 mod option_reading;
@@ -26,5 +28,9 @@ mod word;
 
 pub use command::{Command, Package, Verb};
 pub use fault::{CommandFault, LineFault};
-pub use laws::{archs_are_exact, choice_is_exact, packages_are_exact, quoted_words_are_read};
+pub use kind::kind_of;
+pub use laws::{
+    archs_are_exact, choice_is_exact, packages_are_exact, quoted_words_are_read, tails_are_exact,
+};
+pub use package_reading::read_version;
 pub use reading::read_command;

@@ -40,6 +40,7 @@ pub fn check_filled(end: End, words: &[Word], what: LineFault) -> Result<(), Com
     }
 }
 
+/// The version of a package word, as `Version::read` has it: what was read of a word is one.
 pub fn read_version(text: &str) -> Result<Version<'_>, VersionFault>
     ensures { parts_read result ≡ reading text.now }
 {

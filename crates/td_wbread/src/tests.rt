@@ -1,10 +1,10 @@
 //! What no clause says: that lines are read with ample memory, and what the definitions make of the
 //! lines that the release team writes. Expected by hand, from the rules in `docs/FORMATS.md`.
-use crate::{Command, CommandFault, Verb, read_command};
+use crate::{Command, CommandFault, Verb, kind_of, read_command};
 use std::alloc::Global;
 use std::test::Fail;
 use td_relation::Archs;
-use td_rows::RebuildNumber;
+use td_rows::{Kind, Line, RebuildNumber};
 use td_version::Version;
 
 const TABLE: &str = "amd64 linux amd64\ni386 linux i386";
@@ -191,5 +191,30 @@ fn a_command_takes_the_rows_whose_version_matches(rt: HostRuntime) -> Result<(),
             assert_eq!(rt; takes(rt.alloc(), packages)?, want == "true");
         }
     }
+    Ok(())
+}
+
+// Whether the line is a command that makes an entry of this kind.
+fn has_kind(alloc: Global, line: &str, kind: &Kind) -> Result<bool, Fail> {
+    let archs = Archs::read(alloc, TABLE)?;
+    let Ok(command) = read_command(alloc, line, &archs, &[]) else {
+        return Err(Fail::from("it isn't read"));
+    };
+    Ok(kind_of(&command)? == *kind)
+}
+
+#[test]
+fn a_command_makes_an_entry_of_its_kind(rt: HostRuntime) -> Result<(), Fail> {
+    let alloc = rt.alloc();
+    assert!(rt; has_kind(alloc, "gb foo . ANY", &Kind::Gb)?);
+    let nmu = Kind::Nmu {
+        number: RebuildNumber::new(3),
+        extra: Line::new(alloc, "libbar-dev")?,
+        message: Line::new(alloc, "Rebuild")?,
+    };
+    let line = "nmu 3 foo . ANY . -m Rebuild --extra-depends libbar-dev";
+    assert!(rt; has_kind(alloc, line, &nmu)?);
+    let dw = Kind::Dw(Line::new(alloc, "libbar-dev")?);
+    assert!(rt; has_kind(alloc, "dw foo . ANY . -m libbar-dev", &dw)?);
     Ok(())
 }

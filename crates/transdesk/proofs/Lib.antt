@@ -1,3 +1,6 @@
 pub mod Faulty
 pub mod Stops
 pub mod Plays
+pub mod Files
+pub mod Counting
+pub mod Asks

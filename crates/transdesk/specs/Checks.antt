@@ -1,7 +1,9 @@
 -- What a check leaves on standard output, as it ends. This project's own.
-use Rattle.std.specs.Prelude.{◌≡◌, ℕ, ◌≤◌, List, length, Option, IfSome, IsUtf8}
+use Rattle.std.specs.Prelude.{◌≡◌, ◌⊎◌, ℕ, ◌≤◌, ◌<◌, Bool, true, false, List, length, Option, Some, None, IfSome, IsUtf8}
 use Rattle.std.specs.Io.KnownBytes.{Appends, Keeps}
 use Rattle.td_bytes.specs.Pieces.{AppendsPrefix}
+use Rattle.td_bytes.specs.declared.text.TextFault.{TextFault}
+use Rattle.td_bytes.specs.declared.text.TextFault.TheVariants as text_fault
 use Rattle.td_text.specs.Lines.{lines_of}
 use Rattle.td_relation.specs.Arch.{ArchWords}
 use Rattle.td_relation.specs.TableFile.{IsTable}
@@ -12,7 +14,7 @@ use Rattle.td_indices.specs.Archive.{Contents}
 use Rattle.td_indices.specs.Archive as archive_file
 use Rattle.td_indices.specs.declared.archive_fault.ArchiveFault.{ArchiveFault}
 use Rattle.td_indices.specs.declared.archive_fault.ArchiveFault.TheVariants as archive
-use Rattle.transdesk.specs.declared.checking.TheConstants.{FILE_LIMIT}
+use Rattle.transdesk.specs.Limits.{file_limit}
 use Rattle.transdesk.specs.declared.role.Role.{Role}
 use Rattle.transdesk.specs.declared.role.Role.TheVariants.{Input, Archs, Packages, Sources}
 use Rattle.transdesk.specs.Roles.{role_of_fault}
@@ -24,19 +26,35 @@ use Rattle.transdesk.specs.Counted.{IsArchiveOf, counts_line}
 
 -- ---- 1. what is read
 
--- the bytes of the three files, where they are known
+-- the bytes of the three files, where they are known, and for which faults a read of each may fail
 pub record Files : Type 0 where
   pub in_archs : Option (List ℕ)
   pub in_packages : Option (List ℕ)
   pub in_sources : Option (List ℕ)
+  pub can_fail : Role → TextFault → Bool
+
+-- for which faults a read of the file of a role may fail; standard input isn't read
+abbrev pub failing : (List ℕ → TextFault → Bool) → List ℕ → List ℕ → List ℕ → Role → TextFault → Bool
+failing can_fail archs packages sources Input fault = false
+failing can_fail archs packages sources Archs fault = can_fail archs fault
+failing can_fail archs packages sources Packages fault = can_fail packages fault
+failing can_fail archs packages sources Sources fault = can_fail sources fault
 
 -- those of three paths
-abbrev pub files_of : (List ℕ → Option (List ℕ)) → List ℕ → List ℕ → List ℕ → Files
-files_of bytes archs packages sources = record { in_archs = bytes archs; in_packages = bytes packages; in_sources = bytes sources }
+abbrev pub files_of : (List ℕ → Option (List ℕ)) → (List ℕ → TextFault → Bool) → List ℕ → List ℕ → List ℕ → Files
+files_of bytes can_fail archs packages sources =
+    record { in_archs = bytes archs; in_packages = bytes packages; in_sources = bytes sources; can_fail = failing can_fail archs packages sources }
+
+-- the bytes of the file of a role, where they are known
+abbrev pub known_of : Files → Role → Option (List ℕ)
+known_of files Input = None
+known_of files Archs = files.in_archs
+known_of files Packages = files.in_packages
+known_of files Sources = files.in_sources
 
 -- a text that is read from a file: within the limit, and UTF-8
 abbrev pub IsFileText : List ℕ → Type 0
-IsFileText text = (length text ≤ FILE_LIMIT) × IsUtf8 text
+IsFileText text = (length text ≤ file_limit) × IsUtf8 text
 
 -- the text that such a file has
 pub record IsTextOf (known : Option (List ℕ)) (text : List ℕ) : Type 0 where
@@ -68,14 +86,28 @@ AreTextsBefore files Sources = (archs : List ℕ) × (packages : List ℕ) × Is
 
 -- bytes within the limit that are no text
 abbrev pub IsNoText : Option (List ℕ) → Type 0
-IsNoText known = IfSome known (λ all. (length all ≤ FILE_LIMIT) × ¬ IsUtf8 all)
+IsNoText known = IfSome known (λ all. (length all ≤ file_limit) × ¬ IsUtf8 all)
 
--- the file of a role is no text
-abbrev pub HasNoText : Files → Role → Type 0
-HasNoText files Input = ⊥
-HasNoText files Archs = IsNoText files.in_archs
-HasNoText files Packages = IsNoText files.in_packages
-HasNoText files Sources = IsNoText files.in_sources
+-- more bytes than the limit
+abbrev pub IsTooLong : Option (List ℕ) → Type 0
+IsTooLong known = IfSome known (λ all. file_limit < length all)
+
+-- what a fault of reading says of the bytes
+abbrev pub FaultFits : Option (List ℕ) → TextFault → Type 0
+FaultFits known text_fault.CannotRead = Unit {0}
+FaultFits known text_fault.TooLong = IsTooLong known
+FaultFits known text_fault.NotText = IsNoText known
+FaultFits known text_fault.NoMemory = Unit {0}
+
+-- a read of the file of a role fails so: it may, and those that are read before it are texts
+pub record HasFailed (files : Files) (role : Role) (fault : TextFault) : Type 0 where
+  pub before : AreTextsBefore files role
+  pub may : files.can_fail role fault ≡ true
+  pub fits : FaultFits (known_of files role) fault
+
+-- the file of a role can't be read, or is too long to be
+abbrev pub IsUnreadable : Files → Role → Type 0
+IsUnreadable files role = HasFailed files role text_fault.CannotRead ⊎ HasFailed files role text_fault.TooLong
 
 -- all are texts, and the first is no table, for this
 pub record HasTableFault (files : Files) (e : ArchsFault) : Type 0 where
@@ -98,7 +130,7 @@ pub record HasArchiveFault (files : Files) (e : ArchiveFault) : Type 0 where
 -- the file of this role is refused for this
 abbrev pub HasFileFault : Files → Role → InputFault → Type 0
 HasFileFault files role TooLong = ⊥
-HasFileFault files role NotText = AreTextsBefore files role × HasNoText files role
+HasFileFault files role NotText = HasFailed files role text_fault.NotText
 HasFileFault files role (Simulation e) = ⊥
 HasFileFault files role (Table table.NoMemory) = ⊥
 HasFileFault files role (Table e) = (role ≡ Archs) × HasTableFault files e
@@ -107,11 +139,38 @@ HasFileFault files role (Archive e) = (role ≡ role_of_fault e) × HasArchiveFa
 
 -- ---- 3. how it ends
 
--- a check of these files ends so: the line of the archive is written, or a front of it where the writer failed, or nothing where a file, a read or memory did
-abbrev pub Checks : Files → Option (List ℕ) → Option (List ℕ) → Ending → Type 0
-Checks files old new Done = (c : Contents) × IsArchiveIn files c × Appends old new (counts_line c)
-Checks files old new Refused = ⊥
-Checks files old new (BadInput role e) = HasFileFault files role e × Keeps old new
-Checks files old new NoMemory = Keeps old new
-Checks files old new (CannotRead role) = AreTextsBefore files role × Keeps old new
-Checks files old new CannotWrite = (c : Contents) × IsArchiveIn files c × AppendsPrefix old new (counts_line c)
+-- what an ending says of the files and of what is written: the line of the archive, or a front of it where the writer failed, or nothing where a file, a read or memory did
+abbrev pub CheckSays : Files → Option (List ℕ) → Option (List ℕ) → Ending → Type 0
+CheckSays files old new Done = (c : Contents) × IsArchiveIn files c × Appends old new (counts_line c)
+CheckSays files old new Refused = ⊥
+CheckSays files old new (BadInput role e) = HasFileFault files role e × Keeps old new
+CheckSays files old new NoMemory = Keeps old new
+CheckSays files old new (CannotRead role) = IsUnreadable files role × Keeps old new
+CheckSays files old new CannotWrite = (c : Contents) × IsArchiveIn files c × AppendsPrefix old new (counts_line c)
+
+-- all three files are known, and are this archive
+pub record IsKnownArchive (files : Files) (c : Contents) : Type 0 where
+  pub archs : List ℕ
+  pub packages : List ℕ
+  pub sources : List ℕ
+  pub known_archs : files.in_archs ≡ Some archs
+  pub known_packages : files.in_packages ≡ Some packages
+  pub known_sources : files.in_sources ≡ Some sources
+  pub archs_text : IsFileText archs
+  pub packages_text : IsFileText packages
+  pub sources_text : IsFileText sources
+  pub archive : IsArchiveOf archs packages sources c
+
+-- how a check of an archive may end
+abbrev pub EndsCounted : Contents → Option (List ℕ) → Option (List ℕ) → Ending → Type 0
+EndsCounted c old new Done = Appends old new (counts_line c)
+EndsCounted c old new Refused = ⊥
+EndsCounted c old new (BadInput role e) = ⊥
+EndsCounted c old new NoMemory = Keeps old new
+EndsCounted c old new (CannotRead role) = Keeps old new
+EndsCounted c old new CannotWrite = AppendsPrefix old new (counts_line c)
+
+-- a check of these files ends so: the ending is as it says, and an archive is counted unless a write, memory or a read of a file fails
+pub record Checks (files : Files) (old new : Option (List ℕ)) (ending : Ending) : Type 0 where
+  pub says : CheckSays files old new ending
+  pub only : (c : Contents) → IsKnownArchive files c → EndsCounted c old new ending

@@ -7,7 +7,7 @@ use Rattle.td_core.specs.declared.step.Step.{Step}
 use Rattle.td_simulate.specs.declared.fault.SimulationFault.TheVariants as fault
 use Rattle.td_simulate.specs.Output.{output, any_refused}
 use Rattle.td_simulate.specs.SimulationText.{IsSimulation, FaultOf}
-use Rattle.transdesk.specs.declared.simulation.TheConstants.{INPUT_LIMIT}
+use Rattle.transdesk.specs.Limits.{input_limit}
 use Rattle.transdesk.specs.declared.input_fault.InputFault.{InputFault}
 use Rattle.transdesk.specs.declared.input_fault.InputFault.TheVariants.{TooLong, NotText, Simulation}
 use Rattle.transdesk.specs.declared.input_fault.InputFault.TheVariants as refused
@@ -17,12 +17,12 @@ use Rattle.transdesk.specs.declared.ending.Ending.TheVariants.{Done, Refused, Ba
 
 -- a text that is read: within the limit, and UTF-8
 abbrev pub IsText : List ℕ → Type 0
-IsText input = (length input ≤ INPUT_LIMIT) × IsUtf8 input
+IsText input = (length input ≤ input_limit) × IsUtf8 input
 
 -- the input is refused for this
 abbrev pub HasFault : List ℕ → InputFault → Type 0
-HasFault input TooLong = INPUT_LIMIT < length input
-HasFault input NotText = (length input ≤ INPUT_LIMIT) × ¬ IsUtf8 input
+HasFault input TooLong = input_limit < length input
+HasFault input NotText = (length input ≤ input_limit) × ¬ IsUtf8 input
 HasFault input (Simulation fault.NoMemory) = ⊥
 HasFault input (Simulation e) = IsText input × FaultOf input e
 HasFault input (refused.Table e) = ⊥

@@ -1,8 +1,9 @@
+pub mod Limits
 pub mod Roles
 pub mod Ending
 pub mod Ran
 pub mod Ends
-pub mod Inside
+pub mod Played
 pub mod Counted
 pub mod Checks
 pub mod CheckInside

@@ -1,16 +1,76 @@
--- What the program does for words that ask for one of its subcommands. This project's own.
-use Rattle.std.specs.Prelude.{◌⊎◌, ℕ, List, Option, codes}
+-- What the program does for words: a subcommand that they ask for, or a text that says what is wrong. This project's own.
+use Rattle.std.specs.Prelude.{◌≡◌, ◌≢◌, ◌⊎◌, ℕ, List, Option, Bool, codes, string_bytes}
+use Rattle.std.specs.declared.io.ErrorKind.{ErrorKind}
+use Rattle.std.specs.declared.io.ErrorKind.TheVariants.{OutOfMemory}
+use Rattle.std.specs.Io.KnownBytes.{Keeps}
+use Rattle.td_bytes.specs.Pieces.{AppendsPrefix}
+use Rattle.td_bytes.specs.declared.text.TextFault.{TextFault}
+use Rattle.td_words.specs.declared.request.Request.{Request}
+use Rattle.td_words.specs.declared.request.Request.TheVariants.{Simulate, Check}
+use Rattle.td_words.specs.declared.request.WordsFault.{WordsFault}
+use Rattle.td_words.specs.declared.request.WordsFault.TheVariants as words_fault
 use Rattle.td_words.specs.CommandLine.{AskFor}
+use Rattle.transdesk.specs.declared.ending.Ending.TheVariants.{NoMemory}
+use Rattle.transdesk.specs.Ending.{line_of}
 use Rattle.transdesk.specs.Ends.{Ends}
 use Rattle.transdesk.specs.Checks.{Checks, files_of}
 use Rattle.transdesk.specs.Ran.{Ran}
+
+-- ---- 1. words that ask for nothing
+
+-- the status is that of a bad command line, and of this text a front is said
+pub record IsBadWords (text : List ℕ) (said_before said : Option (List ℕ)) (status : ℕ) : Type 0 where
+  pub answered : status ≡ 3
+  pub line : AppendsPrefix said_before said text
+
+-- the status is that of want of memory, and of its line a front is said
+pub record LacksMemory (said_before said : Option (List ℕ)) (status : ℕ) : Type 0 where
+  pub answered : status ≡ 4
+  pub line : AppendsPrefix said_before said (line_of NoMemory)
+
+-- what is said of words in which a fault was found: its own text
+abbrev pub TellsFault : WordsFault → Option (List ℕ) → Option (List ℕ) → ℕ → Type 0
+TellsFault (words_fault.Usage text) said_before said status = IsBadWords (string_bytes text) said_before said status
+TellsFault words_fault.NoMemory said_before said status = LacksMemory said_before said status
+
+-- a fault of the words is told, and nothing is written
+pub record IsTold (fault : WordsFault) (old new said_before said : Option (List ℕ)) (status : ℕ) : Type 0 where
+  pub tells : TellsFault fault said_before said status
+  pub kept : Keeps old new
+
+-- what is said where a word isn't UTF-8
+abbrev pub no_words : List ℕ
+no_words = codes "error: a word of the command line is not UTF-8\n"
+
+-- what is said of words that aren't read, with an error of this kind
+pub record TellsUnread (kind : ErrorKind) (said_before said : Option (List ℕ)) (status : ℕ) : Type 0 where
+  pub memory : kind ≡ OutOfMemory → LacksMemory said_before said status
+  pub other : kind ≢ OutOfMemory → IsBadWords no_words said_before said status
+
+-- some text says that the words are bad, or memory has run out
+abbrev pub TellsSome : Option (List ℕ) → Option (List ℕ) → ℕ → Type 0
+TellsSome said_before said status = ((text : List ℕ) × IsBadWords text said_before said status) ⊎ LacksMemory said_before said status
+
+-- ---- 2. words that ask for a subcommand
 
 -- nothing is wrong with the words, and they name one of the subcommands
 abbrev pub AsksForOne : List (List ℕ) → Type 0
 AsksForOne words = AskFor (codes "simulate") words ⊎ AskFor (codes "check") words
 
+-- what was asked for ran
+abbrev pub RanFor : Request → Option (List ℕ) → (List ℕ → Option (List ℕ)) → (List ℕ → TextFault → Bool) → Option (List ℕ) → Option (List ℕ) → Option (List ℕ) → Option (List ℕ) → ℕ → Type 0
+RanFor Simulate known bytes can_fail old new said_before said status = Ran (Ends known old new) said_before said status
+RanFor (Check archs packages sources) known bytes can_fail old new said_before said status =
+    Ran (Checks (files_of bytes can_fail (string_bytes archs) (string_bytes packages) (string_bytes sources)) old new) said_before said status
+
 -- a simulation ran, or a check of some three files
-abbrev pub RanOne : Option (List ℕ) → (List ℕ → Option (List ℕ)) → Option (List ℕ) → Option (List ℕ) → Option (List ℕ) → Option (List ℕ) → ℕ → Type 0
-RanOne known bytes old new said_before said status =
+abbrev pub RanOne : Option (List ℕ) → (List ℕ → Option (List ℕ)) → (List ℕ → TextFault → Bool) → Option (List ℕ) → Option (List ℕ) → Option (List ℕ) → Option (List ℕ) → ℕ → Type 0
+RanOne known bytes can_fail old new said_before said status =
     Ran (Ends known old new) said_before said status
-    ⊎ ((archs : List ℕ) × (packages : List ℕ) × (sources : List ℕ) × Ran (Checks (files_of bytes archs packages sources) old new) said_before said status)
+    ⊎ ((archs : List ℕ) × (packages : List ℕ) × (sources : List ℕ) × Ran (Checks (files_of bytes can_fail archs packages sources) old new) said_before said status)
+
+-- they ran it; all else is told, and writes nothing
+abbrev pub OnlyIfAsked : List (List ℕ) → Option (List ℕ) → (List ℕ → Option (List ℕ)) → (List ℕ → TextFault → Bool) → Option (List ℕ) → Option (List ℕ) → Option (List ℕ) → Option (List ℕ) → ℕ → Type 0
+OnlyIfAsked words known bytes can_fail old new said_before said status =
+    (AsksForOne words × RanOne known bytes can_fail old new said_before said status)
+    ⊎ (TellsSome said_before said status × Keeps old new)

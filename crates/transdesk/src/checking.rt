@@ -1,29 +1,22 @@
-ghost use Rattle.std.specs.Prelude.{◌≡◌, ◌<◌, ◌^◌, length, string_bytes, IfOk, IfErr};
+ghost use Rattle.std.specs.Prelude.{◌≡◌, List, ◌≤◌, length, string_bytes, Ok, Err, IfOk, IfErr, IsOkAnd, MatchResult};
+ghost use Rattle.std.specs.Result.{ForOk};
+ghost use Rattle.td_relation.specs.TableView.{table};
+ghost use Rattle.transdesk.specs.Checks.{Checks, files_of};
+ghost use Rattle.transdesk.specs.CheckInside.{AreCountsOf, EndsUnwritten, FileTextsEnd, FileUnread, IsCounted, IsCountedWith, IsLineFor, IsWithin, WritesSo};
 ghost use Rattle.transdesk.specs.Counted.{line_of_counts};
-ghost use Rattle.transdesk.specs.Checks.{Checks, IsTextOf, files_of};
-ghost use Rattle.transdesk.specs.CheckInside.{AreCountsIn, AreTextsIn, IsLineOf, IsNoArchive, IsStopped, IsUnread};
+ghost use Rattle.transdesk.specs.Ending.{ending_of_archive as archive_ending, ending_of_table as table_ending};
+ghost use Rattle.transdesk.specs.Limits.{file_limit};
 ghost use Rattle.transdesk.specs.Ran.{Ran};
 
 use crate::ending::{Ending, ending_of_archive, ending_of_file, ending_of_table};
-use crate::role::Role;
+use crate::file_texts::{FileFault, FileTexts, read_files};
 use crate::texts::Texts;
 use std::alloc::{AllocError, Global};
 use std::io::Write;
 use td_bytes::write_whole;
-use td_indices::Archive;
-use td_relation::Archs;
+use td_indices::{Archive, ArchiveFault};
+use td_relation::{Archs, ArchsFault};
 use td_text::put_number;
-
-/// The longest file, in bytes.
-pub const FILE_LIMIT: usize = 1_073_741_824;
-
-/// The texts of the three files.
-#[derive(Drop)]
-pub struct FileTexts {
-    pub archs: String,
-    pub packages: String,
-    pub sources: String,
-}
 
 /// How many there are of each.
 #[derive(Drop)]
@@ -33,60 +26,12 @@ pub struct Counts {
     pub rows: usize,
 }
 
-fn file_text<T: Texts>(alloc: Global, texts: &T, path: &str, role: Role) -> Result<String, Ending>
-    ensures text { IfOk result (λ text.
-        IsTextOf (T.bytes texts.now path.now) (string_bytes text)) }
-    ensures unread { IfErr result (IsUnread (T.bytes texts.now path.now) role) }
+// What is to be counted, by what two indices were read as.
+fn counts_of(archive: Result<Archive<'_, '_>, ArchiveFault>) -> Result<Counts, Ending>
+    ensures counts { IfOk archive.entry (λ a. IsOkAnd result (AreCountsOf a)) }
+    ensures refused { IfErr archive.entry (λ fault. result ≡ Err (archive_ending fault)) }
 {
-    match texts.text(alloc, path, FILE_LIMIT) {
-        Ok(text) => Ok(text),
-        Err(fault) => Err(ending_of_file(role, fault)),
-    }
-}
-
-// All three are read before anything is looked at.
-fn file_texts<T: Texts>(
-    alloc: Global,
-    texts: &T,
-    archs: &str,
-    packages: &str,
-    sources: &str,
-) -> Result<FileTexts, Ending>
-    ensures texts { IfOk result
-        (AreTextsIn (files_of (T.bytes texts.now) archs.now packages.now sources.now)) }
-    ensures stopped { IfErr result
-        (IsStopped (files_of (T.bytes texts.now) archs.now packages.now sources.now)) }
-{
-    let archs = match file_text(alloc, texts, archs, Role::Archs) {
-        Ok(text) => text,
-        Err(ending) => return Err(ending),
-    };
-    let packages = match file_text(alloc, texts, packages, Role::Packages) {
-        Ok(text) => text,
-        Err(ending) => return Err(ending),
-    };
-    let sources = match file_text(alloc, texts, sources, Role::Sources) {
-        Ok(text) => text,
-        Err(ending) => return Err(ending),
-    };
-    Ok(FileTexts {
-        archs,
-        packages,
-        sources,
-    })
-}
-
-// What is to be counted in the indices, for the architectures of the table.
-fn counts_in(alloc: Global, archs: &str, packages: &str, sources: &str) -> Result<Counts, Ending>
-    requires { length archs.now < 2 ^ 63 }
-    ensures counts { IfOk result (AreCountsIn archs.now packages.now sources.now) }
-    ensures refused { IfErr result (IsNoArchive archs.now packages.now sources.now) }
-{
-    let archs = match Archs::read(alloc, archs) {
-        Ok(archs) => archs,
-        Err(fault) => return Err(ending_of_table(fault)),
-    };
-    match Archive::read(alloc, packages, sources, &archs) {
+    match archive {
         Ok(archive) => Ok(Counts {
             sources: archive.source_count(),
             binaries: archive.binary_count(),
@@ -94,6 +39,31 @@ fn counts_in(alloc: Global, archs: &str, packages: &str, sources: &str) -> Resul
         }),
         Err(fault) => Err(ending_of_archive(fault)),
     }
+}
+
+// The same, by what the table of architectures was read as.
+fn counts_with<'a>(
+    alloc: Global,
+    archs: Result<Archs<'a>, ArchsFault>,
+    packages: &'a str,
+    sources: &'a str,
+) -> Result<Counts, Ending>
+    ensures counted { IfOk archs.entry (λ archs.
+        IsCountedWith (table archs) packages.now sources.now result) }
+    ensures refused { IfErr archs.entry (λ fault. result ≡ Err (table_ending fault)) }
+{
+    match archs {
+        Ok(archs) => counts_of(Archive::read(alloc, packages, sources, &archs)),
+        Err(fault) => Err(ending_of_table(fault)),
+    }
+}
+
+// The same, of three texts.
+fn counts_in(alloc: Global, archs: &str, packages: &str, sources: &str) -> Result<Counts, Ending>
+    requires { length archs.now ≤ file_limit }
+    ensures { IsCounted archs.now packages.now sources.now result }
+{
+    counts_with(alloc, Archs::read(alloc, archs), packages, sources)
 }
 
 fn counts_line(alloc: Global, counts: &Counts) -> Result<String, AllocError>
@@ -111,29 +81,11 @@ fn counts_line(alloc: Global, counts: &Counts) -> Result<String, AllocError>
     Ok(line)
 }
 
-// The line that is to be written of the files.
-fn line_of<T: Texts>(
-    alloc: Global,
-    texts: &T,
-    archs: &str,
-    packages: &str,
-    sources: &str,
-) -> Result<String, Ending>
-    ensures line { IfOk result (λ line. IsLineOf
-        (files_of (T.bytes texts.now) archs.now packages.now sources.now) (string_bytes line)) }
-    ensures stopped { IfErr result
-        (IsStopped (files_of (T.bytes texts.now) archs.now packages.now sources.now)) }
+// The line that is to be written of what was counted.
+fn line_of(alloc: Global, counted: Result<Counts, Ending>) -> Result<String, Ending>
+    ensures line { IfOk counted (λ n. MatchResult result (IsLineFor n) (λ e. e ≡ Ending.NoMemory)) }
+    ensures refused { IfErr counted (λ ending. result ≡ Err ending) }
 {
-    let read = match file_texts(alloc, texts, archs, packages, sources) {
-        Ok(read) => read,
-        Err(ending) => return Err(ending),
-    };
-    let counted = counts_in(
-        alloc,
-        read.archs.as_str(),
-        read.packages.as_str(),
-        read.sources.as_str(),
-    );
     let counts = match counted {
         Ok(counts) => counts,
         Err(ending) => return Err(ending),
@@ -144,6 +96,44 @@ fn line_of<T: Texts>(
     }
 }
 
+// How a check ends by its line.
+fn write<W: Write>(line: Result<String, Ending>, output: &mut W) -> Ending
+    ensures line { IfOk line (λ line.
+        WritesSo (string_bytes line) (W.contents output.old) (W.contents output.new) result) }
+    ensures refused { IfErr line (λ ending.
+        EndsUnwritten ending (W.contents output.old) (W.contents output.new) result) }
+{
+    let line = match line {
+        Ok(line) => line,
+        Err(ending) => return ending,
+    };
+    match write_whole(output, line.as_bytes()) {
+        Ok(()) => Ending::Done,
+        Err(_) => Ending::CannotWrite,
+    }
+}
+
+// How a check ends by what was read of the files.
+fn count<W: Write>(alloc: Global, read: Result<FileTexts, FileFault>, output: &mut W) -> Ending
+    requires { ForOk read IsWithin }
+    ensures texts { IfOk read (λ texts.
+        FileTextsEnd texts (W.contents output.old) (W.contents output.new) result) }
+    ensures unread { IfErr read (λ fault.
+        FileUnread fault (W.contents output.old) (W.contents output.new) result) }
+{
+    let read = match read {
+        Ok(read) => read,
+        Err(unread) => return ending_of_file(unread.role, unread.fault),
+    };
+    let counted = counts_in(
+        alloc,
+        read.archs.as_str(),
+        read.packages.as_str(),
+        read.sources.as_str(),
+    );
+    write(line_of(alloc, counted), output)
+}
+
 fn run<T: Texts, W: Write>(
     alloc: Global,
     texts: &T,
@@ -152,17 +142,12 @@ fn run<T: Texts, W: Write>(
     sources: &str,
     output: &mut W,
 ) -> Ending
-    ensures { Checks (files_of (T.bytes texts.now) archs.now packages.now sources.now)
+    ensures { Checks
+        (files_of (T.bytes texts.now) (T.can_fail texts.now) archs.now packages.now sources.now)
         (W.contents output.old) (W.contents output.new) result }
 {
-    let line = match line_of(alloc, texts, archs, packages, sources) {
-        Ok(line) => line,
-        Err(ending) => return ending,
-    };
-    match write_whole(output, line.as_bytes()) {
-        Ok(()) => Ending::Done,
-        Err(_) => Ending::CannotWrite,
-    }
+    let read = read_files(alloc, texts, archs, packages, sources);
+    count(alloc, read, output)
 }
 
 /// Counts what the indices hold that have these paths, and tells on `faults` what went wrong, as
@@ -176,7 +161,8 @@ pub fn check<T: Texts, W: Write, E: Write>(
     output: &mut W,
     faults: &mut E,
 ) -> u8
-    ensures { Ran (Checks (files_of (T.bytes texts.now) archs.now packages.now sources.now)
+    ensures { Ran (Checks
+        (files_of (T.bytes texts.now) (T.can_fail texts.now) archs.now packages.now sources.now)
         (W.contents output.old) (W.contents output.new))
         (E.contents faults.old) (E.contents faults.new) result }
 {

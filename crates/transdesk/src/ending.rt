@@ -1,7 +1,7 @@
 ghost use Rattle.std.specs.Prelude.{◌≡◌, ◌++◌, OnOk, OnErr};
 ghost use Rattle.std.specs.Io.KnownBytes.{Appends};
 ghost use Rattle.td_bytes.specs.Pieces.{AppendsPrefix};
-ghost use Rattle.transdesk.specs.Ending.{ending_of_archive, ending_of_file, ending_of_table, status_of, line_of, line_with};
+ghost use Rattle.transdesk.specs.Ending.{ending_of_archive, ending_of_file, ending_of_simulation, ending_of_table, ending_of_text, status_of, line_of, line_with};
 
 use crate::input_fault::InputFault;
 use crate::role::{Role, role_of_fault};
@@ -24,33 +24,25 @@ pub enum Ending {
     CannotWrite,
 }
 
-impl From<TextFault> for Ending {
-    ghost use Rattle.std.specs.Prelude.{◌≡◌};
-    ghost use Rattle.transdesk.specs.Ending.{ending_of_text};
-
-    ghost from_gives = { λ fault ending. ending ≡ ending_of_text fault };
-
-    fn from(fault: TextFault) -> Ending {
-        match fault {
-            TextFault::CannotRead => Ending::CannotRead(Role::Input),
-            TextFault::TooLong => Ending::BadInput(Role::Input, InputFault::TooLong),
-            TextFault::NotText => Ending::BadInput(Role::Input, InputFault::NotText),
-            TextFault::NoMemory => Ending::NoMemory,
-        }
+/// How a run ends where no text is read from standard input.
+pub fn ending_of_text(fault: TextFault) -> Ending
+    ensures { result ≡ ending_of_text fault }
+{
+    match fault {
+        TextFault::CannotRead => Ending::CannotRead(Role::Input),
+        TextFault::TooLong => Ending::BadInput(Role::Input, InputFault::TooLong),
+        TextFault::NotText => Ending::BadInput(Role::Input, InputFault::NotText),
+        TextFault::NoMemory => Ending::NoMemory,
     }
 }
 
-impl From<SimulationFault> for Ending {
-    ghost use Rattle.std.specs.Prelude.{◌≡◌};
-    ghost use Rattle.transdesk.specs.Ending.{ending_of_simulation};
-
-    ghost from_gives = { λ fault ending. ending ≡ ending_of_simulation fault };
-
-    fn from(fault: SimulationFault) -> Ending {
-        match fault {
-            SimulationFault::NoMemory => Ending::NoMemory,
-            fault => Ending::BadInput(Role::Input, InputFault::Simulation(fault)),
-        }
+/// How a run ends where a text is no simulation.
+pub fn ending_of_simulation(fault: SimulationFault) -> Ending
+    ensures { result ≡ ending_of_simulation fault }
+{
+    match fault {
+        SimulationFault::NoMemory => Ending::NoMemory,
+        fault => Ending::BadInput(Role::Input, InputFault::Simulation(fault)),
     }
 }
 

@@ -10,6 +10,7 @@
 
 mod checking;
 mod ending;
+mod file_texts;
 mod input_fault;
 mod role;
 mod simulation;

@@ -1,39 +1,57 @@
-ghost use Rattle.std.specs.Prelude.{IfOk, IfErr};
+ghost use Rattle.std.specs.Prelude.{◌≡◌, ◌≤◌, length, string_bytes, IfOk, IfErr};
+ghost use Rattle.std.specs.Result.{ForOk};
 ghost use Rattle.transdesk.specs.Ends.{Ends};
+ghost use Rattle.transdesk.specs.Limits.{input_limit};
+ghost use Rattle.transdesk.specs.Played.{IsUnread, IsUntold, TellsSo, TextEnds};
 ghost use Rattle.transdesk.specs.Ran.{Ran};
-ghost use Rattle.transdesk.specs.Inside.{IsToldOf, IsStoppedBy};
 
-use crate::ending::Ending;
+use crate::ending::{Ending, ending_of_simulation, ending_of_text};
 use std::alloc::Global;
 use std::io::{Read, Write};
-use td_bytes::{read_text, write_whole};
-use td_simulate::{Simulated, simulate_text};
+use td_bytes::{TextFault, read_text, write_whole};
+use td_simulate::{Simulated, SimulationFault, simulate_text};
 
 /// The longest standard input, in bytes.
 pub const INPUT_LIMIT: usize = 1_048_576;
 
-// What is told of all that remains of the reader.
-fn told<R: Read>(alloc: Global, reader: &mut R) -> Result<Simulated, Ending>
-    ensures told { IfOk result (IsToldOf (R.remaining reader.old)) }
-    ensures stopped { IfErr result (IsStoppedBy (R.remaining reader.old)) }
+// How a run ends by what was told.
+fn tell<W: Write>(told: Result<Simulated, SimulationFault>, output: &mut W) -> Ending
+    ensures told { IfOk told (λ t.
+        TellsSo t (W.contents output.old) (W.contents output.new) result) }
+    ensures untold { IfErr told (λ fault.
+        IsUntold fault (W.contents output.old) (W.contents output.new) result) }
 {
-    let text = read_text(alloc, reader, INPUT_LIMIT)?;
-    let told = simulate_text(alloc, text.as_str())?;
-    Ok(told)
-}
-
-fn run<R: Read, W: Write>(alloc: Global, reader: &mut R, output: &mut W) -> Ending
-    ensures { Ends (R.remaining reader.old) (W.contents output.old) (W.contents output.new) result }
-{
-    let told = match told(alloc, reader) {
+    let told = match told {
         Ok(told) => told,
-        Err(ending) => return ending,
+        Err(fault) => return ending_of_simulation(fault),
     };
     match write_whole(output, told.text.as_bytes()) {
         Ok(()) if told.refused => Ending::Refused,
         Ok(()) => Ending::Done,
         Err(_) => Ending::CannotWrite,
     }
+}
+
+// How a run ends by what was read of standard input.
+fn play<W: Write>(alloc: Global, read: Result<String, TextFault>, output: &mut W) -> Ending
+    requires { ForOk read (λ text. length (string_bytes text) ≤ input_limit) }
+    ensures text { IfOk read (λ text.
+        TextEnds (string_bytes text) (W.contents output.old) (W.contents output.new) result) }
+    ensures unread { IfErr read (λ fault.
+        IsUnread fault (W.contents output.old) (W.contents output.new) result) }
+{
+    let text = match read {
+        Ok(text) => text,
+        Err(fault) => return ending_of_text(fault),
+    };
+    tell(simulate_text(alloc, text.as_str()), output)
+}
+
+fn run<R: Read, W: Write>(alloc: Global, reader: &mut R, output: &mut W) -> Ending
+    ensures { Ends (R.remaining reader.old) (W.contents output.old) (W.contents output.new) result }
+{
+    let read = read_text(alloc, reader, INPUT_LIMIT);
+    play(alloc, read, output)
 }
 
 /// Plays the simulation that the reader has, and tells on `faults` what went wrong, as far as that

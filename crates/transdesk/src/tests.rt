@@ -1,7 +1,7 @@
 //! The program in memory: what it writes and answers, on worked examples of this project's own.
-ghost use Rattle.std.specs.Prelude.{None, Some};
+ghost use Rattle.std.specs.Prelude.{None, Some, true};
 
-use crate::texts::Texts;
+use crate::texts::{Disk, Texts};
 use crate::tool::tool;
 use std::alloc::{AllocError, Global};
 use std::io;
@@ -64,6 +64,8 @@ struct Shelf<'a>(&'a [(&'a str, &'a [u8])]);
 
 impl Texts for Shelf<'_> {
     ghost bytes = { λ _ _. None };
+
+    ghost can_fail = { λ _ _ _. true };
 
     fn text(&self, alloc: Global, path: &str, limit: usize) -> Result<String, TextFault> {
         match self.0.iter().find(|file| file.0 == path) {
@@ -291,6 +293,48 @@ fn bytes_of(text: &str) -> &[u8] {
     } else {
         text.as_bytes()
     }
+}
+
+// The system answers so for a folder and for a path that nothing has.
+#[test]
+fn a_file_of_the_disk_is_read_or_is_refused(rt: HostRuntime) -> Result<(), Fail> {
+    let alloc = rt.alloc();
+    for path in [".", "/", "no such file"] {
+        let found = Disk(&rt).text(alloc, path, 9).err();
+        assert_eq!(rt; found, Some(TextFault::CannotRead), "{path}");
+    }
+    assert_eq!(rt; Disk(&rt).text(alloc, "/dev/null", 9)?.as_str(), "");
+    let found = Disk(&rt).text(alloc, "/dev/zero", 9).err();
+    assert_eq!(rt; found, Some(TextFault::TooLong));
+    Ok(())
+}
+
+// Words that aren't UTF-8 come from the system as an error of this kind.
+#[test]
+fn words_that_are_not_read_are_told(rt: HostRuntime) -> Result<(), Fail> {
+    for (kind, told) in [
+        (
+            ErrorKind::InvalidData,
+            "3 error: a word of the command line is not UTF-8\n",
+        ),
+        (ErrorKind::OutOfMemory, "4 transdesk: want of memory\n"),
+    ] {
+        let mut output: Vec<u8> = Vec::new(rt.alloc());
+        let mut faults: Vec<u8> = Vec::new(rt.alloc());
+        let status = tool(
+            rt.alloc(),
+            Err(io::Error::from(kind)),
+            &Shelf(&[]),
+            &mut Breaking(b""),
+            &mut output,
+            &mut faults,
+        );
+        let said = String::from_utf8_lossy(rt.alloc(), faults.as_slice())?;
+        let found = format!(in rt.alloc(); "{status} {said}")?;
+        assert_eq!(rt; found.as_str(), told);
+        assert!(rt; output.is_empty());
+    }
+    Ok(())
 }
 
 #[test]

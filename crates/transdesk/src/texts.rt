@@ -6,12 +6,16 @@ use td_bytes::{TextFault, read_text};
 /// Files that are texts, by their paths. `main` reads those of the disk; tests have theirs in
 /// memory.
 pub trait Texts {
-    ghost use Rattle.std.specs.Prelude.{◌≡◌, ℕ, ◌≤◌, List, length, Option, IfOk, IfSome, IsErrOf, IsUtf8};
+    ghost use Rattle.std.specs.Prelude.{◌≡◌, ℕ, ◌≤◌, ◌<◌, Bool, true, List, length, Option, IfOk, IfErr, IfSome, IsErrOf, IsUtf8};
     ghost use Rattle.std.specs.String.{string_bytes};
-    ghost use Rattle.td_bytes.specs.declared.text.TextFault.TheVariants.{NotText};
+    ghost use Rattle.td_bytes.specs.declared.text.TextFault.{TextFault};
+    ghost use Rattle.td_bytes.specs.declared.text.TextFault.TheVariants.{NotText, TooLong};
 
     // The bytes of the file with this path, where clauses know them.
     ghost bytes: { Self → List ℕ → Option (List ℕ) };
+
+    // For which faults a read of the file with this path may fail.
+    ghost can_fail: { Self → List ℕ → TextFault → Bool };
 
     /// Reads a whole file, a text of at most `limit` bytes.
     fn text(&self, alloc: Global, path: &str, limit: usize) -> Result<String, TextFault>
@@ -19,7 +23,11 @@ pub trait Texts {
             IfSome (bytes self.now path.now) (λ all. all ≡ string_bytes text)) }
         ensures within { IfOk result (λ text. length (string_bytes text) ≤ limit) }
         ensures not_text { IsErrOf result NotText
-            → IfSome (bytes self.now path.now) (λ all. (length all ≤ limit) × ¬ IsUtf8 all) };
+            → IfSome (bytes self.now path.now) (λ all. (length all ≤ limit) × ¬ IsUtf8 all) }
+        ensures long { IsErrOf result TooLong
+            → IfSome (bytes self.now path.now) (λ all. limit < length all) }
+        // Nobody but a file says that it can't be read.
+        ensures fails { IfErr result (λ fault. can_fail self.now path.now fault ≡ true) };
 }
 
 /// The files of the disk. Clauses know nothing of their bytes.
@@ -27,9 +35,11 @@ pub trait Texts {
 pub struct Disk<'a>(pub &'a HostRuntime);
 
 impl Texts for Disk<'_> {
-    ghost use Rattle.std.specs.Prelude.{None};
+    ghost use Rattle.std.specs.Prelude.{None, true};
 
     ghost bytes = { λ _ _. None };
+
+    ghost can_fail = { λ _ _ _. true };
 
     fn text(&self, alloc: Global, path: &str, limit: usize) -> Result<String, TextFault> {
         match File::open(self.0, path) {

@@ -1,11 +1,11 @@
-ghost use Rattle.std.specs.Prelude.{◌≡◌, ◌⊎◌, ℕ, List, map, codes, string_bytes, IsOkAnd, MatchResult, IfOk};
+ghost use Rattle.std.specs.Prelude.{◌≡◌, ◌⊎◌, ℕ, List, map, codes, string_bytes, IsOkAnd, IfOk, IfErr};
+ghost use Rattle.std.specs.IoError.{error_kind};
 ghost use Rattle.std.specs.Io.KnownBytes.{Keeps};
 ghost use Rattle.td_words.specs.CommandLine.{AskForCheck, asking_for};
-ghost use Rattle.td_words.specs.Asked.{Asks, IsCheckOf};
 ghost use Rattle.transdesk.specs.Ends.{Ends};
 ghost use Rattle.transdesk.specs.Checks.{Checks, files_of};
 ghost use Rattle.transdesk.specs.Ran.{Ran};
-ghost use Rattle.transdesk.specs.Program.{AsksForOne, RanOne};
+ghost use Rattle.transdesk.specs.Program.{IsTold, OnlyIfAsked, RanFor, TellsFault, TellsUnread};
 
 use crate::checking::check;
 use crate::ending::Ending;
@@ -20,25 +20,117 @@ use td_words::{Request, WordsFault, read_words};
 /// The status where the words ask for nothing that can be done.
 pub const BAD_WORDS: u8 = 3;
 
-fn asked(alloc: Global, words: io::Result<Vec<String>>) -> Result<Request, WordsFault>
-    ensures simulate { (program : List ℕ) → IsOkAnd words (λ given.
-        map string_bytes given.items ≡ asking_for program (codes "simulate"))
-        → MatchResult result (λ r. r ≡ Request.Simulate) (λ e. e ≡ WordsFault.NoMemory) }
-    ensures check { (archs packages sources : List ℕ) → IsOkAnd words (λ given.
-        AskForCheck (map string_bytes given.items) archs packages sources)
-        → MatchResult result (IsCheckOf archs packages sources) (λ e. e ≡ WordsFault.NoMemory) }
-    ensures only { IfOk result (λ r. IsOkAnd words (λ given.
-        Asks (map string_bytes given.items) r)) }
+// What is said of words that aren't read: of those that aren't UTF-8, unless memory ran out.
+fn tell_unread<E: Write>(error: &io::Error, faults: &mut E) -> u8
+    ensures { TellsUnread (error_kind error.now)
+        (E.contents faults.old) (E.contents faults.new) result }
 {
-    let words = match words {
-        Ok(words) => words,
-        Err(error) if error.kind() == ErrorKind::OutOfMemory => return Err(WordsFault::NoMemory),
-        Err(_) => {
-            let text = String::from_str(alloc, "error: a word of the command line is not UTF-8\n")?;
-            return Err(WordsFault::Usage(text));
+    if error.kind() == ErrorKind::OutOfMemory {
+        return Ending::NoMemory.answer(faults);
+    }
+    let _ = write_whole(faults, b"error: a word of the command line is not UTF-8\n");
+    BAD_WORDS
+}
+
+// What is said of words that ask for nothing: the text that says why.
+fn tell_fault<E: Write>(fault: &WordsFault, faults: &mut E) -> u8
+    ensures { TellsFault fault.now (E.contents faults.old) (E.contents faults.new) result }
+{
+    match fault {
+        WordsFault::Usage(text) => {
+            let _ = write_whole(faults, text.as_bytes());
+            BAD_WORDS
         }
-    };
-    read_words(alloc, &words)
+        WordsFault::NoMemory => Ending::NoMemory.answer(faults),
+    }
+}
+
+// Does what was asked for.
+fn do_request<T: Texts, R: Read, W: Write, E: Write>(
+    alloc: Global,
+    request: &Request,
+    texts: &T,
+    reader: &mut R,
+    output: &mut W,
+    faults: &mut E,
+) -> u8
+    ensures { RanFor request.now
+        (R.remaining reader.old) (T.bytes texts.now) (T.can_fail texts.now)
+        (W.contents output.old) (W.contents output.new)
+        (E.contents faults.old) (E.contents faults.new) result }
+{
+    match request {
+        Request::Simulate => simulate(alloc, reader, output, faults),
+        Request::Check {
+            archs,
+            packages,
+            sources,
+        } => check(
+            alloc,
+            texts,
+            archs.as_str(),
+            packages.as_str(),
+            sources.as_str(),
+            output,
+            faults,
+        ),
+    }
+}
+
+// Does what the words were read as.
+fn act<T: Texts, R: Read, W: Write, E: Write>(
+    alloc: Global,
+    asked: Result<Request, WordsFault>,
+    texts: &T,
+    reader: &mut R,
+    output: &mut W,
+    faults: &mut E,
+) -> u8
+    ensures request { IfOk asked (λ request. RanFor request
+        (R.remaining reader.old) (T.bytes texts.now) (T.can_fail texts.now)
+        (W.contents output.old) (W.contents output.new)
+        (E.contents faults.old) (E.contents faults.new) result) }
+    ensures fault { IfErr asked (λ fault. IsTold fault
+        (W.contents output.old) (W.contents output.new)
+        (E.contents faults.old) (E.contents faults.new) result) }
+{
+    match asked {
+        Ok(request) => do_request(alloc, &request, texts, reader, output, faults),
+        Err(fault) => tell_fault(&fault, faults),
+    }
+}
+
+// Does what the words ask for.
+fn answer<T: Texts, R: Read, W: Write, E: Write>(
+    alloc: Global,
+    words: &[String],
+    texts: &T,
+    reader: &mut R,
+    output: &mut W,
+    faults: &mut E,
+) -> u8
+    ensures simulate { (program : List ℕ)
+        → map string_bytes words.now ≡ asking_for program (codes "simulate")
+        → Ran (Ends (R.remaining reader.old) (W.contents output.old) (W.contents output.new))
+        (E.contents faults.old) (E.contents faults.new) result }
+    ensures check { (archs packages sources : List ℕ)
+        → AskForCheck (map string_bytes words.now) archs packages sources
+        → Ran (Checks (files_of (T.bytes texts.now) (T.can_fail texts.now) archs packages sources)
+        (W.contents output.old) (W.contents output.new))
+        (E.contents faults.old) (E.contents faults.new) result }
+    ensures others { OnlyIfAsked (map string_bytes words.now)
+        (R.remaining reader.old) (T.bytes texts.now) (T.can_fail texts.now)
+        (W.contents output.old) (W.contents output.new)
+        (E.contents faults.old) (E.contents faults.new) result }
+{
+    act(
+        alloc,
+        read_words(alloc, words),
+        texts,
+        reader,
+        output,
+        faults,
+    )
 }
 
 /// Does what the words ask for, and answers the program's status. The first word is the program's
@@ -59,40 +151,21 @@ pub fn tool<T: Texts, R: Read, W: Write, E: Write>(
     // What asks for the check of three files is answered by it.
     ensures check { (archs packages sources : List ℕ) → IsOkAnd words (λ given.
         AskForCheck (map string_bytes given.items) archs packages sources)
-        → Ran (Checks (files_of (T.bytes texts.now) archs packages sources)
+        → Ran (Checks (files_of (T.bytes texts.now) (T.can_fail texts.now) archs packages sources)
         (W.contents output.old) (W.contents output.new))
         (E.contents faults.old) (E.contents faults.new) result }
-    // Only where the words ask for one of them is anything written.
-    ensures only { IsOkAnd words (λ given. AsksForOne (map string_bytes given.items))
-        ⊎ Keeps (W.contents output.old) (W.contents output.new) }
-    // Other words may be bad.
-    ensures others { ((result ≡ BAD_WORDS)
-        × Keeps (W.contents output.old) (W.contents output.new))
-        ⊎ RanOne (R.remaining reader.old) (T.bytes texts.now)
+    // Other words are bad, unless memory runs out, and nothing is written.
+    ensures others { IfOk words (λ given. OnlyIfAsked (map string_bytes given.items)
+        (R.remaining reader.old) (T.bytes texts.now) (T.can_fail texts.now)
         (W.contents output.old) (W.contents output.new)
-        (E.contents faults.old) (E.contents faults.new) result }
+        (E.contents faults.old) (E.contents faults.new) result) }
+    // So are words that aren't UTF-8.
+    ensures unread { IfErr words (λ error. TellsUnread (error_kind error)
+        (E.contents faults.old) (E.contents faults.new) result
+        × Keeps (W.contents output.old) (W.contents output.new)) }
 {
-    match asked(alloc, words) {
-        Ok(Request::Simulate) => simulate(alloc, reader, output, faults),
-        Ok(
-            Request::Check {
-                archs,
-                packages,
-                sources,
-            },
-        ) => check(
-            alloc,
-            texts,
-            archs.as_str(),
-            packages.as_str(),
-            sources.as_str(),
-            output,
-            faults,
-        ),
-        Err(WordsFault::Usage(text)) => {
-            let _ = write_whole(faults, text.as_bytes());
-            BAD_WORDS
-        }
-        Err(WordsFault::NoMemory) => Ending::NoMemory.answer(faults),
+    match words {
+        Ok(words) => answer(alloc, &words, texts, reader, output, faults),
+        Err(error) => tell_unread(&error, faults),
     }
 }

@@ -23,8 +23,8 @@ loop-key-preserved c =
     ∙ entries-next kind t ks i k n texts c.loop-key.made.entries c.requires.rising c.len-rising.ensures.rising (omega arith) c.key-item.is at texts_are c.loop-key.invariant in
     elim c.match-number.branch [
       | in-Some+in_ok-texts+in_ok-copy+in_ok-insert+in-Some-1 w ↦
-          ap (λ (m : BTreeMap Key (ℕ × Row)). m.entries) w.made-is ∙ next w.in-Some.number w.in_ok-texts.texts w.in_ok-copy.field-0 w.insert.new.self.entries w.in-Some.ensures.found w.in_ok-texts.ensures w.in_ok-copy.ensures w.in_ok-insert.ensures.entries
+          ap (λ (m : BTreeMap Key (ℕ × Row)). m.entries) w.made-is ∙ next w.in-Some.number w.in_ok-texts.texts w.in_ok-copy.field-0 w.insert.new.self.entries w.in-Some.ensures.found w.in_ok-texts.ensures.texts w.in_ok-copy.ensures w.in_ok-insert.ensures.entries
       | in-Some+in_ok-texts+in_ok-copy+in_ok-insert+in-None-1 w ↦
-          ap (λ (m : BTreeMap Key (ℕ × Row)). m.entries) w.made-is ∙ next w.in-Some.number w.in_ok-texts.texts w.in_ok-copy.field-0 w.insert.new.self.entries w.in-Some.ensures.found w.in_ok-texts.ensures w.in_ok-copy.ensures w.in_ok-insert.ensures.entries
+          ap (λ (m : BTreeMap Key (ℕ × Row)). m.entries) w.made-is ∙ next w.in-Some.number w.in_ok-texts.texts w.in_ok-copy.field-0 w.insert.new.self.entries w.in-Some.ensures.found w.in_ok-texts.ensures.texts w.in_ok-copy.ensures w.in_ok-insert.ensures.entries
       | in_default w ↦ absurd (no_row t ks i k c.requires.rows (omega arith) c.key-item.is w.in_default.ensures.absent)
     ]

@@ -2,7 +2,7 @@ use Rattle.std.proofs.Common.{ap, subst, sym, ◌∙◌}
 use Rattle.td_simulate.specs.Faults.{of_opening}
 use Rattle.td_simulate.specs.SimulationText.{FaultOf}
 use Rattle.td_simulate.proofs.StepLists.{AreSteps-one}
-use Rattle.td_simulate.proofs.Simulations.{opening_fault, its_opening, its_steps, no_fault}
+use Rattle.td_simulate.proofs.Simulations.{opening_fault, its_opening, its_steps, steps_fault, no_fault}
 use Rattle.td_simulate.proofs.simulation.read_simulation.Goals as goal
 
 pub returns-in-Err : goal.returns-in-Err
@@ -21,3 +21,8 @@ returns-in-Ok-read_steps-clause-only c = λ t ss is. (
 pub returns-in-Err-read_steps-clause-only : goal.returns-in-Err-read_steps-clause-only
 returns-in-Err-read_steps-clause-only c = λ t ss is.
     no_fault c.parts_of-parts.result.first _ ss c.in-Err-read_steps.fault (its_steps c.args.text.now c.parts_of-parts.result.steps.now t ss c.parts_of-parts.ensures.steps is) c.in-Err-read_steps.ensures.fault
+
+pub returns-in-Err-read_steps-clause-fault : goal.returns-in-Err-read_steps-clause-fault
+returns-in-Err-read_steps-clause-fault c =
+    let parts = c.parts_of-parts.ensures in
+    steps_fault c.args.text.now c.parts_of-parts.result.opening.now c.parts_of-parts.result.steps.now c.in-Ok.rows c.parts_of-parts.result.first c.in-Err-read_steps.fault parts.opening parts.steps parts.first c.in-Ok.ensures.found c.in-Err-read_steps.ensures.fault

@@ -12,7 +12,7 @@ from_line-requires c =
 pub returns-in_default : goal.returns-in_default
 returns-in_default c =
     let s = run_more c.args.text.now _ _ c.pieces.rest.now _ _ _ c.pieces.invariant.seen c.plain_run.ensures.run c.plain_run.ensures.behind c.in_ok-push_str.ensures.bytes in
-    (subst (λ (t : List ℕ). IsSeen c.args.text.now t c.pieces.is_bare c.plain_run.result.1.now) (sym (c.in_ok-word.ensures ∙ c.as_str.ensures.value)) s, word_ends_at c.pieces.rest.now _ c.plain_run.ensures.behind c.in_default.ensures.none)
+    (subst (λ (t : List ℕ). IsSeen c.args.text.now t c.pieces.is_bare c.plain_run.result.1.now) (sym (c.in_ok-word.ensures.text ∙ c.as_str.ensures.value)) s, word_ends_at c.pieces.rest.now _ c.plain_run.ensures.behind c.in_default.ensures.none)
 
 pub returns-in_default-closed : goal.returns-in_default-closed
 returns-in_default-closed c =

@@ -30,8 +30,9 @@ invariant_of-desk c =
     let it = desk_use _ _ c.desk.inside.seat.me _ _ _ _ _ _ c.args.row _ c.desk.view_is c.self.view_is c.desk.invariant c.self.invariant c.requires.table c.requires.row.1 in
     let n : ℕ = c.holder-builder.result in
     let at : n ≡ c.requires.row.0 = c.holder-builder.ensures.seen _ c.requires.row.1 in
-    desk_after _ _ _ (with_deed n (Claim c.args.row) (with_row c.args.row (Known n) (desk_in c.desk.inside.seat.me.0))) _ _ (c.store.ensures.2 c.args.row n refl c.noted_word.ensures).2 c.store.ensures.0
-    (keeps_note _ _ _ _ c.args.row n (Claim c.args.row) c.desk.invariant.1 (c.desk.invariant.1.seen c.args.row _ it.here ∙ sym at))
+    let told = c.store.ensures.2 c.args.row n refl c.noted_word.ensures in
+    desk_after _ _ _ (with_deed n (Claim c.args.row) (with_row c.args.row (Known n) (desk_in c.desk.inside.seat.me.0))) _ _ told.2 c.store.ensures.0
+    (keeps_note _ _ _ _ c.args.row n (Claim c.args.row) c.desk.invariant.1 (c.desk.invariant.1.seen c.args.row _ it.here ∙ sym at) told.0 told.1)
 
 pub returns-clause-one_of_the_boards : goal.returns-clause-one_of_the_boards
 returns-clause-one_of_the_boards c =

@@ -40,7 +40,7 @@ invariant_of-desk-2 c =
     let count : c.desk.inside.builders ≡ length (desk_in c.desk.inside.seat.me.0).noted = c.desk.invariant.1.count in
     let few : c.desk.inside.builders ≤ 64 = c.desk.invariant.1.few in
     let high : b ≤ length (desk_in c.desk.inside.seat.me.0).noted = told.3 in
-    let now = keeps_seen _ _ _ _ c.args.row b c.desk.invariant.1 it.less (omega arith) in
+    let now = keeps_seen _ _ _ _ c.args.row b c.desk.invariant.1 it.less (omega arith) told.2 told.3 in
     desk_after _ _ _ (with_row c.args.row (Seen b) (desk_in c.desk.inside.seat.me.0)) _ _ told.4 c.compare_exchange-found.ensures.0
     (subst (λ n. IsDesk c.desk.inside.seat.table_id (with_row c.args.row (Seen b) (desk_in c.desk.inside.seat.me.0)) (set c.desk.inside.holders.items c.args.row n) c.desk.inside.builders) (sym is) now)
 

@@ -23,7 +23,7 @@ invariant_of-self c =
     let same : c.in-Some-take_held.key ≡ f.0 = let is = sym c.in-Some-take_held.is ∙ held in cc in
     let phases : c.put_phase.new.phases.items ≡ set w.phases (number_of w.history.opening f.0) (Done b o) = c.put_phase.ensures ∙ (λ j. set w.phases (number_of w.history.opening (same j)) (Done b (c.in_ok-told.ensures j))) in
     let hands : c.put_hand.new.hands.items ≡ set w.hands (b - 1) (Finished f.0 o) = c.put_hand.ensures ∙ ap (λ (hs : List Hand). set hs (b - 1) (Finished c.in-Some-take_held.key o)) c.take_held.ensures.free ∙ set-set w.hands (b - 1) Free (Finished c.in-Some-take_held.key o) ∙ ap (λ (k : Key). set w.hands (b - 1) (Finished k o)) same in
-    subst (λ (v : WorldView). IsWorld v) (λ j. record { history = w.history; supply = w.supply; phases = sym phases j; hands = sym hands j }) (IsWorld-finished w b o f.0 c.self.invariant f.1.1)
+    subst (λ (v : WorldView). IsWorld v) (λ j. record { history = w.history; supply = w.supply; phases = sym phases j; hands = sym hands j }) (IsWorld-finished w b o f.0 c.self.invariant f.1.0 f.1.1)
 
 pub returns-clause-ok : goal.returns-clause-ok
 returns-clause-ok c =

@@ -1,20 +1,18 @@
-use Rattle.std.proofs.Common.{List, ap, sym, subst, ◌∙◌}
+use Rattle.std.proofs.Common.{◌<◌, List, length, ap, sym, subst, ◌∙◌, rules}
 use Rattle.td_rows.specs.declared.key.Key.{Key}
 use Rattle.td_rows.specs.declared.kind.Kind.TheVariants.{Sweep}
 use Rattle.td_rows.specs.Keys.{ascending}
 use Rattle.td_rows.specs.Table.{AppliesOn}
 use Rattle.td_core.specs.History.{rows_of, with_entry}
 use Rattle.td_core.specs.Worlds.{WorldView, IsWorld}
-use Rattle.td_core.specs.Steps.{supply_of, swept_now}
-use Rattle.td_core.proofs.Freeing.{ascending-freed}
-use Rattle.td_core.proofs.Phases.{keys_of-rows_of}
-use Rattle.td_core.proofs.Worlds.{IsWorld-swept, AppliesOn-swept_now}
+use Rattle.td_core.specs.Steps.{swept_now}
+use Rattle.td_core.proofs.Worlds.{IsWorld-swept, AppliesOn-swept_now, rising-swept_now}
 use Rattle.td_core.proofs.world.World.sweep.Goals as goal
 
 pub new-keys-requires-clause-rising : goal.new-keys-requires-clause-rising
 new-keys-requires-clause-rising c =
     let w : WorldView = record { history = c.self.inside.kept.history; supply = c.self.inside.kept.stock; phases = c.self.inside.phases.items; hands = c.self.inside.hands.items } in
-    ap ascending c.in_ok-keys.ensures ∙ ascending-freed (supply_of w) (rows_of w.history) (ap ascending (keys_of-rows_of w.history) ∙ c.self.invariant.rising)
+    ap ascending c.in_ok-keys.ensures ∙ rising-swept_now w c.self.invariant
 
 pub append-requires-clause-applies : goal.append-requires-clause-applies
 append-requires-clause-applies c =
@@ -24,5 +22,7 @@ append-requires-clause-applies c =
 pub invariant_of-self-2 : goal.invariant_of-self-2
 invariant_of-self-2 c =
     let w : WorldView = record { history = c.self.inside.kept.history; supply = c.self.inside.kept.stock; phases = c.self.inside.phases.items; hands = c.self.inside.hands.items } in
+    let some : 0 < length c.in_ok-keys.keys.items = search rules in
     let history = c.in_ok-append.ensures.ok ∙ ap (λ (ks : List Key). with_entry w.history (record { kind = Sweep; keys = ks })) (c.new-keys.ensures ∙ c.in_ok-keys.ensures) in
-    subst (λ (v : WorldView). IsWorld v) (λ j. record w { history = sym history j; supply = sym c.append.ensures.stock j }) (IsWorld-swept w (swept_now w) c.self.invariant (AppliesOn-swept_now w c.self.invariant))
+    subst (λ (v : WorldView). IsWorld v) (λ j. record w { history = sym history j; supply = sym c.append.ensures.stock j }) (IsWorld-swept w (swept_now w) c.self.invariant
+    (record { rising = rising-swept_now w c.self.invariant; some = subst (λ (ks : List Key). 0 < length ks) c.in_ok-keys.ensures some }) (AppliesOn-swept_now w c.self.invariant))

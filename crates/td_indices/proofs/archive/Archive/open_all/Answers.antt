@@ -1,5 +1,7 @@
 use Rattle.std.proofs.Common.{◌≡◌, ◌&&◌, ◌<◌, ◌≤◌, ◌+◌, ℕ, List, length, slice_get, subst, ap, ◌∙◌, arith, refl}
+use Rattle.td_relation.specs.Table.{IsApart}
 use Rattle.td_rows.specs.Table.{row_of}
+use Rattle.td_indices.specs.Archive.{Contents}
 use Rattle.td_rows.proofs.StateTexts.{has_newline-Without}
 use Rattle.td_text.proofs.Words.{Without-name}
 use Rattle.td_indices.proofs.OpeningRows.{all_opened, none_shown, rows_left, source_opened, source_shown}
@@ -11,8 +13,11 @@ use Rattle.td_indices.specs.Rows.{rows_before}
 use Rattle.td_indices.proofs.archive.Archive.open_all.Goals as goal
 use Rattle.td_indices.proofs.archive.Archive.open_all.Goals.{in-Some+in_ok-open_source, in_default}
 
-pub open_source-requires : goal.open_source-requires
-open_source-requires c = has_newline-Without c.in-Some.source.name.now (Without-name 10 c.in-Some.source.name.now refl c.in-Some.ensures.legal)
+pub open_source-requires-clause-apart : goal.open_source-requires-clause-apart
+open_source-requires-clause-apart c = subst (λ (v : Contents). IsApart v.table) c.self.view_is c.self.inside.archs.now.apart
+
+pub open_source-requires-clause-source : goal.open_source-requires-clause-source
+open_source-requires-clause-source c = has_newline-Without c.in-Some.source.name.now (Without-name 10 c.in-Some.source.name.now refl c.in-Some.ensures.legal)
 
 pub loop-number-preserved : goal.loop-number-preserved
 loop-number-preserved c = elim c.match-source_at.branch [

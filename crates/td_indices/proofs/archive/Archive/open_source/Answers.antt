@@ -23,14 +23,14 @@ loop-place-preserved c =
           let has : has_row a.table c.args.archs.now c.loop-place.place ≡ true = sym c.has_row_at.ensures ∙ w.if-has_row_at.true in
           let more = rows_next a.table c.args.archs.now c.loop-place.place has in
           record {
-            opened = λ k. opened_next a c.args.rows.now.entries c.loop-place.rows.entries c.if-has_row_at.rows.entries c.args.source.now c.args.archs.now c.loop-place.place within has c.loop-place.invariant.opened (λ q. ap (λ m. row_of m.entries q) w.rows-is ∙ w.in_ok-open_at.ensures.rows q) k;
+            opened = λ k. opened_next a c.args.rows.now.entries c.loop-place.rows.entries c.if-has_row_at.rows.entries c.args.source.now c.args.archs.now c.loop-place.place c.requires.apart within has c.loop-place.invariant.opened (λ q. ap (λ m. row_of m.entries q) w.rows-is ∙ w.in_ok-open_at.ensures.rows q) k;
             few = (let is = ap (λ m. length m.entries) w.rows-is in let one = w.in_ok-open_at.ensures.few in let before = c.loop-place.invariant.few in omega arith);
           }
       | else-has_row_at w ↦
           let none : has_row a.table c.args.archs.now c.loop-place.place ≡ false = sym c.has_row_at.ensures ∙ w.if-has_row_at.false in
           let same = rows_past a.table c.args.archs.now c.loop-place.place none in
           record {
-            opened = λ k. ap (λ m. row_of m.entries k) w.rows-is ∙ c.loop-place.invariant.opened k ∙ opened_past a c.args.source.now c.args.archs.now c.loop-place.place within none k (row_of c.args.rows.now.entries k);
+            opened = λ k. ap (λ m. row_of m.entries k) w.rows-is ∙ c.loop-place.invariant.opened k ∙ opened_past a c.args.source.now c.args.archs.now c.loop-place.place none k (row_of c.args.rows.now.entries k);
             few = (let is = ap (λ m. length m.entries) w.rows-is in let before = c.loop-place.invariant.few in omega arith);
           }
     ]

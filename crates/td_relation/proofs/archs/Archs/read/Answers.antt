@@ -6,7 +6,7 @@ use Rattle.td_text.specs.Lines.{lines_of}
 use Rattle.td_text.specs.Words.{is_arch}
 use Rattle.td_relation.specs.Arch.{ArchFits, words_of}
 use Rattle.td_relation.specs.declared.arch.Arch.{Arch}
-use Rattle.td_relation.proofs.ArchTexts.{IsTable-read, IsTable-one, IsTable-fails, FaultOf-read}
+use Rattle.td_relation.proofs.ArchTexts.{IsTable-read, IsTable-one, IsTable-fails, FaultOf-read, refused-for, not-refused}
 use Rattle.td_relation.proofs.archs.Archs.read.Goals as goal
 
 pub returns-in_err-list-clause-only : goal.returns-in_err-list-clause-only
@@ -32,3 +32,14 @@ legal (a ∷ list) fits = and_from (is_arch a.name.now) (list_all (λ (b : Arch)
 
 pub invariant_of-result-clause-named : goal.invariant_of-result-clause-named
 invariant_of-result-clause-named c = legal c.in_ok-list.list.items (IsTable-read (lines_of c.args.text.now) (map words_of c.in_ok-list.list.items) c.in_ok-list.ensures.ok).fits
+
+pub invariant_of-result-clause-apart : goal.invariant_of-result-clause-apart
+invariant_of-result-clause-apart c = (IsTable-read (lines_of c.args.text.now) (map words_of c.in_ok-list.list.items) c.in_ok-list.ensures.ok).fresh
+
+pub returns-in_err-list-clause-refused : goal.returns-in_err-list-clause-refused
+returns-in_err-list-clause-refused c = λ fault is.
+    let p = err_from_is_err_and c.from_residual.result c.from_residual.ensures.1 in
+    rw (p.1, p.2) (refused-for (lines_of c.args.text.now) fault c.in_err-list.field-0.0 is c.in_err-list.ensures.err)
+
+pub returns-clause-refused : goal.returns-clause-refused
+returns-clause-refused c = λ fault is. not-refused (lines_of c.args.text.now) (map words_of c.in_ok-list.list.items) fault c.in_ok-list.ensures.ok is

@@ -1,0 +1,7 @@
+-- A field without where its texts lie in memory.
+use Rattle.td_stanza.specs.declared.entry.Field.{Field}
+use Rattle.td_stanza.specs.Field.{Entry}
+
+-- its name and its value
+abbrev pub shown : Field → Entry
+shown field = record { name = field.name.now; value = field.value.now }

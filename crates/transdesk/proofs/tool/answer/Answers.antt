@@ -1,0 +1,21 @@
+use Rattle.std.proofs.Common.{map, string_bytes}
+use Rattle.transdesk.proofs.Asks.{simulated, checked, only_asked}
+use Rattle.transdesk.proofs.tool.answer.Goals as goal
+
+pub returns : goal.returns
+returns g c =
+    let words = map string_bytes c.args.words.now in
+    let known = g.R.Read.remaining c.args.reader.now in
+    let bytes = g.T.Texts.bytes c.args.texts.now in
+    let can_fail = g.T.Texts.can_fail c.args.texts.now in
+    let old = g.W.Write.contents c.args.output.now in
+    let new = g.W.Write.contents c.act.new.output in
+    let before = g.E.Write.contents c.args.faults.now in
+    let said = g.E.Write.contents c.act.new.faults in
+    let asked = c.read_words.result in
+    let status = c.act.result in
+    record {
+      simulate = λ program is. simulated words known bytes can_fail old new before said status asked c.act.ensures.request c.act.ensures.fault (c.read_words.ensures.simulate program is);
+      check = λ archs packages sources asks. checked words known bytes can_fail old new before said status asked archs packages sources c.act.ensures.request c.act.ensures.fault (c.read_words.ensures.check archs packages sources asks);
+      others = only_asked words known bytes can_fail old new before said status asked c.act.ensures.request c.act.ensures.fault c.read_words.ensures.only;
+    }
