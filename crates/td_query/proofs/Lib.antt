@@ -1,0 +1,10 @@
+pub mod Runs
+pub mod Skips
+pub mod Patterns
+pub mod Chains
+pub mod Places
+pub mod TruthLaws
+pub mod Entries
+pub mod Unescaping
+pub mod PatternLists
+pub mod TrackerTexts

@@ -1,0 +1,11 @@
+use Rattle.std.proofs.Common.{◌≡◌, map, take}
+use Rattle.regex.specs.Strings.{regex_source}
+use Rattle.td_query.specs.Sources.{source_of, ArePatterns}
+use Rattle.td_query.specs.Views.{raw_of}
+use Rattle.td_query.proofs.compiling.compile.Given as goal
+
+abbrev pub invariant-loop-raw : goal.invariant-loop-raw
+invariant-loop-raw l = record {
+  sources : map regex_source l.patterns.items ≡ map source_of (map raw_of (take l.raw-index l.log));
+  fine : ArePatterns (map raw_of (take l.raw-index l.log));
+}

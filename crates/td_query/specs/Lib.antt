@@ -1,0 +1,11 @@
+pub mod Tokens
+pub mod Query
+pub mod QueryGrammar
+pub mod Views
+pub mod Standing
+pub mod Truth
+pub mod TrackerGrammar
+pub mod TrackerViews
+pub mod Sources
+pub mod TrackerFaults
+pub mod Tracking

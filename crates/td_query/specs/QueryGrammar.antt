@@ -1,0 +1,153 @@
+-- The grammar of queries, by cases on the text: what a text reads as, and at which byte it goes wrong. This project's own, in the style of ben.
+use Rattle.std.specs.Prelude.{ℕ, zero, suc, ◌-◌, ◌==◌, max, true, false, List, [], ◌∷◌, ◌++◌, Option, Some, None, Result, Ok, Err, length, codes, if◌then◌else◌}
+use Rattle.std.specs.Str.{bytes_eq}
+use Rattle.td_text.specs.Cut.{cut, strip}
+use Rattle.td_text.specs.Lines.{on_ok}
+use Rattle.td_relation.specs.Runs.{run, behind}
+use Rattle.td_query.specs.Query.{Shape, always, text, pattern, negated, all_of, any_of}
+use Rattle.td_query.specs.Tokens.{skipped, is_key_byte, common_len, pattern_in}
+
+-- a pattern as it stands in a text: how much of the text is left at its opening `/`, and what stands between its slashes
+pub record Raw : Type 0 where
+  pub left : ℕ
+  pub raw : List ℕ
+
+-- the patterns so far, in their order
+abbrev pub Log : Type 0
+Log = List Raw
+
+-- a query, the patterns so far and what follows; or how much of the text is left at the first byte that nothing can take, and the patterns before it
+abbrev pub Read : Type 0
+Read = Result (Shape × Log × List ℕ) (ℕ × Log)
+
+-- ---- 1. atoms
+
+-- how many bytes of a word `true` or `false` has in front
+abbrev pub begun : List ℕ → ℕ
+begun word = max (common_len word (codes "true")) (common_len word (codes "false"))
+
+-- `true` or `false`; another word is wrong at the first byte that leaves both
+unfoldable pub word_atom : Log → List ℕ → Read
+word_atom log at =
+    if bytes_eq (run is_key_byte at) (codes "true") then Ok (always true, log, behind is_key_byte at)
+    else (if bytes_eq (run is_key_byte at) (codes "false") then Ok (always false, log, behind is_key_byte at)
+    else Err (length at - begun (run is_key_byte at), log))
+
+-- a text up to its closing `"`, if there is one
+abbrev pub quote_atom : Log → List ℕ → Option (List ℕ × List ℕ) → Read
+quote_atom log field None = Err (0, log)
+quote_atom log field (Some p) = Ok (text field p.0, log, p.1)
+
+-- a pattern up to its closing `/`, if there is one
+unfoldable pub slash_atom : Log → List ℕ → ℕ → Option (List ℕ × List ℕ) → Read
+slash_atom log field left None = Err (0, log)
+slash_atom log field left (Some p) = Ok (pattern field (length log), log ++ record { left = left; raw = p.0 } ∷ [], p.1)
+
+-- a pattern behind its opening `/`, if there is one
+abbrev pub slashed : Log → List ℕ → ℕ → Option (List ℕ) → Read
+slashed log field left None = Err (left, log)
+slashed log field left (Some t) = slash_atom log field left (pattern_in t)
+
+-- a text behind its opening `"`, or else a pattern
+abbrev pub quoted : Log → List ℕ → List ℕ → Option (List ℕ) → Read
+quoted log field at None = slashed log field (length at) (strip (codes "/") at)
+quoted log field at (Some t) = quote_atom log field (cut 34 t)
+
+-- what stands behind a `~`
+unfoldable pub tested : Log → List ℕ → List ℕ → Read
+tested log field t = quoted log field (skipped t) (strip (codes "\"") (skipped t))
+
+-- a `~`, if there is one
+abbrev pub tilded : Log → List ℕ → ℕ → Option (List ℕ) → Read
+tilded log field left None = Err (left, log)
+tilded log field left (Some t) = tested log field t
+
+-- what stands behind the name of a field
+unfoldable pub tilde_atom : Log → List ℕ → List ℕ → Read
+tilde_atom log field t = tilded log field (length (skipped t)) (strip (codes "~") (skipped t))
+
+-- what stands behind a dot: the name of a field, right behind it
+unfoldable pub field_atom : Log → List ℕ → Read
+field_atom log t = if length (run is_key_byte t) == 0 then Err (length t, log) else tilde_atom log (run is_key_byte t) (behind is_key_byte t)
+
+-- a field behind its dot, or else a word
+abbrev pub dotted : Log → List ℕ → Option (List ℕ) → Read
+dotted log at None = word_atom log at
+dotted log at (Some t) = field_atom log t
+
+-- .field ~ "text" | .field ~ /pattern/ | true | false
+unfoldable pub atom : Log → List ℕ → Read
+atom log at = dotted log at (strip (codes ".") at)
+
+-- ---- 2. `!`, `&`, `|` and brackets
+
+-- what follows a mark, where it stands in front
+unfoldable pub behind_mark : List ℕ → List ℕ → Option (List ℕ)
+behind_mark mark t = strip mark (skipped t)
+
+-- a `)`, if there is one
+abbrev pub closed_by : Shape → Log → ℕ → Option (List ℕ) → Read
+closed_by shape log left None = Err (left, log)
+closed_by shape log left (Some t) = Ok (shape, log, t)
+
+-- behind what stands in brackets
+unfoldable pub closed : Shape × Log × List ℕ → Read
+closed x = closed_by x.0 x.1 (length (skipped x.2)) (strip (codes ")") (skipped x.2))
+
+-- behind a `!`
+abbrev pub negating : Shape × Log × List ℕ → Read
+negating x = Ok (negated x.0, x.1, x.2)
+
+-- a reading of what follows a mark, or else another
+abbrev pub or_else : Option (List ℕ) → (List ℕ → Read) → Read → Read
+or_else None f other = other
+or_else (Some t) f other = f t
+
+-- the parts so far, and with an `&` in front the next
+abbrev pub and_next : (Log → List ℕ → Read) → (List Shape → Log → List ℕ → Read) → List Shape → Log → List ℕ → Option (List ℕ) → Read
+and_next read more parts log t None = Ok (all_of parts, log, t)
+and_next read more parts log t (Some u) = on_ok (read log u) (λ x. more (parts ++ x.0 ∷ []) x.1 x.2)
+
+-- {"&" not} behind the parts so far, at most so many
+unfoldable pub more_and : (Log → List ℕ → Read) → ℕ → List Shape → Log → List ℕ → Read
+more_and read zero parts log t = Ok (all_of parts, log, t)
+more_and read (suc n) parts log t = and_next read (more_and read n) parts log t (behind_mark (codes "&") t)
+
+-- the parts so far, and with a `|` in front the next
+abbrev pub or_next : (Log → List ℕ → Read) → (List Shape → Log → List ℕ → Read) → List Shape → Log → List ℕ → Option (List ℕ) → Read
+or_next read more parts log t None = Ok (any_of parts, log, t)
+or_next read more parts log t (Some u) = on_ok (read log u) (λ x. more (parts ++ x.0 ∷ []) x.1 x.2)
+
+-- {"|" and} behind the parts so far, at most so many
+unfoldable pub more_or : (Log → List ℕ → Read) → ℕ → List Shape → Log → List ℕ → Read
+more_or read zero parts log t = Ok (any_of parts, log, t)
+more_or read (suc n) parts log t = or_next read (more_or read n) parts log t (behind_mark (codes "|") t)
+
+-- not {"&" not}; each takes a byte at least, so there are no more than bytes
+abbrev pub and_with : (Log → List ℕ → Read) → Log → List ℕ → Read
+and_with read log t = on_ok (read log t) (λ x. more_and read (length x.2) (x.0 ∷ []) x.1 x.2)
+
+-- and {"|" and}
+unfoldable pub or_with : (Log → List ℕ → Read) → Log → List ℕ → Read
+or_with read log t = on_ok (and_with read log t) (λ x. more_or (and_with read) (length x.2) (x.0 ∷ []) x.1 x.2)
+
+-- "!" not | "(" or ")" | atom, with so many brackets and `!` left to open
+unfoldable pub not_in : ℕ → Log → List ℕ → Read
+not_in zero log t =
+    or_else (strip (codes "!") (skipped t)) (λ u. Err (length (skipped t), log))
+    (or_else (strip (codes "(") (skipped t)) (λ u. Err (length (skipped t), log))
+    (atom log (skipped t)))
+not_in (suc depth) log t =
+    or_else (strip (codes "!") (skipped t)) (λ u. on_ok (not_in depth log u) negating)
+    (or_else (strip (codes "(") (skipped t)) (λ u. on_ok (or_with (not_in depth) log u) closed)
+    (atom log (skipped t)))
+
+abbrev pub not_at : ℕ → Log → List ℕ → Read
+not_at depth log t = not_in depth log t
+
+abbrev pub and_at : ℕ → Log → List ℕ → Read
+and_at depth log t = and_with (not_in depth) log t
+
+-- a query, with so many brackets and `!` left to open
+abbrev pub or_at : ℕ → Log → List ℕ → Read
+or_at depth log t = or_with (not_in depth) log t

@@ -1,0 +1,31 @@
+//! Trackers: which packages a transition affects, and which of them are good or bad. The language
+//! is this project's own, in the style of ben.
+//!
+//! Start at `Tracker::read`. `specs/TrackerGrammar.antt` says what a text's keys say,
+//! `specs/QueryGrammar.antt` what their queries are, both with the first byte that is wrong,
+//! `specs/Tracking.antt` which text is a tracker's, and `specs/TrackerFaults.antt` what the fault
+//! of another is.
+//! Promised: a text is read exactly where it is a tracker's, as that tracker, unless memory runs
+//! out or `regex` finds a pattern too large; else the first fault from the left is named, with its
+//! place.
+//! Inside, and not asked by anyone yet: `truth::holds`, whether a query holds on a stanza.
+#![tactic(auto)]
+
+mod atom;
+mod compiling;
+mod parse;
+mod query;
+mod read_fault;
+mod standing;
+#[cfg(test)]
+mod tests;
+mod tokens;
+mod tracker;
+mod tracker_fault;
+mod tracker_reading;
+mod truth;
+mod unescape;
+
+pub use query::Query;
+pub use tracker::Tracker;
+pub use tracker_fault::{TrackerFault, TrackerKey};

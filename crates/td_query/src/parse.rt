@@ -1,0 +1,131 @@
+ghost use Rattle.std.specs.Prelude.{◌<◌, ◌≡◌, List, length, IfOk, IfSome, map, option_map};
+ghost use Rattle.td_query.specs.declared.read_fault.RawPattern.{RawPattern};
+ghost use Rattle.td_query.specs.Query.{shape_of};
+ghost use Rattle.td_query.specs.QueryGrammar.{and_at, behind_mark, closed, not_at, or_at};
+ghost use Rattle.td_query.specs.Views.{Gives, raw_of};
+
+use crate::atom::read_atom;
+use crate::query::{Query, all_of, any_of};
+use crate::read_fault::{RawPattern, ReadFault};
+use crate::tokens::skip;
+use std::alloc::Global;
+use td_text::strip;
+
+/// How many brackets and `!` may be open at a place.
+pub const MAX_NESTING: u8 = 100;
+
+// What follows a mark, where it stands in front.
+#[tactic(auto, unfolding(crate::specs::QueryGrammar::behind_mark))]
+fn behind<'a>(text: &'a str, mark: &str) -> Option<&'a str>
+    requires { length mark.now ≡ 1 }
+    ensures value { option_map (λ x. x.now) result ≡ behind_mark mark.now text.now }
+    ensures shorter { IfSome result (λ x. length x.now < length text.now) }
+{
+    strip(skip(text), mark)
+}
+
+// Takes the closing bracket behind a query.
+#[tactic(auto, unfolding(crate::specs::QueryGrammar::closed))]
+fn close<'a>(inner: Query<'a>, text: &'a str) -> Result<(Query<'a>, &'a str), ReadFault>
+    ensures gives { (log : List RawPattern) → Gives result log (closed (shape_of inner.entry, map raw_of log, text.now)) }
+    ensures shorter { IfOk result (λ x. length x.1.now < length text.now) }
+{
+    let at = skip(text);
+    match strip(at, ")") {
+        Some(rest) => Ok((inner, rest)),
+        None => Err(ReadFault::Syntax(at.len())),
+    }
+}
+
+#[cycle(parser)]
+#[tactic(auto, unfolding(crate::specs::QueryGrammar::not_in))]
+fn read_not<'a>(
+    alloc: Global,
+    text: &'a str,
+    depth: u8,
+    log: &mut Vec<RawPattern<'a>>,
+) -> Result<(Query<'a>, &'a str), ReadFault>
+    ensures gives { Gives result log.new.items (not_at depth (map raw_of log.old.items) text.now) }
+    ensures shorter { IfOk result (λ x. length x.1.now < length text.now) }
+{
+    let at = skip(text);
+    if let Some(rest) = strip(at, "!") {
+        if depth == 0 {
+            return Err(ReadFault::Syntax(at.len()));
+        }
+        let (inner, rest) = read_not(alloc, rest, depth - 1, log)?;
+        let inner = Box::new(alloc, inner)?;
+        return Ok((Query::Not(inner), rest));
+    }
+    if let Some(rest) = strip(at, "(") {
+        if depth == 0 {
+            return Err(ReadFault::Syntax(at.len()));
+        }
+        let (inner, rest) = read_or(alloc, rest, depth - 1, log)?;
+        return close(inner, rest);
+    }
+    read_atom(at, log)
+}
+
+#[cycle(parser)]
+#[tactic(auto, unfolding(crate::specs::QueryGrammar::more_and))]
+fn read_and<'a>(
+    alloc: Global,
+    text: &'a str,
+    depth: u8,
+    log: &mut Vec<RawPattern<'a>>,
+) -> Result<(Query<'a>, &'a str), ReadFault>
+    ensures gives { Gives result log.new.items (and_at depth (map raw_of log.old.items) text.now) }
+    ensures shorter { IfOk result (λ x. length x.1.now < length text.now) }
+{
+    let (first, mut rest) = read_not(alloc, text, depth, log)?;
+    let mut parts = Vec::new(alloc);
+    parts.push(first)?;
+    while let Some(after) = behind(rest, "&") {
+        let (next, left) = match read_not(alloc, after, depth, log) {
+            Ok(read) => read,
+            Err(fault) => return Err(fault),
+        };
+        parts.push(next)?;
+        rest = left;
+    }
+    Ok((all_of(parts), rest))
+}
+
+#[cycle(parser)]
+#[tactic(auto, unfolding(crate::specs::QueryGrammar::more_or, crate::specs::QueryGrammar::or_with))]
+fn read_or<'a>(
+    alloc: Global,
+    text: &'a str,
+    depth: u8,
+    log: &mut Vec<RawPattern<'a>>,
+) -> Result<(Query<'a>, &'a str), ReadFault>
+    ensures gives { Gives result log.new.items (or_at depth (map raw_of log.old.items) text.now) }
+    ensures shorter { IfOk result (λ x. length x.1.now < length text.now) }
+{
+    let (first, mut rest) = read_and(alloc, text, depth, log)?;
+    let mut parts = Vec::new(alloc);
+    parts.push(first)?;
+    while let Some(after) = behind(rest, "|") {
+        let (next, left) = match read_and(alloc, after, depth, log) {
+            Ok(read) => read,
+            Err(fault) => return Err(fault),
+        };
+        parts.push(next)?;
+        rest = left;
+    }
+    Ok((any_of(parts), rest))
+}
+
+/// The query at the front of a text, and what follows it. Its patterns are put behind those of
+/// the log.
+pub fn read_query<'a>(
+    alloc: Global,
+    text: &'a str,
+    log: &mut Vec<RawPattern<'a>>,
+) -> Result<(Query<'a>, &'a str), ReadFault>
+    ensures gives { Gives result log.new.items (or_at 100 (map raw_of log.old.items) text.now) }
+    ensures shorter { IfOk result (λ x. length x.1.now < length text.now) }
+{
+    read_or(alloc, text, MAX_NESTING, log)
+}

@@ -1,0 +1,39 @@
+use std::alloc::{AllocError, AllocFailed};
+
+/// Why a reading stopped.
+#[derive(Clone, Copy, Debug, PartialEq, Eq)]
+pub enum ReadFault {
+    /// With so many bytes left.
+    Syntax(usize),
+    NoMemory,
+}
+
+impl From<AllocError> for ReadFault {
+    ghost use Rattle.std.specs.Prelude.{◌≡◌};
+    ghost use Rattle.td_query.specs.declared.read_fault.ReadFault.TheVariants.{NoMemory};
+
+    ghost from_gives = { λ _ fault. fault ≡ NoMemory };
+
+    fn from(_error: AllocError) -> ReadFault {
+        ReadFault::NoMemory
+    }
+}
+
+impl<T: Drop> From<AllocFailed<T>> for ReadFault {
+    ghost use Rattle.std.specs.Prelude.{◌≡◌};
+    ghost use Rattle.td_query.specs.declared.read_fault.ReadFault.TheVariants.{NoMemory};
+
+    ghost from_gives = { λ _ fault. fault ≡ NoMemory };
+
+    fn from(_error: AllocFailed<T>) -> ReadFault {
+        ReadFault::NoMemory
+    }
+}
+
+/// A pattern as it stands in a text: how much of the text is left at its opening `/`, and what
+/// stands between its slashes.
+#[derive(Clone, Copy, Debug)]
+pub struct RawPattern<'a> {
+    pub left: usize,
+    pub raw: &'a str,
+}

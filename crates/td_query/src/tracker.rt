@@ -1,0 +1,94 @@
+ghost use Rattle.std.specs.Prelude.{◌≡◌, IfErr, IfOk, length, map};
+ghost use Rattle.regex.specs.Strings.{regex_source};
+ghost use Rattle.td_query.specs.TrackerFaults.{FaultOf, IsMissing, IsPatternFault, log_in};
+ghost use Rattle.td_query.specs.TrackerGrammar.{said_in};
+ghost use Rattle.td_query.specs.Tracking.{IsSaid, IsTracker, Tracking, tracking};
+ghost use Rattle.td_query.specs.TrackerViews.{said};
+
+use crate::compiling::compile;
+use crate::query::Query;
+use crate::read_fault::ReadFault;
+use crate::tracker_fault::{TrackerFault, TrackerKey};
+use crate::tracker_reading::{Keys, no_keys, read_entries};
+use regex::Regex;
+use std::alloc::Global;
+
+/// Which packages a transition affects, and which of them are good or bad.
+#[derive(Drop)]
+pub struct Tracker<'a> {
+    title: &'a str,
+    affected: Query<'a>,
+    good: Query<'a>,
+    bad: Query<'a>,
+    patterns: Vec<Regex>,
+}
+
+// The tracker of these keys, if none is missing.
+fn whole<'a>(keys: Keys<'a>, patterns: Vec<Regex>) -> Result<Tracker<'a>, TrackerKey>
+    ensures found { IfOk result (λ t. IsSaid (said keys.entry) (map regex_source patterns.items) (tracking t)) }
+    ensures missing { IfErr result (IsMissing (said keys.entry)) }
+{
+    let Keys {
+        title,
+        affected,
+        good,
+        bad,
+        log: _,
+    } = keys;
+    let Some(affected) = affected else {
+        return Err(TrackerKey::IsAffected);
+    };
+    let Some(good) = good else {
+        return Err(TrackerKey::IsGood);
+    };
+    let Some(bad) = bad else {
+        return Err(TrackerKey::IsBad);
+    };
+    Ok(Tracker {
+        title,
+        affected,
+        good,
+        bad,
+        patterns,
+    })
+}
+
+impl<'a> Tracker<'a> {
+    /// Reads a tracker. The first fault from the left decides, and a pattern stands before what
+    /// follows it; then the keys that are missing, in the order `is_affected`, `is_good`, `is_bad`.
+    pub fn read(alloc: Global, text: &'a str) -> Result<Tracker<'a>, TrackerFault>
+        // What is read is the tracker of the text.
+        ensures found { IfOk result (λ t. IsTracker text.now (tracking t)) }
+        // A tracker is read, unless memory runs out, or `regex` refuses a pattern that is one: it
+        // may be too large.
+        ensures only { (t : Tracking) → IsTracker text.now t →
+            IfErr result (IsPatternFault (length text.now) (log_in (said_in text.now))) }
+        // A fault is the text's first, or want of memory.
+        ensures fault { IfErr result (FaultOf text.now) }
+    {
+        let mut keys = no_keys(alloc);
+        let left = match read_entries(alloc, text, &mut keys) {
+            Ok(()) => None,
+            Err(ReadFault::Syntax(left)) => Some(left),
+            Err(ReadFault::NoMemory) => return Err(TrackerFault::NoMemory),
+        };
+        let patterns = match compile(alloc, text.len(), keys.log.as_slice()) {
+            Ok(patterns) => patterns,
+            Err(fault) => return Err(fault),
+        };
+        if let Some(left) = left {
+            return Err(TrackerFault::Syntax(text.len().saturating_sub(left)));
+        }
+        match whole(keys, patterns) {
+            Ok(tracker) => Ok(tracker),
+            Err(key) => Err(TrackerFault::MissingKey(key)),
+        }
+    }
+
+    /// The title; empty where none was given.
+    pub fn title(&self) -> &'a str
+        ensures { result.now ≡ (tracking self.now).title }
+    {
+        self.title
+    }
+}

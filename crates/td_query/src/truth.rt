@@ -1,0 +1,96 @@
+ghost use Rattle.std.specs.Prelude.{◌≡◌, IfOk, length, map, option_map, slice_get};
+ghost use Rattle.regex.specs.Strings.{matcher_pattern, regex_pattern};
+ghost use Rattle.td_stanza.specs.StanzaGrammar.{IsDistinct};
+ghost use Rattle.td_stanza.specs.Table.{fields_of};
+ghost use Rattle.td_indices.specs.Fields.{value_of as value_in};
+ghost use Rattle.td_query.specs.Query.{all_of, any_of, shape_of};
+ghost use Rattle.td_query.specs.Truth.{is_found as is_found_of, truth};
+
+use crate::query::Query;
+use crate::standing::stands_in;
+use regex::{Matcher, Regex};
+use std::alloc::{AllocError, Global};
+use td_stanza::Stanza;
+
+// The value of a field.
+fn value_of<'a>(stanza: &Stanza<'_, 'a>, name: &str) -> Option<&'a str>
+    requires { IsDistinct (fields_of stanza.now) }
+    ensures { option_map (λ x. x.now) result ≡ value_in (fields_of stanza.now) name.now }
+{
+    stanza.get(name)
+}
+
+// Whether the pattern of a number, if there is one, is found in the value.
+fn is_found(matchers: &mut Vec<Matcher>, number: usize, value: &str) -> bool
+    ensures found { result ≡ is_found_of (slice_get (map matcher_pattern matchers.old.items) number) value.now }
+    ensures same { map matcher_pattern matchers.new.items ≡ map matcher_pattern matchers.old.items }
+{
+    if number >= matchers.len() {
+        return false;
+    }
+    matchers[number].is_match(value)
+}
+
+/// Whether the query holds on the stanza.
+#[cycle(holds)]
+pub fn holds(query: &Query, stanza: &Stanza, matchers: &mut Vec<Matcher>) -> bool
+    requires { IsDistinct (fields_of stanza.now) }
+    ensures truth { result ≡ truth (map matcher_pattern matchers.old.items) (fields_of stanza.now) (shape_of query.now) }
+    ensures same { map matcher_pattern matchers.new.items ≡ map matcher_pattern matchers.old.items }
+{
+    match query {
+        Query::Always(answer) => *answer,
+        Query::Text(field, text) => match value_of(stanza, field) {
+            None => false,
+            Some(value) => stands_in(text.as_bytes(), value.as_bytes()),
+        },
+        Query::Pattern(field, number) => match value_of(stanza, field) {
+            None => false,
+            Some(value) => is_found(matchers, *number, value),
+        },
+        Query::Not(part) => !holds(part, stanza, matchers),
+        Query::All(parts) => all_hold(parts, stanza, matchers),
+        Query::Any(parts) => any_holds(parts, stanza, matchers),
+    }
+}
+
+// Whether each part holds.
+#[cycle(holds)]
+fn all_hold(parts: &[Query], stanza: &Stanza, matchers: &mut Vec<Matcher>) -> bool
+    requires { IsDistinct (fields_of stanza.now) }
+    ensures truth { result ≡ truth (map matcher_pattern matchers.old.items) (fields_of stanza.now) (all_of (map shape_of parts.now)) }
+    ensures same { map matcher_pattern matchers.new.items ≡ map matcher_pattern matchers.old.items }
+{
+    for i in 0..parts.len() {
+        if !holds(&parts[i], stanza, matchers) {
+            return false;
+        }
+    }
+    true
+}
+
+// Whether some part holds.
+#[cycle(holds)]
+fn any_holds(parts: &[Query], stanza: &Stanza, matchers: &mut Vec<Matcher>) -> bool
+    requires { IsDistinct (fields_of stanza.now) }
+    ensures truth { result ≡ truth (map matcher_pattern matchers.old.items) (fields_of stanza.now) (any_of (map shape_of parts.now)) }
+    ensures same { map matcher_pattern matchers.new.items ≡ map matcher_pattern matchers.old.items }
+{
+    for i in 0..parts.len() {
+        if holds(&parts[i], stanza, matchers) {
+            return true;
+        }
+    }
+    false
+}
+
+/// What searches for each pattern, made once for a pass over many stanzas.
+pub fn matchers_of<'r>(alloc: Global, patterns: &'r [Regex]) -> Result<Vec<Matcher<'r>>, AllocError>
+    ensures { IfOk result (λ matchers. map matcher_pattern matchers.items ≡ map regex_pattern patterns.now) }
+{
+    let mut matchers = Vec::new(alloc);
+    for pattern in patterns {
+        matchers.push(pattern.matcher(alloc)?)?;
+    }
+    Ok(matchers)
+}
