@@ -1,0 +1,18 @@
+-- The affected sources by number, and which of them build on which.
+use Rattle.std.specs.Prelude.{◌≡◌, ◌<◌, ◌&&◌, ℕ, List, [], length, nat_lt, slice_index_or}
+use Rattle.std.specs.Borrow.{Bor}
+use Rattle.std.specs.Global.{Vec}
+use Rattle.td_indices.specs.Archive.{Contents}
+use Rattle.td_waves.specs.Asking.{has}
+use Rattle.td_waves.specs.BuildsOn.{builds_on}
+use Rattle.td_waves.specs.Graph.{bases_of, lists}
+use Rattle.td_waves.specs.Named.{texts}
+
+-- the name with a number
+abbrev pub name_at : List (Bor (List ℕ)) → ℕ → List ℕ
+name_at names number = slice_index_or (texts names) number []
+
+-- for each name the numbers of those on which its source builds
+pub record AreEdges (a : Contents) (names : List (Bor (List ℕ))) (graph : List (Vec ℕ)) : Type 0 where
+  pub all : length graph ≡ length names
+  pub edges : (s t : ℕ) → s < length names → has t (bases_of (lists graph) s) ≡ (nat_lt t (length names) && builds_on a (name_at names s) (name_at names t))
