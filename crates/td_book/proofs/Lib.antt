@@ -1,0 +1,9 @@
+pub mod Seeing
+pub mod Deeds
+pub mod Steps
+pub mod Calls
+pub mod Builds
+pub mod Finding
+pub mod Skipping
+pub mod Ends
+pub mod Fixed

@@ -1,0 +1,5 @@
+use Rattle.td_book.specs.Building.{head_key}
+use Rattle.td_book.proofs.inner.Inner.finish.Given as goal
+
+abbrev pub ghost-know : goal.ghost-know
+ghost-know a = head_key a.claim

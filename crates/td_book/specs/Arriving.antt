@@ -1,0 +1,30 @@
+-- What an arrival and a sweep do to a book. This project's own.
+use Rattle.std.specs.Prelude.{◌≡◌, ◌≢◌, ℕ, ◌+◌, true, false, List, [], ◌∷◌, Option, Some, None, Result, Ok, Err, length}
+use Rattle.std.specs.declared.alloc.AllocError.{AllocError}
+use Rattle.td_rows.specs.declared.key.Key.{Key}
+use Rattle.td_rows.specs.declared.row.Row.{Row}
+use Rattle.td_rows.specs.declared.kind.Kind.TheVariants.{Arrive, Sweep}
+use Rattle.td_rows.specs.Meaning.{applies}
+use Rattle.td_rows.specs.Table.{row_of}
+use Rattle.td_core.specs.History.{rows_of, with_entry}
+use Rattle.td_core.specs.Offers.{freed, supply_now}
+use Rattle.td_book.specs.Desk.{BookModel}
+use Rattle.td_book.specs.declared.arriving.ArriveRefusal.{ArriveRefusal}
+use Rattle.td_book.specs.declared.arriving.ArriveRefusal.TheVariants.{NoSuchRow, DoesNotApply, NoMemory}
+
+-- the entry on the key, where its row has been built or uploaded; else, and for want of memory, nothing
+abbrev pub ArriveOutcome : Key → BookModel → BookModel → Result ℕ ArriveRefusal → Type 0
+ArriveOutcome k old new (Ok n) = (row : Row) × (row_of (rows_of old.history) k ≡ Some row) × (applies Arrive row ≡ true) × (new ≡ record old { history = with_entry old.history (record { kind = Arrive; keys = k ∷ [] }) }) × (n ≡ length old.history.journal + 1)
+ArriveOutcome k old new (Err NoSuchRow) = (row_of (rows_of old.history) k ≡ None) × (new ≡ old)
+ArriveOutcome k old new (Err (DoesNotApply s)) = (row : Row) × (row_of (rows_of old.history) k ≡ Some row) × (applies Arrive row ≡ false) × (s ≡ row.state) × (new ≡ old)
+ArriveOutcome k old new (Err NoMemory) = new ≡ old
+
+-- the keys of the rows that the offers free now
+abbrev pub freed_now : BookModel → List Key
+freed_now b = freed (supply_now b.fixed.stock b.history) (rows_of b.history)
+
+-- the entry on all of them, if there are any
+abbrev pub SweepOutcome : BookModel → BookModel → Result (Option ℕ) AllocError → Type 0
+SweepOutcome old new (Ok None) = (freed_now old ≡ []) × (new ≡ old)
+SweepOutcome old new (Ok (Some n)) = (freed_now old ≢ []) × (new ≡ record old { history = with_entry old.history (record { kind = Sweep; keys = freed_now old }) }) × (n ≡ length old.history.journal + 1)
+SweepOutcome old new (Err e) = new ≡ old

@@ -1,0 +1,11 @@
+pub mod Seen
+pub mod Deeds
+pub mod Desk
+pub mod Naming
+pub mod Skips
+pub mod Calls
+pub mod Commands
+pub mod Undoing
+pub mod Arriving
+pub mod Building
+pub mod Finishing

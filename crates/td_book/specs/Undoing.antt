@@ -1,0 +1,66 @@
+-- What an undo does to a book. This project's own.
+use Rattle.std.specs.Prelude.{◌≡◌, ℕ, ◌+◌, ◌≤◌, true, List, [], Option, Some, None, Result, Ok, Err, IsSomeAnd, if◌then◌else◌, length}
+use Rattle.td_rows.specs.declared.key.Key.{Key}
+use Rattle.td_rows.specs.Keys.{names}
+use Rattle.td_journal.specs.declared.entry.Mark.{Mark}
+use Rattle.td_journal.specs.declared.entry.Mark.TheVariants.{Standing, Undone}
+use Rattle.td_journal.specs.declared.entry.Marked.{Marked}
+use Rattle.td_journal.specs.Entries.{is_command, entry_at}
+use Rattle.td_journal.specs.Touching.{blocker}
+use Rattle.td_core.specs.History.{History, rows_of, with_entry, without_entry}
+use Rattle.td_core.specs.Refusals.{is_queued_at}
+use Rattle.td_book.specs.Seen.{seen_off}
+use Rattle.td_book.specs.Desk.{InnerModel, BookModel, Stays, Spent, claim_of}
+use Rattle.td_book.specs.Calls.{off_for}
+use Rattle.td_book.specs.declared.undoing.UndoRefusal.{UndoRefusal}
+use Rattle.td_book.specs.declared.undoing.UndoRefusal.TheVariants as undos
+
+-- the named rows are withdrawn, and no builder had won one
+pub record Unlost (named : List Key) (old new : InnerModel) : Type 0 where
+  pub history : new.books.history ≡ old.books.history
+  pub view : new.view ≡ seen_off named (rows_of new.books.history)
+  pub stays : Stays old new
+  pub spent : Spent named old.books new.books
+
+-- a builder had won a named row that was out, and the entry of its claim has this number
+pub record IsWon (before after : History) (builders : ℕ) (named : List Key) (n : ℕ) : Type 0 where
+  pub key : Key
+  pub is_named : names named key ≡ true
+  pub out : is_queued_at (rows_of before) key ≡ true
+  pub by : ℕ
+  pub one : 1 ≤ by
+  pub some_builder : by ≤ builders
+  pub now : after ≡ with_entry before (claim_of by key)
+  pub number : n ≡ length before.journal + 1
+
+-- that, and all rows are as at rest
+pub record LostOne (old new : InnerModel) (named : List Key) (n : ℕ) : Type 0 where
+  pub won : IsWon old.books.history new.books.history old.builders named n
+  pub view : new.view ≡ seen_off [] (rows_of new.books.history)
+  pub stays : Stays old new
+
+-- what an undo does of a standing command that no later entry touches
+abbrev pub UndoOutcome : ℕ → BookModel → BookModel → Result (Unit {0}) UndoRefusal → Type 0
+UndoOutcome n old new (Ok u) = new.history ≡ without_entry old.history n
+UndoOutcome n old new (Err undos.NoMemory) = new.history ≡ old.history
+UndoOutcome n old new (Err (undos.Blocked m)) = IsSomeAnd (entry_at old.history.journal n) (λ e. IsWon old.history new.history old.fixed.builders (off_for e.entry.kind e.entry.keys) m)
+UndoOutcome n old new (Err undos.NoSuchEntry) = ⊥
+UndoOutcome n old new (Err undos.NotACommand) = ⊥
+UndoOutcome n old new (Err undos.AlreadyUndone) = ⊥
+
+pub record IsUndone (n : ℕ) (old new : BookModel) (result : Result (Unit {0}) UndoRefusal) : Type 0 where
+  pub fixed : new.fixed ≡ old.fixed
+  pub outcome : UndoOutcome n old new result
+
+abbrev pub mark_stop : Mark → Option ℕ → Option UndoRefusal
+mark_stop Undone b = Some undos.AlreadyUndone
+mark_stop Standing (Some m) = Some (undos.Blocked m)
+mark_stop Standing None = None
+
+-- why an undo makes no atomic step, if so
+abbrev pub undo_stop : List Marked → ℕ → Option UndoRefusal
+undo_stop ms n = elim (entry_at ms n) [ Some m ↦ if is_command m.entry.kind then mark_stop m.mark (blocker ms n) else Some undos.NotACommand | None ↦ Some undos.NoSuchEntry ]
+
+abbrev pub UndoAnswer : Option UndoRefusal → ℕ → BookModel → BookModel → Result (Unit {0}) UndoRefusal → Type 0
+UndoAnswer None n old new result = IsUndone n old new result
+UndoAnswer (Some r) n old new result = (result ≡ Err r) × (new ≡ old)

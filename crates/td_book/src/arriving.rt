@@ -1,0 +1,55 @@
+//! Arrivals and sweeps.
+ghost use Rattle.td_book.specs.Arriving.{ArriveOutcome, SweepOutcome};
+ghost use Rattle.std.specs.Prelude.{◌≡◌};
+
+use crate::book::{Book, copies};
+use std::alloc::AllocError;
+use td_board::Board;
+use td_journal::{Entry, EntryNo, Keys};
+use td_rows::{Key, Kind, State, applies};
+
+#[derive(Clone, Copy, Debug, PartialEq, Eq)]
+pub enum ArriveRefusal {
+    NoSuchRow,
+    DoesNotApply(State),
+    NoMemory,
+}
+
+impl<'a> Book<'a> {
+    /// The key's build has arrived in the archive.
+    pub fn arrive(&mut self, key: &Key) -> Result<EntryNo, ArriveRefusal>
+        ensures { ArriveOutcome key.now self.old self.new result }
+    {
+        let Some(row) = self.inner.books.rows().get(key) else {
+            return Err(ArriveRefusal::NoSuchRow);
+        };
+        if !applies(&Kind::Arrive, row) {
+            return Err(ArriveRefusal::DoesNotApply(row.state));
+        }
+        let number = row.number;
+        match self.inner.arrive(key, number) {
+            Ok(n) => Ok(n),
+            Err(_) => Err(ArriveRefusal::NoMemory),
+        }
+    }
+
+    /// Frees all rows that wait for what is on offer now.
+    pub fn sweep(&mut self, board: &Board) -> Result<Option<EntryNo>, AllocError>
+        requires { board.now.table ≡ self.old.fixed.table }
+        ensures { SweepOutcome self.old self.new result }
+    {
+        // (`rows` says that the keys of the rows rise)
+        let _rows = self.inner.books.rows();
+        let keys = self.inner.books.freed(self.alloc)?;
+        if keys.is_empty() {
+            return Ok(None);
+        }
+        let freed = copies(self.alloc, &keys)?;
+        let n = self.inner.append(Entry {
+            kind: Kind::Sweep,
+            keys: Keys::new(keys),
+        })?;
+        self.inner.offer_each(board, &freed);
+        Ok(Some(n))
+    }
+}

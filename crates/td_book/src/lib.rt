@@ -1,0 +1,30 @@
+//! The book: the history of the rows, under the desk's seat at the claim board.
+//!
+//! Start at `Book`. `commanding` and `undoing` change the history, `starting` and `finishing` serve
+//! a builder, `arriving` tells it what the archive has. `inner` withdraws rows from the board and
+//! offers them, and says what the desk knows of each row meanwhile.
+//! Promised: at rest a row is offered exactly where it needs a build, and known to be a builder's
+//! exactly where it is Building by it; a claim that a builder has won is noted and never invented;
+//! a refused call changes nothing but for such claims; each call says the history that it leaves.
+#![tactic(auto)]
+
+mod arriving;
+mod book;
+mod building;
+mod commanding;
+mod finishing;
+mod inner;
+mod naming;
+mod opening;
+mod reading;
+mod skips;
+mod starting;
+mod undoing;
+
+pub use arriving::ArriveRefusal;
+pub use book::Book;
+pub use commanding::{CommandRefusal, Taken};
+pub use finishing::FinishRefusal;
+pub use skips::{Skip, SkipReason, Skips};
+pub use starting::{Job, StartRefusal};
+pub use undoing::UndoRefusal;

@@ -1,0 +1,214 @@
+//! The rows that a command names, and those of them whose version matches.
+ghost use Rattle.std.specs.Prelude.{◌≡◌, ◌&&◌, ◌||◌, [], false, true, IfOk, OnOk, filter, is_some, is_none, map, option_map, string_bytes, if◌then◌else◌};
+ghost use Rattle.std.specs.List.{list_any};
+ghost use Rattle.std.specs.Str.{bytes_eq};
+ghost use Rattle.td_rows.specs.Keys.{ascending, names};
+ghost use Rattle.td_rows.specs.Table.{keys_of, row_of};
+ghost use Rattle.td_version.specs.Reading.{parts_read, reading};
+ghost use Rattle.td_wbread.specs.Views.{package_of, parts_of};
+ghost use Rattle.td_book.specs.Naming.{Adds, is_bare as is_bare_in, is_matched_as, is_matched_at, is_matched_by, kind_of as kind_in, named_in};
+ghost use Rattle.td_book.specs.Skips.{doubt};
+
+use crate::skips::{Skip, SkipReason};
+use std::alloc::{AllocError, Global};
+use td_rows::{Key, Kind, RebuildNumber, Rows, State};
+use td_supply::Supply;
+use td_version::{Version, VersionFault};
+use td_wbread::{Command, Package, Verb};
+
+// Adds the key of a source on an architecture, if it has a row.
+fn push_named(named: &mut Vec<Key>, rows: &Rows, source: &str, arch: &str) -> Result<(), AllocError>
+    ensures { OnOk result (Adds rows.now named.old.items named.new.items (λ k. bytes_eq source.now k.source && bytes_eq arch.now k.arch)) }
+{
+    let _rising = rows.len();
+    if let Some(number) = rows.number_of(source, arch) {
+        if let Some((key, _)) = rows.at(number) {
+            named.push(key.copy()?)?;
+        }
+    }
+    Ok(())
+}
+
+// Adds the keys of a source on each of the architectures.
+fn push_on_each(
+    named: &mut Vec<Key>,
+    rows: &Rows,
+    source: &str,
+    archs: &[&str],
+) -> Result<(), AllocError>
+    ensures { OnOk result (Adds rows.now named.old.items named.new.items (λ k. bytes_eq source.now k.source && list_any (λ a. bytes_eq a.now k.arch) archs.now)) }
+{
+    for arch in archs {
+        push_named(named, rows, source, arch)?;
+    }
+    Ok(())
+}
+
+// The keys of each of the packages on each of the architectures, in the order of the command.
+fn looked_up(
+    alloc: Global,
+    rows: &Rows,
+    packages: &[Package],
+    archs: &[&str],
+) -> Result<Vec<Key>, AllocError>
+    ensures { IfOk result (λ keys. Adds rows.now [] keys.items (λ k. list_any (λ p. bytes_eq (string_bytes p.source) k.source) packages.now && list_any (λ a. bytes_eq a.now k.arch) archs.now)) }
+{
+    let mut named = Vec::new(alloc);
+    for package in packages {
+        push_on_each(&mut named, rows, package.source.as_str(), archs)?;
+    }
+    Ok(named)
+}
+
+// Sorts keys, and drops doubles.
+fn sort_keys(keys: &mut Vec<Key>)
+    ensures rising { ascending keys.new.items ≡ true }
+    ensures same { (k : Key) → names keys.new.items k ≡ names keys.old.items k }
+{
+    keys.sort_unstable();
+    keys.dedup();
+}
+
+/// The keys of the rows that a command names. Each package is looked up on each chosen
+/// architecture, so that a command on one source takes no longer where there are more rows.
+pub(crate) fn named(
+    alloc: Global,
+    rows: &Rows,
+    command: &Command<'_>,
+) -> Result<Vec<Key>, AllocError>
+    ensures keys { IfOk result (λ keys. keys.items ≡ named_in (parts_of command.now) rows.now) }
+    ensures rising { ascending (keys_of rows.now) ≡ true }
+{
+    let _rising = rows.len();
+    let mut named = looked_up(alloc, rows, &command.packages, &command.archs)?;
+    sort_keys(&mut named);
+    Ok(named)
+}
+
+fn has_bare(packages: &[Package], source: &str) -> bool
+    ensures { result ≡ list_any (λ p. bytes_eq (string_bytes p.source) source.now && is_none (option_map string_bytes p.version)) packages.now }
+{
+    packages
+        .iter()
+        .any(|p| p.source.as_str() == source && p.version.is_none())
+}
+
+// Whether a package of the command has the source's name, without a version.
+fn is_bare(command: &Command<'_>, source: &str) -> bool
+    ensures { result ≡ is_bare_in (parts_of command.now) source.now }
+{
+    has_bare(command.packages.as_slice(), source)
+}
+
+fn read_version(text: &str) -> Result<Version<'_>, VersionFault>
+    ensures { parts_read result ≡ reading text.now }
+{
+    Version::read(text)
+}
+
+// Whether a row matches whose source's version is written so.
+fn matches_text(command: &Command<'_>, source: &str, number: RebuildNumber, text: &str) -> bool
+    ensures { result ≡ is_matched_by (parts_of command.now) source.now number (reading text.now) }
+{
+    match read_version(text) {
+        Ok(version) => command.is_matched(source, &version, number),
+        Err(_) => is_bare(command, source),
+    }
+}
+
+// Whether the version of a row matches, given how the archive writes its source's version.
+fn matches_as(
+    command: &Command<'_>,
+    source: &str,
+    number: RebuildNumber,
+    version: Option<&str>,
+) -> bool
+    ensures { result ≡ is_matched_as (parts_of command.now) source.now number (option_map (λ text. text.now) version.entry) }
+{
+    match version {
+        None => is_bare(command, source),
+        Some(text) => matches_text(command, source, number, text),
+    }
+}
+
+// Whether the version of the key's row matches.
+fn matches(command: &Command<'_>, supply: &Supply<'_>, rows: &Rows, key: &Key) -> bool
+    ensures { result ≡ is_matched_at (parts_of command.now) supply.now rows.now key.now }
+{
+    match rows.get(key) {
+        Some(row) => matches_as(
+            command,
+            key.source(),
+            row.number,
+            supply.version(key.source()),
+        ),
+        None => false,
+    }
+}
+
+/// Copies of those of the named keys whose version matches.
+pub(crate) fn matched(
+    alloc: Global,
+    command: &Command<'_>,
+    supply: &Supply<'_>,
+    rows: &Rows,
+    named: &[Key],
+) -> Result<Vec<Key>, AllocError>
+    ensures { IfOk result (λ keys. keys.items ≡ filter (is_matched_at (parts_of command.now) supply.now rows.now) named.now) }
+{
+    let mut matched = Vec::new(alloc);
+    for key in named {
+        if matches(command, supply, rows, key) {
+            matched.push(key.copy()?)?;
+        }
+    }
+    Ok(matched)
+}
+
+// A doubt about a named key.
+fn doubt_of(is_matched: bool, key: &Key) -> Result<Skip, AllocError>
+    ensures { IfOk result (λ skip. skip ≡ doubt (λ _. is_matched) key.now) }
+{
+    let reason = if is_matched {
+        SkipReason::State(State::NeedsBuild)
+    } else {
+        SkipReason::Version
+    };
+    Ok(Skip {
+        key: key.copy()?,
+        reason,
+    })
+}
+
+/// A doubt about each of the named keys.
+pub(crate) fn doubts(
+    alloc: Global,
+    command: &Command<'_>,
+    supply: &Supply<'_>,
+    rows: &Rows,
+    named: &[Key],
+) -> Result<Vec<Skip>, AllocError>
+    ensures { IfOk result (λ skips. skips.items ≡ map (doubt (is_matched_at (parts_of command.now) supply.now rows.now)) named.now) }
+{
+    let mut doubts = Vec::new(alloc);
+    for key in named {
+        doubts.push(doubt_of(matches(command, supply, rows, key), key)?)?;
+    }
+    Ok(doubts)
+}
+
+/// What a command's entry does to each row.
+pub(crate) fn kind_of(command: &Command<'_>) -> Result<Kind, AllocError>
+    ensures { IfOk result (λ kind. kind ≡ kind_in (parts_of command.now)) }
+{
+    match &command.verb {
+        Verb::Gb => Ok(Kind::Gb),
+        Verb::Nmu(number) => Ok(Kind::Nmu {
+            number: *number,
+            extra: command.extra.copy()?,
+            message: command.message.copy()?,
+        }),
+        Verb::Bp(priority) => Ok(Kind::Bp(*priority)),
+        Verb::Dw => Ok(Kind::Dw(command.message.copy()?)),
+    }
+}

@@ -1,0 +1,40 @@
+//! What a book answers without the board.
+ghost use Rattle.std.specs.Prelude.{◌≡◌};
+ghost use Rattle.std.specs.Option.{option_copied};
+ghost use Rattle.td_rows.specs.Table.{row_of};
+ghost use Rattle.td_journal.specs.Entries.{entry_at};
+ghost use Rattle.td_core.specs.History.{rows_of};
+
+use crate::book::Book;
+use td_journal::{EntryNo, Journal, Marked};
+use td_rows::{Key, Row, Rows};
+
+impl<'a> Book<'a> {
+    /// The rows as they are.
+    pub fn rows(&self) -> &Rows
+        ensures { result.now ≡ rows_of self.now.history }
+    {
+        self.inner.books.rows()
+    }
+
+    /// The row of a key.
+    pub fn row(&self, key: &Key) -> Option<&Row>
+        ensures { option_copied result ≡ row_of (rows_of self.now.history) key.now }
+    {
+        self.inner.books.rows().get(key)
+    }
+
+    /// Entry n, counted from 1, with its mark.
+    pub fn entry(&self, n: EntryNo) -> Option<&Marked>
+        ensures { option_copied result ≡ entry_at self.now.history.journal n }
+    {
+        self.inner.books.journal().entry(n)
+    }
+
+    /// The entries with their marks.
+    pub fn journal(&self) -> &Journal
+        ensures { result.now.entries ≡ self.now.history.journal }
+    {
+        self.inner.books.journal()
+    }
+}

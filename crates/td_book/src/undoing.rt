@@ -1,0 +1,97 @@
+//! Undos.
+ghost use Rattle.std.specs.Prelude.{◌≡◌, true, Some, None, IfOk, IfNone};
+ghost use Rattle.td_rows.specs.Keys.{ascending};
+ghost use Rattle.td_journal.specs.declared.entry.Marked.{Marked as MarkedValue};
+ghost use Rattle.td_journal.specs.Entries.{entry_at, CanBeUndone};
+ghost use Rattle.td_journal.specs.Touching.{blocker};
+ghost use Rattle.td_book.specs.Calls.{off_for as off_keys};
+ghost use Rattle.td_book.specs.Undoing.{IsUndone, UndoAnswer, undo_stop};
+
+use crate::book::{Book, copies};
+use std::alloc::AllocError;
+use td_board::Board;
+use td_journal::{EntryNo, Mark, OneKeyLists, is_command};
+use td_rows::{Key, cells_of};
+
+/// Why an entry wasn't undone.
+#[derive(Clone, Copy, Debug, PartialEq, Eq)]
+pub enum UndoRefusal {
+    NoSuchEntry,
+    NotACommand,
+    AlreadyUndone,
+    NoMemory,
+    Blocked(EntryNo),
+}
+
+impl<'a> Book<'a> {
+    /// Undoes a command.
+    pub fn undo(&mut self, board: &Board, n: EntryNo) -> Result<(), UndoRefusal>
+        requires { board.now.table ≡ self.old.fixed.table }
+        ensures { UndoAnswer (undo_stop self.old.history.journal n) n self.old self.new result }
+    {
+        if let Some(refusal) = self.undo_refusal(n) {
+            return Err(refusal);
+        }
+        self.undo_standing(board, n)
+    }
+
+    // Why an undo makes no atomic step, if so.
+    fn undo_refusal(&self, n: EntryNo) -> Option<UndoRefusal>
+        ensures stop { result ≡ undo_stop self.now.history.journal n }
+        ensures stands { IfNone result (CanBeUndone self.now.history.journal n) }
+        ensures free { IfNone result (blocker self.now.history.journal n ≡ None) }
+    {
+        let journal = self.inner.books.journal();
+        let Some(marked) = journal.entry(n) else {
+            return Some(UndoRefusal::NoSuchEntry);
+        };
+        if !is_command(&marked.entry.kind) {
+            return Some(UndoRefusal::NotACommand);
+        }
+        let Mark::Standing = marked.mark else {
+            return Some(UndoRefusal::AlreadyUndone);
+        };
+        match journal.blocker(n) {
+            Some(m) => Some(UndoRefusal::Blocked(m)),
+            None => None,
+        }
+    }
+
+    // Undoes a standing command that no later entry blocks, unless a builder won one of its rows.
+    fn undo_standing(&mut self, board: &Board, n: EntryNo) -> Result<(), UndoRefusal>
+        requires board { board.now.table ≡ self.old.fixed.table }
+        requires stands { CanBeUndone self.old.history.journal n }
+        requires free { blocker self.old.history.journal n ≡ None }
+        ensures { IsUndone n self.old self.new result }
+    {
+        let Ok(off) = self.keys_off(n) else {
+            return Err(UndoRefusal::NoMemory);
+        };
+        let Ok(singles) = OneKeyLists::new(self.alloc, &off) else {
+            return Err(UndoRefusal::NoMemory);
+        };
+        let Ok(()) = self.inner.reserve(&off) else {
+            return Err(UndoRefusal::NoMemory);
+        };
+        match self.inner.withdraw_until(board, &off, singles) {
+            Some(m) => return Err(UndoRefusal::Blocked(m)),
+            None => {}
+        }
+        self.inner.undo(n);
+        self.inner.offer_each(board, &off);
+        Ok(())
+    }
+
+    // Copies of the keys of an entry, if its kind has the state.
+    fn keys_off(&self, n: EntryNo) -> Result<Vec<Key>, AllocError>
+        ensures keys { (m : MarkedValue) → entry_at self.now.history.journal n ≡ Some m → IfOk result (λ keys. keys.items ≡ off_keys m.entry.kind m.entry.keys) }
+        ensures rising { IfOk result (λ keys. ascending keys.items ≡ true) }
+    {
+        match self.inner.books.journal().entry(n) {
+            Some(marked) if cells_of(&marked.entry.kind).state => {
+                copies(self.alloc, marked.entry.keys.as_slice())
+            }
+            _ => Ok(Vec::new(self.alloc)),
+        }
+    }
+}
