@@ -10,3 +10,4 @@ pub mod Lookups
 pub mod Tables
 pub mod Progress
 pub mod Naming
+pub mod NotedNames

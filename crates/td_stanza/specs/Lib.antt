@@ -7,3 +7,4 @@ pub mod Shown
 pub mod Table
 pub mod Continuing
 pub mod Props
+pub mod inner

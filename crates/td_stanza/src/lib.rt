@@ -10,9 +10,11 @@
 
 mod entry;
 mod fault;
+mod folded;
 mod kind;
 mod lookup;
 mod name;
+mod names;
 mod reading;
 mod table;
 #[cfg(test)]

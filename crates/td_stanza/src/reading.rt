@@ -1,18 +1,19 @@
 ghost use Rattle.std.specs.Prelude.{◌≡◌, ◌<◌, ◌≤◌, ◌+◌, ◌-◌, ℕ, List, true, false, ◌∷◌, ◌++◌, [], IfOk, IfErr, OnOk, map, length, take, ◌==◌, if◌then◌else◌};
-ghost use Rattle.std.specs.List.{list_any};
 ghost use Rattle.td_text.specs.Lines.{lines_of, left_text};
 ghost use Rattle.td_stanza.specs.Line.{is_separator as is_separator_of, is_continuation};
-ghost use Rattle.td_stanza.specs.Field.{Entry, is_same_name as is_same_name_of};
+ghost use Rattle.td_stanza.specs.Field.{Entry};
 ghost use Rattle.td_stanza.specs.StanzaGrammar.{AreStanzas, names_of};
 ghost use Rattle.td_stanza.specs.StanzaFaults.{IsFaultAt, HasFault, IsFaultOf, GivesStanzas, GivesFault, IsNewName};
 ghost use Rattle.td_stanza.specs.declared.fault.StanzaFault.{StanzaFault};
 ghost use Rattle.td_stanza.specs.Table.{shown, newlines};
 ghost use Rattle.td_stanza.specs.Continuing.{Skips, IsEnded, IsTaken};
+ghost use Rattle.td_stanza.specs.inner.NotedNames.{AreNoted};
 
 use crate::entry::Field;
 use crate::fault::StanzaFault;
 use crate::kind::{begins_blank, continues, is_separator};
-use crate::name::{is_field_name, is_same_name};
+use crate::name::is_field_name;
+use crate::names::Names;
 use crate::table::StanzaList;
 use crate::value::trim;
 use std::alloc::{AllocError, Global};
@@ -71,23 +72,19 @@ fn line_number(text: &str, here: &str) -> usize
     before.iter().filter(|b| **b == b'\n').count() + 1
 }
 
-fn has_name(fields: &[Field<'_>], name: &str) -> bool
-    ensures { result ≡ list_any (λ field. is_same_name_of name.now field.name.now) fields.now }
-{
-    fields.iter().any(|field| is_same_name(name, field.name))
-}
-
 /// The name on a field's first line, after the stanza's other fields.
 fn name_at<'a>(
     text: &str,
     here: &str,
     line: &'a str,
     fields: &[Field<'_>],
+    names: &Names<'_>,
 ) -> Result<&'a str, StanzaFault>
     requires some { 0 < length here.now }
     requires within { length here.now ≤ length text.now }
     requires filled { is_separator_of line.now ≡ false }
     requires alone { is_continuation line.now ≡ true → map shown fields.now ≡ [] }
+    requires noted { AreNoted names.now fields.now }
     ensures ok { IfOk result (λ name.
         IsNewName (names_of (map shown fields.now)) line.now name.now) }
     ensures err { IfErr result (λ fault.
@@ -104,7 +101,7 @@ fn name_at<'a>(
     if rest.is_empty() {
         return Err(StanzaFault::NoColon(line_number(text, here)));
     }
-    if has_name(fields, name) {
+    if names.has(fields, name) {
         return Err(StanzaFault::Duplicate(line_number(text, here)));
     }
     Ok(name)
@@ -136,15 +133,20 @@ fn read<'a>(alloc: Global, text: &'a str) -> Result<StanzaList<'a>, StanzaFault>
     let mut fields = Vec::new(alloc);
     let mut starts = Vec::new(alloc);
     let mut first = 0;
+    let mut names = Names::new(alloc);
     let mut rest = Some(text);
     while let Some(here) = rest {
         let (line, after) = next_line(here);
         if is_separator(line) {
             first = fields.len();
+            names = Names::new(alloc);
             rest = after;
         } else {
             let current = fields.as_slice().split_at(first).1;
-            let name = name_at(text, here, line, current)?;
+            let name = name_at(text, here, line, current, &names)?;
+            names
+                .note(current, name)
+                .map_err(|_| StanzaFault::NoMemory)?;
             let (field, after) = take_field(here, name, after);
             add(&mut fields, &mut starts, first, field).map_err(|_| StanzaFault::NoMemory)?;
             rest = after;
@@ -153,7 +155,8 @@ fn read<'a>(alloc: Global, text: &'a str) -> Result<StanzaList<'a>, StanzaFault>
     Ok(StanzaList { fields, starts })
 }
 
-/// The stanzas of a control file. Memory is taken for the list of fields and the list of starts.
+/// The stanzas of a control file. Memory is taken for the list of fields and the list of starts,
+/// and, while a stanza of more than 32 fields is read, for the names of its further fields.
 pub fn stanzas<'a>(alloc: Global, text: &'a str) -> Result<StanzaList<'a>, StanzaFault>
     // What is read are stanzas of the grammar, and what isn't has the fault.
     ensures found { IfOk result (λ found. AreStanzas found (lines_of text.now)) }

@@ -87,6 +87,33 @@ fn the_first_line_with_a_fault_decides(rt: HostRuntime) {
     }
 }
 
+/// Fields with names of one byte: ten digits and the capitals, W to Z behind 32 others.
+const MANY: &str =
+    "0:\n1:\n2:\n3:\n4:\n5:\n6:\n7:\n8:\n9:\nA:\nB:\nC:\nD:\nE:\nF:\nG:\nH:\nI:\nJ:\nK:\nL:\nM:\nN:\nO:\nP:\nQ:\nR:\nS:\nT:\nU:\nV:\nW:\nX:\nY:\nZ:\n";
+
+/// What is found in the text with a line behind it, as the numbers of stanzas and of the fields of
+/// the last one.
+fn counted(alloc: Global, line: &str) -> Result<(usize, usize), Fail> {
+    let mut text = String::from_str(alloc, MANY)?;
+    text.push_str(line)?;
+    let list = stanzas(alloc, text.as_str())?;
+    let stanza = list.stanza(list.len().saturating_sub(1));
+    Ok((list.len(), stanza.map_or(0, |stanza| stanza.len())))
+}
+
+// Debian Policy 5.1: a stanza has a name once, in whatever case.
+#[test]
+fn a_name_comes_once_among_many_fields(rt: HostRuntime) -> Result<(), Fail> {
+    for line in ["9:", "a:", "v:", "W:", "w:", "z: z"] {
+        let mut text = String::from_str(rt.alloc(), MANY)?;
+        text.push_str(line)?;
+        is_fault(&rt, rt.alloc(), text.as_str(), StanzaFault::Duplicate(37));
+    }
+    assert_eq!(rt; counted(rt.alloc(), "zz:")?, (1, 37));
+    assert_eq!(rt; counted(rt.alloc(), "\nz:")?, (2, 1));
+    Ok(())
+}
+
 // A line of a dot alone, a tab, a colon where a name would stand, a carriage return.
 #[test]
 fn a_continuation_has_any_text(rt: HostRuntime) -> Result<(), Fail> {

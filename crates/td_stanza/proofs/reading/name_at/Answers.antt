@@ -3,16 +3,16 @@ use Rattle.td_stanza.proofs.Naming.{colon_rest, has_name-shown}
 use Rattle.td_stanza.specs.Field.{is_field_name}
 use Rattle.td_stanza.proofs.reading.name_at.Goals as goal
 
-pub returns-then-has_name-clause-err : goal.returns-then-has_name-clause-err
-returns-then-has_name-clause-err c =
+pub returns-then-has-clause-err : goal.returns-then-has-clause-err
+returns-then-has-clause-err c =
     let some : eqb (length c.part_at.result.1.now) 0 ≡ false = search rules in
     let named : is_field_name c.part_at.result.0.now ≡ true = search rules in
     let r = colon_rest c.args.line.now c.part_at.result.0.now c.part_at.result.1.now c.part_at.ensures.value c.part_at.ensures.joined some in
-    (c.line_number-then-has_name.ensures, c.part_at.result.0.now, r.0, r.1, named, sym (has_name-shown c.args.fields.now c.part_at.result.0.now) ∙ sym c.has_name.ensures ∙ c.if-has_name.true)
+    (c.line_number-then-has.ensures, c.part_at.result.0.now, r.0, r.1, named, sym (has_name-shown c.args.fields.now c.part_at.result.0.now) ∙ sym c.has.ensures ∙ c.if-has.true)
 
 pub returns-clause-ok : goal.returns-clause-ok
 returns-clause-ok c =
     let some : eqb (length c.part_at.result.1.now) 0 ≡ false = search rules in
     let named : is_field_name c.part_at.result.0.now ≡ true = search rules in
     let r = colon_rest c.args.line.now c.part_at.result.0.now c.part_at.result.1.now c.part_at.ensures.value c.part_at.ensures.joined some in
-    record { rest = r.0; parts = r.1; named = named; distinct = sym (has_name-shown c.args.fields.now c.part_at.result.0.now) ∙ sym c.has_name.ensures ∙ c.if-has_name.false }
+    record { rest = r.0; parts = r.1; named = named; distinct = sym (has_name-shown c.args.fields.now c.part_at.result.0.now) ∙ sym c.has.ensures ∙ c.if-has.false }
