@@ -11,3 +11,4 @@ pub mod Dotted
 pub mod Undotted
 pub mod Chosen
 pub mod Tails
+pub mod PackagePlaces

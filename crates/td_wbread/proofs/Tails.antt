@@ -1,6 +1,6 @@
 -- What may follow the architectures is read, and nothing else.
 use Rattle.std.proofs.Common.{◌≡◌, ℕ, Bool, true, false, cond, ◌&&◌, List, [], ◌∷◌, Option, Some, None, Result, Ok, Err, codes, refl, sym, ap, subst, ◌∙◌, inl, inr}
-use Rattle.std.specs.Prelude.{◌⊎◌, is_none, is_some}
+use Rattle.std.specs.Prelude.{is_none, is_some}
 use Rattle.std.specs.Str.{bytes_eq}
 use Rattle.std.proofs.lemmas.Bool.{and_parts, and_from}
 use Rattle.std.proofs.lemmas.Slice.Eq.{bytes_eq-Decides}
@@ -17,7 +17,7 @@ use Rattle.td_wbread.specs.declared.word.End.{End}
 use Rattle.td_wbread.specs.declared.word.End.TheVariants.{Closed, Open}
 use Rattle.td_wbread.specs.Faults.{is_dot, missing}
 use Rattle.td_wbread.specs.Tail.{Values, dot_end, finished, flag_at, is_extra, is_message, is_option, is_relation, is_suite, missing_value, needs_relation, no_values, options_at, relation_checked, suite_end, tail_at, takes_extra, takes_message, valued, wants_relation, with_value}
-use Rattle.td_wbread.specs.TailLaws.{AreBothOptions, AreOptions, AreValues, FollowArchs, FollowDot, FollowSuite, IsExtra, IsMessage, IsOneOption, MayEnd, TailsAreExact}
+use Rattle.td_wbread.specs.TailLaws.{AreBothOptions, AreOptions, FollowArchs, FollowDot, FollowSuite, IsExtra, IsMessage, IsOneOption, MayEnd, TailsAreExact}
 
 -- ---- the end
 

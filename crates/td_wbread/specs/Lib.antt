@@ -15,3 +15,4 @@ pub mod Taking
 pub mod Verbs
 pub mod Views
 pub mod Words
+pub mod inner

@@ -5,7 +5,7 @@ use Rattle.td_wbread.specs.declared.word.Word.{Word}
 use Rattle.td_wbread.specs.declared.word.End.{End}
 use Rattle.td_wbread.specs.declared.word.End.TheVariants.{Closed, Open}
 use Rattle.td_wbread.specs.Faults.{is_dot}
-use Rattle.td_wbread.specs.Tail.{Values, is_extra, is_message, is_option, is_relation, is_suite, needs_relation, no_values, tail_at, takes_extra, takes_message}
+use Rattle.td_wbread.specs.Tail.{Values, is_extra, is_message, is_option, is_relation, is_suite, needs_relation, tail_at, takes_extra, takes_message}
 
 -- ---- 1. options
 

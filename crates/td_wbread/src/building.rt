@@ -10,6 +10,7 @@ use crate::arch_reading::is_chosen;
 use crate::command::{Command, Package, Verb};
 use crate::option_reading::Options;
 use crate::package_reading::read_package;
+use crate::places::find_places;
 use crate::word::Word;
 use std::alloc::{AllocError, Global};
 use td_relation::Archs;
@@ -90,9 +91,12 @@ pub fn make_command<'a>(
 ) -> Result<Command<'a>, AllocError>
     ensures { IfOk result (λ c. parts_of c ≡ command_of (table archs.now) (spoken_of words.entry)) }
 {
+    let packages = make_packages(alloc, words.packages)?;
+    let places = find_places(alloc, packages.as_slice())?;
     Ok(Command {
         verb: words.verb,
-        packages: make_packages(alloc, words.packages)?,
+        packages,
+        places,
         archs: make_names(alloc, archs, words.chosen)?,
         message: copy_text(alloc, words.options.message)?,
         extra: copy_text(alloc, words.options.extra)?,

@@ -1,3 +1,6 @@
+ghost use Rattle.td_wbread.specs.inner.Places.{FindsPackages, FindsPackages-prop};
+
+use crate::places::Places;
 use td_rows::{Line, Priority, RebuildNumber};
 
 /// What a command does to the rows that it names.
@@ -26,10 +29,13 @@ pub struct Package {
 pub struct Command<'a> {
     pub verb: Verb,
     pub packages: Vec<Package>,
+    /// Where the packages of each source stand.
+    pub(crate) places: Places,
     /// The names of the chosen architectures, in the order of their table.
     pub archs: Vec<&'a str>,
     /// The message of a rebuild or the relation to wait for; empty where there is none.
     pub message: Line,
     /// What a rebuild needs beside its build dependencies; empty where there is none.
     pub extra: Line,
+    ghost found: { FindsPackages packages.items places } by { FindsPackages-prop packages.items places },
 }

@@ -18,6 +18,7 @@ mod laws;
 mod naming;
 mod option_reading;
 mod package_reading;
+mod places;
 mod quoting;
 mod reading;
 mod scanning;

@@ -1,10 +1,11 @@
 //! The rows that a command names.
-ghost use Rattle.std.specs.Prelude.{◌≡◌, ◌&&◌, ◌||◌, option_map, string_bytes};
+ghost use Rattle.std.specs.Prelude.{◌≡◌, ◌&&◌, ◌||◌, option_map, slice_get};
 ghost use Rattle.std.specs.List.{list_any};
 ghost use Rattle.std.specs.Str.{bytes_eq};
 ghost use Rattle.td_version.specs.Reading.{parts_read, reading};
 ghost use Rattle.td_version.specs.Version.{parts_of as version_of};
 ghost use Rattle.td_wbread.specs.Naming.{is_base as is_base_of, is_numbered as is_numbered_of, is_rebuild_of, split_of, version_matches as version_matches_of};
+ghost use Rattle.td_wbread.specs.inner.Places.{is_matching};
 
 use crate::command::{Command, Package};
 use crate::package_reading::read_version;
@@ -50,24 +51,39 @@ fn version_matches(version: &Version<'_>, number: RebuildNumber, text: Option<&s
     }
 }
 
-/// Whether some package has a source's name and a version that matches.
-fn has_package(
+fn package_at(packages: &[Package], place: usize) -> Option<&Package>
+    ensures { option_map (λ p. p.now) result ≡ slice_get packages.now place }
+{
+    packages.get(place)
+}
+
+/// Whether the package at a place, if there is one, has a version that matches.
+fn matches_at(
     packages: &[Package],
-    source: &str,
+    place: usize,
     version: &Version<'_>,
     number: RebuildNumber,
 ) -> bool
-    ensures { result ≡ list_any (λ p. bytes_eq (string_bytes p.source) source.now && version_matches_of (version_of version.now) number (option_map string_bytes p.version)) packages.now }
+    ensures { result ≡ is_matching (version_of version.now) number (slice_get packages.now place) }
 {
-    packages.iter().any(|p| {
-        p.source.as_str() == source && version_matches(version, number, p.version.as_deref())
-    })
+    match package_at(packages, place) {
+        Some(package) => version_matches(version, number, package.version.as_deref()),
+        None => false,
+    }
 }
 
-fn has_source(packages: &[Package], source: &str) -> bool
-    ensures { result ≡ list_any (λ p. bytes_eq (string_bytes p.source) source.now) packages.now }
+/// Whether some package at these places has a version that matches.
+fn has_match(
+    packages: &[Package],
+    places: &[usize],
+    version: &Version<'_>,
+    number: RebuildNumber,
+) -> bool
+    ensures { result ≡ list_any (λ place. is_matching (version_of version.now) number (slice_get packages.now place)) places.now }
 {
-    packages.iter().any(|p| p.source.as_str() == source)
+    places
+        .iter()
+        .any(|place| matches_at(packages, *place, version, number))
 }
 
 fn has_arch(archs: &[&str], arch: &str) -> bool
@@ -86,7 +102,7 @@ impl Command<'_> {
     pub fn is_named(&self, source: &str, arch: &str) -> bool
         ensures { result ≡ is_named_of (parts_of self.now) source.now arch.now }
     {
-        has_source(self.packages.as_slice(), source) && has_arch(self.archs.as_slice(), arch)
+        !self.places.of(source).is_empty() && has_arch(self.archs.as_slice(), arch)
     }
 
     /// Whether the version of a row matches, given its source, the source's version and the row's
@@ -94,6 +110,11 @@ impl Command<'_> {
     pub fn is_matched(&self, source: &str, version: &Version<'_>, number: RebuildNumber) -> bool
         ensures { result ≡ is_matched_of (parts_of self.now) source.now (version_of version.now) number }
     {
-        has_package(self.packages.as_slice(), source, version, number)
+        has_match(
+            self.packages.as_slice(),
+            self.places.of(source),
+            version,
+            number,
+        )
     }
 }
