@@ -12,3 +12,4 @@ pub mod Undotted
 pub mod Chosen
 pub mod Tails
 pub mod PackagePlaces
+pub mod VerbShapes

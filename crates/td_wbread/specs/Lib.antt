@@ -15,4 +15,5 @@ pub mod Taking
 pub mod Verbs
 pub mod Views
 pub mod Words
+pub mod VerbLaws
 pub mod inner

@@ -4,6 +4,7 @@ ghost use Rattle.td_wbread.specs.ChoiceLaws.{ChoiceIsExact};
 ghost use Rattle.td_wbread.specs.Laws.{QuotedWordsAreRead};
 ghost use Rattle.td_wbread.specs.PackageLaws.{PackagesAreExact};
 ghost use Rattle.td_wbread.specs.TailLaws.{TailsAreExact};
+ghost use Rattle.td_wbread.specs.VerbLaws.{VerbsAreExact};
 
 /// Any texts without a newline and without `'` can be written as the words of a line.
 pub fn quoted_words_are_read()
@@ -31,4 +32,10 @@ pub fn choice_is_exact()
 /// and options, or options, and means these.
 pub fn tails_are_exact()
     ensures { TailsAreExact }
+{}
+
+/// A verb is read exactly where it stands with its own words, and means these: `gb`; `nmu`, or
+/// `nmu` and a number behind which another word comes; `bp` and a priority; `dw`.
+pub fn verbs_are_exact()
+    ensures { VerbsAreExact }
 {}

@@ -1,0 +1,5 @@
+use Rattle.td_wbread.proofs.VerbShapes.{verbs_exact}
+use Rattle.td_wbread.proofs.laws.verbs_are_exact.Goals as goal
+
+pub returns : goal.returns
+returns c = verbs_exact
