@@ -20,3 +20,4 @@ pub mod OwnPlaces
 pub mod FirstFaults
 pub mod Refusals
 pub mod OpeningLaws
+pub mod OpeningCounts

@@ -69,7 +69,7 @@ key_at table source arch place k named = by (slice_get table place) refl
         ∙ ap (λ (n : List ℕ). bytes_eq k.source source && bytes_eq n k.arch) is
 
 -- it is, or it isn't
-key_cases : (source arch : List ℕ) (k key : Key) → key ≡ record { source = source; arch = arch } → same_key k key ≡ (bytes_eq k.source source && bytes_eq arch k.arch)
+pub key_cases : (source arch : List ℕ) (k key : Key) → key ≡ record { source = source; arch = arch } → same_key k key ≡ (bytes_eq k.source source && bytes_eq arch k.arch)
 key_cases source arch k key is =
     elim (cases_Bool (same_key k key)) [
       | inl same ↦

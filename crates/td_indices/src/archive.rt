@@ -66,7 +66,8 @@ impl<'t, 'a> Archive<'t, 'a> {
     ghost use Rattle.td_relation.specs.TableView.{table};
     ghost use Rattle.td_relation.specs.Table.{IsApart};
     ghost use Rattle.td_rows.specs.States.{is_building};
-    ghost use Rattle.td_rows.specs.Table.{row_of};
+    ghost use Rattle.td_rows.specs.Keys.{ascending};
+    ghost use Rattle.td_rows.specs.Table.{keys_of, row_of};
     ghost use Rattle.td_rows.specs.Text.{has_newline};
     ghost use Rattle.td_indices.specs.declared.archive_fault.ArchiveFault.{ArchiveFault};
     ghost use Rattle.td_indices.specs.Archive.{Contents, FaultOf, IsArchive, IsRefusedFor, binaries_on, source_named};
@@ -317,7 +318,8 @@ impl<'t, 'a> Archive<'t, 'a> {
     }
 
     fn sorted_rows(&self) -> Result<Rows, AllocError>
-        ensures { IfOk result (λ rows. (k : Key) → row_of rows k ≡ opening_row_of self.now k) }
+        ensures rows { IfOk result (λ rows. (k : Key) → row_of rows k ≡ opening_row_of self.now k) }
+        ensures rising { IfOk result (λ rows. ascending (keys_of rows) ≡ true) }
     {
         let rows = self.open_all()?;
         Rows::sorted(self.alloc, rows)
@@ -327,6 +329,8 @@ impl<'t, 'a> Archive<'t, 'a> {
     /// it has none.
     pub fn opening_rows(&self) -> Result<Rows, AllocError>
         ensures rows { IfOk result (λ rows. (k : Key) → row_of rows k ≡ opening_row_of self.now k) }
+        // They are as many as `row_count` says.
+        ensures count { IfOk result (λ rows. length rows ≡ row_count self.now.table self.now.sources) }
         // No builder has one of them.
         ensures free { IfOk result (λ rows. (k : Key) (row : Row) → row_of rows k ≡ Some row → is_building row.state ≡ false) }
         // The supply has a version of the source of each.
