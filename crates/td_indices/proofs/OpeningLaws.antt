@@ -12,9 +12,11 @@ use Rattle.td_rows.specs.States.{is_building}
 use Rattle.td_relation.specs.Table.{place_of}
 use Rattle.td_stanza.specs.Field.{Entry}
 use Rattle.td_supply.specs.Supply.{opened}
+use Rattle.td_supply.specs.VersionTexts.{IsVersionText}
 use Rattle.td_version.specs.Reading.{reading}
 use Rattle.td_version.specs.Version.{Parts}
 use Rattle.td_version.specs.declared.version.VersionFault.{VersionFault}
+use Rattle.td_version.proofs.Outcomes.{read_found}
 use Rattle.td_indices.specs.declared.archive_fault.EntryFault.{EntryFault}
 use Rattle.td_indices.specs.declared.archive_fault.IndexField.TheVariants.{Package, Version, Architecture}
 use Rattle.td_indices.specs.declared.archive_fault.IndexFile.TheVariants.{Sources}
@@ -22,7 +24,7 @@ use Rattle.td_indices.specs.Archive.{Contents, source_named}
 use Rattle.td_indices.specs.Fields.{name_in, needed, relation_in, value_of, version_in, version_or_bad}
 use Rattle.td_indices.specs.OpeningRows.{IsVersionKnown}
 use Rattle.td_indices.specs.Reading.{sources_at}
-use Rattle.td_indices.specs.Supplying.{listed, supply_of}
+use Rattle.td_indices.specs.Supplying.{AreRead, listed, supply_of}
 use Rattle.td_indices.specs.Opening.{current_numbers, greatest, opening_at, opening_of, opening_on, opening_row}
 use Rattle.td_indices.specs.Rows.{has_row}
 use Rattle.td_indices.specs.Sources.{KeptSource, SourcePackage, is_extra, kept_source_at, lower_source, same_source, source_at, whole_source_at, with_build_relations}
@@ -106,6 +108,13 @@ found_by P test (y ∷ xs) x h e =
 read_of : (r : Result Parts VersionFault) (parts : Parts) → version_or_bad r ≡ Ok parts → r ≡ Ok parts
 read_of (Ok p) parts e = let same : p ≡ parts = cc in ap Ok same
 read_of (Err f) parts e = absurd cc
+
+-- the versions of the sources that are kept are versions
+pub all_read : (stanzas : List (List Entry)) (sources : List KeptSource) → sources_at stanzas ≡ Ok sources → AreRead sources
+all_read stanzas sources kept =
+    all_over same_source lower_source kept_source_at Sources (λ (s : KeptSource). IsVersionText s.head.version)
+    (λ n fields s e. (s.head.parts, read_found s.head.version s.head.parts (read_of (reading s.head.version) s.head.parts (kept_read n fields s e))))
+    0 [] stanzas sources tt kept
 
 find_listed : (name : List ℕ) (ss : List KeptSource) → find (λ (p : List ℕ × List ℕ). bytes_eq name p.0) (map listed ss) ≡ option_map listed (find (λ (s : KeptSource). bytes_eq name s.head.name) ss)
 find_listed name [] = refl

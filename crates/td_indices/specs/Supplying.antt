@@ -1,6 +1,6 @@
 -- What an archive puts on offer: its binary packages, and the names that they provide. This project's own.
 use Rattle.std.specs.Prelude.{ℕ, Bool, true, false, List, [], ◌∷◌, ◌++◌, Option, Some, None, map, option_map, if◌then◌else◌}
-use Rattle.std.specs.List.{find, flat_map}
+use Rattle.std.specs.List.{AllByRecursion, find, flat_map}
 use Rattle.std.specs.Str.{bytes_eq}
 use Rattle.td_version.specs.Base.{base_of}
 use Rattle.td_version.specs.Order.{same_version}
@@ -11,6 +11,7 @@ use Rattle.td_relation.specs.declared.relation.Operator.{Operator}
 use Rattle.td_relation.specs.declared.relation.Operator.TheVariants.{Earlier, EarlierOrEqual, Equal, LaterOrEqual, Later}
 use Rattle.td_supply.specs.Supplied.{Built, Supplied, fresh}
 use Rattle.td_supply.specs.Supply.{Stock, SupplyView}
+use Rattle.td_supply.specs.VersionTexts.{IsVersionText}
 use Rattle.td_indices.specs.Archive.{Contents}
 use Rattle.td_indices.specs.Kept.{KeptBinary}
 use Rattle.td_indices.specs.Sources.{KeptSource}
@@ -70,6 +71,10 @@ abbrev pub supply_of : Contents → Stock
 supply_of a = stock a.table a.sources a.binaries
 
 -- ---- the parts of the filling
+
+-- each source's version as it is written is a version
+abbrev pub AreRead : List KeptSource → Type 0
+AreRead sources = AllByRecursion (λ s. IsVersionText s.head.version) sources
 
 abbrev pub with_offers : SupplyView → List Supplied → SupplyView
 with_offers s offers = record s { items = s.items ++ map fresh offers }

@@ -3,6 +3,7 @@ pub mod Numbers
 pub mod Supplied
 pub mod Arrivals
 pub mod Supply
+pub mod VersionTexts
 pub mod SupplyViews
 pub mod Asking
 pub mod SupplyLaws

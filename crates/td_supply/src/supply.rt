@@ -1,8 +1,9 @@
-ghost use Rattle.std.specs.Prelude.{◌≡◌, ◌<◌, ◌≤◌, List, ℕ, [], None, IfOk, OnOk, OnErr, length, map, option_map, slice_get};
+ghost use Rattle.std.specs.Prelude.{◌≡◌, ◌<◌, ◌≤◌, List, ℕ, [], None, IfOk, IfSome, OnOk, OnErr, length, map, option_map, slice_get};
 ghost use Rattle.td_version.specs.Version.{parts_of};
 ghost use Rattle.td_relation.specs.TableView.{table};
 ghost use Rattle.td_supply.specs.Supply.{arrived, meets as meets_of, nothing, opened, unstocked, version_of, with_offer, with_source};
 ghost use Rattle.td_supply.specs.SupplyViews.{built};
+ghost use Rattle.td_supply.specs.VersionTexts.{HasVersion, IsVersionText};
 
 use crate::arrival::{put_each, rebuilds};
 use crate::asking::some_suits;
@@ -33,6 +34,7 @@ impl<'a> Model for Supply<'a> {
     ghost use Rattle.td_supply.specs.Places.{places_from};
     ghost use Rattle.td_supply.specs.Supply.{SupplyView};
     ghost use Rattle.td_supply.specs.SupplyViews.{item, is_by, is_under, sources_of};
+    ghost use Rattle.td_supply.specs.VersionTexts.{AreVersions};
 
     ghost Value = { SupplyView };
 
@@ -43,7 +45,8 @@ impl<'a> Model for Supply<'a> {
     } };
 
     ghost invariant = { λ s. ((q : List ℕ) → numbers_of s.by_name q ≡ places_from (is_under q) 0 s.items.items)
-        × ((q : List ℕ) → numbers_of s.by_source q ≡ places_from (is_by q) 0 s.items.items) };
+        × ((q : List ℕ) → numbers_of s.by_source q ≡ places_from (is_by q) 0 s.items.items)
+        × AreVersions (sources_of s.sources.entries) };
 }
 
 impl<'a> Supply<'a> {
@@ -68,9 +71,11 @@ impl<'a> Supply<'a> {
         }
     }
 
-    /// Adds a source with its version as it is written. Ask `version` first whether it is there.
+    /// Adds a source with its version as it is written. Ask `version` first whether it is there,
+    /// and `Version::read` whether the text is a version.
     pub fn push_source(&mut self, name: &'a str, version: &'a str) -> Result<(), AllocError>
         requires absent { version_of self.old name.now ≡ None }
+        requires reads { IsVersionText version.now }
         ensures ok { OnOk result (self.new ≡ with_source self.old name.now version.now) }
         ensures err { OnErr result (self.new ≡ self.old) }
     {
@@ -129,9 +134,22 @@ impl<'a> Supply<'a> {
 
     /// The version of a source as it is written.
     pub fn version(&self, source: &str) -> Option<&'a str>
-        ensures { option_map (λ version. version.now) result ≡ version_of self.now source.now }
+        ensures text { option_map (λ version. version.now) result ≡ version_of self.now source.now }
+        // `Version::read` reads it.
+        ensures reads { IfSome result (λ version. IsVersionText version.now) }
     {
         self.sources.get(source).copied()
+    }
+
+    /// The version of a source by its parts, read from how it is written.
+    pub fn version_parts(&self, source: &str) -> Option<Version<'a>>
+        ensures { HasVersion self.now source.now (option_map parts_of result) }
+    {
+        let text = self.version(source)?;
+        match Version::read(text) {
+            Ok(version) => Some(version),
+            Err(_) => unreachable!(),
+        }
     }
 
     /// The table of architectures.

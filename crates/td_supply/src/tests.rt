@@ -33,9 +33,15 @@ fn example(alloc: Global) -> Result<Supply<'static>, Fail> {
     Ok(supply)
 }
 
-/// Whether the supply meets the relation, with ample memory.
-fn met(supply: &Supply<'_>, text: &str, arch: &str) -> bool {
-    matches!(supply.meets(text, arch), Ok(true))
+/// Whether the supply meets the relation; `None` where memory was wanting.
+fn met(supply: &Supply<'_>, text: &str, arch: &str) -> Option<bool> {
+    supply.meets(text, arch).ok()
+}
+
+/// The upstream part of a source's version.
+fn upstream<'a>(supply: &Supply<'a>, source: &str) -> Option<&'a str> {
+    let version = supply.version_parts(source)?;
+    Some(version.upstream)
 }
 
 // Expected by hand, from Policy 7.1 and the Developer's Reference 5.10.2.1.
@@ -43,19 +49,28 @@ fn met(supply: &Supply<'_>, text: &str, arch: &str) -> bool {
 fn a_rebuild_is_offered_once_it_has_arrived(rt: HostRuntime) -> Result<(), Fail> {
     let alloc = rt.alloc();
     let mut supply = example(alloc)?;
-    assert_eq!(rt; met(&supply, "libbar-dev (= 2.0-1)", "amd64"), true);
-    assert_eq!(rt; met(&supply, "libbar-dev (>= 2.0-1+b1)", "amd64"), false);
+    assert_eq!(rt; met(&supply, "libbar-dev (= 2.0-1)", "amd64"), Some(true));
+    assert_eq!(rt;
+        met(&supply, "libbar-dev (>= 2.0-1+b1)", "amd64"),
+        Some(false)
+    );
     supply.arrive("bar", "amd64", 1)?;
-    assert_eq!(rt; met(&supply, "libbar-dev (>= 2.0-1+b1)", "amd64"), true);
-    assert_eq!(rt; met(&supply, "libbar-dev (= 2.0-1)", "amd64"), false);
-    assert_eq!(rt; met(&supply, "libbar-dev (>= 2.0-1+b1)", "i386"), false);
-    assert_eq!(rt; met(&supply, "libbar-dev (= 2.0-1)", "i386"), true);
+    assert_eq!(rt;
+        met(&supply, "libbar-dev (>= 2.0-1+b1)", "amd64"),
+        Some(true)
+    );
+    assert_eq!(rt; met(&supply, "libbar-dev (= 2.0-1)", "amd64"), Some(false));
+    assert_eq!(rt;
+        met(&supply, "libbar-dev (>= 2.0-1+b1)", "i386"),
+        Some(false)
+    );
+    assert_eq!(rt; met(&supply, "libbar-dev (= 2.0-1)", "i386"), Some(true));
     assert_eq!(rt;
         met(&supply, "bar-doc (= 2.0-1), libbar-abi-2", "amd64"),
-        true
+        Some(true)
     );
     supply.arrive("baz", "amd64", 12)?;
-    assert_eq!(rt; met(&supply, "baz (= 1:3+b12)", "amd64"), true);
+    assert_eq!(rt; met(&supply, "baz (= 1:3+b12)", "amd64"), Some(true));
     Ok(())
 }
 
@@ -64,12 +79,20 @@ fn what_is_not_there_is_not_met(rt: HostRuntime) -> Result<(), Fail> {
     let alloc = rt.alloc();
     let mut supply = example(alloc)?;
     supply.arrive("bar", "s390x", 1)?;
-    assert_eq!(rt; met(&supply, "libbar-dev (>= 2.0-1+b1)", "amd64"), false);
-    assert_eq!(rt; met(&supply, "libbar-dev", "s390x"), false);
-    assert_eq!(rt; met(&supply, "libbar-dev (> 1)", "amd64"), false);
-    assert_eq!(rt; met(&Supply::empty(alloc), "libbar-dev", "amd64"), false);
+    assert_eq!(rt;
+        met(&supply, "libbar-dev (>= 2.0-1+b1)", "amd64"),
+        Some(false)
+    );
+    assert_eq!(rt; met(&supply, "libbar-dev", "s390x"), Some(false));
+    assert_eq!(rt; met(&supply, "libbar-dev (> 1)", "amd64"), Some(false));
+    assert_eq!(rt;
+        met(&Supply::empty(alloc), "libbar-dev", "amd64"),
+        Some(false)
+    );
     assert_eq!(rt; supply.version("bar"), Some("2.0-1"));
     assert_eq!(rt; supply.version("baz"), None);
+    assert_eq!(rt; upstream(&supply, "bar"), Some("2.0"));
+    assert_eq!(rt; upstream(&supply, "baz"), None);
     assert_eq!(rt; supply.archs().len(), 2);
     assert_eq!(rt; supply.len(), 5);
     Ok(())

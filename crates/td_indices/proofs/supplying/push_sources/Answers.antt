@@ -2,9 +2,11 @@ use Rattle.std.proofs.Common.{◌≡◌, ◌<◌, ℕ, List, [], ◌∷◌, Some
 use Rattle.std.specs.Borrow.{Bor}
 use Rattle.td_rows.proofs.Lists.{slice_get-map, slice_get-none}
 use Rattle.td_indices.specs.declared.sourced.Sourced.{Sourced}
-use Rattle.td_indices.specs.Sources.{source_of, sources_of}
+use Rattle.td_supply.specs.VersionTexts.{IsVersionText}
+use Rattle.td_indices.specs.Sources.{KeptSource, source_of, sources_of}
 use Rattle.td_indices.specs.Supplying.{with_sources}
 use Rattle.td_indices.proofs.Filling.{listed_left, listed_next, not_there}
+use Rattle.td_indices.proofs.LegalNames.{all_at}
 use Rattle.td_indices.proofs.supplying.push_sources.Goals as goal
 use Rattle.td_indices.proofs.supplying.push_sources.Goals.{in-Some+in_ok-push_source, in_default}
 
@@ -16,7 +18,11 @@ pub push_source-requires : goal.push_source-requires
 push_source-requires c =
     let es = c.args.sources.now.entries in
     let p : Bor (List ℕ) × Sourced = (c.in-Some.name.now, c.in-Some.sourced.now) in
-    record { absent = not_there c.loop-number.supply (sources_of es) c.loop-number.number (source_of p) c.requires.apart (kept_at es c.loop-number.number p c.in-Some.ensures.entry) c.loop-number.invariant.there }
+    let at = kept_at es c.loop-number.number p c.in-Some.ensures.entry in
+    record {
+      absent = not_there c.loop-number.supply (sources_of es) c.loop-number.number (source_of p) c.requires.apart at c.loop-number.invariant.there;
+      reads = all_at (λ (s : KeptSource). IsVersionText s.head.version) (sources_of es) c.loop-number.number (source_of p) c.requires.read at;
+    }
 
 pub loop-number-preserved : goal.loop-number-preserved
 loop-number-preserved c = elim c.match-get_index.branch [

@@ -38,7 +38,7 @@ pub invariant_of-self : goal.invariant_of-self
 invariant_of-self c =
     let s = c.self.inside in
     let kept = λ (test : Supplied → Bool). arrival-places test (table s.archs) c.args.source.now c.args.arch.now c.args.number s.items.items c.put_each.new.items.items (after c) in
-    (λ q. c.self.invariant.0 q ∙ kept (λ o. bytes_eq q o.name), λ q. c.self.invariant.1 q ∙ kept (is_of q))
+    (λ q. c.self.invariant.0 q ∙ kept (λ o. bytes_eq q o.name), λ q. c.self.invariant.1 q ∙ kept (is_of q), c.self.invariant.2)
 
 pub returns-clause-ok : goal.returns-clause-ok
 returns-clause-ok c =

@@ -1,4 +1,4 @@
-use Rattle.std.proofs.Common.{◌≡◌, ℕ, Bool, false, List, [], ◌∷◌, ◌++◌, Option, None, length, option_map, sym, ap, ◌∙◌, if◌then◌else◌}
+use Rattle.std.proofs.Common.{◌≡◌, ℕ, Bool, false, List, [], ◌∷◌, ◌++◌, Option, None, length, option_map, sym, subst, ap, ◌∙◌, if◌then◌else◌}
 use Rattle.std.specs.Option.{option_map_or}
 use Rattle.std.specs.Str.{bytes_eq}
 use Rattle.td_supply.specs.declared.stocked.Build.{Build}
@@ -7,7 +7,8 @@ use Rattle.td_supply.specs.declared.supply.Supply.TheInside.{Inside}
 use Rattle.td_supply.specs.Numbers.{numbers_of}
 use Rattle.td_supply.specs.Places.{places_from}
 use Rattle.td_supply.specs.Supplied.{Built}
-use Rattle.td_supply.specs.SupplyViews.{built, is_under, is_by}
+use Rattle.td_supply.specs.SupplyViews.{built, is_under, is_by, sources_of}
+use Rattle.td_supply.specs.VersionTexts.{AreVersions}
 use Rattle.td_supply.proofs.Places.{agrees-push, agrees-other}
 use Rattle.td_supply.proofs.supply.Supply.push.Goals as goal
 use Rattle.td_supply.proofs.supply.Supply.push.Goals.{in-Some+in_default-push, in_default}
@@ -33,10 +34,12 @@ invariant_of-self-2 c =
                 ap (λ (i : Inside). numbers_of i.by_source q) w.self-inside-is
                 ∙ agrees-push (is_by q) xs x old (numbers_of w.push-in-Some.new.self q) c.len-number.result (c.self.invariant.1 q) last (w.in_default-push.ensures.ok q ∙ ap (λ (b : Bool). if b then old ++ c.len-number.result ∷ [] else old) test)
                 ∙ ap (places_from (is_by q) 0) (sym items),
+            subst AreVersions (sym (ap (λ (i : Inside). sources_of i.sources.entries) w.self-inside-is)) c.self.invariant.2,
           )
       | in_default w ↦
           let items : c.push_reserved.new.self.items ≡ xs ++ x ∷ [] = c.push_reserved.ensures.items ∙ ap (λ (i : Inside). i.items.items ++ x ∷ []) w.self-inside-is ∙ ap (λ (l : List Stocked). l ++ x ∷ []) c.reserve.ensures.items in (
             λ q. ap (λ (i : Inside). numbers_of i.by_name q) w.self-inside-is ∙ names q ∙ ap (places_from (is_under q) 0) (sym items),
             λ q. ap (λ (i : Inside). numbers_of i.by_source q) w.self-inside-is ∙ agrees-other (is_by q) xs x (numbers_of c.self.inside.by_source q) (c.self.invariant.1 q) (ap (of_source q) w.in_default.is) ∙ ap (places_from (is_by q) 0) (sym items),
+            subst AreVersions (sym (ap (λ (i : Inside). sources_of i.sources.entries) w.self-inside-is)) c.self.invariant.2,
           )
     ]
