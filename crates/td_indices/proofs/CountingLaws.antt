@@ -17,7 +17,7 @@ use Rattle.td_indices.specs.declared.archive_fault.ArchiveFault.{ArchiveFault}
 use Rattle.td_indices.specs.declared.archive_fault.EntryFault.{EntryFault}
 use Rattle.td_indices.specs.declared.archive_fault.IndexFile.{IndexFile}
 use Rattle.td_indices.specs.declared.archive_fault.IndexFile.TheVariants.{Packages, Sources}
-use Rattle.td_indices.specs.Counting.{Counts, Apart, AreKept, AreItems, GreatestPackagesAreKept, GreatestSourcesAreKept}
+use Rattle.td_indices.specs.Counting.{Counts, Apart, AreKept, AreItems, GreatestPackagesAreKept, GreatestSourcesAreKept, PackageKeysAreExact, SourceKeysAreExact, LowerPackagesAreExact, LowerSourcesAreExact}
 use Rattle.td_indices.specs.Kept.{KeptBinary, binary_at, same_package, lower_package, put}
 use Rattle.td_indices.specs.PackageKeys.{same_home}
 use Rattle.td_indices.specs.Reading.{at_stanza, in_stanza, over_stanzas, put_some}
@@ -266,3 +266,17 @@ greatest_packages table stanzas kept is = all_kept same_package lower_package pa
 
 pub greatest_sources : GreatestSourcesAreKept
 greatest_sources stanzas kept is = all_kept same_source lower_source source_orders kept_source_at Sources stanzas kept is
+
+-- ---- what the two tests say
+
+pub package_keys : PackageKeysAreExact
+package_keys a b = (package_parts a b, λ h. package_again a b h.0 h.1)
+
+pub source_keys : SourceKeysAreExact
+source_keys a b = (source_names a b, source_again a b)
+
+pub lower_packages : LowerPackagesAreExact
+lower_packages a b = (lt_is (version_cmp a.head.parts b.head.parts), λ h. ap is_lt h)
+
+pub lower_sources : LowerSourcesAreExact
+lower_sources a b = (lt_is (version_cmp a.head.parts b.head.parts), λ h. ap is_lt h)

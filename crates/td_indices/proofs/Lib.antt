@@ -21,3 +21,5 @@ pub mod FirstFaults
 pub mod Refusals
 pub mod OpeningLaws
 pub mod OpeningCounts
+pub mod PackageStanzas
+pub mod OfferLaws

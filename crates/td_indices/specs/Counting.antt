@@ -1,7 +1,9 @@
 -- Of several stanzas of one key, one counts. This project's own.
-use Rattle.std.specs.Prelude.{◌≡◌, ℕ, ◌+◌, Bool, true, false, List, [], ◌∷◌, ◌++◌, Option, Some, None, Result, Ok}
+use Rattle.std.specs.Prelude.{◌≡◌, ◌↔◌, ℕ, ◌+◌, Bool, true, false, List, [], ◌∷◌, ◌++◌, Option, Some, None, Result, Ok}
 use Rattle.std.specs.List.{list_any, AllByRecursion}
+use Rattle.std.specs.declared.cmp.Ordering.TheVariants.{Less}
 use Rattle.td_stanza.specs.Field.{Entry}
+use Rattle.td_version.specs.Order.{version_cmp}
 use Rattle.td_relation.specs.Arch.{ArchWords}
 use Rattle.td_indices.specs.declared.archive_fault.EntryFault.{EntryFault}
 use Rattle.td_indices.specs.Kept.{KeptBinary, binary_at, same_package, lower_package}
@@ -48,3 +50,18 @@ abbrev pub GreatestSourcesAreKept : Type 0
 GreatestSourcesAreKept =
     (stanzas : List (List Entry)) (kept : List KeptSource) → sources_at stanzas ≡ Ok kept →
     (items : List KeptSource) × AreItems kept_source_at 0 stanzas items × AreKept same_source lower_source items kept
+
+-- two packages have one key exactly where they have one name and are in one place ..
+abbrev pub PackageKeysAreExact : Type 0
+PackageKeysAreExact = (a b : KeptBinary) → (same_package a b ≡ true) ↔ ((a.head.name ≡ b.head.name) × (a.head.home ≡ b.head.home))
+
+-- .. two sources where they have one name
+abbrev pub SourceKeysAreExact : Type 0
+SourceKeysAreExact = (a b : KeptSource) → (same_source a b ≡ true) ↔ (a.head.name ≡ b.head.name)
+
+-- the one is lower exactly where its own version is less in order than the other's
+abbrev pub LowerPackagesAreExact : Type 0
+LowerPackagesAreExact = (a b : KeptBinary) → (lower_package a b ≡ true) ↔ (version_cmp a.head.parts b.head.parts ≡ Less)
+
+abbrev pub LowerSourcesAreExact : Type 0
+LowerSourcesAreExact = (a b : KeptSource) → (lower_source a b ≡ true) ↔ (version_cmp a.head.parts b.head.parts ≡ Less)

@@ -17,3 +17,5 @@ pub mod Supplying
 pub mod Stanzas
 pub mod OfferedNames
 pub mod FirstFaults
+pub mod PackageStanzas
+pub mod OfferLaws

@@ -1,6 +1,15 @@
-ghost use Rattle.td_indices.specs.Counting.{GreatestPackagesAreKept, GreatestSourcesAreKept};
+ghost use Rattle.td_indices.specs.Counting.{
+  GreatestPackagesAreKept,
+  GreatestSourcesAreKept,
+  LowerPackagesAreExact,
+  LowerSourcesAreExact,
+  PackageKeysAreExact,
+  SourceKeysAreExact,
+};
 ghost use Rattle.td_indices.specs.FirstFaults.{FirstFaultyPackageIsNamed, FirstFaultySourceIsNamed};
+ghost use Rattle.td_indices.specs.OfferLaws.{OffersAreExact};
 ghost use Rattle.td_indices.specs.OfferedNames.{NamesAreThoseOfOffers};
+ghost use Rattle.td_indices.specs.PackageStanzas.{PackagesAreExact};
 
 /// Of the packages and the sources that the stanzas stand for, each by itself, those are kept that
 /// count: one of each key, with the greatest version, the first of those equal in order.
@@ -18,4 +27,25 @@ pub fn offered_names_are_those_of_offers()
 pub fn first_faulty_stanzas_are_named()
     ensures packages { FirstFaultyPackageIsNamed }
     ensures sources { FirstFaultySourceIsNamed }
+{}
+
+/// Two stanzas are of one key exactly where they have one name, and packages one place too; one is
+/// lower than another exactly where its version is less in order.
+pub fn keys_and_versions_decide()
+    ensures package_keys { PackageKeysAreExact }
+    ensures source_keys { SourceKeysAreExact }
+    ensures package_versions { LowerPackagesAreExact }
+    ensures source_versions { LowerSourcesAreExact }
+{}
+
+/// A stanza of Packages is read as a package exactly where it is that package; so a Source field
+/// is a name alone, or a name and a version in brackets.
+pub fn package_stanzas_are_read_exactly()
+    ensures { PackagesAreExact }
+{}
+
+/// What an archive puts on offer is each package itself, and each name that it provides, with the
+/// version that stands there behind `=`, or without one where no restriction stands there.
+pub fn offers_come_of_packages()
+    ensures { OffersAreExact }
 {}

@@ -36,7 +36,8 @@ mod text;
 pub use archive::Archive;
 pub use archive_fault::{ArchiveFault, IndexField, IndexFile};
 pub use laws::{
-    first_faulty_stanzas_are_named, greatest_versions_are_kept, offered_names_are_those_of_offers,
+    first_faulty_stanzas_are_named, greatest_versions_are_kept, keys_and_versions_decide,
+    offered_names_are_those_of_offers, offers_come_of_packages, package_stanzas_are_read_exactly,
 };
 pub use offered_names::OfferedNames;
 pub use packaged::Binary;

@@ -13,3 +13,4 @@ pub mod WrittenProfiles
 pub mod WrittenAlternatives
 pub mod WrittenMembers
 pub mod MeetingLaws
+pub mod Blanks

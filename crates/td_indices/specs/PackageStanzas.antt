@@ -1,0 +1,45 @@
+-- Which stanzas of Packages are which binary packages, and what a Source field says, by how it is written: Debian Policy 5.3, 5.6.1, deb-control(5).
+use Rattle.std.specs.Prelude.{◌≡◌, ◌⊎◌, ◌↔◌, ℕ, IsTrue, List, ◌++◌, Option, Some, None, Ok, codes}
+use Rattle.td_text.specs.Words.{is_name}
+use Rattle.td_stanza.specs.Field.{Entry}
+use Rattle.td_version.specs.Grammar.{IsVersion}
+use Rattle.td_version.specs.Version.{Parts}
+use Rattle.td_relation.specs.Arch.{ArchWords}
+use Rattle.td_relation.specs.Runs.{is_blank}
+use Rattle.td_indices.specs.Binaries.{BinaryPackage, home_of, package_at}
+use Rattle.td_indices.specs.Fields.{value_of}
+
+-- `foo`: a name alone; the source has the version that the package has
+pub record IsName (text source : List ℕ) (own parts : Parts) : Type 0 where
+  pub spelled : text ≡ source
+  pub legal : IsTrue (is_name source)
+  pub same : parts ≡ own
+
+-- `foo (1.2-3)`: a name and a version in brackets; whitespace may stand between them, and nowhere else (this project's own)
+pub record IsNameWithVersion (text source : List ℕ) (parts : Parts) : Type 0 where
+  pub space : List ℕ
+  pub version : List ℕ
+  pub spelled : text ≡ source ++ (space ++ (codes "(" ++ (version ++ codes ")")))
+  pub legal : IsTrue (is_name source)
+  pub blank : IsTrue (is_blank space)
+  pub readable : IsVersion version parts
+
+-- a package of this name and version with this Source field, or with none, has the source of this name and version
+abbrev pub HasSource : List ℕ → Parts → Option (List ℕ) → List ℕ → Parts → Type 0
+HasSource name own None source parts = (source ≡ name) × (parts ≡ own)
+HasSource name own (Some text) source parts = IsName text source own parts ⊎ IsNameWithVersion text source parts
+
+-- the stanza with these fields is this binary package: its name is legal, its version readable, its architecture in the table or `all`
+pub record IsPackage (table : List ArchWords) (fields : List Entry) (p : BinaryPackage) : Type 0 where
+  pub name : value_of fields (codes "Package") ≡ Some p.name
+  pub legal : IsTrue (is_name p.name)
+  pub version : value_of fields (codes "Version") ≡ Some p.version
+  pub readable : IsVersion p.version p.parts
+  pub arch : List ℕ
+  pub there : value_of fields (codes "Architecture") ≡ Some arch
+  pub here : home_of table arch ≡ Some p.home
+  pub source : HasSource p.name p.parts (value_of fields (codes "Source")) p.source p.source_parts
+
+-- a stanza is read as a package exactly where it is that package
+abbrev pub PackagesAreExact : Type 0
+PackagesAreExact = (table : List ArchWords) (fields : List Entry) (p : BinaryPackage) → (package_at table fields ≡ Ok (Some p)) ↔ IsPackage table fields p
