@@ -14,3 +14,7 @@ pub mod WrittenAlternatives
 pub mod WrittenMembers
 pub mod MeetingLaws
 pub mod Blanks
+pub mod SpacedWords
+pub mod SpacedParts
+pub mod SpacedProfiles
+pub mod SpacedRelations

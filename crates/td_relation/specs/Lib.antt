@@ -18,3 +18,4 @@ pub mod RelationViews
 pub mod RelationWriting
 pub mod MeetingLaws
 pub mod Props
+pub mod Spacing

@@ -1,5 +1,6 @@
 ghost use Rattle.td_relation.specs.MeetingLaws.{ListsCount, MoreStillMeets, OthersMakeNoDifference};
 ghost use Rattle.td_relation.specs.RelationWriting.{RelationsAreReadAgain};
+ghost use Rattle.td_relation.specs.Spacing.{SpacedRelationsAreRead, WhitespaceMakesNoDifference};
 
 /// A relation that is written in the canonical way is read again, as what it asks.
 pub fn written_relations_are_read_again()
@@ -12,4 +13,11 @@ pub fn relations_ask_for_what_they_name()
     ensures others { OthersMakeNoDifference }
     ensures more { MoreStillMeets }
     ensures lists { ListsCount }
+{}
+
+/// A relation with any whitespace between its parts, and with members of whitespace alone, is read
+/// as what its parts ask.
+pub fn spaced_relations_are_read()
+    ensures read { SpacedRelationsAreRead }
+    ensures same { WhitespaceMakesNoDifference }
 {}

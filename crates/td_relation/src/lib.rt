@@ -31,7 +31,9 @@ mod tests;
 
 pub use arch::Arch;
 pub use archs::{Archs, ArchsFault, MAX_ARCHS};
-pub use laws::{relations_ask_for_what_they_name, written_relations_are_read_again};
+pub use laws::{
+    relations_ask_for_what_they_name, spaced_relations_are_read, written_relations_are_read_again,
+};
 pub use members::Members;
 pub use offering::Offering;
 pub use offers::{Offer, Offers};
