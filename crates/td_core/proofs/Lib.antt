@@ -13,3 +13,5 @@ pub mod Inverse
 pub mod Arrivals
 pub mod Freeing
 pub mod Offering
+pub mod Replaying
+pub mod Rearriving

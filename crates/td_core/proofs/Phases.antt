@@ -95,6 +95,13 @@ set-past [] (suc i) y h = refl
 set-past (z ∷ xs) zero y h = absurd (omega (arith, h))
 set-past (z ∷ xs) (suc i) y h = ap (λ ys. z ∷ ys) (set-past xs i y (omega (arith, h)))
 
+-- what stands there already
+pub set-same : {A : Type 0} (xs : List A) (i : ℕ) (y : A) → slice_get xs i ≡ Some y → set xs i y ≡ xs
+set-same [] zero y h = refl
+set-same [] (suc i) y h = refl
+set-same (z ∷ xs) zero y h = let same : y ≡ z = cc in ap (λ x. x ∷ xs) same
+set-same (z ∷ xs) (suc i) y h = ap (λ ys. z ∷ ys) (set-same xs i y h)
+
 pub set-set : {A : Type 0} (xs : List A) (i : ℕ) (x y : A) → set (set xs i x) i y ≡ set xs i y
 set-set [] zero x y = refl
 set-set [] (suc i) x y = refl

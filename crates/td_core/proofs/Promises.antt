@@ -1,5 +1,5 @@
 -- What holds over every list of steps.
-use Rattle.std.proofs.Common.{◌≡◌, ◌↔◌, ℕ, zero, suc, ◌+◌, ◌-◌, ◌≤◌, subst, true, false, not, ◌&&◌, ◌==◌, List, [], ◌∷◌, ◌++◌, map, length, Option, Some, None, if◌then◌else◌, slice_get, ap, refl, sym, ◌∙◌, append-nil, arith}
+use Rattle.std.proofs.Common.{◌≡◌, ◌↔◌, ℕ, zero, suc, ◌+◌, ◌-◌, ◌≤◌, subst, true, false, not, ◌&&◌, ◌==◌, List, [], ◌∷◌, ◌++◌, length, Option, Some, None, if◌then◌else◌, slice_get, ap, refl, sym, ◌∙◌, append-nil, arith}
 use Rattle.std.specs.Prelude.{nat_lt}
 use Rattle.std.specs.Option.{option_or}
 use Rattle.std.proofs.lemmas.Bool.Decides.{nat_tests}
@@ -19,19 +19,19 @@ use Rattle.td_journal.proofs.Undoing.{standing-append, entry_at-place}
 use Rattle.td_core.specs.declared.step.Phase.{Phase}
 use Rattle.td_core.specs.declared.step.Phase.TheVariants.{Closed, Open, Held, Noted, Done}
 use Rattle.td_core.specs.declared.step.Hand.{Hand}
-use Rattle.td_core.specs.declared.step.Hand.TheVariants.{Free, Holding, Finished}
+use Rattle.td_core.specs.declared.step.Hand.TheVariants.{Holding, Finished}
 use Rattle.td_core.specs.declared.step.Step.{Step}
-use Rattle.td_core.specs.declared.step.Step.TheVariants.{Offer, Withdraw, Claim, Note, Commit, Undo, Finish, Settle, Release, Arrive, Sweep}
+use Rattle.td_core.specs.declared.step.Step.TheVariants.{Commit, Undo}
 use Rattle.td_core.specs.declared.step.Refusal.{Refusal}
 use Rattle.td_core.specs.declared.step.Refusal.TheVariants.{Blocked, NotPinned, NotACommand, NoSuchEntry}
 use Rattle.td_core.specs.declared.step.Answer.{Answer}
 use Rattle.td_core.specs.declared.step.Answer.TheVariants.{Undone, Refused}
-use Rattle.td_core.specs.History.{History, rows_of, with_entry}
+use Rattle.td_core.specs.History.{rows_of}
 use Rattle.td_core.specs.Phases.{is_pinned, Suits}
 use Rattle.td_rows.specs.States.{is_building}
-use Rattle.td_core.specs.Worlds.{WorldView, phase_of, hand_of, journaled, world_of, InHand, IsWorld}
+use Rattle.td_core.specs.Worlds.{WorldView, hand_of, journaled, world_of, InHand, IsWorld}
 use Rattle.td_core.specs.Refusals.{refused_if, first_refused, first_unpinned, mark_refusal, undo_refusal}
-use Rattle.td_core.specs.Steps.{refusal, accepted, noted, settled, finished, swept, swept_now, answer_to, after, after_all}
+use Rattle.td_core.specs.Steps.{answer_to, after, after_all}
 use Rattle.td_core.specs.Promises.{EveryWorld, OfferedRowsWait, is_known_by, BuiltExactly, HandsFollow, builder_in, BuildersAreThere, EntriesRise, UndoneAtOnce, StandingCommand, BlockedExactly, UndoneElse}
 use Rattle.td_core.proofs.Phases.{hand_of-within}
 use Rattle.td_core.proofs.Refusing.{commits}

@@ -1,6 +1,7 @@
 pub mod History
 pub mod Keeps
 pub mod Offers
+pub mod Arriving
 pub mod Books
 pub mod Committing
 pub mod Phases
@@ -9,3 +10,4 @@ pub mod Refusals
 pub mod Steps
 pub mod Promises
 pub mod Inverse
+pub mod Reopened

@@ -36,6 +36,11 @@ with_phase w k p = record w { phases = set w.phases (number_of w.history.opening
 abbrev pub hand_in : List Hand → ℕ → Option Hand
 hand_in hands b = if b == 0 then None else slice_get hands (b - 1)
 
+-- the row that a hand holds, if it is there and holds one
+abbrev pub held_in : Option Hand → Option Key
+held_in (Some (Holding k)) = Some k
+held_in h = None
+
 -- the hand of a builder
 abbrev pub hand_of : WorldView → ℕ → Option Hand
 hand_of w b = hand_in w.hands b

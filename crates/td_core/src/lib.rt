@@ -20,6 +20,7 @@ mod kept;
 mod key_list;
 pub mod laws;
 mod refusals;
+mod reopening;
 mod runs;
 mod searching;
 mod step;

@@ -53,7 +53,7 @@ pub enum Step {
 }
 
 /// Why a step is refused.
-#[derive(Debug, Drop)]
+#[derive(Debug, PartialEq, Eq, Drop)]
 pub enum Refusal {
     /// The key has no row. A commit names the first such of its keys.
     NoSuchRow(Option<Key>),
@@ -98,7 +98,7 @@ pub enum Refusal {
 }
 
 /// What a step answers.
-#[derive(Debug, Drop)]
+#[derive(Debug, PartialEq, Eq, Drop)]
 pub enum Answer {
     Done,
     /// The entry was journalled under the number.

@@ -1,7 +1,7 @@
-ghost use Rattle.std.specs.Prelude.{◌≡◌, ◌≢◌, ◌<◌, ◌-◌, Some, true, false, length, set, slice_get, IfOk, IsOk, OnOk, OnErr};
-ghost use Rattle.td_rows.specs.declared.key.Key.{Key as KeyValue};
+ghost use Rattle.std.specs.Prelude.{◌≡◌, ◌≢◌, ◌<◌, ◌-◌, true, false, length, set, slice_get, IfOk, IfSome, IfNone, IsOk, OnOk, OnErr};
 ghost use Rattle.td_change.specs.Saved.{number_of};
 ghost use Rattle.td_core.specs.Steps.{answer_to, after, takes_memory};
+ghost use Rattle.td_core.specs.Worlds.{held_in};
 
 use crate::books::Books;
 use crate::key_list::KeyList;
@@ -31,15 +31,21 @@ fn put_hand(hands: &mut Vec<Hand>, builder: BuilderNo, hand: Hand)
     hands[(builder - 1) as usize] = hand;
 }
 
-// The key that the builder holds, moved out of its hand.
+// The key that the builder holds, moved out of its hand, which is free then. A hand that holds none
+// stays as it was.
 fn take_held(hands: &mut Vec<Hand>, builder: BuilderNo) -> Option<Key>
     requires within { (0 < builder) × (builder - 1 < length hands.old.items) }
-    ensures key { (key : KeyValue) → slice_get hands.old.items (builder - 1) ≡ Some (Hand.Holding key) → result ≡ Some key }
-    ensures free { hands.new.items ≡ set hands.old.items (builder - 1) Hand.Free }
+    ensures key { result ≡ held_in (slice_get hands.old.items (builder - 1)) }
+    ensures free { IfSome result (λ key. hands.new.items ≡ set hands.old.items (builder - 1) Hand.Free) }
+    ensures stays { IfNone result (hands.new.items ≡ hands.old.items) }
 {
-    match mem::replace(&mut hands[(builder - 1) as usize], Hand::Free) {
+    let hand = &mut hands[(builder - 1) as usize];
+    match mem::replace(hand, Hand::Free) {
         Hand::Holding(key) => Some(key),
-        _ => None,
+        other => {
+            *hand = other;
+            None
+        }
     }
 }
 
