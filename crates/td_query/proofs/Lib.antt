@@ -8,3 +8,7 @@ pub mod Entries
 pub mod Unescaping
 pub mod PatternLists
 pub mod TrackerTexts
+pub mod Gathering
+pub mod KeptMarks
+pub mod RowStatuses
+pub mod AffectedSources

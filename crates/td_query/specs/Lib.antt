@@ -9,3 +9,5 @@ pub mod TrackerViews
 pub mod Sources
 pub mod TrackerFaults
 pub mod Tracking
+pub mod Statuses
+pub mod Marks

@@ -13,10 +13,15 @@
 
 mod atom;
 mod compiling;
+mod mark;
+mod marking;
+mod marks;
 mod parse;
 mod query;
 mod read_fault;
+mod row_mark;
 mod standing;
+mod status;
 #[cfg(test)]
 mod tests;
 mod tokens;
@@ -26,6 +31,8 @@ mod tracker_reading;
 mod truth;
 mod unescape;
 
+pub use marks::Marks;
 pub use query::Query;
+pub use status::Status;
 pub use tracker::Tracker;
 pub use tracker_fault::{TrackerFault, TrackerKey};

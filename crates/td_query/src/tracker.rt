@@ -17,10 +17,10 @@ use std::alloc::Global;
 #[derive(Drop)]
 pub struct Tracker<'a> {
     title: &'a str,
-    affected: Query<'a>,
-    good: Query<'a>,
-    bad: Query<'a>,
-    patterns: Vec<Regex>,
+    pub(crate) affected: Query<'a>,
+    pub(crate) good: Query<'a>,
+    pub(crate) bad: Query<'a>,
+    pub(crate) patterns: Vec<Regex>,
 }
 
 // The tracker of these keys, if none is missing.

@@ -1,0 +1,112 @@
+//! The marks of an archive: what a tracker says of each stanza, and of rows by it.
+
+use crate::mark::Mark;
+use crate::marking::{mark_packages, mark_sources};
+use crate::row_mark::is_there;
+use crate::status::Status;
+use crate::tracker::Tracker;
+use crate::truth::matchers_of;
+use std::alloc::{AllocError, Global};
+use td_indices::Archive;
+
+/// What a tracker says of each stanza of an archive, so that the status of a row takes no memory
+/// and looks at the packages of its own source alone.
+#[derive(Debug, Drop)]
+pub struct Marks {
+    packages: Vec<Mark>,
+    sources: Vec<Mark>,
+}
+
+impl Marks {
+    ghost use Rattle.std.specs.Prelude.{◌≡◌, IfOk, map};
+    ghost use Rattle.td_query.specs.Marks.{AreMarks, mark_there as mark_there_of, row_mark as row_mark_of};
+    ghost use Rattle.td_query.specs.Statuses.{affected_names, is_affected_at, status_at};
+    ghost use Rattle.td_query.specs.Tracking.{Tracking, tracking};
+
+    /// The marks of an archive: each query is evaluated once on each stanza that was kept.
+    pub fn make(
+        alloc: Global,
+        archive: &Archive<'_, '_>,
+        tracker: &Tracker<'_>,
+    ) -> Result<Marks, AllocError>
+        ensures { IfOk result (AreMarks archive.now (tracking tracker.now)) }
+    {
+        let mut matchers = matchers_of(alloc, tracker.patterns.as_slice())?;
+        let packages = mark_packages(alloc, archive, tracker, &mut matchers)?;
+        let sources = mark_sources(alloc, archive, tracker, &mut matchers)?;
+        Ok(Marks { packages, sources })
+    }
+
+    // What holds on the stanza of the package with a number, if it is there.
+    fn mark_there(&self, archive: &Archive<'_, '_>, number: usize, place: usize) -> Mark
+        ensures { (t : Tracking) → AreMarks archive.now t self.now → result ≡ mark_there_of archive.now t.patterns t place number }
+    {
+        match archive.binary(number) {
+            Some(binary) if is_there(place, binary.arch) => match self.packages.get(number) {
+                Some(mark) => *mark,
+                None => Mark::none(),
+            },
+            _ => Mark::none(),
+        }
+    }
+
+    // What holds on some stanza of the row.
+    fn row_mark(&self, archive: &Archive<'_, '_>, source: usize, place: usize) -> Mark
+        ensures { (t : Tracking) → AreMarks archive.now t self.now → result ≡ row_mark_of archive.now t.patterns t source place }
+    {
+        let Some(found) = archive.source_at(source) else {
+            return Mark::none();
+        };
+        let Some(own) = self.sources.get(source) else {
+            return Mark::none();
+        };
+        let mut mark = *own;
+        for number in archive.packages_of(found.name) {
+            mark = mark.or(self.mark_there(archive, *number, place));
+        }
+        mark
+    }
+
+    /// The status of the row of the source with a number on the architecture at a place, where
+    /// there is such a row and it is affected. The archive is the one that the marks are of.
+    pub fn status(&self, archive: &Archive<'_, '_>, source: usize, place: usize) -> Option<Status>
+        ensures { (t : Tracking) → AreMarks archive.now t self.now → result ≡ status_at archive.now t source place }
+    {
+        if place >= archive.arch_count() || !archive.has_row(source, place) {
+            return None;
+        }
+        self.row_mark(archive, source, place).status()
+    }
+
+    /// Whether some row of the source with a number is affected.
+    pub fn is_affected(&self, archive: &Archive<'_, '_>, source: usize) -> bool
+        ensures { (t : Tracking) → AreMarks archive.now t self.now → result ≡ is_affected_at archive.now t source }
+    {
+        for place in 0..archive.arch_count() {
+            if self.status(archive, source, place).is_some() {
+                return true;
+            }
+        }
+        false
+    }
+
+    /// The names of the affected sources, in the order in which the archive holds them.
+    pub fn affected_sources<'a>(
+        &self,
+        alloc: Global,
+        archive: &Archive<'_, 'a>,
+    ) -> Result<Vec<&'a str>, AllocError>
+        ensures { (t : Tracking) → AreMarks archive.now t self.now → IfOk result (λ names. map (λ name. name.now) names.items ≡ affected_names archive.now t) }
+    {
+        let mut names = Vec::new(alloc);
+        for number in 0..archive.source_count() {
+            if self.is_affected(archive, number) {
+                match archive.source_at(number) {
+                    Some(source) => names.push(source.name)?,
+                    None => {}
+                }
+            }
+        }
+        Ok(names)
+    }
+}

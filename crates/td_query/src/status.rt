@@ -1,0 +1,30 @@
+//! The status of an affected row.
+ghost use Rattle.std.specs.Prelude.{◌≡◌};
+ghost use Rattle.td_query.specs.Statuses.{status_name};
+
+/// How far the rebuild of an affected row has come.
+#[derive(Clone, Copy, Debug, PartialEq, Eq, Hash)]
+pub enum Status {
+    /// It is good, and not bad.
+    Good,
+    /// It is bad, and not good.
+    Bad,
+    /// It is good and bad.
+    Partial,
+    /// It is neither.
+    Unknown,
+}
+
+impl Status {
+    /// The name that a report prints.
+    pub fn name(self) -> &'static str
+        ensures { result.now ≡ status_name self }
+    {
+        match self {
+            Status::Good => "good",
+            Status::Bad => "bad",
+            Status::Partial => "partial",
+            Status::Unknown => "unknown",
+        }
+    }
+}
