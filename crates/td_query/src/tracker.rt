@@ -1,5 +1,6 @@
 ghost use Rattle.std.specs.Prelude.{◌≡◌, IfErr, IfOk, length, map};
 ghost use Rattle.regex.specs.Strings.{regex_source};
+ghost use Rattle.td_query.specs.Statuses.{status_of};
 ghost use Rattle.td_query.specs.TrackerFaults.{FaultOf, IsMissing, IsPatternFault, log_in};
 ghost use Rattle.td_query.specs.TrackerGrammar.{said_in};
 ghost use Rattle.td_query.specs.Tracking.{IsSaid, IsTracker, Tracking, tracking};
@@ -8,10 +9,15 @@ ghost use Rattle.td_query.specs.TrackerViews.{said};
 use crate::compiling::compile;
 use crate::query::Query;
 use crate::read_fault::ReadFault;
+use crate::row_mark::row_mark;
+use crate::status::Status;
 use crate::tracker_fault::{TrackerFault, TrackerKey};
 use crate::tracker_reading::{Keys, no_keys, read_entries};
+use crate::truth::matchers_of;
 use regex::Regex;
-use std::alloc::Global;
+use std::alloc::{AllocError, Global};
+use td_indices::Archive;
+use td_rows::Key;
 
 /// Which packages a transition affects, and which of them are good or bad.
 #[derive(Drop)]
@@ -90,5 +96,28 @@ impl<'a> Tracker<'a> {
         ensures { result.now ≡ (tracking self.now).title }
     {
         self.title
+    }
+
+    /// The status of the row of a key, where the archive has such a row and it is affected. The
+    /// queries are evaluated on the row's own stanzas; for many rows make `Marks` first.
+    pub fn status(
+        &self,
+        alloc: Global,
+        archive: &Archive<'_, '_>,
+        key: &Key,
+    ) -> Result<Option<Status>, AllocError>
+        ensures { IfOk result (λ status. status ≡ status_of archive.now (tracking self.now) key.now) }
+    {
+        let Some(source) = archive.source_number(key.source()) else {
+            return Ok(None);
+        };
+        let Some(place) = archive.archs().index(key.arch()) else {
+            return Ok(None);
+        };
+        if place >= archive.arch_count() || !archive.has_row(source, place) {
+            return Ok(None);
+        }
+        let mut matchers = matchers_of(alloc, self.patterns.as_slice())?;
+        Ok(row_mark(self, archive, source, place, &mut matchers).status())
     }
 }
