@@ -11,8 +11,8 @@ use crate::name::is_same_name;
 use std::alloc::{AllocError, Global};
 use std::collections::HashSet;
 
-/// How many fields of a stanza are compared with a name one by one: the stanzas of real archives
-/// have no more. The names of further fields are looked up.
+/// How many fields of a stanza are compared with a name one by one; the stanzas of real archives
+/// have some twenty. The names of further fields are looked up.
 const COMPARED: usize = 32;
 
 fn has_name(fields: &[Field<'_>], name: &str) -> bool
