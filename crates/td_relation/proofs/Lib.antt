@@ -18,3 +18,7 @@ pub mod SpacedWords
 pub mod SpacedParts
 pub mod SpacedProfiles
 pub mod SpacedRelations
+pub mod FoundWords
+pub mod FoundParts
+pub mod FoundProfiles
+pub mod FoundRelations

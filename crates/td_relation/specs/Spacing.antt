@@ -1,7 +1,8 @@
 -- Relations, written with whitespace wherever it is free: Debian Policy 7.1 and 7.5, deb-src-control(5) on build profiles. That newlines count as whitespace, and that a member may be of whitespace alone, is this project's own.
-use Rattle.std.specs.Prelude.{◌≡◌, ◌≢◌, ℕ, IsTrue, List, [], ◌∷◌, ◌++◌, Option, Some, None, option_map, Ok, map, codes}
+use Rattle.std.specs.Prelude.{◌≡◌, ◌≢◌, ◌↔◌, ℕ, IsTrue, List, [], ◌∷◌, ◌++◌, Option, Some, None, option_map, Ok, map, codes}
 use Rattle.std.specs.List.{AllByRecursion, join_by}
 use Rattle.td_relation.specs.ArchList.{is_space}
+use Rattle.td_relation.specs.Asked.{Asked}
 use Rattle.td_relation.specs.RelationGrammar.{relation_at}
 use Rattle.td_relation.specs.RelationWriting.{WrittenBound, WrittenArchs, WrittenProfile, WrittenAlternative, operator_text, marked, profile_text, qualifier_part, AlternativeFits, alternative_asked}
 use Rattle.td_relation.specs.Runs.{is_blank}
@@ -142,3 +143,14 @@ SpacedRelationsAreRead = (r : List SpacedMember) → RelationIsSpaced r → rela
 -- so whitespace, and members of it alone, make no difference
 abbrev pub WhitespaceMakesNoDifference : Type 0
 WhitespaceMakesNoDifference = (r s : List SpacedMember) → RelationIsSpaced r → RelationIsSpaced s → unspaced_members r ≡ unspaced_members s → relation_at (spaced_relation r) ≡ relation_at (spaced_relation s)
+
+-- the text is a relation, written with some whitespace, whose parts ask this
+pub record IsRelation (text : List ℕ) (asked : List (List Asked)) : Type 0 where
+  pub written : List SpacedMember
+  pub spaced : RelationIsSpaced written
+  pub spelled : text ≡ spaced_relation written
+  pub asks : asked ≡ map (λ m. map alternative_asked m) (unspaced_members written)
+
+-- a text is read so exactly where it is a relation that asks so
+abbrev pub RelationsAreExact : Type 0
+RelationsAreExact = (text : List ℕ) (asked : List (List Asked)) → (relation_at text ≡ Ok asked) ↔ IsRelation text asked

@@ -1,6 +1,6 @@
 ghost use Rattle.td_relation.specs.MeetingLaws.{ListsCount, MoreStillMeets, OthersMakeNoDifference};
 ghost use Rattle.td_relation.specs.RelationWriting.{RelationsAreReadAgain};
-ghost use Rattle.td_relation.specs.Spacing.{SpacedRelationsAreRead, WhitespaceMakesNoDifference};
+ghost use Rattle.td_relation.specs.Spacing.{RelationsAreExact, SpacedRelationsAreRead, WhitespaceMakesNoDifference};
 
 /// A relation that is written in the canonical way is read again, as what it asks.
 pub fn written_relations_are_read_again()
@@ -20,4 +20,10 @@ pub fn relations_ask_for_what_they_name()
 pub fn spaced_relations_are_read()
     ensures read { SpacedRelationsAreRead }
     ensures same { WhitespaceMakesNoDifference }
+{}
+
+/// A text is read as a relation exactly where it is one, written with some whitespace, and asks
+/// what its parts ask.
+pub fn relations_are_read_exactly()
+    ensures { RelationsAreExact }
 {}

@@ -5,9 +5,10 @@
 //! on offer is any `Offering`; `Offers` is one. `Relation::members` goes through what a relation
 //! asks. All of them hold slices of the texts, and nothing but reading, `Offers::push` and
 //! `Archs::copy` takes memory.
-//! Promised: a table is read exactly where it is one, a relation exactly as `specs/RelationGrammar`
-//! says, else the first fault is named; what is written as `specs/RelationWriting` says is read
-//! again; and a relation is met as `specs/Meeting` says.
+//! Promised: a table is read exactly where it is one, a relation exactly where it is one as
+//! `specs/Spacing` says, else the first fault is named as `specs/RelationGrammar` says; what is
+//! written as `specs/RelationWriting` says is read again; and a relation is met as `specs/Meeting`
+//! says.
 #![tactic(auto)]
 
 mod alternative_reading;
@@ -32,7 +33,8 @@ mod tests;
 pub use arch::Arch;
 pub use archs::{Archs, ArchsFault, MAX_ARCHS};
 pub use laws::{
-    relations_ask_for_what_they_name, spaced_relations_are_read, written_relations_are_read_again,
+    relations_are_read_exactly, relations_ask_for_what_they_name, spaced_relations_are_read,
+    written_relations_are_read_again,
 };
 pub use members::Members;
 pub use offering::Offering;
