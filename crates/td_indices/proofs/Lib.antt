@@ -23,3 +23,4 @@ pub mod OpeningLaws
 pub mod OpeningCounts
 pub mod PackageStanzas
 pub mod OfferLaws
+pub mod SourceStanzas

@@ -32,7 +32,7 @@ use Rattle.td_indices.specs.PackageStanzas.{HasSource, IsName, IsNameWithVersion
 
 -- ---- fields
 
-name_found : (field : IndexField) (o : Option (List ℕ)) (name : List ℕ) → name_in field o ≡ Ok name → (o ≡ Some name) × (is_name name ≡ true)
+pub name_found : (field : IndexField) (o : Option (List ℕ)) (name : List ℕ) → name_in field o ≡ Ok name → (o ≡ Some name) × (is_name name ≡ true)
 name_found field None name e = absurd cc
 name_found field (Some text) name e = by (is_name text) refl e
   where
@@ -40,10 +40,10 @@ name_found field (Some text) name e = by (is_name text) refl e
     by true is k = let same = ok_is EntryFault text name k in (ap (λ (t : List ℕ). Some t) same, ap is_name (sym same) ∙ is)
     by false is k = absurd cc
 
-name_again : (field : IndexField) (o : Option (List ℕ)) (name : List ℕ) → o ≡ Some name → is_name name ≡ true → name_in field o ≡ Ok name
+pub name_again : (field : IndexField) (o : Option (List ℕ)) (name : List ℕ) → o ≡ Some name → is_name name ≡ true → name_in field o ≡ Ok name
 name_again field o name e legal = ap (name_in field) e ∙ ap (λ (b : Bool). cond b (Ok name) (Err (Missing field))) legal
 
-needed_found : (field : IndexField) (o : Option (List ℕ)) (text : List ℕ) → needed field o ≡ Ok text → o ≡ Some text
+pub needed_found : (field : IndexField) (o : Option (List ℕ)) (text : List ℕ) → needed field o ≡ Ok text → o ≡ Some text
 needed_found field None text e = absurd cc
 needed_found field (Some t) text e = ap (λ (x : List ℕ). Some x) (ok_is EntryFault t text e)
 
@@ -51,10 +51,10 @@ version_read : (r : Result Parts VersionFault) (parts : Parts) → version_or_ba
 version_read (Ok p) parts e = ap (λ (x : Parts). Ok x) (ok_is EntryFault p parts e)
 version_read (Err f) parts e = absurd cc
 
-version_found : (text : List ℕ) (parts : Parts) → version_in text ≡ Ok parts → IsVersion text parts
+pub version_found : (text : List ℕ) (parts : Parts) → version_in text ≡ Ok parts → IsVersion text parts
 version_found text parts e = read_found text parts (version_read (reading text) parts e)
 
-version_again : (text : List ℕ) (parts : Parts) → IsVersion text parts → version_in text ≡ Ok parts
+pub version_again : (text : List ℕ) (parts : Parts) → IsVersion text parts → version_in text ≡ Ok parts
 version_again text parts v = ap version_or_bad (read_only text parts v)
 
 -- ---- the name before a bracket
@@ -203,7 +203,7 @@ local_found table fields name version arch home p has_name legal has_version has
       source = source_found name parts.0 (value_of fields (codes "Source")) origin.0 source_parts.0 origin.1 source_parts.1;
     })
 
-package_found : (table : List ArchWords) (fields : List Entry) (p : BinaryPackage) → package_at table fields ≡ Ok (Some p) → IsPackage table fields p
+pub package_found : (table : List ArchWords) (fields : List Entry) (p : BinaryPackage) → package_at table fields ≡ Ok (Some p) → IsPackage table fields p
 unfolding package_at
 package_found table fields p e =
     let name = on_ok_parts (name_in Package (value_of fields (codes "Package"))) _ (Some p) e in
@@ -222,7 +222,7 @@ local_again table fields p h =
     let source_parts = source.version in
     rw (origin, parts, source_parts) refl
 
-package_again : (table : List ArchWords) (fields : List Entry) (p : BinaryPackage) → IsPackage table fields p → package_at table fields ≡ Ok (Some p)
+pub package_again : (table : List ArchWords) (fields : List Entry) (p : BinaryPackage) → IsPackage table fields p → package_at table fields ≡ Ok (Some p)
 unfolding package_at
 package_again table fields p h =
     let name = name_again Package (value_of fields (codes "Package")) p.name h.name h.legal in

@@ -19,3 +19,4 @@ pub mod OfferedNames
 pub mod FirstFaults
 pub mod PackageStanzas
 pub mod OfferLaws
+pub mod SourceStanzas

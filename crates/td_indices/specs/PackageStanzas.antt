@@ -5,9 +5,11 @@ use Rattle.td_stanza.specs.Field.{Entry}
 use Rattle.td_version.specs.Grammar.{IsVersion}
 use Rattle.td_version.specs.Version.{Parts}
 use Rattle.td_relation.specs.Arch.{ArchWords}
+use Rattle.td_relation.specs.Asked.{Asked}
 use Rattle.td_relation.specs.Runs.{is_blank}
 use Rattle.td_indices.specs.Binaries.{BinaryPackage, home_of, package_at}
-use Rattle.td_indices.specs.Fields.{value_of}
+use Rattle.td_indices.specs.Fields.{relation_in, value_of}
+use Rattle.td_indices.specs.Kept.{KeptBinary, binary_at}
 
 -- `foo`: a name alone; the source has the version that the package has
 pub record IsName (text source : List ℕ) (own parts : Parts) : Type 0 where
@@ -43,3 +45,17 @@ pub record IsPackage (table : List ArchWords) (fields : List Entry) (p : BinaryP
 -- a stanza is read as a package exactly where it is that package
 abbrev pub PackagesAreExact : Type 0
 PackagesAreExact = (table : List ArchWords) (fields : List Entry) (p : BinaryPackage) → (package_at table fields ≡ Ok (Some p)) ↔ IsPackage table fields p
+
+-- the stanza with this number is kept as this package: its relations can be read, and its Provides field says what it provides
+pub record IsKeptPackage (table : List ArchWords) (number : ℕ) (fields : List Entry) (b : KeptBinary) : Type 0 where
+  pub head : IsPackage table fields b.head
+  pub depends : List (List Asked)
+  pub pre_depends : List (List Asked)
+  pub has_depends : relation_in (value_of fields (codes "Depends")) ≡ Ok depends
+  pub has_pre_depends : relation_in (value_of fields (codes "Pre-Depends")) ≡ Ok pre_depends
+  pub has_provides : relation_in (value_of fields (codes "Provides")) ≡ Ok b.provides
+  pub numbered : b.stanza ≡ number
+
+-- a stanza is kept as a package exactly where this is so
+abbrev pub KeptPackagesAreExact : Type 0
+KeptPackagesAreExact = (table : List ArchWords) (number : ℕ) (fields : List Entry) (b : KeptBinary) → (binary_at table number fields ≡ Ok (Some b)) ↔ IsKeptPackage table number fields b

@@ -9,7 +9,8 @@ ghost use Rattle.td_indices.specs.Counting.{
 ghost use Rattle.td_indices.specs.FirstFaults.{FirstFaultyPackageIsNamed, FirstFaultySourceIsNamed};
 ghost use Rattle.td_indices.specs.OfferLaws.{OffersAreExact};
 ghost use Rattle.td_indices.specs.OfferedNames.{NamesAreThoseOfOffers};
-ghost use Rattle.td_indices.specs.PackageStanzas.{PackagesAreExact};
+ghost use Rattle.td_indices.specs.PackageStanzas.{KeptPackagesAreExact, PackagesAreExact};
+ghost use Rattle.td_indices.specs.SourceStanzas.{KeptSourcesAreExact};
 
 /// Of the packages and the sources that the stanzas stand for, each by itself, those are kept that
 /// count: one of each key, with the greatest version, the first of those equal in order.
@@ -48,4 +49,11 @@ pub fn package_stanzas_are_read_exactly()
 /// version that stands there behind `=`, or without one where no restriction stands there.
 pub fn offers_come_of_packages()
     ensures { OffersAreExact }
+{}
+
+/// A stanza is kept as a package, or as a source, exactly where it is that one and its relations
+/// can be read.
+pub fn stanzas_are_kept_exactly()
+    ensures packages { KeptPackagesAreExact }
+    ensures sources { KeptSourcesAreExact }
 {}

@@ -4,9 +4,11 @@
 //!
 //! Start at `Archive::read`. Texts are slices of the two files; a look-up goes by hash.
 //! Promised: what is read is an archive as `specs/Archive.antt` says, else the first fault is named;
-//! of several stanzas of one source, or of one package and architecture, the one counts that has
-//! the greatest version, the first where versions are equal in order (`specs/Counting.antt`). A key
-//! opens with the row that `specs/Opening.antt` says; `specs/Supplying.antt` says what is on offer.
+//! a stanza is a package or a source exactly where `specs/PackageStanzas.antt` and
+//! `specs/SourceStanzas.antt` say so; of several stanzas of one source, or of one package and
+//! architecture, the one counts that has the greatest version, the first where versions are equal
+//! in order (`specs/Counting.antt`). A key opens with the row that `specs/Opening.antt` says;
+//! `specs/Supplying.antt` says what is on offer.
 #![tactic(auto)]
 
 mod archive;
@@ -38,6 +40,7 @@ pub use archive_fault::{ArchiveFault, IndexField, IndexFile};
 pub use laws::{
     first_faulty_stanzas_are_named, greatest_versions_are_kept, keys_and_versions_decide,
     offered_names_are_those_of_offers, offers_come_of_packages, package_stanzas_are_read_exactly,
+    stanzas_are_kept_exactly,
 };
 pub use offered_names::OfferedNames;
 pub use packaged::Binary;

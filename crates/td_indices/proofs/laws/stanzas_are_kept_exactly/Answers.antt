@@ -1,0 +1,5 @@
+use Rattle.td_indices.proofs.SourceStanzas.{kept_packages_are_exact, kept_sources_are_exact}
+use Rattle.td_indices.proofs.laws.stanzas_are_kept_exactly.Goals as goal
+
+pub returns : goal.returns
+returns c = record { packages = kept_packages_are_exact; sources = kept_sources_are_exact }
