@@ -1,17 +1,13 @@
 -- The parts of a text that is read as an alternative.
-use Rattle.std.proofs.Common.{◌≡◌, ◌≢◌, ◌⊎◌, ℕ, Bool, true, false, cond, eqb, ltb, ◌&&◌, ◌||◌, List, [], ◌∷◌, ◌++◌, length, map, Option, Some, None, option_map, Result, Ok, Err, refl, sym, ap, subst, ◌∙◌, append_assoc, one-add, inl, inr}
-use Rattle.std.specs.Prelude.{codes, IsTrue}
-use Rattle.std.specs.List.{list_all, list_any, slice_split, onto_first, join_with_byte, AllByRecursion}
-use Rattle.std.specs.Str.{bytes_eq}
-use Rattle.std.proofs.Math.Bool.{or_assoc}
-use Rattle.std.proofs.lemmas.Bool.{cases_Bool, and_parts, and_from, eqb-false}
+use Rattle.std.proofs.Common.{◌≡◌, ◌⊎◌, ℕ, Bool, true, cond, ltb, ◌&&◌, List, [], ◌∷◌, ◌++◌, length, map, Option, Some, None, Result, Ok, Err, refl, sym, ap, subst, ◌∙◌, one-add, inl, inr}
+use Rattle.std.specs.Prelude.{codes}
+use Rattle.std.specs.List.{list_all}
+use Rattle.std.proofs.lemmas.Bool.{cases_Bool, and_parts, and_from}
 use Rattle.std.proofs.lemmas.List.{take-append-drop}
-use Rattle.std.proofs.lemmas.List.Splits.{join_with_byte-slice_split}
-use Rattle.td_text.specs.Cut.{Without, cut, strip}
-use Rattle.td_text.specs.Lines.{on_ok}
-use Rattle.td_text.specs.Words.{is_name_byte, is_arch_byte, is_name, is_arch}
-use Rattle.td_text.proofs.Chain.{ok_is, on_ok_parts, or_word, some_is, when_some}
-use Rattle.td_text.proofs.Cut.{Without-left, Without-right, cut_found}
+use Rattle.td_text.specs.Cut.{cut, strip}
+use Rattle.td_text.specs.Words.{is_name_byte, is_arch_byte, is_name}
+use Rattle.td_text.proofs.Chain.{ok_is, or_word, some_is, when_some}
+use Rattle.td_text.proofs.Cut.{cut_found}
 use Rattle.td_text.proofs.Prefix.{strip_found}
 use Rattle.td_version.specs.Grammar.{IsVersion}
 use Rattle.td_version.specs.Reading.{reading}
@@ -21,16 +17,14 @@ use Rattle.td_version.proofs.Outcomes.{read_found}
 use Rattle.td_relation.specs.declared.relation.Operator.{Operator}
 use Rattle.td_relation.specs.declared.relation.Operator.TheVariants.{Earlier, EarlierOrEqual, Equal, LaterOrEqual, Later}
 use Rattle.td_relation.specs.declared.relation_fault.RelationFault.{RelationFault}
-use Rattle.td_relation.specs.declared.relation_fault.RelationFault.TheVariants.{BadName, BadOperator, BadVersion, BadArchList, BadProfile}
+use Rattle.td_relation.specs.declared.relation_fault.RelationFault.TheVariants.{BadArchList}
 use Rattle.td_relation.specs.ArchList.{is_space, words}
-use Rattle.td_relation.specs.Asked.{Asked, Bound}
-use Rattle.td_relation.specs.RelationGrammar.{ends_a_name, after_colon, unqualified, named, name_at, is_operator_byte, operator_at, is_version_byte, ends_a_restriction, closed, version_at, restricted, restriction_at, is_arch_list, listed, bracketed, archs_at, is_profile_list, profile_list, profile_piece, holds_unprofiled, over, or_fault, profile_step, ended, unprofiled_at}
-use Rattle.td_relation.specs.RelationWriting.{WrittenArchs, WrittenProfile, operator_text, marked, profile_text, qualifier_part, QualifierFits, ArchsFit, ProfilesFit, hold_unprofiled}
+use Rattle.td_relation.specs.Asked.{Bound}
+use Rattle.td_relation.specs.RelationGrammar.{ends_a_name, after_colon, unqualified, named, name_at, is_operator_byte, operator_at, is_version_byte, ends_a_restriction, closed, version_at, restricted, restriction_at, is_arch_list, listed, bracketed, archs_at, or_fault}
+use Rattle.td_relation.specs.RelationWriting.{WrittenArchs, operator_text, marked, qualifier_part, QualifierFits, ArchsFit}
 use Rattle.td_relation.specs.Runs.{run, behind, trimmed, is_blank}
-use Rattle.td_relation.specs.Spacing.{AreWords, SpacedProfiles, profiles_then, ProfilesAreSpaced}
-use Rattle.td_relation.proofs.Blanks.{is_blank-behind}
-use Rattle.td_relation.proofs.FoundWords.{Lacks, arch_list_found, profile_list_found, words_found}
-use Rattle.td_relation.proofs.WordTexts.{holds-again}
+use Rattle.td_relation.specs.Spacing.{AreWords}
+use Rattle.td_relation.proofs.FoundWords.{arch_list_found, words_found}
 
 -- ---- runs
 

@@ -1,13 +1,13 @@
 -- The build profile lists of a text that is read as an alternative.
-use Rattle.std.proofs.Common.{◌≡◌, ◌≢◌, ◌⊎◌, ℕ, Bool, true, false, cond, eqb, ◌||◌, List, [], ◌∷◌, ◌++◌, map, Option, Some, None, Result, Ok, Err, refl, sym, ap, subst, ◌∙◌, append_assoc, inl, inr}
+use Rattle.std.proofs.Common.{◌≡◌, ◌≢◌, ◌⊎◌, ℕ, Bool, true, false, cond, eqb, ◌||◌, List, [], ◌∷◌, ◌++◌, map, Option, Some, None, Ok, refl, sym, ap, subst, ◌∙◌, append_assoc, inl, inr}
 use Rattle.std.specs.Prelude.{codes}
 use Rattle.std.specs.List.{list_all, list_any, slice_split, onto_first, join_with_byte, AllByRecursion}
 use Rattle.std.proofs.Math.Bool.{or_assoc}
-use Rattle.std.proofs.lemmas.Bool.{cases_Bool, eqb-false}
+use Rattle.std.proofs.lemmas.Bool.{eqb-false}
 use Rattle.std.proofs.lemmas.List.Splits.{join_with_byte-slice_split}
 use Rattle.td_text.specs.Cut.{Without, strip}
 use Rattle.td_text.specs.Lines.{on_ok}
-use Rattle.td_text.proofs.Chain.{ok_is, on_ok_parts, some_is, when_some}
+use Rattle.td_text.proofs.Chain.{ok_is, on_ok_parts, when_some}
 use Rattle.td_text.proofs.Cut.{Without-right}
 use Rattle.td_text.proofs.Prefix.{strip_found}
 use Rattle.td_relation.specs.declared.relation_fault.RelationFault.{RelationFault}
@@ -18,7 +18,7 @@ use Rattle.td_relation.specs.RelationWriting.{WrittenProfile, profile_text, Prof
 use Rattle.td_relation.specs.Runs.{run, trimmed, is_blank}
 use Rattle.td_relation.specs.Spacing.{AreWords, SpacedProfiles, profiles_then, ProfilesAreSpaced}
 use Rattle.td_relation.proofs.Blanks.{is_blank-behind}
-use Rattle.td_relation.proofs.FoundParts.{or_fault_found, run_joined, space_blank}
+use Rattle.td_relation.proofs.FoundParts.{run_joined, space_blank}
 use Rattle.td_relation.proofs.FoundWords.{Lacks, profile_list_found, words_found}
 use Rattle.td_relation.proofs.WordTexts.{holds-again}
 

@@ -1,20 +1,18 @@
 -- A text that is read as a relation is one, written with some whitespace.
-use Rattle.std.proofs.Common.{◌≡◌, ◌≢◌, ◌⊎◌, ℕ, Bool, true, false, cond, eqb, List, [], ◌∷◌, ◌++◌, map, Option, Some, None, option_map, Result, Ok, Err, refl, sym, ap, subst, ◌∙◌, append_assoc, append-nil, inl, inr}
-use Rattle.std.specs.Prelude.{codes}
+use Rattle.std.proofs.Common.{◌≡◌, ◌≢◌, ℕ, Bool, true, false, cond, eqb, List, [], ◌∷◌, ◌++◌, map, Option, Some, None, option_map, Ok, refl, sym, ap, subst, ◌∙◌, append_assoc, append-nil, inl, inr}
 use Rattle.std.specs.List.{slice_split, onto_first, join_with_byte, AllByRecursion}
-use Rattle.std.proofs.lemmas.Bool.{cases_Bool}
 use Rattle.std.proofs.lemmas.List.Splits.{join_with_byte-slice_split}
 use Rattle.td_text.specs.Cut.{Without}
 use Rattle.td_text.specs.Lines.{on_ok}
 use Rattle.td_text.proofs.Chain.{ok_is, on_ok_parts}
 use Rattle.td_text.proofs.Cut.{Without-right}
 use Rattle.td_relation.specs.declared.relation_fault.RelationFault.{RelationFault}
-use Rattle.td_relation.specs.declared.relation_fault.RelationFault.TheVariants.{BadName, BadArchList, Empty}
+use Rattle.td_relation.specs.declared.relation_fault.RelationFault.TheVariants.{BadName, BadArchList}
 use Rattle.td_relation.specs.ArchList.{is_space}
 use Rattle.td_relation.specs.Asked.{Asked, Bound}
 use Rattle.td_relation.specs.RelationGrammar.{alternative_at, alternative_step, archs_at, member_at, member_step, name_at, or_fault, over, relation_at, restriction_at, some_members, unprofiled_at}
-use Rattle.td_relation.specs.RelationWriting.{WrittenAlternative, alternative_asked, bound_asked, marked, operator_text, qualifier_part, ArchsFit, BoundFits, ProfilesFit, hold_unprofiled}
-use Rattle.td_relation.specs.Runs.{run, trimmed, is_blank}
+use Rattle.td_relation.specs.RelationWriting.{alternative_asked, bound_asked, marked, operator_text, qualifier_part, ArchsFit, BoundFits, ProfilesFit, hold_unprofiled}
+use Rattle.td_relation.specs.Runs.{run, is_blank}
 use Rattle.td_relation.specs.Spacing.{SpacedBound, SpacedArchs, SpacedProfiles, SpacedAlternative, SpacedMember, Filled, Blank, ArchsAreSpaced, BoundIsSpaced, IsRelation, IsSpaced, MemberIsSpaced, ProfilesAreSpaced, RelationsAreExact, archs_then, bound_then, profiles_then, spaced_alternative, spaced_member, spaced_relation, unspaced, unspaced_members}
 use Rattle.td_relation.proofs.FoundParts.{archs_found, name_found, on_is, or_fault_found, restriction_found, space_blank}
 use Rattle.td_relation.proofs.FoundProfiles.{AreLists, lists_behind, own_lack, pieces_lack, unprofiled_found}

@@ -1,8 +1,8 @@
 -- The words of a text, and the lists that they are.
-use Rattle.std.proofs.Common.{◌≡◌, ◌≢◌, ℕ, Bool, true, false, cond, not, eqb, ltb, ◌&&◌, ◌||◌, List, [], ◌∷◌, ◌++◌, length, map, Some, refl, sym, ap, subst, ◌∙◌, inl, inr, arith}
+use Rattle.std.proofs.Common.{◌≡◌, ◌≢◌, ℕ, Bool, true, false, cond, not, eqb, ltb, ◌||◌, List, [], ◌∷◌, ◌++◌, length, map, Some, refl, sym, ap, subst, ◌∙◌, inl, inr, arith}
 use Rattle.std.specs.Prelude.{IsTrue}
 use Rattle.std.specs.List.{list_all, filter, slice_split, onto_first, AllByRecursion}
-use Rattle.std.proofs.lemmas.Bool.{cases_Bool, and_parts, and_from, eqb-true, ltb-true, ne_eqb, or_parts}
+use Rattle.std.proofs.lemmas.Bool.{cases_Bool, and_parts, and_from, eqb-true, ne_eqb, or_parts}
 use Rattle.td_text.specs.Cut.{Without}
 use Rattle.td_text.specs.Words.{is_arch}
 use Rattle.td_text.proofs.Chain.{not-true}
@@ -10,7 +10,6 @@ use Rattle.td_text.proofs.Cut.{Without-left, Without-right}
 use Rattle.td_relation.specs.ArchList.{is_space, words, is_negated, bare}
 use Rattle.td_relation.specs.RelationGrammar.{is_negated_word, is_arch_list, is_profile, is_profile_list}
 use Rattle.td_relation.specs.RelationWriting.{WrittenArchs, WrittenProfile, marked, profile_text, is_profile_byte, is_profile_name, ArchsFit, ProfilesFit}
-use Rattle.td_relation.specs.Runs.{is_blank}
 use Rattle.td_relation.specs.Spacing.{AreWords, EndsAWord}
 
 -- ---- words
