@@ -1,5 +1,5 @@
 -- Stanzas are kept as packages and as sources exactly where they are.
-use Rattle.std.proofs.Common.{◌≡◌, ◌≢◌, ℕ, Bool, true, false, cond, List, Option, Some, None, Result, Ok, Err, refl, sym, ap, subst, ◌∙◌, inl, inr}
+use Rattle.std.proofs.Common.{◌≡◌, ◌≢◌, ℕ, Bool, true, false, cond, List, Option, Some, None, Result, Ok, refl, sym, ap, subst, ◌∙◌, inl, inr}
 use Rattle.std.specs.Prelude.{codes}
 use Rattle.std.specs.Str.{bytes_eq}
 use Rattle.std.specs.Option.{option_map_or}
@@ -9,7 +9,6 @@ use Rattle.td_text.specs.Lines.{on_ok}
 use Rattle.td_text.proofs.Chain.{ok_is, on_ok_parts, some_is}
 use Rattle.td_stanza.specs.Field.{Entry}
 use Rattle.td_relation.specs.Arch.{ArchWords}
-use Rattle.td_relation.specs.Asked.{Asked}
 use Rattle.td_indices.specs.declared.archive_fault.EntryFault.{EntryFault}
 use Rattle.td_indices.specs.declared.archive_fault.IndexField.TheVariants.{Package, Version, Architecture}
 use Rattle.td_indices.specs.Binaries.{BinaryPackage, package_at}
