@@ -1,14 +1,14 @@
 -- Patterns, one after another.
-use Rattle.std.proofs.Common.{◌≡◌, ℕ, suc, ◌+◌, ◌-◌, ◌<◌, List, [], ◌∷◌, ◌++◌, length, get_or, take, drop, map, refl, sym, ap, ◌∙◌, subst, add-one}
-use Rattle.std.proofs.lemmas.List.{take-append-drop, map-append}
-use Rattle.std.proofs.Math.Seq.{drop-cons, take-suc}
+use Rattle.std.proofs.Common.{◌≡◌, ℕ, suc, ◌+◌, ◌-◌, ◌<◌, List, [], ◌∷◌, ◌++◌, length, get_or, take, drop, map, refl, sym, ap, ◌∙◌, subst}
+use Rattle.std.proofs.lemmas.List.{take-append-drop, take_more, map-append}
+use Rattle.std.proofs.Math.Seq.{drop-cons}
 use Rattle.regex.specs.Failures.{IsPattern}
 use Rattle.regex.specs.Patterns.{default_config}
 use Rattle.regex.specs.Strings.{regex_source, regex_config, IsReadFromSource}
 use Rattle.regex.specs.declared.string.regex.Regex.{Regex}
 use Rattle.td_query.specs.declared.read_fault.RawPattern.{RawPattern}
 use Rattle.td_query.specs.QueryGrammar.{Raw, Log}
-use Rattle.td_query.specs.Sources.{source_of, ArePatterns, IsRefusedForCause}
+use Rattle.td_query.specs.Sources.{source_of, AreDefault, ArePatterns, IsRefusedForCause}
 use Rattle.td_query.specs.TrackerFaults.{IsFirstRefused}
 use Rattle.td_query.specs.Views.{raw_of}
 
@@ -20,16 +20,21 @@ ArePatterns-push : (log : Log) (r : Raw) → ArePatterns log → IsPattern defau
 ArePatterns-push [] r h p = (p, tt)
 ArePatterns-push (x ∷ log) r h p = (h.0, ArePatterns-push log r h.1 p)
 
-front : (log : List RawPattern) (i : ℕ) (x : RawPattern) → i < length log → x ≡ get_or log i x → take (i + 1) log ≡ take i log ++ x ∷ []
-front log i x h is = rw add-one (take-suc log i x h ∙ ap (λ (y : RawPattern). take i log ++ y ∷ []) (sym is))
-
 -- one pattern more
-pub more : (log : List RawPattern) (i : ℕ) (x : RawPattern) → i < length log → x ≡ get_or log i x → ArePatterns (map raw_of (take i log)) → IsPattern default_config (source_of (raw_of x)) → ArePatterns (map raw_of (take (i + 1) log))
-more log i x h is fine p = rw (front log i x h is, map-append raw_of (take i log) (x ∷ [])) (ArePatterns-push (map raw_of (take i log)) (raw_of x) fine p)
+pub more : (log : List RawPattern) (i : ℕ) (d : RawPattern) → i < length log → ArePatterns (map raw_of (take i log)) → IsPattern default_config (source_of (raw_of (get_or log i d))) → ArePatterns (map raw_of (take (i + 1) log))
+more log i d h fine p = rw (take_more log i d h, map-append raw_of (take i log) (get_or log i d ∷ [])) (ArePatterns-push (map raw_of (take i log)) (raw_of (get_or log i d)) fine p)
 
-pub sources_more : (log : List RawPattern) (i : ℕ) (x : RawPattern) (rs ss : List Regex) (r : Regex) → i < length log → x ≡ get_or log i x → ss ≡ rs ++ r ∷ [] → map regex_source rs ≡ map source_of (map raw_of (take i log)) → regex_source r ≡ source_of (raw_of x) → map regex_source ss ≡ map source_of (map raw_of (take (i + 1) log))
-sources_more log i x rs ss r h is pushed so_far here =
-    rw (pushed, front log i x h is, map-append regex_source rs (r ∷ []), map-append raw_of (take i log) (x ∷ []), map-append source_of (map raw_of (take i log)) (raw_of x ∷ []), so_far, here) refl
+pub sources_more : (log : List RawPattern) (i : ℕ) (d : RawPattern) (rs ss : List Regex) (r : Regex) → i < length log → ss ≡ rs ++ r ∷ [] → map regex_source rs ≡ map source_of (map raw_of (take i log)) → regex_source r ≡ source_of (raw_of (get_or log i d)) → map regex_source ss ≡ map source_of (map raw_of (take (i + 1) log))
+sources_more log i d rs ss r h pushed so_far here =
+    rw (pushed, take_more log i d h, map-append regex_source rs (r ∷ []), map-append raw_of (take i log) (get_or log i d ∷ []), map-append source_of (map raw_of (take i log)) (raw_of (get_or log i d) ∷ []), so_far, here) refl
+
+-- one that is compiled more
+AreDefault-push : (rs : List Regex) (r : Regex) → AreDefault rs → (regex_config r ≡ default_config) × IsReadFromSource r → AreDefault (rs ++ r ∷ [])
+AreDefault-push [] r h p = (p, tt)
+AreDefault-push (x ∷ rs) r h p = (h.0, AreDefault-push rs r h.1 p)
+
+pub compiled_more : (rs ss : List Regex) (r : Regex) → ss ≡ rs ++ r ∷ [] → AreDefault rs → (regex_config r ≡ default_config) × IsReadFromSource r → AreDefault ss
+compiled_more rs ss r pushed h p = rw pushed (AreDefault-push rs r h p)
 
 -- the first that is refused
 pub refused_here : (size : ℕ) (log : List RawPattern) (i : ℕ) (d : RawPattern) (place : ℕ) → i < length log → ArePatterns (map raw_of (take i log)) → IsRefusedForCause (source_of (raw_of (get_or log i d))) → place ≡ size - (get_or log i d).left → IsFirstRefused size (map raw_of log) place

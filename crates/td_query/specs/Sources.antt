@@ -1,10 +1,12 @@
 -- The patterns of a tracker, as `regex` is given them. This project's own.
-use Rattle.std.specs.Prelude.{◌≢◌, ℕ, ◌==◌, ◌&&◌, Bool, false, List, [], ◌∷◌, if◌then◌else◌}
+use Rattle.std.specs.Prelude.{◌≡◌, ◌≢◌, ℕ, ◌==◌, ◌&&◌, Bool, false, List, [], ◌∷◌, if◌then◌else◌}
 use Rattle.std.specs.List.{AllByRecursion}
 use Rattle.regex.specs.Patterns.{default_config}
+use Rattle.regex.specs.Strings.{regex_config, IsReadFromSource}
 use Rattle.regex.specs.Sources.{IsRefusal}
 use Rattle.regex.specs.Failures.{IsPattern, IsRightKind}
 use Rattle.regex.specs.declared.error.Error.{Error}
+use Rattle.regex.specs.declared.string.regex.Regex.{Regex}
 use Rattle.regex.specs.declared.error.Error.TheVariants.{OutOfMemory}
 use Rattle.td_query.specs.QueryGrammar.{Raw, Log}
 
@@ -35,3 +37,7 @@ ArePatterns log = AllByRecursion (λ r. IsPattern default_config (source_of r)) 
 -- `regex` has an error for the text, and it is another than want of memory
 abbrev pub IsRefusedForCause : List ℕ → Type 0
 IsRefusedForCause text = (e : Error) × (e ≢ OutOfMemory) × IsRefusal default_config text e × IsRightKind default_config text e
+
+-- patterns as `Regex::new` gives them: each is what the grammar of `regex` reads in its text, with the default options
+abbrev pub AreDefault : List Regex → Type 0
+AreDefault patterns = AllByRecursion (λ r. (regex_config r ≡ default_config) × IsReadFromSource r) patterns

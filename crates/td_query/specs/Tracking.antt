@@ -4,7 +4,7 @@ use Rattle.regex.specs.Patterns.{Re}
 use Rattle.regex.specs.Strings.{regex_pattern, regex_source}
 use Rattle.td_query.specs.declared.tracker.Tracker.{Tracker}
 use Rattle.td_query.specs.Query.{Shape, shape_of}
-use Rattle.td_query.specs.Sources.{source_of, ArePatterns}
+use Rattle.td_query.specs.Sources.{source_of, AreDefault, ArePatterns}
 use Rattle.td_query.specs.TrackerGrammar.{Said, said_in}
 
 -- a title, three queries, and the patterns that they name by their numbers: as they are written and as `regex` reads them
@@ -41,3 +41,7 @@ pub record IsTracker (text : List ℕ) (t : Tracking) : Type 0 where
   pub read : said_in text ≡ Ok says
   pub held : IsSaid says (map source_of says.log) t
   pub are_patterns : ArePatterns says.log
+
+-- a tracker's patterns are compiled with the default options, each from its text
+abbrev pub AreCompiled : Tracker → Type 0
+AreCompiled t = AreDefault t.patterns.items

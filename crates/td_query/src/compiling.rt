@@ -1,8 +1,8 @@
 ghost use Rattle.std.specs.Prelude.{◌≡◌, IfErr, IfOk, IsErrOf, map};
 ghost use Rattle.regex.specs.Failures.{IsPattern};
 ghost use Rattle.regex.specs.Patterns.{default_config};
-ghost use Rattle.regex.specs.Strings.{regex_source};
-ghost use Rattle.td_query.specs.Sources.{ArePatterns, IsRefusedForCause, source_of, unescaped};
+ghost use Rattle.regex.specs.Strings.{regex_config, regex_source, IsReadFromSource};
+ghost use Rattle.td_query.specs.Sources.{AreDefault, ArePatterns, IsRefusedForCause, source_of, unescaped};
 ghost use Rattle.td_query.specs.TrackerFaults.{IsPatternFault};
 ghost use Rattle.td_query.specs.Views.{raw_of};
 
@@ -23,6 +23,7 @@ enum PatternFault {
 fn pattern_of(alloc: Global, text: &str) -> Result<Regex, PatternFault>
     ensures source { IfOk result (λ r. regex_source r ≡ text.now) }
     ensures read { IfOk result (λ r. IsPattern default_config text.now) }
+    ensures default { IfOk result (λ r. (regex_config r ≡ default_config) × IsReadFromSource r) }
     ensures bad { IsErrOf result PatternFault.BadPattern → IsRefusedForCause text.now }
 {
     match Regex::new(alloc, text) {
@@ -36,6 +37,7 @@ fn pattern_of(alloc: Global, text: &str) -> Result<Regex, PatternFault>
 fn compiled(alloc: Global, raw: &str) -> Result<Regex, PatternFault>
     ensures source { IfOk result (λ r. regex_source r ≡ unescaped raw.now) }
     ensures read { IfOk result (λ r. IsPattern default_config (unescaped raw.now)) }
+    ensures default { IfOk result (λ r. (regex_config r ≡ default_config) × IsReadFromSource r) }
     ensures bad { IsErrOf result PatternFault.BadPattern → IsRefusedForCause (unescaped raw.now) }
 {
     match source(alloc, raw) {
@@ -48,6 +50,7 @@ fn compiled(alloc: Global, raw: &str) -> Result<Regex, PatternFault>
 pub fn compile(alloc: Global, size: usize, log: &[RawPattern]) -> Result<Vec<Regex>, TrackerFault>
     ensures sources { IfOk result (λ ps. map regex_source ps.items ≡ map source_of (map raw_of log.now)) }
     ensures read { IfOk result (λ ps. ArePatterns (map raw_of log.now)) }
+    ensures compiled { IfOk result (λ ps. AreDefault ps.items) }
     ensures refused { IfErr result (IsPatternFault size (map raw_of log.now)) }
 {
     let mut patterns = Vec::new(alloc);

@@ -3,7 +3,7 @@ ghost use Rattle.regex.specs.Strings.{regex_source};
 ghost use Rattle.td_query.specs.Statuses.{status_of};
 ghost use Rattle.td_query.specs.TrackerFaults.{FaultOf, IsMissing, IsPatternFault, log_in};
 ghost use Rattle.td_query.specs.TrackerGrammar.{said_in};
-ghost use Rattle.td_query.specs.Tracking.{IsSaid, IsTracker, Tracking, tracking};
+ghost use Rattle.td_query.specs.Tracking.{AreCompiled, IsSaid, IsTracker, Tracking, tracking};
 ghost use Rattle.td_query.specs.TrackerViews.{said};
 
 use crate::compiling::compile;
@@ -32,6 +32,7 @@ pub struct Tracker<'a> {
 // The tracker of these keys, if none is missing.
 fn whole<'a>(keys: Keys<'a>, patterns: Vec<Regex>) -> Result<Tracker<'a>, TrackerKey>
     ensures found { IfOk result (λ t. IsSaid (said keys.entry) (map regex_source patterns.items) (tracking t)) }
+    ensures patterns { IfOk result (λ t. t.patterns.items ≡ patterns.items) }
     ensures missing { IfErr result (IsMissing (said keys.entry)) }
 {
     let Keys {
@@ -65,6 +66,8 @@ impl<'a> Tracker<'a> {
     pub fn read(alloc: Global, text: &'a str) -> Result<Tracker<'a>, TrackerFault>
         // What is read is the tracker of the text.
         ensures found { IfOk result (λ t. IsTracker text.now (tracking t)) }
+        // Its patterns are compiled as they are written, with the default options.
+        ensures compiled { IfOk result AreCompiled }
         // A tracker is read, unless memory runs out, or `regex` refuses a pattern that is one: it
         // may be too large.
         ensures only { (t : Tracking) → IsTracker text.now t →
