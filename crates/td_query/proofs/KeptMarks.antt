@@ -1,5 +1,5 @@
 -- The marks of stanzas, one more at a time.
-use Rattle.std.proofs.Common.{◌≡◌, ℕ, ◌+◌, ◌<◌, List, [], ◌∷◌, ◌++◌, Option, Some, None, option_map, length, take, map, slice_get, refl, sym, ap, ◌∙◌, zero, suc, add-one}
+use Rattle.std.proofs.Common.{◌≡◌, ℕ, ◌+◌, List, [], ◌∷◌, ◌++◌, Option, Some, None, option_map, take, map, slice_get, refl, ap, ◌∙◌, zero, suc, add-one}
 use Rattle.std.proofs.lemmas.List.{map-append}
 use Rattle.td_stanza.specs.Field.{Entry}
 use Rattle.td_indices.specs.Stanzas.{fields_at}

@@ -12,3 +12,5 @@ pub mod Gathering
 pub mod KeptMarks
 pub mod RowStatuses
 pub mod AffectedSources
+pub mod Meanings
+pub mod Grades

@@ -11,3 +11,5 @@ pub mod TrackerFaults
 pub mod Tracking
 pub mod Statuses
 pub mod Marks
+pub mod QueryLaws
+pub mod StatusLaws

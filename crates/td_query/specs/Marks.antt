@@ -1,5 +1,5 @@
 -- What is kept of a tracker's three queries for each stanza, so that each query is evaluated once on it. This project's own.
-use Rattle.std.specs.Prelude.{◌≡◌, ℕ, ◌||◌, false, List, Option, map, slice_get, if◌then◌else◌}
+use Rattle.std.specs.Prelude.{◌≡◌, ℕ, ◌||◌, false, List, map, slice_get, if◌then◌else◌}
 use Rattle.std.specs.List.{list_any}
 use Rattle.std.specs.Option.{option_map_or}
 use Rattle.regex.specs.Patterns.{Re}

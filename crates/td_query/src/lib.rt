@@ -8,11 +8,14 @@
 //! Promised: a text is read exactly where it is a tracker's, as that tracker, unless memory runs
 //! out or `regex` finds a pattern too large; else the first fault from the left is named, with its
 //! place.
-//! Inside, and not asked by anyone yet: `truth::holds`, whether a query holds on a stanza.
+//! A row's status is what `specs/Statuses.antt` says: `Tracker::status` evaluates the queries on the
+//! row's stanzas, `Marks` does so once for each stanza of an archive and is asked row by row. What
+//! queries and statuses mean is said by `specs/QueryLaws.antt` and `specs/StatusLaws.antt`.
 #![tactic(auto)]
 
 mod atom;
 mod compiling;
+mod laws;
 mod mark;
 mod marking;
 mod marks;
@@ -31,6 +34,9 @@ mod tracker_reading;
 mod truth;
 mod unescape;
 
+pub use laws::{
+    fields_match_by_their_values, queries_are_as_in_logic, rows_are_graded_by_their_stanzas,
+};
 pub use marks::Marks;
 pub use query::Query;
 pub use status::Status;

@@ -1,4 +1,4 @@
-use Rattle.std.proofs.Common.{◌≡◌, ◌∙◌, map, ap, sym, true, Some, rules}
+use Rattle.std.proofs.Common.{◌≡◌, ◌∙◌, map, ap, sym, true, rules}
 use Rattle.regex.specs.Strings.{matcher_pattern, regex_pattern}
 use Rattle.td_relation.specs.Table.{place_of}
 use Rattle.td_relation.specs.TableView.{table}
