@@ -26,6 +26,8 @@ mod row_mark;
 mod standing;
 mod status;
 #[cfg(test)]
+mod status_tests;
+#[cfg(test)]
 mod tests;
 mod tokens;
 mod tracker;

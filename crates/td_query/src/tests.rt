@@ -36,6 +36,12 @@ is_affected true; → Syntax 12
 title = "#1"; is_affected = true; # is_good = true; → MissingKey is_good
 title = "a"; is_affected = true; title = "b"; is_good = true; is_bad = false; title = "c"; → "c"
 is_affected = true; is_good = .depends ~ /[/; is_bad = true; is_good = true; → BadPattern 41
+is_affected = .depends ~ /(?=x)/; → BadPattern 25
+is_affected = .depends ~ /x{1000}{1000}{1000}/; → BadPattern 25
+is_affected = .depends ~ /a\\//; → MissingKey is_good
+title = "perl"; is_affected = .depends ~ /perlapi-5\.(34|36)/; is_good = .depends ~ "perlapi-5.36.0"; is_bad = .depends ~ "perlapi-5.34.0"; → "perl"
+title = "ocaml"; is_affected = .build-depends ~ /ocaml-nox|dh-ocaml/ & !(.package ~ "ocaml"); is_good = .provides ~ /ocaml-base-5/; is_bad = .provides ~ /ocaml-base-4/; notes = "#1000000"; export = false; → "ocaml"
+is_affected = true; is_good = true; is_bad = true; title = 1; → Syntax 59
 "##;
 
 /// What reading the text gives, as the table writes it.
@@ -59,6 +65,14 @@ fn texts_are_read_as_trackers_or_refused_at_their_first_fault(rt: HostRuntime) -
             assert_eq!(rt; got.as_str(), want, "{text}");
         }
     }
+    Ok(())
+}
+
+#[test]
+fn a_title_may_have_newlines(rt: HostRuntime) -> Result<(), Fail> {
+    let text = "title = \"two\nlines\"; is_affected = true; is_good = true; is_bad = true;";
+    let got = reading(rt.alloc(), text)?;
+    assert_eq!(rt; got.as_str(), "\"two\nlines\"");
     Ok(())
 }
 
