@@ -1,0 +1,4 @@
+pub mod Sees
+pub mod Moves
+pub mod Runs
+pub mod Laws
