@@ -1,5 +1,5 @@
 -- Each move of the desk is a step, and builders' steps change nothing that the book knows.
-use Rattle.std.proofs.Common.{◌≡◌, ℕ, Bool, true, false, not, List, [], ◌∷◌, Option, Some, None, cond, find, if◌then◌else◌, set, ap, refl, sym, subst, ◌∙◌}
+use Rattle.std.proofs.Common.{◌≡◌, ℕ, ◌+◌, Bool, true, false, not, List, [], ◌∷◌, Option, Some, None, cond, find, if◌then◌else◌, length, set, ap, refl, sym, subst, ◌∙◌}
 use Rattle.std.specs.Prelude.{is_none}
 use Rattle.std.proofs.lemmas.Bool.{and_parts}
 use Rattle.std.proofs.lemmas.List.{length-set}
@@ -23,6 +23,7 @@ use Rattle.td_journal.specs.Touching.{blocker}
 use Rattle.td_core.specs.declared.step.Phase.{Phase}
 use Rattle.td_core.specs.declared.step.Phase.TheVariants as phases
 use Rattle.td_core.specs.declared.step.Hand.TheVariants as hands
+use Rattle.td_core.specs.declared.step.Answer.TheVariants as answers
 use Rattle.td_core.specs.declared.step.Refusal.{Refusal}
 use Rattle.td_core.specs.declared.step.Refusal.TheVariants.{NotACommand, NoKeys, NoSuchRow, DoesNotApply, NotPinned, NoSuchEntry, NotOpen}
 use Rattle.td_core.specs.declared.step.Step.{Step}
@@ -31,13 +32,13 @@ use Rattle.td_core.specs.History.{History, rows_of, with_entry, without_entry}
 use Rattle.td_core.specs.Offers.{supply_now, freed}
 use Rattle.td_core.specs.Phases.{is_pinned}
 use Rattle.td_core.specs.Refusals.{is_queued_at, offer_refusal, withdraw_refusal, note_refusal, settle_refusal, arrive_refusal, commit_refusal, undo_refusal, mark_refusal, is_missing, is_unfit, is_unpinned, first_unpinned, refused_if, first_refused}
-use Rattle.td_core.specs.Steps.{refusal, accepted, after, after_all, noted, settled, finished, swept, swept_now}
+use Rattle.td_core.specs.Steps.{refusal, answer_to, sweep_answer, accepted, after, after_all, noted, settled, finished, swept, swept_now}
 use Rattle.td_core.specs.Worlds.{WorldView, phase_of, with_phase, hand_of, with_hand, journaled, IsWorld}
-use Rattle.td_core.proofs.Worlds.{IsWorld-after, after-accepted, after-refused, claims, finishes}
+use Rattle.td_core.proofs.Worlds.{IsWorld-after, answer_to-accepted, answer_to-refused, after-accepted, after-refused, claims, finishes}
 use Rattle.td_steps.specs.Sees.{Desk, view_of, with_view, entering, Sees, is_off, Fits, FitAll}
-use Rattle.td_steps.specs.Moves.{offer, won, lost, note, commit, undo, settle, arrive, sweep, step_of, moved, sweeping, freed_by, MayCommit, MayUndo, May}
+use Rattle.td_steps.specs.Moves.{Move, offer, won, lost, note, commit, undo, settle, arrive, sweep, step_of, answer_of, next_no, swept_as, moved, sweeping, freed_by, MayCommit, MayUndo, May, Chosen}
 use Rattle.td_steps.specs.Runs.{is_builders, are_builders, Meanwhile}
-use Rattle.td_steps.specs.Laws.{IsStep, MovesAreSteps, BuildersChangeNothing, RunsAreSeen}
+use Rattle.td_steps.specs.Laws.{MovesAreSteps, BuildersChangeNothing, RunsAreSeen}
 use Rattle.td_steps.proofs.Sees.{fit-both, numbers_alike, phase_seen, view_seen, both_seen, one_seen, taken_seen, hand_changed, fits-in, fits-seen, fits-off, open-held, noted-done}
 
 -- ---- 1. no key is refused
@@ -90,6 +91,15 @@ undo-none w d n i may =
 
 -- ---- 2. each move
 
+-- whether and why a move is refused
+abbrev refusal_of : Move → Option Refusal
+refusal_of (lost k b) = Some NotOpen
+refusal_of m = None
+
+record Stepped (w : WorldView) (d : Desk) (m : Move) : Type 0 where
+  refuses : refusal w (step_of m) ≡ refusal_of m
+  sees : Sees (after w (step_of m)) (moved d m)
+
 -- a step that isn't refused
 module _ (w : WorldView) (d : Desk) (i : Sees w d) where
   sound-now : (st : Step) → refusal w st ≡ None → IsWorld (accepted w st)
@@ -120,48 +130,48 @@ module _ (w : WorldView) (d : Desk) (i : Sees w d) where
     fits = subst (λ (n : ℕ). FitAll (set d.view n v) (set w.phases (number_of w.history.opening k) p)) (sym (numbers_alike w d k i)) (fit-both d.view w.phases (number_of w.history.opening k) v p here i.fits);
   }
 
-  offer_step : (k : Key) → May d (offer k) → IsStep w d (offer k)
+  offer_step : (k : Key) → May d (offer k) → Stepped w d (offer k)
   offer_step k may =
       let seen = phase_seen w d k views.In i may.0 in
       let closed : phase_of w k ≡ Some phases.Closed = seen.1 ∙ ap (λ (p : Phase). Some p) (fits-in seen.0 seen.2) in
       let queued : is_queued_at (rows_of w.history) k ≡ true = ap (λ (h : History). is_queued_at (rows_of h) k) i.history ∙ may.1 in
       let none : refusal w (steps.Offer k) ≡ None = λ j. offer_refusal (queued j) (closed j) in
-      record { answers = none; sees = go (steps.Offer k) (moved d (offer k)) none (both_seen w d k views.Out phases.Open i (sound-now (steps.Offer k) none) tt) }
+      record { refuses = none; sees = go (steps.Offer k) (moved d (offer k)) none (both_seen w d k views.Out phases.Open i (sound-now (steps.Offer k) none) tt) }
 
-  won_step : (k : Key) → phase_of w k ≡ Some phases.Open → IsStep w d (won k)
+  won_step : (k : Key) → phase_of w k ≡ Some phases.Open → Stepped w d (won k)
   won_step k open_now =
       let none : refusal w (steps.Withdraw k) ≡ None = ap withdraw_refusal open_now in
-      record { answers = none; sees = go (steps.Withdraw k) (moved d (won k)) none (both_seen w d k views.In phases.Closed i (sound-now (steps.Withdraw k) none) tt) }
+      record { refuses = none; sees = go (steps.Withdraw k) (moved d (won k)) none (both_seen w d k views.In phases.Closed i (sound-now (steps.Withdraw k) none) tt) }
 
-  lost_step : (k : Key) (b : ℕ) → phase_of w k ≡ Some (phases.Held b) → IsStep w d (lost k b)
+  lost_step : (k : Key) (b : ℕ) → phase_of w k ≡ Some (phases.Held b) → Stepped w d (lost k b)
   lost_step k b held =
       let not_open : refusal w (steps.Withdraw k) ≡ Some NotOpen = ap withdraw_refusal held in
-      record { answers = not_open; sees = subst (λ (v : WorldView). Sees v (moved d (lost k b))) (sym (after-refused w (steps.Withdraw k) NotOpen not_open)) (one_seen w d k (views.Seen b) (phases.Held b) i held refl) }
+      record { refuses = not_open; sees = subst (λ (v : WorldView). Sees v (moved d (lost k b))) (sym (after-refused w (steps.Withdraw k) NotOpen not_open)) (one_seen w d k (views.Seen b) (phases.Held b) i held refl) }
 
-  note_step : (k : Key) (b : ℕ) → May d (note k b) → IsStep w d (note k b)
+  note_step : (k : Key) (b : ℕ) → May d (note k b) → Stepped w d (note k b)
   note_step k b may =
       let seen = phase_seen w d k (views.Seen b) i may in
       let held : phase_of w k ≡ Some (phases.Held b) = seen.1 ∙ ap (λ (p : Phase). Some p) (fits-seen b seen.0 seen.2) in
       let none : refusal w (steps.Note k) ≡ None = ap note_refusal held in
       let is : accepted w (steps.Note k) ≡ with_phase (journaled w (kinds.Claim b) (k ∷ [])) k (phases.Noted b) = ap (noted w k) held in
-      record { answers = none; sees = go (steps.Note k) (moved d (note k b)) none (subst (λ (v : WorldView). Sees v (moved d (note k b))) (sym is) (moved_seen (kinds.Claim b) k (views.Known b) (phases.Noted b) (subst IsWorld is (sound-now (steps.Note k) none)) refl)) }
+      record { refuses = none; sees = go (steps.Note k) (moved d (note k b)) none (subst (λ (v : WorldView). Sees v (moved d (note k b))) (sym is) (moved_seen (kinds.Claim b) k (views.Known b) (phases.Noted b) (subst IsWorld is (sound-now (steps.Note k) none)) refl)) }
 
-  settle_step : (k : Key) (b : ℕ) (o : Outcome) → phase_of w k ≡ Some (phases.Done b o) → IsStep w d (settle k b o)
+  settle_step : (k : Key) (b : ℕ) (o : Outcome) → phase_of w k ≡ Some (phases.Done b o) → Stepped w d (settle k b o)
   settle_step k b o ended =
       let none : refusal w (steps.Settle k) ≡ None = ap settle_refusal ended in
       let is : accepted w (steps.Settle k) ≡ with_phase (journaled w (kinds.Outcome b o) (k ∷ [])) k phases.Closed = ap (settled w k) ended in
-      record { answers = none; sees = go (steps.Settle k) (moved d (settle k b o)) none (subst (λ (v : WorldView). Sees v (moved d (settle k b o))) (sym is) (moved_seen (kinds.Outcome b o) k views.In phases.Closed (subst IsWorld is (sound-now (steps.Settle k) none)) tt)) }
+      record { refuses = none; sees = go (steps.Settle k) (moved d (settle k b o)) none (subst (λ (v : WorldView). Sees v (moved d (settle k b o))) (sym is) (moved_seen (kinds.Outcome b o) k views.In phases.Closed (subst IsWorld is (sound-now (steps.Settle k) none)) tt)) }
 
-  commit_step : (kind : Kind) (keys : List Key) → MayCommit d kind keys → IsStep w d (commit kind keys)
+  commit_step : (kind : Kind) (keys : List Key) → MayCommit d kind keys → Stepped w d (commit kind keys)
   commit_step kind keys may =
       let none : refusal w (steps.Commit kind keys) ≡ None = commit-none w d kind keys i may in
-      record { answers = none; sees = go (steps.Commit kind keys) (moved d (commit kind keys)) none (entered_seen kind keys (sound-now (steps.Commit kind keys) none)) }
+      record { refuses = none; sees = go (steps.Commit kind keys) (moved d (commit kind keys)) none (entered_seen kind keys (sound-now (steps.Commit kind keys) none)) }
 
-  undo_step : (n : ℕ) → MayUndo d n → IsStep w d (undo n)
+  undo_step : (n : ℕ) → MayUndo d n → Stepped w d (undo n)
   undo_step n may =
       let none : refusal w (steps.Undo n) ≡ None = undo-none w d n i may in
       record {
-        answers = none;
+        refuses = none;
         sees = go (steps.Undo n) (moved d (undo n)) none (record {
           sound = sound-now (steps.Undo n) none;
           history = ap (λ (h : History). without_entry h n) i.history;
@@ -172,17 +182,17 @@ module _ (w : WorldView) (d : Desk) (i : Sees w d) where
         });
       }
 
-  arrive_step : (k : Key) → May d (arrive k) → IsStep w d (arrive k)
+  arrive_step : (k : Key) → May d (arrive k) → Stepped w d (arrive k)
   arrive_step k may =
       let row = may.0 in
       let found : row_of (rows_of w.history) k ≡ Some row = ap (λ (h : History). row_of (rows_of h) k) i.history ∙ may.1 in
       let none : refusal w (steps.Arrive k) ≡ None = ap (arrive_refusal k) found ∙ ap (λ b. refused_if (not b) (DoesNotApply k) None) may.2 in
-      record { answers = none; sees = go (steps.Arrive k) (moved d (arrive k)) none (entered_seen kinds.Arrive (k ∷ []) (sound-now (steps.Arrive k) none)) }
+      record { refuses = none; sees = go (steps.Arrive k) (moved d (arrive k)) none (entered_seen kinds.Arrive (k ∷ []) (sound-now (steps.Arrive k) none)) }
 
-  sweep_step : IsStep w d sweep
+  sweep_step : Stepped w d sweep
   sweep_step =
       let same : swept_now w ≡ freed_by d = λ j. freed (supply_now (i.supply j) (i.history j)) (rows_of (i.history j)) in
-      record { answers = refl; sees = go steps.Sweep (moved d sweep) refl (at (swept_now w) (freed_by d) same (sound-now steps.Sweep refl)) }
+      record { refuses = refl; sees = go steps.Sweep (moved d sweep) refl (at (swept_now w) (freed_by d) same (sound-now steps.Sweep refl)) }
     where
       each : (keys : List Key) → IsWorld (swept w keys) → Sees (swept w keys) (sweeping d keys)
       each [] sound = i
@@ -191,16 +201,40 @@ module _ (w : WorldView) (d : Desk) (i : Sees w d) where
       at : (a b : List Key) → a ≡ b → IsWorld (swept w a) → Sees (swept w a) (sweeping d b)
       at a b same sound = subst (λ (keys : List Key). Sees (swept w a) (sweeping d keys)) same (each a sound)
 
+stepped : (w : WorldView) (d : Desk) (m : Move) → Sees w d → May d m → Chosen w m → Stepped w d m
+stepped w d (offer k) i may chosen = offer_step w d i k may
+stepped w d (won k) i may chosen = won_step w d i k chosen
+stepped w d (lost k b) i may chosen = lost_step w d i k b chosen
+stepped w d (note k b) i may chosen = note_step w d i k b may
+stepped w d (commit kind keys) i may chosen = commit_step w d i kind keys may
+stepped w d (undo n) i may chosen = undo_step w d i n may
+stepped w d (settle k b o) i may chosen = settle_step w d i k b o chosen
+stepped w d (arrive k) i may chosen = arrive_step w d i k may
+stepped w d sweep i may chosen = sweep_step w d i
+
+-- what it answers follows from whether it is refused
+entry_told : (w : WorldView) (d : Desk) (i : Sees w d) → answers.Entry (length w.history.journal + 1) ≡ answers.Entry (next_no d)
+entry_told w d i = ap (λ (h : History). answers.Entry (length h.journal + 1)) i.history
+
+answered : (w : WorldView) (d : Desk) (m : Move) → Sees w d → refusal w (step_of m) ≡ refusal_of m → answer_to w (step_of m) ≡ answer_of d m
+answered w d (offer k) i none = answer_to-accepted w (steps.Offer k) none
+answered w d (won k) i none = answer_to-accepted w (steps.Withdraw k) none
+answered w d (lost k b) i is = answer_to-refused w (steps.Withdraw k) NotOpen is
+answered w d (note k b) i none = answer_to-accepted w (steps.Note k) none ∙ entry_told w d i
+answered w d (commit kind keys) i none = answer_to-accepted w (steps.Commit kind keys) none ∙ entry_told w d i
+answered w d (undo n) i none = answer_to-accepted w (steps.Undo n) none
+answered w d (settle k b o) i none = answer_to-accepted w (steps.Settle k) none ∙ entry_told w d i
+answered w d (arrive k) i none = answer_to-accepted w (steps.Arrive k) none ∙ entry_told w d i
+answered w d sweep i none =
+    let same : swept_now w ≡ freed_by d = λ j. freed (supply_now (i.supply j) (i.history j)) (rows_of (i.history j)) in
+    answer_to-accepted w steps.Sweep none ∙ ap (sweep_answer w) same ∙ at (freed_by d)
+  where
+    at : (keys : List Key) → sweep_answer w keys ≡ swept_as d keys
+    at [] = refl
+    at (k ∷ keys) = entry_told w d i
+
 pub moves_are_steps : MovesAreSteps
-moves_are_steps w d (offer k) i may chosen = offer_step w d i k may
-moves_are_steps w d (won k) i may chosen = won_step w d i k chosen
-moves_are_steps w d (lost k b) i may chosen = lost_step w d i k b chosen
-moves_are_steps w d (note k b) i may chosen = note_step w d i k b may
-moves_are_steps w d (commit kind keys) i may chosen = commit_step w d i kind keys may
-moves_are_steps w d (undo n) i may chosen = undo_step w d i n may
-moves_are_steps w d (settle k b o) i may chosen = settle_step w d i k b o chosen
-moves_are_steps w d (arrive k) i may chosen = arrive_step w d i k may
-moves_are_steps w d sweep i may chosen = sweep_step w d i
+moves_are_steps w d m i may chosen = let s = stepped w d m i may chosen in record { answers = answered w d m i s.refuses; sees = s.sees }
 
 -- ---- 3. builders' steps
 
@@ -247,9 +281,9 @@ meanwhile : (w v : WorldView) (d : Desk) → Sees w d → Meanwhile w v → Sees
 meanwhile w v d i m = subst (λ (x : WorldView). Sees x d) (sym m.to) (many w d m.theirs m.all i)
 
 pub runs_are_seen : RunsAreSeen
-runs_are_seen w v d [] i allowed runs = (runs, meanwhile w v d i runs)
-runs_are_seen w v d (m ∷ ms) i allowed runs =
+runs_are_seen w d [] i allowed v runs = (runs, meanwhile w v d i runs)
+runs_are_seen w d (m ∷ ms) i allowed v runs =
     let u = runs.0 in
     let step = moves_are_steps u d m (meanwhile w u d i runs.1) allowed.0 runs.2 in
-    let rest = runs_are_seen (after u (step_of m)) v (moved d m) ms step.sees allowed.1 runs.3 in
+    let rest = runs_are_seen (after u (step_of m)) (moved d m) ms step.sees allowed.1 v runs.3 in
     ((u, runs.1, step.answers, rest.0), rest.1)

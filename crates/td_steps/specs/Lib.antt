@@ -2,3 +2,9 @@ pub mod Sees
 pub mod Moves
 pub mod Runs
 pub mod Laws
+pub mod Parts
+pub mod Commands
+pub mod Undos
+pub mod Arrivals
+pub mod Builds
+pub mod Openings

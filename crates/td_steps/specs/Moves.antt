@@ -1,5 +1,5 @@
 -- The moves of the desk, each with its step of the world, and what it may know beforehand. This project's own.
-use Rattle.std.specs.Prelude.{◌≡◌, ℕ, true, List, [], ◌∷◌, Option, Some, None}
+use Rattle.std.specs.Prelude.{◌≡◌, ℕ, ◌+◌, true, List, [], ◌∷◌, length, Some, None}
 use Rattle.td_board.specs.declared.views.RowView.TheVariants as views
 use Rattle.td_rows.specs.declared.key.Key.{Key}
 use Rattle.td_rows.specs.declared.row.Row.{Row}
@@ -13,7 +13,8 @@ use Rattle.td_rows.specs.Table.{row_of, AppliesOn}
 use Rattle.td_journal.specs.Entries.{is_command, CanBeUndone}
 use Rattle.td_journal.specs.Touching.{blocker}
 use Rattle.td_core.specs.declared.step.Phase.TheVariants as phases
-use Rattle.td_core.specs.declared.step.Refusal.{Refusal}
+use Rattle.td_core.specs.declared.step.Answer.{Answer}
+use Rattle.td_core.specs.declared.step.Answer.TheVariants as answers
 use Rattle.td_core.specs.declared.step.Refusal.TheVariants.{NotOpen}
 use Rattle.td_core.specs.declared.step.Step.{Step}
 use Rattle.td_core.specs.declared.step.Step.TheVariants as steps
@@ -47,14 +48,30 @@ step_of (settle k b o) = steps.Settle k
 step_of (arrive k) = steps.Arrive k
 step_of sweep = steps.Sweep
 
--- its refusal: a withdrawal that is lost is refused, since the row isn't on offer any more; nothing else is
-abbrev pub refusal_of : Move → Option Refusal
-refusal_of (lost k b) = Some NotOpen
-refusal_of m = None
-
 -- the keys of the rows that a sweep frees
 abbrev pub freed_by : Desk → List Key
 freed_by d = freed (supply_now d.stock d.history) (rows_of d.history)
+
+-- the number of the next entry
+abbrev pub next_no : Desk → ℕ
+next_no d = length d.history.journal + 1
+
+-- what a sweep of these keys is told
+abbrev pub swept_as : Desk → List Key → Answer
+swept_as d [] = answers.Nothing
+swept_as d (k ∷ keys) = answers.Entry (next_no d)
+
+-- what a move is told: a withdrawal that is lost is refused, since the row isn't on offer any more, and nothing else is; of an entry its number
+abbrev pub answer_of : Desk → Move → Answer
+answer_of d (offer k) = answers.Done
+answer_of d (won k) = answers.Done
+answer_of d (lost k b) = answers.Refused NotOpen
+answer_of d (note k b) = answers.Entry (next_no d)
+answer_of d (commit kind keys) = answers.Entry (next_no d)
+answer_of d (undo n) = answers.Undone n
+answer_of d (settle k b o) = answers.Entry (next_no d)
+answer_of d (arrive k) = answers.Entry (next_no d)
+answer_of d sweep = swept_as d (freed_by d)
 
 -- the sweep's entry on these keys, if there are any
 abbrev pub sweeping : Desk → List Key → Desk

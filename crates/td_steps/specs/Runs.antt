@@ -2,10 +2,10 @@
 use Rattle.std.specs.Prelude.{◌≡◌, Bool, true, false, ◌&&◌, List, [], ◌∷◌}
 use Rattle.td_core.specs.declared.step.Step.{Step}
 use Rattle.td_core.specs.declared.step.Step.TheVariants.{Claim, Finish, Release}
-use Rattle.td_core.specs.Steps.{refusal, after, after_all}
+use Rattle.td_core.specs.Steps.{answer_to, after, after_all}
 use Rattle.td_core.specs.Worlds.{WorldView}
-use Rattle.td_steps.specs.Sees.{Desk}
-use Rattle.td_steps.specs.Moves.{Move, step_of, refusal_of, moved, May, Chosen}
+use Rattle.td_steps.specs.Sees.{Desk, Sees}
+use Rattle.td_steps.specs.Moves.{Move, step_of, answer_of, moved, May, Chosen}
 
 -- the desk may make each of the moves, after those before it
 abbrev pub MayAll : Desk → List Move → Type 0
@@ -39,7 +39,11 @@ abbrev pub Runs : WorldView → List Move → WorldView → Type 0
 Runs w [] v = Meanwhile w v
 Runs w (m ∷ ms) v = (u : WorldView) × Meanwhile w u × Chosen u m × Runs (after u (step_of m)) ms v
 
--- the same, and each move's step is refused as told of it: only a withdrawal that is lost
-abbrev pub Goes : WorldView → List Move → WorldView → Type 0
-Goes w [] v = Meanwhile w v
-Goes w (m ∷ ms) v = (u : WorldView) × Meanwhile w u × (refusal u (step_of m) ≡ refusal_of m) × Goes (after u (step_of m)) ms v
+-- the same, and each move's step is answered as told of it
+abbrev pub Goes : WorldView → Desk → List Move → WorldView → Type 0
+Goes w d [] v = Meanwhile w v
+Goes w d (m ∷ ms) v = (u : WorldView) × Meanwhile w u × (answer_to u (step_of m) ≡ answer_of d m) × Goes (after u (step_of m)) (moved d m) ms v
+
+-- the desk that sees the first world: every run of the moves from there is answered as told, and leads to a world that the other desk sees
+abbrev pub LeadsOn : WorldView → Desk → List Move → Desk → Type 0
+LeadsOn w d ms to = (v : WorldView) → Runs w ms v → Goes w d ms v × Sees v to

@@ -1,0 +1,189 @@
+-- The moves of an undo lead from the book at rest to the book at rest.
+use Rattle.std.proofs.Common.{◌≡◌, ◌≢◌, ℕ, zero, suc, ◌+◌, ◌-◌, Bool, true, false, ◌&&◌, List, [], ◌∷◌, ◌++◌, append_assoc, append-nil, Option, Some, None, Result, Ok, Err, if◌then◌else◌, length, take, drop, slice_get, set, ap, refl, sym, subst, ◌∙◌, arith}
+use Rattle.std.specs.Prelude.{IsSomeAnd}
+use Rattle.std.proofs.lemmas.Bool.{and_parts}
+use Rattle.std.proofs.lemmas.List.{take-append-drop}
+use Rattle.std.proofs.lemmas.Option.{slice_get_past}
+use Rattle.td_board.specs.declared.views.RowView.{RowView}
+use Rattle.td_board.specs.declared.views.RowView.TheVariants as views
+use Rattle.td_rows.specs.declared.key.Key.{Key}
+use Rattle.td_rows.specs.declared.row.Row.{Row}
+use Rattle.td_rows.specs.declared.state.State.{State}
+use Rattle.td_rows.specs.declared.state.State.TheVariants.{NeedsBuild, Building, Built, Uploaded, Installed, DepWait, BdUninstallable, BuildAttempted, Failed, NotForUs}
+use Rattle.td_rows.specs.declared.kind.Kind.{Kind}
+use Rattle.td_rows.specs.Keys.{same_key, names, below_all, ascending}
+use Rattle.td_rows.specs.Kinds.{cells}
+use Rattle.td_rows.specs.States.{is_queued}
+use Rattle.td_rows.specs.Table.{Table, row_of, keys_of, fits, AppliesOn}
+use Rattle.td_rows.proofs.Keys.{same_key-true, same_key-refl}
+use Rattle.td_rows.proofs.Tables.{names-push}
+use Rattle.td_rows.proofs.Lists.{take-next, drop-next}
+use Rattle.td_change.specs.Saved.{place_of, number_of}
+use Rattle.td_change.proofs.Numbers.{slice_get-number_of, names-below, named-apart, names-more}
+use Rattle.td_supply.specs.Supply.{Stock}
+use Rattle.td_journal.specs.declared.entry.Entry.{Entry}
+use Rattle.td_journal.specs.declared.entry.Mark.{Mark}
+use Rattle.td_journal.specs.declared.entry.Mark.TheVariants.{Standing, Undone}
+use Rattle.td_journal.specs.declared.entry.Marked.{Marked}
+use Rattle.td_journal.specs.Entries.{is_command, standing, entry_at, CanBeUndone}
+use Rattle.td_journal.specs.Replay.{Lawful}
+use Rattle.td_journal.specs.Touching.{blocker}
+use Rattle.td_journal.proofs.Undoing.{entry_at-place}
+use Rattle.td_core.specs.Committing.{takes}
+use Rattle.td_core.specs.History.{History, rows_of, with_entry, without_entry}
+use Rattle.td_core.specs.Refusals.{is_queued_at}
+use Rattle.td_core.specs.Worlds.{WorldView}
+use Rattle.td_core.proofs.Phases.{keys_of-rows_of, number_of-absent, set-set}
+use Rattle.td_core.proofs.Taking.{AppliesOn-filter, names-filter, ascending-filter}
+use Rattle.td_book.specs.Calls.{is_lost, noting_one, noting, Choices, off_for, entered, CommandOutcome}
+use Rattle.td_book.specs.Desk.{BookModel, claim_of}
+use Rattle.td_book.specs.Seen.{known_as, held_as, seen_as, views as views_by, seen_off}
+use Rattle.td_book.specs.Undoing.{undo_stop, mark_stop, UndoAnswer, UndoOutcome, IsWon}
+use Rattle.td_book.specs.declared.commanding.CommandRefusal.{CommandRefusal}
+use Rattle.td_book.specs.declared.commanding.CommandRefusal.TheVariants as commands
+use Rattle.td_book.specs.declared.undoing.UndoRefusal.{UndoRefusal}
+use Rattle.td_book.specs.declared.undoing.UndoRefusal.TheVariants as undos
+use Rattle.td_book.proofs.Seeing.{withdrawn_off, stays_off, claimed_off, offered_off, idle_off, desks_off, held_in, known_out, length-seen_off}
+use Rattle.td_book.proofs.Steps.{rows_with, up_now, idle_row, commands_desks, undone_off, unnamed_before, ascending_take}
+use Rattle.td_book.proofs.Calls.{off_within, noting-opening}
+use Rattle.td_core.specs.declared.step.Answer.TheVariants as answers
+use Rattle.td_core.proofs.Promises.{entries_rise}
+use Rattle.td_steps.specs.Sees.{Desk, resting, Sees}
+use Rattle.td_steps.specs.Moves.{Move, lost, note, undo, moved}
+use Rattle.td_steps.specs.Runs.{moved_all, LeadsOn}
+use Rattle.td_steps.specs.Parts.{winning, offering, Tells}
+use Rattle.td_steps.specs.Undos.{undo_moves, blocked_moves, LostAt, UndoMoves, UndosAreSteps}
+use Rattle.td_steps.proofs.Parts.{Leads, leads-none, leads-then, leads-one, leads-on, tells-at, moved_all-append, desk_off, queued-row, lost-leads, named-off, winning-all, offering-all, apart-none, book-is, up-seen, idle-on, off-rise}
+
+-- ---- 1. from desk to desk
+
+undo-leads : (h : History) (st : Stock) (b n : ℕ) (c : CanBeUndone h.journal n) → blocker h.journal n ≡ None → Lawful h.opening (standing h.journal) → ascending (keys_of h.opening) ≡ true → ascending c.marked.entry.keys ≡ true
+    → Leads (desk_off h st b []) (undo_moves n c.marked.entry.kind c.marked.entry.keys h) (desk_off (without_entry h n) st b [])
+undo-leads h st b n c free lawful up rises =
+    let e = c.marked.entry in
+    let off = off_for e.kind e.keys in
+    let new = without_entry h n in
+    let rise = off-rise e.kind e.keys rises in
+    let within : (cells e.kind).state ≡ true → (k : Key) → names e.keys k ≡ true → names off k ≡ true = off_within e.kind e.keys off refl in
+    let same : seen_off off (rows_of h) ≡ seen_off off (rows_of new) = undone_off h new n off c.marked c free lawful up c.there within refl in
+    leads-then (desk_off h st b []) (desk_off h st b off) (desk_off new st b []) (winning (rows_of h) off) (undo n ∷ offering (rows_of new) off)
+    (winning-all h st b [] off up rise (apart-none off))
+    (leads-then (desk_off h st b off) (desk_off new st b off) (desk_off new st b []) (undo n ∷ []) (offering (rows_of new) off)
+    (leads-one (desk_off h st b off) (desk_off new st b off) (undo n) (record { stands = c; free = free; off = λ has k named. named-off h st b off k (within has k named) })
+    (ap (λ (x : List RowView). record (desk_off new st b off) { view = x }) same))
+    (offering-all new st b up off rise))
+
+-- the place of a named key
+record Placed (ks : List Key) (k : Key) : Type 0 where
+  place : ℕ
+  at : slice_get ks place ≡ Some k
+
+placed : (ks : List Key) (k : Key) → names ks k ≡ true → Placed ks k
+placed [] k named = cc
+placed (q ∷ ks) k named = elim (same_key k q) as (λ b. same_key k q ≡ b → (if b then true else names ks k) ≡ true → Placed (q ∷ ks) k) [
+  | true ↦ λ same _. record { place = 0; at = ap (λ (x : Key). Some x) (sym (same_key-true k q same)) }
+  | false ↦ λ _ rest. let r = placed ks k rest in record { place = suc r.place; at = r.at }
+] refl named
+
+blocked-leads : (h : History) (st : Stock) (n i b : ℕ) (off : List Key) (k : Key) → ascending (keys_of h.opening) ≡ true → ascending off ≡ true → slice_get off i ≡ Some k → is_queued_at (rows_of h) k ≡ true
+    → Leads (desk_off h st n []) (blocked_moves (take i off) k b h) (desk_off (with_entry h (claim_of b k)) st n [])
+blocked-leads h st n i b off k up rise at queued =
+    let first = take i off in
+    let new = with_entry h (claim_of b k) in
+    let next : take (i + 1) off ≡ first ++ k ∷ [] = take-next off i k at in
+    let rise' : ascending (first ++ k ∷ []) ≡ true = ap ascending (sym next) ∙ ascending_take off (i + 1) rise in
+    leads-then (desk_off h st n []) (desk_off h st n first) (desk_off new st n []) (winning (rows_of h) first) (lost k b ∷ note k b ∷ offering (rows_of new) (first ++ k ∷ []))
+    (winning-all h st n [] first up (ascending_take off i rise) (apart-none first))
+    (leads-then (desk_off h st n first) (desk_off new st n (first ++ k ∷ [])) (desk_off new st n []) (lost k b ∷ note k b ∷ []) (offering (rows_of new) (first ++ k ∷ []))
+    (lost-leads h st n up first k b (queued-row h k queued) (unnamed_before off i k rise at))
+    (offering-all new st n up (first ++ k ∷ []) rise'))
+
+-- what stands where the journal alone decides nothing
+record Stands (ms : List Marked) (n : ℕ) : Type 0 where
+  can : CanBeUndone ms n
+  free : blocker ms n ≡ None
+
+stop-none : (ms : List Marked) (n : ℕ) → undo_stop ms n ≡ None → Stands ms n
+stop-none ms n h = at (entry_at ms n) refl h
+  where
+    by_mark : (m : Marked) (mark : Mark) (o : Option ℕ) → mark_stop mark o ≡ None → (mark ≡ Standing) × (o ≡ None)
+    by_mark m Undone o g = cc
+    by_mark m Standing (Some b) g = cc
+    by_mark m Standing None g = (refl, refl)
+
+    by_kind : (m : Marked) → entry_at ms n ≡ Some m → (v : Bool) → is_command m.entry.kind ≡ v → (if v then mark_stop m.mark (blocker ms n) else Some undos.NotACommand) ≡ None → Stands ms n
+    by_kind m there false is g = cc
+    by_kind m there true is g = let s = by_mark m m.mark (blocker ms n) g in record { can = record { marked = m; there = there; stands = s.0; command = is }; free = s.1 }
+
+    at : (o : Option Marked) → entry_at ms n ≡ o → (elim o as (λ _. Option UndoRefusal) [ Some m ↦ if is_command m.entry.kind then mark_stop m.mark (blocker ms n) else Some undos.NotACommand | None ↦ Some undos.NoSuchEntry ]) ≡ None → Stands ms n
+    at None there g = cc
+    at (Some m) there g = by_kind m there (is_command m.entry.kind) refl g
+
+-- ---- 2. an undo
+
+tells-claim : (h : History) (st : Stock) (n i b : ℕ) (off : List Key) (k : Key) → ascending (keys_of h.opening) ≡ true → ascending off ≡ true → Tells (desk_off h st n []) (blocked_moves (take i off) k b h) (answers.Entry (length h.journal + 1))
+tells-claim h st n i b off k up rise =
+    let first = take i off in
+    let ms = offering (rows_of (with_entry h (claim_of b k))) (first ++ k ∷ []) in
+    let before = winning (rows_of h) first in
+    let won_first = winning-all h st n [] first up (ascending_take off i rise) (apart-none first) in
+    let to : moved_all (desk_off h st n []) (before ++ lost k b ∷ []) ≡ moved (desk_off h st n first) (lost k b) =
+    moved_all-append (desk_off h st n []) before (lost k b ∷ []) ∙ ap (λ (z : Desk). moved z (lost k b)) won_first.to in
+    subst (λ (all : List Move). Tells (desk_off h st n []) all (answers.Entry (length h.journal + 1))) (append_assoc before (lost k b ∷ []) (note k b ∷ ms))
+    (tells-at (desk_off h st n []) (moved (desk_off h st n first) (lost k b)) (before ++ lost k b ∷ []) ms (note k b) (answers.Entry (length h.journal + 1)) to refl)
+
+module _ (w : WorldView) (n : ℕ) (old new : BookModel) (sees : Sees w (resting old)) where
+  up : ascending (keys_of old.history.opening) ≡ true
+  up = up-seen w old sees
+
+  rises : (m : Marked) → entry_at old.history.journal n ≡ Some m → ascending m.entry.keys ≡ true
+  rises m there = (entries_rise w n m sees.sound (ap (λ (h : History). entry_at h.journal n) sees.history ∙ there)).rising
+
+  lawful : Lawful old.history.opening (standing old.history.journal)
+  lawful = subst (λ (h : History). Lawful h.opening (standing h.journal)) sees.history sees.sound.lawful
+
+  by : (s : Stands old.history.journal n) → new.fixed ≡ old.fixed → (r : Result (Unit {0}) UndoRefusal) → UndoOutcome n old new r → (moves : List Move) × UndoMoves None n old r moves × LeadsOn w (resting old) moves (resting new)
+  by s fixed (Ok u) o =
+      let e = s.can.marked.entry in
+      let h = old.history in
+      let off = off_for e.kind e.keys in
+      let rise = off-rise e.kind e.keys (rises s.can.marked s.can.there) in
+      let ms = undo_moves n e.kind e.keys h in
+      let won_all = winning-all h old.fixed.stock old.fixed.builders [] off up rise (apart-none off) in (
+        ms,
+        (
+          subst (λ (x : Option Marked). IsSomeAnd x (λ (m : Marked). ms ≡ undo_moves n m.entry.kind m.entry.keys h)) (sym s.can.there) refl,
+          tells-at (resting old) (desk_off h old.fixed.stock old.fixed.builders off) (winning (rows_of h) off) (offering (rows_of (without_entry h n)) off) (undo n) (answers.Undone n) won_all.to refl,
+        ),
+        leads-on w (resting old) (resting new) ms sees (subst (Leads (resting old) ms) (book-is old new (without_entry h n) o fixed)
+            (undo-leads h old.fixed.stock old.fixed.builders n s.can s.free lawful up (rises s.can.marked s.can.there))),
+      )
+  by s fixed (Err undos.NoMemory) o = ([], refl, leads-on w (resting old) (resting new) [] sees (leads-none (resting old) (resting new) (book-is old new old.history o fixed)))
+  by s fixed (Err (undos.Blocked b)) o =
+      let e = s.can.marked.entry in
+      let h = old.history in
+      let off = off_for e.kind e.keys in
+      let rise = off-rise e.kind e.keys (rises s.can.marked s.can.there) in
+      let won_by : IsWon h new.history old.fixed.builders off b = subst (λ (x : Option Marked). IsSomeAnd x (λ (m : Marked). IsWon h new.history old.fixed.builders (off_for m.entry.kind m.entry.keys) b)) s.can.there o in
+      let p = placed off won_by.key won_by.is_named in
+      let ms = blocked_moves (take p.place off) won_by.key won_by.by h in
+      let parts : off ≡ take p.place off ++ won_by.key ∷ drop (p.place + 1) off = sym (take-append-drop p.place off) ∙ ap (λ (x : List Key). take p.place off ++ x) (drop-next off p.place won_by.key p.at) in
+      let lost_at : LostAt off old ms = record { first = take p.place off; key = won_by.key; rest = drop (p.place + 1) off; by = won_by.by; one = won_by.one; some_builder = won_by.some_builder; named = parts; moves_are = refl } in (
+        ms,
+        (
+          subst (λ (x : Option Marked). IsSomeAnd x (λ (m : Marked). LostAt (off_for m.entry.kind m.entry.keys) old ms)) (sym s.can.there) lost_at,
+          subst (λ (x : ℕ). Tells (resting old) ms (answers.Entry x)) (sym won_by.number) (tells-claim h old.fixed.stock old.fixed.builders p.place won_by.by off won_by.key up rise),
+        ),
+        leads-on w (resting old) (resting new) ms sees (subst (Leads (resting old) ms) (book-is old new (with_entry h (claim_of won_by.by won_by.key)) won_by.now fixed)
+            (blocked-leads h old.fixed.stock old.fixed.builders p.place won_by.by off won_by.key up rise p.at won_by.out)),
+      )
+  by s fixed (Err undos.NoSuchEntry) o = absurd o
+  by s fixed (Err undos.NotACommand) o = absurd o
+  by s fixed (Err undos.AlreadyUndone) o = absurd o
+
+  stopped : (x : Option UndoRefusal) (result : Result (Unit {0}) UndoRefusal) → undo_stop old.history.journal n ≡ x → UndoAnswer x n old new result → (moves : List Move) × UndoMoves x n old result moves × LeadsOn w (resting old) moves (resting new)
+  stopped (Some r) result is a = ([], refl, idle-on w old new sees a.1)
+  stopped None result is a = by (stop-none old.history.journal n is) a.fixed result a.outcome
+
+pub undos_are_steps : UndosAreSteps
+undos_are_steps w n old new result sees answer = stopped w n old new sees (undo_stop old.history.journal n) result refl answer
