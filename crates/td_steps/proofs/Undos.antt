@@ -1,5 +1,5 @@
 -- The moves of an undo lead from the book at rest to the book at rest.
-use Rattle.std.proofs.Common.{◌≡◌, ◌≢◌, ℕ, zero, suc, ◌+◌, ◌-◌, Bool, true, false, ◌&&◌, List, [], ◌∷◌, ◌++◌, append_assoc, append-nil, Option, Some, None, Result, Ok, Err, if◌then◌else◌, length, take, drop, slice_get, set, ap, refl, sym, subst, ◌∙◌, arith}
+use Rattle.std.proofs.Common.{◌≡◌, ◌≢◌, ℕ, zero, suc, ◌+◌, ◌-◌, Bool, true, false, ◌&&◌, List, [], ◌∷◌, ◌++◌, append_assoc, append-nil, ◌≤◌, Option, Some, None, Result, Ok, Err, if◌then◌else◌, length, take, drop, slice_get, set, ap, refl, sym, subst, ◌∙◌, arith}
 use Rattle.std.specs.Prelude.{IsSomeAnd}
 use Rattle.std.proofs.lemmas.Bool.{and_parts}
 use Rattle.std.proofs.lemmas.List.{take-append-drop}
@@ -99,11 +99,11 @@ blocked-leads h st n i b off k up rise at queued =
     (offering-all new st n up (first ++ k ∷ []) rise'))
 
 -- what stands where the journal alone decides nothing
-record Stands (ms : List Marked) (n : ℕ) : Type 0 where
-  can : CanBeUndone ms n
-  free : blocker ms n ≡ None
+pub record Stands (ms : List Marked) (n : ℕ) : Type 0 where
+  pub can : CanBeUndone ms n
+  pub free : blocker ms n ≡ None
 
-stop-none : (ms : List Marked) (n : ℕ) → undo_stop ms n ≡ None → Stands ms n
+pub stop-none : (ms : List Marked) (n : ℕ) → undo_stop ms n ≡ None → Stands ms n
 stop-none ms n h = at (entry_at ms n) refl h
   where
     by_mark : (m : Marked) (mark : Mark) (o : Option ℕ) → mark_stop mark o ≡ None → (mark ≡ Standing) × (o ≡ None)
@@ -132,58 +132,70 @@ tells-claim h st n i b off k up rise =
     subst (λ (all : List Move). Tells (desk_off h st n []) all (answers.Entry (length h.journal + 1))) (append_assoc before (lost k b ∷ []) (note k b ∷ ms))
     (tells-at (desk_off h st n []) (moved (desk_off h st n first) (lost k b)) (before ++ lost k b ∷ []) ms (note k b) (answers.Entry (length h.journal + 1)) to refl)
 
-module _ (w : WorldView) (n : ℕ) (old new : BookModel) (sees : Sees w (resting old)) where
-  up : ascending (keys_of old.history.opening) ≡ true
-  up = up-seen w old sees
+module _ (w : WorldView) (n : ℕ) (old : BookModel) (sees : Sees w (resting old)) (s : Stands old.history.journal n) where
+  pub rises : ascending s.can.marked.entry.keys ≡ true
+  rises = (entries_rise w n s.can.marked sees.sound (ap (λ (h : History). entry_at h.journal n) sees.history ∙ s.can.there)).rising
 
-  rises : (m : Marked) → entry_at old.history.journal n ≡ Some m → ascending m.entry.keys ≡ true
-  rises m there = (entries_rise w n m sees.sound (ap (λ (h : History). entry_at h.journal n) sees.history ∙ there)).rising
+  pub off-rises : ascending (off_for s.can.marked.entry.kind s.can.marked.entry.keys) ≡ true
+  off-rises = off-rise s.can.marked.entry.kind s.can.marked.entry.keys rises
 
   lawful : Lawful old.history.opening (standing old.history.journal)
   lawful = subst (λ (h : History). Lawful h.opening (standing h.journal)) sees.history sees.sound.lawful
 
-  by : (s : Stands old.history.journal n) → new.fixed ≡ old.fixed → (r : Result (Unit {0}) UndoRefusal) → UndoOutcome n old new r → (moves : List Move) × UndoMoves None n old r moves × LeadsOn w (resting old) moves (resting new)
-  by s fixed (Ok u) o =
+  pub undone-moves : (u : Unit {0}) → UndoMoves None n old (Ok u) (undo_moves n s.can.marked.entry.kind s.can.marked.entry.keys old.history)
+  undone-moves u =
       let e = s.can.marked.entry in
       let h = old.history in
       let off = off_for e.kind e.keys in
-      let rise = off-rise e.kind e.keys (rises s.can.marked s.can.there) in
       let ms = undo_moves n e.kind e.keys h in
-      let won_all = winning-all h old.fixed.stock old.fixed.builders [] off up rise (apart-none off) in (
-        ms,
-        (
-          subst (λ (x : Option Marked). IsSomeAnd x (λ (m : Marked). ms ≡ undo_moves n m.entry.kind m.entry.keys h)) (sym s.can.there) refl,
-          tells-at (resting old) (desk_off h old.fixed.stock old.fixed.builders off) (winning (rows_of h) off) (offering (rows_of (without_entry h n)) off) (undo n) (answers.Undone n) won_all.to refl,
-        ),
-        leads-on w (resting old) (resting new) ms sees (subst (Leads (resting old) ms) (book-is old new (without_entry h n) o fixed)
-            (undo-leads h old.fixed.stock old.fixed.builders n s.can s.free lawful up (rises s.can.marked s.can.there))),
+      let won_all = winning-all h old.fixed.stock old.fixed.builders [] off (up-seen w old sees) off-rises (apart-none off) in (
+        subst (λ (x : Option Marked). IsSomeAnd x (λ (m : Marked). ms ≡ undo_moves n m.entry.kind m.entry.keys h)) (sym s.can.there) refl,
+        tells-at (resting old) (desk_off h old.fixed.stock old.fixed.builders off) (winning (rows_of h) off) (offering (rows_of (without_entry h n)) off) (undo n) (answers.Undone n) won_all.to refl,
       )
-  by s fixed (Err undos.NoMemory) o = ([], refl, leads-on w (resting old) (resting new) [] sees (leads-none (resting old) (resting new) (book-is old new old.history o fixed)))
-  by s fixed (Err (undos.Blocked b)) o =
+
+  pub stopped-moves : (i by : ℕ) (k : Key) → slice_get (off_for s.can.marked.entry.kind s.can.marked.entry.keys) i ≡ Some k → 1 ≤ by → by ≤ old.fixed.builders
+      → UndoMoves None n old (Err (undos.Blocked (length old.history.journal + 1))) (blocked_moves (take i (off_for s.can.marked.entry.kind s.can.marked.entry.keys)) k by old.history)
+  stopped-moves i by k at one some_builder =
       let e = s.can.marked.entry in
       let h = old.history in
       let off = off_for e.kind e.keys in
-      let rise = off-rise e.kind e.keys (rises s.can.marked s.can.there) in
+      let ms = blocked_moves (take i off) k by h in
+      let parts : off ≡ take i off ++ k ∷ drop (i + 1) off = sym (take-append-drop i off) ∙ ap (λ (x : List Key). take i off ++ x) (drop-next off i k at) in
+      let lost_at : LostAt off old ms = record { first = take i off; key = k; rest = drop (i + 1) off; by = by; one = one; some_builder = some_builder; named = parts; moves_are = refl } in (
+        subst (λ (x : Option Marked). IsSomeAnd x (λ (m : Marked). LostAt (off_for m.entry.kind m.entry.keys) old ms)) (sym s.can.there) lost_at,
+        tells-claim h old.fixed.stock old.fixed.builders i by off k (up-seen w old sees) off-rises,
+      )
+
+  made : (new : BookModel) → new.fixed ≡ old.fixed → (r : Result (Unit {0}) UndoRefusal) → UndoOutcome n old new r → (moves : List Move) × UndoMoves None n old r moves × LeadsOn w (resting old) moves (resting new)
+  made new fixed (Ok u) o =
+      let e = s.can.marked.entry in
+      let ms = undo_moves n e.kind e.keys old.history in (
+        ms,
+        undone-moves u,
+        leads-on w (resting old) (resting new) ms sees (subst (Leads (resting old) ms) (book-is old new (without_entry old.history n) o fixed)
+            (undo-leads old.history old.fixed.stock old.fixed.builders n s.can s.free lawful (up-seen w old sees) rises)),
+      )
+  made new fixed (Err undos.NoMemory) o = ([], refl, leads-on w (resting old) (resting new) [] sees (leads-none (resting old) (resting new) (book-is old new old.history o fixed)))
+  made new fixed (Err (undos.Blocked b)) o =
+      let e = s.can.marked.entry in
+      let h = old.history in
+      let off = off_for e.kind e.keys in
       let won_by : IsWon h new.history old.fixed.builders off b = subst (λ (x : Option Marked). IsSomeAnd x (λ (m : Marked). IsWon h new.history old.fixed.builders (off_for m.entry.kind m.entry.keys) b)) s.can.there o in
       let p = placed off won_by.key won_by.is_named in
-      let ms = blocked_moves (take p.place off) won_by.key won_by.by h in
-      let parts : off ≡ take p.place off ++ won_by.key ∷ drop (p.place + 1) off = sym (take-append-drop p.place off) ∙ ap (λ (x : List Key). take p.place off ++ x) (drop-next off p.place won_by.key p.at) in
-      let lost_at : LostAt off old ms = record { first = take p.place off; key = won_by.key; rest = drop (p.place + 1) off; by = won_by.by; one = won_by.one; some_builder = won_by.some_builder; named = parts; moves_are = refl } in (
+      let ms = blocked_moves (take p.place off) won_by.key won_by.by h in (
         ms,
-        (
-          subst (λ (x : Option Marked). IsSomeAnd x (λ (m : Marked). LostAt (off_for m.entry.kind m.entry.keys) old ms)) (sym s.can.there) lost_at,
-          subst (λ (x : ℕ). Tells (resting old) ms (answers.Entry x)) (sym won_by.number) (tells-claim h old.fixed.stock old.fixed.builders p.place won_by.by off won_by.key up rise),
-        ),
+        subst (λ (x : ℕ). UndoMoves None n old (Err (undos.Blocked x)) ms) (sym won_by.number) (stopped-moves p.place won_by.by won_by.key p.at won_by.one won_by.some_builder),
         leads-on w (resting old) (resting new) ms sees (subst (Leads (resting old) ms) (book-is old new (with_entry h (claim_of won_by.by won_by.key)) won_by.now fixed)
-            (blocked-leads h old.fixed.stock old.fixed.builders p.place won_by.by off won_by.key up rise p.at won_by.out)),
+            (blocked-leads h old.fixed.stock old.fixed.builders p.place won_by.by off won_by.key (up-seen w old sees) off-rises p.at won_by.out)),
       )
-  by s fixed (Err undos.NoSuchEntry) o = absurd o
-  by s fixed (Err undos.NotACommand) o = absurd o
-  by s fixed (Err undos.AlreadyUndone) o = absurd o
+  made new fixed (Err undos.NoSuchEntry) o = absurd o
+  made new fixed (Err undos.NotACommand) o = absurd o
+  made new fixed (Err undos.AlreadyUndone) o = absurd o
 
-  stopped : (x : Option UndoRefusal) (result : Result (Unit {0}) UndoRefusal) → undo_stop old.history.journal n ≡ x → UndoAnswer x n old new result → (moves : List Move) × UndoMoves x n old result moves × LeadsOn w (resting old) moves (resting new)
-  stopped (Some r) result is a = ([], refl, idle-on w old new sees a.1)
-  stopped None result is a = by (stop-none old.history.journal n is) a.fixed result a.outcome
+stopped : (w : WorldView) (n : ℕ) (old new : BookModel) (sees : Sees w (resting old)) (x : Option UndoRefusal) (result : Result (Unit {0}) UndoRefusal)
+    → undo_stop old.history.journal n ≡ x → UndoAnswer x n old new result → (moves : List Move) × UndoMoves x n old result moves × LeadsOn w (resting old) moves (resting new)
+stopped w n old new sees (Some r) result is a = ([], refl, idle-on w old new sees a.1)
+stopped w n old new sees None result is a = made w n old sees (stop-none old.history.journal n is) new a.fixed result a.outcome
 
 pub undos_are_steps : UndosAreSteps
 undos_are_steps w n old new result sees answer = stopped w n old new sees (undo_stop old.history.journal n) result refl answer

@@ -8,3 +8,5 @@ pub mod Undos
 pub mod Arrivals
 pub mod Builds
 pub mod Openings
+pub mod Choices
+pub mod Turns

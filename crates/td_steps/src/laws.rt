@@ -1,9 +1,11 @@
 //! Each call of the book is a list of steps, each law the contract of a function that does nothing.
 ghost use Rattle.td_steps.specs.Arrivals.{ArrivalsAreSteps, SweepsAreSteps};
 ghost use Rattle.td_steps.specs.Builds.{StartsAreSteps, FinishesAreSteps};
+ghost use Rattle.td_steps.specs.Choices.{WorldsDecide, DecidedCommandsRun};
 ghost use Rattle.td_steps.specs.Commands.{CommandsAreSteps};
 ghost use Rattle.td_steps.specs.Laws.{MovesAreSteps, BuildersChangeNothing, RunsAreSeen};
 ghost use Rattle.td_steps.specs.Openings.{OpeningsAreSteps};
+ghost use Rattle.td_steps.specs.Turns.{CommandsGoOn, StartsGoOn, TurnsRun};
 ghost use Rattle.td_steps.specs.Undos.{UndosAreSteps};
 
 /// Each move that the desk may make is the world's step of that name, refused only where it is a
@@ -44,4 +46,19 @@ pub fn other_calls_are_steps()
     ensures finishes { FinishesAreSteps }
     ensures arrivals { ArrivalsAreSteps }
     ensures sweeps { SweepsAreSteps }
+{}
+
+/// Each world that a book sees decides who is first at each row, and a command's moves run from it
+/// with its choices.
+pub fn commands_can_run()
+    ensures decide { WorldsDecide }
+    ensures run { DecidedCommandsRun }
+{}
+
+/// Whatever builders do between them, the moves of a command go on to the end, with choices that
+/// the worlds on the way decide; and so do those of a start.
+pub fn commands_go_on()
+    ensures on { CommandsGoOn }
+    ensures starts { StartsGoOn }
+    ensures runs { TurnsRun }
 {}

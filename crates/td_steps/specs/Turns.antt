@@ -1,0 +1,37 @@
+-- Whatever builders do, the desk's calls go on to the end. This project's own.
+use Rattle.std.specs.Prelude.{◌≡◌, ℕ, suc, ◌≤◌, true, List, [], ◌∷◌}
+use Rattle.td_rows.specs.declared.key.Key.{Key}
+use Rattle.td_wbread.specs.Command.{CommandParts}
+use Rattle.td_core.specs.declared.step.Step.{Step}
+use Rattle.td_core.specs.Steps.{after, after_all}
+use Rattle.td_core.specs.Worlds.{WorldView}
+use Rattle.td_book.specs.Calls.{Choices}
+use Rattle.td_book.specs.Desk.{BookModel}
+use Rattle.td_steps.specs.Sees.{Sees, resting}
+use Rattle.td_steps.specs.Moves.{Move, step_of, Chosen}
+use Rattle.td_steps.specs.Runs.{are_builders, Runs}
+use Rattle.td_steps.specs.Builds.{notice_moves}
+use Rattle.td_steps.specs.Commands.{off_in, command_moves}
+
+-- the moves, with these steps of builders: turn 0 before the first move, turn 1 before the next, and so on
+abbrev pub RunsWith : (ℕ → List Step) → WorldView → List Move → WorldView → Type 0
+RunsWith turn w [] v = v ≡ after_all w (turn 0)
+RunsWith turn w (m ∷ ms) v = Chosen (after_all w (turn 0)) m × RunsWith (λ i. turn (suc i)) (after (after_all w (turn 0)) (step_of m)) ms v
+
+-- each turn is of builders
+abbrev pub AreTurns : (ℕ → List Step) → Type 0
+AreTurns turn = (i : ℕ) → are_builders (turn i) ≡ true
+
+-- such runs are runs
+abbrev pub TurnsRun : Type 0
+TurnsRun = (w v : WorldView) (turn : ℕ → List Step) (moves : List Move) → AreTurns turn → RunsWith turn w moves v → Runs w moves v
+
+-- whatever builders do in each turn, the moves of a command go on to the end, with choices that the worlds on the way decide
+abbrev pub CommandsGoOn : Type 0
+CommandsGoOn = (w : WorldView) (turn : ℕ → List Step) (c : CommandParts) (old : BookModel) → AreTurns turn → Sees w (resting old) →
+    (choices : List ℕ) × Choices old.fixed.builders (off_in c old) choices × (v : WorldView) × RunsWith turn w (command_moves c old choices) v
+
+-- and so do those of a start, on any key
+abbrev pub StartsGoOn : Type 0
+StartsGoOn = (w : WorldView) (turn : ℕ → List Step) (k : Key) (old : BookModel) → AreTurns turn → Sees w (resting old) →
+    (by : ℕ) × (by ≤ old.fixed.builders) × (v : WorldView) × RunsWith turn w (notice_moves k by old.history) v
