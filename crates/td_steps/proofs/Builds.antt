@@ -1,7 +1,6 @@
 -- The moves of a start and of a finish lead from the book at rest to the book at rest.
-use Rattle.std.proofs.Common.{◌≡◌, ◌≢◌, ◌++◌, ℕ, ◌+◌, zero, suc, Bool, true, false, List, [], ◌∷◌, Option, Some, None, Ok, Err, set, slice_get, length, replicate, ◌==◌, ap, refl, sym, subst, ◌∙◌, arith}
+use Rattle.std.proofs.Common.{◌≡◌, ◌++◌, ℕ, Bool, true, false, List, [], ◌∷◌, Option, Some, None, Ok, Err, set, ◌==◌, ap, refl, sym, subst, ◌∙◌, arith}
 use Rattle.std.proofs.lemmas.Bool.Decides.{nat_tests}
-use Rattle.std.proofs.lemmas.List.{length-replicate}
 use Rattle.td_board.specs.declared.views.Hand.TheVariants.{Free, Holding, Finished}
 use Rattle.td_board.specs.declared.views.RowView.{RowView}
 use Rattle.td_board.specs.declared.views.RowView.TheVariants as views
@@ -12,41 +11,27 @@ use Rattle.td_rows.specs.declared.state.State.TheVariants.{NeedsBuild, Building,
 use Rattle.td_rows.specs.declared.kind.Kind.TheVariants as kinds
 use Rattle.td_rows.specs.declared.outcome.Outcome.{Outcome}
 use Rattle.td_rows.specs.Keys.{ascending}
-use Rattle.td_rows.specs.Meaning.{applies}
 use Rattle.td_rows.specs.States.{is_building_by}
-use Rattle.td_rows.specs.Table.{Table, row_of, keys_of, AppliesOn}
+use Rattle.td_rows.specs.Table.{Table, row_of, keys_of}
 use Rattle.td_change.specs.Saved.{number_of}
 use Rattle.td_supply.specs.Supply.{Stock}
 use Rattle.td_journal.specs.declared.entry.Entry.{Entry}
-use Rattle.td_core.specs.History.{History, rows_of, with_entry, opened}
-use Rattle.td_core.specs.declared.step.Phase.{Phase}
-use Rattle.td_core.specs.declared.step.Phase.TheVariants.{Closed, Held}
-use Rattle.td_core.specs.declared.step.Hand.TheVariants as hands
-use Rattle.td_core.specs.Phases.{NoneBuilt}
-use Rattle.td_journal.proofs.Undoing.{replay-none}
-use Rattle.td_journal.specs.declared.entry.Marked.{Marked}
-use Rattle.td_core.specs.Offers.{supply_now}
-use Rattle.td_core.specs.Worlds.{WorldView, world_of}
-use Rattle.td_core.proofs.Freeing.{AppliesOn-freed, ascending-freed}
-use Rattle.td_core.proofs.Worlds.{AppliesOn-one, IsWorld-open}
+use Rattle.td_core.specs.History.{History, rows_of, with_entry}
+use Rattle.td_core.specs.Worlds.{WorldView}
 use Rattle.td_book.specs.Calls.{noting_one}
 use Rattle.td_book.specs.Desk.{BookModel}
 use Rattle.td_book.specs.Seen.{seen_off, known_as}
-use Rattle.td_book.specs.Arriving.{freed_now}
 use Rattle.td_book.specs.Building.{Noticed, is_built_at}
-use Rattle.td_book.specs.declared.arriving.ArriveRefusal.TheVariants.{NoSuchRow, DoesNotApply, NoMemory as NoRoom}
 use Rattle.td_book.specs.declared.starting.StartRefusal.TheVariants as starts
 use Rattle.td_book.specs.declared.finishing.FinishRefusal.TheVariants as finishes
 use Rattle.td_book.proofs.Builds.{ended_off}
-use Rattle.td_book.proofs.Seeing.{arrive_off, waiting_off, desks_off, unbuilt_off}
 use Rattle.td_book.proofs.Steps.{rows_with, up_now}
-use Rattle.td_core.specs.declared.step.Answer.{Answer}
 use Rattle.td_core.specs.declared.step.Answer.TheVariants as answers
-use Rattle.td_steps.specs.Sees.{Desk, resting, view_of, Sees, Fits, FitAll}
-use Rattle.td_steps.specs.Moves.{Move, settle, arrive, sweep, sweeping, swept_as}
-use Rattle.td_steps.specs.Runs.{moved_all, LeadsOn}
+use Rattle.td_steps.specs.Sees.{resting, view_of, Sees}
+use Rattle.td_steps.specs.Moves.{Move, settle}
+use Rattle.td_steps.specs.Runs.{LeadsOn}
 use Rattle.td_steps.specs.Parts.{withdrawing, offering, Tells}
-use Rattle.td_steps.proofs.Parts.{Leads, leads-none, leads-then, leads-one, leads-on, tells-at, desk_off, view-of-row, row-at, withdrawing-all, offering-all, apart-none, one_opening, book-is, up-seen, idle-on}
+use Rattle.td_steps.proofs.Parts.{Leads, leads-then, leads-one, leads-on, tells-at, desk_off, view-of-row, row-at, withdrawing-all, offering-all, apart-none, one_opening, book-is, up-seen, idle-on}
 use Rattle.td_book.specs.Finishing.{Finishes, Settles}
 use Rattle.td_steps.specs.Builds.{notice_moves, Notices, StartsAreSteps, settle_moves, Ends, SettlesAt, FinishesAreSteps}
 

@@ -12,7 +12,6 @@ use Rattle.td_rows.specs.States.{is_queued}
 use Rattle.td_rows.specs.Table.{Table, row_of, meant}
 use Rattle.td_rows.proofs.Keys.{same_key-refl}
 use Rattle.td_rows.proofs.Tables.{row_of-each_row}
-use Rattle.td_change.specs.Saved.{number_of}
 use Rattle.td_change.proofs.Numbers.{names-below, named-apart, names-more}
 use Rattle.td_core.specs.declared.step.Phase.{Phase}
 use Rattle.td_core.specs.declared.step.Phase.TheVariants as phases
@@ -28,16 +27,14 @@ use Rattle.td_core.proofs.Worlds.{after-accepted, after-refused}
 use Rattle.td_book.specs.Calls.{is_lost, noting_one, noting, off_for, entered}
 use Rattle.td_book.specs.Desk.{BookModel, claim_of}
 use Rattle.td_book.proofs.Steps.{rows_with}
-use Rattle.td_wbread.specs.Command.{CommandParts}
 use Rattle.td_core.proofs.Promises.{builders_are_there}
-use Rattle.td_book.specs.Calls.{Choices}
 use Rattle.td_book.specs.Commands.{named_by, is_matched_in}
 use Rattle.td_book.specs.Naming.{kind_of}
 use Rattle.td_steps.specs.Sees.{Fits, Sees, resting}
 use Rattle.td_steps.specs.Moves.{Move, offer, won, lost, note, step_of, Chosen}
 use Rattle.td_steps.specs.Runs.{Runs}
 use Rattle.td_steps.specs.Parts.{withdrawing_one, withdrawing, offering_one, offering, committing}
-use Rattle.td_steps.specs.Commands.{entering_moves, off_in, command_moves}
+use Rattle.td_steps.specs.Commands.{entering_moves, command_moves}
 use Rattle.td_steps.specs.Choices.{first_at, Decided, WorldsDecide, DecidedCommandsRun}
 use Rattle.td_steps.proofs.Sees.{phase_seen}
 use Rattle.td_steps.proofs.Parts.{queued-row, view-out, off-rise, up-seen}

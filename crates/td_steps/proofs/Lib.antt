@@ -8,3 +8,6 @@ pub mod Builds
 pub mod Openings
 pub mod Choices
 pub mod Turns
+pub mod Books
+pub mod Stops
+pub mod Ends

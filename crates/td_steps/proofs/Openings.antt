@@ -1,52 +1,25 @@
 -- The moves of an opening lead to the book at rest.
-use Rattle.std.proofs.Common.{◌≡◌, ◌≢◌, ℕ, ◌+◌, zero, suc, Bool, true, false, List, [], ◌∷◌, Option, Some, None, Ok, Err, set, slice_get, length, replicate, ◌==◌, ap, refl, sym, subst, ◌∙◌, arith}
-use Rattle.std.proofs.lemmas.Bool.Decides.{nat_tests}
+use Rattle.std.proofs.Common.{◌≡◌, ℕ, zero, suc, true, List, Some, slice_get, length, replicate, ap, refl, sym, subst, ◌∙◌}
 use Rattle.std.proofs.lemmas.List.{length-replicate}
-use Rattle.td_board.specs.declared.views.Hand.TheVariants.{Free, Holding, Finished}
 use Rattle.td_board.specs.declared.views.RowView.{RowView}
 use Rattle.td_board.specs.declared.views.RowView.TheVariants as views
-use Rattle.td_rows.specs.declared.key.Key.{Key}
-use Rattle.td_rows.specs.declared.row.Row.{Row}
-use Rattle.td_rows.specs.declared.state.State.{State}
-use Rattle.td_rows.specs.declared.state.State.TheVariants.{NeedsBuild, Building, Built, Uploaded, Installed, DepWait, BdUninstallable, BuildAttempted, Failed, NotForUs}
-use Rattle.td_rows.specs.declared.kind.Kind.TheVariants as kinds
-use Rattle.td_rows.specs.declared.outcome.Outcome.{Outcome}
 use Rattle.td_rows.specs.Keys.{ascending}
-use Rattle.td_rows.specs.Meaning.{applies}
-use Rattle.td_rows.specs.States.{is_building_by}
-use Rattle.td_rows.specs.Table.{Table, row_of, keys_of, AppliesOn}
-use Rattle.td_change.specs.Saved.{number_of}
+use Rattle.td_rows.specs.Table.{Table, keys_of}
 use Rattle.td_supply.specs.Supply.{Stock}
-use Rattle.td_journal.specs.declared.entry.Entry.{Entry}
-use Rattle.td_core.specs.History.{History, rows_of, with_entry, opened}
+use Rattle.td_core.specs.History.{rows_of, opened}
 use Rattle.td_core.specs.declared.step.Phase.{Phase}
-use Rattle.td_core.specs.declared.step.Phase.TheVariants.{Closed, Held}
+use Rattle.td_core.specs.declared.step.Phase.TheVariants.{Closed}
 use Rattle.td_core.specs.declared.step.Hand.TheVariants as hands
 use Rattle.td_core.specs.Phases.{NoneBuilt}
 use Rattle.td_journal.proofs.Undoing.{replay-none}
-use Rattle.td_journal.specs.declared.entry.Marked.{Marked}
-use Rattle.td_core.specs.Offers.{supply_now}
-use Rattle.td_core.specs.Worlds.{WorldView, world_of}
-use Rattle.td_core.proofs.Freeing.{AppliesOn-freed, ascending-freed}
-use Rattle.td_core.proofs.Worlds.{AppliesOn-one, IsWorld-open}
-use Rattle.td_book.specs.Calls.{noting_one}
+use Rattle.td_core.specs.Worlds.{world_of}
+use Rattle.td_core.proofs.Worlds.{IsWorld-open}
 use Rattle.td_book.specs.Desk.{BookModel}
-use Rattle.td_book.specs.Seen.{seen_off, known_as}
-use Rattle.td_book.specs.Arriving.{freed_now}
-use Rattle.td_book.specs.Building.{Noticed, is_built_at}
-use Rattle.td_book.specs.declared.arriving.ArriveRefusal.TheVariants.{NoSuchRow, DoesNotApply, NoMemory as NoRoom}
-use Rattle.td_book.specs.declared.starting.StartRefusal.TheVariants as starts
-use Rattle.td_book.specs.declared.finishing.FinishRefusal.TheVariants as finishes
-use Rattle.td_book.proofs.Builds.{ended_off}
-use Rattle.td_book.proofs.Seeing.{arrive_off, waiting_off, desks_off, unbuilt_off}
-use Rattle.td_book.proofs.Steps.{rows_with, up_now}
-use Rattle.td_core.specs.declared.step.Answer.{Answer}
-use Rattle.td_core.specs.declared.step.Answer.TheVariants as answers
-use Rattle.td_steps.specs.Sees.{Desk, resting, view_of, Sees, Fits, FitAll}
-use Rattle.td_steps.specs.Moves.{Move, settle, arrive, sweep, sweeping, swept_as}
-use Rattle.td_steps.specs.Runs.{moved_all, LeadsOn}
-use Rattle.td_steps.specs.Parts.{withdrawing, offering, Tells}
-use Rattle.td_steps.proofs.Parts.{Leads, leads-none, leads-then, leads-one, leads-on, tells-at, desk_off, view-of-row, row-at, withdrawing-all, offering-all, apart-none, one_opening, book-is, up-seen, idle-on}
+use Rattle.td_book.specs.Seen.{seen_off}
+use Rattle.td_book.proofs.Seeing.{unbuilt_off}
+use Rattle.td_steps.specs.Sees.{Desk, resting, Sees, Fits, FitAll}
+use Rattle.td_steps.specs.Parts.{offering}
+use Rattle.td_steps.proofs.Parts.{Leads, leads-on, desk_off, offering-all}
 use Rattle.td_steps.specs.Openings.{first_desk, OpeningsAreSteps}
 
 same_of : {A : Type 0} (n i : ℕ) (x y : A) → slice_get (replicate n x) i ≡ Some y → y ≡ x

@@ -20,7 +20,7 @@ use Rattle.td_steps.specs.Sees.{Desk, view_of, with_view, Fits, FitAll, Sees, is
 same_number : (b c : ℕ) → (b == c) ≡ true → b ≡ c
 same_number b c h = grind (arith, nat_tests, h)
 
-number_same : (b c : ℕ) → b ≡ c → (b == c) ≡ true
+pub number_same : (b c : ℕ) → b ≡ c → (b == c) ≡ true
 number_same b c h = grind (arith, nat_tests, h)
 
 true_false : true ≡ false → ⊥

@@ -6,7 +6,6 @@ use Rattle.td_rows.specs.declared.key.Key.{Key}
 use Rattle.td_rows.specs.declared.kind.Kind.{Kind}
 use Rattle.td_rows.specs.Keys.{names, below_all, ascending}
 use Rattle.td_rows.specs.Table.{Table, keys_of}
-use Rattle.td_change.specs.Saved.{number_of}
 use Rattle.td_supply.specs.Supply.{Stock}
 use Rattle.td_core.specs.Committing.{takes}
 use Rattle.td_core.specs.declared.step.Phase.{Phase}
@@ -16,19 +15,16 @@ use Rattle.td_core.specs.History.{History, rows_of, with_entry}
 use Rattle.td_core.specs.Refusals.{is_queued_at}
 use Rattle.td_core.specs.Steps.{after, after_all}
 use Rattle.td_core.specs.Worlds.{WorldView, phase_of}
-use Rattle.td_book.specs.Calls.{is_lost, noting_one, noting, off_for, entered}
+use Rattle.td_book.specs.Calls.{is_lost, noting_one, noting, entered}
 use Rattle.td_book.specs.Desk.{claim_of}
-use Rattle.td_wbread.specs.Command.{CommandParts}
 use Rattle.td_core.proofs.Promises.{builders_are_there}
 use Rattle.td_book.specs.Commands.{named_by, is_matched_in}
-use Rattle.td_book.specs.Desk.{BookModel}
 use Rattle.td_book.specs.Naming.{kind_of}
-use Rattle.td_steps.specs.Sees.{Desk, resting, view_of, Fits, Sees}
+use Rattle.td_steps.specs.Sees.{Desk, view_of, Fits, Sees}
 use Rattle.td_steps.specs.Moves.{Move, offer, won, lost, note, step_of, moved, Chosen}
-use Rattle.td_steps.specs.Runs.{are_builders, Runs}
 use Rattle.td_steps.specs.Parts.{withdrawing_one, withdrawing, offering_one, offering, committing}
 use Rattle.td_steps.specs.Builds.{notice_moves}
-use Rattle.td_steps.specs.Commands.{off_in, command_moves}
+use Rattle.td_steps.specs.Commands.{off_in}
 use Rattle.td_steps.specs.Choices.{first_at}
 use Rattle.td_steps.specs.Turns.{RunsWith, AreTurns, TurnsRun, CommandsGoOn, StartsGoOn}
 use Rattle.td_steps.proofs.Sees.{phase_seen}
@@ -52,6 +48,10 @@ free-run turn w [] free = (after_all w (turn 0), refl)
 free-run turn w (m ∷ ms) free =
     let rest = free-run (λ i. turn (suc i)) (after (after_all w (turn 0)) (step_of m)) ms free.1 in
     (rest.0, (free.0 (after_all w (turn 0)), rest.1))
+
+pub free-one : (m : Move) (ms : List Move) → ((w : WorldView) → Chosen w m) → FreeMoves ms → FreeMoves (m ∷ ms)
+unfolding FreeMoves
+free-one m ms one more = (one, more)
 
 pub free-append : (a b : List Move) → FreeMoves a → FreeMoves b → FreeMoves (a ++ b)
 unfolding FreeMoves

@@ -1,51 +1,32 @@
 -- The moves of an undo lead from the book at rest to the book at rest.
-use Rattle.std.proofs.Common.{◌≡◌, ◌≢◌, ℕ, zero, suc, ◌+◌, ◌-◌, Bool, true, false, ◌&&◌, List, [], ◌∷◌, ◌++◌, append_assoc, append-nil, ◌≤◌, Option, Some, None, Result, Ok, Err, if◌then◌else◌, length, take, drop, slice_get, set, ap, refl, sym, subst, ◌∙◌, arith}
+use Rattle.std.proofs.Common.{◌≡◌, ℕ, suc, ◌+◌, Bool, true, false, List, [], ◌∷◌, ◌++◌, append_assoc, ◌≤◌, Option, Some, None, Result, Ok, Err, if◌then◌else◌, length, take, drop, slice_get, ap, refl, sym, subst, ◌∙◌}
 use Rattle.std.specs.Prelude.{IsSomeAnd}
-use Rattle.std.proofs.lemmas.Bool.{and_parts}
 use Rattle.std.proofs.lemmas.List.{take-append-drop}
-use Rattle.std.proofs.lemmas.Option.{slice_get_past}
 use Rattle.td_board.specs.declared.views.RowView.{RowView}
-use Rattle.td_board.specs.declared.views.RowView.TheVariants as views
 use Rattle.td_rows.specs.declared.key.Key.{Key}
-use Rattle.td_rows.specs.declared.row.Row.{Row}
-use Rattle.td_rows.specs.declared.state.State.{State}
-use Rattle.td_rows.specs.declared.state.State.TheVariants.{NeedsBuild, Building, Built, Uploaded, Installed, DepWait, BdUninstallable, BuildAttempted, Failed, NotForUs}
-use Rattle.td_rows.specs.declared.kind.Kind.{Kind}
-use Rattle.td_rows.specs.Keys.{same_key, names, below_all, ascending}
+use Rattle.td_rows.specs.Keys.{same_key, names, ascending}
 use Rattle.td_rows.specs.Kinds.{cells}
-use Rattle.td_rows.specs.States.{is_queued}
-use Rattle.td_rows.specs.Table.{Table, row_of, keys_of, fits, AppliesOn}
-use Rattle.td_rows.proofs.Keys.{same_key-true, same_key-refl}
-use Rattle.td_rows.proofs.Tables.{names-push}
+use Rattle.td_rows.specs.Table.{keys_of}
+use Rattle.td_rows.proofs.Keys.{same_key-true}
 use Rattle.td_rows.proofs.Lists.{take-next, drop-next}
-use Rattle.td_change.specs.Saved.{place_of, number_of}
-use Rattle.td_change.proofs.Numbers.{slice_get-number_of, names-below, named-apart, names-more}
 use Rattle.td_supply.specs.Supply.{Stock}
-use Rattle.td_journal.specs.declared.entry.Entry.{Entry}
 use Rattle.td_journal.specs.declared.entry.Mark.{Mark}
 use Rattle.td_journal.specs.declared.entry.Mark.TheVariants.{Standing, Undone}
 use Rattle.td_journal.specs.declared.entry.Marked.{Marked}
 use Rattle.td_journal.specs.Entries.{is_command, standing, entry_at, CanBeUndone}
 use Rattle.td_journal.specs.Replay.{Lawful}
 use Rattle.td_journal.specs.Touching.{blocker}
-use Rattle.td_journal.proofs.Undoing.{entry_at-place}
-use Rattle.td_core.specs.Committing.{takes}
 use Rattle.td_core.specs.History.{History, rows_of, with_entry, without_entry}
 use Rattle.td_core.specs.Refusals.{is_queued_at}
 use Rattle.td_core.specs.Worlds.{WorldView}
-use Rattle.td_core.proofs.Phases.{keys_of-rows_of, number_of-absent, set-set}
-use Rattle.td_core.proofs.Taking.{AppliesOn-filter, names-filter, ascending-filter}
-use Rattle.td_book.specs.Calls.{is_lost, noting_one, noting, Choices, off_for, entered, CommandOutcome}
+use Rattle.td_book.specs.Calls.{off_for}
 use Rattle.td_book.specs.Desk.{BookModel, claim_of}
-use Rattle.td_book.specs.Seen.{known_as, held_as, seen_as, views as views_by, seen_off}
+use Rattle.td_book.specs.Seen.{seen_off}
 use Rattle.td_book.specs.Undoing.{undo_stop, mark_stop, UndoAnswer, UndoOutcome, IsWon}
-use Rattle.td_book.specs.declared.commanding.CommandRefusal.{CommandRefusal}
-use Rattle.td_book.specs.declared.commanding.CommandRefusal.TheVariants as commands
 use Rattle.td_book.specs.declared.undoing.UndoRefusal.{UndoRefusal}
 use Rattle.td_book.specs.declared.undoing.UndoRefusal.TheVariants as undos
-use Rattle.td_book.proofs.Seeing.{withdrawn_off, stays_off, claimed_off, offered_off, idle_off, desks_off, held_in, known_out, length-seen_off}
-use Rattle.td_book.proofs.Steps.{rows_with, up_now, idle_row, commands_desks, undone_off, unnamed_before, ascending_take}
-use Rattle.td_book.proofs.Calls.{off_within, noting-opening}
+use Rattle.td_book.proofs.Steps.{undone_off, unnamed_before, ascending_take}
+use Rattle.td_book.proofs.Calls.{off_within}
 use Rattle.td_core.specs.declared.step.Answer.TheVariants as answers
 use Rattle.td_core.proofs.Promises.{entries_rise}
 use Rattle.td_steps.specs.Sees.{Desk, resting, Sees}

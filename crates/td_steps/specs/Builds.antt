@@ -1,5 +1,5 @@
 -- The moves of a builder's start and finish. This project's own.
-use Rattle.std.specs.Prelude.{◌≡◌, ℕ, ◌≤◌, List, [], ◌∷◌, ◌++◌, Result, Ok, Err}
+use Rattle.std.specs.Prelude.{◌≡◌, ◌⊎◌, ℕ, ◌≤◌, List, [], ◌∷◌, ◌++◌, Some, Result, Ok, Err}
 use Rattle.td_board.specs.declared.views.BuilderView.{BuilderView}
 use Rattle.td_board.specs.declared.views.Hand.{Hand}
 use Rattle.td_board.specs.declared.views.Hand.TheVariants.{Holding, Finished}
@@ -8,7 +8,9 @@ use Rattle.td_rows.specs.declared.kind.Kind.TheVariants.{Outcome as Ended}
 use Rattle.td_rows.specs.declared.outcome.Outcome.{Outcome}
 use Rattle.td_core.specs.declared.step.Answer.TheVariants.{Entry}
 use Rattle.td_core.specs.History.{History, rows_of, with_entry}
-use Rattle.td_core.specs.Worlds.{WorldView}
+use Rattle.td_core.specs.declared.step.Hand.TheVariants as hands
+use Rattle.td_core.specs.declared.step.Phase.TheVariants.{Held, Noted}
+use Rattle.td_core.specs.Worlds.{WorldView, phase_of, hand_of}
 use Rattle.td_book.specs.Calls.{noting_one}
 use Rattle.td_book.specs.Desk.{BookModel}
 use Rattle.td_book.specs.Building.{StartOutcome}
@@ -20,7 +22,7 @@ use Rattle.td_book.specs.declared.starting.StartRefusal.{StartRefusal}
 use Rattle.td_book.specs.declared.starting.StartRefusal.TheVariants.{Mismatch}
 use Rattle.td_steps.specs.Sees.{Sees, resting}
 use Rattle.td_steps.specs.Moves.{Move, settle}
-use Rattle.td_steps.specs.Runs.{LeadsOn}
+use Rattle.td_steps.specs.Runs.{Runs, LeadsOn}
 use Rattle.td_steps.specs.Parts.{withdrawing, offering, Tells}
 
 -- ---- 1. a start
@@ -77,3 +79,11 @@ FinishMoves hand b o old result moves = moves ≡ []
 abbrev pub FinishesAreSteps : Type 0
 FinishesAreSteps = (w : WorldView) (hand : Hand) (o : Outcome) (before behind : BuilderView) (old new : BookModel) (result : Result ℕ FinishRefusal) →
     Sees w (resting old) → FinishOutcome hand o before behind old new result → (moves : List Move) × FinishMoves hand before.number o old result moves × LeadsOn w (resting old) moves (resting new)
+
+-- ---- 3. such runs exist
+
+-- a builder that holds a row, whose claim is noted or not yet, may end its build so: the moves of its finish run, with the builder's own step before the settling
+abbrev pub FinishesRun : Type 0
+FinishesRun = (w : WorldView) (b : ℕ) (k : Key) (o : Outcome) (old : BookModel) →
+    Sees w (resting old) → hand_of w b ≡ Some (hands.Holding k) → (phase_of w k ≡ Some (Held b)) ⊎ (phase_of w k ≡ Some (Noted b)) →
+    (by : ℕ) × (by ≤ old.fixed.builders) × (v : WorldView) × Runs w (notice_moves k by old.history ++ settle_moves k b o (noting_one old.history k by)) v

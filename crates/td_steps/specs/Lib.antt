@@ -10,3 +10,4 @@ pub mod Builds
 pub mod Openings
 pub mod Choices
 pub mod Turns
+pub mod Books

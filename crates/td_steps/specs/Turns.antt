@@ -1,5 +1,5 @@
 -- Whatever builders do, the desk's calls go on to the end. This project's own.
-use Rattle.std.specs.Prelude.{◌≡◌, ℕ, suc, ◌≤◌, true, List, [], ◌∷◌}
+use Rattle.std.specs.Prelude.{◌≡◌, ◌⊎◌, ℕ, suc, ◌+◌, ◌≤◌, true, List, [], ◌∷◌, None, Ok, Err, length}
 use Rattle.td_rows.specs.declared.key.Key.{Key}
 use Rattle.td_wbread.specs.Command.{CommandParts}
 use Rattle.td_core.specs.declared.step.Step.{Step}
@@ -7,11 +7,14 @@ use Rattle.td_core.specs.Steps.{after, after_all}
 use Rattle.td_core.specs.Worlds.{WorldView}
 use Rattle.td_book.specs.Calls.{Choices}
 use Rattle.td_book.specs.Desk.{BookModel}
+use Rattle.td_book.specs.Undoing.{undo_stop}
+use Rattle.td_book.specs.declared.undoing.UndoRefusal.TheVariants.{Blocked}
 use Rattle.td_steps.specs.Sees.{Sees, resting}
 use Rattle.td_steps.specs.Moves.{Move, step_of, Chosen}
 use Rattle.td_steps.specs.Runs.{are_builders, Runs}
 use Rattle.td_steps.specs.Builds.{notice_moves}
 use Rattle.td_steps.specs.Commands.{off_in, command_moves}
+use Rattle.td_steps.specs.Undos.{UndoMoves}
 
 -- the moves, with these steps of builders: turn 0 before the first move, turn 1 before the next, and so on
 abbrev pub RunsWith : (ℕ → List Step) → WorldView → List Move → WorldView → Type 0
@@ -35,3 +38,8 @@ CommandsGoOn = (w : WorldView) (turn : ℕ → List Step) (c : CommandParts) (ol
 abbrev pub StartsGoOn : Type 0
 StartsGoOn = (w : WorldView) (turn : ℕ → List Step) (k : Key) (old : BookModel) → AreTurns turn → Sees w (resting old) →
     (by : ℕ) × (by ≤ old.fixed.builders) × (v : WorldView) × RunsWith turn w (notice_moves k by old.history) v
+
+-- an undo that the journal doesn't refuse goes on to its end, or stops at a row at which a builder was faster, and goes on from there: that claim is its blocker
+abbrev pub UndosGoOn : Type 0
+UndosGoOn = (w : WorldView) (turn : ℕ → List Step) (n : ℕ) (old : BookModel) → AreTurns turn → Sees w (resting old) → undo_stop old.history.journal n ≡ None →
+    (moves : List Move) × (v : WorldView) × RunsWith turn w moves v × (UndoMoves None n old (Ok tt) moves ⊎ UndoMoves None n old (Err (Blocked (length old.history.journal + 1))) moves)

@@ -1,11 +1,12 @@
 //! Each call of the book is a list of steps, each law the contract of a function that does nothing.
 ghost use Rattle.td_steps.specs.Arrivals.{ArrivalsAreSteps, SweepsAreSteps};
-ghost use Rattle.td_steps.specs.Builds.{StartsAreSteps, FinishesAreSteps};
+ghost use Rattle.td_steps.specs.Books.{EntriesStay, RowsAreReplayed, UndoneAtOnce, BlockedExactly, UndoneElse};
+ghost use Rattle.td_steps.specs.Builds.{StartsAreSteps, FinishesAreSteps, FinishesRun};
 ghost use Rattle.td_steps.specs.Choices.{WorldsDecide, DecidedCommandsRun};
 ghost use Rattle.td_steps.specs.Commands.{CommandsAreSteps};
 ghost use Rattle.td_steps.specs.Laws.{MovesAreSteps, BuildersChangeNothing, RunsAreSeen};
 ghost use Rattle.td_steps.specs.Openings.{OpeningsAreSteps};
-ghost use Rattle.td_steps.specs.Turns.{CommandsGoOn, StartsGoOn, TurnsRun};
+ghost use Rattle.td_steps.specs.Turns.{CommandsGoOn, StartsGoOn, UndosGoOn, TurnsRun};
 ghost use Rattle.td_steps.specs.Undos.{UndosAreSteps};
 
 /// Each move that the desk may make is the world's step of that name, refused only where it is a
@@ -55,10 +56,37 @@ pub fn commands_can_run()
     ensures run { DecidedCommandsRun }
 {}
 
+/// A builder that holds a row may end its build: the moves of its finish run, with its own step
+/// before the settling.
+pub fn finishes_can_run()
+    ensures { FinishesRun }
+{}
+
 /// Whatever builders do between them, the moves of a command go on to the end, with choices that
-/// the worlds on the way decide; and so do those of a start.
+/// the worlds on the way decide; and so do those of a start, and of an undo up to a faster claim.
 pub fn commands_go_on()
     ensures on { CommandsGoOn }
     ensures starts { StartsGoOn }
+    ensures undos { UndosGoOn }
     ensures runs { TurnsRun }
+{}
+
+/// Over any list of a book's calls, whatever they answer, the opening rows and each entry stay and
+/// more are appended; so the rows are the standing entries folded over the opening rows.
+pub fn rows_are_replayed()
+    ensures entries { EntriesStay }
+    ensures rows { RowsAreReplayed }
+{}
+
+/// The undo of a book's last command isn't refused by the journal, and leaves every row as it was
+/// before the command, but for the claims that the command had found.
+pub fn a_command_is_undone_at_once()
+    ensures { UndoneAtOnce }
+{}
+
+/// A book refuses the undo of a standing command for a later entry exactly where one blocks it, and
+/// names the latest; without one it is undone, but for want of memory or a faster claim.
+pub fn an_undo_is_refused_where_blocked()
+    ensures blocked { BlockedExactly }
+    ensures undone { UndoneElse }
 {}

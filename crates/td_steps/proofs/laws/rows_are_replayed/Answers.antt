@@ -1,0 +1,8 @@
+use Rattle.td_steps.proofs.Books.{entries_stay, rows_are_replayed}
+use Rattle.td_steps.proofs.laws.rows_are_replayed.Goals as goal
+
+pub returns-clause-entries : goal.returns-clause-entries
+returns-clause-entries c = entries_stay
+
+pub returns-clause-rows : goal.returns-clause-rows
+returns-clause-rows c = rows_are_replayed

@@ -1,0 +1,86 @@
+-- What holds of a book over any list of its calls. This project's own.
+use Rattle.std.specs.Prelude.{◌≡◌, ℕ, List, [], ◌∷◌, ◌++◌, map, Option, Some, None, Result, Ok, Err, OnOk}
+use Rattle.std.specs.declared.alloc.AllocError.{AllocError}
+use Rattle.td_board.specs.declared.views.BuilderView.{BuilderView}
+use Rattle.td_board.specs.declared.views.Hand.{Hand}
+use Rattle.td_rows.specs.declared.key.Key.{Key}
+use Rattle.td_rows.specs.declared.outcome.Outcome.{Outcome}
+use Rattle.td_rows.specs.Table.{Table}
+use Rattle.td_journal.specs.declared.entry.Entry.{Entry}
+use Rattle.td_journal.specs.declared.entry.Marked.{Marked}
+use Rattle.td_journal.specs.Entries.{standing, CanBeUndone}
+use Rattle.td_journal.specs.Replay.{replay}
+use Rattle.td_journal.specs.Touching.{blocker}
+use Rattle.td_wbread.specs.Command.{CommandParts}
+use Rattle.td_core.specs.History.{rows_of, opened}
+use Rattle.td_book.specs.declared.arriving.ArriveRefusal.{ArriveRefusal}
+use Rattle.td_book.specs.declared.commanding.CommandRefusal.{CommandRefusal}
+use Rattle.td_book.specs.declared.commanding.Taken.{Taken}
+use Rattle.td_book.specs.declared.finishing.FinishRefusal.{FinishRefusal}
+use Rattle.td_book.specs.declared.starting.Job.{Job}
+use Rattle.td_book.specs.declared.starting.StartRefusal.{StartRefusal}
+use Rattle.td_book.specs.declared.undoing.UndoRefusal.{UndoRefusal}
+use Rattle.td_book.specs.declared.undoing.UndoRefusal.TheVariants.{Blocked}
+use Rattle.td_book.specs.Arriving.{ArriveOutcome, SweepOutcome}
+use Rattle.td_book.specs.Building.{StartOutcome}
+use Rattle.td_book.specs.Calls.{noting, Choices}
+use Rattle.td_book.specs.Commands.{IsDone}
+use Rattle.td_book.specs.Desk.{Fixed, BookModel}
+use Rattle.td_book.specs.Finishing.{FinishOutcome}
+use Rattle.td_book.specs.Undoing.{undo_stop, UndoAnswer, UndoOutcome}
+use Rattle.td_steps.specs.Commands.{off_in}
+
+-- a call with what it was given and what it answered; of a finish, what the builder's seat was before and behind it
+pub data Call : Type 0 where
+  command : CommandParts → Result Taken CommandRefusal → Call
+  undo : ℕ → Result (Unit {0}) UndoRefusal → Call
+  start : ℕ → Hand → Result Job StartRefusal → Call
+  finish : Outcome → BuilderView → BuilderView → Result ℕ FinishRefusal → Call
+  arrive : Key → Result ℕ ArriveRefusal → Call
+  sweep : Result (Option ℕ) AllocError → Call
+
+-- what its contract says of the book before and behind it
+abbrev pub Does : Call → BookModel → BookModel → Type 0
+Does (command c result) old new = IsDone c old new result
+Does (undo n result) old new = UndoAnswer (undo_stop old.history.journal n) n old new result
+Does (start b hand result) old new = StartOutcome b hand old new result
+Does (finish o before behind result) old new = FinishOutcome before.hand o before behind old new result
+Does (arrive k result) old new = ArriveOutcome k old new result
+Does (sweep result) old new = SweepOutcome old new result
+
+-- so it is of each of the calls, one after the other
+abbrev pub DoAll : List Call → BookModel → BookModel → Type 0
+DoAll [] old new = new ≡ old
+DoAll (c ∷ calls) old new = (between : BookModel) × Does c old between × DoAll calls between new
+
+-- the entries of a book, without their marks
+abbrev pub entries_in : BookModel → List Entry
+entries_in b = map (λ (m : Marked). m.entry) b.history.journal
+
+-- the opening rows and what no call changes stay, and so does each entry; more are appended
+pub record Follows (old new : BookModel) : Type 0 where
+  pub opening : new.history.opening ≡ old.history.opening
+  pub fixed : new.fixed ≡ old.fixed
+  pub added : List Entry
+  pub entries : entries_in new ≡ entries_in old ++ added
+
+abbrev pub EntriesStay : Type 0
+EntriesStay = (calls : List Call) (old new : BookModel) → DoAll calls old new → Follows old new
+
+-- whatever calls were made since the opening, with whatever answers: the rows (`Book::rows` shows them) are the meanings of the journal's standing entries, folded over the opening rows
+abbrev pub RowsAreReplayed : Type 0
+RowsAreReplayed = (t : Table) (fixed : Fixed) (calls : List Call) (new : BookModel) → DoAll calls (record { history = opened t; fixed = fixed }) new → rows_of new.history ≡ replay t (standing new.history.journal)
+
+-- a command that made an entry, and then at once its undo: the journal doesn't refuse it; and where it is undone, every row is as it was before the command, but for the claims of builders that the command had found
+abbrev pub UndoneAtOnce : Type 0
+UndoneAtOnce = (c : CommandParts) (old between new : BookModel) (taken : Taken) (result : Result (Unit {0}) UndoRefusal) →
+    Does (command c (Ok taken)) old between → Does (undo taken.number result) between new →
+    (undo_stop between.history.journal taken.number ≡ None) × OnOk result ((choices : List ℕ) × Choices old.fixed.builders (off_in c old) choices × (rows_of new.history ≡ rows_of (noting old.history (off_in c old) choices)))
+
+-- the undo of a standing command that a later entry blocks is refused for the latest such, and changes nothing
+abbrev pub BlockedExactly : Type 0
+BlockedExactly = (n m : ℕ) (old new : BookModel) (result : Result (Unit {0}) UndoRefusal) → CanBeUndone old.history.journal n → blocker old.history.journal n ≡ Some m → Does (undo n result) old new → (result ≡ Err (Blocked m)) × (new ≡ old)
+
+-- one that no later entry blocks is undone, but for want of memory, or a builder's claim that was faster
+abbrev pub UndoneElse : Type 0
+UndoneElse = (n : ℕ) (old new : BookModel) (result : Result (Unit {0}) UndoRefusal) → CanBeUndone old.history.journal n → blocker old.history.journal n ≡ None → Does (undo n result) old new → UndoOutcome n old new result
