@@ -3,8 +3,9 @@
 //! Start at `Kept`: the opening rows, the journal that led from them to the rows as they are, and
 //! of each standing command what it changed. `Books` keeps beside it what is on offer: an arrival
 //! installs a row and offers its build, and a sweep frees the waiting rows whose relation the
-//! offers meet. `World` adds the builders: `World::step` takes one step of the desk, of a builder
-//! or of the archive, and `run` takes a list of them.
+//! offers meet. Both are opened again from a journal that is read (`reopen`). `World` adds the
+//! builders: `World::step` takes one step of the desk, of a builder or of the archive, and `run`
+//! takes a list of them.
 //! Promised, over every list of steps: the rows are the meanings of the journal's standing
 //! entries, folded over the opening rows; a command followed at once by its undo leaves every row
 //! as it was; the undo of a standing command is refused for a later entry exactly where one that
@@ -21,6 +22,8 @@ mod key_list;
 pub mod laws;
 mod refusals;
 mod reopening;
+#[cfg(test)]
+mod replay_tests;
 mod runs;
 mod searching;
 mod step;

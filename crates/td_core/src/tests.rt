@@ -1,5 +1,6 @@
 //! What no clause says: that steps succeed with ample memory, and that the definitions are those
-//! of the field. The expected answers and rows are the project's own worked examples.
+//! of the field. The expected answers and rows are the project's own worked examples; those that
+//! need no offers are run by the program (`examples/`).
 ghost use Rattle.std.specs.Prelude.{◌≡◌, IfOk, pos};
 ghost use Rattle.td_rows.specs.declared.kind.Kind.{Kind as KindValue};
 ghost use Rattle.td_rows.specs.Table.{AppliesOn};
@@ -7,19 +8,17 @@ ghost use Rattle.td_core.specs.History.{rows_of};
 ghost use Rattle.td_core.specs.Phases.{NoneBuilt};
 ghost use Rattle.td_supply.specs.Supply.{opened, stock_of};
 
-use crate::{Answer, Kept, KeyList, Refusal, Step, World, run};
+use crate::{Answer, Books, Kept, KeyList, Refusal, Step, World, run};
 use std::alloc::Global;
 use std::test::Fail;
-use td_journal::{Entry, Keys};
+use td_journal::{Entry, Keys, read, read_kind, text};
 use td_relation::Archs;
-use td_rows::{
-    Key, Kind, Line, Outcome, Priority, Rows, are_ascending, read_key, read_state, rows_text,
-};
+use td_rows::{Key, Kind, Line, Priority, Rows, are_ascending, read_key, read_state, rows_text};
 use td_supply::{Build, Supply};
 use td_version::Version;
 
 // The rows of a state file that is short.
-fn rows(alloc: Global, text: &str) -> Result<Rows, Fail>
+pub(crate) fn rows(alloc: Global, text: &str) -> Result<Rows, Fail>
     ensures { IfOk result (λ rows. NoneBuilt rows) }
 {
     if text.len() > 1000 {
@@ -43,255 +42,137 @@ fn keys(alloc: Global, text: &str) -> Result<KeyList, Fail> {
     Ok(KeyList::new(keys))
 }
 
-fn number(digits: &str) -> u64 {
-    digits.parse::<u64>().unwrap_or(0)
-}
+/// What a rebuild of the tests needs beside it, 24 bytes.
+const REBUILT: &str = "libbar-dev (>= 2.0-1+b1)";
 
-fn priority(digits: &str) -> Priority {
-    Priority::new(digits.parse::<i16>().unwrap_or(0)).unwrap_or(Priority::zero())
-}
-
-// A command: `dw` waits for libxx, `nmu` is a rebuild under the row's next number.
+// A command: `dw` waits for libbar-dev, and `nmu` needs it rebuilt beside.
 fn kind(alloc: Global, word: &str) -> Result<Kind, Fail> {
-    Ok(match word {
-        "gb" => Kind::Gb,
-        "dw" => Kind::Dw(Line::new(alloc, "libxx")?),
-        "nmu" => Kind::Nmu {
+    match word {
+        "dw" => Ok(Kind::Dw(Line::new(alloc, "libbar-dev")?)),
+        "nmu" => Ok(Kind::Nmu {
             number: None,
-            extra: Line::empty(alloc),
+            extra: Line::new(alloc, REBUILT)?,
             message: Line::empty(alloc),
-        },
-        _ => Kind::Bp(priority(word.strip_prefix("bp=").ok_or("a command")?)),
-    })
+        }),
+        _ => Ok(read_kind(alloc, word).ok_or("a kind")?),
+    }
 }
 
-// A step by its word and what stands behind it.
+// A step of the desk by its word and what stands behind it.
 fn step(alloc: Global, spelled: &str) -> Result<Step, Fail> {
-    let (word, rest) = spelled.split_once(' ').unwrap_or((spelled, ""));
-    Ok(match word {
-        "offer" => Step::Offer(key(alloc, rest)?),
-        "claim=1" => Step::Claim(1, key(alloc, rest)?),
-        "claim=2" => Step::Claim(2, key(alloc, rest)?),
-        "note" => Step::Note(key(alloc, rest)?),
-        "attempted" => Step::Finish(number(rest), Outcome::Attempted),
-        "built" => Step::Finish(number(rest), Outcome::Built),
-        "settle" => Step::Settle(key(alloc, rest)?),
-        "release" => Step::Release(number(rest)),
-        "undo" => Step::Undo(number(rest)),
-        "arrive" => Step::Arrive(key(alloc, rest)?),
-        "sweep" => Step::Sweep,
-        _ => Step::Commit(kind(alloc, word)?, keys(alloc, rest)?),
-    })
-}
-
-// An answer, and the key that it names.
-fn spelled(alloc: Global, answer: &Answer) -> Result<String, Fail> {
-    Ok(match answer {
-        Answer::Refused(Refusal::NoSuchRow(Some(key))) => {
-            format!(in alloc; "NoSuchRow {}", key.as_str())?
-        }
-        Answer::Refused(Refusal::NotPinned(Some(key))) => {
-            format!(in alloc; "NotPinned {}", key.as_str())?
-        }
-        Answer::Refused(Refusal::DoesNotApply(key)) => {
-            format!(in alloc; "DoesNotApply {}", key.as_str())?
-        }
-        Answer::Refused(refusal) => format!(in alloc; "{refusal:?}")?,
-        answer => format!(in alloc; "{answer:?}")?,
-    })
-}
-
-// Whether a step is answered so.
-fn is_answered(
-    alloc: Global,
-    world: &mut World<'_>,
-    step: Step,
-    expected: &str,
-) -> Result<bool, Fail> {
-    let answer = spelled(alloc, &world.step(step))?;
-    Ok(answer.as_str() == expected)
-}
-
-// The first line of the steps with their answers that is answered otherwise.
-fn otherwise<'a>(
-    alloc: Global,
-    world: &mut World<'_>,
-    steps: &'a str,
-) -> Result<Option<&'a str>, Fail> {
-    for line in steps.lines() {
-        let (spelled, expected) = line.split_once(" => ").ok_or("a step")?;
-        if !is_answered(alloc, world, step(alloc, spelled)?, expected)? {
-            return Ok(Some(line));
+    if spelled == "sweep" {
+        return Ok(Step::Sweep);
+    }
+    let (word, rest) = spelled.split_once(' ').ok_or("a step")?;
+    match word {
+        "undo" => Ok(Step::Undo(rest.parse::<u64>()?)),
+        "arrive" => Ok(Step::Arrive(key(alloc, rest)?)),
+        _ => {
+            let keys = keys(alloc, rest)?;
+            Ok(Step::Commit(kind(alloc, word)?, keys))
         }
     }
-    Ok(None)
 }
 
-// The rows after the steps, by two builders; the line that is answered otherwise, if one is.
-fn rows_after(alloc: Global, opening: &str, steps: &str) -> Result<String, Fail> {
-    rows_with(alloc, Supply::empty(alloc), opening, steps)
+// What a step is answered; a key as it is written.
+#[derive(Clone, Copy)]
+enum Told {
+    Entry(u64),
+    Undone(u64),
+    Nothing,
+    Blocked(u64),
+    AlreadyUndone,
+    NotACommand,
+    NoSuchRow(&'static str),
+    DoesNotApply(&'static str),
 }
 
-// The same, with these offers.
-fn rows_with(alloc: Global, supply: Supply<'_>, opening: &str, steps: &str) -> Result<String, Fail>
+// Whether the answer is that.
+fn is_told(answer: &Answer, told: Told) -> bool {
+    match told {
+        Told::Entry(n) => *answer == Answer::Entry(n),
+        Told::Undone(n) => *answer == Answer::Undone(n),
+        Told::Nothing => *answer == Answer::Nothing,
+        Told::Blocked(n) => *answer == Answer::Refused(Refusal::Blocked(n)),
+        Told::AlreadyUndone => *answer == Answer::Refused(Refusal::AlreadyUndone),
+        Told::NotACommand => *answer == Answer::Refused(Refusal::NotACommand),
+        Told::NoSuchRow(key) => match answer {
+            Answer::Refused(Refusal::NoSuchRow(Some(named))) => named.as_str() == key,
+            _ => false,
+        },
+        Told::DoesNotApply(key) => match answer {
+            Answer::Refused(Refusal::DoesNotApply(named)) => named.as_str() == key,
+            _ => false,
+        },
+    }
+}
+
+// The steps of a table.
+fn steps(alloc: Global, table: &[(&'static str, Told)]) -> Result<Vec<Step>, Fail> {
+    let mut steps = Vec::new(alloc);
+    for (spelled, _) in table {
+        steps.push(step(alloc, spelled)?)?;
+    }
+    Ok(steps)
+}
+
+// The first line of a table with another answer, or with none.
+fn otherwise(table: &[(&'static str, Told)], answers: &[Answer]) -> Option<&'static str> {
+    for (at, (spelled, told)) in table.iter().enumerate() {
+        match answers.get(at) {
+            Some(answer) if is_told(answer, *told) => {}
+            _ => return Some(*spelled),
+        }
+    }
+    None
+}
+
+// The rows of a world; the line of the table that is answered otherwise, if one is.
+fn rows_told(
+    alloc: Global,
+    world: &World<'_>,
+    answers: &[Answer],
+    table: &[(&'static str, Told)],
+) -> Result<String, Fail> {
+    match otherwise(table, answers) {
+        Some(line) => Ok(String::from_str(alloc, line)?),
+        None => Ok(rows_text(alloc, world.rows())?),
+    }
+}
+
+// The rows after the steps of a table; the line that is answered otherwise, if one is.
+fn rows_after(
+    alloc: Global,
+    supply: Supply<'_>,
+    opening: &str,
+    table: &[(&'static str, Told)],
+) -> Result<String, Fail>
     requires { supply ≡ opened (stock_of supply) }
 {
-    let mut world = World::open(alloc, rows(alloc, opening)?, supply, 2)?;
-    if let Some(line) = otherwise(alloc, &mut world, steps)? {
-        return Ok(String::from_str(alloc, line)?);
-    }
-    Ok(rows_text(alloc, world.rows())?)
+    let steps = steps(alloc, table)?;
+    let opening = rows(alloc, opening)?;
+    let (world, answers) = run(alloc, opening, supply, 0, steps)?;
+    rows_told(alloc, &world, answers.as_slice(), table)
 }
 
-const BACK: &str = "\
-gb bar/i386 => Entry(1)
-bp=7 bar/i386 foo/amd64 => Entry(2)
-bp=9 foo/amd64 => Entry(3)
-undo 2 => Blocked(3)
-undo 3 => Undone(3)
-undo 2 => Undone(2)
-undo 2 => AlreadyUndone
-undo 1 => Undone(1)
-gb foo/i386 => NoSuchRow foo/i386
-";
+const OPENING: &str = "bar/i386 Failed 0 2\nfoo/amd64 Built 0 1\n";
+
+const BACK: [(&str, Told); 9] = [
+    ("gb bar/i386", Told::Entry(1)),
+    ("bp=7 bar/i386 foo/amd64", Told::Entry(2)),
+    ("bp=9 foo/amd64", Told::Entry(3)),
+    ("undo 2", Told::Blocked(3)),
+    ("undo 3", Told::Undone(3)),
+    ("undo 2", Told::Undone(2)),
+    ("undo 2", Told::AlreadyUndone),
+    ("undo 1", Told::Undone(1)),
+    ("gb foo/i386", Told::NoSuchRow("foo/i386")),
+];
 
 #[test]
 fn commands_are_undone_from_the_last_one_back(rt: HostRuntime) -> Result<(), Fail> {
-    let opening = "bar/i386 Failed 0 2\nfoo/amd64 Built 0 1\n";
-    let rows = rows_after(rt.alloc(), opening, BACK)?;
-    assert_eq!(rt; rows.as_str(), opening);
-    Ok(())
-}
-
-const BUILD: &str = "\
-offer foo/amd64 => Done
-dw foo/amd64 => NotPinned foo/amd64
-claim=1 foo/amd64 => Done
-claim=2 foo/amd64 => NotOpen
-note foo/amd64 => Entry(1)
-dw foo/amd64 => DoesNotApply foo/amd64
-attempted 1 => Done
-settle foo/amd64 => Entry(2)
-gb foo/amd64 => Entry(3)
-claim=1 foo/amd64 => NotFree
-release 1 => Done
-undo 3 => Undone(3)
-undo 1 => NotACommand
-";
-
-#[test]
-fn a_build_goes_from_its_offer_to_its_release(rt: HostRuntime) -> Result<(), Fail> {
-    let rows = rows_after(rt.alloc(), "foo/amd64 Needs-Build 0 0\n", BUILD)?;
-    assert_eq!(rt; rows.as_str(), "foo/amd64 Build-Attempted 0 0\n");
-    Ok(())
-}
-
-const OTHER_KEYS: &str = "\
-bp=5 foo/amd64 => Entry(1)
-nmu bar/amd64 => Entry(2)
-undo 1 => Undone(1)
-";
-
-#[test]
-fn an_entry_on_other_keys_does_not_block(rt: HostRuntime) -> Result<(), Fail> {
-    let opening = "bar/amd64 Installed 0 0\nfoo/amd64 Installed 0 0\n";
-    let rows = rows_after(rt.alloc(), opening, OTHER_KEYS)?;
-    assert_eq!(rt;
-        rows.as_str(),
-        "bar/amd64 Needs-Build 0 1\nfoo/amd64 Installed 0 0\n"
-    );
-    Ok(())
-}
-
-const INSTALLED: &str = "foo/amd64 Installed 0 0\n";
-
-const EQUAL_VALUE: &str = "\
-bp=5 foo/amd64 => Entry(1)
-bp=5 foo/amd64 => Entry(2)
-undo 1 => Blocked(2)
-undo 2 => Undone(2)
-undo 1 => Undone(1)
-undo 1 => AlreadyUndone
-undo 9 => NoSuchEntry
-";
-
-#[test]
-fn an_equal_value_blocks(rt: HostRuntime) -> Result<(), Fail> {
-    let rows = rows_after(rt.alloc(), INSTALLED, EQUAL_VALUE)?;
-    assert_eq!(rt; rows.as_str(), INSTALLED);
-    Ok(())
-}
-
-const OTHER_CELLS: &str = "\
-nmu foo/amd64 => Entry(1)
-bp=7 foo/amd64 => Entry(2)
-undo 1 => Undone(1)
-";
-
-const OTHER_CELLS_BACK: &str = "\
-nmu foo/amd64 => Entry(1)
-bp=7 foo/amd64 => Entry(2)
-undo 1 => Undone(1)
-undo 2 => Undone(2)
-";
-
-#[test]
-fn an_entry_of_other_cells_does_not_block(rt: HostRuntime) -> Result<(), Fail> {
-    let raised = rows_after(rt.alloc(), INSTALLED, OTHER_CELLS)?;
-    assert_eq!(rt; raised.as_str(), "foo/amd64 Installed 7 0\n");
-    let rows = rows_after(rt.alloc(), INSTALLED, OTHER_CELLS_BACK)?;
-    assert_eq!(rt; rows.as_str(), INSTALLED);
-    Ok(())
-}
-
-const CLAIMED: &str = "\
-nmu foo/amd64 => Entry(1)
-bp=3 foo/amd64 => Entry(2)
-offer foo/amd64 => Done
-claim=1 foo/amd64 => Done
-note foo/amd64 => Entry(3)
-undo 1 => Blocked(3)
-undo 2 => Undone(2)
-";
-
-#[test]
-fn a_claim_blocks_a_rebuild_and_no_priority(rt: HostRuntime) -> Result<(), Fail> {
-    let rows = rows_after(rt.alloc(), INSTALLED, CLAIMED)?;
-    assert_eq!(rt; rows.as_str(), "foo/amd64 Building=1 0 1\n");
-    Ok(())
-}
-
-const BACK_AND_ON: &str = "\
-bp=1 foo/amd64 => Entry(1)
-gb foo/amd64 => Entry(2)
-undo 2 => Undone(2)
-undo 1 => Undone(1)
-bp=3 foo/amd64 => Entry(3)
-undo 3 => Undone(3)
-";
-
-#[test]
-fn numbers_of_entries_go_on_after_an_undo(rt: HostRuntime) -> Result<(), Fail> {
-    let opening = "foo/amd64 Failed 0 0\n";
-    let rows = rows_after(rt.alloc(), opening, BACK_AND_ON)?;
-    assert_eq!(rt; rows.as_str(), opening);
-    Ok(())
-}
-
-const PRIORITY_BACK: &str = "\
-bp=5 foo/amd64 => Entry(1)
-offer foo/amd64 => Done
-claim=1 foo/amd64 => Done
-note foo/amd64 => Entry(2)
-undo 1 => Undone(1)
-built 1 => Done
-settle foo/amd64 => Entry(3)
-";
-
-#[test]
-fn a_priority_is_taken_back_while_its_row_is_building(rt: HostRuntime) -> Result<(), Fail> {
-    let rows = rows_after(rt.alloc(), "foo/amd64 Needs-Build 0 1\n", PRIORITY_BACK)?;
-    assert_eq!(rt; rows.as_str(), "foo/amd64 Built 0 1\n");
+    let rows = rows_after(rt.alloc(), Supply::empty(rt.alloc()), OPENING, &BACK)?;
+    assert_eq!(rt; rows.as_str(), OPENING);
     Ok(())
 }
 
@@ -311,59 +192,116 @@ fn library(alloc: Global) -> Result<Supply<'static>, Fail>
     Ok(supply)
 }
 
-const FREED: &str = "\
-sweep => Nothing
-arrive foo/amd64 => DoesNotApply foo/amd64
-arrive bar/amd64 => Entry(1)
-sweep => Entry(2)
-sweep => Nothing
-undo 1 => NotACommand
-undo 2 => NotACommand
+const WAITING: &str = "\
+bar/amd64 Uploaded 0 1
+foo/amd64 Failed 0 0
+qux/amd64 Installed 0 0
+zot/i386 Dep-Wait 0 1 : libbar-dev (>= 2.0-1+b1)
 ";
 
-#[test]
-fn a_sweep_frees_a_row_once_its_rebuild_has_arrived(rt: HostRuntime) -> Result<(), Fail> {
-    let opening = "\
-bar/amd64 Uploaded 0 1
-foo/amd64 Dep-Wait 0 1 : libbar-dev (>= 2.0-1+b1)
-foo/i386 Dep-Wait 0 1 : libbar-dev (>= 2.0-1+b1)
+const FREED: &str = "\
+bar/amd64 Installed 0 1
+foo/amd64 Failed 7 0
+qux/amd64 Needs-Build 0 1 ;24 libbar-dev (>= 2.0-1+b1)
+zot/i386 Dep-Wait 0 1 : libbar-dev (>= 2.0-1+b1)
 ";
-    let rows = rows_with(rt.alloc(), library(rt.alloc())?, opening, FREED)?;
-    assert_eq!(rt;
-        rows.as_str(),
-        "bar/amd64 Installed 0 1\nfoo/amd64 Needs-Build 0 1\nfoo/i386 Dep-Wait 0 1 : libbar-dev (>= 2.0-1+b1)\n"
-    );
+
+const EXTRAS: [(&str, Told); 16] = [
+    ("nmu qux/amd64", Told::Entry(1)),
+    ("dw qux/amd64", Told::Entry(2)),
+    ("dw foo/amd64", Told::Entry(3)),
+    ("bp=7 foo/amd64", Told::Entry(4)),
+    ("undo 3", Told::Undone(3)),
+    ("sweep", Told::Nothing),
+    ("arrive foo/amd64", Told::DoesNotApply("foo/amd64")),
+    ("arrive bar/amd64", Told::Entry(5)),
+    ("sweep", Told::Entry(6)),
+    ("bp=5 qux/amd64", Told::Entry(7)),
+    ("undo 2", Told::Blocked(6)),
+    ("undo 1", Told::Blocked(6)),
+    ("undo 7", Told::Undone(7)),
+    ("undo 6", Told::NotACommand),
+    ("undo 5", Told::NotACommand),
+    ("sweep", Told::Nothing),
+];
+
+#[test]
+fn a_rebuild_waits_for_what_it_needs_beside_it(rt: HostRuntime) -> Result<(), Fail> {
+    let rows = rows_after(rt.alloc(), library(rt.alloc())?, WAITING, &EXTRAS)?;
+    assert_eq!(rt; rows.as_str(), FREED);
     Ok(())
 }
 
-// The steps alone.
-fn steps(alloc: Global, text: &str) -> Result<Vec<Step>, Fail> {
-    let mut steps = Vec::new(alloc);
-    for line in text.lines() {
-        let (spelled, _) = line.split_once(" => ").ok_or("a step")?;
-        steps.push(step(alloc, spelled)?)?;
+const GONE_ON: &str = "\
+bar/amd64 Installed 0 1
+foo/amd64 Failed 0 0
+qux/amd64 Needs-Build 0 1 ;24 libbar-dev (>= 2.0-1+b1)
+zot/i386 Dep-Wait 0 1 : libbar-dev (>= 2.0-1+b1)
+";
+
+// The books of a journal that is read again.
+fn reopened(alloc: Global, opening: &str, journal: &str) -> Result<Books<'static>, Fail> {
+    let opening = rows(alloc, opening)?;
+    let journal = read(alloc, journal, &opening)?;
+    Ok(Books::reopen(alloc, opening, library(alloc)?, journal)?)
+}
+
+// A rebuild on its way, one that was taken back, and the library's build that arrived.
+const ARRIVED: &str = "\
+transdesk journal 2
+1 - nmu foo/amd64
+2 + nmu qux/amd64 ;24 libbar-dev (>= 2.0-1+b1)
+3 + dw qux/amd64 : libbar-dev
+4 + arrive bar/amd64
+";
+
+// The rows once the wait is undone, of books whose journal is the one above.
+fn rows_gone_on(alloc: Global, books: &mut Books<'_>) -> Result<String, Fail> {
+    let again = text(alloc, books.journal())?;
+    if again.as_str() != ARRIVED {
+        return Err(Fail::from("the journal as it was"));
     }
-    Ok(steps)
+    let freed = books.freed(alloc)?;
+    if freed.len() != 1 {
+        return Err(Fail::from("one row that the offers free"));
+    }
+    if !books.journal().can_be_undone(3) {
+        return Err(Fail::from("a command that stands"));
+    }
+    if books.journal().blocker(3).is_some() {
+        return Err(Fail::from("a command that nothing blocks"));
+    }
+    books.undo(3);
+    Ok(rows_text(alloc, books.rows())?)
 }
 
 #[test]
-fn a_run_answers_as_step_by_step(rt: HostRuntime) -> Result<(), Fail> {
-    let opening = "bar/i386 Failed 0 2\nfoo/amd64 Built 0 1\n";
-    let steps = steps(rt.alloc(), BACK)?;
-    let (world, answers) = run(
-        rt.alloc(),
-        rows(rt.alloc(), opening)?,
-        Supply::empty(rt.alloc()),
-        0,
-        steps,
-    )?;
-    assert_eq!(rt; answers.len(), BACK.lines().count());
-    for (answer, line) in answers.iter().zip(BACK.lines()) {
-        let answer = spelled(rt.alloc(), answer)?;
-        assert!(rt; line.ends_with(answer.as_str()), "{line}");
-    }
-    let rows = rows_text(rt.alloc(), world.rows())?;
-    assert_eq!(rt; rows.as_str(), opening);
+fn a_journal_that_is_read_again_goes_on(rt: HostRuntime) -> Result<(), Fail> {
+    let mut books = reopened(rt.alloc(), WAITING, ARRIVED)?;
+    let rows = rows_gone_on(rt.alloc(), &mut books)?;
+    assert_eq!(rt; rows.as_str(), GONE_ON);
+    Ok(())
+}
+
+// The history of a journal that is read again.
+fn history(alloc: Global, opening: &str, journal: &str) -> Result<Kept, Fail> {
+    let opening = rows(alloc, opening)?;
+    let journal = read(alloc, journal, &opening)?;
+    Ok(Kept::reopen(alloc, opening, journal)?)
+}
+
+// Whether a change is kept of the two commands that stand, and of no other of the four entries.
+fn are_kept(kept: &Kept) -> bool {
+    kept.change(1).is_none()
+        && kept.change(2).is_some()
+        && kept.change(3).is_some()
+        && kept.change(4).is_none()
+}
+
+#[test]
+fn of_a_history_that_is_read_again_standing_commands_are_kept(rt: HostRuntime) -> Result<(), Fail> {
+    let kept = history(rt.alloc(), WAITING, ARRIVED)?;
+    assert!(rt; are_kept(&kept));
     Ok(())
 }
 
@@ -405,18 +343,27 @@ fn claim_reserved(kept: &mut Kept, key: &Key, alloc: Global) -> Result<u64, Fail
     }))
 }
 
+const PLANNED: &str = "bar/amd64 Installed 0 0\nfoo/amd64 Failed 0 0\n";
+
+// What is answered to a planned command that fits nowhere, to one that fits one row, and to a claim
+// of that.
+fn planned_answers(
+    alloc: Global,
+    kept: &mut Kept,
+) -> Result<(Option<u64>, Option<u64>, u64), Fail> {
+    let foo = key(alloc, "foo/amd64")?;
+    let nothing = give_back_planned(alloc, kept, "bar/amd64")?;
+    let entry = give_back_planned(alloc, kept, "bar/amd64 foo/amd64")?;
+    let claim = claim_reserved(kept, &foo, alloc)?;
+    Ok((nothing, entry, claim))
+}
+
 #[test]
 fn a_planned_command_takes_the_keys_that_fit(rt: HostRuntime) -> Result<(), Fail> {
-    let opening = rows(
-        rt.alloc(),
-        "bar/amd64 Installed 0 0\nfoo/amd64 Failed 0 0\n",
-    )?;
-    let mut kept = Kept::open(rt.alloc(), opening)?;
-    let nothing = give_back_planned(rt.alloc(), &mut kept, "bar/amd64")?;
+    let mut kept = Kept::open(rt.alloc(), rows(rt.alloc(), PLANNED)?)?;
+    let (nothing, entry, claim) = planned_answers(rt.alloc(), &mut kept)?;
     assert_eq!(rt; nothing, None);
-    let entry = give_back_planned(rt.alloc(), &mut kept, "bar/amd64 foo/amd64")?;
     assert_eq!(rt; entry, Some(1));
-    let claim = claim_reserved(&mut kept, &key(rt.alloc(), "foo/amd64")?, rt.alloc())?;
     assert_eq!(rt; claim, 2);
     let rows = rows_text(rt.alloc(), kept.rows())?;
     assert_eq!(rt;
