@@ -7,3 +7,4 @@ pub mod Finding
 pub mod Skipping
 pub mod Ends
 pub mod Fixed
+pub mod Numbers

@@ -9,3 +9,4 @@ pub mod Undoing
 pub mod Arriving
 pub mod Building
 pub mod Finishing
+pub mod Ready

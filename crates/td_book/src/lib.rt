@@ -1,8 +1,9 @@
 //! The book: the history of the rows, under the desk's seat at the claim board.
 //!
 //! Start at `Book`. `commanding` and `undoing` change the history, `starting` and `finishing` serve
-//! a builder, `arriving` tells it what the archive has. `inner` withdraws rows from the board and
-//! offers them, and says what the desk knows of each row meanwhile.
+//! a builder, `waiting` says what is to be built next, `arriving` tells the book what the archive
+//! has. `inner` withdraws rows from the board and offers them, and says what the desk knows of each
+//! row meanwhile.
 //! Promised: at rest a row is offered exactly where it needs a build, and known to be a builder's
 //! exactly where it is Building by it; a claim that a builder has won is noted and never invented;
 //! a refused call changes nothing but for such claims; each call says the history that it leaves.
@@ -20,6 +21,7 @@ mod reading;
 mod skips;
 mod starting;
 mod undoing;
+mod waiting;
 
 pub use arriving::ArriveRefusal;
 pub use book::Book;
