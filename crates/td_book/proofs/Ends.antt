@@ -1,5 +1,5 @@
 -- The end of a build over plain values.
-use Rattle.std.proofs.Common.{◌≡◌, ℕ, ◌+◌, ◌<◌, ◌≤◌, Bool, Ok, Err, is_some, if◌then◌else◌, ◌∷◌, List, [], Option, Some, None, true, false, IfSome, IfNone, length, slice_get, ap, refl, sym, subst, ◌∙◌, inl, inr}
+use Rattle.std.proofs.Common.{◌≡◌, ℕ, ◌+◌, ◌<◌, ◌≤◌, Bool, Ok, Err, is_some, if◌then◌else◌, ◌∷◌, List, [], Option, Some, None, true, false, IfSome, IfNone, length, slice_get, ap, refl, sym, subst, ◌∙◌, inr}
 use Rattle.td_board.specs.Knowledge.{with_finish}
 use Rattle.td_board.specs.declared.views.BuilderView.{BuilderView}
 use Rattle.td_rows.specs.declared.key.Key.{Key}

@@ -1,5 +1,5 @@
 -- What is fixed stays over every call of a book.
-use Rattle.std.proofs.Common.{◌≡◌, ℕ, Bool, true, false, Option, Some, None, Result, Ok, Err, ap, sym}
+use Rattle.std.proofs.Common.{◌≡◌, ℕ, Option, Some, None, Result, Ok, Err, ap}
 use Rattle.std.specs.declared.alloc.AllocError.{AllocError}
 use Rattle.td_board.specs.declared.outcome.OutcomeCode.{OutcomeCode}
 use Rattle.td_board.specs.declared.views.BuilderView.{BuilderView}

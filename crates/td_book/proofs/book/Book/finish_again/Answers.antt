@@ -1,4 +1,4 @@
-use Rattle.std.proofs.Common.{◌≡◌, ℕ, ◌+◌, ◌∷◌, List, [], Some, true, length, slice_get, ap, refl, sym, ◌∙◌, rules}
+use Rattle.std.proofs.Common.{◌≡◌, ◌+◌, List, length, slice_get, ap, refl, sym, ◌∙◌, rules}
 use Rattle.td_rows.specs.declared.key.Key.{Key}
 use Rattle.td_rows.specs.Keys.{ascending}
 use Rattle.td_rows.specs.Table.{keys_of}

@@ -1,8 +1,6 @@
-use Rattle.std.proofs.Common.{◌≡◌, Result, ap, sym, subst, ◌∙◌, ℕ}
-use Rattle.std.specs.Option.{ok_or}
+use Rattle.std.proofs.Common.{Result, ap, sym, subst, ◌∙◌, ℕ}
 use Rattle.td_rows.specs.declared.outcome.Outcome.{Outcome}
 use Rattle.td_book.specs.declared.finishing.FinishRefusal.{FinishRefusal}
-use Rattle.td_book.specs.declared.finishing.FinishRefusal.TheVariants.{Mismatch}
 use Rattle.td_core.specs.History.{History}
 use Rattle.td_book.specs.Building.{ended_in, IsEndingAt}
 use Rattle.td_book.specs.Desk.{BookModel, book_of}

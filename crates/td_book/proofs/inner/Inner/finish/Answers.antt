@@ -1,9 +1,8 @@
-use Rattle.std.proofs.Common.{◌≡◌, ℕ, ◌∷◌, List, [], Some, Bool, true, IfSome, slice_get, ap, refl, sym, subst, ◌∙◌, arith, rules, inl}
+use Rattle.std.proofs.Common.{◌≡◌, ℕ, ◌∷◌, List, [], Some, Bool, IfSome, slice_get, ap, refl, sym, subst, ◌∙◌, arith, rules, inl}
 use Rattle.td_rows.specs.declared.key.Key.{Key}
 use Rattle.td_board.specs.Knowledge.{with_finish}
 use Rattle.td_rows.specs.declared.kind.Kind.{Kind}
 use Rattle.td_rows.specs.declared.kind.Kind.TheVariants.{Outcome as Ended}
-use Rattle.td_rows.specs.Table.{keys_of}
 use Rattle.td_change.proofs.Plans.{plan_of-same_keys}
 use Rattle.td_core.specs.History.{rows_of, with_entry}
 use Rattle.td_book.specs.Desk.{HasRoom, HasOne, Spent}
