@@ -20,6 +20,8 @@ mod opening;
 mod reading;
 mod skips;
 mod starting;
+#[cfg(test)]
+mod tests;
 mod undoing;
 mod waiting;
 
