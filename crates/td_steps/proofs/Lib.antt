@@ -11,3 +11,4 @@ pub mod Turns
 pub mod Books
 pub mod Stops
 pub mod Ends
+pub mod Calls

@@ -56,12 +56,16 @@ abbrev pub settle_moves : Key → ℕ → Outcome → History → List Move
 settle_moves k b o h = settle k b o ∷ offering (rows_of (with_entry h (record { kind = Ended b o; keys = k ∷ [] }))) (k ∷ [])
 
 -- the claim is noted, where that wasn't done, and then the build is settled
+abbrev pub finish_moves : Key → ℕ → ℕ → Outcome → History → List Move
+finish_moves k by b o h = notice_moves k by h ++ settle_moves k b o (noting_one h k by)
+
+-- so it is of the row with this number
 pub record Ends (i b : ℕ) (o : Outcome) (old : BookModel) (moves : List Move) : Type 0 where
   pub key : Key
   pub at : IsKeyOf old i key
   pub by : ℕ
   pub some_builder : by ≤ old.fixed.builders
-  pub moves_are : moves ≡ notice_moves key by old.history ++ settle_moves key b o (noting_one old.history key by)
+  pub moves_are : moves ≡ finish_moves key by b o old.history
 
 -- the build is settled that had ended before
 pub record SettlesAt (i b : ℕ) (o : Outcome) (old : BookModel) (moves : List Move) : Type 0 where
@@ -86,4 +90,4 @@ FinishesAreSteps = (w : WorldView) (hand : Hand) (o : Outcome) (before behind : 
 abbrev pub FinishesRun : Type 0
 FinishesRun = (w : WorldView) (b : ℕ) (k : Key) (o : Outcome) (old : BookModel) →
     Sees w (resting old) → hand_of w b ≡ Some (hands.Holding k) → (phase_of w k ≡ Some (Held b)) ⊎ (phase_of w k ≡ Some (Noted b)) →
-    (by : ℕ) × (by ≤ old.fixed.builders) × (v : WorldView) × Runs w (notice_moves k by old.history ++ settle_moves k b o (noting_one old.history k by)) v
+    (by : ℕ) × (by ≤ old.fixed.builders) × (v : WorldView) × Runs w (finish_moves k by b o old.history) v

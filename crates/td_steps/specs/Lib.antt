@@ -11,3 +11,4 @@ pub mod Openings
 pub mod Choices
 pub mod Turns
 pub mod Books
+pub mod Calls

@@ -2,6 +2,7 @@
 ghost use Rattle.td_steps.specs.Arrivals.{ArrivalsAreSteps, SweepsAreSteps};
 ghost use Rattle.td_steps.specs.Books.{EntriesStay, RowsAreReplayed, UndoneAtOnce, BlockedExactly, UndoneElse};
 ghost use Rattle.td_steps.specs.Builds.{StartsAreSteps, FinishesAreSteps, FinishesRun};
+ghost use Rattle.td_steps.specs.Calls.{CallsAreSteps, BooksAreSteps};
 ghost use Rattle.td_steps.specs.Choices.{WorldsDecide, DecidedCommandsRun};
 ghost use Rattle.td_steps.specs.Commands.{CommandsAreSteps};
 ghost use Rattle.td_steps.specs.Laws.{MovesAreSteps, BuildersChangeNothing, RunsAreSeen};
@@ -47,6 +48,13 @@ pub fn other_calls_are_steps()
     ensures finishes { FinishesAreSteps }
     ensures arrivals { ArrivalsAreSteps }
     ensures sweeps { SweepsAreSteps }
+{}
+
+/// So it is of any list of calls, whatever they answer, and of any since the opening: call by call
+/// the book sees each world to which a run of the moves leads.
+pub fn calls_are_steps()
+    ensures calls { CallsAreSteps }
+    ensures opening { BooksAreSteps }
 {}
 
 /// Each world that a book sees decides who is first at each row, and a command's moves run from it
