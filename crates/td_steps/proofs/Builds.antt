@@ -86,12 +86,12 @@ known-built b BuildAttempted h = cc
 known-built b Failed h = cc
 known-built b NotForUs h = cc
 
-record BuiltRow (h : History) (k : Key) (b : ℕ) : Type 0 where
-  row : Row
-  found : row_of (rows_of h) k ≡ Some row
-  built : is_building_by b row.state ≡ true
+pub record BuiltRow (h : History) (k : Key) (b : ℕ) : Type 0 where
+  pub row : Row
+  pub found : row_of (rows_of h) k ≡ Some row
+  pub built : is_building_by b row.state ≡ true
 
-built-row : (h : History) (k : Key) (b : ℕ) → is_built_at (rows_of h) k b ≡ true → BuiltRow h k b
+pub built-row : (h : History) (k : Key) (b : ℕ) → is_built_at (rows_of h) k b ≡ true → BuiltRow h k b
 built-row h k b is = at (row_of (rows_of h) k) refl is
   where
     at : (o : Option Row) → row_of (rows_of h) k ≡ o → (elim o as (λ _. Bool) [ Some r ↦ is_building_by b r.state | None ↦ false ]) ≡ true → BuiltRow h k b

@@ -12,3 +12,4 @@ pub mod Books
 pub mod Stops
 pub mod Ends
 pub mod Calls
+pub mod Lawful

@@ -1,15 +1,16 @@
 -- What holds of a book over any list of its calls. This project's own.
-use Rattle.std.specs.Prelude.{◌≡◌, ℕ, List, [], ◌∷◌, ◌++◌, map, Option, Some, None, Result, Ok, Err, OnOk}
+use Rattle.std.specs.Prelude.{◌≡◌, ℕ, true, List, [], ◌∷◌, ◌++◌, map, Option, Some, None, Result, Ok, Err, OnOk}
 use Rattle.std.specs.declared.alloc.AllocError.{AllocError}
 use Rattle.td_board.specs.declared.views.BuilderView.{BuilderView}
 use Rattle.td_board.specs.declared.views.Hand.{Hand}
 use Rattle.td_rows.specs.declared.key.Key.{Key}
 use Rattle.td_rows.specs.declared.outcome.Outcome.{Outcome}
-use Rattle.td_rows.specs.Table.{Table}
+use Rattle.td_rows.specs.Keys.{ascending}
+use Rattle.td_rows.specs.Table.{Table, keys_of}
 use Rattle.td_journal.specs.declared.entry.Entry.{Entry}
 use Rattle.td_journal.specs.declared.entry.Marked.{Marked}
 use Rattle.td_journal.specs.Entries.{standing, CanBeUndone}
-use Rattle.td_journal.specs.Replay.{replay}
+use Rattle.td_journal.specs.Replay.{replay, Lawful}
 use Rattle.td_journal.specs.Touching.{blocker}
 use Rattle.td_wbread.specs.Command.{CommandParts}
 use Rattle.td_core.specs.History.{rows_of, opened}
@@ -70,6 +71,10 @@ EntriesStay = (calls : List Call) (old new : BookModel) → DoAll calls old new 
 -- whatever calls were made since the opening, with whatever answers: the rows (`Book::rows` shows them) are the meanings of the journal's standing entries, folded over the opening rows
 abbrev pub RowsAreReplayed : Type 0
 RowsAreReplayed = (t : Table) (fixed : Fixed) (calls : List Call) (new : BookModel) → DoAll calls (record { history = opened t; fixed = fixed }) new → rows_of new.history ≡ replay t (standing new.history.journal)
+
+-- and each of the standing entries applies on the rows that those before it left
+abbrev pub EntriesAreLawful : Type 0
+EntriesAreLawful = (t : Table) (fixed : Fixed) (calls : List Call) (new : BookModel) → ascending (keys_of t) ≡ true → DoAll calls (record { history = opened t; fixed = fixed }) new → Lawful new.history.opening (standing new.history.journal)
 
 -- a command that made an entry, and then at once its undo: the journal doesn't refuse it; and where it is undone, every row is as it was before the command, but for the claims of builders that the command had found
 abbrev pub UndoneAtOnce : Type 0

@@ -1,6 +1,6 @@
 //! Each call of the book is a list of steps, each law the contract of a function that does nothing.
 ghost use Rattle.td_steps.specs.Arrivals.{ArrivalsAreSteps, SweepsAreSteps};
-ghost use Rattle.td_steps.specs.Books.{EntriesStay, RowsAreReplayed, UndoneAtOnce, BlockedExactly, UndoneElse};
+ghost use Rattle.td_steps.specs.Books.{EntriesStay, RowsAreReplayed, EntriesAreLawful, UndoneAtOnce, BlockedExactly, UndoneElse};
 ghost use Rattle.td_steps.specs.Builds.{StartsAreSteps, FinishesAreSteps, FinishesRun};
 ghost use Rattle.td_steps.specs.Calls.{CallsAreSteps, BooksAreSteps};
 ghost use Rattle.td_steps.specs.Choices.{WorldsDecide, DecidedCommandsRun};
@@ -80,10 +80,12 @@ pub fn commands_go_on()
 {}
 
 /// Over any list of a book's calls, whatever they answer, the opening rows and each entry stay and
-/// more are appended; so the rows are the standing entries folded over the opening rows.
+/// more are appended; so the rows are the standing entries folded over the opening rows, each of
+/// which applies on what those before it left.
 pub fn rows_are_replayed()
     ensures entries { EntriesStay }
     ensures rows { RowsAreReplayed }
+    ensures lawful { EntriesAreLawful }
 {}
 
 /// The undo of a book's last command isn't refused by the journal, and leaves every row as it was

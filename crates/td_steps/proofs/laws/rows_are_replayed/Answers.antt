@@ -1,4 +1,5 @@
 use Rattle.td_steps.proofs.Books.{entries_stay, rows_are_replayed}
+use Rattle.td_steps.proofs.Lawful.{entries_are_lawful}
 use Rattle.td_steps.proofs.laws.rows_are_replayed.Goals as goal
 
 pub returns-clause-entries : goal.returns-clause-entries
@@ -6,3 +7,6 @@ returns-clause-entries c = entries_stay
 
 pub returns-clause-rows : goal.returns-clause-rows
 returns-clause-rows c = rows_are_replayed
+
+pub returns-clause-lawful : goal.returns-clause-lawful
+returns-clause-lawful c = entries_are_lawful
