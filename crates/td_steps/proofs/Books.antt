@@ -34,7 +34,7 @@ use Rattle.td_book.specs.declared.undoing.UndoRefusal.{UndoRefusal}
 use Rattle.td_book.specs.declared.undoing.UndoRefusal.TheVariants as undos
 use Rattle.td_book.specs.Arriving.{freed_now}
 use Rattle.td_book.specs.Building.{StartOutcome, Noticed}
-use Rattle.td_book.specs.Calls.{is_lost, noting_one, noting, Choices, off_for}
+use Rattle.td_book.specs.Calls.{is_lost, noting_one, noting, off_for}
 use Rattle.td_book.specs.Commands.{named_by, is_matched_in, IsDone}
 use Rattle.td_book.specs.Desk.{BookModel, claim_of}
 use Rattle.td_book.specs.Finishing.{FinishOutcome}
@@ -43,7 +43,7 @@ use Rattle.td_book.specs.Undoing.{undo_stop, mark_stop, UndoAnswer, IsWon}
 use Rattle.td_book.proofs.Calls.{kinds_command}
 use Rattle.td_core.specs.Refusals.{is_queued_at}
 use Rattle.td_steps.specs.Commands.{off_in}
-use Rattle.td_steps.specs.Books.{Call, command, undo, start, finish, arrive, sweep, Does, Follows, EntriesStay, RowsAreReplayed, UndoneAtOnce, BlockedExactly, UndoneElse}
+use Rattle.td_steps.specs.Books.{Call, command, undo, start, finish, arrive, sweep, Does, Follows, EntriesStay, RowsAreReplayed, IsBack, UndoneAtOnce, BlockedExactly, UndoneElse}
 
 -- ---- 1. of histories
 
@@ -258,16 +258,18 @@ module _ (c : CommandParts) (old between new : BookModel) (taken : Taken) (is : 
   stop : undo_stop between.history.journal taken.number ≡ None
   stop = stop-is between.history.journal taken.number (standing_entry made) there refl (kinds_command c) ∙ ap (mark_stop Standing) free
 
-  undone_now : (r : Result (Unit {0}) UndoRefusal) → UndoAnswer None taken.number between new r → OnOk r ((choices : List ℕ) × Choices old.fixed.builders (off_in c old) choices × (rows_of new.history ≡ rows_of (noting old.history (off_in c old) choices)))
-  undone_now (Ok u) a = (
-    is.outcome.0,
-    is.outcome.1,
-    ap rows_of a.outcome ∙ (λ j. rows_of (without_entry (is.outcome.2.1 j) (is.outcome.2.2 j))) ∙ ap (replay now.opening) (standing-last now.journal (standing_entry made)),
-  )
+  undone_now : (r : Result (Unit {0}) UndoRefusal) → UndoAnswer None taken.number between new r → OnOk r (IsBack c old between new)
+  undone_now (Ok u) a = record {
+    choices = is.outcome.0;
+    chosen = is.outcome.1;
+    entry = made;
+    stood = is.outcome.2.1;
+    rows = ap rows_of a.outcome ∙ (λ j. rows_of (without_entry (is.outcome.2.1 j) (is.outcome.2.2 j))) ∙ ap (replay now.opening) (standing-last now.journal (standing_entry made));
+  }
   undone_now (Err r) a = tt
 
   at_once : (result : Result (Unit {0}) UndoRefusal) → UndoAnswer (undo_stop between.history.journal taken.number) taken.number between new result
-      → (undo_stop between.history.journal taken.number ≡ None) × OnOk result ((choices : List ℕ) × Choices old.fixed.builders (off_in c old) choices × (rows_of new.history ≡ rows_of (noting old.history (off_in c old) choices)))
+      → (undo_stop between.history.journal taken.number ≡ None) × OnOk result (IsBack c old between new)
   at_once result d = (stop, undone_now result (subst (λ (x : Option UndoRefusal). UndoAnswer x taken.number between new result) stop d))
 
 pub undone_at_once : UndoneAtOnce

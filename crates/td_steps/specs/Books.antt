@@ -13,7 +13,7 @@ use Rattle.td_journal.specs.Entries.{standing, CanBeUndone}
 use Rattle.td_journal.specs.Replay.{replay, Lawful}
 use Rattle.td_journal.specs.Touching.{blocker}
 use Rattle.td_wbread.specs.Command.{CommandParts}
-use Rattle.td_core.specs.History.{rows_of, opened}
+use Rattle.td_core.specs.History.{rows_of, with_entry, opened}
 use Rattle.td_book.specs.declared.arriving.ArriveRefusal.{ArriveRefusal}
 use Rattle.td_book.specs.declared.commanding.CommandRefusal.{CommandRefusal}
 use Rattle.td_book.specs.declared.commanding.Taken.{Taken}
@@ -76,11 +76,19 @@ RowsAreReplayed = (t : Table) (fixed : Fixed) (calls : List Call) (new : BookMod
 abbrev pub EntriesAreLawful : Type 0
 EntriesAreLawful = (t : Table) (fixed : Fixed) (calls : List Call) (new : BookModel) → ascending (keys_of t) ≡ true → DoAll calls (record { history = opened t; fixed = fixed }) new → Lawful new.history.opening (standing new.history.journal)
 
--- a command that made an entry, and then at once its undo: the journal doesn't refuse it; and where it is undone, every row is as it was before the command, but for the claims of builders that the command had found
+-- the command's entry stood behind the claims of builders that it had found, and now every row is as it was before the command, but for these claims
+pub record IsBack (c : CommandParts) (old between new : BookModel) : Type 0 where
+  pub choices : List ℕ
+  pub chosen : Choices old.fixed.builders (off_in c old) choices
+  pub entry : Entry
+  pub stood : between.history ≡ with_entry (noting old.history (off_in c old) choices) entry
+  pub rows : rows_of new.history ≡ rows_of (noting old.history (off_in c old) choices)
+
+-- a command that made an entry, and then at once its undo: the journal doesn't refuse it, and where it is undone the rows are back
 abbrev pub UndoneAtOnce : Type 0
 UndoneAtOnce = (c : CommandParts) (old between new : BookModel) (taken : Taken) (result : Result (Unit {0}) UndoRefusal) →
     Does (command c (Ok taken)) old between → Does (undo taken.number result) between new →
-    (undo_stop between.history.journal taken.number ≡ None) × OnOk result ((choices : List ℕ) × Choices old.fixed.builders (off_in c old) choices × (rows_of new.history ≡ rows_of (noting old.history (off_in c old) choices)))
+    (undo_stop between.history.journal taken.number ≡ None) × OnOk result (IsBack c old between new)
 
 -- the undo of a standing command that a later entry blocks is refused for the latest such, and changes nothing
 abbrev pub BlockedExactly : Type 0
