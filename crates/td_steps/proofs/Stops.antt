@@ -1,4 +1,4 @@
--- Whatever builders do, an undo goes on to its end, or stops at a row at which a builder was faster.
+-- Whatever builders do, an undo goes on to its end, or stops at a row at which a builder was faster; and moves that no builder decides go on.
 use Rattle.std.proofs.Common.{◌≡◌, ℕ, zero, suc, ◌+◌, ◌≤◌, Bool, true, false, List, [], ◌∷◌, ◌++◌, Some, None, Ok, Err, if◌then◌else◌, length, take, slice_get, ap, refl, sym, subst, inl, inr, arith}
 use Rattle.std.specs.Prelude.{◌⊎◌}
 use Rattle.std.proofs.lemmas.Bool.{and_parts}
@@ -15,14 +15,16 @@ use Rattle.td_book.specs.Calls.{off_for}
 use Rattle.td_book.specs.Desk.{BookModel, claim_of}
 use Rattle.td_book.specs.declared.undoing.UndoRefusal.TheVariants as undos
 use Rattle.td_steps.specs.Sees.{Sees, resting}
-use Rattle.td_steps.specs.Moves.{Move, won, lost, note, undo, step_of, Chosen}
+use Rattle.td_steps.specs.Moves.{Move, won, lost, note, undo, step_of, Chosen, arrive, sweep, sweeping}
 use Rattle.td_steps.specs.Parts.{winning, offering}
+use Rattle.td_book.specs.Arriving.{freed_now}
+use Rattle.td_steps.specs.Arrivals.{sweep_moves}
 use Rattle.td_steps.specs.Choices.{first_at}
-use Rattle.td_steps.specs.Turns.{RunsWith, AreTurns, UndosGoOn}
+use Rattle.td_steps.specs.Turns.{RunsWith, AreTurns, UndosGoOn, OthersGoOn}
 use Rattle.td_steps.specs.Undos.{undo_moves, blocked_moves, UndoMoves}
 use Rattle.td_steps.proofs.Moves.{many, moves_are_steps}
 use Rattle.td_steps.proofs.Parts.{queued-row, view-out, desk_off, won-leads, idle-leads, Apart, apart-first, apart-rest, apart-none, up-seen}
-use Rattle.td_steps.proofs.Turns.{FreeMoves, Going, free-run, free-one, free-offering, first-out}
+use Rattle.td_steps.proofs.Turns.{FreeMoves, Going, free-run, free-none, free-one, free-offering, first-out}
 use Rattle.td_steps.proofs.Undos.{Stands, stop-none, off-rises, undone-moves, stopped-moves}
 
 -- a builder was faster at one of the keys, and what stands behind its claim goes on
@@ -133,3 +135,12 @@ module _ (w : WorldView) (n : ℕ) (old : BookModel) (sees : Sees w (resting old
 
 pub undos_go_on : UndosGoOn
 undos_go_on w turn n old theirs sees none = goes w n old sees (stop-none old.history.journal n none) turn theirs
+
+pub others_go_on : OthersGoOn
+others_go_on w turn = (
+  (λ t. free-run turn w (offering t (keys_of t)) (free-offering t (keys_of t))),
+  (λ k. free-run turn w (arrive k ∷ []) (free-one (arrive k) [] (λ v. tt) free-none)),
+  (λ old.
+      let rest = offering (rows_of (sweeping (resting old) (freed_now old)).history) (freed_now old) in
+      free-run turn w (sweep_moves old) (free-one sweep rest (λ v. tt) (free-offering (rows_of (sweeping (resting old) (freed_now old)).history) (freed_now old)))),
+)

@@ -49,6 +49,10 @@ free-run turn w (m ∷ ms) free =
     let rest = free-run (λ i. turn (suc i)) (after (after_all w (turn 0)) (step_of m)) ms free.1 in
     (rest.0, (free.0 (after_all w (turn 0)), rest.1))
 
+pub free-none : FreeMoves []
+unfolding FreeMoves
+free-none = tt
+
 pub free-one : (m : Move) (ms : List Move) → ((w : WorldView) → Chosen w m) → FreeMoves ms → FreeMoves (m ∷ ms)
 unfolding FreeMoves
 free-one m ms one more = (one, more)

@@ -1,6 +1,7 @@
 -- Whatever builders do, the desk's calls go on to the end. This project's own.
 use Rattle.std.specs.Prelude.{◌≡◌, ◌⊎◌, ℕ, suc, ◌+◌, ◌≤◌, true, List, [], ◌∷◌, None, Ok, Err, length}
 use Rattle.td_rows.specs.declared.key.Key.{Key}
+use Rattle.td_rows.specs.Table.{Table, keys_of}
 use Rattle.td_wbread.specs.Command.{CommandParts}
 use Rattle.td_core.specs.declared.step.Step.{Step}
 use Rattle.td_core.specs.Steps.{after, after_all}
@@ -10,9 +11,11 @@ use Rattle.td_book.specs.Desk.{BookModel}
 use Rattle.td_book.specs.Undoing.{undo_stop}
 use Rattle.td_book.specs.declared.undoing.UndoRefusal.TheVariants.{Blocked}
 use Rattle.td_steps.specs.Sees.{Sees, resting}
-use Rattle.td_steps.specs.Moves.{Move, step_of, Chosen}
+use Rattle.td_steps.specs.Moves.{Move, arrive, step_of, Chosen}
 use Rattle.td_steps.specs.Runs.{are_builders, Runs}
+use Rattle.td_steps.specs.Arrivals.{sweep_moves}
 use Rattle.td_steps.specs.Builds.{notice_moves}
+use Rattle.td_steps.specs.Parts.{offering}
 use Rattle.td_steps.specs.Commands.{off_in, command_moves}
 use Rattle.td_steps.specs.Undos.{UndoMoves}
 
@@ -43,3 +46,8 @@ StartsGoOn = (w : WorldView) (turn : ℕ → List Step) (k : Key) (old : BookMod
 abbrev pub UndosGoOn : Type 0
 UndosGoOn = (w : WorldView) (turn : ℕ → List Step) (n : ℕ) (old : BookModel) → AreTurns turn → Sees w (resting old) → undo_stop old.history.journal n ≡ None →
     (moves : List Move) × (v : WorldView) × RunsWith turn w moves v × (UndoMoves None n old (Ok tt) moves ⊎ UndoMoves None n old (Err (Blocked (length old.history.journal + 1))) moves)
+
+-- the moves of an opening, an arrival and a sweep are decided by no builder: they run from any world
+abbrev pub OthersGoOn : Type 0
+OthersGoOn = (w : WorldView) (turn : ℕ → List Step) →
+    ((t : Table) → (v : WorldView) × RunsWith turn w (offering t (keys_of t)) v) × ((k : Key) → (v : WorldView) × RunsWith turn w (arrive k ∷ []) v) × ((old : BookModel) → (v : WorldView) × RunsWith turn w (sweep_moves old) v)

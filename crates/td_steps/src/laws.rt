@@ -7,7 +7,7 @@ ghost use Rattle.td_steps.specs.Choices.{WorldsDecide, DecidedCommandsRun};
 ghost use Rattle.td_steps.specs.Commands.{CommandsAreSteps};
 ghost use Rattle.td_steps.specs.Laws.{MovesAreSteps, BuildersChangeNothing, RunsAreSeen};
 ghost use Rattle.td_steps.specs.Openings.{OpeningsAreSteps};
-ghost use Rattle.td_steps.specs.Turns.{CommandsGoOn, StartsGoOn, UndosGoOn, TurnsRun};
+ghost use Rattle.td_steps.specs.Turns.{CommandsGoOn, StartsGoOn, UndosGoOn, OthersGoOn, TurnsRun};
 ghost use Rattle.td_steps.specs.Undos.{UndosAreSteps};
 
 /// Each move that the desk may make is the world's step of that name, refused only where it is a
@@ -72,10 +72,12 @@ pub fn finishes_can_run()
 
 /// Whatever builders do between them, the moves of a command go on to the end, with choices that
 /// the worlds on the way decide; and so do those of a start, and of an undo up to a faster claim.
+/// Those of the other calls of the desk are decided by no builder.
 pub fn commands_go_on()
     ensures on { CommandsGoOn }
     ensures starts { StartsGoOn }
     ensures undos { UndosGoOn }
+    ensures others { OthersGoOn }
     ensures runs { TurnsRun }
 {}
 
