@@ -18,6 +18,7 @@ abbrev pub ArriveMoves : Key → BookModel → Result ℕ ArriveRefusal → List
 ArriveMoves k old (Ok n) moves = (moves ≡ arrive k ∷ []) × Tells (resting old) moves (Entry n)
 ArriveMoves k old (Err r) moves = moves ≡ []
 
+-- whatever a book does of an arrival is such a list of moves
 abbrev pub ArrivalsAreSteps : Type 0
 ArrivalsAreSteps = (w : WorldView) (k : Key) (old new : BookModel) (result : Result ℕ ArriveRefusal) →
     Sees w (resting old) → ArriveOutcome k old new result → (moves : List Move) × ArriveMoves k old result moves × LeadsOn w (resting old) moves (resting new)
@@ -32,6 +33,7 @@ SweepMoves old (Ok (Some n)) moves = (moves ≡ sweep_moves old) × Tells (resti
 SweepMoves old (Ok None) moves = (moves ≡ sweep_moves old) × Tells (resting old) moves Nothing
 SweepMoves old (Err e) moves = moves ≡ []
 
+-- and so is what it does of a sweep
 abbrev pub SweepsAreSteps : Type 0
 SweepsAreSteps = (w : WorldView) (old new : BookModel) (result : Result (Option ℕ) AllocError) →
     Sees w (resting old) → SweepOutcome old new result → (moves : List Move) × SweepMoves old result moves × LeadsOn w (resting old) moves (resting new)

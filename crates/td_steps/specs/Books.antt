@@ -65,6 +65,7 @@ pub record Follows (old new : BookModel) : Type 0 where
   pub added : List Entry
   pub entries : entries_in new ≡ entries_in old ++ added
 
+-- so it is over any list of calls
 abbrev pub EntriesStay : Type 0
 EntriesStay = (calls : List Call) (old new : BookModel) → DoAll calls old new → Follows old new
 

@@ -45,6 +45,7 @@ StartMoves (Holding i) old (Ok job) moves = Notices i old moves
 StartMoves (Holding i) old (Err Mismatch) moves = Notices i old moves
 StartMoves hand old result moves = moves ≡ []
 
+-- whatever a book does of a start is such a list of moves
 abbrev pub StartsAreSteps : Type 0
 StartsAreSteps = (w : WorldView) (b : ℕ) (hand : Hand) (old new : BookModel) (result : Result Job StartRefusal) →
     Sees w (resting old) → StartOutcome b hand old new result → (moves : List Move) × StartMoves hand old result moves × LeadsOn w (resting old) moves (resting new)
@@ -80,6 +81,7 @@ FinishMoves (Holding i) b o old (Err NotEnded) moves = Notices i old moves
 FinishMoves (Finished i c) b o old (Ok n) moves = SettlesAt i b o old moves × Tells (resting old) moves (Entry n)
 FinishMoves hand b o old result moves = moves ≡ []
 
+-- whatever a book does of a finish, in each of its branches, is such a list of moves
 abbrev pub FinishesAreSteps : Type 0
 FinishesAreSteps = (w : WorldView) (hand : Hand) (o : Outcome) (before behind : BuilderView) (old new : BookModel) (result : Result ℕ FinishRefusal) →
     Sees w (resting old) → FinishOutcome hand o before behind old new result → (moves : List Move) × FinishMoves hand before.number o old result moves × LeadsOn w (resting old) moves (resting new)

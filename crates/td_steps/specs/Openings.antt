@@ -21,5 +21,6 @@ pub record OpensSo (t : Table) (fixed : Fixed) : Type 0 where
   pub sees : Sees (world_of t fixed.stock fixed.builders) (first_desk t fixed.stock fixed.builders)
   pub leads : LeadsOn (world_of t fixed.stock fixed.builders) (first_desk t fixed.stock fixed.builders) (offering t (keys_of t)) (resting (record { history = opened t; fixed = fixed }))
 
+-- every table of rows in order, none of which is built, opens so
 abbrev pub OpeningsAreSteps : Type 0
 OpeningsAreSteps = (t : Table) (fixed : Fixed) → ascending (keys_of t) ≡ true → NoneBuilt t → OpensSo t fixed

@@ -21,18 +21,20 @@ withdrawing h [] bs = []
 withdrawing h (k ∷ ks) [] = []
 withdrawing h (k ∷ ks) (b ∷ bs) = withdrawing_one h k b ++ withdrawing (noting_one h k b) ks bs
 
--- the rows of the keys that need a build are withdrawn, and no builder was faster at any
+-- a row is withdrawn, where it needs a build, and no builder was faster
 abbrev pub winning_one : Table → Key → List Move
 winning_one t k = if is_queued_at t k then won k ∷ [] else []
 
+-- so it is of each key in order
 abbrev pub winning : Table → List Key → List Move
 winning t [] = []
 winning t (k ∷ ks) = winning_one t k ++ winning t ks
 
--- the rows of the keys that need a build are offered
+-- a row is offered, where it needs a build
 abbrev pub offering_one : Table → Key → List Move
 offering_one t k = if is_queued_at t k then offer k ∷ [] else []
 
+-- so is that of each key in order
 abbrev pub offering : Table → List Key → List Move
 offering t [] = []
 offering t (k ∷ ks) = offering_one t k ++ offering t ks

@@ -24,6 +24,7 @@ is_builders (Finish b o) = true
 is_builders (Release b) = true
 is_builders s = false
 
+-- whether all of them are
 abbrev pub are_builders : List Step → Bool
 are_builders [] = true
 are_builders (s ∷ ss) = is_builders s && are_builders ss
