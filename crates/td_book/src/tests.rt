@@ -28,7 +28,8 @@ const SKIPS: &str = "\
 nmu 1 foo . ANY => entry 1, foo/i386 State(Installed)
 nmu foo_1.2-3+b1 . ANY => entry 2, foo/amd64 State(NeedsBuild)
 gb foo_1.2-4 . ANY => NothingApplies, foo/amd64 Version, foo/i386 Version
-gb foo bar_1.2-3 . ANY => NothingApplies, bar/amd64 Version, bar/i386 Version, foo/amd64 State(NeedsBuild), foo/i386 State(NeedsBuild)
+gb foo bar_1.2-3 . ANY => NothingApplies, bar/amd64 Version, bar/i386 Version, \
+foo/amd64 State(NeedsBuild), foo/i386 State(NeedsBuild)
 ";
 
 const LAST_NUMBER: &str = "\
@@ -256,7 +257,10 @@ fn a_build_goes_from_its_claim_to_its_outcome(rt: HostRuntime) -> Result<(), Fai
         (
             INSTALLED,
             WAITS,
-            "transdesk journal 2\n1 + nmu foo/amd64 ;5 libxx : x\n2 + claim=1 foo/amd64\n3 + waits=1 foo/amd64 : libbar-dev (>= 3)\n",
+            "transdesk journal 2\n\
+             1 + nmu foo/amd64 ;5 libxx : x\n\
+             2 + claim=1 foo/amd64\n\
+             3 + waits=1 foo/amd64 : libbar-dev (>= 3)\n",
         ),
         (
             NEEDS_BUILD,
@@ -266,12 +270,22 @@ fn a_build_goes_from_its_claim_to_its_outcome(rt: HostRuntime) -> Result<(), Fai
         (
             NEEDS_BUILD,
             PRIORITY_BACK,
-            "transdesk journal 2\n1 - bp=5 foo/amd64\n2 + claim=1 foo/amd64\n3 + built=1 foo/amd64\n",
+            "transdesk journal 2\n\
+             1 - bp=5 foo/amd64\n\
+             2 + claim=1 foo/amd64\n\
+             3 + built=1 foo/amd64\n",
         ),
         (
             NEEDS_BUILD,
             GIVEN_BACK,
-            "transdesk journal 2\n1 + claim=2 foo/amd64\n2 + givenback=2 foo/amd64\n3 + claim=1 foo/amd64\n4 + attempted=1 foo/amd64\n5 + gb foo/amd64\n6 + claim=3 foo/amd64\n7 + built=3 foo/amd64\n",
+            "transdesk journal 2\n\
+             1 + claim=2 foo/amd64\n\
+             2 + givenback=2 foo/amd64\n\
+             3 + claim=1 foo/amd64\n\
+             4 + attempted=1 foo/amd64\n\
+             5 + gb foo/amd64\n\
+             6 + claim=3 foo/amd64\n\
+             7 + built=3 foo/amd64\n",
         ),
     ] {
         let found = journal_after(rt.alloc(), opening, script)?;
@@ -320,12 +334,19 @@ fn a_sweep_frees_the_rows_whose_wait_an_arrival_ends(rt: HostRuntime) -> Result<
         (
             UPLOADED,
             SWEPT,
-            "transdesk journal 2\n1 + dw foo/amd64 : libbar-dev (>= 2.0-1+b1)\n2 + arrive bar/amd64\n3 + sweep foo/amd64\n",
+            "transdesk journal 2\n\
+             1 + dw foo/amd64 : libbar-dev (>= 2.0-1+b1)\n\
+             2 + arrive bar/amd64\n\
+             3 + sweep foo/amd64\n",
         ),
         (
             UPLOADED_FIRST,
             SWEPT_WITH_EXTRA,
-            "transdesk journal 2\n1 + nmu foo/amd64 ;24 libbar-dev (>= 2.0-1+b1) : Rebuild\n2 + dw foo/amd64 : libbar-dev (>= 2)\n3 + arrive bar/amd64\n4 + sweep foo/amd64\n",
+            "transdesk journal 2\n\
+             1 + nmu foo/amd64 ;24 libbar-dev (>= 2.0-1+b1) : Rebuild\n\
+             2 + dw foo/amd64 : libbar-dev (>= 2)\n\
+             3 + arrive bar/amd64\n\
+             4 + sweep foo/amd64\n",
         ),
     ] {
         let found = journal_after(rt.alloc(), opening, script)?;
@@ -351,8 +372,12 @@ ready => Ok([3, 1, 2, 0])
 // The rows have the numbers 0 to 3 in the order of their keys.
 #[test]
 fn rows_are_ready_by_priority_and_then_by_key(rt: HostRuntime) -> Result<(), Fail> {
-    let journal =
-        "transdesk journal 2\n1 + nmu bar/amd64 bar/i386 foo/amd64 foo/i386\n2 + bp=5 foo/i386\n3 + bp=-5 bar/amd64\n4 + claim=1 foo/i386\n5 + givenback=1 foo/i386\n";
+    let journal = "transdesk journal 2\n\
+         1 + nmu bar/amd64 bar/i386 foo/amd64 foo/i386\n\
+         2 + bp=5 foo/i386\n\
+         3 + bp=-5 bar/amd64\n\
+         4 + claim=1 foo/i386\n\
+         5 + givenback=1 foo/i386\n";
     let found = journal_after(rt.alloc(), INSTALLED, IN_ORDER)?;
     assert_eq!(rt; found.as_str(), journal);
     Ok(())
