@@ -1,0 +1,10 @@
+use Rattle.std.proofs.Common.{◌≡◌, ◌≤◌, take, count_by}
+use Rattle.td_report.specs.Report.{has_status}
+use Rattle.td_report.proofs.counting.count_of.Given as goal
+
+-- those so far
+abbrev pub invariant-loop-item : goal.invariant-loop-item
+invariant-loop-item l = record {
+  count : l.count ≡ count_by (has_status l.status) (take l.item-index l.items);
+  few : l.count ≤ l.item-index;
+}

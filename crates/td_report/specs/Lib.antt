@@ -1,0 +1,4 @@
+pub mod StatusNames
+pub mod Report
+pub mod Grouped
+pub mod Pieces
