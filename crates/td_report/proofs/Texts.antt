@@ -9,7 +9,7 @@ use Rattle.td_waves.specs.declared.level.Level.{Level}
 use Rattle.td_waves.specs.declared.level.Level.TheVariants.{At, Cyclic}
 use Rattle.td_report.specs.declared.item.Item.{Item}
 use Rattle.td_report.specs.Pieces.{lines_text}
-use Rattle.td_report.specs.Report.{block_at, block_of, blocks, item_line, stands_at}
+use Rattle.td_report.specs.ItemLines.{block_at, block_of, blocks, item_line, stands_at}
 
 pub text_of-append : (xs ys : List (List ℕ)) → text_of (xs ++ ys) ≡ text_of xs ++ text_of ys
 text_of-append xs ys = flat_map-append (λ line. line ++ 10 ∷ []) xs ys

@@ -1,4 +1,5 @@
 pub mod StatusNames
 pub mod Report
+pub mod ItemLines
 pub mod Grouped
 pub mod Pieces

@@ -4,7 +4,7 @@ use Rattle.std.specs.List.{flat_map}
 use Rattle.td_text.specs.Lines.{text_of}
 use Rattle.td_report.specs.declared.item.Item.{Item}
 use Rattle.td_report.specs.declared.piece.Piece.{Piece}
-use Rattle.td_report.specs.Report.{is_installed, item_line}
+use Rattle.td_report.specs.ItemLines.{is_installed, item_line}
 
 -- the lines of rows, each with its newline
 abbrev pub lines_text : List Item → List ℕ

@@ -2,19 +2,27 @@
 use Rattle.std.specs.Prelude.{ℕ, ◌==◌, ◌∷◌, ◌++◌, [], List, Bool, true, false, Option, Some, None, map, filter, length, count_by, codes, decimal, if◌then◌else◌}
 use Rattle.std.specs.Fmt.{signed_decimal}
 use Rattle.std.specs.List.{flat_map, range_with_len}
+use Rattle.td_rows.specs.declared.key.Key.{Key}
+use Rattle.td_rows.specs.declared.row.Row.{Row}
 use Rattle.td_rows.specs.KeyText.{key_text}
 use Rattle.td_rows.specs.States.{is_installed as is_installed_state}
 use Rattle.td_rows.specs.StateWord.{state_word}
 use Rattle.td_waves.specs.declared.level.Level.{Level}
 use Rattle.td_waves.specs.declared.level.Level.TheVariants.{At, Cyclic}
-use Rattle.td_report.specs.declared.item.Item.{Item}
 use Rattle.td_report.specs.declared.status.Status.{Status}
 use Rattle.td_report.specs.declared.status.Status.TheVariants.{Good, Bad, Partial, Unknown}
 use Rattle.td_report.specs.StatusNames.{status_name}
 
--- ---- 1. what is asked of an affected row
+-- ---- 1. the affected rows
 
--- whether its source stands at a level; one that stands nowhere is at none
+-- an affected row, and the level at which its source stands
+pub record AffectedRow : Type 0 where
+  pub key : Key
+  pub row : Row
+  pub status : Status
+  pub level : Option Level
+
+-- whether it stands at a level; where its source stands nowhere it is at none
 abbrev pub is_level : Level → Option Level → Bool
 is_level level None = false
 is_level (At k) (Some (At n)) = n == k
@@ -22,12 +30,12 @@ is_level (At k) (Some Cyclic) = false
 is_level Cyclic (Some (At n)) = false
 is_level Cyclic (Some Cyclic) = true
 
-abbrev pub stands_at : Level → Item → Bool
-stands_at level item = is_level level item.level
+abbrev pub stands_at : Level → AffectedRow → Bool
+stands_at level r = is_level level r.level
 
 -- whether it is Installed
-abbrev pub is_installed : Item → Bool
-is_installed item = is_installed_state item.row.now.state
+abbrev pub is_installed : AffectedRow → Bool
+is_installed r = is_installed_state r.row.state
 
 -- whether two statuses are one
 abbrev pub same_status : Status → Status → Bool
@@ -37,8 +45,8 @@ same_status Partial Partial = true
 same_status Unknown Unknown = true
 same_status s t = false
 
-abbrev pub has_status : Status → Item → Bool
-has_status status item = same_status status item.status
+abbrev pub has_status : Status → AffectedRow → Bool
+has_status status r = same_status status r.status
 
 -- ---- 2. the lines
 
@@ -56,32 +64,32 @@ abbrev pub head_line : Level → ℕ → ℕ → List ℕ
 head_line level rows installed = level_words level ++ (codes " rows " ++ (decimal rows ++ (codes " installed " ++ decimal installed)))
 
 -- an affected row's line: its key, status, state, priority and rebuild number
-abbrev pub item_line : Item → List ℕ
-item_line item = key_text item.key.now ++ 32 ∷ (status_name item.status ++ 32 ∷ (state_word item.row.now.state ++ 32 ∷ (signed_decimal item.row.now.priority ++ 32 ∷ decimal item.row.now.number)))
+abbrev pub row_line : AffectedRow → List ℕ
+row_line r = key_text r.key ++ 32 ∷ (status_name r.status ++ 32 ∷ (state_word r.row.state ++ 32 ∷ (signed_decimal r.row.priority ++ 32 ∷ decimal r.row.number)))
 
 -- the lines of a level with these affected rows: none where there are none
-abbrev pub block_of : Level → List Item → List (List ℕ)
-block_of level mine = if length mine == 0 then [] else head_line level (length mine) (count_by is_installed mine) ∷ map item_line mine
+abbrev pub block_of : Level → List AffectedRow → List (List ℕ)
+block_of level mine = if length mine == 0 then [] else head_line level (length mine) (count_by is_installed mine) ∷ map row_line mine
 
 -- the last: how many rows are affected, and how many of these have each status
-abbrev pub last_line : List Item → List ℕ
-last_line items =
-    codes "affected " ++ (decimal (length items)
-    ++ (codes " good " ++ (decimal (count_by (has_status Good) items)
-    ++ (codes " bad " ++ (decimal (count_by (has_status Bad) items)
-    ++ (codes " partial " ++ (decimal (count_by (has_status Partial) items)
-    ++ (codes " unknown " ++ decimal (count_by (has_status Unknown) items)))))))))
+abbrev pub last_line : List AffectedRow → List ℕ
+last_line rows =
+    codes "affected " ++ (decimal (length rows)
+    ++ (codes " good " ++ (decimal (count_by (has_status Good) rows)
+    ++ (codes " bad " ++ (decimal (count_by (has_status Bad) rows)
+    ++ (codes " partial " ++ (decimal (count_by (has_status Partial) rows)
+    ++ (codes " unknown " ++ decimal (count_by (has_status Unknown) rows)))))))))
 
 -- ---- 3. the report
 
--- those of the affected rows whose source stands at a level, in their order, under the line of the level
-abbrev pub block_at : List Item → Level → List (List ℕ)
-block_at items level = block_of level (filter (stands_at level) items)
+-- those of the affected rows that stand at a level, in their order, under the line of the level
+abbrev pub block_at : List AffectedRow → Level → List (List ℕ)
+block_at rows level = block_of level (filter (stands_at level) rows)
 
 -- the levels from 1 on, and behind them what is cyclic
-abbrev pub blocks : ℕ → List Item → List (List ℕ)
-blocks depth items = flat_map (block_at items) (map At (range_with_len 1 depth)) ++ block_at items Cyclic
+abbrev pub levels : ℕ → List Level
+levels depth = map At (range_with_len 1 depth) ++ Cyclic ∷ []
 
--- all lines of a report with this title, of so many levels and these affected rows, in the order of their keys
-abbrev pub report_lines : List ℕ → ℕ → List Item → List (List ℕ)
-report_lines title depth items = title_line title ∷ (blocks depth items ++ last_line items ∷ [])
+-- all lines of a report with this title, of so many levels and these affected rows, which stand in the order of their keys
+abbrev pub report_lines : List ℕ → ℕ → List AffectedRow → List (List ℕ)
+report_lines title depth rows = title_line title ∷ (flat_map (block_at rows) (levels depth) ++ last_line rows ∷ [])

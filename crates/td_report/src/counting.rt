@@ -1,5 +1,5 @@
 ghost use Rattle.std.specs.Prelude.{◌≡◌, count_by};
-ghost use Rattle.td_report.specs.Report.{has_status};
+ghost use Rattle.td_report.specs.ItemLines.{has_status};
 
 use crate::item::Item;
 use crate::status::Status;

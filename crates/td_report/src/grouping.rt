@@ -46,7 +46,7 @@ impl<'r> Grouped<'r> {
     ghost use Rattle.std.specs.Prelude.{◌≡◌, ℕ, ◌+◌, ◌<◌, ◌++◌, ◌∷◌, [], OnOk, length, if◌then◌else◌};
     ghost use Rattle.td_waves.specs.declared.level.Level.{Level};
     ghost use Rattle.td_report.specs.Grouped.{list_at};
-    ghost use Rattle.td_report.specs.Report.{stands_at};
+    ghost use Rattle.td_report.specs.ItemLines.{stands_at};
 
     // Adds a row behind the others of its level.
     fn push(&mut self, item: Item<'r>) -> Result<(), AllocError>

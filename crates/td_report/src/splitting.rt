@@ -2,7 +2,7 @@ ghost use Rattle.std.specs.Prelude.{◌≡◌, ◌<◌, ◌≤◌, ◌++◌, ◌
 ghost use Rattle.std.specs.List.{flat_map};
 ghost use Rattle.td_text.specs.Lines.{text_of};
 ghost use Rattle.td_report.specs.Pieces.{ArePieces, IsPieceOf};
-ghost use Rattle.td_report.specs.Report.{block_of, blocks, report_lines};
+ghost use Rattle.td_report.specs.ItemLines.{block_of, blocks, report_lines};
 
 use crate::grouping::by_level;
 use crate::item::Item;

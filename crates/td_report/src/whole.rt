@@ -2,7 +2,7 @@ ghost use Rattle.std.specs.Prelude.{◌≡◌, ◌++◌, IfOk, OnOk, string_byte
 ghost use Rattle.td_text.specs.Lines.{text_of};
 ghost use Rattle.td_report.specs.Grouped.{AreByLevel};
 ghost use Rattle.td_report.specs.Pieces.{IsPieceOf};
-ghost use Rattle.td_report.specs.Report.{block_of, blocks, report_lines};
+ghost use Rattle.td_report.specs.ItemLines.{block_of, blocks, report_lines};
 
 use crate::grouping::{Grouped, by_level};
 use crate::item::Item;

@@ -1,5 +1,6 @@
 ghost use Rattle.std.specs.Prelude.{◌≡◌, ◌++◌, ◌∷◌, [], OnOk, codes, decimal, string_bytes};
-ghost use Rattle.td_report.specs.Report.{head_line, last_line, level_words, title_line};
+ghost use Rattle.td_report.specs.ItemLines.{last_line};
+ghost use Rattle.td_report.specs.Report.{head_line, level_words, title_line};
 
 use crate::counting::count_of;
 use crate::item::Item;

@@ -1,5 +1,5 @@
 use Rattle.std.proofs.Common.{◌≡◌, ◌≤◌, take, count_by}
-use Rattle.td_report.specs.Report.{has_status}
+use Rattle.td_report.specs.ItemLines.{has_status}
 use Rattle.td_report.proofs.counting.count_of.Given as goal
 
 -- those so far

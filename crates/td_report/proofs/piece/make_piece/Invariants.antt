@@ -1,6 +1,6 @@
 use Rattle.std.proofs.Common.{◌≡◌, ◌≤◌, take, count_by, string_bytes}
 use Rattle.td_report.specs.Pieces.{lines_text}
-use Rattle.td_report.specs.Report.{is_installed}
+use Rattle.td_report.specs.ItemLines.{is_installed}
 use Rattle.td_report.proofs.piece.make_piece.Given as goal
 
 -- the rows so far

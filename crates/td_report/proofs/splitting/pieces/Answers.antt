@@ -4,7 +4,7 @@ use Rattle.rayon.specs.Lists.{chunks_of}
 use Rattle.rayon.proofs.ToStd.{chunks_of-concat}
 use Rattle.td_report.specs.declared.piece.Piece.{Piece}
 use Rattle.td_report.specs.Pieces.{lines_text}
-use Rattle.td_report.specs.Report.{is_installed}
+use Rattle.td_report.specs.ItemLines.{is_installed}
 use Rattle.td_report.proofs.Splits.{flat_map-zipped, sum-zipped, flat_map-map, sum-of-map, text-parts, count-parts, count-append, IfOk-matched}
 use Rattle.td_report.proofs.Texts.{lines-append}
 use Rattle.td_report.proofs.splitting.pieces.Goals as goal

@@ -1,0 +1,46 @@
+-- The lines of a report over rows where they lie in memory.
+use Rattle.std.specs.Prelude.{ℕ, ◌==◌, ◌∷◌, ◌++◌, [], List, Bool, map, filter, length, count_by, codes, decimal, if◌then◌else◌}
+use Rattle.std.specs.List.{flat_map, range_with_len}
+use Rattle.td_waves.specs.declared.level.Level.{Level}
+use Rattle.td_waves.specs.declared.level.Level.TheVariants.{At, Cyclic}
+use Rattle.td_report.specs.declared.status.Status.{Status}
+use Rattle.td_report.specs.declared.status.Status.TheVariants.{Good, Bad, Partial, Unknown}
+use Rattle.td_report.specs.declared.item.Item.{Item}
+use Rattle.td_report.specs.Report.{AffectedRow, head_line, title_line}
+use Rattle.td_report.specs.Report as report
+
+-- a row, without where it lies
+abbrev pub seen : Item → AffectedRow
+seen item = record { key = item.key.now; row = item.row.now; status = item.status; level = item.level }
+
+abbrev pub stands_at : Level → Item → Bool
+stands_at level item = report.stands_at level (seen item)
+
+abbrev pub is_installed : Item → Bool
+is_installed item = report.is_installed (seen item)
+
+abbrev pub has_status : Status → Item → Bool
+has_status status item = report.has_status status (seen item)
+
+abbrev pub item_line : Item → List ℕ
+item_line item = report.row_line (seen item)
+
+abbrev pub block_of : Level → List Item → List (List ℕ)
+block_of level mine = if length mine == 0 then [] else head_line level (length mine) (count_by is_installed mine) ∷ map item_line mine
+
+abbrev pub last_line : List Item → List ℕ
+last_line items =
+    codes "affected " ++ (decimal (length items)
+    ++ (codes " good " ++ (decimal (count_by (has_status Good) items)
+    ++ (codes " bad " ++ (decimal (count_by (has_status Bad) items)
+    ++ (codes " partial " ++ (decimal (count_by (has_status Partial) items)
+    ++ (codes " unknown " ++ decimal (count_by (has_status Unknown) items)))))))))
+
+abbrev pub block_at : List Item → Level → List (List ℕ)
+block_at items level = block_of level (filter (stands_at level) items)
+
+abbrev pub blocks : ℕ → List Item → List (List ℕ)
+blocks depth items = flat_map (block_at items) (map At (range_with_len 1 depth)) ++ block_at items Cyclic
+
+abbrev pub report_lines : List ℕ → ℕ → List Item → List (List ℕ)
+report_lines title depth items = title_line title ∷ (blocks depth items ++ last_line items ∷ [])
