@@ -1,5 +1,5 @@
 -- A report of rows is the same wherever they lie.
-use Rattle.std.proofs.Common.{◌≡◌, ◌+◌, ◌==◌, ◌++◌, ◌∷◌, [], ℕ, Bool, true, false, List, map, filter, length, count_by, codes, decimal, refl, sym, ap, ◌∙◌, inl, inr, arith, if◌then◌else◌}
+use Rattle.std.proofs.Common.{◌≡◌, ◌+◌, ◌==◌, ◌++◌, ◌∷◌, [], ℕ, Bool, true, false, List, None, map, filter, length, count_by, codes, decimal, refl, sym, ap, ◌∙◌, inl, inr, arith, if◌then◌else◌}
 use Rattle.std.specs.List.{flat_map, range_with_len, sum_by}
 use Rattle.std.proofs.lemmas.Bool.{cases_Bool}
 use Rattle.std.proofs.lemmas.Grind.{flat_map-append}
@@ -8,11 +8,11 @@ use Rattle.std.proofs.lemmas.List.Sums.{sum_by-cons}
 use Rattle.td_waves.specs.declared.level.Level.{Level}
 use Rattle.td_waves.specs.declared.level.Level.TheVariants.{At, Cyclic}
 use Rattle.td_report.specs.declared.item.Item.{Item}
-use Rattle.td_report.specs.declared.status.Status.{Status}
-use Rattle.td_report.specs.declared.status.Status.TheVariants.{Good, Bad, Partial, Unknown}
-use Rattle.td_report.specs.Report.{AffectedRow, head_line, levels, row_line, title_line}
+use Rattle.td_query.specs.declared.status.Status.{Status}
+use Rattle.td_query.specs.declared.status.Status.TheVariants.{Good, Bad, Partial, Unknown}
+use Rattle.td_report.specs.Report.{AffectedRow, each_once, head_line, level_words, levels, row_line, title_line}
 use Rattle.td_report.specs.Report as report
-use Rattle.td_report.specs.ItemLines.{block_at, block_of, blocks, last_line, report_lines, seen}
+use Rattle.td_report.specs.ItemLines.{block_at, block_of, blocks, last_line, report_lines, seen, wave_at, wave_of, waves}
 
 filter-map : {A B : Type 0} (f : A → B) (test : B → Bool) (xs : List A) → filter test (map f xs) ≡ map f (filter (λ x. test (f x)) xs)
 filter-map f test [] = refl
@@ -43,10 +43,7 @@ same-blocks f g same [] = refl
 same-blocks f g same (l ∷ ls) = ap (λ (b : List (List ℕ)). b ++ flat_map f ls) (same l) ∙ ap (λ (b : List (List ℕ)). g l ++ b) (same-blocks f g same ls)
 
 blocks-seen : (depth : ℕ) (items : List Item) → flat_map (report.block_at (map seen items)) (levels depth) ≡ blocks depth items
-blocks-seen depth items =
-    same-blocks (report.block_at (map seen items)) (block_at items) (block_at-seen items) (levels depth)
-    ∙ flat_map-append (block_at items) (map At (range_with_len 1 depth)) (Cyclic ∷ [])
-    ∙ ap (λ (ls : List (List ℕ)). flat_map (block_at items) (map At (range_with_len 1 depth)) ++ ls) (append-nil (block_at items Cyclic))
+blocks-seen depth items = same-blocks (report.block_at (map seen items)) (block_at items) (block_at-seen items) (levels depth)
 
 last-seen : (items : List Item) → report.last_line (map seen items) ≡ last_line items
 last-seen items = rw (length-map, count-map seen (report.has_status Good) items, count-map seen (report.has_status Bad) items, count-map seen (report.has_status Partial) items, count-map seen (report.has_status Unknown) items) refl
@@ -55,3 +52,16 @@ pub lines-seen : (title : List ℕ) (depth : ℕ) (items : List Item) → report
 lines-seen title depth items =
     ap (λ (ls : List (List ℕ)). title_line title ∷ (ls ++ report.last_line (map seen items) ∷ [])) (blocks-seen depth items)
     ∙ ap (λ (line : List ℕ). title_line title ∷ (blocks depth items ++ line ∷ [])) (last-seen items)
+
+-- ---- waves
+
+wave-seen : (level : Level) (mine : List Item) → report.wave_of level (map seen mine) ≡ wave_of level mine
+wave-seen level mine =
+    ap (λ n. if n == 0 then [] else level_words level ∷ each_once None (map (λ r. r.key.source) (map seen mine))) (length-map mine seen)
+    ∙ ap (λ (ls : List (List ℕ)). if length mine == 0 then [] else level_words level ∷ each_once None ls) (map-twice seen (λ r. r.key.source) mine)
+
+wave_at-seen : (items : List Item) (level : Level) → report.wave_at (map seen items) level ≡ wave_at items level
+wave_at-seen items level = ap (λ l. report.wave_of level l) (filter-map seen (report.stands_at level) items) ∙ wave-seen level (filter (λ x. report.stands_at level (seen x)) items)
+
+pub waves-seen : (depth : ℕ) (items : List Item) → report.waves_lines depth (map seen items) ≡ waves depth items
+waves-seen depth items = same-blocks (report.wave_at (map seen items)) (wave_at items) (wave_at-seen items) (levels depth)

@@ -1,12 +1,12 @@
 -- The lines of a report over rows where they lie in memory.
-use Rattle.std.specs.Prelude.{ℕ, ◌==◌, ◌∷◌, ◌++◌, [], List, Bool, map, filter, length, count_by, codes, decimal, if◌then◌else◌}
+use Rattle.std.specs.Prelude.{ℕ, ◌==◌, ◌∷◌, ◌++◌, [], List, Bool, None, map, filter, length, count_by, codes, decimal, if◌then◌else◌}
 use Rattle.std.specs.List.{flat_map, range_with_len}
 use Rattle.td_waves.specs.declared.level.Level.{Level}
 use Rattle.td_waves.specs.declared.level.Level.TheVariants.{At, Cyclic}
-use Rattle.td_report.specs.declared.status.Status.{Status}
-use Rattle.td_report.specs.declared.status.Status.TheVariants.{Good, Bad, Partial, Unknown}
+use Rattle.td_query.specs.declared.status.Status.{Status}
+use Rattle.td_query.specs.declared.status.Status.TheVariants.{Good, Bad, Partial, Unknown}
 use Rattle.td_report.specs.declared.item.Item.{Item}
-use Rattle.td_report.specs.Report.{AffectedRow, head_line, title_line}
+use Rattle.td_report.specs.Report.{AffectedRow, each_once, head_line, level_words, levels, title_line}
 use Rattle.td_report.specs.Report as report
 
 -- a row, without where it lies
@@ -40,7 +40,21 @@ abbrev pub block_at : List Item → Level → List (List ℕ)
 block_at items level = block_of level (filter (stands_at level) items)
 
 abbrev pub blocks : ℕ → List Item → List (List ℕ)
-blocks depth items = flat_map (block_at items) (map At (range_with_len 1 depth)) ++ block_at items Cyclic
+blocks depth items = flat_map (block_at items) (levels depth)
 
 abbrev pub report_lines : List ℕ → ℕ → List Item → List (List ℕ)
 report_lines title depth items = title_line title ∷ (blocks depth items ++ last_line items ∷ [])
+
+-- ---- waves
+
+abbrev pub source_of : Item → List ℕ
+source_of item = item.key.now.source
+
+abbrev pub wave_of : Level → List Item → List (List ℕ)
+wave_of level mine = if length mine == 0 then [] else level_words level ∷ each_once None (map source_of mine)
+
+abbrev pub wave_at : List Item → Level → List (List ℕ)
+wave_at items level = wave_of level (filter (stands_at level) items)
+
+abbrev pub waves : ℕ → List Item → List (List ℕ)
+waves depth items = flat_map (wave_at items) (levels depth)

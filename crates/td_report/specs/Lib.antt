@@ -1,5 +1,6 @@
-pub mod StatusNames
 pub mod Report
 pub mod ItemLines
+pub mod Transition
+pub mod TransitionView
 pub mod Grouped
 pub mod Pieces

@@ -2,6 +2,7 @@
 use Rattle.std.specs.Prelude.{ℕ, ◌==◌, ◌∷◌, ◌++◌, [], List, Bool, true, false, Option, Some, None, map, filter, length, count_by, codes, decimal, if◌then◌else◌}
 use Rattle.std.specs.Fmt.{signed_decimal}
 use Rattle.std.specs.List.{flat_map, range_with_len}
+use Rattle.std.specs.Str.{bytes_eq}
 use Rattle.td_rows.specs.declared.key.Key.{Key}
 use Rattle.td_rows.specs.declared.row.Row.{Row}
 use Rattle.td_rows.specs.KeyText.{key_text}
@@ -9,9 +10,9 @@ use Rattle.td_rows.specs.States.{is_installed as is_installed_state}
 use Rattle.td_rows.specs.StateWord.{state_word}
 use Rattle.td_waves.specs.declared.level.Level.{Level}
 use Rattle.td_waves.specs.declared.level.Level.TheVariants.{At, Cyclic}
-use Rattle.td_report.specs.declared.status.Status.{Status}
-use Rattle.td_report.specs.declared.status.Status.TheVariants.{Good, Bad, Partial, Unknown}
-use Rattle.td_report.specs.StatusNames.{status_name}
+use Rattle.td_query.specs.declared.status.Status.{Status}
+use Rattle.td_query.specs.declared.status.Status.TheVariants.{Good, Bad, Partial, Unknown}
+use Rattle.td_query.specs.Statuses.{status_name}
 
 -- ---- 1. the affected rows
 
@@ -93,3 +94,26 @@ levels depth = map At (range_with_len 1 depth) ++ Cyclic ∷ []
 -- all lines of a report with this title, of so many levels and these affected rows, which stand in the order of their keys
 abbrev pub report_lines : List ℕ → ℕ → List AffectedRow → List (List ℕ)
 report_lines title depth rows = title_line title ∷ (flat_map (block_at rows) (levels depth) ++ last_line rows ∷ [])
+
+-- ---- 4. the waves
+
+-- whether a text is the last one
+abbrev pub is_last : Option (List ℕ) → List ℕ → Bool
+is_last None text = false
+is_last (Some last) text = bytes_eq last text
+
+-- texts behind a last one, each once where it stands several times on end
+abbrev pub each_once : Option (List ℕ) → List (List ℕ) → List (List ℕ)
+each_once last [] = []
+each_once last (text ∷ texts) = (if is_last last text then [] else text ∷ []) ++ each_once (Some text) texts
+
+-- the name of a level with these affected rows, and under it their sources; nothing where there are none
+abbrev pub wave_of : Level → List AffectedRow → List (List ℕ)
+wave_of level mine = if length mine == 0 then [] else level_words level ∷ each_once None (map (λ r. r.key.source) mine)
+
+abbrev pub wave_at : List AffectedRow → Level → List (List ℕ)
+wave_at rows level = wave_of level (filter (stands_at level) rows)
+
+-- all lines of the waves, of so many levels and these affected rows, which stand in the order of their keys
+abbrev pub waves_lines : ℕ → List AffectedRow → List (List ℕ)
+waves_lines depth rows = flat_map (wave_at rows) (levels depth)

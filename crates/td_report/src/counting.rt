@@ -2,7 +2,7 @@ ghost use Rattle.std.specs.Prelude.{◌≡◌, count_by};
 ghost use Rattle.td_report.specs.ItemLines.{has_status};
 
 use crate::item::Item;
-use crate::status::Status;
+use td_query::Status;
 
 /// How many of the rows have a status.
 pub fn count_of(items: &[Item<'_>], status: Status) -> usize

@@ -1,6 +1,8 @@
 //! What a report says of a row.
+ghost use Rattle.std.specs.Prelude.{◌≡◌};
+ghost use Rattle.td_report.specs.Report.{same_status as same_status_of};
 
-use crate::status::Status;
+use td_query::Status;
 use td_rows::{Key, Row, State};
 use td_waves::Level;
 
@@ -27,6 +29,13 @@ impl<'r> Item<'r> {
     pub fn has_status(&self, status: Status) -> bool
         ensures { result ≡ has_status status self.now }
     {
-        status.is(self.status)
+        same_status(status, self.status)
     }
+}
+
+// Whether two statuses are one.
+fn same_status(status: Status, other: Status) -> bool
+    ensures { result ≡ same_status_of status other }
+{
+    status == other
 }

@@ -1,7 +1,9 @@
 //! The report of a transition: the affected rows by the levels of their sources.
 //!
-//! Start at `report_text`. `specs/Report.antt` says what the lines are.
-//! Promised: the text is that of these lines, made in one piece or by chunks in several threads.
+//! Start at `Transition::of`, which asks a tracker about an archive; `Transition::report` is the text.
+//! `specs/Report.antt` says what its lines are, `specs/Transition.antt` of which rows.
+//! Promised: the text is that of these lines, made in one piece or by chunks in several threads; an
+//! affected row stands under the level of its source, in the order of the keys.
 #![tactic(auto)]
 
 mod counting;
@@ -10,11 +12,9 @@ mod item;
 mod item_line;
 mod piece;
 mod splitting;
-mod status;
+mod transition;
+mod waves_text;
 mod whole;
 mod writing;
 
-pub use item::Item;
-pub use splitting::split_text;
-pub use status::Status;
-pub use whole::report_text;
+pub use transition::Transition;

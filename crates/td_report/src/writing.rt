@@ -4,10 +4,18 @@ ghost use Rattle.td_report.specs.Report.{head_line, level_words, title_line};
 
 use crate::counting::count_of;
 use crate::item::Item;
-use crate::status::Status;
 use std::alloc::AllocError;
+use td_query::Status;
 use td_text::put_number;
 use td_waves::Level;
+
+/// Appends a line.
+pub fn put_line(out: &mut String, line: &str) -> Result<(), AllocError>
+    ensures { OnOk result (string_bytes out.new ≡ string_bytes out.old ++ (line.now ++ 10 ∷ [])) }
+{
+    out.push_str(line)?;
+    out.push_str("\n")
+}
 
 /// Appends the first line.
 pub fn put_title_line(out: &mut String, title: &str) -> Result<(), AllocError>
@@ -18,8 +26,8 @@ pub fn put_title_line(out: &mut String, title: &str) -> Result<(), AllocError>
     out.push_str("\n")
 }
 
-// Appends the name of a level.
-fn put_level(out: &mut String, level: Level) -> Result<(), AllocError>
+/// Appends the name of a level.
+pub fn put_level(out: &mut String, level: Level) -> Result<(), AllocError>
     ensures { OnOk result (string_bytes out.new ≡ string_bytes out.old ++ level_words level) }
 {
     match level {

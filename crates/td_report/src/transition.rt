@@ -1,0 +1,136 @@
+//! A tracker over an archive, and what is told of it.
+
+use crate::item::Item;
+use crate::splitting::split_text;
+use crate::waves_text::waves_text;
+use crate::whole::report_text;
+use std::alloc::{AllocError, Global};
+use std::thread::Threads;
+use td_indices::Archive;
+use td_query::{Marks, Status, Tracker};
+use td_rows::{Key, Row, Rows};
+use td_waves::{Level, Waves};
+
+/// What a tracker makes of an archive: which rows are affected, and in which levels their sources
+/// can be rebuilt. The only way to one is `of`.
+#[derive(Drop)]
+pub struct Transition<'b, 't, 'a, 'q> {
+    archive: &'b Archive<'t, 'a>,
+    tracker: &'b Tracker<'q>,
+    marks: Marks,
+    waves: Waves<'a>,
+}
+
+impl<'b, 't, 'a, 'q> Transition<'b, 't, 'a, 'q> {
+    ghost use Rattle.std.specs.Prelude.{◌≡◌, ◌≤◌, None, IfOk, map, option_map, slice_get, string_bytes};
+    ghost use Rattle.std.specs.Option.{option_map_or};
+    ghost use Rattle.td_query.specs.Statuses.{status_of};
+    ghost use Rattle.td_query.specs.Tracking.{tracking};
+    ghost use Rattle.td_report.specs.ItemLines.{seen};
+    ghost use Rattle.td_report.specs.Transition.{IsReport, IsWaves, affected_row, affected_rows};
+    ghost use Rattle.td_report.specs.TransitionView as of;
+
+    /// A tracker's transition over an archive. Each query is evaluated once on each stanza.
+    pub fn of(
+        alloc: Global,
+        archive: &'b Archive<'t, 'a>,
+        tracker: &'b Tracker<'q>,
+    ) -> Result<Transition<'b, 't, 'a, 'q>, AllocError>
+        ensures made { IfOk result of.IsMade }
+        ensures archive { IfOk result (λ x. of.contents_of x ≡ archive.now) }
+        ensures tracking { IfOk result (λ x. of.tracking_of x ≡ tracking tracker.now) }
+    {
+        let marks = Marks::make(alloc, archive, tracker)?;
+        let names = marks.affected_sources(alloc, archive)?;
+        let waves = Waves::of(alloc, archive, &names)?;
+        Ok(Transition {
+            archive,
+            tracker,
+            marks,
+            waves,
+        })
+    }
+
+    /// The status of a key's row, where the archive has such a row and it is affected. It takes no
+    /// memory.
+    pub fn status(&self, key: &Key) -> Option<Status>
+        requires { of.IsMade self.now }
+        ensures { result ≡ status_of (of.contents_of self.now) (of.tracking_of self.now) key.now }
+    {
+        let source = self.archive.source_number(key.source())?;
+        let place = self.archive.archs().index(key.arch())?;
+        self.marks.status(self.archive, source, place)
+    }
+
+    /// The level of a source; none where it isn't affected.
+    pub fn level(&self, source: &str) -> Option<Level>
+        ensures { result ≡ of.level_of self.now source.now }
+    {
+        self.waves.level(source)
+    }
+
+    // What is said of the row with a number.
+    fn item_at<'r>(&self, rows: &'r Rows, number: usize) -> Option<Item<'r>>
+        requires { of.IsMade self.now }
+        ensures { option_map seen result ≡ option_map_or (affected_row (of.contents_of self.now) (of.tracking_of self.now) (of.level_of self.now)) (slice_get rows.now number) None }
+    {
+        let (key, row) = rows.at(number)?;
+        let status = self.status(key)?;
+        let level = self.level(key.source());
+        Some(Item {
+            key,
+            row,
+            status,
+            level,
+        })
+    }
+
+    // The affected rows, in the order of their keys.
+    fn items<'r>(&self, alloc: Global, rows: &'r Rows) -> Result<Vec<Item<'r>>, AllocError>
+        requires { of.IsMade self.now }
+        ensures { IfOk result (λ items. map seen items.items ≡ affected_rows (of.contents_of self.now) (of.tracking_of self.now) (of.level_of self.now) rows.now) }
+    {
+        let mut items = Vec::new(alloc);
+        for number in 0..rows.len() {
+            if let Some(item) = self.item_at(rows, number) {
+                items.push(item)?;
+            }
+        }
+        Ok(items)
+    }
+
+    /// The report of the rows.
+    pub fn report(&self, alloc: Global, rows: &Rows) -> Result<String, AllocError>
+        requires { of.IsMade self.now }
+        ensures { IfOk result (λ text. IsReport (of.contents_of self.now) (of.tracking_of self.now) rows.now (string_bytes text)) }
+    {
+        let items = self.items(alloc, rows)?;
+        report_text(alloc, self.tracker.title(), self.waves.depth(), &items)
+    }
+
+    /// The same text, the rows of each level in chunks of so many, which several threads share.
+    pub fn report_split(
+        &self,
+        rt: &(impl Threads + Sync),
+        alloc: Global,
+        rows: &Rows,
+        chunk: usize,
+    ) -> Result<String, AllocError>
+        requires made { of.IsMade self.now }
+        requires chunk { 1 ≤ chunk }
+        ensures { IfOk result (λ text. IsReport (of.contents_of self.now) (of.tracking_of self.now) rows.now (string_bytes text)) }
+    {
+        let items = self.items(alloc, rows)?;
+        let depth = self.waves.depth();
+        split_text(rt, alloc, self.tracker.title(), depth, &items, chunk)
+    }
+
+    /// The affected sources of the rows, by level.
+    pub fn waves(&self, alloc: Global, rows: &Rows) -> Result<String, AllocError>
+        requires { of.IsMade self.now }
+        ensures { IfOk result (λ text. IsWaves (of.contents_of self.now) (of.tracking_of self.now) rows.now (string_bytes text)) }
+    {
+        let items = self.items(alloc, rows)?;
+        waves_text(alloc, self.waves.depth(), &items)
+    }
+}
