@@ -13,9 +13,9 @@ use Rattle.clap.specs.declared.error.kind.ErrorKind.TheVariants.{OutOfMemory}
 use Rattle.clap.specs.declared.parser.matches.ArgMatches.{ArgMatches}
 use Rattle.clap.proofs.OnLiterals.{clap_on_literals}
 use Rattle.td_words.specs.declared.request.Request.{Request}
-use Rattle.td_words.specs.declared.request.Request.TheVariants.{Simulate, Check}
-use Rattle.td_words.specs.CommandLine.{AskForCheck, HasFiles, desk, faults_of, asked_of, asking_for, asking_for_check, name_in, rows_in}
-use Rattle.td_words.specs.Asked.{Asks, IsRequestIn}
+use Rattle.td_words.specs.declared.request.Request.TheVariants.{Simulate, Check, Track, Waves}
+use Rattle.td_words.specs.CommandLine.{AskForCheck, HasFiles, HasTrack, HasTracker, desk, faults_of, asked_of, asking_for, asking_for_check, name_in, rows_in}
+use Rattle.td_words.specs.Asked.{Asks, IsRequestIn, track_words}
 
 pub is_taken : (program : List ℕ) → takes desk (asking_for program (codes "simulate")) ≡ true
 unfolding clap_on_literals
@@ -55,6 +55,10 @@ pub asks : (words : List (List ℕ)) (found : Option (List ℕ × List Row)) (r 
 asks words found Simulate same fine is = (fine, sym (ap name_in same) ∙ is)
 asks words found (Check archs packages sources) same fine is =
     ((fine, sym (ap name_in same) ∙ is.0), subst (λ o. HasFiles (rows_in o) (string_bytes archs) (string_bytes packages) (string_bytes sources)) same is.1)
+asks words found (Track archs packages sources tracker state chunk) same fine is =
+    ((fine, sym (ap name_in same) ∙ is.0), subst (λ o. HasTrack (rows_in o) (track_words archs packages sources tracker state chunk)) same is.1)
+asks words found (Waves archs packages sources tracker) same fine is =
+    ((fine, sym (ap name_in same) ∙ is.0), subst (λ o. HasTracker (rows_in o) (string_bytes archs) (string_bytes packages) (string_bytes sources) (string_bytes tracker)) same is.1)
 
 -- where nothing is wrong with the words, only memory is wanting
 pub no_kind : (e : Error) → HasKind [] e → kind_of e ≡ OutOfMemory

@@ -1,8 +1,8 @@
 ghost use Rattle.std.specs.Prelude.{◌≡◌, IfOk, codes, false};
-ghost use Rattle.clap.specs.Simple.{app_of, new_shape, shape_of};
+ghost use Rattle.clap.specs.Simple.{app_of, new_shape, shape_of, with_rule};
 ghost use Rattle.clap.specs.declared.builder.command.Command.TheViews.{out-Command};
 ghost use Rattle.clap.specs.Walk.{rule_of};
-ghost use Rattle.td_words.specs.CommandLine.{desk, check_shape, needed_option};
+ghost use Rattle.td_words.specs.CommandLine.{check_shape, desk, desk_without_tracker, needed_option, option_of, track_shape, waves_shape, with_tracker_rules};
 
 use clap::{Arg, Command};
 use std::alloc::{AllocError, Global};
@@ -48,6 +48,14 @@ Nothing is printed where a file isn't of its form; standard error names it.
 
 docs/FORMATS.md says exactly which stanzas count, and which architectures have rows.";
 
+const ARCHS: &str = "The table of architectures: a line `NAME OS CPU` for each";
+
+const PACKAGES: &str = "The Packages index of those architectures";
+
+const SOURCES: &str = "The Sources index";
+
+const TRACKER: &str = "Which packages the transition affects, and which of them are good or bad";
+
 // An option that has to be there, with the path of a file.
 fn file<'a>(alloc: Global, name: &'static str, help: &'static str) -> Arg<'a>
     ensures rule { rule_of result ≡ needed_option name.now }
@@ -67,22 +75,95 @@ fn check<'a>(alloc: Global) -> Result<Command<'a>, AllocError>
     Command::new(alloc, "check")
         .about("Count what two package indices hold, and the rows that a desk would open with")
         .after_help(CHECK)
-        .arg(file(
-            alloc,
-            "archs",
-            "The table of architectures: a line `NAME OS CPU` for each",
-        ))?
-        .arg(file(
-            alloc,
-            "packages",
-            "The Packages index of those architectures",
-        ))?
-        .arg(file(alloc, "sources", "The Sources index"))
+        .arg(file(alloc, "archs", ARCHS))?
+        .arg(file(alloc, "packages", PACKAGES))?
+        .arg(file(alloc, "sources", SOURCES))
 }
 
-/// The program's command line, as `clap` has it.
-pub(crate) fn command<'a>(alloc: Global) -> Result<Command<'a>, AllocError>
-    ensures { IfOk result (λ c. app_of c ≡ desk) }
+const TRACK: &str = "\
+The files are read whole. Standard output has the report of the rows that the tracker affects:
+  tracker TITLE
+  level K rows R installed I
+  KEY STATUS STATE PRIORITY NUMBER
+  cyclic rows R installed I
+  affected A good G bad B partial P unknown U
+Nothing is printed where a file isn't of its form; standard error names it.
+
+docs/FORMATS.md says exactly what is read and printed.";
+
+const WAVES: &str = "\
+The files are read whole. Standard output has the sources that the tracker affects, by the levels in
+which they can be rebuilt:
+  level K
+  SOURCE
+  cyclic
+Nothing is printed where a file isn't of its form; standard error names it.
+
+docs/FORMATS.md says exactly what is read and printed.";
+
+// An option that may be left out, with one value.
+fn option<'a>(alloc: Global, name: &'static str, value: &'static str, help: &'static str) -> Arg<'a>
+    ensures rule { rule_of result ≡ option_of name.now }
+    ensures global { result.global ≡ false }
+{
+    Arg::new(alloc, name)
+        .long(name)
+        .value_name(value)
+        .help(help)
+}
+
+// The same command with one more file.
+fn with_file<'a>(
+    alloc: Global,
+    command: Command<'a>,
+    name: &'static str,
+    help: &'static str,
+) -> Result<Command<'a>, AllocError>
+    ensures app { IfOk result (λ c. app_of c ≡ with_rule (app_of command.entry) (needed_option name.now)) }
+    ensures globals { (out-Command command.entry).has_globals ≡ false → IfOk result (λ c. (out-Command c).has_globals ≡ false) }
+{
+    command.arg(file(alloc, name, help))
+}
+
+// The same command with the files of a tracker over an archive.
+fn with_tracker<'a>(alloc: Global, command: Command<'a>) -> Result<Command<'a>, AllocError>
+    ensures app { IfOk result (λ c. app_of c ≡ with_tracker_rules (app_of command.entry)) }
+    ensures globals { (out-Command command.entry).has_globals ≡ false → IfOk result (λ c. (out-Command c).has_globals ≡ false) }
+{
+    let command = with_file(alloc, command, "archs", ARCHS)?;
+    let command = with_file(alloc, command, "packages", PACKAGES)?;
+    let command = with_file(alloc, command, "sources", SOURCES)?;
+    with_file(alloc, command, "tracker", TRACKER)
+}
+
+fn waves<'a>(alloc: Global) -> Result<Command<'a>, AllocError>
+    ensures shape { IfOk result (λ c. shape_of c ≡ waves_shape) }
+    ensures globals { IfOk result (λ c. (out-Command c).has_globals ≡ false) }
+{
+    let command = Command::new(alloc, "waves")
+        .about("List the sources of a transition by the levels in which they can be rebuilt")
+        .after_help(WAVES);
+    with_tracker(alloc, command)
+}
+
+fn track<'a>(alloc: Global) -> Result<Command<'a>, AllocError>
+    ensures shape { IfOk result (λ c. shape_of c ≡ track_shape) }
+    ensures globals { IfOk result (λ c. (out-Command c).has_globals ≡ false) }
+{
+    let command = Command::new(alloc, "track")
+        .about("Report how far a transition has come, row by row")
+        .after_help(TRACK);
+    let command = with_tracker(alloc, command)?;
+    let state = "Rows to put in the place of those that the indices say";
+    let chunk = "Make the report by N rows at a time, in several threads: 1 to 1000000";
+    command
+        .arg(option(alloc, "state", "FILE", state))?
+        .arg(option(alloc, "chunk", "N", chunk))
+}
+
+// The program without the subcommands that read a tracker.
+fn first_part<'a>(alloc: Global) -> Result<Command<'a>, AllocError>
+    ensures { IfOk result (λ c. app_of c ≡ desk_without_tracker) }
 {
     Command::new(alloc, "transdesk")
         .version("0.1.0")
@@ -91,4 +172,13 @@ pub(crate) fn command<'a>(alloc: Global) -> Result<Command<'a>, AllocError>
         .subcommand_required(true)
         .subcommand(simulate(alloc))?
         .subcommand(check(alloc)?)
+}
+
+/// The program's command line, as `clap` has it.
+pub(crate) fn command<'a>(alloc: Global) -> Result<Command<'a>, AllocError>
+    ensures { IfOk result (λ c. app_of c ≡ desk) }
+{
+    first_part(alloc)?
+        .subcommand(track(alloc)?)?
+        .subcommand(waves(alloc)?)
 }

@@ -1,15 +1,19 @@
-ghost use Rattle.std.specs.Prelude.{◌≡◌, ℕ, List, map, option_map, codes, string_bytes, MatchResult, IfOk};
+ghost use Rattle.std.specs.Prelude.{◌≡◌, ℕ, List, map, option_map, codes, string_bytes, MatchResult, IfOk, IfErr};
 ghost use Rattle.clap.specs.Values.{kind_of};
 ghost use Rattle.clap.specs.Matches.{found_of};
 ghost use Rattle.clap.specs.Simple.{subcommand_rows_of};
 ghost use Rattle.clap.specs.Walk.{first_of, rows_of};
-ghost use Rattle.td_words.specs.CommandLine.{AskForCheck, HasFiles, asking_for, name_in, rows_in};
-ghost use Rattle.td_words.specs.Asked.{Asks, IsCheckIn, IsCheckOf, IsRequestIn};
+ghost use Rattle.td_words.specs.CommandLine.{AskForCheck, AskForTrack, AskForWaves, HasFiles, HasTrack, HasTracker, TrackWords, asking_for, chunk_at, chunk_in as chunk_in_of, name_in, rows_in};
+ghost use Rattle.td_words.specs.Asked.{AreWavesIn, AreWavesOf, Asks, IsCheckIn, IsCheckOf, IsRequestIn, IsTrackIn, IsTrackOf};
 
 use crate::command::command;
 use clap::error::ErrorKind;
 use clap::{ArgMatches, Error};
 use std::alloc::{AllocError, Global};
+use td_text::number;
+
+/// The most rows that a piece of a report has.
+const MAX_CHUNK: u64 = 1_000_000;
 
 /// What the words ask for.
 #[derive(Debug, Drop)]
@@ -21,6 +25,22 @@ pub enum Request {
         archs: String,
         packages: String,
         sources: String,
+    },
+    /// So does what is to be reported, by chunks of so many rows where that is given.
+    Track {
+        archs: String,
+        packages: String,
+        sources: String,
+        tracker: String,
+        state: Option<String>,
+        chunk: Option<usize>,
+    },
+    /// And that of which the levels are to be listed.
+    Waves {
+        archs: String,
+        packages: String,
+        sources: String,
+        tracker: String,
     },
 }
 
@@ -87,6 +107,101 @@ fn check_in(alloc: Global, matches: &ArgMatches<'_>) -> Result<Request, WordsFau
     })
 }
 
+// The text of an option that is required, so it is there, unless `clap` broke a promise.
+fn needed_in(alloc: Global, matches: &ArgMatches<'_>, name: &str) -> Result<String, WordsFault>
+    ensures text { (text : List ℕ) → first_of name.now (rows_of (found_of matches.now)) ≡ Some text
+        → MatchResult result (λ s. string_bytes s ≡ text) (λ e. e ≡ WordsFault.NoMemory) }
+    ensures only { IfOk result (λ s. first_of name.now (rows_of (found_of matches.now)) ≡ Some (string_bytes s)) }
+{
+    match value_in(matches, name) {
+        Some(text) => Ok(String::from_str(alloc, text)?),
+        None => Err(WordsFault::Usage(String::new(alloc))),
+    }
+}
+
+// The text of an option that may be left out.
+fn given_in(
+    alloc: Global,
+    matches: &ArgMatches<'_>,
+    name: &str,
+) -> Result<Option<String>, WordsFault>
+    ensures text { IfOk result (λ s. option_map string_bytes s ≡ first_of name.now (rows_of (found_of matches.now))) }
+    ensures memory { IfErr result (λ e. e ≡ WordsFault.NoMemory) }
+{
+    match value_in(matches, name) {
+        Some(text) => Ok(Some(String::from_str(alloc, text)?)),
+        None => Ok(None),
+    }
+}
+
+// How many rows a piece of the report has, of 1 to 1000000.
+fn chunk_of(text: &str) -> Option<usize>
+    ensures { result ≡ chunk_at text.now }
+{
+    let rows = number(text, MAX_CHUNK)?;
+    if rows > 0 { Some(rows as usize) } else { None }
+}
+
+// The same where the option is given; `None` where it says anything else.
+fn chunk_in(matches: &ArgMatches<'_>) -> Option<Option<usize>>
+    ensures { result ≡ chunk_in_of (first_of (codes "chunk") (rows_of (found_of matches.now))) }
+{
+    match value_in(matches, "chunk") {
+        Some(text) => match chunk_of(text) {
+            Some(rows) => Some(Some(rows)),
+            None => None,
+        },
+        None => Some(None),
+    }
+}
+
+// The text that is said of another value.
+fn no_chunk(alloc: Global) -> WordsFault {
+    match String::from_str(alloc, "error: --chunk takes a number from 1 to 1000000\n") {
+        Ok(text) => WordsFault::Usage(text),
+        Err(_) => WordsFault::NoMemory,
+    }
+}
+
+// The report that the matches of `track` ask for.
+fn track_in(alloc: Global, matches: &ArgMatches<'_>) -> Result<Request, WordsFault>
+    ensures track { (w : TrackWords) → HasTrack (rows_of (found_of matches.now)) w
+        → MatchResult result (IsTrackOf w) (λ e. e ≡ WordsFault.NoMemory) }
+    ensures only { IfOk result (IsTrackIn (rows_of (found_of matches.now))) }
+{
+    let archs = needed_in(alloc, matches, "archs")?;
+    let packages = needed_in(alloc, matches, "packages")?;
+    let sources = needed_in(alloc, matches, "sources")?;
+    let tracker = needed_in(alloc, matches, "tracker")?;
+    let state = given_in(alloc, matches, "state")?;
+    let Some(chunk) = chunk_in(matches) else {
+        return Err(no_chunk(alloc));
+    };
+    Ok(Request::Track {
+        archs,
+        packages,
+        sources,
+        tracker,
+        state,
+        chunk,
+    })
+}
+
+// The waves that the matches of `waves` ask for.
+fn waves_in(alloc: Global, matches: &ArgMatches<'_>) -> Result<Request, WordsFault>
+    ensures waves { (archs packages sources tracker : List ℕ)
+        → HasTracker (rows_of (found_of matches.now)) archs packages sources tracker
+        → MatchResult result (AreWavesOf archs packages sources tracker) (λ e. e ≡ WordsFault.NoMemory) }
+    ensures only { IfOk result (AreWavesIn (rows_of (found_of matches.now))) }
+{
+    Ok(Request::Waves {
+        archs: needed_in(alloc, matches, "archs")?,
+        packages: needed_in(alloc, matches, "packages")?,
+        sources: needed_in(alloc, matches, "sources")?,
+        tracker: needed_in(alloc, matches, "tracker")?,
+    })
+}
+
 // A subcommand is required, and each is listed here: others come only where `clap` broke a promise.
 fn request_in(alloc: Global, matches: &ArgMatches<'_>) -> Result<Request, WordsFault>
     ensures simulate { name_in (subcommand_rows_of matches.now) ≡ Some (codes "simulate")
@@ -95,11 +210,21 @@ fn request_in(alloc: Global, matches: &ArgMatches<'_>) -> Result<Request, WordsF
         → name_in (subcommand_rows_of matches.now) ≡ Some (codes "check")
         → HasFiles (rows_in (subcommand_rows_of matches.now)) archs packages sources
         → MatchResult result (IsCheckOf archs packages sources) (λ e. e ≡ WordsFault.NoMemory) }
+    ensures track { (w : TrackWords)
+        → name_in (subcommand_rows_of matches.now) ≡ Some (codes "track")
+        → HasTrack (rows_in (subcommand_rows_of matches.now)) w
+        → MatchResult result (IsTrackOf w) (λ e. e ≡ WordsFault.NoMemory) }
+    ensures waves { (archs packages sources tracker : List ℕ)
+        → name_in (subcommand_rows_of matches.now) ≡ Some (codes "waves")
+        → HasTracker (rows_in (subcommand_rows_of matches.now)) archs packages sources tracker
+        → MatchResult result (AreWavesOf archs packages sources tracker) (λ e. e ≡ WordsFault.NoMemory) }
     ensures only { IfOk result (IsRequestIn (subcommand_rows_of matches.now)) }
 {
     match matches.subcommand() {
         Some((name, _)) if name == "simulate" => Ok(Request::Simulate),
         Some((name, options)) if name == "check" => check_in(alloc, options),
+        Some((name, options)) if name == "track" => track_in(alloc, options),
+        Some((name, options)) if name == "waves" => waves_in(alloc, options),
         _ => Err(WordsFault::Usage(String::new(alloc))),
     }
 }
@@ -114,6 +239,13 @@ pub fn read_words(alloc: Global, words: &[String]) -> Result<Request, WordsFault
     ensures check { (archs packages sources : List ℕ)
         → AskForCheck (map string_bytes words.now) archs packages sources
         → MatchResult result (IsCheckOf archs packages sources) (λ e. e ≡ WordsFault.NoMemory) }
+    // Words that ask for a report are answered by it, unless memory runs out.
+    ensures track { (w : TrackWords) → AskForTrack (map string_bytes words.now) w
+        → MatchResult result (IsTrackOf w) (λ e. e ≡ WordsFault.NoMemory) }
+    // So are words that ask for waves.
+    ensures waves { (archs packages sources tracker : List ℕ)
+        → AskForWaves (map string_bytes words.now) archs packages sources tracker
+        → MatchResult result (AreWavesOf archs packages sources tracker) (λ e. e ≡ WordsFault.NoMemory) }
     // Words that are answered are without fault, and name what they are answered by.
     ensures only { IfOk result (Asks (map string_bytes words.now)) }
 {

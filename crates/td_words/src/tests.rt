@@ -44,8 +44,64 @@ fn a_check_is_asked_for_with_three_files(rt: HostRuntime) -> Result<(), Fail> {
                 assert_eq!(rt; packages.as_str(), "p", "{line}");
                 assert_eq!(rt; sources.as_str(), "s", "{line}");
             }
-            Request::Simulate => return Err(Fail::from("a check is due")),
+            _ => return Err(Fail::from("a check is due")),
         }
+    }
+    Ok(())
+}
+
+#[test]
+fn a_report_is_asked_for_with_four_files_or_more(rt: HostRuntime) -> Result<(), Fail> {
+    for (line, rows, count) in [
+        (
+            "transdesk track --archs a --packages p --sources s --tracker t",
+            None,
+            None,
+        ),
+        (
+            "transdesk track --tracker=t --state r --archs a --packages p --sources s",
+            Some("r"),
+            None,
+        ),
+        (
+            "transdesk track --chunk 1000000 --archs a --packages p --sources s --tracker t",
+            None,
+            Some(1_000_000),
+        ),
+    ] {
+        match read_words(rt.alloc(), &words(rt.alloc(), line)?)? {
+            Request::Track {
+                tracker,
+                state,
+                chunk,
+                ..
+            } => {
+                assert_eq!(rt; tracker.as_str(), "t", "{line}");
+                assert_eq!(rt; state.as_ref().map(|state| state.as_str()), rows, "{line}");
+                assert_eq!(rt; chunk, count, "{line}");
+            }
+            _ => return Err(Fail::from("a report is due")),
+        }
+    }
+    Ok(())
+}
+
+#[test]
+fn waves_are_asked_for_with_four_files(rt: HostRuntime) -> Result<(), Fail> {
+    let line = "transdesk waves --archs a --packages p --sources s --tracker t";
+    match read_words(rt.alloc(), &words(rt.alloc(), line)?)? {
+        Request::Waves {
+            archs,
+            packages,
+            sources,
+            tracker,
+        } => {
+            assert_eq!(rt; archs.as_str(), "a");
+            assert_eq!(rt; packages.as_str(), "p");
+            assert_eq!(rt; sources.as_str(), "s");
+            assert_eq!(rt; tracker.as_str(), "t");
+        }
+        _ => return Err(Fail::from("waves are due")),
     }
     Ok(())
 }
@@ -103,6 +159,23 @@ fn other_words_are_answered_by_a_text(rt: HostRuntime) -> Result<(), Fail> {
             "transdesk check --help",
             "Count what two package indices hold",
         ),
+        (
+            "transdesk track --archs a --packages p --sources s",
+            "error: the following required arguments were not provided:\n  --tracker <FILE>\n",
+        ),
+        (
+            "transdesk track --archs a --packages p --sources s --tracker t --chunk 0",
+            "error: --chunk takes a number from 1 to 1000000\n",
+        ),
+        (
+            "transdesk waves --archs a --packages p --sources s --tracker t --state r",
+            "error: unexpected argument '--state' found",
+        ),
+        (
+            "transdesk track --help",
+            "Report how far a transition has come",
+        ),
+        ("transdesk waves --help", "List the sources of a transition"),
         ("transdesk run", "error: unrecognized subcommand 'run'"),
     ] {
         let text = usage(rt.alloc(), line)?;
@@ -118,6 +191,8 @@ fn help_has_the_statuses(rt: HostRuntime) -> Result<(), Fail> {
     for line in [
         "  simulate  ",
         "  check  ",
+        "  track  ",
+        "  waves  ",
         "Exit status:\n  0  done\n  1  something was refused",
         "\n  2  bad input\n  3  bad command line, or a call for help\n",
         "\n  4  want of memory\n  5  a read or a write failed\n",

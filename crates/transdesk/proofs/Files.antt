@@ -10,9 +10,10 @@ use Rattle.td_indices.specs.declared.archive_fault.ArchiveFault.TheVariants as a
 use Rattle.transdesk.specs.declared.file_texts.FileTexts.{FileTexts}
 use Rattle.transdesk.specs.declared.file_texts.FileFault.{FileFault}
 use Rattle.transdesk.specs.declared.role.Role.{Role}
-use Rattle.transdesk.specs.declared.role.Role.TheVariants.{Input, Archs, Packages, Sources}
+use Rattle.transdesk.specs.declared.role.Role.TheVariants.{Input, Archs, Packages, Sources, State, Tracker}
 use Rattle.transdesk.specs.declared.input_fault.InputFault.{InputFault}
 use Rattle.transdesk.specs.declared.input_fault.InputFault.TheVariants.{TooLong, NotText, Simulation, Table, Archive}
+use Rattle.transdesk.specs.declared.input_fault.InputFault.TheVariants as fault
 use Rattle.transdesk.specs.declared.ending.Ending.{Ending}
 use Rattle.transdesk.specs.declared.ending.Ending.TheVariants.{Done, Refused, BadInput, NoMemory, CannotRead, CannotWrite}
 use Rattle.transdesk.specs.Ending.{ending_of_file}
@@ -45,6 +46,8 @@ no_such_text : (files : Files) (role : Role) (c : Contents) → HasFailed files 
 no_such_text files Input c failed known = failed.before
 no_such_text files Archs c failed known = (subst IsNoText known.known_archs failed.fits).1 known.archs_text.1
 no_such_text files Packages c failed known = (subst IsNoText known.known_packages failed.fits).1 known.packages_text.1
+no_such_text files State c failed known = failed.before
+no_such_text files Tracker c failed known = failed.before
 no_such_text files Sources c failed known = (subst IsNoText known.known_sources failed.fits).1 known.sources_text.1
 
 unread : (files : Files) (old new : Option (List ℕ)) (role : Role) (e : TextFault) → HasFailed files role e → Keeps old new → Checks files old new (ending_of_file role e)
@@ -70,6 +73,9 @@ has_fault files t role (Archive (archive.BadVersion f n)) texts is = (is.0, reco
 has_fault files t role (Archive (archive.BadRelation f n)) texts is = (is.0, record { archs = string_bytes t.archs; packages = string_bytes t.packages; sources = string_bytes t.sources; texts = texts; archs_table = is.1.0; is_table = is.1.1; fault = is.1.2 })
 has_fault files t role (Archive archive.TooManyRows) texts is = (is.0, record { archs = string_bytes t.archs; packages = string_bytes t.packages; sources = string_bytes t.sources; texts = texts; archs_table = is.1.0; is_table = is.1.1; fault = is.1.2 })
 has_fault files t role (Archive archive.NoMemory) texts is = absurd is
+has_fault files t role (fault.State e) texts is = absurd is
+has_fault files t role fault.NoSuchRow texts is = absurd is
+has_fault files t role (fault.Tracker e) texts is = absurd is
 
 archive_in : (files : Files) (t : FileTexts) (c : Contents) → AreTextsIn files t → IsArchiveOf (string_bytes t.archs) (string_bytes t.packages) (string_bytes t.sources) c → IsArchiveIn files c
 archive_in files t c texts is = record { archs = string_bytes t.archs; packages = string_bytes t.packages; sources = string_bytes t.sources; texts = texts; archive = is }

@@ -4,3 +4,4 @@ pub mod Plays
 pub mod Files
 pub mod Counting
 pub mod Asks
+pub mod Told

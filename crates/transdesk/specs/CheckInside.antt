@@ -19,7 +19,7 @@ use Rattle.transdesk.specs.declared.file_texts.FileFault.{FileFault}
 use Rattle.transdesk.specs.declared.role.Role.{Role}
 use Rattle.transdesk.specs.declared.role.Role.TheVariants.{Archs}
 use Rattle.transdesk.specs.Roles.{role_of_fault}
-use Rattle.transdesk.specs.declared.input_fault.InputFault.TheVariants.{TooLong, NotText, Simulation, Table, Archive}
+use Rattle.transdesk.specs.declared.input_fault.InputFault.TheVariants.{TooLong, NotText, Simulation, Table, Archive, State, NoSuchRow, Tracker}
 use Rattle.transdesk.specs.declared.ending.Ending.{Ending}
 use Rattle.transdesk.specs.declared.ending.Ending.TheVariants.{Done, Refused, BadInput, NoMemory, CannotRead, CannotWrite}
 use Rattle.transdesk.specs.Ending.{ending_of_archive, ending_of_file}
@@ -74,6 +74,9 @@ IsNoArchive a p s (BadInput role (Table table.NoMemory)) = ⊥
 IsNoArchive a p s (BadInput role (Table e)) = (role ≡ Archs) × table_file.FaultOf (lines_of a) e
 IsNoArchive a p s (BadInput role (Archive archive.NoMemory)) = ⊥
 IsNoArchive a p s (BadInput role (Archive e)) = (role ≡ role_of_fault e) × ((t : List ArchWords) × IsTable (lines_of a) t × archive_file.FaultOf t (lines_of p) (lines_of s) e)
+IsNoArchive a p s (BadInput role (State e)) = ⊥
+IsNoArchive a p s (BadInput role NoSuchRow) = ⊥
+IsNoArchive a p s (BadInput role (Tracker e)) = ⊥
 IsNoArchive a p s NoMemory = Unit {0}
 IsNoArchive a p s (CannotRead role) = ⊥
 IsNoArchive a p s CannotWrite = ⊥

@@ -16,10 +16,11 @@ use Rattle.td_indices.specs.declared.archive_fault.ArchiveFault.{ArchiveFault}
 use Rattle.td_indices.specs.declared.archive_fault.ArchiveFault.TheVariants as archive
 use Rattle.transdesk.specs.Limits.{file_limit}
 use Rattle.transdesk.specs.declared.role.Role.{Role}
-use Rattle.transdesk.specs.declared.role.Role.TheVariants.{Input, Archs, Packages, Sources}
+use Rattle.transdesk.specs.declared.role.Role.TheVariants.{Input, Archs, Packages, Sources, State, Tracker}
 use Rattle.transdesk.specs.Roles.{role_of_fault}
 use Rattle.transdesk.specs.declared.input_fault.InputFault.{InputFault}
 use Rattle.transdesk.specs.declared.input_fault.InputFault.TheVariants.{TooLong, NotText, Simulation, Table, Archive}
+use Rattle.transdesk.specs.declared.input_fault.InputFault.TheVariants as fault
 use Rattle.transdesk.specs.declared.ending.Ending.{Ending}
 use Rattle.transdesk.specs.declared.ending.Ending.TheVariants.{Done, Refused, BadInput, NoMemory, CannotRead, CannotWrite}
 use Rattle.transdesk.specs.Counted.{IsArchiveOf, counts_line}
@@ -33,12 +34,14 @@ pub record Files : Type 0 where
   pub in_sources : Option (List ℕ)
   pub can_fail : Role → TextFault → Bool
 
--- for which faults a read of the file of a role may fail; standard input isn't read
+-- for which faults a read of the file of a role may fail; no other is read
 abbrev pub failing : (List ℕ → TextFault → Bool) → List ℕ → List ℕ → List ℕ → Role → TextFault → Bool
 failing can_fail archs packages sources Input fault = false
 failing can_fail archs packages sources Archs fault = can_fail archs fault
 failing can_fail archs packages sources Packages fault = can_fail packages fault
 failing can_fail archs packages sources Sources fault = can_fail sources fault
+failing can_fail archs packages sources State fault = false
+failing can_fail archs packages sources Tracker fault = false
 
 -- those of three paths
 abbrev pub files_of : (List ℕ → Option (List ℕ)) → (List ℕ → TextFault → Bool) → List ℕ → List ℕ → List ℕ → Files
@@ -51,6 +54,8 @@ known_of files Input = None
 known_of files Archs = files.in_archs
 known_of files Packages = files.in_packages
 known_of files Sources = files.in_sources
+known_of files State = None
+known_of files Tracker = None
 
 -- a text that is read from a file: within the limit, and UTF-8
 abbrev pub IsFileText : List ℕ → Type 0
@@ -82,6 +87,8 @@ abbrev pub AreTextsBefore : Files → Role → Type 0
 AreTextsBefore files Input = ⊥
 AreTextsBefore files Archs = Unit {0}
 AreTextsBefore files Packages = (archs : List ℕ) × IsTextOf files.in_archs archs
+AreTextsBefore files State = ⊥
+AreTextsBefore files Tracker = ⊥
 AreTextsBefore files Sources = (archs : List ℕ) × (packages : List ℕ) × IsTextOf files.in_archs archs × IsTextOf files.in_packages packages
 
 -- bytes within the limit that are no text
@@ -135,6 +142,9 @@ HasFileFault files role (Simulation e) = ⊥
 HasFileFault files role (Table table.NoMemory) = ⊥
 HasFileFault files role (Table e) = (role ≡ Archs) × HasTableFault files e
 HasFileFault files role (Archive archive.NoMemory) = ⊥
+HasFileFault files role (fault.State e) = ⊥
+HasFileFault files role fault.NoSuchRow = ⊥
+HasFileFault files role (fault.Tracker e) = ⊥
 HasFileFault files role (Archive e) = (role ≡ role_of_fault e) × HasArchiveFault files e
 
 -- ---- 3. how it ends

@@ -8,6 +8,11 @@ use Rattle.td_relation.specs.FaultNames as archs_fault
 use Rattle.td_indices.specs.declared.archive_fault.ArchiveFault.{ArchiveFault}
 use Rattle.td_indices.specs.declared.archive_fault.ArchiveFault.TheVariants as archive
 use Rattle.td_indices.specs.FaultNames as archive_fault
+use Rattle.td_rows.specs.declared.state_file.StateFault.{StateFault}
+use Rattle.td_rows.specs.declared.state_file.StateFault.TheVariants as state
+use Rattle.td_query.specs.declared.tracker_fault.TrackerFault.{TrackerFault}
+use Rattle.td_query.specs.declared.tracker_fault.TrackerFault.TheVariants as tracker
+use Rattle.td_query.specs.TrackerFaults as tracker_fault
 use Rattle.td_simulate.specs.declared.fault.SimulationFault.{SimulationFault}
 use Rattle.td_simulate.specs.declared.fault.SimulationFault.TheVariants as simulation
 use Rattle.td_simulate.specs.Faults.{fault_name}
@@ -15,7 +20,7 @@ use Rattle.transdesk.specs.declared.role.Role.{Role}
 use Rattle.transdesk.specs.declared.role.Role.TheVariants as role
 use Rattle.transdesk.specs.Roles.{label_of, role_of_fault}
 use Rattle.transdesk.specs.declared.input_fault.InputFault.{InputFault}
-use Rattle.transdesk.specs.declared.input_fault.InputFault.TheVariants.{TooLong, NotText, Simulation, Table, Archive}
+use Rattle.transdesk.specs.declared.input_fault.InputFault.TheVariants.{TooLong, NotText, Simulation, Table, Archive, State, NoSuchRow, Tracker}
 use Rattle.transdesk.specs.declared.ending.Ending.{Ending}
 use Rattle.transdesk.specs.declared.ending.Ending.TheVariants.{Done, Refused, BadInput, NoMemory, CannotRead, CannotWrite}
 
@@ -50,7 +55,29 @@ abbrev pub ending_of_archive : ArchiveFault → Ending
 ending_of_archive archive.NoMemory = NoMemory
 ending_of_archive e = BadInput (role_of_fault e) (Archive e)
 
+-- how a run ends where a text is no state file
+abbrev pub ending_of_state : StateFault → Ending
+ending_of_state state.NoMemory = NoMemory
+ending_of_state e = BadInput role.State (State e)
+
+-- how a run ends where a state file has a row that the archive hasn't
+abbrev pub ending_of_missing_row : Ending
+ending_of_missing_row = BadInput role.State NoSuchRow
+
+-- how a run ends where a text is no tracker
+abbrev pub ending_of_tracker : TrackerFault → Ending
+ending_of_tracker tracker.NoMemory = NoMemory
+ending_of_tracker e = BadInput role.Tracker (Tracker e)
+
 -- ---- 2. what is answered and said
+
+-- the name of what is wrong with a state file
+abbrev pub state_fault_name : StateFault → List ℕ
+state_fault_name (state.BadLine n) = codes "BadLine"
+state_fault_name (state.Twice n) = codes "Twice"
+state_fault_name (state.NotOpening n) = codes "NotOpening"
+state_fault_name state.TooManyRows = codes "TooManyRows"
+state_fault_name state.NoMemory = codes "NoMemory"
 
 -- the name of what is wrong with a text
 abbrev pub input_fault_name : InputFault → List ℕ
@@ -59,6 +86,9 @@ input_fault_name NotText = codes "NotText"
 input_fault_name (Simulation e) = fault_name e
 input_fault_name (Table e) = archs_fault.name_of e
 input_fault_name (Archive e) = archive_fault.name_of e
+input_fault_name (State e) = state_fault_name e
+input_fault_name NoSuchRow = codes "NoSuchRow"
+input_fault_name (Tracker e) = tracker_fault.fault_name e
 
 -- the status; 3 is for words that ask for nothing that can be done
 abbrev pub status_of : Ending → ℕ

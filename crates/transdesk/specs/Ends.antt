@@ -27,6 +27,9 @@ HasFault input (Simulation fault.NoMemory) = ⊥
 HasFault input (Simulation e) = IsText input × FaultOf input e
 HasFault input (refused.Table e) = ⊥
 HasFault input (refused.Archive e) = ⊥
+HasFault input (refused.State e) = ⊥
+HasFault input refused.NoSuchRow = ⊥
+HasFault input (refused.Tracker e) = ⊥
 
 -- these rows and steps were read, from all that the reader had
 pub record WereRead (known : Option (List ℕ)) (rows : Table) (steps : List Step) : Type 0 where

@@ -7,4 +7,6 @@ pub mod Played
 pub mod Counted
 pub mod Checks
 pub mod CheckInside
+pub mod Tracks
+pub mod TrackInside
 pub mod Program

@@ -48,6 +48,9 @@ IsNoSimulation text (Simulation fault.NoMemory) = ⊥
 IsNoSimulation text (Simulation e) = FaultOf text e
 IsNoSimulation text (refused.Table e) = ⊥
 IsNoSimulation text (refused.Archive e) = ⊥
+IsNoSimulation text (refused.State e) = ⊥
+IsNoSimulation text refused.NoSuchRow = ⊥
+IsNoSimulation text (refused.Tracker e) = ⊥
 
 -- what an ending says of a text: it was read, so no read has failed
 abbrev pub TextSays : List ℕ → Option (List ℕ) → Option (List ℕ) → Ending → Type 0

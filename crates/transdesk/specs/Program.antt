@@ -1,19 +1,21 @@
 -- What the program does for words: a subcommand that they ask for, or a text that says what is wrong. This project's own.
-use Rattle.std.specs.Prelude.{◌≡◌, ◌≢◌, ◌⊎◌, ℕ, List, Option, Bool, codes, string_bytes}
+use Rattle.std.specs.Prelude.{◌≡◌, ◌≢◌, ◌⊎◌, ℕ, List, Option, None, Bool, option_map, codes, string_bytes}
 use Rattle.std.specs.declared.io.ErrorKind.{ErrorKind}
 use Rattle.std.specs.declared.io.ErrorKind.TheVariants.{OutOfMemory}
 use Rattle.std.specs.Io.KnownBytes.{Keeps}
 use Rattle.td_bytes.specs.Pieces.{AppendsPrefix}
 use Rattle.td_bytes.specs.declared.text.TextFault.{TextFault}
 use Rattle.td_words.specs.declared.request.Request.{Request}
-use Rattle.td_words.specs.declared.request.Request.TheVariants.{Simulate, Check}
+use Rattle.td_words.specs.declared.request.Request.TheVariants.{Simulate, Check, Track, Waves}
 use Rattle.td_words.specs.declared.request.WordsFault.{WordsFault}
 use Rattle.td_words.specs.declared.request.WordsFault.TheVariants as words_fault
-use Rattle.td_words.specs.CommandLine.{AskFor}
+use Rattle.td_report.specs.Transition.{IsReport, IsWaves}
+use Rattle.td_words.specs.CommandLine.{AskFor, TrackWords}
 use Rattle.transdesk.specs.declared.ending.Ending.TheVariants.{NoMemory}
 use Rattle.transdesk.specs.Ending.{line_of}
 use Rattle.transdesk.specs.Ends.{Ends}
 use Rattle.transdesk.specs.Checks.{Checks, files_of}
+use Rattle.transdesk.specs.Tracks.{EndsSo, TrackFiles, track_files}
 use Rattle.transdesk.specs.Ran.{Ran}
 
 -- ---- 1. words that ask for nothing
@@ -55,19 +57,28 @@ TellsSome said_before said status = ((text : List ℕ) × IsBadWords text said_b
 
 -- nothing is wrong with the words, and they name one of the subcommands
 abbrev pub AsksForOne : List (List ℕ) → Type 0
-AsksForOne words = AskFor (codes "simulate") words ⊎ AskFor (codes "check") words
+AsksForOne words = AskFor (codes "simulate") words ⊎ (AskFor (codes "check") words ⊎ (AskFor (codes "track") words ⊎ AskFor (codes "waves") words))
+
+-- the files of which a report is asked for
+abbrev pub files_asked : (List ℕ → Option (List ℕ)) → (List ℕ → TextFault → Bool) → TrackWords → TrackFiles
+files_asked bytes can_fail w = track_files bytes can_fail w.archs w.packages w.sources w.state w.tracker
 
 -- what was asked for ran
 abbrev pub RanFor : Request → Option (List ℕ) → (List ℕ → Option (List ℕ)) → (List ℕ → TextFault → Bool) → Option (List ℕ) → Option (List ℕ) → Option (List ℕ) → Option (List ℕ) → ℕ → Type 0
 RanFor Simulate known bytes can_fail old new said_before said status = Ran (Ends known old new) said_before said status
 RanFor (Check archs packages sources) known bytes can_fail old new said_before said status =
     Ran (Checks (files_of bytes can_fail (string_bytes archs) (string_bytes packages) (string_bytes sources)) old new) said_before said status
+RanFor (Track archs packages sources tracker state chunk) known bytes can_fail old new said_before said status =
+    Ran (EndsSo IsReport (track_files bytes can_fail (string_bytes archs) (string_bytes packages) (string_bytes sources) (option_map string_bytes state) (string_bytes tracker)) old new) said_before said status
+RanFor (Waves archs packages sources tracker) known bytes can_fail old new said_before said status =
+    Ran (EndsSo IsWaves (track_files bytes can_fail (string_bytes archs) (string_bytes packages) (string_bytes sources) None (string_bytes tracker)) old new) said_before said status
 
--- a simulation ran, or a check of some three files
+-- a simulation ran, or a check of some three files, or what a tracker says of some files was told
 abbrev pub RanOne : Option (List ℕ) → (List ℕ → Option (List ℕ)) → (List ℕ → TextFault → Bool) → Option (List ℕ) → Option (List ℕ) → Option (List ℕ) → Option (List ℕ) → ℕ → Type 0
 RanOne known bytes can_fail old new said_before said status =
     Ran (Ends known old new) said_before said status
-    ⊎ ((archs : List ℕ) × (packages : List ℕ) × (sources : List ℕ) × Ran (Checks (files_of bytes can_fail archs packages sources) old new) said_before said status)
+    ⊎ (((archs : List ℕ) × (packages : List ℕ) × (sources : List ℕ) × Ran (Checks (files_of bytes can_fail archs packages sources) old new) said_before said status)
+    ⊎ ((files : TrackFiles) × (Ran (EndsSo IsReport files old new) said_before said status ⊎ Ran (EndsSo IsWaves files old new) said_before said status)))
 
 -- they ran it; all else is told, and writes nothing
 abbrev pub OnlyIfAsked : List (List ℕ) → Option (List ℕ) → (List ℕ → Option (List ℕ)) → (List ℕ → TextFault → Bool) → Option (List ℕ) → Option (List ℕ) → Option (List ℕ) → Option (List ℕ) → ℕ → Type 0

@@ -96,8 +96,8 @@ fn line_of(alloc: Global, counted: Result<Counts, Ending>) -> Result<String, End
     }
 }
 
-// How a check ends by its line.
-fn write<W: Write>(line: Result<String, Ending>, output: &mut W) -> Ending
+/// How a run ends by what is to be written.
+pub fn write<W: Write>(line: Result<String, Ending>, output: &mut W) -> Ending
     ensures line { IfOk line (λ line.
         WritesSo (string_bytes line) (W.contents output.old) (W.contents output.new) result) }
     ensures refused { IfErr line (λ ending.

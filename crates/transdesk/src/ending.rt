@@ -1,14 +1,16 @@
 ghost use Rattle.std.specs.Prelude.{◌≡◌, ◌++◌, OnOk, OnErr};
 ghost use Rattle.std.specs.Io.KnownBytes.{Appends};
 ghost use Rattle.td_bytes.specs.Pieces.{AppendsPrefix};
-ghost use Rattle.transdesk.specs.Ending.{ending_of_archive, ending_of_file, ending_of_simulation, ending_of_table, ending_of_text, status_of, line_of, line_with};
+ghost use Rattle.transdesk.specs.Ending.{ending_of_archive, ending_of_file, ending_of_missing_row, ending_of_simulation, ending_of_state, ending_of_table, ending_of_text, ending_of_tracker, status_of, line_of, line_with};
 
 use crate::input_fault::InputFault;
 use crate::role::{Role, role_of_fault};
 use std::io::Write;
 use td_bytes::{TextFault, WriteFault, write_whole};
 use td_indices::ArchiveFault;
+use td_query::TrackerFault;
 use td_relation::ArchsFault;
+use td_rows::StateFault;
 use td_simulate::SimulationFault;
 
 /// How a run of the program ends.
@@ -74,6 +76,33 @@ pub fn ending_of_archive(fault: ArchiveFault) -> Ending
     match fault {
         ArchiveFault::NoMemory => Ending::NoMemory,
         fault => Ending::BadInput(role_of_fault(fault), InputFault::Archive(fault)),
+    }
+}
+
+/// How a run ends where a text is no state file.
+pub fn ending_of_state(fault: StateFault) -> Ending
+    ensures { result ≡ ending_of_state fault }
+{
+    match fault {
+        StateFault::NoMemory => Ending::NoMemory,
+        fault => Ending::BadInput(Role::State, InputFault::State(fault)),
+    }
+}
+
+/// How a run ends where a state file has a row that the archive hasn't.
+pub fn ending_of_missing_row() -> Ending
+    ensures { result ≡ ending_of_missing_row }
+{
+    Ending::BadInput(Role::State, InputFault::NoSuchRow)
+}
+
+/// How a run ends where a text is no tracker.
+pub fn ending_of_tracker(fault: TrackerFault) -> Ending
+    ensures { result ≡ ending_of_tracker fault }
+{
+    match fault {
+        TrackerFault::NoMemory => Ending::NoMemory,
+        fault => Ending::BadInput(Role::Tracker, InputFault::Tracker(fault)),
     }
 }
 

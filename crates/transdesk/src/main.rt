@@ -1,11 +1,11 @@
 //! The program: a desk for the rebuilds of a Debian transition, whose undo is proved.
 //!
-//! Start at `tool`: it does what the words ask for, over any reader, files and writers. Its two
-//! subcommands are `simulation` and `checking`. How a simulation is read and played stands in
+//! Start at `tool`: it does what the words ask for, over any reader, files and writers. Its
+//! subcommands are `simulation`, `checking`, and `tracking` for the two that read a tracker. How a simulation is read and played stands in
 //! `td_simulate`, how indices are read in `td_indices`, what the words ask for in `td_words`.
 //! Promised: what is written is the answer to what was read, and nothing where that is refused; a
 //! write that fails leaves a front of it; and the status and the line on standard error say which
-//! (`specs/Ends.antt` and `specs/Checks.antt`).
+//! (`specs/Ends.antt`, `specs/Checks.antt` and `specs/Tracks.antt`).
 #![tactic(auto)]
 
 mod checking;
@@ -18,6 +18,8 @@ mod simulation;
 mod tests;
 mod texts;
 mod tool;
+mod track_files;
+mod tracking;
 
 use std::process::ExitCode;
 use std::{env, io};
@@ -25,6 +27,7 @@ use std::{env, io};
 fn main(rt: HostRuntime) -> ExitCode {
     let words = env::args(&rt).and_then(|words| Ok(words.collect(rt.alloc())?));
     let status = tool::tool(
+        &rt,
         rt.alloc(),
         words,
         &texts::Disk(&rt),

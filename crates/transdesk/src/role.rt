@@ -14,6 +14,10 @@ pub enum Role {
     Packages,
     /// The Sources index.
     Sources,
+    /// The rows that are put in the place of others.
+    State,
+    /// The tracker.
+    Tracker,
 }
 
 impl Role {
@@ -26,6 +30,8 @@ impl Role {
             Role::Archs => "archs: ",
             Role::Packages => "packages: ",
             Role::Sources => "sources: ",
+            Role::State => "state: ",
+            Role::Tracker => "tracker: ",
         }
     }
 }

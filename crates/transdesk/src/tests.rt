@@ -80,26 +80,35 @@ impl Texts for Shelf<'_> {
 
 // What the program answers and writes, as `STATUS OUTPUT|FAULTS`.
 fn ran<R: Read>(
-    alloc: Global,
+    rt: &HostRuntime,
     line: &str,
     texts: Shelf<'_>,
     input: &mut R,
     room: usize,
 ) -> Result<String, AllocError> {
+    let alloc = rt.alloc();
     let mut output = Narrow {
         taken: Vec::new(alloc),
         room,
     };
     let mut faults: Vec<u8> = Vec::new(alloc);
     let words = words(alloc, line)?;
-    let status = tool(alloc, Ok(words), &texts, input, &mut output, &mut faults);
+    let status = tool(
+        rt,
+        alloc,
+        Ok(words),
+        &texts,
+        input,
+        &mut output,
+        &mut faults,
+    );
     let output = String::from_utf8_lossy(alloc, output.taken.as_slice())?;
     let faults = String::from_utf8_lossy(alloc, faults.as_slice())?;
     format!(in alloc; "{status} {output}|{faults}")
 }
 
-fn simulated<R: Read>(alloc: Global, input: &mut R, room: usize) -> Result<String, AllocError> {
-    ran(alloc, "transdesk simulate", Shelf(&[]), input, room)
+fn simulated<R: Read>(rt: &HostRuntime, input: &mut R, room: usize) -> Result<String, AllocError> {
+    ran(rt, "transdesk simulate", Shelf(&[]), input, room)
 }
 
 const UNDONE: &str = "\
@@ -122,13 +131,12 @@ foo/amd64 Built 0 1
 
 #[test]
 fn a_refused_step_is_answered_and_the_others_are_done(rt: HostRuntime) -> Result<(), Fail> {
-    let alloc = rt.alloc();
     for (room, told) in [
         (99, TOLD),
         (10, "5 entry 1\nre|transdesk: cannot write\n"),
         (0, "5 |transdesk: cannot write\n"),
     ] {
-        let found = simulated(alloc, &mut UNDONE.as_bytes(), room)?;
+        let found = simulated(&rt, &mut UNDONE.as_bytes(), room)?;
         assert_eq!(rt; found.as_str(), told);
     }
     Ok(())
@@ -136,7 +144,6 @@ fn a_refused_step_is_answered_and_the_others_are_done(rt: HostRuntime) -> Result
 
 #[test]
 fn an_input_that_is_refused_is_named_and_nothing_is_written(rt: HostRuntime) -> Result<(), Fail> {
-    let alloc = rt.alloc();
     for (input, told) in [
         (b"".as_slice(), "0 rows\n|"),
         (b"\xff".as_slice(), "2 |transdesk: input: NotText\n"),
@@ -155,9 +162,9 @@ fn an_input_that_is_refused_is_named_and_nothing_is_written(rt: HostRuntime) -> 
         ),
     ] {
         let mut reader = input;
-        assert_eq!(rt; simulated(alloc, &mut reader, 99)?.as_str(), told);
+        assert_eq!(rt; simulated(&rt, &mut reader, 99)?.as_str(), told);
         let mut breaking = Breaking(input);
-        let found = simulated(alloc, &mut breaking, 99)?;
+        let found = simulated(&rt, &mut breaking, 99)?;
         assert_eq!(rt; found.as_str(), "5 |transdesk: input: cannot read\n");
     }
     Ok(())
@@ -174,7 +181,7 @@ fn an_input_is_read_up_to_its_limit(rt: HostRuntime) -> Result<(), Fail> {
     ] {
         let input = vec![in alloc; byte; len]?;
         let mut reader: &[u8] = &input;
-        assert_eq!(rt; simulated(alloc, &mut reader, 99)?.as_str(), told);
+        assert_eq!(rt; simulated(&rt, &mut reader, 99)?.as_str(), told);
     }
     Ok(())
 }
@@ -197,6 +204,7 @@ fn words_that_ask_for_nothing_are_answered_on_the_faults(rt: HostRuntime) -> Res
         let mut faults: Vec<u8> = Vec::new(alloc);
         let words = words(alloc, line)?;
         let status = tool(
+            &rt,
             alloc,
             Ok(words),
             &Shelf(&[]),
@@ -221,23 +229,17 @@ const SOURCES: &str =
 
 // What the program answers and writes of these three files; a path in capitals has none.
 fn checked(
-    alloc: Global,
+    rt: &HostRuntime,
     paths: [&str; 3],
     texts: [&[u8]; 3],
     room: usize,
 ) -> Result<String, AllocError> {
     let shelf = [("a", texts[0]), ("p", texts[1]), ("s", texts[2])];
-    let line = format!(in alloc;
+    let line = format!(in rt.alloc();
         "transdesk check --archs {} --packages {} --sources {}",
         paths[0], paths[1], paths[2]
     )?;
-    ran(
-        alloc,
-        line.as_str(),
-        Shelf(&shelf),
-        &mut Breaking(b""),
-        room,
-    )
+    ran(rt, line.as_str(), Shelf(&shelf), &mut Breaking(b""), room)
 }
 
 // Standard input isn't read.
@@ -249,7 +251,7 @@ fn an_archive_is_counted(rt: HostRuntime) -> Result<(), Fail> {
         (9, "5 sources 2|transdesk: cannot write\n"),
         (0, "5 |transdesk: cannot write\n"),
     ] {
-        let found = checked(rt.alloc(), ["a", "p", "s"], texts, room)?;
+        let found = checked(&rt, ["a", "p", "s"], texts, room)?;
         assert_eq!(rt; found.as_str(), told);
     }
     Ok(())
@@ -281,7 +283,7 @@ fn the_file_that_is_refused_is_named(rt: HostRuntime) -> Result<(), Fail> {
         ),
     ] {
         let texts = [bytes_of(archs), bytes_of(packages), bytes_of(sources)];
-        let found = checked(rt.alloc(), ["a", "p", "s"], texts, 99)?;
+        let found = checked(&rt, ["a", "p", "s"], texts, 99)?;
         assert_eq!(rt; found.as_str(), told);
     }
     Ok(())
@@ -322,6 +324,7 @@ fn words_that_are_not_read_are_told(rt: HostRuntime) -> Result<(), Fail> {
         let mut output: Vec<u8> = Vec::new(rt.alloc());
         let mut faults: Vec<u8> = Vec::new(rt.alloc());
         let status = tool(
+            &rt,
             rt.alloc(),
             Err(io::Error::from(kind)),
             &Shelf(&[]),
@@ -344,7 +347,157 @@ fn a_file_that_is_missing_is_named(rt: HostRuntime) -> Result<(), Fail> {
         (["a", "P", "S"], "5 |transdesk: packages: cannot read\n"),
         (["a", "p", "S"], "5 |transdesk: sources: cannot read\n"),
     ] {
-        let found = checked(rt.alloc(), paths, [b"x", b"x", b"x"], 99)?;
+        let found = checked(&rt, paths, [b"x", b"x", b"x"], 99)?;
+        assert_eq!(rt; found.as_str(), told);
+    }
+    Ok(())
+}
+
+// examples/waves.archs, waves.packages, waves.sources and waves.tracker.
+const WAVES_ARCHS: &str = "amd64 linux amd64\n";
+
+const WAVES_PACKAGES: &str =
+    "Package: pa-bin\nSource: pa\nVersion: 1\nArchitecture: amd64\nDepends: libfoo2\n\nPackage: qb-dev\nSource: qb\nVersion: 1\nArchitecture: amd64\nDepends: libfoo1 (>= 1.0)\n\nPackage: qb-bin\nSource: qb\nVersion: 1\nArchitecture: amd64\nDepends: libfoo2\n\nPackage: rc-dev\nSource: rc\nVersion: 1\nArchitecture: amd64\nDepends: libfoo1\n\nPackage: sd-dev\nSource: sd\nVersion: 1\nArchitecture: amd64\nDepends: libfoo1 | libfoo3\n\nPackage: te\nVersion: 1\nArchitecture: amd64\nDepends: libfoo10\n";
+
+const WAVES_SOURCES: &str =
+    "Package: pa\nVersion: 1\nArchitecture: any\nBuild-Depends: qb-dev\n\nPackage: qb\nVersion: 1\nArchitecture: any\nBuild-Depends: libfoo-dev\n\nPackage: rc\nVersion: 1\nArchitecture: any\nBuild-Depends: sd-dev\n\nPackage: sd\nVersion: 1\nArchitecture: any\nBuild-Depends: rc-dev\n\nPackage: te\nVersion: 1\nArchitecture: any\n";
+
+const WAVES_TRACKER: &str =
+    "title = \"libfoo2\";\nis_affected = .depends ~ \"libfoo1\" | .depends ~ \"libfoo2\";\nis_good = .depends ~ \"libfoo2\";\nis_bad = .depends ~ \"libfoo1\";\n";
+
+// What the program answers and writes where these words follow a subcommand's name.
+fn tracked(
+    rt: &HostRuntime,
+    words: &str,
+    state: &str,
+    tracker: &str,
+) -> Result<String, AllocError> {
+    let shelf = [
+        ("a", WAVES_ARCHS.as_bytes()),
+        ("p", WAVES_PACKAGES.as_bytes()),
+        ("s", WAVES_SOURCES.as_bytes()),
+        ("r", bytes_of(state)),
+        ("t", bytes_of(tracker)),
+    ];
+    let line = format!(in rt.alloc();
+        "transdesk {words} --archs a --packages p --sources s --tracker t"
+    )?;
+    ran(rt, line.as_str(), Shelf(&shelf), &mut Breaking(b""), 999)
+}
+
+const REPORT: &str = "\
+0 tracker libfoo2
+level 1 rows 1 installed 1
+qb/amd64 partial Installed 0 0
+level 2 rows 1 installed 1
+pa/amd64 good Installed 0 0
+cyclic rows 2 installed 2
+rc/amd64 bad Installed 0 0
+sd/amd64 bad Installed 0 0
+affected 4 good 1 bad 2 partial 1 unknown 0
+|";
+
+#[test]
+fn a_report_is_the_same_in_chunks(rt: HostRuntime) -> Result<(), Fail> {
+    for words in [
+        "track",
+        "track --chunk 1",
+        "track --chunk 2",
+        "track --chunk 5",
+    ] {
+        let found = tracked(&rt, words, "", WAVES_TRACKER)?;
+        assert_eq!(rt; found.as_str(), REPORT, "{words}");
+    }
+    let found = tracked(&rt, "waves", "", WAVES_TRACKER)?;
+    assert_eq!(rt;
+        found.as_str(),
+        "0 level 1\nqb\nlevel 2\npa\ncyclic\nrc\nsd\n|"
+    );
+    Ok(())
+}
+
+const CHANGED: &str = "\
+0 tracker libfoo2
+level 1 rows 1 installed 0
+qb/amd64 partial Uploaded 7 1
+level 2 rows 1 installed 1
+pa/amd64 good Installed 0 0
+cyclic rows 2 installed 1
+rc/amd64 bad Dep-Wait -3 1
+sd/amd64 bad Installed 0 0
+affected 4 good 1 bad 2 partial 1 unknown 0
+|";
+
+// Rows are put in the place of those of the archive; one that isn't affected is not told.
+#[test]
+fn a_report_has_the_rows_of_a_state_file(rt: HostRuntime) -> Result<(), Fail> {
+    let rows = "te/amd64 Failed 0 0\nrc/amd64 Dep-Wait -3 1 : libx\nqb/amd64 Uploaded 7 1\n";
+    let found = tracked(&rt, "track --state r", rows, WAVES_TRACKER)?;
+    assert_eq!(rt; found.as_str(), CHANGED);
+    Ok(())
+}
+
+#[test]
+fn a_tracker_that_affects_nothing_has_an_empty_report(rt: HostRuntime) -> Result<(), Fail> {
+    let tracker = "title = \"T\"; is_affected = false; is_good = true; is_bad = true;";
+    let found = tracked(&rt, "track", "", tracker)?;
+    assert_eq!(rt;
+        found.as_str(),
+        "0 tracker T\naffected 0 good 0 bad 0 partial 0 unknown 0\n|"
+    );
+    let found = tracked(&rt, "waves", "", tracker)?;
+    assert_eq!(rt; found.as_str(), "0 |");
+    Ok(())
+}
+
+// The state file is looked at before the tracker, and both are read before.
+#[test]
+fn the_state_or_the_tracker_that_is_refused_is_named(rt: HostRuntime) -> Result<(), Fail> {
+    for (state, tracker, told) in [
+        ("\u{ff}", "\u{ff}", "2 |transdesk: state: NotText\n"),
+        ("x", "\u{ff}", "2 |transdesk: tracker: NotText\n"),
+        ("x", "x", "2 |transdesk: state: BadLine\n"),
+        (
+            "zz/amd64 Built 0 0\n",
+            "x",
+            "2 |transdesk: state: NoSuchRow\n",
+        ),
+        (
+            "pa/amd64 Building=1 0 0\n",
+            "x",
+            "2 |transdesk: state: NotOpening\n",
+        ),
+        (
+            "pa/amd64 Built 0 0\n",
+            "x",
+            "2 |transdesk: tracker: Syntax\n",
+        ),
+        ("", "title = \"T\";", "2 |transdesk: tracker: MissingKey\n"),
+    ] {
+        let found = tracked(&rt, "track --state r", state, tracker)?;
+        assert_eq!(rt; found.as_str(), told);
+    }
+    Ok(())
+}
+
+#[test]
+fn a_state_or_a_tracker_that_is_missing_is_named(rt: HostRuntime) -> Result<(), Fail> {
+    for (words, told) in [
+        ("track --state R", "5 |transdesk: state: cannot read\n"),
+        (
+            "track --chunk 0",
+            "3 |error: --chunk takes a number from 1 to 1000000\n",
+        ),
+        (
+            "track --chunk 1000001",
+            "3 |error: --chunk takes a number from 1 to 1000000\n",
+        ),
+        (
+            "track --chunk 01",
+            "3 |error: --chunk takes a number from 1 to 1000000\n",
+        ),
+    ] {
+        let found = tracked(&rt, words, "", WAVES_TRACKER)?;
         assert_eq!(rt; found.as_str(), told);
     }
     Ok(())

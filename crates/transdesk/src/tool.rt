@@ -1,19 +1,25 @@
-ghost use Rattle.std.specs.Prelude.{◌≡◌, ◌⊎◌, ℕ, List, map, codes, string_bytes, IsOkAnd, IfOk, IfErr};
+ghost use Rattle.std.specs.Prelude.{◌≡◌, ◌⊎◌, ℕ, List, map, option_map, codes, string_bytes, None, IsOkAnd, IfOk, IfErr};
 ghost use Rattle.std.specs.IoError.{error_kind};
 ghost use Rattle.std.specs.Io.KnownBytes.{Keeps};
-ghost use Rattle.td_words.specs.CommandLine.{AskForCheck, asking_for};
+ghost use Rattle.td_report.specs.Transition.{IsReport, IsWaves};
+ghost use Rattle.td_words.specs.CommandLine.{AskForCheck, AskForTrack, AskForWaves, TrackWords, asking_for};
 ghost use Rattle.transdesk.specs.Ends.{Ends};
 ghost use Rattle.transdesk.specs.Checks.{Checks, files_of};
 ghost use Rattle.transdesk.specs.Ran.{Ran};
-ghost use Rattle.transdesk.specs.Program.{IsTold, OnlyIfAsked, RanFor, TellsFault, TellsUnread};
+ghost use Rattle.transdesk.specs.Program.{IsTold, OnlyIfAsked, RanFor, TellsFault, TellsUnread, files_asked};
+ghost use Rattle.transdesk.specs.TrackInside.{saying_of};
+ghost use Rattle.transdesk.specs.Tracks.{EndsSo, track_files};
 
 use crate::checking::check;
 use crate::ending::Ending;
 use crate::simulation::simulate;
 use crate::texts::Texts;
+use crate::track_files::{TrackPaths, given};
+use crate::tracking::{Asked, track};
 use std::alloc::Global;
 use std::io;
 use std::io::{ErrorKind, Read, Write};
+use std::thread::Threads;
 use td_bytes::write_whole;
 use td_words::{Request, WordsFault, read_words};
 
@@ -45,8 +51,40 @@ fn tell_fault<E: Write>(fault: &WordsFault, faults: &mut E) -> u8
     }
 }
 
+// Tells what a tracker says, by the paths that the words gave.
+fn do_track<T: Texts, W: Write, E: Write>(
+    rt: &(impl Threads + Sync),
+    alloc: Global,
+    texts: &T,
+    archs: &String,
+    packages: &String,
+    sources: &String,
+    state: &Option<String>,
+    tracker: &String,
+    asked: Asked,
+    output: &mut W,
+    faults: &mut E,
+) -> u8
+    ensures { Ran (EndsSo (saying_of asked)
+        (track_files (T.bytes texts.now) (T.can_fail texts.now) (string_bytes archs.now)
+        (string_bytes packages.now) (string_bytes sources.now) (option_map string_bytes state.now)
+        (string_bytes tracker.now))
+        (W.contents output.old) (W.contents output.new))
+        (E.contents faults.old) (E.contents faults.new) result }
+{
+    let paths = TrackPaths {
+        archs: archs.as_str(),
+        packages: packages.as_str(),
+        sources: sources.as_str(),
+        state: given(state),
+        tracker: tracker.as_str(),
+    };
+    track(rt, alloc, texts, &paths, asked, output, faults)
+}
+
 // Does what was asked for.
 fn do_request<T: Texts, R: Read, W: Write, E: Write>(
+    rt: &(impl Threads + Sync),
     alloc: Global,
     request: &Request,
     texts: &T,
@@ -74,11 +112,36 @@ fn do_request<T: Texts, R: Read, W: Write, E: Write>(
             output,
             faults,
         ),
+        Request::Track {
+            archs,
+            packages,
+            sources,
+            tracker,
+            state,
+            chunk,
+        } => {
+            let asked = Asked::Report(*chunk);
+            do_track(
+                rt, alloc, texts, archs, packages, sources, state, tracker, asked, output, faults,
+            )
+        }
+        Request::Waves {
+            archs,
+            packages,
+            sources,
+            tracker,
+        } => {
+            let asked = Asked::Waves;
+            do_track(
+                rt, alloc, texts, archs, packages, sources, &None, tracker, asked, output, faults,
+            )
+        }
     }
 }
 
 // Does what the words were read as.
 fn act<T: Texts, R: Read, W: Write, E: Write>(
+    rt: &(impl Threads + Sync),
     alloc: Global,
     asked: Result<Request, WordsFault>,
     texts: &T,
@@ -95,13 +158,14 @@ fn act<T: Texts, R: Read, W: Write, E: Write>(
         (E.contents faults.old) (E.contents faults.new) result) }
 {
     match asked {
-        Ok(request) => do_request(alloc, &request, texts, reader, output, faults),
+        Ok(request) => do_request(rt, alloc, &request, texts, reader, output, faults),
         Err(fault) => tell_fault(&fault, faults),
     }
 }
 
 // Does what the words ask for.
 fn answer<T: Texts, R: Read, W: Write, E: Write>(
+    rt: &(impl Threads + Sync),
     alloc: Global,
     words: &[String],
     texts: &T,
@@ -118,12 +182,23 @@ fn answer<T: Texts, R: Read, W: Write, E: Write>(
         → Ran (Checks (files_of (T.bytes texts.now) (T.can_fail texts.now) archs packages sources)
         (W.contents output.old) (W.contents output.new))
         (E.contents faults.old) (E.contents faults.new) result }
+    ensures track { (w : TrackWords) → AskForTrack (map string_bytes words.now) w
+        → Ran (EndsSo IsReport (files_asked (T.bytes texts.now) (T.can_fail texts.now) w)
+        (W.contents output.old) (W.contents output.new))
+        (E.contents faults.old) (E.contents faults.new) result }
+    ensures waves { (archs packages sources tracker : List ℕ)
+        → AskForWaves (map string_bytes words.now) archs packages sources tracker
+        → Ran (EndsSo IsWaves
+        (track_files (T.bytes texts.now) (T.can_fail texts.now) archs packages sources None tracker)
+        (W.contents output.old) (W.contents output.new))
+        (E.contents faults.old) (E.contents faults.new) result }
     ensures others { OnlyIfAsked (map string_bytes words.now)
         (R.remaining reader.old) (T.bytes texts.now) (T.can_fail texts.now)
         (W.contents output.old) (W.contents output.new)
         (E.contents faults.old) (E.contents faults.new) result }
 {
     act(
+        rt,
         alloc,
         read_words(alloc, words),
         texts,
@@ -136,6 +211,7 @@ fn answer<T: Texts, R: Read, W: Write, E: Write>(
 /// Does what the words ask for, and answers the program's status. The first word is the program's
 /// own name. What can't be written to `faults` is left.
 pub fn tool<T: Texts, R: Read, W: Write, E: Write>(
+    rt: &(impl Threads + Sync),
     alloc: Global,
     words: io::Result<Vec<String>>,
     texts: &T,
@@ -154,6 +230,18 @@ pub fn tool<T: Texts, R: Read, W: Write, E: Write>(
         → Ran (Checks (files_of (T.bytes texts.now) (T.can_fail texts.now) archs packages sources)
         (W.contents output.old) (W.contents output.new))
         (E.contents faults.old) (E.contents faults.new) result }
+    // What asks for a report, or for waves, is answered by them.
+    ensures track { (w : TrackWords) → IsOkAnd words (λ given.
+        AskForTrack (map string_bytes given.items) w)
+        → Ran (EndsSo IsReport (files_asked (T.bytes texts.now) (T.can_fail texts.now) w)
+        (W.contents output.old) (W.contents output.new))
+        (E.contents faults.old) (E.contents faults.new) result }
+    ensures waves { (archs packages sources tracker : List ℕ) → IsOkAnd words (λ given.
+        AskForWaves (map string_bytes given.items) archs packages sources tracker)
+        → Ran (EndsSo IsWaves
+        (track_files (T.bytes texts.now) (T.can_fail texts.now) archs packages sources None tracker)
+        (W.contents output.old) (W.contents output.new))
+        (E.contents faults.old) (E.contents faults.new) result }
     // Other words are bad, unless memory runs out, and nothing is written.
     ensures others { IfOk words (λ given. OnlyIfAsked (map string_bytes given.items)
         (R.remaining reader.old) (T.bytes texts.now) (T.can_fail texts.now)
@@ -165,7 +253,7 @@ pub fn tool<T: Texts, R: Read, W: Write, E: Write>(
         × Keeps (W.contents output.old) (W.contents output.new)) }
 {
     match words {
-        Ok(words) => answer(alloc, &words, texts, reader, output, faults),
+        Ok(words) => answer(rt, alloc, &words, texts, reader, output, faults),
         Err(error) => tell_unread(&error, faults),
     }
 }

@@ -4,7 +4,7 @@ use Rattle.clap.specs.Kinds.{HasKind}
 use Rattle.clap.specs.Faults.{fault_of, is_simple_and_free}
 use Rattle.clap.specs.Simple.{HasMatchesOf, subcommand_rows_of}
 use Rattle.clap.specs.Takes.{takes}
-use Rattle.td_words.specs.CommandLine.{asked_of, name_in, rows_in, HasFiles}
+use Rattle.td_words.specs.CommandLine.{asked_of, name_in, rows_in, HasFiles, HasTrack, HasTracker}
 use Rattle.td_words.specs.Asked.{IsRequestIn, Asks}
 use Rattle.td_words.specs.declared.request.Request.TheVariants.{Simulate}
 use Rattle.td_words.specs.declared.request.WordsFault.TheVariants.{NoMemory}
@@ -28,6 +28,23 @@ returns-in-Ok-clause-check c archs packages sources asking =
     c.request_in.ensures.check archs packages sources (ap name_in rows ∙ asking.0.1)
     (subst (λ o. HasFiles (rows_in o) archs packages sources) (sym rows) asking.1)
 
+pub returns-in-Ok-clause-track : goal.returns-in-Ok-clause-track
+returns-in-Ok-clause-track c w asking =
+    let m = c.in-Ok.matches in
+    let texts = map string_bytes c.args.words.now in
+    let has = subst (λ a. HasMatchesOf a texts m) c.in_ok-command.ensures c.in-Ok.ensures.matches in
+    let rows = rows_are_asked m texts has in
+    c.request_in.ensures.track w (ap name_in rows ∙ asking.0.1) (subst (λ o. HasTrack (rows_in o) w) (sym rows) asking.1)
+
+pub returns-in-Ok-clause-waves : goal.returns-in-Ok-clause-waves
+returns-in-Ok-clause-waves c archs packages sources tracker asking =
+    let m = c.in-Ok.matches in
+    let texts = map string_bytes c.args.words.now in
+    let has = subst (λ a. HasMatchesOf a texts m) c.in_ok-command.ensures c.in-Ok.ensures.matches in
+    let rows = rows_are_asked m texts has in
+    c.request_in.ensures.waves archs packages sources tracker (ap name_in rows ∙ asking.0.1)
+    (subst (λ o. HasTracker (rows_in o) archs packages sources tracker) (sym rows) asking.1)
+
 pub returns-in-Ok-clause-only : goal.returns-in-Ok-clause-only
 returns-in-Ok-clause-only c =
     let m = c.in-Ok.matches in
@@ -43,6 +60,18 @@ returns-in-Err-clause-simulate c program words =
 
 pub returns-in-Err-clause-check : goal.returns-in-Err-clause-check
 returns-in-Err-clause-check c archs packages sources asking =
+    let texts = map string_bytes c.args.words.now in
+    let kinds = subst (λ a. is_simple_and_free a ≡ true → HasKind (fault_of a texts) c.in-Err.error) c.in_ok-command.ensures c.in-Err.ensures.kinds in
+    c.fault_of.ensures (no_kind c.in-Err.error (subst (λ k. HasKind k c.in-Err.error) asking.0.0 (kinds is_plain)))
+
+pub returns-in-Err-clause-track : goal.returns-in-Err-clause-track
+returns-in-Err-clause-track c w asking =
+    let texts = map string_bytes c.args.words.now in
+    let kinds = subst (λ a. is_simple_and_free a ≡ true → HasKind (fault_of a texts) c.in-Err.error) c.in_ok-command.ensures c.in-Err.ensures.kinds in
+    c.fault_of.ensures (no_kind c.in-Err.error (subst (λ k. HasKind k c.in-Err.error) asking.0.0 (kinds is_plain)))
+
+pub returns-in-Err-clause-waves : goal.returns-in-Err-clause-waves
+returns-in-Err-clause-waves c archs packages sources tracker asking =
     let texts = map string_bytes c.args.words.now in
     let kinds = subst (λ a. is_simple_and_free a ≡ true → HasKind (fault_of a texts) c.in-Err.error) c.in_ok-command.ensures c.in-Err.ensures.kinds in
     c.fault_of.ensures (no_kind c.in-Err.error (subst (λ k. HasKind k c.in-Err.error) asking.0.0 (kinds is_plain)))

@@ -1,0 +1,16 @@
+use Rattle.std.proofs.Common.{inl, inr, string_bytes}
+use Rattle.td_query.specs.Tracking.{tracking}
+use Rattle.transdesk.specs.TrackInside.{saying_of}
+use Rattle.transdesk.proofs.Told.{found_by_tracker, memory_alone}
+use Rattle.transdesk.proofs.tracking.tracker_text.Goals as goal
+
+pub returns-in-Ok-clause-found : goal.returns-in-Ok-clause-found
+returns-in-Ok-clause-found g c =
+    found_by_tracker (saying_of c.args.asked) c.args.archive.now c.args.rows.now c.args.tracker.now (tracking c.in-Ok.read) c.tracker_says.result c.or_no_memory.result
+    c.in-Ok.ensures.found c.tracker_says.ensures c.or_no_memory.ensures.ok c.or_no_memory.ensures.err
+
+pub returns-in-Ok-clause-refused : goal.returns-in-Ok-clause-refused
+returns-in-Ok-clause-refused g c = memory_alone _ c.tracker_says.result c.or_no_memory.result c.or_no_memory.ensures.ok c.or_no_memory.ensures.err
+
+pub returns-in-Err-clause-refused : goal.returns-in-Err-clause-refused
+returns-in-Err-clause-refused g c = inl (c.in-Err.fault, c.in-Err.ensures.fault, c.ending_of_tracker.ensures)

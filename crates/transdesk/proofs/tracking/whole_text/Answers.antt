@@ -1,0 +1,16 @@
+use Rattle.td_relation.specs.TableView.{table}
+use Rattle.transdesk.specs.TrackInside.{saying_of, texts_of}
+use Rattle.transdesk.proofs.Told.{texts_say, texts_refuse, table_bad}
+use Rattle.transdesk.proofs.tracking.whole_text.Goals as goal
+
+pub returns-in-Ok-clause-found : goal.returns-in-Ok-clause-found
+returns-in-Ok-clause-found g c =
+    texts_say (saying_of c.args.asked) (table c.in-Ok.archs) (texts_of c.args.texts.now) c.indices_text.result _ c.as_str.ensures.value c.in-Ok.ensures.found c.indices_text.ensures.found
+
+pub returns-in-Ok-clause-refused : goal.returns-in-Ok-clause-refused
+returns-in-Ok-clause-refused g c =
+    texts_refuse (table c.in-Ok.archs) (texts_of c.args.texts.now) c.indices_text.result _ c.as_str.ensures.value c.in-Ok.ensures.found c.indices_text.ensures.refused
+
+pub returns-in-Err-clause-refused : goal.returns-in-Err-clause-refused
+returns-in-Err-clause-refused g c =
+    table_bad (texts_of c.args.texts.now) c.in-Err.fault _ _ c.as_str.ensures.value c.in-Err.ensures.fault c.ending_of_table.ensures

@@ -1,0 +1,186 @@
+-- What `track` and `waves` leave on standard output, as they end. This project's own.
+use Rattle.std.specs.Prelude.{◌≡◌, ◌⊎◌, ℕ, Bool, true, List, Option, Some, None, option_map}
+use Rattle.std.specs.Io.KnownBytes.{Keeps}
+use Rattle.td_bytes.specs.declared.text.TextFault.{TextFault}
+use Rattle.td_text.specs.Lines.{lines_of}
+use Rattle.td_relation.specs.Arch.{ArchWords}
+use Rattle.td_relation.specs.TableFile.{IsTable}
+use Rattle.td_relation.specs.TableFile as table_file
+use Rattle.td_relation.specs.declared.archs.ArchsFault.{ArchsFault}
+use Rattle.td_rows.specs.Keys.{ascending}
+use Rattle.td_rows.specs.Overlay.{first_missing, overlaid}
+use Rattle.td_rows.specs.StateFile.{IsStateFile}
+use Rattle.td_rows.specs.StateFile as state_file
+use Rattle.td_rows.specs.Table.{Table, keys_of, row_of}
+use Rattle.td_rows.specs.declared.key.Key.{Key}
+use Rattle.td_rows.specs.declared.state_file.StateFault.{StateFault}
+use Rattle.td_indices.specs.Archive.{Contents}
+use Rattle.td_indices.specs.Archive as archive_file
+use Rattle.td_indices.specs.Opening.{opening_row}
+use Rattle.td_indices.specs.declared.archive_fault.ArchiveFault.{ArchiveFault}
+use Rattle.td_query.specs.TrackerFaults as tracker_file
+use Rattle.td_query.specs.Tracking.{IsTracker, Tracking}
+use Rattle.td_query.specs.declared.tracker_fault.TrackerFault.{TrackerFault}
+use Rattle.transdesk.specs.declared.role.Role.{Role}
+use Rattle.transdesk.specs.declared.role.Role.TheVariants.{Input, Archs, Packages, Sources, State, Tracker}
+use Rattle.transdesk.specs.declared.ending.Ending.{Ending}
+use Rattle.transdesk.specs.declared.ending.Ending.TheVariants.{NoMemory}
+use Rattle.transdesk.specs.Ending.{ending_of_archive, ending_of_file, ending_of_missing_row, ending_of_state, ending_of_table, ending_of_tracker}
+use Rattle.transdesk.specs.Counted.{IsArchiveOf}
+use Rattle.transdesk.specs.Checks.{AreTexts, FaultFits, Files, HasFailed, IsTextOf, files_of}
+use Rattle.transdesk.specs.CheckInside.{WritesSo}
+
+-- ---- 1. what is read
+
+-- the bytes of a file, where they are known, and for which faults a read of it may fail
+pub record OneFile : Type 0 where
+  pub known : Option (List ℕ)
+  pub can_fail : TextFault → Bool
+
+-- that of a path
+abbrev pub file_at : (List ℕ → Option (List ℕ)) → (List ℕ → TextFault → Bool) → List ℕ → OneFile
+file_at bytes can_fail path = record { known = bytes path; can_fail = can_fail path }
+
+-- the files of an archive, that of rows where one is given, and that of a tracker
+pub record TrackFiles : Type 0 where
+  pub indices : Files
+  pub state : Option OneFile
+  pub tracker : OneFile
+
+-- those of these paths
+abbrev pub track_files : (List ℕ → Option (List ℕ)) → (List ℕ → TextFault → Bool) → List ℕ → List ℕ → List ℕ → Option (List ℕ) → List ℕ → TrackFiles
+track_files bytes can_fail archs packages sources state tracker =
+    record { indices = files_of bytes can_fail archs packages sources; state = option_map (file_at bytes can_fail) state; tracker = file_at bytes can_fail tracker }
+
+-- what such files hold
+pub record Texts : Type 0 where
+  pub archs : List ℕ
+  pub packages : List ℕ
+  pub sources : List ℕ
+  pub state : Option (List ℕ)
+  pub tracker : List ℕ
+
+-- the text of a file that may be left out
+abbrev pub IsTextIfGiven : Option OneFile → Option (List ℕ) → Type 0
+IsTextIfGiven None None = Unit {0}
+IsTextIfGiven None (Some text) = ⊥
+IsTextIfGiven (Some file) None = ⊥
+IsTextIfGiven (Some file) (Some text) = IsTextOf file.known text
+
+-- the files hold these texts
+pub record AreTextsOf (files : TrackFiles) (x : Texts) : Type 0 where
+  pub indices : AreTexts files.indices x.archs x.packages x.sources
+  pub state : IsTextIfGiven files.state x.state
+  pub tracker : IsTextOf files.tracker.known x.tracker
+
+-- a read of a file may fail so
+pub record MayFail (file : OneFile) (fault : TextFault) : Type 0 where
+  pub may : file.can_fail fault ≡ true
+  pub fits : FaultFits file.known fault
+
+-- a read of the file of a role fails so, and those that are read before it are texts: first those of the archive, then the rows, then the tracker
+abbrev pub FailsAt : TrackFiles → Role → TextFault → Type 0
+FailsAt files Input fault = ⊥
+FailsAt files Archs fault = HasFailed files.indices Archs fault
+FailsAt files Packages fault = HasFailed files.indices Packages fault
+FailsAt files Sources fault = HasFailed files.indices Sources fault
+FailsAt files State fault =
+    (archs : List ℕ) × (packages : List ℕ) × (sources : List ℕ) × AreTexts files.indices archs packages sources
+    × ((file : OneFile) × (files.state ≡ Some file) × MayFail file fault)
+FailsAt files Tracker fault =
+    (archs : List ℕ) × (packages : List ℕ) × (sources : List ℕ) × AreTexts files.indices archs packages sources
+    × ((state : Option (List ℕ)) × IsTextIfGiven files.state state × MayFail files.tracker fault)
+
+-- a file isn't read, and so it ends
+abbrev pub IsUnread : TrackFiles → Ending → Type 0
+IsUnread files ending = (role : Role) × (fault : TextFault) × FailsAt files role fault × (ending ≡ ending_of_file role fault)
+
+-- ---- 2. what is found
+
+-- the rows with which a desk opens over an archive
+pub record AreOpened (c : Contents) (rows : Table) : Type 0 where
+  pub same : (k : Key) → row_of rows k ≡ opening_row c k
+  pub rising : ascending (keys_of rows) ≡ true
+
+-- the same, with those of a state file in the place of the ones of their keys, each of which has to be there
+pub record AreReplaced (c : Contents) (text : List ℕ) (rows : Table) : Type 0 where
+  pub opened : Table
+  pub are_opened : AreOpened c opened
+  pub given : Table
+  pub are_given : IsStateFile (lines_of text) given
+  pub none_missing : (k : Key) → first_missing opened given ≡ Some k → ⊥
+  pub replaced : rows ≡ overlaid given opened
+
+-- the rows that are looked at
+abbrev pub AreRowsOf : Contents → Option (List ℕ) → Table → Type 0
+AreRowsOf c None rows = AreOpened c rows
+AreRowsOf c (Some text) rows = AreReplaced c text rows
+
+-- what a tracker says over an archive and rows, as a text
+abbrev pub Saying : Type 1
+Saying = Contents → Tracking → Table → List ℕ → Type 0
+
+-- the text that a tracker says over these rows
+abbrev pub TrackerSays : Saying → Contents → Table → List ℕ → List ℕ → Type 0
+TrackerSays Says c rows tracker text = (t : Tracking) × IsTracker tracker t × Says c t rows text
+
+-- the same over the rows of an archive
+abbrev pub RowsSay : Saying → Contents → Option (List ℕ) → List ℕ → List ℕ → Type 0
+RowsSay Says c state tracker text = (rows : Table) × AreRowsOf c state rows × TrackerSays Says c rows tracker text
+
+-- the same of texts
+abbrev pub TextsSayIt : Saying → Texts → List ℕ → Type 0
+TextsSayIt Says x text = (c : Contents) × IsArchiveOf x.archs x.packages x.sources c × RowsSay Says c x.state x.tracker text
+
+-- ---- 3. what is wrong
+
+-- a text is no tracker, or `regex` refuses one of its patterns, and so it ends
+abbrev pub IsNoTracker : List ℕ → Ending → Type 0
+IsNoTracker text ending = (e : TrackerFault) × tracker_file.FaultOf text e × (ending ≡ ending_of_tracker e)
+
+-- a text is no state file
+abbrev pub IsNoState : List ℕ → Ending → Type 0
+IsNoState text ending = (e : StateFault) × state_file.FaultOf (lines_of text) e × (ending ≡ ending_of_state e)
+
+-- a state file has a row that the archive hasn't
+abbrev pub LacksRow : Contents → List ℕ → Ending → Type 0
+LacksRow c text ending =
+    (opened : Table) × AreOpened c opened × ((given : Table) × IsStateFile (lines_of text) given
+    × ((k : Key) × (first_missing opened given ≡ Some k) × (ending ≡ ending_of_missing_row)))
+
+-- a state file is refused
+abbrev pub IsStateRefused : Contents → Option (List ℕ) → Ending → Type 0
+IsStateRefused c None ending = ⊥
+IsStateRefused c (Some text) ending = IsNoState text ending ⊎ LacksRow c text ending
+
+-- what stands over an archive is refused: the rows before the tracker
+abbrev pub IsRefusedOver : Contents → Option (List ℕ) → List ℕ → Ending → Type 0
+IsRefusedOver c state tracker ending = IsStateRefused c state ending ⊎ ((rows : Table) × AreRowsOf c state rows × IsNoTracker tracker ending)
+
+-- texts are refused: the table of architectures first, then the indices, then what stands over them
+abbrev pub IsNoTable : Texts → Ending → Type 0
+IsNoTable x ending = (e : ArchsFault) × table_file.FaultOf (lines_of x.archs) e × (ending ≡ ending_of_table e)
+
+abbrev pub AreNoIndices : Texts → Ending → Type 0
+AreNoIndices x ending =
+    (t : List ArchWords) × IsTable (lines_of x.archs) t
+    × ((e : ArchiveFault) × archive_file.FaultOf t (lines_of x.packages) (lines_of x.sources) e × (ending ≡ ending_of_archive e))
+
+abbrev pub AreRefused : Texts → Ending → Type 0
+AreRefused x ending =
+    IsNoTable x ending
+    ⊎ (AreNoIndices x ending
+    ⊎ ((c : Contents) × IsArchiveOf x.archs x.packages x.sources c × IsRefusedOver c x.state x.tracker ending))
+
+-- ---- 4. how it ends
+
+-- texts were read: they are refused and nothing is written, or what they say is, whole, or a front of it where the writer failed
+abbrev pub TextsEndSo : Saying → Texts → Option (List ℕ) → Option (List ℕ) → Ending → Type 0
+TextsEndSo Says x old new ending = (AreRefused x ending × Keeps old new) ⊎ ((text : List ℕ) × TextsSayIt Says x text × WritesSo text old new ending)
+
+-- memory runs out, or a file isn't read, and nothing is written; or the texts end it
+abbrev pub EndsSo : Saying → TrackFiles → Option (List ℕ) → Option (List ℕ) → Ending → Type 0
+EndsSo Says files old new ending =
+    ((ending ≡ NoMemory) × Keeps old new)
+    ⊎ ((IsUnread files ending × Keeps old new)
+    ⊎ ((x : Texts) × AreTextsOf files x × TextsEndSo Says x old new ending))
