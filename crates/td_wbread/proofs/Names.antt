@@ -1,5 +1,5 @@
 -- The rows that a command names, by what it holds.
-use Rattle.std.proofs.Common.{◌≡◌, ◌∙◌, ℕ, List, ◌&&◌, Option, Some, None, refl, sym, ap, string_bytes}
+use Rattle.std.proofs.Common.{◌≡◌, ◌∙◌, ℕ, List, ◌&&◌, Option, Some, None, is_none, refl, sym, ap, string_bytes}
 use Rattle.std.specs.List.{list_any}
 use Rattle.std.specs.Option.{option_map, unwrap_or}
 use Rattle.std.specs.Borrow.{Bor}
@@ -11,7 +11,7 @@ use Rattle.td_version.specs.Version.{Parts}
 use Rattle.td_version.proofs.Rebuilds.{found_some, found_none, same_rebuild}
 use Rattle.td_wbread.specs.declared.command.Command.{Command}
 use Rattle.td_wbread.specs.declared.command.Package.{Package}
-use Rattle.td_wbread.specs.Naming.{is_matched, split_of, version_matches}
+use Rattle.td_wbread.specs.Naming.{is_bare, is_matched, split_of, version_matches}
 use Rattle.td_wbread.specs.Packages.{PackageText}
 use Rattle.td_wbread.specs.Views.{package_of, parts_of}
 
@@ -34,3 +34,6 @@ has_arch c arch = sym (list_any-map (λ (a : List ℕ). bytes_eq a arch) (λ (a 
 
 pub has_package : (c : Command) (source : List ℕ) (version : Parts) (number : ℕ) → list_any (λ (p : Package). bytes_eq (string_bytes p.source) source && version_matches version number (option_map string_bytes p.version)) c.packages.items ≡ is_matched (parts_of c) source version number
 has_package c source version number = sym (list_any-map (λ (p : PackageText). bytes_eq p.source source && version_matches version number p.version) package_of c.packages.items)
+
+pub has_bare : (c : Command) (source : List ℕ) → list_any (λ (p : Package). bytes_eq (string_bytes p.source) source && is_none (option_map string_bytes p.version)) c.packages.items ≡ is_bare (parts_of c) source
+has_bare c source = sym (list_any-map (λ (p : PackageText). bytes_eq p.source source && is_none p.version) package_of c.packages.items)

@@ -1,5 +1,5 @@
 -- The rows that a command names, and where a row's version matches. This project's own, in the style of wanna-build.
-use Rattle.std.specs.Prelude.{ℕ, ◌==◌, ◌&&◌, ◌||◌, Bool, true, false, List, Option, Some, None, unwrap_or, Result, Ok, Err}
+use Rattle.std.specs.Prelude.{ℕ, ◌==◌, ◌&&◌, ◌||◌, Bool, true, false, List, Option, Some, None, is_none, unwrap_or, Result, Ok, Err}
 use Rattle.std.specs.List.{list_any}
 use Rattle.std.specs.Str.{bytes_eq}
 use Rattle.td_version.specs.Order.{same_version}
@@ -40,3 +40,8 @@ version_matches version number (Some text) = is_rebuild_of version number (split
 -- given are the source, its version, and the row's number
 abbrev pub is_matched : CommandParts → List ℕ → Parts → ℕ → Bool
 is_matched c source version number = list_any (λ p. bytes_eq p.source source && version_matches version number p.version) c.packages
+
+-- some package word has the source, without a version: such a word names the source's rows whatever
+-- their version
+abbrev pub is_bare : CommandParts → List ℕ → Bool
+is_bare c source = list_any (λ p. bytes_eq p.source source && is_none p.version) c.packages

@@ -5,7 +5,7 @@ ghost use Rattle.std.specs.Str.{bytes_eq};
 ghost use Rattle.td_version.specs.Reading.{parts_read, reading};
 ghost use Rattle.td_version.specs.Version.{parts_of as version_of};
 ghost use Rattle.td_wbread.specs.Naming.{is_base as is_base_of, is_numbered as is_numbered_of, is_rebuild_of, split_of, version_matches as version_matches_of};
-ghost use Rattle.td_wbread.specs.inner.Places.{is_matching};
+ghost use Rattle.td_wbread.specs.inner.Places.{is_matching, is_without_version};
 
 use crate::command::{Command, Package};
 use crate::package_reading::read_version;
@@ -86,6 +86,23 @@ fn has_match(
         .any(|place| matches_at(packages, *place, version, number))
 }
 
+/// Whether there is a package at a place, without a version.
+fn is_bare_at(packages: &[Package], place: usize) -> bool
+    ensures { result ≡ is_without_version (slice_get packages.now place) }
+{
+    match package_at(packages, place) {
+        Some(package) => package.version.is_none(),
+        None => false,
+    }
+}
+
+/// Whether some package at these places has no version.
+fn has_bare(packages: &[Package], places: &[usize]) -> bool
+    ensures { result ≡ list_any (λ place. is_without_version (slice_get packages.now place)) places.now }
+{
+    places.iter().any(|place| is_bare_at(packages, *place))
+}
+
 fn has_arch(archs: &[&str], arch: &str) -> bool
     ensures { result ≡ list_any (λ a. bytes_eq a.now arch.now) archs.now }
 {
@@ -95,7 +112,7 @@ fn has_arch(archs: &[&str], arch: &str) -> bool
 impl Command<'_> {
     ghost use Rattle.std.specs.Prelude.{◌≡◌};
     ghost use Rattle.td_version.specs.Version.{parts_of as version_of};
-    ghost use Rattle.td_wbread.specs.Naming.{is_matched as is_matched_of, is_named as is_named_of};
+    ghost use Rattle.td_wbread.specs.Naming.{is_bare as is_bare_of, is_matched as is_matched_of, is_named as is_named_of};
     ghost use Rattle.td_wbread.specs.Views.{parts_of};
 
     /// Whether it names the row of a source on an architecture, if there is one.
@@ -116,5 +133,12 @@ impl Command<'_> {
             version,
             number,
         )
+    }
+
+    /// Whether some package of it is the source without a version, so that any version matches.
+    pub fn is_bare(&self, source: &str) -> bool
+        ensures { result ≡ is_bare_of (parts_of self.now) source.now }
+    {
+        has_bare(self.packages.as_slice(), self.places.of(source))
     }
 }

@@ -1,7 +1,7 @@
 -- Where the packages of a command stand, found by their source. This project's own.
 use mathlib.Core.Bool.{Bool-set}
 use mathlib.Core.HLevel.{Π_prop}
-use Rattle.std.specs.Prelude.{◌≡◌, ℕ, ◌&&◌, Bool, false, List, [], Option, Some, slice_get, string_bytes}
+use Rattle.std.specs.Prelude.{◌≡◌, ℕ, ◌&&◌, Bool, false, List, [], Option, Some, is_none, slice_get, string_bytes}
 use Rattle.std.specs.HashMap.{get_by_text}
 use Rattle.std.specs.List.{list_any}
 use Rattle.std.specs.Option.{option_map, option_map_or}
@@ -27,3 +27,7 @@ FindsPackages-prop packages places = Π_prop λ source. Π_prop λ test. Bool-se
 -- there is a package, and its version matches
 abbrev pub is_matching : Parts → ℕ → Option Package → Bool
 is_matching version number found = option_map_or (λ p. version_matches version number (option_map string_bytes p.version)) found false
+
+-- there is a package, and it has no version
+abbrev pub is_without_version : Option Package → Bool
+is_without_version found = option_map_or (λ p. is_none (option_map string_bytes p.version)) found false
