@@ -17,20 +17,19 @@ use Rattle.td_rows.proofs.Keys.{key_total, same_key-true, same_key-refl, same_ke
 use Rattle.td_rows.proofs.Tables.{names-push}
 use Rattle.td_change.proofs.Numbers.{names-below, is_some-row_of}
 use Rattle.td_core.proofs.Taking.{passes-filter, names-filter, ascending-filter}
-use Rattle.std.specs.Prelude.{string_bytes}
+use Rattle.std.specs.Prelude.{Some, string_bytes}
+use Rattle.std.specs.Option.{option_and_then}
+use Rattle.std.specs.Result.{result_ok}
 use Rattle.std.specs.Borrow.{Bor}
-use Rattle.std.specs.Prelude.{Result, Ok, Err, IfOk, IfErr}
-use Rattle.td_version.specs.declared.version.Version.{Version}
-use Rattle.td_version.specs.declared.version.VersionFault.{VersionFault}
-use Rattle.td_version.specs.Faults.{IsFirstFault}
-use Rattle.td_version.specs.Grammar.{IsVersion}
-use Rattle.td_version.specs.Reading.{parts_read, reading}
-use Rattle.td_version.specs.Version.{parts_of as version_of}
-use Rattle.td_version.proofs.Outcomes.{read_only, read_refused}
+use Rattle.td_version.specs.Reading.{reading}
+use Rattle.td_version.specs.Version.{Parts}
+use Rattle.td_version.proofs.Outcomes.{read_only}
+use Rattle.td_supply.specs.Supply.{SupplyView}
+use Rattle.td_supply.specs.VersionTexts.{HasVersion}
 use Rattle.td_wbread.specs.declared.command.Command.{Command}
 use Rattle.td_wbread.specs.Naming.{is_named}
 use Rattle.td_wbread.specs.Views.{package_of, parts_of}
-use Rattle.td_book.specs.Naming.{Adds}
+use Rattle.td_book.specs.Naming.{Adds, version_in}
 
 -- ---- 1. lists of keys that rise
 
@@ -237,7 +236,7 @@ named_same command source arch = λ j. sym (any_map package_of (λ p. bytes_eq p
 pub adds_same : (t : Table) (old new : List Key) (p q : Key → Bool) → ((k : Key) → p k ≡ q k) → Adds t old new p → Adds t old new q
 adds_same t old new p q same adds = λ k. adds k ∙ ap (λ b. names old k || (b && is_some (row_of t k))) (same k)
 
--- what a version's reader answers
-pub read_is : (text : List ℕ) (r : Result Version VersionFault) → IfOk r (λ version. IsVersion text (version_of version)) → IfErr r (λ fault. IsFirstFault text fault) → parts_read r ≡ reading text
-read_is text (Ok version) found fault = sym (read_only text (version_of version) found)
-read_is text (Err e) found fault = sym (read_refused text e fault)
+-- the parts of a source's version are those that its text is read as
+pub version_is : (s : SupplyView) (source : List ℕ) (version : Option Parts) → HasVersion s source version → version ≡ version_in s source
+version_is s source None has = sym (ap (option_and_then (λ text. result_ok (reading text))) has)
+version_is s source (Some parts) has = sym (ap (option_and_then (λ text. result_ok (reading text))) has.1 ∙ ap result_ok (read_only has.0 parts has.2))

@@ -1,7 +1,7 @@
 -- The rows that a command names, those of them whose version matches, and the kind of its entry. This project's own, in the style of wanna-build.
-use Rattle.std.specs.Prelude.{◌≡◌, ℕ, Bool, false, ◌&&◌, ◌||◌, List, Option, Some, None, Result, Ok, Err, is_some, is_none, filter}
-use Rattle.std.specs.List.{list_any}
-use Rattle.std.specs.Str.{bytes_eq}
+use Rattle.std.specs.Prelude.{◌≡◌, ℕ, Bool, false, ◌&&◌, ◌||◌, List, Option, Some, None, is_some, filter}
+use Rattle.std.specs.Option.{option_and_then}
+use Rattle.std.specs.Result.{result_ok}
 use Rattle.td_rows.specs.declared.key.Key.{Key}
 use Rattle.td_rows.specs.declared.kind.Kind.{Kind}
 use Rattle.td_rows.specs.declared.kind.Kind.TheVariants as kinds
@@ -10,11 +10,10 @@ use Rattle.td_rows.specs.Table.{Table, row_of, keys_of}
 use Rattle.td_supply.specs.Supply.{SupplyView, version_of}
 use Rattle.td_version.specs.Reading.{reading}
 use Rattle.td_version.specs.Version.{Parts}
-use Rattle.td_version.specs.declared.version.VersionFault.{VersionFault}
 use Rattle.td_wbread.specs.declared.command.Verb.{Verb}
 use Rattle.td_wbread.specs.declared.command.Verb.TheVariants.{Gb, Nmu, Bp, Dw}
 use Rattle.td_wbread.specs.Command.{CommandParts}
-use Rattle.td_wbread.specs.Naming.{is_named, is_matched}
+use Rattle.td_wbread.specs.Naming.{is_named, is_matched, is_bare}
 
 -- ---- 1. the rows that are named
 
@@ -28,21 +27,17 @@ Adds t old new p = (k : Key) → names new k ≡ (names old k || (p k && is_some
 
 -- ---- 2. their versions
 
--- a source without a version that can be read matches where some package word has it without a version
-abbrev pub is_bare : CommandParts → List ℕ → Bool
-is_bare c source = list_any (λ p. bytes_eq p.source source && is_none p.version) c.packages
+-- the version of a source by its parts, none where the supply has none; each that it has can be read
+abbrev pub version_in : SupplyView → List ℕ → Option Parts
+version_in s source = option_and_then (λ text. result_ok (reading text)) (version_of s source)
 
-abbrev pub is_matched_by : CommandParts → List ℕ → ℕ → Result Parts VersionFault → Bool
-is_matched_by c source number (Ok version) = is_matched c source version number
-is_matched_by c source number (Err fault) = is_bare c source
-
--- whether the version of a row matches: its source's, as it is written in the archive, and the row's number
-abbrev pub is_matched_as : CommandParts → List ℕ → ℕ → Option (List ℕ) → Bool
-is_matched_as c source number (Some text) = is_matched_by c source number (reading text)
+-- whether the version of a row matches: its source's, and the row's number; a source without a version matches where some package word has it without a version
+abbrev pub is_matched_as : CommandParts → List ℕ → ℕ → Option Parts → Bool
+is_matched_as c source number (Some version) = is_matched c source version number
 is_matched_as c source number None = is_bare c source
 
 abbrev pub is_matched_at : CommandParts → SupplyView → Table → Key → Bool
-is_matched_at c s t k = elim (row_of t k) [ Some row ↦ is_matched_as c k.source row.number (version_of s k.source) | None ↦ false ]
+is_matched_at c s t k = elim (row_of t k) [ Some row ↦ is_matched_as c k.source row.number (version_in s k.source) | None ↦ false ]
 
 -- ---- 3. the kind
 

@@ -1,19 +1,19 @@
 //! The rows that a command names, and those of them whose version matches.
-ghost use Rattle.std.specs.Prelude.{◌≡◌, ◌&&◌, ◌||◌, [], false, true, IfOk, OnOk, filter, is_some, is_none, map, option_map, string_bytes, if◌then◌else◌};
+ghost use Rattle.std.specs.Prelude.{◌≡◌, ◌&&◌, ◌||◌, [], false, true, IfOk, OnOk, filter, is_some, map, option_map, string_bytes, if◌then◌else◌};
 ghost use Rattle.std.specs.List.{list_any};
 ghost use Rattle.std.specs.Str.{bytes_eq};
 ghost use Rattle.td_rows.specs.Keys.{ascending, names};
 ghost use Rattle.td_rows.specs.Table.{keys_of, row_of};
-ghost use Rattle.td_version.specs.Reading.{parts_read, reading};
+ghost use Rattle.td_version.specs.Version.{parts_of as version_of};
 ghost use Rattle.td_wbread.specs.Views.{package_of, parts_of};
-ghost use Rattle.td_book.specs.Naming.{Adds, is_bare as is_bare_in, is_matched_as, is_matched_at, is_matched_by, kind_of as kind_in, named_in};
+ghost use Rattle.td_book.specs.Naming.{Adds, is_matched_as, is_matched_at, kind_of as kind_in, named_in, version_in as version_in_supply};
 ghost use Rattle.td_book.specs.Skips.{doubt};
 
 use crate::skips::{Skip, SkipReason};
 use std::alloc::{AllocError, Global};
 use td_rows::{Key, Kind, RebuildNumber, Rows, State};
 use td_supply::Supply;
-use td_version::{Version, VersionFault};
+use td_version::Version;
 use td_wbread::{Command, Package, Verb};
 
 // Adds the key of a source on an architecture, if it has a row.
@@ -85,50 +85,26 @@ pub(crate) fn named(
     Ok(named)
 }
 
-fn has_bare(packages: &[Package], source: &str) -> bool
-    ensures { result ≡ list_any (λ p. bytes_eq (string_bytes p.source) source.now && is_none (option_map string_bytes p.version)) packages.now }
-{
-    packages
-        .iter()
-        .any(|p| p.source.as_str() == source && p.version.is_none())
-}
-
-// Whether a package of the command has the source's name, without a version.
-fn is_bare(command: &Command<'_>, source: &str) -> bool
-    ensures { result ≡ is_bare_in (parts_of command.now) source.now }
-{
-    has_bare(command.packages.as_slice(), source)
-}
-
-fn read_version(text: &str) -> Result<Version<'_>, VersionFault>
-    ensures { parts_read result ≡ reading text.now }
-{
-    Version::read(text)
-}
-
-// Whether a row matches whose source's version is written so.
-fn matches_text(command: &Command<'_>, source: &str, number: RebuildNumber, text: &str) -> bool
-    ensures { result ≡ is_matched_by (parts_of command.now) source.now number (reading text.now) }
-{
-    match read_version(text) {
-        Ok(version) => command.is_matched(source, &version, number),
-        Err(_) => is_bare(command, source),
-    }
-}
-
-// Whether the version of a row matches, given how the archive writes its source's version.
+// Whether the version of a row matches, given its source's version, where the archive has one.
 fn matches_as(
     command: &Command<'_>,
     source: &str,
     number: RebuildNumber,
-    version: Option<&str>,
+    version: Option<Version<'_>>,
 ) -> bool
-    ensures { result ≡ is_matched_as (parts_of command.now) source.now number (option_map (λ text. text.now) version.entry) }
+    ensures { result ≡ is_matched_as (parts_of command.now) source.now number (option_map version_of version.entry) }
 {
     match version {
-        None => is_bare(command, source),
-        Some(text) => matches_text(command, source, number, text),
+        Some(version) => command.is_matched(source, &version, number),
+        None => command.is_bare(source),
     }
+}
+
+// The version of a source by its parts, where the archive has one.
+fn version_in<'a>(supply: &Supply<'a>, source: &str) -> Option<Version<'a>>
+    ensures { option_map version_of result ≡ version_in_supply supply.now source.now }
+{
+    supply.version_parts(source)
 }
 
 // Whether the version of the key's row matches.
@@ -140,7 +116,7 @@ fn matches(command: &Command<'_>, supply: &Supply<'_>, rows: &Rows, key: &Key) -
             command,
             key.source(),
             row.number,
-            supply.version(key.source()),
+            version_in(supply, key.source()),
         ),
         None => false,
     }
