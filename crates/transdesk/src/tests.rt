@@ -7,6 +7,7 @@ use std::alloc::{AllocError, Global};
 use std::io;
 use std::io::{ErrorKind, Read, Write};
 use std::test::Fail;
+use std::thread::Threads;
 use td_bytes::{TextFault, read_text};
 
 // Takes three bytes a call, and fails once its room is used up.
@@ -80,13 +81,13 @@ impl Texts for Shelf<'_> {
 
 // What the program answers and writes, as `STATUS OUTPUT|FAULTS`.
 fn ran<R: Read>(
-    rt: &HostRuntime,
+    rt: &(impl Threads + Sync),
+    alloc: Global,
     line: &str,
     texts: Shelf<'_>,
     input: &mut R,
     room: usize,
 ) -> Result<String, AllocError> {
-    let alloc = rt.alloc();
     let mut output = Narrow {
         taken: Vec::new(alloc),
         room,
@@ -107,8 +108,13 @@ fn ran<R: Read>(
     format!(in alloc; "{status} {output}|{faults}")
 }
 
-fn simulated<R: Read>(rt: &HostRuntime, input: &mut R, room: usize) -> Result<String, AllocError> {
-    ran(rt, "transdesk simulate", Shelf(&[]), input, room)
+fn simulated<R: Read>(
+    rt: &(impl Threads + Sync),
+    alloc: Global,
+    input: &mut R,
+    room: usize,
+) -> Result<String, AllocError> {
+    ran(rt, alloc, "transdesk simulate", Shelf(&[]), input, room)
 }
 
 const UNDONE: &str = "\
@@ -136,7 +142,7 @@ fn a_refused_step_is_answered_and_the_others_are_done(rt: HostRuntime) -> Result
         (10, "5 entry 1\nre|transdesk: cannot write\n"),
         (0, "5 |transdesk: cannot write\n"),
     ] {
-        let found = simulated(&rt, &mut UNDONE.as_bytes(), room)?;
+        let found = simulated(&rt, rt.alloc(), &mut UNDONE.as_bytes(), room)?;
         assert_eq!(rt; found.as_str(), told);
     }
     Ok(())
@@ -162,9 +168,9 @@ fn an_input_that_is_refused_is_named_and_nothing_is_written(rt: HostRuntime) -> 
         ),
     ] {
         let mut reader = input;
-        assert_eq!(rt; simulated(&rt, &mut reader, 99)?.as_str(), told);
+        assert_eq!(rt; simulated(&rt, rt.alloc(), &mut reader, 99)?.as_str(), told);
         let mut breaking = Breaking(input);
-        let found = simulated(&rt, &mut breaking, 99)?;
+        let found = simulated(&rt, rt.alloc(), &mut breaking, 99)?;
         assert_eq!(rt; found.as_str(), "5 |transdesk: input: cannot read\n");
     }
     Ok(())
@@ -181,7 +187,7 @@ fn an_input_is_read_up_to_its_limit(rt: HostRuntime) -> Result<(), Fail> {
     ] {
         let input = vec![in alloc; byte; len]?;
         let mut reader: &[u8] = &input;
-        assert_eq!(rt; simulated(&rt, &mut reader, 99)?.as_str(), told);
+        assert_eq!(rt; simulated(&rt, rt.alloc(), &mut reader, 99)?.as_str(), told);
     }
     Ok(())
 }
@@ -229,17 +235,25 @@ const SOURCES: &str =
 
 // What the program answers and writes of these three files; a path in capitals has none.
 fn checked(
-    rt: &HostRuntime,
+    rt: &(impl Threads + Sync),
+    alloc: Global,
     paths: [&str; 3],
     texts: [&[u8]; 3],
     room: usize,
 ) -> Result<String, AllocError> {
     let shelf = [("a", texts[0]), ("p", texts[1]), ("s", texts[2])];
-    let line = format!(in rt.alloc();
+    let line = format!(in alloc;
         "transdesk check --archs {} --packages {} --sources {}",
         paths[0], paths[1], paths[2]
     )?;
-    ran(rt, line.as_str(), Shelf(&shelf), &mut Breaking(b""), room)
+    ran(
+        rt,
+        alloc,
+        line.as_str(),
+        Shelf(&shelf),
+        &mut Breaking(b""),
+        room,
+    )
 }
 
 // Standard input isn't read.
@@ -251,7 +265,7 @@ fn an_archive_is_counted(rt: HostRuntime) -> Result<(), Fail> {
         (9, "5 sources 2|transdesk: cannot write\n"),
         (0, "5 |transdesk: cannot write\n"),
     ] {
-        let found = checked(&rt, ["a", "p", "s"], texts, room)?;
+        let found = checked(&rt, rt.alloc(), ["a", "p", "s"], texts, room)?;
         assert_eq!(rt; found.as_str(), told);
     }
     Ok(())
@@ -283,7 +297,7 @@ fn the_file_that_is_refused_is_named(rt: HostRuntime) -> Result<(), Fail> {
         ),
     ] {
         let texts = [bytes_of(archs), bytes_of(packages), bytes_of(sources)];
-        let found = checked(&rt, ["a", "p", "s"], texts, 99)?;
+        let found = checked(&rt, rt.alloc(), ["a", "p", "s"], texts, 99)?;
         assert_eq!(rt; found.as_str(), told);
     }
     Ok(())
@@ -347,7 +361,7 @@ fn a_file_that_is_missing_is_named(rt: HostRuntime) -> Result<(), Fail> {
         (["a", "P", "S"], "5 |transdesk: packages: cannot read\n"),
         (["a", "p", "S"], "5 |transdesk: sources: cannot read\n"),
     ] {
-        let found = checked(&rt, paths, [b"x", b"x", b"x"], 99)?;
+        let found = checked(&rt, rt.alloc(), paths, [b"x", b"x", b"x"], 99)?;
         assert_eq!(rt; found.as_str(), told);
     }
     Ok(())
@@ -367,7 +381,8 @@ const WAVES_TRACKER: &str =
 
 // What the program answers and writes where these words follow a subcommand's name.
 fn tracked(
-    rt: &HostRuntime,
+    rt: &(impl Threads + Sync),
+    alloc: Global,
     words: &str,
     state: &str,
     tracker: &str,
@@ -379,10 +394,17 @@ fn tracked(
         ("r", bytes_of(state)),
         ("t", bytes_of(tracker)),
     ];
-    let line = format!(in rt.alloc();
+    let line = format!(in alloc;
         "transdesk {words} --archs a --packages p --sources s --tracker t"
     )?;
-    ran(rt, line.as_str(), Shelf(&shelf), &mut Breaking(b""), 999)
+    ran(
+        rt,
+        alloc,
+        line.as_str(),
+        Shelf(&shelf),
+        &mut Breaking(b""),
+        999,
+    )
 }
 
 const REPORT: &str = "\
@@ -405,10 +427,10 @@ fn a_report_is_the_same_in_chunks(rt: HostRuntime) -> Result<(), Fail> {
         "track --chunk 2",
         "track --chunk 5",
     ] {
-        let found = tracked(&rt, words, "", WAVES_TRACKER)?;
+        let found = tracked(&rt, rt.alloc(), words, "", WAVES_TRACKER)?;
         assert_eq!(rt; found.as_str(), REPORT, "{words}");
     }
-    let found = tracked(&rt, "waves", "", WAVES_TRACKER)?;
+    let found = tracked(&rt, rt.alloc(), "waves", "", WAVES_TRACKER)?;
     assert_eq!(rt;
         found.as_str(),
         "0 level 1\nqb\nlevel 2\npa\ncyclic\nrc\nsd\n|"
@@ -432,7 +454,7 @@ affected 4 good 1 bad 2 partial 1 unknown 0
 #[test]
 fn a_report_has_the_rows_of_a_state_file(rt: HostRuntime) -> Result<(), Fail> {
     let rows = "te/amd64 Failed 0 0\nrc/amd64 Dep-Wait -3 1 : libx\nqb/amd64 Uploaded 7 1\n";
-    let found = tracked(&rt, "track --state r", rows, WAVES_TRACKER)?;
+    let found = tracked(&rt, rt.alloc(), "track --state r", rows, WAVES_TRACKER)?;
     assert_eq!(rt; found.as_str(), CHANGED);
     Ok(())
 }
@@ -440,12 +462,12 @@ fn a_report_has_the_rows_of_a_state_file(rt: HostRuntime) -> Result<(), Fail> {
 #[test]
 fn a_tracker_that_affects_nothing_has_an_empty_report(rt: HostRuntime) -> Result<(), Fail> {
     let tracker = "title = \"T\"; is_affected = false; is_good = true; is_bad = true;";
-    let found = tracked(&rt, "track", "", tracker)?;
+    let found = tracked(&rt, rt.alloc(), "track", "", tracker)?;
     assert_eq!(rt;
         found.as_str(),
         "0 tracker T\naffected 0 good 0 bad 0 partial 0 unknown 0\n|"
     );
-    let found = tracked(&rt, "waves", "", tracker)?;
+    let found = tracked(&rt, rt.alloc(), "waves", "", tracker)?;
     assert_eq!(rt; found.as_str(), "0 |");
     Ok(())
 }
@@ -474,7 +496,7 @@ fn the_state_or_the_tracker_that_is_refused_is_named(rt: HostRuntime) -> Result<
         ),
         ("", "title = \"T\";", "2 |transdesk: tracker: MissingKey\n"),
     ] {
-        let found = tracked(&rt, "track --state r", state, tracker)?;
+        let found = tracked(&rt, rt.alloc(), "track --state r", state, tracker)?;
         assert_eq!(rt; found.as_str(), told);
     }
     Ok(())
@@ -497,7 +519,7 @@ fn a_state_or_a_tracker_that_is_missing_is_named(rt: HostRuntime) -> Result<(), 
             "3 |error: --chunk takes a number from 1 to 1000000\n",
         ),
     ] {
-        let found = tracked(&rt, words, "", WAVES_TRACKER)?;
+        let found = tracked(&rt, rt.alloc(), words, "", WAVES_TRACKER)?;
         assert_eq!(rt; found.as_str(), told);
     }
     Ok(())
