@@ -380,12 +380,12 @@ const WAVES_TRACKER: &str =
     "title = \"libfoo2\";\nis_affected = .depends ~ \"libfoo1\" | .depends ~ \"libfoo2\";\nis_good = .depends ~ \"libfoo2\";\nis_bad = .depends ~ \"libfoo1\";\n";
 
 // What the program answers and writes where these words follow a subcommand's name.
-fn tracked(
+fn tracked<'a>(
     rt: &(impl Threads + Sync),
     alloc: Global,
     words: &str,
-    state: &str,
-    tracker: &str,
+    state: &'a str,
+    tracker: &'a str,
 ) -> Result<String, AllocError> {
     let shelf = [
         ("a", WAVES_ARCHS.as_bytes()),
