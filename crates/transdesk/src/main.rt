@@ -19,6 +19,8 @@ mod tests;
 mod texts;
 mod tool;
 mod track_files;
+#[cfg(test)]
+mod track_tests;
 mod tracking;
 
 use std::process::ExitCode;

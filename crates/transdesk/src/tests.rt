@@ -37,7 +37,7 @@ impl Write for Narrow {
 
 // Gives some bytes, and then fails.
 #[derive(Drop)]
-struct Breaking<'a>(&'a [u8]);
+pub struct Breaking<'a>(pub &'a [u8]);
 
 impl Read for Breaking<'_> {
     fn read(&mut self, buffer: &mut [u8]) -> io::Result<usize> {
@@ -61,7 +61,7 @@ fn words(alloc: Global, line: &str) -> Result<Vec<String>, AllocError> {
 
 // Files in memory: their paths, and their bytes.
 #[derive(Clone, Copy, Drop)]
-struct Shelf<'a>(&'a [(&'a str, &'a [u8])]);
+pub struct Shelf<'a>(pub &'a [(&'a str, &'a [u8])]);
 
 impl Texts for Shelf<'_> {
     ghost bytes = { λ _ _. None };
@@ -80,7 +80,7 @@ impl Texts for Shelf<'_> {
 }
 
 // What the program answers and writes, as `STATUS OUTPUT|FAULTS`.
-fn ran<R: Read>(
+pub fn ran<R: Read>(
     rt: &(impl Threads + Sync),
     alloc: Global,
     line: &str,
@@ -303,7 +303,7 @@ fn the_file_that_is_refused_is_named(rt: HostRuntime) -> Result<(), Fail> {
     Ok(())
 }
 
-fn bytes_of(text: &str) -> &[u8] {
+pub fn bytes_of(text: &str) -> &[u8] {
     if text == "\u{ff}" {
         b"\xff"
     } else {
@@ -362,164 +362,6 @@ fn a_file_that_is_missing_is_named(rt: HostRuntime) -> Result<(), Fail> {
         (["a", "p", "S"], "5 |transdesk: sources: cannot read\n"),
     ] {
         let found = checked(&rt, rt.alloc(), paths, [b"x", b"x", b"x"], 99)?;
-        assert_eq!(rt; found.as_str(), told);
-    }
-    Ok(())
-}
-
-// examples/waves.archs, waves.packages, waves.sources and waves.tracker.
-const WAVES_ARCHS: &str = "amd64 linux amd64\n";
-
-const WAVES_PACKAGES: &str =
-    "Package: pa-bin\nSource: pa\nVersion: 1\nArchitecture: amd64\nDepends: libfoo2\n\nPackage: qb-dev\nSource: qb\nVersion: 1\nArchitecture: amd64\nDepends: libfoo1 (>= 1.0)\n\nPackage: qb-bin\nSource: qb\nVersion: 1\nArchitecture: amd64\nDepends: libfoo2\n\nPackage: rc-dev\nSource: rc\nVersion: 1\nArchitecture: amd64\nDepends: libfoo1\n\nPackage: sd-dev\nSource: sd\nVersion: 1\nArchitecture: amd64\nDepends: libfoo1 | libfoo3\n\nPackage: te\nVersion: 1\nArchitecture: amd64\nDepends: libfoo10\n";
-
-const WAVES_SOURCES: &str =
-    "Package: pa\nVersion: 1\nArchitecture: any\nBuild-Depends: qb-dev\n\nPackage: qb\nVersion: 1\nArchitecture: any\nBuild-Depends: libfoo-dev\n\nPackage: rc\nVersion: 1\nArchitecture: any\nBuild-Depends: sd-dev\n\nPackage: sd\nVersion: 1\nArchitecture: any\nBuild-Depends: rc-dev\n\nPackage: te\nVersion: 1\nArchitecture: any\n";
-
-const WAVES_TRACKER: &str =
-    "title = \"libfoo2\";\nis_affected = .depends ~ \"libfoo1\" | .depends ~ \"libfoo2\";\nis_good = .depends ~ \"libfoo2\";\nis_bad = .depends ~ \"libfoo1\";\n";
-
-// What the program answers and writes where these words follow a subcommand's name.
-fn tracked<'a>(
-    rt: &(impl Threads + Sync),
-    alloc: Global,
-    words: &str,
-    state: &'a str,
-    tracker: &'a str,
-) -> Result<String, AllocError> {
-    let shelf = [
-        ("a", WAVES_ARCHS.as_bytes()),
-        ("p", WAVES_PACKAGES.as_bytes()),
-        ("s", WAVES_SOURCES.as_bytes()),
-        ("r", bytes_of(state)),
-        ("t", bytes_of(tracker)),
-    ];
-    let line = format!(in alloc;
-        "transdesk {words} --archs a --packages p --sources s --tracker t"
-    )?;
-    ran(
-        rt,
-        alloc,
-        line.as_str(),
-        Shelf(&shelf),
-        &mut Breaking(b""),
-        999,
-    )
-}
-
-const REPORT: &str = "\
-0 tracker libfoo2
-level 1 rows 1 installed 1
-qb/amd64 partial Installed 0 0
-level 2 rows 1 installed 1
-pa/amd64 good Installed 0 0
-cyclic rows 2 installed 2
-rc/amd64 bad Installed 0 0
-sd/amd64 bad Installed 0 0
-affected 4 good 1 bad 2 partial 1 unknown 0
-|";
-
-#[test]
-fn a_report_is_the_same_in_chunks(rt: HostRuntime) -> Result<(), Fail> {
-    for words in [
-        "track",
-        "track --chunk 1",
-        "track --chunk 2",
-        "track --chunk 5",
-    ] {
-        let found = tracked(&rt, rt.alloc(), words, "", WAVES_TRACKER)?;
-        assert_eq!(rt; found.as_str(), REPORT, "{words}");
-    }
-    let found = tracked(&rt, rt.alloc(), "waves", "", WAVES_TRACKER)?;
-    assert_eq!(rt;
-        found.as_str(),
-        "0 level 1\nqb\nlevel 2\npa\ncyclic\nrc\nsd\n|"
-    );
-    Ok(())
-}
-
-const CHANGED: &str = "\
-0 tracker libfoo2
-level 1 rows 1 installed 0
-qb/amd64 partial Uploaded 7 1
-level 2 rows 1 installed 1
-pa/amd64 good Installed 0 0
-cyclic rows 2 installed 1
-rc/amd64 bad Dep-Wait -3 1
-sd/amd64 bad Installed 0 0
-affected 4 good 1 bad 2 partial 1 unknown 0
-|";
-
-// Rows are put in the place of those of the archive; one that isn't affected is not told.
-#[test]
-fn a_report_has_the_rows_of_a_state_file(rt: HostRuntime) -> Result<(), Fail> {
-    let rows = "te/amd64 Failed 0 0\nrc/amd64 Dep-Wait -3 1 : libx\nqb/amd64 Uploaded 7 1\n";
-    let found = tracked(&rt, rt.alloc(), "track --state r", rows, WAVES_TRACKER)?;
-    assert_eq!(rt; found.as_str(), CHANGED);
-    Ok(())
-}
-
-#[test]
-fn a_tracker_that_affects_nothing_has_an_empty_report(rt: HostRuntime) -> Result<(), Fail> {
-    let tracker = "title = \"T\"; is_affected = false; is_good = true; is_bad = true;";
-    let found = tracked(&rt, rt.alloc(), "track", "", tracker)?;
-    assert_eq!(rt;
-        found.as_str(),
-        "0 tracker T\naffected 0 good 0 bad 0 partial 0 unknown 0\n|"
-    );
-    let found = tracked(&rt, rt.alloc(), "waves", "", tracker)?;
-    assert_eq!(rt; found.as_str(), "0 |");
-    Ok(())
-}
-
-// The state file is looked at before the tracker, and both are read before.
-#[test]
-fn the_state_or_the_tracker_that_is_refused_is_named(rt: HostRuntime) -> Result<(), Fail> {
-    for (state, tracker, told) in [
-        ("\u{ff}", "\u{ff}", "2 |transdesk: state: NotText\n"),
-        ("x", "\u{ff}", "2 |transdesk: tracker: NotText\n"),
-        ("x", "x", "2 |transdesk: state: BadLine\n"),
-        (
-            "zz/amd64 Built 0 0\n",
-            "x",
-            "2 |transdesk: state: NoSuchRow\n",
-        ),
-        (
-            "pa/amd64 Building=1 0 0\n",
-            "x",
-            "2 |transdesk: state: NotOpening\n",
-        ),
-        (
-            "pa/amd64 Built 0 0\n",
-            "x",
-            "2 |transdesk: tracker: Syntax\n",
-        ),
-        ("", "title = \"T\";", "2 |transdesk: tracker: MissingKey\n"),
-    ] {
-        let found = tracked(&rt, rt.alloc(), "track --state r", state, tracker)?;
-        assert_eq!(rt; found.as_str(), told);
-    }
-    Ok(())
-}
-
-#[test]
-fn a_state_or_a_tracker_that_is_missing_is_named(rt: HostRuntime) -> Result<(), Fail> {
-    for (words, told) in [
-        ("track --state R", "5 |transdesk: state: cannot read\n"),
-        (
-            "track --chunk 0",
-            "3 |error: --chunk takes a number from 1 to 1000000\n",
-        ),
-        (
-            "track --chunk 1000001",
-            "3 |error: --chunk takes a number from 1 to 1000000\n",
-        ),
-        (
-            "track --chunk 01",
-            "3 |error: --chunk takes a number from 1 to 1000000\n",
-        ),
-    ] {
-        let found = tracked(&rt, rt.alloc(), words, "", WAVES_TRACKER)?;
         assert_eq!(rt; found.as_str(), told);
     }
     Ok(())
