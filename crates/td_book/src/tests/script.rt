@@ -32,6 +32,7 @@ fn supply(alloc: Global) -> Result<Supply<'static>, Fail>
     ensures { IfOk result (λ supply. supply ≡ opened (stock_of supply)) }
 {
     let base = Version::read("2.0-1")?;
+    let _read = Version::read("1.2-3")?;
     let build = Some(Build {
         source: "bar",
         base,
