@@ -15,7 +15,7 @@ use Rattle.td_rows.specs.KeyText.{key_text, KeyFits, key_at}
 use Rattle.td_rows.specs.StateWord.{state_word, StateFits, state_at}
 use Rattle.td_rows.specs.Notes.{notes}
 use Rattle.td_rows.specs.RowLine.{row_words, row_line, RowFits}
-use Rattle.td_rows.specs.RowReading.{row_at}
+use Rattle.td_rows.specs.RowReading.{row_line_at}
 use Rattle.td_rows.proofs.KeyTexts.{key_exact, key_lacks_space}
 use Rattle.td_rows.proofs.StateWords.{state_exact, state_lacks_space}
 use Rattle.td_rows.proofs.NoteTexts.{notes_exact, notes_begin}
@@ -26,8 +26,8 @@ tail_joined d f g n w h1 h2 h3 = cc
 line_joined : (t a b k d x y z : List ℕ) → t ≡ a ++ 32 ∷ b → b ≡ k ++ 32 ∷ d → d ≡ x ++ 32 ∷ y → y ≡ z → t ≡ a ++ 32 ∷ (k ++ 32 ∷ (x ++ 32 ∷ z))
 line_joined t a b k d x y z h1 h2 h3 h4 = cc
 
-row_found : (t : List ℕ) (p : Key × Row) → row_at t ≡ Some p → (t ≡ row_line p) × RowFits p
-unfolding row_at
+row_found : (t : List ℕ) (p : Key × Row) → row_line_at t ≡ Some p → (t ≡ row_line p) × RowFits p
+unfolding row_line_at
 row_found t p e =
     let a = chained _ _ _ e in
     let key = chained _ _ _ a.2 in
@@ -46,8 +46,8 @@ row_found t p e =
     subst (λ (y : Key × Row). (t ≡ row_line y) × RowFits y) (some_is _ p texts.2)
     (line_joined _ _ _ _ _ _ _ _ k.0 s.0 u.0 rest, record { key = k.1; state = s.1; priority = u.1; number = n.1; texts = x.1 })
 
-row_again : (p : Key × Row) → RowFits p → row_at (row_line p) ≡ Some p
-unfolding row_at
+row_again : (p : Key × Row) → RowFits p → row_line_at (row_line p) ≡ Some p
+unfolding row_line_at
 row_again p h =
     let row = p.1 in
     let texts = notes (row.extra, row.dep_wait) in
@@ -63,5 +63,5 @@ row_again p h =
       notes_exact.again (row.extra, row.dep_wait) h.texts,
     ) refl
 
-pub row_exact : Exact row_at row_line RowFits
+pub row_exact : Exact row_line_at row_line RowFits
 row_exact = record { found = row_found; again = row_again }

@@ -25,7 +25,7 @@ use Rattle.td_rows.specs.StateWord.{state_word}
 use Rattle.td_rows.specs.KeyText.{key_text}
 use Rattle.td_rows.specs.Notes.{extra_part, text_part, notes}
 use Rattle.td_rows.specs.RowLine.{row_words, row_line, RowFits}
-use Rattle.td_rows.specs.RowReading.{row_at}
+use Rattle.td_rows.specs.RowReading.{row_line_at}
 use Rattle.td_rows.specs.StateFile.{is_filled, Opens, Fresh, AreLinesOf, IsStateFile, IsFaulty, IsFirstFault, FaultOf}
 use Rattle.td_rows.specs.StateReading.{add_row, state_step, Fails}
 use Rattle.td_rows.proofs.Lookups.{lookup-row_of}
@@ -50,7 +50,7 @@ row_of-unnamed t k h = by (row_of t k) (sym (names-row_of t k) ∙ h)
 -- ---- a line that is read
 
 -- what was added is a row that the line spells
-added : (n : ℕ) (seen more : Table) (line : List ℕ) (o : Option (Key × Row)) → row_at line ≡ o → add_row n seen o ≡ Ok more
+added : (n : ℕ) (seen more : Table) (line : List ℕ) (o : Option (Key × Row)) → row_line_at line ≡ o → add_row n seen o ≡ Ok more
     → (p : Key × Row) × (more ≡ seen ++ p ∷ []) × (line ≡ row_line p) × Opens p × (names (keys_of seen) p.0 ≡ false) × (length seen ≢ 1048576)
 added n seen more line None is e = absurd cc
 added n seen more line (Some p) is e =
@@ -68,9 +68,9 @@ rows_found n seen total ([] ∷ lines) few e =
     let h = rows_found (n + 1) seen total lines few e in
     (h.0, h.1, record { spelled = h.2.spelled; opening = h.2.opening; fresh = h.2.fresh; limited = h.2.limited })
 rows_found n seen total ((x ∷ line) ∷ lines) few e =
-    let q : on_ok (add_row n seen (row_at (x ∷ line))) (λ more. over_lines state_step (n + 1) more lines) ≡ Ok total = sym (rw (ne_eqb (suc (length line)) 0 (λ z. omega arith)) refl) ∙ e in
+    let q : on_ok (add_row n seen (row_line_at (x ∷ line))) (λ more. over_lines state_step (n + 1) more lines) ≡ Ok total = sym (rw (ne_eqb (suc (length line)) 0 (λ z. omega arith)) refl) ∙ e in
     let a = on_ok_parts _ _ _ q in
-    let r = added n seen a.0 (x ∷ line) (row_at (x ∷ line)) refl a.1 in
+    let r = added n seen a.0 (x ∷ line) (row_line_at (x ∷ line)) refl a.1 in
     let below : length a.0 ≤ 1048576 = (let other = r.5 in omega (arith, ap length r.1, length-append seen (r.0 ∷ []))) in
     let h = rows_found (n + 1) a.0 total lines below a.2 in
     let fresh : Fresh (seen ++ r.0 ∷ []) h.0 = subst (λ (l : Table). Fresh l h.0) r.1 h.2.fresh in
@@ -81,9 +81,9 @@ rows_found n seen total ((x ∷ line) ∷ lines) few e =
     )
 
 -- the row of a line that is one is added
-add_row-again : (n : ℕ) (seen : Table) (p : Key × Row) → Opens p → names (keys_of seen) p.0 ≡ false → length (seen ++ p ∷ []) ≤ 1048576 → add_row n seen (row_at (row_line p)) ≡ Ok (seen ++ p ∷ [])
+add_row-again : (n : ℕ) (seen : Table) (p : Key × Row) → Opens p → names (keys_of seen) p.0 ≡ false → length (seen ++ p ∷ []) ≤ 1048576 → add_row n seen (row_line_at (row_line p)) ≡ Ok (seen ++ p ∷ [])
 add_row-again n seen p opens fresh few =
-    let read : row_at (row_line p) ≡ Some p = row_exact.again p opens.fits in
+    let read : row_line_at (row_line p) ≡ Some p = row_exact.again p opens.fits in
     let free = opens.free in
     let below : eqb (length seen) 1048576 ≡ false = ne_eqb (length seen) 1048576 (λ e. omega (arith, length-append seen (p ∷ []))) in
     rw (read, fresh, free, below) refl
@@ -101,7 +101,7 @@ rows_again n seen (r ∷ rows) ((x ∷ line) ∷ lines) h =
     let is : x ∷ line ≡ row_line r = (let s = h.spelled in cc) in
     let rest : filter is_filled lines ≡ map row_line rows = (let s = h.spelled in cc) in
     let some : eqb (suc (length line)) 0 ≡ false = ne_eqb (suc (length line)) 0 (λ z. omega arith) in
-    let step : add_row n seen (row_at (x ∷ line)) ≡ Ok (seen ++ r ∷ []) = ap (λ (l : List ℕ). add_row n seen (row_at l)) is ∙ add_row-again n seen r h.opening.0 h.fresh.0 (few_before seen r rows h.limited) in
+    let step : add_row n seen (row_line_at (x ∷ line)) ≡ Ok (seen ++ r ∷ []) = ap (λ (l : List ℕ). add_row n seen (row_line_at l)) is ∙ add_row-again n seen r h.opening.0 h.fresh.0 (few_before seen r rows h.limited) in
     let joined = append_assoc seen (r ∷ []) rows in
     rw (some, step) (rows_again (n + 1) (seen ++ r ∷ []) rows lines (record { spelled = rest; opening = h.opening.1; fresh = h.fresh.1; limited = subst (λ (t : Table). length t ≤ 1048576) (sym joined) h.limited }) ∙ ap Ok joined)
 
@@ -127,7 +127,7 @@ text_lacks : (t : List ℕ) → Without 10 (text_part t) → has_newline t ≡ f
 text_lacks [] w = refl
 text_lacks (x ∷ t) w = has_newline-Without (x ∷ t) (Without-right 10 (codes " : ") (x ∷ t) w)
 
-pub line_lacks_newlines : (line : List ℕ) (p : Key × Row) → Without 10 line → Some p ≡ row_at line → LacksNewlines p
+pub line_lacks_newlines : (line : List ℕ) (p : Key × Row) → Without 10 line → Some p ≡ row_line_at line → LacksNewlines p
 line_lacks_newlines line p w is =
     let f = row_exact.found line p (sym is) in
     let whole : Without 10 (row_line p) = subst (λ (t : List ℕ). Without 10 t) f.0 w in
@@ -146,17 +146,17 @@ line_lacks_newlines line p w is =
 pub names-contains : (t : Table) (k : Key) (b : Bool) → b ≡ is_some (lookup (same_key k) t) → names (keys_of t) k ≡ b
 names-contains t k b is = names-row_of t k ∙ ap is_some (sym (lookup-row_of k t)) ∙ sym is
 
-module _ (n : ℕ) (seen : Table) (line : List ℕ) (p : Key × Row) (is : Some p ≡ row_at line) where
-  pub add_row-twice : names (keys_of seen) p.0 ≡ true → add_row n seen (row_at line) ≡ Err (Twice n)
+module _ (n : ℕ) (seen : Table) (line : List ℕ) (p : Key × Row) (is : Some p ≡ row_line_at line) where
+  pub add_row-twice : names (keys_of seen) p.0 ≡ true → add_row n seen (row_line_at line) ≡ Err (Twice n)
   add_row-twice h = rw (← is, h) refl
 
-  pub add_row-building : names (keys_of seen) p.0 ≡ false → is_building p.1.state ≡ true → add_row n seen (row_at line) ≡ Err (NotOpening n)
+  pub add_row-building : names (keys_of seen) p.0 ≡ false → is_building p.1.state ≡ true → add_row n seen (row_line_at line) ≡ Err (NotOpening n)
   add_row-building h b = rw (← is, h, b) refl
 
-  pub add_row-many : names (keys_of seen) p.0 ≡ false → is_building p.1.state ≡ false → length seen ≡ 1048576 → add_row n seen (row_at line) ≡ Err TooManyRows
+  pub add_row-many : names (keys_of seen) p.0 ≡ false → is_building p.1.state ≡ false → length seen ≡ 1048576 → add_row n seen (row_line_at line) ≡ Err TooManyRows
   add_row-many h b many = let full : eqb (length seen) 1048576 ≡ true = eq-eqb (length seen) 1048576 many in rw (← is, h, b, full) refl
 
-  pub add_row-ok : (q : Key × Row) → q ≡ p → names (keys_of seen) p.0 ≡ false → is_building p.1.state ≡ false → length seen ≢ 1048576 → add_row n seen (row_at line) ≡ Ok (seen ++ q ∷ [])
+  pub add_row-ok : (q : Key × Row) → q ≡ p → names (keys_of seen) p.0 ≡ false → is_building p.1.state ≡ false → length seen ≢ 1048576 → add_row n seen (row_line_at line) ≡ Ok (seen ++ q ∷ [])
   add_row-ok q same h b few = let below : eqb (length seen) 1048576 ≡ false = ne_eqb (length seen) 1048576 few in rw (← is, h, b, below) (ap (λ (x : Key × Row). Ok (seen ++ x ∷ [])) (sym same))
 
 -- ---- the loop over lines
@@ -164,12 +164,12 @@ module _ (n : ℕ) (seen : Table) (line : List ℕ) (p : Key × Row) (is : Some 
 pub state_step-empty : (n : ℕ) (seen : Table) (line : List ℕ) → eqb (length line) 0 ≡ true → state_step n seen line ≡ Ok seen
 state_step-empty n seen line h = rw h refl
 
-pub state_step-filled : (n : ℕ) (seen : Table) (line : List ℕ) → eqb (length line) 0 ≡ false → state_step n seen line ≡ add_row n seen (row_at line)
+pub state_step-filled : (n : ℕ) (seen : Table) (line : List ℕ) → eqb (length line) 0 ≡ false → state_step n seen line ≡ add_row n seen (row_line_at line)
 state_step-filled n seen line h = rw h refl
 
 -- a fault at a line is that of all lines
 pub Fails-over_lines : (e : StateFault) (n : ℕ) (seen : Table) (line : List ℕ) (after : List (List ℕ)) (total : Result Table StateFault)
-    → eqb (length line) 0 ≡ false → Fails e (add_row n seen (row_at line)) → over_lines state_step n seen (line ∷ after) ≡ total → Fails e total
+    → eqb (length line) 0 ≡ false → Fails e (add_row n seen (row_line_at line)) → over_lines state_step n seen (line ∷ after) ≡ total → Fails e total
 Fails-over_lines NoMemory n seen line after total filled f h = tt
 Fails-over_lines (BadLine k) n seen line after total filled f h = fails state_step n seen line after total (BadLine k) (state_step-filled n seen line filled ∙ f) h
 Fails-over_lines (Twice k) n seen line after total filled f h = fails state_step n seen line after total (Twice k) (state_step-filled n seen line filled ∙ f) h
@@ -200,15 +200,15 @@ IsStateFile-read lines t TooManyRows is f = absurd (let r = rows_again 1 [] is.r
 
 -- ---- the first fault
 
-filled-step : (n : ℕ) (seen : Table) (line : List ℕ) (e : StateFault) → state_step n seen line ≡ Err e → (is_filled line ≡ true) × (add_row n seen (row_at line) ≡ Err e)
+filled-step : (n : ℕ) (seen : Table) (line : List ℕ) (e : StateFault) → state_step n seen line ≡ Err e → (is_filled line ≡ true) × (add_row n seen (row_line_at line) ≡ Err e)
 filled-step n seen [] e h = absurd cc
 filled-step n seen (x ∷ line) e h = (refl, sym (state_step-filled n seen (x ∷ line) (ne_eqb (suc (length line)) 0 (λ z. omega arith))) ∙ h)
 
 -- the line with a fault, in the words of the grammar
-faulty : (n : ℕ) (seen : Table) (line : List ℕ) (e : StateFault) (o : Option (Key × Row)) → row_at line ≡ o → add_row n seen o ≡ Err e → IsFaulty seen n line e
+faulty : (n : ℕ) (seen : Table) (line : List ℕ) (e : StateFault) (o : Option (Key × Row)) → row_line_at line ≡ o → add_row n seen o ≡ Err e → IsFaulty seen n line e
 faulty n seen line e None is h =
     let what : BadLine n ≡ e = cc in
-    subst (λ (x : StateFault). IsFaulty seen n line x) what (refl, λ p fits spelled. (let read : row_at line ≡ Some p = ap row_at spelled ∙ row_exact.again p fits in let bad : None ≡ Some p = sym is ∙ read in cc))
+    subst (λ (x : StateFault). IsFaulty seen n line x) what (refl, λ p fits spelled. (let read : row_line_at line ≡ Some p = ap row_line_at spelled ∙ row_exact.again p fits in let bad : None ≡ Some p = sym is ∙ read in cc))
 faulty n seen line e (Some p) is h = named (names (keys_of seen) p.0) refl h
   where
     found : (line ≡ row_line p) × RowFits p
@@ -244,7 +244,7 @@ first_of lines e h =
       seen = f.so_far;
       fine = AreLinesOf-state_rows f.before f.so_far f.fine;
       filled = step.0;
-      faulty = faulty (1 + length f.before) f.so_far f.line e (row_at f.line) refl step.1;
+      faulty = faulty (1 + length f.before) f.so_far f.line e (row_line_at f.line) refl step.1;
     }
 
 -- a fault of the reading is that of the first faulty line

@@ -10,8 +10,8 @@ use Rattle.td_rows.specs.StateWord.{state_at}
 use Rattle.td_rows.specs.Notes.{notes_at}
 
 -- the key and the row whose line it is
-unfoldable pub row_at : List ℕ → Option (Key × Row)
-row_at line = do
+unfoldable pub row_line_at : List ℕ → Option (Key × Row)
+row_line_at line = do
   a ← cut 32 line
   key ← key_at a.0
   b ← cut 32 a.1

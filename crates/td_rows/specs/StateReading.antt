@@ -8,7 +8,7 @@ use Rattle.td_rows.specs.declared.state_file.StateFault.TheVariants.{BadLine, Tw
 use Rattle.td_rows.specs.Keys.{names}
 use Rattle.td_rows.specs.States.{is_building}
 use Rattle.td_rows.specs.Table.{Table, keys_of}
-use Rattle.td_rows.specs.RowReading.{row_at}
+use Rattle.td_rows.specs.RowReading.{row_line_at}
 
 -- the rows seen and the row of a line, if it is one
 abbrev pub add_row : ℕ → Table → Option (Key × Row) → Result Table StateFault
@@ -20,7 +20,7 @@ add_row number seen (Some p) =
 
 -- the rows seen with a line
 abbrev pub state_step : ℕ → Table → List ℕ → Result Table StateFault
-state_step number seen line = if length line == 0 then Ok seen else add_row number seen (row_at line)
+state_step number seen line = if length line == 0 then Ok seen else add_row number seen (row_line_at line)
 
 -- the rows of a text, in the order of its lines
 abbrev pub state_rows : List ℕ → Result Table StateFault

@@ -5,7 +5,7 @@ ghost use Rattle.td_text.specs.Numbers.{number_at, signed_at};
 ghost use Rattle.td_rows.specs.Appending.{Grown};
 ghost use Rattle.td_rows.specs.Notes.{notes};
 ghost use Rattle.td_rows.specs.RowLine.{row_line, row_words};
-ghost use Rattle.td_rows.specs.RowReading.{row_at};
+ghost use Rattle.td_rows.specs.RowReading.{row_line_at};
 
 use crate::key::Key;
 use crate::key_text::{put_key, read_key};
@@ -47,13 +47,13 @@ fn read_number(text: &str) -> Option<RebuildNumber>
 impl<'a> RowText<'a> {
     ghost use Rattle.std.specs.Prelude.{◌≡◌, false, IfOk, option_map};
     ghost use Rattle.td_rows.specs.Text.{has_newline};
-    ghost use Rattle.td_rows.specs.RowReading.{row_at};
+    ghost use Rattle.td_rows.specs.RowReading.{row_line_at};
     ghost use Rattle.td_rows.specs.RowText.{row_of_text};
 
     /// The row whose line it is.
-    #[tactic(auto, unfolding(crate::specs::RowReading::row_at))]
+    #[tactic(auto, unfolding(crate::specs::RowReading::row_line_at))]
     pub fn read(line: &'a str) -> Option<RowText<'a>>
-        ensures { option_map row_of_text result ≡ row_at line.now }
+        ensures { option_map row_of_text result ≡ row_line_at line.now }
     {
         let (key, rest) = cut_at(line, ' ')?;
         let (source, arch) = read_key(key)?;

@@ -3,7 +3,7 @@ ghost use Rattle.td_text.specs.Cut.{Without};
 ghost use Rattle.td_text.specs.Lines.{lines_of};
 ghost use Rattle.td_rows.specs.Keys.{ascending, same_key};
 ghost use Rattle.td_rows.specs.Table.{Table, row_of, keys_of};
-ghost use Rattle.td_rows.specs.RowReading.{row_at};
+ghost use Rattle.td_rows.specs.RowReading.{row_line_at};
 ghost use Rattle.td_rows.specs.StateReading.{add_row, state_rows, Fails};
 ghost use Rattle.td_rows.specs.StateFile.{IsStateFile, FaultOf};
 ghost use Rattle.indexmap.specs.IndexMap.{IsUnique};
@@ -37,9 +37,9 @@ fn opening_row(
     line: &str,
 ) -> Result<(Key, Row), StateFault>
     requires { Without 10 line.now }
-    ensures ok { IfOk result (λ p. add_row number rows.now.entries (row_at line.now) ≡ Ok (rows.now.entries ++ p ∷ [])) }
+    ensures ok { IfOk result (λ p. add_row number rows.now.entries (row_line_at line.now) ≡ Ok (rows.now.entries ++ p ∷ [])) }
     ensures fresh { IfOk result (λ p. row_of rows.now.entries p.0 ≡ None) }
-    ensures err { IfErr result (λ e. Fails e (add_row number rows.now.entries (row_at line.now))) }
+    ensures err { IfErr result (λ e. Fails e (add_row number rows.now.entries (row_line_at line.now))) }
 {
     let Some(text) = RowText::read(line) else {
         return Err(StateFault::BadLine(number));
