@@ -10,7 +10,8 @@ use Rattle.td_rows.specs.Keys.{same_key, names, ascending}
 use Rattle.td_rows.specs.Table.{Table, row_of, keys_of, each_row, at_key, changed_at}
 use Rattle.td_rows.proofs.Keys.{same_key-true, same_key-refl}
 use Rattle.td_rows.proofs.Tables.{each_row-each_row, each_row-alike, each_row-itself, keys_of-each_row}
-use Rattle.td_change.specs.Saved.{place_of, number_of, row_at, kept_of, HaveRows, given_back}
+use Rattle.td_rows.specs.GivenBack.{row_at, given_back}
+use Rattle.td_change.specs.Saved.{place_of, number_of, kept_of, HaveRows}
 use Rattle.td_change.specs.Inside.{put_back}
 use Rattle.td_change.proofs.Numbers.{is_some-row_of, changed_at-number_of, HaveRows-rest}
 

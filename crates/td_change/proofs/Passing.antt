@@ -11,7 +11,7 @@ use Rattle.td_rows.specs.Meaning.{applies, means}
 use Rattle.td_rows.specs.Table.{Table, row_of, meant, applied, fits}
 use Rattle.td_rows.proofs.CellLaws.{restore-means, means-restore, applies-restore, Disjoint-written}
 use Rattle.td_rows.proofs.Tables.{row_of-each_row, each_row-each_row, each_row-alike, each_row-itself, each_row-agree}
-use Rattle.td_change.specs.Saved.{row_at, given_back}
+use Rattle.td_rows.specs.GivenBack.{row_at, given_back}
 use Rattle.td_change.specs.Laws.{Steps, after, Lawful, Untouched, BackAtOnce, BackPastOthers, LawfulWithout}
 
 pub back_at_once : BackAtOnce

@@ -6,7 +6,7 @@ use Rattle.td_rows.specs.Cells.{Disjoint}
 use Rattle.td_rows.specs.Keys.{names, ascending}
 use Rattle.td_rows.specs.Kinds.{cells, written}
 use Rattle.td_rows.specs.Table.{Table, keys_of, applied, AppliesOn}
-use Rattle.td_change.specs.Saved.{given_back}
+use Rattle.td_rows.specs.GivenBack.{given_back}
 
 -- kinds with the keys on which each is journalled, in order
 abbrev pub Steps : Type 0

@@ -4,7 +4,8 @@ ghost use Rattle.td_rows.specs.declared.kind.Kind.{Kind as KindValue};
 ghost use Rattle.td_rows.specs.Keys.{ascending};
 ghost use Rattle.td_rows.specs.Kinds.{written};
 ghost use Rattle.td_rows.specs.Table.{Table, keys_of, applied, AppliesOn};
-ghost use Rattle.td_change.specs.Saved.{saved, given_back, HaveRows};
+ghost use Rattle.td_rows.specs.GivenBack.{given_back};
+ghost use Rattle.td_change.specs.Saved.{saved, HaveRows};
 ghost use Rattle.td_change.specs.Inside.{put_back};
 
 use crate::plan::Plan;

@@ -24,7 +24,8 @@ use Rattle.td_journal.specs.declared.entry.Entry.{Entry}
 use Rattle.td_journal.specs.declared.entry.Marked.{Marked}
 use Rattle.td_journal.specs.Entries.{standing, standing_entry, is_standing}
 use Rattle.td_journal.specs.Replay.{replay, row_after, Lawful}
-use Rattle.td_journal.specs.Undo.{rows_before, row_at}
+use Rattle.td_rows.specs.GivenBack.{row_at}
+use Rattle.td_journal.specs.Undo.{rows_before}
 use Rattle.td_journal.specs.IsKeys.{IsKeys}
 use Rattle.td_journal.specs.Journaled.{EachHasKeys}
 use Rattle.td_journal.proofs.Agreeing.{EachHasKeys-push, EachHasKeys-undone_at}

@@ -12,6 +12,7 @@ pub mod Meaning
 pub mod Table
 pub mod Moves
 pub mod Kept
+pub mod GivenBack
 pub mod Overlay
 pub mod Laws
 pub mod KeyRefs
