@@ -16,11 +16,10 @@ use Rattle.td_version.specs.Version.{Parts}
 use Rattle.td_version.specs.declared.version.VersionFault.{VersionFault}
 use Rattle.td_version.proofs.Outcomes.{read_found, read_only}
 use Rattle.td_relation.specs.Arch.{ArchWords}
-use Rattle.td_relation.specs.ArchList.{is_space}
+use Rattle.td_text.specs.Runs.{is_space, run, behind, is_blank}
 use Rattle.td_relation.specs.RelationGrammar.{is_version_byte}
-use Rattle.td_relation.specs.Runs.{run, behind, is_blank}
-use Rattle.td_relation.proofs.Blanks.{Stops-back}
-use Rattle.td_relation.proofs.RunTexts.{NoSpace, behind_again, run_again}
+use Rattle.td_text.proofs.Blanks.{Stops-back}
+use Rattle.td_text.proofs.RunTexts.{NoSpace, behind_again, run_again}
 use Rattle.td_relation.proofs.VersionBytes.{version_bytes}
 use Rattle.td_indices.specs.declared.archive_fault.EntryFault.{EntryFault}
 use Rattle.td_indices.specs.declared.archive_fault.EntryFault.TheVariants.{Missing, BadVersion}

@@ -8,7 +8,7 @@ use Rattle.td_text.specs.Words.{is_name, is_name_byte}
 use Rattle.td_stanza.specs.Field.{Entry}
 use Rattle.td_version.specs.Version.{Parts, parts_of}
 use Rattle.td_relation.specs.Arch.{ArchWords}
-use Rattle.td_relation.specs.Runs.{run, behind, is_blank}
+use Rattle.td_text.specs.Runs.{run, behind, is_blank}
 use Rattle.td_relation.specs.Table.{place_of}
 use Rattle.td_indices.specs.declared.archive_fault.IndexField.TheVariants.{Package, Version, Architecture, Source}
 use Rattle.td_indices.specs.declared.archive_fault.EntryFault.{EntryFault}

@@ -11,7 +11,7 @@ use Rattle.td_version.specs.declared.version.VersionFault.{VersionFault}
 use Rattle.td_relation.specs.Asked.{Asked}
 use Rattle.td_relation.specs.Members.{members}
 use Rattle.td_relation.specs.RelationGrammar.{relation_at}
-use Rattle.td_relation.specs.Runs.{is_blank}
+use Rattle.td_text.specs.Runs.{is_blank}
 use Rattle.td_relation.specs.declared.relation.Relation.{Relation}
 use Rattle.td_relation.specs.declared.relation_fault.RelationFault.{RelationFault}
 use Rattle.td_indices.specs.declared.archive_fault.IndexField.{IndexField}

@@ -6,7 +6,7 @@ use Rattle.td_version.specs.Grammar.{IsVersion}
 use Rattle.td_version.specs.Version.{Parts}
 use Rattle.td_relation.specs.Arch.{ArchWords}
 use Rattle.td_relation.specs.Asked.{Asked}
-use Rattle.td_relation.specs.Runs.{is_blank}
+use Rattle.td_text.specs.Runs.{is_blank}
 use Rattle.td_indices.specs.Binaries.{BinaryPackage, home_of, package_at}
 use Rattle.td_indices.specs.Fields.{relation_in, value_of}
 use Rattle.td_indices.specs.Kept.{KeptBinary, binary_at}

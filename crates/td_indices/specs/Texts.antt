@@ -2,7 +2,7 @@
 use Rattle.std.specs.Prelude.{ℕ, ◌+◌, List, [], Option, Some, None, length}
 use Rattle.std.specs.Borrow.{Bor}
 use Rattle.std.specs.List.{slice_split}
-use Rattle.td_relation.specs.ArchList.{is_space}
+use Rattle.td_text.specs.Runs.{is_space}
 
 -- the pieces of what is left of a text; None: not even an empty one
 abbrev pub words_left : Option (Bor (List ℕ)) → List (List ℕ)

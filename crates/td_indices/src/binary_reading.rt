@@ -18,10 +18,9 @@ ghost use Rattle.td_indices.specs.Fields.{version_found};
 use crate::archive_fault::{EntryFault, IndexField};
 use crate::field::{name_in, needed, value_of, version_in};
 use crate::packaged::{Head, PackageKey};
-use crate::text::{is_blank, name_run};
 use td_relation::Archs;
 use td_stanza::Stanza;
-use td_text::{cut_at, is_name};
+use td_text::{cut_at, is_blank, is_name, name_run};
 use td_version::Version;
 
 /// Where packages with this Architecture field are, `Some(None)` for `all`; `None`: not here.

@@ -8,10 +8,10 @@ ghost use Rattle.td_indices.specs.Kept.{provides_at};
 
 use crate::archive_fault::EntryFault;
 use crate::field::value_of;
-use crate::text::is_blank;
 use std::alloc::{AllocError, Global};
 use td_relation::{Relation, RelationFault};
 use td_stanza::Stanza;
+use td_text::is_blank;
 
 fn read_relation(alloc: Global, text: &str) -> Result<Relation<'_>, EntryFault>
     ensures ok { IfOk result (λ r. relation_or_bad (relation_at text.now) ≡ Ok (members r)) }

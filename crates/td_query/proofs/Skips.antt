@@ -5,8 +5,7 @@ use Rattle.std.proofs.lemmas.Bool.{ne_eqb}
 use Rattle.std.proofs.lemmas.Bool.Decides.{eqb_tells}
 use Rattle.td_text.specs.Cut.{strip, cut}
 use Rattle.td_text.specs.Chain.{◌>>=◌}
-use Rattle.td_relation.specs.ArchList.{is_space}
-use Rattle.td_relation.specs.Runs.{trimmed}
+use Rattle.td_text.specs.Runs.{is_space, trimmed}
 use Rattle.td_query.specs.Tokens.{line_behind, skipped_in, skipped}
 
 -- what is left of a text, once it is skipped; None: nothing

@@ -1,7 +1,7 @@
 -- The tokens of a tracker, and what may stand between them. All of it is this project's own, in the style of ben.
 use Rattle.std.specs.Prelude.{ℕ, ◌+◌, ◌==◌, nat_le, ◌&&◌, ◌||◌, not, Bool, true, false, List, [], ◌∷◌, Option, Some, None, option_map, take, drop, if◌then◌else◌}
 use Rattle.td_text.specs.Cut.{cut}
-use Rattle.td_relation.specs.ArchList.{is_space}
+use Rattle.td_text.specs.Runs.{is_space}
 
 -- what follows the first newline
 abbrev pub line_behind : List ℕ → Option (List ℕ)

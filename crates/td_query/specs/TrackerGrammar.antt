@@ -3,7 +3,7 @@ use Rattle.std.specs.Prelude.{ℕ, zero, suc, ◌==◌, List, [], Option, Some, 
 use Rattle.std.specs.Str.{bytes_eq}
 use Rattle.td_text.specs.Cut.{cut, strip}
 use Rattle.td_text.specs.Lines.{on_ok}
-use Rattle.td_relation.specs.Runs.{run, behind}
+use Rattle.td_text.specs.Runs.{run, behind}
 use Rattle.td_query.specs.Query.{Shape}
 use Rattle.td_query.specs.Tokens.{skipped, is_key_byte}
 use Rattle.td_query.specs.QueryGrammar.{Log, Read, or_at}

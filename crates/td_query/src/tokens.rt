@@ -1,32 +1,12 @@
+//! The tokens of a tracker, and what may stand between them.
 ghost use Rattle.std.specs.Prelude.{◌≡◌, ◌≤◌, ◌<◌, ◌+◌, IfSome, false, length, option_map, slice_index};
 ghost use Rattle.std.specs.List.{prefix_len};
 ghost use Rattle.td_text.specs.Lines.{left_len};
-ghost use Rattle.td_relation.specs.ArchList.{is_space as is_space_of};
-ghost use Rattle.td_relation.specs.Runs.{behind, run, trimmed as trimmed_of};
+ghost use Rattle.td_text.specs.Runs.{behind, run};
 ghost use Rattle.td_query.specs.Tokens.{common_len as common_of, is_key_byte as is_key_byte_of, line_behind, pattern_end, pattern_in, skipped};
 ghost use Rattle.td_query.specs.Views.{pair};
 
-use td_text::{cut_at, strip};
-
-fn is_space(byte: u8) -> bool
-    ensures { result ≡ is_space_of byte }
-{
-    byte == b' ' || byte == b'\t' || byte == b'\n'
-}
-
-fn space_len(bytes: &[u8]) -> usize
-    ensures { result ≡ prefix_len is_space_of bytes.now }
-{
-    bytes.iter().take_while(|b| is_space(**b)).count()
-}
-
-/// The text without the whitespace in front of it.
-fn trimmed(text: &str) -> &str
-    ensures value { result.now ≡ trimmed_of text.now }
-    ensures shorter { length result.now ≤ length text.now }
-{
-    text.split_at(space_len(text.as_bytes())).1
-}
+use td_text::{cut_at, strip, trimmed};
 
 /// What follows the line's newline, if it has one.
 fn after_line(text: &str) -> Option<&str>

@@ -18,11 +18,11 @@ use Rattle.td_relation.specs.declared.relation.Operator.{Operator}
 use Rattle.td_relation.specs.declared.relation.Operator.TheVariants.{Earlier, EarlierOrEqual, Equal, LaterOrEqual, Later}
 use Rattle.td_relation.specs.declared.relation_fault.RelationFault.{RelationFault}
 use Rattle.td_relation.specs.declared.relation_fault.RelationFault.TheVariants.{BadArchList}
-use Rattle.td_relation.specs.ArchList.{is_space, words}
+use Rattle.td_text.specs.Runs.{is_space, run, behind, trimmed, is_blank}
+use Rattle.td_relation.specs.ArchList.{words}
 use Rattle.td_relation.specs.Asked.{Bound}
 use Rattle.td_relation.specs.RelationGrammar.{ends_a_name, after_colon, unqualified, named, name_at, is_operator_byte, operator_at, is_version_byte, ends_a_restriction, closed, version_at, restricted, restriction_at, is_arch_list, listed, bracketed, archs_at, or_fault}
 use Rattle.td_relation.specs.RelationWriting.{WrittenArchs, operator_text, marked, qualifier_part, QualifierFits, ArchsFit}
-use Rattle.td_relation.specs.Runs.{run, behind, trimmed, is_blank}
 use Rattle.td_relation.specs.Spacing.{AreWords}
 use Rattle.td_relation.proofs.FoundWords.{arch_list_found, words_found}
 

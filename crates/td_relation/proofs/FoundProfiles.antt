@@ -12,12 +12,12 @@ use Rattle.td_text.proofs.Cut.{Without-right}
 use Rattle.td_text.proofs.Prefix.{strip_found}
 use Rattle.td_relation.specs.declared.relation_fault.RelationFault.{RelationFault}
 use Rattle.td_relation.specs.declared.relation_fault.RelationFault.TheVariants.{BadProfile}
-use Rattle.td_relation.specs.ArchList.{is_space, words}
+use Rattle.td_text.specs.Runs.{is_space, run, trimmed, is_blank}
+use Rattle.td_relation.specs.ArchList.{words}
 use Rattle.td_relation.specs.RelationGrammar.{is_profile_list, profile_list, profile_piece, holds_unprofiled, over, or_fault, profile_step, ended, unprofiled_at}
 use Rattle.td_relation.specs.RelationWriting.{WrittenProfile, profile_text, ProfilesFit, hold_unprofiled}
-use Rattle.td_relation.specs.Runs.{run, trimmed, is_blank}
 use Rattle.td_relation.specs.Spacing.{AreWords, SpacedProfiles, profiles_then, ProfilesAreSpaced}
-use Rattle.td_relation.proofs.Blanks.{is_blank-behind}
+use Rattle.td_text.proofs.Blanks.{is_blank-behind}
 use Rattle.td_relation.proofs.FoundParts.{run_joined, space_blank}
 use Rattle.td_relation.proofs.FoundWords.{Lacks, profile_list_found, words_found}
 use Rattle.td_relation.proofs.WordTexts.{holds-again}

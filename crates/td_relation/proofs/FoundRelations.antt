@@ -8,11 +8,10 @@ use Rattle.td_text.proofs.Chain.{ok_is, on_ok_parts}
 use Rattle.td_text.proofs.Cut.{Without-right}
 use Rattle.td_relation.specs.declared.relation_fault.RelationFault.{RelationFault}
 use Rattle.td_relation.specs.declared.relation_fault.RelationFault.TheVariants.{BadName, BadArchList}
-use Rattle.td_relation.specs.ArchList.{is_space}
+use Rattle.td_text.specs.Runs.{is_space, run, is_blank}
 use Rattle.td_relation.specs.Asked.{Asked, Bound}
 use Rattle.td_relation.specs.RelationGrammar.{alternative_at, alternative_step, archs_at, member_at, member_step, name_at, or_fault, over, relation_at, restriction_at, some_members, unprofiled_at}
 use Rattle.td_relation.specs.RelationWriting.{alternative_asked, bound_asked, marked, operator_text, qualifier_part, ArchsFit, BoundFits, ProfilesFit, hold_unprofiled}
-use Rattle.td_relation.specs.Runs.{run, is_blank}
 use Rattle.td_relation.specs.Spacing.{SpacedBound, SpacedArchs, SpacedProfiles, SpacedAlternative, SpacedMember, Filled, Blank, ArchsAreSpaced, BoundIsSpaced, IsRelation, IsSpaced, MemberIsSpaced, ProfilesAreSpaced, RelationsAreExact, archs_then, bound_then, profiles_then, spaced_alternative, spaced_member, spaced_relation, unspaced, unspaced_members}
 use Rattle.td_relation.proofs.FoundParts.{archs_found, name_found, on_is, or_fault_found, restriction_found, space_blank}
 use Rattle.td_relation.proofs.FoundProfiles.{AreLists, lists_behind, own_lack, pieces_lack, unprofiled_found}

@@ -7,7 +7,8 @@ use Rattle.td_text.specs.Cut.{Without}
 use Rattle.td_text.specs.Words.{is_arch}
 use Rattle.td_text.proofs.Chain.{not-true}
 use Rattle.td_text.proofs.Cut.{Without-left, Without-right}
-use Rattle.td_relation.specs.ArchList.{is_space, words, is_negated, bare}
+use Rattle.td_text.specs.Runs.{is_space}
+use Rattle.td_relation.specs.ArchList.{words, is_negated, bare}
 use Rattle.td_relation.specs.RelationGrammar.{is_negated_word, is_arch_list, is_profile, is_profile_list}
 use Rattle.td_relation.specs.RelationWriting.{WrittenArchs, WrittenProfile, marked, profile_text, is_profile_byte, is_profile_name, ArchsFit, ProfilesFit}
 use Rattle.td_relation.specs.Spacing.{AreWords, EndsAWord}

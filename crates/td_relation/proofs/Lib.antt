@@ -5,7 +5,6 @@ pub mod PieceLaws
 pub mod ArchTexts
 pub mod VersionTexts
 pub mod MemberTexts
-pub mod RunTexts
 pub mod WordTexts
 pub mod VersionBytes
 pub mod WrittenParts
@@ -13,7 +12,6 @@ pub mod WrittenProfiles
 pub mod WrittenAlternatives
 pub mod WrittenMembers
 pub mod MeetingLaws
-pub mod Blanks
 pub mod SpacedWords
 pub mod SpacedParts
 pub mod SpacedProfiles

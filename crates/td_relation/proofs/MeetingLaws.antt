@@ -15,7 +15,7 @@ use Rattle.td_relation.specs.Meeting.{satisfies, is_there, active, alternative_m
 use Rattle.td_relation.specs.MeetingLaws.{OthersMakeNoDifference, MoreStillMeets, ListsCount}
 use Rattle.td_relation.specs.Offers.{Offered}
 use Rattle.td_relation.specs.RelationWriting.{marked}
-use Rattle.td_relation.proofs.RunTexts.{misses}
+use Rattle.td_text.proofs.RunTexts.{misses}
 
 -- ---- tests that agree, and tests that go on from one another
 

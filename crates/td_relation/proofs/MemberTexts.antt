@@ -9,7 +9,7 @@ use Rattle.td_relation.specs.declared.relation_fault.RelationFault.TheVariants.{
 use Rattle.td_relation.specs.Asked.{Asked, asked}
 use Rattle.td_relation.specs.Members.{chunked, total}
 use Rattle.td_relation.specs.Pieces.{pieces_of}
-use Rattle.td_relation.specs.Runs.{is_blank}
+use Rattle.td_text.specs.Runs.{is_blank}
 use Rattle.td_relation.specs.RelationGrammar.{over, alternative_at, alternative_step, member_at, member_step, some_members, relation_at}
 use Rattle.td_relation.specs.RelationViews.{IsFaultOf}
 use Rattle.td_relation.proofs.PieceLaws.{faulted_first, faulted_same}

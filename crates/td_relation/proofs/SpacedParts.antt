@@ -14,14 +14,13 @@ use Rattle.td_version.proofs.Outcomes.{read_only}
 use Rattle.td_relation.specs.declared.relation.Operator.{Operator}
 use Rattle.td_relation.specs.declared.relation.Operator.TheVariants.{Earlier, EarlierOrEqual, Equal, LaterOrEqual, Later}
 use Rattle.td_relation.specs.declared.relation_fault.RelationFault.TheVariants.{BadArchList}
-use Rattle.td_relation.specs.ArchList.{is_space}
+use Rattle.td_text.specs.Runs.{is_space, run, behind, trimmed, is_blank}
 use Rattle.td_relation.specs.RelationGrammar.{ends_a_name, after_colon, unqualified, named, name_at, is_operator_byte, operator_at, is_version_byte, ends_a_restriction, closed, version_at, restricted, restriction_at, is_arch_list, listed, bracketed, archs_at}
 use Rattle.td_relation.specs.RelationWriting.{operator_text, marked, qualifier_part, QualifierFits, BoundFits, ArchsFit, bound_asked}
-use Rattle.td_relation.specs.Runs.{run, behind, trimmed, is_blank}
 use Rattle.td_relation.specs.Spacing.{SpacedBound, SpacedArchs, SpacedProfiles, bound_then, archs_then, profiles_then, BoundIsSpaced, ArchsAreSpaced, ProfilesAreSpaced}
 use Rattle.td_relation.proofs.Lists.{both}
-use Rattle.td_relation.proofs.RunTexts.{Stops, run_again, behind_again, misses, NoSpace, Stops-front}
-use Rattle.td_relation.proofs.Blanks.{Stops-blank, Stops-back, trimmed_behind, trimmed_all}
+use Rattle.td_text.proofs.RunTexts.{Stops, run_again, behind_again, misses, NoSpace, Stops-front}
+use Rattle.td_text.proofs.Blanks.{Stops-blank, Stops-back, trimmed_behind, trimmed_all}
 use Rattle.td_relation.proofs.SpacedWords.{arch_words, arch_words-lack}
 use Rattle.td_relation.proofs.VersionBytes.{version_bytes, version_filled}
 use Rattle.td_relation.proofs.WordTexts.{is_arch_list-again}

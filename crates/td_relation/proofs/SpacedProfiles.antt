@@ -9,12 +9,11 @@ use Rattle.td_text.specs.Lines.{on_ok}
 use Rattle.td_text.proofs.Cut.{Without-append, Without-from_test, none_is}
 use Rattle.td_text.proofs.Prefix.{strip_again}
 use Rattle.td_relation.specs.declared.relation_fault.RelationFault.TheVariants.{BadProfile}
-use Rattle.td_relation.specs.ArchList.{is_space}
+use Rattle.td_text.specs.Runs.{is_space, is_blank}
 use Rattle.td_relation.specs.RelationGrammar.{is_profile_list, profile_list, profile_piece, holds_unprofiled, over, or_fault, profile_step, ended, unprofiled_at}
 use Rattle.td_relation.specs.RelationWriting.{WrittenProfile, profile_text, ProfilesFit, hold_unprofiled}
-use Rattle.td_relation.specs.Runs.{is_blank}
 use Rattle.td_relation.specs.Spacing.{SpacedProfiles, profiles_then, ProfilesAreSpaced}
-use Rattle.td_relation.proofs.Blanks.{trimmed_behind, is_blank-behind}
+use Rattle.td_text.proofs.Blanks.{trimmed_behind, is_blank-behind}
 use Rattle.td_relation.proofs.SpacedParts.{lists_bare}
 use Rattle.td_relation.proofs.SpacedWords.{profile_words, profile_words-lack}
 use Rattle.td_relation.proofs.WordTexts.{is_profile_list-again, holds-again}

@@ -11,15 +11,14 @@ use Rattle.td_text.proofs.Cut.{Without-append, Without-from_test, none_is}
 use Rattle.td_text.proofs.Words.{Without-name, Without-arch}
 use Rattle.td_relation.specs.declared.relation.Operator.{Operator}
 use Rattle.td_relation.specs.declared.relation.Operator.TheVariants.{Earlier, EarlierOrEqual, Equal, LaterOrEqual, Later}
-use Rattle.td_relation.specs.ArchList.{is_space}
+use Rattle.td_text.specs.Runs.{is_space, is_blank}
 use Rattle.td_relation.specs.Asked.{Asked}
 use Rattle.td_relation.specs.RelationGrammar.{ends_a_name, is_version_byte, alternative_at, over, alternative_step, member_at, member_step, some_members, relation_at}
 use Rattle.td_relation.specs.RelationWriting.{operator_text, qualifier_part, QualifierFits, BoundFits, ArchsFit, ProfilesFit, WrittenAlternative, alternative_asked}
-use Rattle.td_relation.specs.Runs.{is_blank}
 use Rattle.td_relation.specs.Spacing.{SpacedBound, SpacedArchs, SpacedProfiles, SpacedAlternative, SpacedMember, Filled, Blank, bound_then, archs_then, profiles_then, behind_name, spaced_alternative, spaced_member, spaced_relation, unspaced, unspaced_members, BoundIsSpaced, ArchsAreSpaced, ProfilesAreSpaced, IsSpaced, MemberIsSpaced, SpacedRelationsAreRead, WhitespaceMakesNoDifference}
-use Rattle.td_relation.proofs.Blanks.{is_blank-behind}
+use Rattle.td_text.proofs.Blanks.{is_blank-behind}
 use Rattle.td_relation.proofs.MemberTexts.{member_step-blank, member_step-filled}
-use Rattle.td_relation.proofs.RunTexts.{NoSpace, not_space}
+use Rattle.td_text.proofs.RunTexts.{NoSpace, not_space}
 use Rattle.td_relation.proofs.SpacedParts.{Outer, bound_stops, bound_trimmed, name_ends, name_again, restriction_again, archs_again}
 use Rattle.td_relation.proofs.SpacedProfiles.{unprofiled_again}
 use Rattle.td_relation.proofs.SpacedWords.{arch_words-lack, profile_words-lack}

@@ -9,11 +9,11 @@ use Rattle.td_text.specs.Cut.{Without}
 use Rattle.td_text.specs.Words.{is_arch_byte, is_arch}
 use Rattle.td_text.proofs.Cut.{Without-append, Without-from_test}
 use Rattle.td_text.proofs.Words.{Without-arch}
-use Rattle.td_relation.specs.ArchList.{is_space, words}
+use Rattle.td_text.specs.Runs.{is_space, is_blank}
+use Rattle.td_relation.specs.ArchList.{words}
 use Rattle.td_relation.specs.RelationWriting.{WrittenProfile, marked, profile_text, is_profile_byte, is_profile_name, ProfilesFit}
-use Rattle.td_relation.specs.Runs.{is_blank}
 use Rattle.td_relation.specs.Spacing.{AreWords, EndsAWord}
-use Rattle.td_relation.proofs.RunTexts.{NoSpace}
+use Rattle.td_text.proofs.RunTexts.{NoSpace}
 use Rattle.td_relation.proofs.WordTexts.{each, IsWord, IsWord-marked, Without-marked}
 
 abbrev filled : List (List ℕ) → List (List ℕ)

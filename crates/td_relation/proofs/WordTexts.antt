@@ -8,10 +8,11 @@ use Rattle.std.proofs.lemmas.List.Splits.{slice_split_at, slice_split_none}
 use Rattle.td_text.specs.Cut.{Without}
 use Rattle.td_text.specs.Words.{is_arch_byte, is_arch}
 use Rattle.td_text.proofs.Cut.{Without-append}
-use Rattle.td_relation.specs.ArchList.{is_space, words, is_negated, bare}
+use Rattle.td_text.specs.Runs.{is_space}
+use Rattle.td_relation.specs.ArchList.{words, is_negated, bare}
 use Rattle.td_relation.specs.RelationGrammar.{is_negated_word, is_arch_list, is_profile, is_profile_list, holds_unprofiled}
 use Rattle.td_relation.specs.RelationWriting.{WrittenProfile, marked, profile_text, is_profile_byte, is_profile_name, ProfilesFit}
-use Rattle.td_relation.proofs.RunTexts.{NoSpace, not_space, misses}
+use Rattle.td_text.proofs.RunTexts.{NoSpace, not_space, misses}
 
 -- ---- lists of texts
 

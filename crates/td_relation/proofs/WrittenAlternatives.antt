@@ -9,7 +9,7 @@ use Rattle.td_relation.specs.declared.relation.Operator.{Operator}
 use Rattle.td_relation.specs.declared.relation.Operator.TheVariants.{Earlier, EarlierOrEqual, Equal, LaterOrEqual, Later}
 use Rattle.td_relation.specs.RelationGrammar.{is_version_byte, alternative_at}
 use Rattle.td_relation.specs.RelationWriting.{WrittenBound, WrittenArchs, WrittenProfile, WrittenAlternative, operator_text, marked, qualifier_part, bound_part, archs_part, profile_part, alternative_text, is_profile_byte, QualifierFits, BoundFits, ArchsFit, ProfilesFit, AlternativeFits, alternative_asked}
-use Rattle.td_relation.proofs.RunTexts.{gap}
+use Rattle.td_text.proofs.RunTexts.{gap}
 use Rattle.td_relation.proofs.VersionBytes.{version_bytes}
 use Rattle.td_relation.proofs.WordTexts.{each, Without-flat_map, Without-join, Without-marked}
 use Rattle.td_relation.proofs.WrittenParts.{bound_on, bound_begins, name_ends, name_again, restriction_again, archs_again}

@@ -11,9 +11,9 @@ use Rattle.td_text.proofs.Cut.{Without-append, none_is}
 use Rattle.td_relation.specs.Asked.{Asked}
 use Rattle.td_relation.specs.RelationGrammar.{over, alternative_step, member_at, member_step, some_members, relation_at}
 use Rattle.td_relation.specs.RelationWriting.{WrittenAlternative, alternative_text, member_text, relation_text, AlternativeFits, MemberFits, alternative_asked, RelationsAreReadAgain}
-use Rattle.td_relation.specs.Runs.{is_blank}
+use Rattle.td_text.specs.Runs.{is_blank}
 use Rattle.td_relation.proofs.MemberTexts.{member_step-filled}
-use Rattle.td_relation.proofs.RunTexts.{NoSpace, not_space, gap, is_blank-gap}
+use Rattle.td_text.proofs.RunTexts.{NoSpace, not_space, gap, is_blank-gap}
 use Rattle.td_relation.proofs.WordTexts.{each, Without-join}
 use Rattle.td_relation.proofs.WrittenAlternatives.{Apart-bar, Apart-comma, alternative_again, alternative_lacks}
 

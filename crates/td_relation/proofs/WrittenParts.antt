@@ -18,9 +18,9 @@ use Rattle.td_relation.specs.declared.relation_fault.RelationFault.TheVariants.{
 use Rattle.td_relation.specs.ArchList.{words}
 use Rattle.td_relation.specs.RelationGrammar.{ends_a_name, after_colon, unqualified, named, name_at, is_operator_byte, operator_at, is_version_byte, ends_a_restriction, closed, version_at, restricted, restriction_at, is_arch_list, listed, bracketed, archs_at}
 use Rattle.td_relation.specs.RelationWriting.{WrittenBound, WrittenArchs, WrittenProfile, operator_text, marked, qualifier_part, bound_part, archs_part, profile_part, QualifierFits, BoundFits, ArchsFit, bound_asked}
-use Rattle.td_relation.specs.Runs.{run, behind, trimmed}
+use Rattle.td_text.specs.Runs.{run, behind, trimmed}
 use Rattle.td_relation.proofs.Lists.{both}
-use Rattle.td_relation.proofs.RunTexts.{Stops, Stops-at, run_again, behind_again, NoSpace, Stops-front, trimmed_same, trimmed_space, gap, Begins-gap, trimmed_gap, strip_other}
+use Rattle.td_text.proofs.RunTexts.{Stops, Stops-at, run_again, behind_again, NoSpace, Stops-front, trimmed_same, trimmed_space, gap, Begins-gap, trimmed_gap, strip_other}
 use Rattle.td_relation.proofs.VersionBytes.{version_bytes, version_filled}
 use Rattle.td_relation.proofs.WordTexts.{each, Without-join, Without-marked, is_arch_list-again, arch_words-again}
 

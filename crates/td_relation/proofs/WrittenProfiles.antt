@@ -12,8 +12,8 @@ use Rattle.td_text.proofs.Prefix.{strip_again}
 use Rattle.td_relation.specs.declared.relation_fault.RelationFault.TheVariants.{BadProfile}
 use Rattle.td_relation.specs.RelationGrammar.{is_profile_list, profile_list, profile_piece, holds_unprofiled, over, or_fault, profile_step, ended, unprofiled_at}
 use Rattle.td_relation.specs.RelationWriting.{WrittenProfile, profile_text, profile_part, is_profile_byte, is_profile_name, ProfilesFit, hold_unprofiled}
-use Rattle.td_relation.specs.Runs.{trimmed}
-use Rattle.td_relation.proofs.RunTexts.{gap, trimmed_gap, is_blank-gap}
+use Rattle.td_text.specs.Runs.{trimmed}
+use Rattle.td_text.proofs.RunTexts.{gap, trimmed_gap, is_blank-gap}
 use Rattle.td_relation.proofs.WordTexts.{each, Without-join, Without-marked, profile_words-again, is_profile_list-again, holds-again}
 use Rattle.td_relation.proofs.WrittenParts.{lists_on}
 

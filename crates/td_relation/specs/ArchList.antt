@@ -1,11 +1,8 @@
 -- Architecture lists: `[amd64 i386]`, `[!hurd-any]` (Policy 7.1).
-use Rattle.std.specs.Prelude.{ℕ, ◌==◌, ◌||◌, not, Bool, List, [], ◌∷◌, length, slice_index, if◌then◌else◌}
+use Rattle.std.specs.Prelude.{ℕ, ◌==◌, not, Bool, List, [], ◌∷◌, length, slice_index, if◌then◌else◌}
 use Rattle.std.specs.List.{filter, list_any, slice_split}
+use Rattle.td_text.specs.Runs.{is_space}
 use Rattle.td_relation.specs.Arch.{ArchWords, matches}
-
--- whitespace: spaces, tabs and newlines
-abbrev pub is_space : ℕ → Bool
-is_space b = (b == 32) || ((b == 9) || (b == 10))
 
 -- the words of a text: its pieces between whitespace that aren't empty
 abbrev pub words : List ℕ → List (List ℕ)

@@ -11,7 +11,6 @@ pub mod Members
 pub mod MembersLeft
 pub mod Meeting
 pub mod Offers
-pub mod Runs
 pub mod RelationGrammar
 pub mod Pieces
 pub mod RelationViews

@@ -15,7 +15,7 @@ use Rattle.td_relation.specs.declared.relation_fault.RelationFault.{RelationFaul
 use Rattle.td_relation.specs.declared.relation_fault.RelationFault.TheVariants.{BadName, BadOperator, BadVersion, BadArchList, BadProfile, Empty}
 use Rattle.td_relation.specs.ArchList.{is_negated, bare, words}
 use Rattle.td_relation.specs.Asked.{Bound, Asked}
-use Rattle.td_relation.specs.Runs.{run, behind, trimmed, is_blank}
+use Rattle.td_text.specs.Runs.{run, behind, trimmed, is_blank}
 
 -- ---- 1. the name
 

@@ -6,7 +6,7 @@ use Rattle.td_version.specs.Grammar.{IsVersion}
 use Rattle.td_version.specs.Version.{Parts}
 use Rattle.td_relation.specs.declared.relation.Operator.{Operator}
 use Rattle.td_relation.specs.declared.relation.Operator.TheVariants.{Earlier, EarlierOrEqual, Equal, LaterOrEqual, Later}
-use Rattle.td_relation.specs.ArchList.{is_space}
+use Rattle.td_text.specs.Runs.{is_space}
 use Rattle.td_relation.specs.Asked.{Bound, Asked}
 use Rattle.td_relation.specs.RelationGrammar.{relation_at}
 

@@ -1,11 +1,10 @@
 -- Relations, written with whitespace wherever it is free: Debian Policy 7.1 and 7.5, deb-src-control(5) on build profiles. That newlines count as whitespace, and that a member may be of whitespace alone, is this project's own.
 use Rattle.std.specs.Prelude.{◌≡◌, ◌≢◌, ◌↔◌, ℕ, IsTrue, List, [], ◌∷◌, ◌++◌, Option, Some, None, option_map, Ok, map, codes}
 use Rattle.std.specs.List.{AllByRecursion, join_by}
-use Rattle.td_relation.specs.ArchList.{is_space}
+use Rattle.td_text.specs.Runs.{is_space, is_blank}
 use Rattle.td_relation.specs.Asked.{Asked}
 use Rattle.td_relation.specs.RelationGrammar.{relation_at}
 use Rattle.td_relation.specs.RelationWriting.{WrittenBound, WrittenArchs, WrittenProfile, WrittenAlternative, operator_text, marked, profile_text, qualifier_part, AlternativeFits, alternative_asked}
-use Rattle.td_relation.specs.Runs.{is_blank}
 
 -- ---- 1. words
 

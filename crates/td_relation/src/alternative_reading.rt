@@ -19,8 +19,8 @@ use crate::arch_list::is_arch_list;
 use crate::profile_reading::read_unprofiled;
 use crate::relation::{Alternative, Operator, Restriction};
 use crate::relation_fault::RelationFault;
-use crate::runs::{arch_run, name_run, operator_run, trimmed, version_run};
-use td_text::{cut_at, is_name, strip};
+use crate::runs::{operator_run, version_run};
+use td_text::{arch_run, cut_at, is_name, name_run, strip, trimmed};
 use td_version::{Version, VersionFault};
 
 fn ends_a_name(text: &str) -> bool

@@ -1,20 +1,14 @@
-ghost use Rattle.std.specs.Prelude.{◌≡◌, ◌==◌};
+//! Whether a list of words is an architecture list or a profile list, and whether it counts.
+ghost use Rattle.std.specs.Prelude.{◌≡◌, ◌==◌, not, length, ◌&&◌, ◌||◌};
 ghost use Rattle.std.specs.List.{list_any, list_all, slice_split};
-ghost use Rattle.td_relation.specs.Arch.{words_of};
-ghost use Rattle.td_relation.specs.ArchList.{bare as bare_of, counts as counts_of, is_negated as is_negated_of, words, is_space as is_space_of};
-ghost use Rattle.td_relation.specs.Arch.{matches as matches_of};
-ghost use Rattle.std.specs.Prelude.{not, length, ◌&&◌, ◌||◌};
+ghost use Rattle.td_relation.specs.Arch.{words_of, matches as matches_of};
+ghost use Rattle.td_text.specs.Runs.{is_space as is_space_of};
+ghost use Rattle.td_relation.specs.ArchList.{bare as bare_of, counts as counts_of, is_negated as is_negated_of, words};
 ghost use Rattle.td_text.specs.Words.{is_arch as is_arch_of, is_arch_byte as is_arch_byte_of};
 ghost use Rattle.td_relation.specs.RelationGrammar.{is_arch_list as is_arch_list_of, is_negated_word, is_profile as is_profile_of, is_profile_list as is_profile_list_of};
 
 use crate::arch::Arch;
-use crate::runs::is_arch_byte;
-
-pub fn is_space(byte: u8) -> bool
-    ensures { result ≡ is_space_of byte }
-{
-    byte == b' ' || byte == b'\t' || byte == b'\n'
-}
+use td_text::{are_arch_bytes, is_space};
 
 /// A word without the `!` in front of it.
 fn bare(word: &[u8]) -> &[u8]
@@ -46,12 +40,6 @@ fn has_match(arch: &Arch<'_>, list: &str) -> bool
     list.as_bytes()
         .split(|b| is_space(*b))
         .any(|w| !w.is_empty() && arch.matches(bare(w)))
-}
-
-fn are_arch_bytes(word: &[u8]) -> bool
-    ensures { result ≡ list_all is_arch_byte_of word.now }
-{
-    word.iter().all(|b| is_arch_byte(*b))
 }
 
 fn is_arch(word: &[u8]) -> bool

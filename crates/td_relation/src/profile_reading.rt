@@ -5,8 +5,8 @@ ghost use Rattle.td_relation.specs.RelationGrammar.{ended as ended_of, over, pro
 
 use crate::arch_list::{is_profile_list, is_unprofiled};
 use crate::relation_fault::RelationFault;
-use crate::runs::{is_blank, next_piece, trimmed};
-use td_text::strip;
+use crate::runs::next_piece;
+use td_text::{is_blank, strip, trimmed};
 
 /// What stands before a `>`: whether the list holds where no profile is active.
 #[tactic(auto, unfolding(crate::specs::RelationGrammar::profile_piece))]

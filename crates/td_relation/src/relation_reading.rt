@@ -9,7 +9,8 @@ ghost use Rattle.td_relation.specs.RelationViews.{IsFaultOf};
 use crate::alternative_reading::read_alternative;
 use crate::relation::{Alternative, Relation};
 use crate::relation_fault::RelationFault;
-use crate::runs::{is_blank, next_piece};
+use crate::runs::next_piece;
+use td_text::is_blank;
 use std::alloc::Global;
 
 // Adds the alternative that the piece is.

@@ -6,3 +6,6 @@ pub mod SignedNumbers
 pub mod Words
 pub mod Lines
 pub mod FirstFault
+pub mod RunLaws
+pub mod RunTexts
+pub mod Blanks

@@ -4,4 +4,5 @@ pub mod Exact
 pub mod FirstFault
 pub mod Lines
 pub mod Numbers
+pub mod Runs
 pub mod Words

@@ -1,5 +1,5 @@
-//! What the readers and writers of text share: cuts at a character, lines, numbers as the formats
-//! write them, package names and architecture words.
+//! What the readers and writers of text share: cuts at a character, runs of bytes, lines, numbers
+//! as the formats write them, package names and architecture words.
 //!
 //! Start at `cut_at`, `next_line` and `number`. Readers borrow from the text, take no memory, and
 //! answer `None` where the text isn't of their form; writers append, or leave the text as it was.
@@ -11,6 +11,7 @@
 mod cutting;
 mod line;
 mod numeral;
+mod runs;
 #[cfg(test)]
 mod tests;
 mod word;
@@ -19,5 +20,6 @@ mod writing;
 pub use cutting::{cut_at, part_at, strip};
 pub use line::next_line;
 pub use numeral::{number, numbers_are_exact, signed};
-pub use word::{is_arch, is_name};
+pub use runs::{arch_run, is_blank, is_space, name_run, trimmed};
+pub use word::{are_arch_bytes, is_arch, is_name};
 pub use writing::{put_number, put_signed};

@@ -8,13 +8,13 @@ fn is_alphanumeric(byte: u8) -> bool
     matches!(byte, b'a'..=b'z' | b'0'..=b'9')
 }
 
-fn is_name_byte(byte: u8) -> bool
+pub fn is_name_byte(byte: u8) -> bool
     ensures { result ≡ is_name_byte_of byte }
 {
     is_alphanumeric(byte) || matches!(byte, b'+' | b'-' | b'.')
 }
 
-fn is_arch_byte(byte: u8) -> bool
+pub fn is_arch_byte(byte: u8) -> bool
     ensures { result ≡ is_arch_byte_of byte }
 {
     is_alphanumeric(byte) || byte == b'-'
@@ -26,7 +26,8 @@ fn are_name_bytes(bytes: &[u8]) -> bool
     bytes.iter().all(|b| is_name_byte(*b))
 }
 
-fn are_arch_bytes(bytes: &[u8]) -> bool
+/// Whether each byte is one that an architecture's name may have.
+pub fn are_arch_bytes(bytes: &[u8]) -> bool
     ensures { result ≡ list_all is_arch_byte_of bytes.now }
 {
     bytes.iter().all(|b| is_arch_byte(*b))

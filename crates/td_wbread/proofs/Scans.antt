@@ -4,8 +4,7 @@ use Rattle.std.specs.List.{list_all, list_any, slice_split, onto_first}
 use Rattle.std.proofs.lemmas.Bool.Decides.{nat_tests}
 use Rattle.std.proofs.lemmas.List.Folds.{list_any-append}
 use Rattle.std.proofs.Math.Dec.{eqb-suc-zero}
-use Rattle.td_relation.specs.ArchList.{is_space}
-use Rattle.td_relation.specs.Runs.{run, trimmed}
+use Rattle.td_text.specs.Runs.{is_space, run, trimmed}
 use Rattle.td_wbread.specs.declared.word.Word.{Word}
 use Rattle.td_wbread.specs.declared.word.End.TheVariants.{Closed, Open}
 use Rattle.td_wbread.specs.Words.{Mark, gap, plain, quote, unclosed, is_quote, closes, marks, is_gap, is_unclosed, word_of, words_in, placed, words_from, words_of, open_at, end_with, end_of}

@@ -9,8 +9,7 @@ use Rattle.std.proofs.lemmas.Grind.{flat_map-append}
 use Rattle.td_text.specs.Cut.{cut, Without}
 use Rattle.td_text.proofs.Cut.{cut_found}
 use Rattle.td_rows.specs.Text.{has_newline}
-use Rattle.td_relation.specs.ArchList.{is_space}
-use Rattle.td_relation.specs.Runs.{run, behind}
+use Rattle.td_text.specs.Runs.{is_space, run, behind}
 use Rattle.td_wbread.specs.Words.{Mark, gap, plain, quote, quoted, unclosed, is_quote, is_plain, bare_mark, closes, marks, is_gap, is_unclosed, is_quote_mark, letter, text_of, on_one_line}
 use Rattle.td_wbread.specs.Taking.{IsTaken, IsSeen, IsOpen, EndsWord, IsUnquoted, closing}
 

@@ -3,7 +3,7 @@ use Rattle.std.specs.Prelude.{ℕ, ◌==◌, ◌||◌, ◌+◌, not, Bool, true,
 use Rattle.std.specs.List.{list_any, flat_map, slice_split}
 use Rattle.td_text.specs.Cut.{cut}
 use Rattle.td_rows.specs.Text.{has_newline}
-use Rattle.td_relation.specs.ArchList.{is_space}
+use Rattle.td_text.specs.Runs.{is_space}
 use Rattle.td_wbread.specs.declared.word.Word.{Word}
 use Rattle.td_wbread.specs.declared.word.End.{End}
 use Rattle.td_wbread.specs.declared.word.End.TheVariants.{Closed, Open}

@@ -1,20 +1,13 @@
 //! Pieces of a word: bytes that stand for themselves, and what stands between quotes.
 ghost use Rattle.std.specs.Prelude.{◌≡◌, ◌<◌, ◌∷◌, true, option_map, IfNone, IfSome};
 ghost use Rattle.std.specs.List.{list_any, prefix_len};
-ghost use Rattle.td_relation.specs.ArchList.{is_space as is_space_of};
-ghost use Rattle.td_relation.specs.Runs.{behind, run, trimmed as trimmed_of};
+ghost use Rattle.td_text.specs.Runs.{behind, run};
 ghost use Rattle.td_rows.specs.Text.{has_newline as has_newline_of};
 ghost use Rattle.td_text.specs.Cut.{cut};
 ghost use Rattle.td_wbread.specs.Taking.{IsUnquoted, closing};
 ghost use Rattle.td_wbread.specs.Words.{is_plain as is_plain_of, is_quote};
 
-use td_text::{cut_at, strip};
-
-fn is_space(byte: u8) -> bool
-    ensures { result ≡ is_space_of byte }
-{
-    byte == b' ' || byte == b'\t' || byte == b'\n'
-}
+use td_text::{cut_at, is_space, strip};
 
 fn is_plain(byte: u8) -> bool
     ensures { result ≡ is_plain_of byte }
@@ -22,23 +15,10 @@ fn is_plain(byte: u8) -> bool
     !(is_space(byte) || byte == b'"' || byte == b'\'')
 }
 
-fn space_len(bytes: &[u8]) -> usize
-    ensures { result ≡ prefix_len is_space_of bytes.now }
-{
-    bytes.iter().take_while(|b| is_space(**b)).count()
-}
-
 fn plain_len(bytes: &[u8]) -> usize
     ensures { result ≡ prefix_len is_plain_of bytes.now }
 {
     bytes.iter().take_while(|b| is_plain(**b)).count()
-}
-
-/// The text without the whitespace in front of it.
-pub fn trimmed(text: &str) -> &str
-    ensures { result.now ≡ trimmed_of text.now }
-{
-    text.split_at(space_len(text.as_bytes())).1
 }
 
 /// The longest run at the front of bytes that stand for themselves, and what follows it.

@@ -3,10 +3,11 @@ ghost use Rattle.std.specs.Prelude.{◌≡◌, IfOk};
 ghost use Rattle.td_wbread.specs.Taking.{IsFront};
 ghost use Rattle.td_wbread.specs.Words.{end_of, words_of};
 
-use crate::quoting::{closed, opened, plain_run, trimmed};
+use crate::quoting::{closed, opened, plain_run};
 use crate::word::{End, Word};
 use std::alloc::{AllocError, Global};
 use td_rows::Line;
+use td_text::trimmed;
 
 /// What stands at the front of a text.
 #[derive(Drop)]

@@ -1,6 +1,6 @@
 use Rattle.std.proofs.Common.{ℕ, List, ◌==◌, not, length}
 use Rattle.std.specs.List.{slice_split}
-use Rattle.td_relation.specs.ArchList.{is_space}
+use Rattle.td_text.specs.Runs.{is_space}
 use Rattle.td_relation.specs.TableView.{table}
 use Rattle.td_indices.specs.Rows.{matches_at}
 use Rattle.td_indices.proofs.RowCounts.{any-filter}

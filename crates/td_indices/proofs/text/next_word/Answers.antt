@@ -1,5 +1,5 @@
 use Rattle.std.proofs.Common.{ℕ, List, position, sym, ap, ◌∙◌}
-use Rattle.td_relation.specs.ArchList.{is_space}
+use Rattle.td_text.specs.Runs.{is_space}
 use Rattle.td_indices.proofs.WordCuts.{word_cut, word_none, boundary_here, boundary_behind}
 use Rattle.td_indices.proofs.text.next_word.Goals as goal
 

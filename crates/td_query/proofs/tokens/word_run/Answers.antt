@@ -1,7 +1,7 @@
 use Rattle.std.proofs.Common.{◌∙◌, ap, sym, subst, ℕ}
 use Rattle.std.specs.Str.{IsCharBoundary}
 use Rattle.std.specs.List.{prefix_len}
-use Rattle.td_relation.proofs.RunLaws.{boundary_run}
+use Rattle.td_text.proofs.RunLaws.{boundary_run}
 use Rattle.td_query.specs.Tokens.{is_key_byte}
 use Rattle.td_query.proofs.Runs.{key_is_ascii}
 use Rattle.td_query.proofs.tokens.word_run.Goals as goal

@@ -1,7 +1,7 @@
 use Rattle.std.proofs.Common.{◌∙◌, ap, sym, cond, not}
 use Rattle.std.specs.List.{slice_split}
 use Rattle.td_relation.specs.Arch.{words_of}
-use Rattle.td_relation.specs.ArchList.{is_space}
+use Rattle.td_text.specs.Runs.{is_space}
 use Rattle.td_relation.proofs.MemberLaws.{counts-by}
 use Rattle.td_relation.proofs.arch_list.counts.Goals as goal
 

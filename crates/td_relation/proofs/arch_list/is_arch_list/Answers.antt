@@ -1,6 +1,6 @@
 use Rattle.std.proofs.Common.{◌∙◌, ◌&&◌, ◌||◌, Bool, ap, sym}
 use Rattle.std.specs.List.{slice_split}
-use Rattle.td_relation.specs.ArchList.{is_space}
+use Rattle.td_text.specs.Runs.{is_space}
 use Rattle.td_relation.proofs.PieceLaws.{is_arch_list-by}
 use Rattle.td_relation.proofs.arch_list.is_arch_list.Goals as goal
 

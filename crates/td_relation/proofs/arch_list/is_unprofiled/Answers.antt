@@ -1,5 +1,5 @@
 use Rattle.std.specs.List.{slice_split}
-use Rattle.td_relation.specs.ArchList.{is_space}
+use Rattle.td_text.specs.Runs.{is_space}
 use Rattle.td_relation.proofs.PieceLaws.{unprofiled-by}
 use Rattle.td_relation.proofs.arch_list.is_unprofiled.Goals as goal
 

@@ -1,7 +1,7 @@
 use Rattle.std.proofs.Common.{◌≡◌, ◌∙◌, map, rules, true, false}
 use Rattle.td_relation.specs.Asked.{asked}
 use Rattle.td_relation.specs.Members.{chunked}
-use Rattle.td_relation.specs.Runs.{is_blank}
+use Rattle.td_text.specs.Runs.{is_blank}
 use Rattle.td_relation.specs.RelationGrammar.{member_step}
 use Rattle.td_relation.proofs.MemberTexts.{member_step-blank, member_step-filled, member_step-fails}
 use Rattle.td_relation.proofs.PieceLaws.{taken, stepped, faulted, ends}

@@ -2,7 +2,8 @@ use Rattle.std.proofs.Common.{◌∙◌, ap, sym, subst, ℕ}
 use Rattle.std.specs.Str.{IsCharBoundary}
 use Rattle.std.specs.List.{prefix_len}
 use Rattle.td_relation.specs.RelationGrammar.{is_operator_byte}
-use Rattle.td_relation.proofs.RunLaws.{boundary_run, operator_is_ascii}
+use Rattle.td_text.proofs.RunLaws.{boundary_run}
+use Rattle.td_relation.proofs.RunLaws.{operator_is_ascii}
 use Rattle.td_relation.proofs.runs.operator_run.Goals as goal
 
 pub split_at-requires : goal.split_at-requires

@@ -3,9 +3,8 @@ use Rattle.std.proofs.Common.{◌≡◌, ℕ, Bool, true, false, ◌&&◌, List,
 use Rattle.std.specs.List.{list_all}
 use Rattle.std.proofs.lemmas.Bool.{cases_Bool, and_parts}
 use Rattle.std.proofs.lemmas.List.Folds.{list_all-append}
-use Rattle.td_relation.specs.ArchList.{is_space}
-use Rattle.td_relation.specs.Runs.{trimmed, is_blank}
-use Rattle.td_relation.proofs.RunTexts.{Stops, NoSpace, not_space, behind_again}
+use Rattle.td_text.specs.Runs.{is_space, trimmed, is_blank}
+use Rattle.td_text.proofs.RunTexts.{Stops, NoSpace, not_space, behind_again}
 
 -- whitespace doesn't pass a test that no whitespace passes
 pub not_passed : (test : ℕ → Bool) (x : ℕ) → NoSpace test → is_space x ≡ true → test x ≡ false

@@ -1,7 +1,10 @@
--- The longest run of bytes of a kind at the front of a text.
-use Rattle.std.specs.Prelude.{ℕ, Bool, List, take, drop}
+-- Whitespace, and the longest run of bytes of a kind at the front of a text. This project's own.
+use Rattle.std.specs.Prelude.{ℕ, ◌==◌, ◌||◌, Bool, List, take, drop}
 use Rattle.std.specs.List.{list_all, prefix_len}
-use Rattle.td_relation.specs.ArchList.{is_space}
+
+-- whitespace: spaces, tabs and newlines
+abbrev pub is_space : ℕ → Bool
+is_space b = (b == 32) || ((b == 9) || (b == 10))
 
 -- the longest front of bytes that pass the test ..
 abbrev pub run : (ℕ → Bool) → List ℕ → List ℕ

@@ -5,8 +5,7 @@ use Rattle.std.proofs.lemmas.Bool.{and_parts, ne_eqb}
 use Rattle.std.proofs.lemmas.List.{take_at, drop_at}
 use Rattle.td_text.specs.Cut.{strip}
 use Rattle.td_text.proofs.Cut.{Begins}
-use Rattle.td_relation.specs.ArchList.{is_space}
-use Rattle.td_relation.specs.Runs.{run, behind, trimmed, is_blank}
+use Rattle.td_text.specs.Runs.{is_space, run, behind, trimmed, is_blank}
 
 -- ---- where a run ends
 
