@@ -1,11 +1,14 @@
+//! What no clause says: that calls succeed with ample memory, and what the definitions make of
+//! texts. Expected by hand from `docs/FORMATS.md`, deb-version(7) and Policy.
+mod answers;
+
 use crate::{Archive, ArchiveFault, IndexField, IndexFile};
+use answers::are_answered;
 use std::alloc::{AllocError, Global};
 use std::process::Abort;
 use std::test::Fail;
 use td_relation::Archs;
-use td_rows::{Key, rows_text};
 use td_stanza::StanzaFault;
-use td_supply::Supply;
 
 // The archive of examples/foobar.archs, foobar.packages and foobar.sources.
 const ARCHS: &str = "amd64 linux amd64\ni386 linux i386\n";
@@ -16,30 +19,22 @@ const PACKAGES: &str =
 const SOURCES: &str =
     "Package: foo\nVersion: 1.2-3\nArchitecture: any\nBuild-Depends: libbar-dev\n\nPackage: bar\nVersion: 2.0-1\nArchitecture: any\n";
 
-fn binary_is(rt: &impl Abort, archive: &Archive<'_, '_>, number: usize, wanted: [&str; 3]) {
-    match archive.binary(number) {
-        Some(binary) => {
-            assert_eq!(rt; binary.name, wanted[0]);
-            assert_eq!(rt; binary.version, wanted[1]);
-            assert_eq!(rt; binary.source, wanted[2]);
-        }
-        None => panic!(rt; "no binary package {number}"),
-    }
-}
+const SMALL: [(&str, &str); 7] = [
+    ("counts", "2 4 4"),
+    ("binary 0", "libfoo1 1.2-3 foo"),
+    ("binary 1", "libfoo1 1.2-3+b1 foo"),
+    ("binary 3", "libbar-dev 2.0-1 bar"),
+    ("binaries 1 foo", "[1]"),
+    ("opening foo/i386", "Some(1)"),
+    ("rows", OPENING),
+];
+
+const OPENING: &str =
+    "bar/amd64 Installed 0 0\nbar/i386 Installed 0 0\nfoo/amd64 Installed 0 0\nfoo/i386 Installed 0 1\n";
 
 #[test]
-fn the_small_archive_is_read(rt: HostRuntime) -> Result<(), Fail> {
-    let archs = Archs::read(rt.alloc(), ARCHS)?;
-    let archive = Archive::read(rt.alloc(), PACKAGES, SOURCES, &archs)?;
-    assert_eq!(rt; archive.source_count(), 2);
-    assert_eq!(rt; archive.binary_count(), 4);
-    assert_eq!(rt; archive.row_count(), 4);
-    binary_is(&rt, &archive, 0, ["libfoo1", "1.2-3", "foo"]);
-    binary_is(&rt, &archive, 1, ["libfoo1", "1.2-3+b1", "foo"]);
-    binary_is(&rt, &archive, 3, ["libbar-dev", "2.0-1", "bar"]);
-    let foos = archive.binaries("foo", 1)?;
-    assert_eq!(rt; foos.as_slice(), [1].as_slice());
-    Ok(())
+fn a_small_archive_is_read_and_its_rows_open_with_the_rebuilds_that_are_there(rt: HostRuntime) {
+    are_answered(&rt, rt.alloc(), ARCHS, PACKAGES, SOURCES, &SMALL);
 }
 
 // `1.0` and `1.0-0` are equal in order (deb-version(7)), so the first of them counts; the package
@@ -47,81 +42,42 @@ fn the_small_archive_is_read(rt: HostRuntime) -> Result<(), Fail> {
 const SEVERAL: &str =
     "Package: doc\nSource: foo\nVersion: 1.0\nArchitecture: all\n\nPackage: doc\nVersion: 1.0-0\nArchitecture: all\n\nPackage: lib\nSource: foo\nVersion: 1.9\nArchitecture: i386\n\nPackage: lib\nSource: foo (1.2-3)\nVersion: 1.10\nArchitecture: i386\n\nPackage: lib\nSource: Foo\nVersion: 1_0\nArchitecture: s390x\n";
 
+const GREATEST: [(&str, &str); 4] = [
+    ("binary 0", "doc 1.0 foo"),
+    ("binary 1", "lib 1.10 foo"),
+    ("binary 2", "none"),
+    ("binaries 0 foo", "[0]"),
+];
+
 #[test]
-fn the_greatest_version_counts_and_the_first_of_equals(rt: HostRuntime) -> Result<(), Fail> {
-    let archs = Archs::read(rt.alloc(), ARCHS)?;
-    let archive = Archive::read(rt.alloc(), SEVERAL, SOURCES, &archs)?;
-    binary_is(&rt, &archive, 0, ["doc", "1.0", "foo"]);
-    binary_is(&rt, &archive, 1, ["lib", "1.10", "foo"]);
-    assert!(rt; archive.binary(2).is_none());
-    let foos = archive.binaries("foo", 0)?;
-    assert_eq!(rt; foos.as_slice(), [0].as_slice());
-    Ok(())
+fn the_greatest_version_counts_and_the_first_of_equals(rt: HostRuntime) {
+    are_answered(&rt, rt.alloc(), ARCHS, SEVERAL, SOURCES, &GREATEST);
 }
 
 const TWICE: &str =
     "Package: foo\nVersion: 1.2-3\nArchitecture: any\n\nPackage: foo\nVersion: 1.10\nArchitecture: amd64\n\nPackage: old\nVersion: 1\nArchitecture: any\nExtra-Source-Only: yes\n";
 
-#[test]
-fn a_source_is_found_by_its_name(rt: HostRuntime) -> Result<(), Fail> {
-    let archs = Archs::read(rt.alloc(), ARCHS)?;
-    let archive = Archive::read(rt.alloc(), "", TWICE, &archs)?;
-    assert!(rt; archive.source("old").is_none());
-    let Some(foo) = archive.source("foo") else {
-        return Err(Fail::from("the source is kept"));
-    };
-    assert_eq!(rt; foo.version, "1.10");
-    assert_eq!(rt; foo.stanza, 1);
-    Ok(())
-}
+const FOUND: [(&str, &str); 2] = [("source old", "none"), ("source foo", "1.10 1")];
 
 #[test]
-fn a_key_opens_with_the_rebuild_that_is_there(rt: HostRuntime) -> Result<(), Fail> {
-    let archs = Archs::read(rt.alloc(), ARCHS)?;
-    let archive = Archive::read(rt.alloc(), PACKAGES, SOURCES, &archs)?;
-    let key = Key::new(rt.alloc(), "foo", "i386")?;
-    let Some(row) = archive.opening_row(&key) else {
-        return Err(Fail::from("the key has a row"));
-    };
-    assert_eq!(rt; row.number.get(), 1);
-    Ok(())
-}
-
-const OPENING: &str =
-    "bar/amd64 Installed 0 0\nbar/i386 Installed 0 0\nfoo/amd64 Installed 0 0\nfoo/i386 Installed 0 1\n";
-
-#[test]
-fn a_desk_opens_with_the_rows_of_all_sources(rt: HostRuntime) -> Result<(), Fail> {
-    let archs = Archs::read(rt.alloc(), ARCHS)?;
-    let archive = Archive::read(rt.alloc(), PACKAGES, SOURCES, &archs)?;
-    let rows = archive.opening_rows()?;
-    let text = rows_text(rt.alloc(), &rows)?;
-    assert_eq!(rt; text.as_str(), OPENING);
-    Ok(())
+fn a_source_is_found_by_its_name(rt: HostRuntime) {
+    are_answered(&rt, rt.alloc(), ARCHS, "", TWICE, &FOUND);
 }
 
 // A virtual package has no version unless the field gives one (Policy 7.5).
 const PROVIDING: &str =
     "Package: mawk\nSource: foo\nVersion: 1.2-3+b1\nArchitecture: amd64\nProvides: awk, posix-awk (= 2)\n";
 
-fn meets(rt: &impl Abort, supply: &Supply<'_>, relation: &str) -> bool {
-    match supply.meets(relation, "amd64") {
-        Ok(met) => met,
-        Err(_) => panic!(rt; "{relation} can't be asked"),
-    }
-}
+const OFFERED: [(&str, &str); 4] = [
+    ("meets awk, posix-awk (= 2)", "met"),
+    ("meets awk (>= 1)", "not met"),
+    ("meets mawk (>= 1.2-3+b2)", "not met"),
+    ("rebuilt mawk (= 1.2-3+b2)", "met"),
+];
 
 #[test]
-fn a_package_and_what_it_provides_are_on_offer(rt: HostRuntime) -> Result<(), Fail> {
-    let archs = Archs::read(rt.alloc(), ARCHS)?;
-    let archive = Archive::read(rt.alloc(), PROVIDING, SOURCES, &archs)?;
-    let mut supply = archive.supply()?;
-    assert!(rt; meets(&rt, &supply, "awk, posix-awk (= 2)"));
-    assert!(rt; !meets(&rt, &supply, "awk (>= 1)"));
-    assert!(rt; !meets(&rt, &supply, "mawk (>= 1.2-3+b2)"));
-    supply.arrive("foo", "amd64", 2)?;
-    assert!(rt; meets(&rt, &supply, "mawk (= 1.2-3+b2)"));
-    Ok(())
+fn a_package_and_what_it_provides_are_on_offer(rt: HostRuntime) {
+    are_answered(&rt, rt.alloc(), ARCHS, PROVIDING, SOURCES, &OFFERED);
 }
 
 // The archive of examples/waves.packages and examples/waves.sources.
@@ -135,15 +91,46 @@ const WAVES_OPENING: &str =
     "pa/amd64 Installed 0 0\nqb/amd64 Installed 0 0\nrc/amd64 Installed 0 0\nsd/amd64 Installed 0 0\nte/amd64 Installed 0 0\n";
 
 #[test]
-fn five_sources_have_five_rows(rt: HostRuntime) -> Result<(), Fail> {
-    let archs = Archs::read(rt.alloc(), "amd64 linux amd64\n")?;
-    let archive = Archive::read(rt.alloc(), WAVES_PACKAGES, WAVES_SOURCES, &archs)?;
-    assert_eq!(rt; archive.binary_count(), 6);
-    assert_eq!(rt; archive.row_count(), 5);
-    let rows = archive.opening_rows()?;
-    let text = rows_text(rt.alloc(), &rows)?;
-    assert_eq!(rt; text.as_str(), WAVES_OPENING);
-    Ok(())
+fn five_sources_have_five_rows(rt: HostRuntime) {
+    let table = "amd64 linux amd64\n";
+    let questions = [("counts", "5 6 5"), ("rows", WAVES_OPENING)];
+    are_answered(
+        &rt,
+        rt.alloc(),
+        table,
+        WAVES_PACKAGES,
+        WAVES_SOURCES,
+        &questions,
+    );
+}
+
+// Policy 7.5: `(= 2)` gives a version; another restriction, or two alternatives, offer no name.
+const ASKED: &str =
+    "Package: mawk\nSource: foo\nVersion: 1.2-3\nArchitecture: amd64\nProvides: awk, posix-awk (= 2), old-awk (<< 1), nawk | gawk\n\nPackage: libbar-dev\nSource: bar\nVersion: 2.0-1\nArchitecture: all\n";
+
+// What packages offer by name, and what is asked by the number of a source or a package: the first
+// source's row on i386 and its field, the second package's source, and what the first source's
+// builds ask for.
+const NUMBERED: [(&str, &str); 14] = [
+    ("names 0", " mawk awk posix-awk"),
+    ("names 1", " libbar-dev"),
+    ("names 2", ""),
+    ("provides 0", "true"),
+    ("provides 1", "false"),
+    ("packages bar", "[1]"),
+    ("archs", "2 2"),
+    ("number bar", "Some(1)"),
+    ("number qux", "None"),
+    ("counts", "2 2 4"),
+    ("first", "Some(\"libbar-dev\")"),
+    ("second", "true"),
+    ("depends", "true"),
+    ("depends-arch", "false"),
+];
+
+#[test]
+fn packages_and_sources_are_asked_by_their_numbers(rt: HostRuntime) {
+    are_answered(&rt, rt.alloc(), ARCHS, ASKED, SOURCES, &NUMBERED);
 }
 
 // These many stanzas of Packages, and behind them one without what it needs.
@@ -208,66 +195,6 @@ fn one_row_too_many_is_too_many_rows(rt: HostRuntime) -> Result<(), Fail> {
             rows
         );
     }
-    Ok(())
-}
-
-// Policy 7.5: `(= 2)` gives a version; another restriction, or two alternatives, offer no name.
-const ASKED: &str =
-    "Package: mawk\nSource: foo\nVersion: 1.2-3\nArchitecture: amd64\nProvides: awk, posix-awk (= 2), old-awk (<< 1), nawk | gawk\n\nPackage: libbar-dev\nSource: bar\nVersion: 2.0-1\nArchitecture: all\n";
-
-fn names_are(rt: &impl Abort, archive: &Archive<'_, '_>, binary: usize, wanted: &[&str]) {
-    let mut place = 0;
-    for name in archive.offered_names(binary) {
-        assert_eq!(rt; wanted.get(place).copied(), Some(name));
-        place = place.wrapping_add(1);
-    }
-    assert_eq!(rt; place, wanted.len());
-}
-
-#[test]
-fn a_package_offers_its_name_and_those_it_provides(rt: HostRuntime) -> Result<(), Fail> {
-    let archs = Archs::read(rt.alloc(), ARCHS)?;
-    let archive = Archive::read(rt.alloc(), ASKED, SOURCES, &archs)?;
-    names_are(&rt, &archive, 0, &["mawk", "awk", "posix-awk"]);
-    names_are(&rt, &archive, 1, &["libbar-dev"]);
-    names_are(&rt, &archive, 2, &[]);
-    assert!(rt; archive.provides(0).is_some());
-    assert!(rt; archive.provides(1).is_none());
-    assert_eq!(rt; archive.packages_of("bar"), [1].as_slice());
-    Ok(())
-}
-
-fn first_source_is_foo(rt: &impl Abort, archive: &Archive<'_, '_>) {
-    assert!(rt; archive.arch_count() > 1);
-    assert!(rt; archive.has_row(0, 1));
-    assert!(rt; archive.source_count() > 0);
-    let depends = archive.stanza_of_source(0).get("build-depends");
-    assert_eq!(rt; depends, Some("libbar-dev"));
-}
-
-fn second_package_is_of_bar(rt: &impl Abort, archive: &Archive<'_, '_>) {
-    assert!(rt; archive.binary_count() > 1);
-    assert_eq!(rt; archive.stanza_of_binary(1).get("Source"), Some("bar"));
-}
-
-// Whether the first source asks for something in its two fields.
-fn asks(rt: &impl Abort, archive: &Archive<'_, '_>) -> Result<(bool, bool), AllocError> {
-    assert!(rt; archive.source_count() > 0);
-    let depends = archive.build_depends(0)?.is_some();
-    let depends_arch = archive.build_depends_arch(0)?.is_some();
-    Ok((depends, depends_arch))
-}
-
-#[test]
-fn a_source_is_asked_by_its_number(rt: HostRuntime) -> Result<(), Fail> {
-    let archs = Archs::read(rt.alloc(), ARCHS)?;
-    let archive = Archive::read(rt.alloc(), ASKED, SOURCES, &archs)?;
-    assert_eq!(rt; archive.archs().len(), archive.arch_count());
-    assert_eq!(rt; archive.source_number("bar"), Some(1));
-    assert_eq!(rt; archive.source_number("qux"), None);
-    first_source_is_foo(&rt, &archive);
-    second_package_is_of_bar(&rt, &archive);
-    assert_eq!(rt; asks(&rt, &archive)?, (true, false));
     Ok(())
 }
 
