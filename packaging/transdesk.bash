@@ -1,0 +1,48 @@
+# Completion of transdesk for bash: subcommands, their options, and files behind an option.
+# tools/check-completion compares the words with those of `transdesk --help`.
+
+_transdesk() {
+    local word=${COMP_WORDS[COMP_CWORD]} before=${COMP_WORDS[COMP_CWORD - 1]}
+    local subcommands="simulate check track waves help" options="--help"
+    COMPREPLY=()
+    if [ "$COMP_CWORD" -eq 1 ]; then
+        mapfile -t COMPREPLY < <(compgen -W "$subcommands --help --version" -- "$word")
+        return
+    fi
+    case ${COMP_WORDS[1]} in
+    help)
+        if [ "$COMP_CWORD" -eq 2 ]; then
+            mapfile -t COMPREPLY < <(compgen -W "$subcommands" -- "$word")
+        fi
+        return
+        ;;
+    check) options="--archs --packages --sources --help" ;;
+    track) options="--archs --packages --sources --tracker --state --chunk --help" ;;
+    waves) options="--archs --packages --sources --tracker --help" ;;
+    simulate) ;;
+    *) return ;;
+    esac
+    # An option and its value may be joined by `=`, which bash takes for a word of its own.
+    if [ "$word" = "=" ]; then
+        word=
+    elif [ "$before" = "=" ]; then
+        before=${COMP_WORDS[COMP_CWORD - 2]}
+    fi
+    case $before in
+    --archs | --packages | --sources | --tracker | --state)
+        compopt -o filenames 2> /dev/null
+        mapfile -t COMPREPLY < <(compgen -f -- "$word")
+        ;;
+    --chunk) ;;
+    *)
+        # Each option is given once.
+        local given option left=
+        given=" ${COMP_WORDS[*]:2:COMP_CWORD-2} "
+        for option in $options; do
+            case $given in *" $option "*) ;; *) left="$left $option" ;; esac
+        done
+        mapfile -t COMPREPLY < <(compgen -W "$left" -- "$word")
+        ;;
+    esac
+}
+complete -F _transdesk transdesk

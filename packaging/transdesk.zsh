@@ -1,0 +1,39 @@
+#compdef transdesk
+# Completion of transdesk for zsh: subcommands, their options, and files behind an option.
+# tools/check-completion compares the words with those of `transdesk --help`.
+
+_transdesk() {
+    local -a subcommands indices tracker
+    subcommands=(
+        'simulate:play steps of the desk and of its builders'
+        'check:count what two package indices hold'
+        'track:report how far a transition has come'
+        'waves:list the sources of a transition by levels'
+        'help:tell of a subcommand'
+    )
+    indices=(
+        '--archs=[the table of architectures]:file:_files'
+        '--packages=[the Packages index]:file:_files'
+        '--sources=[the Sources index]:file:_files'
+    )
+    tracker=('--tracker=[what the transition affects]:file:_files')
+    if (( CURRENT == 2 )); then
+        _describe subcommand subcommands
+        _arguments '--help[tell of the program]' '--version[tell the version]'
+        return
+    fi
+    (( CURRENT-- ))
+    shift words
+    case $words[1] in
+        help) (( CURRENT == 2 )) && _describe subcommand subcommands ;;
+        simulate) _arguments '--help[tell of the subcommand]' ;;
+        check) _arguments $indices '--help[tell of the subcommand]' ;;
+        track)
+            _arguments $indices $tracker '--state=[rows in the place of others]:file:_files' \
+                '--chunk=[rows of a piece]:rows:' '--help[tell of the subcommand]'
+            ;;
+        waves) _arguments $indices $tracker '--help[tell of the subcommand]' ;;
+    esac
+}
+
+_transdesk "$@"
