@@ -8,3 +8,4 @@ pub mod Skipping
 pub mod Ends
 pub mod Fixed
 pub mod Numbers
+pub mod Returns

@@ -10,3 +10,4 @@ pub mod Arriving
 pub mod Building
 pub mod Finishing
 pub mod Ready
+pub mod Reopening

@@ -18,6 +18,7 @@ mod inner;
 mod naming;
 mod opening;
 mod reading;
+mod reopening;
 mod skips;
 mod starting;
 #[cfg(test)]
