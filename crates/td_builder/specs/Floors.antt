@@ -1,0 +1,19 @@
+-- What a floor's calls say of a builder's seat. This project's own.
+use Rattle.std.specs.Prelude.{◌≡◌, ℕ}
+use Rattle.td_board.specs.declared.outcome.OutcomeCode.{OutcomeCode}
+use Rattle.td_board.specs.declared.views.Hand.TheVariants.{Holding}
+use Rattle.td_board.specs.Seats.{BuilderModel}
+use Rattle.td_board.specs.Knowledge.{with_finish}
+use Rattle.td_book.specs.declared.starting.Job.{Job}
+
+-- the seat holds a row
+abbrev pub IsHolding : BuilderModel → Type 0
+IsHolding s = (r : ℕ) × (s.builder.hand ≡ Holding r)
+
+-- the seat holds a row, for which the job may be answered
+abbrev pub IsStarted : (ℕ → Job → Type 0) → BuilderModel → Job → Type 0
+IsStarted jobs s job = (r : ℕ) × (s.builder.hand ≡ Holding r) × jobs r job
+
+-- the build of the row in hand ended with an outcome of this code, and nothing else changed
+abbrev pub IsFinished : OutcomeCode → BuilderModel → BuilderModel → Type 0
+IsFinished c old new = (r : ℕ) × (old.builder.hand ≡ Holding r) × (new ≡ record old { builder = with_finish r c old.builder })

@@ -1,0 +1,86 @@
+//! Where builders find rows, and how a row is built.
+ghost use Rattle.std.specs.Prelude.{◌≡◌, ℕ, false, ◌⊎◌, IfOk, IfErr, OnOk, OnErr, MatchBool};
+ghost use Rattle.td_board.specs.Answers.{IsWon, IsLost};
+ghost use Rattle.td_book.specs.Deeds.{code_of};
+ghost use Rattle.td_builder.specs.Floors.{IsHolding, IsStarted, IsFinished};
+ghost use Rattle.td_builder.specs.Stops.{start_stop, finish_stop};
+
+use crate::stop::WorkStop;
+use std::alloc::AllocError;
+use std::sync::Wait;
+use td_board::BuilderSeat;
+use td_book::{FinishRefusal, Job, StartRefusal};
+use td_journal::EntryNo;
+use td_rows::Outcome;
+
+/// A way to build.
+pub trait Builds {
+    ghost use Rattle.td_book.specs.declared.starting.Job.{Job as JobValue};
+    ghost use Rattle.td_rows.specs.declared.outcome.Outcome.{Outcome as OutcomeValue};
+
+    /// Which outcomes it may answer to a job.
+    ghost may: { Self → JobValue → OutcomeValue → Type 0 };
+
+    /// Builds what the job says, and answers how that ended.
+    fn build<R: Wait>(&self, rt: &R, job: &Job) -> Outcome
+        ensures { may self.now job.now result };
+}
+
+/// Where builders find rows. Many builders' threads share one.
+pub trait Floor {
+    ghost use Rattle.atomic_table.specs.Seated.{TableId};
+    ghost use Rattle.td_book.specs.declared.starting.Job.{Job as JobValue};
+    ghost use Rattle.td_builder.specs.declared.stop.WorkStop.{WorkStop as WorkStopValue};
+
+    /// The table of the board at which its builders sit.
+    ghost table: { Self → TableId };
+
+    /// How many rows the board has.
+    ghost rows: { Self → ℕ };
+
+    /// Which jobs `start` may answer for a row.
+    ghost jobs: { Self → ℕ → JobValue → Type 0 };
+
+    /// What is known once `wait_for_work` has said that nothing more comes.
+    ghost ended: { Self → Type 0 };
+
+    /// What is known once one of its calls was refused: for what the builder stops.
+    ghost stopped: { Self → WorkStopValue → Type 0 };
+
+    /// The numbers of the rows that wait for a builder, in the order in which they are to be tried.
+    fn ready<R: Wait>(&self, rt: &R) -> Result<Vec<usize>, AllocError>
+        ensures { OnErr result (stopped self.now WorkStop.NoMemory) };
+
+    /// Claims a row, as a board does.
+    fn claim(&self, row: usize, seat: &mut BuilderSeat) -> bool
+        requires { seat.old.table ≡ table self.now }
+        ensures { MatchBool result
+            (IsWon (rows self.now) row seat.old seat.new)
+            (IsLost seat.old seat.new) };
+
+    /// Starts the build of the row that the builder holds.
+    fn start<R: Wait>(&self, rt: &R, seat: &BuilderSeat) -> Result<Job, StartRefusal>
+        requires { seat.now.table ≡ table self.now }
+        ensures job { IfOk result (IsStarted (jobs self.now) seat.now) }
+        ensures err { IfErr result (λ e. stopped self.now (start_stop e)) };
+
+    /// Ends the build of the row that the builder holds. Where that is refused it may have ended
+    /// all the same, as the seat says.
+    fn finish<R: Wait>(
+        &self,
+        rt: &R,
+        seat: &mut BuilderSeat,
+        outcome: Outcome,
+    ) -> Result<EntryNo, FinishRefusal>
+        requires table { seat.old.table ≡ table self.now }
+        requires hand { IsHolding seat.old }
+        ensures ok { OnOk result (IsFinished (code_of outcome) seat.old seat.new) }
+        ensures seat { OnErr result
+            ((seat.new ≡ seat.old) ⊎ IsFinished (code_of outcome) seat.old seat.new) }
+        ensures err { IfErr result (λ e. stopped self.now (finish_stop e)) };
+
+    /// Waits until a row waits for a builder, or the floor is shut. False: it is shut, and none
+    /// waits.
+    fn wait_for_work<R: Wait>(&self, rt: &R) -> bool
+        ensures { result ≡ false → ended self.now };
+}

@@ -1,0 +1,15 @@
+//! Builders: what a builder does, over any floor with rows to build and any way to build one.
+//!
+//! Start at `work`. `Floor` is where builders find rows, `Builds` a way to build.
+//! Promised: a builder claims and finishes in turn; each build that it counts is one finish, of an
+//! outcome that the way to build may answer to a job of that row; and it ends, or stops, only
+//! where the floor says so.
+#![tactic(auto)]
+
+mod floor;
+mod stop;
+mod working;
+
+pub use floor::{Builds, Floor};
+pub use stop::WorkStop;
+pub use working::work;

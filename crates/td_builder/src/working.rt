@@ -1,0 +1,91 @@
+//! A builder's work.
+ghost use Rattle.std.specs.Prelude.{◌≡◌, ◌≤◌, ◌⊎◌, ◌^◌, ◌-◌, ℕ, IfOk, IfErr, OnOk, OnErr};
+ghost use Rattle.td_builder.specs.Floors.{IsHolding};
+ghost use Rattle.td_builder.specs.Turns.{Worked};
+
+use crate::floor::{Builds, Floor};
+use crate::stop::{WorkStop, finish_stop, start_stop};
+use std::sync::Wait;
+use td_board::{BuilderSeat, Hand};
+
+/// Claims rows of the floor and builds them until the floor is shut, and answers how many builds
+/// were finished. A row that the seat comes with is built first. After a stop the seat says where
+/// the builder stands, and the next `work` goes on from there. It ends at the last `u64`, too.
+pub fn work<F: Floor, B: Builds, R: Wait>(
+    rt: &R,
+    floor: &F,
+    seat: &mut BuilderSeat,
+    builds: &B,
+) -> Result<u64, WorkStop>
+    requires { seat.old.table ≡ F.table floor.now }
+    ensures worked { IfOk result (λ n.
+        Worked (F.jobs floor.now) (B.may builds.now) n seat.old seat.new) }
+    ensures ended { IfOk result (λ n. F.ended floor.now ⊎ (n ≡ 2 ^ 64 - 1)) }
+    ensures meanwhile { OnErr result ((n : ℕ)
+        × Worked (F.jobs floor.now) (B.may builds.now) n seat.old seat.new) }
+    ensures stopped { IfErr result (F.stopped floor.now) }
+{
+    let mut built = 0u64;
+    if let Hand::Holding(_) = seat.hand() {
+        build_held(rt, floor, seat, builds)?;
+        built = 1;
+    }
+    for _ in rt.forever() {
+        let Ok(ready) = floor.ready(rt) else {
+            return Err(WorkStop::NoMemory);
+        };
+        for at in 0..ready.len() {
+            if built == u64::MAX {
+                return Ok(built);
+            }
+            built += claim_and_build(rt, floor, ready[at], seat, builds)?;
+        }
+        if !floor.wait_for_work(rt) {
+            break;
+        }
+    }
+    Ok(built)
+}
+
+// Claims a row, and builds it where the claim is won. Answers how many builds were finished.
+fn claim_and_build<F: Floor, B: Builds, R: Wait>(
+    rt: &R,
+    floor: &F,
+    row: usize,
+    seat: &mut BuilderSeat,
+    builds: &B,
+) -> Result<u64, WorkStop>
+    requires { seat.old.table ≡ F.table floor.now }
+    ensures worked { IfOk result (λ n.
+        Worked (F.jobs floor.now) (B.may builds.now) n seat.old seat.new × (n ≤ 1)) }
+    ensures meanwhile { OnErr result ((n : ℕ)
+        × Worked (F.jobs floor.now) (B.may builds.now) n seat.old seat.new) }
+    ensures stopped { IfErr result (F.stopped floor.now) }
+{
+    if !floor.claim(row, seat) {
+        return Ok(0);
+    }
+    build_held(rt, floor, seat, builds)?;
+    Ok(1)
+}
+
+// Builds the row in hand.
+fn build_held<F: Floor, B: Builds, R: Wait>(
+    rt: &R,
+    floor: &F,
+    seat: &mut BuilderSeat,
+    builds: &B,
+) -> Result<(), WorkStop>
+    requires table { seat.old.table ≡ F.table floor.now }
+    requires hand { IsHolding seat.old }
+    ensures worked { OnOk result
+        (Worked (F.jobs floor.now) (B.may builds.now) 1 seat.old seat.new) }
+    ensures meanwhile { OnErr result ((n : ℕ)
+        × Worked (F.jobs floor.now) (B.may builds.now) n seat.old seat.new) }
+    ensures stopped { IfErr result (F.stopped floor.now) }
+{
+    let job = floor.start(rt, seat).map_err(start_stop)?;
+    let outcome = builds.build(rt, &job);
+    floor.finish(rt, seat, outcome).map_err(finish_stop)?;
+    Ok(())
+}
