@@ -1,3 +1,6 @@
 pub mod Stops
 pub mod Floors
 pub mod Turns
+pub mod OutcomeLines
+pub mod OutcomeReading
+pub mod Unused

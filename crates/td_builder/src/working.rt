@@ -84,8 +84,13 @@ fn build_held<F: Floor, B: Builds, R: Wait>(
         × Worked (F.jobs floor.now) (B.may builds.now) n seat.old seat.new) }
     ensures stopped { IfErr result (F.stopped floor.now) }
 {
-    let job = floor.start(rt, seat).map_err(start_stop)?;
+    let job = match floor.start(rt, seat) {
+        Ok(job) => job,
+        Err(refusal) => return Err(start_stop(refusal)),
+    };
     let outcome = builds.build(rt, &job);
-    floor.finish(rt, seat, outcome).map_err(finish_stop)?;
-    Ok(())
+    match floor.finish(rt, seat, outcome) {
+        Ok(_) => Ok(()),
+        Err(refusal) => Err(finish_stop(refusal)),
+    }
 }

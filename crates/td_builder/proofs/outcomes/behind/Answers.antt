@@ -1,0 +1,9 @@
+use Rattle.std.proofs.Common.{List, ℕ, Option, ap, sym, ◌∙◌}
+use Rattle.std.specs.Borrow.{Bor}
+use Rattle.td_text.specs.Lines.{lines_left}
+use Rattle.td_builder.specs.OutcomeLines.{ended}
+use Rattle.td_builder.proofs.OutcomeLists.{ended-none}
+use Rattle.td_builder.proofs.outcomes.behind.Goals as goal
+
+pub returns-in-None-clause-lines : goal.returns-in-None-clause-lines
+returns-in-None-clause-lines c = ended-none ∙ ap (λ (o : Option (Bor (List ℕ))). ended (lines_left o)) (sym c.in-None.is)
