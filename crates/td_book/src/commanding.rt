@@ -2,12 +2,13 @@
 ghost use Rattle.std.specs.Prelude.{◌≡◌, true, IfOk};
 ghost use Rattle.td_rows.specs.Keys.{ascending, names};
 ghost use Rattle.td_rows.specs.declared.key.Key.{Key as KeyValue};
+ghost use Rattle.td_rows.specs.Table.{keys_of};
 ghost use Rattle.td_change.specs.Saved.{HaveRows};
 ghost use Rattle.td_journal.specs.Commands.{is_command as is_a_command};
 ghost use Rattle.td_core.specs.History.{rows_of};
 ghost use Rattle.td_wbread.specs.Views.{parts_of};
 ghost use Rattle.td_book.specs.Calls.{IsCommanded, IsPlan, off_for as off_keys, taken_of};
-ghost use Rattle.td_book.specs.Commands.{IsAsked, IsDone};
+ghost use Rattle.td_book.specs.Commands.{IsAsked, IsDone, named_by};
 ghost use Rattle.td_book.specs.Skips.{left_of};
 
 use crate::book::Book;
@@ -88,6 +89,14 @@ impl<'a> Book<'a> {
             doubts,
         } = asked;
         self.enter(board, kind, &named, matched, doubts)
+    }
+
+    /// The keys of the rows that a command names, in order.
+    pub fn named(&self, command: &Command<'_>) -> Result<Vec<Key>, AllocError>
+        ensures keys { IfOk result (λ keys. keys.items ≡ named_by (parts_of command.now) self.now) }
+        ensures rising { ascending (keys_of (rows_of self.now.history)) ≡ true }
+    {
+        named(self.alloc, self.inner.books.rows(), command)
     }
 
     // Looks up what a command names.

@@ -174,7 +174,7 @@ pub(crate) fn doubts(
 }
 
 /// What a command's entry does to each row.
-pub(crate) fn kind_of(command: &Command<'_>) -> Result<Kind, AllocError>
+pub fn kind_of(command: &Command<'_>) -> Result<Kind, AllocError>
     ensures { IfOk result (λ kind. kind ≡ kind_in (parts_of command.now)) }
 {
     match &command.verb {
