@@ -4,10 +4,12 @@ ghost use Rattle.std.specs.Option.{option_copied};
 ghost use Rattle.td_rows.specs.Table.{row_of};
 ghost use Rattle.td_journal.specs.Entries.{entry_at};
 ghost use Rattle.td_core.specs.History.{rows_of};
+ghost use Rattle.td_core.specs.Offers.{supply_now};
 
 use crate::book::Book;
 use td_journal::{EntryNo, Journal, Marked};
 use td_rows::{Key, Row, Rows};
+use td_supply::Supply;
 
 impl<'a> Book<'a> {
     /// The rows as they are.
@@ -36,5 +38,11 @@ impl<'a> Book<'a> {
         ensures { result.now.entries ≡ self.now.history.journal }
     {
         self.inner.books.journal()
+    }
+    /// What is on offer: what the index offers, with the builds that have arrived.
+    pub fn supply(&self) -> &Supply<'a>
+        ensures { result.now ≡ supply_now self.now.fixed.stock self.now.history }
+    {
+        self.inner.books.supply()
     }
 }
