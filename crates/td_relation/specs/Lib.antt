@@ -1,5 +1,6 @@
 pub mod Arch
 pub mod ArchReading
+pub mod Limits
 pub mod Table
 pub mod TableView
 pub mod Fails

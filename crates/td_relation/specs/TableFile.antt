@@ -1,6 +1,7 @@
 -- Which texts are tables of architectures, and what is wrong with others. This project's own.
 use Rattle.std.specs.Prelude.{◌≡◌, ◌≢◌, ◌⊎◌, ℕ, ◌+◌, ◌≤◌, not, Bool, true, false, List, [], ◌∷◌, ◌++◌, length, map, Result, Ok, Err}
 use Rattle.std.specs.List.{filter, AllByRecursion}
+use Rattle.td_relation.specs.Limits.{max_archs}
 use Rattle.td_relation.specs.declared.archs.ArchsFault.{ArchsFault}
 use Rattle.td_relation.specs.declared.archs.ArchsFault.TheVariants.{BadLine, Twice, TooMany, NoMemory}
 use Rattle.td_relation.specs.Arch.{ArchWords, arch_line, ArchFits}
@@ -11,7 +12,7 @@ pub record AreLinesOf (seen archs : List ArchWords) (lines : List (List ℕ)) : 
   pub spelled : filter (λ line. not (is_skipped line)) lines ≡ map arch_line archs
   pub fits : AllByRecursion ArchFits archs
   pub fresh : Fresh seen archs
-  pub limited : length (seen ++ archs) ≤ 32
+  pub limited : length (seen ++ archs) ≤ max_archs
 
 -- the lines of a table, and the architectures in the order of their lines
 abbrev pub IsTable : List (List ℕ) → List ArchWords → Type 0
@@ -28,7 +29,7 @@ pub record IsLineNamed (is : Bool) (seen : List ArchWords) (line : List ℕ) : T
 abbrev pub IsFaulty : List ArchWords → ℕ → List ℕ → ArchsFault → Type 0
 IsFaulty seen number line (BadLine n) = (n ≡ number) × ((a : ArchWords) → ArchFits a → line ≢ arch_line a)
 IsFaulty seen number line (Twice n) = (n ≡ number) × IsLineNamed true seen line
-IsFaulty seen number line TooMany = IsLineNamed false seen line × (length seen ≡ 32)
+IsFaulty seen number line TooMany = IsLineNamed false seen line × (length seen ≡ max_archs)
 IsFaulty seen number line NoMemory = ⊥
 
 -- the first line with a fault: those before it are lines of a table

@@ -1,6 +1,7 @@
 ghost use Rattle.std.specs.Prelude.{◌≡◌, ◌<◌, ◌≤◌, ◌^◌, ◌+◌, Ok, IfOk, IfErr, OnOk, ◌≢◌, ◌++◌, ◌∷◌, [], length, map};
 ghost use Rattle.std.specs.List.{list_any};
 ghost use Rattle.std.specs.Str.{bytes_eq};
+ghost use Rattle.td_relation.specs.Limits.{max_archs};
 ghost use Rattle.td_relation.specs.Arch.{words_of};
 ghost use Rattle.td_relation.specs.ArchReading.{add_arch, arch_at, archs_at};
 ghost use Rattle.td_relation.specs.Fails.{Fails};
@@ -27,7 +28,7 @@ fn is_named(list: &[Arch<'_>], name: &str) -> bool
 // The architecture of a line that isn't skipped, behind those that were read.
 fn next_arch<'a>(list: &[Arch<'a>], number: usize, line: &'a str) -> Result<Arch<'a>, ArchsFault>
     ensures ok { IfOk result (λ a. add_arch number (map words_of list.now) (arch_at line.now) ≡ Ok (map words_of list.now ++ words_of a ∷ [])) }
-    ensures room { OnOk result (length list.now ≢ 32) }
+    ensures room { OnOk result (length list.now ≢ max_archs) }
     ensures err { IfErr result (λ e. Fails e (add_arch number (map words_of list.now) (arch_at line.now))) }
 {
     let Some(arch) = Arch::read(line) else {
@@ -58,7 +59,7 @@ fn push_arch<'a>(list: &mut Vec<Arch<'a>>, arch: Arch<'a>) -> Result<(), ArchsFa
 pub fn read_list(alloc: Global, text: &str) -> Result<Vec<Arch<'_>>, ArchsFault>
     requires { length text.now < 2 ^ 63 }
     ensures ok { IfOk result (λ list. archs_at text.now ≡ Ok (map words_of list.items)) }
-    ensures few { IfOk result (λ list. length list.items ≤ 32) }
+    ensures few { IfOk result (λ list. length list.items ≤ max_archs) }
     ensures err { IfErr result (λ e. Fails e (archs_at text.now)) }
 {
     let mut list = Vec::new(alloc);

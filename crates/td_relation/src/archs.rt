@@ -1,6 +1,7 @@
 ghost use Rattle.std.specs.Prelude.{◌≡◌, ◌≤◌, true, length, map, position};
 ghost use Rattle.std.specs.List.{list_all};
 ghost use Rattle.std.specs.Str.{bytes_eq};
+ghost use Rattle.td_relation.specs.Limits.{max_archs};
 ghost use Rattle.td_text.specs.Words.{is_arch};
 ghost use Rattle.td_relation.specs.Props.{IsApart-prop};
 ghost use Rattle.td_relation.specs.Arch.{words_of};
@@ -19,7 +20,7 @@ pub const MAX_ARCHS: usize = 32;
 #[derive(Debug, Drop)]
 pub struct Archs<'a> {
     list: Vec<Arch<'a>>,
-    ghost few: { length list.items ≤ 32 },
+    ghost few: { length list.items ≤ max_archs },
     ghost named: { list_all (λ a. is_arch a.name.now) list.items ≡ true },
     ghost apart: { IsApart (map words_of list.items) } by { IsApart-prop (map words_of list.items) },
 }
@@ -99,7 +100,7 @@ impl<'a> Archs<'a> {
     /// How many there are.
     pub fn len(&self) -> usize
         ensures value { result ≡ length (table self.now) }
-        ensures few { result ≤ 32 }
+        ensures few { result ≤ max_archs }
     {
         self.list.len()
     }

@@ -6,6 +6,7 @@ pub mod OutcomeCodes
 pub mod Cells
 pub mod Blank
 pub mod Kinds
+pub mod Limits
 pub mod Numbers
 pub mod States
 pub mod Meaning

@@ -1,6 +1,8 @@
 -- The line that stands for a row. This project's own.
 use Rattle.std.specs.Prelude.{ℕ, ◌≤◌, List, ◌∷◌, ◌++◌, decimal}
 use Rattle.std.specs.Fmt.{signed_decimal}
+use Rattle.td_text.specs.Limits.{max_rebuild}
+use Rattle.td_rows.specs.Limits.{max_priority}
 use Rattle.td_text.specs.Numbers.{IsWithin}
 use Rattle.td_rows.specs.declared.key.Key.{Key}
 use Rattle.td_rows.specs.declared.row.Row.{Row}
@@ -20,6 +22,6 @@ row_line p = key_text p.0 ++ 32 ∷ row_words p.1
 pub record RowFits (p : Key × Row) : Type 0 where
   pub key : KeyFits p.0
   pub state : StateFits p.1.state
-  pub priority : IsWithin 9999 p.1.priority
-  pub number : p.1.number ≤ 9999
+  pub priority : IsWithin max_priority p.1.priority
+  pub number : p.1.number ≤ max_rebuild
   pub texts : NotesFit (p.1.extra, p.1.dep_wait)

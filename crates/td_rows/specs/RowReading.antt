@@ -1,5 +1,7 @@
 -- How a row line is read.
 use Rattle.std.specs.Prelude.{ℕ, List, Option, Some}
+use Rattle.td_text.specs.Limits.{max_rebuild}
+use Rattle.td_rows.specs.Limits.{max_priority}
 use Rattle.td_text.specs.Chain.{◌>>=◌}
 use Rattle.td_text.specs.Cut.{cut, part}
 use Rattle.td_text.specs.Numbers.{number_at, signed_at}
@@ -17,7 +19,7 @@ row_line_at line = do
   b ← cut 32 a.1
   state ← state_at b.0
   d ← cut 32 b.1
-  priority ← signed_at 9999 d.0
-  number ← number_at 9999 (part 32 d.1).0
+  priority ← signed_at max_priority d.0
+  number ← number_at max_rebuild (part 32 d.1).0
   texts ← notes_at (part 32 d.1).1
   Some (key, record { state = state; priority = priority; number = number; dep_wait = texts.1; extra = texts.0 })

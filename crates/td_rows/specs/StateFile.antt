@@ -1,6 +1,7 @@
 -- State files: the lines of opening rows. This project's own.
 use Rattle.std.specs.Prelude.{◌≡◌, ◌≢◌, ℕ, ◌+◌, ◌≤◌, List, [], ◌∷◌, ◌++◌, Bool, true, false, map, length}
 use Rattle.std.specs.List.{filter, AllByRecursion}
+use Rattle.td_rows.specs.Limits.{max_rows}
 use Rattle.td_rows.specs.declared.key.Key.{Key}
 use Rattle.td_rows.specs.declared.row.Row.{Row}
 use Rattle.td_rows.specs.declared.state_file.StateFault.{StateFault}
@@ -30,7 +31,7 @@ pub record AreLinesOf (seen rows : Table) (lines : List (List ℕ)) : Type 0 whe
   pub spelled : filter is_filled lines ≡ map row_line rows
   pub opening : AllByRecursion Opens rows
   pub fresh : Fresh seen rows
-  pub limited : length (seen ++ rows) ≤ 1048576
+  pub limited : length (seen ++ rows) ≤ max_rows
 
 -- the lines of a state file, whose rows are t: the same ones, in the order of their keys
 pub record IsStateFile (lines : List (List ℕ)) (t : Table) : Type 0 where
@@ -58,7 +59,7 @@ abbrev pub IsFaulty : Table → ℕ → List ℕ → StateFault → Type 0
 IsFaulty seen number line (BadLine n) = (n ≡ number) × ((p : Key × Row) → RowFits p → line ≢ row_line p)
 IsFaulty seen number line (Twice n) = (n ≡ number) × IsRepeatedLine seen line
 IsFaulty seen number line (NotOpening n) = (n ≡ number) × ((f : IsFreshLine seen line) × (is_building f.row.1.state ≡ true))
-IsFaulty seen number line TooManyRows = (f : IsFreshLine seen line) × (is_building f.row.1.state ≡ false) × (length seen ≡ 1048576)
+IsFaulty seen number line TooManyRows = (f : IsFreshLine seen line) × (is_building f.row.1.state ≡ false) × (length seen ≡ max_rows)
 IsFaulty seen number line NoMemory = ⊥
 
 -- the first line with a fault: those before it are lines of opening rows

@@ -1,5 +1,6 @@
 -- How a state file is read: line by line, the first fault decides.
 use Rattle.std.specs.Prelude.{◌≡◌, ℕ, ◌==◌, List, [], ◌∷◌, ◌++◌, Option, Some, None, Result, Ok, Err, length, if◌then◌else◌}
+use Rattle.td_rows.specs.Limits.{max_rows}
 use Rattle.td_text.specs.Lines.{lines_of, over_lines}
 use Rattle.td_rows.specs.declared.key.Key.{Key}
 use Rattle.td_rows.specs.declared.row.Row.{Row}
@@ -16,7 +17,7 @@ add_row number seen None = Err (BadLine number)
 add_row number seen (Some p) =
     if names (keys_of seen) p.0 then Err (Twice number)
     else (if is_building p.1.state then Err (NotOpening number)
-    else (if length seen == 1048576 then Err TooManyRows else Ok (seen ++ p ∷ [])))
+    else (if length seen == max_rows then Err TooManyRows else Ok (seen ++ p ∷ [])))
 
 -- the rows seen with a line
 abbrev pub state_step : ℕ → Table → List ℕ → Result Table StateFault

@@ -1,6 +1,7 @@
 -- How rows are written, and which of them make a state file. This project's own.
 use Rattle.std.specs.Prelude.{◌≡◌, ℕ, ◌≤◌, List, true, false, map, length}
 use Rattle.std.specs.List.{AllByRecursion}
+use Rattle.td_rows.specs.Limits.{max_rows}
 use Rattle.td_text.specs.Lines.{lines_of, text_of}
 use Rattle.td_rows.specs.declared.key.Key.{Key}
 use Rattle.td_rows.specs.declared.row.Row.{Row}
@@ -23,7 +24,7 @@ pub record OpensInLines (p : Key × Row) : Type 0 where
 -- rows with which the desk may open
 pub record IsOpening (t : Table) : Type 0 where
   pub rising : ascending (keys_of t) ≡ true
-  pub limited : length t ≤ 1048576
+  pub limited : length t ≤ max_rows
   pub rows : AllByRecursion OpensInLines t
 
 -- what is written of opening rows is a state file, whose rows they are

@@ -1,5 +1,6 @@
 -- Rows as a finite map: the list of its entries, in the order of the keys. This project's own.
 use Rattle.std.specs.Prelude.{◌≡◌, ℕ, zero, suc, ◌≤◌, Bool, true, false, List, [], ◌∷◌, map, length, slice_get, Option, Some, None, if◌then◌else◌}
+use Rattle.td_rows.specs.Limits.{max_rows}
 use Rattle.td_rows.specs.declared.key.Key.{Key}
 use Rattle.td_rows.specs.declared.row.Row.{Row}
 use Rattle.td_rows.specs.declared.kind.Kind.{Kind}
@@ -22,7 +23,7 @@ keys_of t = map (λ p. p.0) t
 -- what holds of every table of `Rows`
 pub record IsTable (t : Table) : Type 0 where
   pub rising : ascending (keys_of t) ≡ true
-  pub limited : length t ≤ 1048576
+  pub limited : length t ≤ max_rows
 
 -- each row changed by f, which sees its key
 abbrev pub each_row : (Key → Row → Row) → Table → Table

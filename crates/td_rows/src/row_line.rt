@@ -30,20 +30,6 @@ pub struct RowText<'a> {
     pub dep_wait: &'a str,
 }
 
-fn read_priority(text: &str) -> Option<Priority>
-    ensures { result ≡ signed_at 9999 text.now }
-{
-    let value = signed(text, 9999)?;
-    Priority::new(value)
-}
-
-fn read_number(text: &str) -> Option<RebuildNumber>
-    ensures { result ≡ number_at 9999 text.now }
-{
-    let value = number(text, 9999)?;
-    RebuildNumber::new(value as u16)
-}
-
 impl<'a> RowText<'a> {
     ghost use Rattle.std.specs.Prelude.{◌≡◌, false, IfOk, option_map};
     ghost use Rattle.td_rows.specs.Text.{has_newline};
@@ -60,9 +46,9 @@ impl<'a> RowText<'a> {
         let (state, rest) = cut_at(rest, ' ')?;
         let state = read_state_word(state)?;
         let (priority, rest) = cut_at(rest, ' ')?;
-        let priority = read_priority(priority)?;
+        let priority = Priority::read(priority)?;
         let (number, texts) = part_at(rest, ' ');
-        let number = read_number(number)?;
+        let number = RebuildNumber::read(number)?;
         let (extra, dep_wait) = read_notes(texts)?;
         Some(RowText {
             source,

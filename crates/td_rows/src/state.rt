@@ -4,6 +4,9 @@ ghost use Rattle.td_rows.specs.States.{is_queued, is_building};
 /// The number of a builder, from 1.
 pub type BuilderNo = u64;
 
+/// The largest number of a builder that a journal has.
+pub const MAX_BUILDERS: BuilderNo = 64;
+
 /// Where the build of a source on an architecture stands.
 #[derive(Clone, Copy, Debug, PartialEq, Eq)]
 pub enum State {

@@ -1,4 +1,5 @@
 ghost use Rattle.std.specs.Prelude.{◌≡◌, ◌≤◌, ◌++◌, ◌∷◌, [], List, Ok, Err, IfOk, IfErr, OnOk, MatchResult, length, true, None};
+ghost use Rattle.td_rows.specs.Limits.{max_rows};
 ghost use Rattle.td_text.specs.Cut.{Without};
 ghost use Rattle.td_text.specs.Lines.{lines_of};
 ghost use Rattle.td_rows.specs.Keys.{ascending, same_key};
@@ -65,7 +66,7 @@ fn opening_row(
 // How many rows there may be, so that room for them is made at once.
 fn most_rows(text: &str) -> usize
     ensures few { result ≤ length text.now }
-    ensures limited { result ≤ 1048576 }
+    ensures limited { result ≤ max_rows }
 {
     let newlines = text
         .as_bytes()

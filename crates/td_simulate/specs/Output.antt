@@ -1,6 +1,7 @@
 -- What a simulation writes: a line for each answer, the word `rows`, and a line for each row as it is then. This project's own.
 use Rattle.std.specs.Prelude.{◌≡◌, ℕ, Bool, List, ◌∷◌, ◌++◌, map, codes, string_bytes}
 use Rattle.std.specs.List.{list_any}
+use Rattle.td_rows.specs.Limits.{max_builders}
 use Rattle.td_text.specs.Lines.{text_of}
 use Rattle.td_rows.specs.RowLine.{row_line}
 use Rattle.td_rows.specs.Table.{Table}
@@ -15,11 +16,11 @@ use Rattle.td_simulate.specs.Answers.{answer_line, is_refused}
 
 -- the answers to the steps, from these rows, without offers, and with 64 builders
 abbrev pub answers : Table → List Step → List Answer
-answers rows steps = answers_to (world_of rows nothing 64) steps
+answers rows steps = answers_to (world_of rows nothing max_builders) steps
 
 -- the rows after the last step
 abbrev pub last_rows : Table → List Step → Table
-last_rows rows steps = rows_of (after_all (world_of rows nothing 64) steps).history
+last_rows rows steps = rows_of (after_all (world_of rows nothing max_builders) steps).history
 
 -- all lines
 abbrev pub output : Table → List Step → List ℕ

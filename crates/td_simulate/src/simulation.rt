@@ -1,6 +1,7 @@
 ghost use Rattle.std.specs.Prelude.{◌≡◌, ◌++◌, List, map, IfOk, IfErr, OnOk, MatchResult};
 ghost use Rattle.std.specs.List.{list_any};
 ghost use Rattle.std.specs.String.{string_bytes};
+ghost use Rattle.td_rows.specs.Limits.{max_builders};
 ghost use Rattle.td_text.specs.Lines.{text_of};
 ghost use Rattle.td_rows.specs.Table.{Table};
 ghost use Rattle.td_core.specs.declared.step.Step.{Step as StepValue};
@@ -18,11 +19,8 @@ use crate::parts::parts_of;
 use crate::steps_reading::read_steps;
 use std::alloc::{AllocError, Global};
 use td_core::{Answer, Step, World, run};
-use td_rows::{Rows, read_state, rows_text};
+use td_rows::{MAX_BUILDERS, Rows, read_state, rows_text};
 use td_supply::Supply;
-
-/// How many builders a simulation has.
-const BUILDERS: usize = 64;
 
 /// What is told of a simulation.
 #[derive(Debug, Drop)]
@@ -79,10 +77,11 @@ fn run_without_offers<'a>(
     steps: Vec<Step>,
 ) -> Result<(World<'a>, Vec<Answer>), AllocError>
     requires { NoneBuilt rows }
-    ensures world { IfOk result (λ end. end.0 ≡ after_all (world_of rows nothing 64) steps.items) }
-    ensures answers { IfOk result (λ end. end.1.items ≡ answers_to (world_of rows nothing 64) steps.items) }
+    ensures world { IfOk result (λ end. end.0 ≡ after_all (world_of rows nothing max_builders) steps.items) }
+    ensures answers { IfOk result (λ end. end.1.items ≡ answers_to (world_of rows nothing max_builders) steps.items) }
 {
-    run(alloc, rows, Supply::empty(alloc), BUILDERS, steps)
+    let builders = MAX_BUILDERS as usize;
+    run(alloc, rows, Supply::empty(alloc), builders, steps)
 }
 
 // What is told of these steps from these rows.

@@ -1,4 +1,5 @@
 ghost use Rattle.std.specs.Prelude.{◌≡◌, ◌≤◌, List, IfOk, map, option_map};
+ghost use Rattle.td_text.specs.Limits.{max_rebuild};
 ghost use Rattle.td_version.specs.Version.{parts_of};
 ghost use Rattle.td_supply.specs.Arrivals.{is_exactly as is_exactly_of, made_at, made_of, put as put_of, put_all, rebuild_there};
 ghost use Rattle.td_supply.specs.Supplied.{last_part as last_part_of};
@@ -34,7 +35,7 @@ fn rebuild<'a>(
     place: usize,
     number: u16,
 ) -> Result<Option<Rebuilt<'a>>, AllocError>
-    requires { number ≤ 9999 }
+    requires { number ≤ max_rebuild }
     ensures { IfOk result (λ made. option_map rebuilt_parts made ≡ rebuild_there place number (supplied offer.now)) }
 {
     if !is_exactly(place, offer.arch) {
@@ -60,7 +61,7 @@ fn rebuild_at<'a>(
     place: usize,
     number: u16,
 ) -> Result<Option<Rebuilt<'a>>, AllocError>
-    requires { number ≤ 9999 }
+    requires { number ≤ max_rebuild }
     ensures { IfOk result (λ made. option_map rebuilt_parts made ≡ made_at (λ s. rebuild_there place number (supplied s)) items.now at) }
 {
     match items.get(at) {
@@ -78,7 +79,7 @@ pub fn rebuilds<'a>(
     place: usize,
     number: u16,
 ) -> Result<Vec<(usize, Rebuilt<'a>)>, AllocError>
-    requires { number ≤ 9999 }
+    requires { number ≤ max_rebuild }
     ensures { IfOk result (λ made. map rebuilt_at made.items ≡ made_of (λ s. rebuild_there place number (supplied s)) items.now numbers.now) }
 {
     let mut made = Vec::new(alloc);

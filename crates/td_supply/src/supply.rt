@@ -1,4 +1,5 @@
 ghost use Rattle.std.specs.Prelude.{◌≡◌, ◌<◌, ◌≤◌, List, ℕ, [], None, IfOk, IfSome, OnOk, OnErr, length, map, option_map, slice_get};
+ghost use Rattle.td_text.specs.Limits.{max_rebuild};
 ghost use Rattle.td_version.specs.Version.{parts_of};
 ghost use Rattle.td_relation.specs.TableView.{table};
 ghost use Rattle.td_supply.specs.Supply.{arrived, meets as meets_of, nothing, opened, unstocked, version_of, with_offer, with_source};
@@ -119,7 +120,7 @@ impl<'a> Supply<'a> {
     /// binary packages of exactly that architecture is offered at the rebuilt version from now on.
     /// On an architecture that isn't in the table nothing changes.
     pub fn arrive(&mut self, source: &str, arch: &str, number: u16) -> Result<(), AllocError>
-        requires limited { number ≤ 9999 }
+        requires limited { number ≤ max_rebuild }
         ensures ok { OnOk result (self.new ≡ arrived self.old source.now arch.now number) }
         ensures err { OnErr result (self.new ≡ self.old) }
     {

@@ -2,6 +2,7 @@ pub mod Chain
 pub mod Cut
 pub mod Exact
 pub mod FirstFault
+pub mod Limits
 pub mod Lines
 pub mod Numbers
 pub mod Runs

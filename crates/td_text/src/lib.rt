@@ -19,7 +19,7 @@ mod writing;
 
 pub use cutting::{cut_at, part_at, strip};
 pub use line::next_line;
-pub use numeral::{number, numbers_are_exact, signed};
+pub use numeral::{MAX_REBUILD, number, numbers_are_exact, rebuild_number, signed};
 pub use runs::{arch_run, is_blank, is_space, name_run, trimmed};
 pub use word::{are_arch_bytes, is_arch, is_name};
 pub use writing::{put_number, put_signed};

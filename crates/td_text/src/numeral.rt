@@ -1,7 +1,11 @@
 ghost use Rattle.std.specs.Prelude.{◌≡◌, ◌<◌, ◌≤◌, ◌^◌, IfSome};
+ghost use Rattle.td_text.specs.Limits.{max_rebuild};
 ghost use Rattle.td_text.specs.Numbers.{has_spare_front as has_spare_front_of, number_at, signed_at, IsWithin, NumbersAreExact, SignedAreExact};
 
 use crate::cutting::strip;
+
+/// The largest rebuild number, the `9999` of `+b9999`.
+pub const MAX_REBUILD: u16 = 9999;
 
 fn has_spare_front(text: &str) -> bool
     ensures { result ≡ has_spare_front_of text.now }
@@ -22,6 +26,15 @@ pub fn number(text: &str, max: u64) -> Option<u64>
         Ok(number) if number <= max => Some(number),
         _ => None,
     }
+}
+
+/// A rebuild number, the `N` of `+bN`.
+pub fn rebuild_number(text: &str) -> Option<u16>
+    ensures value { result ≡ number_at max_rebuild text.now }
+    ensures bounded { IfSome result (λ n. n ≤ max_rebuild) }
+{
+    let number = number(text, MAX_REBUILD as u64)?;
+    Some(number as u16)
 }
 
 /// A number from `-max` to `max`: `-` stands only before a number that isn't 0.

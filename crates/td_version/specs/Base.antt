@@ -1,5 +1,6 @@
 -- A version without the suffix of a rebuild. This project's own.
 use Rattle.std.specs.Prelude.{◌≡◌, ℕ, ◌==◌, ◌&&◌, ◌<◌, ◌≤◌, List, Option, Some, None, length, unwrap_or, codes, if◌then◌else◌}
+use Rattle.td_text.specs.Limits.{max_rebuild}
 use Rattle.td_text.specs.Chain.{◌>>=◌}
 use Rattle.td_text.specs.Cut.{strip}
 use Rattle.td_text.specs.Numbers.{number_at}
@@ -13,7 +14,7 @@ unfoldable pub rebuilt_from : List ℕ → Option (List ℕ)
 rebuilt_from part = do
   p ← cut_last 43 part
   digits ← strip (codes "b") p.1
-  n ← number_at 9999 digits
+  n ← number_at max_rebuild digits
   if n == 0 then None else Some p.0
 
 -- the part without it
@@ -34,7 +35,7 @@ base_of p = base_by p.epoch p.upstream p.revision
 
 -- a part with the suffix of a rebuild has the part itself as its base
 abbrev pub RebuildsHaveBases : Type 0
-RebuildsHaveBases = (part : List ℕ) (n : ℕ) → 0 < n → n ≤ 9999 → base_part (rebuild_text part n) ≡ part
+RebuildsHaveBases = (part : List ℕ) (n : ℕ) → 0 < n → n ≤ max_rebuild → base_part (rebuild_text part n) ≡ part
 
 -- where a text splits into a base and a number, and the base is a version, it is the base of the version that the text is
 abbrev pub SplitsHaveBases : Type 0

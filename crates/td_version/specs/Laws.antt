@@ -2,6 +2,7 @@
 use Rattle.std.specs.Prelude.{◌≡◌, ◌≢◌, ℕ, ◌<◌, ◌≤◌, List}
 use Rattle.std.specs.Ordering.{ordering_reverse}
 use Rattle.std.specs.declared.cmp.Ordering.TheVariants.{Less, Equal, Greater}
+use Rattle.td_text.specs.Limits.{max_rebuild}
 use Rattle.td_version.specs.Version.{Parts}
 use Rattle.td_version.specs.Order.{version_cmp}
 use Rattle.td_version.specs.Grammar.{IsVersion}
@@ -37,13 +38,13 @@ pub record SomeTextsAreEqualInOrder : Type 0 where
 -- A rebuild of a version is a version.
 abbrev pub RebuildsAreVersions : Type 0
 RebuildsAreVersions =
-    (base : List ℕ) (p : Parts) (n : ℕ) → IsVersion base p → n ≤ 9999 →
+    (base : List ℕ) (p : Parts) (n : ℕ) → IsVersion base p → n ≤ max_rebuild →
     (q : Parts) × IsVersion (rebuild_text base n) q
 
 -- A rebuild is above its base, which is the rebuild with number 0, and above each rebuild of that
 -- with a smaller number.
 abbrev pub RebuildsRise : Type 0
 RebuildsRise =
-    (base : List ℕ) (m n : ℕ) → m < n → n ≤ 9999 →
+    (base : List ℕ) (m n : ℕ) → m < n → n ≤ max_rebuild →
     (low high : Parts) → IsVersion (rebuild_text base m) low → IsVersion (rebuild_text base n) high →
     version_cmp low high ≡ Less

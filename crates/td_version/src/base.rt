@@ -3,9 +3,8 @@ ghost use Rattle.td_version.specs.Base.{base_of as base_of_parts, base_part as b
 ghost use Rattle.td_version.specs.Version.{parts_of};
 
 use crate::cutting::cut_at_last;
-use crate::rebuild::MAX_REBUILD;
 use crate::version::Version;
-use td_text::{number, strip};
+use td_text::{rebuild_number, strip};
 
 /// What stands before `+bN` at the end of a part, if it ends so.
 #[tactic(auto, unfolding(crate::specs::Base::rebuilt_from))]
@@ -14,7 +13,7 @@ fn rebuilt_from(part: &str) -> Option<&str>
 {
     let (base, suffix) = cut_at_last(part, '+')?;
     let digits = strip(suffix, "b")?;
-    let number = number(digits, MAX_REBUILD as u64)? as u16;
+    let number = rebuild_number(digits)?;
     if number == 0 {
         return None;
     }

@@ -20,5 +20,6 @@ mod version;
 pub use base::base_of;
 pub use laws::{rebuilds_rise, versions_are_ordered};
 pub use order::{cmp_version, is_same_version};
-pub use rebuild::{MAX_REBUILD, split_rebuild, write_rebuild};
+pub use rebuild::{split_rebuild, write_rebuild};
+pub use td_text::MAX_REBUILD;
 pub use version::{MAX_EPOCH, Version, VersionFault};

@@ -1,13 +1,11 @@
 ghost use Rattle.std.specs.Prelude.{◌≡◌, ◌≤◌, ℕ, List, IfOk, IfSome, option_map, string_bytes};
+ghost use Rattle.td_text.specs.Limits.{max_rebuild};
 ghost use Rattle.td_version.specs.Rebuild.{IsRebuild, rebuild_text};
 ghost use Rattle.td_version.specs.Splitting.{rebuild_at};
 
 use crate::cutting::cut_at_last;
 use std::alloc::{AllocError, Global};
-use td_text::{number, strip};
-
-/// The largest rebuild number, the `9999` of `+b9999`.
-pub const MAX_REBUILD: u16 = 9999;
+use td_text::{rebuild_number, strip};
 
 /// Splits `1.2-3+b4` into `1.2-3` and 4. A text that ends in no rebuild suffix is its own base,
 /// with 0.
@@ -28,7 +26,7 @@ fn rebuild(text: &str) -> Option<(&str, u16)>
 {
     let (base, suffix) = cut_at_last(text, '+')?;
     let digits = strip(suffix, "b")?;
-    let number = number(digits, MAX_REBUILD as u64)? as u16;
+    let number = rebuild_number(digits)?;
     if base.is_empty() || number == 0 {
         return None;
     }
@@ -37,7 +35,7 @@ fn rebuild(text: &str) -> Option<(&str, u16)>
 
 /// The base with `+bN` behind it, and the base alone for number 0.
 pub fn write_rebuild(alloc: Global, base: &str, number: u16) -> Result<String, AllocError>
-    requires { number ≤ MAX_REBUILD }
+    requires { number ≤ max_rebuild }
     ensures { IfOk result (λ text. string_bytes text ≡ rebuild_text base.now number) }
 {
     if number == 0 {

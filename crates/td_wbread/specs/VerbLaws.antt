@@ -2,6 +2,8 @@
 use Rattle.std.specs.Prelude.{◌≡◌, ◌↔◌, ◌⊎◌, ℕ, ◌<◌, ◌≤◌, true, List, [], ◌∷◌, Some, None, Ok, length, codes, decimal, ℤ, pos}
 use Rattle.std.specs.Str.{all_ascii_digits}
 use Rattle.std.specs.Str.Parse.{digits_value}
+use Rattle.td_text.specs.Limits.{max_rebuild}
+use Rattle.td_rows.specs.Limits.{max_priority}
 use lib.IntN.{neg_ℤ}
 use Rattle.td_wbread.specs.declared.command.Verb.{Verb}
 use Rattle.td_wbread.specs.declared.command.Verb.TheVariants.{Gb, Nmu, Bp, Dw}
@@ -21,7 +23,7 @@ pub record AreDigits (text : List ℕ) : Type 0 where
 pub record IsSize (text : List ℕ) (n : ℕ) : Type 0 where
   pub are_digits : AreDigits text
   pub value : digits_value 10 text ≡ n
-  pub bounded : n ≤ 9999
+  pub bounded : n ≤ max_priority
 
 -- the text writes this priority: digits, or a minus and digits
 abbrev pub IsPriority : List ℕ → ℤ → Type 0
@@ -31,7 +33,7 @@ IsPriority text priority = (size : List ℕ) × (n : ℕ) × IsSize size n × ((
 pub record IsRebuildNumber (text : List ℕ) (n : ℕ) : Type 0 where
   pub written : text ≡ decimal n
   pub positive : 1 ≤ n
-  pub bounded : n ≤ 9999
+  pub bounded : n ≤ max_rebuild
 
 -- ---- 2. what follows `nmu`
 

@@ -4,6 +4,8 @@ use Rattle.std.specs.Char.{is_ascii_digit}
 use Rattle.std.specs.List.{list_all}
 use Rattle.std.specs.Str.{all_ascii_digits, bytes_eq}
 use Rattle.std.specs.Str.Parse.{digits_value}
+use Rattle.td_text.specs.Limits.{max_rebuild}
+use Rattle.td_rows.specs.Limits.{max_priority}
 use lib.IntN.{neg_ℤ}
 use Rattle.td_text.specs.Chain.{◌>>=◌}
 use Rattle.td_text.specs.Cut.{strip}
@@ -26,7 +28,7 @@ is_digits text = nat_lt 0 (length text) && list_all is_ascii_digit text
 
 -- one digit or more, of a number of at most 9999; zeros in front don't count
 abbrev pub is_size : List ℕ → Bool
-is_size text = nat_lt 0 (length text) && (all_ascii_digits text && nat_le (digits_value 10 text) 9999)
+is_size text = nat_lt 0 (length text) && (all_ascii_digits text && nat_le (digits_value 10 text) max_priority)
 
 -- the number that such digits are
 abbrev pub size_at : List ℕ → Option ℕ
@@ -67,7 +69,7 @@ numbered word words (Some n) = if n == 0 then Err (Wrong BadNumber word.place) e
 -- a word of digits is the number where the packages follow it
 abbrev pub rebuild_from : End → Word → List Word → Result (Verb × List Word) CommandFault
 rebuild_from end word words =
-    if is_digits word.text && goes_on end words then numbered word words (number_at 9999 word.text)
+    if is_digits word.text && goes_on end words then numbered word words (number_at max_rebuild word.text)
     else Ok (Nmu None, word ∷ words)
 
 -- what follows `nmu`
