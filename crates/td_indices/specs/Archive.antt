@@ -3,6 +3,7 @@ use Rattle.std.specs.Prelude.{◌≡◌, ◌⊎◌, ℕ, ◌+◌, ◌<◌, ◌�
 use Rattle.std.specs.List.{find}
 use Rattle.std.specs.Option.{option_map_or}
 use Rattle.std.specs.Str.{bytes_eq}
+use Rattle.td_rows.specs.Limits.{max_rows}
 use Rattle.td_stanza.specs.Field.{Entry}
 use Rattle.td_stanza.specs.StanzaGrammar.{AreStanzas}
 use Rattle.td_stanza.specs.StanzaFaults.{HasFault}
@@ -72,7 +73,7 @@ pub record IsArchive (table : List ArchWords) (package_lines source_lines : List
   pub source_stanzas : AreStanzas a.source_stanzas source_lines
   pub binaries : binaries_at table a.packages ≡ Ok a.binaries
   pub sources : sources_at a.source_stanzas ≡ Ok a.sources
-  pub limited : row_count table a.sources ≤ 1048576
+  pub limited : row_count table a.sources ≤ max_rows
 
 -- ---- 3. what is wrong with others
 
@@ -91,7 +92,7 @@ pub record HasTooManyRows (table : List ArchWords) (package_lines source_lines :
   pub source_stanzas : AreStanzas contents.source_stanzas source_lines
   pub binaries : binaries_at table contents.packages ≡ Ok contents.binaries
   pub sources : sources_at contents.source_stanzas ≡ Ok contents.sources
-  pub beyond : 1048576 < row_count table contents.sources
+  pub beyond : max_rows < row_count table contents.sources
 
 -- the fault of a text as a control file; want of memory may stand in place of any answer
 abbrev pub FaultOf : List ArchWords → List (List ℕ) → List (List ℕ) → ArchiveFault → Type 0

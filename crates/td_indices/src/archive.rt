@@ -1,3 +1,5 @@
+ghost use Rattle.td_rows.specs.Limits.{max_rows};
+
 use crate::archive_fault::{ArchiveFault, IndexFile};
 use crate::grouping::{group_binaries, those_on};
 use crate::groups::Groups;
@@ -52,7 +54,7 @@ impl<'t, 'a> Model for Archive<'t, 'a> {
     } };
 
     ghost invariant = { λ a. ((q : List ℕ) → group a.groups q ≡ places_from (is_of q) 0 (binaries_of a.binaries.entries))
-        × (a.rows ≡ row_count (table a.archs.now) (sources_of a.sources.entries)) × (a.rows ≤ 1048576)
+        × (a.rows ≡ row_count (table a.archs.now) (sources_of a.sources.entries)) × (a.rows ≤ max_rows)
         × (sources_at a.source_stanzas ≡ Ok (sources_of a.sources.entries))
         × (binaries_at (table a.archs.now) a.packages ≡ Ok (binaries_of a.binaries.entries)) };
 }
@@ -160,7 +162,7 @@ impl<'t, 'a> Archive<'t, 'a> {
     /// How many rows the sources have.
     pub fn row_count(&self) -> usize
         ensures rows { result ≡ row_count self.now.table self.now.sources }
-        ensures limited { result ≤ 1048576 }
+        ensures limited { result ≤ max_rows }
     {
         self.rows
     }
@@ -306,7 +308,7 @@ impl<'t, 'a> Archive<'t, 'a> {
     // The rows of all sources, source by source.
     fn open_all(&self) -> Result<IndexMap<Key, Row>, AllocError>
         ensures rows { IfOk result (λ rows. (k : Key) → row_of rows.entries k ≡ opening_row_of self.now k) }
-        ensures few { IfOk result (λ rows. length rows.entries ≤ 1048576) }
+        ensures few { IfOk result (λ rows. length rows.entries ≤ max_rows) }
     {
         let mut rows = IndexMap::with_capacity(self.alloc, self.row_count())?;
         for number in 0..self.source_count() {

@@ -1,4 +1,6 @@
 ghost use Rattle.std.specs.Prelude.{◌≡◌, ◌≤◌, ◌<◌, IfOk, IfErr, length};
+ghost use Rattle.td_relation.specs.Limits.{max_archs};
+ghost use Rattle.td_rows.specs.Limits.{max_rows};
 ghost use Rattle.td_relation.specs.TableView.{table};
 ghost use Rattle.td_indices.specs.Rows.{
   has_row as has_row_of,
@@ -41,7 +43,7 @@ pub fn has_row(archs: &Archs<'_>, words: &str, place: usize) -> bool
 /// How many rows a source with this Architecture field has.
 fn rows_of(archs: &Archs<'_>, words: &str) -> usize
     ensures value { result ≡ rows_before (table archs.now) words.now (length (table archs.now)) }
-    ensures few { result ≤ 32 }
+    ensures few { result ≤ max_archs }
 {
     let mut count = 0;
     for place in 0..archs.len() {
@@ -58,8 +60,8 @@ pub fn count_rows(
     sources: &IndexMap<&str, Sourced<'_>>,
 ) -> Result<usize, ArchiveFault>
     ensures ok { IfOk result (λ rows. rows ≡ row_count (table archs.now) (sources_of sources.now.entries)) }
-    ensures limited { IfOk result (λ rows. rows ≤ 1048576) }
-    ensures too_many { IfErr result (λ e. 1048576 < row_count (table archs.now) (sources_of sources.now.entries)) }
+    ensures limited { IfOk result (λ rows. rows ≤ max_rows) }
+    ensures too_many { IfErr result (λ e. max_rows < row_count (table archs.now) (sources_of sources.now.entries)) }
     ensures fault { IfErr result (λ e. e ≡ ArchiveFault.TooManyRows) }
 {
     let mut rows = 0;
