@@ -10,6 +10,7 @@ use Rattle.std.specs.declared.cmp.Ordering.{Ordering}
 use Rattle.std.specs.declared.cmp.Ordering.TheVariants.{Less, Equal, Greater}
 use Rattle.std.proofs.lemmas.Bool.{and_parts}
 use Rattle.std.proofs.lemmas.List.{take_more, map-append}
+use Rattle.td_rows.proofs.Rising.{is_less}
 use Rattle.td_rows.specs.declared.key.Key.{Key}
 use Rattle.td_rows.specs.declared.row.Row.{Row}
 use Rattle.td_rows.specs.declared.kind.Kind.{Kind}
@@ -20,7 +21,7 @@ use Rattle.td_rows.specs.Kinds.{written}
 use Rattle.td_rows.specs.Meaning.{applies, means}
 use Rattle.td_rows.specs.Table.{Table, IsAt, row_of, keys_of, each_row, at_key, meant, applied, fits, AppliesOn, changed_at}
 use Rattle.td_rows.proofs.Keys.{key_total, same_key-true, same_key-refl}
-use Rattle.td_rows.proofs.Tables.{row_of-each_row, keys_of-each_row, each_row-each_row, each_row-alike, each_row-itself, changed_at-each_row, names-at}
+use Rattle.td_rows.proofs.Tables.{row_of-each_row, keys_of-each_row, each_row-each_row, each_row-alike, each_row-itself, changed_at-each_row, names-at, below_key}
 use Rattle.td_change.specs.Saved.{place_of, number_of, kept_of, saved, HaveRows}
 use Rattle.td_change.specs.Plans.{Planned, plan_of, left, left_out, without, without_row}
 use Rattle.td_change.specs.Inside.{ready, numbered, HaveTexts}
@@ -36,19 +37,9 @@ applied-first kind k ks t unnamed = each_row-each_row (at_key k (means kind)) (m
       | false ↦ λ _. refl
     ] refl
 
-is_less : (o : Ordering) → is_lt o ≡ true → o ≡ Less
-is_less Less h = refl
-is_less Equal h = cc
-is_less Greater h = cc
-
 -- a key above another compares so
 pub above : (a b : Key) → is_lt (key_cmp a b) ≡ true → key_cmp b a ≡ Greater
 above a b h = key_total.antisymm b a ∙ ap ordering_reverse (is_less (key_cmp a b) h)
-
-below_at : (x : Key) (ks : List Key) (j : ℕ) (d : Key) → below_all x ks ≡ true → j < length ks → is_lt (key_cmp x (get_or ks j d)) ≡ true
-below_at x [] j d h lt = absurd (omega arith)
-below_at x (p ∷ ks) zero d h lt = (and_parts (is_lt (key_cmp x p)) (below_all x ks) h).0
-below_at x (p ∷ ks) (suc j) d h lt = below_at x ks j d (and_parts (is_lt (key_cmp x p)) (below_all x ks) h).1 (omega arith)
 
 -- the next of keys that rise goes last
 pub insert_entry-next : {X : Type 0} (f : Key → X) (ks : List Key) (i : ℕ) (k : Key) (v : X) → ascending ks ≡ true → i < length ks → k ≡ get_or ks i k
@@ -57,7 +48,7 @@ insert_entry-next f [] i k v up within is = absurd (omega arith)
 insert_entry-next f (q ∷ ks) zero k v up within is = refl
 insert_entry-next {X} f (q ∷ ks) (suc i) k v up within is =
     let both = and_parts (below_all q ks) (ascending ks) up in
-    let over : key_cmp k q ≡ Greater = above q k (subst (λ (x : Key). is_lt (key_cmp q x) ≡ true) (sym is) (below_at q ks i k both.0 (omega arith))) in
+    let over : key_cmp k q ≡ Greater = above q k (subst (λ (x : Key). is_lt (key_cmp q x) ≡ true) (sym is) (below_key q ks i k both.0 (omega arith))) in
     let es : List (Key × X) = map (λ x. (x, f x)) (take i ks) in
     ap (λ o. match_ordering o ((k, v) ∷ (q, f q) ∷ es) ((q, v) ∷ es) ((q, f q) ∷ insert_entry key_cmp es k v)) over
     ∙ ap (λ (us : List (Key × X)). (q, f q) ∷ us) (insert_entry-next f ks i k v both.1 (omega arith) is)

@@ -11,9 +11,8 @@ use Rattle.td_indices.specs.Archive.{Contents}
 use Rattle.td_indices.specs.Sources.{KeptSource}
 use Rattle.td_indices.specs.Seen.{seen_source, shown_source}
 use Rattle.td_indices.specs.declared.sourced.Source.{Source}
-use Rattle.td_rows.proofs.Lists.{slice_get-none}
+use Rattle.td_rows.proofs.Lists.{slice_get-none, take-next}
 use Rattle.td_query.proofs.Gathering.{any-push}
-use Rattle.td_query.proofs.KeptMarks.{first-more}
 use Rattle.td_query.specs.Statuses.{is_affected, is_affected_at, row_status, status_at}
 use Rattle.td_query.specs.Tracking.{Tracking}
 
@@ -78,11 +77,11 @@ filter-drop keep (y ∷ ys) x h =
 
 -- with the name of one more that is affected
 names-more : {A B : Type 0} (keep : A → Bool) (name : A → B) (xs : List A) (i : ℕ) (x : A) → slice_get xs i ≡ Some x → keep x ≡ true → map name (filter keep (take i xs)) ++ name x ∷ [] ≡ map name (filter keep (take (i + 1) xs))
-names-more keep name xs i x at h = sym (ap (λ l. map name (filter keep l)) (first-more xs i x at) ∙ ap (map name) (filter-push keep (take i xs) x h) ∙ map-append name (filter keep (take i xs)) (x ∷ []))
+names-more keep name xs i x at h = sym (ap (λ l. map name (filter keep l)) (take-next xs i x at) ∙ ap (map name) (filter-push keep (take i xs) x h) ∙ map-append name (filter keep (take i xs)) (x ∷ []))
 
 -- and without one that isn't
 names-same : {A B : Type 0} (keep : A → Bool) (name : A → B) (xs : List A) (i : ℕ) (x : A) → slice_get xs i ≡ Some x → keep x ≡ false → map name (filter keep (take i xs)) ≡ map name (filter keep (take (i + 1) xs))
-names-same keep name xs i x at h = sym (ap (λ l. map name (filter keep l)) (first-more xs i x at) ∙ ap (map name) (filter-drop keep (take i xs) x h))
+names-same keep name xs i x at h = sym (ap (λ l. map name (filter keep l)) (take-next xs i x at) ∙ ap (map name) (filter-drop keep (take i xs) x h))
 
 -- the source that was found
 found : (o : Option KeptSource) (x : Source) → Some (seen_source x) ≡ option_map shown_source o → (s : KeptSource) × (o ≡ Some s) × (s.head.name ≡ x.name.now)

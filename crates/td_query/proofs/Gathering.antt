@@ -2,25 +2,18 @@
 use Rattle.std.proofs.Common.{◌≡◌, ℕ, ◌+◌, ◌<◌, ◌||◌, Bool, true, false, List, [], ◌∷◌, ◌++◌, length, get_or, take, refl, sym, ap, ◌∙◌}
 use Rattle.std.specs.List.{list_any}
 use Rattle.std.proofs.lemmas.List.{take_more}
+use Rattle.std.proofs.Math.Bool.{or-false, or_assoc}
 use Rattle.td_query.specs.declared.mark.Mark.{Mark}
 use Rattle.td_query.specs.Marks.{either_mark, gathered}
 
-or-assoc : (a b c : Bool) → ((a || b) || c) ≡ (a || (b || c))
-or-assoc true b c = refl
-or-assoc false b c = refl
-
-or-false : (a : Bool) → (a || false) ≡ a
-or-false true = refl
-or-false false = refl
-
 pub any-push : (f : ℕ → Bool) (ns : List ℕ) (n : ℕ) → list_any f (ns ++ n ∷ []) ≡ (list_any f ns || f n)
 any-push f [] n = or-false (f n)
-any-push f (m ∷ ns) n = ap (λ b. f m || b) (any-push f ns n) ∙ sym (or-assoc (f m) (list_any f ns) (f n))
+any-push f (m ∷ ns) n = ap (λ b. f m || b) (any-push f ns n) ∙ sym (or_assoc (f m) (list_any f ns) (f n))
 
 -- of a flag of a mark, one number more
 one-more : (own : Bool) (f : ℕ → Bool) (ns : List ℕ) (i : ℕ) → i < length ns → ((own || list_any f (take i ns)) || f (get_or ns i 0)) ≡ (own || list_any f (take (i + 1) ns))
 one-more own f ns i h =
-    rw (take_more ns i 0 h) (or-assoc own (list_any f (take i ns)) (f (get_or ns i 0)) ∙ ap (λ b. own || b) (sym (any-push f (take i ns) (get_or ns i 0))))
+    rw (take_more ns i 0 h) (or_assoc own (list_any f (take i ns)) (f (get_or ns i 0)) ∙ ap (λ b. own || b) (sym (any-push f (take i ns) (get_or ns i 0))))
 
 pub gathered-more : (own : Mark) (f : ℕ → Mark) (ns : List ℕ) (i : ℕ) → i < length ns → either_mark (gathered own f (take i ns)) (f (get_or ns i 0)) ≡ gathered own f (take (i + 1) ns)
 gathered-more own f ns i h =

@@ -1,6 +1,7 @@
 -- The marks of stanzas, one more at a time.
 use Rattle.std.proofs.Common.{◌≡◌, ℕ, ◌+◌, List, [], ◌∷◌, ◌++◌, Option, Some, None, option_map, take, map, slice_get, refl, ap, ◌∙◌, zero, suc, add-one}
 use Rattle.std.proofs.lemmas.List.{map-append}
+use Rattle.td_rows.proofs.Lists.{take-next}
 use Rattle.td_stanza.specs.Field.{Entry}
 use Rattle.td_indices.specs.Stanzas.{fields_at}
 
@@ -9,15 +10,6 @@ pub stanza_there : {A : Type 0} (stanzas : List (List Entry)) (number : A → �
 stanza_there stanzas number None fields h = absurd (cc)
 stanza_there stanzas number (Some x) fields h = (x, refl, let it : slice_get stanzas (number x) ≡ Some fields = cc in rw it refl)
 
--- the first items, and one more
-first-suc : {A : Type 0} (xs : List A) (i : ℕ) (x : A) → slice_get xs i ≡ Some x → take (suc i) xs ≡ take i xs ++ x ∷ []
-first-suc [] i x h = absurd (cc)
-first-suc (y ∷ xs) zero x h = let it : y ≡ x = cc in ap (λ z. z ∷ []) it
-first-suc (y ∷ xs) (suc i) x h = ap (λ l. y ∷ l) (first-suc xs i x h)
-
-pub first-more : {A : Type 0} (xs : List A) (i : ℕ) (x : A) → slice_get xs i ≡ Some x → take (i + 1) xs ≡ take i xs ++ x ∷ []
-first-more xs i x h = rw add-one (first-suc xs i x h)
-
 -- with the mark of one item more
 pub marks-more : {A B : Type 0} (g : A → B) (xs : List A) (i : ℕ) (x : A) (old new : List B) (m : B) → slice_get xs i ≡ Some x → old ≡ map g (take i xs) → new ≡ old ++ m ∷ [] → m ≡ g x → new ≡ map g (take (i + 1) xs)
-marks-more g xs i x old new m at so_far pushed is = rw (first-more xs i x at, map-append g (take i xs) (x ∷ [])) (pushed ∙ ap (λ l. l ++ m ∷ []) so_far ∙ ap (λ b. map g (take i xs) ++ b ∷ []) is)
+marks-more g xs i x old new m at so_far pushed is = rw (take-next xs i x at, map-append g (take i xs) (x ∷ [])) (pushed ∙ ap (λ l. l ++ m ∷ []) so_far ∙ ap (λ b. map g (take i xs) ++ b ∷ []) is)

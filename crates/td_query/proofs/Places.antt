@@ -2,6 +2,7 @@
 use Rattle.std.proofs.Common.{◌≡◌, ℕ, zero, suc, ◌+◌, ◌<◌, Bool, true, false, ltb, ◌&&◌, ◌||◌, List, length, refl, sym, ap, ◌∙◌, inl, inr, add-one, arith}
 use Rattle.std.proofs.lemmas.Bool.{lt-ltb}
 use Rattle.std.proofs.lemmas.Bool.Decides.{eqb_tells}
+use Rattle.std.proofs.Math.Bool.{or-true, and-false}
 use Rattle.td_query.specs.Standing.{any_below, stands_at, stands_in}
 
 -- none so far, and not here
@@ -9,21 +10,13 @@ pub below_next : (test : ℕ → Bool) (i : ℕ) → any_below test i ≡ false 
 unfolding any_below
 below_next test i none here = rw (add-one, none) here
 
-or_true : (b : Bool) → (b || true) ≡ true
-or_true true = refl
-or_true false = refl
-
-and_none : (b : Bool) → (b && false) ≡ false
-and_none true = refl
-and_none false = refl
-
 -- some place is found
 pub below_found : (test : ℕ → Bool) (n i : ℕ) → i < n → test i ≡ true → any_below test n ≡ true
 unfolding any_below
 below_found test zero i h e = absurd (omega arith)
 below_found test (suc n) i h e =
     elim (eqb_tells i n) [
-      | inl is ↦ rw (sym (ap test is.1) ∙ e) (or_true (any_below test n))
+      | inl is ↦ rw (sym (ap test is.1) ∙ e) (or-true (any_below test n))
       | inr other ↦ (let apart = other.1 in let less : i < n = omega arith in rw (below_found test n i less e) refl)
     ]
 
@@ -39,7 +32,7 @@ found_at text value i some h e = rw (lt-ltb 0 (length text) some) (below_found (
 
 pub found_nowhere : (text value : List ℕ) → any_below (stands_at text value) (length value) ≡ false → stands_in text value ≡ false
 unfolding stands_in
-found_nowhere text value e = rw e (and_none (ltb 0 (length text)))
+found_nowhere text value e = rw e (and-false (ltb 0 (length text)))
 
 pub none_yet : (test : ℕ → Bool) → any_below test 0 ≡ false
 unfolding any_below

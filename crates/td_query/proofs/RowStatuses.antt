@@ -1,9 +1,10 @@
 -- The status of a row by what holds on its stanzas.
-use Rattle.std.proofs.Common.{◌≡◌, ℕ, ◌+◌, ◌≤◌, ◌||◌, ◌&&◌, Bool, true, false, List, [], ◌∷◌, Option, Some, None, length, drop, slice_get, refl, ap, ◌∙◌, inl, inr, add-one}
+use Rattle.std.proofs.Common.{◌≡◌, ℕ, ◌+◌, ◌≤◌, ◌||◌, ◌&&◌, Bool, true, false, List, [], ◌∷◌, Option, Some, None, length, drop, slice_get, refl, ap, ◌∙◌, inl, inr, add-one, sym}
 use Rattle.std.specs.List.{list_any}
 use Rattle.std.specs.Option.{option_map_or}
 use Rattle.std.proofs.lemmas.Bool.{cases_Bool}
 use Rattle.std.proofs.lemmas.Option.{slice_get_past}
+use Rattle.std.proofs.Math.Bool.{and_assoc}
 use Rattle.regex.specs.Patterns.{Re}
 use Rattle.td_relation.specs.Arch.{ArchWords}
 use Rattle.td_relation.specs.ArchList.{words}
@@ -36,10 +37,6 @@ any-places test f g all (x ∷ xs) n e h =
       | inr fails ↦ rw fails later
     ]
 
-and-assoc : (a b c : Bool) → (a && (b && c)) ≡ ((a && b) && c)
-and-assoc true b c = refl
-and-assoc false b c = refl
-
 any-same : {A : Type 0} (f g : A → Bool) (xs : List A) → ((x : A) → f x ≡ g x) → list_any f xs ≡ list_any g xs
 any-same f g [] e = refl
 any-same f g (x ∷ xs) e = ap (λ b. b || list_any f xs) (e x) ∙ ap (λ b. g x || b) (any-same f g xs e)
@@ -56,7 +53,7 @@ module _ (a : Contents) (patterns : List Re) (query : Shape) (place : ℕ) where
       ap (λ b. truth patterns (source_fields a s) query || b)
       (any-places (is_of s.head.name) f is_on_it a.binaries a.binaries 0 e refl
       ∙ any-same (λ b. is_of s.head.name b && is_on_it b) (λ b. is_of_on s.head.name place b && truth patterns (package_fields a b) query) a.binaries
-      (λ b. and-assoc (is_of s.head.name b) (is_on place b.head.home) (truth patterns (package_fields a b) query)))
+      (λ b. sym (and_assoc (is_of s.head.name b) (is_on place b.head.home) (truth patterns (package_fields a b) query))))
 
 -- ---- 3. the three queries
 

@@ -3,6 +3,8 @@ use Rattle.std.proofs.Common.{◌≡◌, ℕ, ◌+◌, ◌<◌, ◌≤◌, Bool,
 use Rattle.std.specs.List.{list_all, list_any}
 use Rattle.std.proofs.lemmas.List.{drop_all}
 use Rattle.std.proofs.Math.Seq.{drop-cons}
+use Rattle.std.proofs.lemmas.List.Folds.{list_all-map}
+use Rattle.td_text.proofs.Chain.{list_any-map}
 use Rattle.regex.specs.Patterns.{Re}
 use Rattle.td_stanza.specs.Field.{Entry}
 use Rattle.td_query.specs.declared.query.Query.{Query}
@@ -42,14 +44,6 @@ all_taken f xs i x h e = rw (drop-cons xs i x h, ← e, add-one) refl
 
 pub any_taken : {A : Type 0} (f : A → Bool) (xs : List A) (i : ℕ) (x : A) → i < length xs → x ≡ get_or xs i x → list_any f (drop i xs) ≡ (f x || list_any f (drop (i + 1) xs))
 any_taken f xs i x h e = rw (drop-cons xs i x h, ← e, add-one) refl
-
-pub list_all-map : {A B : Type 0} (f : B → Bool) (g : A → B) (xs : List A) → list_all f (map g xs) ≡ list_all (λ x. f (g x)) xs
-list_all-map f g [] = refl
-list_all-map f g (x ∷ xs) = ap (λ (b : Bool). f (g x) && b) (list_all-map f g xs)
-
-pub list_any-map : {A B : Type 0} (f : B → Bool) (g : A → B) (xs : List A) → list_any f (map g xs) ≡ list_any (λ x. f (g x)) xs
-list_any-map f g [] = refl
-list_any-map f g (x ∷ xs) = ap (λ (b : Bool). f (g x) || b) (list_any-map f g xs)
 
 -- ---- the answers of a pass over parts
 

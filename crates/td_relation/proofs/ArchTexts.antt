@@ -3,7 +3,7 @@ use Rattle.std.proofs.Common.{◌≡◌, ◌≢◌, ℕ, ◌+◌, ◌≤◌, ◌
 use Rattle.std.specs.Prelude.{codes}
 use Rattle.std.specs.List.{filter, list_all}
 use Rattle.std.specs.Str.{bytes_eq}
-use Rattle.std.proofs.lemmas.Bool.{ne_eqb, eqb-true, eqb-false, eq-eqb, and_parts}
+use Rattle.std.proofs.lemmas.Bool.{ne_eqb, eqb-true, eqb-false, eq-eqb, and_parts, and_from}
 use Rattle.std.proofs.lemmas.List.{append-nil, length-append}
 use Rattle.td_text.specs.Exact.{Exact}
 use Rattle.td_text.specs.Cut.{Without}
@@ -21,7 +21,6 @@ use Rattle.td_relation.specs.ArchReading.{arch_at, add_arch, arch_step}
 use Rattle.td_relation.specs.Fails.{Fails}
 use Rattle.td_relation.specs.Table.{Fresh, is_named, is_skipped}
 use Rattle.td_relation.specs.TableFile.{AreLinesOf, IsTable, IsFaulty, IsFirstFault, FaultOf}
-use Rattle.td_relation.proofs.Lists.{both}
 
 -- ---- a line
 
@@ -49,7 +48,7 @@ unfolding arch_at
 arch_again v fits =
     let first : Without 32 v.name = Without-arch 32 v.name refl (and_parts (is_arch v.name) _ fits.name).0 in
     let second : Without 32 v.os = machine_Without v.os fits.os in
-    let all : (is_table_name v.name && (is_machine_word v.os && is_machine_word v.cpu)) ≡ true = both _ _ fits.name (both _ _ fits.os fits.cpu) in
+    let all : (is_table_name v.name && (is_machine_word v.os && is_machine_word v.cpu)) ≡ true = and_from _ _ fits.name (and_from _ _ fits.os fits.cpu) in
     rw (cut-at 32 v.name (v.os ++ 32 ∷ v.cpu) first, cut-at 32 v.os v.cpu second) (ap (λ (b : Bool). cond b (Some v) None) all)
 
 pub arch_exact : Exact arch_at arch_line ArchFits
@@ -68,11 +67,11 @@ added n seen more line (Some p) is e =
 
 -- ---- a line that is skipped, and one that is kept
 
-step-skipped : (n : ℕ) (seen : List ArchWords) (line : List ℕ) → is_skipped line ≡ true → arch_step n seen line ≡ Ok seen
-step-skipped n seen line h = ap (λ (b : Bool). cond b (Ok seen) (add_arch n seen (arch_at line))) h
+pub arch_step-skipped : (n : ℕ) (seen : List ArchWords) (line : List ℕ) → is_skipped line ≡ true → arch_step n seen line ≡ Ok seen
+arch_step-skipped n seen line h = ap (λ (b : Bool). cond b (Ok seen) (add_arch n seen (arch_at line))) h
 
-step-kept : (n : ℕ) (seen : List ArchWords) (line : List ℕ) → is_skipped line ≡ false → arch_step n seen line ≡ add_arch n seen (arch_at line)
-step-kept n seen line h = ap (λ (b : Bool). cond b (Ok seen) (add_arch n seen (arch_at line))) h
+pub arch_step-kept : (n : ℕ) (seen : List ArchWords) (line : List ℕ) → is_skipped line ≡ false → arch_step n seen line ≡ add_arch n seen (arch_at line)
+arch_step-kept n seen line h = ap (λ (b : Bool). cond b (Ok seen) (add_arch n seen (arch_at line))) h
 
 abbrev Kept : List (List ℕ) → List (List ℕ)
 Kept lines = filter (λ line. not (is_skipped line)) lines
@@ -94,11 +93,11 @@ archs_found n seen total (line ∷ lines) few e = by (λ more h q. archs_found (
   where
     by : ((more : List ArchWords) → length more ≤ 32 → over_lines arch_step (n + 1) more lines ≡ Ok total → IsFound more total lines) → (b : Bool) → is_skipped line ≡ b → IsFound seen total (line ∷ lines)
     by later true is =
-        let q : over_lines arch_step (n + 1) seen lines ≡ Ok total = sym (ap (λ r. on_ok r (λ next. over_lines arch_step (n + 1) next lines)) (step-skipped n seen line is)) ∙ e in
+        let q : over_lines arch_step (n + 1) seen lines ≡ Ok total = sym (ap (λ r. on_ok r (λ next. over_lines arch_step (n + 1) next lines)) (arch_step-skipped n seen line is)) ∙ e in
         let h = later seen few q in
         (h.0, h.1, record { spelled = Kept-skipped line lines is ∙ h.2.spelled; fits = h.2.fits; fresh = h.2.fresh; limited = h.2.limited })
     by later false is =
-        let q : on_ok (add_arch n seen (arch_at line)) (λ next. over_lines arch_step (n + 1) next lines) ≡ Ok total = sym (ap (λ r. on_ok r (λ next. over_lines arch_step (n + 1) next lines)) (step-kept n seen line is)) ∙ e in
+        let q : on_ok (add_arch n seen (arch_at line)) (λ next. over_lines arch_step (n + 1) next lines) ≡ Ok total = sym (ap (λ r. on_ok r (λ next. over_lines arch_step (n + 1) next lines)) (arch_step-kept n seen line is)) ∙ e in
         let a = on_ok_parts _ _ _ q in
         let r = added n seen a.0 line (arch_at line) refl a.1 in
         let below : length a.0 ≤ 32 = (let other = r.5 in omega (arith, ap length r.1, length-append seen (r.0 ∷ []))) in
@@ -133,7 +132,7 @@ archs_again n seen archs (line ∷ lines) h = by (λ more rest g. archs_again (n
         let k = Kept-kept line lines is in
         let same : line ≡ arch_line r = (let s = g.spelled in cc) in
         let rest : Kept lines ≡ map arch_line more = (let s = g.spelled in cc) in
-        let step : arch_step n seen line ≡ Ok (seen ++ r ∷ []) = step-kept n seen line is ∙ ap (λ (l : List ℕ). add_arch n seen (arch_at l)) same ∙ add_arch-again n seen r g.fits.0 g.fresh.0 (few_before seen r more g.limited) in
+        let step : arch_step n seen line ≡ Ok (seen ++ r ∷ []) = arch_step-kept n seen line is ∙ ap (λ (l : List ℕ). add_arch n seen (arch_at l)) same ∙ add_arch-again n seen r g.fits.0 g.fresh.0 (few_before seen r more g.limited) in
         let joined = append_assoc seen (r ∷ []) more in
         ap (λ q. on_ok q (λ next. over_lines arch_step (n + 1) next lines)) step
         ∙ later (seen ++ r ∷ []) more (record { spelled = rest; fits = g.fits.1; fresh = g.fresh.1; limited = subst (λ (t : List ArchWords). length t ≤ 32) (sym joined) g.limited })
@@ -141,7 +140,7 @@ archs_again n seen archs (line ∷ lines) h = by (λ more rest g. archs_again (n
 
     by : ((more archs : List ArchWords) → AreLinesOf more archs lines → over_lines arch_step (n + 1) more lines ≡ Ok (more ++ archs)) → (b : Bool) → is_skipped line ≡ b → over_lines arch_step n seen (line ∷ lines) ≡ Ok (seen ++ archs)
     by later true is =
-        ap (λ q. on_ok q (λ next. over_lines arch_step (n + 1) next lines)) (step-skipped n seen line is)
+        ap (λ q. on_ok q (λ next. over_lines arch_step (n + 1) next lines)) (arch_step-skipped n seen line is)
         ∙ later seen archs (record { spelled = sym (Kept-skipped line lines is) ∙ h.spelled; fits = h.fits; fresh = h.fresh; limited = h.limited })
     by later false is = one later archs h is
 
@@ -157,19 +156,13 @@ module _ (n : ℕ) (seen : List ArchWords) (line : List ℕ) (p : ArchWords) (is
   pub add_arch-ok : is_named seen p.name ≡ false → length seen ≢ 32 → add_arch n seen (arch_at line) ≡ Ok (seen ++ p ∷ [])
   add_arch-ok h few = let below : eqb (length seen) 32 ≡ false = ne_eqb (length seen) 32 few in rw (← is, h, below) refl
 
-pub arch_step-skipped : (n : ℕ) (seen : List ArchWords) (line : List ℕ) → is_skipped line ≡ true → arch_step n seen line ≡ Ok seen
-arch_step-skipped n seen line h = step-skipped n seen line h
-
-pub arch_step-kept : (n : ℕ) (seen : List ArchWords) (line : List ℕ) → is_skipped line ≡ false → arch_step n seen line ≡ add_arch n seen (arch_at line)
-arch_step-kept n seen line h = step-kept n seen line h
-
 -- a fault at a line is that of all lines
 pub Fails-over_lines : (e : ArchsFault) (n : ℕ) (seen : List ArchWords) (line : List ℕ) (after : List (List ℕ)) (total : Result (List ArchWords) ArchsFault)
     → is_skipped line ≡ false → Fails e (add_arch n seen (arch_at line)) → over_lines arch_step n seen (line ∷ after) ≡ total → Fails e total
 Fails-over_lines NoMemory n seen line after total is f h = tt
-Fails-over_lines (BadLine k) n seen line after total is f h = fails arch_step n seen line after total (BadLine k) (step-kept n seen line is ∙ f) h
-Fails-over_lines (Twice k) n seen line after total is f h = fails arch_step n seen line after total (Twice k) (step-kept n seen line is ∙ f) h
-Fails-over_lines TooMany n seen line after total is f h = fails arch_step n seen line after total TooMany (step-kept n seen line is ∙ f) h
+Fails-over_lines (BadLine k) n seen line after total is f h = fails arch_step n seen line after total (BadLine k) (arch_step-kept n seen line is ∙ f) h
+Fails-over_lines (Twice k) n seen line after total is f h = fails arch_step n seen line after total (Twice k) (arch_step-kept n seen line is ∙ f) h
+Fails-over_lines TooMany n seen line after total is f h = fails arch_step n seen line after total TooMany (arch_step-kept n seen line is ∙ f) h
 
 -- ---- what the whole text is
 
@@ -193,8 +186,8 @@ kept-step : (n : ℕ) (seen : List ArchWords) (line : List ℕ) (e : ArchsFault)
 kept-step n seen line e h = by (is_skipped line) refl
   where
     by : (b : Bool) → is_skipped line ≡ b → (is_skipped line ≡ false) × (add_arch n seen (arch_at line) ≡ Err e)
-    by true is = absurd (let s = step-skipped n seen line is in cc)
-    by false is = (is, sym (step-kept n seen line is) ∙ h)
+    by true is = absurd (let s = arch_step-skipped n seen line is in cc)
+    by false is = (is, sym (arch_step-kept n seen line is) ∙ h)
 
 faulty : (n : ℕ) (seen : List ArchWords) (line : List ℕ) (e : ArchsFault) (o : Option ArchWords) → arch_at line ≡ o → add_arch n seen o ≡ Err e → IsFaulty seen n line e
 faulty n seen line e None is h =
@@ -263,7 +256,7 @@ first-again lines e f =
       so_far = f.seen;
       parts = f.parts;
       fine = archs_again 1 [] f.seen f.before f.fine;
-      fault = step-kept (1 + length f.before) f.seen f.line f.kept ∙ faulty-again f.seen (1 + length f.before) f.line e f.faulty;
+      fault = arch_step-kept (1 + length f.before) f.seen f.line f.kept ∙ faulty-again f.seen (1 + length f.before) f.line e f.faulty;
     })
 
 pub refused-for : (lines : List (List ℕ)) (fault e : ArchsFault) → IsFirstFault lines fault → Fails e (over_lines arch_step 1 [] lines) → (e ≡ NoMemory) ⊎ (e ≡ fault)

@@ -1,9 +1,8 @@
 -- The parts of a text that is read as an alternative.
-use Rattle.std.proofs.Common.{◌≡◌, ◌⊎◌, ℕ, Bool, true, cond, ltb, ◌&&◌, List, [], ◌∷◌, ◌++◌, length, map, Option, Some, None, Result, Ok, Err, refl, sym, ap, subst, ◌∙◌, one-add, inl, inr}
+use Rattle.std.proofs.Common.{◌≡◌, ◌⊎◌, ℕ, Bool, true, cond, ltb, ◌&&◌, List, [], ◌∷◌, ◌++◌, length, map, Option, Some, None, Result, Ok, Err, refl, sym, ap, subst, ◌∙◌, inl, inr}
 use Rattle.std.specs.Prelude.{codes}
 use Rattle.std.specs.List.{list_all}
 use Rattle.std.proofs.lemmas.Bool.{cases_Bool, and_parts, and_from}
-use Rattle.std.proofs.lemmas.List.{take-append-drop}
 use Rattle.td_text.specs.Cut.{cut, strip}
 use Rattle.td_text.specs.Words.{is_name_byte, is_arch_byte, is_name}
 use Rattle.td_text.proofs.Chain.{ok_is, or_word, some_is, when_some}
@@ -19,6 +18,7 @@ use Rattle.td_relation.specs.declared.relation.Operator.TheVariants.{Earlier, Ea
 use Rattle.td_relation.specs.declared.relation_fault.RelationFault.{RelationFault}
 use Rattle.td_relation.specs.declared.relation_fault.RelationFault.TheVariants.{BadArchList}
 use Rattle.td_text.specs.Runs.{is_space, run, behind, trimmed, is_blank}
+use Rattle.td_text.proofs.RunTexts.{run_passes, run_joined}
 use Rattle.td_relation.specs.ArchList.{words}
 use Rattle.td_relation.specs.Asked.{Bound}
 use Rattle.td_relation.specs.RelationGrammar.{ends_a_name, after_colon, unqualified, named, name_at, is_operator_byte, operator_at, is_version_byte, ends_a_restriction, closed, version_at, restricted, restriction_at, is_arch_list, listed, bracketed, archs_at, or_fault}
@@ -27,18 +27,6 @@ use Rattle.td_relation.specs.Spacing.{AreWords}
 use Rattle.td_relation.proofs.FoundWords.{arch_list_found, words_found}
 
 -- ---- runs
-
--- each byte of a run passes its test
-run_passes : (test : ℕ → Bool) (t : List ℕ) → list_all test (run test t) ≡ true
-run_passes test [] = refl
-run_passes test (x ∷ t) =
-    elim (cases_Bool (test x)) [
-      | inl is ↦ (let later = run_passes test t in rw (is, one-add) (and_from (test x) (list_all test (run test t)) is later))
-      | inr out ↦ rw out refl
-    ]
-
-pub run_joined : (test : ℕ → Bool) (t : List ℕ) → t ≡ run test t ++ behind test t
-run_joined test t = sym (take-append-drop _ t)
 
 pub space_blank : (t : List ℕ) → is_blank (run is_space t) ≡ true
 space_blank t = run_passes is_space t

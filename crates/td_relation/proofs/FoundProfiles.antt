@@ -2,7 +2,7 @@
 use Rattle.std.proofs.Common.{◌≡◌, ◌≢◌, ◌⊎◌, ℕ, Bool, true, false, cond, eqb, ◌||◌, List, [], ◌∷◌, ◌++◌, map, Option, Some, None, Ok, refl, sym, ap, subst, ◌∙◌, append_assoc, inl, inr}
 use Rattle.std.specs.Prelude.{codes}
 use Rattle.std.specs.List.{list_all, list_any, slice_split, onto_first, join_with_byte, AllByRecursion}
-use Rattle.std.proofs.Math.Bool.{or_assoc}
+use Rattle.std.proofs.Math.Bool.{or_assoc, or-false}
 use Rattle.std.proofs.lemmas.Bool.{eqb-false}
 use Rattle.std.proofs.lemmas.List.Splits.{join_with_byte-slice_split}
 use Rattle.td_text.specs.Cut.{Without, strip}
@@ -18,7 +18,8 @@ use Rattle.td_relation.specs.RelationGrammar.{is_profile_list, profile_list, pro
 use Rattle.td_relation.specs.RelationWriting.{WrittenProfile, profile_text, ProfilesFit, hold_unprofiled}
 use Rattle.td_relation.specs.Spacing.{AreWords, SpacedProfiles, profiles_then, ProfilesAreSpaced}
 use Rattle.td_text.proofs.Blanks.{is_blank-behind}
-use Rattle.td_relation.proofs.FoundParts.{run_joined, space_blank}
+use Rattle.td_text.proofs.RunTexts.{run_joined}
+use Rattle.td_relation.proofs.FoundParts.{space_blank}
 use Rattle.td_relation.proofs.FoundWords.{Lacks, profile_list_found, words_found}
 use Rattle.td_relation.proofs.WordTexts.{holds-again}
 
@@ -115,10 +116,6 @@ pub record ArePieces (t : List ℕ) (seen u : Bool) : Type 0 where
   pub blank : is_blank back ≡ true
   pub asks : u ≡ (seen || list_any holds (map (λ l. l.list) lists))
 
-none_more : (b : Bool) → b ≡ (b || false)
-none_more true = refl
-none_more false = refl
-
 not_ended : (a b : Bool) → ◌≡◌ {A = Bool × Bool} (a, false) (b, true) → ⊥
 not_ended a b e = let bad : false ≡ true = ap (λ (p : Bool × Bool). p.1) e in absurd cc
 
@@ -128,7 +125,7 @@ pieces_found p [] seen u lacks e =
     let a = on_ok_parts (profile_step (seen, false) p) (λ more. Ok more) (u, true) e in
     let same : a.0 ≡ (u, true) = ok_is RelationFault a.0 (u, true) a.2 in
     elim (step_found seen p a.0 lacks.0 a.1) [
-      | inl blank ↦ record { lists = []; back = p; joined = refl; fits = tt; spaced = tt; blank = blank.0; asks = ap (λ (x : Bool × Bool). x.0) (sym same ∙ blank.1) ∙ none_more seen }
+      | inl blank ↦ record { lists = []; back = p; joined = refl; fits = tt; spaced = tt; blank = blank.0; asks = ap (λ (x : Bool × Bool). x.0) (sym same ∙ blank.1) ∙ sym (or-false seen) }
       | inr list ↦ absurd (not_ended (seen || list.holding) u (sym list.is ∙ same))
     ]
 pieces_found p (q ∷ qs) seen u lacks e =

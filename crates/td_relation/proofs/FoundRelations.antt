@@ -15,7 +15,7 @@ use Rattle.td_relation.specs.RelationWriting.{alternative_asked, bound_asked, ma
 use Rattle.td_relation.specs.Spacing.{SpacedBound, SpacedArchs, SpacedProfiles, SpacedAlternative, SpacedMember, Filled, Blank, ArchsAreSpaced, BoundIsSpaced, IsRelation, IsSpaced, MemberIsSpaced, ProfilesAreSpaced, RelationsAreExact, archs_then, bound_then, profiles_then, spaced_alternative, spaced_member, spaced_relation, unspaced, unspaced_members}
 use Rattle.td_relation.proofs.FoundParts.{archs_found, name_found, on_is, or_fault_found, restriction_found, space_blank}
 use Rattle.td_relation.proofs.FoundProfiles.{AreLists, lists_behind, own_lack, pieces_lack, unprofiled_found}
-use Rattle.td_relation.proofs.SpacedRelations.{spaced_relations_are_read}
+use Rattle.td_relation.proofs.SpacedRelations.{spaced_relations_are_read, one_more}
 
 -- ---- what follows the name
 
@@ -254,10 +254,6 @@ pub record AreMembers (t : List ℕ) (seen total : List (List Asked)) : Type 0 w
   pub spaced : AllByRecursion MemberIsSpaced (first ∷ others)
   pub spelled : t ≡ spaced_relation (first ∷ others)
   pub asks : total ≡ seen ++ asked_of (first ∷ others)
-
-one_more : (m : SpacedMember) (r : List SpacedMember) → asked_of (m ∷ []) ++ asked_of r ≡ asked_of (m ∷ r)
-one_more (Filled m) r = refl
-one_more (Blank space) r = refl
 
 members_found : (p : List ℕ) (ps : List (List ℕ)) (seen total : List (List Asked)) → AllByRecursion (λ p. Without 44 p) (p ∷ ps) → over member_step seen (p ∷ ps) ≡ Ok total → AreMembers (join_with_byte 44 (p ∷ ps)) seen total
 unfolding over

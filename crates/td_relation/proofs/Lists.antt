@@ -3,17 +3,14 @@ use Rattle.std.proofs.Common.{◌≡◌, ℕ, ◌+◌, Bool, true, false, cond, 
 use Rattle.std.specs.List.{position, prefix_len}
 use Rattle.std.specs.Str.{bytes_eq}
 use Rattle.std.proofs.lemmas.List.{length-map}
-
-and_assoc : (a b c : Bool) → (a && (b && c)) ≡ ((a && b) && c)
-and_assoc true b c = refl
-and_assoc false b c = refl
+use Rattle.std.proofs.Math.Bool.{and_assoc}
 
 -- a text is two texts where its front is the one and what follows is the other
 pub bytes_eq-append : (word front back : List ℕ) → bytes_eq word (front ++ back) ≡ (bytes_eq (take (length front) word) front && bytes_eq (drop (length front) word) back)
 bytes_eq-append word [] back = refl
 bytes_eq-append [] (x ∷ front) back = refl
 bytes_eq-append (y ∷ word) (x ∷ front) back =
-    ap (λ (b : Bool). eqb y x && b) (bytes_eq-append word front back) ∙ and_assoc (eqb y x) (bytes_eq (take (length front) word) front) (bytes_eq (drop (length front) word) back)
+    ap (λ (b : Bool). eqb y x && b) (bytes_eq-append word front back) ∙ sym (and_assoc (eqb y x) (bytes_eq (take (length front) word) front) (bytes_eq (drop (length front) word) back))
 
 -- ---- lists through a view
 
@@ -23,11 +20,6 @@ prefix_len-map test view (x ∷ xs) = ap (λ (n : ℕ). cond (test (view x)) (1 
 
 pub position-map : {A B : Type 0} (test : B → Bool) (view : A → B) (xs : List A) → position test (map view xs) ≡ position (λ x. test (view x)) xs
 position-map test view xs = rw (prefix_len-map (λ x. not (test x)) view xs, length-map xs view) refl
-
--- two tests that both pass
-pub both : (a b : Bool) → a ≡ true → b ≡ true → (a && b) ≡ true
-both true b h k = k
-both false b h k = absurd cc
 
 -- ---- a text behind a front that is taken off
 

@@ -11,11 +11,6 @@ use Rattle.td_relation.specs.Meeting.{active, alternative_met, member_met}
 use Rattle.td_relation.specs.Members.{chunked}
 use Rattle.td_relation.specs.Offers.{Offered}
 
--- a test of each, through a view
-pub list_all-map : {A B : Type 0} (test : B → Bool) (view : A → B) (xs : List A) → list_all test (map view xs) ≡ list_all (λ x. test (view x)) xs
-list_all-map test view [] = refl
-list_all-map test view (x ∷ xs) = ap (λ (b : Bool). test (view x) && b) (list_all-map test view xs)
-
 -- a member is met where it has no active alternative, or an active one that is met
 pub member_met-by : (offers : List ℕ → List Offered) (place : ℕ) (a : ArchWords) (m : List Alternative) (has met : Bool)
     → has ≡ list_any (λ x. active a (asked x)) m → met ≡ list_any (λ x. active a (asked x) && alternative_met offers place (asked x)) m → (not has || met) ≡ member_met offers place a (map asked m)

@@ -2,7 +2,7 @@
 use Rattle.std.proofs.Common.{◌≡◌, ℕ, ◌<◌, Bool, true, false, cond, eqb, ltb, List, [], ◌∷◌, ◌++◌, length, get_or, map, Option, Some, None, option_map, Ok, Err, refl, ap, ◌∙◌, arith}
 use Rattle.std.specs.Prelude.{codes, IsTrue}
 use Rattle.std.specs.List.{list_all, AllByRecursion}
-use Rattle.std.proofs.lemmas.Bool.{and_parts, ltb-true, or_right}
+use Rattle.std.proofs.lemmas.Bool.{and_parts, ltb-true, or_right, and_from}
 use Rattle.td_text.specs.Cut.{Without, strip}
 use Rattle.td_text.specs.Words.{is_alphanumeric, is_name_byte, is_arch_byte, is_name}
 use Rattle.td_text.proofs.Cut.{cut-at}
@@ -18,7 +18,6 @@ use Rattle.td_text.specs.Runs.{is_space, run, behind, trimmed, is_blank}
 use Rattle.td_relation.specs.RelationGrammar.{ends_a_name, after_colon, unqualified, named, name_at, is_operator_byte, operator_at, is_version_byte, ends_a_restriction, closed, version_at, restricted, restriction_at, is_arch_list, listed, bracketed, archs_at}
 use Rattle.td_relation.specs.RelationWriting.{operator_text, marked, qualifier_part, QualifierFits, BoundFits, ArchsFit, bound_asked}
 use Rattle.td_relation.specs.Spacing.{SpacedBound, SpacedArchs, SpacedProfiles, bound_then, archs_then, profiles_then, BoundIsSpaced, ArchsAreSpaced, ProfilesAreSpaced}
-use Rattle.td_relation.proofs.Lists.{both}
 use Rattle.td_text.proofs.RunTexts.{Stops, run_again, behind_again, misses, NoSpace, Stops-front}
 use Rattle.td_text.proofs.Blanks.{Stops-blank, Stops-back, trimmed_behind, trimmed_all}
 use Rattle.td_relation.proofs.SpacedWords.{arch_words, arch_words-lack}
@@ -131,7 +130,7 @@ name_again front name q rest blank h fits stops archs colon ends =
     ∙ ap (λ (n : List ℕ). named n (unqualified (behind is_name_byte (name ++ on)))) (run_again is_name_byte name on b.1 ends_here)
     ∙ ap (λ (t : List ℕ). named name (unqualified t)) (behind_again is_name_byte name on b.1 ends_here)
     ∙ ap (named name) (unqualified_again q rest fits archs colon)
-    ∙ ap (λ (y : Bool). cond y (Some (name, trimmed rest)) None) (both _ _ h ends)
+    ∙ ap (λ (y : Bool). cond y (Some (name, trimmed rest)) None) (and_from _ _ h ends)
 
 -- ---- the restriction
 

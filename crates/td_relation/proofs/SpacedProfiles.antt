@@ -2,7 +2,7 @@
 use Rattle.std.proofs.Common.{◌≡◌, ℕ, Bool, true, false, cond, eqb, ◌||◌, List, [], ◌∷◌, ◌++◌, map, Some, None, Ok, refl, sym, ap, ◌∙◌, append_assoc, arith}
 use Rattle.std.specs.Prelude.{codes}
 use Rattle.std.specs.List.{list_all, list_any, slice_split, AllByRecursion}
-use Rattle.std.proofs.Math.Bool.{or_assoc}
+use Rattle.std.proofs.Math.Bool.{or_assoc, or-false}
 use Rattle.std.proofs.lemmas.List.Splits.{slice_split_at, slice_split_none}
 use Rattle.td_text.specs.Cut.{Without, strip}
 use Rattle.td_text.specs.Lines.{on_ok}
@@ -56,10 +56,6 @@ last_again seen back end =
     ap (over profile_step (seen, false)) (slice_split_none is_greater back (none_is 62 back (Without-from_test is_space 62 back refl end)))
     ∙ ap (λ (b : Bool). on_ok (cond b (Ok (seen, true)) (on_ok (or_fault BadProfile (profile_piece back)) (λ x. Ok (seen || x, false)))) (λ more. Ok more)) end
 
-none_more : (b : Bool) → b ≡ (b || false)
-none_more true = refl
-none_more false = refl
-
 lists_again : (seen : Bool) (s : List ℕ) (l : SpacedProfiles) (ls : List SpacedProfiles) (back : List ℕ) → is_blank s ≡ true → AllByRecursion ProfilesFit (map (λ x. x.list) (l ∷ ls)) → AllByRecursion ProfilesAreSpaced (l ∷ ls) → is_blank back ≡ true
     → over profile_step (seen, false) (slice_split is_greater (s ++ 60 ∷ (l.inside ++ 62 ∷ profiles_then ls back))) ≡ Ok (seen || list_any holds (map (λ x. x.list) (l ∷ ls)), true)
 unfolding over
@@ -67,7 +63,7 @@ lists_again seen s l [] back blank fits h end =
     ap (over profile_step (seen, false)) (first_cut s l back blank fits.0 h.0)
     ∙ ap (λ r. on_ok r (λ more. over profile_step more (slice_split is_greater back))) (step_again seen s l blank fits.0 h.0)
     ∙ last_again (seen || holds l.list) back end
-    ∙ ap (λ (b : Bool). Ok (b, true)) (ap (λ (b : Bool). seen || b) (none_more (holds l.list)))
+    ∙ ap (λ (b : Bool). Ok (b, true)) (ap (λ (b : Bool). seen || b) (sym (or-false (holds l.list))))
 lists_again seen s l (m ∷ ls) back blank fits h end =
     ap (over profile_step (seen, false)) (first_cut s l (profiles_then (m ∷ ls) back) blank fits.0 h.0)
     ∙ ap (λ r. on_ok r (λ more. over profile_step more (slice_split is_greater (profiles_then (m ∷ ls) back)))) (step_again seen s l blank fits.0 h.0)

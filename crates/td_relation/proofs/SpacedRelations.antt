@@ -19,6 +19,7 @@ use Rattle.td_relation.specs.Spacing.{SpacedBound, SpacedArchs, SpacedProfiles, 
 use Rattle.td_text.proofs.Blanks.{is_blank-behind}
 use Rattle.td_relation.proofs.MemberTexts.{member_step-blank, member_step-filled}
 use Rattle.td_text.proofs.RunTexts.{NoSpace, not_space}
+use Rattle.td_relation.proofs.WrittenMembers.{name_not_blank}
 use Rattle.td_relation.proofs.SpacedParts.{Outer, bound_stops, bound_trimmed, name_ends, name_again, restriction_again, archs_again}
 use Rattle.td_relation.proofs.SpacedProfiles.{unprofiled_again}
 use Rattle.td_relation.proofs.SpacedWords.{arch_words-lack, profile_words-lack}
@@ -130,14 +131,6 @@ is_comma b = eqb b 44
 name_no_space : NoSpace is_name_byte
 name_no_space = record { space = refl; tab = refl; newline = refl }
 
-name_not_blank : (name rest : List ℕ) → is_name name ≡ true → is_blank (name ++ rest) ≡ false
-name_not_blank [] rest h = absurd cc
-name_not_blank (x ∷ name) rest h =
-    let a = and_parts (ltb 1 (length (x ∷ name))) _ h in
-    let b = and_parts (is_alphanumeric (get_or (x ∷ name) 0 0)) (list_all is_name_byte (x ∷ name)) a.1 in
-    let other = not_space is_name_byte x name_no_space (and_parts (is_name_byte x) (list_all is_name_byte name) b.1).0 in
-    rw other refl
-
 member_not_blank : (m : List SpacedAlternative) → m ≢ [] → AllByRecursion IsSpaced m → is_blank (spaced_member (Filled m)) ≡ false
 member_not_blank [] some h = absurd (some refl)
 member_not_blank (a ∷ others) some h =
@@ -163,7 +156,7 @@ step_again : (seen : List (List Asked)) (m : SpacedMember) → MemberIsSpaced m 
 step_again seen (Filled m) h = member_step-filled seen (spaced_member (Filled m)) (member_not_blank m h.0 h.1) ∙ ap (λ r. on_ok r (λ x. Ok (seen ++ x ∷ []))) (member_again m h.0 h.1)
 step_again seen (Blank space) h = member_step-blank seen space h ∙ ap (λ (l : List (List Asked)). Ok l) (sym (append-nil seen))
 
-one_more : (m : SpacedMember) (r : List SpacedMember) → asked_of (m ∷ []) ++ asked_of r ≡ asked_of (m ∷ r)
+pub one_more : (m : SpacedMember) (r : List SpacedMember) → asked_of (m ∷ []) ++ asked_of r ≡ asked_of (m ∷ r)
 one_more (Filled m) r = refl
 one_more (Blank space) r = refl
 

@@ -69,7 +69,7 @@ is_comma b = eqb b 44
 name_no_space : NoSpace is_name_byte
 name_no_space = record { space = refl; tab = refl; newline = refl }
 
-name_not_blank : (name rest : List ℕ) → is_name name ≡ true → is_blank (name ++ rest) ≡ false
+pub name_not_blank : (name rest : List ℕ) → is_name name ≡ true → is_blank (name ++ rest) ≡ false
 name_not_blank [] rest h = absurd cc
 name_not_blank (x ∷ name) rest h =
     let a = and_parts (ltb 1 (length (x ∷ name))) _ h in

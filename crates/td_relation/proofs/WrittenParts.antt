@@ -2,7 +2,7 @@
 use Rattle.std.proofs.Common.{◌≡◌, ℕ, Bool, true, false, cond, eqb, ltb, List, [], ◌∷◌, ◌++◌, length, get_or, map, Option, Some, None, option_map, Ok, Err, refl, ap, ◌∙◌, append_assoc, arith}
 use Rattle.std.specs.Prelude.{codes, IsTrue}
 use Rattle.std.specs.List.{list_all, flat_map, join_by}
-use Rattle.std.proofs.lemmas.Bool.{and_parts, ne_eqb, ltb-true, or_right}
+use Rattle.std.proofs.lemmas.Bool.{and_parts, ne_eqb, ltb-true, or_right, and_from}
 use Rattle.td_text.specs.Cut.{Without, strip}
 use Rattle.td_text.specs.Words.{is_alphanumeric, is_name_byte, is_arch_byte, is_name, is_arch}
 use Rattle.td_text.proofs.Cut.{Begins, cut-at}
@@ -19,7 +19,6 @@ use Rattle.td_relation.specs.ArchList.{words}
 use Rattle.td_relation.specs.RelationGrammar.{ends_a_name, after_colon, unqualified, named, name_at, is_operator_byte, operator_at, is_version_byte, ends_a_restriction, closed, version_at, restricted, restriction_at, is_arch_list, listed, bracketed, archs_at}
 use Rattle.td_relation.specs.RelationWriting.{WrittenBound, WrittenArchs, WrittenProfile, operator_text, marked, qualifier_part, bound_part, archs_part, profile_part, QualifierFits, BoundFits, ArchsFit, bound_asked}
 use Rattle.td_text.specs.Runs.{run, behind, trimmed}
-use Rattle.td_relation.proofs.Lists.{both}
 use Rattle.td_text.proofs.RunTexts.{Stops, Stops-at, run_again, behind_again, NoSpace, Stops-front, trimmed_same, trimmed_space, gap, Begins-gap, trimmed_gap, strip_other}
 use Rattle.td_relation.proofs.VersionBytes.{version_bytes, version_filled}
 use Rattle.td_relation.proofs.WordTexts.{each, Without-join, Without-marked, is_arch_list-again, arch_words-again}
@@ -114,7 +113,7 @@ name_again f name q rest h fits s ends =
     ∙ ap (λ (n : List ℕ). named n (unqualified (behind is_name_byte (name ++ on)))) (run_again is_name_byte name on b.1 stops)
     ∙ ap (λ (t : List ℕ). named name (unqualified t)) (behind_again is_name_byte name on b.1 stops)
     ∙ ap (named name) (unqualified_again q rest fits s)
-    ∙ ap (λ (y : Bool). cond y (Some (name, trimmed rest)) None) (both _ _ h ends)
+    ∙ ap (λ (y : Bool). cond y (Some (name, trimmed rest)) None) (and_from _ _ h ends)
 
 -- ---- the restriction
 

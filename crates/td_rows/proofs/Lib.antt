@@ -12,6 +12,7 @@ pub mod Lists
 pub mod KeyTexts
 pub mod StateWords
 pub mod NoteTexts
+pub mod NoteLines
 pub mod RowLines
 pub mod Sorting
 pub mod SortSteps

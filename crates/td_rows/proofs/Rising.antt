@@ -3,26 +3,23 @@ use Rattle.std.proofs.Common.{◌≡◌, ℕ, zero, suc, ◌+◌, ◌<◌, ◌�
 use Rattle.std.specs.Ordering.{is_lt}
 use Rattle.std.specs.declared.cmp.Ordering.{Ordering}
 use Rattle.std.specs.declared.cmp.Ordering.TheVariants.{Less, Equal, Greater}
+use Rattle.std.proofs.lemmas.Bool.{and_parts}
 use Rattle.td_rows.specs.declared.key.Key.{Key}
 use Rattle.td_rows.specs.Keys.{key_cmp}
 use Rattle.td_rows.specs.Keys.{below_all, ascending}
 use Rattle.td_rows.proofs.Keys.{key_total}
 
-less : (o : Ordering) → is_lt o ≡ true → o ≡ Less
-less Less h = refl
-less Equal h = cc
-less Greater h = cc
-
-both : (a b : Bool) → (a && b) ≡ true → (a ≡ true) × (b ≡ true)
-both true b h = (refl, h)
-both false b h = cc
+pub is_less : (o : Ordering) → is_lt o ≡ true → o ≡ Less
+is_less Less h = refl
+is_less Equal h = cc
+is_less Greater h = cc
 
 -- a key below one that is below all is below all
 below_trans : (k q : Key) (ks : List Key) → is_lt (key_cmp k q) ≡ true → below_all q ks ≡ true → below_all k ks ≡ true
 below_trans k q [] lt h = refl
 below_trans k q (x ∷ ks) lt h =
-    let parts = both _ _ h in
-    let here : is_lt (key_cmp k x) ≡ true = ap is_lt (key_total.trans k q x (less _ lt) (less _ parts.0)) in
+    let parts = and_parts _ _ h in
+    let here : is_lt (key_cmp k x) ≡ true = ap is_lt (key_total.trans k q x (is_less _ lt) (is_less _ parts.0)) in
     ap (λ b. b && below_all k ks) here ∙ below_trans k q ks lt parts.1
 
 pub ascending-adjacent : (k q : Key) (ks : List Key) → ascending (k ∷ q ∷ ks) ≡ (is_lt (key_cmp k q) && ascending (q ∷ ks))

@@ -1,6 +1,6 @@
 -- State files are read exactly where their lines are those of opening rows.
 use Rattle.std.proofs.Common.{◌≡◌, ◌≢◌, ℕ, suc, ◌+◌, ◌≤◌, Bool, true, false, cond, eqb, List, [], ◌∷◌, ◌++◌, length, map, Option, Some, None, Result, Ok, Err, is_some, refl, sym, ap, subst, ◌∙◌, append_assoc, arith}
-use Rattle.std.specs.Prelude.{codes, decimal}
+use Rattle.std.specs.Prelude.{decimal}
 use Rattle.std.specs.Fmt.{signed_decimal}
 use Rattle.std.specs.Map.{lookup}
 use Rattle.std.specs.List.{filter}
@@ -13,6 +13,7 @@ use Rattle.td_text.proofs.Cut.{Without-left, Without-right}
 use Rattle.td_text.proofs.FirstFault.{first_fault}
 use Rattle.td_text.proofs.Lines.{fails}
 use Rattle.td_text.proofs.Words.{Without-name, Without-arch}
+use Rattle.td_rows.proofs.NoteLines.{has_newline-Without, extra_lacks, text_lacks}
 use Rattle.td_rows.specs.declared.key.Key.{Key}
 use Rattle.td_rows.specs.declared.row.Row.{Row}
 use Rattle.td_rows.specs.declared.state_file.StateFault.{StateFault}
@@ -107,25 +108,12 @@ rows_again n seen (r ∷ rows) ((x ∷ line) ∷ lines) h =
 
 -- ---- a step of the code
 
--- a text without a newline
-pub has_newline-Without : (t : List ℕ) → Without 10 t → has_newline t ≡ false
-has_newline-Without [] w = refl
-has_newline-Without (x ∷ t) w = rw (ne_eqb x 10 w.0) (has_newline-Without t w.1)
-
 -- the texts of a line, in which no newline stands
 pub record LacksNewlines (p : Key × Row) : Type 0 where
   pub source : has_newline p.0.source ≡ false
   pub arch : has_newline p.0.arch ≡ false
   pub extra : has_newline p.1.extra ≡ false
   pub dep_wait : has_newline p.1.dep_wait ≡ false
-
-extra_lacks : (e : List ℕ) → Without 10 (extra_part e) → has_newline e ≡ false
-extra_lacks [] w = refl
-extra_lacks (x ∷ e) w = has_newline-Without (x ∷ e) (Without-right 10 (decimal (length (x ∷ e))) (32 ∷ (x ∷ e)) (Without-right 10 (codes " ;") (decimal (length (x ∷ e)) ++ 32 ∷ (x ∷ e)) w)).1
-
-text_lacks : (t : List ℕ) → Without 10 (text_part t) → has_newline t ≡ false
-text_lacks [] w = refl
-text_lacks (x ∷ t) w = has_newline-Without (x ∷ t) (Without-right 10 (codes " : ") (x ∷ t) w)
 
 pub line_lacks_newlines : (line : List ℕ) (p : Key × Row) → Without 10 line → Some p ≡ row_line_at line → LacksNewlines p
 line_lacks_newlines line p w is =

@@ -49,7 +49,7 @@ row_of-below x k (p ∷ t) h e =
     let apart : same_key k p.0 ≡ false = subst (λ (q : Key). same_key q p.0 ≡ false) (sym (same_key-true k x e)) (below-apart x p.0 both.0) in
     ap (λ b. if b then Some p.1 else row_of t k) apart ∙ row_of-below x k t both.1 e
 
-not_some : (r : Row) → Some r ≡ None → ⊥
+pub not_some : (r : Row) → Some r ≡ None → ⊥
 not_some r h = cc
 
 -- a row of the tail is found past the head
@@ -116,7 +116,7 @@ pub names-push : (ks : List Key) (k q : Key) → names (ks ++ k ∷ []) q ≡ (i
 names-push [] k q = elim (same_key q k) as (λ b. (if b then true else false) ≡ b) [ true ↦ refl | false ↦ refl ]
 names-push (x ∷ ks) k q = elim (same_key q x) as (λ b. (if b then true else names (ks ++ k ∷ []) q) ≡ (if (if b then true else names ks q) then true else same_key q k)) [ true ↦ refl | false ↦ names-push ks k q ]
 
-below_key : (x : Key) (ks : List Key) (j : ℕ) (d : Key) → below_all x ks ≡ true → j < length ks → is_lt (key_cmp x (get_or ks j d)) ≡ true
+pub below_key : (x : Key) (ks : List Key) (j : ℕ) (d : Key) → below_all x ks ≡ true → j < length ks → is_lt (key_cmp x (get_or ks j d)) ≡ true
 below_key x [] j d h lt = absurd (omega arith)
 below_key x (p ∷ ks) zero d h lt = (and_parts (is_lt (key_cmp x p)) (below_all x ks) h).0
 below_key x (p ∷ ks) (suc j) d h lt = below_key x ks j d (and_parts (is_lt (key_cmp x p)) (below_all x ks) h).1 (omega arith)

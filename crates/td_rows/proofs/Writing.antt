@@ -3,20 +3,19 @@ use Rattle.std.proofs.Common.{◌≡◌, ℕ, ◌+◌, ◌≤◌, is_some, true,
 use Rattle.std.specs.Prelude.{decimal}
 use Rattle.std.specs.Fmt.{signed_decimal}
 use Rattle.std.specs.List.{filter, AllByRecursion}
-use Rattle.std.proofs.lemmas.Bool.Decides.{eqb_tells}
 use Rattle.std.proofs.lemmas.Grind.{flat_map-append}
 use Rattle.std.proofs.lemmas.List.{map-append}
 use Rattle.std.proofs.lemmas.List.Elements.{filter-append}
-use Rattle.std.proofs.Common.{inl, inr, lit<}
+use Rattle.std.proofs.Common.{lit<}
 use Rattle.td_text.specs.Cut.{Without}
 use Rattle.td_text.specs.Lines.{lines_of, text_of}
 use Rattle.td_text.proofs.Cut.{Without-append}
 use Rattle.td_text.proofs.Lines.{lines_of-text_of}
 use Rattle.td_text.proofs.Numbers.{Without-decimal}
 use Rattle.td_text.proofs.SignedNumbers.{Without-signed_decimal}
+use Rattle.td_rows.proofs.NoteLines.{lack_extra, lack_text}
 use Rattle.td_rows.specs.declared.key.Key.{Key}
 use Rattle.td_rows.specs.declared.row.Row.{Row}
-use Rattle.td_rows.specs.Text.{has_newline}
 use Rattle.td_rows.specs.Keys.{ascending}
 use Rattle.td_rows.specs.Table.{Table, keys_of}
 use Rattle.td_rows.specs.KeyText.{key_text}
@@ -46,27 +45,11 @@ state_text-next t n p at = ap state_text (take-next t n p at) ∙ state_text-pus
 
 -- ---- no newline stands in a line
 
-Without-has_newline : (t : List ℕ) → has_newline t ≡ false → Without 10 t
-Without-has_newline [] h = tt
-Without-has_newline (x ∷ t) h =
-    elim (eqb_tells x 10) [
-      | inl is ↦ absurd (let bad : true ≡ false = sym (rw is.0 refl) ∙ h in cc)
-      | inr other ↦ (other.1, Without-has_newline t (sym (rw other.0 refl) ∙ h))
-    ]
-
-extra_lacks : (e : List ℕ) → length e ≤ 18446744073709551615 → has_newline e ≡ false → Without 10 (extra_part e)
-extra_lacks [] small h = tt
-extra_lacks (x ∷ e) small h = Without-append 10 (32 ∷ 59 ∷ []) _ ((λ z. omega arith), ((λ z. omega arith), tt)) (Without-append 10 (decimal (length (x ∷ e))) (32 ∷ x ∷ e) (Without-decimal 10 (length (x ∷ e)) (lit< tt) (omega arith)) ((λ z. omega arith), Without-has_newline (x ∷ e) h))
-
-text_lacks : (w : List ℕ) → has_newline w ≡ false → Without 10 (text_part w)
-text_lacks [] h = tt
-text_lacks (x ∷ w) h = Without-append 10 (32 ∷ 58 ∷ 32 ∷ []) (x ∷ w) ((λ z. omega arith), ((λ z. omega arith), ((λ z. omega arith), tt))) (Without-has_newline (x ∷ w) h)
-
 line_lacks : (p : Key × Row) → OpensInLines p → Without 10 (row_line p)
 line_lacks p h =
     let fits = h.opens.fits in
     let row = p.1 in
-    let texts : Without 10 (notes (row.extra, row.dep_wait)) = Without-append 10 (extra_part row.extra) (text_part row.dep_wait) (extra_lacks row.extra (let small = fits.texts in omega arith) h.extra) (text_lacks row.dep_wait h.dep_wait) in
+    let texts : Without 10 (notes (row.extra, row.dep_wait)) = Without-append 10 (extra_part row.extra) (text_part row.dep_wait) (lack_extra row.extra (let small = fits.texts in omega arith) h.extra) (lack_text row.dep_wait h.dep_wait) in
     let number : Without 10 (decimal row.number ++ notes (row.extra, row.dep_wait)) = Without-append 10 (decimal row.number) _ (Without-decimal 10 row.number (lit< tt) (let le = fits.number in omega arith)) texts in
     let numbers : Without 10 (signed_decimal row.priority ++ 32 ∷ (decimal row.number ++ notes (row.extra, row.dep_wait))) = Without-append 10 (signed_decimal row.priority) _ (Without-signed_decimal 10 9999 row.priority (lit< tt) (λ z. omega arith) (lit< tt) fits.priority) ((λ z. omega arith), number) in
     let words : Without 10 (row_words row) = Without-append 10 (state_word row.state) _ (state_lacks_newline row.state fits.state) ((λ z. omega arith), numbers) in

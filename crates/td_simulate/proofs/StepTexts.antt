@@ -10,11 +10,10 @@ use Rattle.td_rows.specs.Notes.{notes_at}
 use Rattle.td_rows.specs.Text.{has_newline}
 use Rattle.td_rows.proofs.KeyTexts.{key_exact}
 use Rattle.td_rows.proofs.NoteTexts.{notes_exact}
-use Rattle.td_rows.proofs.StateTexts.{has_newline-Without}
+use Rattle.td_rows.proofs.NoteLines.{has_newline-Without, notes_lack}
 use Rattle.td_journal.specs.EntryReading.{keys_at}
 use Rattle.td_journal.specs.JournalText.{spaced_keys}
 use Rattle.td_journal.proofs.KeyWords.{keys_found}
-use Rattle.td_journal.proofs.NoteLines.{notes_lack}
 use Rattle.td_simulate.specs.StepReading.{builder_at}
 use Rattle.td_simulate.proofs.StepWords.{builder_found}
 

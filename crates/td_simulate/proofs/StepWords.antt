@@ -11,6 +11,7 @@ use Rattle.td_text.proofs.Chain.{chained, some_is, when_some, when_none, or_word
 use Rattle.td_text.proofs.Cut.{cut-at, lacks, Begins, part_again, part_joined, word_found}
 use Rattle.td_text.proofs.Numbers.{number_exact, Without-decimal}
 use Rattle.td_text.proofs.Prefix.{strip_found}
+use Rattle.td_simulate.proofs.TextParts.{no_text}
 use Rattle.td_rows.specs.declared.key.Key.{Key}
 use Rattle.td_rows.specs.declared.kind.Kind.{Kind}
 use Rattle.td_rows.specs.declared.kind.Kind.TheVariants.{Gb, Nmu, Bp, Dw, Claim as Claimed, Outcome as Ended, Arrive, Sweep}
@@ -118,15 +119,11 @@ outcome_found t o e =
     or_word outcome_name Bare t o GivenBack _ refl (
     or_word outcome_name Bare t o (Waits []) None refl (λ bad. absurd cc)))) e
 
-empty : (l : List ℕ) → eqb (length l) 0 ≡ true → l ≡ []
-empty [] h = refl
-empty (x ∷ l) h = absurd (let none = eqb-true (suc (length l)) 0 h in omega arith)
-
 both_empty : (e t : List ℕ) → (eqb (length e) 0 && eqb (length t) 0) ≡ true → ◌≡◌ {A = List ℕ × List ℕ} (e, t) ([], [])
 both_empty e t h =
     let p = and_parts (eqb (length e) 0) (eqb (length t) 0) h in
-    let x = empty e p.0 in
-    let y = empty t p.1 in
+    let x = no_text e p.0 in
+    let y = no_text t p.1 in
     λ i. (x i, y i)
 
 -- the end of builder b's build, whose texts are these
@@ -149,7 +146,7 @@ end_found b GivenBack e t q s h is = plain_end b GivenBack e t q s refl h is
 end_found b (Waits x) e t q s h is =
     let w = when_some (eqb (length e) 0) (Ended b (Waits t)) q h in
     let made : Some (steps.Finish b (Waits t)) ≡ Some s = ap end_of w.1 ∙ is in
-    record { outcome = Waits t; step = sym (some_is (steps.Finish b (Waits t)) s made); name = refl; texts = ap (λ (l : List ℕ). (l, t)) (empty e w.0) }
+    record { outcome = Waits t; step = sym (some_is (steps.Finish b (Waits t)) s made); name = refl; texts = ap (λ (l : List ℕ). (l, t)) (no_text e w.0) }
 
 finish_joined : (rest d more w ending name text : List ℕ) → rest ≡ d ++ 32 ∷ more → more ≡ w ++ ending → w ≡ name → ending ≡ text → rest ≡ d ++ 32 ∷ (name ++ text)
 finish_joined rest d more w ending name text h1 h2 h3 h4 = cc

@@ -4,6 +4,8 @@ use Rattle.std.specs.Option.{option_map_or, option_or}
 use Rattle.std.specs.Str.{bytes_eq}
 use Rattle.std.proofs.lemmas.Bool.{cases_Bool}
 use Rattle.std.proofs.lemmas.Slice.Eq.{bytes_eq-Decides}
+use Rattle.std.proofs.Math.Bool.{and-false}
+use Rattle.std.proofs.lemmas.Option.{slice_get-map}
 use Rattle.td_relation.specs.Arch.{ArchWords}
 use Rattle.td_relation.specs.Offers.{Offered}
 use Rattle.td_relation.specs.RelationGrammar.{relation_at}
@@ -17,12 +19,6 @@ use Rattle.td_supply.proofs.Arrivals.{arrived-offer}
 pub nothing_is_met_so : NothingIsMet
 nothing_is_met_so text arch = elim (relation_at text) as (λ r. meets_read (opened nothing) arch r ≡ false) [ Ok members ↦ refl | Err fault ↦ refl ]
 
-slice_get-map : {A B : Type 0} (f : A → B) (xs : List A) (n : ℕ) → slice_get (map f xs) n ≡ option_map f (slice_get xs n)
-slice_get-map f [] zero = refl
-slice_get-map f [] (suc n) = refl
-slice_get-map f (x ∷ xs) zero = refl
-slice_get-map f (x ∷ xs) (suc n) = slice_get-map f xs n
-
 -- the item with a number after an arrival
 item_after : (s : SupplyView) (source arch : List ℕ) (n number : ℕ) (i : Item) → slice_get s.items number ≡ Some i → slice_get (arrived s source arch n).items number ≡ Some (arrived_at s.table source arch n i)
 item_after s source arch n number i at = slice_get-map (arrived_at s.table source arch n) s.items number ∙ ap (option_map (arrived_at s.table source arch n)) at
@@ -32,14 +28,10 @@ others_stay s source arch n number i at other =
     item_after s source arch n number i at
     ∙ ap (λ (b : Bool). Some (if b then record i { rebuilt = rebuild_of n i.offer } else i)) other
 
-and_none : (b : Bool) → (b && false) ≡ false
-and_none true = refl
-and_none false = refl
-
 pub offers_of_all_stay : OffersOfAllStay
 offers_of_all_stay s source arch n number i at all =
     others_stay s source arch n number i at
-    (ap (λ (a : Option ℕ). is_of source i.offer && option_map_or (λ place. is_place place (place_of s.table arch)) a false) all ∙ and_none (is_of source i.offer))
+    (ap (λ (a : Option ℕ). is_of source i.offer && option_map_or (λ place. is_place place (place_of s.table arch)) a false) all ∙ and-false (is_of source i.offer))
 
 pub rebuilds_are_offered : RebuildsAreOffered
 rebuilds_are_offered s source arch n number place i b at is same found there =

@@ -15,6 +15,10 @@ chained (Some x) f y e = (x, refl, e)
 pub some_is : {A : Type 0} (x y : A) → Some x ≡ Some y → x ≡ y
 some_is x y e = cc
 
+-- where there is nothing there is no value
+pub no_value : {A B : Type 0} (x : A) → None ≡ Some x → B
+no_value x e = absurd cc
+
 -- a test before a value
 pub when_some : {A : Type 0} (b : Bool) (x y : A) → cond b (Some x) None ≡ Some y → (b ≡ true) × (x ≡ y)
 when_some true x y e = (refl, some_is x y e)

@@ -1,7 +1,7 @@
 -- Runs that end where a text goes on with something else.
-use Rattle.std.proofs.Common.{◌≡◌, ℕ, ◌<◌, Bool, true, false, eqb, List, [], ◌∷◌, ◌++◌, length, None, refl, sym, ap, ◌∙◌, one-add, arith}
+use Rattle.std.proofs.Common.{◌≡◌, ℕ, ◌<◌, Bool, true, false, eqb, List, [], ◌∷◌, ◌++◌, length, None, refl, sym, ap, ◌∙◌, one-add, arith, inl, inr, take-append-drop}
 use Rattle.std.specs.List.{list_all, prefix_len}
-use Rattle.std.proofs.lemmas.Bool.{and_parts, ne_eqb}
+use Rattle.std.proofs.lemmas.Bool.{and_parts, ne_eqb, cases_Bool, and_from}
 use Rattle.std.proofs.lemmas.List.{take_at, drop_at}
 use Rattle.td_text.specs.Cut.{strip}
 use Rattle.td_text.proofs.Cut.{Begins}
@@ -30,6 +30,22 @@ run_again test a b h s = take_at a b (prefix_len test (a ++ b)) (sym (prefix_len
 
 pub behind_again : (test : ℕ → Bool) (a b : List ℕ) → list_all test a ≡ true → Stops test b → behind test (a ++ b) ≡ b
 behind_again test a b h s = drop_at a b (prefix_len test (a ++ b)) (sym (prefix_len-front test a b h s))
+
+-- ---- what a run has
+
+-- each byte of a run passes its test
+pub run_passes : (test : ℕ → Bool) (t : List ℕ) → list_all test (run test t) ≡ true
+run_passes test [] = refl
+run_passes test (x ∷ t) =
+    elim (cases_Bool (test x)) [
+      | inl is ↦
+          let later = run_passes test t in
+          rw (is, one-add) (and_from (test x) (list_all test (run test t)) is later)
+      | inr out ↦ rw out refl
+    ]
+
+pub run_joined : (test : ℕ → Bool) (t : List ℕ) → t ≡ run test t ++ behind test t
+run_joined test t = sym (take-append-drop _ t)
 
 -- ---- whitespace in front
 

@@ -4,12 +4,15 @@ use Rattle.std.specs.List.{list_all, list_any, slice_split, onto_first}
 use Rattle.std.proofs.lemmas.Bool.Decides.{nat_tests}
 use Rattle.std.proofs.lemmas.List.Folds.{list_any-append}
 use Rattle.std.proofs.Math.Dec.{eqb-suc-zero}
+use Rattle.std.proofs.lemmas.Bool.{and_parts}
+use Rattle.std.proofs.Math.Bool.{or-true}
 use Rattle.td_text.specs.Runs.{is_space, run, trimmed}
+use Rattle.td_text.proofs.RunTexts.{run_passes, run_joined}
 use Rattle.td_wbread.specs.declared.word.Word.{Word}
 use Rattle.td_wbread.specs.declared.word.End.TheVariants.{Closed, Open}
 use Rattle.td_wbread.specs.Words.{Mark, gap, plain, quote, unclosed, is_quote, closes, marks, is_gap, is_unclosed, word_of, words_in, placed, words_from, words_of, open_at, end_with, end_of}
 use Rattle.td_wbread.specs.Taking.{IsTaken, IsSeen, IsOpen, EndsWord}
-use Rattle.td_wbread.proofs.Takes.{both, neither, or_some, run_passes, run_joined, run_ends}
+use Rattle.td_wbread.proofs.Takes.{neither, run_ends}
 
 -- ---- gaps
 
@@ -39,14 +42,14 @@ gap_open place b text h = ap (open_at place) (gap_mark b text h)
 skip_words : (place : ℕ) (front back : List ℕ) → list_all is_space front ≡ true → words_from place (front ++ back) ≡ words_from (place + length front) back
 skip_words place [] back h = let e : place ≡ place + 0 = omega arith in ap (λ (n : ℕ). words_from n back) e
 skip_words place (b ∷ front) back h =
-    let p = both (is_space b) (list_all is_space front) h in
+    let p = and_parts (is_space b) (list_all is_space front) h in
     let e : place + 1 + length front ≡ place + suc (length front) = omega arith in
     gap_words place b (front ++ back) p.0 ∙ skip_words (place + 1) front back p.1 ∙ ap (λ (n : ℕ). words_from n back) e
 
 skip_open : (place : ℕ) (front back : List ℕ) → list_all is_space front ≡ true → open_at place (marks None (front ++ back)) ≡ open_at (place + length front) (marks None back)
 skip_open place [] back h = let e : place ≡ place + 0 = omega arith in ap (λ (n : ℕ). open_at n (marks None back)) e
 skip_open place (b ∷ front) back h =
-    let p = both (is_space b) (list_all is_space front) h in
+    let p = and_parts (is_space b) (list_all is_space front) h in
     let e : place + 1 + length front ≡ place + suc (length front) = omega arith in
     gap_open place b (front ++ back) p.0 ∙ skip_open (place + 1) front back p.1 ∙ ap (λ (n : ℕ). open_at n (marks None back)) e
 
@@ -214,7 +217,7 @@ unfolding placed
 open_words place rest quote_place o =
     let piece : List Mark = o.front ++ unclosed ∷ [] in
     let one : list_any is_gap piece ≡ false = list_any-append is_gap o.front (unclosed ∷ []) ∙ neither _ _ o.taken.one refl in
-    let still : list_any is_unclosed piece ≡ true = list_any-append is_unclosed o.front (unclosed ∷ []) ∙ or_some (list_any is_unclosed o.front) in
+    let still : list_any is_unclosed piece ≡ true = list_any-append is_unclosed o.front (unclosed ∷ []) ∙ or-true (list_any is_unclosed o.front) in
     ap (λ (ms : List Mark). placed place (slice_split is_gap ms)) (open_marks rest quote_place o)
     ∙ ap (placed place) (split_last piece one)
     ∙ ap (λ (ws : List Word). ws ++ []) (open_piece place piece still)

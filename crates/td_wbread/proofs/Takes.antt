@@ -1,15 +1,17 @@
 -- The word at the front of a text, piece by piece.
 use Rattle.std.proofs.Common.{◌≡◌, ◌≢◌, ℕ, suc, ◌+◌, ◌-◌, ◌<◌, ◌≤◌, Bool, true, false, not, cond, eqb, ◌||◌, ◌&&◌, List, [], ◌∷◌, ◌++◌, Option, Some, None, length, map, take, drop, refl, sym, ap, ◌∙◌, subst, arith, append_assoc, append-nil, length-append}
 use Rattle.std.specs.List.{prefix_len, list_all, list_any}
-use Rattle.std.proofs.lemmas.Bool.{eqb-true}
+use Rattle.std.proofs.lemmas.Bool.{eqb-true, and_parts}
 use Rattle.std.proofs.lemmas.Bool.Decides.{nat_tests}
 use Rattle.std.proofs.lemmas.List.{take-append-drop, length-map}
 use Rattle.std.proofs.lemmas.List.Folds.{list_any-append}
 use Rattle.std.proofs.lemmas.Grind.{flat_map-append}
+use Rattle.std.proofs.Math.Bool.{or-true}
 use Rattle.td_text.specs.Cut.{cut, Without}
 use Rattle.td_text.proofs.Cut.{cut_found}
 use Rattle.td_rows.specs.Text.{has_newline}
 use Rattle.td_text.specs.Runs.{is_space, run, behind}
+use Rattle.td_text.proofs.RunTexts.{run_passes, run_joined}
 use Rattle.td_wbread.specs.Words.{Mark, gap, plain, quote, quoted, unclosed, is_quote, is_plain, bare_mark, closes, marks, is_gap, is_unclosed, is_quote_mark, letter, text_of, on_one_line}
 use Rattle.td_wbread.specs.Taking.{IsTaken, IsSeen, IsOpen, EndsWord, IsUnquoted, closing}
 
@@ -25,14 +27,10 @@ plain_mark : (b : ℕ) (text : List ℕ) → is_plain b ≡ true → marks None 
 unfolding marks
 plain_mark b text h = plain_by b (cond (closes b text) (quote ∷ marks (Some b) text) (unclosed ∷ [])) (marks None text) (is_quote b) (is_space b) h
 
-pub both : (a b : Bool) → (a && b) ≡ true → (a ≡ true) × (b ≡ true)
-both true b h = (refl, h)
-both false b h = absurd cc
-
 pub plain_marks : (front back : List ℕ) → list_all is_plain front ≡ true → marks None (front ++ back) ≡ map plain front ++ marks None back
 plain_marks [] back h = refl
 plain_marks (b ∷ front) back h =
-    let p = both (is_plain b) (list_all is_plain front) h in
+    let p = and_parts (is_plain b) (list_all is_plain front) h in
     plain_mark b (front ++ back) p.0 ∙ ap (λ (ms : List Mark). plain b ∷ ms) (plain_marks front back p.1)
 
 quoted_by : (b q : ℕ) (y z : List Mark) (e : Bool) → eqb b q ≡ e → b ≢ q → cond e y (quoted b ∷ z) ≡ quoted b ∷ z
@@ -69,20 +67,6 @@ open_mark q text is h = by (is_quote q) (closes q text) is h
     by false b x y = absurd cc
 
 -- ---- runs
-
-pub run_passes : (test : ℕ → Bool) (text : List ℕ) → list_all test (run test text) ≡ true
-run_passes test [] = refl
-run_passes test (x ∷ xs) = by (test x) refl (run_passes test xs)
-  where
-    by : (v : Bool) → test x ≡ v → list_all test (take (prefix_len test xs) xs) ≡ true → list_all test (take (cond v (1 + prefix_len test xs) 0) (x ∷ xs)) ≡ true
-    by false is h = refl
-    by true is h =
-        let e : suc (prefix_len test xs) ≡ 1 + prefix_len test xs = omega arith in
-        let here : list_all test (take (suc (prefix_len test xs)) (x ∷ xs)) ≡ true = ap (λ (v : Bool). v && list_all test (take (prefix_len test xs) xs)) is ∙ h in
-        subst (λ (n : ℕ). list_all test (take n (x ∷ xs)) ≡ true) e here
-
-pub run_joined : (test : ℕ → Bool) (text : List ℕ) → text ≡ run test text ++ behind test text
-run_joined test text = sym (take-append-drop (prefix_len test text) text)
 
 pub run_ends : (b : ℕ) (test : ℕ → Bool) (text after : List ℕ) → behind test text ≡ b ∷ after → test b ≡ false
 run_ends b test [] after h = absurd cc
@@ -145,10 +129,6 @@ or_none : (a b : Bool) → b ≡ false → (a || b) ≡ a
 or_none true b h = refl
 or_none false b h = h
 
-pub or_some : (a : Bool) → (a || true) ≡ true
-or_some true = refl
-or_some false = refl
-
 joined_text : (front piece : List Mark) → text_of (front ++ piece) ≡ text_of front ++ text_of piece
 joined_text front piece = flat_map-append letter front piece
 
@@ -164,7 +144,7 @@ more text front rest piece after t p = record {
 plain_line : (text : List ℕ) → list_all is_plain text ≡ true → has_newline text ≡ false
 plain_line [] h = refl
 plain_line (b ∷ text) h =
-    let p = both (is_plain b) (list_all is_plain text) h in
+    let p = and_parts (is_plain b) (list_all is_plain text) h in
     let first : eqb b 10 ≡ false = grind (arith, nat_tests, p.0) in
     neither _ _ first (plain_line text p.1)
 
@@ -249,7 +229,7 @@ between_seen text word is_bare q rest inside after is h s = record {
   front = s.front ++ between inside;
   taken = more text s.front (q ∷ rest) (between inside) after s.taken (is_between q rest inside after is h);
   joined = joined_text s.front (between inside) ∙ ap (λ (t : List ℕ). t ++ text_of (between inside)) s.joined ∙ ap (λ (t : List ℕ). word ++ t) (between_text inside);
-  bare = ap not (list_any-append is_quote_mark s.front (between inside) ∙ or_some (list_any is_quote_mark s.front));
+  bare = ap not (list_any-append is_quote_mark s.front (between inside) ∙ or-true (list_any is_quote_mark s.front));
 }
 
 pub word_ends : (rest : List ℕ) → IsUnquoted (behind is_plain rest) → EndsWord (behind is_plain rest)

@@ -2,7 +2,7 @@ use Rattle.std.proofs.Common.{◌≡◌, ◌&&◌, ◌<◌, ◌≤◌, ◌+◌, 
 use Rattle.td_relation.specs.Table.{IsApart}
 use Rattle.td_rows.specs.Table.{row_of}
 use Rattle.td_indices.specs.Archive.{Contents}
-use Rattle.td_rows.proofs.StateTexts.{has_newline-Without}
+use Rattle.td_rows.proofs.NoteLines.{has_newline-Without}
 use Rattle.td_text.proofs.Words.{Without-name}
 use Rattle.td_indices.proofs.OpeningRows.{all_opened, none_shown, rows_left, source_opened, source_shown}
 use Rattle.td_rows.proofs.Lists.{slice_get-none}

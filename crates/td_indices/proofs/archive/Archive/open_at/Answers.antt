@@ -1,6 +1,6 @@
 use Rattle.std.proofs.Common.{◌≡◌, Some, option_map, slice_get, sym, ap, ◌∙◌, refl}
 use Rattle.td_relation.specs.Arch.{ArchWords}
-use Rattle.td_rows.proofs.StateTexts.{has_newline-Without}
+use Rattle.td_rows.proofs.NoteLines.{has_newline-Without}
 use Rattle.td_text.proofs.Words.{Without-arch}
 use Rattle.td_indices.specs.Archive.{Contents}
 use Rattle.td_indices.proofs.OpeningRows.{opened}

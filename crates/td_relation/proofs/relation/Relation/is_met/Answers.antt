@@ -1,11 +1,11 @@
 use Rattle.std.proofs.Common.{◌≡◌, ◌∙◌, List, ap, sym, map}
 use Rattle.std.specs.List.{list_all}
+use Rattle.std.proofs.lemmas.List.Folds.{list_all-map}
 use Rattle.td_relation.specs.declared.relation.Alternative.{Alternative}
 use Rattle.td_relation.specs.Arch.{words_of}
 use Rattle.td_relation.specs.Asked.{Asked, asked}
 use Rattle.td_relation.specs.Meeting.{member_met}
 use Rattle.td_relation.specs.Members.{chunked}
-use Rattle.td_relation.proofs.MemberLaws.{list_all-map}
 use Rattle.td_relation.proofs.relation.Relation.is_met.Goals as goal
 
 pub returns : goal.returns
