@@ -1,3 +1,4 @@
+//! A change that was made, and how it is reverted.
 ghost use Rattle.std.specs.Prelude.{◌≡◌, true, List, IfOk, OnOk, OnErr};
 ghost use Rattle.td_rows.specs.declared.key.Key.{Key as KeyValue};
 ghost use Rattle.td_rows.specs.declared.kind.Kind.{Kind as KindValue};

@@ -1,3 +1,4 @@
+//! A change that waits to be made, with all its memory.
 ghost use Rattle.std.specs.Prelude.{◌≡◌, true, IfOk, map};
 ghost use Rattle.td_rows.specs.Keys.{ascending};
 ghost use Rattle.td_rows.specs.Table.{applied, AppliesOn};

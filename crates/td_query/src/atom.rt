@@ -1,3 +1,4 @@
+//! How the parts of a query without `&`, `|` and `!` are read.
 ghost use Rattle.std.specs.Prelude.{◌<◌, ◌≤◌, IfOk, List, length, map};
 ghost use Rattle.td_query.specs.declared.read_fault.RawPattern.{RawPattern};
 ghost use Rattle.td_query.specs.QueryGrammar.{atom, field_atom, slash_atom, tested, tilde_atom, word_atom};

@@ -1,3 +1,4 @@
+//! How the patterns of a tracker are compiled.
 ghost use Rattle.std.specs.Prelude.{◌≡◌, IfErr, IfOk, IsErrOf, map};
 ghost use Rattle.regex.specs.Failures.{IsPattern};
 ghost use Rattle.regex.specs.Patterns.{default_config};

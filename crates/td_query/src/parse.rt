@@ -1,3 +1,4 @@
+//! How a query is read: `!` binds before `&`, and `&` before `|`.
 ghost use Rattle.std.specs.Prelude.{◌<◌, ◌≡◌, List, length, IfOk, IfSome, map, option_map};
 ghost use Rattle.td_query.specs.declared.read_fault.RawPattern.{RawPattern};
 ghost use Rattle.td_query.specs.Query.{shape_of};

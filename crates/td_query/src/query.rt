@@ -1,3 +1,4 @@
+//! A query.
 ghost use Rattle.std.specs.Prelude.{◌≡◌, map};
 ghost use Rattle.td_query.specs.Query.{all_of as all_of_shapes, any_of as any_of_shapes, shape_of};
 

@@ -1,3 +1,4 @@
+//! Why a reading stopped, and the patterns that it met.
 use std::alloc::{AllocError, AllocFailed};
 
 /// Why a reading stopped.

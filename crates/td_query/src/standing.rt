@@ -1,3 +1,4 @@
+//! Whether a text stands in a value as a word of its own.
 ghost use Rattle.std.specs.Prelude.{◌≡◌, ◌≤◌, length};
 ghost use Rattle.td_text.specs.Words.{is_name_byte as is_name_byte_of};
 ghost use Rattle.td_query.specs.Standing.{is_free_before as is_free_before_of, is_free_from as is_free_from_of, stands_at as stands_at_of, stands_in as stands_in_of};

@@ -1,3 +1,4 @@
+//! A tracker: its queries, and what they make of an archive.
 ghost use Rattle.std.specs.Prelude.{◌≡◌, IfErr, IfOk, length, map};
 ghost use Rattle.regex.specs.Strings.{regex_source};
 ghost use Rattle.td_query.specs.Statuses.{status_of};

@@ -1,3 +1,4 @@
+//! Why a text is no tracker.
 ghost use Rattle.std.specs.Prelude.{◌≡◌};
 ghost use Rattle.td_query.specs.TrackerFaults.{fault_name, key_name};
 

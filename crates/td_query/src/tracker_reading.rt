@@ -1,3 +1,4 @@
+//! How a tracker is read.
 ghost use Rattle.std.specs.Prelude.{◌≡◌, ◌≤◌, ◌<◌, IfOk, IfSome, length, option_map, codes};
 ghost use Rattle.td_text.specs.Cut.{strip as strip_of};
 ghost use Rattle.td_query.specs.Tokens.{skipped};

@@ -1,3 +1,4 @@
+//! Whether a query holds on a stanza.
 ghost use Rattle.std.specs.Prelude.{◌≡◌, IfOk, length, map, option_map, slice_get};
 ghost use Rattle.regex.specs.Strings.{matcher_pattern, regex_pattern};
 ghost use Rattle.td_stanza.specs.StanzaGrammar.{IsDistinct};

@@ -1,3 +1,4 @@
+//! What a pattern between slashes spells.
 ghost use Rattle.std.specs.Prelude.{◌≡◌, IfOk, string_bytes};
 ghost use Rattle.td_query.specs.Sources.{unescaped, without_last};
 

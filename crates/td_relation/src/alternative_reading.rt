@@ -1,3 +1,4 @@
+//! How an alternative is read: its name, its version and its lists.
 ghost use Rattle.std.specs.Prelude.{◌≡◌, Bool, List, ℕ, option_map};
 ghost use Rattle.td_version.specs.Reading.{parts_read, reading};
 ghost use Rattle.td_relation.specs.RelationGrammar.{

@@ -1,3 +1,4 @@
+//! How a table of architectures is read.
 ghost use Rattle.std.specs.Prelude.{◌≡◌, ◌<◌, ◌≤◌, ◌^◌, ◌+◌, Ok, IfOk, IfErr, OnOk, ◌≢◌, ◌++◌, ◌∷◌, [], length, map};
 ghost use Rattle.std.specs.List.{list_any};
 ghost use Rattle.std.specs.Str.{bytes_eq};

@@ -1,3 +1,4 @@
+//! The table of architectures.
 ghost use Rattle.std.specs.Prelude.{◌≡◌, ◌≤◌, true, length, map, position};
 ghost use Rattle.std.specs.List.{list_all};
 ghost use Rattle.std.specs.Str.{bytes_eq};

@@ -1,3 +1,4 @@
+//! What is promised of relations as such.
 ghost use Rattle.td_relation.specs.MeetingLaws.{ListsCount, MoreStillMeets, OthersMakeNoDifference};
 ghost use Rattle.td_relation.specs.RelationWriting.{RelationsAreReadAgain};
 ghost use Rattle.td_relation.specs.Spacing.{RelationsAreExact, SpacedRelationsAreRead, WhitespaceMakesNoDifference};

@@ -1,3 +1,4 @@
+//! The members of a relation, one after the other.
 use crate::relation::Alternative;
 
 /// The members of a relation, one after the other, each as its alternatives. A step costs the same

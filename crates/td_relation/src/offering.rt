@@ -1,3 +1,4 @@
+//! What is on offer, found by names.
 ghost use Rattle.std.specs.Prelude.{◌≡◌, ℕ, List, option_map};
 ghost use Rattle.std.specs.List.{list_any};
 ghost use Rattle.td_relation.specs.Asked.{restriction_of};

@@ -1,3 +1,4 @@
+//! A list of offers.
 use crate::relation::Restriction;
 use crate::suiting::{is_there, satisfies};
 use std::alloc::{AllocError, Global};

@@ -1,3 +1,4 @@
+//! How build profiles are read.
 ghost use Rattle.std.specs.Prelude.{◌≡◌, false};
 ghost use Rattle.td_text.specs.Lines.{on_ok};
 ghost use Rattle.td_relation.specs.Pieces.{pieces_of};

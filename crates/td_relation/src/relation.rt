@@ -1,3 +1,4 @@
+//! A relation, its alternatives, and what they ask of a version.
 use crate::arch::Arch;
 use crate::archs::Archs;
 use crate::meeting::{are_asked, are_met, is_active};

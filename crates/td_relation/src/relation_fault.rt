@@ -1,3 +1,4 @@
+//! Why a text is no relation.
 use thiserror::Error;
 
 /// Why a text isn't a relation: the first fault from the left.

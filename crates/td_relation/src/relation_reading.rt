@@ -1,3 +1,4 @@
+//! How a relation is read.
 ghost use Rattle.std.specs.Prelude.{◌≡◌, ◌≤◌, [], ◌∷◌, ◌++◌, Ok, IfErr, IfOk, OnOk, length, map};
 ghost use Rattle.td_text.specs.Lines.{on_ok};
 ghost use Rattle.td_relation.specs.Asked.{asked};

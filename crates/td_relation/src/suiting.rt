@@ -1,3 +1,4 @@
+//! Whether an offer is such as is asked.
 ghost use Rattle.std.specs.Prelude.{◌≡◌, option_map};
 ghost use Rattle.td_relation.specs.Asked.{restriction_of};
 ghost use Rattle.td_relation.specs.Meeting.{accepts as accepts_of, is_there as is_there_of, satisfies as satisfies_of};

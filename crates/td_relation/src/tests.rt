@@ -1,3 +1,4 @@
+//! Relations and tables of architectures that are read, and relations that are met.
 ghost use Rattle.std.specs.Prelude.{List, [], ◌∷◌, if◌then◌else◌};
 ghost use Rattle.std.specs.Str.{bytes_eq};
 ghost use Rattle.td_relation.specs.Offers.{offered};

@@ -1,3 +1,4 @@
+//! The fields of a row that a kind reads or writes.
 ghost use Rattle.std.specs.Prelude.{◌≡◌};
 ghost use Rattle.td_rows.specs.Cells.{overlap};
 

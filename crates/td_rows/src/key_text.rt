@@ -1,3 +1,4 @@
+//! A key as it is written, read and written.
 ghost use Rattle.std.specs.Prelude.{◌≡◌, ◌++◌, option_map, OnOk, OnErr};
 ghost use Rattle.std.specs.String.{string_bytes};
 ghost use Rattle.td_rows.specs.declared.key.Key.{Key};

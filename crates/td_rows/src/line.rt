@@ -1,3 +1,4 @@
+//! A text without a newline.
 ghost use Rattle.std.specs.Prelude.{Some, None, true, false, ◌≡◌, ◌↔◌, ℕ, List, [], length, IfOk, IsOk, IsErrOf, string_bytes};
 ghost use Rattle.std.proofs.Common.{rules};
 ghost use Rattle.td_rows.specs.Text.{has_newline};

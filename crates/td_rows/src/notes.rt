@@ -1,3 +1,4 @@
+//! The texts at the end of a row's line.
 ghost use Rattle.std.specs.Prelude.{◌≡◌, ◌++◌, option_map, OnOk, OnErr};
 ghost use Rattle.std.specs.String.{string_bytes};
 ghost use Rattle.td_rows.specs.Appending.{Grown};

@@ -1,3 +1,4 @@
+//! Priorities and rebuild numbers, each within its limit.
 ghost use Rattle.std.specs.Prelude.{◌≡◌, ◌≤◌, ℕ, ℤ, pos, ◌≤ℤ◌, IsSome, IfSome, ◌↔◌};
 ghost use Rattle.td_text.specs.Numbers.{number_at, signed_at};
 ghost use Rattle.td_text.specs.Limits.{max_rebuild};

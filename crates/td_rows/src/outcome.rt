@@ -1,3 +1,4 @@
+//! How a build ended.
 ghost use Rattle.std.specs.Prelude.{◌≡◌, IfOk};
 ghost use Rattle.td_rows.specs.OutcomeCodes.{outcome_code};
 

@@ -1,3 +1,4 @@
+//! One source on one architecture.
 ghost use Rattle.std.specs.Prelude.{◌≡◌, IfOk};
 ghost use Rattle.td_rows.specs.Blank.{blank};
 

@@ -1,3 +1,4 @@
+//! The states of a row.
 ghost use Rattle.std.specs.Prelude.{◌≡◌};
 ghost use Rattle.td_rows.specs.States.{is_queued, is_building};
 

@@ -1,3 +1,4 @@
+//! Why a text is no state file.
 use thiserror::Error;
 
 /// Why a text isn't a state file: the first fault from its first line on. Lines count from 1.

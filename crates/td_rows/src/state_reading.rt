@@ -1,3 +1,4 @@
+//! How a state file is read.
 ghost use Rattle.std.specs.Prelude.{◌≡◌, ◌≤◌, ◌++◌, ◌∷◌, [], List, Ok, Err, IfOk, IfErr, OnOk, MatchResult, length, true, None};
 ghost use Rattle.td_rows.specs.Limits.{max_rows};
 ghost use Rattle.td_text.specs.Cut.{Without};

@@ -1,3 +1,4 @@
+//! The word of a state, read and written.
 ghost use Rattle.std.specs.Prelude.{◌≡◌, ◌++◌, OnOk, OnErr, codes, decimal};
 ghost use Rattle.std.specs.String.{string_bytes};
 ghost use Rattle.td_rows.specs.Appending.{Grown};

@@ -1,3 +1,4 @@
+//! How rows are written as a state file.
 ghost use Rattle.std.specs.Prelude.{◌≡◌, IfOk};
 ghost use Rattle.std.specs.String.{string_bytes};
 ghost use Rattle.td_rows.specs.StateWriting.{state_text, ReadAgain};

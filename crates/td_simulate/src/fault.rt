@@ -1,3 +1,4 @@
+//! Why a text is no simulation.
 ghost use Rattle.std.specs.Prelude.{◌≡◌};
 ghost use Rattle.td_simulate.specs.Faults.{fault_name, of_opening, state_fault_name};
 

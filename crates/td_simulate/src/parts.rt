@@ -1,3 +1,4 @@
+//! The parts of a simulation's text.
 ghost use Rattle.std.specs.Prelude.{◌≡◌, ◌<◌, ◌≤◌, ◌+◌, ◌-◌, ◌^◌, length};
 ghost use Rattle.td_text.specs.Lines.{lines_of, lines_left, left_len};
 ghost use Rattle.td_simulate.specs.SimulationText.{opening_text, ended, lines_after, number_after};

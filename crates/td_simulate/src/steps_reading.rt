@@ -1,3 +1,4 @@
+//! How the steps of a simulation are read.
 ghost use Rattle.std.specs.Prelude.{◌≡◌, ◌<◌, ◌+◌, ◌^◌, length, IfOk, IfErr, List};
 ghost use Rattle.td_text.specs.Lines.{lines_of};
 ghost use Rattle.td_simulate.specs.SimulationText.{ended, AreSteps, StepsFault};

@@ -1,3 +1,4 @@
+//! The word that begins the line of a step.
 ghost use Rattle.std.specs.Prelude.{◌≡◌};
 ghost use Rattle.td_simulate.specs.StepReading.{verb_at};
 

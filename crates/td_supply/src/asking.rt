@@ -1,3 +1,4 @@
+//! Whether an offer is such as is asked, as it is now.
 ghost use Rattle.std.specs.Prelude.{◌≡◌, option_map};
 ghost use Rattle.std.specs.List.{list_any};
 ghost use Rattle.td_version.specs.Version.{parts_of};

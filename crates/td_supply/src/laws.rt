@@ -1,3 +1,4 @@
+//! What is promised of supplies as such.
 ghost use Rattle.td_supply.specs.SupplyLaws.{NothingIsMet, OffersOfAllStay, OthersStay, RebuildsAreOffered, TheLastArrivalStands, TheStockStays};
 
 /// In an empty supply nothing is met.

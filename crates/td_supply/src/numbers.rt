@@ -1,3 +1,4 @@
+//! Numbers of items, found by a name.
 use std::alloc::{AllocError, Global};
 use std::collections::HashMap;
 

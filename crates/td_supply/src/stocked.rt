@@ -1,3 +1,4 @@
+//! An offer, and the rebuild of it that has arrived.
 use td_version::Version;
 
 /// Whose rebuild an offer may be: a binary package of the source, which a rebuild offers at this

@@ -1,3 +1,4 @@
+//! A supply: the offers of an archive, and the rebuilds that have arrived.
 ghost use Rattle.std.specs.Prelude.{◌≡◌, ◌<◌, ◌≤◌, List, ℕ, [], None, IfOk, IfSome, OnOk, OnErr, length, map, option_map, slice_get};
 ghost use Rattle.td_text.specs.Limits.{max_rebuild};
 ghost use Rattle.td_version.specs.Version.{parts_of};

@@ -1,3 +1,4 @@
+//! What a supply meets before and after arrivals.
 ghost use Rattle.std.specs.Prelude.{List, [], ◌∷◌, if◌then◌else◌};
 ghost use Rattle.std.specs.Str.{bytes_eq};
 

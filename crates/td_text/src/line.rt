@@ -1,3 +1,4 @@
+//! The lines of a text, one after the other.
 ghost use Rattle.std.specs.Prelude.{◌≡◌, ◌≤◌, ◌∷◌, ◌++◌, length};
 ghost use Rattle.td_text.specs.Cut.{Without};
 ghost use Rattle.td_text.specs.Lines.{lines_of, lines_left, left_text, left_len};

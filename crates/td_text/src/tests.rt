@@ -1,3 +1,4 @@
+//! What a text is cut into, and which numbers and names are read and written.
 use crate::{
     cut_at, is_arch, is_name, next_line, number, part_at, put_number, put_signed, signed, strip,
 };

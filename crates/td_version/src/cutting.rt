@@ -1,3 +1,4 @@
+//! A cut of a text at the last place of a character.
 ghost use Rattle.std.specs.Prelude.{◌≡◌, ◌<◌, option_map};
 ghost use Rattle.td_version.specs.Reading.{cut_last};
 

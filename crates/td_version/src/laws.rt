@@ -1,3 +1,4 @@
+//! What is promised of versions as such.
 ghost use Rattle.std.specs.Cmp.{IsTotalOrder};
 ghost use Rattle.td_version.specs.Base.{RebuildsHaveBases, SplitsHaveBases};
 ghost use Rattle.td_version.specs.Order.{version_cmp};

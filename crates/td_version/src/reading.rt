@@ -1,3 +1,4 @@
+//! How a version is read.
 ghost use Rattle.std.specs.Prelude.{◌≡◌, ◌<◌, ◌≤◌, ◌+◌, ◌^◌, IfOk, IfSome, length, not, option_map, position};
 ghost use Rattle.std.specs.Option.{ForSome};
 ghost use Rattle.td_version.specs.Grammar.{

@@ -1,3 +1,4 @@
+//! The number of a rebuild at the end of a version.
 ghost use Rattle.std.specs.Prelude.{◌≡◌, ◌≤◌, ℕ, List, IfOk, IfSome, option_map, string_bytes};
 ghost use Rattle.td_text.specs.Limits.{max_rebuild};
 ghost use Rattle.td_version.specs.Rebuild.{IsRebuild, rebuild_text};

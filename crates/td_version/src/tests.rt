@@ -1,3 +1,4 @@
+//! Versions that are read, ordered and rebuilt.
 use crate::{
     MAX_EPOCH, MAX_REBUILD, Version, VersionFault, base_of, cmp_version, is_same_version,
     split_rebuild, write_rebuild,

@@ -1,3 +1,4 @@
+//! A version, by its parts.
 ghost use Rattle.std.specs.Prelude.{◌≤◌};
 ghost use Rattle.td_version.specs.declared.version.TheConstants.{MAX_EPOCH};
 

@@ -1,3 +1,4 @@
+//! A command, and which rows it takes.
 ghost use Rattle.td_wbread.specs.inner.Places.{FindsPackages, FindsPackages-prop};
 
 use crate::places::Places;

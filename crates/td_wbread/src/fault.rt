@@ -1,3 +1,4 @@
+//! Why a line is no command.
 use thiserror::Error;
 
 /// What is wrong with a line that is no command.

@@ -1,3 +1,4 @@
+//! A word of a line, and what stands behind the last one.
 use crate::fault::{CommandFault, LineFault};
 use td_rows::Line;
 
