@@ -11,8 +11,8 @@ use crate::alternative_reading::read_alternative;
 use crate::relation::{Alternative, Relation};
 use crate::relation_fault::RelationFault;
 use crate::runs::next_piece;
-use td_text::is_blank;
 use std::alloc::Global;
+use td_text::is_blank;
 
 // Adds the alternative that the piece is.
 fn push_alternative<'a>(
