@@ -8,8 +8,8 @@
 //! Promised: a text is read exactly where it is a tracker's, as that tracker, unless memory runs
 //! out or `regex` finds a pattern too large; else the first fault from the left is named, with its
 //! place.
-//! A row's status is what `specs/Statuses.antt` says: `Tracker::status` evaluates the queries on the
-//! row's stanzas, `Marks` does so once for each stanza of an archive and is asked row by row. What
+//! A row's status is what `specs/Statuses.antt` says: `Tracker::status` evaluates the queries on
+//! the row's stanzas, `Marks` does so once for each stanza of an archive and is asked row by row. What
 //! queries and statuses mean is said by `specs/QueryLaws.antt` and `specs/StatusLaws.antt`.
 #![tactic(auto)]
 
