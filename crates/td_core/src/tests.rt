@@ -1,7 +1,7 @@
 //! What no clause says: that steps succeed with ample memory, and that the definitions are those
 //! of the field. The expected answers and rows are the project's own worked examples; those that
 //! need no offers are run by the program (`examples/`).
-ghost use Rattle.std.specs.Prelude.{◌≡◌, IfOk, pos};
+ghost use Rattle.std.specs.Prelude.{◌≡◌, IfOk, OnOk, pos};
 ghost use Rattle.td_rows.specs.declared.kind.Kind.{Kind as KindValue};
 ghost use Rattle.td_rows.specs.Table.{AppliesOn};
 ghost use Rattle.td_core.specs.History.{rows_of};
@@ -9,7 +9,7 @@ ghost use Rattle.td_core.specs.Phases.{NoneBuilt};
 ghost use Rattle.td_supply.specs.Supply.{opened, stock_of};
 
 use crate::{Answer, Books, Kept, KeyList, Refusal, Step, World, run};
-use std::alloc::Global;
+use std::alloc::{AllocError, Global};
 use std::test::Fail;
 use td_journal::{Entry, Keys, read, read_kind, text};
 use td_relation::Archs;
@@ -151,8 +151,10 @@ fn rows_after(
 {
     let steps = steps(alloc, table)?;
     let opening = rows(alloc, opening)?;
-    let (world, answers) = run(alloc, opening, supply, 0, steps)?;
-    rows_told(alloc, &world, answers.as_slice(), table)
+    match run(alloc, opening, supply, 0, steps) {
+        Ok((world, answers)) => rows_told(alloc, &world, answers.as_slice(), table),
+        Err(_) => Err(Fail::from("want of memory")),
+    }
 }
 
 const OPENING: &str = "bar/i386 Failed 0 2\nfoo/amd64 Built 0 1\n";
@@ -176,20 +178,29 @@ fn commands_are_undone_from_the_last_one_back(rt: HostRuntime) -> Result<(), Fai
     Ok(())
 }
 
-// The development files of a library, on two architectures.
-fn library(alloc: Global) -> Result<Supply<'static>, Fail>
-    ensures { IfOk result (λ supply. supply ≡ opened (stock_of supply)) }
+// Puts the development files of a library on offer, on two architectures.
+fn stock<'a>(supply: &mut Supply<'a>, base: Version<'a>) -> Result<(), AllocError>
+    requires { supply.old ≡ opened (stock_of supply.old) }
+    ensures { OnOk result (supply.new ≡ opened (stock_of supply.new)) }
 {
-    let base = Version::read("2.0-1")?;
     let build = Some(Build {
         source: "bar",
         base,
     });
+    supply.push("libbar-dev", Some(base), Some(0), build)?;
+    supply.push("libbar-dev", Some(base), Some(1), build)
+}
+
+fn library(alloc: Global) -> Result<Supply<'static>, Fail>
+    ensures { IfOk result (λ supply. supply ≡ opened (stock_of supply)) }
+{
+    let base = Version::read("2.0-1")?;
     let archs = Archs::read(alloc, "amd64 linux amd64\ni386 linux i386")?;
     let mut supply = Supply::new(alloc, archs);
-    supply.push("libbar-dev", Some(base), Some(0), build)?;
-    supply.push("libbar-dev", Some(base), Some(1), build)?;
-    Ok(supply)
+    match stock(&mut supply, base) {
+        Ok(()) => Ok(supply),
+        Err(_) => Err(Fail::from("want of memory")),
+    }
 }
 
 const WAITING: &str = "\
@@ -275,10 +286,16 @@ fn rows_gone_on(alloc: Global, books: &mut Books<'_>) -> Result<String, Fail> {
     Ok(rows_text(alloc, books.rows())?)
 }
 
+fn rows_reopened(alloc: Global, opening: &str, journal: &str) -> Result<String, Fail> {
+    match reopened(alloc, opening, journal) {
+        Ok(mut books) => rows_gone_on(alloc, &mut books),
+        Err(fail) => Err(fail),
+    }
+}
+
 #[test]
 fn a_journal_that_is_read_again_goes_on(rt: HostRuntime) -> Result<(), Fail> {
-    let mut books = reopened(rt.alloc(), WAITING, ARRIVED)?;
-    let rows = rows_gone_on(rt.alloc(), &mut books)?;
+    let rows = rows_reopened(rt.alloc(), WAITING, ARRIVED)?;
     assert_eq!(rt; rows.as_str(), GONE_ON);
     Ok(())
 }
@@ -343,29 +360,36 @@ fn claim_reserved(kept: &mut Kept, key: &Key, alloc: Global) -> Result<u64, Fail
     }))
 }
 
+fn claim_named(alloc: Global, kept: &mut Kept, text: &str) -> Result<u64, Fail> {
+    let key = key(alloc, text)?;
+    claim_reserved(kept, &key, alloc)
+}
+
 const PLANNED: &str = "bar/amd64 Installed 0 0\nfoo/amd64 Failed 0 0\n";
 
 // What is answered to a planned command that fits nowhere, to one that fits one row, and to a claim
-// of that.
-fn planned_answers(
-    alloc: Global,
-    kept: &mut Kept,
-) -> Result<(Option<u64>, Option<u64>, u64), Fail> {
-    let foo = key(alloc, "foo/amd64")?;
+// of that; and the rows then.
+fn planned_answers(alloc: Global, kept: &mut Kept) -> Result<String, Fail> {
     let nothing = give_back_planned(alloc, kept, "bar/amd64")?;
     let entry = give_back_planned(alloc, kept, "bar/amd64 foo/amd64")?;
-    let claim = claim_reserved(kept, &foo, alloc)?;
-    Ok((nothing, entry, claim))
+    let claim = claim_named(alloc, kept, "foo/amd64")?;
+    if nothing.is_some() || entry != Some(1) || claim != 2 {
+        return Err(Fail::from("other answers"));
+    }
+    Ok(rows_text(alloc, kept.rows())?)
+}
+
+fn rows_planned(alloc: Global, opening: &str) -> Result<String, Fail> {
+    let rows = rows(alloc, opening)?;
+    match Kept::open(alloc, rows) {
+        Ok(mut kept) => planned_answers(alloc, &mut kept),
+        Err(_) => Err(Fail::from("want of memory")),
+    }
 }
 
 #[test]
 fn a_planned_command_takes_the_keys_that_fit(rt: HostRuntime) -> Result<(), Fail> {
-    let mut kept = Kept::open(rt.alloc(), rows(rt.alloc(), PLANNED)?)?;
-    let (nothing, entry, claim) = planned_answers(rt.alloc(), &mut kept)?;
-    assert_eq!(rt; nothing, None);
-    assert_eq!(rt; entry, Some(1));
-    assert_eq!(rt; claim, 2);
-    let rows = rows_text(rt.alloc(), kept.rows())?;
+    let rows = rows_planned(rt.alloc(), PLANNED)?;
     assert_eq!(rt;
         rows.as_str(),
         "bar/amd64 Installed 0 0\nfoo/amd64 Building=1 0 0\n"
