@@ -1,5 +1,5 @@
-//! Questions to an archive, in words, and what it answers. One function owns the archive; the others
-//! have it by reference, so that the proof of a test is short.
+//! Questions to an archive, in words, and what it answers. One function owns the archive; the
+//! others have it by reference, so that the proof of a test is short.
 use crate::{Archive, Binary};
 use std::alloc::{AllocError, Global};
 use std::process::Abort;
