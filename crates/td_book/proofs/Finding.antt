@@ -33,7 +33,7 @@ use Rattle.td_book.specs.Naming.{Adds, version_in}
 
 -- ---- 1. lists of keys that rise
 
-below_named : (x k : Key) (ks : List Key) → below_all x ks ≡ true → names ks k ≡ true → is_lt (key_cmp x k) ≡ true
+pub below_named : (x k : Key) (ks : List Key) → below_all x ks ≡ true → names ks k ≡ true → is_lt (key_cmp x k) ≡ true
 below_named x k [] below named = cc
 below_named x k (q ∷ ks) below named =
     let both = and_parts (is_lt (key_cmp x q)) (below_all x ks) below in

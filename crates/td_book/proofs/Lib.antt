@@ -9,3 +9,4 @@ pub mod Ends
 pub mod Fixed
 pub mod Numbers
 pub mod Returns
+pub mod Numbered

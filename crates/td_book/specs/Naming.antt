@@ -1,5 +1,6 @@
 -- The rows that a command names, those of them whose version matches, and the kind of its entry. This project's own, in the style of wanna-build.
-use Rattle.std.specs.Prelude.{◌≡◌, ℕ, Bool, false, ◌&&◌, ◌||◌, List, Option, Some, None, is_some, filter}
+use Rattle.std.specs.Prelude.{◌≡◌, ℕ, Bool, false, ◌&&◌, ◌||◌, List, Option, Some, None, is_some, filter, slice_get}
+use Rattle.std.specs.List.{filter_map}
 use Rattle.std.specs.Option.{option_and_then}
 use Rattle.std.specs.Result.{result_ok}
 use Rattle.td_rows.specs.declared.key.Key.{Key}
@@ -20,6 +21,10 @@ use Rattle.td_wbread.specs.Naming.{is_named, is_matched, is_bare}
 -- the keys of the rows that the command names, in order
 abbrev pub named_in : CommandParts → Table → List Key
 named_in c t = filter (λ k. is_named c k.source k.arch) (keys_of t)
+
+-- the keys of the rows with these numbers
+unfoldable pub keys_at : Table → List ℕ → List Key
+keys_at t numbers = filter_map (slice_get (keys_of t)) numbers
 
 -- to the keys came those of the rows whose keys pass a test
 abbrev pub Adds : Table → List Key → List Key → (Key → Bool) → Type 0

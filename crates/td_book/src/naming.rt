@@ -1,12 +1,15 @@
 //! The rows that a command names, and those of them whose version matches.
 ghost use Rattle.std.specs.Prelude.{◌≡◌, ◌&&◌, ◌||◌, [], false, true, IfOk, OnOk, filter, is_some, map, option_map, string_bytes, if◌then◌else◌};
 ghost use Rattle.std.specs.List.{list_any};
+ghost use Rattle.std.specs.List.Sorted.{IsStrictlySortedBy};
+ghost use Rattle.std.specs.Ordering.{nat_cmp};
 ghost use Rattle.std.specs.Str.{bytes_eq};
 ghost use Rattle.td_rows.specs.Keys.{ascending, names};
-ghost use Rattle.td_rows.specs.Table.{keys_of, row_of};
+ghost use Rattle.td_rows.specs.declared.key.Key.{Key as KeyValue};
+ghost use Rattle.td_rows.specs.Table.{Table, keys_of as every_key};
 ghost use Rattle.td_version.specs.Version.{parts_of as version_of};
 ghost use Rattle.td_wbread.specs.Views.{package_of, parts_of};
-ghost use Rattle.td_book.specs.Naming.{Adds, is_matched_as, is_matched_at, kind_of as kind_in, named_in, version_in as version_in_supply};
+ghost use Rattle.td_book.specs.Naming.{Adds, keys_at, is_matched_as, is_matched_at, kind_of as kind_in, named_in, version_in as version_in_supply};
 ghost use Rattle.td_book.specs.Skips.{doubt};
 
 use crate::skips::{Skip, SkipReason};
@@ -16,73 +19,91 @@ use td_supply::Supply;
 use td_version::Version;
 use td_wbread::{Command, Package, Verb};
 
-// Adds the key of a source on an architecture, if it has a row.
-fn push_named(named: &mut Vec<Key>, rows: &Rows, source: &str, arch: &str) -> Result<(), AllocError>
-    ensures { OnOk result (Adds rows.now named.old.items named.new.items (λ k. bytes_eq source.now k.source && bytes_eq arch.now k.arch)) }
+// Adds the number of the row of a source on an architecture, if it has one.
+fn push_number(
+    numbers: &mut Vec<usize>,
+    rows: &Rows,
+    source: &str,
+    arch: &str,
+) -> Result<(), AllocError>
+    ensures { OnOk result (Adds rows.now (keys_at rows.now numbers.old.items) (keys_at rows.now numbers.new.items) (λ k. bytes_eq source.now k.source && bytes_eq arch.now k.arch)) }
 {
     let _rising = rows.len();
     if let Some(number) = rows.number_of(source, arch) {
-        if let Some((key, _)) = rows.at(number) {
-            named.push(key.copy()?)?;
-        }
+        numbers.push(number)?;
     }
     Ok(())
 }
 
-// Adds the keys of a source on each of the architectures.
+// Adds the numbers of the rows of a source on each of the architectures.
 fn push_on_each(
-    named: &mut Vec<Key>,
+    numbers: &mut Vec<usize>,
     rows: &Rows,
     source: &str,
     archs: &[&str],
 ) -> Result<(), AllocError>
-    ensures { OnOk result (Adds rows.now named.old.items named.new.items (λ k. bytes_eq source.now k.source && list_any (λ a. bytes_eq a.now k.arch) archs.now)) }
+    ensures { OnOk result (Adds rows.now (keys_at rows.now numbers.old.items) (keys_at rows.now numbers.new.items) (λ k. bytes_eq source.now k.source && list_any (λ a. bytes_eq a.now k.arch) archs.now)) }
 {
     for arch in archs {
-        push_named(named, rows, source, arch)?;
+        push_number(numbers, rows, source, arch)?;
     }
     Ok(())
 }
 
-// The keys of each of the packages on each of the architectures, in the order of the command.
+// The numbers of the rows of each of the packages on each of the architectures, in the order of
+// the command.
 fn looked_up(
     alloc: Global,
     rows: &Rows,
     packages: &[Package],
     archs: &[&str],
-) -> Result<Vec<Key>, AllocError>
-    ensures { IfOk result (λ keys. Adds rows.now [] keys.items (λ k. list_any (λ p. bytes_eq (string_bytes p.source) k.source) packages.now && list_any (λ a. bytes_eq a.now k.arch) archs.now)) }
+) -> Result<Vec<usize>, AllocError>
+    ensures { IfOk result (λ numbers. Adds rows.now [] (keys_at rows.now numbers.items) (λ k. list_any (λ p. bytes_eq (string_bytes p.source) k.source) packages.now && list_any (λ a. bytes_eq a.now k.arch) archs.now)) }
 {
-    let mut named = Vec::new(alloc);
+    let mut numbers = Vec::new(alloc);
     for package in packages {
-        push_on_each(&mut named, rows, package.source.as_str(), archs)?;
+        push_on_each(&mut numbers, rows, package.source.as_str(), archs)?;
     }
-    Ok(named)
+    Ok(numbers)
 }
 
-// Sorts keys, and drops doubles.
-fn sort_keys(keys: &mut Vec<Key>)
-    ensures rising { ascending keys.new.items ≡ true }
-    ensures same { (k : Key) → names keys.new.items k ≡ names keys.old.items k }
+// Sorts numbers, and drops doubles.
+fn sort_numbers(numbers: &mut Vec<usize>)
+    ensures rising { IsStrictlySortedBy nat_cmp numbers.new.items }
+    ensures same { (t : Table) (k : KeyValue) → names (keys_at t numbers.new.items) k ≡ names (keys_at t numbers.old.items) k }
 {
-    keys.sort_unstable();
-    keys.dedup();
+    numbers.sort_unstable();
+    numbers.dedup();
+}
+
+// Copies of the keys of the rows with these numbers.
+fn keys_of(alloc: Global, rows: &Rows, numbers: &[usize]) -> Result<Vec<Key>, AllocError>
+    ensures { IfOk result (λ keys. keys.items ≡ keys_at rows.now numbers.now) }
+{
+    let mut keys = Vec::new(alloc);
+    for number in numbers {
+        if let Some((key, _)) = rows.at(*number) {
+            keys.push(key.copy()?)?;
+        }
+    }
+    Ok(keys)
 }
 
 /// The keys of the rows that a command names. Each package is looked up on each chosen
-/// architecture, so that a command on one source takes no longer where there are more rows.
+/// architecture, so that a command on one source takes no longer where there are more rows; a key
+/// is copied once, however often the command names it.
 pub(crate) fn named(
     alloc: Global,
     rows: &Rows,
     command: &Command<'_>,
 ) -> Result<Vec<Key>, AllocError>
     ensures keys { IfOk result (λ keys. keys.items ≡ named_in (parts_of command.now) rows.now) }
-    ensures rising { ascending (keys_of rows.now) ≡ true }
+    ensures rising { ascending (every_key rows.now) ≡ true }
 {
     let _rising = rows.len();
-    let mut named = looked_up(alloc, rows, &command.packages, &command.archs)?;
-    sort_keys(&mut named);
-    Ok(named)
+    let mut numbers = looked_up(alloc, rows, &command.packages, &command.archs)?;
+    sort_numbers(&mut numbers);
+    keys_of(alloc, rows, &numbers)
 }
 
 // Whether the version of a row matches, given its source's version, where the archive has one.
