@@ -55,8 +55,8 @@ impl Gathered {
             (self.new.texts.items ≡ self.old.texts.items ++ outcome_text outcome ∷ []) }
         ensures lines { OnOk result ((k : KeyValue) → lines_of_key self.new.lines.entries k
             ≡ with_line k key
-                (record { code = code_of outcome; line = length self.old.texts.items })
-                (lines_of_key self.old.lines.entries k)) }
+            (record { code = code_of outcome; line = length self.old.texts.items })
+            (lines_of_key self.old.lines.entries k)) }
     {
         let line = self.texts.len();
         let (code, text) = parts_of(alloc, outcome);

@@ -23,7 +23,10 @@ fn a_text_is_read_or_its_first_bad_line_told(rt: HostRuntime) -> Result<(), Fail
     for (text, answer) in [
         ("", "read"),
         ("foo/amd64 built", "read"),
-        ("foo/amd64 built\nbar+/i386 attempted\nfoo/amd64 givenback\n", "read"),
+        (
+            "foo/amd64 built\nbar+/i386 attempted\nfoo/amd64 givenback\n",
+            "read",
+        ),
         ("foo/amd64 waits : libbar-dev (>= 2) | libqq-dev\n", "read"),
         ("foo/amd64 waits :  : \n", "read"),
         ("foo/amd64 waits\n", "read"),
@@ -106,7 +109,10 @@ fn each_build_of_a_key_uses_its_next_line(rt: HostRuntime) -> Result<(), Fail> {
         ("foo/i386", "attempted"),
         ("bar/amd64", "built"),
     ] {
-        assert_eq!(rt; built_as(&rt, rt.alloc(), &outcomes, key)?.as_str(), outcome);
+        assert_eq!(rt;
+            built_as(&rt, rt.alloc(), &outcomes, key)?.as_str(),
+            outcome
+        );
     }
     Ok(())
 }
@@ -127,8 +133,16 @@ const WORKS: [(&str, &str, &str); 6] = [
         "foo/amd64 Needs-Build 0 0\n",
         "Ok(2)\nfoo/amd64 Built 0 0\n",
     ),
-    ("", "foo/amd64 Needs-Build 0 0\n", "Ok(1)\nfoo/amd64 Built 0 0\n"),
-    ("", "foo/amd64 Installed 0 0\n", "Ok(0)\nfoo/amd64 Installed 0 0\n"),
+    (
+        "",
+        "foo/amd64 Needs-Build 0 0\n",
+        "Ok(1)\nfoo/amd64 Built 0 0\n",
+    ),
+    (
+        "",
+        "foo/amd64 Installed 0 0\n",
+        "Ok(0)\nfoo/amd64 Installed 0 0\n",
+    ),
     ("foo/amd64 built\n", "", "Ok(0)\n"),
     (
         "foo/amd64 waits : libbar-dev\n",
@@ -146,7 +160,10 @@ const WORKS: [(&str, &str, &str); 6] = [
 fn a_builder_works_until_nothing_is_ready(rt: HostRuntime) -> Result<(), Fail> {
     for (lines, opening, answer) in WORKS {
         let outcomes = Outcomes::read(rt.alloc(), lines)?;
-        assert_eq!(rt; work_over(&rt, rt.alloc(), opening, &outcomes)?.as_str(), answer);
+        assert_eq!(rt;
+            work_over(&rt, rt.alloc(), opening, &outcomes)?.as_str(),
+            answer
+        );
     }
     Ok(())
 }
