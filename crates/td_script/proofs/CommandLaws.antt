@@ -1,0 +1,69 @@
+-- The answer to a command, from what the book's call says.
+use Rattle.std.proofs.Common.{◌≡◌, ◌≢◌, ℕ, ◌+◌, ◌≤◌, List, [], ◌∷◌, ◌++◌, length, Some, None, Ok, Err, refl, sym, ap, subst, ◌∙◌, arith, slice_get, append_assoc, filter}
+use Rattle.std.specs.List.{flat_map}
+use Rattle.std.specs.Prelude.{codes}
+use Rattle.td_rows.specs.declared.key.Key.{Key}
+use Rattle.td_rows.specs.declared.kind.Kind.{Kind}
+use Rattle.td_rows.specs.Table.{Table}
+use Rattle.td_journal.specs.declared.entry.Entry.{Entry}
+use Rattle.td_journal.specs.declared.entry.Marked.{Marked}
+use Rattle.td_journal.specs.Entries.{entry_at, standing_entry}
+use Rattle.td_core.specs.History.{History, rows_of}
+use Rattle.td_wbread.specs.Command.{CommandParts}
+use Rattle.td_book.specs.declared.commanding.CommandRefusal.TheVariants as refusals
+use Rattle.td_book.specs.declared.commanding.Taken.{Taken}
+use Rattle.td_book.specs.declared.skips.Skip.{Skip}
+use Rattle.td_book.specs.Desk.{BookModel}
+use Rattle.td_book.specs.Calls.{noting, off_for, Enters, Nothing, Choices}
+use Rattle.td_book.specs.Commands.{IsDone, is_matched_in, named_by}
+use Rattle.td_book.specs.Naming.{kind_of}
+use Rattle.td_book.specs.Skips.{skips_of}
+use Rattle.td_script.specs.Replies.{enters, enters_on, entry_made, commands, refuses, refusal_line, skip_line, skipped, taken, Reply}
+use Rattle.td_script.specs.Answering.{Answers}
+use Rattle.td_script.proofs.AnswerLaws.{made_is, noting-none}
+
+-- without builders no claim is noted before the entry
+alone : (old : BookModel) (keys : List Key) (choices : List ℕ) → old.fixed.builders ≡ 0 → Choices old.fixed.builders keys choices → noting old.history keys choices ≡ old.history
+alone old keys choices none chosen = noting-none old.history keys choices (λ i b is. let small = chosen.bound i b is in omega (arith, small, none))
+
+-- the entry of a command
+abbrev entry : BookModel → CommandParts → Entry
+entry b c = record { kind = kind_of c; keys = taken b.fixed.stock b.history c }
+
+-- the rows that it names and doesn't take, of rows
+abbrev left : BookModel → CommandParts → Table → List Skip
+left b c = skips_of (is_matched_in c b) (kind_of c) (named_by c b)
+
+abbrev matched : BookModel → CommandParts → List Key
+matched b c = filter (is_matched_in c b) (named_by c b)
+
+enters_on-some : (h : History) (kind : Kind) (keys : List Key) (behind : List ℕ) → keys ≢ [] → enters_on h kind keys behind ≡ enters h (record { kind = kind; keys = keys }) behind
+enters_on-some h kind [] behind some = absurd (some refl)
+enters_on-some h kind (k ∷ keys) behind some = refl
+
+pub Answers-entered : (c : CommandParts) (old new : BookModel) (t : Taken) (before mid now : List ℕ) → old.fixed.builders ≡ 0 → IsDone c old new (Ok t) → ((m : Marked) → entry_at new.history.journal t.number ≡ Some m → mid ≡ before ++ entry_made t.number m.entry.keys) → now ≡ mid ++ flat_map skip_line t.skips → Answers (commands old.fixed.stock old.history c) old new before now false
+Answers-entered c old new t before mid now none h written text =
+    let off = off_for (kind_of c) (named_by c old) in
+    let out : Enters (kind_of c) (matched old c) (left old c) old.history new.history t = subst (λ (n : History). Enters (kind_of c) (matched old c) (left old c) n new.history t) (alone old off h.outcome.0 none h.outcome.1) h.outcome.2 in
+    let e = entry old c in
+    let behind = flat_map skip_line (skipped old.fixed.stock old.history c) in
+    let line : mid ≡ before ++ entry_made (length old.history.journal + 1) e.keys = written (standing_entry e) (made_is old.history new.history e t.number out.1 out.2) ∙ ap (λ (m : ℕ). before ++ entry_made m e.keys) out.2 in
+    subst (λ (r : Reply). Answers r old new before now false) (sym (enters_on-some old.history (kind_of c) e.keys behind out.0)) (record {
+      text = text ∙ ap (λ (l : List ℕ). l ++ flat_map skip_line t.skips) line ∙ append_assoc before (entry_made (length old.history.journal + 1) e.keys) (flat_map skip_line t.skips) ∙ ap (λ (s : List Skip). before ++ (entry_made (length old.history.journal + 1) e.keys ++ flat_map skip_line s)) out.3;
+      history = out.1;
+      refusal = refl;
+      fixed = h.fixed;
+    })
+
+pub Answers-nothing : (c : CommandParts) (old new : BookModel) (s : List Skip) (before mid now : List ℕ) → old.fixed.builders ≡ 0 → IsDone c old new (Err (refusals.NothingApplies s)) → mid ≡ before ++ refusal_line (codes "NothingApplies") → now ≡ mid ++ flat_map skip_line s → Answers (commands old.fixed.stock old.history c) old new before now true
+Answers-nothing c old new s before mid now none h line text =
+    let off = off_for (kind_of c) (named_by c old) in
+    let out : Nothing (kind_of c) (matched old c) (left old c) old.history new.history s = subst (λ (n : History). Nothing (kind_of c) (matched old c) (left old c) n new.history s) (alone old off h.outcome.0 none h.outcome.1) h.outcome.2 in
+    let behind = flat_map skip_line (skipped old.fixed.stock old.history c) in
+    let reply : commands old.fixed.stock old.history c ≡ refuses old.history (codes "NothingApplies") behind = ap (λ (ks : List Key). enters_on old.history (kind_of c) ks behind) out.0 in
+    subst (λ (r : Reply). Answers r old new before now true) (sym reply) (record {
+      text = text ∙ ap (λ (l : List ℕ). l ++ flat_map skip_line s) line ∙ append_assoc before (refusal_line (codes "NothingApplies")) (flat_map skip_line s) ∙ ap (λ (x : List Skip). before ++ (refusal_line (codes "NothingApplies") ++ flat_map skip_line x)) out.2;
+      history = out.1;
+      refusal = refl;
+      fixed = h.fixed;
+    })

@@ -1,0 +1,4 @@
+pub mod RequestTexts
+pub mod AnswerLaws
+pub mod CommandLaws
+pub mod ScriptLaws

@@ -1,0 +1,46 @@
+-- What is told of the lines so far.
+use Rattle.std.proofs.Common.{◌≡◌, ℕ, zero, ◌+◌, ◌≤◌, ◌<◌, ◌^◌, ◌-◌, List, [], ◌∷◌, length, Option, Some, None, fold, Bor, refl, sym, ap, subst, ◌∙◌, arith}
+use Rattle.std.specs.String.{string_bytes}
+use Rattle.td_rows.specs.Table.{Table}
+use Rattle.td_text.specs.Lines.{lines_of, lines_left, left_len}
+use Rattle.td_supply.specs.Supply.{Stock}
+use Rattle.td_book.specs.Desk.{BookModel, Fixed}
+use Rattle.td_script.specs.declared.told.Told.{Told as ToldText}
+use Rattle.td_script.specs.Replies.{Setting}
+use Rattle.td_script.specs.Script.{Told, with_line, script, told_of, IsAdded, IsTold}
+
+abbrev pub setting_of : Stock → List (List ℕ) → Option (Table → List ℕ) → Setting
+setting_of stock suites report = record { stock = stock; suites = suites; report = report }
+
+-- what is told so far, with the answers to what is left, is the whole
+pub record IsSoFar (suites : List (List ℕ)) (report : Option (Table → List ℕ)) (all : List ℕ) (first now : BookModel) (told : ToldText) (rest : Option (Bor (List ℕ))) : Type 0 where
+  pub is : fold (with_line (setting_of first.fixed.stock suites report)) (told_of told now.history) (lines_left rest) ≡ script (setting_of first.fixed.stock suites report) first.history all
+  pub fixed : now.fixed ≡ first.fixed
+  pub counted : told.refused + left_len rest ≤ length all + 1
+
+pub IsSoFar-begun : (suites : List (List ℕ)) (report : Option (Table → List ℕ)) (all : Bor (List ℕ)) (first : BookModel) (told : ToldText) → string_bytes told.text ≡ [] → told.refused ≡ 0 → IsSoFar suites report all.now first first told (Some all)
+IsSoFar-begun suites report all first told none zero_ = record {
+  is = ap (λ (t : List ℕ). fold (with_line (setting_of first.fixed.stock suites report)) (record { text = t; after = first.history; refused = told.refused }) (lines_of all.now)) none
+      ∙ ap (λ (n : ℕ). fold (with_line (setting_of first.fixed.stock suites report)) (record { text = []; after = first.history; refused = n }) (lines_of all.now)) zero_;
+  fixed = refl;
+  counted = omega (arith, zero_);
+}
+
+pub IsSoFar-next : (suites : List (List ℕ)) (report : Option (Table → List ℕ)) (all line : List ℕ) (first now next : BookModel) (before after : ToldText) (rest : Bor (List ℕ)) (more : Option (Bor (List ℕ))) → IsSoFar suites report all first now before (Some rest) → lines_of rest.now ≡ line ∷ lines_left more → left_len more ≤ length rest.now → IsAdded (setting_of now.fixed.stock suites report) line now next before after → IsSoFar suites report all first next after more
+IsSoFar-next suites report all line first now next before after rest more h lines shorter added =
+    let s = setting_of first.fixed.stock suites report in
+    let one : told_of after next.history ≡ with_line s (told_of before now.history) line = added.is ∙ ap (λ (f : Fixed). with_line (setting_of f.stock suites report) (told_of before now.history) line) h.fixed in
+    record {
+      is = ap (λ (t : Told). fold (with_line s) t (lines_left more)) one ∙ ap (fold (with_line s) (told_of before now.history)) (sym lines) ∙ h.is;
+      fixed = added.fixed ∙ h.fixed;
+      counted = omega (arith, h.counted, shorter, added.counted);
+    }
+
+pub IsSoFar-done : (suites : List (List ℕ)) (report : Option (Table → List ℕ)) (all : List ℕ) (first now : BookModel) (told : ToldText) (rest : Option (Bor (List ℕ))) → IsSoFar suites report all first now told rest → rest ≡ None → IsTold (setting_of first.fixed.stock suites report) all first now told
+IsSoFar-done suites report all first now told rest h none = record {
+  is = sym (ap (λ (r : Option (Bor (List ℕ))). fold (with_line (setting_of first.fixed.stock suites report)) (told_of told now.history) (lines_left r)) none) ∙ h.is;
+  fixed = h.fixed;
+}
+
+pub room : (suites : List (List ℕ)) (report : Option (Table → List ℕ)) (all : List ℕ) (first now : BookModel) (told : ToldText) (rest : Bor (List ℕ)) → IsSoFar suites report all first now told (Some rest) → length all < 2 ^ 63 - 1 → told.refused < 2 ^ 63
+room suites report all first now told rest h small = omega (arith, h.counted, small)

@@ -1,0 +1,5 @@
+use Rattle.td_script.proofs.RequestTexts.{lines_are_said}
+use Rattle.td_script.proofs.line.asked_lines_are_requests.Goals as goal
+
+pub returns : goal.returns
+returns c = lines_are_said

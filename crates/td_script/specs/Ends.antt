@@ -1,0 +1,44 @@
+-- How the run of a script ends, and what it leaves. This project's own.
+use Rattle.std.specs.Prelude.{◌≡◌, ◌≤◌, ◌<◌, ℕ, List, length, Option, Result, Ok, Err, IfSome, IsUtf8}
+use Rattle.std.specs.Io.KnownBytes.{Appends, Keeps}
+use Rattle.td_bytes.specs.Pieces.{AppendsPrefix}
+use Rattle.td_rows.specs.Table.{Table}
+use Rattle.td_core.specs.History.{opened}
+use Rattle.td_script.specs.declared.running.RunFault.{RunFault}
+use Rattle.td_script.specs.declared.running.RunFault.TheVariants.{Input, Read, TooLong, NotText, Write, NoMemory}
+use Rattle.td_script.specs.declared.running.ScriptEnd.{ScriptEnd}
+use Rattle.td_script.specs.declared.running.TheConstants.{SCRIPT_LIMIT}
+use Rattle.td_script.specs.Openings.{IsRefused, IsSet, Texts}
+use Rattle.td_script.specs.Replies.{Setting}
+use Rattle.td_script.specs.Script.{Told, script}
+
+-- a text that is read as a script: within the limit, and UTF-8
+abbrev pub IsScriptText : List ℕ → Type 0
+IsScriptText text = (length text ≤ SCRIPT_LIMIT) × IsUtf8 text
+
+-- all that the reader had
+pub record IsScript (known : Option (List ℕ)) (text : List ℕ) : Type 0 where
+  pub whole : IfSome known (λ all. all ≡ text)
+  pub fits : IsScriptText text
+
+-- what is told of a script over what the texts say
+abbrev pub told_over : Setting → Table → List ℕ → Told
+told_over s rows text = script s (opened rows) text
+
+-- what was read is a script, and this is so of what is told of it over what the texts say
+abbrev pub Plays : Texts → Option (List ℕ) → (Told → Type 0) → Type 0
+Plays x known So = (s : Setting) × (rows : Table) × IsSet x s rows × ((text : List ℕ) × IsScript known text × So (told_over s rows text))
+
+-- the texts say something: no fault of a script comes before one of theirs
+abbrev pub AreFine : Texts → Type 0
+AreFine x = (s : Setting) × (rows : Table) × IsSet x s rows
+
+-- what an end says: the whole text is written and its refusals are counted, or a front of it where the writer failed; at every other fault nothing is written
+abbrev pub Says : Texts → Option (List ℕ) → Option (List ℕ) → Option (List ℕ) → Result ScriptEnd RunFault → Type 0
+Says x known old new (Ok end) = Plays x known (λ told. (end.refusals ≡ told.refused) × Appends old new told.text)
+Says x known old new (Err (Input e)) = IsRefused x e × Keeps old new
+Says x known old new (Err Read) = AreFine x × Keeps old new
+Says x known old new (Err TooLong) = AreFine x × IfSome known (λ all. SCRIPT_LIMIT < length all) × Keeps old new
+Says x known old new (Err NotText) = AreFine x × IfSome known (λ all. (length all ≤ SCRIPT_LIMIT) × ¬ IsUtf8 all) × Keeps old new
+Says x known old new (Err Write) = Plays x known (λ told. AppendsPrefix old new told.text)
+Says x known old new (Err NoMemory) = Keeps old new

@@ -1,0 +1,61 @@
+-- The names of what may be wrong with the texts of a run. This project's own.
+use Rattle.std.specs.Prelude.{ℕ, List, codes}
+use Rattle.td_relation.specs.FaultNames as archs_fault
+use Rattle.td_indices.specs.declared.archive_fault.IndexFile.{IndexFile}
+use Rattle.td_indices.specs.declared.archive_fault.IndexFile.TheVariants as file
+use Rattle.td_indices.specs.declared.archive_fault.ArchiveFault.{ArchiveFault}
+use Rattle.td_indices.specs.declared.archive_fault.ArchiveFault.TheVariants as archive
+use Rattle.td_indices.specs.FaultNames as archive_fault
+use Rattle.td_rows.specs.declared.state_file.StateFault.{StateFault}
+use Rattle.td_rows.specs.declared.state_file.StateFault.TheVariants as state
+use Rattle.td_query.specs.TrackerFaults as tracker_fault
+use Rattle.td_script.specs.declared.role.Role.{Role}
+use Rattle.td_script.specs.declared.role.Role.TheVariants as role
+use Rattle.td_script.specs.declared.input_fault.InputFault.{InputFault}
+use Rattle.td_script.specs.declared.input_fault.InputFault.TheVariants.{Table, Archive, State, NoSuchRow, Tracker}
+
+-- what a text is read as
+abbrev pub role_name : Role → List ℕ
+role_name role.Archs = codes "archs"
+role_name role.Packages = codes "packages"
+role_name role.Sources = codes "sources"
+role_name role.State = codes "state"
+role_name role.Tracker = codes "tracker"
+
+-- one of the two indices
+abbrev pub role_of_index : IndexFile → Role
+role_of_index file.Packages = role.Packages
+role_of_index file.Sources = role.Sources
+
+-- the index that has the fault; what is no single file's is told of Sources
+abbrev pub role_of_archive : ArchiveFault → Role
+role_of_archive (archive.Stanza f e) = role_of_index f
+role_of_archive (archive.MissingField f number field) = role_of_index f
+role_of_archive (archive.BadVersion f number) = role_of_index f
+role_of_archive (archive.BadRelation f number) = role_of_index f
+role_of_archive archive.TooManyRows = role.Sources
+role_of_archive archive.NoMemory = role.Sources
+
+-- the text that is refused
+abbrev pub role_of : InputFault → Role
+role_of (Table e) = role.Archs
+role_of (Archive e) = role_of_archive e
+role_of (State e) = role.State
+role_of NoSuchRow = role.State
+role_of (Tracker e) = role.Tracker
+
+-- the name of what is wrong with a state file
+abbrev pub state_fault_name : StateFault → List ℕ
+state_fault_name (state.BadLine n) = codes "BadLine"
+state_fault_name (state.Twice n) = codes "Twice"
+state_fault_name (state.NotOpening n) = codes "NotOpening"
+state_fault_name state.TooManyRows = codes "TooManyRows"
+state_fault_name state.NoMemory = codes "NoMemory"
+
+-- the name of what is wrong with a text
+abbrev pub fault_name : InputFault → List ℕ
+fault_name (Table e) = archs_fault.name_of e
+fault_name (Archive e) = archive_fault.name_of e
+fault_name (State e) = state_fault_name e
+fault_name NoSuchRow = codes "NoSuchRow"
+fault_name (Tracker e) = tracker_fault.fault_name e

@@ -1,0 +1,10 @@
+pub mod Answering
+pub mod Ends
+pub mod Faults
+pub mod OpeningInside
+pub mod Openings
+pub mod Reading
+pub mod Replies
+pub mod Reporting
+pub mod Requests
+pub mod Script

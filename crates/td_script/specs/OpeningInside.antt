@@ -1,0 +1,107 @@
+-- What the inner functions of a run answer. This project's own.
+use Rattle.std.specs.Prelude.{◌≡◌, ◌≢◌, ℕ, List, Option, Some, Result, Ok, Err, string_bytes}
+use Rattle.td_bytes.specs.declared.text.TextFault.{TextFault}
+use Rattle.td_bytes.specs.declared.text.TextFault.TheVariants as text
+use Rattle.td_text.specs.Lines.{lines_of}
+use Rattle.td_relation.specs.declared.archs.ArchsFault.{ArchsFault}
+use Rattle.td_relation.specs.declared.archs.ArchsFault.TheVariants as table
+use Rattle.td_rows.specs.Overlay.{first_missing, overlaid}
+use Rattle.td_rows.specs.StateFile.{IsStateFile}
+use Rattle.td_rows.specs.Table.{Table}
+use Rattle.td_rows.specs.declared.key.Key.{Key}
+use Rattle.td_rows.specs.declared.state_file.StateFault.{StateFault}
+use Rattle.td_rows.specs.declared.state_file.StateFault.TheVariants as state
+use Rattle.td_indices.specs.declared.archive_fault.ArchiveFault.{ArchiveFault}
+use Rattle.td_indices.specs.declared.archive_fault.ArchiveFault.TheVariants as archive
+use Rattle.td_query.specs.declared.tracker_fault.TrackerFault.{TrackerFault}
+use Rattle.td_query.specs.declared.tracker_fault.TrackerFault.TheVariants as tracker
+use Rattle.td_script.specs.declared.input_fault.InputFault.{InputFault}
+use Rattle.td_script.specs.declared.input_fault.InputFault.TheVariants as fault
+use Rattle.td_script.specs.declared.running.RunFault.{RunFault}
+use Rattle.td_script.specs.declared.running.RunFault.TheVariants.{Input, Read, TooLong, NotText, Write, NoMemory}
+use Rattle.td_script.specs.declared.told.Told.{Told as ToldText}
+use Rattle.td_script.specs.Ends.{AreFine, told_over}
+use Rattle.td_script.specs.Openings.{IsNoState, IsRefused, IsSet, Texts}
+use Rattle.td_script.specs.Replies.{Setting}
+
+-- ---- 1. faults
+
+-- why a run stops where no script is read
+abbrev pub of_reading : TextFault → RunFault
+of_reading text.CannotRead = Read
+of_reading text.TooLong = TooLong
+of_reading text.NotText = NotText
+of_reading text.NoMemory = NoMemory
+
+-- where a text is no table of architectures
+abbrev pub of_table : ArchsFault → RunFault
+of_table table.NoMemory = NoMemory
+of_table e = Input (fault.Table e)
+
+-- where two texts are no archive
+abbrev pub of_archive : ArchiveFault → RunFault
+of_archive archive.NoMemory = NoMemory
+of_archive e = Input (fault.Archive e)
+
+-- where a text is no state file
+abbrev pub of_state : StateFault → RunFault
+of_state state.NoMemory = NoMemory
+of_state e = Input (fault.State e)
+
+-- where a text is no tracker
+abbrev pub of_tracker : TrackerFault → RunFault
+of_tracker tracker.NoMemory = NoMemory
+of_tracker e = Input (fault.Tracker e)
+
+-- a text is refused for this, or memory runs out
+abbrev pub IsRefusedBy : Texts → RunFault → Type 0
+IsRefusedBy x (Input e) = IsRefused x e
+IsRefusedBy x Read = ⊥
+IsRefusedBy x TooLong = ⊥
+IsRefusedBy x NotText = ⊥
+IsRefusedBy x Write = ⊥
+IsRefusedBy x NoMemory = Unit {0}
+
+-- ---- 2. rows
+
+-- rows with those of a state file in their places
+pub record IsReplacedIn (opened : Table) (text : List ℕ) (rows : Table) : Type 0 where
+  pub given : Table
+  pub are_given : IsStateFile (lines_of text) given
+  pub none_missing : (k : Key) → first_missing opened given ≡ Some k → ⊥
+  pub replaced : rows ≡ overlaid given opened
+
+-- of a text that isn't put over the rows
+abbrev pub IsInputRefusedIn : Table → List ℕ → InputFault → Type 0
+IsInputRefusedIn opened text (fault.Table e) = ⊥
+IsInputRefusedIn opened text (fault.Archive e) = ⊥
+IsInputRefusedIn opened text (fault.State e) = IsNoState (Some text) e
+IsInputRefusedIn opened text fault.NoSuchRow = (given : Table) × IsStateFile (lines_of text) given × ((k : Key) × (first_missing opened given ≡ Some k))
+IsInputRefusedIn opened text (fault.Tracker e) = ⊥
+
+-- it is no state file, or has a row that these haven't, or memory runs out
+abbrev pub IsRefusedIn : Table → List ℕ → RunFault → Type 0
+IsRefusedIn opened text (Input e) = IsInputRefusedIn opened text e
+IsRefusedIn opened text Read = ⊥
+IsRefusedIn opened text TooLong = ⊥
+IsRefusedIn opened text NotText = ⊥
+IsRefusedIn opened text Write = ⊥
+IsRefusedIn opened text NoMemory = Unit {0}
+
+-- ---- 3. what is told
+
+-- this is told of a script from these rows
+pub record IsToldOf (s : Setting) (rows : Table) (script : List ℕ) (told : ToldText) : Type 0 where
+  pub text : string_bytes told.text ≡ (told_over s rows script).text
+  pub refused : told.refused ≡ (told_over s rows script).refused
+
+-- the same over what the texts say
+abbrev pub Tells : Texts → List ℕ → ToldText → Type 0
+Tells x script told = (s : Setting) × (rows : Table) × IsSet x s rows × IsToldOf s rows script told
+
+-- no script was read, for this: a text is refused before it, or memory runs out
+abbrev pub IsUnread : Texts → TextFault → Result ToldText RunFault → Type 0
+IsUnread x why (Ok told) = ⊥
+IsUnread x why (Err (Input e)) = IsRefused x e
+IsUnread x why (Err NoMemory) = Unit {0}
+IsUnread x why (Err e) = AreFine x × (e ≡ of_reading why)

@@ -1,0 +1,150 @@
+-- From what a script starts: the rows, the offers and the reports that the texts of files say. This project's own.
+use Rattle.std.specs.Prelude.{◌≡◌, ◌⊎◌, ℕ, true, List, [], ◌∷◌, Option, Some, None, option_map, string_bytes}
+use Rattle.td_text.specs.Lines.{lines_of}
+use Rattle.td_relation.specs.Arch.{ArchWords}
+use Rattle.td_relation.specs.TableFile.{IsTable}
+use Rattle.td_relation.specs.TableFile as table_file
+use Rattle.td_relation.specs.declared.archs.ArchsFault.{ArchsFault}
+use Rattle.td_relation.specs.declared.archs.ArchsFault.TheVariants as table
+use Rattle.td_rows.specs.Keys.{ascending}
+use Rattle.td_rows.specs.Overlay.{first_missing, overlaid}
+use Rattle.td_rows.specs.StateFile.{IsStateFile}
+use Rattle.td_rows.specs.StateFile as state_file
+use Rattle.td_rows.specs.Table.{Table, keys_of, row_of}
+use Rattle.td_rows.specs.declared.key.Key.{Key}
+use Rattle.td_rows.specs.declared.state_file.StateFault.{StateFault}
+use Rattle.td_rows.specs.declared.state_file.StateFault.TheVariants as state
+use Rattle.td_indices.specs.Archive.{Contents, IsArchive}
+use Rattle.td_indices.specs.Archive as archive_file
+use Rattle.td_indices.specs.Opening.{opening_row}
+use Rattle.td_indices.specs.Supplying.{supply_of}
+use Rattle.td_indices.specs.declared.archive_fault.ArchiveFault.{ArchiveFault}
+use Rattle.td_indices.specs.declared.archive_fault.ArchiveFault.TheVariants as archive
+use Rattle.td_query.specs.TrackerFaults as tracker_file
+use Rattle.td_query.specs.Tracking.{IsTracker, Tracking}
+use Rattle.td_query.specs.declared.tracker_fault.TrackerFault.{TrackerFault}
+use Rattle.td_query.specs.declared.tracker_fault.TrackerFault.TheVariants as tracker
+use Rattle.td_waves.specs.declared.level.Level.{Level}
+use Rattle.td_report.specs.Transition.{AreLevels}
+use Rattle.td_script.specs.declared.input_fault.InputFault.{InputFault}
+use Rattle.td_script.specs.declared.input_fault.InputFault.TheVariants as fault
+use Rattle.td_script.specs.declared.inputs.Inputs.{Inputs}
+use Rattle.td_script.specs.Replies.{Setting}
+use Rattle.td_script.specs.Reporting.{report_with}
+
+-- ---- 1. what the texts say
+
+-- the texts of the files, and the suite
+pub record Texts : Type 0 where
+  pub archs : List ℕ
+  pub packages : List ℕ
+  pub sources : List ℕ
+  pub state : Option (List ℕ)
+  pub tracker : Option (List ℕ)
+  pub suite : List ℕ
+
+-- those of inputs
+abbrev pub texts_of : Inputs → Texts
+texts_of x = record {
+  archs = string_bytes x.archs;
+  packages = string_bytes x.packages;
+  sources = string_bytes x.sources;
+  state = option_map string_bytes x.state;
+  tracker = option_map string_bytes x.tracker;
+  suite = string_bytes x.suite;
+}
+
+-- the two indices are this archive, with the architectures of the table
+pub record IsArchiveOf (x : Texts) (c : Contents) : Type 0 where
+  pub is_table : IsTable (lines_of x.archs) c.table
+  pub is_archive : IsArchive c.table (lines_of x.packages) (lines_of x.sources) c
+
+-- the rows with which a desk opens over an archive
+pub record AreOpened (c : Contents) (rows : Table) : Type 0 where
+  pub same : (k : Key) → row_of rows k ≡ opening_row c k
+  pub rising : ascending (keys_of rows) ≡ true
+
+-- the same, with those of a state file in the place of the ones of their keys, each of which has to be there
+pub record AreReplaced (c : Contents) (text : List ℕ) (rows : Table) : Type 0 where
+  pub opened : Table
+  pub are_opened : AreOpened c opened
+  pub given : Table
+  pub are_given : IsStateFile (lines_of text) given
+  pub none_missing : (k : Key) → first_missing opened given ≡ Some k → ⊥
+  pub replaced : rows ≡ overlaid given opened
+
+-- the rows from which the script starts
+abbrev pub AreRowsOf : Contents → Option (List ℕ) → Table → Type 0
+AreRowsOf c None rows = AreOpened c rows
+AreRowsOf c (Some text) rows = AreReplaced c text rows
+
+-- the reports of a tracker: of any rows by the same levels, which are those of its affected sources
+pub record AreReportsOf (c : Contents) (text : List ℕ) (report : Table → List ℕ) : Type 0 where
+  pub tracking : Tracking
+  pub is_tracker : IsTracker text tracking
+  pub level : List ℕ → Option Level
+  pub depth : ℕ
+  pub levels : AreLevels c tracking level depth
+  pub same : (rows : Table) → report rows ≡ report_with c tracking level depth rows
+
+-- there are reports where there is a tracker
+abbrev pub AreReports : Contents → Option (List ℕ) → Option (Table → List ℕ) → Type 0
+AreReports c None None = Unit {0}
+AreReports c None (Some report) = ⊥
+AreReports c (Some text) None = ⊥
+AreReports c (Some text) (Some report) = AreReportsOf c text report
+
+-- what stands over an archive: the offers of its index, the suite, the reports, and the rows from which the script starts
+pub record IsSetOver (c : Contents) (x : Texts) (s : Setting) (rows : Table) : Type 0 where
+  pub rows_are : AreRowsOf c x.state rows
+  pub stock : s.stock ≡ supply_of c
+  pub suites : s.suites ≡ x.suite ∷ []
+  pub reports : AreReports c x.tracker s.report
+
+-- what the texts say
+abbrev pub IsSet : Texts → Setting → Table → Type 0
+IsSet x s rows = (c : Contents) × IsArchiveOf x c × IsSetOver c x s rows
+
+-- ---- 2. what is wrong: in the order of the table, the indices, the rows, the tracker
+
+abbrev pub IsNoTable : Texts → ArchsFault → Type 0
+IsNoTable x table.NoMemory = ⊥
+IsNoTable x e = table_file.FaultOf (lines_of x.archs) e
+
+-- with the table, the indices are no archive
+abbrev pub AreNoIndices : Texts → ArchiveFault → Type 0
+AreNoIndices x archive.NoMemory = ⊥
+AreNoIndices x e = (t : List ArchWords) × IsTable (lines_of x.archs) t × archive_file.FaultOf t (lines_of x.packages) (lines_of x.sources) e
+
+-- a text is given, and is no state file
+abbrev pub IsNoState : Option (List ℕ) → StateFault → Type 0
+IsNoState None e = ⊥
+IsNoState (Some text) state.NoMemory = ⊥
+IsNoState (Some text) e = state_file.FaultOf (lines_of text) e
+
+-- it is one, and has a row that the archive hasn't
+abbrev pub LacksRow : Contents → Option (List ℕ) → Type 0
+LacksRow c None = ⊥
+LacksRow c (Some text) = (opened : Table) × AreOpened c opened × ((given : Table) × IsStateFile (lines_of text) given × ((k : Key) × (first_missing opened given ≡ Some k)))
+
+-- a text is given, and is no tracker, or `regex` refuses one of its patterns
+abbrev pub IsNoTracker : Option (List ℕ) → TrackerFault → Type 0
+IsNoTracker None e = ⊥
+IsNoTracker (Some text) tracker.NoMemory = ⊥
+IsNoTracker (Some text) e = tracker_file.FaultOf text e
+
+-- over an archive, a text is refused for this: the rows before the tracker
+abbrev pub IsRefusedOver : Contents → Texts → InputFault → Type 0
+IsRefusedOver c x (fault.Table e) = ⊥
+IsRefusedOver c x (fault.Archive e) = ⊥
+IsRefusedOver c x (fault.State e) = IsNoState x.state e
+IsRefusedOver c x fault.NoSuchRow = LacksRow c x.state
+IsRefusedOver c x (fault.Tracker e) = (rows : Table) × AreRowsOf c x.state rows × IsNoTracker x.tracker e
+
+-- a text is refused for this
+abbrev pub IsRefused : Texts → InputFault → Type 0
+IsRefused x (fault.Table e) = IsNoTable x e
+IsRefused x (fault.Archive e) = AreNoIndices x e
+IsRefused x (fault.State e) = (c : Contents) × IsArchiveOf x c × IsRefusedOver c x (fault.State e)
+IsRefused x fault.NoSuchRow = (c : Contents) × IsArchiveOf x c × IsRefusedOver c x fault.NoSuchRow
+IsRefused x (fault.Tracker e) = (c : Contents) × IsArchiveOf x c × IsRefusedOver c x (fault.Tracker e)

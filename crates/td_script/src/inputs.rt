@@ -1,0 +1,26 @@
+//! What a script runs over.
+ghost use Rattle.std.specs.Prelude.{◌≡◌, ◌≤◌, ◌<◌, ◌^◌, None, length, string_bytes};
+
+/// The most builders that a crew has.
+pub const MAX_BUILDERS: usize = 64;
+
+/// The texts of the files, and the suite that a command may name.
+#[derive(Debug, Drop)]
+pub struct Inputs {
+    /// The table of architectures.
+    pub archs: String,
+    /// The Packages index.
+    pub packages: String,
+    /// The Sources index.
+    pub sources: String,
+    /// Rows that are put in the place of those with which the archive opens.
+    pub state: Option<String>,
+    pub tracker: Option<String>,
+    pub suite: String,
+    /// How the builds of a crew end. A script without builders doesn't look at it.
+    pub outcomes: Option<String>,
+    /// How many builders a crew has. A script has none.
+    pub builders: usize,
+    ghost within: { length (string_bytes archs) < 2 ^ 63 },
+    ghost few: { builders ≤ 64 },
+}

@@ -1,0 +1,35 @@
+//! Scripts: the lines that a person gives the desk, and the answer to each.
+//!
+//! Start at `run_script`. A line is a command as `td_wbread` reads it, one of seven requests, or
+//! nothing; `specs/Requests.antt` spells the requests, `specs/Replies.antt` says what the answer to
+//! a line is and which history it leaves, `specs/Script.antt` goes from line to line.
+//! Promised: what is written is the answers to the lines that were read, each from the history that
+//! the lines before it leave, from the rows and offers that the files say; and the refusals counted
+//! are those among them.
+#![tactic(auto)]
+
+mod answering;
+mod commanding;
+mod dispatch;
+mod input_fault;
+mod inputs;
+mod line;
+mod opening;
+mod reports;
+mod request;
+mod role;
+mod running;
+#[cfg(test)]
+mod tests;
+mod told;
+mod writing;
+
+pub use dispatch::answer;
+pub use input_fault::InputFault;
+pub use inputs::{Inputs, MAX_BUILDERS};
+pub use line::{Said, asked_lines_are_requests, read_line};
+pub use reports::{PlainReports, Reports};
+pub use request::{Request, read_request, request_lines_are_exact};
+pub use role::Role;
+pub use running::{RunFault, SCRIPT_LIMIT, ScriptEnd, run_script};
+pub use told::{Told, tell};

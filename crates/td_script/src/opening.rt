@@ -1,0 +1,241 @@
+//! What is told of a script over the texts of files.
+ghost use Rattle.std.specs.Prelude.{◌≡◌, ◌<◌, ◌^◌, ◌-◌, ◌∷◌, [], Some, IfOk, IfErr, MatchResult, length, option_map};
+ghost use Rattle.td_text.specs.Lines.{lines_of};
+ghost use Rattle.td_relation.specs.TableFile.{IsTable};
+ghost use Rattle.td_relation.specs.TableView.{table};
+ghost use Rattle.td_core.specs.Phases.{NoneBuilt};
+ghost use Rattle.td_indices.specs.Supplying.{supply_of};
+ghost use Rattle.td_script.specs.Openings.{AreRowsOf, IsArchiveOf, texts_of};
+ghost use Rattle.td_script.specs.OpeningInside.{IsRefusedBy, IsRefusedIn, IsReplacedIn, IsToldOf, Tells, of_archive, of_state, of_table, of_tracker};
+
+use crate::input_fault::InputFault;
+use crate::inputs::Inputs;
+use crate::reports::{PlainReports, Reports};
+use crate::running::RunFault;
+use crate::told::{Told, tell};
+use std::alloc::{AllocError, Global};
+use td_board::Board;
+use td_book::Book;
+use td_indices::{Archive, ArchiveFault};
+use td_query::{Tracker, TrackerFault};
+use td_relation::{Archs, ArchsFault};
+use td_report::Transition;
+use td_rows::{Rows, StateFault, read_state};
+
+// Why a run stops where a text is no table of architectures.
+fn fault_of_table(fault: ArchsFault) -> RunFault
+    ensures { result ≡ of_table fault }
+{
+    match fault {
+        ArchsFault::NoMemory => RunFault::NoMemory,
+        fault => RunFault::Input(InputFault::Table(fault)),
+    }
+}
+
+// The same where two texts are no archive.
+fn fault_of_archive(fault: ArchiveFault) -> RunFault
+    ensures { result ≡ of_archive fault }
+{
+    match fault {
+        ArchiveFault::NoMemory => RunFault::NoMemory,
+        fault => RunFault::Input(InputFault::Archive(fault)),
+    }
+}
+
+// The same where a text is no state file.
+fn fault_of_state(fault: StateFault) -> RunFault
+    ensures { result ≡ of_state fault }
+{
+    match fault {
+        StateFault::NoMemory => RunFault::NoMemory,
+        fault => RunFault::Input(InputFault::State(fault)),
+    }
+}
+
+// The same where a text is no tracker.
+fn fault_of_tracker(fault: TrackerFault) -> RunFault
+    ensures { result ≡ of_tracker fault }
+{
+    match fault {
+        TrackerFault::NoMemory => RunFault::NoMemory,
+        fault => RunFault::Input(InputFault::Tracker(fault)),
+    }
+}
+
+// The rows with those of a state file in the place of the ones of their keys.
+fn replaced(alloc: Global, mut rows: Rows, text: &str) -> Result<Rows, RunFault>
+    requires { NoneBuilt rows }
+    ensures rows { IfOk result (IsReplacedIn rows text.now) }
+    ensures idle { IfOk result NoneBuilt }
+    ensures refused { IfErr result (IsRefusedIn rows text.now) }
+{
+    let given = match read_state(alloc, text) {
+        Ok(given) => given,
+        Err(fault) => return Err(fault_of_state(fault)),
+    };
+    match rows.overlay(given) {
+        Ok(()) => Ok(rows),
+        Err(_) => Err(RunFault::Input(InputFault::NoSuchRow)),
+    }
+}
+
+// The rows from which a script starts.
+fn rows_of(alloc: Global, archive: &Archive<'_, '_>, inputs: &Inputs) -> Result<Rows, RunFault>
+    requires { IsArchiveOf (texts_of inputs.now) archive.now }
+    ensures rows { IfOk result (AreRowsOf archive.now (texts_of inputs.now).state) }
+    ensures idle { IfOk result NoneBuilt }
+    ensures refused { IfErr result (IsRefusedBy (texts_of inputs.now)) }
+{
+    let Ok(rows) = archive.opening_rows() else {
+        return Err(RunFault::NoMemory);
+    };
+    // (`len` says that the keys of the rows rise)
+    let _rising = rows.len();
+    match &inputs.state {
+        Some(text) => replaced(alloc, rows, text.as_str()),
+        None => Ok(rows),
+    }
+}
+
+// What is told of a script from these rows, over what an archive offers.
+fn tell_from<T: Reports>(
+    alloc: Global,
+    archive: &Archive<'_, '_>,
+    rows: Rows,
+    suite: &str,
+    reports: Option<&T>,
+    script: &str,
+) -> Result<Told, RunFault>
+    requires idle { NoneBuilt rows }
+    requires small { length script.now < 2 ^ 63 - 1 }
+    ensures told { IfOk result (IsToldOf (record { stock = supply_of archive.now; suites = suite.now ∷ []; report = option_map (λ r. T.text r.now) reports.entry }) rows script.now) }
+    ensures memory { IfErr result (λ fault. fault ≡ RunFault.NoMemory) }
+{
+    match tell_in(alloc, archive, rows, suite, reports, script) {
+        Ok(told) => Ok(told),
+        Err(_) => Err(RunFault::NoMemory),
+    }
+}
+
+// The same, where nothing but memory may be wanting.
+fn tell_in<T: Reports>(
+    alloc: Global,
+    archive: &Archive<'_, '_>,
+    rows: Rows,
+    suite: &str,
+    reports: Option<&T>,
+    script: &str,
+) -> Result<Told, AllocError>
+    requires idle { NoneBuilt rows }
+    requires small { length script.now < 2 ^ 63 - 1 }
+    ensures { IfOk result (IsToldOf (record { stock = supply_of archive.now; suites = suite.now ∷ []; report = option_map (λ r. T.text r.now) reports.entry }) rows script.now) }
+{
+    let Ok((board, desk, _seats)) = Board::make(alloc, rows.len(), 0) else {
+        return Err(AllocError);
+    };
+    let mut book = Book::open(alloc, &board, desk, rows, archive.supply()?)?;
+    tell(
+        alloc,
+        &mut book,
+        &board,
+        [suite].as_slice(),
+        reports,
+        script,
+    )
+}
+
+// The same, with the reports of a tracker.
+fn tell_tracked(
+    alloc: Global,
+    archive: &Archive<'_, '_>,
+    rows: Rows,
+    tracker: &str,
+    inputs: &Inputs,
+    script: &str,
+) -> Result<Told, RunFault>
+    requires archive { IsArchiveOf (texts_of inputs.now) archive.now }
+    requires rows { AreRowsOf archive.now (texts_of inputs.now).state rows }
+    requires tracker { (texts_of inputs.now).tracker ≡ Some tracker.now }
+    requires idle { NoneBuilt rows }
+    requires small { length script.now < 2 ^ 63 - 1 }
+    ensures { MatchResult result (Tells (texts_of inputs.now) script.now) (IsRefusedBy (texts_of inputs.now)) }
+{
+    let tracker = match Tracker::read(alloc, tracker) {
+        Ok(tracker) => tracker,
+        Err(fault) => return Err(fault_of_tracker(fault)),
+    };
+    let Ok(transition) = Transition::of(alloc, archive, &tracker) else {
+        return Err(RunFault::NoMemory);
+    };
+    let reports = PlainReports::of(&transition);
+    tell_from(
+        alloc,
+        archive,
+        rows,
+        inputs.suite.as_str(),
+        Some(&reports),
+        script,
+    )
+}
+
+// What is told of a script over an archive.
+fn tell_over_archive(
+    alloc: Global,
+    archive: &Archive<'_, '_>,
+    inputs: &Inputs,
+    script: &str,
+) -> Result<Told, RunFault>
+    requires archive { IsArchiveOf (texts_of inputs.now) archive.now }
+    requires small { length script.now < 2 ^ 63 - 1 }
+    ensures { MatchResult result (Tells (texts_of inputs.now) script.now) (IsRefusedBy (texts_of inputs.now)) }
+{
+    let rows = match rows_of(alloc, archive, inputs) {
+        Ok(rows) => rows,
+        Err(fault) => return Err(fault),
+    };
+    let suite = inputs.suite.as_str();
+    match &inputs.tracker {
+        Some(text) => tell_tracked(alloc, archive, rows, text.as_str(), inputs, script),
+        None => tell_from(
+            alloc,
+            archive,
+            rows,
+            suite,
+            Option::<&PlainReports<'_, '_, '_, '_, '_>>::None,
+            script,
+        ),
+    }
+}
+
+// The same, over the indices and a table.
+fn tell_over_table(
+    alloc: Global,
+    archs: &Archs<'_>,
+    inputs: &Inputs,
+    script: &str,
+) -> Result<Told, RunFault>
+    requires table { IsTable (lines_of (texts_of inputs.now).archs) (table archs.now) }
+    requires small { length script.now < 2 ^ 63 - 1 }
+    ensures { MatchResult result (Tells (texts_of inputs.now) script.now) (IsRefusedBy (texts_of inputs.now)) }
+{
+    match Archive::read(
+        alloc,
+        inputs.packages.as_str(),
+        inputs.sources.as_str(),
+        archs,
+    ) {
+        Ok(archive) => tell_over_archive(alloc, &archive, inputs, script),
+        Err(fault) => Err(fault_of_archive(fault)),
+    }
+}
+
+/// What is told of a script over the texts of files: these are judged first.
+pub fn tell_over(alloc: Global, inputs: &Inputs, script: &str) -> Result<Told, RunFault>
+    requires { length script.now < 2 ^ 63 - 1 }
+    ensures { MatchResult result (Tells (texts_of inputs.now) script.now) (IsRefusedBy (texts_of inputs.now)) }
+{
+    match Archs::read(alloc, inputs.archs.as_str()) {
+        Ok(archs) => tell_over_table(alloc, &archs, inputs, script),
+        Err(fault) => Err(fault_of_table(fault)),
+    }
+}

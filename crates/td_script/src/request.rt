@@ -1,0 +1,124 @@
+//! The lines of a script that are no commands.
+ghost use Rattle.std.specs.Prelude.{◌≡◌, option_map, IfOk};
+ghost use Rattle.td_script.specs.Reading.{verb_at, spaced_key_at, by_verb, request_at, RequestsAreExact};
+
+use std::alloc::{AllocError, Global};
+use td_journal::EntryNo;
+use td_rows::Key;
+use td_text::{cut_at, is_arch, is_name, number, part_at, strip};
+
+/// The first word of a line that is no command.
+#[derive(Clone, Copy, Debug, PartialEq, Eq)]
+pub enum Verb {
+    Undo,
+    Arrive,
+    Sweep,
+    Row,
+    Entry,
+    Report,
+    Journal,
+}
+
+/// What a script asks for beside commands.
+#[derive(Debug, Drop)]
+pub enum Request {
+    /// The entry is undone.
+    Undo(EntryNo),
+    /// The key's build has arrived.
+    Arrive(Key),
+    /// All rows are freed that wait for what is on offer now.
+    Sweep,
+    /// The line of the key's row.
+    Row(Key),
+    /// The line of the entry.
+    Entry(EntryNo),
+    /// The tracker's report of the rows.
+    Report,
+    /// The journal's text.
+    Journal,
+}
+
+// The verb that a word is.
+#[tactic(auto, unfolding(crate::specs::Reading::verb_at))]
+fn read_verb(word: &str) -> Option<Verb>
+    ensures { result ≡ verb_at word.now }
+{
+    match word {
+        "undo" => Some(Verb::Undo),
+        "arrive" => Some(Verb::Arrive),
+        "sweep" => Some(Verb::Sweep),
+        "row" => Some(Verb::Row),
+        "entry" => Some(Verb::Entry),
+        "report" => Some(Verb::Report),
+        "journal" => Some(Verb::Journal),
+        _ => None,
+    }
+}
+
+// A source and an architecture with a space between them.
+#[tactic(auto, unfolding(crate::specs::Reading::spaced_key_at))]
+fn read_spaced(text: &str) -> Option<(&str, &str)>
+    ensures { option_map (λ p. record { source = p.0.now; arch = p.1.now }) result ≡ spaced_key_at text.now }
+{
+    let (source, arch) = cut_at(text, ' ')?;
+    if is_name(source) && is_arch(arch) {
+        Some((source, arch))
+    } else {
+        None
+    }
+}
+
+// The same, in memory of its own.
+fn read_own_key(alloc: Global, text: &str) -> Result<Option<Key>, AllocError>
+    ensures { IfOk result (λ key. key ≡ spaced_key_at text.now) }
+{
+    let Some((source, arch)) = read_spaced(text) else {
+        return Ok(None);
+    };
+    Ok(Some(Key::from_lines(alloc, source, arch)?))
+}
+
+// A request by its verb, and what follows that.
+fn read_by_verb(alloc: Global, verb: Verb, rest: &str) -> Result<Option<Request>, AllocError>
+    ensures { IfOk result (λ request. request ≡ by_verb verb rest.now) }
+{
+    match verb {
+        Verb::Sweep if rest.is_empty() => return Ok(Some(Request::Sweep)),
+        Verb::Report if rest.is_empty() => return Ok(Some(Request::Report)),
+        Verb::Journal if rest.is_empty() => return Ok(Some(Request::Journal)),
+        Verb::Sweep | Verb::Report | Verb::Journal => return Ok(None),
+        _ => {}
+    }
+    let Some(rest) = strip(rest, " ") else {
+        return Ok(None);
+    };
+    match verb {
+        Verb::Undo => return Ok(number(rest, u64::MAX).map(|n| Request::Undo(n))),
+        Verb::Entry => return Ok(number(rest, u64::MAX).map(|n| Request::Entry(n))),
+        _ => {}
+    }
+    let Some(key) = read_own_key(alloc, rest)? else {
+        return Ok(None);
+    };
+    Ok(Some(match verb {
+        Verb::Arrive => Request::Arrive(key),
+        _ => Request::Row(key),
+    }))
+}
+
+/// The request whose line it is.
+#[tactic(auto, unfolding(crate::specs::Reading::request_at))]
+pub fn read_request(alloc: Global, line: &str) -> Result<Option<Request>, AllocError>
+    ensures { IfOk result (λ request. request ≡ request_at line.now) }
+{
+    let (word, rest) = part_at(line, ' ');
+    match read_verb(word) {
+        None => Ok(None),
+        Some(verb) => read_by_verb(alloc, verb, rest),
+    }
+}
+
+/// A line is read as a request exactly where it is the line of that request.
+pub fn request_lines_are_exact()
+    ensures { RequestsAreExact }
+{}

@@ -1,0 +1,91 @@
+//! The run of a script: from the texts of files and the bytes of a reader to those of a writer.
+ghost use Rattle.std.specs.Prelude.{◌≡◌, ◌≤◌, IfOk, IfErr, MatchResult, length, string_bytes};
+ghost use Rattle.std.specs.Result.{ForOk};
+ghost use Rattle.td_script.specs.Ends.{Says};
+ghost use Rattle.td_script.specs.OpeningInside.{IsRefusedBy, IsUnread, Tells, of_reading};
+ghost use Rattle.td_script.specs.Openings.{texts_of};
+
+use crate::input_fault::InputFault;
+use crate::inputs::Inputs;
+use crate::opening::tell_over;
+use crate::told::Told;
+use std::alloc::Global;
+use std::io::{Read, Write};
+use td_bytes::{TextFault, read_text, write_whole};
+
+/// The longest script, in bytes.
+pub const SCRIPT_LIMIT: usize = 1_048_576;
+
+/// What is left to say of a script that was answered.
+#[derive(Clone, Copy, Debug, PartialEq, Eq, Drop)]
+pub struct ScriptEnd {
+    /// How many lines were refused.
+    pub refusals: u64,
+}
+
+/// Why a run stopped. The faults of the files come first, then those of the script.
+#[derive(Clone, Copy, Debug, PartialEq, Eq, Drop)]
+pub enum RunFault {
+    /// The text of a file is refused.
+    Input(InputFault),
+    /// The script can't be read.
+    Read,
+    /// The script is longer than the limit.
+    TooLong,
+    /// The script isn't UTF-8.
+    NotText,
+    /// The answers can't be written. A front of them was.
+    Write,
+    NoMemory,
+}
+
+// Why no script was read.
+fn fault_of_text(fault: TextFault) -> RunFault
+    ensures { result ≡ of_reading fault }
+{
+    match fault {
+        TextFault::CannotRead => RunFault::Read,
+        TextFault::TooLong => RunFault::TooLong,
+        TextFault::NotText => RunFault::NotText,
+        TextFault::NoMemory => RunFault::NoMemory,
+    }
+}
+
+// What is told of what was read. The files are judged before the script.
+fn tell_read(
+    alloc: Global,
+    inputs: &Inputs,
+    read: Result<String, TextFault>,
+) -> Result<Told, RunFault>
+    requires { ForOk read (λ text. length (string_bytes text) ≤ SCRIPT_LIMIT) }
+    ensures read { IfOk read (λ text. MatchResult result (Tells (texts_of inputs.now) (string_bytes text)) (IsRefusedBy (texts_of inputs.now))) }
+    ensures unread { IfErr read (λ fault. IsUnread (texts_of inputs.now) fault result) }
+{
+    match read {
+        Ok(text) => tell_over(alloc, inputs, text.as_str()),
+        Err(fault) => match tell_over(alloc, inputs, "") {
+            Ok(_) => Err(fault_of_text(fault)),
+            Err(refused) => Err(refused),
+        },
+    }
+}
+
+/// Answers the script that the reader has, over what the inputs say, in a world without builders.
+/// All is read and answered before anything is written.
+pub fn run_script<R: Read, W: Write>(
+    alloc: Global,
+    inputs: &Inputs,
+    reader: &mut R,
+    writer: &mut W,
+) -> Result<ScriptEnd, RunFault>
+    ensures { Says (texts_of inputs.now) (R.remaining reader.old) (W.contents writer.old) (W.contents writer.new) result }
+{
+    let read = read_text(alloc, reader, SCRIPT_LIMIT);
+    let told = tell_read(alloc, inputs, read)?;
+    match write_whole(writer, told.text.as_bytes()) {
+        Ok(()) => Ok(ScriptEnd {
+            refusals: told.refused,
+        }),
+        Err(_) => Err(RunFault::Write),
+    }
+}

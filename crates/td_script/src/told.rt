@@ -1,0 +1,66 @@
+//! What is told of a script: the answers to its lines, one after the other.
+ghost use Rattle.std.specs.Prelude.{◌≡◌, ◌<◌, ◌^◌, ◌-◌, IfOk, OnOk, map, option_map, length};
+ghost use Rattle.td_script.specs.Script.{IsAdded, IsTold};
+
+use crate::dispatch::answer;
+use crate::reports::Reports;
+use std::alloc::{AllocError, Global};
+use td_board::Board;
+use td_book::Book;
+use td_text::next_line;
+
+/// What is told of a script.
+#[derive(Debug, Drop)]
+pub struct Told {
+    pub text: String,
+    /// How many lines were refused.
+    pub refused: u64,
+}
+
+// Answers one line more.
+fn add_line<R: Reports>(
+    alloc: Global,
+    book: &mut Book<'_>,
+    board: &Board,
+    suites: &[&str],
+    reports: Option<&R>,
+    line: &str,
+    told: &mut Told,
+) -> Result<(), AllocError>
+    requires board { board.now.table ≡ book.old.fixed.table }
+    requires alone { book.old.fixed.builders ≡ 0 }
+    requires room { told.old.refused < 2 ^ 63 }
+    ensures { OnOk result (IsAdded (record { stock = book.old.fixed.stock; suites = map (λ s. s.now) suites.now; report = option_map (λ r. R.text r.now) reports.entry }) line.now book.old book.new told.old told.new) }
+{
+    if answer(alloc, book, board, suites, reports, line, &mut told.text)? {
+        told.refused += 1;
+    }
+    Ok(())
+}
+
+/// Answers the lines of a script, one after the other, from a book without builders.
+pub fn tell<R: Reports>(
+    alloc: Global,
+    book: &mut Book<'_>,
+    board: &Board,
+    suites: &[&str],
+    reports: Option<&R>,
+    script: &str,
+) -> Result<Told, AllocError>
+    requires board { board.now.table ≡ book.old.fixed.table }
+    requires alone { book.old.fixed.builders ≡ 0 }
+    requires small { length script.now < 2 ^ 63 - 1 }
+    ensures { IfOk result (IsTold (record { stock = book.old.fixed.stock; suites = map (λ s. s.now) suites.now; report = option_map (λ r. R.text r.now) reports.entry }) script.now book.old book.new) }
+{
+    let mut told = Told {
+        text: String::new(alloc),
+        refused: 0,
+    };
+    let mut rest = Some(script);
+    while let Some(lines) = rest {
+        let (line, after) = next_line(lines);
+        add_line(alloc, book, board, suites, reports, line, &mut told)?;
+        rest = after;
+    }
+    Ok(told)
+}
