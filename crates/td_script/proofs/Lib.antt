@@ -1,4 +1,7 @@
 pub mod RequestTexts
 pub mod AnswerLaws
 pub mod CommandLaws
+pub mod ReportLaws
 pub mod ScriptLaws
+pub mod OpeningLaws
+pub mod RunLaws

@@ -13,6 +13,7 @@ use Rattle.td_rows.specs.declared.state_file.StateFault.{StateFault}
 use Rattle.td_rows.specs.declared.state_file.StateFault.TheVariants as state
 use Rattle.td_indices.specs.declared.archive_fault.ArchiveFault.{ArchiveFault}
 use Rattle.td_indices.specs.declared.archive_fault.ArchiveFault.TheVariants as archive
+use Rattle.td_query.specs.Tracking.{IsTracker, Tracking}
 use Rattle.td_query.specs.declared.tracker_fault.TrackerFault.{TrackerFault}
 use Rattle.td_query.specs.declared.tracker_fault.TrackerFault.TheVariants as tracker
 use Rattle.td_script.specs.declared.input_fault.InputFault.{InputFault}
@@ -89,6 +90,10 @@ IsRefusedIn opened text Write = ⊥
 IsRefusedIn opened text NoMemory = Unit {0}
 
 -- ---- 3. what is told
+
+-- the tracker that is given
+abbrev pub IsTrackerOf : Texts → Tracking → Type 0
+IsTrackerOf x t = (text : List ℕ) × (x.tracker ≡ Some text) × IsTracker text t
 
 -- this is told of a script from these rows
 pub record IsToldOf (s : Setting) (rows : Table) (script : List ℕ) (told : ToldText) : Type 0 where

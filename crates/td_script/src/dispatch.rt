@@ -1,5 +1,5 @@
 //! The answer to a line.
-ghost use Rattle.std.specs.Prelude.{◌≡◌, IfOk, Some, None, map, option_map};
+ghost use Rattle.std.specs.Prelude.{◌≡◌, IfOk, IfSome, Some, None, map, option_map};
 ghost use Rattle.std.specs.String.{string_bytes};
 ghost use Rattle.td_script.specs.Answering.{Answers};
 ghost use Rattle.td_script.specs.Replies.{answer as answer_to, asks, reports as reports_on, types};
@@ -7,8 +7,8 @@ ghost use Rattle.td_wbread.specs.Command.{command_at};
 
 use crate::answering::{arrive, show_entry, show_journal, show_row, sweep, undo};
 use crate::commanding::command;
-use crate::reports::Reports;
 use crate::line::{Said, read_line};
+use crate::reports::Reports;
 use crate::request::Request;
 use crate::writing::put_refusal;
 use std::alloc::{AllocError, Global};
@@ -23,6 +23,7 @@ fn report<R: Reports>(
     reports: Option<&R>,
     out: &mut String,
 ) -> Result<bool, AllocError>
+    requires { IfSome reports (λ r. R.fits r.now book.now.fixed) }
     ensures { IfOk result (Answers (reports_on book.now.history (option_map (λ r. R.text r.now) reports.entry)) book.now book.now (string_bytes out.old) (string_bytes out.new)) }
 {
     match reports {
@@ -50,6 +51,7 @@ fn ask<R: Reports>(
 ) -> Result<bool, AllocError>
     requires board { board.now.table ≡ book.old.fixed.table }
     requires alone { book.old.fixed.builders ≡ 0 }
+    requires fits { IfSome reports (λ r. R.fits r.now book.old.fixed) }
     ensures { IfOk result (Answers (asks (record { stock = book.old.fixed.stock; suites = map (λ s. s.now) suites.now; report = option_map (λ r. R.text r.now) reports.entry }) book.old.history request.now) book.old book.new (string_bytes out.old) (string_bytes out.new)) }
 {
     match request {
@@ -98,6 +100,7 @@ pub fn answer<R: Reports>(
 ) -> Result<bool, AllocError>
     requires board { board.now.table ≡ book.old.fixed.table }
     requires alone { book.old.fixed.builders ≡ 0 }
+    requires fits { IfSome reports (λ r. R.fits r.now book.old.fixed) }
     ensures { IfOk result (Answers (answer_to (record { stock = book.old.fixed.stock; suites = map (λ s. s.now) suites.now; report = option_map (λ r. R.text r.now) reports.entry }) book.old.history line.now) book.old book.new (string_bytes out.old) (string_bytes out.new)) }
 {
     match read_line(alloc, line)? {

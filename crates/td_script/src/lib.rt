@@ -28,7 +28,7 @@ pub use dispatch::answer;
 pub use input_fault::InputFault;
 pub use inputs::{Inputs, MAX_BUILDERS};
 pub use line::{Said, asked_lines_are_requests, read_line};
-pub use reports::{PlainReports, Reports};
+pub use reports::Reports;
 pub use request::{Request, read_request, request_lines_are_exact};
 pub use role::Role;
 pub use running::{RunFault, SCRIPT_LIMIT, ScriptEnd, run_script};

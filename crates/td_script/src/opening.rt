@@ -1,16 +1,18 @@
 //! What is told of a script over the texts of files.
-ghost use Rattle.std.specs.Prelude.{◌≡◌, ◌<◌, ◌^◌, ◌-◌, ◌∷◌, [], Some, IfOk, IfErr, MatchResult, length, option_map};
+ghost use Rattle.std.specs.Prelude.{◌≡◌, ◌<◌, ◌^◌, ◌-◌, ◌∷◌, [], None, Some, IfOk, IfErr, IfSome, MatchResult, length, option_map};
 ghost use Rattle.td_text.specs.Lines.{lines_of};
 ghost use Rattle.td_relation.specs.TableFile.{IsTable};
 ghost use Rattle.td_relation.specs.TableView.{table};
 ghost use Rattle.td_core.specs.Phases.{NoneBuilt};
 ghost use Rattle.td_indices.specs.Supplying.{supply_of};
 ghost use Rattle.td_script.specs.Openings.{AreRowsOf, IsArchiveOf, texts_of};
-ghost use Rattle.td_script.specs.OpeningInside.{IsRefusedBy, IsRefusedIn, IsReplacedIn, IsToldOf, Tells, of_archive, of_state, of_table, of_tracker};
+ghost use Rattle.td_book.specs.Desk.{Fixed};
+ghost use Rattle.td_query.specs.Tracking.{tracking};
+ghost use Rattle.td_script.specs.OpeningInside.{IsRefusedBy, IsRefusedIn, IsReplacedIn, IsToldOf, IsTrackerOf, Tells, of_archive, of_state, of_table, of_tracker};
 
 use crate::input_fault::InputFault;
 use crate::inputs::Inputs;
-use crate::reports::{PlainReports, Reports};
+use crate::reports::Reports;
 use crate::running::RunFault;
 use crate::told::{Told, tell};
 use std::alloc::{AllocError, Global};
@@ -107,6 +109,7 @@ fn tell_from<T: Reports>(
     script: &str,
 ) -> Result<Told, RunFault>
     requires idle { NoneBuilt rows }
+    requires fits { IfSome reports (λ r. (f : Fixed) → T.fits r.now f) }
     requires small { length script.now < 2 ^ 63 - 1 }
     ensures told { IfOk result (IsToldOf (record { stock = supply_of archive.now; suites = suite.now ∷ []; report = option_map (λ r. T.text r.now) reports.entry }) rows script.now) }
     ensures memory { IfErr result (λ fault. fault ≡ RunFault.NoMemory) }
@@ -127,6 +130,7 @@ fn tell_in<T: Reports>(
     script: &str,
 ) -> Result<Told, AllocError>
     requires idle { NoneBuilt rows }
+    requires fits { IfSome reports (λ r. (f : Fixed) → T.fits r.now f) }
     requires small { length script.now < 2 ^ 63 - 1 }
     ensures { IfOk result (IsToldOf (record { stock = supply_of archive.now; suites = suite.now ∷ []; report = option_map (λ r. T.text r.now) reports.entry }) rows script.now) }
 {
@@ -148,34 +152,65 @@ fn tell_in<T: Reports>(
 fn tell_tracked(
     alloc: Global,
     archive: &Archive<'_, '_>,
+    tracker: &Tracker<'_>,
     rows: Rows,
-    tracker: &str,
     inputs: &Inputs,
     script: &str,
 ) -> Result<Told, RunFault>
     requires archive { IsArchiveOf (texts_of inputs.now) archive.now }
     requires rows { AreRowsOf archive.now (texts_of inputs.now).state rows }
-    requires tracker { (texts_of inputs.now).tracker ≡ Some tracker.now }
+    requires tracker { IsTrackerOf (texts_of inputs.now) (tracking tracker.now) }
     requires idle { NoneBuilt rows }
     requires small { length script.now < 2 ^ 63 - 1 }
     ensures { MatchResult result (Tells (texts_of inputs.now) script.now) (IsRefusedBy (texts_of inputs.now)) }
 {
-    let tracker = match Tracker::read(alloc, tracker) {
-        Ok(tracker) => tracker,
-        Err(fault) => return Err(fault_of_tracker(fault)),
-    };
-    let Ok(transition) = Transition::of(alloc, archive, &tracker) else {
+    let Ok(transition) = Transition::of(alloc, archive, tracker) else {
         return Err(RunFault::NoMemory);
     };
-    let reports = PlainReports::of(&transition);
-    tell_from(
-        alloc,
-        archive,
-        rows,
-        inputs.suite.as_str(),
-        Some(&reports),
-        script,
-    )
+    let suite = inputs.suite.as_str();
+    tell_from(alloc, archive, rows, suite, Some(&transition), script)
+}
+
+// The same, with the reports of the tracker of a text.
+fn tell_with_tracker(
+    alloc: Global,
+    archive: &Archive<'_, '_>,
+    rows: Rows,
+    text: &str,
+    inputs: &Inputs,
+    script: &str,
+) -> Result<Told, RunFault>
+    requires archive { IsArchiveOf (texts_of inputs.now) archive.now }
+    requires rows { AreRowsOf archive.now (texts_of inputs.now).state rows }
+    requires tracker { (texts_of inputs.now).tracker ≡ Some text.now }
+    requires idle { NoneBuilt rows }
+    requires small { length script.now < 2 ^ 63 - 1 }
+    ensures { MatchResult result (Tells (texts_of inputs.now) script.now) (IsRefusedBy (texts_of inputs.now)) }
+{
+    match Tracker::read(alloc, text) {
+        Ok(tracker) => tell_tracked(alloc, archive, &tracker, rows, inputs, script),
+        Err(fault) => Err(fault_of_tracker(fault)),
+    }
+}
+
+// The same without reports.
+fn tell_untracked(
+    alloc: Global,
+    archive: &Archive<'_, '_>,
+    rows: Rows,
+    inputs: &Inputs,
+    script: &str,
+) -> Result<Told, RunFault>
+    requires archive { IsArchiveOf (texts_of inputs.now) archive.now }
+    requires rows { AreRowsOf archive.now (texts_of inputs.now).state rows }
+    requires tracker { (texts_of inputs.now).tracker ≡ None }
+    requires idle { NoneBuilt rows }
+    requires small { length script.now < 2 ^ 63 - 1 }
+    ensures { MatchResult result (Tells (texts_of inputs.now) script.now) (IsRefusedBy (texts_of inputs.now)) }
+{
+    let suite = inputs.suite.as_str();
+    let none = Option::<&Transition<'_, '_, '_, '_>>::None;
+    tell_from(alloc, archive, rows, suite, none, script)
 }
 
 // What is told of a script over an archive.
@@ -193,17 +228,9 @@ fn tell_over_archive(
         Ok(rows) => rows,
         Err(fault) => return Err(fault),
     };
-    let suite = inputs.suite.as_str();
     match &inputs.tracker {
-        Some(text) => tell_tracked(alloc, archive, rows, text.as_str(), inputs, script),
-        None => tell_from(
-            alloc,
-            archive,
-            rows,
-            suite,
-            Option::<&PlainReports<'_, '_, '_, '_, '_>>::None,
-            script,
-        ),
+        Some(text) => tell_with_tracker(alloc, archive, rows, text.as_str(), inputs, script),
+        None => tell_untracked(alloc, archive, rows, inputs, script),
     }
 }
 

@@ -2,6 +2,7 @@
 ghost use Rattle.std.specs.Prelude.{◌≡◌, ℕ, List, IfOk, string_bytes};
 ghost use Rattle.td_rows.specs.Table.{Table};
 ghost use Rattle.td_core.specs.History.{rows_of};
+ghost use Rattle.td_book.specs.Desk.{Fixed};
 ghost use Rattle.td_report.specs.TransitionView.{IsMade};
 ghost use Rattle.td_script.specs.Reporting.{report_by};
 
@@ -14,30 +15,21 @@ pub trait Reports {
     /// The report of the rows, each line with its newline.
     ghost text: { Self → Table → List ℕ };
 
+    /// What has to hold of it and of what no call changes of the book.
+    ghost fits: { Self → Fixed → Type 0 };
+
     fn report(&self, alloc: Global, book: &Book<'_>) -> Result<String, AllocError>
+        requires { fits self.now book.now.fixed }
         ensures { IfOk result (λ report. string_bytes report ≡ text self.now (rows_of book.now.history)) };
 }
 
-/// Reports of a transition that are made anew each time.
-pub struct PlainReports<'x, 'b, 't, 'a, 'q> {
-    transition: &'x Transition<'b, 't, 'a, 'q>,
-    ghost made: { IsMade transition.now },
-}
+/// Reports that are made anew of all rows each time.
+impl Reports for Transition<'_, '_, '_, '_> {
+    ghost text = { λ x rows. report_by x rows };
 
-impl<'x, 'b, 't, 'a, 'q> PlainReports<'x, 'b, 't, 'a, 'q> {
-    /// The reports of a transition.
-    pub fn of(transition: &'x Transition<'b, 't, 'a, 'q>) -> PlainReports<'x, 'b, 't, 'a, 'q>
-        requires { IsMade transition.now }
-        ensures { result.transition.now ≡ transition.now }
-    {
-        PlainReports { transition }
-    }
-}
-
-impl Reports for PlainReports<'_, '_, '_, '_, '_> {
-    ghost text = { λ r rows. report_by r.transition.now rows };
+    ghost fits = { λ x fixed. IsMade x };
 
     fn report(&self, alloc: Global, book: &Book<'_>) -> Result<String, AllocError> {
-        self.transition.report(alloc, book.rows())
+        Transition::report(self, alloc, book.rows())
     }
 }

@@ -1,0 +1,171 @@
+-- What is read of the texts, layer by layer.
+use Rattle.std.proofs.Common.{◌≡◌, ◌↔◌, ℕ, List, [], ◌∷◌, true, false, Option, Some, None, Result, Ok, Err, IfOk, IfErr, refl, sym, ap, subst, ◌∙◌, option_map, unwrap_or, map}
+use Rattle.std.specs.Prelude.{MatchResult}
+use Rattle.td_text.specs.Lines.{lines_of}
+use Rattle.td_relation.specs.Arch.{ArchWords}
+use Rattle.td_relation.specs.TableFile.{IsTable}
+use Rattle.td_relation.specs.TableFile as table_file
+use Rattle.td_relation.specs.declared.archs.ArchsFault.{ArchsFault}
+use Rattle.td_relation.specs.declared.archs.ArchsFault.TheVariants as table
+use Rattle.td_rows.specs.declared.key.Key.{Key}
+use Rattle.td_rows.specs.declared.row.Row.{Row}
+use Rattle.td_rows.specs.declared.rows.OverlayError.{OverlayError}
+use Rattle.td_rows.specs.declared.rows.OverlayError.TheVariants.{NoSuchRow}
+use Rattle.td_rows.specs.Overlay.{first_missing, overlaid}
+use Rattle.td_rows.specs.StateFile.{IsStateFile}
+use Rattle.td_rows.specs.StateFile as state_file
+use Rattle.td_rows.specs.States.{is_building}
+use Rattle.td_rows.specs.Table.{Table, row_of}
+use Rattle.td_rows.specs.declared.state_file.StateFault.{StateFault}
+use Rattle.td_rows.specs.declared.state_file.StateFault.TheVariants as state
+use Rattle.td_rows.proofs.Tables.{row_of-each_row}
+use Rattle.td_core.specs.Phases.{NoneBuilt}
+use Rattle.td_indices.specs.Archive.{Contents, IsArchive}
+use Rattle.td_indices.specs.Archive as archive_file
+use Rattle.td_indices.specs.declared.archive_fault.ArchiveFault.{ArchiveFault}
+use Rattle.td_indices.specs.declared.archive_fault.ArchiveFault.TheVariants as archive
+use Rattle.td_query.specs.TrackerFaults as tracker_file
+use Rattle.td_query.specs.declared.tracker_fault.TrackerFault.{TrackerFault}
+use Rattle.td_query.specs.declared.tracker_fault.TrackerFault.TheVariants as tracker
+use Rattle.td_script.specs.declared.input_fault.InputFault.{InputFault}
+use Rattle.td_script.specs.declared.input_fault.InputFault.TheVariants as fault
+use Rattle.td_script.specs.declared.running.RunFault.{RunFault}
+use Rattle.td_script.specs.declared.running.RunFault.TheVariants.{Input, Read, TooLong, NotText, Write, NoMemory}
+use Rattle.td_supply.specs.Supplied.{Supplied, fresh}
+use Rattle.td_supply.specs.Supply.{Stock, SupplyView, opened as opened_stock, stock_of}
+use Rattle.td_core.specs.History.{History, opened}
+use Rattle.td_query.specs.Tracking.{Tracking}
+use Rattle.td_waves.specs.declared.level.Level.{Level}
+use Rattle.td_report.specs.Transition.{AreLevels}
+use Rattle.td_book.specs.Desk.{BookModel}
+use Rattle.td_script.specs.declared.told.Told.{Told as ToldText}
+use Rattle.td_script.specs.Replies.{Setting}
+use Rattle.td_script.specs.Reporting.{report_with}
+use Rattle.td_script.specs.Script.{IsTold, Told, script, told_of}
+use Rattle.td_script.specs.OpeningInside.{IsRefusedBy, IsRefusedIn, IsReplacedIn, IsToldOf, IsTrackerOf, Tells, of_archive, of_state, of_table, of_tracker}
+use Rattle.td_script.specs.Openings.{AreOpened, AreReports, AreRowsOf, IsArchiveOf, IsSetOver, Texts}
+
+-- ---- 1. faults
+
+pub table_refused : (x : Texts) (archs : List ℕ) (e : ArchsFault) → archs ≡ x.archs → table_file.FaultOf (lines_of archs) e → IsRefusedBy x (of_table e)
+table_refused x archs (table.BadLine n) is h = subst (λ (t : List ℕ). table_file.FaultOf (lines_of t) (table.BadLine n)) is h
+table_refused x archs (table.Twice n) is h = subst (λ (t : List ℕ). table_file.FaultOf (lines_of t) (table.Twice n)) is h
+table_refused x archs table.TooMany is h = subst (λ (t : List ℕ). table_file.FaultOf (lines_of t) table.TooMany) is h
+table_refused x archs table.NoMemory is h = tt
+
+-- that of two texts is that of the ones of the same bytes
+same_fault : (t : List ArchWords) (e : ArchiveFault) (p s packages sources : List ℕ) → p ≡ packages → s ≡ sources → archive_file.FaultOf t (lines_of p) (lines_of s) e → archive_file.FaultOf t (lines_of packages) (lines_of sources) e
+same_fault t e p s packages sources first second h = subst (λ (l : List ℕ). archive_file.FaultOf t (lines_of packages) (lines_of l) e) second (subst (λ (l : List ℕ). archive_file.FaultOf t (lines_of l) (lines_of s) e) first h)
+
+pub archive_refused : (x : Texts) (t : List ArchWords) (p s : List ℕ) (e : ArchiveFault) → IsTable (lines_of x.archs) t → p ≡ x.packages → s ≡ x.sources → archive_file.FaultOf t (lines_of p) (lines_of s) e → IsRefusedBy x (of_archive e)
+archive_refused x t p s (archive.Stanza f e) is first second h = (t, is, same_fault t (archive.Stanza f e) p s x.packages x.sources first second h)
+archive_refused x t p s (archive.MissingField f n field) is first second h = (t, is, same_fault t (archive.MissingField f n field) p s x.packages x.sources first second h)
+archive_refused x t p s (archive.BadVersion f n) is first second h = (t, is, same_fault t (archive.BadVersion f n) p s x.packages x.sources first second h)
+archive_refused x t p s (archive.BadRelation f n) is first second h = (t, is, same_fault t (archive.BadRelation f n) p s x.packages x.sources first second h)
+archive_refused x t p s archive.TooManyRows is first second h = (t, is, same_fault t archive.TooManyRows p s x.packages x.sources first second h)
+archive_refused x t p s archive.NoMemory is first second h = tt
+
+pub state_refused : (opened : Table) (text : List ℕ) (e : StateFault) → state_file.FaultOf (lines_of text) e → IsRefusedIn opened text (of_state e)
+state_refused opened text (state.BadLine n) h = h
+state_refused opened text (state.Twice n) h = h
+state_refused opened text (state.NotOpening n) h = h
+state_refused opened text state.TooManyRows h = h
+state_refused opened text state.NoMemory h = tt
+
+pub tracker_refused : (x : Texts) (c : Contents) (rows : Table) (text : List ℕ) (e : TrackerFault) → x.tracker ≡ Some text → IsArchiveOf x c → AreRowsOf c x.state rows → tracker_file.FaultOf text e → IsRefusedBy x (of_tracker e)
+tracker_refused x c rows text (tracker.Syntax p) is archive rows_are h = (c, archive, (rows, rows_are, rw is h))
+tracker_refused x c rows text (tracker.BadPattern p) is archive rows_are h = (c, archive, (rows, rows_are, rw is h))
+tracker_refused x c rows text (tracker.MissingKey k) is archive rows_are h = (c, archive, (rows, rows_are, rw is h))
+tracker_refused x c rows text tracker.NoMemory is archive rows_are h = tt
+
+-- ---- 2. rows
+
+-- rows that no builder has, over others that none has
+pub none_built_over : (given opened : Table) → NoneBuilt given → NoneBuilt opened → NoneBuilt (overlaid given opened)
+none_built_over given opened g o k row h = here (row_of opened k) refl (sym (row_of-each_row (λ q r. unwrap_or (row_of given q) r) opened k) ∙ h)
+  where
+    chosen : (own new : Row) (r : Option Row) → row_of given k ≡ r → row_of opened k ≡ Some own → unwrap_or r own ≡ new → is_building new.state ≡ false
+    chosen own new None is at e = subst (λ (x : Row). is_building x.state ≡ false) e (o k own at)
+    chosen own new (Some r) is at e = subst (λ (x : Row). is_building x.state ≡ false) e (g k r is)
+
+    here : (r : Option Row) → row_of opened k ≡ r → option_map (λ x. unwrap_or (row_of given k) x) r ≡ Some row → is_building row.state ≡ false
+    here None at e = absurd cc
+    here (Some own) at e = let same : unwrap_or (row_of given k) own ≡ row = cc in chosen own row (row_of given k) refl at same
+
+pub missing_key : {A : Type 0} (rows given : Table) (r : Result A OverlayError) (e : OverlayError) → r ≡ Err e → ((k : Key) → (r ≡ Err (NoSuchRow k)) ↔ (first_missing rows given ≡ Some k)) → (k : Key) × (first_missing rows given ≡ Some k)
+missing_key rows given r (NoSuchRow k) is both = (k, (both k).0 is)
+
+-- over an archive
+pub replaced_rows : (c : Contents) (opened : Table) (text : List ℕ) (r : Result Table RunFault) → AreOpened c opened → IfOk r (IsReplacedIn opened text) → IfOk r (AreRowsOf c (Some text))
+replaced_rows c opened text (Ok rows) are is = record { opened = opened; are_opened = are; given = is.given; are_given = is.are_given; none_missing = is.none_missing; replaced = is.replaced }
+replaced_rows c opened text (Err e) are is = tt
+
+refused_row : (x : Texts) (c : Contents) (opened : Table) (text : List ℕ) (e : RunFault) → IsArchiveOf x c → AreOpened c opened → x.state ≡ Some text → IsRefusedIn opened text e → IsRefusedBy x e
+refused_row x c opened text (Input (fault.Table e)) archive are is h = absurd h
+refused_row x c opened text (Input (fault.Archive e)) archive are is h = absurd h
+refused_row x c opened text (Input (fault.State e)) archive are is h = (c, archive, rw is h)
+refused_row x c opened text (Input fault.NoSuchRow) archive are is h = (c, archive, rw is (opened, are, h))
+refused_row x c opened text (Input (fault.Tracker e)) archive are is h = absurd h
+refused_row x c opened text Read archive are is h = absurd h
+refused_row x c opened text TooLong archive are is h = absurd h
+refused_row x c opened text NotText archive are is h = absurd h
+refused_row x c opened text Write archive are is h = absurd h
+refused_row x c opened text NoMemory archive are is h = tt
+
+pub refused_rows : (x : Texts) (c : Contents) (opened : Table) (text : List ℕ) (r : Result Table RunFault) → IsArchiveOf x c → AreOpened c opened → x.state ≡ Some text → IfErr r (IsRefusedIn opened text) → IfErr r (IsRefusedBy x)
+refused_rows x c opened text (Ok rows) archive are is h = tt
+refused_rows x c opened text (Err e) archive are is h = refused_row x c opened text e archive are is h
+
+-- ---- 3. the table and the archive
+
+pub archive_of : (x : Texts) (t : List ArchWords) (p s : List ℕ) (c : Contents) → IsTable (lines_of x.archs) t → p ≡ x.packages → s ≡ x.sources → IsArchive t (lines_of p) (lines_of s) c → IsArchiveOf x c
+archive_of x t p s c is_table first second is =
+    let here : IsArchive t (lines_of x.packages) (lines_of x.sources) c = subst (λ (l : List ℕ). IsArchive t (lines_of x.packages) (lines_of l) c) second (subst (λ (l : List ℕ). IsArchive t (lines_of l) (lines_of s) c) first is) in
+    record {
+      is_table = subst (IsTable (lines_of x.archs)) (sym here.same_table) is_table;
+      is_archive = subst (λ (l : List ArchWords). IsArchive l (lines_of x.packages) (lines_of x.sources) c) (sym here.same_table) here;
+    }
+
+-- ---- 4. what is told
+
+offers-fresh : (xs : List Supplied) → map (λ i. i.offer) (map fresh xs) ≡ xs
+offers-fresh [] = refl
+offers-fresh (x ∷ xs) = ap (λ (l : List Supplied). x ∷ l) (offers-fresh xs)
+
+pub stock-opened : (s : SupplyView) (k : Stock) → s ≡ opened_stock k → stock_of s ≡ k
+stock-opened s k is = ap stock_of is ∙ ap (λ (l : List Supplied). record { table = k.table; sources = k.sources; offers = l }) (offers-fresh k.offers)
+
+-- before the first arrival
+pub fresh_supply : (s : SupplyView) (k : Stock) → s ≡ opened_stock k → s ≡ opened_stock (stock_of s)
+fresh_supply s k is = is ∙ ap opened_stock (sym (stock-opened s k is))
+
+-- what is told from a book that opens so
+pub told_from : (b new : BookModel) (stock : Stock) (suites : List (List ℕ)) (suite : List ℕ) (report : Option (Table → List ℕ)) (lent rows : Table) (text : List ℕ) (told : ToldText) → IsTold (record { stock = b.fixed.stock; suites = suites; report = report }) text b new told → b.history ≡ opened lent → b.fixed.stock ≡ stock → lent ≡ rows → suites ≡ suite ∷ []
+    → IsToldOf (record { stock = stock; suites = suite ∷ []; report = report }) rows text told
+told_from b new stock suites suite report lent rows text told h is offers same its =
+    let e : told_of told new.history ≡ script (record { stock = stock; suites = suite ∷ []; report = report }) (opened rows) text =
+    h.is
+    ∙ ap (λ (x : Stock). script (record { stock = x; suites = suites; report = report }) b.history text) offers
+    ∙ ap (λ (x : List (List ℕ)). script (record { stock = stock; suites = x; report = report }) b.history text) its
+    ∙ ap (λ (x : History). script (record { stock = stock; suites = suite ∷ []; report = report }) x text) (is ∙ ap opened same) in
+    record { text = ap (λ (t : Told). t.text) e; refused = ap (λ (t : Told). t.refused) e }
+
+-- over what the texts say
+pub tells_from : (x : Texts) (c : Contents) (s : Setting) (lent rows : Table) (text : List ℕ) (r : Result ToldText RunFault) → IfOk r (IsToldOf s lent text) → IfErr r (λ f. f ≡ NoMemory) → IsArchiveOf x c → IsSetOver c x s rows → lent ≡ rows → MatchResult r (Tells x text) (IsRefusedBy x)
+tells_from x c s lent rows text (Ok told) is memory archive set same = (s, rows, (c, archive, set), subst (λ (t : Table). IsToldOf s t text told) same is)
+tells_from x c s lent rows text (Err e) is memory archive set same = subst (IsRefusedBy x) (sym memory) tt
+
+-- the reports of a tracker
+pub tracker_reports : (x : Texts) (c a : Contents) (t u : Tracking) (level : List ℕ → Option Level) (depth : ℕ) (report : Table → List ℕ) → a ≡ c → u ≡ t → IsTrackerOf x t → AreLevels a u level depth → ((rows : Table) → report rows ≡ report_with a u level depth rows) → AreReports c x.tracker (Some report)
+tracker_reports x c a t u level depth report same its is levels text =
+    subst (λ (o : Option (List ℕ)). AreReports c o (Some report)) (sym is.1) (record {
+      tracking = t;
+      is_tracker = is.2;
+      level = level;
+      depth = depth;
+      levels = subst (λ (y : Tracking). AreLevels c y level depth) its (subst (λ (y : Contents). AreLevels y u level depth) same levels);
+      same = λ rows. text rows ∙ ap (λ (y : Contents). report_with y u level depth rows) same ∙ ap (λ (y : Tracking). report_with c y level depth rows) its;
+    })
+
+pub no_reports : (x : Texts) (c : Contents) → x.tracker ≡ None → AreReports c x.tracker None
+no_reports x c is = subst (λ (o : Option (List ℕ)). AreReports c o None) (sym is) tt

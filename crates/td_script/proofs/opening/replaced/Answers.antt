@@ -1,0 +1,19 @@
+use Rattle.std.proofs.Common.{◌≡◌, sym, subst}
+use Rattle.td_core.specs.Phases.{NoneBuilt}
+use Rattle.td_core.proofs.Openings.{NoneBuilt-state_file}
+use Rattle.td_script.proofs.OpeningLaws.{missing_key, none_built_over, state_refused}
+use Rattle.td_script.proofs.opening.replaced.Goals as goal
+
+pub returns-in-Ok-overlay-clause-rows : goal.returns-in-Ok-overlay-clause-rows
+returns-in-Ok-overlay-clause-rows c = record {
+  given = c.in-Ok.given;
+  are_given = c.in-Ok.ensures.found;
+  none_missing = λ k e. let other = (c.overlay.ensures.missing k).1 e in let is = c.in-Ok-overlay.is in cc;
+  replaced = c.in-Ok-overlay.ensures.ok;
+}
+
+pub returns-in-Ok-overlay-clause-idle : goal.returns-in-Ok-overlay-clause-idle
+returns-in-Ok-overlay-clause-idle c = subst NoneBuilt (sym c.in-Ok-overlay.ensures.ok) (none_built_over c.in-Ok.given c.args.rows (NoneBuilt-state_file c.in-Ok.ensures.found) c.requires)
+
+pub returns-in-Err-overlay-clause-refused : goal.returns-in-Err-overlay-clause-refused
+returns-in-Err-overlay-clause-refused c = (c.in-Ok.given, c.in-Ok.ensures.found, missing_key c.args.rows c.in-Ok.given c.overlay.result c.in-Err-overlay.field-0 c.in-Err-overlay.is c.overlay.ensures.missing)
