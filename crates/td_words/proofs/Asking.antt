@@ -13,9 +13,9 @@ use Rattle.clap.specs.declared.error.kind.ErrorKind.TheVariants.{OutOfMemory}
 use Rattle.clap.specs.declared.parser.matches.ArgMatches.{ArgMatches}
 use Rattle.clap.proofs.OnLiterals.{clap_on_literals}
 use Rattle.td_words.specs.declared.request.Request.{Request}
-use Rattle.td_words.specs.declared.request.Request.TheVariants.{Simulate, Check, Track, Waves}
-use Rattle.td_words.specs.CommandLine.{AskForCheck, HasFiles, HasTrack, HasTracker, desk, faults_of, asked_of, asking_for, asking_for_check, name_in, rows_in}
-use Rattle.td_words.specs.Asked.{Asks, IsRequestIn, track_words}
+use Rattle.td_words.specs.declared.request.Request.TheVariants.{Simulate, Check, Track, Waves, Run}
+use Rattle.td_words.specs.CommandLine.{AskForCheck, AskForRun, AskForTrack, AskForWaves, HasFiles, HasRun, HasTrack, HasTracker, PlainRunWordsAsk, TrackWords, TrackWordsAsk, WavesWordsAsk, WholeRunWordsAsk, asked_of, asking_for, asking_for_check, asking_for_track, chunk_in, desk, faults_of, name_in, rows_in}
+use Rattle.td_words.specs.Asked.{Asks, IsRequestIn, run_words, track_words}
 
 pub is_taken : (program : List ℕ) → takes desk (asking_for program (codes "simulate")) ≡ true
 unfolding clap_on_literals
@@ -40,6 +40,33 @@ unfolding clap_on_literals
 asks_for_check program archs packages sources =
     ((refl, refl), record { archs_path = refl; packages_path = refl; sources_path = refl })
 
+-- so do those of the others
+track_words_ask : (program a p s t : List ℕ) (state chunk : Option (List ℕ)) (rows : Option ℕ) → chunk_in chunk ≡ Some rows
+    → (let w : TrackWords = record { archs = a; packages = p; sources = s; tracker = t; state = state; chunk = rows } in AskForTrack (asking_for_track program w chunk) w)
+unfolding clap_on_literals
+track_words_ask program a p s t None None rows same = ((refl, refl), record { files = record { files = record { archs_path = refl; packages_path = refl; sources_path = refl }; tracker_path = refl }; state_path = refl; rows = same })
+track_words_ask program a p s t None (Some chunk) rows same = ((refl, refl), record { files = record { files = record { archs_path = refl; packages_path = refl; sources_path = refl }; tracker_path = refl }; state_path = refl; rows = same })
+track_words_ask program a p s t (Some state) None rows same = ((refl, refl), record { files = record { files = record { archs_path = refl; packages_path = refl; sources_path = refl }; tracker_path = refl }; state_path = refl; rows = same })
+track_words_ask program a p s t (Some state) (Some chunk) rows same = ((refl, refl), record { files = record { files = record { archs_path = refl; packages_path = refl; sources_path = refl }; tracker_path = refl }; state_path = refl; rows = same })
+
+pub asks_for_track : TrackWordsAsk
+asks_for_track program w chunk same = track_words_ask program w.archs w.packages w.sources w.tracker w.state chunk w.chunk same
+
+pub asks_for_waves : WavesWordsAsk
+unfolding clap_on_literals
+asks_for_waves program archs packages sources tracker =
+    ((refl, refl), record { files = record { archs_path = refl; packages_path = refl; sources_path = refl }; tracker_path = refl })
+
+pub asks_for_plain_run : PlainRunWordsAsk
+unfolding clap_on_literals
+asks_for_plain_run program archs packages sources =
+    ((refl, refl), record { files = record { archs_path = refl; packages_path = refl; sources_path = refl }; state_path = refl; tracker_path = refl; suite_name = refl; count = refl; outcomes_path = refl; journal_path = refl })
+
+pub asks_for_whole_run : WholeRunWordsAsk
+unfolding clap_on_literals
+asks_for_whole_run program archs packages sources state tracker suite builders outcomes journal count same =
+    ((refl, refl), record { files = record { archs_path = refl; packages_path = refl; sources_path = refl }; state_path = refl; tracker_path = refl; suite_name = refl; count = same; outcomes_path = refl; journal_path = refl })
+
 -- the matches of a subcommand, as they are in the matches that have it
 pub rows_of_matches : (m : ArgMatches) (o : Option (Bor (List ℕ) × Bor ArgMatches)) (p : Bor (List ℕ) × Bor ArgMatches) → o ≡ Some p
     → option_map (λ q. rows_of (found_of q.1.now)) o ≡ option_map (λ q. q.1) (subcommand_rows_of m)
@@ -59,6 +86,8 @@ asks words found (Track archs packages sources tracker state chunk) same fine is
     ((fine, sym (ap name_in same) ∙ is.0), subst (λ o. HasTrack (rows_in o) (track_words archs packages sources tracker state chunk)) same is.1)
 asks words found (Waves archs packages sources tracker) same fine is =
     ((fine, sym (ap name_in same) ∙ is.0), subst (λ o. HasTracker (rows_in o) (string_bytes archs) (string_bytes packages) (string_bytes sources) (string_bytes tracker)) same is.1)
+asks words found (Run archs packages sources state tracker suite builders outcomes journal) same fine is =
+    ((fine, sym (ap name_in same) ∙ is.0), subst (λ o. HasRun (rows_in o) (run_words archs packages sources state tracker suite builders outcomes journal)) same is.1)
 
 -- where nothing is wrong with the words, only memory is wanting
 pub no_kind : (e : Error) → HasKind [] e → kind_of e ≡ OutOfMemory

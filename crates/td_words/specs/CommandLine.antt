@@ -1,5 +1,5 @@
 -- The program's command line, as `clap` sees it. This project's own.
-use Rattle.std.specs.Prelude.{◌≡◌, ◌==◌, ℕ, nat_lt, true, false, List, [], ◌∷◌, ◌++◌, Option, Some, None, option_map, codes, if◌then◌else◌}
+use Rattle.std.specs.Prelude.{◌≡◌, ◌==◌, ℕ, nat_lt, true, false, List, [], ◌∷◌, ◌++◌, Option, Some, None, option_map, unwrap_or, codes, if◌then◌else◌}
 use Rattle.std.specs.Option.{option_map_or}
 use Rattle.td_text.specs.Chain.{◌>>=◌}
 use Rattle.td_text.specs.Numbers.{number_at}
@@ -20,15 +20,29 @@ check_shape = record (new_shape (codes "check")) { rules = needed_option (codes 
 abbrev pub option_of : List ℕ → Rule
 option_of name = record (new_rule name) { long = Some name; value_names = 1 }
 
+-- the files of an archive
+abbrev pub with_archive_rules : App → App
+with_archive_rules a = with_rule (with_rule (with_rule a (needed_option (codes "archs"))) (needed_option (codes "packages"))) (needed_option (codes "sources"))
+
 -- `track` and `waves` need a tracker too, and `track` may be given two things more
 abbrev pub with_tracker_rules : App → App
-with_tracker_rules a = with_rule (with_rule (with_rule (with_rule a (needed_option (codes "archs"))) (needed_option (codes "packages"))) (needed_option (codes "sources"))) (needed_option (codes "tracker"))
+with_tracker_rules a = with_rule (with_archive_rules a) (needed_option (codes "tracker"))
 
 abbrev pub waves_shape : Shape
 waves_shape = (with_tracker_rules (new_app (codes "waves"))).top
 
 abbrev pub track_shape : Shape
 track_shape = (with_rule (with_rule (with_tracker_rules (new_app (codes "track"))) (option_of (codes "state"))) (option_of (codes "chunk"))).top
+
+-- `run` may be given what a script runs over beside the archive, and by whom its builds are done
+abbrev pub with_desk_rules : App → App
+with_desk_rules a = with_rule (with_rule (with_rule a (option_of (codes "state"))) (option_of (codes "tracker"))) (option_of (codes "suite"))
+
+abbrev pub with_crew_rules : App → App
+with_crew_rules a = with_rule (with_rule (with_rule a (option_of (codes "builders"))) (option_of (codes "outcomes"))) (option_of (codes "journal"))
+
+abbrev pub run_shape : Shape
+run_shape = (with_crew_rules (with_desk_rules (with_archive_rules (new_app (codes "run"))))).top
 
 -- the program has a version, and wants one of its subcommands; `simulate` has no options
 abbrev pub desk_without_tracker : App
@@ -37,7 +51,7 @@ desk_without_tracker =
     with_subcommand (with_subcommand program (new_shape (codes "simulate"))) check_shape
 
 abbrev pub desk : App
-desk = with_subcommand (with_subcommand desk_without_tracker track_shape) waves_shape
+desk = with_subcommand (with_subcommand (with_subcommand desk_without_tracker track_shape) waves_shape) run_shape
 
 -- the name of a subcommand with its matches, and those matches
 abbrev pub name_in : Option (List ℕ × List Row) → Option (List ℕ)
@@ -112,6 +126,51 @@ pub record HasTrack (options : List Row) (w : TrackWords) : Type 0 where
 abbrev pub AskForTrack : List (List ℕ) → TrackWords → Type 0
 AskForTrack words w = AskFor (codes "track") words × HasTrack (options_of words) w
 
+-- how many builders there are: none, until there are crews
+abbrev pub most_builders : ℕ
+most_builders = 0
+
+abbrev pub builders_at : List ℕ → Option ℕ
+builders_at text = number_at most_builders text
+
+-- what the option says, none where it is left out
+abbrev pub builders_in : Option (List ℕ) → Option ℕ
+builders_in None = Some 0
+builders_in (Some text) = builders_at text
+
+-- the suite where none is named
+abbrev pub usual_suite : List ℕ
+usual_suite = codes "unstable"
+
+abbrev pub suite_in : Option (List ℕ) → List ℕ
+suite_in given = unwrap_or given usual_suite
+
+-- what a script runs over
+pub record RunWords : Type 0 where
+  pub archs : List ℕ
+  pub packages : List ℕ
+  pub sources : List ℕ
+  pub state : Option (List ℕ)
+  pub tracker : Option (List ℕ)
+  pub suite : List ℕ
+  pub builders : ℕ
+  pub outcomes : Option (List ℕ)
+  pub journal : Option (List ℕ)
+
+-- the options of `run` are these
+pub record HasRun (options : List Row) (w : RunWords) : Type 0 where
+  pub files : HasFiles options w.archs w.packages w.sources
+  pub state_path : first_of (codes "state") options ≡ w.state
+  pub tracker_path : first_of (codes "tracker") options ≡ w.tracker
+  pub suite_name : suite_in (first_of (codes "suite") options) ≡ w.suite
+  pub count : builders_in (first_of (codes "builders") options) ≡ Some w.builders
+  pub outcomes_path : first_of (codes "outcomes") options ≡ w.outcomes
+  pub journal_path : first_of (codes "journal") options ≡ w.journal
+
+-- the words ask for this run
+abbrev pub AskForRun : List (List ℕ) → RunWords → Type 0
+AskForRun words w = AskFor (codes "run") words × HasRun (options_of words) w
+
 -- `--NAME=PATH`
 abbrev pub given : List ℕ → List ℕ → List ℕ
 given name path = codes "--" ++ (name ++ (codes "=" ++ path))
@@ -138,3 +197,63 @@ JoinedWordsAsk = (program archs packages sources : List ℕ) → AskForCheck (as
 abbrev pub SeparateWordsAsk : Type 0
 SeparateWordsAsk = (program archs packages sources : List ℕ) → IsPlainPath archs → IsPlainPath packages → IsPlainPath sources
     → AskForCheck (asking_apart program archs packages sources) archs packages sources
+
+-- ---- the words of the other subcommands
+
+-- `--NAME=VALUE` where there is a value
+abbrev pub given_if : List ℕ → Option (List ℕ) → List (List ℕ)
+given_if name None = []
+given_if name (Some value) = given name value ∷ []
+
+-- the words that give the files of an archive
+abbrev pub archive_words : List ℕ → List ℕ → List ℕ → List (List ℕ) → List (List ℕ)
+archive_words archs packages sources rest = given (codes "archs") archs ∷ given (codes "packages") packages ∷ given (codes "sources") sources ∷ rest
+
+-- the words that ask for waves
+abbrev pub asking_for_waves : List ℕ → List ℕ → List ℕ → List ℕ → List ℕ → List (List ℕ)
+asking_for_waves program archs packages sources tracker =
+    program ∷ codes "waves" ∷ archive_words archs packages sources (given (codes "tracker") tracker ∷ [])
+
+-- the words that ask for a report, by what they say of a chunk
+abbrev pub asking_for_track : List ℕ → TrackWords → Option (List ℕ) → List (List ℕ)
+asking_for_track program w chunk =
+    program ∷ codes "track" ∷ archive_words w.archs w.packages w.sources (given (codes "tracker") w.tracker ∷ (given_if (codes "state") w.state ++ given_if (codes "chunk") chunk))
+
+-- they ask for it, with other rows or without, in chunks or whole
+abbrev pub TrackWordsAsk : Type 0
+TrackWordsAsk = (program : List ℕ) (w : TrackWords) (chunk : Option (List ℕ)) → chunk_in chunk ≡ Some w.chunk → AskForTrack (asking_for_track program w chunk) w
+
+abbrev pub WavesWordsAsk : Type 0
+WavesWordsAsk = (program archs packages sources tracker : List ℕ) → AskForWaves (asking_for_waves program archs packages sources tracker) archs packages sources tracker
+
+-- the words that ask for a run over an archive alone
+abbrev pub asking_for_plain_run : List ℕ → List ℕ → List ℕ → List ℕ → List (List ℕ)
+asking_for_plain_run program archs packages sources = program ∷ codes "run" ∷ archive_words archs packages sources []
+
+-- what they ask for
+abbrev pub plain_run : List ℕ → List ℕ → List ℕ → RunWords
+plain_run archs packages sources = record {
+  archs = archs;
+  packages = packages;
+  sources = sources;
+  state = None;
+  tracker = None;
+  suite = usual_suite;
+  builders = 0;
+  outcomes = None;
+  journal = None;
+}
+
+abbrev pub PlainRunWordsAsk : Type 0
+PlainRunWordsAsk = (program archs packages sources : List ℕ) → AskForRun (asking_for_plain_run program archs packages sources) (plain_run archs packages sources)
+
+-- the words that ask for a run with everything that may be given, by what they say of the builders
+abbrev pub asking_for_whole_run : List ℕ → List ℕ → List ℕ → List ℕ → List ℕ → List ℕ → List ℕ → List ℕ → List ℕ → List ℕ → List (List ℕ)
+asking_for_whole_run program archs packages sources state tracker suite builders outcomes journal =
+    program ∷ codes "run" ∷ archive_words archs packages sources
+    (given (codes "state") state ∷ given (codes "tracker") tracker ∷ given (codes "suite") suite ∷ given (codes "builders") builders ∷ given (codes "outcomes") outcomes ∷ given (codes "journal") journal ∷ [])
+
+abbrev pub WholeRunWordsAsk : Type 0
+WholeRunWordsAsk = (program archs packages sources state tracker suite builders outcomes journal : List ℕ) (count : ℕ) → builders_at builders ≡ Some count
+    → AskForRun (asking_for_whole_run program archs packages sources state tracker suite builders outcomes journal)
+    (record { archs = archs; packages = packages; sources = sources; state = Some state; tracker = Some tracker; suite = suite; builders = count; outcomes = Some outcomes; journal = Some journal })

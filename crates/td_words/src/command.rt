@@ -2,7 +2,7 @@ ghost use Rattle.std.specs.Prelude.{◌≡◌, IfOk, codes, false};
 ghost use Rattle.clap.specs.Simple.{app_of, new_shape, shape_of, with_rule};
 ghost use Rattle.clap.specs.declared.builder.command.Command.TheViews.{out-Command};
 ghost use Rattle.clap.specs.Walk.{rule_of};
-ghost use Rattle.td_words.specs.CommandLine.{check_shape, desk, desk_without_tracker, needed_option, option_of, track_shape, waves_shape, with_tracker_rules};
+ghost use Rattle.td_words.specs.CommandLine.{check_shape, desk, desk_without_tracker, needed_option, option_of, run_shape, track_shape, waves_shape, with_archive_rules, with_crew_rules, with_desk_rules, with_tracker_rules};
 
 use clap::{Arg, Command};
 use std::alloc::{AllocError, Global};
@@ -80,6 +80,8 @@ fn check<'a>(alloc: Global) -> Result<Command<'a>, AllocError>
         .arg(file(alloc, "sources", SOURCES))
 }
 
+const STATE: &str = "Rows to put in the place of those that the indices say";
+
 const TRACK: &str = "\
 The files are read whole. Standard output has the report of the rows that the tracker affects:
   tracker TITLE
@@ -125,14 +127,22 @@ fn with_file<'a>(
     command.arg(file(alloc, name, help))
 }
 
+// The same command with the files of an archive.
+fn with_archive<'a>(alloc: Global, command: Command<'a>) -> Result<Command<'a>, AllocError>
+    ensures app { IfOk result (λ c. app_of c ≡ with_archive_rules (app_of command.entry)) }
+    ensures globals { (out-Command command.entry).has_globals ≡ false → IfOk result (λ c. (out-Command c).has_globals ≡ false) }
+{
+    let command = with_file(alloc, command, "archs", ARCHS)?;
+    let command = with_file(alloc, command, "packages", PACKAGES)?;
+    with_file(alloc, command, "sources", SOURCES)
+}
+
 // The same command with the files of a tracker over an archive.
 fn with_tracker<'a>(alloc: Global, command: Command<'a>) -> Result<Command<'a>, AllocError>
     ensures app { IfOk result (λ c. app_of c ≡ with_tracker_rules (app_of command.entry)) }
     ensures globals { (out-Command command.entry).has_globals ≡ false → IfOk result (λ c. (out-Command c).has_globals ≡ false) }
 {
-    let command = with_file(alloc, command, "archs", ARCHS)?;
-    let command = with_file(alloc, command, "packages", PACKAGES)?;
-    let command = with_file(alloc, command, "sources", SOURCES)?;
+    let command = with_archive(alloc, command)?;
     with_file(alloc, command, "tracker", TRACKER)
 }
 
@@ -154,11 +164,65 @@ fn track<'a>(alloc: Global) -> Result<Command<'a>, AllocError>
         .about("Report how far a transition has come, row by row")
         .after_help(TRACK);
     let command = with_tracker(alloc, command)?;
-    let state = "Rows to put in the place of those that the indices say";
     let chunk = "Make the report by N rows at a time, in several threads: 1 to 1000000";
     command
-        .arg(option(alloc, "state", "FILE", state))?
+        .arg(option(alloc, "state", "FILE", STATE))?
         .arg(option(alloc, "chunk", "N", chunk))
+}
+
+const RUN: &str = "\
+The files are read whole, and then the script on standard input, a line for each thing to be done:
+  nmu foo . ANY . unstable . -m \"Rebuild against libbar2\"
+  row foo amd64
+  undo 1
+Standard output has the answer to each line:
+  entry 1 takes foo/amd64 foo/i386
+  foo/amd64 Needs-Build 0 1
+  undone 1
+Nothing is printed where a file, or the script, isn't of its form; standard error names it.
+There are no crews yet: --builders takes 0 alone, and an outcomes file is read and not looked at.
+
+docs/FORMATS.md says exactly what is read and printed, and lists the lines.";
+
+// The same command with what a desk is opened with beside an archive.
+fn with_desk<'a>(alloc: Global, command: Command<'a>) -> Result<Command<'a>, AllocError>
+    ensures app { IfOk result (λ c. app_of c ≡ with_desk_rules (app_of command.entry)) }
+    ensures globals { (out-Command command.entry).has_globals ≡ false → IfOk result (λ c. (out-Command c).has_globals ≡ false) }
+{
+    let suite = "The suite that command lines may name; unstable where none is given";
+    command
+        .arg(option(alloc, "state", "FILE", STATE))?
+        .arg(option(alloc, "tracker", "FILE", TRACKER))?
+        .arg(option(alloc, "suite", "NAME", suite))
+}
+
+// The same command with who builds, and with the journal of an earlier run.
+fn with_crew<'a>(alloc: Global, command: Command<'a>) -> Result<Command<'a>, AllocError>
+    ensures app { IfOk result (λ c. app_of c ≡ with_crew_rules (app_of command.entry)) }
+    ensures globals { (out-Command command.entry).has_globals ≡ false → IfOk result (λ c. (out-Command c).has_globals ≡ false) }
+{
+    let builders = "How many builders there are: 0, since there are no crews yet";
+    let outcomes = "How the builds of each row end";
+    let journal = "The journal to go on with";
+    command
+        .arg(option(alloc, "builders", "N", builders))?
+        .arg(option(alloc, "outcomes", "FILE", outcomes))?
+        .arg(option(alloc, "journal", "FILE", journal))
+}
+
+fn run<'a>(alloc: Global) -> Result<Command<'a>, AllocError>
+    ensures shape { IfOk result (λ c. shape_of c ≡ run_shape) }
+    ensures globals { IfOk result (λ c. (out-Command c).has_globals ≡ false) }
+{
+    let command = Command::new(alloc, "run")
+        .about("Do what a script says over the rows of an archive, and answer each line")
+        .override_usage(
+            "transdesk run [OPTIONS] --archs <FILE> --packages <FILE> --sources <FILE> < SCRIPT",
+        )
+        .after_help(RUN);
+    let command = with_archive(alloc, command)?;
+    let command = with_desk(alloc, command)?;
+    with_crew(alloc, command)
 }
 
 // The program without the subcommands that read a tracker.
@@ -180,5 +244,6 @@ pub(crate) fn command<'a>(alloc: Global) -> Result<Command<'a>, AllocError>
 {
     first_part(alloc)?
         .subcommand(track(alloc)?)?
-        .subcommand(waves(alloc)?)
+        .subcommand(waves(alloc)?)?
+        .subcommand(run(alloc)?)
 }

@@ -2,16 +2,20 @@
 //!
 //! Start at `read_words`. Nothing but this crate knows `clap`, and what it answers is plain data.
 //! Promised: the program's own name and `simulate` ask for the simulation, and words that name
-//! `check` with its three files for that check, unless memory runs out; and no words ask for either
-//! in which `clap` finds a fault (`specs/CommandLine.antt`, over `clap`'s account of a command
+//! another subcommand with its files for just that, unless memory runs out; and no words ask for
+//! any in which `clap` finds a fault (`specs/CommandLine.antt`, over `clap`'s account of a command
 //! line). What is said of other words, help included, is only tested.
 #![tactic(auto)]
 
 mod command;
 mod laws;
 mod request;
+mod run_words;
 #[cfg(test)]
 mod tests;
 
-pub use laws::words_of_a_check_ask_for_it;
+pub use laws::{
+    words_of_a_check_ask_for_it, words_of_a_run_ask_for_it, words_of_a_track_ask_for_it,
+    words_of_waves_ask_for_them,
+};
 pub use request::{Request, WordsFault, read_words};

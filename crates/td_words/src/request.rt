@@ -3,10 +3,11 @@ ghost use Rattle.clap.specs.Values.{kind_of};
 ghost use Rattle.clap.specs.Matches.{found_of};
 ghost use Rattle.clap.specs.Simple.{subcommand_rows_of};
 ghost use Rattle.clap.specs.Walk.{first_of, rows_of};
-ghost use Rattle.td_words.specs.CommandLine.{AskForCheck, AskForTrack, AskForWaves, HasFiles, HasTrack, HasTracker, TrackWords, asking_for, chunk_at, chunk_in as chunk_in_of, name_in, rows_in};
-ghost use Rattle.td_words.specs.Asked.{AreWavesIn, AreWavesOf, Asks, IsCheckIn, IsCheckOf, IsRequestIn, IsTrackIn, IsTrackOf};
+ghost use Rattle.td_words.specs.CommandLine.{AskForCheck, AskForRun, AskForTrack, AskForWaves, HasFiles, HasRun, HasTrack, HasTracker, RunWords, TrackWords, asking_for, chunk_at, chunk_in as chunk_in_of, name_in, rows_in};
+ghost use Rattle.td_words.specs.Asked.{AreWavesIn, AreWavesOf, Asks, IsCheckIn, IsCheckOf, IsRequestIn, IsRunOf, IsTrackIn, IsTrackOf};
 
 use crate::command::command;
+use crate::run_words::run_in;
 use clap::error::ErrorKind;
 use clap::{ArgMatches, Error};
 use std::alloc::{AllocError, Global};
@@ -42,6 +43,18 @@ pub enum Request {
         sources: String,
         tracker: String,
     },
+    /// The script is on standard input, and runs over what stands in these files.
+    Run {
+        archs: String,
+        packages: String,
+        sources: String,
+        state: Option<String>,
+        tracker: Option<String>,
+        suite: String,
+        builders: usize,
+        outcomes: Option<String>,
+        journal: Option<String>,
+    },
 }
 
 /// Why the words ask for nothing that can be done.
@@ -75,8 +88,8 @@ fn fault_of(alloc: Global, error: &Error) -> WordsFault
     }
 }
 
-// What an option was given.
-fn value_in<'a>(matches: &ArgMatches<'a>, name: &str) -> Option<&'a str>
+/// What an option was given.
+pub(crate) fn value_in<'a>(matches: &ArgMatches<'a>, name: &str) -> Option<&'a str>
     ensures { option_map (λ s. s.now) result
         ≡ first_of name.now (rows_of (found_of matches.now)) }
 {
@@ -107,8 +120,12 @@ fn check_in(alloc: Global, matches: &ArgMatches<'_>) -> Result<Request, WordsFau
     })
 }
 
-// The text of an option that is required, so it is there, unless `clap` broke a promise.
-fn needed_in(alloc: Global, matches: &ArgMatches<'_>, name: &str) -> Result<String, WordsFault>
+/// The text of an option that is required, so it is there, unless `clap` broke a promise.
+pub(crate) fn needed_in(
+    alloc: Global,
+    matches: &ArgMatches<'_>,
+    name: &str,
+) -> Result<String, WordsFault>
     ensures text { (text : List ℕ) → first_of name.now (rows_of (found_of matches.now)) ≡ Some text
         → MatchResult result (λ s. string_bytes s ≡ text) (λ e. e ≡ WordsFault.NoMemory) }
     ensures only { IfOk result (λ s. first_of name.now (rows_of (found_of matches.now)) ≡ Some (string_bytes s)) }
@@ -119,8 +136,8 @@ fn needed_in(alloc: Global, matches: &ArgMatches<'_>, name: &str) -> Result<Stri
     }
 }
 
-// The text of an option that may be left out.
-fn given_in(
+/// The text of an option that may be left out.
+pub(crate) fn given_in(
     alloc: Global,
     matches: &ArgMatches<'_>,
     name: &str,
@@ -218,6 +235,10 @@ fn request_in(alloc: Global, matches: &ArgMatches<'_>) -> Result<Request, WordsF
         → name_in (subcommand_rows_of matches.now) ≡ Some (codes "waves")
         → HasTracker (rows_in (subcommand_rows_of matches.now)) archs packages sources tracker
         → MatchResult result (AreWavesOf archs packages sources tracker) (λ e. e ≡ WordsFault.NoMemory) }
+    ensures run { (w : RunWords)
+        → name_in (subcommand_rows_of matches.now) ≡ Some (codes "run")
+        → HasRun (rows_in (subcommand_rows_of matches.now)) w
+        → MatchResult result (IsRunOf w) (λ e. e ≡ WordsFault.NoMemory) }
     ensures only { IfOk result (IsRequestIn (subcommand_rows_of matches.now)) }
 {
     match matches.subcommand() {
@@ -225,6 +246,7 @@ fn request_in(alloc: Global, matches: &ArgMatches<'_>) -> Result<Request, WordsF
         Some((name, options)) if name == "check" => check_in(alloc, options),
         Some((name, options)) if name == "track" => track_in(alloc, options),
         Some((name, options)) if name == "waves" => waves_in(alloc, options),
+        Some((name, options)) if name == "run" => run_in(alloc, options),
         _ => Err(WordsFault::Usage(String::new(alloc))),
     }
 }
@@ -246,6 +268,9 @@ pub fn read_words(alloc: Global, words: &[String]) -> Result<Request, WordsFault
     ensures waves { (archs packages sources tracker : List ℕ)
         → AskForWaves (map string_bytes words.now) archs packages sources tracker
         → MatchResult result (AreWavesOf archs packages sources tracker) (λ e. e ≡ WordsFault.NoMemory) }
+    // And words that ask for a run.
+    ensures run { (w : RunWords) → AskForRun (map string_bytes words.now) w
+        → MatchResult result (IsRunOf w) (λ e. e ≡ WordsFault.NoMemory) }
     // Words that are answered are without fault, and name what they are answered by.
     ensures only { IfOk result (Asks (map string_bytes words.now)) }
 {

@@ -106,6 +106,60 @@ fn waves_are_asked_for_with_four_files(rt: HostRuntime) -> Result<(), Fail> {
     Ok(())
 }
 
+// What `run` was given, in the order of its help; `-` where nothing was.
+fn run_of(alloc: Global, line: &str) -> Result<String, WordsFault> {
+    let Request::Run {
+        archs,
+        packages,
+        sources,
+        state,
+        tracker,
+        suite,
+        builders,
+        outcomes,
+        journal,
+    } = read_words(alloc, &words(alloc, line)?)?
+    else {
+        return Ok(String::new(alloc));
+    };
+    let text = format!(in alloc;
+        "{archs} {packages} {sources} {} {} {suite} {builders} {} {}",
+        or_dash(&state),
+        or_dash(&tracker),
+        or_dash(&outcomes),
+        or_dash(&journal)
+    )?;
+    Ok(text)
+}
+
+fn or_dash(text: &Option<String>) -> &str {
+    match text {
+        Some(text) => text.as_str(),
+        None => "-",
+    }
+}
+
+#[test]
+fn a_run_is_asked_for_with_three_files_or_more(rt: HostRuntime) -> Result<(), Fail> {
+    for (line, given) in [
+        (
+            "transdesk run --archs a --packages p --sources s",
+            "a p s - - unstable 0 - -",
+        ),
+        (
+            "transdesk run --suite sid --archs a --packages=p --sources s --journal j",
+            "a p s - - sid 0 - j",
+        ),
+        (
+            "transdesk run --archs a --packages p --sources s --state r --tracker t --suite x --builders 0 --outcomes o --journal j",
+            "a p s r t x 0 o j",
+        ),
+    ] {
+        assert_eq!(rt; run_of(rt.alloc(), line)?.as_str(), given, "{line}");
+    }
+    Ok(())
+}
+
 // Help and the version are answered by their texts, as a bad command line is by its fault.
 #[test]
 fn other_words_are_answered_by_a_text(rt: HostRuntime) -> Result<(), Fail> {
@@ -176,7 +230,26 @@ fn other_words_are_answered_by_a_text(rt: HostRuntime) -> Result<(), Fail> {
             "Report how far a transition has come",
         ),
         ("transdesk waves --help", "List the sources of a transition"),
-        ("transdesk run", "error: unrecognized subcommand 'run'"),
+        (
+            "transdesk run --archs a --packages p",
+            "error: the following required arguments were not provided:\n  --sources <FILE>\n",
+        ),
+        (
+            "transdesk run --archs a --packages p --sources s --builders 1",
+            "error: --builders takes 0, since there are no crews yet\n",
+        ),
+        (
+            "transdesk run --archs a --packages p --sources s --builders 00",
+            "error: --builders takes 0, since there are no crews yet\n",
+        ),
+        (
+            "transdesk run --archs a --packages p --sources s --suite x --suite y",
+            "error: the argument '--suite <NAME>' cannot be used multiple times",
+        ),
+        (
+            "transdesk run --help",
+            "Do what a script says over the rows",
+        ),
     ] {
         let text = usage(rt.alloc(), line)?;
         assert!(rt; text.as_str().starts_with(front), "{line}: {text}");
@@ -193,6 +266,7 @@ fn help_has_the_statuses(rt: HostRuntime) -> Result<(), Fail> {
         "  check  ",
         "  track  ",
         "  waves  ",
+        "  run  ",
         "Exit status:\n  0  done\n  1  something was refused",
         "\n  2  bad input\n  3  bad command line, or a call for help\n",
         "\n  4  want of memory\n  5  a read or a write failed\n",

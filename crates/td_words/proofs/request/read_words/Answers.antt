@@ -4,7 +4,7 @@ use Rattle.clap.specs.Kinds.{HasKind}
 use Rattle.clap.specs.Faults.{fault_of, is_simple_and_free}
 use Rattle.clap.specs.Simple.{HasMatchesOf, subcommand_rows_of}
 use Rattle.clap.specs.Takes.{takes}
-use Rattle.td_words.specs.CommandLine.{asked_of, name_in, rows_in, HasFiles, HasTrack, HasTracker}
+use Rattle.td_words.specs.CommandLine.{asked_of, name_in, rows_in, HasFiles, HasRun, HasTrack, HasTracker}
 use Rattle.td_words.specs.Asked.{IsRequestIn, Asks}
 use Rattle.td_words.specs.declared.request.Request.TheVariants.{Simulate}
 use Rattle.td_words.specs.declared.request.WordsFault.TheVariants.{NoMemory}
@@ -72,6 +72,20 @@ returns-in-Err-clause-track c w asking =
 
 pub returns-in-Err-clause-waves : goal.returns-in-Err-clause-waves
 returns-in-Err-clause-waves c archs packages sources tracker asking =
+    let texts = map string_bytes c.args.words.now in
+    let kinds = subst (λ a. is_simple_and_free a ≡ true → HasKind (fault_of a texts) c.in-Err.error) c.in_ok-command.ensures c.in-Err.ensures.kinds in
+    c.fault_of.ensures (no_kind c.in-Err.error (subst (λ k. HasKind k c.in-Err.error) asking.0.0 (kinds is_plain)))
+
+pub returns-in-Ok-clause-run : goal.returns-in-Ok-clause-run
+returns-in-Ok-clause-run c w asking =
+    let m = c.in-Ok.matches in
+    let texts = map string_bytes c.args.words.now in
+    let has = subst (λ a. HasMatchesOf a texts m) c.in_ok-command.ensures c.in-Ok.ensures.matches in
+    let rows = rows_are_asked m texts has in
+    c.request_in.ensures.run w (ap name_in rows ∙ asking.0.1) (subst (λ o. HasRun (rows_in o) w) (sym rows) asking.1)
+
+pub returns-in-Err-clause-run : goal.returns-in-Err-clause-run
+returns-in-Err-clause-run c w asking =
     let texts = map string_bytes c.args.words.now in
     let kinds = subst (λ a. is_simple_and_free a ≡ true → HasKind (fault_of a texts) c.in-Err.error) c.in_ok-command.ensures c.in-Err.ensures.kinds in
     c.fault_of.ensures (no_kind c.in-Err.error (subst (λ k. HasKind k c.in-Err.error) asking.0.0 (kinds is_plain)))

@@ -1,5 +1,5 @@
 use Rattle.std.proofs.Common.{subst}
-use Rattle.td_words.specs.CommandLine.{HasFiles, HasTrack, HasTracker}
+use Rattle.td_words.specs.CommandLine.{HasFiles, HasRun, HasTrack, HasTracker}
 use Rattle.td_words.proofs.Asking.{rows_of_matches}
 use Rattle.td_words.proofs.request.request_in.Goals as goal
 
@@ -17,3 +17,8 @@ pub returns-in-Some-4-clause-waves : goal.returns-in-Some-4-clause-waves
 returns-in-Some-4-clause-waves c archs packages sources tracker named has =
     c.waves_in.ensures.waves archs packages sources tracker
     (subst (λ options. HasTracker options archs packages sources tracker) (rows_of_matches c.args.matches.now c.subcommand.result _ c.in-Some.is c.subcommand.ensures.rows) has)
+
+pub returns-in-Some-5-clause-run : goal.returns-in-Some-5-clause-run
+returns-in-Some-5-clause-run c w named has =
+    c.run_in.ensures.run w
+    (subst (λ options. HasRun options w) (rows_of_matches c.args.matches.now c.subcommand.result _ c.in-Some.is c.subcommand.ensures.rows) has)

@@ -1,0 +1,8 @@
+use Rattle.td_words.proofs.Asking.{asks_for_plain_run, asks_for_whole_run}
+use Rattle.td_words.proofs.laws.words_of_a_run_ask_for_it.Goals as goal
+
+pub returns-clause-plain : goal.returns-clause-plain
+returns-clause-plain c = asks_for_plain_run
+
+pub returns-clause-whole : goal.returns-clause-whole
+returns-clause-whole c = asks_for_whole_run
