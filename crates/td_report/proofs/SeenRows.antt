@@ -1,5 +1,5 @@
 -- A report of rows is the same wherever they lie.
-use Rattle.std.proofs.Common.{◌≡◌, ◌+◌, ◌==◌, ◌++◌, ◌∷◌, [], ℕ, Bool, true, false, List, None, map, filter, length, count_by, codes, decimal, refl, sym, ap, ◌∙◌, inl, inr, arith, if◌then◌else◌}
+use Rattle.std.proofs.Common.{◌≡◌, ◌+◌, ◌==◌, ◌++◌, ◌∷◌, [], ℕ, Bool, true, false, List, Some, None, map, filter, length, count_by, codes, decimal, refl, sym, ap, ◌∙◌, inl, inr, arith, if◌then◌else◌}
 use Rattle.std.specs.List.{flat_map, range_with_len, sum_by}
 use Rattle.std.proofs.lemmas.Bool.{cases_Bool}
 use Rattle.std.proofs.lemmas.Grind.{flat_map-append}
@@ -10,9 +10,9 @@ use Rattle.td_waves.specs.declared.level.Level.TheVariants.{At, Cyclic}
 use Rattle.td_report.specs.declared.item.Item.{Item}
 use Rattle.td_query.specs.declared.status.Status.{Status}
 use Rattle.td_query.specs.declared.status.Status.TheVariants.{Good, Bad, Partial, Unknown}
-use Rattle.td_report.specs.Report.{AffectedRow, each_once, head_line, level_words, levels, row_line, title_line}
+use Rattle.td_report.specs.Report.{AffectedRow, AreInstalledCounts, each_once, head_line, level_words, levels, row_line, title_line}
 use Rattle.td_report.specs.Report as report
-use Rattle.td_report.specs.ItemLines.{block_at, block_of, blocks, last_line, report_lines, seen, wave_at, wave_of, waves}
+use Rattle.td_report.specs.ItemLines.{AreCountsOf, block_at, block_of, blocks, installed_at, last_line, report_lines, seen, wave_at, wave_of, waves}
 
 filter-map : {A B : Type 0} (f : A → B) (test : B → Bool) (xs : List A) → filter test (map f xs) ≡ map f (filter (λ x. test (f x)) xs)
 filter-map f test [] = refl
@@ -44,6 +44,17 @@ same-blocks f g same (l ∷ ls) = ap (λ (b : List (List ℕ)). b ++ flat_map f 
 
 blocks-seen : (depth : ℕ) (items : List Item) → flat_map (report.block_at (map seen items)) (levels depth) ≡ blocks depth items
 blocks-seen depth items = same-blocks (report.block_at (map seen items)) (block_at items) (block_at-seen items) (levels depth)
+
+installed-seen : (items : List Item) (level : Level) → report.installed_at (map seen items) level ≡ installed_at items level
+installed-seen items level =
+    ap (count_by report.is_installed) (filter-map seen (report.stands_at level) items) ∙ count-map seen report.is_installed (filter (λ x. report.stands_at level (seen x)) items)
+
+-- what is kept of rows is kept of them where they lie
+pub kept-seen : (depth : ℕ) (rows : List AffectedRow) (items : List Item) (kept : List ℕ) → map seen items ≡ rows → AreInstalledCounts depth rows kept → AreCountsOf depth items kept
+kept-seen depth rows items kept are is = record {
+  of_level = λ n lt. is.of_level n lt ∙ ap Some (ap (λ l. report.installed_at l (At (n + 1))) (sym are) ∙ installed-seen items (At (n + 1)));
+  of_cyclic = is.of_cyclic ∙ ap Some (ap (λ l. report.installed_at l Cyclic) (sym are) ∙ installed-seen items Cyclic);
+}
 
 last-seen : (items : List Item) → report.last_line (map seen items) ≡ last_line items
 last-seen items = rw (length-map, count-map seen (report.has_status Good) items, count-map seen (report.has_status Bad) items, count-map seen (report.has_status Partial) items, count-map seen (report.has_status Unknown) items) refl

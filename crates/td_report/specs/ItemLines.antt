@@ -1,5 +1,5 @@
 -- The lines of a report over rows where they lie in memory.
-use Rattle.std.specs.Prelude.{ℕ, ◌==◌, ◌∷◌, ◌++◌, [], List, Bool, None, map, filter, length, count_by, codes, decimal, if◌then◌else◌}
+use Rattle.std.specs.Prelude.{◌≡◌, ℕ, ◌+◌, ◌<◌, ◌==◌, ◌∷◌, ◌++◌, [], List, Bool, Some, None, map, filter, length, count_by, slice_get, codes, decimal, if◌then◌else◌}
 use Rattle.std.specs.List.{flat_map, range_with_len}
 use Rattle.td_waves.specs.declared.level.Level.{Level}
 use Rattle.td_waves.specs.declared.level.Level.TheVariants.{At, Cyclic}
@@ -44,6 +44,15 @@ blocks depth items = flat_map (block_at items) (levels depth)
 
 abbrev pub report_lines : List ℕ → ℕ → List Item → List (List ℕ)
 report_lines title depth items = title_line title ∷ (blocks depth items ++ last_line items ∷ [])
+
+-- how many at a level are Installed
+abbrev pub installed_at : List Item → Level → ℕ
+installed_at items level = count_by is_installed (filter (stands_at level) items)
+
+-- their counts by group
+pub record AreCountsOf (depth : ℕ) (items : List Item) (kept : List ℕ) : Type 0 where
+  pub of_level : (n : ℕ) → n < depth → slice_get kept n ≡ Some (installed_at items (At (n + 1)))
+  pub of_cyclic : slice_get kept depth ≡ Some (installed_at items Cyclic)
 
 -- ---- waves
 

@@ -2,7 +2,8 @@
 //!
 //! Start at `Transition::of`, which asks a tracker about an archive; `Transition::report` is the text.
 //! `specs/Report.antt` says what its lines are, `specs/Transition.antt` of which rows.
-//! Promised: the text is that of these lines, made in one piece or by chunks in several threads; an
+//! Promised: the text is that of these lines, made in one piece, by chunks in several
+//! threads, or by counts of Installed rows that are kept; an
 //! affected row stands under the level of its source, in the order of the keys.
 #![tactic(auto)]
 
@@ -10,6 +11,7 @@ mod counting;
 mod grouping;
 mod item;
 mod item_line;
+mod keeping;
 mod piece;
 mod splitting;
 mod transition;

@@ -1,6 +1,7 @@
 //! A tracker over an archive, and what is told of it.
 
 use crate::item::Item;
+use crate::keeping::kept_text;
 use crate::splitting::split_text;
 use crate::waves_text::waves_text;
 use crate::whole::report_text;
@@ -69,6 +70,13 @@ impl<'b, 't, 'a, 'q> Transition<'b, 't, 'a, 'q> {
         self.waves.level(source)
     }
 
+    /// How many levels there are, without what is cyclic.
+    pub fn depth(&self) -> usize
+        ensures { result ≡ of.depth_of self.now }
+    {
+        self.waves.depth()
+    }
+
     // What is said of the row with a number.
     fn item_at<'r>(&self, rows: &'r Rows, number: usize) -> Option<Item<'r>>
         requires { of.IsMade self.now }
@@ -123,6 +131,26 @@ impl<'b, 't, 'a, 'q> Transition<'b, 't, 'a, 'q> {
         let items = self.items(alloc, rows)?;
         let depth = self.waves.depth();
         split_text(rt, alloc, self.tracker.title(), depth, &items, chunk)
+    }
+
+    /// The same text, where it is known how many rows of each level are Installed: that of level k
+    /// has number k - 1, and that of what is cyclic number `depth`. They aren't counted anew.
+    pub fn report_kept(
+        &self,
+        rt: &(impl Threads + Sync),
+        alloc: Global,
+        rows: &Rows,
+        kept: &[usize],
+        chunk: usize,
+    ) -> Result<String, AllocError>
+        requires made { of.IsMade self.now }
+        requires kept { of.AreKept self.now rows.now kept.now }
+        requires chunk { 1 ≤ chunk }
+        ensures { IfOk result (λ text. IsReport (of.contents_of self.now) (of.tracking_of self.now) rows.now (string_bytes text)) }
+    {
+        let items = self.items(alloc, rows)?;
+        let depth = self.waves.depth();
+        kept_text(rt, alloc, self.tracker.title(), depth, &items, kept, chunk)
     }
 
     /// The affected sources of the rows, by level.

@@ -1,0 +1,7 @@
+use Rattle.std.proofs.Common.{◌≡◌, take, string_bytes}
+use Rattle.td_report.specs.Pieces.{lines_text}
+use Rattle.td_report.proofs.keeping.lines_of.Given as goal
+
+-- the lines so far
+abbrev pub invariant-loop-item : goal.invariant-loop-item
+invariant-loop-item l = string_bytes l.text ≡ lines_text (take l.item-index l.items)
