@@ -1,5 +1,5 @@
 -- What chunks have side by side is what the whole has.
-use Rattle.std.proofs.Common.{◌≡◌, ℕ, ◌<◌, ◌≤◌, ◌+◌, List, [], ◌∷◌, ◌++◌, map, refl, sym, ap, ◌∙◌, Result, Ok, Err, count_by, cond, Bool, arith}
+use Rattle.std.proofs.Common.{◌≡◌, ℕ, ◌+◌, List, [], ◌∷◌, ◌++◌, map, refl, sym, ap, ◌∙◌, Result, Ok, Err, count_by, cond, Bool, arith}
 use Rattle.std.specs.Prelude.{MatchResult, IfOk}
 use Rattle.std.specs.List.{AllZip, flat_map, sum_by}
 use Rattle.std.proofs.lemmas.List.Sums.{sum_by-cons, sum_by-append}

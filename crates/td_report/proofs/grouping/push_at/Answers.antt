@@ -1,5 +1,4 @@
-use Rattle.std.proofs.Common.{◌≡◌, ◌+◌, ◌-◌, ◌<◌, ◌++◌, ◌∷◌, [], Bool, List, length, ap, ◌∙◌, if◌then◌else◌, arith}
-use Rattle.td_report.specs.declared.item.Item.{Item}
+use Rattle.std.proofs.Common.{◌-◌, ◌<◌, ◌++◌, ◌∷◌, [], Bool, length, ap, ◌∙◌, if◌then◌else◌, arith}
 use Rattle.td_report.specs.Grouped.{list_at}
 use Rattle.td_report.proofs.Lists.{list_at-push, same_number}
 use Rattle.td_report.proofs.grouping.push_at.Goals as goal

@@ -1,4 +1,4 @@
-use Rattle.std.proofs.Common.{◌≡◌, ◌<◌, ℕ, List, max, refl, ap, subst, ◌∙◌, string_bytes, count_by, rules}
+use Rattle.std.proofs.Common.{◌<◌, max, refl, ap, subst, ◌∙◌, string_bytes, count_by, rules}
 use Rattle.std.specs.List.{flat_map, AllZip, sum_by}
 use Rattle.rayon.specs.Lists.{chunks_of}
 use Rattle.rayon.proofs.ToStd.{chunks_of-concat}

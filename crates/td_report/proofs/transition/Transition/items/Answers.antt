@@ -1,4 +1,4 @@
-use Rattle.std.proofs.Common.{◌≡◌, ◌<◌, ap, ◌∙◌, map, length, arith}
+use Rattle.std.proofs.Common.{◌<◌, ap, ◌∙◌, map, length, arith}
 use Rattle.td_report.specs.ItemLines.{seen}
 use Rattle.td_report.specs.Transition.{affected_row}
 use Rattle.td_report.specs.TransitionView.{contents_of, level_of, tracking_of}
