@@ -181,6 +181,7 @@ Standard output has the answer to each line:
   undone 1
 Nothing is printed where a file, or the script, isn't of its form; standard error names it.
 There are no crews yet: --builders takes 0 alone, and an outcomes file is read and not looked at.
+Nor can a run go on with a journal yet: --journal is refused.
 
 docs/FORMATS.md says exactly what is read and printed, and lists the lines.";
 
@@ -203,7 +204,7 @@ fn with_crew<'a>(alloc: Global, command: Command<'a>) -> Result<Command<'a>, All
 {
     let builders = "How many builders there are: 0, since there are no crews yet";
     let outcomes = "How the builds of each row end";
-    let journal = "The journal to go on with";
+    let journal = "The journal to go on with; refused, since no run does so yet";
     command
         .arg(option(alloc, "builders", "N", builders))?
         .arg(option(alloc, "outcomes", "FILE", outcomes))?
