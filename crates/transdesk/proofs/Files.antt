@@ -10,7 +10,7 @@ use Rattle.td_indices.specs.declared.archive_fault.ArchiveFault.TheVariants as a
 use Rattle.transdesk.specs.declared.file_texts.FileTexts.{FileTexts}
 use Rattle.transdesk.specs.declared.file_texts.FileFault.{FileFault}
 use Rattle.transdesk.specs.declared.role.Role.{Role}
-use Rattle.transdesk.specs.declared.role.Role.TheVariants.{Input, Archs, Packages, Sources, State, Tracker}
+use Rattle.transdesk.specs.declared.role.Role.TheVariants.{Input, Archs, Packages, Sources, State, Tracker, Outcomes, Journal}
 use Rattle.transdesk.specs.declared.input_fault.InputFault.{InputFault}
 use Rattle.transdesk.specs.declared.input_fault.InputFault.TheVariants.{TooLong, NotText, Simulation, Table, Archive}
 use Rattle.transdesk.specs.declared.input_fault.InputFault.TheVariants as fault
@@ -48,6 +48,8 @@ no_such_text files Archs c failed known = (subst IsNoText known.known_archs fail
 no_such_text files Packages c failed known = (subst IsNoText known.known_packages failed.fits).1 known.packages_text.1
 no_such_text files State c failed known = failed.before
 no_such_text files Tracker c failed known = failed.before
+no_such_text files Outcomes c failed known = failed.before
+no_such_text files Journal c failed known = failed.before
 no_such_text files Sources c failed known = (subst IsNoText known.known_sources failed.fits).1 known.sources_text.1
 
 unread : (files : Files) (old new : Option (List ℕ)) (role : Role) (e : TextFault) → HasFailed files role e → Keeps old new → Checks files old new (ending_of_file role e)

@@ -5,3 +5,4 @@ pub mod Files
 pub mod Counting
 pub mod Asks
 pub mod Told
+pub mod Sure

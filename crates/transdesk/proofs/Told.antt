@@ -21,7 +21,7 @@ use Rattle.td_indices.specs.Archive.{Contents, IsArchive}
 use Rattle.td_query.specs.Tracking.{IsTracker, Tracking}
 use Rattle.transdesk.specs.declared.file_texts.FileFault.{FileFault}
 use Rattle.transdesk.specs.declared.role.Role.{Role}
-use Rattle.transdesk.specs.declared.role.Role.TheVariants.{Input, Archs, Packages, Sources, State, Tracker}
+use Rattle.transdesk.specs.declared.role.Role.TheVariants.{Input, Archs, Packages, Sources, State, Tracker, Outcomes, Journal}
 use Rattle.td_bytes.specs.declared.text.TextFault.{TextFault}
 use Rattle.transdesk.specs.declared.ending.Ending.{Ending}
 use Rattle.transdesk.specs.declared.ending.Ending.TheVariants.{NoMemory}
@@ -41,6 +41,8 @@ first_fails files Packages e failed = failed
 first_fails files Sources e failed = failed
 first_fails files State e failed = absurd failed.before
 first_fails files Tracker e failed = absurd failed.before
+first_fails files Outcomes e failed = absurd failed.before
+first_fails files Journal e failed = absurd failed.before
 
 pub fails_first : (files : TrackFiles) (f : FileFault) → HasFailedIn files.indices f → HasFailedAt files f
 fails_first files f failed = first_fails files f.role f.fault failed
@@ -66,21 +68,6 @@ archive_of a p s t c is_table is = record {
   is_table = subst (IsTable (lines_of a)) (sym is.same_table) is_table;
   is_archive = subst (λ x. IsArchive x (lines_of p) (lines_of s) c) (sym is.same_table) is;
 }
-
--- ---- the whole
-
-pub ends_unread : (Says : Saying) (files : TrackFiles) (f : FileFault) (old new : Option (List ℕ)) (ending : Ending) → HasFailedAt files f → ending ≡ ending_of_file f.role f.fault → Keeps old new
-    → EndsSo Says files old new ending
-ends_unread Says files f old new ending failed is kept = inr (inl ((f.role, f.fault, failed, is), kept))
-
-pub ends_read : (Says : Saying) (files : TrackFiles) (x : Texts) (r : Result (String Global) Ending) (old new : Option (List ℕ)) (ending : Ending) → AreTextsOf files x
-    → IfOk r (λ text. TextsSayIt Says x (string_bytes text)) → IfErr r (OrMemory (AreRefused x))
-    → IfOk r (λ text. WritesSo (string_bytes text) old new ending) → IfErr r (λ e. EndsUnwritten e old new ending) → EndsSo Says files old new ending
-ends_read Says files x (Ok text) old new ending texts says refused writes unwritten = inr (inr (x, texts, inr (string_bytes text, says, writes)))
-ends_read Says files x (Err e) old new ending texts says refused writes unwritten = elim refused [
-  | inl bad ↦ inr (inr (x, texts, inl (subst (AreRefused x) (sym unwritten.ends) bad, unwritten.kept)))
-  | inr memory ↦ inl (unwritten.ends ∙ memory, unwritten.kept)
-]
 
 -- ---- what is found, layer by layer
 

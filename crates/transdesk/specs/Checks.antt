@@ -16,7 +16,7 @@ use Rattle.td_indices.specs.declared.archive_fault.ArchiveFault.{ArchiveFault}
 use Rattle.td_indices.specs.declared.archive_fault.ArchiveFault.TheVariants as archive
 use Rattle.transdesk.specs.Limits.{file_limit}
 use Rattle.transdesk.specs.declared.role.Role.{Role}
-use Rattle.transdesk.specs.declared.role.Role.TheVariants.{Input, Archs, Packages, Sources, State, Tracker}
+use Rattle.transdesk.specs.declared.role.Role.TheVariants.{Input, Archs, Packages, Sources, State, Tracker, Outcomes, Journal}
 use Rattle.transdesk.specs.Roles.{role_of_fault}
 use Rattle.transdesk.specs.declared.input_fault.InputFault.{InputFault}
 use Rattle.transdesk.specs.declared.input_fault.InputFault.TheVariants.{TooLong, NotText, Simulation, Table, Archive}
@@ -42,6 +42,8 @@ failing can_fail archs packages sources Packages fault = can_fail packages fault
 failing can_fail archs packages sources Sources fault = can_fail sources fault
 failing can_fail archs packages sources State fault = false
 failing can_fail archs packages sources Tracker fault = false
+failing can_fail archs packages sources Outcomes fault = false
+failing can_fail archs packages sources Journal fault = false
 
 -- those of three paths
 abbrev pub files_of : (List ℕ → Option (List ℕ)) → (List ℕ → TextFault → Bool) → List ℕ → List ℕ → List ℕ → Files
@@ -56,6 +58,8 @@ known_of files Packages = files.in_packages
 known_of files Sources = files.in_sources
 known_of files State = None
 known_of files Tracker = None
+known_of files Outcomes = None
+known_of files Journal = None
 
 -- a text that is read from a file: within the limit, and UTF-8
 abbrev pub IsFileText : List ℕ → Type 0
@@ -89,6 +93,8 @@ AreTextsBefore files Archs = Unit {0}
 AreTextsBefore files Packages = (archs : List ℕ) × IsTextOf files.in_archs archs
 AreTextsBefore files State = ⊥
 AreTextsBefore files Tracker = ⊥
+AreTextsBefore files Outcomes = ⊥
+AreTextsBefore files Journal = ⊥
 AreTextsBefore files Sources = (archs : List ℕ) × (packages : List ℕ) × IsTextOf files.in_archs archs × IsTextOf files.in_packages packages
 
 -- bytes within the limit that are no text

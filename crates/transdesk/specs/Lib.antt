@@ -9,4 +9,6 @@ pub mod Checks
 pub mod CheckInside
 pub mod Tracks
 pub mod TrackInside
+pub mod Runs
+pub mod RunInside
 pub mod Program

@@ -6,16 +6,18 @@ use Rattle.std.specs.Io.KnownBytes.{Keeps}
 use Rattle.td_bytes.specs.Pieces.{AppendsPrefix}
 use Rattle.td_bytes.specs.declared.text.TextFault.{TextFault}
 use Rattle.td_words.specs.declared.request.Request.{Request}
-use Rattle.td_words.specs.declared.request.Request.TheVariants.{Simulate, Check, Track, Waves}
+use Rattle.td_words.specs.declared.request.Request.TheVariants.{Simulate, Check, Track, Waves, Run}
 use Rattle.td_words.specs.declared.request.WordsFault.{WordsFault}
 use Rattle.td_words.specs.declared.request.WordsFault.TheVariants as words_fault
 use Rattle.td_report.specs.Transition.{IsReport, IsWaves}
+use Rattle.td_words.specs.Asked.{run_words}
 use Rattle.td_words.specs.CommandLine.{AskFor, TrackWords}
 use Rattle.transdesk.specs.declared.ending.Ending.TheVariants.{NoMemory}
 use Rattle.transdesk.specs.Ending.{line_of}
 use Rattle.transdesk.specs.Ends.{Ends}
 use Rattle.transdesk.specs.Checks.{Checks, files_of}
 use Rattle.transdesk.specs.Tracks.{EndsSo, TrackFiles, track_files}
+use Rattle.transdesk.specs.Runs.{EndsRun, RunFiles, run_files_asked}
 use Rattle.transdesk.specs.Ran.{Ran}
 
 -- ---- 1. words that ask for nothing
@@ -57,7 +59,7 @@ TellsSome said_before said status = ((text : List ℕ) × IsBadWords text said_b
 
 -- nothing is wrong with the words, and they name one of the subcommands
 abbrev pub AsksForOne : List (List ℕ) → Type 0
-AsksForOne words = AskFor (codes "simulate") words ⊎ (AskFor (codes "check") words ⊎ (AskFor (codes "track") words ⊎ AskFor (codes "waves") words))
+AsksForOne words = AskFor (codes "simulate") words ⊎ (AskFor (codes "check") words ⊎ (AskFor (codes "track") words ⊎ (AskFor (codes "waves") words ⊎ AskFor (codes "run") words)))
 
 -- the files of which a report is asked for
 abbrev pub files_asked : (List ℕ → Option (List ℕ)) → (List ℕ → TextFault → Bool) → TrackWords → TrackFiles
@@ -72,13 +74,16 @@ RanFor (Track archs packages sources tracker state chunk) known bytes can_fail o
     Ran (EndsSo IsReport (track_files bytes can_fail (string_bytes archs) (string_bytes packages) (string_bytes sources) (option_map string_bytes state) (string_bytes tracker)) old new) said_before said status
 RanFor (Waves archs packages sources tracker) known bytes can_fail old new said_before said status =
     Ran (EndsSo IsWaves (track_files bytes can_fail (string_bytes archs) (string_bytes packages) (string_bytes sources) None (string_bytes tracker)) old new) said_before said status
+RanFor (Run archs packages sources state tracker suite builders outcomes journal) known bytes can_fail old new said_before said status =
+    Ran (EndsRun (run_files_asked bytes can_fail (run_words archs packages sources state tracker suite builders outcomes journal)) (string_bytes suite) known old new) said_before said status
 
--- a simulation ran, or a check of some three files, or what a tracker says of some files was told
+-- a simulation ran, or a check of some three files, or what a tracker says of some files was told, or a script ran over some files
 abbrev pub RanOne : Option (List ℕ) → (List ℕ → Option (List ℕ)) → (List ℕ → TextFault → Bool) → Option (List ℕ) → Option (List ℕ) → Option (List ℕ) → Option (List ℕ) → ℕ → Type 0
 RanOne known bytes can_fail old new said_before said status =
     Ran (Ends known old new) said_before said status
     ⊎ (((archs : List ℕ) × (packages : List ℕ) × (sources : List ℕ) × Ran (Checks (files_of bytes can_fail archs packages sources) old new) said_before said status)
-    ⊎ ((files : TrackFiles) × (Ran (EndsSo IsReport files old new) said_before said status ⊎ Ran (EndsSo IsWaves files old new) said_before said status)))
+    ⊎ (((files : TrackFiles) × (Ran (EndsSo IsReport files old new) said_before said status ⊎ Ran (EndsSo IsWaves files old new) said_before said status))
+    ⊎ ((files : RunFiles) × (suite : List ℕ) × Ran (EndsRun files suite known old new) said_before said status)))
 
 -- they ran it; all else is told, and writes nothing
 abbrev pub OnlyIfAsked : List (List ℕ) → Option (List ℕ) → (List ℕ → Option (List ℕ)) → (List ℕ → TextFault → Bool) → Option (List ℕ) → Option (List ℕ) → Option (List ℕ) → Option (List ℕ) → ℕ → Type 0

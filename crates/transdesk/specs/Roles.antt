@@ -5,7 +5,7 @@ use Rattle.td_indices.specs.declared.archive_fault.IndexFile.TheVariants as file
 use Rattle.td_indices.specs.declared.archive_fault.ArchiveFault.{ArchiveFault}
 use Rattle.td_indices.specs.declared.archive_fault.ArchiveFault.TheVariants as archive
 use Rattle.transdesk.specs.declared.role.Role.{Role}
-use Rattle.transdesk.specs.declared.role.Role.TheVariants.{Input, Archs, Packages, Sources, State, Tracker}
+use Rattle.transdesk.specs.declared.role.Role.TheVariants.{Input, Archs, Packages, Sources, State, Tracker, Outcomes, Journal}
 
 -- the words in front of a fault
 abbrev pub label_of : Role → List ℕ
@@ -15,6 +15,8 @@ label_of Packages = codes "packages: "
 label_of Sources = codes "sources: "
 label_of State = codes "state: "
 label_of Tracker = codes "tracker: "
+label_of Outcomes = codes "outcomes: "
+label_of Journal = codes "journal: "
 
 -- the role of one of the two indices
 abbrev pub role_of_file : IndexFile → Role

@@ -23,7 +23,7 @@ use Rattle.transdesk.specs.declared.tracking.Asked.TheVariants.{Report, Waves}
 use Rattle.transdesk.specs.declared.ending.Ending.{Ending}
 use Rattle.transdesk.specs.declared.ending.Ending.TheVariants.{NoMemory}
 use Rattle.transdesk.specs.Limits.{file_limit}
-use Rattle.transdesk.specs.Tracks.{AreTextsOf, FailsAt, IsNoState, IsRefusedOver, MayFail, OneFile, RowsSay, Saying, Texts, TrackFiles, track_files}
+use Rattle.transdesk.specs.Tracks.{AreTextsOf, FailsAt, IsNoState, IsReadableOver, IsRefusedOver, MayFail, OneFile, RowsSay, Saying, Texts, TrackFiles, track_files}
 
 -- what is told of a tracker
 abbrev pub saying_of : Asked → Saying
@@ -83,6 +83,10 @@ LacksOneOf opened text ending =
 abbrev pub IsRefusedFor : Table → List ℕ → Ending → Type 0
 IsRefusedFor opened text ending = IsNoState text ending ⊎ LacksOneOf opened text ending
 
+-- the text is a state file, each row of which these rows have
+abbrev pub CanReplace : Table → List ℕ → Type 0
+CanReplace opened text = (given : Table) × IsStateFile (lines_of text) given × ((k : Key) → first_missing opened given ≡ Some k → ⊥)
+
 -- ---- the indices with a table
 
 abbrev pub IndicesSay : Saying → List ArchWords → Texts → List ℕ → Type 0
@@ -92,3 +96,7 @@ abbrev pub AreRefusedWith : List ArchWords → Texts → Ending → Type 0
 AreRefusedWith t x ending =
     ((e : ArchiveFault) × archive_file.FaultOf t (lines_of x.packages) (lines_of x.sources) e × (ending ≡ ending_of_archive e))
     ⊎ ((c : Contents) × IsArchive t (lines_of x.packages) (lines_of x.sources) c × IsRefusedOver c x.state x.tracker ending)
+
+-- the texts are readable with this table
+abbrev pub AreReadableWith : List ArchWords → Texts → Type 0
+AreReadableWith t x = (c : Contents) × IsArchive t (lines_of x.packages) (lines_of x.sources) c × IsReadableOver c x.state x.tracker

@@ -1,6 +1,7 @@
 -- What `track` and `waves` leave on standard output, as they end. This project's own.
-use Rattle.std.specs.Prelude.{◌≡◌, ◌⊎◌, ℕ, Bool, true, List, Option, Some, None, option_map}
-use Rattle.std.specs.Io.KnownBytes.{Keeps}
+use Rattle.std.specs.Prelude.{◌≡◌, ◌⊎◌, ℕ, Bool, true, List, length, Option, Some, None, option_map}
+use Rattle.std.specs.Io.KnownBytes.{Appends, Keeps}
+use Rattle.td_bytes.specs.Pieces.{AppendsPrefix}
 use Rattle.td_bytes.specs.declared.text.TextFault.{TextFault}
 use Rattle.td_text.specs.Lines.{lines_of}
 use Rattle.td_relation.specs.Arch.{ArchWords}
@@ -19,15 +20,16 @@ use Rattle.td_indices.specs.Archive as archive_file
 use Rattle.td_indices.specs.Opening.{opening_row}
 use Rattle.td_indices.specs.declared.archive_fault.ArchiveFault.{ArchiveFault}
 use Rattle.td_query.specs.TrackerFaults as tracker_file
+use Rattle.td_query.specs.TrackerGrammar.{said_in}
 use Rattle.td_query.specs.Tracking.{IsTracker, Tracking}
 use Rattle.td_query.specs.declared.tracker_fault.TrackerFault.{TrackerFault}
 use Rattle.transdesk.specs.declared.role.Role.{Role}
-use Rattle.transdesk.specs.declared.role.Role.TheVariants.{Input, Archs, Packages, Sources, State, Tracker}
+use Rattle.transdesk.specs.declared.role.Role.TheVariants.{Input, Archs, Packages, Sources, State, Tracker, Outcomes, Journal}
 use Rattle.transdesk.specs.declared.ending.Ending.{Ending}
-use Rattle.transdesk.specs.declared.ending.Ending.TheVariants.{NoMemory}
+use Rattle.transdesk.specs.declared.ending.Ending.TheVariants.{Done, Refused, BadInput, NoMemory, CannotRead, CannotWrite}
 use Rattle.transdesk.specs.Ending.{ending_of_archive, ending_of_file, ending_of_missing_row, ending_of_state, ending_of_table, ending_of_tracker}
 use Rattle.transdesk.specs.Counted.{IsArchiveOf}
-use Rattle.transdesk.specs.Checks.{AreTexts, FaultFits, Files, HasFailed, IsTextOf, files_of}
+use Rattle.transdesk.specs.Checks.{AreTexts, FaultFits, Files, HasFailed, IsFileText, IsTextOf, files_of}
 use Rattle.transdesk.specs.CheckInside.{WritesSo}
 
 -- ---- 1. what is read
@@ -90,6 +92,8 @@ FailsAt files State fault =
 FailsAt files Tracker fault =
     (archs : List ℕ) × (packages : List ℕ) × (sources : List ℕ) × AreTexts files.indices archs packages sources
     × ((state : Option (List ℕ)) × IsTextIfGiven files.state state × MayFail files.tracker fault)
+FailsAt files Outcomes fault = ⊥
+FailsAt files Journal fault = ⊥
 
 -- a file isn't read, and so it ends
 abbrev pub IsUnread : TrackFiles → Ending → Type 0
@@ -179,8 +183,55 @@ abbrev pub TextsEndSo : Saying → Texts → Option (List ℕ) → Option (List 
 TextsEndSo Says x old new ending = (AreRefused x ending × Keeps old new) ⊎ ((text : List ℕ) × TextsSayIt Says x text × WritesSo text old new ending)
 
 -- memory runs out, or a file isn't read, and nothing is written; or the texts end it
-abbrev pub EndsSo : Saying → TrackFiles → Option (List ℕ) → Option (List ℕ) → Ending → Type 0
-EndsSo Says files old new ending =
+abbrev pub SaysSo : Saying → TrackFiles → Option (List ℕ) → Option (List ℕ) → Ending → Type 0
+SaysSo Says files old new ending =
     ((ending ≡ NoMemory) × Keeps old new)
     ⊎ ((IsUnread files ending × Keeps old new)
     ⊎ ((x : Texts) × AreTextsOf files x × TextsEndSo Says x old new ending))
+
+-- ---- 5. what can't be refused
+
+-- rows can be looked at over an archive, and a text is a tracker
+abbrev pub IsReadableOver : Contents → Option (List ℕ) → List ℕ → Type 0
+IsReadableOver c state tracker = (rows : Table) × AreRowsOf c state rows × ((t : Tracking) × IsTracker tracker t)
+
+-- texts are an archive, rows for it and a tracker
+abbrev pub AreReadable : Texts → Type 0
+AreReadable x = (c : Contents) × IsArchiveOf x.archs x.packages x.sources c × IsReadableOver c x.state x.tracker
+
+-- `regex` refuses a pattern of a tracker, or memory runs out, and so it ends
+abbrev pub IsPatternRefused : List ℕ → Ending → Type 0
+IsPatternRefused text ending = (e : TrackerFault) × tracker_file.IsPatternFault (length text) (tracker_file.log_in (said_in text)) e × (ending ≡ ending_of_tracker e)
+
+-- a file is known to hold a text
+pub record IsKnownText (known : Option (List ℕ)) (text : List ℕ) : Type 0 where
+  pub whole : known ≡ Some text
+  pub read : IsFileText text
+
+abbrev pub IsKnownIfGiven : Option OneFile → Option (List ℕ) → Type 0
+IsKnownIfGiven None None = Unit {0}
+IsKnownIfGiven None (Some text) = ⊥
+IsKnownIfGiven (Some file) None = ⊥
+IsKnownIfGiven (Some file) (Some text) = IsKnownText file.known text
+
+-- the files are known to hold these texts
+pub record AreKnownTexts (files : TrackFiles) (x : Texts) : Type 0 where
+  pub archs : IsKnownText files.indices.in_archs x.archs
+  pub packages : IsKnownText files.indices.in_packages x.packages
+  pub sources : IsKnownText files.indices.in_sources x.sources
+  pub state : IsKnownIfGiven files.state x.state
+  pub tracker : IsKnownText files.tracker.known x.tracker
+
+-- how what such texts say may end: told, but for a pattern that `regex` refuses, or a write, memory or a read of a file that fails
+abbrev pub EndsTold : Saying → Texts → Option (List ℕ) → Option (List ℕ) → Ending → Type 0
+EndsTold Says x old new Done = (text : List ℕ) × TextsSayIt Says x text × Appends old new text
+EndsTold Says x old new Refused = ⊥
+EndsTold Says x old new (BadInput role e) = IsPatternRefused x.tracker (BadInput role e) × Keeps old new
+EndsTold Says x old new NoMemory = Keeps old new
+EndsTold Says x old new (CannotRead role) = Keeps old new
+EndsTold Says x old new CannotWrite = (text : List ℕ) × TextsSayIt Says x text × AppendsPrefix old new text
+
+-- a run over these files ends so: the ending is as it says, and readable texts are told
+pub record EndsSo (Says : Saying) (files : TrackFiles) (old new : Option (List ℕ)) (ending : Ending) : Type 0 where
+  pub says : SaysSo Says files old new ending
+  pub only : (x : Texts) → AreKnownTexts files x → AreReadable x → EndsTold Says x old new ending

@@ -1,11 +1,12 @@
 //! The program: a desk for the rebuilds of a Debian transition, whose undo is proved.
 //!
 //! Start at `tool`: it does what the words ask for, over any reader, files and writers. Its
-//! subcommands are `simulation`, `checking`, and `tracking` for the two that read a tracker. How a simulation is read and played stands in
-//! `td_simulate`, how indices are read in `td_indices`, what the words ask for in `td_words`.
+//! subcommands are `simulation`, `checking`, `tracking` for the two that read a tracker, and
+//! `running`. How a simulation is read and played stands in `td_simulate`, how indices are read in
+//! `td_indices`, what a script says in `td_script`, what the words ask for in `td_words`.
 //! Promised: what is written is the answer to what was read, and nothing where that is refused; a
 //! write that fails leaves a front of it; and the status and the line on standard error say which
-//! (`specs/Ends.antt`, `specs/Checks.antt` and `specs/Tracks.antt`).
+//! (`specs/Ends.antt`, `specs/Checks.antt`, `specs/Tracks.antt`, `specs/Runs.antt`).
 #![tactic(auto)]
 
 mod checking;
@@ -13,6 +14,8 @@ mod ending;
 mod file_texts;
 mod input_fault;
 mod role;
+mod run_files;
+mod running;
 mod simulation;
 #[cfg(test)]
 mod tests;

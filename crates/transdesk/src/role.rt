@@ -18,6 +18,10 @@ pub enum Role {
     State,
     /// The tracker.
     Tracker,
+    /// How the builds of a crew end.
+    Outcomes,
+    /// The journal that is gone on with.
+    Journal,
 }
 
 impl Role {
@@ -32,6 +36,8 @@ impl Role {
             Role::Sources => "sources: ",
             Role::State => "state: ",
             Role::Tracker => "tracker: ",
+            Role::Outcomes => "outcomes: ",
+            Role::Journal => "journal: ",
         }
     }
 }

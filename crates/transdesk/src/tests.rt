@@ -225,12 +225,12 @@ fn words_that_ask_for_nothing_are_answered_on_the_faults(rt: HostRuntime) -> Res
 }
 
 // examples/foobar.archs, foobar.packages and foobar.sources.
-const ARCHS: &str = "amd64 linux amd64\ni386 linux i386\n";
+pub const ARCHS: &str = "amd64 linux amd64\ni386 linux i386\n";
 
-const PACKAGES: &str =
+pub const PACKAGES: &str =
     "Package: libfoo1\nSource: foo\nVersion: 1.2-3\nArchitecture: amd64\n\nPackage: libfoo1\nSource: foo (1.2-3)\nVersion: 1.2-3+b1\nArchitecture: i386\n\nPackage: libbar-dev\nSource: bar\nVersion: 2.0-1\nArchitecture: amd64\n\nPackage: libbar-dev\nSource: bar\nVersion: 2.0-1\nArchitecture: i386\n";
 
-const SOURCES: &str =
+pub const SOURCES: &str =
     "Package: foo\nVersion: 1.2-3\nArchitecture: any\nBuild-Depends: libbar-dev\n\nPackage: bar\nVersion: 2.0-1\nArchitecture: any\n";
 
 // What the program answers and writes of these three files; a path in capitals has none.

@@ -2,16 +2,19 @@ ghost use Rattle.std.specs.Prelude.{◌≡◌, ◌⊎◌, ℕ, List, map, option
 ghost use Rattle.std.specs.IoError.{error_kind};
 ghost use Rattle.std.specs.Io.KnownBytes.{Keeps};
 ghost use Rattle.td_report.specs.Transition.{IsReport, IsWaves};
-ghost use Rattle.td_words.specs.CommandLine.{AskForCheck, AskForTrack, AskForWaves, TrackWords, asking_for};
+ghost use Rattle.td_words.specs.CommandLine.{AskForCheck, AskForRun, AskForTrack, AskForWaves, RunWords, TrackWords, asking_for};
 ghost use Rattle.transdesk.specs.Ends.{Ends};
 ghost use Rattle.transdesk.specs.Checks.{Checks, files_of};
 ghost use Rattle.transdesk.specs.Ran.{Ran};
 ghost use Rattle.transdesk.specs.Program.{IsTold, OnlyIfAsked, RanFor, TellsFault, TellsUnread, files_asked};
+ghost use Rattle.transdesk.specs.Runs.{EndsRun, run_files, run_files_asked};
 ghost use Rattle.transdesk.specs.TrackInside.{saying_of};
 ghost use Rattle.transdesk.specs.Tracks.{EndsSo, track_files};
 
 use crate::checking::check;
 use crate::ending::Ending;
+use crate::run_files::RunPaths;
+use crate::running::run;
 use crate::simulation::simulate;
 use crate::texts::Texts;
 use crate::track_files::{TrackPaths, given};
@@ -82,6 +85,42 @@ fn do_track<T: Texts, W: Write, E: Write>(
     track(rt, alloc, texts, &paths, asked, output, faults)
 }
 
+// Runs a script over the files with the paths that the words gave.
+fn do_run<T: Texts, R: Read, W: Write, E: Write>(
+    alloc: Global,
+    texts: &T,
+    archs: &String,
+    packages: &String,
+    sources: &String,
+    state: &Option<String>,
+    tracker: &Option<String>,
+    outcomes: &Option<String>,
+    journal: &Option<String>,
+    suite: &String,
+    reader: &mut R,
+    output: &mut W,
+    faults: &mut E,
+) -> u8
+    ensures { Ran (EndsRun
+        (run_files (T.bytes texts.now) (T.can_fail texts.now) (string_bytes archs.now)
+        (string_bytes packages.now) (string_bytes sources.now) (option_map string_bytes state.now)
+        (option_map string_bytes tracker.now) (option_map string_bytes outcomes.now)
+        (option_map string_bytes journal.now)) (string_bytes suite.now)
+        (R.remaining reader.old) (W.contents output.old) (W.contents output.new))
+        (E.contents faults.old) (E.contents faults.new) result }
+{
+    let paths = RunPaths {
+        archs: archs.as_str(),
+        packages: packages.as_str(),
+        sources: sources.as_str(),
+        state: given(state),
+        tracker: given(tracker),
+        outcomes: given(outcomes),
+        journal: given(journal),
+    };
+    run(alloc, texts, &paths, suite.as_str(), reader, output, faults)
+}
+
 // Does what was asked for.
 fn do_request<T: Texts, R: Read, W: Write, E: Write>(
     rt: &(impl Threads + Sync),
@@ -136,6 +175,20 @@ fn do_request<T: Texts, R: Read, W: Write, E: Write>(
                 rt, alloc, texts, archs, packages, sources, &None, tracker, asked, output, faults,
             )
         }
+        Request::Run {
+            archs,
+            packages,
+            sources,
+            state,
+            tracker,
+            suite,
+            builders: _,
+            outcomes,
+            journal,
+        } => do_run(
+            alloc, texts, archs, packages, sources, state, tracker, outcomes, journal, suite,
+            reader, output, faults,
+        ),
     }
 }
 
@@ -192,6 +245,10 @@ fn answer<T: Texts, R: Read, W: Write, E: Write>(
         (track_files (T.bytes texts.now) (T.can_fail texts.now) archs packages sources None tracker)
         (W.contents output.old) (W.contents output.new))
         (E.contents faults.old) (E.contents faults.new) result }
+    ensures run { (w : RunWords) → AskForRun (map string_bytes words.now) w
+        → Ran (EndsRun (run_files_asked (T.bytes texts.now) (T.can_fail texts.now) w) w.suite
+        (R.remaining reader.old) (W.contents output.old) (W.contents output.new))
+        (E.contents faults.old) (E.contents faults.new) result }
     ensures others { OnlyIfAsked (map string_bytes words.now)
         (R.remaining reader.old) (T.bytes texts.now) (T.can_fail texts.now)
         (W.contents output.old) (W.contents output.new)
@@ -241,6 +298,12 @@ pub fn tool<T: Texts, R: Read, W: Write, E: Write>(
         → Ran (EndsSo IsWaves
         (track_files (T.bytes texts.now) (T.can_fail texts.now) archs packages sources None tracker)
         (W.contents output.old) (W.contents output.new))
+        (E.contents faults.old) (E.contents faults.new) result }
+    // What asks for a run is answered by it.
+    ensures run { (w : RunWords) → IsOkAnd words (λ given.
+        AskForRun (map string_bytes given.items) w)
+        → Ran (EndsRun (run_files_asked (T.bytes texts.now) (T.can_fail texts.now) w) w.suite
+        (R.remaining reader.old) (W.contents output.old) (W.contents output.new))
         (E.contents faults.old) (E.contents faults.new) result }
     // Other words are bad, unless memory runs out, and nothing is written.
     ensures others { IfOk words (λ given. OnlyIfAsked (map string_bytes given.items)

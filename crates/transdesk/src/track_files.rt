@@ -49,8 +49,8 @@ fn read_one<T: Texts>(alloc: Global, texts: &T, role: Role, path: &str) -> Resul
     }
 }
 
-// Reads it where one is given.
-fn read_given<T: Texts>(
+/// Reads it where one is given.
+pub fn read_given<T: Texts>(
     alloc: Global,
     texts: &T,
     role: Role,

@@ -3,14 +3,15 @@ ghost use Rattle.std.specs.Prelude.{◌≡◌, ◌≤◌, Some, Ok, Err, IfOk, I
 ghost use Rattle.td_relation.specs.TableView.{table};
 ghost use Rattle.td_rows.specs.Overlay.{first_missing, overlaid};
 ghost use Rattle.td_rows.specs.declared.key.Key.{Key};
-ghost use Rattle.td_query.specs.Tracking.{tracking};
+ghost use Rattle.td_rows.specs.Table.{Table};
+ghost use Rattle.td_query.specs.Tracking.{IsTracker, Tracking, tracking};
 ghost use Rattle.td_report.specs.Transition.{IsReport};
 ghost use Rattle.td_report.specs.TransitionView as of;
 ghost use Rattle.transdesk.specs.Ending.{ending_of_missing_row};
 ghost use Rattle.transdesk.specs.Limits.{file_limit};
 ghost use Rattle.transdesk.specs.Ran.{Ran};
-ghost use Rattle.transdesk.specs.Tracks.{AreRefused, AreRowsOf, EndsSo, IsNoTracker, IsRefusedOver, IsStateRefused, RowsSay, TextsSayIt, TrackerSays};
-ghost use Rattle.transdesk.specs.TrackInside.{AreRefusedWith, IndicesSay, IsRefusedFor, IsReplaced, OrMemory, files_at, saying_of, texts_of};
+ghost use Rattle.transdesk.specs.Tracks.{AreReadable, AreRefused, AreRowsOf, EndsSo, IsNoTracker, IsPatternRefused, IsReadableOver, IsRefusedOver, IsStateRefused, RowsSay, TextsSayIt, TrackerSays};
+ghost use Rattle.transdesk.specs.TrackInside.{AreReadableWith, AreRefusedWith, CanReplace, IndicesSay, IsRefusedFor, IsReplaced, OrMemory, files_at, saying_of, texts_of};
 
 use crate::checking::write;
 use crate::ending::{
@@ -108,6 +109,7 @@ fn tracker_text(
 ) -> Result<String, Ending>
     ensures found { IfOk result (λ text. TrackerSays (saying_of asked) archive.now rows.now tracker.now (string_bytes text)) }
     ensures refused { IfErr result (OrMemory (IsNoTracker tracker.now)) }
+    ensures only { IfErr result (λ ending. (t : Tracking) → IsTracker tracker.now t → IsPatternRefused tracker.now ending) }
 {
     match Tracker::read(alloc, tracker) {
         Ok(read) => or_no_memory(tracker_says(rt, alloc, archive, rows, &read, asked)),
@@ -131,6 +133,7 @@ fn put_over(mut rows: Rows, given: Rows) -> Result<Rows, Ending>
 fn replaced(alloc: Global, rows: Rows, text: &str) -> Result<Rows, Ending>
     ensures rows { IfOk result (IsReplaced rows text.now) }
     ensures refused { IfErr result (OrMemory (IsRefusedFor rows text.now)) }
+    ensures only { IfErr result (λ ending. CanReplace rows text.now → ending ≡ Ending.NoMemory) }
 {
     match read_state(alloc, text) {
         Ok(given) => put_over(rows, given),
@@ -142,6 +145,7 @@ fn replaced(alloc: Global, rows: Rows, text: &str) -> Result<Rows, Ending>
 fn rows_of(alloc: Global, archive: &Archive<'_, '_>, state: Option<&str>) -> Result<Rows, Ending>
     ensures rows { IfOk result (AreRowsOf archive.now (option_map (λ s. s.now) state.entry)) }
     ensures refused { IfErr result (OrMemory (IsStateRefused archive.now (option_map (λ s. s.now) state.entry))) }
+    ensures only { IfErr result (λ ending. (t : Table) → AreRowsOf archive.now (option_map (λ s. s.now) state.entry) t → ending ≡ Ending.NoMemory) }
 {
     let Ok(rows) = archive.opening_rows() else {
         return Err(Ending::NoMemory);
@@ -164,6 +168,7 @@ fn archive_text(
 ) -> Result<String, Ending>
     ensures found { IfOk result (λ text. RowsSay (saying_of asked) archive.now (option_map (λ s. s.now) state.entry) tracker.now (string_bytes text)) }
     ensures refused { IfErr result (OrMemory (IsRefusedOver archive.now (option_map (λ s. s.now) state.entry) tracker.now)) }
+    ensures only { IfErr result (λ ending. IsReadableOver archive.now (option_map (λ s. s.now) state.entry) tracker.now → IsPatternRefused tracker.now ending) }
 {
     match rows_of(alloc, archive, state) {
         Ok(rows) => tracker_text(rt, alloc, archive, &rows, tracker, asked),
@@ -181,6 +186,7 @@ fn indices_text(
 ) -> Result<String, Ending>
     ensures found { IfOk result (λ text. IndicesSay (saying_of asked) (table archs.now) (texts_of texts.now) (string_bytes text)) }
     ensures refused { IfErr result (OrMemory (AreRefusedWith (table archs.now) (texts_of texts.now))) }
+    ensures only { IfErr result (λ ending. AreReadableWith (table archs.now) (texts_of texts.now) → IsPatternRefused (texts_of texts.now).tracker ending) }
 {
     let packages = texts.indices.packages.as_str();
     let sources = texts.indices.sources.as_str();
@@ -201,6 +207,7 @@ fn whole_text(
     requires { length (texts_of texts.now).archs ≤ file_limit }
     ensures found { IfOk result (λ text. TextsSayIt (saying_of asked) (texts_of texts.now) (string_bytes text)) }
     ensures refused { IfErr result (OrMemory (AreRefused (texts_of texts.now))) }
+    ensures only { IfErr result (λ ending. AreReadable (texts_of texts.now) → IsPatternRefused (texts_of texts.now).tracker ending) }
 {
     match Archs::read(alloc, texts.indices.archs.as_str()) {
         Ok(archs) => indices_text(rt, alloc, &archs, texts, asked),

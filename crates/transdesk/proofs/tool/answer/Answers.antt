@@ -1,5 +1,5 @@
 use Rattle.std.proofs.Common.{map, string_bytes}
-use Rattle.transdesk.proofs.Asks.{simulated, checked, tracked, waved, only_asked}
+use Rattle.transdesk.proofs.Asks.{simulated, checked, tracked, waved, ran_script, only_asked}
 use Rattle.transdesk.proofs.tool.answer.Goals as goal
 
 pub returns : goal.returns
@@ -19,5 +19,6 @@ returns g c =
       check = λ archs packages sources asks. checked words known bytes can_fail old new before said status asked archs packages sources c.act.ensures.request c.act.ensures.fault (c.read_words.ensures.check archs packages sources asks);
       track = λ w asks. tracked words known bytes can_fail old new before said status asked w c.act.ensures.request c.act.ensures.fault (c.read_words.ensures.track w asks);
       waves = λ archs packages sources tracker asks. waved words known bytes can_fail old new before said status asked archs packages sources tracker c.act.ensures.request c.act.ensures.fault (c.read_words.ensures.waves archs packages sources tracker asks);
+      run = λ w asks. ran_script words known bytes can_fail old new before said status asked w c.act.ensures.request c.act.ensures.fault (c.read_words.ensures.run w asks);
       others = only_asked words known bytes can_fail old new before said status asked c.act.ensures.request c.act.ensures.fault c.read_words.ensures.only;
     }

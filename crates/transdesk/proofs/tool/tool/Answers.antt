@@ -1,5 +1,5 @@
 use Rattle.std.proofs.Common.{◌≡◌, List, IfOk, IsOkAnd, map, string_bytes, sym, subst}
-use Rattle.td_words.specs.CommandLine.{AskForTrack, AskForWaves}
+use Rattle.td_words.specs.CommandLine.{AskForRun, AskForTrack, AskForWaves}
 use Rattle.transdesk.specs.Program.{OnlyIfAsked}
 use Rattle.transdesk.proofs.tool.tool.Goals as goal
 
@@ -12,6 +12,11 @@ pub returns-in-Ok-clause-waves : goal.returns-in-Ok-clause-waves
 returns-in-Ok-clause-waves g c = λ archs packages sources tracker asks.
     let here = subst (λ r. IsOkAnd r (λ given. AskForWaves (map string_bytes given.items) archs packages sources tracker)) c.in-Ok.is asks in
     c.answer.ensures.waves archs packages sources tracker (subst (λ l. AskForWaves (map string_bytes l) archs packages sources tracker) (sym c.deref.ensures.value) here)
+
+pub returns-in-Ok-clause-run : goal.returns-in-Ok-clause-run
+returns-in-Ok-clause-run g c = λ w asks.
+    let here = subst (λ r. IsOkAnd r (λ given. AskForRun (map string_bytes given.items) w)) c.in-Ok.is asks in
+    c.answer.ensures.run w (subst (λ l. AskForRun (map string_bytes l) w) (sym c.deref.ensures.value) here)
 
 pub returns-in-Ok-clause-others : goal.returns-in-Ok-clause-others
 returns-in-Ok-clause-others g c =

@@ -1,7 +1,9 @@
-use Rattle.std.proofs.Common.{inl, inr}
+use Rattle.std.proofs.Common.{ap, inl, inr, ◌∙◌}
+use Rattle.transdesk.specs.Ending.{ending_of_archive}
 use Rattle.td_relation.specs.TableView.{table}
 use Rattle.transdesk.specs.TrackInside.{saying_of, texts_of}
 use Rattle.transdesk.proofs.Told.{indices_say, indices_refuse, indices_bad}
+use Rattle.transdesk.proofs.Sure.{indices_stop, no_indices}
 use Rattle.transdesk.proofs.tracking.indices_text.Goals as goal
 
 pub returns-in-Ok-clause-found : goal.returns-in-Ok-clause-found
@@ -17,3 +19,13 @@ returns-in-Ok-clause-refused g c =
 pub returns-in-Err-clause-refused : goal.returns-in-Err-clause-refused
 returns-in-Err-clause-refused g c =
     indices_bad (table c.args.archs.now) (texts_of c.args.texts.now) c.in-Err.fault _ _ _ c.as_str-packages.ensures.value c.as_str-sources.ensures.value c.in-Err.ensures.fault c.ending_of_archive.ensures
+
+pub returns-in-Ok-clause-only : goal.returns-in-Ok-clause-only
+returns-in-Ok-clause-only g c =
+    indices_stop (table c.args.archs.now) (texts_of c.args.texts.now) c.in-Ok.archive c.archive_text.result _ _ _ _
+    c.as_str-packages.ensures.value c.as_str-sources.ensures.value c.given.ensures c.as_str-tracker.ensures.value c.in-Ok.ensures.only c.archive_text.ensures.only
+
+pub returns-in-Err-clause-only : goal.returns-in-Err-clause-only
+returns-in-Err-clause-only g c =
+    no_indices (table c.args.archs.now) (texts_of c.args.texts.now) c.ending_of_archive.result _ _ c.as_str-packages.ensures.value c.as_str-sources.ensures.value
+    (λ a is. c.ending_of_archive.ensures ∙ ap ending_of_archive (c.in-Err.ensures.only a is))

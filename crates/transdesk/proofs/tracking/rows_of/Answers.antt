@@ -1,7 +1,10 @@
 use Rattle.std.proofs.Common.{◌≡◌, Some, None, ap, sym, subst, IfOk, IfErr, option_map}
+use Rattle.td_rows.specs.Table.{Table}
+use Rattle.transdesk.specs.declared.ending.Ending.TheVariants.{NoMemory}
 use Rattle.transdesk.specs.Tracks.{AreRowsOf, IsStateRefused}
 use Rattle.transdesk.specs.TrackInside.{OrMemory}
 use Rattle.transdesk.proofs.Told.{opened_rows, replaced_rows, refused_rows}
+use Rattle.transdesk.proofs.Sure.{rows_stop}
 use Rattle.transdesk.proofs.tracking.rows_of.Goals as goal
 
 pub returns-in-Some-clause-rows : goal.returns-in-Some-clause-rows
@@ -18,3 +21,8 @@ pub returns-in-None-clause-rows : goal.returns-in-None-clause-rows
 returns-in-None-clause-rows c =
     subst (λ s. AreRowsOf c.args.archive.now (option_map (λ t. t.now) s) c.in-Ok.rows) (sym c.in-None.is)
     (opened_rows c.args.archive.now c.in-Ok.rows c.in-Ok.ensures.rows c.len-count.ensures.rising)
+
+pub returns-in-Some-clause-only : goal.returns-in-Some-clause-only
+returns-in-Some-clause-only c =
+    subst (λ s. IfErr c.replaced.result (λ ending. (t : Table) → AreRowsOf c.args.archive.now (option_map (λ t. t.now) s) t → ending ≡ NoMemory)) (sym c.in-Some.is)
+    (rows_stop c.args.archive.now c.in-Ok.rows c.in-Some.text.now c.replaced.result (opened_rows c.args.archive.now c.in-Ok.rows c.in-Ok.ensures.rows c.len-count.ensures.rising) c.replaced.ensures.only)

@@ -1,13 +1,13 @@
 use Rattle.std.proofs.Common.{IfOk, sym, subst}
 use Rattle.std.proofs.KnownBytes.{Keeps-refl}
 use Rattle.transdesk.specs.TrackInside.{files_at, saying_of, texts_of}
-use Rattle.transdesk.proofs.Told.{ends_read, ends_unread}
+use Rattle.transdesk.proofs.Sure.{ends_read, ends_unread}
 use Rattle.transdesk.proofs.tracking.run.Goals as goal
 
 pub returns-in-Ok : goal.returns-in-Ok
 returns-in-Ok g c =
     ends_read (saying_of c.args.asked) _ (texts_of c.in-Ok.read) c.whole_text.result _ _ c.write.result
-    c.in-Ok.ensures.texts c.whole_text.ensures.found c.whole_text.ensures.refused c.write.ensures.line c.write.ensures.refused
+    c.in-Ok.ensures.texts c.whole_text.ensures.found c.whole_text.ensures.refused c.whole_text.ensures.only c.write.ensures.line c.write.ensures.refused
 
 pub returns-in-Err : goal.returns-in-Err
 returns-in-Err g c =

@@ -2,6 +2,7 @@ use Rattle.std.proofs.Common.{inl, inr, string_bytes}
 use Rattle.td_query.specs.Tracking.{tracking}
 use Rattle.transdesk.specs.TrackInside.{saying_of}
 use Rattle.transdesk.proofs.Told.{found_by_tracker, memory_alone}
+use Rattle.transdesk.proofs.Sure.{tracker_stops}
 use Rattle.transdesk.proofs.tracking.tracker_text.Goals as goal
 
 pub returns-in-Ok-clause-found : goal.returns-in-Ok-clause-found
@@ -14,3 +15,9 @@ returns-in-Ok-clause-refused g c = memory_alone _ c.tracker_says.result c.or_no_
 
 pub returns-in-Err-clause-refused : goal.returns-in-Err-clause-refused
 returns-in-Err-clause-refused g c = inl (c.in-Err.fault, c.in-Err.ensures.fault, c.ending_of_tracker.ensures)
+
+pub returns-in-Ok-clause-only : goal.returns-in-Ok-clause-only
+returns-in-Ok-clause-only g c = tracker_stops c.args.tracker.now c.tracker_says.result c.or_no_memory.result c.or_no_memory.ensures.ok c.or_no_memory.ensures.err
+
+pub returns-in-Err-clause-only : goal.returns-in-Err-clause-only
+returns-in-Err-clause-only g c = λ t is. (c.in-Err.fault, c.in-Err.ensures.only t is, c.ending_of_tracker.ensures)

@@ -1,0 +1,45 @@
+-- What the inner functions of `run` answer. This project's own.
+use Rattle.std.specs.Prelude.{◌≡◌, ℕ, ◌≤◌, Bool, List, Option, length, option_map, string_bytes}
+use Rattle.std.specs.Borrow.{Bor}
+use Rattle.td_bytes.specs.declared.text.TextFault.{TextFault}
+use Rattle.td_script.specs.Openings as script
+use Rattle.td_script.specs.declared.inputs.Inputs.{Inputs}
+use Rattle.transdesk.specs.declared.file_texts.FileFault.{FileFault}
+use Rattle.transdesk.specs.declared.run_files.RunPaths.{RunPaths}
+use Rattle.transdesk.specs.declared.run_files.RunTexts.{RunTexts}
+use Rattle.transdesk.specs.Limits.{file_limit}
+use Rattle.transdesk.specs.Runs.{AreTextsOf, FailsAt, RunFiles, Texts, run_files, script_texts}
+
+abbrev path_of : Option (Bor (List ℕ)) → Option (List ℕ)
+path_of given = option_map (λ p. p.now) given
+
+-- the files of these paths
+abbrev pub run_files_at : (List ℕ → Option (List ℕ)) → (List ℕ → TextFault → Bool) → RunPaths → RunFiles
+run_files_at bytes can_fail p = run_files bytes can_fail p.archs.now p.packages.now p.sources.now (path_of p.state) (path_of p.tracker) (path_of p.outcomes) (path_of p.journal)
+
+-- the texts that were read
+abbrev pub run_texts_of : RunTexts → Texts
+run_texts_of x = record {
+  archs = string_bytes x.indices.archs;
+  packages = string_bytes x.indices.packages;
+  sources = string_bytes x.indices.sources;
+  state = option_map string_bytes x.state;
+  tracker = option_map string_bytes x.tracker;
+  outcomes = option_map string_bytes x.outcomes;
+  journal = option_map string_bytes x.journal;
+}
+
+abbrev pub AreRunTexts : RunFiles → RunTexts → Type 0
+AreRunTexts files x = AreTextsOf files (run_texts_of x)
+
+-- a file wasn't read, for this
+abbrev pub HasRunFailed : RunFiles → FileFault → Type 0
+HasRunFailed files f = FailsAt files f.role f.fault
+
+-- the table's text is within the limit
+abbrev pub IsWithinLimit : RunTexts → Type 0
+IsWithinLimit x = length (string_bytes x.indices.archs) ≤ file_limit
+
+-- a script's inputs have these texts
+abbrev pub AreInputsOf : Texts → List ℕ → Inputs → Type 0
+AreInputsOf x suite inputs = script.texts_of inputs ≡ script_texts x suite

@@ -1,0 +1,131 @@
+-- What `run` leaves on standard output, as it ends. This project's own.
+use Rattle.std.specs.Prelude.{◌≡◌, ◌⊎◌, ℕ, ◌==◌, Bool, List, Option, Result, Ok, Err, Some, option_map, if◌then◌else◌}
+use Rattle.std.specs.Io.KnownBytes.{Keeps}
+use Rattle.td_bytes.specs.declared.text.TextFault.{TextFault}
+use Rattle.td_script.specs.Ends.{Says}
+use Rattle.td_script.specs.Openings as script
+use Rattle.td_script.specs.declared.input_fault.InputFault.{InputFault}
+use Rattle.td_script.specs.declared.input_fault.InputFault.TheVariants as refused
+use Rattle.td_script.specs.declared.running.RunFault.{RunFault}
+use Rattle.td_script.specs.declared.running.RunFault.TheVariants as stopped
+use Rattle.td_script.specs.declared.running.ScriptEnd.{ScriptEnd}
+use Rattle.td_words.specs.CommandLine.{RunWords}
+use Rattle.transdesk.specs.declared.role.Role.{Role}
+use Rattle.transdesk.specs.declared.role.Role.TheVariants.{Input, Archs, Packages, Sources, State, Tracker, Outcomes, Journal}
+use Rattle.transdesk.specs.declared.input_fault.InputFault.TheVariants.{TooLong, NotText}
+use Rattle.transdesk.specs.declared.ending.Ending.{Ending}
+use Rattle.transdesk.specs.declared.ending.Ending.TheVariants.{Done, Refused, BadInput, NoMemory, CannotRead, CannotWrite}
+use Rattle.transdesk.specs.Ending.{ending_of_archive, ending_of_file, ending_of_missing_row, ending_of_state, ending_of_table, ending_of_tracker}
+use Rattle.transdesk.specs.Checks.{AreTexts, Files, HasFailed, files_of}
+use Rattle.transdesk.specs.Tracks.{IsTextIfGiven, MayFail, OneFile, file_at}
+
+-- ---- 1. what is read
+
+-- the files of an archive, and those that may be given beside it
+pub record RunFiles : Type 0 where
+  pub indices : Files
+  pub state : Option OneFile
+  pub tracker : Option OneFile
+  pub outcomes : Option OneFile
+  pub journal : Option OneFile
+
+-- those of these paths
+abbrev pub run_files : (List ℕ → Option (List ℕ)) → (List ℕ → TextFault → Bool) → List ℕ → List ℕ → List ℕ → Option (List ℕ) → Option (List ℕ) → Option (List ℕ) → Option (List ℕ) → RunFiles
+run_files bytes can_fail archs packages sources state tracker outcomes journal = record {
+  indices = files_of bytes can_fail archs packages sources;
+  state = option_map (file_at bytes can_fail) state;
+  tracker = option_map (file_at bytes can_fail) tracker;
+  outcomes = option_map (file_at bytes can_fail) outcomes;
+  journal = option_map (file_at bytes can_fail) journal;
+}
+
+-- those that the words name
+abbrev pub run_files_asked : (List ℕ → Option (List ℕ)) → (List ℕ → TextFault → Bool) → RunWords → RunFiles
+run_files_asked bytes can_fail w = run_files bytes can_fail w.archs w.packages w.sources w.state w.tracker w.outcomes w.journal
+
+-- what such files hold
+pub record Texts : Type 0 where
+  pub archs : List ℕ
+  pub packages : List ℕ
+  pub sources : List ℕ
+  pub state : Option (List ℕ)
+  pub tracker : Option (List ℕ)
+  pub outcomes : Option (List ℕ)
+  pub journal : Option (List ℕ)
+
+-- the files that are read before that of a role hold these texts
+abbrev pub AreBeforeState : RunFiles → Texts → Type 0
+AreBeforeState files x = AreTexts files.indices x.archs x.packages x.sources
+
+abbrev pub AreBeforeTracker : RunFiles → Texts → Type 0
+AreBeforeTracker files x = AreBeforeState files x × IsTextIfGiven files.state x.state
+
+abbrev pub AreBeforeOutcomes : RunFiles → Texts → Type 0
+AreBeforeOutcomes files x = AreBeforeTracker files x × IsTextIfGiven files.tracker x.tracker
+
+abbrev pub AreBeforeJournal : RunFiles → Texts → Type 0
+AreBeforeJournal files x = AreBeforeOutcomes files x × IsTextIfGiven files.outcomes x.outcomes
+
+-- all files hold these texts
+abbrev pub AreTextsOf : RunFiles → Texts → Type 0
+AreTextsOf files x = AreBeforeJournal files x × IsTextIfGiven files.journal x.journal
+
+-- a file that may be left out is given, and a read of it may fail so
+abbrev pub FailsIfGiven : Option OneFile → TextFault → Type 0
+FailsIfGiven given fault = (file : OneFile) × (given ≡ Some file) × MayFail file fault
+
+-- a read of the file of a role fails so, and those that are read before it are texts
+abbrev pub FailsAt : RunFiles → Role → TextFault → Type 0
+FailsAt files Input fault = ⊥
+FailsAt files Archs fault = HasFailed files.indices Archs fault
+FailsAt files Packages fault = HasFailed files.indices Packages fault
+FailsAt files Sources fault = HasFailed files.indices Sources fault
+FailsAt files State fault = ((x : Texts) × AreBeforeState files x) × FailsIfGiven files.state fault
+FailsAt files Tracker fault = ((x : Texts) × AreBeforeTracker files x) × FailsIfGiven files.tracker fault
+FailsAt files Outcomes fault = ((x : Texts) × AreBeforeOutcomes files x) × FailsIfGiven files.outcomes fault
+FailsAt files Journal fault = ((x : Texts) × AreBeforeJournal files x) × FailsIfGiven files.journal fault
+
+-- a file isn't read, and so it ends
+abbrev pub IsUnread : RunFiles → Ending → Type 0
+IsUnread files ending = (role : Role) × (fault : TextFault) × FailsAt files role fault × (ending ≡ ending_of_file role fault)
+
+-- ---- 2. how it ends
+
+-- by why a text is refused
+abbrev pub ending_of_input : InputFault → Ending
+ending_of_input (refused.Table e) = ending_of_table e
+ending_of_input (refused.Archive e) = ending_of_archive e
+ending_of_input (refused.State e) = ending_of_state e
+ending_of_input refused.NoSuchRow = ending_of_missing_row
+ending_of_input (refused.Tracker e) = ending_of_tracker e
+
+-- by why a script stopped
+abbrev pub ending_of_stop : RunFault → Ending
+ending_of_stop (stopped.Input e) = ending_of_input e
+ending_of_stop stopped.Read = CannotRead Input
+ending_of_stop stopped.TooLong = BadInput Input TooLong
+ending_of_stop stopped.NotText = BadInput Input NotText
+ending_of_stop stopped.Write = CannotWrite
+ending_of_stop stopped.NoMemory = NoMemory
+
+-- by how a script ended: with the status of a refusal where a line was refused
+abbrev pub ending_of_script : Result ScriptEnd RunFault → Ending
+ending_of_script (Ok end) = if end.refusals == 0 then Done else Refused
+ending_of_script (Err e) = ending_of_stop e
+
+-- what a script runs over: the outcomes are a crew's alone
+abbrev pub script_texts : Texts → List ℕ → script.Texts
+script_texts x suite = record { archs = x.archs; packages = x.packages; sources = x.sources; state = x.state; tracker = x.tracker; suite = suite }
+
+-- over these texts a script ends so, which says what is written, and so does the run; or memory runs out, and nothing is
+abbrev pub ScriptEnds : Texts → List ℕ → Option (List ℕ) → Option (List ℕ) → Option (List ℕ) → Ending → Type 0
+ScriptEnds x suite known old new ending =
+    ((ending ≡ NoMemory) × Keeps old new)
+    ⊎ ((r : Result ScriptEnd RunFault) × Says (script_texts x suite) known old new r × (ending ≡ ending_of_script r))
+
+-- a file isn't read, or memory runs out, and nothing is written; or the script ends it
+abbrev pub EndsRun : RunFiles → List ℕ → Option (List ℕ) → Option (List ℕ) → Option (List ℕ) → Ending → Type 0
+EndsRun files suite known old new ending =
+    ((ending ≡ NoMemory) × Keeps old new)
+    ⊎ ((IsUnread files ending × Keeps old new)
+    ⊎ ((x : Texts) × AreTextsOf files x × ScriptEnds x suite known old new ending))
