@@ -5,3 +5,4 @@ pub mod ReportLaws
 pub mod ScriptLaws
 pub mod OpeningLaws
 pub mod RunLaws
+pub mod OnlyLaws

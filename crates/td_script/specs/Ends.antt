@@ -1,5 +1,5 @@
 -- How the run of a script ends, and what it leaves. This project's own.
-use Rattle.std.specs.Prelude.{◌≡◌, ◌≤◌, ◌<◌, ℕ, List, length, Option, Result, Ok, Err, IfSome, IsUtf8}
+use Rattle.std.specs.Prelude.{◌≡◌, ◌≤◌, ◌<◌, ℕ, List, length, Option, Some, Result, Ok, Err, IfErr, IfSome, IsUtf8}
 use Rattle.std.specs.Io.KnownBytes.{Appends, Keeps}
 use Rattle.td_bytes.specs.Pieces.{AppendsPrefix}
 use Rattle.td_rows.specs.Table.{Table}
@@ -8,7 +8,8 @@ use Rattle.td_script.specs.declared.running.RunFault.{RunFault}
 use Rattle.td_script.specs.declared.running.RunFault.TheVariants.{Input, Read, TooLong, NotText, Write, NoMemory}
 use Rattle.td_script.specs.declared.running.ScriptEnd.{ScriptEnd}
 use Rattle.td_script.specs.declared.running.TheConstants.{SCRIPT_LIMIT}
-use Rattle.td_script.specs.Openings.{IsRefused, IsSet, Texts}
+use Rattle.td_script.specs.declared.input_fault.InputFault.TheVariants as fault
+use Rattle.td_script.specs.Openings.{AreReadable, IsPatternRefused, IsRefused, IsSet, Texts}
 use Rattle.td_script.specs.Replies.{Setting}
 use Rattle.td_script.specs.Script.{Told, script}
 
@@ -42,3 +43,20 @@ Says x known old new (Err TooLong) = AreFine x × IfSome known (λ all. SCRIPT_L
 Says x known old new (Err NotText) = AreFine x × IfSome known (λ all. (length all ≤ SCRIPT_LIMIT) × ¬ IsUtf8 all) × Keeps old new
 Says x known old new (Err Write) = Plays x known (λ told. AppendsPrefix old new told.text)
 Says x known old new (Err NoMemory) = Keeps old new
+
+-- why a run over readable texts may stop, where the reader has a script: a stream or memory fails, or `regex` refuses a pattern
+abbrev pub MayStop : Texts → RunFault → Type 0
+MayStop x (Input (fault.Table e)) = ⊥
+MayStop x (Input (fault.Archive e)) = ⊥
+MayStop x (Input (fault.State e)) = ⊥
+MayStop x (Input fault.NoSuchRow) = ⊥
+MayStop x (Input (fault.Tracker e)) = IsPatternRefused x.tracker e
+MayStop x Read = Unit {0}
+MayStop x TooLong = ⊥
+MayStop x NotText = ⊥
+MayStop x Write = Unit {0}
+MayStop x NoMemory = Unit {0}
+
+-- a run over readable texts stops for nothing else
+abbrev pub Only : Texts → Option (List ℕ) → Result ScriptEnd RunFault → Type 0
+Only x known result = (text : List ℕ) → known ≡ Some text → IsScriptText text → AreReadable x → IfErr result (MayStop x)

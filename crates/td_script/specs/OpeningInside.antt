@@ -3,6 +3,7 @@ use Rattle.std.specs.Prelude.{◌≡◌, ◌≢◌, ℕ, List, Option, Some, Res
 use Rattle.td_bytes.specs.declared.text.TextFault.{TextFault}
 use Rattle.td_bytes.specs.declared.text.TextFault.TheVariants as text
 use Rattle.td_text.specs.Lines.{lines_of}
+use Rattle.td_relation.specs.Arch.{ArchWords}
 use Rattle.td_relation.specs.declared.archs.ArchsFault.{ArchsFault}
 use Rattle.td_relation.specs.declared.archs.ArchsFault.TheVariants as table
 use Rattle.td_rows.specs.Overlay.{first_missing, overlaid}
@@ -11,6 +12,7 @@ use Rattle.td_rows.specs.Table.{Table}
 use Rattle.td_rows.specs.declared.key.Key.{Key}
 use Rattle.td_rows.specs.declared.state_file.StateFault.{StateFault}
 use Rattle.td_rows.specs.declared.state_file.StateFault.TheVariants as state
+use Rattle.td_indices.specs.Archive.{Contents, IsArchive}
 use Rattle.td_indices.specs.declared.archive_fault.ArchiveFault.{ArchiveFault}
 use Rattle.td_indices.specs.declared.archive_fault.ArchiveFault.TheVariants as archive
 use Rattle.td_query.specs.Tracking.{IsTracker, Tracking}
@@ -22,7 +24,7 @@ use Rattle.td_script.specs.declared.running.RunFault.{RunFault}
 use Rattle.td_script.specs.declared.running.RunFault.TheVariants.{Input, Read, TooLong, NotText, Write, NoMemory}
 use Rattle.td_script.specs.declared.told.Told.{Told as ToldText}
 use Rattle.td_script.specs.Ends.{AreFine, told_over}
-use Rattle.td_script.specs.Openings.{IsNoState, IsRefused, IsSet, Texts}
+use Rattle.td_script.specs.Openings.{IsNoState, IsPatternRefused, IsReadableOver, IsRefused, IsSet, Texts}
 use Rattle.td_script.specs.Replies.{Setting}
 
 -- ---- 1. faults
@@ -110,3 +112,26 @@ IsUnread x why (Ok told) = ⊥
 IsUnread x why (Err (Input e)) = IsRefused x e
 IsUnread x why (Err NoMemory) = Unit {0}
 IsUnread x why (Err e) = AreFine x × (e ≡ of_reading why)
+
+-- ---- 4. what stops nothing but memory, or a pattern
+
+-- the text is a state file whose rows these have
+abbrev pub CanReplace : Table → List ℕ → Type 0
+CanReplace opened text = (given : Table) × IsStateFile (lines_of text) given × ((k : Key) → first_missing opened given ≡ Some k → ⊥)
+
+-- the indices are an archive with the table, and what stands over it can be read
+abbrev pub AreReadableWith : List ArchWords → Texts → Type 0
+AreReadableWith t x = (c : Contents) × IsArchive t (lines_of x.packages) (lines_of x.sources) c × IsReadableOver c x
+
+-- memory runs out, or `regex` refuses a pattern
+abbrev pub Stops : Texts → RunFault → Type 0
+Stops x (Input (fault.Table e)) = ⊥
+Stops x (Input (fault.Archive e)) = ⊥
+Stops x (Input (fault.State e)) = ⊥
+Stops x (Input fault.NoSuchRow) = ⊥
+Stops x (Input (fault.Tracker e)) = IsPatternRefused x.tracker e
+Stops x Read = ⊥
+Stops x TooLong = ⊥
+Stops x NotText = ⊥
+Stops x Write = ⊥
+Stops x NoMemory = Unit {0}

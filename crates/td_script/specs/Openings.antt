@@ -1,5 +1,5 @@
 -- From what a script starts: the rows, the offers and the reports that the texts of files say. This project's own.
-use Rattle.std.specs.Prelude.{◌≡◌, ◌⊎◌, ℕ, true, List, [], ◌∷◌, Option, Some, None, option_map, string_bytes}
+use Rattle.std.specs.Prelude.{◌≡◌, ◌⊎◌, ℕ, true, List, [], ◌∷◌, Option, Some, None, length, option_map, string_bytes}
 use Rattle.td_text.specs.Lines.{lines_of}
 use Rattle.td_relation.specs.Arch.{ArchWords}
 use Rattle.td_relation.specs.TableFile.{IsTable}
@@ -21,6 +21,7 @@ use Rattle.td_indices.specs.Supplying.{supply_of}
 use Rattle.td_indices.specs.declared.archive_fault.ArchiveFault.{ArchiveFault}
 use Rattle.td_indices.specs.declared.archive_fault.ArchiveFault.TheVariants as archive
 use Rattle.td_query.specs.TrackerFaults as tracker_file
+use Rattle.td_query.specs.TrackerGrammar.{said_in}
 use Rattle.td_query.specs.Tracking.{IsTracker, Tracking}
 use Rattle.td_query.specs.declared.tracker_fault.TrackerFault.{TrackerFault}
 use Rattle.td_query.specs.declared.tracker_fault.TrackerFault.TheVariants as tracker
@@ -148,3 +149,26 @@ IsRefused x (fault.Archive e) = AreNoIndices x e
 IsRefused x (fault.State e) = (c : Contents) × IsArchiveOf x c × IsRefusedOver c x (fault.State e)
 IsRefused x fault.NoSuchRow = (c : Contents) × IsArchiveOf x c × IsRefusedOver c x fault.NoSuchRow
 IsRefused x (fault.Tracker e) = (c : Contents) × IsArchiveOf x c × IsRefusedOver c x (fault.Tracker e)
+
+-- ---- 3. what can't be refused
+
+-- a tracker, where one is given
+abbrev pub IsTrackerIfGiven : Option (List ℕ) → Type 0
+IsTrackerIfGiven None = Unit {0}
+IsTrackerIfGiven (Some text) = (t : Tracking) × IsTracker text t
+
+-- rows for an archive, and a tracker where one is given
+pub record IsReadableOver (c : Contents) (x : Texts) : Type 0 where
+  pub rows : Table
+  pub are_rows : AreRowsOf c x.state rows
+  pub tracker : IsTrackerIfGiven x.tracker
+
+-- the texts are an archive, and what stands over it can be read
+abbrev pub AreReadable : Texts → Type 0
+AreReadable x = (c : Contents) × IsArchiveOf x c × IsReadableOver c x
+
+-- `regex` refuses a pattern of the tracker
+abbrev pub IsPatternRefused : Option (List ℕ) → TrackerFault → Type 0
+IsPatternRefused None e = ⊥
+IsPatternRefused (Some text) tracker.NoMemory = ⊥
+IsPatternRefused (Some text) e = tracker_file.IsPatternFault (length text) (tracker_file.log_in (said_in text)) e

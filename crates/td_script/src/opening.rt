@@ -5,10 +5,11 @@ ghost use Rattle.td_relation.specs.TableFile.{IsTable};
 ghost use Rattle.td_relation.specs.TableView.{table};
 ghost use Rattle.td_core.specs.Phases.{NoneBuilt};
 ghost use Rattle.td_indices.specs.Supplying.{supply_of};
-ghost use Rattle.td_script.specs.Openings.{AreRowsOf, IsArchiveOf, texts_of};
+ghost use Rattle.td_script.specs.Openings.{AreReadable, AreRowsOf, IsArchiveOf, IsReadableOver, texts_of};
 ghost use Rattle.td_book.specs.Desk.{Fixed};
-ghost use Rattle.td_query.specs.Tracking.{tracking};
-ghost use Rattle.td_script.specs.OpeningInside.{IsRefusedBy, IsRefusedIn, IsReplacedIn, IsToldOf, IsTrackerOf, Tells, of_archive, of_state, of_table, of_tracker};
+ghost use Rattle.td_query.specs.Tracking.{IsTracker, Tracking, tracking};
+ghost use Rattle.td_rows.specs.Table.{Table};
+ghost use Rattle.td_script.specs.OpeningInside.{AreReadableWith, CanReplace, Stops, IsRefusedBy, IsRefusedIn, IsReplacedIn, IsToldOf, IsTrackerOf, Tells, of_archive, of_state, of_table, of_tracker};
 
 use crate::input_fault::InputFault;
 use crate::inputs::Inputs;
@@ -70,6 +71,7 @@ fn replaced(alloc: Global, mut rows: Rows, text: &str) -> Result<Rows, RunFault>
     ensures rows { IfOk result (IsReplacedIn rows text.now) }
     ensures idle { IfOk result NoneBuilt }
     ensures refused { IfErr result (IsRefusedIn rows text.now) }
+    ensures only { IfErr result (λ fault. CanReplace rows text.now → fault ≡ RunFault.NoMemory) }
 {
     let given = match read_state(alloc, text) {
         Ok(given) => given,
@@ -87,6 +89,7 @@ fn rows_of(alloc: Global, archive: &Archive<'_, '_>, inputs: &Inputs) -> Result<
     ensures rows { IfOk result (AreRowsOf archive.now (texts_of inputs.now).state) }
     ensures idle { IfOk result NoneBuilt }
     ensures refused { IfErr result (IsRefusedBy (texts_of inputs.now)) }
+    ensures only { IfErr result (λ fault. (t : Table) → AreRowsOf archive.now (texts_of inputs.now).state t → fault ≡ RunFault.NoMemory) }
 {
     let Ok(rows) = archive.opening_rows() else {
         return Err(RunFault::NoMemory);
@@ -162,7 +165,8 @@ fn tell_tracked(
     requires tracker { IsTrackerOf (texts_of inputs.now) (tracking tracker.now) }
     requires idle { NoneBuilt rows }
     requires small { length script.now < 2 ^ 63 - 1 }
-    ensures { MatchResult result (Tells (texts_of inputs.now) script.now) (IsRefusedBy (texts_of inputs.now)) }
+    ensures tells { MatchResult result (Tells (texts_of inputs.now) script.now) (IsRefusedBy (texts_of inputs.now)) }
+    ensures memory { IfErr result (λ fault. fault ≡ RunFault.NoMemory) }
 {
     let Ok(transition) = Transition::of(alloc, archive, tracker) else {
         return Err(RunFault::NoMemory);
@@ -185,7 +189,8 @@ fn tell_with_tracker(
     requires tracker { (texts_of inputs.now).tracker ≡ Some text.now }
     requires idle { NoneBuilt rows }
     requires small { length script.now < 2 ^ 63 - 1 }
-    ensures { MatchResult result (Tells (texts_of inputs.now) script.now) (IsRefusedBy (texts_of inputs.now)) }
+    ensures tells { MatchResult result (Tells (texts_of inputs.now) script.now) (IsRefusedBy (texts_of inputs.now)) }
+    ensures only { IfErr result (λ fault. (t : Tracking) → IsTracker text.now t → Stops (texts_of inputs.now) fault) }
 {
     match Tracker::read(alloc, text) {
         Ok(tracker) => tell_tracked(alloc, archive, &tracker, rows, inputs, script),
@@ -206,7 +211,8 @@ fn tell_untracked(
     requires tracker { (texts_of inputs.now).tracker ≡ None }
     requires idle { NoneBuilt rows }
     requires small { length script.now < 2 ^ 63 - 1 }
-    ensures { MatchResult result (Tells (texts_of inputs.now) script.now) (IsRefusedBy (texts_of inputs.now)) }
+    ensures tells { MatchResult result (Tells (texts_of inputs.now) script.now) (IsRefusedBy (texts_of inputs.now)) }
+    ensures memory { IfErr result (λ fault. fault ≡ RunFault.NoMemory) }
 {
     let suite = inputs.suite.as_str();
     let none = Option::<&Transition<'_, '_, '_, '_>>::None;
@@ -222,7 +228,8 @@ fn tell_over_archive(
 ) -> Result<Told, RunFault>
     requires archive { IsArchiveOf (texts_of inputs.now) archive.now }
     requires small { length script.now < 2 ^ 63 - 1 }
-    ensures { MatchResult result (Tells (texts_of inputs.now) script.now) (IsRefusedBy (texts_of inputs.now)) }
+    ensures tells { MatchResult result (Tells (texts_of inputs.now) script.now) (IsRefusedBy (texts_of inputs.now)) }
+    ensures only { IfErr result (λ fault. IsReadableOver archive.now (texts_of inputs.now) → Stops (texts_of inputs.now) fault) }
 {
     let rows = match rows_of(alloc, archive, inputs) {
         Ok(rows) => rows,
@@ -243,14 +250,12 @@ fn tell_over_table(
 ) -> Result<Told, RunFault>
     requires table { IsTable (lines_of (texts_of inputs.now).archs) (table archs.now) }
     requires small { length script.now < 2 ^ 63 - 1 }
-    ensures { MatchResult result (Tells (texts_of inputs.now) script.now) (IsRefusedBy (texts_of inputs.now)) }
+    ensures tells { MatchResult result (Tells (texts_of inputs.now) script.now) (IsRefusedBy (texts_of inputs.now)) }
+    ensures only { IfErr result (λ fault. AreReadableWith (table archs.now) (texts_of inputs.now) → Stops (texts_of inputs.now) fault) }
 {
-    match Archive::read(
-        alloc,
-        inputs.packages.as_str(),
-        inputs.sources.as_str(),
-        archs,
-    ) {
+    let packages = inputs.packages.as_str();
+    let sources = inputs.sources.as_str();
+    match Archive::read(alloc, packages, sources, archs) {
         Ok(archive) => tell_over_archive(alloc, &archive, inputs, script),
         Err(fault) => Err(fault_of_archive(fault)),
     }
@@ -259,7 +264,8 @@ fn tell_over_table(
 /// What is told of a script over the texts of files: these are judged first.
 pub fn tell_over(alloc: Global, inputs: &Inputs, script: &str) -> Result<Told, RunFault>
     requires { length script.now < 2 ^ 63 - 1 }
-    ensures { MatchResult result (Tells (texts_of inputs.now) script.now) (IsRefusedBy (texts_of inputs.now)) }
+    ensures tells { MatchResult result (Tells (texts_of inputs.now) script.now) (IsRefusedBy (texts_of inputs.now)) }
+    ensures only { IfErr result (λ fault. AreReadable (texts_of inputs.now) → Stops (texts_of inputs.now) fault) }
 {
     match Archs::read(alloc, inputs.archs.as_str()) {
         Ok(archs) => tell_over_table(alloc, &archs, inputs, script),

@@ -1,9 +1,9 @@
 //! The run of a script: from the texts of files and the bytes of a reader to those of a writer.
-ghost use Rattle.std.specs.Prelude.{◌≡◌, ◌≤◌, IfOk, IfErr, MatchResult, length, string_bytes};
+ghost use Rattle.std.specs.Prelude.{◌≡◌, ◌⊎◌, ◌≤◌, IfOk, IfErr, MatchResult, length, string_bytes};
 ghost use Rattle.std.specs.Result.{ForOk};
-ghost use Rattle.td_script.specs.Ends.{Says};
-ghost use Rattle.td_script.specs.OpeningInside.{IsRefusedBy, IsUnread, Tells, of_reading};
-ghost use Rattle.td_script.specs.Openings.{texts_of};
+ghost use Rattle.td_script.specs.Ends.{Only, Says};
+ghost use Rattle.td_script.specs.OpeningInside.{IsRefusedBy, IsUnread, Stops, Tells, of_reading};
+ghost use Rattle.td_script.specs.Openings.{AreReadable, texts_of};
 
 use crate::input_fault::InputFault;
 use crate::inputs::Inputs;
@@ -59,7 +59,9 @@ fn tell_read(
 ) -> Result<Told, RunFault>
     requires { ForOk read (λ text. length (string_bytes text) ≤ SCRIPT_LIMIT) }
     ensures read { IfOk read (λ text. MatchResult result (Tells (texts_of inputs.now) (string_bytes text)) (IsRefusedBy (texts_of inputs.now))) }
+    ensures only { IfOk read (λ _. IfErr result (λ fault. AreReadable (texts_of inputs.now) → Stops (texts_of inputs.now) fault)) }
     ensures unread { IfErr read (λ fault. IsUnread (texts_of inputs.now) fault result) }
+    ensures unread_only { IfErr read (λ why. IfErr result (λ fault. AreReadable (texts_of inputs.now) → Stops (texts_of inputs.now) fault ⊎ (fault ≡ of_reading why))) }
 {
     match read {
         Ok(text) => tell_over(alloc, inputs, text.as_str()),
@@ -78,7 +80,8 @@ pub fn run_script<R: Read, W: Write>(
     reader: &mut R,
     writer: &mut W,
 ) -> Result<ScriptEnd, RunFault>
-    ensures { Says (texts_of inputs.now) (R.remaining reader.old) (W.contents writer.old) (W.contents writer.new) result }
+    ensures says { Says (texts_of inputs.now) (R.remaining reader.old) (W.contents writer.old) (W.contents writer.new) result }
+    ensures only { Only (texts_of inputs.now) (R.remaining reader.old) result }
 {
     let read = read_text(alloc, reader, SCRIPT_LIMIT);
     let told = tell_read(alloc, inputs, read)?;

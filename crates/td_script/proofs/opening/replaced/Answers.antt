@@ -1,6 +1,8 @@
-use Rattle.std.proofs.Common.{◌≡◌, sym, subst}
+use Rattle.std.proofs.Common.{◌≡◌, ◌∙◌, ap, sym, subst}
 use Rattle.td_core.specs.Phases.{NoneBuilt}
 use Rattle.td_core.proofs.Openings.{NoneBuilt-state_file}
+use Rattle.td_script.specs.OpeningInside.{of_state}
+use Rattle.td_script.proofs.OnlyLaws.{missing_stops}
 use Rattle.td_script.proofs.OpeningLaws.{missing_key, none_built_over, state_refused}
 use Rattle.td_script.proofs.opening.replaced.Goals as goal
 
@@ -17,3 +19,11 @@ returns-in-Ok-overlay-clause-idle c = subst NoneBuilt (sym c.in-Ok-overlay.ensur
 
 pub returns-in-Err-overlay-clause-refused : goal.returns-in-Err-overlay-clause-refused
 returns-in-Err-overlay-clause-refused c = (c.in-Ok.given, c.in-Ok.ensures.found, missing_key c.args.rows c.in-Ok.given c.overlay.result c.in-Err-overlay.field-0 c.in-Err-overlay.is c.overlay.ensures.missing)
+
+pub returns-in-Err-clause-only : goal.returns-in-Err-clause-only
+returns-in-Err-clause-only c = λ can. c.fault_of_state.ensures ∙ ap of_state (c.in-Err.ensures.only can.0 can.1)
+
+pub returns-in-Err-overlay-clause-only : goal.returns-in-Err-overlay-clause-only
+returns-in-Err-overlay-clause-only c = λ can.
+    let found = missing_key c.args.rows c.in-Ok.given c.overlay.result c.in-Err-overlay.field-0 c.in-Err-overlay.is c.overlay.ensures.missing in
+    absurd (missing_stops c.args.rows c.in-Ok.given c.args.text.now found.0 found.1 (λ u is. c.in-Ok.ensures.only u is) can)
