@@ -1,21 +1,18 @@
 -- What the calls of a book answer, as replies.
-use Rattle.std.proofs.Common.{◌≡◌, ◌≢◌, ℕ, zero, suc, ◌+◌, ◌-◌, ◌≤◌, Bool, true, false, List, [], ◌∷◌, ◌++◌, length, Option, Some, None, Ok, Err, refl, sym, ap, subst, ◌∙◌, arith, slice_get, if◌then◌else◌}
-use Rattle.std.specs.Prelude.{◌==◌, ◌&&◌, Result}
+use Rattle.std.proofs.Common.{◌≡◌, ◌≢◌, ℕ, zero, suc, ◌+◌, ◌-◌, ◌≤◌, Bool, true, false, List, [], ◌∷◌, ◌++◌, length, Some, None, Ok, refl, sym, ap, subst, ◌∙◌, arith, slice_get, if◌then◌else◌}
+use Rattle.std.specs.Prelude.{◌==◌, ◌&&◌}
 use Rattle.std.proofs.lemmas.List.{append-nil}
 use Rattle.td_rows.specs.declared.key.Key.{Key}
-use Rattle.td_rows.specs.declared.row.Row.{Row}
 use Rattle.td_rows.specs.declared.kind.Kind.TheVariants as kinds
 use Rattle.td_rows.specs.Table.{row_of}
 use Rattle.td_journal.specs.declared.entry.Entry.{Entry}
 use Rattle.td_journal.specs.declared.entry.Marked.{Marked}
 use Rattle.td_journal.specs.Entries.{entry_at, standing_entry}
 use Rattle.td_core.specs.History.{History, rows_of, with_entry}
-use Rattle.td_core.specs.Offers.{freed, supply_now}
 use Rattle.td_core.specs.Refusals.{is_queued_at}
 use Rattle.td_book.specs.Desk.{BookModel}
-use Rattle.td_book.specs.Arriving.{ArriveOutcome, SweepOutcome, freed_now}
-use Rattle.td_book.specs.Calls.{noting, noting_one, Choices, is_lost}
-use Rattle.td_book.specs.declared.arriving.ArriveRefusal.TheVariants as arrivals
+use Rattle.td_book.specs.Arriving.{ArriveOutcome}
+use Rattle.td_book.specs.Calls.{noting, noting_one, is_lost}
 use Rattle.td_script.specs.Replies.{Reply, enters, entry_made, arrives, sweeps, refuses, refusal_line}
 use Rattle.td_script.specs.Answering.{Answers}
 

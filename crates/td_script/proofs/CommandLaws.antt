@@ -1,5 +1,5 @@
 -- The answer to a command, from what the book's call says.
-use Rattle.std.proofs.Common.{◌≡◌, ◌≢◌, ℕ, ◌+◌, ◌≤◌, List, [], ◌∷◌, ◌++◌, length, Some, None, Ok, Err, refl, sym, ap, subst, ◌∙◌, arith, slice_get, append_assoc, filter, true, false}
+use Rattle.std.proofs.Common.{◌≡◌, ◌≢◌, ℕ, ◌+◌, List, [], ◌∷◌, ◌++◌, length, Some, Ok, Err, refl, sym, ap, subst, ◌∙◌, arith, append_assoc, filter, true, false}
 use Rattle.std.specs.List.{flat_map}
 use Rattle.std.specs.Prelude.{codes}
 use Rattle.td_rows.specs.declared.key.Key.{Key}
@@ -8,7 +8,7 @@ use Rattle.td_rows.specs.Table.{Table}
 use Rattle.td_journal.specs.declared.entry.Entry.{Entry}
 use Rattle.td_journal.specs.declared.entry.Marked.{Marked}
 use Rattle.td_journal.specs.Entries.{entry_at, standing_entry}
-use Rattle.td_core.specs.History.{History, rows_of}
+use Rattle.td_core.specs.History.{History}
 use Rattle.td_wbread.specs.Command.{CommandParts}
 use Rattle.td_book.specs.declared.commanding.CommandRefusal.TheVariants as refusals
 use Rattle.td_book.specs.declared.commanding.Taken.{Taken}

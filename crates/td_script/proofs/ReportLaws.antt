@@ -1,5 +1,5 @@
 -- A tracker has one report of the same rows.
-use Rattle.std.proofs.Common.{◌≡◌, ◌≤◌, ◌<◌, ℕ, zero, suc, List, [], ◌∷◌, Option, Some, None, option_map, refl, sym, ap, subst, ◌∙◌, arith}
+use Rattle.std.proofs.Common.{◌≡◌, ◌≤◌, ℕ, zero, suc, List, [], ◌∷◌, Option, Some, None, option_map, refl, sym, ap, ◌∙◌, arith}
 use Rattle.std.specs.List.{cons_option}
 use Rattle.td_text.specs.Lines.{text_of}
 use Rattle.td_rows.specs.declared.key.Key.{Key}
@@ -14,7 +14,7 @@ use Rattle.td_waves.specs.Levels.{IsDepth, StandsAt}
 use Rattle.td_waves.specs.Waves.{BuildsOn}
 use Rattle.td_waves.proofs.SameLevel.{is_affected, same_level}
 use Rattle.td_report.specs.Report.{AffectedRow, report_lines}
-use Rattle.td_report.specs.Transition.{AreLevels, IsAffected, IsReport, affected_row, affected_rows}
+use Rattle.td_report.specs.Transition.{AreLevels, IsAffected, IsReport, affected_rows}
 use Rattle.td_script.specs.Reporting.{report_with}
 
 -- a thing stands in one place

@@ -1,5 +1,5 @@
 -- The line of a request is read exactly.
-use Rattle.std.proofs.Common.{◌≡◌, ◌≢◌, ℕ, suc, Bool, ◌<◌, ◌≤◌, ◌^◌, ◌-◌, ◌&&◌, true, cond, eqb, false, List, [], ◌∷◌, ◌++◌, length, Option, Some, None, refl, sym, ap, subst, ◌∙◌, arith, lit<}
+use Rattle.std.proofs.Common.{◌≡◌, ℕ, suc, Bool, ◌<◌, ◌^◌, ◌-◌, ◌&&◌, true, cond, eqb, false, List, [], ◌∷◌, ◌++◌, length, Option, Some, None, refl, sym, ap, subst, ◌∙◌, arith, lit<}
 use Rattle.std.specs.Prelude.{codes, decimal}
 use Rattle.std.proofs.lemmas.Bool.{and_parts, eqb-true}
 use Rattle.td_text.specs.Chain.{◌>>=◌}
@@ -20,7 +20,6 @@ use Rattle.td_script.specs.declared.request.Verb.{Verb}
 use Rattle.td_script.specs.declared.request.Verb.TheVariants as verb
 use Rattle.td_script.specs.declared.request.Request.{Request}
 use Rattle.td_script.specs.declared.request.Request.TheVariants.{Undo, Arrive, Sweep, Row, Entry, Report, Journal}
-use Rattle.td_script.specs.declared.line.Said.{Said}
 use Rattle.td_script.specs.declared.line.Said.TheVariants.{Skipped, Asked, Bad, Typed}
 use Rattle.td_script.specs.Requests.{two_words, request_line, RequestFits}
 use Rattle.td_script.specs.Reading.{LinesAreSaid, verb_at, spaced_key_at, by_verb, request_at, is_skipped, is_verb, first_word, unasked, said_at, RequestsAreExact}

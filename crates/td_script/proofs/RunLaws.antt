@@ -1,19 +1,16 @@
 -- How a run ends by what was read and told.
-use Rattle.std.proofs.Common.{◌≡◌, ◌≤◌, ◌<◌, ℕ, List, length, Option, Some, None, Result, Ok, Err, IfOk, IfErr, String, string_bytes, refl, sym, ap, subst, ◌∙◌}
-use Rattle.std.specs.Prelude.{IfSome, IsErrOf, IsUtf8, MatchResult}
+use Rattle.std.proofs.Common.{◌≡◌, ◌≤◌, ℕ, List, length, Option, Some, None, Result, Ok, Err, IfOk, IfErr, String, string_bytes, sym, subst}
+use Rattle.std.specs.Prelude.{IfSome, MatchResult}
 use Rattle.std.specs.declared.alloc.Global.{Global}
-use Rattle.std.specs.Io.KnownBytes.{Keeps}
 use Rattle.std.proofs.lemmas.Result.{MatchResult-at_ok}
 use Rattle.std.proofs.lemmas.Str.{IsUtf8-string_bytes}
 use Rattle.td_bytes.specs.declared.text.TextFault.{TextFault}
-use Rattle.td_bytes.specs.declared.text.TextFault.TheVariants as text
 use Rattle.td_script.specs.declared.running.RunFault.{RunFault}
-use Rattle.td_script.specs.declared.running.RunFault.TheVariants.{Input, Read, TooLong, NotText, Write, NoMemory}
 use Rattle.td_script.specs.declared.running.TheConstants.{SCRIPT_LIMIT}
 use Rattle.td_script.specs.declared.told.Told.{Told as ToldText}
-use Rattle.td_script.specs.Ends.{AreFine, Plays, Says, told_over}
-use Rattle.td_script.specs.OpeningInside.{IsRefusedBy, IsUnread, Tells, of_reading}
-use Rattle.td_script.specs.Openings.{IsRefused, Texts}
+use Rattle.td_script.specs.Ends.{Plays, told_over}
+use Rattle.td_script.specs.OpeningInside.{IsRefusedBy, IsUnread, Tells}
+use Rattle.td_script.specs.Openings.{Texts}
 use Rattle.td_script.specs.Script.{Told}
 
 -- the known bytes are those that were read

@@ -1,5 +1,5 @@
 -- What is told of the lines so far.
-use Rattle.std.proofs.Common.{◌≡◌, ℕ, zero, ◌+◌, ◌≤◌, ◌<◌, ◌^◌, ◌-◌, List, [], ◌∷◌, length, Option, Some, None, fold, Bor, refl, sym, ap, subst, ◌∙◌, arith}
+use Rattle.std.proofs.Common.{◌≡◌, ℕ, ◌+◌, ◌≤◌, ◌<◌, ◌^◌, ◌-◌, List, [], ◌∷◌, length, Option, Some, None, fold, Bor, refl, sym, ap, ◌∙◌, arith}
 use Rattle.std.specs.String.{string_bytes}
 use Rattle.td_rows.specs.Table.{Table}
 use Rattle.td_text.specs.Lines.{lines_of, lines_left, left_len}

@@ -1,5 +1,5 @@
 -- The answers to the lines of a script, one after the other. This project's own.
-use Rattle.std.specs.Prelude.{◌≡◌, ℕ, ◌+◌, ◌≤◌, Bool, List, [], ◌++◌, fold, if◌then◌else◌, zero, string_bytes}
+use Rattle.std.specs.Prelude.{◌≡◌, ℕ, ◌+◌, ◌≤◌, List, [], ◌++◌, fold, if◌then◌else◌, zero, string_bytes}
 use Rattle.td_text.specs.Lines.{lines_of}
 use Rattle.td_core.specs.History.{History}
 use Rattle.td_book.specs.Desk.{BookModel}

@@ -1,4 +1,4 @@
-use Rattle.std.proofs.Common.{◌≡◌, List, Ok, Err, ap, ◌∙◌, rules}
+use Rattle.std.proofs.Common.{List, Ok, Err, ap, ◌∙◌, rules}
 use Rattle.td_journal.specs.Entries.{entry_at}
 use Rattle.td_journal.specs.declared.entry.Marked.{Marked}
 use Rattle.td_wbread.specs.Views.{parts_of}

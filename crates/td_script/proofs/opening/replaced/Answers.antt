@@ -1,9 +1,9 @@
-use Rattle.std.proofs.Common.{◌≡◌, ◌∙◌, ap, sym, subst}
+use Rattle.std.proofs.Common.{◌∙◌, ap, sym, subst}
 use Rattle.td_core.specs.Phases.{NoneBuilt}
 use Rattle.td_core.proofs.Openings.{NoneBuilt-state_file}
 use Rattle.td_script.specs.OpeningInside.{of_state}
 use Rattle.td_script.proofs.OnlyLaws.{missing_stops}
-use Rattle.td_script.proofs.OpeningLaws.{missing_key, none_built_over, state_refused}
+use Rattle.td_script.proofs.OpeningLaws.{missing_key, none_built_over}
 use Rattle.td_script.proofs.opening.replaced.Goals as goal
 
 pub returns-in-Ok-overlay-clause-rows : goal.returns-in-Ok-overlay-clause-rows

@@ -1,4 +1,4 @@
-use Rattle.std.proofs.Common.{◌≡◌, rules}
+use Rattle.std.proofs.Common.{rules}
 use Rattle.td_script.specs.Openings.{texts_of}
 use Rattle.td_script.proofs.OnlyLaws.{rows_stop}
 use Rattle.td_script.proofs.OpeningLaws.{refused_rows}

@@ -1,4 +1,4 @@
-use Rattle.std.proofs.Common.{◌≡◌, ap, sym, ◌∙◌, refl, rules}
+use Rattle.std.proofs.Common.{ap, ◌∙◌, rules}
 use Rattle.std.proofs.lemmas.Result.{IfOk-weaker}
 use Rattle.td_script.proofs.OpeningLaws.{fresh_supply, stock-opened, told_from}
 use Rattle.td_script.proofs.opening.tell_in.Goals as goal

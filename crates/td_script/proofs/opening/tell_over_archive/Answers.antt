@@ -1,4 +1,4 @@
-use Rattle.std.proofs.Common.{◌≡◌, rules}
+use Rattle.std.proofs.Common.{rules}
 use Rattle.td_script.specs.Openings.{IsReadableOver, texts_of}
 use Rattle.td_script.proofs.OnlyLaws.{given_stops, memory_alone, memory_stops}
 use Rattle.td_script.proofs.opening.tell_over_archive.Goals as goal

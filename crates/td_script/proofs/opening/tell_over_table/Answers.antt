@@ -1,4 +1,3 @@
-use Rattle.std.proofs.Common.{◌≡◌}
 use Rattle.td_relation.specs.TableView.{table}
 use Rattle.td_script.specs.Openings.{texts_of}
 use Rattle.td_script.proofs.OnlyLaws.{archive_stops, no_archive_stops}

@@ -1,4 +1,4 @@
-use Rattle.std.proofs.Common.{◌≡◌, ◌∷◌, [], List, Some, ap, refl, rules}
+use Rattle.std.proofs.Common.{◌∷◌, [], Some, ap, refl, rules}
 use Rattle.td_indices.specs.Supplying.{supply_of}
 use Rattle.td_query.specs.Tracking.{tracking}
 use Rattle.td_report.specs.TransitionView.{contents_of, depth_of, level_of, tracking_of}

@@ -1,4 +1,4 @@
-use Rattle.std.proofs.Common.{◌≡◌, sym, subst}
+use Rattle.std.proofs.Common.{sym, subst}
 use Rattle.td_script.specs.OpeningInside.{Stops}
 use Rattle.td_script.specs.Openings.{texts_of}
 use Rattle.td_script.proofs.OnlyLaws.{tracked_stops, tracker_stops}

@@ -1,4 +1,4 @@
-use Rattle.std.proofs.Common.{◌≡◌, List, ap, sym, subst, ◌∙◌, refl, rules, None}
+use Rattle.std.proofs.Common.{◌≡◌, ap, sym, subst, ◌∙◌, refl, rules, None}
 use Rattle.td_book.specs.Desk.{Fixed}
 use Rattle.td_script.proofs.ScriptLaws.{IsSoFar, IsSoFar-begun, IsSoFar-next, IsSoFar-done, room}
 use Rattle.td_script.proofs.told.tell.Goals as goal
