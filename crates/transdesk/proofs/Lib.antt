@@ -6,3 +6,4 @@ pub mod Counting
 pub mod Asks
 pub mod Told
 pub mod Sure
+pub mod UnreadRuns

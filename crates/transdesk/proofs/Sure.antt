@@ -122,12 +122,12 @@ same_texts files x y known read =
 
 -- a known file isn't refused as no text
 one_text : (known : Option (List ℕ)) (text : List ℕ) → IsKnownText known text → IsNoText known → ⊥
-one_text known text is no = (subst IsNoText is.whole no).1 is.read.1
+one_text known text is other = (subst IsNoText is.whole other).1 is.read.1
 
 given_text : (given : Option OneFile) (text : Option (List ℕ)) (file : OneFile) → IsKnownIfGiven given text → given ≡ Some file → IsNoText file.known → ⊥
-given_text None text file known is no = cc
-given_text (Some other) None file known is no = known
-given_text (Some other) (Some text) file known is no = one_text file.known text (subst (λ o. IsKnownIfGiven o (Some text)) is known) no
+given_text None text file known is none = cc
+given_text (Some other) None file known is none = known
+given_text (Some other) (Some text) file known is none = one_text file.known text (subst (λ o. IsKnownIfGiven o (Some text)) is known) none
 
 no_such_text : (files : TrackFiles) (role : Role) (x : Texts) → FailsAt files role text_fault.NotText → AreKnownTexts files x → ⊥
 no_such_text files Input x failed known = failed

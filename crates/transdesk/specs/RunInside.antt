@@ -10,12 +10,9 @@ use Rattle.transdesk.specs.declared.run_files.RunTexts.{RunTexts}
 use Rattle.transdesk.specs.Limits.{file_limit}
 use Rattle.transdesk.specs.Runs.{AreTextsOf, FailsAt, RunFiles, Texts, run_files, script_texts}
 
-abbrev path_of : Option (Bor (List ℕ)) → Option (List ℕ)
-path_of given = option_map (λ p. p.now) given
-
 -- the files of these paths
 abbrev pub run_files_at : (List ℕ → Option (List ℕ)) → (List ℕ → TextFault → Bool) → RunPaths → RunFiles
-run_files_at bytes can_fail p = run_files bytes can_fail p.archs.now p.packages.now p.sources.now (path_of p.state) (path_of p.tracker) (path_of p.outcomes) (path_of p.journal)
+run_files_at bytes can_fail p = run_files bytes can_fail p.archs.now p.packages.now p.sources.now (option_map (λ s. s.now) p.state) (option_map (λ s. s.now) p.tracker) (option_map (λ s. s.now) p.outcomes) (option_map (λ s. s.now) p.journal)
 
 -- the texts that were read
 abbrev pub run_texts_of : RunTexts → Texts
