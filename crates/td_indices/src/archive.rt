@@ -42,6 +42,7 @@ impl<'t, 'a> Model for Archive<'t, 'a> {
     ghost use Rattle.td_indices.specs.Reading.{binaries_at, sources_at};
     ghost use Rattle.td_indices.specs.Rows.{row_count};
     ghost use Rattle.td_indices.specs.Sources.{sources_of};
+    ghost use Rattle.td_rows.specs.Limits.{max_rows};
 
     ghost Value = { Contents };
 
