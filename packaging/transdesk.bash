@@ -3,7 +3,7 @@
 
 _transdesk() {
     local word=${COMP_WORDS[COMP_CWORD]} before=${COMP_WORDS[COMP_CWORD - 1]}
-    local subcommands="simulate check track waves help" options="--help"
+    local subcommands="simulate check track waves run help" options="--help"
     COMPREPLY=()
     if [ "$COMP_CWORD" -eq 1 ]; then
         mapfile -t COMPREPLY < <(compgen -W "$subcommands --help --version" -- "$word")
@@ -19,6 +19,10 @@ _transdesk() {
     check) options="--archs --packages --sources --help" ;;
     track) options="--archs --packages --sources --tracker --state --chunk --help" ;;
     waves) options="--archs --packages --sources --tracker --help" ;;
+    run)
+        options="--archs --packages --sources --state --tracker --suite --builders --outcomes"
+        options="$options --journal --help"
+        ;;
     simulate) ;;
     *) return ;;
     esac
@@ -29,11 +33,11 @@ _transdesk() {
         before=${COMP_WORDS[COMP_CWORD - 2]}
     fi
     case $before in
-    --archs | --packages | --sources | --tracker | --state)
+    --archs | --packages | --sources | --tracker | --state | --outcomes | --journal)
         compopt -o filenames 2> /dev/null
         mapfile -t COMPREPLY < <(compgen -f -- "$word")
         ;;
-    --chunk) ;;
+    --chunk | --suite | --builders) ;;
     *)
         # Each option is given once.
         local given option left=

@@ -9,6 +9,7 @@ _transdesk() {
         'check:count what two package indices hold'
         'track:report how far a transition has come'
         'waves:list the sources of a transition by levels'
+        'run:do what a script says over the rows of an archive'
         'help:tell of a subcommand'
     )
     indices=(
@@ -31,6 +32,12 @@ _transdesk() {
         track)
             _arguments $indices $tracker '--state=[rows in the place of others]:file:_files' \
                 '--chunk=[rows of a piece]:rows:' '--help[tell of the subcommand]'
+            ;;
+        run)
+            _arguments $indices $tracker '--state=[rows in the place of others]:file:_files' \
+                '--suite=[the suite that lines name]:suite:' '--builders=[how many build]:builders:' \
+                '--outcomes=[how builds end]:file:_files' '--journal=[what to go on with]:file:_files' \
+                '--help[tell of the subcommand]'
             ;;
         waves) _arguments $indices $tracker '--help[tell of the subcommand]' ;;
     esac
