@@ -71,7 +71,7 @@ track_lacks Says files old new before said status told =
 
 run_lacks : (files : RunFiles) (suite : List ℕ) (known old new before said : Option (List ℕ)) (status : ℕ) → IsTold words_fault.NoMemory old new before said status → Ran (EndsRun files suite known old new) before said status
 run_lacks files suite known old new before said status told =
-    record { ending = NoMemory; answered = told.tells.answered; ends = inl (refl, told.kept); line = told.tells.line }
+    record { ending = NoMemory; answered = told.tells.answered; ends = record { says = inl (refl, told.kept); only = λ x files-are text is fits readable. tt }; line = told.tells.line }
 
 simulation_lacks : (known old new before said : Option (List ℕ)) (status : ℕ) → IsTold words_fault.NoMemory old new before said status → Ran (Ends known old new) before said status
 simulation_lacks known old new before said status told =

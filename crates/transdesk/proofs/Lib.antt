@@ -7,3 +7,4 @@ pub mod Asks
 pub mod Told
 pub mod Sure
 pub mod UnreadRuns
+pub mod SureRuns

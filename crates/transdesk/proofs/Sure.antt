@@ -100,10 +100,10 @@ no_table x ending archs a only readable =
 -- ---- known files
 
 -- a known text is the one that was read
-known_same : (known : Option (List ℕ)) (all text : List ℕ) → IsKnownText known all → IsTextOf known text → all ≡ text
+pub known_same : (known : Option (List ℕ)) (all text : List ℕ) → IsKnownText known all → IsTextOf known text → all ≡ text
 known_same known all text is of = subst (λ o. IfSome o (λ x. x ≡ text)) is.whole of.whole
 
-given_same : (file : Option OneFile) (all text : Option (List ℕ)) → IsKnownIfGiven file all → IsTextIfGiven file text → all ≡ text
+pub given_same : (file : Option OneFile) (all text : Option (List ℕ)) → IsKnownIfGiven file all → IsTextIfGiven file text → all ≡ text
 given_same None None None is of = refl
 given_same None None (Some text) is of = absurd of
 given_same None (Some all) text is of = absurd is
@@ -121,10 +121,10 @@ same_texts files x y known read =
     ∙ ap (λ v. made y.archs y.packages y.sources y.state v) (known_same _ x.tracker y.tracker known.tracker read.tracker)
 
 -- a known file isn't refused as no text
-one_text : (known : Option (List ℕ)) (text : List ℕ) → IsKnownText known text → IsNoText known → ⊥
+pub one_text : (known : Option (List ℕ)) (text : List ℕ) → IsKnownText known text → IsNoText known → ⊥
 one_text known text is other = (subst IsNoText is.whole other).1 is.read.1
 
-given_text : (given : Option OneFile) (text : Option (List ℕ)) (file : OneFile) → IsKnownIfGiven given text → given ≡ Some file → IsNoText file.known → ⊥
+pub given_text : (given : Option OneFile) (text : Option (List ℕ)) (file : OneFile) → IsKnownIfGiven given text → given ≡ Some file → IsNoText file.known → ⊥
 given_text None text file known is none = cc
 given_text (Some other) None file known is none = known
 given_text (Some other) (Some text) file known is none = one_text file.known text (subst (λ o. IsKnownIfGiven o (Some text)) is known) none

@@ -2,7 +2,8 @@
 use Rattle.std.specs.Prelude.{◌≡◌, ◌⊎◌, ℕ, ◌==◌, Bool, List, Option, Result, Ok, Err, Some, option_map, if◌then◌else◌}
 use Rattle.std.specs.Io.KnownBytes.{Keeps}
 use Rattle.td_bytes.specs.declared.text.TextFault.{TextFault}
-use Rattle.td_script.specs.Ends.{Says}
+use Rattle.td_query.specs.declared.tracker_fault.TrackerFault.{TrackerFault}
+use Rattle.td_script.specs.Ends.{IsScriptText, Says}
 use Rattle.td_script.specs.Openings as script
 use Rattle.td_script.specs.declared.input_fault.InputFault.{InputFault}
 use Rattle.td_script.specs.declared.input_fault.InputFault.TheVariants as refused
@@ -17,7 +18,7 @@ use Rattle.transdesk.specs.declared.ending.Ending.{Ending}
 use Rattle.transdesk.specs.declared.ending.Ending.TheVariants.{Done, Refused, BadInput, NoMemory, CannotRead, CannotWrite}
 use Rattle.transdesk.specs.Ending.{ending_of_archive, ending_of_file, ending_of_missing_row, ending_of_state, ending_of_table, ending_of_tracker}
 use Rattle.transdesk.specs.Checks.{AreTexts, Files, HasFailed, files_of}
-use Rattle.transdesk.specs.Tracks.{IsTextIfGiven, MayFail, OneFile, file_at}
+use Rattle.transdesk.specs.Tracks.{IsKnownIfGiven, IsKnownText, IsTextIfGiven, MayFail, OneFile, file_at}
 
 -- ---- 1. what is read
 
@@ -123,9 +124,39 @@ ScriptEnds x suite known old new ending =
     ((ending ≡ NoMemory) × Keeps old new)
     ⊎ ((r : Result ScriptEnd RunFault) × Says (script_texts x suite) known old new r × (ending ≡ ending_of_script r))
 
--- a file isn't read, or memory runs out, and nothing is written; or the script ends it
-abbrev pub EndsRun : RunFiles → List ℕ → Option (List ℕ) → Option (List ℕ) → Option (List ℕ) → Ending → Type 0
-EndsRun files suite known old new ending =
+-- memory runs out, or a file isn't read, and nothing is written; or the script ends it
+abbrev pub RunSays : RunFiles → List ℕ → Option (List ℕ) → Option (List ℕ) → Option (List ℕ) → Ending → Type 0
+RunSays files suite known old new ending =
     ((ending ≡ NoMemory) × Keeps old new)
     ⊎ ((IsUnread files ending × Keeps old new)
     ⊎ ((x : Texts) × AreTextsOf files x × ScriptEnds x suite known old new ending))
+
+-- ---- 3. what can't be refused
+
+-- the files are known to hold these texts
+pub record AreKnownTexts (files : RunFiles) (x : Texts) : Type 0 where
+  pub archs : IsKnownText files.indices.in_archs x.archs
+  pub packages : IsKnownText files.indices.in_packages x.packages
+  pub sources : IsKnownText files.indices.in_sources x.sources
+  pub state : IsKnownIfGiven files.state x.state
+  pub tracker : IsKnownIfGiven files.tracker x.tracker
+  pub outcomes : IsKnownIfGiven files.outcomes x.outcomes
+  pub journal : IsKnownIfGiven files.journal x.journal
+
+-- how a run over readable texts may end: its script is answered, but for a pattern that `regex` refuses, or where a file, a stream or memory fails
+abbrev pub MayEnd : Option (List ℕ) → Ending → Type 0
+MayEnd tracker Done = Unit {0}
+MayEnd tracker Refused = Unit {0}
+MayEnd tracker (BadInput role e) = (fault : TrackerFault) × script.IsPatternRefused tracker fault × (BadInput role e ≡ ending_of_tracker fault)
+MayEnd tracker NoMemory = Unit {0}
+MayEnd tracker (CannotRead role) = Unit {0}
+MayEnd tracker CannotWrite = Unit {0}
+
+-- where the reader is known to have a script, and the texts are readable, it ends so
+abbrev pub OnlyEnds : script.Texts → Option (List ℕ) → Ending → Type 0
+OnlyEnds x known ending = (text : List ℕ) → known ≡ Some text → IsScriptText text → script.AreReadable x → MayEnd x.tracker ending
+
+-- a run over these files ends so: the ending is as it says, and a script over readable texts is answered
+pub record EndsRun (files : RunFiles) (suite : List ℕ) (known old new : Option (List ℕ)) (ending : Ending) : Type 0 where
+  pub says : RunSays files suite known old new ending
+  pub only : (x : Texts) → AreKnownTexts files x → OnlyEnds (script_texts x suite) known ending

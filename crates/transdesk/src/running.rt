@@ -1,7 +1,7 @@
 //! The subcommand `run`: a script over the rows of an archive.
 ghost use Rattle.std.specs.Prelude.{◌≡◌, ◌≤◌, IfOk};
 ghost use Rattle.transdesk.specs.Ran.{Ran};
-ghost use Rattle.transdesk.specs.Runs.{EndsRun, ScriptEnds, ending_of_input as ending_of_input_as, ending_of_script as ending_of_script_as, ending_of_stop as ending_of_stop_as};
+ghost use Rattle.transdesk.specs.Runs.{EndsRun, OnlyEnds, ScriptEnds, script_texts, ending_of_input as ending_of_input_as, ending_of_script as ending_of_script_as, ending_of_stop as ending_of_stop_as};
 ghost use Rattle.transdesk.specs.RunInside.{AreInputsOf, IsWithinLimit, run_files_at, run_texts_of};
 
 use crate::ending::{
@@ -80,8 +80,10 @@ fn play<R: Read, W: Write>(
     output: &mut W,
 ) -> Ending
     requires { IsWithinLimit texts }
-    ensures { ScriptEnds (run_texts_of texts) suite.now
+    ensures says { ScriptEnds (run_texts_of texts) suite.now
         (R.remaining reader.old) (W.contents output.old) (W.contents output.new) result }
+    ensures only { OnlyEnds (script_texts (run_texts_of texts) suite.now)
+        (R.remaining reader.old) result }
 {
     match inputs_of(alloc, texts, suite) {
         Ok(inputs) => ending_of_script(run_script(alloc, &inputs, reader, output)),
