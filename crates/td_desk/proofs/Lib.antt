@@ -1,0 +1,7 @@
+pub mod EqualReceipts
+pub mod Ticking
+pub mod Counting
+pub mod Growing
+pub mod Commanding
+pub mod Flooring
+pub mod Commanded

@@ -1,0 +1,19 @@
+use Rattle.std.proofs.Common.{rules, arith, ◌≤◌, ◌+◌, ◌∙◌, ap, length}
+use Rattle.td_book.specs.Desk.{Fixed}
+use Rattle.td_desk.proofs.Growing.{finish_kept}
+use Rattle.td_desk.specs.inner.Ticks.{AreBegun}
+use Rattle.td_desk.proofs.locked.Locked.finish.Goals as goal
+
+pub invariant_of-self-2 : goal.invariant_of-self-2
+invariant_of-self-2 g c =
+    let old = c.args.self.now in
+    let v = c.args.seat.now.builder in
+    let k = finish_kept g.N.Named.opened v.hand c.args.outcome v c.finish.new.seat.builder old.book c.finish.new.self c.finish.result old.still c.finish.ensures.outcome in
+    let room : length old.book.history.journal + 2 ≤ length c.add_ticks.new.ticks.items = search rules in
+    let held : AreBegun g.N.Named.opened c.len.result c.add_ticks.new.ticks.items = c.add_ticks.ensures.begun g.N.Named.opened (search rules) in
+    record {
+      named = ap (λ (f : Fixed). f.table) k.fixed ∙ old.named;
+      still = k.still;
+      counted = ap length k.same ∙ old.counted;
+      ticked = (held.0, let l = k.long in omega (arith, l, room));
+    }

@@ -1,0 +1,82 @@
+-- What the calls of a desk answer, each over the locked book as it was when the call had the lock, and what receipt a clerk gets. This project's own.
+use Rattle.std.specs.Prelude.{◌≡◌, ℕ, Bool, not, List, [], ◌∷◌, Option, Result, IfOk, filter, map}
+use Rattle.std.specs.List.{list_any}
+use Rattle.std.specs.declared.alloc.AllocError.{AllocError}
+use Rattle.atomic_table.specs.Seated.{TableId}
+use Rattle.td_rows.specs.declared.key.Key.{Key}
+use Rattle.td_rows.specs.declared.kind.Kind.TheVariants as kinds
+use Rattle.td_rows.specs.declared.outcome.Outcome.{Outcome}
+use Rattle.td_rows.specs.Keys.{names}
+use Rattle.td_rows.specs.States.{is_queued}
+use Rattle.td_rows.specs.Table.{Table}
+use Rattle.td_wbread.specs.Command.{CommandParts}
+use Rattle.td_board.specs.Seats.{BuilderModel}
+use Rattle.td_book.specs.declared.arriving.ArriveRefusal.{ArriveRefusal}
+use Rattle.td_book.specs.declared.commanding.CommandRefusal.{CommandRefusal}
+use Rattle.td_book.specs.declared.commanding.Taken.{Taken}
+use Rattle.td_book.specs.declared.undoing.UndoRefusal.{UndoRefusal}
+use Rattle.td_book.specs.declared.starting.Job.{Job}
+use Rattle.td_book.specs.declared.starting.StartRefusal.{StartRefusal}
+use Rattle.td_book.specs.declared.finishing.FinishRefusal.{FinishRefusal}
+use Rattle.td_book.specs.declared.skips.Skip.{Skip}
+use Rattle.td_book.specs.Arriving.{ArriveOutcome, SweepOutcome}
+use Rattle.td_book.specs.Building.{IsJobAt, StartOutcome}
+use Rattle.td_book.specs.Commands.{IsDone, named_by}
+use Rattle.td_book.specs.Desk.{BookModel}
+use Rattle.td_book.specs.Finishing.{FinishOutcome}
+use Rattle.td_book.specs.Naming.{kind_of}
+use Rattle.td_book.specs.Undoing.{UndoAnswer, undo_stop}
+use Rattle.td_desk.specs.declared.receipt.Receipt.{Receipt}
+use Rattle.td_desk.specs.declared.receipt.Receipt.TheVariants.{Made}
+use Rattle.td_desk.specs.Clerks.{ClerkModel, with_receipt}
+
+-- ---- 1. receipts
+
+-- the keys of the skips
+abbrev pub skipped_keys : List Skip → List Key
+skipped_keys skips = map (λ s. s.key) skips
+
+-- the named keys without those that were skipped
+abbrev pub without : List Key → List Skip → List Key
+without named skips = filter (λ k. not (names (skipped_keys skips) k)) named
+
+-- the receipt of a command: its own kind, and the rows that it names in the book without the answered skips
+abbrev pub command_receipt : CommandParts → BookModel → Taken → Receipt
+command_receipt c old taken = Made taken.number (kind_of c) (without (named_by c old) taken.skips)
+
+-- the receipt of an arrival
+abbrev pub arrival_receipt : Key → ℕ → Receipt
+arrival_receipt k n = Made n kinds.Arrive (k ∷ [])
+
+-- ---- 2. answers, over a book at the table
+
+-- a command's, and the clerk's receipt where it is accepted
+abbrev pub Commanding : CommandParts → TableId → ClerkModel → ClerkModel → Result Taken CommandRefusal → Type 0
+Commanding c table clerk after result = (old : BookModel) × (new : BookModel) × (old.fixed.table ≡ table) × IsDone c old new result × IfOk result (λ t. after ≡ with_receipt (command_receipt c old t) clerk)
+
+abbrev pub Undoing : ℕ → TableId → Result (Unit {0}) UndoRefusal → Type 0
+Undoing n table result = (old : BookModel) × (new : BookModel) × (old.fixed.table ≡ table) × UndoAnswer (undo_stop old.history.journal n) n old new result
+
+abbrev pub Arriving : Key → TableId → Result ℕ ArriveRefusal → Type 0
+Arriving k table result = (old : BookModel) × (new : BookModel) × (old.fixed.table ≡ table) × ArriveOutcome k old new result
+
+abbrev pub Sweeping : TableId → Result (Option ℕ) AllocError → Type 0
+Sweeping table result = (old : BookModel) × (new : BookModel) × (old.fixed.table ≡ table) × SweepOutcome old new result
+
+abbrev pub Starting : BuilderModel → TableId → Result Job StartRefusal → Type 0
+Starting seat table result = (old : BookModel) × (new : BookModel) × (old.fixed.table ≡ table) × StartOutcome seat.builder.number seat.builder.hand old new result
+
+abbrev pub Finishing : Outcome → BuilderModel → BuilderModel → TableId → Result ℕ FinishRefusal → Type 0
+Finishing outcome seat after table result = (old : BookModel) × (new : BookModel) × (old.fixed.table ≡ table) × FinishOutcome seat.builder.hand outcome seat.builder after.builder old new result
+
+-- ---- 3. jobs
+
+-- which jobs may be answered for the row with a number: those of a book at the table
+abbrev pub MayBeJob : TableId → ℕ → Job → Type 0
+MayBeJob table row job = (b : BookModel) × (b.fixed.table ≡ table) × IsJobAt row b job
+
+-- ---- 4. rows that wait
+
+-- whether a row waits for a builder
+abbrev pub is_any_queued : Table → Bool
+is_any_queued t = list_any (λ p. is_queued p.1.state) t

@@ -1,0 +1,6 @@
+pub mod Receipts
+pub mod Changes
+pub mod Clerks
+pub mod Names
+pub mod Calls
+pub mod inner

@@ -1,0 +1,70 @@
+//! The calls of builders.
+ghost use Rattle.std.specs.Prelude.{◌≡◌, ◌⊎◌, Err, IfOk};
+ghost use Rattle.td_core.specs.History.{rows_of};
+ghost use Rattle.td_book.specs.Desk.{BookModel};
+ghost use Rattle.td_book.specs.Ready.{IsReady};
+ghost use Rattle.td_desk.specs.Calls.{Starting, Finishing, is_any_queued};
+
+use crate::desk::Desk;
+use crate::named::Named;
+use std::alloc::AllocError;
+use std::sync::Wait;
+use std::sync::ledger::Ledger;
+use td_board::BuilderSeat;
+use td_book::{Book, FinishRefusal, Job, StartRefusal};
+use td_journal::EntryNo;
+use td_rows::Outcome;
+
+impl<'a, N: Named, C: Ledger> Desk<'a, N, C> {
+    /// The numbers of the rows that wait for a builder, in the order in which they are to be tried.
+    pub fn ready<R: Wait>(&self, rt: &R) -> Result<Vec<usize>, AllocError>
+        ensures { IfOk result (λ numbers. (book : BookModel) × (book.fixed.table ≡ N.table)
+            × IsReady (rows_of book.history) numbers.items) }
+    {
+        let locked = self.locked.lock(rt);
+        locked.book.ready()
+    }
+
+    /// Starts the build of the row that the builder holds.
+    pub fn start<R: Wait>(&self, rt: &R, seat: &BuilderSeat) -> Result<Job, StartRefusal>
+        requires { seat.now.table ≡ N.table }
+        ensures { (result ≡ Err StartRefusal.NoMemory) ⊎ Starting seat.now N.table result }
+    {
+        self.locked.lock(rt).start(&self.board, seat)
+    }
+
+    /// Ends the build of the row that the builder holds.
+    pub fn finish<R: Wait>(
+        &self,
+        rt: &R,
+        seat: &mut BuilderSeat,
+        outcome: Outcome,
+    ) -> Result<EntryNo, FinishRefusal>
+        requires { seat.old.table ≡ N.table }
+        ensures table { seat.new.table ≡ seat.old.table }
+        ensures answer { Finishing outcome seat.old seat.new N.table result }
+    {
+        let answer = self.locked.lock(rt).finish(&self.board, seat, outcome);
+        self.changed.notify_all();
+        answer
+    }
+
+    /// Waits until a row waits for a builder, or the desk is shut. False: it is shut, and none
+    /// waits.
+    pub fn wait_for_work<R: Wait>(&self, rt: &R) -> bool
+        ensures { (book : BookModel) × (book.fixed.table ≡ N.table)
+            × (result ≡ is_any_queued (rows_of book.history)) }
+    {
+        let locked = self.changed.wait_while(rt, self.locked.lock(rt), |locked| {
+            !locked.shut && !has_work(&locked.book)
+        });
+        has_work(&locked.book)
+    }
+}
+
+// Whether a row waits for a builder.
+fn has_work(book: &Book<'_>) -> bool
+    ensures { result ≡ is_any_queued (rows_of book.now.history) }
+{
+    book.rows().iter().any(|(_, row)| row.state.needs_build())
+}

@@ -1,0 +1,120 @@
+//! The calls of clerks: each under the lock, with its receipt.
+ghost use Rattle.std.specs.Prelude.{◌≡◌, ◌⊎◌, ◌∷◌, [], Err, IfOk, OnOk, OnErr, MatchOption};
+ghost use Rattle.td_wbread.specs.Views.{parts_of};
+ghost use Rattle.td_desk.specs.declared.receipt.Receipt.TheVariants as receipt;
+ghost use Rattle.td_desk.specs.Calls.{Commanding, Undoing, Arriving, Sweeping, arrival_receipt};
+ghost use Rattle.td_desk.specs.Clerks.{with_receipt};
+
+use crate::clerk::Clerk;
+use crate::desk::Desk;
+use crate::named::Named;
+use std::alloc::{AllocError, Global};
+use std::sync::Wait;
+use std::sync::ledger::Ledger;
+use td_book::{ArriveRefusal, CommandRefusal, Taken, UndoRefusal};
+use td_journal::{EntryNo, Keys};
+use td_rows::Key;
+use td_wbread::Command;
+
+impl<'a, N: Named, C: Ledger> Desk<'a, N, C> {
+    /// A command by a clerk. The receipt has the rows that the command names, without those that
+    /// the answer skips.
+    pub fn command<R: Wait>(
+        &self,
+        rt: &R,
+        clerk: &mut Clerk<C>,
+        command: &Command<'_>,
+    ) -> Result<Taken, CommandRefusal>
+        ensures answer { (result ≡ Err CommandRefusal.NoMemory)
+            ⊎ Commanding (parts_of command.now) N.table clerk.old clerk.new result }
+        ensures err { OnErr result (clerk.new ≡ clerk.old) }
+    {
+        if clerk.receipts.reserve(1).is_err() {
+            return Err(CommandRefusal::NoMemory);
+        }
+        let answer = self.locked.lock(rt).command(
+            self.alloc,
+            &self.board,
+            &mut clerk.share,
+            &mut clerk.receipts,
+            command,
+        );
+        self.changed.notify_all();
+        answer
+    }
+
+    /// An undo by a clerk.
+    pub fn undo<R: Wait>(&self, rt: &R, clerk: &mut Clerk<C>, n: EntryNo) -> Result<(), UndoRefusal>
+        ensures ok { OnOk result (clerk.new ≡ with_receipt (receipt.Undid n) clerk.old) }
+        ensures err { OnErr result (clerk.new ≡ clerk.old) }
+        ensures answer { (result ≡ Err UndoRefusal.NoMemory) ⊎ Undoing n N.table result }
+    {
+        if clerk.receipts.reserve(1).is_err() {
+            return Err(UndoRefusal::NoMemory);
+        }
+        let answer = self
+            .locked
+            .lock(rt)
+            .undo(&self.board, &mut clerk.share, &mut clerk.receipts, n);
+        self.changed.notify_all();
+        answer
+    }
+
+    /// An arrival that a clerk tells of.
+    pub fn arrive<R: Wait>(
+        &self,
+        rt: &R,
+        clerk: &mut Clerk<C>,
+        key: &Key,
+    ) -> Result<EntryNo, ArriveRefusal>
+        ensures ok { IfOk result (λ n. clerk.new ≡ with_receipt (arrival_receipt key.now n) clerk.old) }
+        ensures err { OnErr result (clerk.new ≡ clerk.old) }
+        ensures answer { (result ≡ Err ArriveRefusal.NoMemory) ⊎ Arriving key.now N.table result }
+    {
+        if clerk.receipts.reserve(1).is_err() {
+            return Err(ArriveRefusal::NoMemory);
+        }
+        let Ok(keys) = one_key(self.alloc, key) else {
+            return Err(ArriveRefusal::NoMemory);
+        };
+        let answer = self
+            .locked
+            .lock(rt)
+            .arrive(&mut clerk.share, &mut clerk.receipts, key, keys);
+        self.changed.notify_all();
+        answer
+    }
+
+    /// A sweep by a clerk. One that finds nothing leaves no receipt.
+    pub fn sweep<R: Wait>(
+        &self,
+        rt: &R,
+        clerk: &mut Clerk<C>,
+    ) -> Result<Option<EntryNo>, AllocError>
+        ensures ok { IfOk result (λ swept. MatchOption swept
+            (clerk.new ≡ clerk.old)
+            (λ n. clerk.new ≡ with_receipt (receipt.Swept n) clerk.old)) }
+        ensures err { OnErr result (clerk.new ≡ clerk.old) }
+        ensures answer { OnOk result (Sweeping N.table result) }
+    {
+        clerk.receipts.reserve(1)?;
+        let swept = self
+            .locked
+            .lock(rt)
+            .sweep(&self.board, &mut clerk.share, &mut clerk.receipts)?;
+        let Some(n) = swept else {
+            return Ok(None);
+        };
+        self.changed.notify_all();
+        Ok(Some(n))
+    }
+}
+
+// The keys of an entry on one key.
+fn one_key(alloc: Global, key: &Key) -> Result<Keys, AllocError>
+    ensures { IfOk result (λ keys. keys ≡ key.now ∷ []) }
+{
+    let mut keys = Vec::with_capacity(alloc, 1)?;
+    keys.push(key.copy()?)?;
+    Ok(Keys::new(keys))
+}

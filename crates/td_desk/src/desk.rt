@@ -1,0 +1,121 @@
+//! The desk: its opening, its keys, and what it lends.
+ghost use Rattle.std.specs.Prelude.{◌≡◌, None, [], length, IfOk, IfSome, IfNone, MatchBool, slice_get};
+ghost use Rattle.std.specs.Fn.{FnOnceReturnsAt};
+ghost use Rattle.std.specs.Option.{option_copied};
+ghost use Rattle.td_board.specs.Answers.{IsWon, IsLost};
+ghost use Rattle.td_board.specs.Knowledge.{new_desk};
+ghost use Rattle.td_rows.specs.Table.{IsAt, keys_of, row_of};
+ghost use Rattle.td_supply.specs.Supply.{opened as opened_stock, stock_of};
+ghost use Rattle.td_core.specs.Phases.{NoneBuilt};
+ghost use Rattle.td_book.specs.Desk.{BookModel};
+
+use crate::clerk::Clerk;
+use crate::locked::Locked;
+use crate::named::Named;
+use std::alloc::{AllocError, Global};
+use std::sync::ledger::{Blank, Ledger};
+use std::sync::{Condvar, Mutex, Wait};
+use td_board::{Board, BuilderSeat, DeskSeat};
+use td_book::Book;
+use td_rows::{Key, Rows};
+use td_supply::Supply;
+
+/// How many parts the ledger of a desk has.
+pub const PARTS: u64 = 1024;
+
+/// A named board, and the book of it under a lock with the ledger of its changes. Threads share
+/// it by reference.
+#[derive(Drop)]
+pub struct Desk<'a, N: Named, C: Ledger> {
+    pub(crate) alloc: Global,
+    pub(crate) board: Board,
+    pub(crate) opening: Rows,
+    pub(crate) locked: Mutex<Locked<'a, N, C>>,
+    pub(crate) changed: Condvar,
+    ghost named: { board.table ≡ N.table },
+}
+
+impl<'a, N: Named, C: Ledger> Desk<'a, N, C> {
+    /// A desk before the first entry, and the clerk with all parts of its ledger.
+    pub fn open(
+        alloc: Global,
+        board: Board,
+        seat: DeskSeat,
+        rows: Rows,
+        supply: Supply<'a>,
+        blank: Blank,
+    ) -> Result<(Desk<'a, N, C>, Clerk<C>), AllocError>
+        requires board { board.table ≡ N.table }
+        requires seat { seat.table ≡ N.table }
+        requires opened { N.opened ≡ [] }
+        requires fresh_seat { seat.desk ≡ new_desk (length rows) (length seat.desk.noted) }
+        requires idle { NoneBuilt rows }
+        requires fresh_supply { supply ≡ opened_stock (stock_of supply) }
+        requires ledger { (blank.name ≡ C.name) × (blank.parts ≡ C.parts) × (blank.parts ≡ 1024) }
+        ensures clerk { IfOk result (λ made. made.1 ≡ record { parts = 1024; receipts = [] }) }
+        ensures board { IfOk result (λ made. made.0.board ≡ board) }
+        ensures opening { IfOk result (λ made. made.0.opening ≡ rows) }
+    {
+        let opening = rows.copy()?;
+        let book = Book::open(alloc, &board, seat, rows, supply)?;
+        let (ledger, share) = blank.open::<C>();
+        let desk = Desk {
+            alloc,
+            board,
+            opening,
+            locked: Mutex::new(Locked::new(book, ledger, Vec::new(alloc))),
+            changed: Condvar::new(),
+        };
+        let clerk = Clerk {
+            share,
+            parts: PARTS,
+            receipts: Vec::new(alloc),
+        };
+        Ok((desk, clerk))
+    }
+
+    /// The number of a key's row. It needs no lock, as the rows of a desk stay the same ones.
+    pub fn row_no(&self, key: &Key) -> Option<usize>
+        ensures found { IfSome result (IsAt self.now.opening key.now) }
+        ensures absent { IfNone result (row_of self.now.opening key.now ≡ None) }
+    {
+        self.opening.number(key)
+    }
+
+    /// The key of the row with a number. It needs no lock.
+    pub fn key_at(&self, row: usize) -> Option<&Key>
+        ensures { option_copied result ≡ slice_get (keys_of self.now.opening) row }
+    {
+        match self.opening.at(row) {
+            Some((key, _)) => Some(key),
+            None => None,
+        }
+    }
+
+    /// Lends the locked book.
+    pub fn look<T, F: FnOnce(&Book<'a>) -> T, R: Wait>(&self, rt: &R, f: F) -> T
+        requires { F.IsAlwaysCallable f }
+        ensures { (book : BookModel) × (book.fixed.table ≡ N.table)
+            × FnOnceReturnsAt F.FnOnce f book result }
+    {
+        let locked = self.locked.lock(rt);
+        let book = &locked.book;
+        f(book)
+    }
+
+    /// Says that nothing more comes: builders whom no row waits for go home.
+    pub fn shut<R: Wait>(&self, rt: &R) {
+        self.locked.lock(rt).shut = true;
+        self.changed.notify_all();
+    }
+
+    /// A builder's claim of a row, without the lock.
+    pub fn claim(&self, row: usize, seat: &mut BuilderSeat) -> bool
+        requires { seat.old.table ≡ N.table }
+        ensures { MatchBool result
+            (IsWon self.now.board.rows row seat.old seat.new)
+            (IsLost seat.old seat.new) }
+    {
+        self.board.claim(row, seat)
+    }
+}

@@ -1,0 +1,57 @@
+//! The desk as a floor on which builders find rows.
+use crate::desk::Desk;
+use crate::named::Named;
+use std::alloc::AllocError;
+use std::sync::Wait;
+use std::sync::ledger::Ledger;
+use td_board::BuilderSeat;
+use td_book::{FinishRefusal, Job, StartRefusal};
+use td_builder::Floor;
+use td_journal::EntryNo;
+use td_rows::Outcome;
+
+impl<'a, N: Named, C: Ledger> Floor for Desk<'a, N, C> {
+    ghost use Rattle.std.specs.Prelude.{◌≡◌, false};
+    ghost use Rattle.td_core.specs.History.{rows_of};
+    ghost use Rattle.td_book.specs.Desk.{BookModel};
+    ghost use Rattle.td_desk.specs.Calls.{MayBeJob, is_any_queued};
+
+    ghost table = { λ d. N.table };
+
+    ghost rows = { λ d. d.board.rows };
+
+    ghost jobs = { λ d. MayBeJob N.table };
+
+    ghost ended = { λ d. (book : BookModel) × (book.fixed.table ≡ N.table)
+        × (is_any_queued (rows_of book.history) ≡ false) };
+
+    ghost stopped = { λ d stop. Unit {0} };
+
+    fn ready<R: Wait>(&self, rt: &R) -> Result<Vec<usize>, AllocError> {
+        Desk::ready(self, rt)
+    }
+
+    fn claim(&self, row: usize, seat: &mut BuilderSeat) -> bool {
+        Desk::claim(self, row, seat)
+    }
+
+    #[tactic(auto, using(crate::proofs::Flooring::started))]
+    fn start<R: Wait>(&self, rt: &R, seat: &BuilderSeat) -> Result<Job, StartRefusal> {
+        Desk::start(self, rt, seat)
+    }
+
+    #[tactic(auto, using(crate::proofs::Flooring::finished, crate::proofs::Flooring::kept_or_finished))]
+    fn finish<R: Wait>(
+        &self,
+        rt: &R,
+        seat: &mut BuilderSeat,
+        outcome: Outcome,
+    ) -> Result<EntryNo, FinishRefusal> {
+        Desk::finish(self, rt, seat, outcome)
+    }
+
+    #[tactic(auto, using(crate::proofs::Flooring::at_end))]
+    fn wait_for_work<R: Wait>(&self, rt: &R) -> bool {
+        Desk::wait_for_work(self, rt)
+    }
+}

@@ -1,0 +1,28 @@
+//! The desk: a book under a lock, and clerks who are told what they changed.
+//!
+//! Start at `Desk`. Its calls are those of the book, each under the lock; `claim`, by which a
+//! builder takes a row, needs no lock. A `Clerk` keeps a receipt of each change that it made, and
+//! `Desk::close` holds the receipts of all clerks against the book.
+//! Promised: each accepted call of a clerk adds its receipt and counts it in a ledger; a desk is
+//! closed exactly where the receipts handed in are the book's changes, each once; and what a call
+//! answers is what the book's call answers on a book at the named board.
+#![tactic(auto)]
+
+mod building;
+mod clerk;
+mod clerking;
+mod closing;
+mod desk;
+mod floor;
+mod locked;
+mod matching;
+mod named;
+mod receipt;
+mod tick;
+mod told;
+
+pub use clerk::Clerk;
+pub use closing::Differ;
+pub use desk::{Desk, PARTS};
+pub use named::Named;
+pub use receipt::Receipt;

@@ -1,0 +1,261 @@
+//! What lies under the lock of a desk.
+ghost use Rattle.std.specs.Prelude.{◌≡◌, ◌⊎◌, ◌+◌, ◌<◌, vec_len, vec_capacity, ◌∷◌, ◌++◌, [], length, true, false, Ok, Err, OnOk, OnErr, IfOk, IsPermutation, MatchOption};
+ghost use Rattle.td_book.specs.Arriving.{ArriveOutcome, SweepOutcome};
+ghost use Rattle.td_book.specs.Building.{StartOutcome};
+ghost use Rattle.td_book.specs.Finishing.{FinishOutcome};
+ghost use Rattle.td_book.specs.Undoing.{UndoAnswer, undo_stop};
+ghost use Rattle.td_desk.specs.declared.receipt.Receipt.TheVariants as receipt;
+ghost use Rattle.td_wbread.specs.Views.{parts_of};
+ghost use Rattle.td_book.specs.Commands.{IsDone};
+ghost use Rattle.td_desk.specs.Calls.{arrival_receipt, command_receipt};
+ghost use Rattle.td_desk.specs.Changes.{changes, still_undone};
+ghost use Rattle.td_desk.specs.inner.Ticks.{AreBegun};
+
+use crate::named::Named;
+use crate::receipt::Receipt;
+use crate::tick::{Tick, add_ticks};
+use crate::told::{Draft, left_out};
+use std::alloc::{AllocError, Global};
+use std::marker::PhantomData;
+use std::sync::ledger;
+use std::sync::ledger::{Ledger, Share};
+use td_board::{Board, BuilderSeat, Hand};
+use td_book::{
+    ArriveRefusal, Book, CommandRefusal, FinishRefusal, Job, StartRefusal, Taken, UndoRefusal,
+};
+use td_journal::{EntryNo, Keys};
+use td_rows::{Key, Kind, Outcome};
+use td_wbread::Command;
+
+/// The book, the ledger whose total is the number of its changes, and ticks for its entries, so
+/// that closing takes no memory.
+#[derive(Drop)]
+pub(crate) struct Locked<'a, N: Named, C: Ledger> {
+    pub(crate) book: Book<'a>,
+    pub(crate) ledger: ledger::Book<C>,
+    pub(crate) ticks: Vec<Tick>,
+    pub(crate) shut: bool,
+    of: PhantomData<N>,
+    ghost named: { book.fixed.table ≡ N.table },
+    ghost still: { still_undone book.history.journal N.opened ≡ true },
+    ghost counted: { length (changes N.opened book) ≡ ledger.total },
+    ghost ticked: { AreBegun N.opened (length book.history.journal) ticks.items },
+}
+
+impl<'a, N: Named, C: Ledger> Locked<'a, N, C> {
+    /// A book without changes, with a ledger of nothing.
+    pub(crate) fn new(book: Book<'a>, ledger: ledger::Book<C>, ticks: Vec<Tick>) -> Locked<'a, N, C>
+        requires named { book.fixed.table ≡ N.table }
+        requires still { still_undone book.history.journal N.opened ≡ true }
+        requires book { changes N.opened book ≡ [] }
+        requires ledger { ledger.total ≡ 0 }
+        requires ticks { AreBegun N.opened (length book.history.journal) ticks.items }
+        ensures book { result.book ≡ book.entry }
+        ensures open { result.shut ≡ false }
+    {
+        Locked {
+            book,
+            ledger,
+            ticks,
+            shut: false,
+            of: PhantomData,
+        }
+    }
+
+    /// A command, with its receipt, for which there is room.
+    pub(crate) fn command(
+        &mut self,
+        alloc: Global,
+        board: &Board,
+        mine: &mut Share<C>,
+        receipts: &mut Vec<Receipt>,
+        command: &Command<'_>,
+    ) -> Result<Taken, CommandRefusal>
+        requires board { board.now.table ≡ N.table }
+        requires part { 0 < mine.old.parts }
+        requires room { vec_len receipts.old < vec_capacity receipts.old }
+        ensures told { IfOk result (λ taken. receipts.new.items ≡ receipts.old.items ++ command_receipt (parts_of command.now) self.old.book taken ∷ []) }
+        ensures untold { OnErr result (receipts.new.items ≡ receipts.old.items) }
+        ensures parts { mine.new.parts ≡ mine.old.parts }
+        ensures counted { OnOk result (mine.new.amount ≡ mine.old.amount + 1) }
+        ensures uncounted { OnErr result (mine.new.amount ≡ mine.old.amount) }
+        ensures change { IfOk result (λ taken. IsPermutation (command_receipt (parts_of command.now) self.old.book taken ∷ changes N.opened self.old.book) (changes N.opened self.new.book)) }
+        ensures shut { self.new.shut ≡ self.old.shut }
+        ensures named { self.old.book.fixed.table ≡ N.table }
+        ensures answer { IsDone (parts_of command.now) self.old.book self.new.book result }
+    {
+        let Locked {
+            book,
+            ledger,
+            ticks,
+            ..
+        } = self;
+        let Ok(draft) = Draft::of(alloc, book, command) else {
+            return Err(CommandRefusal::NoMemory);
+        };
+        if add_ticks(ticks, book.journal().len(), draft.named.len() + 1).is_err() {
+            return Err(CommandRefusal::NoMemory);
+        }
+        let taken = match book.command(board, command) {
+            Ok(taken) => taken,
+            Err(refusal) => return Err(refusal),
+        };
+        ledger.add(mine, 1);
+        let Draft { kind, named, told } = draft;
+        let keys = left_out(named, taken.skips.as_slice(), told);
+        receipts.push_reserved(Receipt::Made(taken.number, kind, Keys::new(keys)));
+        Ok(taken)
+    }
+
+    /// An undo, with its receipt, for which there is room.
+    pub(crate) fn undo(
+        &mut self,
+        board: &Board,
+        mine: &mut Share<C>,
+        receipts: &mut Vec<Receipt>,
+        n: EntryNo,
+    ) -> Result<(), UndoRefusal>
+        requires board { board.now.table ≡ N.table }
+        requires part { 0 < mine.old.parts }
+        requires room { vec_len receipts.old < vec_capacity receipts.old }
+        ensures told { OnOk result (receipts.new.items ≡ receipts.old.items ++ receipt.Undid n ∷ []) }
+        ensures untold { OnErr result (receipts.new.items ≡ receipts.old.items) }
+        ensures parts { mine.new.parts ≡ mine.old.parts }
+        ensures counted { OnOk result (mine.new.amount ≡ mine.old.amount + 1) }
+        ensures uncounted { OnErr result (mine.new.amount ≡ mine.old.amount) }
+        ensures change { OnOk result (IsPermutation (receipt.Undid n ∷ changes N.opened self.old.book) (changes N.opened self.new.book)) }
+        ensures shut { self.new.shut ≡ self.old.shut }
+        ensures named { self.old.book.fixed.table ≡ N.table }
+        ensures answer { ((result ≡ Err UndoRefusal.NoMemory) × (self.new.book ≡ self.old.book)) ⊎ UndoAnswer (undo_stop self.old.book.history.journal n) n self.old.book self.new.book result }
+    {
+        let Locked {
+            book,
+            ledger,
+            ticks,
+            ..
+        } = self;
+        if add_ticks(ticks, book.journal().len(), 1).is_err() {
+            return Err(UndoRefusal::NoMemory);
+        }
+        match book.undo(board, n) {
+            Ok(()) => {}
+            Err(refusal) => return Err(refusal),
+        }
+        ledger.add(mine, 1);
+        receipts.push_reserved(Receipt::Undid(n));
+        Ok(())
+    }
+
+    /// An arrival, with its receipt, for which there is room.
+    pub(crate) fn arrive(
+        &mut self,
+        mine: &mut Share<C>,
+        receipts: &mut Vec<Receipt>,
+        key: &Key,
+        keys: Keys,
+    ) -> Result<EntryNo, ArriveRefusal>
+        requires keys { keys ≡ key.now ∷ [] }
+        requires part { 0 < mine.old.parts }
+        requires room { vec_len receipts.old < vec_capacity receipts.old }
+        ensures told { IfOk result (λ n. receipts.new.items ≡ receipts.old.items ++ arrival_receipt key.now n ∷ []) }
+        ensures untold { OnErr result (receipts.new.items ≡ receipts.old.items) }
+        ensures parts { mine.new.parts ≡ mine.old.parts }
+        ensures counted { OnOk result (mine.new.amount ≡ mine.old.amount + 1) }
+        ensures uncounted { OnErr result (mine.new.amount ≡ mine.old.amount) }
+        ensures change { IfOk result (λ n. IsPermutation (arrival_receipt key.now n ∷ changes N.opened self.old.book) (changes N.opened self.new.book)) }
+        ensures shut { self.new.shut ≡ self.old.shut }
+        ensures named { self.old.book.fixed.table ≡ N.table }
+        ensures answer { ArriveOutcome key.now self.old.book self.new.book result }
+    {
+        let Locked {
+            book,
+            ledger,
+            ticks,
+            ..
+        } = self;
+        if add_ticks(ticks, book.journal().len(), 1).is_err() {
+            return Err(ArriveRefusal::NoMemory);
+        }
+        let n = match book.arrive(key) {
+            Ok(n) => n,
+            Err(refusal) => return Err(refusal),
+        };
+        ledger.add(mine, 1);
+        receipts.push_reserved(Receipt::Made(n, Kind::Arrive, keys));
+        Ok(n)
+    }
+
+    /// A sweep, with its receipt, for which there is room.
+    pub(crate) fn sweep(
+        &mut self,
+        board: &Board,
+        mine: &mut Share<C>,
+        receipts: &mut Vec<Receipt>,
+    ) -> Result<Option<EntryNo>, AllocError>
+        requires board { board.now.table ≡ N.table }
+        requires part { 0 < mine.old.parts }
+        requires room { vec_len receipts.old < vec_capacity receipts.old }
+        ensures told { IfOk result (λ swept. MatchOption swept
+            ((receipts.new.items ≡ receipts.old.items) × (mine.new.amount ≡ mine.old.amount))
+            (λ n. (receipts.new.items ≡ receipts.old.items ++ receipt.Swept n ∷ []) × (mine.new.amount ≡ mine.old.amount + 1) × IsPermutation (receipt.Swept n ∷ changes N.opened self.old.book) (changes N.opened self.new.book))) }
+        ensures untold { OnErr result (receipts.new.items ≡ receipts.old.items) }
+        ensures parts { mine.new.parts ≡ mine.old.parts }
+        ensures uncounted { OnErr result (mine.new.amount ≡ mine.old.amount) }
+        ensures shut { self.new.shut ≡ self.old.shut }
+        ensures named { self.old.book.fixed.table ≡ N.table }
+        ensures answer { SweepOutcome self.old.book self.new.book result }
+    {
+        let Locked {
+            book,
+            ledger,
+            ticks,
+            ..
+        } = self;
+        add_ticks(ticks, book.journal().len(), 1)?;
+        let Some(n) = book.sweep(board)? else {
+            return Ok(None);
+        };
+        ledger.add(mine, 1);
+        receipts.push_reserved(Receipt::Swept(n));
+        Ok(Some(n))
+    }
+
+    /// The start of a build.
+    pub(crate) fn start(&mut self, board: &Board, seat: &BuilderSeat) -> Result<Job, StartRefusal>
+        requires board { board.now.table ≡ N.table }
+        requires seat { seat.now.table ≡ N.table }
+        ensures shut { self.new.shut ≡ self.old.shut }
+        ensures named { self.old.book.fixed.table ≡ N.table }
+        ensures answer { ((result ≡ Err StartRefusal.NoMemory) × (self.new.book ≡ self.old.book)) ⊎ StartOutcome seat.now.builder.number seat.now.builder.hand self.old.book self.new.book result }
+    {
+        let Locked { book, ticks, .. } = self;
+        if add_ticks(ticks, book.journal().len(), 1).is_err() {
+            return Err(StartRefusal::NoMemory);
+        }
+        book.start(board, seat)
+    }
+
+    /// The end of a build.
+    pub(crate) fn finish(
+        &mut self,
+        board: &Board,
+        seat: &mut BuilderSeat,
+        outcome: Outcome,
+    ) -> Result<EntryNo, FinishRefusal>
+        requires board { board.now.table ≡ N.table }
+        requires seat { seat.old.table ≡ N.table }
+        ensures table { seat.new.table ≡ seat.old.table }
+        ensures shut { self.new.shut ≡ self.old.shut }
+        ensures named { self.old.book.fixed.table ≡ N.table }
+        ensures answer { FinishOutcome seat.old.builder.hand outcome seat.old.builder seat.new.builder self.old.book self.new.book result }
+    {
+        let Locked { book, ticks, .. } = self;
+        if matches!(seat.hand(), Hand::Free) {
+            return Err(FinishRefusal::NothingHeld);
+        }
+        if add_ticks(ticks, book.journal().len(), 2).is_err() {
+            return Err(FinishRefusal::NoMemory);
+        }
+        book.finish(board, seat, outcome)
+    }
+}

@@ -1,0 +1,23 @@
+//! Names of boards.
+use std::marker::Brand;
+
+/// Names one board, and the marks of the journal with which its book was opened. A function over
+/// a name is called with `Brand`, and the call picks what it names.
+pub trait Named {
+    ghost use Rattle.std.specs.Prelude.{List};
+    ghost use Rattle.atomic_table.specs.Seated.{TableId};
+    ghost use Rattle.td_journal.specs.declared.entry.Mark.{Mark};
+
+    ghost table: { TableId };
+
+    ghost opened: { List Mark };
+}
+
+impl Named for Brand {
+    ghost use Rattle.std.specs.Prelude.{[]};
+    ghost use Rattle.td_desk.specs.Names.{no_table};
+
+    ghost table = { no_table };
+
+    ghost opened = { [] };
+}
