@@ -16,9 +16,8 @@ use Rattle.td_rows.specs.Notes.{text_part, notes, notes_at}
 use Rattle.td_rows.specs.Text.{has_newline}
 use Rattle.td_rows.proofs.KeyTexts.{key_exact, key_lacks_space}
 use Rattle.td_rows.proofs.NoteTexts.{notes_exact, notes_begin}
-use Rattle.td_rows.proofs.StateTexts.{has_newline-Without}
+use Rattle.td_rows.proofs.NoteLines.{has_newline-Without, notes_lack}
 use Rattle.td_journal.specs.EntryReading.{outcome_at}
-use Rattle.td_journal.proofs.NoteLines.{notes_lack}
 use Rattle.td_builder.specs.OutcomeLines.{outcome_word, outcome_text, outcome_line, OutcomeFits}
 use Rattle.td_builder.specs.OutcomeReading.{with_text, ending_at, outcome_line_at}
 

@@ -15,7 +15,7 @@ use Rattle.td_text.proofs.Words.{Without-name, Without-arch}
 use Rattle.td_rows.specs.declared.key.Key.{Key}
 use Rattle.td_rows.specs.KeyText.{KeyFits}
 use Rattle.td_rows.specs.Text.{has_newline}
-use Rattle.td_rows.proofs.StateTexts.{has_newline-Without}
+use Rattle.td_rows.proofs.NoteLines.{has_newline-Without}
 use Rattle.td_script.specs.declared.request.Verb.{Verb}
 use Rattle.td_script.specs.declared.request.Verb.TheVariants as verb
 use Rattle.td_script.specs.declared.request.Request.{Request}
