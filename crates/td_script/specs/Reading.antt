@@ -7,8 +7,7 @@ use Rattle.td_text.specs.Exact.{Exact}
 use Rattle.td_text.specs.Numbers.{number_at}
 use Rattle.td_text.specs.Words.{is_name, is_arch}
 use Rattle.td_rows.specs.declared.key.Key.{Key}
-use Rattle.td_relation.specs.ArchList.{is_space}
-use Rattle.td_text.specs.Runs.{behind, run}
+use Rattle.td_text.specs.Runs.{behind, is_space, run}
 use Rattle.td_script.specs.declared.request.Verb.{Verb}
 use Rattle.td_script.specs.declared.request.Verb.TheVariants as verb
 use Rattle.td_script.specs.declared.request.Request.{Request}
