@@ -18,6 +18,8 @@ mod locked;
 mod matching;
 mod named;
 mod receipt;
+#[cfg(test)]
+mod tests;
 mod tick;
 mod told;
 
