@@ -61,8 +61,8 @@ pub(super) struct Desk {
     ghost three_at: { three.table ≡ board.table },
 }
 
-// A desk that opens with these rows, over a journal where one is given.
-pub(super) fn open_desk(alloc: Global, opening: &str, journal: Option<&str>) -> Result<Desk, Fail> {
+// A desk that opens with these rows.
+pub(super) fn open_desk(alloc: Global, opening: &str) -> Result<Desk, Fail> {
     let rows = rows(alloc, opening)?;
     let supply = supply(alloc)?;
     let archs = Archs::read(alloc, TABLE)?;
@@ -71,10 +71,7 @@ pub(super) fn open_desk(alloc: Global, opening: &str, journal: Option<&str>) -> 
     else {
         return Err(Fail::from("three builders"));
     };
-    let book = match journal {
-        Some(text) => Book::reopen(alloc, &board, seat, rows, supply, text)?,
-        None => Book::open(alloc, &board, seat, rows, supply)?,
-    };
+    let book = Book::open(alloc, &board, seat, rows, supply)?;
     Ok(Desk {
         alloc,
         archs,
@@ -255,31 +252,10 @@ impl Desk {
     }
 }
 
-// Why a text isn't a journal's over these rows; or the journal that a book has with it.
-pub(super) fn refusal_of(alloc: Global, opening: &str, journal: &str) -> Result<String, Fail> {
-    let rows = rows(alloc, opening)?;
-    let supply = supply(alloc)?;
-    let (board, seat, _builders) = Board::make(alloc, rows.len(), 3)?;
-    match Book::reopen(alloc, &board, seat, rows, supply, journal) {
-        Ok(book) => Ok(text(alloc, book.journal())?),
-        Err(refusal) => Ok(format!(in alloc; "{refusal:?}")?),
-    }
-}
-
 // The journal after a script that begins with these rows; or its first line that is answered
 // otherwise, with the answer.
 pub(super) fn journal_after(alloc: Global, opening: &str, script: &str) -> Result<String, Fail> {
-    journal_behind(alloc, opening, None, script)
-}
-
-// The same, where the desk opens over a journal.
-pub(super) fn journal_behind(
-    alloc: Global,
-    opening: &str,
-    journal: Option<&str>,
-    script: &str,
-) -> Result<String, Fail> {
-    let mut desk = open_desk(alloc, opening, journal)?;
+    let mut desk = open_desk(alloc, opening)?;
     for line in script.lines() {
         let (call, expected) = line.split_once(" => ").ok_or("a call")?;
         let answer = desk.answer(call)?;
