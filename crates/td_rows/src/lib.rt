@@ -9,6 +9,8 @@
 
 mod cells;
 mod exchange;
+#[cfg(test)]
+mod grid_tests;
 mod key;
 mod key_ref;
 mod key_text;
