@@ -1,5 +1,6 @@
 -- The table's rule allows each of a builder's kinds of step, and the step tells what it should.
-use Rattle.std.proofs.Common.{◌≡◌, ◌≢◌, ℕ, ◌+◌, ◌<◌, [], get_or, set, sym, refl, ap, ◌∙◌, subst, arith, eqb}
+use Rattle.std.proofs.Common.{◌≡◌, ◌≢◌, ℕ, ◌+◌, ◌<◌, [], get_or, set, sym, refl, ap, ◌∙◌, subst}
+use Rattle.std.proofs.Common.{arith, eqb}
 use mathlib.Core.Logic.{dite}
 use mathlib.Core.Option.{none, some}
 use native.Mathlib.Decide.{ℕ_discrete}
@@ -23,15 +24,18 @@ use Rattle.td_board.proofs.RowLaws.{builder_seat}
 use Rattle.td_board.proofs.BuilderLaws.{outcome_of}
 use Rattle.td_board.proofs.DeskMoves.{ruled_same}
 use Rattle.td_board.proofs.Schedules.{rule_stands}
-use Rattle.td_board.proofs.WordLaws.{words_apart, word_at, words_set, same_finish, either_hit, either_miss}
+use Rattle.td_board.proofs.WordLaws.{words_apart, word_at, words_set, same_finish, either_hit}
+use Rattle.td_board.proofs.WordLaws.{either_miss}
 
 -- a claim
-pub claim_allowed : (rows slots id r new : ℕ) (me : SeatState) (v : BuilderView) → new ≡ word_of (held v.number) → me ≡ at_builder v → v.hand ≡ Free → r < rows
+pub claim_allowed : (rows slots id r new : ℕ) (me : SeatState) (v : BuilderView)
+    → new ≡ word_of (held v.number) → me ≡ at_builder v → v.hand ≡ Free → r < rows
     → Allows (Ruled rows) slots id me (r + 1) (λ n. either (eqb n 1) new n) (ClaimTells (step slots (r + 1) 1 new none) me)
 claim_allowed rows slots id r new me v word is free inside =
     subst (λ (k : ℕ). Allows (Ruled rows) slots id me (r + 1) (λ n. either (eqb n 1) k n) (ClaimTells (step slots (r + 1) 1 k none) me)) (sym word) (at_word rows slots id r me v is free inside)
   where
-    at_word : (rows slots id r : ℕ) (me : SeatState) (v : BuilderView) → me ≡ at_builder v → v.hand ≡ Free → r < rows
+    at_word : (rows slots id r : ℕ) (me : SeatState) (v : BuilderView) → me ≡ at_builder v
+        → v.hand ≡ Free → r < rows
         → let new = word_of (held v.number) in Allows (Ruled rows) slots id me (r + 1) (λ n. either (eqb n 1) new n) (ClaimTells (step slots (r + 1) 1 new none) me)
     at_word rows slots id r me v is free inside = let new : ℕ = word_of (held v.number) in
         subst (λ (m : SeatState). Allows (Ruled rows) slots id m (r + 1) (λ n. either (eqb n 1) new n) (ClaimTells (step slots (r + 1) 1 new none) m)) (sym is)
@@ -68,12 +72,15 @@ claim_allowed rows slots id r new me v word is free inside =
         )))
 
 -- a finish
-pub finish_allowed : (rows slots id r : ℕ) (c : OutcomeCode) (old new : ℕ) (me : SeatState) (v : BuilderView) → old ≡ word_of (noted v.number) → new ≡ word_of (done v.number c) → me ≡ at_builder v → v.hand ≡ Holding r → r < rows
+pub finish_allowed : (rows slots id r : ℕ) (c : OutcomeCode) (old new : ℕ) (me : SeatState)
+    (v : BuilderView) → old ≡ word_of (noted v.number) → new ≡ word_of (done v.number c)
+    → me ≡ at_builder v → v.hand ≡ Holding r → r < rows
     → Allows (Ruled rows) slots id me (r + 1) (λ n. either (eqb n old) new n) (FinishTells (step slots (r + 1) old new none) me)
 finish_allowed rows slots id r c old new me v word word' is holds inside =
     subst (λ (k : ℕ × ℕ). Allows (Ruled rows) slots id me (r + 1) (λ n. either (eqb n k.0) k.1 n) (FinishTells (step slots (r + 1) k.0 k.1 none) me)) (λ i. (sym word i, sym word' i)) (at_words rows slots id r c me v is holds inside)
   where
-    at_words : (rows slots id r : ℕ) (c : OutcomeCode) (me : SeatState) (v : BuilderView) → me ≡ at_builder v → v.hand ≡ Holding r → r < rows
+    at_words : (rows slots id r : ℕ) (c : OutcomeCode) (me : SeatState) (v : BuilderView)
+        → me ≡ at_builder v → v.hand ≡ Holding r → r < rows
         → let old = word_of (noted v.number) in let new = word_of (done v.number c) in Allows (Ruled rows) slots id me (r + 1) (λ n. either (eqb n old) new n) (FinishTells (step slots (r + 1) old new none) me)
     at_words rows slots id r c me v is holds inside = let old : ℕ = word_of (noted v.number) in let new : ℕ = word_of (done v.number c) in
         subst (λ (m : SeatState). Allows (Ruled rows) slots id m (r + 1) (λ n. either (eqb n old) new n) (FinishTells (step slots (r + 1) old new none) m)) (sym is)
@@ -114,7 +121,8 @@ one_outcome : (h : Hand) (r q : ℕ) (c k : OutcomeCode) → h ≡ Finished r c 
 one_outcome h r q c k e e' = ap outcome_of (sym e ∙ e')
 
 -- a release
-pub release_allowed : (rows slots id r : ℕ) (c : OutcomeCode) (me : SeatState) (v : BuilderView) → me ≡ at_builder v → v.hand ≡ Finished r c → r < rows
+pub release_allowed : (rows slots id r : ℕ) (c : OutcomeCode) (me : SeatState) (v : BuilderView)
+    → me ≡ at_builder v → v.hand ≡ Finished r c → r < rows
     → Allows (Ruled rows) slots id me (r + 1) (λ n. n) (ReleaseTells (step slots (r + 1) 0 0 none) me)
 release_allowed rows slots id r c me v is ended inside =
     subst (λ (m : SeatState). Allows (Ruled rows) slots id m (r + 1) (λ n. n) (ReleaseTells (step slots (r + 1) 0 0 none) m)) (sym is)

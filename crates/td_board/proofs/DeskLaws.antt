@@ -1,5 +1,7 @@
 -- The desk's kinds of step keep the rule, over phases and views as plain data.
-use Rattle.std.proofs.Common.{◌≡◌, ◌≢◌, ℕ, suc, ◌-◌, ◌<◌, List, [], ◌∷◌, ◌++◌, length, replicate, set, sym, refl, ap, ◌∙◌, subst, ⊎_elim, inr, arith, length-set, length-append}
+use Rattle.std.proofs.Common.{◌≡◌, ◌≢◌, ℕ, suc, ◌-◌, ◌<◌, List, [], ◌∷◌, ◌++◌, length, replicate}
+use Rattle.std.proofs.Common.{set, sym, refl, ap, ◌∙◌, subst, ⊎_elim, inr, arith, length-set}
+use Rattle.std.proofs.Common.{length-append}
 use mathlib.Core.Logic.{dite}
 use mathlib.Core.Option.{some, some-ne-none}
 use native.Mathlib.Decide.{ℕ_discrete}
@@ -17,13 +19,17 @@ use Rattle.td_board.specs.declared.views.BuilderView.{BuilderView}
 use Rattle.td_board.specs.declared.views.View.{View}
 use Rattle.td_board.specs.declared.views.View.TheVariants.{Desk, Builder}
 use Rattle.td_board.specs.Phase.{Phase, closed, opened, held, noted, done, builder_of}
-use Rattle.td_board.specs.Knowledge.{new_desk, with_builder, with_row, with_deed, list_at, new_builder}
+use Rattle.td_board.specs.Knowledge.{new_desk, with_builder, with_row, with_deed, list_at}
+use Rattle.td_board.specs.Knowledge.{new_builder}
 use Rattle.td_board.specs.Rule.{RowFits, HasHand, HandFits, ListFits, BuilderFits, Fits}
-use Rattle.td_board.proofs.Lists.{at_less, one_at, there_is, at_replicate, at_snoc_or_end, list_at-at}
-use Rattle.td_board.proofs.RowLaws.{untouched, hands_after, not_desk, desk_moves, same_hand, builder_seat}
+use Rattle.td_board.proofs.Lists.{at_less, one_at, there_is, at_replicate, at_snoc_or_end}
+use Rattle.td_board.proofs.Lists.{list_at-at}
+use Rattle.td_board.proofs.RowLaws.{untouched, hands_after, not_desk, desk_moves, same_hand}
+use Rattle.td_board.proofs.RowLaws.{builder_seat}
 
 -- the making of the board
-pub make_keeps : (rows : ℕ) → Fits rows (replicate rows closed) (new_desk rows 0) (Desk (new_desk rows 0) ∷ [])
+pub make_keeps : (rows : ℕ)
+    → Fits rows (replicate rows closed) (new_desk rows 0) (Desk (new_desk rows 0) ∷ [])
 make_keeps rows = record {
   long = length-replicate rows closed;
   wide = length-replicate rows In;
@@ -35,7 +41,8 @@ make_keeps rows = record {
 }
 
 -- a seat more, and the hands stay
-hands_longer : (views : List View) (w : View) (r : ℕ) (p : Phase) → HandFits views r p → HandFits (views ++ w ∷ []) r p
+hands_longer : (views : List View) (w : View) (r : ℕ) (p : Phase) → HandFits views r p
+    → HandFits (views ++ w ∷ []) r p
 hands_longer views w r closed f = tt
 hands_longer views w r opened f = tt
 hands_longer views w r (held b) f = (f.0, at_longer views (w ∷ []) b (Builder f.0) f.1, f.2)
@@ -43,7 +50,8 @@ hands_longer views w r (noted b) f = (f.0, at_longer views (w ∷ []) b (Builder
 hands_longer views w r (done b c) f = (f.0, at_longer views (w ∷ []) b (Builder f.0) f.1, f.2)
 
 -- the split of a builder's seat
-pub seat_keeps : (rows : ℕ) (phases : List Phase) (d : DeskView) (views : List View) → Fits rows phases d views
+pub seat_keeps : (rows : ℕ) (phases : List Phase) (d : DeskView) (views : List View)
+    → Fits rows phases d views
     → Fits rows phases (with_builder d) (set views 0 (Desk (with_builder d)) ++ Builder (new_builder (suc (length d.noted))) ∷ [])
 seat_keeps rows phases d views f =
     let d' : DeskView = with_builder d in
@@ -87,7 +95,8 @@ seat_keeps rows phases d views f =
     }
 
 -- the same builders, where neither phase names one
-no_builder : (phases : List Phase) (lists : List (List Deed)) (views : List View) (r₀ : ℕ) (p₀ p₁ : Phase) → get_elem? phases r₀ ≡ some p₀ → builder_of p₀ ≡ 0 → builder_of p₁ ≡ 0
+no_builder : (phases : List Phase) (lists : List (List Deed)) (views : List View) (r₀ : ℕ)
+    (p₀ p₁ : Phase) → get_elem? phases r₀ ≡ some p₀ → builder_of p₀ ≡ 0 → builder_of p₁ ≡ 0
     → (k : ℕ) (w : View) → get_elem? views (suc k) ≡ some w → BuilderFits phases lists k w → BuilderFits (set phases r₀ p₁) lists k w
 no_builder phases lists views r₀ p₀ p₁ at before after k w _ old = record {
   view = old.view;
@@ -99,19 +108,22 @@ no_builder phases lists views r₀ p₀ p₁ at before after k w _ old = record 
 }
 
 -- an offer
-pub offer_keeps : (rows : ℕ) (phases : List Phase) (d : DeskView) (views : List View) (r : ℕ) → Fits rows phases d views → get_elem? phases r ≡ some closed
+pub offer_keeps : (rows : ℕ) (phases : List Phase) (d : DeskView) (views : List View) (r : ℕ)
+    → Fits rows phases d views → get_elem? phases r ≡ some closed
     → Fits rows (set phases r opened) (with_row r Out d) (set views 0 (Desk (with_row r Out d)))
 offer_keeps rows phases d views r f at =
     desk_moves rows phases d views r closed opened Out d.noted f at tt tt refl (no_builder phases d.noted views r closed opened at refl refl)
 
 -- a withdrawal, where no builder was faster
-pub withdrawal_keeps : (rows : ℕ) (phases : List Phase) (d : DeskView) (views : List View) (r : ℕ) → Fits rows phases d views → get_elem? phases r ≡ some opened
+pub withdrawal_keeps : (rows : ℕ) (phases : List Phase) (d : DeskView) (views : List View) (r : ℕ)
+    → Fits rows phases d views → get_elem? phases r ≡ some opened
     → Fits rows (set phases r closed) (with_row r In d) (set views 0 (Desk (with_row r In d)))
 withdrawal_keeps rows phases d views r f at =
     desk_moves rows phases d views r opened closed In d.noted f at tt tt refl (no_builder phases d.noted views r opened closed at refl refl)
 
 -- a withdrawal that is lost: the desk sees a claim
-pub sight_keeps : (rows : ℕ) (phases : List Phase) (d : DeskView) (views : List View) (r b : ℕ) → Fits rows phases d views → get_elem? phases r ≡ some (held b)
+pub sight_keeps : (rows : ℕ) (phases : List Phase) (d : DeskView) (views : List View) (r b : ℕ)
+    → Fits rows phases d views → get_elem? phases r ≡ some (held b)
     → Fits rows phases (with_row r (Seen b) d) (set views 0 (Desk (with_row r (Seen b) d)))
 sight_keeps rows phases d views r b f at =
     let same : set phases r (held b) ≡ phases = set_again phases r (held b) at in
@@ -121,7 +133,9 @@ sight_keeps rows phases d views r b f at =
     (λ k w _ old. subst (λ ps. BuilderFits ps d.noted k w) (sym same) old))
 
 -- one deed more of builder k + 1 is noted, and those of the others stay
-noting_builders : (phases : List Phase) (lists : List (List Deed)) (views : List View) (r₀ k : ℕ) (p₀ p₁ : Phase) (known now : List Deed) → get_elem? phases r₀ ≡ some p₀ → get_elem? lists k ≡ some known
+noting_builders : (phases : List Phase) (lists : List (List Deed)) (views : List View) (r₀ k : ℕ)
+    (p₀ p₁ : Phase) (known now : List Deed) → get_elem? phases r₀ ≡ some p₀
+    → get_elem? lists k ≡ some known
     → ((b : ℕ) → b ≢ suc k → b ≢ 0 → (builder_of p₀ ≢ b) × (builder_of p₁ ≢ b))
     → ((w : View) → get_elem? views (suc k) ≡ some w → (old : BuilderFits phases lists k w) → old.known ≡ known → ListFits (set phases r₀ p₁) (suc k) old.view.hand now old.view.mine)
     → (j : ℕ) (w : View) → get_elem? views (suc j) ≡ some w → BuilderFits phases lists j w → BuilderFits (set phases r₀ p₁) (set lists k now) j w
@@ -149,19 +163,26 @@ noting_builders phases lists views r₀ k p₀ p₁ known now at there others mi
     })
 
 -- the list of a builder whose claim isn't noted
-held_list : (phases : List Phase) (b r : ℕ) (h : Hand) (known mine : List Deed) → h ≡ Holding r → get_elem? phases r ≡ some (held b) → ListFits phases b h known mine → mine ≡ known ++ Claim r ∷ []
+held_list : (phases : List Phase) (b r : ℕ) (h : Hand) (known mine : List Deed) → h ≡ Holding r
+    → get_elem? phases r ≡ some (held b) → ListFits phases b h known mine
+    → mine ≡ known ++ Claim r ∷ []
 held_list phases b r h known mine e at f = ⊎_elim (λ t. t.1) (λ t. let no : held b ≡ noted b = one_at phases r (held b) (noted b) at t.0 in absurd (cc)) (let t : ListFits phases b (Holding r) known mine = subst (λ x. ListFits phases b x known mine) e f in t)
 
 -- the list of a builder whose finish isn't noted
-done_list : (phases : List Phase) (b r : ℕ) (c : OutcomeCode) (h : Hand) (known mine : List Deed) → h ≡ Finished r c → get_elem? phases r ≡ some (done b c) → ListFits phases b h known mine → mine ≡ known ++ Finish r c ∷ []
+done_list : (phases : List Phase) (b r : ℕ) (c : OutcomeCode) (h : Hand) (known mine : List Deed)
+    → h ≡ Finished r c → get_elem? phases r ≡ some (done b c) → ListFits phases b h known mine
+    → mine ≡ known ++ Finish r c ∷ []
 done_list phases b r c h known mine e at f = ⊎_elim (λ t. t.1) (λ t. absurd (t.2 (one_at phases r t.0 (done b c) t.1 at))) (let t : ListFits phases b (Finished r c) known mine = subst (λ x. ListFits phases b x known mine) e f in t)
 
 -- the hand of the builder that a phase names
-hand_of : (views : List View) (k : ℕ) (h : Hand) (phases : List Phase) (lists : List (List Deed)) (w : View) → HasHand views (suc k) h → get_elem? views (suc k) ≡ some w → (old : BuilderFits phases lists k w) → old.view.hand ≡ h
+hand_of : (views : List View) (k : ℕ) (h : Hand) (phases : List Phase) (lists : List (List Deed))
+    (w : View) → HasHand views (suc k) h → get_elem? views (suc k) ≡ some w
+    → (old : BuilderFits phases lists k w) → old.view.hand ≡ h
 hand_of views k h phases lists w t seat old = same_hand views (suc k) old.view h (seat ∙ ap some old.is) t
 
 -- a note
-pub note_keeps : (rows : ℕ) (phases : List Phase) (d : DeskView) (views : List View) (r b : ℕ) → Fits rows phases d views → get_elem? phases r ≡ some (held b)
+pub note_keeps : (rows : ℕ) (phases : List Phase) (d : DeskView) (views : List View) (r b : ℕ)
+    → Fits rows phases d views → get_elem? phases r ≡ some (held b)
     → let d' : DeskView = with_deed b (Claim r) (with_row r (Known b) d) in Fits rows (set phases r (noted b)) d' (set views 0 (Desk d'))
 note_keeps rows phases d views r b f at =
     let has = f.each_hand r (held b) at in
@@ -172,7 +193,8 @@ note_keeps rows phases d views r b f at =
     let law = by_place rows phases d views r k f (at ∙ ap (λ i. some (held i)) named) in
     subst (λ (z : ℕ × ℕ). let d' : DeskView = record { rows = set d.rows r (Known z.0); noted = set d.noted z.1 (list_at d.noted z.1 ++ Claim r ∷ []) } in Fits rows (set phases r (noted z.0)) d' (set views 0 (Desk d'))) (λ i. (sym named i, place i)) law
   where
-    by_place : (rows : ℕ) (phases : List Phase) (d : DeskView) (views : List View) (r k : ℕ) → Fits rows phases d views → get_elem? phases r ≡ some (held (suc k))
+    by_place : (rows : ℕ) (phases : List Phase) (d : DeskView) (views : List View) (r k : ℕ)
+        → Fits rows phases d views → get_elem? phases r ≡ some (held (suc k))
         → let d' : DeskView = record { rows = set d.rows r (Known (suc k)); noted = set d.noted k (list_at d.noted k ++ Claim r ∷ []) } in Fits rows (set phases r (noted (suc k))) d' (set views 0 (Desk d'))
     by_place rows phases d views r k f at =
         let has = f.each_hand r (held (suc k)) at in
@@ -188,7 +210,8 @@ note_keeps rows phases d views r b f at =
         subst (λ x. ListFits (set phases r (noted (suc k))) (suc k) x now old.view.mine) (sym h) after))
 
 -- a settling
-pub settling_keeps : (rows : ℕ) (phases : List Phase) (d : DeskView) (views : List View) (r b : ℕ) (c : OutcomeCode) → Fits rows phases d views → get_elem? phases r ≡ some (done b c)
+pub settling_keeps : (rows : ℕ) (phases : List Phase) (d : DeskView) (views : List View) (r b : ℕ)
+    (c : OutcomeCode) → Fits rows phases d views → get_elem? phases r ≡ some (done b c)
     → let d' : DeskView = with_deed b (Finish r c) (with_row r In d) in Fits rows (set phases r closed) d' (set views 0 (Desk d'))
 settling_keeps rows phases d views r b c f at =
     let has = f.each_hand r (done b c) at in
@@ -199,7 +222,8 @@ settling_keeps rows phases d views r b c f at =
     let law = by_place rows phases d views r k c f (at ∙ ap (λ i. some (done i c)) named) in
     subst (λ (i : ℕ). let d' : DeskView = record { rows = set d.rows r In; noted = set d.noted i (list_at d.noted i ++ Finish r c ∷ []) } in Fits rows (set phases r closed) d' (set views 0 (Desk d'))) place law
   where
-    by_place : (rows : ℕ) (phases : List Phase) (d : DeskView) (views : List View) (r k : ℕ) (c : OutcomeCode) → Fits rows phases d views → get_elem? phases r ≡ some (done (suc k) c)
+    by_place : (rows : ℕ) (phases : List Phase) (d : DeskView) (views : List View) (r k : ℕ)
+        (c : OutcomeCode) → Fits rows phases d views → get_elem? phases r ≡ some (done (suc k) c)
         → let d' : DeskView = record { rows = set d.rows r In; noted = set d.noted k (list_at d.noted k ++ Finish r c ∷ []) } in Fits rows (set phases r closed) d' (set views 0 (Desk d'))
     by_place rows phases d views r k c f at =
         let has = f.each_hand r (done (suc k) c) at in

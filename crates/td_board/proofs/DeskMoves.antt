@@ -1,12 +1,14 @@
 -- The table's rule allows each of the desk's kinds of step, and the step tells what it should.
-use Rattle.std.proofs.Common.{◌≡◌, ◌≢◌, ℕ, suc, ◌+◌, List, [], ◌∷◌, ◌++◌, map, length, replicate, get_or, set, sym, refl, ap, ◌∙◌, subst, arith, add-one, eqb}
+use Rattle.std.proofs.Common.{◌≡◌, ◌≢◌, ℕ, suc, ◌+◌, List, [], ◌∷◌, ◌++◌, map, length, replicate}
+use Rattle.std.proofs.Common.{get_or, set, sym, refl, ap, ◌∙◌, subst, arith, add-one, eqb}
 use mathlib.Core.Logic.{dite}
 use mathlib.Core.Option.{none, some}
 use native.Mathlib.Decide.{ℕ_discrete}
 use lib.ListN.{get_elem?}
 use lib.Seq.{set-get_or}
 use prog.Atomic.{either}
-use Rattle.atomic_table.specs.Table.{State, Act, keeps, Valid, step, carried_after, stepped, Allows, Splits, opening}
+use Rattle.atomic_table.specs.Table.{State, Act, keeps, Valid, step, carried_after, stepped, Allows}
+use Rattle.atomic_table.specs.Table.{Splits, opening}
 use Rattle.atomic_table.proofs.Lists.{set_again}
 use Rattle.td_board.specs.declared.outcome.OutcomeCode.{OutcomeCode}
 use Rattle.td_board.specs.declared.views.RowView.TheVariants.{In, Out, Seen, Known}
@@ -20,22 +22,28 @@ use Rattle.td_board.specs.Steps as steps
 use Rattle.td_board.specs.Steps.{Moment, moment_of, Step, Reached}
 use Rattle.td_board.specs.Rule.{Fits}
 use Rattle.td_board.specs.Ruled.{Ruled, first_view}
-use Rattle.td_board.specs.Tells.{SeatState, at_desk, desk_half, builder_half, OfferTells, WithdrawTells, NoteTells, SettleTells}
+use Rattle.td_board.specs.Tells.{SeatState, at_desk, desk_half, builder_half, OfferTells}
+use Rattle.td_board.specs.Tells.{WithdrawTells, NoteTells, SettleTells}
 use Rattle.td_board.proofs.Lists.{at_less}
-use Rattle.td_board.proofs.RowLaws.{phase_at, in_closed, seen_held, OutPhase, is_open, is_held, out_phase, desk_seat, builder_seat}
+use Rattle.td_board.proofs.RowLaws.{phase_at, in_closed, seen_held, OutPhase, is_open, is_held}
+use Rattle.td_board.proofs.RowLaws.{out_phase, desk_seat, builder_seat}
 use Rattle.td_board.proofs.Schedules.{rule_stands}
-use Rattle.td_board.proofs.WordLaws.{words_apart, word_at, words_set, words_of_closed, same_finish, either_hit, either_miss}
+use Rattle.td_board.proofs.WordLaws.{words_apart, word_at, words_set, words_of_closed, same_finish}
+use Rattle.td_board.proofs.WordLaws.{either_hit, either_miss}
 
 -- a table's state
 abbrev pub TableState : Type 0
 TableState = State (Unit {0}) View
 
 -- the rule on the words and views that a step leaves
-ruled_after : (rows : ℕ) (s : TableState) (phases : List Phase) (i n id : ℕ) (w : View) → set s.words i n ≡ 0 ∷ map word_of phases → Reached rows (moment_of phases (set s.views id w)) → Ruled rows (stepped s i n id [] w keeps)
+ruled_after : (rows : ℕ) (s : TableState) (phases : List Phase) (i n id : ℕ) (w : View)
+    → set s.words i n ≡ 0 ∷ map word_of phases → Reached rows (moment_of phases (set s.views id w))
+    → Ruled rows (stepped s i n id [] w keeps)
 ruled_after rows s phases i n id w words reached = record { phases = phases; words_are = words; reached = reached }
 
 -- a step that changes nothing
-pub ruled_same : (rows : ℕ) (s : TableState) (i id : ℕ) (w : View) → (rule : Ruled rows s) → get_elem? s.views id ≡ some w
+pub ruled_same : (rows : ℕ) (s : TableState) (i id : ℕ) (w : View) → (rule : Ruled rows s)
+    → get_elem? s.views id ≡ some w
     → Step (moment_of rule.phases s.views) (moment_of rule.phases s.views) → Ruled rows (stepped s i (get_or s.words i 0) id [] w keeps)
 ruled_same rows s i id w rule at one = record {
   phases = rule.phases;
@@ -44,7 +52,8 @@ ruled_same rows s i id w rule at one = record {
 }
 
 -- a new board
-pub make_ruled : (rows : ℕ) (words : List ℕ) → words ≡ replicate (rows + 1) 0 → Ruled rows (opening words [] (first_view rows))
+pub make_ruled : (rows : ℕ) (words : List ℕ) → words ≡ replicate (rows + 1) 0
+    → Ruled rows (opening words [] (first_view rows))
 make_ruled rows words is = record {
   phases = replicate rows closed;
   words_are = is ∙ (ap (λ n. replicate n 0) (add-one rows) ∙ ap (λ l. 0 ∷ l) (sym (words_of_closed rows)));
@@ -52,7 +61,8 @@ make_ruled rows words is = record {
 }
 
 -- a builder's seat is split off
-pub seat_allowed : (rows id : ℕ) (v : View) (d : DeskView) → v ≡ Desk d → Splits (Ruled rows) id v (desk_half v) (builder_half v)
+pub seat_allowed : (rows id : ℕ) (v : View) (d : DeskView) → v ≡ Desk d
+    → Splits (Ruled rows) id v (desk_half v) (builder_half v)
 seat_allowed rows id v d is = subst (λ (x : View). Splits (Ruled rows) id x (desk_half x) (builder_half x)) (sym is)
     (λ s rule at.
     let m : Moment = moment_of rule.phases s.views in
@@ -68,7 +78,8 @@ seat_allowed rows id v d is = subst (λ (x : View). Splits (Ruled rows) id x (de
     })
 
 -- an offer
-pub offer_allowed : (rows slots id r : ℕ) (me : SeatState) (d : DeskView) → me ≡ at_desk d → get_elem? d.rows r ≡ some In
+pub offer_allowed : (rows slots id r : ℕ) (me : SeatState) (d : DeskView) → me ≡ at_desk d
+    → get_elem? d.rows r ≡ some In
     → Allows (Ruled rows) slots id me (r + 1) (λ _. 1) (λ _. OfferTells (step slots (r + 1) 1 0 none) me 1)
 offer_allowed rows slots id r me d is in_here = subst (λ (m : SeatState). Allows (Ruled rows) slots id m (r + 1) (λ _. 1) (λ _. OfferTells (step slots (r + 1) 1 0 none) m 1)) (sym is)
     (λ s rule _ at _.
@@ -88,7 +99,8 @@ offer_allowed rows slots id r me d is in_here = subst (λ (m : SeatState). Allow
     ))
 
 -- a withdrawal
-pub withdrawal_allowed : (rows slots id r : ℕ) (me : SeatState) (d : DeskView) → me ≡ at_desk d → get_elem? d.rows r ≡ some Out
+pub withdrawal_allowed : (rows slots id r : ℕ) (me : SeatState) (d : DeskView) → me ≡ at_desk d
+    → get_elem? d.rows r ≡ some Out
     → Allows (Ruled rows) slots id me (r + 1) (λ n. either (eqb n 1) 0 n) (WithdrawTells (step slots (r + 1) 1 0 none) me)
 withdrawal_allowed rows slots id r me d is out_here = subst (λ (m : SeatState). Allows (Ruled rows) slots id m (r + 1) (λ n. either (eqb n 1) 0 n) (WithdrawTells (step slots (r + 1) 1 0 none) m)) (sym is)
     (λ s rule _ at _.
@@ -112,7 +124,8 @@ withdrawal_allowed rows slots id r me d is out_here = subst (λ (m : SeatState).
     ))
     (λ (lost : n ≢ 1). held_case rows slots id r d s rule out_here place.0 f n refl lost t.0 t.1 found (out_phase t.0 t.2)))
   where
-    held_case : (rows slots id r : ℕ) (d : DeskView) (s : TableState) (rule : Ruled rows s) → get_elem? d.rows r ≡ some Out → id ≡ 0 → Fits rows rule.phases d s.views
+    held_case : (rows slots id r : ℕ) (d : DeskView) (s : TableState) (rule : Ruled rows s)
+        → get_elem? d.rows r ≡ some Out → id ≡ 0 → Fits rows rule.phases d s.views
         → (n : ℕ) → n ≡ get_or s.words (r + 1) 0 → n ≢ 1 → (p : Phase) → get_elem? rule.phases r ≡ some p → n ≡ word_of p → OutPhase p
         → (w : View) × (a : Act (Unit {0})) × Valid s.homes [] a × Ruled rows (stepped s (r + 1) (either (eqb n 1) 0 n) id [] w a)
         × WithdrawTells (step slots (r + 1) 1 0 none) (at_desk d) n (w, carried_after [] a)
@@ -135,12 +148,14 @@ withdrawal_allowed rows slots id r me d is out_here = subst (λ (m : SeatState).
         )
 
 -- a note
-pub note_allowed : (rows slots id r b new : ℕ) (me : SeatState) (d : DeskView) → new ≡ word_of (noted b) → me ≡ at_desk d → get_elem? d.rows r ≡ some (Seen b)
+pub note_allowed : (rows slots id r b new : ℕ) (me : SeatState) (d : DeskView)
+    → new ≡ word_of (noted b) → me ≡ at_desk d → get_elem? d.rows r ≡ some (Seen b)
     → Allows (Ruled rows) slots id me (r + 1) (λ _. new) (λ _. NoteTells (step slots (r + 1) new 0 none) me new)
 note_allowed rows slots id r b new me d word is seen =
     subst (λ (k : ℕ). Allows (Ruled rows) slots id me (r + 1) (λ _. k) (λ _. NoteTells (step slots (r + 1) k 0 none) me k)) (sym word) (at_word rows slots id r b me d is seen)
   where
-    at_word : (rows slots id r b : ℕ) (me : SeatState) (d : DeskView) → me ≡ at_desk d → get_elem? d.rows r ≡ some (Seen b)
+    at_word : (rows slots id r b : ℕ) (me : SeatState) (d : DeskView) → me ≡ at_desk d
+        → get_elem? d.rows r ≡ some (Seen b)
         → Allows (Ruled rows) slots id me (r + 1) (λ _. word_of (noted b)) (λ _. NoteTells (step slots (r + 1) (word_of (noted b)) 0 none) me (word_of (noted b)))
     at_word rows slots id r b me d is seen = subst (λ (m : SeatState). Allows (Ruled rows) slots id m (r + 1) (λ _. word_of (noted b)) (λ _. NoteTells (step slots (r + 1) (word_of (noted b)) 0 none) m (word_of (noted b)))) (sym is)
         (λ s rule _ at _.
@@ -166,12 +181,14 @@ note_allowed rows slots id r b new me d word is seen =
         ))
 
 -- a settling
-pub settling_allowed : (rows slots id r b : ℕ) (c : OutcomeCode) (old : ℕ) (me : SeatState) (d : DeskView) → old ≡ word_of (done b c) → me ≡ at_desk d → get_elem? d.rows r ≡ some (Known b)
+pub settling_allowed : (rows slots id r b : ℕ) (c : OutcomeCode) (old : ℕ) (me : SeatState)
+    (d : DeskView) → old ≡ word_of (done b c) → me ≡ at_desk d → get_elem? d.rows r ≡ some (Known b)
     → Allows (Ruled rows) slots id me (r + 1) (λ n. either (eqb n old) 0 n) (SettleTells (step slots (r + 1) old 0 none) me)
 settling_allowed rows slots id r b c old me d word is knows =
     subst (λ (k : ℕ). Allows (Ruled rows) slots id me (r + 1) (λ n. either (eqb n k) 0 n) (SettleTells (step slots (r + 1) k 0 none) me)) (sym word) (at_word rows slots id r b c me d is knows)
   where
-    at_word : (rows slots id r b : ℕ) (c : OutcomeCode) (me : SeatState) (d : DeskView) → me ≡ at_desk d → get_elem? d.rows r ≡ some (Known b)
+    at_word : (rows slots id r b : ℕ) (c : OutcomeCode) (me : SeatState) (d : DeskView)
+        → me ≡ at_desk d → get_elem? d.rows r ≡ some (Known b)
         → let old = word_of (done b c) in Allows (Ruled rows) slots id me (r + 1) (λ n. either (eqb n old) 0 n) (SettleTells (step slots (r + 1) old 0 none) me)
     at_word rows slots id r b c me d is knows = let old : ℕ = word_of (done b c) in
         subst (λ (m : SeatState). Allows (Ruled rows) slots id m (r + 1) (λ n. either (eqb n old) 0 n) (SettleTells (step slots (r + 1) old 0 none) m)) (sym is)

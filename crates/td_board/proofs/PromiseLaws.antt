@@ -1,5 +1,6 @@
 -- What holds at every moment of every schedule, proved from the rule.
-use Rattle.std.proofs.Common.{◌≡◌, ◌≢◌, ◌⊎◌, ℕ, zero, suc, ◌-◌, ◌<◌, List, [], ◌∷◌, ◌++◌, length, set, sym, refl, ap, ◌∙◌, subst, ⊎_elim, inl, inr, arith, append-nil}
+use Rattle.std.proofs.Common.{◌≡◌, ◌≢◌, ◌⊎◌, ℕ, zero, suc, ◌-◌, ◌<◌, List, [], ◌∷◌, ◌++◌, length}
+use Rattle.std.proofs.Common.{set, sym, refl, ap, ◌∙◌, subst, ⊎_elim, inl, inr, arith, append-nil}
 use mathlib.Core.Logic.{dite}
 use mathlib.Core.Option.{some}
 use native.Mathlib.Decide.{ℕ_discrete}
@@ -15,20 +16,29 @@ use Rattle.td_board.specs.declared.views.BuilderView.{BuilderView}
 use Rattle.td_board.specs.declared.views.View.{View}
 use Rattle.td_board.specs.declared.views.View.TheVariants.{Desk, Builder}
 use Rattle.td_board.specs.Phase.{Phase, closed, opened, held, noted, done, builder_of}
-use Rattle.td_board.specs.Knowledge.{with_builder, with_row, with_deed, noted_of, list_at, new_builder, with_claim, with_finish, with_free_hand, row_of}
-use Rattle.td_board.specs.Steps.{Moment, DeskKnows, BuilderKnows, Step, seat, offer, withdrawal_won, withdrawal_lost, claim_won, claim_lost, note, finish_done, finish_early, settle_done, settle_early, release_done, release_early}
+use Rattle.td_board.specs.Knowledge.{with_builder, with_row, with_deed, noted_of, list_at}
+use Rattle.td_board.specs.Knowledge.{new_builder, with_claim, with_finish, with_free_hand, row_of}
+use Rattle.td_board.specs.Steps.{Moment, DeskKnows, BuilderKnows, Step, seat, offer, withdrawal_won}
+use Rattle.td_board.specs.Steps.{withdrawal_lost, claim_won, claim_lost, note, finish_done}
+use Rattle.td_board.specs.Steps.{finish_early, settle_done, settle_early, release_done}
+use Rattle.td_board.specs.Steps.{release_early}
 use Rattle.td_board.specs.Rule.{HandFits, ListFits, Fits}
-use Rattle.td_board.specs.Promises.{OneHolder, OneRowEach, StillHolds, HoldLasts, NothingInvented, Begins, ListsGrow}
+use Rattle.td_board.specs.Promises.{OneHolder, OneRowEach, StillHolds, HoldLasts, NothingInvented}
+use Rattle.td_board.specs.Promises.{Begins, ListsGrow}
 use Rattle.td_board.proofs.Lists.{at_less, one_at, list_at-at}
 use Rattle.td_board.proofs.RowLaws.{not_both, same_builder, same_desk, builder_seat}
 use Rattle.td_board.proofs.Schedules.{with_desk, rule_stands}
 
 -- a builder that holds a row is named by its phase
-named_by_list : (phases : List Phase) (b r : ℕ) (h : Hand) (known mine : List Deed) → h ≡ Holding r → ListFits phases b h known mine → (p : Phase) × (get_elem? phases r ≡ some p) × (builder_of p ≡ b)
+named_by_list : (phases : List Phase) (b r : ℕ) (h : Hand) (known mine : List Deed) → h ≡ Holding r
+    → ListFits phases b h known mine
+    → (p : Phase) × (get_elem? phases r ≡ some p) × (builder_of p ≡ b)
 named_by_list phases b r h known mine e f = ⊎_elim (λ t. (held b, t.0, refl)) (λ t. (noted b, t.0, refl)) (let t : ListFits phases b (Holding r) known mine = subst (λ x. ListFits phases b x known mine) e f in t)
 
 -- the same under the rule
-named_as_holder : (rows : ℕ) (phases : List Phase) (d : DeskView) (views : List View) (b r : ℕ) (v : BuilderView) → Fits rows phases d views → get_elem? views b ≡ some (Builder v) → v.hand ≡ Holding r → (p : Phase) × (get_elem? phases r ≡ some p) × (builder_of p ≡ b)
+named_as_holder : (rows : ℕ) (phases : List Phase) (d : DeskView) (views : List View) (b r : ℕ)
+    (v : BuilderView) → Fits rows phases d views → get_elem? views b ≡ some (Builder v)
+    → v.hand ≡ Holding r → (p : Phase) × (get_elem? phases r ≡ some p) × (builder_of p ≡ b)
 named_as_holder rows phases d views b r v f at is =
     let seat = builder_seat rows phases d views b v f at in
     let k : ℕ = seat.0 in
@@ -45,7 +55,8 @@ one_holder rows m reached a b r v w at at' is is' =
     sym one.2 ∙ (ap builder_of (one_at m.phases r one.0 other.0 one.1 other.1) ∙ other.2)
 
 -- the builder that a row's phase names has that row in hand
-in_hand : (views : List View) (r : ℕ) (p : Phase) → HandFits views r p → 0 < builder_of p → (v : BuilderView) × (get_elem? views (builder_of p) ≡ some (Builder v)) × (row_of v.hand ≡ r)
+in_hand : (views : List View) (r : ℕ) (p : Phase) → HandFits views r p → 0 < builder_of p
+    → (v : BuilderView) × (get_elem? views (builder_of p) ≡ some (Builder v)) × (row_of v.hand ≡ r)
 in_hand views r closed f some_builder = absurd (omega arith)
 in_hand views r opened f some_builder = absurd (omega arith)
 in_hand views r (held b) f _ = (f.0, f.1, ap row_of f.2)
@@ -62,18 +73,21 @@ one_row_each rows m reached q r o p at at' named same =
     sym one.2 ∙ (ap (λ (u : BuilderView). row_of u.hand) v ∙ other.2)
 
 -- the desk's seat is no builder's
-not_first : (m : Moment) (d : DeskView) (b : ℕ) (v : BuilderView) → DeskKnows m d → BuilderKnows m b v → b ≢ 0
+not_first : (m : Moment) (d : DeskView) (b : ℕ) (v : BuilderView) → DeskKnows m d
+    → BuilderKnows m b v → b ≢ 0
 not_first m d b v at at' e = not_both d v (one_at m.views 0 (Desk d) (Builder v) at (subst (λ i. get_elem? m.views i ≡ some (Builder v)) e at'))
 
 -- two views of one builder's seat are one
-one_view : (m : Moment) (b i : ℕ) (v u : BuilderView) → BuilderKnows m b v → BuilderKnows m i u → b ≡ i → v ≡ u
+one_view : (m : Moment) (b i : ℕ) (v u : BuilderView) → BuilderKnows m b v → BuilderKnows m i u
+    → b ≡ i → v ≡ u
 one_view m b i v u at at' e = same_builder v u (one_at m.views b (Builder v) (Builder u) at (subst (λ k. get_elem? m.views k ≡ some (Builder u)) (sym e) at'))
 
 -- builder b, whose seat isn't i, still holds its row
 still : (m n : Moment) (phases : List Phase) (i : ℕ) (w : View) (b r : ℕ) (v : BuilderView) → (let n' : Moment = record { phases = phases; views = set m.views i w } in n ≡ n') → b ≢ i → BuilderKnows m b v → v.hand ≡ Holding r → StillHolds n b r
 still m n phases i w b r v e ne at is = subst (λ x. StillHolds x b r) (sym e) (v, set_else m.views i b w ne ∙ at, is)
 
--- by the kind of step: no other step changes that seat, and of its own only a finish comes at a hand that holds a row
+-- by the kind of step: no other step changes that seat,
+-- and of its own only a finish comes at a hand that holds a row
 pub hold_lasts : HoldLasts
 hold_lasts rows m n reached (seat d at e) b r v here is =
     inl (subst (λ x. StillHolds x b r) (sym e) (v, at_longer (set m.views 0 (Desk (with_builder d))) (Builder (new_builder (suc (length d.noted))) ∷ []) b (Builder v) (set_else m.views 0 b (Desk (with_builder d)) (not_first m d b v at here) ∙ here), is))
@@ -99,7 +113,8 @@ hold_lasts rows m n reached (release_done q a c p u at ended _ _ e) b r v here i
 hold_lasts rows m n reached (release_early q a c u at _ _ e) b r v here is = inl (subst (λ x. StillHolds x b r) (sym e) (v, here, is))
 
 -- the noted list, or one deed more
-noted_or_more : (phases : List Phase) (b : ℕ) (h : Hand) (known mine : List Deed) → ListFits phases b h known mine → (mine ≡ known) ⊎ ((e : Deed) × (mine ≡ known ++ e ∷ []))
+noted_or_more : (phases : List Phase) (b : ℕ) (h : Hand) (known mine : List Deed)
+    → ListFits phases b h known mine → (mine ≡ known) ⊎ ((e : Deed) × (mine ≡ known ++ e ∷ []))
 noted_or_more phases b Free known mine f = inl f
 noted_or_more phases b (Holding r) known mine (inl t) = inr (Claim r, t.1)
 noted_or_more phases b (Holding r) known mine (inr t) = inl t.1
@@ -129,7 +144,8 @@ same_list : (l : List Deed) → Begins l l
 same_list l = ([], sym (append-nil l))
 
 -- one deed more in one of the desk's lists
-list_at-longer : (ls : List (List Deed)) (k j : ℕ) (e : Deed) → Begins (list_at (set ls k (list_at ls k ++ e ∷ [])) j) (list_at ls j)
+list_at-longer : (ls : List (List Deed)) (k j : ℕ) (e : Deed)
+    → Begins (list_at (set ls k (list_at ls k ++ e ∷ [])) j) (list_at ls j)
 list_at-longer [] k j e = same_list []
 list_at-longer (l ∷ ls) zero zero e = (e ∷ [], refl)
 list_at-longer (l ∷ ls) zero (suc j) e = same_list (list_at ls j)
@@ -165,7 +181,8 @@ goes_on_own m n phases a u u' b v e knows number more at = dite (ℕ_discrete b 
     (λ ne. goes_on m n phases a (Builder u') b v e ne at)
 
 -- each kind of step, for a builder
-builder_goes_on : (m n : Moment) → Step m n → (b : ℕ) (v : BuilderView) → BuilderKnows m b v → GoesOn n b v
+builder_goes_on : (m n : Moment) → Step m n → (b : ℕ) (v : BuilderView) → BuilderKnows m b v
+    → GoesOn n b v
 builder_goes_on m n (seat d at e) b v here =
     subst (λ x. GoesOn x b v) (sym e) (v, at_longer (set m.views 0 (Desk (with_builder d))) (Builder (new_builder (suc (length d.noted))) ∷ []) b (Builder v) (set_else m.views 0 b (Desk (with_builder d)) (not_first m d b v at here) ∙ here), refl, same_list v.mine)
 builder_goes_on m n (offer q d at _ _ e) b v here = goes_on m n _ 0 _ b v e (not_first m d b v at here) here

@@ -1,5 +1,6 @@
 -- A step on one row keeps the rule, as far as the other rows, hands and lists go.
-use Rattle.std.proofs.Common.{◌≡◌, ◌≢◌, ℕ, zero, suc, List, length, set, sym, refl, ap, ◌∙◌, subst, ⊎_elim, inl, inr, arith, length-set}
+use Rattle.std.proofs.Common.{◌≡◌, ◌≢◌, ℕ, zero, suc, List, length, set, sym, refl, ap, ◌∙◌, subst}
+use Rattle.std.proofs.Common.{⊎_elim, inl, inr, arith, length-set}
 use mathlib.Core.Logic.{dite}
 use mathlib.Core.Option.{some}
 use native.Mathlib.Decide.{ℕ_discrete}
@@ -19,11 +20,14 @@ use Rattle.td_board.specs.Rule.{RowFits, HasHand, HandFits, ListFits, BuilderFit
 use Rattle.td_board.proofs.Lists.{at_less, one_at, there_is}
 
 -- another row's phase stays
-stays : (phases : List Phase) (r₀ : ℕ) (p₀ p₁ : Phase) (r : ℕ) (q : Phase) → get_elem? phases r₀ ≡ some p₀ → builder_of p₀ ≢ builder_of q → get_elem? phases r ≡ some q → get_elem? (set phases r₀ p₁) r ≡ some q
+stays : (phases : List Phase) (r₀ : ℕ) (p₀ p₁ : Phase) (r : ℕ) (q : Phase)
+    → get_elem? phases r₀ ≡ some p₀ → builder_of p₀ ≢ builder_of q → get_elem? phases r ≡ some q
+    → get_elem? (set phases r₀ p₁) r ≡ some q
 stays phases r₀ p₀ p₁ r q at apart e = set_else phases r₀ r p₁ (λ h. apart (ap builder_of (one_at phases r₀ p₀ q at (subst (λ i. get_elem? phases i ≡ some q) h e)))) ∙ e
 
 -- a builder that neither the phase before nor the phase after names is not touched
-pub untouched : (phases : List Phase) (r₀ : ℕ) (p₀ p₁ : Phase) (b : ℕ) (hand : Hand) (known mine : List Deed) → get_elem? phases r₀ ≡ some p₀ → builder_of p₀ ≢ b → builder_of p₁ ≢ b
+pub untouched : (phases : List Phase) (r₀ : ℕ) (p₀ p₁ : Phase) (b : ℕ) (hand : Hand)
+    (known mine : List Deed) → get_elem? phases r₀ ≡ some p₀ → builder_of p₀ ≢ b → builder_of p₁ ≢ b
     → ListFits phases b hand known mine → ListFits (set phases r₀ p₁) b hand known mine
 untouched phases r₀ p₀ p₁ b Free known mine at before after fits = fits
 untouched phases r₀ p₀ p₁ b (Holding r) known mine at before after (inl t) = inl (stays phases r₀ p₀ p₁ r (held b) at before t.0, t.1)
@@ -42,11 +46,13 @@ Avoids i (noted b) = b ≢ i
 Avoids i (done b c) = b ≢ i
 
 -- another seat's view changes, and the hand stays
-hand_stays : (views : List View) (i : ℕ) (w : View) (b : ℕ) (h : Hand) → b ≢ i → HasHand views b h → HasHand (set views i w) b h
+hand_stays : (views : List View) (i : ℕ) (w : View) (b : ℕ) (h : Hand) → b ≢ i → HasHand views b h
+    → HasHand (set views i w) b h
 hand_stays views i w b h apart t = (t.0, set_else views i b w apart ∙ t.1, t.2)
 
 -- the same for the hand that a phase names
-pub hands_after : (views : List View) (i : ℕ) (w : View) (r : ℕ) (p : Phase) → Avoids i p → HandFits views r p → HandFits (set views i w) r p
+pub hands_after : (views : List View) (i : ℕ) (w : View) (r : ℕ) (p : Phase) → Avoids i p
+    → HandFits views r p → HandFits (set views i w) r p
 hands_after views i w r closed a f = tt
 hands_after views i w r opened a f = tt
 hands_after views i w r (held b) a f = hand_stays views i w b (Holding r) a f
@@ -58,7 +64,8 @@ pub not_both : (d : DeskView) (v : BuilderView) → Desk d ≡ Builder v → ⊥
 not_both d v e = cc
 
 -- no phase names the desk's seat
-pub not_desk : (views : List View) (d : DeskView) (r : ℕ) (p : Phase) → get_elem? views 0 ≡ some (Desk d) → HandFits views r p → Avoids 0 p
+pub not_desk : (views : List View) (d : DeskView) (r : ℕ) (p : Phase)
+    → get_elem? views 0 ≡ some (Desk d) → HandFits views r p → Avoids 0 p
 not_desk views d r closed at f = tt
 not_desk views d r opened at f = tt
 not_desk views d r (held b) at f = λ e. not_both d f.0 (one_at views 0 (Desk d) (Builder f.0) at (subst (λ i. get_elem? views i ≡ some (Builder f.0)) e f.1))
@@ -118,7 +125,8 @@ pub same_desk : (d e : DeskView) → Desk d ≡ Desk e → d ≡ e
 same_desk d e h = ap (desk_or d) h
 
 -- a builder has one hand
-pub same_hand : (views : List View) (b : ℕ) (v : BuilderView) (h : Hand) → get_elem? views b ≡ some (Builder v) → HasHand views b h → v.hand ≡ h
+pub same_hand : (views : List View) (b : ℕ) (v : BuilderView) (h : Hand)
+    → get_elem? views b ≡ some (Builder v) → HasHand views b h → v.hand ≡ h
 same_hand views b v h at t = ap (λ (u : BuilderView). u.hand) (same_builder v t.0 (one_at views b (Builder v) (Builder t.0) at t.1)) ∙ t.2
 
 -- a step of builder k + 1 on one row
@@ -171,12 +179,16 @@ builder_moves rows phases d views r₀ p₀ p₁ k v v' f at seat same row hand 
     }
 
 -- the desk's seat is the first one
-pub desk_seat : (rows : ℕ) (phases : List Phase) (d₀ : DeskView) (views : List View) (i : ℕ) (d : DeskView) → Fits rows phases d₀ views → get_elem? views i ≡ some (Desk d) → (i ≡ 0) × (d₀ ≡ d)
+pub desk_seat : (rows : ℕ) (phases : List Phase) (d₀ : DeskView) (views : List View) (i : ℕ)
+    (d : DeskView) → Fits rows phases d₀ views → get_elem? views i ≡ some (Desk d)
+    → (i ≡ 0) × (d₀ ≡ d)
 desk_seat rows phases d₀ views zero d f at = (refl, same_desk d₀ d (one_at views 0 (Desk d₀) (Desk d) f.first at))
 desk_seat rows phases d₀ views (suc k) d f at = let old = f.each_builder k (Desk d) at in absurd (not_both d old.view old.is)
 
 -- a builder's seat has its number
-pub builder_seat : (rows : ℕ) (phases : List Phase) (d₀ : DeskView) (views : List View) (i : ℕ) (v : BuilderView) → Fits rows phases d₀ views → get_elem? views i ≡ some (Builder v) → (k : ℕ) × (i ≡ suc k) × (v.number ≡ suc k)
+pub builder_seat : (rows : ℕ) (phases : List Phase) (d₀ : DeskView) (views : List View) (i : ℕ)
+    (v : BuilderView) → Fits rows phases d₀ views → get_elem? views i ≡ some (Builder v)
+    → (k : ℕ) × (i ≡ suc k) × (v.number ≡ suc k)
 builder_seat rows phases d₀ views zero v f at = absurd (not_both d₀ v (one_at views 0 (Desk d₀) (Builder v) f.first at))
 builder_seat rows phases d₀ views (suc k) v f at = let old = f.each_builder k (Builder v) at in (k, refl, ap (λ (u : BuilderView). u.number) (same_builder v old.view old.is) ∙ old.number)
 
@@ -210,7 +222,9 @@ seen_held a (noted b) f = absurd f
 seen_held a (done b c) f = absurd f
 
 -- a row that the desk knows is in a phase that fits
-pub phase_at : (rows : ℕ) (phases : List Phase) (d : DeskView) (views : List View) (r : ℕ) (x : RowView) → Fits rows phases d views → get_elem? d.rows r ≡ some x → (p : Phase) × (get_elem? phases r ≡ some p) × RowFits x p
+pub phase_at : (rows : ℕ) (phases : List Phase) (d : DeskView) (views : List View) (r : ℕ)
+    (x : RowView) → Fits rows phases d views → get_elem? d.rows r ≡ some x
+    → (p : Phase) × (get_elem? phases r ≡ some p) × RowFits x p
 phase_at rows phases d views r x f e =
     let long = f.long in let wide = f.wide in let h = at_less d.rows r x e in
     let t = there_is phases r (omega arith) in

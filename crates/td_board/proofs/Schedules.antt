@@ -7,12 +7,17 @@ use Rattle.td_board.specs.declared.views.RowView.TheVariants.{In, Out, Seen, Kno
 use Rattle.td_board.specs.declared.views.DeskView.{DeskView}
 use Rattle.td_board.specs.declared.views.View.TheVariants.{Builder}
 use Rattle.td_board.specs.Phase.{held, noted, done}
-use Rattle.td_board.specs.Knowledge.{new_desk, with_builder, with_row, with_deed, with_claim, with_finish, with_free_hand}
-use Rattle.td_board.specs.Steps.{Moment, DeskKnows, Step, made, after, seat, offer, withdrawal_won, withdrawal_lost, claim_won, claim_lost, note, finish_done, finish_early, settle_done, settle_early, release_done, release_early}
+use Rattle.td_board.specs.Knowledge.{new_desk, with_builder, with_row, with_deed, with_claim}
+use Rattle.td_board.specs.Knowledge.{with_finish, with_free_hand}
+use Rattle.td_board.specs.Steps.{Moment, DeskKnows, Step, made, after, seat, offer, withdrawal_won}
+use Rattle.td_board.specs.Steps.{withdrawal_lost, claim_won, claim_lost, note, finish_done}
+use Rattle.td_board.specs.Steps.{finish_early, settle_done, settle_early, release_done}
+use Rattle.td_board.specs.Steps.{release_early}
 use Rattle.td_board.specs.Rule.{Fits}
 use Rattle.td_board.specs.Promises.{RuleStands}
 use Rattle.td_board.proofs.RowLaws.{desk_seat, builder_seat}
-use Rattle.td_board.proofs.DeskLaws.{make_keeps, seat_keeps, offer_keeps, withdrawal_keeps, sight_keeps, note_keeps, settling_keeps}
+use Rattle.td_board.proofs.DeskLaws.{make_keeps, seat_keeps, offer_keeps, withdrawal_keeps}
+use Rattle.td_board.proofs.DeskLaws.{sight_keeps, note_keeps, settling_keeps}
 use Rattle.td_board.proofs.BuilderLaws.{claim_keeps, finish_keeps, release_keeps}
 
 -- the desk knows something that fits
@@ -20,7 +25,8 @@ abbrev pub Stands : ℕ → Moment → Type 0
 Stands rows m = (d : DeskView) × Fits rows m.phases d m.views
 
 -- with what the desk knows
-pub with_desk : (rows : ℕ) (m : Moment) (d : DeskView) → Stands rows m → DeskKnows m d → Fits rows m.phases d m.views
+pub with_desk : (rows : ℕ) (m : Moment) (d : DeskView) → Stands rows m → DeskKnows m d
+    → Fits rows m.phases d m.views
 with_desk rows m d t at = subst (λ x. Fits rows m.phases x m.views) (desk_seat rows m.phases t.0 m.views 0 d t.1 at).1 t.1
 
 -- each kind of step

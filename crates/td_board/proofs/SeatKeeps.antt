@@ -1,5 +1,8 @@
 -- Each step keeps what the seats' types say.
-use Rattle.std.proofs.Common.{◌≡◌, ◌≢◌, ℕ, zero, suc, ◌+◌, ◌-◌, ◌*◌, ◌/◌, ◌<◌, ◌≤◌, List, [], ◌∷◌, ◌++◌, zero-add, length, replicate, set, sym, refl, ap, ◌∙◌, subst, ⊎_elim, arith, length-set, length-append, get_or-set_other, get_or-set_same}
+use Rattle.std.proofs.Common.{◌≡◌, ◌≢◌, ℕ, zero, suc, ◌+◌, ◌-◌, ◌*◌, ◌/◌, ◌<◌, ◌≤◌, List, [], ◌∷◌}
+use Rattle.std.proofs.Common.{◌++◌, zero-add, length, replicate, set, sym, refl, ap, ◌∙◌, subst}
+use Rattle.std.proofs.Common.{⊎_elim, arith, length-set, length-append, get_or-set_other}
+use Rattle.std.proofs.Common.{get_or-set_same}
 use Rattle.std.specs.Prelude.{slice_index}
 use mathlib.Core.Logic.{dite}
 use mathlib.Core.Option.{some, some-injective, some-ne-none}
@@ -16,9 +19,11 @@ use Rattle.td_board.specs.declared.views.Hand.{Hand}
 use Rattle.td_board.specs.declared.views.Hand.TheVariants.{Holding, Finished}
 use Rattle.td_board.specs.declared.views.DeskView.{DeskView}
 use Rattle.td_board.specs.declared.views.BuilderView.{BuilderView}
-use Rattle.td_board.specs.Knowledge.{new_desk, with_builder, with_row, with_deed, noted_of, holder_at}
+use Rattle.td_board.specs.Knowledge.{new_desk, with_builder, with_row, with_deed, noted_of}
+use Rattle.td_board.specs.Knowledge.{holder_at}
 use Rattle.td_board.specs.Tells.{SeatState, at_desk, at_builder, desk_in, builder_in}
-use Rattle.td_board.specs.Seats.{IsDesk, KnowsItsBuilders, IsBuilder, HasRow, rows_of, new_seat, new_seats, DeskModel, BoardModel, BuilderModel}
+use Rattle.td_board.specs.Seats.{IsDesk, KnowsItsBuilders, IsBuilder, HasRow, rows_of, new_seat}
+use Rattle.td_board.specs.Seats.{new_seats, DeskModel, BoardModel, BuilderModel}
 use Rattle.td_board.proofs.Lists.{at_less, at_replicate}
 
 -- the builder of a row's view, or n
@@ -29,11 +34,13 @@ name_or n (Seen b) = b
 name_or n (Known b) = b
 
 -- a row that the desk knows has a word in the table
-pub row_inside : (z : TableId) (d : DeskView) (hs : List ℕ) (bs r : ℕ) (x : RowView) → IsDesk z d hs bs → get_elem? d.rows r ≡ some x → r + 1 < z.words
+pub row_inside : (z : TableId) (d : DeskView) (hs : List ℕ) (bs r : ℕ) (x : RowView)
+    → IsDesk z d hs bs → get_elem? d.rows r ≡ some x → r + 1 < z.words
 row_inside z d hs bs r x is at = let w = is.words in let h = at_less d.rows r x at in omega arith
 
 -- what is known of the row names no builder, or the one in the list
-pub keeps_row : (z : TableId) (d d' : DeskView) (hs : List ℕ) (bs r : ℕ) (x : RowView) → IsDesk z d hs bs → d'.rows ≡ set d.rows r x → length d'.noted ≡ length d.noted
+pub keeps_row : (z : TableId) (d d' : DeskView) (hs : List ℕ) (bs r : ℕ) (x : RowView)
+    → IsDesk z d hs bs → d'.rows ≡ set d.rows r x → length d'.noted ≡ length d.noted
     → ((b : ℕ) → x ≡ Seen b → slice_index hs r ≡ b) → ((b : ℕ) → x ≡ Known b → slice_index hs r ≡ b)
     → ((b : ℕ) → x ≡ Seen b → (0 < b) × (b ≤ length d.noted)) → ((b : ℕ) → x ≡ Known b → (0 < b) × (b ≤ length d.noted)) → IsDesk z d' hs bs
 keeps_row z d d' hs bs r x is rows noted seen known some_seen some_known = record {
@@ -64,15 +71,19 @@ keeps_row z d d' hs bs r x is rows noted seen known some_seen some_known = recor
 }
 
 -- the row is In again
-pub keeps_in : (z : TableId) (d : DeskView) (hs : List ℕ) (bs r : ℕ) → IsDesk z d hs bs → IsDesk z (with_row r In d) hs bs
+pub keeps_in : (z : TableId) (d : DeskView) (hs : List ℕ) (bs r : ℕ) → IsDesk z d hs bs
+    → IsDesk z (with_row r In d) hs bs
 keeps_in z d hs bs r is = keeps_row z d (with_row r In d) hs bs r In is refl refl (λ b e. absurd (cc)) (λ b e. absurd (cc)) (λ b e. absurd (cc)) (λ b e. absurd (cc))
 
 -- the row is Out
-pub keeps_out : (z : TableId) (d : DeskView) (hs : List ℕ) (bs r : ℕ) → IsDesk z d hs bs → IsDesk z (with_row r Out d) hs bs
+pub keeps_out : (z : TableId) (d : DeskView) (hs : List ℕ) (bs r : ℕ) → IsDesk z d hs bs
+    → IsDesk z (with_row r Out d) hs bs
 keeps_out z d hs bs r is = keeps_row z d (with_row r Out d) hs bs r Out is refl refl (λ b e. absurd (cc)) (λ b e. absurd (cc)) (λ b e. absurd (cc)) (λ b e. absurd (cc))
 
 -- the list takes the builder that the row names from now on
-pub keeps_seen : (z : TableId) (d : DeskView) (hs : List ℕ) (bs r b : ℕ) → IsDesk z d hs bs → r < length d.rows → b ≤ max_builders → 0 < b → b ≤ length d.noted → IsDesk z (with_row r (Seen b) d) (set hs r b) bs
+pub keeps_seen : (z : TableId) (d : DeskView) (hs : List ℕ) (bs r b : ℕ) → IsDesk z d hs bs
+    → r < length d.rows → b ≤ max_builders → 0 < b → b ≤ length d.noted
+    → IsDesk z (with_row r (Seen b) d) (set hs r b) bs
 keeps_seen z d hs bs r b is inside small low high =
     let long = is.long in
     let here : slice_index (set hs r b) r ≡ b = get_or-set_same hs r b 0 (omega arith) in
@@ -107,23 +118,28 @@ keeps_seen z d hs bs r b is inside small low high =
     }
 
 -- a claim is noted
-pub keeps_note : (z : TableId) (d : DeskView) (hs : List ℕ) (bs r b : ℕ) (e : Deed) → IsDesk z d hs bs → slice_index hs r ≡ b → 0 < b → b ≤ length d.noted → IsDesk z (with_deed b e (with_row r (Known b) d)) hs bs
+pub keeps_note : (z : TableId) (d : DeskView) (hs : List ℕ) (bs r b : ℕ) (e : Deed)
+    → IsDesk z d hs bs → slice_index hs r ≡ b → 0 < b → b ≤ length d.noted
+    → IsDesk z (with_deed b e (with_row r (Known b) d)) hs bs
 keeps_note z d hs bs r b e is at low high = keeps_row z d (with_deed b e (with_row r (Known b) d)) hs bs r (Known b) is refl (length-set d.noted (b - 1) (noted_of d b ++ e ∷ [])) (λ c h. absurd (cc)) (λ c h. at ∙ ap (name_or 0) h)
     (λ c h. absurd (cc)) (λ c h. subst (λ n. (0 < n) × (n ≤ length d.noted)) (ap (name_or 0) h) (low, high))
 
 -- an outcome is noted
-pub keeps_settling : (z : TableId) (d : DeskView) (hs : List ℕ) (bs r b : ℕ) (e : Deed) → IsDesk z d hs bs → IsDesk z (with_deed b e (with_row r In d)) hs bs
+pub keeps_settling : (z : TableId) (d : DeskView) (hs : List ℕ) (bs r b : ℕ) (e : Deed)
+    → IsDesk z d hs bs → IsDesk z (with_deed b e (with_row r In d)) hs bs
 keeps_settling z d hs bs r b e is = keeps_row z d (with_deed b e (with_row r In d)) hs bs r In is refl (length-set d.noted (b - 1) (noted_of d b ++ e ∷ [])) (λ c h. absurd (cc)) (λ c h. absurd (cc)) (λ c h. absurd (cc)) (λ c h. absurd (cc))
 
 -- a builder more
-pub keeps_builder : (z : TableId) (d : DeskView) (hs : List ℕ) (bs n : ℕ) → IsDesk z d hs bs → n ≡ length d.noted + 1 → n ≤ max_builders → IsDesk z (with_builder d) hs n
+pub keeps_builder : (z : TableId) (d : DeskView) (hs : List ℕ) (bs n : ℕ) → IsDesk z d hs bs
+    → n ≡ length d.noted + 1 → n ≤ max_builders → IsDesk z (with_builder d) hs n
 keeps_builder z d hs bs n is next few = record { words = is.words; size = is.size; long = is.long; small = is.small; count = next ∙ sym (length-append d.noted ([] ∷ [])); few = few; seen = is.seen; known = is.known; seated = record { seen = λ r b e. more b (is.seated.seen r b e); known = λ r b e. more b (is.seated.known r b e) } }
   where
     more : (b : ℕ) → (0 < b) × (b ≤ length d.noted) → (0 < b) × (b ≤ length (d.noted ++ [] ∷ []))
     more b s = let long : length (d.noted ++ [] ∷ []) ≡ length d.noted + 1 = length-append d.noted ([] ∷ []) in let high : b ≤ length d.noted = s.1 in (s.0, omega arith)
 
 -- the desk's seat of a new board
-pub keeps_new : (z : TableId) (rows : ℕ) → z.words ≡ rows + 1 → rows ≤ max_rows → IsDesk z (new_desk rows 0) (replicate rows 0) 0
+pub keeps_new : (z : TableId) (rows : ℕ) → z.words ≡ rows + 1 → rows ≤ max_rows
+    → IsDesk z (new_desk rows 0) (replicate rows 0) 0
 keeps_new z rows words few = record {
   words = words ∙ ap (λ n. n + 1) (sym (length-replicate rows In));
   size = subst (λ n. n ≤ max_rows) (sym (length-replicate rows In)) few;
@@ -145,12 +161,16 @@ keeps_new z rows words few = record {
     zeros (suc n) (suc q) = zeros n q
 
 -- the desk's seat after a step
-pub desk_after : (me : SeatState) (z z' : TableId) (d : DeskView) (hs : List ℕ) (bs : ℕ) → me ≡ at_desk d → z' ≡ z → IsDesk z d hs bs → (me ≡ at_desk (desk_in me.0)) × IsDesk z' (desk_in me.0) hs bs
+pub desk_after : (me : SeatState) (z z' : TableId) (d : DeskView) (hs : List ℕ) (bs : ℕ)
+    → me ≡ at_desk d → z' ≡ z → IsDesk z d hs bs
+    → (me ≡ at_desk (desk_in me.0)) × IsDesk z' (desk_in me.0) hs bs
 desk_after me z z' d hs bs e same is = let is_d : d ≡ desk_in me.0 = sym (ap (λ (m : SeatState). desk_in m.0) e) in
     (e ∙ ap at_desk is_d, subst (λ (t : TableId × DeskView). IsDesk t.0 t.1 hs bs) (λ i. (sym same i, is_d i)) is)
 
 -- a builder's seat after a step
-pub builder_after : (me : SeatState) (z z' : TableId) (v : BuilderView) (number : ℕ) (hand : Hand) → me ≡ at_builder v → z' ≡ z → IsBuilder z v number hand → (me ≡ at_builder (builder_in me.0)) × IsBuilder z' (builder_in me.0) number hand
+pub builder_after : (me : SeatState) (z z' : TableId) (v : BuilderView) (number : ℕ) (hand : Hand)
+    → me ≡ at_builder v → z' ≡ z → IsBuilder z v number hand
+    → (me ≡ at_builder (builder_in me.0)) × IsBuilder z' (builder_in me.0) number hand
 builder_after me z z' v number hand e same is = let is_v : v ≡ builder_in me.0 = sym (ap (λ (m : SeatState). builder_in m.0) e) in
     (e ∙ ap at_builder is_v, subst (λ (t : TableId × BuilderView). IsBuilder t.0 t.1 number hand) (λ i. (sym same i, is_v i)) is)
 
@@ -159,11 +179,13 @@ pub builder_in_held : (b : ℕ) → (2 + 256 * b) / 256 ≡ b
 builder_in_held b = omega arith
 
 -- one seat more
-pub new_seats-snoc : (z : TableId) (b n : ℕ) → new_seats z b n ++ new_seat z (n + b) ∷ [] ≡ new_seats z b (suc n)
+pub new_seats-snoc : (z : TableId) (b n : ℕ)
+    → new_seats z b n ++ new_seat z (n + b) ∷ [] ≡ new_seats z b (suc n)
 new_seats-snoc z b zero = ap (λ (k : ℕ). new_seat z k ∷ []) (zero-add b)
 new_seats-snoc z b (suc n) = let e : suc n + b ≡ n + suc b = omega arith in ap (λ l. new_seat z b ∷ l) (ap (λ (k : ℕ). new_seats z (suc b) n ++ new_seat z k ∷ []) e ∙ new_seats-snoc z (suc b) n)
 
--- what a call of the desk may use: which seat it is, that the table is the board's, and that the row has a word
+-- what a call of the desk may use:
+-- which seat it is, that the table is the board's, and that the row has a word
 pub record DeskUse (z zb : TableId) (me : SeatState) (hs : List ℕ) (row : ℕ) (x : RowView) : Type 0 where
   pub here : get_elem? (desk_in me.0).rows row ≡ some x
   pub same : z ≡ zb
@@ -207,15 +229,18 @@ builder_use z zb b m bm key rows row is is_b sized table at =
     record { same = same; inside = omega arith; low = omega arith; less = omega arith }
 
 -- the row of a hand is one of the table's
-pub holding_inside : (z : TableId) (h : Hand) (r : ℕ) → h ≡ Holding r → HasRow (rows_of z) h → r < rows_of z
+pub holding_inside : (z : TableId) (h : Hand) (r : ℕ) → h ≡ Holding r → HasRow (rows_of z) h
+    → r < rows_of z
 holding_inside z h r e f = let t : HasRow (rows_of z) (Holding r) = subst (HasRow (rows_of z)) e f in t
 
 -- the same of a finished hand
-pub finished_inside : (z : TableId) (h : Hand) (r : ℕ) (c : OutcomeCode) → h ≡ Finished r c → HasRow (rows_of z) h → r < rows_of z
+pub finished_inside : (z : TableId) (h : Hand) (r : ℕ) (c : OutcomeCode) → h ≡ Finished r c
+    → HasRow (rows_of z) h → r < rows_of z
 finished_inside z h r c e f = let t : HasRow (rows_of z) (Finished r c) = subst (HasRow (rows_of z)) e f in t
 
 -- the builder that the desk knows to have a row
-pub holder_at-known : (xs : List RowView) (r b : ℕ) → get_elem? xs r ≡ some (Known b) → holder_at xs r ≡ b
+pub holder_at-known : (xs : List RowView) (r b : ℕ) → get_elem? xs r ≡ some (Known b)
+    → holder_at xs r ≡ b
 holder_at-known [] r b e = absurd (some-ne-none (Known b) (sym e))
 holder_at-known (In ∷ xs) zero b e = absurd (let no : In ≡ Known b = some-injective In (Known b) e in cc)
 holder_at-known (Out ∷ xs) zero b e = absurd (let no : Out ≡ Known b = some-injective Out (Known b) e in cc)

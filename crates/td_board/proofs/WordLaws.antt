@@ -1,12 +1,14 @@
 -- Which phase a word shows, and the words of a board.
-use Rattle.std.proofs.Common.{◌≡◌, ◌≢◌, ℕ, zero, suc, ◌+◌, ◌<◌, List, ◌∷◌, map, replicate, get_or, set, sym, refl, ap, ◌∙◌, arith, add-one, eqb, eq-eqb, ne_eqb}
+use Rattle.std.proofs.Common.{◌≡◌, ◌≢◌, ℕ, zero, suc, ◌+◌, ◌<◌, List, ◌∷◌, map, replicate, get_or}
+use Rattle.std.proofs.Common.{set, sym, refl, ap, ◌∙◌, arith, add-one, eqb, eq-eqb, ne_eqb}
 use mathlib.Core.Option.{some}
 use lib.ListN.{get_elem?}
 use lib.Seq.{map-set}
 use prog.Atomic.{either}
 use Rattle.atomic_table.proofs.Lists.{at_map}
 use Rattle.td_board.specs.declared.outcome.OutcomeCode.{OutcomeCode}
-use Rattle.td_board.specs.declared.outcome.OutcomeCode.TheVariants.{Built, Attempted, GivenBack, Waits}
+use Rattle.td_board.specs.declared.outcome.OutcomeCode.TheVariants.{Built, Attempted, GivenBack}
+use Rattle.td_board.specs.declared.outcome.OutcomeCode.TheVariants.{Waits}
 use Rattle.td_board.specs.OutcomeCode.{code_of}
 use Rattle.td_board.specs.Phase.{Phase, closed, opened, held, noted, done, word_of, builder_of}
 use Rattle.td_board.specs.Promises.{WordsTellPhasesApart}
@@ -76,15 +78,18 @@ outcome_in (noted b) = Built
 outcome_in (done b c) = c
 
 -- two words that show a finish show the same one
-pub same_finish : (a b : ℕ) (c k : OutcomeCode) → word_of (done a c) ≡ word_of (done b k) → (a ≡ b) × (c ≡ k)
+pub same_finish : (a b : ℕ) (c k : OutcomeCode) → word_of (done a c) ≡ word_of (done b k)
+    → (a ≡ b) × (c ≡ k)
 same_finish a b c k e = let same = words_apart (done a c) (done b k) e in (ap builder_of same, ap outcome_in same)
 
 -- the word of a row shows its phase
-pub word_at : (ws : List ℕ) (phases : List Phase) (r : ℕ) (p : Phase) → ws ≡ 0 ∷ map word_of phases → get_elem? phases r ≡ some p → get_or ws (r + 1) 0 ≡ word_of p
+pub word_at : (ws : List ℕ) (phases : List Phase) (r : ℕ) (p : Phase) → ws ≡ 0 ∷ map word_of phases
+    → get_elem? phases r ≡ some p → get_or ws (r + 1) 0 ≡ word_of p
 word_at ws phases r p e at = ap (λ l. get_or l (r + 1) 0) e ∙ (ap (λ i. get_or (0 ∷ map word_of phases) i 0) (add-one r) ∙ get_or-at (map word_of phases) r (word_of p) 0 (at_map word_of phases r p at))
 
 -- a word is written as the phase changes
-pub words_set : (ws : List ℕ) (phases : List Phase) (r n : ℕ) (p : Phase) → ws ≡ 0 ∷ map word_of phases → n ≡ word_of p → set ws (r + 1) n ≡ 0 ∷ map word_of (set phases r p)
+pub words_set : (ws : List ℕ) (phases : List Phase) (r n : ℕ) (p : Phase) → ws
+    ≡ 0 ∷ map word_of phases → n ≡ word_of p → set ws (r + 1) n ≡ 0 ∷ map word_of (set phases r p)
 words_set ws phases r n p e is = ap (λ l. set l (r + 1) n) e ∙ (ap (λ i. set (0 ∷ map word_of phases) i n) (add-one r) ∙ ap (λ l. 0 ∷ l) (ap (set (map word_of phases) r) is ∙ sym (map-set word_of phases r p)))
 
 -- the words of a new board

@@ -38,7 +38,10 @@ noted_of d b = list_at d.noted (b - 1)
 
 -- the desk, which noted one deed more of builder b
 abbrev pub with_deed : ℕ → Deed → DeskView → DeskView
-with_deed b e d = record { rows = d.rows; noted = slice_set d.noted (b - 1) (noted_of d b ++ e ∷ []) }
+with_deed b e d = record {
+  rows = d.rows;
+  noted = slice_set d.noted (b - 1) (noted_of d b ++ e ∷ []);
+}
 
 -- the builder that the desk knows to have the row r, or 0
 abbrev pub holder_at : List RowView → ℕ → ℕ
@@ -59,7 +62,12 @@ with_claim r v = record { number = v.number; hand = Holding r; mine = v.mine ++ 
 
 -- the builder, once it has finished the row r with this outcome
 abbrev pub with_finish : ℕ → OutcomeCode → BuilderView → BuilderView
-with_finish r c v = record { number = v.number; hand = Finished r c; mine = v.mine ++ Finish r c ∷ [] }
+with_finish r c v = record {
+  number = v.number;
+  hand = Finished r c;
+  mine = v.mine
+      ++ Finish r c ∷ [];
+}
 
 -- the builder with its hand free again
 abbrev pub with_free_hand : BuilderView → BuilderView

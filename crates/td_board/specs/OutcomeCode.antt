@@ -1,7 +1,8 @@
 -- The numbers by which a word shows how a build ended. This project's own.
 use Rattle.std.specs.Prelude.{ℕ}
 use Rattle.td_board.specs.declared.outcome.OutcomeCode.{OutcomeCode}
-use Rattle.td_board.specs.declared.outcome.OutcomeCode.TheVariants.{Built, Attempted, GivenBack, Waits}
+use Rattle.td_board.specs.declared.outcome.OutcomeCode.TheVariants.{Built, Attempted, GivenBack}
+use Rattle.td_board.specs.declared.outcome.OutcomeCode.TheVariants.{Waits}
 
 -- the number of an outcome
 abbrev pub code_of : OutcomeCode → ℕ

@@ -17,7 +17,8 @@ WordsTellPhasesApart = (p q : Phase) → word_of p ≡ word_of q → p ≡ q
 
 -- words, the desk's view and the builders' views agree
 abbrev pub RuleStands : Type 0
-RuleStands = (rows : ℕ) (m : Moment) → Reached rows m → (desk : DeskView) × Fits rows m.phases desk m.views
+RuleStands = (rows : ℕ) (m : Moment) → Reached rows m
+    → (desk : DeskView) × Fits rows m.phases desk m.views
 
 -- two builders that hold one row are one builder
 abbrev pub OneHolder : Type 0
@@ -35,18 +36,22 @@ StillHolds n b r = (w : BuilderView) × BuilderKnows n b w × (w.hand ≡ Holdin
 
 -- the step is the finish of the row r by its builder b, with some outcome
 abbrev pub IsItsFinish : Moment → Moment → ℕ → ℕ → BuilderView → Type 0
-IsItsFinish m n b r v = (c : OutcomeCode) × IsAt m r (noted b) × (n ≡ moved r (done b c) b (Builder (with_finish r c v)) m)
+IsItsFinish m n b r v = (c : OutcomeCode) × IsAt m r (noted b)
+    × (n ≡ moved r (done b c) b (Builder (with_finish r c v)) m)
 
 -- a step leaves a builder its row, unless it is that builder's own finish of it
 abbrev pub HoldLasts : Type 0
 HoldLasts = (rows : ℕ) (m n : Moment) → Reached rows m → Step m n → (b r : ℕ) (v : BuilderView)
     → BuilderKnows m b v → v.hand ≡ Holding r → StillHolds n b r ⊎ IsItsFinish m n b r v
 
--- what the desk noted of a builder is what that builder did, but for the builder's last deed at most
+-- what the desk noted of a builder is what that builder did,
+-- but for the builder's last deed at most
 abbrev pub NothingInvented : Type 0
-NothingInvented = (rows : ℕ) (m : Moment) → Reached rows m → (b : ℕ) (d : DeskView) (v : BuilderView)
+NothingInvented = (rows : ℕ) (m : Moment) → Reached rows m
+    → (b : ℕ) (d : DeskView) (v : BuilderView)
     → DeskKnows m d → BuilderKnows m b v
-    → (v.number ≡ b) × (0 < b) × (b ≤ length d.noted) × ((v.mine ≡ noted_of d b) ⊎ ((e : Deed) × (v.mine ≡ noted_of d b ++ e ∷ [])))
+    → (v.number ≡ b) × (0 < b) × (b ≤ length d.noted)
+    × ((v.mine ≡ noted_of d b) ⊎ ((e : Deed) × (v.mine ≡ noted_of d b ++ e ∷ [])))
 
 -- a list begins with another
 abbrev pub Begins : List Deed → List Deed → Type 0
@@ -55,5 +60,7 @@ Begins long short = (more : List Deed) × (long ≡ short ++ more)
 -- no step drops or changes what a builder did or what the desk noted of it
 abbrev pub ListsGrow : Type 0
 ListsGrow = (rows : ℕ) (m n : Moment) → Reached rows m → Step m n
-    → ((b : ℕ) (v : BuilderView) → BuilderKnows m b v → (w : BuilderView) × BuilderKnows n b w × (w.number ≡ v.number) × Begins w.mine v.mine)
-    × ((d : DeskView) → DeskKnows m d → (e : DeskView) × DeskKnows n e × ((b : ℕ) → Begins (noted_of e b) (noted_of d b)))
+    → ((b : ℕ) (v : BuilderView) → BuilderKnows m b v
+    → (w : BuilderView) × BuilderKnows n b w × (w.number ≡ v.number) × Begins w.mine v.mine)
+    × ((d : DeskView) → DeskKnows m d
+    → (e : DeskView) × DeskKnows n e × ((b : ℕ) → Begins (noted_of e b) (noted_of d b)))

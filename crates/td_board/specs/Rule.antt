@@ -14,7 +14,8 @@ use Rattle.td_board.specs.declared.views.View.{View}
 use Rattle.td_board.specs.declared.views.View.TheVariants.{Desk, Builder}
 use Rattle.td_board.specs.Phase.{Phase, closed, opened, held, noted, done}
 
--- what the desk knows of a row agrees with the row's phase: In with Closed, Out with Open or Held, Seen(b) with Held(b), Known(b) with Noted(b) or Done(b, ..)
+-- what the desk knows of a row agrees with the row's phase: In with Closed, Out with Open or Held,
+-- Seen(b) with Held(b), Known(b) with Noted(b) or Done(b, ..)
 abbrev pub RowFits : RowView → Phase → Type 0
 RowFits In closed = Unit {0}
 RowFits Out opened = Unit {0}
@@ -36,7 +37,9 @@ HandFits views r (held b) = HasHand views b (Holding r)
 HandFits views r (noted b) = HasHand views b (Holding r)
 HandFits views r (done b c) = HasHand views b (Finished r c)
 
--- Builder b, with this hand, has done what the desk noted of it, and one deed more where the row's word shows a claim or a finish that isn't noted yet. A hand that holds a row stands in that row's word
+-- Builder b, with this hand, has done what the desk noted of it, and one deed more where the row's
+-- word shows a claim or a finish that isn't noted yet. A hand that holds a row stands in that row's
+-- word
 abbrev pub ListFits : List Phase → ℕ → Hand → List Deed → List Deed → Type 0
 ListFits phases b Free known mine = mine ≡ known
 ListFits phases b (Holding r) known mine =
@@ -46,8 +49,10 @@ ListFits phases b (Finished r c) known mine =
     ((get_elem? phases r ≡ some (done b c)) × (mine ≡ known ++ Finish r c ∷ []))
     ⊎ ((p : Phase) × (get_elem? phases r ≡ some p) × (p ≢ done b c) × (mine ≡ known))
 
--- the seat k + 1 with the view w is that of builder k + 1, and what it did agrees with what the desk noted
-pub record BuilderFits (phases : List Phase) (lists : List (List Deed)) (k : ℕ) (w : View) : Type 0 where
+-- the seat k + 1 with the view w is that of builder k + 1,
+-- and what it did agrees with what the desk noted
+pub record BuilderFits (phases : List Phase) (lists : List (List Deed)) (k : ℕ)
+    (w : View) : Type 0 where
   pub view : BuilderView
   pub known : List Deed
   pub is : w ≡ Builder view
@@ -55,12 +60,16 @@ pub record BuilderFits (phases : List Phase) (lists : List (List Deed)) (k : ℕ
   pub number : view.number ≡ suc k
   pub listed : ListFits phases (suc k) view.hand known view.mine
 
--- the rule of a board with so many rows: one seat is the desk's, the others the builders', one a list of the desk's, and each row and each builder agrees with the desk's view
-pub record Fits (rows : ℕ) (phases : List Phase) (desk : DeskView) (views : List View) : Type 0 where
+-- the rule of a board with so many rows: one seat is the desk's, the others the builders',
+-- one a list of the desk's, and each row and each builder agrees with the desk's view
+pub record Fits (rows : ℕ) (phases : List Phase) (desk : DeskView)
+    (views : List View) : Type 0 where
   pub long : length phases ≡ rows
   pub wide : length desk.rows ≡ rows
   pub first : get_elem? views 0 ≡ some (Desk desk)
   pub many : length views ≡ suc (length desk.noted)
-  pub each_row : (r : ℕ) (p : Phase) (x : RowView) → get_elem? phases r ≡ some p → get_elem? desk.rows r ≡ some x → RowFits x p
+  pub each_row : (r : ℕ) (p : Phase) (x : RowView) → get_elem? phases r ≡ some p
+      → get_elem? desk.rows r ≡ some x → RowFits x p
   pub each_hand : (r : ℕ) (p : Phase) → get_elem? phases r ≡ some p → HandFits views r p
-  pub each_builder : (k : ℕ) (w : View) → get_elem? views (suc k) ≡ some w → BuilderFits phases desk.noted k w
+  pub each_builder : (k : ℕ) (w : View) → get_elem? views (suc k) ≡ some w
+      → BuilderFits phases desk.noted k w

@@ -1,4 +1,5 @@
--- What each kind of step tells the seat that makes it. Row r has the word r + 1. This project's own.
+-- What each kind of step tells the seat that makes it. Row r has the word r + 1.
+-- This project's own.
 use Rattle.std.specs.Prelude.{◌≡◌, ◌≢◌, ℕ, ◌+◌, ◌<◌, ◌≤◌, [], length}
 use Rattle.atomic_table.specs.Table.{Me, Step}
 use Rattle.td_board.specs.declared.outcome.OutcomeCode.{OutcomeCode}
@@ -10,7 +11,8 @@ use Rattle.td_board.specs.declared.views.BuilderView.{BuilderView}
 use Rattle.td_board.specs.declared.views.View.{View}
 use Rattle.td_board.specs.declared.views.View.TheVariants.{Desk, Builder}
 use Rattle.td_board.specs.Phase.{held, noted, done, word_of}
-use Rattle.td_board.specs.Knowledge.{new_desk, with_builder, with_row, with_deed, new_builder, with_claim, with_finish, with_free_hand}
+use Rattle.td_board.specs.Knowledge.{new_desk, with_builder, with_row, with_deed, new_builder}
+use Rattle.td_board.specs.Knowledge.{with_claim, with_finish, with_free_hand}
 
 -- a seat, as the table sees it: its view, and the slots that it holds, which are none here
 abbrev pub SeatState : Type 0
@@ -52,11 +54,13 @@ builder_half (Builder v) = Builder v
 abbrev pub OfferTells : AtomicStep → SeatState → ℕ → SeatState → Type 0
 OfferTells st m n m' = (r : ℕ) → st.word ≡ r + 1 → m' ≡ at_desk (with_row r Out (desk_in m.0))
 
--- a withdrawal: where the word found is Open the row is In again, else the word names the builder that was faster
+-- a withdrawal: where the word found is Open the row is In again,
+-- else the word names the builder that was faster
 abbrev pub WithdrawTells : AtomicStep → SeatState → ℕ → SeatState → Type 0
 WithdrawTells st m n m' = (r : ℕ) → st.word ≡ r + 1
     → (n ≡ 1 → m' ≡ at_desk (with_row r In (desk_in m.0)))
-    × (n ≢ 1 → (b : ℕ) × (n ≡ word_of (held b)) × (0 < b) × (b ≤ length (desk_in m.0).noted) × (m' ≡ at_desk (with_row r (Seen b) (desk_in m.0))))
+    × (n ≢ 1 → (b : ℕ) × (n ≡ word_of (held b)) × (0 < b) × (b ≤ length (desk_in m.0).noted)
+    × (m' ≡ at_desk (with_row r (Seen b) (desk_in m.0))))
 
 -- a claim: where the word found is Open the builder holds the row, else nothing changes
 abbrev pub ClaimTells : AtomicStep → SeatState → ℕ → SeatState → Type 0
@@ -67,22 +71,29 @@ ClaimTells st m n m' = (r : ℕ) → st.word ≡ r + 1
 -- a note of the claim of builder b, which is one of the board's
 abbrev pub NoteTells : AtomicStep → SeatState → ℕ → SeatState → Type 0
 NoteTells st m n m' = (r b : ℕ) → st.word ≡ r + 1 → st.first ≡ word_of (noted b)
-    → (0 < b) × (b ≤ length (desk_in m.0).noted) × (m' ≡ at_desk (with_deed b (Claim r) (with_row r (Known b) (desk_in m.0))))
+    → (0 < b) × (b ≤ length (desk_in m.0).noted)
+    × (m' ≡ at_desk (with_deed b (Claim r) (with_row r (Known b) (desk_in m.0))))
 
 -- a finish: where the word found is Noted the hand is Finished, else nothing changes
 abbrev pub FinishTells : AtomicStep → SeatState → ℕ → SeatState → Type 0
-FinishTells st m n m' = (r : ℕ) (c : OutcomeCode) → st.word ≡ r + 1 → st.second ≡ word_of (done (builder_in m.0).number c)
+FinishTells st m n m' = (r : ℕ) (c : OutcomeCode) → st.word ≡ r + 1
+    → st.second ≡ word_of (done (builder_in m.0).number c)
     → (n ≡ st.first → m' ≡ at_builder (with_finish r c (builder_in m.0)))
     × (n ≢ st.first → m' ≡ m)
 
--- a settling: where the word found is Done with this outcome the row is In and the outcome noted, else nothing changes
+-- a settling: where the word found is Done with this outcome the row is In and the outcome noted,
+-- else nothing changes
 abbrev pub SettleTells : AtomicStep → SeatState → ℕ → SeatState → Type 0
-SettleTells st m n m' = (r b : ℕ) (c : OutcomeCode) → st.word ≡ r + 1 → st.first ≡ word_of (done b c)
+SettleTells st m n m' = (r b : ℕ) (c : OutcomeCode) → st.word ≡ r + 1
+    → st.first ≡ word_of (done b c)
     → (n ≡ st.first → m' ≡ at_desk (with_deed b (Finish r c) (with_row r In (desk_in m.0))))
     × (n ≢ st.first → m' ≡ m)
 
--- a release: where the word found isn't Done by this builder any more its hand is free, else nothing changes
+-- a release: where the word found isn't Done by this builder any more its hand is free,
+-- else nothing changes
 abbrev pub ReleaseTells : AtomicStep → SeatState → ℕ → SeatState → Type 0
-ReleaseTells st m n m' = (r : ℕ) (c : OutcomeCode) → st.word ≡ r + 1 → (builder_in m.0).hand ≡ Finished r c
+ReleaseTells st m n m' = (r : ℕ) (c : OutcomeCode) → st.word ≡ r + 1
+    → (builder_in m.0).hand ≡ Finished r c
     → (n ≡ word_of (done (builder_in m.0).number c) → m' ≡ m)
-    × (n ≢ word_of (done (builder_in m.0).number c) → m' ≡ at_builder (with_free_hand (builder_in m.0)))
+    × (n ≢ word_of (done (builder_in m.0).number c)
+    → m' ≡ at_builder (with_free_hand (builder_in m.0)))

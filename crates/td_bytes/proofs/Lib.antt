@@ -1,2 +1,3 @@
+-- What the proofs of this crate share: a file a thing.
 pub mod Moved
 pub mod Prefixes

@@ -1,2 +1,3 @@
+-- What the contracts of this crate cite: a file a thing.
 pub mod Pieces
 pub mod TextFault

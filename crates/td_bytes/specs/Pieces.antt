@@ -4,7 +4,8 @@ use Rattle.std.specs.Io.KnownBytes.{Appends, Consumes}
 
 -- the known bytes grow by some first ones of these bytes; this project's own
 abbrev pub AppendsPrefix : Option (List ℕ) → Option (List ℕ) → List ℕ → Type 0
-AppendsPrefix old new bytes = (front : List ℕ) × (rest : List ℕ) × (bytes ≡ front ++ rest) × Appends old new front
+AppendsPrefix old new bytes = (front : List ℕ) × (rest : List ℕ) × (bytes ≡ front ++ rest)
+    × Appends old new front
 
 -- the known bytes lose some first ones, and keep the others; this project's own
 abbrev pub ConsumesFront : Option (List ℕ) → Option (List ℕ) → Type 0

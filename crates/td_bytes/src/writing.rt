@@ -1,3 +1,4 @@
+//! A writer is written to until it has taken all.
 ghost use Rattle.std.specs.Prelude.{◌≡◌, ◌≤◌, ◌<◌, length, take, IfOk, OnOk, OnErr};
 ghost use Rattle.std.specs.Io.KnownBytes.{Appends, Keeps};
 ghost use Rattle.td_bytes.specs.Pieces.{AppendsPrefix};

@@ -1,5 +1,6 @@
 -- Giving the kept cells back, row by row.
-use Rattle.std.proofs.Common.{◌≡◌, ℕ, Bool, true, false, List, [], ◌∷◌, ◌++◌, map, is_some, if◌then◌else◌, ap, refl, sym, ◌∙◌}
+use Rattle.std.proofs.Common.{◌≡◌, ℕ, Bool, true, false, List, [], ◌∷◌, ◌++◌, map, is_some}
+use Rattle.std.proofs.Common.{if◌then◌else◌, ap, refl, sym, ◌∙◌}
 use Rattle.td_rows.specs.declared.cells.Cells.{Cells}
 use Rattle.td_rows.specs.declared.key.Key.{Key}
 use Rattle.td_rows.specs.declared.row.Row.{Row}
@@ -9,22 +10,26 @@ use Rattle.td_rows.specs.Kept.{only}
 use Rattle.td_rows.specs.Keys.{same_key, names, ascending}
 use Rattle.td_rows.specs.Table.{Table, row_of, keys_of, each_row, at_key, changed_at}
 use Rattle.td_rows.proofs.Keys.{same_key-true, same_key-refl}
-use Rattle.td_rows.proofs.Tables.{each_row-each_row, each_row-alike, each_row-itself, keys_of-each_row}
+use Rattle.td_rows.proofs.Tables.{each_row-each_row, each_row-alike, each_row-itself}
+use Rattle.td_rows.proofs.Tables.{keys_of-each_row}
 use Rattle.td_rows.specs.GivenBack.{row_at, given_back}
 use Rattle.td_change.specs.Saved.{place_of, number_of, kept_of, HaveRows}
 use Rattle.td_change.specs.Inside.{put_back}
 use Rattle.td_change.proofs.Numbers.{is_some-row_of, changed_at-number_of, HaveRows-rest}
 
-pub put_back-push : (m : Cells) (kept : List (ℕ × Row)) (n : ℕ) (row : Row) (t : Table) → put_back m (kept ++ (n, row) ∷ []) t ≡ put_back m kept (changed_at n (restore m row) t)
+pub put_back-push : (m : Cells) (kept : List (ℕ × Row)) (n : ℕ) (row : Row) (t : Table)
+    → put_back m (kept ++ (n, row) ∷ []) t ≡ put_back m kept (changed_at n (restore m row) t)
 put_back-push m [] n row t = refl
 put_back-push m (s ∷ kept) n row t = ap (changed_at s.0 (restore m s.1)) (put_back-push m kept n row t)
 
 -- the inner choice is the outer one
-inner_then : {A : Type 0} (b : Bool) (x y z : A) → (if b then (if b then x else y) else z) ≡ (if b then x else z)
+inner_then : {A : Type 0} (b : Bool) (x y z : A)
+    → (if b then (if b then x else y) else z) ≡ (if b then x else z)
 inner_then true x y z = refl
 inner_then false x y z = refl
 
-inner_else : {A : Type 0} (b : Bool) (x y z : A) → (if b then x else (if b then y else z)) ≡ (if b then x else z)
+inner_else : {A : Type 0} (b : Bool) (x y z : A)
+    → (if b then x else (if b then y else z)) ≡ (if b then x else z)
 inner_else true x y z = refl
 inner_else false x y z = refl
 
@@ -39,7 +44,8 @@ restore-only m was row = λ j. record {
 }
 
 -- the last values count
-pub restore-restore : (m : Cells) (was first row : Row) → restore m was (restore m first row) ≡ restore m was row
+pub restore-restore : (m : Cells) (was first row : Row)
+    → restore m was (restore m first row) ≡ restore m was row
 restore-restore m was first row = λ j. record {
   state = inner_else m.state was.state first.state row.state j;
   priority = inner_else m.priority was.priority first.priority row.priority j;
@@ -48,17 +54,23 @@ restore-restore m was first row = λ j. record {
   extra = inner_else m.extra was.extra first.extra row.extra j;
 }
 
-pub keys_of-given_back : (m : Cells) (keys : List Key) (was now : Table) → keys_of (given_back m keys was now) ≡ keys_of now
+pub keys_of-given_back : (m : Cells) (keys : List Key) (was now : Table)
+    → keys_of (given_back m keys was now) ≡ keys_of now
 keys_of-given_back m keys was now = keys_of-each_row (λ k row. if names keys k then restore m (row_at was k) row else row) now
 
 -- one key more
-given_back-more : (m : Cells) (k : Key) (keys : List Key) (was now : Table) → each_row (at_key k (restore m (only m (row_at was k)))) (given_back m keys was now) ≡ given_back m (k ∷ keys) was now
+given_back-more : (m : Cells) (k : Key) (keys : List Key) (was now : Table)
+    → each_row (at_key k (restore m (only m (row_at was k)))) (given_back m keys was now)
+    ≡ given_back m (k ∷ keys) was now
 given_back-more m k keys was now = each_row-each_row back (at_key k (restore m (only m (row_at was k)))) now ∙ each_row-alike _ _ now alike
   where
     back : Key → Row → Row
     back q row = if names keys q then restore m (row_at was q) row else row
 
-    alike : (q : Key) (row : Row) → at_key k (restore m (only m (row_at was k))) q (if names keys q then restore m (row_at was q) row else row) ≡ (if names (k ∷ keys) q then restore m (row_at was q) row else row)
+    alike : (q : Key) (row : Row)
+        → at_key k (restore m (only m (row_at was k))) q
+        (if names keys q then restore m (row_at was q) row else row)
+        ≡ (if names (k ∷ keys) q then restore m (row_at was q) row else row)
     alike q row = elim (same_key q k) as (λ b. same_key q k ≡ b → (if b then restore m (only m (row_at was k)) (if names keys q then restore m (row_at was q) row else row) else (if names keys q then restore m (row_at was q) row else row)) ≡ (if (if b then true else names keys q) then restore m (row_at was q) row else row)) [
       | true ↦ λ e.
           restore-only m (row_at was k) (if names keys q then restore m (row_at was q) row else row)
@@ -68,7 +80,8 @@ given_back-more m k keys was now = each_row-each_row back (at_key k (restore m (
     ] refl
 
 -- the kept rows, given back one by one
-pub put_back-kept : (m : Cells) (keys : List Key) (was now : Table) → ascending (keys_of now) ≡ true → keys_of was ≡ keys_of now → HaveRows was keys →
+pub put_back-kept : (m : Cells) (keys : List Key) (was now : Table) → ascending (keys_of now) ≡ true
+    → keys_of was ≡ keys_of now → HaveRows was keys →
     put_back m (map (kept_of m was) keys) now ≡ given_back m keys was now
 put_back-kept m [] was now up same have = sym (each_row-itself now)
 put_back-kept m (k ∷ keys) was now up same have =

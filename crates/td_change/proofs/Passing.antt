@@ -1,5 +1,6 @@
 -- What was kept, given back past later entries that share no cell with it.
-use Rattle.std.proofs.Common.{◌≡◌, Bool, true, false, List, [], ◌∷◌, Option, Some, None, option_map, unwrap_or, if◌then◌else◌, ap, refl, sym, subst, ◌∙◌}
+use Rattle.std.proofs.Common.{◌≡◌, Bool, true, false, List, [], ◌∷◌, Option, Some, None, option_map}
+use Rattle.std.proofs.Common.{unwrap_or, if◌then◌else◌, ap, refl, sym, subst, ◌∙◌}
 use Rattle.td_rows.specs.declared.key.Key.{Key}
 use Rattle.td_rows.specs.declared.row.Row.{Row}
 use Rattle.td_rows.specs.declared.kind.Kind.{Kind}
@@ -10,9 +11,11 @@ use Rattle.td_rows.specs.Kinds.{cells, written}
 use Rattle.td_rows.specs.Meaning.{applies, means}
 use Rattle.td_rows.specs.Table.{Table, row_of, meant, applied, fits}
 use Rattle.td_rows.proofs.CellLaws.{restore-means, means-restore, applies-restore, Disjoint-written}
-use Rattle.td_rows.proofs.Tables.{row_of-each_row, each_row-each_row, each_row-alike, each_row-itself, each_row-agree}
+use Rattle.td_rows.proofs.Tables.{row_of-each_row, each_row-each_row, each_row-alike}
+use Rattle.td_rows.proofs.Tables.{each_row-itself, each_row-agree}
 use Rattle.td_rows.specs.GivenBack.{row_at, given_back}
-use Rattle.td_change.specs.Laws.{Steps, after, Lawful, Untouched, BackAtOnce, BackPastOthers, LawfulWithout}
+use Rattle.td_change.specs.Laws.{Steps, after, Lawful, Untouched, BackAtOnce, BackPastOthers}
+use Rattle.td_change.specs.Laws.{LawfulWithout}
 
 pub back_at_once : BackAtOnce
 back_at_once kind keys t up =
@@ -20,7 +23,9 @@ back_at_once kind keys t up =
     ∙ each_row-agree _ (λ k r. r) t up agree
     ∙ each_row-itself t
   where
-    agree : (k : Key) (r : Row) → row_of t k ≡ Some r → (if names keys k then restore (written kind) (row_at t k) (if names keys k then means kind r else r) else (if names keys k then means kind r else r)) ≡ r
+    agree : (k : Key) (r : Row) → row_of t k ≡ Some r
+        → (if names keys k then restore (written kind) (row_at t k) (if names keys k
+        then means kind r else r) else (if names keys k then means kind r else r)) ≡ r
     agree k r found = elim (names keys k) as (λ b. (if b then restore (written kind) (row_at t k) (if b then means kind r else r) else (if b then means kind r else r)) ≡ r) [
       | true ↦ ap (λ (o : Option Row). restore (written kind) (unwrap_or o blank) (means kind r)) found ∙ restore-means kind r
       | false ↦ refl
@@ -31,7 +36,8 @@ module _ (kind : Kind) (keys : List Key) (was : Table) where
   abbrev pub back : Key → Row → Row
   back k row = if names keys k then restore (written kind) (row_at was k) row else row
 
-  pub applied-given_back : (other : Kind) (named : List Key) (t : Table) → ((k : Key) → names keys k ≡ true → names named k ≡ true → Disjoint (cells other) (cells kind))
+  pub applied-given_back : (other : Kind) (named : List Key) (t : Table) → ((k : Key)
+      → names keys k ≡ true → names named k ≡ true → Disjoint (cells other) (cells kind))
       → applied other named (given_back (written kind) keys was t) ≡ given_back (written kind) keys was (applied other named t)
   applied-given_back other named t apart =
       each_row-each_row back (meant other named) t
@@ -47,7 +53,8 @@ module _ (kind : Kind) (keys : List Key) (was : Table) where
         | false ↦ λ _. refl
       ] refl
 
-  pub fits-given_back : (other : Kind) (named : List Key) (t : Table) → ((k : Key) → names keys k ≡ true → names named k ≡ true → Disjoint (cells other) (cells kind))
+  pub fits-given_back : (other : Kind) (named : List Key) (t : Table) → ((k : Key)
+      → names keys k ≡ true → names named k ≡ true → Disjoint (cells other) (cells kind))
       → (k : Key) → names named k ≡ true → fits (given_back (written kind) keys was t) other k ≡ fits t other k
   fits-given_back other named t apart k here =
       ap (λ o. elim o as (λ _. Bool) [ Some row ↦ applies other row | None ↦ false ]) (row_of-each_row back t k)
@@ -62,11 +69,13 @@ module _ (kind : Kind) (keys : List Key) (was : Table) where
         | false ↦ λ _. refl
       ] refl
 
-  pub after-given_back : (steps : Steps) (t : Table) → Untouched kind keys steps → after steps (given_back (written kind) keys was t) ≡ given_back (written kind) keys was (after steps t)
+  pub after-given_back : (steps : Steps) (t : Table) → Untouched kind keys steps → after steps
+      (given_back (written kind) keys was t) ≡ given_back (written kind) keys was (after steps t)
   after-given_back [] t apart = refl
   after-given_back (s ∷ steps) t apart = ap (after steps) (applied-given_back s.0 s.1 t apart.0) ∙ after-given_back steps (applied s.0 s.1 t) apart.1
 
-  pub Lawful-given_back : (steps : Steps) (t : Table) → Untouched kind keys steps → Lawful t steps → Lawful (given_back (written kind) keys was t) steps
+  pub Lawful-given_back : (steps : Steps) (t : Table) → Untouched kind keys steps → Lawful t steps
+      → Lawful (given_back (written kind) keys was t) steps
   Lawful-given_back [] t apart law = tt
   Lawful-given_back (s ∷ steps) t apart law = (
     (λ k here. fits-given_back s.0 s.1 t apart.0 k here ∙ law.0 k here),

@@ -1,9 +1,13 @@
 -- What a plan has, and how far its change is made.
-use Rattle.std.proofs.Common.{◌≡◌, ◌<◌, ℕ, zero, suc, ◌+◌, ◌≤◌, slice_get, append-nil, is_some, Bool, true, false, ◌&&◌, List, [], ◌∷◌, ◌++◌, map, length, take, get_or, Option, Some, None, cond, if◌then◌else◌, option_map, unwrap_or, ap, refl, sym, subst, ◌∙◌, append_assoc, arith}
+use Rattle.std.proofs.Common.{◌≡◌, ◌<◌, ℕ, zero, suc, ◌+◌, ◌≤◌, slice_get, append-nil, is_some}
+use Rattle.std.proofs.Common.{Bool, true, false, ◌&&◌, List, [], ◌∷◌, ◌++◌, map, length, take}
+use Rattle.std.proofs.Common.{get_or, Option, Some, None, cond, if◌then◌else◌, option_map}
+use Rattle.std.proofs.Common.{unwrap_or, ap, refl, sym, subst, ◌∙◌, append_assoc, arith}
 use Rattle.std.specs.Prelude.{IfSome}
 use Rattle.std.specs.BTreeMap.{insert_entry, is_at}
 use Rattle.std.specs.Map.{remove_entry}
-use Rattle.std.specs.Ordering.{is_lt, is_eq, ordering_reverse, ordering_then, match_ordering, nat_cmp}
+use Rattle.std.specs.Ordering.{is_lt, is_eq, ordering_reverse, ordering_then, match_ordering}
+use Rattle.std.specs.Ordering.{nat_cmp}
 use Rattle.std.specs.Cmp.Lexicographic.{slice_cmp}
 use Rattle.std.proofs.lemmas.Map.Text.{is_eq-slice_cmp}
 use Rattle.std.specs.declared.cmp.Ordering.{Ordering}
@@ -19,19 +23,25 @@ use Rattle.td_rows.specs.Keys.{key_cmp, same_key, names, below_all, ascending}
 use Rattle.td_rows.specs.Kept.{only, texts_of}
 use Rattle.td_rows.specs.Kinds.{written}
 use Rattle.td_rows.specs.Meaning.{applies, means}
-use Rattle.td_rows.specs.Table.{Table, IsAt, row_of, keys_of, each_row, at_key, meant, applied, fits, AppliesOn, changed_at}
+use Rattle.td_rows.specs.Table.{Table, IsAt, row_of, keys_of, each_row, at_key, meant, applied}
+use Rattle.td_rows.specs.Table.{fits, AppliesOn, changed_at}
 use Rattle.td_rows.proofs.Keys.{key_total, same_key-true, same_key-refl}
-use Rattle.td_rows.proofs.Tables.{row_of-each_row, keys_of-each_row, each_row-each_row, each_row-alike, each_row-itself, changed_at-each_row, names-at, below_key}
+use Rattle.td_rows.proofs.Tables.{row_of-each_row, keys_of-each_row, each_row-each_row}
+use Rattle.td_rows.proofs.Tables.{each_row-alike, each_row-itself, changed_at-each_row, names-at}
+use Rattle.td_rows.proofs.Tables.{below_key}
 use Rattle.td_change.specs.Saved.{place_of, number_of, kept_of, saved, HaveRows}
 use Rattle.td_change.specs.Plans.{Planned, plan_of, left, left_out, without, without_row}
 use Rattle.td_change.specs.Inside.{ready, numbered, HaveTexts}
-use Rattle.td_change.proofs.Numbers.{number_of-at, slice_get-number_of, names-below, named-apart, names-more, map-agree}
+use Rattle.td_change.proofs.Numbers.{number_of-at, slice_get-number_of, names-below, named-apart}
+use Rattle.td_change.proofs.Numbers.{names-more, map-agree}
 
 -- the first key may be changed first
-applied-first : (kind : Kind) (k : Key) (ks : List Key) (t : Table) → names ks k ≡ false → applied kind ks (each_row (at_key k (means kind)) t) ≡ applied kind (k ∷ ks) t
+applied-first : (kind : Kind) (k : Key) (ks : List Key) (t : Table) → names ks k ≡ false
+    → applied kind ks (each_row (at_key k (means kind)) t) ≡ applied kind (k ∷ ks) t
 applied-first kind k ks t unnamed = each_row-each_row (at_key k (means kind)) (meant kind ks) t ∙ each_row-alike _ _ t alike
   where
-    alike : (q : Key) (r : Row) → meant kind ks q (at_key k (means kind) q r) ≡ meant kind (k ∷ ks) q r
+    alike : (q : Key) (r : Row)
+        → meant kind ks q (at_key k (means kind) q r) ≡ meant kind (k ∷ ks) q r
     alike q r = elim (same_key q k) as (λ b. same_key q k ≡ b → (if names ks q then means kind (if b then means kind r else r) else (if b then means kind r else r)) ≡ (if (if b then true else names ks q) then means kind r else r)) [
       | true ↦ λ e. ap (λ b. if b then means kind (means kind r) else means kind r) (ap (names ks) (same_key-true q k e) ∙ unnamed)
       | false ↦ λ _. refl
@@ -42,7 +52,8 @@ pub above : (a b : Key) → is_lt (key_cmp a b) ≡ true → key_cmp b a ≡ Gre
 above a b h = key_total.antisymm b a ∙ ap ordering_reverse (is_less (key_cmp a b) h)
 
 -- the next of keys that rise goes last
-pub insert_entry-next : {X : Type 0} (f : Key → X) (ks : List Key) (i : ℕ) (k : Key) (v : X) → ascending ks ≡ true → i < length ks → k ≡ get_or ks i k
+pub insert_entry-next : {X : Type 0} (f : Key → X) (ks : List Key) (i : ℕ) (k : Key) (v : X)
+    → ascending ks ≡ true → i < length ks → k ≡ get_or ks i k
     → insert_entry key_cmp (map (λ q. (q, f q)) (take i ks)) k v ≡ map (λ q. (q, f q)) (take i ks) ++ (k, v) ∷ []
 insert_entry-next f [] i k v up within is = absurd (omega arith)
 insert_entry-next f (q ∷ ks) zero k v up within is = refl
@@ -57,11 +68,13 @@ insert_entry-next {X} f (q ∷ ks) (suc i) k v up within is =
 abbrev pub keys : List (Key × (ℕ × Row)) → List Key
 keys entries = map (λ e. e.0) entries
 
-pub left-numbered : (entries : List (Key × (ℕ × Row))) → map (λ p. p.0) (map numbered entries) ≡ keys entries
+pub left-numbered : (entries : List (Key × (ℕ × Row)))
+    → map (λ p. p.0) (map numbered entries) ≡ keys entries
 left-numbered [] = refl
 left-numbered (e ∷ entries) = ap (λ (ks : List Key). e.0 ∷ ks) (left-numbered entries)
 
-pub numbered-ready : (kind : Kind) (t : Table) (ks : List Key) → map numbered (map (ready kind t) ks) ≡ map (λ k. (k, number_of t k)) ks
+pub numbered-ready : (kind : Kind) (t : Table) (ks : List Key)
+    → map numbered (map (ready kind t) ks) ≡ map (λ k. (k, number_of t k)) ks
 numbered-ready kind t [] = refl
 numbered-ready kind t (k ∷ ks) = ap (λ (rows : List (Key × ℕ)). (k, number_of t k) ∷ rows) (numbered-ready kind t ks)
 
@@ -73,7 +86,8 @@ pub texts-ready : (kind : Kind) (t : Table) (ks : List Key) → HaveTexts kind (
 texts-ready kind t [] = tt
 texts-ready kind t (k ∷ ks) = (refl, texts-ready kind t ks)
 
-pub length-ready : (kind : Kind) (t : Table) (ks : List Key) → length (map (ready kind t) ks) ≡ length ks
+pub length-ready : (kind : Kind) (t : Table) (ks : List Key)
+    → length (map (ready kind t) ks) ≡ length ks
 length-ready kind t [] = refl
 length-ready kind t (k ∷ ks) = ap suc (length-ready kind t ks)
 
@@ -84,7 +98,9 @@ tails : {A : Type 0} (x y : A) (xs ys : List A) → x ∷ xs ≡ y ∷ ys → xs
 tails x y xs ys h = cc
 
 -- entries with the right numbers and texts are ready
-pub are_ready : (kind : Kind) (t : Table) (entries : List (Key × (ℕ × Row))) → map numbered entries ≡ map (λ k. (k, number_of t k)) (keys entries) → HaveTexts kind entries → entries ≡ map (ready kind t) (keys entries)
+pub are_ready : (kind : Kind) (t : Table) (entries : List (Key × (ℕ × Row)))
+    → map numbered entries ≡ map (λ k. (k, number_of t k)) (keys entries) → HaveTexts kind entries
+    → entries ≡ map (ready kind t) (keys entries)
 are_ready kind t [] h texts = refl
 are_ready kind t (e ∷ entries) h texts =
     let number : e.1.0 ≡ number_of t e.0 = ap (λ (p : Key × ℕ). p.1) (heads (numbered e) (e.0, number_of t e.0) _ _ h) in
@@ -103,7 +119,8 @@ is_eq-key_cmp a b =
     both_eq Greater p = refl
 
 module _ (k : Key) where
-  pub numbered-remove : (entries : List (Key × (ℕ × Row))) → map numbered (remove_entry (is_at (key_cmp k)) entries) ≡ without_row k (map numbered entries)
+  pub numbered-remove : (entries : List (Key × (ℕ × Row))) → map numbered
+      (remove_entry (is_at (key_cmp k)) entries) ≡ without_row k (map numbered entries)
   numbered-remove [] = refl
   numbered-remove (e ∷ entries) =
       ap (λ b. map numbered (cond b entries (e ∷ remove_entry (is_at (key_cmp k)) entries))) (is_eq-key_cmp k e.0)
@@ -112,7 +129,8 @@ module _ (k : Key) where
         | false ↦ ap (λ (rows : List (Key × ℕ)). numbered e ∷ rows) (numbered-remove entries)
       ]
 
-  below-remove : (x : Key) (entries : List (Key × (ℕ × Row))) → below_all x (keys entries) ≡ true → below_all x (keys (remove_entry (is_at (key_cmp k)) entries)) ≡ true
+  below-remove : (x : Key) (entries : List (Key × (ℕ × Row))) → below_all x (keys entries) ≡ true
+      → below_all x (keys (remove_entry (is_at (key_cmp k)) entries)) ≡ true
   below-remove x [] h = refl
   below-remove x (e ∷ entries) h =
       let both = and_parts (is_lt (key_cmp x e.0)) (below_all x (keys entries)) h in
@@ -121,7 +139,8 @@ module _ (k : Key) where
         | false ↦ λ j. both.0 j && below-remove x entries both.1 j
       ]
 
-  pub rising-remove : (entries : List (Key × (ℕ × Row))) → ascending (keys entries) ≡ true → ascending (keys (remove_entry (is_at (key_cmp k)) entries)) ≡ true
+  pub rising-remove : (entries : List (Key × (ℕ × Row))) → ascending (keys entries) ≡ true
+      → ascending (keys (remove_entry (is_at (key_cmp k)) entries)) ≡ true
   rising-remove [] h = refl
   rising-remove (e ∷ entries) h =
       let both = and_parts (below_all e.0 (keys entries)) (ascending (keys entries)) h in
@@ -130,14 +149,16 @@ module _ (k : Key) where
         | false ↦ λ j. below-remove e.0 entries both.0 j && rising-remove entries both.1 j
       ]
 
-  pub texts-remove : (kind : Kind) (entries : List (Key × (ℕ × Row))) → HaveTexts kind entries → HaveTexts kind (remove_entry (is_at (key_cmp k)) entries)
+  pub texts-remove : (kind : Kind) (entries : List (Key × (ℕ × Row))) → HaveTexts kind entries
+      → HaveTexts kind (remove_entry (is_at (key_cmp k)) entries)
   texts-remove kind [] h = tt
   texts-remove kind (e ∷ entries) h = elim (is_eq (key_cmp k e.0)) as (λ b. HaveTexts kind (cond b entries (e ∷ remove_entry (is_at (key_cmp k)) entries))) [
     | true ↦ h.1
     | false ↦ (h.0, texts-remove kind entries h.1)
   ]
 
-  pub length-remove : (entries : List (Key × (ℕ × Row))) → length (remove_entry (is_at (key_cmp k)) entries) ≤ length entries
+  pub length-remove : (entries : List (Key × (ℕ × Row)))
+      → length (remove_entry (is_at (key_cmp k)) entries) ≤ length entries
   length-remove [] = omega arith
   length-remove (e ∷ entries) = elim (is_eq (key_cmp k e.0)) as (λ b. length (cond b entries (e ∷ remove_entry (is_at (key_cmp k)) entries)) ≤ suc (length entries)) [
     | true ↦ omega arith
@@ -145,7 +166,8 @@ module _ (k : Key) where
   ]
 
   -- the plan on the keys but for one
-  pub without_row-plan : (t : Table) (ks : List Key) → without_row k (map (λ q. (q, number_of t q)) ks) ≡ map (λ q. (q, number_of t q)) (without k ks)
+  pub without_row-plan : (t : Table) (ks : List Key) → without_row k
+      (map (λ q. (q, number_of t q)) ks) ≡ map (λ q. (q, number_of t q)) (without k ks)
   without_row-plan t [] = refl
   without_row-plan t (q ∷ ks) = elim (same_key k q) as (λ b. (if b then map (λ x. (x, number_of t x)) ks else (q, number_of t q) ∷ without_row k (map (λ x. (x, number_of t x)) ks)) ≡ map (λ x. (x, number_of t x)) (if b then ks else q ∷ without k ks)) [
     | true ↦ refl
@@ -161,7 +183,8 @@ pub record Left (kind : Kind) (entries : List (Key × (ℕ × Row))) (rows : Tab
   pub leads : applied kind (keys entries) rows ≡ applied kind all was
   pub keeps : kept ++ map (kept_of (written kind) rows) (keys entries) ≡ map (kept_of (written kind) was) all
 
-pub Left-start : (kind : Kind) (entries : List (Key × (ℕ × Row))) (rows : Table) (kept : List (ℕ × Row)) → ascending (keys_of rows) ≡ true → ascending (keys entries) ≡ true
+pub Left-start : (kind : Kind) (entries : List (Key × (ℕ × Row))) (rows : Table)
+    (kept : List (ℕ × Row)) → ascending (keys_of rows) ≡ true → ascending (keys entries) ≡ true
     → map numbered entries ≡ map (λ k. (k, number_of rows k)) (map (λ p. p.0) (map numbered entries)) → HaveTexts kind entries
     → AppliesOn rows kind (map (λ p. p.0) (map numbered entries)) → kept ≡ [] → Left kind entries rows kept (map (λ p. p.0) (map numbered entries)) rows
 Left-start kind entries rows kept sorted rising plan texts fit none = record {
@@ -174,10 +197,12 @@ Left-start kind entries rows kept sorted rising plan texts fit none = record {
 }
 
 -- the row of another key stays
-row_of-apart : (t : Table) (k q : Key) (f : Row → Row) → same_key q k ≡ false → row_of (each_row (at_key k f) t) q ≡ row_of t q
+row_of-apart : (t : Table) (k q : Key) (f : Row → Row) → same_key q k ≡ false
+    → row_of (each_row (at_key k f) t) q ≡ row_of t q
 row_of-apart t k q f other = row_of-each_row (at_key k f) t q ∙ elim (row_of t q) as (λ o. option_map (at_key k f q) o ≡ o) [ Some r ↦ ap (λ b. Some (if b then f r else r)) other | None ↦ refl ]
 
-fits-row : (t : Table) (kind : Kind) (k : Key) → fits t kind k ≡ true → (r : Row) × ((row_of t k ≡ Some r) × (applies kind r ≡ true))
+fits-row : (t : Table) (kind : Kind) (k : Key) → fits t kind k ≡ true
+    → (r : Row) × ((row_of t k ≡ Some r) × (applies kind r ≡ true))
 fits-row t kind k fit = elim (row_of t k) as (λ o. row_of t k ≡ o → (elim o as (λ _. Bool) [ Some row ↦ applies kind row | None ↦ false ]) ≡ true → (r : Row) × ((row_of t k ≡ Some r) × (applies kind r ≡ true))) [
   | Some r ↦ λ e h. (r, (e, h))
   | None ↦ λ _ h. absurd cc
@@ -248,28 +273,35 @@ left-plan_of kind [] t = refl
 left-plan_of kind (k ∷ ks) t = ap (λ (qs : List Key). k ∷ qs) (left-plan_of kind ks t)
 
 -- a plan of certain keys is the plan of those that are left to it
-pub plan_of-itself : (p : Planned) (kind : Kind) (ks : List Key) (t : Table) → p ≡ plan_of kind ks t → p ≡ plan_of p.kind (left p) t
+pub plan_of-itself : (p : Planned) (kind : Kind) (ks : List Key) (t : Table) → p ≡ plan_of kind ks t
+    → p ≡ plan_of p.kind (left p) t
 plan_of-itself p kind ks t h = subst (λ (q : Planned). q ≡ plan_of q.kind (left q) t) (sym h) (ap (λ (qs : List Key). plan_of kind qs t) (sym (left-plan_of kind ks t)))
 
-pub AppliesOn-plan_of : (p : Planned) (kind : Kind) (ks : List Key) (t : Table) → p ≡ plan_of kind ks t → AppliesOn t kind ks → AppliesOn t p.kind (left p)
+pub AppliesOn-plan_of : (p : Planned) (kind : Kind) (ks : List Key) (t : Table)
+    → p ≡ plan_of kind ks t → AppliesOn t kind ks → AppliesOn t p.kind (left p)
 AppliesOn-plan_of p kind ks t h applies = subst (λ (q : Planned). AppliesOn t q.kind (left q)) (sym h) (subst (λ (qs : List Key). AppliesOn t kind qs) (sym (left-plan_of kind ks t)) applies)
 
-pub saved-plan_of : (p : Planned) (kind : Kind) (ks : List Key) (t : Table) → p ≡ plan_of kind ks t → saved p.kind (left p) t ≡ saved kind ks t
+pub saved-plan_of : (p : Planned) (kind : Kind) (ks : List Key) (t : Table) → p ≡ plan_of kind ks t
+    → saved p.kind (left p) t ≡ saved kind ks t
 saved-plan_of p kind ks t h = ap (λ (q : Planned). saved q.kind (left q) t) h ∙ ap (λ (qs : List Key). saved kind qs t) (left-plan_of kind ks t)
 
-pub applied-plan_of : (p : Planned) (kind : Kind) (ks : List Key) (t : Table) → p ≡ plan_of kind ks t → applied p.kind (left p) t ≡ applied kind ks t
+pub applied-plan_of : (p : Planned) (kind : Kind) (ks : List Key) (t : Table)
+    → p ≡ plan_of kind ks t → applied p.kind (left p) t ≡ applied kind ks t
 applied-plan_of p kind ks t h = ap (λ (q : Planned). applied q.kind (left q) t) h ∙ ap (λ (qs : List Key). applied kind qs t) (left-plan_of kind ks t)
 
 -- rows with the same keys have the same plans
-pub plan_of-same_keys : (kind : Kind) (ks : List Key) (t u : Table) → keys_of t ≡ keys_of u → plan_of kind ks t ≡ plan_of kind ks u
+pub plan_of-same_keys : (kind : Kind) (ks : List Key) (t u : Table) → keys_of t ≡ keys_of u
+    → plan_of kind ks t ≡ plan_of kind ks u
 plan_of-same_keys kind ks t u same = ap (λ (qs : List Key). record { kind = kind; rows = map (λ k. (k, place_of qs k)) ks }) same
 
 -- a key that is left out leaves the plan of the others
-pub left_out-plan_of : (k : Key) (kind : Kind) (ks : List Key) (t : Table) → left_out k (plan_of kind ks t) ≡ plan_of kind (without k ks) t
+pub left_out-plan_of : (k : Key) (kind : Kind) (ks : List Key) (t : Table)
+    → left_out k (plan_of kind ks t) ≡ plan_of kind (without k ks) t
 left_out-plan_of k kind ks t = ap (λ (rows : List (Key × ℕ)). record { kind = kind; rows = rows }) (without_row-plan k t ks)
 
 -- where the kind applies there are rows
-pub HaveRows-AppliesOn : (t : Table) (kind : Kind) (ks : List Key) → AppliesOn t kind ks → HaveRows t ks
+pub HaveRows-AppliesOn : (t : Table) (kind : Kind) (ks : List Key) → AppliesOn t kind ks
+    → HaveRows t ks
 HaveRows-AppliesOn t kind ks applies k named = let found = fits-row t kind k (applies k named) in ap is_some found.1.0
 
 -- the next key with the number of its row
@@ -287,7 +319,8 @@ entries-next kind t ks i k n texts entries up sorted within is at texts_are befo
     ∙ ap (map (ready kind t)) (sym (take_more ks i k within))
 
 -- a key without a row isn't among the keys
-pub no_row : (t : Table) (ks : List Key) (i : ℕ) (k : Key) → HaveRows t ks → i < length ks → k ≡ get_or ks i k → row_of t k ≡ None → ⊥
+pub no_row : (t : Table) (ks : List Key) (i : ℕ) (k : Key) → HaveRows t ks → i < length ks
+    → k ≡ get_or ks i k → row_of t k ≡ None → ⊥
 no_row t ks i k have within is gone =
     let some : is_some (row_of t k) ≡ true = have k (subst (λ (q : Key). names ks q ≡ true) (sym is) (names-at ks i k within)) in
     let bad : true ≡ false = sym some ∙ ap is_some gone in cc

@@ -29,7 +29,8 @@ HaveTexts kind [] = Unit {0}
 HaveTexts kind (e ∷ rows) = (e.1.1 ≡ texts_of kind) × HaveTexts kind rows
 
 -- what holds of every plan: its keys rise, it has the texts of each, and room for the kept rows
-pub record IsReady (kind : Kind) (rows : List (Key × (ℕ × Row))) (kept : List (ℕ × Row)) (capacity : ℕ) : Type 0 where
+pub record IsReady (kind : Kind) (rows : List (Key × (ℕ × Row))) (kept : List (ℕ × Row))
+    (capacity : ℕ) : Type 0 where
   pub rising : ascending (map (λ e. e.0) rows) ≡ true
   pub texts : HaveTexts kind rows
   pub empty : kept ≡ []

@@ -25,18 +25,22 @@ Lawful t (s ∷ steps) = AppliesOn t s.0 s.1 × Lawful (applied s.0 s.1 t) steps
 -- none of them shares, at one of the keys, a cell with the kind
 abbrev pub Untouched : Kind → List Key → Steps → Type 0
 Untouched kind keys [] = Unit {0}
-Untouched kind keys (s ∷ steps) = ((k : Key) → names keys k ≡ true → names s.1 k ≡ true → Disjoint (cells s.0) (cells kind)) × Untouched kind keys steps
+Untouched kind keys (s ∷ steps) = ((k : Key) → names keys k ≡ true → names s.1 k ≡ true
+    → Disjoint (cells s.0) (cells kind)) × Untouched kind keys steps
 
 -- what was kept, given back at once, leaves the rows as they were
 abbrev pub BackAtOnce : Type 0
-BackAtOnce = (kind : Kind) (keys : List Key) (t : Table) → ascending (keys_of t) ≡ true → given_back (written kind) keys t (applied kind keys t) ≡ t
+BackAtOnce = (kind : Kind) (keys : List Key) (t : Table) → ascending (keys_of t) ≡ true
+    → given_back (written kind) keys t (applied kind keys t) ≡ t
 
 -- given back after others that share no cell with it there, it leaves the others alone
 abbrev pub BackPastOthers : Type 0
-BackPastOthers = (kind : Kind) (keys : List Key) (steps : Steps) (t : Table) → ascending (keys_of t) ≡ true → Untouched kind keys steps →
+BackPastOthers = (kind : Kind) (keys : List Key) (steps : Steps) (t : Table)
+    → ascending (keys_of t) ≡ true → Untouched kind keys steps →
     given_back (written kind) keys t (after steps (applied kind keys t)) ≡ after steps t
 
 -- and what was lawful with it is lawful without it
 abbrev pub LawfulWithout : Type 0
-LawfulWithout = (kind : Kind) (keys : List Key) (steps : Steps) (t : Table) → ascending (keys_of t) ≡ true → Untouched kind keys steps →
+LawfulWithout = (kind : Kind) (keys : List Key) (steps : Steps) (t : Table)
+    → ascending (keys_of t) ≡ true → Untouched kind keys steps →
     Lawful (applied kind keys t) steps → Lawful t steps

@@ -1,5 +1,7 @@
 -- The rows that an arrival or a sweep changes: no builder has one, and none is offered.
-use Rattle.std.proofs.Common.{◌≡◌, ℕ, ◌+◌, Bool, true, false, ◌&&◌, List, [], ◌∷◌, ◌++◌, Option, Some, None, if◌then◌else◌, map, filter, take, slice_get, ap, refl, sym, ◌∙◌}
+use Rattle.std.proofs.Common.{◌≡◌, ℕ, ◌+◌, Bool, true, false, ◌&&◌, List, [], ◌∷◌, ◌++◌, Option}
+use Rattle.std.proofs.Common.{Some, None, if◌then◌else◌, map, filter, take, slice_get, ap, refl}
+use Rattle.std.proofs.Common.{sym, ◌∙◌}
 use Rattle.std.specs.Ordering.{is_lt}
 use Rattle.td_rows.specs.declared.key.Key.{Key}
 use Rattle.td_rows.specs.declared.row.Row.{Row}
@@ -47,14 +49,16 @@ both true b x y = y
 both false b x y = x
 
 -- a freed row waits
-pub waits-freed : (s : SupplyView) (p : Key × Row) → is_freed s p ≡ true → is_waiting p.1.state ≡ true
+pub waits-freed : (s : SupplyView) (p : Key × Row) → is_freed s p ≡ true
+    → is_waiting p.1.state ≡ true
 waits-freed s p h = first (is_waiting p.1.state) _ h
 
 abbrev told : Option Row → Bool
 told o = elim o as (λ _. Bool) [ Some row ↦ applies Sweep row | None ↦ false ]
 
 -- a sweep applies on each row that is freed
-pub AppliesOn-freed : (s : SupplyView) (t : Table) → ascending (keys_of t) ≡ true → AppliesOn t Sweep (freed s t)
+pub AppliesOn-freed : (s : SupplyView) (t : Table) → ascending (keys_of t) ≡ true
+    → AppliesOn t Sweep (freed s t)
 AppliesOn-freed s [] up k named = cc
 AppliesOn-freed s (p ∷ t) up k named =
     let below = first (below_all p.0 (keys_of t)) (ascending (keys_of t)) up in
@@ -71,10 +75,13 @@ AppliesOn-freed s (p ∷ t) up k named =
     ] refl
 
 -- the key of the first row names none of the others
-pub absent-freed : (s : SupplyView) (p : Key × Row) (t : Table) (k : Key) → below_all p.0 (keys_of t) ≡ true → ascending (keys_of t) ≡ true → same_key k p.0 ≡ true → names (freed s t) k ≡ true → ⊥
+pub absent-freed : (s : SupplyView) (p : Key × Row) (t : Table) (k : Key)
+    → below_all p.0 (keys_of t) ≡ true → ascending (keys_of t) ≡ true → same_key k p.0 ≡ true
+    → names (freed s t) k ≡ true → ⊥
 absent-freed s p t k below up is later = let bad = sym (AppliesOn-freed s t up k later) ∙ ap told (row_of-below p.0 k t below is) in cc
 
-below_all-freed : (s : SupplyView) (x : Key) (t : Table) → below_all x (keys_of t) ≡ true → below_all x (freed s t) ≡ true
+below_all-freed : (s : SupplyView) (x : Key) (t : Table) → below_all x (keys_of t) ≡ true
+    → below_all x (freed s t) ≡ true
 below_all-freed s x [] h = refl
 below_all-freed s x (p ∷ t) h =
     let rest = below_all-freed s x t (second (is_lt (key_cmp x p.0)) (below_all x (keys_of t)) h) in
@@ -84,7 +91,8 @@ below_all-freed s x (p ∷ t) h =
     ]
 
 -- the keys of the freed rows rise
-pub ascending-freed : (s : SupplyView) (t : Table) → ascending (keys_of t) ≡ true → ascending (freed s t) ≡ true
+pub ascending-freed : (s : SupplyView) (t : Table) → ascending (keys_of t) ≡ true
+    → ascending (freed s t) ≡ true
 ascending-freed s [] up = refl
 ascending-freed s (p ∷ t) up =
     let below = first (below_all p.0 (keys_of t)) (ascending (keys_of t)) up in
@@ -95,12 +103,14 @@ ascending-freed s (p ∷ t) up =
     ]
 
 -- one more row
-freed-push : (s : SupplyView) (t : Table) (p : Key × Row) → freed s (t ++ p ∷ []) ≡ freed s t ++ (if is_freed s p then p.0 ∷ [] else [])
+freed-push : (s : SupplyView) (t : Table) (p : Key × Row)
+    → freed s (t ++ p ∷ []) ≡ freed s t ++ (if is_freed s p then p.0 ∷ [] else [])
 freed-push s [] p = elim (is_freed s p) as (λ b. map (λ (x : Key × Row). x.0) (if b then p ∷ [] else []) ≡ (if b then p.0 ∷ [] else [])) [ true ↦ refl | false ↦ refl ]
 freed-push s (q ∷ t) p = elim (is_freed s q) as (λ b. map (λ (x : Key × Row). x.0) (if b then q ∷ filter (is_freed s) (t ++ p ∷ []) else filter (is_freed s) (t ++ p ∷ [])) ≡ map (λ (x : Key × Row). x.0) (if b then q ∷ filter (is_freed s) t else filter (is_freed s) t) ++ (if is_freed s p then p.0 ∷ [] else [])) [
   | true ↦ ap (λ (ks : List Key). q.0 ∷ ks) (freed-push s t p)
   | false ↦ freed-push s t p
 ]
 
-pub freed-next : (s : SupplyView) (t : Table) (n : ℕ) (p : Key × Row) → slice_get t n ≡ Some p → freed s (take (n + 1) t) ≡ freed s (take n t) ++ (if is_freed s p then p.0 ∷ [] else [])
+pub freed-next : (s : SupplyView) (t : Table) (n : ℕ) (p : Key × Row) → slice_get t n ≡ Some p
+    → freed s (take (n + 1) t) ≡ freed s (take n t) ++ (if is_freed s p then p.0 ∷ [] else [])
 freed-next s t n p at = ap (freed s) (take-next t n p at) ∙ freed-push s (take n t) p

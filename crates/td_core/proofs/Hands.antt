@@ -1,5 +1,7 @@
 -- Who has a row has it in hand, and so it stays.
-use Rattle.std.proofs.Common.{◌≡◌, ℕ, zero, suc, ◌-◌, true, false, List, [], ◌∷◌, Option, Some, None, if◌then◌else◌, length, set, slice_get, ◌==◌, ap, refl, sym, subst, ◌∙◌, arith}
+use Rattle.std.proofs.Common.{◌≡◌, ℕ, zero, suc, ◌-◌, true, false, List, [], ◌∷◌, Option, Some}
+use Rattle.std.proofs.Common.{None, if◌then◌else◌, length, set, slice_get, ◌==◌, ap, refl, sym}
+use Rattle.std.proofs.Common.{subst, ◌∙◌, arith}
 use Rattle.std.proofs.lemmas.List.{length-set}
 use Rattle.td_rows.specs.declared.key.Key.{Key}
 use Rattle.td_rows.specs.declared.row.Row.{Row}
@@ -17,13 +19,15 @@ use Rattle.td_core.proofs.Phases.{phase_of-with_phase, phase_of-other, phase_of-
 
 -- ---- one hand changes
 
-slice_get-set : (xs : List Hand) (i : ℕ) (x y : Hand) → slice_get xs i ≡ Some x → slice_get (set xs i y) i ≡ Some y
+slice_get-set : (xs : List Hand) (i : ℕ) (x y : Hand) → slice_get xs i ≡ Some x
+    → slice_get (set xs i y) i ≡ Some y
 slice_get-set [] zero x y h = cc
 slice_get-set [] (suc i) x y h = cc
 slice_get-set (z ∷ xs) zero x y h = refl
 slice_get-set (z ∷ xs) (suc i) x y h = slice_get-set xs i x y h
 
-slice_get-set_other : (xs : List Hand) (i j : ℕ) (y : Hand) → (i ≡ j → ⊥) → slice_get (set xs i y) j ≡ slice_get xs j
+slice_get-set_other : (xs : List Hand) (i j : ℕ) (y : Hand) → (i ≡ j → ⊥)
+    → slice_get (set xs i y) j ≡ slice_get xs j
 slice_get-set_other [] zero j y other = refl
 slice_get-set_other [] (suc i) j y other = refl
 slice_get-set_other (z ∷ xs) zero zero y other = absurd (other refl)
@@ -34,21 +38,24 @@ slice_get-set_other (z ∷ xs) (suc i) (suc j) y other = slice_get-set_other xs 
 no_hand : (hands : List Hand) (x : Hand) → hand_in hands 0 ≡ Some x → ⊥
 no_hand hands x h = cc
 
-hand_in-at : (hands : List Hand) (b : ℕ) (x : Hand) → hand_in hands b ≡ Some x → slice_get hands (b - 1) ≡ Some x
+hand_in-at : (hands : List Hand) (b : ℕ) (x : Hand) → hand_in hands b ≡ Some x
+    → slice_get hands (b - 1) ≡ Some x
 hand_in-at hands b x h = elim (b == 0) as (λ z. (if z then None else slice_get hands (b - 1)) ≡ Some x → slice_get hands (b - 1) ≡ Some x) [
   | true ↦ λ g. cc
   | false ↦ λ g. g
 ] h
 
 -- the hand that is put
-pub hand_in-put : (hands : List Hand) (b : ℕ) (x y : Hand) → hand_in hands b ≡ Some x → hand_in (set hands (b - 1) y) b ≡ Some y
+pub hand_in-put : (hands : List Hand) (b : ℕ) (x y : Hand) → hand_in hands b ≡ Some x
+    → hand_in (set hands (b - 1) y) b ≡ Some y
 hand_in-put hands b x y h = elim (b == 0) as (λ z. (if z then None else slice_get hands (b - 1)) ≡ Some x → (if z then None else slice_get (set hands (b - 1) y) (b - 1)) ≡ Some y) [
   | true ↦ λ g. cc
   | false ↦ λ g. slice_get-set hands (b - 1) x y g
 ] h
 
 -- another builder's
-hand_in-other : (hands : List Hand) (b c : ℕ) (x y z : Hand) → hand_in hands b ≡ Some x → hand_in hands c ≡ Some z → (b ≡ c → ⊥) → hand_in (set hands (b - 1) y) c ≡ Some z
+hand_in-other : (hands : List Hand) (b c : ℕ) (x y z : Hand) → hand_in hands b ≡ Some x
+    → hand_in hands c ≡ Some z → (b ≡ c → ⊥) → hand_in (set hands (b - 1) y) c ≡ Some z
 hand_in-other hands zero c x y z hb hc apart = absurd (no_hand hands x hb)
 hand_in-other hands (suc b) zero x y z hb hc apart = absurd (no_hand hands z hc)
 hand_in-other hands (suc b) (suc c) x y z hb hc apart =
@@ -59,7 +66,8 @@ hand_in-other hands (suc b) (suc c) x y z hb hc apart =
     ] hc
 
 -- the builder has another thing in hand than what it keeps
-keeps : (hands : List Hand) (b c : ℕ) (x y z : Hand) → hand_in hands b ≡ Some x → hand_in hands c ≡ Some z → (b ≡ c → x ≡ z → ⊥) → hand_in (set hands (b - 1) y) c ≡ Some z
+keeps : (hands : List Hand) (b c : ℕ) (x y z : Hand) → hand_in hands b ≡ Some x
+    → hand_in hands c ≡ Some z → (b ≡ c → x ≡ z → ⊥) → hand_in (set hands (b - 1) y) c ≡ Some z
 keeps hands b c x y z hb hc apart = hand_in-other hands b c x y z hb hc (λ e.
     let both : Some x ≡ Some z = sym hb ∙ ap (hand_in hands) e ∙ hc in
     let same : x ≡ z = cc in
@@ -71,7 +79,8 @@ pub record NotHis (b : ℕ) (x : Hand) (k : Key) (p : Phase) : Type 0 where
   pub ended : (o : Outcome) → p ≡ Done b o → x ≡ Finished k o → ⊥
 
 -- then the row stays in hand as it was
-pub InHand-put : (hands : List Hand) (b : ℕ) (x y : Hand) (k : Key) (p : Phase) → hand_in hands b ≡ Some x → NotHis b x k p → InHand hands k p → InHand (set hands (b - 1) y) k p
+pub InHand-put : (hands : List Hand) (b : ℕ) (x y : Hand) (k : Key) (p : Phase) → hand_in hands b
+    ≡ Some x → NotHis b x k p → InHand hands k p → InHand (set hands (b - 1) y) k p
 InHand-put hands b x y k Closed hand other h = tt
 InHand-put hands b x y k Open hand other h = tt
 InHand-put hands b x y k (Held c) hand other h = keeps hands b c x y (Holding k) hand h (λ _ e. other.held e)
@@ -83,15 +92,18 @@ InHand-put hands b x y k (Done c o) hand other h = keeps hands b c x y (Finished
 abbrev pub AllInHand : WorldView → List Hand → Type 0
 AllInHand w hands = (k : Key) (p : Phase) → phase_of w k ≡ Some p → InHand hands k p
 
-row-in : (w : WorldView) (k : Key) (p : Phase) → length w.phases ≡ length w.history.opening → phase_of w k ≡ Some p → (row : Row) × (row_of (rows_of w.history) k ≡ Some row)
+row-in : (w : WorldView) (k : Key) (p : Phase) → length w.phases ≡ length w.history.opening
+    → phase_of w k ≡ Some p → (row : Row) × (row_of (rows_of w.history) k ≡ Some row)
 row-in w k p sized phase = at (row_of (rows_of w.history) k) refl
   where
-    at : (o : Option Row) → row_of (rows_of w.history) k ≡ o → (row : Row) × (row_of (rows_of w.history) k ≡ Some row)
+    at : (o : Option Row) → row_of (rows_of w.history) k ≡ o
+        → (row : Row) × (row_of (rows_of w.history) k ≡ Some row)
     at (Some row) is = (row, is)
     at None is = absurd (let none = sym phase ∙ phase_of-past w k sized is in cc)
 
 -- another key's phase is as it was
-pub InHand-moved : (w : WorldView) (k : Key) (p : Phase) (hands : List Hand) → length w.phases ≡ length w.history.opening → InHand hands k p
+pub InHand-moved : (w : WorldView) (k : Key) (p : Phase) (hands : List Hand)
+    → length w.phases ≡ length w.history.opening → InHand hands k p
     → ((q : Key) (x : Phase) → same_key q k ≡ false → phase_of w q ≡ Some x → InHand hands q x) → AllInHand (with_phase w k p) hands
 InHand-moved w k p hands sized here others q x phase =
     let row = row-in (with_phase w k p) q x (length-set w.phases _ p ∙ sized) phase in
@@ -111,5 +123,6 @@ apart_keys q k is same = (let yes : same_key q k ≡ true = ap (same_key q) same
 pub free-not_his : (b : ℕ) (k : Key) (p : Phase) → NotHis b Free k p
 free-not_his b k p = record { held = λ e. cc; ended = λ o _ e. cc }
 
-pub holding-not_his : (b : ℕ) (k q : Key) (p : Phase) → same_key q k ≡ false → NotHis b (Holding k) q p
+pub holding-not_his : (b : ℕ) (k q : Key) (p : Phase) → same_key q k ≡ false
+    → NotHis b (Holding k) q p
 holding-not_his b k q p is = record { held = λ e. apart_keys q k is (let same : k ≡ q = cc in same); ended = λ o _ e. cc }

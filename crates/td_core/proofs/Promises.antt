@@ -1,5 +1,7 @@
 -- What holds over every list of steps.
-use Rattle.std.proofs.Common.{◌≡◌, ◌↔◌, ℕ, zero, suc, ◌+◌, ◌-◌, ◌≤◌, subst, true, false, not, ◌&&◌, ◌==◌, List, [], ◌∷◌, ◌++◌, length, Option, Some, None, if◌then◌else◌, slice_get, ap, refl, sym, ◌∙◌, append-nil, arith}
+use Rattle.std.proofs.Common.{◌≡◌, ◌↔◌, ℕ, zero, suc, ◌+◌, ◌-◌, ◌≤◌, subst, true, false, not, ◌&&◌}
+use Rattle.std.proofs.Common.{◌==◌, List, [], ◌∷◌, ◌++◌, length, Option, Some, None, if◌then◌else◌}
+use Rattle.std.proofs.Common.{slice_get, ap, refl, sym, ◌∙◌, append-nil, arith}
 use Rattle.std.specs.Prelude.{nat_lt}
 use Rattle.std.specs.Option.{option_or}
 use Rattle.std.proofs.lemmas.Bool.Decides.{nat_tests}
@@ -10,7 +12,8 @@ use Rattle.td_journal.specs.declared.entry.Entry.{Entry}
 use Rattle.td_journal.specs.declared.entry.Mark.{Mark}
 use Rattle.td_journal.specs.declared.entry.Mark.TheVariants.{Standing, Undone as Dropped}
 use Rattle.td_journal.specs.declared.entry.Marked.{Marked}
-use Rattle.td_journal.specs.Entries.{is_command, is_standing, standing, standing_entry, entry_at, undone_at, undone}
+use Rattle.td_journal.specs.Entries.{is_command, is_standing, standing, standing_entry, entry_at}
+use Rattle.td_journal.specs.Entries.{undone_at, undone}
 use Rattle.td_journal.specs.Replay.{replay}
 use Rattle.td_journal.specs.Touching.{touches, latest_touching, blocker}
 use Rattle.td_journal.specs.IsKeys.{IsKeys}
@@ -23,19 +26,24 @@ use Rattle.td_core.specs.declared.step.Hand.TheVariants.{Holding, Finished}
 use Rattle.td_core.specs.declared.step.Step.{Step}
 use Rattle.td_core.specs.declared.step.Step.TheVariants.{Commit, Undo}
 use Rattle.td_core.specs.declared.step.Refusal.{Refusal}
-use Rattle.td_core.specs.declared.step.Refusal.TheVariants.{Blocked, NotPinned, NotACommand, NoSuchEntry}
+use Rattle.td_core.specs.declared.step.Refusal.TheVariants.{Blocked, NotPinned, NotACommand}
+use Rattle.td_core.specs.declared.step.Refusal.TheVariants.{NoSuchEntry}
 use Rattle.td_core.specs.declared.step.Answer.{Answer}
 use Rattle.td_core.specs.declared.step.Answer.TheVariants.{Undone, Refused}
 use Rattle.td_core.specs.History.{rows_of}
 use Rattle.td_core.specs.Phases.{is_pinned, Suits}
 use Rattle.td_rows.specs.States.{is_building}
 use Rattle.td_core.specs.Worlds.{WorldView, hand_of, journaled, world_of, InHand, IsWorld}
-use Rattle.td_core.specs.Refusals.{refused_if, first_refused, first_unpinned, mark_refusal, undo_refusal}
+use Rattle.td_core.specs.Refusals.{refused_if, first_refused, first_unpinned, mark_refusal}
+use Rattle.td_core.specs.Refusals.{undo_refusal}
 use Rattle.td_core.specs.Steps.{answer_to, after, after_all}
-use Rattle.td_core.specs.Promises.{EveryWorld, OfferedRowsWait, is_known_by, BuiltExactly, HandsFollow, builder_in, BuildersAreThere, EntriesRise, UndoneAtOnce, StandingCommand, BlockedExactly, UndoneElse}
+use Rattle.td_core.specs.Promises.{EveryWorld, OfferedRowsWait, is_known_by, BuiltExactly}
+use Rattle.td_core.specs.Promises.{HandsFollow, builder_in, BuildersAreThere, EntriesRise}
+use Rattle.td_core.specs.Promises.{UndoneAtOnce, StandingCommand, BlockedExactly, UndoneElse}
 use Rattle.td_core.proofs.Phases.{hand_of-within}
 use Rattle.td_core.proofs.Refusing.{commits}
-use Rattle.td_core.proofs.Worlds.{IsWorld-open, IsWorld-after, answer_to-refused, answer_to-accepted, after-accepted}
+use Rattle.td_core.proofs.Worlds.{IsWorld-open, IsWorld-after, answer_to-refused}
+use Rattle.td_core.proofs.Worlds.{answer_to-accepted, after-accepted}
 
 IsWorld-after_all : (w : WorldView) (steps : List Step) → IsWorld w → IsWorld (after_all w steps)
 IsWorld-after_all w [] i = i
@@ -89,7 +97,8 @@ builders_are_there w k p b i phase is = at p is (i.held k p phase)
     at (Noted c) e h = subst (λ (n : ℕ). (1 ≤ n) × (n ≤ length w.hands)) (same c b e) (there w c (Holding k) h)
     at (Done c o) e h = subst (λ (n : ℕ). (1 ≤ n) × (n ≤ length w.hands)) (same c b e) (there w c (Finished k o) h)
 
-keys-at : (ms : List Marked) (i : ℕ) (m : Marked) → EachHasKeys ms → slice_get ms i ≡ Some m → IsKeys m.entry.keys
+keys-at : (ms : List Marked) (i : ℕ) (m : Marked) → EachHasKeys ms → slice_get ms i ≡ Some m
+    → IsKeys m.entry.keys
 keys-at [] zero m h at = cc
 keys-at [] (suc i) m h at = cc
 keys-at (x ∷ ms) zero m h at = let same : x ≡ m = cc in subst (λ (y : Marked). IsKeys y.entry.keys) same h.0
@@ -110,7 +119,8 @@ entry_at-last ms m =
     ap (λ b. if b then None else slice_get (ms ++ m ∷ []) (length ms + 1 - 1)) not_zero ∙ ap (slice_get (ms ++ m ∷ [])) back ∙ slice_get-last ms m
 
 -- nothing stands above the last
-latest-none : (e : Entry) (n number : ℕ) (ms : List Marked) → number + length ms ≤ n + 1 → latest_touching e n number ms ≡ None
+latest-none : (e : Entry) (n number : ℕ) (ms : List Marked) → number + length ms ≤ n + 1
+    → latest_touching e n number ms ≡ None
 latest-none e n number [] h = refl
 latest-none e n number (m ∷ ms) h =
     let below : nat_lt n number ≡ false = grind (arith, nat_tests, h) in
@@ -128,19 +138,23 @@ undone_at-last : (ms : List Marked) (m : Marked) → undone_at (ms ++ m ∷ []) 
 undone_at-last [] m = refl
 undone_at-last (x ∷ ms) m = ap (λ (ys : List Marked). x ∷ ys) (undone_at-last ms m)
 
-standing-last : (ms : List Marked) (m : Marked) → standing (undone (ms ++ m ∷ []) (length ms + 1)) ≡ standing ms
+standing-last : (ms : List Marked) (m : Marked)
+    → standing (undone (ms ++ m ∷ []) (length ms + 1)) ≡ standing ms
 standing-last ms m =
     let back : length ms + 1 - 1 ≡ length ms = omega arith in
     ap (λ (i : ℕ). standing (undone_at (ms ++ m ∷ []) i)) back ∙ ap standing (undone_at-last ms m) ∙ standing-append ms (record m { mark = Dropped } ∷ []) ∙ append-nil (standing ms)
 
 -- the refusal of a standing command's undo
-undo_refusal-command : (w : WorldView) (n : ℕ) (m : Marked) → StandingCommand w n m → undo_refusal w n ≡ mark_refusal w m Standing (blocker w.history.journal n)
+undo_refusal-command : (w : WorldView) (n : ℕ) (m : Marked) → StandingCommand w n m
+    → undo_refusal w n ≡ mark_refusal w m Standing (blocker w.history.journal n)
 undo_refusal-command w n m s =
     ap (λ (x : Option Marked). elim x as (λ _. Option Refusal) [ Some y ↦ refused_if (not (is_command y.entry.kind)) NotACommand (mark_refusal w y y.mark (blocker w.history.journal n)) | None ↦ Some NoSuchEntry ]) s.there
     ∙ ap (λ b. refused_if (not b) NotACommand (mark_refusal w m m.mark (blocker w.history.journal n))) s.command
     ∙ ap (λ (x : Mark). mark_refusal w m x (blocker w.history.journal n)) s.stands
 
-undo_refusal-none : (w : WorldView) (n : ℕ) (m : Marked) → StandingCommand w n m → blocker w.history.journal n ≡ None → first_unpinned w m.entry.kind m.entry.keys ≡ None → undo_refusal w n ≡ None
+undo_refusal-none : (w : WorldView) (n : ℕ) (m : Marked) → StandingCommand w n m
+    → blocker w.history.journal n ≡ None → first_unpinned w m.entry.kind m.entry.keys ≡ None
+    → undo_refusal w n ≡ None
 undo_refusal-none w n m s free pinned = undo_refusal-command w n m s ∙ ap (mark_refusal w m Standing) free ∙ ap (λ (o : Option Key). first_refused o (λ k. NotPinned None) None) pinned
 
 pub undone_else : UndoneElse
@@ -152,11 +166,13 @@ blocked_exactly w n m b s = (
   (λ is. answer_to-refused w (Undo n) (Blocked b) (undo_refusal-command w n m s ∙ ap (mark_refusal w m Standing) is)),
 )
   where
-    loose : (o : Option Key) (a : Answer) → (elim (first_refused o (λ k. NotPinned None) None) as (λ _. Answer) [ Some r ↦ Refused r | None ↦ Undone n ]) ≡ Refused (Blocked b) → ⊥
+    loose : (o : Option Key) (a : Answer) → (elim (first_refused o (λ k. NotPinned None) None) as
+        (λ _. Answer) [ Some r ↦ Refused r | None ↦ Undone n ]) ≡ Refused (Blocked b) → ⊥
     loose None a h = cc
     loose (Some k) a h = cc
 
-    back : (o : Option ℕ) → blocker w.history.journal n ≡ o → answer_to w (Undo n) ≡ Refused (Blocked b) → blocker w.history.journal n ≡ Some b
+    back : (o : Option ℕ) → blocker w.history.journal n ≡ o
+        → answer_to w (Undo n) ≡ Refused (Blocked b) → blocker w.history.journal n ≡ Some b
     back (Some c) is told =
         let named = sym (answer_to-refused w (Undo n) (Blocked c) (undo_refusal-command w n m s ∙ ap (mark_refusal w m Standing) is)) ∙ told in
         let same : c ≡ b = cc in

@@ -1,5 +1,7 @@
 -- The keys that a command takes.
-use Rattle.std.proofs.Common.{◌≡◌, ℕ, zero, suc, ◌+◌, ◌<◌, ◌≤◌, Bool, true, false, ◌&&◌, List, [], ◌∷◌, ◌++◌, Some, if◌then◌else◌, filter, take, drop, length, get_or, slice_get, ap, refl, sym, ◌∙◌, append_assoc, append-nil, arith}
+use Rattle.std.proofs.Common.{◌≡◌, ℕ, zero, suc, ◌+◌, ◌<◌, ◌≤◌, Bool, true, false, ◌&&◌, List, []}
+use Rattle.std.proofs.Common.{◌∷◌, ◌++◌, Some, if◌then◌else◌, filter, take, drop, length, get_or}
+use Rattle.std.proofs.Common.{slice_get, ap, refl, sym, ◌∙◌, append_assoc, append-nil, arith}
 use Rattle.std.specs.Prelude.{◌==◌}
 use Rattle.std.proofs.lemmas.Bool.Decides.{nat_tests}
 use Rattle.std.proofs.lemmas.Option.{slice_get-get_or}
@@ -14,7 +16,8 @@ use Rattle.td_rows.proofs.Keys.{same_key-true, same_key-refl}
 use Rattle.td_change.specs.Plans.{without}
 
 -- what is taken passes, and was there
-pub passes-filter : (p : Key → Bool) (ks : List Key) (k : Key) → names (filter p ks) k ≡ true → p k ≡ true
+pub passes-filter : (p : Key → Bool) (ks : List Key) (k : Key) → names (filter p ks) k ≡ true
+    → p k ≡ true
 passes-filter p [] k h = cc
 passes-filter p (q ∷ ks) k h = elim (p q) as (λ b. p q ≡ b → names (if b then q ∷ filter p ks else filter p ks) k ≡ true → p k ≡ true) [
   | true ↦ λ is. elim (same_key k q) as (λ c. same_key k q ≡ c → (if c then true else names (filter p ks) k) ≡ true → p k ≡ true) [
@@ -24,7 +27,8 @@ passes-filter p (q ∷ ks) k h = elim (p q) as (λ b. p q ≡ b → names (if b 
   | false ↦ λ _ g. passes-filter p ks k g
 ] refl h
 
-pub names-filter : (p : Key → Bool) (ks : List Key) (k : Key) → names (filter p ks) k ≡ true → names ks k ≡ true
+pub names-filter : (p : Key → Bool) (ks : List Key) (k : Key) → names (filter p ks) k ≡ true
+    → names ks k ≡ true
 names-filter p [] k h = h
 names-filter p (q ∷ ks) k h = elim (same_key k q) as (λ c. names (if p q then q ∷ filter p ks else filter p ks) k ≡ true → same_key k q ≡ c → (if c then true else names ks k) ≡ true) [
   | true ↦ λ _ _. refl
@@ -34,18 +38,21 @@ names-filter p (q ∷ ks) k h = elim (same_key k q) as (λ c. names (if p q then
   ] g
 ] h refl
 
-pub unnamed-filter : (p : Key → Bool) (ks : List Key) (k : Key) → names ks k ≡ false → names (filter p ks) k ≡ false
+pub unnamed-filter : (p : Key → Bool) (ks : List Key) (k : Key) → names ks k ≡ false
+    → names (filter p ks) k ≡ false
 unnamed-filter p ks k h = at (names (filter p ks) k) refl
   where
     at : (b : Bool) → names (filter p ks) k ≡ b → names (filter p ks) k ≡ false
     at true is = absurd (let bad = sym (names-filter p ks k is) ∙ h in cc)
     at false is = is
 
-pub AppliesOn-filter : (t : Table) (kind : Kind) (ks : List Key) → AppliesOn t kind (filter (fits t kind) ks)
+pub AppliesOn-filter : (t : Table) (kind : Kind) (ks : List Key)
+    → AppliesOn t kind (filter (fits t kind) ks)
 AppliesOn-filter t kind ks k named = passes-filter (fits t kind) ks k named
 
 -- what is taken of rising keys rises
-below_all-filter : (p : Key → Bool) (x : Key) (ks : List Key) → below_all x ks ≡ true → below_all x (filter p ks) ≡ true
+below_all-filter : (p : Key → Bool) (x : Key) (ks : List Key) → below_all x ks ≡ true
+    → below_all x (filter p ks) ≡ true
 below_all-filter p x [] h = refl
 below_all-filter p x (q ∷ ks) h =
     let rest = below_all-filter p x ks (second (is_lt (key_cmp x q)) (below_all x ks) h) in
@@ -66,7 +73,8 @@ below_all-filter p x (q ∷ ks) h =
     both true b x y = y
     both false b x y = x
 
-pub ascending-filter : (p : Key → Bool) (ks : List Key) → ascending ks ≡ true → ascending (filter p ks) ≡ true
+pub ascending-filter : (p : Key → Bool) (ks : List Key) → ascending ks ≡ true
+    → ascending (filter p ks) ≡ true
 ascending-filter p [] h = refl
 ascending-filter p (q ∷ ks) h =
     let below = first (below_all q ks) (ascending ks) h in
@@ -89,7 +97,8 @@ ascending-filter p (q ∷ ks) h =
     both false b x y = x
 
 -- the first key that isn't before it is left out
-pub without-here : (ks rest : List Key) (k : Key) → names ks k ≡ false → without k (ks ++ k ∷ rest) ≡ ks ++ rest
+pub without-here : (ks rest : List Key) (k : Key) → names ks k ≡ false
+    → without k (ks ++ k ∷ rest) ≡ ks ++ rest
 without-here [] rest k h = ap (λ b. if b then rest else k ∷ without k rest) (same_key-refl k)
 without-here (q ∷ ks) rest k h = elim (same_key k q) as (λ b. (if b then true else names ks k) ≡ false → (if b then ks ++ k ∷ rest else q ∷ without k (ks ++ k ∷ rest)) ≡ q ∷ (ks ++ rest)) [
   | true ↦ λ g. cc
@@ -104,7 +113,9 @@ filter-append p (q ∷ a) b = elim (p q) as (λ c. (if c then q ∷ filter p (a 
 ]
 
 -- the next key, which stays
-pub filter-kept : (p : Key → Bool) (ks : List Key) (i : ℕ) (k : Key) → i < length ks → k ≡ get_or ks i k → p k ≡ true → filter p (take (i + 1) ks) ++ drop (i + 1) ks ≡ filter p (take i ks) ++ drop i ks
+pub filter-kept : (p : Key → Bool) (ks : List Key) (i : ℕ) (k : Key) → i < length ks
+    → k ≡ get_or ks i k → p k ≡ true
+    → filter p (take (i + 1) ks) ++ drop (i + 1) ks ≡ filter p (take i ks) ++ drop i ks
 filter-kept p ks i k within is fit =
     let at : slice_get ks i ≡ Some k = slice_get-get_or ks i k within ∙ ap (λ x. Some x) (sym is) in
     ap (λ (xs : List Key). filter p xs ++ drop (i + 1) ks) (take-next ks i k at)
@@ -113,7 +124,8 @@ filter-kept p ks i k within is fit =
     ∙ ap (λ (xs : List Key). filter p (take i ks) ++ xs) (sym (drop-next ks i k at))
 
 -- the next key, which is left out
-pub filter-left_out : (p : Key → Bool) (ks : List Key) (i : ℕ) (k : Key) → ascending ks ≡ true → i < length ks → k ≡ get_or ks i k → p k ≡ false
+pub filter-left_out : (p : Key → Bool) (ks : List Key) (i : ℕ) (k : Key) → ascending ks ≡ true
+    → i < length ks → k ≡ get_or ks i k → p k ≡ false
     → filter p (take (i + 1) ks) ++ drop (i + 1) ks ≡ without k (filter p (take i ks) ++ drop i ks)
 filter-left_out p ks i k rising within is unfit =
     let at : slice_get ks i ≡ Some k = slice_get-get_or ks i k within ∙ ap (λ x. Some x) (sym is) in
@@ -127,7 +139,8 @@ pub filter-start : (p : Key → Bool) (ks : List Key) → filter p (take 0 ks) +
 filter-start p [] = refl
 filter-start p (k ∷ ks) = refl
 
-pub filter-end : (p : Key → Bool) (ks : List Key) (i : ℕ) → length ks ≤ i → filter p (take i ks) ++ drop i ks ≡ filter p ks
+pub filter-end : (p : Key → Bool) (ks : List Key) (i : ℕ) → length ks ≤ i
+    → filter p (take i ks) ++ drop i ks ≡ filter p ks
 filter-end p [] zero h = refl
 filter-end p [] (suc i) h = refl
 filter-end p (k ∷ ks) zero h = absurd (omega (arith, h))

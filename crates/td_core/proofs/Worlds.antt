@@ -1,16 +1,23 @@
 -- What holds of a world holds after every step.
-use Rattle.std.proofs.Common.{◌≡◌, ℕ, zero, suc, ◌-◌, Bool, true, false, List, [], ◌∷◌, ◌++◌, Option, Some, None, option_map, unwrap_or, if◌then◌else◌, length, replicate, slice_get, take, drop, not, ◌==◌, ap, refl, sym, subst, ◌∙◌, arith}
+use Rattle.std.proofs.Common.{◌≡◌, ℕ, zero, suc, ◌-◌, Bool, true, false, List, [], ◌∷◌, ◌++◌}
+use Rattle.std.proofs.Common.{Option, Some, None, option_map, unwrap_or, if◌then◌else◌, length}
+use Rattle.std.proofs.Common.{replicate, slice_get, take, drop, not, ◌==◌, ap, refl, sym, subst}
+use Rattle.std.proofs.Common.{◌∙◌, arith}
 use Rattle.std.proofs.lemmas.Bool.Decides.{nat_tests}
 use Rattle.std.proofs.lemmas.List.{length-set, length-replicate}
 use Rattle.td_change.specs.Saved.{number_of}
 use Rattle.td_rows.specs.declared.key.Key.{Key}
 use Rattle.td_rows.specs.declared.row.Row.{Row}
 use Rattle.td_rows.specs.declared.state.State.{State}
-use Rattle.td_rows.specs.declared.state.State.TheVariants.{NeedsBuild, Building, Built, Uploaded, Installed, DepWait, BdUninstallable, BuildAttempted, Failed, NotForUs}
+use Rattle.td_rows.specs.declared.state.State.TheVariants.{NeedsBuild, Building, Built, Uploaded}
+use Rattle.td_rows.specs.declared.state.State.TheVariants.{Installed, DepWait, BdUninstallable}
+use Rattle.td_rows.specs.declared.state.State.TheVariants.{BuildAttempted, Failed, NotForUs}
 use Rattle.td_rows.specs.declared.kind.Kind.{Kind}
-use Rattle.td_rows.specs.declared.kind.Kind.TheVariants.{Claim as Claimed, Outcome as Ended, Arrive as Arrived, Sweep as Swept}
+use Rattle.td_rows.specs.declared.kind.Kind.TheVariants.{Claim as Claimed, Outcome as Ended}
+use Rattle.td_rows.specs.declared.kind.Kind.TheVariants.{Arrive as Arrived, Sweep as Swept}
 use Rattle.td_rows.specs.declared.outcome.Outcome.{Outcome}
-use Rattle.td_rows.specs.declared.outcome.Outcome.TheVariants.{Built as WasBuilt, Attempted, GivenBack, Waits}
+use Rattle.td_rows.specs.declared.outcome.Outcome.TheVariants.{Built as WasBuilt, Attempted}
+use Rattle.td_rows.specs.declared.outcome.Outcome.TheVariants.{GivenBack, Waits}
 use Rattle.td_rows.specs.Blank.{blank}
 use Rattle.td_rows.specs.Cells.{restore}
 use Rattle.td_rows.specs.Keys.{same_key, names, ascending}
@@ -30,13 +37,16 @@ use Rattle.td_journal.specs.IsKeys.{IsKeys}
 use Rattle.td_journal.specs.Journaled.{EachHasKeys}
 use Rattle.td_journal.proofs.Agreeing.{EachHasKeys-push, EachHasKeys-undone_at}
 use Rattle.td_journal.proofs.Commuting.{row_after-append}
-use Rattle.td_journal.proofs.Undoing.{standing-append, standing-at, entry_at-place, LawfulAfter-rest, Lawful-push, Apart-blocker, undo_is_lawful, undo_gives_back, replay-push, replay-none}
+use Rattle.td_journal.proofs.Undoing.{standing-append, standing-at, entry_at-place}
+use Rattle.td_journal.proofs.Undoing.{LawfulAfter-rest, Lawful-push, Apart-blocker, undo_is_lawful}
+use Rattle.td_journal.proofs.Undoing.{undo_gives_back, replay-push, replay-none}
 use Rattle.td_core.specs.declared.step.Phase.{Phase}
 use Rattle.td_core.specs.declared.step.Phase.TheVariants.{Closed, Open, Held, Noted, Done}
 use Rattle.td_core.specs.declared.step.Hand.{Hand}
 use Rattle.td_core.specs.declared.step.Hand.TheVariants.{Free, Holding, Finished}
 use Rattle.td_core.specs.declared.step.Step.{Step}
-use Rattle.td_core.specs.declared.step.Step.TheVariants.{Offer, Withdraw, Claim, Note, Commit, Undo, Finish, Settle, Release, Arrive, Sweep}
+use Rattle.td_core.specs.declared.step.Step.TheVariants.{Offer, Withdraw, Claim, Note, Commit, Undo}
+use Rattle.td_core.specs.declared.step.Step.TheVariants.{Finish, Settle, Release, Arrive, Sweep}
 use Rattle.td_core.specs.declared.step.Refusal.{Refusal}
 use Rattle.td_core.specs.declared.step.Refusal.TheVariants.{NotNoted, NotSettled, DoesNotApply}
 use Rattle.td_core.specs.declared.step.Answer.{Answer}
@@ -44,28 +54,37 @@ use Rattle.td_core.specs.declared.step.Answer.TheVariants.{Refused}
 use Rattle.td_core.specs.History.{History, rows_of, with_entry, without_entry}
 use Rattle.td_core.specs.Phases.{Suits, NoneBuilt}
 use Rattle.td_rows.specs.States.{is_building}
-use Rattle.td_core.specs.Worlds.{WorldView, phase_of, hand_of, with_phase, with_hand, journaled, world_of, InHand, IsWorld}
-use Rattle.td_core.specs.Refusals.{is_queued_at, offer_refusal, withdraw_refusal, claim_refusal, note_refusal, finish_refusal, settle_refusal, release_refusal, arrive_refusal, is_noted_by, is_done_by, are_keys}
-use Rattle.td_core.specs.Steps.{refusal, accepted, noted, settled, finished, swept, swept_now, supply_of, done, answer_to, after}
-use Rattle.td_core.proofs.Phases.{keys_of-rows_of, phase_of-with_phase, phase_of-other, phase_of-absent}
+use Rattle.td_core.specs.Worlds.{WorldView, phase_of, hand_of, with_phase, with_hand, journaled}
+use Rattle.td_core.specs.Worlds.{world_of, InHand, IsWorld}
+use Rattle.td_core.specs.Refusals.{is_queued_at, offer_refusal, withdraw_refusal, claim_refusal}
+use Rattle.td_core.specs.Refusals.{note_refusal, finish_refusal, settle_refusal, release_refusal}
+use Rattle.td_core.specs.Refusals.{arrive_refusal, is_noted_by, is_done_by, are_keys}
+use Rattle.td_core.specs.Steps.{refusal, accepted, noted, settled, finished, swept, swept_now}
+use Rattle.td_core.specs.Steps.{supply_of, done, answer_to, after}
+use Rattle.td_core.proofs.Phases.{keys_of-rows_of, phase_of-with_phase, phase_of-other}
+use Rattle.td_core.proofs.Phases.{phase_of-absent}
 use Rattle.td_core.proofs.Refusing.{Commits, Undoes, commits, undoes, not_refused, not_false}
 use Rattle.td_supply.specs.Supply.{Stock}
 use Rattle.td_core.proofs.Suiting.{suits-command, suits-undone, state-row_after}
 use Rattle.td_core.proofs.Freeing.{suits-arrive, suits-sweep, AppliesOn-freed, ascending-freed}
-use Rattle.td_core.proofs.Hands.{AllInHand, NotHis, InHand-moved, InHand-put, hand_in-put, free-not_his, holding-not_his}
+use Rattle.td_core.proofs.Hands.{AllInHand, NotHis, InHand-moved, InHand-put, hand_in-put}
+use Rattle.td_core.proofs.Hands.{free-not_his, holding-not_his}
 
 -- the rows after one more entry
-pub rows_of-with_entry : (h : History) (e : Entry) → rows_of (with_entry h e) ≡ applied e.kind e.keys (rows_of h)
+pub rows_of-with_entry : (h : History) (e : Entry)
+    → rows_of (with_entry h e) ≡ applied e.kind e.keys (rows_of h)
 rows_of-with_entry h e = ap (replay h.opening) (standing-append h.journal (standing_entry e ∷ [])) ∙ replay-push h.opening (standing h.journal) e
 
 -- a changed row, as it was
-pub found-before : (t : Table) (f : Key → Row → Row) (k : Key) (row : Row) → row_of (each_row f t) k ≡ Some row → (r : Row) × ((row_of t k ≡ Some r) × (f k r ≡ row))
+pub found-before : (t : Table) (f : Key → Row → Row) (k : Key) (row : Row)
+    → row_of (each_row f t) k ≡ Some row → (r : Row) × ((row_of t k ≡ Some r) × (f k r ≡ row))
 found-before t f k row h = at (row_of t k) refl (sym (row_of-each_row f t k) ∙ h)
   where
     same : (a b : Row) → Some a ≡ Some b → a ≡ b
     same a b g = cc
 
-    at : (o : Option Row) → row_of t k ≡ o → option_map (f k) o ≡ Some row → (r : Row) × ((row_of t k ≡ Some r) × (f k r ≡ row))
+    at : (o : Option Row) → row_of t k ≡ o → option_map (f k) o ≡ Some row
+        → (r : Row) × ((row_of t k ≡ Some r) × (f k r ≡ row))
     at None is g = cc
     at (Some r) is g = (r, (is, same (f k r) row g))
 
@@ -74,7 +93,8 @@ pub record IsSuited (w : WorldView) : Type 0 where
   pub rising : ascending (keys_of w.history.opening) ≡ true
   pub lawful : Lawful w.history.opening (standing w.history.journal)
   pub sized : length w.phases ≡ length w.history.opening
-  pub suits : (k : Key) (p : Phase) (row : Row) → phase_of w k ≡ Some p → row_of (rows_of w.history) k ≡ Some row → Suits p row.state
+  pub suits : (k : Key) (p : Phase) (row : Row) → phase_of w k ≡ Some p
+      → row_of (rows_of w.history) k ≡ Some row → Suits p row.state
   pub keys : EachHasKeys w.history.journal
 
 suited : (w : WorldView) → IsWorld w → IsSuited w
@@ -84,7 +104,8 @@ with_hands : (w : WorldView) → IsSuited w → AllInHand w w.hands → IsWorld 
 with_hands w i held = record { rising = i.rising; lawful = i.lawful; sized = i.sized; suits = i.suits; keys = i.keys; held = held }
 
 -- one phase changes, and suits its row
-IsSuited-with_phase : (w : WorldView) (k : Key) (p : Phase) → IsSuited w → ((row : Row) → row_of (rows_of w.history) k ≡ Some row → Suits p row.state) → IsSuited (with_phase w k p)
+IsSuited-with_phase : (w : WorldView) (k : Key) (p : Phase) → IsSuited w → ((row : Row)
+    → row_of (rows_of w.history) k ≡ Some row → Suits p row.state) → IsSuited (with_phase w k p)
 IsSuited-with_phase w k p i suits = record {
   rising = i.rising;
   lawful = i.lawful;
@@ -104,7 +125,9 @@ IsSuited-with_hand : (w : WorldView) (b : ℕ) (h : Hand) → IsSuited w → IsS
 IsSuited-with_hand w b h i = record { rising = i.rising; lawful = i.lawful; sized = i.sized; suits = i.suits; keys = i.keys }
 
 -- a row whose phase says nothing of a hand
-IsWorld-with_phase : (w : WorldView) (k : Key) (p : Phase) → IsWorld w → InHand w.hands k p → ((row : Row) → row_of (rows_of w.history) k ≡ Some row → Suits p row.state) → IsWorld (with_phase w k p)
+IsWorld-with_phase : (w : WorldView) (k : Key) (p : Phase) → IsWorld w → InHand w.hands k p
+    → ((row : Row) → row_of (rows_of w.history) k ≡ Some row → Suits p row.state)
+    → IsWorld (with_phase w k p)
 IsWorld-with_phase w k p i here suits = with_hands (with_phase w k p) (IsSuited-with_phase w k p (suited w i) suits) (InHand-moved w k p w.hands i.sized here (λ q x _ phase. i.held q x phase))
 
 -- the keys of an entry
@@ -115,13 +138,16 @@ are_its_keys : (keys : List Key) → are_keys keys ≡ true → IsKeys keys
 are_its_keys [] are = cc
 are_its_keys (k ∷ keys) are = record { rising = are; some = omega arith }
 
-pub lawful-journaled : (w : WorldView) (kind : Kind) (keys : List Key) → IsWorld w → AppliesOn (rows_of w.history) kind keys → Lawful w.history.opening (standing (journaled w kind keys).history.journal)
+pub lawful-journaled : (w : WorldView) (kind : Kind) (keys : List Key) → IsWorld w
+    → AppliesOn (rows_of w.history) kind keys
+    → Lawful w.history.opening (standing (journaled w kind keys).history.journal)
 lawful-journaled w kind keys i applies =
     let e : Entry = record { kind = kind; keys = keys } in
     subst (Lawful w.history.opening) (sym (standing-append w.history.journal (standing_entry e ∷ []))) (Lawful-push w.history.opening (standing w.history.journal) e i.lawful applies)
 
 -- one more entry, after which the phases of its keys suit their rows
-pub IsWorld-journaled : (w : WorldView) (kind : Kind) (keys : List Key) → IsWorld w → IsKeys keys → AppliesOn (rows_of w.history) kind keys
+pub IsWorld-journaled : (w : WorldView) (kind : Kind) (keys : List Key) → IsWorld w → IsKeys keys
+    → AppliesOn (rows_of w.history) kind keys
     → ((k : Key) (p : Phase) (row : Row) → names keys k ≡ true → phase_of w k ≡ Some p → row_of (rows_of w.history) k ≡ Some row → Suits p (means kind row).state) → IsWorld (journaled w kind keys)
 IsWorld-journaled w kind keys i are applies suits = record {
   rising = i.rising;
@@ -138,7 +164,8 @@ IsWorld-journaled w kind keys i are applies suits = record {
 }
 
 -- one more entry on one key, whose row's phase changes with it
-pub IsWorld-moved : (w : WorldView) (kind : Kind) (k : Key) (p : Phase) → IsWorld w → AppliesOn (rows_of w.history) kind (k ∷ []) → InHand w.hands k p
+pub IsWorld-moved : (w : WorldView) (kind : Kind) (k : Key) (p : Phase) → IsWorld w
+    → AppliesOn (rows_of w.history) kind (k ∷ []) → InHand w.hands k p
     → ((row : Row) → row_of (rows_of w.history) k ≡ Some row → Suits p (means kind row).state) → IsWorld (with_phase (journaled w kind (k ∷ [])) k p)
 IsWorld-moved w kind k p i applies here suits = record {
   rising = i.rising;
@@ -158,16 +185,20 @@ IsWorld-moved w kind k p i applies here suits = record {
 }
 
 -- a commit that isn't refused
-pub IsWorld-commit : (w : WorldView) (kind : Kind) (keys : List Key) → IsWorld w → Commits w kind keys → IsWorld (journaled w kind keys)
+pub IsWorld-commit : (w : WorldView) (kind : Kind) (keys : List Key) → IsWorld w
+    → Commits w kind keys → IsWorld (journaled w kind keys)
 IsWorld-commit w kind keys i c = IsWorld-journaled w kind keys i (are_its_keys keys c.are) c.applies (λ k p row named phase found.
     suits-command kind p row c.command (applies-fits (rows_of w.history) kind k row found (c.applies k named)) (c.pinned k p named phase) (i.suits k p row phase found))
 
 -- what is known of the entry that is undone, at one of its keys
 pub record Undone (o : Table) (ms : List Marked) (n : ℕ) (m : Marked) (k : Key) (now : Row) : Type 0 where
   pub applies : applies m.entry.kind (row_at (rows_before o ms n) k) ≡ true
-  pub state : (cells m.entry.kind).state ≡ true → now.state ≡ (means m.entry.kind (row_at (rows_before o ms n) k)).state
+  pub state : (cells m.entry.kind).state ≡ true
+      → now.state ≡ (means m.entry.kind (row_at (rows_before o ms n) k)).state
 
-pub undone-at : (w : WorldView) (n : ℕ) (k : Key) (now : Row) → IsWorld w → (u : Undoes w n) → names u.stands.marked.entry.keys k ≡ true → row_of (rows_of w.history) k ≡ Some now → Undone w.history.opening w.history.journal n u.stands.marked k now
+pub undone-at : (w : WorldView) (n : ℕ) (k : Key) (now : Row) → IsWorld w → (u : Undoes w n)
+    → names u.stands.marked.entry.keys k ≡ true → row_of (rows_of w.history) k ≡ Some now
+    → Undone w.history.opening w.history.journal n u.stands.marked k now
 undone-at w n k now i u named found =
     let o = w.history.opening in
     let ms = w.history.journal in
@@ -192,7 +223,10 @@ undone-at w n k now i u named found =
     }
 
 -- an undo that isn't refused
-pub IsWorld-undo : (w : WorldView) (n : ℕ) → IsWorld w → Undoes w n → IsWorld (record w { history = without_entry w.history n })
+pub IsWorld-undo : (w : WorldView) (n : ℕ) → IsWorld w → Undoes w n → IsWorld (record w {
+  history =
+      without_entry w.history n;
+})
 IsWorld-undo w n i u =
     let o = w.history.opening in
     let ms = w.history.journal in
@@ -216,15 +250,18 @@ IsWorld-undo w n i u =
     }
 
 -- a row with a phase is there
-pub row-there : (w : WorldView) (k : Key) (p : Phase) → IsWorld w → phase_of w k ≡ Some p → (row : Row) × (row_of (rows_of w.history) k ≡ Some row)
+pub row-there : (w : WorldView) (k : Key) (p : Phase) → IsWorld w → phase_of w k ≡ Some p
+    → (row : Row) × (row_of (rows_of w.history) k ≡ Some row)
 row-there w k p i phase = at (row_of (rows_of w.history) k) refl
   where
-    at : (o : Option Row) → row_of (rows_of w.history) k ≡ o → (row : Row) × (row_of (rows_of w.history) k ≡ Some row)
+    at : (o : Option Row) → row_of (rows_of w.history) k ≡ o
+        → (row : Row) × (row_of (rows_of w.history) k ≡ Some row)
     at (Some row) is = (row, is)
     at None is = absurd (let none = sym phase ∙ phase_of-absent w k i is in cc)
 
 -- a kind that applies on the row of the one key
-pub AppliesOn-one : (t : Table) (kind : Kind) (k : Key) (row : Row) → row_of t k ≡ Some row → applies kind row ≡ true → AppliesOn t kind (k ∷ [])
+pub AppliesOn-one : (t : Table) (kind : Kind) (k : Key) (row : Row) → row_of t k ≡ Some row
+    → applies kind row ≡ true → AppliesOn t kind (k ∷ [])
 AppliesOn-one t kind k row found fit q named = elim (same_key q k) as (λ b. same_key q k ≡ b → (if b then true else false) ≡ true → fits t kind q ≡ true) [
   | true ↦ λ is _. ap (fits t kind) (same_key-true q k is) ∙ ap (λ (o : Option Row). elim o as (λ _. Bool) [ Some r ↦ applies kind r | None ↦ false ]) found ∙ fit
   | false ↦ λ _ h. cc
@@ -265,7 +302,8 @@ withdraws (Some (Held b)) h = cc
 withdraws (Some (Noted b)) h = cc
 withdraws (Some (Done b o)) h = cc
 
-pub claims : (h : Option Hand) (p : Option Phase) → claim_refusal h p ≡ None → (h ≡ Some Free) × (p ≡ Some Open)
+pub claims : (h : Option Hand) (p : Option Phase) → claim_refusal h p ≡ None
+    → (h ≡ Some Free) × (p ≡ Some Open)
 claims None None e = cc
 claims (Some h) None e = cc
 claims None (Some p) e = cc
@@ -285,7 +323,8 @@ notes (Some (Held b)) h = (b, refl)
 notes (Some (Noted b)) h = cc
 notes (Some (Done b o)) h = cc
 
-pub settles : (p : Option Phase) → settle_refusal p ≡ None → (b : ℕ) × ((o : Outcome) × (p ≡ Some (Done b o)))
+pub settles : (p : Option Phase) → settle_refusal p ≡ None
+    → (b : ℕ) × ((o : Outcome) × (p ≡ Some (Done b o)))
 settles None h = cc
 settles (Some Closed) h = cc
 settles (Some Open) h = cc
@@ -301,13 +340,15 @@ noted_by b (Some (Held c)) h = cc
 noted_by b (Some (Noted c)) h = ap (λ (x : ℕ). Some (Noted x)) (sym (same_number b c h))
 noted_by b (Some (Done c o)) h = cc
 
-pub finishes : (w : WorldView) (b : ℕ) (h : Option Hand) → finish_refusal w b h ≡ None → (k : Key) × ((h ≡ Some (Holding k)) × (phase_of w k ≡ Some (Noted b)))
+pub finishes : (w : WorldView) (b : ℕ) (h : Option Hand) → finish_refusal w b h ≡ None
+    → (k : Key) × ((h ≡ Some (Holding k)) × (phase_of w k ≡ Some (Noted b)))
 finishes w b None e = cc
 finishes w b (Some Free) e = cc
 finishes w b (Some (Finished k o)) e = cc
 finishes w b (Some (Holding k)) e = (k, (refl, noted_by b (phase_of w k) (not_false (is_noted_by b (phase_of w k)) (not_refused (not (is_noted_by b (phase_of w k))) NotNoted None e).0)))
 
-pub releases : (w : WorldView) (b : ℕ) (h : Option Hand) → release_refusal w b h ≡ None → (k : Key) × ((o : Outcome) × ((h ≡ Some (Finished k o)) × (is_done_by b (phase_of w k) ≡ false)))
+pub releases : (w : WorldView) (b : ℕ) (h : Option Hand) → release_refusal w b h ≡ None → (k : Key)
+    × ((o : Outcome) × ((h ≡ Some (Finished k o)) × (is_done_by b (phase_of w k) ≡ false)))
 releases w b None e = cc
 releases w b (Some Free) e = cc
 releases w b (Some (Holding k)) e = cc
@@ -319,33 +360,42 @@ idle-ended b Attempted row = refl
 idle-ended b GivenBack row = refl
 idle-ended b (Waits t) row = refl
 
-IsWorld-offer : (w : WorldView) (k : Key) → IsWorld w → refusal w (Offer k) ≡ None → IsWorld (accepted w (Offer k))
+IsWorld-offer : (w : WorldView) (k : Key) → IsWorld w → refusal w (Offer k) ≡ None
+    → IsWorld (accepted w (Offer k))
 IsWorld-offer w k i none = IsWorld-with_phase w k Open i tt (λ row found.
     queued-state row.state (sym (ap (λ (o : Option Row). elim o as (λ _. Bool) [ Some r ↦ is_queued r.state | None ↦ false ]) found) ∙ offers (is_queued_at (rows_of w.history) k) (phase_of w k) none))
 
-IsWorld-withdraw : (w : WorldView) (k : Key) → IsWorld w → refusal w (Withdraw k) ≡ None → IsWorld (accepted w (Withdraw k))
+IsWorld-withdraw : (w : WorldView) (k : Key) → IsWorld w → refusal w (Withdraw k) ≡ None
+    → IsWorld (accepted w (Withdraw k))
 IsWorld-withdraw w k i none = IsWorld-with_phase w k Closed i tt (λ row found. ap is_building (i.suits k Open row (withdraws (phase_of w k) none) found))
 
-IsWorld-claim : (w : WorldView) (b : ℕ) (k : Key) → IsWorld w → refusal w (Claim b k) ≡ None → IsWorld (accepted w (Claim b k))
+IsWorld-claim : (w : WorldView) (b : ℕ) (k : Key) → IsWorld w → refusal w (Claim b k) ≡ None
+    → IsWorld (accepted w (Claim b k))
 IsWorld-claim w b k i none =
     let c = claims (hand_of w b) (phase_of w k) none in
     let here = hand_in-put w.hands b Free (Holding k) c.0 in
     with_hands (accepted w (Claim b k)) (IsSuited-with_hand (with_phase w k (Held b)) b (Holding k) (IsSuited-with_phase w k (Held b) (suited w i) (λ row found. i.suits k Open row c.1 found)))
     (InHand-moved w k (Held b) _ i.sized here (λ q x _ phase. InHand-put w.hands b Free (Holding k) q x c.0 (free-not_his b q x) (i.held q x phase)))
 
-pub IsWorld-noted : (w : WorldView) (k : Key) (b : ℕ) → IsWorld w → phase_of w k ≡ Some (Held b) → AppliesOn (rows_of w.history) (Claimed b) (k ∷ []) × IsWorld (with_phase (journaled w (Claimed b) (k ∷ [])) k (Noted b))
+pub IsWorld-noted : (w : WorldView) (k : Key) (b : ℕ) → IsWorld w → phase_of w k ≡ Some (Held b)
+    → AppliesOn (rows_of w.history) (Claimed b) (k ∷ [])
+    × IsWorld (with_phase (journaled w (Claimed b) (k ∷ [])) k (Noted b))
 IsWorld-noted w k b i phase =
     let row = row-there w k (Held b) i phase in
     let applies = AppliesOn-one (rows_of w.history) (Claimed b) k row.0 row.1 (ap is_queued (i.suits k (Held b) row.0 phase row.1)) in
     (applies, IsWorld-moved w (Claimed b) k (Noted b) i applies (i.held k (Held b) phase) (λ r found. refl))
 
-pub IsWorld-settled : (w : WorldView) (k : Key) (b : ℕ) (o : Outcome) → IsWorld w → phase_of w k ≡ Some (Done b o) → AppliesOn (rows_of w.history) (Ended b o) (k ∷ []) × IsWorld (with_phase (journaled w (Ended b o) (k ∷ [])) k Closed)
+pub IsWorld-settled : (w : WorldView) (k : Key) (b : ℕ) (o : Outcome) → IsWorld w
+    → phase_of w k ≡ Some (Done b o) → AppliesOn (rows_of w.history) (Ended b o) (k ∷ [])
+    × IsWorld (with_phase (journaled w (Ended b o) (k ∷ [])) k Closed)
 IsWorld-settled w k b o i phase =
     let row = row-there w k (Done b o) i phase in
     let applies = AppliesOn-one (rows_of w.history) (Ended b o) k row.0 row.1 (ap (is_building_by b) (i.suits k (Done b o) row.0 phase row.1) ∙ same_itself b) in
     (applies, IsWorld-moved w (Ended b o) k Closed i applies tt (λ r found. idle-ended b o r))
 
-pub IsWorld-finished : (w : WorldView) (b : ℕ) (o : Outcome) (k : Key) → IsWorld w → hand_of w b ≡ Some (Holding k) → phase_of w k ≡ Some (Noted b) → IsWorld (with_hand (with_phase w k (Done b o)) b (Finished k o))
+pub IsWorld-finished : (w : WorldView) (b : ℕ) (o : Outcome) (k : Key) → IsWorld w
+    → hand_of w b ≡ Some (Holding k) → phase_of w k ≡ Some (Noted b)
+    → IsWorld (with_hand (with_phase w k (Done b o)) b (Finished k o))
 IsWorld-finished w b o k i hand phase =
     let here = hand_in-put w.hands b (Holding k) (Finished k o) hand in
     with_hands (with_hand (with_phase w k (Done b o)) b (Finished k o))
@@ -353,7 +403,8 @@ IsWorld-finished w b o k i hand phase =
     (InHand-moved w k (Done b o) _ i.sized here (λ q x is there. InHand-put w.hands b (Holding k) (Finished k o) q x hand (holding-not_his b k q x is) (i.held q x there)))
 
 -- the ended build that its builder lets go of is settled, or another's
-let_go : (w : WorldView) (b : ℕ) (k q : Key) (o : Outcome) (p : Phase) → is_done_by b (phase_of w k) ≡ false → phase_of w q ≡ Some p → NotHis b (Finished k o) q p
+let_go : (w : WorldView) (b : ℕ) (k q : Key) (o : Outcome) (p : Phase)
+    → is_done_by b (phase_of w k) ≡ false → phase_of w q ≡ Some p → NotHis b (Finished k o) q p
 let_go w b k q o p settled there = record {
   held = λ e. cc;
   ended = λ x is e.
@@ -363,7 +414,8 @@ let_go w b k q o p settled there = record {
       (let no = sym yes ∙ settled in cc);
 }
 
-IsWorld-release : (w : WorldView) (b : ℕ) → IsWorld w → refusal w (Release b) ≡ None → IsWorld (accepted w (Release b))
+IsWorld-release : (w : WorldView) (b : ℕ) → IsWorld w → refusal w (Release b) ≡ None
+    → IsWorld (accepted w (Release b))
 IsWorld-release w b i none =
     let r = releases w b (hand_of w b) none in
     let k = r.0 in
@@ -371,30 +423,37 @@ IsWorld-release w b i none =
     with_hands (with_hand w b Free) (IsSuited-with_hand w b Free (suited w i))
     (λ q p phase. InHand-put w.hands b (Finished k o) Free q p r.1.1.0 (let_go w b k q o p r.1.1.1 phase) (i.held q p phase))
 
-pub arrives : (k : Key) (o : Option Row) → arrive_refusal k o ≡ None → (row : Row) × ((o ≡ Some row) × (applies Arrived row ≡ true))
+pub arrives : (k : Key) (o : Option Row) → arrive_refusal k o ≡ None
+    → (row : Row) × ((o ≡ Some row) × (applies Arrived row ≡ true))
 arrives k None h = cc
 arrives k (Some row) h = (row, (refl, not_false (applies Arrived row) (not_refused (not (applies Arrived row)) (DoesNotApply k) None h).0))
 
-pub IsWorld-arrived : (w : WorldView) (k : Key) (row : Row) → IsWorld w → row_of (rows_of w.history) k ≡ Some row → applies Arrived row ≡ true → AppliesOn (rows_of w.history) Arrived (k ∷ []) × IsWorld (journaled w Arrived (k ∷ []))
+pub IsWorld-arrived : (w : WorldView) (k : Key) (row : Row) → IsWorld w
+    → row_of (rows_of w.history) k ≡ Some row → applies Arrived row ≡ true
+    → AppliesOn (rows_of w.history) Arrived (k ∷ []) × IsWorld (journaled w Arrived (k ∷ []))
 IsWorld-arrived w k row i found fit =
     let applies = AppliesOn-one (rows_of w.history) Arrived k row found fit in
     (applies, IsWorld-journaled w Arrived (k ∷ []) i (one_key k) applies (λ q p r named phase there. suits-arrive p r.state (applies-fits (rows_of w.history) Arrived q r there (applies q named)) (i.suits q p r phase there)))
 
-pub IsWorld-swept : (w : WorldView) (keys : List Key) → IsWorld w → IsKeys keys → AppliesOn (rows_of w.history) Swept keys → IsWorld (journaled w Swept keys)
+pub IsWorld-swept : (w : WorldView) (keys : List Key) → IsWorld w → IsKeys keys
+    → AppliesOn (rows_of w.history) Swept keys → IsWorld (journaled w Swept keys)
 IsWorld-swept w keys i are applies = IsWorld-journaled w Swept keys i are applies (λ q p r named phase there. suits-sweep p r.state (applies-fits (rows_of w.history) Swept q r there (applies q named)) (i.suits q p r phase there))
 
-pub AppliesOn-swept_now : (w : WorldView) → IsWorld w → AppliesOn (rows_of w.history) Swept (swept_now w)
+pub AppliesOn-swept_now : (w : WorldView) → IsWorld w
+    → AppliesOn (rows_of w.history) Swept (swept_now w)
 AppliesOn-swept_now w i = AppliesOn-freed (supply_of w) (rows_of w.history) (ap ascending (keys_of-rows_of w.history) ∙ i.rising)
 
 pub rising-swept_now : (w : WorldView) → IsWorld w → ascending (swept_now w) ≡ true
 rising-swept_now w i = ascending-freed (supply_of w) (rows_of w.history) (ap ascending (keys_of-rows_of w.history) ∙ i.rising)
 
-IsWorld-sweep : (w : WorldView) (keys : List Key) → IsWorld w → ascending keys ≡ true → AppliesOn (rows_of w.history) Swept keys → IsWorld (swept w keys)
+IsWorld-sweep : (w : WorldView) (keys : List Key) → IsWorld w → ascending keys ≡ true
+    → AppliesOn (rows_of w.history) Swept keys → IsWorld (swept w keys)
 IsWorld-sweep w [] i rising applies = i
 IsWorld-sweep w (k ∷ keys) i rising applies = IsWorld-swept w (k ∷ keys) i (record { rising = rising; some = omega arith }) applies
 
 -- each step that isn't refused
-pub IsWorld-accepted : (w : WorldView) (s : Step) → IsWorld w → refusal w s ≡ None → IsWorld (accepted w s)
+pub IsWorld-accepted : (w : WorldView) (s : Step) → IsWorld w → refusal w s ≡ None
+    → IsWorld (accepted w s)
 IsWorld-accepted w (Offer k) i none = IsWorld-offer w k i none
 IsWorld-accepted w (Withdraw k) i none = IsWorld-withdraw w k i none
 IsWorld-accepted w (Claim b k) i none = IsWorld-claim w b k i none
@@ -422,14 +481,16 @@ IsWorld-after w s i = elim (refusal w s) as (λ r. refusal w s ≡ r → IsWorld
   | None ↦ λ none. IsWorld-accepted w s i none
 ] refl
 
-slice_get-replicate : {A : Type 0} (n i : ℕ) (x y : A) → slice_get (replicate n x) i ≡ Some y → y ≡ x
+slice_get-replicate : {A : Type 0} (n i : ℕ) (x y : A) → slice_get (replicate n x) i ≡ Some y
+    → y ≡ x
 slice_get-replicate zero zero x y h = cc
 slice_get-replicate zero (suc i) x y h = cc
 slice_get-replicate (suc n) zero x y h = cc
 slice_get-replicate (suc n) (suc i) x y h = slice_get-replicate n i x y h
 
 -- the world at its opening
-pub IsWorld-open : (t : Table) (s : Stock) (builders : ℕ) → ascending (keys_of t) ≡ true → NoneBuilt t → IsWorld (world_of t s builders)
+pub IsWorld-open : (t : Table) (s : Stock) (builders : ℕ) → ascending (keys_of t) ≡ true
+    → NoneBuilt t → IsWorld (world_of t s builders)
 IsWorld-open t s builders rising idle = record {
   rising = rising;
   lawful = tt;
@@ -441,7 +502,8 @@ IsWorld-open t s builders rising idle = record {
   held = λ k p phase. subst (InHand (replicate builders Free) k) (sym (slice_get-replicate (length t) (number_of t k) Closed p phase)) tt;
 }
 
-pub answer_to-refused : (w : WorldView) (s : Step) (r : Refusal) → refusal w s ≡ Some r → answer_to w s ≡ Refused r
+pub answer_to-refused : (w : WorldView) (s : Step) (r : Refusal) → refusal w s ≡ Some r
+    → answer_to w s ≡ Refused r
 answer_to-refused w s r h = ap (λ (x : Option Refusal). elim x as (λ _. Answer) [ Some y ↦ Refused y | None ↦ done w s ]) h
 
 pub after-refused : (w : WorldView) (s : Step) (r : Refusal) → refusal w s ≡ Some r → after w s ≡ w
@@ -454,5 +516,7 @@ pub after-accepted : (w : WorldView) (s : Step) → refusal w s ≡ None → aft
 after-accepted w s h = ap (λ (x : Option Refusal). elim x as (λ _. WorldView) [ Some y ↦ w | None ↦ accepted w s ]) h
 
 -- a build that its builder ends
-pub after-finish : (w v : WorldView) (b : ℕ) (o : Outcome) (k : Key) → w ≡ v → refusal v (Finish b o) ≡ None → hand_of w b ≡ Some (Holding k) → with_hand (with_phase w k (Done b o)) b (Finished k o) ≡ after v (Finish b o)
+pub after-finish : (w v : WorldView) (b : ℕ) (o : Outcome) (k : Key) → w ≡ v
+    → refusal v (Finish b o) ≡ None → hand_of w b ≡ Some (Holding k)
+    → with_hand (with_phase w k (Done b o)) b (Finished k o) ≡ after v (Finish b o)
 after-finish w v b o k same none hand = ap (finished w b o) (sym hand) ∙ (λ j. finished (same j) b o (hand_of (same j) b)) ∙ sym (after-accepted v (Finish b o) none)

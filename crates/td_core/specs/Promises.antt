@@ -1,5 +1,6 @@
 -- What holds over every list of steps. This project's own.
-use Rattle.std.specs.Prelude.{◌≡◌, ◌↔◌, ◌≤◌, ℕ, ◌+◌, Bool, true, false, ◌==◌, ◌&&◌, ◌||◌, List, [], ◌∷◌, ◌++◌, map, length, Option, Some, None, is_none, option_to_list}
+use Rattle.std.specs.Prelude.{◌≡◌, ◌↔◌, ◌≤◌, ℕ, ◌+◌, Bool, true, false, ◌==◌, ◌&&◌, ◌||◌, List, []}
+use Rattle.std.specs.Prelude.{◌∷◌, ◌++◌, map, length, Option, Some, None, is_none, option_to_list}
 use Rattle.td_rows.specs.declared.key.Key.{Key}
 use Rattle.td_rows.specs.declared.row.Row.{Row}
 use Rattle.td_rows.specs.declared.state.State.TheVariants.{NeedsBuild, Building}
@@ -28,11 +29,14 @@ use Rattle.td_core.specs.Steps.{refusal, answer_to, after, after_all, supply_of,
 
 -- from an opening in which no row is built, every list of steps leads to a sound world
 abbrev pub EveryWorld : Type 0
-EveryWorld = (t : Table) (s : Stock) (builders : ℕ) (steps : List Step) → ascending (keys_of t) ≡ true → NoneBuilt t → IsWorld (after_all (world_of t s builders) steps)
+EveryWorld = (t : Table) (s : Stock) (builders : ℕ) (steps : List Step)
+    → ascending (keys_of t) ≡ true → NoneBuilt t → IsWorld (after_all (world_of t s builders) steps)
 
 -- an offered or held row needs a build
 abbrev pub OfferedRowsWait : Type 0
-OfferedRowsWait = (w : WorldView) (k : Key) (p : Phase) (row : Row) → IsWorld w → phase_of w k ≡ Some p → row_of (rows_of w.history) k ≡ Some row → is_pinned p ≡ false → row.state ≡ NeedsBuild
+OfferedRowsWait = (w : WorldView) (k : Key) (p : Phase) (row : Row) → IsWorld w
+    → phase_of w k ≡ Some p → row_of (rows_of w.history) k ≡ Some row → is_pinned p ≡ false
+    → row.state ≡ NeedsBuild
 
 -- whether the journal knows that the builder claimed the row, and not yet how its build ended
 abbrev pub is_known_by : ℕ → Phase → Bool
@@ -42,11 +46,14 @@ is_known_by b p = false
 
 -- a row is built by a builder exactly there
 abbrev pub BuiltExactly : Type 0
-BuiltExactly = (w : WorldView) (k : Key) (p : Phase) (row : Row) (b : ℕ) → IsWorld w → phase_of w k ≡ Some p → row_of (rows_of w.history) k ≡ Some row → (row.state ≡ Building b) ↔ (is_known_by b p ≡ true)
+BuiltExactly = (w : WorldView) (k : Key) (p : Phase) (row : Row) (b : ℕ) → IsWorld w
+    → phase_of w k ≡ Some p → row_of (rows_of w.history) k ≡ Some row
+    → (row.state ≡ Building b) ↔ (is_known_by b p ≡ true)
 
 -- who has a row has it in hand
 abbrev pub HandsFollow : Type 0
-HandsFollow = (w : WorldView) (k : Key) (p : Phase) → IsWorld w → phase_of w k ≡ Some p → InHand w.hands k p
+HandsFollow = (w : WorldView) (k : Key) (p : Phase) → IsWorld w → phase_of w k ≡ Some p
+    → InHand w.hands k p
 
 -- the builder who has a row in the phase
 abbrev pub builder_in : Phase → Option ℕ
@@ -57,17 +64,22 @@ builder_in p = None
 
 -- it is one of the world's, which have the numbers from 1 on
 abbrev pub BuildersAreThere : Type 0
-BuildersAreThere = (w : WorldView) (k : Key) (p : Phase) (b : ℕ) → IsWorld w → phase_of w k ≡ Some p → builder_in p ≡ Some b → (1 ≤ b) × (b ≤ length w.hands)
+BuildersAreThere = (w : WorldView) (k : Key) (p : Phase) (b : ℕ) → IsWorld w → phase_of w k ≡ Some p
+    → builder_in p ≡ Some b → (1 ≤ b) × (b ≤ length w.hands)
 
 -- the keys of each entry rise, and there is one at least
 abbrev pub EntriesRise : Type 0
-EntriesRise = (w : WorldView) (n : ℕ) (m : Marked) → IsWorld w → entry_at w.history.journal n ≡ Some m → IsKeys m.entry.keys
+EntriesRise = (w : WorldView) (n : ℕ) (m : Marked) → IsWorld w
+    → entry_at w.history.journal n ≡ Some m → IsKeys m.entry.keys
 
 -- a command followed at once by its undo: the undo is accepted, and each row is as it was
 abbrev pub UndoneAtOnce : Type 0
-UndoneAtOnce = (w : WorldView) (kind : Kind) (keys : List Key) → refusal w (Commit kind keys) ≡ None →
-    (answer_to (after w (Commit kind keys)) (Undo (length w.history.journal + 1)) ≡ Undone (length w.history.journal + 1))
-    × (rows_of (after (after w (Commit kind keys)) (Undo (length w.history.journal + 1))).history ≡ rows_of w.history)
+UndoneAtOnce = (w : WorldView) (kind : Kind) (keys : List Key)
+    → refusal w (Commit kind keys) ≡ None →
+    (answer_to (after w (Commit kind keys)) (Undo (length w.history.journal + 1))
+    ≡ Undone (length w.history.journal + 1))
+    × (rows_of (after (after w (Commit kind keys)) (Undo (length w.history.journal + 1))).history
+    ≡ rows_of w.history)
 
 -- entry n stands and is a command
 pub record StandingCommand (w : WorldView) (n : ℕ) (m : Marked) : Type 0 where
@@ -77,11 +89,14 @@ pub record StandingCommand (w : WorldView) (n : ℕ) (m : Marked) : Type 0 where
 
 -- its undo names an entry exactly where that is its blocker
 abbrev pub BlockedExactly : Type 0
-BlockedExactly = (w : WorldView) (n : ℕ) (m : Marked) (b : ℕ) → StandingCommand w n m → (answer_to w (Undo n) ≡ Refused (Blocked b)) ↔ (blocker w.history.journal n ≡ Some b)
+BlockedExactly = (w : WorldView) (n : ℕ) (m : Marked) (b : ℕ) → StandingCommand w n m
+    → (answer_to w (Undo n) ≡ Refused (Blocked b)) ↔ (blocker w.history.journal n ≡ Some b)
 
 -- without a blocker, and with the rows pinned of which it has the state, it is accepted
 abbrev pub UndoneElse : Type 0
-UndoneElse = (w : WorldView) (n : ℕ) (m : Marked) → StandingCommand w n m → blocker w.history.journal n ≡ None → first_unpinned w m.entry.kind m.entry.keys ≡ None → answer_to w (Undo n) ≡ Undone n
+UndoneElse = (w : WorldView) (n : ℕ) (m : Marked) → StandingCommand w n m
+    → blocker w.history.journal n ≡ None → first_unpinned w m.entry.kind m.entry.keys ≡ None
+    → answer_to w (Undo n) ≡ Undone n
 
 -- the entries of a world, without their marks
 abbrev pub entries_of : WorldView → List Entry
@@ -98,13 +113,16 @@ pub record IsUndone (w v : WorldView) (n : ℕ) (m : Marked) : Type 0 where
   pub command : is_command m.entry.kind ≡ true
   pub undone : entry_at v.history.journal n ≡ Some (record m { mark = Dropped })
 
--- a step leaves the opening rows and the entries and appends one entry at most; the marks stay, but for that of the entry that it undoes
+-- a step leaves the opening rows and the entries and appends one entry at most;
+-- the marks stay, but for that of the entry that it undoes
 pub record Stays (w : WorldView) (s : Step) (v : WorldView) : Type 0 where
   pub opening : v.history.opening ≡ w.history.opening
   pub added : Option Entry
   pub entries : entries_of v ≡ entries_of w ++ option_to_list added
-  pub marks : (n : ℕ) (m : Marked) → entry_at w.history.journal n ≡ Some m → undoes w s n ≡ false → entry_at v.history.journal n ≡ Some m
-  pub undone : (n : ℕ) (m : Marked) → entry_at w.history.journal n ≡ Some m → undoes w s n ≡ true → IsUndone w v n m
+  pub marks : (n : ℕ) (m : Marked) → entry_at w.history.journal n ≡ Some m → undoes w s n ≡ false
+      → entry_at v.history.journal n ≡ Some m
+  pub undone : (n : ℕ) (m : Marked) → entry_at w.history.journal n ≡ Some m → undoes w s n ≡ true
+      → IsUndone w v n m
 
 abbrev pub EntriesStay : Type 0
 EntriesStay = (w : WorldView) (s : Step) → Stays w s (after w s)
@@ -120,8 +138,10 @@ pub record StaysAmong (w : WorldView) (steps : List Step) (v : WorldView) : Type
   pub added : List Entry
   pub few : length added ≤ length steps
   pub entries : entries_of v ≡ entries_of w ++ added
-  pub marks : (n : ℕ) (m : Marked) → entry_at w.history.journal n ≡ Some m → undoes_among w steps n ≡ false → entry_at v.history.journal n ≡ Some m
-  pub undone : (n : ℕ) (m : Marked) → entry_at w.history.journal n ≡ Some m → undoes_among w steps n ≡ true → IsUndone w v n m
+  pub marks : (n : ℕ) (m : Marked) → entry_at w.history.journal n ≡ Some m
+      → undoes_among w steps n ≡ false → entry_at v.history.journal n ≡ Some m
+  pub undone : (n : ℕ) (m : Marked) → entry_at w.history.journal n ≡ Some m
+      → undoes_among w steps n ≡ true → IsUndone w v n m
 
 abbrev pub EntriesStayAmong : Type 0
 EntriesStayAmong = (w : WorldView) (steps : List Step) → StaysAmong w steps (after_all w steps)
@@ -137,8 +157,11 @@ OffersStay = (w : WorldView) (s : Step) → is_arrive s ≡ false → supply_of 
 
 -- an arrival offers the builds of its key with the number that the key's row has
 abbrev pub ArrivalsAreOffered : Type 0
-ArrivalsAreOffered = (w : WorldView) (k : Key) → refusal w (Arrive k) ≡ None → supply_of (after w (Arrive k)) ≡ arrived (supply_of w) k.source k.arch (number_in (rows_of w.history) k)
+ArrivalsAreOffered = (w : WorldView) (k : Key) → refusal w (Arrive k) ≡ None → supply_of
+    (after w (Arrive k)) ≡ arrived (supply_of w) k.source k.arch (number_in (rows_of w.history) k)
 
--- a sweep frees a row exactly where it waits for what the offers meet, and they meet what its rebuild needs beside it
+-- a sweep frees a row exactly where it waits for what the offers meet,
+-- and they meet what its rebuild needs beside it
 abbrev pub SweptExactly : Type 0
-SweptExactly = (w : WorldView) (k : Key) (row : Row) → IsWorld w → row_of (rows_of w.history) k ≡ Some row → (names (swept_now w) k ≡ true) ↔ (is_freed (supply_of w) (k, row) ≡ true)
+SweptExactly = (w : WorldView) (k : Key) (row : Row) → IsWorld w → row_of (rows_of w.history) k
+    ≡ Some row → (names (swept_now w) k ≡ true) ↔ (is_freed (supply_of w) (k, row) ≡ true)

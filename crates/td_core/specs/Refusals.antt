@@ -1,5 +1,7 @@
--- Why a step is refused: its tests in order, each over all keys before the next. This project's own.
-use Rattle.std.specs.Prelude.{ℕ, Bool, false, not, List, [], ◌∷◌, Option, Some, None, is_none, find, if◌then◌else◌}
+-- Why a step is refused: its tests in order, each over all keys before the next.
+-- This project's own.
+use Rattle.std.specs.Prelude.{ℕ, Bool, false, not, List, [], ◌∷◌, Option, Some, None, is_none, find}
+use Rattle.std.specs.Prelude.{if◌then◌else◌}
 use Rattle.std.specs.Bool.{◌==◌}
 use Rattle.td_rows.specs.declared.key.Key.{Key}
 use Rattle.td_rows.specs.declared.kind.Kind.{Kind}
@@ -20,7 +22,13 @@ use Rattle.td_core.specs.declared.step.Phase.TheVariants.{Closed, Open, Held, No
 use Rattle.td_core.specs.declared.step.Hand.{Hand}
 use Rattle.td_core.specs.declared.step.Hand.TheVariants.{Free, Holding, Finished}
 use Rattle.td_core.specs.declared.step.Refusal.{Refusal}
-use Rattle.td_core.specs.declared.step.Refusal.TheVariants.{NoSuchRow, NotClosed, NotQueued, NotOpen, NoSuchBuilder, NotFree, NotHeld, NotACommand, NoKeys, DoesNotApply, NotPinned, NoSuchEntry, AlreadyUndone, Blocked, NothingHeld, NotNoted, NotDone, NotFinished, NotSettled}
+use Rattle.td_core.specs.declared.step.Refusal.TheVariants.{NoSuchRow, NotClosed, NotQueued}
+use Rattle.td_core.specs.declared.step.Refusal.TheVariants.{NotOpen, NoSuchBuilder, NotFree}
+use Rattle.td_core.specs.declared.step.Refusal.TheVariants.{NotHeld, NotACommand, NoKeys}
+use Rattle.td_core.specs.declared.step.Refusal.TheVariants.{DoesNotApply, NotPinned, NoSuchEntry}
+use Rattle.td_core.specs.declared.step.Refusal.TheVariants.{AlreadyUndone, Blocked, NothingHeld}
+use Rattle.td_core.specs.declared.step.Refusal.TheVariants.{NotNoted, NotDone, NotFinished}
+use Rattle.td_core.specs.declared.step.Refusal.TheVariants.{NotSettled}
 use Rattle.td_core.specs.History.{rows_of}
 use Rattle.td_core.specs.Phases.{is_pinned}
 use Rattle.td_core.specs.Worlds.{WorldView, phase_of}
@@ -79,7 +87,8 @@ abbrev pub first_refused : Option Key → (Key → Refusal) → Option Refusal �
 first_refused (Some k) r rest = Some (r k)
 first_refused None r rest = rest
 
--- the first of the keys whose row must be pinned for the kind and isn't: only what reads or writes the state needs it
+-- the first of the keys whose row must be pinned for the kind and isn't:
+-- only what reads or writes the state needs it
 abbrev pub first_unpinned : WorldView → Kind → List Key → Option Key
 first_unpinned w kind keys = if (cells kind).state then find (is_unpinned w) keys else None
 
@@ -95,11 +104,13 @@ commit_refusal w kind keys =
 abbrev pub mark_refusal : WorldView → Marked → Mark → Option ℕ → Option Refusal
 mark_refusal w m Undone b = Some AlreadyUndone
 mark_refusal w m Standing (Some b) = Some (Blocked b)
-mark_refusal w m Standing None = first_refused (first_unpinned w m.entry.kind m.entry.keys) (λ k. NotPinned None) None
+mark_refusal w m Standing None = first_refused (first_unpinned w m.entry.kind m.entry.keys)
+    (λ k. NotPinned None) None
 
 abbrev pub undo_refusal : WorldView → ℕ → Option Refusal
 undo_refusal w n = elim (entry_at w.history.journal n) [
-  | Some m ↦ refused_if (not (is_command m.entry.kind)) NotACommand (mark_refusal w m m.mark (blocker w.history.journal n))
+  | Some m ↦ refused_if (not (is_command m.entry.kind)) NotACommand
+      (mark_refusal w m m.mark (blocker w.history.journal n))
   | None ↦ Some NoSuchEntry
 ]
 
@@ -110,7 +121,8 @@ is_noted_by b p = false
 
 abbrev pub finish_refusal : WorldView → ℕ → Option Hand → Option Refusal
 finish_refusal w b None = Some NoSuchBuilder
-finish_refusal w b (Some (Holding k)) = refused_if (not (is_noted_by b (phase_of w k))) NotNoted None
+finish_refusal w b (Some (Holding k)) = refused_if
+    (not (is_noted_by b (phase_of w k))) NotNoted None
 finish_refusal w b (Some h) = Some NothingHeld
 
 abbrev pub settle_refusal : Option Phase → Option Refusal

@@ -1,14 +1,16 @@
 -- What each step answers and does. This project's own.
 use Rattle.std.specs.Prelude.{ℕ, ◌+◌, Bool, true, false, List, [], ◌∷◌, length, Option, Some, None}
 use Rattle.td_rows.specs.declared.key.Key.{Key}
-use Rattle.td_rows.specs.declared.kind.Kind.TheVariants.{Claim as Claimed, Outcome as Ended, Arrive as Arrived, Sweep as Swept}
+use Rattle.td_rows.specs.declared.kind.Kind.TheVariants.{Claim as Claimed, Outcome as Ended}
+use Rattle.td_rows.specs.declared.kind.Kind.TheVariants.{Arrive as Arrived, Sweep as Swept}
 use Rattle.td_rows.specs.declared.outcome.Outcome.{Outcome}
 use Rattle.td_core.specs.declared.step.Phase.{Phase}
 use Rattle.td_core.specs.declared.step.Phase.TheVariants as phases
 use Rattle.td_core.specs.declared.step.Hand.{Hand}
 use Rattle.td_core.specs.declared.step.Hand.TheVariants as hands
 use Rattle.td_core.specs.declared.step.Step.{Step}
-use Rattle.td_core.specs.declared.step.Step.TheVariants.{Offer, Withdraw, Claim, Note, Commit, Undo, Finish, Settle, Release, Arrive, Sweep}
+use Rattle.td_core.specs.declared.step.Step.TheVariants.{Offer, Withdraw, Claim, Note, Commit, Undo}
+use Rattle.td_core.specs.declared.step.Step.TheVariants.{Finish, Settle, Release, Arrive, Sweep}
 use Rattle.td_core.specs.declared.step.Refusal.{Refusal}
 use Rattle.td_core.specs.declared.step.Answer.{Answer}
 use Rattle.td_core.specs.declared.step.Answer.TheVariants as answers
@@ -17,7 +19,9 @@ use Rattle.td_supply.specs.Supply.{SupplyView}
 use Rattle.td_core.specs.History.{rows_of, without_entry}
 use Rattle.td_core.specs.Offers.{supply_now, freed}
 use Rattle.td_core.specs.Worlds.{WorldView, phase_of, with_phase, hand_of, with_hand, journaled}
-use Rattle.td_core.specs.Refusals.{is_queued_at, offer_refusal, withdraw_refusal, claim_refusal, note_refusal, commit_refusal, undo_refusal, finish_refusal, settle_refusal, release_refusal, arrive_refusal}
+use Rattle.td_core.specs.Refusals.{is_queued_at, offer_refusal, withdraw_refusal, claim_refusal}
+use Rattle.td_core.specs.Refusals.{note_refusal, commit_refusal, undo_refusal, finish_refusal}
+use Rattle.td_core.specs.Refusals.{settle_refusal, release_refusal, arrive_refusal}
 
 -- the refusal of a step, if any
 abbrev pub refusal : WorldView → Step → Option Refusal
@@ -45,7 +49,8 @@ settled w k p = w
 
 -- a builder ends the build in its hand
 abbrev pub finished : WorldView → ℕ → Outcome → Option Hand → WorldView
-finished w b o (Some (hands.Holding k)) = with_hand (with_phase w k (phases.Done b o)) b (hands.Finished k o)
+finished w b o (Some (hands.Holding k)) = with_hand (with_phase w k (phases.Done b o)) b
+    (hands.Finished k o)
 finished w b o h = w
 
 -- the offers of a world

@@ -1,3 +1,4 @@
+//! The step of an arrival.
 ghost use Rattle.std.specs.Prelude.{◌≡◌, IfOk, OnOk, OnErr};
 ghost use Rattle.td_core.specs.Steps.{answer_to, after};
 ghost use Rattle.td_core.specs.declared.step.Step.{Step};

@@ -1,3 +1,4 @@
+//! Keys in any order, as a step names them.
 ghost use Rattle.std.specs.Prelude.{◌≡◌, ◌<◌, true, Some, length, slice_get};
 ghost use Rattle.td_rows.specs.Keys.{ascending};
 

@@ -3,7 +3,8 @@ ghost use Rattle.std.specs.Prelude.{◌≡◌, ◌==◌, None, position, if◌th
 ghost use Rattle.td_rows.specs.Kinds.{cells};
 ghost use Rattle.td_core.specs.History.{rows_of};
 ghost use Rattle.td_core.specs.Worlds.{phase_of, hand_of};
-ghost use Rattle.td_core.specs.Refusals.{is_queued_at, is_unpinned as is_unpinned_in, is_noted_by as is_noted_in, is_done_by as is_done_in};
+ghost use Rattle.td_core.specs.Refusals.{is_queued_at, is_unpinned as is_unpinned_in};
+ghost use Rattle.td_core.specs.Refusals.{is_noted_by as is_noted_in, is_done_by as is_done_in};
 ghost use Rattle.td_core.specs.Refusals.{finish_refusal as finish_refusal_of};
 ghost use Rattle.td_core.specs.Steps.{refusal};
 ghost use Rattle.td_core.specs.declared.step.Step.{Step};
@@ -42,7 +43,8 @@ impl World<'_> {
 
     /// The place of the first key whose row must be pinned for the kind and isn't.
     pub(crate) fn first_unpinned(&self, kind: &Kind, keys: &[Key]) -> Option<usize>
-        ensures { result ≡ (if (cells kind.now).state then position (is_unpinned_in self.now) keys.now else None) }
+        ensures { result ≡ (if (cells kind.now).state
+            then position (is_unpinned_in self.now) keys.now else None) }
     {
         if cells_of(kind).state {
             self.unpinned_at(keys)

@@ -1,3 +1,4 @@
+//! A list of steps, taken one after the other.
 ghost use Rattle.std.specs.Prelude.{◌≡◌, ◌≤◌, IfOk};
 ghost use Rattle.td_core.specs.Phases.{NoneBuilt};
 ghost use Rattle.td_core.specs.Steps.{answers_to, after_all};
@@ -21,8 +22,10 @@ pub fn run<'a>(
     requires builders { builders ≤ 64 }
     requires idle { NoneBuilt rows }
     requires fresh { supply ≡ opened (stock_of supply) }
-    ensures world { IfOk result (λ end. end.0 ≡ after_all (world_of rows (stock_of supply.entry) builders) steps.items) }
-    ensures answers { IfOk result (λ end. end.1.items ≡ answers_to (world_of rows (stock_of supply.entry) builders) steps.items) }
+    ensures world { IfOk result
+        (λ end. end.0 ≡ after_all (world_of rows (stock_of supply.entry) builders) steps.items) }
+    ensures answers { IfOk result (λ end.
+        end.1.items ≡ answers_to (world_of rows (stock_of supply.entry) builders) steps.items) }
 {
     let mut world = World::open(alloc, rows, supply, builders)?;
     let mut answers = Vec::with_capacity(alloc, steps.len())?;

@@ -1,7 +1,9 @@
+//! What the steps' tests ask of keys, rows and phases.
 ghost use Rattle.std.specs.Prelude.{◌≡◌, position};
 ghost use Rattle.td_rows.specs.Table.{fits as fits_in};
 ghost use Rattle.td_core.specs.Phases.{is_pinned as is_pinned_in};
-ghost use Rattle.td_core.specs.Refusals.{are_keys as are_keys_of, is_missing, is_unfit as is_unfit_on};
+ghost use Rattle.td_core.specs.Refusals.{are_keys as are_keys_of, is_missing};
+ghost use Rattle.td_core.specs.Refusals.{is_unfit as is_unfit_on};
 
 use crate::step::Phase;
 use td_rows::{Key, Kind, Rows, applies, are_ascending};

@@ -1,3 +1,4 @@
+//! Steps and their answers, and the phases and hands that they change.
 use crate::key_list::KeyList;
 use td_journal::EntryNo;
 use td_rows::{BuilderNo, Key, Kind, Outcome};

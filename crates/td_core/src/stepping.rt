@@ -1,4 +1,6 @@
-ghost use Rattle.std.specs.Prelude.{◌≡◌, ◌≢◌, ◌<◌, ◌-◌, true, false, length, set, slice_get, IfOk, IfSome, IfNone, IsOk, OnOk, OnErr};
+//! The steps of the desk and of the builders, each with its answer.
+ghost use Rattle.std.specs.Prelude.{◌≡◌, ◌≢◌, ◌<◌, ◌-◌, true, false, length, set, slice_get, IfOk};
+ghost use Rattle.std.specs.Prelude.{IfSome, IfNone, IsOk, OnOk, OnErr};
 ghost use Rattle.td_change.specs.Saved.{number_of};
 ghost use Rattle.td_core.specs.Steps.{answer_to, after, takes_memory};
 ghost use Rattle.td_core.specs.Worlds.{held_in};
@@ -16,7 +18,8 @@ use td_rows::{BuilderNo, Key, Kind, Outcome};
 // Gives the key's row the phase.
 fn put_phase(kept: &Books<'_>, phases: &mut Vec<Phase>, key: &Key, phase: Phase)
     requires sized { length phases.old.items ≡ length kept.now.history.opening }
-    ensures { phases.new.items ≡ set phases.old.items (number_of kept.now.history.opening key.now) phase }
+    ensures { phases.new.items
+        ≡ set phases.old.items (number_of kept.now.history.opening key.now) phase }
 {
     if let Some(number) = kept.rows().number(key) {
         phases[number] = phase;
@@ -36,7 +39,8 @@ fn put_hand(hands: &mut Vec<Hand>, builder: BuilderNo, hand: Hand)
 fn take_held(hands: &mut Vec<Hand>, builder: BuilderNo) -> Option<Key>
     requires within { (0 < builder) × (builder - 1 < length hands.old.items) }
     ensures key { result ≡ held_in (slice_get hands.old.items (builder - 1)) }
-    ensures free { IfSome result (λ key. hands.new.items ≡ set hands.old.items (builder - 1) Hand.Free) }
+    ensures free { IfSome result
+        (λ key. hands.new.items ≡ set hands.old.items (builder - 1) Hand.Free) }
     ensures stays { IfNone result (hands.new.items ≡ hands.old.items) }
 {
     let hand = &mut hands[(builder - 1) as usize];
@@ -102,7 +106,8 @@ impl World<'_> {
     }
 
     pub(crate) fn commit(&mut self, kind: Kind, keys: KeyList) -> Result<Answer, AllocError>
-        ensures answer { IfOk result (λ answer. answer ≡ answer_to self.old (Step.Commit kind keys)) }
+        ensures answer { IfOk result
+            (λ answer. answer ≡ answer_to self.old (Step.Commit kind keys)) }
         ensures ok { OnOk result (self.new ≡ after self.old (Step.Commit kind keys)) }
         ensures err { OnErr result (self.new ≡ self.old) }
     {
@@ -144,7 +149,8 @@ impl World<'_> {
         builder: BuilderNo,
         outcome: Outcome,
     ) -> Result<Answer, AllocError>
-        ensures answer { IfOk result (λ answer. answer ≡ answer_to self.old (Step.Finish builder outcome)) }
+        ensures answer { IfOk result
+            (λ answer. answer ≡ answer_to self.old (Step.Finish builder outcome)) }
         ensures ok { OnOk result (self.new ≡ after self.old (Step.Finish builder outcome)) }
         ensures err { OnErr result (self.new ≡ self.old) }
     {
@@ -218,8 +224,10 @@ impl World<'_> {
 
     /// Takes a step, and answers want of memory as a refusal.
     pub fn step(&mut self, step: Step) -> Answer
-        ensures taken { result ≢ Answer.Refused Refusal.NoMemory → (result ≡ answer_to self.old step) × (self.new ≡ after self.old step) }
-        ensures memory { result ≡ Answer.Refused Refusal.NoMemory → (self.new ≡ self.old) × (takes_memory step ≡ true) }
+        ensures taken { result ≢ Answer.Refused Refusal.NoMemory
+            → (result ≡ answer_to self.old step) × (self.new ≡ after self.old step) }
+        ensures memory { result ≡ Answer.Refused Refusal.NoMemory
+            → (self.new ≡ self.old) × (takes_memory step ≡ true) }
     {
         match self.try_step(step) {
             Ok(answer) => answer,

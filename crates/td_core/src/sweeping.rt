@@ -1,3 +1,4 @@
+//! Which rows the offers free, and the step that frees them.
 ghost use Rattle.std.specs.Prelude.{◌≡◌, [], ◌∷◌, ◌++◌, if◌then◌else◌, IfOk, OnOk, OnErr};
 ghost use Rattle.td_core.specs.Offers.{is_freed as is_freed_by, freed as freed_by};
 ghost use Rattle.td_core.specs.Steps.{answer_to, after};
@@ -30,7 +31,8 @@ fn push_freed(
     key: &Key,
     row: &Row,
 ) -> Result<(), AllocError>
-    ensures { OnOk result (keys.new.items ≡ keys.old.items ++ (if is_freed_by supply.now (key.now, row.now) then key.now ∷ [] else [])) }
+    ensures { OnOk result (keys.new.items ≡ keys.old.items
+        ++ (if is_freed_by supply.now (key.now, row.now) then key.now ∷ [] else [])) }
 {
     if is_freed(supply, key, row)? {
         keys.push(key.copy()?)?;

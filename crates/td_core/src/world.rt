@@ -1,3 +1,4 @@
+//! The desk and its builders, without threads.
 ghost use Rattle.std.specs.Prelude.{◌≡◌, ◌≤◌, IfOk, replicate};
 ghost use Rattle.std.specs.Option.{option_copied};
 ghost use Rattle.td_core.specs.History.{rows_of};
@@ -29,9 +30,19 @@ impl<'a> Model for World<'a> {
 
     ghost Value = { WorldView };
 
-    ghost view = { λ w. record { history = w.kept.history; supply = w.kept.stock; phases = w.phases.items; hands = w.hands.items } };
+    ghost view = { λ w. record {
+      history = w.kept.history;
+      supply = w.kept.stock;
+      phases = w.phases.items;
+      hands = w.hands.items;
+    } };
 
-    ghost invariant = { λ w. IsWorld (record { history = w.kept.history; supply = w.kept.stock; phases = w.phases.items; hands = w.hands.items }) };
+    ghost invariant = { λ w. IsWorld (record {
+      history = w.kept.history;
+      supply = w.kept.stock;
+      phases = w.phases.items;
+      hands = w.hands.items;
+    }) };
 }
 
 // So many closed phases.

@@ -1,5 +1,7 @@
 -- A table of architectures is read exactly where its lines are those of architectures.
-use Rattle.std.proofs.Common.{◌≡◌, ◌≢◌, ℕ, ◌+◌, ◌≤◌, ◌&&◌, not, Bool, true, false, cond, eqb, ltb, List, [], ◌∷◌, ◌++◌, length, map, Option, Some, None, Result, Ok, Err, inl, inr, ◌⊎◌, refl, sym, ap, subst, ◌∙◌, append_assoc, arith}
+use Rattle.std.proofs.Common.{◌≡◌, ◌≢◌, ℕ, ◌+◌, ◌≤◌, ◌&&◌, not, Bool, true, false, cond, eqb, ltb}
+use Rattle.std.proofs.Common.{List, [], ◌∷◌, ◌++◌, length, map, Option, Some, None, Result, Ok, Err}
+use Rattle.std.proofs.Common.{inl, inr, ◌⊎◌, refl, sym, ap, subst, ◌∙◌, append_assoc, arith}
 use Rattle.std.specs.Prelude.{codes}
 use Rattle.std.specs.List.{filter, list_all}
 use Rattle.std.specs.Str.{bytes_eq}
@@ -15,7 +17,8 @@ use Rattle.td_text.proofs.FirstFault.{first_fault, first_fault_again}
 use Rattle.td_text.proofs.Lines.{fails}
 use Rattle.td_text.proofs.Words.{Without-arch}
 use Rattle.td_relation.specs.declared.archs.ArchsFault.{ArchsFault}
-use Rattle.td_relation.specs.declared.archs.ArchsFault.TheVariants.{BadLine, Twice, TooMany, NoMemory}
+use Rattle.td_relation.specs.declared.archs.ArchsFault.TheVariants.{BadLine, Twice, TooMany}
+use Rattle.td_relation.specs.declared.archs.ArchsFault.TheVariants.{NoMemory}
 use Rattle.td_relation.specs.Arch.{ArchWords, is_table_name, is_machine_word, arch_line, ArchFits}
 use Rattle.td_relation.specs.ArchReading.{arch_at, add_arch, arch_step}
 use Rattle.td_relation.specs.Fails.{Fails}
@@ -24,7 +27,8 @@ use Rattle.td_relation.specs.TableFile.{AreLinesOf, IsTable, IsFaulty, IsFirstFa
 
 -- ---- a line
 
-arch_found : (text : List ℕ) (v : ArchWords) → arch_at text ≡ Some v → (text ≡ arch_line v) × ArchFits v
+arch_found : (text : List ℕ) (v : ArchWords) → arch_at text ≡ Some v
+    → (text ≡ arch_line v) × ArchFits v
 unfolding arch_at
 arch_found text v e =
     let a = chained _ _ v e in
@@ -56,7 +60,8 @@ arch_exact = record { found = arch_found; again = arch_again }
 
 -- ---- what was added
 
-added : (n : ℕ) (seen more : List ArchWords) (line : List ℕ) (o : Option ArchWords) → arch_at line ≡ o → add_arch n seen o ≡ Ok more
+added : (n : ℕ) (seen more : List ArchWords) (line : List ℕ) (o : Option ArchWords)
+    → arch_at line ≡ o → add_arch n seen o ≡ Ok more
     → (a : ArchWords) × (more ≡ seen ++ a ∷ []) × (line ≡ arch_line a) × ArchFits a × (is_named seen a.name ≡ false) × (length seen ≢ 32)
 added n seen more line None is e = absurd cc
 added n seen more line (Some p) is e =
@@ -67,31 +72,38 @@ added n seen more line (Some p) is e =
 
 -- ---- a line that is skipped, and one that is kept
 
-pub arch_step-skipped : (n : ℕ) (seen : List ArchWords) (line : List ℕ) → is_skipped line ≡ true → arch_step n seen line ≡ Ok seen
+pub arch_step-skipped : (n : ℕ) (seen : List ArchWords) (line : List ℕ) → is_skipped line ≡ true
+    → arch_step n seen line ≡ Ok seen
 arch_step-skipped n seen line h = ap (λ (b : Bool). cond b (Ok seen) (add_arch n seen (arch_at line))) h
 
-pub arch_step-kept : (n : ℕ) (seen : List ArchWords) (line : List ℕ) → is_skipped line ≡ false → arch_step n seen line ≡ add_arch n seen (arch_at line)
+pub arch_step-kept : (n : ℕ) (seen : List ArchWords) (line : List ℕ) → is_skipped line ≡ false
+    → arch_step n seen line ≡ add_arch n seen (arch_at line)
 arch_step-kept n seen line h = ap (λ (b : Bool). cond b (Ok seen) (add_arch n seen (arch_at line))) h
 
 abbrev Kept : List (List ℕ) → List (List ℕ)
 Kept lines = filter (λ line. not (is_skipped line)) lines
 
-Kept-skipped : (line : List ℕ) (lines : List (List ℕ)) → is_skipped line ≡ true → Kept (line ∷ lines) ≡ Kept lines
+Kept-skipped : (line : List ℕ) (lines : List (List ℕ)) → is_skipped line ≡ true
+    → Kept (line ∷ lines) ≡ Kept lines
 Kept-skipped line lines h = ap (λ (b : Bool). cond (not b) (line ∷ Kept lines) (Kept lines)) h
 
-Kept-kept : (line : List ℕ) (lines : List (List ℕ)) → is_skipped line ≡ false → Kept (line ∷ lines) ≡ line ∷ Kept lines
+Kept-kept : (line : List ℕ) (lines : List (List ℕ)) → is_skipped line ≡ false
+    → Kept (line ∷ lines) ≡ line ∷ Kept lines
 Kept-kept line lines h = ap (λ (b : Bool). cond (not b) (line ∷ Kept lines) (Kept lines)) h
 
 abbrev IsFound : List ArchWords → List ArchWords → List (List ℕ) → Type 0
 IsFound seen total lines = (archs : List ArchWords) × (total ≡ seen ++ archs) × AreLinesOf seen archs lines
 
-pub archs_found : (n : ℕ) (seen total : List ArchWords) (lines : List (List ℕ)) → length seen ≤ 32 → over_lines arch_step n seen lines ≡ Ok total → IsFound seen total lines
+pub archs_found : (n : ℕ) (seen total : List ArchWords) (lines : List (List ℕ)) → length seen ≤ 32
+    → over_lines arch_step n seen lines ≡ Ok total → IsFound seen total lines
 unfolding over_lines
 archs_found n seen total [] few e =
     ([], sym (ok_is ArchsFault _ _ e) ∙ sym (append-nil seen), record { spelled = refl; fits = tt; fresh = tt; limited = subst (λ (t : List ArchWords). length t ≤ 32) (sym (append-nil seen)) few })
 archs_found n seen total (line ∷ lines) few e = by (λ more h q. archs_found (n + 1) more total lines h q) (is_skipped line) refl
   where
-    by : ((more : List ArchWords) → length more ≤ 32 → over_lines arch_step (n + 1) more lines ≡ Ok total → IsFound more total lines) → (b : Bool) → is_skipped line ≡ b → IsFound seen total (line ∷ lines)
+    by : ((more : List ArchWords) → length more ≤ 32
+        → over_lines arch_step (n + 1) more lines ≡ Ok total → IsFound more total lines)
+        → (b : Bool) → is_skipped line ≡ b → IsFound seen total (line ∷ lines)
     by later true is =
         let q : over_lines arch_step (n + 1) seen lines ≡ Ok total = sym (ap (λ r. on_ok r (λ next. over_lines arch_step (n + 1) next lines)) (arch_step-skipped n seen line is)) ∙ e in
         let h = later seen few q in
@@ -111,22 +123,29 @@ archs_found n seen total (line ∷ lines) few e = by (λ more h q. archs_found (
 
 -- ---- and the other way round
 
-add_arch-again : (n : ℕ) (seen : List ArchWords) (p : ArchWords) → ArchFits p → is_named seen p.name ≡ false → length (seen ++ p ∷ []) ≤ 32 → add_arch n seen (arch_at (arch_line p)) ≡ Ok (seen ++ p ∷ [])
+add_arch-again : (n : ℕ) (seen : List ArchWords) (p : ArchWords) → ArchFits p
+    → is_named seen p.name ≡ false → length (seen ++ p ∷ []) ≤ 32
+    → add_arch n seen (arch_at (arch_line p)) ≡ Ok (seen ++ p ∷ [])
 add_arch-again n seen p fits fresh few =
     let read : arch_at (arch_line p) ≡ Some p = arch_exact.again p fits in
     let below : eqb (length seen) 32 ≡ false = ne_eqb (length seen) 32 (λ e. omega (arith, length-append seen (p ∷ []))) in
     rw (read, fresh, below) refl
 
-few_before : (seen : List ArchWords) (p : ArchWords) (archs : List ArchWords) → length (seen ++ p ∷ archs) ≤ 32 → length (seen ++ p ∷ []) ≤ 32
+few_before : (seen : List ArchWords) (p : ArchWords) (archs : List ArchWords)
+    → length (seen ++ p ∷ archs) ≤ 32 → length (seen ++ p ∷ []) ≤ 32
 few_before seen p archs h = omega (arith, length-append seen (p ∷ []), length-append seen (p ∷ archs))
 
-pub archs_again : (n : ℕ) (seen archs : List ArchWords) (lines : List (List ℕ)) → AreLinesOf seen archs lines → over_lines arch_step n seen lines ≡ Ok (seen ++ archs)
+pub archs_again : (n : ℕ) (seen archs : List ArchWords) (lines : List (List ℕ))
+    → AreLinesOf seen archs lines → over_lines arch_step n seen lines ≡ Ok (seen ++ archs)
 unfolding over_lines
 archs_again n seen [] [] h = ap Ok (sym (append-nil seen))
 archs_again n seen (r ∷ archs) [] h = absurd (let s = h.spelled in cc)
 archs_again n seen archs (line ∷ lines) h = by (λ more rest g. archs_again (n + 1) more rest lines g) (is_skipped line) refl
   where
-    one : ((more archs : List ArchWords) → AreLinesOf more archs lines → over_lines arch_step (n + 1) more lines ≡ Ok (more ++ archs)) → (more : List ArchWords) → AreLinesOf seen more (line ∷ lines) → is_skipped line ≡ false → over_lines arch_step n seen (line ∷ lines) ≡ Ok (seen ++ more)
+    one : ((more archs : List ArchWords) → AreLinesOf more archs lines
+        → over_lines arch_step (n + 1) more lines ≡ Ok (more ++ archs)) → (more : List ArchWords)
+        → AreLinesOf seen more (line ∷ lines) → is_skipped line ≡ false
+        → over_lines arch_step n seen (line ∷ lines) ≡ Ok (seen ++ more)
     one later [] g is = absurd (let s = g.spelled in let k = Kept-kept line lines is in cc)
     one later (r ∷ more) g is =
         let k = Kept-kept line lines is in
@@ -138,7 +157,9 @@ archs_again n seen archs (line ∷ lines) h = by (λ more rest g. archs_again (n
         ∙ later (seen ++ r ∷ []) more (record { spelled = rest; fits = g.fits.1; fresh = g.fresh.1; limited = subst (λ (t : List ArchWords). length t ≤ 32) (sym joined) g.limited })
         ∙ ap Ok joined
 
-    by : ((more archs : List ArchWords) → AreLinesOf more archs lines → over_lines arch_step (n + 1) more lines ≡ Ok (more ++ archs)) → (b : Bool) → is_skipped line ≡ b → over_lines arch_step n seen (line ∷ lines) ≡ Ok (seen ++ archs)
+    by : ((more archs : List ArchWords) → AreLinesOf more archs lines
+        → over_lines arch_step (n + 1) more lines ≡ Ok (more ++ archs)) → (b : Bool)
+        → is_skipped line ≡ b → over_lines arch_step n seen (line ∷ lines) ≡ Ok (seen ++ archs)
     by later true is =
         ap (λ q. on_ok q (λ next. over_lines arch_step (n + 1) next lines)) (arch_step-skipped n seen line is)
         ∙ later seen archs (record { spelled = sym (Kept-skipped line lines is) ∙ h.spelled; fits = h.fits; fresh = h.fresh; limited = h.limited })
@@ -150,10 +171,12 @@ module _ (n : ℕ) (seen : List ArchWords) (line : List ℕ) (p : ArchWords) (is
   pub add_arch-twice : is_named seen p.name ≡ true → add_arch n seen (arch_at line) ≡ Err (Twice n)
   add_arch-twice h = rw (← is, h) refl
 
-  pub add_arch-many : is_named seen p.name ≡ false → length seen ≡ 32 → add_arch n seen (arch_at line) ≡ Err TooMany
+  pub add_arch-many : is_named seen p.name ≡ false → length seen ≡ 32
+      → add_arch n seen (arch_at line) ≡ Err TooMany
   add_arch-many h many = let full : eqb (length seen) 32 ≡ true = eq-eqb (length seen) 32 many in rw (← is, h, full) refl
 
-  pub add_arch-ok : is_named seen p.name ≡ false → length seen ≢ 32 → add_arch n seen (arch_at line) ≡ Ok (seen ++ p ∷ [])
+  pub add_arch-ok : is_named seen p.name ≡ false → length seen ≢ 32
+      → add_arch n seen (arch_at line) ≡ Ok (seen ++ p ∷ [])
   add_arch-ok h few = let below : eqb (length seen) 32 ≡ false = ne_eqb (length seen) 32 few in rw (← is, h, below) refl
 
 -- a fault at a line is that of all lines
@@ -166,15 +189,18 @@ Fails-over_lines TooMany n seen line after total is f h = fails arch_step n seen
 
 -- ---- what the whole text is
 
-pub IsTable-read : (lines : List (List ℕ)) (archs : List ArchWords) → over_lines arch_step 1 [] lines ≡ Ok archs → IsTable lines archs
+pub IsTable-read : (lines : List (List ℕ)) (archs : List ArchWords)
+    → over_lines arch_step 1 [] lines ≡ Ok archs → IsTable lines archs
 IsTable-read lines archs e =
     let h = archs_found 1 [] archs lines (omega arith) e in
     subst (λ (r : List ArchWords). AreLinesOf [] r lines) (sym h.1) h.2
 
-pub IsTable-one : (lines : List (List ℕ)) (t u : List ArchWords) → over_lines arch_step 1 [] lines ≡ Ok t → IsTable lines u → t ≡ u
+pub IsTable-one : (lines : List (List ℕ)) (t u : List ArchWords)
+    → over_lines arch_step 1 [] lines ≡ Ok t → IsTable lines u → t ≡ u
 IsTable-one lines t u e is = ok_is ArchsFault t u (sym e ∙ archs_again 1 [] u lines is)
 
-pub IsTable-fails : (lines : List (List ℕ)) (t : List ArchWords) (e : ArchsFault) → IsTable lines t → Fails e (over_lines arch_step 1 [] lines) → e ≡ NoMemory
+pub IsTable-fails : (lines : List (List ℕ)) (t : List ArchWords) (e : ArchsFault) → IsTable lines t
+    → Fails e (over_lines arch_step 1 [] lines) → e ≡ NoMemory
 IsTable-fails lines t NoMemory is f = refl
 IsTable-fails lines t (BadLine n) is f = absurd (let r = archs_again 1 [] t lines is in cc)
 IsTable-fails lines t (Twice n) is f = absurd (let r = archs_again 1 [] t lines is in cc)
@@ -182,14 +208,17 @@ IsTable-fails lines t TooMany is f = absurd (let r = archs_again 1 [] t lines is
 
 -- ---- the first fault
 
-kept-step : (n : ℕ) (seen : List ArchWords) (line : List ℕ) (e : ArchsFault) → arch_step n seen line ≡ Err e → (is_skipped line ≡ false) × (add_arch n seen (arch_at line) ≡ Err e)
+kept-step : (n : ℕ) (seen : List ArchWords) (line : List ℕ) (e : ArchsFault) → arch_step n seen line
+    ≡ Err e → (is_skipped line ≡ false) × (add_arch n seen (arch_at line) ≡ Err e)
 kept-step n seen line e h = by (is_skipped line) refl
   where
-    by : (b : Bool) → is_skipped line ≡ b → (is_skipped line ≡ false) × (add_arch n seen (arch_at line) ≡ Err e)
+    by : (b : Bool) → is_skipped line ≡ b
+        → (is_skipped line ≡ false) × (add_arch n seen (arch_at line) ≡ Err e)
     by true is = absurd (let s = arch_step-skipped n seen line is in cc)
     by false is = (is, sym (arch_step-kept n seen line is) ∙ h)
 
-faulty : (n : ℕ) (seen : List ArchWords) (line : List ℕ) (e : ArchsFault) (o : Option ArchWords) → arch_at line ≡ o → add_arch n seen o ≡ Err e → IsFaulty seen n line e
+faulty : (n : ℕ) (seen : List ArchWords) (line : List ℕ) (e : ArchsFault) (o : Option ArchWords)
+    → arch_at line ≡ o → add_arch n seen o ≡ Err e → IsFaulty seen n line e
 faulty n seen line e None is h =
     let what : BadLine n ≡ e = cc in
     subst (λ (x : ArchsFault). IsFaulty seen n line x) what (refl, λ p fits spelled. (let read : arch_at line ≡ Some p = ap arch_at spelled ∙ arch_exact.again p fits in let bad : None ≡ Some p = sym is ∙ read in cc))
@@ -198,19 +227,22 @@ faulty n seen line e (Some p) is h = named (is_named seen p.name) refl h
     found : (line ≡ arch_line p) × ArchFits p
     found = arch_exact.found line p is
 
-    many : (f : Bool) → eqb (length seen) 32 ≡ f → is_named seen p.name ≡ false → cond f (Err TooMany) (Ok (seen ++ p ∷ [])) ≡ Err e → IsFaulty seen n line e
+    many : (f : Bool) → eqb (length seen) 32 ≡ f → is_named seen p.name ≡ false
+        → cond f (Err TooMany) (Ok (seen ++ p ∷ [])) ≡ Err e → IsFaulty seen n line e
     many true full fresh g =
         let what : TooMany ≡ e = cc in
         subst (λ (x : ArchsFault). IsFaulty seen n line x) what (record { arch = p; spelled = found.0; fits = found.1; named = fresh }, eqb-true (length seen) 32 full)
     many false full fresh g = absurd cc
 
-    named : (b : Bool) → is_named seen p.name ≡ b → cond b (Err (Twice n)) (cond (eqb (length seen) 32) (Err TooMany) (Ok (seen ++ p ∷ []))) ≡ Err e → IsFaulty seen n line e
+    named : (b : Bool) → is_named seen p.name ≡ b → cond b (Err (Twice n)) (cond
+        (eqb (length seen) 32) (Err TooMany) (Ok (seen ++ p ∷ []))) ≡ Err e → IsFaulty seen n line e
     named true is_so g =
         let what : Twice n ≡ e = cc in
         subst (λ (x : ArchsFault). IsFaulty seen n line x) what (refl, record { arch = p; spelled = found.0; fits = found.1; named = is_so })
     named false fresh g = many (eqb (length seen) 32) refl fresh g
 
-first_of : (lines : List (List ℕ)) (e : ArchsFault) → over_lines arch_step 1 [] lines ≡ Err e → IsFirstFault lines e
+first_of : (lines : List (List ℕ)) (e : ArchsFault) → over_lines arch_step 1 [] lines ≡ Err e
+    → IsFirstFault lines e
 first_of lines e h =
     let f = first_fault arch_step 1 [] lines e h in
     let step = kept-step (1 + length f.before) f.so_far f.line e f.fault in
@@ -225,7 +257,8 @@ first_of lines e h =
       faulty = faulty (1 + length f.before) f.so_far f.line e (arch_at f.line) refl step.1;
     }
 
-pub FaultOf-read : (lines : List (List ℕ)) (e : ArchsFault) → Fails e (over_lines arch_step 1 [] lines) → FaultOf lines e
+pub FaultOf-read : (lines : List (List ℕ)) (e : ArchsFault)
+    → Fails e (over_lines arch_step 1 [] lines) → FaultOf lines e
 FaultOf-read lines NoMemory f = tt
 FaultOf-read lines (BadLine n) f = first_of lines (BadLine n) f
 FaultOf-read lines (Twice n) f = first_of lines (Twice n) f
@@ -233,10 +266,12 @@ FaultOf-read lines TooMany f = first_of lines TooMany f
 
 -- ---- and a text with a fault has no other
 
-faulty-again : (seen : List ArchWords) (number : ℕ) (line : List ℕ) (e : ArchsFault) → IsFaulty seen number line e → add_arch number seen (arch_at line) ≡ Err e
+faulty-again : (seen : List ArchWords) (number : ℕ) (line : List ℕ) (e : ArchsFault)
+    → IsFaulty seen number line e → add_arch number seen (arch_at line) ≡ Err e
 faulty-again seen number line (BadLine n) f = unread (arch_at line) refl
   where
-    unread : (o : Option ArchWords) → arch_at line ≡ o → add_arch number seen (arch_at line) ≡ Err (BadLine n)
+    unread : (o : Option ArchWords) → arch_at line ≡ o
+        → add_arch number seen (arch_at line) ≡ Err (BadLine n)
     unread None is = ap (add_arch number seen) is ∙ ap (λ (k : ℕ). Err (BadLine k)) (sym f.0)
     unread (Some p) is = let found = arch_exact.found line p is in absurd (f.1 p found.1 found.0)
 faulty-again seen number line (Twice n) f =
@@ -247,7 +282,8 @@ faulty-again seen number line TooMany f =
     add_arch-many number seen line f.0.arch read f.0.named f.1
 faulty-again seen number line NoMemory f = absurd f
 
-pub first-again : (lines : List (List ℕ)) (e : ArchsFault) → IsFirstFault lines e → over_lines arch_step 1 [] lines ≡ Err e
+pub first-again : (lines : List (List ℕ)) (e : ArchsFault) → IsFirstFault lines e
+    → over_lines arch_step 1 [] lines ≡ Err e
 first-again lines e f =
     first_fault_again arch_step 1 [] lines e (record {
       before = f.before;
@@ -259,11 +295,13 @@ first-again lines e f =
       fault = arch_step-kept (1 + length f.before) f.seen f.line f.kept ∙ faulty-again f.seen (1 + length f.before) f.line e f.faulty;
     })
 
-pub refused-for : (lines : List (List ℕ)) (fault e : ArchsFault) → IsFirstFault lines fault → Fails e (over_lines arch_step 1 [] lines) → (e ≡ NoMemory) ⊎ (e ≡ fault)
+pub refused-for : (lines : List (List ℕ)) (fault e : ArchsFault) → IsFirstFault lines fault
+    → Fails e (over_lines arch_step 1 [] lines) → (e ≡ NoMemory) ⊎ (e ≡ fault)
 refused-for lines fault NoMemory is f = inl refl
 refused-for lines fault (BadLine n) is f = inr (let h = first-again lines fault is in cc)
 refused-for lines fault (Twice n) is f = inr (let h = first-again lines fault is in cc)
 refused-for lines fault TooMany is f = inr (let h = first-again lines fault is in cc)
 
-pub not-refused : (lines : List (List ℕ)) (t : List ArchWords) (fault : ArchsFault) → over_lines arch_step 1 [] lines ≡ Ok t → IsFirstFault lines fault → ⊥
+pub not-refused : (lines : List (List ℕ)) (t : List ArchWords) (fault : ArchsFault)
+    → over_lines arch_step 1 [] lines ≡ Ok t → IsFirstFault lines fault → ⊥
 not-refused lines t fault read is = let h = first-again lines fault is in let bad : ◌≡◌ {A = Result (List ArchWords) ArchsFault} (Ok t) (Err fault) = sym read ∙ h in cc

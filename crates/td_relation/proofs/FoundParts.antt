@@ -1,5 +1,7 @@
 -- The parts of a text that is read as an alternative.
-use Rattle.std.proofs.Common.{◌≡◌, ◌⊎◌, ℕ, Bool, true, cond, ltb, ◌&&◌, List, [], ◌∷◌, ◌++◌, length, map, Option, Some, None, Result, Ok, Err, refl, sym, ap, subst, ◌∙◌, inl, inr}
+use Rattle.std.proofs.Common.{◌≡◌, ◌⊎◌, ℕ, Bool, true, cond, ltb, ◌&&◌, List, [], ◌∷◌, ◌++◌, length}
+use Rattle.std.proofs.Common.{map, Option, Some, None, Result, Ok, Err, refl, sym, ap, subst, ◌∙◌}
+use Rattle.std.proofs.Common.{inl, inr}
 use Rattle.std.specs.Prelude.{codes}
 use Rattle.std.specs.List.{list_all}
 use Rattle.std.proofs.lemmas.Bool.{cases_Bool, and_parts, and_from}
@@ -14,15 +16,21 @@ use Rattle.td_version.specs.Version.{Parts}
 use Rattle.td_version.specs.declared.version.VersionFault.{VersionFault}
 use Rattle.td_version.proofs.Outcomes.{read_found}
 use Rattle.td_relation.specs.declared.relation.Operator.{Operator}
-use Rattle.td_relation.specs.declared.relation.Operator.TheVariants.{Earlier, EarlierOrEqual, Equal, LaterOrEqual, Later}
+use Rattle.td_relation.specs.declared.relation.Operator.TheVariants.{Earlier, EarlierOrEqual, Equal}
+use Rattle.td_relation.specs.declared.relation.Operator.TheVariants.{LaterOrEqual, Later}
 use Rattle.td_relation.specs.declared.relation_fault.RelationFault.{RelationFault}
 use Rattle.td_relation.specs.declared.relation_fault.RelationFault.TheVariants.{BadArchList}
 use Rattle.td_text.specs.Runs.{is_space, run, behind, trimmed, is_blank}
 use Rattle.td_text.proofs.RunTexts.{run_passes, run_joined}
 use Rattle.td_relation.specs.ArchList.{words}
 use Rattle.td_relation.specs.Asked.{Bound}
-use Rattle.td_relation.specs.RelationGrammar.{ends_a_name, after_colon, unqualified, named, name_at, is_operator_byte, operator_at, is_version_byte, ends_a_restriction, closed, version_at, restricted, restriction_at, is_arch_list, listed, bracketed, archs_at, or_fault}
-use Rattle.td_relation.specs.RelationWriting.{WrittenArchs, operator_text, marked, qualifier_part, QualifierFits, ArchsFit}
+use Rattle.td_relation.specs.RelationGrammar.{ends_a_name, after_colon, unqualified, named, name_at}
+use Rattle.td_relation.specs.RelationGrammar.{is_operator_byte, operator_at, is_version_byte}
+use Rattle.td_relation.specs.RelationGrammar.{ends_a_restriction, closed, version_at, restricted}
+use Rattle.td_relation.specs.RelationGrammar.{restriction_at, is_arch_list, listed, bracketed}
+use Rattle.td_relation.specs.RelationGrammar.{archs_at, or_fault}
+use Rattle.td_relation.specs.RelationWriting.{WrittenArchs, operator_text, marked, qualifier_part}
+use Rattle.td_relation.specs.RelationWriting.{QualifierFits, ArchsFit}
 use Rattle.td_relation.specs.Spacing.{AreWords}
 use Rattle.td_relation.proofs.FoundWords.{arch_list_found, words_found}
 
@@ -35,7 +43,8 @@ space_blank t = run_passes is_space t
 pub on_is : (on rest : List ℕ) → trimmed on ≡ rest → on ≡ run is_space on ++ rest
 on_is on rest is = run_joined is_space on ∙ ap (λ (t : List ℕ). run is_space on ++ t) is
 
-pub or_fault_found : {A : Type 0} (fault : RelationFault) (o : Option A) (x : A) → or_fault fault o ≡ Ok x → o ≡ Some x
+pub or_fault_found : {A : Type 0} (fault : RelationFault) (o : Option A) (x : A)
+    → or_fault fault o ≡ Ok x → o ≡ Some x
 or_fault_found fault None x e = absurd cc
 or_fault_found fault (Some y) x e = ap (λ z. Some z) (ok_is RelationFault y x e)
 
@@ -50,7 +59,8 @@ qualified_found : (t rest : List ℕ) → unqualified t ≡ Some rest → IsQual
 unfolding unqualified
 qualified_found t rest e = by (strip (codes ":") t) refl e
   where
-    by : (o : Option (List ℕ)) → strip (codes ":") t ≡ o → after_colon t o ≡ Some rest → IsQualified t rest
+    by : (o : Option (List ℕ)) → strip (codes ":") t ≡ o → after_colon t o ≡ Some rest
+        → IsQualified t rest
     by None none k = record { qualifier = None; fits = tt; joined = some_is t rest k }
     by (Some word) is k =
         let w = when_some (ltb 0 (length (run is_arch_byte word))) (behind is_arch_byte word) rest k in
@@ -74,7 +84,8 @@ pub name_found : (t : List ℕ) (p : List ℕ × List ℕ) → name_at t ≡ Som
 unfolding name_at
 name_found t p e = by (unqualified (behind is_name_byte (trimmed t))) refl e
   where
-    by : (o : Option (List ℕ)) → unqualified (behind is_name_byte (trimmed t)) ≡ o → named (run is_name_byte (trimmed t)) o ≡ Some p → IsNamed t p.0 p.1
+    by : (o : Option (List ℕ)) → unqualified (behind is_name_byte (trimmed t)) ≡ o
+        → named (run is_name_byte (trimmed t)) o ≡ Some p → IsNamed t p.0 p.1
     by None none k = absurd cc
     by (Some on) is k =
         let w = when_some (is_name (run is_name_byte (trimmed t)) && ends_a_name (trimmed on)) (run is_name_byte (trimmed t), trimmed on) p k in
@@ -131,10 +142,14 @@ pub record IsClosed (operator : Operator) (t : List ℕ) (restriction : Option B
   pub asks : restriction ≡ Some (record { operator = operator; version = parts })
   pub is : trimmed on ≡ rest
 
-version_found : (operator : Operator) (t : List ℕ) (p : Option Bound × List ℕ) → version_at (Some operator) t ≡ Ok p → IsClosed operator t p.0 p.1
+version_found : (operator : Operator) (t : List ℕ) (p : Option Bound × List ℕ)
+    → version_at (Some operator) t ≡ Ok p → IsClosed operator t p.0 p.1
 version_found operator t p e = by (reading (run is_version_byte (trimmed t))) (strip (codes ")") (trimmed (behind is_version_byte (trimmed t)))) refl refl e
   where
-    by : (r : Result Parts VersionFault) (o : Option (List ℕ)) → reading (run is_version_byte (trimmed t)) ≡ r → strip (codes ")") (trimmed (behind is_version_byte (trimmed t))) ≡ o → closed operator r o ≡ Ok p → IsClosed operator t p.0 p.1
+    by : (r : Result Parts VersionFault) (o : Option (List ℕ))
+        → reading (run is_version_byte (trimmed t)) ≡ r → strip (codes ")")
+        (trimmed (behind is_version_byte (trimmed t))) ≡ o → closed operator r o ≡ Ok p
+        → IsClosed operator t p.0 p.1
     by (Err fault) o read is k = absurd cc
     by (Ok parts) None read is k = absurd cc
     by (Ok parts) (Some on) read is k =
@@ -160,11 +175,14 @@ version_found operator t p e = by (reading (run is_version_byte (trimmed t))) (s
           | inr other ↦ absurd (let bad : ◌≡◌ {A = Result (Option Bound × List ℕ) RelationFault} (Err BadArchList) (Ok p) = subst (λ (b : Bool). cond b (Ok (Some (record { operator = operator; version = parts }), trimmed on)) (Err BadArchList) ≡ Ok p) other k in cc)
         ]
 
-pub restriction_found : (t : List ℕ) (p : Option Bound × List ℕ) → restriction_at t ≡ Ok p → ((p.0 ≡ None) × (t ≡ p.1)) ⊎ IsBound t p.0 p.1
+pub restriction_found : (t : List ℕ) (p : Option Bound × List ℕ) → restriction_at t ≡ Ok p
+    → ((p.0 ≡ None) × (t ≡ p.1)) ⊎ IsBound t p.0 p.1
 unfolding restriction_at
 restriction_found t p e = by (strip (codes "(") t) refl e
   where
-    inside_found : (inside : List ℕ) (o : Option Operator) → t ≡ 40 ∷ inside → operator_at (run is_operator_byte (trimmed inside)) ≡ o → version_at o (behind is_operator_byte (trimmed inside)) ≡ Ok p → IsBound t p.0 p.1
+    inside_found : (inside : List ℕ) (o : Option Operator) → t ≡ 40 ∷ inside
+        → operator_at (run is_operator_byte (trimmed inside)) ≡ o
+        → version_at o (behind is_operator_byte (trimmed inside)) ≡ Ok p → IsBound t p.0 p.1
     inside_found inside None at is k = absurd cc
     inside_found inside (Some operator) at is k =
         let c = version_found operator (behind is_operator_byte (trimmed inside)) p k in
@@ -186,7 +204,8 @@ restriction_found t p e = by (strip (codes "(") t) refl e
           is = c.is;
         }
 
-    by : (o : Option (List ℕ)) → strip (codes "(") t ≡ o → restricted t o ≡ Ok p → ((p.0 ≡ None) × (t ≡ p.1)) ⊎ IsBound t p.0 p.1
+    by : (o : Option (List ℕ)) → strip
+        (codes "(") t ≡ o → restricted t o ≡ Ok p → ((p.0 ≡ None) × (t ≡ p.1)) ⊎ IsBound t p.0 p.1
     by None none k =
         let same : (None, t) ≡ p = ok_is RelationFault (None, t) p k in
         inl (ap (λ (r : Option Bound × List ℕ). r.0) (sym same), ap (λ (r : Option Bound × List ℕ). r.1) same)
@@ -204,11 +223,13 @@ pub record IsList (t : List ℕ) (archs : Option (List (List ℕ))) (rest : List
   pub asks : archs ≡ Some (map (marked list.negated) list.names)
   pub is : trimmed on ≡ rest
 
-pub archs_found : (t : List ℕ) (p : Option (List (List ℕ)) × List ℕ) → archs_at t ≡ Some p → ((p.0 ≡ None) × (t ≡ p.1)) ⊎ IsList t p.0 p.1
+pub archs_found : (t : List ℕ) (p : Option (List (List ℕ)) × List ℕ) → archs_at t ≡ Some p
+    → ((p.0 ≡ None) × (t ≡ p.1)) ⊎ IsList t p.0 p.1
 unfolding archs_at
 archs_found t p e = by (strip (codes "[") t) refl e
   where
-    inside_found : (inside : List ℕ) (o : Option (List ℕ × List ℕ)) → t ≡ 91 ∷ inside → cut 93 inside ≡ o → listed o ≡ Some p → IsList t p.0 p.1
+    inside_found : (inside : List ℕ) (o : Option (List ℕ × List ℕ)) → t ≡ 91 ∷ inside
+        → cut 93 inside ≡ o → listed o ≡ Some p → IsList t p.0 p.1
     inside_found inside None at is k = absurd cc
     inside_found inside (Some q) at is k =
         let w = when_some (is_arch_list (words q.0)) (Some (words q.0), trimmed q.1) p k in
@@ -224,7 +245,8 @@ archs_found t p e = by (strip (codes "[") t) refl e
           is = refl;
         })
 
-    by : (o : Option (List ℕ)) → strip (codes "[") t ≡ o → bracketed t o ≡ Some p → ((p.0 ≡ None) × (t ≡ p.1)) ⊎ IsList t p.0 p.1
+    by : (o : Option (List ℕ)) → strip
+        (codes "[") t ≡ o → bracketed t o ≡ Some p → ((p.0 ≡ None) × (t ≡ p.1)) ⊎ IsList t p.0 p.1
     by None none k =
         let same : (None, t) ≡ p = some_is (None, t) p k in
         inl (ap (λ (r : Option (List (List ℕ)) × List ℕ). r.0) (sym same), ap (λ (r : Option (List (List ℕ)) × List ℕ). r.1) same)

@@ -1,5 +1,7 @@
 -- A text that is read as a relation is one, written with some whitespace.
-use Rattle.std.proofs.Common.{◌≡◌, ◌≢◌, ℕ, Bool, true, false, cond, eqb, List, [], ◌∷◌, ◌++◌, map, Option, Some, None, option_map, Ok, refl, sym, ap, subst, ◌∙◌, append_assoc, append-nil, inl, inr}
+use Rattle.std.proofs.Common.{◌≡◌, ◌≢◌, ℕ, Bool, true, false, cond, eqb, List, [], ◌∷◌, ◌++◌, map}
+use Rattle.std.proofs.Common.{Option, Some, None, option_map, Ok, refl, sym, ap, subst, ◌∙◌}
+use Rattle.std.proofs.Common.{append_assoc, append-nil, inl, inr}
 use Rattle.std.specs.List.{slice_split, onto_first, join_with_byte, AllByRecursion}
 use Rattle.std.proofs.lemmas.List.Splits.{join_with_byte-slice_split}
 use Rattle.td_text.specs.Cut.{Without}
@@ -7,14 +9,26 @@ use Rattle.td_text.specs.Lines.{on_ok}
 use Rattle.td_text.proofs.Chain.{ok_is, on_ok_parts}
 use Rattle.td_text.proofs.Cut.{Without-right}
 use Rattle.td_relation.specs.declared.relation_fault.RelationFault.{RelationFault}
-use Rattle.td_relation.specs.declared.relation_fault.RelationFault.TheVariants.{BadName, BadArchList}
+use Rattle.td_relation.specs.declared.relation_fault.RelationFault.TheVariants.{BadName}
+use Rattle.td_relation.specs.declared.relation_fault.RelationFault.TheVariants.{BadArchList}
 use Rattle.td_text.specs.Runs.{is_space, run, is_blank}
 use Rattle.td_relation.specs.Asked.{Asked, Bound}
-use Rattle.td_relation.specs.RelationGrammar.{alternative_at, alternative_step, archs_at, member_at, member_step, name_at, or_fault, over, relation_at, restriction_at, some_members, unprofiled_at}
-use Rattle.td_relation.specs.RelationWriting.{alternative_asked, bound_asked, marked, operator_text, qualifier_part, ArchsFit, BoundFits, ProfilesFit, hold_unprofiled}
-use Rattle.td_relation.specs.Spacing.{SpacedBound, SpacedArchs, SpacedProfiles, SpacedAlternative, SpacedMember, Filled, Blank, ArchsAreSpaced, BoundIsSpaced, IsRelation, IsSpaced, MemberIsSpaced, ProfilesAreSpaced, RelationsAreExact, archs_then, bound_then, profiles_then, spaced_alternative, spaced_member, spaced_relation, unspaced, unspaced_members}
-use Rattle.td_relation.proofs.FoundParts.{archs_found, name_found, on_is, or_fault_found, restriction_found, space_blank}
-use Rattle.td_relation.proofs.FoundProfiles.{AreLists, lists_behind, own_lack, pieces_lack, unprofiled_found}
+use Rattle.td_relation.specs.RelationGrammar.{alternative_at, alternative_step, archs_at, member_at}
+use Rattle.td_relation.specs.RelationGrammar.{member_step, name_at, or_fault, over, relation_at}
+use Rattle.td_relation.specs.RelationGrammar.{restriction_at, some_members, unprofiled_at}
+use Rattle.td_relation.specs.RelationWriting.{alternative_asked, bound_asked, marked, operator_text}
+use Rattle.td_relation.specs.RelationWriting.{qualifier_part, ArchsFit, BoundFits, ProfilesFit}
+use Rattle.td_relation.specs.RelationWriting.{hold_unprofiled}
+use Rattle.td_relation.specs.Spacing.{SpacedBound, SpacedArchs, SpacedProfiles, SpacedAlternative}
+use Rattle.td_relation.specs.Spacing.{SpacedMember, Filled, Blank, ArchsAreSpaced, BoundIsSpaced}
+use Rattle.td_relation.specs.Spacing.{IsRelation, IsSpaced, MemberIsSpaced, ProfilesAreSpaced}
+use Rattle.td_relation.specs.Spacing.{RelationsAreExact, archs_then, bound_then, profiles_then}
+use Rattle.td_relation.specs.Spacing.{spaced_alternative, spaced_member, spaced_relation, unspaced}
+use Rattle.td_relation.specs.Spacing.{unspaced_members}
+use Rattle.td_relation.proofs.FoundParts.{archs_found, name_found, on_is, or_fault_found}
+use Rattle.td_relation.proofs.FoundParts.{restriction_found, space_blank}
+use Rattle.td_relation.proofs.FoundProfiles.{AreLists, lists_behind, own_lack, pieces_lack}
+use Rattle.td_relation.proofs.FoundProfiles.{unprofiled_found}
 use Rattle.td_relation.proofs.SpacedRelations.{spaced_relations_are_read, one_more}
 
 -- ---- what follows the name
@@ -40,7 +54,9 @@ pub record AreArchs (t : List ℕ) (archs : Option (List (List ℕ))) (u : Bool)
   pub asks : archs ≡ option_map (λ w. map (marked w.negated) w.names) (option_map (λ l. l.list) list)
   pub asks_profiles : u ≡ hold_unprofiled (map (λ l. l.list) profiles)
 
-archs_behind : (space t rest : List ℕ) (archs : Option (List (List ℕ))) (u : Bool) → is_blank space ≡ true → IsInner t → archs_at t ≡ Some (archs, rest) → unprofiled_at rest ≡ Ok u → AreArchs (space ++ t) archs u
+archs_behind : (space t rest : List ℕ) (archs : Option (List (List ℕ))) (u : Bool)
+    → is_blank space ≡ true → IsInner t → archs_at t ≡ Some (archs, rest)
+    → unprofiled_at rest ≡ Ok u → AreArchs (space ++ t) archs u
 archs_behind space t rest archs u wide inner e k =
     elim (archs_found t (archs, rest) e) [
       | inl none ↦ (
@@ -88,7 +104,10 @@ pub record IsTail (t : List ℕ) (restriction : Option Bound) (archs : Option (L
   pub asks : archs ≡ option_map (λ w. map (marked w.negated) w.names) (option_map (λ l. l.list) list)
   pub asks_profiles : u ≡ hold_unprofiled (map (λ l. l.list) profiles)
 
-tail_behind : (space t more rest : List ℕ) (restriction : Option Bound) (archs : Option (List (List ℕ))) (u : Bool) → is_blank space ≡ true → IsInner t → restriction_at t ≡ Ok (restriction, more) → archs_at more ≡ Some (archs, rest) → unprofiled_at rest ≡ Ok u → IsTail (space ++ t) restriction archs u
+tail_behind : (space t more rest : List ℕ) (restriction : Option Bound)
+    (archs : Option (List (List ℕ))) (u : Bool) → is_blank space ≡ true → IsInner t
+    → restriction_at t ≡ Ok (restriction, more) → archs_at more ≡ Some (archs, rest)
+    → unprofiled_at rest ≡ Ok u → IsTail (space ++ t) restriction archs u
 tail_behind space t more rest restriction archs u wide inner e f k =
     elim (restriction_found t (restriction, more) e) [
       | inl none ↦ (
@@ -135,7 +154,8 @@ pub record IsAlternative (t : List ℕ) (x : Asked) : Type 0 where
   pub spelled : t ≡ spaced_alternative written
   pub asks : x ≡ alternative_asked (unspaced written)
 
-alternative_found : (t : List ℕ) (x : Asked) → IsInner t → alternative_at t ≡ Ok x → IsAlternative t x
+alternative_found : (t : List ℕ) (x : Asked) → IsInner t → alternative_at t ≡ Ok x
+    → IsAlternative t x
 unfolding alternative_at
 alternative_found t x inner e =
     let name = on_ok_parts (or_fault BadName (name_at t)) _ x e in
@@ -172,7 +192,9 @@ pub record IsMember (t : List ℕ) (seen total : List Asked) : Type 0 where
 filled_list : {A : Type 0} (x : A) (xs : List A) → x ∷ xs ≢ []
 filled_list x xs e = absurd cc
 
-alternatives_found : (p : List ℕ) (ps : List (List ℕ)) (seen total : List Asked) → AllByRecursion IsInner (p ∷ ps) → over alternative_step seen (p ∷ ps) ≡ Ok total → IsMember (join_with_byte 124 (p ∷ ps)) seen total
+alternatives_found : (p : List ℕ) (ps : List (List ℕ)) (seen total : List Asked)
+    → AllByRecursion IsInner (p ∷ ps) → over alternative_step seen (p ∷ ps) ≡ Ok total
+    → IsMember (join_with_byte 124 (p ∷ ps)) seen total
 unfolding over
 alternatives_found p [] seen total inner e =
     let a = on_ok_parts (alternative_step seen p) (λ more. Ok more) total e in
@@ -192,10 +214,15 @@ alternatives_found p (q ∷ qs) seen total inner e =
     let later = alternatives_found q qs a.0 total inner.1 a.2 in
     joins r later (sym (ok_is RelationFault (seen ++ b.0 ∷ []) a.0 b.2))
   where
-    joins : {x : Asked} {more : List Asked} (r : IsAlternative p x) (later : IsMember (join_with_byte 124 (q ∷ qs)) more total) → more ≡ seen ++ x ∷ [] → IsMember (join_with_byte 124 (p ∷ q ∷ qs)) seen total
+    joins : {x : Asked} {more : List Asked} (r : IsAlternative p x)
+        (later : IsMember (join_with_byte 124 (q ∷ qs)) more total) → more ≡ seen ++ x ∷ []
+        → IsMember (join_with_byte 124 (p ∷ q ∷ qs)) seen total
     joins r later is = by r later.written later.some later.spaced later.spelled (later.asks ∙ ap (λ (l : List Asked). l ++ map alternative_asked (map unspaced later.written)) (is ∙ ap (λ (y : Asked). seen ++ y ∷ []) r.asks) ∙ append_assoc seen (alternative_asked (unspaced r.written) ∷ []) (map alternative_asked (map unspaced later.written)))
       where
-        by : {x : Asked} (r : IsAlternative p x) (w : List SpacedAlternative) → w ≢ [] → AllByRecursion IsSpaced w → join_with_byte 124 (q ∷ qs) ≡ spaced_member (Filled w) → total ≡ seen ++ map alternative_asked (map unspaced (r.written ∷ w)) → IsMember (join_with_byte 124 (p ∷ q ∷ qs)) seen total
+        by : {x : Asked} (r : IsAlternative p x) (w : List SpacedAlternative) → w ≢ []
+            → AllByRecursion IsSpaced w → join_with_byte 124 (q ∷ qs) ≡ spaced_member (Filled w)
+            → total ≡ seen ++ map alternative_asked (map unspaced (r.written ∷ w))
+            → IsMember (join_with_byte 124 (p ∷ q ∷ qs)) seen total
         by r [] some spaced spelled asks = absurd (some refl)
         by r (v ∷ w) some spaced spelled asks = record {
           written = r.written ∷ v ∷ w;
@@ -205,7 +232,8 @@ alternatives_found p (q ∷ qs) seen total inner e =
           asks = asks;
         }
 
-inner_all : (ps : List (List ℕ)) → AllByRecursion (λ p. Without 44 p) ps → AllByRecursion (λ p. Without 124 p) ps → AllByRecursion IsInner ps
+inner_all : (ps : List (List ℕ)) → AllByRecursion (λ p. Without 44 p) ps
+    → AllByRecursion (λ p. Without 124 p) ps → AllByRecursion IsInner ps
 inner_all [] a b = tt
 inner_all (p ∷ ps) a b = (record { comma = a.0; bar = b.0 }, inner_all ps a.1 b.1)
 
@@ -221,7 +249,8 @@ no_pieces test (x ∷ t) e = by (test x) (slice_split test t) e
 member_found : (t : List ℕ) (m : List Asked) → Without 44 t → member_at t ≡ Ok m → IsMember t [] m
 member_found t m comma e = by (slice_split (λ b. eqb b 124) t) refl (inner_all (slice_split (λ b. eqb b 124) t) (pieces_lack (λ b. eqb b 124) 44 t comma) (own_lack 124 t)) e
   where
-    by : (ps : List (List ℕ)) → slice_split (λ b. eqb b 124) t ≡ ps → AllByRecursion IsInner ps → over alternative_step [] ps ≡ Ok m → IsMember t [] m
+    by : (ps : List (List ℕ)) → slice_split (λ b. eqb b 124) t ≡ ps → AllByRecursion IsInner ps
+        → over alternative_step [] ps ≡ Ok m → IsMember t [] m
     by [] is inner k = absurd (no_pieces (λ b. eqb b 124) t is)
     by (p ∷ ps) is inner k =
         let whole : join_with_byte 124 (p ∷ ps) ≡ t = ap (join_with_byte 124) (sym is) ∙ join_with_byte-slice_split 124 t in
@@ -238,10 +267,12 @@ pub record IsOne (p : List ℕ) (seen more : List (List Asked)) : Type 0 where
   pub spelled : p ≡ spaced_member member
   pub asks : more ≡ seen ++ asked_of (member ∷ [])
 
-one_found : (p : List ℕ) (seen more : List (List Asked)) → Without 44 p → member_step seen p ≡ Ok more → IsOne p seen more
+one_found : (p : List ℕ) (seen more : List (List Asked)) → Without 44 p
+    → member_step seen p ≡ Ok more → IsOne p seen more
 one_found p seen more comma e = by (is_blank p) refl e
   where
-    by : (b : Bool) → is_blank p ≡ b → cond b (Ok seen) (on_ok (member_at p) (λ m. Ok (seen ++ m ∷ []))) ≡ Ok more → IsOne p seen more
+    by : (b : Bool) → is_blank p ≡ b → cond b (Ok seen)
+        (on_ok (member_at p) (λ m. Ok (seen ++ m ∷ []))) ≡ Ok more → IsOne p seen more
     by true is k = record { member = Blank p; spaced = is; spelled = refl; asks = sym (ok_is RelationFault seen more k) ∙ sym (append-nil seen) }
     by false is k =
         let a = on_ok_parts (member_at p) (λ m. Ok (seen ++ m ∷ [])) more k in
@@ -255,7 +286,9 @@ pub record AreMembers (t : List ℕ) (seen total : List (List Asked)) : Type 0 w
   pub spelled : t ≡ spaced_relation (first ∷ others)
   pub asks : total ≡ seen ++ asked_of (first ∷ others)
 
-members_found : (p : List ℕ) (ps : List (List ℕ)) (seen total : List (List Asked)) → AllByRecursion (λ p. Without 44 p) (p ∷ ps) → over member_step seen (p ∷ ps) ≡ Ok total → AreMembers (join_with_byte 44 (p ∷ ps)) seen total
+members_found : (p : List ℕ) (ps : List (List ℕ)) (seen total : List (List Asked))
+    → AllByRecursion (λ p. Without 44 p) (p ∷ ps) → over member_step seen (p ∷ ps) ≡ Ok total
+    → AreMembers (join_with_byte 44 (p ∷ ps)) seen total
 unfolding over
 members_found p [] seen total comma e =
     let a = on_ok_parts (member_step seen p) (λ more. Ok more) total e in
@@ -274,20 +307,23 @@ members_found p (q ∷ qs) seen total comma e =
       asks = later.asks ∙ ap (λ (l : List (List Asked)). l ++ asked_of rest) m.asks ∙ append_assoc seen (asked_of (m.member ∷ [])) (asked_of rest) ∙ ap (λ (l : List (List Asked)). seen ++ l) (one_more m.member rest);
     }
 
-some_found : (ms asked : List (List Asked)) → some_members ms ≡ Ok asked → (ms ≡ asked) × (asked ≢ [])
+some_found : (ms asked : List (List Asked)) → some_members ms ≡ Ok asked
+    → (ms ≡ asked) × (asked ≢ [])
 some_found [] asked e = absurd cc
 some_found (m ∷ ms) asked e =
     let same : m ∷ ms ≡ asked = ok_is RelationFault (m ∷ ms) asked e in
     (same, λ none. filled_list m ms (same ∙ none))
 
-found : (text : List ℕ) (asked : List (List Asked)) → relation_at text ≡ Ok asked → IsRelation text asked
+found : (text : List ℕ) (asked : List (List Asked)) → relation_at text ≡ Ok asked
+    → IsRelation text asked
 unfolding relation_at
 found text asked e =
     let a = on_ok_parts (over member_step [] (slice_split (λ b. eqb b 44) text)) some_members asked e in
     let some = some_found a.0 asked a.2 in
     by (slice_split (λ b. eqb b 44) text) refl (own_lack 44 text) (a.1 ∙ ap (λ (x : List (List Asked)). Ok x) some.0) some.1
   where
-    by : (ps : List (List ℕ)) → slice_split (λ b. eqb b 44) text ≡ ps → AllByRecursion (λ p. Without 44 p) ps → over member_step [] ps ≡ Ok asked → asked ≢ [] → IsRelation text asked
+    by : (ps : List (List ℕ)) → slice_split (λ b. eqb b 44) text ≡ ps → AllByRecursion (λ p.
+        Without 44 p) ps → over member_step [] ps ≡ Ok asked → asked ≢ [] → IsRelation text asked
     by [] is comma k some = absurd (no_pieces (λ b. eqb b 44) text is)
     by (p ∷ ps) is comma k some =
         let m = members_found p ps [] asked comma k in
@@ -295,7 +331,8 @@ found text asked e =
         let asks : asked ≡ asked_of (m.first ∷ m.others) = m.asks in
         record { written = m.first ∷ m.others; spaced = (m.spaced, λ none. some (asks ∙ ap (map (λ m. map alternative_asked m)) none)); spelled = whole ∙ m.spelled; asks = asks }
 
-again : (text : List ℕ) (asked : List (List Asked)) → IsRelation text asked → relation_at text ≡ Ok asked
+again : (text : List ℕ) (asked : List (List Asked)) → IsRelation text asked
+    → relation_at text ≡ Ok asked
 again text asked h = ap relation_at h.spelled ∙ spaced_relations_are_read h.written h.spaced ∙ ap (λ (x : List (List Asked)). Ok x) (sym h.asks)
 
 pub relations_are_exact : RelationsAreExact

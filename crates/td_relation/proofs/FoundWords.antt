@@ -1,5 +1,7 @@
 -- The words of a text, and the lists that they are.
-use Rattle.std.proofs.Common.{◌≡◌, ◌≢◌, ℕ, Bool, true, false, cond, not, eqb, ltb, ◌||◌, List, [], ◌∷◌, ◌++◌, length, map, Some, refl, sym, ap, subst, ◌∙◌, inl, inr, arith}
+use Rattle.std.proofs.Common.{◌≡◌, ◌≢◌, ℕ, Bool, true, false, cond, not, eqb, ltb, ◌||◌, List, []}
+use Rattle.std.proofs.Common.{◌∷◌, ◌++◌, length, map, Some, refl, sym, ap, subst, ◌∙◌, inl, inr}
+use Rattle.std.proofs.Common.{arith}
 use Rattle.std.specs.Prelude.{IsTrue}
 use Rattle.std.specs.List.{list_all, filter, slice_split, onto_first, AllByRecursion}
 use Rattle.std.proofs.lemmas.Bool.{cases_Bool, and_parts, and_from, eqb-true, ne_eqb, or_parts}
@@ -9,8 +11,11 @@ use Rattle.td_text.proofs.Chain.{not-true}
 use Rattle.td_text.proofs.Cut.{Without-left, Without-right}
 use Rattle.td_text.specs.Runs.{is_space}
 use Rattle.td_relation.specs.ArchList.{words, is_negated, bare}
-use Rattle.td_relation.specs.RelationGrammar.{is_negated_word, is_arch_list, is_profile, is_profile_list}
-use Rattle.td_relation.specs.RelationWriting.{WrittenArchs, WrittenProfile, marked, profile_text, is_profile_byte, is_profile_name, ArchsFit, ProfilesFit}
+use Rattle.td_relation.specs.RelationGrammar.{is_negated_word, is_arch_list, is_profile}
+use Rattle.td_relation.specs.RelationGrammar.{is_profile_list}
+use Rattle.td_relation.specs.RelationWriting.{WrittenArchs, WrittenProfile, marked, profile_text}
+use Rattle.td_relation.specs.RelationWriting.{is_profile_byte, is_profile_name, ArchsFit}
+use Rattle.td_relation.specs.RelationWriting.{ProfilesFit}
 use Rattle.td_relation.specs.Spacing.{AreWords, EndsAWord}
 
 -- ---- words
@@ -37,13 +42,16 @@ pub record IsSplit (t : List ℕ) : Type 0 where
   pub ends : EndsAWord rest
   pub later : AreFound (filled more) rest
 
-first_found : (first : List ℕ) (more : List (List ℕ)) (rest t : List ℕ) → t ≡ first ++ rest → Plain first → EndsAWord rest → AreFound (filled more) rest → AreFound (filled (first ∷ more)) t
+first_found : (first : List ℕ) (more : List (List ℕ)) (rest t : List ℕ) → t ≡ first ++ rest
+    → Plain first → EndsAWord rest → AreFound (filled more) rest
+    → AreFound (filled (first ∷ more)) t
 first_found [] more rest t joined plain ends later = subst (AreFound (filled more)) (sym joined) later
 first_found (x ∷ first) more rest t joined plain ends later =
     let some : eqb (length (x ∷ first)) 0 ≡ false = ne_eqb (length (x ∷ first)) 0 (λ e. omega arith) in
     rw some (record { spaced = ([], rest, joined, refl, ends, later.spaced); plain = (plain, later.plain) })
 
-space_more : (x : ℕ) (ws : List (List ℕ)) (t : List ℕ) → is_space x ≡ true → AreWords ws t → AreWords ws (x ∷ t)
+space_more : (x : ℕ) (ws : List (List ℕ)) (t : List ℕ) → is_space x ≡ true → AreWords ws t
+    → AreWords ws (x ∷ t)
 space_more x [] t h is = and_from (is_space x) (list_all is_space t) h is
 space_more x (w ∷ ws) t h (space, rest, joined, blank, ends, more) = (x ∷ space, rest, ap (λ (l : List ℕ). x ∷ l) joined, and_from (is_space x) (list_all is_space space) h blank, ends, more)
 
@@ -63,7 +71,8 @@ words_found t =
     subst (λ (l : List (List ℕ)). AreFound (filled l) t) (sym s.cut) (first_found s.first s.more s.rest t s.joined s.plain s.ends s.later)
 
 -- what the text lacks its words lack
-pub words_lack : (c : ℕ) (ws : List (List ℕ)) (t : List ℕ) → Without c t → AreWords ws t → AllByRecursion (λ w. Without c w) ws
+pub words_lack : (c : ℕ) (ws : List (List ℕ)) (t : List ℕ) → Without c t → AreWords ws t
+    → AllByRecursion (λ w. Without c w) ws
 words_lack c [] t lacks is = tt
 words_lack c (w ∷ ws) t lacks (space, rest, joined, blank, ends, more) =
     let on = Without-right c space (w ++ rest) (subst (Without c) joined lacks) in
@@ -79,7 +88,8 @@ or_second : (a b : Bool) → (a || b) ≡ true → a ≡ false → b ≡ true
 or_second true b h k = absurd cc
 or_second false b h k = h
 
-plain_each : (ws : List (List ℕ)) → list_all is_arch ws ≡ true → AllByRecursion (λ n. IsTrue (is_arch n)) ws
+plain_each : (ws : List (List ℕ)) → list_all is_arch ws ≡ true
+    → AllByRecursion (λ n. IsTrue (is_arch n)) ws
 plain_each [] h = tt
 plain_each (w ∷ ws) h = let p = and_parts (is_arch w) (list_all is_arch ws) h in (p.0, plain_each ws p.1)
 
@@ -91,13 +101,15 @@ marked_bare : (w : List ℕ) → is_negated w ≡ true → w ≡ marked true (ba
 marked_bare [] h = absurd cc
 marked_bare (b ∷ w) h = let e = eqb-true b 33 h in rw h (ap (λ (x : ℕ). x ∷ w) e)
 
-negated_each : (ws : List (List ℕ)) → list_all (is_negated_word is_arch) ws ≡ true → AllByRecursion (λ n. IsTrue (is_arch n)) (map bare ws)
+negated_each : (ws : List (List ℕ)) → list_all (is_negated_word is_arch) ws ≡ true
+    → AllByRecursion (λ n. IsTrue (is_arch n)) (map bare ws)
 negated_each [] h = tt
 negated_each (w ∷ ws) h =
     let p = and_parts (is_negated_word is_arch w) (list_all (is_negated_word is_arch) ws) h in
     ((and_parts (is_negated w) (is_arch (bare w)) p.0).1, negated_each ws p.1)
 
-negated_marked : (ws : List (List ℕ)) → list_all (is_negated_word is_arch) ws ≡ true → ws ≡ map (marked true) (map bare ws)
+negated_marked : (ws : List (List ℕ)) → list_all (is_negated_word is_arch) ws ≡ true
+    → ws ≡ map (marked true) (map bare ws)
 negated_marked [] h = refl
 negated_marked (w ∷ ws) h =
     let p = and_parts (is_negated_word is_arch w) (list_all (is_negated_word is_arch) ws) h in
@@ -153,7 +165,8 @@ pub record Lacks (w : List ℕ) : Type 0 where
   pub greater : Without 62 w
   pub bar : Without 124 w
 
-name_bytes : (w : List ℕ) → list_all (λ b. not (eqb b 60 || eqb b 33)) w ≡ true → Plain w → Lacks w → list_all is_profile_byte w ≡ true
+name_bytes : (w : List ℕ) → list_all (λ b. not (eqb b 60 || eqb b 33)) w ≡ true → Plain w → Lacks w
+    → list_all is_profile_byte w ≡ true
 name_bytes [] h plain lacks = refl
 name_bytes (x ∷ w) h plain lacks =
     let p = and_parts (not (eqb x 60 || eqb x 33)) (list_all (λ b. not (eqb b 60 || eqb b 33)) w) h in
@@ -167,7 +180,8 @@ name_bytes (x ∷ w) h plain lacks =
     let first : is_profile_byte x ≡ true = rw (space, mark, comma, less, greater, bar) refl in
     and_from (is_profile_byte x) (list_all is_profile_byte w) first (name_bytes w p.1 plain.1 (record { comma = lacks.comma.1; greater = lacks.greater.1; bar = lacks.bar.1 }))
 
-name_legal : (w : List ℕ) → is_profile (bare w) ≡ true → Plain w → Lacks w → is_profile_name (bare w) ≡ true
+name_legal : (w : List ℕ) → is_profile (bare w) ≡ true → Plain w → Lacks w
+    → is_profile_name (bare w) ≡ true
 name_legal w h plain lacks =
     let p = and_parts (ltb 0 (length (bare w))) (list_all (λ b. not (eqb b 60 || eqb b 33)) (bare w)) h in
     and_from _ _ p.0 (name_bytes (bare w) p.1 (bare_keeps (λ b. is_space b ≡ false) w plain) (record {
@@ -176,7 +190,10 @@ name_legal w h plain lacks =
       bar = bare_keeps (λ x. x ≢ 124) w lacks.bar;
     }))
 
-each_profile : (ws : List (List ℕ)) → list_all (λ w. is_profile (bare w)) ws ≡ true → AllByRecursion Plain ws → AllByRecursion (λ w. Without 44 w) ws → AllByRecursion (λ w. Without 62 w) ws → AllByRecursion (λ w. Without 124 w) ws → AllByRecursion (λ p. IsTrue (is_profile_name p.name)) (map profile_of ws)
+each_profile : (ws : List (List ℕ)) → list_all (λ w. is_profile (bare w)) ws ≡ true
+    → AllByRecursion Plain ws → AllByRecursion (λ w. Without 44 w) ws
+    → AllByRecursion (λ w. Without 62 w) ws → AllByRecursion (λ w. Without 124 w) ws
+    → AllByRecursion (λ p. IsTrue (is_profile_name p.name)) (map profile_of ws)
 unfolding profile_of
 each_profile [] h plain a b c = tt
 each_profile (w ∷ ws) h plain a b c =
@@ -196,7 +213,8 @@ pub record IsProfileList (inside : List ℕ) : Type 0 where
   pub fits : ProfilesFit list
   pub are : words inside ≡ map profile_text list
 
-pub profile_list_found : (inside : List ℕ) → is_profile_list (words inside) ≡ true → Lacks inside → IsProfileList inside
+pub profile_list_found : (inside : List ℕ) → is_profile_list (words inside) ≡ true → Lacks inside
+    → IsProfileList inside
 profile_list_found inside h lacks =
     let p = and_parts (ltb 0 (length (words inside))) (list_all (λ w. is_profile (bare w)) (words inside)) h in
     let found = words_found inside in

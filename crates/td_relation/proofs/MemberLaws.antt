@@ -1,5 +1,7 @@
 -- Members, seen through what their alternatives ask.
-use Rattle.std.proofs.Common.{◌≡◌, ℕ, zero, suc, get_or, add-one, drop-cons, ◌+◌, ◌≤◌, ◌<◌, Bool, true, false, cond, not, eqb, ◌&&◌, ◌||◌, List, [], ◌∷◌, map, length, take, drop, refl, sym, ap, ◌∙◌, arith}
+use Rattle.std.proofs.Common.{◌≡◌, ℕ, zero, suc, get_or, add-one, drop-cons, ◌+◌, ◌≤◌, ◌<◌, Bool}
+use Rattle.std.proofs.Common.{true, false, cond, not, eqb, ◌&&◌, ◌||◌, List, [], ◌∷◌, map, length}
+use Rattle.std.proofs.Common.{take, drop, refl, sym, ap, ◌∙◌, arith}
 use Rattle.std.specs.List.{list_any, list_all, filter}
 use Rattle.std.proofs.lemmas.List.{drop-drop}
 use Rattle.td_text.proofs.Chain.{list_any-map}
@@ -12,18 +14,22 @@ use Rattle.td_relation.specs.Members.{chunked}
 use Rattle.td_relation.specs.Offers.{Offered}
 
 -- a member is met where it has no active alternative, or an active one that is met
-pub member_met-by : (offers : List ℕ → List Offered) (place : ℕ) (a : ArchWords) (m : List Alternative) (has met : Bool)
+pub member_met-by : (offers : List ℕ → List Offered) (place : ℕ) (a : ArchWords)
+    (m : List Alternative) (has met : Bool)
     → has ≡ list_any (λ x. active a (asked x)) m → met ≡ list_any (λ x. active a (asked x) && alternative_met offers place (asked x)) m → (not has || met) ≡ member_met offers place a (map asked m)
 member_met-by offers place a m has met h k =
     ap (λ (b : Bool). not b || met) (h ∙ sym (list_any-map (λ (x : Asked). active a x) asked m))
     ∙ ap (λ (b : Bool). not (list_any (λ (x : Asked). active a x) (map asked m)) || b) (k ∙ sym (list_any-map (λ (x : Asked). active a x && alternative_met offers place x) asked m))
 
 -- a test of the filled pieces
-list_any-filter : {A : Type 0} (keep test : A → Bool) (xs : List A) → list_any test (filter keep xs) ≡ list_any (λ x. keep x && test x) xs
+list_any-filter : {A : Type 0} (keep test : A → Bool) (xs : List A)
+    → list_any test (filter keep xs) ≡ list_any (λ x. keep x && test x) xs
 list_any-filter keep test [] = refl
 list_any-filter keep test (x ∷ xs) = by (keep x) (list_any-filter keep test xs)
   where
-    by : (b : Bool) → list_any test (filter keep xs) ≡ list_any (λ y. keep y && test y) xs → list_any test (cond b (x ∷ filter keep xs) (filter keep xs)) ≡ ((b && test x) || list_any (λ y. keep y && test y) xs)
+    by : (b : Bool) → list_any test (filter keep xs) ≡ list_any (λ y. keep y && test y) xs
+        → list_any test (cond b (x ∷ filter keep xs) (filter keep xs))
+        ≡ ((b && test x) || list_any (λ y. keep y && test y) xs)
     by true h = ap (λ (b : Bool). test x || b) h
     by false h = h
 
@@ -48,7 +54,8 @@ drop-front [] (suc n) = refl
 drop-front (x ∷ xs) (suc n) = drop-front xs n
 
 -- the member at a place, and those behind it
-pub chunked_at : {A : Type 0} (sizes : List ℕ) (i from : ℕ) (xs member : List A) → i < length sizes → member ≡ take (get_or sizes i 0) (drop from xs)
+pub chunked_at : {A : Type 0} (sizes : List ℕ) (i from : ℕ) (xs member : List A) → i < length sizes
+    → member ≡ take (get_or sizes i 0) (drop from xs)
     → chunked (drop i sizes) (drop from xs) ≡ member ∷ chunked (drop (i + 1) sizes) (drop (from + length member) xs)
 chunked_at sizes i from xs member within is =
     let n = get_or sizes i 0 in
@@ -60,15 +67,20 @@ chunked_at sizes i from xs member within is =
     ∙ ap (λ ys. member ∷ chunked (drop (i + 1) sizes) ys) (sym behind)
 
 -- there are as many pieces as lengths
-pub length-chunked : {A : Type 0} (sizes : List ℕ) (xs : List A) → length (chunked sizes xs) ≡ length sizes
+pub length-chunked : {A : Type 0} (sizes : List ℕ) (xs : List A)
+    → length (chunked sizes xs) ≡ length sizes
 length-chunked [] xs = refl
 length-chunked (n ∷ sizes) xs = ap suc (length-chunked sizes (drop n xs))
 
 -- a list of pieces that begins with this one
-pub all_next : {A : Type 0} (test : List A → Bool) (whole rest : List (List A)) (member : List A) (more : List (List A)) (b : Bool) → list_all test rest ≡ list_all test whole → rest ≡ member ∷ more → b ≡ test member → (b && list_all test more) ≡ list_all test whole
+pub all_next : {A : Type 0} (test : List A → Bool) (whole rest : List (List A)) (member : List A)
+    (more : List (List A)) (b : Bool) → list_all test rest ≡ list_all test whole
+    → rest ≡ member ∷ more → b ≡ test member → (b && list_all test more) ≡ list_all test whole
 all_next test whole rest member more b h is tested = ap (λ (a : Bool). a && list_all test more) tested ∙ sym (ap (list_all test) is) ∙ h
 
-pub any_next : {A : Type 0} (test : List A → Bool) (whole rest : List (List A)) (member : List A) (more : List (List A)) (b : Bool) → list_any test rest ≡ list_any test whole → rest ≡ member ∷ more → b ≡ test member → (b || list_any test more) ≡ list_any test whole
+pub any_next : {A : Type 0} (test : List A → Bool) (whole rest : List (List A)) (member : List A)
+    (more : List (List A)) (b : Bool) → list_any test rest ≡ list_any test whole
+    → rest ≡ member ∷ more → b ≡ test member → (b || list_any test more) ≡ list_any test whole
 any_next test whole rest member more b h is tested = ap (λ (a : Bool). a || list_any test more) tested ∙ sym (ap (list_any test) is) ∙ h
 
 -- behind the last one
@@ -79,7 +91,9 @@ drop-all (x ∷ xs) zero h = absurd (omega arith)
 drop-all (x ∷ xs) (suc i) h = drop-all xs i (omega arith)
 
 -- a test of each element of each piece, through a view
-pub any_of_maps : {A B : Type 0} (test : B → Bool) (view : A → B) (ms : List (List A)) → list_any (λ m. list_any test m) (map (λ m. map view m) ms) ≡ list_any (λ m. list_any (λ x. test (view x)) m) ms
+pub any_of_maps : {A B : Type 0} (test : B → Bool) (view : A → B) (ms : List (List A))
+    → list_any (λ m. list_any test m) (map (λ m. map view m) ms)
+    ≡ list_any (λ m. list_any (λ x. test (view x)) m) ms
 any_of_maps test view [] = refl
 any_of_maps test view (m ∷ ms) =
     ap (λ (b : Bool). b || list_any (λ n. list_any test n) (map (λ n. map view n) ms)) (list_any-map test view m)

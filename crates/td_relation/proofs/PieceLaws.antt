@@ -1,5 +1,7 @@
 -- A text piece by piece.
-use Rattle.std.proofs.Common.{◌≡◌, ℕ, suc, ◌<◌, Bool, true, false, cond, not, eqb, ltb, ◌&&◌, ◌||◌, List, [], ◌∷◌, length, Option, Some, None, Result, Ok, Err, refl, sym, ap, ◌∙◌, subst, arith}
+use Rattle.std.proofs.Common.{◌≡◌, ℕ, suc, ◌<◌, Bool, true, false, cond, not, eqb, ltb, ◌&&◌, ◌||◌}
+use Rattle.std.proofs.Common.{List, [], ◌∷◌, length, Option, Some, None, Result, Ok, Err, refl, sym}
+use Rattle.std.proofs.Common.{ap, ◌∙◌, subst, arith}
 use Rattle.std.specs.Borrow.{Bor}
 use Rattle.std.specs.List.{list_all, list_any, filter}
 use Rattle.std.proofs.lemmas.Bool.{eq-eqb, lt-ltb}
@@ -8,14 +10,21 @@ use Rattle.std.proofs.lemmas.Str.Pattern.{IsSplitOnceResult, split_parts}
 use Rattle.td_text.specs.Lines.{on_ok}
 use Rattle.td_text.proofs.Cut.{Without-from_index, none_is}
 use Rattle.td_relation.specs.declared.relation_fault.RelationFault.{RelationFault}
-use Rattle.td_relation.specs.declared.relation_fault.RelationFault.TheVariants.{BadName, BadOperator, BadVersion, BadArchList, BadProfile, Empty, NoMemory}
+use Rattle.td_relation.specs.declared.relation_fault.RelationFault.TheVariants.{BadName}
+use Rattle.td_relation.specs.declared.relation_fault.RelationFault.TheVariants.{BadOperator}
+use Rattle.td_relation.specs.declared.relation_fault.RelationFault.TheVariants.{BadVersion}
+use Rattle.td_relation.specs.declared.relation_fault.RelationFault.TheVariants.{BadArchList}
+use Rattle.td_relation.specs.declared.relation_fault.RelationFault.TheVariants.{BadProfile, Empty}
+use Rattle.td_relation.specs.declared.relation_fault.RelationFault.TheVariants.{NoMemory}
 use Rattle.td_relation.specs.Pieces.{pieces_of, pieces_left}
 use Rattle.td_text.specs.Words.{is_arch}
 use Rattle.td_relation.specs.ArchList.{is_negated, bare}
-use Rattle.td_relation.specs.RelationGrammar.{over, is_negated_word, is_arch_list, is_profile, is_profile_list}
+use Rattle.td_relation.specs.RelationGrammar.{over, is_negated_word, is_arch_list, is_profile}
+use Rattle.td_relation.specs.RelationGrammar.{is_profile_list}
 use Rattle.td_relation.specs.RelationViews.{IsFaultOf}
 
-pub next_some : (c : ℕ) (t : List ℕ) (x : Bor (List ℕ) × Bor (List ℕ)) → c < 128 → IsSplitOnceResult c t (Some x) → pieces_of c t ≡ x.0.now ∷ pieces_of c x.1.now
+pub next_some : (c : ℕ) (t : List ℕ) (x : Bor (List ℕ) × Bor (List ℕ)) → c < 128
+    → IsSplitOnceResult c t (Some x) → pieces_of c t ≡ x.0.now ∷ pieces_of c x.1.now
 next_some c t x small s =
     let p = split_parts c t (Some x) s small in
     ap (pieces_of c) p.0 ∙ slice_split_at (λ b. eqb b c) x.0.now c x.1.now (none_is c x.0.now (Without-from_index c x.0.now p.1)) (eq-eqb c c refl)
@@ -62,7 +71,8 @@ module _ {S : Type 0} (step : S → List ℕ → Result S RelationFault) where
   faulted NoMemory seen piece after total is h = tt
 
 -- a fault of a part is that of what goes on from it
-pub faulted_first : {A B : Type 0} (e : RelationFault) (r : Result A RelationFault) (f : A → Result B RelationFault) → IsFaultOf r e → IsFaultOf (on_ok r f) e
+pub faulted_first : {A B : Type 0} (e : RelationFault) (r : Result A RelationFault)
+    (f : A → Result B RelationFault) → IsFaultOf r e → IsFaultOf (on_ok r f) e
 faulted_first BadName r f is = ap (λ x. on_ok x f) is
 faulted_first BadOperator r f is = ap (λ x. on_ok x f) is
 faulted_first BadVersion r f is = ap (λ x. on_ok x f) is
@@ -72,11 +82,13 @@ faulted_first Empty r f is = ap (λ x. on_ok x f) is
 faulted_first NoMemory r f is = tt
 
 -- a fault of an equal reading
-pub faulted_same : {A : Type 0} (e : RelationFault) (r s : Result A RelationFault) → r ≡ s → IsFaultOf r e → IsFaultOf s e
+pub faulted_same : {A : Type 0} (e : RelationFault) (r s : Result A RelationFault) → r ≡ s
+    → IsFaultOf r e → IsFaultOf s e
 faulted_same e r s same is = subst (λ x. IsFaultOf x e) same is
 
 -- a fault that is named is the reading's
-pub fault_is : {A : Type 0} (e : RelationFault) (r : Result A RelationFault) → r ≡ Err e → IsFaultOf r e
+pub fault_is : {A : Type 0} (e : RelationFault) (r : Result A RelationFault) → r ≡ Err e
+    → IsFaultOf r e
 fault_is BadName r h = h
 fault_is BadOperator r h = h
 fault_is BadVersion r h = h
@@ -87,19 +99,25 @@ fault_is NoMemory r h = tt
 
 -- ---- tests of the filled pieces
 
-pub list_all-filter : {A : Type 0} (skip test : A → Bool) (xs : List A) → list_all test (filter (λ x. not (skip x)) xs) ≡ list_all (λ x. skip x || test x) xs
+pub list_all-filter : {A : Type 0} (skip test : A → Bool) (xs : List A)
+    → list_all test (filter (λ x. not (skip x)) xs) ≡ list_all (λ x. skip x || test x) xs
 list_all-filter skip test [] = refl
 list_all-filter skip test (x ∷ xs) = by (skip x) (list_all-filter skip test xs)
   where
-    by : (b : Bool) → list_all test (filter (λ y. not (skip y)) xs) ≡ list_all (λ y. skip y || test y) xs → list_all test (cond (not b) (x ∷ filter (λ y. not (skip y)) xs) (filter (λ y. not (skip y)) xs)) ≡ ((b || test x) && list_all (λ y. skip y || test y) xs)
+    by : (b : Bool)
+        → list_all test (filter (λ y. not (skip y)) xs) ≡ list_all (λ y. skip y || test y) xs
+        → list_all test (cond (not b) (x ∷ filter (λ y. not (skip y)) xs)
+        (filter (λ y. not (skip y)) xs)) ≡ ((b || test x) && list_all (λ y. skip y || test y) xs)
     by true h = h
     by false h = ap (λ (b : Bool). test x && b) h
 
-pub some_filled : {A : Type 0} (keep : A → Bool) (xs : List A) → list_any keep xs ≡ ltb 0 (length (filter keep xs))
+pub some_filled : {A : Type 0} (keep : A → Bool) (xs : List A)
+    → list_any keep xs ≡ ltb 0 (length (filter keep xs))
 some_filled keep [] = refl
 some_filled keep (x ∷ xs) = by (keep x) (some_filled keep xs)
   where
-    by : (b : Bool) → list_any keep xs ≡ ltb 0 (length (filter keep xs)) → (b || list_any keep xs) ≡ ltb 0 (length (cond b (x ∷ filter keep xs) (filter keep xs)))
+    by : (b : Bool) → list_any keep xs ≡ ltb 0 (length (filter keep xs))
+        → (b || list_any keep xs) ≡ ltb 0 (length (cond b (x ∷ filter keep xs) (filter keep xs)))
     by true h = sym (lt-ltb 0 (suc (length (filter keep xs))) (omega arith))
     by false h = h
 
@@ -111,7 +129,10 @@ blank_word w = eqb (length w) 0
 abbrev pub filled_words : List (List ℕ) → List (List ℕ)
 filled_words pieces = filter (λ w. not (blank_word w)) pieces
 
-pub is_arch_list-by : (pieces : List (List ℕ)) (some plain negated : Bool) → some ≡ list_any (λ w. not (blank_word w)) pieces → plain ≡ list_all (λ w. blank_word w || is_arch w) pieces → negated ≡ list_all (λ w. blank_word w || is_negated_word is_arch w) pieces
+pub is_arch_list-by : (pieces : List (List ℕ)) (some plain negated : Bool)
+    → some ≡ list_any (λ w. not (blank_word w)) pieces
+    → plain ≡ list_all (λ w. blank_word w || is_arch w) pieces
+    → negated ≡ list_all (λ w. blank_word w || is_negated_word is_arch w) pieces
     → (some && (plain || negated)) ≡ is_arch_list (filled_words pieces)
 is_arch_list-by pieces some plain negated a b d =
     let x = a ∙ some_filled (λ w. not (blank_word w)) pieces in
@@ -121,11 +142,14 @@ is_arch_list-by pieces some plain negated a b d =
     ∙ ap (λ (q : Bool). ltb 0 (length (filled_words pieces)) && (q || negated)) y
     ∙ ap (λ (q : Bool). ltb 0 (length (filled_words pieces)) && (list_all is_arch (filled_words pieces) || q)) z
 
-pub is_profile_list-by : (pieces : List (List ℕ)) (some profiles : Bool) → some ≡ list_any (λ w. not (blank_word w)) pieces → profiles ≡ list_all (λ w. blank_word w || is_profile (bare w)) pieces → (some && profiles) ≡ is_profile_list (filled_words pieces)
+pub is_profile_list-by : (pieces : List (List ℕ)) (some profiles : Bool)
+    → some ≡ list_any (λ w. not (blank_word w)) pieces → profiles ≡ list_all (λ w. blank_word w
+    || is_profile (bare w)) pieces → (some && profiles) ≡ is_profile_list (filled_words pieces)
 is_profile_list-by pieces some profiles a b =
     let x = a ∙ some_filled (λ w. not (blank_word w)) pieces in
     let y = b ∙ sym (list_all-filter blank_word (λ w. is_profile (bare w)) pieces) in
     ap (λ (q : Bool). q && profiles) x ∙ ap (λ (q : Bool). ltb 0 (length (filled_words pieces)) && q) y
 
-pub unprofiled-by : (pieces : List (List ℕ)) (all : Bool) → all ≡ list_all (λ w. blank_word w || is_negated w) pieces → all ≡ list_all is_negated (filled_words pieces)
+pub unprofiled-by : (pieces : List (List ℕ)) (all : Bool) → all ≡ list_all
+    (λ w. blank_word w || is_negated w) pieces → all ≡ list_all is_negated (filled_words pieces)
 unprofiled-by pieces all a = a ∙ sym (list_all-filter blank_word is_negated pieces)

@@ -1,5 +1,7 @@
 -- The parts of an alternative, with whitespace between them, are read one by one.
-use Rattle.std.proofs.Common.{◌≡◌, ℕ, ◌<◌, Bool, true, false, cond, eqb, ltb, List, [], ◌∷◌, ◌++◌, length, get_or, map, Option, Some, None, option_map, Ok, Err, refl, ap, ◌∙◌, arith}
+use Rattle.std.proofs.Common.{◌≡◌, ℕ, ◌<◌, Bool, true, false, cond, eqb, ltb, List, [], ◌∷◌, ◌++◌}
+use Rattle.std.proofs.Common.{length, get_or, map, Option, Some, None, option_map, Ok, Err, refl}
+use Rattle.std.proofs.Common.{ap, ◌∙◌, arith}
 use Rattle.std.specs.Prelude.{codes, IsTrue}
 use Rattle.std.specs.List.{list_all, AllByRecursion}
 use Rattle.std.proofs.lemmas.Bool.{and_parts, ltb-true, or_right, and_from}
@@ -12,12 +14,20 @@ use Rattle.td_version.specs.Version.{Parts}
 use Rattle.td_version.specs.Grammar.{IsVersion}
 use Rattle.td_version.proofs.Outcomes.{read_only}
 use Rattle.td_relation.specs.declared.relation.Operator.{Operator}
-use Rattle.td_relation.specs.declared.relation.Operator.TheVariants.{Earlier, EarlierOrEqual, Equal, LaterOrEqual, Later}
+use Rattle.td_relation.specs.declared.relation.Operator.TheVariants.{Earlier, EarlierOrEqual, Equal}
+use Rattle.td_relation.specs.declared.relation.Operator.TheVariants.{LaterOrEqual, Later}
 use Rattle.td_relation.specs.declared.relation_fault.RelationFault.TheVariants.{BadArchList}
 use Rattle.td_text.specs.Runs.{is_space, run, behind, trimmed, is_blank}
-use Rattle.td_relation.specs.RelationGrammar.{ends_a_name, after_colon, unqualified, named, name_at, is_operator_byte, operator_at, is_version_byte, ends_a_restriction, closed, version_at, restricted, restriction_at, is_arch_list, listed, bracketed, archs_at}
-use Rattle.td_relation.specs.RelationWriting.{operator_text, marked, qualifier_part, QualifierFits, BoundFits, ArchsFit, bound_asked}
-use Rattle.td_relation.specs.Spacing.{SpacedBound, SpacedArchs, SpacedProfiles, bound_then, archs_then, profiles_then, BoundIsSpaced, ArchsAreSpaced, ProfilesAreSpaced}
+use Rattle.td_relation.specs.RelationGrammar.{ends_a_name, after_colon, unqualified, named, name_at}
+use Rattle.td_relation.specs.RelationGrammar.{is_operator_byte, operator_at, is_version_byte}
+use Rattle.td_relation.specs.RelationGrammar.{ends_a_restriction, closed, version_at, restricted}
+use Rattle.td_relation.specs.RelationGrammar.{restriction_at, is_arch_list, listed, bracketed}
+use Rattle.td_relation.specs.RelationGrammar.{archs_at}
+use Rattle.td_relation.specs.RelationWriting.{operator_text, marked, qualifier_part, QualifierFits}
+use Rattle.td_relation.specs.RelationWriting.{BoundFits, ArchsFit, bound_asked}
+use Rattle.td_relation.specs.Spacing.{SpacedBound, SpacedArchs, SpacedProfiles, bound_then}
+use Rattle.td_relation.specs.Spacing.{archs_then, profiles_then, BoundIsSpaced, ArchsAreSpaced}
+use Rattle.td_relation.specs.Spacing.{ProfilesAreSpaced}
 use Rattle.td_text.proofs.RunTexts.{Stops, run_again, behind_again, misses, NoSpace, Stops-front}
 use Rattle.td_text.proofs.Blanks.{Stops-blank, Stops-back, trimmed_behind, trimmed_all}
 use Rattle.td_relation.proofs.SpacedWords.{arch_words, arch_words-lack}
@@ -34,19 +44,25 @@ abbrev pub archs_bare : Option SpacedArchs → List SpacedProfiles → List ℕ 
 archs_bare None ls back = lists_bare ls back
 archs_bare (Some l) ls back = 91 ∷ (l.inside ++ 93 ∷ profiles_then ls back)
 
-abbrev pub bound_bare : Option SpacedBound → Option SpacedArchs → List SpacedProfiles → List ℕ → List ℕ
+abbrev pub bound_bare : Option SpacedBound → Option SpacedArchs → List SpacedProfiles → List ℕ
+    → List ℕ
 bound_bare None l ls back = archs_bare l ls back
 bound_bare (Some b) l ls back = 40 ∷ (b.before_operator ++ (operator_text b.bound.operator ++ (b.before_version ++ (b.bound.version ++ (b.before_end ++ 41 ∷ archs_then l (profiles_then ls back))))))
 
-pub lists_trimmed : (ls : List SpacedProfiles) (back : List ℕ) → AllByRecursion ProfilesAreSpaced ls → is_blank back ≡ true → trimmed (profiles_then ls back) ≡ lists_bare ls back
+pub lists_trimmed : (ls : List SpacedProfiles) (back : List ℕ) → AllByRecursion ProfilesAreSpaced ls
+    → is_blank back ≡ true → trimmed (profiles_then ls back) ≡ lists_bare ls back
 lists_trimmed [] back h end = trimmed_all back end
 lists_trimmed (l ∷ ls) back h end = trimmed_behind l.before (60 ∷ (l.inside ++ 62 ∷ profiles_then ls back)) h.0.0 refl
 
-pub archs_trimmed : (l : Option SpacedArchs) (ls : List SpacedProfiles) (back : List ℕ) → ArchsAreSpaced l → AllByRecursion ProfilesAreSpaced ls → is_blank back ≡ true → trimmed (archs_then l (profiles_then ls back)) ≡ archs_bare l ls back
+pub archs_trimmed : (l : Option SpacedArchs) (ls : List SpacedProfiles) (back : List ℕ)
+    → ArchsAreSpaced l → AllByRecursion ProfilesAreSpaced ls → is_blank back ≡ true
+    → trimmed (archs_then l (profiles_then ls back)) ≡ archs_bare l ls back
 archs_trimmed None ls back s h end = lists_trimmed ls back h end
 archs_trimmed (Some l) ls back s h end = trimmed_behind l.before (91 ∷ (l.inside ++ 93 ∷ profiles_then ls back)) s.0 refl
 
-pub bound_trimmed : (b : Option SpacedBound) (l : Option SpacedArchs) (ls : List SpacedProfiles) (back : List ℕ) → BoundIsSpaced b → ArchsAreSpaced l → AllByRecursion ProfilesAreSpaced ls → is_blank back ≡ true
+pub bound_trimmed : (b : Option SpacedBound) (l : Option SpacedArchs) (ls : List SpacedProfiles)
+    (back : List ℕ) → BoundIsSpaced b → ArchsAreSpaced l → AllByRecursion ProfilesAreSpaced ls
+    → is_blank back ≡ true
     → trimmed (bound_then b (archs_then l (profiles_then ls back))) ≡ bound_bare b l ls back
 bound_trimmed None l ls back t s h end = archs_trimmed l ls back s h end
 bound_trimmed (Some b) l ls back t s h end = trimmed_behind b.before (bound_bare (Some b) l ls back) t.0 refl
@@ -58,25 +74,33 @@ pub record Outer (test : ℕ → Bool) : Type 0 where
   pub opens_list : test 91 ≡ false
   pub less : test 60 ≡ false
 
-lists_stop : (test : ℕ → Bool) (ls : List SpacedProfiles) (back : List ℕ) → Outer test → AllByRecursion ProfilesAreSpaced ls → is_blank back ≡ true → Stops test (profiles_then ls back)
+lists_stop : (test : ℕ → Bool) (ls : List SpacedProfiles) (back : List ℕ) → Outer test
+    → AllByRecursion ProfilesAreSpaced ls → is_blank back ≡ true
+    → Stops test (profiles_then ls back)
 lists_stop test [] back o h end = Stops-back test back o.lacks end
 lists_stop test (l ∷ ls) back o h end = Stops-blank test l.before (60 ∷ (l.inside ++ 62 ∷ profiles_then ls back)) o.lacks h.0.0 o.less
 
-archs_stop : (test : ℕ → Bool) (l : Option SpacedArchs) (ls : List SpacedProfiles) (back : List ℕ) → Outer test → ArchsAreSpaced l → AllByRecursion ProfilesAreSpaced ls → is_blank back ≡ true → Stops test (archs_then l (profiles_then ls back))
+archs_stop : (test : ℕ → Bool) (l : Option SpacedArchs) (ls : List SpacedProfiles) (back : List ℕ)
+    → Outer test → ArchsAreSpaced l → AllByRecursion ProfilesAreSpaced ls → is_blank back ≡ true
+    → Stops test (archs_then l (profiles_then ls back))
 archs_stop test None ls back o s h end = lists_stop test ls back o h end
 archs_stop test (Some l) ls back o s h end = Stops-blank test l.before (91 ∷ (l.inside ++ 93 ∷ profiles_then ls back)) o.lacks s.0 o.opens_list
 
-pub bound_stops : (test : ℕ → Bool) (b : Option SpacedBound) (l : Option SpacedArchs) (ls : List SpacedProfiles) (back : List ℕ) → Outer test → BoundIsSpaced b → ArchsAreSpaced l → AllByRecursion ProfilesAreSpaced ls → is_blank back ≡ true
+pub bound_stops : (test : ℕ → Bool) (b : Option SpacedBound) (l : Option SpacedArchs)
+    (ls : List SpacedProfiles) (back : List ℕ) → Outer test → BoundIsSpaced b → ArchsAreSpaced l
+    → AllByRecursion ProfilesAreSpaced ls → is_blank back ≡ true
     → Stops test (bound_then b (archs_then l (profiles_then ls back)))
 bound_stops test None l ls back o t s h end = archs_stop test l ls back o s h end
 bound_stops test (Some b) l ls back o t s h end = Stops-blank test b.before (bound_bare (Some b) l ls back) o.lacks t.0 o.opens
 
-restriction_ends : (l : Option SpacedArchs) (ls : List SpacedProfiles) (back : List ℕ) → ends_a_restriction (archs_bare l ls back) ≡ true
+restriction_ends : (l : Option SpacedArchs) (ls : List SpacedProfiles) (back : List ℕ)
+    → ends_a_restriction (archs_bare l ls back) ≡ true
 restriction_ends None [] back = refl
 restriction_ends None (p ∷ ls) back = or_right _ true refl
 restriction_ends (Some l) ls back = or_right _ true refl
 
-pub name_ends : (b : Option SpacedBound) (l : Option SpacedArchs) (ls : List SpacedProfiles) (back : List ℕ) → ends_a_name (bound_bare b l ls back) ≡ true
+pub name_ends : (b : Option SpacedBound) (l : Option SpacedArchs) (ls : List SpacedProfiles)
+    (back : List ℕ) → ends_a_name (bound_bare b l ls back) ≡ true
 name_ends None None [] back = refl
 name_ends None None (p ∷ ls) back = or_right _ true refl
 name_ends None (Some l) ls back = or_right _ true refl
@@ -87,7 +111,8 @@ unfolding strip
 no_list [] back = refl
 no_list (p ∷ ls) back = refl
 
-no_bound : (l : Option SpacedArchs) (ls : List SpacedProfiles) (back : List ℕ) → strip (codes "(") (archs_bare l ls back) ≡ None
+no_bound : (l : Option SpacedArchs) (ls : List SpacedProfiles) (back : List ℕ)
+    → strip (codes "(") (archs_bare l ls back) ≡ None
 unfolding strip
 no_bound None [] back = refl
 no_bound None (p ∷ ls) back = refl
@@ -103,7 +128,9 @@ unfolding strip
 strip_stops c [] s = refl
 strip_stops c (x ∷ t) s = rw s refl
 
-unqualified_again : (q : Option (List ℕ)) (rest : List ℕ) → QualifierFits q → Stops is_arch_byte rest → Stops (eqb 58) rest → unqualified (qualifier_part q ++ rest) ≡ Some rest
+unqualified_again : (q : Option (List ℕ)) (rest : List ℕ) → QualifierFits q
+    → Stops is_arch_byte rest → Stops (eqb 58) rest
+    → unqualified (qualifier_part q ++ rest) ≡ Some rest
 unfolding unqualified
 unqualified_again None rest h s n = ap (after_colon rest) (strip_stops 58 rest n)
 unqualified_again (Some word) rest h s n =
@@ -113,11 +140,14 @@ unqualified_again (Some word) rest h s n =
     ∙ ap (λ (b : Bool). cond b (Some (behind is_arch_byte (word ++ rest))) None) p.0
     ∙ ap (λ (t : List ℕ). Some t) (behind_again is_arch_byte word rest p.1 s)
 
-qualifier_stops : (q : Option (List ℕ)) (rest : List ℕ) → Stops is_name_byte rest → Stops is_name_byte (qualifier_part q ++ rest)
+qualifier_stops : (q : Option (List ℕ)) (rest : List ℕ) → Stops is_name_byte rest
+    → Stops is_name_byte (qualifier_part q ++ rest)
 qualifier_stops None rest s = s
 qualifier_stops (Some word) rest s = refl
 
-pub name_again : (front name : List ℕ) (q : Option (List ℕ)) (rest : List ℕ) → is_blank front ≡ true → IsTrue (is_name name) → QualifierFits q → Stops is_name_byte rest → Stops is_arch_byte rest → Stops (eqb 58) rest → ends_a_name (trimmed rest) ≡ true
+pub name_again : (front name : List ℕ) (q : Option (List ℕ)) (rest : List ℕ) → is_blank front ≡ true
+    → IsTrue (is_name name) → QualifierFits q → Stops is_name_byte rest → Stops is_arch_byte rest
+    → Stops (eqb 58) rest → ends_a_name (trimmed rest) ≡ true
     → name_at (front ++ (name ++ (qualifier_part q ++ rest))) ≡ Some (name, trimmed rest)
 unfolding name_at
 name_again front name q rest blank h fits stops archs colon ends =
@@ -163,7 +193,8 @@ operator_read LaterOrEqual = refl
 operator_read Later = refl
 
 -- no byte of a version is one of an operator
-version_stops : (version t : List ℕ) → 0 < length version → list_all is_version_byte version ≡ true → Stops is_operator_byte (version ++ t)
+version_stops : (version t : List ℕ) → 0 < length version → list_all is_version_byte version ≡ true
+    → Stops is_operator_byte (version ++ t)
 version_stops [] t some h = absurd (omega arith)
 version_stops (x ∷ version) t some h =
     let is = (and_parts (is_version_byte x) (list_all is_version_byte version) h).0 in
@@ -172,7 +203,9 @@ version_stops (x ∷ version) t some h =
     let greater : eqb x 62 ≡ false = misses is_version_byte 62 x refl is in
     rw (less, equal, greater) refl
 
-version_again : (o : Operator) (space version end rest bare : List ℕ) (p : Parts) → is_blank space ≡ true → is_blank end ≡ true → IsVersion version p → trimmed rest ≡ bare → ends_a_restriction bare ≡ true
+version_again : (o : Operator) (space version end rest bare : List ℕ) (p : Parts)
+    → is_blank space ≡ true → is_blank end ≡ true → IsVersion version p → trimmed rest ≡ bare
+    → ends_a_restriction bare ≡ true
     → version_at (Some o) (space ++ (version ++ (end ++ 41 ∷ rest))) ≡ Ok (Some (record { operator = o; version = p }), bare)
 version_again o space version end rest bare p blank blank_end v is ends =
     let bytes = version_bytes version p v in
@@ -187,7 +220,9 @@ version_again o space version end rest bare p blank blank_end v is ends =
     ∙ ap (λ (t : List ℕ). cond (ends_a_restriction t) (Ok (Some (record { operator = o; version = p }), t)) (Err BadArchList)) is
     ∙ ap (λ (y : Bool). cond y (Ok (Some (record { operator = o; version = p }), bare)) (Err BadArchList)) ends
 
-pub restriction_again : (b : Option SpacedBound) (l : Option SpacedArchs) (ls : List SpacedProfiles) (back : List ℕ) → BoundFits (option_map (λ x. x.bound) b) → BoundIsSpaced b → ArchsAreSpaced l → AllByRecursion ProfilesAreSpaced ls → is_blank back ≡ true
+pub restriction_again : (b : Option SpacedBound) (l : Option SpacedArchs) (ls : List SpacedProfiles)
+    (back : List ℕ) → BoundFits (option_map (λ x. x.bound) b) → BoundIsSpaced b → ArchsAreSpaced l
+    → AllByRecursion ProfilesAreSpaced ls → is_blank back ≡ true
     → restriction_at (bound_bare b l ls back) ≡ Ok (option_map bound_asked (option_map (λ x. x.bound) b), archs_bare l ls back)
 unfolding restriction_at
 restriction_again None l ls back fits t s h end = ap (restricted (archs_bare l ls back)) (no_bound l ls back)
@@ -206,7 +241,9 @@ restriction_again (Some b) l ls back fits t s h end =
 
 -- ---- the architecture list
 
-pub archs_again : (l : Option SpacedArchs) (ls : List SpacedProfiles) (back : List ℕ) → ArchsFit (option_map (λ x. x.list) l) → ArchsAreSpaced l → AllByRecursion ProfilesAreSpaced ls → is_blank back ≡ true
+pub archs_again : (l : Option SpacedArchs) (ls : List SpacedProfiles) (back : List ℕ)
+    → ArchsFit (option_map (λ x. x.list) l) → ArchsAreSpaced l → AllByRecursion ProfilesAreSpaced ls
+    → is_blank back ≡ true
     → archs_at (archs_bare l ls back) ≡ Some (option_map (λ w. map (marked w.negated) w.names) (option_map (λ x. x.list) l), lists_bare ls back)
 unfolding archs_at
 archs_again None ls back fits s h end = ap (bracketed (lists_bare ls back)) (no_list ls back)

@@ -1,5 +1,7 @@
 -- Relations with whitespace wherever it is free are read.
-use Rattle.std.proofs.Common.{◌≡◌, ◌≢◌, ℕ, Bool, true, false, eqb, ltb, List, [], ◌∷◌, ◌++◌, length, get_or, map, Option, Some, None, option_map, Ok, refl, sym, ap, ◌∙◌, append_assoc, append-nil, arith}
+use Rattle.std.proofs.Common.{◌≡◌, ◌≢◌, ℕ, Bool, true, false, eqb, ltb, List, [], ◌∷◌, ◌++◌, length}
+use Rattle.std.proofs.Common.{get_or, map, Option, Some, None, option_map, Ok, refl, sym, ap, ◌∙◌}
+use Rattle.std.proofs.Common.{append_assoc, append-nil, arith}
 use Rattle.std.specs.Prelude.{codes}
 use Rattle.std.specs.List.{list_all, slice_split, flat_map, AllByRecursion}
 use Rattle.std.proofs.lemmas.Bool.{and_parts}
@@ -10,17 +12,28 @@ use Rattle.td_text.specs.Words.{is_alphanumeric, is_name_byte, is_arch_byte, is_
 use Rattle.td_text.proofs.Cut.{Without-append, Without-from_test, none_is}
 use Rattle.td_text.proofs.Words.{Without-name, Without-arch}
 use Rattle.td_relation.specs.declared.relation.Operator.{Operator}
-use Rattle.td_relation.specs.declared.relation.Operator.TheVariants.{Earlier, EarlierOrEqual, Equal, LaterOrEqual, Later}
+use Rattle.td_relation.specs.declared.relation.Operator.TheVariants.{Earlier, EarlierOrEqual, Equal}
+use Rattle.td_relation.specs.declared.relation.Operator.TheVariants.{LaterOrEqual, Later}
 use Rattle.td_text.specs.Runs.{is_space, is_blank}
 use Rattle.td_relation.specs.Asked.{Asked}
-use Rattle.td_relation.specs.RelationGrammar.{ends_a_name, is_version_byte, alternative_at, over, alternative_step, member_at, member_step, some_members, relation_at}
-use Rattle.td_relation.specs.RelationWriting.{operator_text, qualifier_part, QualifierFits, BoundFits, ArchsFit, ProfilesFit, WrittenAlternative, alternative_asked}
-use Rattle.td_relation.specs.Spacing.{SpacedBound, SpacedArchs, SpacedProfiles, SpacedAlternative, SpacedMember, Filled, Blank, bound_then, archs_then, profiles_then, behind_name, spaced_alternative, spaced_member, spaced_relation, unspaced, unspaced_members, BoundIsSpaced, ArchsAreSpaced, ProfilesAreSpaced, IsSpaced, MemberIsSpaced, SpacedRelationsAreRead, WhitespaceMakesNoDifference}
+use Rattle.td_relation.specs.RelationGrammar.{ends_a_name, is_version_byte, alternative_at, over}
+use Rattle.td_relation.specs.RelationGrammar.{alternative_step, member_at, member_step}
+use Rattle.td_relation.specs.RelationGrammar.{some_members, relation_at}
+use Rattle.td_relation.specs.RelationWriting.{operator_text, qualifier_part, QualifierFits}
+use Rattle.td_relation.specs.RelationWriting.{BoundFits, ArchsFit, ProfilesFit, WrittenAlternative}
+use Rattle.td_relation.specs.RelationWriting.{alternative_asked}
+use Rattle.td_relation.specs.Spacing.{SpacedBound, SpacedArchs, SpacedProfiles, SpacedAlternative}
+use Rattle.td_relation.specs.Spacing.{SpacedMember, Filled, Blank, bound_then, archs_then}
+use Rattle.td_relation.specs.Spacing.{profiles_then, behind_name, spaced_alternative, spaced_member}
+use Rattle.td_relation.specs.Spacing.{spaced_relation, unspaced, unspaced_members, BoundIsSpaced}
+use Rattle.td_relation.specs.Spacing.{ArchsAreSpaced, ProfilesAreSpaced, IsSpaced, MemberIsSpaced}
+use Rattle.td_relation.specs.Spacing.{SpacedRelationsAreRead, WhitespaceMakesNoDifference}
 use Rattle.td_text.proofs.Blanks.{is_blank-behind}
 use Rattle.td_relation.proofs.MemberTexts.{member_step-blank, member_step-filled}
 use Rattle.td_text.proofs.RunTexts.{NoSpace, not_space}
 use Rattle.td_relation.proofs.WrittenMembers.{name_not_blank}
-use Rattle.td_relation.proofs.SpacedParts.{Outer, bound_stops, bound_trimmed, name_ends, name_again, restriction_again, archs_again}
+use Rattle.td_relation.proofs.SpacedParts.{Outer, bound_stops, bound_trimmed, name_ends, name_again}
+use Rattle.td_relation.proofs.SpacedParts.{restriction_again, archs_again}
 use Rattle.td_relation.proofs.SpacedProfiles.{unprofiled_again}
 use Rattle.td_relation.proofs.SpacedWords.{arch_words-lack, profile_words-lack}
 use Rattle.td_relation.proofs.VersionBytes.{version_bytes}
@@ -38,7 +51,8 @@ outer_arch = record { lacks = record { space = refl; tab = refl; newline = refl 
 outer_colon : Outer (eqb 58)
 outer_colon = record { lacks = record { space = refl; tab = refl; newline = refl }; opens = refl; opens_list = refl; less = refl }
 
-pub alternative_again : (a : SpacedAlternative) → IsSpaced a → alternative_at (spaced_alternative a) ≡ Ok (alternative_asked (unspaced a))
+pub alternative_again : (a : SpacedAlternative) → IsSpaced a
+    → alternative_at (spaced_alternative a) ≡ Ok (alternative_asked (unspaced a))
 unfolding alternative_at
 alternative_again a h =
     let stops = λ (test : ℕ → Bool) (o : Outer test). bound_stops test a.bound a.archs a.profiles a.back o h.bound h.archs h.profiles h.back in
@@ -66,17 +80,21 @@ module _ (c : ℕ) (apart : Apart c) (out : is_space c ≡ false) where
   operator_lacks LaterOrEqual = (apart.greater, (apart.equal, tt))
   operator_lacks Later = (apart.greater, (apart.greater, tt))
 
-  profiles_lack : (ls : List SpacedProfiles) (rest : List ℕ) → AllByRecursion ProfilesFit (map (λ x. x.list) ls) → AllByRecursion ProfilesAreSpaced ls → Without c rest → Without c (profiles_then ls rest)
+  profiles_lack : (ls : List SpacedProfiles) (rest : List ℕ)
+      → AllByRecursion ProfilesFit (map (λ x. x.list) ls) → AllByRecursion ProfilesAreSpaced ls
+      → Without c rest → Without c (profiles_then ls rest)
   profiles_lack [] rest fits h w = w
   profiles_lack (l ∷ ls) rest fits h w =
       Without-append c l.before _ (blank_lacks l.before h.0.0) (apart.less, Without-append c l.inside _ (profile_words-lack c l.list l.inside out apart.profile apart.mark fits.0 h.0.1) (apart.greater, profiles_lack ls rest fits.1 h.1 w))
 
-  archs_lack : (l : Option SpacedArchs) (rest : List ℕ) → ArchsFit (option_map (λ x. x.list) l) → ArchsAreSpaced l → Without c rest → Without c (archs_then l rest)
+  archs_lack : (l : Option SpacedArchs) (rest : List ℕ) → ArchsFit (option_map (λ x. x.list) l)
+      → ArchsAreSpaced l → Without c rest → Without c (archs_then l rest)
   archs_lack None rest fits h w = w
   archs_lack (Some l) rest fits h w =
       Without-append c l.before _ (blank_lacks l.before h.0) (apart.opens_list, Without-append c l.inside _ (arch_words-lack c l.list.negated l.list.names l.inside out apart.arch apart.mark fits.1 h.1) (apart.closes_list, w))
 
-  bound_lacks : (b : Option SpacedBound) (rest : List ℕ) → BoundFits (option_map (λ x. x.bound) b) → BoundIsSpaced b → Without c rest → Without c (bound_then b rest)
+  bound_lacks : (b : Option SpacedBound) (rest : List ℕ) → BoundFits (option_map (λ x. x.bound) b)
+      → BoundIsSpaced b → Without c rest → Without c (bound_then b rest)
   bound_lacks None rest fits h w = w
   bound_lacks (Some b) rest fits h w =
       let version = Without-from_test is_version_byte c b.bound.version apart.version (version_bytes b.bound.version b.bound.parts fits) in
@@ -100,13 +118,16 @@ is_bar b = eqb b 124
 last_piece : (c : ℕ) (t : List ℕ) → Without c t → slice_split (λ b. eqb b c) (t ++ []) ≡ t ∷ []
 last_piece c t h = ap (slice_split (λ b. eqb b c)) (append-nil t) ∙ slice_split_none (λ b. eqb b c) t (none_is c t h)
 
-next_piece : (c : ℕ) (t rest : List ℕ) → eqb c c ≡ true → Without c t → slice_split (λ b. eqb b c) (t ++ c ∷ rest) ≡ t ∷ slice_split (λ b. eqb b c) rest
+next_piece : (c : ℕ) (t rest : List ℕ) → eqb c c ≡ true → Without c t
+    → slice_split (λ b. eqb b c) (t ++ c ∷ rest) ≡ t ∷ slice_split (λ b. eqb b c) rest
 next_piece c t rest same h = slice_split_at (λ b. eqb b c) t c rest (none_is c t h) same
 
-piece_again : (seen : List Asked) (a : SpacedAlternative) → IsSpaced a → alternative_step seen (spaced_alternative a) ≡ Ok (seen ++ alternative_asked (unspaced a) ∷ [])
+piece_again : (seen : List Asked) (a : SpacedAlternative) → IsSpaced a → alternative_step seen
+    (spaced_alternative a) ≡ Ok (seen ++ alternative_asked (unspaced a) ∷ [])
 piece_again seen a h = ap (λ r. on_ok r (λ x. Ok (seen ++ x ∷ []))) (alternative_again a h)
 
-alternatives_again : (seen : List Asked) (a : SpacedAlternative) (others : List SpacedAlternative) → IsSpaced a → AllByRecursion IsSpaced others
+alternatives_again : (seen : List Asked) (a : SpacedAlternative) (others : List SpacedAlternative)
+    → IsSpaced a → AllByRecursion IsSpaced others
     → over alternative_step seen (slice_split is_bar (spaced_member (Filled (a ∷ others)))) ≡ Ok (seen ++ map alternative_asked (map unspaced (a ∷ others)))
 unfolding over
 alternatives_again seen a [] h hs =
@@ -119,7 +140,8 @@ alternatives_again seen a (b ∷ others) h hs =
     ∙ alternatives_again (seen ++ alternative_asked (unspaced a) ∷ []) b others hs.0 hs.1
     ∙ ap (λ (l : List Asked). Ok l) (append_assoc seen (alternative_asked (unspaced a) ∷ []) (map alternative_asked (map unspaced (b ∷ others))))
 
-member_again : (m : List SpacedAlternative) → m ≢ [] → AllByRecursion IsSpaced m → member_at (spaced_member (Filled m)) ≡ Ok (map alternative_asked (map unspaced m))
+member_again : (m : List SpacedAlternative) → m ≢ [] → AllByRecursion IsSpaced m
+    → member_at (spaced_member (Filled m)) ≡ Ok (map alternative_asked (map unspaced m))
 member_again [] some h = absurd (some refl)
 member_again (a ∷ others) some h = alternatives_again [] a others h.0 h.1
 
@@ -131,7 +153,8 @@ is_comma b = eqb b 44
 name_no_space : NoSpace is_name_byte
 name_no_space = record { space = refl; tab = refl; newline = refl }
 
-member_not_blank : (m : List SpacedAlternative) → m ≢ [] → AllByRecursion IsSpaced m → is_blank (spaced_member (Filled m)) ≡ false
+member_not_blank : (m : List SpacedAlternative) → m ≢ [] → AllByRecursion IsSpaced m
+    → is_blank (spaced_member (Filled m)) ≡ false
 member_not_blank [] some h = absurd (some refl)
 member_not_blank (a ∷ others) some h =
     let more = flat_map (λ y. codes "|" ++ spaced_alternative y) others in
@@ -140,7 +163,8 @@ member_not_blank (a ∷ others) some h =
     ∙ is_blank-behind a.front (a.name ++ (on ++ more)) h.0.front
     ∙ name_not_blank a.name (on ++ more) h.0.fits.name
 
-each_lacks : (c : ℕ) (apart : Apart c) → is_space c ≡ false → (m : List SpacedAlternative) → AllByRecursion IsSpaced m → AllByRecursion (λ a. Without c (spaced_alternative a)) m
+each_lacks : (c : ℕ) (apart : Apart c) → is_space c ≡ false → (m : List SpacedAlternative)
+    → AllByRecursion IsSpaced m → AllByRecursion (λ a. Without c (spaced_alternative a)) m
 each_lacks c apart out [] h = tt
 each_lacks c apart out (a ∷ m) h = (alternative_lacks c apart out a h.0, each_lacks c apart out m h.1)
 
@@ -152,15 +176,18 @@ member_lacks (Blank space) h = Without-from_test is_space 44 space refl h
 abbrev asked_of : List SpacedMember → List (List Asked)
 asked_of r = map (λ m. map alternative_asked m) (unspaced_members r)
 
-step_again : (seen : List (List Asked)) (m : SpacedMember) → MemberIsSpaced m → member_step seen (spaced_member m) ≡ Ok (seen ++ asked_of (m ∷ []))
+step_again : (seen : List (List Asked)) (m : SpacedMember) → MemberIsSpaced m
+    → member_step seen (spaced_member m) ≡ Ok (seen ++ asked_of (m ∷ []))
 step_again seen (Filled m) h = member_step-filled seen (spaced_member (Filled m)) (member_not_blank m h.0 h.1) ∙ ap (λ r. on_ok r (λ x. Ok (seen ++ x ∷ []))) (member_again m h.0 h.1)
 step_again seen (Blank space) h = member_step-blank seen space h ∙ ap (λ (l : List (List Asked)). Ok l) (sym (append-nil seen))
 
-pub one_more : (m : SpacedMember) (r : List SpacedMember) → asked_of (m ∷ []) ++ asked_of r ≡ asked_of (m ∷ r)
+pub one_more : (m : SpacedMember) (r : List SpacedMember)
+    → asked_of (m ∷ []) ++ asked_of r ≡ asked_of (m ∷ r)
 one_more (Filled m) r = refl
 one_more (Blank space) r = refl
 
-members_again : (seen : List (List Asked)) (m : SpacedMember) (r : List SpacedMember) → MemberIsSpaced m → AllByRecursion MemberIsSpaced r
+members_again : (seen : List (List Asked)) (m : SpacedMember) (r : List SpacedMember)
+    → MemberIsSpaced m → AllByRecursion MemberIsSpaced r
     → over member_step seen (slice_split is_comma (spaced_relation (m ∷ r))) ≡ Ok (seen ++ asked_of (m ∷ r))
 unfolding over
 members_again seen m [] h hs =
@@ -173,7 +200,8 @@ members_again seen m (n ∷ r) h hs =
     ∙ members_again (seen ++ asked_of (m ∷ [])) n r hs.0 hs.1
     ∙ ap (λ (l : List (List Asked)). Ok l) (append_assoc seen (asked_of (m ∷ [])) (asked_of (n ∷ r)) ∙ ap (λ (l : List (List Asked)). seen ++ l) (one_more m (n ∷ r)))
 
-some_left : (ms : List (List WrittenAlternative)) → ms ≢ [] → some_members (map (λ m. map alternative_asked m) ms) ≡ Ok (map (λ m. map alternative_asked m) ms)
+some_left : (ms : List (List WrittenAlternative)) → ms ≢ [] → some_members
+    (map (λ m. map alternative_asked m) ms) ≡ Ok (map (λ m. map alternative_asked m) ms)
 some_left [] some = absurd (some refl)
 some_left (m ∷ ms) some = refl
 

@@ -1,5 +1,6 @@
 -- The bytes of a version.
-use Rattle.std.proofs.Common.{◌≡◌, ℕ, ◌<◌, Bool, true, false, ltb, ◌&&◌, ◌||◌, List, [], ◌∷◌, ◌++◌, length, Option, Some, None, refl, ap, ◌∙◌, arith}
+use Rattle.std.proofs.Common.{◌≡◌, ℕ, ◌<◌, Bool, true, false, ltb, ◌&&◌, ◌||◌, List, [], ◌∷◌, ◌++◌}
+use Rattle.std.proofs.Common.{length, Option, Some, None, refl, ap, ◌∙◌, arith}
 use Rattle.std.specs.Prelude.{is_some}
 use Rattle.std.specs.Char.{is_ascii_digit}
 use Rattle.std.specs.List.{list_all}
@@ -9,14 +10,17 @@ use Rattle.std.proofs.lemmas.List.{length-append}
 use Rattle.std.proofs.lemmas.List.Folds.{list_all-append}
 use Rattle.td_version.specs.Order.{is_letter}
 use Rattle.td_version.specs.Version.{Parts}
-use Rattle.td_version.specs.Grammar.{epoch_front, revision_back, is_revision_byte, is_upstream_byte, EpochFits, RevisionFits, IsVersion}
+use Rattle.td_version.specs.Grammar.{epoch_front, revision_back, is_revision_byte, is_upstream_byte}
+use Rattle.td_version.specs.Grammar.{EpochFits, RevisionFits, IsVersion}
 use Rattle.td_relation.specs.RelationGrammar.{is_version_byte}
 
 -- what passes a test in front of it and behind it
-both_pass : (test : ℕ → Bool) (a b : List ℕ) → list_all test a ≡ true → list_all test b ≡ true → list_all test (a ++ b) ≡ true
+both_pass : (test : ℕ → Bool) (a b : List ℕ) → list_all test a ≡ true → list_all test b ≡ true
+    → list_all test (a ++ b) ≡ true
 both_pass test a b h k = list_all-append test a b ∙ and_from _ _ h k
 
-pass_on : (p q : ℕ → Bool) (t : List ℕ) → ((b : ℕ) → p b ≡ true → q b ≡ true) → list_all p t ≡ true → list_all q t ≡ true
+pass_on : (p q : ℕ → Bool) (t : List ℕ) → ((b : ℕ) → p b ≡ true → q b ≡ true) → list_all p t ≡ true
+    → list_all q t ≡ true
 pass_on p q [] f h = refl
 pass_on p q (x ∷ t) f h =
     let a = and_parts (p x) (list_all p t) h in
@@ -38,14 +42,16 @@ digit_bytes (x ∷ t) h =
     let a = and_parts (is_ascii_digit x) (all_ascii_digits t) h in
     and_from _ _ (revision_byte x (or_right (is_letter x) _ (or_left (is_ascii_digit x) _ a.0))) (digit_bytes t a.1)
 
-epoch_bytes : (epoch : Option (List ℕ)) → EpochFits epoch → list_all is_version_byte (epoch_front epoch) ≡ true
+epoch_bytes : (epoch : Option (List ℕ)) → EpochFits epoch
+    → list_all is_version_byte (epoch_front epoch) ≡ true
 epoch_bytes None h = refl
 epoch_bytes (Some digits) h =
     let a = and_parts (ltb 0 (length digits)) _ h in
     let b = and_parts (all_ascii_digits digits) _ a.1 in
     both_pass is_version_byte digits (58 ∷ []) (digit_bytes digits b.0) refl
 
-revision_bytes : (revision : Option (List ℕ)) → RevisionFits revision → list_all is_version_byte (revision_back revision) ≡ true
+revision_bytes : (revision : Option (List ℕ)) → RevisionFits revision
+    → list_all is_version_byte (revision_back revision) ≡ true
 revision_bytes None h = refl
 revision_bytes (Some revision) h =
     let a = and_parts (ltb 0 (length revision)) (list_all is_revision_byte revision) h in

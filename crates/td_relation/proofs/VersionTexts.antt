@@ -9,6 +9,7 @@ use Rattle.td_version.specs.Faults.{IsFirstFault}
 use Rattle.td_version.specs.Reading.{parts_read, reading}
 use Rattle.td_version.proofs.Outcomes.{read_only, read_refused}
 
-pub read_is : (text : List ℕ) (r : Result Version VersionFault) → IfOk r (λ version. IsVersion text (parts_of version)) → IfErr r (λ fault. IsFirstFault text fault) → parts_read r ≡ reading text
+pub read_is : (text : List ℕ) (r : Result Version VersionFault) → IfOk r (λ version. IsVersion text
+    (parts_of version)) → IfErr r (λ fault. IsFirstFault text fault) → parts_read r ≡ reading text
 read_is text (Ok version) found fault = sym (read_only text (parts_of version) found)
 read_is text (Err e) found fault = sym (read_refused text e fault)

@@ -1,26 +1,36 @@
 -- An alternative that is written in the canonical way is read again.
-use Rattle.std.proofs.Common.{◌≡◌, ◌≢◌, ℕ, Bool, false, List, [], ◌∷◌, ◌++◌, Option, Some, None, Ok, refl, ap, ◌∙◌, append_assoc, arith}
+use Rattle.std.proofs.Common.{◌≡◌, ◌≢◌, ℕ, Bool, false, List, [], ◌∷◌, ◌++◌, Option, Some, None, Ok}
+use Rattle.std.proofs.Common.{refl, ap, ◌∙◌, append_assoc, arith}
 use Rattle.std.specs.Prelude.{codes, IsTrue}
 use Rattle.td_text.specs.Cut.{Without}
 use Rattle.td_text.specs.Words.{is_name_byte, is_arch_byte, is_arch}
 use Rattle.td_text.proofs.Cut.{Without-append, Without-from_test}
 use Rattle.td_text.proofs.Words.{Without-name, Without-arch}
 use Rattle.td_relation.specs.declared.relation.Operator.{Operator}
-use Rattle.td_relation.specs.declared.relation.Operator.TheVariants.{Earlier, EarlierOrEqual, Equal, LaterOrEqual, Later}
+use Rattle.td_relation.specs.declared.relation.Operator.TheVariants.{Earlier, EarlierOrEqual, Equal}
+use Rattle.td_relation.specs.declared.relation.Operator.TheVariants.{LaterOrEqual, Later}
 use Rattle.td_relation.specs.RelationGrammar.{is_version_byte, alternative_at}
-use Rattle.td_relation.specs.RelationWriting.{WrittenBound, WrittenArchs, WrittenProfile, WrittenAlternative, operator_text, marked, qualifier_part, bound_part, archs_part, profile_part, alternative_text, is_profile_byte, QualifierFits, BoundFits, ArchsFit, ProfilesFit, AlternativeFits, alternative_asked}
+use Rattle.td_relation.specs.RelationWriting.{WrittenBound, WrittenArchs, WrittenProfile}
+use Rattle.td_relation.specs.RelationWriting.{WrittenAlternative, operator_text, marked}
+use Rattle.td_relation.specs.RelationWriting.{qualifier_part, bound_part, archs_part, profile_part}
+use Rattle.td_relation.specs.RelationWriting.{alternative_text, is_profile_byte, QualifierFits}
+use Rattle.td_relation.specs.RelationWriting.{BoundFits, ArchsFit, ProfilesFit, AlternativeFits}
+use Rattle.td_relation.specs.RelationWriting.{alternative_asked}
 use Rattle.td_text.proofs.RunTexts.{gap}
 use Rattle.td_relation.proofs.VersionBytes.{version_bytes}
 use Rattle.td_relation.proofs.WordTexts.{each, Without-flat_map, Without-join, Without-marked}
-use Rattle.td_relation.proofs.WrittenParts.{bound_on, bound_begins, name_ends, name_again, restriction_again, archs_again}
+use Rattle.td_relation.proofs.WrittenParts.{bound_on, bound_begins, name_ends, name_again}
+use Rattle.td_relation.proofs.WrittenParts.{restriction_again, archs_again}
 use Rattle.td_relation.proofs.WrittenProfiles.{profiles_lack, unprofiled_again}
 
 -- ---- it is read again, with a space in front or behind
 
-joined : (a : WrittenAlternative) (e : Bool) → alternative_text a ++ gap e ≡ a.name ++ (qualifier_part a.qualifier ++ bound_on a.bound a.archs a.profiles e)
+joined : (a : WrittenAlternative) (e : Bool) → alternative_text a ++ gap e
+    ≡ a.name ++ (qualifier_part a.qualifier ++ bound_on a.bound a.archs a.profiles e)
 joined a e = simp append_assoc
 
-pub alternative_again : (f e : Bool) (a : WrittenAlternative) → AlternativeFits a → alternative_at (gap f ++ (alternative_text a ++ gap e)) ≡ Ok (alternative_asked a)
+pub alternative_again : (f e : Bool) (a : WrittenAlternative) → AlternativeFits a
+    → alternative_at (gap f ++ (alternative_text a ++ gap e)) ≡ Ok (alternative_asked a)
 unfolding alternative_at
 alternative_again f e a h =
     ap (λ (t : List ℕ). alternative_at (gap f ++ t)) (joined a e)
@@ -83,7 +93,8 @@ module _ (c : ℕ) (apart : Apart c) where
   profile_part-lacks : (l : List WrittenProfile) → ProfilesFit l → Without c (profile_part l)
   profile_part-lacks l h = (apart.space, (apart.less, Without-append c _ (62 ∷ []) (profiles_lack c apart.profile apart.mark apart.space l h) (apart.greater, tt)))
 
-  pub alternative_lacks : (a : WrittenAlternative) → AlternativeFits a → Without c (alternative_text a)
+  pub alternative_lacks : (a : WrittenAlternative) → AlternativeFits a
+      → Without c (alternative_text a)
   alternative_lacks a h =
       Without-append c a.name _ (Without-name c a.name apart.name h.name)
       (Without-append c (qualifier_part a.qualifier) _ (qualifier_lacks a.qualifier h.qualifier)

@@ -1,5 +1,6 @@
 -- Build profile lists that are written in the canonical way are read again.
-use Rattle.std.proofs.Common.{◌≡◌, ℕ, Bool, true, false, cond, eqb, ◌||◌, List, [], ◌∷◌, ◌++◌, map, Some, None, Ok, refl, sym, ap, ◌∙◌, append_assoc, arith}
+use Rattle.std.proofs.Common.{◌≡◌, ℕ, Bool, true, false, cond, eqb, ◌||◌, List, [], ◌∷◌, ◌++◌, map}
+use Rattle.std.proofs.Common.{Some, None, Ok, refl, sym, ap, ◌∙◌, append_assoc, arith}
 use Rattle.std.specs.Prelude.{codes, IsTrue}
 use Rattle.std.specs.List.{list_all, list_any, slice_split, flat_map, join_by, AllByRecursion}
 use Rattle.std.proofs.Math.Bool.{or_assoc}
@@ -10,11 +11,16 @@ use Rattle.td_text.specs.Lines.{on_ok}
 use Rattle.td_text.proofs.Cut.{Without-append, Without-from_test, none_is}
 use Rattle.td_text.proofs.Prefix.{strip_again}
 use Rattle.td_relation.specs.declared.relation_fault.RelationFault.TheVariants.{BadProfile}
-use Rattle.td_relation.specs.RelationGrammar.{is_profile_list, profile_list, profile_piece, holds_unprofiled, over, or_fault, profile_step, ended, unprofiled_at}
-use Rattle.td_relation.specs.RelationWriting.{WrittenProfile, profile_text, profile_part, is_profile_byte, is_profile_name, ProfilesFit, hold_unprofiled}
+use Rattle.td_relation.specs.RelationGrammar.{is_profile_list, profile_list, profile_piece}
+use Rattle.td_relation.specs.RelationGrammar.{holds_unprofiled, over, or_fault, profile_step, ended}
+use Rattle.td_relation.specs.RelationGrammar.{unprofiled_at}
+use Rattle.td_relation.specs.RelationWriting.{WrittenProfile, profile_text, profile_part}
+use Rattle.td_relation.specs.RelationWriting.{is_profile_byte, is_profile_name, ProfilesFit}
+use Rattle.td_relation.specs.RelationWriting.{hold_unprofiled}
 use Rattle.td_text.specs.Runs.{trimmed}
 use Rattle.td_text.proofs.RunTexts.{gap, trimmed_gap, is_blank-gap}
-use Rattle.td_relation.proofs.WordTexts.{each, Without-join, Without-marked, profile_words-again, is_profile_list-again, holds-again}
+use Rattle.td_relation.proofs.WordTexts.{each, Without-join, Without-marked, profile_words-again}
+use Rattle.td_relation.proofs.WordTexts.{is_profile_list-again, holds-again}
 use Rattle.td_relation.proofs.WrittenParts.{lists_on}
 
 -- the words between `<` and `>`
@@ -25,14 +31,16 @@ list_text l = join_by profile_text (codes " ") l
 abbrev holds : List WrittenProfile → Bool
 holds l = list_all (λ p. p.negated) l
 
-pub profiles_lack : (c : ℕ) → is_profile_byte c ≡ false → ¬ (33 ≡ c) → ¬ (32 ≡ c) → (l : List WrittenProfile) → ProfilesFit l → Without c (list_text l)
+pub profiles_lack : (c : ℕ) → is_profile_byte c ≡ false → ¬ (33 ≡ c) → ¬ (32 ≡ c)
+    → (l : List WrittenProfile) → ProfilesFit l → Without c (list_text l)
 profiles_lack c out mark space l h =
     Without-join c profile_text (codes " ") l (space, tt)
     (each (λ p. IsTrue (is_profile_name p.name)) (λ p. Without c (profile_text p)) (λ p w. Without-marked c p.negated p.name mark (Without-from_test is_profile_byte c p.name out (and_parts _ (list_all is_profile_byte p.name) w).1)) l h.1)
 
 -- ---- one list
 
-piece_again : (f : Bool) (l : List WrittenProfile) → ProfilesFit l → profile_piece (gap f ++ 60 ∷ list_text l) ≡ Some (holds l)
+piece_again : (f : Bool) (l : List WrittenProfile) → ProfilesFit l
+    → profile_piece (gap f ++ 60 ∷ list_text l) ≡ Some (holds l)
 unfolding profile_piece
 piece_again f l h =
     ap (λ (t : List ℕ). profile_list (strip (codes "<") t)) (trimmed_gap f (60 ∷ list_text l))
@@ -41,7 +49,8 @@ piece_again f l h =
     ∙ ap (λ (b : Bool). cond b (Some (holds_unprofiled (map profile_text l))) None) (is_profile_list-again l h)
     ∙ ap (λ (b : Bool). Some b) (holds-again l h)
 
-step_again : (seen f : Bool) (l : List WrittenProfile) → ProfilesFit l → profile_step (seen, false) (gap f ++ 60 ∷ list_text l) ≡ Ok (seen || holds l, false)
+step_again : (seen f : Bool) (l : List WrittenProfile) → ProfilesFit l
+    → profile_step (seen, false) (gap f ++ 60 ∷ list_text l) ≡ Ok (seen || holds l, false)
 step_again seen f l h =
     ap (λ (b : Bool). cond b (Ok (seen, true)) (on_ok (or_fault BadProfile (profile_piece (gap f ++ 60 ∷ list_text l))) (λ x. Ok (seen || x, false)))) (is_blank-gap f (60 ∷ list_text l))
     ∙ ap (λ o. on_ok (or_fault BadProfile o) (λ x. Ok (seen || x, false))) (piece_again f l h)
@@ -55,10 +64,14 @@ is_greater b = eqb b 62
 abbrev first_on : Bool → List WrittenProfile → List (List WrittenProfile) → Bool → List ℕ
 first_on f l ls e = gap f ++ 60 ∷ (list_text l ++ 62 ∷ lists_on ls e)
 
-first_joined : (l : List WrittenProfile) (ls : List (List WrittenProfile)) (e : Bool) → ((list_text l ++ 62 ∷ []) ++ flat_map profile_part ls) ++ gap e ≡ list_text l ++ 62 ∷ lists_on ls e
+first_joined : (l : List WrittenProfile) (ls : List (List WrittenProfile)) (e : Bool)
+    → ((list_text l ++ 62 ∷ []) ++ flat_map profile_part ls) ++ gap e
+    ≡ list_text l ++ 62 ∷ lists_on ls e
 first_joined l ls e = ap (λ (t : List ℕ). t ++ gap e) (append_assoc (list_text l) (62 ∷ []) (flat_map profile_part ls)) ∙ append_assoc (list_text l) (62 ∷ flat_map profile_part ls) (gap e)
 
-first_cut : (f : Bool) (l : List WrittenProfile) (ls : List (List WrittenProfile)) (e : Bool) → ProfilesFit l → slice_split is_greater (first_on f l ls e) ≡ (gap f ++ 60 ∷ list_text l) ∷ slice_split is_greater (lists_on ls e)
+first_cut : (f : Bool) (l : List WrittenProfile) (ls : List (List WrittenProfile)) (e : Bool)
+    → ProfilesFit l → slice_split is_greater (first_on f l ls e)
+    ≡ (gap f ++ 60 ∷ list_text l) ∷ slice_split is_greater (lists_on ls e)
 first_cut f l ls e h =
     let lacks : Without 62 (gap f ++ 60 ∷ list_text l) = Without-append 62 (gap f) (60 ∷ list_text l) (gap_lacks f) ((λ z. omega arith), profiles_lack 62 refl (λ z. omega arith) (λ z. omega arith) l h) in
     ap (slice_split is_greater) (sym (append_assoc (gap f) (60 ∷ list_text l) (62 ∷ lists_on ls e)))
@@ -69,12 +82,14 @@ first_cut f l ls e h =
     gap_lacks false = tt
 
 -- what follows the last list
-last_again : (seen e : Bool) → over profile_step (seen, false) (slice_split is_greater (gap e)) ≡ Ok (seen, true)
+last_again : (seen e : Bool)
+    → over profile_step (seen, false) (slice_split is_greater (gap e)) ≡ Ok (seen, true)
 unfolding over
 last_again seen true = refl
 last_again seen false = refl
 
-lists_again : (seen f : Bool) (l : List WrittenProfile) (ls : List (List WrittenProfile)) (e : Bool) → ProfilesFit l → AllByRecursion ProfilesFit ls
+lists_again : (seen f : Bool) (l : List WrittenProfile) (ls : List (List WrittenProfile)) (e : Bool)
+    → ProfilesFit l → AllByRecursion ProfilesFit ls
     → over profile_step (seen, false) (slice_split is_greater (first_on f l ls e)) ≡ Ok (seen || list_any holds (l ∷ ls), true)
 unfolding over
 lists_again seen f l [] e h hs =
@@ -93,7 +108,8 @@ lists_again seen f l (m ∷ ls) e h hs =
     ∙ lists_again (seen || holds l) true m ls e hs.0 hs.1
     ∙ ap (λ (b : Bool). Ok (b, true)) (or_assoc seen (holds l) (list_any holds (m ∷ ls)))
 
-pub unprofiled_again : (ls : List (List WrittenProfile)) (e : Bool) → AllByRecursion ProfilesFit ls → unprofiled_at (trimmed (lists_on ls e)) ≡ Ok (hold_unprofiled ls)
+pub unprofiled_again : (ls : List (List WrittenProfile)) (e : Bool) → AllByRecursion ProfilesFit ls
+    → unprofiled_at (trimmed (lists_on ls e)) ≡ Ok (hold_unprofiled ls)
 unfolding unprofiled_at
 unprofiled_again [] true h = refl
 unprofiled_again [] false h = refl

@@ -17,6 +17,8 @@ abbrev pub bare : List ℕ → List ℕ
 bare [] = []
 bare (b ∷ word) = if b == 33 then word else b ∷ word
 
--- on an architecture a plain list counts where some word matches it, a negated one where none does (Policy 7.1)
+-- on an architecture a plain list counts where some word matches it,
+-- a negated one where none does (Policy 7.1)
 abbrev pub counts : ArchWords → List (List ℕ) → Bool
-counts a list = if list_any is_negated list then not (list_any (λ w. matches a (bare w)) list) else list_any (λ w. matches a (bare w)) list
+counts a list = if list_any is_negated list then not (list_any (λ w. matches a (bare w)) list)
+    else list_any (λ w. matches a (bare w)) list

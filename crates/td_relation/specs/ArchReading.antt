@@ -1,5 +1,6 @@
 -- How a table of architectures is read: line by line, the first fault decides.
-use Rattle.std.specs.Prelude.{ℕ, ◌==◌, ◌&&◌, List, [], ◌∷◌, ◌++◌, Option, Some, None, Result, Ok, Err, length, if◌then◌else◌}
+use Rattle.std.specs.Prelude.{ℕ, ◌==◌, ◌&&◌, List, [], ◌∷◌, ◌++◌, Option, Some, None, Result, Ok}
+use Rattle.std.specs.Prelude.{Err, length, if◌then◌else◌}
 use Rattle.td_text.specs.Chain.{◌>>=◌}
 use Rattle.td_text.specs.Cut.{cut}
 use Rattle.td_text.specs.Lines.{lines_of, over_lines}
@@ -13,7 +14,12 @@ unfoldable pub arch_at : List ℕ → Option ArchWords
 arch_at line = do
   a ← cut 32 line
   b ← cut 32 a.1
-  if is_table_name a.0 && (is_machine_word b.0 && is_machine_word b.1) then Some (record { name = a.0; os = b.0; cpu = b.1 }) else None
+  if is_table_name a.0 && (is_machine_word b.0 && is_machine_word b.1) then Some (record {
+    name =
+        a.0;
+    os = b.0;
+    cpu = b.1;
+  }) else None
 
 -- the architectures seen and that of a line, if it is one
 abbrev pub add_arch : ℕ → List ArchWords → Option ArchWords → Result (List ArchWords) ArchsFault
@@ -24,7 +30,8 @@ add_arch number seen (Some a) =
 
 -- the architectures seen with a line
 abbrev pub arch_step : ℕ → List ArchWords → List ℕ → Result (List ArchWords) ArchsFault
-arch_step number seen line = if is_skipped line then Ok seen else add_arch number seen (arch_at line)
+arch_step number seen line = if is_skipped line then Ok seen
+    else add_arch number seen (arch_at line)
 
 -- the architectures of a text, in the order of its lines
 abbrev pub archs_at : List ℕ → Result (List ArchWords) ArchsFault

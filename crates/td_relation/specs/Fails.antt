@@ -1,7 +1,8 @@
 -- Faults, and the want of memory that may stand in place of any.
 use Rattle.std.specs.Prelude.{◌≡◌, Result, Err}
 use Rattle.td_relation.specs.declared.archs.ArchsFault.{ArchsFault}
-use Rattle.td_relation.specs.declared.archs.ArchsFault.TheVariants.{BadLine, Twice, TooMany, NoMemory}
+use Rattle.td_relation.specs.declared.archs.ArchsFault.TheVariants.{BadLine, Twice, TooMany}
+use Rattle.td_relation.specs.declared.archs.ArchsFault.TheVariants.{NoMemory}
 
 -- a fault is the reading's, unless it is want of memory
 abbrev pub Fails : {A : Type 0} → ArchsFault → Result A ArchsFault → Type 0

@@ -1,7 +1,8 @@
 -- The names of a table's faults, as they are printed. This project's own.
 use Rattle.std.specs.Prelude.{ℕ, List, codes}
 use Rattle.td_relation.specs.declared.archs.ArchsFault.{ArchsFault}
-use Rattle.td_relation.specs.declared.archs.ArchsFault.TheVariants.{BadLine, Twice, TooMany, NoMemory}
+use Rattle.td_relation.specs.declared.archs.ArchsFault.TheVariants.{BadLine, Twice, TooMany}
+use Rattle.td_relation.specs.declared.archs.ArchsFault.TheVariants.{NoMemory}
 
 -- the name alone, without the line
 abbrev pub name_of : ArchsFault → List ℕ

@@ -7,13 +7,15 @@ use Rattle.std.specs.declared.cmp.Ordering.{Ordering}
 use Rattle.td_version.specs.Order.{version_cmp}
 use Rattle.td_version.specs.Version.{Parts}
 use Rattle.td_relation.specs.declared.relation.Operator.{Operator}
-use Rattle.td_relation.specs.declared.relation.Operator.TheVariants.{Earlier, EarlierOrEqual, Equal, LaterOrEqual, Later}
+use Rattle.td_relation.specs.declared.relation.Operator.TheVariants.{Earlier, EarlierOrEqual, Equal}
+use Rattle.td_relation.specs.declared.relation.Operator.TheVariants.{LaterOrEqual, Later}
 use Rattle.td_relation.specs.Arch.{ArchWords}
 use Rattle.td_relation.specs.ArchList.{counts}
 use Rattle.td_relation.specs.Asked.{Bound, Asked}
 use Rattle.td_relation.specs.Offers.{Offered}
 
--- how a version has to stand to the one that is given: strictly earlier, earlier or equal, exactly equal, later or equal, strictly later (Policy 7.1)
+-- how a version has to stand to the one that is given:
+-- strictly earlier, earlier or equal, exactly equal, later or equal, strictly later (Policy 7.1)
 abbrev pub accepts : Operator → Ordering → Bool
 accepts Earlier order = is_lt order
 accepts EarlierOrEqual order = is_le order
@@ -45,17 +47,20 @@ abbrev pub is_for : ArchWords → Option (List (List ℕ)) → Bool
 is_for a None = true
 is_for a (Some list) = counts a list
 
--- an alternative is active on an architecture where its architecture list counts there and its build profile lists hold where no profile is active (this project's own: none is)
+-- an alternative is active on an architecture where its architecture list counts there and its
+-- build profile lists hold where no profile is active (this project's own: none is)
 abbrev pub active : ArchWords → Asked → Bool
 active a alternative = alternative.unprofiled && is_for a alternative.archs
 
 -- an alternative is met by some offer of its name that suits
 abbrev pub alternative_met : (List ℕ → List Offered) → ℕ → Asked → Bool
-alternative_met offers place alternative = list_any (λ o. suits place alternative.restriction o) (offers alternative.name)
+alternative_met offers place alternative = list_any (λ o. suits place alternative.restriction o)
+    (offers alternative.name)
 
 -- a member that has an active alternative has an active one that is met
 abbrev pub member_met : (List ℕ → List Offered) → ℕ → ArchWords → List Asked → Bool
-member_met offers place a member = not (list_any (λ x. active a x) member) || list_any (λ x. active a x && alternative_met offers place x) member
+member_met offers place a member = not (list_any (λ x. active a x) member)
+    || list_any (λ x. active a x && alternative_met offers place x) member
 
 -- a relation is met where each member is; the architecture is at this place of the table
 abbrev pub met : (List ℕ → List Offered) → ℕ → ArchWords → List (List Asked) → Bool

@@ -18,4 +18,5 @@ offered o = record { version = option_map parts_of o.version; arch = o.arch }
 
 -- the offers of a name, in the order in which they came
 abbrev pub offers_of : Offers → List ℕ → List Offered
-offers_of offers name = option_map_or (λ list. map offered list.items) (get_by (λ k. bytes_eq name k.now) offers.by_name) []
+offers_of offers name = option_map_or (λ list. map offered list.items)
+    (get_by (λ k. bytes_eq name k.now) offers.by_name) []

@@ -1,5 +1,9 @@
--- Relation texts, by cases on the text: Debian Policy 7.1 and 7.5, deb-src-control(5) on build profiles. What is read and what is wrong with a text are said together: the first fault from the left decides.
-use Rattle.std.specs.Prelude.{ℕ, ◌==◌, nat_lt, ◌&&◌, ◌||◌, not, Bool, true, false, List, [], ◌∷◌, ◌++◌, Option, Some, None, Result, Ok, Err, length, slice_index, codes, if◌then◌else◌}
+-- Relation texts, by cases on the text: Debian Policy 7.1 and 7.5, deb-src-control(5) on build
+-- profiles. What is read and what is wrong with a text are said together: the first fault from the
+-- left decides.
+use Rattle.std.specs.Prelude.{ℕ, ◌==◌, nat_lt, ◌&&◌, ◌||◌, not, Bool, true, false, List, [], ◌∷◌}
+use Rattle.std.specs.Prelude.{◌++◌, Option, Some, None, Result, Ok, Err, length, slice_index, codes}
+use Rattle.std.specs.Prelude.{if◌then◌else◌}
 use Rattle.std.specs.List.{list_all, slice_split}
 use Rattle.std.specs.Str.{bytes_eq}
 use Rattle.td_text.specs.Cut.{cut, strip}
@@ -10,23 +14,31 @@ use Rattle.td_version.specs.Reading.{reading}
 use Rattle.td_version.specs.Version.{Parts}
 use Rattle.td_version.specs.declared.version.VersionFault.{VersionFault}
 use Rattle.td_relation.specs.declared.relation.Operator.{Operator}
-use Rattle.td_relation.specs.declared.relation.Operator.TheVariants.{Earlier, EarlierOrEqual, Equal, LaterOrEqual, Later}
+use Rattle.td_relation.specs.declared.relation.Operator.TheVariants.{Earlier, EarlierOrEqual, Equal}
+use Rattle.td_relation.specs.declared.relation.Operator.TheVariants.{LaterOrEqual, Later}
 use Rattle.td_relation.specs.declared.relation_fault.RelationFault.{RelationFault}
-use Rattle.td_relation.specs.declared.relation_fault.RelationFault.TheVariants.{BadName, BadOperator, BadVersion, BadArchList, BadProfile, Empty}
+use Rattle.td_relation.specs.declared.relation_fault.RelationFault.TheVariants.{BadName}
+use Rattle.td_relation.specs.declared.relation_fault.RelationFault.TheVariants.{BadOperator}
+use Rattle.td_relation.specs.declared.relation_fault.RelationFault.TheVariants.{BadVersion}
+use Rattle.td_relation.specs.declared.relation_fault.RelationFault.TheVariants.{BadArchList}
+use Rattle.td_relation.specs.declared.relation_fault.RelationFault.TheVariants.{BadProfile, Empty}
 use Rattle.td_relation.specs.ArchList.{is_negated, bare, words}
 use Rattle.td_relation.specs.Asked.{Bound, Asked}
 use Rattle.td_text.specs.Runs.{run, behind, trimmed, is_blank}
 
 -- ---- 1. the name
 
--- nothing, or the byte that begins a restriction `(`, an architecture list `[` or a profile list `<`
+-- nothing, or the byte that begins a restriction `(`,
+-- an architecture list `[` or a profile list `<`
 abbrev pub ends_a_name : List ℕ → Bool
-ends_a_name text = (length text == 0) || ((slice_index text 0 == 40) || ((slice_index text 0 == 91) || (slice_index text 0 == 60)))
+ends_a_name text = (length text == 0)
+    || ((slice_index text 0 == 40) || ((slice_index text 0 == 91) || (slice_index text 0 == 60)))
 
 -- what follows the word behind a colon
 abbrev pub after_colon : List ℕ → Option (List ℕ) → Option (List ℕ)
 after_colon text None = Some text
-after_colon text (Some word) = if nat_lt 0 (length (run is_arch_byte word)) then Some (behind is_arch_byte word) else None
+after_colon text (Some word) = if nat_lt 0 (length (run is_arch_byte word))
+    then Some (behind is_arch_byte word) else None
 
 -- what follows a qualifier as `:any` or `:i386`, which is ignored (this project's own)
 unfoldable pub unqualified : List ℕ → Option (List ℕ)
@@ -35,11 +47,13 @@ unqualified text = after_colon text (strip (codes ":") text)
 -- the name with what follows it, if it may
 abbrev pub named : List ℕ → Option (List ℕ) → Option (List ℕ × List ℕ)
 named name None = None
-named name (Some rest) = if is_name name && ends_a_name (trimmed rest) then Some (name, trimmed rest) else None
+named name (Some rest) = if is_name name && ends_a_name (trimmed rest)
+    then Some (name, trimmed rest) else None
 
 -- the name, and what follows it and its qualifier
 unfoldable pub name_at : List ℕ → Option (List ℕ × List ℕ)
-name_at text = named (run is_name_byte (trimmed text)) (unqualified (behind is_name_byte (trimmed text)))
+name_at text = named (run is_name_byte (trimmed text))
+    (unqualified (behind is_name_byte (trimmed text)))
 
 -- ---- 2. the restriction
 
@@ -62,23 +76,28 @@ is_version_byte b = is_upstream_byte true b
 
 -- nothing, or the byte that begins an architecture list or a profile list
 abbrev pub ends_a_restriction : List ℕ → Bool
-ends_a_restriction text = (length text == 0) || ((slice_index text 0 == 91) || (slice_index text 0 == 60))
+ends_a_restriction text = (length text == 0)
+    || ((slice_index text 0 == 91) || (slice_index text 0 == 60))
 
 -- a restriction that is closed, and what follows it
-abbrev pub closed : Operator → Result Parts VersionFault → Option (List ℕ) → Result (Option Bound × List ℕ) RelationFault
+abbrev pub closed : Operator → Result Parts VersionFault → Option (List ℕ)
+    → Result (Option Bound × List ℕ) RelationFault
 closed operator (Err fault) rest = Err BadVersion
 closed operator (Ok version) None = Err BadVersion
-closed operator (Ok version) (Some rest) = if ends_a_restriction (trimmed rest) then Ok (Some (record { operator = operator; version = version }), trimmed rest) else Err BadArchList
+closed operator (Ok version) (Some rest) = if ends_a_restriction (trimmed rest) then Ok
+    (Some (record { operator = operator; version = version }), trimmed rest) else Err BadArchList
 
 -- the version, its `)`, and what follows
 abbrev pub version_at : Option Operator → List ℕ → Result (Option Bound × List ℕ) RelationFault
 version_at None text = Err BadOperator
-version_at (Some operator) text = closed operator (reading (run is_version_byte (trimmed text))) (strip (codes ")") (trimmed (behind is_version_byte (trimmed text))))
+version_at (Some operator) text = closed operator (reading (run is_version_byte (trimmed text)))
+    (strip (codes ")") (trimmed (behind is_version_byte (trimmed text))))
 
 -- what stands behind a `(`, if there is one
 abbrev pub restricted : List ℕ → Option (List ℕ) → Result (Option Bound × List ℕ) RelationFault
 restricted text None = Ok (None, text)
-restricted text (Some inside) = version_at (operator_at (run is_operator_byte (trimmed inside))) (behind is_operator_byte (trimmed inside))
+restricted text (Some inside) = version_at (operator_at (run is_operator_byte (trimmed inside)))
+    (behind is_operator_byte (trimmed inside))
 
 -- the restriction, if there is one, and what follows it
 unfoldable pub restriction_at : List ℕ → Result (Option Bound × List ℕ) RelationFault
@@ -92,7 +111,8 @@ is_negated_word test word = is_negated word && test (bare word)
 
 -- one word or more, all with a `!` in front or none (Policy 7.1)
 abbrev pub is_arch_list : List (List ℕ) → Bool
-is_arch_list list = nat_lt 0 (length list) && (list_all is_arch list || list_all (is_negated_word is_arch) list)
+is_arch_list list = nat_lt 0 (length list)
+    && (list_all is_arch list || list_all (is_negated_word is_arch) list)
 
 -- what stands between the brackets, if they are closed
 abbrev pub listed : Option (List ℕ × List ℕ) → Option (Option (List (List ℕ)) × List ℕ)
@@ -125,14 +145,16 @@ holds_unprofiled list = list_all is_negated list
 -- what stands between `<` and `>`: whether it holds where no profile is active
 abbrev pub profile_list : Option (List ℕ) → Option Bool
 profile_list None = None
-profile_list (Some inside) = if is_profile_list (words inside) then Some (holds_unprofiled (words inside)) else None
+profile_list (Some inside) = if is_profile_list (words inside)
+    then Some (holds_unprofiled (words inside)) else None
 
 -- a piece before a `>`
 unfoldable pub profile_piece : List ℕ → Option Bool
 profile_piece piece = profile_list (strip (codes "<") (trimmed piece))
 
 -- a reading goes over pieces from left to right; the first fault stays
-unfoldable pub over : {S : Type 0} → (S → List ℕ → Result S RelationFault) → S → List (List ℕ) → Result S RelationFault
+unfoldable pub over : {S : Type 0} → (S → List ℕ → Result S RelationFault) → S → List (List ℕ)
+    → Result S RelationFault
 over step seen [] = Ok seen
 over step seen (piece ∷ pieces) = on_ok (step seen piece) (λ more. over step more pieces)
 
@@ -141,7 +163,8 @@ abbrev pub or_fault : {A : Type 0} → RelationFault → Option A → Result A R
 or_fault fault None = Err fault
 or_fault fault (Some x) = Ok x
 
--- with a piece before a `>`: whether a list so far holds where no profile is active, and whether the lists have ended
+-- with a piece before a `>`:
+-- whether a list so far holds where no profile is active, and whether the lists have ended
 abbrev pub profile_step : Bool × Bool → List ℕ → Result (Bool × Bool) RelationFault
 profile_step seen piece =
     if seen.1 then Err BadProfile
@@ -152,9 +175,11 @@ profile_step seen piece =
 abbrev pub ended : Bool × Bool → Result Bool RelationFault
 ended seen = if seen.1 then Ok seen.0 else Err BadProfile
 
--- whether one of the profile lists holds where no profile is active; so where there is none (deb-src-control(5))
+-- whether one of the profile lists holds where no profile is active;
+-- so where there is none (deb-src-control(5))
 unfoldable pub unprofiled_at : List ℕ → Result Bool RelationFault
-unprofiled_at text = if is_blank text then Ok true else on_ok (over profile_step (false, false) (slice_split (λ b. b == 62) text)) ended
+unprofiled_at text = if is_blank text then Ok true
+    else on_ok (over profile_step (false, false) (slice_split (λ b. b == 62) text)) ended
 
 -- ---- 5. alternatives, members, relations
 
@@ -165,7 +190,12 @@ alternative_at text =
     on_ok (restriction_at name.1) (λ restriction.
     on_ok (or_fault BadArchList (archs_at restriction.1)) (λ archs.
     on_ok (unprofiled_at archs.1) (λ unprofiled.
-    Ok (record { name = name.0; restriction = restriction.0; archs = archs.0; unprofiled = unprofiled })))))
+    Ok (record {
+      name = name.0;
+      restriction = restriction.0;
+      archs = archs.0;
+      unprofiled = unprofiled;
+    })))))
 
 -- the alternatives so far, and the next
 abbrev pub alternative_step : List Asked → List ℕ → Result (List Asked) RelationFault
@@ -177,7 +207,8 @@ member_at text = over alternative_step [] (slice_split (λ b. b == 124) text)
 
 -- the members so far, and the next; one of whitespace alone is skipped (this project's own)
 abbrev pub member_step : List (List Asked) → List ℕ → Result (List (List Asked)) RelationFault
-member_step seen piece = if is_blank piece then Ok seen else on_ok (member_at piece) (λ m. Ok (seen ++ m ∷ []))
+member_step seen piece = if is_blank piece then Ok seen
+    else on_ok (member_at piece) (λ m. Ok (seen ++ m ∷ []))
 
 -- a relation has a member
 abbrev pub some_members : List (List Asked) → Result (List (List Asked)) RelationFault

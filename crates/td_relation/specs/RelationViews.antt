@@ -4,7 +4,12 @@ use Rattle.std.specs.Borrow.{Bor}
 use Rattle.td_relation.specs.declared.relation.Restriction.{Restriction}
 use Rattle.td_relation.specs.declared.relation.Alternative.{Alternative}
 use Rattle.td_relation.specs.declared.relation_fault.RelationFault.{RelationFault}
-use Rattle.td_relation.specs.declared.relation_fault.RelationFault.TheVariants.{BadName, BadOperator, BadVersion, BadArchList, BadProfile, Empty, NoMemory}
+use Rattle.td_relation.specs.declared.relation_fault.RelationFault.TheVariants.{BadName}
+use Rattle.td_relation.specs.declared.relation_fault.RelationFault.TheVariants.{BadOperator}
+use Rattle.td_relation.specs.declared.relation_fault.RelationFault.TheVariants.{BadVersion}
+use Rattle.td_relation.specs.declared.relation_fault.RelationFault.TheVariants.{BadArchList}
+use Rattle.td_relation.specs.declared.relation_fault.RelationFault.TheVariants.{BadProfile, Empty}
+use Rattle.td_relation.specs.declared.relation_fault.RelationFault.TheVariants.{NoMemory}
 use Rattle.td_relation.specs.ArchList.{words}
 use Rattle.td_relation.specs.Asked.{Bound, restriction_of, Asked, asked}
 
@@ -13,7 +18,8 @@ abbrev pub texts : Bor (List ℕ) × Bor (List ℕ) → List ℕ × List ℕ
 texts p = (p.0.now, p.1.now)
 
 -- a restriction, and what follows it
-abbrev pub restriction_read : Result (Option Restriction × Bor (List ℕ)) RelationFault → Result (Option Bound × List ℕ) RelationFault
+abbrev pub restriction_read : Result (Option Restriction × Bor (List ℕ)) RelationFault
+    → Result (Option Bound × List ℕ) RelationFault
 restriction_read (Ok p) = Ok (option_map restriction_of p.0, p.1.now)
 restriction_read (Err fault) = Err fault
 

@@ -1,11 +1,15 @@
--- Relations, written in one canonical way: Debian Policy 7.1 and 7.5, deb-src-control(5) on build profiles. One space stands where one helps a reader, and none elsewhere (this project's own).
-use Rattle.std.specs.Prelude.{◌≡◌, ◌≢◌, ℕ, ◌==◌, nat_lt, ◌&&◌, ◌||◌, not, Bool, true, false, IsTrue, List, [], ◌∷◌, ◌++◌, Option, Some, None, option_map, Ok, length, map, codes}
+-- Relations, written in one canonical way: Debian Policy 7.1 and 7.5, deb-src-control(5) on build
+-- profiles. One space stands where one helps a reader, and none elsewhere (this project's own).
+use Rattle.std.specs.Prelude.{◌≡◌, ◌≢◌, ℕ, ◌==◌, nat_lt, ◌&&◌, ◌||◌, not, Bool, true, false, IsTrue}
+use Rattle.std.specs.Prelude.{List, [], ◌∷◌, ◌++◌, Option, Some, None, option_map, Ok, length, map}
+use Rattle.std.specs.Prelude.{codes}
 use Rattle.std.specs.List.{list_all, list_any, flat_map, join_by, AllByRecursion}
 use Rattle.td_text.specs.Words.{is_name, is_arch}
 use Rattle.td_version.specs.Grammar.{IsVersion}
 use Rattle.td_version.specs.Version.{Parts}
 use Rattle.td_relation.specs.declared.relation.Operator.{Operator}
-use Rattle.td_relation.specs.declared.relation.Operator.TheVariants.{Earlier, EarlierOrEqual, Equal, LaterOrEqual, Later}
+use Rattle.td_relation.specs.declared.relation.Operator.TheVariants.{Earlier, EarlierOrEqual, Equal}
+use Rattle.td_relation.specs.declared.relation.Operator.TheVariants.{LaterOrEqual, Later}
 use Rattle.td_text.specs.Runs.{is_space}
 use Rattle.td_relation.specs.Asked.{Bound, Asked}
 use Rattle.td_relation.specs.RelationGrammar.{relation_at}
@@ -63,7 +67,8 @@ qualifier_part (Some word) = codes ":" ++ word
 -- ` (>= 1.2)`
 abbrev pub bound_part : Option WrittenBound → List ℕ
 bound_part None = []
-bound_part (Some b) = codes " (" ++ (operator_text b.operator ++ (codes " " ++ (b.version ++ codes ")")))
+bound_part (Some b) = codes " ("
+    ++ (operator_text b.operator ++ (codes " " ++ (b.version ++ codes ")")))
 
 -- ` [amd64 i386]`
 abbrev pub archs_part : Option WrittenArchs → List ℕ
@@ -76,7 +81,8 @@ profile_part l = codes " <" ++ (join_by profile_text (codes " ") l ++ codes ">")
 
 -- `foo:any (>= 1.2) [amd64 i386] <!nocheck cross> <nodoc>`
 abbrev pub alternative_text : WrittenAlternative → List ℕ
-alternative_text a = a.name ++ (qualifier_part a.qualifier ++ (bound_part a.bound ++ (archs_part a.archs ++ flat_map profile_part a.profiles)))
+alternative_text a = a.name ++ (qualifier_part a.qualifier
+    ++ (bound_part a.bound ++ (archs_part a.archs ++ flat_map profile_part a.profiles)))
 
 -- `foo | bar`
 abbrev pub member_text : List WrittenAlternative → List ℕ
@@ -88,9 +94,11 @@ relation_text r = join_by member_text (codes ", ") r
 
 -- ---- 3. what may be written
 
--- a byte of a profile's name: any but whitespace and `!`, `,`, `<`, `>`, `|`, which mean something else in a relation
+-- a byte of a profile's name:
+-- any but whitespace and `!`, `,`, `<`, `>`, `|`, which mean something else in a relation
 abbrev pub is_profile_byte : ℕ → Bool
-is_profile_byte b = not (is_space b || ((b == 33) || ((b == 44) || ((b == 60) || ((b == 62) || (b == 124))))))
+is_profile_byte b = not (is_space b
+    || ((b == 33) || ((b == 44) || ((b == 60) || ((b == 62) || (b == 124))))))
 
 -- a profile's name
 abbrev pub is_profile_name : List ℕ → Bool
@@ -133,7 +141,8 @@ RelationFits r = (r ≢ []) × AllByRecursion MemberFits r
 
 -- ---- 4. what it asks
 
--- where no profile is active, a word holds where it has a `!`, a list where each of its words does, and lists where one of them does, or there is none (deb-src-control(5))
+-- where no profile is active, a word holds where it has a `!`, a list where each of its words does,
+-- and lists where one of them does, or there is none (deb-src-control(5))
 abbrev pub hold_unprofiled : List (List WrittenProfile) → Bool
 hold_unprofiled [] = true
 hold_unprofiled (l ∷ lists) = list_any (λ words. list_all (λ p. p.negated) words) (l ∷ lists)
@@ -153,4 +162,5 @@ alternative_asked a = record {
 
 -- what is written so is read again, as what it asks
 abbrev pub RelationsAreReadAgain : Type 0
-RelationsAreReadAgain = (r : List (List WrittenAlternative)) → RelationFits r → relation_at (relation_text r) ≡ Ok (map (λ m. map alternative_asked m) r)
+RelationsAreReadAgain = (r : List (List WrittenAlternative)) → RelationFits r
+    → relation_at (relation_text r) ≡ Ok (map (λ m. map alternative_asked m) r)

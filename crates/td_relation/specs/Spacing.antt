@@ -1,10 +1,16 @@
--- Relations, written with whitespace wherever it is free: Debian Policy 7.1 and 7.5, deb-src-control(5) on build profiles. That newlines count as whitespace, and that a member may be of whitespace alone, is this project's own.
-use Rattle.std.specs.Prelude.{◌≡◌, ◌≢◌, ◌↔◌, ℕ, IsTrue, List, [], ◌∷◌, ◌++◌, Option, Some, None, option_map, Ok, map, codes}
+-- Relations, written with whitespace wherever it is free: Debian Policy 7.1 and 7.5,
+-- deb-src-control(5) on build profiles. That newlines count as whitespace, and that a member may be
+-- of whitespace alone, is this project's own.
+use Rattle.std.specs.Prelude.{◌≡◌, ◌≢◌, ◌↔◌, ℕ, IsTrue, List, [], ◌∷◌, ◌++◌, Option, Some, None}
+use Rattle.std.specs.Prelude.{option_map, Ok, map, codes}
 use Rattle.std.specs.List.{AllByRecursion, join_by}
 use Rattle.td_text.specs.Runs.{is_space, is_blank}
 use Rattle.td_relation.specs.Asked.{Asked}
 use Rattle.td_relation.specs.RelationGrammar.{relation_at}
-use Rattle.td_relation.specs.RelationWriting.{WrittenBound, WrittenArchs, WrittenProfile, WrittenAlternative, operator_text, marked, profile_text, qualifier_part, AlternativeFits, alternative_asked}
+use Rattle.td_relation.specs.RelationWriting.{WrittenBound, WrittenArchs, WrittenProfile}
+use Rattle.td_relation.specs.RelationWriting.{WrittenAlternative, operator_text, marked}
+use Rattle.td_relation.specs.RelationWriting.{profile_text, qualifier_part, AlternativeFits}
+use Rattle.td_relation.specs.RelationWriting.{alternative_asked}
 
 -- ---- 1. words
 
@@ -13,10 +19,12 @@ abbrev pub EndsAWord : List ℕ → Type 0
 EndsAWord [] = Unit {0}
 EndsAWord (b ∷ text) = IsTrue (is_space b)
 
--- the text is these words, with whitespace between any two, and maybe in front of the first and behind the last
+-- the text is these words, with whitespace between any two,
+-- and maybe in front of the first and behind the last
 abbrev pub AreWords : List (List ℕ) → List ℕ → Type 0
 AreWords [] text = IsTrue (is_blank text)
-AreWords (word ∷ words) text = (space : List ℕ) × (rest : List ℕ) × (text ≡ space ++ (word ++ rest)) × IsTrue (is_blank space) × EndsAWord rest × AreWords words rest
+AreWords (word ∷ words) text = (space : List ℕ) × (rest : List ℕ) × (text ≡ space ++ (word ++ rest))
+    × IsTrue (is_blank space) × EndsAWord rest × AreWords words rest
 
 -- ---- 2. what is written
 
@@ -59,7 +67,9 @@ pub data SpacedMember : Type 0 where
 
 abbrev pub bound_then : Option SpacedBound → List ℕ → List ℕ
 bound_then None rest = rest
-bound_then (Some b) rest = b.before ++ (codes "(" ++ (b.before_operator ++ (operator_text b.bound.operator ++ (b.before_version ++ (b.bound.version ++ (b.before_end ++ (codes ")" ++ rest)))))))
+bound_then (Some b) rest = b.before ++ (codes "("
+    ++ (b.before_operator ++ (operator_text b.bound.operator
+    ++ (b.before_version ++ (b.bound.version ++ (b.before_end ++ (codes ")" ++ rest)))))))
 
 abbrev pub archs_then : Option SpacedArchs → List ℕ → List ℕ
 archs_then None rest = rest
@@ -67,7 +77,8 @@ archs_then (Some l) rest = l.before ++ (codes "[" ++ (l.inside ++ (codes "]" ++ 
 
 abbrev pub profiles_then : List SpacedProfiles → List ℕ → List ℕ
 profiles_then [] rest = rest
-profiles_then (l ∷ lists) rest = l.before ++ (codes "<" ++ (l.inside ++ (codes ">" ++ profiles_then lists rest)))
+profiles_then (l ∷ lists) rest = l.before ++ (codes "<"
+    ++ (l.inside ++ (codes ">" ++ profiles_then lists rest)))
 
 -- what follows the name and its qualifier
 abbrev pub behind_name : SpacedAlternative → List ℕ
@@ -107,16 +118,19 @@ unspaced_members (Blank space ∷ r) = unspaced_members r
 
 abbrev pub BoundIsSpaced : Option SpacedBound → Type 0
 BoundIsSpaced None = Unit {0}
-BoundIsSpaced (Some b) = IsTrue (is_blank b.before) × IsTrue (is_blank b.before_operator) × IsTrue (is_blank b.before_version) × IsTrue (is_blank b.before_end)
+BoundIsSpaced (Some b) = IsTrue (is_blank b.before) × IsTrue (is_blank b.before_operator)
+    × IsTrue (is_blank b.before_version) × IsTrue (is_blank b.before_end)
 
 abbrev pub ArchsAreSpaced : Option SpacedArchs → Type 0
 ArchsAreSpaced None = Unit {0}
-ArchsAreSpaced (Some l) = IsTrue (is_blank l.before) × AreWords (map (marked l.list.negated) l.list.names) l.inside
+ArchsAreSpaced (Some l) = IsTrue (is_blank l.before)
+    × AreWords (map (marked l.list.negated) l.list.names) l.inside
 
 abbrev pub ProfilesAreSpaced : SpacedProfiles → Type 0
 ProfilesAreSpaced l = IsTrue (is_blank l.before) × AreWords (map profile_text l.list) l.inside
 
--- an alternative that may be written, with whitespace between its parts and between the words of its lists
+-- an alternative that may be written,
+-- with whitespace between its parts and between the words of its lists
 pub record IsSpaced (a : SpacedAlternative) : Type 0 where
   pub fits : AlternativeFits (unspaced a)
   pub front : IsTrue (is_blank a.front)
@@ -137,11 +151,14 @@ RelationIsSpaced r = AllByRecursion MemberIsSpaced r × (unspaced_members r ≢ 
 
 -- what is written so is read as what its parts ask
 abbrev pub SpacedRelationsAreRead : Type 0
-SpacedRelationsAreRead = (r : List SpacedMember) → RelationIsSpaced r → relation_at (spaced_relation r) ≡ Ok (map (λ m. map alternative_asked m) (unspaced_members r))
+SpacedRelationsAreRead = (r : List SpacedMember) → RelationIsSpaced r
+    → relation_at (spaced_relation r) ≡ Ok (map (λ m. map alternative_asked m) (unspaced_members r))
 
 -- so whitespace, and members of it alone, make no difference
 abbrev pub WhitespaceMakesNoDifference : Type 0
-WhitespaceMakesNoDifference = (r s : List SpacedMember) → RelationIsSpaced r → RelationIsSpaced s → unspaced_members r ≡ unspaced_members s → relation_at (spaced_relation r) ≡ relation_at (spaced_relation s)
+WhitespaceMakesNoDifference = (r s : List SpacedMember) → RelationIsSpaced r → RelationIsSpaced s
+    → unspaced_members r ≡ unspaced_members s
+    → relation_at (spaced_relation r) ≡ relation_at (spaced_relation s)
 
 -- the text is a relation, written with some whitespace, whose parts ask this
 pub record IsRelation (text : List ℕ) (asked : List (List Asked)) : Type 0 where
@@ -152,4 +169,5 @@ pub record IsRelation (text : List ℕ) (asked : List (List Asked)) : Type 0 whe
 
 -- a text is read so exactly where it is a relation that asks so
 abbrev pub RelationsAreExact : Type 0
-RelationsAreExact = (text : List ℕ) (asked : List (List Asked)) → (relation_at text ≡ Ok asked) ↔ IsRelation text asked
+RelationsAreExact = (text : List ℕ) (asked : List (List Asked))
+    → (relation_at text ≡ Ok asked) ↔ IsRelation text asked

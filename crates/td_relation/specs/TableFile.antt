@@ -1,9 +1,11 @@
 -- Which texts are tables of architectures, and what is wrong with others. This project's own.
-use Rattle.std.specs.Prelude.{◌≡◌, ◌≢◌, ◌⊎◌, ℕ, ◌+◌, ◌≤◌, not, Bool, true, false, List, [], ◌∷◌, ◌++◌, length, map, Result, Ok, Err}
+use Rattle.std.specs.Prelude.{◌≡◌, ◌≢◌, ◌⊎◌, ℕ, ◌+◌, ◌≤◌, not, Bool, true, false, List, [], ◌∷◌}
+use Rattle.std.specs.Prelude.{◌++◌, length, map, Result, Ok, Err}
 use Rattle.std.specs.List.{filter, AllByRecursion}
 use Rattle.td_relation.specs.Limits.{max_archs}
 use Rattle.td_relation.specs.declared.archs.ArchsFault.{ArchsFault}
-use Rattle.td_relation.specs.declared.archs.ArchsFault.TheVariants.{BadLine, Twice, TooMany, NoMemory}
+use Rattle.td_relation.specs.declared.archs.ArchsFault.TheVariants.{BadLine, Twice, TooMany}
+use Rattle.td_relation.specs.declared.archs.ArchsFault.TheVariants.{NoMemory}
 use Rattle.td_relation.specs.Arch.{ArchWords, arch_line, ArchFits}
 use Rattle.td_relation.specs.Table.{Fresh, is_named, is_skipped}
 
@@ -27,7 +29,8 @@ pub record IsLineNamed (is : Bool) (seen : List ArchWords) (line : List ℕ) : T
 
 -- what is wrong with a line that isn't skipped and has this number, behind the architectures seen
 abbrev pub IsFaulty : List ArchWords → ℕ → List ℕ → ArchsFault → Type 0
-IsFaulty seen number line (BadLine n) = (n ≡ number) × ((a : ArchWords) → ArchFits a → line ≢ arch_line a)
+IsFaulty seen number line (BadLine n) = (n ≡ number)
+    × ((a : ArchWords) → ArchFits a → line ≢ arch_line a)
 IsFaulty seen number line (Twice n) = (n ≡ number) × IsLineNamed true seen line
 IsFaulty seen number line TooMany = IsLineNamed false seen line × (length seen ≡ max_archs)
 IsFaulty seen number line NoMemory = ⊥

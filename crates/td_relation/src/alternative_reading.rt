@@ -13,7 +13,8 @@ ghost use Rattle.td_relation.specs.RelationGrammar.{
   unqualified as unqualified_of,
   version_at,
 };
-ghost use Rattle.td_relation.specs.RelationViews.{alternative_read, archs_read, restriction_read, texts};
+ghost use Rattle.td_relation.specs.RelationViews.{alternative_read, archs_read, restriction_read};
+ghost use Rattle.td_relation.specs.RelationViews.{texts};
 ghost use Rattle.std.specs.Prelude.{Some};
 
 use crate::arch_list::is_arch_list;

@@ -3,7 +3,9 @@ ghost use Rattle.std.specs.Prelude.{◌≡◌, ◌++◌, option_map};
 ghost use Rattle.std.specs.List.{list_all};
 ghost use Rattle.std.specs.Str.{bytes_eq};
 ghost use Rattle.td_text.specs.Words.{is_alphanumeric as is_alphanumeric_of};
-ghost use Rattle.td_relation.specs.Arch.{words_of, is_machine_word as is_machine_word_of, is_reserved as is_reserved_of, is_table_name as is_table_name_of};
+ghost use Rattle.td_relation.specs.Arch.{words_of, is_machine_word as is_machine_word_of};
+ghost use Rattle.td_relation.specs.Arch.{is_reserved as is_reserved_of};
+ghost use Rattle.td_relation.specs.Arch.{is_table_name as is_table_name_of};
 ghost use Rattle.td_relation.specs.ArchReading.{arch_at};
 
 use td_text::{cut_at, is_arch};

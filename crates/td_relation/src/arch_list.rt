@@ -3,9 +3,12 @@ ghost use Rattle.std.specs.Prelude.{◌≡◌, ◌==◌, not, length, ◌&&◌, 
 ghost use Rattle.std.specs.List.{list_any, list_all, slice_split};
 ghost use Rattle.td_relation.specs.Arch.{words_of, matches as matches_of};
 ghost use Rattle.td_text.specs.Runs.{is_space as is_space_of};
-ghost use Rattle.td_relation.specs.ArchList.{bare as bare_of, counts as counts_of, is_negated as is_negated_of, words};
+ghost use Rattle.td_relation.specs.ArchList.{bare as bare_of, counts as counts_of};
+ghost use Rattle.td_relation.specs.ArchList.{is_negated as is_negated_of, words};
 ghost use Rattle.td_text.specs.Words.{is_arch as is_arch_of, is_arch_byte as is_arch_byte_of};
-ghost use Rattle.td_relation.specs.RelationGrammar.{is_arch_list as is_arch_list_of, is_negated_word, is_profile as is_profile_of, is_profile_list as is_profile_list_of};
+ghost use Rattle.td_relation.specs.RelationGrammar.{is_arch_list as is_arch_list_of};
+ghost use Rattle.td_relation.specs.RelationGrammar.{is_negated_word, is_profile as is_profile_of};
+ghost use Rattle.td_relation.specs.RelationGrammar.{is_profile_list as is_profile_list_of};
 
 use crate::arch::Arch;
 use td_text::{are_arch_bytes, is_space};
@@ -27,7 +30,8 @@ fn is_negated(word: &[u8]) -> bool
 }
 
 fn has_negated(list: &str) -> bool
-    ensures { result ≡ list_any (λ w. not (length w == 0) && is_negated_of w) (slice_split is_space_of list.now) }
+    ensures { result ≡ list_any (λ w. not (length w == 0) && is_negated_of w)
+        (slice_split is_space_of list.now) }
 {
     list.as_bytes()
         .split(|b| is_space(*b))
@@ -35,7 +39,8 @@ fn has_negated(list: &str) -> bool
 }
 
 fn has_match(arch: &Arch<'_>, list: &str) -> bool
-    ensures { result ≡ list_any (λ w. not (length w == 0) && matches_of (words_of arch.now) (bare_of w)) (slice_split is_space_of list.now) }
+    ensures { result ≡ list_any (λ w. not (length w == 0)
+        && matches_of (words_of arch.now) (bare_of w)) (slice_split is_space_of list.now) }
 {
     list.as_bytes()
         .split(|b| is_space(*b))
@@ -75,7 +80,8 @@ fn has_words(list: &str) -> bool
 }
 
 fn are_plain(list: &str) -> bool
-    ensures { result ≡ list_all (λ w. (length w == 0) || is_arch_of w) (slice_split is_space_of list.now) }
+    ensures { result ≡ list_all (λ w. (length w == 0) || is_arch_of w)
+        (slice_split is_space_of list.now) }
 {
     list.as_bytes()
         .split(|b| is_space(*b))
@@ -83,7 +89,8 @@ fn are_plain(list: &str) -> bool
 }
 
 fn are_negated(list: &str) -> bool
-    ensures { result ≡ list_all (λ w. (length w == 0) || is_negated_word is_arch_of w) (slice_split is_space_of list.now) }
+    ensures { result ≡ list_all (λ w. (length w == 0) || is_negated_word is_arch_of w)
+        (slice_split is_space_of list.now) }
 {
     list.as_bytes()
         .split(|b| is_space(*b))
@@ -91,7 +98,8 @@ fn are_negated(list: &str) -> bool
 }
 
 fn are_profiles(list: &str) -> bool
-    ensures { result ≡ list_all (λ w. (length w == 0) || is_profile_of (bare_of w)) (slice_split is_space_of list.now) }
+    ensures { result ≡ list_all (λ w. (length w == 0) || is_profile_of (bare_of w))
+        (slice_split is_space_of list.now) }
 {
     list.as_bytes()
         .split(|b| is_space(*b))
@@ -125,7 +133,8 @@ pub fn is_unprofiled(list: &str) -> bool
 }
 
 fn all_negated(list: &str) -> bool
-    ensures { result ≡ list_all (λ w. (length w == 0) || is_negated_of w) (slice_split is_space_of list.now) }
+    ensures { result ≡ list_all (λ w. (length w == 0) || is_negated_of w)
+        (slice_split is_space_of list.now) }
 {
     list.as_bytes()
         .split(|b| is_space(*b))

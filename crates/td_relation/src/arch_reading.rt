@@ -1,5 +1,6 @@
 //! How a table of architectures is read.
-ghost use Rattle.std.specs.Prelude.{◌≡◌, ◌<◌, ◌≤◌, ◌^◌, ◌+◌, Ok, IfOk, IfErr, OnOk, ◌≢◌, ◌++◌, ◌∷◌, [], length, map};
+ghost use Rattle.std.specs.Prelude.{◌≡◌, ◌<◌, ◌≤◌, ◌^◌, ◌+◌, Ok, IfOk, IfErr, OnOk, ◌≢◌, ◌++◌, ◌∷◌};
+ghost use Rattle.std.specs.Prelude.{[], length, map};
 ghost use Rattle.std.specs.List.{list_any};
 ghost use Rattle.std.specs.Str.{bytes_eq};
 ghost use Rattle.td_relation.specs.Limits.{max_archs};
@@ -28,9 +29,11 @@ fn is_named(list: &[Arch<'_>], name: &str) -> bool
 
 // The architecture of a line that isn't skipped, behind those that were read.
 fn next_arch<'a>(list: &[Arch<'a>], number: usize, line: &'a str) -> Result<Arch<'a>, ArchsFault>
-    ensures ok { IfOk result (λ a. add_arch number (map words_of list.now) (arch_at line.now) ≡ Ok (map words_of list.now ++ words_of a ∷ [])) }
+    ensures ok { IfOk result (λ a. add_arch number (map words_of list.now) (arch_at line.now)
+        ≡ Ok (map words_of list.now ++ words_of a ∷ [])) }
     ensures room { OnOk result (length list.now ≢ max_archs) }
-    ensures err { IfErr result (λ e. Fails e (add_arch number (map words_of list.now) (arch_at line.now))) }
+    ensures err { IfErr result
+        (λ e. Fails e (add_arch number (map words_of list.now) (arch_at line.now))) }
 {
     let Some(arch) = Arch::read(line) else {
         return Err(ArchsFault::BadLine(number));
@@ -46,7 +49,8 @@ fn next_arch<'a>(list: &[Arch<'a>], number: usize, line: &'a str) -> Result<Arch
 
 // Adds an architecture behind the others.
 fn push_arch<'a>(list: &mut Vec<Arch<'a>>, arch: Arch<'a>) -> Result<(), ArchsFault>
-    ensures ok { OnOk result (map words_of list.new.items ≡ map words_of list.old.items ++ words_of arch.entry ∷ []) }
+    ensures ok { OnOk result
+        (map words_of list.new.items ≡ map words_of list.old.items ++ words_of arch.entry ∷ []) }
     ensures longer { OnOk result (length list.new.items ≡ length list.old.items + 1) }
     ensures err { IfErr result (λ e. e ≡ ArchsFault.NoMemory) }
 {

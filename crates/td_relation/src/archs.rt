@@ -81,10 +81,12 @@ impl<'a> Archs<'a> {
         // What is read is a table.
         ensures found { IfOk result (λ archs. IsTable (lines_of text.now) (table archs)) }
         // A table is read, unless memory runs out.
-        ensures only { (t : List ArchWords) → IsTable (lines_of text.now) t → MatchResult result (λ archs. table archs ≡ t) (λ e. e ≡ ArchsFault.NoMemory) }
+        ensures only { (t : List ArchWords) → IsTable (lines_of text.now) t
+            → MatchResult result (λ archs. table archs ≡ t) (λ e. e ≡ ArchsFault.NoMemory) }
         ensures fault { IfErr result (FaultOf (lines_of text.now)) }
         // A text with a fault is refused for it, unless memory runs out.
-        ensures refused { (fault : ArchsFault) → IsFirstFault (lines_of text.now) fault → IsRefusedFor fault result }
+        ensures refused { (fault : ArchsFault) → IsFirstFault (lines_of text.now) fault
+            → IsRefusedFor fault result }
     {
         let list = arch_reading::read_list(alloc, text)?;
         Ok(Archs { list })
@@ -133,7 +135,8 @@ impl<'a> Archs<'a> {
     /// Whether the word of an architecture list matches the architecture at a place.
     pub fn matches(&self, i: usize, word: &str) -> bool
         requires { i < length (table self.now) }
-        ensures { option_map (λ a. matches_of a word.now) (slice_get (table self.now) i) ≡ Some result }
+        ensures { option_map (λ a. matches_of a word.now) (slice_get (table self.now) i)
+            ≡ Some result }
     {
         self.at(i).matches(word.as_bytes())
     }

@@ -1,7 +1,8 @@
 //! What is promised of relations as such.
 ghost use Rattle.td_relation.specs.MeetingLaws.{ListsCount, MoreStillMeets, OthersMakeNoDifference};
 ghost use Rattle.td_relation.specs.RelationWriting.{RelationsAreReadAgain};
-ghost use Rattle.td_relation.specs.Spacing.{RelationsAreExact, SpacedRelationsAreRead, WhitespaceMakesNoDifference};
+ghost use Rattle.td_relation.specs.Spacing.{RelationsAreExact, SpacedRelationsAreRead};
+ghost use Rattle.td_relation.specs.Spacing.{WhitespaceMakesNoDifference};
 
 /// A relation that is written in the canonical way is read again, as what it asks.
 pub fn written_relations_are_read_again()

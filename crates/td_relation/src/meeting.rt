@@ -36,7 +36,8 @@ pub fn is_member_met<O: Offering>(
     arch: &Arch<'_>,
     place: usize,
 ) -> bool
-    ensures { result ≡ member_met (O.on_offer offers.now) place (words_of arch.now) (map asked member.now) }
+    ensures { result ≡ member_met (O.on_offer offers.now) place (words_of arch.now)
+        (map asked member.now) }
 {
     let active = has_active(member, arch);
     let met = has_met(member, offers, arch, place);
@@ -55,7 +56,8 @@ fn has_met<O: Offering>(
     arch: &Arch<'_>,
     place: usize,
 ) -> bool
-    ensures { result ≡ list_any (λ a. active_of (words_of arch.now) (asked a) && alternative_met (O.on_offer offers.now) place (asked a)) member.now }
+    ensures { result ≡ list_any (λ a. active_of (words_of arch.now) (asked a)
+        && alternative_met (O.on_offer offers.now) place (asked a)) member.now }
 {
     member
         .iter()
@@ -64,7 +66,8 @@ fn has_met<O: Offering>(
 
 /// Whether an active alternative of a member has the name.
 pub fn is_asked(member: &[Alternative<'_>], arch: &Arch<'_>, name: &str) -> bool
-    ensures { result ≡ list_any (λ a. active_of (words_of arch.now) (asked a) && bytes_eq a.name.now name.now) member.now }
+    ensures { result ≡ list_any (λ a.
+        active_of (words_of arch.now) (asked a) && bytes_eq a.name.now name.now) member.now }
 {
     member.iter().any(|a| is_active(a, arch) && a.name == name)
 }
@@ -91,7 +94,8 @@ pub fn are_met<O: Offering>(
     arch: &Arch<'_>,
     place: usize,
 ) -> bool
-    ensures { result ≡ list_all (λ m. member_met (O.on_offer offers.now) place (words_of arch.now) (map asked m)) (chunked sizes.now alternatives.now) }
+    ensures { result ≡ list_all (λ m. member_met (O.on_offer offers.now) place (words_of arch.now)
+        (map asked m)) (chunked sizes.now alternatives.now) }
 {
     let mut from = 0;
     for size in sizes {
@@ -111,7 +115,8 @@ pub fn are_asked(
     arch: &Arch<'_>,
     name: &str,
 ) -> bool
-    ensures { result ≡ list_any (λ m. list_any (λ a. active_of (words_of arch.now) (asked a) && bytes_eq a.name.now name.now) m) (chunked sizes.now alternatives.now) }
+    ensures { result ≡ list_any (λ m. list_any (λ a. active_of (words_of arch.now) (asked a)
+        && bytes_eq a.name.now name.now) m) (chunked sizes.now alternatives.now) }
 {
     let mut from = 0;
     for size in sizes {

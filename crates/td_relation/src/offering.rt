@@ -32,7 +32,8 @@ impl<'a> Offering for Offers<'a> {
 }
 
 fn some_suits(list: &[Offer<'_>], place: usize, restriction: &Option<Restriction<'_>>) -> bool
-    ensures { result ≡ list_any (λ o. suits place (option_map restriction_of restriction.now) (offered o)) list.now }
+    ensures { result ≡ list_any
+        (λ o. suits place (option_map restriction_of restriction.now) (offered o)) list.now }
 {
     list.iter().any(|o| o.suits(place, restriction))
 }

@@ -27,7 +27,8 @@ impl<'a> Offer<'a> {
 
     /// Whether it is on the architecture at this place or on `all`, and is such as is asked.
     pub fn suits(&self, place: usize, restriction: &Option<Restriction<'_>>) -> bool
-        ensures { result ≡ suits_of place (option_map restriction_of restriction.now) (offered self.now) }
+        ensures { result ≡ suits_of place (option_map restriction_of restriction.now)
+            (offered self.now) }
     {
         is_there(place, self) && satisfies(restriction, &self.version)
     }
@@ -55,7 +56,11 @@ impl<'a> Offers<'a> {
         version: Option<Version<'a>>,
         arch: Option<usize>,
     ) -> Result<(), AllocError>
-        ensures ok { OnOk result ((q : List ℕ) → offers_of self.new q ≡ (if bytes_eq q name.now then offers_of self.old q ++ offered (record { version = version.entry; arch = arch }) ∷ [] else offers_of self.old q)) }
+        ensures ok { OnOk result
+            ((q : List ℕ)
+            → offers_of self.new q
+            ≡ (if bytes_eq q name.now then offers_of self.old q ++ offered
+            (record { version = version.entry; arch = arch }) ∷ [] else offers_of self.old q)) }
         ensures err { OnErr result ((q : List ℕ) → offers_of self.new q ≡ offers_of self.old q) }
     {
         let list = self.by_name.entry(name)?.or_default();
@@ -65,7 +70,8 @@ impl<'a> Offers<'a> {
 
     /// The offers of a name, in the order in which they came.
     pub fn named(&self, name: &str) -> Option<&[Offer<'a>]>
-        ensures { option_map_or (λ list. map offered list.now) result [] ≡ offers_of self.now name.now }
+        ensures { option_map_or (λ list. map offered list.now) result []
+            ≡ offers_of self.now name.now }
     {
         match self.by_name.get(name) {
             Some(list) => Some(list.as_slice()),

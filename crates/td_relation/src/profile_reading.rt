@@ -2,7 +2,9 @@
 ghost use Rattle.std.specs.Prelude.{◌≡◌, false};
 ghost use Rattle.td_text.specs.Lines.{on_ok};
 ghost use Rattle.td_relation.specs.Pieces.{pieces_of};
-ghost use Rattle.td_relation.specs.RelationGrammar.{ended as ended_of, over, profile_piece as profile_piece_of, profile_step, unprofiled_at};
+ghost use Rattle.td_relation.specs.RelationGrammar.{ended as ended_of, over};
+ghost use Rattle.td_relation.specs.RelationGrammar.{profile_piece as profile_piece_of};
+ghost use Rattle.td_relation.specs.RelationGrammar.{profile_step, unprofiled_at};
 
 use crate::arch_list::{is_profile_list, is_unprofiled};
 use crate::relation_fault::RelationFault;

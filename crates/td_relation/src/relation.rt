@@ -52,7 +52,8 @@ impl Alternative<'_> {
     /// active.
     pub fn is_active(&self, archs: &Archs<'_>, arch: usize) -> bool
         requires { arch < length (table archs.now) }
-        ensures { option_map (λ a. active a (asked self.now)) (slice_get (table archs.now) arch) ≡ Some result }
+        ensures { option_map (λ a. active a (asked self.now)) (slice_get (table archs.now) arch)
+            ≡ Some result }
     {
         is_active(self, &archs.at(arch))
     }
@@ -84,7 +85,8 @@ impl<'a> Relation<'a> {
         // What is read is what the text asks.
         ensures found { IfOk result (λ r. relation_at text.now ≡ Ok (members_of r)) }
         // A relation is read, unless memory runs out.
-        ensures only { (ms : List (List Asked)) → relation_at text.now ≡ Ok ms → MatchResult result (λ r. members_of r ≡ ms) (λ e. e ≡ RelationFault.NoMemory) }
+        ensures only { (ms : List (List Asked)) → relation_at text.now ≡ Ok ms
+            → MatchResult result (λ r. members_of r ≡ ms) (λ e. e ≡ RelationFault.NoMemory) }
         // A fault is the text's, or want of memory.
         ensures fault { IfErr result (λ e. IsFaultOf (relation_at text.now) e) }
     {
@@ -105,7 +107,8 @@ impl<'a> Relation<'a> {
     /// Whether what is on offer meets it on the architecture at this place of the table.
     pub fn met_by<O: Offering>(&self, offers: &O, archs: &Archs<'_>, arch: usize) -> bool
         requires { arch < length (table archs.now) }
-        ensures { option_map (λ a. met (O.on_offer offers.now) arch a (members_of self.now)) (slice_get (table archs.now) arch) ≡ Some result }
+        ensures { option_map (λ a. met (O.on_offer offers.now) arch a (members_of self.now))
+            (slice_get (table archs.now) arch) ≡ Some result }
     {
         self.is_met(offers, archs.at(arch), arch)
     }
@@ -113,13 +116,15 @@ impl<'a> Relation<'a> {
     /// Whether some alternative that is active on the architecture at this place has the name.
     pub fn names(&self, archs: &Archs<'_>, arch: usize, name: &str) -> bool
         requires { arch < length (table archs.now) }
-        ensures { option_map (λ a. names_of a name.now (members_of self.now)) (slice_get (table archs.now) arch) ≡ Some result }
+        ensures { option_map (λ a. names_of a name.now (members_of self.now))
+            (slice_get (table archs.now) arch) ≡ Some result }
     {
         self.is_named(archs.at(arch), name)
     }
 
     fn is_met<O: Offering>(&self, offers: &O, arch: Arch<'_>, place: usize) -> bool
-        ensures { result ≡ met (O.on_offer offers.now) place (words_of arch.entry) (members_of self.now) }
+        ensures { result ≡ met (O.on_offer offers.now) place (words_of arch.entry)
+            (members_of self.now) }
     {
         are_met(
             self.alternatives.as_slice(),

@@ -4,7 +4,8 @@ ghost use Rattle.td_text.specs.Lines.{on_ok};
 ghost use Rattle.td_relation.specs.Asked.{asked};
 ghost use Rattle.td_relation.specs.Members.{chunked, members, total};
 ghost use Rattle.td_relation.specs.Pieces.{pieces_of};
-ghost use Rattle.td_relation.specs.RelationGrammar.{alternative_step, member_at, member_step, over, relation_at};
+ghost use Rattle.td_relation.specs.RelationGrammar.{alternative_step, member_at, member_step, over};
+ghost use Rattle.td_relation.specs.RelationGrammar.{relation_at};
 ghost use Rattle.td_relation.specs.RelationViews.{IsFaultOf};
 
 use crate::alternative_reading::read_alternative;
@@ -19,9 +20,11 @@ fn push_alternative<'a>(
     list: &mut Vec<Alternative<'a>>,
     piece: &'a str,
 ) -> Result<(), RelationFault>
-    ensures ok { OnOk result (alternative_step (map asked list.old.items) piece.now ≡ Ok (map asked list.new.items)) }
+    ensures ok { OnOk result
+        (alternative_step (map asked list.old.items) piece.now ≡ Ok (map asked list.new.items)) }
     ensures longer { OnOk result (length list.old.items ≤ length list.new.items) }
-    ensures err { IfErr result (λ e. IsFaultOf (alternative_step (map asked list.old.items) piece.now) e) }
+    ensures err { IfErr result
+        (λ e. IsFaultOf (alternative_step (map asked list.old.items) piece.now) e) }
 {
     let alternative = match read_alternative(piece) {
         Ok(alternative) => alternative,
@@ -38,9 +41,11 @@ fn push_alternatives<'a>(
     list: &mut Vec<Alternative<'a>>,
     text: &'a str,
 ) -> Result<(), RelationFault>
-    ensures ok { OnOk result (over alternative_step (map asked list.old.items) (pieces_of 124 text.now) ≡ Ok (map asked list.new.items)) }
+    ensures ok { OnOk result (over alternative_step (map asked list.old.items)
+        (pieces_of 124 text.now) ≡ Ok (map asked list.new.items)) }
     ensures longer { OnOk result (length list.old.items ≤ length list.new.items) }
-    ensures err { IfErr result (λ e. IsFaultOf (over alternative_step (map asked list.old.items) (pieces_of 124 text.now)) e) }
+    ensures err { IfErr result (λ e.
+        IsFaultOf (over alternative_step (map asked list.old.items) (pieces_of 124 text.now)) e) }
 {
     let mut rest = Some(text);
     while let Some(text) = rest {
@@ -61,7 +66,10 @@ fn push_member<'a>(
     text: &'a str,
 ) -> Result<(), RelationFault>
     requires { total sizes.old.items ≡ length alternatives.old.items }
-    ensures ok { OnOk result (on_ok (member_at text.now) (λ m. Ok (chunked sizes.old.items (map asked alternatives.old.items) ++ m ∷ [])) ≡ Ok (chunked sizes.new.items (map asked alternatives.new.items))) }
+    ensures ok { OnOk result
+        (on_ok (member_at text.now)
+        (λ m. Ok (chunked sizes.old.items (map asked alternatives.old.items) ++ m ∷ []))
+        ≡ Ok (chunked sizes.new.items (map asked alternatives.new.items))) }
     ensures whole { OnOk result (total sizes.new.items ≡ length alternatives.new.items) }
     ensures err { IfErr result (λ e. IsFaultOf (member_at text.now) e) }
 {
@@ -78,7 +86,8 @@ fn push_member<'a>(
 
 // The members between the commas.
 fn read_members(alloc: Global, text: &str) -> Result<Relation<'_>, RelationFault>
-    ensures ok { IfOk result (λ r. over member_step [] (pieces_of 44 text.now) ≡ Ok (chunked r.sizes.items (map asked r.alternatives.items))) }
+    ensures ok { IfOk result (λ r. over member_step [] (pieces_of 44 text.now)
+        ≡ Ok (chunked r.sizes.items (map asked r.alternatives.items))) }
     ensures err { IfErr result (λ e. IsFaultOf (over member_step [] (pieces_of 44 text.now)) e) }
 {
     let mut alternatives = Vec::new(alloc);

@@ -3,7 +3,8 @@ ghost use Rattle.std.specs.Prelude.{◌≡◌, ◌≤◌, ◌+◌, ◌<◌, leng
 ghost use Rattle.std.specs.List.{prefix_len};
 ghost use Rattle.td_text.specs.Runs.{behind, run};
 ghost use Rattle.td_relation.specs.Pieces.{left_len, pieces_left, pieces_of};
-ghost use Rattle.td_relation.specs.RelationGrammar.{is_operator_byte as is_operator_byte_of, is_version_byte as is_version_byte_of};
+ghost use Rattle.td_relation.specs.RelationGrammar.{is_operator_byte as is_operator_byte_of};
+ghost use Rattle.td_relation.specs.RelationGrammar.{is_version_byte as is_version_byte_of};
 
 /// The first piece before a mark, an ASCII character, and what follows that mark; `None` behind the
 /// last piece.

@@ -1,7 +1,8 @@
 //! Whether an offer is such as is asked.
 ghost use Rattle.std.specs.Prelude.{◌≡◌, option_map};
 ghost use Rattle.td_relation.specs.Asked.{restriction_of};
-ghost use Rattle.td_relation.specs.Meeting.{accepts as accepts_of, is_there as is_there_of, satisfies as satisfies_of};
+ghost use Rattle.td_relation.specs.Meeting.{accepts as accepts_of, is_there as is_there_of};
+ghost use Rattle.td_relation.specs.Meeting.{satisfies as satisfies_of};
 ghost use Rattle.td_relation.specs.Offers.{offered};
 
 use crate::offers::Offer;
@@ -23,7 +24,8 @@ fn accepts(operator: Operator, order: Ordering) -> bool
 
 /// Whether a version is such as is asked. No version satisfies only no restriction.
 pub fn satisfies(restriction: &Option<Restriction<'_>>, version: &Option<Version<'_>>) -> bool
-    ensures { result ≡ satisfies_of (option_map restriction_of restriction.now) (offered (record { version = version.now; arch = None })).version }
+    ensures { result ≡ satisfies_of (option_map restriction_of restriction.now)
+        (offered (record { version = version.now; arch = None })).version }
 {
     match restriction {
         None => true,

@@ -1,5 +1,6 @@
 -- Pieces appended one after the other.
-use Rattle.std.proofs.Common.{◌≡◌, ◌≤◌, ℕ, List, [], ◌∷◌, ◌++◌, take, length, ap, refl, sym, subst, ◌∙◌, append_assoc, arith, length-append}
+use Rattle.std.proofs.Common.{◌≡◌, ◌≤◌, ℕ, List, [], ◌∷◌, ◌++◌, take, length, ap, refl, sym, subst}
+use Rattle.std.proofs.Common.{◌∙◌, append_assoc, arith, length-append}
 use Rattle.std.specs.Str.{IsUtf8}
 use Rattle.std.specs.String.{string_bytes}
 use Rattle.std.specs.String.Boundary.{IsSplitPoint}
@@ -29,7 +30,8 @@ taken [] ys = refl
 taken (x ∷ xs) ys = ap (λ (l : List ℕ). x ∷ l) (taken xs ys)
 
 -- what was appended may be cut off again
-pub cut_back : {Z : Type 0} (old new : String Z) (n : ℕ) → n ≡ length (string_bytes old) → Grown (string_bytes old) (string_bytes new) → IsSplitPoint (string_bytes new) n
+pub cut_back : {Z : Type 0} (old new : String Z) (n : ℕ) → n ≡ length (string_bytes old)
+    → Grown (string_bytes old) (string_bytes new) → IsSplitPoint (string_bytes new) n
 cut_back old new n len g =
     let front : take n (string_bytes new) ≡ string_bytes old = rw (len, g.is) (taken (string_bytes old) g.more) in
     let within : n ≤ length (string_bytes new) = rw (len, g.is, length-append (string_bytes old) g.more) (omega arith) in

@@ -11,7 +11,8 @@ use Rattle.td_rows.specs.declared.key.Key.{Key}
 use Rattle.td_rows.specs.KeyText.{key_text, KeyFits, key_at}
 
 -- a byte that no name has stands in no key's text
-pub Without-key_text : (c : ℕ) (k : Key) → c ≢ 47 → Without c k.source → Without c k.arch → Without c (key_text k)
+pub Without-key_text : (c : ℕ) (k : Key) → c ≢ 47 → Without c k.source → Without c k.arch
+    → Without c (key_text k)
 Without-key_text c k other source arch = Without-append c k.source (47 ∷ k.arch) source ((λ e. other (sym e)), arch)
 
 -- no space stands in a key's text

@@ -1,8 +1,12 @@
 -- The texts at a line's end are read exactly.
-use Rattle.std.proofs.Common.{◌≡◌, ℕ, suc, ◌-◌, ◌<◌, ◌≤◌, ◌^◌, ◌&&◌, ◌||◌, true, false, cond, eqb, ltb, leb, List, [], ◌∷◌, ◌++◌, length, get_or, take, drop, Option, Some, None, refl, sym, ap, subst, ◌∙◌, append_assoc, arith, inl, inr, lit<}
+use Rattle.std.proofs.Common.{◌≡◌, ℕ, suc, ◌-◌, ◌<◌, ◌≤◌, ◌^◌, ◌&&◌, ◌||◌, true, false, cond, eqb}
+use Rattle.std.proofs.Common.{ltb, leb, List, [], ◌∷◌, ◌++◌, length, get_or, take, drop, Option}
+use Rattle.std.proofs.Common.{Some, None, refl, sym, ap, subst, ◌∙◌, append_assoc, arith, inl, inr}
+use Rattle.std.proofs.Common.{lit<}
 use Rattle.std.specs.Prelude.{codes, ◌⊎◌, decimal}
 use Rattle.std.proofs.lemmas.Bool.{ne_eqb, and_parts, and_from, ltb-true, lt-ltb, le-leb, leb-true}
-use Rattle.std.proofs.lemmas.List.{take_at, drop_at, take-append-drop, length-append, length-take, get_or-append_right}
+use Rattle.std.proofs.lemmas.List.{take_at, drop_at, take-append-drop, length-append, length-take}
+use Rattle.std.proofs.lemmas.List.{get_or-append_right}
 use Rattle.td_text.specs.Chain.{◌>>=◌}
 use Rattle.td_text.specs.Cut.{strip}
 use Rattle.td_text.specs.Exact.{Exact}
@@ -10,7 +14,8 @@ use Rattle.td_text.proofs.Chain.{chained, some_is, when_some, when_none, or_righ
 use Rattle.td_text.proofs.Cut.{cut-at, cut_found, Begins}
 use Rattle.td_text.proofs.Numbers.{number_exact, Without-decimal}
 use Rattle.td_text.proofs.Prefix.{strip_found, strip_again}
-use Rattle.td_rows.specs.Notes.{extra_part, text_part, notes, NotesFit, is_boundary, counted_at, extra_after, extra_at, text_at, notes_at}
+use Rattle.td_rows.specs.Notes.{extra_part, text_part, notes, NotesFit, is_boundary, counted_at}
+use Rattle.td_rows.specs.Notes.{extra_after, extra_at, text_at, notes_at}
 
 -- ---- the text that ends a line
 
@@ -38,11 +43,13 @@ text_exact = record { found = λ t w e. (text_found t w e, tt); again = λ w _. 
 
 -- ---- the extra dependencies
 
-extra_part-some : (e : List ℕ) → 0 < length e → extra_part e ≡ codes " ;" ++ (decimal (length e) ++ 32 ∷ e)
+extra_part-some : (e : List ℕ) → 0 < length e
+    → extra_part e ≡ codes " ;" ++ (decimal (length e) ++ 32 ∷ e)
 extra_part-some [] h = absurd (omega arith)
 extra_part-some (x ∷ e) h = refl
 
-counted_found : (t : List ℕ) (p : List ℕ × List ℕ) → counted_at t ≡ Some p → (t ≡ decimal (length p.0) ++ 32 ∷ (p.0 ++ p.1)) × (0 < length p.0) × (length p.0 < 2 ^ 64)
+counted_found : (t : List ℕ) (p : List ℕ × List ℕ) → counted_at t ≡ Some p
+    → (t ≡ decimal (length p.0) ++ 32 ∷ (p.0 ++ p.1)) × (0 < length p.0) × (length p.0 < 2 ^ 64)
 unfolding counted_at
 counted_found t p e =
     let a = chained _ _ _ e in
@@ -75,7 +82,8 @@ boundary_after e w =
           and_from _ _ (le-leb _ _ within) (or_right (leb (length (e ++ text_part w)) (length e)) (ltb (get_or (e ++ text_part w) (length e) 0) 128 || leb 192 (get_or (e ++ text_part w) (length e) 0)) last)
     ]
 
-counted_again : (e w : List ℕ) → 0 < length e → length e < 2 ^ 64 → counted_at (decimal (length e) ++ 32 ∷ (e ++ text_part w)) ≡ Some (e, text_part w)
+counted_again : (e w : List ℕ) → 0 < length e → length e < 2 ^ 64
+    → counted_at (decimal (length e) ++ 32 ∷ (e ++ text_part w)) ≡ Some (e, text_part w)
 unfolding counted_at
 counted_again e w some small =
     let boundary : is_boundary (e ++ text_part w) (length e) ≡ true = boundary_after e w in
@@ -86,18 +94,21 @@ unfolding strip
 no_extra [] = refl
 no_extra (x ∷ w) = refl
 
-extra_again : (e w : List ℕ) → length e < 2 ^ 64 → extra_at (extra_part e ++ text_part w) ≡ Some (e, text_part w)
+extra_again : (e w : List ℕ) → length e < 2 ^ 64
+    → extra_at (extra_part e ++ text_part w) ≡ Some (e, text_part w)
 unfolding extra_at
 extra_again [] w small = rw (no_extra w) refl
 extra_again (x ∷ e) w small = rw (append_assoc (codes " ;") (decimal (length (x ∷ e)) ++ 32 ∷ (x ∷ e)) (text_part w), strip_again (codes " ;") ((decimal (length (x ∷ e)) ++ 32 ∷ (x ∷ e)) ++ text_part w), append_assoc (decimal (length (x ∷ e))) (32 ∷ (x ∷ e)) (text_part w)) (counted_again (x ∷ e) w (omega arith) small)
 
-extra_by : (t : List ℕ) (o : Option (List ℕ)) (p : List ℕ × List ℕ) → strip (codes " ;") t ≡ o → extra_after t o ≡ Some p → (t ≡ extra_part p.0 ++ p.1) × (length p.0 < 2 ^ 64)
+extra_by : (t : List ℕ) (o : Option (List ℕ)) (p : List ℕ × List ℕ) → strip (codes " ;") t ≡ o
+    → extra_after t o ≡ Some p → (t ≡ extra_part p.0 ++ p.1) × (length p.0 < 2 ^ 64)
 extra_by t None p is e = subst (λ (y : List ℕ × List ℕ). (t ≡ extra_part y.0 ++ y.1) × (length y.0 < 2 ^ 64)) (some_is ([], t) p e) (refl, lit< tt)
 extra_by t (Some rest) p is e =
     let h = counted_found rest p e in
     (strip_found (codes " ;") t rest is ∙ ap (λ (l : List ℕ). codes " ;" ++ l) (h.0 ∙ sym (append_assoc (decimal (length p.0)) (32 ∷ p.0) p.1)) ∙ sym (append_assoc (codes " ;") (decimal (length p.0) ++ 32 ∷ p.0) p.1) ∙ ap (λ (l : List ℕ). l ++ p.1) (sym (extra_part-some p.0 h.1)), h.2)
 
-extra_found : (t : List ℕ) (p : List ℕ × List ℕ) → extra_at t ≡ Some p → (t ≡ extra_part p.0 ++ p.1) × (length p.0 < 2 ^ 64)
+extra_found : (t : List ℕ) (p : List ℕ × List ℕ) → extra_at t ≡ Some p
+    → (t ≡ extra_part p.0 ++ p.1) × (length p.0 < 2 ^ 64)
 unfolding extra_at
 extra_found t p e = extra_by t (strip (codes " ;") t) p refl e
 

@@ -23,7 +23,8 @@ use Rattle.td_rows.proofs.NoteTexts.{notes_exact, notes_begin}
 tail_joined : (d f g n w : List ℕ) → d ≡ f ++ g → f ≡ n → g ≡ w → d ≡ n ++ w
 tail_joined d f g n w h1 h2 h3 = cc
 
-line_joined : (t a b k d x y z : List ℕ) → t ≡ a ++ 32 ∷ b → b ≡ k ++ 32 ∷ d → d ≡ x ++ 32 ∷ y → y ≡ z → t ≡ a ++ 32 ∷ (k ++ 32 ∷ (x ++ 32 ∷ z))
+line_joined : (t a b k d x y z : List ℕ) → t ≡ a ++ 32 ∷ b → b ≡ k ++ 32 ∷ d → d ≡ x ++ 32 ∷ y
+    → y ≡ z → t ≡ a ++ 32 ∷ (k ++ 32 ∷ (x ++ 32 ∷ z))
 line_joined t a b k d x y z h1 h2 h3 h4 = cc
 
 row_found : (t : List ℕ) (p : Key × Row) → row_line_at t ≡ Some p → (t ≡ row_line p) × RowFits p

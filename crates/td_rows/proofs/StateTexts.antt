@@ -1,5 +1,7 @@
 -- State files are read exactly where their lines are those of opening rows.
-use Rattle.std.proofs.Common.{◌≡◌, ◌≢◌, ℕ, suc, ◌+◌, ◌≤◌, Bool, true, false, cond, eqb, List, [], ◌∷◌, ◌++◌, length, map, Option, Some, None, Result, Ok, Err, is_some, refl, sym, ap, subst, ◌∙◌, append_assoc, arith}
+use Rattle.std.proofs.Common.{◌≡◌, ◌≢◌, ℕ, suc, ◌+◌, ◌≤◌, Bool, true, false, cond, eqb, List, []}
+use Rattle.std.proofs.Common.{◌∷◌, ◌++◌, length, map, Option, Some, None, Result, Ok, Err, is_some}
+use Rattle.std.proofs.Common.{refl, sym, ap, subst, ◌∙◌, append_assoc, arith}
 use Rattle.std.specs.Prelude.{decimal}
 use Rattle.std.specs.Fmt.{signed_decimal}
 use Rattle.std.specs.Map.{lookup}
@@ -17,7 +19,8 @@ use Rattle.td_rows.proofs.NoteLines.{has_newline-Without, extra_lacks, text_lack
 use Rattle.td_rows.specs.declared.key.Key.{Key}
 use Rattle.td_rows.specs.declared.row.Row.{Row}
 use Rattle.td_rows.specs.declared.state_file.StateFault.{StateFault}
-use Rattle.td_rows.specs.declared.state_file.StateFault.TheVariants.{BadLine, Twice, NotOpening, TooManyRows, NoMemory}
+use Rattle.td_rows.specs.declared.state_file.StateFault.TheVariants.{BadLine, Twice, NotOpening}
+use Rattle.td_rows.specs.declared.state_file.StateFault.TheVariants.{TooManyRows, NoMemory}
 use Rattle.td_rows.specs.Text.{has_newline}
 use Rattle.td_rows.specs.Keys.{same_key, names}
 use Rattle.td_rows.specs.States.{is_building}
@@ -27,7 +30,8 @@ use Rattle.td_rows.specs.KeyText.{key_text}
 use Rattle.td_rows.specs.Notes.{extra_part, text_part, notes}
 use Rattle.td_rows.specs.RowLine.{row_words, row_line, RowFits}
 use Rattle.td_rows.specs.RowReading.{row_line_at}
-use Rattle.td_rows.specs.StateFile.{is_filled, Opens, Fresh, AreLinesOf, IsStateFile, IsFaulty, IsFirstFault, FaultOf}
+use Rattle.td_rows.specs.StateFile.{is_filled, Opens, Fresh, AreLinesOf, IsStateFile, IsFaulty}
+use Rattle.td_rows.specs.StateFile.{IsFirstFault, FaultOf}
 use Rattle.td_rows.specs.StateReading.{add_row, state_step, Fails}
 use Rattle.td_rows.proofs.Lookups.{lookup-row_of}
 use Rattle.td_rows.proofs.RowLines.{row_exact}
@@ -51,7 +55,8 @@ row_of-unnamed t k h = by (row_of t k) (sym (names-row_of t k) ∙ h)
 -- ---- a line that is read
 
 -- what was added is a row that the line spells
-added : (n : ℕ) (seen more : Table) (line : List ℕ) (o : Option (Key × Row)) → row_line_at line ≡ o → add_row n seen o ≡ Ok more
+added : (n : ℕ) (seen more : Table) (line : List ℕ) (o : Option (Key × Row)) → row_line_at line ≡ o
+    → add_row n seen o ≡ Ok more
     → (p : Key × Row) × (more ≡ seen ++ p ∷ []) × (line ≡ row_line p) × Opens p × (names (keys_of seen) p.0 ≡ false) × (length seen ≢ 1048576)
 added n seen more line None is e = absurd cc
 added n seen more line (Some p) is e =
@@ -61,7 +66,9 @@ added n seen more line (Some p) is e =
     let f = row_exact.found line p is in
     (p, sym (ok_is StateFault _ _ c.1), f.0, record { fits = f.1; free = b.0 }, a.0, eqb-false (length seen) 1048576 c.0)
 
-pub rows_found : (n : ℕ) (seen total : Table) (lines : List (List ℕ)) → length seen ≤ 1048576 → over_lines state_step n seen lines ≡ Ok total → (rows : Table) × (total ≡ seen ++ rows) × AreLinesOf seen rows lines
+pub rows_found : (n : ℕ) (seen total : Table) (lines : List (List ℕ)) → length seen ≤ 1048576
+    → over_lines state_step n seen lines ≡ Ok total
+    → (rows : Table) × (total ≡ seen ++ rows) × AreLinesOf seen rows lines
 unfolding over_lines
 rows_found n seen total [] few e =
     ([], sym (ok_is StateFault _ _ e) ∙ sym (append-nil seen), record { spelled = refl; opening = tt; fresh = tt; limited = subst (λ (t : Table). length t ≤ 1048576) (sym (append-nil seen)) few })
@@ -82,17 +89,21 @@ rows_found n seen total ((x ∷ line) ∷ lines) few e =
     )
 
 -- the row of a line that is one is added
-add_row-again : (n : ℕ) (seen : Table) (p : Key × Row) → Opens p → names (keys_of seen) p.0 ≡ false → length (seen ++ p ∷ []) ≤ 1048576 → add_row n seen (row_line_at (row_line p)) ≡ Ok (seen ++ p ∷ [])
+add_row-again : (n : ℕ) (seen : Table) (p : Key × Row) → Opens p → names (keys_of seen) p.0 ≡ false
+    → length (seen ++ p ∷ []) ≤ 1048576
+    → add_row n seen (row_line_at (row_line p)) ≡ Ok (seen ++ p ∷ [])
 add_row-again n seen p opens fresh few =
     let read : row_line_at (row_line p) ≡ Some p = row_exact.again p opens.fits in
     let free = opens.free in
     let below : eqb (length seen) 1048576 ≡ false = ne_eqb (length seen) 1048576 (λ e. omega (arith, length-append seen (p ∷ []))) in
     rw (read, fresh, free, below) refl
 
-few_before : (seen : Table) (p : Key × Row) (rows : Table) → length (seen ++ p ∷ rows) ≤ 1048576 → length (seen ++ p ∷ []) ≤ 1048576
+few_before : (seen : Table) (p : Key × Row) (rows : Table) → length (seen ++ p ∷ rows) ≤ 1048576
+    → length (seen ++ p ∷ []) ≤ 1048576
 few_before seen p rows h = omega (arith, length-append seen (p ∷ []), length-append seen (p ∷ rows))
 
-pub rows_again : (n : ℕ) (seen rows : Table) (lines : List (List ℕ)) → AreLinesOf seen rows lines → over_lines state_step n seen lines ≡ Ok (seen ++ rows)
+pub rows_again : (n : ℕ) (seen rows : Table) (lines : List (List ℕ)) → AreLinesOf seen rows lines
+    → over_lines state_step n seen lines ≡ Ok (seen ++ rows)
 unfolding over_lines
 rows_again n seen [] [] h = ap Ok (sym (append-nil seen))
 rows_again n seen (r ∷ rows) [] h = absurd (let s = h.spelled in cc)
@@ -115,7 +126,8 @@ pub record LacksNewlines (p : Key × Row) : Type 0 where
   pub extra : has_newline p.1.extra ≡ false
   pub dep_wait : has_newline p.1.dep_wait ≡ false
 
-pub line_lacks_newlines : (line : List ℕ) (p : Key × Row) → Without 10 line → Some p ≡ row_line_at line → LacksNewlines p
+pub line_lacks_newlines : (line : List ℕ) (p : Key × Row) → Without 10 line
+    → Some p ≡ row_line_at line → LacksNewlines p
 line_lacks_newlines line p w is =
     let f = row_exact.found line p (sym is) in
     let whole : Without 10 (row_line p) = subst (λ (t : List ℕ). Without 10 t) f.0 w in
@@ -131,28 +143,36 @@ line_lacks_newlines line p w is =
     }
 
 -- a key that a look-up finds is among the keys
-pub names-contains : (t : Table) (k : Key) (b : Bool) → b ≡ is_some (lookup (same_key k) t) → names (keys_of t) k ≡ b
+pub names-contains : (t : Table) (k : Key) (b : Bool) → b ≡ is_some (lookup (same_key k) t)
+    → names (keys_of t) k ≡ b
 names-contains t k b is = names-row_of t k ∙ ap is_some (sym (lookup-row_of k t)) ∙ sym is
 
 module _ (n : ℕ) (seen : Table) (line : List ℕ) (p : Key × Row) (is : Some p ≡ row_line_at line) where
-  pub add_row-twice : names (keys_of seen) p.0 ≡ true → add_row n seen (row_line_at line) ≡ Err (Twice n)
+  pub add_row-twice : names (keys_of seen) p.0 ≡ true
+      → add_row n seen (row_line_at line) ≡ Err (Twice n)
   add_row-twice h = rw (← is, h) refl
 
-  pub add_row-building : names (keys_of seen) p.0 ≡ false → is_building p.1.state ≡ true → add_row n seen (row_line_at line) ≡ Err (NotOpening n)
+  pub add_row-building : names (keys_of seen) p.0 ≡ false → is_building p.1.state ≡ true
+      → add_row n seen (row_line_at line) ≡ Err (NotOpening n)
   add_row-building h b = rw (← is, h, b) refl
 
-  pub add_row-many : names (keys_of seen) p.0 ≡ false → is_building p.1.state ≡ false → length seen ≡ 1048576 → add_row n seen (row_line_at line) ≡ Err TooManyRows
+  pub add_row-many : names (keys_of seen) p.0 ≡ false → is_building p.1.state ≡ false
+      → length seen ≡ 1048576 → add_row n seen (row_line_at line) ≡ Err TooManyRows
   add_row-many h b many = let full : eqb (length seen) 1048576 ≡ true = eq-eqb (length seen) 1048576 many in rw (← is, h, b, full) refl
 
-  pub add_row-ok : (q : Key × Row) → q ≡ p → names (keys_of seen) p.0 ≡ false → is_building p.1.state ≡ false → length seen ≢ 1048576 → add_row n seen (row_line_at line) ≡ Ok (seen ++ q ∷ [])
+  pub add_row-ok : (q : Key × Row) → q ≡ p → names (keys_of seen) p.0 ≡ false
+      → is_building p.1.state ≡ false → length seen ≢ 1048576
+      → add_row n seen (row_line_at line) ≡ Ok (seen ++ q ∷ [])
   add_row-ok q same h b few = let below : eqb (length seen) 1048576 ≡ false = ne_eqb (length seen) 1048576 few in rw (← is, h, b, below) (ap (λ (x : Key × Row). Ok (seen ++ x ∷ [])) (sym same))
 
 -- ---- the loop over lines
 
-pub state_step-empty : (n : ℕ) (seen : Table) (line : List ℕ) → eqb (length line) 0 ≡ true → state_step n seen line ≡ Ok seen
+pub state_step-empty : (n : ℕ) (seen : Table) (line : List ℕ) → eqb (length line) 0 ≡ true
+    → state_step n seen line ≡ Ok seen
 state_step-empty n seen line h = rw h refl
 
-pub state_step-filled : (n : ℕ) (seen : Table) (line : List ℕ) → eqb (length line) 0 ≡ false → state_step n seen line ≡ add_row n seen (row_line_at line)
+pub state_step-filled : (n : ℕ) (seen : Table) (line : List ℕ) → eqb (length line) 0 ≡ false
+    → state_step n seen line ≡ add_row n seen (row_line_at line)
 state_step-filled n seen line h = rw h refl
 
 -- a fault at a line is that of all lines
@@ -167,19 +187,22 @@ Fails-over_lines TooManyRows n seen line after total filled f h = fails state_st
 -- ---- what the whole text is
 
 -- rows that are read are those of the lines
-pub AreLinesOf-state_rows : (lines : List (List ℕ)) (rows : Table) → over_lines state_step 1 [] lines ≡ Ok rows → AreLinesOf [] rows lines
+pub AreLinesOf-state_rows : (lines : List (List ℕ)) (rows : Table)
+    → over_lines state_step 1 [] lines ≡ Ok rows → AreLinesOf [] rows lines
 AreLinesOf-state_rows lines rows e =
     let h = rows_found 1 [] rows lines (omega arith) e in
     subst (λ (r : Table). AreLinesOf [] r lines) (sym h.1) h.2
 
 -- the rows of a state file are determined
-pub IsStateFile-one : (lines : List (List ℕ)) (t u : Table) → IsStateFile lines t → IsStateFile lines u → t ≡ u
+pub IsStateFile-one : (lines : List (List ℕ)) (t u : Table) → IsStateFile lines t
+    → IsStateFile lines u → t ≡ u
 IsStateFile-one lines t u a b =
     let same : a.rows ≡ b.rows = ok_is StateFault a.rows b.rows (sym (rows_again 1 [] a.rows lines a.written) ∙ rows_again 1 [] b.rows lines b.written) in
     table-same t u a.rising b.rising (λ k. a.same k ∙ ap (λ (r : Table). row_of r k) same ∙ sym (b.same k))
 
 -- a state file isn't refused but for want of memory
-pub IsStateFile-read : (lines : List (List ℕ)) (t : Table) (e : StateFault) → IsStateFile lines t → Fails e (over_lines state_step 1 [] lines) → e ≡ NoMemory
+pub IsStateFile-read : (lines : List (List ℕ)) (t : Table) (e : StateFault) → IsStateFile lines t
+    → Fails e (over_lines state_step 1 [] lines) → e ≡ NoMemory
 IsStateFile-read lines t NoMemory is f = refl
 IsStateFile-read lines t (BadLine n) is f = absurd (let r = rows_again 1 [] is.rows lines is.written in cc)
 IsStateFile-read lines t (Twice n) is f = absurd (let r = rows_again 1 [] is.rows lines is.written in cc)
@@ -188,12 +211,14 @@ IsStateFile-read lines t TooManyRows is f = absurd (let r = rows_again 1 [] is.r
 
 -- ---- the first fault
 
-filled-step : (n : ℕ) (seen : Table) (line : List ℕ) (e : StateFault) → state_step n seen line ≡ Err e → (is_filled line ≡ true) × (add_row n seen (row_line_at line) ≡ Err e)
+filled-step : (n : ℕ) (seen : Table) (line : List ℕ) (e : StateFault) → state_step n seen line
+    ≡ Err e → (is_filled line ≡ true) × (add_row n seen (row_line_at line) ≡ Err e)
 filled-step n seen [] e h = absurd cc
 filled-step n seen (x ∷ line) e h = (refl, sym (state_step-filled n seen (x ∷ line) (ne_eqb (suc (length line)) 0 (λ z. omega arith))) ∙ h)
 
 -- the line with a fault, in the words of the grammar
-faulty : (n : ℕ) (seen : Table) (line : List ℕ) (e : StateFault) (o : Option (Key × Row)) → row_line_at line ≡ o → add_row n seen o ≡ Err e → IsFaulty seen n line e
+faulty : (n : ℕ) (seen : Table) (line : List ℕ) (e : StateFault) (o : Option (Key × Row))
+    → row_line_at line ≡ o → add_row n seen o ≡ Err e → IsFaulty seen n line e
 faulty n seen line e None is h =
     let what : BadLine n ≡ e = cc in
     subst (λ (x : StateFault). IsFaulty seen n line x) what (refl, λ p fits spelled. (let read : row_line_at line ≡ Some p = ap row_line_at spelled ∙ row_exact.again p fits in let bad : None ≡ Some p = sym is ∙ read in cc))
@@ -202,25 +227,33 @@ faulty n seen line e (Some p) is h = named (names (keys_of seen) p.0) refl h
     found : (line ≡ row_line p) × RowFits p
     found = row_exact.found line p is
 
-    many : (f : Bool) → eqb (length seen) 1048576 ≡ f → names (keys_of seen) p.0 ≡ false → is_building p.1.state ≡ false → cond f (Err TooManyRows) (Ok (seen ++ p ∷ [])) ≡ Err e → IsFaulty seen n line e
+    many : (f : Bool) → eqb (length seen) 1048576 ≡ f → names (keys_of seen) p.0 ≡ false
+        → is_building p.1.state ≡ false → cond f (Err TooManyRows) (Ok (seen ++ p ∷ [])) ≡ Err e
+        → IsFaulty seen n line e
     many true full fresh free g =
         let what : TooManyRows ≡ e = cc in
         subst (λ (x : StateFault). IsFaulty seen n line x) what (record { row = p; spelled = found.0; fits = found.1; fresh = fresh }, free, eqb-true (length seen) 1048576 full)
     many false full fresh free g = absurd cc
 
-    building : (b : Bool) → is_building p.1.state ≡ b → names (keys_of seen) p.0 ≡ false → cond b (Err (NotOpening n)) (cond (eqb (length seen) 1048576) (Err TooManyRows) (Ok (seen ++ p ∷ []))) ≡ Err e → IsFaulty seen n line e
+    building : (b : Bool) → is_building p.1.state ≡ b → names (keys_of seen) p.0 ≡ false
+        → cond b (Err (NotOpening n)) (cond (eqb (length seen) 1048576) (Err TooManyRows)
+        (Ok (seen ++ p ∷ []))) ≡ Err e → IsFaulty seen n line e
     building true is_so fresh g =
         let what : NotOpening n ≡ e = cc in
         subst (λ (x : StateFault). IsFaulty seen n line x) what (refl, (record { row = p; spelled = found.0; fits = found.1; fresh = fresh }, is_so))
     building false free fresh g = many (eqb (length seen) 1048576) refl fresh free g
 
-    named : (b : Bool) → names (keys_of seen) p.0 ≡ b → cond b (Err (Twice n)) (cond (is_building p.1.state) (Err (NotOpening n)) (cond (eqb (length seen) 1048576) (Err TooManyRows) (Ok (seen ++ p ∷ [])))) ≡ Err e → IsFaulty seen n line e
+    named : (b : Bool) → names (keys_of seen) p.0 ≡ b
+        → cond b (Err (Twice n))
+        (cond (is_building p.1.state) (Err (NotOpening n)) (cond (eqb (length seen) 1048576)
+        (Err TooManyRows) (Ok (seen ++ p ∷ [])))) ≡ Err e → IsFaulty seen n line e
     named true is_so g =
         let what : Twice n ≡ e = cc in
         subst (λ (x : StateFault). IsFaulty seen n line x) what (refl, record { row = p; spelled = found.0; fits = found.1; repeated = is_so })
     named false fresh g = building (is_building p.1.state) refl fresh g
 
-first_of : (lines : List (List ℕ)) (e : StateFault) → over_lines state_step 1 [] lines ≡ Err e → IsFirstFault lines e
+first_of : (lines : List (List ℕ)) (e : StateFault) → over_lines state_step 1 [] lines ≡ Err e
+    → IsFirstFault lines e
 first_of lines e h =
     let f = first_fault state_step 1 [] lines e h in
     let step = filled-step (1 + length f.before) f.so_far f.line e f.fault in
@@ -236,7 +269,8 @@ first_of lines e h =
     }
 
 -- a fault of the reading is that of the first faulty line
-pub FaultOf-state_rows : (lines : List (List ℕ)) (e : StateFault) → Fails e (over_lines state_step 1 [] lines) → FaultOf lines e
+pub FaultOf-state_rows : (lines : List (List ℕ)) (e : StateFault)
+    → Fails e (over_lines state_step 1 [] lines) → FaultOf lines e
 FaultOf-state_rows lines NoMemory f = tt
 FaultOf-state_rows lines (BadLine n) f = first_of lines (BadLine n) f
 FaultOf-state_rows lines (Twice n) f = first_of lines (Twice n) f

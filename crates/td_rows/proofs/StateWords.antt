@@ -10,13 +10,16 @@ use Rattle.td_text.proofs.Cut.{Without-append, lacks}
 use Rattle.td_text.proofs.Numbers.{number_exact, Without-decimal}
 use Rattle.td_text.proofs.Prefix.{strip_again, strip_found}
 use Rattle.td_rows.specs.declared.state.State.{State}
-use Rattle.td_rows.specs.declared.state.State.TheVariants.{NeedsBuild, Building, Built, Uploaded, Installed, DepWait, BdUninstallable, BuildAttempted, Failed, NotForUs}
+use Rattle.td_rows.specs.declared.state.State.TheVariants.{NeedsBuild, Building, Built, Uploaded}
+use Rattle.td_rows.specs.declared.state.State.TheVariants.{Installed, DepWait, BdUninstallable}
+use Rattle.td_rows.specs.declared.state.State.TheVariants.{BuildAttempted, Failed, NotForUs}
 use Rattle.td_rows.specs.StateWord.{state_word, StateFits, state_at}
 
 abbrev IsWordOf : List ℕ → State → Type 0
 IsWordOf t s = (t ≡ state_word s) × StateFits s
 
-building_found : (t : List ℕ) (s : State) → (strip (codes "Building=") t >>= λ digits. number_at (2 ^ 64 - 1) digits >>= λ n. Some (Building n)) ≡ Some s → IsWordOf t s
+building_found : (t : List ℕ) (s : State) → (strip (codes "Building=") t >>= λ digits.
+    number_at (2 ^ 64 - 1) digits >>= λ n. Some (Building n)) ≡ Some s → IsWordOf t s
 building_found t s e =
     let a = chained _ _ _ e in
     let b = chained _ _ _ a.2 in

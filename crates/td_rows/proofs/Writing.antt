@@ -1,5 +1,7 @@
 -- Rows that are written line by line, and read again.
-use Rattle.std.proofs.Common.{◌≡◌, ℕ, ◌+◌, ◌≤◌, is_some, true, false, List, [], ◌∷◌, ◌++◌, length, map, take, Some, slice_get, refl, sym, ap, subst, ◌∙◌, arith, append-nil, append_assoc}
+use Rattle.std.proofs.Common.{◌≡◌, ℕ, ◌+◌, ◌≤◌, is_some, true, false, List, [], ◌∷◌, ◌++◌, length}
+use Rattle.std.proofs.Common.{map, take, Some, slice_get, refl, sym, ap, subst, ◌∙◌, arith}
+use Rattle.std.proofs.Common.{append-nil, append_assoc}
 use Rattle.std.specs.Prelude.{decimal}
 use Rattle.std.specs.Fmt.{signed_decimal}
 use Rattle.std.specs.List.{filter, AllByRecursion}
@@ -32,7 +34,8 @@ use Rattle.td_rows.proofs.StateWords.{state_lacks_newline}
 
 -- ---- one row more
 
-pub state_text-push : (t : Table) (p : Key × Row) → state_text (t ++ p ∷ []) ≡ (state_text t ++ row_line p) ++ 10 ∷ []
+pub state_text-push : (t : Table) (p : Key × Row)
+    → state_text (t ++ p ∷ []) ≡ (state_text t ++ row_line p) ++ 10 ∷ []
 state_text-push t p =
     ap text_of (map-append row_line t (p ∷ []))
     ∙ flat_map-append (λ line. line ++ 10 ∷ []) (map row_line t) (row_line p ∷ [])
@@ -40,7 +43,8 @@ state_text-push t p =
     ∙ sym (append_assoc (state_text t) (row_line p) (10 ∷ []))
 
 -- the text so far, once the row with a number is written
-pub state_text-next : (t : Table) (n : ℕ) (p : Key × Row) → slice_get t n ≡ Some p → state_text (take (n + 1) t) ≡ (state_text (take n t) ++ row_line p) ++ 10 ∷ []
+pub state_text-next : (t : Table) (n : ℕ) (p : Key × Row) → slice_get t n ≡ Some p
+    → state_text (take (n + 1) t) ≡ (state_text (take n t) ++ row_line p) ++ 10 ∷ []
 state_text-next t n p at = ap state_text (take-next t n p at) ∙ state_text-push (take n t) p
 
 -- ---- no newline stands in a line
@@ -55,7 +59,8 @@ line_lacks p h =
     let words : Without 10 (row_words row) = Without-append 10 (state_word row.state) _ (state_lacks_newline row.state fits.state) ((λ z. omega arith), numbers) in
     Without-append 10 (key_text p.0) _ (key_lacks_newline p.0 fits.key) ((λ z. omega arith), words)
 
-lines_lack : (t : Table) → AllByRecursion OpensInLines t → AllByRecursion (Without 10) (map row_line t)
+lines_lack : (t : Table) → AllByRecursion OpensInLines t
+    → AllByRecursion (Without 10) (map row_line t)
 lines_lack [] h = tt
 lines_lack (p ∷ t) h = (line_lacks p h.0, lines_lack t h.1)
 

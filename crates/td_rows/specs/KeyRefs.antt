@@ -1,4 +1,5 @@
--- A key by its two texts is hashed and compared as the key is: laws that a look-up asks for. This project's own.
+-- A key by its two texts is hashed and compared as the key is: laws that a look-up asks for.
+-- This project's own.
 use Rattle.std.proofs.Common.{◌≡◌, ℕ, true, List, ◌++◌, ap, sym}
 use Rattle.std.specs.Bool.{◌==◌}
 use Rattle.std.specs.Cmp.Lexicographic.{pointwise, same_text}
@@ -16,9 +17,18 @@ one_key a b h =
     λ i. record { source = sources i; arch = archs i }
 
 -- two texts are hashed as the key that has them
-pub hashed_alike : (source arch : List ℕ) (k : Key) → same_key (record { source = source; arch = arch }) k ≡ true → fed.str source ++ fed.str arch ≡ fed.str k.source ++ fed.str k.arch
+pub hashed_alike : (source arch : List ℕ) (k : Key) → same_key (record {
+  source =
+      source;
+  arch = arch;
+}) k ≡ true
+    → fed.str source ++ fed.str arch ≡ fed.str k.source ++ fed.str k.arch
 hashed_alike source arch k is =
-    ap (λ (q : Key). fed.str q.source ++ fed.str q.arch) (one_key (record { source = source; arch = arch }) k is)
+    ap (λ (q : Key). fed.str q.source ++ fed.str q.arch) (one_key (record {
+      source =
+          source;
+      arch = arch;
+    }) k is)
 
 -- a key that is the same as two texts is the same as no other
 pub compared_alike : (q x y : Key) → same_key q x ≡ true → same_key q y ≡ same_key x y

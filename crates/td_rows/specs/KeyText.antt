@@ -16,4 +16,5 @@ pub record KeyFits (k : Key) : Type 0 where
 
 -- the key that a text is
 unfoldable pub key_at : List ℕ → Option Key
-key_at text = cut 47 text >>= λ p. if is_name p.0 && is_arch p.1 then Some (record { source = p.0; arch = p.1 }) else None
+key_at text = cut 47 text >>= λ p.
+    if is_name p.0 && is_arch p.1 then Some (record { source = p.0; arch = p.1 }) else None

@@ -1,5 +1,8 @@
--- The texts at a line's end: ` ;LENGTH EXTRA` and ` : TEXT`, each left out where it is empty. This project's own.
-use Rattle.std.specs.Prelude.{ℕ, ◌==◌, ◌<◌, ◌-◌, ◌^◌, nat_lt, nat_le, List, [], ◌∷◌, ◌++◌, Bool, ◌&&◌, ◌||◌, Option, Some, None, length, slice_index, take, drop, if◌then◌else◌, codes, decimal}
+-- The texts at a line's end: ` ;LENGTH EXTRA` and ` : TEXT`, each left out where it is empty.
+-- This project's own.
+use Rattle.std.specs.Prelude.{ℕ, ◌==◌, ◌<◌, ◌-◌, ◌^◌, nat_lt, nat_le, List, [], ◌∷◌, ◌++◌, Bool}
+use Rattle.std.specs.Prelude.{◌&&◌, ◌||◌, Option, Some, None, length, slice_index, take, drop}
+use Rattle.std.specs.Prelude.{if◌then◌else◌, codes, decimal}
 use Rattle.td_text.specs.Chain.{◌>>=◌}
 use Rattle.td_text.specs.Cut.{cut, strip}
 use Rattle.td_text.specs.Numbers.{number_at}
@@ -24,7 +27,8 @@ NotesFit n = length n.0 < 2 ^ 64
 
 -- whether a character begins or the text ends at a place
 abbrev pub is_boundary : List ℕ → ℕ → Bool
-is_boundary text i = nat_le i (length text) && (nat_le (length text) i || (nat_lt (slice_index text i) 128 || nat_le 192 (slice_index text i)))
+is_boundary text i = nat_le i (length text) &&
+    (nat_le (length text) i || (nat_lt (slice_index text i) 128 || nat_le 192 (slice_index text i)))
 
 -- a text that is led by its length, and what follows it
 unfoldable pub counted_at : List ℕ → Option (List ℕ × List ℕ)
@@ -44,7 +48,8 @@ extra_at text = extra_after text (strip (codes " ;") text)
 
 -- the text that ends a line
 unfoldable pub text_at : List ℕ → Option (List ℕ)
-text_at text = if length text == 0 then Some [] else (strip (codes " : ") text >>= λ t. if length t == 0 then None else Some t)
+text_at text = if length text == 0 then Some []
+    else (strip (codes " : ") text >>= λ t. if length t == 0 then None else Some t)
 
 -- both
 unfoldable pub notes_at : List ℕ → Option (List ℕ × List ℕ)

@@ -12,7 +12,8 @@ use Rattle.td_rows.specs.Notes.{notes, NotesFit}
 
 -- what a row's line says of it behind its key
 abbrev pub row_words : Row → List ℕ
-row_words row = state_word row.state ++ 32 ∷ (signed_decimal row.priority ++ 32 ∷ (decimal row.number ++ notes (row.extra, row.dep_wait)))
+row_words row = state_word row.state ++ 32 ∷
+    (signed_decimal row.priority ++ 32 ∷ (decimal row.number ++ notes (row.extra, row.dep_wait)))
 
 -- the key, the state, the priority, the rebuild number and the texts
 abbrev pub row_line : Key × Row → List ℕ

@@ -22,4 +22,13 @@ row_line_at line = do
   priority ← signed_at max_priority d.0
   number ← number_at max_rebuild (part 32 d.1).0
   texts ← notes_at (part 32 d.1).1
-  Some (key, record { state = state; priority = priority; number = number; dep_wait = texts.1; extra = texts.0 })
+  Some (
+    key,
+    record {
+      state = state;
+      priority = priority;
+      number = number;
+      dep_wait = texts.1;
+      extra = texts.0;
+    },
+  )

@@ -1,11 +1,13 @@
 -- State files: the lines of opening rows. This project's own.
-use Rattle.std.specs.Prelude.{◌≡◌, ◌≢◌, ℕ, ◌+◌, ◌≤◌, List, [], ◌∷◌, ◌++◌, Bool, true, false, map, length}
+use Rattle.std.specs.Prelude.{◌≡◌, ◌≢◌, ℕ, ◌+◌, ◌≤◌, List, [], ◌∷◌, ◌++◌, Bool, true, false, map}
+use Rattle.std.specs.Prelude.{length}
 use Rattle.std.specs.List.{filter, AllByRecursion}
 use Rattle.td_rows.specs.Limits.{max_rows}
 use Rattle.td_rows.specs.declared.key.Key.{Key}
 use Rattle.td_rows.specs.declared.row.Row.{Row}
 use Rattle.td_rows.specs.declared.state_file.StateFault.{StateFault}
-use Rattle.td_rows.specs.declared.state_file.StateFault.TheVariants.{BadLine, Twice, NotOpening, TooManyRows, NoMemory}
+use Rattle.td_rows.specs.declared.state_file.StateFault.TheVariants.{BadLine, Twice, NotOpening}
+use Rattle.td_rows.specs.declared.state_file.StateFault.TheVariants.{TooManyRows, NoMemory}
 use Rattle.td_rows.specs.Keys.{names, ascending}
 use Rattle.td_rows.specs.States.{is_building}
 use Rattle.td_rows.specs.Table.{Table, keys_of, row_of}
@@ -56,10 +58,13 @@ pub record IsRepeatedLine (seen : Table) (line : List ℕ) : Type 0 where
 
 -- what is wrong with a filled line that has this number, behind the rows seen
 abbrev pub IsFaulty : Table → ℕ → List ℕ → StateFault → Type 0
-IsFaulty seen number line (BadLine n) = (n ≡ number) × ((p : Key × Row) → RowFits p → line ≢ row_line p)
+IsFaulty seen number line (BadLine n) = (n ≡ number)
+    × ((p : Key × Row) → RowFits p → line ≢ row_line p)
 IsFaulty seen number line (Twice n) = (n ≡ number) × IsRepeatedLine seen line
-IsFaulty seen number line (NotOpening n) = (n ≡ number) × ((f : IsFreshLine seen line) × (is_building f.row.1.state ≡ true))
-IsFaulty seen number line TooManyRows = (f : IsFreshLine seen line) × (is_building f.row.1.state ≡ false) × (length seen ≡ max_rows)
+IsFaulty seen number line (NotOpening n) = (n ≡ number)
+    × ((f : IsFreshLine seen line) × (is_building f.row.1.state ≡ true))
+IsFaulty seen number line TooManyRows = (f : IsFreshLine seen line)
+    × (is_building f.row.1.state ≡ false) × (length seen ≡ max_rows)
 IsFaulty seen number line NoMemory = ⊥
 
 -- the first line with a fault: those before it are lines of opening rows

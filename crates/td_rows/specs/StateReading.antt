@@ -1,11 +1,13 @@
 -- How a state file is read: line by line, the first fault decides.
-use Rattle.std.specs.Prelude.{◌≡◌, ℕ, ◌==◌, List, [], ◌∷◌, ◌++◌, Option, Some, None, Result, Ok, Err, length, if◌then◌else◌}
+use Rattle.std.specs.Prelude.{◌≡◌, ℕ, ◌==◌, List, [], ◌∷◌, ◌++◌, Option, Some, None, Result, Ok}
+use Rattle.std.specs.Prelude.{Err, length, if◌then◌else◌}
 use Rattle.td_rows.specs.Limits.{max_rows}
 use Rattle.td_text.specs.Lines.{lines_of, over_lines}
 use Rattle.td_rows.specs.declared.key.Key.{Key}
 use Rattle.td_rows.specs.declared.row.Row.{Row}
 use Rattle.td_rows.specs.declared.state_file.StateFault.{StateFault}
-use Rattle.td_rows.specs.declared.state_file.StateFault.TheVariants.{BadLine, Twice, NotOpening, TooManyRows, NoMemory}
+use Rattle.td_rows.specs.declared.state_file.StateFault.TheVariants.{BadLine, Twice, NotOpening}
+use Rattle.td_rows.specs.declared.state_file.StateFault.TheVariants.{TooManyRows, NoMemory}
 use Rattle.td_rows.specs.Keys.{names}
 use Rattle.td_rows.specs.States.{is_building}
 use Rattle.td_rows.specs.Table.{Table, keys_of}
@@ -21,7 +23,8 @@ add_row number seen (Some p) =
 
 -- the rows seen with a line
 abbrev pub state_step : ℕ → Table → List ℕ → Result Table StateFault
-state_step number seen line = if length line == 0 then Ok seen else add_row number seen (row_line_at line)
+state_step number seen line = if length line == 0 then Ok seen
+    else add_row number seen (row_line_at line)
 
 -- the rows of a text, in the order of its lines
 abbrev pub state_rows : List ℕ → Result Table StateFault

@@ -1,11 +1,14 @@
 -- The words of the states. This project's own, in the style of wanna-build.
-use Rattle.std.specs.Prelude.{ℕ, ◌<◌, ◌^◌, ◌-◌, List, ◌++◌, Option, Some, codes, decimal, if◌then◌else◌}
+use Rattle.std.specs.Prelude.{ℕ, ◌<◌, ◌^◌, ◌-◌, List, ◌++◌, Option, Some, codes, decimal}
+use Rattle.std.specs.Prelude.{if◌then◌else◌}
 use Rattle.std.specs.Str.{bytes_eq}
 use Rattle.td_text.specs.Chain.{◌>>=◌}
 use Rattle.td_text.specs.Cut.{strip}
 use Rattle.td_text.specs.Numbers.{number_at}
 use Rattle.td_rows.specs.declared.state.State.{State}
-use Rattle.td_rows.specs.declared.state.State.TheVariants.{NeedsBuild, Building, Built, Uploaded, Installed, DepWait, BdUninstallable, BuildAttempted, Failed, NotForUs}
+use Rattle.td_rows.specs.declared.state.State.TheVariants.{NeedsBuild, Building, Built, Uploaded}
+use Rattle.td_rows.specs.declared.state.State.TheVariants.{Installed, DepWait, BdUninstallable}
+use Rattle.td_rows.specs.declared.state.State.TheVariants.{BuildAttempted, Failed, NotForUs}
 
 -- how a state is written
 abbrev pub state_word : State → List ℕ
@@ -37,4 +40,5 @@ state_at text =
     else (if bytes_eq text (codes "Build-Attempted") then Some BuildAttempted
     else (if bytes_eq text (codes "Failed") then Some Failed
     else (if bytes_eq text (codes "Not-For-Us") then Some NotForUs
-    else (strip (codes "Building=") text >>= λ digits. number_at (2 ^ 64 - 1) digits >>= λ n. Some (Building n))))))))))
+    else (strip (codes "Building=") text >>= λ digits. number_at (2 ^ 64 - 1) digits >>= λ n.
+    Some (Building n))))))))))

@@ -1,7 +1,9 @@
 -- What is asked of a state. This project's own.
 use Rattle.std.specs.Prelude.{ℕ, Bool, true, false, ◌==◌}
 use Rattle.td_rows.specs.declared.state.State.{State}
-use Rattle.td_rows.specs.declared.state.State.TheVariants.{NeedsBuild, Building, Built, Uploaded, Installed, DepWait, BdUninstallable, BuildAttempted, Failed, NotForUs}
+use Rattle.td_rows.specs.declared.state.State.TheVariants.{NeedsBuild, Building, Built, Uploaded}
+use Rattle.td_rows.specs.declared.state.State.TheVariants.{Installed, DepWait, BdUninstallable}
+use Rattle.td_rows.specs.declared.state.State.TheVariants.{BuildAttempted, Failed, NotForUs}
 
 -- the states from which a build is given back
 abbrev pub gives_back : State → Bool

@@ -42,7 +42,8 @@ impl Key {
     /// The key of a source and an architecture, in neither of which a newline stands.
     pub fn new(alloc: Global, source: &str, arch: &str) -> Result<Key, LineError>
         ensures ok { IfOk result (λ key. key ≡ record { source = source.now; arch = arch.now }) }
-        ensures newline { IsErrOf result LineError.Newline ↔ ((has_newline source.now || has_newline arch.now) ≡ true) }
+        ensures newline { IsErrOf result LineError.Newline
+            ↔ ((has_newline source.now || has_newline arch.now) ≡ true) }
     {
         if has_newline(source) || has_newline(arch) {
             return Err(LineError::Newline);
@@ -146,7 +147,8 @@ impl Ord for Key {
 impl PartialOrd for Key {
     ghost partial_cmp = { as_partial_cmp key_cmp };
 
-    ghost laws = { partial_order_from_own_ties (Prim.search (comparing, rules)) (Prim.search (comparing, rules)) };
+    ghost laws = { partial_order_from_own_ties (Prim.search (comparing, rules))
+        (Prim.search (comparing, rules)) };
 
     fn partial_cmp(&self, other: &Key) -> Option<Ordering> {
         Some(self.cmp(other))

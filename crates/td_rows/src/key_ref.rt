@@ -21,7 +21,8 @@ impl<'a> Equivalent<Key> for KeyRef<'a> {
 
     ghost respects_hash = { λ q k. hashed_alike q.source.now q.arch.now k };
 
-    ghost respects_eq = { λ q x y. compared_alike (record { source = q.source.now; arch = q.arch.now }) x y };
+    ghost respects_eq = { λ q x y. compared_alike
+        (record { source = q.source.now; arch = q.arch.now }) x y };
 
     fn equivalent(&self, key: &Key) -> bool {
         self.source == key.source() && self.arch == key.arch()
@@ -30,8 +31,10 @@ impl<'a> Equivalent<Key> for KeyRef<'a> {
 
 /// The number of the row of a source on an architecture. It takes no memory.
 pub(crate) fn number_in(rows: &IndexMap<Key, Row>, source: &str, arch: &str) -> Option<usize>
-    ensures found { IfSome result (IsAt rows.now.entries (record { source = source.now; arch = arch.now })) }
-    ensures absent { IfNone result (row_of rows.now.entries (record { source = source.now; arch = arch.now }) ≡ None) }
+    ensures found { IfSome result (IsAt rows.now.entries
+        (record { source = source.now; arch = arch.now })) }
+    ensures absent { IfNone result (row_of rows.now.entries
+        (record { source = source.now; arch = arch.now }) ≡ None) }
 {
     match rows.get_full(KeyRef { source, arch }) {
         Some((number, _, _)) => Some(number),

@@ -11,7 +11,8 @@ use td_text::{cut_at, is_arch, is_name};
 /// The source and the architecture of `source/arch`.
 #[tactic(auto, unfolding(crate::specs::KeyText::key_at))]
 pub fn read_key(text: &str) -> Option<(&str, &str)>
-    ensures { option_map (λ p. record { source = p.0.now; arch = p.1.now }) result ≡ key_at text.now }
+    ensures { option_map (λ p. record { source = p.0.now; arch = p.1.now }) result
+        ≡ key_at text.now }
 {
     let (source, arch) = cut_at(text, '/')?;
     if is_name(source) && is_arch(arch) {

@@ -1,5 +1,6 @@
 //! A text without a newline.
-ghost use Rattle.std.specs.Prelude.{Some, None, true, false, ◌≡◌, ◌↔◌, ℕ, List, [], length, IfOk, IsOk, IsErrOf, string_bytes};
+ghost use Rattle.std.specs.Prelude.{Some, None, true, false, ◌≡◌, ◌↔◌, ℕ, List, [], length, IfOk};
+ghost use Rattle.std.specs.Prelude.{IsOk, IsErrOf, string_bytes};
 ghost use Rattle.std.proofs.Common.{rules};
 ghost use Rattle.td_rows.specs.Text.{has_newline};
 ghost use Rattle.std.specs.Bool.{◌==◌};
@@ -27,7 +28,8 @@ impl Model for Line {
 
     ghost view = { λ l. elim l.text [ Some text ↦ string_bytes text.value | None ↦ [] ] };
 
-    ghost invariant = { λ l. has_newline (elim l.text [ Some text ↦ string_bytes text.value | None ↦ [] ]) ≡ false };
+    ghost invariant = { λ l. has_newline
+        (elim l.text [ Some text ↦ string_bytes text.value | None ↦ [] ]) ≡ false };
 }
 
 impl Drop for Line {
@@ -155,7 +157,8 @@ impl Ord for Line {
 impl PartialOrd for Line {
     ghost partial_cmp = { as_partial_cmp (slice_cmp nat_cmp) };
 
-    ghost laws = { partial_order_from_own_ties (Prim.search (comparing, rules)) (Prim.search (comparing, rules)) };
+    ghost laws = { partial_order_from_own_ties (Prim.search (comparing, rules))
+        (Prim.search (comparing, rules)) };
 
     fn partial_cmp(&self, other: &Line) -> Option<Ordering> {
         Some(self.cmp(other))

@@ -2,7 +2,8 @@
 ghost use Rattle.std.specs.Prelude.{◌≡◌, ◌++◌, option_map, OnOk, OnErr};
 ghost use Rattle.std.specs.String.{string_bytes};
 ghost use Rattle.td_rows.specs.Appending.{Grown};
-ghost use Rattle.td_rows.specs.Notes.{extra_part, text_part, notes, counted_at, extra_at, text_at, notes_at};
+ghost use Rattle.td_rows.specs.Notes.{extra_part, text_part, notes, counted_at, extra_at, text_at};
+ghost use Rattle.td_rows.specs.Notes.{notes_at};
 
 use std::alloc::AllocError;
 use td_text::{cut_at, number, put_number, strip};
@@ -81,7 +82,8 @@ fn put_text(out: &mut String, text: &str) -> Result<(), AllocError>
 
 #[tactic(auto, using(crate::proofs::Appends::growing))]
 fn put_both(out: &mut String, extra: &str, text: &str) -> Result<(), AllocError>
-    ensures ok { OnOk result (string_bytes out.new ≡ string_bytes out.old ++ notes (extra.now, text.now)) }
+    ensures ok { OnOk result (string_bytes out.new
+        ≡ string_bytes out.old ++ notes (extra.now, text.now)) }
     ensures front { Grown (string_bytes out.old) (string_bytes out.new) }
 {
     put_extra(out, extra)?;
@@ -90,7 +92,8 @@ fn put_both(out: &mut String, extra: &str, text: &str) -> Result<(), AllocError>
 
 /// Appends the texts at a line's end, each where it isn't empty; where memory runs out nothing.
 pub fn put_notes(out: &mut String, extra: &str, text: &str) -> Result<(), AllocError>
-    ensures ok { OnOk result (string_bytes out.new ≡ string_bytes out.old ++ notes (extra.now, text.now)) }
+    ensures ok { OnOk result (string_bytes out.new
+        ≡ string_bytes out.old ++ notes (extra.now, text.now)) }
     ensures err { OnErr result (string_bytes out.new ≡ string_bytes out.old) }
 {
     let start = out.len();

@@ -39,7 +39,8 @@ impl Priority {
     /// The priority of a number within the limits.
     pub fn new(value: i16) -> Option<Priority>
         ensures value { IfSome result (λ priority. priority ≡ value) }
-        ensures within { IsSome result ↔ ((neg_ℤ (pos max_priority) ≤ℤ value) × (value ≤ℤ pos max_priority)) }
+        ensures within { IsSome result
+            ↔ ((neg_ℤ (pos max_priority) ≤ℤ value) × (value ≤ℤ pos max_priority)) }
     {
         if -MAX_PRIORITY <= value && value <= MAX_PRIORITY {
             Some(Priority { value })

@@ -89,7 +89,8 @@ impl<'a> RowText<'a> {
 
 #[tactic(auto, using(crate::proofs::Appends::growing))]
 fn put_number_and_notes(out: &mut String, row: &Row) -> Result<(), AllocError>
-    ensures ok { OnOk result (string_bytes out.new ≡ string_bytes out.old ++ (decimal row.now.number ++ notes (row.now.extra, row.now.dep_wait))) }
+    ensures ok { OnOk result (string_bytes out.new ≡ string_bytes out.old
+        ++ (decimal row.now.number ++ notes (row.now.extra, row.now.dep_wait))) }
     ensures front { Grown (string_bytes out.old) (string_bytes out.new) }
 {
     put_number(out, row.number.get() as u64)?;
@@ -110,7 +111,8 @@ fn put_words(out: &mut String, row: &Row) -> Result<(), AllocError>
 
 #[tactic(auto, using(crate::proofs::Appends::growing))]
 fn put_key_and_words(out: &mut String, key: &Key, row: &Row) -> Result<(), AllocError>
-    ensures ok { OnOk result (string_bytes out.new ≡ string_bytes out.old ++ row_line (key.now, row.now)) }
+    ensures ok { OnOk result (string_bytes out.new
+        ≡ string_bytes out.old ++ row_line (key.now, row.now)) }
     ensures front { Grown (string_bytes out.old) (string_bytes out.new) }
 {
     put_key(out, key)?;
@@ -120,7 +122,8 @@ fn put_key_and_words(out: &mut String, key: &Key, row: &Row) -> Result<(), Alloc
 
 /// Appends the row's line, without a newline; where memory runs out nothing.
 pub fn put_row_line(out: &mut String, key: &Key, row: &Row) -> Result<(), AllocError>
-    ensures ok { OnOk result (string_bytes out.new ≡ string_bytes out.old ++ row_line (key.now, row.now)) }
+    ensures ok { OnOk result (string_bytes out.new
+        ≡ string_bytes out.old ++ row_line (key.now, row.now)) }
     ensures err { OnErr result (string_bytes out.new ≡ string_bytes out.old) }
 {
     let start = out.len();

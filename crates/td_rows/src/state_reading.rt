@@ -1,5 +1,6 @@
 //! How a state file is read.
-ghost use Rattle.std.specs.Prelude.{◌≡◌, ◌≤◌, ◌++◌, ◌∷◌, [], List, Ok, Err, IfOk, IfErr, OnOk, MatchResult, length, true, None};
+ghost use Rattle.std.specs.Prelude.{◌≡◌, ◌≤◌, ◌++◌, ◌∷◌, [], List, Ok, Err, IfOk, IfErr, OnOk};
+ghost use Rattle.std.specs.Prelude.{MatchResult, length, true, None};
 ghost use Rattle.td_rows.specs.Limits.{max_rows};
 ghost use Rattle.td_text.specs.Cut.{Without};
 ghost use Rattle.td_text.specs.Lines.{lines_of};
@@ -39,9 +40,11 @@ fn opening_row(
     line: &str,
 ) -> Result<(Key, Row), StateFault>
     requires { Without 10 line.now }
-    ensures ok { IfOk result (λ p. add_row number rows.now.entries (row_line_at line.now) ≡ Ok (rows.now.entries ++ p ∷ [])) }
+    ensures ok { IfOk result (λ p. add_row number rows.now.entries (row_line_at line.now)
+        ≡ Ok (rows.now.entries ++ p ∷ [])) }
     ensures fresh { IfOk result (λ p. row_of rows.now.entries p.0 ≡ None) }
-    ensures err { IfErr result (λ e. Fails e (add_row number rows.now.entries (row_line_at line.now))) }
+    ensures err { IfErr result
+        (λ e. Fails e (add_row number rows.now.entries (row_line_at line.now))) }
 {
     let Some(text) = RowText::read(line) else {
         return Err(StateFault::BadLine(number));
@@ -106,7 +109,8 @@ pub fn read_state(alloc: Global, text: &str) -> Result<Rows, StateFault>
     // What is read is a state file.
     ensures found { IfOk result (IsStateFile (lines_of text.now)) }
     // A state file is read, unless memory runs out.
-    ensures only { (t : Table) → IsStateFile (lines_of text.now) t → MatchResult result (λ rows. rows ≡ t) (λ e. e ≡ StateFault.NoMemory) }
+    ensures only { (t : Table) → IsStateFile (lines_of text.now) t
+        → MatchResult result (λ rows. rows ≡ t) (λ e. e ≡ StateFault.NoMemory) }
     ensures fault { IfErr result (FaultOf (lines_of text.now)) }
 {
     let rows = read_rows(alloc, text)?;

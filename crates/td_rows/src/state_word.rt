@@ -33,7 +33,8 @@ pub fn read_state_word(text: &str) -> Option<State>
 
 #[tactic(auto, using(crate::proofs::Appends::growing))]
 fn put_building(out: &mut String, builder: BuilderNo) -> Result<(), AllocError>
-    ensures ok { OnOk result (string_bytes out.new ≡ string_bytes out.old ++ (codes "Building=" ++ decimal builder)) }
+    ensures ok { OnOk result (string_bytes out.new
+        ≡ string_bytes out.old ++ (codes "Building=" ++ decimal builder)) }
     ensures front { Grown (string_bytes out.old) (string_bytes out.new) }
 {
     out.push_str("Building=")?;

@@ -1,5 +1,6 @@
 -- A text is one simulation at the most, and none where it has a fault.
-use Rattle.std.proofs.Common.{◌≡◌, ◌<◌, ℕ, List, [], ◌∷◌, ◌++◌, map, length, refl, sym, subst, ◌∙◌, arith}
+use Rattle.std.proofs.Common.{◌≡◌, ◌<◌, ℕ, List, [], ◌∷◌, ◌++◌, map, length, refl, sym, subst, ◌∙◌}
+use Rattle.std.proofs.Common.{arith}
 use Rattle.td_text.specs.Lines.{lines_of}
 use Rattle.td_rows.specs.Table.{Table}
 use Rattle.td_rows.specs.declared.state_file.StateFault.{StateFault}
@@ -9,20 +10,26 @@ use Rattle.td_core.specs.declared.step.Step.{Step}
 use Rattle.td_simulate.specs.declared.fault.SimulationFault.{SimulationFault}
 use Rattle.td_simulate.specs.declared.fault.SimulationFault.TheVariants.{Opening, BadStep, NoMemory}
 use Rattle.td_simulate.specs.Faults.{of_opening}
-use Rattle.td_simulate.specs.SimulationText.{opening_text, ended, lines_after, number_after, AreSteps, IsSimulation, IsFirstBad, StepsFault, FaultOf}
+use Rattle.td_simulate.specs.SimulationText.{opening_text, ended, lines_after, number_after}
+use Rattle.td_simulate.specs.SimulationText.{AreSteps, IsSimulation, IsFirstBad, StepsFault}
+use Rattle.td_simulate.specs.SimulationText.{FaultOf}
 use Rattle.td_simulate.specs.StepLines.{step_line}
 use Rattle.td_simulate.proofs.StepLists.{AreSteps-bad}
 use Rattle.td_simulate.proofs.TextParts.{ended-none}
 
 -- the parts of a text, by those that were cut
-pub simulation : (text opening rest : List ℕ) (t : Table) (ss : List Step) → opening ≡ opening_text (lines_of text) → ended (lines_of rest) ≡ lines_after (lines_of text) → IsStateFile (lines_of opening) t → AreSteps (ended (lines_of rest)) ss → IsSimulation text t ss
+pub simulation : (text opening rest : List ℕ) (t : Table) (ss : List Step)
+    → opening ≡ opening_text (lines_of text) → ended (lines_of rest) ≡ lines_after (lines_of text)
+    → IsStateFile (lines_of opening) t → AreSteps (ended (lines_of rest)) ss
+    → IsSimulation text t ss
 simulation text opening rest t ss is_opening is_rest file steps = record {
   opening = subst (λ (o : List ℕ). IsStateFile (lines_of o) t) is_opening file;
   steps = subst (λ (l : List (List ℕ)). AreSteps l ss) is_rest steps;
 }
 
 -- a fault of the opening rows
-pub opening_fault : (text opening : List ℕ) (e : StateFault) → opening ≡ opening_text (lines_of text) → StateFaultOf (lines_of opening) e → FaultOf text (of_opening e)
+pub opening_fault : (text opening : List ℕ) (e : StateFault) → opening
+    ≡ opening_text (lines_of text) → StateFaultOf (lines_of opening) e → FaultOf text (of_opening e)
 opening_fault text opening (state.BadLine n) is h = subst (λ (o : List ℕ). StateFaultOf (lines_of o) (state.BadLine n)) is h
 opening_fault text opening (state.Twice n) is h = subst (λ (o : List ℕ). StateFaultOf (lines_of o) (state.Twice n)) is h
 opening_fault text opening (state.NotOpening n) is h = subst (λ (o : List ℕ). StateFaultOf (lines_of o) (state.NotOpening n)) is h
@@ -30,25 +37,32 @@ opening_fault text opening state.TooManyRows is h = subst (λ (o : List ℕ). St
 opening_fault text opening state.NoMemory is h = tt
 
 -- the opening rows of a simulation
-pub its_opening : (text opening : List ℕ) (t : Table) (ss : List Step) → opening ≡ opening_text (lines_of text) → IsSimulation text t ss → IsStateFile (lines_of opening) t
+pub its_opening : (text opening : List ℕ) (t : Table) (ss : List Step) → opening
+    ≡ opening_text (lines_of text) → IsSimulation text t ss → IsStateFile (lines_of opening) t
 its_opening text opening t ss is h = subst (λ (o : List ℕ). IsStateFile (lines_of o) t) (sym is) h.opening
 
 -- its steps
-pub its_steps : (text rest : List ℕ) (t : Table) (ss : List Step) → ended (lines_of rest) ≡ lines_after (lines_of text) → IsSimulation text t ss → AreSteps (ended (lines_of rest)) ss
+pub its_steps : (text rest : List ℕ) (t : Table) (ss : List Step) → ended (lines_of rest)
+    ≡ lines_after (lines_of text) → IsSimulation text t ss → AreSteps (ended (lines_of rest)) ss
 its_steps text rest t ss is h = subst (λ (l : List (List ℕ)). AreSteps l ss) (sym is) h.steps
 
 -- a text of which a line is left isn't empty
-some_steps : (first n : ℕ) (rest : List ℕ) → IsFirstBad first (ended (lines_of rest)) n → 0 < length rest
+some_steps : (first n : ℕ) (rest : List ℕ) → IsFirstBad first (ended (lines_of rest)) n
+    → 0 < length rest
 unfolding ended
 some_steps first n [] h = absurd (no_line h.before h.line h.after (sym ended-none ∙ h.parts))
   where
-    no_line : (before : List Step) (line : List ℕ) (after : List (List ℕ)) → ended [] ≡ map step_line before ++ line ∷ after → ⊥
+    no_line : (before : List Step) (line : List ℕ) (after : List (List ℕ))
+        → ended [] ≡ map step_line before ++ line ∷ after → ⊥
     no_line [] line after e = cc
     no_line (s ∷ before) line after e = cc
 some_steps first n (x ∷ rest) h = omega arith
 
 -- a fault of the steps behind opening rows
-pub steps_fault : (text opening rest : List ℕ) (t : Table) (first : ℕ) (e : SimulationFault) → opening ≡ opening_text (lines_of text) → ended (lines_of rest) ≡ lines_after (lines_of text) → (0 < length rest → first ≡ number_after 1 (lines_of text)) → IsStateFile (lines_of opening) t → StepsFault first (ended (lines_of rest)) e → FaultOf text e
+pub steps_fault : (text opening rest : List ℕ) (t : Table) (first : ℕ) (e : SimulationFault)
+    → opening ≡ opening_text (lines_of text) → ended (lines_of rest) ≡ lines_after (lines_of text)
+    → (0 < length rest → first ≡ number_after 1 (lines_of text)) → IsStateFile (lines_of opening) t
+    → StepsFault first (ended (lines_of rest)) e → FaultOf text e
 steps_fault text opening rest t first (Opening e) is_opening is_rest is_first file h = absurd h
 steps_fault text opening rest t first (BadStep n) is_opening is_rest is_first file h = record {
   rows = t;
@@ -58,7 +72,8 @@ steps_fault text opening rest t first (BadStep n) is_opening is_rest is_first fi
 steps_fault text opening rest t first NoMemory is_opening is_rest is_first file h = tt
 
 -- steps without a fault have none
-pub no_fault : (first : ℕ) (lines : List (List ℕ)) (ss : List Step) (e : SimulationFault) → AreSteps lines ss → StepsFault first lines e → e ≡ NoMemory
+pub no_fault : (first : ℕ) (lines : List (List ℕ)) (ss : List Step) (e : SimulationFault)
+    → AreSteps lines ss → StepsFault first lines e → e ≡ NoMemory
 no_fault first lines ss (Opening e) h fault = absurd fault
 no_fault first lines ss (BadStep n) h fault = absurd (AreSteps-bad first n lines ss h fault)
 no_fault first lines ss NoMemory h fault = refl

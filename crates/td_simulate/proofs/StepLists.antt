@@ -1,5 +1,6 @@
 -- The steps of lines, one by one.
-use Rattle.std.proofs.Common.{◌≡◌, ℕ, ◌+◌, List, [], ◌∷◌, ◌++◌, map, length, Some, None, refl, sym, ap, subst, ◌∙◌, append_assoc}
+use Rattle.std.proofs.Common.{◌≡◌, ℕ, ◌+◌, List, [], ◌∷◌, ◌++◌, map, length, Some, None, refl, sym}
+use Rattle.std.proofs.Common.{ap, subst, ◌∙◌, append_assoc}
 use Rattle.std.specs.Prelude.{◌≢◌}
 use Rattle.std.specs.List.{AllByRecursion}
 use Rattle.std.proofs.lemmas.List.{append-nil}
@@ -10,11 +11,13 @@ use Rattle.td_simulate.specs.StepLines.{step_line, StepFits}
 use Rattle.td_simulate.specs.StepReading.{step_at}
 use Rattle.td_simulate.proofs.StepWords.{steps_exact}
 
-all-push : (ss : List Step) (s : Step) → AllByRecursion StepFits ss → StepFits s → AllByRecursion StepFits (ss ++ s ∷ [])
+all-push : (ss : List Step) (s : Step) → AllByRecursion StepFits ss → StepFits s
+    → AllByRecursion StepFits (ss ++ s ∷ [])
 all-push [] s h fits = (fits, tt)
 all-push (x ∷ ss) s h fits = (h.0, all-push ss s h.1 fits)
 
-map-push : (ss : List Step) (s : Step) → map step_line (ss ++ s ∷ []) ≡ map step_line ss ++ step_line s ∷ []
+map-push : (ss : List Step) (s : Step)
+    → map step_line (ss ++ s ∷ []) ≡ map step_line ss ++ step_line s ∷ []
 map-push [] s = refl
 map-push (x ∷ ss) s = ap (λ (l : List (List ℕ)). step_line x ∷ l) (map-push ss s)
 
@@ -27,7 +30,9 @@ pub AreRead-none : (lines : List (List ℕ)) → AreRead lines [] lines
 AreRead-none lines = record { parts = refl; fits = tt }
 
 -- a line that is read
-pub AreRead-push : (lines : List (List ℕ)) (ss more : List Step) (s : Step) (line : List ℕ) (left after : List (List ℕ)) → AreRead lines ss left → left ≡ line ∷ after → step_at line ≡ Some s → more ≡ ss ++ s ∷ [] → AreRead lines more after
+pub AreRead-push : (lines : List (List ℕ)) (ss more : List Step) (s : Step) (line : List ℕ)
+    (left after : List (List ℕ)) → AreRead lines ss left → left ≡ line ∷ after
+    → step_at line ≡ Some s → more ≡ ss ++ s ∷ [] → AreRead lines more after
 AreRead-push lines ss more s line left after h is read pushed =
     let f = steps_exact.found line s read in
     record {
@@ -39,11 +44,14 @@ AreRead-push lines ss more s line left after h is read pushed =
     }
 
 -- no line is left
-pub AreRead-all : (lines : List (List ℕ)) (ss : List Step) (left : List (List ℕ)) → AreRead lines ss left → left ≡ [] → AreSteps lines ss
+pub AreRead-all : (lines : List (List ℕ)) (ss : List Step) (left : List (List ℕ))
+    → AreRead lines ss left → left ≡ [] → AreSteps lines ss
 AreRead-all lines ss left h none = record { spelled = h.parts ∙ ap (λ (l : List (List ℕ)). map step_line ss ++ l) none ∙ append-nil (map step_line ss); fits = h.fits }
 
 -- a line that isn't read
-pub AreRead-bad : (first number : ℕ) (lines : List (List ℕ)) (ss : List Step) (line : List ℕ) (left after : List (List ℕ)) → AreRead lines ss left → left ≡ line ∷ after → step_at line ≡ None → number ≡ first + length ss → IsFirstBad first lines number
+pub AreRead-bad : (first number : ℕ) (lines : List (List ℕ)) (ss : List Step) (line : List ℕ)
+    (left after : List (List ℕ)) → AreRead lines ss left → left ≡ line ∷ after → step_at line ≡ None
+    → number ≡ first + length ss → IsFirstBad first lines number
 AreRead-bad first number lines ss line left after h is none counted = record {
   before = ss;
   line = line;
@@ -59,7 +67,8 @@ AreRead-bad first number lines ss line left after h is none counted = record {
 line_of_one : (a b : Step) → StepFits a → StepFits b → step_line a ≡ step_line b → a ≡ b
 line_of_one a b ha hb is = some_is a b (sym (steps_exact.again a ha) ∙ ap step_at is ∙ steps_exact.again b hb)
 
-lines_of_one : (a b : List Step) → AllByRecursion StepFits a → AllByRecursion StepFits b → map step_line a ≡ map step_line b → a ≡ b
+lines_of_one : (a b : List Step) → AllByRecursion StepFits a → AllByRecursion StepFits b
+    → map step_line a ≡ map step_line b → a ≡ b
 lines_of_one [] [] ha hb is = refl
 lines_of_one [] (y ∷ b) ha hb is = absurd cc
 lines_of_one (x ∷ a) [] ha hb is = absurd cc
@@ -70,15 +79,19 @@ lines_of_one (x ∷ a) (y ∷ b) ha hb is =
     let rest = lines_of_one a b ha.1 hb.1 tail in
     λ i. same i ∷ rest i
 
-pub AreSteps-one : (lines : List (List ℕ)) (a b : List Step) → AreSteps lines a → AreSteps lines b → a ≡ b
+pub AreSteps-one : (lines : List (List ℕ)) (a b : List Step) → AreSteps lines a → AreSteps lines b
+    → a ≡ b
 AreSteps-one lines a b ha hb = lines_of_one a b ha.fits hb.fits (sym ha.spelled ∙ hb.spelled)
 
-no_other : (ss before : List Step) (line : List ℕ) (after : List (List ℕ)) → AllByRecursion StepFits ss → map step_line ss ≡ map step_line before ++ line ∷ after → ((s : Step) → StepFits s → line ≢ step_line s) → ⊥
+no_other : (ss before : List Step) (line : List ℕ) (after : List (List ℕ))
+    → AllByRecursion StepFits ss → map step_line ss ≡ map step_line before ++ line ∷ after
+    → ((s : Step) → StepFits s → line ≢ step_line s) → ⊥
 no_other [] [] line after h is other = cc
 no_other [] (x ∷ before) line after h is other = cc
 no_other (s ∷ ss) [] line after h is other = other s h.0 (let head : line ≡ step_line s = cc in head)
 no_other (s ∷ ss) (x ∷ before) line after h is other = no_other ss before line after h.1 (let tail : map step_line ss ≡ map step_line before ++ line ∷ after = cc in tail) other
 
 -- and none of them is bad
-pub AreSteps-bad : (first number : ℕ) (lines : List (List ℕ)) (ss : List Step) → AreSteps lines ss → IsFirstBad first lines number → ⊥
+pub AreSteps-bad : (first number : ℕ) (lines : List (List ℕ)) (ss : List Step) → AreSteps lines ss
+    → IsFirstBad first lines number → ⊥
 AreSteps-bad first number lines ss h bad = no_other ss bad.before bad.line bad.after h.fits (sym h.spelled ∙ bad.parts) bad.other

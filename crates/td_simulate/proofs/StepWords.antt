@@ -1,5 +1,7 @@
 -- The line of a step is read exactly.
-use Rattle.std.proofs.Common.{◌≡◌, ℕ, suc, ◌<◌, ◌≤◌, ◌^◌, ◌-◌, ◌&&◌, ◌==◌, true, cond, eqb, false, List, [], ◌∷◌, ◌++◌, length, Option, Some, None, refl, sym, ap, subst, ◌∙◌, arith, lit<}
+use Rattle.std.proofs.Common.{◌≡◌, ℕ, suc, ◌<◌, ◌≤◌, ◌^◌, ◌-◌, ◌&&◌, ◌==◌, true, cond, eqb, false}
+use Rattle.std.proofs.Common.{List, [], ◌∷◌, ◌++◌, length, Option, Some, None, refl, sym, ap, subst}
+use Rattle.std.proofs.Common.{◌∙◌, arith, lit<}
 use Rattle.std.specs.Prelude.{codes, decimal}
 use Rattle.std.specs.Str.{bytes_eq}
 use Rattle.std.proofs.lemmas.Bool.{eqb-true, and_parts}
@@ -14,7 +16,8 @@ use Rattle.td_text.proofs.Prefix.{strip_found}
 use Rattle.td_simulate.proofs.TextParts.{no_text}
 use Rattle.td_rows.specs.declared.key.Key.{Key}
 use Rattle.td_rows.specs.declared.kind.Kind.{Kind}
-use Rattle.td_rows.specs.declared.kind.Kind.TheVariants.{Gb, Nmu, Bp, Dw, Claim as Claimed, Outcome as Ended, Arrive, Sweep}
+use Rattle.td_rows.specs.declared.kind.Kind.TheVariants.{Gb, Nmu, Bp, Dw, Claim as Claimed}
+use Rattle.td_rows.specs.declared.kind.Kind.TheVariants.{Outcome as Ended, Arrive, Sweep}
 use Rattle.td_rows.specs.declared.outcome.Outcome.{Outcome}
 use Rattle.td_rows.specs.declared.outcome.Outcome.TheVariants.{Built, Attempted, GivenBack, Waits}
 use Rattle.td_rows.specs.KeyText.{key_text, KeyFits, key_at}
@@ -29,9 +32,13 @@ use Rattle.td_journal.proofs.KindWords.{kind_found, kind_again, kind_lacks, told
 use Rattle.td_core.specs.declared.step.Step.{Step}
 use Rattle.td_core.specs.declared.step.Step.TheVariants as steps
 use Rattle.td_simulate.specs.declared.verb.Verb.{Verb}
-use Rattle.td_simulate.specs.declared.verb.Verb.TheVariants.{Offer, Withdraw, Claim, Note, Undo, Finish, Settle, Release, Arrive as Arriving}
-use Rattle.td_simulate.specs.StepLines.{outcome_name, outcome_text, step_line, CommandFits, StepFits}
-use Rattle.td_simulate.specs.StepReading.{verb_at, builder_at, claim_at, end_of, finish_at, by_verb, some_keys, commit_at, by_word, step_at, StepsAreExact}
+use Rattle.td_simulate.specs.declared.verb.Verb.TheVariants.{Offer, Withdraw, Claim, Note, Undo}
+use Rattle.td_simulate.specs.declared.verb.Verb.TheVariants.{Finish, Settle, Release}
+use Rattle.td_simulate.specs.declared.verb.Verb.TheVariants.{Arrive as Arriving}
+use Rattle.td_simulate.specs.StepLines.{outcome_name, outcome_text, step_line, CommandFits}
+use Rattle.td_simulate.specs.StepLines.{StepFits}
+use Rattle.td_simulate.specs.StepReading.{verb_at, builder_at, claim_at, end_of, finish_at, by_verb}
+use Rattle.td_simulate.specs.StepReading.{some_keys, commit_at, by_word, step_at, StepsAreExact}
 
 -- the line is the step's, which can be written
 abbrev pub IsLineOf : List ℕ → Step → Type 0
@@ -68,14 +75,18 @@ verb_found t v e =
 
 -- ---- steps of a key or a number
 
-key_step : (word rest : List ℕ) (make : Key → Step) (s : Step) → ((k : Key) → KeyFits k → IsLineOf (word ++ 32 ∷ key_text k) (make k)) → (key_at rest >>= λ k. Some (make k)) ≡ Some s → IsLineOf (word ++ 32 ∷ rest) s
+key_step : (word rest : List ℕ) (make : Key → Step) (s : Step)
+    → ((k : Key) → KeyFits k → IsLineOf (word ++ 32 ∷ key_text k) (make k))
+    → (key_at rest >>= λ k. Some (make k)) ≡ Some s → IsLineOf (word ++ 32 ∷ rest) s
 key_step word rest make s line e =
     let a = chained (key_at rest) (λ k. Some (make k)) s e in
     let f = key_exact.found rest a.0 a.1 in
     subst (λ (y : Step). IsLineOf (word ++ 32 ∷ rest) y) (some_is (make a.0) s a.2)
     (subst (λ (t : List ℕ). IsLineOf (word ++ 32 ∷ t) (make a.0)) (sym f.0) (line a.0 f.1))
 
-number_step : (word rest : List ℕ) (make : ℕ → Step) (s : Step) → ((n : ℕ) → n < 2 ^ 64 → IsLineOf (word ++ 32 ∷ decimal n) (make n)) → (number_at (2 ^ 64 - 1) rest >>= λ n. Some (make n)) ≡ Some s → IsLineOf (word ++ 32 ∷ rest) s
+number_step : (word rest : List ℕ) (make : ℕ → Step) (s : Step)
+    → ((n : ℕ) → n < 2 ^ 64 → IsLineOf (word ++ 32 ∷ decimal n) (make n))
+    → (number_at (2 ^ 64 - 1) rest >>= λ n. Some (make n)) ≡ Some s → IsLineOf (word ++ 32 ∷ rest) s
 number_step word rest make s line e =
     let a = chained (number_at (2 ^ 64 - 1) rest) (λ n. Some (make n)) s e in
     let f = (number_exact (2 ^ 64 - 1) (lit< tt)).found rest a.0 a.1 in
@@ -84,7 +95,8 @@ number_step word rest make s line e =
 
 -- ---- a builder's number before the rest
 
-pub builder_found : (t : List ℕ) (p : ℕ × List ℕ) → builder_at t ≡ Some p → (t ≡ decimal p.0 ++ 32 ∷ p.1) × (p.0 < 2 ^ 64)
+pub builder_found : (t : List ℕ) (p : ℕ × List ℕ) → builder_at t ≡ Some p
+    → (t ≡ decimal p.0 ++ 32 ∷ p.1) × (p.0 < 2 ^ 64)
 unfolding builder_at
 builder_found t p e =
     let a = chained (cut 32 t) (λ x. number_at (2 ^ 64 - 1) x.0 >>= λ b. Some (b, x.1)) p e in
@@ -92,11 +104,13 @@ builder_found t p e =
     let w = word_found 32 (number_at (2 ^ 64 - 1)) decimal (λ k. k ≤ 2 ^ 64 - 1) (number_exact (2 ^ 64 - 1) (lit< tt)) t a.0 n.0 a.1 n.1 in
     subst (λ (y : ℕ × List ℕ). (t ≡ decimal y.0 ++ 32 ∷ y.1) × (y.0 < 2 ^ 64)) (some_is (n.0, a.0.1) p n.2) (w.0, (let small = w.1 in omega arith))
 
-builder_again : (b : ℕ) (rest : List ℕ) → b < 2 ^ 64 → builder_at (decimal b ++ 32 ∷ rest) ≡ Some (b, rest)
+builder_again : (b : ℕ) (rest : List ℕ) → b < 2 ^ 64
+    → builder_at (decimal b ++ 32 ∷ rest) ≡ Some (b, rest)
 unfolding builder_at
 builder_again b rest small = rw (cut-at 32 (decimal b) rest (Without-decimal 32 b (lit< tt) small), (number_exact (2 ^ 64 - 1) (lit< tt)).again b (omega arith)) refl
 
-claim_found : (rest : List ℕ) (s : Step) → claim_at rest ≡ Some s → IsLineOf (codes "claim" ++ 32 ∷ rest) s
+claim_found : (rest : List ℕ) (s : Step) → claim_at rest ≡ Some s
+    → IsLineOf (codes "claim" ++ 32 ∷ rest) s
 unfolding claim_at
 claim_found rest s e =
     let p = chained (builder_at rest) (λ x. key_at x.1 >>= λ k. Some (steps.Claim x.0 k)) s e in
@@ -119,7 +133,8 @@ outcome_found t o e =
     or_word outcome_name Bare t o GivenBack _ refl (
     or_word outcome_name Bare t o (Waits []) None refl (λ bad. absurd cc)))) e
 
-both_empty : (e t : List ℕ) → (eqb (length e) 0 && eqb (length t) 0) ≡ true → ◌≡◌ {A = List ℕ × List ℕ} (e, t) ([], [])
+both_empty : (e t : List ℕ) → (eqb (length e) 0 && eqb (length t) 0) ≡ true → ◌≡◌ {A =
+    List ℕ × List ℕ} (e, t) ([], [])
 both_empty e t h =
     let p = and_parts (eqb (length e) 0) (eqb (length t) 0) h in
     let x = no_text e p.0 in
@@ -133,13 +148,16 @@ record IsEnd (b : ℕ) (o : Outcome) (e t : List ℕ) (s : Step) : Type 0 where
   name : outcome_name outcome ≡ outcome_name o
   texts : ◌≡◌ {A = List ℕ × List ℕ} (e, t) ([], outcome_text outcome)
 
-plain_end : (b : ℕ) (o : Outcome) (e t : List ℕ) (q : Kind) (s : Step) → outcome_text o ≡ [] → cond (eqb (length e) 0 && eqb (length t) 0) (Some (Ended b o)) None ≡ Some q → end_of q ≡ Some s → IsEnd b o e t s
+plain_end : (b : ℕ) (o : Outcome) (e t : List ℕ) (q : Kind) (s : Step) → outcome_text o ≡ []
+    → cond (eqb (length e) 0 && eqb (length t) 0) (Some (Ended b o)) None ≡ Some q
+    → end_of q ≡ Some s → IsEnd b o e t s
 plain_end b o e t q s bare h is =
     let w = when_some (eqb (length e) 0 && eqb (length t) 0) (Ended b o) q h in
     let made : Some (steps.Finish b o) ≡ Some s = ap end_of w.1 ∙ is in
     record { outcome = o; step = sym (some_is (steps.Finish b o) s made); name = refl; texts = both_empty e t w.0 ∙ ap (λ (l : List ℕ). ([], l)) (sym bare) }
 
-end_found : (b : ℕ) (o : Outcome) (e t : List ℕ) (q : Kind) (s : Step) → told (Ended b o) e t ≡ Some q → end_of q ≡ Some s → IsEnd b o e t s
+end_found : (b : ℕ) (o : Outcome) (e t : List ℕ) (q : Kind) (s : Step)
+    → told (Ended b o) e t ≡ Some q → end_of q ≡ Some s → IsEnd b o e t s
 end_found b Built e t q s h is = plain_end b Built e t q s refl h is
 end_found b Attempted e t q s h is = plain_end b Attempted e t q s refl h is
 end_found b GivenBack e t q s h is = plain_end b GivenBack e t q s refl h is
@@ -148,10 +166,12 @@ end_found b (Waits x) e t q s h is =
     let made : Some (steps.Finish b (Waits t)) ≡ Some s = ap end_of w.1 ∙ is in
     record { outcome = Waits t; step = sym (some_is (steps.Finish b (Waits t)) s made); name = refl; texts = ap (λ (l : List ℕ). (l, t)) (no_text e w.0) }
 
-finish_joined : (rest d more w ending name text : List ℕ) → rest ≡ d ++ 32 ∷ more → more ≡ w ++ ending → w ≡ name → ending ≡ text → rest ≡ d ++ 32 ∷ (name ++ text)
+finish_joined : (rest d more w ending name text : List ℕ) → rest ≡ d ++ 32 ∷ more
+    → more ≡ w ++ ending → w ≡ name → ending ≡ text → rest ≡ d ++ 32 ∷ (name ++ text)
 finish_joined rest d more w ending name text h1 h2 h3 h4 = cc
 
-finish_found : (rest : List ℕ) (s : Step) → finish_at rest ≡ Some s → IsLineOf (codes "finish" ++ 32 ∷ rest) s
+finish_found : (rest : List ℕ) (s : Step) → finish_at rest ≡ Some s
+    → IsLineOf (codes "finish" ++ 32 ∷ rest) s
 unfolding finish_at
 finish_found rest s e =
     let p = chained _ _ _ e in
@@ -189,13 +209,15 @@ outcome_again Attempted = refl
 outcome_again GivenBack = refl
 outcome_again (Waits t) = refl
 
-told_end : (b : ℕ) (o : Outcome) → (told (Ended b (bare_outcome o)) [] (outcome_text o) >>= λ k. end_of k) ≡ Some (steps.Finish b o)
+told_end : (b : ℕ) (o : Outcome) → (told (Ended b (bare_outcome o)) [] (outcome_text o) >>= λ k.
+    end_of k) ≡ Some (steps.Finish b o)
 told_end b Built = refl
 told_end b Attempted = refl
 told_end b GivenBack = refl
 told_end b (Waits t) = refl
 
-finish_again : (b : ℕ) (o : Outcome) → b < 2 ^ 64 → finish_at (decimal b ++ 32 ∷ (outcome_name o ++ text_part (outcome_text o))) ≡ Some (steps.Finish b o)
+finish_again : (b : ℕ) (o : Outcome) → b < 2 ^ 64 → finish_at
+    (decimal b ++ 32 ∷ (outcome_name o ++ text_part (outcome_text o))) ≡ Some (steps.Finish b o)
 unfolding finish_at
 finish_again b o small =
     let ending = text_part (outcome_text o) in
@@ -208,7 +230,8 @@ finish_again b o small =
 
 -- ---- a step by its verb
 
-by_verb_found : (v : Verb) (rest : List ℕ) (s : Step) → by_verb v rest ≡ Some s → IsLineOf (verb_word v ++ 32 ∷ rest) s
+by_verb_found : (v : Verb) (rest : List ℕ) (s : Step) → by_verb v rest ≡ Some s
+    → IsLineOf (verb_word v ++ 32 ∷ rest) s
 by_verb_found Offer rest s e = key_step (codes "offer") rest steps.Offer s (λ k h. (refl, h)) e
 by_verb_found Withdraw rest s e = key_step (codes "withdraw") rest steps.Withdraw s (λ k h. (refl, h)) e
 by_verb_found Claim rest s e = claim_found rest s e
@@ -221,7 +244,8 @@ by_verb_found Arriving rest s e = key_step (codes "arrive") rest steps.Arrive s 
 
 -- ---- commands
 
-commit_joined : (word rest ks ending ns k : List ℕ) → word ≡ k → rest ≡ ks ++ ending → ending ≡ ns → word ++ rest ≡ k ++ (ks ++ ns)
+commit_joined : (word rest ks ending ns k : List ℕ) → word ≡ k → rest ≡ ks ++ ending → ending ≡ ns
+    → word ++ rest ≡ k ++ (ks ++ ns)
 commit_joined word rest ks ending ns k h1 h2 h3 = cc
 
 some_found : (ks found : List Key) → some_keys ks ≡ Some found → (found ≡ ks) × (0 < length ks)
@@ -235,7 +259,8 @@ some_again ks some =
     let none : (length ks == 0) ≡ false = grind (arith, nat_tests, some) in
     ap (λ b. cond b None (Some ks)) none
 
-commit_found : (word rest : List ℕ) (s : Step) → commit_at word rest ≡ Some s → IsLineOf (word ++ rest) s
+commit_found : (word rest : List ℕ) (s : Step) → commit_at word rest ≡ Some s
+    → IsLineOf (word ++ rest) s
 unfolding commit_at
 commit_found word rest s e =
     let bare = chained _ _ _ e in
@@ -265,7 +290,8 @@ no_verb (Ended b o) h = absurd cc
 no_verb Arrive h = absurd cc
 no_verb Sweep h = absurd cc
 
-commit_again : (k : Kind) (ks : List Key) → CommandFits k ks → commit_at (kind_word k) (spaced_keys ks ++ notes (kind_notes k)) ≡ Some (steps.Commit k ks)
+commit_again : (k : Kind) (ks : List Key) → CommandFits k ks
+    → commit_at (kind_word k) (spaced_keys ks ++ notes (kind_notes k)) ≡ Some (steps.Commit k ks)
 unfolding commit_at
 commit_again k ks h =
     let command = h.command in
@@ -280,22 +306,26 @@ commit_again k ks h =
 
 -- ---- the line
 
-line_parts : (line word rest : List ℕ) (v : Verb) (after : List ℕ) → line ≡ word ++ rest → word ≡ verb_word v → rest ≡ 32 ∷ after → verb_word v ++ 32 ∷ after ≡ line
+line_parts : (line word rest : List ℕ) (v : Verb) (after : List ℕ) → line ≡ word ++ rest
+    → word ≡ verb_word v → rest ≡ 32 ∷ after → verb_word v ++ 32 ∷ after ≡ line
 line_parts line word rest v after h1 h2 h3 = cc
 
-by_word_found : (line : List ℕ) (o : Option Verb) (s : Step) → verb_at (part 32 line).0 ≡ o → by_word o (part 32 line).0 (part 32 line).1 ≡ Some s → IsLineOf line s
+by_word_found : (line : List ℕ) (o : Option Verb) (s : Step) → verb_at (part 32 line).0 ≡ o
+    → by_word o (part 32 line).0 (part 32 line).1 ≡ Some s → IsLineOf line s
 by_word_found line (Some v) s is e =
     let a = chained (strip (codes " ") (part 32 line).1) (by_verb v) s e in
     let word = verb_found (part 32 line).0 v is in
     subst (λ (t : List ℕ). IsLineOf t s) (line_parts line (part 32 line).0 (part 32 line).1 v a.0 (part_joined 32 line) word.0 (strip_found (codes " ") (part 32 line).1 a.0 a.1)) (by_verb_found v a.0 s a.2)
 by_word_found line None s is e = subst (λ (t : List ℕ). IsLineOf t s) (sym (part_joined 32 line)) (commit_found (part 32 line).0 (part 32 line).1 s e)
 
-pub step_found : (line : List ℕ) (s : Step) → step_at line ≡ Some s → (line ≡ step_line s) × StepFits s
+pub step_found : (line : List ℕ) (s : Step) → step_at line ≡ Some s
+    → (line ≡ step_line s) × StepFits s
 unfolding step_at
 step_found line s e = or_word step_line StepFits line s steps.Sweep _ tt (λ other. by_word_found line (verb_at (part 32 line).0) s refl other) e
 
 -- a command's line is no sweep's
-no_sweep : (k : Kind) (rest : List ℕ) → is_command k ≡ true → bytes_eq (kind_word k ++ rest) (codes "sweep") ≡ false
+no_sweep : (k : Kind) (rest : List ℕ) → is_command k ≡ true
+    → bytes_eq (kind_word k ++ rest) (codes "sweep") ≡ false
 no_sweep Gb rest h = refl
 no_sweep (Nmu None e m) rest h = refl
 no_sweep (Nmu (Some n) e m) rest h = refl

@@ -2,7 +2,13 @@
 use Rattle.std.specs.Prelude.{ℕ, Bool, true, false, List, [], ◌∷◌, ◌++◌, Some, codes, decimal}
 use Rattle.td_rows.specs.KeyText.{key_text}
 use Rattle.td_core.specs.declared.step.Refusal.{Refusal}
-use Rattle.td_core.specs.declared.step.Refusal.TheVariants.{NoSuchRow, NotClosed, NotQueued, NotOpen, NoSuchBuilder, NotFree, NotHeld, NotACommand, NoKeys, DoesNotApply, NotPinned, NoSuchEntry, AlreadyUndone, Blocked, NothingHeld, NotNoted, NotDone, NotFinished, NotSettled, NoMemory}
+use Rattle.td_core.specs.declared.step.Refusal.TheVariants.{NoSuchRow, NotClosed, NotQueued}
+use Rattle.td_core.specs.declared.step.Refusal.TheVariants.{NotOpen, NoSuchBuilder, NotFree}
+use Rattle.td_core.specs.declared.step.Refusal.TheVariants.{NotHeld, NotACommand, NoKeys}
+use Rattle.td_core.specs.declared.step.Refusal.TheVariants.{DoesNotApply, NotPinned, NoSuchEntry}
+use Rattle.td_core.specs.declared.step.Refusal.TheVariants.{AlreadyUndone, Blocked, NothingHeld}
+use Rattle.td_core.specs.declared.step.Refusal.TheVariants.{NotNoted, NotDone, NotFinished}
+use Rattle.td_core.specs.declared.step.Refusal.TheVariants.{NotSettled, NoMemory}
 use Rattle.td_core.specs.declared.step.Answer.{Answer}
 use Rattle.td_core.specs.declared.step.Answer.TheVariants.{Done, Entry, Undone, Nothing, Refused}
 

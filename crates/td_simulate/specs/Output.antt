@@ -1,4 +1,5 @@
--- What a simulation writes: a line for each answer, the word `rows`, and a line for each row as it is then. This project's own.
+-- What a simulation writes: a line for each answer, the word `rows`,
+-- and a line for each row as it is then. This project's own.
 use Rattle.std.specs.Prelude.{◌≡◌, ℕ, Bool, List, ◌∷◌, ◌++◌, map, codes, string_bytes}
 use Rattle.std.specs.List.{list_any}
 use Rattle.td_rows.specs.Limits.{max_builders}
@@ -24,7 +25,8 @@ last_rows rows steps = rows_of (after_all (world_of rows nothing max_builders) s
 
 -- all lines
 abbrev pub output : Table → List Step → List ℕ
-output rows steps = text_of (map answer_line (answers rows steps)) ++ text_of (codes "rows" ∷ map row_line (last_rows rows steps))
+output rows steps = text_of (map answer_line (answers rows steps))
+    ++ text_of (codes "rows" ∷ map row_line (last_rows rows steps))
 
 -- whether a step is refused
 abbrev pub any_refused : Table → List Step → Bool

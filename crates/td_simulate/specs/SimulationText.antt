@@ -1,5 +1,7 @@
--- The text of a simulation: opening rows, a line `steps`, and a line for each step. This project's own.
-use Rattle.std.specs.Prelude.{◌≡◌, ◌≢◌, ℕ, ◌+◌, Bool, List, [], ◌∷◌, ◌++◌, map, length, if◌then◌else◌, codes}
+-- The text of a simulation: opening rows, a line `steps`, and a line for each step.
+-- This project's own.
+use Rattle.std.specs.Prelude.{◌≡◌, ◌≢◌, ℕ, ◌+◌, Bool, List, [], ◌∷◌, ◌++◌, map, length}
+use Rattle.std.specs.Prelude.{if◌then◌else◌, codes}
 use Rattle.std.specs.List.{AllByRecursion}
 use Rattle.std.specs.Str.{bytes_eq}
 use Rattle.td_text.specs.Lines.{lines_of}
@@ -18,7 +20,8 @@ is_mark line = bytes_eq line (codes "steps")
 unfoldable pub opening_text : List (List ℕ) → List ℕ
 opening_text [] = []
 opening_text (line ∷ []) = if is_mark line then [] else line
-opening_text (line ∷ next ∷ lines) = if is_mark line then [] else (line ++ 10 ∷ opening_text (next ∷ lines))
+opening_text (line ∷ next ∷ lines) = if is_mark line then []
+    else (line ++ 10 ∷ opening_text (next ∷ lines))
 
 -- without the empty line behind a last newline
 unfoldable pub ended : List (List ℕ) → List (List ℕ)
@@ -26,7 +29,8 @@ ended [] = []
 ended ([] ∷ []) = []
 ended (line ∷ lines) = line ∷ ended lines
 
--- the lines behind the line `steps`, the last of which may lack its newline; none where there is no such line
+-- the lines behind the line `steps`, the last of which may lack its newline;
+-- none where there is no such line
 unfoldable pub lines_after : List (List ℕ) → List (List ℕ)
 lines_after [] = []
 lines_after (line ∷ lines) = if is_mark line then ended lines else lines_after lines
@@ -34,7 +38,8 @@ lines_after (line ∷ lines) = if is_mark line then ended lines else lines_after
 -- the number of the line behind the line `steps`, where the first of the lines has the number given
 unfoldable pub number_after : ℕ → List (List ℕ) → ℕ
 number_after number [] = number
-number_after number (line ∷ lines) = if is_mark line then number + 1 else number_after (number + 1) lines
+number_after number (line ∷ lines) = if is_mark line then number + 1
+    else number_after (number + 1) lines
 
 -- the lines are those of the steps
 pub record AreSteps (lines : List (List ℕ)) (steps : List Step) : Type 0 where

@@ -11,7 +11,8 @@ use Rattle.td_journal.specs.Commands.{is_command}
 use Rattle.td_journal.specs.EntryFits.{KindFits}
 use Rattle.td_journal.specs.JournalText.{kind_word, kind_notes, spaced_keys}
 use Rattle.td_core.specs.declared.step.Step.{Step}
-use Rattle.td_core.specs.declared.step.Step.TheVariants.{Offer, Withdraw, Claim, Note, Commit, Undo, Finish, Settle, Release, Arrive, Sweep}
+use Rattle.td_core.specs.declared.step.Step.TheVariants.{Offer, Withdraw, Claim, Note, Commit, Undo}
+use Rattle.td_core.specs.declared.step.Step.TheVariants.{Finish, Settle, Release, Arrive, Sweep}
 
 -- how a build ended
 abbrev pub outcome_name : Outcome → List ℕ
@@ -33,7 +34,8 @@ step_line (Claim b k) = codes "claim " ++ (decimal b ++ 32 ∷ key_text k)
 step_line (Note k) = codes "note " ++ key_text k
 step_line (Commit kind keys) = kind_word kind ++ (spaced_keys keys ++ notes (kind_notes kind))
 step_line (Undo n) = codes "undo " ++ decimal n
-step_line (Finish b o) = codes "finish " ++ (decimal b ++ 32 ∷ (outcome_name o ++ text_part (outcome_text o)))
+step_line (Finish b o) = codes "finish "
+    ++ (decimal b ++ 32 ∷ (outcome_name o ++ text_part (outcome_text o)))
 step_line (Settle k) = codes "settle " ++ key_text k
 step_line (Release b) = codes "release " ++ decimal b
 step_line (Arrive k) = codes "arrive " ++ key_text k

@@ -1,5 +1,6 @@
 -- How the line of a step is read.
-use Rattle.std.specs.Prelude.{ℕ, ◌^◌, ◌-◌, ◌==◌, List, length, Option, Some, None, if◌then◌else◌, codes}
+use Rattle.std.specs.Prelude.{ℕ, ◌^◌, ◌-◌, ◌==◌, List, length, Option, Some, None, if◌then◌else◌}
+use Rattle.std.specs.Prelude.{codes}
 use Rattle.std.specs.Str.{bytes_eq}
 use Rattle.td_text.specs.Chain.{◌>>=◌}
 use Rattle.td_text.specs.Cut.{cut, part, strip}
@@ -15,7 +16,8 @@ use Rattle.td_journal.specs.EntryReading.{kind_at, keys_at, outcome_at, told}
 use Rattle.td_core.specs.declared.step.Step.{Step}
 use Rattle.td_core.specs.declared.step.Step.TheVariants as steps
 use Rattle.td_simulate.specs.declared.verb.Verb.{Verb}
-use Rattle.td_simulate.specs.declared.verb.Verb.TheVariants.{Offer, Withdraw, Claim, Note, Undo, Finish, Settle, Release, Arrive}
+use Rattle.td_simulate.specs.declared.verb.Verb.TheVariants.{Offer, Withdraw, Claim, Note, Undo}
+use Rattle.td_simulate.specs.declared.verb.Verb.TheVariants.{Finish, Settle, Release, Arrive}
 use Rattle.td_simulate.specs.StepLines.{step_line, StepFits}
 
 -- the verb that a word is
@@ -89,7 +91,8 @@ by_word None word rest = commit_at word rest
 
 -- the step whose line it is: a sweep has one word and nothing behind it
 unfoldable pub step_at : List ℕ → Option Step
-step_at line = if bytes_eq line (codes "sweep") then Some steps.Sweep else by_word (verb_at (part 32 line).0) (part 32 line).0 (part 32 line).1
+step_at line = if bytes_eq line (codes "sweep") then Some steps.Sweep
+    else by_word (verb_at (part 32 line).0) (part 32 line).0 (part 32 line).1
 
 -- a line is read as a step exactly where it is the step's
 abbrev pub StepsAreExact : Type 0

@@ -52,7 +52,8 @@ fn put_spaced_number(out: &mut String, number: u64) -> Result<(), AllocError>
 }
 
 fn put_place(out: &mut String, refusal: &Refusal) -> Result<(), AllocError>
-    ensures { OnOk result (string_bytes out.new ≡ string_bytes out.old ++ refusal_place refusal.now) }
+    ensures { OnOk result
+        (string_bytes out.new ≡ string_bytes out.old ++ refusal_place refusal.now) }
 {
     match refusal {
         Refusal::NoSuchRow(Some(key))
@@ -64,7 +65,8 @@ fn put_place(out: &mut String, refusal: &Refusal) -> Result<(), AllocError>
 }
 
 fn put_refusal(out: &mut String, refusal: &Refusal) -> Result<(), AllocError>
-    ensures { OnOk result (string_bytes out.new ≡ string_bytes out.old ++ (refusal_name refusal.now ++ refusal_place refusal.now)) }
+    ensures { OnOk result (string_bytes out.new
+        ≡ string_bytes out.old ++ (refusal_name refusal.now ++ refusal_place refusal.now)) }
 {
     out.push_str(refusal_name(refusal))?;
     put_place(out, refusal)

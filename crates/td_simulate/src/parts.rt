@@ -32,7 +32,8 @@ pub fn behind(after: Option<&str>) -> &str
 pub fn parts_of(text: &str) -> Parts
     ensures opening { result.opening.now ≡ opening_text (lines_of text.now) }
     ensures steps { ended (lines_of result.steps.now) ≡ lines_after (lines_of text.now) }
-    ensures first { 0 < length result.steps.now → result.first ≡ number_after 1 (lines_of text.now) }
+    ensures first { 0 < length result.steps.now
+        → result.first ≡ number_after 1 (lines_of text.now) }
     ensures small { result.first + length result.steps.now < 2 ^ 64 }
 {
     let length = text.len();

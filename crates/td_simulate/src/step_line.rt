@@ -3,7 +3,8 @@ ghost use Rattle.std.specs.Prelude.{◌≡◌, option_map, IfOk};
 ghost use Rattle.td_text.specs.Cut.{Without};
 ghost use Rattle.td_rows.specs.declared.kind.Kind.{Kind as KindValue};
 ghost use Rattle.td_rows.specs.KeyText.{key_at};
-ghost use Rattle.td_simulate.specs.StepReading.{builder_at, claim_at, finish_at, end_of, by_verb, some_keys, commit_at, step_at, StepsAreExact};
+ghost use Rattle.td_simulate.specs.StepReading.{builder_at, claim_at, finish_at, end_of, by_verb};
+ghost use Rattle.td_simulate.specs.StepReading.{some_keys, commit_at, step_at, StepsAreExact};
 
 use crate::verb::{Verb, read_verb};
 use std::alloc::{AllocError, Global};

@@ -1,11 +1,13 @@
 -- Stanzas that grow at their end.
-use Rattle.std.proofs.Common.{◌≡◌, ◌≢◌, ℕ, Bool, true, false, List, [], ◌∷◌, ◌++◌, refl, sym, ap, subst, ◌∙◌, append_assoc}
+use Rattle.std.proofs.Common.{◌≡◌, ◌≢◌, ℕ, Bool, true, false, List, [], ◌∷◌, ◌++◌, refl, sym, ap}
+use Rattle.std.proofs.Common.{subst, ◌∙◌, append_assoc}
 use Rattle.std.specs.Prelude.{IsTrue}
 use Rattle.std.specs.List.{AllByRecursion}
 use Rattle.std.proofs.lemmas.List.{append-nil, map-append}
 use Rattle.td_stanza.specs.Line.{is_separator}
 use Rattle.td_stanza.specs.Field.{Entry, IsField}
-use Rattle.td_stanza.specs.StanzaGrammar.{AreFields, names_of, has_name, AreNew, IsDistinct, IsStanza, AllSeparate, BeginsApart, AreStanzas}
+use Rattle.td_stanza.specs.StanzaGrammar.{AreFields, names_of, has_name, AreNew, IsDistinct}
+use Rattle.td_stanza.specs.StanzaGrammar.{IsStanza, AllSeparate, BeginsApart, AreStanzas}
 use Rattle.td_stanza.specs.StanzaFaults.{ends_apart, IsBefore}
 use Rattle.td_stanza.proofs.LineKinds.{named_filled, ends_apart-append, continued_apart}
 

@@ -1,8 +1,11 @@
 -- How far a text is read, and what a line adds to it.
-use Rattle.std.proofs.Common.{◌≡◌, ℕ, ◌+◌, ◌-◌, ◌≤◌, true, false, cond, eqb, List, [], ◌∷◌, ◌++◌, length, map, take, drop, Option, Some, None, Result, Ok, Err, refl, sym, ap, subst, ◌∙◌, append_assoc, arith}
+use Rattle.std.proofs.Common.{◌≡◌, ℕ, ◌+◌, ◌-◌, ◌≤◌, true, false, cond, eqb, List, [], ◌∷◌, ◌++◌}
+use Rattle.std.proofs.Common.{length, map, take, drop, Option, Some, None, Result, Ok, Err, refl}
+use Rattle.std.proofs.Common.{sym, ap, subst, ◌∙◌, append_assoc, arith}
 use Rattle.std.specs.Prelude.{IsTrue, OnOk, is_ok}
 use Rattle.std.specs.Borrow.{Bor}
-use Rattle.std.proofs.lemmas.List.{append-nil, length-append, length-map, map-append, drop-map, take_at, drop_at}
+use Rattle.std.proofs.lemmas.List.{append-nil, length-append, length-map, map-append, drop-map}
+use Rattle.std.proofs.lemmas.List.{take_at, drop_at}
 use Rattle.std.proofs.lemmas.List.Splits.{length-slice_split}
 use Rattle.std.proofs.lemmas.List.Sums.{sum_by-append}
 use Rattle.td_text.specs.Lines.{lines_of, lines_left, left_text}
@@ -15,7 +18,8 @@ use Rattle.td_stanza.specs.StanzaGrammar.{AreStanzas, names_of, has_name}
 use Rattle.td_stanza.specs.StanzaFaults.{IsBefore, IsNewName, IsFaultAt, HasFault}
 use Rattle.td_stanza.specs.Table.{shown, newlines, pieces, starts_from, joined, IsTable}
 use Rattle.td_stanza.specs.Continuing.{IsTaken, IsEnded}
-use Rattle.td_stanza.proofs.Grammar.{closed, all_distinct, before_closed, before_none, before_separator, before_field}
+use Rattle.td_stanza.proofs.Grammar.{closed, all_distinct, before_closed, before_none}
+use Rattle.td_stanza.proofs.Grammar.{before_separator, before_field}
 use Rattle.td_stanza.proofs.Tables.{joined-closed, starts_next, pieces-joined}
 
 -- what is left ends the text

@@ -1,5 +1,6 @@
 -- The stanzas that lines stand for are determined: a reading from the last line on.
-use Rattle.std.proofs.Common.{◌≡◌, ◌≢◌, ℕ, cond, List, [], ◌∷◌, ◌++◌, drop, refl, sym, ap, ◌∙◌, append_assoc}
+use Rattle.std.proofs.Common.{◌≡◌, ◌≢◌, ℕ, cond, List, [], ◌∷◌, ◌++◌, drop, refl, sym, ap, ◌∙◌}
+use Rattle.std.proofs.Common.{append_assoc}
 use Rattle.std.specs.Prelude.{IsTrue}
 use Rattle.std.specs.List.{AllByRecursion}
 use Rattle.std.proofs.lemmas.List.{append-nil}
@@ -9,7 +10,8 @@ use Rattle.td_stanza.specs.Line.{is_separator, begins_blank, is_continuation}
 use Rattle.td_stanza.specs.Value.{value_of}
 use Rattle.td_stanza.specs.Field.{Entry, is_field_name, IsField}
 use Rattle.td_stanza.specs.StanzaGrammar.{AreFields, AllSeparate, BeginsApart, AreStanzas}
-use Rattle.td_stanza.proofs.LineKinds.{named_filled, named_begins, name_lacks_colon, continued_filled, continued_begins}
+use Rattle.td_stanza.proofs.LineKinds.{named_filled, named_begins, name_lacks_colon}
+use Rattle.td_stanza.proofs.LineKinds.{continued_filled, continued_begins}
 
 -- lines that continue what comes before them, fields of a stanza, and the stanzas after that
 abbrev Shape : Type 0

@@ -1,5 +1,7 @@
 -- Lines, one by one: a line has a fault by its kind and by the names before it in its stanza.
-use Rattle.std.proofs.Common.{◌≡◌, ◌≢◌, ℕ, ◌+◌, Bool, true, false, cond, List, [], ◌∷◌, ◌++◌, length, Result, Ok, Err, refl, sym, ap, subst, ◌∙◌, append_assoc, arith}
+use Rattle.std.proofs.Common.{◌≡◌, ◌≢◌, ℕ, ◌+◌, Bool, true, false, cond, List, [], ◌∷◌, ◌++◌}
+use Rattle.std.proofs.Common.{length, Result, Ok, Err, refl, sym, ap, subst, ◌∙◌, append_assoc}
+use Rattle.std.proofs.Common.{arith}
 use Rattle.std.specs.Prelude.{IsTrue}
 use Rattle.std.specs.List.{AllByRecursion}
 use Rattle.std.proofs.lemmas.List.{append-nil}
@@ -9,12 +11,16 @@ use Rattle.td_text.proofs.Chain.{on_ok_parts, ok_is}
 use Rattle.td_text.proofs.Cut.{part_first, part_none}
 use Rattle.td_text.proofs.FirstFault.{over_lines-append, first_fault_again}
 use Rattle.td_stanza.specs.declared.fault.StanzaFault.{StanzaFault}
-use Rattle.td_stanza.specs.declared.fault.StanzaFault.TheVariants.{BadName, NoColon, ContinuationFirst, Duplicate, NoMemory}
+use Rattle.td_stanza.specs.declared.fault.StanzaFault.TheVariants.{BadName, NoColon}
+use Rattle.td_stanza.specs.declared.fault.StanzaFault.TheVariants.{ContinuationFirst, Duplicate}
+use Rattle.td_stanza.specs.declared.fault.StanzaFault.TheVariants.{NoMemory}
 use Rattle.td_stanza.specs.Line.{is_separator, begins_blank, is_continuation}
 use Rattle.td_stanza.specs.Field.{Entry, is_field_name, IsField}
-use Rattle.td_stanza.specs.StanzaGrammar.{AreFields, names_of, has_name, AreNew, AllSeparate, BeginsApart, AreStanzas}
+use Rattle.td_stanza.specs.StanzaGrammar.{AreFields, names_of, has_name, AreNew, AllSeparate}
+use Rattle.td_stanza.specs.StanzaGrammar.{BeginsApart, AreStanzas}
 use Rattle.td_stanza.specs.StanzaFaults.{ends_apart, IsBefore, IsFaultAt, HasFault}
-use Rattle.td_stanza.proofs.LineKinds.{named_filled, named_begins, name_lacks_colon, continued_filled, continued_begins}
+use Rattle.td_stanza.proofs.LineKinds.{named_filled, named_begins, name_lacks_colon}
+use Rattle.td_stanza.proofs.LineKinds.{continued_filled, continued_begins}
 
 -- the names of a stanza, or the fault of its next line
 abbrev Names : Type 0

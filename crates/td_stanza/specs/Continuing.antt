@@ -19,7 +19,8 @@ abbrev pub IsEnded : Option (Bor (List ℕ)) → Type 0
 IsEnded rest = is_continuation (first_line (lines_left rest)) ≡ false
 
 -- the field of a name and of what follows the colon on its first line, and what is left after it
-pub record IsTaken (name first : List ℕ) (after : Option (Bor (List ℕ))) (field : Field) (rest : Option (Bor (List ℕ))) : Type 0 where
+pub record IsTaken (name first : List ℕ) (after : Option (Bor (List ℕ))) (field : Field)
+    (rest : Option (Bor (List ℕ))) : Type 0 where
   pub skips : Skips after rest
   pub name_is : field.name.now ≡ name
   pub value_is : field.value.now ≡ value_of first (skips.more)

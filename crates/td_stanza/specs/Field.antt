@@ -1,5 +1,6 @@
 -- A field, and the lines that stand for it.
-use Rattle.std.specs.Prelude.{◌≡◌, ℕ, ◌==◌, nat_lt, nat_le, ◌&&◌, ◌||◌, not, Bool, IsTrue, List, ◌∷◌, ◌++◌, length, slice_index, map}
+use Rattle.std.specs.Prelude.{◌≡◌, ℕ, ◌==◌, nat_lt, nat_le, ◌&&◌, ◌||◌, not, Bool, IsTrue, List}
+use Rattle.std.specs.Prelude.{◌∷◌, ◌++◌, length, slice_index, map}
 use Rattle.std.specs.List.{list_all, AllByRecursion}
 use Rattle.std.specs.Char.{to_ascii_lowercase}
 use Rattle.std.specs.Str.{bytes_eq}
@@ -17,7 +18,8 @@ is_name_byte b = (nat_le 33 b && nat_le b 57) || (nat_le 59 b && nat_le b 126)
 
 -- a field's name: not empty, and neither `#` nor `-` in front (Debian Policy 5.1)
 abbrev pub is_field_name : List ℕ → Bool
-is_field_name name = nat_lt 0 (length name) && (not ((slice_index name 0 == 35) || (slice_index name 0 == 45)) && list_all is_name_byte name)
+is_field_name name = nat_lt 0 (length name) &&
+    (not ((slice_index name 0 == 35) || (slice_index name 0 == 45)) && list_all is_name_byte name)
 
 -- the same name: the case of ASCII letters doesn't count (Debian Policy 5.1)
 abbrev pub is_same_name : List ℕ → List ℕ → Bool

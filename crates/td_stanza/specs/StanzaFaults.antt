@@ -1,8 +1,11 @@
 -- What is wrong with lines that aren't stanzas: the first line with a fault.
-use Rattle.std.specs.Prelude.{◌≡◌, ℕ, ◌+◌, Bool, true, false, IsTrue, List, [], ◌∷◌, ◌++◌, length, Result, Ok, Err, ◌⊎◌}
+use Rattle.std.specs.Prelude.{◌≡◌, ℕ, ◌+◌, Bool, true, false, IsTrue, List, [], ◌∷◌, ◌++◌, length}
+use Rattle.std.specs.Prelude.{Result, Ok, Err, ◌⊎◌}
 use Rattle.td_text.specs.Cut.{part}
 use Rattle.td_stanza.specs.declared.fault.StanzaFault.{StanzaFault}
-use Rattle.td_stanza.specs.declared.fault.StanzaFault.TheVariants.{BadName, NoColon, ContinuationFirst, Duplicate, NoMemory}
+use Rattle.td_stanza.specs.declared.fault.StanzaFault.TheVariants.{BadName, NoColon}
+use Rattle.td_stanza.specs.declared.fault.StanzaFault.TheVariants.{ContinuationFirst, Duplicate}
+use Rattle.td_stanza.specs.declared.fault.StanzaFault.TheVariants.{NoMemory}
 use Rattle.td_stanza.specs.Line.{is_separator, is_continuation, IsFirstLine}
 use Rattle.td_stanza.specs.Field.{Entry, is_field_name}
 use Rattle.td_stanza.specs.StanzaGrammar.{AreFields, IsDistinct, AreStanzas, names_of, has_name}
@@ -34,10 +37,14 @@ pub record IsBefore (fields : List Entry) (lines : List (List ℕ)) : Type 0 whe
 -- the fault of a line, which has this number, after the fields of its stanza: a first line without
 -- a name, a name without a colon, a continuation of nothing, a name for the second time
 abbrev pub IsFaultAt : StanzaFault → ℕ → List Entry → List ℕ → Type 0
-IsFaultAt (BadName n) number fields line = (n ≡ number) × IsFirstLine line × (is_field_name (part 58 line).0 ≡ false)
+IsFaultAt (BadName n) number fields line = (n ≡ number) × IsFirstLine line
+    × (is_field_name (part 58 line).0 ≡ false)
 IsFaultAt (NoColon n) number fields line = (n ≡ number) × IsTrue (is_field_name line)
-IsFaultAt (ContinuationFirst n) number fields line = (n ≡ number) × IsTrue (is_continuation line) × (fields ≡ [])
-IsFaultAt (Duplicate n) number fields line = (n ≡ number) × (name : List ℕ) × (rest : List ℕ) × (line ≡ name ++ 58 ∷ rest) × IsTrue (is_field_name name) × IsTrue (has_name (names_of fields) name)
+IsFaultAt (ContinuationFirst n) number fields line = (n ≡ number) × IsTrue (is_continuation line)
+    × (fields ≡ [])
+IsFaultAt (Duplicate n) number fields line = (n ≡ number) × (name : List ℕ) × (rest : List ℕ)
+    × (line ≡ name ++ 58 ∷ rest) × IsTrue (is_field_name name)
+    × IsTrue (has_name (names_of fields) name)
 IsFaultAt NoMemory number fields line = ⊥
 
 -- the fault is that of a line; those before it, which number from 1, have none

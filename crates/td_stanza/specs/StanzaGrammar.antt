@@ -7,7 +7,8 @@ use Rattle.td_stanza.specs.Field.{Entry, is_same_name, IsField}
 -- these lines are those of the fields, one after the other
 abbrev pub AreFields : List Entry → List (List ℕ) → Type 0
 AreFields [] lines = lines ≡ []
-AreFields (field ∷ fields) lines = (own : List (List ℕ)) × (others : List (List ℕ)) × (lines ≡ own ++ others) × IsField field own × AreFields fields others
+AreFields (field ∷ fields) lines = (own : List (List ℕ)) × (others : List (List ℕ))
+    × (lines ≡ own ++ others) × IsField field own × AreFields fields others
 
 -- the names of the fields, in their order
 abbrev pub names_of : List Entry → List (List ℕ)
@@ -45,5 +46,6 @@ BeginsApart (line ∷ lines) = IsTrue (is_separator line)
 -- after the last
 abbrev pub AreStanzas : List (List Entry) → List (List ℕ) → Type 0
 AreStanzas [] lines = AllSeparate lines
-AreStanzas (stanza ∷ stanzas) lines = (separators : List (List ℕ)) × (own : List (List ℕ)) × (others : List (List ℕ)) × (lines ≡ separators ++ (own ++ others))
+AreStanzas (stanza ∷ stanzas) lines = (separators : List (List ℕ)) × (own : List (List ℕ))
+    × (others : List (List ℕ)) × (lines ≡ separators ++ (own ++ others))
     × AllSeparate separators × IsStanza stanza own × BeginsApart others × AreStanzas stanzas others

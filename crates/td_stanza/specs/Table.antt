@@ -1,6 +1,7 @@
 -- The stanzas that a flat list of fields has, by where each starts in it.
 pub use Rattle.td_stanza.specs.Shown.{shown}
-use Rattle.std.specs.Prelude.{◌≡◌, ℕ, ◌+◌, ◌-◌, ◌==◌, count_by, List, [], ◌∷◌, length, take, drop, map, slice_get, Option, Some, IsTrue}
+use Rattle.std.specs.Prelude.{◌≡◌, ℕ, ◌+◌, ◌-◌, ◌==◌, count_by, List, [], ◌∷◌, length, take, drop}
+use Rattle.std.specs.Prelude.{map, slice_get, Option, Some, IsTrue}
 use Rattle.std.specs.List.{flat_map, AllByRecursion}
 use Rattle.td_stanza.specs.Field.{Entry, is_same_name}
 use Rattle.td_stanza.specs.StanzaGrammar.{IsDistinct}
@@ -15,7 +16,8 @@ newlines text = count_by (λ b. b == 10) text
 abbrev pub pieces : List Entry → List ℕ → List (List Entry)
 pieces fields [] = []
 pieces fields (start ∷ []) = drop start fields ∷ []
-pieces fields (start ∷ end ∷ starts) = take (end - start) (drop start fields) ∷ pieces fields (end ∷ starts)
+pieces fields (start ∷ end ∷ starts) = take (end - start) (drop start fields) ∷ pieces fields
+    (end ∷ starts)
 
 -- where each of the stanzas starts, the first of them at a place
 abbrev pub starts_from : ℕ → List (List Entry) → List ℕ
@@ -39,7 +41,8 @@ fields_of stanza = map shown stanza.fields.now
 
 -- one of the fields has this name, in whatever case, and this value
 abbrev pub HasField : List Entry → List ℕ → List ℕ → Type 0
-HasField fields name value = (number : ℕ) × (field : Entry) × (slice_get fields number ≡ Some field) × IsTrue (is_same_name name field.name) × (field.value ≡ value)
+HasField fields name value = (number : ℕ) × (field : Entry) × (slice_get fields number ≡ Some field)
+    × IsTrue (is_same_name name field.name) × (field.value ≡ value)
 
 -- the answer is the value of whichever field has the name
 abbrev pub AnswersOnly : List Entry → List ℕ → Option (List ℕ) → Type 0

@@ -1,3 +1,4 @@
+//! Why a text isn't read as stanzas.
 use thiserror::Error;
 
 /// Why a text isn't read as stanzas: the first line with a fault, counted from 1.

@@ -1,3 +1,4 @@
+//! A stanza's fields among those of the text, and a field by its name.
 ghost use Rattle.std.specs.Prelude.{◌≡◌, map, option_map, slice_get};
 ghost use Rattle.std.specs.List.{find};
 ghost use Rattle.td_stanza.specs.Field.{is_same_name as is_same_name_of};

@@ -1,3 +1,4 @@
+//! A control file is read, field by field.
 ghost use Rattle.std.specs.Prelude.{◌≡◌, ◌<◌, ◌≤◌, ◌+◌, ◌-◌, ℕ, List, true, false, ◌∷◌, ◌++◌, [], IfOk, IfErr, OnOk, map, length, take, ◌==◌, if◌then◌else◌};
 ghost use Rattle.td_text.specs.Lines.{lines_of, left_text};
 ghost use Rattle.td_stanza.specs.Line.{is_separator as is_separator_of, is_continuation};

@@ -1,3 +1,4 @@
+//! The stanzas of a text, and one of them with its fields.
 ghost use Rattle.std.specs.Prelude.{◌≡◌, length, map, option_map, slice_get, ◌==◌, IfSome, IfNone, false};
 ghost use Rattle.td_stanza.specs.Props.{IsDistinct-prop};
 ghost use Rattle.td_stanza.specs.Shown.{shown};

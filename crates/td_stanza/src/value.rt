@@ -1,3 +1,4 @@
+//! Texts without the blanks around them.
 ghost use Rattle.std.specs.Prelude.{◌≡◌, ◌<◌, length, IfSome, IfNone};
 ghost use Rattle.td_stanza.specs.Value.{trimmed_front, trimmed_back, trimmed};
 

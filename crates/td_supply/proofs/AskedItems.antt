@@ -1,5 +1,6 @@
 -- The items under a name, asked by their numbers.
-use Rattle.std.proofs.Common.{◌≡◌, ℕ, ◌+◌, ◌||◌, Bool, false, List, [], ◌∷◌, map, drop, filter, refl, ap, ◌∙◌, inl, inr, add-one}
+use Rattle.std.proofs.Common.{◌≡◌, ℕ, ◌+◌, ◌||◌, Bool, false, List, [], ◌∷◌, map, drop, filter}
+use Rattle.std.proofs.Common.{refl, ap, ◌∙◌, inl, inr, add-one}
 use Rattle.std.specs.List.{list_any}
 use Rattle.std.specs.Option.{option_map_or}
 use Rattle.std.proofs.lemmas.Bool.{cases_Bool}
@@ -8,7 +9,9 @@ use Rattle.td_supply.specs.Places.{places_from}
 use Rattle.td_supply.proofs.Places.{front_of}
 
 -- some item that passes one test passes another
-pub any-places : {A : Type 0} (named test : A → Bool) (items xs : List A) (n : ℕ) → drop n items ≡ xs → list_any (λ (k : ℕ). passes_at test items k) (places_from named n xs) ≡ list_any test (filter named xs)
+pub any-places : {A : Type 0} (named test : A → Bool) (items xs : List A) (n : ℕ)
+    → drop n items ≡ xs → list_any (λ (k : ℕ). passes_at test items k) (places_from named n xs)
+    ≡ list_any test (filter named xs)
 any-places named test items [] n left = refl
 any-places named test items (x ∷ xs) n left =
     let f = front_of items n x xs left in
@@ -21,7 +24,9 @@ any-places named test items (x ∷ xs) n left =
     ]
 
 -- the same of what is seen of the items
-pub any-seen : {A B C : Type 0} (named : B → Bool) (test : C → Bool) (f : A → B) (g : B → C) (xs : List A) → list_any (λ x. test (g (f x))) (filter (λ x. named (f x)) xs) ≡ list_any test (map g (filter named (map f xs)))
+pub any-seen : {A B C : Type 0} (named : B → Bool) (test : C → Bool) (f : A → B) (g : B → C)
+    (xs : List A) → list_any (λ x. test (g (f x))) (filter (λ x. named (f x)) xs)
+    ≡ list_any test (map g (filter named (map f xs)))
 any-seen named test f g [] = refl
 any-seen named test f g (x ∷ xs) =
     let later = any-seen named test f g xs in

@@ -1,11 +1,15 @@
 -- The numbers of the items that pass a test.
-use Rattle.std.proofs.Common.{◌≡◌, ℕ, zero, suc, ◌+◌, Bool, false, List, [], ◌∷◌, ◌++◌, length, if◌then◌else◌, refl, sym, ap, ◌∙◌, inl, inr, arith, map, drop, slice_get, Some}
+use Rattle.std.proofs.Common.{◌≡◌, ℕ, zero, suc, ◌+◌, Bool, false, List, [], ◌∷◌, ◌++◌, length}
+use Rattle.std.proofs.Common.{if◌then◌else◌, refl, sym, ap, ◌∙◌, inl, inr, arith, map, drop}
+use Rattle.std.proofs.Common.{slice_get, Some}
 use Rattle.std.proofs.Math.Seq.{drop-nil}
 use Rattle.std.proofs.lemmas.Bool.{cases_Bool}
 use Rattle.td_supply.specs.Places.{places_from}
 
 -- with one item more
-pub places-push : {A : Type 0} (test : A → Bool) (n : ℕ) (xs : List A) (x : A) → places_from test n (xs ++ x ∷ []) ≡ (if test x then places_from test n xs ++ (n + length xs) ∷ [] else places_from test n xs)
+pub places-push : {A : Type 0} (test : A → Bool) (n : ℕ) (xs : List A) (x : A)
+    → places_from test n (xs ++ x ∷ [])
+    ≡ (if test x then places_from test n xs ++ (n + length xs) ∷ [] else places_from test n xs)
 places-push test n [] x =
     let here : n ≡ n + 0 = omega arith in
     elim (cases_Bool (test x)) [ inl is ↦ rw is (ap (λ (m : ℕ). m ∷ []) here) | inr other ↦ rw other refl ]
@@ -28,7 +32,9 @@ places-push test n (y ∷ xs) x =
     ]
 
 -- the numbers under a name agree still where the items and they have one more
-pub agrees-push : {A : Type 0} (test : A → Bool) (xs : List A) (x : A) (old new : List ℕ) (n : ℕ) → old ≡ places_from test 0 xs → n ≡ length xs → new ≡ (if test x then old ++ n ∷ [] else old) → new ≡ places_from test 0 (xs ++ x ∷ [])
+pub agrees-push : {A : Type 0} (test : A → Bool) (xs : List A) (x : A) (old new : List ℕ) (n : ℕ)
+    → old ≡ places_from test 0 xs → n ≡ length xs → new ≡ (if test x then old ++ n ∷ [] else old)
+    → new ≡ places_from test 0 (xs ++ x ∷ [])
 agrees-push test xs x old new n agree last is =
     let from_zero : n ≡ 0 + length xs = omega arith in
     is ∙ ap (λ (l : List ℕ). if test x then l ++ n ∷ [] else l) agree
@@ -36,17 +42,20 @@ agrees-push test xs x old new n agree last is =
     ∙ sym (places-push test 0 xs x)
 
 -- the same where the item fails the test
-pub agrees-other : {A : Type 0} (test : A → Bool) (xs : List A) (x : A) (old : List ℕ) → old ≡ places_from test 0 xs → test x ≡ false → old ≡ places_from test 0 (xs ++ x ∷ [])
+pub agrees-other : {A : Type 0} (test : A → Bool) (xs : List A) (x : A) (old : List ℕ)
+    → old ≡ places_from test 0 xs → test x ≡ false → old ≡ places_from test 0 (xs ++ x ∷ [])
 agrees-other test xs x old agree other = agrees-push test xs x old old (length xs) agree refl (sym (rw other refl))
 
 -- of other items that pass as those do
-pub places-map : {A B : Type 0} (test : B → Bool) (f : A → B) (n : ℕ) (xs : List A) → places_from test n (map f xs) ≡ places_from (λ x. test (f x)) n xs
+pub places-map : {A B : Type 0} (test : B → Bool) (f : A → B) (n : ℕ) (xs : List A)
+    → places_from test n (map f xs) ≡ places_from (λ x. test (f x)) n xs
 places-map test f n [] = refl
 places-map test f n (x ∷ xs) =
     let later = places-map test f (n + 1) xs in
     elim (cases_Bool (test (f x))) [ inl is ↦ rw is (ap (λ (l : List ℕ). n ∷ l) later) | inr other ↦ rw other later ]
 
-pub places-same : {A : Type 0} (test other : A → Bool) (n : ℕ) (xs : List A) → ((x : A) → test x ≡ other x) → places_from test n xs ≡ places_from other n xs
+pub places-same : {A : Type 0} (test other : A → Bool) (n : ℕ) (xs : List A)
+    → ((x : A) → test x ≡ other x) → places_from test n xs ≡ places_from other n xs
 places-same test other n [] same = refl
 places-same test other n (x ∷ xs) same =
     let later = places-same test other (n + 1) xs same in
@@ -54,7 +63,8 @@ places-same test other n (x ∷ xs) same =
     ∙ ap (λ (l : List ℕ). if other x then n ∷ l else l) later
 
 -- the first of what is left, and the rest
-pub front_of : {A : Type 0} (items : List A) (n : ℕ) (x : A) (xs : List A) → drop n items ≡ x ∷ xs → (slice_get items n ≡ Some x) × (drop (suc n) items ≡ xs)
+pub front_of : {A : Type 0} (items : List A) (n : ℕ) (x : A) (xs : List A) → drop n items ≡ x ∷ xs
+    → (slice_get items n ≡ Some x) × (drop (suc n) items ≡ xs)
 front_of [] n x xs h = absurd (let bad : ◌≡◌ {A = List _} [] (x ∷ xs) = sym (drop-nil n) ∙ h in cc)
 front_of (y ∷ items) zero x xs h = (cc, cc)
 front_of (y ∷ items) (suc n) x xs h = front_of items n x xs h

@@ -1,5 +1,6 @@
 -- How an arrival is put in place: the rebuilds' versions are made first. This project's own.
-use Rattle.std.specs.Prelude.{ℕ, zero, suc, Bool, false, List, [], ◌∷◌, Option, Some, None, if◌then◌else◌}
+use Rattle.std.specs.Prelude.{ℕ, zero, suc, Bool, false, List, [], ◌∷◌, Option, Some, None}
+use Rattle.std.specs.Prelude.{if◌then◌else◌}
 use Rattle.std.specs.Option.{option_map_or}
 use Rattle.std.specs.Prelude.{slice_get}
 use Rattle.td_version.specs.Version.{Parts}
@@ -26,7 +27,8 @@ made_at make items number = option_map_or make (slice_get items number) None
 -- what is made of the items with these numbers, with the numbers
 abbrev pub made_of : {A B : Type 0} → (A → Option B) → List A → List ℕ → List (ℕ × B)
 made_of make items [] = []
-made_of make items (number ∷ numbers) = with_made number (made_at make items number) (made_of make items numbers)
+made_of make items (number ∷ numbers) = with_made number (made_at make items number)
+    (made_of make items numbers)
 
 -- the items, with a rebuild's version at the one with this number
 abbrev pub put : ℕ → Parts → List Item → List Item

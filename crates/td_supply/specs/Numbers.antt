@@ -7,7 +7,8 @@ use Rattle.td_supply.specs.declared.numbers.Numbers.{Numbers}
 
 -- those under a name, in the order in which they came
 abbrev pub numbers_of : Numbers → List ℕ → List ℕ
-numbers_of numbers name = option_map_or (λ list. list.items) (get_by (λ k. bytes_eq name k.now) numbers.by_name) []
+numbers_of numbers name = option_map_or (λ list. list.items)
+    (get_by (λ k. bytes_eq name k.now) numbers.by_name) []
 
 -- a list without its last item, if it has one
 abbrev pub but_last : {A : Type 0} → List A → List A

@@ -1,4 +1,5 @@
--- What is on offer: the binary packages of an index, and the names that they provide. This project's own.
+-- What is on offer: the binary packages of an index, and the names that they provide.
+-- This project's own.
 use Rattle.std.specs.Prelude.{ℕ, ◌&&◌, Bool, false, List, Option, Some, None, unwrap_or, option_map}
 use Rattle.std.specs.Option.{option_map_or}
 use Rattle.std.specs.Str.{bytes_eq}
@@ -8,12 +9,14 @@ use Rattle.td_relation.specs.Arch.{ArchWords}
 use Rattle.td_relation.specs.Table.{place_of}
 use Rattle.td_supply.specs.Places.{is_place}
 
--- whose rebuild an offer is: a binary package of this source, which a rebuild offers at this version with its number behind it
+-- whose rebuild an offer is:
+-- a binary package of this source, which a rebuild offers at this version with its number behind it
 pub record Built : Type 0 where
   pub source : List ℕ
   pub base : Parts
 
--- an offer as the index has it: its name, a version if it has one, the place of its architecture in the table unless it is of `all`, and whose rebuild it may be
+-- an offer as the index has it: its name, a version if it has one,
+-- the place of its architecture in the table unless it is of `all`, and whose rebuild it may be
 pub record Supplied : Type 0 where
   pub name : List ℕ
   pub version : Option Parts
@@ -35,7 +38,8 @@ last_part p = unwrap_or p.revision p.upstream
 
 -- the version with another last part
 abbrev pub with_last_part : Parts → List ℕ → Parts
-with_last_part p text = option_map_or (λ r. record p { revision = Some text }) p.revision (record p { upstream = text })
+with_last_part p text = option_map_or (λ r. record p { revision = Some text }) p.revision
+    (record p { upstream = text })
 
 -- the version with `+bN` behind it (N at least 1), and the version itself for 0
 abbrev pub with_rebuild : Parts → ℕ → Parts
@@ -45,7 +49,8 @@ with_rebuild p n = with_last_part p (rebuild_text (last_part p) n)
 abbrev pub is_of : List ℕ → Supplied → Bool
 is_of source o = option_map_or (λ b. bytes_eq source b.source) o.build false
 
--- whether it is of exactly the architecture with this name; one that isn't in the table has none, and an offer of `all` is of no architecture exactly
+-- whether it is of exactly the architecture with this name;
+-- one that isn't in the table has none, and an offer of `all` is of no architecture exactly
 abbrev pub is_at : List ArchWords → List ℕ → Supplied → Bool
 is_at table arch o = option_map_or (λ place. is_place place (place_of table arch)) o.arch false
 

@@ -1,5 +1,6 @@
 -- A supply: what the index offers, and what has arrived since. This project's own.
-use Rattle.std.specs.Prelude.{ℕ, Bool, false, List, [], ◌∷◌, ◌++◌, Option, Some, None, Ok, Err, Result, filter, map, option_map, slice_get, if◌then◌else◌}
+use Rattle.std.specs.Prelude.{ℕ, Bool, false, List, [], ◌∷◌, ◌++◌, Option, Some, None, Ok, Err}
+use Rattle.std.specs.Prelude.{Result, filter, map, option_map, slice_get, if◌then◌else◌}
 use Rattle.std.specs.List.{find}
 use Rattle.std.specs.Option.{option_map_or, option_or}
 use Rattle.std.specs.Str.{bytes_eq}
@@ -12,7 +13,8 @@ use Rattle.td_relation.specs.RelationGrammar.{relation_at}
 use Rattle.td_relation.specs.Table.{place_of}
 use Rattle.td_supply.specs.Supplied.{Supplied, Item, fresh, is_built_by, rebuild_of}
 
--- what doesn't change: the table of architectures, the sources with their versions as they are written, and the offers of the index
+-- what doesn't change: the table of architectures,
+-- the sources with their versions as they are written, and the offers of the index
 pub record Stock : Type 0 where
   pub table : List ArchWords
   pub sources : List (List ℕ × List ℕ)
@@ -55,7 +57,8 @@ with_offer s o = record s { items = s.items ++ fresh o ∷ [] }
 
 -- a rebuild of the source has arrived on exactly this architecture, with this number
 abbrev pub arrived_at : List ArchWords → List ℕ → List ℕ → ℕ → Item → Item
-arrived_at table source arch n i = if is_built_by table source arch i.offer then record i { rebuilt = rebuild_of n i.offer } else i
+arrived_at table source arch n i = if is_built_by table source arch i.offer
+    then record i { rebuilt = rebuild_of n i.offer } else i
 
 abbrev pub arrived : SupplyView → List ℕ → List ℕ → ℕ → SupplyView
 arrived s source arch n = record s { items = map (arrived_at s.table source arch n) s.items }
@@ -76,9 +79,11 @@ offers_of items name = map offered_now (filter (is_named name) items)
 -- whether they meet what a relation asks, on the architecture at a place
 abbrev pub met_at : SupplyView → List (List Asked) → Option ℕ → Bool
 met_at s members None = false
-met_at s members (Some place) = option_map_or (λ a. met (offers_of s.items) place a members) (slice_get s.table place) false
+met_at s members (Some place) = option_map_or (λ a. met (offers_of s.items) place a members)
+    (slice_get s.table place) false
 
--- whether a relation that was read is met on the architecture with this name; on one that isn't in the table none is, nor is a text that is no relation
+-- whether a relation that was read is met on the architecture with this name;
+-- on one that isn't in the table none is, nor is a text that is no relation
 abbrev pub meets_read : SupplyView → List ℕ → Result (List (List Asked)) RelationFault → Bool
 meets_read s arch (Ok members) = met_at s members (place_of s.table arch)
 meets_read s arch (Err fault) = false

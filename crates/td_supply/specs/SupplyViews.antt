@@ -19,7 +19,12 @@ rebuilt_parts r = with_last_part (parts_of r.base) (string_bytes r.last)
 
 -- an offer as the index has it
 abbrev pub supplied : Stocked → Supplied
-supplied s = record { name = s.name.now; version = option_map parts_of s.version; arch = s.arch; build = option_map built s.build }
+supplied s = record {
+  name = s.name.now;
+  version = option_map parts_of s.version;
+  arch = s.arch;
+  build = option_map built s.build;
+}
 
 -- the same with what has arrived
 abbrev pub item : Stocked → Item

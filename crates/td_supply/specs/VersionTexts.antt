@@ -16,4 +16,5 @@ AreVersions sources = AllByRecursion (λ p. IsVersionText p.1) sources
 -- the source's version has these parts; none where it has no version
 abbrev pub HasVersion : SupplyView → List ℕ → Option Parts → Type 0
 HasVersion s name None = version_of s name ≡ None
-HasVersion s name (Some parts) = (text : List ℕ) × (version_of s name ≡ Some text) × IsVersion text parts
+HasVersion s name (Some parts) = (text : List ℕ) × (version_of s name ≡ Some text)
+    × IsVersion text parts

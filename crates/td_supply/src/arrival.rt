@@ -2,7 +2,8 @@
 ghost use Rattle.std.specs.Prelude.{◌≡◌, ◌≤◌, List, IfOk, map, option_map};
 ghost use Rattle.td_text.specs.Limits.{max_rebuild};
 ghost use Rattle.td_version.specs.Version.{parts_of};
-ghost use Rattle.td_supply.specs.Arrivals.{is_exactly as is_exactly_of, made_at, made_of, put as put_of, put_all, rebuild_there};
+ghost use Rattle.td_supply.specs.Arrivals.{is_exactly as is_exactly_of, made_at, made_of};
+ghost use Rattle.td_supply.specs.Arrivals.{put as put_of, put_all, rebuild_there};
 ghost use Rattle.td_supply.specs.Supplied.{last_part as last_part_of};
 ghost use Rattle.td_supply.specs.SupplyViews.{item, rebuilt_at, rebuilt_parts, supplied};
 
@@ -37,7 +38,8 @@ fn rebuild<'a>(
     number: u16,
 ) -> Result<Option<Rebuilt<'a>>, AllocError>
     requires { number ≤ max_rebuild }
-    ensures { IfOk result (λ made. option_map rebuilt_parts made ≡ rebuild_there place number (supplied offer.now)) }
+    ensures { IfOk result (λ made.
+        option_map rebuilt_parts made ≡ rebuild_there place number (supplied offer.now)) }
 {
     if !is_exactly(place, offer.arch) {
         return Ok(None);
@@ -63,7 +65,8 @@ fn rebuild_at<'a>(
     number: u16,
 ) -> Result<Option<Rebuilt<'a>>, AllocError>
     requires { number ≤ max_rebuild }
-    ensures { IfOk result (λ made. option_map rebuilt_parts made ≡ made_at (λ s. rebuild_there place number (supplied s)) items.now at) }
+    ensures { IfOk result (λ made. option_map rebuilt_parts made
+        ≡ made_at (λ s. rebuild_there place number (supplied s)) items.now at) }
 {
     match items.get(at) {
         Some(offer) => rebuild(alloc, offer, place, number),
@@ -81,7 +84,8 @@ pub fn rebuilds<'a>(
     number: u16,
 ) -> Result<Vec<(usize, Rebuilt<'a>)>, AllocError>
     requires { number ≤ max_rebuild }
-    ensures { IfOk result (λ made. map rebuilt_at made.items ≡ made_of (λ s. rebuild_there place number (supplied s)) items.now numbers.now) }
+    ensures { IfOk result (λ made. map rebuilt_at made.items
+        ≡ made_of (λ s. rebuild_there place number (supplied s)) items.now numbers.now) }
 {
     let mut made = Vec::new(alloc);
     for at in numbers {
@@ -93,7 +97,8 @@ pub fn rebuilds<'a>(
 }
 
 fn put<'a>(items: &mut Vec<Stocked<'a>>, at: usize, rebuilt: Rebuilt<'a>)
-    ensures { map item items.new.items ≡ put_of at (rebuilt_parts rebuilt.entry) (map item items.old.items) }
+    ensures { map item items.new.items
+        ≡ put_of at (rebuilt_parts rebuilt.entry) (map item items.old.items) }
 {
     if at < items.len() {
         items[at].rebuilt = Some(rebuilt);
@@ -102,7 +107,8 @@ fn put<'a>(items: &mut Vec<Stocked<'a>>, at: usize, rebuilt: Rebuilt<'a>)
 
 /// Puts each of these versions in place. It takes no memory.
 pub fn put_each<'a>(items: &mut Vec<Stocked<'a>>, mut made: Vec<(usize, Rebuilt<'a>)>)
-    ensures { map item items.new.items ≡ put_all (map rebuilt_at made.entry.items) (map item items.old.items) }
+    ensures { map item items.new.items
+        ≡ put_all (map rebuilt_at made.entry.items) (map item items.old.items) }
 {
     while let Some((at, rebuilt)) = made.pop() {
         put(items, at, rebuilt);

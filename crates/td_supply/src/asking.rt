@@ -53,7 +53,8 @@ fn suits_at(
     place: usize,
     restriction: &Option<Restriction<'_>>,
 ) -> bool
-    ensures { result ≡ passes_at (λ s. suits place (option_map restriction_of restriction.now) (offered_now (item s))) items.now number }
+    ensures { result ≡ passes_at (λ s. suits place (option_map restriction_of restriction.now)
+        (offered_now (item s))) items.now number }
 {
     match items.get(number) {
         Some(stocked) => offer_now(stocked).suits(place, restriction),
@@ -68,7 +69,9 @@ pub fn some_suits(
     place: usize,
     restriction: &Option<Restriction<'_>>,
 ) -> bool
-    ensures { result ≡ list_any (λ number. passes_at (λ s. suits place (option_map restriction_of restriction.now) (offered_now (item s))) items.now number) numbers.now }
+    ensures { result ≡ list_any
+        (λ number. passes_at (λ s. suits place (option_map restriction_of restriction.now)
+        (offered_now (item s))) items.now number) numbers.now }
 {
     numbers
         .iter()

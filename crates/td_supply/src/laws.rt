@@ -1,5 +1,7 @@
 //! What is promised of supplies as such.
-ghost use Rattle.td_supply.specs.SupplyLaws.{NothingIsMet, OffersOfAllStay, OthersStay, RebuildsAreOffered, TheLastArrivalStands, TheStockStays};
+ghost use Rattle.td_supply.specs.SupplyLaws.{NothingIsMet, OffersOfAllStay, OthersStay};
+ghost use Rattle.td_supply.specs.SupplyLaws.{RebuildsAreOffered, TheLastArrivalStands};
+ghost use Rattle.td_supply.specs.SupplyLaws.{TheStockStays};
 
 /// In an empty supply nothing is met.
 pub fn nothing_is_met()

@@ -24,7 +24,10 @@ impl<'a> Numbers<'a> {
 
     /// Adds a number behind those of its name.
     pub fn push(&mut self, name: &'a str, number: usize) -> Result<(), AllocError>
-        ensures ok { OnOk result ((q : List ℕ) → numbers_of self.new q ≡ (if bytes_eq q name.now then numbers_of self.old q ++ number ∷ [] else numbers_of self.old q)) }
+        ensures ok { OnOk result
+            ((q : List ℕ)
+            → numbers_of self.new q ≡ (if bytes_eq q name.now then numbers_of self.old q
+            ++ number ∷ [] else numbers_of self.old q)) }
         ensures err { OnErr result ((q : List ℕ) → numbers_of self.new q ≡ numbers_of self.old q) }
     {
         let list = self.by_name.entry(name)?.or_default();
@@ -34,7 +37,8 @@ impl<'a> Numbers<'a> {
 
     /// Takes the last number of a name away. It takes no memory.
     pub fn pop(&mut self, name: &str)
-        ensures { (q : List ℕ) → numbers_of self.new q ≡ (if bytes_eq q name.now then but_last (numbers_of self.old q) else numbers_of self.old q) }
+        ensures { (q : List ℕ) → numbers_of self.new q ≡ (if bytes_eq q name.now then but_last
+            (numbers_of self.old q) else numbers_of self.old q) }
     {
         if let Some(list) = self.by_name.get_mut(name) {
             list.pop();

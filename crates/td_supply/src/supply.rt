@@ -1,9 +1,11 @@
 //! A supply: the offers of an archive, and the rebuilds that have arrived.
-ghost use Rattle.std.specs.Prelude.{◌≡◌, ◌<◌, ◌≤◌, List, ℕ, [], None, IfOk, IfSome, OnOk, OnErr, length, map, option_map, slice_get};
+ghost use Rattle.std.specs.Prelude.{◌≡◌, ◌<◌, ◌≤◌, List, ℕ, [], None, IfOk, IfSome, OnOk, OnErr};
+ghost use Rattle.std.specs.Prelude.{length, map, option_map, slice_get};
 ghost use Rattle.td_text.specs.Limits.{max_rebuild};
 ghost use Rattle.td_version.specs.Version.{parts_of};
 ghost use Rattle.td_relation.specs.TableView.{table};
-ghost use Rattle.td_supply.specs.Supply.{arrived, meets as meets_of, nothing, opened, unstocked, version_of, with_offer, with_source};
+ghost use Rattle.td_supply.specs.Supply.{arrived, meets as meets_of, nothing, opened, unstocked};
+ghost use Rattle.td_supply.specs.Supply.{version_of, with_offer, with_source};
 ghost use Rattle.td_supply.specs.SupplyViews.{built};
 ghost use Rattle.td_supply.specs.VersionTexts.{HasVersion, IsVersionText};
 
@@ -95,7 +97,15 @@ impl<'a> Supply<'a> {
         arch: Option<usize>,
         build: Option<Build<'a>>,
     ) -> Result<(), AllocError>
-        ensures ok { OnOk result (self.new ≡ with_offer self.old (record { name = name.now; version = option_map parts_of version.entry; arch = arch; build = option_map built build.entry })) }
+        ensures ok { OnOk result
+            (self.new
+            ≡ with_offer self.old
+            (record {
+              name = name.now;
+              version = option_map parts_of version.entry;
+              arch = arch;
+              build = option_map built build.entry;
+            })) }
         ensures err { OnErr result (self.new ≡ self.old) }
     {
         self.items.reserve(1)?;

@@ -1,11 +1,15 @@
 -- The base of a version is what its text splits into.
-use Rattle.std.proofs.Common.{◌≡◌, ℕ, suc, zero, ◌+◌, ◌<◌, ◌≤◌, Bool, true, false, cond, ltb, List, [], ◌∷◌, ◌++◌, length, Option, Some, None, refl, sym, ap, subst, ◌∙◌, append_assoc, arith}
+use Rattle.std.proofs.Common.{◌≡◌, ℕ, suc, zero, ◌+◌, ◌<◌, ◌≤◌, Bool, true, false, cond, ltb, List}
+use Rattle.std.proofs.Common.{[], ◌∷◌, ◌++◌, length, Option, Some, None, refl, sym, ap, subst, ◌∙◌}
+use Rattle.std.proofs.Common.{append_assoc, arith}
 use Rattle.std.specs.Prelude.{is_some}
 use Rattle.std.specs.List.{list_all}
 use Rattle.std.proofs.lemmas.Bool.{and_parts, ltb-true, ne_eqb}
 use Rattle.std.proofs.lemmas.List.{append-nil, length-append}
 use Rattle.td_version.specs.Base.{rebuilt_from, base_part, upstream_base, base_of, SplitsHaveBases}
-use Rattle.td_version.specs.Grammar.{Written, epoch_front, revision_back, written_text, is_upstream_byte, UpstreamFits, epoch_number, parts_written, IsVersion}
+use Rattle.td_version.specs.Grammar.{Written, epoch_front, revision_back, written_text}
+use Rattle.td_version.specs.Grammar.{is_upstream_byte, UpstreamFits, epoch_number, parts_written}
+use Rattle.td_version.specs.Grammar.{IsVersion}
 use Rattle.td_version.specs.Reading.{pieces}
 use Rattle.td_version.specs.Rebuild.{rebuild_suffix, rebuild_text, EndsInNoRebuild}
 use Rattle.td_version.specs.Version.{Parts}
@@ -19,7 +23,8 @@ either_same false x = refl
 
 -- ---- a text that ends in no suffix
 
-revision_stays : (epoch : Option (List ℕ)) (upstream revision : List ℕ) (o : Option (List ℕ)) → rebuilt_from revision ≡ o
+revision_stays : (epoch : Option (List ℕ)) (upstream revision : List ℕ) (o : Option (List ℕ))
+    → rebuilt_from revision ≡ o
     → EndsInNoRebuild (epoch_front epoch ++ (upstream ++ 45 ∷ revision)) → base_part revision ≡ revision
 revision_stays epoch upstream revision None e plain = rw e refl
 revision_stays epoch upstream revision (Some b) e plain =
@@ -30,7 +35,8 @@ revision_stays epoch upstream revision (Some b) e plain =
     append_assoc front (upstream ++ 45 ∷ b) (rebuild_suffix found.0) ∙ ap (λ (l : List ℕ). front ++ l) (append_assoc upstream (45 ∷ b) (rebuild_suffix found.0)) in
     absurd (plain (front ++ (upstream ++ 45 ∷ b)) found.0 longer found.1 found.2 (ap (λ (l : List ℕ). front ++ (upstream ++ 45 ∷ l)) found.3 ∙ sym joined))
 
-upstream_stays : (epoch : Option (List ℕ)) (upstream : List ℕ) (o : Option (List ℕ)) → rebuilt_from upstream ≡ o
+upstream_stays : (epoch : Option (List ℕ)) (upstream : List ℕ) (o : Option (List ℕ))
+    → rebuilt_from upstream ≡ o
     → EndsInNoRebuild (epoch_front epoch ++ (upstream ++ [])) → upstream_base (epoch_number epoch) upstream ≡ upstream
 upstream_stays epoch upstream None e plain = rw e (either_same _ upstream)
 upstream_stays None upstream (Some []) e plain = rw e refl
@@ -45,7 +51,8 @@ upstream_stays (Some digits) upstream (Some b) e plain =
     let joined : (front ++ b) ++ rebuild_suffix found.0 ≡ front ++ rebuild_text b found.0 = append_assoc front b (rebuild_suffix found.0) in
     absurd (plain (front ++ b) found.0 longer found.1 found.2 (ap (λ (l : List ℕ). front ++ l) (append-nil upstream ∙ found.3) ∙ sym joined))
 
-version_stays : (epoch : Option (List ℕ)) (upstream : List ℕ) (revision : Option (List ℕ)) → EndsInNoRebuild (epoch_front epoch ++ (upstream ++ revision_back revision))
+version_stays : (epoch : Option (List ℕ)) (upstream : List ℕ) (revision : Option (List ℕ))
+    → EndsInNoRebuild (epoch_front epoch ++ (upstream ++ revision_back revision))
     → base_of (record { epoch = epoch_number epoch; upstream = upstream; revision = revision }) ≡ record { epoch = epoch_number epoch; upstream = upstream; revision = revision }
 version_stays epoch upstream None plain =
     ap (λ (l : List ℕ). record { epoch = epoch_number epoch; upstream = l; revision = None }) (upstream_stays epoch upstream (rebuilt_from upstream) refl plain)
@@ -54,10 +61,12 @@ version_stays epoch upstream (Some revision) plain =
 
 -- ---- a text with a suffix
 
-upstream_loses : (epoch : ℕ) (upstream : List ℕ) (n : ℕ) → 0 < length upstream → 0 < n → n ≤ 9999 → upstream_base epoch (rebuild_text upstream n) ≡ upstream
+upstream_loses : (epoch : ℕ) (upstream : List ℕ) (n : ℕ) → 0 < length upstream → 0 < n → n ≤ 9999
+    → upstream_base epoch (rebuild_text upstream n) ≡ upstream
 upstream_loses epoch upstream n longer some bounded = rw (part_again upstream n some bounded, ne_eqb (length upstream) 0 (λ e. omega arith)) refl
 
-version_loses : (epoch : Option (List ℕ)) (upstream : List ℕ) (revision : Option (List ℕ)) (n : ℕ) → 0 < length upstream → 0 < n → n ≤ 9999
+version_loses : (epoch : Option (List ℕ)) (upstream : List ℕ) (revision : Option (List ℕ)) (n : ℕ)
+    → 0 < length upstream → 0 < n → n ≤ 9999
     → base_of (parts_written (extended epoch upstream revision (rebuild_suffix n))) ≡ record { epoch = epoch_number epoch; upstream = upstream; revision = revision }
 version_loses epoch upstream None n longer some bounded =
     ap (λ (l : List ℕ). record { epoch = epoch_number epoch; upstream = l; revision = None }) (upstream_loses (epoch_number epoch) upstream n longer some bounded)

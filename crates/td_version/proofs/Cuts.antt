@@ -1,5 +1,6 @@
 -- A text that is cut at its first or its last byte c.
-use Rattle.std.proofs.Common.{◌≡◌, ◌≢◌, ℕ, ◌+◌, ◌<◌, ◌≤◌, List, [], ◌∷◌, ◌++◌, length, take, drop, Option, Some, None, option_map, refl, sym, ap, ◌∙◌, inl, inr}
+use Rattle.std.proofs.Common.{◌≡◌, ◌≢◌, ℕ, ◌+◌, ◌<◌, ◌≤◌, List, [], ◌∷◌, ◌++◌, length, take, drop}
+use Rattle.std.proofs.Common.{Option, Some, None, option_map, refl, sym, ap, ◌∙◌, inl, inr}
 use Rattle.std.specs.Prelude.{MatchOption}
 use Rattle.std.specs.Str.Pattern.{RFindsChar}
 use Rattle.std.proofs.lemmas.Bool.{eq-eqb, ne_eqb}
@@ -17,7 +18,8 @@ abbrev pub IsFirstCut : ℕ → List ℕ → Option (List ℕ × List ℕ) → T
 IsFirstCut c t None = Without c t
 IsFirstCut c t (Some p) = (t ≡ p.0 ++ c ∷ p.1) × Without c p.0
 
-first_onto : (c x : ℕ) (t : List ℕ) (o : Option (List ℕ × List ℕ)) → x ≢ c → IsFirstCut c t o → IsFirstCut c (x ∷ t) (o >>= λ p. Some (x ∷ p.0, p.1))
+first_onto : (c x : ℕ) (t : List ℕ) (o : Option (List ℕ × List ℕ)) → x ≢ c → IsFirstCut c t o
+    → IsFirstCut c (x ∷ t) (o >>= λ p. Some (x ∷ p.0, p.1))
 first_onto c x t None ne h = (ne, h)
 first_onto c x t (Some p) ne h = (ap (λ (l : List ℕ). x ∷ l) h.0, (ne, h.1))
 
@@ -46,7 +48,8 @@ abbrev pub IsLastCut : ℕ → List ℕ → Option (List ℕ × List ℕ) → Ty
 IsLastCut c t None = Without c t
 IsLastCut c t (Some p) = (t ≡ p.0 ++ c ∷ p.1) × Without c p.1
 
-last_onto : (c x : ℕ) (t : List ℕ) (o : Option (List ℕ × List ℕ)) → IsLastCut c t o → IsLastCut c (x ∷ t) (cut_here c x t o)
+last_onto : (c x : ℕ) (t : List ℕ) (o : Option (List ℕ × List ℕ)) → IsLastCut c t o
+    → IsLastCut c (x ∷ t) (cut_here c x t o)
 last_onto c x t None h =
     elim (eqb_tells x c) [
       | inl is ↦ rw is.0 (ap (λ (b : ℕ). b ∷ t) is.1, h)
@@ -64,7 +67,8 @@ abbrev pub IsRsplitOnceResult : ℕ → List ℕ → Option (Bor (List ℕ) × B
 IsRsplitOnceResult c bs r = MatchOption r (RFindsChar c bs None) (λ x. (i : ℕ) × (j : ℕ) × RFindsChar c bs (Some (i, j)) × (x.0.now ≡ take i bs) × (x.1.now ≡ drop j bs) × (i ≤ j) × (length x.0.now ≡ i) × (length x.1.now + j ≡ length bs))
 
 -- what `rsplit_once` gives is the text cut at the last c
-pub cut_last-from_split : (c : ℕ) (t : List ℕ) (r : Option (Bor (List ℕ) × Bor (List ℕ))) → c < 128 → IsRsplitOnceResult c t r → option_map (λ x. (x.0.now, x.1.now)) r ≡ cut_last c t
+pub cut_last-from_split : (c : ℕ) (t : List ℕ) (r : Option (Bor (List ℕ) × Bor (List ℕ))) → c < 128
+    → IsRsplitOnceResult c t r → option_map (λ x. (x.0.now, x.1.now)) r ≡ cut_last c t
 cut_last-from_split c t None small s = sym (cut_last_none c t (Without-from_index c t (λ i lt. NoCharPasses-char c t i s small lt)))
 cut_last-from_split c t (Some x) small s =
     let whole : t ≡ x.0.now ++ c ∷ x.1.now = sym (take-append-drop s.0 t) ∙ ap (λ (l : List ℕ). take s.0 t ++ l) (drop_at_char c t s.0 s.1 s.2.1 small) ∙ ap (λ (l : List ℕ). l ++ c ∷ drop s.1 t) (sym s.3) ∙ ap (λ (l : List ℕ). x.0.now ++ c ∷ l) (sym s.4) in

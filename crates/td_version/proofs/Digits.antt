@@ -1,6 +1,7 @@
 -- Digit runs of any length, compared by length and then byte by byte, are compared as numbers.
 use Rattle.std.proofs.lemmas.Grind.{common_steps}
-use Rattle.std.proofs.Common.{◌≡◌, ◌≢◌, take, drop, get_or, ℕ, ◌+◌, ◌-◌, ◌*◌, ◌<◌, ◌≤◌, List, [], ◌∷◌, length, refl, sym, ap, ◌∙◌, arith, true, inl, inr}
+use Rattle.std.proofs.Common.{◌≡◌, ◌≢◌, take, drop, get_or, ℕ, ◌+◌, ◌-◌, ◌*◌, ◌<◌, ◌≤◌, List, []}
+use Rattle.std.proofs.Common.{◌∷◌, length, refl, sym, ap, ◌∙◌, arith, true, inl, inr}
 use Rattle.std.specs.Cmp.Lexicographic.{slice_cmp}
 use Rattle.std.specs.Ordering.{nat_cmp, ordering_then}
 use Rattle.std.specs.declared.cmp.Ordering.{Ordering}
@@ -35,7 +36,8 @@ value-without_zeros (b ∷ a) =
       | inr other ↦ rw other.0 refl
     ]
 
-pub digits-without_zeros : (a : List ℕ) → all_ascii_digits a ≡ true → all_ascii_digits (without_zeros a) ≡ true
+pub digits-without_zeros : (a : List ℕ) → all_ascii_digits a ≡ true
+    → all_ascii_digits (without_zeros a) ≡ true
 unfolding without_zeros
 digits-without_zeros [] h = refl
 digits-without_zeros (b ∷ a) h =
@@ -45,14 +47,16 @@ digits-without_zeros (b ∷ a) h =
     ]
 
 -- a smaller front stays smaller over as many digits
-less : (a b : List ℕ) (n m : ℕ) → n < m → length a ≡ length b → AllDigits 10 a → digits_value_after 10 n a < digits_value_after 10 m b
+less : (a b : List ℕ) (n m : ℕ) → n < m → length a ≡ length b → AllDigits 10 a
+    → digits_value_after 10 n a < digits_value_after 10 m b
 less [] [] n m lt len h = lt
 less [] (y ∷ b) n m lt len h = absurd (omega arith)
 less (x ∷ a) [] n m lt len h = absurd (omega arith)
 less (x ∷ a) (y ∷ b) n m lt len h = less a b (n * 10 + digit_value x) (m * 10 + digit_value y) (let small = h.0 in omega arith) (omega arith) h.1
 
 -- no digits are as great as a front above 0 over as many digits or more
-fewer : (a b : List ℕ) (m : ℕ) → 0 < m → length a ≤ length b → AllDigits 10 a → digits_value_after 10 0 a < digits_value_after 10 m b
+fewer : (a b : List ℕ) (m : ℕ) → 0 < m → length a ≤ length b → AllDigits 10 a
+    → digits_value_after 10 0 a < digits_value_after 10 m b
 fewer a [] m some le h = less a [] 0 m some (omega arith) h
 fewer a (y ∷ b) m some le h =
     elim (cases_order (length a) (length (y ∷ b))) [
@@ -62,7 +66,8 @@ fewer a (y ∷ b) m some le h =
     ]
 
 -- without zeros in front, the shorter is the smaller
-shorter : (a b : List ℕ) → all_ascii_digits a ≡ true → all_ascii_digits b ≡ true → length a < length (without_zeros b) → digits_value 10 a < digits_value 10 b
+shorter : (a b : List ℕ) → all_ascii_digits a ≡ true → all_ascii_digits b ≡ true
+    → length a < length (without_zeros b) → digits_value 10 a < digits_value 10 b
 unfolding without_zeros
 shorter a [] h k lt = absurd (omega arith)
 shorter a (y ∷ b) h k lt =
@@ -81,7 +86,9 @@ shorter a (y ∷ b) h k lt =
     ]
 
 -- as many digits: byte by byte
-alike : (a b : List ℕ) (n : ℕ) → length a ≡ length b → all_ascii_digits a ≡ true → all_ascii_digits b ≡ true → slice_cmp nat_cmp a b ≡ nat_cmp (digits_value_after 10 n a) (digits_value_after 10 n b)
+alike : (a b : List ℕ) (n : ℕ) → length a ≡ length b → all_ascii_digits a ≡ true
+    → all_ascii_digits b ≡ true
+    → slice_cmp nat_cmp a b ≡ nat_cmp (digits_value_after 10 n a) (digits_value_after 10 n b)
 alike [] [] n len h k = sym (tied_itself nat_cmp_total n)
 alike [] (y ∷ b) n len h k = absurd (omega arith)
 alike (x ∷ a) [] n len h k = absurd (omega arith)
@@ -102,7 +109,10 @@ alike (x ∷ a) (y ∷ b) n len h k =
     ]
 
 -- what the length and then the bytes say is what the numbers say
-pub compared : (a b : List ℕ) → all_ascii_digits a ≡ true → all_ascii_digits b ≡ true → ordering_then (nat_cmp (length (without_zeros a)) (length (without_zeros b))) (slice_cmp nat_cmp (without_zeros a) (without_zeros b)) ≡ nat_cmp (digits_value 10 a) (digits_value 10 b)
+pub compared : (a b : List ℕ) → all_ascii_digits a ≡ true → all_ascii_digits b ≡ true
+    → ordering_then (nat_cmp (length (without_zeros a)) (length (without_zeros b)))
+    (slice_cmp nat_cmp (without_zeros a) (without_zeros b))
+    ≡ nat_cmp (digits_value 10 a) (digits_value 10 b)
 compared a b h k =
     let p = digits-without_zeros a h in
     let q = digits-without_zeros b k in
@@ -121,7 +131,8 @@ compared a b h k =
 
 -- ---- the loop over zeros
 
-pub without_zeros-zero : (t : List ℕ) → 0 < length t → get_or t 0 0 ≡ 48 → without_zeros t ≡ without_zeros (drop 1 t)
+pub without_zeros-zero : (t : List ℕ) → 0 < length t → get_or t 0 0 ≡ 48
+    → without_zeros t ≡ without_zeros (drop 1 t)
 unfolding without_zeros
 without_zeros-zero [] some first = absurd (omega arith)
 without_zeros-zero (b ∷ t) some first = rw (eq-eqb b 48 first) refl
@@ -142,7 +153,9 @@ rest-at_one t = grind (arith, common_steps)
 
 -- ---- the two ways in which two runs are compared
 
-pub by_length : (a b : List ℕ) → all_ascii_digits a ≡ true → all_ascii_digits b ≡ true → nat_cmp (length (without_zeros a)) (length (without_zeros b)) ≢ Equal → nat_cmp (length (without_zeros a)) (length (without_zeros b)) ≡ nat_cmp (digits_value 10 a) (digits_value 10 b)
+pub by_length : (a b : List ℕ) → all_ascii_digits a ≡ true → all_ascii_digits b ≡ true
+    → nat_cmp (length (without_zeros a)) (length (without_zeros b)) ≢ Equal → nat_cmp (length
+    (without_zeros a)) (length (without_zeros b)) ≡ nat_cmp (digits_value 10 a) (digits_value 10 b)
 by_length a b h k differ = sym (first (nat_cmp (length (without_zeros a)) (length (without_zeros b))) (slice_cmp nat_cmp (without_zeros a) (without_zeros b)) differ) ∙ compared a b h k
   where
     first : (o p : Ordering) → o ≢ Equal → ordering_then o p ≡ o
@@ -150,5 +163,7 @@ by_length a b h k differ = sym (first (nat_cmp (length (without_zeros a)) (lengt
     first Equal p h = absurd (h refl)
     first Greater p h = refl
 
-pub by_bytes : (a b : List ℕ) → all_ascii_digits a ≡ true → all_ascii_digits b ≡ true → nat_cmp (length (without_zeros a)) (length (without_zeros b)) ≡ Equal → slice_cmp nat_cmp (without_zeros a) (without_zeros b) ≡ nat_cmp (digits_value 10 a) (digits_value 10 b)
+pub by_bytes : (a b : List ℕ) → all_ascii_digits a ≡ true → all_ascii_digits b ≡ true
+    → nat_cmp (length (without_zeros a)) (length (without_zeros b)) ≡ Equal → slice_cmp nat_cmp
+    (without_zeros a) (without_zeros b) ≡ nat_cmp (digits_value 10 a) (digits_value 10 b)
 by_bytes a b h k same = rw same at (compared a b h k)

@@ -1,5 +1,6 @@
 -- An epoch is read where it is written by digits alone.
-use Rattle.std.proofs.Common.{◌≡◌, ◌≢◌, ℕ, cond, ltb, leb, List, [], ◌∷◌, length, get_or, Ok, Err, refl, arith, inl, inr}
+use Rattle.std.proofs.Common.{◌≡◌, ◌≢◌, ℕ, cond, ltb, leb, List, [], ◌∷◌, length, get_or, Ok, Err}
+use Rattle.std.proofs.Common.{refl, arith, inl, inr}
 use Rattle.std.specs.Str.{all_ascii_digits}
 use Rattle.std.specs.Str.Parse.{digits_value, ParsesUnsigned}
 use Rattle.std.proofs.lemmas.Bool.{and_parts, cases_Bool, ltb-true, lt-ltb, leb-true}
@@ -14,13 +15,15 @@ unfolding digits_at
 signed [] e = absurd (omega arith)
 signed (x ∷ t) e = rw (e, lt-ltb 0 (length (x ∷ t)) (omega arith)) refl
 
-pub parsed : (t : List ℕ) (n : ℕ) → ParsesUnsigned {E = ℕ} 32 10 t (Ok n) → get_or t 0 0 ≢ 43 → digits_at t ≡ cond (leb n 2147483647) (Ok n) (Err BadEpoch)
+pub parsed : (t : List ℕ) (n : ℕ) → ParsesUnsigned {E = ℕ} 32 10 t (Ok n) → get_or t 0 0 ≢ 43
+    → digits_at t ≡ cond (leb n 2147483647) (Ok n) (Err BadEpoch)
 unfolding digits_at
 parsed t n h sign_free =
     let p = parse_plain decimal_model {E = ℕ} 32 t (Ok n) h sign_free in
     rw (lt-ltb 0 (length t) p.0.1, p.0.0, p.1) refl
 
-pub unparsed : (t : List ℕ) → ParsesUnsigned {E = ℕ} 32 10 t (Err 0) → get_or t 0 0 ≢ 43 → digits_at t ≡ Err BadEpoch
+pub unparsed : (t : List ℕ) → ParsesUnsigned {E = ℕ} 32 10 t (Err 0) → get_or t 0 0 ≢ 43
+    → digits_at t ≡ Err BadEpoch
 unfolding digits_at
 unparsed t h sign_free =
     let p = parse_plain decimal_model {E = ℕ} 32 t (Err 0) h sign_free in

@@ -1,5 +1,6 @@
 -- A rebuild suffix is split off where it was written.
-use Rattle.std.proofs.Common.{◌≡◌, ◌≢◌, ℕ, suc, zero, ◌<◌, ◌≤◌, ◌||◌, eqb, List, ◌∷◌, ◌++◌, length, Some, None, refl, sym, ap, subst, ◌∙◌, arith, lit<}
+use Rattle.std.proofs.Common.{◌≡◌, ◌≢◌, ℕ, suc, zero, ◌<◌, ◌≤◌, ◌||◌, eqb, List, ◌∷◌, ◌++◌, length}
+use Rattle.std.proofs.Common.{Some, None, refl, sym, ap, subst, ◌∙◌, arith, lit<}
 use Rattle.std.specs.Prelude.{Option, codes, unwrap_or}
 use Rattle.std.specs.Fmt.{decimal}
 use Rattle.std.proofs.lemmas.Bool.{eqb-false, ne_eqb, or_parts}
@@ -26,7 +27,8 @@ suffix-digits (suc n) some = refl
 above_zero : (n : ℕ) → n ≢ 0 → 0 < n
 above_zero n some = omega arith
 
-rebuild_found : (text base : List ℕ) (n : ℕ) → rebuild_at text ≡ Some (base, n) → IsSplit text base n
+rebuild_found : (text base : List ℕ) (n : ℕ) → rebuild_at text ≡ Some (base, n)
+    → IsSplit text base n
 unfolding rebuild_at
 rebuild_found text base n e =
     let p = chained _ _ _ e in
@@ -49,7 +51,8 @@ rebuild_found text base n e =
       based = based;
     })
 
-pub rebuild_again : (base : List ℕ) (n : ℕ) → 0 < length base → 0 < n → n ≤ 9999 → rebuild_at (rebuild_text base n) ≡ Some (base, n)
+pub rebuild_again : (base : List ℕ) (n : ℕ) → 0 < length base → 0 < n → n ≤ 9999
+    → rebuild_at (rebuild_text base n) ≡ Some (base, n)
 unfolding rebuild_at
 rebuild_again base n based some bounded =
     rw (
@@ -76,7 +79,8 @@ part_again part n some bounded =
     ap (λ (o : Option (List ℕ)). unwrap_or o (rebuild_text part n)) found
 
 -- what was found before a suffix has it behind it in the part
-pub rebuilt_found : (part base : List ℕ) → rebuilt_from part ≡ Some base → (n : ℕ) × (0 < n) × (n ≤ 9999) × (part ≡ rebuild_text base n)
+pub rebuilt_found : (part base : List ℕ) → rebuilt_from part ≡ Some base
+    → (n : ℕ) × (0 < n) × (n ≤ 9999) × (part ≡ rebuild_text base n)
 unfolding rebuilt_from
 rebuilt_found part base e =
     let p = chained _ _ _ e in
@@ -93,7 +97,8 @@ rebuilt_found part base e =
 
 -- ---- of what the call returned
 
-pub found_some : (text base : List ℕ) (n : ℕ) → rebuild_at text ≡ Some (base, n) → IsRebuild text base n
+pub found_some : (text base : List ℕ) (n : ℕ) → rebuild_at text ≡ Some (base, n)
+    → IsRebuild text base n
 found_some text base n e =
     let s = rebuild_found text base n e in
     let some = s.number in
@@ -108,7 +113,8 @@ found_none text e = record {
 }
 
 -- a text is a rebuild in one way
-pub same_rebuild : (text a b : List ℕ) (m n : ℕ) → IsRebuild text a m → IsRebuild text b n → (a ≡ b) × (m ≡ n)
+pub same_rebuild : (text a b : List ℕ) (m n : ℕ) → IsRebuild text a m → IsRebuild text b n
+    → (a ≡ b) × (m ≡ n)
 same_rebuild text a b zero zero p q = (sym (append-nil a) ∙ sym p.spelled ∙ q.spelled ∙ append-nil b, refl)
 same_rebuild text a b zero (suc n) p q = absurd (p.plain refl b (suc n) (q.based (omega arith)) (omega arith) q.bounded (sym (append-nil a) ∙ sym p.spelled ∙ q.spelled))
 same_rebuild text a b (suc m) zero p q = absurd (q.plain refl a (suc m) (p.based (omega arith)) (omega arith) p.bounded (sym (append-nil b) ∙ sym q.spelled ∙ p.spelled))

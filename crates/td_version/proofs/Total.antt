@@ -1,13 +1,17 @@
--- The order of versions is a total preorder: lists that are made equally long are compared place by place.
-use Rattle.std.proofs.Common.{◌≡◌, ◌≢◌, ℕ, zero, suc, ◌+◌, ◌≤◌, List, [], ◌∷◌, length, refl, sym, ap, ◌∙◌, false, arith}
+-- The order of versions is a total preorder:
+-- lists that are made equally long are compared place by place.
+use Rattle.std.proofs.Common.{◌≡◌, ◌≢◌, ℕ, zero, suc, ◌+◌, ◌≤◌, List, [], ◌∷◌, length, refl, sym}
+use Rattle.std.proofs.Common.{ap, ◌∙◌, false, arith}
 use Rattle.std.specs.Prelude.{codes, Some, None}
 use Rattle.std.specs.Cmp.{IsTotalOrder}
 use Rattle.std.specs.Cmp.Lexicographic.{slice_cmp}
 use Rattle.std.specs.Ordering.{is_gt, ordering_then, ordering_reverse}
 use Rattle.std.specs.declared.cmp.Ordering.{Ordering}
 use Rattle.std.specs.declared.cmp.Ordering.TheVariants.{Less, Equal, Greater}
-use Rattle.std.proofs.lemmas.Cmp.{on_total, then_total, lists_total, nat_cmp_total, nat_list_cmp_total, tied_itself, upto}
-use Rattle.td_version.specs.Order.{Pair, marks, number, pair_cmp, nothing, pairs, pairs_cmp, part_cmp, revision_or_zero, version_cmp}
+use Rattle.std.proofs.lemmas.Cmp.{on_total, then_total, lists_total, nat_cmp_total}
+use Rattle.std.proofs.lemmas.Cmp.{nat_list_cmp_total, tied_itself, upto}
+use Rattle.td_version.specs.Order.{Pair, marks, number, pair_cmp, nothing, pairs, pairs_cmp}
+use Rattle.td_version.specs.Order.{part_cmp, revision_or_zero, version_cmp}
 use Rattle.td_text.specs.Cut.{cut}
 use Rattle.td_version.specs.Reading.{pieces, cut_last, epoch_at, revision_at, judged}
 use Rattle.td_version.specs.Laws.{IsReflexive, IsTotal, IsTransitive, SomeTextsAreEqualInOrder}
@@ -22,7 +26,8 @@ pad zero ps = ps
 pad (suc n) [] = nothing ∷ pad n []
 pad (suc n) (p ∷ ps) = p ∷ pad n ps
 
-as_padded : (n : ℕ) (a b : List Pair) → length a ≤ n → length b ≤ n → pairs_cmp a b ≡ slice_cmp pair_cmp (pad n a) (pad n b)
+as_padded : (n : ℕ) (a b : List Pair) → length a ≤ n → length b ≤ n
+    → pairs_cmp a b ≡ slice_cmp pair_cmp (pad n a) (pad n b)
 unfolding pairs_cmp pad
 as_padded zero [] [] h k = refl
 as_padded zero [] (q ∷ qs) h k = absurd (omega arith)

@@ -1,16 +1,20 @@
 -- The pairs of a part are its runs.
-use Rattle.std.proofs.Common.{◌≡◌, ℕ, ◌+◌, ◌<◌, true, false, List, [], ◌∷◌, length, refl, ap, arith, inl, inr}
+use Rattle.std.proofs.Common.{◌≡◌, ℕ, ◌+◌, ◌<◌, true, false, List, [], ◌∷◌, length, refl, ap, arith}
+use Rattle.std.proofs.Common.{inl, inr}
 use Rattle.std.specs.Char.{is_ascii_digit}
 use Rattle.std.proofs.lemmas.Bool.{cases_Bool, and_from, not_from_false}
 use Rattle.td_version.specs.Order.{Pair, symbol_onto, digit_beside, digit_onto, pairs}
 use Rattle.td_version.specs.Runs.{AreInTurn, AreRunsOf, PairsAreRuns}
 
 -- more in front of the first pair leaves the pairs in turn
-in_turn-front : (p q : Pair) (ps : List Pair) → length p.symbols + length p.digits < length q.symbols + length q.digits → (0 < length p.digits → 0 < length q.digits) → AreInTurn (p ∷ ps) → AreInTurn (q ∷ ps)
+in_turn-front : (p q : Pair) (ps : List Pair)
+    → length p.symbols + length p.digits < length q.symbols + length q.digits
+    → (0 < length p.digits → 0 < length q.digits) → AreInTurn (p ∷ ps) → AreInTurn (q ∷ ps)
 in_turn-front p q [] more some h = omega arith
 in_turn-front p q (r ∷ ps) more some h = (some h.0, h.1, h.2)
 
-symbol_runs : (b : ℕ) (t : List ℕ) (ps : List Pair) → is_ascii_digit b ≡ false → AreRunsOf t ps → AreRunsOf (b ∷ t) (symbol_onto b ps)
+symbol_runs : (b : ℕ) (t : List ℕ) (ps : List Pair) → is_ascii_digit b ≡ false → AreRunsOf t ps
+    → AreRunsOf (b ∷ t) (symbol_onto b ps)
 symbol_runs b t [] symbol r = record {
   joined = ap (λ (l : List ℕ). b ∷ l) r.joined;
   each = ((and_from _ _ (not_from_false (is_ascii_digit b) symbol) refl, refl), tt);
@@ -34,7 +38,8 @@ beside_runs b t (s ∷ symbols) digits ps digit r = record {
   in_turn = (omega arith, omega arith, r.in_turn);
 }
 
-digit_runs : (b : ℕ) (t : List ℕ) (ps : List Pair) → is_ascii_digit b ≡ true → AreRunsOf t ps → AreRunsOf (b ∷ t) (digit_onto b ps)
+digit_runs : (b : ℕ) (t : List ℕ) (ps : List Pair) → is_ascii_digit b ≡ true → AreRunsOf t ps
+    → AreRunsOf (b ∷ t) (digit_onto b ps)
 digit_runs b t [] digit r = record {
   joined = ap (λ (l : List ℕ). b ∷ l) r.joined;
   each = ((refl, and_from _ _ digit refl), tt);

@@ -1,5 +1,6 @@
 -- A version without the suffix of a rebuild. This project's own.
-use Rattle.std.specs.Prelude.{◌≡◌, ℕ, ◌==◌, ◌&&◌, ◌<◌, ◌≤◌, List, Option, Some, None, length, unwrap_or, codes, if◌then◌else◌}
+use Rattle.std.specs.Prelude.{◌≡◌, ℕ, ◌==◌, ◌&&◌, ◌<◌, ◌≤◌, List, Option, Some, None, length}
+use Rattle.std.specs.Prelude.{unwrap_or, codes, if◌then◌else◌}
 use Rattle.td_text.specs.Limits.{max_rebuild}
 use Rattle.td_text.specs.Chain.{◌>>=◌}
 use Rattle.td_text.specs.Cut.{strip}
@@ -21,22 +22,36 @@ rebuilt_from part = do
 abbrev pub base_part : List ℕ → List ℕ
 base_part part = unwrap_or (rebuilt_from part) part
 
--- the same of an upstream part behind an epoch; it is its own base where nothing else would be left of the version. An epoch of 0 counts as none
+-- the same of an upstream part behind an epoch;
+-- it is its own base where nothing else would be left of the version. An epoch of 0 counts as none
 abbrev pub upstream_base : ℕ → List ℕ → List ℕ
-upstream_base epoch upstream = if (length (base_part upstream) == 0) && (epoch == 0) then upstream else base_part upstream
+upstream_base epoch upstream = if (length (base_part upstream) == 0) && (epoch == 0) then upstream
+    else base_part upstream
 
--- the version without it at the end of its revision, or of its upstream part where no revision is written
+-- the version without it at the end of its revision,
+-- or of its upstream part where no revision is written
 abbrev pub base_by : ℕ → List ℕ → Option (List ℕ) → Parts
-base_by epoch upstream None = record { epoch = epoch; upstream = upstream_base epoch upstream; revision = None }
-base_by epoch upstream (Some revision) = record { epoch = epoch; upstream = upstream; revision = Some (base_part revision) }
+base_by epoch upstream None = record {
+  epoch = epoch;
+  upstream = upstream_base epoch upstream;
+  revision = None;
+}
+base_by epoch upstream (Some revision) = record {
+  epoch = epoch;
+  upstream = upstream;
+  revision = Some (base_part revision);
+}
 
 abbrev pub base_of : Parts → Parts
 base_of p = base_by p.epoch p.upstream p.revision
 
 -- a part with the suffix of a rebuild has the part itself as its base
 abbrev pub RebuildsHaveBases : Type 0
-RebuildsHaveBases = (part : List ℕ) (n : ℕ) → 0 < n → n ≤ max_rebuild → base_part (rebuild_text part n) ≡ part
+RebuildsHaveBases = (part : List ℕ) (n : ℕ) → 0 < n → n ≤ max_rebuild
+    → base_part (rebuild_text part n) ≡ part
 
--- where a text splits into a base and a number, and the base is a version, it is the base of the version that the text is
+-- where a text splits into a base and a number, and the base is a version,
+-- it is the base of the version that the text is
 abbrev pub SplitsHaveBases : Type 0
-SplitsHaveBases = (text base : List ℕ) (n : ℕ) (p q : Parts) → IsRebuild text base n → IsVersion text p → IsVersion base q → base_of p ≡ q
+SplitsHaveBases = (text base : List ℕ) (n : ℕ) (p q : Parts) → IsRebuild text base n
+    → IsVersion text p → IsVersion base q → base_of p ≡ q

@@ -1,13 +1,17 @@
 -- What is wrong with a text that is no version: its first fault from the left.
-use Rattle.std.specs.Prelude.{◌≡◌, ℕ, ◌+◌, not, ◌⊎◌, Bool, List, [], Some, is_some, length, position}
+use Rattle.std.specs.Prelude.{◌≡◌, ℕ, ◌+◌, not, ◌⊎◌, Bool, List, [], Some, is_some, length}
+use Rattle.std.specs.Prelude.{position}
 use Rattle.td_version.specs.declared.version.VersionFault.{VersionFault}
-use Rattle.td_version.specs.declared.version.VersionFault.TheVariants.{Empty, BadEpoch, BadCharacter}
-use Rattle.td_version.specs.Grammar.{Written, IsCut, epoch_front, is_upstream_byte, is_revision_byte, EpochFits, UpstreamFits}
+use Rattle.td_version.specs.declared.version.VersionFault.TheVariants.{Empty, BadEpoch}
+use Rattle.td_version.specs.declared.version.VersionFault.TheVariants.{BadCharacter}
+use Rattle.td_version.specs.Grammar.{Written, IsCut, epoch_front, is_upstream_byte}
+use Rattle.td_version.specs.Grammar.{is_revision_byte, EpochFits, UpstreamFits}
 
 -- The first byte that may not stand in a part is at this place of the text, in which the part
 -- begins at `start`.
 abbrev pub IsFirstBad : (ℕ → Bool) → ℕ → List ℕ → ℕ → Type 0
-IsFirstBad may start part place = (i : ℕ) × (position (λ b. not (may b)) part ≡ Some i) × (place ≡ start + i)
+IsFirstBad may start part place = (i : ℕ) × (position (λ b. not (may b)) part ≡ Some i)
+    × (place ≡ start + i)
 
 -- where the upstream part begins, and where the revision does
 abbrev pub upstream_start : Written → ℕ

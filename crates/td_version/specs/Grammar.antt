@@ -1,5 +1,6 @@
 -- Which texts are versions: Debian Policy 5.6.12, deb-version(7).
-use Rattle.std.specs.Prelude.{◌≡◌, ℕ, ◌==◌, nat_lt, nat_le, ◌&&◌, ◌||◌, Bool, IsTrue, List, [], ◌∷◌, ◌++◌, Option, Some, None, is_some, length}
+use Rattle.std.specs.Prelude.{◌≡◌, ℕ, ◌==◌, nat_lt, nat_le, ◌&&◌, ◌||◌, Bool, IsTrue, List, [], ◌∷◌}
+use Rattle.std.specs.Prelude.{◌++◌, Option, Some, None, is_some, length}
 use Rattle.std.specs.Char.{is_ascii_digit}
 use Rattle.std.specs.List.{list_all}
 use Rattle.std.specs.Str.{all_ascii_digits}
@@ -56,7 +57,8 @@ is_upstream_byte has_epoch b = is_revision_byte b || ((b == 45) || (has_epoch &&
 -- One digit or more, of a number of at most 2,147,483,647 (this project's limit, and dpkg's).
 abbrev pub is_epoch : List ℕ → Bool
 is_epoch digits =
-    nat_lt 0 (length digits) && (all_ascii_digits digits && nat_le (digits_value 10 digits) 2147483647)
+    nat_lt 0 (length digits)
+    && (all_ascii_digits digits && nat_le (digits_value 10 digits) 2147483647)
 
 -- a part with a byte or more, each of which may stand in it
 abbrev pub is_part : (ℕ → Bool) → List ℕ → Bool
@@ -83,7 +85,11 @@ epoch_number (Some digits) = digits_value 10 digits
 
 -- what a version as it is written stands for
 abbrev pub parts_written : Written → Parts
-parts_written w = record { epoch = epoch_number w.epoch; upstream = w.upstream; revision = w.revision }
+parts_written w = record {
+  epoch = epoch_number w.epoch;
+  upstream = w.upstream;
+  revision = w.revision;
+}
 
 -- The text is a version, and these are its parts.
 pub record IsVersion (text : List ℕ) (p : Parts) : Type 0 where

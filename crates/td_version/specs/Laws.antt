@@ -46,5 +46,6 @@ RebuildsAreVersions =
 abbrev pub RebuildsRise : Type 0
 RebuildsRise =
     (base : List ℕ) (m n : ℕ) → m < n → n ≤ max_rebuild →
-    (low high : Parts) → IsVersion (rebuild_text base m) low → IsVersion (rebuild_text base n) high →
+    (low high : Parts) → IsVersion (rebuild_text base m) low
+    → IsVersion (rebuild_text base n) high →
     version_cmp low high ≡ Less

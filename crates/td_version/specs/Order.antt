@@ -1,5 +1,6 @@
 -- The order of versions: Debian Policy 5.6.12, deb-version(7) "Sorting algorithm".
-use Rattle.std.specs.Prelude.{ℕ, ◌+◌, ◌==◌, nat_le, ◌&&◌, ◌||◌, Bool, List, [], ◌∷◌, ◌++◌, Option, map, codes, unwrap_or, if◌then◌else◌}
+use Rattle.std.specs.Prelude.{ℕ, ◌+◌, ◌==◌, nat_le, ◌&&◌, ◌||◌, Bool, List, [], ◌∷◌, ◌++◌, Option}
+use Rattle.std.specs.Prelude.{map, codes, unwrap_or, if◌then◌else◌}
 use Rattle.std.specs.Char.{is_ascii_digit}
 use Rattle.std.specs.Ordering.{is_eq, nat_cmp, on, then_cmp, ordering_then}
 use Rattle.std.specs.declared.cmp.Ordering.{Ordering}
@@ -22,7 +23,8 @@ symbol_onto b (p ∷ ps) = record { symbols = b ∷ p.symbols; digits = p.digits
 abbrev pub digit_beside : ℕ → List ℕ → List ℕ → List Pair → List Pair
 digit_beside b [] digits ps = record { symbols = []; digits = b ∷ digits } ∷ ps
 digit_beside b (s ∷ symbols) digits ps =
-    record { symbols = []; digits = b ∷ [] } ∷ (record { symbols = s ∷ symbols; digits = digits } ∷ ps)
+    record { symbols = []; digits = b ∷ [] } ∷
+    (record { symbols = s ∷ symbols; digits = digits } ∷ ps)
 
 -- .. and is else a pair of its own.
 abbrev pub digit_onto : ℕ → List Pair → List Pair

@@ -1,10 +1,12 @@
 -- What the reader computes. proofs/Outcomes.antt joins it to the grammar and the faults.
-use Rattle.std.specs.Prelude.{ℕ, ◌+◌, ◌==◌, not, Bool, List, [], ◌∷◌, Option, Some, None, is_some, option_map, Result, Ok, Err, length, position, if◌then◌else◌}
+use Rattle.std.specs.Prelude.{ℕ, ◌+◌, ◌==◌, not, Bool, List, [], ◌∷◌, Option, Some, None, is_some}
+use Rattle.std.specs.Prelude.{option_map, Result, Ok, Err, length, position, if◌then◌else◌}
 use Rattle.std.specs.Str.Parse.{digits_value}
 use Rattle.td_text.specs.Cut.{cut}
 use Rattle.td_version.specs.declared.version.Version.{Version}
 use Rattle.td_version.specs.declared.version.VersionFault.{VersionFault}
-use Rattle.td_version.specs.declared.version.VersionFault.TheVariants.{Empty, BadEpoch, BadCharacter}
+use Rattle.td_version.specs.declared.version.VersionFault.TheVariants.{Empty, BadEpoch}
+use Rattle.td_version.specs.declared.version.VersionFault.TheVariants.{BadCharacter}
 use Rattle.td_version.specs.declared.reading.Pieces.{Pieces}
 use Rattle.td_version.specs.Version.{Parts, parts_of}
 use Rattle.td_version.specs.Grammar.{Written, is_epoch, is_upstream_byte, is_revision_byte}
@@ -43,7 +45,8 @@ written_of p = record {
 
 -- what a step goes on with
 infixl 10 ◌>>=◌
-abbrev pub ◌>>=◌ : {A B : Type 0} → Result A VersionFault → (A → Result B VersionFault) → Result B VersionFault
+abbrev pub ◌>>=◌ : {A B : Type 0} → Result A VersionFault → (A → Result B VersionFault)
+    → Result B VersionFault
 (Ok x) >>= f = f x
 (Err fault) >>= f = Err fault
 

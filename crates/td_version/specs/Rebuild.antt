@@ -1,6 +1,7 @@
 -- The version of a binary rebuild: its base, and `+bN` for the Nth rebuild (Developer's Reference
 -- 5.10.2.1, "Recompilation, or binary-only NMU").
-use Rattle.std.specs.Prelude.{◌≡◌, ◌≢◌, ℕ, zero, suc, ◌<◌, ◌≤◌, List, [], ◌++◌, length, codes, decimal}
+use Rattle.std.specs.Prelude.{◌≡◌, ◌≢◌, ℕ, zero, suc, ◌<◌, ◌≤◌, List, [], ◌++◌, length, codes}
+use Rattle.std.specs.Prelude.{decimal}
 use Rattle.td_text.specs.Limits.{max_rebuild}
 
 -- what the Nth rebuild appends: nothing before the first

@@ -7,7 +7,8 @@ use Rattle.td_version.specs.Order.{Pair, pairs}
 
 -- symbols aren't digits, and digits are
 abbrev pub IsPair : Pair → Type 0
-IsPair p = IsTrue (list_all (λ b. not (is_ascii_digit b)) p.symbols) × IsTrue (all_ascii_digits p.digits)
+IsPair p = IsTrue (list_all (λ b. not (is_ascii_digit b)) p.symbols)
+    × IsTrue (all_ascii_digits p.digits)
 
 -- Only the first pair may lack symbols, and only the last may lack digits.
 abbrev pub AreInTurn : List Pair → Type 0

@@ -1,6 +1,8 @@
 //! What a version is without the number of a rebuild.
 ghost use Rattle.std.specs.Prelude.{◌≡◌, option_map};
-ghost use Rattle.td_version.specs.Base.{base_of as base_of_parts, base_part as base_part_of, rebuilt_from as rebuilt_from_of, upstream_base as upstream_base_of};
+ghost use Rattle.td_version.specs.Base.{base_of as base_of_parts, base_part as base_part_of};
+ghost use Rattle.td_version.specs.Base.{rebuilt_from as rebuilt_from_of};
+ghost use Rattle.td_version.specs.Base.{upstream_base as upstream_base_of};
 ghost use Rattle.td_version.specs.Version.{parts_of};
 
 use crate::cutting::cut_at_last;

@@ -4,7 +4,8 @@ ghost use Rattle.std.specs.Char.{is_ascii_digit};
 ghost use Rattle.std.specs.Ordering.{nat_cmp};
 ghost use Rattle.std.specs.Str.{all_ascii_digits};
 ghost use Rattle.std.specs.Str.Parse.{digits_value};
-ghost use Rattle.td_version.specs.Order.{mark_of as mark_of_symbol, part_cmp, same_version, version_cmp};
+ghost use Rattle.td_version.specs.Order.{mark_of as mark_of_symbol, part_cmp, same_version};
+ghost use Rattle.td_version.specs.Order.{version_cmp};
 ghost use Rattle.td_version.specs.Version.{parts_of};
 ghost use Rattle.td_version.specs.Comparing.{
   after_digits,

@@ -1,5 +1,6 @@
 //! How a version is read.
-ghost use Rattle.std.specs.Prelude.{◌≡◌, ◌<◌, ◌≤◌, ◌+◌, ◌^◌, IfOk, IfSome, length, not, option_map, position};
+ghost use Rattle.std.specs.Prelude.{◌≡◌, ◌<◌, ◌≤◌, ◌+◌, ◌^◌, IfOk, IfSome, length, not, option_map};
+ghost use Rattle.std.specs.Prelude.{position};
 ghost use Rattle.std.specs.Option.{ForSome};
 ghost use Rattle.td_version.specs.Grammar.{
   is_revision_byte as revision_byte,

@@ -43,9 +43,11 @@ impl<'a> Version<'a> {
     /// Reads `[epoch:]upstream[-revision]`.
     pub fn read(text: &'a str) -> Result<Version<'a>, VersionFault>
         ensures found { IfOk result (λ version. IsVersion text.now (parts_of version)) }
-        ensures only { (p : Parts) → IsVersion text.now p → IsOkAnd result (λ version. parts_of version ≡ p) }
+        ensures only { (p : Parts) → IsVersion text.now p
+            → IsOkAnd result (λ version. parts_of version ≡ p) }
         ensures fault { IfErr result (λ fault. IsFirstFault text.now fault) }
-        ensures refused { (fault : VersionFault) → IsFirstFault text.now fault → IsErrOf result fault }
+        ensures refused { (fault : VersionFault) → IsFirstFault text.now fault
+            → IsErrOf result fault }
     {
         reading::read(text)
     }

@@ -15,4 +15,5 @@ compared = 32
 -- the names kept are those of the fields behind these, in whatever case
 abbrev pub AreNoted : Names → List Field → Type 0
 AreNoted names fields = (key : FoldedName) →
-    contains same_folded names.further key ≡ list_any (λ field. is_same_name key.name.now field.name.now) (drop compared fields)
+    contains same_folded names.further key
+    ≡ list_any (λ field. is_same_name key.name.now field.name.now) (drop compared fields)

@@ -1,3 +1,4 @@
+-- `laid_out`: the call of `of_words` and its type's invariant.
 use Rattle.std.proofs.Common.{rules, arith, ◌≡◌, ◌+◌, refl, sym, subst, replicate}
 use Rattle.std.proofs.lemmas.Grind.{common_steps}
 use Rattle.td_board.specs.Knowledge.{new_desk}

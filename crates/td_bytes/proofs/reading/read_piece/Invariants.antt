@@ -1,3 +1,4 @@
+-- What the loop of `read_piece` keeps.
 use Rattle.std.proofs.Common.{◌≡◌, length}
 use Rattle.std.specs.Io.KnownBytes.{Keeps}
 use Rattle.td_bytes.proofs.reading.read_piece.Given as goal

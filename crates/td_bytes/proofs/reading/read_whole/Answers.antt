@@ -1,3 +1,4 @@
+-- `read_whole`: the clause `lost` where memory is wanting.
 use Rattle.std.proofs.KnownBytes.{Consumes-trans}
 use Rattle.td_bytes.proofs.reading.read_whole.Goals as goal
 

@@ -1,3 +1,4 @@
+-- What the loop of `read_whole` keeps, and why it ends.
 use Rattle.std.proofs.Common.{◌+◌, ◌-◌, length}
 use Rattle.std.specs.Io.KnownBytes.{Consumes}
 use Rattle.td_bytes.proofs.reading.read_whole.Given as goal

@@ -1,3 +1,4 @@
+-- What the loop of `flush` keeps.
 use Rattle.std.specs.Io.KnownBytes.{Keeps}
 use Rattle.td_bytes.proofs.writing.flush.Given as goal
 

@@ -1,3 +1,4 @@
+-- What the loop of `write_piece` keeps.
 use Rattle.std.specs.Io.KnownBytes.{Keeps}
 use Rattle.td_bytes.proofs.writing.write_piece.Given as goal
 

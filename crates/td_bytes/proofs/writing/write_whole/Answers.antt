@@ -1,3 +1,4 @@
+-- `write_whole`: its loop.
 use Rattle.std.proofs.Common.{◌++◌, ◌∙◌, take, ap, sym}
 use Rattle.std.proofs.lemmas.List.{take_rest}
 use Rattle.std.proofs.KnownBytes.{Appends-trans}

@@ -1,3 +1,4 @@
+-- What the loop of `write_whole` keeps, and why it ends.
 use Rattle.std.proofs.Common.{◌≡◌, ℕ, List, ◌++◌, length}
 use Rattle.std.specs.Io.KnownBytes.{Appends}
 use Rattle.td_bytes.proofs.writing.write_whole.Given as goal

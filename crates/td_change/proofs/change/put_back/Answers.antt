@@ -1,3 +1,4 @@
+-- `put_back`: its loop.
 use Rattle.std.proofs.Common.{ℕ, List, ap, sym, ◌∙◌}
 use Rattle.td_rows.specs.declared.row.Row.{Row}
 use Rattle.td_change.specs.Inside.{put_back}

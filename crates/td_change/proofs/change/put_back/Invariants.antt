@@ -1,3 +1,4 @@
+-- What the loop of `put_back` keeps, and why it ends.
 use Rattle.std.proofs.Common.{◌≡◌, vec_len}
 use Rattle.td_change.specs.Inside.{put_back}
 use Rattle.td_change.proofs.change.put_back.Given as goal

@@ -1,3 +1,4 @@
+-- `changes_are_taken_back`: the clauses `at_once`, `past_others` and `lawful`.
 use Rattle.td_change.proofs.Passing.{back_at_once, back_past_others, lawful_without}
 use Rattle.td_change.proofs.laws.changes_are_taken_back.Goals as goal
 

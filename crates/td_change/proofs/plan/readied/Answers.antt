@@ -1,3 +1,4 @@
+-- `readied`: its loop.
 use Rattle.std.proofs.Common.{◌≡◌, ◌+◌, ℕ, List, map, take, ap, ◌∙◌, arith}
 use Rattle.std.specs.BTreeMap.{BTreeMap, insert_entry}
 use Rattle.td_rows.specs.declared.key.Key.{Key}
@@ -8,7 +9,9 @@ use Rattle.td_rows.specs.Table.{IsAt}
 use Rattle.td_change.specs.Inside.{ready}
 use Rattle.td_change.proofs.Plans.{entries-next, no_row}
 use Rattle.td_change.proofs.plan.readied.Goals as goal
-use Rattle.td_change.proofs.plan.readied.Goals.{in-Some+in_ok-texts+in_ok-copy+in_ok-insert+in-Some-1, in-Some+in_ok-texts+in_ok-copy+in_ok-insert+in-None-1, in_default}
+use Rattle.td_change.proofs.plan.readied.Goals.{in-Some+in_ok-texts+in_ok-copy+in_ok-insert+in-Some-1}
+use Rattle.td_change.proofs.plan.readied.Goals.{in-Some+in_ok-texts+in_ok-copy+in_ok-insert+in-None-1}
+use Rattle.td_change.proofs.plan.readied.Goals.{in_default}
 
 pub loop-key-preserved : goal.loop-key-preserved
 loop-key-preserved c =

@@ -1,3 +1,4 @@
+-- What the loop of `readied` keeps.
 use Rattle.std.proofs.Common.{◌≡◌, map, take}
 use Rattle.td_change.specs.Inside.{ready}
 use Rattle.td_change.proofs.plan.readied.Given as goal

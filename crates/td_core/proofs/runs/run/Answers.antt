@@ -1,3 +1,4 @@
+-- `run`: its loop.
 use Rattle.std.proofs.Common.{[], ◌++◌, ◌∷◌, ap, sym, ◌∙◌}
 use Rattle.td_supply.specs.Supply.{stock_of}
 use Rattle.td_core.specs.Worlds.{WorldView, world_of}

@@ -1,3 +1,4 @@
+-- What the loop of `run` keeps.
 use Rattle.std.proofs.Common.{◌≡◌}
 use Rattle.td_supply.specs.Supply.{stock_of}
 use Rattle.td_core.specs.Worlds.{world_of}

@@ -1,3 +1,4 @@
+-- `put_phase`: what it answers and the call of `index_mut`.
 use Rattle.std.proofs.Common.{ℕ, set, sym, ap, subst, ◌∙◌, arith}
 use Rattle.std.proofs.lemmas.Option.{slice_get_within}
 use Rattle.td_rows.specs.Table.{Table, IsAt, row_of}

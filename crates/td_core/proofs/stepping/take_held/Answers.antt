@@ -1,4 +1,6 @@
-use Rattle.std.proofs.Common.{◌≡◌, ℕ, ◌-◌, ◌<◌, List, Some, None, length, get_or, slice_get, ap, refl, sym, ◌∙◌}
+-- `take_held`: the clauses `key` and `stays`.
+use Rattle.std.proofs.Common.{◌≡◌, ℕ, ◌-◌, ◌<◌, List, Some, None, length, get_or, slice_get, ap}
+use Rattle.std.proofs.Common.{refl, sym, ◌∙◌}
 use Rattle.std.proofs.lemmas.Option.{slice_get-get_or}
 use Rattle.td_rows.specs.declared.key.Key.{Key}
 use Rattle.td_core.specs.declared.step.Hand.{Hand}
@@ -14,7 +16,8 @@ none_held (Holding k) other = absurd (other k refl)
 none_held (Finished k o) other = refl
 
 -- the hand that was taken out stands there
-there : (hands : List Hand) (i : ℕ) (h taken : Hand) → i < length hands → taken ≡ h → h ≡ get_or hands i h → slice_get hands i ≡ Some taken
+there : (hands : List Hand) (i : ℕ) (h taken : Hand) → i < length hands → taken ≡ h
+    → h ≡ get_or hands i h → slice_get hands i ≡ Some taken
 there hands i h taken within was is = slice_get-get_or hands i h within ∙ ap (λ (x : Hand). Some x) (sym is ∙ sym was)
 
 pub returns-in_default-clause-key : goal.returns-in_default-clause-key

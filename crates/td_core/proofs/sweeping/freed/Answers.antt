@@ -1,4 +1,6 @@
-use Rattle.std.proofs.Common.{Vec, Global, ◌<◌, ◌++◌, ◌∷◌, [], List, length, if◌then◌else◌, ap, sym, ◌∙◌}
+-- `freed`: its loop.
+use Rattle.std.proofs.Common.{Vec, Global, ◌<◌, ◌++◌, ◌∷◌, [], List, length, if◌then◌else◌, ap, sym}
+use Rattle.std.proofs.Common.{◌∙◌}
 use Rattle.td_rows.specs.declared.key.Key.{Key}
 use Rattle.td_rows.proofs.Lists.{slice_get-none}
 use Rattle.td_core.specs.Offers.{is_freed}

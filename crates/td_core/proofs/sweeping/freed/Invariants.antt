@@ -1,3 +1,4 @@
+-- What the loop of `freed` keeps.
 use Rattle.std.proofs.Common.{◌≡◌, take}
 use Rattle.td_core.specs.Offers.{freed}
 use Rattle.td_core.proofs.sweeping.freed.Given as goal

@@ -1,3 +1,4 @@
+-- What the loop of `closed` keeps.
 use Rattle.std.proofs.Common.{◌≡◌, replicate}
 use Rattle.td_core.specs.declared.step.Phase.TheVariants.{Closed}
 use Rattle.td_core.proofs.world.closed.Given as goal

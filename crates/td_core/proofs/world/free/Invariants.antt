@@ -1,3 +1,4 @@
+-- What the loop of `free` keeps.
 use Rattle.std.proofs.Common.{◌≡◌, replicate}
 use Rattle.td_core.specs.declared.step.Hand.TheVariants.{Free}
 use Rattle.td_core.proofs.world.free.Given as goal

@@ -1,3 +1,4 @@
+-- `read_parts`: what it answers.
 use Rattle.td_relation.proofs.VersionTexts.{read_is}
 use Rattle.td_relation.proofs.alternative_reading.read_parts.Goals as goal
 

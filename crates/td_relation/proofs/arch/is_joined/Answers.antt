@@ -1,3 +1,4 @@
+-- `is_joined`: what it answers.
 use Rattle.std.proofs.Common.{◌∙◌}
 use Rattle.td_relation.proofs.Lists.{joined_some, joined_none}
 use Rattle.td_relation.proofs.arch.is_joined.Goals as goal

@@ -1,3 +1,4 @@
+-- `counts`: what it answers.
 use Rattle.std.proofs.Common.{◌∙◌, ap, sym, cond, not}
 use Rattle.std.specs.List.{slice_split}
 use Rattle.td_relation.specs.Arch.{words_of}

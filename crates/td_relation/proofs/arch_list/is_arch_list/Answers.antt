@@ -1,3 +1,4 @@
+-- `is_arch_list`: what it answers.
 use Rattle.std.proofs.Common.{◌∙◌, ◌&&◌, ◌||◌, Bool, ap, sym}
 use Rattle.std.specs.List.{slice_split}
 use Rattle.td_text.specs.Runs.{is_space}

@@ -1,3 +1,4 @@
+-- `is_unprofiled`: what it answers.
 use Rattle.std.specs.List.{slice_split}
 use Rattle.td_text.specs.Runs.{is_space}
 use Rattle.td_relation.proofs.PieceLaws.{unprofiled-by}

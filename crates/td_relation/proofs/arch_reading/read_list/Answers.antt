@@ -1,4 +1,6 @@
-use Rattle.std.proofs.Common.{◌≡◌, ◌≢◌, ◌+◌, length, subst, ap, arith, rules, sym, ◌∙◌, false, true, map, List, Ok, ◌++◌, ◌∷◌, []}
+-- `read_list`: the clauses `err` and `ok` and its loop.
+use Rattle.std.proofs.Common.{◌≡◌, ◌≢◌, ◌+◌, length, subst, ap, arith, rules, sym, ◌∙◌, false, true}
+use Rattle.std.proofs.Common.{map, List, Ok, ◌++◌, ◌∷◌, []}
 use Rattle.std.proofs.lemmas.Result.{err_from_is_err_and}
 use Rattle.td_text.specs.Lines.{left_len}
 use Rattle.td_text.proofs.Lines.{taken, stepped, skips, ends}

@@ -1,3 +1,4 @@
+-- What the loop of `read_list` keeps, and why it ends.
 use Rattle.std.proofs.Common.{◌≡◌, ◌+◌, ◌≤◌, length, map}
 use Rattle.td_text.specs.Lines.{over_lines, lines_left, left_len}
 use Rattle.td_relation.specs.Arch.{words_of}

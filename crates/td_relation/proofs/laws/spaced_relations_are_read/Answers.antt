@@ -1,4 +1,6 @@
-use Rattle.td_relation.proofs.SpacedRelations.{spaced_relations_are_read, whitespace_makes_no_difference}
+-- `spaced_relations_are_read`: what it answers.
+use Rattle.td_relation.proofs.SpacedRelations.{spaced_relations_are_read}
+use Rattle.td_relation.proofs.SpacedRelations.{whitespace_makes_no_difference}
 use Rattle.td_relation.proofs.laws.spaced_relations_are_read.Goals as goal
 
 pub returns : goal.returns

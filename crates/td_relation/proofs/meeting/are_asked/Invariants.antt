@@ -1,3 +1,4 @@
+-- What the loop of `are_asked` keeps.
 use Rattle.std.proofs.Common.{◌≡◌, ◌≤◌, ◌&&◌, List, length, drop}
 use Rattle.std.specs.List.{list_any}
 use Rattle.std.specs.Str.{bytes_eq}

@@ -1,3 +1,4 @@
+-- What the loop of `are_met` keeps.
 use Rattle.std.proofs.Common.{◌≡◌, ◌≤◌, List, length, map, drop}
 use Rattle.std.specs.List.{list_all}
 use Rattle.td_relation.specs.declared.relation.Alternative.{Alternative}

@@ -1,3 +1,4 @@
+-- `is_member_met`: what it answers.
 use Rattle.std.proofs.Common.{◌∙◌, ◌||◌, ap, sym, not}
 use Rattle.td_relation.specs.Arch.{words_of}
 use Rattle.td_relation.proofs.MemberLaws.{member_met-by}

@@ -1,3 +1,4 @@
+-- `read_profiles`: what it answers and its loop.
 use Rattle.std.proofs.Common.{◌∙◌, ap, sym}
 use Rattle.td_text.specs.Lines.{on_ok}
 use Rattle.td_relation.specs.RelationGrammar.{profile_step, ended}

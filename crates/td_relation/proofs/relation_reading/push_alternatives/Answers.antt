@@ -1,3 +1,4 @@
+-- `push_alternatives`: the clauses `err` and `ok` and its loop.
 use Rattle.std.proofs.Common.{map, arith}
 use Rattle.td_relation.specs.Asked.{asked}
 use Rattle.td_relation.specs.RelationGrammar.{alternative_step}

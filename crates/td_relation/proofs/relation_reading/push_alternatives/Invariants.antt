@@ -1,3 +1,4 @@
+-- What the loop of `push_alternatives` keeps, and why it ends.
 use Rattle.std.proofs.Common.{◌≡◌, ◌≤◌, length, map}
 use Rattle.td_relation.specs.Asked.{asked}
 use Rattle.td_relation.specs.Pieces.{left_len, pieces_left, pieces_of}

@@ -1,3 +1,4 @@
+-- `push_member`: the clauses `err`, `ok` and `whole`.
 use Rattle.std.proofs.Common.{◌≡◌, ◌∙◌, ℕ, ◌-◌, List, Ok, length, ap, sym, map, arith}
 use Rattle.td_relation.specs.Asked.{asked}
 use Rattle.td_relation.specs.Members.{chunked, total}

@@ -1,3 +1,4 @@
+-- `read_members`: the clauses `err` and `ok` and its loop.
 use Rattle.std.proofs.Common.{◌≡◌, ◌∙◌, map, rules, true, false}
 use Rattle.td_relation.specs.Asked.{asked}
 use Rattle.td_relation.specs.Members.{chunked}

@@ -1,3 +1,4 @@
+-- `read_relation`: the clauses `err` and `ok`.
 use Rattle.std.proofs.Common.{◌≡◌, map, length, rules}
 use Rattle.td_relation.specs.Asked.{asked}
 use Rattle.td_relation.proofs.MemberTexts.{relation-fails, relation-empty, relation-read}

@@ -1,3 +1,4 @@
+-- `next_piece`: the clause `pieces`.
 use Rattle.td_relation.proofs.PieceLaws.{next_some, next_none}
 use Rattle.td_relation.proofs.runs.next_piece.Goals as goal
 

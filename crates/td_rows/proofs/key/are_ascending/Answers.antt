@@ -1,3 +1,4 @@
+-- `are_ascending`: what it answers and its loop.
 use Rattle.std.proofs.Common.{◌≡◌, ◌+◌, ◌-◌, ℕ, true, ◌&&◌, drop, ap, sym, ◌∙◌, arith}
 use Rattle.std.specs.Ordering.{is_lt}
 use Rattle.td_rows.specs.Keys.{ascending}

@@ -1,3 +1,4 @@
+-- What the loop of `are_ascending` keeps.
 use Rattle.std.proofs.Common.{◌≡◌, ◌-◌, drop}
 use Rattle.td_rows.specs.Keys.{ascending}
 use Rattle.td_rows.proofs.key.are_ascending.Given as goal

@@ -1,3 +1,4 @@
+-- `number_in`: the clauses `found` and `absent`.
 use Rattle.std.proofs.Common.{sym, ◌∙◌}
 use Rattle.td_rows.proofs.Lookups.{lookup-row_of, IsAt-found}
 use Rattle.td_rows.proofs.key_ref.number_in.Goals as goal

@@ -1,3 +1,4 @@
+-- `cells_take_kinds_back`: the clauses `taken_back`, `commutes`, `applies` and `its_own`.
 use Rattle.td_rows.proofs.CellLaws.{restore-means, Disjoint-written, means-restore, applies-restore}
 use Rattle.td_rows.proofs.laws.cells_take_kinds_back.Goals as goal
 

@@ -1,3 +1,4 @@
+-- `opening_row`: the clauses `err`, `ok` and `fresh` and the calls of `key` and `row`.
 use Rattle.std.proofs.Common.{◌≡◌, ◌≢◌, false, true, length, ap, sym, ◌∙◌}
 use Rattle.td_rows.specs.declared.key.Key.{Key}
 use Rattle.td_rows.specs.declared.row.Row.{Row}
@@ -5,7 +6,8 @@ use Rattle.td_rows.specs.Keys.{names}
 use Rattle.td_rows.specs.States.{is_building}
 use Rattle.td_rows.specs.Table.{keys_of}
 use Rattle.td_rows.specs.RowText.{row_of_text}
-use Rattle.td_rows.proofs.StateTexts.{line_lacks_newlines, names-contains, row_of-unnamed, add_row-twice, add_row-building, add_row-many, add_row-ok}
+use Rattle.td_rows.proofs.StateTexts.{line_lacks_newlines, names-contains, row_of-unnamed}
+use Rattle.td_rows.proofs.StateTexts.{add_row-twice, add_row-building, add_row-many, add_row-ok}
 use Rattle.td_rows.proofs.state_reading.opening_row.Goals as goal
 
 pub key-requires-clause-source : goal.key-requires-clause-source

@@ -1,3 +1,4 @@
+-- `push_row`: the clause `ok`.
 use Rattle.std.proofs.Common.{◌∙◌}
 use Rattle.td_rows.proofs.Inserts.{insert_entry-absent}
 use Rattle.td_rows.proofs.state_reading.push_row.Goals as goal

@@ -1,3 +1,4 @@
+-- `read_rows`: the clauses `err` and `ok` and its loop.
 use Rattle.std.proofs.Common.{◌≡◌, ap, arith, rules, sym, ◌∙◌, false, true, eqb, length, Ok}
 use Rattle.std.proofs.lemmas.Result.{err_from_is_err_and}
 use Rattle.td_text.specs.Lines.{left_len}

@@ -1,3 +1,4 @@
+-- What the loop of `read_rows` keeps, and why it ends.
 use Rattle.std.proofs.Common.{◌≡◌, ◌+◌, ◌≤◌, length}
 use Rattle.td_text.specs.Lines.{over_lines, lines_left, left_len}
 use Rattle.td_rows.specs.StateReading.{state_step, state_rows}

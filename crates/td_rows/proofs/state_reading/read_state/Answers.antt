@@ -1,6 +1,8 @@
+-- `read_state`: the clauses `only`, `fault` and `found` and the call of `sorted`.
 use Rattle.std.proofs.lemmas.Result.{err_from_is_err_and}
 use Rattle.td_text.specs.Lines.{lines_of}
-use Rattle.td_rows.proofs.StateTexts.{AreLinesOf-state_rows, IsStateFile-one, IsStateFile-read, FaultOf-state_rows}
+use Rattle.td_rows.proofs.StateTexts.{AreLinesOf-state_rows, IsStateFile-one, IsStateFile-read}
+use Rattle.td_rows.proofs.StateTexts.{FaultOf-state_rows}
 use Rattle.td_rows.proofs.state_reading.read_state.Goals as goal
 
 pub returns-in_err-rows-clause-only : goal.returns-in_err-rows-clause-only

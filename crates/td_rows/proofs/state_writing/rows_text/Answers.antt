@@ -1,10 +1,12 @@
+-- `rows_text`: its loop.
 use Rattle.std.proofs.Common.{◌<◌, ◌∷◌, ◌++◌, [], ℕ, List, length, ap, sym, ◌∙◌}
 use Rattle.std.specs.String.{string_bytes}
 use Rattle.td_rows.specs.RowLine.{row_line}
 use Rattle.td_rows.proofs.Lists.{slice_get-none}
 use Rattle.td_rows.proofs.Writing.{state_text-next}
 use Rattle.td_rows.proofs.state_writing.rows_text.Goals as goal
-use Rattle.td_rows.proofs.state_writing.rows_text.Goals.{in-Some+in_ok-put_row_line+in_ok-push_str, in_default}
+use Rattle.td_rows.proofs.state_writing.rows_text.Goals.{in-Some+in_ok-put_row_line+in_ok-push_str}
+use Rattle.td_rows.proofs.state_writing.rows_text.Goals.{in_default}
 
 pub loop-number-preserved : goal.loop-number-preserved
 loop-number-preserved c = elim c.match-at.branch [

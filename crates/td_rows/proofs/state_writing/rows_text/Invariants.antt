@@ -1,3 +1,4 @@
+-- What the loop of `rows_text` keeps.
 use Rattle.std.proofs.Common.{◌≡◌, take}
 use Rattle.std.specs.String.{string_bytes}
 use Rattle.td_rows.specs.StateWriting.{state_text}

@@ -1,11 +1,15 @@
-use Rattle.std.proofs.Common.{◌≡◌, ◌<◌, true, false, ℕ, List, ◌∷◌, ◌++◌, ◌+◌, ◌-◌, ◌≤◌, Option, length, ap, refl, subst, sym, ◌∙◌, rules, arith}
+-- `parts_of`: what it answers, its loop, its calls and its sums.
+use Rattle.std.proofs.Common.{◌≡◌, ◌<◌, true, false, ℕ, List, ◌∷◌, ◌++◌, ◌+◌, ◌-◌, ◌≤◌, Option}
+use Rattle.std.proofs.Common.{length, ap, refl, subst, sym, ◌∙◌, rules, arith}
 use Rattle.std.specs.Borrow.{Bor}
 use Rattle.std.specs.Str.{IsCharBoundary}
 use Rattle.std.proofs.lemmas.Str.{IsCharBoundary-at_seam}
 use Rattle.std.proofs.lemmas.List.{length-append}
 use Rattle.td_text.specs.Lines.{lines_of, lines_left, left_text}
 use Rattle.td_simulate.specs.SimulationText.{is_mark, lines_after, number_after}
-use Rattle.td_simulate.proofs.TextParts.{IsTaken, IsTaken-none, taken-mark, taken-last, taken-other, after-mark, after-other, after-last, number-mark, number-other, length-mark}
+use Rattle.td_simulate.proofs.TextParts.{IsTaken, IsTaken-none, taken-mark, taken-last, taken-other}
+use Rattle.td_simulate.proofs.TextParts.{after-mark, after-other, after-last, number-mark}
+use Rattle.td_simulate.proofs.TextParts.{number-other, length-mark}
 use Rattle.td_simulate.proofs.parts.parts_of.Goals as goal
 
 pub loop-rest-init : goal.loop-rest-init
@@ -69,7 +73,8 @@ loop-rest-preserved c =
     }
 
 -- the line `steps` has five letters
-marked : (rest line : List ℕ) (o : Option (Bor (List ℕ))) → rest ≡ line ++ left_text o → is_mark line ≡ true → 5 ≤ length rest
+marked : (rest line : List ℕ) (o : Option (Bor (List ℕ))) → rest ≡ line ++ left_text o
+    → is_mark line ≡ true → 5 ≤ length rest
 marked rest line o whole mark = let five = length-mark line mark in omega (arith, ap length whole, length-append line (left_text o), five)
 
 pub overflow_add-result : goal.overflow_add-result

@@ -1,3 +1,4 @@
+-- What the loop of `put_answers` keeps.
 use Rattle.std.proofs.Common.{◌≡◌, ◌++◌, map, take}
 use Rattle.std.specs.String.{string_bytes}
 use Rattle.td_text.specs.Lines.{text_of}

@@ -1,8 +1,10 @@
+-- `read_simulation`: what it answers.
 use Rattle.std.proofs.Common.{ap, subst, sym, ◌∙◌}
 use Rattle.td_simulate.specs.Faults.{of_opening}
 use Rattle.td_simulate.specs.SimulationText.{FaultOf}
 use Rattle.td_simulate.proofs.StepLists.{AreSteps-one}
-use Rattle.td_simulate.proofs.Simulations.{opening_fault, its_opening, its_steps, steps_fault, no_fault}
+use Rattle.td_simulate.proofs.Simulations.{opening_fault, its_opening, its_steps, steps_fault}
+use Rattle.td_simulate.proofs.Simulations.{no_fault}
 use Rattle.td_simulate.proofs.simulation.read_simulation.Goals as goal
 
 pub returns-in-Err : goal.returns-in-Err

@@ -1,3 +1,4 @@
+-- `run_without_offers`: the clauses `world` and `answers`.
 use Rattle.std.proofs.Common.{◌≡◌, subst}
 use Rattle.std.specs.Prelude.{IfOk}
 use Rattle.td_supply.specs.Supply.{SupplyView, stock_of}

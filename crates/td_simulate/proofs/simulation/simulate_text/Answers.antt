@@ -1,3 +1,4 @@
+-- `simulate_text`: the clause `only` and the call of `tell`.
 use Rattle.std.proofs.Common.{List, subst}
 use Rattle.td_rows.specs.Table.{Table}
 use Rattle.td_core.specs.declared.step.Step.{Step}

@@ -1,3 +1,4 @@
+-- `read_finish`: the call of `with_texts`.
 use Rattle.std.proofs.Common.{List, ℕ, ap, sym, ◌∙◌}
 use Rattle.td_rows.specs.Notes.{notes_at}
 use Rattle.td_simulate.proofs.StepTexts.{finish_lacks}

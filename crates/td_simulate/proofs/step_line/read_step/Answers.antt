@@ -1,3 +1,4 @@
+-- `read_step`: the calls of `read_commit` and `read_by_verb`.
 use Rattle.std.proofs.Common.{subst}
 use Rattle.td_text.specs.Cut.{Without}
 use Rattle.td_text.proofs.Cut.{Without-right}

@@ -1,3 +1,4 @@
+-- What the loop of `feed` keeps.
 use Rattle.std.proofs.Common.{◌≡◌, take, fold, flat_map, map}
 use Rattle.std.specs.Char.{to_ascii_lowercase}
 use Rattle.std.specs.Hash as fed

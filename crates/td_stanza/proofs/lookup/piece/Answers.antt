@@ -1,7 +1,9 @@
+-- `piece`: what it answers, the call of `split_at` and its sums.
 use Rattle.std.proofs.Common.{◌-◌, Some, None, suc, map, take, drop, sym, ap, ◌∙◌, arith}
 use Rattle.std.proofs.lemmas.List.{drop-map, take-map}
 use Rattle.td_stanza.specs.Table.{shown}
-use Rattle.td_stanza.proofs.Places.{got, got_next, pieces_past, pieces_last, pieces_inner, start_within, starts_ordered}
+use Rattle.td_stanza.proofs.Places.{got, got_next, pieces_past, pieces_last, pieces_inner}
+use Rattle.td_stanza.proofs.Places.{start_within, starts_ordered}
 use Rattle.td_stanza.proofs.lookup.piece.Goals as goal
 
 pub returns-in_default : goal.returns-in_default

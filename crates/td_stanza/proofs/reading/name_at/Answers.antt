@@ -1,3 +1,4 @@
+-- `name_at`: the clauses `err` and `ok`.
 use Rattle.std.proofs.Common.{◌≡◌, true, false, eqb, length, sym, ◌∙◌, rules}
 use Rattle.td_stanza.proofs.Naming.{colon_rest, has_name-shown}
 use Rattle.td_stanza.specs.Field.{is_field_name}

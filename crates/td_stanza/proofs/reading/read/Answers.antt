@@ -1,9 +1,11 @@
+-- `read`: the clauses `fault` and `found`, its loop, its calls and its type's invariant.
 use Rattle.std.proofs.Common.{◌≡◌, ◌++◌, drop, true, ap, arith, rules, sym, ◌∙◌, inr, length, is_ok}
 use Rattle.std.proofs.lemmas.Result.{err_from_is_err_and}
 use Rattle.td_text.specs.Lines.{left_text, left_len}
 use Rattle.td_stanza.proofs.Continued.{skips_shorter}
 use Rattle.td_stanza.proofs.NotedNames.{noted_none, noted_from}
-use Rattle.td_stanza.proofs.Progress.{read_nothing, read_separator, read_field, read_fault, read_whole, first_within, where_ok, table_of}
+use Rattle.td_stanza.proofs.Progress.{read_nothing, read_separator, read_field, read_fault}
+use Rattle.td_stanza.proofs.Progress.{read_whole, first_within, where_ok, table_of}
 use Rattle.td_stanza.proofs.reading.read.Goals as goal
 
 pub loop-rest-init : goal.loop-rest-init

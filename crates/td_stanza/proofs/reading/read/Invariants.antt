@@ -1,3 +1,4 @@
+-- What the loop of `read` keeps, and why it ends.
 use Rattle.std.proofs.Common.{drop}
 use Rattle.td_text.specs.Lines.{left_len}
 use Rattle.td_stanza.specs.inner.NotedNames.{AreNoted}

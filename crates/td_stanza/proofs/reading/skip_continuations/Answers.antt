@@ -1,3 +1,4 @@
+-- `skip_continuations`: its loop.
 use Rattle.std.proofs.Common.{◌≡◌, true, rules}
 use Rattle.td_stanza.specs.Line.{is_continuation, first_line}
 use Rattle.td_text.specs.Lines.{lines_of}

@@ -1,3 +1,4 @@
+-- What the loop of `skip_continuations` keeps, and why it ends.
 use Rattle.td_text.specs.Lines.{left_len}
 use Rattle.td_stanza.specs.Continuing.{Skips}
 use Rattle.td_stanza.proofs.reading.skip_continuations.Given as goal

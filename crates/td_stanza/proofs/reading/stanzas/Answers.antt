@@ -1,3 +1,4 @@
+-- `stanzas`: the clauses `only` and `first`.
 use Rattle.td_text.specs.Lines.{lines_of}
 use Rattle.td_stanza.proofs.Laws.{gives_stanzas, gives_fault}
 use Rattle.td_stanza.proofs.reading.stanzas.Goals as goal

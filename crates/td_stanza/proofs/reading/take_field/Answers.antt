@@ -1,3 +1,4 @@
+-- `take_field`: the clause `taken` and the calls of `split_at` and `text_before`.
 use Rattle.std.proofs.Common.{◌++◌, refl, sym, ap, ◌∙◌, append_assoc}
 use Rattle.td_text.specs.Lines.{left_text}
 use Rattle.td_stanza.specs.Value.{after_newlines, trimmed}

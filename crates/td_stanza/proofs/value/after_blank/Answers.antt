@@ -1,3 +1,4 @@
+-- `after_blank`: the clause `none`.
 use Rattle.std.proofs.Common.{None, lit<}
 use Rattle.std.proofs.lemmas.Str.Pattern.{strip_prefix_char}
 use Rattle.td_stanza.proofs.Trimming.{front_by}

@@ -1,3 +1,4 @@
+-- `before_blank`: the clause `none`.
 use Rattle.std.proofs.Common.{None, lit<}
 use Rattle.std.proofs.lemmas.Str.Pattern.{strip_suffix_char}
 use Rattle.td_stanza.proofs.Trimming.{back_by}

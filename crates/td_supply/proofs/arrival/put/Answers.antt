@@ -1,3 +1,4 @@
+-- `put`: what it answers.
 use Rattle.std.proofs.Common.{◌≡◌, ◌<◌, ◌≤◌, length, map, sym, ◌∙◌}
 use Rattle.std.proofs.lemmas.List.{length-map}
 use Rattle.td_supply.specs.SupplyViews.{item, rebuilt_parts}

@@ -1,3 +1,4 @@
+-- `put_each`: its loop.
 use Rattle.std.proofs.Common.{ℕ, List, map, sym, ap, ◌∙◌}
 use Rattle.std.proofs.lemmas.List.{map_push}
 use Rattle.td_version.specs.Version.{Parts}

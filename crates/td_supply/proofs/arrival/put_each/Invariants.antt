@@ -1,3 +1,4 @@
+-- What the loop of `put_each` keeps, and why it ends.
 use Rattle.std.proofs.Common.{◌≡◌, map, vec_len}
 use Rattle.td_supply.specs.Arrivals.{put_all}
 use Rattle.td_supply.specs.SupplyViews.{item, rebuilt_at}

@@ -1,3 +1,4 @@
+-- What the loop of `rebuilds` keeps.
 use Rattle.std.proofs.Common.{◌≡◌, ◌++◌, drop, map}
 use Rattle.td_supply.specs.declared.stocked.Stocked.{Stocked}
 use Rattle.td_supply.specs.Arrivals.{made_of, rebuild_there}

@@ -1,4 +1,6 @@
-use Rattle.td_supply.proofs.ArrivalLaws.{others_stay, offers_of_all_stay, rebuilds_are_offered, the_last_arrival_stands, the_stock_stays}
+-- `arrivals_change_their_own`: what it answers.
+use Rattle.td_supply.proofs.ArrivalLaws.{others_stay, offers_of_all_stay, rebuilds_are_offered}
+use Rattle.td_supply.proofs.ArrivalLaws.{the_last_arrival_stands, the_stock_stays}
 use Rattle.td_supply.proofs.laws.arrivals_change_their_own.Goals as goal
 
 pub returns : goal.returns

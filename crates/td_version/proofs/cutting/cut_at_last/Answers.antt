@@ -1,3 +1,4 @@
+-- `cut_at_last`: what it answers.
 use Rattle.td_version.proofs.Cuts.{cut_last-from_split}
 use Rattle.td_version.proofs.cutting.cut_at_last.Goals as goal
 

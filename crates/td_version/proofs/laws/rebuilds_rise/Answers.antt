@@ -1,3 +1,4 @@
+-- `rebuilds_rise`: the clauses `read`, `rise`, `base` and `splits`.
 use Rattle.td_version.proofs.Suffixed as suffixed
 use Rattle.td_version.proofs.Bases.{splits}
 use Rattle.td_version.proofs.Rebuilds.{part_again}

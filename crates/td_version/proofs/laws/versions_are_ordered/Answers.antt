@@ -1,3 +1,4 @@
+-- `versions_are_ordered`: what it answers.
 use Rattle.td_version.proofs.Total as total
 use Rattle.td_version.proofs.Turns.{pairs_are_runs}
 use Rattle.td_version.proofs.laws.versions_are_ordered.Goals as goal

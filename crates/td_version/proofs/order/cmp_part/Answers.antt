@@ -1,10 +1,14 @@
+-- `cmp_part`: what it answers, its loop and the call of `after_first`.
 use Rattle.std.proofs.Common.{◌≡◌, ◌∙◌, sym, length, ◌<◌, ◌+◌}
 use Rattle.std.specs.Ordering.{nat_cmp}
 use Rattle.td_version.specs.Order.{end_mark}
 use Rattle.td_version.specs.Comparing.{first_mark}
-use Rattle.td_version.proofs.Comparing.{marks_decide, marks_same, numbers_decide, numbers_same, numbers_shrink, nonempty_symbol, part_cmp-rests, part_cmp-empty, some_left, some_right}
+use Rattle.td_version.proofs.Comparing.{marks_decide, marks_same, numbers_decide, numbers_same}
+use Rattle.td_version.proofs.Comparing.{numbers_shrink, nonempty_symbol, part_cmp-rests}
+use Rattle.td_version.proofs.Comparing.{part_cmp-empty, some_left, some_right}
 use Rattle.td_version.proofs.order.cmp_part.Goals as goal
-use Rattle.td_version.proofs.order.cmp_part.Goals.{then-not-is_empty, else-not-is_empty+then-not-is_empty-2}
+use Rattle.td_version.proofs.order.cmp_part.Goals.{then-not-is_empty}
+use Rattle.td_version.proofs.order.cmp_part.Goals.{else-not-is_empty+then-not-is_empty-2}
 
 pub returns-then-ne : goal.returns-then-ne
 returns-then-ne c =

@@ -1,3 +1,4 @@
+-- What the loop of `cmp_part` keeps, and why it ends.
 use Rattle.std.proofs.Common.{◌≡◌, ◌+◌, length}
 use Rattle.td_version.specs.Order.{part_cmp}
 use Rattle.td_version.proofs.order.cmp_part.Given as goal

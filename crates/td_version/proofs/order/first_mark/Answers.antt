@@ -1,3 +1,4 @@
+-- `first_mark`: what it answers.
 use Rattle.std.proofs.Common.{◌≡◌, ◌∙◌, sym, refl, false, true, get_or, arith}
 use Rattle.std.specs.Char.{is_ascii_digit}
 use Rattle.td_version.proofs.Comparing.{first_mark_at, first_mark_empty}

@@ -1,6 +1,8 @@
+-- `without_zeros`: what it answers and its loop.
 use Rattle.std.proofs.Common.{◌∙◌, sym, ap, arith}
 use Rattle.td_version.specs.Comparing.{without_zeros}
-use Rattle.td_version.proofs.Digits.{without_zeros-zero, without_zeros-other, without_zeros-none, rest-at_one}
+use Rattle.td_version.proofs.Digits.{without_zeros-zero, without_zeros-other, without_zeros-none}
+use Rattle.td_version.proofs.Digits.{rest-at_one}
 use Rattle.td_version.proofs.order.without_zeros.Goals as goal
 
 pub loop-rest-preserved : goal.loop-rest-preserved

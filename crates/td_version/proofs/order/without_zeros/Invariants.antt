@@ -1,3 +1,4 @@
+-- What the loop of `without_zeros` keeps, and why it ends.
 use Rattle.std.proofs.Common.{◌≡◌, length}
 use Rattle.td_version.specs.Comparing.{without_zeros}
 use Rattle.td_version.proofs.order.without_zeros.Given as goal

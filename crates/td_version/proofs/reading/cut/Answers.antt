@@ -1,3 +1,4 @@
+-- `cut`: the clauses `start` and `within` and its sums.
 use Rattle.std.proofs.Common.{◌≡◌, sym, ap, ◌∙◌, arith, Some, option_map}
 use Rattle.td_text.specs.Cut.{cut}
 use Rattle.td_version.specs.Reading.{written_of}

@@ -1,3 +1,4 @@
+-- `epoch_number`: the clause `value`.
 use Rattle.std.proofs.Common.{◌≢◌, get_or, sym, ◌∙◌, refl, arith, lit<}
 use Rattle.std.proofs.lemmas.Bool.{le-leb, lt-leb, false≢true}
 use Rattle.std.proofs.lemmas.Str.Pattern.{starts_char}

@@ -1,3 +1,4 @@
+-- `judge`: what it answers.
 use Rattle.std.proofs.Common.{sym, ◌∙◌}
 use Rattle.std.proofs.lemmas.Result.{err_from_is_err_and}
 use Rattle.td_version.specs.Reading.{written_of}

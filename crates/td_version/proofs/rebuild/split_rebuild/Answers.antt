@@ -1,3 +1,4 @@
+-- `split_rebuild`: the clauses `found` and `only`.
 use Rattle.std.proofs.Common.{◌≡◌, sym, ap, ◌∙◌, Some, None, option_map}
 use Rattle.td_version.specs.Rebuild.{IsRebuild}
 use Rattle.td_version.specs.Splitting.{rebuild_at}
@@ -5,7 +6,8 @@ use Rattle.td_version.proofs.Rebuilds.{found_some, found_none, same_rebuild}
 use Rattle.td_version.proofs.rebuild.split_rebuild.Goals as goal
 use Rattle.td_version.proofs.rebuild.split_rebuild.Goals.{In-Some}
 
-is_split : (c : In-Some) → IsRebuild c.args.text.now c.in-Some.base_and_number.0.now c.in-Some.base_and_number.1
+is_split : (c : In-Some)
+    → IsRebuild c.args.text.now c.in-Some.base_and_number.0.now c.in-Some.base_and_number.1
 is_split c =
     let found : rebuild_at c.args.text.now ≡ Some (c.in-Some.base_and_number.0.now, c.in-Some.base_and_number.1) = sym c.rebuild.ensures ∙ ap (option_map (λ x. (x.0.now, x.1))) c.in-Some.is in
     found_some c.args.text.now c.in-Some.base_and_number.0.now c.in-Some.base_and_number.1 found

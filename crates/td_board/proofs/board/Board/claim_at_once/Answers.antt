@@ -1,3 +1,4 @@
+-- `Board::claim_at_once`: what it answers, the call of `compare_exchange` and its type's invariant.
 use Rattle.std.proofs.Common.{arith, ◌≡◌, ◌+◌, ◌-◌, ◌<◌, refl, sym, ap, ◌∙◌, subst}
 use Rattle.td_board.specs.Phase.{held, word_of}
 use Rattle.td_board.specs.Knowledge.{with_claim}

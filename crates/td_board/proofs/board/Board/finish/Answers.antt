@@ -1,3 +1,4 @@
+-- `Board::finish`: what it answers, the call of `compare_exchange` and its type's invariant.
 use Rattle.std.proofs.Common.{ℕ, refl, sym, ap, ◌∙◌}
 use Rattle.td_board.specs.Phase.{noted, done, word_of}
 use Rattle.td_board.specs.Knowledge.{with_finish}

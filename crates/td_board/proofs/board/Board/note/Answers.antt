@@ -1,3 +1,4 @@
+-- `Board::note`: the clause `one_of_the_boards`, its calls, its type's invariant and its sums.
 use Rattle.std.proofs.Common.{arith, ◌≡◌, ℕ, ◌+◌, ◌≤◌, length, refl, sym, ap, ◌∙◌, subst}
 use Rattle.td_board.specs.declared.views.RowView.TheVariants.{Known}
 use Rattle.td_board.specs.declared.views.Deed.TheVariants.{Claim}

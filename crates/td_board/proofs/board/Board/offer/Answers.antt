@@ -1,3 +1,4 @@
+-- `Board::offer`: the call of `store`, its type's invariant and its sums.
 use Rattle.std.proofs.Common.{arith, ◌+◌, ◌≤◌, refl}
 use Rattle.td_board.specs.declared.views.RowView.TheVariants.{Out}
 use Rattle.td_board.specs.Knowledge.{with_row}

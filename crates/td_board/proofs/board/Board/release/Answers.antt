@@ -1,3 +1,4 @@
+-- `Board::release`: the call of `load`.
 use Rattle.std.proofs.Common.{sym, ◌∙◌}
 use Rattle.td_board.specs.Tells.{builder_in}
 use Rattle.td_board.proofs.SeatKeeps.{builder_use, finished_inside}

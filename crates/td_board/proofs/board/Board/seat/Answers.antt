@@ -1,3 +1,4 @@
+-- `Board::seat`: the call of `split_seat`.
 use Rattle.std.proofs.Common.{arith, ◌≡◌, ◌+◌, sym, ap, ◌∙◌}
 use Rattle.td_board.specs.Tells.{SeatState, desk_in}
 use Rattle.td_board.specs.Seats.{DeskModel, BoardModel}

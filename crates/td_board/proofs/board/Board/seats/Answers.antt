@@ -1,3 +1,4 @@
+-- `Board::seats`: its loop.
 use Rattle.std.proofs.Common.{rules, arith, ◌≡◌, ℕ, [], ◌∷◌, ◌++◌, replicate, sym, ap, ◌∙◌, add-one}
 use Rattle.std.proofs.lemmas.Grind.{common_steps}
 use Rattle.td_board.specs.Knowledge.{with_builder}

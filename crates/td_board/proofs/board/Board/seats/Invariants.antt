@@ -1,3 +1,4 @@
+-- What the loop of `Board::seats` keeps.
 use Rattle.std.proofs.Common.{◌≡◌, [], replicate}
 use Rattle.td_board.specs.Seats.{new_seats, DeskModel}
 use Rattle.td_board.proofs.board.Board.seats.Given as goal

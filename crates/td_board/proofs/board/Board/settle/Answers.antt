@@ -1,3 +1,4 @@
+-- `Board::settle`: what it answers, its calls, its type's invariant and its sums.
 use Rattle.std.proofs.Common.{sym, arith, ◌≡◌, ℕ, ◌+◌, ◌≤◌, refl, ap, ◌∙◌}
 use Rattle.td_board.specs.declared.views.RowView.TheVariants.{In}
 use Rattle.td_board.specs.declared.views.Deed.TheVariants.{Finish}

@@ -1,4 +1,6 @@
-use Rattle.std.proofs.Common.{arith, ◌≡◌, ℕ, ◌+◌, ◌/◌, ◌<◌, ◌≤◌, length, refl, sym, ap, ◌∙◌, subst, set}
+-- `Board::withdraw`: what it answers, its calls, its type's invariant and its sums.
+use Rattle.std.proofs.Common.{arith, ◌≡◌, ℕ, ◌+◌, ◌/◌, ◌<◌, ◌≤◌, length, refl, sym, ap, ◌∙◌, subst}
+use Rattle.std.proofs.Common.{set}
 use Rattle.td_board.specs.declared.views.RowView.TheVariants.{In, Seen}
 use Rattle.td_board.specs.Knowledge.{with_row}
 use Rattle.td_board.specs.Tells.{SeatState, desk_in}

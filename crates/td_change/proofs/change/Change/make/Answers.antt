@@ -1,5 +1,7 @@
+-- `Change::make`: the clauses `kept` and `ok` and the call of `make`.
 use Rattle.std.proofs.Common.{◌∙◌}
-use Rattle.td_change.proofs.Plans.{plan_of-itself, AppliesOn-plan_of, saved-plan_of, applied-plan_of}
+use Rattle.td_change.proofs.Plans.{plan_of-itself, AppliesOn-plan_of, saved-plan_of}
+use Rattle.td_change.proofs.Plans.{applied-plan_of}
 use Rattle.td_change.proofs.change.Change.make.Goals as goal
 
 pub make-requires-clause-rows : goal.make-requires-clause-rows

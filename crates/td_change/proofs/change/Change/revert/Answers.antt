@@ -1,3 +1,4 @@
+-- `Change::revert`: what it answers.
 use Rattle.std.proofs.Common.{ap, ◌∙◌}
 use Rattle.td_rows.specs.Kinds.{written}
 use Rattle.td_change.specs.Saved.{Saved}

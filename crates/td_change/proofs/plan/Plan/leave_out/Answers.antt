@@ -1,10 +1,13 @@
-use Rattle.std.proofs.Common.{◌≡◌, ◌≤◌, true, vec_capacity, ℕ, ap, sym, subst, ◌∙◌, List, map, length, arith}
+-- `Plan::leave_out`: what it answers and its type's invariant.
+use Rattle.std.proofs.Common.{◌≡◌, ◌≤◌, true, vec_capacity, ℕ, ap, sym, subst, ◌∙◌, List, map}
+use Rattle.std.proofs.Common.{length, arith}
 use Rattle.td_rows.specs.declared.row.Row.{Row}
 use Rattle.td_rows.specs.declared.key.Key.{Key}
 use Rattle.td_rows.specs.Keys.{ascending}
 use Rattle.td_change.specs.Plans.{left_out}
 use Rattle.td_change.specs.Inside.{numbered, HaveTexts}
-use Rattle.td_change.proofs.Plans.{keys, numbered-remove, rising-remove, texts-remove, length-remove}
+use Rattle.td_change.proofs.Plans.{keys, numbered-remove, rising-remove, texts-remove}
+use Rattle.td_change.proofs.Plans.{length-remove}
 use Rattle.td_change.proofs.plan.Plan.leave_out.Goals as goal
 
 pub invariant_of-self : goal.invariant_of-self

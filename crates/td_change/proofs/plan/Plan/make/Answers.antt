@@ -1,4 +1,6 @@
-use Rattle.std.proofs.Common.{◌≡◌, ℕ, true, false, ap, sym, subst, ◌∙◌, List, [], map, length, Option, arith}
+-- `Plan::make`: the clause `rows`, its loop and the call of `change`.
+use Rattle.std.proofs.Common.{◌≡◌, ℕ, true, false, ap, sym, subst, ◌∙◌, List, [], map, length}
+use Rattle.std.proofs.Common.{Option, arith}
 use Rattle.std.specs.Prelude.{IfSome}
 use Rattle.td_rows.specs.declared.row.Row.{Row}
 use Rattle.td_rows.specs.declared.key.Key.{Key}

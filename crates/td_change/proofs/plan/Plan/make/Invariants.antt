@@ -1,3 +1,4 @@
+-- What the loop of `Plan::make` keeps, and why it ends.
 use Rattle.std.proofs.Common.{◌≤◌, ◌+◌, length, vec_len, vec_capacity}
 use Rattle.td_change.specs.Plans.{left}
 use Rattle.td_change.proofs.Plans.{Left}

@@ -1,3 +1,4 @@
+-- `Plan::new`: what it answers and its type's invariant.
 use Rattle.std.proofs.Common.{◌≡◌, ℕ, true, ap, sym, subst, ◌∙◌, List, map, length, arith}
 use Rattle.td_rows.specs.declared.row.Row.{Row}
 use Rattle.td_rows.specs.declared.key.Key.{Key}

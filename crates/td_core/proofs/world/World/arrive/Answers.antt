@@ -1,3 +1,4 @@
+-- `World::arrive`: its type's invariant.
 use Rattle.std.proofs.Common.{◌≡◌, Some, true, ap, sym, subst, ◌∙◌}
 use Rattle.td_rows.specs.declared.kind.Kind.TheVariants.{Arrive}
 use Rattle.td_rows.specs.Meaning.{applies}

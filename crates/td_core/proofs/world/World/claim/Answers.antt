@@ -1,3 +1,4 @@
+-- `World::claim`: its type's invariant.
 use Rattle.std.proofs.Common.{◌≡◌, None, sym, subst, ◌∙◌}
 use Rattle.td_core.specs.declared.step.Step.TheVariants.{Claim}
 use Rattle.td_core.specs.Worlds.{WorldView, IsWorld}

@@ -1,3 +1,4 @@
+-- `World::finish`: the clause `ok` and its type's invariant.
 use Rattle.std.proofs.Common.{◌≡◌, ◌-◌, List, Some, None, set, ap, sym, subst, ◌∙◌}
 use Rattle.td_rows.specs.declared.key.Key.{Key}
 use Rattle.td_change.specs.Saved.{number_of}
@@ -10,7 +11,9 @@ use Rattle.td_core.specs.Steps.{refusal}
 use Rattle.td_core.proofs.Phases.{slice_get-hand_of, set-set}
 use Rattle.td_core.proofs.Worlds.{finishes, after-finish, IsWorld-finished}
 use Rattle.td_core.proofs.world.World.finish.Goals as goal
-use Rattle.td_core.proofs.world.World.finish.Goals.{in-Some-take_held, in_default-take_held+in-Waits-1, in_default-take_held+in-Built-1}
+use Rattle.td_core.proofs.world.World.finish.Goals.{in-Some-take_held}
+use Rattle.td_core.proofs.world.World.finish.Goals.{in_default-take_held+in-Waits-1}
+use Rattle.td_core.proofs.world.World.finish.Goals.{in_default-take_held+in-Built-1}
 
 pub invariant_of-self : goal.invariant_of-self
 invariant_of-self c =

@@ -1,3 +1,4 @@
+-- `World::note`: the call of `append` and its type's invariant.
 use Rattle.std.proofs.Common.{◌≡◌, List, [], ◌∷◌, Some, set, ap, refl, sym, subst, ◌∙◌}
 use Rattle.td_rows.specs.declared.key.Key.{Key}
 use Rattle.td_rows.specs.declared.kind.Kind.TheVariants.{Claim}

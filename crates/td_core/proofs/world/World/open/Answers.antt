@@ -1,3 +1,4 @@
+-- `World::open`: its type's invariant.
 use Rattle.std.proofs.Common.{replicate, ap, sym, subst, ◌∙◌}
 use Rattle.td_core.specs.declared.step.Phase.TheVariants.{Closed}
 use Rattle.td_supply.specs.Supply.{stock_of}

@@ -1,3 +1,4 @@
+-- `World::phase`: what it answers.
 use Rattle.std.proofs.Common.{List, slice_get, ap, sym, subst, ◌∙◌}
 use Rattle.std.specs.Option.{option_copied}
 use Rattle.td_rows.specs.Table.{Table, IsAt, row_of}

@@ -1,3 +1,4 @@
+-- `World::release`: its type's invariant.
 use Rattle.std.proofs.Common.{◌≡◌, List, None, sym, subst, ◌∙◌}
 use Rattle.td_core.specs.declared.step.Hand.{Hand}
 use Rattle.td_core.specs.declared.step.Step.TheVariants.{Release}

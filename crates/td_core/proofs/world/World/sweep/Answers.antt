@@ -1,3 +1,4 @@
+-- `World::sweep`: the calls of `new` and `append` and its type's invariant.
 use Rattle.std.proofs.Common.{◌<◌, List, length, ap, sym, subst, ◌∙◌, rules}
 use Rattle.td_rows.specs.declared.key.Key.{Key}
 use Rattle.td_rows.specs.declared.kind.Kind.TheVariants.{Sweep}

@@ -1,3 +1,4 @@
+-- `World::undo`: the call of `undo` and its type's invariant.
 use Rattle.std.proofs.Common.{◌≡◌, ℕ, None, sym, subst, ◌∙◌}
 use Rattle.td_core.specs.declared.step.Step.TheVariants.{Undo}
 use Rattle.td_core.specs.Worlds.{WorldView, IsWorld}

@@ -1,3 +1,4 @@
+-- `World::undo_refusal`: what it answers.
 use Rattle.std.proofs.Common.{Some, None, List, if◌then◌else◌, ap, sym, ◌∙◌}
 use Rattle.td_rows.specs.declared.key.Key.{Key}
 use Rattle.td_journal.specs.declared.entry.Marked.{Marked}

@@ -1,3 +1,4 @@
+-- `World::withdraw`: its type's invariant.
 use Rattle.std.proofs.Common.{◌≡◌, List, None, sym, subst, ◌∙◌}
 use Rattle.td_core.specs.declared.step.Phase.{Phase}
 use Rattle.td_core.specs.declared.step.Step.TheVariants.{Withdraw}

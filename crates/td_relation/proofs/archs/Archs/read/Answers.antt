@@ -1,3 +1,4 @@
+-- `Archs::read`: the clauses `only`, `fault`, `found` and `refused` and its type's invariant.
 use Rattle.std.proofs.Common.{◌≡◌, true, List, [], ◌∷◌, map, refl}
 use Rattle.std.specs.List.{list_all, AllByRecursion}
 use Rattle.std.proofs.lemmas.Bool.{and_parts, and_from}
@@ -6,7 +7,8 @@ use Rattle.td_text.specs.Lines.{lines_of}
 use Rattle.td_text.specs.Words.{is_arch}
 use Rattle.td_relation.specs.Arch.{ArchFits, words_of}
 use Rattle.td_relation.specs.declared.arch.Arch.{Arch}
-use Rattle.td_relation.proofs.ArchTexts.{IsTable-read, IsTable-one, IsTable-fails, FaultOf-read, refused-for, not-refused}
+use Rattle.td_relation.proofs.ArchTexts.{IsTable-read, IsTable-one, IsTable-fails, FaultOf-read}
+use Rattle.td_relation.proofs.ArchTexts.{refused-for, not-refused}
 use Rattle.td_relation.proofs.archs.Archs.read.Goals as goal
 
 pub returns-in_err-list-clause-only : goal.returns-in_err-list-clause-only
@@ -26,7 +28,8 @@ pub returns-clause-only : goal.returns-clause-only
 returns-clause-only c = λ t is. IsTable-one (lines_of c.args.text.now) (map words_of c.in_ok-list.list.items) t c.in_ok-list.ensures.ok is
 
 -- the names of architectures that fit are legal
-legal : (list : List Arch) → AllByRecursion ArchFits (map words_of list) → list_all (λ (a : Arch). is_arch a.name.now) list ≡ true
+legal : (list : List Arch) → AllByRecursion ArchFits (map words_of list)
+    → list_all (λ (a : Arch). is_arch a.name.now) list ≡ true
 legal [] fits = refl
 legal (a ∷ list) fits = and_from (is_arch a.name.now) (list_all (λ (b : Arch). is_arch b.name.now) list) (and_parts (is_arch a.name.now) _ fits.0.name).0 (legal list fits.1)
 

@@ -1,3 +1,4 @@
+-- `OffersOffering::has`: what it answers.
 use Rattle.std.proofs.Common.{◌∙◌, sym, ap, option_map}
 use Rattle.std.specs.List.{list_any}
 use Rattle.td_text.proofs.Chain.{list_any-map}

@@ -1,3 +1,4 @@
+-- `Offers::push`: the clauses `ok` and `err`.
 use Rattle.std.proofs.Common.{arith}
 use Rattle.std.proofs.lemmas.Grind.{text_groups}
 use Rattle.std.proofs.lemmas.Map.Text.{text_keys}

@@ -1,3 +1,4 @@
+-- `Relation::is_met`: what it answers.
 use Rattle.std.proofs.Common.{◌≡◌, ◌∙◌, List, ap, sym, map}
 use Rattle.std.specs.List.{list_all}
 use Rattle.std.proofs.lemmas.List.Folds.{list_all-map}

@@ -1,3 +1,4 @@
+-- `Relation::members`: the clause `limited`.
 use Rattle.std.proofs.Common.{◌≡◌, ◌∙◌, List, ap, sym, length, map}
 use Rattle.std.proofs.lemmas.List.{length-map}
 use Rattle.td_relation.specs.declared.relation.Alternative.{Alternative}

@@ -1,3 +1,4 @@
+-- `Key::arch`: the clause `one_line` and the call of `range_from`.
 use Rattle.std.proofs.Common.{◌+◌, ap, sym, ◌∙◌}
 use Rattle.std.specs.String.{string_bytes}
 use Rattle.td_rows.specs.declared.key.Key.{Key}

@@ -1,3 +1,4 @@
+-- `Names::has`: what it answers.
 use Rattle.std.proofs.Common.{◌≡◌, Bool, false, ◌||◌, take, drop, sym, ap, ◌∙◌}
 use Rattle.std.specs.List.{list_any}
 use Rattle.td_stanza.specs.declared.entry.Field.{Field}

@@ -1,3 +1,4 @@
+-- `Names::note`: what it answers.
 use Rattle.td_stanza.proofs.NotedNames.{noted_few, noted_more}
 use Rattle.td_stanza.proofs.names.Names.note.Goals as goal
 

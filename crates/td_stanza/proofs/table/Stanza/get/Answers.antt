@@ -1,3 +1,4 @@
+-- `Stanza::get`: the clauses `found`, `only` and `absent`.
 use Rattle.std.proofs.Common.{option_map, sym, ap, ◌∙◌}
 use Rattle.td_stanza.specs.Table.{shown, fields_of}
 use Rattle.td_stanza.proofs.Lookups.{find-shown, find_there, find_absent, only_named}

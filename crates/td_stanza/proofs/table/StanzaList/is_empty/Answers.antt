@@ -1,3 +1,4 @@
+-- `StanzaList::is_empty`: what it answers.
 use Rattle.std.proofs.Common.{◌≡◌, eqb, length, map, sym, ap, ◌∙◌, rules}
 use Rattle.td_stanza.specs.Table.{shown}
 use Rattle.td_stanza.proofs.Places.{length-pieces}

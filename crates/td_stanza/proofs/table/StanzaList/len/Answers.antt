@@ -1,3 +1,4 @@
+-- `StanzaList::len`: what it answers.
 use Rattle.std.proofs.Common.{◌≡◌, length, map, sym, ap, ◌∙◌, rules}
 use Rattle.td_stanza.specs.Table.{shown}
 use Rattle.td_stanza.proofs.Places.{length-pieces}

@@ -1,3 +1,4 @@
+-- `StanzaList::stanza`: the clause `distinct` and its type's invariant.
 use Rattle.std.proofs.Common.{sym, ap, ◌∙◌, map}
 use Rattle.td_stanza.specs.Table.{shown, pieces}
 use Rattle.std.specs.List.{slice_get}

@@ -1,3 +1,4 @@
+-- `Numbers::pop`: what it answers.
 use Rattle.std.proofs.Common.{◌≡◌, ◌-◌, length, take, rules}
 use Rattle.td_supply.specs.Numbers.{but_last}
 use Rattle.td_supply.proofs.NumberWrites.{written}

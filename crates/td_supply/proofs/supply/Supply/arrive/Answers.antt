@@ -1,3 +1,4 @@
+-- `Supply::arrive`: the clause `ok` and its type's invariant.
 use Rattle.std.proofs.Common.{◌≡◌, ℕ, Bool, List, Some, map, sym, ap, ◌∙◌}
 use Rattle.td_version.specs.Version.{Parts}
 use Rattle.td_relation.specs.Table.{place_of}
@@ -21,7 +22,10 @@ returns-in_default-clause-ok c =
     )
 
 -- the items afterwards
-after : (c : goal.After-put_each) → map item c.put_each.new.items.items ≡ map (arrived_at (table c.self.inside.archs) c.args.source.now c.args.arch.now c.args.number) (map item c.self.inside.items.items)
+after : (c : goal.After-put_each)
+    → map item c.put_each.new.items.items
+    ≡ map (arrived_at (table c.self.inside.archs) c.args.source.now c.args.arch.now c.args.number)
+    (map item c.self.inside.items.items)
 after c =
     let s = c.self.inside in
     let xs = s.items.items in

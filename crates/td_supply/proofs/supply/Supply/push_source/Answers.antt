@@ -1,3 +1,4 @@
+-- `Supply::push_source`: the clause `ok` and its type's invariant.
 use Rattle.std.proofs.Common.{◌≡◌, List, ℕ, [], ◌∷◌, ◌++◌, None, Bor, map, sym, subst, ap, ◌∙◌}
 use Rattle.std.specs.Map.{lookup}
 use Rattle.std.specs.Str.{bytes_eq}
@@ -11,7 +12,8 @@ use Rattle.td_supply.proofs.SourceLookups.{all_pushed, no_version}
 use Rattle.td_supply.proofs.supply.Supply.push_source.Goals as goal
 
 -- the sources afterwards
-after : (c : goal.In_ok-insert) → sources_of c.insert.new.self.entries ≡ sources_of c.self.inside.sources.entries ++ (c.args.name.now, c.args.version.now) ∷ []
+after : (c : goal.In_ok-insert) → sources_of c.insert.new.self.entries
+    ≡ sources_of c.self.inside.sources.entries ++ (c.args.name.now, c.args.version.now) ∷ []
 after c =
     let name = c.args.name in
     let version = c.args.version in

@@ -1,3 +1,4 @@
+-- `Supply::version`: the clauses `text` and `reads`.
 use Rattle.std.proofs.Common.{List, ℕ, Bor, Option, option_map, sym, subst, ap, ◌∙◌}
 use Rattle.std.specs.Prelude.{IfSome}
 use Rattle.td_supply.specs.Supply.{SupplyView, version_of}

@@ -1,3 +1,4 @@
+-- `Supply::version_parts`: the call of `unreachable`.
 use Rattle.td_supply.proofs.supply.Supply.version_parts.Goals as goal
 
 pub unreachable-requires : goal.unreachable-requires

@@ -1,3 +1,4 @@
+-- `Version::read`: the clauses `found`, `only`, `fault` and `refused`.
 use Rattle.td_version.proofs.Outcomes.{found, only, faulted, refused}
 use Rattle.td_version.proofs.version.Version.read.Goals as goal
 
