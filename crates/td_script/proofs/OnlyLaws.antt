@@ -1,6 +1,6 @@
 -- Readable texts are refused for nothing but a pattern.
-use Rattle.std.proofs.Common.{◌≡◌, ◌≤◌, ◌<◌, ◌⊎◌, ℕ, List, length, Option, Some, Result, Ok, Err, IfOk, IfErr, String, inl, inr, refl, sym, ap, subst, ◌∙◌, arith}
-use Rattle.std.specs.Prelude.{IfSome, IsErrOf, IsUtf8}
+use Rattle.std.proofs.Common.{◌≡◌, ◌≤◌, ◌<◌, ◌⊎◌, ℕ, List, length, Option, Some, None, Result, Ok, Err, IfOk, IfErr, String, inl, inr, refl, sym, ap, subst, ◌∙◌, arith}
+use Rattle.std.specs.Prelude.{IfSome, IsErrOf, IsUtf8, MatchResult}
 use Rattle.std.specs.declared.alloc.Global.{Global}
 use Rattle.td_bytes.specs.declared.text.TextFault.{TextFault}
 use Rattle.td_bytes.specs.declared.text.TextFault.TheVariants as text
@@ -11,11 +11,16 @@ use Rattle.td_relation.specs.declared.archs.ArchsFault.{ArchsFault}
 use Rattle.td_relation.specs.declared.archs.ArchsFault.TheVariants as table
 use Rattle.td_indices.specs.declared.archive_fault.ArchiveFault.{ArchiveFault}
 use Rattle.td_indices.specs.declared.archive_fault.ArchiveFault.TheVariants as archive
-use Rattle.td_rows.specs.Overlay.{first_missing}
+use Rattle.td_rows.specs.Overlay.{first_missing, overlaid}
 use Rattle.td_rows.specs.StateFile.{IsStateFile}
 use Rattle.td_rows.specs.Table.{Table}
 use Rattle.td_rows.specs.declared.key.Key.{Key}
 use Rattle.td_rows.proofs.Sorting.{table-same}
+use Rattle.td_rows.proofs.StateTexts.{IsStateFile-one}
+use Rattle.td_journal.specs.declared.entry.Marked.{Marked}
+use Rattle.td_journal.specs.JournalFile.{IsJournalText}
+use Rattle.td_journal.specs.declared.journal_fault.ReadError.{ReadError}
+use Rattle.td_journal.specs.declared.journal_fault.ReadError.TheVariants as journal
 use Rattle.td_indices.specs.Archive.{Contents, IsArchive}
 use Rattle.td_query.specs.TrackerFaults.{IsPatternFault, log_in}
 use Rattle.td_query.specs.TrackerGrammar.{said_in}
@@ -28,8 +33,8 @@ use Rattle.td_script.specs.declared.running.RunFault.TheVariants.{Input, Read, T
 use Rattle.td_script.specs.declared.running.TheConstants.{SCRIPT_LIMIT}
 use Rattle.td_script.specs.declared.told.Told.{Told as ToldText}
 use Rattle.td_script.specs.Ends.{IsScriptText, MayStop, Only}
-use Rattle.td_script.specs.OpeningInside.{AreReadableWith, CanReplace, Stops, of_archive, of_reading, of_table, of_tracker}
-use Rattle.td_script.specs.Openings.{AreOpened, AreReadable, AreRowsOf, IsReadableOver, IsTrackerIfGiven, Texts}
+use Rattle.td_script.specs.OpeningInside.{AreReadableWith, CanReplace, Stops, of_archive, of_journal, of_reading, of_table, of_tracker}
+use Rattle.td_script.specs.Openings.{AreOpened, AreReadable, AreRowsOf, IsJournalIfGiven, IsReadableOver, IsTrackerIfGiven, Texts}
 
 -- want of memory
 pub memory_stops : (x : Texts) (e : RunFault) → e ≡ NoMemory → Stops x e
@@ -56,19 +61,37 @@ tracker_stops x t (tracker.BadPattern place) is h = rw is h
 tracker_stops x t (tracker.MissingKey key) is h = absurd h
 tracker_stops x t tracker.NoMemory is h = tt
 
-pub memory_alone : (x : Texts) (A : Type 0) (r : Result ToldText RunFault) → IfErr r (λ e. e ≡ NoMemory) → IfErr r (λ e. A → Stops x e)
-memory_alone x A (Ok told) only = tt
-memory_alone x A (Err e) only = λ a. memory_stops x e only
+-- rows of an archive are the same rows
+rows_same : (c : Contents) (state : Option (List ℕ)) (t u : Table) → AreRowsOf c state t → AreRowsOf c state u → t ≡ u
+rows_same c None t u one two = opened_same c t u one two
+rows_same c (Some text) t u one two =
+    one.replaced ∙ ap (λ g. overlaid g one.opened) (IsStateFile-one (lines_of text) one.given two.given one.are_given two.are_given)
+    ∙ ap (λ o. overlaid two.given o) (opened_same c one.opened two.opened one.are_opened two.are_opened) ∙ sym two.replaced
 
-pub tracked_stops : (x : Texts) (t : List ℕ) (r : Result ToldText RunFault) → IfErr r (λ e. e ≡ NoMemory) → IfErr r (λ e. (u : Tracking) → IsTracker t u → Stops x e)
-tracked_stops x t (Ok told) only = tt
-tracked_stops x t (Err e) only = λ u is. memory_stops x e only
+journal_over : (c : Contents) (x : Texts) (rows : Table) → AreRowsOf c x.state rows → IsReadableOver c x → IsJournalIfGiven rows x.journal
+journal_over c x rows are readable = subst (λ t. IsJournalIfGiven t x.journal) (rows_same c x.state readable.rows rows readable.are_rows are) readable.journal
 
-pub given_stops : (x : Texts) (c : Contents) (t : List ℕ) (r : Result ToldText RunFault) → IfErr r (λ e. (u : Tracking) → IsTracker t u → Stops x e) → x.tracker ≡ Some t → IfErr r (λ e. IsReadableOver c x → Stops x e)
-given_stops x c t (Ok told) only is = tt
-given_stops x c t (Err e) only is = λ readable.
+-- a text that is a journal over these rows is refused for want of memory alone
+pub reopen_stops : {B : Type 0} (P : List Marked → B → Type 0) (rows : Table) (text : List ℕ) (r : Result B ReadError) → ((ms : List Marked) → IsJournalText rows text ms → MatchResult r (P ms) (λ e. e ≡ journal.NoMemory)) → IfErr r (λ e. IsJournalIfGiven rows (Some text) → e ≡ journal.NoMemory)
+reopen_stops P rows text (Ok b) only = tt
+reopen_stops P rows text (Err e) only = λ is. only is.0 is.1
+
+pub untold_stops : (rows : Table) (given : Option (List ℕ)) (e : ReadError) (f : RunFault) → (IsJournalIfGiven rows given → e ≡ journal.NoMemory) → f ≡ of_journal e → IsJournalIfGiven rows given → f ≡ NoMemory
+untold_stops rows given e f only is its = is ∙ ap of_journal (only its)
+
+pub tracked_stops : (x : Texts) (t : List ℕ) (rows : Table) (r : Result ToldText RunFault) → IfErr r (λ e. IsJournalIfGiven rows x.journal → e ≡ NoMemory) → IfErr r (λ e. (u : Tracking) → IsTracker t u → IsJournalIfGiven rows x.journal → Stops x e)
+tracked_stops x t rows (Ok told) only = tt
+tracked_stops x t rows (Err e) only = λ u is its. memory_stops x e (only its)
+
+pub given_stops : (x : Texts) (c : Contents) (t : List ℕ) (rows : Table) (r : Result ToldText RunFault) → IfErr r (λ e. (u : Tracking) → IsTracker t u → IsJournalIfGiven rows x.journal → Stops x e) → x.tracker ≡ Some t → AreRowsOf c x.state rows → IfErr r (λ e. IsReadableOver c x → Stops x e)
+given_stops x c t rows (Ok told) only is are = tt
+given_stops x c t rows (Err e) only is are = λ readable.
     let given = subst IsTrackerIfGiven is readable.tracker in
-    only given.0 given.1
+    only given.0 given.1 (journal_over c x rows are readable)
+
+pub untracked_stops : (x : Texts) (c : Contents) (rows : Table) (r : Result ToldText RunFault) → IfErr r (λ e. IsJournalIfGiven rows x.journal → e ≡ NoMemory) → AreRowsOf c x.state rows → IfErr r (λ e. IsReadableOver c x → Stops x e)
+untracked_stops x c rows (Ok told) only are = tt
+untracked_stops x c rows (Err e) only are = λ readable. memory_stops x e (only (journal_over c x rows are readable))
 
 -- over an archive
 pub over_archive : (x : Texts) (c a : Contents) (t : List ArchWords) (p s : List ℕ) → p ≡ x.packages → s ≡ x.sources → ((b : Contents) → IsArchive t (lines_of p) (lines_of s) b → a ≡ b) → IsArchive t (lines_of x.packages) (lines_of x.sources) c → IsReadableOver c x → IsReadableOver a x
@@ -106,6 +129,7 @@ stops_run x (Input (fault.Archive e)) h = h
 stops_run x (Input (fault.State e)) h = h
 stops_run x (Input fault.NoSuchRow) h = h
 stops_run x (Input (fault.Tracker e)) h = h
+stops_run x (Input (fault.Journal e)) h = absurd h
 stops_run x Read h = absurd h
 stops_run x TooLong h = absurd h
 stops_run x NotText h = absurd h

@@ -24,6 +24,10 @@ use Rattle.td_indices.specs.Archive.{Contents, IsArchive}
 use Rattle.td_indices.specs.Archive as archive_file
 use Rattle.td_indices.specs.declared.archive_fault.ArchiveFault.{ArchiveFault}
 use Rattle.td_indices.specs.declared.archive_fault.ArchiveFault.TheVariants as archive
+use Rattle.td_journal.specs.declared.journal_fault.ReadError.{ReadError}
+use Rattle.td_journal.specs.declared.journal_fault.ReadError.TheVariants as journal
+use Rattle.td_journal.specs.JournalFile as journal_file
+use Rattle.td_indices.specs.Supplying.{supply_of}
 use Rattle.td_query.specs.TrackerFaults as tracker_file
 use Rattle.td_query.specs.declared.tracker_fault.TrackerFault.{TrackerFault}
 use Rattle.td_query.specs.declared.tracker_fault.TrackerFault.TheVariants as tracker
@@ -32,17 +36,19 @@ use Rattle.td_script.specs.declared.running.RunFault.{RunFault}
 use Rattle.td_script.specs.declared.running.RunFault.TheVariants.{Input, Read, TooLong, NotText, Write, NoMemory}
 use Rattle.td_supply.specs.Supplied.{Supplied, fresh}
 use Rattle.td_supply.specs.Supply.{Stock, SupplyView, opened as opened_stock, stock_of}
+use Rattle.atomic_table.specs.Seated.{TableId}
 use Rattle.td_core.specs.History.{History, opened}
 use Rattle.td_query.specs.Tracking.{Tracking}
 use Rattle.td_waves.specs.declared.level.Level.{Level}
 use Rattle.td_report.specs.Transition.{AreLevels}
 use Rattle.td_book.specs.Desk.{BookModel}
+use Rattle.td_book.specs.Reopening.{IsReopened}
 use Rattle.td_script.specs.declared.told.Told.{Told as ToldText}
 use Rattle.td_script.specs.Replies.{Setting}
 use Rattle.td_script.specs.Reporting.{report_with}
 use Rattle.td_script.specs.Script.{IsTold, Told, script, told_of}
-use Rattle.td_script.specs.OpeningInside.{IsRefusedBy, IsRefusedIn, IsReplacedIn, IsToldOf, IsTrackerOf, Tells, of_archive, of_state, of_table, of_tracker}
-use Rattle.td_script.specs.Openings.{AreOpened, AreReports, AreRowsOf, IsArchiveOf, IsSetOver, Texts}
+use Rattle.td_script.specs.OpeningInside.{IsBegunBy, IsJournalFault, IsRefusedBy, IsRefusedIn, IsReplacedIn, IsToldFrom, IsToldOf, IsTrackerOf, IsUntold, Tells, of_archive, of_journal, of_state, of_table, of_tracker}
+use Rattle.td_script.specs.Openings.{AreOpened, AreReports, AreRowsOf, IsArchiveOf, IsTrackerIfGiven, Texts}
 
 -- ---- 1. faults
 
@@ -70,6 +76,18 @@ state_refused opened text (state.Twice n) h = h
 state_refused opened text (state.NotOpening n) h = h
 state_refused opened text state.TooManyRows h = h
 state_refused opened text state.NoMemory h = tt
+
+pub journal_fault : (rows : Table) (text : List ℕ) (e : ReadError) → journal_file.FaultOf rows text e → IsJournalFault rows (Some text) e
+journal_fault rows text journal.BadHeader h = h
+journal_fault rows text (journal.BadLine n) h = h
+journal_fault rows text (journal.Unlawful n) h = h
+journal_fault rows text journal.NoMemory h = tt
+
+pub journal_untold : (rows : Table) (given : Option (List ℕ)) (e : ReadError) → IsJournalFault rows given e → IsUntold rows given (of_journal e)
+journal_untold rows given journal.BadHeader h = h
+journal_untold rows given (journal.BadLine n) h = h
+journal_untold rows given (journal.Unlawful n) h = h
+journal_untold rows given journal.NoMemory h = tt
 
 pub tracker_refused : (x : Texts) (c : Contents) (rows : Table) (text : List ℕ) (e : TrackerFault) → x.tracker ≡ Some text → IsArchiveOf x c → AreRowsOf c x.state rows → tracker_file.FaultOf text e → IsRefusedBy x (of_tracker e)
 tracker_refused x c rows text (tracker.Syntax p) is archive rows_are h = (c, archive, (rows, rows_are, rw is h))
@@ -105,6 +123,7 @@ refused_row x c opened text (Input (fault.Archive e)) archive are is h = absurd 
 refused_row x c opened text (Input (fault.State e)) archive are is h = (c, archive, rw is h)
 refused_row x c opened text (Input fault.NoSuchRow) archive are is h = (c, archive, rw is (opened, are, h))
 refused_row x c opened text (Input (fault.Tracker e)) archive are is h = absurd h
+refused_row x c opened text (Input (fault.Journal e)) archive are is h = absurd h
 refused_row x c opened text Read archive are is h = absurd h
 refused_row x c opened text TooLong archive are is h = absurd h
 refused_row x c opened text NotText archive are is h = absurd h
@@ -138,21 +157,60 @@ stock-opened s k is = ap stock_of is ∙ ap (λ (l : List Supplied). record { ta
 pub fresh_supply : (s : SupplyView) (k : Stock) → s ≡ opened_stock k → s ≡ opened_stock (stock_of s)
 fresh_supply s k is = is ∙ ap opened_stock (sym (stock-opened s k is))
 
--- what is told from a book that opens so
-pub told_from : (b new : BookModel) (stock : Stock) (suites : List (List ℕ)) (suite : List ℕ) (report : Option (Table → List ℕ)) (lent rows : Table) (text : List ℕ) (told : ToldText) → IsTold (record { stock = b.fixed.stock; suites = suites; report = report }) text b new told → b.history ≡ opened lent → b.fixed.stock ≡ stock → lent ≡ rows → suites ≡ suite ∷ []
-    → IsToldOf (record { stock = stock; suites = suite ∷ []; report = report }) rows text told
-told_from b new stock suites suite report lent rows text told h is offers same its =
-    let e : told_of told new.history ≡ script (record { stock = stock; suites = suite ∷ []; report = report }) (opened rows) text =
+-- a book that opens with no entry, and one that opens again
+pub begun_fresh : (rows : Table) (table : TableId) (stock : Stock) (builders since : ℕ) (b : BookModel) → b ≡ record { history = opened rows; fixed = record { table = table; stock = stock; builders = builders; since = since } } → IsBegunBy None rows table stock builders b
+begun_fresh rows table stock builders since b is = record {
+  begun = ap (λ (x : BookModel). x.history) is;
+  table_is = ap (λ (x : BookModel). x.fixed.table) is;
+  stock_is = ap (λ (x : BookModel). x.fixed.stock) is;
+  builders_are = ap (λ (x : BookModel). x.fixed.builders) is;
+}
+
+pub begun_again : (rows : Table) (text : List ℕ) (table : TableId) (stock : Stock) (builders : ℕ) (b : BookModel) → IsReopened rows text table stock builders b → IsBegunBy (Some text) rows table stock builders b
+begun_again rows text table stock builders b is = record {
+  begun = (is.journal, is.reads, ap (λ (x : BookModel). x.history) is.is);
+  table_is = ap (λ (x : BookModel). x.fixed.table) is.is;
+  stock_is = ap (λ (x : BookModel). x.fixed.stock) is.is;
+  builders_are = ap (λ (x : BookModel). x.fixed.builders) is.is;
+}
+
+-- what is told from a book that begins so
+pub told_from : (b new : BookModel) (stock : Stock) (suites : List (List ℕ)) (suite : List ℕ) (report : Option (Table → List ℕ)) (text : List ℕ) (told : ToldText) → IsTold (record { stock = b.fixed.stock; suites = suites; report = report }) text b new told → b.fixed.stock ≡ stock → suites ≡ suite ∷ []
+    → IsToldOf (record { stock = stock; suites = suite ∷ []; report = report }) b.history text told
+told_from b new stock suites suite report text told h offers its =
+    let e : told_of told new.history ≡ script (record { stock = stock; suites = suite ∷ []; report = report }) b.history text =
     h.is
     ∙ ap (λ (x : Stock). script (record { stock = x; suites = suites; report = report }) b.history text) offers
-    ∙ ap (λ (x : List (List ℕ)). script (record { stock = stock; suites = x; report = report }) b.history text) its
-    ∙ ap (λ (x : History). script (record { stock = stock; suites = suite ∷ []; report = report }) x text) (is ∙ ap opened same) in
+    ∙ ap (λ (x : List (List ℕ)). script (record { stock = stock; suites = x; report = report }) b.history text) its in
     record { text = ap (λ (t : Told). t.text) e; refused = ap (λ (t : Told). t.refused) e }
 
+-- nothing is told over what the texts say
+untold : (x : Texts) (c : Contents) (rows : Table) (e : RunFault) → IsUntold rows x.journal e → IsArchiveOf x c → AreRowsOf c x.state rows → IsTrackerIfGiven x.tracker → IsRefusedBy x e
+untold x c rows (Input (fault.Table e)) h archive are tracker = absurd h
+untold x c rows (Input (fault.Archive e)) h archive are tracker = absurd h
+untold x c rows (Input (fault.State e)) h archive are tracker = absurd h
+untold x c rows (Input fault.NoSuchRow) h archive are tracker = absurd h
+untold x c rows (Input (fault.Tracker e)) h archive are tracker = absurd h
+untold x c rows (Input (fault.Journal e)) h archive are tracker = (c, archive, (rows, are, tracker, h))
+untold x c rows Read h archive are tracker = absurd h
+untold x c rows TooLong h archive are tracker = absurd h
+untold x c rows NotText h archive are tracker = absurd h
+untold x c rows Write h archive are tracker = absurd h
+untold x c rows NoMemory h archive are tracker = tt
+
 -- over what the texts say
-pub tells_from : (x : Texts) (c : Contents) (s : Setting) (lent rows : Table) (text : List ℕ) (r : Result ToldText RunFault) → IfOk r (IsToldOf s lent text) → IfErr r (λ f. f ≡ NoMemory) → IsArchiveOf x c → IsSetOver c x s rows → lent ≡ rows → MatchResult r (Tells x text) (IsRefusedBy x)
-tells_from x c s lent rows text (Ok told) is memory archive set same = (s, rows, (c, archive, set), subst (λ (t : Table). IsToldOf s t text told) same is)
-tells_from x c s lent rows text (Err e) is memory archive set same = subst (IsRefusedBy x) (sym memory) tt
+pub tells_from : (x : Texts) (c : Contents) (report : Option (Table → List ℕ)) (rows : Table) (text : List ℕ) (r : Result ToldText RunFault)
+    → IfOk r (IsToldFrom (record { stock = supply_of c; suites = x.suite ∷ []; report = report }) x.journal rows text) → IfErr r (IsUntold rows x.journal)
+    → IsArchiveOf x c → AreRowsOf c x.state rows → AreReports c x.tracker report → IsTrackerIfGiven x.tracker → MatchResult r (Tells x text) (IsRefusedBy x)
+tells_from x c report rows text (Ok told) is refused archive are reports tracker =
+    (record { stock = supply_of c; suites = x.suite ∷ []; report = report }, is.0, (c, archive, record { rows = rows; rows_are = are; begun = is.1; stock = refl; suites = refl; reports = reports }), is.2)
+tells_from x c report rows text (Err e) is refused archive are reports tracker = untold x c rows e refused archive are tracker
+
+pub tracker_given : (x : Texts) (t : Tracking) → IsTrackerOf x t → IsTrackerIfGiven x.tracker
+tracker_given x t is = subst IsTrackerIfGiven (sym is.1) (t, is.2)
+
+pub none_given : (x : Texts) → x.tracker ≡ None → IsTrackerIfGiven x.tracker
+none_given x is = subst IsTrackerIfGiven (sym is) tt
 
 -- the reports of a tracker
 pub tracker_reports : (x : Texts) (c a : Contents) (t u : Tracking) (level : List ℕ → Option Level) (depth : ℕ) (report : Table → List ℕ) → a ≡ c → u ≡ t → IsTrackerOf x t → AreLevels a u level depth → ((rows : Table) → report rows ≡ report_with a u level depth rows) → AreReports c x.tracker (Some report)

@@ -8,10 +8,10 @@ use Rattle.td_bytes.specs.declared.text.TextFault.{TextFault}
 use Rattle.td_script.specs.declared.running.RunFault.{RunFault}
 use Rattle.td_script.specs.declared.running.TheConstants.{SCRIPT_LIMIT}
 use Rattle.td_script.specs.declared.told.Told.{Told as ToldText}
-use Rattle.td_script.specs.Ends.{Plays, told_over}
+use Rattle.td_script.specs.Ends.{Plays}
 use Rattle.td_script.specs.OpeningInside.{IsRefusedBy, IsUnread, Tells}
 use Rattle.td_script.specs.Openings.{Texts}
-use Rattle.td_script.specs.Script.{Told}
+use Rattle.td_script.specs.Script.{Told, script}
 
 -- the known bytes are those that were read
 all_read : (known : Option (List ℕ)) (t : List ℕ) → IfSome known (λ all. t ≡ all) → IfSome known (λ all. all ≡ t)
@@ -25,5 +25,5 @@ pub plays : (x : Texts) (known : Option (List ℕ)) (read : Result (String Globa
     → ((t : Told) → string_bytes told.text ≡ t.text → told.refused ≡ t.refused → So t) → Plays x known So
 plays x known (Ok t) r told So is whole within says unread so =
     let h = MatchResult-at_ok (Tells x (string_bytes t)) (IsRefusedBy x) told is says in
-    (h.0, h.1, h.2, (string_bytes t, record { whole = all_read known (string_bytes t) whole; fits = (within, IsUtf8-string_bytes t) }, so (told_over h.0 h.1 (string_bytes t)) h.3.text h.3.refused))
+    (h.0, h.1, h.2, (string_bytes t, record { whole = all_read known (string_bytes t) whole; fits = (within, IsUtf8-string_bytes t) }, so (script h.0 h.1 (string_bytes t)) h.3.text h.3.refused))
 plays x known (Err f) r told So is whole within says unread so = absurd (subst (IsUnread x f) is unread)

@@ -2,8 +2,7 @@
 use Rattle.std.specs.Prelude.{◌≡◌, ◌≤◌, ◌<◌, ℕ, List, length, Option, Some, Result, Ok, Err, IfErr, IfSome, IsUtf8}
 use Rattle.std.specs.Io.KnownBytes.{Appends, Keeps}
 use Rattle.td_bytes.specs.Pieces.{AppendsPrefix}
-use Rattle.td_rows.specs.Table.{Table}
-use Rattle.td_core.specs.History.{opened}
+use Rattle.td_core.specs.History.{History}
 use Rattle.td_script.specs.declared.running.RunFault.{RunFault}
 use Rattle.td_script.specs.declared.running.RunFault.TheVariants.{Input, Read, TooLong, NotText, Write, NoMemory}
 use Rattle.td_script.specs.declared.running.ScriptEnd.{ScriptEnd}
@@ -22,17 +21,13 @@ pub record IsScript (known : Option (List ℕ)) (text : List ℕ) : Type 0 where
   pub whole : IfSome known (λ all. all ≡ text)
   pub fits : IsScriptText text
 
--- what is told of a script over what the texts say
-abbrev pub told_over : Setting → Table → List ℕ → Told
-told_over s rows text = script s (opened rows) text
-
 -- what was read is a script, and this is so of what is told of it over what the texts say
 abbrev pub Plays : Texts → Option (List ℕ) → (Told → Type 0) → Type 0
-Plays x known So = (s : Setting) × (rows : Table) × IsSet x s rows × ((text : List ℕ) × IsScript known text × So (told_over s rows text))
+Plays x known So = (s : Setting) × (h : History) × IsSet x s h × ((text : List ℕ) × IsScript known text × So (script s h text))
 
 -- the texts say something: no fault of a script comes before one of theirs
 abbrev pub AreFine : Texts → Type 0
-AreFine x = (s : Setting) × (rows : Table) × IsSet x s rows
+AreFine x = (s : Setting) × (h : History) × IsSet x s h
 
 -- what an end says: the whole text is written and its refusals are counted, or a front of it where the writer failed; at every other fault nothing is written
 abbrev pub Says : Texts → Option (List ℕ) → Option (List ℕ) → Option (List ℕ) → Result ScriptEnd RunFault → Type 0
@@ -51,6 +46,7 @@ MayStop x (Input (fault.Archive e)) = ⊥
 MayStop x (Input (fault.State e)) = ⊥
 MayStop x (Input fault.NoSuchRow) = ⊥
 MayStop x (Input (fault.Tracker e)) = IsPatternRefused x.tracker e
+MayStop x (Input (fault.Journal e)) = ⊥
 MayStop x Read = Unit {0}
 MayStop x TooLong = ⊥
 MayStop x NotText = ⊥

@@ -9,10 +9,12 @@ use Rattle.td_indices.specs.FaultNames as archive_fault
 use Rattle.td_rows.specs.declared.state_file.StateFault.{StateFault}
 use Rattle.td_rows.specs.declared.state_file.StateFault.TheVariants as state
 use Rattle.td_query.specs.TrackerFaults as tracker_fault
+use Rattle.td_journal.specs.declared.journal_fault.ReadError.{ReadError}
+use Rattle.td_journal.specs.declared.journal_fault.ReadError.TheVariants as journal
 use Rattle.td_script.specs.declared.role.Role.{Role}
 use Rattle.td_script.specs.declared.role.Role.TheVariants as role
 use Rattle.td_script.specs.declared.input_fault.InputFault.{InputFault}
-use Rattle.td_script.specs.declared.input_fault.InputFault.TheVariants.{Table, Archive, State, NoSuchRow, Tracker}
+use Rattle.td_script.specs.declared.input_fault.InputFault.TheVariants.{Table, Archive, State, NoSuchRow, Tracker, Journal}
 
 -- what a text is read as
 abbrev pub role_name : Role → List ℕ
@@ -21,6 +23,7 @@ role_name role.Packages = codes "packages"
 role_name role.Sources = codes "sources"
 role_name role.State = codes "state"
 role_name role.Tracker = codes "tracker"
+role_name role.Journal = codes "journal"
 
 -- one of the two indices
 abbrev pub role_of_index : IndexFile → Role
@@ -43,6 +46,7 @@ role_of (Archive e) = role_of_archive e
 role_of (State e) = role.State
 role_of NoSuchRow = role.State
 role_of (Tracker e) = role.Tracker
+role_of (Journal e) = role.Journal
 
 -- the name of what is wrong with a state file
 abbrev pub state_fault_name : StateFault → List ℕ
@@ -52,6 +56,13 @@ state_fault_name (state.NotOpening n) = codes "NotOpening"
 state_fault_name state.TooManyRows = codes "TooManyRows"
 state_fault_name state.NoMemory = codes "NoMemory"
 
+-- the name of what is wrong with a journal
+abbrev pub journal_fault_name : ReadError → List ℕ
+journal_fault_name journal.BadHeader = codes "BadHeader"
+journal_fault_name (journal.BadLine n) = codes "BadLine"
+journal_fault_name (journal.Unlawful n) = codes "Unlawful"
+journal_fault_name journal.NoMemory = codes "NoMemory"
+
 -- the name of what is wrong with a text
 abbrev pub fault_name : InputFault → List ℕ
 fault_name (Table e) = archs_fault.name_of e
@@ -59,3 +70,4 @@ fault_name (Archive e) = archive_fault.name_of e
 fault_name (State e) = state_fault_name e
 fault_name NoSuchRow = codes "NoSuchRow"
 fault_name (Tracker e) = tracker_fault.fault_name e
+fault_name (Journal e) = journal_fault_name e

@@ -1,5 +1,5 @@
 -- What the inner functions of a run answer. This project's own.
-use Rattle.std.specs.Prelude.{◌≡◌, ℕ, List, Some, Result, Ok, Err, string_bytes}
+use Rattle.std.specs.Prelude.{◌≡◌, ℕ, List, Option, Some, Result, Ok, Err, string_bytes}
 use Rattle.td_bytes.specs.declared.text.TextFault.{TextFault}
 use Rattle.td_bytes.specs.declared.text.TextFault.TheVariants as text
 use Rattle.td_text.specs.Lines.{lines_of}
@@ -12,6 +12,12 @@ use Rattle.td_rows.specs.Table.{Table}
 use Rattle.td_rows.specs.declared.key.Key.{Key}
 use Rattle.td_rows.specs.declared.state_file.StateFault.{StateFault}
 use Rattle.td_rows.specs.declared.state_file.StateFault.TheVariants as state
+use Rattle.td_journal.specs.declared.journal_fault.ReadError.{ReadError}
+use Rattle.td_journal.specs.declared.journal_fault.ReadError.TheVariants as journal
+use Rattle.td_core.specs.History.{History}
+use Rattle.atomic_table.specs.Seated.{TableId}
+use Rattle.td_supply.specs.Supply.{Stock}
+use Rattle.td_book.specs.Desk.{BookModel}
 use Rattle.td_indices.specs.Archive.{Contents, IsArchive}
 use Rattle.td_indices.specs.declared.archive_fault.ArchiveFault.{ArchiveFault}
 use Rattle.td_indices.specs.declared.archive_fault.ArchiveFault.TheVariants as archive
@@ -23,9 +29,10 @@ use Rattle.td_script.specs.declared.input_fault.InputFault.TheVariants as fault
 use Rattle.td_script.specs.declared.running.RunFault.{RunFault}
 use Rattle.td_script.specs.declared.running.RunFault.TheVariants.{Input, Read, TooLong, NotText, Write, NoMemory}
 use Rattle.td_script.specs.declared.told.Told.{Told as ToldText}
-use Rattle.td_script.specs.Ends.{AreFine, told_over}
-use Rattle.td_script.specs.Openings.{IsNoState, IsPatternRefused, IsReadableOver, IsRefused, IsSet, Texts}
+use Rattle.td_script.specs.Ends.{AreFine}
+use Rattle.td_script.specs.Openings.{IsBegun, IsNoJournal, IsNoState, IsPatternRefused, IsReadableOver, IsRefused, IsSet, Texts}
 use Rattle.td_script.specs.Replies.{Setting}
+use Rattle.td_script.specs.Script.{script}
 
 -- ---- 1. faults
 
@@ -56,6 +63,11 @@ abbrev pub of_tracker : TrackerFault → RunFault
 of_tracker tracker.NoMemory = NoMemory
 of_tracker e = Input (fault.Tracker e)
 
+-- where a text is no journal
+abbrev pub of_journal : ReadError → RunFault
+of_journal journal.NoMemory = NoMemory
+of_journal e = Input (fault.Journal e)
+
 -- a text is refused for this, or memory runs out
 abbrev pub IsRefusedBy : Texts → RunFault → Type 0
 IsRefusedBy x (Input e) = IsRefused x e
@@ -81,6 +93,7 @@ IsInputRefusedIn opened text (fault.Archive e) = ⊥
 IsInputRefusedIn opened text (fault.State e) = IsNoState (Some text) e
 IsInputRefusedIn opened text fault.NoSuchRow = (given : Table) × IsStateFile (lines_of text) given × ((k : Key) × (first_missing opened given ≡ Some k))
 IsInputRefusedIn opened text (fault.Tracker e) = ⊥
+IsInputRefusedIn opened text (fault.Journal e) = ⊥
 
 -- it is no state file, or has a row that these haven't, or memory runs out
 abbrev pub IsRefusedIn : Table → List ℕ → RunFault → Type 0
@@ -97,14 +110,44 @@ IsRefusedIn opened text NoMemory = Unit {0}
 abbrev pub IsTrackerOf : Texts → Tracking → Type 0
 IsTrackerOf x t = (text : List ℕ) × (x.tracker ≡ Some text) × IsTracker text t
 
--- this is told of a script from these rows
-pub record IsToldOf (s : Setting) (rows : Table) (script : List ℕ) (told : ToldText) : Type 0 where
-  pub text : string_bytes told.text ≡ (told_over s rows script).text
-  pub refused : told.refused ≡ (told_over s rows script).refused
+-- a book of these rows begins: with no entry, or with the journal over them that is gone on with
+pub record IsBegunBy (given : Option (List ℕ)) (rows : Table) (table : TableId) (stock : Stock) (builders : ℕ) (book : BookModel) : Type 0 where
+  pub begun : IsBegun given rows book.history
+  pub table_is : book.fixed.table ≡ table
+  pub stock_is : book.fixed.stock ≡ stock
+  pub builders_are : book.fixed.builders ≡ builders
+
+-- a text is no journal over these rows, for this, or memory runs out
+abbrev pub IsJournalFault : Table → Option (List ℕ) → ReadError → Type 0
+IsJournalFault rows given journal.NoMemory = Unit {0}
+IsJournalFault rows given e = IsNoJournal rows given e
+
+-- and so nothing is told from these rows
+abbrev pub IsUntold : Table → Option (List ℕ) → RunFault → Type 0
+IsUntold rows given (Input (fault.Table e)) = ⊥
+IsUntold rows given (Input (fault.Archive e)) = ⊥
+IsUntold rows given (Input (fault.State e)) = ⊥
+IsUntold rows given (Input fault.NoSuchRow) = ⊥
+IsUntold rows given (Input (fault.Tracker e)) = ⊥
+IsUntold rows given (Input (fault.Journal e)) = IsNoJournal rows given e
+IsUntold rows given Read = ⊥
+IsUntold rows given TooLong = ⊥
+IsUntold rows given NotText = ⊥
+IsUntold rows given Write = ⊥
+IsUntold rows given NoMemory = Unit {0}
+
+-- this is told of a script from this history
+pub record IsToldOf (s : Setting) (h : History) (lines : List ℕ) (told : ToldText) : Type 0 where
+  pub text : string_bytes told.text ≡ (script s h lines).text
+  pub refused : told.refused ≡ (script s h lines).refused
+
+-- the same from these rows, or from the journal over them that is gone on with
+abbrev pub IsToldFrom : Setting → Option (List ℕ) → Table → List ℕ → ToldText → Type 0
+IsToldFrom s given rows text told = (h : History) × IsBegun given rows h × IsToldOf s h text told
 
 -- the same over what the texts say
 abbrev pub Tells : Texts → List ℕ → ToldText → Type 0
-Tells x script told = (s : Setting) × (rows : Table) × IsSet x s rows × IsToldOf s rows script told
+Tells x text told = (s : Setting) × (h : History) × IsSet x s h × IsToldOf s h text told
 
 -- no script was read, for this: a text is refused before it, or memory runs out
 abbrev pub IsUnread : Texts → TextFault → Result ToldText RunFault → Type 0
@@ -130,6 +173,7 @@ Stops x (Input (fault.Archive e)) = ⊥
 Stops x (Input (fault.State e)) = ⊥
 Stops x (Input fault.NoSuchRow) = ⊥
 Stops x (Input (fault.Tracker e)) = IsPatternRefused x.tracker e
+Stops x (Input (fault.Journal e)) = ⊥
 Stops x Read = ⊥
 Stops x TooLong = ⊥
 Stops x NotText = ⊥

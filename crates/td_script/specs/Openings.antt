@@ -1,4 +1,4 @@
--- From what a script starts: the rows, the offers and the reports that the texts of files say. This project's own.
+-- From what a script starts: the history, the offers and the reports that the texts of files say. This project's own.
 use Rattle.std.specs.Prelude.{◌≡◌, ℕ, true, List, [], ◌∷◌, Option, Some, None, length, option_map, string_bytes}
 use Rattle.td_text.specs.Lines.{lines_of}
 use Rattle.td_relation.specs.Arch.{ArchWords}
@@ -14,6 +14,13 @@ use Rattle.td_rows.specs.Table.{Table, keys_of, row_of}
 use Rattle.td_rows.specs.declared.key.Key.{Key}
 use Rattle.td_rows.specs.declared.state_file.StateFault.{StateFault}
 use Rattle.td_rows.specs.declared.state_file.StateFault.TheVariants as state
+use Rattle.td_journal.specs.declared.entry.Marked.{Marked}
+use Rattle.td_journal.specs.declared.journal_fault.ReadError.{ReadError}
+use Rattle.td_journal.specs.declared.journal_fault.ReadError.TheVariants as journal
+use Rattle.td_journal.specs.JournalFile.{IsJournalText}
+use Rattle.td_journal.specs.JournalFile as journal_file
+use Rattle.td_core.specs.History.{History, history_of, opened}
+use Rattle.td_book.specs.Reopening.{given_back}
 use Rattle.td_indices.specs.Archive.{Contents, IsArchive}
 use Rattle.td_indices.specs.Archive as archive_file
 use Rattle.td_indices.specs.Opening.{opening_row}
@@ -42,6 +49,7 @@ pub record Texts : Type 0 where
   pub sources : List ℕ
   pub state : Option (List ℕ)
   pub tracker : Option (List ℕ)
+  pub journal : Option (List ℕ)
   pub suite : List ℕ
 
 -- those of inputs
@@ -52,6 +60,7 @@ texts_of x = record {
   sources = string_bytes x.sources;
   state = option_map string_bytes x.state;
   tracker = option_map string_bytes x.tracker;
+  journal = option_map string_bytes x.journal;
   suite = string_bytes x.suite;
 }
 
@@ -74,10 +83,15 @@ pub record AreReplaced (c : Contents) (text : List ℕ) (rows : Table) : Type 0 
   pub none_missing : (k : Key) → first_missing opened given ≡ Some k → ⊥
   pub replaced : rows ≡ overlaid given opened
 
--- the rows from which the script starts
+-- the opening rows
 abbrev pub AreRowsOf : Contents → Option (List ℕ) → Table → Type 0
 AreRowsOf c None rows = AreOpened c rows
 AreRowsOf c (Some text) rows = AreReplaced c text rows
+
+-- the history from which the script starts: that before the first entry, or that of the journal that is gone on with, in which each build that was left is given back
+abbrev pub IsBegun : Option (List ℕ) → Table → History → Type 0
+IsBegun None rows h = h ≡ opened rows
+IsBegun (Some text) rows h = (entries : List Marked) × IsJournalText rows text entries × (h ≡ given_back (history_of rows entries))
 
 -- the reports of a tracker: of any rows by the same levels, which are those of its affected sources
 pub record AreReportsOf (c : Contents) (text : List ℕ) (report : Table → List ℕ) : Type 0 where
@@ -95,18 +109,20 @@ AreReports c None (Some report) = ⊥
 AreReports c (Some text) None = ⊥
 AreReports c (Some text) (Some report) = AreReportsOf c text report
 
--- what stands over an archive: the offers of its index, the suite, the reports, and the rows from which the script starts
-pub record IsSetOver (c : Contents) (x : Texts) (s : Setting) (rows : Table) : Type 0 where
+-- what stands over an archive: the offers of its index, the suite, the reports, and the history from which the script starts
+pub record IsSetOver (c : Contents) (x : Texts) (s : Setting) (h : History) : Type 0 where
+  pub rows : Table
   pub rows_are : AreRowsOf c x.state rows
+  pub begun : IsBegun x.journal rows h
   pub stock : s.stock ≡ supply_of c
   pub suites : s.suites ≡ x.suite ∷ []
   pub reports : AreReports c x.tracker s.report
 
 -- what the texts say
-abbrev pub IsSet : Texts → Setting → Table → Type 0
-IsSet x s rows = (c : Contents) × IsArchiveOf x c × IsSetOver c x s rows
+abbrev pub IsSet : Texts → Setting → History → Type 0
+IsSet x s h = (c : Contents) × IsArchiveOf x c × IsSetOver c x s h
 
--- ---- 2. what is wrong: in the order of the table, the indices, the rows, the tracker
+-- ---- 2. what is wrong: in the order of the table, the indices, the rows, the tracker, the journal
 
 abbrev pub IsNoTable : Texts → ArchsFault → Type 0
 IsNoTable x table.NoMemory = ⊥
@@ -134,13 +150,25 @@ IsNoTracker None e = ⊥
 IsNoTracker (Some text) tracker.NoMemory = ⊥
 IsNoTracker (Some text) e = tracker_file.FaultOf text e
 
--- over an archive, a text is refused for this: the rows before the tracker
+-- a text is given, and is no journal over these rows
+abbrev pub IsNoJournal : Table → Option (List ℕ) → ReadError → Type 0
+IsNoJournal rows None e = ⊥
+IsNoJournal rows (Some text) journal.NoMemory = ⊥
+IsNoJournal rows (Some text) e = journal_file.FaultOf rows text e
+
+-- a tracker, where one is given
+abbrev pub IsTrackerIfGiven : Option (List ℕ) → Type 0
+IsTrackerIfGiven None = Unit {0}
+IsTrackerIfGiven (Some text) = (t : Tracking) × IsTracker text t
+
+-- over an archive, a text is refused for this: the rows before the tracker, and that before the journal
 abbrev pub IsRefusedOver : Contents → Texts → InputFault → Type 0
 IsRefusedOver c x (fault.Table e) = ⊥
 IsRefusedOver c x (fault.Archive e) = ⊥
 IsRefusedOver c x (fault.State e) = IsNoState x.state e
 IsRefusedOver c x fault.NoSuchRow = LacksRow c x.state
 IsRefusedOver c x (fault.Tracker e) = (rows : Table) × AreRowsOf c x.state rows × IsNoTracker x.tracker e
+IsRefusedOver c x (fault.Journal e) = (rows : Table) × AreRowsOf c x.state rows × IsTrackerIfGiven x.tracker × IsNoJournal rows x.journal e
 
 -- a text is refused for this
 abbrev pub IsRefused : Texts → InputFault → Type 0
@@ -149,19 +177,21 @@ IsRefused x (fault.Archive e) = AreNoIndices x e
 IsRefused x (fault.State e) = (c : Contents) × IsArchiveOf x c × IsRefusedOver c x (fault.State e)
 IsRefused x fault.NoSuchRow = (c : Contents) × IsArchiveOf x c × IsRefusedOver c x fault.NoSuchRow
 IsRefused x (fault.Tracker e) = (c : Contents) × IsArchiveOf x c × IsRefusedOver c x (fault.Tracker e)
+IsRefused x (fault.Journal e) = (c : Contents) × IsArchiveOf x c × IsRefusedOver c x (fault.Journal e)
 
 -- ---- 3. what can't be refused
 
--- a tracker, where one is given
-abbrev pub IsTrackerIfGiven : Option (List ℕ) → Type 0
-IsTrackerIfGiven None = Unit {0}
-IsTrackerIfGiven (Some text) = (t : Tracking) × IsTracker text t
+-- a journal over these rows, where one is given
+abbrev pub IsJournalIfGiven : Table → Option (List ℕ) → Type 0
+IsJournalIfGiven rows None = Unit {0}
+IsJournalIfGiven rows (Some text) = (entries : List Marked) × IsJournalText rows text entries
 
--- rows for an archive, and a tracker where one is given
+-- rows for an archive, and a tracker and a journal over them where they are given
 pub record IsReadableOver (c : Contents) (x : Texts) : Type 0 where
   pub rows : Table
   pub are_rows : AreRowsOf c x.state rows
   pub tracker : IsTrackerIfGiven x.tracker
+  pub journal : IsJournalIfGiven rows x.journal
 
 -- the texts are an archive, and what stands over it can be read
 abbrev pub AreReadable : Texts → Type 0

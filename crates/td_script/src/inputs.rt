@@ -16,6 +16,8 @@ pub struct Inputs {
     /// Rows that are put in the place of those with which the archive opens.
     pub state: Option<String>,
     pub tracker: Option<String>,
+    /// The text of the journal that is gone on with.
+    pub journal: Option<String>,
     pub suite: String,
     /// How the builds of a crew end. A script without builders doesn't look at it.
     pub outcomes: Option<String>,

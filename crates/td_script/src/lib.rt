@@ -9,6 +9,7 @@
 #![tactic(auto)]
 
 mod answering;
+mod beginning;
 mod commanding;
 mod dispatch;
 mod input_fault;

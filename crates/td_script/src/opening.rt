@@ -5,21 +5,22 @@ ghost use Rattle.td_relation.specs.TableFile.{IsTable};
 ghost use Rattle.td_relation.specs.TableView.{table};
 ghost use Rattle.td_core.specs.Phases.{NoneBuilt};
 ghost use Rattle.td_indices.specs.Supplying.{supply_of};
-ghost use Rattle.td_script.specs.Openings.{AreReadable, AreRowsOf, IsArchiveOf, IsReadableOver, texts_of};
+ghost use Rattle.td_script.specs.Openings.{AreReadable, AreRowsOf, IsArchiveOf, IsJournalIfGiven, IsReadableOver, texts_of};
 ghost use Rattle.td_book.specs.Desk.{Fixed};
 ghost use Rattle.td_query.specs.Tracking.{IsTracker, Tracking, tracking};
 ghost use Rattle.td_rows.specs.Table.{Table};
-ghost use Rattle.td_script.specs.OpeningInside.{AreReadableWith, CanReplace, Stops, IsRefusedBy, IsRefusedIn, IsReplacedIn, IsToldOf, IsTrackerOf, Tells, of_archive, of_state, of_table, of_tracker};
+ghost use Rattle.td_script.specs.OpeningInside.{AreReadableWith, CanReplace, IsJournalFault, Stops, IsRefusedBy, IsRefusedIn, IsReplacedIn, IsToldFrom, IsTrackerOf, IsUntold, Tells, of_archive, of_journal, of_state, of_table, of_tracker};
 
+use crate::beginning::begin;
 use crate::input_fault::InputFault;
 use crate::inputs::Inputs;
 use crate::reports::Reports;
 use crate::running::RunFault;
 use crate::told::{Told, tell};
-use std::alloc::{AllocError, Global};
+use std::alloc::Global;
 use td_board::Board;
-use td_book::Book;
 use td_indices::{Archive, ArchiveFault};
+use td_journal::ReadError;
 use td_query::{Tracker, TrackerFault};
 use td_relation::{Archs, ArchsFault};
 use td_report::Transition;
@@ -65,6 +66,16 @@ fn fault_of_tracker(fault: TrackerFault) -> RunFault
     }
 }
 
+// The same where a text is no journal.
+fn fault_of_journal(fault: ReadError) -> RunFault
+    ensures { result ≡ of_journal fault }
+{
+    match fault {
+        ReadError::NoMemory => RunFault::NoMemory,
+        fault => RunFault::Input(InputFault::Journal(fault)),
+    }
+}
+
 // The rows with those of a state file in the place of the ones of their keys.
 fn replaced(alloc: Global, mut rows: Rows, text: &str) -> Result<Rows, RunFault>
     requires { NoneBuilt rows }
@@ -102,53 +113,86 @@ fn rows_of(alloc: Global, archive: &Archive<'_, '_>, inputs: &Inputs) -> Result<
     }
 }
 
-// What is told of a script from these rows, over what an archive offers.
+// The text of the journal that is gone on with.
+fn journal_of(inputs: &Inputs) -> Option<&str>
+    ensures { option_map (λ s. s.now) result ≡ (texts_of inputs.now).journal }
+{
+    match &inputs.journal {
+        Some(text) => Some(text.as_str()),
+        None => None,
+    }
+}
+
+// What is told of a script from these rows, or from the journal over them that is gone on with,
+// over what an archive offers.
 fn tell_from<T: Reports>(
     alloc: Global,
     archive: &Archive<'_, '_>,
     rows: Rows,
-    suite: &str,
+    inputs: &Inputs,
     reports: Option<&T>,
     script: &str,
 ) -> Result<Told, RunFault>
     requires idle { NoneBuilt rows }
     requires fits { IfSome reports (λ r. (f : Fixed) → T.fits r.now f) }
     requires small { length script.now < 2 ^ 63 - 1 }
-    ensures told { IfOk result (IsToldOf (record { stock = supply_of archive.now; suites = suite.now ∷ []; report = option_map (λ r. T.text r.now) reports.entry }) rows script.now) }
-    ensures memory { IfErr result (λ fault. fault ≡ RunFault.NoMemory) }
+    ensures told { IfOk result (IsToldFrom (record { stock = supply_of archive.now; suites = (texts_of inputs.now).suite ∷ []; report = option_map (λ r. T.text r.now) reports.entry }) (texts_of inputs.now).journal rows script.now) }
+    ensures refused { IfErr result (IsUntold rows (texts_of inputs.now).journal) }
+    ensures only { IfErr result (λ fault. IsJournalIfGiven rows (texts_of inputs.now).journal → fault ≡ RunFault.NoMemory) }
 {
-    match tell_in(alloc, archive, rows, suite, reports, script) {
+    let suite = inputs.suite.as_str();
+    match tell_in(
+        alloc,
+        archive,
+        rows,
+        suite,
+        journal_of(inputs),
+        reports,
+        script,
+    ) {
         Ok(told) => Ok(told),
-        Err(_) => Err(RunFault::NoMemory),
+        Err(fault) => Err(fault_of_journal(fault)),
     }
 }
 
-// The same, where nothing but memory may be wanting.
+// The same, where nothing but the journal may be refused.
 fn tell_in<T: Reports>(
     alloc: Global,
     archive: &Archive<'_, '_>,
     rows: Rows,
     suite: &str,
+    journal: Option<&str>,
     reports: Option<&T>,
     script: &str,
-) -> Result<Told, AllocError>
+) -> Result<Told, ReadError>
     requires idle { NoneBuilt rows }
     requires fits { IfSome reports (λ r. (f : Fixed) → T.fits r.now f) }
     requires small { length script.now < 2 ^ 63 - 1 }
-    ensures { IfOk result (IsToldOf (record { stock = supply_of archive.now; suites = suite.now ∷ []; report = option_map (λ r. T.text r.now) reports.entry }) rows script.now) }
+    ensures told { IfOk result (IsToldFrom (record { stock = supply_of archive.now; suites = suite.now ∷ []; report = option_map (λ r. T.text r.now) reports.entry }) (option_map (λ s. s.now) journal.entry) rows script.now) }
+    ensures fault { IfErr result (IsJournalFault rows (option_map (λ s. s.now) journal.entry)) }
+    ensures only { IfErr result (λ fault. IsJournalIfGiven rows (option_map (λ s. s.now) journal.entry) → fault ≡ ReadError.NoMemory) }
 {
     let Ok((board, desk, _seats)) = Board::make(alloc, rows.len(), 0) else {
-        return Err(AllocError);
+        return Err(ReadError::NoMemory);
     };
-    let mut book = Book::open(alloc, &board, desk, rows, archive.supply()?)?;
-    tell(
+    let Ok(supply) = archive.supply() else {
+        return Err(ReadError::NoMemory);
+    };
+    let mut book = match begin(alloc, &board, desk, rows, supply, journal) {
+        Ok(book) => book,
+        Err(fault) => return Err(fault),
+    };
+    match tell(
         alloc,
         &mut book,
         &board,
         [suite].as_slice(),
         reports,
         script,
-    )
+    ) {
+        Ok(told) => Ok(told),
+        Err(_) => Err(ReadError::NoMemory),
+    }
 }
 
 // The same, with the reports of a tracker.
@@ -166,13 +210,12 @@ fn tell_tracked(
     requires idle { NoneBuilt rows }
     requires small { length script.now < 2 ^ 63 - 1 }
     ensures tells { MatchResult result (Tells (texts_of inputs.now) script.now) (IsRefusedBy (texts_of inputs.now)) }
-    ensures memory { IfErr result (λ fault. fault ≡ RunFault.NoMemory) }
+    ensures only { IfErr result (λ fault. IsJournalIfGiven rows (texts_of inputs.now).journal → fault ≡ RunFault.NoMemory) }
 {
-    let Ok(transition) = Transition::of(alloc, archive, tracker) else {
-        return Err(RunFault::NoMemory);
-    };
-    let suite = inputs.suite.as_str();
-    tell_from(alloc, archive, rows, suite, Some(&transition), script)
+    match Transition::of(alloc, archive, tracker) {
+        Ok(transition) => tell_from(alloc, archive, rows, inputs, Some(&transition), script),
+        Err(_) => Err(RunFault::NoMemory),
+    }
 }
 
 // The same, with the reports of the tracker of a text.
@@ -190,7 +233,7 @@ fn tell_with_tracker(
     requires idle { NoneBuilt rows }
     requires small { length script.now < 2 ^ 63 - 1 }
     ensures tells { MatchResult result (Tells (texts_of inputs.now) script.now) (IsRefusedBy (texts_of inputs.now)) }
-    ensures only { IfErr result (λ fault. (t : Tracking) → IsTracker text.now t → Stops (texts_of inputs.now) fault) }
+    ensures only { IfErr result (λ fault. (t : Tracking) → IsTracker text.now t → IsJournalIfGiven rows (texts_of inputs.now).journal → Stops (texts_of inputs.now) fault) }
 {
     match Tracker::read(alloc, text) {
         Ok(tracker) => tell_tracked(alloc, archive, &tracker, rows, inputs, script),
@@ -212,11 +255,10 @@ fn tell_untracked(
     requires idle { NoneBuilt rows }
     requires small { length script.now < 2 ^ 63 - 1 }
     ensures tells { MatchResult result (Tells (texts_of inputs.now) script.now) (IsRefusedBy (texts_of inputs.now)) }
-    ensures memory { IfErr result (λ fault. fault ≡ RunFault.NoMemory) }
+    ensures only { IfErr result (λ fault. IsJournalIfGiven rows (texts_of inputs.now).journal → fault ≡ RunFault.NoMemory) }
 {
-    let suite = inputs.suite.as_str();
     let none = Option::<&Transition<'_, '_, '_, '_>>::None;
-    tell_from(alloc, archive, rows, suite, none, script)
+    tell_from(alloc, archive, rows, inputs, none, script)
 }
 
 // What is told of a script over an archive.

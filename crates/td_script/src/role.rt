@@ -15,6 +15,8 @@ pub enum Role {
     State,
     /// The tracker.
     Tracker,
+    /// The journal that is gone on with.
+    Journal,
 }
 
 impl Role {
@@ -28,6 +30,7 @@ impl Role {
             Role::Sources => "sources",
             Role::State => "state",
             Role::Tracker => "tracker",
+            Role::Journal => "journal",
         }
     }
 }

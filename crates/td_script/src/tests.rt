@@ -2,11 +2,12 @@
 //! is due. The scripts and their answers are this project's worked examples, as in `examples/`.
 ghost use Rattle.std.specs.Prelude.{Some};
 
-use crate::{Inputs, RunFault, ScriptEnd, run_script};
+use crate::{InputFault, Inputs, RunFault, ScriptEnd, run_script};
 use std::alloc::{AllocError, Global};
 use std::io;
 use std::io::{ErrorKind, Read, Write};
 use std::test::Fail;
+use td_journal::ReadError;
 
 const ARCHS: &str = "amd64 linux amd64\ni386 linux i386\n";
 
@@ -94,17 +95,26 @@ impl Write for Narrow {
     }
 }
 
-fn inputs(alloc: Global, state: &str, tracker: Option<&str>) -> Result<Inputs, AllocError> {
-    let tracker = match tracker {
-        Some(text) => Some(String::from_str(alloc, text)?),
-        None => None,
-    };
+fn owned(alloc: Global, text: Option<&str>) -> Result<Option<String>, AllocError> {
+    match text {
+        Some(text) => Ok(Some(String::from_str(alloc, text)?)),
+        None => Ok(None),
+    }
+}
+
+fn inputs(
+    alloc: Global,
+    state: &str,
+    tracker: Option<&str>,
+    journal: Option<&str>,
+) -> Result<Inputs, AllocError> {
     Ok(Inputs {
         archs: String::from_str(alloc, ARCHS)?,
         packages: String::from_str(alloc, PACKAGES)?,
         sources: String::from_str(alloc, SOURCES)?,
         state: Some(String::from_str(alloc, state)?),
-        tracker,
+        tracker: owned(alloc, tracker)?,
+        journal: owned(alloc, journal)?,
         suite: String::from_str(alloc, "unstable")?,
         outcomes: None,
         builders: 0,
@@ -312,7 +322,7 @@ fn each_line_of_a_script_is_answered(rt: HostRuntime) -> Result<(), Fail> {
             13,
         ),
     ] {
-        let inputs = inputs(alloc, state, None)?;
+        let inputs = inputs(alloc, state, None, None)?;
         let (found, end) = ran(alloc, &inputs, script.as_bytes(), 9999, 9999);
         assert!(rt; found.as_slice() == text.as_bytes(), "{script}");
         assert_eq!(rt; end, Ok(ScriptEnd { refusals }), "{script}");
@@ -323,7 +333,7 @@ fn each_line_of_a_script_is_answered(rt: HostRuntime) -> Result<(), Fail> {
 #[test]
 fn a_report_is_of_the_rows_as_they_are(rt: HostRuntime) -> Result<(), Fail> {
     let alloc = rt.alloc();
-    let inputs = inputs(alloc, "", Some(TRACKER))?;
+    let inputs = inputs(alloc, "", Some(TRACKER), None)?;
     let (found, end) = ran(alloc, &inputs, b"nmu foo . i386\nreport\n", 99, 999);
     assert_eq!(rt; end, Ok(ScriptEnd { refusals: 0 }));
     let text =
@@ -332,11 +342,53 @@ fn a_report_is_of_the_rows_as_they_are(rt: HostRuntime) -> Result<(), Fail> {
     Ok(())
 }
 
+// The claim of the first builder, which nobody ended.
+const CLAIMED: &str = "\
+transdesk journal 1
+1 + nmu foo/amd64
+2 + claim=1 foo/amd64
+";
+
+#[test]
+fn a_script_goes_on_with_a_journal(rt: HostRuntime) -> Result<(), Fail> {
+    let alloc = rt.alloc();
+    let inputs = inputs(alloc, "", None, Some(CLAIMED))?;
+    let (found, end) = ran(alloc, &inputs, b"journal\nundo 1\nrow foo amd64\n", 99, 999);
+    assert_eq!(rt; end, Ok(ScriptEnd { refusals: 1 }));
+    let text =
+        "transdesk journal 2\n1 + nmu foo/amd64\n2 + claim=1 foo/amd64\n3 + givenback=1 foo/amd64\nrefused: Blocked 3\nfoo/amd64 Needs-Build 0 1\n";
+    assert!(rt; found.as_slice() == text.as_bytes());
+    Ok(())
+}
+
+#[test]
+fn a_text_that_is_no_journal_is_refused(rt: HostRuntime) -> Result<(), Fail> {
+    let alloc = rt.alloc();
+    for (journal, fault) in [
+        ("", ReadError::BadHeader),
+        ("transdesk journal 1\nx\n", ReadError::BadLine(2)),
+        (
+            "transdesk journal 1\n1 - nmu foo/amd64\n2 + dw foo/amd64 : libbar-dev\n",
+            ReadError::Unlawful(2),
+        ),
+    ] {
+        let inputs = inputs(alloc, "", None, Some(journal))?;
+        let (found, end) = ran(alloc, &inputs, b"journal\n", 99, 999);
+        assert_eq!(rt;
+            end,
+            Err(RunFault::Input(InputFault::Journal(fault))),
+            "{journal}"
+        );
+        assert!(rt; found.is_empty(), "{journal}");
+    }
+    Ok(())
+}
+
 // NUMBER_BACK has 61 bytes, and what is told of it 111.
 #[test]
 fn a_fault_of_a_stream_leaves_a_front(rt: HostRuntime) -> Result<(), Fail> {
     let alloc = rt.alloc();
-    let inputs = inputs(alloc, "", None)?;
+    let inputs = inputs(alloc, "", None, None)?;
     let script = NUMBER_BACK.as_bytes();
     let (whole, _) = ran(alloc, &inputs, script, 999, 999);
     for room in 0..whole.len() {

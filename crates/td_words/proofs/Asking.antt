@@ -64,7 +64,7 @@ asks_for_plain_run program archs packages sources =
 
 pub asks_for_whole_run : WholeRunWordsAsk
 unfolding clap_on_literals
-asks_for_whole_run program archs packages sources state tracker suite builders outcomes count same =
+asks_for_whole_run program archs packages sources state tracker suite builders outcomes journal count same =
     ((refl, refl), record { files = record { archs_path = refl; packages_path = refl; sources_path = refl }; state_path = refl; tracker_path = refl; suite_name = refl; count = same; outcomes_path = refl; journal_path = refl })
 
 -- the matches of a subcommand, as they are in the matches that have it

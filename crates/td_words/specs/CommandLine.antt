@@ -145,11 +145,6 @@ usual_suite = codes "unstable"
 abbrev pub suite_in : Option (List ℕ) → List ℕ
 suite_in given = unwrap_or given usual_suite
 
--- the journal to go on with: none, until scripts go on with one
-abbrev pub journal_in : Option (List ℕ) → Option (Option (List ℕ))
-journal_in None = Some None
-journal_in (Some path) = None
-
 -- what a script runs over
 pub record RunWords : Type 0 where
   pub archs : List ℕ
@@ -170,7 +165,7 @@ pub record HasRun (options : List Row) (w : RunWords) : Type 0 where
   pub suite_name : suite_in (first_of (codes "suite") options) ≡ w.suite
   pub count : builders_in (first_of (codes "builders") options) ≡ Some w.builders
   pub outcomes_path : first_of (codes "outcomes") options ≡ w.outcomes
-  pub journal_path : journal_in (first_of (codes "journal") options) ≡ Some w.journal
+  pub journal_path : first_of (codes "journal") options ≡ w.journal
 
 -- the words ask for this run
 abbrev pub AskForRun : List (List ℕ) → RunWords → Type 0
@@ -253,12 +248,13 @@ abbrev pub PlainRunWordsAsk : Type 0
 PlainRunWordsAsk = (program archs packages sources : List ℕ) → AskForRun (asking_for_plain_run program archs packages sources) (plain_run archs packages sources)
 
 -- the words that ask for a run with everything that may be given, by what they say of the builders
-abbrev pub asking_for_whole_run : List ℕ → List ℕ → List ℕ → List ℕ → List ℕ → List ℕ → List ℕ → List ℕ → List ℕ → List (List ℕ)
-asking_for_whole_run program archs packages sources state tracker suite builders outcomes =
+abbrev pub asking_for_whole_run : List ℕ → List ℕ → List ℕ → List ℕ → List ℕ → List ℕ → List ℕ → List ℕ → List ℕ → List ℕ → List (List ℕ)
+asking_for_whole_run program archs packages sources state tracker suite builders outcomes journal =
     program ∷ codes "run" ∷ archive_words archs packages sources
-    (given (codes "state") state ∷ given (codes "tracker") tracker ∷ given (codes "suite") suite ∷ given (codes "builders") builders ∷ given (codes "outcomes") outcomes ∷ [])
+    (given (codes "state") state ∷ given (codes "tracker") tracker ∷ given (codes "suite") suite ∷ given (codes "builders") builders
+    ∷ given (codes "outcomes") outcomes ∷ given (codes "journal") journal ∷ [])
 
 abbrev pub WholeRunWordsAsk : Type 0
-WholeRunWordsAsk = (program archs packages sources state tracker suite builders outcomes : List ℕ) (count : ℕ) → builders_at builders ≡ Some count
-    → AskForRun (asking_for_whole_run program archs packages sources state tracker suite builders outcomes)
-    (record { archs = archs; packages = packages; sources = sources; state = Some state; tracker = Some tracker; suite = suite; builders = count; outcomes = Some outcomes; journal = None })
+WholeRunWordsAsk = (program archs packages sources state tracker suite builders outcomes journal : List ℕ) (count : ℕ) → builders_at builders ≡ Some count
+    → AskForRun (asking_for_whole_run program archs packages sources state tracker suite builders outcomes journal)
+    (record { archs = archs; packages = packages; sources = sources; state = Some state; tracker = Some tracker; suite = suite; builders = count; outcomes = Some outcomes; journal = Some journal })

@@ -180,8 +180,8 @@ Standard output has the answer to each line:
   foo/amd64 Needs-Build 0 1
   undone 1
 Nothing is printed where a file, or the script, isn't of its form; standard error names it.
+With --journal the script goes on with what an earlier one did, as the line `journal` printed it.
 There are no crews yet: --builders takes 0 alone, and an outcomes file is read and not looked at.
-Nor can a run go on with a journal yet: --journal is refused.
 
 docs/FORMATS.md says exactly what is read and printed, and lists the lines.";
 
@@ -204,7 +204,7 @@ fn with_crew<'a>(alloc: Global, command: Command<'a>) -> Result<Command<'a>, All
 {
     let builders = "How many builders there are: 0, since there are no crews yet";
     let outcomes = "How the builds of each row end";
-    let journal = "The journal to go on with; refused, since no run does so yet";
+    let journal = "The journal of an earlier run, to go on with";
     command
         .arg(option(alloc, "builders", "N", builders))?
         .arg(option(alloc, "outcomes", "FILE", outcomes))?

@@ -1,8 +1,8 @@
 //! The words that ask for a run.
-ghost use Rattle.std.specs.Prelude.{◌≡◌, codes, option_map, string_bytes, MatchResult, IfOk, IfErr};
+ghost use Rattle.std.specs.Prelude.{◌≡◌, codes, string_bytes, MatchResult, IfOk, IfErr};
 ghost use Rattle.clap.specs.Matches.{found_of};
 ghost use Rattle.clap.specs.Walk.{first_of, rows_of};
-ghost use Rattle.td_words.specs.CommandLine.{HasRun, RunWords, builders_in as builders_in_of, journal_in as journal_in_of, suite_in as suite_in_of};
+ghost use Rattle.td_words.specs.CommandLine.{HasRun, RunWords, builders_in as builders_in_of, suite_in as suite_in_of};
 ghost use Rattle.td_words.specs.Asked.{IsRunIn, IsRunOf};
 
 use crate::request::{Request, WordsFault, given_in, needed_in, value_in};
@@ -41,25 +41,6 @@ fn no_builders(alloc: Global) -> WordsFault {
     }
 }
 
-// The journal to go on with: none; `None` where one is named.
-fn journal_in(matches: &ArgMatches<'_>) -> Option<Option<String>>
-    ensures { option_map (option_map string_bytes) result
-        ≡ journal_in_of (first_of (codes "journal") (rows_of (found_of matches.now))) }
-{
-    match value_in(matches, "journal") {
-        Some(_) => None,
-        None => Some(None),
-    }
-}
-
-// The text that is said of it.
-fn no_journal(alloc: Global) -> WordsFault {
-    match String::from_str(alloc, "error: --journal takes nothing yet\n") {
-        Ok(text) => WordsFault::Usage(text),
-        Err(_) => WordsFault::NoMemory,
-    }
-}
-
 // The suite that is named, or the usual one.
 fn suite_in(alloc: Global, matches: &ArgMatches<'_>) -> Result<String, WordsFault>
     ensures text { IfOk result (λ s. string_bytes s ≡ suite_in_of (first_of (codes "suite") (rows_of (found_of matches.now)))) }
@@ -87,9 +68,7 @@ pub(crate) fn run_in(alloc: Global, matches: &ArgMatches<'_>) -> Result<Request,
         return Err(no_builders(alloc));
     };
     let outcomes = given_in(alloc, matches, "outcomes")?;
-    let Some(journal) = journal_in(matches) else {
-        return Err(no_journal(alloc));
-    };
+    let journal = given_in(alloc, matches, "journal")?;
     Ok(Request::Run {
         archs,
         packages,

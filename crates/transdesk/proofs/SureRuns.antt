@@ -39,6 +39,7 @@ stop_ends x known (stopped.Input (refused.Archive e)) only = λ text is fits rea
 stop_ends x known (stopped.Input (refused.State e)) only = λ text is fits readable. absurd (only text is fits readable)
 stop_ends x known (stopped.Input refused.NoSuchRow) only = λ text is fits readable. absurd (only text is fits readable)
 stop_ends x known (stopped.Input (refused.Tracker e)) only = λ text is fits readable. bad_pattern x.tracker e (only text is fits readable)
+stop_ends x known (stopped.Input (refused.Journal e)) only = λ text is fits readable. absurd (only text is fits readable)
 stop_ends x known stopped.Read only = λ text is fits readable. tt
 stop_ends x known stopped.TooLong only = λ text is fits readable. absurd (only text is fits readable)
 stop_ends x known stopped.NotText only = λ text is fits readable. absurd (only text is fits readable)

@@ -13,6 +13,8 @@ use Rattle.td_rows.specs.declared.state_file.StateFault.TheVariants as state
 use Rattle.td_query.specs.declared.tracker_fault.TrackerFault.{TrackerFault}
 use Rattle.td_query.specs.declared.tracker_fault.TrackerFault.TheVariants as tracker
 use Rattle.td_query.specs.TrackerFaults as tracker_fault
+use Rattle.td_journal.specs.declared.journal_fault.ReadError.{ReadError}
+use Rattle.td_journal.specs.declared.journal_fault.ReadError.TheVariants as journal
 use Rattle.td_simulate.specs.declared.fault.SimulationFault.{SimulationFault}
 use Rattle.td_simulate.specs.declared.fault.SimulationFault.TheVariants as simulation
 use Rattle.td_simulate.specs.Faults.{fault_name}
@@ -20,7 +22,7 @@ use Rattle.transdesk.specs.declared.role.Role.{Role}
 use Rattle.transdesk.specs.declared.role.Role.TheVariants as role
 use Rattle.transdesk.specs.Roles.{label_of, role_of_fault}
 use Rattle.transdesk.specs.declared.input_fault.InputFault.{InputFault}
-use Rattle.transdesk.specs.declared.input_fault.InputFault.TheVariants.{TooLong, NotText, Simulation, Table, Archive, State, NoSuchRow, Tracker}
+use Rattle.transdesk.specs.declared.input_fault.InputFault.TheVariants.{TooLong, NotText, Simulation, Table, Archive, State, NoSuchRow, Tracker, Journal}
 use Rattle.transdesk.specs.declared.ending.Ending.{Ending}
 use Rattle.transdesk.specs.declared.ending.Ending.TheVariants.{Done, Refused, BadInput, NoMemory, CannotRead, CannotWrite}
 
@@ -69,6 +71,11 @@ abbrev pub ending_of_tracker : TrackerFault → Ending
 ending_of_tracker tracker.NoMemory = NoMemory
 ending_of_tracker e = BadInput role.Tracker (Tracker e)
 
+-- how a run ends where a text is no journal over the opening rows
+abbrev pub ending_of_journal : ReadError → Ending
+ending_of_journal journal.NoMemory = NoMemory
+ending_of_journal e = BadInput role.Journal (Journal e)
+
 -- ---- 2. what is answered and said
 
 -- the name of what is wrong with a state file
@@ -78,6 +85,13 @@ state_fault_name (state.Twice n) = codes "Twice"
 state_fault_name (state.NotOpening n) = codes "NotOpening"
 state_fault_name state.TooManyRows = codes "TooManyRows"
 state_fault_name state.NoMemory = codes "NoMemory"
+
+-- the name of what is wrong with a journal
+abbrev pub journal_fault_name : ReadError → List ℕ
+journal_fault_name journal.BadHeader = codes "BadHeader"
+journal_fault_name (journal.BadLine n) = codes "BadLine"
+journal_fault_name (journal.Unlawful n) = codes "Unlawful"
+journal_fault_name journal.NoMemory = codes "NoMemory"
 
 -- the name of what is wrong with a text
 abbrev pub input_fault_name : InputFault → List ℕ
@@ -89,6 +103,7 @@ input_fault_name (Archive e) = archive_fault.name_of e
 input_fault_name (State e) = state_fault_name e
 input_fault_name NoSuchRow = codes "NoSuchRow"
 input_fault_name (Tracker e) = tracker_fault.fault_name e
+input_fault_name (Journal e) = journal_fault_name e
 
 -- the status; 3 is for words that ask for nothing that can be done
 abbrev pub status_of : Ending → ℕ

@@ -16,7 +16,7 @@ use Rattle.transdesk.specs.declared.role.Role.TheVariants.{Input, Archs, Package
 use Rattle.transdesk.specs.declared.input_fault.InputFault.TheVariants.{TooLong, NotText}
 use Rattle.transdesk.specs.declared.ending.Ending.{Ending}
 use Rattle.transdesk.specs.declared.ending.Ending.TheVariants.{Done, Refused, BadInput, NoMemory, CannotRead, CannotWrite}
-use Rattle.transdesk.specs.Ending.{ending_of_archive, ending_of_file, ending_of_missing_row, ending_of_state, ending_of_table, ending_of_tracker}
+use Rattle.transdesk.specs.Ending.{ending_of_archive, ending_of_file, ending_of_journal, ending_of_missing_row, ending_of_state, ending_of_table, ending_of_tracker}
 use Rattle.transdesk.specs.Checks.{AreTexts, Files, HasFailed, files_of}
 use Rattle.transdesk.specs.Tracks.{IsKnownIfGiven, IsKnownText, IsTextIfGiven, MayFail, OneFile, file_at}
 
@@ -99,6 +99,7 @@ ending_of_input (refused.Archive e) = ending_of_archive e
 ending_of_input (refused.State e) = ending_of_state e
 ending_of_input refused.NoSuchRow = ending_of_missing_row
 ending_of_input (refused.Tracker e) = ending_of_tracker e
+ending_of_input (refused.Journal e) = ending_of_journal e
 
 -- by why a script stopped
 abbrev pub ending_of_stop : RunFault → Ending
@@ -116,7 +117,7 @@ ending_of_script (Err e) = ending_of_stop e
 
 -- what a script runs over: the outcomes are a crew's alone
 abbrev pub script_texts : Texts → List ℕ → script.Texts
-script_texts x suite = record { archs = x.archs; packages = x.packages; sources = x.sources; state = x.state; tracker = x.tracker; suite = suite }
+script_texts x suite = record { archs = x.archs; packages = x.packages; sources = x.sources; state = x.state; tracker = x.tracker; journal = x.journal; suite = suite }
 
 -- over these texts a script ends so, which says what is written, and so does the run; or memory runs out, and nothing is
 abbrev pub ScriptEnds : Texts → List ℕ → Option (List ℕ) → Option (List ℕ) → Option (List ℕ) → Ending → Type 0

@@ -1,13 +1,14 @@
 ghost use Rattle.std.specs.Prelude.{◌≡◌, ◌++◌, OnOk, OnErr};
 ghost use Rattle.std.specs.Io.KnownBytes.{Appends};
 ghost use Rattle.td_bytes.specs.Pieces.{AppendsPrefix};
-ghost use Rattle.transdesk.specs.Ending.{ending_of_archive, ending_of_file, ending_of_missing_row, ending_of_simulation, ending_of_state, ending_of_table, ending_of_text, ending_of_tracker, status_of, line_of, line_with};
+ghost use Rattle.transdesk.specs.Ending.{ending_of_archive, ending_of_file, ending_of_journal, ending_of_missing_row, ending_of_simulation, ending_of_state, ending_of_table, ending_of_text, ending_of_tracker, status_of, line_of, line_with};
 
 use crate::input_fault::InputFault;
 use crate::role::{Role, role_of_fault};
 use std::io::Write;
 use td_bytes::{TextFault, WriteFault, write_whole};
 use td_indices::ArchiveFault;
+use td_journal::ReadError;
 use td_query::TrackerFault;
 use td_relation::ArchsFault;
 use td_rows::StateFault;
@@ -103,6 +104,16 @@ pub fn ending_of_tracker(fault: TrackerFault) -> Ending
     match fault {
         TrackerFault::NoMemory => Ending::NoMemory,
         fault => Ending::BadInput(Role::Tracker, InputFault::Tracker(fault)),
+    }
+}
+
+/// How a run ends where a text is no journal over the opening rows.
+pub fn ending_of_journal(fault: ReadError) -> Ending
+    ensures { result ≡ ending_of_journal fault }
+{
+    match fault {
+        ReadError::NoMemory => Ending::NoMemory,
+        fault => Ending::BadInput(Role::Journal, InputFault::Journal(fault)),
     }
 }
 

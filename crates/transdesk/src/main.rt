@@ -15,6 +15,8 @@ mod file_texts;
 mod input_fault;
 mod role;
 mod run_files;
+#[cfg(test)]
+mod run_tests;
 mod running;
 mod simulation;
 #[cfg(test)]

@@ -5,8 +5,8 @@ ghost use Rattle.transdesk.specs.Runs.{EndsRun, OnlyEnds, ScriptEnds, script_tex
 ghost use Rattle.transdesk.specs.RunInside.{AreInputsOf, IsWithinLimit, run_files_at, run_texts_of};
 
 use crate::ending::{
-    Ending, ending_of_archive, ending_of_file, ending_of_missing_row, ending_of_state,
-    ending_of_table, ending_of_tracker,
+    Ending, ending_of_archive, ending_of_file, ending_of_journal, ending_of_missing_row,
+    ending_of_state, ending_of_table, ending_of_tracker,
 };
 use crate::input_fault::InputFault;
 use crate::role::Role;
@@ -26,6 +26,7 @@ fn ending_of_input(fault: Refusal) -> Ending
         Refusal::State(fault) => ending_of_state(fault),
         Refusal::NoSuchRow => ending_of_missing_row(),
         Refusal::Tracker(fault) => ending_of_tracker(fault),
+        Refusal::Journal(fault) => ending_of_journal(fault),
     }
 }
 
@@ -65,6 +66,7 @@ fn inputs_of(alloc: Global, texts: RunTexts, suite: &str) -> Result<Inputs, Allo
         sources: texts.indices.sources,
         state: texts.state,
         tracker: texts.tracker,
+        journal: texts.journal,
         suite: String::from_str(alloc, suite)?,
         outcomes: texts.outcomes,
         builders: 0,
