@@ -13,7 +13,7 @@ use td_rows::{Key, Row, Rows};
 use td_supply::Supply;
 
 impl<'a> Book<'a> {
-    /// The rows as they are: of a journal whose standing entries apply one after the other.
+    /// The rows as they are.
     pub fn rows(&self) -> &Rows
         ensures rows { result.now ≡ rows_of self.now.history }
         ensures lawful { Lawful self.now.history.opening (standing self.now.history.journal) }
