@@ -13,3 +13,4 @@ pub mod Stops
 pub mod Ends
 pub mod Calls
 pub mod Lawful
+pub mod Winning

@@ -1,6 +1,6 @@
 //! Each call of the book is a list of steps, each law the contract of a function that does nothing.
 ghost use Rattle.td_steps.specs.Arrivals.{ArrivalsAreSteps, SweepsAreSteps};
-ghost use Rattle.td_steps.specs.Books.{EntriesStay, RowsAreReplayed, EntriesAreLawful, UndoneAtOnce, BlockedExactly, UndoneElse};
+ghost use Rattle.td_steps.specs.Books.{EntriesStay, RowsAreReplayed, EntriesAreLawful, UndoneAtOnce, BlockedExactly, UndoneElse, WonNamesTheLatest};
 ghost use Rattle.td_steps.specs.Builds.{StartsAreSteps, FinishesAreSteps, FinishesRun};
 ghost use Rattle.td_steps.specs.Calls.{CallsAreSteps, BooksAreSteps};
 ghost use Rattle.td_steps.specs.Choices.{WorldsDecide, DecidedCommandsRun};
@@ -97,8 +97,10 @@ pub fn a_command_is_undone_at_once()
 {}
 
 /// A book refuses the undo of a standing command for a later entry exactly where one blocks it, and
-/// names the latest; without one it is undone, but for want of memory or a faster claim.
+/// names the latest; without one it is undone, but for want of memory or a faster claim, whose
+/// entry it names: behind it that is the latest that blocks. So it is of any book.
 pub fn an_undo_is_refused_where_blocked()
     ensures blocked { BlockedExactly }
     ensures undone { UndoneElse }
+    ensures won { WonNamesTheLatest }
 {}
