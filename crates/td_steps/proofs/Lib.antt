@@ -14,3 +14,4 @@ pub mod Ends
 pub mod Calls
 pub mod Lawful
 pub mod Winning
+pub mod Reopenings
