@@ -51,9 +51,9 @@ use Rattle.td_steps.proofs.Undos.{stop-none}
 
 -- ---- 1. of histories
 
-record Sound (h : History) : Type 0 where
-  up : ascending (keys_of h.opening) ≡ true
-  lawful : Lawful h.opening (standing h.journal)
+pub record Sound (h : History) : Type 0 where
+  pub up : ascending (keys_of h.opening) ≡ true
+  pub lawful : Lawful h.opening (standing h.journal)
 
 sound-to : (a b : History) → Sound a → b ≡ a → Sound b
 sound-to a b s same = subst Sound (sym same) s
@@ -169,7 +169,7 @@ does-sound (sweep (Err e)) old new d s = same-book old new s d
 
 -- ---- 3. of lists of calls
 
-all-sound : (calls : List Call) (old new : BookModel) → DoAll calls old new → Sound old.history → Sound new.history
+pub all-sound : (calls : List Call) (old new : BookModel) → DoAll calls old new → Sound old.history → Sound new.history
 all-sound [] old new same s = same-book old new s same
 all-sound (c ∷ calls) old new d s = all-sound calls d.0 new d.2 (does-sound c old d.0 d.1 s)
 

@@ -13,3 +13,5 @@ pub mod Stops
 pub mod Ends
 pub mod Calls
 pub mod Lawful
+pub mod Winning
+pub mod Reopenings

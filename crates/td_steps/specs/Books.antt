@@ -98,3 +98,7 @@ BlockedExactly = (n m : ℕ) (old new : BookModel) (result : Result (Unit {0}) U
 -- one that no later entry blocks is undone, but for want of memory, or a builder's claim that was faster
 abbrev pub UndoneElse : Type 0
 UndoneElse = (n : ℕ) (old new : BookModel) (result : Result (Unit {0}) UndoRefusal) → CanBeUndone old.history.journal n → blocker old.history.journal n ≡ None → Does (undo n result) old new → UndoOutcome n old new result
+
+-- one that the journal doesn't refuse, but a builder's claim stops: in the journal behind it the number that is told is the blocker's, that of the latest standing entry which touches what the undo would have given back
+abbrev pub WonNamesTheLatest : Type 0
+WonNamesTheLatest = (n m : ℕ) (old new : BookModel) → undo_stop old.history.journal n ≡ None → Does (undo n (Err (Blocked m))) old new → blocker new.history.journal n ≡ Some m

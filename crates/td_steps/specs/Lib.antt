@@ -12,3 +12,4 @@ pub mod Choices
 pub mod Turns
 pub mod Books
 pub mod Calls
+pub mod Reopenings

@@ -1,12 +1,17 @@
 -- The moves of an opening. This project's own.
-use Rattle.std.specs.Prelude.{◌≡◌, ℕ, true, length}
+use Rattle.std.specs.Prelude.{◌≡◌, ℕ, true, length, replicate}
 use Rattle.td_board.specs.Knowledge.{new_desk}
 use Rattle.td_rows.specs.Keys.{ascending}
 use Rattle.td_rows.specs.Table.{Table, keys_of}
 use Rattle.td_supply.specs.Supply.{Stock}
-use Rattle.td_core.specs.History.{opened}
+use Rattle.td_journal.specs.Entries.{standing}
+use Rattle.td_journal.specs.Journaled.{EachHasKeys}
+use Rattle.td_journal.specs.Replay.{Lawful}
+use Rattle.td_core.specs.declared.step.Phase.TheVariants.{Closed}
+use Rattle.td_core.specs.declared.step.Hand.TheVariants.{Free}
+use Rattle.td_core.specs.History.{History, rows_of, opened}
 use Rattle.td_core.specs.Phases.{NoneBuilt}
-use Rattle.td_core.specs.Worlds.{world_of}
+use Rattle.td_core.specs.Worlds.{WorldView, world_of}
 use Rattle.td_book.specs.Desk.{Fixed}
 use Rattle.td_steps.specs.Sees.{Desk, Sees, resting}
 use Rattle.td_steps.specs.Runs.{LeadsOn}
@@ -24,3 +29,27 @@ pub record OpensSo (t : Table) (fixed : Fixed) : Type 0 where
 -- every table of rows in order, none of which is built, opens so
 abbrev pub OpeningsAreSteps : Type 0
 OpeningsAreSteps = (t : Table) (fixed : Fixed) → ascending (keys_of t) ≡ true → NoneBuilt t → OpensSo t fixed
+
+-- the world that opens with a history: all rows are closed, all hands free
+abbrev pub world_from : History → Stock → ℕ → WorldView
+world_from h s builders = record { history = h; supply = s; phases = replicate (length h.opening) Closed; hands = replicate builders Free }
+
+-- the desk before its offers, at a new board of these rows
+abbrev pub desk_from : History → Stock → ℕ → Desk
+desk_from h stock builders = record { history = h; stock = stock; view = (new_desk (length h.opening) builders).rows; builders = builders }
+
+-- such a history: the opening rows rise, the standing entries are lawful over them, each entry has keys, and no builder has a row
+pub record MayOpen (h : History) : Type 0 where
+  pub rising : ascending (keys_of h.opening) ≡ true
+  pub lawful : Lawful h.opening (standing h.journal)
+  pub keys : EachHasKeys h.journal
+  pub idle : NoneBuilt (rows_of h)
+
+-- the desk sees that world, which is sound, and offers each row that needs a build; then the book is at rest
+pub record OpensWith (h : History) (fixed : Fixed) : Type 0 where
+  pub sees : Sees (world_from h fixed.stock fixed.builders) (desk_from h fixed.stock fixed.builders)
+  pub leads : LeadsOn (world_from h fixed.stock fixed.builders) (desk_from h fixed.stock fixed.builders) (offering (rows_of h) (keys_of (rows_of h))) (resting (record { history = h; fixed = fixed }))
+
+-- every such history opens so; that before the first entry is one of them
+abbrev pub HistoriesOpen : Type 0
+HistoriesOpen = (h : History) (fixed : Fixed) → MayOpen h → OpensWith h fixed

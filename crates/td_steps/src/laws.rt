@@ -1,12 +1,13 @@
 //! Each call of the book is a list of steps, each law the contract of a function that does nothing.
 ghost use Rattle.td_steps.specs.Arrivals.{ArrivalsAreSteps, SweepsAreSteps};
-ghost use Rattle.td_steps.specs.Books.{EntriesStay, RowsAreReplayed, EntriesAreLawful, UndoneAtOnce, BlockedExactly, UndoneElse};
+ghost use Rattle.td_steps.specs.Books.{EntriesStay, RowsAreReplayed, EntriesAreLawful, UndoneAtOnce, BlockedExactly, UndoneElse, WonNamesTheLatest};
 ghost use Rattle.td_steps.specs.Builds.{StartsAreSteps, FinishesAreSteps, FinishesRun};
 ghost use Rattle.td_steps.specs.Calls.{CallsAreSteps, BooksAreSteps};
 ghost use Rattle.td_steps.specs.Choices.{WorldsDecide, DecidedCommandsRun};
 ghost use Rattle.td_steps.specs.Commands.{CommandsAreSteps};
 ghost use Rattle.td_steps.specs.Laws.{MovesAreSteps, BuildersChangeNothing, RunsAreSeen};
-ghost use Rattle.td_steps.specs.Openings.{OpeningsAreSteps};
+ghost use Rattle.td_steps.specs.Openings.{OpeningsAreSteps, HistoriesOpen};
+ghost use Rattle.td_steps.specs.Reopenings.{ReopeningsAreSteps, ReopenedBooksAreSteps, ReopenedAreReplayed};
 ghost use Rattle.td_steps.specs.Turns.{CommandsGoOn, StartsGoOn, UndosGoOn, OthersGoOn, TurnsRun};
 ghost use Rattle.td_steps.specs.Undos.{UndosAreSteps};
 
@@ -31,6 +32,13 @@ pub fn openings_are_steps()
     ensures { OpeningsAreSteps }
 {}
 
+/// So it is with any lawful history in which no builder has a row, and with the one that a
+/// reopening leaves: it begins a world that the reopened book sees.
+pub fn reopenings_are_steps()
+    ensures histories { HistoriesOpen }
+    ensures books { ReopeningsAreSteps }
+{}
+
 /// Whatever a command answers: some list of moves, in any run from a world that the book sees, is
 /// answered as told and leads to a world that the book sees afterwards.
 pub fn commands_are_steps()
@@ -50,11 +58,12 @@ pub fn other_calls_are_steps()
     ensures sweeps { SweepsAreSteps }
 {}
 
-/// So it is of any list of calls, whatever they answer, and of any since the opening: call by call
-/// the book sees each world to which a run of the moves leads.
+/// So it is of any list of calls, whatever they answer, and of any since the opening or a
+/// reopening: call by call the book sees each world to which a run of the moves leads.
 pub fn calls_are_steps()
     ensures calls { CallsAreSteps }
     ensures opening { BooksAreSteps }
+    ensures reopened { ReopenedBooksAreSteps }
 {}
 
 /// Each world that a book sees decides who is first at each row, and a command's moves run from it
@@ -83,22 +92,27 @@ pub fn commands_go_on()
 
 /// Over any list of a book's calls, whatever they answer, the opening rows and each entry stay and
 /// more are appended; so the rows are the standing entries folded over the opening rows, each of
-/// which applies on what those before it left.
+/// which applies on what those before it left. So it is of a reopened book, whose text's entries
+/// count with the later ones.
 pub fn rows_are_replayed()
     ensures entries { EntriesStay }
     ensures rows { RowsAreReplayed }
     ensures lawful { EntriesAreLawful }
+    ensures reopened { ReopenedAreReplayed }
 {}
 
 /// The undo of a book's last command isn't refused by the journal, and leaves every row as it was
-/// before the command, but for the claims that the command had found.
+/// before the command, but for the claims that the command had found: of any book, opened or
+/// reopened.
 pub fn a_command_is_undone_at_once()
     ensures { UndoneAtOnce }
 {}
 
 /// A book refuses the undo of a standing command for a later entry exactly where one blocks it, and
-/// names the latest; without one it is undone, but for want of memory or a faster claim.
+/// names the latest; without one it is undone, but for want of memory or a faster claim, whose
+/// entry it names: behind it that is the latest that blocks. So it is of any book.
 pub fn an_undo_is_refused_where_blocked()
     ensures blocked { BlockedExactly }
     ensures undone { UndoneElse }
+    ensures won { WonNamesTheLatest }
 {}

@@ -1,5 +1,6 @@
 use Rattle.td_steps.proofs.Books.{entries_stay, rows_are_replayed}
 use Rattle.td_steps.proofs.Lawful.{entries_are_lawful}
+use Rattle.td_steps.proofs.Reopenings.{reopened_are_replayed}
 use Rattle.td_steps.proofs.laws.rows_are_replayed.Goals as goal
 
 pub returns-clause-entries : goal.returns-clause-entries
@@ -10,3 +11,6 @@ returns-clause-rows c = rows_are_replayed
 
 pub returns-clause-lawful : goal.returns-clause-lawful
 returns-clause-lawful c = entries_are_lawful
+
+pub returns-clause-reopened : goal.returns-clause-reopened
+returns-clause-reopened c = reopened_are_replayed
