@@ -19,11 +19,11 @@ use Rattle.td_book.specs.Calls.{is_lost, noting_one, noting, Choices, Withdrew, 
 use Rattle.td_book.specs.declared.commanding.CommandRefusal.{CommandRefusal}
 use Rattle.td_book.specs.declared.commanding.Taken.{Taken}
 use Rattle.td_book.specs.declared.skips.Skip.{Skip}
-use Rattle.td_book.specs.Naming.{kind_by, kind_of}
 use Rattle.td_change.specs.Saved.{HaveRows}
 use Rattle.td_change.proofs.Numbers.{is_some-row_of}
 use Rattle.td_core.proofs.Taking.{names-filter}
 use Rattle.td_wbread.specs.Command.{CommandParts}
+use Rattle.td_wbread.specs.Kinds.{kind_with, kind_of}
 use Rattle.td_wbread.specs.declared.command.Verb.{Verb}
 use Rattle.td_wbread.specs.declared.command.Verb.TheVariants.{Gb, Nmu, Bp, Dw}
 use Rattle.td_book.proofs.Steps.{stays_more, stays_fixed}
@@ -120,13 +120,13 @@ commanded kind named matched left a b w d e plan v skips result planned same roo
 -- ---- 4. a command that is typed
 
 pub kinds_command : (c : CommandParts) → is_command (kind_of c) ≡ true
-kinds_command c = by c.verb c.message c.extra
+kinds_command c = by c.verb c.extra c.message
   where
-    by : (v : Verb) (m e : List ℕ) → is_command (kind_by v m e) ≡ true
-    by Gb m e = refl
-    by (Nmu n) m e = refl
-    by (Bp p) m e = refl
-    by Dw m e = refl
+    by : (v : Verb) (e m : List ℕ) → is_command (kind_with v e m) ≡ true
+    by Gb e m = refl
+    by (Nmu n) e m = refl
+    by (Bp p) e m = refl
+    by Dw e m = refl
 
 pub named_rows : (p : Key → Bool) (t : Table) → HaveRows t (filter p (keys_of t))
 named_rows p t k named = is_some-row_of t k ∙ names-filter p (keys_of t) k named

@@ -30,7 +30,6 @@ pub use arriving::ArriveRefusal;
 pub use book::Book;
 pub use commanding::{CommandRefusal, Taken};
 pub use finishing::FinishRefusal;
-pub use naming::kind_of;
 pub use skips::{Skip, SkipReason, Skips};
 pub use starting::{Job, StartRefusal};
 pub use undoing::UndoRefusal;
