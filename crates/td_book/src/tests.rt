@@ -2,6 +2,7 @@
 //! archive. Expected answers are the project's own worked examples, by hand from the tables of
 //! `docs/FORMATS.md`.
 mod random;
+mod reopening;
 mod script;
 
 use script::journal_after;
