@@ -19,13 +19,13 @@ use Rattle.td_rows.specs.Table.{Table, row_of, keys_of, applied, meant}
 use Rattle.td_rows.proofs.Keys.{same_key-refl}
 use Rattle.td_rows.proofs.Tables.{row_of-at, row_of-each_row, keys_of-each_row}
 use Rattle.td_change.specs.Plans.{Planned, plan_of, left}
-use Rattle.td_core.specs.Books.{BooksView}
 use Rattle.td_core.specs.Committing.{takes}
 use Rattle.td_core.specs.History.{History, rows_of, with_entry}
 use Rattle.td_core.specs.Refusals.{is_queued_at}
 use Rattle.td_book.specs.Seen.{seen_off, seen_as, known_as, held_as}
 use Rattle.td_core.proofs.Phases.{keys_of-rows_of}
 use Rattle.td_book.specs.declared.starting.Job.{Job}
+use Rattle.td_book.specs.Watching.{WatchedView}
 use Rattle.td_book.specs.Desk.{InnerModel, BookModel, book_of, Stays, HasRoom, HasOne, claim_of}
 use Rattle.td_book.specs.Calls.{is_lost, noting_one, HasOut, OutAt}
 use Rattle.td_book.specs.Building.{LostTo, Knows, is_built_at, Noticed, IsJobAt}
@@ -143,7 +143,7 @@ at_key_of (p ∷ t) zero k h = (p.1, ap (λ (q : Key). Some (q, p.1)) (one p.0 k
     one a b e = cc
 at_key_of (p ∷ t) (suc i) k h = at_key_of t i k h
 
-pub one_of_room : (ks : List Key) (b : BooksView) → HasRoom ks b → HasOne ks b
+pub one_of_room : (ks : List Key) (b : WatchedView) → HasRoom ks b → HasOne ks b
 one_of_room ks b room = record { spare = let s = room.spare in omega arith; places = λ k named. let p = room.places k named in omega arith }
 
 noted-opening : (v : Bool) (h : History) (k : Key) (b : ℕ) → (if v then with_entry h (claim_of b k) else h).opening ≡ h.opening

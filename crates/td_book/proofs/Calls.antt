@@ -9,21 +9,21 @@ use Rattle.td_rows.specs.Table.{Table, keys_of}
 use Rattle.td_change.specs.Plans.{Planned, plan_of, left}
 use Rattle.td_change.proofs.Plans.{left-plan_of, plan_of-itself, plan_of-same_keys}
 use Rattle.td_journal.specs.Commands.{is_command}
-use Rattle.td_core.specs.Books.{BooksView}
 use Rattle.td_core.specs.Committing.{takes}
 use Rattle.td_core.specs.History.{History, rows_of, with_entry}
 use Rattle.td_core.specs.Refusals.{is_queued_at}
 use Rattle.td_core.proofs.Phases.{keys_of-rows_of}
+use Rattle.td_book.specs.Watching.{WatchedView}
 use Rattle.td_book.specs.Desk.{InnerModel, BookModel, book_of, fixed_of, Stays, HasRoom, HasOne, claim_of}
 use Rattle.td_book.specs.Calls.{is_lost, noting_one, noting, Choices, Withdrew, off_for, plan_takes, plan_kind, entered, entered_no, IsPlan, IsPlanOf, PlanIsOff, CommandOutcome, IsCommanded, taken_of}
 use Rattle.td_book.specs.declared.commanding.CommandRefusal.{CommandRefusal}
 use Rattle.td_book.specs.declared.commanding.Taken.{Taken}
 use Rattle.td_book.specs.declared.skips.Skip.{Skip}
-use Rattle.td_book.specs.Naming.{kind_by, kind_of}
 use Rattle.td_change.specs.Saved.{HaveRows}
 use Rattle.td_change.proofs.Numbers.{is_some-row_of}
 use Rattle.td_core.proofs.Taking.{names-filter}
 use Rattle.td_wbread.specs.Command.{CommandParts}
+use Rattle.td_wbread.specs.Kinds.{kind_with, kind_of}
 use Rattle.td_wbread.specs.declared.command.Verb.{Verb}
 use Rattle.td_wbread.specs.declared.command.Verb.TheVariants.{Gb, Nmu, Bp, Dw}
 use Rattle.td_book.proofs.Steps.{stays_more, stays_fixed}
@@ -36,7 +36,7 @@ off_within kind keys off is has k named = ap (λ (u : List Key). names u k) (is 
 pub off_short : (kind : Kind) (keys : List Key) → length (off_for kind keys) ≤ length keys
 off_short kind keys = elim (cells kind).state as (λ b. length (if b then keys else []) ≤ length keys) [ true ↦ omega arith | false ↦ omega arith ]
 
-pub room_off : (kind : Kind) (keys off : List Key) (b : BooksView) → off ≡ off_for kind keys → HasRoom keys b → HasRoom off b
+pub room_off : (kind : Kind) (keys off : List Key) (b : WatchedView) → off ≡ off_for kind keys → HasRoom keys b → HasRoom off b
 room_off kind keys off b is room = subst (λ (u : List Key). HasRoom u b) (sym is) (elim (cells kind).state as (λ v. HasRoom (if v then keys else []) b) [
   | true ↦ room
   | false ↦ record { spare = let s = room.spare in omega arith; places = λ k named. cc }
@@ -65,7 +65,7 @@ is_plan_of kind matched t u (Some p) is same command =
 left_is : (kind : Kind) (matched : List Key) (t : Table) (p : Planned) → p ≡ plan_of kind matched t → left p ≡ matched
 left_is kind matched t p is = ap left is ∙ left-plan_of kind matched t
 
-pub plan_room : (kind : Kind) (named matched : List Key) (t : Table) (plan : Option Planned) (b : BooksView) → IsPlan kind matched t plan → ((k : Key) → names matched k ≡ true → names named k ≡ true) → HasOne named b → IfSome plan (λ p. HasOne (left p) b)
+pub plan_room : (kind : Kind) (named matched : List Key) (t : Table) (plan : Option Planned) (b : WatchedView) → IsPlan kind matched t plan → ((k : Key) → names matched k ≡ true → names named k ≡ true) → HasOne named b → IfSome plan (λ p. HasOne (left p) b)
 plan_room kind named matched t None b is among one = tt
 plan_room kind named matched t (Some p) b is among one = record { spare = one.spare; places = λ k h. one.places k (among k (ap (λ (u : List Key). names u k) (sym (left_is kind matched t p is)) ∙ h)) }
 
@@ -112,7 +112,7 @@ commanded kind named matched left a b w d e plan v skips result planned same roo
     record {
       fixed = ap fixed_of offered ∙ stays_fixed a d all;
       outcome = outcome_of kind named matched left (book_of a) (book_of e) done.choices chosen (takes (rows_of (noting a.books.history off done.choices)) kind matched) refl
-          (ap (λ (x : BooksView). x.history) books ∙ made ∙ entered_is kind matched (rows_of a.books.history) w.books.history plan planned ∙ ap (λ (h : History). entered h kind (takes (rows_of h) kind matched)) hist)
+          (ap (λ (x : WatchedView). x.history) books ∙ made ∙ entered_is kind matched (rows_of a.books.history) w.books.history plan planned ∙ ap (λ (h : History). entered h kind (takes (rows_of h) kind matched)) hist)
           skips (told ∙ ap (λ (h : History). left (rows_of h)) hist)
           result (is ∙ ap (λ (u : List Key). taken_of (entered_no w.books.history u) skips) (takes_is kind matched (rows_of a.books.history) (rows_of w.books.history) plan planned) ∙ ap (λ (h : History). taken_of (entered_no h (takes (rows_of h) kind matched)) skips) hist);
     }
@@ -120,13 +120,13 @@ commanded kind named matched left a b w d e plan v skips result planned same roo
 -- ---- 4. a command that is typed
 
 pub kinds_command : (c : CommandParts) → is_command (kind_of c) ≡ true
-kinds_command c = by c.verb c.message c.extra
+kinds_command c = by c.verb c.extra c.message
   where
-    by : (v : Verb) (m e : List ℕ) → is_command (kind_by v m e) ≡ true
-    by Gb m e = refl
-    by (Nmu n) m e = refl
-    by (Bp p) m e = refl
-    by Dw m e = refl
+    by : (v : Verb) (e m : List ℕ) → is_command (kind_with v e m) ≡ true
+    by Gb e m = refl
+    by (Nmu n) e m = refl
+    by (Bp p) e m = refl
+    by Dw e m = refl
 
 pub named_rows : (p : Key → Bool) (t : Table) → HaveRows t (filter p (keys_of t))
 named_rows p t k named = is_some-row_of t k ∙ names-filter p (keys_of t) k named

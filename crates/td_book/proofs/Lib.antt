@@ -10,3 +10,6 @@ pub mod Fixed
 pub mod Numbers
 pub mod Returns
 pub mod Numbered
+pub mod Tallies
+pub mod Installing
+pub mod Groups

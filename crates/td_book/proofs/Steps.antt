@@ -25,7 +25,6 @@ use Rattle.td_journal.specs.Entries.{standing, standing_entry, entry_at, CanBeUn
 use Rattle.td_journal.specs.Replay.{replay, Lawful}
 use Rattle.td_journal.specs.Touching.{blocker}
 use Rattle.td_journal.proofs.Undoing.{standing-append, replay-push}
-use Rattle.td_core.specs.Books.{BooksView}
 use Rattle.td_core.specs.Committing.{takes}
 use Rattle.td_core.specs.History.{History, rows_of, with_entry, without_entry}
 use Rattle.td_core.specs.Keeps.{places_in}
@@ -34,6 +33,7 @@ use Rattle.td_core.proofs.Inverse.{undo_has_an_inverse}
 use Rattle.td_core.proofs.Phases.{keys_of-rows_of}
 use Rattle.td_core.proofs.Taking.{AppliesOn-filter, names-filter}
 use Rattle.td_book.specs.Seen.{seen_off, is_desks}
+use Rattle.td_book.specs.Watching.{WatchedView}
 use Rattle.td_book.specs.Desk.{InnerModel, Stays, Spent, HasRoom, HasOne, claim_of, fixed_of}
 use Rattle.td_book.specs.Calls.{is_lost, noting_one, noting, OutAt, Lost, WithdrewAt, Withdrew, IsKeyAt, entered, entered_no}
 use Rattle.td_book.specs.Undoing.{Unlost, LostOne}
@@ -122,22 +122,22 @@ claim_applies t k i b keys up out one q named =
 -- ---- 3. room
 
 pub stays_none : (m : InnerModel) → Stays m m
-stays_none m = record { table = refl; stock = refl; builders = refl; since = refl }
+stays_none m = record { table = refl; stock = refl; builders = refl; since = refl; watch = refl }
 
 pub stays_more : (a b c : InnerModel) → Stays a b → Stays b c → Stays a c
-stays_more a b c s t = record { table = t.table ∙ s.table; stock = t.stock ∙ s.stock; builders = t.builders ∙ s.builders; since = t.since ∙ s.since }
+stays_more a b c s t = record { table = t.table ∙ s.table; stock = t.stock ∙ s.stock; builders = t.builders ∙ s.builders; since = t.since ∙ s.since; watch = t.watch ∙ s.watch }
 
 pub stays_fixed : (a b : InnerModel) → Stays a b → fixed_of b ≡ fixed_of a
-stays_fixed a b s = λ j. record { table = s.table j; stock = s.stock j; builders = s.builders j; since = s.since j }
+stays_fixed a b s = λ j. record { table = s.table j; stock = s.stock j; builders = s.builders j; since = s.since j; watch = s.watch j }
 
-pub spent_none : (keys : List Key) (b : BooksView) → Spent keys b b
+pub spent_none : (keys : List Key) (b : WatchedView) → Spent keys b b
 spent_none keys b = record { spare = omega arith; places = λ k. omega arith }
 
 longer : (ks : List Key) (k : Key) → length (ks ++ k ∷ []) ≡ length ks + 1
 longer [] k = refl
 longer (x ∷ ks) k = let h = longer ks k in omega arith
 
-pub spent_more : (keys : List Key) (k : Key) (a b c : BooksView) → names keys k ≡ false → Spent keys a b → Spent (k ∷ []) b c → Spent (keys ++ k ∷ []) a c
+pub spent_more : (keys : List Key) (k : Key) (a b c : WatchedView) → names keys k ≡ false → Spent keys a b → Spent (k ∷ []) b c → Spent (keys ++ k ∷ []) a c
 spent_more keys k a b c apart s t = record {
   spare = let x = s.spare in let y = t.spare in let z = longer keys k in omega arith;
   places = λ q. let x = s.places q in let y = t.places q in
@@ -155,7 +155,7 @@ spent_more keys k a b c apart s t = record {
     either q false true u v x y = omega arith
     either q false false u v x y = omega arith
 
-pub room_left : (named : List Key) (i : ℕ) (a b : BooksView) → i < length named → length (take i named) ≤ i → HasRoom named a → Spent (take i named) a b → HasOne named b
+pub room_left : (named : List Key) (i : ℕ) (a b : WatchedView) → i < length named → length (take i named) ≤ i → HasRoom named a → Spent (take i named) a b → HasOne named b
 room_left named i a b within short room s = record {
   spare = let x = room.spare in let y = s.spare in omega arith;
   places = λ k is. let x = room.places k is in let y = s.places k in two (names (take i named) k) x y;
@@ -165,7 +165,7 @@ room_left named i a b within short room s = record {
     two true x y = omega arith
     two false x y = omega arith
 
-pub room_end : (named keys : List Key) (a b : BooksView) → HasRoom named a → Spent keys a b → length keys ≤ length named → HasOne named b
+pub room_end : (named keys : List Key) (a b : WatchedView) → HasRoom named a → Spent keys a b → length keys ≤ length named → HasOne named b
 room_end named keys a b room s short = record {
   spare = let x = room.spare in let y = s.spare in omega arith;
   places = λ k is. let x = room.places k is in let y = s.places k in two (names keys k) x y;
@@ -196,7 +196,7 @@ pub won_step : (named : List Key) (i n : ℕ) (k : Key) (old new : InnerModel) (
 won_step named i n k old new answer at view up out is none =
     let t = rows_of old.books.history in
     let same : new.books ≡ old.books = ap (λ (m : InnerModel). m.books) is in
-    let hist : new.books.history ≡ old.books.history = ap (λ (b : BooksView). b.history) same in
+    let hist : new.books.history ≡ old.books.history = ap (λ (b : WatchedView). b.history) same in
     let zero_lost = and_false (is_queued_at t k) in
     record {
       key = k;
@@ -207,7 +207,7 @@ won_step named i n k old new answer at view up out is none =
       history = hist ∙ sym (ap (λ b. if b then with_entry old.books.history (claim_of 0 k) else old.books.history) zero_lost);
       view = ap (λ (m : InnerModel). m.view) is ∙ ap (λ (v : List RowView). set v n In) view ∙ withdrawn_off (take i named) t n k out.row up out.at out.out
           ∙ next_off named i k t at ∙ ap (λ (h : History). seen_off (take (i + 1) named) (rows_of h)) (sym hist);
-      stays = subst (Stays old) (sym is) (record { table = refl; stock = refl; builders = refl; since = refl });
+      stays = subst (Stays old) (sym is) (record { table = refl; stock = refl; builders = refl; since = refl; watch = refl });
       spent = subst (Spent (k ∷ []) old.books) (sym same) (spent_none (k ∷ []) old.books);
     }
 
@@ -218,7 +218,7 @@ pub idle_step : (named : List Key) (i : ℕ) (k : Key) (old new : InnerModel) (a
 idle_step named i k old new answer at view up idle is none =
     let t = rows_of old.books.history in
     let same : new.books ≡ old.books = ap (λ (m : InnerModel). m.books) is in
-    let hist : new.books.history ≡ old.books.history = ap (λ (b : BooksView). b.history) same in
+    let hist : new.books.history ≡ old.books.history = ap (λ (b : WatchedView). b.history) same in
     let zero_lost = and_false (is_queued_at t k) in
     record {
       key = k;
@@ -352,7 +352,7 @@ lost_one named i first old new last n u s back =
         number = told.1 ∙ ap (λ (h : History). length h.journal + 1) u.history;
       };
       view = ap (λ (m : InnerModel). m.view) back ∙ ap (λ (h : History). seen_off [] (rows_of h)) (sym same);
-      stays = stays_more first old last u.stays (stays_more old new last s.stays (subst (Stays new) (sym back) (record { table = refl; stock = refl; builders = refl; since = refl })));
+      stays = stays_more first old last u.stays (stays_more old new last s.stays (subst (Stays new) (sym back) (record { table = refl; stock = refl; builders = refl; since = refl; watch = refl })));
     }
 
 -- ---- 6. offers

@@ -4,6 +4,7 @@ use Rattle.td_rows.specs.declared.key.Key.{Key}
 use Rattle.td_rows.specs.Keys.{ascending}
 use Rattle.td_rows.specs.Table.{keys_of}
 use Rattle.td_wbread.specs.Command.{CommandParts}
+use Rattle.td_wbread.specs.Kinds.{kind_of}
 use Rattle.td_core.specs.History.{rows_of}
 use Rattle.td_core.specs.Offers.{supply_now}
 use Rattle.td_book.specs.declared.commanding.Asked.{Asked}
@@ -11,7 +12,7 @@ use Rattle.td_book.specs.declared.commanding.CommandRefusal.{CommandRefusal}
 use Rattle.td_book.specs.declared.commanding.Taken.{Taken}
 use Rattle.td_book.specs.Calls.{IsCommanded}
 use Rattle.td_book.specs.Desk.{BookModel}
-use Rattle.td_book.specs.Naming.{named_in, is_matched_at, kind_of}
+use Rattle.td_book.specs.Naming.{named_in, is_matched_at}
 use Rattle.td_book.specs.Skips.{doubt, skips_of}
 
 -- the rows that it names in a book

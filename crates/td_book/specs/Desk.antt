@@ -7,24 +7,25 @@ use Rattle.td_rows.specs.declared.kind.Kind.TheVariants.{Claim}
 use Rattle.td_rows.specs.Keys.{names}
 use Rattle.td_journal.specs.declared.entry.Entry.{Entry}
 use Rattle.td_supply.specs.Supply.{Stock}
-use Rattle.td_core.specs.Books.{BooksView}
 use Rattle.td_core.specs.History.{History}
 use Rattle.td_core.specs.Keeps.{places_in}
+use Rattle.td_book.specs.Watching.{WatchView, WatchedView}
 
 -- the board's table, what is kept, what the desk knows of each row, how many builders there are, and how many entries the journal had at the opening
 pub record InnerModel : Type 0 where
   pub table : TableId
-  pub books : BooksView
+  pub books : WatchedView
   pub view : List RowView
   pub builders : ℕ
   pub since : ℕ
 
--- what no call changes: the board's table, what the index offers, how many builders there are, and how many entries the journal had at the opening
+-- what no call changes: the board's table, what the index offers, how many builders there are, and how many entries the journal had at the opening; and the watched rows, which only `watch` changes
 pub record Fixed : Type 0 where
   pub table : TableId
   pub stock : Stock
   pub builders : ℕ
   pub since : ℕ
+  pub watch : WatchView
 
 -- the same at rest: the desk's view follows from the history, and room is no part of it
 pub record BookModel : Type 0 where
@@ -32,7 +33,7 @@ pub record BookModel : Type 0 where
   pub fixed : Fixed
 
 abbrev pub fixed_of : InnerModel → Fixed
-fixed_of m = record { table = m.table; stock = m.books.stock; builders = m.builders; since = m.since }
+fixed_of m = record { table = m.table; stock = m.books.stock; builders = m.builders; since = m.since; watch = m.books.watch }
 
 abbrev pub book_of : InnerModel → BookModel
 book_of m = record { history = m.books.history; fixed = fixed_of m }
@@ -43,19 +44,20 @@ pub record Stays (old new : InnerModel) : Type 0 where
   pub stock : new.books.stock ≡ old.books.stock
   pub builders : new.builders ≡ old.builders
   pub since : new.since ≡ old.since
+  pub watch : new.books.watch ≡ old.books.watch
 
 -- room for an entry on each of the keys, and for one more on all of them
-pub record HasRoom (keys : List Key) (b : BooksView) : Type 0 where
+pub record HasRoom (keys : List Key) (b : WatchedView) : Type 0 where
   pub spare : length keys + 1 ≤ b.spare
   pub places : (k : Key) → names keys k ≡ true → 2 ≤ places_in b.places k
 
 -- room for an entry on one of the keys
-pub record HasOne (keys : List Key) (b : BooksView) : Type 0 where
+pub record HasOne (keys : List Key) (b : WatchedView) : Type 0 where
   pub spare : 1 ≤ b.spare
   pub places : (k : Key) → names keys k ≡ true → 1 ≤ places_in b.places k
 
 -- at most an entry on each of the keys was made
-pub record Spent (keys : List Key) (old new : BooksView) : Type 0 where
+pub record Spent (keys : List Key) (old new : WatchedView) : Type 0 where
   pub spare : old.spare ≤ new.spare + length keys
   pub places : (k : Key) → places_in old.places k ≤ places_in new.places k + (if names keys k then 1 else 0)
 

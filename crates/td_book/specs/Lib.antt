@@ -11,3 +11,6 @@ pub mod Building
 pub mod Finishing
 pub mod Ready
 pub mod Reopening
+pub mod Watching
+pub mod WatchCalls
+pub mod inner

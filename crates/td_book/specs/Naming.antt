@@ -1,18 +1,14 @@
--- The rows that a command names, those of them whose version matches, and the kind of its entry. This project's own, in the style of wanna-build.
+-- The rows that a command names, and those of them whose version matches. This project's own, in the style of wanna-build.
 use Rattle.std.specs.Prelude.{◌≡◌, ℕ, Bool, false, ◌&&◌, ◌||◌, List, Option, Some, None, is_some, filter, slice_get}
 use Rattle.std.specs.List.{filter_map}
 use Rattle.std.specs.Option.{option_and_then}
 use Rattle.std.specs.Result.{result_ok}
 use Rattle.td_rows.specs.declared.key.Key.{Key}
-use Rattle.td_rows.specs.declared.kind.Kind.{Kind}
-use Rattle.td_rows.specs.declared.kind.Kind.TheVariants as kinds
 use Rattle.td_rows.specs.Keys.{names}
 use Rattle.td_rows.specs.Table.{Table, row_of, keys_of}
 use Rattle.td_supply.specs.Supply.{SupplyView, version_of}
 use Rattle.td_version.specs.Reading.{reading}
 use Rattle.td_version.specs.Version.{Parts}
-use Rattle.td_wbread.specs.declared.command.Verb.{Verb}
-use Rattle.td_wbread.specs.declared.command.Verb.TheVariants.{Gb, Nmu, Bp, Dw}
 use Rattle.td_wbread.specs.Command.{CommandParts}
 use Rattle.td_wbread.specs.Naming.{is_named, is_matched, is_bare}
 
@@ -43,15 +39,3 @@ is_matched_as c source number None = is_bare c source
 
 abbrev pub is_matched_at : CommandParts → SupplyView → Table → Key → Bool
 is_matched_at c s t k = elim (row_of t k) [ Some row ↦ is_matched_as c k.source row.number (version_in s k.source) | None ↦ false ]
-
--- ---- 3. the kind
-
--- what the entry of a command does to each row
-abbrev pub kind_by : Verb → List ℕ → List ℕ → Kind
-kind_by Gb message extra = kinds.Gb
-kind_by (Nmu n) message extra = kinds.Nmu n extra message
-kind_by (Bp p) message extra = kinds.Bp p
-kind_by Dw message extra = kinds.Dw message
-
-abbrev pub kind_of : CommandParts → Kind
-kind_of c = kind_by c.verb c.message c.extra

@@ -12,14 +12,14 @@ ghost use Rattle.td_book.specs.Commands.{IsAsked, IsDone, named_by};
 ghost use Rattle.td_book.specs.Skips.{left_of};
 
 use crate::book::Book;
-use crate::naming::{doubts, kind_of, matched, named};
+use crate::naming::{doubts, matched, named};
 use crate::skips::{Skip, Skips};
 use std::alloc::AllocError;
 use td_board::Board;
 use td_core::PlannedCommand;
 use td_journal::{EntryNo, Keys, OneKeyLists};
 use td_rows::{Key, Kind, cells_of};
-use td_wbread::Command;
+use td_wbread::{Command, kind_of};
 
 /// What a command did.
 #[derive(Debug, Drop)]

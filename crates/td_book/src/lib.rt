@@ -2,7 +2,7 @@
 //!
 //! Start at `Book`. `commanding` and `undoing` change the history, `starting` and `finishing` serve
 //! a builder, `waiting` says what is to be built next, `arriving` tells the book what the archive
-//! has. `inner` withdraws rows from the board and offers them, and says what the desk knows of each
+//! has, `watching` how many rows of a group are Installed. `inner` withdraws rows from the board and offers them, and says what the desk knows of each
 //! row meanwhile.
 //! Promised: at rest a row is offered exactly where it needs a build, and known to be a builder's
 //! exactly where it is Building by it; a claim that a builder has won is noted and never invented;
@@ -25,12 +25,15 @@ mod starting;
 mod tests;
 mod undoing;
 mod waiting;
+mod watch;
+mod watched;
+mod watching;
 
 pub use arriving::ArriveRefusal;
 pub use book::Book;
 pub use commanding::{CommandRefusal, Taken};
 pub use finishing::FinishRefusal;
-pub use naming::kind_of;
 pub use skips::{Skip, SkipReason, Skips};
 pub use starting::{Job, StartRefusal};
 pub use undoing::UndoRefusal;
+pub use watching::WatchRefusal;

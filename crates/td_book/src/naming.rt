@@ -9,15 +9,15 @@ ghost use Rattle.td_rows.specs.declared.key.Key.{Key as KeyValue};
 ghost use Rattle.td_rows.specs.Table.{Table, keys_of as every_key};
 ghost use Rattle.td_version.specs.Version.{parts_of as version_of};
 ghost use Rattle.td_wbread.specs.Views.{package_of, parts_of};
-ghost use Rattle.td_book.specs.Naming.{Adds, keys_at, is_matched_as, is_matched_at, kind_of as kind_in, named_in, version_in as version_in_supply};
+ghost use Rattle.td_book.specs.Naming.{Adds, keys_at, is_matched_as, is_matched_at, named_in, version_in as version_in_supply};
 ghost use Rattle.td_book.specs.Skips.{doubt};
 
 use crate::skips::{Skip, SkipReason};
 use std::alloc::{AllocError, Global};
-use td_rows::{Key, Kind, RebuildNumber, Rows, State};
+use td_rows::{Key, RebuildNumber, Rows, State};
 use td_supply::Supply;
 use td_version::Version;
-use td_wbread::{Command, Package, Verb};
+use td_wbread::{Command, Package};
 
 // Adds the number of the row of a source on an architecture, if it has one.
 fn push_number(
@@ -192,20 +192,4 @@ pub(crate) fn doubts(
         doubts.push(doubt_of(matches(command, supply, rows, key), key)?)?;
     }
     Ok(doubts)
-}
-
-/// What a command's entry does to each row.
-pub fn kind_of(command: &Command<'_>) -> Result<Kind, AllocError>
-    ensures { IfOk result (λ kind. kind ≡ kind_in (parts_of command.now)) }
-{
-    match &command.verb {
-        Verb::Gb => Ok(Kind::Gb),
-        Verb::Nmu(number) => Ok(Kind::Nmu {
-            number: *number,
-            extra: command.extra.copy()?,
-            message: command.message.copy()?,
-        }),
-        Verb::Bp(priority) => Ok(Kind::Bp(*priority)),
-        Verb::Dw => Ok(Kind::Dw(command.message.copy()?)),
-    }
 }

@@ -4,6 +4,7 @@ ghost use Rattle.td_board.specs.Knowledge.{new_desk};
 ghost use Rattle.td_supply.specs.Supply.{opened as opened_stock, stock_of};
 ghost use Rattle.td_core.specs.History.{opened};
 ghost use Rattle.td_core.specs.Phases.{NoneBuilt};
+ghost use Rattle.td_book.specs.Watching.{no_watch};
 
 use crate::book::Book;
 use crate::inner::Inner;
@@ -26,12 +27,12 @@ impl<'a> Book<'a> {
         requires fresh_seat { desk.desk ≡ new_desk (length rows) (length desk.desk.noted) }
         requires idle { NoneBuilt rows }
         requires fresh_supply { supply ≡ opened_stock (stock_of supply) }
-        ensures { IfOk result (λ book. book ≡ record { history = opened rows; fixed = record { table = desk.table; stock = stock_of supply.entry; builders = length desk.desk.noted; since = 0 } }) }
+        ensures { IfOk result (λ book. book ≡ record { history = opened rows; fixed = record { table = desk.table; stock = stock_of supply.entry; builders = length desk.desk.noted; since = 0; watch = no_watch } }) }
     {
         // (`len` says that the keys of the rows rise)
         let _rising = rows.len();
         let books = Books::open(alloc, rows, supply)?;
-        let mut inner = Inner::new(books, desk);
+        let mut inner = Inner::new(alloc, books, desk);
         inner.offer_all(board);
         Ok(Book { inner, alloc })
     }

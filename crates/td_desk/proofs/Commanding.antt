@@ -23,7 +23,7 @@ use Rattle.td_book.specs.declared.skips.Skip.{Skip}
 use Rattle.td_book.specs.Calls.{off_for, noting, Enters, CommandOutcome}
 use Rattle.td_book.specs.Commands.{IsDone, named_by, is_matched_in}
 use Rattle.td_book.specs.Desk.{BookModel}
-use Rattle.td_book.specs.Naming.{kind_by, kind_of}
+use Rattle.td_wbread.specs.Kinds.{kind_with, kind_of}
 use Rattle.td_book.specs.Skips.{skip_at, is_skipped, skips_of}
 use Rattle.td_book.proofs.Calls.{kinds_command, off_short}
 use Rattle.td_book.proofs.Steps.{commands_desks}
@@ -131,13 +131,13 @@ without_taken p t kind ks =
 -- ---- 3. its receipt
 
 commands_made : (c : CommandParts) (n : ℕ) (keys : List Key) → made_of n (kind_of c) keys ≡ Made n (kind_of c) keys
-commands_made c n keys = by c.verb c.message c.extra
+commands_made c n keys = by c.verb c.extra c.message
   where
-    by : (v : Verb) (m e : List ℕ) → made_of n (kind_by v m e) keys ≡ Made n (kind_by v m e) keys
-    by Gb m e = refl
-    by (Nmu b) m e = refl
-    by (Bp p) m e = refl
-    by Dw m e = refl
+    by : (v : Verb) (e m : List ℕ) → made_of n (kind_with v e m) keys ≡ Made n (kind_with v e m) keys
+    by Gb e m = refl
+    by (Nmu b) e m = refl
+    by (Bp p) e m = refl
+    by Dw e m = refl
 
 -- the keys of the receipt: those that the entry has
 pub record ToldKeys (c : CommandParts) (b : BookModel) (skips : List Skip) (keys : List Key) : Type 0 where

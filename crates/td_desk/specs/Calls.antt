@@ -10,6 +10,7 @@ use Rattle.td_rows.specs.Keys.{names}
 use Rattle.td_rows.specs.States.{is_queued}
 use Rattle.td_rows.specs.Table.{Table}
 use Rattle.td_wbread.specs.Command.{CommandParts}
+use Rattle.td_wbread.specs.Kinds.{kind_of}
 use Rattle.td_board.specs.Seats.{BuilderModel}
 use Rattle.td_book.specs.declared.arriving.ArriveRefusal.{ArriveRefusal}
 use Rattle.td_book.specs.declared.commanding.CommandRefusal.{CommandRefusal}
@@ -24,7 +25,6 @@ use Rattle.td_book.specs.Building.{IsJobAt, StartOutcome}
 use Rattle.td_book.specs.Commands.{IsDone, named_by}
 use Rattle.td_book.specs.Desk.{BookModel}
 use Rattle.td_book.specs.Finishing.{FinishOutcome}
-use Rattle.td_book.specs.Naming.{kind_of}
 use Rattle.td_book.specs.Undoing.{UndoAnswer, undo_stop}
 use Rattle.td_desk.specs.declared.receipt.Receipt.{Receipt}
 use Rattle.td_desk.specs.declared.receipt.Receipt.TheVariants.{Made}

@@ -3,14 +3,14 @@ ghost use Rattle.std.specs.Prelude.{◌≡◌, ◌≤◌, [], length, vec_capaci
 ghost use Rattle.td_rows.specs.Keys.{ascending};
 ghost use Rattle.td_rows.specs.Table.{keys_of};
 ghost use Rattle.td_core.specs.History.{rows_of};
+ghost use Rattle.td_wbread.specs.Kinds.{kind_of as kind_in};
 ghost use Rattle.td_wbread.specs.Views.{parts_of};
 ghost use Rattle.td_book.specs.Commands.{named_by};
-ghost use Rattle.td_book.specs.Naming.{kind_of as kind_in};
 ghost use Rattle.td_desk.specs.Calls.{skipped_keys};
 ghost use Rattle.td_desk.specs.inner.Matching.{is_next as is_next_of, left_out as left_out_of};
 
 use std::alloc::{AllocError, Global};
-use td_book::{Book, Skip, kind_of};
+use td_book::{Book, Skip};
 use td_rows::{Key, Kind};
 use td_wbread::Command;
 

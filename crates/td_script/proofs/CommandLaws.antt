@@ -16,7 +16,7 @@ use Rattle.td_book.specs.declared.skips.Skip.{Skip}
 use Rattle.td_book.specs.Desk.{BookModel}
 use Rattle.td_book.specs.Calls.{noting, off_for, Enters, Nothing, Choices}
 use Rattle.td_book.specs.Commands.{IsDone, is_matched_in, named_by}
-use Rattle.td_book.specs.Naming.{kind_of}
+use Rattle.td_wbread.specs.Kinds.{kind_of}
 use Rattle.td_book.specs.Skips.{skips_of}
 use Rattle.td_script.specs.Replies.{enters, enters_on, entry_made, commands, refuses, refusal_line, skip_line, skipped, taken, Reply}
 use Rattle.td_script.specs.Answering.{Answers}

@@ -21,12 +21,13 @@ use Rattle.td_wbread.specs.declared.fault.CommandFault.{CommandFault}
 use Rattle.td_wbread.specs.declared.fault.CommandFault.TheVariants as faults
 use Rattle.td_wbread.specs.Command.{CommandParts, command_at}
 use Rattle.td_wbread.specs.FaultNames.{name_of}
+use Rattle.td_wbread.specs.Kinds.{kind_of}
 use Rattle.td_book.specs.declared.skips.Skip.{Skip}
 use Rattle.td_book.specs.declared.skips.SkipReason.{SkipReason}
 use Rattle.td_book.specs.declared.skips.SkipReason.TheVariants as why
 use Rattle.td_book.specs.declared.undoing.UndoRefusal.{UndoRefusal}
 use Rattle.td_book.specs.declared.undoing.UndoRefusal.TheVariants as undos
-use Rattle.td_book.specs.Naming.{is_matched_at, kind_of, named_in}
+use Rattle.td_book.specs.Naming.{is_matched_at, named_in}
 use Rattle.td_book.specs.Skips.{skips_of}
 use Rattle.td_book.specs.Undoing.{undo_stop}
 use Rattle.td_script.specs.declared.request.Request.{Request}

@@ -38,7 +38,7 @@ use Rattle.td_book.specs.Calls.{is_lost, noting_one, noting, off_for}
 use Rattle.td_book.specs.Commands.{named_by, is_matched_in, IsDone}
 use Rattle.td_book.specs.Desk.{BookModel, claim_of}
 use Rattle.td_book.specs.Finishing.{FinishOutcome}
-use Rattle.td_book.specs.Naming.{kind_of}
+use Rattle.td_wbread.specs.Kinds.{kind_of}
 use Rattle.td_book.specs.Undoing.{undo_stop, mark_stop, UndoAnswer, IsWon}
 use Rattle.td_book.proofs.Calls.{kinds_command}
 use Rattle.td_core.specs.Refusals.{is_queued_at}

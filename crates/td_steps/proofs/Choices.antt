@@ -29,7 +29,7 @@ use Rattle.td_book.specs.Desk.{BookModel, claim_of}
 use Rattle.td_book.proofs.Steps.{rows_with}
 use Rattle.td_core.proofs.Promises.{builders_are_there}
 use Rattle.td_book.specs.Commands.{named_by, is_matched_in}
-use Rattle.td_book.specs.Naming.{kind_of}
+use Rattle.td_wbread.specs.Kinds.{kind_of}
 use Rattle.td_steps.specs.Sees.{Fits, Sees, resting}
 use Rattle.td_steps.specs.Moves.{Move, offer, won, lost, note, step_of, Chosen}
 use Rattle.td_steps.specs.Runs.{Runs}

@@ -19,7 +19,7 @@ use Rattle.td_book.specs.Calls.{is_lost, noting_one, noting, entered}
 use Rattle.td_book.specs.Desk.{claim_of}
 use Rattle.td_core.proofs.Promises.{builders_are_there}
 use Rattle.td_book.specs.Commands.{named_by, is_matched_in}
-use Rattle.td_book.specs.Naming.{kind_of}
+use Rattle.td_wbread.specs.Kinds.{kind_of}
 use Rattle.td_steps.specs.Sees.{Desk, view_of, Fits, Sees}
 use Rattle.td_steps.specs.Moves.{Move, offer, won, lost, note, step_of, moved, Chosen}
 use Rattle.td_steps.specs.Parts.{withdrawing_one, withdrawing, offering_one, offering, committing}

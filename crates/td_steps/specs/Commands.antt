@@ -13,7 +13,7 @@ use Rattle.td_book.specs.declared.commanding.Taken.{Taken}
 use Rattle.td_book.specs.Calls.{noting, Choices, off_for, entered}
 use Rattle.td_book.specs.Commands.{named_by, is_matched_in, IsDone}
 use Rattle.td_book.specs.Desk.{BookModel}
-use Rattle.td_book.specs.Naming.{kind_of}
+use Rattle.td_wbread.specs.Kinds.{kind_of}
 use Rattle.td_steps.specs.Sees.{Sees, resting}
 use Rattle.td_steps.specs.Moves.{Move}
 use Rattle.td_steps.specs.Runs.{LeadsOn}

@@ -7,7 +7,7 @@ use Rattle.td_core.proofs.Taking.{names-filter, ascending-filter}
 use Rattle.td_wbread.specs.Naming.{is_named}
 use Rattle.td_wbread.specs.Views.{parts_of}
 use Rattle.td_book.specs.Commands.{named_by, is_matched_in}
-use Rattle.td_book.specs.Naming.{kind_of}
+use Rattle.td_wbread.specs.Kinds.{kind_of}
 use Rattle.td_book.specs.Skips.{left_of, skips_of}
 use Rattle.td_book.proofs.Calls.{commanded_as, named_rows}
 use Rattle.td_book.proofs.Skipping.{left_skips}
