@@ -5,3 +5,4 @@ pub mod Growing
 pub mod Commanding
 pub mod Flooring
 pub mod Commanded
+pub mod Reopening

@@ -1,5 +1,5 @@
 //! The desk: its opening, its keys, and what it lends.
-ghost use Rattle.std.specs.Prelude.{◌≡◌, None, [], length, IfOk, IfSome, IfNone, MatchBool, slice_get};
+ghost use Rattle.std.specs.Prelude.{◌≡◌, List, None, [], length, true, IfOk, IfErr, OnOk, IfSome, IfNone, MatchBool, slice_get};
 ghost use Rattle.std.specs.Fn.{FnOnceReturnsAt};
 ghost use Rattle.std.specs.Option.{option_copied};
 ghost use Rattle.td_board.specs.Answers.{IsWon, IsLost};
@@ -8,15 +8,23 @@ ghost use Rattle.td_rows.specs.Table.{IsAt, keys_of, row_of};
 ghost use Rattle.td_supply.specs.Supply.{opened as opened_stock, stock_of};
 ghost use Rattle.td_core.specs.Phases.{NoneBuilt};
 ghost use Rattle.td_book.specs.Desk.{BookModel};
+ghost use Rattle.td_journal.specs.declared.entry.Marked.{Marked as MarkedValue};
+ghost use Rattle.td_journal.specs.JournalFile.{IsJournalText, FaultOf};
+ghost use Rattle.td_desk.specs.Changes.{changes, still_undone};
+ghost use Rattle.td_desk.specs.Marks.{marks_in, IsNamedJournal};
+ghost use Rattle.td_desk.specs.inner.Ticks.{AreBegun};
 
 use crate::clerk::Clerk;
 use crate::locked::Locked;
 use crate::named::Named;
+use crate::place::begun_ticks;
+use crate::tick::{Tick, add_ticks};
 use std::alloc::{AllocError, Global};
 use std::sync::ledger::{Blank, Ledger};
 use std::sync::{Condvar, Mutex, Wait};
 use td_board::{Board, BuilderSeat, DeskSeat};
 use td_book::Book;
+use td_journal::ReadError;
 use td_rows::{Key, Rows};
 use td_supply::Supply;
 
@@ -58,20 +66,51 @@ impl<'a, N: Named, C: Ledger> Desk<'a, N, C> {
     {
         let opening = rows.copy()?;
         let book = Book::open(alloc, &board, seat, rows, supply)?;
-        let (ledger, share) = blank.open::<C>();
-        let desk = Desk {
-            alloc,
-            board,
-            opening,
-            locked: Mutex::new(Locked::new(book, ledger, Vec::new(alloc))),
-            changed: Condvar::new(),
+        Ok(begin(alloc, board, opening, book, Vec::new(alloc), blank))
+    }
+
+    /// A desk over the journal whose text it is over the opening rows, in either version, and the
+    /// clerk with all parts of its ledger: what was changed before is no change of this desk. Each
+    /// row that the journal leaves with a builder is given back.
+    #[tactic(auto, using(crate::proofs::Reopening::begun_table))]
+    pub fn reopen(
+        alloc: Global,
+        board: Board,
+        seat: DeskSeat,
+        rows: Rows,
+        supply: Supply<'a>,
+        blank: Blank,
+        text: &str,
+    ) -> Result<(Desk<'a, N, C>, Clerk<C>), ReadError>
+        requires board { board.table ≡ N.table }
+        requires seat { seat.table ≡ N.table }
+        requires opened { N.opened ≡ marks_in text.now }
+        requires fresh_seat { seat.desk ≡ new_desk (length rows) (length seat.desk.noted) }
+        requires fresh_supply { supply ≡ opened_stock (stock_of supply) }
+        requires ledger { (blank.name ≡ C.name) × (blank.parts ≡ C.parts) × (blank.parts ≡ 1024) }
+        ensures clerk { IfOk result (λ made. made.1 ≡ record { parts = 1024; receipts = [] }) }
+        ensures board { IfOk result (λ made. made.0.board ≡ board) }
+        ensures opening { IfOk result (λ made. made.0.opening ≡ rows) }
+        ensures found { OnOk result (IsNamedJournal N.opened rows text.now) }
+        ensures only { (ms : List MarkedValue) → IsJournalText rows text.now ms → IfErr result (λ e. e ≡ ReadError.NoMemory) }
+        ensures fault { IfErr result (FaultOf rows text.now) }
+    {
+        // (a text's length is a `usize`)
+        let _len = text.len();
+        let Ok(opening) = rows.copy() else {
+            return Err(ReadError::NoMemory);
         };
-        let clerk = Clerk {
-            share,
-            parts: PARTS,
-            receipts: Vec::new(alloc),
+        let Ok(mut ticks) = begun_ticks(alloc, text) else {
+            return Err(ReadError::NoMemory);
         };
-        Ok((desk, clerk))
+        let book = match Book::reopen(alloc, &board, seat, rows, supply, text) {
+            Ok(book) => book,
+            Err(fault) => return Err(fault),
+        };
+        let Ok(()) = add_ticks(&mut ticks, 0, book.journal().as_slice().len()) else {
+            return Err(ReadError::NoMemory);
+        };
+        Ok(begin(alloc, board, opening, book, ticks, blank))
     }
 
     /// The number of a key's row. It needs no lock, as the rows of a desk stay the same ones.
@@ -118,4 +157,39 @@ impl<'a, N: Named, C: Ledger> Desk<'a, N, C> {
     {
         self.board.claim(row, seat)
     }
+}
+
+// A desk that begins with a book, and the clerk with all parts of its ledger.
+fn begin<'a, N: Named, C: Ledger>(
+    alloc: Global,
+    board: Board,
+    opening: Rows,
+    book: Book<'a>,
+    ticks: Vec<Tick>,
+    blank: Blank,
+) -> (Desk<'a, N, C>, Clerk<C>)
+    requires board { board.table ≡ N.table }
+    requires book { book.fixed.table ≡ N.table }
+    requires still { still_undone book.history.journal N.opened ≡ true }
+    requires none { changes N.opened book ≡ [] }
+    requires ticks { AreBegun N.opened (length book.history.journal) ticks.items }
+    requires ledger { (blank.name ≡ C.name) × (blank.parts ≡ C.parts) × (blank.parts ≡ 1024) }
+    ensures clerk { result.1 ≡ record { parts = 1024; receipts = [] } }
+    ensures board { result.0.board ≡ board }
+    ensures opening { result.0.opening ≡ opening }
+{
+    let (ledger, share) = blank.open::<C>();
+    let desk = Desk {
+        alloc,
+        board,
+        opening,
+        locked: Mutex::new(Locked::new(book, ledger, ticks)),
+        changed: Condvar::new(),
+    };
+    let clerk = Clerk {
+        share,
+        parts: PARTS,
+        receipts: Vec::new(alloc),
+    };
+    (desk, clerk)
 }

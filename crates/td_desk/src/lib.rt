@@ -17,6 +17,7 @@ mod floor;
 mod locked;
 mod matching;
 mod named;
+mod place;
 mod receipt;
 #[cfg(test)]
 mod tests;

@@ -1,0 +1,65 @@
+//! Ticks of the entries of a journal that is read again, by the marks of its lines.
+ghost use Rattle.std.specs.Prelude.{◌≡◌, ◌++◌, map, IfOk, OnOk};
+ghost use Rattle.td_desk.specs.Marks.{mark_at, mark_of, marks_in, place_behind};
+ghost use Rattle.td_desk.specs.inner.Ticks.{begun_at};
+
+use crate::tick::Tick;
+use std::alloc::{AllocError, Global};
+
+/// Where a reading of a journal's lines stands: in the number that a line begins with, at its
+/// mark, or behind that.
+#[derive(Clone, Copy, Debug, PartialEq, Eq)]
+pub(crate) enum Place {
+    Number,
+    Sign,
+    Rest,
+}
+
+/// Ticks of the entries whose lines a journal's text has: none of them is a change, nor is an
+/// undo of then.
+pub(crate) fn begun_ticks(alloc: Global, text: &str) -> Result<Vec<Tick>, AllocError>
+    ensures { IfOk result (λ ticks. ticks.items ≡ map begun_at (marks_in text.now)) }
+{
+    let mut ticks = Vec::new(alloc);
+    let mut place = Place::Rest;
+    let mut rest = text.as_bytes();
+    while let Some((byte, after)) = rest.split_first() {
+        push_mark(&mut ticks, place, *byte)?;
+        place = behind(place, *byte);
+        rest = after;
+    }
+    Ok(ticks)
+}
+
+// The tick of a mark, if one stands there.
+fn push_mark(ticks: &mut Vec<Tick>, place: Place, byte: u8) -> Result<(), AllocError>
+    ensures { OnOk result (ticks.new.items ≡ ticks.old.items ++ map begun_at (mark_at place byte)) }
+{
+    match place {
+        Place::Number | Place::Rest => Ok(()),
+        Place::Sign => Ok(ticks.push(tick_of(byte))?),
+    }
+}
+
+// The tick of an entry of then, by the byte of its mark.
+fn tick_of(byte: u8) -> Tick
+    ensures { result ≡ begun_at (mark_of byte) }
+{
+    Tick {
+        made: true,
+        undone: byte == b'-',
+    }
+}
+
+// Where the reading stands behind a byte.
+fn behind(place: Place, byte: u8) -> Place
+    ensures { result ≡ place_behind place byte }
+{
+    match place {
+        Place::Number if byte == b' ' => Place::Sign,
+        Place::Number => Place::Number,
+        Place::Sign => Place::Rest,
+        Place::Rest if byte == b'\n' => Place::Number,
+        Place::Rest => Place::Rest,
+    }
+}
