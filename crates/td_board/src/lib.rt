@@ -15,8 +15,6 @@ mod outcome;
 mod promises;
 mod rule;
 mod seats;
-#[cfg(test)]
-mod tests;
 pub mod views;
 mod words;
 

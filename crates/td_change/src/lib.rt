@@ -10,8 +10,6 @@
 mod change;
 pub mod laws;
 mod plan;
-#[cfg(test)]
-mod tests;
 mod written;
 
 pub use change::Change;

@@ -22,15 +22,11 @@ mod key_list;
 pub mod laws;
 mod refusals;
 mod reopening;
-#[cfg(test)]
-mod replay_tests;
 mod runs;
 mod searching;
 mod step;
 mod stepping;
 mod sweeping;
-#[cfg(test)]
-mod tests;
 mod world;
 
 pub use books::Books;

@@ -9,8 +9,6 @@
 
 mod cells;
 mod exchange;
-#[cfg(test)]
-mod grid_tests;
 mod key;
 mod key_ref;
 mod key_text;
@@ -29,8 +27,6 @@ mod state_file;
 mod state_reading;
 mod state_word;
 mod state_writing;
-#[cfg(test)]
-mod tests;
 
 pub use cells::Cells;
 pub use exchange::{has_text, texts_of};

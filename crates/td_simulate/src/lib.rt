@@ -14,8 +14,6 @@ mod parts;
 mod simulation;
 mod step_line;
 mod steps_reading;
-#[cfg(test)]
-mod tests;
 mod verb;
 
 pub use answer_line::refusal_name;

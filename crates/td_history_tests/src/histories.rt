@@ -8,9 +8,9 @@ ghost use Rattle.td_core.specs.History.{rows_of};
 ghost use Rattle.td_core.specs.Phases.{NoneBuilt};
 ghost use Rattle.td_supply.specs.Supply.{opened, stock_of};
 
-use crate::{Answer, Books, Kept, KeyList, Refusal, Step, World, run};
 use std::alloc::{AllocError, Global};
 use std::test::Fail;
+use td_core::{Answer, Books, Kept, KeyList, Refusal, Step, World, run};
 use td_journal::{Entry, Keys, read, read_kind, text};
 use td_relation::Archs;
 use td_rows::{Key, Kind, Line, Priority, Rows, are_ascending, read_key, read_state, rows_text};

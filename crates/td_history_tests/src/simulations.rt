@@ -1,9 +1,9 @@
 //! What no clause says: that a simulation is told with ample memory, and that the definitions are
 //! those of the field. Texts and answers are the project's own worked examples.
 
-use crate::simulate_text;
 use std::alloc::Global;
 use std::test::Fail;
+use td_simulate::simulate_text;
 
 // What is told of a text that is short, and whether a step was refused.
 fn told(alloc: Global, text: &str) -> Result<String, Fail> {

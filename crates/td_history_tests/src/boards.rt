@@ -5,10 +5,10 @@ ghost use mathlib.Core.Option.{some};
 ghost use lib.ListN.{get_elem?};
 ghost use Rattle.td_board.specs.declared.views.RowView.TheVariants.{Out};
 
-use crate::{Board, BuilderSeat, DeskSeat, Hand, MakeRefusal, OutcomeCode, Withdrawal};
 use std::test::Fail;
 use std::thread;
 use std::thread::Threads;
+use td_board::{Board, BuilderSeat, DeskSeat, Hand, MakeRefusal, OutcomeCode, Withdrawal};
 
 #[test]
 fn a_claim_beats_a_withdrawal_and_a_withdrawal_beats_a_claim(rt: HostRuntime) -> Result<(), Fail> {

@@ -1,5 +1,5 @@
 //! Each kind on a row of each state, as the table of docs/FORMATS.md has it.
-use crate::tests::after;
+use crate::rows::after;
 use std::alloc::Global;
 use std::test::Fail;
 
