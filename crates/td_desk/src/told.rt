@@ -12,7 +12,7 @@ ghost use Rattle.td_desk.specs.inner.Matching.{is_next as is_next_of, left_out a
 use std::alloc::{AllocError, Global};
 use td_book::{Book, Skip};
 use td_rows::{Key, Kind};
-use td_wbread::Command;
+use td_wbread::{Command, kind_of};
 
 /// What the receipt of a command is made of: its kind, the keys that it names, and room for those
 /// that it takes.
