@@ -43,6 +43,7 @@ use Rattle.td_waves.specs.declared.level.Level.{Level}
 use Rattle.td_report.specs.Transition.{AreLevels}
 use Rattle.td_book.specs.Desk.{BookModel}
 use Rattle.td_book.specs.Reopening.{IsReopened}
+use Rattle.td_book.specs.Watching.{no_watch}
 use Rattle.td_script.specs.declared.told.Told.{Told as ToldText}
 use Rattle.td_script.specs.Replies.{Setting}
 use Rattle.td_script.specs.Reporting.{report_with}
@@ -158,7 +159,7 @@ pub fresh_supply : (s : SupplyView) (k : Stock) → s ≡ opened_stock k → s �
 fresh_supply s k is = is ∙ ap opened_stock (sym (stock-opened s k is))
 
 -- a book that opens with no entry, and one that opens again
-pub begun_fresh : (rows : Table) (table : TableId) (stock : Stock) (builders since : ℕ) (b : BookModel) → b ≡ record { history = opened rows; fixed = record { table = table; stock = stock; builders = builders; since = since } } → IsBegunBy None rows table stock builders b
+pub begun_fresh : (rows : Table) (table : TableId) (stock : Stock) (builders since : ℕ) (b : BookModel) → b ≡ record { history = opened rows; fixed = record { table = table; stock = stock; builders = builders; since = since; watch = no_watch } } → IsBegunBy None rows table stock builders b
 begun_fresh rows table stock builders since b is = record {
   begun = ap (λ (x : BookModel). x.history) is;
   table_is = ap (λ (x : BookModel). x.fixed.table) is;
