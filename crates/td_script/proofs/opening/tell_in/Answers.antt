@@ -1,6 +1,4 @@
-use Rattle.std.proofs.Common.{◌∙◌, option_map, rules, subst}
-use Rattle.td_rows.specs.Table.{Table}
-use Rattle.td_script.specs.Openings.{IsBegun}
+use Rattle.std.proofs.Common.{◌∙◌, rules}
 use Rattle.td_script.proofs.OpeningLaws.{fresh_supply, stock-opened, told_from}
 use Rattle.td_script.proofs.opening.tell_in.Goals as goal
 
@@ -10,7 +8,7 @@ begin-requires-clause-fresh_supply g c = fresh_supply _ _ c.in-Ok-supply.ensures
 pub returns-in-Ok-tell-clause-told : goal.returns-in-Ok-tell-clause-told
 returns-in-Ok-tell-clause-told g c = (
   c.in-Ok-begin.book.history,
-  subst (λ (t : Table). IsBegun (option_map (λ s. s.now) c.args.journal) t c.in-Ok-begin.book.history) c.rows.view_is c.in-Ok-begin.ensures.begun.begun,
+  c.in-Ok-begin.ensures.begun.begun,
   told_from c.in-Ok-begin.book c.tell.new.book _ _ c.args.suite.now _ c.args.script.now c.in-Ok-tell.told c.in-Ok-tell.ensures
       (c.in-Ok-begin.ensures.begun.stock_is ∙ stock-opened _ _ c.in-Ok-supply.ensures)
       (search rules),
