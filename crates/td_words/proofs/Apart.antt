@@ -1,15 +1,14 @@
--- What `clap` reads in the words of a check whose paths are words of their own.
-use Rattle.std.proofs.Common.{◌≡◌, ℕ, false, List, [], ◌∷◌, Some, None, unwrap_or, codes, refl, sym, ap, ap₂, subst, ◌∙◌}
-use Rattle.std.specs.Prelude.{find}
+-- What `clap` reads in words whose values are words of their own, whatever the subcommand.
+use Rattle.std.proofs.Common.{◌≡◌, ℕ, false, List, [], ◌∷◌, ◌++◌, Some, None, codes, refl, ap, ap₂, ◌∙◌}
 use Rattle.std.specs.List.{fold}
 use Rattle.std.specs.Str.{bytes_eq}
-use Rattle.clap.specs.Kinds.{or_else}
+use Rattle.clap.specs.Kinds.{Kinds, or_else}
 use Rattle.clap.specs.Lexer.{short_of, strip_byte}
 use Rattle.clap.specs.Faults.{check_fault, defaults_fault, level_fault, settle_fault, turn_fault, walk_fault}
-use Rattle.clap.specs.Walk.{Held, Rule, Walk, arg_by_id, finished, nothing_held, option, option_word, settled, walk, walk_from, walked}
-use Rattle.clap.specs.Simple.{Shape, built, subcommand_of}
+use Rattle.clap.specs.Walk.{Held, Rule, Walk, arg_by_id, finished, nothing_held, option, option_word, settled, walk_from, walked}
+use Rattle.clap.specs.Simple.{Shape}
 use Rattle.clap.proofs.OnLiterals.{clap_on_literals}
-use Rattle.td_words.specs.CommandLine.{AskForCheck, HasFiles, IsPlainPath, asking_apart, check_shape, desk, faults_of, name_in, rows_in}
+use Rattle.td_words.specs.CommandLine.{IsPlainPath}
 
 -- ---- one path
 
@@ -47,72 +46,64 @@ unfolding clap_on_literals
 passes s h id word rest plain =
     ap₂ (λ kinds w. or_else kinds (walk_fault s [] w rest)) (no_fault s h id word plain) (takes_value s.rules h id word plain)
 
--- ---- the three of them
+-- ---- some options, each with its value
 
--- `check` as it is built
-abbrev built_check : Shape
-built_check = unwrap_or (find (λ s. bytes_eq s.name (codes "check")) (built desk).subs) check_shape
+abbrev pub Given : Type 0
+Given = List ℕ × List ℕ
 
-abbrev step : Walk → List ℕ → Walk
-step w word = walked built_check.rules [] w word
+abbrev pub option_named : List ℕ → List ℕ
+option_named name = codes "--" ++ name
 
-abbrev first_held : Held
-first_held = record nothing_held { pending = Some (codes "archs", []) }
+abbrev pub words_of : List Given → List (List ℕ)
+words_of [] = []
+words_of (g ∷ gs) = option_named g.0 ∷ g.1 ∷ words_of gs
 
-abbrev first_taken : List ℕ → Walk
-first_taken a = taken built_check.rules first_held (codes "archs") a
+abbrev pub stepped : Shape → Walk → List ℕ → Walk
+stepped b w word = walked b.rules [] w word
 
-abbrev second_held : List ℕ → Held
-second_held a = (step (first_taken a) (codes "--packages")).held
+-- the walk behind an option and its value
+abbrev pub past : Shape → Walk → Given → Walk
+past b w g = taken b.rules (stepped b w (option_named g.0)).held g.0 g.1
 
-abbrev second_taken : List ℕ → List ℕ → Walk
-second_taken a p = taken built_check.rules (second_held a) (codes "packages") p
+abbrev pub behind : Shape → Walk → List Given → Walk
+behind b w [] = w
+behind b w (g ∷ gs) = behind b (past b w g) gs
 
-abbrev third_held : List ℕ → List ℕ → Held
-third_held a p = (step (second_taken a p) (codes "--sources")).held
+-- each option waits for its value, which isn't taken for an option, and nothing is wrong with it
+abbrev pub Opens : Shape → Walk → List Given → Type 0
+Opens b w [] = Unit {0}
+Opens b w (g ∷ gs) =
+    (stepped b w (option_named g.0) ≡ waits (stepped b w (option_named g.0)).held g.0)
+    × (turn_fault b [] w (option_named g.0) ≡ []) × IsPlainPath g.1 × Opens b (past b w g) gs
 
-abbrev third_taken : List ℕ → List ℕ → List ℕ → Walk
-third_taken a p s = taken built_check.rules (third_held a p) (codes "sources") s
+pub walk_is : (b : Shape) (w : Walk) (gs : List Given) → Opens b w gs → fold (stepped b) w (words_of gs) ≡ behind b w gs
+walk_is b w [] h = refl
+walk_is b w (g ∷ gs) h =
+    ap (λ v. fold (stepped b) (stepped b v g.1) (words_of gs)) h.0
+    ∙ ap (λ v. fold (stepped b) v (words_of gs)) (takes_value b.rules (stepped b w (option_named g.0)).held g.0 g.1 h.2)
+    ∙ walk_is b (past b w g) gs h.3
 
-abbrev options : List ℕ → List ℕ → List ℕ → List (List ℕ)
-options a p s = codes "--archs" ∷ a ∷ codes "--packages" ∷ p ∷ codes "--sources" ∷ s ∷ []
+walk_passes : (b : Shape) (w : Walk) (gs : List Given) → Opens b w gs → walk_fault b [] w (words_of gs) ≡ []
+unfolding walk_fault
+walk_passes b w [] h = refl
+walk_passes b w (g ∷ gs) h =
+    ap₂ (λ kinds v. or_else kinds (walk_fault b [] v (g.1 ∷ words_of gs))) h.1 h.0
+    ∙ passes b (stepped b w (option_named g.0)).held g.0 g.1 (words_of gs) h.2
+    ∙ walk_passes b (past b w g) gs h.3
 
-walk_is : (a p s : List ℕ) → IsPlainPath a → IsPlainPath p → IsPlainPath s → walk built_check.rules [] nothing_held (options a p s) ≡ third_taken a p s
+abbrev pub ended : Shape → List Given → Walk
+ended b gs = behind b (walk_from nothing_held) gs
+
+-- what is left to be wrong at the end
+abbrev pub end_fault : Shape → List Given → Kinds
+end_fault b gs =
+    or_else [] (or_else [] (or_else (settle_fault b.rules b.args_override_self (ended b gs).held)
+    (or_else (defaults_fault (settled b.rules (ended b gs).held).rows b.rules) (check_fault b (finished b.rules (ended b gs).held) false))))
+
+pub level_passes : (b : Shape) (gs : List Given) → Opens b (walk_from nothing_held) gs → end_fault b gs ≡ [] → level_fault b [] nothing_held (words_of gs) false [] ≡ []
 unfolding clap_on_literals
-walk_is a p s pa pp ps =
-    ap (λ w. fold step w (codes "--packages" ∷ p ∷ codes "--sources" ∷ s ∷ [])) (takes_value built_check.rules first_held (codes "archs") a pa)
-    ∙ ap (λ w. fold step w (codes "--sources" ∷ s ∷ [])) (takes_value built_check.rules (second_held a) (codes "packages") p pp)
-    ∙ takes_value built_check.rules (third_held a p) (codes "sources") s ps
-
-walk_passes : (a p s : List ℕ) → IsPlainPath a → IsPlainPath p → IsPlainPath s → walk_fault built_check [] (walk_from nothing_held) (options a p s) ≡ []
-unfolding clap_on_literals
-walk_passes a p s pa pp ps =
-    passes built_check first_held (codes "archs") a (codes "--packages" ∷ p ∷ codes "--sources" ∷ s ∷ []) pa
-    ∙ passes built_check (second_held a) (codes "packages") p (codes "--sources" ∷ s ∷ []) pp
-    ∙ passes built_check (third_held a p) (codes "sources") s [] ps
-
-level_passes : (a p s : List ℕ) → IsPlainPath a → IsPlainPath p → IsPlainPath s → level_fault built_check [] nothing_held (options a p s) false [] ≡ []
-unfolding clap_on_literals
-level_passes a p s pa pp ps =
-    ap₂ (λ kinds w. or_else kinds (or_else [] (or_else (settle_fault built_check.rules built_check.args_override_self w.held)
-    (or_else (defaults_fault (settled built_check.rules w.held).rows built_check.rules) (check_fault built_check (finished built_check.rules w.held) false)))))
-    (walk_passes a p s pa pp ps) (walk_is a p s pa pp ps)
-
-faults_are : (program a p s : List ℕ) → IsPlainPath a → IsPlainPath p → IsPlainPath s → faults_of (asking_apart program a p s) ≡ []
-unfolding clap_on_literals
-faults_are program a p s pa pp ps = ap (λ kinds. or_else kinds []) (level_passes a p s pa pp ps)
-
-entered_is : (program a p s : List ℕ) → IsPlainPath a → IsPlainPath p → IsPlainPath s
-    → subcommand_of desk (asking_apart program a p s) ≡ Some (codes "check", finished built_check.rules (third_taken a p s).held)
-unfolding clap_on_literals
-entered_is program a p s pa pp ps =
-    ap (λ w. Some (codes "check", finished built_check.rules w.held)) (walk_is a p s pa pp ps)
-
-pub asks_apart : (program archs packages sources : List ℕ) → IsPlainPath archs → IsPlainPath packages → IsPlainPath sources
-    → AskForCheck (asking_apart program archs packages sources) archs packages sources
-unfolding clap_on_literals
-asks_apart program a p s pa pp ps =
-    let entered = entered_is program a p s pa pp ps in (
-      (faults_are program a p s pa pp ps, ap name_in entered),
-      subst (λ o. HasFiles (rows_in o) a p s) (sym entered) (record { archs_path = refl; packages_path = refl; sources_path = refl }),
-    )
+level_passes b gs h end =
+    ap₂ (λ kinds w. or_else kinds (or_else [] (or_else (settle_fault b.rules b.args_override_self w.held)
+    (or_else (defaults_fault (settled b.rules w.held).rows b.rules) (check_fault b (finished b.rules w.held) false)))))
+    (walk_passes b (walk_from nothing_held) gs h) (walk_is b (walk_from nothing_held) gs h)
+    ∙ end

@@ -1,4 +1,5 @@
 ghost use Rattle.td_words.specs.CommandLine.{JoinedWordsAsk, PlainRunWordsAsk, SeparateWordsAsk, TrackWordsAsk, WavesWordsAsk, WholeRunWordsAsk};
+ghost use Rattle.td_words.specs.WordsApart.{SeparatePlainRunWordsAsk, SeparateTrackWordsAsk, SeparateWavesWordsAsk, SeparateWholeRunWordsAsk};
 
 /// The words of a check ask for it: with each path joined to its option, whatever it is; or as a
 /// word of its own, where it doesn't begin like an option.
@@ -7,19 +8,24 @@ pub fn words_of_a_check_ask_for_it()
     ensures separate { SeparateWordsAsk }
 {}
 
-/// The words of a report ask for it, whatever the paths are: with other rows or without, by chunks
-/// or whole.
+/// The words of a report ask for it, with other rows or without, by chunks or whole: with each
+/// value joined to its option, whatever it is; or as a word of its own, where it is neither empty
+/// nor begins with a hyphen, since `clap` takes such a word for an option.
 pub fn words_of_a_track_ask_for_it()
-    ensures { TrackWordsAsk }
+    ensures joined { TrackWordsAsk }
+    ensures separate { SeparateTrackWordsAsk }
 {}
 
 /// So do the words of waves.
 pub fn words_of_waves_ask_for_them()
-    ensures { WavesWordsAsk }
+    ensures joined { WavesWordsAsk }
+    ensures separate { SeparateWavesWordsAsk }
 {}
 
-/// The words of a run ask for it: over an archive alone, and with everything that may be given.
+/// So do the words of a run: over an archive alone, and with everything that may be given.
 pub fn words_of_a_run_ask_for_it()
     ensures plain { PlainRunWordsAsk }
     ensures whole { WholeRunWordsAsk }
+    ensures plain_separate { SeparatePlainRunWordsAsk }
+    ensures whole_separate { SeparateWholeRunWordsAsk }
 {}

@@ -1,5 +1,5 @@
 use Rattle.td_words.proofs.Asking.{asks_for_check}
-use Rattle.td_words.proofs.Apart.{asks_apart}
+use Rattle.td_words.proofs.WordsApart.{asks_apart}
 use Rattle.td_words.proofs.laws.words_of_a_check_ask_for_it.Goals as goal
 
 pub returns-clause-joined : goal.returns-clause-joined
