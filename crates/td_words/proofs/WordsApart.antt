@@ -176,11 +176,11 @@ asks_for_plain_run_apart program a p s plain =
 
 abbrev whole_given : List ℕ → List ℕ → List ℕ → DeskValues → List Given
 whole_given a p s v =
-    archive_given a p s ((codes "state", v.state) ∷ (codes "tracker", v.tracker) ∷ (codes "suite", v.suite) ∷ (codes "builders", v.builders) ∷ (codes "outcomes", v.outcomes) ∷ [])
+    archive_given a p s ((codes "state", v.state) ∷ (codes "tracker", v.tracker) ∷ (codes "suite", v.suite) ∷ (codes "builders", v.builders) ∷ (codes "outcomes", v.outcomes) ∷ (codes "journal", v.journal) ∷ [])
 
 whole_opens : (a p s : List ℕ) (v : DeskValues) → ArePlain a p s → AreDeskPlain v → Opens built_run (walk_from nothing_held) (whole_given a p s v)
 unfolding clap_on_literals
-whole_opens a p s v h k = (refl, refl, h.archs_plain, (refl, refl, h.packages_plain, (refl, refl, h.sources_plain, (refl, refl, k.state_plain, (refl, refl, k.tracker_plain, (refl, refl, k.suite_plain, (refl, refl, k.builders_plain, (refl, refl, k.outcomes_plain, tt))))))))
+whole_opens a p s v h k = (refl, refl, h.archs_plain, (refl, refl, h.packages_plain, (refl, refl, h.sources_plain, (refl, refl, k.state_plain, (refl, refl, k.tracker_plain, (refl, refl, k.suite_plain, (refl, refl, k.builders_plain, (refl, refl, k.outcomes_plain, (refl, refl, k.journal_plain, tt)))))))))
 
 whole_faults : (program a p s : List ℕ) (v : DeskValues) → Opens built_run (walk_from nothing_held) (whole_given a p s v) → faults_of (whole_run_apart program a p s v) ≡ []
 unfolding clap_on_literals
@@ -192,7 +192,7 @@ unfolding clap_on_literals
 whole_entered program a p s v h = ap (λ w. Some (codes "run", finished built_run.rules w.held)) (walk_is built_run (walk_from nothing_held) (whole_given a p s v) h)
 
 abbrev whole_run : List ℕ → List ℕ → List ℕ → DeskValues → ℕ → RunWords
-whole_run a p s v count = record { archs = a; packages = p; sources = s; state = Some v.state; tracker = Some v.tracker; suite = v.suite; builders = count; outcomes = Some v.outcomes; journal = None }
+whole_run a p s v count = record { archs = a; packages = p; sources = s; state = Some v.state; tracker = Some v.tracker; suite = v.suite; builders = count; outcomes = Some v.outcomes; journal = Some v.journal }
 
 pub asks_for_whole_run_apart : SeparateWholeRunWordsAsk
 unfolding clap_on_literals

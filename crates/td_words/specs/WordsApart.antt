@@ -53,13 +53,14 @@ abbrev pub SeparatePlainRunWordsAsk : Type 0
 SeparatePlainRunWordsAsk = (program archs packages sources : List ℕ) → ArePlain archs packages sources
     → AskForRun (plain_run_apart program archs packages sources) (plain_run archs packages sources)
 
--- what else may be given to a run: other rows, a tracker, a suite, how many builders, and what their builds come to
+-- what else may be given to a run: other rows, a tracker, a suite, how many builders, what their builds come to, and a journal to go on with
 pub record DeskValues : Type 0 where
   pub state : List ℕ
   pub tracker : List ℕ
   pub suite : List ℕ
   pub builders : List ℕ
   pub outcomes : List ℕ
+  pub journal : List ℕ
 
 -- none of them is taken for an option
 pub record AreDeskPlain (v : DeskValues) : Type 0 where
@@ -68,16 +69,17 @@ pub record AreDeskPlain (v : DeskValues) : Type 0 where
   pub suite_plain : IsPlainPath v.suite
   pub builders_plain : IsPlainPath v.builders
   pub outcomes_plain : IsPlainPath v.outcomes
+  pub journal_plain : IsPlainPath v.journal
 
 -- the words that ask for a run with all of them
 abbrev pub whole_run_apart : List ℕ → List ℕ → List ℕ → List ℕ → DeskValues → List (List ℕ)
 whole_run_apart program archs packages sources v =
     program ∷ codes "run" ∷ archive_apart archs packages sources
     (apart (codes "state") v.state (apart (codes "tracker") v.tracker (apart (codes "suite") v.suite
-    (apart (codes "builders") v.builders (apart (codes "outcomes") v.outcomes [])))))
+    (apart (codes "builders") v.builders (apart (codes "outcomes") v.outcomes (apart (codes "journal") v.journal []))))))
 
 abbrev pub SeparateWholeRunWordsAsk : Type 0
 SeparateWholeRunWordsAsk = (program archs packages sources : List ℕ) (v : DeskValues) (count : ℕ) → builders_at v.builders ≡ Some count
     → ArePlain archs packages sources → AreDeskPlain v
     → AskForRun (whole_run_apart program archs packages sources v)
-    (record { archs = archs; packages = packages; sources = sources; state = Some v.state; tracker = Some v.tracker; suite = v.suite; builders = count; outcomes = Some v.outcomes; journal = None })
+    (record { archs = archs; packages = packages; sources = sources; state = Some v.state; tracker = Some v.tracker; suite = v.suite; builders = count; outcomes = Some v.outcomes; journal = Some v.journal })
