@@ -14,51 +14,34 @@ use Rattle.transdesk.specs.declared.ending.Ending.TheVariants.{NoMemory}
 use Rattle.transdesk.specs.Checks.{Files, Checks, files_of}
 use Rattle.transdesk.specs.Ends.{Ends}
 use Rattle.transdesk.specs.Program.{IsTold, LacksMemory, OnlyIfAsked, RanFor, files_asked}
-use Rattle.transdesk.specs.Runs.{EndsRun, RunFiles, run_files, run_files_asked}
+use Rattle.transdesk.specs.Runs.{EndsRun, RunFiles, run_files_asked}
 use Rattle.transdesk.specs.Tracks.{EndsSo, Saying, TrackFiles, track_files}
 use Rattle.transdesk.specs.Ran.{Ran}
 use Rattle.transdesk.proofs.Stops.{kept_only}
 
--- a check of these paths is one of the paths that are the same
-ran_with : (bytes : List ℕ → Option (List ℕ)) (can_fail : List ℕ → TextFault → Bool) (old new before said : Option (List ℕ)) (status : ℕ) (a b p q s t : List ℕ) → a ≡ b → p ≡ q → s ≡ t
-    → Ran (Checks (files_of bytes can_fail a p s) old new) before said status → Ran (Checks (files_of bytes can_fail b q t) old new) before said status
-ran_with bytes can_fail old new before said status a b p q s t first second third ran =
-    let one = subst (λ x. Ran (Checks (files_of bytes can_fail x p s) old new) before said status) first ran in
-    let two = subst (λ x. Ran (Checks (files_of bytes can_fail b x s) old new) before said status) second one in
-    subst (λ x. Ran (Checks (files_of bytes can_fail b q x) old new) before said status) third two
+-- what holds of some paths holds of the same ones
+pub holds_of_three : (P : List ℕ → List ℕ → List ℕ → Type 0) (a b p q s t : List ℕ) → a ≡ b → p ≡ q → s ≡ t → P a p s → P b q t
+holds_of_three P a b p q s t first second third holds =
+    let one = subst (λ x. P x p s) first holds in
+    let two = subst (λ x. P b x s) second one in
+    subst (λ x. P b q x) third two
 
--- what ran for such a request
-pub ran_request : (known : Option (List ℕ)) (bytes : List ℕ → Option (List ℕ)) (can_fail : List ℕ → TextFault → Bool) (old new before said : Option (List ℕ)) (status : ℕ) (q : Request) (a p s : String Global) (x y z : List ℕ)
-    → q ≡ Check a p s → x ≡ string_bytes a → y ≡ string_bytes p → z ≡ string_bytes s
-    → Ran (Checks (files_of bytes can_fail x y z) old new) before said status → RanFor q known bytes can_fail old new before said status
-ran_request known bytes can_fail old new before said status q a p s x y z is first second third ran =
-    subst (λ k. RanFor k known bytes can_fail old new before said status) (sym is)
-    (ran_with bytes can_fail old new before said status x (string_bytes a) y (string_bytes p) z (string_bytes s) first second third ran)
+pub holds_of_five : (P : List ℕ → List ℕ → List ℕ → Option (List ℕ) → List ℕ → Type 0) (a b p q s t : List ℕ) (state given : Option (List ℕ)) (k l : List ℕ)
+    → a ≡ b → p ≡ q → s ≡ t → state ≡ given → k ≡ l → P a p s state k → P b q t given l
+holds_of_five P a b p q s t state given k l first second third fourth fifth holds =
+    let three = holds_of_three (λ x y z. P x y z state k) a b p q s t first second third holds in
+    let four = subst (λ x. P b q t x k) fourth three in
+    subst (λ x. P b q t given x) fifth four
 
--- so is what a tracker says
-pub track_with : (Says : Saying) (bytes : List ℕ → Option (List ℕ)) (can_fail : List ℕ → TextFault → Bool) (old new before said : Option (List ℕ)) (status : ℕ) (a b p q s t : List ℕ) (state given : Option (List ℕ)) (k l : List ℕ)
-    → a ≡ b → p ≡ q → s ≡ t → state ≡ given → k ≡ l
-    → Ran (EndsSo Says (track_files bytes can_fail a p s state k) old new) before said status → Ran (EndsSo Says (track_files bytes can_fail b q t given l) old new) before said status
-track_with Says bytes can_fail old new before said status a b p q s t state given k l first second third fourth fifth ran =
-    let one = subst (λ x. Ran (EndsSo Says (track_files bytes can_fail x p s state k) old new) before said status) first ran in
-    let two = subst (λ x. Ran (EndsSo Says (track_files bytes can_fail b x s state k) old new) before said status) second one in
-    let three = subst (λ x. Ran (EndsSo Says (track_files bytes can_fail b q x state k) old new) before said status) third two in
-    let four = subst (λ x. Ran (EndsSo Says (track_files bytes can_fail b q t x k) old new) before said status) fourth three in
-    subst (λ x. Ran (EndsSo Says (track_files bytes can_fail b q t given x) old new) before said status) fifth four
-
--- and a run
-pub run_with : (bytes : List ℕ → Option (List ℕ)) (can_fail : List ℕ → TextFault → Bool) (known old new before said : Option (List ℕ)) (status : ℕ) (a b p q s t : List ℕ) (st ts tr rt ou uo jo oj : Option (List ℕ)) (k l : List ℕ)
-    → a ≡ b → p ≡ q → s ≡ t → st ≡ ts → tr ≡ rt → ou ≡ uo → jo ≡ oj → k ≡ l
-    → Ran (EndsRun (run_files bytes can_fail a p s st tr ou jo) k known old new) before said status → Ran (EndsRun (run_files bytes can_fail b q t ts rt uo oj) l known old new) before said status
-run_with bytes can_fail known old new before said status a b p q s t st ts tr rt ou uo jo oj k l first second third fourth fifth sixth seventh eighth ran =
-    let one = subst (λ x. Ran (EndsRun (run_files bytes can_fail x p s st tr ou jo) k known old new) before said status) first ran in
-    let two = subst (λ x. Ran (EndsRun (run_files bytes can_fail b x s st tr ou jo) k known old new) before said status) second one in
-    let three = subst (λ x. Ran (EndsRun (run_files bytes can_fail b q x st tr ou jo) k known old new) before said status) third two in
-    let four = subst (λ x. Ran (EndsRun (run_files bytes can_fail b q t x tr ou jo) k known old new) before said status) fourth three in
-    let five = subst (λ x. Ran (EndsRun (run_files bytes can_fail b q t ts x ou jo) k known old new) before said status) fifth four in
-    let six = subst (λ x. Ran (EndsRun (run_files bytes can_fail b q t ts rt x jo) k known old new) before said status) sixth five in
-    let seven = subst (λ x. Ran (EndsRun (run_files bytes can_fail b q t ts rt uo x) k known old new) before said status) seventh six in
-    subst (λ x. Ran (EndsRun (run_files bytes can_fail b q t ts rt uo oj) x known old new) before said status) eighth seven
+pub holds_of_eight : (P : List ℕ → List ℕ → List ℕ → Option (List ℕ) → Option (List ℕ) → Option (List ℕ) → Option (List ℕ) → List ℕ → Type 0) (a b p q s t : List ℕ) (st ts tr rt ou uo jo oj : Option (List ℕ)) (k l : List ℕ)
+    → a ≡ b → p ≡ q → s ≡ t → st ≡ ts → tr ≡ rt → ou ≡ uo → jo ≡ oj → k ≡ l → P a p s st tr ou jo k → P b q t ts rt uo oj l
+holds_of_eight P a b p q s t st ts tr rt ou uo jo oj k l first second third fourth fifth sixth seventh eighth holds =
+    let three = holds_of_three (λ x y z. P x y z st tr ou jo k) a b p q s t first second third holds in
+    let four = subst (λ x. P b q t x tr ou jo k) fourth three in
+    let five = subst (λ x. P b q t ts x ou jo k) fifth four in
+    let six = subst (λ x. P b q t ts rt x jo k) sixth five in
+    let seven = subst (λ x. P b q t ts rt uo x k) seventh six in
+    subst (λ x. P b q t ts rt uo oj x) eighth seven
 
 -- want of memory may end each
 check_lacks : (files : Files) (old new before said : Option (List ℕ)) (status : ℕ) → IsTold words_fault.NoMemory old new before said status → Ran (Checks files old new) before said status
@@ -90,7 +73,7 @@ module _ (words : List (List ℕ)) (known : Option (List ℕ)) (bytes : List ℕ
   checked (Ok (Waves a p s t)) archs packages sources ran told is = absurd is
   checked (Ok (Run a p s state tracker suite builders outcomes journal)) archs packages sources ran told is = absurd is
   checked (Ok (Check a p s)) archs packages sources ran told is =
-      ran_with bytes can_fail old new before said status (string_bytes a) archs (string_bytes p) packages (string_bytes s) sources is.0 is.1 is.2 ran
+      holds_of_three (λ x y z. Ran (Checks (files_of bytes can_fail x y z) old new) before said status) (string_bytes a) archs (string_bytes p) packages (string_bytes s) sources is.0 is.1 is.2 ran
   checked (Err f) archs packages sources ran told is =
       check_lacks (files_of bytes can_fail archs packages sources) old new before said status (subst (λ x. IsTold x old new before said status) is told)
 
@@ -110,7 +93,7 @@ module _ (words : List (List ℕ)) (known : Option (List ℕ)) (bytes : List ℕ
   waved (Ok (Track a p s t state chunk)) archs packages sources tracker ran told is = absurd is
   waved (Ok (Run a p s state file suite builders outcomes journal)) archs packages sources tracker ran told is = absurd is
   waved (Ok (Waves a p s t)) archs packages sources tracker ran told is =
-      track_with IsWaves bytes can_fail old new before said status (string_bytes a) archs (string_bytes p) packages (string_bytes s) sources None None (string_bytes t) tracker is.0 is.1 is.2 refl is.3 ran
+      holds_of_five (λ x y z state k. Ran (EndsSo IsWaves (track_files bytes can_fail x y z state k) old new) before said status) (string_bytes a) archs (string_bytes p) packages (string_bytes s) sources None None (string_bytes t) tracker is.0 is.1 is.2 refl is.3 ran
   waved (Err f) archs packages sources tracker ran told is =
       track_lacks IsWaves (track_files bytes can_fail archs packages sources None tracker) old new before said status (subst (λ x. IsTold x old new before said status) is told)
 

@@ -12,6 +12,7 @@ use Rattle.td_words.specs.declared.request.WordsFault.TheVariants as words_fault
 use Rattle.td_report.specs.Transition.{IsReport, IsWaves}
 use Rattle.td_words.specs.Asked.{run_words}
 use Rattle.td_words.specs.CommandLine.{AskFor, TrackWords}
+use Rattle.transdesk.specs.declared.ending.Ending.{Ending}
 use Rattle.transdesk.specs.declared.ending.Ending.TheVariants.{NoMemory}
 use Rattle.transdesk.specs.Ending.{line_of}
 use Rattle.transdesk.specs.Ends.{Ends}
@@ -65,17 +66,21 @@ AsksForOne words = AskFor (codes "simulate") words ⊎ (AskFor (codes "check") w
 abbrev pub files_asked : (List ℕ → Option (List ℕ)) → (List ℕ → TextFault → Bool) → TrackWords → TrackFiles
 files_asked bytes can_fail w = track_files bytes can_fail w.archs w.packages w.sources w.state w.tracker
 
--- what was asked for ran
+-- what was asked for ends so
+abbrev pub EndsFor : Request → Option (List ℕ) → (List ℕ → Option (List ℕ)) → (List ℕ → TextFault → Bool) → Option (List ℕ) → Option (List ℕ) → Ending → Type 0
+EndsFor Simulate known bytes can_fail old new ending = Ends known old new ending
+EndsFor (Check archs packages sources) known bytes can_fail old new ending =
+    Checks (files_of bytes can_fail (string_bytes archs) (string_bytes packages) (string_bytes sources)) old new ending
+EndsFor (Track archs packages sources tracker state chunk) known bytes can_fail old new ending =
+    EndsSo IsReport (track_files bytes can_fail (string_bytes archs) (string_bytes packages) (string_bytes sources) (option_map string_bytes state) (string_bytes tracker)) old new ending
+EndsFor (Waves archs packages sources tracker) known bytes can_fail old new ending =
+    EndsSo IsWaves (track_files bytes can_fail (string_bytes archs) (string_bytes packages) (string_bytes sources) None (string_bytes tracker)) old new ending
+EndsFor (Run archs packages sources state tracker suite builders outcomes journal) known bytes can_fail old new ending =
+    EndsRun (run_files_asked bytes can_fail (run_words archs packages sources state tracker suite builders outcomes journal)) (string_bytes suite) known old new ending
+
+-- it ran
 abbrev pub RanFor : Request → Option (List ℕ) → (List ℕ → Option (List ℕ)) → (List ℕ → TextFault → Bool) → Option (List ℕ) → Option (List ℕ) → Option (List ℕ) → Option (List ℕ) → ℕ → Type 0
-RanFor Simulate known bytes can_fail old new said_before said status = Ran (Ends known old new) said_before said status
-RanFor (Check archs packages sources) known bytes can_fail old new said_before said status =
-    Ran (Checks (files_of bytes can_fail (string_bytes archs) (string_bytes packages) (string_bytes sources)) old new) said_before said status
-RanFor (Track archs packages sources tracker state chunk) known bytes can_fail old new said_before said status =
-    Ran (EndsSo IsReport (track_files bytes can_fail (string_bytes archs) (string_bytes packages) (string_bytes sources) (option_map string_bytes state) (string_bytes tracker)) old new) said_before said status
-RanFor (Waves archs packages sources tracker) known bytes can_fail old new said_before said status =
-    Ran (EndsSo IsWaves (track_files bytes can_fail (string_bytes archs) (string_bytes packages) (string_bytes sources) None (string_bytes tracker)) old new) said_before said status
-RanFor (Run archs packages sources state tracker suite builders outcomes journal) known bytes can_fail old new said_before said status =
-    Ran (EndsRun (run_files_asked bytes can_fail (run_words archs packages sources state tracker suite builders outcomes journal)) (string_bytes suite) known old new) said_before said status
+RanFor request known bytes can_fail old new said_before said status = Ran (EndsFor request known bytes can_fail old new) said_before said status
 
 -- a simulation ran, or a check of some three files, or what a tracker says of some files was told, or a script ran over some files
 abbrev pub RanOne : Option (List ℕ) → (List ℕ → Option (List ℕ)) → (List ℕ → TextFault → Bool) → Option (List ℕ) → Option (List ℕ) → Option (List ℕ) → Option (List ℕ) → ℕ → Type 0

@@ -3,7 +3,6 @@ ghost use Rattle.std.specs.Result.{ForOk};
 ghost use Rattle.transdesk.specs.Ends.{Ends};
 ghost use Rattle.transdesk.specs.Limits.{input_limit};
 ghost use Rattle.transdesk.specs.Played.{IsUnread, IsUntold, TellsSo, TextEnds};
-ghost use Rattle.transdesk.specs.Ran.{Ran};
 
 use crate::ending::{Ending, ending_of_simulation, ending_of_text};
 use std::alloc::Global;
@@ -47,24 +46,10 @@ fn play<W: Write>(alloc: Global, read: Result<String, TextFault>, output: &mut W
     tell(simulate_text(alloc, text.as_str()), output)
 }
 
-fn run<R: Read, W: Write>(alloc: Global, reader: &mut R, output: &mut W) -> Ending
+/// Plays the simulation that the reader has. All is read before anything is written.
+pub fn simulate<R: Read, W: Write>(alloc: Global, reader: &mut R, output: &mut W) -> Ending
     ensures { Ends (R.remaining reader.old) (W.contents output.old) (W.contents output.new) result }
 {
     let read = read_text(alloc, reader, INPUT_LIMIT);
     play(alloc, read, output)
-}
-
-/// Plays the simulation that the reader has, and tells on `faults` what went wrong, as far as that
-/// can be. All is read before anything is written. Answers the program's status.
-pub fn simulate<R: Read, W: Write, E: Write>(
-    alloc: Global,
-    reader: &mut R,
-    output: &mut W,
-    faults: &mut E,
-) -> u8
-    ensures { Ran (Ends (R.remaining reader.old) (W.contents output.old) (W.contents output.new))
-        (E.contents faults.old) (E.contents faults.new) result }
-{
-    let ending = run(alloc, reader, output);
-    ending.answer(faults)
 }

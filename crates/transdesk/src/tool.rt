@@ -6,7 +6,7 @@ ghost use Rattle.td_words.specs.CommandLine.{AskForCheck, AskForRun, AskForTrack
 ghost use Rattle.transdesk.specs.Ends.{Ends};
 ghost use Rattle.transdesk.specs.Checks.{Checks, files_of};
 ghost use Rattle.transdesk.specs.Ran.{Ran};
-ghost use Rattle.transdesk.specs.Program.{IsTold, OnlyIfAsked, RanFor, TellsFault, TellsUnread, files_asked};
+ghost use Rattle.transdesk.specs.Program.{EndsFor, IsTold, OnlyIfAsked, RanFor, TellsFault, TellsUnread, files_asked};
 ghost use Rattle.transdesk.specs.Runs.{EndsRun, run_files, run_files_asked};
 ghost use Rattle.transdesk.specs.TrackInside.{saying_of};
 ghost use Rattle.transdesk.specs.Tracks.{EndsSo, track_files};
@@ -55,7 +55,7 @@ fn tell_fault<E: Write>(fault: &WordsFault, faults: &mut E) -> u8
 }
 
 // Tells what a tracker says, by the paths that the words gave.
-fn do_track<T: Texts, W: Write, E: Write>(
+fn do_track<T: Texts, W: Write>(
     rt: &(impl Threads + Sync),
     alloc: Global,
     texts: &T,
@@ -66,14 +66,12 @@ fn do_track<T: Texts, W: Write, E: Write>(
     tracker: &String,
     asked: Asked,
     output: &mut W,
-    faults: &mut E,
-) -> u8
-    ensures { Ran (EndsSo (saying_of asked)
+) -> Ending
+    ensures { EndsSo (saying_of asked)
         (track_files (T.bytes texts.now) (T.can_fail texts.now) (string_bytes archs.now)
         (string_bytes packages.now) (string_bytes sources.now) (option_map string_bytes state.now)
         (string_bytes tracker.now))
-        (W.contents output.old) (W.contents output.new))
-        (E.contents faults.old) (E.contents faults.new) result }
+        (W.contents output.old) (W.contents output.new) result }
 {
     let paths = TrackPaths {
         archs: archs.as_str(),
@@ -82,11 +80,11 @@ fn do_track<T: Texts, W: Write, E: Write>(
         state: given(state),
         tracker: tracker.as_str(),
     };
-    track(rt, alloc, texts, &paths, asked, output, faults)
+    track(rt, alloc, texts, &paths, asked, output)
 }
 
 // Runs a script over the files with the paths that the words gave.
-fn do_run<T: Texts, R: Read, W: Write, E: Write>(
+fn do_run<T: Texts, R: Read, W: Write>(
     alloc: Global,
     texts: &T,
     archs: &String,
@@ -99,15 +97,13 @@ fn do_run<T: Texts, R: Read, W: Write, E: Write>(
     suite: &String,
     reader: &mut R,
     output: &mut W,
-    faults: &mut E,
-) -> u8
-    ensures { Ran (EndsRun
+) -> Ending
+    ensures { EndsRun
         (run_files (T.bytes texts.now) (T.can_fail texts.now) (string_bytes archs.now)
         (string_bytes packages.now) (string_bytes sources.now) (option_map string_bytes state.now)
         (option_map string_bytes tracker.now) (option_map string_bytes outcomes.now)
         (option_map string_bytes journal.now)) (string_bytes suite.now)
-        (R.remaining reader.old) (W.contents output.old) (W.contents output.new))
-        (E.contents faults.old) (E.contents faults.new) result }
+        (R.remaining reader.old) (W.contents output.old) (W.contents output.new) result }
 {
     let paths = RunPaths {
         archs: archs.as_str(),
@@ -118,26 +114,24 @@ fn do_run<T: Texts, R: Read, W: Write, E: Write>(
         outcomes: given(outcomes),
         journal: given(journal),
     };
-    run(alloc, texts, &paths, suite.as_str(), reader, output, faults)
+    run(alloc, texts, &paths, suite.as_str(), reader, output)
 }
 
 // Does what was asked for.
-fn do_request<T: Texts, R: Read, W: Write, E: Write>(
+fn do_request<T: Texts, R: Read, W: Write>(
     rt: &(impl Threads + Sync),
     alloc: Global,
     request: &Request,
     texts: &T,
     reader: &mut R,
     output: &mut W,
-    faults: &mut E,
-) -> u8
-    ensures { RanFor request.now
+) -> Ending
+    ensures { EndsFor request.now
         (R.remaining reader.old) (T.bytes texts.now) (T.can_fail texts.now)
-        (W.contents output.old) (W.contents output.new)
-        (E.contents faults.old) (E.contents faults.new) result }
+        (W.contents output.old) (W.contents output.new) result }
 {
     match request {
-        Request::Simulate => simulate(alloc, reader, output, faults),
+        Request::Simulate => simulate(alloc, reader, output),
         Request::Check {
             archs,
             packages,
@@ -149,7 +143,6 @@ fn do_request<T: Texts, R: Read, W: Write, E: Write>(
             packages.as_str(),
             sources.as_str(),
             output,
-            faults,
         ),
         Request::Track {
             archs,
@@ -161,7 +154,7 @@ fn do_request<T: Texts, R: Read, W: Write, E: Write>(
         } => {
             let asked = Asked::Report(*chunk);
             do_track(
-                rt, alloc, texts, archs, packages, sources, state, tracker, asked, output, faults,
+                rt, alloc, texts, archs, packages, sources, state, tracker, asked, output,
             )
         }
         Request::Waves {
@@ -172,7 +165,7 @@ fn do_request<T: Texts, R: Read, W: Write, E: Write>(
         } => {
             let asked = Asked::Waves;
             do_track(
-                rt, alloc, texts, archs, packages, sources, &None, tracker, asked, output, faults,
+                rt, alloc, texts, archs, packages, sources, &None, tracker, asked, output,
             )
         }
         Request::Run {
@@ -187,7 +180,7 @@ fn do_request<T: Texts, R: Read, W: Write, E: Write>(
             journal,
         } => do_run(
             alloc, texts, archs, packages, sources, state, tracker, outcomes, journal, suite,
-            reader, output, faults,
+            reader, output,
         ),
     }
 }
@@ -211,7 +204,10 @@ fn act<T: Texts, R: Read, W: Write, E: Write>(
         (E.contents faults.old) (E.contents faults.new) result) }
 {
     match asked {
-        Ok(request) => do_request(rt, alloc, &request, texts, reader, output, faults),
+        Ok(request) => {
+            let ending = do_request(rt, alloc, &request, texts, reader, output);
+            ending.answer(faults)
+        }
         Err(fault) => tell_fault(&fault, faults),
     }
 }

@@ -1,5 +1,5 @@
 use Rattle.transdesk.proofs.Plays.{ends}
-use Rattle.transdesk.proofs.simulation.run.Goals as goal
+use Rattle.transdesk.proofs.simulation.simulate.Goals as goal
 
 pub returns : goal.returns
 returns g c =
