@@ -1,18 +1,21 @@
-ghost use Rattle.std.specs.Prelude.{◌≡◌, ◌⊎◌, ℕ, List, map, option_map, codes, string_bytes, None, IsOkAnd, IfOk, IfErr};
+ghost use Rattle.std.specs.Prelude.{◌≡◌, ◌⊎◌, ◌≤◌, ℕ, List, length, map, IfSome, option_map, codes, string_bytes, None, IsOkAnd, IfOk, IfErr};
 ghost use Rattle.std.specs.IoError.{error_kind};
 ghost use Rattle.std.specs.Io.KnownBytes.{Keeps};
 ghost use Rattle.td_report.specs.Transition.{IsReport, IsWaves};
-ghost use Rattle.td_words.specs.CommandLine.{AskForCheck, AskForRun, AskForTrack, AskForWaves, RunWords, TrackWords, asking_for};
+ghost use Rattle.td_words.specs.CommandLine.{AskFor, AskForCheck, AskForRun, AskForTrack, AskForWaves, RunWords, TrackWords, is_explained, options_of};
 ghost use Rattle.transdesk.specs.Ends.{Ends};
 ghost use Rattle.transdesk.specs.Checks.{Checks, files_of};
+ghost use Rattle.transdesk.specs.Explained.{IsKept, archive_paths, known_at, known_input, known_of_request, run_paths, track_paths, waves_paths};
+ghost use Rattle.transdesk.specs.Limits.{input_limit};
 ghost use Rattle.transdesk.specs.Ran.{Ran};
-ghost use Rattle.transdesk.specs.Program.{EndsFor, IsTold, OnlyIfAsked, RanFor, TellsFault, TellsUnread, files_asked};
+ghost use Rattle.transdesk.specs.Program.{EndsFor, IsTold, OnlyIfAsked, RanFor, TellsFault, TellsUnread, are_explained, files_asked};
 ghost use Rattle.transdesk.specs.Runs.{EndsRun, run_files, run_files_asked};
 ghost use Rattle.transdesk.specs.TrackInside.{saying_of};
 ghost use Rattle.transdesk.specs.Tracks.{EndsSo, track_files};
 
 use crate::checking::check;
-use crate::ending::Ending;
+use crate::ending::{Ended, Ending};
+use crate::explaining::finish;
 use crate::run_files::RunPaths;
 use crate::running::run;
 use crate::simulation::simulate;
@@ -24,7 +27,7 @@ use std::io;
 use std::io::{ErrorKind, Read, Write};
 use std::thread::Threads;
 use td_bytes::write_whole;
-use td_words::{Request, WordsFault, read_words};
+use td_words::{Call, Request, WordsFault, read_words};
 
 /// The status where the words ask for nothing that can be done.
 pub const BAD_WORDS: u8 = 3;
@@ -125,10 +128,12 @@ fn do_request<T: Texts, R: Read, W: Write>(
     texts: &T,
     reader: &mut R,
     output: &mut W,
-) -> Ending
-    ensures { EndsFor request.now
+) -> Ended
+    ensures ends { EndsFor request.now
         (R.remaining reader.old) (T.bytes texts.now) (T.can_fail texts.now)
-        (W.contents output.old) (W.contents output.new) result }
+        (W.contents output.old) (W.contents output.new) result.ending }
+    ensures kept { IsKept (known_of_request request.now (R.remaining reader.old) (T.bytes texts.now)) result.input }
+    ensures short { IfSome result.input (λ kept. length (string_bytes kept) ≤ input_limit) }
 {
     match request {
         Request::Simulate => simulate(alloc, reader, output),
@@ -143,7 +148,8 @@ fn do_request<T: Texts, R: Read, W: Write>(
             packages.as_str(),
             sources.as_str(),
             output,
-        ),
+        )
+        .alone(),
         Request::Track {
             archs,
             packages,
@@ -156,6 +162,7 @@ fn do_request<T: Texts, R: Read, W: Write>(
             do_track(
                 rt, alloc, texts, archs, packages, sources, state, tracker, asked, output,
             )
+            .alone()
         }
         Request::Waves {
             archs,
@@ -167,6 +174,7 @@ fn do_request<T: Texts, R: Read, W: Write>(
             do_track(
                 rt, alloc, texts, archs, packages, sources, &None, tracker, asked, output,
             )
+            .alone()
         }
         Request::Run {
             archs,
@@ -181,7 +189,8 @@ fn do_request<T: Texts, R: Read, W: Write>(
         } => do_run(
             alloc, texts, archs, packages, sources, state, tracker, outcomes, journal, suite,
             reader, output,
-        ),
+        )
+        .alone(),
     }
 }
 
@@ -189,13 +198,13 @@ fn do_request<T: Texts, R: Read, W: Write>(
 fn act<T: Texts, R: Read, W: Write, E: Write>(
     rt: &(impl Threads + Sync),
     alloc: Global,
-    asked: Result<Request, WordsFault>,
+    asked: Result<Call, WordsFault>,
     texts: &T,
     reader: &mut R,
     output: &mut W,
     faults: &mut E,
 ) -> u8
-    ensures request { IfOk asked (λ request. RanFor request
+    ensures request { IfOk asked (λ call. RanFor call.request call.explained
         (R.remaining reader.old) (T.bytes texts.now) (T.can_fail texts.now)
         (W.contents output.old) (W.contents output.new)
         (E.contents faults.old) (E.contents faults.new) result) }
@@ -204,9 +213,9 @@ fn act<T: Texts, R: Read, W: Write, E: Write>(
         (E.contents faults.old) (E.contents faults.new) result) }
 {
     match asked {
-        Ok(request) => {
-            let ending = do_request(rt, alloc, &request, texts, reader, output);
-            ending.answer(faults)
+        Ok(call) => {
+            let ended = do_request(rt, alloc, &call.request, texts, reader, output);
+            finish(alloc, call.explained, &ended, &call.request, texts, faults)
         }
         Err(fault) => tell_fault(&fault, faults),
     }
@@ -222,28 +231,37 @@ fn answer<T: Texts, R: Read, W: Write, E: Write>(
     output: &mut W,
     faults: &mut E,
 ) -> u8
-    ensures simulate { (program : List ℕ)
-        → map string_bytes words.now ≡ asking_for program (codes "simulate")
+    ensures simulate { AskFor (codes "simulate") (map string_bytes words.now)
         → Ran (Ends (R.remaining reader.old) (W.contents output.old) (W.contents output.new))
+        (is_explained (options_of (map string_bytes words.now)))
+        (known_input (R.remaining reader.old))
         (E.contents faults.old) (E.contents faults.new) result }
     ensures check { (archs packages sources : List ℕ)
         → AskForCheck (map string_bytes words.now) archs packages sources
         → Ran (Checks (files_of (T.bytes texts.now) (T.can_fail texts.now) archs packages sources)
         (W.contents output.old) (W.contents output.new))
+        (is_explained (options_of (map string_bytes words.now)))
+        (known_at (T.bytes texts.now) (archive_paths archs packages sources))
         (E.contents faults.old) (E.contents faults.new) result }
     ensures track { (w : TrackWords) → AskForTrack (map string_bytes words.now) w
         → Ran (EndsSo IsReport (files_asked (T.bytes texts.now) (T.can_fail texts.now) w)
         (W.contents output.old) (W.contents output.new))
+        (is_explained (options_of (map string_bytes words.now)))
+        (known_at (T.bytes texts.now) (track_paths w))
         (E.contents faults.old) (E.contents faults.new) result }
     ensures waves { (archs packages sources tracker : List ℕ)
         → AskForWaves (map string_bytes words.now) archs packages sources tracker
         → Ran (EndsSo IsWaves
         (track_files (T.bytes texts.now) (T.can_fail texts.now) archs packages sources None tracker)
         (W.contents output.old) (W.contents output.new))
+        (is_explained (options_of (map string_bytes words.now)))
+        (known_at (T.bytes texts.now) (waves_paths archs packages sources tracker))
         (E.contents faults.old) (E.contents faults.new) result }
     ensures run { (w : RunWords) → AskForRun (map string_bytes words.now) w
         → Ran (EndsRun (run_files_asked (T.bytes texts.now) (T.can_fail texts.now) w) w.suite
         (R.remaining reader.old) (W.contents output.old) (W.contents output.new))
+        (is_explained (options_of (map string_bytes words.now)))
+        (known_at (T.bytes texts.now) (run_paths w))
         (E.contents faults.old) (E.contents faults.new) result }
     ensures others { OnlyIfAsked (map string_bytes words.now)
         (R.remaining reader.old) (T.bytes texts.now) (T.can_fail texts.now)
@@ -272,34 +290,38 @@ pub fn tool<T: Texts, R: Read, W: Write, E: Write>(
     output: &mut W,
     faults: &mut E,
 ) -> u8
-    // What asks for the simulation is answered by it.
-    ensures simulate { (program : List ℕ) → IsOkAnd words (λ given.
-        map string_bytes given.items ≡ asking_for program (codes "simulate"))
+    // What asks for the simulation is answered by it, and explained where that is asked for.
+    ensures simulate { IsOkAnd words (λ given. AskFor (codes "simulate") (map string_bytes given.items))
         → Ran (Ends (R.remaining reader.old) (W.contents output.old) (W.contents output.new))
+        (are_explained words) (known_input (R.remaining reader.old))
         (E.contents faults.old) (E.contents faults.new) result }
     // What asks for the check of three files is answered by it.
     ensures check { (archs packages sources : List ℕ) → IsOkAnd words (λ given.
         AskForCheck (map string_bytes given.items) archs packages sources)
         → Ran (Checks (files_of (T.bytes texts.now) (T.can_fail texts.now) archs packages sources)
         (W.contents output.old) (W.contents output.new))
+        (are_explained words) (known_at (T.bytes texts.now) (archive_paths archs packages sources))
         (E.contents faults.old) (E.contents faults.new) result }
     // What asks for a report, or for waves, is answered by them.
     ensures track { (w : TrackWords) → IsOkAnd words (λ given.
         AskForTrack (map string_bytes given.items) w)
         → Ran (EndsSo IsReport (files_asked (T.bytes texts.now) (T.can_fail texts.now) w)
         (W.contents output.old) (W.contents output.new))
+        (are_explained words) (known_at (T.bytes texts.now) (track_paths w))
         (E.contents faults.old) (E.contents faults.new) result }
     ensures waves { (archs packages sources tracker : List ℕ) → IsOkAnd words (λ given.
         AskForWaves (map string_bytes given.items) archs packages sources tracker)
         → Ran (EndsSo IsWaves
         (track_files (T.bytes texts.now) (T.can_fail texts.now) archs packages sources None tracker)
         (W.contents output.old) (W.contents output.new))
+        (are_explained words) (known_at (T.bytes texts.now) (waves_paths archs packages sources tracker))
         (E.contents faults.old) (E.contents faults.new) result }
     // What asks for a run is answered by it.
     ensures run { (w : RunWords) → IsOkAnd words (λ given.
         AskForRun (map string_bytes given.items) w)
         → Ran (EndsRun (run_files_asked (T.bytes texts.now) (T.can_fail texts.now) w) w.suite
         (R.remaining reader.old) (W.contents output.old) (W.contents output.new))
+        (are_explained words) (known_at (T.bytes texts.now) (run_paths w))
         (E.contents faults.old) (E.contents faults.new) result }
     // Other words are bad, unless memory runs out, and nothing is written.
     ensures others { IfOk words (λ given. OnlyIfAsked (map string_bytes given.items)
