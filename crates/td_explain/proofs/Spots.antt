@@ -6,6 +6,9 @@ use Rattle.td_stanza.specs.Line.{is_separator}
 use Rattle.td_explain.specs.declared.spot.Place.{Place}
 use Rattle.td_explain.specs.Spot.{SpotWords, beyond, is_at, offset_of, spot_in}
 
+abbrev pub spot_with : ℕ → ℕ → List ℕ → SpotWords
+spot_with n k line = record { number = n; offset = k; line = line }
+
 -- what is left of a text begins with its next line
 begins : (place : Place) (apart : Bool) (n : ℕ) (o : Option (Bor (List ℕ))) (t : Bor (List ℕ)) (line : List ℕ) (after : List (List ℕ)) (total : Option SpotWords)
     → o ≡ Some t → lines_of t.now ≡ line ∷ after → spot_in place apart n (lines_left o) ≡ total → spot_in place apart n (line ∷ after) ≡ total
@@ -23,15 +26,16 @@ pub passes : (place : Place) (apart : Bool) (n : ℕ) (o : Option (Bor (List ℕ
 passes place apart n o t line after total is cut off h = behind place apart n line after total off (begins place apart n o t line after total is cut h)
 
 -- the place is in this line
-within : (place : Place) (apart : Bool) (n : ℕ) (line : List ℕ) (after : List (List ℕ)) (total : Option SpotWords)
-    → is_at place apart line ≡ true → spot_in place apart n (line ∷ after) ≡ total → Some (record { number = n; offset = offset_of place; line = line }) ≡ total
+within : (place : Place) (apart : Bool) (n k : ℕ) (line : List ℕ) (after : List (List ℕ)) (total : Option SpotWords)
+    → is_at place apart line ≡ true → k ≡ offset_of place → spot_in place apart n (line ∷ after) ≡ total → Some (spot_with n k line) ≡ total
 unfolding spot_in
-within place apart n line after total on h = sym (rw on refl) ∙ h
+within place apart n k line after total on same h = ap (λ (j : ℕ). Some (spot_with n j line)) same ∙ sym (rw on refl) ∙ h
 
-pub stands : (place : Place) (apart : Bool) (n : ℕ) (o : Option (Bor (List ℕ))) (t : Bor (List ℕ)) (line : List ℕ) (after : List (List ℕ)) (total : Option SpotWords)
-    → o ≡ Some t → lines_of t.now ≡ line ∷ after → is_at place apart line ≡ true → spot_in place apart n (lines_left o) ≡ total
-    → Some (record { number = n; offset = offset_of place; line = line }) ≡ total
-stands place apart n o t line after total is cut on h = within place apart n line after total on (begins place apart n o t line after total is cut h)
+pub stands : (place : Place) (apart : Bool) (n k : ℕ) (o : Option (Bor (List ℕ))) (t : Bor (List ℕ)) (line : List ℕ) (after : List (List ℕ)) (total : Option SpotWords)
+    → o ≡ Some t → lines_of t.now ≡ line ∷ after → is_at place apart line ≡ true → k ≡ offset_of place → spot_in place apart n (lines_left o) ≡ total
+    → Some (spot_with n k line) ≡ total
+stands place apart n k o t line after total is cut on same h =
+    within place apart n k line after total on same (begins place apart n o t line after total is cut h)
 
 -- no line is left
 pub ends : (place : Place) (apart : Bool) (n : ℕ) (o : Option (Bor (List ℕ))) (total : Option SpotWords)

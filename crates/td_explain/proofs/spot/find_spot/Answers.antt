@@ -1,16 +1,14 @@
-use Rattle.std.proofs.Common.{◌≡◌, ◌+◌, Some, true, false, length, ap, arith, rules, ◌∙◌}
+use Rattle.std.proofs.Common.{◌≡◌, ◌+◌, true, false, length, ap, arith, rules}
 use Rattle.td_text.specs.Lines.{left_len}
-use Rattle.td_explain.specs.Spot.{SpotWords, is_at}
+use Rattle.td_explain.specs.Spot.{is_at}
 use Rattle.td_explain.proofs.Spots.{ends, passes, stands}
 use Rattle.td_explain.proofs.spot.find_spot.Goals as goal
 
 pub returns-then-is_at-clause-value : goal.returns-then-is_at-clause-value
 returns-then-is_at-clause-value c =
     let here : is_at c.loop-rest.place c.loop-rest.apart c.next_line.result.0.now ≡ true = search rules in
-    let made = λ k. (let s : SpotWords = record { number = c.loop-rest.number; offset = k; line = c.next_line.result.0.now } in s) in
-    ap (λ k. Some (made k)) c.offset_of-offset.ensures
-    ∙ stands c.loop-rest.place c.loop-rest.apart c.loop-rest.number c.loop-rest.rest c.in-Some.here c.next_line.result.0.now _ _
-    c.in-Some.is c.next_line.ensures.lines here c.loop-rest.invariant.0
+    stands c.loop-rest.place c.loop-rest.apart c.loop-rest.number c.offset_of-offset.result c.loop-rest.rest c.in-Some.here c.next_line.result.0.now _ _
+    c.in-Some.is c.next_line.ensures.lines here c.offset_of-offset.ensures c.loop-rest.invariant.0
 
 pub loop-rest-preserved : goal.loop-rest-preserved
 loop-rest-preserved c =
