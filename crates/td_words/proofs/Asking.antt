@@ -151,16 +151,6 @@ run_explains = record { same = same; flag = flag }
 
 -- ---- the matches of a subcommand
 
--- where there is none, no explanation is asked for
-pub no_options : (m : ArgMatches) (o : Option (Bor (List ℕ) × Bor ArgMatches)) → o ≡ None
-    → option_map (λ q. rows_of (found_of q.1.now)) o ≡ option_map (λ q. q.1) (subcommand_rows_of m)
-    → is_explained (rows_in (subcommand_rows_of m)) ≡ false
-no_options m o is same = go (subcommand_rows_of m) (sym same ∙ ap (option_map (λ q. rows_of (found_of q.1.now))) is)
-  where
-    go : (found : Option (List ℕ × List Row)) → option_map (λ q. q.1) found ≡ None → is_explained (rows_in found) ≡ false
-    go None e = refl
-    go (Some q) e = cc
-
 -- the matches of a subcommand, as they are in the matches that have it
 pub rows_of_matches : (m : ArgMatches) (o : Option (Bor (List ℕ) × Bor ArgMatches)) (p : Bor (List ℕ) × Bor ArgMatches) → o ≡ Some p
     → option_map (λ q. rows_of (found_of q.1.now)) o ≡ option_map (λ q. q.1) (subcommand_rows_of m)

@@ -1,5 +1,5 @@
 -- The text in which an ending is explained, and what is said of it.
-use Rattle.std.proofs.Common.{◌≡◌, ◌≢◌, ℕ, Bool, true, false, List, [], ◌++◌, Option, Some, None, IfSome, String, string_bytes, refl, sym, subst, ap, ◌∙◌}
+use Rattle.std.proofs.Common.{◌≡◌, ◌≢◌, ◌≤◌, ℕ, Bool, true, false, List, [], ◌++◌, length, Option, Some, None, IfSome, String, string_bytes, refl, sym, subst, ap, ◌∙◌}
 use Rattle.std.specs.declared.alloc.Global.{Global}
 use Rattle.std.specs.Prelude.{option_and_then}
 use Rattle.td_bytes.specs.Pieces.{AppendsPrefix}
@@ -10,11 +10,12 @@ use Rattle.td_words.specs.CommandLine.{RunWords, TrackWords}
 use Rattle.td_words.specs.declared.request.Request.{Request}
 use Rattle.td_words.specs.declared.request.Request.TheVariants as asked
 use Rattle.transdesk.specs.Ending.{line_of}
-use Rattle.transdesk.specs.Explained.{Explains, ExplainsFile, IsLookedAt, IsTextFor, SaysOf, archive_paths, explanation_of, known_at, known_of_request, paths_of, run_paths, track_paths, waves_paths}
+use Rattle.transdesk.specs.Explained.{Explains, ExplainsFile, IsKept, IsLookedAt, IsTextFor, SaysOf, archive_paths, explanation_of, known_at, known_of_request, paths_of, run_paths, track_paths, waves_paths}
 use Rattle.transdesk.specs.Places.{place_of}
 use Rattle.transdesk.specs.declared.role.Role.{Role}
 use Rattle.transdesk.specs.declared.role.Role.TheVariants as role
 use Rattle.transdesk.specs.declared.input_fault.InputFault.{InputFault}
+use Rattle.transdesk.specs.declared.ending.Ended.{Ended}
 use Rattle.transdesk.specs.declared.ending.Ending.{Ending}
 use Rattle.transdesk.specs.declared.ending.Ending.TheVariants.{Done, Refused, BadInput, NoMemory, CannotRead, CannotWrite}
 
@@ -93,3 +94,14 @@ run_rest w role.State first second third fourth = absurd (first refl)
 run_rest w role.Tracker first second third fourth = absurd (second refl)
 run_rest w role.Outcomes first second third fourth = absurd (third refl)
 run_rest w role.Journal first second third fourth = absurd (fourth refl)
+
+-- ---- an ending with no text kept
+
+pub ends_alone : (P : Ending → Type 0) (ending : Ending) (made : Ended) → made ≡ record { ending = ending; input = None } → P ending → P made.ending
+ends_alone P ending made is holds = subst (λ (x : Ended). P x.ending) (sym is) holds
+
+pub kept_alone : (known : Role → Option (List ℕ)) (ending : Ending) (made : Ended) → made ≡ record { ending = ending; input = None } → IsKept known made.input
+kept_alone known ending made is = subst (λ (x : Ended). IsKept known x.input) (sym is) tt
+
+pub short_alone : (limit : ℕ) (ending : Ending) (made : Ended) → made ≡ record { ending = ending; input = None } → IfSome made.input (λ kept. length (string_bytes kept) ≤ limit)
+short_alone limit ending made is = subst (λ (x : Ended). IfSome x.input (λ kept. length (string_bytes kept) ≤ limit)) (sym is) tt
