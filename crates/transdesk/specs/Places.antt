@@ -1,4 +1,5 @@
 -- Where in its text a refusal is, by its own fields. This project's own.
+use Rattle.std.specs.Prelude.{ℕ, ◌+◌, nat_lt, if◌then◌else◌}
 use Rattle.td_explain.specs.declared.spot.Place.{Place}
 use Rattle.td_explain.specs.declared.spot.Place.TheVariants.{Whole, Line, Stanza, Byte}
 use Rattle.td_stanza.specs.declared.fault.StanzaFault.{StanzaFault}
@@ -11,6 +12,8 @@ use Rattle.td_rows.specs.declared.state_file.StateFault.{StateFault}
 use Rattle.td_rows.specs.declared.state_file.StateFault.TheVariants as state
 use Rattle.td_query.specs.declared.tracker_fault.TrackerFault.{TrackerFault}
 use Rattle.td_query.specs.declared.tracker_fault.TrackerFault.TheVariants as tracker
+use Rattle.td_journal.specs.declared.journal_fault.ReadError.{ReadError}
+use Rattle.td_journal.specs.declared.journal_fault.ReadError.TheVariants as journal
 use Rattle.td_simulate.specs.declared.fault.SimulationFault.{SimulationFault}
 use Rattle.td_simulate.specs.declared.fault.SimulationFault.TheVariants as simulation
 use Rattle.transdesk.specs.declared.input_fault.InputFault.{InputFault}
@@ -61,6 +64,17 @@ place_in_tracker (tracker.MissingKey k) = Whole
 place_in_tracker (tracker.BadPattern at) = Byte at
 place_in_tracker tracker.NoMemory = Whole
 
+-- the line of a journal's entry: entry n stands on line n + 1, where that is a number of 64 bits
+abbrev pub place_of_entry : ℕ → Place
+place_of_entry n = if nat_lt n 18446744073709551615 then Line (n + 1) else Whole
+
+-- the line of a journal
+abbrev pub place_in_journal : ReadError → Place
+place_in_journal journal.BadHeader = Line 1
+place_in_journal (journal.BadLine n) = Line n
+place_in_journal (journal.Unlawful n) = place_of_entry n
+place_in_journal journal.NoMemory = Whole
+
 -- the place in any text
 abbrev pub place_of : InputFault → Place
 place_of refused.TooLong = Whole
@@ -71,3 +85,4 @@ place_of (refused.Archive e) = place_in_index e
 place_of (refused.State e) = place_in_state e
 place_of refused.NoSuchRow = Whole
 place_of (refused.Tracker e) = place_in_tracker e
+place_of (refused.Journal e) = place_in_journal e

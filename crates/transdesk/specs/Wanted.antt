@@ -14,10 +14,12 @@ use Rattle.td_query.specs.declared.tracker_fault.TrackerFault.{TrackerFault}
 use Rattle.td_query.specs.declared.tracker_fault.TrackerFault.TheVariants as tracker
 use Rattle.td_query.specs.declared.tracker_fault.TrackerKey.{TrackerKey}
 use Rattle.td_query.specs.declared.tracker_fault.TrackerKey.TheVariants as key
+use Rattle.td_journal.specs.declared.journal_fault.ReadError.{ReadError}
+use Rattle.td_journal.specs.declared.journal_fault.ReadError.TheVariants as journal
 use Rattle.td_simulate.specs.declared.fault.SimulationFault.{SimulationFault}
 use Rattle.td_simulate.specs.declared.fault.SimulationFault.TheVariants as simulation
 use Rattle.transdesk.specs.declared.input_fault.InputFault.{InputFault}
-use Rattle.transdesk.specs.declared.input_fault.InputFault.TheVariants.{TooLong, NotText, Simulation, Table, Archive, State, NoSuchRow, Tracker}
+use Rattle.transdesk.specs.declared.input_fault.InputFault.TheVariants.{TooLong, NotText, Simulation, Table, Archive, State, NoSuchRow, Tracker, Journal}
 
 -- of the rows of a state file, or of the opening rows
 abbrev pub wanted_state : StateFault → List ℕ
@@ -77,6 +79,13 @@ wanted_tracker (tracker.MissingKey k) = wanted_key k
 wanted_tracker (tracker.BadPattern at) = codes "a pattern without look-around and back references"
 wanted_tracker tracker.NoMemory = []
 
+-- of a journal
+abbrev pub wanted_journal : ReadError → List ℕ
+wanted_journal journal.BadHeader = codes "a journal's header, as transdesk journal 2"
+wanted_journal (journal.BadLine n) = codes "the next entry, as docs/FORMATS.md has journals"
+wanted_journal (journal.Unlawful n) = codes "an entry that applies on the rows, or an undone command"
+wanted_journal journal.NoMemory = []
+
 -- of any text
 abbrev pub wanted_input : InputFault → List ℕ
 wanted_input TooLong = codes "standard input of at most 1048576 bytes"
@@ -87,3 +96,4 @@ wanted_input (Archive e) = wanted_archive e
 wanted_input (State e) = wanted_state e
 wanted_input NoSuchRow = codes "rows that the indices give"
 wanted_input (Tracker e) = wanted_tracker e
+wanted_input (Journal e) = wanted_journal e

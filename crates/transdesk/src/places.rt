@@ -1,10 +1,11 @@
 //! Where in its text a refusal is.
 ghost use Rattle.std.specs.Prelude.{◌≡◌};
-ghost use Rattle.transdesk.specs.Places.{place_in_index as place_in_index_of, place_in_simulation as place_in_simulation_of, place_in_stanzas as place_in_stanzas_of, place_in_state as place_in_state_of, place_in_table as place_in_table_of, place_in_tracker as place_in_tracker_of, place_of as place_of_of};
+ghost use Rattle.transdesk.specs.Places.{place_in_index as place_in_index_of, place_in_journal as place_in_journal_of, place_in_simulation as place_in_simulation_of, place_in_stanzas as place_in_stanzas_of, place_in_state as place_in_state_of, place_in_table as place_in_table_of, place_in_tracker as place_in_tracker_of, place_of_entry as place_of_entry_of, place_of as place_of_of};
 
 use crate::input_fault::InputFault;
 use td_explain::Place;
 use td_indices::ArchiveFault;
+use td_journal::ReadError;
 use td_query::TrackerFault;
 use td_relation::ArchsFault;
 use td_rows::StateFault;
@@ -72,6 +73,28 @@ fn place_in_tracker(fault: TrackerFault) -> Place
     }
 }
 
+// Entry n of a journal stands on line n + 1.
+fn place_of_entry(n: u64) -> Place
+    ensures { result ≡ place_of_entry_of n }
+{
+    if n < u64::MAX {
+        Place::Line(n as usize + 1)
+    } else {
+        Place::Whole
+    }
+}
+
+fn place_in_journal(fault: ReadError) -> Place
+    ensures { result ≡ place_in_journal_of fault }
+{
+    match fault {
+        ReadError::BadHeader => Place::Line(1),
+        ReadError::BadLine(n) => Place::Line(n),
+        ReadError::Unlawful(n) => place_of_entry(n),
+        ReadError::NoMemory => Place::Whole,
+    }
+}
+
 /// The place of a fault in its text, as the fault has it.
 pub fn place_of(fault: InputFault) -> Place
     ensures { result ≡ place_of_of fault }
@@ -83,5 +106,6 @@ pub fn place_of(fault: InputFault) -> Place
         InputFault::Archive(fault) => place_in_index(fault),
         InputFault::State(fault) => place_in_state(fault),
         InputFault::Tracker(fault) => place_in_tracker(fault),
+        InputFault::Journal(fault) => place_in_journal(fault),
     }
 }

@@ -1,9 +1,10 @@
 //! What is wanted in the place of what is refused.
 ghost use Rattle.std.specs.Prelude.{◌≡◌};
-ghost use Rattle.transdesk.specs.Wanted.{wanted_archive, wanted_field, wanted_input, wanted_key, wanted_simulation, wanted_stanza, wanted_state, wanted_table, wanted_tracker};
+ghost use Rattle.transdesk.specs.Wanted.{wanted_archive, wanted_field, wanted_input, wanted_journal, wanted_key, wanted_simulation, wanted_stanza, wanted_state, wanted_table, wanted_tracker};
 
 use crate::input_fault::InputFault;
 use td_indices::{ArchiveFault, IndexField};
+use td_journal::ReadError;
 use td_query::{TrackerFault, TrackerKey};
 use td_relation::ArchsFault;
 use td_rows::StateFault;
@@ -108,6 +109,18 @@ fn wanted_tracker(fault: TrackerFault) -> &'static str
     }
 }
 
+// Of a journal.
+fn wanted_journal(fault: ReadError) -> &'static str
+    ensures { result.now ≡ wanted_journal fault }
+{
+    match fault {
+        ReadError::BadHeader => "a journal's header, as transdesk journal 2",
+        ReadError::BadLine(_) => "the next entry, as docs/FORMATS.md has journals",
+        ReadError::Unlawful(_) => "an entry that applies on the rows, or an undone command",
+        ReadError::NoMemory => "",
+    }
+}
+
 /// What is wanted in the place of what a text is refused for.
 pub fn wanted(fault: InputFault) -> &'static str
     ensures { result.now ≡ wanted_input fault }
@@ -121,5 +134,6 @@ pub fn wanted(fault: InputFault) -> &'static str
         InputFault::State(fault) => wanted_state(fault),
         InputFault::NoSuchRow => "rows that the indices give",
         InputFault::Tracker(fault) => wanted_tracker(fault),
+        InputFault::Journal(fault) => wanted_journal(fault),
     }
 }
