@@ -4,7 +4,7 @@ pub mod Plays
 pub mod Files
 pub mod Counting
 pub mod Asks
-pub mod Explaining
+pub mod Explanations
 pub mod Told
 pub mod Sure
 pub mod UnreadRuns

@@ -4,7 +4,7 @@ use Rattle.transdesk.specs.declared.ending.Ending.{Ending}
 use Rattle.transdesk.specs.Checks.{Checks, files_of}
 use Rattle.transdesk.specs.Program.{EndsFor}
 use Rattle.transdesk.proofs.Asks.{holds_of_three}
-use Rattle.transdesk.proofs.Explaining.{ends_alone, kept_alone, short_alone}
+use Rattle.transdesk.proofs.Explanations.{ends_alone, kept_alone, short_alone}
 use Rattle.transdesk.proofs.tool.do_request.Goals as goal
 
 pub returns-in-Check-clause-ends : goal.returns-in-Check-clause-ends
