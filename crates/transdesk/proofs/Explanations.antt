@@ -1,16 +1,18 @@
 -- The text in which an ending is explained, and what is said of it.
-use Rattle.std.proofs.Common.{◌≡◌, ◌≢◌, ◌≤◌, ℕ, Bool, true, false, List, [], ◌++◌, length, Option, Some, None, IfSome, String, string_bytes, refl, sym, subst, ap, ◌∙◌}
+use Rattle.std.proofs.Common.{◌≡◌, ◌≢◌, ◌≤◌, ℕ, Bool, true, false, List, [], ◌++◌, length, Option, Some, None, IfSome, Result, Ok, Err, OnOk, OnErr, String, string_bytes, append-nil, refl, sym, subst, ap, ◌∙◌}
 use Rattle.std.specs.declared.alloc.Global.{Global}
 use Rattle.std.specs.Prelude.{option_and_then}
 use Rattle.td_bytes.specs.Pieces.{AppendsPrefix}
-use Rattle.td_bytes.proofs.Prefixes.{AppendsPrefix-first}
+use Rattle.std.specs.Io.KnownBytes.{Appends}
+use Rattle.std.proofs.KnownBytes.{Appends-nil}
+use Rattle.td_bytes.proofs.Prefixes.{AppendsPrefix-first, AppendsPrefix-second}
 use Rattle.td_explain.specs.declared.spot.Place.{Place}
 use Rattle.td_explain.specs.declared.spot.Place.TheVariants.{Whole, Line, Stanza, Byte}
 use Rattle.td_words.specs.CommandLine.{RunWords, TrackWords}
 use Rattle.td_words.specs.declared.request.Request.{Request}
 use Rattle.td_words.specs.declared.request.Request.TheVariants as asked
 use Rattle.transdesk.specs.Ending.{line_of}
-use Rattle.transdesk.specs.Explained.{Explains, ExplainsFile, IsKept, IsLookedAt, IsTextFor, SaysOf, archive_paths, explanation_of, known_at, known_of_request, paths_of, run_paths, track_paths, waves_paths}
+use Rattle.transdesk.specs.Explained.{Explains, ExplainsFile, IsKept, IsLookedAt, IsSaidOf, IsTextFor, SaysOf, archive_paths, explanation_of, known_at, known_of_request, paths_of, run_paths, track_paths, waves_paths}
 use Rattle.transdesk.specs.Places.{place_of}
 use Rattle.transdesk.specs.declared.role.Role.{Role}
 use Rattle.transdesk.specs.declared.role.Role.TheVariants as role
@@ -62,6 +64,25 @@ file_text (asked.Run a p s state tracker suite builders outcomes journal) known 
 pub line_alone : (known : Role → Option (List ℕ)) (ending : Ending) (before said : Option (List ℕ)) → AppendsPrefix before said (line_of ending) → SaysOf true known ending before said
 line_alone known ending before said line =
     ((some_text ending known).0, (some_text ending known).1, AppendsPrefix-first before said (line_of ending) (explanation_of ending (some_text ending known).0) line)
+
+-- of what is written a front stands there, whether the write fails or not
+pub wrote_front : {T E : Type 0} (before said : Option (List ℕ)) (bytes : List ℕ) (r : Result T E) → OnOk r (Appends before said bytes) → OnErr r (AppendsPrefix before said bytes) → AppendsPrefix before said bytes
+wrote_front before said bytes (Ok x) whole front = (bytes, [], sym (append-nil bytes), whole)
+wrote_front before said bytes (Err e) whole front = front
+
+-- where there is no line nothing is said
+pub nothing_said : (known : Role → Option (List ℕ)) (ending : Ending) (before : Option (List ℕ)) → IsSaidOf known ending before before
+nothing_said known ending before =
+    ((some_text ending known).0, (some_text ending known).1, ([], explanation_of ending (some_text ending known).0, refl, Appends-nil before))
+
+-- where there is one a front of it is
+pub line_said : (known : Role → Option (List ℕ)) (ending : Ending) (line written : List ℕ) (before said : Option (List ℕ)) → Explains known ending line → written ≡ line → AppendsPrefix before said written → IsSaidOf known ending before said
+line_said known ending line written before said e same front = (e.0, e.1, subst (AppendsPrefix before said) (same ∙ e.2) front)
+
+-- behind the line of the ending
+pub both_said : (known : Role → Option (List ℕ)) (ending : Ending) (before between said : Option (List ℕ)) → Appends before between (line_of ending) → IsSaidOf known ending between said → SaysOf true known ending before said
+both_said known ending before between said line is =
+    (is.0, is.1, AppendsPrefix-second before between said (line_of ending) (explanation_of ending is.0) line is.2)
 
 -- ---- the paths of a role
 

@@ -2,6 +2,7 @@ use Rattle.std.proofs.Common.{sym, subst, string_bytes}
 use Rattle.td_words.specs.declared.request.Request.{Request}
 use Rattle.transdesk.specs.declared.ending.Ending.{Ending}
 use Rattle.transdesk.specs.Checks.{Checks, files_of}
+use Rattle.transdesk.specs.Explained.{known_of_request}
 use Rattle.transdesk.specs.Program.{EndsFor}
 use Rattle.transdesk.proofs.Asks.{holds_of_three}
 use Rattle.transdesk.proofs.Explanations.{ends_alone, kept_alone, short_alone}
@@ -16,7 +17,8 @@ returns-in-Check-clause-ends g c =
     c.as_str.ensures.value c.as_str-in-Check.ensures.value c.as_str-in-Check-2.ensures.value c.check.ensures))
 
 pub returns-in-Check-clause-kept : goal.returns-in-Check-clause-kept
-returns-in-Check-clause-kept g c = kept_alone _ c.check.result c.alone.result c.alone.ensures
+returns-in-Check-clause-kept g c =
+    kept_alone (known_of_request c.args.request.now (g.R.Read.remaining c.args.reader.now) (g.T.Texts.bytes c.args.texts.now)) c.check.result c.alone.result c.alone.ensures
 
 pub returns-in-Check-clause-short : goal.returns-in-Check-clause-short
 returns-in-Check-clause-short g c = short_alone _ c.check.result c.alone.result c.alone.ensures
@@ -28,7 +30,8 @@ returns-in-Track-clause-ends g c =
     (subst (λ q. Says q c.do_track.result) (sym c.in-Track.is) c.do_track.ensures)
 
 pub returns-in-Track-clause-kept : goal.returns-in-Track-clause-kept
-returns-in-Track-clause-kept g c = kept_alone _ c.do_track.result c.alone-in-Track.result c.alone-in-Track.ensures
+returns-in-Track-clause-kept g c =
+    kept_alone (known_of_request c.args.request.now (g.R.Read.remaining c.args.reader.now) (g.T.Texts.bytes c.args.texts.now)) c.do_track.result c.alone-in-Track.result c.alone-in-Track.ensures
 
 pub returns-in-Track-clause-short : goal.returns-in-Track-clause-short
 returns-in-Track-clause-short g c = short_alone _ c.do_track.result c.alone-in-Track.result c.alone-in-Track.ensures
@@ -40,7 +43,8 @@ returns-in-Waves-clause-ends g c =
     (subst (λ q. Says q c.do_track-in-Waves.result) (sym c.in-Waves.is) c.do_track-in-Waves.ensures)
 
 pub returns-in-Waves-clause-kept : goal.returns-in-Waves-clause-kept
-returns-in-Waves-clause-kept g c = kept_alone _ c.do_track-in-Waves.result c.alone-in-Waves.result c.alone-in-Waves.ensures
+returns-in-Waves-clause-kept g c =
+    kept_alone (known_of_request c.args.request.now (g.R.Read.remaining c.args.reader.now) (g.T.Texts.bytes c.args.texts.now)) c.do_track-in-Waves.result c.alone-in-Waves.result c.alone-in-Waves.ensures
 
 pub returns-in-Waves-clause-short : goal.returns-in-Waves-clause-short
 returns-in-Waves-clause-short g c = short_alone _ c.do_track-in-Waves.result c.alone-in-Waves.result c.alone-in-Waves.ensures
@@ -52,7 +56,8 @@ returns-in-Run-clause-ends g c =
     (subst (λ q. Says q c.do_run.result) (sym c.in-Run.is) c.do_run.ensures)
 
 pub returns-in-Run-clause-kept : goal.returns-in-Run-clause-kept
-returns-in-Run-clause-kept g c = kept_alone _ c.do_run.result c.alone-in-Run.result c.alone-in-Run.ensures
+returns-in-Run-clause-kept g c =
+    kept_alone (known_of_request c.args.request.now (g.R.Read.remaining c.args.reader.now) (g.T.Texts.bytes c.args.texts.now)) c.do_run.result c.alone-in-Run.result c.alone-in-Run.ensures
 
 pub returns-in-Run-clause-short : goal.returns-in-Run-clause-short
 returns-in-Run-clause-short g c = short_alone _ c.do_run.result c.alone-in-Run.result c.alone-in-Run.ensures
