@@ -3,7 +3,7 @@
 
 _transdesk() {
     local word=${COMP_WORDS[COMP_CWORD]} before=${COMP_WORDS[COMP_CWORD - 1]}
-    local subcommands="simulate check track waves run help" options="--help"
+    local subcommands="simulate check track waves run help" options="--explain --help"
     COMPREPLY=()
     if [ "$COMP_CWORD" -eq 1 ]; then
         mapfile -t COMPREPLY < <(compgen -W "$subcommands --help --version" -- "$word")
@@ -16,12 +16,12 @@ _transdesk() {
         fi
         return
         ;;
-    check) options="--archs --packages --sources --help" ;;
-    track) options="--archs --packages --sources --tracker --state --chunk --help" ;;
-    waves) options="--archs --packages --sources --tracker --help" ;;
+    check) options="--archs --packages --sources --explain --help" ;;
+    track) options="--archs --packages --sources --tracker --state --chunk --explain --help" ;;
+    waves) options="--archs --packages --sources --tracker --explain --help" ;;
     run)
         options="--archs --packages --sources --state --tracker --suite --builders --outcomes"
-        options="$options --journal --help"
+        options="$options --journal --explain --help"
         ;;
     simulate) ;;
     *) return ;;

@@ -20,6 +20,7 @@ for subcommand in track waves run
     complete -c transdesk -n "__fish_seen_subcommand_from $subcommand" -l tracker -r -F -d 'What the transition affects'
 end
 complete -c transdesk -n '__fish_seen_subcommand_from track run' -l state -r -F -d 'Rows in the place of others'
+complete -c transdesk -n '__fish_seen_subcommand_from simulate check track waves run' -l explain -d 'Say where a refused text is wrong'
 complete -c transdesk -n '__fish_seen_subcommand_from track' -l chunk -x -d 'Rows of a piece'
 complete -c transdesk -n '__fish_seen_subcommand_from run' -l suite -x -d 'The suite that lines name'
 complete -c transdesk -n '__fish_seen_subcommand_from run' -l builders -x -d 'How many build'

@@ -3,7 +3,7 @@
 # tools/check-completion compares the words with those of `transdesk --help`.
 
 _transdesk() {
-    local -a subcommands indices tracker
+    local -a subcommands indices tracker explain
     subcommands=(
         'simulate:play steps of the desk and of its builders'
         'check:count what two package indices hold'
@@ -17,6 +17,7 @@ _transdesk() {
         '--packages=[the Packages index]:file:_files'
         '--sources=[the Sources index]:file:_files'
     )
+    explain=('--explain[say where a refused text is wrong]')
     tracker=('--tracker=[what the transition affects]:file:_files')
     if (( CURRENT == 2 )); then
         _describe subcommand subcommands
@@ -27,19 +28,19 @@ _transdesk() {
     shift words
     case $words[1] in
         help) (( CURRENT == 2 )) && _describe subcommand subcommands ;;
-        simulate) _arguments '--help[tell of the subcommand]' ;;
-        check) _arguments $indices '--help[tell of the subcommand]' ;;
+        simulate) _arguments $explain '--help[tell of the subcommand]' ;;
+        check) _arguments $indices $explain '--help[tell of the subcommand]' ;;
         track)
             _arguments $indices $tracker '--state=[rows in the place of others]:file:_files' \
-                '--chunk=[rows of a piece]:rows:' '--help[tell of the subcommand]'
+                '--chunk=[rows of a piece]:rows:' $explain '--help[tell of the subcommand]'
             ;;
         run)
             _arguments $indices $tracker '--state=[rows in the place of others]:file:_files' \
                 '--suite=[the suite that lines name]:suite:' '--builders=[how many build]:builders:' \
                 '--outcomes=[how builds end]:file:_files' '--journal=[what to go on with]:file:_files' \
-                '--help[tell of the subcommand]'
+                $explain '--help[tell of the subcommand]'
             ;;
-        waves) _arguments $indices $tracker '--help[tell of the subcommand]' ;;
+        waves) _arguments $indices $tracker $explain '--help[tell of the subcommand]' ;;
     esac
 }
 

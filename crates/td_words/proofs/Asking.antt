@@ -1,7 +1,6 @@
 -- What `clap` reads in the words that ask for the simulation, and in those that ask for a check.
-use Rattle.std.proofs.Common.{◌≡◌, ℕ, true, List, [], Option, Some, None, option_map, unwrap_or, codes, string_bytes, refl, sym, ap, subst, inl, inr, ◌∙◌}
+use Rattle.std.proofs.Common.{◌≡◌, ℕ, Bool, true, false, List, [], ◌++◌, Option, Some, None, Result, Ok, Err, IfOk, MatchResult, option_map, unwrap_or, codes, string_bytes, refl, sym, ap, subst, inl, inr, ◌∙◌}
 use Rattle.std.specs.Borrow.{Bor}
-use Rattle.clap.specs.Takes.{takes}
 use Rattle.clap.specs.Faults.{is_simple_and_free}
 use Rattle.clap.specs.Kinds.{HasKind}
 use Rattle.clap.specs.Values.{kind_of}
@@ -12,18 +11,12 @@ use Rattle.clap.specs.declared.error.Error.{Error}
 use Rattle.clap.specs.declared.error.kind.ErrorKind.TheVariants.{OutOfMemory}
 use Rattle.clap.specs.declared.parser.matches.ArgMatches.{ArgMatches}
 use Rattle.clap.proofs.OnLiterals.{clap_on_literals}
+use Rattle.td_words.specs.declared.request.Call.{Call}
 use Rattle.td_words.specs.declared.request.Request.{Request}
 use Rattle.td_words.specs.declared.request.Request.TheVariants.{Simulate, Check, Track, Waves, Run}
-use Rattle.td_words.specs.CommandLine.{AskForCheck, AskForRun, AskForTrack, AskForWaves, HasFiles, HasRun, HasTrack, HasTracker, PlainRunWordsAsk, TrackWords, TrackWordsAsk, WavesWordsAsk, WholeRunWordsAsk, asked_of, asking_for, asking_for_check, asking_for_track, chunk_in, desk, faults_of, name_in, rows_in}
-use Rattle.td_words.specs.Asked.{Asks, IsRequestIn, run_words, track_words}
-
-pub is_taken : (program : List ℕ) → takes desk (asking_for program (codes "simulate")) ≡ true
-unfolding clap_on_literals
-is_taken program = refl
-
-pub is_asked : (program : List ℕ) → asked_of (asking_for program (codes "simulate")) ≡ Some (codes "simulate")
-unfolding clap_on_literals
-is_asked program = refl
+use Rattle.td_words.specs.CommandLine.{AskForCheck, AskForRun, AskForTrack, AskForWaves, CheckWordsExplain, HasFiles, HasRun, HasTrack, HasTracker, PlainRunWordsAsk, RunWordsExplain, SimulationWordsAsk, TrackWords, TrackWordsAsk, TrackWordsExplain, WavesWordsAsk, WavesWordsExplain, WholeRunWordsAsk, asking_for_check, asking_for_plain_run, asking_for_track, asking_for_waves, chunk_in, desk, explaining, faults_of, is_explained, name_in, options_of, plain_run, rows_in}
+use Rattle.td_words.specs.declared.request.WordsFault.{WordsFault}
+use Rattle.td_words.specs.Asked.{Asks, IsRequestIn, call_as, run_words, track_words}
 
 pub is_plain : is_simple_and_free desk ≡ true
 unfolding clap_on_literals
@@ -33,6 +26,27 @@ is_plain = refl
 pub rows_are_asked : (m : ArgMatches) (words : List (List ℕ)) → HasMatchesOf desk words m → subcommand_rows_of m ≡ subcommand_of desk words
 unfolding clap_on_literals
 rows_are_asked m words has = (has refl).1
+
+-- what holds of the answer that has a request holds of the call that has it
+pub holds_of_call : (P : Request → Type 0) (Q : WordsFault → Type 0) (r : Result Request WordsFault) (explained : Bool) (call : Result Call WordsFault) → call ≡ call_as r explained
+    → MatchResult r P Q → MatchResult call (λ c. P c.request) Q
+holds_of_call P Q (Ok request) explained call is holds = subst (λ c. MatchResult c (λ x. P x.request) Q) (sym is) holds
+holds_of_call P Q (Err fault) explained call is holds = subst (λ c. MatchResult c (λ x. P x.request) Q) (sym is) holds
+
+pub only_of_call : (P : Request → Type 0) (r : Result Request WordsFault) (explained : Bool) (call : Result Call WordsFault) → call ≡ call_as r explained
+    → IfOk r P → IfOk call (λ c. P c.request)
+only_of_call P (Ok request) explained call is holds = subst (λ c. IfOk c (λ x. P x.request)) (sym is) holds
+only_of_call P (Err fault) explained call is holds = subst (λ c. IfOk c (λ x. P x.request)) (sym is) tt
+
+pub flag_of_call : (r : Result Request WordsFault) (explained : Bool) (call : Result Call WordsFault) → call ≡ call_as r explained → IfOk call (λ c. c.explained ≡ explained)
+flag_of_call (Ok request) explained call is = subst (λ c. IfOk c (λ x. x.explained ≡ explained)) (sym is) refl
+flag_of_call (Err fault) explained call is = subst (λ c. IfOk c (λ x. x.explained ≡ explained)) (sym is) tt
+
+-- the words of a simulation ask for it
+pub asks_for_simulation : SimulationWordsAsk
+unfolding clap_on_literals
+asks_for_simulation program false = record { ask = (refl, refl); flag = refl }
+asks_for_simulation program true = record { ask = (refl, refl); flag = refl }
 
 -- the words of a check ask for it
 pub asks_for_check : (program archs packages sources : List ℕ) → AskForCheck (asking_for_check program archs packages sources) archs packages sources
@@ -66,6 +80,76 @@ pub asks_for_whole_run : WholeRunWordsAsk
 unfolding clap_on_literals
 asks_for_whole_run program archs packages sources state tracker suite builders outcomes journal count same =
     ((refl, refl), record { files = record { archs_path = refl; packages_path = refl; sources_path = refl }; state_path = refl; tracker_path = refl; suite_name = refl; count = same; outcomes_path = refl; journal_path = refl })
+
+-- ---- with an explanation
+
+pub check_explains : CheckWordsExplain
+unfolding clap_on_literals
+check_explains = record { same = same; flag = flag }
+  where
+    same : (program archs packages sources : List ℕ) (explained : Bool) → AskForCheck (asking_for_check program archs packages sources ++ explaining explained) archs packages sources
+    same program archs packages sources false = ((refl, refl), record { archs_path = refl; packages_path = refl; sources_path = refl })
+    same program archs packages sources true = ((refl, refl), record { archs_path = refl; packages_path = refl; sources_path = refl })
+
+    flag : (program archs packages sources : List ℕ) (explained : Bool) → is_explained (options_of (asking_for_check program archs packages sources ++ explaining explained)) ≡ explained
+    flag program archs packages sources false = refl
+    flag program archs packages sources true = refl
+
+track_same : (program a p s t : List ℕ) (state chunk : Option (List ℕ)) (rows : Option ℕ) (explained : Bool) → chunk_in chunk ≡ Some rows
+    → (let w : TrackWords = record { archs = a; packages = p; sources = s; tracker = t; state = state; chunk = rows } in AskForTrack (asking_for_track program w chunk ++ explaining explained) w)
+unfolding clap_on_literals
+track_same program a p s t None None rows false same = ((refl, refl), record { files = record { files = record { archs_path = refl; packages_path = refl; sources_path = refl }; tracker_path = refl }; state_path = refl; rows = same })
+track_same program a p s t None (Some chunk) rows false same = ((refl, refl), record { files = record { files = record { archs_path = refl; packages_path = refl; sources_path = refl }; tracker_path = refl }; state_path = refl; rows = same })
+track_same program a p s t (Some state) None rows false same = ((refl, refl), record { files = record { files = record { archs_path = refl; packages_path = refl; sources_path = refl }; tracker_path = refl }; state_path = refl; rows = same })
+track_same program a p s t (Some state) (Some chunk) rows false same = ((refl, refl), record { files = record { files = record { archs_path = refl; packages_path = refl; sources_path = refl }; tracker_path = refl }; state_path = refl; rows = same })
+track_same program a p s t None None rows true same = ((refl, refl), record { files = record { files = record { archs_path = refl; packages_path = refl; sources_path = refl }; tracker_path = refl }; state_path = refl; rows = same })
+track_same program a p s t None (Some chunk) rows true same = ((refl, refl), record { files = record { files = record { archs_path = refl; packages_path = refl; sources_path = refl }; tracker_path = refl }; state_path = refl; rows = same })
+track_same program a p s t (Some state) None rows true same = ((refl, refl), record { files = record { files = record { archs_path = refl; packages_path = refl; sources_path = refl }; tracker_path = refl }; state_path = refl; rows = same })
+track_same program a p s t (Some state) (Some chunk) rows true same = ((refl, refl), record { files = record { files = record { archs_path = refl; packages_path = refl; sources_path = refl }; tracker_path = refl }; state_path = refl; rows = same })
+
+track_flag : (program a p s t : List ℕ) (state chunk : Option (List ℕ)) (rows : Option ℕ) (explained : Bool)
+    → (let w : TrackWords = record { archs = a; packages = p; sources = s; tracker = t; state = state; chunk = rows } in is_explained (options_of (asking_for_track program w chunk ++ explaining explained)) ≡ explained)
+unfolding clap_on_literals
+track_flag program a p s t None None rows false = refl
+track_flag program a p s t None (Some chunk) rows false = refl
+track_flag program a p s t (Some state) None rows false = refl
+track_flag program a p s t (Some state) (Some chunk) rows false = refl
+track_flag program a p s t None None rows true = refl
+track_flag program a p s t None (Some chunk) rows true = refl
+track_flag program a p s t (Some state) None rows true = refl
+track_flag program a p s t (Some state) (Some chunk) rows true = refl
+
+pub track_explains : TrackWordsExplain
+track_explains = record {
+  same = λ program w chunk explained same. track_same program w.archs w.packages w.sources w.tracker w.state chunk w.chunk explained same;
+  flag = λ program w chunk explained. track_flag program w.archs w.packages w.sources w.tracker w.state chunk w.chunk explained;
+}
+
+pub waves_explain : WavesWordsExplain
+unfolding clap_on_literals
+waves_explain = record { same = same; flag = flag }
+  where
+    same : (program archs packages sources tracker : List ℕ) (explained : Bool) → AskForWaves (asking_for_waves program archs packages sources tracker ++ explaining explained) archs packages sources tracker
+    same program archs packages sources tracker false = ((refl, refl), record { files = record { archs_path = refl; packages_path = refl; sources_path = refl }; tracker_path = refl })
+    same program archs packages sources tracker true = ((refl, refl), record { files = record { archs_path = refl; packages_path = refl; sources_path = refl }; tracker_path = refl })
+
+    flag : (program archs packages sources tracker : List ℕ) (explained : Bool) → is_explained (options_of (asking_for_waves program archs packages sources tracker ++ explaining explained)) ≡ explained
+    flag program archs packages sources tracker false = refl
+    flag program archs packages sources tracker true = refl
+
+pub run_explains : RunWordsExplain
+unfolding clap_on_literals
+run_explains = record { same = same; flag = flag }
+  where
+    same : (program archs packages sources : List ℕ) (explained : Bool) → AskForRun (asking_for_plain_run program archs packages sources ++ explaining explained) (plain_run archs packages sources)
+    same program archs packages sources false = ((refl, refl), record { files = record { archs_path = refl; packages_path = refl; sources_path = refl }; state_path = refl; tracker_path = refl; suite_name = refl; count = refl; outcomes_path = refl; journal_path = refl })
+    same program archs packages sources true = ((refl, refl), record { files = record { archs_path = refl; packages_path = refl; sources_path = refl }; state_path = refl; tracker_path = refl; suite_name = refl; count = refl; outcomes_path = refl; journal_path = refl })
+
+    flag : (program archs packages sources : List ℕ) (explained : Bool) → is_explained (options_of (asking_for_plain_run program archs packages sources ++ explaining explained)) ≡ explained
+    flag program archs packages sources false = refl
+    flag program archs packages sources true = refl
+
+-- ---- the matches of a subcommand
 
 -- the matches of a subcommand, as they are in the matches that have it
 pub rows_of_matches : (m : ArgMatches) (o : Option (Bor (List ℕ) × Bor ArgMatches)) (p : Bor (List ℕ) × Bor ArgMatches) → o ≡ Some p

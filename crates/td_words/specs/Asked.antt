@@ -1,9 +1,11 @@
 -- What an answer says of the words. This project's own.
-use Rattle.std.specs.Prelude.{◌≡◌, ℕ, List, Option, Some, String, option_map, string_bytes, codes}
+use Rattle.std.specs.Prelude.{◌≡◌, ℕ, List, Bool, Option, Some, Result, Ok, Err, String, option_map, string_bytes, codes}
 use Rattle.std.specs.declared.alloc.Global.{Global}
 use Rattle.clap.specs.Walk.{Row}
+use Rattle.td_words.specs.declared.request.Call.{Call}
 use Rattle.td_words.specs.declared.request.Request.{Request}
 use Rattle.td_words.specs.declared.request.Request.TheVariants.{Simulate, Check, Track, Waves, Run}
+use Rattle.td_words.specs.declared.request.WordsFault.{WordsFault}
 use Rattle.td_words.specs.CommandLine.{AskFor, AskForCheck, AskForRun, AskForTrack, AskForWaves, HasFiles, HasRun, HasTrack, HasTracker, RunWords, TrackWords, name_in, rows_in}
 
 -- what a report is asked for with, by the texts that say so
@@ -72,6 +74,11 @@ IsRunOf w (Waves archs packages sources tracker) = ⊥
 IsRunOf w (Run archs packages sources state tracker suite builders outcomes journal) = run_words archs packages sources state tracker suite builders outcomes journal ≡ w
 
 -- ---- the parts of the reading
+
+-- a request, explained or not
+abbrev pub call_as : Result Request WordsFault → Bool → Result Call WordsFault
+call_as (Ok request) explained = Ok (record { request = request; explained = explained })
+call_as (Err fault) explained = Err fault
 
 -- the answer is the check that these options give
 abbrev pub IsCheckIn : List Row → Request → Type 0

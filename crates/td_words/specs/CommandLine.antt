@@ -1,8 +1,10 @@
 -- The program's command line, as `clap` sees it. This project's own.
-use Rattle.std.specs.Prelude.{◌≡◌, ◌==◌, ℕ, nat_lt, true, false, List, [], ◌∷◌, ◌++◌, Option, Some, None, option_map, unwrap_or, codes, if◌then◌else◌}
+use Rattle.std.specs.Prelude.{◌≡◌, ◌==◌, ℕ, nat_lt, true, false, List, [], ◌∷◌, ◌++◌, Bool, Option, Some, None, option_map, unwrap_or, codes, if◌then◌else◌}
 use Rattle.std.specs.Option.{option_map_or}
+use Rattle.std.specs.Str.{bytes_eq}
 use Rattle.td_text.specs.Chain.{◌>>=◌}
 use Rattle.td_text.specs.Numbers.{number_at}
+use Rattle.clap.specs.declared.builder.action.ArgAction.TheVariants.{SetTrue}
 use Rattle.clap.specs.Faults.{fault_of}
 use Rattle.clap.specs.Kinds.{Kinds}
 use Rattle.clap.specs.Walk.{Row, Rule, first_of}
@@ -12,9 +14,16 @@ use Rattle.clap.specs.Simple.{App, Shape, new_app, new_rule, new_shape, on_top, 
 abbrev pub needed_option : List ℕ → Rule
 needed_option name = record (new_rule name) { long = Some name; value_names = 1; required = true }
 
--- `check` has three of them
-abbrev pub check_shape : Shape
-check_shape = record (new_shape (codes "check")) { rules = needed_option (codes "archs") ∷ needed_option (codes "packages") ∷ needed_option (codes "sources") ∷ [] }
+-- an option without a value, given once or not at all
+abbrev pub flag_of : List ℕ → Rule
+flag_of name = record (new_rule name) { long = Some name; action = Some SetTrue }
+
+-- each subcommand can be asked to explain a refusal, and `simulate` nothing else
+abbrev pub with_explanation : App → App
+with_explanation a = with_rule a (flag_of (codes "explain"))
+
+abbrev pub simulate_shape : Shape
+simulate_shape = (with_explanation (new_app (codes "simulate"))).top
 
 -- an option that may be left out, given once, with one value
 abbrev pub option_of : List ℕ → Rule
@@ -24,15 +33,18 @@ option_of name = record (new_rule name) { long = Some name; value_names = 1 }
 abbrev pub with_archive_rules : App → App
 with_archive_rules a = with_rule (with_rule (with_rule a (needed_option (codes "archs"))) (needed_option (codes "packages"))) (needed_option (codes "sources"))
 
+abbrev pub check_shape : Shape
+check_shape = (with_explanation (with_archive_rules (new_app (codes "check")))).top
+
 -- `track` and `waves` need a tracker too, and `track` may be given two things more
 abbrev pub with_tracker_rules : App → App
 with_tracker_rules a = with_rule (with_archive_rules a) (needed_option (codes "tracker"))
 
 abbrev pub waves_shape : Shape
-waves_shape = (with_tracker_rules (new_app (codes "waves"))).top
+waves_shape = (with_explanation (with_tracker_rules (new_app (codes "waves")))).top
 
 abbrev pub track_shape : Shape
-track_shape = (with_rule (with_rule (with_tracker_rules (new_app (codes "track"))) (option_of (codes "state"))) (option_of (codes "chunk"))).top
+track_shape = (with_explanation (with_rule (with_rule (with_tracker_rules (new_app (codes "track"))) (option_of (codes "state"))) (option_of (codes "chunk")))).top
 
 -- `run` may be given what a script runs over beside the archive, and by whom its builds are done
 abbrev pub with_desk_rules : App → App
@@ -42,13 +54,13 @@ abbrev pub with_crew_rules : App → App
 with_crew_rules a = with_rule (with_rule (with_rule a (option_of (codes "builders"))) (option_of (codes "outcomes"))) (option_of (codes "journal"))
 
 abbrev pub run_shape : Shape
-run_shape = (with_crew_rules (with_desk_rules (with_archive_rules (new_app (codes "run"))))).top
+run_shape = (with_explanation (with_crew_rules (with_desk_rules (with_archive_rules (new_app (codes "run")))))).top
 
--- the program has a version, and wants one of its subcommands; `simulate` has no options
+-- the program has a version, and wants one of its subcommands
 abbrev pub desk_without_tracker : App
 desk_without_tracker =
     let program = on_top (λ s. record s { has_version = true; subcommand_required = true }) (new_app (codes "transdesk")) in
-    with_subcommand (with_subcommand program (new_shape (codes "simulate"))) check_shape
+    with_subcommand (with_subcommand program simulate_shape) check_shape
 
 abbrev pub desk : App
 desk = with_subcommand (with_subcommand (with_subcommand desk_without_tracker track_shape) waves_shape) run_shape
@@ -75,9 +87,27 @@ faults_of words = fault_of desk words
 abbrev pub AskFor : List ℕ → List (List ℕ) → Type 0
 AskFor name words = (faults_of words ≡ []) × (asked_of words ≡ Some name)
 
+-- whether the option to explain is among these; `clap` has a flag's value as text
+abbrev pub is_explained : List Row → Bool
+is_explained options = option_map_or (λ v. bytes_eq v (codes "true")) (first_of (codes "explain") options) false
+
+-- nothing is wrong with the words, they name this subcommand, and want an explanation or not
+pub record AskExplained (name : List ℕ) (explained : Bool) (words : List (List ℕ)) : Type 0 where
+  pub ask : AskFor name words
+  pub flag : is_explained (options_of words) ≡ explained
+
 -- the words that ask for a subcommand: the program's own name, whatever it is, and the subcommand's
 abbrev pub asking_for : List ℕ → List ℕ → List (List ℕ)
 asking_for program name = program ∷ name ∷ []
+
+-- the word that asks for an explanation
+abbrev pub explaining : Bool → List (List ℕ)
+explaining false = []
+explaining true = codes "--explain" ∷ []
+
+-- the words that ask for a simulation
+abbrev pub SimulationWordsAsk : Type 0
+SimulationWordsAsk = (program : List ℕ) (explained : Bool) → AskExplained (codes "simulate") explained (asking_for program (codes "simulate") ++ explaining explained)
 
 -- the three options have these paths
 pub record HasFiles (options : List Row) (archs packages sources : List ℕ) : Type 0 where
@@ -258,3 +288,22 @@ abbrev pub WholeRunWordsAsk : Type 0
 WholeRunWordsAsk = (program archs packages sources state tracker suite builders outcomes journal : List ℕ) (count : ℕ) → builders_at builders ≡ Some count
     → AskForRun (asking_for_whole_run program archs packages sources state tracker suite builders outcomes journal)
     (record { archs = archs; packages = packages; sources = sources; state = Some state; tracker = Some tracker; suite = suite; builders = count; outcomes = Some outcomes; journal = Some journal })
+
+-- ---- with an explanation
+
+-- the words of each other subcommand ask for just what they did, and for an explanation, where that word stands behind them; without it they ask for none
+pub record CheckWordsExplain : Type 0 where
+  pub same : (program archs packages sources : List ℕ) (explained : Bool) → AskForCheck (asking_for_check program archs packages sources ++ explaining explained) archs packages sources
+  pub flag : (program archs packages sources : List ℕ) (explained : Bool) → is_explained (options_of (asking_for_check program archs packages sources ++ explaining explained)) ≡ explained
+
+pub record TrackWordsExplain : Type 0 where
+  pub same : (program : List ℕ) (w : TrackWords) (chunk : Option (List ℕ)) (explained : Bool) → chunk_in chunk ≡ Some w.chunk → AskForTrack (asking_for_track program w chunk ++ explaining explained) w
+  pub flag : (program : List ℕ) (w : TrackWords) (chunk : Option (List ℕ)) (explained : Bool) → is_explained (options_of (asking_for_track program w chunk ++ explaining explained)) ≡ explained
+
+pub record WavesWordsExplain : Type 0 where
+  pub same : (program archs packages sources tracker : List ℕ) (explained : Bool) → AskForWaves (asking_for_waves program archs packages sources tracker ++ explaining explained) archs packages sources tracker
+  pub flag : (program archs packages sources tracker : List ℕ) (explained : Bool) → is_explained (options_of (asking_for_waves program archs packages sources tracker ++ explaining explained)) ≡ explained
+
+pub record RunWordsExplain : Type 0 where
+  pub same : (program archs packages sources : List ℕ) (explained : Bool) → AskForRun (asking_for_plain_run program archs packages sources ++ explaining explained) (plain_run archs packages sources)
+  pub flag : (program archs packages sources : List ℕ) (explained : Bool) → is_explained (options_of (asking_for_plain_run program archs packages sources ++ explaining explained)) ≡ explained

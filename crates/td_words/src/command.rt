@@ -1,10 +1,10 @@
 ghost use Rattle.std.specs.Prelude.{◌≡◌, IfOk, codes, false};
-ghost use Rattle.clap.specs.Simple.{app_of, new_shape, shape_of, with_rule};
+ghost use Rattle.clap.specs.Simple.{app_of, shape_of, with_rule};
 ghost use Rattle.clap.specs.declared.builder.command.Command.TheViews.{out-Command};
 ghost use Rattle.clap.specs.Walk.{rule_of};
-ghost use Rattle.td_words.specs.CommandLine.{check_shape, desk, desk_without_tracker, needed_option, option_of, run_shape, track_shape, waves_shape, with_archive_rules, with_crew_rules, with_desk_rules, with_tracker_rules};
+ghost use Rattle.td_words.specs.CommandLine.{check_shape, desk, desk_without_tracker, flag_of, needed_option, option_of, run_shape, simulate_shape, track_shape, waves_shape, with_archive_rules, with_crew_rules, with_desk_rules, with_explanation, with_tracker_rules};
 
-use clap::{Arg, Command};
+use clap::{Arg, ArgAction, Command};
 use std::alloc::{AllocError, Global};
 
 const STATUSES: &str = "\
@@ -15,7 +15,8 @@ Exit status:
   3  bad command line, or a call for help
   4  want of memory
   5  a read or a write failed
-With 2, 4 and 5 standard error has one line that says what was wrong.
+With 2, 4 and 5 standard error has one line that says what was wrong; with 2 and --explain a second
+one that says where, and what is wanted.
 
 docs/FORMATS.md says exactly what is read and printed.";
 
@@ -30,14 +31,36 @@ Nothing is printed where the input isn't of this form.
 
 docs/FORMATS.md says exactly what is read and printed, and lists the steps.";
 
-fn simulate<'a>(alloc: Global) -> Command<'a>
-    ensures shape { shape_of result ≡ new_shape (codes "simulate") }
-    ensures globals { (out-Command result).has_globals ≡ false }
+const EXPLAIN: &str = "Say on a second line where a refused text is wrong, and what is wanted";
+
+// The option to explain a refusal, which has no value.
+fn flag<'a>(alloc: Global, name: &'static str, help: &'static str) -> Arg<'a>
+    ensures rule { rule_of result ≡ flag_of name.now }
+    ensures global { result.global ≡ false }
 {
-    Command::new(alloc, "simulate")
+    Arg::new(alloc, name)
+        .long(name)
+        .help(help)
+        .action(ArgAction::SetTrue)
+}
+
+// The same command with it.
+fn explained<'a>(alloc: Global, command: Command<'a>) -> Result<Command<'a>, AllocError>
+    ensures app { IfOk result (λ c. app_of c ≡ with_explanation (app_of command.entry)) }
+    ensures globals { (out-Command command.entry).has_globals ≡ false → IfOk result (λ c. (out-Command c).has_globals ≡ false) }
+{
+    command.arg(flag(alloc, "explain", EXPLAIN))
+}
+
+fn simulate<'a>(alloc: Global) -> Result<Command<'a>, AllocError>
+    ensures shape { IfOk result (λ c. shape_of c ≡ simulate_shape) }
+    ensures globals { IfOk result (λ c. (out-Command c).has_globals ≡ false) }
+{
+    let command = Command::new(alloc, "simulate")
         .about("Play steps of the desk and of its builders, as standard input lists them")
-        .override_usage("transdesk simulate < FILE")
-        .after_help(SIMULATE)
+        .override_usage("transdesk simulate [OPTIONS] < FILE")
+        .after_help(SIMULATE);
+    explained(alloc, command)
 }
 
 const CHECK: &str = "\
@@ -72,12 +95,11 @@ fn check<'a>(alloc: Global) -> Result<Command<'a>, AllocError>
     ensures shape { IfOk result (λ c. shape_of c ≡ check_shape) }
     ensures globals { IfOk result (λ c. (out-Command c).has_globals ≡ false) }
 {
-    Command::new(alloc, "check")
+    let command = Command::new(alloc, "check")
         .about("Count what two package indices hold, and the rows that a desk would open with")
-        .after_help(CHECK)
-        .arg(file(alloc, "archs", ARCHS))?
-        .arg(file(alloc, "packages", PACKAGES))?
-        .arg(file(alloc, "sources", SOURCES))
+        .after_help(CHECK);
+    let command = with_archive(alloc, command)?;
+    explained(alloc, command)
 }
 
 const STATE: &str = "Rows to put in the place of those that the indices say";
@@ -153,7 +175,8 @@ fn waves<'a>(alloc: Global) -> Result<Command<'a>, AllocError>
     let command = Command::new(alloc, "waves")
         .about("List the sources of a transition by the levels in which they can be rebuilt")
         .after_help(WAVES);
-    with_tracker(alloc, command)
+    let command = with_tracker(alloc, command)?;
+    explained(alloc, command)
 }
 
 fn track<'a>(alloc: Global) -> Result<Command<'a>, AllocError>
@@ -165,9 +188,10 @@ fn track<'a>(alloc: Global) -> Result<Command<'a>, AllocError>
         .after_help(TRACK);
     let command = with_tracker(alloc, command)?;
     let chunk = "Make the report by N rows at a time, in several threads: 1 to 1000000";
-    command
+    let command = command
         .arg(option(alloc, "state", "FILE", STATE))?
-        .arg(option(alloc, "chunk", "N", chunk))
+        .arg(option(alloc, "chunk", "N", chunk))?;
+    explained(alloc, command)
 }
 
 const RUN: &str = "\
@@ -223,7 +247,8 @@ fn run<'a>(alloc: Global) -> Result<Command<'a>, AllocError>
         .after_help(RUN);
     let command = with_archive(alloc, command)?;
     let command = with_desk(alloc, command)?;
-    with_crew(alloc, command)
+    let command = with_crew(alloc, command)?;
+    explained(alloc, command)
 }
 
 // The program without the subcommands that read a tracker.
@@ -235,7 +260,7 @@ fn first_part<'a>(alloc: Global) -> Result<Command<'a>, AllocError>
         .about("A desk for the rebuilds of a Debian transition, whose undo is proved")
         .after_help(STATUSES)
         .subcommand_required(true)
-        .subcommand(simulate(alloc))?
+        .subcommand(simulate(alloc)?)?
         .subcommand(check(alloc)?)
 }
 

@@ -1,11 +1,17 @@
-ghost use Rattle.td_words.specs.CommandLine.{JoinedWordsAsk, PlainRunWordsAsk, SeparateWordsAsk, TrackWordsAsk, WavesWordsAsk, WholeRunWordsAsk};
+ghost use Rattle.td_words.specs.CommandLine.{CheckWordsExplain, JoinedWordsAsk, PlainRunWordsAsk, RunWordsExplain, SeparateWordsAsk, SimulationWordsAsk, TrackWordsAsk, TrackWordsExplain, WavesWordsAsk, WavesWordsExplain, WholeRunWordsAsk};
 ghost use Rattle.td_words.specs.WordsApart.{SeparatePlainRunWordsAsk, SeparateTrackWordsAsk, SeparateWavesWordsAsk, SeparateWholeRunWordsAsk};
+
+/// The words of a simulation ask for it, and for an explanation where `--explain` is one of them.
+pub fn words_of_a_simulation_ask_for_it()
+    ensures { SimulationWordsAsk }
+{}
 
 /// The words of a check ask for it: with each path joined to its option, whatever it is; or as a
 /// word of its own, where it doesn't begin like an option.
 pub fn words_of_a_check_ask_for_it()
     ensures joined { JoinedWordsAsk }
     ensures separate { SeparateWordsAsk }
+    ensures explained { CheckWordsExplain }
 {}
 
 /// The words of a report ask for it, with other rows or without, by chunks or whole: with each
@@ -14,12 +20,14 @@ pub fn words_of_a_check_ask_for_it()
 pub fn words_of_a_track_ask_for_it()
     ensures joined { TrackWordsAsk }
     ensures separate { SeparateTrackWordsAsk }
+    ensures explained { TrackWordsExplain }
 {}
 
 /// So do the words of waves.
 pub fn words_of_waves_ask_for_them()
     ensures joined { WavesWordsAsk }
     ensures separate { SeparateWavesWordsAsk }
+    ensures explained { WavesWordsExplain }
 {}
 
 /// So do the words of a run: over an archive alone, and with everything that may be given.
@@ -28,4 +36,5 @@ pub fn words_of_a_run_ask_for_it()
     ensures whole { WholeRunWordsAsk }
     ensures plain_separate { SeparatePlainRunWordsAsk }
     ensures whole_separate { SeparateWholeRunWordsAsk }
+    ensures explained { RunWordsExplain }
 {}

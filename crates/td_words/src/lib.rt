@@ -1,9 +1,9 @@
 //! The words of the command line: what they ask for, or what is to be said of them.
 //!
 //! Start at `read_words`. Nothing but this crate knows `clap`, and what it answers is plain data.
-//! Promised: the program's own name and `simulate` ask for the simulation, and words that name
-//! another subcommand with its files for just that, unless memory runs out; and no words ask for
-//! any in which `clap` finds a fault (`specs/CommandLine.antt`, over `clap`'s account of a command
+//! Promised: words that name a subcommand with its files ask for just that, unless memory runs out,
+//! and for an explanation exactly where `--explain` is given; and no words ask for anything in
+//! which `clap` finds a fault (`specs/CommandLine.antt`, over `clap`'s account of a command
 //! line). What is said of other words, help included, is only tested.
 #![tactic(auto)]
 
@@ -15,7 +15,7 @@ mod run_words;
 mod tests;
 
 pub use laws::{
-    words_of_a_check_ask_for_it, words_of_a_run_ask_for_it, words_of_a_track_ask_for_it,
-    words_of_waves_ask_for_them,
+    words_of_a_check_ask_for_it, words_of_a_run_ask_for_it, words_of_a_simulation_ask_for_it,
+    words_of_a_track_ask_for_it, words_of_waves_ask_for_them,
 };
-pub use request::{Request, WordsFault, read_words};
+pub use request::{Call, Request, WordsFault, read_words};

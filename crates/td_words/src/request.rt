@@ -3,8 +3,8 @@ ghost use Rattle.clap.specs.Values.{kind_of};
 ghost use Rattle.clap.specs.Matches.{found_of};
 ghost use Rattle.clap.specs.Simple.{subcommand_rows_of};
 ghost use Rattle.clap.specs.Walk.{first_of, rows_of};
-ghost use Rattle.td_words.specs.CommandLine.{AskForCheck, AskForRun, AskForTrack, AskForWaves, HasFiles, HasRun, HasTrack, HasTracker, RunWords, TrackWords, asking_for, chunk_at, chunk_in as chunk_in_of, name_in, rows_in};
-ghost use Rattle.td_words.specs.Asked.{AreWavesIn, AreWavesOf, Asks, IsCheckIn, IsCheckOf, IsRequestIn, IsRunOf, IsTrackIn, IsTrackOf};
+ghost use Rattle.td_words.specs.CommandLine.{AskFor, AskForCheck, AskForRun, AskForTrack, AskForWaves, HasFiles, HasRun, HasTrack, HasTracker, RunWords, TrackWords, chunk_at, chunk_in as chunk_in_of, is_explained, name_in, options_of, rows_in};
+ghost use Rattle.td_words.specs.Asked.{AreWavesIn, AreWavesOf, Asks, IsCheckIn, IsCheckOf, IsRequestIn, IsRunOf, IsTrackIn, IsTrackOf, call_as};
 
 use crate::command::command;
 use crate::run_words::run_in;
@@ -55,6 +55,13 @@ pub enum Request {
         outcomes: Option<String>,
         journal: Option<String>,
     },
+}
+
+/// What they ask for, and whether a refusal is to be explained.
+#[derive(Debug, Drop)]
+pub struct Call {
+    pub request: Request,
+    pub explained: bool,
 }
 
 /// Why the words ask for nothing that can be done.
@@ -251,31 +258,56 @@ fn request_in(alloc: Global, matches: &ArgMatches<'_>) -> Result<Request, WordsF
     }
 }
 
+// Whether an explanation is asked for.
+fn is_explained_in(matches: &ArgMatches<'_>) -> bool
+    ensures { result ≡ is_explained (rows_in (subcommand_rows_of matches.now)) }
+{
+    let Some((_, options)) = matches.subcommand() else {
+        return false;
+    };
+    match value_in(options, "explain") {
+        Some(text) => text == "true",
+        None => false,
+    }
+}
+
+// What is asked for, with that.
+fn call_of(request: Result<Request, WordsFault>, explained: bool) -> Result<Call, WordsFault>
+    ensures { result ≡ call_as request explained }
+{
+    match request {
+        Ok(request) => Ok(Call { request, explained }),
+        Err(fault) => Err(fault),
+    }
+}
+
 /// Reads the program's words, of which the first is its own name.
-pub fn read_words(alloc: Global, words: &[String]) -> Result<Request, WordsFault>
-    // These words ask for the simulation, unless memory runs out.
-    ensures simulate { (program : List ℕ)
-        → map string_bytes words.now ≡ asking_for program (codes "simulate")
-        → MatchResult result (λ r. r ≡ Request.Simulate) (λ e. e ≡ WordsFault.NoMemory) }
+pub fn read_words(alloc: Global, words: &[String]) -> Result<Call, WordsFault>
+    // Words that ask for the simulation are answered by it, unless memory runs out.
+    ensures simulate { AskFor (codes "simulate") (map string_bytes words.now)
+        → MatchResult result (λ c. c.request ≡ Request.Simulate) (λ e. e ≡ WordsFault.NoMemory) }
     // Words that ask for a check of three files are answered by it, unless memory runs out.
     ensures check { (archs packages sources : List ℕ)
         → AskForCheck (map string_bytes words.now) archs packages sources
-        → MatchResult result (IsCheckOf archs packages sources) (λ e. e ≡ WordsFault.NoMemory) }
+        → MatchResult result (λ c. IsCheckOf archs packages sources c.request) (λ e. e ≡ WordsFault.NoMemory) }
     // Words that ask for a report are answered by it, unless memory runs out.
     ensures track { (w : TrackWords) → AskForTrack (map string_bytes words.now) w
-        → MatchResult result (IsTrackOf w) (λ e. e ≡ WordsFault.NoMemory) }
+        → MatchResult result (λ c. IsTrackOf w c.request) (λ e. e ≡ WordsFault.NoMemory) }
     // So are words that ask for waves.
     ensures waves { (archs packages sources tracker : List ℕ)
         → AskForWaves (map string_bytes words.now) archs packages sources tracker
-        → MatchResult result (AreWavesOf archs packages sources tracker) (λ e. e ≡ WordsFault.NoMemory) }
+        → MatchResult result (λ c. AreWavesOf archs packages sources tracker c.request) (λ e. e ≡ WordsFault.NoMemory) }
     // And words that ask for a run.
     ensures run { (w : RunWords) → AskForRun (map string_bytes words.now) w
-        → MatchResult result (IsRunOf w) (λ e. e ≡ WordsFault.NoMemory) }
+        → MatchResult result (λ c. IsRunOf w c.request) (λ e. e ≡ WordsFault.NoMemory) }
     // Words that are answered are without fault, and name what they are answered by.
-    ensures only { IfOk result (Asks (map string_bytes words.now)) }
+    ensures only { IfOk result (λ c. Asks (map string_bytes words.now) c.request) }
+    // An explanation is due exactly where the option is given.
+    ensures explained { IfOk result (λ c. c.explained
+        ≡ is_explained (options_of (map string_bytes words.now))) }
 {
     match command(alloc)?.try_get_matches_from(words) {
-        Ok(matches) => request_in(alloc, &matches),
+        Ok(matches) => call_of(request_in(alloc, &matches), is_explained_in(&matches)),
         Err(error) => Err(fault_of(alloc, &error)),
     }
 }

@@ -1,5 +1,5 @@
 //! What each line of words asks for, and the texts: this project's own, and `clap`'s.
-use crate::{Request, WordsFault, read_words};
+use crate::{Call, Request, WordsFault, read_words};
 use std::alloc::{AllocError, Global};
 use std::test::Fail;
 
@@ -21,8 +21,8 @@ fn usage(alloc: Global, line: &str) -> Result<String, WordsFault> {
 
 #[test]
 fn a_subcommand_is_asked_for_by_its_name(rt: HostRuntime) -> Result<(), Fail> {
-    let request = read_words(rt.alloc(), &words(rt.alloc(), "transdesk simulate")?)?;
-    assert!(rt; matches!(request, Request::Simulate));
+    let call = read_words(rt.alloc(), &words(rt.alloc(), "transdesk simulate")?)?;
+    assert!(rt; matches!(call.request, Request::Simulate));
     Ok(())
 }
 
@@ -34,7 +34,7 @@ fn a_check_is_asked_for_with_three_files(rt: HostRuntime) -> Result<(), Fail> {
         "transdesk check --archs=a --packages=p --sources=s",
         "transdesk check --sources s --archs a --packages=p",
     ] {
-        match read_words(rt.alloc(), &words(rt.alloc(), line)?)? {
+        match read_words(rt.alloc(), &words(rt.alloc(), line)?)?.request {
             Request::Check {
                 archs,
                 packages,
@@ -69,7 +69,7 @@ fn a_report_is_asked_for_with_four_files_or_more(rt: HostRuntime) -> Result<(), 
             Some(1_000_000),
         ),
     ] {
-        match read_words(rt.alloc(), &words(rt.alloc(), line)?)? {
+        match read_words(rt.alloc(), &words(rt.alloc(), line)?)?.request {
             Request::Track {
                 tracker,
                 state,
@@ -89,7 +89,7 @@ fn a_report_is_asked_for_with_four_files_or_more(rt: HostRuntime) -> Result<(), 
 #[test]
 fn waves_are_asked_for_with_four_files(rt: HostRuntime) -> Result<(), Fail> {
     let line = "transdesk waves --archs a --packages p --sources s --tracker t";
-    match read_words(rt.alloc(), &words(rt.alloc(), line)?)? {
+    match read_words(rt.alloc(), &words(rt.alloc(), line)?)?.request {
         Request::Waves {
             archs,
             packages,
@@ -118,7 +118,7 @@ fn run_of(alloc: Global, line: &str) -> Result<String, WordsFault> {
         builders,
         outcomes,
         journal,
-    } = read_words(alloc, &words(alloc, line)?)?
+    } = read_words(alloc, &words(alloc, line)?)?.request
     else {
         return Ok(String::new(alloc));
     };
@@ -177,6 +177,18 @@ fn other_words_are_answered_by_a_text(rt: HostRuntime) -> Result<(), Fail> {
         ),
         ("transdesk help simulate", "Play steps of the desk"),
         ("transdesk simulate --help", "Play steps of the desk"),
+        (
+            "transdesk simulate --explain --explain",
+            "error: the argument '--explain' cannot be used multiple times",
+        ),
+        (
+            "transdesk simulate --explain=true",
+            "error: unexpected value 'true' for '--explain' found",
+        ),
+        (
+            "transdesk --explain simulate",
+            "error: unexpected argument '--explain' found",
+        ),
         (
             "transdesk simulat",
             "error: unrecognized subcommand 'simulat'",
@@ -254,6 +266,48 @@ fn other_words_are_answered_by_a_text(rt: HostRuntime) -> Result<(), Fail> {
         let text = usage(rt.alloc(), line)?;
         assert!(rt; text.as_str().starts_with(front), "{line}: {text}");
         assert!(rt; text.as_str().ends_with('\n'), "{line}: {text}");
+    }
+    Ok(())
+}
+
+// A path may be the very word.
+#[test]
+fn an_explanation_is_asked_for_by_its_option(rt: HostRuntime) -> Result<(), Fail> {
+    for (line, explained) in [
+        ("transdesk simulate", false),
+        ("transdesk simulate --explain", true),
+        ("transdesk check --archs a --packages p --sources s", false),
+        (
+            "transdesk check --explain --archs a --packages p --sources s",
+            true,
+        ),
+        (
+            "transdesk check --archs a --packages p --sources=--explain",
+            false,
+        ),
+        (
+            "transdesk check --archs a --packages p --sources s --explain",
+            true,
+        ),
+        (
+            "transdesk track --archs a --packages p --explain --sources s --tracker t",
+            true,
+        ),
+        (
+            "transdesk waves --archs a --packages p --explain --sources s --tracker t",
+            true,
+        ),
+        (
+            "transdesk run --archs a --packages p --explain --sources s",
+            true,
+        ),
+        (
+            "transdesk run --archs a --packages p --sources s --suite explain",
+            false,
+        ),
+    ] {
+        let Call { explained: is, .. } = read_words(rt.alloc(), &words(rt.alloc(), line)?)?;
+        assert_eq!(rt; is, explained, "{line}");
     }
     Ok(())
 }

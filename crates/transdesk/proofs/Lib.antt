@@ -4,6 +4,7 @@ pub mod Plays
 pub mod Files
 pub mod Counting
 pub mod Asks
+pub mod Explanations
 pub mod Told
 pub mod Sure
 pub mod UnreadRuns

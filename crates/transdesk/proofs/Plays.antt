@@ -21,7 +21,7 @@ use Rattle.transdesk.specs.declared.ending.Ending.TheVariants.{Done, Refused, Ba
 use Rattle.transdesk.specs.Ending.{ending_of_simulation}
 use Rattle.transdesk.specs.Ends.{IsText, HasFault, EndsAs, Plays, Says, Ends}
 use Rattle.transdesk.specs.Limits.{input_limit}
-use Rattle.transdesk.specs.Played.{TellsSo, IsUntold, PlaysText, IsNoSimulation, TextSays, TextEnds, IsUnread}
+use Rattle.transdesk.specs.Played.{TellsSo, IsUntold, PlaysText, IsNoSimulation, TextSays, TextEnds, IsUnread, kept_of}
 use Rattle.transdesk.proofs.Stops.{ends_unread}
 
 -- ---- what is told of a text
@@ -113,3 +113,19 @@ pub ends : (known old new : Option (List ℕ)) (r : Result (String Global) TextF
     → IfOk r (λ t. TextEnds (string_bytes t) old new ending) → IfErr r (λ e. IsUnread e old new ending) → Ends known old new ending
 ends known old new (Ok t) ending same within long other so unread = ends_read known old new (string_bytes t) ending same (within, IsUtf8-string_bytes t) so
 ends known old new (Err e) ending same within long other so unread = ends_unread {T = String Global} known old new e ending long other unread
+
+-- ---- the text that is kept
+
+same_text : (known : Option (List ℕ)) (text : List ℕ) → IfSome known (λ all. text ≡ all) → IfSome known (λ all. all ≡ text)
+same_text None text same = tt
+same_text (Some all) text same = sym same
+
+pub kept_is : (known : Option (List ℕ)) (read : Result (String Global) TextFault) (input : Option (String Global)) → input ≡ kept_of read
+    → IfOk read (λ text. IfSome known (λ all. string_bytes text ≡ all)) → IfSome input (λ kept. IfSome known (λ all. all ≡ string_bytes kept))
+kept_is known (Ok text) input is same = subst (λ o. IfSome o (λ kept. IfSome known (λ all. all ≡ string_bytes kept))) (sym is) (same_text known (string_bytes text) same)
+kept_is known (Err fault) input is same = subst (λ o. IfSome o (λ kept. IfSome known (λ all. all ≡ string_bytes kept))) (sym is) tt
+
+pub kept_within : (limit : ℕ) (read : Result (String Global) TextFault) (input : Option (String Global)) → input ≡ kept_of read
+    → IfOk read (λ text. length (string_bytes text) ≤ limit) → IfSome input (λ kept. length (string_bytes kept) ≤ limit)
+kept_within limit (Ok text) input is within = subst (λ o. IfSome o (λ kept. length (string_bytes kept) ≤ limit)) (sym is) within
+kept_within limit (Err fault) input is within = subst (λ o. IfSome o (λ kept. length (string_bytes kept) ≤ limit)) (sym is) tt

@@ -1,6 +1,9 @@
 pub mod Limits
 pub mod Roles
 pub mod Ending
+pub mod Places
+pub mod Wanted
+pub mod Explained
 pub mod Ran
 pub mod Ends
 pub mod Played

@@ -1,5 +1,6 @@
 -- How a simulation ends by what was read of standard input. This project's own.
-use Rattle.std.specs.Prelude.{◌≡◌, ℕ, true, false, List, Option, string_bytes}
+use Rattle.std.specs.Prelude.{◌≡◌, ℕ, true, false, List, Option, Some, None, Result, Ok, Err, String, string_bytes}
+use Rattle.std.specs.declared.alloc.Global.{Global}
 use Rattle.std.specs.Io.KnownBytes.{Appends, Keeps}
 use Rattle.td_bytes.specs.Pieces.{AppendsPrefix}
 use Rattle.td_bytes.specs.declared.text.TextFault.{TextFault}
@@ -71,3 +72,8 @@ pub record TextEnds (text : List ℕ) (old new : Option (List ℕ)) (ending : En
 pub record IsUnread (fault : TextFault) (old new : Option (List ℕ)) (ending : Ending) : Type 0 where
   pub ends : ending ≡ ending_of_text fault
   pub kept : Keeps old new
+
+-- the text that is kept: that which was read
+abbrev pub kept_of : Result (String Global) TextFault → Option (String Global)
+kept_of (Ok text) = Some text
+kept_of (Err fault) = None

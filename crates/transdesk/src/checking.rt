@@ -6,7 +6,6 @@ ghost use Rattle.transdesk.specs.CheckInside.{AreCountsOf, EndsUnwritten, FileTe
 ghost use Rattle.transdesk.specs.Counted.{line_of_counts};
 ghost use Rattle.transdesk.specs.Ending.{ending_of_archive as archive_ending, ending_of_table as table_ending};
 ghost use Rattle.transdesk.specs.Limits.{file_limit};
-ghost use Rattle.transdesk.specs.Ran.{Ran};
 
 use crate::ending::{Ending, ending_of_archive, ending_of_file, ending_of_table};
 use crate::file_texts::{FileFault, FileTexts, read_files};
@@ -134,7 +133,8 @@ fn count<W: Write>(alloc: Global, read: Result<FileTexts, FileFault>, output: &m
     write(line_of(alloc, counted), output)
 }
 
-fn run<T: Texts, W: Write>(
+/// Counts what the indices hold that have these paths. All is read before anything is written.
+pub fn check<T: Texts, W: Write>(
     alloc: Global,
     texts: &T,
     archs: &str,
@@ -148,24 +148,4 @@ fn run<T: Texts, W: Write>(
 {
     let read = read_files(alloc, texts, archs, packages, sources);
     count(alloc, read, output)
-}
-
-/// Counts what the indices hold that have these paths, and tells on `faults` what went wrong, as
-/// far as that can be. All is read before anything is written. Answers the program's status.
-pub fn check<T: Texts, W: Write, E: Write>(
-    alloc: Global,
-    texts: &T,
-    archs: &str,
-    packages: &str,
-    sources: &str,
-    output: &mut W,
-    faults: &mut E,
-) -> u8
-    ensures { Ran (Checks
-        (files_of (T.bytes texts.now) (T.can_fail texts.now) archs.now packages.now sources.now)
-        (W.contents output.old) (W.contents output.new))
-        (E.contents faults.old) (E.contents faults.new) result }
-{
-    let ending = run(alloc, texts, archs, packages, sources, output);
-    ending.answer(faults)
 }

@@ -1,4 +1,4 @@
-ghost use Rattle.std.specs.Prelude.{◌≡◌, ◌++◌, OnOk, OnErr};
+ghost use Rattle.std.specs.Prelude.{◌≡◌, ◌++◌, None, OnOk, OnErr};
 ghost use Rattle.std.specs.Io.KnownBytes.{Appends};
 ghost use Rattle.td_bytes.specs.Pieces.{AppendsPrefix};
 ghost use Rattle.transdesk.specs.Ending.{ending_of_archive, ending_of_file, ending_of_journal, ending_of_missing_row, ending_of_simulation, ending_of_state, ending_of_table, ending_of_text, ending_of_tracker, status_of, line_of, line_with};
@@ -25,6 +25,13 @@ pub enum Ending {
     NoMemory,
     CannotRead(Role),
     CannotWrite,
+}
+
+/// How a run ended, with the text of standard input where it was kept.
+#[derive(Drop)]
+pub struct Ended {
+    pub ending: Ending,
+    pub input: Option<String>,
 }
 
 /// How a run ends where no text is read from standard input.
@@ -118,6 +125,16 @@ pub fn ending_of_journal(fault: ReadError) -> Ending
 }
 
 impl Ending {
+    /// The same, with no text kept.
+    pub fn alone(self) -> Ended
+        ensures { result ≡ record { ending = self; input = None } }
+    {
+        Ended {
+            ending: self,
+            input: None,
+        }
+    }
+
     /// The status that the program ends with.
     pub fn status(self) -> u8
         ensures { result ≡ status_of self }

@@ -11,8 +11,12 @@
 
 mod checking;
 mod ending;
+#[cfg(test)]
+mod explain_tests;
+mod explaining;
 mod file_texts;
 mod input_fault;
+mod places;
 mod role;
 mod run_files;
 #[cfg(test)]
@@ -27,6 +31,7 @@ mod track_files;
 #[cfg(test)]
 mod track_tests;
 mod tracking;
+mod wanted;
 
 use std::process::ExitCode;
 use std::{env, io};

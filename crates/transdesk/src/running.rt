@@ -1,6 +1,5 @@
 //! The subcommand `run`: a script over the rows of an archive.
 ghost use Rattle.std.specs.Prelude.{◌≡◌, ◌≤◌, IfOk};
-ghost use Rattle.transdesk.specs.Ran.{Ran};
 ghost use Rattle.transdesk.specs.Runs.{EndsRun, OnlyEnds, ScriptEnds, script_texts, ending_of_input as ending_of_input_as, ending_of_script as ending_of_script_as, ending_of_stop as ending_of_stop_as};
 ghost use Rattle.transdesk.specs.RunInside.{AreInputsOf, IsWithinLimit, run_files_at, run_texts_of};
 
@@ -93,7 +92,9 @@ fn play<R: Read, W: Write>(
     }
 }
 
-fn run_files<T: Texts, R: Read, W: Write>(
+/// Answers the script that the reader has, over the files with these paths. The files are read
+/// before the script, and all of it before anything is written.
+pub fn run<T: Texts, R: Read, W: Write>(
     alloc: Global,
     texts: &T,
     paths: &RunPaths<'_>,
@@ -109,25 +110,4 @@ fn run_files<T: Texts, R: Read, W: Write>(
         Ok(read) => play(alloc, read, suite, reader, output),
         Err(unread) => ending_of_file(unread.role, unread.fault),
     }
-}
-
-/// Answers the script that the reader has, over the files with these paths, and tells on `faults`
-/// what went wrong, as far as that can be. The files are read before the script, and all of it
-/// before anything is written. Answers the program's status.
-pub fn run<T: Texts, R: Read, W: Write, E: Write>(
-    alloc: Global,
-    texts: &T,
-    paths: &RunPaths<'_>,
-    suite: &str,
-    reader: &mut R,
-    output: &mut W,
-    faults: &mut E,
-) -> u8
-    ensures { Ran (EndsRun
-        (run_files_at (T.bytes texts.now) (T.can_fail texts.now) paths.now) suite.now
-        (R.remaining reader.old) (W.contents output.old) (W.contents output.new))
-        (E.contents faults.old) (E.contents faults.new) result }
-{
-    let ending = run_files(alloc, texts, paths, suite, reader, output);
-    ending.answer(faults)
 }

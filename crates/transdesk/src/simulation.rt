@@ -1,11 +1,10 @@
-ghost use Rattle.std.specs.Prelude.{◌≡◌, ◌≤◌, length, string_bytes, IfOk, IfErr};
+ghost use Rattle.std.specs.Prelude.{◌≡◌, ◌≤◌, length, string_bytes, IfOk, IfErr, IfSome};
 ghost use Rattle.std.specs.Result.{ForOk};
 ghost use Rattle.transdesk.specs.Ends.{Ends};
 ghost use Rattle.transdesk.specs.Limits.{input_limit};
-ghost use Rattle.transdesk.specs.Played.{IsUnread, IsUntold, TellsSo, TextEnds};
-ghost use Rattle.transdesk.specs.Ran.{Ran};
+ghost use Rattle.transdesk.specs.Played.{IsUnread, IsUntold, TellsSo, TextEnds, kept_of};
 
-use crate::ending::{Ending, ending_of_simulation, ending_of_text};
+use crate::ending::{Ended, Ending, ending_of_simulation, ending_of_text};
 use std::alloc::Global;
 use std::io::{Read, Write};
 use td_bytes::{TextFault, read_text, write_whole};
@@ -32,39 +31,34 @@ fn tell<W: Write>(told: Result<Simulated, SimulationFault>, output: &mut W) -> E
     }
 }
 
-// How a run ends by what was read of standard input.
-fn play<W: Write>(alloc: Global, read: Result<String, TextFault>, output: &mut W) -> Ending
+// How a run ends by what was read of standard input. The text is kept.
+fn play<W: Write>(alloc: Global, read: Result<String, TextFault>, output: &mut W) -> Ended
     requires { ForOk read (λ text. length (string_bytes text) ≤ input_limit) }
     ensures text { IfOk read (λ text.
-        TextEnds (string_bytes text) (W.contents output.old) (W.contents output.new) result) }
+        TextEnds (string_bytes text) (W.contents output.old) (W.contents output.new) result.ending) }
     ensures unread { IfErr read (λ fault.
-        IsUnread fault (W.contents output.old) (W.contents output.new) result) }
+        IsUnread fault (W.contents output.old) (W.contents output.new) result.ending) }
+    ensures kept { result.input ≡ kept_of read }
 {
     let text = match read {
         Ok(text) => text,
-        Err(fault) => return ending_of_text(fault),
+        Err(fault) => return ending_of_text(fault).alone(),
     };
-    tell(simulate_text(alloc, text.as_str()), output)
+    let ending = tell(simulate_text(alloc, text.as_str()), output);
+    Ended {
+        ending,
+        input: Some(text),
+    }
 }
 
-fn run<R: Read, W: Write>(alloc: Global, reader: &mut R, output: &mut W) -> Ending
-    ensures { Ends (R.remaining reader.old) (W.contents output.old) (W.contents output.new) result }
+/// Plays the simulation that the reader has. All is read before anything is written, and kept.
+pub fn simulate<R: Read, W: Write>(alloc: Global, reader: &mut R, output: &mut W) -> Ended
+    ensures ends { Ends (R.remaining reader.old) (W.contents output.old) (W.contents output.new)
+        result.ending }
+    ensures kept { IfSome result.input (λ kept.
+        IfSome (R.remaining reader.old) (λ all. all ≡ string_bytes kept)) }
+    ensures short { IfSome result.input (λ kept. length (string_bytes kept) ≤ input_limit) }
 {
     let read = read_text(alloc, reader, INPUT_LIMIT);
     play(alloc, read, output)
-}
-
-/// Plays the simulation that the reader has, and tells on `faults` what went wrong, as far as that
-/// can be. All is read before anything is written. Answers the program's status.
-pub fn simulate<R: Read, W: Write, E: Write>(
-    alloc: Global,
-    reader: &mut R,
-    output: &mut W,
-    faults: &mut E,
-) -> u8
-    ensures { Ran (Ends (R.remaining reader.old) (W.contents output.old) (W.contents output.new))
-        (E.contents faults.old) (E.contents faults.new) result }
-{
-    let ending = run(alloc, reader, output);
-    ending.answer(faults)
 }

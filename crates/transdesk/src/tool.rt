@@ -1,18 +1,21 @@
-ghost use Rattle.std.specs.Prelude.{◌≡◌, ◌⊎◌, ℕ, List, map, option_map, codes, string_bytes, None, IsOkAnd, IfOk, IfErr};
+ghost use Rattle.std.specs.Prelude.{◌≡◌, ◌⊎◌, ◌≤◌, ℕ, List, length, map, IfSome, option_map, codes, string_bytes, None, IsOkAnd, IfOk, IfErr};
 ghost use Rattle.std.specs.IoError.{error_kind};
 ghost use Rattle.std.specs.Io.KnownBytes.{Keeps};
 ghost use Rattle.td_report.specs.Transition.{IsReport, IsWaves};
-ghost use Rattle.td_words.specs.CommandLine.{AskForCheck, AskForRun, AskForTrack, AskForWaves, RunWords, TrackWords, asking_for};
+ghost use Rattle.td_words.specs.CommandLine.{AskFor, AskForCheck, AskForRun, AskForTrack, AskForWaves, RunWords, TrackWords, is_explained, options_of};
 ghost use Rattle.transdesk.specs.Ends.{Ends};
 ghost use Rattle.transdesk.specs.Checks.{Checks, files_of};
+ghost use Rattle.transdesk.specs.Explained.{IsKept, archive_paths, known_at, known_input, known_of_request, run_paths, track_paths, waves_paths};
+ghost use Rattle.transdesk.specs.Limits.{input_limit};
 ghost use Rattle.transdesk.specs.Ran.{Ran};
-ghost use Rattle.transdesk.specs.Program.{IsTold, OnlyIfAsked, RanFor, TellsFault, TellsUnread, files_asked};
+ghost use Rattle.transdesk.specs.Program.{EndsFor, IsTold, OnlyIfAsked, RanFor, TellsFault, TellsUnread, are_explained, files_asked};
 ghost use Rattle.transdesk.specs.Runs.{EndsRun, run_files, run_files_asked};
 ghost use Rattle.transdesk.specs.TrackInside.{saying_of};
 ghost use Rattle.transdesk.specs.Tracks.{EndsSo, track_files};
 
 use crate::checking::check;
-use crate::ending::Ending;
+use crate::ending::{Ended, Ending};
+use crate::explaining::finish;
 use crate::run_files::RunPaths;
 use crate::running::run;
 use crate::simulation::simulate;
@@ -24,7 +27,7 @@ use std::io;
 use std::io::{ErrorKind, Read, Write};
 use std::thread::Threads;
 use td_bytes::write_whole;
-use td_words::{Request, WordsFault, read_words};
+use td_words::{Call, Request, WordsFault, read_words};
 
 /// The status where the words ask for nothing that can be done.
 pub const BAD_WORDS: u8 = 3;
@@ -55,7 +58,7 @@ fn tell_fault<E: Write>(fault: &WordsFault, faults: &mut E) -> u8
 }
 
 // Tells what a tracker says, by the paths that the words gave.
-fn do_track<T: Texts, W: Write, E: Write>(
+fn do_track<T: Texts, W: Write>(
     rt: &(impl Threads + Sync),
     alloc: Global,
     texts: &T,
@@ -66,14 +69,12 @@ fn do_track<T: Texts, W: Write, E: Write>(
     tracker: &String,
     asked: Asked,
     output: &mut W,
-    faults: &mut E,
-) -> u8
-    ensures { Ran (EndsSo (saying_of asked)
+) -> Ending
+    ensures { EndsSo (saying_of asked)
         (track_files (T.bytes texts.now) (T.can_fail texts.now) (string_bytes archs.now)
         (string_bytes packages.now) (string_bytes sources.now) (option_map string_bytes state.now)
         (string_bytes tracker.now))
-        (W.contents output.old) (W.contents output.new))
-        (E.contents faults.old) (E.contents faults.new) result }
+        (W.contents output.old) (W.contents output.new) result }
 {
     let paths = TrackPaths {
         archs: archs.as_str(),
@@ -82,11 +83,11 @@ fn do_track<T: Texts, W: Write, E: Write>(
         state: given(state),
         tracker: tracker.as_str(),
     };
-    track(rt, alloc, texts, &paths, asked, output, faults)
+    track(rt, alloc, texts, &paths, asked, output)
 }
 
 // Runs a script over the files with the paths that the words gave.
-fn do_run<T: Texts, R: Read, W: Write, E: Write>(
+fn do_run<T: Texts, R: Read, W: Write>(
     alloc: Global,
     texts: &T,
     archs: &String,
@@ -99,15 +100,13 @@ fn do_run<T: Texts, R: Read, W: Write, E: Write>(
     suite: &String,
     reader: &mut R,
     output: &mut W,
-    faults: &mut E,
-) -> u8
-    ensures { Ran (EndsRun
+) -> Ending
+    ensures { EndsRun
         (run_files (T.bytes texts.now) (T.can_fail texts.now) (string_bytes archs.now)
         (string_bytes packages.now) (string_bytes sources.now) (option_map string_bytes state.now)
         (option_map string_bytes tracker.now) (option_map string_bytes outcomes.now)
         (option_map string_bytes journal.now)) (string_bytes suite.now)
-        (R.remaining reader.old) (W.contents output.old) (W.contents output.new))
-        (E.contents faults.old) (E.contents faults.new) result }
+        (R.remaining reader.old) (W.contents output.old) (W.contents output.new) result }
 {
     let paths = RunPaths {
         archs: archs.as_str(),
@@ -118,26 +117,26 @@ fn do_run<T: Texts, R: Read, W: Write, E: Write>(
         outcomes: given(outcomes),
         journal: given(journal),
     };
-    run(alloc, texts, &paths, suite.as_str(), reader, output, faults)
+    run(alloc, texts, &paths, suite.as_str(), reader, output)
 }
 
 // Does what was asked for.
-fn do_request<T: Texts, R: Read, W: Write, E: Write>(
+fn do_request<T: Texts, R: Read, W: Write>(
     rt: &(impl Threads + Sync),
     alloc: Global,
     request: &Request,
     texts: &T,
     reader: &mut R,
     output: &mut W,
-    faults: &mut E,
-) -> u8
-    ensures { RanFor request.now
+) -> Ended
+    ensures ends { EndsFor request.now
         (R.remaining reader.old) (T.bytes texts.now) (T.can_fail texts.now)
-        (W.contents output.old) (W.contents output.new)
-        (E.contents faults.old) (E.contents faults.new) result }
+        (W.contents output.old) (W.contents output.new) result.ending }
+    ensures kept { IsKept (known_of_request request.now (R.remaining reader.old) (T.bytes texts.now)) result.input }
+    ensures short { IfSome result.input (λ kept. length (string_bytes kept) ≤ input_limit) }
 {
     match request {
-        Request::Simulate => simulate(alloc, reader, output, faults),
+        Request::Simulate => simulate(alloc, reader, output),
         Request::Check {
             archs,
             packages,
@@ -149,8 +148,8 @@ fn do_request<T: Texts, R: Read, W: Write, E: Write>(
             packages.as_str(),
             sources.as_str(),
             output,
-            faults,
-        ),
+        )
+        .alone(),
         Request::Track {
             archs,
             packages,
@@ -161,8 +160,9 @@ fn do_request<T: Texts, R: Read, W: Write, E: Write>(
         } => {
             let asked = Asked::Report(*chunk);
             do_track(
-                rt, alloc, texts, archs, packages, sources, state, tracker, asked, output, faults,
+                rt, alloc, texts, archs, packages, sources, state, tracker, asked, output,
             )
+            .alone()
         }
         Request::Waves {
             archs,
@@ -172,8 +172,9 @@ fn do_request<T: Texts, R: Read, W: Write, E: Write>(
         } => {
             let asked = Asked::Waves;
             do_track(
-                rt, alloc, texts, archs, packages, sources, &None, tracker, asked, output, faults,
+                rt, alloc, texts, archs, packages, sources, &None, tracker, asked, output,
             )
+            .alone()
         }
         Request::Run {
             archs,
@@ -187,8 +188,9 @@ fn do_request<T: Texts, R: Read, W: Write, E: Write>(
             journal,
         } => do_run(
             alloc, texts, archs, packages, sources, state, tracker, outcomes, journal, suite,
-            reader, output, faults,
-        ),
+            reader, output,
+        )
+        .alone(),
     }
 }
 
@@ -196,13 +198,13 @@ fn do_request<T: Texts, R: Read, W: Write, E: Write>(
 fn act<T: Texts, R: Read, W: Write, E: Write>(
     rt: &(impl Threads + Sync),
     alloc: Global,
-    asked: Result<Request, WordsFault>,
+    asked: Result<Call, WordsFault>,
     texts: &T,
     reader: &mut R,
     output: &mut W,
     faults: &mut E,
 ) -> u8
-    ensures request { IfOk asked (λ request. RanFor request
+    ensures request { IfOk asked (λ call. RanFor call.request call.explained
         (R.remaining reader.old) (T.bytes texts.now) (T.can_fail texts.now)
         (W.contents output.old) (W.contents output.new)
         (E.contents faults.old) (E.contents faults.new) result) }
@@ -211,7 +213,10 @@ fn act<T: Texts, R: Read, W: Write, E: Write>(
         (E.contents faults.old) (E.contents faults.new) result) }
 {
     match asked {
-        Ok(request) => do_request(rt, alloc, &request, texts, reader, output, faults),
+        Ok(call) => {
+            let ended = do_request(rt, alloc, &call.request, texts, reader, output);
+            finish(alloc, call.explained, &ended, &call.request, texts, faults)
+        }
         Err(fault) => tell_fault(&fault, faults),
     }
 }
@@ -226,28 +231,37 @@ fn answer<T: Texts, R: Read, W: Write, E: Write>(
     output: &mut W,
     faults: &mut E,
 ) -> u8
-    ensures simulate { (program : List ℕ)
-        → map string_bytes words.now ≡ asking_for program (codes "simulate")
+    ensures simulate { AskFor (codes "simulate") (map string_bytes words.now)
         → Ran (Ends (R.remaining reader.old) (W.contents output.old) (W.contents output.new))
+        (is_explained (options_of (map string_bytes words.now)))
+        (known_input (R.remaining reader.old))
         (E.contents faults.old) (E.contents faults.new) result }
     ensures check { (archs packages sources : List ℕ)
         → AskForCheck (map string_bytes words.now) archs packages sources
         → Ran (Checks (files_of (T.bytes texts.now) (T.can_fail texts.now) archs packages sources)
         (W.contents output.old) (W.contents output.new))
+        (is_explained (options_of (map string_bytes words.now)))
+        (known_at (T.bytes texts.now) (archive_paths archs packages sources))
         (E.contents faults.old) (E.contents faults.new) result }
     ensures track { (w : TrackWords) → AskForTrack (map string_bytes words.now) w
         → Ran (EndsSo IsReport (files_asked (T.bytes texts.now) (T.can_fail texts.now) w)
         (W.contents output.old) (W.contents output.new))
+        (is_explained (options_of (map string_bytes words.now)))
+        (known_at (T.bytes texts.now) (track_paths w))
         (E.contents faults.old) (E.contents faults.new) result }
     ensures waves { (archs packages sources tracker : List ℕ)
         → AskForWaves (map string_bytes words.now) archs packages sources tracker
         → Ran (EndsSo IsWaves
         (track_files (T.bytes texts.now) (T.can_fail texts.now) archs packages sources None tracker)
         (W.contents output.old) (W.contents output.new))
+        (is_explained (options_of (map string_bytes words.now)))
+        (known_at (T.bytes texts.now) (waves_paths archs packages sources tracker))
         (E.contents faults.old) (E.contents faults.new) result }
     ensures run { (w : RunWords) → AskForRun (map string_bytes words.now) w
         → Ran (EndsRun (run_files_asked (T.bytes texts.now) (T.can_fail texts.now) w) w.suite
         (R.remaining reader.old) (W.contents output.old) (W.contents output.new))
+        (is_explained (options_of (map string_bytes words.now)))
+        (known_at (T.bytes texts.now) (run_paths w))
         (E.contents faults.old) (E.contents faults.new) result }
     ensures others { OnlyIfAsked (map string_bytes words.now)
         (R.remaining reader.old) (T.bytes texts.now) (T.can_fail texts.now)
@@ -276,34 +290,38 @@ pub fn tool<T: Texts, R: Read, W: Write, E: Write>(
     output: &mut W,
     faults: &mut E,
 ) -> u8
-    // What asks for the simulation is answered by it.
-    ensures simulate { (program : List ℕ) → IsOkAnd words (λ given.
-        map string_bytes given.items ≡ asking_for program (codes "simulate"))
+    // What asks for the simulation is answered by it, and explained where that is asked for.
+    ensures simulate { IsOkAnd words (λ given. AskFor (codes "simulate") (map string_bytes given.items))
         → Ran (Ends (R.remaining reader.old) (W.contents output.old) (W.contents output.new))
+        (are_explained words) (known_input (R.remaining reader.old))
         (E.contents faults.old) (E.contents faults.new) result }
     // What asks for the check of three files is answered by it.
     ensures check { (archs packages sources : List ℕ) → IsOkAnd words (λ given.
         AskForCheck (map string_bytes given.items) archs packages sources)
         → Ran (Checks (files_of (T.bytes texts.now) (T.can_fail texts.now) archs packages sources)
         (W.contents output.old) (W.contents output.new))
+        (are_explained words) (known_at (T.bytes texts.now) (archive_paths archs packages sources))
         (E.contents faults.old) (E.contents faults.new) result }
     // What asks for a report, or for waves, is answered by them.
     ensures track { (w : TrackWords) → IsOkAnd words (λ given.
         AskForTrack (map string_bytes given.items) w)
         → Ran (EndsSo IsReport (files_asked (T.bytes texts.now) (T.can_fail texts.now) w)
         (W.contents output.old) (W.contents output.new))
+        (are_explained words) (known_at (T.bytes texts.now) (track_paths w))
         (E.contents faults.old) (E.contents faults.new) result }
     ensures waves { (archs packages sources tracker : List ℕ) → IsOkAnd words (λ given.
         AskForWaves (map string_bytes given.items) archs packages sources tracker)
         → Ran (EndsSo IsWaves
         (track_files (T.bytes texts.now) (T.can_fail texts.now) archs packages sources None tracker)
         (W.contents output.old) (W.contents output.new))
+        (are_explained words) (known_at (T.bytes texts.now) (waves_paths archs packages sources tracker))
         (E.contents faults.old) (E.contents faults.new) result }
     // What asks for a run is answered by it.
     ensures run { (w : RunWords) → IsOkAnd words (λ given.
         AskForRun (map string_bytes given.items) w)
         → Ran (EndsRun (run_files_asked (T.bytes texts.now) (T.can_fail texts.now) w) w.suite
         (R.remaining reader.old) (W.contents output.old) (W.contents output.new))
+        (are_explained words) (known_at (T.bytes texts.now) (run_paths w))
         (E.contents faults.old) (E.contents faults.new) result }
     // Other words are bad, unless memory runs out, and nothing is written.
     ensures others { IfOk words (λ given. OnlyIfAsked (map string_bytes given.items)

@@ -9,7 +9,6 @@ ghost use Rattle.td_report.specs.Transition.{IsReport};
 ghost use Rattle.td_report.specs.TransitionView as of;
 ghost use Rattle.transdesk.specs.Ending.{ending_of_missing_row};
 ghost use Rattle.transdesk.specs.Limits.{file_limit};
-ghost use Rattle.transdesk.specs.Ran.{Ran};
 ghost use Rattle.transdesk.specs.Tracks.{AreReadable, AreRefused, AreRowsOf, EndsSo, IsNoTracker, IsPatternRefused, IsReadableOver, IsRefusedOver, IsStateRefused, RowsSay, TextsSayIt, TrackerSays};
 ghost use Rattle.transdesk.specs.TrackInside.{AreReadableWith, AreRefusedWith, CanReplace, IndicesSay, IsRefusedFor, IsReplaced, OrMemory, files_at, saying_of, texts_of};
 
@@ -215,7 +214,9 @@ fn whole_text(
     }
 }
 
-fn run<T: Texts, W: Write>(
+/// Tells what the tracker with its path says over the archive. All is read before anything is
+/// written.
+pub fn track<T: Texts, W: Write>(
     rt: &(impl Threads + Sync),
     alloc: Global,
     texts: &T,
@@ -231,24 +232,4 @@ fn run<T: Texts, W: Write>(
         Ok(read) => write(whole_text(rt, alloc, &read, asked), output),
         Err(unread) => ending_of_file(unread.role, unread.fault),
     }
-}
-
-/// Tells what the tracker with its path says over the archive, and on `faults` what went wrong, as
-/// far as that can be. All is read before anything is written. Answers the program's status.
-pub fn track<T: Texts, W: Write, E: Write>(
-    rt: &(impl Threads + Sync),
-    alloc: Global,
-    texts: &T,
-    paths: &TrackPaths<'_>,
-    asked: Asked,
-    output: &mut W,
-    faults: &mut E,
-) -> u8
-    ensures { Ran (EndsSo (saying_of asked)
-        (files_at (T.bytes texts.now) (T.can_fail texts.now) paths.now)
-        (W.contents output.old) (W.contents output.new))
-        (E.contents faults.old) (E.contents faults.new) result }
-{
-    let ending = run(rt, alloc, texts, paths, asked, output);
-    ending.answer(faults)
 }

@@ -1,4 +1,4 @@
-use Rattle.td_words.proofs.Asking.{asks_for_check}
+use Rattle.td_words.proofs.Asking.{asks_for_check, check_explains}
 use Rattle.td_words.proofs.WordsApart.{asks_apart}
 use Rattle.td_words.proofs.laws.words_of_a_check_ask_for_it.Goals as goal
 
@@ -7,3 +7,6 @@ returns-clause-joined c = asks_for_check
 
 pub returns-clause-separate : goal.returns-clause-separate
 returns-clause-separate c = asks_apart
+
+pub returns-clause-explained : goal.returns-clause-explained
+returns-clause-explained c = check_explains

@@ -1,4 +1,4 @@
-use Rattle.td_words.proofs.Asking.{asks_for_track}
+use Rattle.td_words.proofs.Asking.{asks_for_track, track_explains}
 use Rattle.td_words.proofs.WordsApart.{asks_for_track_apart}
 use Rattle.td_words.proofs.laws.words_of_a_track_ask_for_it.Goals as goal
 
@@ -7,3 +7,6 @@ returns-clause-joined c = asks_for_track
 
 pub returns-clause-separate : goal.returns-clause-separate
 returns-clause-separate c = asks_for_track_apart
+
+pub returns-clause-explained : goal.returns-clause-explained
+returns-clause-explained c = track_explains

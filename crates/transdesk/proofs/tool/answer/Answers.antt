@@ -1,4 +1,5 @@
 use Rattle.std.proofs.Common.{map, string_bytes}
+use Rattle.td_words.specs.CommandLine.{is_explained, options_of}
 use Rattle.transdesk.proofs.Asks.{simulated, checked, tracked, waved, ran_script, only_asked}
 use Rattle.transdesk.proofs.tool.answer.Goals as goal
 
@@ -14,11 +15,15 @@ returns g c =
     let said = g.E.Write.contents c.act.new.faults in
     let asked = c.read_words.result in
     let status = c.act.result in
+    let explained = is_explained (options_of words) in
+    let ran = c.act.ensures.request in
+    let told = c.act.ensures.fault in
+    let flag = c.read_words.ensures.explained in
     record {
-      simulate = λ program is. simulated words known bytes can_fail old new before said status asked c.act.ensures.request c.act.ensures.fault (c.read_words.ensures.simulate program is);
-      check = λ archs packages sources asks. checked words known bytes can_fail old new before said status asked archs packages sources c.act.ensures.request c.act.ensures.fault (c.read_words.ensures.check archs packages sources asks);
-      track = λ w asks. tracked words known bytes can_fail old new before said status asked w c.act.ensures.request c.act.ensures.fault (c.read_words.ensures.track w asks);
-      waves = λ archs packages sources tracker asks. waved words known bytes can_fail old new before said status asked archs packages sources tracker c.act.ensures.request c.act.ensures.fault (c.read_words.ensures.waves archs packages sources tracker asks);
-      run = λ w asks. ran_script words known bytes can_fail old new before said status asked w c.act.ensures.request c.act.ensures.fault (c.read_words.ensures.run w asks);
-      others = only_asked words known bytes can_fail old new before said status asked c.act.ensures.request c.act.ensures.fault c.read_words.ensures.only;
+      simulate = λ asks. simulated words known bytes can_fail old new before said status asked explained ran told flag (c.read_words.ensures.simulate asks);
+      check = λ archs packages sources asks. checked words known bytes can_fail old new before said status asked explained archs packages sources ran told flag (c.read_words.ensures.check archs packages sources asks);
+      track = λ w asks. tracked words known bytes can_fail old new before said status asked explained w ran told flag (c.read_words.ensures.track w asks);
+      waves = λ archs packages sources tracker asks. waved words known bytes can_fail old new before said status asked explained archs packages sources tracker ran told flag (c.read_words.ensures.waves archs packages sources tracker asks);
+      run = λ w asks. ran_script words known bytes can_fail old new before said status asked explained w ran told flag (c.read_words.ensures.run w asks);
+      others = only_asked words known bytes can_fail old new before said status asked ran told flag c.read_words.ensures.only;
     }

@@ -2,7 +2,7 @@ use Rattle.std.proofs.Common.{IfOk, sym, subst}
 use Rattle.std.proofs.KnownBytes.{Keeps-refl}
 use Rattle.transdesk.specs.TrackInside.{files_at, saying_of, texts_of}
 use Rattle.transdesk.proofs.Sure.{ends_read, ends_unread}
-use Rattle.transdesk.proofs.tracking.run.Goals as goal
+use Rattle.transdesk.proofs.tracking.track.Goals as goal
 
 pub returns-in-Ok : goal.returns-in-Ok
 returns-in-Ok g c =

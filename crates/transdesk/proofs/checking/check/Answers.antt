@@ -1,5 +1,5 @@
 use Rattle.transdesk.proofs.Files.{checks}
-use Rattle.transdesk.proofs.checking.run.Goals as goal
+use Rattle.transdesk.proofs.checking.check.Goals as goal
 
 pub returns : goal.returns
 returns g c =

@@ -1,7 +1,7 @@
 use Rattle.std.proofs.KnownBytes.{Keeps-refl}
 use Rattle.transdesk.specs.RunInside.{run_texts_of}
 use Rattle.transdesk.proofs.SureRuns.{run_played, run_unread}
-use Rattle.transdesk.proofs.running.run_files.Goals as goal
+use Rattle.transdesk.proofs.running.run.Goals as goal
 
 pub returns-in-Ok : goal.returns-in-Ok
 returns-in-Ok g c = run_played _ _ (run_texts_of c.in-Ok.read) _ _ _ _ c.in-Ok.ensures.texts c.play.ensures.says c.play.ensures.only

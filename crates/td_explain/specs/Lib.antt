@@ -1,0 +1,3 @@
+pub mod Spot
+pub mod Shown
+pub mod Explanation

@@ -1,0 +1,115 @@
+//! The line that explains a refusal.
+ghost use Rattle.std.specs.Prelude.{◌≡◌, ◌++◌, ◌<◌, ◌≤◌, ◌^◌, length, option_map, string_bytes, OnOk, IfOk, IfSome};
+ghost use Rattle.td_explain.specs.Explanation.{explanation, found_name, place_name, place_said, said_of, text_at as text_at_of};
+ghost use Rattle.td_explain.specs.Spot.{spot_words};
+
+use crate::shown::put_shown;
+use crate::spot::{Place, Spot, find_spot};
+use std::alloc::{AllocError, Global};
+use std::str;
+use td_text::put_number;
+
+// Appends the place as it is counted.
+fn put_place(out: &mut String, place: Place) -> Result<(), AllocError>
+    ensures { OnOk result (string_bytes out.new ≡ string_bytes out.old ++ place_name place) }
+{
+    match place {
+        Place::Whole => Ok(()),
+        Place::Line(number) => {
+            out.push_str("line ")?;
+            put_number(out, number as u64)
+        }
+        Place::Stanza(number) => {
+            out.push_str("stanza ")?;
+            put_number(out, number as u64)
+        }
+        Place::Byte(at) => {
+            out.push_str("byte ")?;
+            put_number(out, at as u64)
+        }
+    }
+}
+
+// Appends where it is found.
+fn put_found(out: &mut String, place: Place, spot: &Spot<'_>) -> Result<(), AllocError>
+    requires { spot.now.offset < 2 ^ 63 }
+    ensures { OnOk result (string_bytes out.new
+        ≡ string_bytes out.old ++ found_name place (spot_words spot.now)) }
+{
+    match place {
+        Place::Whole | Place::Line(_) => Ok(()),
+        Place::Stanza(_) => {
+            out.push_str(", line ")?;
+            put_number(out, spot.number as u64)
+        }
+        Place::Byte(_) => {
+            out.push_str(", line ")?;
+            put_number(out, spot.number as u64)?;
+            out.push_str(", column ")?;
+            put_number(out, spot.offset as u64 + 1)
+        }
+    }
+}
+
+// The line from the place on; all of it where the place is within a character.
+fn text_at<'a>(spot: &Spot<'a>) -> &'a str
+    requires { spot.now.offset ≤ length spot.now.line.now }
+    ensures { result.now ≡ text_at_of (spot_words spot.now) }
+{
+    let bytes = spot.line.as_bytes();
+    match str::from_utf8(bytes.split_at(spot.offset).1) {
+        Ok(text) => text,
+        Err(_) => spot.line,
+    }
+}
+
+// Appends what stands at the place.
+fn put_said(out: &mut String, place: Place, spot: Option<Spot<'_>>) -> Result<(), AllocError>
+    requires { IfSome spot (λ s. (s.offset ≤ length s.line.now) × (length s.line.now < 2 ^ 63)) }
+    ensures { OnOk result (string_bytes out.new
+        ≡ string_bytes out.old ++ said_of place (option_map spot_words spot.entry)) }
+{
+    put_place(out, place)?;
+    let Some(spot) = spot else {
+        return Ok(());
+    };
+    put_found(out, place, &spot)?;
+    out.push_str(" has ")?;
+    put_shown(out, text_at(&spot))
+}
+
+// Appends the same, and what parts it from what is wanted.
+fn put_where(out: &mut String, place: Place, text: &str) -> Result<(), AllocError>
+    requires { length text.now < 2 ^ 63 }
+    ensures { OnOk result (string_bytes out.new
+        ≡ string_bytes out.old ++ place_said place text.now) }
+{
+    match place {
+        Place::Whole => Ok(()),
+        place => {
+            put_said(out, place, find_spot(text, place))?;
+            out.push_str("; ")
+        }
+    }
+}
+
+/// The line that says what stands at a place of the text with this role, and what is wanted there.
+pub fn explain(
+    alloc: Global,
+    role: &str,
+    place: Place,
+    wanted: &str,
+    text: &str,
+) -> Result<String, AllocError>
+    requires { length text.now < 2 ^ 63 }
+    ensures { IfOk result (λ line. string_bytes line
+        ≡ explanation role.now place wanted.now text.now) }
+{
+    let mut line = String::new(alloc);
+    line.push_str(role)?;
+    put_where(&mut line, place, text)?;
+    line.push_str("wanted: ")?;
+    line.push_str(wanted)?;
+    line.push_str("\n")?;
+    Ok(line)
+}

@@ -1,0 +1,17 @@
+//! What a refusal's place holds, for people: its line, its stanza or its byte, and the text there.
+//!
+//! Start at `explain`: one line from a place in a text, and from what is wanted there. Places count
+//! as the readers of the formats count them, and the text is looked for again by its lines.
+//! Promised: the line is the stated one (`specs/Explanation.antt`), with the text at the first place
+//! that is meant (`specs/Spot.antt`), cut behind 60 characters and with no control character
+//! (`specs/Shown.antt`).
+#![tactic(auto)]
+
+mod explaining;
+mod shown;
+mod spot;
+#[cfg(test)]
+mod tests;
+
+pub use explaining::explain;
+pub use spot::Place;
