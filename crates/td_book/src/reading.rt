@@ -2,7 +2,8 @@
 ghost use Rattle.std.specs.Prelude.{◌≡◌};
 ghost use Rattle.std.specs.Option.{option_copied};
 ghost use Rattle.td_rows.specs.Table.{row_of};
-ghost use Rattle.td_journal.specs.Entries.{entry_at};
+ghost use Rattle.td_journal.specs.Entries.{entry_at, standing};
+ghost use Rattle.td_journal.specs.Replay.{Lawful};
 ghost use Rattle.td_core.specs.History.{rows_of};
 ghost use Rattle.td_core.specs.Offers.{supply_now};
 
@@ -14,7 +15,8 @@ use td_supply::Supply;
 impl<'a> Book<'a> {
     /// The rows as they are.
     pub fn rows(&self) -> &Rows
-        ensures { result.now ≡ rows_of self.now.history }
+        ensures rows { result.now ≡ rows_of self.now.history }
+        ensures lawful { Lawful self.now.history.opening (standing self.now.history.journal) }
     {
         self.inner.books.rows()
     }
