@@ -47,6 +47,7 @@ impl<'a, N: Named, C: Ledger> Desk<'a, N, C> {
     ) -> Result<(Desk<'a, N, C>, Clerk<C>), AllocError>
         requires board { board.table ≡ N.table }
         requires seat { seat.table ≡ N.table }
+        requires origin { N.origin ≡ rows }
         requires opened { N.opened ≡ [] }
         requires fresh_seat { seat.desk ≡ new_desk (length rows) (length seat.desk.noted) }
         requires idle { NoneBuilt rows }
