@@ -1,6 +1,6 @@
 -- What is read of the texts, layer by layer.
 use Rattle.std.proofs.Common.{◌≡◌, ◌↔◌, ℕ, List, [], ◌∷◌, false, Option, Some, None, Result, Ok, Err, IfOk, IfErr, refl, sym, ap, subst, ◌∙◌, option_map, unwrap_or, map}
-use Rattle.std.specs.Prelude.{MatchResult}
+use Rattle.std.specs.Prelude.{MatchResult, string_bytes}
 use Rattle.td_text.specs.Lines.{lines_of}
 use Rattle.td_relation.specs.Arch.{ArchWords}
 use Rattle.td_relation.specs.TableFile.{IsTable}
@@ -41,7 +41,8 @@ use Rattle.td_script.specs.declared.told.Told.{Told as ToldText}
 use Rattle.td_script.specs.Replies.{Setting}
 use Rattle.td_script.specs.Reporting.{report_with}
 use Rattle.td_script.specs.Script.{IsTold, Told, script, told_of}
-use Rattle.td_script.specs.OpeningInside.{IsRefusedBy, IsRefusedIn, IsReplacedIn, IsToldOf, IsTrackerOf, Tells, of_archive, of_state, of_table, of_tracker}
+use Rattle.td_script.specs.Ends.{IsAnswered}
+use Rattle.td_script.specs.OpeningInside.{IsRefusedBy, IsRefusedIn, IsReplacedIn, IsTrackerOf, Tells, of_archive, of_state, of_table, of_tracker}
 use Rattle.td_script.specs.Openings.{AreOpened, AreReports, AreRowsOf, IsArchiveOf, IsSetOver, Texts}
 
 -- ---- 1. faults
@@ -140,19 +141,19 @@ fresh_supply s k is = is ∙ ap opened_stock (sym (stock-opened s k is))
 
 -- what is told from a book that opens so
 pub told_from : (b new : BookModel) (stock : Stock) (suites : List (List ℕ)) (suite : List ℕ) (report : Option (Table → List ℕ)) (lent rows : Table) (text : List ℕ) (told : ToldText) → IsTold (record { stock = b.fixed.stock; suites = suites; report = report }) text b new told → b.history ≡ opened lent → b.fixed.stock ≡ stock → lent ≡ rows → suites ≡ suite ∷ []
-    → IsToldOf (record { stock = stock; suites = suite ∷ []; report = report }) rows text told
+    → IsAnswered (record { stock = stock; suites = suite ∷ []; report = report }) rows text (string_bytes told.text) told.refused
 told_from b new stock suites suite report lent rows text told h is offers same its =
     let e : told_of told new.history ≡ script (record { stock = stock; suites = suite ∷ []; report = report }) (opened rows) text =
     h.is
     ∙ ap (λ (x : Stock). script (record { stock = x; suites = suites; report = report }) b.history text) offers
     ∙ ap (λ (x : List (List ℕ)). script (record { stock = stock; suites = x; report = report }) b.history text) its
     ∙ ap (λ (x : History). script (record { stock = stock; suites = suite ∷ []; report = report }) x text) (is ∙ ap opened same) in
-    record { text = ap (λ (t : Told). t.text) e; refused = ap (λ (t : Told). t.refused) e }
+    record { text_is = ap (λ (t : Told). t.text) e; refused_is = ap (λ (t : Told). t.refused) e }
 
 -- over what the texts say
-pub tells_from : (x : Texts) (c : Contents) (s : Setting) (lent rows : Table) (text : List ℕ) (r : Result ToldText RunFault) → IfOk r (IsToldOf s lent text) → IfErr r (λ f. f ≡ NoMemory) → IsArchiveOf x c → IsSetOver c x s rows → lent ≡ rows → MatchResult r (Tells x text) (IsRefusedBy x)
-tells_from x c s lent rows text (Ok told) is memory archive set same = (s, rows, (c, archive, set), subst (λ (t : Table). IsToldOf s t text told) same is)
-tells_from x c s lent rows text (Err e) is memory archive set same = subst (IsRefusedBy x) (sym memory) tt
+pub tells_from : (May : Setting → Table → List ℕ → List ℕ → ℕ → Type 0) (x : Texts) (c : Contents) (s : Setting) (lent rows : Table) (text : List ℕ) (r : Result ToldText RunFault) → IfOk r (λ t. May s lent text (string_bytes t.text) t.refused) → IfErr r (λ f. f ≡ NoMemory) → IsArchiveOf x c → IsSetOver c x s rows → lent ≡ rows → MatchResult r (Tells May x text) (IsRefusedBy x)
+tells_from May x c s lent rows text (Ok told) is memory archive set same = (s, rows, (c, archive, set), subst (λ (t : Table). May s t text (string_bytes told.text) told.refused) same is)
+tells_from May x c s lent rows text (Err e) is memory archive set same = subst (IsRefusedBy x) (sym memory) tt
 
 -- the reports of a tracker
 pub tracker_reports : (x : Texts) (c a : Contents) (t u : Tracking) (level : List ℕ → Option Level) (depth : ℕ) (report : Table → List ℕ) → a ≡ c → u ≡ t → IsTrackerOf x t → AreLevels a u level depth → ((rows : Table) → report rows ≡ report_with a u level depth rows) → AreReports c x.tracker (Some report)

@@ -26,23 +26,32 @@ pub record IsScript (known : Option (List ℕ)) (text : List ℕ) : Type 0 where
 abbrev pub told_over : Setting → Table → List ℕ → Told
 told_over s rows text = script s (opened rows) text
 
--- what was read is a script, and this is so of what is told of it over what the texts say
-abbrev pub Plays : Texts → Option (List ℕ) → (Told → Type 0) → Type 0
-Plays x known So = (s : Setting) × (rows : Table) × IsSet x s rows × ((text : List ℕ) × IsScript known text × So (told_over s rows text))
+-- a script is answered from these rows with this text and so many refusals: as a clerk alone answers it
+pub record IsAnswered (s : Setting) (rows : Table) (script text : List ℕ) (refused : ℕ) : Type 0 where
+  pub text_is : text ≡ (told_over s rows script).text
+  pub refused_is : refused ≡ (told_over s rows script).refused
+
+-- what was read is a script, and this is so of a text and a number of refusals that may be told of it, so, over what the texts say
+abbrev pub Plays : (Setting → Table → List ℕ → List ℕ → ℕ → Type 0) → Texts → Option (List ℕ) → (List ℕ → ℕ → Type 0) → Type 0
+Plays May x known So = (s : Setting) × (rows : Table) × IsSet x s rows × ((script : List ℕ) × IsScript known script × ((text : List ℕ) × (refused : ℕ) × May s rows script text refused × So text refused))
 
 -- the texts say something: no fault of a script comes before one of theirs
 abbrev pub AreFine : Texts → Type 0
 AreFine x = (s : Setting) × (rows : Table) × IsSet x s rows
 
--- what an end says: the whole text is written and its refusals are counted, or a front of it where the writer failed; at every other fault nothing is written
+-- what an end says where this may be told of a script: the whole text is written and its refusals are counted, or a front of it where the writer failed; at every other fault nothing is written
+abbrev pub SaysBy : (Setting → Table → List ℕ → List ℕ → ℕ → Type 0) → Texts → Option (List ℕ) → Option (List ℕ) → Option (List ℕ) → Result ScriptEnd RunFault → Type 0
+SaysBy May x known old new (Ok end) = Plays May x known (λ text refused. (end.refusals ≡ refused) × Appends old new text)
+SaysBy May x known old new (Err (Input e)) = IsRefused x e × Keeps old new
+SaysBy May x known old new (Err Read) = AreFine x × Keeps old new
+SaysBy May x known old new (Err TooLong) = AreFine x × IfSome known (λ all. SCRIPT_LIMIT < length all) × Keeps old new
+SaysBy May x known old new (Err NotText) = AreFine x × IfSome known (λ all. (length all ≤ SCRIPT_LIMIT) × ¬ IsUtf8 all) × Keeps old new
+SaysBy May x known old new (Err Write) = Plays May x known (λ text refused. AppendsPrefix old new text)
+SaysBy May x known old new (Err NoMemory) = Keeps old new
+
+-- the same where a clerk alone answers it
 abbrev pub Says : Texts → Option (List ℕ) → Option (List ℕ) → Option (List ℕ) → Result ScriptEnd RunFault → Type 0
-Says x known old new (Ok end) = Plays x known (λ told. (end.refusals ≡ told.refused) × Appends old new told.text)
-Says x known old new (Err (Input e)) = IsRefused x e × Keeps old new
-Says x known old new (Err Read) = AreFine x × Keeps old new
-Says x known old new (Err TooLong) = AreFine x × IfSome known (λ all. SCRIPT_LIMIT < length all) × Keeps old new
-Says x known old new (Err NotText) = AreFine x × IfSome known (λ all. (length all ≤ SCRIPT_LIMIT) × ¬ IsUtf8 all) × Keeps old new
-Says x known old new (Err Write) = Plays x known (λ told. AppendsPrefix old new told.text)
-Says x known old new (Err NoMemory) = Keeps old new
+Says x known old new r = SaysBy IsAnswered x known old new r
 
 -- why a run over readable texts may stop, where the reader has a script: a stream or memory fails, or `regex` refuses a pattern
 abbrev pub MayStop : Texts → RunFault → Type 0

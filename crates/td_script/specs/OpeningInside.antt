@@ -23,7 +23,7 @@ use Rattle.td_script.specs.declared.input_fault.InputFault.TheVariants as fault
 use Rattle.td_script.specs.declared.running.RunFault.{RunFault}
 use Rattle.td_script.specs.declared.running.RunFault.TheVariants.{Input, Read, TooLong, NotText, Write, NoMemory}
 use Rattle.td_script.specs.declared.told.Told.{Told as ToldText}
-use Rattle.td_script.specs.Ends.{AreFine, told_over}
+use Rattle.td_script.specs.Ends.{AreFine}
 use Rattle.td_script.specs.Openings.{IsNoState, IsPatternRefused, IsReadableOver, IsRefused, IsSet, Texts}
 use Rattle.td_script.specs.Replies.{Setting}
 
@@ -97,14 +97,9 @@ IsRefusedIn opened text NoMemory = Unit {0}
 abbrev pub IsTrackerOf : Texts → Tracking → Type 0
 IsTrackerOf x t = (text : List ℕ) × (x.tracker ≡ Some text) × IsTracker text t
 
--- this is told of a script from these rows
-pub record IsToldOf (s : Setting) (rows : Table) (script : List ℕ) (told : ToldText) : Type 0 where
-  pub text : string_bytes told.text ≡ (told_over s rows script).text
-  pub refused : told.refused ≡ (told_over s rows script).refused
-
--- the same over what the texts say
-abbrev pub Tells : Texts → List ℕ → ToldText → Type 0
-Tells x script told = (s : Setting) × (rows : Table) × IsSet x s rows × IsToldOf s rows script told
+-- this is told of a script over what the texts say
+abbrev pub Tells : (Setting → Table → List ℕ → List ℕ → ℕ → Type 0) → Texts → List ℕ → ToldText → Type 0
+Tells May x script told = (s : Setting) × (rows : Table) × IsSet x s rows × May s rows script (string_bytes told.text) told.refused
 
 -- no script was read, for this: a text is refused before it, or memory runs out
 abbrev pub IsUnread : Texts → TextFault → Result ToldText RunFault → Type 0

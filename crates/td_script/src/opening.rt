@@ -1,5 +1,5 @@
 //! What is told of a script over the texts of files.
-ghost use Rattle.std.specs.Prelude.{◌≡◌, ◌<◌, ◌^◌, ◌-◌, ◌∷◌, [], None, Some, IfOk, IfErr, IfSome, MatchResult, length, option_map};
+ghost use Rattle.std.specs.Prelude.{◌≡◌, ◌<◌, ◌^◌, ◌-◌, ◌∷◌, [], None, Some, IfOk, IfErr, IfSome, MatchResult, length, option_map, string_bytes};
 ghost use Rattle.td_text.specs.Lines.{lines_of};
 ghost use Rattle.td_relation.specs.TableFile.{IsTable};
 ghost use Rattle.td_relation.specs.TableView.{table};
@@ -9,16 +9,15 @@ ghost use Rattle.td_script.specs.Openings.{AreReadable, AreRowsOf, IsArchiveOf, 
 ghost use Rattle.td_book.specs.Desk.{Fixed};
 ghost use Rattle.td_query.specs.Tracking.{IsTracker, Tracking, tracking};
 ghost use Rattle.td_rows.specs.Table.{Table};
-ghost use Rattle.td_script.specs.OpeningInside.{AreReadableWith, CanReplace, Stops, IsRefusedBy, IsRefusedIn, IsReplacedIn, IsToldOf, IsTrackerOf, Tells, of_archive, of_state, of_table, of_tracker};
+ghost use Rattle.td_script.specs.OpeningInside.{AreReadableWith, CanReplace, Stops, IsRefusedBy, IsRefusedIn, IsReplacedIn, IsTrackerOf, Tells, of_archive, of_state, of_table, of_tracker};
 
 use crate::input_fault::InputFault;
 use crate::inputs::Inputs;
 use crate::reports::Reports;
 use crate::running::RunFault;
-use crate::told::{Told, tell};
-use std::alloc::{AllocError, Global};
-use td_board::Board;
-use td_book::Book;
+use crate::staff::Staff;
+use crate::told::Told;
+use std::alloc::Global;
 use td_indices::{Archive, ArchiveFault};
 use td_query::{Tracker, TrackerFault};
 use td_relation::{Archs, ArchsFault};
@@ -103,8 +102,9 @@ fn rows_of(alloc: Global, archive: &Archive<'_, '_>, inputs: &Inputs) -> Result<
 }
 
 // What is told of a script from these rows, over what an archive offers.
-fn tell_from<T: Reports>(
+fn tell_from<S: Staff, T: Reports>(
     alloc: Global,
+    staff: &S,
     archive: &Archive<'_, '_>,
     rows: Rows,
     suite: &str,
@@ -114,46 +114,19 @@ fn tell_from<T: Reports>(
     requires idle { NoneBuilt rows }
     requires fits { IfSome reports (λ r. (f : Fixed) → T.fits r.now f) }
     requires small { length script.now < 2 ^ 63 - 1 }
-    ensures told { IfOk result (IsToldOf (record { stock = supply_of archive.now; suites = suite.now ∷ []; report = option_map (λ r. T.text r.now) reports.entry }) rows script.now) }
+    ensures told { IfOk result (λ told. S.tells staff.now (record { stock = supply_of archive.now; suites = suite.now ∷ []; report = option_map (λ r. T.text r.now) reports.entry }) rows script.now (string_bytes told.text) told.refused) }
     ensures memory { IfErr result (λ fault. fault ≡ RunFault.NoMemory) }
 {
-    match tell_in(alloc, archive, rows, suite, reports, script) {
+    match staff.tell(alloc, archive, rows, suite, reports, script) {
         Ok(told) => Ok(told),
         Err(_) => Err(RunFault::NoMemory),
     }
 }
 
-// The same, where nothing but memory may be wanting.
-fn tell_in<T: Reports>(
-    alloc: Global,
-    archive: &Archive<'_, '_>,
-    rows: Rows,
-    suite: &str,
-    reports: Option<&T>,
-    script: &str,
-) -> Result<Told, AllocError>
-    requires idle { NoneBuilt rows }
-    requires fits { IfSome reports (λ r. (f : Fixed) → T.fits r.now f) }
-    requires small { length script.now < 2 ^ 63 - 1 }
-    ensures { IfOk result (IsToldOf (record { stock = supply_of archive.now; suites = suite.now ∷ []; report = option_map (λ r. T.text r.now) reports.entry }) rows script.now) }
-{
-    let Ok((board, desk, _seats)) = Board::make(alloc, rows.len(), 0) else {
-        return Err(AllocError);
-    };
-    let mut book = Book::open(alloc, &board, desk, rows, archive.supply()?)?;
-    tell(
-        alloc,
-        &mut book,
-        &board,
-        [suite].as_slice(),
-        reports,
-        script,
-    )
-}
-
 // The same, with the reports of a tracker.
-fn tell_tracked(
+fn tell_tracked<S: Staff>(
     alloc: Global,
+    staff: &S,
     archive: &Archive<'_, '_>,
     tracker: &Tracker<'_>,
     rows: Rows,
@@ -165,19 +138,28 @@ fn tell_tracked(
     requires tracker { IsTrackerOf (texts_of inputs.now) (tracking tracker.now) }
     requires idle { NoneBuilt rows }
     requires small { length script.now < 2 ^ 63 - 1 }
-    ensures tells { MatchResult result (Tells (texts_of inputs.now) script.now) (IsRefusedBy (texts_of inputs.now)) }
+    ensures tells { MatchResult result (Tells (S.tells staff.now) (texts_of inputs.now) script.now) (IsRefusedBy (texts_of inputs.now)) }
     ensures memory { IfErr result (λ fault. fault ≡ RunFault.NoMemory) }
 {
     let Ok(transition) = Transition::of(alloc, archive, tracker) else {
         return Err(RunFault::NoMemory);
     };
     let suite = inputs.suite.as_str();
-    tell_from(alloc, archive, rows, suite, Some(&transition), script)
+    tell_from(
+        alloc,
+        staff,
+        archive,
+        rows,
+        suite,
+        Some(&transition),
+        script,
+    )
 }
 
 // The same, with the reports of the tracker of a text.
-fn tell_with_tracker(
+fn tell_with_tracker<S: Staff>(
     alloc: Global,
+    staff: &S,
     archive: &Archive<'_, '_>,
     rows: Rows,
     text: &str,
@@ -189,18 +171,19 @@ fn tell_with_tracker(
     requires tracker { (texts_of inputs.now).tracker ≡ Some text.now }
     requires idle { NoneBuilt rows }
     requires small { length script.now < 2 ^ 63 - 1 }
-    ensures tells { MatchResult result (Tells (texts_of inputs.now) script.now) (IsRefusedBy (texts_of inputs.now)) }
+    ensures tells { MatchResult result (Tells (S.tells staff.now) (texts_of inputs.now) script.now) (IsRefusedBy (texts_of inputs.now)) }
     ensures only { IfErr result (λ fault. (t : Tracking) → IsTracker text.now t → Stops (texts_of inputs.now) fault) }
 {
     match Tracker::read(alloc, text) {
-        Ok(tracker) => tell_tracked(alloc, archive, &tracker, rows, inputs, script),
+        Ok(tracker) => tell_tracked(alloc, staff, archive, &tracker, rows, inputs, script),
         Err(fault) => Err(fault_of_tracker(fault)),
     }
 }
 
 // The same without reports.
-fn tell_untracked(
+fn tell_untracked<S: Staff>(
     alloc: Global,
+    staff: &S,
     archive: &Archive<'_, '_>,
     rows: Rows,
     inputs: &Inputs,
@@ -211,24 +194,25 @@ fn tell_untracked(
     requires tracker { (texts_of inputs.now).tracker ≡ None }
     requires idle { NoneBuilt rows }
     requires small { length script.now < 2 ^ 63 - 1 }
-    ensures tells { MatchResult result (Tells (texts_of inputs.now) script.now) (IsRefusedBy (texts_of inputs.now)) }
+    ensures tells { MatchResult result (Tells (S.tells staff.now) (texts_of inputs.now) script.now) (IsRefusedBy (texts_of inputs.now)) }
     ensures memory { IfErr result (λ fault. fault ≡ RunFault.NoMemory) }
 {
     let suite = inputs.suite.as_str();
     let none = Option::<&Transition<'_, '_, '_, '_>>::None;
-    tell_from(alloc, archive, rows, suite, none, script)
+    tell_from(alloc, staff, archive, rows, suite, none, script)
 }
 
 // What is told of a script over an archive.
-fn tell_over_archive(
+fn tell_over_archive<S: Staff>(
     alloc: Global,
+    staff: &S,
     archive: &Archive<'_, '_>,
     inputs: &Inputs,
     script: &str,
 ) -> Result<Told, RunFault>
     requires archive { IsArchiveOf (texts_of inputs.now) archive.now }
     requires small { length script.now < 2 ^ 63 - 1 }
-    ensures tells { MatchResult result (Tells (texts_of inputs.now) script.now) (IsRefusedBy (texts_of inputs.now)) }
+    ensures tells { MatchResult result (Tells (S.tells staff.now) (texts_of inputs.now) script.now) (IsRefusedBy (texts_of inputs.now)) }
     ensures only { IfErr result (λ fault. IsReadableOver archive.now (texts_of inputs.now) → Stops (texts_of inputs.now) fault) }
 {
     let rows = match rows_of(alloc, archive, inputs) {
@@ -236,39 +220,45 @@ fn tell_over_archive(
         Err(fault) => return Err(fault),
     };
     match &inputs.tracker {
-        Some(text) => tell_with_tracker(alloc, archive, rows, text.as_str(), inputs, script),
-        None => tell_untracked(alloc, archive, rows, inputs, script),
+        Some(text) => tell_with_tracker(alloc, staff, archive, rows, text.as_str(), inputs, script),
+        None => tell_untracked(alloc, staff, archive, rows, inputs, script),
     }
 }
 
 // The same, over the indices and a table.
-fn tell_over_table(
+fn tell_over_table<S: Staff>(
     alloc: Global,
+    staff: &S,
     archs: &Archs<'_>,
     inputs: &Inputs,
     script: &str,
 ) -> Result<Told, RunFault>
     requires table { IsTable (lines_of (texts_of inputs.now).archs) (table archs.now) }
     requires small { length script.now < 2 ^ 63 - 1 }
-    ensures tells { MatchResult result (Tells (texts_of inputs.now) script.now) (IsRefusedBy (texts_of inputs.now)) }
+    ensures tells { MatchResult result (Tells (S.tells staff.now) (texts_of inputs.now) script.now) (IsRefusedBy (texts_of inputs.now)) }
     ensures only { IfErr result (λ fault. AreReadableWith (table archs.now) (texts_of inputs.now) → Stops (texts_of inputs.now) fault) }
 {
     let packages = inputs.packages.as_str();
     let sources = inputs.sources.as_str();
     match Archive::read(alloc, packages, sources, archs) {
-        Ok(archive) => tell_over_archive(alloc, &archive, inputs, script),
+        Ok(archive) => tell_over_archive(alloc, staff, &archive, inputs, script),
         Err(fault) => Err(fault_of_archive(fault)),
     }
 }
 
 /// What is told of a script over the texts of files: these are judged first.
-pub fn tell_over(alloc: Global, inputs: &Inputs, script: &str) -> Result<Told, RunFault>
+pub fn tell_over<S: Staff>(
+    alloc: Global,
+    staff: &S,
+    inputs: &Inputs,
+    script: &str,
+) -> Result<Told, RunFault>
     requires { length script.now < 2 ^ 63 - 1 }
-    ensures tells { MatchResult result (Tells (texts_of inputs.now) script.now) (IsRefusedBy (texts_of inputs.now)) }
+    ensures tells { MatchResult result (Tells (S.tells staff.now) (texts_of inputs.now) script.now) (IsRefusedBy (texts_of inputs.now)) }
     ensures only { IfErr result (λ fault. AreReadable (texts_of inputs.now) → Stops (texts_of inputs.now) fault) }
 {
     match Archs::read(alloc, inputs.archs.as_str()) {
-        Ok(archs) => tell_over_table(alloc, &archs, inputs, script),
+        Ok(archs) => tell_over_table(alloc, staff, &archs, inputs, script),
         Err(fault) => Err(fault_of_table(fault)),
     }
 }

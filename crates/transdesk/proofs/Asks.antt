@@ -47,18 +47,18 @@ track_with Says bytes can_fail old new before said status a b p q s t state give
     subst (λ x. Ran (EndsSo Says (track_files bytes can_fail b q t given x) old new) before said status) fifth four
 
 -- and a run
-pub run_with : (bytes : List ℕ → Option (List ℕ)) (can_fail : List ℕ → TextFault → Bool) (known old new before said : Option (List ℕ)) (status : ℕ) (a b p q s t : List ℕ) (st ts tr rt ou uo jo oj : Option (List ℕ)) (k l : List ℕ)
+pub run_with : (bytes : List ℕ → Option (List ℕ)) (can_fail : List ℕ → TextFault → Bool) (known old new before said : Option (List ℕ)) (status : ℕ) (a b p q s t : List ℕ) (st ts tr rt ou uo jo oj : Option (List ℕ)) (n : ℕ) (k l : List ℕ)
     → a ≡ b → p ≡ q → s ≡ t → st ≡ ts → tr ≡ rt → ou ≡ uo → jo ≡ oj → k ≡ l
-    → Ran (EndsRun (run_files bytes can_fail a p s st tr ou jo) k known old new) before said status → Ran (EndsRun (run_files bytes can_fail b q t ts rt uo oj) l known old new) before said status
-run_with bytes can_fail known old new before said status a b p q s t st ts tr rt ou uo jo oj k l first second third fourth fifth sixth seventh eighth ran =
-    let one = subst (λ x. Ran (EndsRun (run_files bytes can_fail x p s st tr ou jo) k known old new) before said status) first ran in
-    let two = subst (λ x. Ran (EndsRun (run_files bytes can_fail b x s st tr ou jo) k known old new) before said status) second one in
-    let three = subst (λ x. Ran (EndsRun (run_files bytes can_fail b q x st tr ou jo) k known old new) before said status) third two in
-    let four = subst (λ x. Ran (EndsRun (run_files bytes can_fail b q t x tr ou jo) k known old new) before said status) fourth three in
-    let five = subst (λ x. Ran (EndsRun (run_files bytes can_fail b q t ts x ou jo) k known old new) before said status) fifth four in
-    let six = subst (λ x. Ran (EndsRun (run_files bytes can_fail b q t ts rt x jo) k known old new) before said status) sixth five in
-    let seven = subst (λ x. Ran (EndsRun (run_files bytes can_fail b q t ts rt uo x) k known old new) before said status) seventh six in
-    subst (λ x. Ran (EndsRun (run_files bytes can_fail b q t ts rt uo oj) x known old new) before said status) eighth seven
+    → Ran (EndsRun (run_files bytes can_fail a p s st tr ou jo n) k known old new) before said status → Ran (EndsRun (run_files bytes can_fail b q t ts rt uo oj n) l known old new) before said status
+run_with bytes can_fail known old new before said status a b p q s t st ts tr rt ou uo jo oj n k l first second third fourth fifth sixth seventh eighth ran =
+    let one = subst (λ x. Ran (EndsRun (run_files bytes can_fail x p s st tr ou jo n) k known old new) before said status) first ran in
+    let two = subst (λ x. Ran (EndsRun (run_files bytes can_fail b x s st tr ou jo n) k known old new) before said status) second one in
+    let three = subst (λ x. Ran (EndsRun (run_files bytes can_fail b q x st tr ou jo n) k known old new) before said status) third two in
+    let four = subst (λ x. Ran (EndsRun (run_files bytes can_fail b q t x tr ou jo n) k known old new) before said status) fourth three in
+    let five = subst (λ x. Ran (EndsRun (run_files bytes can_fail b q t ts x ou jo n) k known old new) before said status) fifth four in
+    let six = subst (λ x. Ran (EndsRun (run_files bytes can_fail b q t ts rt x jo n) k known old new) before said status) sixth five in
+    let seven = subst (λ x. Ran (EndsRun (run_files bytes can_fail b q t ts rt uo x n) k known old new) before said status) seventh six in
+    subst (λ x. Ran (EndsRun (run_files bytes can_fail b q t ts rt uo oj n) x known old new) before said status) eighth seven
 
 -- want of memory may end each
 check_lacks : (files : Files) (old new before said : Option (List ℕ)) (status : ℕ) → IsTold words_fault.NoMemory old new before said status → Ran (Checks files old new) before said status

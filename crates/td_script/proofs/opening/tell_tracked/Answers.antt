@@ -8,10 +8,10 @@ use Rattle.td_script.proofs.OpeningLaws.{tells_from, tracker_reports}
 use Rattle.td_script.proofs.opening.tell_tracked.Goals as goal
 
 pub returns-clause-tells : goal.returns-clause-tells
-returns-clause-tells c =
+returns-clause-tells g c =
     let x = texts_of c.args.inputs.now in
     let y = c.in-Ok.transition in
-    tells_from x c.args.archive.now (record { stock = supply_of c.args.archive.now; suites = c.as_str-suite.result.now ∷ []; report = Some (report_by y) }) _ c.args.rows c.args.script.now c.tell_from.result
+    tells_from (g.S.Staff.tells c.args.staff.now) x c.args.archive.now (record { stock = supply_of c.args.archive.now; suites = c.as_str-suite.result.now ∷ []; report = Some (report_by y) }) _ c.args.rows c.args.script.now c.tell_from.result
     c.tell_from.ensures.told c.tell_from.ensures.memory c.requires.archive
     (record {
       rows_are = c.requires.rows;

@@ -1,7 +1,7 @@
 use Rattle.std.proofs.Common.{ap, ◌∙◌, rules}
 use Rattle.std.proofs.lemmas.Result.{IfOk-weaker}
 use Rattle.td_script.proofs.OpeningLaws.{fresh_supply, stock-opened, told_from}
-use Rattle.td_script.proofs.opening.tell_in.Goals as goal
+use Rattle.td_script.proofs.staff.AloneStaff.tell.Goals as goal
 
 pub open-requires-clause-fresh_supply : goal.open-requires-clause-fresh_supply
 open-requires-clause-fresh_supply g c = fresh_supply _ _ c.in_ok-supply.ensures
