@@ -1,12 +1,12 @@
 -- The words of each subcommand ask for it with their values as words of their own.
-use Rattle.std.proofs.Common.{◌≡◌, ℕ, List, [], ◌∷◌, Option, Some, None, unwrap_or, codes, refl, sym, ap, subst, ◌∙◌}
+use Rattle.std.proofs.Common.{◌≡◌, ℕ, List, [], ◌∷◌, Option, Some, None, unwrap_or, codes, refl, sym, ap, subst}
 use Rattle.std.specs.Prelude.{find}
 use Rattle.std.specs.Str.{bytes_eq}
 use Rattle.clap.specs.Kinds.{or_else}
 use Rattle.clap.specs.Walk.{Row, finished, nothing_held, walk_from}
 use Rattle.clap.specs.Simple.{Shape, built, subcommand_of}
 use Rattle.clap.proofs.OnLiterals.{clap_on_literals}
-use Rattle.td_words.specs.CommandLine.{AskForCheck, AskForRun, AskForTrack, AskForWaves, HasFiles, HasRun, HasTrack, HasTracker, IsPlainPath, RunWords, TrackWords, asking_apart, builders_at, check_shape, chunk_in, desk, faults_of, name_in, plain_run, rows_in, run_shape, track_shape, waves_shape}
+use Rattle.td_words.specs.CommandLine.{AskForCheck, AskForTrack, HasFiles, HasRun, HasTrack, HasTracker, IsPlainPath, RunWords, TrackWords, asking_apart, check_shape, chunk_in, desk, faults_of, name_in, plain_run, rows_in, run_shape, track_shape, waves_shape}
 use Rattle.td_words.specs.WordsApart.{AreDeskPlain, ArePlain, DeskValues, IsPlainIfGiven, SeparatePlainRunWordsAsk, SeparateTrackWordsAsk, SeparateWavesWordsAsk, SeparateWholeRunWordsAsk, plain_run_apart, track_apart, waves_apart, whole_run_apart}
 use Rattle.td_words.proofs.Apart.{Given, Opens, ended, level_passes, walk_is}
 
