@@ -1,7 +1,8 @@
-use crate::{StanzaFault, stanzas};
-use std::alloc::Global;
+use crate::{StanzaFault, stanzas, stanzas_beside};
+use std::alloc::{AllocError, Global};
 use std::process::Abort;
 use std::test::Fail;
+use std::thread::Threads;
 
 /// The fields of all stanzas, an empty line behind each stanza.
 fn shown(alloc: Global, text: &str) -> Result<String, Fail> {
@@ -146,5 +147,35 @@ fn stanzas_of_the_archive_are_read(rt: HostRuntime) -> Result<(), Fail> {
     assert_eq!(rt; stanza.get("files"), Some(files));
     assert_eq!(rt; stanza.get("Directory"), Some("pool/main/0/0ad"));
     assert_eq!(rt; stanza.len(), 8);
+    Ok(())
+}
+
+// So many stanzas of 23 bytes, of three lines each.
+fn many(alloc: Global, count: usize) -> Result<String, AllocError> {
+    let mut text = String::new(alloc);
+    for _ in 0..count {
+        text.push_str("Package: a\nVersion: 1\n\n")?;
+    }
+    Ok(text)
+}
+
+// How many stanzas a text has that is read in pieces.
+fn count_beside(
+    rt: &(impl Threads + Sync),
+    alloc: Global,
+    text: &str,
+) -> Result<usize, StanzaFault> {
+    let list = stanzas_beside(rt, alloc, text)?;
+    Ok(list.len())
+}
+
+// A text of 282,624 bytes is read in four pieces: each stanza once, and a fault by its line in the whole.
+#[test]
+fn a_long_text_is_read_in_pieces(rt: HostRuntime) -> Result<(), Fail> {
+    let mut text = many(rt.alloc(), 12288)?;
+    assert_eq!(rt; count_beside(&rt, rt.alloc(), text.as_str()), Ok(12288));
+    text.push_str("Package\n")?;
+    let fault = StanzaFault::NoColon(36865);
+    assert_eq!(rt; count_beside(&rt, rt.alloc(), text.as_str()), Err(fault));
     Ok(())
 }
