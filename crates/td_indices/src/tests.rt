@@ -7,6 +7,7 @@ use answers::are_answered;
 use std::alloc::{AllocError, Global};
 use std::process::Abort;
 use std::test::Fail;
+use std::thread::Threads;
 use td_relation::Archs;
 use td_stanza::StanzaFault;
 
@@ -184,6 +185,28 @@ fn rows_of(rt: &impl Abort, alloc: Global, table: &str, sources: &str) -> Option
     }
 }
 
+fn counts_beside(
+    rt: &(impl Abort + Threads + Sync),
+    alloc: Global,
+) -> Option<(usize, usize, usize)> {
+    let Ok(archs) = Archs::read(alloc, ARCHS) else {
+        panic!(rt; "the table is read");
+    };
+    match Archive::read_beside(rt, alloc, PACKAGES, SOURCES, &archs) {
+        Ok(archive) => Some((
+            archive.source_count(),
+            archive.binary_count(),
+            archive.row_count(),
+        )),
+        Err(_) => None,
+    }
+}
+
+#[test]
+fn a_small_archive_is_read_side_by_side(rt: HostRuntime) {
+    assert_eq!(rt; counts_beside(&rt, rt.alloc()), Some((2, 4, 4)));
+}
+
 // 32,768 sources on 32 architectures have the 1,048,576 rows that a desk may have.
 #[test]
 fn one_row_too_many_is_too_many_rows(rt: HostRuntime) -> Result<(), Fail> {
@@ -198,8 +221,9 @@ fn one_row_too_many_is_too_many_rows(rt: HostRuntime) -> Result<(), Fail> {
     Ok(())
 }
 
+// The two texts are refused for this, one after the other and side by side.
 fn is_refused<'x>(
-    rt: &impl Abort,
+    rt: &(impl Abort + Threads + Sync),
     alloc: Global,
     table: &'x str,
     packages: &'x str,
@@ -211,6 +235,10 @@ fn is_refused<'x>(
     };
     match Archive::read(alloc, packages, sources, &archs) {
         Ok(_) => panic!(rt; "read: {packages}{sources}"),
+        Err(fault) => assert_eq!(rt; fault, wanted, "{packages}{sources}"),
+    }
+    match Archive::read_beside(rt, alloc, packages, sources, &archs) {
+        Ok(_) => panic!(rt; "read side by side: {packages}{sources}"),
         Err(fault) => assert_eq!(rt; fault, wanted, "{packages}{sources}"),
     }
 }
