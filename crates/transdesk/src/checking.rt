@@ -13,6 +13,7 @@ use crate::file_texts::{FileFault, FileTexts, read_files};
 use crate::texts::Texts;
 use std::alloc::{AllocError, Global};
 use std::io::Write;
+use std::thread::Threads;
 use td_bytes::write_whole;
 use td_indices::{Archive, ArchiveFault};
 use td_relation::{Archs, ArchsFault};
@@ -43,6 +44,7 @@ fn counts_of(archive: Result<Archive<'_, '_>, ArchiveFault>) -> Result<Counts, E
 
 // The same, by what the table of architectures was read as.
 fn counts_with<'a>(
+    rt: &(impl Threads + Sync),
     alloc: Global,
     archs: Result<Archs<'a>, ArchsFault>,
     packages: &'a str,
@@ -53,17 +55,23 @@ fn counts_with<'a>(
     ensures refused { IfErr archs.entry (λ fault. result ≡ Err (table_ending fault)) }
 {
     match archs {
-        Ok(archs) => counts_of(Archive::read(alloc, packages, sources, &archs)),
+        Ok(archs) => counts_of(Archive::read_beside(rt, alloc, packages, sources, &archs)),
         Err(fault) => Err(ending_of_table(fault)),
     }
 }
 
 // The same, of three texts.
-fn counts_in(alloc: Global, archs: &str, packages: &str, sources: &str) -> Result<Counts, Ending>
+fn counts_in(
+    rt: &(impl Threads + Sync),
+    alloc: Global,
+    archs: &str,
+    packages: &str,
+    sources: &str,
+) -> Result<Counts, Ending>
     requires { length archs.now ≤ file_limit }
     ensures { IsCounted archs.now packages.now sources.now result }
 {
-    counts_with(alloc, Archs::read(alloc, archs), packages, sources)
+    counts_with(rt, alloc, Archs::read(alloc, archs), packages, sources)
 }
 
 fn counts_line(alloc: Global, counts: &Counts) -> Result<String, AllocError>
@@ -114,7 +122,12 @@ pub fn write<W: Write>(line: Result<String, Ending>, output: &mut W) -> Ending
 }
 
 // How a check ends by what was read of the files.
-fn count<W: Write>(alloc: Global, read: Result<FileTexts, FileFault>, output: &mut W) -> Ending
+fn count<W: Write>(
+    rt: &(impl Threads + Sync),
+    alloc: Global,
+    read: Result<FileTexts, FileFault>,
+    output: &mut W,
+) -> Ending
     requires { ForOk read IsWithin }
     ensures texts { IfOk read (λ texts.
         FileTextsEnd texts (W.contents output.old) (W.contents output.new) result) }
@@ -126,6 +139,7 @@ fn count<W: Write>(alloc: Global, read: Result<FileTexts, FileFault>, output: &m
         Err(unread) => return ending_of_file(unread.role, unread.fault),
     };
     let counted = counts_in(
+        rt,
         alloc,
         read.archs.as_str(),
         read.packages.as_str(),
@@ -135,6 +149,7 @@ fn count<W: Write>(alloc: Global, read: Result<FileTexts, FileFault>, output: &m
 }
 
 fn run<T: Texts, W: Write>(
+    rt: &(impl Threads + Sync),
     alloc: Global,
     texts: &T,
     archs: &str,
@@ -147,12 +162,14 @@ fn run<T: Texts, W: Write>(
         (W.contents output.old) (W.contents output.new) result }
 {
     let read = read_files(alloc, texts, archs, packages, sources);
-    count(alloc, read, output)
+    count(rt, alloc, read, output)
 }
 
 /// Counts what the indices hold that have these paths, and tells on `faults` what went wrong, as
-/// far as that can be. All is read before anything is written. Answers the program's status.
+/// far as that can be. All is read before anything is written, the two indices side by side.
+/// Answers the program's status.
 pub fn check<T: Texts, W: Write, E: Write>(
+    rt: &(impl Threads + Sync),
     alloc: Global,
     texts: &T,
     archs: &str,
@@ -166,6 +183,6 @@ pub fn check<T: Texts, W: Write, E: Write>(
         (W.contents output.old) (W.contents output.new))
         (E.contents faults.old) (E.contents faults.new) result }
 {
-    let ending = run(alloc, texts, archs, packages, sources, output);
+    let ending = run(rt, alloc, texts, archs, packages, sources, output);
     ending.answer(faults)
 }

@@ -143,6 +143,7 @@ fn do_request<T: Texts, R: Read, W: Write, E: Write>(
             packages,
             sources,
         } => check(
+            rt,
             alloc,
             texts,
             archs.as_str(),

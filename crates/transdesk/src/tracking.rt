@@ -191,7 +191,7 @@ fn indices_text(
     let packages = texts.indices.packages.as_str();
     let sources = texts.indices.sources.as_str();
     let tracker = texts.tracker.as_str();
-    match Archive::read(alloc, packages, sources, archs) {
+    match Archive::read_beside(rt, alloc, packages, sources, archs) {
         Ok(archive) => archive_text(rt, alloc, &archive, given(&texts.state), tracker, asked),
         Err(fault) => Err(ending_of_archive(fault)),
     }
