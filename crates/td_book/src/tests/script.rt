@@ -1,14 +1,13 @@
 //! A desk over the example archive, and the reader of scripts: a line is a call, and behind `=>`
 //! what it is answered.
-ghost use Rattle.std.specs.Prelude.{◌≡◌, IfOk, length};
-ghost use Rattle.td_board.specs.Knowledge.{new_desk};
+ghost use Rattle.std.specs.Prelude.{◌≡◌, IfOk};
 ghost use Rattle.td_core.specs.Phases.{NoneBuilt};
 ghost use Rattle.td_supply.specs.Supply.{opened, stock_of};
 
-use crate::{Book, CommandRefusal, Job, Skips, StartRefusal, Taken, WatchRefusal};
+use crate::{Book, CommandRefusal, Job, Skips, StartRefusal, Taken};
 use std::alloc::Global;
 use std::test::Fail;
-use td_board::{Board, BuilderSeat, DeskSeat, Hand};
+use td_board::{Board, BuilderSeat, Hand};
 use td_journal::{put_entry_line, text};
 use td_relation::Archs;
 use td_rows::{Key, Line, Outcome, Rows, put_row_line, read_key, read_state};
@@ -62,29 +61,8 @@ pub(super) struct Desk {
     ghost three_at: { three.table ≡ board.table },
 }
 
-// A book that opens with these rows, over a journal where one is given.
-fn open_book(
-    alloc: Global,
-    board: &Board,
-    seat: DeskSeat,
-    rows: Rows,
-    supply: Supply<'static>,
-    journal: Option<&str>,
-) -> Result<Book<'static>, Fail>
-    requires table { board.now.table ≡ seat.table }
-    requires fresh_seat { seat.desk ≡ new_desk (length rows) (length seat.desk.noted) }
-    requires idle { NoneBuilt rows }
-    requires fresh_supply { supply ≡ opened (stock_of supply) }
-    ensures { IfOk result (λ book. book.fixed.table ≡ board.now.table) }
-{
-    let Some(text) = journal else {
-        return Ok(Book::open(alloc, board, seat, rows, supply)?);
-    };
-    Ok(Book::reopen(alloc, board, seat, rows, supply, text)?)
-}
-
-// A desk that opens with these rows, over a journal where one is given.
-pub(super) fn open_desk(alloc: Global, opening: &str, journal: Option<&str>) -> Result<Desk, Fail> {
+// A desk that opens with these rows.
+pub(super) fn open_desk(alloc: Global, opening: &str) -> Result<Desk, Fail> {
     let rows = rows(alloc, opening)?;
     let supply = supply(alloc)?;
     let archs = Archs::read(alloc, TABLE)?;
@@ -93,7 +71,7 @@ pub(super) fn open_desk(alloc: Global, opening: &str, journal: Option<&str>) -> 
     else {
         return Err(Fail::from("three builders"));
     };
-    let book = open_book(alloc, &board, seat, rows, supply, journal)?;
+    let book = Book::open(alloc, &board, seat, rows, supply)?;
     Ok(Desk {
         alloc,
         archs,
@@ -147,16 +125,6 @@ fn spelled(alloc: Global, told: &Result<Taken, CommandRefusal>) -> Result<String
         Err(CommandRefusal::NoMemory) => out.push_str("NoMemory")?,
     }
     Ok(out)
-}
-
-fn spelled_watch(alloc: Global, told: &Result<(), WatchRefusal>) -> Result<String, Fail> {
-    Ok(match told {
-        Ok(()) => format!(in alloc; "watched")?,
-        Err(WatchRefusal::NoSuchRow(key)) => format!(in alloc; "NoSuchRow {}", key.as_str())?,
-        Err(WatchRefusal::Twice(key)) => format!(in alloc; "Twice {}", key.as_str())?,
-        Err(WatchRefusal::BadGroup(key)) => format!(in alloc; "BadGroup {}", key.as_str())?,
-        Err(WatchRefusal::NoMemory) => format!(in alloc; "NoMemory")?,
-    })
 }
 
 fn spelled_job(alloc: Global, told: &Result<Job, StartRefusal>) -> Result<String, Fail> {
@@ -241,23 +209,6 @@ impl Desk {
         Ok(out)
     }
 
-    // Watches the rows of words `source/arch=group` under so many groups.
-    fn watch(&mut self, text: &str) -> Result<String, Fail> {
-        let (groups, words) = text.split_once(' ').unwrap_or((text, ""));
-        let mut rows = Vec::new(self.alloc);
-        for word in words.split(' ') {
-            let (name, group) = word.split_once('=').ok_or("a group")?;
-            rows.push((key(self.alloc, name)?, number(group) as usize))?;
-        }
-        let watched = self.book.watch(number(groups) as usize, &rows);
-        spelled_watch(self.alloc, &watched)
-    }
-
-    fn installed(&self, group: &str) -> Result<String, Fail> {
-        let installed = self.book.installed(number(group) as usize);
-        Ok(format!(in self.alloc; "{installed:?}")?)
-    }
-
     // What a builder's call is answered, of which the builder's number is the first word.
     fn build(&mut self, word: &str, rest: &str) -> Result<String, Fail> {
         let (builder, rest) = rest.split_once(' ').unwrap_or((rest, ""));
@@ -285,8 +236,6 @@ impl Desk {
                 Ok(format!(in self.alloc; "{ready:?}")?)
             }
             "row" => self.row(rest),
-            "watch" => self.watch(rest),
-            "installed" => self.installed(rest),
             "entry" => self.entry(number(rest)),
             _ => Ok(format!(in self.alloc; "{}", self.release())?),
         }
@@ -303,31 +252,10 @@ impl Desk {
     }
 }
 
-// Why a text isn't a journal's over these rows; or the journal that a book has with it.
-pub(super) fn refusal_of(alloc: Global, opening: &str, journal: &str) -> Result<String, Fail> {
-    let rows = rows(alloc, opening)?;
-    let supply = supply(alloc)?;
-    let (board, seat, _builders) = Board::make(alloc, rows.len(), 3)?;
-    match Book::reopen(alloc, &board, seat, rows, supply, journal) {
-        Ok(book) => Ok(text(alloc, book.journal())?),
-        Err(refusal) => Ok(format!(in alloc; "{refusal:?}")?),
-    }
-}
-
 // The journal after a script that begins with these rows; or its first line that is answered
 // otherwise, with the answer.
 pub(super) fn journal_after(alloc: Global, opening: &str, script: &str) -> Result<String, Fail> {
-    journal_behind(alloc, opening, None, script)
-}
-
-// The same, where the desk opens over a journal.
-pub(super) fn journal_behind(
-    alloc: Global,
-    opening: &str,
-    journal: Option<&str>,
-    script: &str,
-) -> Result<String, Fail> {
-    let mut desk = open_desk(alloc, opening, journal)?;
+    let mut desk = open_desk(alloc, opening)?;
     for line in script.lines() {
         let (call, expected) = line.split_once(" => ").ok_or("a call")?;
         let answer = desk.answer(call)?;
