@@ -1,5 +1,7 @@
 -- Lists of rows, of which one gets a row more.
-use Rattle.std.proofs.Common.{◌≡◌, ◌<◌, ◌+◌, ◌-◌, ◌==◌, ℕ, false, List, [], ◌∷◌, ◌++◌, length, sym, ap, ◌∙◌, inl, inr, arith, if◌then◌else◌, get_or, set, map, get_or-set_other}
+use Rattle.std.proofs.Common.{◌≡◌, ◌<◌, ◌+◌, ◌-◌, ◌==◌, ℕ, false, List, [], ◌∷◌, ◌++◌, length, sym}
+use Rattle.std.proofs.Common.{ap, ◌∙◌, inl, inr, arith, if◌then◌else◌, get_or, set, map}
+use Rattle.std.proofs.Common.{get_or-set_other}
 use Rattle.std.specs.Global.{Vec}
 use Rattle.std.proofs.lemmas.Bool.Decides.{eqb_tells}
 use Rattle.std.proofs.lemmas.Grind.{get_or-set_at}
@@ -7,7 +9,8 @@ use Rattle.std.proofs.lemmas.List.{map-set, get_or-map, length-map, append-nil}
 use Rattle.td_report.specs.declared.item.Item.{Item}
 use Rattle.td_report.specs.Grouped.{list_at}
 
-pub list_at-push : (vs : List (Vec Item)) (b : ℕ) (x : Item) (old new : Vec Item) → b < length vs → old ≡ get_or vs b old → new.items ≡ old.items ++ x ∷ []
+pub list_at-push : (vs : List (Vec Item)) (b : ℕ) (x : Item) (old new : Vec Item) → b < length vs
+    → old ≡ get_or vs b old → new.items ≡ old.items ++ x ∷ []
     → (g : ℕ) → list_at (set vs b new) g ≡ list_at vs g ++ (if b == g then x ∷ [] else [])
 list_at-push vs b x old new lt is e g =
     let items = λ (v : Vec Item). v.items in
@@ -43,5 +46,6 @@ no_number level n h = elim (eqb_tells level (n + 1)) [
 ]
 
 -- what was read of the list with a number
-pub read-list : (lists : List (Vec Item)) (n : ℕ) (v : Vec Item) (now : List Item) → n < length lists → v ≡ get_or lists n v → now ≡ v.items → now ≡ list_at lists n
+pub read-list : (lists : List (Vec Item)) (n : ℕ) (v : Vec Item) (now : List Item)
+    → n < length lists → v ≡ get_or lists n v → now ≡ v.items → now ≡ list_at lists n
 read-list lists n v now lt is e = e ∙ ap (λ (v : Vec Item). v.items) is ∙ sym (get_or-map (λ (v : Vec Item). v.items) lists n v [] lt)

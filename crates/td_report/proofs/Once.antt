@@ -1,5 +1,7 @@
 -- Texts, each once where it stands several times on end: what one more adds.
-use Rattle.std.proofs.Common.{◌≡◌, ℕ, Bool, true, false, List, Option, None, Some, [], ◌∷◌, ◌++◌, map, take, length, get_or, ◌<◌, ◌+◌, refl, sym, ap, ◌∙◌, append_assoc, if◌then◌else◌}
+use Rattle.std.proofs.Common.{◌≡◌, ℕ, Bool, true, false, List, Option, None, Some, [], ◌∷◌, ◌++◌}
+use Rattle.std.proofs.Common.{map, take, length, get_or, ◌<◌, ◌+◌, refl, sym, ap, ◌∙◌, append_assoc}
+use Rattle.std.proofs.Common.{if◌then◌else◌}
 use Rattle.std.proofs.lemmas.List.{append-nil, map-append, take_more}
 use Rattle.td_report.specs.declared.item.Item.{Item}
 use Rattle.td_report.specs.ItemLines.{source_of}
@@ -12,7 +14,8 @@ abbrev pub last_of : Option (List ℕ) → List (List ℕ) → Option (List ℕ)
 last_of last [] = last
 last_of last (text ∷ texts) = last_of (Some text) texts
 
-pub last-push : (last : Option (List ℕ)) (texts : List (List ℕ)) (text : List ℕ) → last_of last (texts ++ text ∷ []) ≡ Some text
+pub last-push : (last : Option (List ℕ)) (texts : List (List ℕ)) (text : List ℕ)
+    → last_of last (texts ++ text ∷ []) ≡ Some text
 last-push last [] text = refl
 last-push last (first ∷ texts) text = last-push (Some first) texts text
 
@@ -38,7 +41,8 @@ text-same texts text same =
     ap (λ (l : List (List ℕ)). text_of l) (once-push None texts text ∙ ap (λ (b : Bool). each_once None texts ++ (if b then [] else text ∷ [])) same ∙ append-nil (each_once None texts))
 
 -- one source more
-pub sources-more : (items : List Item) (i : ℕ) (item : Item) (source : List ℕ) → i < length items → item ≡ get_or items i item → source ≡ item.key.now.source
+pub sources-more : (items : List Item) (i : ℕ) (item : Item) (source : List ℕ) → i < length items
+    → item ≡ get_or items i item → source ≡ item.key.now.source
     → map source_of (take (i + 1) items) ≡ map source_of (take i items) ++ source ∷ []
 sources-more items i item source lt is named =
     ap (λ (l : List Item). map source_of l) (take_more items i item lt)

@@ -4,13 +4,16 @@ use Rattle.td_waves.specs.Levels.{Follows, UpTo, IsOn, IsCyclic, StandsAt}
 use Rattle.td_waves.specs.declared.level.Level.{Level}
 use Rattle.td_waves.specs.declared.level.Level.TheVariants.{At, Cyclic}
 
--- each number stands for something affected, each such thing has a number, and the numbers build on one another as what they stand for
+-- each number stands for something affected, each such thing has a number,
+-- and the numbers build on one another as what they stand for
 pub record StandFor {X : Type 0} (A : X → Type 0) (B : X → X → Type 0) (N : ℕ → Type 0) (E : ℕ → ℕ → Type 0) (name : ℕ → X) : Type 0 where
   pub affected : (i : ℕ) → N i → A (name i)
   pub onto : (x : X) → A x → (i : ℕ) × N i × (name i ≡ x)
   pub same : (i j : ℕ) → N i → N j → (E i j ↔ B (name i) (name j))
 
-pub up_to-along : {X : Type 0} (A : X → Type 0) (B : X → X → Type 0) (N : ℕ → Type 0) (E : ℕ → ℕ → Type 0) (name : ℕ → X) → StandFor A B N E name → (k i : ℕ) → N i → (UpTo N E k i ↔ UpTo A B k (name i))
+pub up_to-along : {X : Type 0} (A : X → Type 0) (B : X → X → Type 0) (N : ℕ → Type 0)
+    (E : ℕ → ℕ → Type 0) (name : ℕ → X) → StandFor A B N E name → (k i : ℕ) → N i
+    → (UpTo N E k i ↔ UpTo A B k (name i))
 up_to-along A B N E name s zero i n = (λ h. h, λ h. h)
 up_to-along A B N E name s (suc k) i n = (
   λ h. elim h [
@@ -35,7 +38,9 @@ up_to-along A B N E name s (suc k) i n = (
 )
 
 -- where a number stands, there stands what it stands for
-pub stands-along : {X : Type 0} (A : X → Type 0) (B : X → X → Type 0) (N : ℕ → Type 0) (E : ℕ → ℕ → Type 0) (name : ℕ → X) → StandFor A B N E name → (i : ℕ) (l : Level) → N i → StandsAt N E i (Some l) → StandsAt A B (name i) (Some l)
+pub stands-along : {X : Type 0} (A : X → Type 0) (B : X → X → Type 0) (N : ℕ → Type 0)
+    (E : ℕ → ℕ → Type 0) (name : ℕ → X) → StandFor A B N E name → (i : ℕ) (l : Level) → N i
+    → StandsAt N E i (Some l) → StandsAt A B (name i) (Some l)
 stands-along A B N E name s i (At zero) n h = h
 stands-along A B N E name s i (At (suc k)) n h = record {
   affected = s.affected i n;

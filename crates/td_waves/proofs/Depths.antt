@@ -1,5 +1,6 @@
 -- The greatest number of a level is how many levels there are.
-use Rattle.std.proofs.Common.{◌≡◌, ◌⊎◌, ◌<◌, ◌≤◌, ℕ, zero, suc, List, [], Option, None, Some, get_or, length, slice_get, inl, inr, refl, sym, ap, ◌∙◌, arith}
+use Rattle.std.proofs.Common.{◌≡◌, ◌⊎◌, ◌<◌, ◌≤◌, ℕ, zero, suc, List, [], Option, None, Some}
+use Rattle.std.proofs.Common.{get_or, length, slice_get, inl, inr, refl, sym, ap, ◌∙◌, arith}
 use Rattle.std.proofs.lemmas.Bool.{cases_lt}
 use Rattle.std.proofs.lemmas.Option.{slice_get-get_or, get_or_from_slice_get}
 use Rattle.std.proofs.lemmas.List.{get_or_past}
@@ -31,7 +32,8 @@ some_same l m e = cc
 no_level : (l : Level) → ◌≡◌ {A = Option Level} None (Some l) → ⊥
 no_level l e = absurd cc
 
-of_some : (o : Option ℕ) (k : ℕ) → option_map numbered o ≡ Some (At k) → (n : ℕ) × (o ≡ Some n) × (n ≡ k) × (0 < k)
+of_some : (o : Option ℕ) (k : ℕ) → option_map numbered o ≡ Some (At k)
+    → (n : ℕ) × (o ≡ Some n) × (n ≡ k) × (0 < k)
 of_some None k e = absurd (no_level (At k) e)
 of_some (Some n) k e = let r = its_number n k (some_same (numbered n) (At k) e) in (n, refl, r.0, r.1)
 
@@ -42,11 +44,13 @@ there numbers i k some e = elim (cases_lt i (length numbers)) [
   | inr past ↦ absurd (omega (arith, get_or_past numbers i 0 past, e))
 ]
 
-level_there : (numbers : List ℕ) (i k : ℕ) → 0 < k → get_or numbers i 0 ≡ k → option_map numbered (slice_get numbers i) ≡ Some (At k)
+level_there : (numbers : List ℕ) (i k : ℕ) → 0 < k → get_or numbers i 0 ≡ k
+    → option_map numbered (slice_get numbers i) ≡ Some (At k)
 level_there numbers i k some e =
     ap (λ o. option_map numbered o) (slice_get-get_or numbers i 0 (there numbers i k some e)) ∙ ap (λ n. Some (numbered n)) e ∙ ap Some (at_number k some)
 
-pub deep : (graph : List (List ℕ)) (left heights numbers : List ℕ) (depth : ℕ) → Underway graph left heights numbers []
+pub deep : (graph : List (List ℕ)) (left heights numbers : List ℕ) (depth : ℕ)
+    → Underway graph left heights numbers []
     → ((i : ℕ) → get_or numbers i 0 ≤ depth) → (0 < depth → HasNumber numbers depth)
     → IsDepth (λ node. option_map numbered (slice_get numbers node)) depth
 deep graph left heights numbers depth w within has = record {

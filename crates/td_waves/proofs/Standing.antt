@@ -1,5 +1,6 @@
 -- Where the numbers of affected sources stand, there stand the sources.
-use Rattle.std.proofs.Common.{◌≡◌, ◌<◌, ◌≤◌, ◌&&◌, ◌↔◌, ℕ, Bool, true, false, List, Option, Some, None, length, nat_lt, refl, sym, ap, subst, ◌∙◌, inl, inr, arith}
+use Rattle.std.proofs.Common.{◌≡◌, ◌<◌, ◌≤◌, ◌&&◌, ◌↔◌, ℕ, Bool, true, false, List, Option, Some}
+use Rattle.std.proofs.Common.{None, length, nat_lt, refl, sym, ap, subst, ◌∙◌, inl, inr, arith}
 use Rattle.std.specs.Borrow.{Bor}
 use Rattle.std.specs.Global.{Vec}
 use Rattle.std.specs.Option.{option_map_or}
@@ -30,7 +31,8 @@ both : (a b : Bool) → a ≡ true → b ≡ true → (a && b) ≡ true
 both true b h g = g
 both false b h g = absurd (false≢true h)
 
-stand_for : (a : Contents) (affected keys : List (Bor (List ℕ))) (graph : List (Vec ℕ)) → ((q : List ℕ) → is_among keys q ≡ is_among affected q) → AreEdges a keys graph
+stand_for : (a : Contents) (affected keys : List (Bor (List ℕ))) (graph : List (Vec ℕ))
+    → ((q : List ℕ) → is_among keys q ≡ is_among affected q) → AreEdges a keys graph
     → StandFor (IsAffected affected) (BuildsOn a) (IsNode (lists graph)) (GraphBuildsOn (lists graph)) (name_at keys)
 stand_for a affected keys graph same edges =
     let size : length (lists graph) ≡ length keys = length-map graph (λ (v : Vec ℕ). v.items) ∙ edges.all in
@@ -48,7 +50,9 @@ stand_for a affected keys graph same edges =
           );
     }
 
-pub sources_stand : (a : Contents) (affected keys : List (Bor (List ℕ))) (graph : List (Vec ℕ)) (levels : Levelling) → ((q : List ℕ) → is_among keys q ≡ is_among affected q) → AreEdges a keys graph
+pub sources_stand : (a : Contents) (affected keys : List (Bor (List ℕ))) (graph : List (Vec ℕ))
+    (levels : Levelling) → ((q : List ℕ) → is_among keys q ≡ is_among affected q)
+    → AreEdges a keys graph
     → ((node : ℕ) → StandsAt (IsNode (lists graph)) (GraphBuildsOn (lists graph)) node (level_of levels node))
     → (source : List ℕ) → StandsAt (IsAffected affected) (BuildsOn a) source (level_among keys levels source)
 sources_stand a affected keys graph levels same edges stand source =
@@ -64,14 +68,17 @@ sources_stand a affected keys graph levels same edges stand source =
           (λ h. false≢true (sym other ∙ same source ∙ h))
     ]
 
-of_number : (f : ℕ → Option Level) (o : Option ℕ) (l : Level) → option_map_or f o None ≡ Some l → (i : ℕ) × (f i ≡ Some l)
+of_number : (f : ℕ → Option Level) (o : Option ℕ) (l : Level) → option_map_or f o None ≡ Some l
+    → (i : ℕ) × (f i ≡ Some l)
 of_number f None l e = absurd (nothing l e)
   where
     nothing : (l : Level) → ◌≡◌ {A = Option Level} None (Some l) → ⊥
     nothing l e = absurd cc
 of_number f (Some i) l e = (i, e)
 
-pub sources_deep : (a : Contents) (affected keys : List (Bor (List ℕ))) (graph : List (Vec ℕ)) (levels : Levelling) → ((q : List ℕ) → is_among keys q ≡ is_among affected q) → AreEdges a keys graph
+pub sources_deep : (a : Contents) (affected keys : List (Bor (List ℕ))) (graph : List (Vec ℕ))
+    (levels : Levelling) → ((q : List ℕ) → is_among keys q ≡ is_among affected q)
+    → AreEdges a keys graph
     → ((node : ℕ) → StandsAt (IsNode (lists graph)) (GraphBuildsOn (lists graph)) node (level_of levels node)) → IsDepth (level_of levels) levels.depth
     → IsDepth (level_among keys levels) levels.depth
 sources_deep a affected keys graph levels same edges stand deep = record {

@@ -1,10 +1,15 @@
 -- The work on the levels, while it goes on.
-use Rattle.std.proofs.Common.{◌≡◌, ◌+◌, ◌-◌, ◌<◌, ◌≤◌, ◌==◌, ◌⊎◌, ℕ, zero, suc, cond, nat_lt, if◌then◌else◌, Bool, true, false, eqb, List, [], ◌∷◌, ◌++◌, length, get_or, set, map, replicate, Option, Some, option_map, slice_get, subst, refl, sym, ap, ◌∙◌, inl, inr, arith, count_by, get_or-set_other, length-set}
+use Rattle.std.proofs.Common.{◌≡◌, ◌+◌, ◌-◌, ◌<◌, ◌≤◌, ◌==◌, ◌⊎◌, ℕ, zero, suc, cond, nat_lt}
+use Rattle.std.proofs.Common.{if◌then◌else◌, Bool, true, false, eqb, List, [], ◌∷◌, ◌++◌, length}
+use Rattle.std.proofs.Common.{get_or, set, map, replicate, Option, Some, option_map, slice_get}
+use Rattle.std.proofs.Common.{subst, refl, sym, ap, ◌∙◌, inl, inr, arith, count_by}
+use Rattle.std.proofs.Common.{get_or-set_other, length-set}
 use Rattle.std.specs.List.{All, Contains}
 use Rattle.std.proofs.lemmas.Bool.{cases_Bool, cases_lt, cases_eq, eqb-true}
 use Rattle.std.proofs.lemmas.Bool.Decides.{eqb_tells, nat_tests}
 use Rattle.std.proofs.lemmas.Grind.{get_or-set_at}
-use Rattle.std.proofs.lemmas.List.{get_or_default, get_or_past, get_or-replicate, length-replicate, length-map}
+use Rattle.std.proofs.lemmas.List.{get_or_default, get_or_past, get_or-replicate, length-replicate}
+use Rattle.std.proofs.lemmas.List.{length-map}
 use Rattle.std.proofs.lemmas.List.Sums.{count_by-le-length}
 use Rattle.std.proofs.Math.ListN.{get_or-map}
 use Rattle.std.specs.Global.{Vec}
@@ -14,7 +19,8 @@ use Rattle.td_waves.specs.Levels.{StandsAt}
 use Rattle.td_waves.specs.Levelling.{numbered}
 use Rattle.td_waves.specs.declared.level.Level.TheVariants.{At}
 use Rattle.td_waves.proofs.Certificate.{Certified, zero_or_more, on_level, in_no_level}
-use Rattle.td_waves.proofs.Counting.{is_open, none_passes, some_passes, all_pass, used, contains, closed, fewer}
+use Rattle.td_waves.proofs.Counting.{is_open, none_passes, some_passes, all_pass, used, contains}
+use Rattle.td_waves.proofs.Counting.{closed, fewer}
 use Rattle.td_waves.proofs.Released.{within}
 use Rattle.td_waves.proofs.Uses.{one, one_same, uses-push}
 
@@ -26,7 +32,8 @@ queued_at left number = if left == 0 then (if number == 0 then 1 else 0) else 0
 abbrev pub Rests : List (List ℕ) → List ℕ → ℕ → ℕ → Type 0
 Rests graph numbers s height = (t : ℕ) × (0 < uses t (bases_of graph s)) × (0 < get_or numbers t 0) × (height ≡ get_or numbers t 0 + 1)
 
--- for each node: how many it waits for, its least level so far, its number (0 while it isn't placed); and the ready nodes
+-- for each node: how many it waits for, its least level so far,
+-- its number (0 while it isn't placed); and the ready nodes
 pub record Underway (graph : List (List ℕ)) (left heights numbers ready : List ℕ) : Type 0 where
   pub left_len : length left ≡ length graph
   pub heights_len : length heights ≡ length graph
@@ -35,8 +42,10 @@ pub record Underway (graph : List (List ℕ)) (left heights numbers ready : List
   pub queued : (s : ℕ) → uses s ready ≡ queued_at (get_or left s 0) (get_or numbers s 1)
   pub settled_left : (s : ℕ) → 0 < get_or numbers s 0 → get_or left s 0 ≡ 0
   pub settled : (s : ℕ) → 0 < get_or numbers s 0 → get_or heights s 0 ≡ get_or numbers s 0
-  pub below : (s t : ℕ) → 0 < uses t (bases_of graph s) → 0 < get_or numbers t 0 → get_or numbers t 0 < get_or heights s 0
-  pub tight : (s : ℕ) → s < length graph → (get_or heights s 0 ≡ 1) ⊎ Rests graph numbers s (get_or heights s 0)
+  pub below : (s t : ℕ) → 0 < uses t (bases_of graph s) → 0 < get_or numbers t 0
+      → get_or numbers t 0 < get_or heights s 0
+  pub tight : (s : ℕ) → s < length graph
+      → (get_or heights s 0 ≡ 1) ⊎ Rests graph numbers s (get_or heights s 0)
   pub bound : (s : ℕ) → get_or heights s 0 + uses 0 numbers ≤ length graph + 1
 
 -- ---- a node that is taken from the ready ones
@@ -55,7 +64,8 @@ open_at l n r e = grind (arith, nat_tests)
 once_at : (l n r : ℕ) → r + 1 ≡ queued_at l n → r ≡ 0
 once_at l n r e = grind (arith, nat_tests)
 
-pub taken : (graph : List (List ℕ)) (left heights numbers rest : List ℕ) (node : ℕ) → Underway graph left heights numbers (rest ++ node ∷ []) → Taken left numbers rest node
+pub taken : (graph : List (List ℕ)) (left heights numbers rest : List ℕ) (node : ℕ)
+    → Underway graph left heights numbers (rest ++ node ∷ []) → Taken left numbers rest node
 taken graph left heights numbers rest node w =
     let e : uses node rest + 1 ≡ queued_at (get_or left node 0) (get_or numbers node 1) = omega (arith, w.queued node, uses-push node rest node, one_same node) in
     let l = get_or left node 0 in
@@ -75,13 +85,17 @@ is_zero xs i h = get_or_default xs i 0 1 (in_list xs i h) ∙ h
 pub record Placed (graph : List (List ℕ)) (left heights rest : List ℕ) (node : ℕ) (users left_now heights_now ready_now : List ℕ) : Type 0 where
   pub users_are : (x : ℕ) → uses x users ≡ uses node (bases_of graph x)
   pub left_is : (s : ℕ) → get_or left_now s 0 + uses s users ≡ get_or left s 0
-  pub heights_are : (s : ℕ) → get_or heights_now s 0 ≡ (if uses s users == 0 then get_or heights s 0 else raised (get_or heights node 0) (get_or heights s 0))
-  pub ready_are : (s : ℕ) → uses s ready_now ≡ uses s rest + freed (get_or left s 0) (get_or left_now s 0)
+  pub heights_are : (s : ℕ) → get_or heights_now s 0 ≡ (if uses s users == 0 then get_or heights s 0
+      else raised (get_or heights node 0) (get_or heights s 0))
+  pub ready_are : (s : ℕ) → uses s ready_now
+      ≡ uses s rest + freed (get_or left s 0) (get_or left_now s 0)
   pub left_len : length left_now ≡ length left
   pub heights_len : length heights_now ≡ length heights
 
 -- a height is above 0
-pub tall : (graph : List (List ℕ)) (left heights numbers ready : List ℕ) → Underway graph left heights numbers ready → (s : ℕ) → s < length graph → 0 < get_or heights s 0
+pub tall : (graph : List (List ℕ)) (left heights numbers ready : List ℕ)
+    → Underway graph left heights numbers ready → (s : ℕ) → s < length graph
+    → 0 < get_or heights s 0
 tall graph left heights numbers ready w s lt = elim (w.tight s lt) [ inl e ↦ omega (arith, e) | inr r ↦ omega (arith, r.3) ]
 
 above : (level h n u : ℕ) → n ≡ (if u == 0 then h else raised level h) → 0 < u → level < n
@@ -93,7 +107,8 @@ kept level h n u e = grind (arith, nat_tests)
 same_height : (level h n u : ℕ) → n ≡ (if u == 0 then h else raised level h) → u ≡ 0 → n ≡ h
 same_height level h n u e none = grind (arith, nat_tests)
 
-which : (level h n u : ℕ) → n ≡ (if u == 0 then h else raised level h) → (n ≡ h) ⊎ ((0 < u) × (n ≡ level + 1))
+which : (level h n u : ℕ) → n ≡ (if u == 0 then h else raised level h)
+    → (n ≡ h) ⊎ ((0 < u) × (n ≡ level + 1))
 which level h n u e = elim (eqb_tells u 0) [
   | inl p ↦ inl (same_height level h n u e p.1)
   | inr p ↦ elim (cases_lt level h) [
@@ -102,20 +117,24 @@ which level h n u e = elim (eqb_tells u 0) [
   ]
 ]
 
-queued_on : (l n l_now q q_now : ℕ) → q ≡ queued_at l n → q_now ≡ q + freed l l_now → l_now ≤ l → (0 < l → n ≡ 0) → q_now ≡ queued_at l_now n
+queued_on : (l n l_now q q_now : ℕ) → q ≡ queued_at l n → q_now ≡ q + freed l l_now → l_now ≤ l
+    → (0 < l → n ≡ 0) → q_now ≡ queued_at l_now n
 queued_on l n l_now q q_now e f le o = elim (zero_or_more l) [
   | inl none ↦ grind (arith, nat_tests)
   | inr some ↦ let n_is = o some in grind (arith, nat_tests)
 ]
 
-queued_node : (l l_now q q_now n : ℕ) → q ≡ 0 → l ≡ 0 → l_now ≡ 0 → q_now ≡ q + freed l l_now → 0 < n → q_now ≡ queued_at l_now n
+queued_node : (l l_now q q_now n : ℕ) → q ≡ 0 → l ≡ 0 → l_now ≡ 0 → q_now ≡ q + freed l l_now
+    → 0 < n → q_now ≡ queued_at l_now n
 queued_node l l_now q q_now n e f g h some = grind (arith, nat_tests)
 
 one_other : (x y : ℕ) → (x ≡ y → ⊥) → one x y ≡ 0
 one_other x y ne = elim (eqb_tells y x) [ inl p ↦ absurd (ne (sym p.1)) | inr p ↦ rw p.0 refl ]
 
 -- what waits isn't placed
-unplaced_waits : (graph : List (List ℕ)) (left heights numbers ready : List ℕ) → Underway graph left heights numbers ready → (s : ℕ) → 0 < get_or left s 0 → get_or numbers s 1 ≡ 0
+unplaced_waits : (graph : List (List ℕ)) (left heights numbers ready : List ℕ)
+    → Underway graph left heights numbers ready → (s : ℕ) → 0 < get_or left s 0
+    → get_or numbers s 1 ≡ 0
 unplaced_waits graph left heights numbers ready w s waits =
     let lt : s < length numbers = omega (arith, within left s waits, w.left_len, w.numbers_len) in
     elim (zero_or_more (get_or numbers s 0)) [
@@ -189,7 +208,9 @@ has_one l n e z = grind (arith, nat_tests)
 not_zero : (n : ℕ) → (n == 0) ≡ false → 0 < n
 not_zero n h = grind (arith, nat_tests)
 
-pub finished : (graph : List (List ℕ)) (left heights numbers : List ℕ) → Underway graph left heights numbers [] → Certified (IsNode graph) (BuildsOn graph) (λ s. get_or numbers s 0)
+pub finished : (graph : List (List ℕ)) (left heights numbers : List ℕ)
+    → Underway graph left heights numbers []
+    → Certified (IsNode graph) (BuildsOn graph) (λ s. get_or numbers s 0)
 finished graph left heights numbers w = record {
   below = λ x y ax ay b some.
       let none : count_by (is_open numbers) (bases_of graph x) ≡ 0 = sym (w.waiting x) ∙ w.settled_left x some in
@@ -257,7 +278,8 @@ started graph left heights numbers ready left_is heights_are numbers_are ready_a
     }
 
 -- what the lists of vectors have is in range
-pub all_in_range : (gs : List (Vec ℕ)) (n : ℕ) → All (λ bases. All (λ b. b < n) bases.items) gs → (s y : ℕ) → Contains (bases_of (lists gs) s) y → y < n
+pub all_in_range : (gs : List (Vec ℕ)) (n : ℕ) → All (λ bases. All (λ b. b < n) bases.items) gs
+    → (s y : ℕ) → Contains (bases_of (lists gs) s) y → y < n
 all_in_range [] n h s y has = absurd (omega (arith, has.1))
 all_in_range (v ∷ vs) n h zero y has = rw has.2 at (h 0 v (omega arith) has.0 y has.1)
 all_in_range (v ∷ vs) n h (suc s) y has = all_in_range vs n (λ k d lt. h (suc k) d (omega arith)) s y has
@@ -269,7 +291,9 @@ pub at_number : (n : ℕ) → 0 < n → numbered n ≡ At n
 at_number n some = rw (not_yet n some) refl
 
 -- the numbers at the end are the levels
-pub stands : (graph : List (List ℕ)) (left heights numbers : List ℕ) → Underway graph left heights numbers [] → (node : ℕ) → StandsAt (IsNode graph) (BuildsOn graph) node (option_map numbered (slice_get numbers node))
+pub stands : (graph : List (List ℕ)) (left heights numbers : List ℕ)
+    → Underway graph left heights numbers [] → (node : ℕ)
+    → StandsAt (IsNode graph) (BuildsOn graph) node (option_map numbered (slice_get numbers node))
 stands graph left heights numbers w node = elim (cases_lt node (length numbers)) [
   | inl lt ↦
       let ok = finished graph left heights numbers w in

@@ -1,5 +1,7 @@
 -- Places of packages, one more at a time, and what they answer.
-use Rattle.std.proofs.Common.{◌≡◌, ℕ, ◌+◌, ◌<◌, Bool, true, false, not, cond, eqb, ◌||◌, ◌&&◌, List, [], ◌∷◌, ◌++◌, length, take, get_or, Option, Some, refl, sym, ap, ◌∙◌, arith, string_bytes}
+use Rattle.std.proofs.Common.{◌≡◌, ℕ, ◌+◌, ◌<◌, Bool, true, false, not, cond, eqb, ◌||◌, ◌&&◌, List}
+use Rattle.std.proofs.Common.{[], ◌∷◌, ◌++◌, length, take, get_or, Option, Some, refl, sym, ap, ◌∙◌}
+use Rattle.std.proofs.Common.{arith, string_bytes}
 use Rattle.std.specs.List.{list_any, slice_get}
 use Rattle.std.specs.Str.{bytes_eq}
 use Rattle.std.proofs.lemmas.Bool.{ne_eqb}
@@ -22,10 +24,12 @@ abbrev pub FindsFirst : ℕ → List Package → Places → Type 0
 FindsFirst count packages places = (source : List ℕ) (test : Option Package → Bool) →
     list_any (λ place. test (slice_get packages place)) (places_of places source) ≡ list_any (λ p. bytes_eq (string_bytes p.source) source && test (Some p)) (take count packages)
 
-pub find_none : (packages : List Package) (places : Places) → ((source : List ℕ) → places_of places source ≡ []) → FindsFirst 0 packages places
+pub find_none : (packages : List Package) (places : Places)
+    → ((source : List ℕ) → places_of places source ≡ []) → FindsFirst 0 packages places
 find_none packages places none = λ source test. ap (list_any (λ place. test (slice_get packages place))) (none source)
 
-either : (test : ℕ → Bool) (old : List ℕ) (place : ℕ) (same : Bool) → list_any test (cond same (old ++ place ∷ []) old) ≡ (list_any test old || ((same && test place) || false))
+either : (test : ℕ → Bool) (old : List ℕ) (place : ℕ) (same : Bool) → list_any test
+    (cond same (old ++ place ∷ []) old) ≡ (list_any test old || ((same && test place) || false))
 either test old place true = list_any-append test old (place ∷ [])
 either test old place false = by (list_any test old)
   where
@@ -33,7 +37,8 @@ either test old place false = by (list_any test old)
     by true = refl
     by false = refl
 
-pub find_more : (packages : List Package) (old new : Places) (place : ℕ) (item : Package) → place < length packages → item ≡ get_or packages place item → slice_get packages place ≡ Some item
+pub find_more : (packages : List Package) (old new : Places) (place : ℕ) (item : Package) → place
+    < length packages → item ≡ get_or packages place item → slice_get packages place ≡ Some item
     → ((q : List ℕ) → places_of new q ≡ cond (bytes_eq q (string_bytes item.source)) (places_of old q ++ place ∷ []) (places_of old q))
     → FindsFirst place packages old → FindsFirst (place + 1) packages new
 find_more packages old new place item inside is here pushed found = λ source test.
@@ -50,7 +55,8 @@ find_more packages old new place item inside is here pushed found = λ source te
 
 -- ---- whether there is a place
 
-all_fit : (test : Package → Bool) (packages : List Package) → list_any (λ p. test p && true) packages ≡ list_any test packages
+all_fit : (test : Package → Bool) (packages : List Package)
+    → list_any (λ p. test p && true) packages ≡ list_any test packages
 all_fit test [] = refl
 all_fit test (x ∷ packages) = by (test x) _ _ (all_fit test packages)
   where
@@ -63,13 +69,17 @@ any_place [] = refl
 any_place (x ∷ places) = rw (ne_eqb (length (x ∷ places)) 0 (λ e. omega arith)) refl
 
 -- a source has a place exactly where a package has the source
-pub some_place : (packages : List Package) (places : Places) → FindsPackages packages places → (source : List ℕ) → not (eqb (length (places_of places source)) 0) ≡ list_any (λ p. bytes_eq (string_bytes p.source) source) packages
+pub some_place : (packages : List Package) (places : Places) → FindsPackages packages places
+    → (source : List ℕ) → not (eqb (length (places_of places source)) 0)
+    ≡ list_any (λ p. bytes_eq (string_bytes p.source) source) packages
 some_place packages places found source =
     sym (any_place (places_of places source)) ∙ found source (λ _. true) ∙ all_fit (λ p. bytes_eq (string_bytes p.source) source) packages
 
 -- ---- an answer by places is one by packages
 
-pub answered : (packages here : List Package) (at : List ℕ) (places : Places) → FindsPackages packages places → here ≡ packages → (source : List ℕ) → at ≡ places_of places source → (test : Option Package → Bool)
+pub answered : (packages here : List Package) (at : List ℕ) (places : Places)
+    → FindsPackages packages places → here ≡ packages → (source : List ℕ)
+    → at ≡ places_of places source → (test : Option Package → Bool)
     → list_any (λ place. test (slice_get here place)) at ≡ list_any (λ p. bytes_eq (string_bytes p.source) source && test (Some p)) packages
 answered packages here at places found same source is test =
     ap (λ ps. list_any (λ place. test (slice_get ps place)) at) same ∙ ap (list_any (λ place. test (slice_get packages place))) is ∙ found source test

@@ -1,11 +1,14 @@
 -- A verb with its own words is read, and nothing else.
-use Rattle.std.proofs.Common.{◌≡◌, ◌≢◌, ℕ, ◌<◌, ◌^◌, Bool, true, false, not, cond, eqb, ltb, leb, ◌&&◌, List, [], ◌∷◌, length, Option, Some, None, Ok, Err, codes, refl, sym, ap, subst, ◌∙◌, inl, inr, arith, lit<}
+use Rattle.std.proofs.Common.{◌≡◌, ◌≢◌, ℕ, ◌<◌, ◌^◌, Bool, true, false, not, cond, eqb, ltb, leb}
+use Rattle.std.proofs.Common.{◌&&◌, List, [], ◌∷◌, length, Option, Some, None, Ok, Err, codes, refl}
+use Rattle.std.proofs.Common.{sym, ap, subst, ◌∙◌, inl, inr, arith, lit<}
 use Rattle.std.specs.Prelude.{ℤ, pos}
 use Rattle.std.specs.Char.{is_ascii_digit}
 use Rattle.std.specs.List.{list_all}
 use Rattle.std.specs.Str.{all_ascii_digits, bytes_eq}
 use Rattle.std.specs.Str.Parse.{digits_value}
-use Rattle.std.proofs.lemmas.Bool.{and_parts, and_from, eqb-false, ne_eqb, ltb-true, lt-ltb, leb-true, le-leb}
+use Rattle.std.proofs.lemmas.Bool.{and_parts, and_from, eqb-false, ne_eqb, ltb-true, lt-ltb}
+use Rattle.std.proofs.lemmas.Bool.{leb-true, le-leb}
 use Rattle.std.proofs.lemmas.Fmt.{decimal_nonempty, digits_decimal}
 use Rattle.std.proofs.lemmas.Slice.Eq.{bytes_eq-Decides}
 use lib.IntN.{neg_ℤ}
@@ -24,8 +27,11 @@ use Rattle.td_wbread.specs.declared.word.Word.{Word}
 use Rattle.td_wbread.specs.declared.word.End.{End}
 use Rattle.td_wbread.specs.declared.word.End.TheVariants.{Closed, Open}
 use Rattle.td_wbread.specs.Faults.{is_dot}
-use Rattle.td_wbread.specs.VerbLaws.{AreDigits, BeginsWithNumber, GoesOn, IsDot, IsPriority, IsRebuildNumber, IsSize, IsVerb, VerbsAreExact}
-use Rattle.td_wbread.specs.Verbs.{goes_on, is_digits, is_size, numbered, priority_after, priority_at, priority_first, prioritized, rebuild_first, size_at, verb_at, verb_from}
+use Rattle.td_wbread.specs.VerbLaws.{AreDigits, BeginsWithNumber, GoesOn, IsDot, IsPriority}
+use Rattle.td_wbread.specs.VerbLaws.{IsRebuildNumber, IsSize, IsVerb, VerbsAreExact}
+use Rattle.td_wbread.specs.Verbs.{goes_on, is_digits, is_size, numbered, priority_after}
+use Rattle.td_wbread.specs.Verbs.{priority_at, priority_first, prioritized, rebuild_first, size_at}
+use Rattle.td_wbread.specs.Verbs.{verb_at, verb_from}
 
 -- ---- numbers
 
@@ -53,11 +59,13 @@ size_is text n h =
 size_found : (text : List ℕ) (n : ℕ) → IsSize text n → size_at text ≡ Some n
 size_found text n s = rw (lt-ltb 0 (length text) s.are_digits.some, s.are_digits.digits, s.value, le-leb n 9999 s.bounded) refl
 
-priority_is : (text : List ℕ) (priority : ℤ) → priority_at text ≡ Some priority → IsPriority text priority
+priority_is : (text : List ℕ) (priority : ℤ) → priority_at text ≡ Some priority
+    → IsPriority text priority
 unfolding priority_at
 priority_is text priority h = by (strip (codes "-") text) refl h
   where
-    by : (o : Option (List ℕ)) → strip (codes "-") text ≡ o → priority_after text o ≡ Some priority → IsPriority text priority
+    by : (o : Option (List ℕ)) → strip (codes "-") text ≡ o → priority_after text o ≡ Some priority
+        → IsPriority text priority
     by None is g =
         let (n, size, same) = chained (size_at text) (λ n. Some (pos n)) priority g in
         (text, n, size_is text n size, inl (refl, sym (some_is (pos n) priority same)))
@@ -69,7 +77,8 @@ priority_is text priority h = by (strip (codes "-") text) refl h
 unsigned : (size rest : List ℕ) → all_ascii_digits size ≡ true → size ≢ 45 ∷ rest
 unsigned size rest digits is = let bad : all_ascii_digits (45 ∷ rest) ≡ true = ap all_ascii_digits (sym is) ∙ digits in cc
 
-priority_found : (text : List ℕ) (priority : ℤ) → IsPriority text priority → priority_at text ≡ Some priority
+priority_found : (text : List ℕ) (priority : ℤ) → IsPriority text priority
+    → priority_at text ≡ Some priority
 unfolding priority_at
 priority_found text priority (size, n, is, inl (written, value)) =
     let none : strip (codes "-") text ≡ None = ap (strip (codes "-")) written ∙ strip_none (codes "-") size (λ rest e. unsigned size rest is.are_digits.digits e) in
@@ -80,11 +89,14 @@ priority_found text priority (size, n, is, inr (written, value)) =
 
 -- ---- `bp`
 
-priority_words : (end : End) (word : Word) (words : List Word) (verb : Verb) (rest : List Word) → word.text ≡ codes "bp" → priority_first end words ≡ Ok (verb, rest) → IsVerb end (word ∷ words) verb rest
+priority_words : (end : End) (word : Word) (words : List Word) (verb : Verb) (rest : List Word)
+    → word.text ≡ codes "bp" → priority_first end words ≡ Ok (verb, rest)
+    → IsVerb end (word ∷ words) verb rest
 priority_words end word [] verb rest is h = absurd cc
 priority_words end word (number ∷ words) verb rest is h = by (priority_at number.text) refl h
   where
-    by : (o : Option ℤ) → priority_at number.text ≡ o → prioritized number words o ≡ Ok (verb, rest) → IsVerb end (word ∷ number ∷ words) verb rest
+    by : (o : Option ℤ) → priority_at number.text ≡ o → prioritized number words o ≡ Ok (verb, rest)
+        → IsVerb end (word ∷ number ∷ words) verb rest
     by None e g = absurd cc
     by (Some priority) e g =
         let same = ok_is CommandFault (Bp priority, words) (verb, rest) g in
@@ -116,7 +128,9 @@ on_found (Open place) [] h = refl
 on_found (Closed place) (word ∷ words) h = other_word word (is_dot word) refl h
 on_found (Open place) (word ∷ words) h = other_word word (is_dot word) refl h
 
-number_words : (end : End) (word number : Word) (words : List Word) (verb : Verb) (rest : List Word) (o : Option ℕ) → word.text ≡ codes "nmu" → GoesOn end words → number_at 9999 number.text ≡ o → numbered number words o ≡ Ok (verb, rest)
+number_words : (end : End) (word number : Word) (words : List Word) (verb : Verb) (rest : List Word)
+    (o : Option ℕ) → word.text ≡ codes "nmu" → GoesOn end words → number_at 9999 number.text ≡ o
+    → numbered number words o ≡ Ok (verb, rest)
     → IsVerb end (word ∷ number ∷ words) verb rest
 number_words end word number words verb rest None is on e h = absurd cc
 number_words end word number words verb rest (Some n) is on e h =
@@ -127,28 +141,37 @@ number_words end word number words verb rest (Some n) is on e h =
     subst (λ (p : Verb × List Word). IsVerb end (word ∷ number ∷ words) p.0 p.1) same
     (number, (word, refl, is), record { written = written.0; positive = omega arith; bounded = written.1 }, on)
 
-rebuild_words : (end : End) (word : Word) (words : List Word) (verb : Verb) (rest : List Word) → word.text ≡ codes "nmu" → rebuild_first end words ≡ Ok (verb, rest) → IsVerb end (word ∷ words) verb rest
+rebuild_words : (end : End) (word : Word) (words : List Word) (verb : Verb) (rest : List Word)
+    → word.text ≡ codes "nmu" → rebuild_first end words ≡ Ok (verb, rest)
+    → IsVerb end (word ∷ words) verb rest
 rebuild_words end word [] verb rest is h =
     let same = ok_is CommandFault (Nmu None, []) (verb, rest) h in
     subst (λ (p : Verb × List Word). IsVerb end (word ∷ []) p.0 p.1) same ((word, refl, is), λ none. none)
 rebuild_words end word (number ∷ words) verb rest is h = by (is_digits number.text && goes_on end words) refl h
   where
-    by : (b : Bool) → (is_digits number.text && goes_on end words) ≡ b → cond b (numbered number words (number_at 9999 number.text)) (Ok (Nmu None, number ∷ words)) ≡ Ok (verb, rest) → IsVerb end (word ∷ number ∷ words) verb rest
+    by : (b : Bool) → (is_digits number.text && goes_on end words) ≡ b
+        → cond b (numbered number words (number_at 9999 number.text)) (Ok
+        (Nmu None, number ∷ words)) ≡ Ok (verb, rest) → IsVerb end (word ∷ number ∷ words) verb rest
     by true e g = number_words end word number words verb rest (number_at 9999 number.text) is (on_is end words (and_parts (is_digits number.text) (goes_on end words) e).1) refl g
     by false e g =
         let same = ok_is CommandFault (Nmu None, number ∷ words) (verb, rest) g in
         let none : BeginsWithNumber end (number ∷ words) → ⊥ = λ begins. let both = and_from (is_digits number.text) (goes_on end words) (digits_found number.text begins.0) (on_found end words begins.1) in cc in
         subst (λ (p : Verb × List Word). IsVerb end (word ∷ number ∷ words) p.0 p.1) same ((word, refl, is), none)
 
-bare_found : (end : End) (rest : List Word) → (BeginsWithNumber end rest → ⊥) → rebuild_first end rest ≡ Ok (Nmu None, rest)
+bare_found : (end : End) (rest : List Word) → (BeginsWithNumber end rest → ⊥)
+    → rebuild_first end rest ≡ Ok (Nmu None, rest)
 bare_found end [] none = refl
 bare_found end (number ∷ words) none = by (is_digits number.text && goes_on end words) refl
   where
-    by : (b : Bool) → (is_digits number.text && goes_on end words) ≡ b → cond b (numbered number words (number_at 9999 number.text)) (Ok (Nmu None, number ∷ words)) ≡ Ok (Nmu None, number ∷ words)
+    by : (b : Bool) → (is_digits number.text && goes_on end words) ≡ b
+        → cond b (numbered number words (number_at 9999 number.text))
+        (Ok (Nmu None, number ∷ words)) ≡ Ok (Nmu None, number ∷ words)
     by true e = let p = and_parts (is_digits number.text) (goes_on end words) e in absurd (none (digits_are number.text p.0, on_is end words p.1))
     by false e = refl
 
-number_found : (end : End) (number : Word) (rest : List Word) (n : ℕ) → IsRebuildNumber number.text n → GoesOn end rest → rebuild_first end (number ∷ rest) ≡ Ok (Nmu (Some n), rest)
+number_found : (end : End) (number : Word) (rest : List Word) (n : ℕ)
+    → IsRebuildNumber number.text n → GoesOn end rest
+    → rebuild_first end (number ∷ rest) ≡ Ok (Nmu (Some n), rest)
 number_found end number rest n is on =
     let le = is.bounded in
     let ge = is.positive in
@@ -159,7 +182,8 @@ number_found end number rest n is on =
 
 -- ---- the verb
 
-verb_is : (end : End) (words : List Word) (verb : Verb) (rest : List Word) → verb_at end words ≡ Ok (verb, rest) → IsVerb end words verb rest
+verb_is : (end : End) (words : List Word) (verb : Verb) (rest : List Word)
+    → verb_at end words ≡ Ok (verb, rest) → IsVerb end words verb rest
 unfolding verb_from
 verb_is end [] verb rest h = absurd cc
 verb_is end (word ∷ words) verb rest h = by (bytes_eq word.text (codes "gb")) (bytes_eq word.text (codes "nmu")) (bytes_eq word.text (codes "bp")) (bytes_eq word.text (codes "dw")) refl refl refl refl h
@@ -167,7 +191,8 @@ verb_is end (word ∷ words) verb rest h = by (bytes_eq word.text (codes "gb")) 
     says : (text : List ℕ) → bytes_eq word.text text ≡ true → word.text ≡ text
     says text e = (bytes_eq-Decides word.text text).0 e
 
-    by : (a b c d : Bool) → bytes_eq word.text (codes "gb") ≡ a → bytes_eq word.text (codes "nmu") ≡ b → bytes_eq word.text (codes "bp") ≡ c → bytes_eq word.text (codes "dw") ≡ d
+    by : (a b c d : Bool) → bytes_eq word.text (codes "gb") ≡ a → bytes_eq word.text (codes "nmu")
+        ≡ b → bytes_eq word.text (codes "bp") ≡ c → bytes_eq word.text (codes "dw") ≡ d
         → cond a (Ok (Gb, words)) (cond b (rebuild_first end words) (cond c (priority_first end words) (cond d (Ok (Dw, words)) (Err (Wrong UnknownCommand word.place))))) ≡ Ok (verb, rest)
         → IsVerb end (word ∷ words) verb rest
     by true b c d e f g k h =
@@ -180,7 +205,8 @@ verb_is end (word ∷ words) verb rest h = by (bytes_eq word.text (codes "gb")) 
         subst (λ (p : Verb × List Word). IsVerb end (word ∷ words) p.0 p.1) same (word, refl, says (codes "dw") k)
     by false false false false e f g k h = absurd cc
 
-verb_found : (end : End) (words : List Word) (verb : Verb) (rest : List Word) → IsVerb end words verb rest → verb_at end words ≡ Ok (verb, rest)
+verb_found : (end : End) (words : List Word) (verb : Verb) (rest : List Word)
+    → IsVerb end words verb rest → verb_at end words ≡ Ok (verb, rest)
 unfolding verb_from
 verb_found end words Gb rest (word, is, text) = ap (verb_at end) is ∙ rw text refl
 verb_found end words (Nmu None) rest ((word, is, text), none) = ap (verb_at end) is ∙ rw text (bare_found end rest none)

@@ -1,3 +1,4 @@
+-- `compile`: the clause `refused` and its loop.
 use Rattle.std.proofs.Common.{rules}
 use Rattle.td_query.proofs.PatternLists.{compiled_more, more, refused_here, sources_more}
 use Rattle.td_query.proofs.compiling.compile.Goals as goal

@@ -1,3 +1,4 @@
+-- What the loop of `mark_packages` keeps.
 use Rattle.std.proofs.Common.{◌≡◌, map, take}
 use Rattle.regex.specs.Strings.{matcher_pattern}
 use Rattle.td_indices.specs.Stanzas.{package_fields}

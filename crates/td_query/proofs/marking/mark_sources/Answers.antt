@@ -1,3 +1,4 @@
+-- `mark_sources`: its loop.
 use Rattle.std.proofs.Common.{◌∙◌, map, ap, sym, slice_get}
 use Rattle.regex.specs.Strings.{matcher_pattern}
 use Rattle.td_stanza.specs.Table.{fields_of}

@@ -1,3 +1,4 @@
+-- What the loop of `mark_sources` keeps.
 use Rattle.std.proofs.Common.{◌≡◌, map, take}
 use Rattle.regex.specs.Strings.{matcher_pattern}
 use Rattle.td_indices.specs.Stanzas.{source_fields}

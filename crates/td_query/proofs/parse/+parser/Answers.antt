@@ -1,3 +1,4 @@
+-- `parser`: the clause `gives` and its loop.
 use Rattle.std.proofs.Common.{◌≡◌, ◌∙◌, ◌++◌, ◌∷◌, [], List, map, ap, sym, rules, arith}
 use Rattle.std.proofs.lemmas.List.{map-append}
 use Rattle.td_query.specs.Query.{Shape, shape_of}

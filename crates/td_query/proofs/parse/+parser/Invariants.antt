@@ -1,3 +1,4 @@
+-- What the loops of `parser` keep, and why they end.
 use Rattle.std.proofs.Common.{◌<◌, length, ◌≡◌, ℕ, ◌+◌, ◌*◌, ◌≤◌, map}
 use denote.Shadow.{shadow}
 use denote.Text.{Utf8}

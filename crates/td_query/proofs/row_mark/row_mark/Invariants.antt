@@ -1,3 +1,4 @@
+-- What the loop of `row_mark` keeps.
 use Rattle.std.proofs.Common.{◌≡◌, map, take}
 use Rattle.regex.specs.Strings.{matcher_pattern}
 use Rattle.td_query.specs.Marks.{gathered, mark_there}

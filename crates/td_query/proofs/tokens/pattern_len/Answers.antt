@@ -1,9 +1,12 @@
-use Rattle.std.proofs.Common.{◌≡◌, ◌∙◌, ◌<◌, ◌≤◌, Bool, Some, false, true, drop, length, get_or, sym, subst, rules, arith}
+-- `pattern_len`: the clause `value` and its loop.
+use Rattle.std.proofs.Common.{◌≡◌, ◌∙◌, ◌<◌, ◌≤◌, Bool, Some, false, true, drop, length, get_or}
+use Rattle.std.proofs.Common.{sym, subst, rules, arith}
 use Rattle.std.proofs.lemmas.List.{drop_all}
 use Rattle.td_query.specs.Tokens.{pattern_end}
 use Rattle.td_query.proofs.Patterns.{moved, ends_here, goes_on, ends_never, escaped_on, other_on}
 use Rattle.td_query.proofs.tokens.pattern_len.Goals as goal
-use Rattle.td_query.proofs.tokens.pattern_len.Goals.{else-b-eq47-via-then-b-eq47+else-not-escaped, else-b-eq47-via-else-b-eq47}
+use Rattle.td_query.proofs.tokens.pattern_len.Goals.{else-b-eq47-via-then-b-eq47+else-not-escaped}
+use Rattle.td_query.proofs.tokens.pattern_len.Goals.{else-b-eq47-via-else-b-eq47}
 
 pub returns-then-not-escaped-clause-value : goal.returns-then-not-escaped-clause-value
 returns-then-not-escaped-clause-value c =

@@ -1,3 +1,4 @@
+-- What the loop of `pattern_len` keeps.
 use Rattle.std.proofs.Common.{◌≡◌, false, drop}
 use Rattle.td_query.specs.Tokens.{pattern_end}
 use Rattle.td_query.proofs.Patterns.{moved}

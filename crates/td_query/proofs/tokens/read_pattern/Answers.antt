@@ -1,3 +1,4 @@
+-- `read_pattern`: the call of `split_at`.
 use Rattle.std.proofs.Common.{◌≡◌, ◌<◌, length, get_or, rules}
 use Rattle.td_query.proofs.Patterns.{boundary_behind_slash}
 use Rattle.td_query.proofs.tokens.read_pattern.Goals as goal

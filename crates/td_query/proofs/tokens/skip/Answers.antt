@@ -1,3 +1,4 @@
+-- `skip`: the clause `value` and its loop.
 use Rattle.std.proofs.Common.{◌∙◌, length, ap, sym, arith}
 use Rattle.td_text.specs.Lines.{left_len}
 use Rattle.td_query.proofs.Skips.{skipped_left, skipped_left-is, skipped_here, skipped_on}

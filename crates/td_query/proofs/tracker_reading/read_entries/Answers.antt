@@ -1,3 +1,4 @@
+-- `read_entries`: what it answers and its loop.
 use Rattle.std.proofs.Common.{◌≡◌, ◌∙◌, ℕ, List, None, option_map, ap, sym, rules, arith}
 use Rattle.std.specs.Borrow.{Bor}
 use Rattle.td_query.specs.TrackerGrammar.{front}

@@ -1,3 +1,4 @@
+-- What the loop of `read_entries` keeps, and why it ends.
 use Rattle.std.proofs.Common.{◌≡◌, ◌≤◌, ℕ, length}
 use denote.Text.{Utf8}
 use denote.Shadow.{shadow}

@@ -1,3 +1,4 @@
+-- `holds`: the clause `truth`.
 use Rattle.std.proofs.Common.{◌≡◌, ◌≤◌, length, map, false, true, rules, arith}
 use Rattle.regex.specs.Strings.{matcher_pattern}
 use Rattle.td_stanza.specs.Table.{fields_of}

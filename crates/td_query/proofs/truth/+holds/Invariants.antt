@@ -1,3 +1,4 @@
+-- What the loops of `holds` keep.
 use Rattle.std.proofs.Common.{◌≡◌, drop, map}
 use Rattle.std.specs.List.{list_all, list_any}
 use Rattle.regex.specs.Strings.{matcher_pattern}

@@ -1,3 +1,4 @@
+-- `is_found`: the clause `same`.
 use Rattle.std.proofs.Common.{ap, ◌∙◌}
 use Rattle.std.proofs.Math.Seq.{map-set_same}
 use Rattle.regex.specs.Strings.{matcher_pattern}

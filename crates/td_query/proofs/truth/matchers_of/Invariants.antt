@@ -1,3 +1,4 @@
+-- What the loop of `matchers_of` keeps.
 use Rattle.std.proofs.Common.{◌≡◌, take, map}
 use Rattle.regex.specs.Strings.{regex_pattern, matcher_pattern}
 use Rattle.td_query.proofs.truth.matchers_of.Given as goal

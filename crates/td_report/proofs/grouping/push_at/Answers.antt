@@ -1,3 +1,4 @@
+-- `push_at`: the clause `lists`.
 use Rattle.std.proofs.Common.{◌-◌, ◌<◌, ◌++◌, ◌∷◌, [], Bool, length, ap, ◌∙◌, if◌then◌else◌, arith}
 use Rattle.td_report.specs.Grouped.{list_at}
 use Rattle.td_report.proofs.Lists.{list_at-push, same_number}

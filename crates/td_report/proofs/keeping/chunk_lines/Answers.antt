@@ -1,3 +1,4 @@
+-- `chunk_lines`: what it answers.
 use Rattle.std.proofs.Common.{◌<◌, max, refl, ap, subst, ◌∙◌, string_bytes, rules}
 use Rattle.std.specs.List.{flat_map, AllZip}
 use Rattle.rayon.specs.Lists.{chunks_of}

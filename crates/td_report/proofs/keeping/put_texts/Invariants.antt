@@ -1,3 +1,4 @@
+-- What the loop of `put_texts` keeps.
 use Rattle.std.proofs.Common.{◌≡◌, ◌++◌, take, string_bytes}
 use Rattle.std.specs.List.{flat_map}
 use Rattle.td_report.proofs.keeping.put_texts.Given as goal

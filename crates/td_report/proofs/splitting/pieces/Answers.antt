@@ -1,3 +1,4 @@
+-- `pieces`: what it answers.
 use Rattle.std.proofs.Common.{◌<◌, max, refl, ap, subst, ◌∙◌, string_bytes, count_by, rules}
 use Rattle.std.specs.List.{flat_map, AllZip, sum_by}
 use Rattle.rayon.specs.Lists.{chunks_of}
@@ -5,7 +6,8 @@ use Rattle.rayon.proofs.ToStd.{chunks_of-concat}
 use Rattle.td_report.specs.declared.piece.Piece.{Piece}
 use Rattle.td_report.specs.Pieces.{lines_text}
 use Rattle.td_report.specs.ItemLines.{is_installed}
-use Rattle.td_report.proofs.Splits.{flat_map-zipped, sum-zipped, flat_map-map, sum-of-map, text-parts, count-parts, count-append, IfOk-matched}
+use Rattle.td_report.proofs.Splits.{flat_map-zipped, sum-zipped, flat_map-map, sum-of-map}
+use Rattle.td_report.proofs.Splits.{text-parts, count-parts, count-append, IfOk-matched}
 use Rattle.td_report.proofs.Texts.{lines-append}
 use Rattle.td_report.proofs.splitting.pieces.Goals as goal
 

@@ -1,10 +1,13 @@
-use Rattle.std.proofs.Common.{◌≡◌, ◌++◌, None, [], ◌∷◌, ap, sym, ◌∙◌, map, take, string_bytes, append_assoc}
+-- `put_sources`: its loop.
+use Rattle.std.proofs.Common.{◌≡◌, ◌++◌, None, [], ◌∷◌, ap, sym, ◌∙◌, map, take, string_bytes}
+use Rattle.std.proofs.Common.{append_assoc}
 use Rattle.td_text.specs.Lines.{text_of}
 use Rattle.td_report.specs.ItemLines.{source_of}
 use Rattle.td_report.specs.Report.{each_once, is_last}
 use Rattle.td_report.proofs.Once.{last_of, last-push, sources-more, text-new, text-same}
 use Rattle.td_report.proofs.waves_text.put_sources.Goals as goal
-use Rattle.td_report.proofs.waves_text.put_sources.Goals.{then-not-is_last+in_ok-put_line, else-not-is_last}
+use Rattle.td_report.proofs.waves_text.put_sources.Goals.{then-not-is_last+in_ok-put_line}
+use Rattle.td_report.proofs.waves_text.put_sources.Goals.{else-not-is_last}
 
 pub loop-item-preserved : goal.loop-item-preserved
 loop-item-preserved c =

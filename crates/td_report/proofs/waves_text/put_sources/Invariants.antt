@@ -1,3 +1,4 @@
+-- What the loop of `put_sources` keeps.
 use Rattle.std.proofs.Common.{◌≡◌, ◌++◌, None, map, option_map, take, string_bytes}
 use Rattle.td_text.specs.Lines.{text_of}
 use Rattle.td_report.specs.ItemLines.{source_of}

@@ -1,3 +1,4 @@
+-- `put_waves`: what it answers and its loop.
 use Rattle.std.proofs.Common.{◌≡◌, ◌<◌, ◌+◌, ◌++◌, ◌∙◌, ap, length, string_bytes, arith}
 use Rattle.std.proofs.lemmas.Result.{on_ok_weaker}
 use Rattle.td_text.specs.Lines.{text_of}

@@ -1,3 +1,4 @@
+-- What the loop of `put_waves` keeps.
 use Rattle.std.proofs.Common.{◌≡◌, ◌++◌, string_bytes}
 use Rattle.td_text.specs.Lines.{text_of}
 use Rattle.td_report.specs.ItemLines.{wave_at}

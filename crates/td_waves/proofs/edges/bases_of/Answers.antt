@@ -1,3 +1,4 @@
+-- `bases_of`: what it answers.
 use Rattle.std.proofs.Common.{sym, ap, ◌∙◌}
 use Rattle.td_waves.proofs.Finding.{builds_is, finds_is, ok_then}
 use Rattle.td_waves.proofs.Names.{name_is}

@@ -1,3 +1,4 @@
+-- `edges`: the clause `within` and its loop.
 use Rattle.std.proofs.Common.{◌≡◌, ◌&&◌, ℕ, length, nat_lt, ◌∙◌, arith}
 use Rattle.td_waves.specs.BuildsOn.{builds_on}
 use Rattle.td_waves.specs.Edges.{name_at}

@@ -1,3 +1,4 @@
+-- `fits`: what it answers and its loop.
 use Rattle.std.proofs.Common.{sym, ◌∙◌, length, arith}
 use Rattle.td_relation.specs.Asked.{asked}
 use Rattle.td_waves.specs.BuildsOn.{fits_at}

@@ -1,3 +1,4 @@
+-- What the loop of `fits` keeps.
 use Rattle.std.proofs.Common.{◌≡◌, false}
 use Rattle.std.specs.List.{list_any, range_with_len}
 use Rattle.td_relation.specs.Asked.{asked}

@@ -1,9 +1,13 @@
-use Rattle.std.proofs.Common.{◌≡◌, ℕ, ◌+◌, ◌==◌, Bool, true, false, length, length-set, get_or, sym, ap, ◌∙◌, ◌<◌, if◌then◌else◌, arith}
+-- `enter`: its loop.
+use Rattle.std.proofs.Common.{◌≡◌, ℕ, ◌+◌, ◌==◌, Bool, true, false, length, length-set, get_or, sym}
+use Rattle.std.proofs.Common.{ap, ◌∙◌, ◌<◌, if◌then◌else◌, arith}
 use Rattle.td_waves.specs.Graph.{bases_of, lists, uses}
 use Rattle.td_waves.proofs.Uses.{one, uses-more, lists-entered}
 use Rattle.td_waves.proofs.graph.enter.Goals as goal
 
-joined : (mine : Bool) (before now start so_far here : ℕ) → now ≡ before + (if mine then here else 0) → before ≡ start + (if mine then so_far else 0) → now ≡ start + (if mine then so_far + here else 0)
+joined : (mine : Bool) (before now start so_far here : ℕ)
+    → now ≡ before + (if mine then here else 0) → before ≡ start + (if mine then so_far else 0)
+    → now ≡ start + (if mine then so_far + here else 0)
 joined true before now start so_far here e f = omega arith
 joined false before now start so_far here e f = omega arith
 

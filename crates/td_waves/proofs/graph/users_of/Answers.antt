@@ -1,4 +1,6 @@
-use Rattle.std.proofs.Common.{◌≡◌, ℕ, [], ◌+◌, ◌<◌, ◌≤◌, ◌==◌, true, false, ltb, eqb, inl, inr, refl, length, nat_lt, sym, ap, ◌∙◌, if◌then◌else◌, arith}
+-- `users_of`: the clause `uses` and its loop.
+use Rattle.std.proofs.Common.{◌≡◌, ℕ, [], ◌+◌, ◌<◌, ◌≤◌, ◌==◌, true, false, ltb, eqb, inl, inr}
+use Rattle.std.proofs.Common.{refl, length, nat_lt, sym, ap, ◌∙◌, if◌then◌else◌, arith}
 use Rattle.std.specs.Global.{Vec}
 use Rattle.std.proofs.lemmas.Bool.Decides.{eqb_tells, nat_tests}
 use Rattle.std.proofs.lemmas.Bool.{cases_lt, lt-ltb, le-ltb}

@@ -1,3 +1,4 @@
+-- `each_once`: what it answers and its loop.
 use Rattle.std.proofs.Common.{◌∙◌, arith}
 use Rattle.td_waves.proofs.Names.{among_all, among_more}
 use Rattle.td_waves.proofs.named.each_once.Goals as goal

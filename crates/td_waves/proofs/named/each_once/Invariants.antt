@@ -1,3 +1,4 @@
+-- What the loop of `each_once` keeps.
 use Rattle.std.proofs.Common.{◌≡◌, ℕ, List, take}
 use Rattle.td_waves.specs.Named.{is_among}
 use Rattle.td_waves.proofs.named.each_once.Given as goal

@@ -1,3 +1,4 @@
+-- `put`: what it answers.
 use Rattle.std.proofs.Common.{ap, ◌∙◌}
 use Rattle.td_waves.specs.Named.{is_among}
 use Rattle.td_waves.proofs.Names.{inserted}

@@ -1,4 +1,7 @@
-use Rattle.std.proofs.Common.{◌≡◌, ◌≤◌, ◌<◌, ◌+◌, ◌++◌, ◌∷◌, [], ℕ, List, sym, ap, subst, ◌∙◌, refl, length, replicate, get_or, set, length-set, if◌then◌else◌, ◌==◌, arith}
+-- `levels`: the clauses `levels` and `depth`, its loop and its calls.
+use Rattle.std.proofs.Common.{◌≡◌, ◌≤◌, ◌<◌, ◌+◌, ◌++◌, ◌∷◌, [], ℕ, List, sym, ap, subst, ◌∙◌, refl}
+use Rattle.std.proofs.Common.{length, replicate, get_or, set, length-set, if◌then◌else◌, ◌==◌}
+use Rattle.std.proofs.Common.{arith}
 use Rattle.std.specs.Global.{Vec}
 use Rattle.std.proofs.lemmas.List.{length-map, get_or-map, get_or_default}
 use Rattle.td_waves.specs.Graph.{bases_of, lists, uses, raised}
@@ -8,7 +11,8 @@ use Rattle.td_waves.proofs.Depths.{deep}
 use Rattle.td_waves.proofs.Passing.{any-range}
 use Rattle.td_waves.proofs.SameLevel.{same_level}
 use Rattle.td_waves.proofs.Counting.{closed, fewer}
-use Rattle.td_waves.proofs.Underway.{Underway, Taken, taken, in_list, is_zero, tall, Placed, placed_next, stands, started, all_in_range, finished}
+use Rattle.td_waves.proofs.Underway.{Underway, Taken, taken, in_list, is_zero, tall, Placed}
+use Rattle.td_waves.proofs.Underway.{placed_next, stands, started, all_in_range, finished}
 use Rattle.td_waves.proofs.placing.levels.Goals as goal
 
 pub loop-node-init : goal.loop-node-init
@@ -23,24 +27,33 @@ loop-node-init c =
     (λ s y has. omega (arith, all_in_range graph (length graph) c.requires s y has, size))
 
 -- the node that is taken
-took : (graph : List (List ℕ)) (left heights numbers ready rest : List ℕ) (node : ℕ) → Underway graph left heights numbers ready → ready ≡ rest ++ node ∷ [] → Underway graph left heights numbers (rest ++ node ∷ [])
+took : (graph : List (List ℕ)) (left heights numbers ready rest : List ℕ) (node : ℕ)
+    → Underway graph left heights numbers ready → ready ≡ rest ++ node ∷ []
+    → Underway graph left heights numbers (rest ++ node ∷ [])
 took graph left heights numbers ready rest node w e = subst (λ r. Underway graph left heights numbers r) e w
 
-in_graph : (graph : List (List ℕ)) (left heights numbers rest : List ℕ) (node : ℕ) → Underway graph left heights numbers (rest ++ node ∷ []) → node < length graph
+in_graph : (graph : List (List ℕ)) (left heights numbers rest : List ℕ) (node : ℕ)
+    → Underway graph left heights numbers (rest ++ node ∷ []) → node < length graph
 in_graph graph left heights numbers rest node w = omega (arith, in_list numbers node (taken graph left heights numbers rest node w).unplaced, w.numbers_len)
 
 -- a step of the loop, over plain variables
-count_fits : (graph : List (List ℕ)) (left heights numbers rest users : List ℕ) (node : ℕ) → Underway graph left heights numbers (rest ++ node ∷ []) → ((x : ℕ) → uses x users ≡ uses node (bases_of graph x)) → (s : ℕ) → uses s users ≤ get_or left s 0
+count_fits : (graph : List (List ℕ)) (left heights numbers rest users : List ℕ) (node : ℕ)
+    → Underway graph left heights numbers (rest ++ node ∷ []) → ((x : ℕ)
+    → uses x users ≡ uses node (bases_of graph x)) → (s : ℕ) → uses s users ≤ get_or left s 0
 count_fits graph left heights numbers rest users node w users_are s =
     let t = taken graph left heights numbers rest node w in
     omega (arith, users_are s, w.waiting s, closed numbers node 1 (bases_of graph s) t.unplaced (omega arith) (in_list numbers node t.unplaced))
 
-level_fits : (graph : List (List ℕ)) (left heights numbers rest : List ℕ) (node : ℕ) → Underway graph left heights numbers (rest ++ node ∷ []) → get_or heights node 0 ≤ length graph
+level_fits : (graph : List (List ℕ)) (left heights numbers rest : List ℕ) (node : ℕ)
+    → Underway graph left heights numbers (rest ++ node ∷ []) → get_or heights node 0 ≤ length graph
 level_fits graph left heights numbers rest node w =
     let t = taken graph left heights numbers rest node w in
     omega (arith, w.bound node, fewer numbers node 1 (is_zero numbers node t.unplaced) (omega arith) (in_list numbers node t.unplaced))
 
-its_users : (users : List (Vec ℕ)) (graph : List (List ℕ)) (node : ℕ) (v : Vec ℕ) (list : List ℕ) → node < length users → v ≡ get_or users node v → list ≡ v.items → ((x t : ℕ) → uses x (bases_of (lists users) t) ≡ uses t (bases_of graph x)) → (x : ℕ) → uses x list ≡ uses node (bases_of graph x)
+its_users : (users : List (Vec ℕ)) (graph : List (List ℕ)) (node : ℕ) (v : Vec ℕ) (list : List ℕ)
+    → node < length users → v ≡ get_or users node v → list ≡ v.items
+    → ((x t : ℕ) → uses x (bases_of (lists users) t) ≡ uses t (bases_of graph x)) → (x : ℕ)
+    → uses x list ≡ uses node (bases_of graph x)
 its_users users graph node v list lt is e same x =
     ap (uses x) (e ∙ ap (λ (v : Vec ℕ). v.items) is ∙ sym (get_or-map (λ (v : Vec ℕ). v.items) users node v [] lt)) ∙ same x node
 

@@ -1,3 +1,4 @@
+-- What the loop of `levels` keeps, and why it ends.
 use Rattle.td_waves.specs.Graph.{lists, uses}
 use Rattle.td_waves.proofs.Underway.{Underway}
 use Rattle.td_waves.proofs.placing.levels.Given as goal

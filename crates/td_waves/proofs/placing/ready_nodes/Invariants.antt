@@ -1,3 +1,4 @@
+-- What the loop of `ready_nodes` keeps.
 use Rattle.std.proofs.Common.{◌≡◌, ℕ, ◌==◌, nat_lt, get_or, if◌then◌else◌}
 use Rattle.td_waves.specs.Graph.{uses}
 use Rattle.td_waves.proofs.placing.ready_nodes.Given as goal

@@ -1,4 +1,6 @@
-use Rattle.std.proofs.Common.{◌≡◌, ◌∙◌, ◌+◌, ℕ, ◌<◌, ◌≤◌, take, get_or, length, length-set, ap, sym, List, arith}
+-- `release`: its loop and the call of `free`.
+use Rattle.std.proofs.Common.{◌≡◌, ◌∙◌, ◌+◌, ℕ, ◌<◌, ◌≤◌, take, get_or, length, length-set, ap, sym}
+use Rattle.std.proofs.Common.{List, arith}
 use Rattle.std.proofs.lemmas.Grind.{common_steps}
 use Rattle.std.proofs.lemmas.List.Sums.{sum_by-take-le}
 use Rattle.td_waves.specs.Graph.{uses, freed}

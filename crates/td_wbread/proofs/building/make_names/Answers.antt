@@ -1,3 +1,4 @@
+-- `make_names`: its loop.
 use Rattle.std.proofs.Common.{◌<◌, ◌∙◌, ◌∷◌, [], List, ℕ, length, map, sym, ap, rules, Vec, Global}
 use Rattle.std.specs.Borrow.{Bor}
 use Rattle.std.proofs.lemmas.List.{map-append}

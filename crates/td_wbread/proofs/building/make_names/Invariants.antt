@@ -1,3 +1,4 @@
+-- What the loop of `make_names` keeps.
 use Rattle.std.proofs.Common.{◌≡◌, map, take, List, ℕ}
 use Rattle.std.specs.Borrow.{Bor}
 use Rattle.td_relation.specs.TableView.{table}

@@ -1,3 +1,4 @@
+-- `make_packages`: its loop.
 use Rattle.std.proofs.Common.{◌<◌, ◌∙◌, ◌++◌, ◌∷◌, [], length, map, ap, rules, Vec, Global}
 use Rattle.std.proofs.lemmas.List.{map-append}
 use Rattle.td_wbread.specs.declared.command.Package.{Package}
@@ -5,7 +6,8 @@ use Rattle.td_wbread.specs.Packages.{PackageText, package_at}
 use Rattle.td_wbread.specs.Views.{package_of, package_text}
 use Rattle.td_wbread.proofs.Making.{package_kept, package_skipped}
 use Rattle.td_wbread.proofs.building.make_packages.Goals as goal
-use Rattle.td_wbread.proofs.building.make_packages.Goals.{in-Some+in_ok-make_package+in_ok-push, in_default}
+use Rattle.td_wbread.proofs.building.make_packages.Goals.{in-Some+in_ok-make_package+in_ok-push}
+use Rattle.td_wbread.proofs.building.make_packages.Goals.{in_default}
 
 pub loop-word-preserved : goal.loop-word-preserved
 loop-word-preserved c =

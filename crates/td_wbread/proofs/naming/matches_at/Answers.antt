@@ -1,3 +1,4 @@
+-- `matches_at`: what it answers.
 use Rattle.std.proofs.Common.{ap, ◌∙◌}
 use Rattle.td_version.specs.Version.{parts_of as version_of}
 use Rattle.td_wbread.specs.Naming.{version_matches}

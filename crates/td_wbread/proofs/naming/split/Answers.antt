@@ -1,3 +1,4 @@
+-- `split`: what it answers.
 use Rattle.td_wbread.proofs.Names.{split_is}
 use Rattle.td_wbread.proofs.naming.split.Goals as goal
 

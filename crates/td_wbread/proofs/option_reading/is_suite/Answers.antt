@@ -1,3 +1,4 @@
+-- `is_suite`: what it answers.
 use Rattle.std.proofs.Common.{List, ℕ, sym, ◌∙◌}
 use Rattle.std.specs.Borrow.{Bor}
 use Rattle.std.specs.Str.{bytes_eq}

@@ -1,3 +1,4 @@
+-- `read_options`: the clauses `err` and `ok` and its loop.
 use Rattle.std.proofs.Common.{◌≡◌, ◌∙◌, Result, Ok, Err, IfOk, IfErr, sym, ap, subst}
 use Rattle.std.proofs.lemmas.List.{nil_from_length}
 use Rattle.std.proofs.lemmas.Result.{err_from_is_err_and}
@@ -5,7 +6,8 @@ use Rattle.td_wbread.specs.declared.fault.CommandFault.{CommandFault}
 use Rattle.td_wbread.specs.Faults.{IsFaultOf, missing}
 use Rattle.td_wbread.specs.Tail.{Values, no_values, options_at}
 use Rattle.td_wbread.specs.Views.{values_of}
-use Rattle.td_wbread.proofs.Flags.{fault_is, options_end, no_option, no_value, bad_value, good_value}
+use Rattle.td_wbread.proofs.Flags.{fault_is, options_end, no_option, no_value, bad_value}
+use Rattle.td_wbread.proofs.Flags.{good_value}
 use Rattle.td_wbread.proofs.option_reading.read_options.Goals as goal
 
 pub returns-in_err-flag-clause-err : goal.returns-in_err-flag-clause-err

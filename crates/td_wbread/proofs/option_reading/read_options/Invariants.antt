@@ -1,3 +1,4 @@
+-- What the loop of `read_options` keeps, and why it ends.
 use Rattle.std.proofs.Common.{◌≡◌, length}
 use Rattle.td_wbread.specs.Tail.{no_values, options_at}
 use Rattle.td_wbread.specs.Views.{values_of}

@@ -1,4 +1,6 @@
-use Rattle.std.proofs.Common.{◌<◌, ◌++◌, ◌∷◌, [], List, ℕ, cond, length, ap, refl, sym, ◌∙◌, rules, string_bytes}
+-- `find_places`: its loop.
+use Rattle.std.proofs.Common.{◌<◌, ◌++◌, ◌∷◌, [], List, ℕ, cond, length, ap, refl, sym, ◌∙◌, rules}
+use Rattle.std.proofs.Common.{string_bytes}
 use Rattle.std.specs.Str.{bytes_eq}
 use Rattle.std.proofs.lemmas.Option.{slice_get_read}
 use Rattle.td_wbread.specs.declared.command.Package.{Package}

@@ -1,3 +1,4 @@
+-- `opened`: the clause `none`.
 use Rattle.td_wbread.proofs.Quotes.{none_opens}
 use Rattle.td_wbread.proofs.quoting.opened.Goals as goal
 

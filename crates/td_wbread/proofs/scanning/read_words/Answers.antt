@@ -1,7 +1,9 @@
+-- `read_words`: the clauses `words` and `end`, its loop and its sums.
 use Rattle.std.proofs.Common.{◌<◌, ◌-◌, refl, length, sym, subst, List, rules, arith}
 use Rattle.td_wbread.specs.declared.word.Word.{Word}
 use Rattle.td_wbread.specs.Taking.{IsFront}
-use Rattle.td_wbread.proofs.Scans.{IsLeft, all_left, trimmed_left, trimmed_unspaced, word_left, word_shorter, words_end, closed_end, words_before, open_end}
+use Rattle.td_wbread.proofs.Scans.{IsLeft, all_left, trimmed_left, trimmed_unspaced, word_left}
+use Rattle.td_wbread.proofs.Scans.{word_shorter, words_end, closed_end, words_before, open_end}
 use Rattle.td_wbread.proofs.scanning.read_words.Goals as goal
 
 pub loop-rest-init : goal.loop-rest-init

@@ -1,7 +1,9 @@
+-- `take_word`: what it answers, its loop, the call of `from_line` and its sums.
 use Rattle.std.proofs.Common.{ℕ, ap, sym, ◌∙◌, subst, List, rules}
 use Rattle.td_rows.specs.Text.{has_newline}
 use Rattle.td_wbread.specs.Taking.{IsSeen}
-use Rattle.td_wbread.proofs.Takes.{run_more, between_more, open_found, seen_line, seen_long, word_ends_at, shorter}
+use Rattle.td_wbread.proofs.Takes.{run_more, between_more, open_found, seen_line, seen_long}
+use Rattle.td_wbread.proofs.Takes.{word_ends_at, shorter}
 use Rattle.td_wbread.proofs.scanning.take_word.Goals as goal
 
 pub from_line-requires : goal.from_line-requires

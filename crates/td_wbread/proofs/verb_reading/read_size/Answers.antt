@@ -1,3 +1,4 @@
+-- `read_size`: the clause `size`.
 use Rattle.std.proofs.Common.{◌≢◌, get_or, sym, ◌∙◌, refl, arith, lit<}
 use Rattle.std.proofs.lemmas.Bool.{le-leb, lt-leb, false≢true}
 use Rattle.std.proofs.lemmas.Str.Pattern.{starts_char}

@@ -1,3 +1,4 @@
+-- What the loop of `Marks::affected_sources` keeps.
 use Rattle.std.proofs.Common.{◌≡◌, filter, map, take}
 use Rattle.td_query.specs.Marks.{AreMarks}
 use Rattle.td_query.specs.Statuses.{is_affected}

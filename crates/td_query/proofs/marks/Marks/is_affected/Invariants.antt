@@ -1,3 +1,4 @@
+-- What the loop of `Marks::is_affected` keeps.
 use Rattle.std.proofs.Common.{◌≡◌, false}
 use Rattle.std.specs.Prelude.{is_some}
 use Rattle.std.specs.List.{list_any, range_with_len}

@@ -1,3 +1,4 @@
+-- What the loop of `Marks::row_mark` keeps.
 use Rattle.std.proofs.Common.{◌≡◌, take}
 use Rattle.td_query.specs.Marks.{AreMarks, gathered, mark_there}
 use Rattle.td_query.specs.Tracking.{Tracking}

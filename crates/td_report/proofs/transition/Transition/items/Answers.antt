@@ -1,3 +1,4 @@
+-- `Transition::items`: its loop.
 use Rattle.std.proofs.Common.{◌<◌, ap, ◌∙◌, map, length, arith}
 use Rattle.td_report.specs.ItemLines.{seen}
 use Rattle.td_report.specs.Transition.{affected_row}

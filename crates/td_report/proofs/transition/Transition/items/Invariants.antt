@@ -1,3 +1,4 @@
+-- What the loop of `Transition::items` keeps.
 use Rattle.std.proofs.Common.{◌≡◌, map, take}
 use Rattle.td_report.specs.ItemLines.{seen}
 use Rattle.td_report.specs.Transition.{affected_rows}

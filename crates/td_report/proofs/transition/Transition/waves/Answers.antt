@@ -1,3 +1,4 @@
+-- `Transition::waves`: what it answers.
 use Rattle.std.proofs.Common.{◌≡◌, string_bytes}
 use Rattle.std.proofs.lemmas.Result.{IfOk-weaker}
 use Rattle.td_text.specs.Lines.{text_of}

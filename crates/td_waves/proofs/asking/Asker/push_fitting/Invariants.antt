@@ -1,3 +1,4 @@
+-- What the loop of `Asker::push_fitting` keeps.
 use Rattle.std.proofs.Common.{◌≡◌, ◌||◌, ℕ, take}
 use Rattle.std.specs.List.{list_any}
 use Rattle.td_relation.specs.Asked.{asked}

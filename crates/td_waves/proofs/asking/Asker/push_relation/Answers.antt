@@ -1,3 +1,4 @@
+-- `Asker::push_relation`: its loop.
 use Rattle.std.proofs.Common.{◌∙◌}
 use Rattle.td_relation.specs.MembersLeft.{members_left}
 use Rattle.td_waves.specs.Asking.{is_found}

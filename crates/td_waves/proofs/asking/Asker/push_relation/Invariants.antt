@@ -1,3 +1,4 @@
+-- What the loop of `Asker::push_relation` keeps.
 use Rattle.std.proofs.Common.{◌≡◌, ◌||◌, ℕ}
 use Rattle.td_relation.specs.Members.{members}
 use Rattle.td_relation.specs.MembersLeft.{members_left}

@@ -1,3 +1,4 @@
+-- What the loop of `Providers::of` keeps.
 use Rattle.std.proofs.Common.{◌≡◌, Bool, ℕ, List}
 use Rattle.std.specs.List.{list_any}
 use Rattle.td_waves.specs.declared.providers.Provider.{Provider}

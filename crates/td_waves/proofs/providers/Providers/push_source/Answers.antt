@@ -1,3 +1,4 @@
+-- `Providers::push_source`: what it answers.
 use Rattle.std.proofs.Common.{◌||◌, ap, ◌∙◌, arith}
 use Rattle.std.specs.List.{list_any}
 use Rattle.std.proofs.lemmas.List.{take_all}

@@ -1,3 +1,4 @@
+-- `Waves::of`: the clauses `levels` and `depth`.
 use Rattle.std.proofs.Common.{sym, subst}
 use Rattle.td_waves.specs.Edges.{AreEdges}
 use Rattle.td_waves.proofs.Standing.{sources_deep, sources_stand}

@@ -1,3 +1,4 @@
+-- `Command::is_bare`: what it answers.
 use Rattle.std.proofs.Common.{◌∙◌}
 use Rattle.td_wbread.specs.inner.Places.{is_without_version}
 use Rattle.td_wbread.proofs.Names.{has_bare}

@@ -1,3 +1,4 @@
+-- `Command::is_matched`: what it answers.
 use Rattle.std.proofs.Common.{◌∙◌}
 use Rattle.td_version.specs.Version.{parts_of as version_of}
 use Rattle.td_wbread.specs.inner.Places.{is_matching}

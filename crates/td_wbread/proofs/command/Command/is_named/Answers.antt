@@ -1,3 +1,4 @@
+-- `Command::is_named`: what it answers.
 use Rattle.std.proofs.Common.{◌≡◌, ◌∙◌, ◌&&◌, ℕ, List, Bool, not, eqb, length, ap, sym}
 use Rattle.std.specs.Borrow.{Bor}
 use Rattle.std.specs.List.{list_any}
@@ -10,7 +11,9 @@ use Rattle.td_wbread.proofs.PackagePlaces.{some_place}
 use Rattle.td_wbread.proofs.command.Command.is_named.Goals as goal
 
 -- whether there is a place says whether a package has the source
-found : (command : Command) (source places : List ℕ) (is_empty : Bool) → places ≡ places_of command.places source → is_empty ≡ eqb (length places) 0 → not is_empty ≡ list_any (λ p. bytes_eq p.source source) (parts_of command).packages
+found : (command : Command) (source places : List ℕ) (is_empty : Bool)
+    → places ≡ places_of command.places source → is_empty ≡ eqb (length places) 0
+    → not is_empty ≡ list_any (λ p. bytes_eq p.source source) (parts_of command).packages
 found command source places is_empty is empty =
     ap not empty ∙ ap (λ (at : List ℕ). not (eqb (length at) 0)) is ∙ some_place command.packages.items command.places command.found source ∙ has_source command source
 

@@ -1,7 +1,8 @@
-use crate::{StanzaFault, stanzas};
+//! Control files that are read, or refused at a line. Expected by hand, from Policy 5.1.
 use std::alloc::Global;
 use std::process::Abort;
 use std::test::Fail;
+use td_stanza::{StanzaFault, stanzas};
 
 /// The fields of all stanzas, an empty line behind each stanza.
 fn shown(alloc: Global, text: &str) -> Result<String, Fail> {

@@ -1,11 +1,11 @@
 //! Versions that are read, ordered and rebuilt.
-use crate::{
-    MAX_EPOCH, MAX_REBUILD, Version, VersionFault, base_of, cmp_version, is_same_version,
-    split_rebuild, write_rebuild,
-};
 use std::alloc::{AllocError, Global};
 use std::cmp::Ordering;
 use std::test::Fail;
+use td_version::{
+    MAX_EPOCH, MAX_REBUILD, Version, VersionFault, base_of, cmp_version, is_same_version,
+    split_rebuild, write_rebuild,
+};
 
 /// Pairs whose order `dpkg --compare-versions` gave; `tools/ask-dpkg-versions` asks it again.
 const ORDERED: &str = "\
