@@ -25,17 +25,23 @@ goes_on first x f total h e = sym (ap (λ r. on_ok r f) e) ∙ h
 -- with an `&` in front there is a part more
 pub and_taken : (read : Log → List ℕ → Read) (n : ℕ) (parts : List Shape) (log : Log) (t u : List ℕ)
     (total : Read)
-    → behind_mark (38 ∷ []) t ≡ Some u → length u < length t → length t ≤ n → more_and read n parts log t ≡ total
-    → (m : ℕ) × (n ≡ suc m) × (on_ok (read log u) (λ x. more_and read m (parts ++ x.0 ∷ []) x.1 x.2) ≡ total)
+    → behind_mark (38 ∷ []) t ≡ Some u → length u < length t → length t ≤ n
+    → more_and read n parts log t ≡ total
+    → (m : ℕ) × (n ≡ suc m)
+    × (on_ok (read log u) (λ x. more_and read m (parts ++ x.0 ∷ []) x.1 x.2) ≡ total)
 unfolding more_and
 and_taken read zero parts log t u total is less room h = absurd (omega arith)
-and_taken read (suc m) parts log t u total is less room h = (m, refl, sym (ap (and_next read (more_and read m) parts log t) is) ∙ h)
+and_taken read (suc m) parts log t u total is less room h =
+    (m, refl, sym (ap (and_next read (more_and read m) parts log t) is) ∙ h)
 
 -- with a `|` in front there is a part more
 pub or_taken : (read : Log → List ℕ → Read) (n : ℕ) (parts : List Shape) (log : Log) (t u : List ℕ)
     (total : Read)
-    → behind_mark (124 ∷ []) t ≡ Some u → length u < length t → length t ≤ n → more_or read n parts log t ≡ total
-    → (m : ℕ) × (n ≡ suc m) × (on_ok (read log u) (λ x. more_or read m (parts ++ x.0 ∷ []) x.1 x.2) ≡ total)
+    → behind_mark (124 ∷ []) t ≡ Some u → length u < length t → length t ≤ n
+    → more_or read n parts log t ≡ total
+    → (m : ℕ) × (n ≡ suc m)
+    × (on_ok (read log u) (λ x. more_or read m (parts ++ x.0 ∷ []) x.1 x.2) ≡ total)
 unfolding more_or
 or_taken read zero parts log t u total is less room h = absurd (omega arith)
-or_taken read (suc m) parts log t u total is less room h = (m, refl, sym (ap (or_next read (more_or read m) parts log t) is) ∙ h)
+or_taken read (suc m) parts log t u total is less room h =
+    (m, refl, sym (ap (or_next read (more_or read m) parts log t) is) ∙ h)

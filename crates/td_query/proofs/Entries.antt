@@ -15,7 +15,8 @@ pub taken : (n : ℕ) (s : Said) (t at : List ℕ) (total : Result Said (ℕ × 
     → (m : ℕ) × (n ≡ suc m) × (on_ok (entry_at s at) (λ x. entries m x.0 x.1) ≡ total)
 unfolding entries
 taken zero s t at total is some less room h = absurd (omega arith)
-taken (suc m) s t at total is some less room h = (m, refl, sym (ap (entries_next (entries m) s) is) ∙ h)
+taken (suc m) s t at total is some less room h =
+    (m, refl, sym (ap (entries_next (entries m) s) is) ∙ h)
 
 -- nothing is left
 pub ends : (n : ℕ) (s : Said) (t : List ℕ) (total : Result Said (ℕ × Log)) → front t ≡ None

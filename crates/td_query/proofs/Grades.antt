@@ -25,14 +25,16 @@ any_to f [] h = absurd (false≢true h)
 any_to f (x ∷ xs) h =
     elim (or_to (f x) (list_any f xs) h) [
       | inl here ↦ (x, (0, omega arith, refl), here)
-      | inr later ↦ (let r = any_to f xs later in (r.0, (suc r.1.0, omega (arith, r.1.1), r.1.2), r.2))
+      | inr later ↦ (let r = any_to f xs later in
+            (r.0, (suc r.1.0, omega (arith, r.1.1), r.1.2), r.2))
     ]
 
 any_at : {A : Type 0} (f : A → Bool) (xs : List A) (k : ℕ) (x : A) → k < length xs
     → get_or xs k x ≡ x → IsTrue (f x) → IsTrue (list_any f xs)
 any_at f [] k x lt at h = absurd (omega arith)
 any_at f (y ∷ ys) zero x lt at h = or_from (f y) (list_any f ys) (inl (ap f at ∙ h))
-any_at f (y ∷ ys) (suc k) x lt at h = or_from (f y) (list_any f ys) (inr (any_at f ys k x (omega arith) at h))
+any_at f (y ∷ ys) (suc k) x lt at h =
+    or_from (f y) (list_any f ys) (inr (any_at f ys k x (omega arith) at h))
 
 -- ---- 2. some stanza of a row
 
@@ -47,7 +49,8 @@ module _ (a : Contents) (patterns : List Re) (query : Shape) (s : KeptSource) (p
         | inl own ↦ (source_fields a s, inl refl, own)
         | inr some ↦
             (let r = any_to test a.binaries some in
-            let p = (and_is (is_of_on s.head.name place r.0) (truth patterns (package_fields a r.0) query)).0 r.2 in
+            let p = (and_is (is_of_on s.head.name place r.0)
+                  (truth patterns (package_fields a r.0) query)).0 r.2 in
             (package_fields a r.0, inr (r.0, r.1, p.0, refl), p.1))
       ]
 
@@ -58,12 +61,14 @@ module _ (a : Contents) (patterns : List Re) (query : Shape) (s : KeptSource) (p
         | inl own ↦ inl (ap (λ fields. truth patterns fields query) (sym own) ∙ some.2)
         | inr of ↦
             inr (any_at test a.binaries of.1.0 of.0 of.1.1 of.1.2
-            ((and_is (is_of_on s.head.name place of.0) (truth patterns (package_fields a of.0) query)).1
+            ((and_is (is_of_on s.head.name place of.0)
+                    (truth patterns (package_fields a of.0) query)).1
             (of.2, ap (λ fields. truth patterns fields query) (sym of.3) ∙ some.2)))
       ])
 
 pub by_a_stanza : RowsSatisfyByAStanza
-by_a_stanza a patterns query s place = (to_stanza a patterns query s place, from_stanza a patterns query s place)
+by_a_stanza a patterns query s place =
+    (to_stanza a patterns query s place, from_stanza a patterns query s place)
 
 -- ---- 3. grades
 
@@ -111,8 +116,10 @@ module _ {F G B : Type 0} where
 
 pub graded_rows : RowsAreGradedByTheirStanzas
 graded_rows a t source place s at there =
-    rw (at, there) (grade (row_satisfies a t.patterns t.affected s place) (row_satisfies a t.patterns t.good s place) (row_satisfies a t.patterns t.bad s place)
-    (by_a_stanza a t.patterns t.affected s place) (by_a_stanza a t.patterns t.good s place) (by_a_stanza a t.patterns t.bad s place))
+    rw (at, there) (grade (row_satisfies a t.patterns t.affected s place)
+          (row_satisfies a t.patterns t.good s place) (row_satisfies a t.patterns t.bad s place)
+    (by_a_stanza a t.patterns t.affected s place) (by_a_stanza a t.patterns t.good s place)
+        (by_a_stanza a t.patterns t.bad s place))
 
 pub rows_alone : RowsAloneHaveAStatus
 rows_alone a t source place none = sym (status_nowhere a t source place none)

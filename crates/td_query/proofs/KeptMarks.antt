@@ -11,10 +11,13 @@ pub stanza_there : {A : Type 0} (stanzas : List (List Entry)) (number : A → �
     (fields : List Entry) → option_map (λ x. slice_get stanzas (number x)) o ≡ Some (Some fields)
     → (x : A) × (o ≡ Some x) × (fields_at stanzas (number x) ≡ fields)
 stanza_there stanzas number None fields h = absurd (cc)
-stanza_there stanzas number (Some x) fields h = (x, refl, let it : slice_get stanzas (number x) ≡ Some fields = cc in rw it refl)
+stanza_there stanzas number (Some x) fields h =
+    (x, refl, let it : slice_get stanzas (number x) ≡ Some fields = cc in rw it refl)
 
 -- with the mark of one item more
 pub marks-more : {A B : Type 0} (g : A → B) (xs : List A) (i : ℕ) (x : A) (old new : List B) (m : B)
     → slice_get xs i ≡ Some x → old ≡ map g (take i xs) → new ≡ old ++ m ∷ [] → m ≡ g x
     → new ≡ map g (take (i + 1) xs)
-marks-more g xs i x old new m at so_far pushed is = rw (take-next xs i x at, map-append g (take i xs) (x ∷ [])) (pushed ∙ ap (λ l. l ++ m ∷ []) so_far ∙ ap (λ b. map g (take i xs) ++ b ∷ []) is)
+marks-more g xs i x old new m at so_far pushed is =
+    rw (take-next xs i x at, map-append g (take i xs) (x ∷ []))
+    (pushed ∙ ap (λ l. l ++ m ∷ []) so_far ∙ ap (λ b. map g (take i xs) ++ b ∷ []) is)

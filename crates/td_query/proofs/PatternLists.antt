@@ -16,7 +16,8 @@ use Rattle.td_query.specs.Views.{raw_of}
 -- what is compiled is a pattern
 pub pattern_is : (r : Regex) (text : List ℕ) → regex_config r ≡ default_config
     → regex_source r ≡ text → IsReadFromSource r → IsPattern default_config text
-pattern_is r text config source read = subst (λ k. IsPattern k text) config (subst (λ (s : List ℕ). IsPattern (regex_config r) s) source (_, _, read))
+pattern_is r text config source read = subst (λ k. IsPattern k text) config
+    (subst (λ (s : List ℕ). IsPattern (regex_config r) s) source (_, _, read))
 
 ArePatterns-push : (log : Log) (r : Raw) → ArePatterns log → IsPattern default_config (source_of r)
     → ArePatterns (log ++ r ∷ [])
@@ -27,14 +28,18 @@ ArePatterns-push (x ∷ log) r h p = (h.0, ArePatterns-push log r h.1 p)
 pub more : (log : List RawPattern) (i : ℕ) (d : RawPattern) → i < length log
     → ArePatterns (map raw_of (take i log)) → IsPattern default_config
     (source_of (raw_of (get_or log i d))) → ArePatterns (map raw_of (take (i + 1) log))
-more log i d h fine p = rw (take_more log i d h, map-append raw_of (take i log) (get_or log i d ∷ [])) (ArePatterns-push (map raw_of (take i log)) (raw_of (get_or log i d)) fine p)
+more log i d h fine p =
+    rw (take_more log i d h, map-append raw_of (take i log) (get_or log i d ∷ []))
+    (ArePatterns-push (map raw_of (take i log)) (raw_of (get_or log i d)) fine p)
 
 pub sources_more : (log : List RawPattern) (i : ℕ) (d : RawPattern) (rs ss : List Regex) (r : Regex)
     → i < length log → ss ≡ rs ++ r ∷ []
     → map regex_source rs ≡ map source_of (map raw_of (take i log)) → regex_source r ≡ source_of
     (raw_of (get_or log i d)) → map regex_source ss ≡ map source_of (map raw_of (take (i + 1) log))
 sources_more log i d rs ss r h pushed so_far here =
-    rw (pushed, take_more log i d h, map-append regex_source rs (r ∷ []), map-append raw_of (take i log) (get_or log i d ∷ []), map-append source_of (map raw_of (take i log)) (raw_of (get_or log i d) ∷ []), so_far, here) refl
+    rw (pushed, take_more log i d h, map-append regex_source rs (r ∷ []),
+          map-append raw_of (take i log) (get_or log i d ∷ []), map-append source_of
+          (map raw_of (take i log)) (raw_of (get_or log i d) ∷ []), so_far, here) refl
 
 -- one that is compiled more
 AreDefault-push : (rs : List Regex) (r : Regex) → AreDefault rs
@@ -55,7 +60,9 @@ refused_here size log i d place h fine bad is = record {
   before = map raw_of (take i log);
   at = raw_of (get_or log i d);
   after = map raw_of (drop (suc i) log);
-  parts = ap (map raw_of) (sym (take-append-drop i log) ∙ ap (λ (l : List RawPattern). take i log ++ l) (drop-cons log i d h)) ∙ map-append raw_of (take i log) (get_or log i d ∷ drop (suc i) log);
+  parts = ap (map raw_of) (sym (take-append-drop i log)
+        ∙ ap (λ (l : List RawPattern). take i log ++ l) (drop-cons log i d h))
+      ∙ map-append raw_of (take i log) (get_or log i d ∷ drop (suc i) log);
   fine = fine;
   refused = bad;
   there = is;

@@ -28,7 +28,8 @@ pub goes_on : (escaped : Bool) (t : List ℕ) (i : ℕ) → i < length t
     → (eqb (get_or t i 0) 47 && not escaped) ≡ false → moved i (pattern_end escaped (drop i t))
     ≡ moved (i + 1) (pattern_end (eqb (get_or t i 0) 92) (drop (i + 1) t))
 unfolding pattern_end
-goes_on escaped t i h e = rw (drop-cons t i 0 h, e, add-one) (moved_on i (pattern_end (eqb (get_or t i 0) 92) (drop (suc i) t)) ∙ rw add-one refl)
+goes_on escaped t i h e = rw (drop-cons t i 0 h, e, add-one)
+    (moved_on i (pattern_end (eqb (get_or t i 0) 92) (drop (suc i) t)) ∙ rw add-one refl)
 
 -- no byte is left
 pub ends_never : (escaped : Bool) (t : List ℕ) (i : ℕ) → drop i t ≡ []
@@ -38,7 +39,8 @@ ends_never escaped t i e = rw e refl
 
 -- what doesn't close: a slash behind a backslash, and another byte
 pub escaped_on : (x : ℕ) (escaped : Bool) → escaped ≡ true → (eqb x 47 && not escaped) ≡ false
-escaped_on x escaped e = rw e (elim (eqb x 47) as (λ b. (b && false) ≡ false) [ true ↦ refl | false ↦ refl ])
+escaped_on x escaped e =
+    rw e (elim (eqb x 47) as (λ b. (b && false) ≡ false) [ true ↦ refl | false ↦ refl ])
 
 pub other_on : (x : ℕ) (escaped : Bool) → x ≢ 47 → (eqb x 47 && not escaped) ≡ false
 other_on x escaped h = rw (ne_eqb x 47 h) refl
@@ -55,4 +57,5 @@ boundary_behind_slash t rest i utf8 h e back =
     let whole = drop-cons t i 0 h in
     let first : get_or (drop i t) 0 0 < 128 = rw (whole, e) (omega arith) in
     let some : 0 < length (drop i t) = rw whole (omega arith) in
-    subst (λ (l : List ℕ). IsCharBoundary l 1) (sym back) (IsCharBoundary-after_ascii (drop i t) 0 text some first)
+    subst (λ (l : List ℕ). IsCharBoundary l 1) (sym back)
+        (IsCharBoundary-after_ascii (drop i t) 0 text some first)

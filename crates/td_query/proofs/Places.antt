@@ -19,7 +19,8 @@ below_found test zero i h e = absurd (omega arith)
 below_found test (suc n) i h e =
     elim (eqb_tells i n) [
       | inl is ↦ rw (sym (ap test is.1) ∙ e) (or-true (any_below test n))
-      | inr other ↦ (let apart = other.1 in let less : i < n = omega arith in rw (below_found test n i less e) refl)
+      | inr other ↦ (let apart = other.1 in let less : i < n = omega arith in
+            rw (below_found test n i less e) refl)
     ]
 
 -- ---- the answers of the search
@@ -31,7 +32,8 @@ empty_never text value e = rw e refl
 pub found_at : (text value : List ℕ) (i : ℕ) → 0 < length text → i < length value
     → stands_at text value i ≡ true → stands_in text value ≡ true
 unfolding stands_in
-found_at text value i some h e = rw (lt-ltb 0 (length text) some) (below_found (stands_at text value) (length value) i h e)
+found_at text value i some h e =
+    rw (lt-ltb 0 (length text) some) (below_found (stands_at text value) (length value) i h e)
 
 pub found_nowhere : (text value : List ℕ) → any_below (stands_at text value) (length value) ≡ false
     → stands_in text value ≡ false

@@ -38,14 +38,17 @@ any-places test f g all (x ∷ xs) n e h =
     let front = front_of all n x xs h in
     let later = any-places test f g all xs (n + 1) e (rw add-one front.1) in
     elim (cases_Bool (test x)) [
-      | inl passes ↦ rw passes (ap (λ b. b || list_any f (places_from test (n + 1) xs)) (e n x front.0) ∙ ap (λ b. g x || b) later)
+      | inl passes ↦ rw passes
+          (ap (λ b. b || list_any f (places_from test (n + 1) xs)) (e n x front.0)
+            ∙ ap (λ b. g x || b) later)
       | inr fails ↦ rw fails later
     ]
 
 any-same : {A : Type 0} (f g : A → Bool) (xs : List A) → ((x : A) → f x ≡ g x)
     → list_any f xs ≡ list_any g xs
 any-same f g [] e = refl
-any-same f g (x ∷ xs) e = ap (λ b. b || list_any f xs) (e x) ∙ ap (λ b. g x || b) (any-same f g xs e)
+any-same f g (x ∷ xs) e = ap (λ b. b || list_any f xs) (e x)
+    ∙ ap (λ b. g x || b) (any-same f g xs e)
 
 -- ---- 2. a query on the stanzas of a row
 
@@ -61,13 +64,20 @@ module _ (a : Contents) (patterns : List Re) (query : Shape) (place : ℕ) where
   some_package f s e =
       ap (λ b. truth patterns (source_fields a s) query || b)
       (any-places (is_of s.head.name) f is_on_it a.binaries a.binaries 0 e refl
-      ∙ any-same (λ b. is_of s.head.name b && is_on_it b) (λ b. is_of_on s.head.name place b && truth patterns (package_fields a b) query) a.binaries
-      (λ b. sym (and_assoc (is_of s.head.name b) (is_on place b.head.home) (truth patterns (package_fields a b) query))))
+      ∙ any-same (λ b. is_of s.head.name b && is_on_it b)
+      (λ b. is_of_on s.head.name place b && truth patterns (package_fields a b) query) a.binaries
+      (λ b. sym (and_assoc (is_of s.head.name b) (is_on place b.head.home)
+              (truth patterns (package_fields a b) query))))
 
 -- ---- 3. the three queries
 
 module _ (a : Contents) (t : Tracking) (place : ℕ) where
-  flag : (get : Mark → Bool) (query : Shape) → ((fields : _) → get (mark_by t.patterns t fields) ≡ truth t.patterns fields query) → (get (record { affected = false; good = false; bad = false }) ≡ false) → (k : ℕ) (b : KeptBinary) → slice_get a.binaries k ≡ Some b → get (mark_there a t.patterns t place k) ≡ (is_on place b.head.home && truth t.patterns (package_fields a b) query)
+  flag : (get : Mark → Bool) (query : Shape)
+      → ((fields : _) → get (mark_by t.patterns t fields) ≡ truth t.patterns fields query)
+      → (get (record { affected = false; good = false; bad = false }) ≡ false)
+      → (k : ℕ) (b : KeptBinary) → slice_get a.binaries k ≡ Some b
+      → get (mark_there a t.patterns t place k)
+      ≡ (is_on place b.head.home && truth t.patterns (package_fields a b) query)
   flag get query holds none k b at =
       elim (cases_Bool (is_on place b.head.home)) [
         | inl there ↦ rw (at, there) (holds (package_fields a b))
@@ -75,21 +85,30 @@ module _ (a : Contents) (t : Tracking) (place : ℕ) where
       ]
 
   abbrev marks_of_row : KeptSource → Mark
-  marks_of_row s = gathered (mark_by t.patterns t (source_fields a s)) (mark_there a t.patterns t place) (numbers_of a s.head.name)
+  marks_of_row s = gathered (mark_by t.patterns t (source_fields a s))
+      (mark_there a t.patterns t place) (numbers_of a s.head.name)
 
   pub row_is : (s : KeptSource) → has_row a.table s.head.archs place ≡ true → status_where
       (marks_of_row s).affected (marks_of_row s).good (marks_of_row s).bad ≡ row_status a t s place
   row_is s there =
       rw (
-        some_package a t.patterns t.affected place (λ k. (mark_there a t.patterns t place k).affected) s (flag (λ m. m.affected) t.affected (λ fields. refl) refl),
-        some_package a t.patterns t.good place (λ k. (mark_there a t.patterns t place k).good) s (flag (λ m. m.good) t.good (λ fields. refl) refl),
-        some_package a t.patterns t.bad place (λ k. (mark_there a t.patterns t place k).bad) s (flag (λ m. m.bad) t.bad (λ fields. refl) refl),
+        some_package a t.patterns t.affected place
+            (λ k. (mark_there a t.patterns t place k).affected) s
+            (flag (λ m. m.affected) t.affected (λ fields. refl) refl),
+        some_package a t.patterns t.good place (λ k. (mark_there a t.patterns t place k).good) s
+            (flag (λ m. m.good) t.good (λ fields. refl) refl),
+        some_package a t.patterns t.bad place (λ k. (mark_there a t.patterns t place k).bad) s
+            (flag (λ m. m.bad) t.bad (λ fields. refl) refl),
         there,
       ) refl
 
 -- ---- 4. by number
 
-some_at : (a : Contents) (t : Tracking) (place : ℕ) (o : Option KeptSource) → option_map_or (λ s. has_row a.table s.head.archs place) o false ≡ true → (m : Mark) → m ≡ option_map_or (marks_of_row a t place) o (record { affected = false; good = false; bad = false }) → status_where m.affected m.good m.bad ≡ option_map_or (λ s. row_status a t s place) o None
+some_at : (a : Contents) (t : Tracking) (place : ℕ) (o : Option KeptSource)
+    → option_map_or (λ s. has_row a.table s.head.archs place) o false ≡ true → (m : Mark)
+    → m ≡ option_map_or (marks_of_row a t place) o
+    (record { affected = false; good = false; bad = false })
+    → status_where m.affected m.good m.bad ≡ option_map_or (λ s. row_status a t s place) o None
 some_at a t place None h m is = absurd (let bad : false ≡ true = h in cc)
 some_at a t place (Some s) h m is = rw is (row_is a t place s h)
 
@@ -123,7 +142,8 @@ none_past a place (Some s) h = no_match a.table place h (words s.head.archs)
 
 pub status_past : (a : Contents) (t : Tracking) (source place : ℕ) → length a.table ≤ place
     → None ≡ status_at a t source place
-status_past a t source place h = status_nowhere a t source place (none_past a place (slice_get a.sources source) h)
+status_past a t source place h =
+    status_nowhere a t source place (none_past a place (slice_get a.sources source) h)
 
 -- ---- 6. by name
 

@@ -62,7 +62,8 @@ skipped-stop : (x : ℕ) (t : List ℕ) → is_space x ≡ false
 unfolding skipped_in strip
 skipped-stop x t e =
     elim (eqb_tells x 35) [
-      | inl is ↦ (let same : eqb 35 x ≡ true = subst (λ (y : ℕ). eqb 35 y ≡ true) (sym is.1) refl in rw (e, is.0, same) refl)
+      | inl is ↦ (let same : eqb 35 x ≡ true = subst (λ (y : ℕ). eqb 35 y ≡ true) (sym is.1) refl in
+            rw (e, is.0, same) refl)
       | inr other ↦ rw (e, other.0, ne_eqb 35 x (λ h. other.1 (sym h))) refl
     ]
 
@@ -73,14 +74,18 @@ behind_space (x ∷ t) = by (is_space x) refl (behind_space t)
   where
     by : (b : Bool) → is_space x ≡ b → skipped t ≡ by_hash (trimmed t) (strip (35 ∷ []) (trimmed t))
         → skipped (x ∷ t) ≡ by_hash (trimmed (x ∷ t)) (strip (35 ∷ []) (trimmed (x ∷ t)))
-    by true e h = skipped-space x t e ∙ h ∙ ap (λ (u : List ℕ). by_hash u (strip (35 ∷ []) u)) (sym (trimmed-space x t e))
-    by false e h = skipped-stop x t e ∙ ap (λ (u : List ℕ). by_hash u (strip (35 ∷ []) u)) (sym (trimmed-stop x t e))
+    by true e h = skipped-space x t e ∙ h ∙ ap (λ (u : List ℕ). by_hash u (strip (35 ∷ []) u))
+        (sym (trimmed-space x t e))
+    by false e h = skipped-stop x t e ∙ ap (λ (u : List ℕ). by_hash u (strip (35 ∷ []) u))
+        (sym (trimmed-stop x t e))
 
 -- nothing more is skipped
 pub skipped_here : (t at : List ℕ) → at ≡ trimmed t → strip (35 ∷ []) at ≡ None → skipped t ≡ at
-skipped_here t at e h = behind_space t ∙ ap (λ (u : List ℕ). by_hash u (strip (35 ∷ []) u)) (sym e) ∙ ap (by_hash at) h
+skipped_here t at e h = behind_space t ∙ ap (λ (u : List ℕ). by_hash u (strip (35 ∷ []) u)) (sym e)
+    ∙ ap (by_hash at) h
 
 -- a comment is skipped
 pub skipped_on : (t at c : List ℕ) → at ≡ trimmed t → strip (35 ∷ []) at ≡ Some c
     → skipped t ≡ skipped_all (line_behind c)
-skipped_on t at c e h = behind_space t ∙ ap (λ (u : List ℕ). by_hash u (strip (35 ∷ []) u)) (sym e) ∙ ap (by_hash at) h ∙ comment c
+skipped_on t at c e h = behind_space t ∙ ap (λ (u : List ℕ). by_hash u (strip (35 ∷ []) u)) (sym e)
+    ∙ ap (by_hash at) h ∙ comment c

@@ -57,7 +57,8 @@ any_taken f xs i x h e = rw (drop-cons xs i x h, ← e, add-one) refl
 -- with the same patterns, a part has the truth that was answered
 pub answered : (was patterns : List Re) (fields : List Entry) (s : Shape) (answer b : Bool)
     → was ≡ patterns → answer ≡ truth was fields s → answer ≡ b → truth patterns fields s ≡ b
-answered was patterns fields s answer b same e is = sym (ap (λ (p : List Re). truth p fields s) same) ∙ sym e ∙ is
+answered was patterns fields s answer b same e is =
+    sym (ap (λ (p : List Re). truth p fields s) same) ∙ sym e ∙ is
 
 module _ (patterns : List Re) (fields : List Entry) where
   -- whether a query holds
@@ -66,29 +67,35 @@ module _ (patterns : List Re) (fields : List Entry) where
 
   whole_all : (parts : List Query)
       → truth patterns fields (all_of (map shape_of parts)) ≡ list_all test parts
-  whole_all parts = all_hold patterns fields (map shape_of parts) ∙ list_all-map (truth patterns fields) shape_of parts
+  whole_all parts = all_hold patterns fields (map shape_of parts)
+      ∙ list_all-map (truth patterns fields) shape_of parts
 
   whole_any : (parts : List Query)
       → truth patterns fields (any_of (map shape_of parts)) ≡ list_any test parts
-  whole_any parts = any_holds patterns fields (map shape_of parts) ∙ list_any-map (truth patterns fields) shape_of parts
+  whole_any parts = any_holds patterns fields (map shape_of parts)
+      ∙ list_any-map (truth patterns fields) shape_of parts
 
   -- a part that doesn't hold
   pub part_fails : (parts : List Query) (i : ℕ) (q : Query) → i < length parts
       → q ≡ get_or parts i q → list_all test (drop i parts) ≡ list_all test parts → test q ≡ false
       → false ≡ truth patterns fields (all_of (map shape_of parts))
-  part_fails parts i q h is decides e = sym (whole_all parts ∙ sym decides ∙ all_taken test parts i q h is ∙ rw e refl)
+  part_fails parts i q h is decides e =
+      sym (whole_all parts ∙ sym decides ∙ all_taken test parts i q h is ∙ rw e refl)
 
   -- a part that holds
   pub part_holds : (parts : List Query) (i : ℕ) (q : Query) → i < length parts
       → q ≡ get_or parts i q → list_any test (drop i parts) ≡ list_any test parts → test q ≡ true
       → true ≡ truth patterns fields (any_of (map shape_of parts))
-  part_holds parts i q h is decides e = sym (whole_any parts ∙ sym decides ∙ any_taken test parts i q h is ∙ rw e refl)
+  part_holds parts i q h is decides e =
+      sym (whole_any parts ∙ sym decides ∙ any_taken test parts i q h is ∙ rw e refl)
 
   -- no part is left
   pub all_done : (parts : List Query) (i : ℕ) → length parts ≤ i → list_all test (drop i parts)
       ≡ list_all test parts → true ≡ truth patterns fields (all_of (map shape_of parts))
-  all_done parts i h decides = sym (whole_all parts ∙ sym decides ∙ ap (list_all test) (drop_all i parts h))
+  all_done parts i h decides =
+      sym (whole_all parts ∙ sym decides ∙ ap (list_all test) (drop_all i parts h))
 
   pub any_done : (parts : List Query) (i : ℕ) → length parts ≤ i → list_any test (drop i parts)
       ≡ list_any test parts → false ≡ truth patterns fields (any_of (map shape_of parts))
-  any_done parts i h decides = sym (whole_any parts ∙ sym decides ∙ ap (list_any test) (drop_all i parts h))
+  any_done parts i h decides =
+      sym (whole_any parts ∙ sym decides ∙ ap (list_any test) (drop_all i parts h))

@@ -19,7 +19,8 @@ pub struct Marks {
 
 impl Marks {
     ghost use Rattle.std.specs.Prelude.{◌≡◌, IfOk, map};
-    ghost use Rattle.td_query.specs.Marks.{AreMarks, mark_there as mark_there_of, row_mark as row_mark_of};
+    ghost use Rattle.td_query.specs.Marks.{AreMarks, mark_there as mark_there_of};
+    ghost use Rattle.td_query.specs.Marks.{row_mark as row_mark_of};
     ghost use Rattle.td_query.specs.Statuses.{affected_names, is_affected_at, status_at};
     ghost use Rattle.td_query.specs.Tracking.{Tracking, tracking};
 

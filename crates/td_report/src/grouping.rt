@@ -46,7 +46,8 @@ fn push_at<'r>(
 }
 
 impl<'r> Grouped<'r> {
-    ghost use Rattle.std.specs.Prelude.{◌≡◌, ℕ, ◌+◌, ◌<◌, ◌++◌, ◌∷◌, [], OnOk, length, if◌then◌else◌};
+    ghost use Rattle.std.specs.Prelude.{◌≡◌, ℕ, ◌+◌, ◌<◌, ◌++◌, ◌∷◌, [], OnOk, length};
+    ghost use Rattle.std.specs.Prelude.{if◌then◌else◌};
     ghost use Rattle.td_waves.specs.declared.level.Level.{Level};
     ghost use Rattle.td_report.specs.Grouped.{list_at};
     ghost use Rattle.td_report.specs.ItemLines.{stands_at};

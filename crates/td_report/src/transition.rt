@@ -23,7 +23,8 @@ pub struct Transition<'b, 't, 'a, 'q> {
 }
 
 impl<'b, 't, 'a, 'q> Transition<'b, 't, 'a, 'q> {
-    ghost use Rattle.std.specs.Prelude.{◌≡◌, ◌≤◌, None, IfOk, map, option_map, slice_get, string_bytes};
+    ghost use Rattle.std.specs.Prelude.{◌≡◌, ◌≤◌, None, IfOk, map, option_map, slice_get};
+    ghost use Rattle.std.specs.Prelude.{string_bytes};
     ghost use Rattle.std.specs.Option.{option_map_or};
     ghost use Rattle.td_query.specs.Statuses.{status_of};
     ghost use Rattle.td_query.specs.Tracking.{tracking};

@@ -5,7 +5,8 @@ use Rattle.td_waves.specs.Levels.{Follows, UpTo, IsOn, IsCyclic}
 
 -- numbers, 0 for none, that fit: what has one builds on lower ones alone,
 -- on the one right below it where it isn't the first; what has none builds on one that has none
-pub record Certified {X : Type 0} (A : X → Type 0) (B : X → X → Type 0) (number : X → ℕ) : Type 0 where
+pub record Certified {X : Type 0} (A : X → Type 0) (B : X → X → Type 0)
+    (number : X → ℕ) : Type 0 where
   pub below : (x y : X) → A x → A y → B x y → 0 < number x → (0 < number y) × (number y < number x)
   pub tight : (x : X) → A x → 0 < number x
       → (number x ≡ 1) ⊎ ((y : X) × A y × B x y × (number x ≡ number y + 1))
@@ -19,7 +20,8 @@ zero_or_more (suc n) = inr (omega arith)
 pub numbered : {X : Type 0} (A : X → Type 0) (B : X → X → Type 0) (number : X → ℕ)
     → Certified A B number → (k : ℕ) (x : X) → UpTo A B k x → (0 < number x) × (number x ≤ k)
 numbered A B number ok zero x h = absurd h
-numbered A B number ok (suc k) x (inl h) = let r = numbered A B number ok k x h in (r.0, omega (arith, r.1))
+numbered A B number ok (suc k) x (inl h) = let r = numbered A B number ok k x h in
+    (r.0, omega (arith, r.1))
 numbered A B number ok (suc k) x (inr f) =
     elim (zero_or_more (number x)) [
       | inl none ↦
@@ -44,7 +46,8 @@ placed A B number ok (suc k) x a some h =
       | inr whole ↦ inr (record {
         affected = a;
         not_before = λ u. let r = numbered A B number ok k x u in omega (arith, r.1);
-        grounded = λ y ay b. let r = ok.below x y a ay b some in placed A B number ok k y ay r.0 (omega (arith, r.1));
+        grounded = λ y ay b. let r = ok.below x y a ay b some in
+            placed A B number ok k y ay r.0 (omega (arith, r.1));
       })
     ]
 
@@ -55,13 +58,15 @@ on_level A B number ok zero x a e h = absurd (omega arith)
 on_level A B number ok (suc k) x a e h = record {
   affected = a;
   not_before = λ u. let r = numbered A B number ok k x u in omega (arith, r.1);
-  grounded = λ y ay b. let r = ok.below x y a ay b (omega arith) in placed A B number ok k y ay r.0 (omega (arith, r.1));
+  grounded = λ y ay b. let r = ok.below x y a ay b (omega arith) in
+      placed A B number ok k y ay r.0 (omega (arith, r.1));
 }
 
 -- what has none is cyclic
 pub in_no_level : {X : Type 0} (A : X → Type 0) (B : X → X → Type 0) (number : X → ℕ)
     → Certified A B number → (x : X) → A x → number x ≡ 0 → IsCyclic A B x
-in_no_level A B number ok x a e = (a, λ k u. let r = numbered A B number ok k x u in omega (arith, r.0))
+in_no_level A B number ok x a e =
+    (a, λ k u. let r = numbered A B number ok k x u in omega (arith, r.0))
 
 -- each level from 1 to one that has something has something:
 -- so the number of levels is the greatest number

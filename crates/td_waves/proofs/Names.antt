@@ -28,7 +28,8 @@ absorb false false h = refl
 inserted_by : (b : Bool) (ks : List (Bor (List ℕ))) (k : Bor (List ℕ)) (q : List ℕ)
     → list_any (λ n. bytes_eq k.now n.now) ks ≡ b
     → is_among (if b then ks else ks ++ k ∷ []) q ≡ (is_among ks q || bytes_eq q k.now)
-inserted_by true ks k q e = absorb (is_among ks q) (bytes_eq q k.now) (λ h. subst (λ x. is_among ks x ≡ true) (sym (same_text q k.now h)) e)
+inserted_by true ks k q e = absorb (is_among ks q) (bytes_eq q k.now)
+    (λ h. subst (λ x. is_among ks x ≡ true) (sym (same_text q k.now h)) e)
 inserted_by false ks k q e = any-push (λ n. bytes_eq q n.now) ks k
 
 -- a name put among others, unless it is there
@@ -40,7 +41,8 @@ inserted ks k q = inserted_by (list_any (λ n. bytes_eq k.now n.now) ks) ks k q 
 pub among_more : (names : List (Bor (List ℕ))) (i : ℕ) (d : Bor (List ℕ)) (q : List ℕ)
     (now old : Bool) → i < length names → now ≡ (old || bytes_eq q (get_or names i d).now)
     → old ≡ is_among (take i names) q → now ≡ is_among (take (i + 1) names) q
-among_more names i d q now old lt e h = e ∙ ap (λ b. b || bytes_eq q (get_or names i d).now) h ∙ sym (list_any_more (λ n. bytes_eq q n.now) names i d lt)
+among_more names i d q now old lt e h = e ∙ ap (λ b. b || bytes_eq q (get_or names i d).now) h
+    ∙ sym (list_any_more (λ n. bytes_eq q n.now) names i d lt)
 
 pub among_all : (names : List (Bor (List ℕ))) (i : ℕ) (q : List ℕ) → length names ≤ i
     → is_among (take i names) q ≡ is_among names q
@@ -58,7 +60,8 @@ pub among_at : (names : List (Bor (List ℕ))) (n : ℕ) → n < length names
     → is_among names (name_at names n) ≡ true
 among_at [] n lt = absurd (omega arith)
 among_at (x ∷ xs) zero lt = ap (λ b. b || is_among xs x.now) (itself x.now)
-among_at (x ∷ xs) (suc n) lt = behind (bytes_eq (name_at xs n) x.now) (is_among xs (name_at xs n)) (among_at xs n (omega arith))
+among_at (x ∷ xs) (suc n) lt = behind (bytes_eq (name_at xs n) x.now) (is_among xs (name_at xs n))
+    (among_at xs n (omega arith))
   where
     behind : (b c : Bool) → c ≡ true → (b || c) ≡ true
     behind true c h = refl

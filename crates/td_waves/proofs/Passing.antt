@@ -36,7 +36,8 @@ and-assoc false b c = refl
 pub any-same : {A : Type 0} (f g : A → Bool) (xs : List A) → ((x : A) → f x ≡ g x)
     → list_any f xs ≡ list_any g xs
 any-same f g [] e = refl
-any-same f g (x ∷ xs) e = ap (λ b. b || list_any f xs) (e x) ∙ ap (λ b. g x || b) (any-same f g xs e)
+any-same f g (x ∷ xs) e = ap (λ b. b || list_any f xs) (e x)
+    ∙ ap (λ b. g x || b) (any-same f g xs e)
 
 pub any-none : {A : Type 0} (f : A → Bool) (xs : List A) → ((x : A) → f x ≡ false)
     → list_any f xs ≡ false
@@ -56,18 +57,22 @@ any-under false f xs = any-none (λ x. false) xs (λ x. refl)
 pub any-push : {A : Type 0} (f : A → Bool) (xs : List A) (x : A)
     → list_any f (xs ++ x ∷ []) ≡ (list_any f xs || f x)
 any-push f [] x = or-false (f x)
-any-push f (y ∷ ys) x = ap (λ b. f y || b) (any-push f ys x) ∙ sym (or-assoc (f y) (list_any f ys) (f x))
+any-push f (y ∷ ys) x = ap (λ b. f y || b) (any-push f ys x)
+    ∙ sym (or-assoc (f y) (list_any f ys) (f x))
 
 pub range-more : (a n : ℕ) → range_with_len a (suc n) ≡ range_with_len a n ++ (a + n) ∷ []
 range-more a zero = ap (λ k. k ∷ []) (omega arith)
-range-more a (suc n) = ap (λ l. a ∷ l) (range-more (a + 1) n ∙ ap (λ k. range_with_len (a + 1) n ++ k ∷ []) (omega arith))
+range-more a (suc n) = ap (λ l. a ∷ l)
+    (range-more (a + 1) n ∙ ap (λ k. range_with_len (a + 1) n ++ k ∷ []) (omega arith))
 
 pub any-range : (f : ℕ → Bool) (n : ℕ)
     → list_any f (range_with_len 0 (n + 1)) ≡ (list_any f (range_with_len 0 n) || f n)
 any-range f n =
     let one : n + 1 ≡ suc n = omega arith in
     let it : 0 + n ≡ n = omega arith in
-    ap (λ k. list_any f (range_with_len 0 k)) one ∙ ap (list_any f) (range-more 0 n ∙ ap (λ k. range_with_len 0 n ++ k ∷ []) it) ∙ any-push f (range_with_len 0 n) n
+    ap (λ k. list_any f (range_with_len 0 k)) one
+        ∙ ap (list_any f) (range-more 0 n ∙ ap (λ k. range_with_len 0 n ++ k ∷ []) it)
+        ∙ any-push f (range_with_len 0 n) n
 
 -- ---- the first that passes
 
@@ -104,11 +109,14 @@ from_some t n [] h = absurd (false≢true h)
 from_some t n (x ∷ xs) h = elim (cases_Bool (t x)) [
   | inl is ↦
       let here : n ≡ n + 0 = omega arith in
-      (0, taken (t x) (Some n) (position_from t (n + 1) xs) (Some (n + 0)) is (ap Some here), omega arith, record { item = x; there = refl; passes = is })
+      (0, taken (t x) (Some n) (position_from t (n + 1) xs) (Some (n + 0)) is (ap Some here),
+            omega arith, record { item = x; there = refl; passes = is })
   | inr other ↦
       let r = from_some t (n + 1) xs (behind_none (t x) (list_any t xs) other h) in
       let there : n + 1 + r.0 ≡ n + suc r.0 = omega arith in
-      (suc r.0, left (t x) (Some n) (position_from t (n + 1) xs) (Some (n + suc r.0)) other (r.1 ∙ ap Some there), omega (arith, r.2), record { item = r.3.item; there = r.3.there; passes = r.3.passes })
+      (suc r.0, left (t x) (Some n) (position_from t (n + 1) xs) (Some (n + suc r.0)) other
+            (r.1 ∙ ap Some there), omega (arith, r.2),
+            record { item = r.3.item; there = r.3.there; passes = r.3.passes })
 ]
 
 from_none : {A : Type 0} (t : A → Bool) (n : ℕ) (xs : List A) → list_any t xs ≡ false
@@ -116,7 +124,8 @@ from_none : {A : Type 0} (t : A → Bool) (n : ℕ) (xs : List A) → list_any t
 from_none t n [] h = refl
 from_none t n (x ∷ xs) h = elim (cases_Bool (t x)) [
   | inl is ↦ absurd (before_none (t x) (list_any t xs) is h)
-  | inr other ↦ left (t x) (Some n) (position_from t (n + 1) xs) None other (from_none t (n + 1) xs (none_behind (t x) (list_any t xs) other h))
+  | inr other ↦ left (t x) (Some n) (position_from t (n + 1) xs) None other
+      (from_none t (n + 1) xs (none_behind (t x) (list_any t xs) other h))
 ]
 
 pub first_place : {A : Type 0} (t : A → Bool) (xs : List A) → list_any t xs ≡ true
@@ -146,7 +155,8 @@ pub any-in-range : (f : ℕ → Bool) (n place : ℕ) → place < n → f place 
     → list_any f (range_with_len 0 n) ≡ true
 any-in-range f n place lt h =
     let it : 0 + place ≡ place = omega arith in
-    any-at f (range_with_len 0 n) place 0 (omega (arith, lt, length-range_with_len 0 n)) (ap f (get_or-range_with_len 0 n place 0 lt ∙ it) ∙ h)
+    any-at f (range_with_len 0 n) place 0 (omega (arith, lt, length-range_with_len 0 n))
+        (ap f (get_or-range_with_len 0 n place 0 lt ∙ it) ∙ h)
 
 pub none-more : (f : ℕ → Bool) (n : ℕ) → list_any f (range_with_len 0 n) ≡ false → f n ≡ false
     → list_any f (range_with_len 0 (n + 1)) ≡ false
@@ -174,7 +184,8 @@ Contains-has xs y h = any-at (λ x. x == y) xs h.0 y h.1 (ap (λ x. x == y) h.2 
 pub next_below : (t n : ℕ) (here : ℕ → Bool)
     → ((nat_lt t n && here t) || ((n == t) && here n)) ≡ (nat_lt t (n + 1) && here t)
 next_below t n here = elim (eqb_tells n t) [
-  | inl p ↦ rw (p.0, le-ltb t n (omega (arith, p.1)), lt-ltb t (n + 1) (omega (arith, p.1))) (ap here p.1)
+  | inl p ↦ rw (p.0, le-ltb t n (omega (arith, p.1)), lt-ltb t (n + 1) (omega (arith, p.1)))
+      (ap here p.1)
   | inr p ↦ elim (cases_lt t n) [
     | inl lt ↦ rw (p.0, lt-ltb t n lt, lt-ltb t (n + 1) (omega arith)) (or-false (here t))
     | inr le ↦ rw (p.0, le-ltb t n le, le-ltb t (n + 1) (omega (arith, p.1))) refl

@@ -20,7 +20,9 @@ pub struct Providers<'a> {
 }
 
 impl<'a> Providers<'a> {
-    ghost use Rattle.std.specs.Prelude.{◌≡◌, ◌++◌, ◌∷◌, ◌||◌, ◌&&◌, [], Bool, List, ℕ, false, IfOk, OnOk, if◌then◌else◌, length, slice_get, slice_index_or};
+    ghost use Rattle.std.specs.Prelude.{◌≡◌, ◌++◌, ◌∷◌, ◌||◌, ◌&&◌, [], Bool, List, ℕ, false};
+    ghost use Rattle.std.specs.Prelude.{IfOk, OnOk, if◌then◌else◌, length, slice_get};
+    ghost use Rattle.std.specs.Prelude.{slice_index_or};
     ghost use Rattle.std.specs.List.{list_any};
     ghost use Rattle.std.specs.Option.{option_map_or};
     ghost use Rattle.std.specs.Str.{bytes_eq};

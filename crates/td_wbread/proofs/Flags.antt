@@ -38,31 +38,43 @@ module _ (verb : Verb) (end : End) (seen : Values) (total : Result Values Comman
   pub no_option : (rest after : List Word) (word : Word) (e : CommandFault) → rest ≡ word ∷ after
       → flag_at verb seen word ≡ Err e → options_at verb end seen rest ≡ total → total ≡ Err e
   unfolding options_at
-  no_option rest [] word e is f h = sym h ∙ ap (options_at verb end seen) is ∙ ap (λ r. on_ok r (λ flag. Err (missing end (missing_value flag)))) f
-  no_option rest (value ∷ words) word e is f h = sym h ∙ ap (options_at verb end seen) is ∙ ap (λ r. on_ok r (λ flag. on_ok (valued verb flag seen value) (λ more. options_at verb end more words))) f
+  no_option rest [] word e is f h = sym h ∙ ap (options_at verb end seen) is
+      ∙ ap (λ r. on_ok r (λ flag. Err (missing end (missing_value flag)))) f
+  no_option rest (value ∷ words) word e is f h = sym h ∙ ap (options_at verb end seen) is
+      ∙ ap (λ r. on_ok r (λ flag. on_ok (valued verb flag seen value)
+          (λ more. options_at verb end more words))) f
 
   -- an option without a value
   pub no_value : (rest after : List Word) (word : Word) (flag : Flag) → rest ≡ word ∷ after
       → after ≡ [] → flag_at verb seen word ≡ Ok flag → options_at verb end seen rest ≡ total
       → total ≡ Err (missing end (missing_value flag))
   unfolding options_at
-  no_value rest after word flag is none f h = sym h ∙ ap (options_at verb end seen) (is ∙ ap (λ (ws : List Word). word ∷ ws) none) ∙ ap (λ r. on_ok r (λ (o : Flag). Err (missing end (missing_value o)))) f
+  no_value rest after word flag is none f h = sym h
+      ∙ ap (options_at verb end seen) (is ∙ ap (λ (ws : List Word). word ∷ ws) none)
+      ∙ ap (λ r. on_ok r (λ (o : Flag). Err (missing end (missing_value o)))) f
 
   -- an option with its value
   one_value : (rest after words : List Word) (word value : Word) (flag : Flag) → rest ≡ word ∷ after
       → after ≡ value ∷ words → flag_at verb seen word ≡ Ok flag → options_at verb end seen rest
       ≡ total → on_ok (valued verb flag seen value) (λ more. options_at verb end more words) ≡ total
   unfolding options_at
-  one_value rest after words word value flag is next f h = sym (ap (options_at verb end seen) (is ∙ ap (λ (ws : List Word). word ∷ ws) next) ∙ ap (λ r. on_ok r (λ (o : Flag). on_ok (valued verb o seen value) (λ more. options_at verb end more words))) f) ∙ h
+  one_value rest after words word value flag is next f h =
+      sym (ap (options_at verb end seen) (is ∙ ap (λ (ws : List Word). word ∷ ws) next)
+        ∙ ap (λ r. on_ok r (λ (o : Flag). on_ok (valued verb o seen value)
+            (λ more. options_at verb end more words))) f) ∙ h
 
   pub bad_value : (rest after words : List Word) (word value : Word) (flag : Flag)
       (e : CommandFault) → rest ≡ word ∷ after → after ≡ value ∷ words
       → flag_at verb seen word ≡ Ok flag → options_at verb end seen rest ≡ total
       → IsFaultOf (valued verb flag seen value) e → IsFaultOf total e
-  bad_value rest after words word value flag e is next f h v = fault_same e _ total (one_value rest after words word value flag is next f h) (fault_first e _ (λ more. options_at verb end more words) v)
+  bad_value rest after words word value flag e is next f h v =
+      fault_same e _ total (one_value rest after words word value flag is next f h)
+      (fault_first e _ (λ more. options_at verb end more words) v)
 
   pub good_value : (rest after words : List Word) (word value : Word) (flag : Flag) (more : Values)
       → rest ≡ word ∷ after → after ≡ value ∷ words → flag_at verb seen word ≡ Ok flag
       → options_at verb end seen rest ≡ total → valued verb flag seen value ≡ Ok more
       → options_at verb end more words ≡ total
-  good_value rest after words word value flag more is next f h v = sym (ap (λ r. on_ok r (λ m. options_at verb end m words)) v) ∙ one_value rest after words word value flag is next f h
+  good_value rest after words word value flag more is next f h v =
+      sym (ap (λ r. on_ok r (λ m. options_at verb end m words)) v)
+      ∙ one_value rest after words word value flag is next f h

@@ -42,14 +42,19 @@ package_skipped words i word seen h is none s =
 
 next_name : (test : List ℕ → Bool) (table : List ArchWords) (i : ℕ) (name : List ℕ)
     → i < length table → option_map (λ (a : ArchWords). a.name) (slice_get table i) ≡ Some name
-    → filter test (map (λ (a : ArchWords). a.name) (take (i + 1) table)) ≡ filter test (map (λ (a : ArchWords). a.name) (take i table)) ++ cond (test name) (name ∷ []) []
+    → filter test (map (λ (a : ArchWords). a.name) (take (i + 1) table)) ≡ filter test
+    (map (λ (a : ArchWords). a.name) (take i table)) ++ cond (test name) (name ∷ []) []
 next_name test table i name h is =
     let names = map (λ (a : ArchWords). a.name) table in
-    let inside : i < length names = (let e = length-map table (λ (a : ArchWords). a.name) in omega arith) in
-    let here : get_or names i name ≡ name = get_or_from_slice_get names i name name (slice_get-map (λ (a : ArchWords). a.name) table i ∙ is) in
-    ap (filter test) (sym (take-map (λ (a : ArchWords). a.name) (i + 1) table) ∙ take_more names i name inside ∙ ap (λ (n : List ℕ). take i names ++ n ∷ []) here)
+    let inside : i < length names =
+        (let e = length-map table (λ (a : ArchWords). a.name) in omega arith) in
+    let here : get_or names i name ≡ name = get_or_from_slice_get names i name name
+        (slice_get-map (λ (a : ArchWords). a.name) table i ∙ is) in
+    ap (filter test) (sym (take-map (λ (a : ArchWords). a.name) (i + 1) table)
+          ∙ take_more names i name inside ∙ ap (λ (n : List ℕ). take i names ++ n ∷ []) here)
     ∙ filter-append test (take i names) (name ∷ [])
-    ∙ ap (λ (ns : List (List ℕ)). filter test ns ++ cond (test name) (name ∷ []) []) (take-map (λ (a : ArchWords). a.name) i table)
+    ∙ ap (λ (ns : List (List ℕ)). filter test ns ++ cond (test name) (name ∷ []) [])
+    (take-map (λ (a : ArchWords). a.name) i table)
 
 pub name_kept : (table : List ArchWords) (words : List Word) (i : ℕ) (name : List ℕ)
     (seen : List (List ℕ)) → i < length table

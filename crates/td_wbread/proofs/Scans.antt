@@ -50,19 +50,23 @@ gap_open place b text h = ap (open_at place) (gap_mark b text h)
 
 skip_words : (place : ℕ) (front back : List ℕ) → list_all is_space front ≡ true
     → words_from place (front ++ back) ≡ words_from (place + length front) back
-skip_words place [] back h = let e : place ≡ place + 0 = omega arith in ap (λ (n : ℕ). words_from n back) e
+skip_words place [] back h = let e : place ≡ place + 0 = omega arith in
+    ap (λ (n : ℕ). words_from n back) e
 skip_words place (b ∷ front) back h =
     let p = and_parts (is_space b) (list_all is_space front) h in
     let e : place + 1 + length front ≡ place + suc (length front) = omega arith in
-    gap_words place b (front ++ back) p.0 ∙ skip_words (place + 1) front back p.1 ∙ ap (λ (n : ℕ). words_from n back) e
+    gap_words place b (front ++ back) p.0 ∙ skip_words (place + 1) front back p.1
+        ∙ ap (λ (n : ℕ). words_from n back) e
 
 skip_open : (place : ℕ) (front back : List ℕ) → list_all is_space front ≡ true
     → open_at place (marks None (front ++ back)) ≡ open_at (place + length front) (marks None back)
-skip_open place [] back h = let e : place ≡ place + 0 = omega arith in ap (λ (n : ℕ). open_at n (marks None back)) e
+skip_open place [] back h = let e : place ≡ place + 0 = omega arith in
+    ap (λ (n : ℕ). open_at n (marks None back)) e
 skip_open place (b ∷ front) back h =
     let p = and_parts (is_space b) (list_all is_space front) h in
     let e : place + 1 + length front ≡ place + suc (length front) = omega arith in
-    gap_open place b (front ++ back) p.0 ∙ skip_open (place + 1) front back p.1 ∙ ap (λ (n : ℕ). open_at n (marks None back)) e
+    gap_open place b (front ++ back) p.0 ∙ skip_open (place + 1) front back p.1
+        ∙ ap (λ (n : ℕ). open_at n (marks None back)) e
 
 -- ---- what is left of a line
 
@@ -85,9 +89,15 @@ pub trimmed_left : (line : List ℕ) (seen : List Word) (rest after : List ℕ) 
     → IsLeft line seen rest → IsLeft line seen after
 trimmed_left line seen rest after is l = subst (IsLeft line seen) (sym is) (record {
   place = l.place + length (run is_space rest);
-  counted = (let c = l.counted in let long : length rest ≡ length (run is_space rest) + length (trimmed rest) = ap length (run_joined is_space rest) ∙ length-append (run is_space rest) (trimmed rest) in omega arith);
-  decides = ap (λ (ws : List Word). seen ++ ws) (sym (ap (words_from l.place) (run_joined is_space rest) ∙ skip_words l.place (run is_space rest) (trimmed rest) (run_passes is_space rest))) ∙ l.decides;
-  opens = sym (ap (λ (t : List ℕ). open_at l.place (marks None t)) (run_joined is_space rest) ∙ skip_open l.place (run is_space rest) (trimmed rest) (run_passes is_space rest)) ∙ l.opens;
+  counted = (let c = l.counted in let long : length rest ≡ length (run is_space rest) + length
+        (trimmed rest) = ap length (run_joined is_space rest)
+        ∙ length-append (run is_space rest) (trimmed rest) in omega arith);
+  decides = ap (λ (ws : List Word). seen ++ ws)
+      (sym (ap (words_from l.place) (run_joined is_space rest) ∙ skip_words l.place
+          (run is_space rest) (trimmed rest) (run_passes is_space rest))) ∙ l.decides;
+  opens = sym (ap (λ (t : List ℕ). open_at l.place (marks None t)) (run_joined is_space rest)
+        ∙ skip_open l.place (run is_space rest) (trimmed rest) (run_passes is_space rest))
+      ∙ l.opens;
 })
 
 pub trimmed_unspaced : (rest after : List ℕ) → after ≡ trimmed rest → Unspaced after
@@ -102,29 +112,35 @@ trimmed_unspaced rest after is = by after (sym is)
 split_piece : (front ms : List Mark) → list_any is_gap front ≡ false
     → slice_split is_gap (front ++ gap ∷ ms) ≡ front ∷ slice_split is_gap ms
 split_piece [] ms h = refl
-split_piece (m ∷ front) ms h = by (is_gap m) h (λ (g : list_any is_gap front ≡ false). split_piece front ms g)
+split_piece (m ∷ front) ms h =
+    by (is_gap m) h (λ (g : list_any is_gap front ≡ false). split_piece front ms g)
   where
     by : (v : Bool) → (v || list_any is_gap front) ≡ false → (list_any is_gap front ≡ false
         → slice_split is_gap (front ++ gap ∷ ms) ≡ front ∷ slice_split is_gap ms)
-        → cond v ([] ∷ slice_split is_gap (front ++ gap ∷ ms)) (onto_first m (slice_split is_gap (front ++ gap ∷ ms))) ≡ (m ∷ front) ∷ slice_split is_gap ms
+        → cond v ([] ∷ slice_split is_gap (front ++ gap ∷ ms))
+        (onto_first m (slice_split is_gap (front ++ gap ∷ ms))) ≡ (m ∷ front) ∷ slice_split is_gap
+        ms
     by true g later = absurd cc
     by false g later = ap (onto_first m) (later g)
 
 split_last : (front : List Mark) → list_any is_gap front ≡ false
     → slice_split is_gap front ≡ front ∷ []
 split_last [] h = refl
-split_last (m ∷ front) h = by (is_gap m) h (λ (g : list_any is_gap front ≡ false). split_last front g)
+split_last (m ∷ front) h =
+    by (is_gap m) h (λ (g : list_any is_gap front ≡ false). split_last front g)
   where
     by : (v : Bool) → (v || list_any is_gap front) ≡ false
         → (list_any is_gap front ≡ false → slice_split is_gap front ≡ front ∷ [])
-        → cond v ([] ∷ slice_split is_gap front) (onto_first m (slice_split is_gap front)) ≡ (m ∷ front) ∷ []
+        → cond v ([] ∷ slice_split is_gap front) (onto_first m (slice_split is_gap front))
+        ≡ (m ∷ front) ∷ []
     by true g later = absurd cc
     by false g later = ap (onto_first m) (later g)
 
 whole_piece : (place : ℕ) (front : List Mark) → 0 < length front
     → list_any is_unclosed front ≡ false → words_in place front ≡ word_of place front ∷ []
 whole_piece place [] some h = absurd (omega arith)
-whole_piece place (m ∷ front) some h = by (eqb (length (m ∷ front)) 0) (list_any is_unclosed (m ∷ front)) (eqb-suc-zero (length front)) h
+whole_piece place (m ∷ front) some h = by (eqb (length (m ∷ front)) 0)
+    (list_any is_unclosed (m ∷ front)) (eqb-suc-zero (length front)) h
   where
     by : (u v : Bool) → u ≡ false → v ≡ false
         → cond (u || v) [] (word_of place (m ∷ front) ∷ []) ≡ word_of place (m ∷ front) ∷ []
@@ -145,14 +161,16 @@ pub past : (place : ℕ) (front ms : List Mark) → list_any is_unclosed front �
     → open_at place (front ++ ms) ≡ open_at (place + length front) ms
 unfolding open_at
 past place [] ms h = let e : place ≡ place + 0 = omega arith in ap (λ (n : ℕ). open_at n ms) e
-past place (m ∷ front) ms h = by (is_unclosed m) h (λ (g : list_any is_unclosed front ≡ false). past (place + 1) front ms g)
+past place (m ∷ front) ms h =
+    by (is_unclosed m) h (λ (g : list_any is_unclosed front ≡ false). past (place + 1) front ms g)
   where
     e : place + 1 + length front ≡ place + suc (length front)
     e = omega arith
 
     by : (v : Bool) → (v || list_any is_unclosed front) ≡ false → (list_any is_unclosed front
         ≡ false → open_at (place + 1) (front ++ ms) ≡ open_at (place + 1 + length front) ms)
-        → cond v (Some place) (open_at (place + 1) (front ++ ms)) ≡ open_at (place + suc (length front)) ms
+        → cond v (Some place) (open_at (place + 1) (front ++ ms)) ≡ open_at
+        (place + suc (length front)) ms
     by true g later = absurd cc
     by false g later = later g ∙ ap (λ (n : ℕ). open_at n ms) e
 
@@ -179,7 +197,8 @@ front_filled : (rest : List ℕ) (front : List Mark) (after : List ℕ) → IsTa
 front_filled rest (m ∷ front) after t ends un some = omega arith
 front_filled [] [] after t ends un some = absurd (omega arith)
 front_filled (b ∷ text) [] [] t ends un some = let l = t.long in absurd (omega arith)
-front_filled (b ∷ text) [] (s ∷ after) t ends un some = absurd (by (sym (unspaced_head b text un) ∙ ap head_gap (t.marked ∙ gap_mark s after ends)))
+front_filled (b ∷ text) [] (s ∷ after) t ends un some =
+    absurd (by (sym (unspaced_head b text un) ∙ ap head_gap (t.marked ∙ gap_mark s after ends)))
   where
     by : false ≡ head_gap (gap ∷ marks None after) → ⊥
     by h = cc
@@ -193,10 +212,13 @@ front_words place rest front [] t ends some =
     ∙ ap (placed place) (split_last front t.one)
     ∙ ap (λ (ws : List Word). ws ++ []) (whole_piece place front some t.closed)
 front_words place rest front (b ∷ after) t ends some =
-    ap (λ (ms : List Mark). placed place (slice_split is_gap ms)) (t.marked ∙ ap (λ (ms : List Mark). front ++ ms) (gap_mark b after ends))
+    ap (λ (ms : List Mark). placed place (slice_split is_gap ms))
+        (t.marked ∙ ap (λ (ms : List Mark). front ++ ms) (gap_mark b after ends))
     ∙ ap (placed place) (split_piece front (marks None after) t.one)
-    ∙ ap (λ (ws : List Word). ws ++ placed (place + length front + 1) (slice_split is_gap (marks None after))) (whole_piece place front some t.closed)
-    ∙ ap (λ (ws : List Word). word_of place front ∷ ws) (sym (gap_words (place + length front) b after ends))
+    ∙ ap (λ (ws : List Word). ws ++ placed (place + length front + 1)
+      (slice_split is_gap (marks None after))) (whole_piece place front some t.closed)
+    ∙ ap (λ (ws : List Word). word_of place front ∷ ws)
+    (sym (gap_words (place + length front) b after ends))
 
 pub word_left : (line : List ℕ) (seen : List Word) (rest word : List ℕ) (is_bare : Bool)
     (after : List ℕ) (place : ℕ) → place ≡ length line - length rest → IsLeft line seen rest
@@ -205,16 +227,20 @@ pub word_left : (line : List ℕ) (seen : List Word) (rest word : List ℕ) (is_
 word_left line seen rest word is_bare after place at l un some s ends =
     let filled = front_filled rest s.front after s.taken ends un some in
     let here : l.place ≡ place = (let c = l.counted in omega arith) in
-    let w : word_of l.place s.front ≡ record { text = word; is_bare = is_bare; place = place } = cc (s.joined, s.bare) in
+    let w : word_of l.place s.front ≡ record { text = word; is_bare = is_bare; place = place } =
+        cc (s.joined, s.bare) in
     record {
       place = l.place + length s.front;
       counted = (let c = l.counted in let d = s.taken.long in omega arith);
       decides =
-          append_assoc seen (record { text = word; is_bare = is_bare; place = place } ∷ []) (words_from (l.place + length s.front) after)
+          append_assoc seen (record { text = word; is_bare = is_bare; place = place } ∷ [])
+              (words_from (l.place + length s.front) after)
           ∙ ap (λ (x : Word). seen ++ x ∷ words_from (l.place + length s.front) after) (sym w)
-          ∙ ap (λ (ws : List Word). seen ++ ws) (sym (front_words l.place rest s.front after s.taken ends filled))
+          ∙ ap (λ (ws : List Word). seen ++ ws)
+          (sym (front_words l.place rest s.front after s.taken ends filled))
           ∙ l.decides;
-      opens = sym (ap (open_at l.place) s.taken.marked ∙ past l.place s.front (marks None after) s.taken.closed) ∙ l.opens;
+      opens = sym (ap (open_at l.place) s.taken.marked
+            ∙ past l.place s.front (marks None after) s.taken.closed) ∙ l.opens;
     }
 
 pub word_shorter : (rest word : List ℕ) (is_bare : Bool) (after after' : List ℕ)
@@ -223,7 +249,8 @@ pub word_shorter : (rest word : List ℕ) (is_bare : Bool) (after after' : List 
 word_shorter rest word is_bare after after' is un some s ends =
     let filled = front_filled rest s.front after s.taken ends un some in
     let d = s.taken.long in
-    let long : length after ≡ length (run is_space after) + length (trimmed after) = ap length (run_joined is_space after) ∙ length-append (run is_space after) (trimmed after) in
+    let long : length after ≡ length (run is_space after) + length (trimmed after) = ap length
+        (run_joined is_space after) ∙ length-append (run is_space after) (trimmed after) in
     let e : length after' ≡ length (trimmed after) = ap length is in
     omega arith
 
@@ -243,28 +270,35 @@ closed_end line seen (b ∷ rest) l none = absurd (omega arith)
 
 open_marks : (rest : List ℕ) (quote_place : ℕ) → (o : IsOpen rest quote_place)
     → marks None rest ≡ o.front ++ unclosed ∷ []
-open_marks rest quote_place o = o.taken.marked ∙ ap (λ (ms : List Mark). o.front ++ ms) o.unclosed_after
+open_marks rest quote_place o = o.taken.marked
+    ∙ ap (λ (ms : List Mark). o.front ++ ms) o.unclosed_after
 
 open_words : (place : ℕ) (rest : List ℕ) (quote_place : ℕ) → IsOpen rest quote_place
     → words_from place rest ≡ []
 unfolding placed
 open_words place rest quote_place o =
     let piece : List Mark = o.front ++ unclosed ∷ [] in
-    let one : list_any is_gap piece ≡ false = list_any-append is_gap o.front (unclosed ∷ []) ∙ neither _ _ o.taken.one refl in
-    let still : list_any is_unclosed piece ≡ true = list_any-append is_unclosed o.front (unclosed ∷ []) ∙ or-true (list_any is_unclosed o.front) in
+    let one : list_any is_gap piece ≡ false = list_any-append is_gap o.front (unclosed ∷ [])
+        ∙ neither _ _ o.taken.one refl in
+    let still : list_any is_unclosed piece ≡ true = list_any-append is_unclosed o.front
+        (unclosed ∷ []) ∙ or-true (list_any is_unclosed o.front) in
     ap (λ (ms : List Mark). placed place (slice_split is_gap ms)) (open_marks rest quote_place o)
     ∙ ap (placed place) (split_last piece one)
     ∙ ap (λ (ws : List Word). ws ++ []) (open_piece place piece still)
 
 pub words_before : (line : List ℕ) (seen : List Word) (rest : List ℕ) (quote_place : ℕ)
     → IsLeft line seen rest → IsOpen rest quote_place → seen ≡ words_of line
-words_before line seen rest quote_place l o = sym (append-nil seen) ∙ ap (λ (ws : List Word). seen ++ ws) (sym (open_words l.place rest quote_place o)) ∙ l.decides
+words_before line seen rest quote_place l o = sym (append-nil seen)
+    ∙ ap (λ (ws : List Word). seen ++ ws) (sym (open_words l.place rest quote_place o)) ∙ l.decides
 
 pub open_end : (line : List ℕ) (seen : List Word) (rest : List ℕ) (quote_place : ℕ)
     → IsLeft line seen rest → IsOpen rest quote_place
     → Open (length line - length rest + quote_place) ≡ end_of line
 unfolding open_at
 open_end line seen rest quote_place l o =
-    let at : length line - length rest + quote_place ≡ l.place + length o.front = (let c = l.counted in let d = o.counted in omega arith) in
+    let at : length line - length rest + quote_place ≡ l.place + length o.front =
+        (let c = l.counted in let d = o.counted in omega arith) in
     ap Open at
-    ∙ ap (end_with (length line)) (sym (ap (open_at l.place) (open_marks rest quote_place o) ∙ past l.place o.front (unclosed ∷ []) o.taken.closed) ∙ l.opens)
+    ∙ ap (end_with (length line))
+    (sym (ap (open_at l.place) (open_marks rest quote_place o)
+        ∙ past l.place o.front (unclosed ∷ []) o.taken.closed) ∙ l.opens)

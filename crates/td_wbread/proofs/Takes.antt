@@ -32,14 +32,17 @@ plain_by b x z false false h = refl
 plain_mark : (b : ℕ) (text : List ℕ) → is_plain b ≡ true
     → marks None (b ∷ text) ≡ plain b ∷ marks None text
 unfolding marks
-plain_mark b text h = plain_by b (cond (closes b text) (quote ∷ marks (Some b) text) (unclosed ∷ [])) (marks None text) (is_quote b) (is_space b) h
+plain_mark b text h = plain_by b
+    (cond (closes b text) (quote ∷ marks (Some b) text) (unclosed ∷ [])) (marks None text)
+    (is_quote b) (is_space b) h
 
 pub plain_marks : (front back : List ℕ) → list_all is_plain front ≡ true
     → marks None (front ++ back) ≡ map plain front ++ marks None back
 plain_marks [] back h = refl
 plain_marks (b ∷ front) back h =
     let p = and_parts (is_plain b) (list_all is_plain front) h in
-    plain_mark b (front ++ back) p.0 ∙ ap (λ (ms : List Mark). plain b ∷ ms) (plain_marks front back p.1)
+    plain_mark b (front ++ back) p.0 ∙ ap (λ (ms : List Mark). plain b ∷ ms)
+        (plain_marks front back p.1)
 
 quoted_by : (b q : ℕ) (y z : List Mark) (e : Bool) → eqb b q ≡ e → b ≢ q
     → cond e y (quoted b ∷ z) ≡ quoted b ∷ z
@@ -54,7 +57,9 @@ pub quoted_marks : (q : ℕ) (inside after : List ℕ) → Without q inside
     → marks (Some q) (inside ++ q ∷ after) ≡ map quoted inside ++ quote ∷ marks None after
 unfolding marks
 quoted_marks q [] after w = same_by q (quote ∷ marks None after) _ (eqb q q) refl
-quoted_marks q (b ∷ inside) after w = quoted_by b q (quote ∷ marks None (inside ++ q ∷ after)) (marks (Some q) (inside ++ q ∷ after)) (eqb b q) refl w.0 ∙ ap (λ (ms : List Mark). quoted b ∷ ms) (quoted_marks q inside after w.1)
+quoted_marks q (b ∷ inside) after w = quoted_by b q (quote ∷ marks None (inside ++ q ∷ after))
+    (marks (Some q) (inside ++ q ∷ after)) (eqb b q) refl w.0
+    ∙ ap (λ (ms : List Mark). quoted b ∷ ms) (quoted_marks q inside after w.1)
 
 -- a quote that is closed
 pub closed_mark : (q : ℕ) (text : List ℕ) → is_quote q ≡ true → closes q text ≡ true
@@ -85,7 +90,8 @@ open_mark q text is h = by (is_quote q) (closes q text) is h
 pub run_ends : (b : ℕ) (test : ℕ → Bool) (text after : List ℕ) → behind test text ≡ b ∷ after
     → test b ≡ false
 run_ends b test [] after h = absurd cc
-run_ends b test (x ∷ xs) after h = by (test x) refl (λ (g : behind test xs ≡ b ∷ after). run_ends b test xs after g) h
+run_ends b test (x ∷ xs) after h =
+    by (test x) refl (λ (g : behind test xs ≡ b ∷ after). run_ends b test xs after g) h
   where
     by : (v : Bool) → test x ≡ v → (behind test xs ≡ b ∷ after → test b ≡ false)
         → drop (cond v (1 + prefix_len test xs) 0) (x ∷ xs) ≡ b ∷ after → test b ≡ false
@@ -151,10 +157,12 @@ joined_text front piece = flat_map-append letter front piece
 more : (text : List ℕ) (front : List Mark) (rest : List ℕ) (piece : List Mark) (after : List ℕ)
     → IsTaken text front rest → IsPiece rest piece after → IsTaken text (front ++ piece) after
 more text front rest piece after t p = record {
-  marked = t.marked ∙ ap (λ (ms : List Mark). front ++ ms) p.marked ∙ sym (append_assoc front piece (marks None after));
+  marked = t.marked ∙ ap (λ (ms : List Mark). front ++ ms) p.marked
+      ∙ sym (append_assoc front piece (marks None after));
   one = list_any-append is_gap front piece ∙ neither _ _ t.one p.one;
   closed = list_any-append is_unclosed front piece ∙ neither _ _ t.closed p.closed;
-  one_line = ap has_newline (joined_text front piece) ∙ list_any-append (λ b. eqb b 10) (text_of front) (text_of piece) ∙ neither _ _ t.one_line p.one_line;
+  one_line = ap has_newline (joined_text front piece) ∙ list_any-append (λ b. eqb b 10)
+      (text_of front) (text_of piece) ∙ neither _ _ t.one_line p.one_line;
   long = (let l = t.long in let m = p.long in simp length-append (omega arith));
 }
 
@@ -168,11 +176,16 @@ plain_line (b ∷ text) h =
 -- a run of bytes that stand for themselves
 pub is_run : (rest : List ℕ) → IsPiece rest (map plain (run is_plain rest)) (behind is_plain rest)
 is_run rest = record {
-  marked = ap (marks None) (run_joined is_plain rest) ∙ plain_marks (run is_plain rest) (behind is_plain rest) (run_passes is_plain rest);
+  marked = ap (marks None) (run_joined is_plain rest)
+      ∙ plain_marks (run is_plain rest) (behind is_plain rest) (run_passes is_plain rest);
   one = plain_gaps (run is_plain rest);
   closed = plain_unclosed (run is_plain rest);
-  one_line = ap has_newline (plain_text (run is_plain rest)) ∙ plain_line (run is_plain rest) (run_passes is_plain rest);
-  long = ap length (run_joined is_plain rest) ∙ length-append (run is_plain rest) (behind is_plain rest) ∙ ap (λ (n : ℕ). n + length (behind is_plain rest)) (sym (length-map (run is_plain rest) plain));
+  one_line = ap has_newline (plain_text (run is_plain rest))
+      ∙ plain_line (run is_plain rest) (run_passes is_plain rest);
+  long = ap length (run_joined is_plain rest)
+      ∙ length-append (run is_plain rest) (behind is_plain rest)
+      ∙ ap (λ (n : ℕ). n + length (behind is_plain rest))
+      (sym (length-map (run is_plain rest) plain));
 }
 
 -- what stands between quotes, with these
@@ -180,7 +193,8 @@ abbrev pub between : List ℕ → List Mark
 between inside = quote ∷ (map quoted inside ++ quote ∷ [])
 
 pub between_text : (inside : List ℕ) → text_of (between inside) ≡ inside
-between_text inside = joined_text (map quoted inside) (quote ∷ []) ∙ append-nil (text_of (map quoted inside)) ∙ quoted_text inside
+between_text inside = joined_text (map quoted inside) (quote ∷ [])
+    ∙ append-nil (text_of (map quoted inside)) ∙ quoted_text inside
 
 closing_is : (q : ℕ) (text inside after : List ℕ) → Some (inside, after) ≡ closing (cut q text)
     → (closes q text ≡ true) × (text ≡ inside ++ q ∷ after) × Without q inside
@@ -196,7 +210,8 @@ closing_is q text inside after h = by (cut q text) refl h
         let left : p.0 ≡ inside = cc in
         let right : p.1 ≡ after = cc in (
           ap on_one_line is ∙ ap not line,
-          found.0 ∙ ap (λ (t : List ℕ). t ++ q ∷ p.1) left ∙ ap (λ (t : List ℕ). inside ++ q ∷ t) right,
+          found.0 ∙ ap (λ (t : List ℕ). t ++ q ∷ p.1) left
+              ∙ ap (λ (t : List ℕ). inside ++ q ∷ t) right,
           subst (Without q) left found.1,
           ap has_newline (sym left) ∙ line,
         )
@@ -212,13 +227,19 @@ pub is_between : (q : ℕ) (text inside after : List ℕ) → is_quote q ≡ tru
 is_between q text inside after is h =
     let c = closing_is q text inside after h in
     record {
-      marked = closed_mark q text is c.0 ∙ ap (λ (t : List ℕ). quote ∷ marks (Some q) t) c.1 ∙ ap (λ (ms : List Mark). quote ∷ ms) (quoted_marks q inside after c.2 ∙ sym (append_assoc (map quoted inside) (quote ∷ []) (marks None after)));
-      one = list_any-append is_gap (map quoted inside) (quote ∷ []) ∙ neither _ _ (quoted_gaps inside) refl;
-      closed = list_any-append is_unclosed (map quoted inside) (quote ∷ []) ∙ neither _ _ (quoted_unclosed inside) refl;
+      marked = closed_mark q text is c.0 ∙ ap (λ (t : List ℕ). quote ∷ marks (Some q) t) c.1
+          ∙ ap (λ (ms : List Mark). quote ∷ ms) (quoted_marks q inside after c.2
+            ∙ sym (append_assoc (map quoted inside) (quote ∷ []) (marks None after)));
+      one = list_any-append is_gap (map quoted inside) (quote ∷ [])
+          ∙ neither _ _ (quoted_gaps inside) refl;
+      closed = list_any-append is_unclosed (map quoted inside) (quote ∷ [])
+          ∙ neither _ _ (quoted_unclosed inside) refl;
       one_line = ap has_newline (between_text inside) ∙ c.3;
       long =
-          (let a : length text ≡ length inside + suc (length after) = ap length c.1 ∙ length-append inside (q ∷ after) in
-          let b : length (map quoted inside ++ quote ∷ []) ≡ length inside + 1 = length-append (map quoted inside) (quote ∷ []) ∙ ap (λ (n : ℕ). n + 1) (length-map inside quoted) in
+          (let a : length text ≡ length inside + suc (length after) = ap length c.1
+                ∙ length-append inside (q ∷ after) in
+          let b : length (map quoted inside ++ quote ∷ []) ≡ length inside + 1 = length-append
+              (map quoted inside) (quote ∷ []) ∙ ap (λ (n : ℕ). n + 1) (length-map inside quoted) in
           omega arith);
     }
 
@@ -237,7 +258,9 @@ is_open q text is h = open_mark q text is (by (cut q text) h)
 -- ---- what is seen of a word
 
 pub nothing_seen : (text : List ℕ) → IsSeen text [] true text
-nothing_seen text = record { front = []; taken = record { marked = refl; one = refl; closed = refl; one_line = refl; long = omega arith }; joined = refl; bare = refl }
+nothing_seen text =
+    record { front = []; taken = record { marked = refl; one = refl; closed = refl; one_line = refl;
+        long = omega arith }; joined = refl; bare = refl }
 
 pub run_seen : (text word : List ℕ) (is_bare : Bool) (rest : List ℕ) → IsSeen text word is_bare rest
     → IsSeen text (word ++ run is_plain rest) is_bare (behind is_plain rest)
@@ -246,8 +269,10 @@ run_seen text word is_bare rest s =
     record {
       front = s.front ++ map plain r;
       taken = more text s.front rest (map plain r) (behind is_plain rest) s.taken (is_run rest);
-      joined = joined_text s.front (map plain r) ∙ ap (λ (t : List ℕ). t ++ text_of (map plain r)) s.joined ∙ ap (λ (t : List ℕ). word ++ t) (plain_text r);
-      bare = ap not (list_any-append is_quote_mark s.front (map plain r) ∙ or_none _ _ (plain_bare r)) ∙ s.bare;
+      joined = joined_text s.front (map plain r) ∙ ap (λ (t : List ℕ). t ++ text_of (map plain r))
+          s.joined ∙ ap (λ (t : List ℕ). word ++ t) (plain_text r);
+      bare = ap not (list_any-append is_quote_mark s.front (map plain r)
+            ∙ or_none _ _ (plain_bare r)) ∙ s.bare;
     }
 
 pub between_seen : (text word : List ℕ) (is_bare : Bool) (q : ℕ) (rest inside after : List ℕ)
@@ -255,9 +280,12 @@ pub between_seen : (text word : List ℕ) (is_bare : Bool) (q : ℕ) (rest insid
     → IsSeen text word is_bare (q ∷ rest) → IsSeen text (word ++ inside) false after
 between_seen text word is_bare q rest inside after is h s = record {
   front = s.front ++ between inside;
-  taken = more text s.front (q ∷ rest) (between inside) after s.taken (is_between q rest inside after is h);
-  joined = joined_text s.front (between inside) ∙ ap (λ (t : List ℕ). t ++ text_of (between inside)) s.joined ∙ ap (λ (t : List ℕ). word ++ t) (between_text inside);
-  bare = ap not (list_any-append is_quote_mark s.front (between inside) ∙ or-true (list_any is_quote_mark s.front));
+  taken = more text s.front (q ∷ rest) (between inside) after s.taken
+      (is_between q rest inside after is h);
+  joined = joined_text s.front (between inside) ∙ ap (λ (t : List ℕ). t ++ text_of (between inside))
+      s.joined ∙ ap (λ (t : List ℕ). word ++ t) (between_text inside);
+  bare = ap not (list_any-append is_quote_mark s.front (between inside)
+        ∙ or-true (list_any is_quote_mark s.front));
 }
 
 pub word_ends : (rest : List ℕ) → IsUnquoted (behind is_plain rest)
@@ -289,7 +317,8 @@ pub run_more : (text word : List ℕ) (is_bare : Bool) (rest run' after word' : 
     → word' ≡ word ++ run' → IsSeen text word' is_bare after
 run_more text word is_bare rest run' after word' s a b w =
     subst (λ (t : List ℕ). IsSeen text word' is_bare t) (sym b)
-    (subst (λ (t : List ℕ). IsSeen text t is_bare (behind is_plain rest)) (ap (λ (t : List ℕ). word ++ t) (sym a) ∙ sym w)
+    (subst (λ (t : List ℕ). IsSeen text t is_bare (behind is_plain rest))
+          (ap (λ (t : List ℕ). word ++ t) (sym a) ∙ sym w)
     (run_seen text word is_bare rest s))
 
 -- what stands between quotes, by other names
@@ -299,7 +328,8 @@ pub between_more : (text word : List ℕ) (is_bare : Bool) (q : ℕ)
     → IsSeen text word is_bare rest → IsSeen text word' false after
 between_more text word is_bare q rest quoted_rest inside after word' at is h w s =
     subst (λ (t : List ℕ). IsSeen text t false after) (sym w)
-    (between_seen text word is_bare q quoted_rest inside after is h (subst (λ (t : List ℕ). IsSeen text word is_bare t) at s))
+    (between_seen text word is_bare q quoted_rest inside after is h
+          (subst (λ (t : List ℕ). IsSeen text word is_bare t) at s))
 
 pub open_found : (text word : List ℕ) (is_bare : Bool) (q : ℕ) (rest quoted_rest : List ℕ)
     → rest ≡ q ∷ quoted_rest → is_quote q ≡ true → None ≡ closing (cut q quoted_rest)
@@ -317,7 +347,8 @@ pub between_shorter : (q : ℕ) (text inside after : List ℕ)
     → Some (inside, after) ≡ closing (cut q text) → length after < length text
 between_shorter q text inside after h =
     let c = closing_is q text inside after h in
-    let a : length text ≡ length inside + suc (length after) = ap length c.1 ∙ length-append inside (q ∷ after) in
+    let a : length text ≡ length inside + suc (length after) = ap length c.1
+        ∙ length-append inside (q ∷ after) in
     omega arith
 
 -- by another name
@@ -329,7 +360,8 @@ pub shorter : (q : ℕ) (rest after text inside behind' : List ℕ) → after �
     → after ≡ q ∷ text → Some (inside, behind') ≡ closing (cut q text)
     → length behind' < length rest
 shorter q rest after text inside behind' is at h =
-    let a : length rest ≡ length (run is_plain rest) + length (behind is_plain rest) = ap length (run_joined is_plain rest) ∙ length-append (run is_plain rest) (behind is_plain rest) in
+    let a : length rest ≡ length (run is_plain rest) + length (behind is_plain rest) = ap length
+        (run_joined is_plain rest) ∙ length-append (run is_plain rest) (behind is_plain rest) in
     let b : length (behind is_plain rest) ≡ suc (length text) = ap length (sym is ∙ at) in
     let d = between_shorter q text inside behind' h in
     omega arith

@@ -25,7 +25,8 @@ use Rattle.td_wbread.proofs.Dotted.{filled_by, none_before, some_before}
 all_before : (front : List Word) → list_any is_dot front ≡ false
     → position_or_len is_dot front ≡ length front
 all_before [] none = refl
-all_before (x ∷ front) none = by (is_dot x) none (λ (g : list_any is_dot front ≡ false). all_before front g)
+all_before (x ∷ front) none =
+    by (is_dot x) none (λ (g : list_any is_dot front ≡ false). all_before front g)
   where
     by : (b : Bool) → (b || list_any is_dot front) ≡ false
         → (list_any is_dot front ≡ false → position_or_len is_dot front ≡ length front)
@@ -34,10 +35,12 @@ all_before (x ∷ front) none = by (is_dot x) none (λ (g : list_any is_dot fron
     by false g later = let e = later g in omega arith
 
 before_all : (front : List Word) → list_any is_dot front ≡ false → before_dot front ≡ front
-before_all front none = let e = all_before front none in take_all (position_or_len is_dot front) front (omega arith)
+before_all front none = let e = all_before front none in
+    take_all (position_or_len is_dot front) front (omega arith)
 
 behind_all : (front : List Word) → list_any is_dot front ≡ false → behind_dot front ≡ None
-behind_all front none = by (ltb (position_or_len is_dot front) (length front)) (le-ltb _ _ (let e = all_before front none in omega arith))
+behind_all front none = by (ltb (position_or_len is_dot front) (length front))
+    (le-ltb _ _ (let e = all_before front none in omega arith))
   where
     by : (b : Bool) → b ≡ false → option_map (λ (i : ℕ). drop (i + 1) front)
         (cond b (Some (position_or_len is_dot front)) None) ≡ None
@@ -51,7 +54,8 @@ none_found words h = by (ltb (position_or_len is_dot words) (length words)) refl
         → option_map (λ (i : ℕ). drop (i + 1) words)
         (cond b (Some (position_or_len is_dot words)) None) ≡ None → words ≡ before_dot words
     by true is g = absurd cc
-    by false is g = sym (take_all (position_or_len is_dot words) words (ltb-false (position_or_len is_dot words) (length words) is))
+    by false is g = sym (take_all (position_or_len is_dot words) words
+          (ltb-false (position_or_len is_dot words) (length words) is))
 
 -- ---- the tests
 
@@ -100,14 +104,20 @@ goes_on words = by (behind_dot words) refl
 archs_found : (table : List ArchWords) (end : End) (words front : List Word) (behind : Option
     (List Word)) → archs_at table end words ≡ Ok (front, behind) → AreArchs table words front behind
 archs_found table end words front behind h =
-    let a = on_ok_parts (filled end NoArch words) (λ _. on_ok (archs_checked table (before_dot words)) (λ _. done (before_dot words, behind_dot words))) (front, behind) h in
-    let b = on_ok_parts (archs_checked table (before_dot words)) (λ _. done (before_dot words, behind_dot words)) (front, behind) a.2 in
-    let both : (before_dot words, behind_dot words) ≡ (front, behind) = ok_same (before_dot words, behind_dot words) (front, behind) b.2 in
+    let a = on_ok_parts (filled end NoArch words)
+        (λ _. on_ok (archs_checked table (before_dot words))
+          (λ _. done (before_dot words, behind_dot words))) (front, behind) h in
+    let b = on_ok_parts (archs_checked table (before_dot words))
+        (λ _. done (before_dot words, behind_dot words)) (front, behind) a.2 in
+    let both : (before_dot words, behind_dot words) ≡ (front, behind) =
+        ok_same (before_dot words, behind_dot words) (front, behind) b.2 in
     let f : before_dot words ≡ front = ap (λ (p : List Word × Option (List Word)). p.0) both in
     record {
-      joined = subst (λ (p : List Word × Option (List Word)). GoesOn words p.0 p.1) both (goes_on words);
+      joined = subst (λ (p : List Word × Option (List Word)). GoesOn words p.0 p.1) both
+          (goes_on words);
       no_dot = subst (λ (ws : List Word). list_any is_dot ws ≡ false) f (none_before words);
-      archs = subst (λ (ws : List Word). are_arch_words table ws ≡ true) f (checked_fit table (before_dot words) (some_before end NoArch words a.1) b.1);
+      archs = subst (λ (ws : List Word). are_arch_words table ws ≡ true) f
+          (checked_fit table (before_dot words) (some_before end NoArch words a.1) b.1);
     }
 
 archs_by : (table : List ArchWords) (end : End) (words front : List Word)
@@ -115,7 +125,8 @@ archs_by : (table : List ArchWords) (end : End) (words front : List Word)
     → behind_dot words ≡ behind → are_arch_words table front ≡ true
     → archs_at table end words ≡ Ok (front, behind)
 archs_by table end words front behind some before after fit =
-    ap (λ r. on_ok r (λ _. on_ok (archs_checked table (before_dot words)) (λ _. done (before_dot words, behind_dot words)))) some
+    ap (λ r. on_ok r (λ _. on_ok (archs_checked table (before_dot words))
+            (λ _. done (before_dot words, behind_dot words)))) some
     ∙ ap (λ (f : List Word). on_ok (archs_checked table f) (λ _. done (f, behind_dot words))) before
     ∙ ap (λ r. on_ok r (λ _. done (front, behind_dot words))) (fit_checked table front fit)
     ∙ ap (λ (o : Option (List Word)). done (front, o)) after
@@ -126,7 +137,8 @@ archs_read : (table : List ArchWords) (end : End) (words front : List Word)
 archs_read table end words front None joined none fit =
     subst (λ (ws : List Word). archs_at table end ws ≡ Ok (front, None)) (sym joined)
     (archs_by table end front front None
-    (ap (filled end NoArch) (sym (append-nil front)) ∙ filled_by end NoArch front [] (fit_some table front fit) none)
+    (ap (filled end NoArch) (sym (append-nil front))
+          ∙ filled_by end NoArch front [] (fit_some table front fit) none)
     (before_all front none) (behind_all front none) fit)
 archs_read table end words front (Some rest) joined none fit =
     subst (λ (ws : List Word). archs_at table end ws ≡ Ok (front, Some rest)) (sym joined.1)
@@ -136,4 +148,5 @@ archs_read table end words front (Some rest) joined none fit =
 
 pub archs_exact : ArchsAreExact
 archs_exact = λ table end words front behind.
-    (archs_found table end words front behind, λ a. archs_read table end words front behind a.joined a.no_dot a.archs)
+    (archs_found table end words front behind,
+          λ a. archs_read table end words front behind a.joined a.no_dot a.archs)

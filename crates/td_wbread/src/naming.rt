@@ -117,7 +117,8 @@ fn has_arch(archs: &[&str], arch: &str) -> bool
 impl Command<'_> {
     ghost use Rattle.std.specs.Prelude.{◌≡◌};
     ghost use Rattle.td_version.specs.Version.{parts_of as version_of};
-    ghost use Rattle.td_wbread.specs.Naming.{is_bare as is_bare_of, is_matched as is_matched_of, is_named as is_named_of};
+    ghost use Rattle.td_wbread.specs.Naming.{is_bare as is_bare_of, is_matched as is_matched_of};
+    ghost use Rattle.td_wbread.specs.Naming.{is_named as is_named_of};
     ghost use Rattle.td_wbread.specs.Views.{parts_of};
 
     /// Whether it names the row of a source on an architecture, if there is one.

@@ -81,13 +81,15 @@ pub fn read_command<'a>(
     ensures found { IfOk result (λ c.
         command_at (table archs.now) (map (λ s. s.now) suites.now) line.now ≡ Ok (parts_of c)) }
     // A line that is a command is read, unless memory runs out.
-    ensures only { (p : CommandParts) → command_at (table archs.now) (map (λ s. s.now) suites.now) line.now ≡ Ok p →
+    ensures only { (p : CommandParts) →
+        command_at (table archs.now) (map (λ s. s.now) suites.now) line.now ≡ Ok p →
         MatchResult result (λ c. parts_of c ≡ p) (λ e. e ≡ CommandFault.NoMemory) }
     // A fault is the line's first, or want of memory.
     ensures fault { IfErr result
         (λ e. IsFaultOf (command_at (table archs.now) (map (λ s. s.now) suites.now) line.now) e) }
     // A line with a fault is refused by the first, unless memory runs out.
-    ensures refused { (fault : CommandFault) → command_at (table archs.now) (map (λ s. s.now) suites.now) line.now ≡ Err fault →
+    ensures refused { (fault : CommandFault) →
+        command_at (table archs.now) (map (λ s. s.now) suites.now) line.now ≡ Err fault →
         IsErrAnd result (λ e. IsOrNoMemory fault e) }
 {
     match read_words(alloc, line) {

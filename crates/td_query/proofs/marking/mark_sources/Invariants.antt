@@ -10,5 +10,7 @@ use Rattle.td_query.proofs.marking.mark_sources.Given as goal
 abbrev pub invariant-loop-number : goal.invariant-loop-number
 invariant-loop-number l = record {
   same : map matcher_pattern l.matchers.items ≡ map matcher_pattern l.fn.matchers.items;
-  marks : l.marks.items ≡ map (λ x. mark_by (map matcher_pattern l.fn.matchers.items) (tracking l.tracker) (source_fields l.archive x)) (take l.number l.archive.sources);
+  marks : l.marks.items ≡ map
+      (λ x. mark_by (map matcher_pattern l.fn.matchers.items) (tracking l.tracker)
+        (source_fields l.archive x)) (take l.number l.archive.sources);
 }

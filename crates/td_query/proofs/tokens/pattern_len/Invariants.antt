@@ -6,4 +6,5 @@ use Rattle.td_query.proofs.tokens.pattern_len.Given as goal
 
 -- what is left decides
 abbrev pub invariant-loop-i : goal.invariant-loop-i
-invariant-loop-i l = moved l.i (pattern_end l.escaped (drop l.i l.bytes)) ≡ pattern_end false l.bytes
+invariant-loop-i l = moved l.i (pattern_end l.escaped (drop l.i l.bytes)) ≡ pattern_end false
+    l.bytes

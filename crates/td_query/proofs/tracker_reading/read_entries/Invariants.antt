@@ -12,6 +12,7 @@ decreases-loop-at l = length l.rest
 -- what is left decides
 abbrev pub invariant-loop-at : goal.invariant-loop-at
 invariant-loop-at l = record {
-  decides : (n : ℕ) × (length l.rest ≤ n) × (entries n (said l.keys) l.rest ≡ entries (length l.fn.text) (said l.fn.keys) l.fn.text);
+  decides : (n : ℕ) × (length l.rest ≤ n)
+      × (entries n (said l.keys) l.rest ≡ entries (length l.fn.text) (said l.fn.keys) l.fn.text);
   utf8 : shadow (Utf8 l.rest);
 }

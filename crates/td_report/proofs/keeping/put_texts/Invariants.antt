@@ -5,4 +5,5 @@ use Rattle.td_report.proofs.keeping.put_texts.Given as goal
 
 -- the texts so far
 abbrev pub invariant-loop-text : goal.invariant-loop-text
-invariant-loop-text l = string_bytes l.out ≡ string_bytes l.fn.out ++ flat_map (λ t. string_bytes t) (take l.text-index l.texts)
+invariant-loop-text l = string_bytes l.out ≡ string_bytes l.fn.out ++ flat_map (λ t. string_bytes t)
+    (take l.text-index l.texts)

@@ -5,4 +5,5 @@ use Rattle.td_waves.proofs.named.each_once.Given as goal
 
 -- the names so far
 abbrev pub invariant-loop-name : goal.invariant-loop-name
-invariant-loop-name l = (q : List ℕ) → is_among l.set.keys q ≡ is_among (take l.name-index l.names) q
+invariant-loop-name l = (q : List ℕ)
+    → is_among l.set.keys q ≡ is_among (take l.name-index l.names) q

@@ -26,11 +26,13 @@ loop-node-preserved c = λ s.
     elim c.if-count-eq0.branch [
       | then-count-eq0+in_ok-push w ↦
           next_node s n (ready_at left) (uses s c.loop-node.ready.items) _ 1
-          (ap (λ r. uses s r.items) w.ready-is ∙ ap (λ l. uses s l) w.in_ok-push.ensures.items ∙ uses-push s c.loop-node.ready.items n)
+          (ap (λ r. uses s r.items) w.ready-is ∙ ap (λ l. uses s l) w.in_ok-push.ensures.items
+                ∙ uses-push s c.loop-node.ready.items n)
           (is_ready left n _ at w.if-count-eq0.true) (c.loop-node.invariant s)
       | else-count-eq0 w ↦
           next_node s n (ready_at left) (uses s c.loop-node.ready.items) _ 0
-          (ap (λ r. uses s r.items) w.ready-is ∙ more_of_none (uses s c.loop-node.ready.items) (n == s))
+          (ap (λ r. uses s r.items) w.ready-is ∙ more_of_none (uses s c.loop-node.ready.items)
+                (n == s))
           (is_not left n _ at w.if-count-eq0.false) (c.loop-node.invariant s)
     ]
 
@@ -39,5 +41,7 @@ returns c = λ s.
     let left = c.args.left.now in
     elim (cases_lt s c.loop-node.node) [
       | inl below ↦ c.loop-node.invariant s ∙ rw (lt-ltb s c.loop-node.node below) refl
-      | inr from ↦ c.loop-node.invariant s ∙ rw (le-ltb s c.loop-node.node from, get_or_past left s 1 (omega (arith, c.loop-node-test.false))) refl
+      | inr from ↦ c.loop-node.invariant s
+          ∙ rw (le-ltb s c.loop-node.node from,
+            get_or_past left s 1 (omega (arith, c.loop-node-test.false))) refl
     ]

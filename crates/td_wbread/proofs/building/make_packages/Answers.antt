@@ -17,9 +17,14 @@ loop-word-preserved c =
           ap (λ (v : Vec Package Global). map package_of v.items) w.packages-is
           ∙ ap (map package_of) w.in_ok-push.ensures.items
           ∙ map-append package_of c.loop-word.packages.items (w.in_ok-make_package.field-0 ∷ [])
-          ∙ ap (λ (p : PackageText). map package_of c.loop-word.packages.items ++ p ∷ []) w.in_ok-make_package.ensures
-          ∙ package_kept c.args.words.now c.loop-word.word-index c.word-item.result _ (package_text w.in-Some.parts) inside c.word-item.is (w.in-Some.ensures ∙ ap package_at c.as_str.ensures.text) c.loop-word.invariant
+          ∙ ap (λ (p : PackageText). map package_of c.loop-word.packages.items ++ p ∷ [])
+          w.in_ok-make_package.ensures
+          ∙ package_kept c.args.words.now c.loop-word.word-index c.word-item.result _
+          (package_text w.in-Some.parts) inside c.word-item.is
+          (w.in-Some.ensures ∙ ap package_at c.as_str.ensures.text) c.loop-word.invariant
       | in_default w ↦
           ap (λ (v : Vec Package Global). map package_of v.items) w.packages-is
-          ∙ package_skipped c.args.words.now c.loop-word.word-index c.word-item.result _ inside c.word-item.is (w.in_default.ensures ∙ ap package_at c.as_str.ensures.text) c.loop-word.invariant
+          ∙ package_skipped c.args.words.now c.loop-word.word-index c.word-item.result _ inside
+          c.word-item.is (w.in_default.ensures ∙ ap package_at c.as_str.ensures.text)
+          c.loop-word.invariant
     ]

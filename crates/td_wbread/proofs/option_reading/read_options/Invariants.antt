@@ -6,7 +6,8 @@ use Rattle.td_wbread.proofs.option_reading.read_options.Given as goal
 
 -- what is left decides
 abbrev pub invariant-loop-word : goal.invariant-loop-word
-invariant-loop-word l = options_at l.verb l.end (values_of l.seen) l.rest ≡ options_at l.verb l.end no_values l.words
+invariant-loop-word l = options_at l.verb l.end (values_of l.seen) l.rest ≡ options_at l.verb l.end
+    no_values l.words
 
 abbrev pub decreases-loop-word : goal.decreases-loop-word
 decreases-loop-word l = length l.rest

@@ -7,4 +7,5 @@ use Rattle.td_report.proofs.transition.Transition.items.Given as goal
 
 -- those of the rows so far
 abbrev pub invariant-loop-number : goal.invariant-loop-number
-invariant-loop-number l = map seen l.items.items ≡ affected_rows (contents_of l.self) (tracking_of l.self) (level_of l.self) (take l.number l.rows)
+invariant-loop-number l = map seen l.items.items ≡ affected_rows (contents_of l.self)
+    (tracking_of l.self) (level_of l.self) (take l.number l.rows)
