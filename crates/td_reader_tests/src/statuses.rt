@@ -112,8 +112,11 @@ Architecture: i386
 Note: ax x x
 ";
 
-const LIBFOO2: &str =
-    "title = \"libfoo2\"; is_affected = .depends ~ \"libfoo1\" | .depends ~ \"libfoo2\"; is_good = .depends ~ \"libfoo2\"; is_bad = .depends ~ \"libfoo1\";";
+const LIBFOO2: &str = r#"title = "libfoo2";
+is_affected = .depends ~ "libfoo1" | .depends ~ "libfoo2";
+is_good = .depends ~ "libfoo2";
+is_bad = .depends ~ "libfoo1";
+"#;
 
 /// A row's status, as the tracker and as its marks say, where they say the same.
 fn status(

@@ -207,7 +207,8 @@ fn a_rebuild_suffix_is_split_off_and_written(rt: HostRuntime) -> Result<(), Fail
     Ok(())
 }
 
-// As `split_rebuild` has it, which leaves `+b1` whole; of `1.0-+b1` nothing is left behind the hyphen.
+// As `split_rebuild` has it, which leaves `+b1` whole; of `1.0-+b1` nothing is left behind the
+// hyphen.
 #[test]
 fn a_version_has_a_base(rt: HostRuntime) -> Result<(), Fail> {
     for (text, upstream, revision) in [
