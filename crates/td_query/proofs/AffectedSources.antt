@@ -40,7 +40,7 @@ pub any-below : (f : ℕ → Bool) (n place : ℕ) → place < n → f place ≡
 any-below f n place lt h =
     let it : 0 + place ≡ place = omega arith in
     any-at f (range_with_len 0 n) place (omega (arith, lt, length-range_with_len 0 n))
-        (ap f (get_or-range_with_len 0 n place 0 lt ∙ it) ∙ h)
+    (ap f (get_or-range_with_len 0 n place 0 lt ∙ it) ∙ h)
 
 pub none-more : (f : ℕ → Bool) (n : ℕ) → list_any f (range_with_len 0 n) ≡ false → f n ≡ false
     → list_any f (range_with_len 0 (n + 1)) ≡ false
@@ -48,8 +48,8 @@ none-more f n h g =
     let one : n + 1 ≡ suc n = omega arith in
     let it : 0 + n ≡ n = omega arith in
     ap (λ k. list_any f (range_with_len 0 k)) one
-        ∙ ap (list_any f) (range-more 0 n ∙ ap (λ k. range_with_len 0 n ++ k ∷ []) it)
-        ∙ any-push f (range_with_len 0 n) n
+    ∙ ap (list_any f) (range-more 0 n ∙ ap (λ k. range_with_len 0 n ++ k ∷ []) it)
+    ∙ any-push f (range_with_len 0 n) n
     ∙ ap (λ b. b || f n) h ∙ g
 
 -- ---- 2. whether a source is affected
@@ -95,7 +95,7 @@ names-more : {A B : Type 0} (keep : A → Bool) (name : A → B) (xs : List A) (
     → map name (filter keep (take i xs)) ++ name x ∷ [] ≡ map name (filter keep (take (i + 1) xs))
 names-more keep name xs i x at h =
     sym (ap (λ l. map name (filter keep l)) (take-next xs i x at) ∙ ap (map name)
-      (filter-push keep (take i xs) x h) ∙ map-append name (filter keep (take i xs)) (x ∷ []))
+    (filter-push keep (take i xs) x h) ∙ map-append name (filter keep (take i xs)) (x ∷ []))
 
 -- and without one that isn't
 names-same : {A B : Type 0} (keep : A → Bool) (name : A → B) (xs : List A) (i : ℕ) (x : A)
@@ -103,14 +103,18 @@ names-same : {A B : Type 0} (keep : A → Bool) (name : A → B) (xs : List A) (
     → map name (filter keep (take i xs)) ≡ map name (filter keep (take (i + 1) xs))
 names-same keep name xs i x at h =
     sym (ap (λ l. map name (filter keep l)) (take-next xs i x at)
-      ∙ ap (map name) (filter-drop keep (take i xs) x h))
+    ∙ ap (map name) (filter-drop keep (take i xs) x h))
 
 -- the source that was found
 found : (o : Option KeptSource) (x : Source) → Some (seen_source x) ≡ option_map shown_source o
     → (s : KeptSource) × (o ≡ Some s) × (s.head.name ≡ x.name.now)
 found None x h = absurd (cc)
-found (Some s) x h = (s, refl, let it : seen_source x ≡ shown_source s = cc in
-      sym (ap (λ y. y.head.name) it))
+found (Some s) x h = (
+  s,
+  refl,
+  let it : seen_source x ≡ shown_source s = cc in
+      sym (ap (λ y. y.head.name) it),
+)
 
 module _ (a : Contents) (t : Tracking) (n : ℕ) where
   -- the names of the affected ones among the first
@@ -125,7 +129,7 @@ module _ (a : Contents) (t : Tracking) (n : ℕ) where
       let f = found (slice_get a.sources n) x at in
       let keeps : is_affected a t f.0 ≡ true = rw f.1 at is in
       ap (map (λ name. name.now)) pushed ∙ map-append (λ (name : Bor (List ℕ)). name.now) old
-          (x.name ∷ []) ∙ ap (λ l. l ++ x.name.now ∷ []) so_far
+      (x.name ∷ []) ∙ ap (λ l. l ++ x.name.now ∷ []) so_far
       ∙ ap (λ q. names_below n ++ q ∷ []) (sym f.2)
       ∙ names-more (is_affected a t) (λ s. s.head.name) a.sources n f.0 f.1 keeps
 

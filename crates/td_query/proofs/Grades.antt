@@ -26,7 +26,7 @@ any_to f (x ∷ xs) h =
     elim (or_to (f x) (list_any f xs) h) [
       | inl here ↦ (x, (0, omega arith, refl), here)
       | inr later ↦ (let r = any_to f xs later in
-            (r.0, (suc r.1.0, omega (arith, r.1.1), r.1.2), r.2))
+          (r.0, (suc r.1.0, omega (arith, r.1.1), r.1.2), r.2))
     ]
 
 any_at : {A : Type 0} (f : A → Bool) (xs : List A) (k : ℕ) (x : A) → k < length xs
@@ -50,7 +50,7 @@ module _ (a : Contents) (patterns : List Re) (query : Shape) (s : KeptSource) (p
         | inr some ↦
             (let r = any_to test a.binaries some in
             let p = (and_is (is_of_on s.head.name place r.0)
-                  (truth patterns (package_fields a r.0) query)).0 r.2 in
+            (truth patterns (package_fields a r.0) query)).0 r.2 in
             (package_fields a r.0, inr (r.0, r.1, p.0, refl), p.1))
       ]
 
@@ -62,7 +62,7 @@ module _ (a : Contents) (patterns : List Re) (query : Shape) (s : KeptSource) (p
         | inr of ↦
             inr (any_at test a.binaries of.1.0 of.0 of.1.1 of.1.2
             ((and_is (is_of_on s.head.name place of.0)
-                    (truth patterns (package_fields a of.0) query)).1
+            (truth patterns (package_fields a of.0) query)).1
             (of.2, ap (λ fields. truth patterns fields query) (sym of.3) ∙ some.2)))
       ])
 
@@ -117,9 +117,9 @@ module _ {F G B : Type 0} where
 pub graded_rows : RowsAreGradedByTheirStanzas
 graded_rows a t source place s at there =
     rw (at, there) (grade (row_satisfies a t.patterns t.affected s place)
-          (row_satisfies a t.patterns t.good s place) (row_satisfies a t.patterns t.bad s place)
+    (row_satisfies a t.patterns t.good s place) (row_satisfies a t.patterns t.bad s place)
     (by_a_stanza a t.patterns t.affected s place) (by_a_stanza a t.patterns t.good s place)
-        (by_a_stanza a t.patterns t.bad s place))
+    (by_a_stanza a t.patterns t.bad s place))
 
 pub rows_alone : RowsAloneHaveAStatus
 rows_alone a t source place none = sym (status_nowhere a t source place none)

@@ -52,35 +52,38 @@ pub conjunctions : ConjunctionsAreAnd
 conjunctions patterns fields s t = and_is (truth patterns fields s) (truth patterns fields t)
 
 pub disjunctions : DisjunctionsAreOr
-disjunctions patterns fields s t =
-    (or_to (truth patterns fields s) (truth patterns fields t),
-      or_from (truth patterns fields s) (truth patterns fields t))
+disjunctions patterns fields s t = (
+  or_to (truth patterns fields s) (truth patterns fields t),
+  or_from (truth patterns fields s) (truth patterns fields t),
+)
 
 -- ---- 3. of a field
 
 at_value : (f : List ℕ → Bool) (o : Option (List ℕ))
     → IsTrue (option_map_or f o false) ↔ ((value : List ℕ) × (o ≡ Some value) × IsTrue (f value))
 at_value f None = (λ h. absurd (false≢true h), λ p. absurd (let bad : None ≡ Some p.0 = p.1 in cc))
-at_value f (Some v) = (λ h. (v, refl, h),
-      λ p. (let found : Some v ≡ Some p.0 = p.1 in let same : v ≡ p.0 = cc in ap f same ∙ p.2))
+at_value f (Some v) = (
+  λ h. (v, refl, h),
+  λ p. (let found : Some v ≡ Some p.0 = p.1 in let same : v ≡ p.0 = cc in ap f same ∙ p.2),
+)
 
 absent : (name : List ℕ) (fields : List Entry) → ((f : Entry) → Contains fields f
     → is_same_name name f.name ≡ false) → find (λ f. is_same_name name f.name) fields ≡ None
 absent name [] none = refl
 absent name (f ∷ fields) none =
     rw (none f (0, omega arith, refl))
-        (absent name fields (λ g has. none g (suc has.0, omega (arith, has.1), has.2)))
+    (absent name fields (λ g has. none g (suc has.0, omega (arith, has.1), has.2)))
 
 pub absent_fields : AbsentFieldsNeverMatch
 absent_fields patterns fields name none =
     let nothing : value_of fields name ≡ None = ap (option_map (λ (f : Entry). f.value))
-        (absent name fields none) in (
+    (absent name fields none) in (
       λ t h. (let p = (at_value (λ value. stands_in t value) (value_of fields name)).0 h in
-            let bad : None ≡ Some p.0 = sym nothing ∙ p.1 in absurd (cc)),
+          let bad : None ≡ Some p.0 = sym nothing ∙ p.1 in absurd (cc)),
       λ number h.
           (let p = (at_value (λ value. is_found (slice_get patterns number) value)
-              (value_of fields name)).0 h in let bad : None ≡ Some p.0 = sym nothing ∙ p.1 in
-            absurd (cc)),
+          (value_of fields name)).0 h in let bad : None ≡ Some p.0 = sym nothing ∙ p.1 in
+          absurd (cc)),
     )
 
 -- ---- 4. places
@@ -130,10 +133,10 @@ module _ (t value : List ℕ) (i : ℕ) where
   to_place h =
       let end = i + length t in
       let p = (and_is (leb end (length value))
-            (bytes_eq (slice_range value i end) t &&
-              (is_free_before value i && is_free_from value end))).0 h in
+      (bytes_eq (slice_range value i end) t &&
+      (is_free_before value i && is_free_from value end))).0 h in
       let q = (and_is (bytes_eq (slice_range value i end) t)
-            (is_free_before value i && is_free_from value end)).0 p.1 in
+      (is_free_before value i && is_free_from value end)).0 p.1 in
       let r = (and_is (is_free_before value i) (is_free_from value end)).0 q.1 in
       record {
         within = leb-true end (length value) p.0;
@@ -146,15 +149,15 @@ module _ (t value : List ℕ) (i : ℕ) where
   from_place s =
       let end = i + length t in
       (and_is (leb end (length value))
-            (bytes_eq (slice_range value i end) t &&
-              (is_free_before value i && is_free_from value end))).1 (
+      (bytes_eq (slice_range value i end) t &&
+      (is_free_before value i && is_free_from value end))).1 (
         le-leb end (length value) s.within,
         (and_is (bytes_eq (slice_range value i end) t)
-              (is_free_before value i && is_free_from value end)).1 (
-          (bytes_eq-Decides (slice_range value i end) t).1 s.same,
-          (and_is (is_free_before value i) (is_free_from value end)).1
-              ((before_is value i).1 s.before, (after_is value end).1 s.after),
-        ),
+            (is_free_before value i && is_free_from value end)).1 (
+              (bytes_eq-Decides (slice_range value i end) t).1 s.same,
+              (and_is (is_free_before value i) (is_free_from value end)).1
+                  ((before_is value i).1 s.before, (after_is value end).1 s.after),
+            ),
       )
 
 some_below : (test : ℕ → Bool) (n : ℕ) → any_below test n ≡ true
@@ -183,7 +186,7 @@ from_standing t value i some s = found_at t value i some (omega (arith, s.within
 pub texts : TextsMatchWhereTheyStand
 texts patterns fields name t = (
   λ h. (let p = (at_value (λ value. stands_in t value) (value_of fields name)).0 h in
-        let q = to_standing t p.0 p.2 in (p.0, p.1, q.0, q.1, q.2)),
+      let q = to_standing t p.0 p.2 in (p.0, p.1, q.0, q.1, q.2)),
   λ p. (at_value (λ value. stands_in t value) (value_of fields name)).1
       (p.0, p.1, from_standing t p.0 p.3 p.2 p.4),
 )
@@ -194,14 +197,16 @@ by_number : (o : Option Re) (value : List ℕ) → IsTrue (is_found o value)
     ↔ ((re : Re) × (o ≡ Some re) × IsTrue (is_some (find_str re value 0)))
 by_number None value =
     (λ h. absurd (false≢true h), λ p. absurd (let bad : None ≡ Some p.0 = p.1 in cc))
-by_number (Some re) value =
-    (λ h. (re, refl, h), λ p. (let found : Some re ≡ Some p.0 = p.1 in let same : re ≡ p.0 = cc in
-        ap (λ r. is_some (find_str r value 0)) same ∙ p.2))
+by_number (Some re) value = (
+  λ h. (re, refl, h),
+  λ p. (let found : Some re ≡ Some p.0 = p.1 in let same : re ≡ p.0 = cc in
+      ap (λ r. is_some (find_str r value 0)) same ∙ p.2),
+)
 
 pub patterns_match : PatternsMatchWhereTheyAreFound
 patterns_match patterns fields name number = (
   λ h. (let p = (at_value (λ value. is_found (slice_get patterns number) value)
-          (value_of fields name)).0 h in
+      (value_of fields name)).0 h in
       let q = (by_number (slice_get patterns number) p.0).0 p.2 in (p.0, p.1, q.0, q.1, q.2)),
   λ p. (at_value (λ value. is_found (slice_get patterns number) value) (value_of fields name)).1
       (p.0, p.1, (by_number (slice_get patterns number) p.0).1 (p.2, p.3, p.4)),

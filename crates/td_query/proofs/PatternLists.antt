@@ -37,9 +37,16 @@ pub sources_more : (log : List RawPattern) (i : ℕ) (d : RawPattern) (rs ss : L
     → map regex_source rs ≡ map source_of (map raw_of (take i log)) → regex_source r ≡ source_of
     (raw_of (get_or log i d)) → map regex_source ss ≡ map source_of (map raw_of (take (i + 1) log))
 sources_more log i d rs ss r h pushed so_far here =
-    rw (pushed, take_more log i d h, map-append regex_source rs (r ∷ []),
-          map-append raw_of (take i log) (get_or log i d ∷ []), map-append source_of
-          (map raw_of (take i log)) (raw_of (get_or log i d) ∷ []), so_far, here) refl
+    rw (
+      pushed,
+      take_more log i d h,
+      map-append regex_source rs (r ∷ []),
+      map-append raw_of (take i log) (get_or log i d ∷ []),
+      map-append source_of
+          (map raw_of (take i log)) (raw_of (get_or log i d) ∷ []),
+      so_far,
+      here,
+    ) refl
 
 -- one that is compiled more
 AreDefault-push : (rs : List Regex) (r : Regex) → AreDefault rs
@@ -61,7 +68,7 @@ refused_here size log i d place h fine bad is = record {
   at = raw_of (get_or log i d);
   after = map raw_of (drop (suc i) log);
   parts = ap (map raw_of) (sym (take-append-drop i log)
-        ∙ ap (λ (l : List RawPattern). take i log ++ l) (drop-cons log i d h))
+      ∙ ap (λ (l : List RawPattern). take i log ++ l) (drop-cons log i d h))
       ∙ map-append raw_of (take i log) (get_or log i d ∷ drop (suc i) log);
   fine = fine;
   refused = bad;

@@ -58,4 +58,4 @@ boundary_behind_slash t rest i utf8 h e back =
     let first : get_or (drop i t) 0 0 < 128 = rw (whole, e) (omega arith) in
     let some : 0 < length (drop i t) = rw whole (omega arith) in
     subst (λ (l : List ℕ). IsCharBoundary l 1) (sym back)
-        (IsCharBoundary-after_ascii (drop i t) 0 text some first)
+    (IsCharBoundary-after_ascii (drop i t) 0 text some first)

@@ -20,7 +20,7 @@ below_found test (suc n) i h e =
     elim (eqb_tells i n) [
       | inl is ↦ rw (sym (ap test is.1) ∙ e) (or-true (any_below test n))
       | inr other ↦ (let apart = other.1 in let less : i < n = omega arith in
-            rw (below_found test n i less e) refl)
+          rw (below_found test n i less e) refl)
     ]
 
 -- ---- the answers of the search

@@ -40,7 +40,7 @@ any-places test f g all (x ∷ xs) n e h =
     elim (cases_Bool (test x)) [
       | inl passes ↦ rw passes
           (ap (λ b. b || list_any f (places_from test (n + 1) xs)) (e n x front.0)
-            ∙ ap (λ b. g x || b) later)
+          ∙ ap (λ b. g x || b) later)
       | inr fails ↦ rw fails later
     ]
 
@@ -67,7 +67,7 @@ module _ (a : Contents) (patterns : List Re) (query : Shape) (place : ℕ) where
       ∙ any-same (λ b. is_of s.head.name b && is_on_it b)
       (λ b. is_of_on s.head.name place b && truth patterns (package_fields a b) query) a.binaries
       (λ b. sym (and_assoc (is_of s.head.name b) (is_on place b.head.home)
-              (truth patterns (package_fields a b) query))))
+      (truth patterns (package_fields a b) query))))
 
 -- ---- 3. the three queries
 

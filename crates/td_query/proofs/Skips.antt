@@ -63,7 +63,7 @@ unfolding skipped_in strip
 skipped-stop x t e =
     elim (eqb_tells x 35) [
       | inl is ↦ (let same : eqb 35 x ≡ true = subst (λ (y : ℕ). eqb 35 y ≡ true) (sym is.1) refl in
-            rw (e, is.0, same) refl)
+          rw (e, is.0, same) refl)
       | inr other ↦ rw (e, other.0, ne_eqb 35 x (λ h. other.1 (sym h))) refl
     ]
 

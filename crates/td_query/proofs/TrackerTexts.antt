@@ -35,8 +35,12 @@ pub is_tracker : (text : List ℕ) (s : Said) (sources : List (List ℕ)) (t : T
     → said_in text ≡ Ok s → sources ≡ map source_of s.log → ArePatterns s.log → IsSaid s sources t
     → IsTracker text t
 is_tracker text s sources t e same fine held =
-    record { says = s; read = e; held = subst (λ (l : List (List ℕ)). IsSaid s l t) same held;
-      are_patterns = fine }
+    record {
+      says = s;
+      read = e;
+      held = subst (λ (l : List (List ℕ)). IsSaid s l t) same held;
+      are_patterns = fine;
+    }
 
 -- a key that a tracker has isn't missing
 none_missing : (text : List ℕ) (says s : Said) (sources : List (List ℕ)) (t : Tracking)

@@ -80,5 +80,5 @@ pub piece_put : (out first second piece bare t after whole : List ℕ) → t ≡
     → out ++ unescaped t ≡ whole → second ++ unescaped after ≡ whole
 piece_put out first second piece bare t after whole cut w is e f h =
     rw (f, e, is) (append_assoc (out ++ without_last piece) (47 ∷ []) (unescaped after)
-          ∙ append_assoc out (without_last piece) (47 ∷ unescaped after)
+    ∙ append_assoc out (without_last piece) (47 ∷ unescaped after)
     ∙ ap (λ (l : List ℕ). out ++ l) (sym (ap unescaped cut ∙ unescaped_piece piece after w)) ∙ h)

@@ -6,11 +6,7 @@ use std::alloc::{AllocError, Global};
 use td_text::cut_at;
 
 // The text without a backslash at its end.
-#[tactic(auto, using(
-    crate::proofs::Unescaping::without_last_none,
-    crate::proofs::Unescaping::without_last_is,
-    crate::proofs::Unescaping::without_last_not
-))]
+#[tactic(auto, using(crate::proofs::Unescaping::without_last_none, crate::proofs::Unescaping::without_last_is, crate::proofs::Unescaping::without_last_not))]
 fn without_backslash(text: &str) -> &str
     ensures left { result.now ≡ without_last text.now }
 {

@@ -44,7 +44,7 @@ rows-more f rows n o lt e = elim (slice_get_cases rows n).1 [
       ∙ filter_map-append f (take n rows) (h.0 ∷ [])
       ∙ ap (λ (l : List AffectedRow). filter_map f (take n rows) ++ l)
       (single (f h.0) ∙ ap option_to_list
-        (sym (e ∙ ap (λ (p : Option (Key × Row)). option_map_or f p None) h.2)))
+      (sym (e ∙ ap (λ (p : Option (Key × Row)). option_map_or f p None) h.2)))
   | inr h ↦ absurd (omega (arith, h.0, lt))
 ]
 
@@ -55,7 +55,7 @@ pub items-more : (f : Key × Row → Option AffectedRow) (rows : Table) (n : ℕ
     → map seen (items ++ item ∷ []) ≡ filter_map f (take (n + 1) rows)
 items-more f rows n items item lt is so =
     map-append seen items (item ∷ []) ∙ ap (λ (l : List AffectedRow). l ++ seen item ∷ []) so
-        ∙ sym (rows-more f rows n (Some (seen item)) lt is)
+    ∙ sym (rows-more f rows n (Some (seen item)) lt is)
 
 -- with one that isn't
 pub items-same : (f : Key × Row → Option AffectedRow) (rows : Table) (n : ℕ) (items : List Item)
@@ -76,7 +76,7 @@ same_names : (a : Contents) (t : Tracking) (names : List (Bor (List ℕ)))
 same_names a t names is =
     λ i source. IsTrue
     ((sym (any-map (bytes_eq source) (λ name. name.now) names)
-        ∙ ap (λ (l : List (List ℕ)). list_any (bytes_eq source) l) is) i)
+    ∙ ap (λ (l : List (List ℕ)). list_any (bytes_eq source) l) is) i)
 
 pub are_levels : (a : Contents) (t : Tracking) (names : List (Bor (List ℕ)))
     (level : List ℕ → Option Level) (depth : ℕ) → map (λ name. name.now) names ≡ affected_names a t
@@ -84,7 +84,7 @@ pub are_levels : (a : Contents) (t : Tracking) (names : List (Bor (List ℕ)))
     → IsDepth level depth → AreLevels a t level depth
 are_levels a t names level depth is stands deep = record {
   stands = subst (λ (P : List ℕ → Type 0). (source : List ℕ)
-        → StandsAt P (BuildsOn a) source (level source)) (same_names a t names is) stands;
+      → StandsAt P (BuildsOn a) source (level source)) (same_names a t names is) stands;
   deep = deep;
 }
 

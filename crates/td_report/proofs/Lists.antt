@@ -15,17 +15,17 @@ pub list_at-push : (vs : List (Vec Item)) (b : ℕ) (x : Item) (old new : Vec It
 list_at-push vs b x old new lt is e g =
     let items = λ (v : Vec Item). v.items in
     let moved : list_at (set vs b new) g ≡ get_or (set (map items vs) b new.items) g [] =
-        ap (λ l. get_or l g []) (map-set items vs b new) in
+    ap (λ l. get_or l g []) (map-set items vs b new) in
     elim (eqb_tells b g) [
       | inl p ↦
           let at : get_or (set (map items vs) b new.items) g [] ≡ new.items =
-              get_or-set_at (map items vs) b g new.items [] (sym p.1) (rw length-map lt) in
+          get_or-set_at (map items vs) b g new.items [] (sym p.1) (rw length-map lt) in
           let was : list_at vs g ≡ old.items = ap (λ k. list_at vs k) (sym p.1)
-              ∙ get_or-map items vs b old [] lt ∙ ap items (sym is) in
+          ∙ get_or-map items vs b old [] lt ∙ ap items (sym is) in
           rw (p.0, was) (moved ∙ at ∙ e)
       | inr p ↦
           let other : get_or (set (map items vs) b new.items) g [] ≡ list_at vs g =
-              get_or-set_other (map items vs) b g new.items [] (λ q. p.1 (sym q)) in
+          get_or-set_other (map items vs) b g new.items [] (λ q. p.1 (sym q)) in
           rw (p.0, append-nil) (moved ∙ other)
     ]
 

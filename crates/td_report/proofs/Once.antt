@@ -25,10 +25,10 @@ pub once-push : (last : Option (List ℕ)) (texts : List (List ℕ)) (text : Lis
 once-push last [] text = append-nil (if is_last last text then [] else text ∷ [])
 once-push last (first ∷ texts) text =
     ap (λ (l : List (List ℕ)). (if is_last last first then [] else first ∷ []) ++ l)
-        (once-push (Some first) texts text)
+    (once-push (Some first) texts text)
     ∙ sym (append_assoc (if is_last last first then [] else first ∷ [])
-      (each_once (Some first) texts)
-      (if is_last (last_of (Some first) texts) text then [] else text ∷ []))
+    (each_once (Some first) texts)
+    (if is_last (last_of (Some first) texts) text then [] else text ∷ []))
 
 -- the text of one that is another than the last
 pub text-new : (texts : List (List ℕ)) (text : List ℕ) → is_last (last_of None texts) text ≡ false
@@ -36,8 +36,8 @@ pub text-new : (texts : List (List ℕ)) (text : List ℕ) → is_last (last_of 
     ++ (text ++ 10 ∷ [])
 text-new texts text other =
     ap (λ (l : List (List ℕ)). text_of l)
-        (once-push None texts text
-          ∙ ap (λ (b : Bool). each_once None texts ++ (if b then [] else text ∷ [])) other)
+    (once-push None texts text
+    ∙ ap (λ (b : Bool). each_once None texts ++ (if b then [] else text ∷ [])) other)
     ∙ text_of-append (each_once None texts) (text ∷ [])
     ∙ ap (λ (t : List ℕ). text_of (each_once None texts) ++ t) (append-nil (text ++ 10 ∷ []))
 
@@ -46,9 +46,9 @@ pub text-same : (texts : List (List ℕ)) (text : List ℕ) → is_last (last_of
     → text_of (each_once None (texts ++ text ∷ [])) ≡ text_of (each_once None texts)
 text-same texts text same =
     ap (λ (l : List (List ℕ)). text_of l)
-        (once-push None texts text
-          ∙ ap (λ (b : Bool). each_once None texts ++ (if b then [] else text ∷ [])) same
-          ∙ append-nil (each_once None texts))
+    (once-push None texts text
+    ∙ ap (λ (b : Bool). each_once None texts ++ (if b then [] else text ∷ [])) same
+    ∙ append-nil (each_once None texts))
 
 -- one source more
 pub sources-more : (items : List Item) (i : ℕ) (item : Item) (source : List ℕ) → i < length items

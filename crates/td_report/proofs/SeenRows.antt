@@ -27,8 +27,12 @@ count-map : {A B : Type 0} (f : A → B) (test : B → Bool) (xs : List A)
     → count_by test (map f xs) ≡ count_by (λ x. test (f x)) xs
 count-map f test [] = refl
 count-map f test (x ∷ xs) =
-    omega (arith, sum_by-cons (λ y. if test y then 1 else 0) (f x) (map f xs),
-      sum_by-cons (λ y. if test (f y) then 1 else 0) x xs, count-map f test xs)
+    omega (
+      arith,
+      sum_by-cons (λ y. if test y then 1 else 0) (f x) (map f xs),
+      sum_by-cons (λ y. if test (f y) then 1 else 0) x xs,
+      count-map f test xs,
+    )
 
 map-twice : {A B C : Type 0} (f : A → B) (g : B → C) (xs : List A)
     → map g (map f xs) ≡ map (λ x. g (f x)) xs
@@ -39,11 +43,11 @@ block-seen : (level : Level) (mine : List Item)
     → report.block_of level (map seen mine) ≡ block_of level mine
 block-seen level mine =
     ap (λ n. if n == 0 then [] else head_line level n (count_by report.is_installed (map seen mine))
-          ∷ map row_line (map seen mine)) (length-map mine seen)
+    ∷ map row_line (map seen mine)) (length-map mine seen)
     ∙ ap (λ n. if length mine == 0 then [] else head_line level (length mine) n ∷ map row_line
-      (map seen mine)) (count-map seen report.is_installed mine)
+    (map seen mine)) (count-map seen report.is_installed mine)
     ∙ ap (λ (ls : List (List ℕ)). if length mine == 0 then [] else head_line level (length mine)
-      (count_by (λ x. report.is_installed (seen x)) mine) ∷ ls) (map-twice seen row_line mine)
+    (count_by (λ x. report.is_installed (seen x)) mine) ∷ ls) (map-twice seen row_line mine)
 
 block_at-seen : (items : List Item) (level : Level)
     → report.block_at (map seen items) level ≡ block_at items level
@@ -66,7 +70,7 @@ installed-seen : (items : List Item) (level : Level)
     → report.installed_at (map seen items) level ≡ installed_at items level
 installed-seen items level =
     ap (count_by report.is_installed) (filter-map seen (report.stands_at level) items)
-        ∙ count-map seen report.is_installed (filter (λ x. report.stands_at level (seen x)) items)
+    ∙ count-map seen report.is_installed (filter (λ x. report.stands_at level (seen x)) items)
 
 -- what is kept of rows is kept of them where they lie
 pub kept-seen : (depth : ℕ) (rows : List AffectedRow) (items : List Item) (kept : List ℕ)
@@ -79,15 +83,20 @@ kept-seen depth rows items kept are is = record {
 }
 
 last-seen : (items : List Item) → report.last_line (map seen items) ≡ last_line items
-last-seen items = rw (length-map, count-map seen (report.has_status Good) items,
-      count-map seen (report.has_status Bad) items, count-map seen
-      (report.has_status Partial) items, count-map seen (report.has_status Unknown) items) refl
+last-seen items = rw (
+  length-map,
+  count-map seen (report.has_status Good) items,
+  count-map seen (report.has_status Bad) items,
+  count-map seen
+      (report.has_status Partial) items,
+  count-map seen (report.has_status Unknown) items,
+) refl
 
 pub lines-seen : (title : List ℕ) (depth : ℕ) (items : List Item)
     → report.report_lines title depth (map seen items) ≡ report_lines title depth items
 lines-seen title depth items =
     ap (λ (ls : List (List ℕ)). title_line title ∷ (ls ++ report.last_line (map seen items) ∷ []))
-        (blocks-seen depth items)
+    (blocks-seen depth items)
     ∙ ap (λ (line : List ℕ). title_line title ∷ (blocks depth items ++ line ∷ [])) (last-seen items)
 
 -- ---- waves
@@ -96,9 +105,9 @@ wave-seen : (level : Level) (mine : List Item)
     → report.wave_of level (map seen mine) ≡ wave_of level mine
 wave-seen level mine =
     ap (λ n. if n == 0 then [] else level_words level ∷ each_once None
-          (map (λ r. r.key.source) (map seen mine))) (length-map mine seen)
+    (map (λ r. r.key.source) (map seen mine))) (length-map mine seen)
     ∙ ap (λ (ls : List (List ℕ)). if length mine == 0 then [] else level_words level
-      ∷ each_once None ls) (map-twice seen (λ r. r.key.source) mine)
+    ∷ each_once None ls) (map-twice seen (λ r. r.key.source) mine)
 
 wave_at-seen : (items : List Item) (level : Level)
     → report.wave_at (map seen items) level ≡ wave_at items level

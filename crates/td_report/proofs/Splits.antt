@@ -16,7 +16,7 @@ flat_map-zipped P f g says [] (y ∷ ys) h = absurd h
 flat_map-zipped P f g says (x ∷ xs) [] h = absurd h
 flat_map-zipped P f g says (x ∷ xs) (y ∷ ys) h =
     ap (λ l. l ++ flat_map g ys) (says x y h.0)
-        ∙ ap (λ l. f x ++ l) (flat_map-zipped P f g says xs ys h.1)
+    ∙ ap (λ l. f x ++ l) (flat_map-zipped P f g says xs ys h.1)
 
 pub sum-zipped : {X Y E : Type 0} (P : X → Result Y E → Type 0) (f : X → ℕ) (g : Y → ℕ)
     → ((x : X) (y : Y) → P x (Ok y) → g y ≡ f x) → (xs : List X) (ys : List Y)
@@ -25,8 +25,13 @@ sum-zipped P f g says [] [] h = refl
 sum-zipped P f g says [] (y ∷ ys) h = absurd h
 sum-zipped P f g says (x ∷ xs) [] h = absurd h
 sum-zipped P f g says (x ∷ xs) (y ∷ ys) h =
-    omega (arith, sum_by-cons g y ys, sum_by-cons f x xs, says x y h.0,
-      sum-zipped P f g says xs ys h.1)
+    omega (
+      arith,
+      sum_by-cons g y ys,
+      sum_by-cons f x xs,
+      says x y h.0,
+      sum-zipped P f g says xs ys h.1,
+    )
 
 pub flat_map-map : {X Y : Type 0} (f : Y → List ℕ) (g : X → Y) (xs : List X)
     → flat_map (λ x. f (g x)) xs ≡ flat_map f (map g xs)
@@ -37,8 +42,12 @@ pub sum-of-map : {X Y : Type 0} (f : Y → ℕ) (g : X → Y) (xs : List X)
     → sum_by (λ x. f (g x)) xs ≡ sum_by f (map g xs)
 sum-of-map f g [] = refl
 sum-of-map f g (x ∷ xs) =
-    omega (arith, sum_by-cons (λ y. f (g y)) x xs, sum_by-cons f (g x) (map g xs),
-      sum-of-map f g xs)
+    omega (
+      arith,
+      sum_by-cons (λ y. f (g y)) x xs,
+      sum_by-cons f (g x) (map g xs),
+      sum-of-map f g xs,
+    )
 
 -- a text of a list that goes part by part
 pub text-parts : {X : Type 0} (f : List X → List ℕ) → f [] ≡ [] → ((xs ys : List X) → f (xs ++ ys)
@@ -52,8 +61,12 @@ pub count-parts : {X : Type 0} (f : List X → ℕ) → f [] ≡ 0 → ((xs ys :
     → f (xs ++ ys) ≡ f xs + f ys) → (xss : List (List X)) → sum_by f xss ≡ f (flat_map (λ l. l) xss)
 count-parts f none more [] = sym none
 count-parts f none more (xs ∷ xss) =
-    omega (arith, sum_by-cons f xs xss, count-parts f none more xss,
-      more xs (flat_map (λ l. l) xss))
+    omega (
+      arith,
+      sum_by-cons f xs xss,
+      count-parts f none more xss,
+      more xs (flat_map (λ l. l) xss),
+    )
 
 pub count-append : (test : Item → Bool) (xs ys : List Item)
     → count_by test (xs ++ ys) ≡ count_by test xs + count_by test ys

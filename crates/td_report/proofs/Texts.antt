@@ -30,7 +30,7 @@ blocks-more : (block : Level → List (List ℕ)) (n : ℕ)
     → first_blocks block (n + 1) ≡ first_blocks block n ++ block (At (n + 1))
 blocks-more block n =
     ap (λ (ls : List Level). flat_map block ls)
-        (map-range_with_len_more At 1 n (n + 1) (omega arith))
+    (map-range_with_len_more At 1 n (n + 1) (omega arith))
     ∙ flat_map-append block (map At (range_with_len 1 n)) (At (n + 1) ∷ [])
     ∙ ap (λ (ls : List (List ℕ)). first_blocks block n ++ ls) (append-nil (block (At (n + 1))))
 
@@ -44,7 +44,7 @@ put-more block n start now after put so =
     ∙ append_assoc start (text_of (first_blocks block n)) (text_of (block (At (n + 1))))
     ∙ ap (λ (t : List ℕ). start ++ t)
     (sym (ap text_of (blocks-more block n) ∙ text_of-append (first_blocks block n)
-        (block (At (n + 1)))))
+    (block (At (n + 1)))))
 
 -- and the cyclic one behind those of all levels
 pub put-last : (block : Level → List (List ℕ)) (n depth : ℕ) (start now after : List ℕ)
@@ -54,9 +54,9 @@ pub put-last : (block : Level → List (List ℕ)) (n depth : ℕ) (start now af
 put-last block n depth start now after put all so =
     let whole : flat_map block (levels depth) ≡ first_blocks block depth ++ block Cyclic =
     flat_map-append block (map At (range_with_len 1 depth)) (Cyclic ∷ [])
-        ∙ ap (λ (ls : List (List ℕ)). first_blocks block depth ++ ls) (append-nil (block Cyclic)) in
+    ∙ ap (λ (ls : List (List ℕ)). first_blocks block depth ++ ls) (append-nil (block Cyclic)) in
     put ∙ ap (λ (t : List ℕ). t ++ text_of (block Cyclic))
-        (so ∙ ap (λ k. start ++ text_of (first_blocks block k)) all)
+    (so ∙ ap (λ k. start ++ text_of (first_blocks block k)) all)
     ∙ append_assoc start (text_of (first_blocks block depth)) (text_of (block Cyclic))
     ∙ ap (λ (t : List ℕ). start ++ t)
     (sym (ap text_of whole ∙ text_of-append (first_blocks block depth) (block Cyclic)))

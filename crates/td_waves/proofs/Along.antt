@@ -26,7 +26,7 @@ up_to-along A B N E name s (suc k) i n = (
           let j = s.onto y ay in
           let e = (s.same i j.0 n j.1).1 (subst (λ z. B (name i) z) (sym j.2) b) in
           subst (λ z. UpTo A B k z) j.2
-              ((up_to-along A B N E name s k j.0 j.1).0 (f.grounded j.0 j.1 e));
+          ((up_to-along A B N E name s k j.0 j.1).0 (f.grounded j.0 j.1 e));
     })
   ],
   λ h. elim h [
@@ -52,7 +52,7 @@ stands-along A B N E name s i (At (suc k)) n h = record {
       let j = s.onto y ay in
       let e = (s.same i j.0 n j.1).1 (subst (λ z. B (name i) z) (sym j.2) b) in
       subst (λ z. UpTo A B k z) j.2
-          ((up_to-along A B N E name s k j.0 j.1).0 (h.grounded j.0 j.1 e));
+      ((up_to-along A B N E name s k j.0 j.1).0 (h.grounded j.0 j.1 e));
 }
 stands-along A B N E name s i Cyclic n h =
     (s.affected i n, λ k u. h.1 k ((up_to-along A B N E name s k i n).1 u))

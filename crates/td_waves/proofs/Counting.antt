@@ -22,8 +22,13 @@ pub none_passes : (p : ℕ → Bool) (xs : List ℕ) (y : ℕ) → count_by p xs
     → p y ≡ false
 none_passes p xs y none has = elim (cases_Bool (p y)) [
   | inl is ↦
-      absurd (omega (arith, get_or-le-sum_by (pass p) xs has.0 y has.1, none, ap (pass p) has.2,
-          ap bit is))
+      absurd (omega (
+        arith,
+        get_or-le-sum_by (pass p) xs has.0 y has.1,
+        none,
+        ap (pass p) has.2,
+        ap bit is,
+      ))
   | inr not ↦ not
 ]
 
@@ -46,14 +51,21 @@ all_pass p (x ∷ xs) h =
     omega (arith, sum_by-cons (pass p) x xs, head, rest)
 
 pub used : (xs : List ℕ) (y : ℕ) → Contains xs y → 0 < uses y xs
-used xs y has = omega (arith, get_or-le-sum_by (one y) xs has.0 y has.1, ap (one y) has.2,
-      one_same y)
+used xs y has = omega (
+  arith,
+  get_or-le-sum_by (one y) xs has.0 y has.1,
+  ap (one y) has.2,
+  one_same y,
+)
 
 pub contains : (xs : List ℕ) (y : ℕ) → 0 < uses y xs → Contains xs y
 contains xs y h =
     let some = some_passes (λ x. x == y) xs h in
-    let same : some.0 ≡ y = elim (eqb_tells some.0 y) [ inl p ↦ p.1 | inr p ↦ absurd
-          (false≢true (sym p.0 ∙ some.2)) ] in
+    let same : some.0 ≡ y = elim (eqb_tells some.0 y) [
+      | inl p ↦ p.1
+      | inr p ↦ absurd
+          (false≢true (sym p.0 ∙ some.2))
+    ] in
     (some.1.0, some.1.1, rw same at some.1.2)
 
 -- ---- what isn't placed yet
@@ -73,12 +85,12 @@ closed_one : (numbers : List ℕ) (t level x : ℕ) → get_or numbers t 1 ≡ 0
 closed_one numbers t level x at some lt = elim (eqb_tells x t) [
   | inl p ↦
       let now : get_or (set numbers t level) x 1 ≡ level =
-          get_or-set_at numbers t x level 1 p.1 lt in
+      get_or-set_at numbers t x level 1 p.1 lt in
       let was : get_or numbers x 1 ≡ 0 = ap (λ k. get_or numbers k 1) p.1 ∙ at in
       rw (p.0, now, was) (not_open level some)
   | inr p ↦
       let same : get_or (set numbers t level) x 1 ≡ get_or numbers x 1 =
-          get_or-set_other numbers t x level 1 p.1 in
+      get_or-set_other numbers t x level 1 p.1 in
       rw (p.0, same) (omega arith)
 ]
 
@@ -88,13 +100,23 @@ pub closed : (numbers : List ℕ) (t level : ℕ) (xs : List ℕ) → get_or num
     → count_by (is_open (set numbers t level)) xs + uses t xs ≡ count_by (is_open numbers) xs
 closed numbers t level [] at some lt = refl
 closed numbers t level (x ∷ xs) at some lt =
-    omega (arith, sum_by-cons (pass (is_open (set numbers t level))) x xs, sum_by-cons (one t) x xs,
-          sum_by-cons (pass (is_open numbers)) x xs, closed_one numbers t level x at some lt,
-          closed numbers t level xs at some lt)
+    omega (
+      arith,
+      sum_by-cons (pass (is_open (set numbers t level))) x xs,
+      sum_by-cons (one t) x xs,
+      sum_by-cons (pass (is_open numbers)) x xs,
+      closed_one numbers t level x at some lt,
+      closed numbers t level xs at some lt,
+    )
 
 -- and there is one node less without
 pub fewer : (numbers : List ℕ) (t level : ℕ) → get_or numbers t 0 ≡ 0 → 0 < level
     → t < length numbers → uses 0 (set numbers t level) + 1 ≡ uses 0 numbers
 fewer numbers t level at some lt =
-    omega (arith, sum_by-set (one 0) numbers t level 0 lt, ap (one 0) at, one_same 0,
-          not_zero level some)
+    omega (
+      arith,
+      sum_by-set (one 0) numbers t level 0 lt,
+      ap (one 0) at,
+      one_same 0,
+      not_zero level some,
+    )

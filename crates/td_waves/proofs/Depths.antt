@@ -50,7 +50,7 @@ level_there : (numbers : List ℕ) (i k : ℕ) → 0 < k → get_or numbers i 0 
     → option_map numbered (slice_get numbers i) ≡ Some (At k)
 level_there numbers i k some e =
     ap (λ o. option_map numbered o) (slice_get-get_or numbers i 0 (there numbers i k some e))
-        ∙ ap (λ n. Some (numbered n)) e ∙ ap Some (at_number k some)
+    ∙ ap (λ n. Some (numbered n)) e ∙ ap Some (at_number k some)
 
 pub deep : (graph : List (List ℕ)) (left heights numbers : List ℕ) (depth : ℕ)
     → Underway graph left heights numbers []
@@ -63,8 +63,8 @@ deep graph left heights numbers depth w within has = record {
   reached = λ k some le.
       let top = has (omega arith) in
       let in_graph : top.0 < length graph =
-          omega (arith, there numbers top.0 depth (omega arith) top.1, w.numbers_len) in
+      omega (arith, there numbers top.0 depth (omega arith) top.1, w.numbers_len) in
       let found = reached (IsNode graph) (BuildsOn graph) (λ s. get_or numbers s 0)
-          (finished graph left heights numbers w) depth top.0 in_graph top.1 k some le in
+      (finished graph left heights numbers w) depth top.0 in_graph top.1 k some le in
       (found.0, level_there numbers found.0 k some found.2);
 }

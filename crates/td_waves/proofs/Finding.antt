@@ -82,7 +82,7 @@ swap false false d = refl
 abbrev pub some_fits : Contents → List ℕ → (Option ℕ → Bool) → List ℕ → Bool
 some_fits a q fit name =
     list_any (λ b. is_of name b && list_any (λ n. bytes_eq q n && fit b.head.home)
-      (offered_names b)) a.binaries
+    (offered_names b)) a.binaries
 
 one_source : (a : Contents) (q : List ℕ) (other : ℕ → Bool) (fit : Option ℕ → Bool) (t : ℕ)
     (name : List ℕ) (j : ℕ) → some_passes a q (base_test other fit t) name j
@@ -90,17 +90,17 @@ one_source : (a : Contents) (q : List ℕ) (other : ℕ → Bool) (fit : Option 
 one_source a q other fit t name j =
     let c = (j == t) && other j in
     any-same (λ b. is_of name b && passes_under q (base_test other fit t) j b)
-        (λ b. c && (is_of name b && list_any (λ n. bytes_eq q n && fit b.head.home)
-            (offered_names b))) a.binaries
+    (λ b. c && (is_of name b && list_any (λ n. bytes_eq q n && fit b.head.home)
+    (offered_names b))) a.binaries
     (λ b. ap (λ x. is_of name b && x)
-          (any-same (λ n. bytes_eq q n && base_test other fit t
-              (record { home = b.head.home; owner = j }))
-            (λ n. c && (bytes_eq q n && fit b.head.home)) (offered_names b)
-            (λ n. pull (bytes_eq q n) (other j) (fit b.head.home) (j == t))
-            ∙ any-under c (λ n. bytes_eq q n && fit b.head.home) (offered_names b))
+    (any-same (λ n. bytes_eq q n && base_test other fit t
+    (record { home = b.head.home; owner = j }))
+    (λ n. c && (bytes_eq q n && fit b.head.home)) (offered_names b)
+    (λ n. pull (bytes_eq q n) (other j) (fit b.head.home) (j == t))
+    ∙ any-under c (λ n. bytes_eq q n && fit b.head.home) (offered_names b))
     ∙ swap (is_of name b) c (list_any (λ n. bytes_eq q n && fit b.head.home) (offered_names b)))
     ∙ any-under c (λ b. is_of name b && list_any (λ n. bytes_eq q n && fit b.head.home)
-      (offered_names b)) a.binaries
+    (offered_names b)) a.binaries
     ∙ and-assoc (j == t) (other j) (some_fits a q fit name)
 
 below_is : (a : Contents) (names : List (List ℕ)) (q : List ℕ) (other : ℕ → Bool)
@@ -108,10 +108,10 @@ below_is : (a : Contents) (names : List (List ℕ)) (q : List ℕ) (other : ℕ 
     ≡ (nat_lt t n && (other t && some_fits a q fit (slice_index_or names t [])))
 below_is a names q other fit t zero =
     sym (ap (λ b. b && (other t && some_fits a q fit (slice_index_or names t [])))
-      (le-ltb t 0 (omega arith)))
+    (le-ltb t 0 (omega arith)))
 below_is a names q other fit t (suc n) =
     ap (λ b. b || some_passes a q (base_test other fit t) (slice_index_or names n []) n)
-        (below_is a names q other fit t n)
+    (below_is a names q other fit t n)
     ∙ ap (λ b. (nat_lt t n && (other t && some_fits a q fit (slice_index_or names t []))) || b)
     (one_source a q other fit t (slice_index_or names n []) n)
     ∙ next_below t n (λ j. other j && some_fits a q fit (slice_index_or names j []))
@@ -130,7 +130,7 @@ other_there names own t s = elim (cases_lt t (length names)) [
       ∙ sym (and-assoc (nat_lt t (length names)) (not (bytes_eq own (name_at names t))) s)
   | inr le ↦ ap (λ b. b && (is_other names own t && s)) (le-ltb t (length names) le)
       ∙ sym (ap (λ b. (b && not (bytes_eq own (name_at names t))) && s)
-        (le-ltb t (length names) le))
+      (le-ltb t (length names) le))
 ]
 
 -- what is found under names is what some source's packages offer
@@ -153,7 +153,7 @@ some_under : (c : Bool) (F G : Asked → Bool) (ms : List (List Asked))
     → ((x : Asked) → F x ≡ (c && G x)) → some_asked F ms ≡ (c && some_asked G ms)
 some_under c F G ms e =
     any-same (λ m. list_any F m) (λ m. c && list_any G m) ms
-        (λ m. any-same F (λ x. c && G x) m e ∙ any-under c G m)
+    (λ m. any-same F (λ x. c && G x) m e ∙ any-under c G m)
     ∙ any-under c (λ m. list_any G m) ms
 
 pub finds_is : (w : Asker) (t : ℕ) → IsIndex w.archive.now w.names.now.keys w.providers.now
@@ -165,7 +165,7 @@ finds_is w t index =
     let first = asked_first w.archive.now w.number in
     let for_arch = asked_for_arch w.archive.now w.number in
     ap (λ b. b || some_asked (is_found w t) for_arch)
-        (some_under c (is_found w t) G first (λ x. found_is w t x index))
+    (some_under c (is_found w t) G first (λ x. found_is w t x index))
     ∙ ap (λ b. (c && some_asked G first) || b)
     (some_under c (is_found w t) G for_arch (λ x. found_is w t x index))
     ∙ and-or c (some_asked G first) (some_asked G for_arch)
@@ -175,8 +175,8 @@ pub builds_is : (a : Contents) (names : List (Bor (List ℕ))) (own s : List ℕ
     (name_at names t) number) ≡ (nat_lt t (length names) && builds_on a s (name_at names t))
 builds_is a names own s number t is e =
     and-assoc (nat_lt t (length names)) (not (bytes_eq own (name_at names t)))
-        (asks a (name_at names t) number)
+    (asks a (name_at names t) number)
     ∙ ap (λ o. nat_lt t (length names) &&
-      (not (bytes_eq own (name_at names t)) && option_map_or (asks a (name_at names t)) o false))
+    (not (bytes_eq own (name_at names t)) && option_map_or (asks a (name_at names t)) o false))
     (sym e)
     ∙ ap (λ k. nat_lt t (length names) && builds_on a k (name_at names t)) (sym is)

@@ -32,7 +32,7 @@ node_more P graph new v n is len before here s t lt = elim (cases_lt s n) [
   | inr from ↦
       let last : s ≡ n = omega arith in
       ap (λ g. has t (bases_of (lists g) s)) is ∙ ap (has t)
-          (list_last graph v s (omega (arith, last, len))) ∙ here t ∙ ap (λ k. P k t) (sym last)
+      (list_last graph v s (omega (arith, last, len))) ∙ here t ∙ ap (λ k. P k t) (sym last)
 ]
 
 and_left : (a b : Bool) → (a && b) ≡ true → a ≡ true
@@ -53,5 +53,5 @@ in_range P graph n len edges k d lt i e at =
     let its : bases_of (lists graph) k ≡ xs = get_or-map (λ (v : Vec ℕ). v.items) graph k d [] lt in
     let here : has b xs ≡ true = any-at (λ x. x == b) xs i e at (itself b) in
     let both : (nat_lt b n && P k b) ≡ true = sym (edges k b (omega (arith, lt, len)))
-        ∙ ap (has b) its ∙ here in
+    ∙ ap (has b) its ∙ here in
     omega (arith, len, ltb-true b n (and_left (nat_lt b n) (P k b) both))

@@ -71,8 +71,8 @@ any-range f n =
     let one : n + 1 ≡ suc n = omega arith in
     let it : 0 + n ≡ n = omega arith in
     ap (λ k. list_any f (range_with_len 0 k)) one
-        ∙ ap (list_any f) (range-more 0 n ∙ ap (λ k. range_with_len 0 n ++ k ∷ []) it)
-        ∙ any-push f (range_with_len 0 n) n
+    ∙ ap (list_any f) (range-more 0 n ∙ ap (λ k. range_with_len 0 n ++ k ∷ []) it)
+    ∙ any-push f (range_with_len 0 n) n
 
 -- ---- the first that passes
 
@@ -108,15 +108,21 @@ from_some : {A : Type 0} (t : A → Bool) (n : ℕ) (xs : List A) → list_any t
 from_some t n [] h = absurd (false≢true h)
 from_some t n (x ∷ xs) h = elim (cases_Bool (t x)) [
   | inl is ↦
-      let here : n ≡ n + 0 = omega arith in
-      (0, taken (t x) (Some n) (position_from t (n + 1) xs) (Some (n + 0)) is (ap Some here),
-            omega arith, record { item = x; there = refl; passes = is })
+      let here : n ≡ n + 0 = omega arith in (
+        0,
+        taken (t x) (Some n) (position_from t (n + 1) xs) (Some (n + 0)) is (ap Some here),
+        omega arith,
+        record { item = x; there = refl; passes = is },
+      )
   | inr other ↦
       let r = from_some t (n + 1) xs (behind_none (t x) (list_any t xs) other h) in
-      let there : n + 1 + r.0 ≡ n + suc r.0 = omega arith in
-      (suc r.0, left (t x) (Some n) (position_from t (n + 1) xs) (Some (n + suc r.0)) other
-            (r.1 ∙ ap Some there), omega (arith, r.2),
-            record { item = r.3.item; there = r.3.there; passes = r.3.passes })
+      let there : n + 1 + r.0 ≡ n + suc r.0 = omega arith in (
+        suc r.0,
+        left (t x) (Some n) (position_from t (n + 1) xs) (Some (n + suc r.0)) other
+            (r.1 ∙ ap Some there),
+        omega (arith, r.2),
+        record { item = r.3.item; there = r.3.there; passes = r.3.passes },
+      )
 ]
 
 from_none : {A : Type 0} (t : A → Bool) (n : ℕ) (xs : List A) → list_any t xs ≡ false
@@ -156,7 +162,7 @@ pub any-in-range : (f : ℕ → Bool) (n place : ℕ) → place < n → f place 
 any-in-range f n place lt h =
     let it : 0 + place ≡ place = omega arith in
     any-at f (range_with_len 0 n) place 0 (omega (arith, lt, length-range_with_len 0 n))
-        (ap f (get_or-range_with_len 0 n place 0 lt ∙ it) ∙ h)
+    (ap f (get_or-range_with_len 0 n place 0 lt ∙ it) ∙ h)
 
 pub none-more : (f : ℕ → Bool) (n : ℕ) → list_any f (range_with_len 0 n) ≡ false → f n ≡ false
     → list_any f (range_with_len 0 (n + 1)) ≡ false

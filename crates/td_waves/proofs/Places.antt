@@ -20,9 +20,9 @@ any_behind test sel front [] n e = refl
 any_behind test sel front (x ∷ xs) n e =
     let here : slice_get (front ++ x ∷ xs) n ≡ Some x = behind_front front x xs n e in
     let rest : list_any (λ k. option_map_or test (slice_get (front ++ x ∷ xs) k) false)
-        (places_from sel (n + 1) xs) ≡ list_any (λ y. sel y && test y) xs =
+    (places_from sel (n + 1) xs) ≡ list_any (λ y. sel y && test y) xs =
     ap (λ l. list_any (λ k. option_map_or test (slice_get l k) false) (places_from sel (n + 1) xs))
-        (sym (append_assoc front (x ∷ []) xs))
+    (sym (append_assoc front (x ∷ []) xs))
     ∙ any_behind test sel (front ++ x ∷ []) xs (n + 1)
     (omega (arith, e, length-append front (x ∷ []))) in
     elim (cases_Bool (sel x)) [

@@ -19,8 +19,11 @@ pub record Released (level : ℕ) (left0 heights0 ready0 : List ℕ) (told : ℕ
       ≡ uses s ready0 + freed (get_or left0 s 0) (get_or left s 0)
 
 pub within : (xs : List ℕ) (i : ℕ) → 0 < get_or xs i 0 → i < length xs
-within xs i h = elim (cases_lt i (length xs)) [ inl below ↦ below | inr past ↦ absurd
-      (omega (arith, get_or_past xs i 0 past)) ]
+within xs i h = elim (cases_lt i (length xs)) [
+  | inl below ↦ below
+  | inr past ↦ absurd
+      (omega (arith, get_or_past xs i 0 past))
+]
 
 raised_twice : (level h : ℕ) → raised level (raised level h) ≡ raised level h
 raised_twice level h = grind (arith, nat_tests)
@@ -53,45 +56,56 @@ pub released_next : (level : ℕ) (left0 heights0 ready0 : List ℕ) (told more 
     (if get_or left user 0 - 1 == 0 then ready ++ user ∷ [] else ready)
 released_next level left0 heights0 ready0 told more left heights ready user so_far some tall tells =
     record {
-  left_is = λ s. elim (eqb_tells user s) [
-    | inl p ↦
-        let told_here = rw p.0 at (tells s) in
-        omega (arith, told_here, get_or-set_at left user s (get_or left user 0 - 1) 0 (sym p.1)
-              (within left user some), so_far.left_is s, ap (λ k. get_or left k 0) p.1)
-    | inr p ↦
-        let told_none = rw p.0 at (tells s) in
-        omega (arith, told_none, get_or-set_other left user s (get_or left user 0 - 1) 0
-              (λ q. p.1 (sym q)), so_far.left_is s)
-  ];
-  heights_are = λ s. elim (eqb_tells user s) [
-    | inl p ↦
-        let told_here = rw p.0 at (tells s) in
-        get_or-set_at heights user s (raised level (get_or heights user 0)) 0 (sym p.1)
+      left_is = λ s. elim (eqb_tells user s) [
+        | inl p ↦
+            let told_here = rw p.0 at (tells s) in
+            omega (
+              arith,
+              told_here,
+              get_or-set_at left user s (get_or left user 0 - 1) 0 (sym p.1)
+                  (within left user some),
+              so_far.left_is s,
+              ap (λ k. get_or left k 0) p.1,
+            )
+        | inr p ↦
+            let told_none = rw p.0 at (tells s) in
+            omega (
+              arith,
+              told_none,
+              get_or-set_other left user s (get_or left user 0 - 1) 0
+                  (λ q. p.1 (sym q)),
+              so_far.left_is s,
+            )
+      ];
+      heights_are = λ s. elim (eqb_tells user s) [
+        | inl p ↦
+            let told_here = rw p.0 at (tells s) in
+            get_or-set_at heights user s (raised level (get_or heights user 0)) 0 (sym p.1)
             (omega (arith, within left user some, tall))
-        ∙ ap (λ k. raised level (get_or heights k 0)) p.1
-        ∙ told_heights level (get_or heights0 s 0) (get_or heights s 0) (told s) (more s)
-        (so_far.heights_are s) told_here
-    | inr p ↦
-        let told_none = rw p.0 at (tells s) in
-        let same : told s ≡ more s = omega (arith, told_none) in
-        get_or-set_other heights user s (raised level (get_or heights user 0)) 0 (λ q. p.1 (sym q))
-        ∙ so_far.heights_are s
-        ∙ ap (λ n. if n == 0 then get_or heights0 s 0 else raised level (get_or heights0 s 0)) same
-  ];
-  ready_are = λ s. elim (eqb_tells user s) [
-    | inl p ↦
-        let pushed = rw p.0 at (uses-if (get_or left user 0 - 1 == 0) s ready user) in
-        let it = ap (λ k. get_or left k 0) p.1 in
-        let set_to = get_or-set_at left user s (get_or left user 0 - 1) 0 (sym p.1)
+            ∙ ap (λ k. raised level (get_or heights k 0)) p.1
+            ∙ told_heights level (get_or heights0 s 0) (get_or heights s 0) (told s) (more s)
+            (so_far.heights_are s) told_here
+        | inr p ↦
+            let told_none = rw p.0 at (tells s) in
+            let same : told s ≡ more s = omega (arith, told_none) in
+            get_or-set_other heights user s (raised level (get_or heights user 0)) 0 (λ q. p.1 (sym q))
+            ∙ so_far.heights_are s
+            ∙ ap (λ n. if n == 0 then get_or heights0 s 0 else raised level (get_or heights0 s 0)) same
+      ];
+      ready_are = λ s. elim (eqb_tells user s) [
+        | inl p ↦
+            let pushed = rw p.0 at (uses-if (get_or left user 0 - 1 == 0) s ready user) in
+            let it = ap (λ k. get_or left k 0) p.1 in
+            let set_to = get_or-set_at left user s (get_or left user 0 - 1) 0 (sym p.1)
             (within left user some) in
-        told_ready (get_or left0 s 0) (get_or left s 0) (told s) (uses s ready) (uses s ready0) _
+            told_ready (get_or left0 s 0) (get_or left s 0) (told s) (uses s ready) (uses s ready0) _
             (omega (arith, it)) (so_far.left_is s) (so_far.ready_are s)
-        (pushed ∙ ap (λ n. if n - 1 == 0 then uses s ready + 1 else uses s ready) it)
-        ∙ ap (λ n. uses s ready0 + freed (get_or left0 s 0) n) (sym (set_to ∙ ap (λ n. n - 1) it))
-    | inr p ↦
-        let pushed = rw p.0 at (uses-if (get_or left user 0 - 1 == 0) s ready user) in
-        pushed ∙ same-if (get_or left user 0 - 1 == 0) (uses s ready) ∙ so_far.ready_are s
-        ∙ ap (λ n. uses s ready0 + freed (get_or left0 s 0) n)
-        (sym (get_or-set_other left user s (get_or left user 0 - 1) 0 (λ q. p.1 (sym q))))
-  ];
-}
+            (pushed ∙ ap (λ n. if n - 1 == 0 then uses s ready + 1 else uses s ready) it)
+            ∙ ap (λ n. uses s ready0 + freed (get_or left0 s 0) n) (sym (set_to ∙ ap (λ n. n - 1) it))
+        | inr p ↦
+            let pushed = rw p.0 at (uses-if (get_or left user 0 - 1 == 0) s ready user) in
+            pushed ∙ same-if (get_or left user 0 - 1 == 0) (uses s ready) ∙ so_far.ready_are s
+            ∙ ap (λ n. uses s ready0 + freed (get_or left0 s 0) n)
+            (sym (get_or-set_other left user s (get_or left user 0 - 1) 0 (λ q. p.1 (sym q))))
+      ];
+    }

@@ -37,7 +37,7 @@ stand_for : (a : Contents) (affected keys : List (Bor (List ℕ))) (graph : List
     (GraphBuildsOn (lists graph)) (name_at keys)
 stand_for a affected keys graph same edges =
     let size : length (lists graph) ≡ length keys = length-map graph (λ (v : Vec ℕ). v.items)
-        ∙ edges.all in
+    ∙ edges.all in
     record {
       affected = λ i n. sym (same (name_at keys i)) ∙ among_at keys i (omega (arith, n, size));
       onto = λ x ax.
@@ -47,7 +47,7 @@ stand_for a affected keys graph same edges =
           let its = edges.edges i j (omega (arith, ni, size)) in
           let b = builds_on a (name_at keys i) (name_at keys j) in
           let below : nat_lt j (length keys) ≡ true =
-              lt-ltb j (length keys) (omega (arith, nj, size)) in (
+          lt-ltb j (length keys) (omega (arith, nj, size)) in (
             λ h. and_right (nat_lt j (length keys)) b
                 (sym its ∙ Contains-has (bases_of (lists graph) i) j h),
             λ h. has-Contains (bases_of (lists graph) i) j
@@ -59,26 +59,26 @@ pub sources_stand : (a : Contents) (affected keys : List (Bor (List ℕ))) (grap
     (levels : Levelling) → ((q : List ℕ) → is_among keys q ≡ is_among affected q)
     → AreEdges a keys graph
     → ((node : ℕ) → StandsAt (IsNode (lists graph)) (GraphBuildsOn (lists graph)) node
-      (level_of levels node))
+    (level_of levels node))
     → (source : List ℕ) → StandsAt (IsAffected affected) (BuildsOn a) source
     (level_among keys levels source)
 sources_stand a affected keys graph levels same edges stand source =
     let size : length (lists graph) ≡ length keys = length-map graph (λ (v : Vec ℕ). v.items)
-        ∙ edges.all in
+    ∙ edges.all in
     elim (cases_Bool (is_among keys source)) [
       | inl is ↦
           let r = number_of keys source is in
           let here = stands-for (IsAffected affected) (BuildsOn a) (IsNode (lists graph))
-              (GraphBuildsOn (lists graph)) (name_at keys)
-              (stand_for a affected keys graph same edges) r.number (level_of levels r.number)
-              (omega (arith, r.within, size)) (stand r.number) in
+          (GraphBuildsOn (lists graph)) (name_at keys)
+          (stand_for a affected keys graph same edges) r.number (level_of levels r.number)
+          (omega (arith, r.within, size)) (stand r.number) in
           subst (λ o. StandsAt (IsAffected affected) (BuildsOn a) source
-                (option_map_or (level_of levels) o None)) (sym r.found)
+          (option_map_or (level_of levels) o None)) (sym r.found)
           (subst (λ x. StandsAt (IsAffected affected) (BuildsOn a) x (level_of levels r.number))
-                r.named here)
+          r.named here)
       | inr other ↦
           subst (λ o. StandsAt (IsAffected affected) (BuildsOn a) source
-                (option_map_or (level_of levels) o None)) (sym (no_number keys source other))
+          (option_map_or (level_of levels) o None)) (sym (no_number keys source other))
           (λ h. false≢true (sym other ∙ same source ∙ h))
     ]
 
@@ -94,7 +94,7 @@ pub sources_deep : (a : Contents) (affected keys : List (Bor (List ℕ))) (graph
     (levels : Levelling) → ((q : List ℕ) → is_among keys q ≡ is_among affected q)
     → AreEdges a keys graph
     → ((node : ℕ) → StandsAt (IsNode (lists graph)) (GraphBuildsOn (lists graph)) node
-      (level_of levels node)) → IsDepth (level_of levels) levels.depth
+    (level_of levels node)) → IsDepth (level_of levels) levels.depth
     → IsDepth (level_among keys levels) levels.depth
 sources_deep a affected keys graph levels same edges stand deep = record {
   within = λ source k e. let r = of_number (level_of levels) (number_among keys source) (At k) e in
@@ -102,13 +102,15 @@ sources_deep a affected keys graph levels same edges stand deep = record {
   reached = λ k some le.
       let r = deep.reached k some le in
       let on : IsOn (IsNode (lists graph)) (GraphBuildsOn (lists graph)) k r.0 =
-          subst (λ o. StandsAt (IsNode (lists graph)) (GraphBuildsOn (lists graph)) r.0 o) r.1
-          (stand r.0) in
+      subst (λ o. StandsAt (IsNode (lists graph)) (GraphBuildsOn (lists graph)) r.0 o) r.1
+      (stand r.0) in
       let node = is_affected (IsNode (lists graph)) (GraphBuildsOn (lists graph)) k r.0 on in
       let there = stands-for (IsAffected affected) (BuildsOn a) (IsNode (lists graph))
-          (GraphBuildsOn (lists graph)) (name_at keys) (stand_for a affected keys graph same edges)
-          r.0 (Some (At k)) node on in
-      (name_at keys r.0, same_level (IsAffected affected) (BuildsOn a) (name_at keys r.0)
+      (GraphBuildsOn (lists graph)) (name_at keys) (stand_for a affected keys graph same edges)
+      r.0 (Some (At k)) node on in (
+        name_at keys r.0,
+        same_level (IsAffected affected) (BuildsOn a) (name_at keys r.0)
             (level_among keys levels (name_at keys r.0)) k
-            (sources_stand a affected keys graph levels same edges stand (name_at keys r.0)) there);
+            (sources_stand a affected keys graph levels same edges stand (name_at keys r.0)) there,
+      );
 }

@@ -69,7 +69,7 @@ pub taken : (graph : List (List ℕ)) (left heights numbers rest : List ℕ) (no
     → Underway graph left heights numbers (rest ++ node ∷ []) → Taken left numbers rest node
 taken graph left heights numbers rest node w =
     let e : uses node rest + 1 ≡ queued_at (get_or left node 0) (get_or numbers node 1) =
-        omega (arith, w.queued node, uses-push node rest node, one_same node) in
+    omega (arith, w.queued node, uses-push node rest node, one_same node) in
     let l = get_or left node 0 in
     let n = get_or numbers node 1 in
     let r = uses node rest in
@@ -77,8 +77,11 @@ taken graph left heights numbers rest node w =
 
 -- what isn't 1 is in the list
 pub in_list : (xs : List ℕ) (i : ℕ) → get_or xs i 1 ≡ 0 → i < length xs
-in_list xs i h = elim (cases_lt i (length xs)) [ inl below ↦ below | inr past ↦ absurd
-      (omega (arith, get_or_past xs i 1 past)) ]
+in_list xs i h = elim (cases_lt i (length xs)) [
+  | inl below ↦ below
+  | inr past ↦ absurd
+      (omega (arith, get_or_past xs i 1 past))
+]
 
 pub is_zero : (xs : List ℕ) (i : ℕ) → get_or xs i 1 ≡ 0 → get_or xs i 0 ≡ 0
 is_zero xs i h = get_or_default xs i 0 1 (in_list xs i h) ∙ h
@@ -157,31 +160,36 @@ placed_next graph left heights numbers rest node users left_now heights_now read
     let level = get_or heights node 0 in
     let lt : node < length numbers = in_list numbers node t.unplaced in
     let some : 0 < level = tall graph left heights numbers (rest ++ node ∷ []) w node
-        (omega (arith, w.numbers_len)) in
+    (omega (arith, w.numbers_len)) in
     let none : get_or numbers node 0 ≡ 0 = is_zero numbers node t.unplaced in
     let at : (d s : ℕ) → s ≡ node → get_or (set numbers node level) s d ≡ level =
-        λ d s e. get_or-set_at numbers node s level d e lt in
+    λ d s e. get_or-set_at numbers node s level d e lt in
     let other : (d s : ℕ) → (s ≡ node → ⊥)
-        → get_or (set numbers node level) s d ≡ get_or numbers s d =
-        λ d s e. get_or-set_other numbers node s level d e in
+    → get_or (set numbers node level) s d ≡ get_or numbers s d =
+    λ d s e. get_or-set_other numbers node s level d e in
     record {
       left_len = p.left_len ∙ w.left_len;
       heights_len = p.heights_len ∙ w.heights_len;
       numbers_len = length-set numbers node level ∙ w.numbers_len;
-      waiting = λ s. omega (arith, p.left_is s, p.users_are s, w.waiting s,
-            closed numbers node level (bases_of graph s) t.unplaced some lt);
+      waiting = λ s. omega (
+        arith,
+        p.left_is s,
+        p.users_are s,
+        w.waiting s,
+        closed numbers node level (bases_of graph s) t.unplaced some lt,
+      );
       queued = λ s. elim (cases_eq s node) [
         | inl e ↦
             let free = ap (λ k. get_or left k 0) e ∙ t.free in
             queued_node (get_or left s 0) (get_or left_now s 0) (uses s rest) (uses s ready_now)
-                (get_or (set numbers node level) s 1) (ap (λ k. uses k rest) e ∙ t.once) free
-                (omega (arith, p.left_is s, free)) (p.ready_are s) (omega (arith, at 1 s e, some))
+            (get_or (set numbers node level) s 1) (ap (λ k. uses k rest) e ∙ t.once) free
+            (omega (arith, p.left_is s, free)) (p.ready_are s) (omega (arith, at 1 s e, some))
         | inr ne ↦
             let was : uses s rest ≡ queued_at (get_or left s 0) (get_or numbers s 1) =
-                omega (arith, w.queued s, uses-push s rest node, one_other s node ne) in
+            omega (arith, w.queued s, uses-push s rest node, one_other s node ne) in
             queued_on (get_or left s 0) (get_or numbers s 1) (get_or left_now s 0) (uses s rest)
-                (uses s ready_now) was (p.ready_are s) (omega (arith, p.left_is s))
-                (unplaced_waits graph left heights numbers (rest ++ node ∷ []) w s)
+            (uses s ready_now) was (p.ready_are s) (omega (arith, p.left_is s))
+            (unplaced_waits graph left heights numbers (rest ++ node ∷ []) w s)
             ∙ ap (λ n. queued_at (get_or left_now s 0) n) (sym (other 1 s ne))
       ];
       settled_left = λ s h. elim (cases_eq s node) [
@@ -192,41 +200,58 @@ placed_next graph left heights numbers rest node users left_now heights_now read
         | inl e ↦
             let free = ap (λ k. get_or left k 0) e ∙ t.free in
             same_height level (get_or heights s 0) (get_or heights_now s 0) (uses s users)
-                (p.heights_are s) (omega (arith, p.left_is s, free))
-                ∙ ap (λ k. get_or heights k 0) e ∙ sym (at 0 s e)
+            (p.heights_are s) (omega (arith, p.left_is s, free))
+            ∙ ap (λ k. get_or heights k 0) e ∙ sym (at 0 s e)
         | inr ne ↦
             let before : 0 < get_or numbers s 0 = omega (arith, other 0 s ne) in
             same_height level (get_or heights s 0) (get_or heights_now s 0) (uses s users)
-                (p.heights_are s) (omega (arith, p.left_is s, w.settled_left s before))
-                ∙ w.settled s before ∙ sym (other 0 s ne)
+            (p.heights_are s) (omega (arith, p.left_is s, w.settled_left s before))
+            ∙ w.settled s before ∙ sym (other 0 s ne)
       ];
       below = λ s b has h. elim (cases_eq b node) [
-        | inl e ↦ omega (arith, at 0 b e, above level (get_or heights s 0) (get_or heights_now s 0)
+        | inl e ↦ omega (
+          arith,
+          at 0 b e,
+          above level (get_or heights s 0) (get_or heights_now s 0)
               (uses s users) (p.heights_are s)
-              (omega (arith, p.users_are s, ap (λ k. uses k (bases_of graph s)) e)))
+              (omega (arith, p.users_are s, ap (λ k. uses k (bases_of graph s)) e)),
+        )
         | inr ne ↦
             let before : 0 < get_or numbers b 0 = omega (arith, other 0 b ne) in
-            omega (arith, other 0 b ne, w.below s b has before, kept level (get_or heights s 0)
-                  (get_or heights_now s 0) (uses s users) (p.heights_are s))
+            omega (
+              arith,
+              other 0 b ne,
+              w.below s b has before,
+              kept level (get_or heights s 0)
+                  (get_or heights_now s 0) (uses s users) (p.heights_are s),
+            )
       ];
       tight = λ s in_graph. elim (which level (get_or heights s 0) (get_or heights_now s 0)
-            (uses s users) (p.heights_are s)) [
-        | inl same ↦ elim (w.tight s in_graph) [
-          | inl first ↦ inl (same ∙ first)
-          | inr r ↦
-              let apart : r.0 ≡ node → ⊥ =
+          (uses s users) (p.heights_are s)) [
+            | inl same ↦ elim (w.tight s in_graph) [
+              | inl first ↦ inl (same ∙ first)
+              | inr r ↦
+                  let apart : r.0 ≡ node → ⊥ =
                   λ e. omega (arith, r.2, ap (λ k. get_or numbers k 0) e, none) in
-              inr (r.0, r.1, omega (arith, other 0 r.0 apart, r.2),
-                    omega (arith, other 0 r.0 apart, same, r.3))
-        ]
-        | inr up ↦ inr (node, omega (arith, p.users_are s, up.0),
-              omega (arith, at 0 node refl, some), omega (arith, up.1, at 0 node refl))
-      ];
+                  inr (
+                    r.0,
+                    r.1,
+                    omega (arith, other 0 r.0 apart, r.2),
+                    omega (arith, other 0 r.0 apart, same, r.3),
+                  )
+            ]
+            | inr up ↦ inr (
+              node,
+              omega (arith, p.users_are s, up.0),
+              omega (arith, at 0 node refl, some),
+              omega (arith, up.1, at 0 node refl),
+            )
+          ];
       bound = λ s. elim (which level (get_or heights s 0) (get_or heights_now s 0) (uses s users)
-            (p.heights_are s)) [
-        | inl same ↦ omega (arith, same, w.bound s, fewer numbers node level none some lt)
-        | inr up ↦ omega (arith, up.1, w.bound node, fewer numbers node level none some lt)
-      ];
+          (p.heights_are s)) [
+            | inl same ↦ omega (arith, same, w.bound s, fewer numbers node level none some lt)
+            | inr up ↦ omega (arith, up.1, w.bound node, fewer numbers node level none some lt)
+          ];
     }
 
 -- ---- at the end
@@ -243,29 +268,42 @@ pub finished : (graph : List (List ℕ)) (left heights numbers : List ℕ)
 finished graph left heights numbers w = record {
   below = λ x y ax ay b some.
       let none : count_by (is_open numbers) (bases_of graph x) ≡ 0 = sym (w.waiting x)
-          ∙ w.settled_left x some in
+      ∙ w.settled_left x some in
       let shut : (get_or numbers y 1 == 0) ≡ false =
-          none_passes (is_open numbers) (bases_of graph x) y none b in
+      none_passes (is_open numbers) (bases_of graph x) y none b in
       let placed : 0 < get_or numbers y 0 =
-          omega (arith, not_zero (get_or numbers y 1) shut,
-            get_or_default numbers y 0 1 (omega (arith, ay, w.numbers_len))) in
+      omega (
+        arith,
+        not_zero (get_or numbers y 1) shut,
+        get_or_default numbers y 0 1 (omega (arith, ay, w.numbers_len)),
+      ) in
       (placed, omega (arith, w.below x y (used (bases_of graph x) y b) placed, w.settled x some));
   tight = λ x ax some. elim (w.tight x ax) [
     | inl first ↦ inl (sym (w.settled x some) ∙ first)
-    | inr r ↦ inr (r.0, omega (arith, within numbers r.0 r.2, w.numbers_len),
-          contains (bases_of graph x) r.0 r.1, sym (w.settled x some) ∙ r.3)
+    | inr r ↦ inr (
+      r.0,
+      omega (arith, within numbers r.0 r.2, w.numbers_len),
+      contains (bases_of graph x) r.0 r.1,
+      sym (w.settled x some) ∙ r.3,
+    )
   ];
   stuck = λ x ax none.
       let unplaced : get_or numbers x 1 ≡ 0 =
-          get_or_default numbers x 1 0 (omega (arith, ax, w.numbers_len)) ∙ none in
+      get_or_default numbers x 1 0 (omega (arith, ax, w.numbers_len)) ∙ none in
       let waits : 0 < count_by (is_open numbers) (bases_of graph x) =
-          omega (arith, has_one (get_or left x 0) (get_or numbers x 1) (w.queued x) unplaced,
-            w.waiting x) in
+      omega (
+        arith,
+        has_one (get_or left x 0) (get_or numbers x 1) (w.queued x) unplaced,
+        w.waiting x,
+      ) in
       let one_left = some_passes (is_open numbers) (bases_of graph x) waits in
       let its : get_or numbers one_left.0 1 ≡ 0 =
-          eqb-true (get_or numbers one_left.0 1) 0 one_left.2 in
-      (one_left.0, omega (arith, in_list numbers one_left.0 its, w.numbers_len), one_left.1,
-            is_zero numbers one_left.0 its);
+      eqb-true (get_or numbers one_left.0 1) 0 one_left.2 in (
+        one_left.0,
+        omega (arith, in_list numbers one_left.0 its, w.numbers_len),
+        one_left.1,
+        is_zero numbers one_left.0 its,
+      );
 }
 
 -- ---- at the start
@@ -288,11 +326,11 @@ pub started : (graph : List (List ℕ)) (left heights numbers ready : List ℕ)
 started graph left heights numbers ready left_is heights_are numbers_are ready_are in_range =
     let size = length graph in
     let left_len : length left ≡ size = ap (λ (l : List ℕ). length l) left_is
-        ∙ length-map graph length in
+    ∙ length-map graph length in
     let heights_len : length heights ≡ size = ap (λ (l : List ℕ). length l) heights_are
-        ∙ length-replicate size 1 in
+    ∙ length-replicate size 1 in
     let numbers_len : length numbers ≡ size = ap (λ (l : List ℕ). length l) numbers_are
-        ∙ length-replicate size 0 in
+    ∙ length-replicate size 0 in
     let zero_at : (s : ℕ) → get_or numbers s 0 ≡ 0 = λ s. elim (cases_lt s size) [
       | inl lt ↦ ap (λ l. get_or l s 0) numbers_are ∙ get_or-replicate {A = ℕ} size s 0 0 lt
       | inr past ↦ get_or_past numbers s 0 (omega arith)
@@ -305,7 +343,7 @@ started graph left heights numbers ready left_is heights_are numbers_are ready_a
       waiting = λ s.
           ap (λ l. get_or l s 0) left_is ∙ get_or-map length graph s []
           ∙ sym (all_pass (is_open numbers) (bases_of graph s)
-            (λ y has. ap (λ l. is_open l y) numbers_are ∙ open_first size y (in_range s y has)));
+          (λ y has. ap (λ l. is_open l y) numbers_are ∙ open_first size y (in_range s y has)));
       queued = λ s. ready_are s ∙ elim (cases_lt s size) [
         | inl lt ↦ queued_first (get_or left s 0) (get_or left s 1) (get_or numbers s 1)
             (get_or_default left s 1 0 (omega arith))
@@ -317,14 +355,23 @@ started graph left heights numbers ready left_is heights_are numbers_are ready_a
       settled = λ s h. absurd (nothing s h);
       below = λ s t has h. absurd (nothing t h);
       tight = λ s lt. inl (ap (λ l. get_or l s 0) heights_are
-            ∙ get_or-replicate {A = ℕ} size s 1 0 lt);
+          ∙ get_or-replicate {A = ℕ} size s 1 0 lt);
       bound = λ s.
           let all : uses 0 numbers ≤ length numbers = count_by-le-length (λ y. y == 0) numbers in
           elim (cases_lt s size) [
-            | inl lt ↦ omega (arith, ap (λ l. get_or l s 0) heights_are,
-                  get_or-replicate {A = ℕ} size s 1 0 lt, all, numbers_len)
-            | inr past ↦ omega (arith, get_or_past heights s 0 (omega (arith, heights_len)), all,
-                  numbers_len)
+            | inl lt ↦ omega (
+              arith,
+              ap (λ l. get_or l s 0) heights_are,
+              get_or-replicate {A = ℕ} size s 1 0 lt,
+              all,
+              numbers_len,
+            )
+            | inr past ↦ omega (
+              arith,
+              get_or_past heights s 0 (omega (arith, heights_len)),
+              all,
+              numbers_len,
+            )
           ];
     }
 
@@ -355,11 +402,11 @@ stands graph left heights numbers w node = elim (cases_lt node (length numbers))
         | inl none ↦ rw (here, none)
             (in_no_level (IsNode graph) (BuildsOn graph) (λ s. get_or numbers s 0) ok node its none)
         | inr some ↦ subst (λ l. StandsAt (IsNode graph) (BuildsOn graph) node
-              (option_map numbered l)) (sym here)
+            (option_map numbered l)) (sym here)
             (subst (λ l. StandsAt (IsNode graph) (BuildsOn graph) node (Some l))
-                  (sym (at_number (get_or numbers node 0) some))
+            (sym (at_number (get_or numbers node 0) some))
             (on_level (IsNode graph) (BuildsOn graph) (λ s. get_or numbers s 0) ok
-                  (get_or numbers node 0) node its refl some))
+            (get_or numbers node 0) node its refl some))
       ]
   | inr past ↦ rw (slice_get_past numbers node past) (λ its. omega (arith, w.numbers_len))
 ]

@@ -35,10 +35,10 @@ entered us b n new h e x t = elim (eqb_tells b t) [
   | inl p ↦
       let at : bases_of (set us b new) t ≡ new = get_or-set_at us b t new [] (sym p.1) h in
       rw p.0 (ap (λ l. uses x l) (at ∙ e) ∙ uses-push x (bases_of us b) n
-            ∙ ap (λ k. uses x (bases_of us k) + one x n) p.1)
+      ∙ ap (λ k. uses x (bases_of us k) + one x n) p.1)
   | inr p ↦
       let at : bases_of (set us b new) t ≡ bases_of us t =
-          get_or-set_other us b t new [] (λ q. p.1 (sym q)) in
+      get_or-set_other us b t new [] (λ q. p.1 (sym q)) in
       let none = nothing (n == x) in
       rw (p.0, at, none) (omega arith)
 ]
@@ -50,11 +50,11 @@ pub lists-entered : (vs : List (Vec ℕ)) (b n : ℕ) (old new : Vec ℕ) → b 
     + (if n == x then one t b else 0)
 lists-entered vs b n old new h is e x t =
     let was : bases_of (lists vs) b ≡ old.items = get_or-map (λ (v : Vec ℕ). v.items) vs b old [] h
-        ∙ ap (λ (v : Vec ℕ). v.items) (sym is) in
+    ∙ ap (λ (v : Vec ℕ). v.items) (sym is) in
     let becomes : new.items ≡ bases_of (lists vs) b ++ n ∷ [] = e
-        ∙ ap (λ l. l ++ n ∷ []) (sym was) in
+    ∙ ap (λ l. l ++ n ∷ []) (sym was) in
     ap (λ us. uses x (bases_of us t)) (map-set (λ (v : Vec ℕ). v.items) vs b new)
-        ∙ entered (lists vs) b n new.items (rw length-map h) becomes x t
+    ∙ entered (lists vs) b n new.items (rw length-map h) becomes x t
 
 -- a loop that adds a number at each place has added those of the places so far
 pub next_node : (x n : ℕ) (f : ℕ → ℕ) (old new here : ℕ) → new ≡ old + (if n == x then here else 0)

@@ -35,8 +35,14 @@ module _ (name : List ℕ) where
       go : LastChooses words name ⊎ ((chosen_with name c x.text ≡ true) × (taken words ≡ false))
           → LastChooses (x ∷ words) name ⊎ ((c ≡ true) × (taken (x ∷ words) ≡ false))
       go (inl l) =
-          inl (record { before = x ∷ l.before; word = l.word; after = l.after;
-              joined = ap (λ (ws : List Word). x ∷ ws) l.joined; chosen = l.chosen; kept = l.kept })
+          inl (record {
+            before = x ∷ l.before;
+            word = l.word;
+            after = l.after;
+            joined = ap (λ (ws : List Word). x ∷ ws) l.joined;
+            chosen = l.chosen;
+            kept = l.kept;
+          })
       go (inr p) = by (chooses name x.text) (removal x) refl p.0 p.1
 
   keeps : (words : List Word) → taken words ≡ false → from true words ≡ true

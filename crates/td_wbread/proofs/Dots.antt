@@ -25,9 +25,9 @@ pub dot_behind : (words : List Word) (dot : ℕ) → Some dot ≡ position is_do
     → Some (take (length words - (dot + 1)) (drop (dot + 1) words)) ≡ behind_dot words
 dot_behind words dot h =
     let short : length (drop (dot + 1) words) ≤ length words - (dot + 1) =
-        omega (arith, length-drop (dot + 1) words) in
+    omega (arith, length-drop (dot + 1) words) in
     ap (λ (ws : List Word). Some ws)
-        (take_all (length words - (dot + 1)) (drop (dot + 1) words) short)
+    (take_all (length words - (dot + 1)) (drop (dot + 1) words) short)
     ∙ ap (option_map (λ (i : ℕ). drop (i + 1) words)) h
 
 pub no_dot_before : (words : List Word) → None ≡ position is_dot words → words ≡ before_dot words
@@ -37,7 +37,7 @@ no_dot_before words h = by (ltb (position_or_len is_dot words) (length words)) r
         → None ≡ cond v (Some (position_or_len is_dot words)) None → words ≡ before_dot words
     by true is g = absurd cc
     by false is g = sym (take_all (position_or_len is_dot words) words
-          (ltb-false (position_or_len is_dot words) (length words) is))
+        (ltb-false (position_or_len is_dot words) (length words) is))
 
 pub no_dot_behind : (words : List Word) → None ≡ position is_dot words → None ≡ behind_dot words
 no_dot_behind words h = ap (option_map (λ (i : ℕ). drop (i + 1) words)) h

@@ -85,7 +85,7 @@ dot_found words rest h = by (ltb (position_or_len is_dot words) (length words)) 
           get_or words (position_or_len is_dot words) no_word,
           split_at_first is_dot words no_word lt
               ∙ ap (λ (r : List Word). before_dot words ++ get_or words
-                (position_or_len is_dot words) no_word ∷ r) e,
+              (position_or_len is_dot words) no_word ∷ r) e,
           passes_at_first is_dot words no_word lt,
         )
 
@@ -98,9 +98,9 @@ none_before (x ∷ words) = by (is_dot x) refl (none_before words)
     by true is g = refl
     by false is g =
         let e : suc (position_or_len is_dot words) ≡ 1 + position_or_len is_dot words =
-            omega arith in
+        omega arith in
         let here : list_any is_dot (take (suc (position_or_len is_dot words)) (x ∷ words)) ≡ false =
-            ap (λ (b : Bool). b || list_any is_dot (before_dot words)) is ∙ g in
+        ap (λ (b : Bool). b || list_any is_dot (before_dot words)) is ∙ g in
         subst (λ (m : ℕ). list_any is_dot (take m (x ∷ words)) ≡ false) e here
 
 -- ---- the tests
@@ -115,9 +115,9 @@ some_before end what (x ∷ words) h = by (is_dot x) h
     by true g = absurd cc
     by false g =
         let e : suc (position_or_len is_dot words) ≡ 1 + position_or_len is_dot words =
-            omega arith in
+        omega arith in
         let here : 0 < length (take (suc (position_or_len is_dot words)) (x ∷ words)) =
-            omega arith in
+        omega arith in
         subst (λ (m : ℕ). 0 < length (take m (x ∷ words))) e here
 
 pub filled_by : (end : End) (what : LineFault) (front rest : List Word) → 0 < length front
@@ -169,12 +169,12 @@ packages_found : (end : End) (words front rest : List Word)
     → packages_at end words ≡ Ok (front, rest) → ArePackages words front rest
 packages_found end words front rest h =
     let a = on_ok_parts (filled end NoPackage words)
-        (λ _. on_ok (all_pass is_package BadPackage (before_dot words))
-          (λ _. dotted end (before_dot words) (behind_dot words))) (front, rest) h in
+    (λ _. on_ok (all_pass is_package BadPackage (before_dot words))
+    (λ _. dotted end (before_dot words) (behind_dot words))) (front, rest) h in
     let b = on_ok_parts (all_pass is_package BadPackage (before_dot words))
-        (λ _. dotted end (before_dot words) (behind_dot words)) (front, rest) a.2 in
+    (λ _. dotted end (before_dot words) (behind_dot words)) (front, rest) a.2 in
     by (behind_dot words) refl b.2 (some_before end NoPackage words a.1)
-        (all_tested is_package BadPackage (before_dot words) b.1)
+    (all_tested is_package BadPackage (before_dot words) b.1)
   where
     by : (o : Option (List Word)) → behind_dot words ≡ o
         → dotted end (before_dot words) o ≡ Ok (front, rest) → 0 < length (before_dot words)
@@ -183,7 +183,7 @@ packages_found end words front rest h =
     by None is g some all = absurd cc
     by (Some behind) is g some all =
         let both : (before_dot words, behind) ≡ (front, rest) =
-            ok_same (before_dot words, behind) (front, rest) g in
+        ok_same (before_dot words, behind) (front, rest) g in
         let f : before_dot words ≡ front = ap (λ (p : List Word × List Word). p.0) both in
         let r : behind ≡ rest = ap (λ (p : List Word × List Word). p.1) both in
         let d = dot_found words behind is in
@@ -195,7 +195,7 @@ packages_found end words front rest h =
           no_dot = subst (λ (ws : List Word). list_any is_dot ws ≡ false) f (none_before words);
           some = subst (λ (ws : List Word). 0 < length ws) f some;
           packages = subst (λ (ws : List Word). list_all (λ (w : Word). is_package w.text) ws
-                ≡ true) f all;
+              ≡ true) f all;
         }
 
 packages_read : (end : End) (front rest : List Word) (dot : Word) → is_dot dot ≡ true
@@ -207,10 +207,10 @@ packages_read end front rest dot is none some all =
     let before : before_dot words ≡ front = before_at front rest dot none is in
     let behind : behind_dot words ≡ Some rest = behind_at front rest dot none is in
     ap (λ r. on_ok r (λ _. on_ok (all_pass is_package BadPackage (before_dot words))
-            (λ _. dotted end (before_dot words) (behind_dot words))))
-        (filled_by end NoPackage front (dot ∷ rest) some none)
+    (λ _. dotted end (before_dot words) (behind_dot words))))
+    (filled_by end NoPackage front (dot ∷ rest) some none)
     ∙ ap (λ (f : List Word). on_ok (all_pass is_package BadPackage f)
-      (λ _. dotted end f (behind_dot words))) before
+    (λ _. dotted end f (behind_dot words))) before
     ∙ ap (λ r. on_ok r (λ _. dotted end front (behind_dot words)))
     (all_passing is_package BadPackage front all)
     ∙ ap (dotted end front) behind

@@ -42,7 +42,7 @@ module _ (verb : Verb) (end : End) (seen : Values) (total : Result Values Comman
       ∙ ap (λ r. on_ok r (λ flag. Err (missing end (missing_value flag)))) f
   no_option rest (value ∷ words) word e is f h = sym h ∙ ap (options_at verb end seen) is
       ∙ ap (λ r. on_ok r (λ flag. on_ok (valued verb flag seen value)
-          (λ more. options_at verb end more words))) f
+      (λ more. options_at verb end more words))) f
 
   -- an option without a value
   pub no_value : (rest after : List Word) (word : Word) (flag : Flag) → rest ≡ word ∷ after
@@ -60,8 +60,8 @@ module _ (verb : Verb) (end : End) (seen : Values) (total : Result Values Comman
   unfolding options_at
   one_value rest after words word value flag is next f h =
       sym (ap (options_at verb end seen) (is ∙ ap (λ (ws : List Word). word ∷ ws) next)
-        ∙ ap (λ r. on_ok r (λ (o : Flag). on_ok (valued verb o seen value)
-            (λ more. options_at verb end more words))) f) ∙ h
+      ∙ ap (λ r. on_ok r (λ (o : Flag). on_ok (valued verb o seen value)
+      (λ more. options_at verb end more words))) f) ∙ h
 
   pub bad_value : (rest after words : List Word) (word value : Word) (flag : Flag)
       (e : CommandFault) → rest ≡ word ∷ after → after ≡ value ∷ words

@@ -47,11 +47,11 @@ next_name : (test : List ℕ → Bool) (table : List ArchWords) (i : ℕ) (name 
 next_name test table i name h is =
     let names = map (λ (a : ArchWords). a.name) table in
     let inside : i < length names =
-        (let e = length-map table (λ (a : ArchWords). a.name) in omega arith) in
+    (let e = length-map table (λ (a : ArchWords). a.name) in omega arith) in
     let here : get_or names i name ≡ name = get_or_from_slice_get names i name name
-        (slice_get-map (λ (a : ArchWords). a.name) table i ∙ is) in
+    (slice_get-map (λ (a : ArchWords). a.name) table i ∙ is) in
     ap (filter test) (sym (take-map (λ (a : ArchWords). a.name) (i + 1) table)
-          ∙ take_more names i name inside ∙ ap (λ (n : List ℕ). take i names ++ n ∷ []) here)
+    ∙ take_more names i name inside ∙ ap (λ (n : List ℕ). take i names ++ n ∷ []) here)
     ∙ filter-append test (take i names) (name ∷ [])
     ∙ ap (λ (ns : List (List ℕ)). filter test ns ++ cond (test name) (name ∷ []) [])
     (take-map (λ (a : ArchWords). a.name) i table)

@@ -46,11 +46,11 @@ pub has_package : (c : Command) (source : List ℕ) (version : Parts) (number : 
     ≡ is_matched (parts_of c) source version number
 has_package c source version number =
     sym (list_any-map (λ (p : PackageText). bytes_eq p.source source && version_matches version
-        number p.version) package_of c.packages.items)
+    number p.version) package_of c.packages.items)
 
 pub has_bare : (c : Command) (source : List ℕ)
     → list_any (λ (p : Package). bytes_eq (string_bytes p.source) source
     && is_none (option_map string_bytes p.version)) c.packages.items ≡ is_bare (parts_of c) source
 has_bare c source =
     sym (list_any-map (λ (p : PackageText). bytes_eq p.source source && is_none p.version)
-      package_of c.packages.items)
+    package_of c.packages.items)

@@ -18,13 +18,13 @@ bytes_eq-swap a b =
     let one = bytes_eq-Decides a b in
     let other = bytes_eq-Decides b a in
     same_from_decides {P = a ≡ b} (bytes_eq a b) (bytes_eq b a) one
-        (λ h. sym (other.0 h), λ e. other.1 (sym e))
+    (λ h. sym (other.0 h), λ e. other.1 (sym e))
 
 -- the places find the first packages of these
 abbrev pub FindsFirst : ℕ → List Package → Places → Type 0
 FindsFirst count packages places = (source : List ℕ) (test : Option Package → Bool) →
     list_any (λ place. test (slice_get packages place)) (places_of places source) ≡ list_any
-        (λ p. bytes_eq (string_bytes p.source) source && test (Some p)) (take count packages)
+    (λ p. bytes_eq (string_bytes p.source) source && test (Some p)) (take count packages)
 
 pub find_none : (packages : List Package) (places : Places)
     → ((source : List ℕ) → places_of places source ≡ []) → FindsFirst 0 packages places
@@ -43,13 +43,13 @@ either test old place false = by (list_any test old)
 pub find_more : (packages : List Package) (old new : Places) (place : ℕ) (item : Package) → place
     < length packages → item ≡ get_or packages place item → slice_get packages place ≡ Some item
     → ((q : List ℕ) → places_of new q ≡ cond (bytes_eq q (string_bytes item.source))
-      (places_of old q ++ place ∷ []) (places_of old q))
+    (places_of old q ++ place ∷ []) (places_of old q))
     → FindsFirst place packages old → FindsFirst (place + 1) packages new
 find_more packages old new place item inside is here pushed found = λ source test.
     let at : ℕ → Bool = λ i. test (slice_get packages i) in
     let fits : Package → Bool = λ p. bytes_eq (string_bytes p.source) source && test (Some p) in
     let one : take (place + 1) packages ≡ take place packages ++ item ∷ [] =
-        take_more packages place item inside ∙ ap (λ p. take place packages ++ p ∷ []) (sym is) in
+    take_more packages place item inside ∙ ap (λ p. take place packages ++ p ∷ []) (sym is) in
     ap (list_any at) (pushed source)
     ∙ either at (places_of old source) place (bytes_eq source (string_bytes item.source))
     ∙ ap (λ b. b || ((bytes_eq source (string_bytes item.source) && at place) || false))
@@ -57,7 +57,7 @@ find_more packages old new place item inside is here pushed found = λ source te
     ∙ ap (λ b. list_any fits (take place packages) || ((b && at place) || false))
     (bytes_eq-swap source (string_bytes item.source))
     ∙ ap (λ o. list_any fits (take place packages) ||
-      ((bytes_eq (string_bytes item.source) source && test o) || false)) here
+    ((bytes_eq (string_bytes item.source) source && test o) || false)) here
     ∙ sym (list_any-append fits (take place packages) (item ∷ []))
     ∙ ap (list_any fits) (sym one)
 
@@ -82,7 +82,7 @@ pub some_place : (packages : List Package) (places : Places) → FindsPackages p
     ≡ list_any (λ p. bytes_eq (string_bytes p.source) source) packages
 some_place packages places found source =
     sym (any_place (places_of places source)) ∙ found source (λ _. true)
-        ∙ all_fit (λ p. bytes_eq (string_bytes p.source) source) packages
+    ∙ all_fit (λ p. bytes_eq (string_bytes p.source) source) packages
 
 -- ---- an answer by places is one by packages
 
@@ -93,4 +93,4 @@ pub answered : (packages here : List Package) (at : List ℕ) (places : Places)
     (λ p. bytes_eq (string_bytes p.source) source && test (Some p)) packages
 answered packages here at places found same source is test =
     ap (λ ps. list_any (λ place. test (slice_get ps place)) at) same
-        ∙ ap (list_any (λ place. test (slice_get packages place))) is ∙ found source test
+    ∙ ap (list_any (λ place. test (slice_get packages place))) is ∙ found source test

@@ -27,8 +27,13 @@ closes_at text after q =
 taken_piece : (rest : List ℕ) (piece : List Mark) (after : List ℕ) → IsPiece rest piece after
     → IsTaken rest piece after
 taken_piece rest piece after p =
-    record { marked = p.marked; one = p.one; closed = p.closed; one_line = p.one_line;
-      long = p.long }
+    record {
+      marked = p.marked;
+      one = p.one;
+      closed = p.closed;
+      one_line = p.one_line;
+      long = p.long;
+    }
 
 taken_text : (text after : List ℕ) → CanBeQuoted text
     → IsTaken (39 ∷ (text ++ 39 ∷ after)) (between text) after
@@ -67,7 +72,7 @@ words_are place [] all = ap (map (λ (w : Word). w.text)) (no_words place)
 words_are place (text ∷ texts) all =
     ap (map (λ (w : Word). w.text)) (one_word place text texts all.0)
     ∙ ap (λ (t : List ℕ). t ∷ map (λ (w : Word). w.text)
-      (words_from (place + length (between text) + 1) (quoted_line texts))) (between_text text)
+    (words_from (place + length (between text) + 1) (quoted_line texts))) (between_text text)
     ∙ ap (λ (ts : List (List ℕ)). text ∷ ts)
     (words_are (place + length (between text) + 1) texts all.1)
 
@@ -83,5 +88,8 @@ none_open place (text ∷ texts) all =
     ∙ none_open (place + length (between text) + 1) texts all.1
 
 pub quoted_words_read : QuotedWordsAreRead
-quoted_words_read = λ texts all. (words_are 0 texts all, ap (end_with (length (quoted_line texts)))
-      (none_open 0 texts all))
+quoted_words_read = λ texts all. (
+  words_are 0 texts all,
+  ap (end_with (length (quoted_line texts)))
+      (none_open 0 texts all),
+)

@@ -16,7 +16,7 @@ boundary_before test small bs = (
   prefix_len-le-length test bs,
   λ (inside : prefix_len test bs < length bs) high.
       let low : get_or bs (prefix_len test bs) 0 < 128 =
-          small _ (prefix_len_stops test bs 0 inside) in
+      small _ (prefix_len_stops test bs 0 inside) in
       absurd (omega arith),
 )
 

@@ -56,7 +56,7 @@ skip_words place (b ∷ front) back h =
     let p = and_parts (is_space b) (list_all is_space front) h in
     let e : place + 1 + length front ≡ place + suc (length front) = omega arith in
     gap_words place b (front ++ back) p.0 ∙ skip_words (place + 1) front back p.1
-        ∙ ap (λ (n : ℕ). words_from n back) e
+    ∙ ap (λ (n : ℕ). words_from n back) e
 
 skip_open : (place : ℕ) (front back : List ℕ) → list_all is_space front ≡ true
     → open_at place (marks None (front ++ back)) ≡ open_at (place + length front) (marks None back)
@@ -66,7 +66,7 @@ skip_open place (b ∷ front) back h =
     let p = and_parts (is_space b) (list_all is_space front) h in
     let e : place + 1 + length front ≡ place + suc (length front) = omega arith in
     gap_open place b (front ++ back) p.0 ∙ skip_open (place + 1) front back p.1
-        ∙ ap (λ (n : ℕ). open_at n (marks None back)) e
+    ∙ ap (λ (n : ℕ). open_at n (marks None back)) e
 
 -- ---- what is left of a line
 
@@ -90,13 +90,13 @@ pub trimmed_left : (line : List ℕ) (seen : List Word) (rest after : List ℕ) 
 trimmed_left line seen rest after is l = subst (IsLeft line seen) (sym is) (record {
   place = l.place + length (run is_space rest);
   counted = (let c = l.counted in let long : length rest ≡ length (run is_space rest) + length
-        (trimmed rest) = ap length (run_joined is_space rest)
-        ∙ length-append (run is_space rest) (trimmed rest) in omega arith);
+      (trimmed rest) = ap length (run_joined is_space rest)
+      ∙ length-append (run is_space rest) (trimmed rest) in omega arith);
   decides = ap (λ (ws : List Word). seen ++ ws)
       (sym (ap (words_from l.place) (run_joined is_space rest) ∙ skip_words l.place
-          (run is_space rest) (trimmed rest) (run_passes is_space rest))) ∙ l.decides;
+      (run is_space rest) (trimmed rest) (run_passes is_space rest))) ∙ l.decides;
   opens = sym (ap (λ (t : List ℕ). open_at l.place (marks None t)) (run_joined is_space rest)
-        ∙ skip_open l.place (run is_space rest) (trimmed rest) (run_passes is_space rest))
+      ∙ skip_open l.place (run is_space rest) (trimmed rest) (run_passes is_space rest))
       ∙ l.opens;
 })
 
@@ -213,10 +213,10 @@ front_words place rest front [] t ends some =
     ∙ ap (λ (ws : List Word). ws ++ []) (whole_piece place front some t.closed)
 front_words place rest front (b ∷ after) t ends some =
     ap (λ (ms : List Mark). placed place (slice_split is_gap ms))
-        (t.marked ∙ ap (λ (ms : List Mark). front ++ ms) (gap_mark b after ends))
+    (t.marked ∙ ap (λ (ms : List Mark). front ++ ms) (gap_mark b after ends))
     ∙ ap (placed place) (split_piece front (marks None after) t.one)
     ∙ ap (λ (ws : List Word). ws ++ placed (place + length front + 1)
-      (slice_split is_gap (marks None after))) (whole_piece place front some t.closed)
+    (slice_split is_gap (marks None after))) (whole_piece place front some t.closed)
     ∙ ap (λ (ws : List Word). word_of place front ∷ ws)
     (sym (gap_words (place + length front) b after ends))
 
@@ -228,19 +228,19 @@ word_left line seen rest word is_bare after place at l un some s ends =
     let filled = front_filled rest s.front after s.taken ends un some in
     let here : l.place ≡ place = (let c = l.counted in omega arith) in
     let w : word_of l.place s.front ≡ record { text = word; is_bare = is_bare; place = place } =
-        cc (s.joined, s.bare) in
+    cc (s.joined, s.bare) in
     record {
       place = l.place + length s.front;
       counted = (let c = l.counted in let d = s.taken.long in omega arith);
       decides =
           append_assoc seen (record { text = word; is_bare = is_bare; place = place } ∷ [])
-              (words_from (l.place + length s.front) after)
+          (words_from (l.place + length s.front) after)
           ∙ ap (λ (x : Word). seen ++ x ∷ words_from (l.place + length s.front) after) (sym w)
           ∙ ap (λ (ws : List Word). seen ++ ws)
           (sym (front_words l.place rest s.front after s.taken ends filled))
           ∙ l.decides;
       opens = sym (ap (open_at l.place) s.taken.marked
-            ∙ past l.place s.front (marks None after) s.taken.closed) ∙ l.opens;
+          ∙ past l.place s.front (marks None after) s.taken.closed) ∙ l.opens;
     }
 
 pub word_shorter : (rest word : List ℕ) (is_bare : Bool) (after after' : List ℕ)
@@ -250,7 +250,7 @@ word_shorter rest word is_bare after after' is un some s ends =
     let filled = front_filled rest s.front after s.taken ends un some in
     let d = s.taken.long in
     let long : length after ≡ length (run is_space after) + length (trimmed after) = ap length
-        (run_joined is_space after) ∙ length-append (run is_space after) (trimmed after) in
+    (run_joined is_space after) ∙ length-append (run is_space after) (trimmed after) in
     let e : length after' ≡ length (trimmed after) = ap length is in
     omega arith
 
@@ -279,9 +279,9 @@ unfolding placed
 open_words place rest quote_place o =
     let piece : List Mark = o.front ++ unclosed ∷ [] in
     let one : list_any is_gap piece ≡ false = list_any-append is_gap o.front (unclosed ∷ [])
-        ∙ neither _ _ o.taken.one refl in
+    ∙ neither _ _ o.taken.one refl in
     let still : list_any is_unclosed piece ≡ true = list_any-append is_unclosed o.front
-        (unclosed ∷ []) ∙ or-true (list_any is_unclosed o.front) in
+    (unclosed ∷ []) ∙ or-true (list_any is_unclosed o.front) in
     ap (λ (ms : List Mark). placed place (slice_split is_gap ms)) (open_marks rest quote_place o)
     ∙ ap (placed place) (split_last piece one)
     ∙ ap (λ (ws : List Word). ws ++ []) (open_piece place piece still)
@@ -297,8 +297,8 @@ pub open_end : (line : List ℕ) (seen : List Word) (rest : List ℕ) (quote_pla
 unfolding open_at
 open_end line seen rest quote_place l o =
     let at : length line - length rest + quote_place ≡ l.place + length o.front =
-        (let c = l.counted in let d = o.counted in omega arith) in
+    (let c = l.counted in let d = o.counted in omega arith) in
     ap Open at
     ∙ ap (end_with (length line))
     (sym (ap (open_at l.place) (open_marks rest quote_place o)
-        ∙ past l.place o.front (unclosed ∷ []) o.taken.closed) ∙ l.opens)
+    ∙ past l.place o.front (unclosed ∷ []) o.taken.closed) ∙ l.opens)

@@ -46,10 +46,12 @@ end_is verb (Closed place) seen values h = by (needs_relation verb && is_none se
         → (values ≡ seen) × MayEnd verb (Closed place) values
     by true is g = absurd cc
     by false is g =
-        let same : seen ≡ values = cc in
-        (sym same, λ needs. subst (λ (v : Values). is_some v.message ≡ true) same
+        let same : seen ≡ values = cc in (
+          sym same,
+          λ needs. subst (λ (v : Values). is_some v.message ≡ true) same
               (some_of seen.message (sym (ap (λ (b : Bool). b && is_none seen.message) needs)
-                  ∙ is)))
+              ∙ is)),
+        )
 
 end_found : (verb : Verb) (end : End) (seen : Values) → MayEnd verb end seen
     → finished verb end seen ≡ Ok seen
@@ -95,7 +97,7 @@ not_both : (word : Word) → is_extra word ≡ true → is_message word ≡ fals
 not_both word is =
     let p = and_parts word.is_bare (bytes_eq word.text (codes "--extra-depends")) is in
     let text : word.text ≡ codes "--extra-depends" =
-        (bytes_eq-Decides word.text (codes "--extra-depends")).0 p.1 in
+    (bytes_eq-Decides word.text (codes "--extra-depends")).0 p.1 in
     rw (p.0, text) refl
 
 -- the value of an option fits
@@ -120,7 +122,7 @@ value_is verb flag seen more value h = by (wants_relation verb flag) refl h
         → (with_value flag seen value ≡ more) × ValueFits verb flag value
     by true wants g =
         let (x, checked, same) =
-            on_ok_parts (relation_checked value) (λ _. Ok (with_value flag seen value)) more g in
+        on_ok_parts (relation_checked value) (λ _. Ok (with_value flag seen value)) more g in
         ((let e = same in cc), λ _. relation_is value x checked)
     by false wants g = ((let e = g in cc), λ yes. absurd (let bad = sym wants ∙ yes in cc))
 
@@ -143,21 +145,24 @@ module _ (verb : Verb) (end : End) where
   unfolding options_at
   step seen values word value words h =
       let (flag, found, rest) =
-          on_ok_parts (flag_at verb seen word)
-          (λ flag. on_ok (valued verb flag seen value) (λ more. options_at verb end more words))
-          values h in
+      on_ok_parts (flag_at verb seen word)
+      (λ flag. on_ok (valued verb flag seen value) (λ more. options_at verb end more words))
+      values h in
       let (more, fitting, last) = on_ok_parts (valued verb flag seen value)
-          (λ more. options_at verb end more words) values rest in
-      let v = value_is verb flag seen more value fitting in
-      (flag, flag_is verb seen word flag found, v.1,
-            subst (λ m. options_at verb end m words ≡ Ok values) (sym v.0) last)
+      (λ more. options_at verb end more words) values rest in
+      let v = value_is verb flag seen more value fitting in (
+        flag,
+        flag_is verb seen word flag found,
+        v.1,
+        subst (λ m. options_at verb end m words ≡ Ok values) (sym v.0) last,
+      )
 
   -- an option without a value isn't read
   lone : (seen values : Values) (word : Word) → options_at verb end seen (word ∷ []) ≡ Ok values → ⊥
   unfolding options_at
   lone seen values word h =
       let (flag, found, rest) = on_ok_parts (flag_at verb seen word)
-          (λ flag. Err (missing end (missing_value flag))) values h in
+      (λ flag. Err (missing end (missing_value flag))) values h in
       let bad = rest in absurd cc
 
   -- nor is a third one
@@ -202,16 +207,16 @@ module _ (verb : Verb) (end : End) where
   message_flag seen word value m none =
       ap (λ (a : Bool). picked word a (is_extra word && (takes_extra verb && is_none seen.extra)))
       (and_from (is_message word) (takes_message verb && is_none seen.message) m.sign
-            (and_from (takes_message verb) (is_none seen.message) m.taken none))
+      (and_from (takes_message verb) (is_none seen.message) m.taken none))
 
   extra_flag : (seen : Values) (word value : Word) → IsExtra verb word value
       → is_none seen.extra ≡ true → flag_at verb seen word ≡ Ok ExtraDepends
   extra_flag seen word value x none =
       ap (λ (a : Bool). picked word (a && (takes_message verb && is_none seen.message))
-            (is_extra word && (takes_extra verb && is_none seen.extra))) (not_both word x.sign)
+      (is_extra word && (takes_extra verb && is_none seen.extra))) (not_both word x.sign)
       ∙ ap (picked word false)
       (and_from (is_extra word) (takes_extra verb && is_none seen.extra) x.sign
-        (and_from (takes_extra verb) (is_none seen.extra) x.taken none))
+      (and_from (takes_extra verb) (is_none seen.extra) x.taken none))
 
   -- ---- forward
 
@@ -243,14 +248,25 @@ module _ (verb : Verb) (end : End) where
       absurd cc
   two values word value other second Message ExtraDepends is fits also suits h =
       let l = last_is (with_value ExtraDepends (with_value Message no_values value) second) values
-          h in
-      (inl (message_of no_values word value is fits,
-              extra_of (with_value Message no_values value) other second also suits, l.0), l.1)
+      h in (
+        inl (
+          message_of no_values word value is fits,
+          extra_of (with_value Message no_values value) other second also suits,
+          l.0,
+        ),
+        l.1,
+      )
   two values word value other second ExtraDepends Message is fits also suits h =
       let l = last_is (with_value Message (with_value ExtraDepends no_values value) second) values
-          h in
-      (inr (extra_of no_values word value is fits, message_of
-              (with_value ExtraDepends no_values value) other second also suits, l.0), l.1)
+      h in (
+        inr (
+          extra_of no_values word value is fits,
+          message_of
+              (with_value ExtraDepends no_values value) other second also suits,
+          l.0,
+        ),
+        l.1,
+      )
   two values word value other second ExtraDepends ExtraDepends is fits also suits h = let bad =
       also.2 in absurd cc
 
@@ -280,13 +296,13 @@ module _ (verb : Verb) (end : End) where
   options_are (word ∷ value ∷ other ∷ second ∷ []) values h =
       let (flag, is, fits, rest) = step no_values values word value (other ∷ second ∷ []) h in
       let (next, also, suits, last) =
-          step (with_value flag no_values value) values other second [] rest in
+      step (with_value flag no_values value) values other second [] rest in
       two values word value other second flag next is fits also suits last
   options_are (word ∷ value ∷ other ∷ second ∷ x ∷ words) values h =
       let (flag, is, fits, rest) =
-          step no_values values word value (other ∷ second ∷ x ∷ words) h in
+      step no_values values word value (other ∷ second ∷ x ∷ words) h in
       let (next, also, suits, last) = step (with_value flag no_values value) values other second
-          (x ∷ words) rest in
+      (x ∷ words) rest in
       absurd (more_than_two values word value other second x words flag next also last)
 
   suite_is : (words : List Word) (values : Values) → suite_end verb end words ≡ Ok values
@@ -386,7 +402,7 @@ module _ (verb : Verb) (end : End) where
       ∙ options_found (word ∷ words) values is.1 may
   dot_found suites (word ∷ words) values (inr is) may =
       ap (λ (a : Bool). behind_dot_word word words a (is_suite suites word.text)) is.0
-          ∙ ap (behind_dot_word word words false) is.1 ∙ suite_found words values is.2 may
+      ∙ ap (behind_dot_word word words false) is.1 ∙ suite_found words values is.2 may
 
   tail_found : (suites : List (List ℕ)) (behind : Option (List Word)) (values : Values)
       → FollowArchs verb suites behind values → MayEnd verb end values

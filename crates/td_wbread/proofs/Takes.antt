@@ -42,7 +42,7 @@ plain_marks [] back h = refl
 plain_marks (b ∷ front) back h =
     let p = and_parts (is_plain b) (list_all is_plain front) h in
     plain_mark b (front ++ back) p.0 ∙ ap (λ (ms : List Mark). plain b ∷ ms)
-        (plain_marks front back p.1)
+    (plain_marks front back p.1)
 
 quoted_by : (b q : ℕ) (y z : List Mark) (e : Bool) → eqb b q ≡ e → b ≢ q
     → cond e y (quoted b ∷ z) ≡ quoted b ∷ z
@@ -229,7 +229,7 @@ is_between q text inside after is h =
     record {
       marked = closed_mark q text is c.0 ∙ ap (λ (t : List ℕ). quote ∷ marks (Some q) t) c.1
           ∙ ap (λ (ms : List Mark). quote ∷ ms) (quoted_marks q inside after c.2
-            ∙ sym (append_assoc (map quoted inside) (quote ∷ []) (marks None after)));
+          ∙ sym (append_assoc (map quoted inside) (quote ∷ []) (marks None after)));
       one = list_any-append is_gap (map quoted inside) (quote ∷ [])
           ∙ neither _ _ (quoted_gaps inside) refl;
       closed = list_any-append is_unclosed (map quoted inside) (quote ∷ [])
@@ -237,9 +237,9 @@ is_between q text inside after is h =
       one_line = ap has_newline (between_text inside) ∙ c.3;
       long =
           (let a : length text ≡ length inside + suc (length after) = ap length c.1
-                ∙ length-append inside (q ∷ after) in
+          ∙ length-append inside (q ∷ after) in
           let b : length (map quoted inside ++ quote ∷ []) ≡ length inside + 1 = length-append
-              (map quoted inside) (quote ∷ []) ∙ ap (λ (n : ℕ). n + 1) (length-map inside quoted) in
+          (map quoted inside) (quote ∷ []) ∙ ap (λ (n : ℕ). n + 1) (length-map inside quoted) in
           omega arith);
     }
 
@@ -259,8 +259,18 @@ is_open q text is h = open_mark q text is (by (cut q text) h)
 
 pub nothing_seen : (text : List ℕ) → IsSeen text [] true text
 nothing_seen text =
-    record { front = []; taken = record { marked = refl; one = refl; closed = refl; one_line = refl;
-        long = omega arith }; joined = refl; bare = refl }
+    record {
+      front = [];
+      taken = record {
+        marked = refl;
+        one = refl;
+        closed = refl;
+        one_line = refl;
+        long = omega arith;
+      };
+      joined = refl;
+      bare = refl;
+    }
 
 pub run_seen : (text word : List ℕ) (is_bare : Bool) (rest : List ℕ) → IsSeen text word is_bare rest
     → IsSeen text (word ++ run is_plain rest) is_bare (behind is_plain rest)
@@ -272,7 +282,7 @@ run_seen text word is_bare rest s =
       joined = joined_text s.front (map plain r) ∙ ap (λ (t : List ℕ). t ++ text_of (map plain r))
           s.joined ∙ ap (λ (t : List ℕ). word ++ t) (plain_text r);
       bare = ap not (list_any-append is_quote_mark s.front (map plain r)
-            ∙ or_none _ _ (plain_bare r)) ∙ s.bare;
+          ∙ or_none _ _ (plain_bare r)) ∙ s.bare;
     }
 
 pub between_seen : (text word : List ℕ) (is_bare : Bool) (q : ℕ) (rest inside after : List ℕ)
@@ -285,7 +295,7 @@ between_seen text word is_bare q rest inside after is h s = record {
   joined = joined_text s.front (between inside) ∙ ap (λ (t : List ℕ). t ++ text_of (between inside))
       s.joined ∙ ap (λ (t : List ℕ). word ++ t) (between_text inside);
   bare = ap not (list_any-append is_quote_mark s.front (between inside)
-        ∙ or-true (list_any is_quote_mark s.front));
+      ∙ or-true (list_any is_quote_mark s.front));
 }
 
 pub word_ends : (rest : List ℕ) → IsUnquoted (behind is_plain rest)
@@ -318,7 +328,7 @@ pub run_more : (text word : List ℕ) (is_bare : Bool) (rest run' after word' : 
 run_more text word is_bare rest run' after word' s a b w =
     subst (λ (t : List ℕ). IsSeen text word' is_bare t) (sym b)
     (subst (λ (t : List ℕ). IsSeen text t is_bare (behind is_plain rest))
-          (ap (λ (t : List ℕ). word ++ t) (sym a) ∙ sym w)
+    (ap (λ (t : List ℕ). word ++ t) (sym a) ∙ sym w)
     (run_seen text word is_bare rest s))
 
 -- what stands between quotes, by other names
@@ -329,7 +339,7 @@ pub between_more : (text word : List ℕ) (is_bare : Bool) (q : ℕ)
 between_more text word is_bare q rest quoted_rest inside after word' at is h w s =
     subst (λ (t : List ℕ). IsSeen text t false after) (sym w)
     (between_seen text word is_bare q quoted_rest inside after is h
-          (subst (λ (t : List ℕ). IsSeen text word is_bare t) at s))
+    (subst (λ (t : List ℕ). IsSeen text word is_bare t) at s))
 
 pub open_found : (text word : List ℕ) (is_bare : Bool) (q : ℕ) (rest quoted_rest : List ℕ)
     → rest ≡ q ∷ quoted_rest → is_quote q ≡ true → None ≡ closing (cut q quoted_rest)
@@ -348,7 +358,7 @@ pub between_shorter : (q : ℕ) (text inside after : List ℕ)
 between_shorter q text inside after h =
     let c = closing_is q text inside after h in
     let a : length text ≡ length inside + suc (length after) = ap length c.1
-        ∙ length-append inside (q ∷ after) in
+    ∙ length-append inside (q ∷ after) in
     omega arith
 
 -- by another name
@@ -361,7 +371,7 @@ pub shorter : (q : ℕ) (rest after text inside behind' : List ℕ) → after �
     → length behind' < length rest
 shorter q rest after text inside behind' is at h =
     let a : length rest ≡ length (run is_plain rest) + length (behind is_plain rest) = ap length
-        (run_joined is_plain rest) ∙ length-append (run is_plain rest) (behind is_plain rest) in
+    (run_joined is_plain rest) ∙ length-append (run is_plain rest) (behind is_plain rest) in
     let b : length (behind is_plain rest) ≡ suc (length text) = ap length (sym is ∙ at) in
     let d = between_shorter q text inside behind' h in
     omega arith

@@ -55,7 +55,7 @@ none_found words h = by (ltb (position_or_len is_dot words) (length words)) refl
         (cond b (Some (position_or_len is_dot words)) None) ≡ None → words ≡ before_dot words
     by true is g = absurd cc
     by false is g = sym (take_all (position_or_len is_dot words) words
-          (ltb-false (position_or_len is_dot words) (length words) is))
+        (ltb-false (position_or_len is_dot words) (length words) is))
 
 -- ---- the tests
 
@@ -105,12 +105,12 @@ archs_found : (table : List ArchWords) (end : End) (words front : List Word) (be
     (List Word)) → archs_at table end words ≡ Ok (front, behind) → AreArchs table words front behind
 archs_found table end words front behind h =
     let a = on_ok_parts (filled end NoArch words)
-        (λ _. on_ok (archs_checked table (before_dot words))
-          (λ _. done (before_dot words, behind_dot words))) (front, behind) h in
+    (λ _. on_ok (archs_checked table (before_dot words))
+    (λ _. done (before_dot words, behind_dot words))) (front, behind) h in
     let b = on_ok_parts (archs_checked table (before_dot words))
-        (λ _. done (before_dot words, behind_dot words)) (front, behind) a.2 in
+    (λ _. done (before_dot words, behind_dot words)) (front, behind) a.2 in
     let both : (before_dot words, behind_dot words) ≡ (front, behind) =
-        ok_same (before_dot words, behind_dot words) (front, behind) b.2 in
+    ok_same (before_dot words, behind_dot words) (front, behind) b.2 in
     let f : before_dot words ≡ front = ap (λ (p : List Word × Option (List Word)). p.0) both in
     record {
       joined = subst (λ (p : List Word × Option (List Word)). GoesOn words p.0 p.1) both
@@ -126,7 +126,7 @@ archs_by : (table : List ArchWords) (end : End) (words front : List Word)
     → archs_at table end words ≡ Ok (front, behind)
 archs_by table end words front behind some before after fit =
     ap (λ r. on_ok r (λ _. on_ok (archs_checked table (before_dot words))
-            (λ _. done (before_dot words, behind_dot words)))) some
+    (λ _. done (before_dot words, behind_dot words)))) some
     ∙ ap (λ (f : List Word). on_ok (archs_checked table f) (λ _. done (f, behind_dot words))) before
     ∙ ap (λ r. on_ok r (λ _. done (front, behind_dot words))) (fit_checked table front fit)
     ∙ ap (λ (o : Option (List Word)). done (front, o)) after
@@ -138,7 +138,7 @@ archs_read table end words front None joined none fit =
     subst (λ (ws : List Word). archs_at table end ws ≡ Ok (front, None)) (sym joined)
     (archs_by table end front front None
     (ap (filled end NoArch) (sym (append-nil front))
-          ∙ filled_by end NoArch front [] (fit_some table front fit) none)
+    ∙ filled_by end NoArch front [] (fit_some table front fit) none)
     (before_all front none) (behind_all front none) fit)
 archs_read table end words front (Some rest) joined none fit =
     subst (λ (ws : List Word). archs_at table end ws ≡ Ok (front, Some rest)) (sym joined.1)
@@ -147,6 +147,7 @@ archs_read table end words front (Some rest) joined none fit =
     (before_at front rest joined.0 none joined.2) (behind_at front rest joined.0 none joined.2) fit)
 
 pub archs_exact : ArchsAreExact
-archs_exact = λ table end words front behind.
-    (archs_found table end words front behind,
-          λ a. archs_read table end words front behind a.joined a.no_dot a.archs)
+archs_exact = λ table end words front behind. (
+  archs_found table end words front behind,
+  λ a. archs_read table end words front behind a.joined a.no_dot a.archs,
+)

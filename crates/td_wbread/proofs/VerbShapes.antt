@@ -51,16 +51,23 @@ size_is : (text : List ℕ) (n : ℕ) → size_at text ≡ Some n → IsSize tex
 size_is text n h =
     let w = when_some (is_size text) (digits_value 10 text) n h in
     let p = and_parts (ltb 0 (length text))
-        (all_ascii_digits text && leb (digits_value 10 text) 9999) w.0 in
+    (all_ascii_digits text && leb (digits_value 10 text) 9999) w.0 in
     let q = and_parts (all_ascii_digits text) (leb (digits_value 10 text) 9999) p.1 in
     let is = w.1 in
     let le = leb-true (digits_value 10 text) 9999 q.1 in
-    record { are_digits = record { some = ltb-true 0 (length text) p.0; digits = q.0 }; value = is;
-          bounded = omega arith }
+    record {
+      are_digits = record { some = ltb-true 0 (length text) p.0; digits = q.0 };
+      value = is;
+      bounded = omega arith;
+    }
 
 size_found : (text : List ℕ) (n : ℕ) → IsSize text n → size_at text ≡ Some n
-size_found text n s = rw (lt-ltb 0 (length text) s.are_digits.some, s.are_digits.digits, s.value,
-      le-leb n 9999 s.bounded) refl
+size_found text n s = rw (
+  lt-ltb 0 (length text) s.are_digits.some,
+  s.are_digits.digits,
+  s.value,
+  le-leb n 9999 s.bounded,
+) refl
 
 priority_is : (text : List ℕ) (priority : ℤ) → priority_at text ≡ Some priority
     → IsPriority text priority
@@ -73,10 +80,15 @@ priority_is text priority h = by (strip (codes "-") text) refl h
         let (n, size, same) = chained (size_at text) (λ n. Some (pos n)) priority g in
         (text, n, size_is text n size, inl (refl, sym (some_is (pos n) priority same)))
     by (Some digits) is g =
-        let (n, size, same) = chained (size_at digits) (λ n. Some (neg_ℤ (pos n))) priority g in
-        (digits, n, size_is digits n size,
-              inr (strip_found (codes "-") text digits is,
-                sym (some_is (neg_ℤ (pos n)) priority same)))
+        let (n, size, same) = chained (size_at digits) (λ n. Some (neg_ℤ (pos n))) priority g in (
+          digits,
+          n,
+          size_is digits n size,
+          inr (
+            strip_found (codes "-") text digits is,
+            sym (some_is (neg_ℤ (pos n)) priority same),
+          ),
+        )
 
 -- digits don't begin with a minus
 unsigned : (size rest : List ℕ) → all_ascii_digits size ≡ true → size ≢ 45 ∷ rest
@@ -88,14 +100,14 @@ priority_found : (text : List ℕ) (priority : ℤ) → IsPriority text priority
 unfolding priority_at
 priority_found text priority (size, n, is, inl (written, value)) =
     let none : strip (codes "-") text ≡ None = ap (strip (codes "-")) written
-        ∙ strip_none (codes "-") size (λ rest e. unsigned size rest is.are_digits.digits e) in
+    ∙ strip_none (codes "-") size (λ rest e. unsigned size rest is.are_digits.digits e) in
     ap (priority_after text) none ∙ ap (λ t. size_at t >>= λ m. Some (pos m)) written
-        ∙ ap (λ o. o >>= λ m. Some (pos m)) (size_found size n is) ∙ ap Some (sym value)
+    ∙ ap (λ o. o >>= λ m. Some (pos m)) (size_found size n is) ∙ ap Some (sym value)
 priority_found text priority (size, n, is, inr (written, value)) =
     let some : strip (codes "-") text ≡ Some size = ap (strip (codes "-")) written
-        ∙ strip_again (codes "-") size in
+    ∙ strip_again (codes "-") size in
     ap (priority_after text) some ∙ ap (λ o. o >>= λ m. Some (neg_ℤ (pos m))) (size_found size n is)
-        ∙ ap Some (sym value)
+    ∙ ap Some (sym value)
 
 -- ---- `bp`
 
@@ -111,7 +123,7 @@ priority_words end word (number ∷ words) verb rest is h = by (priority_at numb
     by (Some priority) e g =
         let same = ok_is CommandFault (Bp priority, words) (verb, rest) g in
         subst (λ (p : Verb × List Word). IsVerb end (word ∷ number ∷ words) p.0 p.1) same
-            (number, (word, refl, is), priority_is number.text priority e)
+        (number, (word, refl, is), priority_is number.text priority e)
 
 -- ---- `nmu`
 
@@ -147,13 +159,16 @@ number_words : (end : End) (word number : Word) (words : List Word) (verb : Verb
 number_words end word number words verb rest None is on e h = absurd cc
 number_words end word number words verb rest (Some n) is on e h =
     let g = guard (eqb n 0) (Wrong BadNumber number.place) (Ok (Nmu (Some n), words))
-        (verb, rest) h in
+    (verb, rest) h in
     let some : n ≢ 0 = eqb-false n 0 g.0 in
     let written = (number_exact 9999 (lit< tt)).found number.text n e in
     let same = ok_is CommandFault (Nmu (Some n), words) (verb, rest) g.1 in
-    subst (λ (p : Verb × List Word). IsVerb end (word ∷ number ∷ words) p.0 p.1) same
-    (number, (word, refl, is),
-          record { written = written.0; positive = omega arith; bounded = written.1 }, on)
+    subst (λ (p : Verb × List Word). IsVerb end (word ∷ number ∷ words) p.0 p.1) same (
+      number,
+      (word, refl, is),
+      record { written = written.0; positive = omega arith; bounded = written.1 },
+      on,
+    )
 
 rebuild_words : (end : End) (word : Word) (words : List Word) (verb : Verb) (rest : List Word)
     → word.text ≡ codes "nmu" → rebuild_first end words ≡ Ok (verb, rest)
@@ -161,7 +176,7 @@ rebuild_words : (end : End) (word : Word) (words : List Word) (verb : Verb) (res
 rebuild_words end word [] verb rest is h =
     let same = ok_is CommandFault (Nmu None, []) (verb, rest) h in
     subst (λ (p : Verb × List Word). IsVerb end (word ∷ []) p.0 p.1) same
-        ((word, refl, is), λ none. none)
+    ((word, refl, is), λ none. none)
 rebuild_words end word (number ∷ words) verb rest is h =
     by (is_digits number.text && goes_on end words) refl h
   where
@@ -173,10 +188,10 @@ rebuild_words end word (number ∷ words) verb rest is h =
     by false e g =
         let same = ok_is CommandFault (Nmu None, number ∷ words) (verb, rest) g in
         let none : BeginsWithNumber end (number ∷ words) → ⊥ = λ begins. let both =
-            and_from (is_digits number.text) (goes_on end words) (digits_found number.text begins.0)
-            (on_found end words begins.1) in cc in
+        and_from (is_digits number.text) (goes_on end words) (digits_found number.text begins.0)
+        (on_found end words begins.1) in cc in
         subst (λ (p : Verb × List Word). IsVerb end (word ∷ number ∷ words) p.0 p.1) same
-            ((word, refl, is), none)
+        ((word, refl, is), none)
 
 bare_found : (end : End) (rest : List Word) → (BeginsWithNumber end rest → ⊥)
     → rebuild_first end rest ≡ Ok (Nmu None, rest)
@@ -198,11 +213,11 @@ number_found end number rest n is on =
     let ge = is.positive in
     let small : n < 2 ^ 64 = omega arith in
     let digits : AreDigits number.text = subst AreDigits (sym is.written)
-        (record { some = decimal_nonempty n small; digits = digits_decimal own n small }) in
+    (record { some = decimal_nonempty n small; digits = digits_decimal own n small }) in
     let read : number_at 9999 number.text ≡ Some n = ap (number_at 9999) is.written
-        ∙ (number_exact 9999 (lit< tt)).again n le in
+    ∙ (number_exact 9999 (lit< tt)).again n le in
     rw (digits_found number.text digits, on_found end rest on, read, ne_eqb n 0 (λ e. omega arith))
-        refl
+    refl
 
 -- ---- the verb
 
@@ -221,20 +236,20 @@ verb_is end (word ∷ words) verb rest h =
         ≡ b → bytes_eq word.text (codes "bp") ≡ c → bytes_eq word.text (codes "dw") ≡ d
         → cond a (Ok (Gb, words))
         (cond b (rebuild_first end words)
-          (cond c (priority_first end words)
-            (cond d (Ok (Dw, words)) (Err (Wrong UnknownCommand word.place))))) ≡ Ok (verb, rest)
+        (cond c (priority_first end words)
+        (cond d (Ok (Dw, words)) (Err (Wrong UnknownCommand word.place))))) ≡ Ok (verb, rest)
         → IsVerb end (word ∷ words) verb rest
     by true b c d e f g k h =
         let same = ok_is CommandFault (Gb, words) (verb, rest) h in
         subst (λ (p : Verb × List Word). IsVerb end (word ∷ words) p.0 p.1) same
-            (word, refl, says (codes "gb") e)
+        (word, refl, says (codes "gb") e)
     by false true c d e f g k h = rebuild_words end word words verb rest (says (codes "nmu") f) h
     by false false true d e f g k h = priority_words end word words verb rest
         (says (codes "bp") g) h
     by false false false true e f g k h =
         let same = ok_is CommandFault (Dw, words) (verb, rest) h in
         subst (λ (p : Verb × List Word). IsVerb end (word ∷ words) p.0 p.1) same
-            (word, refl, says (codes "dw") k)
+        (word, refl, says (codes "dw") k)
     by false false false false e f g k h = absurd cc
 
 verb_found : (end : End) (words : List Word) (verb : Verb) (rest : List Word)

@@ -12,5 +12,5 @@ invariant-loop-number l = record {
   same : map matcher_pattern l.matchers.items ≡ map matcher_pattern l.fn.matchers.items;
   marks : l.marks.items ≡ map
       (λ x. mark_by (map matcher_pattern l.fn.matchers.items) (tracking l.tracker)
-        (source_fields l.archive x)) (take l.number l.archive.sources);
+      (source_fields l.archive x)) (take l.number l.archive.sources);
 }

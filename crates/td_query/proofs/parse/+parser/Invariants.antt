@@ -21,7 +21,7 @@ abbrev pub invariant-read_and-loop-after : goal.invariant-read_and-loop-after
 invariant-read_and-loop-after l = record {
   decides : (n : ℕ) × (length l.rest ≤ n)
       × (more_and (not_in l.depth) n (map shape_of l.parts.items) (map raw_of l.log.items) l.rest
-        ≡ and_at l.depth (map raw_of l.fn.log.items) l.fn.text);
+      ≡ and_at l.depth (map raw_of l.fn.log.items) l.fn.text);
   shorter : length l.rest < length l.fn.text;
   utf8 : shadow (Utf8 l.rest);
 }
@@ -33,7 +33,7 @@ abbrev pub invariant-read_or-loop-after : goal.invariant-read_or-loop-after
 invariant-read_or-loop-after l = record {
   decides : (n : ℕ) × (length l.rest ≤ n)
       × (more_or (and_with (not_in l.depth)) n (map shape_of l.parts.items)
-        (map raw_of l.log.items) l.rest ≡ or_at l.depth (map raw_of l.fn.log.items) l.fn.text);
+      (map raw_of l.log.items) l.rest ≡ or_at l.depth (map raw_of l.fn.log.items) l.fn.text);
   shorter : length l.rest < length l.fn.text;
   utf8 : shadow (Utf8 l.rest);
 }

@@ -19,7 +19,7 @@ loop-number-preserved c =
           ∙ ap (λ m. either_mark m c.mark_there.result) c.loop-number.invariant.mark
           ∙ ap (either_mark (gathered own there (take c.loop-number.number-index numbers)))
           (c.mark_there.ensures.mark
-            ∙ ap (λ p. mark_there a p t c.args.place (get_or numbers c.loop-number.number-index 0))
-            c.loop-number.invariant.same)
+          ∙ ap (λ p. mark_there a p t c.args.place (get_or numbers c.loop-number.number-index 0))
+          c.loop-number.invariant.same)
           ∙ gathered-more own there numbers c.loop-number.number-index c.loop-number-test.true;
     }

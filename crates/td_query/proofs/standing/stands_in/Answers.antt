@@ -17,9 +17,11 @@ returns-then-stands_at c =
     let filled : ¬ (length c.args.text.now ≡ 0) = search rules in
     let some : 0 < length c.args.text.now = omega arith in
     let here : stands_at c.args.text.now c.args.value.now c.loop-i.i ≡ true =
-        sym c.stands_at.ensures.stands ∙ c.if-stands_at.true in
-    record { stands = sym (found_at c.args.text.now c.args.value.now c.loop-i.i some
-            c.loop-i-test.true here) }
+    sym c.stands_at.ensures.stands ∙ c.if-stands_at.true in
+    record {
+      stands = sym (found_at c.args.text.now c.args.value.now c.loop-i.i some
+          c.loop-i-test.true here);
+    }
 
 pub loop-i-preserved : goal.loop-i-preserved
 loop-i-preserved c = below_next (stands_at c.args.text.now c.args.value.now) c.loop-i.i
@@ -28,6 +30,8 @@ loop-i-preserved c = below_next (stands_at c.args.text.now c.args.value.now) c.l
 pub returns : goal.returns
 returns c =
     let last : c.loop-i.i ≡ length c.args.value.now = omega arith in
-    record { stands = sym (found_nowhere c.args.text.now c.args.value.now
-            (ap (any_below (stands_at c.args.text.now c.args.value.now)) (sym last)
-              ∙ c.loop-i.invariant)) }
+    record {
+      stands = sym (found_nowhere c.args.text.now c.args.value.now
+          (ap (any_below (stands_at c.args.text.now c.args.value.now)) (sym last)
+          ∙ c.loop-i.invariant));
+    }

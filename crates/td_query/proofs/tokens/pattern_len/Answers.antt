@@ -15,7 +15,7 @@ returns-then-not-escaped-clause-value c =
     let plain : c.loop-i.escaped ≡ false = search rules in
     let within : i < length t = omega arith in
     sym (subst (λ (b : Bool). moved i (pattern_end b (drop i t)) ≡ Some i) (sym plain)
-          (ends_here t i within c.if-b-eq47.true)) ∙ c.loop-i.invariant
+    (ends_here t i within c.if-b-eq47.true)) ∙ c.loop-i.invariant
 
 pub loop-i-preserved : goal.loop-i-preserved
 loop-i-preserved c =
@@ -26,10 +26,10 @@ loop-i-preserved c =
       | else-b-eq47-via-then-b-eq47+else-not-escaped w ↦
           (let escaped : c.loop-i.escaped ≡ true = search rules in
           sym (goes_on c.loop-i.escaped t i within
-                (escaped_on (get_or t i 0) c.loop-i.escaped escaped)) ∙ c.loop-i.invariant)
+          (escaped_on (get_or t i 0) c.loop-i.escaped escaped)) ∙ c.loop-i.invariant)
       | else-b-eq47-via-else-b-eq47 w ↦
           sym (goes_on c.loop-i.escaped t i within
-            (other_on (get_or t i 0) c.loop-i.escaped w.if-b-eq47.false)) ∙ c.loop-i.invariant
+          (other_on (get_or t i 0) c.loop-i.escaped w.if-b-eq47.false)) ∙ c.loop-i.invariant
     ]
 
 pub returns-clause-value : goal.returns-clause-value

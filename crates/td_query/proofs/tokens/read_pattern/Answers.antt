@@ -9,4 +9,4 @@ split_at-requires-in-Some c =
     let within : c.in-Some.place < length t = search rules in
     let slash : get_or t c.in-Some.place 0 ≡ 47 = search rules in
     boundary_behind_slash t c.split_at.result.1.now c.in-Some.place c.utf8.text within slash
-        c.split_at.ensures.back
+    c.split_at.ensures.back

@@ -5,5 +5,7 @@ use Rattle.td_query.proofs.truth.value_of.Goals as goal
 
 pub returns : goal.returns
 returns c =
-    record { value = value_is (fields_of c.args.stanza.now) c.args.name.now c.get.result
-          c.requires.distinct c.get.ensures.found c.get.ensures.only }
+    record {
+      value = value_is (fields_of c.args.stanza.now) c.args.name.now c.get.result
+          c.requires.distinct c.get.ensures.found c.get.ensures.only;
+    }

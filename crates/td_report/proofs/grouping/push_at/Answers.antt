@@ -10,10 +10,15 @@ returns-in_ok-push-clause-lists c =
     let item = c.args.item in
     let number = c.args.level - 1 in
     let within : number < length lists =
-        omega (arith, c.if-level-gt0.true, c.if-level-len.true, c.len.ensures,
-          c.args.lists.now.ok.0) in
+    omega (
+      arith,
+      c.if-level-gt0.true,
+      c.if-level-len.true,
+      c.len.ensures,
+      c.args.lists.now.ok.0,
+    ) in
     λ n inside.
     list_at-push lists number item c.index_mut.result.now c.push.new.self within
-        c.index_mut.ensures.value c.in_ok-push.ensures.items n
+    c.index_mut.ensures.value c.in_ok-push.ensures.items n
     ∙ ap (λ (b : Bool). list_at lists n ++ (if b then item ∷ [] else []))
     (same_number c.args.level n c.if-level-gt0.true)

@@ -17,9 +17,9 @@ loop-item-preserved c =
     let before = map source_of (take i items) in
     let start = string_bytes c.args.out.now in
     let more = sources-more items i c.item-item.result source c.loop-item-test.true c.item-item.is
-        c.source-source.ensures.text in
+    c.source-source.ensures.text in
     let tested : c.is_last.result ≡ is_last (last_of None before) source = c.is_last.ensures
-        ∙ ap (λ l. is_last l source) c.loop-item.invariant.last in
+    ∙ ap (λ l. is_last l source) c.loop-item.invariant.last in
     let whole = ap (λ l. start ++ text_of (each_once None l)) (sym more) in
     let last = sym (ap (λ l. last_of None l) more ∙ last-push None before source) in
     elim c.if-not-is_last.branch [

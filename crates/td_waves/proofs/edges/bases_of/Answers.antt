@@ -10,9 +10,13 @@ pub returns : goal.returns
 returns c =
     let names = c.args.names.now.keys in
     let own = c.index-name.result.now.now in
-    let asker : Asker = record { archive = c.args.archive; names = c.args.names;
-          providers = c.args.providers; name = c.index-name.result.now;
-          number = c.in-Some.number } in
+    let asker : Asker = record {
+      archive = c.args.archive;
+      names = c.args.names;
+      providers = c.args.providers;
+      name = c.index-name.result.now;
+      number = c.in-Some.number;
+    } in
     ok_then c.bases.result _ _ c.bases.ensures (λ v h t.
     h t
     ∙ finds_is asker t c.requires.providers

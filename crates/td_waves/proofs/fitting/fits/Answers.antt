@@ -8,10 +8,10 @@ use Rattle.td_waves.proofs.fitting.fits.Goals as goal
 pub returns-then-fits_at : goal.returns-then-fits_at
 returns-then-fits_at c =
     sym (any-in-range (fits_at c.args.archive.now c.args.source
-        (asked c.args.alternative.now) c.args.home)
-      (length c.args.archive.now.table) c.loop-place.place
-      (omega (arith, c.loop-place-test.true, c.arch_count-place-end.ensures))
-      (sym c.fits_at.ensures ∙ c.if-fits_at.true))
+    (asked c.args.alternative.now) c.args.home)
+    (length c.args.archive.now.table) c.loop-place.place
+    (omega (arith, c.loop-place-test.true, c.arch_count-place-end.ensures))
+    (sym c.fits_at.ensures ∙ c.if-fits_at.true))
 
 pub loop-place-preserved : goal.loop-place-preserved
 loop-place-preserved c =

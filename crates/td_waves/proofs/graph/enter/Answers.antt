@@ -17,15 +17,15 @@ loop-base-preserved c =
     let i = c.loop-base.base-index in
     let bases = c.args.bases.now in
     let within : get_or bases i 0 < length us =
-        omega (arith, c.requires i 0 c.loop-base-test.true, c.loop-base.invariant.len) in
+    omega (arith, c.requires i 0 c.loop-base-test.true, c.loop-base.invariant.len) in
     record {
       uses = λ x t.
           joined (c.args.node == x) _ _ _ _ _
-              (lists-entered us (get_or bases i 0) c.args.node c.index_mut.result.now
-                c.push.new.self within c.index_mut.ensures.value c.in_ok-push.ensures.items x t)
-              (c.loop-base.invariant.uses x t)
+          (lists-entered us (get_or bases i 0) c.args.node c.index_mut.result.now
+          c.push.new.self within c.index_mut.ensures.value c.in_ok-push.ensures.items x t)
+          (c.loop-base.invariant.uses x t)
           ∙ ap (λ n. uses x (bases_of (lists c.args.users.now.items) t)
-            + (if c.args.node == x then n else 0))
+          + (if c.args.node == x then n else 0))
           (sym (uses-more t bases i c.loop-base-test.true));
       len = length-set us (get_or bases i 0) c.push.new.self ∙ c.loop-base.invariant.len;
     }

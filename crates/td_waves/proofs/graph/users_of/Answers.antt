@@ -15,8 +15,8 @@ loop-node-preserved c =
     let n = c.loop-node.node in
     let v = c.index-graph-node.result in
     let here : bases_of (lists graph) n ≡ v.items =
-        get_or-map (λ (v : Vec ℕ). v.items) graph n v [] c.loop-node-test.true
-        ∙ ap (λ (v : Vec ℕ). v.items) (sym c.index-graph-node.is) in
+    get_or-map (λ (v : Vec ℕ). v.items) graph n v [] c.loop-node-test.true
+    ∙ ap (λ (v : Vec ℕ). v.items) (sym c.index-graph-node.is) in
     record {
       uses = λ x t. next_node x n (λ x. uses t (bases_of (lists graph) x)) _ _
           (uses t c.deref.result.now) (c.in_ok-enter.ensures.uses x t)
@@ -31,6 +31,6 @@ returns-clause-uses c = λ x t.
       | inl below ↦ c.loop-node.invariant.uses x t ∙ (rw (lt-ltb x c.loop-node.node below) refl)
       | inr from ↦
           let none : bases_of (lists graph) x ≡ [] =
-              get_or_past (lists graph) x [] (rw length-map (omega arith)) in
+          get_or_past (lists graph) x [] (rw length-map (omega arith)) in
           c.loop-node.invariant.uses x t ∙ rw (le-ltb x c.loop-node.node from, none) refl
     ]

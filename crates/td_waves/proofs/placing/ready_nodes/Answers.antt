@@ -27,12 +27,12 @@ loop-node-preserved c = λ s.
       | then-count-eq0+in_ok-push w ↦
           next_node s n (ready_at left) (uses s c.loop-node.ready.items) _ 1
           (ap (λ r. uses s r.items) w.ready-is ∙ ap (λ l. uses s l) w.in_ok-push.ensures.items
-                ∙ uses-push s c.loop-node.ready.items n)
+          ∙ uses-push s c.loop-node.ready.items n)
           (is_ready left n _ at w.if-count-eq0.true) (c.loop-node.invariant s)
       | else-count-eq0 w ↦
           next_node s n (ready_at left) (uses s c.loop-node.ready.items) _ 0
           (ap (λ r. uses s r.items) w.ready-is ∙ more_of_none (uses s c.loop-node.ready.items)
-                (n == s))
+          (n == s))
           (is_not left n _ at w.if-count-eq0.false) (c.loop-node.invariant s)
     ]
 
@@ -42,6 +42,8 @@ returns c = λ s.
     elim (cases_lt s c.loop-node.node) [
       | inl below ↦ c.loop-node.invariant s ∙ rw (lt-ltb s c.loop-node.node below) refl
       | inr from ↦ c.loop-node.invariant s
-          ∙ rw (le-ltb s c.loop-node.node from,
-            get_or_past left s 1 (omega (arith, c.loop-node-test.false))) refl
+          ∙ rw (
+            le-ltb s c.loop-node.node from,
+            get_or_past left s 1 (omega (arith, c.loop-node-test.false)),
+          ) refl
     ]

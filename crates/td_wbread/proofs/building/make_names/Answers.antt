@@ -13,7 +13,7 @@ loop-arch-preserved c =
     elim c.if-is_chosen.branch [
       | then-is_chosen+in_ok-push w ↦
           ap (λ (v : Vec (Bor (List ℕ)) Global). map (λ (a : Bor (List ℕ)). a.now) v.items)
-              w.names-is
+          w.names-is
           ∙ ap (map (λ (a : Bor (List ℕ)). a.now)) w.in_ok-push.ensures.items
           ∙ map-append (λ (a : Bor (List ℕ)). a.now) c.loop-arch.names.items
           (c.name-name.result ∷ [])
@@ -22,7 +22,7 @@ loop-arch-preserved c =
           (sym c.is_chosen.ensures ∙ w.if-is_chosen.true) c.loop-arch.invariant
       | else-is_chosen w ↦
           ap (λ (v : Vec (Bor (List ℕ)) Global). map (λ (a : Bor (List ℕ)). a.now) v.items)
-              w.names-is
+          w.names-is
           ∙ name_left (table c.args.archs.now) c.args.words.now c.loop-arch.arch
           c.name-name.result.now _ inside c.name-name.ensures.name
           (sym c.is_chosen.ensures ∙ w.if-is_chosen.false) c.loop-arch.invariant

@@ -9,7 +9,7 @@ pub returns-in-Some : goal.returns-in-Some
 returns-in-Some c =
     let version = version_of c.args.version.now in
     c.version_matches.ensures ∙ ap (version_matches version c.args.number) c.as_deref.ensures.value
-        ∙ ap (is_matching version c.args.number) c.in-Some.ensures
+    ∙ ap (is_matching version c.args.number) c.in-Some.ensures
 
 pub returns-in-None : goal.returns-in-None
 returns-in-None c = ap (is_matching (version_of c.args.version.now) c.args.number) c.in-None.ensures

@@ -8,4 +8,4 @@ use Rattle.td_wbread.proofs.option_reading.is_suite.Goals as goal
 pub returns : goal.returns
 returns c = c.has_suite.ensures
     ∙ sym (list_any-map (λ (s : List ℕ). bytes_eq s c.args.name.now)
-      (λ (s : Bor (List ℕ)). s.now) c.args.suites.now)
+    (λ (s : Bor (List ℕ)). s.now) c.args.suites.now)

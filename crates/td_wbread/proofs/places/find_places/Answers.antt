@@ -12,13 +12,13 @@ pub loop-place-preserved : goal.loop-place-preserved
 loop-place-preserved c =
     let inside : c.loop-place.place < length c.args.packages.now = search rules in
     let here = slice_get_read c.args.packages.now (length c.args.packages.now) c.loop-place.place
-        c.index-packages-place.result refl inside c.index-packages-place.is in
+    c.index-packages-place.result refl inside c.index-packages-place.is in
     let old = places_of c.loop-place.places in
     let text = c.as_str.ensures.value ∙ ap (λ (p : Package). string_bytes p.source)
-        (sym c.index-packages-place.is) in
+    (sym c.index-packages-place.is) in
     find_more c.args.packages.now c.loop-place.places c.push.new.self c.loop-place.place
-        c.index-packages-place.result inside c.index-packages-place.is here
+    c.index-packages-place.result inside c.index-packages-place.is here
     (λ q. c.in_ok-push.ensures q
-          ∙ ap (λ (t : List ℕ). cond (bytes_eq q t) (old q ++ c.loop-place.place ∷ []) (old q))
-          text)
+    ∙ ap (λ (t : List ℕ). cond (bytes_eq q t) (old q ++ c.loop-place.place ∷ []) (old q))
+    text)
     c.loop-place.invariant

@@ -10,7 +10,7 @@ pub loop-rest-init : goal.loop-rest-init
 loop-rest-init c = record {
   left = trimmed_left c.args.line.now _ c.args.line.now _ c.trimmed-rest.ensures.value
       (subst (λ (ws : List Word). IsLeft c.args.line.now ws c.args.line.now) (search rules)
-        (all_left c.args.line.now));
+      (all_left c.args.line.now));
   unspaced = trimmed_unspaced c.args.line.now _ c.trimmed-rest.ensures.value;
   utf8 = search rules;
 }
@@ -33,7 +33,7 @@ loop-rest-smaller c =
     let front = subst (IsFront c.loop-rest.rest.now) c.in-Whole.is c.in_ok-quote.ensures in
     let some : 0 < length c.loop-rest.rest.now = search rules in
     word_shorter c.loop-rest.rest.now _ _ c.in-Whole.after.now _
-        c.trimmed-rest-in-Whole.ensures.value c.loop-rest.invariant.unspaced some front.0 front.1
+    c.trimmed-rest-in-Whole.ensures.value c.loop-rest.invariant.unspaced some front.0 front.1
 
 pub loop-rest-preserved : goal.loop-rest-preserved
 loop-rest-preserved c =
@@ -44,10 +44,10 @@ loop-rest-preserved c =
       left = trimmed_left c.args.line.now _ c.in-Whole.after.now _
           c.trimmed-rest-in-Whole.ensures.value
           (subst (λ (ws : List Word). IsLeft c.args.line.now ws c.in-Whole.after.now)
-            (sym c.in_ok-push-in-Whole.ensures.items)
-            (word_left c.args.line.now _ c.loop-rest.rest.now c.in-Whole.text c.in-Whole.is_bare
-              c.in-Whole.after.now place refl c.loop-rest.invariant.left
-              c.loop-rest.invariant.unspaced some front.0 front.1));
+          (sym c.in_ok-push-in-Whole.ensures.items)
+          (word_left c.args.line.now _ c.loop-rest.rest.now c.in-Whole.text c.in-Whole.is_bare
+          c.in-Whole.after.now place refl c.loop-rest.invariant.left
+          c.loop-rest.invariant.unspaced some front.0 front.1));
       unspaced = trimmed_unspaced c.in-Whole.after.now _ c.trimmed-rest-in-Whole.ensures.value;
       utf8 = search rules;
     }

@@ -14,7 +14,7 @@ loop-number-preserved c =
     let rows = c.args.rows.now in
     let n = c.loop-number.number in
     let within : n < length rows =
-        omega (arith, c.loop-number-test.true, c.len-number-end.ensures.len) in
+    omega (arith, c.loop-number-test.true, c.len-number-end.ensures.len) in
     elim c.match-item_at.branch [
       | in-Some+in_ok-push w ↦
           ap (λ v. map seen v.items) w.items-is ∙ ap (λ l. map seen l) w.in_ok-push.ensures.items

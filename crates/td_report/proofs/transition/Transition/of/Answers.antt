@@ -13,6 +13,6 @@ returns-clause-made c =
       marked = c.in_ok-marks.ensures.marks;
       leveled = are_levels c.args.archive.now t c.deref.result.now (level_of w) (depth_of w)
           (ap (map (λ name. name.now)) c.deref.ensures.value
-                ∙ c.in_ok-names.ensures.names t c.in_ok-marks.ensures.marks)
+          ∙ c.in_ok-names.ensures.names t c.in_ok-marks.ensures.marks)
           c.in_ok-waves.ensures.levels c.in_ok-waves.ensures.depth;
     }

@@ -9,4 +9,4 @@ use Rattle.td_waves.proofs.asking.Asker.push_fitting.Given as goal
 abbrev pub invariant-loop-provider : goal.invariant-loop-provider
 invariant-loop-provider l = (t : ℕ)
     → has t l.bases.items ≡ (has t l.fn.bases.items || list_any
-      (is_base l.self t (asked l.alternative)) (take l.provider-index l.found))
+    (is_base l.self t (asked l.alternative)) (take l.provider-index l.found))

@@ -9,4 +9,4 @@ use Rattle.td_waves.proofs.asking.Asker.push_member.Given as goal
 abbrev pub invariant-loop-alternative : goal.invariant-loop-alternative
 invariant-loop-alternative l = (t : ℕ)
     → has t l.bases.items ≡ (has t l.fn.bases.items || list_any (λ x. is_found l.self t (asked x))
-      (take l.alternative-index l.member))
+    (take l.alternative-index l.member))

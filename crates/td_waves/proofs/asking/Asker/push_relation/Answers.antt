@@ -8,6 +8,6 @@ use Rattle.td_waves.proofs.asking.Asker.push_relation.Goals as goal
 pub loop-member-preserved : goal.loop-member-preserved
 loop-member-preserved c = λ t.
     taken_asked (is_found c.args.self.now t) _ _ c.in-Some.member.now
-        (members_left c.loop-member.member-iterator)
-        (members_left c.next.new.self) c.in-Some.ensures.steps (c.in_ok-push_member.ensures t)
+    (members_left c.loop-member.member-iterator)
+    (members_left c.next.new.self) c.in-Some.ensures.steps (c.in_ok-push_member.ensures t)
     ∙ c.loop-member.invariant t

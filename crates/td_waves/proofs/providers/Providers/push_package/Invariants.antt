@@ -11,5 +11,5 @@ use Rattle.td_waves.proofs.providers.Providers.push_package.Given as goal
 abbrev pub invariant-loop-name : goal.invariant-loop-name
 invariant-loop-name l = (q : List ℕ) (test : Provider → Bool)
     → (list_any test (under l.self q) || list_any (λ name. bytes_eq q name && test l.provider)
-      (names_left l.name-iterator))
+    (names_left l.name-iterator))
     ≡ (list_any test (under l.fn.self q) || passes_numbered l.archive q test l.owner l.number)

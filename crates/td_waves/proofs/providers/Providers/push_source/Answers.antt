@@ -14,6 +14,6 @@ returns c = λ q test.
     c.loop-number.invariant q test
     ∙ ap (λ l. old || list_any (passes_numbered a q test c.args.owner) l)
     (take_all c.loop-number.number-index c.packages_of-numbers.result.now
-      (omega (arith, c.loop-number-test.false)) ∙ c.packages_of-numbers.ensures.numbers)
+    (omega (arith, c.loop-number-test.false)) ∙ c.packages_of-numbers.ensures.numbers)
     ∙ ap (λ b. old || b) (any-places (passes_under q test c.args.owner)
-      (is_of c.args.source.now) a.binaries)
+    (is_of c.args.source.now) a.binaries)

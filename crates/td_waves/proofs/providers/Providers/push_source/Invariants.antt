@@ -10,4 +10,4 @@ abbrev pub invariant-loop-number : goal.invariant-loop-number
 invariant-loop-number l = (q : List ℕ) (test : Provider → Bool)
     → list_any test (under l.self q)
     ≡ (list_any test (under l.fn.self q) || list_any (passes_numbered l.archive q test l.owner)
-      (take l.number-index l.numbers))
+    (take l.number-index l.numbers))

@@ -10,9 +10,9 @@ returns-clause-levels c =
     let keys = c.in_ok-names.names.keys in
     let graph = c.deref.result.now in
     let edges : AreEdges a keys graph =
-        subst (λ g. AreEdges a keys g) (sym c.deref.ensures.value) c.in_ok-graph.ensures.edges in
+    subst (λ g. AreEdges a keys g) (sym c.deref.ensures.value) c.in_ok-graph.ensures.edges in
     sources_stand a c.args.affected.now keys graph c.in_ok-levels.levels c.in_ok-names.ensures edges
-        c.in_ok-levels.ensures.levels
+    c.in_ok-levels.ensures.levels
 
 pub returns-clause-depth : goal.returns-clause-depth
 returns-clause-depth c =
@@ -20,6 +20,6 @@ returns-clause-depth c =
     let keys = c.in_ok-names.names.keys in
     let graph = c.deref.result.now in
     let edges : AreEdges a keys graph =
-        subst (λ g. AreEdges a keys g) (sym c.deref.ensures.value) c.in_ok-graph.ensures.edges in
+    subst (λ g. AreEdges a keys g) (sym c.deref.ensures.value) c.in_ok-graph.ensures.edges in
     sources_deep a c.args.affected.now keys graph c.in_ok-levels.levels c.in_ok-names.ensures edges
-        c.in_ok-levels.ensures.levels c.in_ok-levels.ensures.depth
+    c.in_ok-levels.ensures.levels c.in_ok-levels.ensures.depth
