@@ -1,17 +1,24 @@
 -- The lines of a report over rows where they lie in memory.
-use Rattle.std.specs.Prelude.{◌≡◌, ℕ, ◌+◌, ◌<◌, ◌==◌, ◌∷◌, ◌++◌, [], List, Bool, Some, None, map, filter, length, count_by, slice_get, codes, decimal, if◌then◌else◌}
+use Rattle.std.specs.Prelude.{◌≡◌, ℕ, ◌+◌, ◌<◌, ◌==◌, ◌∷◌, ◌++◌, [], List, Bool, Some, None, map}
+use Rattle.std.specs.Prelude.{filter, length, count_by, slice_get, codes, decimal, if◌then◌else◌}
 use Rattle.std.specs.List.{flat_map}
 use Rattle.td_waves.specs.declared.level.Level.{Level}
 use Rattle.td_waves.specs.declared.level.Level.TheVariants.{At, Cyclic}
 use Rattle.td_query.specs.declared.status.Status.{Status}
 use Rattle.td_query.specs.declared.status.Status.TheVariants.{Good, Bad, Partial, Unknown}
 use Rattle.td_report.specs.declared.item.Item.{Item}
-use Rattle.td_report.specs.Report.{AffectedRow, each_once, head_line, level_words, levels, title_line}
+use Rattle.td_report.specs.Report.{AffectedRow, each_once, head_line, level_words, levels}
+use Rattle.td_report.specs.Report.{title_line}
 use Rattle.td_report.specs.Report as report
 
 -- a row, without where it lies
 abbrev pub seen : Item → AffectedRow
-seen item = record { key = item.key.now; row = item.row.now; status = item.status; level = item.level }
+seen item = record {
+  key = item.key.now;
+  row = item.row.now;
+  status = item.status;
+  level = item.level;
+}
 
 abbrev pub stands_at : Level → Item → Bool
 stands_at level item = report.stands_at level (seen item)
@@ -26,7 +33,8 @@ abbrev pub item_line : Item → List ℕ
 item_line item = report.row_line (seen item)
 
 abbrev pub block_of : Level → List Item → List (List ℕ)
-block_of level mine = if length mine == 0 then [] else head_line level (length mine) (count_by is_installed mine) ∷ map item_line mine
+block_of level mine = if length mine == 0 then []
+    else head_line level (length mine) (count_by is_installed mine) ∷ map item_line mine
 
 abbrev pub last_line : List Item → List ℕ
 last_line items =
@@ -60,7 +68,8 @@ abbrev pub source_of : Item → List ℕ
 source_of item = item.key.now.source
 
 abbrev pub wave_of : Level → List Item → List (List ℕ)
-wave_of level mine = if length mine == 0 then [] else level_words level ∷ each_once None (map source_of mine)
+wave_of level mine = if length mine == 0 then []
+    else level_words level ∷ each_once None (map source_of mine)
 
 abbrev pub wave_at : List Item → Level → List (List ℕ)
 wave_at items level = wave_of level (filter (stands_at level) items)

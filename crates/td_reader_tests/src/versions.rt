@@ -1,11 +1,11 @@
 //! Versions that are read, ordered and rebuilt.
-use crate::{
-    MAX_EPOCH, MAX_REBUILD, Version, VersionFault, base_of, cmp_version, is_same_version,
-    split_rebuild, write_rebuild,
-};
 use std::alloc::{AllocError, Global};
 use std::cmp::Ordering;
 use std::test::Fail;
+use td_version::{
+    MAX_EPOCH, MAX_REBUILD, Version, VersionFault, base_of, cmp_version, is_same_version,
+    split_rebuild, write_rebuild,
+};
 
 /// Pairs whose order `dpkg --compare-versions` gave; `tools/ask-dpkg-versions` asks it again.
 const ORDERED: &str = "\
@@ -207,7 +207,8 @@ fn a_rebuild_suffix_is_split_off_and_written(rt: HostRuntime) -> Result<(), Fail
     Ok(())
 }
 
-// As `split_rebuild` has it, which leaves `+b1` whole; of `1.0-+b1` nothing is left behind the hyphen.
+// As `split_rebuild` has it, which leaves `+b1` whole; of `1.0-+b1` nothing is left behind the
+// hyphen.
 #[test]
 fn a_version_has_a_base(rt: HostRuntime) -> Result<(), Fail> {
     for (text, upstream, revision) in [

@@ -1,33 +1,122 @@
 //! Statuses over two small archives. Expected by hand, from the rules in `docs/FORMATS.md`.
-use crate::{Marks, Tracker};
 use std::alloc::{AllocError, Global};
 use std::process::Abort;
 use std::test::Fail;
 use td_indices::Archive;
+use td_query::{Marks, Tracker};
 use td_relation::Archs;
 use td_rows::Key;
 
 // The archive of examples/waves.archs, waves.packages and waves.sources.
-const ARCHS: &str = "amd64 linux amd64\n";
+pub const ARCHS: &str = "amd64 linux amd64\n";
 
-const PACKAGES: &str =
-    "Package: pa-bin\nSource: pa\nVersion: 1\nArchitecture: amd64\nDepends: libfoo2\n\nPackage: qb-dev\nSource: qb\nVersion: 1\nArchitecture: amd64\nDepends: libfoo1 (>= 1.0)\n\nPackage: qb-bin\nSource: qb\nVersion: 1\nArchitecture: amd64\nDepends: libfoo2\n\nPackage: rc-dev\nSource: rc\nVersion: 1\nArchitecture: amd64\nDepends: libfoo1\n\nPackage: sd-dev\nSource: sd\nVersion: 1\nArchitecture: amd64\nDepends: libfoo1 | libfoo3\n\nPackage: te\nVersion: 1\nArchitecture: amd64\nDepends: libfoo10\n";
+pub const PACKAGES: &str = "\
+Package: pa-bin
+Source: pa
+Version: 1
+Architecture: amd64
+Depends: libfoo2
 
-const SOURCES: &str =
-    "Package: pa\nVersion: 1\nArchitecture: any\nBuild-Depends: qb-dev\n\nPackage: qb\nVersion: 1\nArchitecture: any\nBuild-Depends: libfoo-dev\n\nPackage: rc\nVersion: 1\nArchitecture: any\nBuild-Depends: sd-dev\n\nPackage: sd\nVersion: 1\nArchitecture: any\nBuild-Depends: rc-dev\n\nPackage: te\nVersion: 1\nArchitecture: any\n";
+Package: qb-dev
+Source: qb
+Version: 1
+Architecture: amd64
+Depends: libfoo1 (>= 1.0)
+
+Package: qb-bin
+Source: qb
+Version: 1
+Architecture: amd64
+Depends: libfoo2
+
+Package: rc-dev
+Source: rc
+Version: 1
+Architecture: amd64
+Depends: libfoo1
+
+Package: sd-dev
+Source: sd
+Version: 1
+Architecture: amd64
+Depends: libfoo1 | libfoo3
+
+Package: te
+Version: 1
+Architecture: amd64
+Depends: libfoo10
+";
+
+pub const SOURCES: &str = "\
+Package: pa
+Version: 1
+Architecture: any
+Build-Depends: qb-dev
+
+Package: qb
+Version: 1
+Architecture: any
+Build-Depends: libfoo-dev
+
+Package: rc
+Version: 1
+Architecture: any
+Build-Depends: sd-dev
+
+Package: sd
+Version: 1
+Architecture: any
+Build-Depends: rc-dev
+
+Package: te
+Version: 1
+Architecture: any
+";
 
 // Two architectures: one has a package on each, two has one of `all`, three has a field of its own
 // and a row on the second alone.
 const TWO_ARCHS: &str = "amd64 linux amd64\ni386 linux i386\n";
 
-const TWO_PACKAGES: &str =
-    "Package: one-bin\nSource: one\nVersion: 1\nArchitecture: amd64\nDepends: libfoo1\n\nPackage: one-bin\nSource: one\nVersion: 1\nArchitecture: i386\nDepends: libfoo2\n\nPackage: two-data\nSource: two\nVersion: 1\nArchitecture: all\nDepends: libfoo1\n";
+const TWO_PACKAGES: &str = "\
+Package: one-bin
+Source: one
+Version: 1
+Architecture: amd64
+Depends: libfoo1
 
-const TWO_SOURCES: &str =
-    "Package: one\nVersion: 1\nArchitecture: any\n\nPackage: two\nVersion: 1\nArchitecture: any\n\nPackage: three\nVersion: 1\nArchitecture: i386\nNote: ax x x\n";
+Package: one-bin
+Source: one
+Version: 1
+Architecture: i386
+Depends: libfoo2
 
-const LIBFOO2: &str =
-    "title = \"libfoo2\"; is_affected = .depends ~ \"libfoo1\" | .depends ~ \"libfoo2\"; is_good = .depends ~ \"libfoo2\"; is_bad = .depends ~ \"libfoo1\";";
+Package: two-data
+Source: two
+Version: 1
+Architecture: all
+Depends: libfoo1
+";
+
+const TWO_SOURCES: &str = "\
+Package: one
+Version: 1
+Architecture: any
+
+Package: two
+Version: 1
+Architecture: any
+
+Package: three
+Version: 1
+Architecture: i386
+Note: ax x x
+";
+
+const LIBFOO2: &str = r#"title = "libfoo2";
+is_affected = .depends ~ "libfoo1" | .depends ~ "libfoo2";
+is_good = .depends ~ "libfoo2";
+is_bad = .depends ~ "libfoo1";
+"#;
 
 /// A row's status, as the tracker and as its marks say, where they say the same.
 fn status(

@@ -2,10 +2,10 @@
 ghost use Rattle.std.specs.Prelude.{List, [], ◌∷◌, if◌then◌else◌};
 ghost use Rattle.std.specs.Str.{bytes_eq};
 
-use crate::{Build, Supply};
 use std::alloc::Global;
 use std::test::Fail;
 use td_relation::Archs;
+use td_supply::{Build, Supply};
 use td_version::Version;
 
 const TABLE: &str = "amd64 linux amd64\ni386 linux i386";

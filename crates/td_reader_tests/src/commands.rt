@@ -1,11 +1,11 @@
 //! What no clause says: that lines are read with ample memory, and what the definitions make of the
 //! lines that the release team writes. Expected by hand, from the rules in `docs/FORMATS.md`.
-use crate::{Command, CommandFault, Verb, kind_of, read_command};
 use std::alloc::Global;
 use std::test::Fail;
 use td_relation::Archs;
 use td_rows::{Kind, Line, RebuildNumber};
 use td_version::Version;
+use td_wbread::{Command, CommandFault, Verb, kind_of, read_command};
 
 const TABLE: &str = "amd64 linux amd64\ni386 linux i386";
 

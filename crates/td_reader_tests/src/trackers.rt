@@ -1,8 +1,8 @@
 //! What no clause says: that trackers are read with ample memory, and what the definitions make of
 //! texts. Expected by hand, from the rules in `docs/FORMATS.md`; places are counted in the text.
-use crate::{Tracker, TrackerFault};
 use std::alloc::Global;
 use std::test::Fail;
+use td_query::{Tracker, TrackerFault};
 
 /// A text, and behind `→` its title, or the fault with its place or key.
 const TEXTS: &str = r##"

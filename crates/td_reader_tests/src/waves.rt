@@ -1,18 +1,12 @@
-use crate::{Level, Waves};
+//! Levels of affected sources over a small archive. Expected by hand, from the control files.
+use crate::statuses::{ARCHS, PACKAGES, SOURCES};
 use std::process::Abort;
 use std::test::Fail;
 use td_indices::Archive;
 use td_relation::Archs;
+use td_waves::{Level, Waves};
 
-// The archive of examples/waves.archs, waves.packages and waves.sources: pa builds on qb, rc and sd
-// on each other.
-const ARCHS: &str = "amd64 linux amd64\n";
-
-const PACKAGES: &str =
-    "Package: pa-bin\nSource: pa\nVersion: 1\nArchitecture: amd64\nDepends: libfoo2\n\nPackage: qb-dev\nSource: qb\nVersion: 1\nArchitecture: amd64\nDepends: libfoo1 (>= 1.0)\n\nPackage: qb-bin\nSource: qb\nVersion: 1\nArchitecture: amd64\nDepends: libfoo2\n\nPackage: rc-dev\nSource: rc\nVersion: 1\nArchitecture: amd64\nDepends: libfoo1\n\nPackage: sd-dev\nSource: sd\nVersion: 1\nArchitecture: amd64\nDepends: libfoo1 | libfoo3\n\nPackage: te\nVersion: 1\nArchitecture: amd64\nDepends: libfoo10\n";
-
-const SOURCES: &str =
-    "Package: pa\nVersion: 1\nArchitecture: any\nBuild-Depends: qb-dev\n\nPackage: qb\nVersion: 1\nArchitecture: any\nBuild-Depends: libfoo-dev\n\nPackage: rc\nVersion: 1\nArchitecture: any\nBuild-Depends: sd-dev\n\nPackage: sd\nVersion: 1\nArchitecture: any\nBuild-Depends: rc-dev\n\nPackage: te\nVersion: 1\nArchitecture: any\n";
+// In the archive of examples/waves.* pa builds on qb, rc and sd on each other.
 
 fn level_is(rt: &impl Abort, waves: &Waves<'_>, source: &str, wanted: Option<Level>) {
     assert_eq!(rt; waves.level(source), wanted);

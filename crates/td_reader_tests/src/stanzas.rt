@@ -1,7 +1,8 @@
-use crate::{StanzaFault, stanzas};
+//! Control files that are read, or refused at a line. Expected by hand, from Policy 5.1.
 use std::alloc::Global;
 use std::process::Abort;
 use std::test::Fail;
+use td_stanza::{StanzaFault, stanzas};
 
 /// The fields of all stanzas, an empty line behind each stanza.
 fn shown(alloc: Global, text: &str) -> Result<String, Fail> {
@@ -88,8 +89,9 @@ fn the_first_line_with_a_fault_decides(rt: HostRuntime) {
 }
 
 /// Fields with names of one byte: ten digits and the capitals, W to Z behind 32 others.
-const MANY: &str =
-    "0:\n1:\n2:\n3:\n4:\n5:\n6:\n7:\n8:\n9:\nA:\nB:\nC:\nD:\nE:\nF:\nG:\nH:\nI:\nJ:\nK:\nL:\nM:\nN:\nO:\nP:\nQ:\nR:\nS:\nT:\nU:\nV:\nW:\nX:\nY:\nZ:\n";
+const MANY: &str = "0:\n1:\n2:\n3:\n4:\n5:\n6:\n7:\n8:\n9:\n\
+A:\nB:\nC:\nD:\nE:\nF:\nG:\nH:\nI:\nJ:\nK:\nL:\nM:\n\
+N:\nO:\nP:\nQ:\nR:\nS:\nT:\nU:\nV:\nW:\nX:\nY:\nZ:\n";
 
 /// What is found in the text with a line behind it, as the numbers of stanzas and of the fields of
 /// the last one.
@@ -124,21 +126,49 @@ fn a_continuation_has_any_text(rt: HostRuntime) -> Result<(), Fail> {
     Ok(())
 }
 
-// From Debian's own indices (sid): one stanza of Packages, one of Sources, shortened.
+/// A stanza of sid's Packages.
+const PACKAGES: &str = "\
+Package: 0ad-data
+Source: 0ad
+Version: 0.27.0-1
+Installed-Size: 3218682
+Maintainer: Debian Games Team <pkg-games-devel@lists.alioth.debian.org>
+Architecture: all
+Suggests: 0ad
+Description: Real-time strategy game of ancient warfare (data files)
+Tag: role::app-data
+Section: games
+Priority: optional
+
+";
+
+/// A stanza of sid's Sources, shortened.
+const SOURCES: &str = "\
+Package: 0ad
+Binary: 0ad, 0ad-data
+Version: 0.27.0-1
+Architecture: amd64 arm64 all
+Format: 3.0 (quilt)
+Files:
+ 34bbd1a1 2391 0ad_0.27.0-1.dsc
+ 4ae0c0ff 75656312 0ad_0.27.0.orig.tar.xz
+Package-List:
+ 0ad deb games optional arch=amd64,arm64
+ 0ad-data deb games optional arch=all
+Directory: pool/main/0/0ad
+";
+
+// From Debian's own indices (sid).
 #[test]
 fn stanzas_of_the_archive_are_read(rt: HostRuntime) -> Result<(), Fail> {
-    let packages =
-        "Package: 0ad-data\nSource: 0ad\nVersion: 0.27.0-1\nInstalled-Size: 3218682\nMaintainer: Debian Games Team <pkg-games-devel@lists.alioth.debian.org>\nArchitecture: all\nSuggests: 0ad\nDescription: Real-time strategy game of ancient warfare (data files)\nTag: role::app-data\nSection: games\nPriority: optional\n\n";
-    let list = stanzas(rt.alloc(), packages)?;
+    let list = stanzas(rt.alloc(), PACKAGES)?;
     let Some(stanza) = list.stanza(0) else {
         return Err(Fail::from("the text has a stanza"));
     };
     assert_eq!(rt; stanza.get("Source"), Some("0ad"));
     assert_eq!(rt; stanza.get("Version"), Some("0.27.0-1"));
     assert_eq!(rt; stanza.len(), 11);
-    let sources =
-        "Package: 0ad\nBinary: 0ad, 0ad-data\nVersion: 0.27.0-1\nArchitecture: amd64 arm64 all\nFormat: 3.0 (quilt)\nFiles:\n 34bbd1a1 2391 0ad_0.27.0-1.dsc\n 4ae0c0ff 75656312 0ad_0.27.0.orig.tar.xz\nPackage-List:\n 0ad deb games optional arch=amd64,arm64\n 0ad-data deb games optional arch=all\nDirectory: pool/main/0/0ad\n";
-    let list = stanzas(rt.alloc(), sources)?;
+    let list = stanzas(rt.alloc(), SOURCES)?;
     let Some(stanza) = list.stanza(0) else {
         return Err(Fail::from("the text has a stanza"));
     };

@@ -3,11 +3,11 @@
 //! number of bytes. Expected values follow from the texts and these numbers.
 ghost use Rattle.std.specs.Prelude.{Some};
 
-use crate::{ReadFault, TextFault, WriteFault, read_text, read_whole, write_whole};
 use std::alloc::Global;
 use std::io;
 use std::io::{ErrorKind, Read, Write};
 use std::test::Fail;
+use td_bytes::{ReadFault, TextFault, WriteFault, read_text, read_whole, write_whole};
 
 // Gives one byte a call, is interrupted before each, and fails where its room is used up.
 #[derive(Drop)]

@@ -3,12 +3,12 @@ ghost use Rattle.std.specs.Prelude.{List, [], ◌∷◌, if◌then◌else◌};
 ghost use Rattle.std.specs.Str.{bytes_eq};
 ghost use Rattle.td_relation.specs.Offers.{offered};
 
-use crate::{
+use std::alloc::{AllocError, Global};
+use std::test::Fail;
+use td_relation::{
     Alternative, Archs, ArchsFault, MAX_ARCHS, Offer, Offering, Offers, Relation, RelationFault,
     Restriction,
 };
-use std::alloc::{AllocError, Global};
-use std::test::Fail;
 use td_version::Version;
 
 const TABLE: &str =

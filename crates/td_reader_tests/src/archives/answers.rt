@@ -1,8 +1,8 @@
 //! Questions to an archive, in words, and what it answers. One function owns the archive; the
 //! others have it by reference, so that the proof of a test is short.
-use crate::{Archive, Binary};
 use std::alloc::{AllocError, Global};
 use std::process::Abort;
+use td_indices::{Archive, Binary};
 use td_relation::Archs;
 use td_rows::{Key, read_key, rows_text};
 use td_supply::Supply;

@@ -2,22 +2,50 @@
 //! texts. Expected by hand from `docs/FORMATS.md`, deb-version(7) and Policy.
 mod answers;
 
-use crate::{Archive, ArchiveFault, IndexField, IndexFile};
+use crate::statuses;
 use answers::are_answered;
 use std::alloc::{AllocError, Global};
 use std::process::Abort;
 use std::test::Fail;
+use td_indices::{Archive, ArchiveFault, IndexField, IndexFile};
 use td_relation::Archs;
 use td_stanza::StanzaFault;
 
 // The archive of examples/foobar.archs, foobar.packages and foobar.sources.
 const ARCHS: &str = "amd64 linux amd64\ni386 linux i386\n";
 
-const PACKAGES: &str =
-    "Package: libfoo1\nSource: foo\nVersion: 1.2-3\nArchitecture: amd64\n\nPackage: libfoo1\nSource: foo (1.2-3)\nVersion: 1.2-3+b1\nArchitecture: i386\n\nPackage: libbar-dev\nSource: bar\nVersion: 2.0-1\nArchitecture: amd64\n\nPackage: libbar-dev\nSource: bar\nVersion: 2.0-1\nArchitecture: i386\n";
+const PACKAGES: &str = "\
+Package: libfoo1
+Source: foo
+Version: 1.2-3
+Architecture: amd64
 
-const SOURCES: &str =
-    "Package: foo\nVersion: 1.2-3\nArchitecture: any\nBuild-Depends: libbar-dev\n\nPackage: bar\nVersion: 2.0-1\nArchitecture: any\n";
+Package: libfoo1
+Source: foo (1.2-3)
+Version: 1.2-3+b1
+Architecture: i386
+
+Package: libbar-dev
+Source: bar
+Version: 2.0-1
+Architecture: amd64
+
+Package: libbar-dev
+Source: bar
+Version: 2.0-1
+Architecture: i386
+";
+
+const SOURCES: &str = "\
+Package: foo
+Version: 1.2-3
+Architecture: any
+Build-Depends: libbar-dev
+
+Package: bar
+Version: 2.0-1
+Architecture: any
+";
 
 const SMALL: [(&str, &str); 7] = [
     ("counts", "2 4 4"),
@@ -29,8 +57,12 @@ const SMALL: [(&str, &str); 7] = [
     ("rows", OPENING),
 ];
 
-const OPENING: &str =
-    "bar/amd64 Installed 0 0\nbar/i386 Installed 0 0\nfoo/amd64 Installed 0 0\nfoo/i386 Installed 0 1\n";
+const OPENING: &str = "\
+bar/amd64 Installed 0 0
+bar/i386 Installed 0 0
+foo/amd64 Installed 0 0
+foo/i386 Installed 0 1
+";
 
 #[test]
 fn a_small_archive_is_read_and_its_rows_open_with_the_rebuilds_that_are_there(rt: HostRuntime) {
@@ -39,8 +71,31 @@ fn a_small_archive_is_read_and_its_rows_open_with_the_rebuilds_that_are_there(rt
 
 // `1.0` and `1.0-0` are equal in order (deb-version(7)), so the first of them counts; the package
 // of `all` is foo's on both architectures, the one of s390x is nowhere here.
-const SEVERAL: &str =
-    "Package: doc\nSource: foo\nVersion: 1.0\nArchitecture: all\n\nPackage: doc\nVersion: 1.0-0\nArchitecture: all\n\nPackage: lib\nSource: foo\nVersion: 1.9\nArchitecture: i386\n\nPackage: lib\nSource: foo (1.2-3)\nVersion: 1.10\nArchitecture: i386\n\nPackage: lib\nSource: Foo\nVersion: 1_0\nArchitecture: s390x\n";
+const SEVERAL: &str = "\
+Package: doc
+Source: foo
+Version: 1.0
+Architecture: all
+
+Package: doc
+Version: 1.0-0
+Architecture: all
+
+Package: lib
+Source: foo
+Version: 1.9
+Architecture: i386
+
+Package: lib
+Source: foo (1.2-3)
+Version: 1.10
+Architecture: i386
+
+Package: lib
+Source: Foo
+Version: 1_0
+Architecture: s390x
+";
 
 const GREATEST: [(&str, &str); 4] = [
     ("binary 0", "doc 1.0 foo"),
@@ -54,8 +109,20 @@ fn the_greatest_version_counts_and_the_first_of_equals(rt: HostRuntime) {
     are_answered(&rt, rt.alloc(), ARCHS, SEVERAL, SOURCES, &GREATEST);
 }
 
-const TWICE: &str =
-    "Package: foo\nVersion: 1.2-3\nArchitecture: any\n\nPackage: foo\nVersion: 1.10\nArchitecture: amd64\n\nPackage: old\nVersion: 1\nArchitecture: any\nExtra-Source-Only: yes\n";
+const TWICE: &str = "\
+Package: foo
+Version: 1.2-3
+Architecture: any
+
+Package: foo
+Version: 1.10
+Architecture: amd64
+
+Package: old
+Version: 1
+Architecture: any
+Extra-Source-Only: yes
+";
 
 const FOUND: [(&str, &str); 2] = [("source old", "none"), ("source foo", "1.10 1")];
 
@@ -65,8 +132,13 @@ fn a_source_is_found_by_its_name(rt: HostRuntime) {
 }
 
 // A virtual package has no version unless the field gives one (Policy 7.5).
-const PROVIDING: &str =
-    "Package: mawk\nSource: foo\nVersion: 1.2-3+b1\nArchitecture: amd64\nProvides: awk, posix-awk (= 2)\n";
+const PROVIDING: &str = "\
+Package: mawk
+Source: foo
+Version: 1.2-3+b1
+Architecture: amd64
+Provides: awk, posix-awk (= 2)
+";
 
 const OFFERED: [(&str, &str); 4] = [
     ("meets awk, posix-awk (= 2)", "met"),
@@ -80,33 +152,35 @@ fn a_package_and_what_it_provides_are_on_offer(rt: HostRuntime) {
     are_answered(&rt, rt.alloc(), ARCHS, PROVIDING, SOURCES, &OFFERED);
 }
 
-// The archive of examples/waves.packages and examples/waves.sources.
-const WAVES_PACKAGES: &str =
-    "Package: pa-bin\nSource: pa\nVersion: 1\nArchitecture: amd64\nDepends: libfoo2\n\nPackage: qb-dev\nSource: qb\nVersion: 1\nArchitecture: amd64\nDepends: libfoo1 (>= 1.0)\n\nPackage: qb-bin\nSource: qb\nVersion: 1\nArchitecture: amd64\nDepends: libfoo2\n\nPackage: rc-dev\nSource: rc\nVersion: 1\nArchitecture: amd64\nDepends: libfoo1\n\nPackage: sd-dev\nSource: sd\nVersion: 1\nArchitecture: amd64\nDepends: libfoo1 | libfoo3\n\nPackage: te\nVersion: 1\nArchitecture: amd64\nDepends: libfoo10\n";
-
-const WAVES_SOURCES: &str =
-    "Package: pa\nVersion: 1\nArchitecture: any\nBuild-Depends: qb-dev\n\nPackage: qb\nVersion: 1\nArchitecture: any\nBuild-Depends: libfoo-dev\n\nPackage: rc\nVersion: 1\nArchitecture: any\nBuild-Depends: sd-dev\n\nPackage: sd\nVersion: 1\nArchitecture: any\nBuild-Depends: rc-dev\n\nPackage: te\nVersion: 1\nArchitecture: any\n";
-
-const WAVES_OPENING: &str =
-    "pa/amd64 Installed 0 0\nqb/amd64 Installed 0 0\nrc/amd64 Installed 0 0\nsd/amd64 Installed 0 0\nte/amd64 Installed 0 0\n";
+// The opening rows of the archive of examples/waves.*.
+const WAVES_OPENING: &str = "\
+pa/amd64 Installed 0 0
+qb/amd64 Installed 0 0
+rc/amd64 Installed 0 0
+sd/amd64 Installed 0 0
+te/amd64 Installed 0 0
+";
 
 #[test]
 fn five_sources_have_five_rows(rt: HostRuntime) {
-    let table = "amd64 linux amd64\n";
     let questions = [("counts", "5 6 5"), ("rows", WAVES_OPENING)];
-    are_answered(
-        &rt,
-        rt.alloc(),
-        table,
-        WAVES_PACKAGES,
-        WAVES_SOURCES,
-        &questions,
-    );
+    let (table, packages, sources) = (statuses::ARCHS, statuses::PACKAGES, statuses::SOURCES);
+    are_answered(&rt, rt.alloc(), table, packages, sources, &questions);
 }
 
 // Policy 7.5: `(= 2)` gives a version; another restriction, or two alternatives, offer no name.
-const ASKED: &str =
-    "Package: mawk\nSource: foo\nVersion: 1.2-3\nArchitecture: amd64\nProvides: awk, posix-awk (= 2), old-awk (<< 1), nawk | gawk\n\nPackage: libbar-dev\nSource: bar\nVersion: 2.0-1\nArchitecture: all\n";
+const ASKED: &str = "\
+Package: mawk
+Source: foo
+Version: 1.2-3
+Architecture: amd64
+Provides: awk, posix-awk (= 2), old-awk (<< 1), nawk | gawk
+
+Package: libbar-dev
+Source: bar
+Version: 2.0-1
+Architecture: all
+";
 
 // What packages offer by name, and what is asked by the number of a source or a package: the first
 // source's row on i386 and its field, the second package's source, and what the first source's
