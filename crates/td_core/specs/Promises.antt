@@ -124,6 +124,7 @@ pub record Stays (w : WorldView) (s : Step) (v : WorldView) : Type 0 where
   pub undone : (n : ℕ) (m : Marked) → entry_at w.history.journal n ≡ Some m → undoes w s n ≡ true
       → IsUndone w v n m
 
+-- so it is of every step
 abbrev pub EntriesStay : Type 0
 EntriesStay = (w : WorldView) (s : Step) → Stays w s (after w s)
 
@@ -143,6 +144,7 @@ pub record StaysAmong (w : WorldView) (steps : List Step) (v : WorldView) : Type
   pub undone : (n : ℕ) (m : Marked) → entry_at w.history.journal n ≡ Some m
       → undoes_among w steps n ≡ true → IsUndone w v n m
 
+-- so it is of every list of steps
 abbrev pub EntriesStayAmong : Type 0
 EntriesStayAmong = (w : WorldView) (steps : List Step) → StaysAmong w steps (after_all w steps)
 

@@ -47,6 +47,7 @@ offer_refusal queued None = Some (NoSuchRow None)
 offer_refusal queued (Some Closed) = refused_if (not queued) NotQueued None
 offer_refusal queued (Some p) = Some NotClosed
 
+-- a withdrawal of a row in the phase
 abbrev pub withdraw_refusal : Option Phase → Option Refusal
 withdraw_refusal None = Some (NoSuchRow None)
 withdraw_refusal (Some Open) = None
@@ -60,6 +61,7 @@ claim_refusal (Some Free) (Some Open) = None
 claim_refusal (Some Free) (Some p) = Some NotOpen
 claim_refusal (Some h) (Some p) = Some NotFree
 
+-- a note of a row in the phase
 abbrev pub note_refusal : Option Phase → Option Refusal
 note_refusal None = Some (NoSuchRow None)
 note_refusal (Some (Held b)) = None
@@ -92,6 +94,7 @@ first_refused None r rest = rest
 abbrev pub first_unpinned : WorldView → Kind → List Key → Option Key
 first_unpinned w kind keys = if (cells kind).state then find (is_unpinned w) keys else None
 
+-- a command of the kind on the keys
 abbrev pub commit_refusal : WorldView → Kind → List Key → Option Refusal
 commit_refusal w kind keys =
     refused_if (not (is_command kind)) NotACommand
@@ -107,6 +110,7 @@ mark_refusal w m Standing (Some b) = Some (Blocked b)
 mark_refusal w m Standing None = first_refused (first_unpinned w m.entry.kind m.entry.keys)
     (λ k. NotPinned None) None
 
+-- the undo of entry n
 abbrev pub undo_refusal : WorldView → ℕ → Option Refusal
 undo_refusal w n = elim (entry_at w.history.journal n) [
   | Some m ↦ refused_if (not (is_command m.entry.kind)) NotACommand
@@ -119,12 +123,14 @@ abbrev pub is_noted_by : ℕ → Option Phase → Bool
 is_noted_by b (Some (Noted c)) = b == c
 is_noted_by b p = false
 
+-- the end of a build by a builder with the hand
 abbrev pub finish_refusal : WorldView → ℕ → Option Hand → Option Refusal
 finish_refusal w b None = Some NoSuchBuilder
 finish_refusal w b (Some (Holding k)) = refused_if
     (not (is_noted_by b (phase_of w k))) NotNoted None
 finish_refusal w b (Some h) = Some NothingHeld
 
+-- a settlement of a row in the phase
 abbrev pub settle_refusal : Option Phase → Option Refusal
 settle_refusal None = Some (NoSuchRow None)
 settle_refusal (Some (Ended b o)) = None
@@ -135,6 +141,7 @@ abbrev pub is_done_by : ℕ → Option Phase → Bool
 is_done_by b (Some (Ended c o)) = b == c
 is_done_by b p = false
 
+-- a release by a builder with the hand
 abbrev pub release_refusal : WorldView → ℕ → Option Hand → Option Refusal
 release_refusal w b None = Some NoSuchBuilder
 release_refusal w b (Some (Finished k o)) = refused_if (is_done_by b (phase_of w k)) NotSettled None

@@ -1,4 +1,4 @@
--- How a row line is read.
+-- How a row line is read. This project's own.
 use Rattle.std.specs.Prelude.{ℕ, List, Option, Some}
 use Rattle.td_text.specs.Limits.{max_rebuild}
 use Rattle.td_rows.specs.Limits.{max_priority}

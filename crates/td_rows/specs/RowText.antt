@@ -1,4 +1,4 @@
--- A row as slices of the line that it was read from.
+-- A row as slices of the line that it was read from. This project's own.
 use Rattle.td_rows.specs.declared.key.Key.{Key}
 use Rattle.td_rows.specs.declared.row.Row.{Row}
 use Rattle.td_rows.specs.declared.row_line.RowText.{RowText}

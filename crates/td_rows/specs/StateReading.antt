@@ -1,4 +1,4 @@
--- How a state file is read: line by line, the first fault decides.
+-- How a state file is read: line by line, the first fault decides. This project's own.
 use Rattle.std.specs.Prelude.{◌≡◌, ℕ, ◌==◌, List, [], ◌∷◌, ◌++◌, Option, Some, None, Result, Ok}
 use Rattle.std.specs.Prelude.{Err, length, if◌then◌else◌}
 use Rattle.td_rows.specs.Limits.{max_rows}

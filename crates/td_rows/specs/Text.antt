@@ -1,4 +1,4 @@
--- Texts of one line.
+-- Texts of one line. This project's own.
 use Rattle.std.specs.Prelude.{ℕ, Bool, List, ◌==◌}
 use Rattle.std.specs.List.{list_any}
 

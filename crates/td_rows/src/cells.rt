@@ -1,8 +1,8 @@
-//! The fields of a row that a kind reads or writes.
+//! The cells of a row that a kind reads or writes.
 ghost use Rattle.std.specs.Prelude.{◌≡◌};
 ghost use Rattle.td_rows.specs.Cells.{overlap};
 
-/// Which fields of a row a kind reads and writes.
+/// Which cells of a row a kind reads or writes.
 #[derive(Clone, Copy, Debug, PartialEq, Eq)]
 pub struct Cells {
     pub state: bool,
@@ -15,7 +15,7 @@ pub struct Cells {
 impl Cells {
     ghost use Rattle.td_rows.specs.Cells.{overlap};
 
-    /// Every field.
+    /// Every cell.
     pub const ALL: Cells = Cells {
         state: true,
         priority: true,
@@ -24,7 +24,7 @@ impl Cells {
         extra: true,
     };
 
-    /// Whether some field is in both.
+    /// Whether some cell is in both.
     pub fn overlap(self, other: Cells) -> bool
         ensures { result ≡ overlap self other }
     {

@@ -51,6 +51,7 @@ answer_line (Undone n) = codes "undone " ++ decimal n
 answer_line Nothing = codes "nothing to sweep"
 answer_line (Refused r) = codes "refused: " ++ (refusal_name r ++ refusal_place r)
 
+-- whether an answer is a refusal
 abbrev pub is_refused : Answer → Bool
 is_refused (Refused r) = true
 is_refused answer = false

@@ -10,6 +10,7 @@ abbrev pub of_opening : StateFault → SimulationFault
 of_opening state.NoMemory = NoMemory
 of_opening e = Opening e
 
+-- the name of a fault of the opening rows
 abbrev pub state_fault_name : StateFault → List ℕ
 state_fault_name (state.BadLine n) = codes "BadLine"
 state_fault_name (state.Twice n) = codes "Twice"
@@ -17,6 +18,7 @@ state_fault_name (state.NotOpening n) = codes "NotOpening"
 state_fault_name state.TooManyRows = codes "TooManyRows"
 state_fault_name state.NoMemory = codes "NoMemory"
 
+-- the name of a fault of a simulation
 abbrev pub fault_name : SimulationFault → List ℕ
 fault_name (Opening e) = state_fault_name e
 fault_name (BadStep n) = codes "BadLine"

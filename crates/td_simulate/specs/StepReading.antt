@@ -1,4 +1,4 @@
--- How the line of a step is read.
+-- How the line of a step is read. This project's own.
 use Rattle.std.specs.Prelude.{ℕ, ◌^◌, ◌-◌, ◌==◌, List, length, Option, Some, None, if◌then◌else◌}
 use Rattle.std.specs.Prelude.{codes}
 use Rattle.std.specs.Str.{bytes_eq}
@@ -40,6 +40,7 @@ builder_at rest = do
   b ← number_at (2 ^ 64 - 1) p.0
   Some (b, p.1)
 
+-- a claim: builder and key
 unfoldable pub claim_at : List ℕ → Option Step
 claim_at rest = do
   p ← builder_at rest
@@ -51,6 +52,7 @@ abbrev pub end_of : Kind → Option Step
 end_of (Ended b o) = Some (steps.Finish b o)
 end_of kind = None
 
+-- the end of a build: builder, outcome and its text
 unfoldable pub finish_at : List ℕ → Option Step
 finish_at rest = do
   p ← builder_at rest
