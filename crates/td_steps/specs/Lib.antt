@@ -13,3 +13,4 @@ pub mod Turns
 pub mod Books
 pub mod Calls
 pub mod Reopenings
+pub mod Deeds
