@@ -79,9 +79,8 @@ class Command:
                 raise Fault("BadNumber")
             return int(text)
         ahead = line.words[line.at:line.at + 2]
-        if self.verb == "nmu" and len(ahead) == 1 and line.open and re.fullmatch("[0-9]+", ahead[0][0]):
-            raise Fault("UnterminatedQuote")
-        if self.verb == "nmu" and len(ahead) == 2 and re.fullmatch("[0-9]+", ahead[0][0]) and ahead[1] != DOT:
+        follows = len(ahead) == 2 and ahead[1] != DOT or len(ahead) == 1 and line.open
+        if self.verb == "nmu" and follows and re.fullmatch("[0-9]+", ahead[0][0]):
             line.at += 1
             if not re.fullmatch("[1-9][0-9]{0,3}", ahead[0][0]):
                 raise Fault("BadNumber")
