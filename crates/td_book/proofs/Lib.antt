@@ -1,6 +1,7 @@
 pub mod Seeing
 pub mod Deeds
 pub mod Steps
+pub mod Arrivals
 pub mod Calls
 pub mod Builds
 pub mod Finding

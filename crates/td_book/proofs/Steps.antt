@@ -1,6 +1,5 @@
 -- The moves of the desk over plain values.
 use Rattle.std.proofs.Common.{◌≡◌, ◌≢◌, ℕ, zero, suc, ◌+◌, ◌<◌, ◌≤◌, Bool, true, false, ◌&&◌, List, [], ◌∷◌, ◌++◌, Option, Some, None, IfSome, IfNone, if◌then◌else◌, length, take, drop, map, set, get_or, slice_get, option_to_list, option_map, ap, refl, sym, subst, ◌∙◌, arith}
-use Rattle.std.specs.Prelude.{Result, Ok, Err, OnOk, OnErr}
 use Rattle.std.proofs.lemmas.Bool.{and_parts}
 use Rattle.std.proofs.lemmas.Option.{slice_get_read}
 use Rattle.td_board.specs.declared.views.RowView.{RowView}
@@ -37,7 +36,7 @@ use Rattle.td_book.specs.Watching.{WatchedView}
 use Rattle.td_book.specs.Desk.{InnerModel, Stays, Spent, HasRoom, HasOne, claim_of, fixed_of}
 use Rattle.td_book.specs.Calls.{is_lost, noting_one, noting, OutAt, Lost, WithdrewAt, Withdrew, IsKeyAt, entered, entered_no}
 use Rattle.td_book.specs.Undoing.{Unlost, LostOne}
-use Rattle.td_book.proofs.Seeing.{withdrawn_off, stays_off, claimed_off, offered_off, idle_off, desks_off, arrive_off, waiting_off}
+use Rattle.td_book.proofs.Seeing.{withdrawn_off, stays_off, claimed_off, offered_off, idle_off, desks_off}
 
 same_key_at : (a b : Key) → Some a ≡ Some b → a ≡ b
 same_key_at a b h = cc
@@ -485,27 +484,3 @@ pub some_at : (t : Table) (i : ℕ) → i < length t → (k : Key) × (row : Row
 some_at [] i h = absurd (omega arith)
 some_at (p ∷ t) zero h = (p.0, p.1, refl)
 some_at (p ∷ t) (suc i) h = some_at t i (omega arith)
-
--- ---- 11. arrivals and sweeps
-
--- the desk knows as much after an arrival
-pub arrived_view : {A E : Type 0} (a b : InnerModel) (k : Key) (row : Row) (r : Result A E) → ascending (keys_of a.books.history.opening) ≡ true → row_of (rows_of a.books.history) k ≡ Some row → applies Arrive row ≡ true
-    → a.view ≡ seen_off [] (rows_of a.books.history) → OnOk r (b.books.history ≡ with_entry a.books.history (record { kind = Arrive; keys = k ∷ [] })) → OnErr r (b.books.history ≡ a.books.history) → b.view ≡ a.view → b.view ≡ seen_off [] (rows_of b.books.history)
-arrived_view a b k row (Ok x) up found fit rest ok err same =
-    let t = rows_of a.books.history in
-    let fits_all : AppliesOn t Arrive (k ∷ []) = λ q named. whole q (same_key q k) refl named in
-    same ∙ rest ∙ sym (arrive_off (k ∷ []) t (up_now a.books.history up) fits_all) ∙ ap (seen_off []) (sym (rows_with a.books.history (record { kind = Arrive; keys = k ∷ [] }))) ∙ ap (λ (h : History). seen_off [] (rows_of h)) (sym ok)
-  where
-    whole : (q : Key) (v : Bool) → same_key q k ≡ v → (if v then true else false) ≡ true → fits (rows_of a.books.history) Arrive q ≡ true
-    whole q true is h = ap (fits (rows_of a.books.history) Arrive) (same_key-true q k is) ∙ ap (λ x. elim x as (λ _. Bool) [ Some r ↦ applies Arrive r | None ↦ false ]) found ∙ fit
-    whole q false is h = cc
-arrived_view a b k row (Err x) up found fit rest ok err same = same ∙ rest ∙ ap (λ (h : History). seen_off [] (rows_of h)) (sym err)
-
--- the rows that a sweep frees aren't offered yet
-pub swept_view : (a b : InnerModel) (keys : List Key) → ascending (keys_of a.books.history.opening) ≡ true → AppliesOn (rows_of a.books.history) Sweep keys → a.view ≡ seen_off [] (rows_of a.books.history)
-    → b.books.history ≡ with_entry a.books.history (record { kind = Sweep; keys = keys }) → b.view ≡ a.view → b.view ≡ seen_off keys (rows_of b.books.history)
-swept_view a b keys up fit rest ok same =
-    let t = rows_of a.books.history in
-    let rising = up_now a.books.history up in
-    same ∙ rest ∙ waiting_off keys t rising fit ∙ sym (desks_off keys keys Sweep t rising refl fit (λ has k named. named))
-    ∙ ap (seen_off keys) (sym (rows_with a.books.history (record { kind = Sweep; keys = keys }))) ∙ ap (λ (h : History). seen_off keys (rows_of h)) (sym ok)

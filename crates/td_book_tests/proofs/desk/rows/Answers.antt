@@ -1,5 +1,5 @@
 use Rattle.td_core.proofs.Openings.{NoneBuilt-state_file}
-use Rattle.td_book.proofs.tests.script.rows.Goals as goal
+use Rattle.td_book_tests.proofs.desk.rows.Goals as goal
 
 pub returns : goal.returns
 returns c = NoneBuilt-state_file c.in_ok-read_state.ensures.found

@@ -1,14 +1,10 @@
-//! What no clause says: that calls succeed with ample memory, and what they answer over the example
-//! archive. Expected answers are the project's own worked examples, by hand from the tables of
-//! `docs/FORMATS.md`.
-mod random;
-mod script;
-
-use script::journal_after;
+//! That calls succeed with ample memory, and what they answer over the example archive. Expected
+//! answers are the project's own worked examples, by hand from the tables of `docs/FORMATS.md`.
+use crate::script::journal_after;
 use std::test::Fail;
 
 // The rows of the example archive.
-const INSTALLED: &str = "\
+pub(crate) const INSTALLED: &str = "\
 bar/amd64 Installed 0 0
 bar/i386 Installed 0 0
 foo/amd64 Installed 0 0

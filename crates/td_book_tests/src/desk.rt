@@ -1,0 +1,233 @@
+//! A book over the example archive, with its board and three builders; and a call of each kind.
+ghost use Rattle.std.specs.Prelude.{◌≡◌, IfOk, length};
+ghost use Rattle.td_board.specs.Knowledge.{new_desk};
+ghost use Rattle.td_core.specs.Phases.{NoneBuilt};
+ghost use Rattle.td_supply.specs.Supply.{opened, stock_of};
+
+use crate::spelling::{
+    outcome, shown, spelled, spelled_entry, spelled_job, spelled_row, spelled_watch,
+};
+use std::alloc::Global;
+use std::test::Fail;
+use td_board::{Board, BuilderSeat, DeskSeat, Hand};
+use td_book::Book;
+use td_journal::{EntryNo, text};
+use td_relation::Archs;
+use td_rows::{Key, Outcome, Rows, read_key, read_state};
+use td_supply::{Build, Supply};
+use td_version::Version;
+use td_wbread::read_command;
+
+const TABLE: &str = "amd64 linux amd64\ni386 linux i386";
+
+// The rows of a state file that is short.
+fn rows(alloc: Global, text: &str) -> Result<Rows, Fail>
+    ensures { IfOk result (λ rows. NoneBuilt rows) }
+{
+    if text.len() > 1000 {
+        return Err(Fail::from("a longer text than the test reads"));
+    }
+    Ok(read_state(alloc, text)?)
+}
+
+// Two sources, and the development files of one of them on two architectures.
+fn supply(alloc: Global) -> Result<Supply<'static>, Fail>
+    ensures { IfOk result (λ supply. supply ≡ opened (stock_of supply)) }
+{
+    let base = Version::read("2.0-1")?;
+    let _read = Version::read("1.2-3")?;
+    let build = Some(Build {
+        source: "bar",
+        base,
+    });
+    let mut supply = Supply::new(alloc, Archs::read(alloc, TABLE)?);
+    supply.push_source("bar", "2.0-1")?;
+    supply.push_source("foo", "1.2-3")?;
+    supply.push("libbar-dev", Some(base), Some(0), build)?;
+    supply.push("libbar-dev", Some(base), Some(1), build)?;
+    Ok(supply)
+}
+
+// The key of `source/arch`.
+pub(crate) fn key(alloc: Global, text: &str) -> Result<Key, Fail> {
+    let (source, arch) = read_key(text).ok_or("a key")?;
+    Ok(Key::new(alloc, source, arch)?)
+}
+
+// A book over the example archive, with its board and three builders.
+#[derive(Drop)]
+pub(crate) struct Desk {
+    pub(crate) alloc: Global,
+    archs: Archs<'static>,
+    board: Board,
+    pub(crate) book: Book<'static>,
+    one: BuilderSeat,
+    two: BuilderSeat,
+    three: BuilderSeat,
+    ghost book_at: { book.fixed.table ≡ board.table },
+    ghost one_at: { one.table ≡ board.table },
+    ghost two_at: { two.table ≡ board.table },
+    ghost three_at: { three.table ≡ board.table },
+}
+
+// A book that opens with these rows, over a journal where one is given.
+fn open_book(
+    alloc: Global,
+    board: &Board,
+    seat: DeskSeat,
+    rows: Rows,
+    supply: Supply<'static>,
+    journal: Option<&str>,
+) -> Result<Book<'static>, Fail>
+    requires table { board.now.table ≡ seat.table }
+    requires fresh_seat { seat.desk ≡ new_desk (length rows) (length seat.desk.noted) }
+    requires idle { NoneBuilt rows }
+    requires fresh_supply { supply ≡ opened (stock_of supply) }
+    ensures { IfOk result (λ book. book.fixed.table ≡ board.now.table) }
+{
+    let Some(text) = journal else {
+        return Ok(Book::open(alloc, board, seat, rows, supply)?);
+    };
+    Ok(Book::reopen(alloc, board, seat, rows, supply, text)?)
+}
+
+// A desk that opens with these rows, over a journal where one is given.
+pub(crate) fn open_desk(alloc: Global, opening: &str, journal: Option<&str>) -> Result<Desk, Fail> {
+    let rows = rows(alloc, opening)?;
+    let supply = supply(alloc)?;
+    let archs = Archs::read(alloc, TABLE)?;
+    let (board, seat, mut builders) = Board::make(alloc, rows.len(), 3)?;
+    let (Some(three), Some(two), Some(one)) = (builders.pop(), builders.pop(), builders.pop())
+    else {
+        return Err(Fail::from("three builders"));
+    };
+    let book = open_book(alloc, &board, seat, rows, supply, journal)?;
+    Ok(Desk {
+        alloc,
+        archs,
+        board,
+        book,
+        one,
+        two,
+        three,
+    })
+}
+
+// Why a text isn't a journal's over these rows; or the journal that a book has with it.
+pub(crate) fn refusal_of(alloc: Global, opening: &str, journal: &str) -> Result<String, Fail> {
+    let rows = rows(alloc, opening)?;
+    let supply = supply(alloc)?;
+    let (board, seat, _builders) = Board::make(alloc, rows.len(), 3)?;
+    match Book::reopen(alloc, &board, seat, rows, supply, journal) {
+        Ok(book) => Ok(text(alloc, book.journal())?),
+        Err(refusal) => shown(alloc, &refusal),
+    }
+}
+
+impl Desk {
+    // What a command line is answered.
+    pub(crate) fn command(&mut self, line: &str) -> Result<String, Fail> {
+        let command = read_command(self.alloc, line, &self.archs, &["unstable"])?;
+        let told = self.book.command(&self.board, &command);
+        spelled(self.alloc, &told)
+    }
+
+    // Whether the builder's claim of a key's row wins.
+    pub(crate) fn claim(&mut self, builder: u64, text: &str) -> Result<String, Fail> {
+        let key = key(self.alloc, text)?;
+        let row = self.book.rows().number(&key).ok_or("a row")?;
+        let claimed = self.claim_row(builder, row);
+        shown(self.alloc, &claimed)
+    }
+
+    fn claim_row(&mut self, builder: u64, row: usize) -> bool {
+        match builder {
+            1 => self.board.claim(row, &mut self.one),
+            2 => self.board.claim(row, &mut self.two),
+            _ => self.board.claim(row, &mut self.three),
+        }
+    }
+
+    // The job that the builder is given.
+    pub(crate) fn start(&mut self, builder: u64) -> Result<String, Fail> {
+        let started = match builder {
+            1 => self.book.start(&self.board, &self.one),
+            2 => self.book.start(&self.board, &self.two),
+            _ => self.book.start(&self.board, &self.three),
+        };
+        spelled_job(self.alloc, &started)
+    }
+
+    // The end of the builder's build.
+    pub(crate) fn finish(&mut self, builder: u64, text: &str) -> Result<String, Fail> {
+        let outcome = outcome(self.alloc, text)?;
+        match builder {
+            1 => self.finish_one(outcome),
+            2 => self.finish_two(outcome),
+            _ => self.finish_three(outcome),
+        }
+    }
+
+    fn finish_one(&mut self, outcome: Outcome) -> Result<String, Fail> {
+        let finished = self.book.finish(&self.board, &mut self.one, outcome);
+        shown(self.alloc, &finished)
+    }
+
+    fn finish_two(&mut self, outcome: Outcome) -> Result<String, Fail> {
+        let finished = self.book.finish(&self.board, &mut self.two, outcome);
+        shown(self.alloc, &finished)
+    }
+
+    fn finish_three(&mut self, outcome: Outcome) -> Result<String, Fail> {
+        let finished = self.book.finish(&self.board, &mut self.three, outcome);
+        shown(self.alloc, &finished)
+    }
+
+    // Whether the first builder's hand is released.
+    pub(crate) fn release(&mut self) -> Result<String, Fail> {
+        let released = match self.one.hand() {
+            Hand::Finished(_, _) => self.board.release(&mut self.one),
+            _ => false,
+        };
+        shown(self.alloc, &released)
+    }
+
+    pub(crate) fn undo(&mut self, n: EntryNo) -> Result<String, Fail> {
+        let undone = self.book.undo(&self.board, n);
+        shown(self.alloc, &undone)
+    }
+
+    pub(crate) fn arrive(&mut self, text: &str) -> Result<String, Fail> {
+        let key = key(self.alloc, text)?;
+        let arrived = self.book.arrive(&key);
+        shown(self.alloc, &arrived)
+    }
+
+    pub(crate) fn sweep(&mut self) -> Result<String, Fail> {
+        let swept = self.book.sweep(&self.board);
+        shown(self.alloc, &swept)
+    }
+
+    // Watches rows under so many groups.
+    pub(crate) fn watch(&mut self, groups: usize, rows: &[(Key, usize)]) -> Result<String, Fail> {
+        let watched = self.book.watch(groups, rows);
+        spelled_watch(self.alloc, &watched)
+    }
+
+    pub(crate) fn installed(&self, group: usize) -> Result<String, Fail> {
+        shown(self.alloc, &self.book.installed(group))
+    }
+
+    pub(crate) fn ready(&self) -> Result<String, Fail> {
+        shown(self.alloc, &self.book.ready())
+    }
+
+    pub(crate) fn row(&self, text: &str) -> Result<String, Fail> {
+        let key = key(self.alloc, text)?;
+        spelled_row(self.alloc, &key, self.book.row(&key))
+    }
+
+    pub(crate) fn entry(&self, n: EntryNo) -> Result<String, Fail> {
+        spelled_entry(self.alloc, n, self.book.entry(n))
+    }
+}
