@@ -40,9 +40,11 @@ title_value s left (Some t) = titled s (cut 34 t)
 abbrev pub with_affected : Said → Shape × Log × List ℕ → SaidRead
 with_affected s x = Ok (record { title = s.title; affected = Some x.0; good = s.good; bad = s.bad; log = x.1 }, x.2)
 
+-- the same under `is_good`
 abbrev pub with_good : Said → Shape × Log × List ℕ → SaidRead
 with_good s x = Ok (record { title = s.title; affected = s.affected; good = Some x.0; bad = s.bad; log = x.1 }, x.2)
 
+-- the same under `is_bad`
 abbrev pub with_bad : Said → Shape × Log × List ℕ → SaidRead
 with_bad s x = Ok (record { title = s.title; affected = s.affected; good = s.good; bad = Some x.0; log = x.1 }, x.2)
 
@@ -51,10 +53,12 @@ abbrev pub ignored_text : Said → Option (List ℕ × List ℕ) → SaidRead
 ignored_text s None = Err (0, s.log)
 ignored_text s (Some p) = Ok (s, p.1)
 
+-- a query under another key says nothing, nor are its patterns kept
 abbrev pub ignored_query : Said → Read → SaidRead
 ignored_query s (Ok x) = Ok (s, x.2)
 ignored_query s (Err e) = Err (e.0, s.log)
 
+-- the value of another key: a text where a `"` opens it, else a query
 unfoldable pub other_value : Said → List ℕ → Option (List ℕ) → SaidRead
 other_value s t None = ignored_query s (or_at 100 [] t)
 other_value s t (Some u) = ignored_text s (cut 34 u)
@@ -70,6 +74,7 @@ value_at key s t =
 
 -- ---- 2. key = value;
 
+-- what is said, where a `;` ends the value; else the text is wrong at the byte in its place
 abbrev pub ended_by : Said → ℕ → Option (List ℕ) → SaidRead
 ended_by s left None = Err (left, s.log)
 ended_by s left (Some t) = Ok (s, t)

@@ -9,8 +9,8 @@
 //! out or `regex` finds a pattern too large; else the first fault from the left is named, with its
 //! place.
 //! A row's status is what `specs/Statuses.antt` says: `Tracker::status` evaluates the queries on
-//! the row's stanzas, `Marks` does so once for each stanza of an archive and is asked row by row. What
-//! queries and statuses mean is said by `specs/QueryLaws.antt` and `specs/StatusLaws.antt`.
+//! the row's stanzas, `Marks` does so once for each stanza of an archive and is asked row by row.
+//! What queries and statuses mean is said by `specs/QueryLaws.antt` and `specs/StatusLaws.antt`.
 #![tactic(auto)]
 
 mod atom;

@@ -1,3 +1,4 @@
+-- What the contracts of this crate cite: a file a thing.
 pub mod Report
 pub mod ItemLines
 pub mod Transition

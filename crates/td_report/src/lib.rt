@@ -1,6 +1,7 @@
 //! The report of a transition: the affected rows by the levels of their sources.
 //!
-//! Start at `Transition::of`, which asks a tracker about an archive; `Transition::report` is the text.
+//! Start at `Transition::of`, which asks a tracker about an archive; `Transition::report` is the
+//! text.
 //! `specs/Report.antt` says what its lines are, `specs/Transition.antt` of which rows.
 //! Promised: the text is that of these lines, made in one piece, by chunks in several
 //! threads, or by counts of Installed rows that are kept; an
