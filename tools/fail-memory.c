@@ -1,5 +1,6 @@
 /* Fails the Nth allocation of a program, N being FAIL_AT: loaded before the program by LD_PRELOAD.
-   Where there was an Nth one, a file FAIL_HIT names is made. */
+   Where there was an Nth one, a file FAIL_HIT names is made, and where FAIL_TELL is set a line
+   `refused` is written to standard error. */
 #define _GNU_SOURCE
 #include <dlfcn.h>
 #include <errno.h>
@@ -21,6 +22,9 @@ static int fails(void) {
     const char *hit = getenv("FAIL_HIT");
     if (hit) {
         close(open(hit, O_CREAT | O_WRONLY, 0600));
+    }
+    if (getenv("FAIL_TELL") && write(2, "refused\n", 8) != 8) {
+        _exit(9);
     }
     errno = ENOMEM;
     return 1;

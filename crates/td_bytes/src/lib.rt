@@ -8,8 +8,6 @@
 #![tactic(auto)]
 
 mod reading;
-#[cfg(test)]
-mod tests;
 mod text;
 mod writing;
 

@@ -31,8 +31,6 @@ mod sourced;
 mod stanza_list;
 mod stanza_reading;
 mod supplying;
-#[cfg(test)]
-mod tests;
 mod text;
 
 pub use archive::Archive;

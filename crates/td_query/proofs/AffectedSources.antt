@@ -1,5 +1,7 @@
 -- The affected sources, place by place and source by source.
-use Rattle.std.proofs.Common.{◌≡◌, ℕ, zero, suc, ◌+◌, ◌<◌, ◌||◌, Bool, true, false, List, [], ◌∷◌, ◌++◌, Option, Some, None, filter, length, get_or, option_map, take, map, slice_get, refl, sym, ap, ◌∙◌, inl, inr, arith}
+use Rattle.std.proofs.Common.{◌≡◌, ℕ, zero, suc, ◌+◌, ◌<◌, ◌||◌, Bool, true, false, List, [], ◌∷◌}
+use Rattle.std.proofs.Common.{◌++◌, Option, Some, None, filter, length, get_or, option_map, take}
+use Rattle.std.proofs.Common.{map, slice_get, refl, sym, ap, ◌∙◌, inl, inr, arith}
 use Rattle.std.specs.Prelude.{is_some}
 use Rattle.std.specs.Borrow.{Bor}
 use Rattle.std.specs.List.{list_any, range_with_len}
@@ -20,9 +22,11 @@ use Rattle.td_query.specs.Tracking.{Tracking}
 
 range-more : (a n : ℕ) → range_with_len a (suc n) ≡ range_with_len a n ++ (a + n) ∷ []
 range-more a zero = ap (λ k. k ∷ []) (omega arith)
-range-more a (suc n) = ap (λ l. a ∷ l) (range-more (a + 1) n ∙ ap (λ k. range_with_len (a + 1) n ++ k ∷ []) (omega arith))
+range-more a (suc n) = ap (λ l. a ∷ l)
+    (range-more (a + 1) n ∙ ap (λ k. range_with_len (a + 1) n ++ k ∷ []) (omega arith))
 
-any-at : (f : ℕ → Bool) (xs : List ℕ) (i : ℕ) → i < length xs → f (get_or xs i 0) ≡ true → list_any f xs ≡ true
+any-at : (f : ℕ → Bool) (xs : List ℕ) (i : ℕ) → i < length xs → f (get_or xs i 0) ≡ true
+    → list_any f xs ≡ true
 any-at f [] i lt h = absurd (omega arith)
 any-at f (x ∷ xs) zero lt h = rw h refl
 any-at f (x ∷ xs) (suc i) lt h =
@@ -31,16 +35,21 @@ any-at f (x ∷ xs) (suc i) lt h =
       | inr other ↦ rw other (any-at f xs i (omega arith) h)
     ]
 
-pub any-below : (f : ℕ → Bool) (n place : ℕ) → place < n → f place ≡ true → list_any f (range_with_len 0 n) ≡ true
+pub any-below : (f : ℕ → Bool) (n place : ℕ) → place < n → f place ≡ true
+    → list_any f (range_with_len 0 n) ≡ true
 any-below f n place lt h =
     let it : 0 + place ≡ place = omega arith in
-    any-at f (range_with_len 0 n) place (omega (arith, lt, length-range_with_len 0 n)) (ap f (get_or-range_with_len 0 n place 0 lt ∙ it) ∙ h)
+    any-at f (range_with_len 0 n) place (omega (arith, lt, length-range_with_len 0 n))
+    (ap f (get_or-range_with_len 0 n place 0 lt ∙ it) ∙ h)
 
-pub none-more : (f : ℕ → Bool) (n : ℕ) → list_any f (range_with_len 0 n) ≡ false → f n ≡ false → list_any f (range_with_len 0 (n + 1)) ≡ false
+pub none-more : (f : ℕ → Bool) (n : ℕ) → list_any f (range_with_len 0 n) ≡ false → f n ≡ false
+    → list_any f (range_with_len 0 (n + 1)) ≡ false
 none-more f n h g =
     let one : n + 1 ≡ suc n = omega arith in
     let it : 0 + n ≡ n = omega arith in
-    ap (λ k. list_any f (range_with_len 0 k)) one ∙ ap (list_any f) (range-more 0 n ∙ ap (λ k. range_with_len 0 n ++ k ∷ []) it) ∙ any-push f (range_with_len 0 n) n
+    ap (λ k. list_any f (range_with_len 0 k)) one
+    ∙ ap (list_any f) (range-more 0 n ∙ ap (λ k. range_with_len 0 n ++ k ∷ []) it)
+    ∙ any-push f (range_with_len 0 n) n
     ∙ ap (λ b. b || f n) h ∙ g
 
 -- ---- 2. whether a source is affected
@@ -49,17 +58,21 @@ any-none : (xs : List ℕ) → list_any (λ x. false) xs ≡ false
 any-none [] = refl
 any-none (x ∷ xs) = any-none xs
 
-by_place : (a : Contents) (t : Tracking) (o : Option KeptSource) → list_any (λ place. is_some (option_map_or (λ s. row_status a t s place) o None)) (range_with_len 0 (length a.table)) ≡ option_map_or (is_affected a t) o false
+by_place : (a : Contents) (t : Tracking) (o : Option KeptSource)
+    → list_any (λ place. is_some (option_map_or (λ s. row_status a t s place) o None))
+    (range_with_len 0 (length a.table)) ≡ option_map_or (is_affected a t) o false
 by_place a t None = any-none (range_with_len 0 (length a.table))
 by_place a t (Some s) = refl
 
 -- some row has a status
-pub affected_by_place : (a : Contents) (t : Tracking) (source : ℕ) → list_any (λ place. is_some (status_at a t source place)) (range_with_len 0 (length a.table)) ≡ is_affected_at a t source
+pub affected_by_place : (a : Contents) (t : Tracking) (source : ℕ) → list_any (λ place. is_some
+    (status_at a t source place)) (range_with_len 0 (length a.table)) ≡ is_affected_at a t source
 affected_by_place a t source = by_place a t (slice_get a.sources source)
 
 -- ---- 3. their names
 
-filter-push : {A : Type 0} (keep : A → Bool) (xs : List A) (x : A) → keep x ≡ true → filter keep (xs ++ x ∷ []) ≡ filter keep xs ++ x ∷ []
+filter-push : {A : Type 0} (keep : A → Bool) (xs : List A) (x : A) → keep x ≡ true
+    → filter keep (xs ++ x ∷ []) ≡ filter keep xs ++ x ∷ []
 filter-push keep [] x h = rw h refl
 filter-push keep (y ∷ ys) x h =
     elim (cases_Bool (keep y)) [
@@ -67,7 +80,8 @@ filter-push keep (y ∷ ys) x h =
       | inr other ↦ rw other (filter-push keep ys x h)
     ]
 
-filter-drop : {A : Type 0} (keep : A → Bool) (xs : List A) (x : A) → keep x ≡ false → filter keep (xs ++ x ∷ []) ≡ filter keep xs
+filter-drop : {A : Type 0} (keep : A → Bool) (xs : List A) (x : A) → keep x ≡ false
+    → filter keep (xs ++ x ∷ []) ≡ filter keep xs
 filter-drop keep [] x h = rw h refl
 filter-drop keep (y ∷ ys) x h =
     elim (cases_Bool (keep y)) [
@@ -76,40 +90,63 @@ filter-drop keep (y ∷ ys) x h =
     ]
 
 -- with the name of one more that is affected
-names-more : {A B : Type 0} (keep : A → Bool) (name : A → B) (xs : List A) (i : ℕ) (x : A) → slice_get xs i ≡ Some x → keep x ≡ true → map name (filter keep (take i xs)) ++ name x ∷ [] ≡ map name (filter keep (take (i + 1) xs))
-names-more keep name xs i x at h = sym (ap (λ l. map name (filter keep l)) (take-next xs i x at) ∙ ap (map name) (filter-push keep (take i xs) x h) ∙ map-append name (filter keep (take i xs)) (x ∷ []))
+names-more : {A B : Type 0} (keep : A → Bool) (name : A → B) (xs : List A) (i : ℕ) (x : A)
+    → slice_get xs i ≡ Some x → keep x ≡ true
+    → map name (filter keep (take i xs)) ++ name x ∷ [] ≡ map name (filter keep (take (i + 1) xs))
+names-more keep name xs i x at h =
+    sym (ap (λ l. map name (filter keep l)) (take-next xs i x at) ∙ ap (map name)
+    (filter-push keep (take i xs) x h) ∙ map-append name (filter keep (take i xs)) (x ∷ []))
 
 -- and without one that isn't
-names-same : {A B : Type 0} (keep : A → Bool) (name : A → B) (xs : List A) (i : ℕ) (x : A) → slice_get xs i ≡ Some x → keep x ≡ false → map name (filter keep (take i xs)) ≡ map name (filter keep (take (i + 1) xs))
-names-same keep name xs i x at h = sym (ap (λ l. map name (filter keep l)) (take-next xs i x at) ∙ ap (map name) (filter-drop keep (take i xs) x h))
+names-same : {A B : Type 0} (keep : A → Bool) (name : A → B) (xs : List A) (i : ℕ) (x : A)
+    → slice_get xs i ≡ Some x → keep x ≡ false
+    → map name (filter keep (take i xs)) ≡ map name (filter keep (take (i + 1) xs))
+names-same keep name xs i x at h =
+    sym (ap (λ l. map name (filter keep l)) (take-next xs i x at)
+    ∙ ap (map name) (filter-drop keep (take i xs) x h))
 
 -- the source that was found
-found : (o : Option KeptSource) (x : Source) → Some (seen_source x) ≡ option_map shown_source o → (s : KeptSource) × (o ≡ Some s) × (s.head.name ≡ x.name.now)
+found : (o : Option KeptSource) (x : Source) → Some (seen_source x) ≡ option_map shown_source o
+    → (s : KeptSource) × (o ≡ Some s) × (s.head.name ≡ x.name.now)
 found None x h = absurd (cc)
-found (Some s) x h = (s, refl, let it : seen_source x ≡ shown_source s = cc in sym (ap (λ y. y.head.name) it))
+found (Some s) x h = (
+  s,
+  refl,
+  let it : seen_source x ≡ shown_source s = cc in
+      sym (ap (λ y. y.head.name) it),
+)
 
 module _ (a : Contents) (t : Tracking) (n : ℕ) where
   -- the names of the affected ones among the first
   abbrev pub names_below : ℕ → List (List ℕ)
   names_below k = map (λ s. s.head.name) (filter (is_affected a t) (take k a.sources))
 
-  pub name_pushed : (x : Source) (old new : List (Bor (List ℕ))) → is_affected_at a t n ≡ true → Some (seen_source x) ≡ option_map shown_source (slice_get a.sources n) → map (λ name. name.now) old ≡ names_below n → new ≡ old ++ x.name ∷ [] → map (λ name. name.now) new ≡ names_below (n + 1)
+  pub name_pushed : (x : Source) (old new : List (Bor (List ℕ))) → is_affected_at a t n ≡ true
+      → Some (seen_source x) ≡ option_map shown_source (slice_get a.sources n)
+      → map (λ name. name.now) old ≡ names_below n → new ≡ old ++ x.name ∷ []
+      → map (λ name. name.now) new ≡ names_below (n + 1)
   name_pushed x old new is at so_far pushed =
       let f = found (slice_get a.sources n) x at in
       let keeps : is_affected a t f.0 ≡ true = rw f.1 at is in
-      ap (map (λ name. name.now)) pushed ∙ map-append (λ (name : Bor (List ℕ)). name.now) old (x.name ∷ []) ∙ ap (λ l. l ++ x.name.now ∷ []) so_far
-      ∙ ap (λ q. names_below n ++ q ∷ []) (sym f.2) ∙ names-more (is_affected a t) (λ s. s.head.name) a.sources n f.0 f.1 keeps
+      ap (map (λ name. name.now)) pushed ∙ map-append (λ (name : Bor (List ℕ)). name.now) old
+      (x.name ∷ []) ∙ ap (λ l. l ++ x.name.now ∷ []) so_far
+      ∙ ap (λ q. names_below n ++ q ∷ []) (sym f.2)
+      ∙ names-more (is_affected a t) (λ s. s.head.name) a.sources n f.0 f.1 keeps
 
-  by_item : (o : Option KeptSource) → slice_get a.sources n ≡ o → option_map_or (is_affected a t) o false ≡ false → n < length a.sources → names_below n ≡ names_below (n + 1)
+  by_item : (o : Option KeptSource) → slice_get a.sources n ≡ o → option_map_or
+      (is_affected a t) o false ≡ false → n < length a.sources → names_below n ≡ names_below (n + 1)
   by_item None e h lt = absurd (slice_get-none a.sources n e lt)
   by_item (Some s) e h lt = names-same (is_affected a t) (λ s. s.head.name) a.sources n s e h
 
-  pub name_skipped : is_affected_at a t n ≡ false → n < length a.sources → names_below n ≡ names_below (n + 1)
+  pub name_skipped : is_affected_at a t n ≡ false → n < length a.sources
+      → names_below n ≡ names_below (n + 1)
   name_skipped h lt = by_item (slice_get a.sources n) refl h lt
 
-  pub name_missing : None ≡ option_map shown_source (slice_get a.sources n) → n < length a.sources → ⊥
+  pub name_missing : None ≡ option_map shown_source (slice_get a.sources n) → n < length a.sources
+      → ⊥
   name_missing h lt = none_there (slice_get a.sources n) refl h
     where
-      none_there : (o : Option KeptSource) → slice_get a.sources n ≡ o → None ≡ option_map shown_source o → ⊥
+      none_there : (o : Option KeptSource) → slice_get a.sources n ≡ o
+          → None ≡ option_map shown_source o → ⊥
       none_there None e h = slice_get-none a.sources n e lt
       none_there (Some s) e h = absurd (cc)

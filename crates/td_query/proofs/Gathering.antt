@@ -1,20 +1,30 @@
 -- What holds on some of a row's stanzas, one more at a time.
-use Rattle.std.proofs.Common.{◌≡◌, ℕ, ◌+◌, ◌<◌, ◌||◌, Bool, true, false, List, [], ◌∷◌, ◌++◌, length, get_or, take, refl, sym, ap, ◌∙◌}
+use Rattle.std.proofs.Common.{◌≡◌, ℕ, ◌+◌, ◌<◌, ◌||◌, Bool, true, false, List, [], ◌∷◌, ◌++◌}
+use Rattle.std.proofs.Common.{length, get_or, take, refl, sym, ap, ◌∙◌}
 use Rattle.std.specs.List.{list_any}
 use Rattle.std.proofs.lemmas.List.{take_more}
 use Rattle.std.proofs.Math.Bool.{or-false, or_assoc}
 use Rattle.td_query.specs.declared.mark.Mark.{Mark}
 use Rattle.td_query.specs.Marks.{either_mark, gathered}
 
-pub any-push : (f : ℕ → Bool) (ns : List ℕ) (n : ℕ) → list_any f (ns ++ n ∷ []) ≡ (list_any f ns || f n)
+pub any-push : (f : ℕ → Bool) (ns : List ℕ) (n : ℕ)
+    → list_any f (ns ++ n ∷ []) ≡ (list_any f ns || f n)
 any-push f [] n = or-false (f n)
-any-push f (m ∷ ns) n = ap (λ b. f m || b) (any-push f ns n) ∙ sym (or_assoc (f m) (list_any f ns) (f n))
+any-push f (m ∷ ns) n = ap (λ b. f m || b) (any-push f ns n)
+    ∙ sym (or_assoc (f m) (list_any f ns) (f n))
 
 -- of a flag of a mark, one number more
-one-more : (own : Bool) (f : ℕ → Bool) (ns : List ℕ) (i : ℕ) → i < length ns → ((own || list_any f (take i ns)) || f (get_or ns i 0)) ≡ (own || list_any f (take (i + 1) ns))
+one-more : (own : Bool) (f : ℕ → Bool) (ns : List ℕ) (i : ℕ) → i < length ns
+    → ((own || list_any f (take i ns)) || f (get_or ns i 0)) ≡ (own || list_any f (take (i + 1) ns))
 one-more own f ns i h =
-    rw (take_more ns i 0 h) (or_assoc own (list_any f (take i ns)) (f (get_or ns i 0)) ∙ ap (λ b. own || b) (sym (any-push f (take i ns) (get_or ns i 0))))
+    rw (take_more ns i 0 h) (or_assoc own (list_any f (take i ns)) (f (get_or ns i 0))
+    ∙ ap (λ b. own || b) (sym (any-push f (take i ns) (get_or ns i 0))))
 
-pub gathered-more : (own : Mark) (f : ℕ → Mark) (ns : List ℕ) (i : ℕ) → i < length ns → either_mark (gathered own f (take i ns)) (f (get_or ns i 0)) ≡ gathered own f (take (i + 1) ns)
+pub gathered-more : (own : Mark) (f : ℕ → Mark) (ns : List ℕ) (i : ℕ) → i < length ns → either_mark
+    (gathered own f (take i ns)) (f (get_or ns i 0)) ≡ gathered own f (take (i + 1) ns)
 gathered-more own f ns i h =
-    rw (one-more own.affected (λ k. (f k).affected) ns i h, one-more own.good (λ k. (f k).good) ns i h, one-more own.bad (λ k. (f k).bad) ns i h) refl
+    rw (
+      one-more own.affected (λ k. (f k).affected) ns i h,
+      one-more own.good (λ k. (f k).good) ns i h,
+      one-more own.bad (λ k. (f k).bad) ns i h,
+    ) refl

@@ -1,5 +1,6 @@
 -- What the status of a row means.
-use Rattle.std.proofs.Common.{◌≡◌, ◌↔◌, ℕ, zero, suc, ◌<◌, ◌&&◌, Bool, true, false, List, [], ◌∷◌, length, get_or, refl, sym, ap, ◌∙◌, inl, inr, arith}
+use Rattle.std.proofs.Common.{◌≡◌, ◌↔◌, ℕ, zero, suc, ◌<◌, ◌&&◌, Bool, true, false, List, [], ◌∷◌}
+use Rattle.std.proofs.Common.{length, get_or, refl, sym, ap, ◌∙◌, inl, inr, arith}
 use Rattle.std.specs.Prelude.{IsTrue}
 use Rattle.std.specs.List.{Contains, list_any}
 use Rattle.std.proofs.lemmas.Bool.{false≢true}
@@ -10,25 +11,30 @@ use Rattle.td_indices.specs.Sources.{KeptSource}
 use Rattle.td_indices.specs.Stanzas.{package_fields, source_fields}
 use Rattle.td_query.specs.Query.{Shape}
 use Rattle.td_query.specs.Statuses.{row_satisfies, status_where}
-use Rattle.td_query.specs.StatusLaws.{IsGraded, RowsAloneHaveAStatus, RowsAreGradedByTheirStanzas, RowsSatisfyByAStanza, SomeSatisfies}
+use Rattle.td_query.specs.StatusLaws.{IsGraded, RowsAloneHaveAStatus, RowsAreGradedByTheirStanzas}
+use Rattle.td_query.specs.StatusLaws.{RowsSatisfyByAStanza, SomeSatisfies}
 use Rattle.td_query.specs.Truth.{truth}
 use Rattle.td_query.proofs.Meanings.{and_is, or_from, or_to}
 use Rattle.td_query.proofs.RowStatuses.{status_nowhere}
 
 -- ---- 1. some item
 
-any_to : {A : Type 0} (f : A → Bool) (xs : List A) → IsTrue (list_any f xs) → (x : A) × Contains xs x × IsTrue (f x)
+any_to : {A : Type 0} (f : A → Bool) (xs : List A) → IsTrue (list_any f xs)
+    → (x : A) × Contains xs x × IsTrue (f x)
 any_to f [] h = absurd (false≢true h)
 any_to f (x ∷ xs) h =
     elim (or_to (f x) (list_any f xs) h) [
       | inl here ↦ (x, (0, omega arith, refl), here)
-      | inr later ↦ (let r = any_to f xs later in (r.0, (suc r.1.0, omega (arith, r.1.1), r.1.2), r.2))
+      | inr later ↦ (let r = any_to f xs later in
+          (r.0, (suc r.1.0, omega (arith, r.1.1), r.1.2), r.2))
     ]
 
-any_at : {A : Type 0} (f : A → Bool) (xs : List A) (k : ℕ) (x : A) → k < length xs → get_or xs k x ≡ x → IsTrue (f x) → IsTrue (list_any f xs)
+any_at : {A : Type 0} (f : A → Bool) (xs : List A) (k : ℕ) (x : A) → k < length xs
+    → get_or xs k x ≡ x → IsTrue (f x) → IsTrue (list_any f xs)
 any_at f [] k x lt at h = absurd (omega arith)
 any_at f (y ∷ ys) zero x lt at h = or_from (f y) (list_any f ys) (inl (ap f at ∙ h))
-any_at f (y ∷ ys) (suc k) x lt at h = or_from (f y) (list_any f ys) (inr (any_at f ys k x (omega arith) at h))
+any_at f (y ∷ ys) (suc k) x lt at h =
+    or_from (f y) (list_any f ys) (inr (any_at f ys k x (omega arith) at h))
 
 -- ---- 2. some stanza of a row
 
@@ -36,28 +42,33 @@ module _ (a : Contents) (patterns : List Re) (query : Shape) (s : KeptSource) (p
   abbrev test : KeptBinary → Bool
   test b = is_of_on s.head.name place b && truth patterns (package_fields a b) query
 
-  to_stanza : IsTrue (row_satisfies a patterns query s place) → SomeSatisfies a patterns query s place
+  to_stanza : IsTrue (row_satisfies a patterns query s place)
+      → SomeSatisfies a patterns query s place
   to_stanza h =
       elim (or_to (truth patterns (source_fields a s) query) (list_any test a.binaries) h) [
         | inl own ↦ (source_fields a s, inl refl, own)
         | inr some ↦
             (let r = any_to test a.binaries some in
-            let p = (and_is (is_of_on s.head.name place r.0) (truth patterns (package_fields a r.0) query)).0 r.2 in
+            let p = (and_is (is_of_on s.head.name place r.0)
+            (truth patterns (package_fields a r.0) query)).0 r.2 in
             (package_fields a r.0, inr (r.0, r.1, p.0, refl), p.1))
       ]
 
-  from_stanza : SomeSatisfies a patterns query s place → IsTrue (row_satisfies a patterns query s place)
+  from_stanza : SomeSatisfies a patterns query s place
+      → IsTrue (row_satisfies a patterns query s place)
   from_stanza some =
       or_from (truth patterns (source_fields a s) query) (list_any test a.binaries) (elim some.1 [
         | inl own ↦ inl (ap (λ fields. truth patterns fields query) (sym own) ∙ some.2)
         | inr of ↦
             inr (any_at test a.binaries of.1.0 of.0 of.1.1 of.1.2
-            ((and_is (is_of_on s.head.name place of.0) (truth patterns (package_fields a of.0) query)).1
+            ((and_is (is_of_on s.head.name place of.0)
+            (truth patterns (package_fields a of.0) query)).1
             (of.2, ap (λ fields. truth patterns fields query) (sym of.3) ∙ some.2)))
       ])
 
 pub by_a_stanza : RowsSatisfyByAStanza
-by_a_stanza a patterns query s place = (to_stanza a patterns query s place, from_stanza a patterns query s place)
+by_a_stanza a patterns query s place =
+    (to_stanza a patterns query s place, from_stanza a patterns query s place)
 
 -- ---- 3. grades
 
@@ -65,7 +76,8 @@ no_of : {P : Type 0} (b : Bool) → IsTrue b ↔ P → b ≡ false → ¬ P
 no_of b says fails p = false≢true (sym fails ∙ says.1 p)
 
 module _ {F G B : Type 0} where
-  grade : (f g b : Bool) → IsTrue f ↔ F → IsTrue g ↔ G → IsTrue b ↔ B → IsGraded F G B (status_where f g b)
+  grade : (f g b : Bool) → IsTrue f ↔ F → IsTrue g ↔ G → IsTrue b ↔ B
+      → IsGraded F G B (status_where f g b)
   grade false g b sf sg sb = record {
     none = (λ e. no_of false sf refl, λ n. refl);
     good = (λ e. absurd (cc), λ p. absurd (no_of false sf refl p.0));
@@ -104,8 +116,10 @@ module _ {F G B : Type 0} where
 
 pub graded_rows : RowsAreGradedByTheirStanzas
 graded_rows a t source place s at there =
-    rw (at, there) (grade (row_satisfies a t.patterns t.affected s place) (row_satisfies a t.patterns t.good s place) (row_satisfies a t.patterns t.bad s place)
-    (by_a_stanza a t.patterns t.affected s place) (by_a_stanza a t.patterns t.good s place) (by_a_stanza a t.patterns t.bad s place))
+    rw (at, there) (grade (row_satisfies a t.patterns t.affected s place)
+    (row_satisfies a t.patterns t.good s place) (row_satisfies a t.patterns t.bad s place)
+    (by_a_stanza a t.patterns t.affected s place) (by_a_stanza a t.patterns t.good s place)
+    (by_a_stanza a t.patterns t.bad s place))
 
 pub rows_alone : RowsAloneHaveAStatus
 rows_alone a t source place none = sym (status_nowhere a t source place none)

@@ -1,5 +1,6 @@
 -- Patterns, one after another.
-use Rattle.std.proofs.Common.{◌≡◌, ℕ, suc, ◌+◌, ◌-◌, ◌<◌, List, [], ◌∷◌, ◌++◌, length, get_or, take, drop, map, refl, sym, ap, ◌∙◌, subst}
+use Rattle.std.proofs.Common.{◌≡◌, ℕ, suc, ◌+◌, ◌-◌, ◌<◌, List, [], ◌∷◌, ◌++◌, length, get_or, take}
+use Rattle.std.proofs.Common.{drop, map, refl, sym, ap, ◌∙◌, subst}
 use Rattle.std.proofs.lemmas.List.{take-append-drop, take_more, map-append}
 use Rattle.std.proofs.Math.Seq.{drop-cons}
 use Rattle.regex.specs.Failures.{IsPattern}
@@ -13,36 +14,62 @@ use Rattle.td_query.specs.TrackerFaults.{IsFirstRefused}
 use Rattle.td_query.specs.Views.{raw_of}
 
 -- what is compiled is a pattern
-pub pattern_is : (r : Regex) (text : List ℕ) → regex_config r ≡ default_config → regex_source r ≡ text → IsReadFromSource r → IsPattern default_config text
-pattern_is r text config source read = subst (λ k. IsPattern k text) config (subst (λ (s : List ℕ). IsPattern (regex_config r) s) source (_, _, read))
+pub pattern_is : (r : Regex) (text : List ℕ) → regex_config r ≡ default_config
+    → regex_source r ≡ text → IsReadFromSource r → IsPattern default_config text
+pattern_is r text config source read = subst (λ k. IsPattern k text) config
+    (subst (λ (s : List ℕ). IsPattern (regex_config r) s) source (_, _, read))
 
-ArePatterns-push : (log : Log) (r : Raw) → ArePatterns log → IsPattern default_config (source_of r) → ArePatterns (log ++ r ∷ [])
+ArePatterns-push : (log : Log) (r : Raw) → ArePatterns log → IsPattern default_config (source_of r)
+    → ArePatterns (log ++ r ∷ [])
 ArePatterns-push [] r h p = (p, tt)
 ArePatterns-push (x ∷ log) r h p = (h.0, ArePatterns-push log r h.1 p)
 
 -- one pattern more
-pub more : (log : List RawPattern) (i : ℕ) (d : RawPattern) → i < length log → ArePatterns (map raw_of (take i log)) → IsPattern default_config (source_of (raw_of (get_or log i d))) → ArePatterns (map raw_of (take (i + 1) log))
-more log i d h fine p = rw (take_more log i d h, map-append raw_of (take i log) (get_or log i d ∷ [])) (ArePatterns-push (map raw_of (take i log)) (raw_of (get_or log i d)) fine p)
+pub more : (log : List RawPattern) (i : ℕ) (d : RawPattern) → i < length log
+    → ArePatterns (map raw_of (take i log)) → IsPattern default_config
+    (source_of (raw_of (get_or log i d))) → ArePatterns (map raw_of (take (i + 1) log))
+more log i d h fine p =
+    rw (take_more log i d h, map-append raw_of (take i log) (get_or log i d ∷ []))
+    (ArePatterns-push (map raw_of (take i log)) (raw_of (get_or log i d)) fine p)
 
-pub sources_more : (log : List RawPattern) (i : ℕ) (d : RawPattern) (rs ss : List Regex) (r : Regex) → i < length log → ss ≡ rs ++ r ∷ [] → map regex_source rs ≡ map source_of (map raw_of (take i log)) → regex_source r ≡ source_of (raw_of (get_or log i d)) → map regex_source ss ≡ map source_of (map raw_of (take (i + 1) log))
+pub sources_more : (log : List RawPattern) (i : ℕ) (d : RawPattern) (rs ss : List Regex) (r : Regex)
+    → i < length log → ss ≡ rs ++ r ∷ []
+    → map regex_source rs ≡ map source_of (map raw_of (take i log)) → regex_source r ≡ source_of
+    (raw_of (get_or log i d)) → map regex_source ss ≡ map source_of (map raw_of (take (i + 1) log))
 sources_more log i d rs ss r h pushed so_far here =
-    rw (pushed, take_more log i d h, map-append regex_source rs (r ∷ []), map-append raw_of (take i log) (get_or log i d ∷ []), map-append source_of (map raw_of (take i log)) (raw_of (get_or log i d) ∷ []), so_far, here) refl
+    rw (
+      pushed,
+      take_more log i d h,
+      map-append regex_source rs (r ∷ []),
+      map-append raw_of (take i log) (get_or log i d ∷ []),
+      map-append source_of
+          (map raw_of (take i log)) (raw_of (get_or log i d) ∷ []),
+      so_far,
+      here,
+    ) refl
 
 -- one that is compiled more
-AreDefault-push : (rs : List Regex) (r : Regex) → AreDefault rs → (regex_config r ≡ default_config) × IsReadFromSource r → AreDefault (rs ++ r ∷ [])
+AreDefault-push : (rs : List Regex) (r : Regex) → AreDefault rs
+    → (regex_config r ≡ default_config) × IsReadFromSource r → AreDefault (rs ++ r ∷ [])
 AreDefault-push [] r h p = (p, tt)
 AreDefault-push (x ∷ rs) r h p = (h.0, AreDefault-push rs r h.1 p)
 
-pub compiled_more : (rs ss : List Regex) (r : Regex) → ss ≡ rs ++ r ∷ [] → AreDefault rs → (regex_config r ≡ default_config) × IsReadFromSource r → AreDefault ss
+pub compiled_more : (rs ss : List Regex) (r : Regex) → ss ≡ rs ++ r ∷ [] → AreDefault rs
+    → (regex_config r ≡ default_config) × IsReadFromSource r → AreDefault ss
 compiled_more rs ss r pushed h p = rw pushed (AreDefault-push rs r h p)
 
 -- the first that is refused
-pub refused_here : (size : ℕ) (log : List RawPattern) (i : ℕ) (d : RawPattern) (place : ℕ) → i < length log → ArePatterns (map raw_of (take i log)) → IsRefusedForCause (source_of (raw_of (get_or log i d))) → place ≡ size - (get_or log i d).left → IsFirstRefused size (map raw_of log) place
+pub refused_here : (size : ℕ) (log : List RawPattern) (i : ℕ) (d : RawPattern) (place : ℕ)
+    → i < length log → ArePatterns (map raw_of (take i log))
+    → IsRefusedForCause (source_of (raw_of (get_or log i d))) → place ≡ size - (get_or log i d).left
+    → IsFirstRefused size (map raw_of log) place
 refused_here size log i d place h fine bad is = record {
   before = map raw_of (take i log);
   at = raw_of (get_or log i d);
   after = map raw_of (drop (suc i) log);
-  parts = ap (map raw_of) (sym (take-append-drop i log) ∙ ap (λ (l : List RawPattern). take i log ++ l) (drop-cons log i d h)) ∙ map-append raw_of (take i log) (get_or log i d ∷ drop (suc i) log);
+  parts = ap (map raw_of) (sym (take-append-drop i log)
+      ∙ ap (λ (l : List RawPattern). take i log ++ l) (drop-cons log i d h))
+      ∙ map-append raw_of (take i log) (get_or log i d ∷ drop (suc i) log);
   fine = fine;
   refused = bad;
   there = is;

@@ -1,12 +1,14 @@
 -- A search over places.
-use Rattle.std.proofs.Common.{◌≡◌, ℕ, zero, suc, ◌+◌, ◌<◌, Bool, true, false, ltb, ◌&&◌, ◌||◌, List, length, refl, sym, ap, ◌∙◌, inl, inr, add-one, arith}
+use Rattle.std.proofs.Common.{◌≡◌, ℕ, zero, suc, ◌+◌, ◌<◌, Bool, true, false, ltb, ◌&&◌, ◌||◌, List}
+use Rattle.std.proofs.Common.{length, refl, sym, ap, ◌∙◌, inl, inr, add-one, arith}
 use Rattle.std.proofs.lemmas.Bool.{lt-ltb}
 use Rattle.std.proofs.lemmas.Bool.Decides.{eqb_tells}
 use Rattle.std.proofs.Math.Bool.{or-true, and-false}
 use Rattle.td_query.specs.Standing.{any_below, stands_at, stands_in}
 
 -- none so far, and not here
-pub below_next : (test : ℕ → Bool) (i : ℕ) → any_below test i ≡ false → test i ≡ false → any_below test (i + 1) ≡ false
+pub below_next : (test : ℕ → Bool) (i : ℕ) → any_below test i ≡ false → test i ≡ false
+    → any_below test (i + 1) ≡ false
 unfolding any_below
 below_next test i none here = rw (add-one, none) here
 
@@ -17,7 +19,8 @@ below_found test zero i h e = absurd (omega arith)
 below_found test (suc n) i h e =
     elim (eqb_tells i n) [
       | inl is ↦ rw (sym (ap test is.1) ∙ e) (or-true (any_below test n))
-      | inr other ↦ (let apart = other.1 in let less : i < n = omega arith in rw (below_found test n i less e) refl)
+      | inr other ↦ (let apart = other.1 in let less : i < n = omega arith in
+          rw (below_found test n i less e) refl)
     ]
 
 -- ---- the answers of the search
@@ -26,11 +29,14 @@ pub empty_never : (text value : List ℕ) → length text ≡ 0 → stands_in te
 unfolding stands_in
 empty_never text value e = rw e refl
 
-pub found_at : (text value : List ℕ) (i : ℕ) → 0 < length text → i < length value → stands_at text value i ≡ true → stands_in text value ≡ true
+pub found_at : (text value : List ℕ) (i : ℕ) → 0 < length text → i < length value
+    → stands_at text value i ≡ true → stands_in text value ≡ true
 unfolding stands_in
-found_at text value i some h e = rw (lt-ltb 0 (length text) some) (below_found (stands_at text value) (length value) i h e)
+found_at text value i some h e =
+    rw (lt-ltb 0 (length text) some) (below_found (stands_at text value) (length value) i h e)
 
-pub found_nowhere : (text value : List ℕ) → any_below (stands_at text value) (length value) ≡ false → stands_in text value ≡ false
+pub found_nowhere : (text value : List ℕ) → any_below (stands_at text value) (length value) ≡ false
+    → stands_in text value ≡ false
 unfolding stands_in
 found_nowhere text value e = rw e (and-false (ltb 0 (length text)))
 

@@ -1,5 +1,7 @@
 -- The status of a row by what holds on its stanzas.
-use Rattle.std.proofs.Common.{◌≡◌, ℕ, ◌+◌, ◌≤◌, ◌||◌, ◌&&◌, Bool, true, false, List, [], ◌∷◌, Option, Some, None, length, drop, slice_get, refl, ap, ◌∙◌, inl, inr, add-one, sym}
+use Rattle.std.proofs.Common.{◌≡◌, ℕ, ◌+◌, ◌≤◌, ◌||◌, ◌&&◌, Bool, true, false, List, [], ◌∷◌}
+use Rattle.std.proofs.Common.{Option, Some, None, length, drop, slice_get, refl, ap, ◌∙◌, inl, inr}
+use Rattle.std.proofs.Common.{add-one, sym}
 use Rattle.std.specs.List.{list_any}
 use Rattle.std.specs.Option.{option_map_or}
 use Rattle.std.proofs.lemmas.Bool.{cases_Bool}
@@ -11,7 +13,8 @@ use Rattle.td_relation.specs.ArchList.{words}
 use Rattle.td_relation.specs.Meeting.{is_on}
 use Rattle.td_relation.specs.Table.{place_of}
 use Rattle.td_rows.specs.declared.key.Key.{Key}
-use Rattle.td_indices.specs.Archive.{Contents, has_row_at, is_of, is_of_on, number_named, numbers_of, places_from}
+use Rattle.td_indices.specs.Archive.{Contents, has_row_at, is_of, is_of_on, number_named}
+use Rattle.td_indices.specs.Archive.{numbers_of, places_from}
 use Rattle.td_indices.specs.Kept.{KeptBinary}
 use Rattle.td_indices.specs.Rows.{has_row, matches_at}
 use Rattle.td_indices.specs.Sources.{KeptSource}
@@ -27,19 +30,25 @@ use Rattle.td_query.specs.Truth.{truth}
 -- ---- 1. some number's item, and some item
 
 -- among the numbers of the items that pass a test
-any-places : {A : Type 0} (test : A → Bool) (f : ℕ → Bool) (g : A → Bool) (all xs : List A) (n : ℕ) → ((k : ℕ) (x : A) → slice_get all k ≡ Some x → f k ≡ g x) → drop n all ≡ xs → list_any f (places_from test n xs) ≡ list_any (λ x. test x && g x) xs
+any-places : {A : Type 0} (test : A → Bool) (f : ℕ → Bool) (g : A → Bool) (all xs : List A) (n : ℕ)
+    → ((k : ℕ) (x : A) → slice_get all k ≡ Some x → f k ≡ g x) → drop n all ≡ xs
+    → list_any f (places_from test n xs) ≡ list_any (λ x. test x && g x) xs
 any-places test f g all [] n e h = refl
 any-places test f g all (x ∷ xs) n e h =
     let front = front_of all n x xs h in
     let later = any-places test f g all xs (n + 1) e (rw add-one front.1) in
     elim (cases_Bool (test x)) [
-      | inl passes ↦ rw passes (ap (λ b. b || list_any f (places_from test (n + 1) xs)) (e n x front.0) ∙ ap (λ b. g x || b) later)
+      | inl passes ↦ rw passes
+          (ap (λ b. b || list_any f (places_from test (n + 1) xs)) (e n x front.0)
+          ∙ ap (λ b. g x || b) later)
       | inr fails ↦ rw fails later
     ]
 
-any-same : {A : Type 0} (f g : A → Bool) (xs : List A) → ((x : A) → f x ≡ g x) → list_any f xs ≡ list_any g xs
+any-same : {A : Type 0} (f g : A → Bool) (xs : List A) → ((x : A) → f x ≡ g x)
+    → list_any f xs ≡ list_any g xs
 any-same f g [] e = refl
-any-same f g (x ∷ xs) e = ap (λ b. b || list_any f xs) (e x) ∙ ap (λ b. g x || b) (any-same f g xs e)
+any-same f g (x ∷ xs) e = ap (λ b. b || list_any f xs) (e x)
+    ∙ ap (λ b. g x || b) (any-same f g xs e)
 
 -- ---- 2. a query on the stanzas of a row
 
@@ -48,17 +57,27 @@ module _ (a : Contents) (patterns : List Re) (query : Shape) (place : ℕ) where
   abbrev is_on_it : KeptBinary → Bool
   is_on_it b = is_on place b.head.home && truth patterns (package_fields a b) query
 
-  pub some_package : (f : ℕ → Bool) (s : KeptSource) → ((k : ℕ) (b : KeptBinary) → slice_get a.binaries k ≡ Some b → f k ≡ is_on_it b) → (truth patterns (source_fields a s) query || list_any f (numbers_of a s.head.name)) ≡ row_satisfies a patterns query s place
+  pub some_package : (f : ℕ → Bool) (s : KeptSource)
+      → ((k : ℕ) (b : KeptBinary) → slice_get a.binaries k ≡ Some b → f k ≡ is_on_it b)
+      → (truth patterns (source_fields a s) query || list_any f (numbers_of a s.head.name))
+      ≡ row_satisfies a patterns query s place
   some_package f s e =
       ap (λ b. truth patterns (source_fields a s) query || b)
       (any-places (is_of s.head.name) f is_on_it a.binaries a.binaries 0 e refl
-      ∙ any-same (λ b. is_of s.head.name b && is_on_it b) (λ b. is_of_on s.head.name place b && truth patterns (package_fields a b) query) a.binaries
-      (λ b. sym (and_assoc (is_of s.head.name b) (is_on place b.head.home) (truth patterns (package_fields a b) query))))
+      ∙ any-same (λ b. is_of s.head.name b && is_on_it b)
+      (λ b. is_of_on s.head.name place b && truth patterns (package_fields a b) query) a.binaries
+      (λ b. sym (and_assoc (is_of s.head.name b) (is_on place b.head.home)
+      (truth patterns (package_fields a b) query))))
 
 -- ---- 3. the three queries
 
 module _ (a : Contents) (t : Tracking) (place : ℕ) where
-  flag : (get : Mark → Bool) (query : Shape) → ((fields : _) → get (mark_by t.patterns t fields) ≡ truth t.patterns fields query) → (get (record { affected = false; good = false; bad = false }) ≡ false) → (k : ℕ) (b : KeptBinary) → slice_get a.binaries k ≡ Some b → get (mark_there a t.patterns t place k) ≡ (is_on place b.head.home && truth t.patterns (package_fields a b) query)
+  flag : (get : Mark → Bool) (query : Shape)
+      → ((fields : _) → get (mark_by t.patterns t fields) ≡ truth t.patterns fields query)
+      → (get (record { affected = false; good = false; bad = false }) ≡ false)
+      → (k : ℕ) (b : KeptBinary) → slice_get a.binaries k ≡ Some b
+      → get (mark_there a t.patterns t place k)
+      ≡ (is_on place b.head.home && truth t.patterns (package_fields a b) query)
   flag get query holds none k b at =
       elim (cases_Bool (is_on place b.head.home)) [
         | inl there ↦ rw (at, there) (holds (package_fields a b))
@@ -66,48 +85,69 @@ module _ (a : Contents) (t : Tracking) (place : ℕ) where
       ]
 
   abbrev marks_of_row : KeptSource → Mark
-  marks_of_row s = gathered (mark_by t.patterns t (source_fields a s)) (mark_there a t.patterns t place) (numbers_of a s.head.name)
+  marks_of_row s = gathered (mark_by t.patterns t (source_fields a s))
+      (mark_there a t.patterns t place) (numbers_of a s.head.name)
 
-  pub row_is : (s : KeptSource) → has_row a.table s.head.archs place ≡ true → status_where (marks_of_row s).affected (marks_of_row s).good (marks_of_row s).bad ≡ row_status a t s place
+  pub row_is : (s : KeptSource) → has_row a.table s.head.archs place ≡ true → status_where
+      (marks_of_row s).affected (marks_of_row s).good (marks_of_row s).bad ≡ row_status a t s place
   row_is s there =
       rw (
-        some_package a t.patterns t.affected place (λ k. (mark_there a t.patterns t place k).affected) s (flag (λ m. m.affected) t.affected (λ fields. refl) refl),
-        some_package a t.patterns t.good place (λ k. (mark_there a t.patterns t place k).good) s (flag (λ m. m.good) t.good (λ fields. refl) refl),
-        some_package a t.patterns t.bad place (λ k. (mark_there a t.patterns t place k).bad) s (flag (λ m. m.bad) t.bad (λ fields. refl) refl),
+        some_package a t.patterns t.affected place
+            (λ k. (mark_there a t.patterns t place k).affected) s
+            (flag (λ m. m.affected) t.affected (λ fields. refl) refl),
+        some_package a t.patterns t.good place (λ k. (mark_there a t.patterns t place k).good) s
+            (flag (λ m. m.good) t.good (λ fields. refl) refl),
+        some_package a t.patterns t.bad place (λ k. (mark_there a t.patterns t place k).bad) s
+            (flag (λ m. m.bad) t.bad (λ fields. refl) refl),
         there,
       ) refl
 
 -- ---- 4. by number
 
-some_at : (a : Contents) (t : Tracking) (place : ℕ) (o : Option KeptSource) → option_map_or (λ s. has_row a.table s.head.archs place) o false ≡ true → (m : Mark) → m ≡ option_map_or (marks_of_row a t place) o (record { affected = false; good = false; bad = false }) → status_where m.affected m.good m.bad ≡ option_map_or (λ s. row_status a t s place) o None
+some_at : (a : Contents) (t : Tracking) (place : ℕ) (o : Option KeptSource)
+    → option_map_or (λ s. has_row a.table s.head.archs place) o false ≡ true → (m : Mark)
+    → m ≡ option_map_or (marks_of_row a t place) o
+    (record { affected = false; good = false; bad = false })
+    → status_where m.affected m.good m.bad ≡ option_map_or (λ s. row_status a t s place) o None
 some_at a t place None h m is = absurd (let bad : false ≡ true = h in cc)
 some_at a t place (Some s) h m is = rw is (row_is a t place s h)
 
-pub status_there : (a : Contents) (t : Tracking) (source place : ℕ) (m : Mark) → has_row_at a source place ≡ true → m ≡ row_mark a t.patterns t source place → status_where m.affected m.good m.bad ≡ status_at a t source place
+pub status_there : (a : Contents) (t : Tracking) (source place : ℕ) (m : Mark)
+    → has_row_at a source place ≡ true → m ≡ row_mark a t.patterns t source place
+    → status_where m.affected m.good m.bad ≡ status_at a t source place
 status_there a t source place m h is = some_at a t place (slice_get a.sources source) h m is
 
-none_at : (a : Contents) (t : Tracking) (place : ℕ) (o : Option KeptSource) → option_map_or (λ s. has_row a.table s.head.archs place) o false ≡ false → None ≡ option_map_or (λ s. row_status a t s place) o None
+none_at : (a : Contents) (t : Tracking) (place : ℕ) (o : Option KeptSource)
+    → option_map_or (λ s. has_row a.table s.head.archs place) o false ≡ false
+    → None ≡ option_map_or (λ s. row_status a t s place) o None
 none_at a t place None h = refl
 none_at a t place (Some s) h = rw h refl
 
 -- a source without a row there
-pub status_nowhere : (a : Contents) (t : Tracking) (source place : ℕ) → has_row_at a source place ≡ false → None ≡ status_at a t source place
+pub status_nowhere : (a : Contents) (t : Tracking) (source place : ℕ)
+    → has_row_at a source place ≡ false → None ≡ status_at a t source place
 status_nowhere a t source place h = none_at a t place (slice_get a.sources source) h
 
 -- ---- 5. past the table
 
-no_match : (table : List ArchWords) (place : ℕ) → length table ≤ place → (ws : List (List ℕ)) → list_any (matches_at table place) ws ≡ false
+no_match : (table : List ArchWords) (place : ℕ) → length table ≤ place → (ws : List (List ℕ))
+    → list_any (matches_at table place) ws ≡ false
 no_match table place h [] = refl
 no_match table place h (w ∷ ws) = rw (slice_get_past table place h) (no_match table place h ws)
 
-none_past : (a : Contents) (place : ℕ) (o : Option KeptSource) → length a.table ≤ place → option_map_or (λ s. has_row a.table s.head.archs place) o false ≡ false
+none_past : (a : Contents) (place : ℕ) (o : Option KeptSource) → length a.table ≤ place
+    → option_map_or (λ s. has_row a.table s.head.archs place) o false ≡ false
 none_past a place None h = refl
 none_past a place (Some s) h = no_match a.table place h (words s.head.archs)
 
-pub status_past : (a : Contents) (t : Tracking) (source place : ℕ) → length a.table ≤ place → None ≡ status_at a t source place
-status_past a t source place h = status_nowhere a t source place (none_past a place (slice_get a.sources source) h)
+pub status_past : (a : Contents) (t : Tracking) (source place : ℕ) → length a.table ≤ place
+    → None ≡ status_at a t source place
+status_past a t source place h =
+    status_nowhere a t source place (none_past a place (slice_get a.sources source) h)
 
 -- ---- 6. by name
 
-pub status_named : (a : Contents) (t : Tracking) (k : Key) (source place : ℕ) → number_named a k.source ≡ Some source → place_of a.table k.arch ≡ Some place → status_at a t source place ≡ status_of a t k
+pub status_named : (a : Contents) (t : Tracking) (k : Key) (source place : ℕ)
+    → number_named a k.source ≡ Some source → place_of a.table k.arch ≡ Some place
+    → status_at a t source place ≡ status_of a t k
 status_named a t k source place named there = rw (named, there) refl

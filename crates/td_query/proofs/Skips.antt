@@ -1,5 +1,6 @@
 -- Whitespace and comments in front of a text.
-use Rattle.std.proofs.Common.{◌≡◌, ℕ, Bool, true, false, eqb, List, [], ◌∷◌, Option, Some, None, option_map, refl, sym, ap, ◌∙◌, one-add, subst, inl, inr}
+use Rattle.std.proofs.Common.{◌≡◌, ℕ, Bool, true, false, eqb, List, [], ◌∷◌, Option, Some, None}
+use Rattle.std.proofs.Common.{option_map, refl, sym, ap, ◌∙◌, one-add, subst, inl, inr}
 use Rattle.std.specs.Borrow.{Bor}
 use Rattle.std.proofs.lemmas.Bool.{ne_eqb}
 use Rattle.std.proofs.lemmas.Bool.Decides.{eqb_tells}
@@ -18,7 +19,8 @@ abbrev pub skipped_all : Option (List ℕ) → List ℕ
 skipped_all None = []
 skipped_all (Some t) = skipped t
 
-pub skipped_left-is : (o : Option (Bor (List ℕ))) (p : Option (List ℕ)) → option_map (λ x. x.now) o ≡ p → skipped_left o ≡ skipped_all p
+pub skipped_left-is : (o : Option (Bor (List ℕ))) (p : Option (List ℕ))
+    → option_map (λ x. x.now) o ≡ p → skipped_left o ≡ skipped_all p
 skipped_left-is None p e = ap skipped_all e
 skipped_left-is (Some t) p e = ap skipped_all e
 
@@ -33,7 +35,9 @@ comment (x ∷ t) =
       | inr other ↦ rw other.0 (comment t ∙ same (cut 10 t))
     ]
   where
-    same : (o : Option (List ℕ × List ℕ)) → skipped_all (option_map (λ (p : List ℕ × List ℕ). p.1) o) ≡ skipped_all (option_map (λ (p : List ℕ × List ℕ). p.1) (o >>= λ p. Some (x ∷ p.0, p.1)))
+    same : (o : Option (List ℕ × List ℕ))
+        → skipped_all (option_map (λ (p : List ℕ × List ℕ). p.1) o)
+        ≡ skipped_all (option_map (λ (p : List ℕ × List ℕ). p.1) (o >>= λ p. Some (x ∷ p.0, p.1)))
     same None = refl
     same (Some p) = refl
 
@@ -53,11 +57,13 @@ skipped-space : (x : ℕ) (t : List ℕ) → is_space x ≡ true → skipped (x 
 unfolding skipped_in
 skipped-space x t e = rw e refl
 
-skipped-stop : (x : ℕ) (t : List ℕ) → is_space x ≡ false → skipped (x ∷ t) ≡ by_hash (x ∷ t) (strip (35 ∷ []) (x ∷ t))
+skipped-stop : (x : ℕ) (t : List ℕ) → is_space x ≡ false
+    → skipped (x ∷ t) ≡ by_hash (x ∷ t) (strip (35 ∷ []) (x ∷ t))
 unfolding skipped_in strip
 skipped-stop x t e =
     elim (eqb_tells x 35) [
-      | inl is ↦ (let same : eqb 35 x ≡ true = subst (λ (y : ℕ). eqb 35 y ≡ true) (sym is.1) refl in rw (e, is.0, same) refl)
+      | inl is ↦ (let same : eqb 35 x ≡ true = subst (λ (y : ℕ). eqb 35 y ≡ true) (sym is.1) refl in
+          rw (e, is.0, same) refl)
       | inr other ↦ rw (e, other.0, ne_eqb 35 x (λ h. other.1 (sym h))) refl
     ]
 
@@ -66,14 +72,20 @@ unfolding skipped_in strip
 behind_space [] = refl
 behind_space (x ∷ t) = by (is_space x) refl (behind_space t)
   where
-    by : (b : Bool) → is_space x ≡ b → skipped t ≡ by_hash (trimmed t) (strip (35 ∷ []) (trimmed t)) → skipped (x ∷ t) ≡ by_hash (trimmed (x ∷ t)) (strip (35 ∷ []) (trimmed (x ∷ t)))
-    by true e h = skipped-space x t e ∙ h ∙ ap (λ (u : List ℕ). by_hash u (strip (35 ∷ []) u)) (sym (trimmed-space x t e))
-    by false e h = skipped-stop x t e ∙ ap (λ (u : List ℕ). by_hash u (strip (35 ∷ []) u)) (sym (trimmed-stop x t e))
+    by : (b : Bool) → is_space x ≡ b → skipped t ≡ by_hash (trimmed t) (strip (35 ∷ []) (trimmed t))
+        → skipped (x ∷ t) ≡ by_hash (trimmed (x ∷ t)) (strip (35 ∷ []) (trimmed (x ∷ t)))
+    by true e h = skipped-space x t e ∙ h ∙ ap (λ (u : List ℕ). by_hash u (strip (35 ∷ []) u))
+        (sym (trimmed-space x t e))
+    by false e h = skipped-stop x t e ∙ ap (λ (u : List ℕ). by_hash u (strip (35 ∷ []) u))
+        (sym (trimmed-stop x t e))
 
 -- nothing more is skipped
 pub skipped_here : (t at : List ℕ) → at ≡ trimmed t → strip (35 ∷ []) at ≡ None → skipped t ≡ at
-skipped_here t at e h = behind_space t ∙ ap (λ (u : List ℕ). by_hash u (strip (35 ∷ []) u)) (sym e) ∙ ap (by_hash at) h
+skipped_here t at e h = behind_space t ∙ ap (λ (u : List ℕ). by_hash u (strip (35 ∷ []) u)) (sym e)
+    ∙ ap (by_hash at) h
 
 -- a comment is skipped
-pub skipped_on : (t at c : List ℕ) → at ≡ trimmed t → strip (35 ∷ []) at ≡ Some c → skipped t ≡ skipped_all (line_behind c)
-skipped_on t at c e h = behind_space t ∙ ap (λ (u : List ℕ). by_hash u (strip (35 ∷ []) u)) (sym e) ∙ ap (by_hash at) h ∙ comment c
+pub skipped_on : (t at c : List ℕ) → at ≡ trimmed t → strip (35 ∷ []) at ≡ Some c
+    → skipped t ≡ skipped_all (line_behind c)
+skipped_on t at c e h = behind_space t ∙ ap (λ (u : List ℕ). by_hash u (strip (35 ∷ []) u)) (sym e)
+    ∙ ap (by_hash at) h ∙ comment c

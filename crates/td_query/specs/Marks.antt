@@ -1,4 +1,5 @@
--- What is kept of a tracker's three queries for each stanza, so that each query is evaluated once on it. This project's own.
+-- What is kept of a tracker's three queries for each stanza,
+-- so that each query is evaluated once on it. This project's own.
 use Rattle.std.specs.Prelude.{◌≡◌, ℕ, ◌||◌, false, List, map, slice_get, if◌then◌else◌}
 use Rattle.std.specs.List.{list_any}
 use Rattle.std.specs.Option.{option_map_or}
@@ -14,7 +15,11 @@ use Rattle.td_query.specs.Truth.{truth}
 
 -- which of the queries hold on a stanza's fields, with these patterns
 abbrev pub mark_by : List Re → Tracking → List Entry → Mark
-mark_by patterns t fields = record { affected = truth patterns fields t.affected; good = truth patterns fields t.good; bad = truth patterns fields t.bad }
+mark_by patterns t fields = record {
+  affected = truth patterns fields t.affected;
+  good = truth patterns fields t.good;
+  bad = truth patterns fields t.bad;
+}
 
 -- the same with the tracker's own
 abbrev pub mark_on : Tracking → List Entry → Mark
@@ -33,12 +38,19 @@ no_mark = record { affected = false; good = false; bad = false }
 
 -- what holds on one or the other
 abbrev pub either_mark : Mark → Mark → Mark
-either_mark m n = record { affected = m.affected || n.affected; good = m.good || n.good; bad = m.bad || n.bad }
+either_mark m n = record {
+  affected = m.affected || n.affected;
+  good = m.good || n.good;
+  bad = m.bad
+      || n.bad;
+}
 
--- what holds on the stanza of the package with a number, where it is on the architecture at a place or of `all`
+-- what holds on the stanza of the package with a number,
+-- where it is on the architecture at a place or of `all`
 abbrev pub mark_there : Contents → List Re → Tracking → ℕ → ℕ → Mark
 mark_there a patterns t place number =
-    option_map_or (λ b. if is_on place b.head.home then mark_by patterns t (package_fields a b) else no_mark) (slice_get a.binaries number) no_mark
+    option_map_or (λ b. if is_on place b.head.home then mark_by patterns t (package_fields a b)
+    else no_mark) (slice_get a.binaries number) no_mark
 
 -- a mark, and what holds for some of these numbers
 abbrev pub gathered : Mark → (ℕ → Mark) → List ℕ → Mark
@@ -51,4 +63,6 @@ gathered own marks numbers = record {
 -- what holds on some stanza of the row of the source with a number on the architecture at a place
 abbrev pub row_mark : Contents → List Re → Tracking → ℕ → ℕ → Mark
 row_mark a patterns t source place =
-    option_map_or (λ s. gathered (mark_by patterns t (source_fields a s)) (mark_there a patterns t place) (numbers_of a s.head.name)) (slice_get a.sources source) no_mark
+    option_map_or
+    (λ s. gathered (mark_by patterns t (source_fields a s)) (mark_there a patterns t place)
+    (numbers_of a s.head.name)) (slice_get a.sources source) no_mark

@@ -4,7 +4,8 @@ use Rattle.td_query.specs.declared.query.Query.{Query}
 use Rattle.td_query.specs.declared.query.Query.TheOpen.{Query-F}
 use Rattle.td_query.specs.declared.query.Query.TheFolds.{fold-Query}
 
--- a query: `true` or `false`; a text in a field; the pattern of a number in a field; `!`, `&` and `|`
+-- a query: `true` or `false`; a text in a field; the pattern of a number in a field; `!`, `&` and
+-- `|`
 pub data Shape : Type 0 where
   always : Bool → Shape
   text : List ℕ → List ℕ → Shape

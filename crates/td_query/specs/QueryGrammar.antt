@@ -1,5 +1,7 @@
--- The grammar of queries, by cases on the text: what a text reads as, and at which byte it goes wrong. This project's own, in the style of ben.
-use Rattle.std.specs.Prelude.{ℕ, zero, suc, ◌-◌, ◌==◌, max, true, false, List, [], ◌∷◌, ◌++◌, Option, Some, None, Result, Ok, Err, length, codes, if◌then◌else◌}
+-- The grammar of queries, by cases on the text:
+-- what a text reads as, and at which byte it goes wrong. This project's own, in the style of ben.
+use Rattle.std.specs.Prelude.{ℕ, zero, suc, ◌-◌, ◌==◌, max, true, false, List, [], ◌∷◌, ◌++◌}
+use Rattle.std.specs.Prelude.{Option, Some, None, Result, Ok, Err, length, codes, if◌then◌else◌}
 use Rattle.std.specs.Str.{bytes_eq}
 use Rattle.td_text.specs.Cut.{cut, strip}
 use Rattle.td_text.specs.Lines.{on_ok}
@@ -7,7 +9,8 @@ use Rattle.td_text.specs.Runs.{run, behind}
 use Rattle.td_query.specs.Query.{Shape, always, text, pattern, negated, all_of, any_of}
 use Rattle.td_query.specs.Tokens.{skipped, is_key_byte, common_len, pattern_in}
 
--- a pattern as it stands in a text: how much of the text is left at its opening `/`, and what stands between its slashes
+-- a pattern as it stands in a text:
+-- how much of the text is left at its opening `/`, and what stands between its slashes
 pub record Raw : Type 0 where
   pub left : ℕ
   pub raw : List ℕ
@@ -16,7 +19,8 @@ pub record Raw : Type 0 where
 abbrev pub Log : Type 0
 Log = List Raw
 
--- a query, the patterns so far and what follows; or how much of the text is left at the first byte that nothing can take, and the patterns before it
+-- a query, the patterns so far and what follows; or how much of the text is left at the first byte
+-- that nothing can take, and the patterns before it
 abbrev pub Read : Type 0
 Read = Result (Shape × Log × List ℕ) (ℕ × Log)
 
@@ -29,8 +33,10 @@ begun word = max (common_len word (codes "true")) (common_len word (codes "false
 -- `true` or `false`; another word is wrong at the first byte that leaves both
 unfoldable pub word_atom : Log → List ℕ → Read
 word_atom log at =
-    if bytes_eq (run is_key_byte at) (codes "true") then Ok (always true, log, behind is_key_byte at)
-    else (if bytes_eq (run is_key_byte at) (codes "false") then Ok (always false, log, behind is_key_byte at)
+    if bytes_eq (run is_key_byte at) (codes "true")
+    then Ok (always true, log, behind is_key_byte at)
+    else (if bytes_eq (run is_key_byte at) (codes "false")
+    then Ok (always false, log, behind is_key_byte at)
     else Err (length at - begun (run is_key_byte at), log))
 
 -- a text up to its closing `"`, if there is one
@@ -41,7 +47,12 @@ quote_atom log field (Some p) = Ok (text field p.0, log, p.1)
 -- a pattern up to its closing `/`, if there is one
 unfoldable pub slash_atom : Log → List ℕ → ℕ → Option (List ℕ × List ℕ) → Read
 slash_atom log field left None = Err (0, log)
-slash_atom log field left (Some p) = Ok (pattern field (length log), log ++ record { left = left; raw = p.0 } ∷ [], p.1)
+slash_atom log field left (Some p) = Ok (
+  pattern field (length log),
+  log
+      ++ record { left = left; raw = p.0 } ∷ [],
+  p.1,
+)
 
 -- a pattern behind its opening `/`, if there is one
 abbrev pub slashed : Log → List ℕ → ℕ → Option (List ℕ) → Read
@@ -68,7 +79,8 @@ tilde_atom log field t = tilded log field (length (skipped t)) (strip (codes "~"
 
 -- what stands behind a dot: the name of a field, right behind it
 unfoldable pub field_atom : Log → List ℕ → Read
-field_atom log t = if length (run is_key_byte t) == 0 then Err (length t, log) else tilde_atom log (run is_key_byte t) (behind is_key_byte t)
+field_atom log t = if length (run is_key_byte t) == 0 then Err (length t, log)
+    else tilde_atom log (run is_key_byte t) (behind is_key_byte t)
 
 -- a field behind its dot, or else a word
 abbrev pub dotted : Log → List ℕ → Option (List ℕ) → Read
@@ -104,24 +116,28 @@ or_else None f other = other
 or_else (Some t) f other = f t
 
 -- the parts so far, and with an `&` in front the next
-abbrev pub and_next : (Log → List ℕ → Read) → (List Shape → Log → List ℕ → Read) → List Shape → Log → List ℕ → Option (List ℕ) → Read
+abbrev pub and_next : (Log → List ℕ → Read) → (List Shape → Log → List ℕ → Read) → List Shape → Log
+    → List ℕ → Option (List ℕ) → Read
 and_next read more parts log t None = Ok (all_of parts, log, t)
 and_next read more parts log t (Some u) = on_ok (read log u) (λ x. more (parts ++ x.0 ∷ []) x.1 x.2)
 
 -- {"&" not} behind the parts so far, at most so many
 unfoldable pub more_and : (Log → List ℕ → Read) → ℕ → List Shape → Log → List ℕ → Read
 more_and read zero parts log t = Ok (all_of parts, log, t)
-more_and read (suc n) parts log t = and_next read (more_and read n) parts log t (behind_mark (codes "&") t)
+more_and read (suc n) parts log t = and_next read (more_and read n) parts log t
+    (behind_mark (codes "&") t)
 
 -- the parts so far, and with a `|` in front the next
-abbrev pub or_next : (Log → List ℕ → Read) → (List Shape → Log → List ℕ → Read) → List Shape → Log → List ℕ → Option (List ℕ) → Read
+abbrev pub or_next : (Log → List ℕ → Read) → (List Shape → Log → List ℕ → Read) → List Shape → Log
+    → List ℕ → Option (List ℕ) → Read
 or_next read more parts log t None = Ok (any_of parts, log, t)
 or_next read more parts log t (Some u) = on_ok (read log u) (λ x. more (parts ++ x.0 ∷ []) x.1 x.2)
 
 -- {"|" and} behind the parts so far, at most so many
 unfoldable pub more_or : (Log → List ℕ → Read) → ℕ → List Shape → Log → List ℕ → Read
 more_or read zero parts log t = Ok (any_of parts, log, t)
-more_or read (suc n) parts log t = or_next read (more_or read n) parts log t (behind_mark (codes "|") t)
+more_or read (suc n) parts log t = or_next read (more_or read n) parts log t
+    (behind_mark (codes "|") t)
 
 -- not {"&" not}; each takes a byte at least, so there are no more than bytes
 abbrev pub and_with : (Log → List ℕ → Read) → Log → List ℕ → Read
@@ -129,7 +145,8 @@ and_with read log t = on_ok (read log t) (λ x. more_and read (length x.2) (x.0 
 
 -- and {"|" and}
 unfoldable pub or_with : (Log → List ℕ → Read) → Log → List ℕ → Read
-or_with read log t = on_ok (and_with read log t) (λ x. more_or (and_with read) (length x.2) (x.0 ∷ []) x.1 x.2)
+or_with read log t = on_ok (and_with read log t)
+    (λ x. more_or (and_with read) (length x.2) (x.0 ∷ []) x.1 x.2)
 
 -- "!" not | "(" or ")" | atom, with so many brackets and `!` left to open
 unfoldable pub not_in : ℕ → Log → List ℕ → Read

@@ -36,8 +36,11 @@ ArePatterns log = AllByRecursion (λ r. IsPattern default_config (source_of r)) 
 
 -- `regex` has an error for the text, and it is another than want of memory
 abbrev pub IsRefusedForCause : List ℕ → Type 0
-IsRefusedForCause text = (e : Error) × (e ≢ OutOfMemory) × IsRefusal default_config text e × IsRightKind default_config text e
+IsRefusedForCause text = (e : Error) × (e ≢ OutOfMemory) × IsRefusal default_config text e
+    × IsRightKind default_config text e
 
--- patterns as `Regex::new` gives them: each is what the grammar of `regex` reads in its text, with the default options
+-- patterns as `Regex::new` gives them:
+-- each is what the grammar of `regex` reads in its text, with the default options
 abbrev pub AreDefault : List Regex → Type 0
-AreDefault patterns = AllByRecursion (λ r. (regex_config r ≡ default_config) × IsReadFromSource r) patterns
+AreDefault patterns = AllByRecursion
+    (λ r. (regex_config r ≡ default_config) × IsReadFromSource r) patterns

@@ -15,19 +15,23 @@ use Rattle.td_query.specs.QueryLaws.{Holds}
 use Rattle.td_query.specs.Statuses.{row_satisfies, status_at}
 use Rattle.td_query.specs.Tracking.{Tracking}
 
--- a stanza of a source's row: the source's own, or that of one of its packages on the architecture or of `all`
+-- a stanza of a source's row:
+-- the source's own, or that of one of its packages on the architecture or of `all`
 abbrev pub IsRowStanza : Contents → KeptSource → ℕ → List Entry → Type 0
 IsRowStanza a s place fields =
     (fields ≡ source_fields a s)
-    ⊎ ((b : KeptBinary) × Contains a.binaries b × IsTrue (is_of_on s.head.name place b) × (fields ≡ package_fields a b))
+    ⊎ ((b : KeptBinary) × Contains a.binaries b × IsTrue (is_of_on s.head.name place b)
+    × (fields ≡ package_fields a b))
 
 -- some stanza of the row satisfies the query
 abbrev pub SomeSatisfies : Contents → List Re → Shape → KeptSource → ℕ → Type 0
-SomeSatisfies a patterns query s place = (fields : List Entry) × IsRowStanza a s place fields × Holds patterns fields query
+SomeSatisfies a patterns query s place = (fields : List Entry) × IsRowStanza a s place fields
+    × Holds patterns fields query
 
 -- so a row satisfies it
 abbrev pub RowsSatisfyByAStanza : Type 0
-RowsSatisfyByAStanza = (a : Contents) (patterns : List Re) (query : Shape) (s : KeptSource) (place : ℕ) →
+RowsSatisfyByAStanza = (a : Contents) (patterns : List Re) (query : Shape) (s : KeptSource)
+    (place : ℕ) →
     IsTrue (row_satisfies a patterns query s place) ↔ SomeSatisfies a patterns query s place
 
 -- the status where a row is affected, good or bad
@@ -42,8 +46,11 @@ pub record IsGraded (Affected IsGood IsBad : Type 0) (status : Option Status) : 
 abbrev pub RowsAreGradedByTheirStanzas : Type 0
 RowsAreGradedByTheirStanzas = (a : Contents) (t : Tracking) (source place : ℕ) (s : KeptSource) →
     slice_get a.sources source ≡ Some s → IsTrue (has_row a.table s.head.archs place) →
-    IsGraded (SomeSatisfies a t.patterns t.affected s place) (SomeSatisfies a t.patterns t.good s place) (SomeSatisfies a t.patterns t.bad s place) (status_at a t source place)
+    IsGraded (SomeSatisfies a t.patterns t.affected s place)
+    (SomeSatisfies a t.patterns t.good s place) (SomeSatisfies a t.patterns t.bad s place)
+    (status_at a t source place)
 
 -- what is no row has none
 abbrev pub RowsAloneHaveAStatus : Type 0
-RowsAloneHaveAStatus = (a : Contents) (t : Tracking) (source place : ℕ) → has_row_at a source place ≡ false → status_at a t source place ≡ None
+RowsAloneHaveAStatus = (a : Contents) (t : Tracking) (source place : ℕ)
+    → has_row_at a source place ≡ false → status_at a t source place ≡ None

@@ -1,5 +1,7 @@
--- The status of a row: whether a transition affects it, and how far its rebuild has come. This project's own.
-use Rattle.std.specs.Prelude.{ℕ, ◌&&◌, ◌||◌, Bool, true, false, List, Option, Some, None, is_some, codes, filter, length, map, slice_get, if◌then◌else◌}
+-- The status of a row: whether a transition affects it, and how far its rebuild has come.
+-- This project's own.
+use Rattle.std.specs.Prelude.{ℕ, ◌&&◌, ◌||◌, Bool, true, false, List, Option, Some, None, is_some}
+use Rattle.std.specs.Prelude.{codes, filter, length, map, slice_get, if◌then◌else◌}
 use Rattle.std.specs.List.{list_any, range_with_len}
 use Rattle.std.specs.Option.{option_map_or}
 use Rattle.regex.specs.Patterns.{Re}
@@ -22,12 +24,15 @@ status_name Bad = codes "bad"
 status_name Partial = codes "partial"
 status_name Unknown = codes "unknown"
 
--- some stanza of the row satisfies the query: the source's own, or that of one of the source's packages on the architecture or of `all`
+-- some stanza of the row satisfies the query:
+-- the source's own, or that of one of the source's packages on the architecture or of `all`
 abbrev pub row_satisfies : Contents → List Re → Shape → KeptSource → ℕ → Bool
 row_satisfies a patterns query s place =
-    truth patterns (source_fields a s) query || list_any (λ b. is_of_on s.head.name place b && truth patterns (package_fields a b) query) a.binaries
+    truth patterns (source_fields a s) query || list_any
+    (λ b. is_of_on s.head.name place b && truth patterns (package_fields a b) query) a.binaries
 
--- an affected row is Partial where it is good and bad, Good or Bad where it is one of them, else Unknown
+-- an affected row is Partial where it is good and bad,
+-- Good or Bad where it is one of them, else Unknown
 abbrev pub graded : Bool → Bool → Status
 graded true true = Partial
 graded true false = Good
@@ -39,24 +44,29 @@ abbrev pub status_where : Bool → Bool → Bool → Option Status
 status_where false good bad = None
 status_where true good bad = Some (graded good bad)
 
--- the status of a source's row on the architecture at a place; none where the source has no row there
+-- the status of a source's row on the architecture at a place;
+-- none where the source has no row there
 abbrev pub row_status : Contents → Tracking → KeptSource → ℕ → Option Status
 row_status a t s place =
     if has_row a.table s.head.archs place
-    then status_where (row_satisfies a t.patterns t.affected s place) (row_satisfies a t.patterns t.good s place) (row_satisfies a t.patterns t.bad s place)
+    then status_where (row_satisfies a t.patterns t.affected s place)
+    (row_satisfies a t.patterns t.good s place) (row_satisfies a t.patterns t.bad s place)
     else None
 
 -- the same of the source with a number
 abbrev pub status_at : Contents → Tracking → ℕ → ℕ → Option Status
-status_at a t source place = option_map_or (λ s. row_status a t s place) (slice_get a.sources source) None
+status_at a t source place = option_map_or (λ s. row_status a t s place)
+    (slice_get a.sources source) None
 
 -- the same of a key: of the source with its name, on the architecture with its name
 abbrev pub status_of : Contents → Tracking → Key → Option Status
-status_of a t k = option_map_or (λ source. option_map_or (status_at a t source) (place_of a.table k.arch) None) (number_named a k.source) None
+status_of a t k = option_map_or (λ source. option_map_or (status_at a t source)
+    (place_of a.table k.arch) None) (number_named a k.source) None
 
 -- a source is affected where some row of it is
 abbrev pub is_affected : Contents → Tracking → KeptSource → Bool
-is_affected a t s = list_any (λ place. is_some (row_status a t s place)) (range_with_len 0 (length a.table))
+is_affected a t s = list_any (λ place. is_some (row_status a t s place))
+    (range_with_len 0 (length a.table))
 
 -- the same of the source with a number
 abbrev pub is_affected_at : Contents → Tracking → ℕ → Bool

@@ -1,7 +1,9 @@
 -- Why a text is refused as a tracker. This project's own.
-use Rattle.std.specs.Prelude.{◌≡◌, ℕ, ◌-◌, List, ◌∷◌, ◌++◌, None, Result, Ok, Err, IsSome, codes, length}
+use Rattle.std.specs.Prelude.{◌≡◌, ℕ, ◌-◌, List, ◌∷◌, ◌++◌, None, Result, Ok, Err, IsSome, codes}
+use Rattle.std.specs.Prelude.{length}
 use Rattle.td_query.specs.declared.tracker_fault.TrackerFault.{TrackerFault}
-use Rattle.td_query.specs.declared.tracker_fault.TrackerFault.TheVariants.{Syntax, MissingKey, BadPattern, NoMemory}
+use Rattle.td_query.specs.declared.tracker_fault.TrackerFault.TheVariants.{Syntax, MissingKey}
+use Rattle.td_query.specs.declared.tracker_fault.TrackerFault.TheVariants.{BadPattern, NoMemory}
 use Rattle.td_query.specs.declared.tracker_fault.TrackerKey.{TrackerKey}
 use Rattle.td_query.specs.declared.tracker_fault.TrackerKey.TheVariants.{IsAffected, IsGood, IsBad}
 use Rattle.td_query.specs.QueryGrammar.{Raw, Log}
@@ -21,7 +23,8 @@ fault_name (MissingKey key) = codes "MissingKey"
 fault_name (BadPattern place) = codes "BadPattern"
 fault_name NoMemory = codes "NoMemory"
 
--- of these patterns the one whose opening `/` stands at the place is refused, in a text of so many bytes, and those before it are read
+-- of these patterns the one whose opening `/` stands at the place is refused,
+-- in a text of so many bytes, and those before it are read
 pub record IsFirstRefused (size : ℕ) (log : Log) (place : ℕ) : Type 0 where
   pub before : Log
   pub at : Raw
@@ -42,11 +45,14 @@ abbrev pub log_in : Result Said (ℕ × Log) → Log
 log_in (Ok s) = s.log
 log_in (Err e) = e.1
 
--- the fault of a text: its first wrong byte, where the patterns before it are read; or the first pattern that is refused; or else what is missing. Want of memory may stand in place of any answer
+-- the fault of a text: its first wrong byte, where the patterns before it are read; or the first
+-- pattern that is refused; or else what is missing. Want of memory may stand in place of any answer
 abbrev pub FaultOf : List ℕ → TrackerFault → Type 0
-FaultOf text (Syntax place) = (left : ℕ) × (log : Log) × (said_in text ≡ Err (left, log)) × ArePatterns log × (place ≡ length text - left)
+FaultOf text (Syntax place) = (left : ℕ) × (log : Log) × (said_in text ≡ Err (left, log))
+    × ArePatterns log × (place ≡ length text - left)
 FaultOf text (BadPattern place) = IsFirstRefused (length text) (log_in (said_in text)) place
-FaultOf text (MissingKey key) = (s : Said) × (said_in text ≡ Ok s) × ArePatterns s.log × IsMissing s key
+FaultOf text (MissingKey key) = (s : Said) × (said_in text ≡ Ok s) × ArePatterns s.log
+    × IsMissing s key
 FaultOf text NoMemory = Unit {0}
 
 -- the fault of patterns alone

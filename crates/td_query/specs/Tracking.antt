@@ -7,7 +7,8 @@ use Rattle.td_query.specs.Query.{Shape, shape_of}
 use Rattle.td_query.specs.Sources.{source_of, AreDefault, ArePatterns}
 use Rattle.td_query.specs.TrackerGrammar.{Said, said_in}
 
--- a title, three queries, and the patterns that they name by their numbers: as they are written and as `regex` reads them
+-- a title, three queries, and the patterns that they name by their numbers: as they are written and
+-- as `regex` reads them
 pub record Tracking : Type 0 where
   pub title : List ℕ
   pub affected : Shape

@@ -16,7 +16,8 @@ pair p = (p.0.now, p.1.now)
 abbrev pub raw_of : RawPattern → Raw
 raw_of p = record { left = p.left; raw = p.raw.now }
 
--- a query and what follows it, with the patterns so far, are what reading gives; so is a fault, unless it is want of memory
+-- a query and what follows it, with the patterns so far, are what reading gives; so is a fault,
+-- unless it is want of memory
 abbrev pub Gives : Result (Query × Bor (List ℕ)) ReadFault → List RawPattern → Read → Type 0
 Gives (Ok x) log read = read ≡ Ok (shape_of x.0, map raw_of log, x.1.now)
 Gives (Err NoMemory) log read = Unit {0}

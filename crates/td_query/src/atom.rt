@@ -1,7 +1,8 @@
 //! How the parts of a query without `&`, `|` and `!` are read.
 ghost use Rattle.std.specs.Prelude.{◌<◌, ◌≤◌, IfOk, List, length, map};
 ghost use Rattle.td_query.specs.declared.read_fault.RawPattern.{RawPattern};
-ghost use Rattle.td_query.specs.QueryGrammar.{atom, field_atom, slash_atom, tested, tilde_atom, word_atom};
+ghost use Rattle.td_query.specs.QueryGrammar.{atom, field_atom, slash_atom, tested, tilde_atom};
+ghost use Rattle.td_query.specs.QueryGrammar.{word_atom};
 ghost use Rattle.td_query.specs.Tokens.{pattern_in};
 ghost use Rattle.td_query.specs.Views.{Gives, raw_of};
 
@@ -36,7 +37,8 @@ fn read_slash<'a>(
     text: &'a str,
     log: &mut Vec<RawPattern<'a>>,
 ) -> Result<(Query<'a>, &'a str), ReadFault>
-    ensures gives { Gives result log.new.items (slash_atom (map raw_of log.old.items) field.now left (pattern_in text.now)) }
+    ensures gives { Gives result log.new.items
+        (slash_atom (map raw_of log.old.items) field.now left (pattern_in text.now)) }
     ensures shorter { IfOk result (λ x. length x.1.now ≤ length text.now) }
 {
     match read_pattern(text) {
@@ -56,7 +58,8 @@ fn read_test<'a>(
     text: &'a str,
     log: &mut Vec<RawPattern<'a>>,
 ) -> Result<(Query<'a>, &'a str), ReadFault>
-    ensures gives { Gives result log.new.items (tested (map raw_of log.old.items) field.now text.now) }
+    ensures gives { Gives result log.new.items
+        (tested (map raw_of log.old.items) field.now text.now) }
     ensures shorter { IfOk result (λ x. length x.1.now ≤ length text.now) }
 {
     let at = skip(text);
@@ -79,7 +82,8 @@ fn read_tilde<'a>(
     text: &'a str,
     log: &mut Vec<RawPattern<'a>>,
 ) -> Result<(Query<'a>, &'a str), ReadFault>
-    ensures gives { Gives result log.new.items (tilde_atom (map raw_of log.old.items) field.now text.now) }
+    ensures gives { Gives result log.new.items
+        (tilde_atom (map raw_of log.old.items) field.now text.now) }
     ensures shorter { IfOk result (λ x. length x.1.now ≤ length text.now) }
 {
     let at = skip(text);

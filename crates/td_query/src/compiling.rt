@@ -3,7 +3,8 @@ ghost use Rattle.std.specs.Prelude.{◌≡◌, IfErr, IfOk, IsErrOf, map};
 ghost use Rattle.regex.specs.Failures.{IsPattern};
 ghost use Rattle.regex.specs.Patterns.{default_config};
 ghost use Rattle.regex.specs.Strings.{regex_config, regex_source, IsReadFromSource};
-ghost use Rattle.td_query.specs.Sources.{AreDefault, ArePatterns, IsRefusedForCause, source_of, unescaped};
+ghost use Rattle.td_query.specs.Sources.{AreDefault, ArePatterns, IsRefusedForCause, source_of};
+ghost use Rattle.td_query.specs.Sources.{unescaped};
 ghost use Rattle.td_query.specs.TrackerFaults.{IsPatternFault};
 ghost use Rattle.td_query.specs.Views.{raw_of};
 
@@ -49,7 +50,8 @@ fn compiled(alloc: Global, raw: &str) -> Result<Regex, PatternFault>
 
 /// The patterns of a text of so many bytes.
 pub fn compile(alloc: Global, size: usize, log: &[RawPattern]) -> Result<Vec<Regex>, TrackerFault>
-    ensures sources { IfOk result (λ ps. map regex_source ps.items ≡ map source_of (map raw_of log.now)) }
+    ensures sources { IfOk result
+        (λ ps. map regex_source ps.items ≡ map source_of (map raw_of log.now)) }
     ensures read { IfOk result (λ ps. ArePatterns (map raw_of log.now)) }
     ensures compiled { IfOk result (λ ps. AreDefault ps.items) }
     ensures refused { IfErr result (IsPatternFault size (map raw_of log.now)) }

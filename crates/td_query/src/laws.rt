@@ -1,6 +1,10 @@
 //! What queries and statuses mean, as laws over their definitions.
-ghost use Rattle.td_query.specs.QueryLaws.{AbsentFieldsNeverMatch, ConjunctionsAreAnd, ConstantsAreTheirNames, DisjunctionsAreOr, NegationsAreNot, PatternsMatchWhereTheyAreFound, TextsMatchWhereTheyStand};
-ghost use Rattle.td_query.specs.StatusLaws.{RowsAloneHaveAStatus, RowsAreGradedByTheirStanzas, RowsSatisfyByAStanza};
+ghost use Rattle.td_query.specs.QueryLaws.{AbsentFieldsNeverMatch, ConjunctionsAreAnd};
+ghost use Rattle.td_query.specs.QueryLaws.{ConstantsAreTheirNames, DisjunctionsAreOr};
+ghost use Rattle.td_query.specs.QueryLaws.{NegationsAreNot, PatternsMatchWhereTheyAreFound};
+ghost use Rattle.td_query.specs.QueryLaws.{TextsMatchWhereTheyStand};
+ghost use Rattle.td_query.specs.StatusLaws.{RowsAloneHaveAStatus, RowsAreGradedByTheirStanzas};
+ghost use Rattle.td_query.specs.StatusLaws.{RowsSatisfyByAStanza};
 
 /// `!`, `&` and `|` are those of logic.
 pub fn queries_are_as_in_logic()

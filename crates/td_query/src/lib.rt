@@ -25,10 +25,6 @@ mod read_fault;
 mod row_mark;
 mod standing;
 mod status;
-#[cfg(test)]
-mod status_tests;
-#[cfg(test)]
-mod tests;
 mod tokens;
 mod tracker;
 mod tracker_fault;

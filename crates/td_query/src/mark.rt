@@ -24,7 +24,7 @@ pub struct Mark {
 impl Mark {
     /// None of them.
     pub fn none() -> Mark
-        ensures { result ≡ no_mark }
+        ensures none { result ≡ no_mark }
     {
         Mark {
             affected: false,
@@ -35,7 +35,7 @@ impl Mark {
 
     /// Those that hold here or there.
     pub fn or(self, other: Mark) -> Mark
-        ensures { result ≡ either_mark self other }
+        ensures either { result ≡ either_mark self other }
     {
         Mark {
             affected: self.affected || other.affected,
@@ -48,10 +48,14 @@ impl Mark {
     pub fn status(self) -> Option<Status>
         ensures value { result ≡ status_where self.affected self.good self.bad }
         ensures unaffected { (result ≡ None) ↔ (self.affected ≡ false) }
-        ensures good { (result ≡ Some Status.Good) ↔ ((self.affected ≡ true) × (self.good ≡ true) × (self.bad ≡ false)) }
-        ensures bad { (result ≡ Some Status.Bad) ↔ ((self.affected ≡ true) × (self.good ≡ false) × (self.bad ≡ true)) }
-        ensures partial { (result ≡ Some Status.Partial) ↔ ((self.affected ≡ true) × (self.good ≡ true) × (self.bad ≡ true)) }
-        ensures unknown { (result ≡ Some Status.Unknown) ↔ ((self.affected ≡ true) × (self.good ≡ false) × (self.bad ≡ false)) }
+        ensures good { (result ≡ Some Status.Good)
+            ↔ ((self.affected ≡ true) × (self.good ≡ true) × (self.bad ≡ false)) }
+        ensures bad { (result ≡ Some Status.Bad)
+            ↔ ((self.affected ≡ true) × (self.good ≡ false) × (self.bad ≡ true)) }
+        ensures partial { (result ≡ Some Status.Partial)
+            ↔ ((self.affected ≡ true) × (self.good ≡ true) × (self.bad ≡ true)) }
+        ensures unknown { (result ≡ Some Status.Unknown)
+            ↔ ((self.affected ≡ true) × (self.good ≡ false) × (self.bad ≡ false)) }
     {
         if !self.affected {
             return None;
@@ -67,8 +71,9 @@ impl Mark {
 
 /// Which of a tracker's queries hold on a stanza.
 pub fn mark_of(tracker: &Tracker<'_>, stanza: &Stanza, matchers: &mut Vec<Matcher>) -> Mark
-    requires { IsDistinct (fields_of stanza.now) }
-    ensures mark { result ≡ mark_by (map matcher_pattern matchers.old.items) (tracking tracker.now) (fields_of stanza.now) }
+    requires distinct { IsDistinct (fields_of stanza.now) }
+    ensures mark { result ≡ mark_by (map matcher_pattern matchers.old.items)
+        (tracking tracker.now) (fields_of stanza.now) }
     ensures same { map matcher_pattern matchers.new.items ≡ map matcher_pattern matchers.old.items }
 {
     let affected = holds(&tracker.affected, stanza, matchers);

@@ -18,7 +18,9 @@ pub fn mark_packages(
     tracker: &Tracker<'_>,
     matchers: &mut Vec<Matcher>,
 ) -> Result<Vec<Mark>, AllocError>
-    ensures marks { IfOk result (λ marks. marks.items ≡ map (λ b. mark_by (map matcher_pattern matchers.old.items) (tracking tracker.now) (package_fields archive.now b)) archive.now.binaries) }
+    ensures marks { IfOk result
+        (λ marks. marks.items ≡ map (λ b. mark_by (map matcher_pattern matchers.old.items)
+        (tracking tracker.now) (package_fields archive.now b)) archive.now.binaries) }
     ensures same { map matcher_pattern matchers.new.items ≡ map matcher_pattern matchers.old.items }
 {
     let mut marks = Vec::with_capacity(alloc, archive.binary_count())?;
@@ -36,7 +38,9 @@ pub fn mark_sources(
     tracker: &Tracker<'_>,
     matchers: &mut Vec<Matcher>,
 ) -> Result<Vec<Mark>, AllocError>
-    ensures marks { IfOk result (λ marks. marks.items ≡ map (λ s. mark_by (map matcher_pattern matchers.old.items) (tracking tracker.now) (source_fields archive.now s)) archive.now.sources) }
+    ensures marks { IfOk result
+        (λ marks. marks.items ≡ map (λ s. mark_by (map matcher_pattern matchers.old.items)
+        (tracking tracker.now) (source_fields archive.now s)) archive.now.sources) }
     ensures same { map matcher_pattern matchers.new.items ≡ map matcher_pattern matchers.old.items }
 {
     let mut marks = Vec::with_capacity(alloc, archive.source_count())?;

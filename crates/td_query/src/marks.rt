@@ -19,7 +19,8 @@ pub struct Marks {
 
 impl Marks {
     ghost use Rattle.std.specs.Prelude.{◌≡◌, IfOk, map};
-    ghost use Rattle.td_query.specs.Marks.{AreMarks, mark_there as mark_there_of, row_mark as row_mark_of};
+    ghost use Rattle.td_query.specs.Marks.{AreMarks, mark_there as mark_there_of};
+    ghost use Rattle.td_query.specs.Marks.{row_mark as row_mark_of};
     ghost use Rattle.td_query.specs.Statuses.{affected_names, is_affected_at, status_at};
     ghost use Rattle.td_query.specs.Tracking.{Tracking, tracking};
 
@@ -29,7 +30,7 @@ impl Marks {
         archive: &Archive<'_, '_>,
         tracker: &Tracker<'_>,
     ) -> Result<Marks, AllocError>
-        ensures { IfOk result (AreMarks archive.now (tracking tracker.now)) }
+        ensures marks { IfOk result (AreMarks archive.now (tracking tracker.now)) }
     {
         let mut matchers = matchers_of(alloc, tracker.patterns.as_slice())?;
         let packages = mark_packages(alloc, archive, tracker, &mut matchers)?;
@@ -39,7 +40,8 @@ impl Marks {
 
     // What holds on the stanza of the package with a number, if it is there.
     fn mark_there(&self, archive: &Archive<'_, '_>, number: usize, place: usize) -> Mark
-        ensures { (t : Tracking) → AreMarks archive.now t self.now → result ≡ mark_there_of archive.now t.patterns t place number }
+        ensures mark { (t : Tracking) → AreMarks archive.now t self.now
+            → result ≡ mark_there_of archive.now t.patterns t place number }
     {
         match archive.binary(number) {
             Some(binary) if is_there(place, binary.arch) => match self.packages.get(number) {
@@ -52,7 +54,8 @@ impl Marks {
 
     // What holds on some stanza of the row.
     fn row_mark(&self, archive: &Archive<'_, '_>, source: usize, place: usize) -> Mark
-        ensures { (t : Tracking) → AreMarks archive.now t self.now → result ≡ row_mark_of archive.now t.patterns t source place }
+        ensures mark { (t : Tracking) → AreMarks archive.now t self.now
+            → result ≡ row_mark_of archive.now t.patterns t source place }
     {
         let Some(found) = archive.source_at(source) else {
             return Mark::none();
@@ -70,7 +73,8 @@ impl Marks {
     /// The status of the row of the source with a number on the architecture at a place, where
     /// there is such a row and it is affected. The archive is the one that the marks are of.
     pub fn status(&self, archive: &Archive<'_, '_>, source: usize, place: usize) -> Option<Status>
-        ensures { (t : Tracking) → AreMarks archive.now t self.now → result ≡ status_at archive.now t source place }
+        ensures status { (t : Tracking) → AreMarks archive.now t self.now
+            → result ≡ status_at archive.now t source place }
     {
         if place >= archive.arch_count() || !archive.has_row(source, place) {
             return None;
@@ -80,7 +84,8 @@ impl Marks {
 
     /// Whether some row of the source with a number is affected.
     pub fn is_affected(&self, archive: &Archive<'_, '_>, source: usize) -> bool
-        ensures { (t : Tracking) → AreMarks archive.now t self.now → result ≡ is_affected_at archive.now t source }
+        ensures affected { (t : Tracking) → AreMarks archive.now t self.now
+            → result ≡ is_affected_at archive.now t source }
     {
         for place in 0..archive.arch_count() {
             if self.status(archive, source, place).is_some() {
@@ -96,7 +101,8 @@ impl Marks {
         alloc: Global,
         archive: &Archive<'_, 'a>,
     ) -> Result<Vec<&'a str>, AllocError>
-        ensures { (t : Tracking) → AreMarks archive.now t self.now → IfOk result (λ names. map (λ name. name.now) names.items ≡ affected_names archive.now t) }
+        ensures names { (t : Tracking) → AreMarks archive.now t self.now → IfOk result
+            (λ names. map (λ name. name.now) names.items ≡ affected_names archive.now t) }
     {
         let mut names = Vec::new(alloc);
         for number in 0..archive.source_count() {

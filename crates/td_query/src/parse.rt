@@ -18,7 +18,7 @@ pub const MAX_NESTING: u8 = 100;
 // What follows a mark, where it stands in front.
 #[tactic(auto, unfolding(crate::specs::QueryGrammar::behind_mark))]
 fn behind<'a>(text: &'a str, mark: &str) -> Option<&'a str>
-    requires { length mark.now ≡ 1 }
+    requires one { length mark.now ≡ 1 }
     ensures value { option_map (λ x. x.now) result ≡ behind_mark mark.now text.now }
     ensures shorter { IfSome result (λ x. length x.now < length text.now) }
 {
@@ -28,7 +28,8 @@ fn behind<'a>(text: &'a str, mark: &str) -> Option<&'a str>
 // Takes the closing bracket behind a query.
 #[tactic(auto, unfolding(crate::specs::QueryGrammar::closed))]
 fn close<'a>(inner: Query<'a>, text: &'a str) -> Result<(Query<'a>, &'a str), ReadFault>
-    ensures gives { (log : List RawPattern) → Gives result log (closed (shape_of inner.entry, map raw_of log, text.now)) }
+    ensures gives { (log : List RawPattern)
+        → Gives result log (closed (shape_of inner.entry, map raw_of log, text.now)) }
     ensures shorter { IfOk result (λ x. length x.1.now < length text.now) }
 {
     let at = skip(text);

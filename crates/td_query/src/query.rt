@@ -18,7 +18,7 @@ pub enum Query<'a> {
 
 /// What an `&` between the parts makes of them; one part stands for itself.
 pub fn all_of(mut parts: Vec<Query<'_>>) -> Query<'_>
-    ensures { shape_of result ≡ all_of_shapes (map shape_of parts.entry.items) }
+    ensures shape { shape_of result ≡ all_of_shapes (map shape_of parts.entry.items) }
 {
     match parts.len() {
         1 => match parts.pop() {
@@ -31,7 +31,7 @@ pub fn all_of(mut parts: Vec<Query<'_>>) -> Query<'_>
 
 /// What a `|` between the parts makes of them; one part stands for itself.
 pub fn any_of(mut parts: Vec<Query<'_>>) -> Query<'_>
-    ensures { shape_of result ≡ any_of_shapes (map shape_of parts.entry.items) }
+    ensures shape { shape_of result ≡ any_of_shapes (map shape_of parts.entry.items) }
 {
     match parts.len() {
         1 => match parts.pop() {

@@ -12,7 +12,7 @@ use td_indices::Archive;
 
 /// Whether a package with this home is on the architecture at a place.
 pub fn is_there(place: usize, home: Option<usize>) -> bool
-    ensures { result ≡ is_on place home }
+    ensures there { result ≡ is_on place home }
 {
     match home {
         None => true,
@@ -28,7 +28,8 @@ fn mark_there(
     place: usize,
     matchers: &mut Vec<Matcher>,
 ) -> Mark
-    ensures mark { result ≡ mark_there_of archive.now (map matcher_pattern matchers.old.items) (tracking tracker.now) place number }
+    ensures mark { result ≡ mark_there_of archive.now (map matcher_pattern matchers.old.items)
+        (tracking tracker.now) place number }
     ensures same { map matcher_pattern matchers.new.items ≡ map matcher_pattern matchers.old.items }
 {
     match archive.binary(number) {
@@ -48,7 +49,8 @@ pub fn row_mark(
     place: usize,
     matchers: &mut Vec<Matcher>,
 ) -> Mark
-    ensures { result ≡ row_mark_of archive.now (map matcher_pattern matchers.old.items) (tracking tracker.now) source place }
+    ensures mark { result ≡ row_mark_of archive.now (map matcher_pattern matchers.old.items)
+        (tracking tracker.now) source place }
 {
     let Some(found) = archive.source_at(source) else {
         return Mark::none();

@@ -1,30 +1,32 @@
 //! Whether a text stands in a value as a word of its own.
 ghost use Rattle.std.specs.Prelude.{◌≡◌, ◌≤◌, length};
 ghost use Rattle.td_text.specs.Words.{is_name_byte as is_name_byte_of};
-ghost use Rattle.td_query.specs.Standing.{is_free_before as is_free_before_of, is_free_from as is_free_from_of, stands_at as stands_at_of, stands_in as stands_in_of};
+ghost use Rattle.td_query.specs.Standing.{is_free_before as is_free_before_of};
+ghost use Rattle.td_query.specs.Standing.{is_free_from as is_free_from_of};
+ghost use Rattle.td_query.specs.Standing.{stands_at as stands_at_of, stands_in as stands_in_of};
 
 fn is_name_byte(byte: u8) -> bool
-    ensures { result ≡ is_name_byte_of byte }
+    ensures name { result ≡ is_name_byte_of byte }
 {
     matches!(byte, b'a'..=b'z' | b'0'..=b'9' | b'+' | b'-' | b'.')
 }
 
 fn is_free_before(value: &[u8], i: usize) -> bool
-    requires { i ≤ length value.now }
-    ensures { result ≡ is_free_before_of value.now i }
+    requires within { i ≤ length value.now }
+    ensures free { result ≡ is_free_before_of value.now i }
 {
     i == 0 || !is_name_byte(value[i - 1])
 }
 
 fn is_free_from(value: &[u8], j: usize) -> bool
-    ensures { result ≡ is_free_from_of value.now j }
+    ensures free { result ≡ is_free_from_of value.now j }
 {
     j >= value.len() || !is_name_byte(value[j])
 }
 
 fn stands_at(text: &[u8], value: &[u8], i: usize) -> bool
-    requires { i ≤ length value.now }
-    ensures { result ≡ stands_at_of text.now value.now i }
+    requires within { i ≤ length value.now }
+    ensures stands { result ≡ stands_at_of text.now value.now i }
 {
     if value.len() - i < text.len() {
         return false;
@@ -36,7 +38,7 @@ fn stands_at(text: &[u8], value: &[u8], i: usize) -> bool
 /// Whether the text, not empty, stands in the value, bounded by its ends or by what no package's
 /// name has.
 pub fn stands_in(text: &[u8], value: &[u8]) -> bool
-    ensures { result ≡ stands_in_of text.now value.now }
+    ensures stands { result ≡ stands_in_of text.now value.now }
 {
     if text.is_empty() {
         return false;

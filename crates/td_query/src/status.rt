@@ -18,7 +18,7 @@ pub enum Status {
 impl Status {
     /// The name that a report prints.
     pub fn name(self) -> &'static str
-        ensures { result.now ≡ status_name self }
+        ensures name { result.now ≡ status_name self }
     {
         match self {
             Status::Good => "good",

@@ -1,9 +1,11 @@
 //! The tokens of a tracker, and what may stand between them.
-ghost use Rattle.std.specs.Prelude.{◌≡◌, ◌≤◌, ◌<◌, ◌+◌, IfSome, false, length, option_map, slice_index};
+ghost use Rattle.std.specs.Prelude.{◌≡◌, ◌≤◌, ◌<◌, ◌+◌, IfSome, false, length, option_map};
+ghost use Rattle.std.specs.Prelude.{slice_index};
 ghost use Rattle.std.specs.List.{prefix_len};
 ghost use Rattle.td_text.specs.Lines.{left_len};
 ghost use Rattle.td_text.specs.Runs.{behind, run};
-ghost use Rattle.td_query.specs.Tokens.{common_len as common_of, is_key_byte as is_key_byte_of, line_behind, pattern_end, pattern_in, skipped};
+ghost use Rattle.td_query.specs.Tokens.{common_len as common_of, is_key_byte as is_key_byte_of};
+ghost use Rattle.td_query.specs.Tokens.{line_behind, pattern_end, pattern_in, skipped};
 ghost use Rattle.td_query.specs.Views.{pair};
 
 use td_text::{cut_at, strip, trimmed};
@@ -36,13 +38,13 @@ pub fn skip(text: &str) -> &str
 }
 
 fn is_key_byte(byte: u8) -> bool
-    ensures { result ≡ is_key_byte_of byte }
+    ensures key { result ≡ is_key_byte_of byte }
 {
     matches!(byte, b'a'..=b'z' | b'A'..=b'Z' | b'0'..=b'9' | b'_' | b'-')
 }
 
 fn word_len(bytes: &[u8]) -> usize
-    ensures { result ≡ prefix_len is_key_byte_of bytes.now }
+    ensures run { result ≡ prefix_len is_key_byte_of bytes.now }
 {
     bytes.iter().take_while(|b| is_key_byte(**b)).count()
 }

@@ -32,7 +32,8 @@ pub struct Tracker<'a> {
 
 // The tracker of these keys, if none is missing.
 fn whole<'a>(keys: Keys<'a>, patterns: Vec<Regex>) -> Result<Tracker<'a>, TrackerKey>
-    ensures found { IfOk result (λ t. IsSaid (said keys.entry) (map regex_source patterns.items) (tracking t)) }
+    ensures found { IfOk result
+        (λ t. IsSaid (said keys.entry) (map regex_source patterns.items) (tracking t)) }
     ensures patterns { IfOk result (λ t. t.patterns.items ≡ patterns.items) }
     ensures missing { IfErr result (IsMissing (said keys.entry)) }
 {
@@ -97,7 +98,7 @@ impl<'a> Tracker<'a> {
 
     /// The title; empty where none was given.
     pub fn title(&self) -> &'a str
-        ensures { result.now ≡ (tracking self.now).title }
+        ensures title { result.now ≡ (tracking self.now).title }
     {
         self.title
     }
@@ -110,7 +111,8 @@ impl<'a> Tracker<'a> {
         archive: &Archive<'_, '_>,
         key: &Key,
     ) -> Result<Option<Status>, AllocError>
-        ensures { IfOk result (λ status. status ≡ status_of archive.now (tracking self.now) key.now) }
+        ensures status { IfOk result
+            (λ status. status ≡ status_of archive.now (tracking self.now) key.now) }
     {
         let Some(source) = archive.source_number(key.source()) else {
             return Ok(None);

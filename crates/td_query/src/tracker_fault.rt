@@ -15,7 +15,7 @@ pub enum TrackerKey {
 impl TrackerKey {
     /// The key as a tracker has it.
     pub fn name(self) -> &'static str
-        ensures { result.now ≡ key_name self }
+        ensures name { result.now ≡ key_name self }
     {
         match self {
             TrackerKey::IsAffected => "is_affected",
@@ -43,7 +43,7 @@ pub enum TrackerFault {
 impl TrackerFault {
     /// The name that is printed after `refused: `.
     pub fn name(self) -> &'static str
-        ensures { result.now ≡ fault_name self }
+        ensures name { result.now ≡ fault_name self }
     {
         match self {
             TrackerFault::Syntax(_) => "Syntax",

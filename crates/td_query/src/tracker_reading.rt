@@ -2,7 +2,9 @@
 ghost use Rattle.std.specs.Prelude.{◌≡◌, ◌≤◌, ◌<◌, IfOk, IfSome, length, option_map, codes};
 ghost use Rattle.td_text.specs.Cut.{strip as strip_of};
 ghost use Rattle.td_query.specs.Tokens.{skipped};
-ghost use Rattle.td_query.specs.TrackerGrammar.{ended as ended_of, entries, entry_at, front as front_of, nothing_said, other_value, title_value, value_at};
+ghost use Rattle.td_query.specs.TrackerGrammar.{ended as ended_of, entries, entry_at};
+ghost use Rattle.td_query.specs.TrackerGrammar.{front as front_of, nothing_said, other_value};
+ghost use Rattle.td_query.specs.TrackerGrammar.{title_value, value_at};
 ghost use Rattle.td_query.specs.TrackerViews.{GivesAll, GivesSaid, said};
 
 use crate::parse::read_query;
@@ -24,7 +26,7 @@ pub struct Keys<'a> {
 
 /// Before the first key.
 pub fn no_keys<'a>(alloc: Global) -> Keys<'a>
-    ensures { said result ≡ nothing_said }
+    ensures nothing { said result ≡ nothing_said }
 {
     Keys {
         title: "",
@@ -37,7 +39,8 @@ pub fn no_keys<'a>(alloc: Global) -> Keys<'a>
 
 // The value of `title`.
 fn read_title<'a>(text: &'a str, keys: &mut Keys<'a>) -> Result<&'a str, ReadFault>
-    ensures gives { GivesSaid result keys.new (title_value (said keys.old) (length (skipped text.now)) (strip_of (codes "\"") (skipped text.now))) }
+    ensures gives { GivesSaid result keys.new (title_value (said keys.old)
+        (length (skipped text.now)) (strip_of (codes "\"") (skipped text.now))) }
     ensures shorter { IfOk result (λ x. length x.now ≤ length text.now) }
 {
     let at = skip(text);
@@ -56,7 +59,8 @@ fn read_title<'a>(text: &'a str, keys: &mut Keys<'a>) -> Result<&'a str, ReadFau
 // The value of a key that says nothing. Its patterns aren't kept.
 #[tactic(auto, unfolding(crate::specs::TrackerGrammar::other_value))]
 fn read_other<'a>(alloc: Global, text: &'a str, keys: &mut Keys<'a>) -> Result<&'a str, ReadFault>
-    ensures gives { GivesSaid result keys.new (other_value (said keys.old) text.now (strip_of (codes "\"") (skipped text.now))) }
+    ensures gives { GivesSaid result keys.new
+        (other_value (said keys.old) text.now (strip_of (codes "\"") (skipped text.now))) }
     ensures shorter { IfOk result (λ x. length x.now ≤ length text.now) }
 {
     if let Some(quoted) = strip(skip(text), "\"") {

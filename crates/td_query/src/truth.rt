@@ -15,15 +15,16 @@ use td_stanza::Stanza;
 
 // The value of a field.
 fn value_of<'a>(stanza: &Stanza<'_, 'a>, name: &str) -> Option<&'a str>
-    requires { IsDistinct (fields_of stanza.now) }
-    ensures { option_map (λ x. x.now) result ≡ value_in (fields_of stanza.now) name.now }
+    requires distinct { IsDistinct (fields_of stanza.now) }
+    ensures value { option_map (λ x. x.now) result ≡ value_in (fields_of stanza.now) name.now }
 {
     stanza.get(name)
 }
 
 // Whether the pattern of a number, if there is one, is found in the value.
 fn is_found(matchers: &mut Vec<Matcher>, number: usize, value: &str) -> bool
-    ensures found { result ≡ is_found_of (slice_get (map matcher_pattern matchers.old.items) number) value.now }
+    ensures found { result ≡ is_found_of
+        (slice_get (map matcher_pattern matchers.old.items) number) value.now }
     ensures same { map matcher_pattern matchers.new.items ≡ map matcher_pattern matchers.old.items }
 {
     if number >= matchers.len() {
@@ -35,8 +36,9 @@ fn is_found(matchers: &mut Vec<Matcher>, number: usize, value: &str) -> bool
 /// Whether the query holds on the stanza.
 #[cycle(holds)]
 pub fn holds(query: &Query, stanza: &Stanza, matchers: &mut Vec<Matcher>) -> bool
-    requires { IsDistinct (fields_of stanza.now) }
-    ensures truth { result ≡ truth (map matcher_pattern matchers.old.items) (fields_of stanza.now) (shape_of query.now) }
+    requires distinct { IsDistinct (fields_of stanza.now) }
+    ensures truth { result ≡ truth (map matcher_pattern matchers.old.items) (fields_of stanza.now)
+        (shape_of query.now) }
     ensures same { map matcher_pattern matchers.new.items ≡ map matcher_pattern matchers.old.items }
 {
     match query {
@@ -58,8 +60,9 @@ pub fn holds(query: &Query, stanza: &Stanza, matchers: &mut Vec<Matcher>) -> boo
 // Whether each part holds.
 #[cycle(holds)]
 fn all_hold(parts: &[Query], stanza: &Stanza, matchers: &mut Vec<Matcher>) -> bool
-    requires { IsDistinct (fields_of stanza.now) }
-    ensures truth { result ≡ truth (map matcher_pattern matchers.old.items) (fields_of stanza.now) (all_of (map shape_of parts.now)) }
+    requires distinct { IsDistinct (fields_of stanza.now) }
+    ensures truth { result ≡ truth (map matcher_pattern matchers.old.items) (fields_of stanza.now)
+        (all_of (map shape_of parts.now)) }
     ensures same { map matcher_pattern matchers.new.items ≡ map matcher_pattern matchers.old.items }
 {
     for i in 0..parts.len() {
@@ -73,8 +76,9 @@ fn all_hold(parts: &[Query], stanza: &Stanza, matchers: &mut Vec<Matcher>) -> bo
 // Whether some part holds.
 #[cycle(holds)]
 fn any_holds(parts: &[Query], stanza: &Stanza, matchers: &mut Vec<Matcher>) -> bool
-    requires { IsDistinct (fields_of stanza.now) }
-    ensures truth { result ≡ truth (map matcher_pattern matchers.old.items) (fields_of stanza.now) (any_of (map shape_of parts.now)) }
+    requires distinct { IsDistinct (fields_of stanza.now) }
+    ensures truth { result ≡ truth (map matcher_pattern matchers.old.items) (fields_of stanza.now)
+        (any_of (map shape_of parts.now)) }
     ensures same { map matcher_pattern matchers.new.items ≡ map matcher_pattern matchers.old.items }
 {
     for i in 0..parts.len() {
@@ -87,7 +91,8 @@ fn any_holds(parts: &[Query], stanza: &Stanza, matchers: &mut Vec<Matcher>) -> b
 
 /// What searches for each pattern, made once for a pass over many stanzas.
 pub fn matchers_of<'r>(alloc: Global, patterns: &'r [Regex]) -> Result<Vec<Matcher<'r>>, AllocError>
-    ensures { IfOk result (λ matchers. map matcher_pattern matchers.items ≡ map regex_pattern patterns.now) }
+    ensures patterns { IfOk result
+        (λ matchers. map matcher_pattern matchers.items ≡ map regex_pattern patterns.now) }
 {
     let mut matchers = Vec::new(alloc);
     for pattern in patterns {

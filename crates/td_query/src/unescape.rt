@@ -8,7 +8,7 @@ use td_text::cut_at;
 // The text without a backslash at its end.
 #[tactic(auto, using(crate::proofs::Unescaping::without_last_none, crate::proofs::Unescaping::without_last_is, crate::proofs::Unescaping::without_last_not))]
 fn without_backslash(text: &str) -> &str
-    ensures { result.now ≡ without_last text.now }
+    ensures left { result.now ≡ without_last text.now }
 {
     let bytes = text.as_bytes();
     if bytes.is_empty() {
@@ -24,7 +24,7 @@ fn without_backslash(text: &str) -> &str
 
 /// What stands between a pattern's slashes, with `/` for each `\/`.
 pub fn source(alloc: Global, raw: &str) -> Result<String, AllocError>
-    ensures { IfOk result (λ s. string_bytes s ≡ unescaped raw.now) }
+    ensures unescaped { IfOk result (λ s. string_bytes s ≡ unescaped raw.now) }
 {
     let mut out = String::new(alloc);
     let mut left = Some(raw);

@@ -27,8 +27,6 @@ mod relation_fault;
 mod relation_reading;
 mod runs;
 mod suiting;
-#[cfg(test)]
-mod tests;
 
 pub use arch::Arch;
 pub use archs::{Archs, ArchsFault, MAX_ARCHS};

@@ -1,5 +1,6 @@
 -- The affected rows among the first so many, and where their sources stand.
-use Rattle.std.proofs.Common.{◌≡◌, ◌<◌, ◌+◌, ◌++◌, ◌∷◌, [], ℕ, List, Option, None, Some, map, take, length, slice_get, inl, inr, refl, sym, ap, subst, ◌∙◌, arith}
+use Rattle.std.proofs.Common.{◌≡◌, ◌<◌, ◌+◌, ◌++◌, ◌∷◌, [], ℕ, List, Option, None, Some, map, take}
+use Rattle.std.proofs.Common.{length, slice_get, inl, inr, refl, sym, ap, subst, ◌∙◌, arith}
 use Rattle.std.specs.Prelude.{IsTrue}
 use Rattle.std.specs.Borrow.{Bor}
 use Rattle.std.specs.List.{cons_option, filter_map, list_any}
@@ -34,26 +35,35 @@ single : (o : Option AffectedRow) → cons_option o [] ≡ option_to_list o
 single None = refl
 single (Some r) = refl
 
-rows-more : (f : Key × Row → Option AffectedRow) (rows : Table) (n : ℕ) (o : Option AffectedRow) → n < length rows → o ≡ option_map_or f (slice_get rows n) None
+rows-more : (f : Key × Row → Option AffectedRow) (rows : Table) (n : ℕ) (o : Option AffectedRow)
+    → n < length rows → o ≡ option_map_or f (slice_get rows n) None
     → filter_map f (take (n + 1) rows) ≡ filter_map f (take n rows) ++ option_to_list o
 rows-more f rows n o lt e = elim (slice_get_cases rows n).1 [
   | inl h ↦
       ap (λ (l : Table). filter_map f l) (take-next rows n h.0 h.2)
       ∙ filter_map-append f (take n rows) (h.0 ∷ [])
-      ∙ ap (λ (l : List AffectedRow). filter_map f (take n rows) ++ l) (single (f h.0) ∙ ap option_to_list (sym (e ∙ ap (λ (p : Option (Key × Row)). option_map_or f p None) h.2)))
+      ∙ ap (λ (l : List AffectedRow). filter_map f (take n rows) ++ l)
+      (single (f h.0) ∙ ap option_to_list
+      (sym (e ∙ ap (λ (p : Option (Key × Row)). option_map_or f p None) h.2)))
   | inr h ↦ absurd (omega (arith, h.0, lt))
 ]
 
 -- with one that is affected
-pub items-more : (f : Key × Row → Option AffectedRow) (rows : Table) (n : ℕ) (items : List Item) (item : Item) → n < length rows → Some (seen item) ≡ option_map_or f (slice_get rows n) None
-    → map seen items ≡ filter_map f (take n rows) → map seen (items ++ item ∷ []) ≡ filter_map f (take (n + 1) rows)
+pub items-more : (f : Key × Row → Option AffectedRow) (rows : Table) (n : ℕ) (items : List Item)
+    (item : Item) → n < length rows → Some (seen item) ≡ option_map_or f (slice_get rows n) None
+    → map seen items ≡ filter_map f (take n rows)
+    → map seen (items ++ item ∷ []) ≡ filter_map f (take (n + 1) rows)
 items-more f rows n items item lt is so =
-    map-append seen items (item ∷ []) ∙ ap (λ (l : List AffectedRow). l ++ seen item ∷ []) so ∙ sym (rows-more f rows n (Some (seen item)) lt is)
+    map-append seen items (item ∷ []) ∙ ap (λ (l : List AffectedRow). l ++ seen item ∷ []) so
+    ∙ sym (rows-more f rows n (Some (seen item)) lt is)
 
 -- with one that isn't
-pub items-same : (f : Key × Row → Option AffectedRow) (rows : Table) (n : ℕ) (items : List Item) → n < length rows → None ≡ option_map_or f (slice_get rows n) None
-    → map seen items ≡ filter_map f (take n rows) → map seen items ≡ filter_map f (take (n + 1) rows)
-items-same f rows n items lt is so = so ∙ sym (rows-more f rows n None lt is ∙ nothing (filter_map f (take n rows)))
+pub items-same : (f : Key × Row → Option AffectedRow) (rows : Table) (n : ℕ) (items : List Item)
+    → n < length rows → None ≡ option_map_or f (slice_get rows n) None
+    → map seen items ≡ filter_map f (take n rows)
+    → map seen items ≡ filter_map f (take (n + 1) rows)
+items-same f rows n items lt is so = so
+    ∙ sym (rows-more f rows n None lt is ∙ nothing (filter_map f (take n rows)))
   where
     nothing : (l : List AffectedRow) → l ++ [] ≡ l
     nothing [] = refl
@@ -61,20 +71,30 @@ items-same f rows n items lt is so = so ∙ sym (rows-more f rows n None lt is �
 
 -- ---- the affected sources
 
-same_names : (a : Contents) (t : Tracking) (names : List (Bor (List ℕ))) → map (λ name. name.now) names ≡ affected_names a t → of_waves.IsAffected names ≡ IsAffected a t
-same_names a t names is = λ i source. IsTrue ((sym (any-map (bytes_eq source) (λ name. name.now) names) ∙ ap (λ (l : List (List ℕ)). list_any (bytes_eq source) l) is) i)
+same_names : (a : Contents) (t : Tracking) (names : List (Bor (List ℕ)))
+    → map (λ name. name.now) names ≡ affected_names a t → of_waves.IsAffected names ≡ IsAffected a t
+same_names a t names is =
+    λ i source. IsTrue
+    ((sym (any-map (bytes_eq source) (λ name. name.now) names)
+    ∙ ap (λ (l : List (List ℕ)). list_any (bytes_eq source) l) is) i)
 
-pub are_levels : (a : Contents) (t : Tracking) (names : List (Bor (List ℕ))) (level : List ℕ → Option Level) (depth : ℕ) → map (λ name. name.now) names ≡ affected_names a t
-    → ((source : List ℕ) → StandsAt (of_waves.IsAffected names) (BuildsOn a) source (level source)) → IsDepth level depth → AreLevels a t level depth
+pub are_levels : (a : Contents) (t : Tracking) (names : List (Bor (List ℕ)))
+    (level : List ℕ → Option Level) (depth : ℕ) → map (λ name. name.now) names ≡ affected_names a t
+    → ((source : List ℕ) → StandsAt (of_waves.IsAffected names) (BuildsOn a) source (level source))
+    → IsDepth level depth → AreLevels a t level depth
 are_levels a t names level depth is stands deep = record {
-  stands = subst (λ (P : List ℕ → Type 0). (source : List ℕ) → StandsAt P (BuildsOn a) source (level source)) (same_names a t names is) stands;
+  stands = subst (λ (P : List ℕ → Type 0). (source : List ℕ)
+      → StandsAt P (BuildsOn a) source (level source)) (same_names a t names is) stands;
   deep = deep;
 }
 
 -- ---- the texts
 
-pub is_report : (a : Contents) (t : Tracking) (level : List ℕ → Option Level) (depth : ℕ) (rows : Table) (items now : List Item) (title : List ℕ) (d : ℕ) (text : List ℕ) → AreLevels a t level depth
-    → text ≡ text_of (report_lines title d now) → title ≡ t.title → d ≡ depth → now ≡ items → map seen items ≡ affected_rows a t level rows → IsReport a t rows text
+pub is_report : (a : Contents) (t : Tracking) (level : List ℕ → Option Level) (depth : ℕ)
+    (rows : Table) (items now : List Item) (title : List ℕ) (d : ℕ) (text : List ℕ)
+    → AreLevels a t level depth
+    → text ≡ text_of (report_lines title d now) → title ≡ t.title → d ≡ depth → now ≡ items
+    → map seen items ≡ affected_rows a t level rows → IsReport a t rows text
 is_report a t level depth rows items now title d text levels written titled deep same are = record {
   level = level;
   depth = depth;
@@ -88,8 +108,10 @@ is_report a t level depth rows items now title d text levels written titled deep
       ∙ ap (λ x. text_of (report.report_lines t.title depth x)) are;
 }
 
-pub are_waves : (a : Contents) (t : Tracking) (level : List ℕ → Option Level) (depth : ℕ) (rows : Table) (items now : List Item) (d : ℕ) (text : List ℕ) → AreLevels a t level depth
-    → text ≡ text_of (waves d now) → d ≡ depth → now ≡ items → map seen items ≡ affected_rows a t level rows → IsWaves a t rows text
+pub are_waves : (a : Contents) (t : Tracking) (level : List ℕ → Option Level) (depth : ℕ)
+    (rows : Table) (items now : List Item) (d : ℕ) (text : List ℕ) → AreLevels a t level depth
+    → text ≡ text_of (waves d now) → d ≡ depth → now ≡ items
+    → map seen items ≡ affected_rows a t level rows → IsWaves a t rows text
 are_waves a t level depth rows items now d text levels written deep same are = record {
   level = level;
   depth = depth;

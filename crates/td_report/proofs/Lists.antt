@@ -1,5 +1,7 @@
 -- Lists of rows, of which one gets a row more.
-use Rattle.std.proofs.Common.{◌≡◌, ◌<◌, ◌+◌, ◌-◌, ◌==◌, ℕ, false, List, [], ◌∷◌, ◌++◌, length, sym, ap, ◌∙◌, inl, inr, arith, if◌then◌else◌, get_or, set, map, get_or-set_other}
+use Rattle.std.proofs.Common.{◌≡◌, ◌<◌, ◌+◌, ◌-◌, ◌==◌, ℕ, false, List, [], ◌∷◌, ◌++◌, length, sym}
+use Rattle.std.proofs.Common.{ap, ◌∙◌, inl, inr, arith, if◌then◌else◌, get_or, set, map}
+use Rattle.std.proofs.Common.{get_or-set_other}
 use Rattle.std.specs.Global.{Vec}
 use Rattle.std.proofs.lemmas.Bool.Decides.{eqb_tells}
 use Rattle.std.proofs.lemmas.Grind.{get_or-set_at}
@@ -7,18 +9,23 @@ use Rattle.std.proofs.lemmas.List.{map-set, get_or-map, length-map, append-nil}
 use Rattle.td_report.specs.declared.item.Item.{Item}
 use Rattle.td_report.specs.Grouped.{list_at}
 
-pub list_at-push : (vs : List (Vec Item)) (b : ℕ) (x : Item) (old new : Vec Item) → b < length vs → old ≡ get_or vs b old → new.items ≡ old.items ++ x ∷ []
+pub list_at-push : (vs : List (Vec Item)) (b : ℕ) (x : Item) (old new : Vec Item) → b < length vs
+    → old ≡ get_or vs b old → new.items ≡ old.items ++ x ∷ []
     → (g : ℕ) → list_at (set vs b new) g ≡ list_at vs g ++ (if b == g then x ∷ [] else [])
 list_at-push vs b x old new lt is e g =
     let items = λ (v : Vec Item). v.items in
-    let moved : list_at (set vs b new) g ≡ get_or (set (map items vs) b new.items) g [] = ap (λ l. get_or l g []) (map-set items vs b new) in
+    let moved : list_at (set vs b new) g ≡ get_or (set (map items vs) b new.items) g [] =
+    ap (λ l. get_or l g []) (map-set items vs b new) in
     elim (eqb_tells b g) [
       | inl p ↦
-          let at : get_or (set (map items vs) b new.items) g [] ≡ new.items = get_or-set_at (map items vs) b g new.items [] (sym p.1) (rw length-map lt) in
-          let was : list_at vs g ≡ old.items = ap (λ k. list_at vs k) (sym p.1) ∙ get_or-map items vs b old [] lt ∙ ap items (sym is) in
+          let at : get_or (set (map items vs) b new.items) g [] ≡ new.items =
+          get_or-set_at (map items vs) b g new.items [] (sym p.1) (rw length-map lt) in
+          let was : list_at vs g ≡ old.items = ap (λ k. list_at vs k) (sym p.1)
+          ∙ get_or-map items vs b old [] lt ∙ ap items (sym is) in
           rw (p.0, was) (moved ∙ at ∙ e)
       | inr p ↦
-          let other : get_or (set (map items vs) b new.items) g [] ≡ list_at vs g = get_or-set_other (map items vs) b g new.items [] (λ q. p.1 (sym q)) in
+          let other : get_or (set (map items vs) b new.items) g [] ≡ list_at vs g =
+          get_or-set_other (map items vs) b g new.items [] (λ q. p.1 (sym q)) in
           rw (p.0, append-nil) (moved ∙ other)
     ]
 
@@ -43,5 +50,7 @@ no_number level n h = elim (eqb_tells level (n + 1)) [
 ]
 
 -- what was read of the list with a number
-pub read-list : (lists : List (Vec Item)) (n : ℕ) (v : Vec Item) (now : List Item) → n < length lists → v ≡ get_or lists n v → now ≡ v.items → now ≡ list_at lists n
-read-list lists n v now lt is e = e ∙ ap (λ (v : Vec Item). v.items) is ∙ sym (get_or-map (λ (v : Vec Item). v.items) lists n v [] lt)
+pub read-list : (lists : List (Vec Item)) (n : ℕ) (v : Vec Item) (now : List Item)
+    → n < length lists → v ≡ get_or lists n v → now ≡ v.items → now ≡ list_at lists n
+read-list lists n v now lt is e = e ∙ ap (λ (v : Vec Item). v.items) is
+    ∙ sym (get_or-map (λ (v : Vec Item). v.items) lists n v [] lt)

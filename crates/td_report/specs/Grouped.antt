@@ -12,6 +12,7 @@ list_at vs n = slice_index_or (map (λ v. v.items) vs) n []
 
 -- the list with number n has the rows of level n + 1
 pub record AreByLevel (depth : ℕ) (items : List Item) (grouped : Grouped) : Type 0 where
-  pub levels : (n : ℕ) → n < depth → list_at grouped.levels.items n ≡ filter (stands_at (At (n + 1))) items
+  pub levels : (n : ℕ) → n < depth
+      → list_at grouped.levels.items n ≡ filter (stands_at (At (n + 1))) items
   pub cyclic : grouped.cyclic.items ≡ filter (stands_at Cyclic) items
   pub len : length grouped.levels.items ≡ depth

@@ -1,17 +1,24 @@
 -- The lines of a report over rows where they lie in memory.
-use Rattle.std.specs.Prelude.{◌≡◌, ℕ, ◌+◌, ◌<◌, ◌==◌, ◌∷◌, ◌++◌, [], List, Bool, Some, None, map, filter, length, count_by, slice_get, codes, decimal, if◌then◌else◌}
+use Rattle.std.specs.Prelude.{◌≡◌, ℕ, ◌+◌, ◌<◌, ◌==◌, ◌∷◌, ◌++◌, [], List, Bool, Some, None, map}
+use Rattle.std.specs.Prelude.{filter, length, count_by, slice_get, codes, decimal, if◌then◌else◌}
 use Rattle.std.specs.List.{flat_map}
 use Rattle.td_waves.specs.declared.level.Level.{Level}
 use Rattle.td_waves.specs.declared.level.Level.TheVariants.{At, Cyclic}
 use Rattle.td_query.specs.declared.status.Status.{Status}
 use Rattle.td_query.specs.declared.status.Status.TheVariants.{Good, Bad, Partial, Unknown}
 use Rattle.td_report.specs.declared.item.Item.{Item}
-use Rattle.td_report.specs.Report.{AffectedRow, each_once, head_line, level_words, levels, title_line}
+use Rattle.td_report.specs.Report.{AffectedRow, each_once, head_line, level_words, levels}
+use Rattle.td_report.specs.Report.{title_line}
 use Rattle.td_report.specs.Report as report
 
 -- a row, without where it lies
 abbrev pub seen : Item → AffectedRow
-seen item = record { key = item.key.now; row = item.row.now; status = item.status; level = item.level }
+seen item = record {
+  key = item.key.now;
+  row = item.row.now;
+  status = item.status;
+  level = item.level;
+}
 
 -- whether a row stands at a level
 abbrev pub stands_at : Level → Item → Bool
@@ -31,7 +38,8 @@ item_line item = report.row_line (seen item)
 
 -- the lines of a level with these rows: none where there are none
 abbrev pub block_of : Level → List Item → List (List ℕ)
-block_of level mine = if length mine == 0 then [] else head_line level (length mine) (count_by is_installed mine) ∷ map item_line mine
+block_of level mine = if length mine == 0 then []
+    else head_line level (length mine) (count_by is_installed mine) ∷ map item_line mine
 
 -- the last: how many rows there are, and how many of these have each status
 abbrev pub last_line : List Item → List ℕ
@@ -71,7 +79,8 @@ source_of item = item.key.now.source
 
 -- the name of a level with these rows, and under it their sources; nothing where there are none
 abbrev pub wave_of : Level → List Item → List (List ℕ)
-wave_of level mine = if length mine == 0 then [] else level_words level ∷ each_once None (map source_of mine)
+wave_of level mine = if length mine == 0 then []
+    else level_words level ∷ each_once None (map source_of mine)
 
 -- the wave of a level: of those of the rows that stand there
 abbrev pub wave_at : List Item → Level → List (List ℕ)

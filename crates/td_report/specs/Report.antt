@@ -1,5 +1,7 @@
 -- The lines of a report. This project's own.
-use Rattle.std.specs.Prelude.{◌≡◌, ℕ, ◌+◌, ◌<◌, ◌==◌, ◌∷◌, ◌++◌, [], List, Bool, true, false, Option, Some, None, map, filter, length, count_by, slice_get, codes, decimal, if◌then◌else◌}
+use Rattle.std.specs.Prelude.{◌≡◌, ℕ, ◌+◌, ◌<◌, ◌==◌, ◌∷◌, ◌++◌, [], List, Bool, true, false}
+use Rattle.std.specs.Prelude.{Option, Some, None, map, filter, length, count_by, slice_get, codes}
+use Rattle.std.specs.Prelude.{decimal, if◌then◌else◌}
 use Rattle.std.specs.Fmt.{signed_decimal}
 use Rattle.std.specs.List.{flat_map, range_with_len}
 use Rattle.std.specs.Str.{bytes_eq}
@@ -64,15 +66,18 @@ level_words Cyclic = codes "cyclic"
 
 -- the line over the rows of a level: how many are affected, and how many of these are Installed
 abbrev pub head_line : Level → ℕ → ℕ → List ℕ
-head_line level rows installed = level_words level ++ (codes " rows " ++ (decimal rows ++ (codes " installed " ++ decimal installed)))
+head_line level rows installed = level_words level
+    ++ (codes " rows " ++ (decimal rows ++ (codes " installed " ++ decimal installed)))
 
 -- an affected row's line: its key, status, state, priority and rebuild number
 abbrev pub row_line : AffectedRow → List ℕ
-row_line r = key_text r.key ++ 32 ∷ (status_name r.status ++ 32 ∷ (state_word r.row.state ++ 32 ∷ (signed_decimal r.row.priority ++ 32 ∷ decimal r.row.number)))
+row_line r = key_text r.key ++ 32 ∷ (status_name r.status ++ 32 ∷
+    (state_word r.row.state ++ 32 ∷ (signed_decimal r.row.priority ++ 32 ∷ decimal r.row.number)))
 
 -- the lines of a level with these affected rows: none where there are none
 abbrev pub block_of : Level → List AffectedRow → List (List ℕ)
-block_of level mine = if length mine == 0 then [] else head_line level (length mine) (count_by is_installed mine) ∷ map row_line mine
+block_of level mine = if length mine == 0 then []
+    else head_line level (length mine) (count_by is_installed mine) ∷ map row_line mine
 
 -- the last: how many rows are affected, and how many of these have each status
 abbrev pub last_line : List AffectedRow → List ℕ
@@ -93,15 +98,18 @@ block_at rows level = block_of level (filter (stands_at level) rows)
 abbrev pub levels : ℕ → List Level
 levels depth = map At (range_with_len 1 depth) ++ Cyclic ∷ []
 
--- all lines of a report with this title, of so many levels and these affected rows, which stand in the order of their keys
+-- all lines of a report with this title, of so many levels and these affected rows,
+-- which stand in the order of their keys
 abbrev pub report_lines : List ℕ → ℕ → List AffectedRow → List (List ℕ)
-report_lines title depth rows = title_line title ∷ (flat_map (block_at rows) (levels depth) ++ last_line rows ∷ [])
+report_lines title depth rows = title_line title ∷
+    (flat_map (block_at rows) (levels depth) ++ last_line rows ∷ [])
 
 -- how many of the affected rows at a level are Installed
 abbrev pub installed_at : List AffectedRow → Level → ℕ
 installed_at rows level = count_by is_installed (filter (stands_at level) rows)
 
--- the counts of Installed rows by group: that of level k has number k - 1, and that of what is cyclic is the last
+-- the counts of Installed rows by group:
+-- that of level k has number k - 1, and that of what is cyclic is the last
 pub record AreInstalledCounts (depth : ℕ) (rows : List AffectedRow) (kept : List ℕ) : Type 0 where
   pub of_level : (n : ℕ) → n < depth → slice_get kept n ≡ Some (installed_at rows (At (n + 1)))
   pub of_cyclic : slice_get kept depth ≡ Some (installed_at rows Cyclic)
@@ -116,16 +124,20 @@ is_last (Some last) text = bytes_eq last text
 -- texts behind a last one, each once where it stands several times on end
 abbrev pub each_once : Option (List ℕ) → List (List ℕ) → List (List ℕ)
 each_once last [] = []
-each_once last (text ∷ texts) = (if is_last last text then [] else text ∷ []) ++ each_once (Some text) texts
+each_once last (text ∷ texts) = (if is_last last text then [] else text ∷ [])
+    ++ each_once (Some text) texts
 
--- the name of a level with these affected rows, and under it their sources; nothing where there are none
+-- the name of a level with these affected rows, and under it their sources;
+-- nothing where there are none
 abbrev pub wave_of : Level → List AffectedRow → List (List ℕ)
-wave_of level mine = if length mine == 0 then [] else level_words level ∷ each_once None (map (λ r. r.key.source) mine)
+wave_of level mine = if length mine == 0 then []
+    else level_words level ∷ each_once None (map (λ r. r.key.source) mine)
 
 -- the wave of a level: of those of the affected rows that stand there
 abbrev pub wave_at : List AffectedRow → Level → List (List ℕ)
 wave_at rows level = wave_of level (filter (stands_at level) rows)
 
--- all lines of the waves, of so many levels and these affected rows, which stand in the order of their keys
+-- all lines of the waves, of so many levels and these affected rows,
+-- which stand in the order of their keys
 abbrev pub waves_lines : ℕ → List AffectedRow → List (List ℕ)
 waves_lines depth rows = flat_map (wave_at rows) (levels depth)

@@ -1,4 +1,5 @@
--- A tracker's transition over an archive: the affected rows, and where their sources stand. This project's own.
+-- A tracker's transition over an archive: the affected rows, and where their sources stand.
+-- This project's own.
 use Rattle.std.specs.Prelude.{◌≡◌, ℕ, IsTrue, List, Option, option_map}
 use Rattle.std.specs.List.{filter_map, list_any}
 use Rattle.std.specs.Str.{bytes_eq}
@@ -18,14 +19,18 @@ use Rattle.td_report.specs.Report.{AffectedRow, report_lines, waves_lines}
 abbrev pub IsAffected : Contents → Tracking → List ℕ → Type 0
 IsAffected a t source = IsTrue (list_any (bytes_eq source) (affected_names a t))
 
--- the levels of the affected sources: where each stands by which of them build on which, and how many levels there are
-pub record AreLevels (a : Contents) (t : Tracking) (level : List ℕ → Option Level) (depth : ℕ) : Type 0 where
+-- the levels of the affected sources:
+-- where each stands by which of them build on which, and how many levels there are
+pub record AreLevels (a : Contents) (t : Tracking) (level : List ℕ → Option Level)
+    (depth : ℕ) : Type 0 where
   pub stands : (source : List ℕ) → StandsAt (IsAffected a t) (BuildsOn a) source (level source)
   pub deep : IsDepth level depth
 
 -- a row with its key, where it is affected
-abbrev pub affected_row : Contents → Tracking → (List ℕ → Option Level) → Key × Row → Option AffectedRow
-affected_row a t level p = option_map (λ status. record { key = p.0; row = p.1; status = status; level = level p.0.source }) (status_of a t p.0)
+abbrev pub affected_row : Contents → Tracking → (List ℕ → Option Level) → Key × Row
+    → Option AffectedRow
+affected_row a t level p = option_map (λ status.
+    record { key = p.0; row = p.1; status = status; level = level p.0.source }) (status_of a t p.0)
 
 -- the affected ones among rows, in their order
 abbrev pub affected_rows : Contents → Tracking → (List ℕ → Option Level) → Table → List AffectedRow
@@ -38,7 +43,8 @@ pub record IsReport (a : Contents) (t : Tracking) (rows : Table) (text : List �
   pub levels : AreLevels a t level depth
   pub written : text ≡ text_of (report_lines t.title depth (affected_rows a t level rows))
 
--- a text is that of the waves of a tracker over an archive and rows: each affected source with such a row under its level
+-- a text is that of the waves of a tracker over an archive and rows:
+-- each affected source with such a row under its level
 pub record IsWaves (a : Contents) (t : Tracking) (rows : Table) (text : List ℕ) : Type 0 where
   pub level : List ℕ → Option Level
   pub depth : ℕ

@@ -26,11 +26,13 @@ level_of x source = waves.level_of x.waves source
 abbrev pub depth_of : Transition → ℕ
 depth_of x = waves.depth_of x.waves
 
--- what holds of each that is made: it has the marks of its tracker on the stanzas of its archive, and the levels of the sources that these affect
+-- what holds of each that is made: it has the marks of its tracker on the stanzas of its archive,
+-- and the levels of the sources that these affect
 pub record IsMade (x : Transition) : Type 0 where
   pub marked : AreMarks (contents_of x) (tracking_of x) x.marks
   pub leveled : AreLevels (contents_of x) (tracking_of x) (level_of x) (depth_of x)
 
 -- the counts of the Installed rows that it affects, by group
 abbrev pub AreKept : Transition → Table → List ℕ → Type 0
-AreKept x rows kept = AreInstalledCounts (depth_of x) (affected_rows (contents_of x) (tracking_of x) (level_of x) rows) kept
+AreKept x rows kept = AreInstalledCounts (depth_of x)
+    (affected_rows (contents_of x) (tracking_of x) (level_of x) rows) kept

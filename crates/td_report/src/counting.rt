@@ -1,3 +1,4 @@
+//! How many rows have a status.
 ghost use Rattle.std.specs.Prelude.{◌≡◌, count_by};
 ghost use Rattle.td_report.specs.ItemLines.{has_status};
 

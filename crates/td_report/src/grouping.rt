@@ -1,4 +1,6 @@
-ghost use Rattle.std.specs.Prelude.{◌≡◌, ℕ, ◌+◌, ◌<◌, ◌++◌, ◌∷◌, ◌==◌, [], IfOk, OnOk, length, if◌then◌else◌};
+//! Affected rows by level.
+ghost use Rattle.std.specs.Prelude.{◌≡◌, ℕ, ◌+◌, ◌<◌, ◌++◌, ◌∷◌, ◌==◌, [], IfOk, OnOk, length};
+ghost use Rattle.std.specs.Prelude.{if◌then◌else◌};
 ghost use Rattle.td_waves.specs.declared.level.Level.{Level};
 ghost use Rattle.td_report.specs.Grouped.{AreByLevel, list_at};
 ghost use Rattle.td_report.specs.Report.{is_level};
@@ -33,7 +35,8 @@ fn push_at<'r>(
     level: usize,
     item: Item<'r>,
 ) -> Result<(), AllocError>
-    ensures lists { OnOk result ((n : ℕ) → n < length lists.old.items → list_at lists.new.items n ≡ list_at lists.old.items n ++ (if level == n + 1 then item.entry ∷ [] else [])) }
+    ensures lists { OnOk result ((n : ℕ) → n < length lists.old.items → list_at lists.new.items n
+        ≡ list_at lists.old.items n ++ (if level == n + 1 then item.entry ∷ [] else [])) }
     ensures len { length lists.new.items ≡ length lists.old.items }
 {
     if level > 0 && level <= lists.len() {
@@ -43,15 +46,20 @@ fn push_at<'r>(
 }
 
 impl<'r> Grouped<'r> {
-    ghost use Rattle.std.specs.Prelude.{◌≡◌, ℕ, ◌+◌, ◌<◌, ◌++◌, ◌∷◌, [], OnOk, length, if◌then◌else◌};
+    ghost use Rattle.std.specs.Prelude.{◌≡◌, ℕ, ◌+◌, ◌<◌, ◌++◌, ◌∷◌, [], OnOk, length};
+    ghost use Rattle.std.specs.Prelude.{if◌then◌else◌};
     ghost use Rattle.td_waves.specs.declared.level.Level.{Level};
     ghost use Rattle.td_report.specs.Grouped.{list_at};
     ghost use Rattle.td_report.specs.ItemLines.{stands_at};
 
     // Adds a row behind the others of its level.
     fn push(&mut self, item: Item<'r>) -> Result<(), AllocError>
-        ensures levels { OnOk result ((n : ℕ) → n < length self.old.levels.items → list_at self.new.levels.items n ≡ list_at self.old.levels.items n ++ (if stands_at (Level.At (n + 1)) item.entry then item.entry ∷ [] else [])) }
-        ensures cyclic { OnOk result (self.new.cyclic.items ≡ self.old.cyclic.items ++ (if stands_at Level.Cyclic item.entry then item.entry ∷ [] else [])) }
+        ensures levels { OnOk result
+            ((n : ℕ) → n < length self.old.levels.items
+            → list_at self.new.levels.items n ≡ list_at self.old.levels.items n
+            ++ (if stands_at (Level.At (n + 1)) item.entry then item.entry ∷ [] else [])) }
+        ensures cyclic { OnOk result (self.new.cyclic.items ≡ self.old.cyclic.items
+            ++ (if stands_at Level.Cyclic item.entry then item.entry ∷ [] else [])) }
         ensures len { length self.new.levels.items ≡ length self.old.levels.items }
     {
         match item.level {

@@ -1,3 +1,4 @@
+//! The line of an affected row.
 ghost use Rattle.std.specs.Prelude.{◌≡◌, ◌++◌, ◌∷◌, [], OnOk, decimal, string_bytes};
 ghost use Rattle.std.specs.Fmt.{signed_decimal};
 ghost use Rattle.td_rows.specs.StateWord.{state_word};
@@ -10,7 +11,9 @@ use td_text::{put_number, put_signed};
 
 // Appends what a report says of a row as such.
 fn put_row_words(out: &mut String, row: &Row) -> Result<(), AllocError>
-    ensures { OnOk result (string_bytes out.new ≡ string_bytes out.old ++ (state_word row.now.state ++ 32 ∷ (signed_decimal row.now.priority ++ 32 ∷ decimal row.now.number))) }
+    ensures { OnOk result
+        (string_bytes out.new ≡ string_bytes out.old ++ (state_word row.now.state
+        ++ 32 ∷ (signed_decimal row.now.priority ++ 32 ∷ decimal row.now.number))) }
 {
     put_state_word(out, row.state)?;
     out.push_str(" ")?;
@@ -21,7 +24,8 @@ fn put_row_words(out: &mut String, row: &Row) -> Result<(), AllocError>
 
 /// Appends the line of an affected row.
 pub fn put_item_line(out: &mut String, item: &Item<'_>) -> Result<(), AllocError>
-    ensures { OnOk result (string_bytes out.new ≡ string_bytes out.old ++ (item_line item.now ++ 10 ∷ [])) }
+    ensures { OnOk result
+        (string_bytes out.new ≡ string_bytes out.old ++ (item_line item.now ++ 10 ∷ [])) }
 {
     put_key(out, item.key)?;
     out.push_str(" ")?;

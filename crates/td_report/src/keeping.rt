@@ -3,7 +3,8 @@ ghost use Rattle.std.specs.Prelude.{◌≡◌, ◌≤◌, ◌++◌, IfOk, OnOk, 
 ghost use Rattle.std.specs.List.{flat_map};
 ghost use Rattle.td_text.specs.Lines.{text_of};
 ghost use Rattle.td_report.specs.Pieces.{IsPieceOf, lines_text};
-ghost use Rattle.td_report.specs.ItemLines.{AreCountsOf, block_of, blocks, is_installed, report_lines};
+ghost use Rattle.td_report.specs.ItemLines.{AreCountsOf, block_of, blocks, is_installed};
+ghost use Rattle.td_report.specs.ItemLines.{report_lines};
 
 use crate::grouping::by_level;
 use crate::item::Item;
@@ -35,7 +36,8 @@ fn chunk_lines(
     chunk: usize,
 ) -> Result<Vec<String>, AllocError>
     requires { 1 ≤ chunk }
-    ensures { IfOk result (λ texts. flat_map (λ t. string_bytes t) texts.items ≡ lines_text items.now) }
+    ensures { IfOk result
+        (λ texts. flat_map (λ t. string_bytes t) texts.items ≡ lines_text items.now) }
 {
     items
         .par_chunks(chunk)
@@ -50,7 +52,8 @@ fn chunk_lines(
 
 // Appends texts one behind the other.
 fn put_texts(out: &mut String, texts: &[String]) -> Result<(), AllocError>
-    ensures { OnOk result (string_bytes out.new ≡ string_bytes out.old ++ flat_map (λ t. string_bytes t) texts.now) }
+    ensures { OnOk result (string_bytes out.new
+        ≡ string_bytes out.old ++ flat_map (λ t. string_bytes t) texts.now) }
 {
     for text in texts {
         out.push_str(text.as_str())?;
@@ -87,7 +90,8 @@ fn put_kept_block(
 ) -> Result<(), AllocError>
     requires chunk { 1 ≤ chunk }
     requires installed { installed ≡ count_by is_installed items.now }
-    ensures { OnOk result (string_bytes out.new ≡ string_bytes out.old ++ text_of (block_of level items.now)) }
+    ensures { OnOk result
+        (string_bytes out.new ≡ string_bytes out.old ++ text_of (block_of level items.now)) }
 {
     let piece = kept_piece(rt, alloc, items, installed, chunk)?;
     put_block(out, level, items, &piece)
@@ -104,7 +108,8 @@ fn put_kept_blocks(
 ) -> Result<(), AllocError>
     requires chunk { 1 ≤ chunk }
     requires kept { AreCountsOf depth items.now kept.now }
-    ensures { OnOk result (string_bytes out.new ≡ string_bytes out.old ++ text_of (blocks depth items.now)) }
+    ensures { OnOk result
+        (string_bytes out.new ≡ string_bytes out.old ++ text_of (blocks depth items.now)) }
 {
     let grouped = by_level(alloc, items, depth)?;
     for number in 0..grouped.levels.len() {
@@ -129,7 +134,8 @@ pub fn kept_text(
 ) -> Result<String, AllocError>
     requires chunk { 1 ≤ chunk }
     requires kept { AreCountsOf depth items.now kept.now }
-    ensures { IfOk result (λ text. string_bytes text ≡ text_of (report_lines title.now depth items.now)) }
+    ensures { IfOk result
+        (λ text. string_bytes text ≡ text_of (report_lines title.now depth items.now)) }
 {
     let mut out = String::new(alloc);
     put_title_line(&mut out, title)?;

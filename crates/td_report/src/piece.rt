@@ -1,3 +1,4 @@
+//! The lines of some rows of a level, made apart from the others.
 ghost use Rattle.std.specs.Prelude.{◌≡◌, IfOk, string_bytes};
 ghost use Rattle.td_report.specs.Pieces.{IsPieceOf};
 

@@ -1,4 +1,6 @@
-ghost use Rattle.std.specs.Prelude.{◌≡◌, ◌<◌, ◌≤◌, ◌++◌, ◌^◌, IfOk, OnOk, length, string_bytes, sum_by};
+//! A report whose rows several threads share.
+ghost use Rattle.std.specs.Prelude.{◌≡◌, ◌<◌, ◌≤◌, ◌++◌, ◌^◌, IfOk, OnOk, length, string_bytes};
+ghost use Rattle.std.specs.Prelude.{sum_by};
 ghost use Rattle.std.specs.List.{flat_map};
 ghost use Rattle.td_text.specs.Lines.{text_of};
 ghost use Rattle.td_report.specs.Pieces.{ArePieces, IsPieceOf};
@@ -38,7 +40,8 @@ fn pieces(
 // The pieces as one.
 fn joined(alloc: Global, pieces: &[Piece]) -> Result<Piece, AllocError>
     requires { sum_by (λ p. p.installed) pieces.now < 2 ^ 64 }
-    ensures text { IfOk result (λ p. string_bytes p.text ≡ flat_map (λ q. string_bytes q.text) pieces.now) }
+    ensures text { IfOk result
+        (λ p. string_bytes p.text ≡ flat_map (λ q. string_bytes q.text) pieces.now) }
     ensures installed { IfOk result (λ p. p.installed ≡ sum_by (λ q. q.installed) pieces.now) }
 {
     let mut text = String::new(alloc);
@@ -73,7 +76,8 @@ fn put_split_block(
     chunk: usize,
 ) -> Result<(), AllocError>
     requires { 1 ≤ chunk }
-    ensures { OnOk result (string_bytes out.new ≡ string_bytes out.old ++ text_of (block_of level items.now)) }
+    ensures { OnOk result
+        (string_bytes out.new ≡ string_bytes out.old ++ text_of (block_of level items.now)) }
 {
     let piece = split_piece(rt, alloc, items, chunk)?;
     put_block(out, level, items, &piece)
@@ -88,7 +92,8 @@ fn put_split_blocks(
     chunk: usize,
 ) -> Result<(), AllocError>
     requires { 1 ≤ chunk }
-    ensures { OnOk result (string_bytes out.new ≡ string_bytes out.old ++ text_of (blocks depth items.now)) }
+    ensures { OnOk result
+        (string_bytes out.new ≡ string_bytes out.old ++ text_of (blocks depth items.now)) }
 {
     let grouped = by_level(alloc, items, depth)?;
     for number in 0..grouped.levels.len() {
@@ -109,7 +114,8 @@ pub fn split_text(
     chunk: usize,
 ) -> Result<String, AllocError>
     requires { 1 ≤ chunk }
-    ensures { IfOk result (λ text. string_bytes text ≡ text_of (report_lines title.now depth items.now)) }
+    ensures { IfOk result
+        (λ text. string_bytes text ≡ text_of (report_lines title.now depth items.now)) }
 {
     let mut out = String::new(alloc);
     put_title_line(&mut out, title)?;

@@ -23,7 +23,8 @@ pub struct Transition<'b, 't, 'a, 'q> {
 }
 
 impl<'b, 't, 'a, 'q> Transition<'b, 't, 'a, 'q> {
-    ghost use Rattle.std.specs.Prelude.{◌≡◌, ◌≤◌, None, IfOk, map, option_map, slice_get, string_bytes};
+    ghost use Rattle.std.specs.Prelude.{◌≡◌, ◌≤◌, None, IfOk, map, option_map, slice_get};
+    ghost use Rattle.std.specs.Prelude.{string_bytes};
     ghost use Rattle.std.specs.Option.{option_map_or};
     ghost use Rattle.td_query.specs.Statuses.{status_of};
     ghost use Rattle.td_query.specs.Tracking.{tracking};
@@ -80,7 +81,8 @@ impl<'b, 't, 'a, 'q> Transition<'b, 't, 'a, 'q> {
     // What is said of the row with a number.
     fn item_at<'r>(&self, rows: &'r Rows, number: usize) -> Option<Item<'r>>
         requires { of.IsMade self.now }
-        ensures { option_map seen result ≡ option_map_or (affected_row (of.contents_of self.now) (of.tracking_of self.now) (of.level_of self.now)) (slice_get rows.now number) None }
+        ensures { option_map seen result ≡ option_map_or (affected_row (of.contents_of self.now)
+            (of.tracking_of self.now) (of.level_of self.now)) (slice_get rows.now number) None }
     {
         let (key, row) = rows.at(number)?;
         let status = self.status(key)?;
@@ -96,7 +98,8 @@ impl<'b, 't, 'a, 'q> Transition<'b, 't, 'a, 'q> {
     // The affected rows, in the order of their keys.
     fn items<'r>(&self, alloc: Global, rows: &'r Rows) -> Result<Vec<Item<'r>>, AllocError>
         requires { of.IsMade self.now }
-        ensures { IfOk result (λ items. map seen items.items ≡ affected_rows (of.contents_of self.now) (of.tracking_of self.now) (of.level_of self.now) rows.now) }
+        ensures { IfOk result (λ items. map seen items.items ≡ affected_rows
+            (of.contents_of self.now) (of.tracking_of self.now) (of.level_of self.now) rows.now) }
     {
         let mut items = Vec::new(alloc);
         for number in 0..rows.len() {
@@ -110,7 +113,8 @@ impl<'b, 't, 'a, 'q> Transition<'b, 't, 'a, 'q> {
     /// The report of the rows.
     pub fn report(&self, alloc: Global, rows: &Rows) -> Result<String, AllocError>
         requires { of.IsMade self.now }
-        ensures { IfOk result (λ text. IsReport (of.contents_of self.now) (of.tracking_of self.now) rows.now (string_bytes text)) }
+        ensures { IfOk result (λ text. IsReport (of.contents_of self.now)
+            (of.tracking_of self.now) rows.now (string_bytes text)) }
     {
         let items = self.items(alloc, rows)?;
         report_text(alloc, self.tracker.title(), self.waves.depth(), &items)
@@ -126,7 +130,8 @@ impl<'b, 't, 'a, 'q> Transition<'b, 't, 'a, 'q> {
     ) -> Result<String, AllocError>
         requires made { of.IsMade self.now }
         requires chunk { 1 ≤ chunk }
-        ensures { IfOk result (λ text. IsReport (of.contents_of self.now) (of.tracking_of self.now) rows.now (string_bytes text)) }
+        ensures { IfOk result (λ text. IsReport (of.contents_of self.now)
+            (of.tracking_of self.now) rows.now (string_bytes text)) }
     {
         let items = self.items(alloc, rows)?;
         let depth = self.waves.depth();
@@ -146,7 +151,8 @@ impl<'b, 't, 'a, 'q> Transition<'b, 't, 'a, 'q> {
         requires made { of.IsMade self.now }
         requires kept { of.AreKept self.now rows.now kept.now }
         requires chunk { 1 ≤ chunk }
-        ensures { IfOk result (λ text. IsReport (of.contents_of self.now) (of.tracking_of self.now) rows.now (string_bytes text)) }
+        ensures { IfOk result (λ text. IsReport (of.contents_of self.now)
+            (of.tracking_of self.now) rows.now (string_bytes text)) }
     {
         let items = self.items(alloc, rows)?;
         let depth = self.waves.depth();
@@ -156,7 +162,8 @@ impl<'b, 't, 'a, 'q> Transition<'b, 't, 'a, 'q> {
     /// The affected sources of the rows, by level.
     pub fn waves(&self, alloc: Global, rows: &Rows) -> Result<String, AllocError>
         requires { of.IsMade self.now }
-        ensures { IfOk result (λ text. IsWaves (of.contents_of self.now) (of.tracking_of self.now) rows.now (string_bytes text)) }
+        ensures { IfOk result (λ text. IsWaves (of.contents_of self.now)
+            (of.tracking_of self.now) rows.now (string_bytes text)) }
     {
         let items = self.items(alloc, rows)?;
         waves_text(alloc, self.waves.depth(), &items)

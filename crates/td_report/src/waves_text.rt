@@ -1,3 +1,4 @@
+//! The text of waves: the sources of each level.
 ghost use Rattle.std.specs.Prelude.{◌≡◌, ◌++◌, None, IfOk, OnOk, map, option_map, string_bytes};
 ghost use Rattle.td_text.specs.Lines.{text_of};
 ghost use Rattle.td_report.specs.ItemLines.{source_of, wave_of, waves};
@@ -21,7 +22,8 @@ fn is_last(last: Option<&str>, text: &str) -> bool
 
 // Appends the sources of rows that stand in the order of their keys, each once.
 fn put_sources(out: &mut String, items: &[Item<'_>]) -> Result<(), AllocError>
-    ensures { OnOk result (string_bytes out.new ≡ string_bytes out.old ++ text_of (each_once None (map source_of items.now))) }
+    ensures { OnOk result (string_bytes out.new
+        ≡ string_bytes out.old ++ text_of (each_once None (map source_of items.now))) }
 {
     let mut last = None;
     for item in items {
@@ -36,7 +38,8 @@ fn put_sources(out: &mut String, items: &[Item<'_>]) -> Result<(), AllocError>
 
 // Appends the lines of a level, of which these are the rows.
 fn put_wave(out: &mut String, level: Level, items: &[Item<'_>]) -> Result<(), AllocError>
-    ensures { OnOk result (string_bytes out.new ≡ string_bytes out.old ++ text_of (wave_of level items.now)) }
+    ensures { OnOk result
+        (string_bytes out.new ≡ string_bytes out.old ++ text_of (wave_of level items.now)) }
 {
     if items.is_empty() {
         return Ok(());
@@ -52,7 +55,8 @@ fn put_waves(
     items: &[Item<'_>],
     depth: usize,
 ) -> Result<(), AllocError>
-    ensures { OnOk result (string_bytes out.new ≡ string_bytes out.old ++ text_of (waves depth items.now)) }
+    ensures { OnOk result
+        (string_bytes out.new ≡ string_bytes out.old ++ text_of (waves depth items.now)) }
 {
     let grouped = by_level(alloc, items, depth)?;
     for number in 0..grouped.levels.len() {

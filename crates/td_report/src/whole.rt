@@ -1,3 +1,4 @@
+//! A report, made in one go.
 ghost use Rattle.std.specs.Prelude.{◌≡◌, ◌++◌, IfOk, OnOk, string_bytes};
 ghost use Rattle.td_text.specs.Lines.{text_of};
 ghost use Rattle.td_report.specs.Grouped.{AreByLevel};
@@ -19,7 +20,8 @@ pub fn put_block(
     piece: &Piece,
 ) -> Result<(), AllocError>
     requires { IsPieceOf items.now piece.now }
-    ensures { OnOk result (string_bytes out.new ≡ string_bytes out.old ++ text_of (block_of level items.now)) }
+    ensures { OnOk result
+        (string_bytes out.new ≡ string_bytes out.old ++ text_of (block_of level items.now)) }
 {
     if items.is_empty() {
         return Ok(());
@@ -34,7 +36,8 @@ fn put_level_block(
     level: Level,
     items: &[Item<'_>],
 ) -> Result<(), AllocError>
-    ensures { OnOk result (string_bytes out.new ≡ string_bytes out.old ++ text_of (block_of level items.now)) }
+    ensures { OnOk result
+        (string_bytes out.new ≡ string_bytes out.old ++ text_of (block_of level items.now)) }
 {
     let piece = make_piece(alloc, items)?;
     put_block(out, level, items, &piece)
@@ -46,7 +49,8 @@ fn put_blocks(
     items: &[Item<'_>],
     depth: usize,
 ) -> Result<(), AllocError>
-    ensures { OnOk result (string_bytes out.new ≡ string_bytes out.old ++ text_of (blocks depth items.now)) }
+    ensures { OnOk result
+        (string_bytes out.new ≡ string_bytes out.old ++ text_of (blocks depth items.now)) }
 {
     let grouped = by_level(alloc, items, depth)?;
     for number in 0..grouped.levels.len() {
@@ -62,7 +66,8 @@ pub fn report_text(
     depth: usize,
     items: &[Item<'_>],
 ) -> Result<String, AllocError>
-    ensures { IfOk result (λ text. string_bytes text ≡ text_of (report_lines title.now depth items.now)) }
+    ensures { IfOk result
+        (λ text. string_bytes text ≡ text_of (report_lines title.now depth items.now)) }
 {
     let mut out = String::new(alloc);
     put_title_line(&mut out, title)?;

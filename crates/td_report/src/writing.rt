@@ -1,3 +1,4 @@
+//! The lines of a report but for those of its rows.
 ghost use Rattle.std.specs.Prelude.{◌≡◌, ◌++◌, ◌∷◌, [], OnOk, codes, decimal, string_bytes};
 ghost use Rattle.td_report.specs.ItemLines.{last_line};
 ghost use Rattle.td_report.specs.Report.{head_line, level_words, title_line};
@@ -19,7 +20,8 @@ pub fn put_line(out: &mut String, line: &str) -> Result<(), AllocError>
 
 /// Appends the first line.
 pub fn put_title_line(out: &mut String, title: &str) -> Result<(), AllocError>
-    ensures { OnOk result (string_bytes out.new ≡ string_bytes out.old ++ (title_line title.now ++ 10 ∷ [])) }
+    ensures { OnOk result
+        (string_bytes out.new ≡ string_bytes out.old ++ (title_line title.now ++ 10 ∷ [])) }
 {
     out.push_str("tracker ")?;
     out.push_str(title)?;
@@ -38,7 +40,8 @@ pub fn put_level(out: &mut String, level: Level) -> Result<(), AllocError>
 
 // Appends words and a number behind them.
 fn put_counted(out: &mut String, words: &str, count: usize) -> Result<(), AllocError>
-    ensures { OnOk result (string_bytes out.new ≡ string_bytes out.old ++ (words.now ++ decimal count)) }
+    ensures { OnOk result
+        (string_bytes out.new ≡ string_bytes out.old ++ (words.now ++ decimal count)) }
 {
     out.push_str(words)?;
     put_number(out, count as u64)
@@ -51,7 +54,8 @@ pub fn put_head_line(
     rows: usize,
     installed: usize,
 ) -> Result<(), AllocError>
-    ensures { OnOk result (string_bytes out.new ≡ string_bytes out.old ++ (head_line level rows installed ++ 10 ∷ [])) }
+    ensures { OnOk result (string_bytes out.new
+        ≡ string_bytes out.old ++ (head_line level rows installed ++ 10 ∷ [])) }
 {
     put_level(out, level)?;
     put_counted(out, " rows ", rows)?;
@@ -61,7 +65,8 @@ pub fn put_head_line(
 
 /// Appends the last line.
 pub fn put_last_line(out: &mut String, items: &[Item<'_>]) -> Result<(), AllocError>
-    ensures { OnOk result (string_bytes out.new ≡ string_bytes out.old ++ (last_line items.now ++ 10 ∷ [])) }
+    ensures { OnOk result
+        (string_bytes out.new ≡ string_bytes out.old ++ (last_line items.now ++ 10 ∷ [])) }
 {
     put_counted(out, "affected ", items.len())?;
     put_counted(out, " good ", count_of(items, Status::Good))?;

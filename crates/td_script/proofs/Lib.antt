@@ -7,3 +7,4 @@ pub mod ScriptLaws
 pub mod OpeningLaws
 pub mod RunLaws
 pub mod OnlyLaws
+pub mod CutLaws

@@ -9,3 +9,4 @@ pub mod Replies
 pub mod Reporting
 pub mod Requests
 pub mod Script
+pub mod Cutting

@@ -17,8 +17,6 @@ mod name;
 mod names;
 mod reading;
 mod table;
-#[cfg(test)]
-mod tests;
 mod value;
 
 pub use entry::Field;

@@ -16,3 +16,4 @@ pub mod Calls
 pub mod Lawful
 pub mod Winning
 pub mod Reopenings
+pub mod Deeds

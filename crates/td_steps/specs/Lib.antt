@@ -14,3 +14,4 @@ pub mod Turns
 pub mod Books
 pub mod Calls
 pub mod Reopenings
+pub mod Deeds

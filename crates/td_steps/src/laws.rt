@@ -5,6 +5,7 @@ ghost use Rattle.td_steps.specs.Builds.{StartsAreSteps, FinishesAreSteps, Finish
 ghost use Rattle.td_steps.specs.Calls.{CallsAreSteps, BooksAreSteps};
 ghost use Rattle.td_steps.specs.Choices.{WorldsDecide, DecidedCommandsRun};
 ghost use Rattle.td_steps.specs.Commands.{CommandsAreSteps};
+ghost use Rattle.td_steps.specs.Deeds.{JournalsTellDeeds};
 ghost use Rattle.td_steps.specs.Laws.{MovesAreSteps, BuildersChangeNothing, RunsAreSeen};
 ghost use Rattle.td_steps.specs.Openings.{OpeningsAreSteps, HistoriesOpen};
 ghost use Rattle.td_steps.specs.Reopenings.{ReopeningsAreSteps, ReopenedBooksAreSteps, ReopenedAreReplayed};
@@ -115,4 +116,11 @@ pub fn an_undo_is_refused_where_blocked()
     ensures blocked { BlockedExactly }
     ensures undone { UndoneElse }
     ensures won { WonNamesTheLatest }
+{}
+
+/// At every moment of every schedule of a board, what a book's journal says of a builder since the
+/// opening is what that builder did, in order: no claim and no outcome is invented, dropped or
+/// changed, and only the builder's last deed may not be there yet.
+pub fn journals_tell_the_builders_deeds()
+    ensures { JournalsTellDeeds }
 {}

@@ -14,8 +14,6 @@ mod laws;
 mod numbers;
 mod stocked;
 mod supply;
-#[cfg(test)]
-mod tests;
 
 pub use laws::{arrivals_change_their_own, nothing_is_met};
 pub use numbers::Numbers;

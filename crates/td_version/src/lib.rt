@@ -13,8 +13,6 @@ mod laws;
 mod order;
 mod reading;
 mod rebuild;
-#[cfg(test)]
-mod tests;
 mod version;
 
 pub use base::base_of;

@@ -1,5 +1,8 @@
 -- Whether some item of a list passes a test, and which is the first.
-use Rattle.std.proofs.Common.{◌≡◌, ◌<◌, ◌+◌, ◌==◌, ◌||◌, ◌&&◌, ℕ, zero, suc, Bool, true, false, cond, not, List, [], ◌∷◌, ◌++◌, Option, Some, None, map, length, get_or, slice_get, nat_lt, ltb, eqb, refl, sym, ap, ◌∙◌, inl, inr, arith}
+use Rattle.std.proofs.Common.{◌≡◌, ◌<◌, ◌+◌, ◌==◌, ◌||◌, ◌&&◌, ℕ, zero, suc, Bool, true, false}
+use Rattle.std.proofs.Common.{cond, not, List, [], ◌∷◌, ◌++◌, Option, Some, None, map, length}
+use Rattle.std.proofs.Common.{get_or, slice_get, nat_lt, ltb, eqb, refl, sym, ap, ◌∙◌, inl, inr}
+use Rattle.std.proofs.Common.{arith}
 use Rattle.std.specs.List.{list_any, position, position_from, range_with_len, Contains}
 use Rattle.std.proofs.lemmas.Bool.{cases_Bool, cases_lt, lt-ltb, le-ltb, false≢true}
 use Rattle.std.proofs.lemmas.Bool.Decides.{eqb_tells}
@@ -30,35 +33,46 @@ pub and-assoc : (a b c : Bool) → ((a && b) && c) ≡ (a && (b && c))
 and-assoc true b c = refl
 and-assoc false b c = refl
 
-pub any-same : {A : Type 0} (f g : A → Bool) (xs : List A) → ((x : A) → f x ≡ g x) → list_any f xs ≡ list_any g xs
+pub any-same : {A : Type 0} (f g : A → Bool) (xs : List A) → ((x : A) → f x ≡ g x)
+    → list_any f xs ≡ list_any g xs
 any-same f g [] e = refl
-any-same f g (x ∷ xs) e = ap (λ b. b || list_any f xs) (e x) ∙ ap (λ b. g x || b) (any-same f g xs e)
+any-same f g (x ∷ xs) e = ap (λ b. b || list_any f xs) (e x)
+    ∙ ap (λ b. g x || b) (any-same f g xs e)
 
-pub any-none : {A : Type 0} (f : A → Bool) (xs : List A) → ((x : A) → f x ≡ false) → list_any f xs ≡ false
+pub any-none : {A : Type 0} (f : A → Bool) (xs : List A) → ((x : A) → f x ≡ false)
+    → list_any f xs ≡ false
 any-none f [] e = refl
 any-none f (x ∷ xs) e = ap (λ b. b || list_any f xs) (e x) ∙ any-none f xs e
 
-pub any-map : {A B : Type 0} (f : B → Bool) (g : A → B) (xs : List A) → list_any f (map g xs) ≡ list_any (λ x. f (g x)) xs
+pub any-map : {A B : Type 0} (f : B → Bool) (g : A → B) (xs : List A)
+    → list_any f (map g xs) ≡ list_any (λ x. f (g x)) xs
 any-map f g [] = refl
 any-map f g (x ∷ xs) = ap (λ b. f (g x) || b) (any-map f g xs)
 
-pub any-under : {A : Type 0} (c : Bool) (f : A → Bool) (xs : List A) → list_any (λ x. c && f x) xs ≡ (c && list_any f xs)
+pub any-under : {A : Type 0} (c : Bool) (f : A → Bool) (xs : List A)
+    → list_any (λ x. c && f x) xs ≡ (c && list_any f xs)
 any-under true f xs = refl
 any-under false f xs = any-none (λ x. false) xs (λ x. refl)
 
-pub any-push : {A : Type 0} (f : A → Bool) (xs : List A) (x : A) → list_any f (xs ++ x ∷ []) ≡ (list_any f xs || f x)
+pub any-push : {A : Type 0} (f : A → Bool) (xs : List A) (x : A)
+    → list_any f (xs ++ x ∷ []) ≡ (list_any f xs || f x)
 any-push f [] x = or-false (f x)
-any-push f (y ∷ ys) x = ap (λ b. f y || b) (any-push f ys x) ∙ sym (or-assoc (f y) (list_any f ys) (f x))
+any-push f (y ∷ ys) x = ap (λ b. f y || b) (any-push f ys x)
+    ∙ sym (or-assoc (f y) (list_any f ys) (f x))
 
 pub range-more : (a n : ℕ) → range_with_len a (suc n) ≡ range_with_len a n ++ (a + n) ∷ []
 range-more a zero = ap (λ k. k ∷ []) (omega arith)
-range-more a (suc n) = ap (λ l. a ∷ l) (range-more (a + 1) n ∙ ap (λ k. range_with_len (a + 1) n ++ k ∷ []) (omega arith))
+range-more a (suc n) = ap (λ l. a ∷ l)
+    (range-more (a + 1) n ∙ ap (λ k. range_with_len (a + 1) n ++ k ∷ []) (omega arith))
 
-pub any-range : (f : ℕ → Bool) (n : ℕ) → list_any f (range_with_len 0 (n + 1)) ≡ (list_any f (range_with_len 0 n) || f n)
+pub any-range : (f : ℕ → Bool) (n : ℕ)
+    → list_any f (range_with_len 0 (n + 1)) ≡ (list_any f (range_with_len 0 n) || f n)
 any-range f n =
     let one : n + 1 ≡ suc n = omega arith in
     let it : 0 + n ≡ n = omega arith in
-    ap (λ k. list_any f (range_with_len 0 k)) one ∙ ap (list_any f) (range-more 0 n ∙ ap (λ k. range_with_len 0 n ++ k ∷ []) it) ∙ any-push f (range_with_len 0 n) n
+    ap (λ k. list_any f (range_with_len 0 k)) one
+    ∙ ap (list_any f) (range-more 0 n ∙ ap (λ k. range_with_len 0 n ++ k ∷ []) it)
+    ∙ any-push f (range_with_len 0 n) n
 
 -- ---- the first that passes
 
@@ -89,36 +103,51 @@ pub record Passes {A : Type 0} (t : A → Bool) (xs : List A) (i : ℕ) : Type 0
   pub there : slice_get xs i ≡ Some item
   pub passes : t item ≡ true
 
-from_some : {A : Type 0} (t : A → Bool) (n : ℕ) (xs : List A) → list_any t xs ≡ true → (i : ℕ) × (position_from t n xs ≡ Some (n + i)) × (i < length xs) × Passes t xs i
+from_some : {A : Type 0} (t : A → Bool) (n : ℕ) (xs : List A) → list_any t xs ≡ true
+    → (i : ℕ) × (position_from t n xs ≡ Some (n + i)) × (i < length xs) × Passes t xs i
 from_some t n [] h = absurd (false≢true h)
 from_some t n (x ∷ xs) h = elim (cases_Bool (t x)) [
   | inl is ↦
-      let here : n ≡ n + 0 = omega arith in
-      (0, taken (t x) (Some n) (position_from t (n + 1) xs) (Some (n + 0)) is (ap Some here), omega arith, record { item = x; there = refl; passes = is })
+      let here : n ≡ n + 0 = omega arith in (
+        0,
+        taken (t x) (Some n) (position_from t (n + 1) xs) (Some (n + 0)) is (ap Some here),
+        omega arith,
+        record { item = x; there = refl; passes = is },
+      )
   | inr other ↦
       let r = from_some t (n + 1) xs (behind_none (t x) (list_any t xs) other h) in
-      let there : n + 1 + r.0 ≡ n + suc r.0 = omega arith in
-      (suc r.0, left (t x) (Some n) (position_from t (n + 1) xs) (Some (n + suc r.0)) other (r.1 ∙ ap Some there), omega (arith, r.2), record { item = r.3.item; there = r.3.there; passes = r.3.passes })
+      let there : n + 1 + r.0 ≡ n + suc r.0 = omega arith in (
+        suc r.0,
+        left (t x) (Some n) (position_from t (n + 1) xs) (Some (n + suc r.0)) other
+            (r.1 ∙ ap Some there),
+        omega (arith, r.2),
+        record { item = r.3.item; there = r.3.there; passes = r.3.passes },
+      )
 ]
 
-from_none : {A : Type 0} (t : A → Bool) (n : ℕ) (xs : List A) → list_any t xs ≡ false → position_from t n xs ≡ None
+from_none : {A : Type 0} (t : A → Bool) (n : ℕ) (xs : List A) → list_any t xs ≡ false
+    → position_from t n xs ≡ None
 from_none t n [] h = refl
 from_none t n (x ∷ xs) h = elim (cases_Bool (t x)) [
   | inl is ↦ absurd (before_none (t x) (list_any t xs) is h)
-  | inr other ↦ left (t x) (Some n) (position_from t (n + 1) xs) None other (from_none t (n + 1) xs (none_behind (t x) (list_any t xs) other h))
+  | inr other ↦ left (t x) (Some n) (position_from t (n + 1) xs) None other
+      (from_none t (n + 1) xs (none_behind (t x) (list_any t xs) other h))
 ]
 
-pub first_place : {A : Type 0} (t : A → Bool) (xs : List A) → list_any t xs ≡ true → (i : ℕ) × (position t xs ≡ Some i) × (i < length xs) × Passes t xs i
+pub first_place : {A : Type 0} (t : A → Bool) (xs : List A) → list_any t xs ≡ true
+    → (i : ℕ) × (position t xs ≡ Some i) × (i < length xs) × Passes t xs i
 first_place t xs h =
     let r = from_some t 0 xs h in
     let it : 0 + r.0 ≡ r.0 = omega arith in
     (r.0, position_from-zero t xs ∙ r.1 ∙ ap Some it, r.2, r.3)
 
-pub no_place : {A : Type 0} (t : A → Bool) (xs : List A) → list_any t xs ≡ false → position t xs ≡ None
+pub no_place : {A : Type 0} (t : A → Bool) (xs : List A) → list_any t xs ≡ false
+    → position t xs ≡ None
 no_place t xs h = position_from-zero t xs ∙ from_none t 0 xs h
 
 -- one item settles it
-pub any-at : {A : Type 0} (t : A → Bool) (xs : List A) (i : ℕ) (d : A) → i < length xs → t (get_or xs i d) ≡ true → list_any t xs ≡ true
+pub any-at : {A : Type 0} (t : A → Bool) (xs : List A) (i : ℕ) (d : A) → i < length xs
+    → t (get_or xs i d) ≡ true → list_any t xs ≡ true
 any-at t [] i d lt h = absurd (omega arith)
 any-at t (x ∷ xs) zero d lt h = rw h refl
 any-at t (x ∷ xs) (suc i) d lt h = elim (cases_Bool (t x)) [
@@ -128,12 +157,15 @@ any-at t (x ∷ xs) (suc i) d lt h = elim (cases_Bool (t x)) [
 
 -- ---- places
 
-pub any-in-range : (f : ℕ → Bool) (n place : ℕ) → place < n → f place ≡ true → list_any f (range_with_len 0 n) ≡ true
+pub any-in-range : (f : ℕ → Bool) (n place : ℕ) → place < n → f place ≡ true
+    → list_any f (range_with_len 0 n) ≡ true
 any-in-range f n place lt h =
     let it : 0 + place ≡ place = omega arith in
-    any-at f (range_with_len 0 n) place 0 (omega (arith, lt, length-range_with_len 0 n)) (ap f (get_or-range_with_len 0 n place 0 lt ∙ it) ∙ h)
+    any-at f (range_with_len 0 n) place 0 (omega (arith, lt, length-range_with_len 0 n))
+    (ap f (get_or-range_with_len 0 n place 0 lt ∙ it) ∙ h)
 
-pub none-more : (f : ℕ → Bool) (n : ℕ) → list_any f (range_with_len 0 n) ≡ false → f n ≡ false → list_any f (range_with_len 0 (n + 1)) ≡ false
+pub none-more : (f : ℕ → Bool) (n : ℕ) → list_any f (range_with_len 0 n) ≡ false → f n ≡ false
+    → list_any f (range_with_len 0 (n + 1)) ≡ false
 none-more f n h g = any-range f n ∙ ap (λ b. b || f n) h ∙ g
 
 -- ---- numbers in a list
@@ -155,9 +187,11 @@ Contains-has xs y h = any-at (λ x. x == y) xs h.0 y h.1 (ap (λ x. x == y) h.2 
 
 -- ---- at the next number
 
-pub next_below : (t n : ℕ) (here : ℕ → Bool) → ((nat_lt t n && here t) || ((n == t) && here n)) ≡ (nat_lt t (n + 1) && here t)
+pub next_below : (t n : ℕ) (here : ℕ → Bool)
+    → ((nat_lt t n && here t) || ((n == t) && here n)) ≡ (nat_lt t (n + 1) && here t)
 next_below t n here = elim (eqb_tells n t) [
-  | inl p ↦ rw (p.0, le-ltb t n (omega (arith, p.1)), lt-ltb t (n + 1) (omega (arith, p.1))) (ap here p.1)
+  | inl p ↦ rw (p.0, le-ltb t n (omega (arith, p.1)), lt-ltb t (n + 1) (omega (arith, p.1)))
+      (ap here p.1)
   | inr p ↦ elim (cases_lt t n) [
     | inl lt ↦ rw (p.0, lt-ltb t n lt, lt-ltb t (n + 1) (omega arith)) (or-false (here t))
     | inr le ↦ rw (p.0, le-ltb t n le, le-ltb t (n + 1) (omega (arith, p.1))) refl

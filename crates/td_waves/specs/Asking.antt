@@ -12,9 +12,11 @@ use Rattle.td_waves.specs.Providers.{under}
 abbrev pub has : ℕ → List ℕ → Bool
 has t xs = list_any (λ x. x == t) xs
 
--- a package of the source with the number t, which is another than the one that asks, and the alternative fits
+-- a package of the source with the number t, which is another than the one that asks,
+-- and the alternative fits
 abbrev pub is_base : Asker → ℕ → Asked → Provider → Bool
-is_base asker t x p = (is_other asker.names.now.keys asker.name.now p.owner && fits asker.archive.now asker.number x p.home) && (p.owner == t)
+is_base asker t x p = (is_other asker.names.now.keys asker.name.now p.owner
+    && fits asker.archive.now asker.number x p.home) && (p.owner == t)
 
 -- such a package is found under the name of an alternative
 abbrev pub is_found : Asker → ℕ → Asked → Bool
@@ -22,4 +24,5 @@ is_found asker t x = list_any (is_base asker t x) (under asker.providers.now x.n
 
 -- under the name of some alternative of the source's build
 abbrev pub finds : Asker → ℕ → Bool
-finds asker t = some_asked (is_found asker t) (asked_first asker.archive.now asker.number) || some_asked (is_found asker t) (asked_for_arch asker.archive.now asker.number)
+finds asker t = some_asked (is_found asker t) (asked_first asker.archive.now asker.number)
+    || some_asked (is_found asker t) (asked_for_arch asker.archive.now asker.number)

@@ -11,7 +11,8 @@ use Rattle.td_indices.specs.Kept.{KeptBinary}
 use Rattle.td_indices.specs.OfferedNames.{offered_names}
 use Rattle.td_indices.specs.Stanzas.{build_depends_of, build_depends_arch_of}
 
--- what the source with a number asks for in Build-Depends, and in Build-Depends-Arch (Debian Policy 7.7)
+-- what the source with a number asks for in Build-Depends,
+-- and in Build-Depends-Arch (Debian Policy 7.7)
 abbrev pub asked_first : Contents → ℕ → List (List Asked)
 asked_first a source = option_map_or (build_depends_of a) (slice_get a.sources source) []
 
@@ -23,17 +24,21 @@ asked_for_arch a source = option_map_or (build_depends_arch_of a) (slice_get a.s
 abbrev pub is_active_at : List ArchWords → ℕ → Asked → Bool
 is_active_at table place x = option_map_or (λ arch. active arch x) (slice_get table place) false
 
--- on the architecture at a place there is the package with this home, the alternative is active, and the source has a row
+-- on the architecture at a place there is the package with this home, the alternative is active,
+-- and the source has a row
 abbrev pub fits_at : Contents → ℕ → Asked → Option ℕ → ℕ → Bool
-fits_at a source x home place = is_on place home && (is_active_at a.table place x && has_row_at a source place)
+fits_at a source x home place = is_on place home
+    && (is_active_at a.table place x && has_row_at a source place)
 
 -- so on some architecture
 abbrev pub fits : Contents → ℕ → Asked → Option ℕ → Bool
 fits a source x home = list_any (fits_at a source x home) (range_with_len 0 (length a.table))
 
--- an alternative of a source's build names a package, or what the package provides, where it fits; a restriction of the version isn't looked at
+-- an alternative of a source's build names a package, or what the package provides, where it fits;
+-- a restriction of the version isn't looked at
 abbrev pub names_package : Contents → ℕ → Asked → KeptBinary → Bool
-names_package a source x b = list_any (λ name. bytes_eq x.name name && fits a source x b.head.home) (offered_names b)
+names_package a source x b = list_any (λ name. bytes_eq x.name name && fits a source x b.head.home)
+    (offered_names b)
 
 -- .. some package of the source t
 abbrev pub names_some_of : Contents → ℕ → List ℕ → Asked → Bool
@@ -45,7 +50,8 @@ some_asked test members = list_any (λ member. list_any test member) members
 
 -- the source with a number asks for a package of t in one of the two fields
 abbrev pub asks : Contents → List ℕ → ℕ → Bool
-asks a t source = some_asked (names_some_of a source t) (asked_first a source) || some_asked (names_some_of a source t) (asked_for_arch a source)
+asks a t source = some_asked (names_some_of a source t) (asked_first a source)
+    || some_asked (names_some_of a source t) (asked_for_arch a source)
 
 -- the source s builds on t, which is another one
 abbrev pub builds_on : Contents → List ℕ → List ℕ → Bool

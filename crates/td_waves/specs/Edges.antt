@@ -13,6 +13,8 @@ abbrev pub name_at : List (Bor (List ℕ)) → ℕ → List ℕ
 name_at names number = slice_index_or (texts names) number []
 
 -- for each name the numbers of those on which its source builds
-pub record AreEdges (a : Contents) (names : List (Bor (List ℕ))) (graph : List (Vec ℕ)) : Type 0 where
+pub record AreEdges (a : Contents) (names : List (Bor (List ℕ)))
+    (graph : List (Vec ℕ)) : Type 0 where
   pub all : length graph ≡ length names
-  pub edges : (s t : ℕ) → s < length names → has t (bases_of (lists graph) s) ≡ (nat_lt t (length names) && builds_on a (name_at names s) (name_at names t))
+  pub edges : (s t : ℕ) → s < length names → has t (bases_of (lists graph) s)
+      ≡ (nat_lt t (length names) && builds_on a (name_at names s) (name_at names t))

@@ -1,5 +1,6 @@
 -- The levels that were found.
-use Rattle.std.specs.Prelude.{◌≡◌, ℕ, ◌==◌, List, slice_index_or, Option, None, Some, slice_get, option_map, if◌then◌else◌}
+use Rattle.std.specs.Prelude.{◌≡◌, ℕ, ◌==◌, List, slice_index_or, Option, None, Some, slice_get}
+use Rattle.std.specs.Prelude.{option_map, if◌then◌else◌}
 use Rattle.td_waves.specs.declared.level.Level.{Level}
 use Rattle.td_waves.specs.declared.level.Level.TheVariants.{At, Cyclic}
 use Rattle.td_waves.specs.declared.placing.Levelling.{Levelling}

@@ -1,5 +1,6 @@
 -- Names, each with a number.
-use Rattle.std.specs.Prelude.{ℕ, Bool, false, not, List, [], map, Option, None, Some, position, slice_get}
+use Rattle.std.specs.Prelude.{ℕ, Bool, false, not, List, [], map, Option, None, Some, position}
+use Rattle.std.specs.Prelude.{slice_get}
 use Rattle.std.specs.Borrow.{Bor}
 use Rattle.std.specs.List.{list_any}
 use Rattle.std.specs.Option.{option_map_or}
@@ -19,4 +20,5 @@ number_among names q = position (λ name. bytes_eq q name.now) names
 
 -- whether the name with a number is another than the text
 abbrev pub is_other : List (Bor (List ℕ)) → List ℕ → ℕ → Bool
-is_other names q number = option_map_or (λ name. not (bytes_eq q name.now)) (slice_get names number) false
+is_other names q number = option_map_or (λ name. not (bytes_eq q name.now))
+    (slice_get names number) false

@@ -1,5 +1,6 @@
 -- What is found under a name: the packages of the affected sources that offer it.
-use Rattle.std.specs.Prelude.{ℕ, zero, suc, Bool, false, ◌&&◌, ◌||◌, List, [], Option, slice_get, slice_index_or}
+use Rattle.std.specs.Prelude.{ℕ, zero, suc, Bool, false, ◌&&◌, ◌||◌, List, [], Option, slice_get}
+use Rattle.std.specs.Prelude.{slice_index_or}
 use Rattle.std.specs.List.{list_any}
 use Rattle.std.specs.HashMap.{get_by}
 use Rattle.std.specs.Option.{option_map_or}
@@ -12,7 +13,8 @@ use Rattle.td_waves.specs.declared.providers.Providers.{Providers}
 
 -- those under a name
 abbrev pub under : Providers → List ℕ → List Provider
-under providers name = option_map_or (λ list. list.items) (get_by (λ k. bytes_eq name k.now) providers.by_name) []
+under providers name = option_map_or (λ list. list.items)
+    (get_by (λ k. bytes_eq name k.now) providers.by_name) []
 
 -- a package at a place, of the source with a number
 abbrev pub provider : Option ℕ → ℕ → Provider
@@ -20,17 +22,21 @@ provider home owner = record { home = home; owner = owner }
 
 -- a package offers the name, and what is kept of it passes a test
 abbrev pub passes_under : List ℕ → (Provider → Bool) → ℕ → KeptBinary → Bool
-passes_under q test owner b = list_any (λ name. bytes_eq q name && test (provider b.head.home owner)) (offered_names b)
+passes_under q test owner b = list_any (λ name.
+    bytes_eq q name && test (provider b.head.home owner)) (offered_names b)
 
 -- the same of the package with a number
 abbrev pub passes_numbered : Contents → List ℕ → (Provider → Bool) → ℕ → ℕ → Bool
-passes_numbered a q test owner number = option_map_or (passes_under q test owner) (slice_get a.binaries number) false
+passes_numbered a q test owner number = option_map_or (passes_under q test owner)
+    (slice_get a.binaries number) false
 
 -- some package of a source does
 abbrev pub some_passes : Contents → List ℕ → (Provider → Bool) → List ℕ → ℕ → Bool
-some_passes a q test source owner = list_any (λ b. is_of source b && passes_under q test owner b) a.binaries
+some_passes a q test source owner = list_any (λ b.
+    is_of source b && passes_under q test owner b) a.binaries
 
 -- some package of the first n of the sources does
 abbrev pub some_below : Contents → List (List ℕ) → List ℕ → (Provider → Bool) → ℕ → Bool
 some_below a names q test zero = false
-some_below a names q test (suc n) = some_below a names q test n || some_passes a q test (slice_index_or names n []) n
+some_below a names q test (suc n) = some_below a names q test n
+    || some_passes a q test (slice_index_or names n []) n

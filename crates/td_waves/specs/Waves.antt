@@ -19,4 +19,5 @@ BuildsOn a s t = IsTrue (builds_on a s t)
 
 -- the level that was found for a name
 abbrev pub level_among : List (Bor (List ℕ)) → Levelling → List ℕ → Option Level
-level_among names levels source = option_map_or (level_of_number levels) (number_among names source) None
+level_among names levels source = option_map_or (level_of_number levels)
+    (number_among names source) None

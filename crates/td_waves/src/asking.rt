@@ -35,7 +35,8 @@ impl<'b, 't, 'a, 'n> Asker<'b, 't, 'a, 'n> {
         alternative: &Alternative<'_>,
         found: &[Provider],
     ) -> Result<(), AllocError>
-        ensures { OnOk result ((t : ℕ) → has t bases.new.items ≡ (has t bases.old.items || list_any (is_base self.now t (asked alternative.now)) found.now)) }
+        ensures { OnOk result ((t : ℕ) → has t bases.new.items ≡ (has t bases.old.items
+            || list_any (is_base self.now t (asked alternative.now)) found.now)) }
     {
         for provider in found {
             if is_other(self.names, self.name, provider.owner)
@@ -52,7 +53,8 @@ impl<'b, 't, 'a, 'n> Asker<'b, 't, 'a, 'n> {
         bases: &mut Vec<usize>,
         member: &[Alternative<'_>],
     ) -> Result<(), AllocError>
-        ensures { OnOk result ((t : ℕ) → has t bases.new.items ≡ (has t bases.old.items || list_any (λ x. is_found self.now t (asked x)) member.now)) }
+        ensures { OnOk result ((t : ℕ) → has t bases.new.items ≡ (has t bases.old.items
+            || list_any (λ x. is_found self.now t (asked x)) member.now)) }
     {
         for alternative in member {
             let found = self.providers.of_name(alternative.name);
@@ -66,7 +68,8 @@ impl<'b, 't, 'a, 'n> Asker<'b, 't, 'a, 'n> {
         bases: &mut Vec<usize>,
         relation: &Relation<'_>,
     ) -> Result<(), AllocError>
-        ensures { OnOk result ((t : ℕ) → has t bases.new.items ≡ (has t bases.old.items || some_asked (is_found self.now t) (members relation.now))) }
+        ensures { OnOk result ((t : ℕ) → has t bases.new.items ≡ (has t bases.old.items
+            || some_asked (is_found self.now t) (members relation.now))) }
     {
         for member in relation.members() {
             self.push_member(bases, member)?;
@@ -80,7 +83,8 @@ impl<'b, 't, 'a, 'n> Asker<'b, 't, 'a, 'n> {
         bases: &mut Vec<usize>,
         field: &Option<Relation<'_>>,
     ) -> Result<(), AllocError>
-        ensures { OnOk result ((t : ℕ) → has t bases.new.items ≡ (has t bases.old.items || some_asked (is_found self.now t) (asked_by field.now))) }
+        ensures { OnOk result ((t : ℕ) → has t bases.new.items
+            ≡ (has t bases.old.items || some_asked (is_found self.now t) (asked_by field.now))) }
     {
         match field {
             Some(relation) => self.push_relation(bases, relation),

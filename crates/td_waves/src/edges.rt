@@ -1,3 +1,4 @@
+//! Which affected sources build on which.
 ghost use Rattle.std.specs.Prelude.{◌≡◌, ◌&&◌, ◌<◌, Bool, List, ℕ, IfOk, length, nat_lt};
 ghost use Rattle.std.specs.List.{All, list_any};
 ghost use Rattle.td_waves.specs.declared.providers.Provider.{Provider};
@@ -22,8 +23,12 @@ fn bases_of<'a>(
     node: usize,
 ) -> Result<Vec<usize>, AllocError>
     requires node { node < length names.now.keys }
-    requires providers { (q : List ℕ) (test : Provider → Bool) → list_any test (under providers.now q) ≡ some_below archive.now (texts names.now.keys) q test (length names.now.keys) }
-    ensures { IfOk result (λ bases. (t : ℕ) → has t bases.items ≡ (nat_lt t (length names.now.keys) && builds_on archive.now (name_at names.now.keys node) (name_at names.now.keys t))) }
+    requires providers { (q : List ℕ) (test : Provider → Bool)
+        → list_any test (under providers.now q)
+        ≡ some_below archive.now (texts names.now.keys) q test (length names.now.keys) }
+    ensures { IfOk result
+        (λ bases. (t : ℕ) → has t bases.items ≡ (nat_lt t (length names.now.keys)
+        && builds_on archive.now (name_at names.now.keys node) (name_at names.now.keys t))) }
 {
     let name = names[node];
     let Some(number) = archive.source_number(name) else {
@@ -47,7 +52,8 @@ pub fn edges(
     names: &IndexSet<&str>,
 ) -> Result<Vec<Vec<usize>>, AllocError>
     ensures edges { IfOk result (λ graph. AreEdges archive.now names.now.keys graph.items) }
-    ensures within { IfOk result (λ graph. All (λ bases. All (λ b. b < length graph.items) bases.items) graph.items) }
+    ensures within { IfOk result
+        (λ graph. All (λ bases. All (λ b. b < length graph.items) bases.items) graph.items) }
 {
     let providers = Providers::of(alloc, archive, names)?;
     let mut graph = Vec::with_capacity(alloc, names.len())?;

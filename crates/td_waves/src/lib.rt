@@ -15,8 +15,6 @@ mod level;
 mod named;
 mod placing;
 mod providers;
-#[cfg(test)]
-mod tests;
 mod waves;
 
 pub use level::Level;

@@ -1,3 +1,4 @@
+//! Names, each once and by its number.
 ghost use Rattle.std.specs.Prelude.{◌≡◌, ◌||◌, List, ℕ, IfOk, OnOk};
 ghost use Rattle.std.specs.Str.{bytes_eq};
 ghost use Rattle.td_waves.specs.Named.{is_among, is_other as is_other_of};
@@ -7,7 +8,8 @@ use std::alloc::{AllocError, Global};
 
 // Adds a name, unless it is there.
 fn put<'a>(set: &mut IndexSet<&'a str>, name: &'a str) -> Result<(), AllocError>
-    ensures { OnOk result ((q : List ℕ) → is_among set.new.keys q ≡ (is_among set.old.keys q || bytes_eq q name.now)) }
+    ensures { OnOk result ((q : List ℕ)
+        → is_among set.new.keys q ≡ (is_among set.old.keys q || bytes_eq q name.now)) }
 {
     match set.insert(name) {
         Ok(_) => Ok(()),

@@ -1,4 +1,7 @@
-ghost use Rattle.std.specs.Prelude.{◌≡◌, ℕ, ◌+◌, ◌-◌, ◌<◌, ◌≤◌, ◌==◌, ◌^◌, ◌∷◌, [], ◌++◌, IfOk, OnOk, length, map, slice_index, slice_index_or, slice_set, if◌then◌else◌};
+//! A level for each node, one level after the other.
+ghost use Rattle.std.specs.Prelude.{◌≡◌, ℕ, ◌+◌, ◌-◌, ◌<◌, ◌≤◌, ◌==◌, ◌^◌, ◌∷◌, [], ◌++◌, IfOk};
+ghost use Rattle.std.specs.Prelude.{OnOk, length, map, slice_index, slice_index_or, slice_set};
+ghost use Rattle.std.specs.Prelude.{if◌then◌else◌};
 ghost use Rattle.std.specs.List.{All};
 ghost use Rattle.td_waves.specs.Graph.{BuildsOn, IsNode, bases_of, freed, lists, raised, uses};
 ghost use Rattle.td_waves.specs.Levels.{IsDepth, StandsAt};
@@ -63,7 +66,8 @@ fn bases_left(alloc: Global, graph: &[Vec<usize>]) -> Result<Vec<usize>, AllocEr
 
 // The nodes with nothing left.
 fn ready_nodes(alloc: Global, left: &[usize]) -> Result<Vec<usize>, AllocError>
-    ensures { IfOk result (λ ready. (s : ℕ) → uses s ready.items ≡ (if slice_index_or left.now s 1 == 0 then 1 else 0)) }
+    ensures { IfOk result (λ ready. (s : ℕ)
+        → uses s ready.items ≡ (if slice_index_or left.now s 1 == 0 then 1 else 0)) }
 {
     let mut ready = Vec::new(alloc);
     for (node, count) in left.iter().enumerate() {
@@ -85,9 +89,13 @@ fn free(
     requires some { 0 < slice_index left.old.items user }
     requires tall { length heights.old.items ≡ length left.old.items }
     requires level { level + 1 < 2 ^ 64 }
-    ensures left { left.new.items ≡ slice_set left.old.items user (slice_index left.old.items user - 1) }
-    ensures heights { heights.new.items ≡ slice_set heights.old.items user (raised level (slice_index heights.old.items user)) }
-    ensures ready { OnOk result (ready.new.items ≡ (if slice_index left.old.items user - 1 == 0 then ready.old.items ++ user ∷ [] else ready.old.items)) }
+    ensures left { left.new.items
+        ≡ slice_set left.old.items user (slice_index left.old.items user - 1) }
+    ensures heights { heights.new.items
+        ≡ slice_set heights.old.items user (raised level (slice_index heights.old.items user)) }
+    ensures ready { OnOk result
+        (ready.new.items ≡ (if slice_index left.old.items user - 1 == 0 then ready.old.items
+        ++ user ∷ [] else ready.old.items)) }
 {
     left[user] -= 1;
     if heights[user] <= level {
@@ -110,9 +118,14 @@ fn release(
     requires counted { (s : ℕ) → uses s users.now ≤ slice_index left.old.items s }
     requires tall { length heights.old.items ≡ length left.old.items }
     requires level { level + 1 < 2 ^ 64 }
-    ensures left { OnOk result ((s : ℕ) → slice_index left.new.items s + uses s users.now ≡ slice_index left.old.items s) }
-    ensures heights { OnOk result ((s : ℕ) → slice_index heights.new.items s ≡ (if uses s users.now == 0 then slice_index heights.old.items s else raised level (slice_index heights.old.items s))) }
-    ensures ready { OnOk result ((s : ℕ) → uses s ready.new.items ≡ uses s ready.old.items + freed (slice_index left.old.items s) (slice_index left.new.items s)) }
+    ensures left { OnOk result ((s : ℕ)
+        → slice_index left.new.items s + uses s users.now ≡ slice_index left.old.items s) }
+    ensures heights { OnOk result
+        ((s : ℕ) → slice_index heights.new.items s
+        ≡ (if uses s users.now == 0 then slice_index heights.old.items s else raised level
+        (slice_index heights.old.items s))) }
+    ensures ready { OnOk result ((s : ℕ) → uses s ready.new.items ≡ uses s ready.old.items
+        + freed (slice_index left.old.items s) (slice_index left.new.items s)) }
     ensures left_len { length left.new.items ≡ length left.old.items }
     ensures heights_len { length heights.new.items ≡ length heights.old.items }
 {
@@ -125,7 +138,8 @@ fn release(
 /// The level of each node of a graph, which has for each node the list of those that it builds on.
 pub fn levels(alloc: Global, graph: &[Vec<usize>]) -> Result<Levelling, AllocError>
     requires { All (λ bases. All (λ b. b < length graph.now) bases.items) graph.now }
-    ensures levels { IfOk result (λ levelling. (node : ℕ) → StandsAt (IsNode (lists graph.now)) (BuildsOn (lists graph.now)) node (level_of levelling node)) }
+    ensures levels { IfOk result (λ levelling. (node : ℕ) → StandsAt (IsNode (lists graph.now))
+        (BuildsOn (lists graph.now)) node (level_of levelling node)) }
     ensures depth { IfOk result (λ levelling. IsDepth (level_of levelling) levelling.depth) }
 {
     let users = users_of(alloc, graph)?;

@@ -20,7 +20,9 @@ pub struct Providers<'a> {
 }
 
 impl<'a> Providers<'a> {
-    ghost use Rattle.std.specs.Prelude.{◌≡◌, ◌++◌, ◌∷◌, ◌||◌, ◌&&◌, [], Bool, List, ℕ, false, IfOk, OnOk, if◌then◌else◌, length, slice_get, slice_index_or};
+    ghost use Rattle.std.specs.Prelude.{◌≡◌, ◌++◌, ◌∷◌, ◌||◌, ◌&&◌, [], Bool, List, ℕ, false};
+    ghost use Rattle.std.specs.Prelude.{IfOk, OnOk, if◌then◌else◌, length, slice_get};
+    ghost use Rattle.std.specs.Prelude.{slice_index_or};
     ghost use Rattle.std.specs.List.{list_any};
     ghost use Rattle.std.specs.Option.{option_map_or};
     ghost use Rattle.std.specs.Str.{bytes_eq};
@@ -38,7 +40,9 @@ impl<'a> Providers<'a> {
     }
 
     fn push(&mut self, name: &'a str, provider: Provider) -> Result<(), AllocError>
-        ensures { OnOk result ((q : List ℕ) → under self.new q ≡ (if bytes_eq q name.now then under self.old q ++ provider ∷ [] else under self.old q)) }
+        ensures { OnOk result
+            ((q : List ℕ) → under self.new q ≡ (if bytes_eq q name.now then under self.old q
+            ++ provider ∷ [] else under self.old q)) }
     {
         let list = self.by_name.entry(name)?.or_default();
         list.push(provider)?;
@@ -52,7 +56,10 @@ impl<'a> Providers<'a> {
         number: usize,
         owner: usize,
     ) -> Result<(), AllocError>
-        ensures { OnOk result ((q : List ℕ) (test : Provider → Bool) → list_any test (under self.new q) ≡ (list_any test (under self.old q) || passes_numbered archive.now q test owner number)) }
+        ensures { OnOk result
+            ((q : List ℕ) (test : Provider → Bool)
+            → list_any test (under self.new q) ≡ (list_any test (under self.old q)
+            || passes_numbered archive.now q test owner number)) }
     {
         let Some(binary) = archive.binary(number) else {
             return Ok(());
@@ -74,7 +81,10 @@ impl<'a> Providers<'a> {
         source: &str,
         owner: usize,
     ) -> Result<(), AllocError>
-        ensures { OnOk result ((q : List ℕ) (test : Provider → Bool) → list_any test (under self.new q) ≡ (list_any test (under self.old q) || some_passes archive.now q test source.now owner)) }
+        ensures { OnOk result
+            ((q : List ℕ) (test : Provider → Bool)
+            → list_any test (under self.new q) ≡ (list_any test (under self.old q)
+            || some_passes archive.now q test source.now owner)) }
     {
         let numbers = archive.packages_of(source);
         for number in numbers {
@@ -89,7 +99,10 @@ impl<'a> Providers<'a> {
         archive: &Archive<'_, 'a>,
         sources: &IndexSet<&str>,
     ) -> Result<Providers<'a>, AllocError>
-        ensures { IfOk result (λ providers. (q : List ℕ) (test : Provider → Bool) → list_any test (under providers q) ≡ some_below archive.now (texts sources.now.keys) q test (length sources.now.keys)) }
+        ensures { IfOk result
+            (λ providers. (q : List ℕ) (test : Provider → Bool)
+            → list_any test (under providers q)
+            ≡ some_below archive.now (texts sources.now.keys) q test (length sources.now.keys)) }
     {
         let mut providers = Providers::new(alloc);
         for owner in 0..sources.len() {

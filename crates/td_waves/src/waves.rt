@@ -1,3 +1,4 @@
+//! The levels of affected sources, by their names.
 use crate::edges::edges;
 use crate::level::Level;
 use crate::named::each_once;
@@ -26,7 +27,8 @@ impl<'n> Waves<'n> {
         archive: &Archive<'_, '_>,
         affected: &[&'n str],
     ) -> Result<Waves<'n>, AllocError>
-        ensures levels { IfOk result (λ waves. (source : List ℕ) → StandsAt (IsAffected affected.now) (BuildsOn archive.now) source (level_of waves source)) }
+        ensures levels { IfOk result (λ waves. (source : List ℕ) → StandsAt
+            (IsAffected affected.now) (BuildsOn archive.now) source (level_of waves source)) }
         ensures depth { IfOk result (λ waves. IsDepth (level_of waves) (depth_of waves)) }
     {
         let names = each_once(alloc, affected)?;

@@ -1,5 +1,6 @@
 -- The architectures of a command line. This project's own, in the style of wanna-build.
-use Rattle.std.specs.Prelude.{ℕ, ◌||◌, Bool, true, false, List, [], ◌∷◌, Option, Some, None, is_some, Result, Ok, Err, codes, fold, filter, map, if◌then◌else◌}
+use Rattle.std.specs.Prelude.{ℕ, ◌||◌, Bool, true, false, List, [], ◌∷◌, Option, Some, None}
+use Rattle.std.specs.Prelude.{is_some, Result, Ok, Err, codes, fold, filter, map, if◌then◌else◌}
 use Rattle.std.specs.Str.{bytes_eq}
 use Rattle.td_text.specs.Cut.{strip}
 use Rattle.td_text.specs.Lines.{on_ok}
@@ -44,8 +45,10 @@ archs_checked table (word ∷ words) =
     if is_choice table word.text then all_pass (is_arch_word table) UnknownArch words
     else Err (Wrong UnknownArch word.place)
 
--- the words that name architectures, up to a dot or the end, and those behind the dot, if it is there
-abbrev pub archs_at : List ArchWords → End → List Word → Result (List Word × Option (List Word)) CommandFault
+-- the words that name architectures, up to a dot or the end,
+-- and those behind the dot, if it is there
+abbrev pub archs_at : List ArchWords → End → List Word
+    → Result (List Word × Option (List Word)) CommandFault
 archs_at table end words =
     on_ok (filled end NoArch words) (λ _.
     on_ok (archs_checked table (before_dot words)) (λ _.

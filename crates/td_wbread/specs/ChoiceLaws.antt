@@ -1,5 +1,6 @@
 -- Which architectures words choose, said of the whole list. This project's own.
-use Rattle.std.specs.Prelude.{◌≡◌, ◌↔◌, ℕ, ◌&&◌, ◌||◌, not, true, false, Bool, List, ◌∷◌, ◌++◌, codes}
+use Rattle.std.specs.Prelude.{◌≡◌, ◌↔◌, ℕ, ◌&&◌, ◌||◌, not, true, false, Bool, List, ◌∷◌, ◌++◌}
+use Rattle.std.specs.Prelude.{codes}
 use Rattle.std.specs.List.{list_any}
 use Rattle.std.specs.Str.{bytes_eq}
 use Rattle.td_text.specs.Cut.{strip}
@@ -12,7 +13,8 @@ chooses name text = is_all text || bytes_eq text name
 
 -- a word that takes it away
 abbrev pub takes_away : List ℕ → List ℕ → Bool
-takes_away name text = not (chooses name text) && passes (λ t. bytes_eq t name) (strip (codes "-") text)
+takes_away name text = not (chooses name text)
+    && passes (λ t. bytes_eq t name) (strip (codes "-") text)
 
 -- some word chooses the name, and none behind it takes it away
 pub record LastChooses (words : List Word) (name : List ℕ) : Type 0 where
@@ -25,4 +27,5 @@ pub record LastChooses (words : List Word) (name : List ℕ) : Type 0 where
 
 -- a name is chosen exactly where this is so
 abbrev pub ChoiceIsExact : Type 0
-ChoiceIsExact = (words : List Word) (name : List ℕ) → (is_chosen words name ≡ true) ↔ LastChooses words name
+ChoiceIsExact = (words : List Word) (name : List ℕ)
+    → (is_chosen words name ≡ true) ↔ LastChooses words name

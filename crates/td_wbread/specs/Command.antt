@@ -1,4 +1,5 @@
--- Which words are a command line, and what is wrong first with those that aren't. This project's own, in the style of wanna-build.
+-- Which words are a command line, and what is wrong first with those that aren't.
+-- This project's own, in the style of wanna-build.
 use Rattle.std.specs.Prelude.{ℕ, List, [], Option, Some, None, Result, Ok}
 use Rattle.td_text.specs.Lines.{on_ok}
 use Rattle.td_relation.specs.Arch.{ArchWords}
@@ -35,7 +36,8 @@ pub record Spoken : Type 0 where
 
 -- the parts of a command line, or what is wrong first: verb and number, packages, dot,
 -- architectures, and what follows these
-unfoldable pub spoken_at : List ArchWords → List (List ℕ) → End → List Word → Result Spoken CommandFault
+unfoldable pub spoken_at : List ArchWords → List (List ℕ) → End → List Word
+    → Result Spoken CommandFault
 spoken_at table suites end words =
     on_ok (verb_at end words) (λ verb.
     on_ok (packages_at end verb.1) (λ packages.
@@ -54,8 +56,10 @@ command_of table s = record {
 }
 
 -- the command that words are, or what is wrong first
-abbrev pub command_from : List ArchWords → List (List ℕ) → End → List Word → Result CommandParts CommandFault
-command_from table suites end words = on_ok (spoken_at table suites end words) (λ s. Ok (command_of table s))
+abbrev pub command_from : List ArchWords → List (List ℕ) → End → List Word
+    → Result CommandParts CommandFault
+command_from table suites end words = on_ok (spoken_at table suites end words)
+    (λ s. Ok (command_of table s))
 
 -- the command that a line is, or what is wrong first
 abbrev pub command_at : List ArchWords → List (List ℕ) → List ℕ → Result CommandParts CommandFault

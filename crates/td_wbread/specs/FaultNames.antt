@@ -1,7 +1,12 @@
 -- The names of faults, as they are printed.
 use Rattle.std.specs.Prelude.{ℕ, List, codes}
 use Rattle.td_wbread.specs.declared.fault.LineFault.{LineFault}
-use Rattle.td_wbread.specs.declared.fault.LineFault.TheVariants.{UnterminatedQuote, UnknownCommand, BadNumber, NoPackage, BadPackage, NoDot, NoArch, UnknownArch, UnknownSuite, BadRelation, MissingMessage, Extra, MissingValue}
+use Rattle.td_wbread.specs.declared.fault.LineFault.TheVariants.{UnterminatedQuote, UnknownCommand}
+use Rattle.td_wbread.specs.declared.fault.LineFault.TheVariants.{BadNumber, NoPackage, BadPackage}
+use Rattle.td_wbread.specs.declared.fault.LineFault.TheVariants.{NoDot, NoArch, UnknownArch}
+use Rattle.td_wbread.specs.declared.fault.LineFault.TheVariants.{UnknownSuite, BadRelation}
+use Rattle.td_wbread.specs.declared.fault.LineFault.TheVariants.{MissingMessage, Extra}
+use Rattle.td_wbread.specs.declared.fault.LineFault.TheVariants.{MissingValue}
 
 -- the name that is printed after `refused: `
 abbrev pub name_of : LineFault → List ℕ

@@ -1,5 +1,6 @@
 -- Faults at a place of a line. This project's own.
-use Rattle.std.specs.Prelude.{◌≡◌, ℕ, Bool, not, List, [], ◌∷◌, ◌&&◌, Option, Some, None, Result, Ok, Err, codes, option_map, position, drop, ◌+◌, if◌then◌else◌}
+use Rattle.std.specs.Prelude.{◌≡◌, ℕ, Bool, not, List, [], ◌∷◌, ◌&&◌, Option, Some, None, Result}
+use Rattle.std.specs.Prelude.{Ok, Err, codes, option_map, position, drop, ◌+◌, if◌then◌else◌}
 use Rattle.std.specs.List.{before_first, find}
 use Rattle.std.specs.Str.{bytes_eq}
 use Rattle.td_wbread.specs.declared.fault.CommandFault.{CommandFault}

@@ -23,4 +23,5 @@ pub record CanBeQuoted (text : List ℕ) : Type 0 where
 -- is left behind them
 abbrev pub QuotedWordsAreRead : Type 0
 QuotedWordsAreRead = (texts : List (List ℕ)) → AllByRecursion CanBeQuoted texts →
-    (map (λ w. w.text) (words_of (quoted_line texts)) ≡ texts) × (end_of (quoted_line texts) ≡ Closed (length (quoted_line texts)))
+    (map (λ w. w.text) (words_of (quoted_line texts)) ≡ texts)
+    × (end_of (quoted_line texts) ≡ Closed (length (quoted_line texts)))

@@ -1,5 +1,7 @@
--- The rows that a command names, and where a row's version matches. This project's own, in the style of wanna-build.
-use Rattle.std.specs.Prelude.{ℕ, ◌==◌, ◌&&◌, ◌||◌, Bool, true, false, List, Option, Some, None, is_none, unwrap_or, Result, Ok, Err}
+-- The rows that a command names, and where a row's version matches.
+-- This project's own, in the style of wanna-build.
+use Rattle.std.specs.Prelude.{ℕ, ◌==◌, ◌&&◌, ◌||◌, Bool, true, false, List, Option, Some, None}
+use Rattle.std.specs.Prelude.{is_none, unwrap_or, Result, Ok, Err}
 use Rattle.std.specs.List.{list_any}
 use Rattle.std.specs.Str.{bytes_eq}
 use Rattle.td_version.specs.Order.{same_version}
@@ -11,7 +13,8 @@ use Rattle.td_wbread.specs.Command.{CommandParts}
 
 -- a row is named where a package word has its source, and its architecture is chosen
 abbrev pub is_named : CommandParts → List ℕ → List ℕ → Bool
-is_named c source arch = list_any (λ p. bytes_eq p.source source) c.packages && list_any (λ a. bytes_eq a arch) c.archs
+is_named c source arch = list_any (λ p. bytes_eq p.source source) c.packages
+    && list_any (λ a. bytes_eq a arch) c.archs
 
 -- a base is equal in order to a source's version; a base that is no version is equal to nothing
 abbrev pub is_base : Parts → Result Parts VersionFault → Bool
@@ -39,7 +42,8 @@ version_matches version number (Some text) = is_rebuild_of version number (split
 -- the version of a row matches where some package word with its source has a version that does;
 -- given are the source, its version, and the row's number
 abbrev pub is_matched : CommandParts → List ℕ → Parts → ℕ → Bool
-is_matched c source version number = list_any (λ p. bytes_eq p.source source && version_matches version number p.version) c.packages
+is_matched c source version number = list_any (λ p.
+    bytes_eq p.source source && version_matches version number p.version) c.packages
 
 -- some package word has the source, without a version: such a word names the source's rows whatever
 -- their version

@@ -17,4 +17,5 @@ pub record ArePackages (words front rest : List Word) : Type 0 where
 
 -- words are read so exactly where they are so
 abbrev pub PackagesAreExact : Type 0
-PackagesAreExact = (end : End) (words front rest : List Word) → (packages_at end words ≡ Ok (front, rest)) ↔ ArePackages words front rest
+PackagesAreExact = (end : End) (words front rest : List Word)
+    → (packages_at end words ≡ Ok (front, rest)) ↔ ArePackages words front rest

@@ -1,5 +1,6 @@
 -- The packages of a command line. This project's own, in the style of wanna-build.
-use Rattle.std.specs.Prelude.{ℕ, ◌&&◌, Bool, List, Option, Some, None, is_some, is_ok, Result, Ok, Err, if◌then◌else◌}
+use Rattle.std.specs.Prelude.{ℕ, ◌&&◌, Bool, List, Option, Some, None, is_some, is_ok, Result, Ok}
+use Rattle.std.specs.Prelude.{Err, if◌then◌else◌}
 use Rattle.std.specs.List.{filter_map}
 use Rattle.td_text.specs.Cut.{cut}
 use Rattle.td_text.specs.Lines.{on_ok}
@@ -22,8 +23,10 @@ is_version text = is_ok (reading text)
 
 -- the source and the version by the cut at the first `_`, which no name has (Debian Policy 5.6.1)
 abbrev pub package_cut : List ℕ → Option (List ℕ × List ℕ) → Option PackageText
-package_cut text None = if is_name text then Some (record { source = text; version = None }) else None
-package_cut text (Some p) = if is_name p.0 && is_version p.1 then Some (record { source = p.0; version = Some p.1 }) else None
+package_cut text None = if is_name text then Some (record { source = text; version = None })
+    else None
+package_cut text (Some p) = if is_name p.0 && is_version p.1
+    then Some (record { source = p.0; version = Some p.1 }) else None
 
 -- `name` or `name_version`
 unfoldable pub package_at : List ℕ → Option PackageText
@@ -38,7 +41,8 @@ abbrev pub packages_of : List Word → List PackageText
 packages_of words = filter_map (λ w. package_at w.text) words
 
 -- the dot behind the packages, and what follows it
-abbrev pub dotted : End → List Word → Option (List Word) → Result (List Word × List Word) CommandFault
+abbrev pub dotted : End → List Word → Option (List Word)
+    → Result (List Word × List Word) CommandFault
 dotted end front None = Err (missing end NoDot)
 dotted end front (Some words) = Ok (front, words)
 

@@ -1,5 +1,7 @@
--- What follows the architectures of a command line: a suite and options. This project's own, in the style of wanna-build.
-use Rattle.std.specs.Prelude.{ℕ, ◌&&◌, ◌||◌, Bool, true, false, List, [], ◌∷◌, Option, Some, None, is_none, is_ok, Result, Ok, Err, codes, if◌then◌else◌}
+-- What follows the architectures of a command line: a suite and options.
+-- This project's own, in the style of wanna-build.
+use Rattle.std.specs.Prelude.{ℕ, ◌&&◌, ◌||◌, Bool, true, false, List, [], ◌∷◌, Option, Some, None}
+use Rattle.std.specs.Prelude.{is_none, is_ok, Result, Ok, Err, codes, if◌then◌else◌}
 use Rattle.std.specs.List.{list_any}
 use Rattle.std.specs.Str.{bytes_eq}
 use Rattle.td_text.specs.Lines.{on_ok}
@@ -11,7 +13,9 @@ use Rattle.td_wbread.specs.declared.option_reading.Flag.TheVariants.{Message, Ex
 use Rattle.td_wbread.specs.declared.fault.CommandFault.{CommandFault}
 use Rattle.td_wbread.specs.declared.fault.CommandFault.TheVariants.{Wrong}
 use Rattle.td_wbread.specs.declared.fault.LineFault.{LineFault}
-use Rattle.td_wbread.specs.declared.fault.LineFault.TheVariants.{UnterminatedQuote, UnknownSuite, BadRelation, MissingMessage, Extra, MissingValue}
+use Rattle.td_wbread.specs.declared.fault.LineFault.TheVariants.{UnterminatedQuote, UnknownSuite}
+use Rattle.td_wbread.specs.declared.fault.LineFault.TheVariants.{BadRelation, MissingMessage, Extra}
+use Rattle.td_wbread.specs.declared.fault.LineFault.TheVariants.{MissingValue}
 use Rattle.td_wbread.specs.declared.word.Word.{Word}
 use Rattle.td_wbread.specs.declared.word.End.{End}
 use Rattle.td_wbread.specs.declared.word.End.TheVariants.{Closed, Open}
@@ -92,18 +96,21 @@ with_value ExtraDepends seen value = record { message = seen.message; extra = So
 -- the value of an option is a relation, where it has to be one
 abbrev pub valued : Verb → Flag → Values → Word → Result Values CommandFault
 valued verb flag seen value =
-    if wants_relation verb flag then on_ok (relation_checked value) (λ _. Ok (with_value flag seen value))
+    if wants_relation verb flag
+    then on_ok (relation_checked value) (λ _. Ok (with_value flag seen value))
     else Ok (with_value flag seen value)
 
 -- the line may end here
 abbrev pub finished : Verb → End → Values → Result Values CommandFault
 finished verb (Open place) seen = Err (Wrong UnterminatedQuote place)
-finished verb (Closed place) seen = if needs_relation verb && is_none seen.message then Err (Wrong MissingMessage place) else Ok seen
+finished verb (Closed place) seen = if needs_relation verb && is_none seen.message
+    then Err (Wrong MissingMessage place) else Ok seen
 
 -- options with their values, up to the end
 unfoldable pub options_at : Verb → End → Values → List Word → Result Values CommandFault
 options_at verb end seen [] = finished verb end seen
-options_at verb end seen (word ∷ []) = on_ok (flag_at verb seen word) (λ flag. Err (missing end (missing_value flag)))
+options_at verb end seen (word ∷ []) = on_ok (flag_at verb seen word)
+    (λ flag. Err (missing end (missing_value flag)))
 options_at verb end seen (word ∷ (value ∷ words)) =
     on_ok (flag_at verb seen word) (λ flag.
     on_ok (valued verb flag seen value) (λ more.
@@ -112,7 +119,8 @@ options_at verb end seen (word ∷ (value ∷ words)) =
 -- what follows the suite: nothing, or a dot and options
 abbrev pub suite_end : Verb → End → List Word → Result Values CommandFault
 suite_end verb end [] = finished verb end no_values
-suite_end verb end (word ∷ words) = if is_dot word then options_at verb end no_values words else Err (Wrong Extra word.place)
+suite_end verb end (word ∷ words) = if is_dot word then options_at verb end no_values words
+    else Err (Wrong Extra word.place)
 
 -- one of the suites
 abbrev pub is_suite : List (List ℕ) → List ℕ → Bool
@@ -123,7 +131,8 @@ abbrev pub dot_end : Verb → List (List ℕ) → End → List Word → Result V
 dot_end verb suites end [] = finished verb end no_values
 dot_end verb suites end (word ∷ words) =
     if is_option word then options_at verb end no_values (word ∷ words)
-    else (if is_suite suites word.text then suite_end verb end words else Err (Wrong UnknownSuite word.place))
+    else (if is_suite suites word.text then suite_end verb end words
+    else Err (Wrong UnknownSuite word.place))
 
 -- what follows the architectures: nothing, or a dot and more
 abbrev pub tail_at : Verb → List (List ℕ) → End → Option (List Word) → Result Values CommandFault

@@ -1,11 +1,14 @@
--- Which words may follow the architectures, said of the whole list, and what they mean. This project's own, in the style of wanna-build.
-use Rattle.std.specs.Prelude.{◌≡◌, ◌↔◌, ◌⊎◌, ℕ, true, false, is_some, List, [], ◌∷◌, Option, Some, None, Ok}
+-- Which words may follow the architectures, said of the whole list, and what they mean.
+-- This project's own, in the style of wanna-build.
+use Rattle.std.specs.Prelude.{◌≡◌, ◌↔◌, ◌⊎◌, ℕ, true, false, is_some, List, [], ◌∷◌, Option, Some}
+use Rattle.std.specs.Prelude.{None, Ok}
 use Rattle.td_wbread.specs.declared.command.Verb.{Verb}
 use Rattle.td_wbread.specs.declared.word.Word.{Word}
 use Rattle.td_wbread.specs.declared.word.End.{End}
 use Rattle.td_wbread.specs.declared.word.End.TheVariants.{Closed, Open}
 use Rattle.td_wbread.specs.Faults.{is_dot}
-use Rattle.td_wbread.specs.Tail.{Values, is_extra, is_message, is_option, is_relation, is_suite, needs_relation, tail_at, takes_extra, takes_message}
+use Rattle.td_wbread.specs.Tail.{Values, is_extra, is_message, is_option, is_relation, is_suite}
+use Rattle.td_wbread.specs.Tail.{needs_relation, tail_at, takes_extra, takes_message}
 
 -- ---- 1. options
 
@@ -28,13 +31,16 @@ AreValues message extra values = values ≡ record { message = message; extra = 
 -- a pair of words is one of the options
 abbrev pub IsOneOption : Verb → Word → Word → Values → Type 0
 IsOneOption verb flag value values =
-    (IsMessage verb flag value × AreValues (Some value) None values) ⊎ (IsExtra verb flag value × AreValues None (Some value) values)
+    (IsMessage verb flag value × AreValues (Some value) None values)
+    ⊎ (IsExtra verb flag value × AreValues None (Some value) values)
 
 -- two pairs of words are both options, in either order
 abbrev pub AreBothOptions : Verb → Word → Word → Word → Word → Values → Type 0
 AreBothOptions verb flag value other second values =
-    (IsMessage verb flag value × IsExtra verb other second × AreValues (Some value) (Some second) values)
-    ⊎ (IsExtra verb flag value × IsMessage verb other second × AreValues (Some second) (Some value) values)
+    (IsMessage verb flag value × IsExtra verb other second
+    × AreValues (Some value) (Some second) values)
+    ⊎ (IsExtra verb flag value × IsMessage verb other second
+    × AreValues (Some second) (Some value) values)
 
 -- no word, one option with its value, or two different ones
 abbrev pub AreOptions : Verb → List Word → Values → Type 0
@@ -42,7 +48,8 @@ AreOptions verb [] values = AreValues None None values
 AreOptions verb (flag ∷ []) values = ⊥
 AreOptions verb (flag ∷ value ∷ []) values = IsOneOption verb flag value values
 AreOptions verb (flag ∷ value ∷ other ∷ []) values = ⊥
-AreOptions verb (flag ∷ value ∷ other ∷ second ∷ []) values = AreBothOptions verb flag value other second values
+AreOptions verb (flag ∷ value ∷ other ∷ second ∷ []) values =
+    AreBothOptions verb flag value other second values
 AreOptions verb (flag ∷ value ∷ other ∷ second ∷ one ∷ more) values = ⊥
 
 -- ---- 2. the five shapes
@@ -62,14 +69,18 @@ abbrev pub FollowDot : Verb → List (List ℕ) → List Word → Values → Typ
 FollowDot verb suites [] values = AreValues None None values
 FollowDot verb suites (word ∷ words) values =
     ((is_option word ≡ true) × AreOptions verb (word ∷ words) values)
-    ⊎ ((is_option word ≡ false) × (is_suite suites word.text ≡ true) × FollowSuite verb words values)
+    ⊎ ((is_option word ≡ false) × (is_suite suites word.text ≡ true)
+    × FollowSuite verb words values)
 
 -- behind the architectures: the end, or a dot and more
 abbrev pub FollowArchs : Verb → List (List ℕ) → Option (List Word) → Values → Type 0
 FollowArchs verb suites None values = AreValues None None values
 FollowArchs verb suites (Some words) values = FollowDot verb suites words values
 
--- what follows the architectures is read so exactly where it has one of these shapes, and the line may end behind it
+-- what follows the architectures is read so exactly where it has one of these shapes,
+-- and the line may end behind it
 abbrev pub TailsAreExact : Type 0
-TailsAreExact = (verb : Verb) (suites : List (List ℕ)) (end : End) (behind : Option (List Word)) (values : Values) →
-    (tail_at verb suites end behind ≡ Ok values) ↔ (FollowArchs verb suites behind values × MayEnd verb end values)
+TailsAreExact = (verb : Verb) (suites : List (List ℕ)) (end : End) (behind : Option (List Word))
+    (values : Values) →
+    (tail_at verb suites end behind ≡ Ok values)
+    ↔ (FollowArchs verb suites behind values × MayEnd verb end values)

@@ -1,11 +1,13 @@
 -- The word at the front of a text, as it is taken off. This project's own.
-use Rattle.std.specs.Prelude.{◌≡◌, ℕ, ◌+◌, Bool, true, false, List, [], ◌∷◌, ◌++◌, Option, None, length, if◌then◌else◌}
+use Rattle.std.specs.Prelude.{◌≡◌, ℕ, ◌+◌, Bool, true, false, List, [], ◌∷◌, ◌++◌, Option, None}
+use Rattle.std.specs.Prelude.{length, if◌then◌else◌}
 use Rattle.std.specs.List.{list_any}
 use Rattle.td_rows.specs.Text.{has_newline}
 use Rattle.td_text.specs.Runs.{is_space}
 use Rattle.td_wbread.specs.declared.scanning.Front.{Front}
 use Rattle.td_wbread.specs.declared.scanning.Front.TheVariants.{Whole, Open}
-use Rattle.td_wbread.specs.Words.{Mark, unclosed, is_quote, is_gap, is_unclosed, marks, text_of, is_bare_piece, on_one_line}
+use Rattle.td_wbread.specs.Words.{Mark, unclosed, is_quote, is_gap, is_unclosed, marks, text_of}
+use Rattle.td_wbread.specs.Words.{is_bare_piece, on_one_line}
 
 -- no quote stands at the front of a text
 abbrev pub IsUnquoted : List ℕ → Type 0

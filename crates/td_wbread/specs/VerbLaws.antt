@@ -1,5 +1,7 @@
--- Which words are a verb with its own, said of the whole list, and what they mean. This project's own, in the style of wanna-build.
-use Rattle.std.specs.Prelude.{◌≡◌, ◌↔◌, ◌⊎◌, ℕ, ◌<◌, ◌≤◌, true, List, [], ◌∷◌, Some, None, Ok, length, codes, decimal, ℤ, pos}
+-- Which words are a verb with its own, said of the whole list, and what they mean.
+-- This project's own, in the style of wanna-build.
+use Rattle.std.specs.Prelude.{◌≡◌, ◌↔◌, ◌⊎◌, ℕ, ◌<◌, ◌≤◌, true, List, [], ◌∷◌, Some, None, Ok}
+use Rattle.std.specs.Prelude.{length, codes, decimal, ℤ, pos}
 use Rattle.std.specs.Str.{all_ascii_digits}
 use Rattle.std.specs.Str.Parse.{digits_value}
 use Rattle.td_text.specs.Limits.{max_rebuild}
@@ -27,7 +29,8 @@ pub record IsSize (text : List ℕ) (n : ℕ) : Type 0 where
 
 -- the text writes this priority: digits, or a minus and digits
 abbrev pub IsPriority : List ℕ → ℤ → Type 0
-IsPriority text priority = (size : List ℕ) × (n : ℕ) × IsSize size n × (((text ≡ size) × (priority ≡ pos n)) ⊎ ((text ≡ 45 ∷ size) × (priority ≡ neg_ℤ (pos n))))
+IsPriority text priority = (size : List ℕ) × (n : ℕ) × IsSize size n
+    × (((text ≡ size) × (priority ≡ pos n)) ⊎ ((text ≡ 45 ∷ size) × (priority ≡ neg_ℤ (pos n))))
 
 -- the text writes this rebuild number, in decimal without leading zeros
 pub record IsRebuildNumber (text : List ℕ) (n : ℕ) : Type 0 where
@@ -62,11 +65,15 @@ Follows text words rest = (word : Word) × (words ≡ word ∷ rest) × (word.te
 -- `nmu` and a number, behind which another word comes; `bp` and a priority; `dw`
 abbrev pub IsVerb : End → List Word → Verb → List Word → Type 0
 IsVerb end words Gb rest = Follows (codes "gb") words rest
-IsVerb end words (Nmu None) rest = Follows (codes "nmu") words rest × (BeginsWithNumber end rest → ⊥)
-IsVerb end words (Nmu (Some n)) rest = (number : Word) × Follows (codes "nmu") words (number ∷ rest) × IsRebuildNumber number.text n × GoesOn end rest
-IsVerb end words (Bp priority) rest = (number : Word) × Follows (codes "bp") words (number ∷ rest) × IsPriority number.text priority
+IsVerb end words (Nmu None) rest = Follows (codes "nmu") words rest
+    × (BeginsWithNumber end rest → ⊥)
+IsVerb end words (Nmu (Some n)) rest = (number : Word) × Follows (codes "nmu") words (number ∷ rest)
+    × IsRebuildNumber number.text n × GoesOn end rest
+IsVerb end words (Bp priority) rest = (number : Word) × Follows (codes "bp") words (number ∷ rest)
+    × IsPriority number.text priority
 IsVerb end words Dw rest = Follows (codes "dw") words rest
 
 -- a verb is read so exactly where it has one of these shapes
 abbrev pub VerbsAreExact : Type 0
-VerbsAreExact = (end : End) (words : List Word) (verb : Verb) (rest : List Word) → (verb_at end words ≡ Ok (verb, rest)) ↔ IsVerb end words verb rest
+VerbsAreExact = (end : End) (words : List Word) (verb : Verb) (rest : List Word)
+    → (verb_at end words ≡ Ok (verb, rest)) ↔ IsVerb end words verb rest

@@ -1,5 +1,7 @@
 -- The verb of a command line, and its number. This project's own, in the style of wanna-build.
-use Rattle.std.specs.Prelude.{ℕ, ◌==◌, nat_lt, nat_le, ◌&&◌, not, Bool, true, false, List, [], ◌∷◌, Option, Some, None, Result, Ok, Err, length, codes, ℤ, pos, if◌then◌else◌}
+use Rattle.std.specs.Prelude.{ℕ, ◌==◌, nat_lt, nat_le, ◌&&◌, not, Bool, true, false, List, [], ◌∷◌}
+use Rattle.std.specs.Prelude.{Option, Some, None, Result, Ok, Err, length, codes, ℤ, pos}
+use Rattle.std.specs.Prelude.{if◌then◌else◌}
 use Rattle.std.specs.Char.{is_ascii_digit}
 use Rattle.std.specs.List.{list_all}
 use Rattle.std.specs.Str.{all_ascii_digits, bytes_eq}
@@ -28,7 +30,8 @@ is_digits text = nat_lt 0 (length text) && list_all is_ascii_digit text
 
 -- one digit or more, of a number of at most 9999; zeros in front don't count
 abbrev pub is_size : List ℕ → Bool
-is_size text = nat_lt 0 (length text) && (all_ascii_digits text && nat_le (digits_value 10 text) max_priority)
+is_size text = nat_lt 0 (length text)
+    && (all_ascii_digits text && nat_le (digits_value 10 text) max_priority)
 
 -- the number that such digits are
 abbrev pub size_at : List ℕ → Option ℕ
@@ -64,12 +67,14 @@ goes_on end (word ∷ words) = not (is_dot word)
 -- a rebuild number from 1 to 9999
 abbrev pub numbered : Word → List Word → Option ℕ → Result (Verb × List Word) CommandFault
 numbered word words None = Err (Wrong BadNumber word.place)
-numbered word words (Some n) = if n == 0 then Err (Wrong BadNumber word.place) else Ok (Nmu (Some n), words)
+numbered word words (Some n) = if n == 0 then Err (Wrong BadNumber word.place)
+    else Ok (Nmu (Some n), words)
 
 -- a word of digits is the number where the packages follow it
 abbrev pub rebuild_from : End → Word → List Word → Result (Verb × List Word) CommandFault
 rebuild_from end word words =
-    if is_digits word.text && goes_on end words then numbered word words (number_at max_rebuild word.text)
+    if is_digits word.text && goes_on end words
+    then numbered word words (number_at max_rebuild word.text)
     else Ok (Nmu None, word ∷ words)
 
 -- what follows `nmu`
@@ -85,7 +90,8 @@ verb_from end word words =
     if bytes_eq word.text (codes "gb") then Ok (Gb, words)
     else (if bytes_eq word.text (codes "nmu") then rebuild_first end words
     else (if bytes_eq word.text (codes "bp") then priority_first end words
-    else (if bytes_eq word.text (codes "dw") then Ok (Dw, words) else Err (Wrong UnknownCommand word.place))))
+    else (if bytes_eq word.text (codes "dw") then Ok (Dw, words)
+    else Err (Wrong UnknownCommand word.place))))
 
 -- the verb and its number, and the words that follow them
 abbrev pub verb_at : End → List Word → Result (Verb × List Word) CommandFault

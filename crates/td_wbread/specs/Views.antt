@@ -13,17 +13,20 @@ use Rattle.td_wbread.specs.Packages.{PackageText}
 use Rattle.td_wbread.specs.Tail.{Values}
 
 -- a verb, and the words behind it
-abbrev pub verb_read : Result (Verb × Bor (List Word)) CommandFault → Result (Verb × List Word) CommandFault
+abbrev pub verb_read : Result (Verb × Bor (List Word)) CommandFault
+    → Result (Verb × List Word) CommandFault
 verb_read (Ok p) = Ok (p.0, p.1.now)
 verb_read (Err fault) = Err fault
 
 -- words before a dot, and behind it
-abbrev pub packages_read : Result (Bor (List Word) × Bor (List Word)) CommandFault → Result (List Word × List Word) CommandFault
+abbrev pub packages_read : Result (Bor (List Word) × Bor (List Word)) CommandFault
+    → Result (List Word × List Word) CommandFault
 packages_read (Ok p) = Ok (p.0.now, p.1.now)
 packages_read (Err fault) = Err fault
 
 -- words before a dot, and behind it, where it is there
-abbrev pub archs_read : Result (Bor (List Word) × Option (Bor (List Word))) CommandFault → Result (List Word × Option (List Word)) CommandFault
+abbrev pub archs_read : Result (Bor (List Word) × Option (Bor (List Word))) CommandFault
+    → Result (List Word × Option (List Word)) CommandFault
 archs_read (Ok p) = Ok (p.0.now, option_map (λ x. x.now) p.1)
 archs_read (Err fault) = Err fault
 
@@ -33,15 +36,26 @@ package_text p = record { source = p.0.now; version = option_map (λ x. x.now) p
 
 -- the values of options
 abbrev pub values_of : Options → Values
-values_of o = record { message = option_map (λ x. x.now) o.message; extra = option_map (λ x. x.now) o.extra }
+values_of o = record {
+  message = option_map (λ x. x.now) o.message;
+  extra = option_map (λ x. x.now) o.extra;
+}
 
 -- the words of a command
 abbrev pub spoken_of : SpokenWords → Spoken
-spoken_of s = record { verb = s.verb; packages = s.packages.now; archs = s.chosen.now; values = values_of s.options }
+spoken_of s = record {
+  verb = s.verb;
+  packages = s.packages.now;
+  archs = s.chosen.now;
+  values = values_of s.options;
+}
 
 -- a package of a command
 abbrev pub package_of : Package → PackageText
-package_of p = record { source = string_bytes p.source; version = option_map string_bytes p.version }
+package_of p = record {
+  source = string_bytes p.source;
+  version = option_map string_bytes p.version;
+}
 
 -- a command
 abbrev pub parts_of : Command → CommandParts

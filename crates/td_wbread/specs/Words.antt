@@ -1,5 +1,6 @@
 -- The words of a line, quoted as in a shell but without escapes. This project's own.
-use Rattle.std.specs.Prelude.{ℕ, ◌==◌, ◌||◌, ◌+◌, not, Bool, true, false, List, [], ◌∷◌, ◌++◌, Option, Some, None, length, if◌then◌else◌}
+use Rattle.std.specs.Prelude.{ℕ, ◌==◌, ◌||◌, ◌+◌, not, Bool, true, false, List, [], ◌∷◌, ◌++◌}
+use Rattle.std.specs.Prelude.{Option, Some, None, length, if◌then◌else◌}
 use Rattle.std.specs.List.{list_any, flat_map, slice_split}
 use Rattle.td_text.specs.Cut.{cut}
 use Rattle.td_rows.specs.Text.{has_newline}
@@ -50,7 +51,8 @@ marks None (b ∷ text) =
     if is_quote b then (if closes b text then quote ∷ marks (Some b) text else unclosed ∷ [])
     else bare_mark b ∷ marks None text
 marks (Some q) [] = []
-marks (Some q) (b ∷ text) = if b == q then quote ∷ marks None text else quoted b ∷ marks (Some q) text
+marks (Some q) (b ∷ text) = if b == q then quote ∷ marks None text
+    else quoted b ∷ marks (Some q) text
 
 -- whitespace between words
 abbrev pub is_gap : Mark → Bool
@@ -98,7 +100,8 @@ word_of place piece = record { text = text_of piece; is_bare = is_bare_piece pie
 
 -- a piece is a word, unless nothing stands in it, or a quote that isn't closed
 abbrev pub words_in : ℕ → List Mark → List Word
-words_in place piece = if (length piece == 0) || list_any is_unclosed piece then [] else word_of place piece ∷ []
+words_in place piece = if (length piece == 0) || list_any is_unclosed piece then []
+    else word_of place piece ∷ []
 
 -- the words of pieces, of which the first begins at this place, and a gap stands between two
 unfoldable pub placed : ℕ → List (List Mark) → List Word

@@ -56,13 +56,15 @@ fn is_arch_word(archs: &Archs<'_>, text: &str) -> bool
 }
 
 fn first_other<'w>(archs: &Archs<'_>, words: &'w [Word]) -> Option<&'w Word>
-    ensures { option_map (λ x. x.now) result ≡ find (λ w. not (is_arch_word_of (table archs.now) w.text)) words.now }
+    ensures { option_map (λ x. x.now) result
+        ≡ find (λ w. not (is_arch_word_of (table archs.now) w.text)) words.now }
 {
     words.iter().find(|w| !is_arch_word(archs, w.text.as_str()))
 }
 
 fn check_others(archs: &Archs<'_>, words: &[Word]) -> Result<(), CommandFault>
-    ensures { result ≡ all_pass (is_arch_word_of (table archs.now)) LineFault.UnknownArch words.now }
+    ensures { result ≡ all_pass
+        (is_arch_word_of (table archs.now)) LineFault.UnknownArch words.now }
 {
     match first_other(archs, words) {
         None => Ok(()),

@@ -61,7 +61,8 @@ fn make_names<'a>(
     archs: &Archs<'a>,
     words: &[Word],
 ) -> Result<Vec<&'a str>, AllocError>
-    ensures { IfOk result (λ v. map (λ a. a.now) v.items ≡ chosen_names (table archs.now) words.now) }
+    ensures { IfOk result
+        (λ v. map (λ a. a.now) v.items ≡ chosen_names (table archs.now) words.now) }
 {
     let mut names = Vec::new(alloc);
     for arch in 0..archs.len() {

@@ -22,8 +22,6 @@ mod places;
 mod quoting;
 mod reading;
 mod scanning;
-#[cfg(test)]
-mod tests;
 mod verb_reading;
 mod word;
 

@@ -4,7 +4,9 @@ ghost use Rattle.std.specs.List.{list_any};
 ghost use Rattle.std.specs.Str.{bytes_eq};
 ghost use Rattle.td_version.specs.Reading.{parts_read, reading};
 ghost use Rattle.td_version.specs.Version.{parts_of as version_of};
-ghost use Rattle.td_wbread.specs.Naming.{is_base as is_base_of, is_numbered as is_numbered_of, is_rebuild_of, split_of, version_matches as version_matches_of};
+ghost use Rattle.td_wbread.specs.Naming.{is_base as is_base_of, is_numbered as is_numbered_of};
+ghost use Rattle.td_wbread.specs.Naming.{is_rebuild_of, split_of};
+ghost use Rattle.td_wbread.specs.Naming.{version_matches as version_matches_of};
 ghost use Rattle.td_wbread.specs.inner.Places.{is_matching, is_without_version};
 
 use crate::command::{Command, Package};
@@ -43,7 +45,8 @@ fn is_rebuild(version: &Version<'_>, number: RebuildNumber, text: &str) -> bool
 }
 
 fn version_matches(version: &Version<'_>, number: RebuildNumber, text: Option<&str>) -> bool
-    ensures { result ≡ version_matches_of (version_of version.now) number (option_map (λ x. x.now) text.entry) }
+    ensures { result ≡ version_matches_of (version_of version.now) number
+        (option_map (λ x. x.now) text.entry) }
 {
     match text {
         None => true,
@@ -79,7 +82,8 @@ fn has_match(
     version: &Version<'_>,
     number: RebuildNumber,
 ) -> bool
-    ensures { result ≡ list_any (λ place. is_matching (version_of version.now) number (slice_get packages.now place)) places.now }
+    ensures { result ≡ list_any (λ place.
+        is_matching (version_of version.now) number (slice_get packages.now place)) places.now }
 {
     places
         .iter()
@@ -98,7 +102,8 @@ fn is_bare_at(packages: &[Package], place: usize) -> bool
 
 /// Whether some package at these places has no version.
 fn has_bare(packages: &[Package], places: &[usize]) -> bool
-    ensures { result ≡ list_any (λ place. is_without_version (slice_get packages.now place)) places.now }
+    ensures { result ≡ list_any
+        (λ place. is_without_version (slice_get packages.now place)) places.now }
 {
     places.iter().any(|place| is_bare_at(packages, *place))
 }
@@ -112,7 +117,8 @@ fn has_arch(archs: &[&str], arch: &str) -> bool
 impl Command<'_> {
     ghost use Rattle.std.specs.Prelude.{◌≡◌};
     ghost use Rattle.td_version.specs.Version.{parts_of as version_of};
-    ghost use Rattle.td_wbread.specs.Naming.{is_bare as is_bare_of, is_matched as is_matched_of, is_named as is_named_of};
+    ghost use Rattle.td_wbread.specs.Naming.{is_bare as is_bare_of, is_matched as is_matched_of};
+    ghost use Rattle.td_wbread.specs.Naming.{is_named as is_named_of};
     ghost use Rattle.td_wbread.specs.Views.{parts_of};
 
     /// Whether it names the row of a source on an architecture, if there is one.
@@ -125,7 +131,8 @@ impl Command<'_> {
     /// Whether the version of a row matches, given its source, the source's version and the row's
     /// rebuild number.
     pub fn is_matched(&self, source: &str, version: &Version<'_>, number: RebuildNumber) -> bool
-        ensures { result ≡ is_matched_of (parts_of self.now) source.now (version_of version.now) number }
+        ensures { result ≡ is_matched_of (parts_of self.now) source.now
+            (version_of version.now) number }
     {
         has_match(
             self.packages.as_slice(),

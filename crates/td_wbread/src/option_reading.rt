@@ -157,8 +157,10 @@ fn read_value<'w>(
     seen: &Options<'w>,
     value: &'w Word,
 ) -> Result<Options<'w>, CommandFault>
-    ensures ok { IfOk result (λ more. valued verb.now flag (values_of seen.now) value.now ≡ Ok (values_of more)) }
-    ensures err { IfErr result (λ e. IsFaultOf (valued verb.now flag (values_of seen.now) value.now) e) }
+    ensures ok { IfOk result
+        (λ more. valued verb.now flag (values_of seen.now) value.now ≡ Ok (values_of more)) }
+    ensures err { IfErr result
+        (λ e. IsFaultOf (valued verb.now flag (values_of seen.now) value.now) e) }
 {
     if wants_relation(verb, flag) {
         check_relation(alloc, value)?;
@@ -168,7 +170,8 @@ fn read_value<'w>(
 
 /// Whether the line may end here.
 fn finish<'w>(verb: &Verb, end: End, seen: &Options<'w>) -> Result<Options<'w>, CommandFault>
-    ensures ok { IfOk result (λ more. finished verb.now end (values_of seen.now) ≡ Ok (values_of more)) }
+    ensures ok { IfOk result
+        (λ more. finished verb.now end (values_of seen.now) ≡ Ok (values_of more)) }
     ensures err { IfErr result (λ e. IsFaultOf (finished verb.now end (values_of seen.now)) e) }
 {
     match end {
@@ -190,7 +193,8 @@ fn read_options<'w>(
     end: End,
     words: &'w [Word],
 ) -> Result<Options<'w>, CommandFault>
-    ensures ok { IfOk result (λ more. options_at verb.now end no_values words.now ≡ Ok (values_of more)) }
+    ensures ok { IfOk result
+        (λ more. options_at verb.now end no_values words.now ≡ Ok (values_of more)) }
     ensures err { IfErr result (λ e. IsFaultOf (options_at verb.now end no_values words.now) e) }
 {
     let mut seen = no_options();
@@ -248,8 +252,10 @@ fn read_dot_end<'w>(
     end: End,
     words: &'w [Word],
 ) -> Result<Options<'w>, CommandFault>
-    ensures ok { IfOk result (λ more. dot_end verb.now (map (λ s. s.now) suites.now) end words.now ≡ Ok (values_of more)) }
-    ensures err { IfErr result (λ e. IsFaultOf (dot_end verb.now (map (λ s. s.now) suites.now) end words.now) e) }
+    ensures ok { IfOk result (λ more.
+        dot_end verb.now (map (λ s. s.now) suites.now) end words.now ≡ Ok (values_of more)) }
+    ensures err { IfErr result
+        (λ e. IsFaultOf (dot_end verb.now (map (λ s. s.now) suites.now) end words.now) e) }
 {
     match words.split_first() {
         None => finish(verb, end, &no_options()),
@@ -273,8 +279,10 @@ pub fn read_tail<'w>(
     end: End,
     behind: Option<&'w [Word]>,
 ) -> Result<Options<'w>, CommandFault>
-    ensures ok { IfOk result (λ more. tail_at verb.now (map (λ s. s.now) suites.now) end (option_map (λ x. x.now) behind.entry) ≡ Ok (values_of more)) }
-    ensures err { IfErr result (λ e. IsFaultOf (tail_at verb.now (map (λ s. s.now) suites.now) end (option_map (λ x. x.now) behind.entry)) e) }
+    ensures ok { IfOk result (λ more. tail_at verb.now (map (λ s. s.now) suites.now) end
+        (option_map (λ x. x.now) behind.entry) ≡ Ok (values_of more)) }
+    ensures err { IfErr result (λ e. IsFaultOf (tail_at verb.now (map (λ s. s.now) suites.now) end
+        (option_map (λ x. x.now) behind.entry)) e) }
 {
     match behind {
         None => finish(verb, end, &no_options()),

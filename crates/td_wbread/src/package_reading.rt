@@ -3,7 +3,8 @@ ghost use Rattle.std.specs.Prelude.{◌≡◌, ◌<◌, IfSome, length, not, opt
 ghost use Rattle.std.specs.List.{find};
 ghost use Rattle.td_version.specs.Reading.{parts_read, reading};
 ghost use Rattle.td_wbread.specs.Faults.{all_pass, before_dot, behind_dot, filled, is_dot};
-ghost use Rattle.td_wbread.specs.Packages.{is_package as is_package_of, is_version as is_version_of, package_at, packages_at};
+ghost use Rattle.td_wbread.specs.Packages.{is_package as is_package_of};
+ghost use Rattle.td_wbread.specs.Packages.{is_version as is_version_of, package_at, packages_at};
 ghost use Rattle.td_wbread.specs.Views.{package_text, packages_read};
 
 use crate::fault::{CommandFault, LineFault};

@@ -27,7 +27,10 @@ impl Places {
 
     /// Adds a place behind those of its source.
     fn push(&mut self, alloc: Global, source: &str, place: usize) -> Result<(), AllocError>
-        ensures { OnOk result ((q : List ℕ) → places_of self.new q ≡ (if bytes_eq q source.now then places_of self.old q ++ place ∷ [] else places_of self.old q)) }
+        ensures { OnOk result
+            ((q : List ℕ)
+            → places_of self.new q ≡ (if bytes_eq q source.now then places_of self.old q
+            ++ place ∷ [] else places_of self.old q)) }
     {
         let source = String::from_str(alloc, source)?;
         let places = self.by_source.entry(source)?.or_default();

@@ -27,8 +27,10 @@ fn read_spoken<'w>(
     end: End,
     words: &'w [Word],
 ) -> Result<SpokenWords<'w>, CommandFault>
-    ensures ok { IfOk result (λ s. spoken_at (table archs.now) (map (λ s. s.now) suites.now) end words.now ≡ Ok (spoken_of s)) }
-    ensures err { IfErr result (λ e. IsFaultOf (spoken_at (table archs.now) (map (λ s. s.now) suites.now) end words.now) e) }
+    ensures ok { IfOk result (λ s. spoken_at (table archs.now)
+        (map (λ s. s.now) suites.now) end words.now ≡ Ok (spoken_of s)) }
+    ensures err { IfErr result (λ e.
+        IsFaultOf (spoken_at (table archs.now) (map (λ s. s.now) suites.now) end words.now) e) }
 {
     let (verb, words) = match read_verb(end, words) {
         Ok(read) => read,
@@ -53,8 +55,10 @@ fn read_from<'a>(
     end: End,
     words: &[Word],
 ) -> Result<Command<'a>, CommandFault>
-    ensures ok { IfOk result (λ c. command_from (table archs.now) (map (λ s. s.now) suites.now) end words.now ≡ Ok (parts_of c)) }
-    ensures err { IfErr result (λ e. IsFaultOf (command_from (table archs.now) (map (λ s. s.now) suites.now) end words.now) e) }
+    ensures ok { IfOk result (λ c. command_from (table archs.now)
+        (map (λ s. s.now) suites.now) end words.now ≡ Ok (parts_of c)) }
+    ensures err { IfErr result (λ e. IsFaultOf
+        (command_from (table archs.now) (map (λ s. s.now) suites.now) end words.now) e) }
 {
     let spoken = match read_spoken(alloc, archs, suites, end, words) {
         Ok(spoken) => spoken,
@@ -74,14 +78,18 @@ pub fn read_command<'a>(
     suites: &[&str],
 ) -> Result<Command<'a>, CommandFault>
     // What is read is the command that the line is.
-    ensures found { IfOk result (λ c. command_at (table archs.now) (map (λ s. s.now) suites.now) line.now ≡ Ok (parts_of c)) }
+    ensures found { IfOk result (λ c.
+        command_at (table archs.now) (map (λ s. s.now) suites.now) line.now ≡ Ok (parts_of c)) }
     // A line that is a command is read, unless memory runs out.
-    ensures only { (p : CommandParts) → command_at (table archs.now) (map (λ s. s.now) suites.now) line.now ≡ Ok p →
+    ensures only { (p : CommandParts) →
+        command_at (table archs.now) (map (λ s. s.now) suites.now) line.now ≡ Ok p →
         MatchResult result (λ c. parts_of c ≡ p) (λ e. e ≡ CommandFault.NoMemory) }
     // A fault is the line's first, or want of memory.
-    ensures fault { IfErr result (λ e. IsFaultOf (command_at (table archs.now) (map (λ s. s.now) suites.now) line.now) e) }
+    ensures fault { IfErr result
+        (λ e. IsFaultOf (command_at (table archs.now) (map (λ s. s.now) suites.now) line.now) e) }
     // A line with a fault is refused by the first, unless memory runs out.
-    ensures refused { (fault : CommandFault) → command_at (table archs.now) (map (λ s. s.now) suites.now) line.now ≡ Err fault →
+    ensures refused { (fault : CommandFault) →
+        command_at (table archs.now) (map (λ s. s.now) suites.now) line.now ≡ Err fault →
         IsErrAnd result (λ e. IsOrNoMemory fault e) }
 {
     match read_words(alloc, line) {

@@ -1,7 +1,8 @@
 -- Where the packages of a command stand, found by their source. This project's own.
 use mathlib.Core.Bool.{Bool-set}
 use mathlib.Core.HLevel.{Π_prop}
-use Rattle.std.specs.Prelude.{◌≡◌, ℕ, ◌&&◌, Bool, false, List, [], Option, Some, is_none, slice_get, string_bytes}
+use Rattle.std.specs.Prelude.{◌≡◌, ℕ, ◌&&◌, Bool, false, List, [], Option, Some, is_none, slice_get}
+use Rattle.std.specs.Prelude.{string_bytes}
 use Rattle.std.specs.HashMap.{get_by_text}
 use Rattle.std.specs.List.{list_any}
 use Rattle.std.specs.Option.{option_map, option_map_or}
@@ -13,21 +14,26 @@ use Rattle.td_wbread.specs.Naming.{version_matches}
 
 -- the places that are kept of a source
 abbrev pub places_of : Places → List ℕ → List ℕ
-places_of places source = option_map_or (λ list. list.items) (get_by_text places.by_source source) []
+places_of places source = option_map_or (λ list. list.items)
+    (get_by_text places.by_source source) []
 
--- whatever is asked of packages: some place of a source has one of which it holds exactly where some
--- package of the source is such
+-- whatever is asked of packages: some place of a source has one of which it holds exactly where
+-- some package of the source is such
 abbrev pub FindsPackages : List Package → Places → Type 0
 FindsPackages packages places = (source : List ℕ) (test : Option Package → Bool) →
-    list_any (λ place. test (slice_get packages place)) (places_of places source) ≡ list_any (λ p. bytes_eq (string_bytes p.source) source && test (Some p)) packages
+    list_any (λ place. test (slice_get packages place)) (places_of places source)
+    ≡ list_any (λ p. bytes_eq (string_bytes p.source) source && test (Some p)) packages
 
-pub FindsPackages-prop : (packages : List Package) (places : Places) → IsProp (FindsPackages packages places)
+pub FindsPackages-prop : (packages : List Package) (places : Places)
+    → IsProp (FindsPackages packages places)
 FindsPackages-prop packages places = Π_prop λ source. Π_prop λ test. Bool-set _ _
 
 -- there is a package, and its version matches
 abbrev pub is_matching : Parts → ℕ → Option Package → Bool
-is_matching version number found = option_map_or (λ p. version_matches version number (option_map string_bytes p.version)) found false
+is_matching version number found = option_map_or
+    (λ p. version_matches version number (option_map string_bytes p.version)) found false
 
 -- there is a package, and it has no version
 abbrev pub is_without_version : Option Package → Bool
-is_without_version found = option_map_or (λ p. is_none (option_map string_bytes p.version)) found false
+is_without_version found = option_map_or
+    (λ p. is_none (option_map string_bytes p.version)) found false

@@ -1,3 +1,4 @@
+-- What the loop of `compile` keeps.
 use Rattle.std.proofs.Common.{◌≡◌, map, take}
 use Rattle.regex.specs.Strings.{regex_source}
 use Rattle.td_query.specs.Sources.{source_of, AreDefault, ArePatterns}

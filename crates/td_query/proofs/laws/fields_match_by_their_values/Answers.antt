@@ -1,3 +1,4 @@
+-- `fields_match_by_their_values`: the clauses `absent`, `texts` and `patterns`.
 use Rattle.td_query.proofs.Meanings.{absent_fields, patterns_match, texts}
 use Rattle.td_query.proofs.laws.fields_match_by_their_values.Goals as goal
 

@@ -1,3 +1,4 @@
+-- `queries_are_as_in_logic`: the clauses `constants`, `negation`, `conjunction` and `disjunction`.
 use Rattle.td_query.proofs.Meanings.{conjunctions, constants, disjunctions, negations}
 use Rattle.td_query.proofs.laws.queries_are_as_in_logic.Goals as goal
 

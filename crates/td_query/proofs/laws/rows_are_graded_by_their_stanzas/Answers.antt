@@ -1,3 +1,4 @@
+-- `rows_are_graded_by_their_stanzas`: the clauses `stanzas`, `graded` and `alone`.
 use Rattle.td_query.proofs.Grades.{by_a_stanza, graded_rows, rows_alone}
 use Rattle.td_query.proofs.laws.rows_are_graded_by_their_stanzas.Goals as goal
 

@@ -1,3 +1,4 @@
+-- What the loop of `mark_packages` keeps.
 use Rattle.std.proofs.Common.{◌≡◌, map, take}
 use Rattle.regex.specs.Strings.{matcher_pattern}
 use Rattle.td_indices.specs.Stanzas.{package_fields}
@@ -9,5 +10,7 @@ use Rattle.td_query.proofs.marking.mark_packages.Given as goal
 abbrev pub invariant-loop-number : goal.invariant-loop-number
 invariant-loop-number l = record {
   same : map matcher_pattern l.matchers.items ≡ map matcher_pattern l.fn.matchers.items;
-  marks : l.marks.items ≡ map (λ x. mark_by (map matcher_pattern l.fn.matchers.items) (tracking l.tracker) (package_fields l.archive x)) (take l.number l.archive.binaries);
+  marks : l.marks.items ≡ map
+      (λ x. mark_by (map matcher_pattern l.fn.matchers.items) (tracking l.tracker)
+      (package_fields l.archive x)) (take l.number l.archive.binaries);
 }

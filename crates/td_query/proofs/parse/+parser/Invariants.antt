@@ -1,3 +1,4 @@
+-- What the loops of `parser` keep, and why they end.
 use Rattle.std.proofs.Common.{◌<◌, length, ◌≡◌, ℕ, ◌+◌, ◌*◌, ◌≤◌, map}
 use denote.Shadow.{shadow}
 use denote.Text.{Utf8}
@@ -18,7 +19,9 @@ decreases-read_or l = 3 * l.depth + 2
 -- what is left decides
 abbrev pub invariant-read_and-loop-after : goal.invariant-read_and-loop-after
 invariant-read_and-loop-after l = record {
-  decides : (n : ℕ) × (length l.rest ≤ n) × (more_and (not_in l.depth) n (map shape_of l.parts.items) (map raw_of l.log.items) l.rest ≡ and_at l.depth (map raw_of l.fn.log.items) l.fn.text);
+  decides : (n : ℕ) × (length l.rest ≤ n)
+      × (more_and (not_in l.depth) n (map shape_of l.parts.items) (map raw_of l.log.items) l.rest
+      ≡ and_at l.depth (map raw_of l.fn.log.items) l.fn.text);
   shorter : length l.rest < length l.fn.text;
   utf8 : shadow (Utf8 l.rest);
 }
@@ -28,7 +31,9 @@ decreases-read_and-loop-after l = length l.rest
 
 abbrev pub invariant-read_or-loop-after : goal.invariant-read_or-loop-after
 invariant-read_or-loop-after l = record {
-  decides : (n : ℕ) × (length l.rest ≤ n) × (more_or (and_with (not_in l.depth)) n (map shape_of l.parts.items) (map raw_of l.log.items) l.rest ≡ or_at l.depth (map raw_of l.fn.log.items) l.fn.text);
+  decides : (n : ℕ) × (length l.rest ≤ n)
+      × (more_or (and_with (not_in l.depth)) n (map shape_of l.parts.items)
+      (map raw_of l.log.items) l.rest ≡ or_at l.depth (map raw_of l.fn.log.items) l.fn.text);
   shorter : length l.rest < length l.fn.text;
   utf8 : shadow (Utf8 l.rest);
 }

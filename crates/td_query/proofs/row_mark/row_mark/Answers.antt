@@ -1,3 +1,4 @@
+-- `row_mark`: its loop.
 use Rattle.std.proofs.Common.{◌∙◌, map, ap, get_or, take}
 use Rattle.regex.specs.Strings.{matcher_pattern}
 use Rattle.td_query.specs.Marks.{either_mark, gathered, mark_there}
@@ -14,7 +15,11 @@ loop-number-preserved c =
     let there = mark_there a (map matcher_pattern c.args.matchers.now.items) t c.args.place in
     record {
       same = c.mark_there.ensures.same ∙ c.loop-number.invariant.same;
-      mark = c.or-mark.ensures ∙ ap (λ m. either_mark m c.mark_there.result) c.loop-number.invariant.mark
-          ∙ ap (either_mark (gathered own there (take c.loop-number.number-index numbers))) (c.mark_there.ensures.mark ∙ ap (λ p. mark_there a p t c.args.place (get_or numbers c.loop-number.number-index 0)) c.loop-number.invariant.same)
+      mark = c.or-mark.ensures.either
+          ∙ ap (λ m. either_mark m c.mark_there.result) c.loop-number.invariant.mark
+          ∙ ap (either_mark (gathered own there (take c.loop-number.number-index numbers)))
+          (c.mark_there.ensures.mark
+          ∙ ap (λ p. mark_there a p t c.args.place (get_or numbers c.loop-number.number-index 0))
+          c.loop-number.invariant.same)
           ∙ gathered-more own there numbers c.loop-number.number-index c.loop-number-test.true;
     }

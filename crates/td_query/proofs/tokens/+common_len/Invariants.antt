@@ -1,3 +1,4 @@
+-- Why `common_len` ends.
 use Rattle.std.proofs.Common.{length}
 use Rattle.td_query.proofs.tokens.+common_len.Given as goal
 

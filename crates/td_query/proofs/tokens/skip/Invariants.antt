@@ -1,3 +1,4 @@
+-- What the loop of `skip` keeps, and why it ends.
 use Rattle.std.proofs.Common.{◌≡◌, ◌≤◌, ◌+◌, length}
 use Rattle.td_text.specs.Lines.{left_len}
 use Rattle.td_query.specs.Tokens.{skipped}

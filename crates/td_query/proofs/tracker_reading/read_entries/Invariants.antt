@@ -1,3 +1,4 @@
+-- What the loop of `read_entries` keeps, and why it ends.
 use Rattle.std.proofs.Common.{◌≡◌, ◌≤◌, ℕ, length}
 use denote.Text.{Utf8}
 use denote.Shadow.{shadow}
@@ -11,6 +12,7 @@ decreases-loop-at l = length l.rest
 -- what is left decides
 abbrev pub invariant-loop-at : goal.invariant-loop-at
 invariant-loop-at l = record {
-  decides : (n : ℕ) × (length l.rest ≤ n) × (entries n (said l.keys) l.rest ≡ entries (length l.fn.text) (said l.fn.keys) l.fn.text);
+  decides : (n : ℕ) × (length l.rest ≤ n)
+      × (entries n (said l.keys) l.rest ≡ entries (length l.fn.text) (said l.fn.keys) l.fn.text);
   utf8 : shadow (Utf8 l.rest);
 }

@@ -1,3 +1,4 @@
+-- What the loop of `source` keeps, and why it ends.
 use Rattle.std.proofs.Common.{◌≡◌, ◌++◌}
 use Rattle.std.specs.Prelude.{string_bytes}
 use Rattle.td_text.specs.Lines.{left_len}

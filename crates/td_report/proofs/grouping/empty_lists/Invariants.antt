@@ -1,3 +1,4 @@
+-- What the loop of `empty_lists` keeps.
 use Rattle.std.proofs.Common.{◌≡◌, ℕ, [], length}
 use Rattle.td_report.specs.Grouped.{list_at}
 use Rattle.td_report.proofs.grouping.empty_lists.Given as goal

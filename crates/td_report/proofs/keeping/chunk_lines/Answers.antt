@@ -1,3 +1,4 @@
+-- `chunk_lines`: what it answers.
 use Rattle.std.proofs.Common.{◌<◌, max, refl, ap, subst, ◌∙◌, string_bytes, rules}
 use Rattle.std.specs.List.{flat_map, AllZip}
 use Rattle.rayon.specs.Lists.{chunks_of}
@@ -18,7 +19,8 @@ returns g c =
     let whole = chunks_of-concat size c.map.result.base.base.slice.now pos ∙ slice in
     IfOk-matched c.in_ok-collect.field-0 _ _ _ made.2 (λ v h.
     ap (λ ts. flat_map (λ t. string_bytes t) ts) h.2
-    ∙ flat_map-zipped _ (λ x. lines_text x.now) (λ t. string_bytes t) (λ x y says. says) chain.0 h.0 (subst (AllZip _ chain.0) h.1 chain.2)
+    ∙ flat_map-zipped _ (λ x. lines_text x.now) (λ t. string_bytes t) (λ x y says. says) chain.0 h.0
+    (subst (AllZip _ chain.0) h.1 chain.2)
     ∙ flat_map-map lines_text (λ x. x.now) chain.0
     ∙ ap (flat_map lines_text) chain.1
     ∙ text-parts lines_text refl lines-append (chunks_of size c.map.result.base.base.slice.now)

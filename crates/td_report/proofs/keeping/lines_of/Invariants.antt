@@ -1,3 +1,4 @@
+-- What the loop of `lines_of` keeps.
 use Rattle.std.proofs.Common.{◌≡◌, take, string_bytes}
 use Rattle.td_report.specs.Pieces.{lines_text}
 use Rattle.td_report.proofs.keeping.lines_of.Given as goal

@@ -1,3 +1,4 @@
+-- What the loop of `put_kept_blocks` keeps.
 use Rattle.std.proofs.Common.{◌≡◌, ◌++◌, string_bytes}
 use Rattle.td_text.specs.Lines.{text_of}
 use Rattle.td_report.specs.ItemLines.{block_at}
@@ -6,4 +7,5 @@ use Rattle.td_report.proofs.keeping.put_kept_blocks.Given as goal
 
 -- the levels so far
 abbrev pub invariant-loop-number : goal.invariant-loop-number
-invariant-loop-number g l = string_bytes l.out ≡ string_bytes l.fn.out ++ text_of (first_blocks (block_at l.items) l.number)
+invariant-loop-number g l = string_bytes l.out ≡ string_bytes l.fn.out ++ text_of
+    (first_blocks (block_at l.items) l.number)

@@ -1,3 +1,4 @@
+-- What the loop of `make_piece` keeps.
 use Rattle.std.proofs.Common.{◌≡◌, ◌≤◌, take, count_by, string_bytes}
 use Rattle.td_report.specs.Pieces.{lines_text}
 use Rattle.td_report.specs.ItemLines.{is_installed}

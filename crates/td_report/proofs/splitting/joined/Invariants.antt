@@ -1,3 +1,4 @@
+-- What the loop of `joined` keeps.
 use Rattle.std.proofs.Common.{◌≡◌, take, string_bytes}
 use Rattle.std.specs.List.{flat_map, sum_by}
 use Rattle.td_report.proofs.splitting.joined.Given as goal

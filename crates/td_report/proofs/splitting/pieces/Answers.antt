@@ -1,3 +1,4 @@
+-- `pieces`: what it answers.
 use Rattle.std.proofs.Common.{◌<◌, max, refl, ap, subst, ◌∙◌, string_bytes, count_by, rules}
 use Rattle.std.specs.List.{flat_map, AllZip, sum_by}
 use Rattle.rayon.specs.Lists.{chunks_of}
@@ -5,7 +6,8 @@ use Rattle.rayon.proofs.ToStd.{chunks_of-concat}
 use Rattle.td_report.specs.declared.piece.Piece.{Piece}
 use Rattle.td_report.specs.Pieces.{lines_text}
 use Rattle.td_report.specs.ItemLines.{is_installed}
-use Rattle.td_report.proofs.Splits.{flat_map-zipped, sum-zipped, flat_map-map, sum-of-map, text-parts, count-parts, count-append, IfOk-matched}
+use Rattle.td_report.proofs.Splits.{flat_map-zipped, sum-zipped, flat_map-map, sum-of-map}
+use Rattle.td_report.proofs.Splits.{text-parts, count-parts, count-append, IfOk-matched}
 use Rattle.td_report.proofs.Texts.{lines-append}
 use Rattle.td_report.proofs.splitting.pieces.Goals as goal
 
@@ -21,16 +23,20 @@ returns g c =
     IfOk-matched c.in_ok-collect.field-0 _ _ _ made.2 (λ v h. record {
       text =
           ap (λ ps. flat_map (λ p. string_bytes p.text) ps) h.2
-          ∙ flat_map-zipped _ (λ x. lines_text x.now) (λ p. string_bytes p.text) (λ x y says. says.text) chain.0 h.0 (subst (AllZip _ chain.0) h.1 chain.2)
+          ∙ flat_map-zipped _ (λ x. lines_text x.now) (λ p. string_bytes p.text)
+          (λ x y says. says.text) chain.0 h.0 (subst (AllZip _ chain.0) h.1 chain.2)
           ∙ flat_map-map lines_text (λ x. x.now) chain.0
           ∙ ap (flat_map lines_text) chain.1
-          ∙ text-parts lines_text refl lines-append (chunks_of size c.map.result.base.base.slice.now)
+          ∙ text-parts lines_text refl lines-append
+          (chunks_of size c.map.result.base.base.slice.now)
           ∙ ap lines_text whole;
       installed =
           ap (λ ps. sum_by (λ (p : Piece). p.installed) ps) h.2
-          ∙ sum-zipped _ (λ x. count_by is_installed x.now) (λ (p : Piece). p.installed) (λ x y says. says.installed) chain.0 h.0 (subst (AllZip _ chain.0) h.1 chain.2)
+          ∙ sum-zipped _ (λ x. count_by is_installed x.now) (λ (p : Piece). p.installed)
+          (λ x y says. says.installed) chain.0 h.0 (subst (AllZip _ chain.0) h.1 chain.2)
           ∙ sum-of-map (count_by is_installed) (λ x. x.now) chain.0
           ∙ ap (sum_by (count_by is_installed)) chain.1
-          ∙ count-parts (count_by is_installed) refl (count-append is_installed) (chunks_of size c.map.result.base.base.slice.now)
+          ∙ count-parts (count_by is_installed) refl (count-append is_installed)
+          (chunks_of size c.map.result.base.base.slice.now)
           ∙ ap (count_by is_installed) whole;
     })

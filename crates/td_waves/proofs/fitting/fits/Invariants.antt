@@ -1,3 +1,4 @@
+-- What the loop of `fits` keeps.
 use Rattle.std.proofs.Common.{◌≡◌, false}
 use Rattle.std.specs.List.{list_any, range_with_len}
 use Rattle.td_relation.specs.Asked.{asked}
@@ -6,4 +7,5 @@ use Rattle.td_waves.proofs.fitting.fits.Given as goal
 
 -- nowhere so far
 abbrev pub invariant-loop-place : goal.invariant-loop-place
-invariant-loop-place l = list_any (fits_at l.archive l.source (asked l.alternative) l.home) (range_with_len 0 l.place) ≡ false
+invariant-loop-place l = list_any (fits_at l.archive l.source (asked l.alternative) l.home)
+    (range_with_len 0 l.place) ≡ false

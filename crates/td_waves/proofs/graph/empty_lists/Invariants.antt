@@ -1,3 +1,4 @@
+-- What the loop of `empty_lists` keeps.
 use Rattle.std.proofs.Common.{◌≡◌, ℕ, [], length}
 use Rattle.td_waves.specs.Graph.{bases_of, lists}
 use Rattle.td_waves.proofs.graph.empty_lists.Given as goal

@@ -1,4 +1,6 @@
-use Rattle.std.proofs.Common.{◌≡◌, ℕ, [], ◌+◌, ◌<◌, ◌≤◌, ◌==◌, true, false, ltb, eqb, inl, inr, refl, length, nat_lt, sym, ap, ◌∙◌, if◌then◌else◌, arith}
+-- `users_of`: the clause `uses` and its loop.
+use Rattle.std.proofs.Common.{◌≡◌, ℕ, [], ◌+◌, ◌<◌, ◌≤◌, ◌==◌, true, false, ltb, eqb, inl, inr}
+use Rattle.std.proofs.Common.{refl, length, nat_lt, sym, ap, ◌∙◌, if◌then◌else◌, arith}
 use Rattle.std.specs.Global.{Vec}
 use Rattle.std.proofs.lemmas.Bool.Decides.{eqb_tells, nat_tests}
 use Rattle.std.proofs.lemmas.Bool.{cases_lt, lt-ltb, le-ltb}
@@ -12,9 +14,13 @@ loop-node-preserved c =
     let graph = c.args.graph.now in
     let n = c.loop-node.node in
     let v = c.index-graph-node.result in
-    let here : bases_of (lists graph) n ≡ v.items = get_or-map (λ (v : Vec ℕ). v.items) graph n v [] c.loop-node-test.true ∙ ap (λ (v : Vec ℕ). v.items) (sym c.index-graph-node.is) in
+    let here : bases_of (lists graph) n ≡ v.items =
+    get_or-map (λ (v : Vec ℕ). v.items) graph n v [] c.loop-node-test.true
+    ∙ ap (λ (v : Vec ℕ). v.items) (sym c.index-graph-node.is) in
     record {
-      uses = λ x t. next_node x n (λ x. uses t (bases_of (lists graph) x)) _ _ (uses t c.deref.result.now) (c.in_ok-enter.ensures.uses x t) (ap (uses t) (c.deref.ensures.value ∙ sym here)) (c.loop-node.invariant.uses x t);
+      uses = λ x t. next_node x n (λ x. uses t (bases_of (lists graph) x)) _ _
+          (uses t c.deref.result.now) (c.in_ok-enter.ensures.uses x t)
+          (ap (uses t) (c.deref.ensures.value ∙ sym here)) (c.loop-node.invariant.uses x t);
       len = c.enter.ensures.len ∙ c.loop-node.invariant.len;
     }
 
@@ -24,6 +30,7 @@ returns-clause-uses c = λ x t.
     elim (cases_lt x c.loop-node.node) [
       | inl below ↦ c.loop-node.invariant.uses x t ∙ (rw (lt-ltb x c.loop-node.node below) refl)
       | inr from ↦
-          let none : bases_of (lists graph) x ≡ [] = get_or_past (lists graph) x [] (rw length-map (omega arith)) in
+          let none : bases_of (lists graph) x ≡ [] =
+          get_or_past (lists graph) x [] (rw length-map (omega arith)) in
           c.loop-node.invariant.uses x t ∙ rw (le-ltb x c.loop-node.node from, none) refl
     ]

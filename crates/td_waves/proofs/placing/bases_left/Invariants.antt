@@ -1,3 +1,4 @@
+-- What the loop of `bases_left` keeps.
 use Rattle.std.proofs.Common.{◌≡◌, length, map, take}
 use Rattle.td_waves.specs.Graph.{lists}
 use Rattle.td_waves.proofs.placing.bases_left.Given as goal

@@ -1,3 +1,4 @@
+-- What the loop of `greatest` keeps.
 use Rattle.std.proofs.Common.{◌<◌, ◌≤◌, ℕ, get_or}
 use Rattle.td_waves.specs.Levelling.{HasNumber}
 use Rattle.td_waves.proofs.placing.greatest.Given as goal

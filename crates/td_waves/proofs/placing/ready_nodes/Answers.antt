@@ -1,4 +1,6 @@
-use Rattle.std.proofs.Common.{◌≡◌, ℕ, ◌<◌, ◌≤◌, ◌==◌, ◌∙◌, inl, inr, List, get_or, refl, sym, ap, length, if◌then◌else◌, arith}
+-- `ready_nodes`: what it answers and its loop.
+use Rattle.std.proofs.Common.{◌≡◌, ℕ, ◌<◌, ◌≤◌, ◌==◌, ◌∙◌, inl, inr, List, get_or, refl, sym, ap}
+use Rattle.std.proofs.Common.{length, if◌then◌else◌, arith}
 use Rattle.std.proofs.lemmas.Bool.{cases_lt, lt-ltb, le-ltb}
 use Rattle.std.proofs.lemmas.List.{get_or_past, get_or_default}
 use Rattle.td_waves.specs.Graph.{uses}
@@ -24,11 +26,13 @@ loop-node-preserved c = λ s.
     elim c.if-count-eq0.branch [
       | then-count-eq0+in_ok-push w ↦
           next_node s n (ready_at left) (uses s c.loop-node.ready.items) _ 1
-          (ap (λ r. uses s r.items) w.ready-is ∙ ap (λ l. uses s l) w.in_ok-push.ensures.items ∙ uses-push s c.loop-node.ready.items n)
+          (ap (λ r. uses s r.items) w.ready-is ∙ ap (λ l. uses s l) w.in_ok-push.ensures.items
+          ∙ uses-push s c.loop-node.ready.items n)
           (is_ready left n _ at w.if-count-eq0.true) (c.loop-node.invariant s)
       | else-count-eq0 w ↦
           next_node s n (ready_at left) (uses s c.loop-node.ready.items) _ 0
-          (ap (λ r. uses s r.items) w.ready-is ∙ more_of_none (uses s c.loop-node.ready.items) (n == s))
+          (ap (λ r. uses s r.items) w.ready-is ∙ more_of_none (uses s c.loop-node.ready.items)
+          (n == s))
           (is_not left n _ at w.if-count-eq0.false) (c.loop-node.invariant s)
     ]
 
@@ -37,5 +41,9 @@ returns c = λ s.
     let left = c.args.left.now in
     elim (cases_lt s c.loop-node.node) [
       | inl below ↦ c.loop-node.invariant s ∙ rw (lt-ltb s c.loop-node.node below) refl
-      | inr from ↦ c.loop-node.invariant s ∙ rw (le-ltb s c.loop-node.node from, get_or_past left s 1 (omega (arith, c.loop-node-test.false))) refl
+      | inr from ↦ c.loop-node.invariant s
+          ∙ rw (
+            le-ltb s c.loop-node.node from,
+            get_or_past left s 1 (omega (arith, c.loop-node-test.false)),
+          ) refl
     ]

@@ -1,3 +1,4 @@
+-- What the loop of `make_packages` keeps.
 use Rattle.std.proofs.Common.{◌≡◌, map, take}
 use Rattle.td_wbread.specs.Packages.{packages_of}
 use Rattle.td_wbread.specs.Views.{package_of}

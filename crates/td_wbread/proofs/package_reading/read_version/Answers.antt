@@ -1,3 +1,4 @@
+-- `read_version`: what it answers.
 use Rattle.td_relation.proofs.VersionTexts.{read_is}
 use Rattle.td_wbread.proofs.package_reading.read_version.Goals as goal
 

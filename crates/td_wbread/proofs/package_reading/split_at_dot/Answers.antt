@@ -1,3 +1,4 @@
+-- `split_at_dot`: the clauses `before` and `behind`.
 use Rattle.td_wbread.proofs.Dots.{dot_before, dot_behind, no_dot_before, no_dot_behind}
 use Rattle.td_wbread.proofs.package_reading.split_at_dot.Goals as goal
 

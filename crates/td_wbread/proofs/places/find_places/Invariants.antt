@@ -1,3 +1,4 @@
+-- What the loop of `find_places` keeps.
 use Rattle.td_wbread.proofs.PackagePlaces.{FindsFirst}
 use Rattle.td_wbread.proofs.places.find_places.Given as goal
 

@@ -1,3 +1,4 @@
+-- What the loop of `read_words` keeps, and why it ends.
 use Rattle.std.proofs.Common.{length}
 use denote.Text.{Utf8}
 use denote.Shadow.{shadow}

@@ -1,3 +1,4 @@
+-- What the loop of `take_word` keeps, and why it ends.
 use Rattle.std.proofs.Common.{length}
 use Rattle.std.specs.String.{string_bytes}
 use denote.Text.{Utf8}

@@ -1,3 +1,4 @@
+-- `Tracker::read`: the clause `fault`.
 use Rattle.std.proofs.Common.{◌∙◌, length, map, ap, sym, subst}
 use Rattle.td_query.specs.Sources.{ArePatterns}
 use Rattle.td_query.specs.TrackerGrammar.{Said, entries}
@@ -13,8 +14,10 @@ returns-in-Err-whole-clause-fault c =
     elim c.match-read_entries.branch [
       | in-Ok w ↦
           by_key c.args.text.now (said c.read_entries.new.keys) c.in-Err-whole.key
-          (ap (λ (s : Said). entries (length c.args.text.now) s c.args.text.now) (sym c.no_keys-keys.ensures) ∙ w.in-Ok.ensures.gives)
-          (subst (λ log. ArePatterns (map raw_of log)) c.as_slice.ensures.value (c.in-Ok-compile.ensures.read))
+          (ap (λ (s : Said). entries (length c.args.text.now) s c.args.text.now)
+          (sym c.no_keys-keys.ensures.nothing) ∙ w.in-Ok.ensures.gives)
+          (subst (λ log. ArePatterns (map raw_of log)) c.as_slice.ensures.value
+          (c.in-Ok-compile.ensures.read))
           c.in-Err-whole.ensures.missing
       | in-Err-Syntax w ↦ absurd (let is = sym w.left-is ∙ c.in_default.is in cc)
     ]

@@ -1,3 +1,4 @@
+-- `Tracker::status`: what it answers.
 use Rattle.std.proofs.Common.{◌≡◌, ◌∙◌, map, ap, sym, true, rules}
 use Rattle.regex.specs.Strings.{matcher_pattern, regex_pattern}
 use Rattle.td_relation.specs.Table.{place_of}
@@ -15,9 +16,15 @@ returns c =
     let source = c.in-Some.source in
     let place = c.in-Some-index.place in
     let some : has_row_at a source place ≡ true = search rules in
-    let same : map matcher_pattern c.in_ok-matchers.matchers.items ≡ t.patterns = c.in_ok-matchers.ensures ∙ ap (map regex_pattern) c.as_slice.ensures.value in
-    c.status.ensures.value
-    ∙ status_there a t source place c.row_mark.result some (c.row_mark.ensures ∙ ap (λ p. row_mark a p t source place) same)
-    ∙ status_named a t c.args.key.now source place
-    (ap (number_named a) (sym c.source.ensures.text) ∙ sym c.in-Some.ensures.number)
-    (ap (λ tb. place_of tb c.args.key.now.arch) (sym c.archs.ensures) ∙ ap (place_of (table c.archs.result.now)) (sym c.arch.ensures.text) ∙ sym c.in-Some-index.ensures)
+    let same : map matcher_pattern c.in_ok-matchers.matchers.items ≡ t.patterns =
+    c.in_ok-matchers.ensures.patterns ∙ ap (map regex_pattern) c.as_slice.ensures.value in
+    record {
+      status = c.status.ensures.value
+          ∙ status_there a t source place c.row_mark.result some
+          (c.row_mark.ensures.mark ∙ ap (λ p. row_mark a p t source place) same)
+          ∙ status_named a t c.args.key.now source place
+          (ap (number_named a) (sym c.source.ensures.text) ∙ sym c.in-Some.ensures.number)
+          (ap (λ tb. place_of tb c.args.key.now.arch) (sym c.archs.ensures)
+          ∙ ap (place_of (table c.archs.result.now)) (sym c.arch.ensures.text)
+          ∙ sym c.in-Some-index.ensures);
+    }

@@ -1,3 +1,4 @@
+-- `Transition::items`: its loop.
 use Rattle.std.proofs.Common.{◌<◌, ap, ◌∙◌, map, length, arith}
 use Rattle.td_report.specs.ItemLines.{seen}
 use Rattle.td_report.specs.Transition.{affected_row}
@@ -12,12 +13,15 @@ loop-number-preserved c =
     let f = affected_row (contents_of self) (tracking_of self) (level_of self) in
     let rows = c.args.rows.now in
     let n = c.loop-number.number in
-    let within : n < length rows = omega (arith, c.loop-number-test.true, c.len-number-end.ensures.len) in
+    let within : n < length rows =
+    omega (arith, c.loop-number-test.true, c.len-number-end.ensures.len) in
     elim c.match-item_at.branch [
       | in-Some+in_ok-push w ↦
           ap (λ v. map seen v.items) w.items-is ∙ ap (λ l. map seen l) w.in_ok-push.ensures.items
-          ∙ items-more f rows n c.loop-number.items.items w.in-Some.item within w.in-Some.ensures c.loop-number.invariant
+          ∙ items-more f rows n c.loop-number.items.items w.in-Some.item within w.in-Some.ensures
+          c.loop-number.invariant
       | in_default w ↦
           ap (λ v. map seen v.items) w.items-is
-          ∙ items-same f rows n c.loop-number.items.items within w.in_default.ensures c.loop-number.invariant
+          ∙ items-same f rows n c.loop-number.items.items within w.in_default.ensures
+          c.loop-number.invariant
     ]

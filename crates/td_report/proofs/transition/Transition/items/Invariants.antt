@@ -1,3 +1,4 @@
+-- What the loop of `Transition::items` keeps.
 use Rattle.std.proofs.Common.{◌≡◌, map, take}
 use Rattle.td_report.specs.ItemLines.{seen}
 use Rattle.td_report.specs.Transition.{affected_rows}
@@ -6,4 +7,5 @@ use Rattle.td_report.proofs.transition.Transition.items.Given as goal
 
 -- those of the rows so far
 abbrev pub invariant-loop-number : goal.invariant-loop-number
-invariant-loop-number l = map seen l.items.items ≡ affected_rows (contents_of l.self) (tracking_of l.self) (level_of l.self) (take l.number l.rows)
+invariant-loop-number l = map seen l.items.items ≡ affected_rows (contents_of l.self)
+    (tracking_of l.self) (level_of l.self) (take l.number l.rows)

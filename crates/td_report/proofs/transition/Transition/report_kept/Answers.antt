@@ -1,3 +1,4 @@
+-- `Transition::report_kept`: what it answers and the call of `kept_text`.
 use Rattle.std.proofs.Common.{◌≡◌, string_bytes, sym, subst}
 use Rattle.std.proofs.lemmas.Result.{IfOk-weaker}
 use Rattle.td_text.specs.Lines.{text_of}
@@ -11,16 +12,24 @@ use Rattle.td_report.proofs.transition.Transition.report_kept.Goals as goal
 pub returns : goal.returns
 returns g c =
     let self = c.args.self.now in
-    IfOk-weaker c.kept_text.result (λ text. string_bytes text ≡ text_of (report_lines c.title.result.now c.depth-depth.result c.deref.result.now)) (λ text. IsReport (contents_of self) (tracking_of self) c.args.rows.now (string_bytes text))
-    (λ text written. is_report (contents_of self) (tracking_of self) (level_of self) (depth_of self) c.args.rows.now c.in_ok-items.items.items c.deref.result.now c.title.result.now c.depth-depth.result (string_bytes text)
-    c.requires.made.leveled written c.title.ensures c.depth-depth.ensures c.deref.ensures.value c.in_ok-items.ensures)
+    IfOk-weaker c.kept_text.result
+    (λ text. string_bytes text ≡ text_of
+    (report_lines c.title.result.now c.depth-depth.result c.deref.result.now))
+    (λ text. IsReport (contents_of self) (tracking_of self) c.args.rows.now (string_bytes text))
+    (λ text written. is_report (contents_of self) (tracking_of self) (level_of self)
+    (depth_of self) c.args.rows.now c.in_ok-items.items.items c.deref.result.now
+    c.title.result.now c.depth-depth.result (string_bytes text)
+    c.requires.made.leveled written c.title.ensures.title c.depth-depth.ensures
+    c.deref.ensures.value c.in_ok-items.ensures)
     c.kept_text.ensures
 
 pub kept_text-requires-clause-kept : goal.kept_text-requires-clause-kept
 kept_text-requires-clause-kept g c κs within =
     let self = c.args.self.now in
-    let rows = affected_rows (contents_of self) (tracking_of self) (level_of self) c.args.rows.now in
+    let rows = affected_rows (contents_of self) (tracking_of self)
+    (level_of self) c.args.rows.now in
     let kept = c.args.kept.now in
-    let are = kept-seen (depth_of self) rows c.in_ok-items.items.items kept c.in_ok-items.ensures c.requires.kept in
+    let are = kept-seen (depth_of self) rows c.in_ok-items.items.items kept c.in_ok-items.ensures
+    c.requires.kept in
     subst (λ d. AreCountsOf d c.deref.result.now kept) (sym c.depth-depth.ensures)
     (subst (λ l. AreCountsOf (depth_of self) l kept) (sym c.deref.ensures.value) are)

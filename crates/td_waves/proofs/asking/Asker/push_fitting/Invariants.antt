@@ -1,3 +1,4 @@
+-- What the loop of `Asker::push_fitting` keeps.
 use Rattle.std.proofs.Common.{◌≡◌, ◌||◌, ℕ, take}
 use Rattle.std.specs.List.{list_any}
 use Rattle.td_relation.specs.Asked.{asked}
@@ -6,4 +7,6 @@ use Rattle.td_waves.proofs.asking.Asker.push_fitting.Given as goal
 
 -- the packages so far
 abbrev pub invariant-loop-provider : goal.invariant-loop-provider
-invariant-loop-provider l = (t : ℕ) → has t l.bases.items ≡ (has t l.fn.bases.items || list_any (is_base l.self t (asked l.alternative)) (take l.provider-index l.found))
+invariant-loop-provider l = (t : ℕ)
+    → has t l.bases.items ≡ (has t l.fn.bases.items || list_any
+    (is_base l.self t (asked l.alternative)) (take l.provider-index l.found))

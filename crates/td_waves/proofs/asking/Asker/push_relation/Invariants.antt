@@ -1,3 +1,4 @@
+-- What the loop of `Asker::push_relation` keeps.
 use Rattle.std.proofs.Common.{◌≡◌, ◌||◌, ℕ}
 use Rattle.td_relation.specs.Members.{members}
 use Rattle.td_relation.specs.MembersLeft.{members_left}
@@ -7,4 +8,6 @@ use Rattle.td_waves.proofs.asking.Asker.push_relation.Given as goal
 
 -- what is left decides
 abbrev pub invariant-loop-member : goal.invariant-loop-member
-invariant-loop-member l = (t : ℕ) → (has t l.bases.items || some_asked (is_found l.self t) (members_left l.member-iterator)) ≡ (has t l.fn.bases.items || some_asked (is_found l.self t) (members l.relation))
+invariant-loop-member l = (t : ℕ)
+    → (has t l.bases.items || some_asked (is_found l.self t) (members_left l.member-iterator))
+    ≡ (has t l.fn.bases.items || some_asked (is_found l.self t) (members l.relation))

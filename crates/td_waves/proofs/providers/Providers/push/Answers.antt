@@ -1,3 +1,4 @@
+-- `Providers::push`: what it answers.
 use Rattle.std.proofs.Common.{arith}
 use Rattle.std.proofs.lemmas.Grind.{text_groups}
 use Rattle.td_waves.proofs.providers.Providers.push.Goals as goal

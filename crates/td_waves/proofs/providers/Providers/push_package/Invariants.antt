@@ -1,3 +1,4 @@
+-- What the loop of `Providers::push_package` keeps.
 use Rattle.std.proofs.Common.{◌≡◌, ◌||◌, ◌&&◌, Bool, ℕ, List}
 use Rattle.std.specs.List.{list_any}
 use Rattle.std.specs.Str.{bytes_eq}
@@ -8,4 +9,7 @@ use Rattle.td_waves.proofs.providers.Providers.push_package.Given as goal
 
 -- what is left decides
 abbrev pub invariant-loop-name : goal.invariant-loop-name
-invariant-loop-name l = (q : List ℕ) (test : Provider → Bool) → (list_any test (under l.self q) || list_any (λ name. bytes_eq q name && test l.provider) (names_left l.name-iterator)) ≡ (list_any test (under l.fn.self q) || passes_numbered l.archive q test l.owner l.number)
+invariant-loop-name l = (q : List ℕ) (test : Provider → Bool)
+    → (list_any test (under l.self q) || list_any (λ name. bytes_eq q name && test l.provider)
+    (names_left l.name-iterator))
+    ≡ (list_any test (under l.fn.self q) || passes_numbered l.archive q test l.owner l.number)

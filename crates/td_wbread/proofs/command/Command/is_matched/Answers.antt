@@ -1,3 +1,4 @@
+-- `Command::is_matched`: what it answers.
 use Rattle.std.proofs.Common.{◌∙◌}
 use Rattle.td_version.specs.Version.{parts_of as version_of}
 use Rattle.td_wbread.specs.inner.Places.{is_matching}
@@ -9,5 +10,6 @@ pub returns : goal.returns
 returns c =
     let version = version_of c.args.version.now in
     c.has_match.ensures
-    ∙ answered c.args.self.now.packages.items _ _ c.args.self.now.places c.args.self.now.found c.as_slice.ensures.value c.args.source.now c.of.ensures (is_matching version c.args.number)
+    ∙ answered c.args.self.now.packages.items _ _ c.args.self.now.places c.args.self.now.found
+    c.as_slice.ensures.value c.args.source.now c.of.ensures (is_matching version c.args.number)
     ∙ has_package c.args.self.now c.args.source.now version c.args.number

@@ -1,3 +1,4 @@
+-- `Places::push`: what it answers.
 use Rattle.std.proofs.Common.{arith}
 use Rattle.std.proofs.lemmas.Grind.{text_groups}
 use Rattle.td_wbread.proofs.places.Places.push.Goals as goal

@@ -1,0 +1,194 @@
+//! Questions to an archive, in words, and what it answers. One function owns the archive; the
+//! others have it by reference, so that the proof of a test is short.
+use std::alloc::{AllocError, Global};
+use std::process::Abort;
+use td_indices::{Archive, Binary};
+use td_relation::Archs;
+use td_rows::{Key, read_key, rows_text};
+use td_supply::Supply;
+
+fn number(digits: &str) -> usize {
+    digits.parse::<usize>().unwrap_or(usize::MAX)
+}
+
+fn spelled(alloc: Global, binary: Option<Binary<'_>>) -> Result<String, AllocError> {
+    match binary {
+        Some(found) => format!(in alloc; "{} {} {}", found.name, found.version, found.source),
+        None => String::from_str(alloc, "none"),
+    }
+}
+
+fn counts(alloc: Global, archive: &Archive<'_, '_>) -> Result<String, AllocError> {
+    format!(in alloc;
+        "{} {} {}",
+        archive.source_count(),
+        archive.binary_count(),
+        archive.row_count()
+    )
+}
+
+// The numbers of a source's packages on an architecture, whose place is the first word.
+fn binaries(alloc: Global, archive: &Archive<'_, '_>, rest: &str) -> Result<String, AllocError> {
+    let (place, source) = rest.split_once(' ').unwrap_or(("", rest));
+    let numbers = archive.binaries(source, number(place))?;
+    format!(in alloc; "{:?}", numbers.as_slice())
+}
+
+// The version of a source, and the number of its stanza.
+fn source(alloc: Global, archive: &Archive<'_, '_>, name: &str) -> Result<String, AllocError> {
+    match archive.source(name) {
+        Some(found) => format!(in alloc; "{} {}", found.version, found.stanza),
+        None => String::from_str(alloc, "none"),
+    }
+}
+
+// The rebuild number of a row.
+fn rebuild(archive: &Archive<'_, '_>, key: &Key) -> Option<u16> {
+    Some(archive.opening_row(key)?.number.get())
+}
+
+fn opening(alloc: Global, archive: &Archive<'_, '_>, name: &str) -> Result<String, AllocError> {
+    let (source, arch) = read_key(name).unwrap_or(("", ""));
+    match Key::new(alloc, source, arch) {
+        Ok(key) => format!(in alloc; "{:?}", rebuild(archive, &key)),
+        Err(_) => Err(AllocError),
+    }
+}
+
+fn rows(alloc: Global, archive: &Archive<'_, '_>) -> Result<String, AllocError> {
+    let rows = archive.opening_rows()?;
+    rows_text(alloc, &rows)
+}
+
+fn met(supply: &Supply<'_>, relation: &str) -> &'static str {
+    match supply.meets(relation, "amd64") {
+        Ok(true) => "met",
+        Ok(false) => "not met",
+        Err(_) => "want of memory",
+    }
+}
+
+fn meets(archive: &Archive<'_, '_>, relation: &str) -> Result<&'static str, AllocError> {
+    let supply = archive.supply()?;
+    Ok(met(&supply, relation))
+}
+
+// Whether the relation is met once the second rebuild of foo has arrived on amd64.
+fn rebuilt(archive: &Archive<'_, '_>, relation: &str) -> Result<&'static str, AllocError> {
+    let mut supply = archive.supply()?;
+    match supply.arrive("foo", "amd64", 2) {
+        Ok(_) => Ok(met(&supply, relation)),
+        Err(error) => Err(error),
+    }
+}
+
+// The names that a package offers, each behind a space.
+fn names(alloc: Global, archive: &Archive<'_, '_>, digits: &str) -> Result<String, AllocError> {
+    let mut out = String::new(alloc);
+    for name in archive.offered_names(number(digits)) {
+        out.push_str(" ")?;
+        out.push_str(name)?;
+    }
+    Ok(out)
+}
+
+// Whether the first source has a row on the second architecture, and a field of it.
+fn first_source(archive: &Archive<'_, '_>) -> Option<&'static str> {
+    if archive.arch_count() < 2 || archive.source_count() == 0 || !archive.has_row(0, 1) {
+        return None;
+    }
+    match archive.stanza_of_source(0).get("build-depends") {
+        Some("libbar-dev") => Some("libbar-dev"),
+        _ => None,
+    }
+}
+
+// Whether the second package's stanza says that it is bar's.
+fn second_package_is_of_bar(archive: &Archive<'_, '_>) -> bool {
+    archive.binary_count() > 1 && archive.stanza_of_binary(1).get("Source") == Some("bar")
+}
+
+// Whether every build of the first source asks for something.
+fn depends(archive: &Archive<'_, '_>) -> Result<bool, AllocError> {
+    if archive.source_count() == 0 {
+        return Ok(false);
+    }
+    Ok(archive.build_depends(0)?.is_some())
+}
+
+// The same of the builds of packages that aren't of `all`.
+fn depends_arch(archive: &Archive<'_, '_>) -> Result<bool, AllocError> {
+    if archive.source_count() == 0 {
+        return Ok(false);
+    }
+    Ok(archive.build_depends_arch(0)?.is_some())
+}
+
+fn lookup(
+    alloc: Global,
+    archive: &Archive<'_, '_>,
+    word: &str,
+    rest: &str,
+) -> Result<String, AllocError> {
+    match word {
+        "number" => format!(in alloc; "{:?}", archive.source_number(rest)),
+        "archs" => format!(in alloc; "{} {}", archive.archs().len(), archive.arch_count()),
+        "first" => format!(in alloc; "{:?}", first_source(archive)),
+        "second" => format!(in alloc; "{}", second_package_is_of_bar(archive)),
+        "depends" => format!(in alloc; "{}", depends(archive)?),
+        "depends-arch" => format!(in alloc; "{}", depends_arch(archive)?),
+        "provides" => format!(in alloc; "{}", archive.provides(number(rest)).is_some()),
+        _ => format!(in alloc; "{:?}", archive.packages_of(rest)),
+    }
+}
+
+fn answer(alloc: Global, archive: &Archive<'_, '_>, asked: &str) -> Result<String, AllocError> {
+    let (word, rest) = asked.split_once(' ').unwrap_or((asked, ""));
+    match word {
+        "counts" => counts(alloc, archive),
+        "binary" => spelled(alloc, archive.binary(number(rest))),
+        "binaries" => binaries(alloc, archive, rest),
+        "source" => source(alloc, archive, rest),
+        "opening" => opening(alloc, archive, rest),
+        "rows" => rows(alloc, archive),
+        "meets" => String::from_str(alloc, meets(archive, rest)?),
+        "rebuilt" => String::from_str(alloc, rebuilt(archive, rest)?),
+        "names" => names(alloc, archive, rest),
+        _ => lookup(alloc, archive, word, rest),
+    }
+}
+
+fn is_answered(
+    rt: &impl Abort,
+    alloc: Global,
+    archive: &Archive<'_, '_>,
+    asked: &str,
+    expected: &str,
+) {
+    match answer(alloc, archive, asked) {
+        Ok(answered) => assert_eq!(rt; answered.as_str(), expected, "{asked}"),
+        Err(_) => panic!(rt; "want of memory at {asked}"),
+    }
+}
+
+/// Asks the archive of these texts each question; behind it stands what is expected.
+pub(super) fn are_answered<'x>(
+    rt: &impl Abort,
+    alloc: Global,
+    table: &'x str,
+    packages: &'x str,
+    sources: &'x str,
+    questions: &[(&'static str, &'static str)],
+) {
+    let Ok(archs) = Archs::read(alloc, table) else {
+        panic!(rt; "the table is read");
+    };
+    match Archive::read(alloc, packages, sources, &archs) {
+        Ok(archive) => {
+            for (asked, expected) in questions {
+                is_answered(rt, alloc, &archive, asked, expected);
+            }
+        }
+        Err(fault) => panic!(rt; "refused: {fault:?}"),
+    }
+}

@@ -1,0 +1,27 @@
+//! The tests of the crates that read and write: streams, stanzas, versions, relations and what is
+//! on offer, indices, command lines, trackers and waves: what no clause says.
+//!
+//! A module a crate. They stand in a crate of their own, over the crates' public calls, so that
+//! none of those is proved a second time with its tests.
+#![tactic(auto)]
+
+#[cfg(test)]
+mod archives;
+#[cfg(test)]
+mod commands;
+#[cfg(test)]
+mod relations;
+#[cfg(test)]
+mod stanzas;
+#[cfg(test)]
+mod statuses;
+#[cfg(test)]
+mod streams;
+#[cfg(test)]
+mod supplies;
+#[cfg(test)]
+mod trackers;
+#[cfg(test)]
+mod versions;
+#[cfg(test)]
+mod waves;
