@@ -142,6 +142,7 @@ entry_at s at =
 unfoldable pub front : List ℕ → Option (List ℕ)
 front t = if length (skipped t) == 0 then None else Some (skipped t)
 
+-- the key that comes next, if one does, and what follows it
 abbrev pub entries_next : (Said → List ℕ → Result Said (ℕ × Log)) → Said → Option (List ℕ)
     → Result Said (ℕ × Log)
 entries_next more s None = Ok s
