@@ -91,10 +91,12 @@ StartOutcome b hand old new result = (result ≡ Err NothingHeld) × (new ≡ ol
 
 -- ---- a finish
 
+-- the builder whose build a kind ends; 0 for a kind that ends none
 abbrev pub by_in : Kind → ℕ
 by_in (Ended b o) = b
 by_in kind = 0
 
+-- the outcome with which a kind ends a build; built, for a kind that ends none
 abbrev pub ended_in : Kind → Outcome
 ended_in (Ended b o) = o
 ended_in kind = WasBuilt

@@ -1,4 +1,4 @@
--- What a command does to a book. This project's own.
+-- The parts of a command: withdrawals, the entry, its answer. This project's own.
 use Rattle.std.specs.Prelude.{◌≡◌, ◌≢◌, ℕ, zero, suc, ◌+◌, ◌≤◌, Bool, true, false, ◌&&◌, List, [], ◌∷◌, Option, Some, None, Result, Ok, Err, if◌then◌else◌, length, slice_get, slice_set, take}
 use Rattle.td_board.specs.declared.views.RowView.TheVariants.{Known}
 use Rattle.td_rows.specs.declared.key.Key.{Key}
@@ -124,6 +124,7 @@ abbrev pub entered_no : History → List Key → Option ℕ
 entered_no h [] = None
 entered_no h (k ∷ ks) = Some (length h.journal + 1)
 
+-- the kind of a plan's entry; `gb` stands in where there is no plan
 abbrev pub plan_kind : Option Planned → Kind
 plan_kind None = Gb
 plan_kind (Some p) = p.kind
@@ -157,6 +158,8 @@ CommandOutcome kind named matched left old new (Err NoMemory) = new.history ≡ 
 CommandOutcome kind named matched left old new (Err (NothingApplies skips)) = (choices : List ℕ) × Choices old.fixed.builders (off_for kind named) choices × Nothing kind matched left (noting old.history (off_for kind named) choices) new.history skips
 CommandOutcome kind named matched left old new (Ok taken) = (choices : List ℕ) × Choices old.fixed.builders (off_for kind named) choices × Enters kind matched left (noting old.history (off_for kind named) choices) new.history taken
 
+-- what a command does to a book, by its kind, the keys that it names, those whose version matches,
+-- and the skips over the rows: what is fixed stays, and the history fits the answer
 pub record IsCommanded (kind : Kind) (named matched : List Key) (left : Table → List Skip) (old new : BookModel) (result : Result Taken CommandRefusal) : Type 0 where
   pub fixed : new.fixed ≡ old.fixed
   pub outcome : CommandOutcome kind named matched left old new result

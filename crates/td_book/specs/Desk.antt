@@ -32,13 +32,15 @@ pub record BookModel : Type 0 where
   pub history : History
   pub fixed : Fixed
 
+-- what no call changes, of the inside of a book
 abbrev pub fixed_of : InnerModel → Fixed
 fixed_of m = record { table = m.table; stock = m.books.stock; builders = m.builders; since = m.since; watch = m.books.watch }
 
+-- the book at rest that has this inside
 abbrev pub book_of : InnerModel → BookModel
 book_of m = record { history = m.books.history; fixed = fixed_of m }
 
--- what is fixed stays, field by field
+-- what is fixed stays, part by part
 pub record Stays (old new : InnerModel) : Type 0 where
   pub table : new.table ≡ old.table
   pub stock : new.books.stock ≡ old.books.stock

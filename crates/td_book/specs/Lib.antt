@@ -1,3 +1,4 @@
+-- What the contracts of this crate cite: a file a thing.
 pub mod Seen
 pub mod Deeds
 pub mod Desk

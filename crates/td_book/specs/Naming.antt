@@ -37,5 +37,6 @@ abbrev pub is_matched_as : CommandParts → List ℕ → ℕ → Option Parts �
 is_matched_as c source number (Some version) = is_matched c source version number
 is_matched_as c source number None = is_bare c source
 
+-- whether the key has a row, and the row's version matches
 abbrev pub is_matched_at : CommandParts → SupplyView → Table → Key → Bool
 is_matched_at c s t k = elim (row_of t k) [ Some row ↦ is_matched_as c k.source row.number (version_in s k.source) | None ↦ false ]

@@ -31,17 +31,22 @@ skips_of matches kind named t = map (skip_at matches t) (filter (is_skipped matc
 abbrev pub doubt : (Key → Bool) → Key → Skip
 doubt matches k = record { key = k; reason = if matches k then why.State NeedsBuild else why.Version }
 
+-- whether a doubt for this reason is left: where the version doesn't match in any case, else unless
+-- the kind applies on the row
 abbrev pub is_left_as : SkipReason → Bool → Bool
 is_left_as why.Version fit = true
 is_left_as (why.State s) fit = not fit
 
+-- whether a doubt is left over the rows as they are now
 abbrev pub is_left : Table → Kind → Skip → Bool
 is_left t kind s = is_left_as s.reason (fits t kind s.key)
 
+-- a reason with the row's state as it is now; the version stays one
 abbrev pub reason_now : SkipReason → State → SkipReason
 reason_now why.Version s = why.Version
 reason_now (why.State old) s = why.State s
 
+-- a doubt with the state that its row has now
 abbrev pub renewed : Table → Skip → Skip
 renewed t s = record { key = s.key; reason = reason_now s.reason (state_at t s.key) }
 

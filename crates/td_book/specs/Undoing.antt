@@ -48,10 +48,14 @@ UndoOutcome n old new (Err undos.NoSuchEntry) = ⊥
 UndoOutcome n old new (Err undos.NotACommand) = ⊥
 UndoOutcome n old new (Err undos.AlreadyUndone) = ⊥
 
+-- an undo of a standing command that no later entry touches leaves the book and answers so: what is
+-- fixed stays, and the history fits the answer
 pub record IsUndone (n : ℕ) (old new : BookModel) (result : Result (Unit {0}) UndoRefusal) : Type 0 where
   pub fixed : new.fixed ≡ old.fixed
   pub outcome : UndoOutcome n old new result
 
+-- why an undo is stopped by an entry's mark, or by its blocker if it has one: it is undone already,
+-- or blocked
 abbrev pub mark_stop : Mark → Option ℕ → Option UndoRefusal
 mark_stop Undone b = Some undos.AlreadyUndone
 mark_stop Standing (Some m) = Some (undos.Blocked m)
@@ -61,6 +65,8 @@ mark_stop Standing None = None
 abbrev pub undo_stop : List Marked → ℕ → Option UndoRefusal
 undo_stop ms n = elim (entry_at ms n) [ Some m ↦ if is_command m.entry.kind then mark_stop m.mark (blocker ms n) else Some undos.NotACommand | None ↦ Some undos.NoSuchEntry ]
 
+-- what an undo of entry n does and answers: where it is stopped, this refusal, and the book stays;
+-- else it is made, or fails, as `IsUndone` says
 abbrev pub UndoAnswer : Option UndoRefusal → ℕ → BookModel → BookModel → Result (Unit {0}) UndoRefusal → Type 0
 UndoAnswer None n old new result = IsUndone n old new result
 UndoAnswer (Some r) n old new result = (result ≡ Err r) × (new ≡ old)

@@ -1,8 +1,9 @@
 //! The book: the history of the rows, under the desk's seat at the claim board.
 //!
-//! Start at `Book`. `commanding` and `undoing` change the history, `starting` and `finishing` serve
-//! a builder, `waiting` says what is to be built next, `arriving` tells the book what the archive
-//! has, `watching` how many rows of a group are Installed. `inner` withdraws rows from the board and
+//! Start at `Book`: `opening` begins one over rows, `reopening` over a journal that is read again.
+//! `commanding` and `undoing` change the history, `starting` and `finishing` serve a builder,
+//! `waiting` says what is to be built next, `arriving` tells the book what the archive has,
+//! `watching` how many rows of a group are Installed. `inner` withdraws rows from the board and
 //! offers them, and says what the desk knows of each row meanwhile.
 //! Promised: at rest a row is offered exactly where it needs a build, and known to be a builder's
 //! exactly where it is Building by it; a claim that a builder has won is noted and never invented;

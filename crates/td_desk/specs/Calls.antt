@@ -54,18 +54,23 @@ arrival_receipt k n = Made n kinds.Arrive (k ∷ [])
 abbrev pub Commanding : CommandParts → TableId → ClerkModel → ClerkModel → Result Taken CommandRefusal → Type 0
 Commanding c table clerk after result = (old : BookModel) × (new : BookModel) × (old.fixed.table ≡ table) × IsDone c old new result × IfOk result (λ t. after ≡ with_receipt (command_receipt c old t) clerk)
 
+-- an undo's: what such a book answers to the undo of entry n
 abbrev pub Undoing : ℕ → TableId → Result (Unit {0}) UndoRefusal → Type 0
 Undoing n table result = (old : BookModel) × (new : BookModel) × (old.fixed.table ≡ table) × UndoAnswer (undo_stop old.history.journal n) n old new result
 
+-- an arrival's: what such a book answers to the arrival of this key's build
 abbrev pub Arriving : Key → TableId → Result ℕ ArriveRefusal → Type 0
 Arriving k table result = (old : BookModel) × (new : BookModel) × (old.fixed.table ≡ table) × ArriveOutcome k old new result
 
+-- a sweep's: what such a book answers to it
 abbrev pub Sweeping : TableId → Result (Option ℕ) AllocError → Type 0
 Sweeping table result = (old : BookModel) × (new : BookModel) × (old.fixed.table ≡ table) × SweepOutcome old new result
 
+-- a start's: what such a book answers to the builder of this seat, by its hand
 abbrev pub Starting : BuilderModel → TableId → Result Job StartRefusal → Type 0
 Starting seat table result = (old : BookModel) × (new : BookModel) × (old.fixed.table ≡ table) × StartOutcome seat.builder.number seat.builder.hand old new result
 
+-- a finish's: what such a book answers to it with this outcome, and the builder after it
 abbrev pub Finishing : Outcome → BuilderModel → BuilderModel → TableId → Result ℕ FinishRefusal → Type 0
 Finishing outcome seat after table result = (old : BookModel) × (new : BookModel) × (old.fixed.table ≡ table) × FinishOutcome seat.builder.hand outcome seat.builder after.builder old new result
 

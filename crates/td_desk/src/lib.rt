@@ -1,7 +1,8 @@
 //! The desk: a book under a lock, and clerks who are told what they changed.
 //!
-//! Start at `Desk`. Its calls are those of the book, each under the lock; `claim`, by which a
-//! builder takes a row, needs no lock. A `Clerk` keeps a receipt of each change that it made, and
+//! Start at `Desk`. `open` begins one before the first entry, `reopen` over a journal's text. Its
+//! calls are those of the book, each under the lock; `claim`, by which a builder takes a row, needs
+//! no lock. A `Clerk` keeps a receipt of each change that it made, and
 //! `Desk::close` holds the receipts of all clerks against the book.
 //! Promised: each accepted call of a clerk adds its receipt and counts it in a ledger; a desk is
 //! closed exactly where the receipts handed in are the book's changes, each once; and what a call

@@ -2,8 +2,8 @@
 //!
 //! Start at `explain`: one line from a place in a text, and from what is wanted there. Places count
 //! as the readers of the formats count them, and the text is looked for again by its lines.
-//! Promised: the line is the stated one (`specs/Explanation.antt`), with the text at the first place
-//! that is meant (`specs/Spot.antt`), cut behind 60 characters and with no control character
+//! Promised: the line is the stated one (`specs/Explanation.antt`), with the text at the first
+//! place that is meant (`specs/Spot.antt`), cut behind 60 characters and with no control character
 //! (`specs/Shown.antt`).
 #![tactic(auto)]
 

@@ -1,4 +1,4 @@
--- What an archive holds, which two texts it is read from, and why two texts are refused.
+-- What an archive holds, of which texts it is read, and why texts are refused. This project's own.
 use Rattle.std.specs.Prelude.{◌≡◌, ◌⊎◌, ℕ, ◌+◌, ◌<◌, ◌≤◌, ◌&&◌, Bool, false, List, [], ◌∷◌, Option, Result, Ok, Err, position, slice_get, if◌then◌else◌}
 use Rattle.std.specs.List.{find}
 use Rattle.std.specs.Option.{option_map_or}

@@ -87,6 +87,7 @@ package_at table fields =
 
 -- ---- what the readers give, without where it lies in memory
 
+-- the package of a stanza's head
 abbrev pub headed : Head → BinaryPackage
 headed h = record {
   name = h.key.name.now;
@@ -97,14 +98,17 @@ headed h = record {
   source_parts = parts_of h.source_parts;
 }
 
+-- that package, or the stanza's fault
 abbrev pub head_found : Result Head EntryFault → Result BinaryPackage EntryFault
 head_found (Ok head) = Ok (headed head)
 head_found (Err fault) = Err fault
 
+-- the same where the package may not be here
 abbrev pub heads_found : Result (Option Head) EntryFault → Result (Option BinaryPackage) EntryFault
 heads_found (Ok head) = Ok (option_map headed head)
 heads_found (Err fault) = Err fault
 
+-- the name of a source, and the version that stands in brackets if one does, or the fault
 abbrev pub origin_found : Result (Bor (List ℕ) × Option (Bor (List ℕ))) EntryFault → Result (List ℕ × Option (List ℕ)) EntryFault
 origin_found (Ok p) = Ok (p.0.now, option_map (λ x. x.now) p.1)
 origin_found (Err fault) = Err fault

@@ -63,5 +63,6 @@ SourceKeysAreExact = (a b : KeptSource) → (same_source a b ≡ true) ↔ (a.he
 abbrev pub LowerPackagesAreExact : Type 0
 LowerPackagesAreExact = (a b : KeptBinary) → (lower_package a b ≡ true) ↔ (version_cmp a.head.parts b.head.parts ≡ Less)
 
+-- of two sources the one is lower exactly where its version is less in order than the other's
 abbrev pub LowerSourcesAreExact : Type 0
 LowerSourcesAreExact = (a b : KeptSource) → (lower_source a b ≡ true) ↔ (version_cmp a.head.parts b.head.parts ≡ Less)

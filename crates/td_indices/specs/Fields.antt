@@ -37,6 +37,7 @@ abbrev pub version_or_bad : Result Parts VersionFault → Result Parts EntryFaul
 version_or_bad (Ok parts) = Ok parts
 version_or_bad (Err fault) = Err BadVersion
 
+-- the version that a text is, where one has to stand
 abbrev pub version_in : List ℕ → Result Parts EntryFault
 version_in text = version_or_bad (reading text)
 

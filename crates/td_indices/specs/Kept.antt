@@ -56,6 +56,7 @@ put same lower (y ∷ ys) x = if same x y then (if lower y x then x else y) ∷ 
 
 -- ---- what the maps hold, without where it lies in memory
 
+-- a package with its key, as the map holds them
 abbrev pub binary_of : PackageKey × Packaged → KeptBinary
 binary_of p = record {
   head = record {
@@ -70,6 +71,7 @@ binary_of p = record {
   stanza = p.1.stanza;
 }
 
+-- all packages that the map holds, in its order
 abbrev pub binaries_of : List (PackageKey × Packaged) → List KeptBinary
 binaries_of entries = map binary_of entries
 

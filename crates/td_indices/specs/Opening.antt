@@ -46,6 +46,7 @@ abbrev pub opening_on : Contents → KeptSource → Option ℕ → Option Row
 opening_on a s None = None
 opening_on a s (Some place) = if has_row a.table s.head.archs place then Some (opening_of (greatest (current_numbers a s place))) else None
 
+-- the row of a source, if there is one, on the architecture with this name
 abbrev pub opening_at : Contents → Option KeptSource → List ℕ → Option Row
 opening_at a None arch = None
 opening_at a (Some s) arch = opening_on a s (place_of a.table arch)

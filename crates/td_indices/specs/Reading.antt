@@ -19,6 +19,7 @@ at_stanza file number entry.BadVersion = archive.BadVersion file (number + 1)
 at_stanza file number entry.BadRelation = archive.BadRelation file (number + 1)
 at_stanza file number entry.NoMemory = archive.NoMemory
 
+-- what is read of the stanza with this number in a file, or the stanza's fault
 abbrev pub in_stanza : {A : Type 0} → IndexFile → ℕ → Result A EntryFault → Result A ArchiveFault
 in_stanza file number (Ok x) = Ok x
 in_stanza file number (Err fault) = Err (at_stanza file number fault)

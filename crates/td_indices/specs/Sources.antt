@@ -66,19 +66,23 @@ lower_source a b = is_lt (version_cmp a.head.parts b.head.parts)
 
 -- ---- what the readers give and the map holds, without where it lies in memory
 
+-- the source of a stanza's head
 abbrev pub source_headed : SourceHead → SourcePackage
 source_headed h = record { name = h.name.now; version = h.version.now; parts = parts_of h.parts; archs = h.archs.now }
 
+-- that source, or the stanza's fault
 abbrev pub source_found : Result SourceHead EntryFault → Result SourcePackage EntryFault
 source_found (Ok head) = Ok (source_headed head)
 source_found (Err fault) = Err fault
 
+-- a source with its name, as the map holds them
 abbrev pub source_of : Bor (List ℕ) × Sourced → KeptSource
 source_of p = record {
   head = record { name = p.0.now; version = p.1.version.now; parts = parts_of p.1.parts; archs = p.1.archs.now };
   stanza = p.1.stanza;
 }
 
+-- all sources that the map holds, in its order
 abbrev pub sources_of : List (Bor (List ℕ) × Sourced) → List KeptSource
 sources_of entries = map source_of entries
 

@@ -40,5 +40,6 @@ asked_in a s field = relation_in (value_of (source_fields a s) field)
 abbrev pub build_depends_of : Contents → KeptSource → List (List Asked)
 build_depends_of a s = asked_or_none (asked_in a s (codes "Build-Depends"))
 
+-- what the builds of its packages that aren't of `all` ask for besides (Debian Policy 7.7)
 abbrev pub build_depends_arch_of : Contents → KeptSource → List (List Asked)
 build_depends_arch_of a s = asked_or_none (asked_in a s (codes "Build-Depends-Arch"))

@@ -18,7 +18,8 @@ use Rattle.td_indices.specs.Sources.{KeptSource}
 
 -- ---- 1. a binary package
 
--- the version behind which the next rebuild writes its number: the package's own without the number of a rebuild where it was built from the source's version as it is now, or from one equal in order, else the source's
+-- the BASE of a later `+bN`: the package's own version without its `+bN` where it was built from
+-- the source's present version, or from one equal in order, else the source's
 abbrev pub base_version : Parts → Parts → Parts → Parts
 base_version own built_from current = if same_version built_from current then base_of own else current
 
@@ -36,6 +37,7 @@ own_offer sources b = record { name = b.head.name; version = Some b.head.parts; 
 
 -- ---- 2. what it provides (Debian Policy 7.5)
 
+-- whether an operator is `=`
 abbrev pub is_equal : Operator → Bool
 is_equal Equal = true
 is_equal Earlier = false
@@ -56,6 +58,7 @@ provided home (x ∷ y ∷ more) = []
 
 -- ---- 3. all
 
+-- what a binary package puts on offer: itself, and what it provides
 abbrev pub offers_by : List KeptSource → KeptBinary → List Supplied
 offers_by sources b = own_offer sources b ∷ flat_map (provided b.head.home) b.provides
 
@@ -63,6 +66,7 @@ offers_by sources b = own_offer sources b ∷ flat_map (provided b.head.home) b.
 abbrev pub listed : KeptSource → List ℕ × List ℕ
 listed s = (s.head.name, s.head.version)
 
+-- what sources and binary packages put on offer, with this table of architectures
 abbrev pub stock : List ArchWords → List KeptSource → List KeptBinary → Stock
 stock table sources binaries = record { table = table; sources = map listed sources; offers = flat_map (offers_by sources) binaries }
 
@@ -76,8 +80,10 @@ supply_of a = stock a.table a.sources a.binaries
 abbrev pub AreRead : List KeptSource → Type 0
 AreRead sources = AllByRecursion (λ s. IsVersionText s.head.version) sources
 
+-- a supply with more offers, none of which has been rebuilt
 abbrev pub with_offers : SupplyView → List Supplied → SupplyView
 with_offers s offers = record s { items = s.items ++ map fresh offers }
 
+-- a supply with more sources, each with its version as it is written
 abbrev pub with_sources : SupplyView → List KeptSource → SupplyView
 with_sources s sources = record s { sources = s.sources ++ map listed sources }

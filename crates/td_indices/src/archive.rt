@@ -1,3 +1,4 @@
+//! The archive: two indices that were read, and what is found in them.
 ghost use Rattle.td_rows.specs.Limits.{max_rows};
 
 use crate::archive_fault::{ArchiveFault, IndexFile};

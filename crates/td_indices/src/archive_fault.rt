@@ -1,3 +1,4 @@
+//! Why two texts aren't read as an archive.
 ghost use Rattle.std.specs.Prelude.{◌≡◌};
 ghost use Rattle.td_indices.specs.FaultNames.{name_of};
 

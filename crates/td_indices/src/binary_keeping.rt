@@ -1,3 +1,4 @@
+//! Of several stanzas of one package in one place, the one that counts is kept.
 ghost use Rattle.std.specs.Prelude.{◌≡◌, Ok, IfOk, IfErr, OnOk, option_map};
 ghost use Rattle.td_stanza.specs.Table.{fields_of};
 ghost use Rattle.td_relation.specs.TableView.{table};

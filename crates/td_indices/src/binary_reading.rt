@@ -1,3 +1,4 @@
+//! A stanza of Packages is read: its name, where it is, its versions and its source.
 ghost use Rattle.std.specs.Prelude.{◌≡◌, option_map};
 ghost use Rattle.td_stanza.specs.Table.{fields_of};
 ghost use Rattle.td_version.specs.Version.{parts_of};

@@ -1,3 +1,4 @@
+//! The fields of a stanza that have to be names or versions.
 ghost use Rattle.std.specs.Prelude.{◌≡◌, option_map};
 ghost use Rattle.std.specs.Prelude.{Ok};
 ghost use Rattle.td_stanza.specs.Table.{fields_of};

@@ -1,3 +1,5 @@
+//! The numbers of each source's binary packages.
+
 use std::alloc::{AllocError, Global};
 use std::collections::HashMap;
 

@@ -1,3 +1,4 @@
+//! What is read and kept of the indices' stanzas, and what an archive offers, as theorems.
 ghost use Rattle.td_indices.specs.Counting.{
   GreatestPackagesAreKept,
   GreatestSourcesAreKept,

@@ -3,8 +3,8 @@
 //! offer.
 //!
 //! Start at `Archive::read`. Texts are slices of the two files; a look-up goes by hash.
-//! Promised: what is read is an archive as `specs/Archive.antt` says, else the first fault is named;
-//! a stanza is a package or a source exactly where `specs/PackageStanzas.antt` and
+//! Promised: what is read is an archive as `specs/Archive.antt` says, else the first fault is
+//! named; a stanza is a package or a source exactly where `specs/PackageStanzas.antt` and
 //! `specs/SourceStanzas.antt` say so; of several stanzas of one source, or of one package and
 //! architecture, the one counts that has the greatest version, the first where versions are equal
 //! in order (`specs/Counting.antt`). A key opens with the row that `specs/Opening.antt` says;

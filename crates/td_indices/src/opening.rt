@@ -1,3 +1,4 @@
+//! The rows with which a desk opens: Installed with the greatest rebuild number, or Needs-Build.
 ghost use Rattle.std.specs.Prelude.{◌≡◌, ◌<◌, Some, None, length, slice_get, if◌then◌else◌};
 ghost use Rattle.td_version.specs.Version.{parts_of};
 ghost use Rattle.td_relation.specs.TableView.{table};

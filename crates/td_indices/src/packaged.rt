@@ -1,3 +1,5 @@
+//! What is read and kept of a stanza of Packages, and what an archive shows of it.
+
 use std::hash::{Hash, Hasher};
 use td_relation::Relation;
 use td_version::Version;

@@ -1,3 +1,4 @@
+//! The fields of a stanza that are relations.
 ghost use Rattle.std.specs.Prelude.{◌≡◌, List, Ok, IfOk, IfErr, option_map};
 ghost use Rattle.td_stanza.specs.Table.{fields_of};
 ghost use Rattle.td_relation.specs.Asked.{Asked};

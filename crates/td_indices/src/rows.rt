@@ -1,3 +1,4 @@
+//! The rows that sources have, by their Architecture fields.
 ghost use Rattle.std.specs.Prelude.{◌≡◌, ◌≤◌, ◌<◌, IfOk, IfErr, length};
 ghost use Rattle.td_relation.specs.Limits.{max_archs};
 ghost use Rattle.td_rows.specs.Limits.{max_rows};

@@ -1,3 +1,4 @@
+//! A stanza of Sources is read: its name, its version and its Architecture field.
 ghost use Rattle.std.specs.Prelude.{◌≡◌, Ok, IfOk, IfErr, option_map};
 ghost use Rattle.td_stanza.specs.Table.{fields_of};
 ghost use Rattle.td_indices.specs.Fields.{Fails};

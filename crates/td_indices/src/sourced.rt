@@ -1,3 +1,5 @@
+//! What is read and kept of a stanza of Sources, and what an archive shows of it.
+
 use td_version::Version;
 
 /// What is kept of a stanza of Sources beside the source's name.

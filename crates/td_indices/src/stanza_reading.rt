@@ -1,3 +1,4 @@
+//! What the stanzas of the two indices keep, stanza by stanza up to the first fault.
 ghost use Rattle.std.specs.Prelude.{◌≡◌, ◌+◌, ◌<◌, ◌^◌, true, Ok, IfOk, IfErr, OnOk};
 ghost use Rattle.td_stanza.specs.Table.{fields_of};
 ghost use Rattle.td_relation.specs.TableView.{table};

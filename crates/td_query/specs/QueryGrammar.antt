@@ -159,9 +159,12 @@ not_in (suc depth) log t =
     (or_else (strip (codes "(") (skipped t)) (λ u. on_ok (or_with (not_in depth) log u) closed)
     (atom log (skipped t)))
 
+-- what an `&` joins, with so many brackets and `!` left to open: an atom, or what stands in
+-- brackets or behind a `!`
 abbrev pub not_at : ℕ → Log → List ℕ → Read
 not_at depth log t = not_in depth log t
 
+-- what a `|` joins: one of these, or several with `&` between them
 abbrev pub and_at : ℕ → Log → List ℕ → Read
 and_at depth log t = and_with (not_in depth) log t
 

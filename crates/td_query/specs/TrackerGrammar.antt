@@ -62,6 +62,7 @@ with_affected s x = Ok (
   x.2,
 )
 
+-- the same under `is_good`
 abbrev pub with_good : Said → Shape × Log × List ℕ → SaidRead
 with_good s x = Ok (
   record {
@@ -74,6 +75,7 @@ with_good s x = Ok (
   x.2,
 )
 
+-- the same under `is_bad`
 abbrev pub with_bad : Said → Shape × Log × List ℕ → SaidRead
 with_bad s x = Ok (
   record {
@@ -91,10 +93,12 @@ abbrev pub ignored_text : Said → Option (List ℕ × List ℕ) → SaidRead
 ignored_text s None = Err (0, s.log)
 ignored_text s (Some p) = Ok (s, p.1)
 
+-- a query under another key says nothing, nor are its patterns kept
 abbrev pub ignored_query : Said → Read → SaidRead
 ignored_query s (Ok x) = Ok (s, x.2)
 ignored_query s (Err e) = Err (e.0, s.log)
 
+-- the value of another key: a text where a `"` opens it, else a query
 unfoldable pub other_value : Said → List ℕ → Option (List ℕ) → SaidRead
 other_value s t None = ignored_query s (or_at 100 [] t)
 other_value s t (Some u) = ignored_text s (cut 34 u)
@@ -111,6 +115,7 @@ value_at key s t =
 
 -- ---- 2. key = value;
 
+-- what is said, where a `;` ends the value; else the text is wrong at the byte in its place
 abbrev pub ended_by : Said → ℕ → Option (List ℕ) → SaidRead
 ended_by s left None = Err (left, s.log)
 ended_by s left (Some t) = Ok (s, t)
@@ -137,6 +142,7 @@ entry_at s at =
 unfoldable pub front : List ℕ → Option (List ℕ)
 front t = if length (skipped t) == 0 then None else Some (skipped t)
 
+-- the key that comes next, if one does, and what follows it
 abbrev pub entries_next : (Said → List ℕ → Result Said (ℕ × Log)) → Said → Option (List ℕ)
     → Result Said (ℕ × Log)
 entries_next more s None = Ok s

@@ -65,16 +65,19 @@ pub data SpacedMember : Type 0 where
 
 -- ---- 3. how it is written: each part, and what follows it
 
+-- a restriction in its brackets, if there is one
 abbrev pub bound_then : Option SpacedBound → List ℕ → List ℕ
 bound_then None rest = rest
 bound_then (Some b) rest = b.before ++ (codes "("
     ++ (b.before_operator ++ (operator_text b.bound.operator
     ++ (b.before_version ++ (b.bound.version ++ (b.before_end ++ (codes ")" ++ rest)))))))
 
+-- an architecture list in its brackets, if there is one
 abbrev pub archs_then : Option SpacedArchs → List ℕ → List ℕ
 archs_then None rest = rest
 archs_then (Some l) rest = l.before ++ (codes "[" ++ (l.inside ++ (codes "]" ++ rest)))
 
+-- the build profile lists, each in its angle brackets
 abbrev pub profiles_then : List SpacedProfiles → List ℕ → List ℕ
 profiles_then [] rest = rest
 profiles_then (l ∷ lists) rest = l.before ++ (codes "<"
@@ -99,6 +102,7 @@ spaced_relation r = join_by spaced_member (codes ",") r
 
 -- ---- 4. without its whitespace
 
+-- an alternative's parts alone
 abbrev pub unspaced : SpacedAlternative → WrittenAlternative
 unspaced a = record {
   name = a.name;
@@ -116,16 +120,19 @@ unspaced_members (Blank space ∷ r) = unspaced_members r
 
 -- ---- 5. what may be written
 
+-- what is between the parts of a restriction, if there is one, is whitespace or nothing
 abbrev pub BoundIsSpaced : Option SpacedBound → Type 0
 BoundIsSpaced None = Unit {0}
 BoundIsSpaced (Some b) = IsTrue (is_blank b.before) × IsTrue (is_blank b.before_operator)
     × IsTrue (is_blank b.before_version) × IsTrue (is_blank b.before_end)
 
+-- so is what stands in front of an architecture list, and around its words
 abbrev pub ArchsAreSpaced : Option SpacedArchs → Type 0
 ArchsAreSpaced None = Unit {0}
 ArchsAreSpaced (Some l) = IsTrue (is_blank l.before)
     × AreWords (map (marked l.list.negated) l.list.names) l.inside
 
+-- so is what stands in front of a build profile list, and around its words
 abbrev pub ProfilesAreSpaced : SpacedProfiles → Type 0
 ProfilesAreSpaced l = IsTrue (is_blank l.before) × AreWords (map profile_text l.list) l.inside
 
@@ -139,6 +146,7 @@ pub record IsSpaced (a : SpacedAlternative) : Type 0 where
   pub profiles : AllByRecursion ProfilesAreSpaced a.profiles
   pub back : IsTrue (is_blank a.back)
 
+-- a member that may be written: alternatives that may, at least one; or whitespace, or nothing
 abbrev pub MemberIsSpaced : SpacedMember → Type 0
 MemberIsSpaced (Filled m) = (m ≢ []) × AllByRecursion IsSpaced m
 MemberIsSpaced (Blank space) = IsTrue (is_blank space)

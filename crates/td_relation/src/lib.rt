@@ -6,9 +6,9 @@
 //! asks. All of them hold slices of the texts, and nothing but reading, `Offers::push` and
 //! `Archs::copy` takes memory.
 //! Promised: a table is read exactly where it is one, a relation exactly where it is one as
-//! `specs/Spacing` says, else the first fault is named as `specs/RelationGrammar` says; what is
-//! written as `specs/RelationWriting` says is read again; and a relation is met as `specs/Meeting`
-//! says.
+//! `specs/Spacing.antt` says, else the first fault is named as `specs/RelationGrammar.antt` says;
+//! what is written as `specs/RelationWriting.antt` says is read again; and a relation is met as
+//! `specs/Meeting.antt` says.
 #![tactic(auto)]
 
 mod alternative_reading;

@@ -33,6 +33,7 @@ is_level (At k) (Some Cyclic) = false
 is_level Cyclic (Some (At n)) = false
 is_level Cyclic (Some Cyclic) = true
 
+-- whether an affected row stands at a level
 abbrev pub stands_at : Level → AffectedRow → Bool
 stands_at level r = is_level level r.level
 
@@ -48,6 +49,7 @@ same_status Partial Partial = true
 same_status Unknown Unknown = true
 same_status s t = false
 
+-- whether an affected row has this status
 abbrev pub has_status : Status → AffectedRow → Bool
 has_status status r = same_status status r.status
 
@@ -131,6 +133,7 @@ abbrev pub wave_of : Level → List AffectedRow → List (List ℕ)
 wave_of level mine = if length mine == 0 then []
     else level_words level ∷ each_once None (map (λ r. r.key.source) mine)
 
+-- the wave of a level: of those of the affected rows that stand there
 abbrev pub wave_at : List AffectedRow → Level → List (List ℕ)
 wave_at rows level = wave_of level (filter (stands_at level) rows)
 

@@ -22,6 +22,7 @@ tracking_of x = tracking x.tracker.now
 abbrev pub level_of : Transition → List ℕ → Option Level
 level_of x source = waves.level_of x.waves source
 
+-- how many levels there are
 abbrev pub depth_of : Transition → ℕ
 depth_of x = waves.depth_of x.waves
 

@@ -124,6 +124,7 @@ IsSet x s h = (c : Contents) × IsArchiveOf x c × IsSetOver c x s h
 
 -- ---- 2. what is wrong: in the order of the table, the indices, the rows, the tracker, the journal
 
+-- the text of the architectures is no table, for this
 abbrev pub IsNoTable : Texts → ArchsFault → Type 0
 IsNoTable x table.NoMemory = ⊥
 IsNoTable x e = table_file.FaultOf (lines_of x.archs) e

@@ -91,7 +91,7 @@ undoes h n None = record { text = ended (codes "undone " ++ decimal n); after = 
 
 -- ---- 3. arrivals and sweeps
 
--- the state to which the kind doesn't apply
+-- the refusal of an arrival, with the row's state
 abbrev pub state_refused : Row → List ℕ
 state_refused row = codes "DoesNotApply " ++ state_word row.state
 

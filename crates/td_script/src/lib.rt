@@ -4,8 +4,8 @@
 //! nothing; `specs/Requests.antt` spells the requests, `specs/Replies.antt` says what the answer to
 //! a line is and which history it leaves, `specs/Script.antt` goes from line to line.
 //! Promised: what is written is the answers to the lines that were read, each from the history that
-//! the lines before it leave, from the rows and offers that the files say; and the refusals counted
-//! are those among them.
+//! the lines before it leave, from the rows and offers that the files and the journal say; and the
+//! refusals counted are those among them.
 #![tactic(auto)]
 
 mod answering;

@@ -1,3 +1,5 @@
+//! Fields.
+
 /// A field: its name as written, and its value without the spaces and tabs at both ends. Lines that
 /// continue the value stand in it after newlines, each with its own first spaces and tabs.
 #[derive(Clone, Copy, Debug, PartialEq, Eq)]

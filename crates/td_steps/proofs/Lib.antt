@@ -1,3 +1,4 @@
+-- What the proofs of this crate share: a file a thing.
 pub mod Sees
 pub mod Moves
 pub mod Parts

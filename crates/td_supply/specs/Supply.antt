@@ -26,6 +26,7 @@ pub record SupplyView : Type 0 where
   pub sources : List (List ℕ × List ℕ)
   pub items : List Item
 
+-- a supply without what has arrived
 abbrev pub stock_of : SupplyView → Stock
 stock_of s = record { table = s.table; sources = s.sources; offers = map (λ i. i.offer) s.items }
 
@@ -60,6 +61,7 @@ abbrev pub arrived_at : List ArchWords → List ℕ → List ℕ → ℕ → Ite
 arrived_at table source arch n i = if is_built_by table source arch i.offer
     then record i { rebuilt = rebuild_of n i.offer } else i
 
+-- the supply after a rebuild of the source, with this number, has arrived on the architecture
 abbrev pub arrived : SupplyView → List ℕ → List ℕ → ℕ → SupplyView
 arrived s source arch n = record s { items = map (arrived_at s.table source arch n) s.items }
 
@@ -69,10 +71,11 @@ arrived s source arch n = record s { items = map (arrived_at s.table source arch
 abbrev pub offered_now : Item → Offered
 offered_now i = record { version = option_or i.rebuilt i.offer.version; arch = i.offer.arch }
 
--- the offers of a name
+-- whether an offer has this name
 abbrev pub is_named : List ℕ → Item → Bool
 is_named name i = bytes_eq name i.offer.name
 
+-- the offers of a name, as they are now
 abbrev pub offers_of : List Item → List ℕ → List Offered
 offers_of items name = map offered_now (filter (is_named name) items)
 

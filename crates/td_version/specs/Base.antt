@@ -42,6 +42,7 @@ base_by epoch upstream (Some revision) = record {
   revision = Some (base_part revision);
 }
 
+-- a version without the suffix of a rebuild
 abbrev pub base_of : Parts → Parts
 base_of p = base_by p.epoch p.upstream p.revision
 

@@ -27,6 +27,7 @@ abbrev pub with_revision : Option (List ℕ) → List ℕ → Option (List ℕ �
 with_revision epoch rest None = record { epoch = epoch; upstream = rest; revision = None }
 with_revision epoch rest (Some p) = record { epoch = epoch; upstream = p.0; revision = Some p.1 }
 
+-- the pieces of a text, by its cut at the first colon, if it has one
 abbrev pub with_epoch : List ℕ → Option (List ℕ × List ℕ) → Written
 with_epoch text None = with_revision None text (cut_last 45 text)
 with_epoch text (Some p) = with_revision (Some p.0) p.1 (cut_last 45 p.1)
@@ -59,6 +60,7 @@ unfoldable pub epoch_at : Option (List ℕ) → Result ℕ VersionFault
 epoch_at None = Ok 0
 epoch_at (Some digits) = digits_at digits
 
+-- no fault where there is no bad byte, else that byte's place in the text
 abbrev pub placed : ℕ → Option ℕ → Result Unit VersionFault
 placed start None = Ok tt
 placed start (Some i) = Err (BadCharacter (start + i))
@@ -67,9 +69,11 @@ placed start (Some i) = Err (BadCharacter (start + i))
 abbrev pub checked : List ℕ → ℕ → Option ℕ → Result Unit VersionFault
 checked part start bad = if length part == 0 then Err Empty else placed start bad
 
+-- a part that begins at this place of the text, by the bytes that may stand in it
 abbrev pub part_at : (ℕ → Bool) → ℕ → List ℕ → Result Unit VersionFault
 part_at may start part = checked part start (position (λ b. not (may b)) part)
 
+-- a revision that begins at this place of the text, if one is written
 unfoldable pub revision_at : ℕ → Option (List ℕ) → Result Unit VersionFault
 revision_at start None = Ok tt
 revision_at start (Some revision) = part_at is_revision_byte start revision

@@ -16,6 +16,7 @@ use Rattle.td_indices.specs.Stanzas.{build_depends_of, build_depends_arch_of}
 abbrev pub asked_first : Contents → ℕ → List (List Asked)
 asked_first a source = option_map_or (build_depends_of a) (slice_get a.sources source) []
 
+-- what it asks for in Build-Depends-Arch (Debian Policy 7.7)
 abbrev pub asked_for_arch : Contents → ℕ → List (List Asked)
 asked_for_arch a source = option_map_or (build_depends_arch_of a) (slice_get a.sources source) []
 

@@ -34,7 +34,7 @@ is_numbered rebuild number = (rebuild == 0) || (rebuild == number)
 abbrev pub is_rebuild_of : Parts → ℕ → List ℕ × ℕ → Bool
 is_rebuild_of version number split = is_base version (reading split.0) && is_numbered split.1 number
 
--- no version matches each
+-- a word without a version matches every version
 abbrev pub version_matches : Parts → ℕ → Option (List ℕ) → Bool
 version_matches version number None = true
 version_matches version number (Some text) = is_rebuild_of version number (split_of text)

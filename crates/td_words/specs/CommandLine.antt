@@ -22,6 +22,7 @@ flag_of name = record (new_rule name) { long = Some name; action = Some SetTrue 
 abbrev pub with_explanation : App → App
 with_explanation a = with_rule a (flag_of (codes "explain"))
 
+-- the subcommand `simulate`
 abbrev pub simulate_shape : Shape
 simulate_shape = (with_explanation (new_app (codes "simulate"))).top
 
@@ -33,6 +34,7 @@ option_of name = record (new_rule name) { long = Some name; value_names = 1 }
 abbrev pub with_archive_rules : App → App
 with_archive_rules a = with_rule (with_rule (with_rule a (needed_option (codes "archs"))) (needed_option (codes "packages"))) (needed_option (codes "sources"))
 
+-- the subcommand `check`, which needs these files
 abbrev pub check_shape : Shape
 check_shape = (with_explanation (with_archive_rules (new_app (codes "check")))).top
 
@@ -40,9 +42,11 @@ check_shape = (with_explanation (with_archive_rules (new_app (codes "check")))).
 abbrev pub with_tracker_rules : App → App
 with_tracker_rules a = with_rule (with_archive_rules a) (needed_option (codes "tracker"))
 
+-- the subcommand `waves`, which needs the files of an archive and a tracker
 abbrev pub waves_shape : Shape
 waves_shape = (with_explanation (with_tracker_rules (new_app (codes "waves")))).top
 
+-- the subcommand `track`, which may be given other rows too, and how many a chunk has
 abbrev pub track_shape : Shape
 track_shape = (with_explanation (with_rule (with_rule (with_tracker_rules (new_app (codes "track"))) (option_of (codes "state"))) (option_of (codes "chunk")))).top
 
@@ -50,9 +54,11 @@ track_shape = (with_explanation (with_rule (with_rule (with_tracker_rules (new_a
 abbrev pub with_desk_rules : App → App
 with_desk_rules a = with_rule (with_rule (with_rule a (option_of (codes "state"))) (option_of (codes "tracker"))) (option_of (codes "suite"))
 
+-- how many builders there are, how their builds end, and a journal to go on with
 abbrev pub with_crew_rules : App → App
 with_crew_rules a = with_rule (with_rule (with_rule a (option_of (codes "builders"))) (option_of (codes "outcomes"))) (option_of (codes "journal"))
 
+-- the subcommand `run`, which needs the files of an archive and may be given all of these
 abbrev pub run_shape : Shape
 run_shape = (with_explanation (with_crew_rules (with_desk_rules (with_archive_rules (new_app (codes "run")))))).top
 
@@ -62,6 +68,7 @@ desk_without_tracker =
     let program = on_top (λ s. record s { has_version = true; subcommand_required = true }) (new_app (codes "transdesk")) in
     with_subcommand (with_subcommand program simulate_shape) check_shape
 
+-- the program with all its subcommands
 abbrev pub desk : App
 desk = with_subcommand (with_subcommand (with_subcommand desk_without_tracker track_shape) waves_shape) run_shape
 
@@ -69,6 +76,7 @@ desk = with_subcommand (with_subcommand (with_subcommand desk_without_tracker tr
 abbrev pub name_in : Option (List ℕ × List Row) → Option (List ℕ)
 name_in found = option_map (λ p. p.0) found
 
+-- those matches; none where no subcommand is named
 abbrev pub rows_in : Option (List ℕ × List Row) → List Row
 rows_in found = option_map_or (λ p. p.1) found []
 
@@ -76,6 +84,7 @@ rows_in found = option_map_or (λ p. p.1) found []
 abbrev pub asked_of : List (List ℕ) → Option (List ℕ)
 asked_of words = name_in (subcommand_of desk words)
 
+-- what the words give to the options of the subcommand that they name
 abbrev pub options_of : List (List ℕ) → List Row
 options_of words = rows_in (subcommand_of desk words)
 
@@ -160,6 +169,7 @@ AskForTrack words w = AskFor (codes "track") words × HasTrack (options_of words
 abbrev pub most_builders : ℕ
 most_builders = 0
 
+-- the number of builders that a text says
 abbrev pub builders_at : List ℕ → Option ℕ
 builders_at text = number_at most_builders text
 
@@ -172,6 +182,7 @@ builders_in (Some text) = builders_at text
 abbrev pub usual_suite : List ℕ
 usual_suite = codes "unstable"
 
+-- the suite that is named, else the usual one
 abbrev pub suite_in : Option (List ℕ) → List ℕ
 suite_in given = unwrap_or given usual_suite
 
@@ -224,6 +235,7 @@ asking_apart program archs packages sources =
 abbrev pub JoinedWordsAsk : Type 0
 JoinedWordsAsk = (program archs packages sources : List ℕ) → AskForCheck (asking_for_check program archs packages sources) archs packages sources
 
+-- those with the paths as words of their own do where no path is taken for an option
 abbrev pub SeparateWordsAsk : Type 0
 SeparateWordsAsk = (program archs packages sources : List ℕ) → IsPlainPath archs → IsPlainPath packages → IsPlainPath sources
     → AskForCheck (asking_apart program archs packages sources) archs packages sources
@@ -253,6 +265,7 @@ asking_for_track program w chunk =
 abbrev pub TrackWordsAsk : Type 0
 TrackWordsAsk = (program : List ℕ) (w : TrackWords) (chunk : Option (List ℕ)) → chunk_in chunk ≡ Some w.chunk → AskForTrack (asking_for_track program w chunk) w
 
+-- the words that ask for waves ask for them
 abbrev pub WavesWordsAsk : Type 0
 WavesWordsAsk = (program archs packages sources tracker : List ℕ) → AskForWaves (asking_for_waves program archs packages sources tracker) archs packages sources tracker
 
@@ -274,6 +287,7 @@ plain_run archs packages sources = record {
   journal = None;
 }
 
+-- the words that ask for a run over an archive alone ask for that
 abbrev pub PlainRunWordsAsk : Type 0
 PlainRunWordsAsk = (program archs packages sources : List ℕ) → AskForRun (asking_for_plain_run program archs packages sources) (plain_run archs packages sources)
 
@@ -284,6 +298,7 @@ asking_for_whole_run program archs packages sources state tracker suite builders
     (given (codes "state") state ∷ given (codes "tracker") tracker ∷ given (codes "suite") suite ∷ given (codes "builders") builders
     ∷ given (codes "outcomes") outcomes ∷ given (codes "journal") journal ∷ [])
 
+-- the words that ask for a run with everything that may be given ask for that
 abbrev pub WholeRunWordsAsk : Type 0
 WholeRunWordsAsk = (program archs packages sources state tracker suite builders outcomes journal : List ℕ) (count : ℕ) → builders_at builders ≡ Some count
     → AskForRun (asking_for_whole_run program archs packages sources state tracker suite builders outcomes journal)
@@ -296,14 +311,17 @@ pub record CheckWordsExplain : Type 0 where
   pub same : (program archs packages sources : List ℕ) (explained : Bool) → AskForCheck (asking_for_check program archs packages sources ++ explaining explained) archs packages sources
   pub flag : (program archs packages sources : List ℕ) (explained : Bool) → is_explained (options_of (asking_for_check program archs packages sources ++ explaining explained)) ≡ explained
 
+-- the same of the words of a report
 pub record TrackWordsExplain : Type 0 where
   pub same : (program : List ℕ) (w : TrackWords) (chunk : Option (List ℕ)) (explained : Bool) → chunk_in chunk ≡ Some w.chunk → AskForTrack (asking_for_track program w chunk ++ explaining explained) w
   pub flag : (program : List ℕ) (w : TrackWords) (chunk : Option (List ℕ)) (explained : Bool) → is_explained (options_of (asking_for_track program w chunk ++ explaining explained)) ≡ explained
 
+-- the same of the words of waves
 pub record WavesWordsExplain : Type 0 where
   pub same : (program archs packages sources tracker : List ℕ) (explained : Bool) → AskForWaves (asking_for_waves program archs packages sources tracker ++ explaining explained) archs packages sources tracker
   pub flag : (program archs packages sources tracker : List ℕ) (explained : Bool) → is_explained (options_of (asking_for_waves program archs packages sources tracker ++ explaining explained)) ≡ explained
 
+-- the same of the words of a run over an archive alone
 pub record RunWordsExplain : Type 0 where
   pub same : (program archs packages sources : List ℕ) (explained : Bool) → AskForRun (asking_for_plain_run program archs packages sources ++ explaining explained) (plain_run archs packages sources)
   pub flag : (program archs packages sources : List ℕ) (explained : Bool) → is_explained (options_of (asking_for_plain_run program archs packages sources ++ explaining explained)) ≡ explained

@@ -31,6 +31,7 @@ abbrev pub waves_apart : List ℕ → List ℕ → List ℕ → List ℕ → Lis
 waves_apart program archs packages sources tracker =
     program ∷ codes "waves" ∷ archive_apart archs packages sources (apart (codes "tracker") tracker [])
 
+-- they ask for the waves of these files, where no value is taken for an option
 abbrev pub SeparateWavesWordsAsk : Type 0
 SeparateWavesWordsAsk = (program archs packages sources tracker : List ℕ) → ArePlain archs packages sources → IsPlainPath tracker
     → AskForWaves (waves_apart program archs packages sources tracker) archs packages sources tracker
@@ -40,6 +41,7 @@ abbrev pub track_apart : List ℕ → TrackWords → Option (List ℕ) → List 
 track_apart program w chunk =
     program ∷ codes "track" ∷ archive_apart w.archs w.packages w.sources (apart (codes "tracker") w.tracker (apart_if (codes "state") w.state (apart_if (codes "chunk") chunk [])))
 
+-- they ask for this report, where no value is taken for an option
 abbrev pub SeparateTrackWordsAsk : Type 0
 SeparateTrackWordsAsk = (program : List ℕ) (w : TrackWords) (chunk : Option (List ℕ)) → chunk_in chunk ≡ Some w.chunk
     → ArePlain w.archs w.packages w.sources → IsPlainPath w.tracker → IsPlainIfGiven w.state → IsPlainIfGiven chunk
@@ -49,6 +51,7 @@ SeparateTrackWordsAsk = (program : List ℕ) (w : TrackWords) (chunk : Option (L
 abbrev pub plain_run_apart : List ℕ → List ℕ → List ℕ → List ℕ → List (List ℕ)
 plain_run_apart program archs packages sources = program ∷ codes "run" ∷ archive_apart archs packages sources []
 
+-- they ask for this run, where no value is taken for an option
 abbrev pub SeparatePlainRunWordsAsk : Type 0
 SeparatePlainRunWordsAsk = (program archs packages sources : List ℕ) → ArePlain archs packages sources
     → AskForRun (plain_run_apart program archs packages sources) (plain_run archs packages sources)
@@ -78,6 +81,7 @@ whole_run_apart program archs packages sources v =
     (apart (codes "state") v.state (apart (codes "tracker") v.tracker (apart (codes "suite") v.suite
     (apart (codes "builders") v.builders (apart (codes "outcomes") v.outcomes (apart (codes "journal") v.journal []))))))
 
+-- they ask for this run, with all that they give, where no value is taken for an option
 abbrev pub SeparateWholeRunWordsAsk : Type 0
 SeparateWholeRunWordsAsk = (program archs packages sources : List ℕ) (v : DeskValues) (count : ℕ) → builders_at v.builders ≡ Some count
     → ArePlain archs packages sources → AreDeskPlain v

@@ -1,3 +1,4 @@
+//! The words that ask for each subcommand do so, as theorems.
 ghost use Rattle.td_words.specs.CommandLine.{CheckWordsExplain, JoinedWordsAsk, PlainRunWordsAsk, RunWordsExplain, SeparateWordsAsk, SimulationWordsAsk, TrackWordsAsk, TrackWordsExplain, WavesWordsAsk, WavesWordsExplain, WholeRunWordsAsk};
 ghost use Rattle.td_words.specs.WordsApart.{SeparatePlainRunWordsAsk, SeparateTrackWordsAsk, SeparateWavesWordsAsk, SeparateWholeRunWordsAsk};
 

@@ -1,3 +1,4 @@
+//! What the words of the command line ask for, or why they ask for nothing.
 ghost use Rattle.std.specs.Prelude.{◌≡◌, ℕ, List, map, option_map, codes, string_bytes, MatchResult, IfOk, IfErr};
 ghost use Rattle.clap.specs.Values.{kind_of};
 ghost use Rattle.clap.specs.Matches.{found_of};

@@ -1,3 +1,4 @@
+-- What the proofs of this crate share: a file a thing.
 pub mod Faulty
 pub mod Stops
 pub mod Plays

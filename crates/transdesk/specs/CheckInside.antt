@@ -122,6 +122,7 @@ pub record TextsEnd (a p s : List ℕ) (old new : Option (List ℕ)) (ending : E
   pub says : TextsSay a p s old new ending
   pub only : (c : Contents) → IsArchiveOf a p s c → EndsCounted c old new ending
 
+-- the same of the texts that were read from the three files
 abbrev pub FileTextsEnd : FileTexts → Option (List ℕ) → Option (List ℕ) → Ending → Type 0
 FileTextsEnd t old new ending = TextsEnd (string_bytes t.archs) (string_bytes t.packages) (string_bytes t.sources) old new ending
 

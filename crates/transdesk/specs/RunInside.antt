@@ -26,6 +26,7 @@ run_texts_of x = record {
   journal = option_map string_bytes x.journal;
 }
 
+-- the files hold the texts that were read
 abbrev pub AreRunTexts : RunFiles → RunTexts → Type 0
 AreRunTexts files x = AreTextsOf files (run_texts_of x)
 

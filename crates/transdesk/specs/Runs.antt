@@ -58,12 +58,15 @@ pub record Texts : Type 0 where
 abbrev pub AreBeforeState : RunFiles → Texts → Type 0
 AreBeforeState files x = AreTexts files.indices x.archs x.packages x.sources
 
+-- before the tracker: the state file too, where it is given
 abbrev pub AreBeforeTracker : RunFiles → Texts → Type 0
 AreBeforeTracker files x = AreBeforeState files x × IsTextIfGiven files.state x.state
 
+-- before the outcomes: the tracker too, where it is given
 abbrev pub AreBeforeOutcomes : RunFiles → Texts → Type 0
 AreBeforeOutcomes files x = AreBeforeTracker files x × IsTextIfGiven files.tracker x.tracker
 
+-- before the journal: the outcomes too, where they are given
 abbrev pub AreBeforeJournal : RunFiles → Texts → Type 0
 AreBeforeJournal files x = AreBeforeOutcomes files x × IsTextIfGiven files.outcomes x.outcomes
 

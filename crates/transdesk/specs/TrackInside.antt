@@ -44,6 +44,7 @@ texts_of x = record {
   tracker = string_bytes x.tracker;
 }
 
+-- the files hold the texts that were read
 abbrev pub AreTextsRead : TrackFiles → TrackTexts → Type 0
 AreTextsRead files x = AreTextsOf files (texts_of x)
 
@@ -80,6 +81,7 @@ abbrev pub LacksOneOf : Table → List ℕ → Ending → Type 0
 LacksOneOf opened text ending =
     (given : Table) × IsStateFile (lines_of text) given × ((k : Key) × (first_missing opened given ≡ Some k) × (ending ≡ ending_of_missing_row))
 
+-- a state file is refused over these rows, for one or the other, and so it ends
 abbrev pub IsRefusedFor : Table → List ℕ → Ending → Type 0
 IsRefusedFor opened text ending = IsNoState text ending ⊎ LacksOneOf opened text ending
 
@@ -89,9 +91,11 @@ CanReplace opened text = (given : Table) × IsStateFile (lines_of text) given ×
 
 -- ---- the indices with a table
 
+-- what the texts say, where this is the table of architectures
 abbrev pub IndicesSay : Saying → List ArchWords → Texts → List ℕ → Type 0
 IndicesSay Says t x text = (c : Contents) × IsArchive t (lines_of x.packages) (lines_of x.sources) c × RowsSay Says c x.state x.tracker text
 
+-- the indices are no archive with this table, or what stands over it is refused, and so it ends
 abbrev pub AreRefusedWith : List ArchWords → Texts → Ending → Type 0
 AreRefusedWith t x ending =
     ((e : ArchiveFault) × archive_file.FaultOf t (lines_of x.packages) (lines_of x.sources) e × (ending ≡ ending_of_archive e))

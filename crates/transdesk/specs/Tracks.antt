@@ -165,11 +165,13 @@ IsRefusedOver c state tracker ending = IsStateRefused c state ending ⊎ ((rows 
 abbrev pub IsNoTable : Texts → Ending → Type 0
 IsNoTable x ending = (e : ArchsFault) × table_file.FaultOf (lines_of x.archs) e × (ending ≡ ending_of_table e)
 
+-- the table is one, and with it the indices are no archive
 abbrev pub AreNoIndices : Texts → Ending → Type 0
 AreNoIndices x ending =
     (t : List ArchWords) × IsTable (lines_of x.archs) t
     × ((e : ArchiveFault) × archive_file.FaultOf t (lines_of x.packages) (lines_of x.sources) e × (ending ≡ ending_of_archive e))
 
+-- one of the texts is refused, and so it ends
 abbrev pub AreRefused : Texts → Ending → Type 0
 AreRefused x ending =
     IsNoTable x ending
@@ -208,6 +210,7 @@ pub record IsKnownText (known : Option (List ℕ)) (text : List ℕ) : Type 0 wh
   pub whole : known ≡ Some text
   pub read : IsFileText text
 
+-- where a file that may be left out is given, it is known to hold this text; else there is none
 abbrev pub IsKnownIfGiven : Option OneFile → Option (List ℕ) → Type 0
 IsKnownIfGiven None None = Unit {0}
 IsKnownIfGiven None (Some text) = ⊥

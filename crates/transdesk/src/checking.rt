@@ -1,3 +1,4 @@
+//! The subcommand `check`: sources, binary packages and rows of two indices are counted.
 ghost use Rattle.std.specs.Prelude.{◌≡◌, List, ◌≤◌, length, string_bytes, Ok, Err, IfOk, IfErr, IsOkAnd, MatchResult};
 ghost use Rattle.std.specs.Result.{ForOk};
 ghost use Rattle.td_relation.specs.TableView.{table};

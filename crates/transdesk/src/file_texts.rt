@@ -1,3 +1,4 @@
+//! The files of an archive, as texts.
 ghost use Rattle.std.specs.Prelude.{IfOk, IfErr};
 ghost use Rattle.transdesk.specs.Checks.{files_of};
 ghost use Rattle.transdesk.specs.CheckInside.{AreTextsIn, HasFailedIn};

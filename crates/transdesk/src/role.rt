@@ -1,3 +1,4 @@
+//! What a text is read as, and the label of that.
 ghost use Rattle.std.specs.Prelude.{◌≡◌};
 ghost use Rattle.transdesk.specs.Roles.{label_of, role_of_file, role_of_fault};
 

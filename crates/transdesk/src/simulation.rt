@@ -1,3 +1,4 @@
+//! The subcommand `simulate`: the steps on standard input are played, and their answers written.
 ghost use Rattle.std.specs.Prelude.{◌≡◌, ◌≤◌, length, string_bytes, IfOk, IfErr, IfSome};
 ghost use Rattle.std.specs.Result.{ForOk};
 ghost use Rattle.transdesk.specs.Ends.{Ends};

@@ -1,3 +1,5 @@
+//! Where the texts of files come from: the disk, or a test's memory.
+
 use std::alloc::Global;
 use std::fs::File;
 use std::io::ErrorKind;

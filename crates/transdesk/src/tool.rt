@@ -1,3 +1,4 @@
+//! The program: it does what its words ask for, and answers its status.
 ghost use Rattle.std.specs.Prelude.{◌≡◌, ◌⊎◌, ◌≤◌, ℕ, List, length, map, IfSome, option_map, codes, string_bytes, None, IsOkAnd, IfOk, IfErr};
 ghost use Rattle.std.specs.IoError.{error_kind};
 ghost use Rattle.std.specs.Io.KnownBytes.{Keeps};

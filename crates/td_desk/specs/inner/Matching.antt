@@ -12,15 +12,18 @@ use Rattle.td_desk.specs.declared.receipt.Receipt.{Receipt}
 use Rattle.td_desk.specs.declared.receipt.Receipt.TheVariants.{Made, Swept, Undid}
 use Rattle.td_desk.specs.Receipts.{made_of}
 
+-- whether two texts are equal
 abbrev pub same_text : List ℕ → List ℕ → Bool
 same_text s t = pointwise ◌==◌ s t
 
+-- whether two numbers are equal, or both are left out
 abbrev pub same_number : Option ℕ → Option ℕ → Bool
 same_number None None = true
 same_number None (Some m) = false
 same_number (Some n) None = false
 same_number (Some n) (Some m) = n == m
 
+-- whether two outcomes are equal, with the relations that builds wait for
 abbrev pub same_outcome : Outcome → Outcome → Bool
 same_outcome ends.Built ends.Built = true
 same_outcome ends.Attempted ends.Attempted = true
@@ -28,6 +31,7 @@ same_outcome ends.GivenBack ends.GivenBack = true
 same_outcome (ends.Waits s) (ends.Waits t) = same_text s t
 same_outcome o p = false
 
+-- whether two kinds are equal, with all that they say
 abbrev pub same_kind : Kind → Kind → Bool
 same_kind kinds.Gb kinds.Gb = true
 same_kind (kinds.Nmu n e t) (kinds.Nmu m f u) = same_number n m && (same_text e f && same_text t u)
@@ -39,12 +43,14 @@ same_kind kinds.Arrive kinds.Arrive = true
 same_kind kinds.Sweep kinds.Sweep = true
 same_kind k j = false
 
+-- whether two lists have the same keys in the same order
 abbrev pub same_keys : List Key → List Key → Bool
 same_keys [] [] = true
 same_keys [] (k ∷ ks) = false
 same_keys (j ∷ js) [] = false
 same_keys (j ∷ js) (k ∷ ks) = same_key j k && same_keys js ks
 
+-- whether two receipts are equal
 abbrev pub same_receipt : Receipt → Receipt → Bool
 same_receipt (Made n k ks) (Made m j js) = (n == m) && (same_kind k j && same_keys ks js)
 same_receipt (Swept n) (Swept m) = n == m

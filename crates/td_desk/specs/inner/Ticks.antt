@@ -27,9 +27,11 @@ AreBegun opened n ts = (ts ≡ map begun_at opened ++ replicate (length ts - len
 abbrev pub is_made_left : Marked → Tick → Bool
 is_made_left m t = is_desks m.entry.kind && not t.made
 
+-- whether the entry is undone, and its undo isn't ticked yet
 abbrev pub is_undo_left : Marked → Tick → Bool
 is_undo_left m t = not (is_standing m.mark) && not t.undone
 
+-- the receipt, where the change is left
 abbrev pub one : Bool → Receipt → List Receipt
 one b r = if b then r ∷ [] else []
 
@@ -51,15 +53,18 @@ left b ts = left_from 1 b.history.journal ts
 abbrev pub is_ticked_at : Marked → Tick → Bool
 is_ticked_at m t = not (is_made_left m t) && not (is_undo_left m t)
 
+-- whether each change of these entries is ticked
 abbrev pub are_ticked : List Marked → List Tick → Bool
 are_ticked [] ts = true
 are_ticked (m ∷ ms) [] = true
 are_ticked (m ∷ ms) (t ∷ ts) = is_ticked_at m t && are_ticked ms ts
 
+-- whether a receipt is in a list
 abbrev pub is_in : Receipt → List Receipt → Bool
 is_in r [] = false
 is_in r (c ∷ cs) = same_receipt r c || is_in r cs
 
+-- whether a list has no receipts
 abbrev pub is_nil : List Receipt → Bool
 is_nil [] = true
 is_nil (c ∷ cs) = false

@@ -24,6 +24,7 @@ FindsPackages packages places = (source : List ℕ) (test : Option Package → B
     list_any (λ place. test (slice_get packages place)) (places_of places source)
     ≡ list_any (λ p. bytes_eq (string_bytes p.source) source && test (Some p)) packages
 
+-- that the places find the packages is so in one way at most
 pub FindsPackages-prop : (packages : List Package) (places : Places)
     → IsProp (FindsPackages packages places)
 FindsPackages-prop packages places = Π_prop λ source. Π_prop λ test. Bool-set _ _
