@@ -3,7 +3,8 @@ use Rattle.std.specs.Prelude.{ℕ, ◌+◌, ◌*◌}
 use Rattle.td_board.specs.declared.outcome.OutcomeCode.{OutcomeCode}
 use Rattle.td_board.specs.OutcomeCode.{code_of}
 
--- Closed: the row isn't offered. Open: it is. Held by b: builder b claimed it. Noted for b: the desk noted that claim. Done by b: b finished it with this outcome, and the desk hasn't settled it
+-- Closed: the row isn't offered. Open: it is. Held by b: builder b claimed it. Noted for b: the
+-- desk noted that claim. Done by b: b finished it with this outcome, and the desk hasn't settled it
 pub data Phase : Type 0 where
   closed : Phase
   opened : Phase

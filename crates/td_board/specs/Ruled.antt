@@ -1,4 +1,5 @@
--- The rule of the board's table: what holds of its words and views between any two atomic steps. This project's own.
+-- The rule of the board's table: what holds of its words and views between any two atomic steps.
+-- This project's own.
 use Rattle.std.specs.Prelude.{◌≡◌, ℕ, List, ◌∷◌, map}
 use Rattle.atomic_table.specs.Table.{State}
 use Rattle.td_board.specs.declared.views.View.{View}
@@ -7,7 +8,8 @@ use Rattle.td_board.specs.Phase.{Phase, word_of}
 use Rattle.td_board.specs.Knowledge.{new_desk}
 use Rattle.td_board.specs.Steps.{moment_of, Reached}
 
--- the phases and the views are what some schedule leaves, and the words show these phases. Word 0 is a spare one, at which seats are split off; row r has the word r + 1
+-- the phases and the views are what some schedule leaves, and the words show these phases. Word 0
+-- is a spare one, at which seats are split off; row r has the word r + 1
 pub record Ruled (rows : ℕ) (s : State (Unit {0}) View) : Type 0 where
   pub phases : List Phase
   pub words_are : s.words ≡ 0 ∷ map word_of phases

@@ -46,12 +46,14 @@ abbrev pub new_seats : TableId → ℕ → ℕ → List BuilderModel
 new_seats table b zero = []
 new_seats table b (suc n) = new_seat table b ∷ new_seats table (suc b) n
 
--- each builder whom the desk knows to have a row is one of the board's, which the desk has a list of
+-- each builder whom the desk knows to have a row is one of the board's, which the desk has a list
+-- of
 pub record KnowsItsBuilders (d : DeskView) : Type 0 where
   pub seen : (r b : ℕ) → get_elem? d.rows r ≡ some (Seen b) → (0 < b) × (b ≤ length d.noted)
   pub known : (r b : ℕ) → get_elem? d.rows r ≡ some (Known b) → (0 < b) × (b ≤ length d.noted)
 
--- what the desk's seat keeps: the table has a word for each row and a spare one, the list has the builder of each row that is Seen or Known, and the limits hold
+-- what the desk's seat keeps: the table has a word for each row and a spare one, the list has the
+-- builder of each row that is Seen or Known, and the limits hold
 pub record IsDesk (table : TableId) (d : DeskView) (holders : List ℕ) (builders : ℕ) : Type 0 where
   pub words : table.words ≡ length d.rows + 1
   pub size : length d.rows ≤ max_rows
@@ -63,7 +65,8 @@ pub record IsDesk (table : TableId) (d : DeskView) (holders : List ℕ) (builder
   pub known : (r b : ℕ) → get_elem? d.rows r ≡ some (Known b) → slice_index holders r ≡ b
   pub seated : KnowsItsBuilders d
 
--- what a builder's seat keeps: its number and hand are those of its view, the number is within the limit, and the row in hand is in the table
+-- what a builder's seat keeps: its number and hand are those of its view, the number is within the
+-- limit, and the row in hand is in the table
 pub record IsBuilder (table : TableId) (v : BuilderView) (number : ℕ) (hand : Hand) : Type 0 where
   pub number_is : number ≡ v.number
   pub hand_is : hand ≡ v.hand

@@ -12,11 +12,18 @@ use Rattle.td_book.specs.Desk.{BookModel}
 use Rattle.td_book.specs.declared.arriving.ArriveRefusal.{ArriveRefusal}
 use Rattle.td_book.specs.declared.arriving.ArriveRefusal.TheVariants.{NoSuchRow, DoesNotApply, NoMemory}
 
--- the entry on the key, where its row has been built or uploaded; else, and for want of memory, nothing
+-- the entry on the key, where its row has been built or uploaded; else, and for want of memory,
+-- nothing
 abbrev pub ArriveOutcome : Key → BookModel → BookModel → Result ℕ ArriveRefusal → Type 0
-ArriveOutcome k old new (Ok n) = (row : Row) × (row_of (rows_of old.history) k ≡ Some row) × (applies Arrive row ≡ true) × (new ≡ record old { history = with_entry old.history (record { kind = Arrive; keys = k ∷ [] }) }) × (n ≡ length old.history.journal + 1)
+ArriveOutcome k old new (Ok n) =
+    (row : Row) × (row_of (rows_of old.history) k ≡ Some row) × (applies Arrive row ≡ true)
+    × (new ≡ record old
+    { history = with_entry old.history (record { kind = Arrive; keys = k ∷ [] }) })
+    × (n ≡ length old.history.journal + 1)
 ArriveOutcome k old new (Err NoSuchRow) = (row_of (rows_of old.history) k ≡ None) × (new ≡ old)
-ArriveOutcome k old new (Err (DoesNotApply s)) = (row : Row) × (row_of (rows_of old.history) k ≡ Some row) × (applies Arrive row ≡ false) × (s ≡ row.state) × (new ≡ old)
+ArriveOutcome k old new (Err (DoesNotApply s)) =
+    (row : Row) × (row_of (rows_of old.history) k ≡ Some row) × (applies Arrive row ≡ false)
+    × (s ≡ row.state) × (new ≡ old)
 ArriveOutcome k old new (Err NoMemory) = new ≡ old
 
 -- the keys of the rows that the offers free now
@@ -26,5 +33,9 @@ freed_now b = freed (supply_now b.fixed.stock b.history) (rows_of b.history)
 -- the entry on all of them, if there are any
 abbrev pub SweepOutcome : BookModel → BookModel → Result (Option ℕ) AllocError → Type 0
 SweepOutcome old new (Ok None) = (freed_now old ≡ []) × (new ≡ old)
-SweepOutcome old new (Ok (Some n)) = (freed_now old ≢ []) × (new ≡ record old { history = with_entry old.history (record { kind = Sweep; keys = freed_now old }) }) × (n ≡ length old.history.journal + 1)
+SweepOutcome old new (Ok (Some n)) =
+    (freed_now old ≢ [])
+    × (new ≡ record old
+    { history = with_entry old.history (record { kind = Sweep; keys = freed_now old }) })
+    × (n ≡ length old.history.journal + 1)
 SweepOutcome old new (Err e) = new ≡ old

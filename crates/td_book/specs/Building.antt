@@ -31,7 +31,8 @@ use Rattle.td_book.specs.Deeds.{code_of}
 pub record LostTo (by : ℕ) (old new : InnerModel) (i : ℕ) (claim : List Key) : Type 0 where
   pub one : 1 ≤ by
   pub some_builder : by ≤ old.builders
-  pub history : new.books.history ≡ with_entry old.books.history (record { kind = Claim by; keys = claim })
+  pub history : new.books.history
+      ≡ with_entry old.books.history (record { kind = Claim by; keys = claim })
   pub view : new.view ≡ slice_set old.view i (Known by)
   pub stays : Stays old new
   pub spent : Spent claim old.books new.books
@@ -51,7 +52,8 @@ head_key (k ∷ ks) = k
 abbrev pub is_built_at : Table → Key → ℕ → Bool
 is_built_at t k b = elim (row_of t k) [ Some row ↦ is_building_by b row.state | None ↦ false ]
 
--- the row is withdrawn where it needs a build, and offered again or its claim noted; the answer is whether the builder has the row now, as the journal knows
+-- the row is withdrawn where it needs a build, and offered again or its claim noted; the answer is
+-- whether the builder has the row now, as the journal knows
 pub record Knows (b : ℕ) (k : Key) (is : Bool) (old new : InnerModel) : Type 0 where
   pub by : ℕ
   pub some_builder : by ≤ old.builders
@@ -67,11 +69,16 @@ pub record Knows (b : ℕ) (k : Key) (is : Bool) (old new : InnerModel) : Type 0
 abbrev pub version_now : BookModel → Key → List ℕ
 version_now b k = unwrap_or (version_of (supply_now b.fixed.stock b.history) k.source) []
 
--- the job of the row with a number: its key, its source's version with the rebuild's suffix, its number, and what the rebuild needs beside
+-- the job of the row with a number: its key, its source's version with the rebuild's suffix, its
+-- number, and what the rebuild needs beside
 abbrev pub IsJobAt : ℕ → BookModel → Job → Type 0
-IsJobAt i b job = (row : Row) × (slice_get (rows_of b.history) i ≡ Some (job.key, row)) × (job.number ≡ row.number) × (job.extra ≡ row.extra) × (string_bytes job.version ≡ rebuild_text (version_now b job.key) row.number)
+IsJobAt i b job =
+    (row : Row) × (slice_get (rows_of b.history) i ≡ Some (job.key, row))
+    × (job.number ≡ row.number) × (job.extra ≡ row.extra)
+    × (string_bytes job.version ≡ rebuild_text (version_now b job.key) row.number)
 
--- the claim of the row with a number is noted, whoever's it is; and whether the builder has the row then
+-- the claim of the row with a number is noted, whoever's it is; and whether the builder has the row
+-- then
 pub record Noticed (i b : ℕ) (is : Bool) (old new : BookModel) : Type 0 where
   pub key : Key
   pub at : slice_get (keys_of old.history.opening) i ≡ Some key
@@ -81,7 +88,8 @@ pub record Noticed (i b : ℕ) (is : Bool) (old new : BookModel) : Type 0 where
   pub answers : is ≡ is_built_at (rows_of new.history) key b
   pub fixed : new.fixed ≡ old.fixed
 
--- with no row in hand nothing is started; else the builder has the row, and its job is of the rows as they are then
+-- with no row in hand nothing is started; else the builder has the row, and its job is of the rows
+-- as they are then
 abbrev pub StartOutcome : ℕ → Hand → BookModel → BookModel → Result Job StartRefusal → Type 0
 StartOutcome b (Holding i) old new (Ok job) = Noticed i b true old new × IsJobAt i old job
 StartOutcome b (Holding i) old new (Err Mismatch) = Noticed i b false old new
@@ -105,7 +113,8 @@ ended_in kind = WasBuilt
 abbrev pub settling_of : Planned → Settling
 settling_of p = record { key = head_key (left p); by = by_in p.kind; ended = ended_in p.kind }
 
--- what closing the build of a row with a number takes, by this builder: the key, and a plan of the entry
+-- what closing the build of a row with a number takes, by this builder: the key, and a plan of the
+-- entry
 pub record IsClosing (i b : ℕ) (h : History) (offered : List Key) (plan : Planned) : Type 0 where
   pub key : Key
   pub at : slice_get (keys_of (rows_of h)) i ≡ Some key
@@ -118,18 +127,23 @@ pub record IsEndingAt (i b : ℕ) (h : History) (e : Ending) : Type 0 where
   pub closing : IsClosing i b h e.offered e.plan
   pub claim : e.claim ≡ closing.key ∷ []
 
--- the claim is noted where that wasn't done, then how the build ended, and the hand is finished; the last entry has this number
-pub record IsEnded (i : ℕ) (o : Outcome) (v w : BuilderView) (old new : InnerModel) (n : ℕ) : Type 0 where
+-- the claim is noted where that wasn't done, then how the build ended, and the hand is finished;
+-- the last entry has this number
+pub record IsEnded (i : ℕ) (o : Outcome) (v w : BuilderView) (old new : InnerModel)
+    (n : ℕ) : Type 0 where
   pub key : Key
   pub at : slice_get (keys_of (rows_of old.books.history)) i ≡ Some key
   pub by : ℕ
   pub some_builder : by ≤ old.builders
   pub built : is_built_at (rows_of (noting_one old.books.history key by)) key v.number ≡ true
-  pub now : new.books.history ≡ with_entry (noting_one old.books.history key by) (record { kind = Ended v.number o; keys = key ∷ [] })
+  pub now : new.books.history
+      ≡ with_entry (noting_one old.books.history key by)
+      (record { kind = Ended v.number o; keys = key ∷ [] })
   pub number : n ≡ length (noting_one old.books.history key by).journal + 1
   pub hand : w ≡ with_finish i (code_of o) v
 
--- a word of the board wasn't the one that the hand calls for: the claim may be noted, and, where the builder has the row then, its hand be finished
+-- a word of the board wasn't the one that the hand calls for: the claim may be noted, and, where
+-- the builder has the row then, its hand be finished
 pub record IsUnended (i : ℕ) (o : Outcome) (v w : BuilderView) (old new : InnerModel) : Type 0 where
   pub key : Key
   pub at : slice_get (keys_of (rows_of old.books.history)) i ≡ Some key

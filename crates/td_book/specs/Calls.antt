@@ -30,9 +30,11 @@ is_lost (suc b) = true
 
 -- the history with the claim on the row of k, where it needs a build and builder b was faster
 abbrev pub noting_one : History → Key → ℕ → History
-noting_one h k b = if is_queued_at (rows_of h) k && is_lost b then with_entry h (claim_of b k) else h
+noting_one h k b =
+    if is_queued_at (rows_of h) k && is_lost b then with_entry h (claim_of b k) else h
 
--- the history with the claims on the rows that need a build: who was faster at each is chosen by the list
+-- the history with the claims on the rows that need a build: who was faster at each is chosen by
+-- the list
 abbrev pub noting : History → List Key → List ℕ → History
 noting h [] bs = h
 noting h (k ∷ ks) [] = h
@@ -69,7 +71,8 @@ pub record Lost (old new : InnerModel) (i : ℕ) (claim : List Key) : Type 0 whe
   pub by : ℕ
   pub one : 1 ≤ by
   pub some_builder : by ≤ old.builders
-  pub history : new.books.history ≡ with_entry old.books.history (record { kind = Claim by; keys = claim })
+  pub history : new.books.history
+      ≡ with_entry old.books.history (record { kind = Claim by; keys = claim })
   pub view : new.view ≡ slice_set old.view i (Known by)
   pub stays : Stays old new
   pub spent : Spent claim old.books new.books
@@ -80,10 +83,12 @@ IsKeyAt keys i one = (k : Key) × (slice_get keys i ≡ Some k) × (one ≡ k �
 
 -- the number of the claim's entry, where the withdrawal is lost
 abbrev pub claim_no : History → Key → ℕ → Option ℕ
-claim_no h k b = if is_queued_at (rows_of h) k && is_lost b then Some (length h.journal + 1) else None
+claim_no h k b =
+    if is_queued_at (rows_of h) k && is_lost b then Some (length h.journal + 1) else None
 
 -- the row of the key at a place is withdrawn, or a builder had won it
-pub record WithdrewAt (named : List Key) (i : ℕ) (old new : InnerModel) (answer : Option ℕ) : Type 0 where
+pub record WithdrewAt (named : List Key) (i : ℕ) (old new : InnerModel)
+    (answer : Option ℕ) : Type 0 where
   pub key : Key
   pub at : slice_get named i ≡ Some key
   pub by : ℕ
@@ -142,25 +147,38 @@ IsPlan kind keys t (Some p) = p ≡ plan_of kind keys t
 -- the rows that the plan names are withdrawn, where its kind has the state
 abbrev pub PlanIsOff : Option Planned → List Key → Type 0
 PlanIsOff None off = Unit {0}
-PlanIsOff (Some p) off = (cells p.kind).state ≡ true → (k : Key) → names (left p) k ≡ true → names off k ≡ true
+PlanIsOff (Some p) off =
+    (cells p.kind).state ≡ true → (k : Key) → names (left p) k ≡ true → names off k ≡ true
 
--- the entry on the keys, of those whose version matches, on which the kind applies; the rows that it leaves are told of the rows just before it
+-- the entry on the keys, of those whose version matches, on which the kind applies; the rows that
+-- it leaves are told of the rows just before it
 abbrev pub Enters : Kind → List Key → (Table → List Skip) → History → History → Taken → Type 0
-Enters kind matched left noted new taken = (takes (rows_of noted) kind matched ≢ []) × (new ≡ with_entry noted (record { kind = kind; keys = takes (rows_of noted) kind matched })) × (taken.number ≡ length noted.journal + 1) × (taken.skips ≡ left (rows_of noted))
+Enters kind matched left noted new taken =
+    (takes (rows_of noted) kind matched ≢ [])
+    × (new ≡ with_entry noted (record { kind = kind; keys = takes (rows_of noted) kind matched }))
+    × (taken.number ≡ length noted.journal + 1) × (taken.skips ≡ left (rows_of noted))
 
 -- the kind applies on none of them
 abbrev pub Nothing : Kind → List Key → (Table → List Skip) → History → History → List Skip → Type 0
-Nothing kind matched left noted new skips = (takes (rows_of noted) kind matched ≡ []) × (new ≡ noted) × (skips ≡ left (rows_of noted))
+Nothing kind matched left noted new skips =
+    (takes (rows_of noted) kind matched ≡ []) × (new ≡ noted) × (skips ≡ left (rows_of noted))
 
--- want of memory leaves the history; else the claims of builders that were faster are noted, and then the entry is made
-abbrev pub CommandOutcome : Kind → List Key → List Key → (Table → List Skip) → BookModel → BookModel → Result Taken CommandRefusal → Type 0
+-- want of memory leaves the history; else the claims of builders that were faster are noted, and
+-- then the entry is made
+abbrev pub CommandOutcome : Kind → List Key → List Key → (Table → List Skip) → BookModel → BookModel
+    → Result Taken CommandRefusal → Type 0
 CommandOutcome kind named matched left old new (Err NoMemory) = new.history ≡ old.history
-CommandOutcome kind named matched left old new (Err (NothingApplies skips)) = (choices : List ℕ) × Choices old.fixed.builders (off_for kind named) choices × Nothing kind matched left (noting old.history (off_for kind named) choices) new.history skips
-CommandOutcome kind named matched left old new (Ok taken) = (choices : List ℕ) × Choices old.fixed.builders (off_for kind named) choices × Enters kind matched left (noting old.history (off_for kind named) choices) new.history taken
+CommandOutcome kind named matched left old new (Err (NothingApplies skips)) =
+    (choices : List ℕ) × Choices old.fixed.builders (off_for kind named) choices
+    × Nothing kind matched left (noting old.history (off_for kind named) choices) new.history skips
+CommandOutcome kind named matched left old new (Ok taken) =
+    (choices : List ℕ) × Choices old.fixed.builders (off_for kind named) choices
+    × Enters kind matched left (noting old.history (off_for kind named) choices) new.history taken
 
 -- what a command does to a book, by its kind, the keys that it names, those whose version matches,
 -- and the skips over the rows: what is fixed stays, and the history fits the answer
-pub record IsCommanded (kind : Kind) (named matched : List Key) (left : Table → List Skip) (old new : BookModel) (result : Result Taken CommandRefusal) : Type 0 where
+pub record IsCommanded (kind : Kind) (named matched : List Key) (left : Table → List Skip)
+    (old new : BookModel) (result : Result Taken CommandRefusal) : Type 0 where
   pub fixed : new.fixed ≡ old.fixed
   pub outcome : CommandOutcome kind named matched left old new result
 

@@ -23,9 +23,12 @@ named_by c b = named_in c (rows_of b.history)
 abbrev pub is_matched_in : CommandParts → BookModel → Key → Bool
 is_matched_in c b = is_matched_at c (supply_now b.fixed.stock b.history) (rows_of b.history)
 
--- the entry is of the command's kind, on those of the rows that it names whose version matches and on which the kind applies; the others are the skips
+-- the entry is of the command's kind, on those of the rows that it names whose version matches and
+-- on which the kind applies; the others are the skips
 abbrev pub IsDone : CommandParts → BookModel → BookModel → Result Taken CommandRefusal → Type 0
-IsDone c old new result = IsCommanded (kind_of c) (named_by c old) (filter (is_matched_in c old) (named_by c old)) (skips_of (is_matched_in c old) (kind_of c) (named_by c old)) old new result
+IsDone c old new result =
+    IsCommanded (kind_of c) (named_by c old) (filter (is_matched_in c old) (named_by c old))
+    (skips_of (is_matched_in c old) (kind_of c) (named_by c old)) old new result
 
 -- what is looked up for it
 pub record IsAsked (c : CommandParts) (b : BookModel) (asked : Asked) : Type 0 where

@@ -11,7 +11,8 @@ use Rattle.td_core.specs.History.{History}
 use Rattle.td_core.specs.Keeps.{places_in}
 use Rattle.td_book.specs.Watching.{WatchView, WatchedView}
 
--- the board's table, what is kept, what the desk knows of each row, how many builders there are, and how many entries the journal had at the opening
+-- the board's table, what is kept, what the desk knows of each row, how many builders there are,
+-- and how many entries the journal had at the opening
 pub record InnerModel : Type 0 where
   pub table : TableId
   pub books : WatchedView
@@ -19,7 +20,8 @@ pub record InnerModel : Type 0 where
   pub builders : ℕ
   pub since : ℕ
 
--- what no call changes: the board's table, what the index offers, how many builders there are, and how many entries the journal had at the opening; and the watched rows, which only `watch` changes
+-- what no call changes: the board's table, what the index offers, how many builders there are, and
+-- how many entries the journal had at the opening; and the watched rows, which only `watch` changes
 pub record Fixed : Type 0 where
   pub table : TableId
   pub stock : Stock
@@ -34,7 +36,14 @@ pub record BookModel : Type 0 where
 
 -- what no call changes, of the inside of a book
 abbrev pub fixed_of : InnerModel → Fixed
-fixed_of m = record { table = m.table; stock = m.books.stock; builders = m.builders; since = m.since; watch = m.books.watch }
+fixed_of m =
+    record {
+      table = m.table;
+      stock = m.books.stock;
+      builders = m.builders;
+      since = m.since;
+      watch = m.books.watch;
+    }
 
 -- the book at rest that has this inside
 abbrev pub book_of : InnerModel → BookModel
@@ -61,7 +70,8 @@ pub record HasOne (keys : List Key) (b : WatchedView) : Type 0 where
 -- at most an entry on each of the keys was made
 pub record Spent (keys : List Key) (old new : WatchedView) : Type 0 where
   pub spare : old.spare ≤ new.spare + length keys
-  pub places : (k : Key) → places_in old.places k ≤ places_in new.places k + (if names keys k then 1 else 0)
+  pub places : (k : Key)
+      → places_in old.places k ≤ places_in new.places k + (if names keys k then 1 else 0)
 
 -- the claim of a builder
 abbrev pub claim_of : ℕ → Key → Entry

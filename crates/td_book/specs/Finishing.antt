@@ -21,22 +21,28 @@ use Rattle.td_book.specs.Building.{is_built_at, Noticed}
 abbrev pub IsKeyOf : BookModel → ℕ → Key → Type 0
 IsKeyOf b i k = slice_get (keys_of b.history.opening) i ≡ Some k
 
--- the claim is noted where that wasn't done, and then how the build ended: by the builder, on the row that it holds. The last entry has this number
+-- the claim is noted where that wasn't done, and then how the build ended: by the builder, on the
+-- row that it holds. The last entry has this number
 pub record Finishes (i b : ℕ) (o : Outcome) (old new : BookModel) (n : ℕ) : Type 0 where
   pub key : Key
   pub at : IsKeyOf old i key
   pub by : ℕ
   pub some_builder : by ≤ old.fixed.builders
   pub built : is_built_at (rows_of (noting_one old.history key by)) key b ≡ true
-  pub history : new.history ≡ with_entry (noting_one old.history key by) (record { kind = Ended b o; keys = key ∷ [] })
+  pub history : new.history
+      ≡ with_entry (noting_one old.history key by) (record { kind = Ended b o; keys = key ∷ [] })
   pub number : n ≡ length (noting_one old.history key by).journal + 1
   pub fixed : new.fixed ≡ old.fixed
 
 -- a finish of the row that is held
-abbrev pub FinishHeld : ℕ → Outcome → BuilderView → BuilderView → BookModel → BookModel → Result ℕ FinishRefusal → Type 0
-FinishHeld i o v w old new (Ok n) = Finishes i v.number o old new n × (w ≡ with_finish i (code_of o) v)
+abbrev pub FinishHeld : ℕ → Outcome → BuilderView → BuilderView → BookModel → BookModel
+    → Result ℕ FinishRefusal → Type 0
+FinishHeld i o v w old new (Ok n) =
+    Finishes i v.number o old new n × (w ≡ with_finish i (code_of o) v)
 FinishHeld i o v w old new (Err NoMemory) = (new ≡ old) × (w ≡ v)
-FinishHeld i o v w old new (Err Mismatch) = (is : Bool) × Noticed i v.number is old new × ((w ≡ v) ⊎ ((is ≡ true) × (w ≡ with_finish i (code_of o) v)))
+FinishHeld i o v w old new (Err Mismatch) =
+    (is : Bool) × Noticed i v.number is old new
+    × ((w ≡ v) ⊎ ((is ≡ true) × (w ≡ with_finish i (code_of o) v)))
 FinishHeld i o v w old new (Err NothingHeld) = ⊥
 
 -- the build is settled that ended so before, with the text of this call
@@ -52,15 +58,19 @@ pub record Settles (i b : ℕ) (o : Outcome) (old new : BookModel) (n : ℕ) : T
 abbrev pub HasRowOf : Bool → ℕ → ℕ → BookModel → Type 0
 HasRowOf is i b m = (key : Key) × IsKeyOf m i key × (is_built_at (rows_of m.history) key b ≡ is)
 
--- a finish once more, by a hand whose build ended with this code: a settled one holds nothing, and one of another code changes nothing
-abbrev pub FinishAgain : ℕ → OutcomeCode → Outcome → ℕ → BookModel → BookModel → Result ℕ FinishRefusal → Type 0
+-- a finish once more, by a hand whose build ended with this code: a settled one holds nothing, and
+-- one of another code changes nothing
+abbrev pub FinishAgain : ℕ → OutcomeCode → Outcome → ℕ → BookModel → BookModel
+    → Result ℕ FinishRefusal → Type 0
 FinishAgain i c o b old new (Ok n) = (code_of o ≡ c) × Settles i b o old new n
 FinishAgain i c o b old new (Err NothingHeld) = HasRowOf false i b old × (new ≡ old)
 FinishAgain i c o b old new (Err NoMemory) = new ≡ old
 FinishAgain i c o b old new (Err Mismatch) = HasRowOf true i b old × (new ≡ old)
 
 -- by what the hand has
-abbrev pub FinishOutcome : Hand → Outcome → BuilderView → BuilderView → BookModel → BookModel → Result ℕ FinishRefusal → Type 0
+abbrev pub FinishOutcome : Hand → Outcome → BuilderView → BuilderView → BookModel → BookModel
+    → Result ℕ FinishRefusal → Type 0
 FinishOutcome Free o v w old new result = (result ≡ Err NothingHeld) × (new ≡ old) × (w ≡ v)
 FinishOutcome (Holding i) o v w old new result = FinishHeld i o v w old new result
-FinishOutcome (Finished i c) o v w old new result = FinishAgain i c o v.number old new result × (w ≡ v)
+FinishOutcome (Finished i c) o v w old new result =
+    FinishAgain i c o v.number old new result × (w ≡ v)

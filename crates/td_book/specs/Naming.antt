@@ -1,4 +1,5 @@
--- The rows that a command names, and those of them whose version matches. This project's own, in the style of wanna-build.
+-- The rows that a command names, and those of them whose version matches. This project's own, in
+-- the style of wanna-build.
 use Rattle.std.specs.Prelude.{◌≡◌, ℕ, Bool, false, ◌&&◌, ◌||◌, List, Option, Some, None, is_some, filter, slice_get}
 use Rattle.std.specs.List.{filter_map}
 use Rattle.std.specs.Option.{option_and_then}
@@ -28,15 +29,22 @@ Adds t old new p = (k : Key) → names new k ≡ (names old k || (p k && is_some
 
 -- ---- 2. their versions
 
--- the version of a source by its parts, none where the supply has none; each that it has can be read
+-- the version of a source by its parts, none where the supply has none; each that it has can be
+-- read
 abbrev pub version_in : SupplyView → List ℕ → Option Parts
 version_in s source = option_and_then (λ text. result_ok (reading text)) (version_of s source)
 
--- whether the version of a row matches: its source's, and the row's number; a source without a version matches where some package word has it without a version
+-- whether the version of a row matches: its source's, and the row's number; a source without a
+-- version matches where some package word has it without a version
 abbrev pub is_matched_as : CommandParts → List ℕ → ℕ → Option Parts → Bool
 is_matched_as c source number (Some version) = is_matched c source version number
 is_matched_as c source number None = is_bare c source
 
 -- whether the key has a row, and the row's version matches
 abbrev pub is_matched_at : CommandParts → SupplyView → Table → Key → Bool
-is_matched_at c s t k = elim (row_of t k) [ Some row ↦ is_matched_as c k.source row.number (version_in s k.source) | None ↦ false ]
+is_matched_at c s t k =
+    elim (row_of t k) [
+      | Some row ↦ is_matched_as c k.source row.number
+          (version_in s k.source)
+      | None ↦ false
+    ]

@@ -18,7 +18,8 @@ queued_in t = filter (is_queued_no t) (range_with_len 0 (length t))
 abbrev pub priority_of : Table → ℕ → ℤ
 priority_of t i = elim (slice_get t i) [ Some p ↦ p.1.priority | None ↦ pos 0 ]
 
--- whether a row is to be built before another: the greater priority first, and of equal ones the smaller number, which goes by the key
+-- whether a row is to be built before another: the greater priority first, and of equal ones the
+-- smaller number, which goes by the key
 abbrev pub is_before : Table → ℕ → ℕ → Bool
 is_before t i j = is_lt (ordering_then (int_cmp (priority_of t j) (priority_of t i)) (nat_cmp i j))
 

@@ -15,7 +15,8 @@ state_at t k = elim (row_of t k) [ Some row ↦ row.state | None ↦ NeedsBuild 
 
 -- the reason: the version doesn't match, or else the kind doesn't apply in the row's state
 abbrev pub skip_at : (Key → Bool) → Table → Key → Skip
-skip_at matches t k = record { key = k; reason = if matches k then why.State (state_at t k) else why.Version }
+skip_at matches t k =
+    record { key = k; reason = if matches k then why.State (state_at t k) else why.Version }
 
 -- a key isn't taken where its version doesn't match, or the kind doesn't apply on its row
 abbrev pub is_skipped : (Key → Bool) → Table → Kind → Key → Bool
@@ -25,11 +26,13 @@ is_skipped matches t kind k = not (matches k && fits t kind k)
 abbrev pub skips_of : (Key → Bool) → Kind → List Key → Table → List Skip
 skips_of matches kind named t = map (skip_at matches t) (filter (is_skipped matches t kind) named)
 
--- ---- how they are found: every named key is noted beforehand, and those that are taken are left out
+-- ---- how they are found: every named key is noted beforehand, and those that are taken are left
+-- out
 
 -- a named key before the entry: whether its version matches
 abbrev pub doubt : (Key → Bool) → Key → Skip
-doubt matches k = record { key = k; reason = if matches k then why.State NeedsBuild else why.Version }
+doubt matches k =
+    record { key = k; reason = if matches k then why.State NeedsBuild else why.Version }
 
 -- whether a doubt for this reason is left: where the version doesn't match in any case, else unless
 -- the kind applies on the row

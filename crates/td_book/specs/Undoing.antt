@@ -43,14 +43,17 @@ pub record LostOne (old new : InnerModel) (named : List Key) (n : ℕ) : Type 0 
 abbrev pub UndoOutcome : ℕ → BookModel → BookModel → Result (Unit {0}) UndoRefusal → Type 0
 UndoOutcome n old new (Ok u) = new.history ≡ without_entry old.history n
 UndoOutcome n old new (Err undos.NoMemory) = new.history ≡ old.history
-UndoOutcome n old new (Err (undos.Blocked m)) = IsSomeAnd (entry_at old.history.journal n) (λ e. IsWon old.history new.history old.fixed.builders (off_for e.entry.kind e.entry.keys) m)
+UndoOutcome n old new (Err (undos.Blocked m)) =
+    IsSomeAnd (entry_at old.history.journal n)
+    (λ e. IsWon old.history new.history old.fixed.builders (off_for e.entry.kind e.entry.keys) m)
 UndoOutcome n old new (Err undos.NoSuchEntry) = ⊥
 UndoOutcome n old new (Err undos.NotACommand) = ⊥
 UndoOutcome n old new (Err undos.AlreadyUndone) = ⊥
 
 -- an undo of a standing command that no later entry touches leaves the book and answers so: what is
 -- fixed stays, and the history fits the answer
-pub record IsUndone (n : ℕ) (old new : BookModel) (result : Result (Unit {0}) UndoRefusal) : Type 0 where
+pub record IsUndone (n : ℕ) (old new : BookModel)
+    (result : Result (Unit {0}) UndoRefusal) : Type 0 where
   pub fixed : new.fixed ≡ old.fixed
   pub outcome : UndoOutcome n old new result
 
@@ -63,10 +66,17 @@ mark_stop Standing None = None
 
 -- why an undo makes no atomic step, if so
 abbrev pub undo_stop : List Marked → ℕ → Option UndoRefusal
-undo_stop ms n = elim (entry_at ms n) [ Some m ↦ if is_command m.entry.kind then mark_stop m.mark (blocker ms n) else Some undos.NotACommand | None ↦ Some undos.NoSuchEntry ]
+undo_stop ms n =
+    elim (entry_at ms n) [
+      | Some m ↦ if is_command m.entry.kind
+          then mark_stop m.mark (blocker ms n)
+          else Some undos.NotACommand
+      | None ↦ Some undos.NoSuchEntry
+    ]
 
 -- what an undo of entry n does and answers: where it is stopped, this refusal, and the book stays;
 -- else it is made, or fails, as `IsUndone` says
-abbrev pub UndoAnswer : Option UndoRefusal → ℕ → BookModel → BookModel → Result (Unit {0}) UndoRefusal → Type 0
+abbrev pub UndoAnswer : Option UndoRefusal → ℕ → BookModel → BookModel
+    → Result (Unit {0}) UndoRefusal → Type 0
 UndoAnswer None n old new result = IsUndone n old new result
 UndoAnswer (Some r) n old new result = (result ≡ Err r) × (new ≡ old)

@@ -25,16 +25,24 @@ abbrev pub outside_in : ℕ → List (Key × ℕ) → Option Key
 outside_in groups [] = None
 outside_in groups (p ∷ ps) = if nat_lt p.1 groups then outside_in groups ps else Some p.0
 
--- why rows aren't watched: a key has no row; or else one stands there twice; or else one has no such group
+-- why rows aren't watched: a key has no row; or else one stands there twice; or else one has no
+-- such group
 abbrev pub watch_stop : Table → ℕ → List (Key × ℕ) → Option WatchRefusal
-watch_stop t groups given = option_or (option_map NoSuchRow (unknown_in t given)) (option_or (option_map Twice (twice_in [] given)) (option_map BadGroup (outside_in groups given)))
+watch_stop t groups given =
+    option_or (option_map NoSuchRow (unknown_in t given))
+    (option_or (option_map Twice (twice_in [] given))
+    (option_map BadGroup (outside_in groups given)))
 
 -- the same book, of which other rows are watched
 abbrev pub with_watch : BookModel → WatchView → BookModel
 with_watch b w = record b { fixed = record b.fixed { watch = w } }
 
 -- the rows are watched, and none that were before; or all stays
-abbrev pub WatchOutcome : ℕ → List (Key × ℕ) → BookModel → BookModel → Result (Unit {0}) WatchRefusal → Type 0
-WatchOutcome groups given old new (Ok u) = (watch_stop (rows_of old.history) groups given ≡ None) × (new ≡ with_watch old (watch_of old.history.opening groups given))
+abbrev pub WatchOutcome : ℕ → List (Key × ℕ) → BookModel → BookModel
+    → Result (Unit {0}) WatchRefusal → Type 0
+WatchOutcome groups given old new (Ok u) =
+    (watch_stop (rows_of old.history) groups given ≡ None)
+    × (new ≡ with_watch old (watch_of old.history.opening groups given))
 WatchOutcome groups given old new (Err NoMemory) = new ≡ old
-WatchOutcome groups given old new (Err refusal) = (watch_stop (rows_of old.history) groups given ≡ Some refusal) × (new ≡ old)
+WatchOutcome groups given old new (Err refusal) =
+    (watch_stop (rows_of old.history) groups given ≡ Some refusal) × (new ≡ old)

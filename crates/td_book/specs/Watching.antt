@@ -9,7 +9,8 @@ use Rattle.td_supply.specs.Supply.{Stock}
 use Rattle.td_core.specs.Books.{BooksView}
 use Rattle.td_core.specs.History.{History}
 
--- how many groups there are; and of each row, by its number, the group under which it is watched, none where it isn't
+-- how many groups there are; and of each row, by its number, the group under which it is watched,
+-- none where it isn't
 pub record WatchView : Type 0 where
   pub groups : ℕ
   pub of_rows : List (Option ℕ)
@@ -28,7 +29,14 @@ pub record WatchedView : Type 0 where
 
 -- what is kept, of which no row is watched
 abbrev pub unwatched : BooksView → WatchedView
-unwatched b = record { history = b.history; stock = b.stock; spare = b.spare; places = b.places; watch = no_watch }
+unwatched b =
+    record {
+      history = b.history;
+      stock = b.stock;
+      spare = b.spare;
+      places = b.places;
+      watch = no_watch;
+    }
 
 -- ---- 1. the counts
 
@@ -41,7 +49,8 @@ is_of (Some g) group = g == group
 abbrev pub tally : (Key × Row → Bool) → ℕ → List (Option ℕ) → Table → ℕ
 tally test group [] t = 0
 tally test group (w ∷ ws) [] = 0
-tally test group (w ∷ ws) (p ∷ t) = (if is_of w group && test p then 1 else 0) + tally test group ws t
+tally test group (w ∷ ws) (p ∷ t) =
+    (if is_of w group && test p then 1 else 0) + tally test group ws t
 
 -- whether a row is Installed
 abbrev pub is_there : Key × Row → Bool
@@ -49,7 +58,8 @@ is_there p = is_installed p.1.state
 
 -- the number of watched rows of the group that are Installed, none for no such group
 abbrev pub installed_in : WatchView → Table → ℕ → Option ℕ
-installed_in w t group = if nat_lt group w.groups then Some (tally is_there group w.of_rows t) else None
+installed_in w t group =
+    if nat_lt group w.groups then Some (tally is_there group w.of_rows t) else None
 
 -- ---- 2. what is watched
 

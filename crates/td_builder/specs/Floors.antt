@@ -16,4 +16,6 @@ IsStarted jobs s job = (r : ℕ) × (s.builder.hand ≡ Holding r) × jobs r job
 
 -- the build of the row in hand ended with an outcome of this code, and nothing else changed
 abbrev pub IsFinished : OutcomeCode → BuilderModel → BuilderModel → Type 0
-IsFinished c old new = (r : ℕ) × (old.builder.hand ≡ Holding r) × (new ≡ record old { builder = with_finish r c old.builder })
+IsFinished c old new =
+    (r : ℕ) × (old.builder.hand ≡ Holding r)
+    × (new ≡ record old { builder = with_finish r c old.builder })

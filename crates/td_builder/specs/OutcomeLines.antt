@@ -1,4 +1,5 @@
--- The lines that say how builds end: `KEY WORD`, and ` : TEXT` behind the word `waits`. This project's own.
+-- The lines that say how builds end: `KEY WORD`, and ` : TEXT` behind the word `waits`. This
+-- project's own.
 use Rattle.std.specs.Prelude.{◌≡◌, ◌≢◌, ℕ, ◌+◌, List, [], ◌∷◌, ◌++◌, map, length, codes}
 use Rattle.std.specs.List.{AllByRecursion}
 use Rattle.td_rows.specs.declared.key.Key.{Key}

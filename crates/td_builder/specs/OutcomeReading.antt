@@ -9,7 +9,8 @@ use Rattle.td_rows.specs.KeyText.{key_at}
 use Rattle.td_rows.specs.Notes.{notes_at}
 use Rattle.td_journal.specs.EntryReading.{outcome_at}
 
--- the outcome with these texts, where it has them: no extra dependencies, and a text only where it waits
+-- the outcome with these texts, where it has them: no extra dependencies, and a text only where it
+-- waits
 abbrev pub with_text : Outcome → List ℕ → List ℕ → Option Outcome
 with_text (Waits w) extra text = if length extra == 0 then Some (Waits text) else None
 with_text o extra text = if length extra == 0 && length text == 0 then Some o else None

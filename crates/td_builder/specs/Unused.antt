@@ -24,10 +24,13 @@ lines_of_key m k = elim (lookup (same_key k) m) [ Some v ↦ v.items | None ↦ 
 abbrev pub with_line : Key → Key → KeyLine → List KeyLine → List KeyLine
 with_line k key line lines = if same_key k key then lines ++ line ∷ [] else lines
 
--- of these ends, in order, those of a key, each with the number of its line; the first has the number given
+-- of these ends, in order, those of a key, each with the number of its line; the first has the
+-- number given
 abbrev pub numbered : Key → ℕ → List (Key × Outcome) → List KeyLine
 numbered k n [] = []
-numbered k n (p ∷ os) = if same_key k p.0 then record { code = code_of p.1; line = n } ∷ numbered k (n + 1) os else numbered k (n + 1) os
+numbered k n (p ∷ os) =
+    if same_key k p.0 then record { code = code_of p.1; line = n }
+    ∷ numbered k (n + 1) os else numbered k (n + 1) os
 
 -- the codes that the lines of a key have, in their order
 abbrev pub codes_in : Key → List (Key × Outcome) → List OutcomeCode
@@ -49,8 +52,10 @@ outcome_of code.Attempted t = Attempted
 outcome_of code.GivenBack t = GivenBack
 outcome_of code.Waits t = Waits t
 
--- the next line of the key in this slot: so many were used, this is the one behind them, and its text is there
-pub record IsNext (slot : ℕ) (lines : List KeyLine) (used : List ℕ) (texts : List (List ℕ)) : Type 0 where
+-- the next line of the key in this slot: so many were used, this is the one behind them, and its
+-- text is there
+pub record IsNext (slot : ℕ) (lines : List KeyLine) (used : List ℕ)
+    (texts : List (List ℕ)) : Type 0 where
   pub number : ℕ
   pub line : KeyLine
   pub text : List ℕ
@@ -59,7 +64,8 @@ pub record IsNext (slot : ℕ) (lines : List KeyLine) (used : List ℕ) (texts :
   pub text_at : slice_get texts line.line ≡ Some text
 
 -- the outcome is that of the next line, which is used now
-pub record IsTaken (slot : ℕ) (lines : List KeyLine) (used used' : List ℕ) (texts texts' : List (List ℕ)) (o : Outcome) : Type 0 where
+pub record IsTaken (slot : ℕ) (lines : List KeyLine) (used used' : List ℕ)
+    (texts texts' : List (List ℕ)) (o : Outcome) : Type 0 where
   pub next : IsNext slot lines used texts
   pub outcome : o ≡ outcome_of next.line.code next.text
   pub counted : used' ≡ slice_set used slot (next.number + 1)

@@ -15,7 +15,8 @@ is_pinned Open = false
 is_pinned (Held b) = false
 is_pinned p = true
 
--- an offered or claimed row needs a build; a row is built by a builder exactly where the journal knows its claim
+-- an offered or claimed row needs a build; a row is built by a builder exactly where the journal
+-- knows its claim
 abbrev pub Suits : Phase → State → Type 0
 Suits Closed s = is_building s ≡ false
 Suits Open s = s ≡ NeedsBuild

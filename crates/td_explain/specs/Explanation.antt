@@ -13,21 +13,25 @@ place_name (Line number) = codes "line " ++ decimal number
 place_name (Stanza number) = codes "stanza " ++ decimal number
 place_name (Byte at) = codes "byte " ++ decimal at
 
--- where it is found: of a stanza its line, and of a byte its line and its column; both count from 1, a column by bytes
+-- where it is found: of a stanza its line, and of a byte its line and its column; both count from
+-- 1, a column by bytes
 abbrev pub found_name : Place → SpotWords → List ℕ
 found_name Whole spot = []
 found_name (Line number) spot = []
 found_name (Stanza number) spot = codes ", line " ++ decimal spot.number
-found_name (Byte at) spot = codes ", line " ++ (decimal spot.number ++ (codes ", column " ++ decimal (spot.offset + 1)))
+found_name (Byte at) spot =
+    codes ", line " ++ (decimal spot.number ++ (codes ", column " ++ decimal (spot.offset + 1)))
 
 -- the line from the place on; all of it where the place is within a character
 abbrev pub text_at : SpotWords → List ℕ
-text_at spot = if is_utf8 (drop spot.offset spot.line) then drop spot.offset spot.line else spot.line
+text_at spot =
+    if is_utf8 (drop spot.offset spot.line) then drop spot.offset spot.line else spot.line
 
 -- what stands there
 abbrev pub said_of : Place → Option SpotWords → List ℕ
 said_of place None = place_name place
-said_of place (Some spot) = place_name place ++ (found_name place spot ++ (codes " has " ++ shown (chars (text_at spot))))
+said_of place (Some spot) =
+    place_name place ++ (found_name place spot ++ (codes " has " ++ shown (chars (text_at spot))))
 
 -- of the text as a whole nothing is said
 abbrev pub place_said : Place → List ℕ → List ℕ
@@ -36,4 +40,5 @@ place_said place text = said_of place (spot_of place text) ++ codes "; "
 
 -- the line: the text's role, what stands at the place, and what is wanted
 abbrev pub explanation : List ℕ → Place → List ℕ → List ℕ → List ℕ
-explanation role place wanted text = role ++ (place_said place text ++ (codes "wanted: " ++ (wanted ++ codes "\n")))
+explanation role place wanted text =
+    role ++ (place_said place text ++ (codes "wanted: " ++ (wanted ++ codes "\n")))

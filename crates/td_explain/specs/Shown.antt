@@ -10,7 +10,8 @@ max_shown = 60
 abbrev pub escaped : ℕ → List ℕ
 escaped c = 92 ∷ 120 ∷ (encode_utf8 (digit_char (c / 16)) ++ encode_utf8 (digit_char (c % 16)))
 
--- a control character (U+0000 to U+001F, U+007F to U+009F) is escaped, and any other stands for itself
+-- a control character (U+0000 to U+001F, U+007F to U+009F) is escaped, and any other stands for
+-- itself
 abbrev pub shown_char : ℕ → List ℕ
 shown_char c = if is_control c then escaped c else encode_utf8 c
 

@@ -41,12 +41,14 @@ number_named a name = position (λ s. bytes_eq name s.head.name) a.sources
 
 -- whether the source with a number has a row on the architecture at a place
 abbrev pub has_row_at : Contents → ℕ → ℕ → Bool
-has_row_at a number place = option_map_or (λ s. has_row a.table s.head.archs place) (slice_get a.sources number) false
+has_row_at a number place =
+    option_map_or (λ s. has_row a.table s.head.archs place) (slice_get a.sources number) false
 
 -- the numbers, from n on, of the items that pass a test
 abbrev pub places_from : {A : Type 0} → (A → Bool) → ℕ → List A → List ℕ
 places_from test n [] = []
-places_from test n (x ∷ xs) = if test x then n ∷ places_from test (n + 1) xs else places_from test (n + 1) xs
+places_from test n (x ∷ xs) =
+    if test x then n ∷ places_from test (n + 1) xs else places_from test (n + 1) xs
 
 -- a binary package is its source's where it names it
 abbrev pub is_of : List ℕ → KeptBinary → Bool
@@ -67,7 +69,8 @@ binaries_on a source arch = places_from (is_of_on source arch) 0 a.binaries
 -- ---- 2. which texts are an archive
 
 -- these lines are those of the archive, with the table of architectures
-pub record IsArchive (table : List ArchWords) (package_lines source_lines : List (List ℕ)) (a : Contents) : Type 0 where
+pub record IsArchive (table : List ArchWords) (package_lines source_lines : List (List ℕ))
+    (a : Contents) : Type 0 where
   pub same_table : a.table ≡ table
   pub package_stanzas : AreStanzas a.packages package_lines
   pub source_stanzas : AreStanzas a.source_stanzas source_lines
@@ -77,16 +80,21 @@ pub record IsArchive (table : List ArchWords) (package_lines source_lines : List
 
 -- ---- 3. what is wrong with others
 
--- the stanzas of both texts have no fault as such; the first that can't be kept has this one, all of Packages before those of Sources
-pub record IsStanzaFault (table : List ArchWords) (package_lines source_lines : List (List ℕ)) (fault : ArchiveFault) : Type 0 where
+-- the stanzas of both texts have no fault as such; the first that can't be kept has this one, all
+-- of Packages before those of Sources
+pub record IsStanzaFault (table : List ArchWords) (package_lines source_lines : List (List ℕ))
+    (fault : ArchiveFault) : Type 0 where
   pub package_list : List (List Entry)
   pub source_list : List (List Entry)
   pub package_stanzas : AreStanzas package_list package_lines
   pub source_stanzas : AreStanzas source_list source_lines
-  pub faulty : (binaries_at table package_list ≡ Err fault) ⊎ ((binaries : List KeptBinary) × (binaries_at table package_list ≡ Ok binaries) × (sources_at source_list ≡ Err fault))
+  pub faulty : (binaries_at table package_list ≡ Err fault)
+      ⊎ ((binaries : List KeptBinary) × (binaries_at table package_list ≡ Ok binaries)
+      × (sources_at source_list ≡ Err fault))
 
 -- all stanzas can be kept, and the sources have too many rows
-pub record HasTooManyRows (table : List ArchWords) (package_lines source_lines : List (List ℕ)) : Type 0 where
+pub record HasTooManyRows (table : List ArchWords)
+    (package_lines source_lines : List (List ℕ)) : Type 0 where
   pub contents : Contents
   pub package_stanzas : AreStanzas contents.packages package_lines
   pub source_stanzas : AreStanzas contents.source_stanzas source_lines
@@ -97,10 +105,14 @@ pub record HasTooManyRows (table : List ArchWords) (package_lines source_lines :
 -- the fault of a text as a control file; want of memory may stand in place of any answer
 abbrev pub FaultOf : List ArchWords → List (List ℕ) → List (List ℕ) → ArchiveFault → Type 0
 FaultOf table packages sources (Stanza Packages fault) = HasFault fault packages
-FaultOf table packages sources (Stanza Sources fault) = (stanzas : List (List Entry)) × AreStanzas stanzas packages × HasFault fault sources
-FaultOf table packages sources (MissingField file number field) = IsStanzaFault table packages sources (MissingField file number field)
-FaultOf table packages sources (BadVersion file number) = IsStanzaFault table packages sources (BadVersion file number)
-FaultOf table packages sources (BadRelation file number) = IsStanzaFault table packages sources (BadRelation file number)
+FaultOf table packages sources (Stanza Sources fault) =
+    (stanzas : List (List Entry)) × AreStanzas stanzas packages × HasFault fault sources
+FaultOf table packages sources (MissingField file number field) =
+    IsStanzaFault table packages sources (MissingField file number field)
+FaultOf table packages sources (BadVersion file number) =
+    IsStanzaFault table packages sources (BadVersion file number)
+FaultOf table packages sources (BadRelation file number) =
+    IsStanzaFault table packages sources (BadRelation file number)
 FaultOf table packages sources TooManyRows = HasTooManyRows table packages sources
 FaultOf table packages sources NoMemory = Unit {0}
 

@@ -18,9 +18,11 @@ use Rattle.td_indices.specs.Fields.{value_of, needed, name_in, version_in}
 
 -- ---- 1. where a package is
 
--- where packages with this Architecture field are: nowhere here; everywhere (`all`); at a place of the table
+-- where packages with this Architecture field are: nowhere here; everywhere (`all`); at a place of
+-- the table
 unfoldable pub home_of : List ArchWords → List ℕ → Option (Option ℕ)
-home_of table arch = if bytes_eq arch (codes "all") then Some None else option_map Some (place_of table arch)
+home_of table arch =
+    if bytes_eq arch (codes "all") then Some None else option_map Some (place_of table arch)
 
 -- ---- 2. its source
 
@@ -34,11 +36,13 @@ named_front None rest = Err (Missing Source)
 named_front (Some name) rest = Ok (name, Some rest)
 
 -- a Source field: a name, or a name and a bracket
-abbrev pub source_text : List ℕ → Option (List ℕ × List ℕ) → Result (List ℕ × Option (List ℕ)) EntryFault
+abbrev pub source_text : List ℕ → Option (List ℕ × List ℕ)
+    → Result (List ℕ × Option (List ℕ)) EntryFault
 source_text text None = if is_name text then Ok (text, None) else Err (Missing Source)
 source_text text (Some p) = named_front (front_name p.0) p.1
 
--- the source's name, and what stands behind the bracket, if there is one; without the field the source has the package's name (Debian Policy 5.6.1)
+-- the source's name, and what stands behind the bracket, if there is one; without the field the
+-- source has the package's name (Debian Policy 5.6.1)
 unfoldable pub origin_of : List ℕ → Option (List ℕ) → Result (List ℕ × Option (List ℕ)) EntryFault
 origin_of name None = Ok (name, None)
 origin_of name (Some text) = source_text text (cut 40 text)
@@ -55,7 +59,8 @@ source_version own (Some rest) = bracketed (cut 41 rest)
 
 -- ---- 3. the stanza
 
--- a binary package: its name, where it is, its version as it is written and by its parts, and its source's name and version
+-- a binary package: its name, where it is, its version as it is written and by its parts, and its
+-- source's name and version
 pub record BinaryPackage : Type 0 where
   pub name : List ℕ
   pub home : Option ℕ
@@ -70,12 +75,21 @@ local_at fields name version home =
     on_ok (origin_of name (value_of fields (codes "Source"))) (λ origin.
     on_ok (version_in version) (λ parts.
     on_ok (source_version parts origin.1) (λ source_parts.
-    Ok (record { name = name; home = home; version = version; parts = parts; source = origin.0; source_parts = source_parts }))))
+    Ok (record {
+      name = name;
+      home = home;
+      version = version;
+      parts = parts;
+      source = origin.0;
+      source_parts = source_parts;
+    }))))
 
 -- a package that isn't here is skipped; its versions aren't read (this project's own)
-abbrev pub if_here : List Entry → List ℕ → List ℕ → Option (Option ℕ) → Result (Option BinaryPackage) EntryFault
+abbrev pub if_here : List Entry → List ℕ → List ℕ → Option (Option ℕ)
+    → Result (Option BinaryPackage) EntryFault
 if_here fields name version None = Ok None
-if_here fields name version (Some home) = on_ok (local_at fields name version home) (λ p. Ok (Some p))
+if_here fields name version (Some home) =
+    on_ok (local_at fields name version home) (λ p. Ok (Some p))
 
 -- the package of a stanza, if it is here: first the fields that it needs, then the versions
 unfoldable pub package_at : List ArchWords → List Entry → Result (Option BinaryPackage) EntryFault
@@ -109,6 +123,7 @@ heads_found (Ok head) = Ok (option_map headed head)
 heads_found (Err fault) = Err fault
 
 -- the name of a source, and the version that stands in brackets if one does, or the fault
-abbrev pub origin_found : Result (Bor (List ℕ) × Option (Bor (List ℕ))) EntryFault → Result (List ℕ × Option (List ℕ)) EntryFault
+abbrev pub origin_found : Result (Bor (List ℕ) × Option (Bor (List ℕ))) EntryFault
+    → Result (List ℕ × Option (List ℕ)) EntryFault
 origin_found (Ok p) = Ok (p.0.now, option_map (λ x. x.now) p.1)
 origin_found (Err fault) = Err fault

@@ -10,7 +10,8 @@ use Rattle.td_indices.specs.Kept.{KeptBinary, binary_at, same_package, lower_pac
 use Rattle.td_indices.specs.Reading.{binaries_at, sources_at}
 use Rattle.td_indices.specs.Sources.{KeptSource, kept_source_at, same_source, lower_source}
 
--- an item counts where each of its key before it is lower, and it is lower than none behind it: the greatest version, and the first of those that are equal in order
+-- an item counts where each of its key before it is lower, and it is lower than none behind it: the
+-- greatest version, and the first of those that are equal in order
 pub record Counts {A : Type 0} (same lower : A → A → Bool) (items : List A) (x : A) : Type 0 where
   pub before : List A
   pub after : List A
@@ -35,25 +36,33 @@ consed None xs = xs
 consed (Some x) xs = x ∷ xs
 
 -- the items that the stanzas stand for, each by itself; the first has this number
-abbrev pub AreItems : {A : Type 0} → (ℕ → List Entry → Result (Option A) EntryFault) → ℕ → List (List Entry) → List A → Type 0
+abbrev pub AreItems : {A : Type 0} → (ℕ → List Entry → Result (Option A) EntryFault) → ℕ
+    → List (List Entry) → List A → Type 0
 AreItems at n [] items = items ≡ []
-AreItems {A} at n (stanza ∷ stanzas) items = (o : Option A) × (rest : List A) × (at n stanza ≡ Ok o) × (items ≡ consed o rest) × AreItems at (n + 1) stanzas rest
+AreItems {A} at n (stanza ∷ stanzas) items =
+    (o : Option A) × (rest : List A) × (at n stanza ≡ Ok o) × (items ≡ consed o rest)
+    × AreItems at (n + 1) stanzas rest
 
 -- the binary packages that stanzas of Packages keep are those that count
 abbrev pub GreatestPackagesAreKept : Type 0
 GreatestPackagesAreKept =
-    (table : List ArchWords) (stanzas : List (List Entry)) (kept : List KeptBinary) → binaries_at table stanzas ≡ Ok kept →
-    (items : List KeptBinary) × AreItems (binary_at table) 0 stanzas items × AreKept same_package lower_package items kept
+    (table : List ArchWords) (stanzas : List (List Entry)) (kept : List KeptBinary)
+    → binaries_at table stanzas ≡ Ok kept →
+    (items : List KeptBinary) × AreItems (binary_at table) 0 stanzas items
+    × AreKept same_package lower_package items kept
 
 -- and so are the sources that stanzas of Sources keep
 abbrev pub GreatestSourcesAreKept : Type 0
 GreatestSourcesAreKept =
     (stanzas : List (List Entry)) (kept : List KeptSource) → sources_at stanzas ≡ Ok kept →
-    (items : List KeptSource) × AreItems kept_source_at 0 stanzas items × AreKept same_source lower_source items kept
+    (items : List KeptSource) × AreItems kept_source_at 0 stanzas items
+    × AreKept same_source lower_source items kept
 
 -- two packages have one key exactly where they have one name and are in one place ..
 abbrev pub PackageKeysAreExact : Type 0
-PackageKeysAreExact = (a b : KeptBinary) → (same_package a b ≡ true) ↔ ((a.head.name ≡ b.head.name) × (a.head.home ≡ b.head.home))
+PackageKeysAreExact =
+    (a b : KeptBinary)
+    → (same_package a b ≡ true) ↔ ((a.head.name ≡ b.head.name) × (a.head.home ≡ b.head.home))
 
 -- .. two sources where they have one name
 abbrev pub SourceKeysAreExact : Type 0
@@ -61,8 +70,10 @@ SourceKeysAreExact = (a b : KeptSource) → (same_source a b ≡ true) ↔ (a.he
 
 -- the one is lower exactly where its own version is less in order than the other's
 abbrev pub LowerPackagesAreExact : Type 0
-LowerPackagesAreExact = (a b : KeptBinary) → (lower_package a b ≡ true) ↔ (version_cmp a.head.parts b.head.parts ≡ Less)
+LowerPackagesAreExact =
+    (a b : KeptBinary) → (lower_package a b ≡ true) ↔ (version_cmp a.head.parts b.head.parts ≡ Less)
 
 -- of two sources the one is lower exactly where its version is less in order than the other's
 abbrev pub LowerSourcesAreExact : Type 0
-LowerSourcesAreExact = (a b : KeptSource) → (lower_source a b ≡ true) ↔ (version_cmp a.head.parts b.head.parts ≡ Less)
+LowerSourcesAreExact =
+    (a b : KeptSource) → (lower_source a b ≡ true) ↔ (version_cmp a.head.parts b.head.parts ≡ Less)

@@ -1,4 +1,5 @@
--- The fields of a stanza: their values, and what has to stand in some of them (Debian Policy 5.1, 5.3 and 5.4).
+-- The fields of a stanza: their values, and what has to stand in some of them (Debian Policy 5.1,
+-- 5.3 and 5.4).
 use Rattle.std.specs.Prelude.{ℕ, Bool, true, false, ◌≡◌, List, [], Option, Some, None, option_map, Result, Ok, Err, if◌then◌else◌}
 use Rattle.std.specs.Borrow.{Bor}
 use Rattle.std.specs.List.{find}
@@ -42,11 +43,13 @@ abbrev pub version_in : List ℕ → Result Parts EntryFault
 version_in text = version_or_bad (reading text)
 
 -- a relation, where one has to stand
-abbrev pub relation_or_bad : Result (List (List Asked)) RelationFault → Result (List (List Asked)) EntryFault
+abbrev pub relation_or_bad : Result (List (List Asked)) RelationFault
+    → Result (List (List Asked)) EntryFault
 relation_or_bad (Ok members) = Ok members
 relation_or_bad (Err fault) = Err BadRelation
 
--- what a relation field asks: nothing where it isn't there, or has whitespace alone (that it may is this project's own)
+-- what a relation field asks: nothing where it isn't there, or has whitespace alone (that it may is
+-- this project's own)
 abbrev pub relation_in : Option (List ℕ) → Result (List (List Asked)) EntryFault
 relation_in None = Ok []
 relation_in (Some text) = if is_blank text then Ok [] else relation_or_bad (relation_at text)

@@ -11,8 +11,10 @@ use Rattle.td_indices.specs.Kept.{binary_at}
 use Rattle.td_indices.specs.Reading.{at_stanza, binaries_at, sources_at}
 use Rattle.td_indices.specs.Sources.{kept_source_at}
 
--- each stanza before it stands for an item or for none; it stands for neither, and the fault is its own, with its number
-pub record IsFirstFaulty {A : Type 0} (at : ℕ → List Entry → Result (Option A) EntryFault) (file : IndexFile) (stanzas : List (List Entry)) (fault : ArchiveFault) : Type 0 where
+-- each stanza before it stands for an item or for none; it stands for neither, and the fault is its
+-- own, with its number
+pub record IsFirstFaulty {A : Type 0} (at : ℕ → List Entry → Result (Option A) EntryFault)
+    (file : IndexFile) (stanzas : List (List Entry)) (fault : ArchiveFault) : Type 0 where
   pub before : List (List Entry)
   pub stanza : List Entry
   pub after : List (List Entry)
@@ -25,8 +27,12 @@ pub record IsFirstFaulty {A : Type 0} (at : ℕ → List Entry → Result (Optio
 
 -- of Packages
 abbrev pub FirstFaultyPackageIsNamed : Type 0
-FirstFaultyPackageIsNamed = (table : List ArchWords) (stanzas : List (List Entry)) (fault : ArchiveFault) → binaries_at table stanzas ≡ Err fault → IsFirstFaulty (binary_at table) Packages stanzas fault
+FirstFaultyPackageIsNamed =
+    (table : List ArchWords) (stanzas : List (List Entry)) (fault : ArchiveFault)
+    → binaries_at table stanzas ≡ Err fault → IsFirstFaulty (binary_at table) Packages stanzas fault
 
 -- and of Sources
 abbrev pub FirstFaultySourceIsNamed : Type 0
-FirstFaultySourceIsNamed = (stanzas : List (List Entry)) (fault : ArchiveFault) → sources_at stanzas ≡ Err fault → IsFirstFaulty kept_source_at Sources stanzas fault
+FirstFaultySourceIsNamed =
+    (stanzas : List (List Entry)) (fault : ArchiveFault) → sources_at stanzas ≡ Err fault
+    → IsFirstFaulty kept_source_at Sources stanzas fault

@@ -7,4 +7,5 @@ use Rattle.td_indices.specs.declared.groups.Groups.{Groups}
 
 -- those under a name, in the order in which they came
 abbrev pub group : Groups → List ℕ → List ℕ
-group groups name = option_map_or (λ list. list.items) (get_by (λ k. bytes_eq name k.now) groups.by_source) []
+group groups name =
+    option_map_or (λ list. list.items) (get_by (λ k. bytes_eq name k.now) groups.by_source) []

@@ -31,13 +31,17 @@ pub record KeptBinary : Type 0 where
   pub stanza : ℕ
 
 -- a package that is here, with its relations
-abbrev pub with_relations : ℕ → List Entry → Option BinaryPackage → Result (Option KeptBinary) EntryFault
+abbrev pub with_relations : ℕ → List Entry → Option BinaryPackage
+    → Result (Option KeptBinary) EntryFault
 with_relations number fields None = Ok None
-with_relations number fields (Some p) = on_ok (provides_at fields) (λ provides. Ok (Some (record { head = p; provides = provides; stanza = number })))
+with_relations number fields (Some p) =
+    on_ok (provides_at fields)
+    (λ provides. Ok (Some (record { head = p; provides = provides; stanza = number })))
 
 -- what a stanza of Packages is kept as; nothing where the package isn't here
 unfoldable pub binary_at : List ArchWords → ℕ → List Entry → Result (Option KeptBinary) EntryFault
-binary_at table number fields = on_ok (package_at table fields) (λ p. with_relations number fields p)
+binary_at table number fields =
+    on_ok (package_at table fields) (λ p. with_relations number fields p)
 
 -- two packages of one name and in one place
 abbrev pub same_package : KeptBinary → KeptBinary → Bool
@@ -49,10 +53,12 @@ lower_package a b = is_lt (version_cmp a.head.parts b.head.parts)
 
 -- ---- 2. of several, one
 
--- one more of the items: in the place of the earlier one of its key where that is lower, and behind all where there is none
+-- one more of the items: in the place of the earlier one of its key where that is lower, and behind
+-- all where there is none
 abbrev pub put : {A : Type 0} → (A → A → Bool) → (A → A → Bool) → List A → A → List A
 put same lower [] x = x ∷ []
-put same lower (y ∷ ys) x = if same x y then (if lower y x then x else y) ∷ ys else y ∷ put same lower ys x
+put same lower (y ∷ ys) x =
+    if same x y then (if lower y x then x else y) ∷ ys else y ∷ put same lower ys x
 
 -- ---- what the maps hold, without where it lies in memory
 

@@ -1,4 +1,5 @@
--- Of what each offer of an archive comes: Debian Policy 7.5; that other restrictions than `(= v)` offer nothing is this project's own.
+-- Of what each offer of an archive comes: Debian Policy 7.5; that other restrictions than `(= v)`
+-- offer nothing is this project's own.
 use Rattle.std.specs.Prelude.{◌≡◌, ◌⊎◌, ◌↔◌, [], ◌∷◌, Option, Some, None, Contains}
 use Rattle.td_version.specs.Version.{Parts}
 use Rattle.td_relation.specs.Asked.{Asked, Bound}
@@ -13,14 +14,16 @@ pub record IsItself (a : Contents) (b : KeptBinary) (o : Supplied) : Type 0 wher
   pub name : o.name ≡ b.head.name
   pub version : o.version ≡ Some b.head.parts
   pub arch : o.arch ≡ b.head.home
-  pub build : o.build ≡ build_of b.head.source b.head.parts b.head.source_parts (source_named a b.head.source)
+  pub build : o.build
+      ≡ build_of b.head.source b.head.parts b.head.source_parts (source_named a b.head.source)
 
 -- `foo` is offered without a version, `foo (= 1.2)` with that one; nothing else is offered
 abbrev pub IsOfferedAt : Option Bound → Option Parts → Type 0
 IsOfferedAt None version = version ≡ None
 IsOfferedAt (Some r) version = (r.operator ≡ Equal) × (version ≡ Some r.version)
 
--- a name that the package provides: a member of its Provides field that has this one alternative. No rebuild changes it
+-- a name that the package provides: a member of its Provides field that has this one alternative.
+-- No rebuild changes it
 pub record IsProvidedBy (b : KeptBinary) (o : Supplied) : Type 0 where
   pub alternative : Asked
   pub member : Contains b.provides (alternative ∷ [])

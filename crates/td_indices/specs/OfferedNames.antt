@@ -18,7 +18,9 @@ offered_names b = b.head.name ∷ flat_map provided_names b.provides
 
 -- they are the names of what it puts on offer, whatever the sources
 abbrev pub NamesAreThoseOfOffers : Type 0
-NamesAreThoseOfOffers = (sources : List KeptSource) (b : KeptBinary) → map (λ o. o.name) (offers_by sources b) ≡ offered_names b
+NamesAreThoseOfOffers =
+    (sources : List KeptSource) (b : KeptBinary)
+    → map (λ o. o.name) (offers_by sources b) ≡ offered_names b
 
 -- one name, or none
 abbrev pub name_if : Option (List ℕ) → List (List ℕ)
@@ -27,4 +29,6 @@ name_if (Some name) = name ∷ []
 
 -- the names that are still to come, where they are gone through
 abbrev pub names_left : OfferedNames → List (List ℕ)
-names_left names = name_if (option_map (λ x. x.now) names.own) ++ flat_map provided_names (members_left names.provided)
+names_left names =
+    name_if (option_map (λ x. x.now) names.own)
+    ++ flat_map provided_names (members_left names.provided)

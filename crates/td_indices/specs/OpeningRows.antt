@@ -13,7 +13,9 @@ use Rattle.td_indices.specs.Rows.{has_row}
 
 -- whether a key is the source's on the architecture at a place
 abbrev pub is_key_at : List ArchWords → List ℕ → ℕ → Key → Bool
-is_key_at table source place k = bytes_eq k.source source && option_map_or (λ a. bytes_eq a.name k.arch) (slice_get table place) false
+is_key_at table source place k =
+    bytes_eq k.source source
+    && option_map_or (λ a. bytes_eq a.name k.arch) (slice_get table place) false
 
 -- whether a source with this Architecture field has a row on the architecture with a name ..
 abbrev pub has_row_on : List ArchWords → List ℕ → List ℕ → Bool
@@ -21,7 +23,8 @@ has_row_on table archs arch = option_map_or (λ p. has_row table archs p) (place
 
 -- .. and that stands before a place
 abbrev pub has_row_before : List ArchWords → List ℕ → ℕ → List ℕ → Bool
-has_row_before table archs place arch = option_map_or (λ p. nat_lt p place && has_row table archs p) (place_of table arch) false
+has_row_before table archs place arch =
+    option_map_or (λ p. nat_lt p place && has_row table archs p) (place_of table arch) false
 
 -- the row of a key that is gone over: the one with which it opens, if it has one
 abbrev pub with_opening : Bool → Option Row → Option Row → Option Row
@@ -29,4 +32,5 @@ with_opening gone opening row = if gone then option_or opening row else row
 
 -- the supply has a version of the source, and it reads as a version
 abbrev pub IsVersionKnown : SupplyView → List ℕ → Type 0
-IsVersionKnown s name = (text : List ℕ) × (parts : Parts) × (version_of s name ≡ Some text) × (reading text ≡ Ok parts)
+IsVersionKnown s name =
+    (text : List ℕ) × (parts : Parts) × (version_of s name ≡ Some text) × (reading text ≡ Ok parts)

@@ -1,4 +1,5 @@
--- Which stanzas of Packages are which binary packages, and what a Source field says, by how it is written: Debian Policy 5.3, 5.6.1, deb-control(5).
+-- Which stanzas of Packages are which binary packages, and what a Source field says, by how it is
+-- written: Debian Policy 5.3, 5.6.1, deb-control(5).
 use Rattle.std.specs.Prelude.{◌≡◌, ◌⊎◌, ◌↔◌, ℕ, IsTrue, List, ◌++◌, Option, Some, None, Ok, codes}
 use Rattle.td_text.specs.Words.{is_name}
 use Rattle.td_stanza.specs.Field.{Entry}
@@ -17,7 +18,8 @@ pub record IsName (text source : List ℕ) (own parts : Parts) : Type 0 where
   pub legal : IsTrue (is_name source)
   pub same : parts ≡ own
 
--- `foo (1.2-3)`: a name and a version in brackets; whitespace may stand between them, and nowhere else (this project's own)
+-- `foo (1.2-3)`: a name and a version in brackets; whitespace may stand between them, and nowhere
+-- else (this project's own)
 pub record IsNameWithVersion (text source : List ℕ) (parts : Parts) : Type 0 where
   pub space : List ℕ
   pub version : List ℕ
@@ -26,13 +28,17 @@ pub record IsNameWithVersion (text source : List ℕ) (parts : Parts) : Type 0 w
   pub blank : IsTrue (is_blank space)
   pub readable : IsVersion version parts
 
--- a package of this name and version with this Source field, or with none, has the source of this name and version
+-- a package of this name and version with this Source field, or with none, has the source of this
+-- name and version
 abbrev pub HasSource : List ℕ → Parts → Option (List ℕ) → List ℕ → Parts → Type 0
 HasSource name own None source parts = (source ≡ name) × (parts ≡ own)
-HasSource name own (Some text) source parts = IsName text source own parts ⊎ IsNameWithVersion text source parts
+HasSource name own (Some text) source parts =
+    IsName text source own parts ⊎ IsNameWithVersion text source parts
 
--- the stanza with these fields is this binary package: its name is legal, its version readable, its architecture in the table or `all`
-pub record IsPackage (table : List ArchWords) (fields : List Entry) (p : BinaryPackage) : Type 0 where
+-- the stanza with these fields is this binary package: its name is legal, its version readable, its
+-- architecture in the table or `all`
+pub record IsPackage (table : List ArchWords) (fields : List Entry)
+    (p : BinaryPackage) : Type 0 where
   pub name : value_of fields (codes "Package") ≡ Some p.name
   pub legal : IsTrue (is_name p.name)
   pub version : value_of fields (codes "Version") ≡ Some p.version
@@ -44,10 +50,14 @@ pub record IsPackage (table : List ArchWords) (fields : List Entry) (p : BinaryP
 
 -- a stanza is read as a package exactly where it is that package
 abbrev pub PackagesAreExact : Type 0
-PackagesAreExact = (table : List ArchWords) (fields : List Entry) (p : BinaryPackage) → (package_at table fields ≡ Ok (Some p)) ↔ IsPackage table fields p
+PackagesAreExact =
+    (table : List ArchWords) (fields : List Entry) (p : BinaryPackage)
+    → (package_at table fields ≡ Ok (Some p)) ↔ IsPackage table fields p
 
--- the stanza with this number is kept as this package: its relations can be read, and its Provides field says what it provides
-pub record IsKeptPackage (table : List ArchWords) (number : ℕ) (fields : List Entry) (b : KeptBinary) : Type 0 where
+-- the stanza with this number is kept as this package: its relations can be read, and its Provides
+-- field says what it provides
+pub record IsKeptPackage (table : List ArchWords) (number : ℕ) (fields : List Entry)
+    (b : KeptBinary) : Type 0 where
   pub head : IsPackage table fields b.head
   pub depends : List (List Asked)
   pub pre_depends : List (List Asked)
@@ -58,4 +68,6 @@ pub record IsKeptPackage (table : List ArchWords) (number : ℕ) (fields : List 
 
 -- a stanza is kept as a package exactly where this is so
 abbrev pub KeptPackagesAreExact : Type 0
-KeptPackagesAreExact = (table : List ArchWords) (number : ℕ) (fields : List Entry) (b : KeptBinary) → (binary_at table number fields ≡ Ok (Some b)) ↔ IsKeptPackage table number fields b
+KeptPackagesAreExact =
+    (table : List ArchWords) (number : ℕ) (fields : List Entry) (b : KeptBinary)
+    → (binary_at table number fields ≡ Ok (Some b)) ↔ IsKeptPackage table number fields b

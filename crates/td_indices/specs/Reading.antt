@@ -24,10 +24,13 @@ abbrev pub in_stanza : {A : Type 0} → IndexFile → ℕ → Result A EntryFaul
 in_stanza file number (Ok x) = Ok x
 in_stanza file number (Err fault) = Err (at_stanza file number fault)
 
--- a step takes the number of a stanza, what was kept before it, and the stanza; over stanzas, the first fault decides
-unfoldable pub over_stanzas : {S F : Type 0} → (ℕ → S → List Entry → Result S F) → ℕ → S → List (List Entry) → Result S F
+-- a step takes the number of a stanza, what was kept before it, and the stanza; over stanzas, the
+-- first fault decides
+unfoldable pub over_stanzas : {S F : Type 0} → (ℕ → S → List Entry → Result S F) → ℕ → S
+    → List (List Entry) → Result S F
 over_stanzas step number seen [] = Ok seen
-over_stanzas step number seen (stanza ∷ stanzas) = on_ok (step number seen stanza) (λ more. over_stanzas step (number + 1) more stanzas)
+over_stanzas step number seen (stanza ∷ stanzas) =
+    on_ok (step number seen stanza) (λ more. over_stanzas step (number + 1) more stanzas)
 
 -- what is kept with a stanza's item, if there is one
 abbrev pub put_some : {A : Type 0} → (A → A → Bool) → (A → A → Bool) → List A → Option A → List A
@@ -35,8 +38,11 @@ put_some same lower seen None = seen
 put_some same lower seen (Some x) = put same lower seen x
 
 -- the binary packages so far with a stanza
-abbrev pub binary_step : List ArchWords → ℕ → List KeptBinary → List Entry → Result (List KeptBinary) ArchiveFault
-binary_step table number seen fields = on_ok (in_stanza Packages number (binary_at table number fields)) (λ b. Ok (put_some same_package lower_package seen b))
+abbrev pub binary_step : List ArchWords → ℕ → List KeptBinary → List Entry
+    → Result (List KeptBinary) ArchiveFault
+binary_step table number seen fields =
+    on_ok (in_stanza Packages number (binary_at table number fields))
+    (λ b. Ok (put_some same_package lower_package seen b))
 
 -- the binary packages that stanzas of Packages keep
 abbrev pub binaries_at : List ArchWords → List (List Entry) → Result (List KeptBinary) ArchiveFault
@@ -44,7 +50,9 @@ binaries_at table stanzas = over_stanzas (binary_step table) 0 [] stanzas
 
 -- the sources so far with a stanza
 abbrev pub source_step : ℕ → List KeptSource → List Entry → Result (List KeptSource) ArchiveFault
-source_step number seen fields = on_ok (in_stanza Sources number (kept_source_at number fields)) (λ s. Ok (put_some same_source lower_source seen s))
+source_step number seen fields =
+    on_ok (in_stanza Sources number (kept_source_at number fields))
+    (λ s. Ok (put_some same_source lower_source seen s))
 
 -- the sources that stanzas of Sources keep
 abbrev pub sources_at : List (List Entry) → Result (List KeptSource) ArchiveFault

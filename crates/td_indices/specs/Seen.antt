@@ -38,7 +38,8 @@ pub record SourceSeen : Type 0 where
 -- what a `Source` holds ..
 abbrev pub seen_source : Source → SourceSeen
 seen_source s = record {
-  head = record { name = s.name.now; version = s.version.now; parts = parts_of s.parts; archs = s.archs.now };
+  head = record
+      { name = s.name.now; version = s.version.now; parts = parts_of s.parts; archs = s.archs.now };
   stanza = s.stanza;
 }
 

@@ -1,4 +1,5 @@
--- Which stanzas of Sources are which sources: Debian Policy 5.4, 5.6; that one with `Extra-Source-Only: yes` is none is this project's own.
+-- Which stanzas of Sources are which sources: Debian Policy 5.4, 5.6; that one with
+-- `Extra-Source-Only: yes` is none is this project's own.
 use Rattle.std.specs.Prelude.{◌≡◌, ◌≢◌, ◌↔◌, ℕ, IsTrue, List, Some, Ok, codes}
 use Rattle.td_text.specs.Words.{is_name}
 use Rattle.td_stanza.specs.Field.{Entry}
@@ -7,7 +8,8 @@ use Rattle.td_relation.specs.Asked.{Asked}
 use Rattle.td_indices.specs.Fields.{relation_in, value_of}
 use Rattle.td_indices.specs.Sources.{KeptSource, kept_source_at}
 
--- the stanza with this number is kept as this source: its name is legal, its version readable, and so are the relations of its build
+-- the stanza with this number is kept as this source: its name is legal, its version readable, and
+-- so are the relations of its build
 pub record IsKeptSource (number : ℕ) (fields : List Entry) (s : KeptSource) : Type 0 where
   pub own : value_of fields (codes "Extra-Source-Only") ≢ Some (codes "yes")
   pub name : value_of fields (codes "Package") ≡ Some s.head.name
@@ -18,9 +20,12 @@ pub record IsKeptSource (number : ℕ) (fields : List Entry) (s : KeptSource) : 
   pub depends : List (List Asked)
   pub arch_depends : List (List Asked)
   pub has_depends : relation_in (value_of fields (codes "Build-Depends")) ≡ Ok depends
-  pub has_arch_depends : relation_in (value_of fields (codes "Build-Depends-Arch")) ≡ Ok arch_depends
+  pub has_arch_depends : relation_in (value_of fields (codes "Build-Depends-Arch"))
+      ≡ Ok arch_depends
   pub numbered : s.stanza ≡ number
 
 -- a stanza is kept as a source exactly where this is so
 abbrev pub KeptSourcesAreExact : Type 0
-KeptSourcesAreExact = (number : ℕ) (fields : List Entry) (s : KeptSource) → (kept_source_at number fields ≡ Ok (Some s)) ↔ IsKeptSource number fields s
+KeptSourcesAreExact =
+    (number : ℕ) (fields : List Entry) (s : KeptSource)
+    → (kept_source_at number fields ≡ Ok (Some s)) ↔ IsKeptSource number fields s

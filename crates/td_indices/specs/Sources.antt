@@ -23,9 +23,12 @@ pub record SourcePackage : Type 0 where
   pub parts : Parts
   pub archs : List ℕ
 
--- a source that stands in the index only since a package was built with it (`Extra-Source-Only: yes`)
+-- a source that stands in the index only since a package was built with it (`Extra-Source-Only:
+-- yes`)
 abbrev pub is_extra : List Entry → Bool
-is_extra fields = option_map_or (λ value. bytes_eq value (codes "yes")) (value_of fields (codes "Extra-Source-Only")) false
+is_extra fields =
+    option_map_or (λ value. bytes_eq value (codes "yes"))
+    (value_of fields (codes "Extra-Source-Only")) false
 
 -- the source of a stanza: first the fields that it needs, then the version
 unfoldable pub source_at : List Entry → Result SourcePackage EntryFault
@@ -50,11 +53,13 @@ with_build_relations number fields head =
 
 -- what a stanza of Sources is kept as
 unfoldable pub whole_source_at : ℕ → List Entry → Result KeptSource EntryFault
-whole_source_at number fields = on_ok (source_at fields) (λ head. with_build_relations number fields head)
+whole_source_at number fields =
+    on_ok (source_at fields) (λ head. with_build_relations number fields head)
 
 -- one that is extra is skipped before all checks (this project's own)
 unfoldable pub kept_source_at : ℕ → List Entry → Result (Option KeptSource) EntryFault
-kept_source_at number fields = if is_extra fields then Ok None else on_ok (whole_source_at number fields) (λ s. Ok (Some s))
+kept_source_at number fields =
+    if is_extra fields then Ok None else on_ok (whole_source_at number fields) (λ s. Ok (Some s))
 
 -- two stanzas of one source
 abbrev pub same_source : KeptSource → KeptSource → Bool
@@ -68,7 +73,13 @@ lower_source a b = is_lt (version_cmp a.head.parts b.head.parts)
 
 -- the source of a stanza's head
 abbrev pub source_headed : SourceHead → SourcePackage
-source_headed h = record { name = h.name.now; version = h.version.now; parts = parts_of h.parts; archs = h.archs.now }
+source_headed h =
+    record {
+      name = h.name.now;
+      version = h.version.now;
+      parts = parts_of h.parts;
+      archs = h.archs.now;
+    }
 
 -- that source, or the stanza's fault
 abbrev pub source_found : Result SourceHead EntryFault → Result SourcePackage EntryFault
@@ -78,7 +89,12 @@ source_found (Err fault) = Err fault
 -- a source with its name, as the map holds them
 abbrev pub source_of : Bor (List ℕ) × Sourced → KeptSource
 source_of p = record {
-  head = record { name = p.0.now; version = p.1.version.now; parts = parts_of p.1.parts; archs = p.1.archs.now };
+  head = record {
+    name = p.0.now;
+    version = p.1.version.now;
+    parts = parts_of p.1.parts;
+    archs = p.1.archs.now;
+  };
   stanza = p.1.stanza;
 }
 

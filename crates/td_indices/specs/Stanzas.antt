@@ -22,7 +22,8 @@ abbrev pub source_fields : Contents → KeptSource → List Entry
 source_fields a s = fields_at a.source_stanzas s.stanza
 
 -- the stanza with this number is there, and it is kept as this item
-pub record IsKeptOf {A : Type 0} (at : ℕ → List Entry → Result (Option A) EntryFault) (stanzas : List (List Entry)) (number : ℕ) (item : A) : Type 0 where
+pub record IsKeptOf {A : Type 0} (at : ℕ → List Entry → Result (Option A) EntryFault)
+    (stanzas : List (List Entry)) (number : ℕ) (item : A) : Type 0 where
   pub fields : List Entry
   pub there : slice_get stanzas number ≡ Some fields
   pub kept : at number fields ≡ Ok (Some item)
@@ -36,7 +37,8 @@ asked_or_none (Err fault) = []
 abbrev pub asked_in : Contents → KeptSource → List ℕ → Result (List (List Asked)) EntryFault
 asked_in a s field = relation_in (value_of (source_fields a s) field)
 
--- what every build of a source asks for, and what those of its packages ask that aren't of `all` (Debian Policy 7.7)
+-- what every build of a source asks for, and what those of its packages ask that aren't of `all`
+-- (Debian Policy 7.7)
 abbrev pub build_depends_of : Contents → KeptSource → List (List Asked)
 build_depends_of a s = asked_or_none (asked_in a s (codes "Build-Depends"))
 

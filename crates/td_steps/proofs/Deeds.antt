@@ -29,6 +29,6 @@ own_too mine a b same own = subst (AreOwn mine) same own
 pub journals_tell : JournalsTellDeeds
 journals_tell rows m reached d desk every since ms inside b v mine =
     let law : (v.number ≡ b) × (0 < b) × (b ≤ length d.noted) × AreOwn v.mine (noted_of d b)
-        = nothing_invented rows m reached b d v desk mine in
+    = nothing_invented rows m reached b d v desk mine in
     own_too v.mine (noted_of d b) (deeds_of b every (drop since ms))
-        (noted-told d every since ms inside b law.1 law.2) law.3
+    (noted-told d every since ms inside b law.1 law.2) law.3

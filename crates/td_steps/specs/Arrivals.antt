@@ -20,8 +20,11 @@ ArriveMoves k old (Err r) moves = moves ≡ []
 
 -- whatever a book does of an arrival is such a list of moves
 abbrev pub ArrivalsAreSteps : Type 0
-ArrivalsAreSteps = (w : WorldView) (k : Key) (old new : BookModel) (result : Result ℕ ArriveRefusal) →
-    Sees w (resting old) → ArriveOutcome k old new result → (moves : List Move) × ArriveMoves k old result moves × LeadsOn w (resting old) moves (resting new)
+ArrivalsAreSteps =
+    (w : WorldView) (k : Key) (old new : BookModel) (result : Result ℕ ArriveRefusal) →
+    Sees w (resting old) → ArriveOutcome k old new result
+    → (moves : List Move) × ArriveMoves k old result moves
+    × LeadsOn w (resting old) moves (resting new)
 
 -- a sweep is the step, and the rows that it frees are offered
 abbrev pub sweep_moves : BookModel → List Move
@@ -36,4 +39,6 @@ SweepMoves old (Err e) moves = moves ≡ []
 -- and so is what it does of a sweep
 abbrev pub SweepsAreSteps : Type 0
 SweepsAreSteps = (w : WorldView) (old new : BookModel) (result : Result (Option ℕ) AllocError) →
-    Sees w (resting old) → SweepOutcome old new result → (moves : List Move) × SweepMoves old result moves × LeadsOn w (resting old) moves (resting new)
+    Sees w (resting old) → SweepOutcome old new result
+    → (moves : List Move) × SweepMoves old result moves
+    × LeadsOn w (resting old) moves (resting new)

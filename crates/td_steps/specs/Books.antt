@@ -31,7 +31,8 @@ use Rattle.td_book.specs.Finishing.{FinishOutcome}
 use Rattle.td_book.specs.Undoing.{undo_stop, UndoAnswer, UndoOutcome}
 use Rattle.td_steps.specs.Commands.{off_in}
 
--- a call with what it was given and what it answered; of a finish, what the builder's seat was before and behind it
+-- a call with what it was given and what it answered; of a finish, what the builder's seat was
+-- before and behind it
 pub data Call : Type 0 where
   command : CommandParts → Result Taken CommandRefusal → Call
   undo : ℕ → Result (Unit {0}) UndoRefusal → Call
@@ -45,7 +46,8 @@ abbrev pub Does : Call → BookModel → BookModel → Type 0
 Does (command c result) old new = IsDone c old new result
 Does (undo n result) old new = UndoAnswer (undo_stop old.history.journal n) n old new result
 Does (start b hand result) old new = StartOutcome b hand old new result
-Does (finish o before behind result) old new = FinishOutcome before.hand o before behind old new result
+Does (finish o before behind result) old new =
+    FinishOutcome before.hand o before behind old new result
 Does (arrive k result) old new = ArriveOutcome k old new result
 Does (sweep result) old new = SweepOutcome old new result
 
@@ -69,15 +71,23 @@ pub record Follows (old new : BookModel) : Type 0 where
 abbrev pub EntriesStay : Type 0
 EntriesStay = (calls : List Call) (old new : BookModel) → DoAll calls old new → Follows old new
 
--- whatever calls were made since the opening, with whatever answers: the rows (`Book::rows` shows them) are the meanings of the journal's standing entries, folded over the opening rows
+-- whatever calls were made since the opening, with whatever answers: the rows (`Book::rows` shows
+-- them) are the meanings of the journal's standing entries, folded over the opening rows
 abbrev pub RowsAreReplayed : Type 0
-RowsAreReplayed = (t : Table) (fixed : Fixed) (calls : List Call) (new : BookModel) → DoAll calls (record { history = opened t; fixed = fixed }) new → rows_of new.history ≡ replay t (standing new.history.journal)
+RowsAreReplayed =
+    (t : Table) (fixed : Fixed) (calls : List Call) (new : BookModel)
+    → DoAll calls (record { history = opened t; fixed = fixed }) new
+    → rows_of new.history ≡ replay t (standing new.history.journal)
 
 -- and each of the standing entries applies on the rows that those before it left
 abbrev pub EntriesAreLawful : Type 0
-EntriesAreLawful = (t : Table) (fixed : Fixed) (calls : List Call) (new : BookModel) → ascending (keys_of t) ≡ true → DoAll calls (record { history = opened t; fixed = fixed }) new → Lawful new.history.opening (standing new.history.journal)
+EntriesAreLawful =
+    (t : Table) (fixed : Fixed) (calls : List Call) (new : BookModel) → ascending (keys_of t) ≡ true
+    → DoAll calls (record { history = opened t; fixed = fixed }) new
+    → Lawful new.history.opening (standing new.history.journal)
 
--- the command's entry stood behind the claims of builders that it had found, and now every row is as it was before the command, but for these claims
+-- the command's entry stood behind the claims of builders that it had found, and now every row is
+-- as it was before the command, but for these claims
 pub record IsBack (c : CommandParts) (old between new : BookModel) : Type 0 where
   pub choices : List ℕ
   pub chosen : Choices old.fixed.builders (off_in c old) choices
@@ -85,20 +95,33 @@ pub record IsBack (c : CommandParts) (old between new : BookModel) : Type 0 wher
   pub stood : between.history ≡ with_entry (noting old.history (off_in c old) choices) entry
   pub rows : rows_of new.history ≡ rows_of (noting old.history (off_in c old) choices)
 
--- a command that made an entry, and then at once its undo: the journal doesn't refuse it, and where it is undone the rows are back
+-- a command that made an entry, and then at once its undo: the journal doesn't refuse it, and where
+-- it is undone the rows are back
 abbrev pub UndoneAtOnce : Type 0
-UndoneAtOnce = (c : CommandParts) (old between new : BookModel) (taken : Taken) (result : Result (Unit {0}) UndoRefusal) →
+UndoneAtOnce =
+    (c : CommandParts) (old between new : BookModel) (taken : Taken)
+    (result : Result (Unit {0}) UndoRefusal) →
     Does (command c (Ok taken)) old between → Does (undo taken.number result) between new →
     (undo_stop between.history.journal taken.number ≡ None) × OnOk result (IsBack c old between new)
 
--- the undo of a standing command that a later entry blocks is refused for the latest such, and changes nothing
+-- the undo of a standing command that a later entry blocks is refused for the latest such, and
+-- changes nothing
 abbrev pub BlockedExactly : Type 0
-BlockedExactly = (n m : ℕ) (old new : BookModel) (result : Result (Unit {0}) UndoRefusal) → CanBeUndone old.history.journal n → blocker old.history.journal n ≡ Some m → Does (undo n result) old new → (result ≡ Err (Blocked m)) × (new ≡ old)
+BlockedExactly =
+    (n m : ℕ) (old new : BookModel) (result : Result (Unit {0}) UndoRefusal)
+    → CanBeUndone old.history.journal n → blocker old.history.journal n ≡ Some m
+    → Does (undo n result) old new → (result ≡ Err (Blocked m)) × (new ≡ old)
 
--- one that no later entry blocks is undone, but for want of memory, or a builder's claim that was faster
+-- one that no later entry blocks is undone, but for want of memory, or a builder's claim that was
+-- faster
 abbrev pub UndoneElse : Type 0
-UndoneElse = (n : ℕ) (old new : BookModel) (result : Result (Unit {0}) UndoRefusal) → CanBeUndone old.history.journal n → blocker old.history.journal n ≡ None → Does (undo n result) old new → UndoOutcome n old new result
+UndoneElse =
+    (n : ℕ) (old new : BookModel) (result : Result (Unit {0}) UndoRefusal)
+    → CanBeUndone old.history.journal n → blocker old.history.journal n ≡ None
+    → Does (undo n result) old new → UndoOutcome n old new result
 
--- one that the journal doesn't refuse, but a builder's claim stops: in the journal behind it the number that is told is the blocker's, that of the latest standing entry which touches what the undo would have given back
+-- one that the journal doesn't refuse, but a builder's claim stops: in the journal behind it the
+-- number that is told is the blocker's, that of the latest standing entry which touches what the
+-- undo would have given back
 abbrev pub WonNamesTheLatest : Type 0
 WonNamesTheLatest = (n m : ℕ) (old new : BookModel) → undo_stop old.history.journal n ≡ None → Does (undo n (Err (Blocked m))) old new → blocker new.history.journal n ≡ Some m

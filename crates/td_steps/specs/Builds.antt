@@ -27,9 +27,11 @@ use Rattle.td_steps.specs.Parts.{withdrawing, offering, Tells}
 
 -- ---- 1. a start
 
--- the claim of a row is noted, where that wasn't done; where no builder was faster, the row is withdrawn and offered again
+-- the claim of a row is noted, where that wasn't done; where no builder was faster, the row is
+-- withdrawn and offered again
 abbrev pub notice_moves : Key → ℕ → History → List Move
-notice_moves k by h = withdrawing h (k ∷ []) (by ∷ []) ++ offering (rows_of (noting_one h k by)) (k ∷ [])
+notice_moves k by h =
+    withdrawing h (k ∷ []) (by ∷ []) ++ offering (rows_of (noting_one h k by)) (k ∷ [])
 
 -- so it is of the row with this number
 pub record Notices (i : ℕ) (old : BookModel) (moves : List Move) : Type 0 where
@@ -47,14 +49,19 @@ StartMoves hand old result moves = moves ≡ []
 
 -- whatever a book does of a start is such a list of moves
 abbrev pub StartsAreSteps : Type 0
-StartsAreSteps = (w : WorldView) (b : ℕ) (hand : Hand) (old new : BookModel) (result : Result Job StartRefusal) →
-    Sees w (resting old) → StartOutcome b hand old new result → (moves : List Move) × StartMoves hand old result moves × LeadsOn w (resting old) moves (resting new)
+StartsAreSteps =
+    (w : WorldView) (b : ℕ) (hand : Hand) (old new : BookModel) (result : Result Job StartRefusal) →
+    Sees w (resting old) → StartOutcome b hand old new result
+    → (moves : List Move) × StartMoves hand old result moves
+    × LeadsOn w (resting old) moves (resting new)
 
 -- ---- 2. a finish
 
 -- the build of the row is settled, and the row offered again where it needs one more
 abbrev pub settle_moves : Key → ℕ → Outcome → History → List Move
-settle_moves k b o h = settle k b o ∷ offering (rows_of (with_entry h (record { kind = Ended b o; keys = k ∷ [] }))) (k ∷ [])
+settle_moves k b o h =
+    settle k b o
+    ∷ offering (rows_of (with_entry h (record { kind = Ended b o; keys = k ∷ [] }))) (k ∷ [])
 
 -- the claim is noted, where that wasn't done, and then the build is settled
 abbrev pub finish_moves : Key → ℕ → ℕ → Outcome → History → List Move
@@ -74,22 +81,34 @@ pub record SettlesAt (i b : ℕ) (o : Outcome) (old : BookModel) (moves : List M
   pub at : IsKeyOf old i key
   pub moves_are : moves ≡ settle_moves key b o old.history
 
--- what a finish has made that is answered so; the builder's own step comes among those of builders, before the build is settled. With nothing in hand, for want of memory, and where the build ended otherwise, no move
-abbrev pub FinishMoves : Hand → ℕ → Outcome → BookModel → Result ℕ FinishRefusal → List Move → Type 0
-FinishMoves (Holding i) b o old (Ok n) moves = Ends i b o old moves × Tells (resting old) moves (Entry n)
+-- what a finish has made that is answered so; the builder's own step comes among those of builders,
+-- before the build is settled. With nothing in hand, for want of memory, and where the build ended
+-- otherwise, no move
+abbrev pub FinishMoves : Hand → ℕ → Outcome → BookModel → Result ℕ FinishRefusal → List Move
+    → Type 0
+FinishMoves (Holding i) b o old (Ok n) moves =
+    Ends i b o old moves × Tells (resting old) moves (Entry n)
 FinishMoves (Holding i) b o old (Err NotEnded) moves = Notices i old moves
-FinishMoves (Finished i c) b o old (Ok n) moves = SettlesAt i b o old moves × Tells (resting old) moves (Entry n)
+FinishMoves (Finished i c) b o old (Ok n) moves =
+    SettlesAt i b o old moves × Tells (resting old) moves (Entry n)
 FinishMoves hand b o old result moves = moves ≡ []
 
 -- whatever a book does of a finish, in each of its branches, is such a list of moves
 abbrev pub FinishesAreSteps : Type 0
-FinishesAreSteps = (w : WorldView) (hand : Hand) (o : Outcome) (before behind : BuilderView) (old new : BookModel) (result : Result ℕ FinishRefusal) →
-    Sees w (resting old) → FinishOutcome hand o before behind old new result → (moves : List Move) × FinishMoves hand before.number o old result moves × LeadsOn w (resting old) moves (resting new)
+FinishesAreSteps =
+    (w : WorldView) (hand : Hand) (o : Outcome) (before behind : BuilderView) (old new : BookModel)
+    (result : Result ℕ FinishRefusal) →
+    Sees w (resting old) → FinishOutcome hand o before behind old new result
+    → (moves : List Move) × FinishMoves hand before.number o old result moves
+    × LeadsOn w (resting old) moves (resting new)
 
 -- ---- 3. such runs exist
 
--- a builder that holds a row, whose claim is noted or not yet, may end its build so: the moves of its finish run, with the builder's own step before the settling
+-- a builder that holds a row, whose claim is noted or not yet, may end its build so: the moves of
+-- its finish run, with the builder's own step before the settling
 abbrev pub FinishesRun : Type 0
 FinishesRun = (w : WorldView) (b : ℕ) (k : Key) (o : Outcome) (old : BookModel) →
-    Sees w (resting old) → hand_of w b ≡ Some (hands.Holding k) → (phase_of w k ≡ Some (Held b)) ⊎ (phase_of w k ≡ Some (Noted b)) →
-    (by : ℕ) × (by ≤ old.fixed.builders) × (v : WorldView) × Runs w (finish_moves k by b o old.history) v
+    Sees w (resting old) → hand_of w b ≡ Some (hands.Holding k)
+    → (phase_of w k ≡ Some (Held b)) ⊎ (phase_of w k ≡ Some (Noted b)) →
+    (by : ℕ) × (by ≤ old.fixed.builders) × (v : WorldView)
+    × Runs w (finish_moves k by b o old.history) v

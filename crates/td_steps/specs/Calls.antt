@@ -1,4 +1,5 @@
--- Any list of a book's calls is seen, call by call, by the worlds that its moves lead to. This project's own.
+-- Any list of a book's calls is seen, call by call, by the worlds that its moves lead to. This
+-- project's own.
 use Rattle.std.specs.Prelude.{◌≡◌, true, List, [], ◌∷◌}
 use Rattle.td_rows.specs.Keys.{ascending}
 use Rattle.td_rows.specs.Table.{Table, keys_of}
@@ -22,21 +23,30 @@ abbrev pub MovesOf : Call → BookModel → List Move → Type 0
 MovesOf (command c result) old moves = CommandMoves c old result moves
 MovesOf (undo n result) old moves = UndoMoves (undo_stop old.history.journal n) n old result moves
 MovesOf (start b hand result) old moves = StartMoves hand old result moves
-MovesOf (finish o before behind result) old moves = FinishMoves before.hand before.number o old result moves
+MovesOf (finish o before behind result) old moves =
+    FinishMoves before.hand before.number o old result moves
 MovesOf (arrive k result) old moves = ArriveMoves k old result moves
 MovesOf (sweep result) old moves = SweepMoves old result moves
 
--- each call is a list of moves; from every world to which a run of them leads the calls behind it are so, and the book sees the world at the end
+-- each call is a list of moves; from every world to which a run of them leads the calls behind it
+-- are so, and the book sees the world at the end
 abbrev pub CallsLead : WorldView → List Call → BookModel → BookModel → Type 0
 CallsLead w [] old new = Sees w (resting new)
-CallsLead w (c ∷ calls) old new = (between : BookModel) × Does c old between × (moves : List Move) × MovesOf c old moves
-    × ((v : WorldView) → Runs w moves v → Goes w (resting old) moves v × Sees v (resting between) × CallsLead v calls between new)
+CallsLead w (c ∷ calls) old new =
+    (between : BookModel) × Does c old between × (moves : List Move) × MovesOf c old moves
+    × ((v : WorldView) → Runs w moves v
+    → Goes w (resting old) moves v × Sees v (resting between) × CallsLead v calls between new)
 
 -- so it is of any list of calls, from any world that the book sees
 abbrev pub CallsAreSteps : Type 0
-CallsAreSteps = (w : WorldView) (calls : List Call) (old new : BookModel) → Sees w (resting old) → DoAll calls old new → CallsLead w calls old new
+CallsAreSteps =
+    (w : WorldView) (calls : List Call) (old new : BookModel) → Sees w (resting old)
+    → DoAll calls old new → CallsLead w calls old new
 
 -- and since the opening: from the world at the opening, the offers and then the moves of the calls
 abbrev pub BooksAreSteps : Type 0
-BooksAreSteps = (t : Table) (fixed : Fixed) (calls : List Call) (new : BookModel) → ascending (keys_of t) ≡ true → NoneBuilt t → DoAll calls (record { history = opened t; fixed = fixed }) new →
-    (v : WorldView) → Runs (world_of t fixed.stock fixed.builders) (offering t (keys_of t)) v → CallsLead v calls (record { history = opened t; fixed = fixed }) new
+BooksAreSteps =
+    (t : Table) (fixed : Fixed) (calls : List Call) (new : BookModel) → ascending (keys_of t) ≡ true
+    → NoneBuilt t → DoAll calls (record { history = opened t; fixed = fixed }) new →
+    (v : WorldView) → Runs (world_of t fixed.stock fixed.builders) (offering t (keys_of t)) v
+    → CallsLead v calls (record { history = opened t; fixed = fixed }) new

@@ -1,4 +1,5 @@
--- Who is first at a row is decided by the world, and some choice always fits it: so a command's runs exist. This project's own.
+-- Who is first at a row is decided by the world, and some choice always fits it: so a command's
+-- runs exist. This project's own.
 use Rattle.std.specs.Prelude.{◌≡◌, ℕ, true, List, [], ◌∷◌, Some, if◌then◌else◌, length, map}
 use Rattle.td_rows.specs.declared.key.Key.{Key}
 use Rattle.td_wbread.specs.Command.{CommandParts}
@@ -23,13 +24,19 @@ first_at b = if is_lost b then Held b else Open
 abbrev pub Decided : WorldView → List Key → List ℕ → Type 0
 Decided w [] choices = Unit {0}
 Decided w (k ∷ ks) [] = ⊥
-Decided w (k ∷ ks) (b ∷ choices) = (is_queued_at (rows_of w.history) k ≡ true → phase_of w k ≡ Some (first_at b)) × Decided w ks choices
+Decided w (k ∷ ks) (b ∷ choices) =
+    (is_queued_at (rows_of w.history) k ≡ true → phase_of w k ≡ Some (first_at b))
+    × Decided w ks choices
 
 -- each world that a book sees decides at any keys, and names its own builders
 abbrev pub WorldsDecide : Type 0
-WorldsDecide = (w : WorldView) (old : BookModel) (off : List Key) → Sees w (resting old) → (choices : List ℕ) × Choices old.fixed.builders off choices × Decided w off choices
+WorldsDecide =
+    (w : WorldView) (old : BookModel) (off : List Key) → Sees w (resting old)
+    → (choices : List ℕ) × Choices old.fixed.builders off choices × Decided w off choices
 
 -- and from it, with its choices, a command's moves run one after the other
 abbrev pub DecidedCommandsRun : Type 0
 DecidedCommandsRun = (w : WorldView) (c : CommandParts) (old : BookModel) (choices : List ℕ) →
-    Sees w (resting old) → length choices ≡ length (off_in c old) → Decided w (off_in c old) choices → Runs w (command_moves c old choices) (after_all w (map step_of (command_moves c old choices)))
+    Sees w (resting old) → length choices ≡ length (off_in c old) → Decided w (off_in c old) choices
+    → Runs w (command_moves c old choices)
+    (after_all w (map step_of (command_moves c old choices)))

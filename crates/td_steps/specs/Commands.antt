@@ -19,7 +19,9 @@ use Rattle.td_steps.specs.Moves.{Move}
 use Rattle.td_steps.specs.Runs.{LeadsOn}
 use Rattle.td_steps.specs.Parts.{withdrawing, offering, committing, Tells}
 
--- the named rows are withdrawn, where the kind has their state, or the claims of faster builders noted; an entry on those of the matched keys on which the kind applies then, if there are any; what was withdrawn and needs a build is offered again
+-- the named rows are withdrawn, where the kind has their state, or the claims of faster builders
+-- noted; an entry on those of the matched keys on which the kind applies then, if there are any;
+-- what was withdrawn and needs a build is offered again
 abbrev pub entering_moves : Kind → List Key → List Key → History → List ℕ → List Move
 entering_moves kind named matched h choices =
     let off = off_for kind named in
@@ -33,15 +35,28 @@ off_in c b = off_for (kind_of c) (named_by c b)
 
 -- its moves there, by who was faster at each of them
 abbrev pub command_moves : CommandParts → BookModel → List ℕ → List Move
-command_moves c b choices = entering_moves (kind_of c) (named_by c b) (filter (is_matched_in c b) (named_by c b)) b.history choices
+command_moves c b choices =
+    entering_moves (kind_of c) (named_by c b)
+    (filter (is_matched_in c b) (named_by c b)) b.history choices
 
--- what a command that is answered so may have made: for want of memory no move; else these, with some choices, and the entry's number is told
-abbrev pub CommandMoves : CommandParts → BookModel → Result Taken CommandRefusal → List Move → Type 0
-CommandMoves c old (Ok taken) moves = (choices : List ℕ) × Choices old.fixed.builders (off_in c old) choices × (moves ≡ command_moves c old choices) × Tells (resting old) moves (Entry taken.number)
-CommandMoves c old (Err (NothingApplies skips)) moves = (choices : List ℕ) × Choices old.fixed.builders (off_in c old) choices × (moves ≡ command_moves c old choices)
+-- what a command that is answered so may have made: for want of memory no move; else these, with
+-- some choices, and the entry's number is told
+abbrev pub CommandMoves : CommandParts → BookModel → Result Taken CommandRefusal → List Move
+    → Type 0
+CommandMoves c old (Ok taken) moves =
+    (choices : List ℕ) × Choices old.fixed.builders (off_in c old) choices
+    × (moves ≡ command_moves c old choices) × Tells (resting old) moves (Entry taken.number)
+CommandMoves c old (Err (NothingApplies skips)) moves =
+    (choices : List ℕ) × Choices old.fixed.builders (off_in c old) choices
+    × (moves ≡ command_moves c old choices)
 CommandMoves c old (Err NoMemory) moves = moves ≡ []
 
--- whatever a book does of a command is such a list of moves, from any world that the book sees to one that it sees afterwards
+-- whatever a book does of a command is such a list of moves, from any world that the book sees to
+-- one that it sees afterwards
 abbrev pub CommandsAreSteps : Type 0
-CommandsAreSteps = (w : WorldView) (c : CommandParts) (old new : BookModel) (result : Result Taken CommandRefusal) →
-    Sees w (resting old) → IsDone c old new result → (moves : List Move) × CommandMoves c old result moves × LeadsOn w (resting old) moves (resting new)
+CommandsAreSteps =
+    (w : WorldView) (c : CommandParts) (old new : BookModel)
+    (result : Result Taken CommandRefusal) →
+    Sees w (resting old) → IsDone c old new result
+    → (moves : List Move) × CommandMoves c old result moves
+    × LeadsOn w (resting old) moves (resting new)

@@ -1,4 +1,5 @@
--- Each move of the desk is a step of the world, and builders' steps change nothing that the desk knows. This project's own.
+-- Each move of the desk is a step of the world, and builders' steps change nothing that the desk
+-- knows. This project's own.
 use Rattle.std.specs.Prelude.{◌≡◌, true, List}
 use Rattle.td_core.specs.declared.step.Step.{Step}
 use Rattle.td_core.specs.Steps.{answer_to, after}
@@ -14,12 +15,18 @@ pub record IsStep (w : WorldView) (d : Desk) (m : Move) : Type 0 where
 
 -- so it is of each move that the desk may make, where builders decided as it says
 abbrev pub MovesAreSteps : Type 0
-MovesAreSteps = (w : WorldView) (d : Desk) (m : Move) → Sees w d → May d m → Chosen w m → IsStep w d m
+MovesAreSteps =
+    (w : WorldView) (d : Desk) (m : Move) → Sees w d → May d m → Chosen w m → IsStep w d m
 
 -- a desk that sees a world sees the one after a builder's step, taken or refused
 abbrev pub BuildersChangeNothing : Type 0
-BuildersChangeNothing = (w : WorldView) (d : Desk) (step : Step) → is_builders step ≡ true → Sees w d → Sees (after w step) d
+BuildersChangeNothing =
+    (w : WorldView) (d : Desk) (step : Step) → is_builders step ≡ true → Sees w d
+    → Sees (after w step) d
 
--- each of the moves, with whatever steps of builders between them, is answered as told of it, and the desk sees the world at the end
+-- each of the moves, with whatever steps of builders between them, is answered as told of it, and
+-- the desk sees the world at the end
 abbrev pub RunsAreSeen : Type 0
-RunsAreSeen = (w : WorldView) (d : Desk) (moves : List Move) → Sees w d → MayAll d moves → LeadsOn w d moves (moved_all d moves)
+RunsAreSeen =
+    (w : WorldView) (d : Desk) (moves : List Move) → Sees w d → MayAll d moves
+    → LeadsOn w d moves (moved_all d moves)

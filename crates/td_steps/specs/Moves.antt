@@ -1,4 +1,5 @@
--- The moves of the desk, each with its step of the world, and what it may know beforehand. This project's own.
+-- The moves of the desk, each with its step of the world, and what it may know beforehand. This
+-- project's own.
 use Rattle.std.specs.Prelude.{◌≡◌, ℕ, ◌+◌, true, List, [], ◌∷◌, length, Some, None}
 use Rattle.td_board.specs.declared.views.RowView.TheVariants as views
 use Rattle.td_rows.specs.declared.key.Key.{Key}
@@ -24,7 +25,8 @@ use Rattle.td_core.specs.Refusals.{is_queued_at, are_keys}
 use Rattle.td_core.specs.Worlds.{WorldView, phase_of}
 use Rattle.td_steps.specs.Sees.{Desk, view_of, with_view, entering, is_off}
 
--- a withdrawal is won, or lost to the builder with the number; a settled build has its builder and how it ended; the others are as their steps
+-- a withdrawal is won, or lost to the builder with the number; a settled build has its builder and
+-- how it ended; the others are as their steps
 pub data Move : Type 0 where
   offer : Key → Move
   won : Key → Move
@@ -61,7 +63,8 @@ abbrev pub swept_as : Desk → List Key → Answer
 swept_as d [] = answers.Nothing
 swept_as d (k ∷ keys) = answers.Entry (next_no d)
 
--- what a move is told: a withdrawal that is lost is refused, since the row isn't on offer any more, and nothing else is; of an entry its number
+-- what a move is told: a withdrawal that is lost is refused, since the row isn't on offer any more,
+-- and nothing else is; of an entry its number
 abbrev pub answer_of : Desk → Move → Answer
 answer_of d (offer k) = answers.Done
 answer_of d (won k) = answers.Done
@@ -90,18 +93,22 @@ moved d (settle k b o) = with_view (entering d (kinds.Outcome b o) (k ∷ [])) k
 moved d (arrive k) = entering d kinds.Arrive (k ∷ [])
 moved d sweep = sweeping d (freed_by d)
 
--- a command on keys that rise, on whose rows it applies, and which are withdrawn where its kind has the state
+-- a command on keys that rise, on whose rows it applies, and which are withdrawn where its kind has
+-- the state
 pub record MayCommit (d : Desk) (kind : Kind) (keys : List Key) : Type 0 where
   pub command : is_command kind ≡ true
   pub rise : are_keys keys ≡ true
   pub applies : AppliesOn (rows_of d.history) kind keys
-  pub off : (cells kind).state ≡ true → (k : Key) → names keys k ≡ true → is_off (view_of d k) ≡ true
+  pub off : (cells kind).state ≡ true → (k : Key) → names keys k ≡ true
+      → is_off (view_of d k) ≡ true
 
--- an undo of a standing command that no later entry blocks, whose rows are withdrawn where its kind has the state
+-- an undo of a standing command that no later entry blocks, whose rows are withdrawn where its kind
+-- has the state
 pub record MayUndo (d : Desk) (n : ℕ) : Type 0 where
   pub stands : CanBeUndone d.history.journal n
   pub free : blocker d.history.journal n ≡ None
-  pub off : (cells stands.marked.entry.kind).state ≡ true → (k : Key) → names stands.marked.entry.keys k ≡ true → is_off (view_of d k) ≡ true
+  pub off : (cells stands.marked.entry.kind).state ≡ true → (k : Key)
+      → names stands.marked.entry.keys k ≡ true → is_off (view_of d k) ≡ true
 
 -- what the desk must know before a move
 abbrev pub May : Desk → Move → Type 0
@@ -112,7 +119,8 @@ May d (note k b) = view_of d k ≡ Some (views.Seen b)
 May d (commit kind keys) = MayCommit d kind keys
 May d (undo n) = MayUndo d n
 May d (settle k b o) = view_of d k ≡ Some (views.Known b)
-May d (arrive k) = (row : Row) × (row_of (rows_of d.history) k ≡ Some row) × (applies kinds.Arrive row ≡ true)
+May d (arrive k) =
+    (row : Row) × (row_of (rows_of d.history) k ≡ Some row) × (applies kinds.Arrive row ≡ true)
 May d sweep = Unit {0}
 
 -- what it can't know, since builders decide it: who was first at a row, and how a build ended

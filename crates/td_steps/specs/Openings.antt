@@ -19,36 +19,62 @@ use Rattle.td_steps.specs.Parts.{offering}
 
 -- the desk before that, at a new board
 abbrev pub first_desk : Table → Stock → ℕ → Desk
-first_desk t stock builders = record { history = opened t; stock = stock; view = (new_desk (length t) builders).rows; builders = builders }
+first_desk t stock builders =
+    record {
+      history = opened t;
+      stock = stock;
+      view = (new_desk (length t) builders).rows;
+      builders = builders;
+    }
 
--- it sees the world at its opening, in which no row is built, and offers each row that needs a build; then the book is at rest
+-- it sees the world at its opening, in which no row is built, and offers each row that needs a
+-- build; then the book is at rest
 pub record OpensSo (t : Table) (fixed : Fixed) : Type 0 where
   pub sees : Sees (world_of t fixed.stock fixed.builders) (first_desk t fixed.stock fixed.builders)
-  pub leads : LeadsOn (world_of t fixed.stock fixed.builders) (first_desk t fixed.stock fixed.builders) (offering t (keys_of t)) (resting (record { history = opened t; fixed = fixed }))
+  pub leads : LeadsOn (world_of t fixed.stock fixed.builders)
+      (first_desk t fixed.stock fixed.builders) (offering t (keys_of t))
+      (resting (record { history = opened t; fixed = fixed }))
 
 -- every table of rows in order, none of which is built, opens so
 abbrev pub OpeningsAreSteps : Type 0
-OpeningsAreSteps = (t : Table) (fixed : Fixed) → ascending (keys_of t) ≡ true → NoneBuilt t → OpensSo t fixed
+OpeningsAreSteps =
+    (t : Table) (fixed : Fixed) → ascending (keys_of t) ≡ true → NoneBuilt t → OpensSo t fixed
 
 -- the world that opens with a history: all rows are closed, all hands free
 abbrev pub world_from : History → Stock → ℕ → WorldView
-world_from h s builders = record { history = h; supply = s; phases = replicate (length h.opening) Closed; hands = replicate builders Free }
+world_from h s builders =
+    record {
+      history = h;
+      supply = s;
+      phases = replicate (length h.opening) Closed;
+      hands = replicate builders Free;
+    }
 
 -- the desk before its offers, at a new board of these rows
 abbrev pub desk_from : History → Stock → ℕ → Desk
-desk_from h stock builders = record { history = h; stock = stock; view = (new_desk (length h.opening) builders).rows; builders = builders }
+desk_from h stock builders =
+    record {
+      history = h;
+      stock = stock;
+      view = (new_desk (length h.opening) builders).rows;
+      builders = builders;
+    }
 
--- such a history: the opening rows rise, the standing entries are lawful over them, each entry has keys, and no builder has a row
+-- such a history: the opening rows rise, the standing entries are lawful over them, each entry has
+-- keys, and no builder has a row
 pub record MayOpen (h : History) : Type 0 where
   pub rising : ascending (keys_of h.opening) ≡ true
   pub lawful : Lawful h.opening (standing h.journal)
   pub keys : EachHasKeys h.journal
   pub idle : NoneBuilt (rows_of h)
 
--- the desk sees that world, which is sound, and offers each row that needs a build; then the book is at rest
+-- the desk sees that world, which is sound, and offers each row that needs a build; then the book
+-- is at rest
 pub record OpensWith (h : History) (fixed : Fixed) : Type 0 where
   pub sees : Sees (world_from h fixed.stock fixed.builders) (desk_from h fixed.stock fixed.builders)
-  pub leads : LeadsOn (world_from h fixed.stock fixed.builders) (desk_from h fixed.stock fixed.builders) (offering (rows_of h) (keys_of (rows_of h))) (resting (record { history = h; fixed = fixed }))
+  pub leads : LeadsOn (world_from h fixed.stock fixed.builders)
+      (desk_from h fixed.stock fixed.builders) (offering (rows_of h) (keys_of (rows_of h)))
+      (resting (record { history = h; fixed = fixed }))
 
 -- every such history opens so; that before the first entry is one of them
 abbrev pub HistoriesOpen : Type 0

@@ -11,9 +11,12 @@ use Rattle.td_steps.specs.Sees.{Desk}
 use Rattle.td_steps.specs.Moves.{Move, offer, won, lost, note, commit, answer_of}
 use Rattle.td_steps.specs.Runs.{moved_all}
 
--- the row of a key is withdrawn, where it needs a build; or builder b was faster, and its claim is noted
+-- the row of a key is withdrawn, where it needs a build; or builder b was faster, and its claim is
+-- noted
 abbrev pub withdrawing_one : History → Key → ℕ → List Move
-withdrawing_one h k b = if is_queued_at (rows_of h) k then (if is_lost b then lost k b ∷ note k b ∷ [] else won k ∷ []) else []
+withdrawing_one h k b =
+    if is_queued_at (rows_of h) k
+    then (if is_lost b then lost k b ∷ note k b ∷ [] else won k ∷ []) else []
 
 -- so it is of each key in order; who was faster at each is chosen by the list
 abbrev pub withdrawing : History → List Key → List ℕ → List Move

@@ -35,7 +35,8 @@ pub record Meanwhile (w v : WorldView) : Type 0 where
   pub all : are_builders theirs ≡ true
   pub to : v ≡ after_all w theirs
 
--- the desk makes the moves in order, with any steps of builders before, between and after them; at each move these have decided as it says
+-- the desk makes the moves in order, with any steps of builders before, between and after them; at
+-- each move these have decided as it says
 abbrev pub Runs : WorldView → List Move → WorldView → Type 0
 Runs w [] v = Meanwhile w v
 Runs w (m ∷ ms) v = (u : WorldView) × Meanwhile w u × Chosen u m × Runs (after u (step_of m)) ms v
@@ -43,8 +44,11 @@ Runs w (m ∷ ms) v = (u : WorldView) × Meanwhile w u × Chosen u m × Runs (af
 -- the same, and each move's step is answered as told of it
 abbrev pub Goes : WorldView → Desk → List Move → WorldView → Type 0
 Goes w d [] v = Meanwhile w v
-Goes w d (m ∷ ms) v = (u : WorldView) × Meanwhile w u × (answer_to u (step_of m) ≡ answer_of d m) × Goes (after u (step_of m)) (moved d m) ms v
+Goes w d (m ∷ ms) v =
+    (u : WorldView) × Meanwhile w u × (answer_to u (step_of m) ≡ answer_of d m)
+    × Goes (after u (step_of m)) (moved d m) ms v
 
--- the desk that sees the first world: every run of the moves from there is answered as told, and leads to a world that the other desk sees
+-- the desk that sees the first world: every run of the moves from there is answered as told, and
+-- leads to a world that the other desk sees
 abbrev pub LeadsOn : WorldView → Desk → List Move → Desk → Type 0
 LeadsOn w d ms to = (v : WorldView) → Runs w ms v → Goes w d ms v × Sees v to

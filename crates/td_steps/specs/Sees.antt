@@ -1,4 +1,5 @@
--- What the desk and the book know of a world, as a plain value, and when that is so. This project's own.
+-- What the desk and the book know of a world, as a plain value, and when that is so. This project's
+-- own.
 use Rattle.std.specs.Prelude.{◌≡◌, ℕ, Bool, true, false, List, [], length, slice_get, set, Option, Some}
 use Rattle.td_board.specs.declared.views.RowView.{RowView}
 use Rattle.td_board.specs.declared.views.RowView.TheVariants.{In, Out, Seen, Known}
@@ -13,7 +14,8 @@ use Rattle.td_core.specs.Worlds.{WorldView, IsWorld}
 use Rattle.td_book.specs.Desk.{BookModel}
 use Rattle.td_book.specs.Seen.{seen_off}
 
--- the history, what the index offers, what the desk's seat knows of each row in order, and how many builders there are
+-- the history, what the index offers, what the desk's seat knows of each row in order, and how many
+-- builders there are
 pub record Desk : Type 0 where
   pub history : History
   pub stock : Stock
@@ -22,7 +24,13 @@ pub record Desk : Type 0 where
 
 -- of the book at rest: the seat knows what follows from its rows
 abbrev pub resting : BookModel → Desk
-resting b = record { history = b.history; stock = b.fixed.stock; view = seen_off [] (rows_of b.history); builders = b.fixed.builders }
+resting b =
+    record {
+      history = b.history;
+      stock = b.fixed.stock;
+      view = seen_off [] (rows_of b.history);
+      builders = b.fixed.builders;
+    }
 
 -- what the seat knows of a key's row, if the key has one
 abbrev pub view_of : Desk → Key → Option RowView
@@ -34,9 +42,12 @@ with_view d k v = record d { view = set d.view (number_of d.history.opening k) v
 
 -- the same desk, with one more entry in its journal
 abbrev pub entering : Desk → Kind → List Key → Desk
-entering d kind keys = record d { history = with_entry d.history (record { kind = kind; keys = keys }) }
+entering d kind keys =
+    record d { history = with_entry d.history (record { kind = kind; keys = keys }) }
 
--- In goes with Closed, Out with Open or Held, Seen by b with Held by b, Known by b with Noted or Done by b: whether a row that is out was claimed meanwhile, or a known build has ended, only the board knows
+-- In goes with Closed, Out with Open or Held, Seen by b with Held by b, Known by b with Noted or
+-- Done by b: whether a row that is out was claimed meanwhile, or a known build has ended, only the
+-- board knows
 abbrev pub Fits : RowView → Phase → Type 0
 Fits In Closed = Unit {0}
 Fits Out Open = Unit {0}
@@ -48,9 +59,11 @@ Fits v p = ⊥
 
 -- row by row
 abbrev pub FitAll : List RowView → List Phase → Type 0
-FitAll vs ps = (i : ℕ) (v : RowView) (p : Phase) → slice_get vs i ≡ Some v → slice_get ps i ≡ Some p → Fits v p
+FitAll vs ps =
+    (i : ℕ) (v : RowView) (p : Phase) → slice_get vs i ≡ Some v → slice_get ps i ≡ Some p → Fits v p
 
--- the desk sees the world: the same history and stock, as many builders, what its seat knows of each row fits the row's phase, and the world is sound
+-- the desk sees the world: the same history and stock, as many builders, what its seat knows of
+-- each row fits the row's phase, and the world is sound
 pub record Sees (w : WorldView) (d : Desk) : Type 0 where
   pub sound : IsWorld w
   pub history : w.history ≡ d.history

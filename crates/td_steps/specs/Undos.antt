@@ -16,15 +16,19 @@ use Rattle.td_steps.specs.Moves.{Move, lost, note, undo}
 use Rattle.td_steps.specs.Runs.{LeadsOn}
 use Rattle.td_steps.specs.Parts.{winning, offering, Tells}
 
--- entry n, of the kind on these keys, is undone: its rows are withdrawn first, where its kind has their state, and what needs a build then is offered
+-- entry n, of the kind on these keys, is undone: its rows are withdrawn first, where its kind has
+-- their state, and what needs a build then is offered
 abbrev pub undo_moves : ℕ → Kind → List Key → History → List Move
 undo_moves n kind keys h =
     let off = off_for kind keys in
     winning (rows_of h) off ++ (undo n ∷ offering (rows_of (without_entry h n)) off)
 
--- a builder was faster at a key, after the rows of others were withdrawn: its claim is noted, and these are offered again
+-- a builder was faster at a key, after the rows of others were withdrawn: its claim is noted, and
+-- these are offered again
 abbrev pub blocked_moves : List Key → Key → ℕ → History → List Move
-blocked_moves first k b h = winning (rows_of h) first ++ (lost k b ∷ note k b ∷ offering (rows_of (with_entry h (claim_of b k))) (first ++ k ∷ []))
+blocked_moves first k b h =
+    winning (rows_of h) first
+    ++ (lost k b ∷ note k b ∷ offering (rows_of (with_entry h (claim_of b k))) (first ++ k ∷ []))
 
 -- some builder at one of the keys, at which the undo stops
 pub record LostAt (off : List Key) (old : BookModel) (moves : List Move) : Type 0 where
@@ -37,13 +41,25 @@ pub record LostAt (off : List Key) (old : BookModel) (moves : List Move) : Type 
   pub named : off ≡ first ++ key ∷ rest
   pub moves_are : moves ≡ blocked_moves first key by old.history
 
--- what an undo that is answered so has made. What the journal decides alone makes no move, and so does want of memory; else it is undone, or stopped by the entry of a claim
-abbrev pub UndoMoves : Option UndoRefusal → ℕ → BookModel → Result (Unit {0}) UndoRefusal → List Move → Type 0
-UndoMoves None n old (Ok u) moves = IsSomeAnd (entry_at old.history.journal n) (λ m. moves ≡ undo_moves n m.entry.kind m.entry.keys old.history) × Tells (resting old) moves (Undone n)
-UndoMoves None n old (Err (Blocked b)) moves = IsSomeAnd (entry_at old.history.journal n) (λ m. LostAt (off_for m.entry.kind m.entry.keys) old moves) × Tells (resting old) moves (Entry b)
+-- what an undo that is answered so has made. What the journal decides alone makes no move, and so
+-- does want of memory; else it is undone, or stopped by the entry of a claim
+abbrev pub UndoMoves : Option UndoRefusal → ℕ → BookModel → Result (Unit {0}) UndoRefusal
+    → List Move → Type 0
+UndoMoves None n old (Ok u) moves =
+    IsSomeAnd (entry_at old.history.journal n)
+    (λ m. moves ≡ undo_moves n m.entry.kind m.entry.keys old.history)
+    × Tells (resting old) moves (Undone n)
+UndoMoves None n old (Err (Blocked b)) moves =
+    IsSomeAnd (entry_at old.history.journal n)
+    (λ m. LostAt (off_for m.entry.kind m.entry.keys) old moves)
+    × Tells (resting old) moves (Entry b)
 UndoMoves stop n old result moves = moves ≡ []
 
--- whatever a book does of an undo is such a list of moves, from any world that the book sees to one that it sees afterwards
+-- whatever a book does of an undo is such a list of moves, from any world that the book sees to one
+-- that it sees afterwards
 abbrev pub UndosAreSteps : Type 0
-UndosAreSteps = (w : WorldView) (n : ℕ) (old new : BookModel) (result : Result (Unit {0}) UndoRefusal) →
-    Sees w (resting old) → UndoAnswer (undo_stop old.history.journal n) n old new result → (moves : List Move) × UndoMoves (undo_stop old.history.journal n) n old result moves × LeadsOn w (resting old) moves (resting new)
+UndosAreSteps =
+    (w : WorldView) (n : ℕ) (old new : BookModel) (result : Result (Unit {0}) UndoRefusal) →
+    Sees w (resting old) → UndoAnswer (undo_stop old.history.journal n) n old new result
+    → (moves : List Move) × UndoMoves (undo_stop old.history.journal n) n old result moves
+    × LeadsOn w (resting old) moves (resting new)

@@ -20,7 +20,8 @@ abbrev pub group_at : List (Option ℕ) → ℕ → Option ℕ
 group_at ws i = elim (slice_get ws i) [ Some w ↦ w | None ↦ None ]
 
 -- the counts, by group, are of the rows that pass the test
-pub record AreTallied (test : Key × Row → Bool) (counts : List ℕ) (ws : List (Option ℕ)) (t : Table) : Type 0 where
+pub record AreTallied (test : Key × Row → Bool) (counts : List ℕ) (ws : List (Option ℕ))
+    (t : Table) : Type 0 where
   pub each : (g : ℕ) → g < length counts → slice_index counts g ≡ tally test g ws t
 
 -- ---- rows that lose or gain Installed, key by key
@@ -35,7 +36,8 @@ but_named keys p = is_there p && not (names keys p.0)
 
 -- each of the keys has a row, and its state is Installed, or isn't
 pub record AllAre (is : Bool) (keys : List Key) (t : Table) : Type 0 where
-  pub each : (k : Key) → names keys k ≡ true → (row : Row) × (row_of t k ≡ Some row) × (is_installed row.state ≡ is)
+  pub each : (k : Key) → names keys k ≡ true
+      → (row : Row) × (row_of t k ≡ Some row) × (is_installed row.state ≡ is)
 
 -- whether an entry of the kind takes Installed from its rows
 abbrev pub takes_installed : Kind → Bool
@@ -53,7 +55,8 @@ pub record IsEntered (n : ℕ) (now : History) (counts : List ℕ) (ws : List (O
   pub tallied : AreTallied is_there counts ws (rows_of before)
 
 -- entry n was undone, of the rows with which the counts are
-pub record IsTakenBack (n : ℕ) (now : History) (counts : List ℕ) (ws : List (Option ℕ)) : Type 0 where
+pub record IsTakenBack (n : ℕ) (now : History) (counts : List ℕ)
+    (ws : List (Option ℕ)) : Type 0 where
   pub before : History
   pub marked : Marked
   pub there : entry_at before.journal n ≡ Some marked

@@ -16,6 +16,9 @@ view_of w = record { groups = length w.installed.items; of_rows = w.groups.items
 
 -- a watch of the rows as they are, or why there is none
 abbrev pub IsOver : ℕ → List (Key × ℕ) → BookModel → Result Watch WatchRefusal → Type 0
-IsOver groups given b (Ok watch) = (watch_stop (rows_of b.history) groups given ≡ None) × (view_of watch ≡ watch_of b.history.opening groups given) × AreTallied is_there watch.installed.items watch.groups.items (rows_of b.history)
+IsOver groups given b (Ok watch) =
+    (watch_stop (rows_of b.history) groups given ≡ None)
+    × (view_of watch ≡ watch_of b.history.opening groups given)
+    × AreTallied is_there watch.installed.items watch.groups.items (rows_of b.history)
 IsOver groups given b (Err NoMemory) = Unit {0}
 IsOver groups given b (Err refusal) = watch_stop (rows_of b.history) groups given ≡ Some refusal
