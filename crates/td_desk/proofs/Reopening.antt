@@ -140,6 +140,9 @@ begun_book opening text table stock builders b small r =
 pub begun_table : (opening : Table) (text : List ℕ) (table named : TableId) (stock : Stock) (builders : ℕ) (b : BookModel) → IsReopened opening text table stock builders b → table ≡ named → b.fixed.table ≡ named
 begun_table opening text table named stock builders b r at = ap (λ (x : BookModel). x.fixed.table) r.is ∙ at
 
+pub begun_origin : (opening origin : Table) (text : List ℕ) (table : TableId) (stock : Stock) (builders : ℕ) (b : BookModel) → IsReopened opening text table stock builders b → origin ≡ opening → b.history.opening ≡ origin
+begun_origin opening origin text table stock builders b r at = ap (λ (x : BookModel). x.history.opening) r.is ∙ sym at
+
 pub begun_still : (os : List Mark) (opening : Table) (text : List ℕ) (table : TableId) (stock : Stock) (builders : ℕ) (b : BookModel) → IsReopened opening text table stock builders b → os ≡ marks_in text → length text < 2 ^ 64
     → still_undone b.history.journal os ≡ true
 begun_still os opening text table stock builders b r named small =

@@ -5,6 +5,7 @@ pub mod OpeningInside
 pub mod Openings
 pub mod Reading
 pub mod Replies
+pub mod Replying
 pub mod Reporting
 pub mod Requests
 pub mod Script

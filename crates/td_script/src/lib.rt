@@ -16,21 +16,27 @@ mod input_fault;
 mod inputs;
 mod line;
 mod opening;
+mod replying;
 mod reports;
 mod request;
 mod role;
 mod running;
+mod staff;
 #[cfg(test)]
 mod tests;
 mod told;
 mod writing;
 
+pub use answering::{show_entry, show_journal, show_report, show_row};
 pub use dispatch::answer;
 pub use input_fault::InputFault;
 pub use inputs::{Inputs, MAX_BUILDERS};
 pub use line::{Said, asked_lines_are_requests, read_line};
+pub use replying::{put_arrival, put_command, put_sweep, put_undo};
 pub use reports::Reports;
 pub use request::{Request, read_request, request_lines_are_exact};
 pub use role::Role;
-pub use running::{RunFault, SCRIPT_LIMIT, ScriptEnd, run_script};
+pub use running::{RunFault, SCRIPT_LIMIT, ScriptEnd, judge, run_script, run_with};
+pub use staff::{Alone, Staff};
 pub use told::{Told, tell};
+pub use writing::put_refusal;

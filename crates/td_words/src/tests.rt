@@ -151,8 +151,8 @@ fn a_run_is_asked_for_with_three_files_or_more(rt: HostRuntime) -> Result<(), Fa
             "a p s - - sid 0 - -",
         ),
         (
-            "transdesk run --archs a --packages p --sources s --state r --tracker t --suite x --builders 0 --outcomes o --journal j",
-            "a p s r t x 0 o j",
+            "transdesk run --archs a --packages p --sources s --state r --tracker t --suite x --builders 64 --outcomes o --journal j",
+            "a p s r t x 64 o j",
         ),
     ] {
         assert_eq!(rt; run_of(rt.alloc(), line)?.as_str(), given, "{line}");
@@ -247,12 +247,12 @@ fn other_words_are_answered_by_a_text(rt: HostRuntime) -> Result<(), Fail> {
             "error: the following required arguments were not provided:\n  --sources <FILE>\n",
         ),
         (
-            "transdesk run --archs a --packages p --sources s --builders 1",
-            "error: --builders takes 0, since there are no crews yet\n",
+            "transdesk run --archs a --packages p --sources s --builders 65",
+            "error: --builders takes a number from 0 to 64\n",
         ),
         (
             "transdesk run --archs a --packages p --sources s --builders 00",
-            "error: --builders takes 0, since there are no crews yet\n",
+            "error: --builders takes a number from 0 to 64\n",
         ),
         (
             "transdesk run --archs a --packages p --sources s --suite x --suite y",

@@ -78,6 +78,7 @@ has_fault files t role (Archive archive.NoMemory) texts is = absurd is
 has_fault files t role (fault.State e) texts is = absurd is
 has_fault files t role fault.NoSuchRow texts is = absurd is
 has_fault files t role (fault.Tracker e) texts is = absurd is
+has_fault files t role (fault.BadOutcome n) texts is = absurd is
 has_fault files t role (fault.Journal e) texts is = absurd is
 
 archive_in : (files : Files) (t : FileTexts) (c : Contents) → AreTextsIn files t → IsArchiveOf (string_bytes t.archs) (string_bytes t.packages) (string_bytes t.sources) c → IsArchiveIn files c

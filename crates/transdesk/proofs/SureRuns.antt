@@ -5,7 +5,11 @@ use Rattle.td_bytes.specs.declared.text.TextFault.{TextFault}
 use Rattle.td_bytes.specs.declared.text.TextFault.TheVariants as text_fault
 use Rattle.td_query.specs.declared.tracker_fault.TrackerFault.{TrackerFault}
 use Rattle.td_query.specs.declared.tracker_fault.TrackerFault.TheVariants as tracker_fault
+use Rattle.std.specs.Prelude.{MatchBool}
 use Rattle.td_script.specs.Ends.{Only}
+use Rattle.td_crew.specs.CrewEnds.{CrewOnly}
+use Rattle.td_crew.specs.declared.running.CrewFault.{CrewFault}
+use Rattle.td_crew.specs.declared.running.CrewFault.TheVariants as crew
 use Rattle.td_script.specs.Openings as script
 use Rattle.td_script.specs.declared.input_fault.InputFault.TheVariants as refused
 use Rattle.td_script.specs.declared.running.RunFault.{RunFault}
@@ -17,7 +21,7 @@ use Rattle.transdesk.specs.declared.role.Role.TheVariants.{Input, Archs, Package
 use Rattle.transdesk.specs.declared.ending.Ending.{Ending}
 use Rattle.transdesk.specs.declared.ending.Ending.TheVariants.{Done, Refused}
 use Rattle.transdesk.specs.Ending.{ending_of_file, ending_of_tracker}
-use Rattle.transdesk.specs.Runs.{AreKnownTexts, AreTextsOf, EndsRun, FailsAt, MayEnd, OnlyEnds, RunFiles, ScriptEnds, Texts, ending_of_script, ending_of_stop, script_texts}
+use Rattle.transdesk.specs.Runs.{AreKnownTexts, AreTextsOf, EndsRun, FailsAt, MayEnd, OnlyCrewEnds, OnlyEnds, OnlyPlayEnds, PlayEnds, RunFiles, Texts, ending_of_crew, ending_of_script, ending_of_stop, outcome_lines, script_texts}
 use Rattle.transdesk.specs.RunInside.{HasRunFailed}
 use Rattle.transdesk.proofs.Sure.{given_same, given_text, known_same, one_text}
 
@@ -53,6 +57,24 @@ script_ends x known (Err e) only = stop_ends x known e only
 -- the texts that the script was given are these
 pub script_only : (x y : script.Texts) (known : Option (List ℕ)) (r : Result ScriptEnd RunFault) (ending : Ending) → y ≡ x → Only y known r → ending ≡ ending_of_script r → OnlyEnds x known ending
 script_only x y known r ending same only is = subst (OnlyEnds x known) (sym is) (script_ends x known r (subst (λ z. Only z known r) same only))
+
+-- ---- a crew over readable texts
+
+crew_ends : (x : script.Texts) (lines : List (List ℕ)) (known : Option (List ℕ)) (r : Result ScriptEnd CrewFault) → CrewOnly x lines known r → OnlyCrewEnds x lines known (ending_of_crew r)
+crew_ends x lines known (Ok end) only = λ text is fits read readable. answered x.tracker (end.refusals == 0)
+crew_ends x lines known (Err (crew.Run e)) only = λ text is fits read readable. stop_ends x known e (λ t i f r. only t i f read r) text is fits readable
+crew_ends x lines known (Err (crew.BadOutcome n)) only = λ text is fits read readable. absurd (only text is fits read readable)
+
+pub crew_only : (x y : script.Texts) (lines given : List (List ℕ)) (known : Option (List ℕ)) (r : Result ScriptEnd CrewFault) (ending : Ending) → y ≡ x → given ≡ lines → CrewOnly y given known r → ending ≡ ending_of_crew r → OnlyCrewEnds x lines known ending
+crew_only x y lines given known r ending same its only is =
+    subst (OnlyCrewEnds x lines known) (sym is) (crew_ends x lines known r (subst (λ l. CrewOnly x l known r) its (subst (λ z. CrewOnly z given known r) same only)))
+
+-- whoever answers
+play_only : (n : ℕ) (x : Texts) (suite : List ℕ) (known : Option (List ℕ)) (ending : Ending) → MayEnd x.tracker ending → OnlyPlayEnds n x suite known ending
+play_only n x suite known ending may = elim (n == 0) as (λ b. MatchBool b (OnlyEnds (script_texts x suite) known ending) (OnlyCrewEnds (script_texts x suite) (outcome_lines x) known ending)) [
+  | true ↦ λ text is fits readable. may
+  | false ↦ λ text is fits read readable. may
+]
 
 -- ---- known files
 
@@ -91,12 +113,12 @@ pub run_unread : (files : RunFiles) (suite : List ℕ) (f : FileFault) (known ol
     → EndsRun files suite known old new ending
 run_unread files suite f known old new ending failed is kept = record {
   says = inr (inl ((f.role, f.fault, failed, is), kept));
-  only = λ x files-are text has fits readable. subst (MayEnd x.tracker) (sym is) (unread_ends files x f.role f.fault failed files-are);
+  only = λ x files-are. play_only files.builders x suite known ending (subst (MayEnd x.tracker) (sym is) (unread_ends files x f.role f.fault failed files-are));
 }
 
-pub run_played : (files : RunFiles) (suite : List ℕ) (x : Texts) (known old new : Option (List ℕ)) (ending : Ending) → AreTextsOf files x → ScriptEnds x suite known old new ending
-    → OnlyEnds (script_texts x suite) known ending → EndsRun files suite known old new ending
+pub run_played : (files : RunFiles) (suite : List ℕ) (x : Texts) (known old new : Option (List ℕ)) (ending : Ending) → AreTextsOf files x → PlayEnds files.builders x suite known old new ending
+    → OnlyPlayEnds files.builders x suite known ending → EndsRun files suite known old new ending
 run_played files suite x known old new ending texts ends only = record {
   says = inr (inr (x, texts, ends));
-  only = λ y files-are. subst (λ z. OnlyEnds (script_texts z suite) known ending) (sym (same_texts files y x files-are texts)) only;
+  only = λ y files-are. subst (λ z. OnlyPlayEnds files.builders z suite known ending) (sym (same_texts files y x files-are texts)) only;
 }

@@ -19,7 +19,7 @@ use Rattle.transdesk.specs.declared.file_texts.FileFault.{FileFault}
 use Rattle.transdesk.specs.declared.role.Role.{Role}
 use Rattle.transdesk.specs.declared.role.Role.TheVariants.{Archs}
 use Rattle.transdesk.specs.Roles.{role_of_fault}
-use Rattle.transdesk.specs.declared.input_fault.InputFault.TheVariants.{TooLong, NotText, Simulation, Table, Archive, State, NoSuchRow, Tracker, Journal}
+use Rattle.transdesk.specs.declared.input_fault.InputFault.TheVariants.{TooLong, NotText, Simulation, Table, Archive, State, NoSuchRow, Tracker, BadOutcome, Journal}
 use Rattle.transdesk.specs.declared.ending.Ending.{Ending}
 use Rattle.transdesk.specs.declared.ending.Ending.TheVariants.{Done, Refused, BadInput, NoMemory, CannotRead, CannotWrite}
 use Rattle.transdesk.specs.Ending.{ending_of_archive, ending_of_file}
@@ -77,6 +77,7 @@ IsNoArchive a p s (BadInput role (Archive e)) = (role ≡ role_of_fault e) × ((
 IsNoArchive a p s (BadInput role (State e)) = ⊥
 IsNoArchive a p s (BadInput role NoSuchRow) = ⊥
 IsNoArchive a p s (BadInput role (Tracker e)) = ⊥
+IsNoArchive a p s (BadInput role (BadOutcome n)) = ⊥
 IsNoArchive a p s (BadInput role (Journal e)) = ⊥
 IsNoArchive a p s NoMemory = Unit {0}
 IsNoArchive a p s (CannotRead role) = ⊥

@@ -151,6 +151,7 @@ HasFileFault files role (Archive archive.NoMemory) = ⊥
 HasFileFault files role (fault.State e) = ⊥
 HasFileFault files role fault.NoSuchRow = ⊥
 HasFileFault files role (fault.Tracker e) = ⊥
+HasFileFault files role (fault.BadOutcome n) = ⊥
 HasFileFault files role (fault.Journal e) = ⊥
 HasFileFault files role (Archive e) = (role ≡ role_of_fault e) × HasArchiveFault files e
 

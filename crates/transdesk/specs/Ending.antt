@@ -22,7 +22,7 @@ use Rattle.transdesk.specs.declared.role.Role.{Role}
 use Rattle.transdesk.specs.declared.role.Role.TheVariants as role
 use Rattle.transdesk.specs.Roles.{label_of, role_of_fault}
 use Rattle.transdesk.specs.declared.input_fault.InputFault.{InputFault}
-use Rattle.transdesk.specs.declared.input_fault.InputFault.TheVariants.{TooLong, NotText, Simulation, Table, Archive, State, NoSuchRow, Tracker, Journal}
+use Rattle.transdesk.specs.declared.input_fault.InputFault.TheVariants.{TooLong, NotText, Simulation, Table, Archive, State, NoSuchRow, Tracker, BadOutcome, Journal}
 use Rattle.transdesk.specs.declared.ending.Ending.{Ending}
 use Rattle.transdesk.specs.declared.ending.Ending.TheVariants.{Done, Refused, BadInput, NoMemory, CannotRead, CannotWrite}
 
@@ -103,6 +103,7 @@ input_fault_name (Archive e) = archive_fault.name_of e
 input_fault_name (State e) = state_fault_name e
 input_fault_name NoSuchRow = codes "NoSuchRow"
 input_fault_name (Tracker e) = tracker_fault.fault_name e
+input_fault_name (BadOutcome n) = codes "BadLine"
 input_fault_name (Journal e) = journal_fault_name e
 
 -- the status; 3 is for words that ask for nothing that can be done

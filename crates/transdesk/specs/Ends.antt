@@ -30,6 +30,7 @@ HasFault input (refused.Archive e) = ⊥
 HasFault input (refused.State e) = ⊥
 HasFault input refused.NoSuchRow = ⊥
 HasFault input (refused.Tracker e) = ⊥
+HasFault input (refused.BadOutcome n) = ⊥
 HasFault input (refused.Journal e) = ⊥
 
 -- these rows and steps were read, from all that the reader had

@@ -85,4 +85,5 @@ place_of (refused.Archive e) = place_in_index e
 place_of (refused.State e) = place_in_state e
 place_of refused.NoSuchRow = Whole
 place_of (refused.Tracker e) = place_in_tracker e
+place_of (refused.BadOutcome n) = Line n
 place_of (refused.Journal e) = place_in_journal e

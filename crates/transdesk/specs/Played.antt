@@ -52,6 +52,7 @@ IsNoSimulation text (refused.Archive e) = ⊥
 IsNoSimulation text (refused.State e) = ⊥
 IsNoSimulation text refused.NoSuchRow = ⊥
 IsNoSimulation text (refused.Tracker e) = ⊥
+IsNoSimulation text (refused.BadOutcome n) = ⊥
 IsNoSimulation text (refused.Journal e) = ⊥
 
 -- what an ending says of a text: it was read, so no read has failed

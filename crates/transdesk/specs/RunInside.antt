@@ -8,11 +8,12 @@ use Rattle.transdesk.specs.declared.file_texts.FileFault.{FileFault}
 use Rattle.transdesk.specs.declared.run_files.RunPaths.{RunPaths}
 use Rattle.transdesk.specs.declared.run_files.RunTexts.{RunTexts}
 use Rattle.transdesk.specs.Limits.{file_limit}
-use Rattle.transdesk.specs.Runs.{AreTextsOf, FailsAt, RunFiles, Texts, run_files, script_texts}
+use Rattle.td_crew.specs.CrewEnds.{outcomes_of}
+use Rattle.transdesk.specs.Runs.{AreTextsOf, FailsAt, RunFiles, Texts, crew_size, outcome_lines, run_files, script_texts}
 
 -- the files of these paths
 abbrev pub run_files_at : (List ℕ → Option (List ℕ)) → (List ℕ → TextFault → Bool) → RunPaths → RunFiles
-run_files_at bytes can_fail p = run_files bytes can_fail p.archs.now p.packages.now p.sources.now (option_map (λ s. s.now) p.state) (option_map (λ s. s.now) p.tracker) (option_map (λ s. s.now) p.outcomes) (option_map (λ s. s.now) p.journal)
+run_files_at bytes can_fail p = run_files bytes can_fail p.archs.now p.packages.now p.sources.now (option_map (λ s. s.now) p.state) (option_map (λ s. s.now) p.tracker) (option_map (λ s. s.now) p.outcomes) (option_map (λ s. s.now) p.journal) p.builders
 
 -- the texts that were read
 abbrev pub run_texts_of : RunTexts → Texts
@@ -37,6 +38,8 @@ HasRunFailed files f = FailsAt files f.role f.fault
 abbrev pub IsWithinLimit : RunTexts → Type 0
 IsWithinLimit x = length (string_bytes x.indices.archs) ≤ file_limit
 
--- a script's inputs have these texts
-abbrev pub AreInputsOf : Texts → List ℕ → Inputs → Type 0
-AreInputsOf x suite inputs = script.texts_of inputs ≡ script_texts x suite
+-- a script's inputs have these texts, and so many builders
+pub record AreInputsOf (x : Texts) (suite : List ℕ) (builders : ℕ) (inputs : Inputs) : Type 0 where
+  pub texts : script.texts_of inputs ≡ script_texts x suite
+  pub outcomes : outcomes_of inputs ≡ outcome_lines x
+  pub crew : inputs.builders ≡ crew_size builders

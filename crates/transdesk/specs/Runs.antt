@@ -1,7 +1,13 @@
 -- What `run` leaves on standard output, as it ends. This project's own.
-use Rattle.std.specs.Prelude.{◌≡◌, ◌⊎◌, ℕ, ◌==◌, Bool, List, Option, Result, Ok, Err, Some, option_map, if◌then◌else◌}
+use Rattle.std.specs.Prelude.{◌≡◌, ◌⊎◌, ℕ, ◌==◌, min, Bool, List, [], Option, Result, Ok, Err, Some, MatchBool, option_map, unwrap_or, if◌then◌else◌}
 use Rattle.std.specs.Io.KnownBytes.{Keeps}
 use Rattle.td_bytes.specs.declared.text.TextFault.{TextFault}
+use Rattle.td_text.specs.Lines.{lines_of}
+use Rattle.td_builder.specs.OutcomeLines.{ended}
+use Rattle.td_crew.specs.CrewEnds.{AreRead, CrewSays}
+use Rattle.td_crew.specs.CrewText.{crew_tells}
+use Rattle.td_crew.specs.declared.running.CrewFault.{CrewFault}
+use Rattle.td_crew.specs.declared.running.CrewFault.TheVariants as crew
 use Rattle.td_query.specs.declared.tracker_fault.TrackerFault.{TrackerFault}
 use Rattle.td_script.specs.Ends.{IsScriptText, Says}
 use Rattle.td_script.specs.Openings as script
@@ -13,7 +19,7 @@ use Rattle.td_script.specs.declared.running.ScriptEnd.{ScriptEnd}
 use Rattle.td_words.specs.CommandLine.{RunWords}
 use Rattle.transdesk.specs.declared.role.Role.{Role}
 use Rattle.transdesk.specs.declared.role.Role.TheVariants.{Input, Archs, Packages, Sources, State, Tracker, Outcomes, Journal}
-use Rattle.transdesk.specs.declared.input_fault.InputFault.TheVariants.{TooLong, NotText}
+use Rattle.transdesk.specs.declared.input_fault.InputFault.TheVariants.{TooLong, NotText, BadOutcome}
 use Rattle.transdesk.specs.declared.ending.Ending.{Ending}
 use Rattle.transdesk.specs.declared.ending.Ending.TheVariants.{Done, Refused, BadInput, NoMemory, CannotRead, CannotWrite}
 use Rattle.transdesk.specs.Ending.{ending_of_archive, ending_of_file, ending_of_journal, ending_of_missing_row, ending_of_state, ending_of_table, ending_of_tracker}
@@ -22,27 +28,29 @@ use Rattle.transdesk.specs.Tracks.{IsKnownIfGiven, IsKnownText, IsTextIfGiven, M
 
 -- ---- 1. what is read
 
--- the files of an archive, and those that may be given beside it
+-- the files of an archive, those that may be given beside it, and how many builders are asked for
 pub record RunFiles : Type 0 where
   pub indices : Files
   pub state : Option OneFile
   pub tracker : Option OneFile
   pub outcomes : Option OneFile
   pub journal : Option OneFile
+  pub builders : ℕ
 
 -- those of these paths
-abbrev pub run_files : (List ℕ → Option (List ℕ)) → (List ℕ → TextFault → Bool) → List ℕ → List ℕ → List ℕ → Option (List ℕ) → Option (List ℕ) → Option (List ℕ) → Option (List ℕ) → RunFiles
-run_files bytes can_fail archs packages sources state tracker outcomes journal = record {
+abbrev pub run_files : (List ℕ → Option (List ℕ)) → (List ℕ → TextFault → Bool) → List ℕ → List ℕ → List ℕ → Option (List ℕ) → Option (List ℕ) → Option (List ℕ) → Option (List ℕ) → ℕ → RunFiles
+run_files bytes can_fail archs packages sources state tracker outcomes journal builders = record {
   indices = files_of bytes can_fail archs packages sources;
   state = option_map (file_at bytes can_fail) state;
   tracker = option_map (file_at bytes can_fail) tracker;
   outcomes = option_map (file_at bytes can_fail) outcomes;
   journal = option_map (file_at bytes can_fail) journal;
+  builders = builders;
 }
 
 -- those that the words name
 abbrev pub run_files_asked : (List ℕ → Option (List ℕ)) → (List ℕ → TextFault → Bool) → RunWords → RunFiles
-run_files_asked bytes can_fail w = run_files bytes can_fail w.archs w.packages w.sources w.state w.tracker w.outcomes w.journal
+run_files_asked bytes can_fail w = run_files bytes can_fail w.archs w.packages w.sources w.state w.tracker w.outcomes w.journal w.builders
 
 -- what such files hold
 pub record Texts : Type 0 where
@@ -125,12 +133,36 @@ ScriptEnds x suite known old new ending =
     ((ending ≡ NoMemory) × Keeps old new)
     ⊎ ((r : Result ScriptEnd RunFault) × Says (script_texts x suite) known old new r × (ending ≡ ending_of_script r))
 
+-- by how a crew's script ended: as a script, or refused for a line of the outcomes
+abbrev pub ending_of_crew : Result ScriptEnd CrewFault → Ending
+ending_of_crew (Ok end) = ending_of_script (Ok end)
+ending_of_crew (Err (crew.Run e)) = ending_of_stop e
+ending_of_crew (Err (crew.BadOutcome line)) = BadInput Outcomes (BadOutcome line)
+
+-- the lines that say how builds end, none where no file is given
+abbrev pub outcome_lines : Texts → List (List ℕ)
+outcome_lines x = ended (lines_of (unwrap_or x.outcomes []))
+
+-- how many builders a crew has of those that are asked for
+abbrev pub crew_size : ℕ → ℕ
+crew_size n = min n 64
+
+-- over these texts a crew's script ends so, and so does the run; or memory runs out, and nothing is written
+abbrev pub CrewEnds : ℕ → Texts → List ℕ → Option (List ℕ) → Option (List ℕ) → Option (List ℕ) → Ending → Type 0
+CrewEnds n x suite known old new ending =
+    ((ending ≡ NoMemory) × Keeps old new)
+    ⊎ ((r : Result ScriptEnd CrewFault) × CrewSays (crew_tells (crew_size n)) (script_texts x suite) (outcome_lines x) known old new r × (ending ≡ ending_of_crew r))
+
+-- a script is answered by a clerk alone, or with builders by a crew
+abbrev pub PlayEnds : ℕ → Texts → List ℕ → Option (List ℕ) → Option (List ℕ) → Option (List ℕ) → Ending → Type 0
+PlayEnds n x suite known old new ending = MatchBool (n == 0) (ScriptEnds x suite known old new ending) (CrewEnds n x suite known old new ending)
+
 -- memory runs out, or a file isn't read, and nothing is written; or the script ends it
 abbrev pub RunSays : RunFiles → List ℕ → Option (List ℕ) → Option (List ℕ) → Option (List ℕ) → Ending → Type 0
 RunSays files suite known old new ending =
     ((ending ≡ NoMemory) × Keeps old new)
     ⊎ ((IsUnread files ending × Keeps old new)
-    ⊎ ((x : Texts) × AreTextsOf files x × ScriptEnds x suite known old new ending))
+    ⊎ ((x : Texts) × AreTextsOf files x × PlayEnds files.builders x suite known old new ending))
 
 -- ---- 3. what can't be refused
 
@@ -157,7 +189,15 @@ MayEnd tracker CannotWrite = Unit {0}
 abbrev pub OnlyEnds : script.Texts → Option (List ℕ) → Ending → Type 0
 OnlyEnds x known ending = (text : List ℕ) → known ≡ Some text → IsScriptText text → script.AreReadable x → MayEnd x.tracker ending
 
+-- the same of a crew, where the lines of outcomes are some
+abbrev pub OnlyCrewEnds : script.Texts → List (List ℕ) → Option (List ℕ) → Ending → Type 0
+OnlyCrewEnds x lines known ending = (text : List ℕ) → known ≡ Some text → IsScriptText text → AreRead lines → script.AreReadable x → MayEnd x.tracker ending
+
+-- by whether there are builders
+abbrev pub OnlyPlayEnds : ℕ → Texts → List ℕ → Option (List ℕ) → Ending → Type 0
+OnlyPlayEnds n x suite known ending = MatchBool (n == 0) (OnlyEnds (script_texts x suite) known ending) (OnlyCrewEnds (script_texts x suite) (outcome_lines x) known ending)
+
 -- a run over these files ends so: the ending is as it says, and a script over readable texts is answered
 pub record EndsRun (files : RunFiles) (suite : List ℕ) (known old new : Option (List ℕ)) (ending : Ending) : Type 0 where
   pub says : RunSays files suite known old new ending
-  pub only : (x : Texts) → AreKnownTexts files x → OnlyEnds (script_texts x suite) known ending
+  pub only : (x : Texts) → AreKnownTexts files x → OnlyPlayEnds files.builders x suite known ending

@@ -19,7 +19,7 @@ use Rattle.td_journal.specs.declared.journal_fault.ReadError.TheVariants as jour
 use Rattle.td_simulate.specs.declared.fault.SimulationFault.{SimulationFault}
 use Rattle.td_simulate.specs.declared.fault.SimulationFault.TheVariants as simulation
 use Rattle.transdesk.specs.declared.input_fault.InputFault.{InputFault}
-use Rattle.transdesk.specs.declared.input_fault.InputFault.TheVariants.{TooLong, NotText, Simulation, Table, Archive, State, NoSuchRow, Tracker, Journal}
+use Rattle.transdesk.specs.declared.input_fault.InputFault.TheVariants.{TooLong, NotText, Simulation, Table, Archive, State, NoSuchRow, Tracker, BadOutcome, Journal}
 
 -- of the rows of a state file, or of the opening rows
 abbrev pub wanted_state : StateFault → List ℕ
@@ -96,4 +96,5 @@ wanted_input (Archive e) = wanted_archive e
 wanted_input (State e) = wanted_state e
 wanted_input NoSuchRow = codes "rows that the indices give"
 wanted_input (Tracker e) = wanted_tracker e
+wanted_input (BadOutcome n) = codes "how a build ends, as KEY OUTCOME"
 wanted_input (Journal e) = wanted_journal e

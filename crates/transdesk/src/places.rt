@@ -106,6 +106,7 @@ pub fn place_of(fault: InputFault) -> Place
         InputFault::Archive(fault) => place_in_index(fault),
         InputFault::State(fault) => place_in_state(fault),
         InputFault::Tracker(fault) => place_in_tracker(fault),
+        InputFault::BadOutcome(n) => Place::Line(n),
         InputFault::Journal(fault) => place_in_journal(fault),
     }
 }

@@ -21,6 +21,8 @@ pub struct RunPaths<'w> {
     pub outcomes: Option<&'w str>,
     /// The journal that is gone on with.
     pub journal: Option<&'w str>,
+    /// How many builders are asked for.
+    pub builders: usize,
 }
 
 /// What they hold.

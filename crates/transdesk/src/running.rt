@@ -1,6 +1,6 @@
 //! The subcommand `run`: a script over the rows of an archive.
 ghost use Rattle.std.specs.Prelude.{◌≡◌, ◌≤◌, IfOk};
-ghost use Rattle.transdesk.specs.Runs.{EndsRun, OnlyEnds, ScriptEnds, script_texts, ending_of_input as ending_of_input_as, ending_of_script as ending_of_script_as, ending_of_stop as ending_of_stop_as};
+ghost use Rattle.transdesk.specs.Runs.{EndsRun, OnlyPlayEnds, PlayEnds, ending_of_crew as ending_of_crew_as, ending_of_input as ending_of_input_as, ending_of_script as ending_of_script_as, ending_of_stop as ending_of_stop_as};
 ghost use Rattle.transdesk.specs.RunInside.{AreInputsOf, IsWithinLimit, run_files_at, run_texts_of};
 
 use crate::ending::{
@@ -13,7 +13,10 @@ use crate::run_files::{RunPaths, RunTexts, read_run_files};
 use crate::texts::Texts;
 use std::alloc::{AllocError, Global};
 use std::io::{Read, Write};
-use td_script::{InputFault as Refusal, Inputs, RunFault, ScriptEnd, run_script};
+use std::sync::Wait;
+use std::thread::Threads;
+use td_crew::{CrewFault, run_crew};
+use td_script::{InputFault as Refusal, Inputs, MAX_BUILDERS, RunFault, ScriptEnd, run_script};
 
 // How a run ends where a text is refused.
 fn ending_of_input(fault: Refusal) -> Ending
@@ -54,10 +57,28 @@ fn ending_of_script(end: Result<ScriptEnd, RunFault>) -> Ending
     }
 }
 
+// How a run ends by how its crew did.
+fn ending_of_crew(end: Result<ScriptEnd, CrewFault>) -> Ending
+    ensures { result ≡ ending_of_crew_as end }
+{
+    match end {
+        Ok(end) => ending_of_script(Ok(end)),
+        Err(CrewFault::Run(fault)) => ending_of_stop(fault),
+        Err(CrewFault::BadOutcome(line)) => {
+            Ending::BadInput(Role::Outcomes, InputFault::BadOutcome(line))
+        }
+    }
+}
+
 // What the script runs over.
-fn inputs_of(alloc: Global, texts: RunTexts, suite: &str) -> Result<Inputs, AllocError>
+fn inputs_of(
+    alloc: Global,
+    texts: RunTexts,
+    suite: &str,
+    builders: usize,
+) -> Result<Inputs, AllocError>
     requires { IsWithinLimit texts }
-    ensures { IfOk result (AreInputsOf (run_texts_of texts) suite.now) }
+    ensures { IfOk result (AreInputsOf (run_texts_of texts) suite.now builders) }
 {
     Ok(Inputs {
         archs: texts.indices.archs,
@@ -68,33 +89,40 @@ fn inputs_of(alloc: Global, texts: RunTexts, suite: &str) -> Result<Inputs, Allo
         journal: texts.journal,
         suite: String::from_str(alloc, suite)?,
         outcomes: texts.outcomes,
-        builders: 0,
+        builders: builders.min(MAX_BUILDERS),
     })
 }
 
 // How the script ends that the reader has, over what was read of the files.
 fn play<R: Read, W: Write>(
+    rt: &(impl Threads + Wait + Sync),
     alloc: Global,
     texts: RunTexts,
     suite: &str,
+    builders: usize,
     reader: &mut R,
     output: &mut W,
 ) -> Ending
     requires { IsWithinLimit texts }
-    ensures says { ScriptEnds (run_texts_of texts) suite.now
+    ensures says { PlayEnds builders (run_texts_of texts) suite.now
         (R.remaining reader.old) (W.contents output.old) (W.contents output.new) result }
-    ensures only { OnlyEnds (script_texts (run_texts_of texts) suite.now)
+    ensures only { OnlyPlayEnds builders (run_texts_of texts) suite.now
         (R.remaining reader.old) result }
 {
-    match inputs_of(alloc, texts, suite) {
-        Ok(inputs) => ending_of_script(run_script(alloc, &inputs, reader, output)),
-        Err(_) => Ending::NoMemory,
+    let Ok(inputs) = inputs_of(alloc, texts, suite, builders) else {
+        return Ending::NoMemory;
+    };
+    if builders == 0 {
+        ending_of_script(run_script(alloc, &inputs, reader, output))
+    } else {
+        ending_of_crew(run_crew(rt, alloc, &inputs, reader, output))
     }
 }
 
 /// Answers the script that the reader has, over the files with these paths. The files are read
 /// before the script, and all of it before anything is written.
 pub fn run<T: Texts, R: Read, W: Write>(
+    rt: &(impl Threads + Wait + Sync),
     alloc: Global,
     texts: &T,
     paths: &RunPaths<'_>,
@@ -107,7 +135,7 @@ pub fn run<T: Texts, R: Read, W: Write>(
         (R.remaining reader.old) (W.contents output.old) (W.contents output.new) result }
 {
     match read_run_files(alloc, texts, paths) {
-        Ok(read) => play(alloc, read, suite, reader, output),
+        Ok(read) => play(rt, alloc, read, suite, paths.builders, reader, output),
         Err(unread) => ending_of_file(unread.role, unread.fault),
     }
 }

@@ -25,6 +25,7 @@ use crate::tracking::{Asked, track};
 use std::alloc::Global;
 use std::io;
 use std::io::{ErrorKind, Read, Write};
+use std::sync::Wait;
 use std::thread::Threads;
 use td_bytes::write_whole;
 use td_words::{Call, Request, WordsFault, read_words};
@@ -59,7 +60,7 @@ fn tell_fault<E: Write>(fault: &WordsFault, faults: &mut E) -> u8
 
 // Tells what a tracker says, by the paths that the words gave.
 fn do_track<T: Texts, W: Write>(
-    rt: &(impl Threads + Sync),
+    rt: &(impl Threads + Wait + Sync),
     alloc: Global,
     texts: &T,
     archs: &String,
@@ -88,6 +89,7 @@ fn do_track<T: Texts, W: Write>(
 
 // Runs a script over the files with the paths that the words gave.
 fn do_run<T: Texts, R: Read, W: Write>(
+    rt: &(impl Threads + Wait + Sync),
     alloc: Global,
     texts: &T,
     archs: &String,
@@ -98,6 +100,7 @@ fn do_run<T: Texts, R: Read, W: Write>(
     outcomes: &Option<String>,
     journal: &Option<String>,
     suite: &String,
+    builders: usize,
     reader: &mut R,
     output: &mut W,
 ) -> Ending
@@ -105,7 +108,7 @@ fn do_run<T: Texts, R: Read, W: Write>(
         (run_files (T.bytes texts.now) (T.can_fail texts.now) (string_bytes archs.now)
         (string_bytes packages.now) (string_bytes sources.now) (option_map string_bytes state.now)
         (option_map string_bytes tracker.now) (option_map string_bytes outcomes.now)
-        (option_map string_bytes journal.now)) (string_bytes suite.now)
+        (option_map string_bytes journal.now) builders) (string_bytes suite.now)
         (R.remaining reader.old) (W.contents output.old) (W.contents output.new) result }
 {
     let paths = RunPaths {
@@ -116,13 +119,14 @@ fn do_run<T: Texts, R: Read, W: Write>(
         tracker: given(tracker),
         outcomes: given(outcomes),
         journal: given(journal),
+        builders,
     };
-    run(alloc, texts, &paths, suite.as_str(), reader, output)
+    run(rt, alloc, texts, &paths, suite.as_str(), reader, output)
 }
 
 // Does what was asked for.
 fn do_request<T: Texts, R: Read, W: Write>(
-    rt: &(impl Threads + Sync),
+    rt: &(impl Threads + Wait + Sync),
     alloc: Global,
     request: &Request,
     texts: &T,
@@ -183,12 +187,12 @@ fn do_request<T: Texts, R: Read, W: Write>(
             state,
             tracker,
             suite,
-            builders: _,
+            builders,
             outcomes,
             journal,
         } => do_run(
-            alloc, texts, archs, packages, sources, state, tracker, outcomes, journal, suite,
-            reader, output,
+            rt, alloc, texts, archs, packages, sources, state, tracker, outcomes, journal, suite,
+            *builders, reader, output,
         )
         .alone(),
     }
@@ -196,7 +200,7 @@ fn do_request<T: Texts, R: Read, W: Write>(
 
 // Does what the words were read as.
 fn act<T: Texts, R: Read, W: Write, E: Write>(
-    rt: &(impl Threads + Sync),
+    rt: &(impl Threads + Wait + Sync),
     alloc: Global,
     asked: Result<Call, WordsFault>,
     texts: &T,
@@ -223,7 +227,7 @@ fn act<T: Texts, R: Read, W: Write, E: Write>(
 
 // Does what the words ask for.
 fn answer<T: Texts, R: Read, W: Write, E: Write>(
-    rt: &(impl Threads + Sync),
+    rt: &(impl Threads + Wait + Sync),
     alloc: Global,
     words: &[String],
     texts: &T,
@@ -282,7 +286,7 @@ fn answer<T: Texts, R: Read, W: Write, E: Write>(
 /// Does what the words ask for, and answers the program's status. The first word is the program's
 /// own name. What can't be written to `faults` is left.
 pub fn tool<T: Texts, R: Read, W: Write, E: Write>(
-    rt: &(impl Threads + Sync),
+    rt: &(impl Threads + Wait + Sync),
     alloc: Global,
     words: io::Result<Vec<String>>,
     texts: &T,

@@ -134,6 +134,7 @@ pub fn wanted(fault: InputFault) -> &'static str
         InputFault::State(fault) => wanted_state(fault),
         InputFault::NoSuchRow => "rows that the indices give",
         InputFault::Tracker(fault) => wanted_tracker(fault),
+        InputFault::BadOutcome(_) => "how a build ends, as KEY OUTCOME",
         InputFault::Journal(fault) => wanted_journal(fault),
     }
 }

@@ -1,6 +1,6 @@
 use Rattle.std.proofs.Common.{◌∙◌, rules}
 use Rattle.td_script.proofs.OpeningLaws.{fresh_supply, stock-opened, told_from}
-use Rattle.td_script.proofs.opening.tell_in.Goals as goal
+use Rattle.td_script.proofs.staff.AloneStaff.tell.Goals as goal
 
 pub begin-requires-clause-fresh_supply : goal.begin-requires-clause-fresh_supply
 begin-requires-clause-fresh_supply g c = fresh_supply _ _ c.in-Ok-supply.ensures

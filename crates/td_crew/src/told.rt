@@ -1,0 +1,72 @@
+//! What is told of a script at a desk: the answers to its lines, one after the other.
+ghost use Rattle.std.specs.Prelude.{◌+◌, ◌-◌, ◌≤◌, ◌<◌, ◌^◌, IfOk, OnOk, length};
+
+use crate::dispatch::answer;
+use crate::reporting::Reporting;
+use std::alloc::{AllocError, Global};
+use std::sync::Wait;
+use std::sync::ledger::Ledger;
+use td_desk::{Clerk, Desk, Named};
+use td_relation::Archs;
+use td_script::{Reports, Told};
+use td_text::next_line;
+
+// One line more.
+fn add_line<N: Named, C: Ledger, T: Reports, R: Wait>(
+    rt: &R,
+    alloc: Global,
+    desk: &Desk<'_, N, C>,
+    clerk: &mut Clerk<C>,
+    archs: &Archs<'_>,
+    suites: &[&str],
+    reporting: &Reporting<'_, T>,
+    line: &str,
+    told: &mut Told,
+) -> Result<(), AllocError>
+    requires room { told.old.refused < 2 ^ 63 }
+    ensures { OnOk result (told.new.refused ≤ told.old.refused + 1) }
+{
+    if answer(
+        rt,
+        alloc,
+        desk,
+        clerk,
+        archs,
+        suites,
+        reporting,
+        line,
+        &mut told.text,
+    )? {
+        told.refused += 1;
+    }
+    Ok(())
+}
+
+/// Answers the lines of a script, one after the other.
+pub fn tell_lines<N: Named, C: Ledger, T: Reports, R: Wait>(
+    rt: &R,
+    alloc: Global,
+    desk: &Desk<'_, N, C>,
+    clerk: &mut Clerk<C>,
+    archs: &Archs<'_>,
+    suites: &[&str],
+    reporting: &Reporting<'_, T>,
+    script: &str,
+) -> Result<Told, AllocError>
+    requires small { length script.now < 2 ^ 63 - 1 }
+    ensures { IfOk result (λ told. told.refused ≤ length script.now + 1) }
+{
+    let mut told = Told {
+        text: String::new(alloc),
+        refused: 0,
+    };
+    let mut rest = Some(script);
+    while let Some(lines) = rest {
+        let (line, after) = next_line(lines);
+        add_line(
+            rt, alloc, desk, clerk, archs, suites, reporting, line, &mut told,
+        )?;
+        rest = after;
+    }
+    Ok(told)
+}
