@@ -8,8 +8,9 @@ use std::test::Fail;
 use std::thread::Threads;
 use td_book::Job;
 use td_builder::Builds;
+use td_journal::ReadError;
 use td_rows::Outcome;
-use td_script::{Inputs, RunFault, ScriptEnd};
+use td_script::{InputFault, Inputs, RunFault, ScriptEnd};
 
 const ARCHS: &str = "amd64 linux amd64\ni386 linux i386\n";
 
@@ -167,6 +168,45 @@ fn a_bad_outcome_is_told_by_its_line(rt: HostRuntime) -> Result<(), Fail> {
     Ok(())
 }
 
+// A claim that nobody ended.
+const CLAIMED: &str = "\
+transdesk journal 1
+1 + nmu foo/amd64
+2 + claim=1 foo/amd64
+";
+
+#[test]
+fn a_crew_goes_on_with_a_journal(rt: HostRuntime) -> Result<(), Fail> {
+    let mut inputs = inputs(rt.alloc(), "", "foo/amd64 waits : libbar-dev\n", 1)?;
+    inputs.journal = Some(String::from_str(rt.alloc(), CLAIMED)?);
+    let (end, written) = told(&rt, rt.alloc(), &inputs, "entry 3\n");
+    assert_eq!(rt; end, Ok(ScriptEnd { refusals: 0 }));
+    assert_eq!(rt;
+        written.as_slice(),
+        "\
+3 + givenback=1 foo/amd64
+rows
+bar/amd64 Installed 0 0
+bar/i386 Installed 0 0
+foo/amd64 Dep-Wait 0 1 : libbar-dev
+foo/i386 Installed 0 1
+"
+            .as_bytes()
+    );
+    Ok(())
+}
+
+#[test]
+fn a_crew_goes_on_with_no_other_text(rt: HostRuntime) -> Result<(), Fail> {
+    let mut inputs = inputs(rt.alloc(), "", "", 1)?;
+    inputs.journal = Some(String::from_str(rt.alloc(), "foo\n")?);
+    let (end, written) = told(&rt, rt.alloc(), &inputs, "entry 3\n");
+    let refused = RunFault::Input(InputFault::Journal(ReadError::BadHeader));
+    assert_eq!(rt; end, Err(CrewFault::Run(refused)));
+    assert_eq!(rt; written.len(), 0);
+    Ok(())
+}
+
 // How many turns a build waits for another.
 const MOST_TURNS: u32 = 100_000_000;
 
@@ -207,7 +247,7 @@ fn told_together<R: Threads + Wait + Sync>(
 }
 
 #[test]
-fn crew_overlaps(rt: HostRuntime) -> Result<(), Fail> {
+fn two_builds_of_a_crew_overlap(rt: HostRuntime) -> Result<(), Fail> {
     let inputs = inputs(rt.alloc(), "", "", 2)?;
     let (end, written) = told_together(&rt, rt.alloc(), &inputs, "nmu foo . ANY\n");
     assert_eq!(rt; end, Ok(ScriptEnd { refusals: 0 }));
