@@ -54,6 +54,7 @@ impl<'c, R, B> Crew<'c, R, B> {
 // What a clerk is asked for.
 #[derive(Drop)]
 struct Asked<'s, T: Reports> {
+    journal: Option<&'s str>,
     suites: &'s [&'s str],
     reporting: Reporting<'s, T>,
     script: &'s str,
@@ -212,7 +213,6 @@ fn tell_named<
     rows: Rows,
     supply: Supply<'_>,
     blank: Blank,
-    journal: Option<&str>,
     builds: &B,
     archs: &Archs<'_>,
     asked: &Asked<'_, T>,
@@ -222,17 +222,18 @@ fn tell_named<
     requires seats { All (λ s. s.table ≡ N.table) seats.items }
     requires few { length seats.items ≤ 64 }
     requires origin { N.origin ≡ rows }
-    requires opened { N.opened ≡ marks_begun (option_map (λ s. s.now) journal) }
+    requires opened { N.opened ≡ marks_begun (option_map (λ s. s.now) asked.now.journal) }
     requires fresh_seat { seat.desk ≡ new_desk (length rows) (length seat.desk.noted) }
     requires idle { NoneBuilt rows }
     requires fresh_supply { supply ≡ opened (stock_of supply) }
     requires ledger { (blank.name ≡ C.name) × (blank.parts ≡ C.parts) × (blank.parts ≡ 1024) }
     requires small { length asked.now.script.now < 2 ^ 63 - 1 }
-    ensures begun { OnOk result (HasBegun (option_map (λ s. s.now) journal.entry) rows) }
+    ensures begun { OnOk result (HasBegun (option_map (λ s. s.now) asked.now.journal) rows) }
     ensures told { IfOk result (λ told. EndsWithRows (length seats.items) rows asked.now.script.now (string_bytes told.text) told.refused) }
-    ensures fault { IfErr result (IsJournalFault rows (option_map (λ s. s.now) journal.entry)) }
-    ensures only { IfErr result (λ fault. IsJournalIfGiven rows (option_map (λ s. s.now) journal.entry) → fault ≡ ReadError.NoMemory) }
+    ensures fault { IfErr result (IsJournalFault rows (option_map (λ s. s.now) asked.now.journal)) }
+    ensures only { IfErr result (λ fault. IsJournalIfGiven rows (option_map (λ s. s.now) asked.now.journal) → fault ≡ ReadError.NoMemory) }
 {
+    let journal = asked.journal;
     let (desk, clerk) = match begin::<N, C>(alloc, board, seat, rows, supply, blank, journal) {
         Ok(made) => made,
         Err(fault) => return Err(fault),
@@ -266,6 +267,7 @@ impl<'c, R: Threads + Wait + Sync, B: Builds + Sync> Staff for Crew<'c, R, B> {
         };
         let suites = [suite];
         let asked = Asked {
+            journal,
             suites: suites.as_slice(),
             reporting: Reporting::new(reports),
             script,
@@ -279,7 +281,6 @@ impl<'c, R: Threads + Wait + Sync, B: Builds + Sync> Staff for Crew<'c, R, B> {
             rows,
             supply,
             Blank::new(PARTS),
-            journal,
             self.builds,
             archive.archs(),
             &asked,

@@ -22,6 +22,7 @@ use Rattle.transdesk.specs.Runs.{EndsRun, RunFiles, run_files_asked}
 use Rattle.transdesk.specs.Tracks.{EndsSo, Saying, TrackFiles, track_files}
 use Rattle.transdesk.specs.Ran.{Ran}
 use Rattle.transdesk.proofs.Stops.{kept_only}
+use Rattle.transdesk.proofs.SureRuns.{play_only}
 
 -- what holds of some paths holds of the same ones
 pub holds_of_three : (P : List ℕ → List ℕ → List ℕ → Type 0) (a b p q s t : List ℕ) → a ≡ b → p ≡ q → s ≡ t → P a p s → P b q t
@@ -62,7 +63,7 @@ track_lacks Says files explained texts old new before said status told =
 
 run_lacks : (files : RunFiles) (suite : List ℕ) (explained : Bool) (texts : Role → Option (List ℕ)) (known old new before said : Option (List ℕ)) (status : ℕ) → IsTold words_fault.NoMemory old new before said status → Ran (EndsRun files suite known old new) explained texts before said status
 run_lacks files suite explained texts known old new before said status told =
-    record { ending = NoMemory; answered = told.tells.answered; ends = record { says = inl (refl, told.kept); only = λ x files-are text is fits readable. tt }; says = memory_said explained texts before said told.tells.line }
+    record { ending = NoMemory; answered = told.tells.answered; ends = record { says = inl (refl, told.kept); only = λ x files-are. play_only files.builders x suite known NoMemory tt }; says = memory_said explained texts before said told.tells.line }
 
 simulation_lacks : (explained : Bool) (texts : Role → Option (List ℕ)) (known old new before said : Option (List ℕ)) (status : ℕ) → IsTold words_fault.NoMemory old new before said status → Ran (Ends known old new) explained texts before said status
 simulation_lacks explained texts known old new before said status told =

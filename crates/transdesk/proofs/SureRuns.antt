@@ -70,7 +70,7 @@ crew_only x y lines given known r ending same its only is =
     subst (OnlyCrewEnds x lines known) (sym is) (crew_ends x lines known r (subst (λ l. CrewOnly x l known r) its (subst (λ z. CrewOnly z given known r) same only)))
 
 -- whoever answers
-play_only : (n : ℕ) (x : Texts) (suite : List ℕ) (known : Option (List ℕ)) (ending : Ending) → MayEnd x.tracker ending → OnlyPlayEnds n x suite known ending
+pub play_only : (n : ℕ) (x : Texts) (suite : List ℕ) (known : Option (List ℕ)) (ending : Ending) → MayEnd x.tracker ending → OnlyPlayEnds n x suite known ending
 play_only n x suite known ending may = elim (n == 0) as (λ b. MatchBool b (OnlyEnds (script_texts x suite) known ending) (OnlyCrewEnds (script_texts x suite) (outcome_lines x) known ending)) [
   | true ↦ λ text is fits readable. may
   | false ↦ λ text is fits read readable. may
