@@ -1,11 +1,11 @@
 //! Crews: a script that a clerk answers at a desk, beside builders on threads of their own.
 //!
-//! Start at `run_crew_with`, over any way to build; `run_crew` builds by lines of a text. The script
-//! is read as `td_script` reads it, and each answer put in the same words; then the desk is shut,
-//! the builders are joined, the desk is closed, and the rows of its book are told.
-//! Promised: the faults of a script, where they are due; and that what is written ends with the rows
-//! of a lawful book over the rows from which the script starts. What stands before is tested alone:
-//! it hangs on who is first.
+//! Start at `run_crew_with`, over any way to build; `run_crew` builds by lines of a text. The
+//! script is read as `td_script` reads it, and each answer put in the same words; then the desk is
+//! shut, the builders are joined, the desk is closed, and the rows of its book are told.
+//! Promised: the faults of a script, where they are due; and that what is written ends with the
+//! rows of a lawful book over the rows from which the script starts. What stands before is tested
+//! alone: it hangs on who is first.
 #![tactic(auto)]
 
 mod answering;

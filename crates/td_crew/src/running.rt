@@ -18,13 +18,13 @@ use td_script::{Inputs, RunFault, ScriptEnd, judge, run_with};
 /// Why a run by lines of outcomes stopped.
 #[derive(Clone, Copy, Debug, PartialEq, Eq, Drop)]
 pub enum CrewFault {
-    /// The first line of the outcomes that isn't one. It comes behind the faults of the other files.
+    /// The first line of the outcomes that isn't one. The faults of the other files come before it.
     BadOutcome(usize),
     Run(RunFault),
 }
 
-/// Answers the script that the reader has, over what the inputs say, beside as many builders as they
-/// say. Then the desk is shut, the builders are joined, and the rows are told.
+/// Answers the script that the reader has, over what the inputs say, beside as many builders as
+/// they say. Then the desk is shut, the builders are joined, and the rows are told.
 /// All is read and answered before anything is written.
 pub fn run_crew_with<R: Read, W: Write, B: Builds + Sync, H: Threads + Wait + Sync>(
     rt: &H,

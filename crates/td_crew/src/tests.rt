@@ -1,5 +1,5 @@
-//! What no clause can say: which answers a crew writes, and that builders of a crew build at the same
-//! time. The archive and the answers are this project's worked examples.
+//! What no clause can say: which answers a crew writes, and that builders of a crew build at the
+//! same time. The archive and the answers are this project's worked examples.
 use crate::{CrewFault, run_crew, run_crew_with};
 use std::alloc::{AllocError, Global};
 use std::sync::Wait;
