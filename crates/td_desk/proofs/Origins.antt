@@ -1,5 +1,5 @@
 -- The rows with which a book was opened stay over every call of it.
-use Rattle.std.proofs.Common.{◌≡◌, ℕ, List, [], ◌∷◌, Option, Some, None, Result, Ok, Err, Bool, ap, ◌∙◌, filter}
+use Rattle.std.proofs.Common.{◌≡◌, ℕ, [], ◌∷◌, Option, Some, None, Result, Ok, Err, Bool, ap, ◌∙◌, filter}
 use Rattle.std.specs.Prelude.{IsSomeAnd}
 use Rattle.std.specs.declared.alloc.AllocError.{AllocError}
 use Rattle.td_board.specs.declared.outcome.OutcomeCode.{OutcomeCode}
@@ -27,7 +27,7 @@ use Rattle.td_book.specs.declared.undoing.UndoRefusal.{UndoRefusal}
 use Rattle.td_book.specs.declared.undoing.UndoRefusal.TheVariants as undos
 use Rattle.td_book.specs.Arriving.{ArriveOutcome, SweepOutcome}
 use Rattle.td_book.specs.Building.{StartOutcome, Noticed}
-use Rattle.td_book.specs.Calls.{CommandOutcome, noting, noting_one, off_for}
+use Rattle.td_book.specs.Calls.{CommandOutcome, noting_one, off_for}
 use Rattle.td_book.specs.Commands.{IsDone, is_matched_in, named_by}
 use Rattle.td_book.specs.Desk.{BookModel}
 use Rattle.td_book.specs.Finishing.{FinishHeld, FinishAgain, FinishOutcome}

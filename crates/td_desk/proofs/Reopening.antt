@@ -8,7 +8,6 @@ use Rattle.td_text.specs.Cut.{Without}
 use Rattle.td_text.proofs.Cut.{Without-right}
 use Rattle.td_text.proofs.Numbers.{Without-decimal}
 use Rattle.td_rows.specs.declared.key.Key.{Key}
-use Rattle.td_rows.specs.declared.row.Row.{Row}
 use Rattle.td_rows.specs.declared.state.State.{State}
 use Rattle.td_rows.specs.declared.state.State.TheVariants.{NeedsBuild, Building, Built, Uploaded, Installed, DepWait, BdUninstallable, BuildAttempted, Failed, NotForUs}
 use Rattle.td_rows.specs.Table.{Table}

@@ -1,5 +1,5 @@
 -- A desk over a journal begins with the marks of its text, and with no change.
-use Rattle.std.proofs.Common.{◌≡◌, ◌<◌, ◌^◌, map, length, sym, ap, ◌∙◌, arith}
+use Rattle.std.proofs.Common.{◌<◌, ◌^◌, map, length, sym, ap, ◌∙◌, arith}
 use Rattle.td_desk.specs.inner.Ticks.{AreBegun, begun_at}
 use Rattle.td_desk.proofs.Reopening.{begun_origin, begun_still, begun_none, begun_named, begun_few}
 use Rattle.td_desk.proofs.desk.Desk.reopen.Goals as goal
