@@ -1,6 +1,8 @@
 //! The answers of a desk, put in the words of scripts. Each function says whether the line is
 //! refused.
-use crate::reporting::Reporting;
+ghost use Rattle.std.specs.Prelude.{IfSome};
+ghost use Rattle.td_book.specs.Desk.{Fixed};
+
 use std::alloc::{AllocError, Global};
 use std::sync::Wait;
 use std::sync::ledger::Ledger;
@@ -8,7 +10,7 @@ use td_desk::{Clerk, Desk, Named};
 use td_rows::Key;
 use td_script::{
     Reports, Request, put_arrival, put_command, put_sweep, put_undo, show_entry, show_journal,
-    show_row,
+    show_report, show_row,
 };
 use td_wbread::Command;
 
@@ -47,23 +49,43 @@ fn sweep<N: Named, C: Ledger, R: Wait>(
     desk.look(rt, |book| put_sweep(out, book.journal(), swept))
 }
 
+// The report of the rows. The reports fit any book.
+fn report<N: Named, C: Ledger, T: Reports, R: Wait>(
+    rt: &R,
+    alloc: Global,
+    desk: &Desk<'_, N, C>,
+    reports: Option<&T>,
+    out: &mut String,
+) -> Result<bool, AllocError>
+    requires fits { IfSome reports (λ r. (f : Fixed) → T.fits r.now f) }
+{
+    desk.look(
+        rt,
+        |book| -> Result<bool, AllocError>
+            requires { IfSome reports (λ r. (f : Fixed) → T.fits r.now f) }
+        { show_report(alloc, book, reports, out) },
+    )
+}
+
 /// Appends the answer to a request.
 pub fn ask<N: Named, C: Ledger, T: Reports, R: Wait>(
     rt: &R,
     alloc: Global,
     desk: &Desk<'_, N, C>,
     clerk: &mut Clerk<C>,
-    reporting: &Reporting<'_, T>,
+    reports: Option<&T>,
     request: &Request,
     out: &mut String,
-) -> Result<bool, AllocError> {
+) -> Result<bool, AllocError>
+    requires fits { IfSome reports (λ r. (f : Fixed) → T.fits r.now f) }
+{
     match request {
         Request::Undo(n) => put_undo(out, *n, desk.undo(rt, clerk, *n)),
         Request::Arrive(key) => arrive(rt, desk, clerk, key, out),
         Request::Sweep => sweep(rt, desk, clerk, out),
         Request::Row(key) => desk.look(rt, |book| show_row(book, key, out)),
         Request::Entry(n) => desk.look(rt, |book| show_entry(book, *n, out)),
-        Request::Report => desk.look(rt, |book| reporting.show(alloc, book, out)),
+        Request::Report => report(rt, alloc, desk, reports, out),
         Request::Journal => desk.look(rt, |book| show_journal(book, out)),
     }
 }

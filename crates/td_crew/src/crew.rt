@@ -1,7 +1,8 @@
 //! A crew: a clerk beside builders.
-ghost use Rattle.std.specs.Prelude.{◌≡◌, ◌+◌, ◌-◌, ◌≤◌, ◌<◌, ◌^◌, All, IfErr, IfOk, OnOk, length, option_map, string_bytes};
+ghost use Rattle.std.specs.Prelude.{◌≡◌, ◌+◌, ◌-◌, ◌≤◌, ◌<◌, ◌^◌, All, IfErr, IfOk, IfSome, OnOk, length, option_map, string_bytes};
 ghost use Rattle.td_board.specs.Knowledge.{new_desk};
 ghost use Rattle.td_core.specs.Phases.{NoneBuilt};
+ghost use Rattle.td_book.specs.Desk.{Fixed};
 ghost use Rattle.td_supply.specs.Supply.{opened, stock_of};
 ghost use Rattle.td_script.specs.OpeningInside.{IsJournalFault};
 ghost use Rattle.td_script.specs.Openings.{IsJournalIfGiven};
@@ -9,7 +10,6 @@ ghost use Rattle.td_crew.specs.CrewText.{EndsWithRows, HasBegun, HasRows, IsClos
 
 use crate::building::build;
 use crate::hired::{Hired, hire};
-use crate::reporting::Reporting;
 use crate::shift::Shift;
 use crate::told::tell_lines;
 use std::alloc::{AllocError, Global};
@@ -56,8 +56,35 @@ impl<'c, R, B> Crew<'c, R, B> {
 struct Asked<'s, T: Reports> {
     journal: Option<&'s str>,
     suites: &'s [&'s str],
-    reporting: Reporting<'s, T>,
+    reports: Option<&'s T>,
     script: &'s str,
+}
+
+// What is told of the lines; then the desk is shut.
+fn tell_all<N: Named, C: Ledger, T: Reports, R: Wait>(
+    rt: &R,
+    alloc: Global,
+    desk: &Desk<'_, N, C>,
+    clerk: &mut Clerk<C>,
+    archs: &Archs<'_>,
+    asked: &Asked<'_, T>,
+) -> Result<Told, AllocError>
+    requires fits { IfSome asked.now.reports (λ r. (f : Fixed) → T.fits r.now f) }
+    requires small { length asked.now.script.now < 2 ^ 63 - 1 }
+    ensures { IfOk result (λ told. told.refused ≤ length asked.now.script.now + 1) }
+{
+    let told = tell_lines(
+        rt,
+        alloc,
+        desk,
+        clerk,
+        archs,
+        asked.suites,
+        asked.reports,
+        asked.script,
+    );
+    desk.shut(rt);
+    told
 }
 
 // What is told of the lines, while builders work on threads of their own; they are joined then.
@@ -77,28 +104,56 @@ fn tell_beside<
     archs: &Archs<'_>,
     asked: &Asked<'_, T>,
 ) -> Result<Told, AllocError>
+    requires fits { IfSome asked.now.reports (λ r. (f : Fixed) → T.fits r.now f) }
     requires small { length asked.now.script.now < 2 ^ 63 - 1 }
     ensures { IfOk result (λ told. told.refused ≤ length asked.now.script.now + 1) }
 {
-    thread::scope(thread::scope_env(), rt, |scope| {
-        for one in hired {
-            if scope.spawn(move || build(rt, shift, one, builds)).is_err() {
-                shift.miss();
+    thread::scope(
+        thread::scope_env(),
+        rt,
+        |scope| -> Result<Told, AllocError>
+            requires { IfSome asked.now.reports (λ r. (f : Fixed) → T.fits r.now f) × (length asked.now.script.now < 2 ^ 63 - 1) }
+            ensures { IfOk result (λ told. told.refused ≤ length asked.entry.now.script.now + 1) }
+        {
+            for one in hired {
+                if scope.spawn(move || build(rt, shift, one, builds)).is_err() {
+                    shift.miss();
+                }
             }
-        }
-        let told = tell_lines(
-            rt,
-            alloc,
-            shift.desk,
-            clerk,
-            archs,
-            asked.suites,
-            &asked.reporting,
-            asked.script,
-        );
-        shift.desk.shut(rt);
-        told
-    })
+            tell_all(rt, alloc, shift.desk, clerk, archs, asked)
+        },
+    )
+}
+
+// What is told of the lines beside builders on these seats. Each who is missing is a refusal.
+fn tell_in_shift<
+    N: Named + Send + Sync,
+    C: Ledger + Send + Sync,
+    B: Builds + Sync,
+    T: Reports,
+    R: Threads + Wait + Sync,
+>(
+    rt: &R,
+    alloc: Global,
+    desk: &Desk<'_, N, C>,
+    clerk: &mut Clerk<C>,
+    seats: Vec<BuilderSeat>,
+    builds: &B,
+    archs: &Archs<'_>,
+    asked: &Asked<'_, T>,
+) -> Result<Told, AllocError>
+    requires seats { All (λ s. s.table ≡ N.table) seats.items }
+    requires few { length seats.items ≤ 64 }
+    requires fits { IfSome asked.now.reports (λ r. (f : Fixed) → T.fits r.now f) }
+    requires small { length asked.now.script.now < 2 ^ 63 - 1 }
+    ensures { IfOk result (λ told. told.refused ≤ length asked.now.script.now + length seats.items + 1) }
+{
+    let builders = seats.len() as u64;
+    let hired = hire::<N>(alloc, seats)?;
+    let shift = Shift::new(desk);
+    let mut told = tell_beside(rt, alloc, &shift, clerk, hired, builds, archs, asked)?;
+    told.refused += shift.missed()?.min(builders);
+    Ok(told)
 }
 
 // Puts the rows of a book behind what was told.
@@ -154,15 +209,12 @@ fn tell_at<
 ) -> Result<Told, AllocError>
     requires seats { All (λ s. s.table ≡ N.table) seats.items }
     requires few { length seats.items ≤ 64 }
+    requires fits { IfSome asked.now.reports (λ r. (f : Fixed) → T.fits r.now f) }
     requires small { length asked.now.script.now < 2 ^ 63 - 1 }
     ensures { IfOk result (λ told. EndsWithRows (length seats.items) N.origin asked.now.script.now (string_bytes told.text) told.refused) }
 {
-    let builders = seats.len() as u64;
-    let hired = hire::<N>(alloc, seats)?;
     let mut clerk = clerk;
-    let shift = Shift::new(&desk);
-    let mut told = tell_beside(rt, alloc, &shift, &mut clerk, hired, builds, archs, asked)?;
-    told.refused += shift.missed()?.min(builders);
+    let told = tell_in_shift(rt, alloc, &desk, &mut clerk, seats, builds, archs, asked)?;
     close(alloc, desk, clerk, told)
 }
 
@@ -227,6 +279,7 @@ fn tell_named<
     requires idle { NoneBuilt rows }
     requires fresh_supply { supply ≡ opened (stock_of supply) }
     requires ledger { (blank.name ≡ C.name) × (blank.parts ≡ C.parts) × (blank.parts ≡ 1024) }
+    requires fits { IfSome asked.now.reports (λ r. (f : Fixed) → T.fits r.now f) }
     requires small { length asked.now.script.now < 2 ^ 63 - 1 }
     ensures begun { OnOk result (HasBegun (option_map (λ s. s.now) asked.now.journal) rows) }
     ensures told { IfOk result (λ told. EndsWithRows (length seats.items) rows asked.now.script.now (string_bytes told.text) told.refused) }
@@ -269,7 +322,7 @@ impl<'c, R: Threads + Wait + Sync, B: Builds + Sync> Staff for Crew<'c, R, B> {
         let asked = Asked {
             journal,
             suites: suites.as_slice(),
-            reporting: Reporting::new(reports),
+            reports,
             script,
         };
         tell_named::<Brand, Brand, B, T, R>(

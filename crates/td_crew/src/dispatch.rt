@@ -1,6 +1,8 @@
 //! The answer to a line at a desk.
+ghost use Rattle.std.specs.Prelude.{IfSome};
+ghost use Rattle.td_book.specs.Desk.{Fixed};
+
 use crate::answering::{ask, command};
-use crate::reporting::Reporting;
 use std::alloc::{AllocError, Global};
 use std::sync::Wait;
 use std::sync::ledger::Ledger;
@@ -38,13 +40,15 @@ pub fn answer<N: Named, C: Ledger, T: Reports, R: Wait>(
     clerk: &mut Clerk<C>,
     archs: &Archs<'_>,
     suites: &[&str],
-    reporting: &Reporting<'_, T>,
+    reports: Option<&T>,
     line: &str,
     out: &mut String,
-) -> Result<bool, AllocError> {
+) -> Result<bool, AllocError>
+    requires fits { IfSome reports (λ r. (f : Fixed) → T.fits r.now f) }
+{
     match read_line(alloc, line)? {
         Said::Skipped => Ok(false),
-        Said::Asked(request) => ask(rt, alloc, desk, clerk, reporting, &request, out),
+        Said::Asked(request) => ask(rt, alloc, desk, clerk, reports, &request, out),
         Said::Bad => {
             put_refusal(out, "BadLine")?;
             Ok(true)

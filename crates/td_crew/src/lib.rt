@@ -13,7 +13,6 @@ mod building;
 mod crew;
 mod dispatch;
 mod hired;
-mod reporting;
 mod running;
 mod shift;
 #[cfg(test)]

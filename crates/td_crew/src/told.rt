@@ -1,8 +1,8 @@
 //! What is told of a script at a desk: the answers to its lines, one after the other.
-ghost use Rattle.std.specs.Prelude.{◌+◌, ◌-◌, ◌≤◌, ◌<◌, ◌^◌, IfOk, OnOk, length};
+ghost use Rattle.std.specs.Prelude.{◌+◌, ◌-◌, ◌≤◌, ◌<◌, ◌^◌, IfOk, IfSome, OnOk, length};
+ghost use Rattle.td_book.specs.Desk.{Fixed};
 
 use crate::dispatch::answer;
-use crate::reporting::Reporting;
 use std::alloc::{AllocError, Global};
 use std::sync::Wait;
 use std::sync::ledger::Ledger;
@@ -19,10 +19,11 @@ fn add_line<N: Named, C: Ledger, T: Reports, R: Wait>(
     clerk: &mut Clerk<C>,
     archs: &Archs<'_>,
     suites: &[&str],
-    reporting: &Reporting<'_, T>,
+    reports: Option<&T>,
     line: &str,
     told: &mut Told,
 ) -> Result<(), AllocError>
+    requires fits { IfSome reports (λ r. (f : Fixed) → T.fits r.now f) }
     requires room { told.old.refused < 2 ^ 63 }
     ensures { OnOk result (told.new.refused ≤ told.old.refused + 1) }
 {
@@ -33,7 +34,7 @@ fn add_line<N: Named, C: Ledger, T: Reports, R: Wait>(
         clerk,
         archs,
         suites,
-        reporting,
+        reports,
         line,
         &mut told.text,
     )? {
@@ -50,9 +51,10 @@ pub fn tell_lines<N: Named, C: Ledger, T: Reports, R: Wait>(
     clerk: &mut Clerk<C>,
     archs: &Archs<'_>,
     suites: &[&str],
-    reporting: &Reporting<'_, T>,
+    reports: Option<&T>,
     script: &str,
 ) -> Result<Told, AllocError>
+    requires fits { IfSome reports (λ r. (f : Fixed) → T.fits r.now f) }
     requires small { length script.now < 2 ^ 63 - 1 }
     ensures { IfOk result (λ told. told.refused ≤ length script.now + 1) }
 {
@@ -64,7 +66,7 @@ pub fn tell_lines<N: Named, C: Ledger, T: Reports, R: Wait>(
     while let Some(lines) = rest {
         let (line, after) = next_line(lines);
         add_line(
-            rt, alloc, desk, clerk, archs, suites, reporting, line, &mut told,
+            rt, alloc, desk, clerk, archs, suites, reports, line, &mut told,
         )?;
         rest = after;
     }
