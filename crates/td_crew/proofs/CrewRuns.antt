@@ -37,11 +37,11 @@ unread_stops x (Run e) stops = stops_run x e stops
 
 -- ---- a first bad line
 
-first_of : List ℕ → List (List ℕ) → List ℕ
+abbrev first_of : List ℕ → List (List ℕ) → List ℕ
 first_of d [] = d
 first_of d (l ∷ ls) = l
 
-rest_of : List (List ℕ) → List (List ℕ)
+abbrev rest_of : List (List ℕ) → List (List ℕ)
 rest_of [] = []
 rest_of (l ∷ ls) = ls
 

@@ -20,7 +20,7 @@ use std::thread;
 use std::thread::Threads;
 use td_board::{Board, BuilderSeat, DeskSeat};
 use td_book::Book;
-use td_builder::Builds;
+use td_builder::{Builds, Outcomes};
 use td_desk::{Clerk, Desk, Named, PARTS};
 use td_indices::Archive;
 use td_journal::ReadError;
@@ -297,7 +297,55 @@ fn tell_named<
     }
 }
 
-impl<'c, R: Threads + Wait + Sync, B: Builds + Sync> Staff for Crew<'c, R, B> {
+// What a crew tells of a script from these rows, or from the journal over them that is gone on
+// with. (A block of a trait that bounds how is built can't send that to a thread.)
+pub(crate) fn tell_script<T: Reports, R: Threads + Wait + Sync, B: Builds + Sync>(
+    crew: &Crew<'_, R, B>,
+    alloc: Global,
+    archive: &Archive<'_, '_>,
+    rows: Rows,
+    suite: &str,
+    journal: Option<&str>,
+    reports: Option<&T>,
+    script: &str,
+) -> Result<Told, ReadError>
+    requires idle { NoneBuilt rows }
+    requires fits { IfSome reports (λ r. (f : Fixed) → T.fits r.now f) }
+    requires small { length script.now < 2 ^ 63 - 1 }
+    ensures begun { OnOk result (HasBegun (option_map (λ s. s.now) journal.entry) rows) }
+    ensures told { IfOk result (λ told. EndsWithRows crew.now.builders rows script.now (string_bytes told.text) told.refused) }
+    ensures fault { IfErr result (IsJournalFault rows (option_map (λ s. s.now) journal.entry)) }
+    ensures only { IfErr result (λ fault. IsJournalIfGiven rows (option_map (λ s. s.now) journal.entry) → fault ≡ ReadError.NoMemory) }
+{
+    let Ok((board, seat, seats)) = Board::make(alloc, rows.len(), crew.builders) else {
+        return Err(ReadError::NoMemory);
+    };
+    let Ok(supply) = archive.supply() else {
+        return Err(ReadError::NoMemory);
+    };
+    let suites = [suite];
+    let asked = Asked {
+        journal,
+        suites: suites.as_slice(),
+        reports,
+        script,
+    };
+    tell_named::<Brand, Brand, B, T, R>(
+        crew.rt,
+        alloc,
+        board,
+        seat,
+        seats,
+        rows,
+        supply,
+        Blank::new(PARTS),
+        crew.builds,
+        archive.archs(),
+        &asked,
+    )
+}
+
+impl<'c, R: Threads + Wait + Sync> Staff for Crew<'c, R, Outcomes> {
     ghost use Rattle.td_crew.specs.CrewText.{crew_tells};
 
     ghost tells = { λ crew s h lines text refused. crew_tells crew.builders s h lines text refused };
@@ -312,31 +360,6 @@ impl<'c, R: Threads + Wait + Sync, B: Builds + Sync> Staff for Crew<'c, R, B> {
         reports: Option<&T>,
         script: &str,
     ) -> Result<Told, ReadError> {
-        let Ok((board, seat, seats)) = Board::make(alloc, rows.len(), self.builders) else {
-            return Err(ReadError::NoMemory);
-        };
-        let Ok(supply) = archive.supply() else {
-            return Err(ReadError::NoMemory);
-        };
-        let suites = [suite];
-        let asked = Asked {
-            journal,
-            suites: suites.as_slice(),
-            reports,
-            script,
-        };
-        tell_named::<Brand, Brand, B, T, R>(
-            self.rt,
-            alloc,
-            board,
-            seat,
-            seats,
-            rows,
-            supply,
-            Blank::new(PARTS),
-            self.builds,
-            archive.archs(),
-            &asked,
-        )
+        tell_script(self, alloc, archive, rows, suite, journal, reports, script)
     }
 }

@@ -1,6 +1,6 @@
 //! Crews: a script that a clerk answers at a desk, beside builders on threads of their own.
 //!
-//! Start at `run_crew_with`, over any way to build; `run_crew` builds by lines of a text. The
+//! Start at `run_crew_with`, over outcomes that are read; `run_crew` reads them from a text. The
 //! script is read as `td_script` reads it, and each answer put in the same words; then the desk is
 //! shut, the builders are joined, the desk is closed, and the rows of its book are told.
 //! Promised: the faults of a script, where they are due; and that what is written ends with the

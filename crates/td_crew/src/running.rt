@@ -12,7 +12,7 @@ use std::alloc::Global;
 use std::io::{Read, Write};
 use std::sync::Wait;
 use std::thread::Threads;
-use td_builder::{Builds, Outcomes, OutcomesFault};
+use td_builder::{Outcomes, OutcomesFault};
 use td_script::{Inputs, RunFault, ScriptEnd, judge, run_with};
 
 /// Why a run by lines of outcomes stopped.
@@ -26,13 +26,13 @@ pub enum CrewFault {
 /// Answers the script that the reader has, over what the inputs say, beside as many builders as
 /// they say. Then the desk is shut, the builders are joined, and the rows are told.
 /// All is read and answered before anything is written.
-pub fn run_crew_with<R: Read, W: Write, B: Builds + Sync, H: Threads + Wait + Sync>(
+pub fn run_crew_with<R: Read, W: Write, H: Threads + Wait + Sync>(
     rt: &H,
     alloc: Global,
     inputs: &Inputs,
     reader: &mut R,
     writer: &mut W,
-    builds: &B,
+    builds: &Outcomes,
 ) -> Result<ScriptEnd, RunFault>
     ensures says { SaysBy (crew_tells inputs.now.builders) (texts_of inputs.now) (R.remaining reader.old) (W.contents writer.old) (W.contents writer.new) result }
     ensures only { Only (texts_of inputs.now) (R.remaining reader.old) result }

@@ -1,6 +1,7 @@
 //! What no clause can say: which answers a crew writes, and that builders of a crew build at the
 //! same time. The archive and the answers are this project's worked examples.
-use crate::{CrewFault, run_crew, run_crew_with};
+use crate::crew::tell_script;
+use crate::{Crew, CrewFault, run_crew};
 use std::alloc::{AllocError, Global};
 use std::sync::Wait;
 use std::sync::atomic::{AtomicU64, Ordering};
@@ -9,8 +10,9 @@ use std::thread::Threads;
 use td_book::Job;
 use td_builder::Builds;
 use td_journal::ReadError;
-use td_rows::Outcome;
-use td_script::{InputFault, Inputs, RunFault, ScriptEnd};
+use td_indices::Archive;
+use td_rows::{Outcome, Rows};
+use td_script::{InputFault, Inputs, Reports, RunFault, ScriptEnd, Staff, Told, run_with};
 
 const ARCHS: &str = "amd64 linux amd64\ni386 linux i386\n";
 
@@ -230,6 +232,25 @@ impl Builds for Together {
     }
 }
 
+impl<'c, R: Threads + Wait + Sync> Staff for Crew<'c, R, Together> {
+    ghost use Rattle.td_crew.specs.CrewText.{crew_tells};
+
+    ghost tells = { λ crew s h lines text refused. crew_tells crew.builders s h lines text refused };
+
+    fn tell<T: Reports>(
+        &self,
+        alloc: Global,
+        archive: &Archive<'_, '_>,
+        rows: Rows,
+        suite: &str,
+        journal: Option<&str>,
+        reports: Option<&T>,
+        script: &str,
+    ) -> Result<Told, ReadError> {
+        tell_script(self, alloc, archive, rows, suite, journal, reports, script)
+    }
+}
+
 // How a run of a script by two builders ends whose builds wait for one another.
 fn told_together<R: Threads + Wait + Sync>(
     rt: &R,
@@ -242,7 +263,8 @@ fn told_together<R: Threads + Wait + Sync>(
     let together = Together {
         begun: AtomicU64::new(0),
     };
-    let end = run_crew_with(rt, alloc, inputs, &mut reader, &mut writer, &together);
+    let crew = Crew::new(rt, &together, inputs.builders);
+    let end = run_with(alloc, &crew, inputs, &mut reader, &mut writer);
     (end, writer)
 }
 
