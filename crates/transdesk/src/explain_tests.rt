@@ -2,12 +2,13 @@
 //! refusal.
 use crate::tests::{ARCHS, Breaking, PACKAGES, SOURCES, Shelf, ran};
 use std::alloc::{AllocError, Global};
+use std::sync::Wait;
 use std::test::Fail;
 use std::thread::Threads;
 
 // What a check of these two files with one more answers and says.
 fn checked(
-    rt: &(impl Threads + Sync),
+    rt: &(impl Threads + Wait + Sync),
     alloc: Global,
     line: &str,
     sources: &[u8],

@@ -2,20 +2,21 @@
 use crate::tests::{ARCHS, Breaking, PACKAGES, SOURCES, Shelf, ran};
 use std::alloc::{AllocError, Global};
 use std::process::Abort;
+use std::sync::Wait;
 use std::test::Fail;
 use std::thread::Threads;
 
 // What the program answers and writes of this script, where these words follow the paths of an
 // archive's files. The file `r` has rows, `z` has one that the archive hasn't, `t` is a tracker,
-// `j` a journal; in `b` is a line that is of no form, and `x` is no text.
+// `j` a journal, `o` lines of outcomes; in `b` is a line that is of no form, and `x` is no text.
 fn scripted(
-    rt: &(impl Threads + Sync),
+    rt: &(impl Threads + Wait + Sync),
     alloc: Global,
     words: &str,
     script: &str,
     room: usize,
 ) -> Result<String, AllocError> {
-    let shelf: [(&str, &[u8]); 9] = [
+    let shelf: [(&str, &[u8]); 10] = [
         ("a", ARCHS.as_bytes()),
         ("p", PACKAGES.as_bytes()),
         ("s", SOURCES.as_bytes()),
@@ -29,6 +30,7 @@ fn scripted(
             "j",
             b"transdesk journal 1\n1 + nmu foo/amd64\n2 + claim=1 foo/amd64\n",
         ),
+        ("o", b"foo/amd64 waits : libbar-dev\nfoo/i386 built\n"),
         ("b", b"x\n"),
         ("x", b"\xff"),
     ];
@@ -46,7 +48,7 @@ fn scripted(
 // Each of these runs, by the words behind the paths, its script and the room of its output, tells
 // this.
 fn each_tells(
-    rt: &(impl Threads + Sync + Abort),
+    rt: &(impl Threads + Wait + Sync + Abort),
     alloc: Global,
     runs: &[(&str, &str, usize, &str)],
 ) -> Result<(), Fail> {
@@ -164,10 +166,70 @@ fn the_file_of_a_run_that_is_refused_is_named(rt: HostRuntime) -> Result<(), Fai
             "2 |transdesk: journal: Unlawful\n",
         ),
         (
-            " --builders 1",
+            " --builders 65",
             UNDONE,
             99,
-            "3 |error: --builders takes 0, since there are no crews yet\n",
+            "3 |error: --builders takes a number from 0 to 64\n",
+        ),
+    ];
+    each_tells(&rt, rt.alloc(), &runs)
+}
+
+const BUILT: &str =
+    "0 entry 1 takes foo/amd64\nrows\nbar/amd64 Installed 0 0\nbar/i386 Installed 0 0\nfoo/amd64 Built 0 1\nfoo/i386 Installed 0 1\n|";
+
+const WAITS: &str =
+    "1 3 + givenback=1 foo/amd64\nrefused: NoSuchEntry\nrows\nbar/amd64 Installed 0 0\nbar/i386 Installed 0 0\nfoo/amd64 Dep-Wait 0 1 : libbar-dev\nfoo/i386 Installed 0 1\n|";
+
+// A builder may have built meanwhile or not; these answers don't hang on it.
+#[test]
+fn the_rows_of_a_crew_stand_behind_the_answers(rt: HostRuntime) -> Result<(), Fail> {
+    let queue = "nmu foo . amd64\n";
+    let runs = [
+        (" --builders 1", queue, 200, BUILT),
+        (
+            " --builders 64 --journal j --outcomes o",
+            "entry 3\nentry 99\n",
+            200,
+            WAITS,
+        ),
+        (
+            " --builders 1",
+            queue,
+            26,
+            "5 entry 1 takes foo/amd64\nro|transdesk: cannot write\n",
+        ),
+    ];
+    each_tells(&rt, rt.alloc(), &runs)
+}
+
+// Outcomes are looked at behind the other files, where there are builders.
+#[test]
+fn a_line_of_outcomes_is_refused_behind_the_files(rt: HostRuntime) -> Result<(), Fail> {
+    let runs = [
+        (
+            " --builders 1 --outcomes b",
+            UNDONE,
+            99,
+            "2 |transdesk: outcomes: BadLine\n",
+        ),
+        (
+            " --builders 1 --outcomes b --explain",
+            UNDONE,
+            99,
+            "2 |transdesk: outcomes: BadLine\noutcomes: line 1 has \"x\"; wanted: how a build ends, as KEY OUTCOME\n",
+        ),
+        (
+            " --builders 1 --outcomes b --journal b",
+            UNDONE,
+            99,
+            "2 |transdesk: journal: BadHeader\n",
+        ),
+        (
+            " --builders 1 --outcomes b --state b",
+            UNDONE,
+            99,
+            "2 |transdesk: state: BadLine\n",
         ),
     ];
     each_tells(&rt, rt.alloc(), &runs)
@@ -190,6 +252,14 @@ fn a_script_that_is_not_read_is_told_of(rt: HostRuntime) -> Result<(), Fail> {
         (
             "transdesk run --archs a --packages p --sources s --journal b",
             "2 |transdesk: journal: BadHeader\n",
+        ),
+        (
+            "transdesk run --archs a --packages p --sources s --builders 1 --outcomes b",
+            "2 |transdesk: outcomes: BadLine\n",
+        ),
+        (
+            "transdesk run --archs a --packages p --sources s --builders 1",
+            "5 |transdesk: input: cannot read\n",
         ),
     ] {
         let mut breaking = Breaking(b"row foo amd64\n");

@@ -6,6 +6,7 @@ use crate::tool::tool;
 use std::alloc::{AllocError, Global};
 use std::io;
 use std::io::{ErrorKind, Read, Write};
+use std::sync::Wait;
 use std::test::Fail;
 use std::thread::Threads;
 use td_bytes::{TextFault, read_text};
@@ -81,7 +82,7 @@ impl Texts for Shelf<'_> {
 
 // What the program answers and writes, as `STATUS OUTPUT|FAULTS`.
 pub fn ran<R: Read>(
-    rt: &(impl Threads + Sync),
+    rt: &(impl Threads + Wait + Sync),
     alloc: Global,
     line: &str,
     texts: Shelf<'_>,
@@ -109,7 +110,7 @@ pub fn ran<R: Read>(
 }
 
 fn simulated<R: Read>(
-    rt: &(impl Threads + Sync),
+    rt: &(impl Threads + Wait + Sync),
     alloc: Global,
     input: &mut R,
     room: usize,
@@ -235,7 +236,7 @@ pub const SOURCES: &str =
 
 // What the program answers and writes of these three files; a path in capitals has none.
 fn checked(
-    rt: &(impl Threads + Sync),
+    rt: &(impl Threads + Wait + Sync),
     alloc: Global,
     paths: [&str; 3],
     texts: [&[u8]; 3],

@@ -1,6 +1,7 @@
 //! Tests of `track` and `waves`, over files in memory.
 use crate::tests::{Breaking, Shelf, bytes_of, ran};
 use std::alloc::{AllocError, Global};
+use std::sync::Wait;
 use std::test::Fail;
 use std::thread::Threads;
 
@@ -18,7 +19,7 @@ const WAVES_TRACKER: &str =
 
 // What the program answers and writes where these words follow a subcommand's name.
 fn tracked<'a>(
-    rt: &(impl Threads + Sync),
+    rt: &(impl Threads + Wait + Sync),
     alloc: Global,
     words: &str,
     state: &'a str,
