@@ -5,12 +5,12 @@ use Rattle.transdesk.specs.RunInside.{run_texts_of}
 use Rattle.transdesk.proofs.SureRuns.{crew_only, script_only}
 use Rattle.transdesk.proofs.running.play.Goals as goal
 
-pub returns-in-Ok-then-clause-only : goal.returns-in-Ok-then-clause-only
-returns-in-Ok-then-clause-only g c =
+pub returns-then-builders-eq0-clause-only : goal.returns-then-builders-eq0-clause-only
+returns-then-builders-eq0-clause-only g c =
     script_only (script_texts (run_texts_of c.args.texts) c.args.suite.now) (texts_of c.in-Ok.inputs) _ c.run_script.result c.ending_of_script.result
     c.in-Ok.ensures.texts c.run_script.ensures.only c.ending_of_script.ensures
 
-pub returns-in-Ok-else-clause-only : goal.returns-in-Ok-else-clause-only
-returns-in-Ok-else-clause-only g c =
+pub returns-clause-only : goal.returns-clause-only
+returns-clause-only g c =
     crew_only (script_texts (run_texts_of c.args.texts) c.args.suite.now) (texts_of c.in-Ok.inputs) (outcome_lines (run_texts_of c.args.texts)) (outcomes_of c.in-Ok.inputs) _ c.run_crew.result c.ending_of_crew.result
     c.in-Ok.ensures.texts c.in-Ok.ensures.outcomes c.run_crew.ensures.only c.ending_of_crew.ensures
