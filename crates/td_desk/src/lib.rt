@@ -19,8 +19,6 @@ mod matching;
 mod named;
 mod place;
 mod receipt;
-#[cfg(test)]
-mod tests;
 mod tick;
 mod told;
 
