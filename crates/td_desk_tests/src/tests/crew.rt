@@ -9,9 +9,12 @@ use std::test::Fail;
 use std::thread;
 use std::thread::Threads;
 use td_book::{CommandRefusal, UndoRefusal};
-use td_builder::WorkStop;
 use td_desk::{Clerk, Desk, Named, Receipt};
 use td_journal::EntryNo;
+
+const VERBS: [&str; 5] = ["gb", "bp 5", "bp -5", "nmu", "nmu"];
+
+const TAILS: [&str; 4] = ["foo . ANY", "bar . ANY", "foo bar . ANY", "foo bar . amd64"];
 
 // What was counted meanwhile: calls that were accepted, builds, and answers that no call may have.
 #[derive(Drop)]
@@ -43,32 +46,59 @@ pub fn crew<N: Named + Send + Sync, C: Ledger + Send + Sync, R: Threads + Wait +
         built: 0,
         wrong: 0,
     });
-    let (shared, builds) = (&tally, &Restless::new());
+    call_beside(rt, alloc, desk, clerks, builders, calls, &tally);
+    told(alloc, tally.into_inner(), calls)
+}
+
+fn told(alloc: Global, tally: Tally, calls: u64) -> Result<String, Fail> {
+    Ok(format!(in alloc;
+        "wrong {}, accepted some {}, built some {}",
+        tally.wrong,
+        tally.accepted > calls / 9,
+        tally.built > 9
+    )?)
+}
+
+// The calls of all clerks while all builders work, each of them in a thread of its own.
+fn call_beside<N: Named + Send + Sync, C: Ledger + Send + Sync, R: Threads + Wait + Sync>(
+    rt: &R,
+    alloc: Global,
+    desk: &Desk<'static, N, C>,
+    clerks: &mut Vec<Clerk<C>>,
+    builders: &mut Vec<Hired<N>>,
+    calls: u64,
+    tally: &Mutex<Tally>,
+) {
+    let builds = &Restless::new();
     thread::scope(thread::scope_env(), rt, |scope| {
         for builder in builders.iter_mut() {
-            let spawned = scope.spawn(move || note_work(
-                rt,
-                shared,
-                builder.work(rt, desk, builds),
-            ));
-            if spawned.is_err() {
-                note(rt, shared, Answer::Wrong);
+            if scope
+                .spawn(move || build(rt, desk, builder, builds, tally))
+                .is_err()
+            {
+                note(rt, tally, Answer::Wrong);
             }
         }
-        call_all(rt, alloc, desk, clerks, calls, shared);
+        call_all(rt, alloc, desk, clerks, calls, tally);
         builds.end();
         desk.shut(rt);
     });
-    let Tally {
-        accepted,
-        built,
-        wrong,
-    } = tally.into_inner();
-    Ok(format!(in alloc;
-        "wrong {wrong}, accepted some {}, built some {}",
-        accepted > calls / 9,
-        built > 9
-    )?)
+}
+
+// A builder's work, noted.
+fn build<N: Named, C: Ledger, R: Wait>(
+    rt: &R,
+    desk: &Desk<'static, N, C>,
+    builder: &mut Hired<N>,
+    builds: &Restless,
+    tally: &Mutex<Tally>,
+) {
+    let worked = builder.work(rt, desk, builds);
+    let mut tally = tally.lock(rt);
+    match worked {
+        Ok(built) => tally.built = tally.built.wrapping_add(built),
+        Err(_) => tally.wrong = tally.wrong.wrapping_add(1),
+    }
 }
 
 // The calls of all clerks, each in a thread of its own.
@@ -119,14 +149,6 @@ fn note<R: Wait>(rt: &R, tally: &Mutex<Tally>, answer: Answer) {
     }
 }
 
-fn note_work<R: Wait>(rt: &R, tally: &Mutex<Tally>, worked: Result<u64, WorkStop>) {
-    let mut tally = tally.lock(rt);
-    match worked {
-        Ok(built) => tally.built = tally.built.wrapping_add(built),
-        Err(_) => tally.wrong = tally.wrong.wrapping_add(1),
-    }
-}
-
 // A call for a number: a command on one source or both, or an undo of one of the clerk's own.
 fn call<N: Named, C: Ledger, R: Wait>(
     rt: &R,
@@ -137,25 +159,24 @@ fn call<N: Named, C: Ledger, R: Wait>(
 ) -> Option<Answer> {
     let rest = number / 3;
     if number % 3 == 0 {
-        return Some(match own(clerk.receipts(), rest % 8) {
-            Some(n) => undo(rt, desk, clerk, n),
-            None => Answer::Refused,
-        });
+        return Some(undo_back(rt, desk, clerk, rest % 8));
     }
-    let verb = match rest % 5 {
-        0 => "gb",
-        1 => "bp 5",
-        2 => "bp -5",
-        _ => "nmu",
-    };
-    let tail = match rest / 5 % 4 {
-        0 => "foo . ANY",
-        1 => "bar . ANY",
-        2 => "foo bar . ANY",
-        _ => "foo bar . amd64",
-    };
+    let verb = VERBS.get((rest % 5) as usize)?;
+    let tail = TAILS.get((rest / 5 % 4) as usize)?;
     let line = format!(in alloc; "{verb} {tail}").ok()?;
     Some(command(rt, alloc, desk, clerk, line.as_str()))
+}
+
+fn undo_back<N: Named, C: Ledger, R: Wait>(
+    rt: &R,
+    desk: &Desk<'static, N, C>,
+    clerk: &mut Clerk<C>,
+    back: u64,
+) -> Answer {
+    match own(clerk.receipts(), back) {
+        Some(n) => undo(rt, desk, clerk, n),
+        None => Answer::Refused,
+    }
 }
 
 // The number of the clerk's command that is so many back.
