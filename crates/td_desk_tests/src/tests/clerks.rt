@@ -75,6 +75,16 @@ pub fn together<N: Named + Send + Sync, C: Ledger + Send + Sync, R: Threads + Wa
     let Some(second) = rest.first_mut() else {
         return Err(Fail::from("two clerks"));
     };
+    both(rt, alloc, desk, first, second)
+}
+
+fn both<N: Named + Send + Sync, C: Ledger + Send + Sync, R: Threads + Wait + Sync>(
+    rt: &R,
+    alloc: Global,
+    desk: &Desk<'static, N, C>,
+    first: &mut Clerk<C>,
+    second: &mut Clerk<C>,
+) -> Result<String, Fail> {
     let (one, two) = thread::join(
         rt,
         || is_taken(rt, alloc, desk, first, "nmu foo . ANY"),

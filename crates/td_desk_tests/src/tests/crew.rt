@@ -60,14 +60,14 @@ fn told(alloc: Global, tally: Tally, calls: u64) -> Result<String, Fail> {
 }
 
 // The calls of all clerks while all builders work, each of them in a thread of its own.
-fn call_beside<N: Named + Send + Sync, C: Ledger + Send + Sync, R: Threads + Wait + Sync>(
-    rt: &R,
+fn call_beside<'x, N: Named + Send + Sync, C: Ledger + Send + Sync, R: Threads + Wait + Sync>(
+    rt: &'x R,
     alloc: Global,
-    desk: &Desk<'static, N, C>,
-    clerks: &mut Vec<Clerk<C>>,
-    builders: &mut Vec<Hired<N>>,
+    desk: &'x Desk<'static, N, C>,
+    clerks: &'x mut Vec<Clerk<C>>,
+    builders: &'x mut Vec<Hired<N>>,
     calls: u64,
-    tally: &Mutex<Tally>,
+    tally: &'x Mutex<Tally>,
 ) {
     let builds = &Restless::new();
     thread::scope(thread::scope_env(), rt, |scope| {

@@ -81,7 +81,7 @@ fn answer<N: Named + Send + Sync, C: Ledger + Send + Sync, R: Threads + Wait + S
         "receipts" => receipts(alloc, clerks),
         "row" => row(rt, alloc, desk, rest),
         "entry" => entry(rt, alloc, desk, number(rest)),
-        "journal" => desk.look(rt, |book| journal_text(alloc, book)),
+        "journal" => journal(rt, alloc, desk),
         "keys" => keys(alloc, desk),
         "crew" => crew(rt, alloc, desk, clerks, builders, number(rest)),
         "shut" => {
@@ -185,7 +185,7 @@ fn entry<N: Named, C: Ledger, R: Wait>(
     desk: &Desk<'static, N, C>,
     n: u64,
 ) -> Result<String, Fail> {
-    desk.look(rt, |book| entry_line(alloc, book, n))
+    Ok(desk.look(rt, |book| entry_line(alloc, book, n))?)
 }
 
 fn row<N: Named, C: Ledger, R: Wait>(
@@ -195,14 +195,18 @@ fn row<N: Named, C: Ledger, R: Wait>(
     text: &str,
 ) -> Result<String, Fail> {
     let key = key(alloc, text)?;
-    desk.look(rt, |book| row_line(alloc, book, &key))
+    Ok(desk.look(rt, |book| row_line(alloc, book, &key))?)
 }
 
-fn journal_text(alloc: Global, book: &Book<'static>) -> Result<String, Fail> {
-    Ok(text(alloc, book.journal())?)
+fn journal<N: Named, C: Ledger, R: Wait>(
+    rt: &R,
+    alloc: Global,
+    desk: &Desk<'static, N, C>,
+) -> Result<String, Fail> {
+    Ok(desk.look(rt, |book| text(alloc, book.journal()))?)
 }
 
-fn entry_line(alloc: Global, book: &Book<'static>, n: u64) -> Result<String, Fail> {
+fn entry_line(alloc: Global, book: &Book<'static>, n: u64) -> Result<String, AllocError> {
     let mut out = String::new(alloc);
     match book.entry(n) {
         Some(marked) => put_entry_line(&mut out, n, marked)?,
@@ -211,7 +215,7 @@ fn entry_line(alloc: Global, book: &Book<'static>, n: u64) -> Result<String, Fai
     Ok(out)
 }
 
-fn row_line(alloc: Global, book: &Book<'static>, key: &Key) -> Result<String, Fail> {
+fn row_line(alloc: Global, book: &Book<'static>, key: &Key) -> Result<String, AllocError> {
     let mut out = String::new(alloc);
     match book.row(key) {
         Some(row) => put_row_line(&mut out, key, row)?,
