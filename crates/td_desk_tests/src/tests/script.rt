@@ -8,12 +8,12 @@ use std::sync::Wait;
 use std::sync::ledger::Ledger;
 use std::test::Fail;
 use std::thread::Threads;
-use td_book::{Book, CommandRefusal, Skips, Taken};
+use td_book::{CommandRefusal, Skips, Taken};
 use td_builder::Outcomes;
 use td_desk::{Clerk, Desk, Named};
-use td_journal::{put_entry_line, text};
+use td_journal::{Marked, put_entry_line, text};
 use td_relation::Archs;
-use td_rows::{Key, put_row_line, read_key};
+use td_rows::{Key, Row, put_row_line, read_key};
 use td_wbread::read_command;
 
 /// What each call of the trial is answered.
@@ -185,7 +185,7 @@ fn entry<N: Named, C: Ledger, R: Wait>(
     desk: &Desk<'static, N, C>,
     n: u64,
 ) -> Result<String, Fail> {
-    Ok(desk.look(rt, |book| entry_line(alloc, book, n))?)
+    Ok(desk.look(rt, |book| entry_line(alloc, book.entry(n), n))?)
 }
 
 fn row<N: Named, C: Ledger, R: Wait>(
@@ -195,7 +195,7 @@ fn row<N: Named, C: Ledger, R: Wait>(
     text: &str,
 ) -> Result<String, Fail> {
     let key = key(alloc, text)?;
-    Ok(desk.look(rt, |book| row_line(alloc, book, &key))?)
+    Ok(desk.look(rt, |book| row_line(alloc, &key, book.row(&key)))?)
 }
 
 fn journal<N: Named, C: Ledger, R: Wait>(
@@ -206,18 +206,18 @@ fn journal<N: Named, C: Ledger, R: Wait>(
     Ok(desk.look(rt, |book| text(alloc, book.journal()))?)
 }
 
-fn entry_line(alloc: Global, book: &Book<'static>, n: u64) -> Result<String, AllocError> {
+fn entry_line(alloc: Global, entry: Option<&Marked>, n: u64) -> Result<String, AllocError> {
     let mut out = String::new(alloc);
-    match book.entry(n) {
+    match entry {
         Some(marked) => put_entry_line(&mut out, n, marked)?,
         None => out.push_str("none")?,
     }
     Ok(out)
 }
 
-fn row_line(alloc: Global, book: &Book<'static>, key: &Key) -> Result<String, AllocError> {
+fn row_line(alloc: Global, key: &Key, row: Option<&Row>) -> Result<String, AllocError> {
     let mut out = String::new(alloc);
-    match book.row(key) {
+    match row {
         Some(row) => put_row_line(&mut out, key, row)?,
         None => out.push_str("none")?,
     }
