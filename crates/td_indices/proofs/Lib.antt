@@ -24,3 +24,4 @@ pub mod OpeningCounts
 pub mod PackageStanzas
 pub mod OfferLaws
 pub mod SourceStanzas
+pub mod IndexReading

@@ -8,6 +8,7 @@ pub mod Reading
 pub mod Rows
 pub mod Groups
 pub mod Archive
+pub mod inner
 pub mod FaultNames
 pub mod Seen
 pub mod Opening

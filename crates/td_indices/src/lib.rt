@@ -18,6 +18,7 @@ mod binary_reading;
 mod field;
 mod grouping;
 mod groups;
+mod index_reading;
 mod laws;
 mod lookups;
 mod offered_names;

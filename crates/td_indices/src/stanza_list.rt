@@ -1,3 +1,4 @@
+//! The stanzas of one of the two files.
 ghost use Rattle.std.specs.Prelude.{◌≡◌, List, IfOk, IfErr, MatchResult};
 ghost use Rattle.td_text.specs.Lines.{lines_of};
 ghost use Rattle.td_stanza.specs.Field.{Entry};
@@ -7,7 +8,8 @@ ghost use Rattle.td_indices.specs.Archive.{StanzaFaultOf, in_file as in_file_of}
 
 use crate::archive_fault::{ArchiveFault, IndexFile};
 use std::alloc::Global;
-use td_stanza::{StanzaFault, StanzaList, stanzas};
+use std::thread::Threads;
+use td_stanza::{StanzaFault, StanzaList, stanzas, stanzas_beside};
 
 /// The fault of one of the files as a control file.
 fn in_file(file: IndexFile, fault: StanzaFault) -> ArchiveFault
@@ -33,6 +35,22 @@ pub fn read_stanzas<'a>(
     ensures fault { IfErr result (StanzaFaultOf file (lines_of text.now)) }
 {
     match stanzas(alloc, text) {
+        Ok(list) => Ok(list),
+        Err(fault) => Err(in_file(file, fault)),
+    }
+}
+
+/// The same, a long text in two pieces, side by side.
+pub fn read_stanzas_beside<'a>(
+    rt: &(impl Threads + Sync),
+    alloc: Global,
+    file: IndexFile,
+    text: &'a str,
+) -> Result<StanzaList<'a>, ArchiveFault>
+    ensures found { IfOk result (λ list. AreStanzas list (lines_of text.now)) }
+    ensures fault { IfErr result (StanzaFaultOf file (lines_of text.now)) }
+{
+    match stanzas_beside(rt, alloc, text) {
         Ok(list) => Ok(list),
         Err(fault) => Err(in_file(file, fault)),
     }

@@ -12,3 +12,5 @@ pub mod Tables
 pub mod Progress
 pub mod Naming
 pub mod NotedNames
+pub mod Cuts
+pub mod Joining

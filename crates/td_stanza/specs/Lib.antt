@@ -7,5 +7,6 @@ pub mod StanzaFaults
 pub mod Shown
 pub mod Table
 pub mod Continuing
+pub mod Cuts
 pub mod Props
 pub mod inner

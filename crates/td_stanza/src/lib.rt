@@ -15,6 +15,7 @@ mod kind;
 mod lookup;
 mod name;
 mod names;
+mod pieces;
 mod reading;
 mod table;
 #[cfg(test)]
@@ -23,5 +24,6 @@ mod value;
 
 pub use entry::Field;
 pub use fault::StanzaFault;
+pub use pieces::{stanzas_beside, stanzas_of_a_cut_text};
 pub use reading::stanzas;
 pub use table::{Stanza, StanzaList};

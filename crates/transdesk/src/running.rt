@@ -13,6 +13,7 @@ use crate::run_files::{RunPaths, RunTexts, read_run_files};
 use crate::texts::Texts;
 use std::alloc::{AllocError, Global};
 use std::io::{Read, Write};
+use std::thread::Threads;
 use td_script::{InputFault as Refusal, Inputs, RunFault, ScriptEnd, run_script};
 
 // How a run ends where a text is refused.
@@ -94,7 +95,8 @@ fn play<R: Read, W: Write>(
 
 /// Answers the script that the reader has, over the files with these paths. The files are read
 /// before the script, and all of it before anything is written.
-pub fn run<T: Texts, R: Read, W: Write>(
+pub fn run<T: Texts + Sync, R: Read, W: Write>(
+    rt: &(impl Threads + Sync),
     alloc: Global,
     texts: &T,
     paths: &RunPaths<'_>,
@@ -106,7 +108,7 @@ pub fn run<T: Texts, R: Read, W: Write>(
         (run_files_at (T.bytes texts.now) (T.can_fail texts.now) paths.now) suite.now
         (R.remaining reader.old) (W.contents output.old) (W.contents output.new) result }
 {
-    match read_run_files(alloc, texts, paths) {
+    match read_run_files(rt, alloc, texts, paths) {
         Ok(read) => play(alloc, read, suite, reader, output),
         Err(unread) => ending_of_file(unread.role, unread.fault),
     }

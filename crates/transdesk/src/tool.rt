@@ -58,7 +58,7 @@ fn tell_fault<E: Write>(fault: &WordsFault, faults: &mut E) -> u8
 }
 
 // Tells what a tracker says, by the paths that the words gave.
-fn do_track<T: Texts, W: Write>(
+fn do_track<T: Texts + Sync, W: Write>(
     rt: &(impl Threads + Sync),
     alloc: Global,
     texts: &T,
@@ -87,7 +87,8 @@ fn do_track<T: Texts, W: Write>(
 }
 
 // Runs a script over the files with the paths that the words gave.
-fn do_run<T: Texts, R: Read, W: Write>(
+fn do_run<T: Texts + Sync, R: Read, W: Write>(
+    rt: &(impl Threads + Sync),
     alloc: Global,
     texts: &T,
     archs: &String,
@@ -117,11 +118,11 @@ fn do_run<T: Texts, R: Read, W: Write>(
         outcomes: given(outcomes),
         journal: given(journal),
     };
-    run(alloc, texts, &paths, suite.as_str(), reader, output)
+    run(rt, alloc, texts, &paths, suite.as_str(), reader, output)
 }
 
 // Does what was asked for.
-fn do_request<T: Texts, R: Read, W: Write>(
+fn do_request<T: Texts + Sync, R: Read, W: Write>(
     rt: &(impl Threads + Sync),
     alloc: Global,
     request: &Request,
@@ -142,6 +143,7 @@ fn do_request<T: Texts, R: Read, W: Write>(
             packages,
             sources,
         } => check(
+            rt,
             alloc,
             texts,
             archs.as_str(),
@@ -187,7 +189,7 @@ fn do_request<T: Texts, R: Read, W: Write>(
             outcomes,
             journal,
         } => do_run(
-            alloc, texts, archs, packages, sources, state, tracker, outcomes, journal, suite,
+            rt, alloc, texts, archs, packages, sources, state, tracker, outcomes, journal, suite,
             reader, output,
         )
         .alone(),
@@ -195,7 +197,7 @@ fn do_request<T: Texts, R: Read, W: Write>(
 }
 
 // Does what the words were read as.
-fn act<T: Texts, R: Read, W: Write, E: Write>(
+fn act<T: Texts + Sync, R: Read, W: Write, E: Write>(
     rt: &(impl Threads + Sync),
     alloc: Global,
     asked: Result<Call, WordsFault>,
@@ -222,7 +224,7 @@ fn act<T: Texts, R: Read, W: Write, E: Write>(
 }
 
 // Does what the words ask for.
-fn answer<T: Texts, R: Read, W: Write, E: Write>(
+fn answer<T: Texts + Sync, R: Read, W: Write, E: Write>(
     rt: &(impl Threads + Sync),
     alloc: Global,
     words: &[String],
@@ -281,7 +283,7 @@ fn answer<T: Texts, R: Read, W: Write, E: Write>(
 
 /// Does what the words ask for, and answers the program's status. The first word is the program's
 /// own name. What can't be written to `faults` is left.
-pub fn tool<T: Texts, R: Read, W: Write, E: Write>(
+pub fn tool<T: Texts + Sync, R: Read, W: Write, E: Write>(
     rt: &(impl Threads + Sync),
     alloc: Global,
     words: io::Result<Vec<String>>,
