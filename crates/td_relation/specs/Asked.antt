@@ -11,7 +11,8 @@ pub record Bound : Type 0 where
   pub operator : Operator
   pub version : Parts
 
--- a name, a restriction of the version, the words of an architecture list, and whether the build profile lists hold where no profile is active
+-- a name, a restriction of the version, the words of an architecture list, and whether the build
+-- profile lists hold where no profile is active
 pub record Asked : Type 0 where
   pub name : List ℕ
   pub restriction : Option Bound

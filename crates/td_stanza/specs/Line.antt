@@ -1,4 +1,5 @@
--- The lines of a control file (Debian Policy 5.1): separators, continuations, and first lines of fields.
+-- The lines of a control file (Debian Policy 5.1): separators, continuations, and first lines of
+-- fields.
 use Rattle.std.specs.Prelude.{◌≡◌, ℕ, ◌==◌, ◌&&◌, ◌||◌, not, Bool, false, List, [], ◌∷◌}
 use Rattle.std.specs.List.{list_all}
 

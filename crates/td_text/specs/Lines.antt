@@ -1,5 +1,6 @@
 -- A text as its lines, and a reading line by line in which the first fault decides.
-use Rattle.std.specs.Prelude.{ℕ, ◌+◌, ◌==◌, List, [], ◌∷◌, ◌++◌, Option, Some, None, Result, Ok, Err, length}
+use Rattle.std.specs.Prelude.{ℕ, ◌+◌, ◌==◌, List, [], ◌∷◌, ◌++◌, Option, Some, None, Result, Ok}
+use Rattle.std.specs.Prelude.{Err, length}
 use Rattle.std.specs.Borrow.{Bor}
 use Rattle.std.specs.List.{slice_split, flat_map}
 
@@ -19,9 +20,11 @@ on_ok (Err e) f = Err e
 
 -- a step takes the number of a line, what was seen before it, and the line, and gives what is seen
 -- with it or a fault; over lines, the first fault decides
-unfoldable pub over_lines : {S F : Type 0} → (ℕ → S → List ℕ → Result S F) → ℕ → S → List (List ℕ) → Result S F
+unfoldable pub over_lines : {S F : Type 0} → (ℕ → S → List ℕ → Result S F) → ℕ → S → List (List ℕ)
+    → Result S F
 over_lines step number seen [] = Ok seen
-over_lines step number seen (line ∷ lines) = on_ok (step number seen line) (λ more. over_lines step (number + 1) more lines)
+over_lines step number seen (line ∷ lines) =
+    on_ok (step number seen line) (λ more. over_lines step (number + 1) more lines)
 
 -- the lines of what is left of a text; None: not even an empty line
 abbrev pub lines_left : Option (Bor (List ℕ)) → List (List ℕ)

@@ -1,7 +1,9 @@
 //! Numbers as the formats write them.
 ghost use Rattle.std.specs.Prelude.{◌≡◌, ◌<◌, ◌≤◌, ◌^◌, IfSome};
 ghost use Rattle.td_text.specs.Limits.{max_rebuild};
-ghost use Rattle.td_text.specs.Numbers.{has_spare_front as has_spare_front_of, number_at, signed_at, IsWithin, NumbersAreExact, SignedAreExact};
+ghost use Rattle.td_text.specs.Numbers.{has_spare_front as has_spare_front_of};
+ghost use Rattle.td_text.specs.Numbers.{number_at, signed_at, IsWithin};
+ghost use Rattle.td_text.specs.Numbers.{NumbersAreExact, SignedAreExact};
 
 use crate::cutting::strip;
 
