@@ -8,7 +8,8 @@ use Rattle.std.proofs.lemmas.Bool.{cases_Bool}
 use Rattle.std.proofs.lemmas.Map.Text.{hash_map_updates_str}
 use Rattle.td_supply.specs.declared.numbers.Numbers.{Numbers}
 use Rattle.td_supply.specs.Numbers.{numbers_of}
-use Rattle.td_supply.proofs.Texts.{same_text, bytes_eq-swap}
+use Rattle.td_text.proofs.Bytes.{bytes_eq-swap}
+use Rattle.td_supply.proofs.Texts.{same_text}
 
 -- the numbers of each name after those of one are written
 pub written : (name q : List ℕ) (a b : Numbers) (old new : Vec ℕ Global) (f : List ℕ → List ℕ)
@@ -17,12 +18,15 @@ pub written : (name q : List ℕ) (a b : Numbers) (old new : Vec ℕ Global) (f 
     (Some new) → new.items ≡ f old.items
     → numbers_of b q ≡ (if bytes_eq q name then f (numbers_of a q) else numbers_of a q)
 written name q a b old new f there updates is =
-    let seen = ap (λ o. option_map_or (λ (l : Vec ℕ Global). l.items) o []) (hash_map_updates_str name a.by_name b.by_name (Some new) updates q) in
+    let seen = ap (λ o. option_map_or (λ (l : Vec ℕ Global). l.items) o [])
+        (hash_map_updates_str name a.by_name b.by_name (Some new) updates q) in
     elim (cases_Bool (bytes_eq q name)) [
       | inl same ↦
           let e : q ≡ name = same_text q name same in
           let own : bytes_eq name q ≡ true = bytes_eq-swap name q ∙ same in
-          let had : old.items ≡ numbers_of a q = ap (λ o. option_map_or (λ (l : Vec ℕ Global). l.items) o []) there ∙ ap (numbers_of a) (sym e) in
+          let had : old.items ≡ numbers_of a q =
+              ap (λ o. option_map_or (λ (l : Vec ℕ Global). l.items) o []) there
+              ∙ ap (numbers_of a) (sym e) in
           seen ∙ rw (own, same) (is ∙ ap f had)
       | inr other ↦
           let foreign : bytes_eq name q ≡ false = bytes_eq-swap name q ∙ other in

@@ -9,3 +9,4 @@ pub mod FirstFault
 pub mod RunLaws
 pub mod RunTexts
 pub mod Blanks
+pub mod Bytes
