@@ -12,6 +12,8 @@ pub mod Fixed
 pub mod Numbers
 pub mod Returns
 pub mod Numbered
+pub mod Times
+pub mod OutRows
 pub mod Tallies
 pub mod Installing
 pub mod Groups

@@ -2,7 +2,6 @@
 use Rattle.std.proofs.Common.{arith, ◌≡◌, ℕ, zero, suc, ◌+◌, Bool, true, false, List, [], ◌∷◌, ◌++◌, filter, if◌then◌else◌, ap, refl, ◌∙◌, sym}
 use Rattle.std.specs.List.{range_with_len}
 use Rattle.std.proofs.lemmas.List.Elements.{filter-append}
-use Rattle.std.proofs.Common.{append-nil}
 
 range_more : (a n : ℕ) → range_with_len a (suc n) ≡ range_with_len a n ++ (a + n) ∷ []
 range_more a zero = let e : a ≡ a + 0 = omega arith in λ j. e j ∷ []
@@ -17,11 +16,3 @@ filter_more p n =
     let more : n + 1 ≡ suc n = omega arith in
     let here : 0 + n ≡ n = omega arith in
     ap (λ m. filter p (range_with_len 0 m)) more ∙ ap (filter p) (range_more 0 n ∙ ap (λ m. range_with_len 0 n ++ m ∷ []) here) ∙ filter_one p (range_with_len 0 n) n
-
--- which passes
-pub filter_in : (p : ℕ → Bool) (n : ℕ) (old new : List ℕ) → p n ≡ true → old ≡ filter p (range_with_len 0 n) → new ≡ old ++ n ∷ [] → new ≡ filter p (range_with_len 0 (n + 1))
-filter_in p n old new is was now = now ∙ ap (λ xs. xs ++ n ∷ []) was ∙ ap (λ b. filter p (range_with_len 0 n) ++ (if b then n ∷ [] else [])) (sym is) ∙ sym (filter_more p n)
-
--- or doesn't
-pub filter_out : (p : ℕ → Bool) (n : ℕ) (old new : List ℕ) → p n ≡ false → old ≡ filter p (range_with_len 0 n) → new ≡ old → new ≡ filter p (range_with_len 0 (n + 1))
-filter_out p n old new isnt was now = now ∙ was ∙ sym (append-nil (filter p (range_with_len 0 n))) ∙ ap (λ b. filter p (range_with_len 0 n) ++ (if b then n ∷ [] else [])) (sym isnt) ∙ sym (filter_more p n)

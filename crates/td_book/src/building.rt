@@ -43,13 +43,13 @@ impl<'a> Inner<'a> {
         ensures none { IfNone result (self.new ≡ self.old) }
         ensures noted { IfSome result (λ by. LostTo by self.old self.new row claim) }
     {
-        match board.withdraw(&mut self.desk, row) {
+        match self.desk.withdraw(board, row) {
             Withdrawal::Withdrawn => {
-                board.offer(&mut self.desk, row);
+                self.desk.offer(board, row);
                 None
             }
             Withdrawal::Held(_) => {
-                let builder = board.note(&mut self.desk, row);
+                let builder = self.desk.note(board, row);
                 self.books.append_reserved(Entry {
                     kind: Kind::Claim(builder),
                     keys: claim,
@@ -103,7 +103,7 @@ impl<'a> Inner<'a> {
         ensures stays { Stays self.old self.new }
     {
         let _rows = self.books.rows();
-        if !board.settle(&mut self.desk, row, code) {
+        if !self.desk.settle(board, row, code) {
             return None;
         }
         self.books.commit(planned)

@@ -17,6 +17,7 @@ mod commanding;
 mod finishing;
 mod inner;
 mod naming;
+mod offers;
 mod opening;
 mod reading;
 mod reopening;

@@ -32,7 +32,7 @@ impl<'a> Book<'a> {
         // (`len` says that the keys of the rows rise)
         let _rising = rows.len();
         let books = Books::open(alloc, rows, supply)?;
-        let mut inner = Inner::new(alloc, books, desk);
+        let mut inner = Inner::new(alloc, books, desk)?;
         inner.offer_all(board);
         Ok(Book { inner, alloc })
     }
