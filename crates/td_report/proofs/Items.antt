@@ -31,18 +31,18 @@ use Rattle.td_report.specs.Transition.{AreLevels, IsAffected, IsReport, IsWaves,
 
 -- ---- one row more
 
-single : (o : Option AffectedRow) → cons_option o [] ≡ option_to_list o
+single : {B : Type 0} (o : Option B) → cons_option o [] ≡ option_to_list o
 single None = refl
 single (Some r) = refl
 
-rows-more : (f : Key × Row → Option AffectedRow) (rows : Table) (n : ℕ) (o : Option AffectedRow)
+pub rows-more : {B : Type 0} (f : Key × Row → Option B) (rows : Table) (n : ℕ) (o : Option B)
     → n < length rows → o ≡ option_map_or f (slice_get rows n) None
     → filter_map f (take (n + 1) rows) ≡ filter_map f (take n rows) ++ option_to_list o
-rows-more f rows n o lt e = elim (slice_get_cases rows n).1 [
+rows-more {B} f rows n o lt e = elim (slice_get_cases rows n).1 [
   | inl h ↦
       ap (λ (l : Table). filter_map f l) (take-next rows n h.0 h.2)
       ∙ filter_map-append f (take n rows) (h.0 ∷ [])
-      ∙ ap (λ (l : List AffectedRow). filter_map f (take n rows) ++ l)
+      ∙ ap (λ (l : List B). filter_map f (take n rows) ++ l)
       (single (f h.0) ∙ ap option_to_list
       (sym (e ∙ ap (λ (p : Option (Key × Row)). option_map_or f p None) h.2)))
   | inr h ↦ absurd (omega (arith, h.0, lt))

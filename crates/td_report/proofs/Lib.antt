@@ -5,3 +5,4 @@ pub mod Splits
 pub mod SeenRows
 pub mod Items
 pub mod Once
+pub mod Counts

@@ -3,5 +3,6 @@ pub mod Report
 pub mod ItemLines
 pub mod Transition
 pub mod TransitionView
+pub mod Groups
 pub mod Grouped
 pub mod Pieces

@@ -8,7 +8,7 @@ ghost use Rattle.td_report.specs.ItemLines.{report_lines};
 
 use crate::grouping::by_level;
 use crate::item::Item;
-use crate::item_line::put_item_line;
+use crate::lines::lines_of;
 use crate::piece::Piece;
 use crate::whole::put_block;
 use crate::writing::{put_last_line, put_title_line};
@@ -17,18 +17,7 @@ use std::alloc::{AllocError, Global};
 use std::thread::Threads;
 use td_waves::Level;
 
-// The lines of rows.
-fn lines_of(alloc: Global, items: &[Item<'_>]) -> Result<String, AllocError>
-    ensures { IfOk result (λ text. string_bytes text ≡ lines_text items.now) }
-{
-    let mut text = String::new(alloc);
-    for item in items {
-        put_item_line(&mut text, item)?;
-    }
-    Ok(text)
-}
-
-// Those of chunks of the rows, in order.
+// The lines of chunks of the rows, in order.
 fn chunk_lines(
     rt: &(impl Threads + Sync),
     alloc: Global,

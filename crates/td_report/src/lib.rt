@@ -1,18 +1,22 @@
 //! The report of a transition: the affected rows by the levels of their sources.
 //!
 //! Start at `Transition::of`, which asks a tracker about an archive; `Transition::report` is the
-//! text.
-//! `specs/Report.antt` says what its lines are, `specs/Transition.antt` of which rows.
+//! text, `groups` the rows to watch for one whose counts are kept.
+//! `specs/Report.antt` says what its lines are, `specs/Transition.antt` of which rows,
+//! `specs/Groups.antt` which rows are counted together.
 //! Promised: the text is that of these lines, made in one piece, by chunks in several
 //! threads, or by counts of Installed rows that are kept; an
 //! affected row stands under the level of its source, in the order of the keys.
 #![tactic(auto)]
 
+mod counted;
 mod counting;
 mod grouping;
+mod groups;
 mod item;
 mod item_line;
 mod keeping;
+mod lines;
 mod piece;
 mod splitting;
 mod transition;
@@ -20,4 +24,5 @@ mod waves_text;
 mod whole;
 mod writing;
 
+pub use groups::Groups;
 pub use transition::Transition;

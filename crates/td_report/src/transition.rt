@@ -1,5 +1,6 @@
 //! A tracker over an archive, and what is told of it.
 
+use crate::counted::counted_text;
 use crate::item::Item;
 use crate::keeping::kept_text;
 use crate::splitting::split_text;
@@ -28,6 +29,7 @@ impl<'b, 't, 'a, 'q> Transition<'b, 't, 'a, 'q> {
     ghost use Rattle.std.specs.Option.{option_map_or};
     ghost use Rattle.td_query.specs.Statuses.{status_of};
     ghost use Rattle.td_query.specs.Tracking.{tracking};
+    ghost use Rattle.td_report.specs.Groups.{AreCounts};
     ghost use Rattle.td_report.specs.ItemLines.{seen};
     ghost use Rattle.td_report.specs.Transition.{IsReport, IsWaves, affected_row, affected_rows};
     ghost use Rattle.td_report.specs.TransitionView as of;
@@ -157,6 +159,24 @@ impl<'b, 't, 'a, 'q> Transition<'b, 't, 'a, 'q> {
         let items = self.items(alloc, rows)?;
         let depth = self.waves.depth();
         kept_text(rt, alloc, self.tracker.title(), depth, &items, kept, chunk)
+    }
+
+    /// The same text, where it is given how many rows of each group are Installed. They aren't
+    /// counted anew.
+    pub fn report_counted(
+        &self,
+        alloc: Global,
+        rows: &Rows,
+        counts: &[usize],
+    ) -> Result<String, AllocError>
+        requires made { of.IsMade self.now }
+        requires counts { AreCounts self.now rows.now counts.now }
+        ensures { IfOk result (λ text. IsReport (of.contents_of self.now)
+            (of.tracking_of self.now) rows.now (string_bytes text)) }
+    {
+        let items = self.items(alloc, rows)?;
+        let depth = self.waves.depth();
+        counted_text(alloc, self.tracker.title(), depth, &items, counts)
     }
 
     /// The affected sources of the rows, by level.

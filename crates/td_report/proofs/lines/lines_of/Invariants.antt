@@ -1,7 +1,7 @@
 -- What the loop of `lines_of` keeps.
 use Rattle.std.proofs.Common.{◌≡◌, take, string_bytes}
 use Rattle.td_report.specs.Pieces.{lines_text}
-use Rattle.td_report.proofs.keeping.lines_of.Given as goal
+use Rattle.td_report.proofs.lines.lines_of.Given as goal
 
 -- the lines so far
 abbrev pub invariant-loop-item : goal.invariant-loop-item

@@ -1,0 +1,18 @@
+//! The lines of affected rows.
+ghost use Rattle.std.specs.Prelude.{◌≡◌, IfOk, string_bytes};
+ghost use Rattle.td_report.specs.Pieces.{lines_text};
+
+use crate::item::Item;
+use crate::item_line::put_item_line;
+use std::alloc::{AllocError, Global};
+
+/// The lines of rows.
+pub fn lines_of(alloc: Global, items: &[Item<'_>]) -> Result<String, AllocError>
+    ensures { IfOk result (λ text. string_bytes text ≡ lines_text items.now) }
+{
+    let mut text = String::new(alloc);
+    for item in items {
+        put_item_line(&mut text, item)?;
+    }
+    Ok(text)
+}
