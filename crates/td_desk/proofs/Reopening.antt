@@ -8,7 +8,6 @@ use Rattle.td_text.specs.Cut.{Without}
 use Rattle.td_text.proofs.Cut.{Without-right}
 use Rattle.td_text.proofs.Numbers.{Without-decimal}
 use Rattle.td_rows.specs.declared.key.Key.{Key}
-use Rattle.td_rows.specs.declared.row.Row.{Row}
 use Rattle.td_rows.specs.declared.state.State.{State}
 use Rattle.td_rows.specs.declared.state.State.TheVariants.{NeedsBuild, Building, Built, Uploaded, Installed, DepWait, BdUninstallable, BuildAttempted, Failed, NotForUs}
 use Rattle.td_rows.specs.Table.{Table}
@@ -139,6 +138,9 @@ begun_book opening text table stock builders b small r =
 
 pub begun_table : (opening : Table) (text : List ℕ) (table named : TableId) (stock : Stock) (builders : ℕ) (b : BookModel) → IsReopened opening text table stock builders b → table ≡ named → b.fixed.table ≡ named
 begun_table opening text table named stock builders b r at = ap (λ (x : BookModel). x.fixed.table) r.is ∙ at
+
+pub begun_origin : (opening origin : Table) (text : List ℕ) (table : TableId) (stock : Stock) (builders : ℕ) (b : BookModel) → IsReopened opening text table stock builders b → origin ≡ opening → b.history.opening ≡ origin
+begun_origin opening origin text table stock builders b r at = ap (λ (x : BookModel). x.history.opening) r.is ∙ sym at
 
 pub begun_still : (os : List Mark) (opening : Table) (text : List ℕ) (table : TableId) (stock : Stock) (builders : ℕ) (b : BookModel) → IsReopened opening text table stock builders b → os ≡ marks_in text → length text < 2 ^ 64
     → still_undone b.history.journal os ≡ true

@@ -29,6 +29,8 @@ impl<'a, N: Named, C: Ledger> Desk<'a, N, C> {
         ensures err { IfErr result (λ differ. (IsPermutation (all_receipts clerks.items) (changes N.opened differ.book) → ⊥) × (differ.clerks.items ≡ clerks.items)) }
         ensures table_ok { IfOk result (λ book. book.fixed.table ≡ N.table) }
         ensures table_err { IfErr result (λ differ. differ.book.fixed.table ≡ N.table) }
+        ensures origin_ok { IfOk result (λ book. book.history.opening ≡ N.origin) }
+        ensures origin_err { IfErr result (λ differ. differ.book.history.opening ≡ N.origin) }
         ensures whole { IfErr result (λ differ. all_parts clerks.items ≡ 1024 → length (all_receipts clerks.items) ≡ length (changes N.opened differ.book)) }
     {
         let Desk { locked, .. } = self;

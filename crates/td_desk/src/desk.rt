@@ -55,6 +55,7 @@ impl<'a, N: Named, C: Ledger> Desk<'a, N, C> {
     ) -> Result<(Desk<'a, N, C>, Clerk<C>), AllocError>
         requires board { board.table ≡ N.table }
         requires seat { seat.table ≡ N.table }
+        requires origin { N.origin ≡ rows }
         requires opened { N.opened ≡ [] }
         requires fresh_seat { seat.desk ≡ new_desk (length rows) (length seat.desk.noted) }
         requires idle { NoneBuilt rows }
@@ -84,6 +85,7 @@ impl<'a, N: Named, C: Ledger> Desk<'a, N, C> {
     ) -> Result<(Desk<'a, N, C>, Clerk<C>), ReadError>
         requires board { board.table ≡ N.table }
         requires seat { seat.table ≡ N.table }
+        requires origin { N.origin ≡ rows }
         requires opened { N.opened ≡ marks_in text.now }
         requires fresh_seat { seat.desk ≡ new_desk (length rows) (length seat.desk.noted) }
         requires fresh_supply { supply ≡ opened_stock (stock_of supply) }
@@ -170,6 +172,7 @@ fn begin<'a, N: Named, C: Ledger>(
 ) -> (Desk<'a, N, C>, Clerk<C>)
     requires board { board.table ≡ N.table }
     requires book { book.fixed.table ≡ N.table }
+    requires origin { book.history.opening ≡ N.origin }
     requires still { still_undone book.history.journal N.opened ≡ true }
     requires none { changes N.opened book ≡ [] }
     requires ticks { AreBegun N.opened (length book.history.journal) ticks.items }

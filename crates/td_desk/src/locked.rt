@@ -37,6 +37,7 @@ pub(crate) struct Locked<'a, N: Named, C: Ledger> {
     pub(crate) shut: bool,
     of: PhantomData<N>,
     ghost named: { book.fixed.table ≡ N.table },
+    ghost origin: { book.history.opening ≡ N.origin },
     ghost still: { still_undone book.history.journal N.opened ≡ true },
     ghost counted: { length (changes N.opened book) ≡ ledger.total },
     ghost ticked: { AreBegun N.opened (length book.history.journal) ticks.items },
@@ -46,6 +47,7 @@ impl<'a, N: Named, C: Ledger> Locked<'a, N, C> {
     /// A book without changes, with a ledger of nothing.
     pub(crate) fn new(book: Book<'a>, ledger: ledger::Book<C>, ticks: Vec<Tick>) -> Locked<'a, N, C>
         requires named { book.fixed.table ≡ N.table }
+        requires origin { book.history.opening ≡ N.origin }
         requires still { still_undone book.history.journal N.opened ≡ true }
         requires book { changes N.opened book ≡ [] }
         requires ledger { ledger.total ≡ 0 }

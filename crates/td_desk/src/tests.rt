@@ -99,6 +99,7 @@ fn two_clerks<N: Named + Send + Sync, C: Ledger + Send + Sync, R: Threads + Wait
 ) -> Result<Result<u64, usize>, Fail>
     requires board { board.table ≡ N.table }
     requires seat { seat.table ≡ N.table }
+    requires origin { N.origin ≡ rows }
     requires opened { N.opened ≡ [] }
     requires fresh_seat { seat.desk ≡ new_desk (length rows) (length seat.desk.noted) }
     requires idle { NoneBuilt rows }

@@ -1,8 +1,11 @@
 -- A desk over a journal begins with the marks of its text, and with no change.
-use Rattle.std.proofs.Common.{◌≡◌, ◌<◌, ◌^◌, map, length, sym, ap, ◌∙◌, arith}
+use Rattle.std.proofs.Common.{◌<◌, ◌^◌, map, length, sym, ap, ◌∙◌, arith}
 use Rattle.td_desk.specs.inner.Ticks.{AreBegun, begun_at}
-use Rattle.td_desk.proofs.Reopening.{begun_still, begun_none, begun_named, begun_few}
+use Rattle.td_desk.proofs.Reopening.{begun_origin, begun_still, begun_none, begun_named, begun_few}
 use Rattle.td_desk.proofs.desk.Desk.reopen.Goals as goal
+
+pub begin-requires-clause-origin : goal.begin-requires-clause-origin
+begin-requires-clause-origin g c = begun_origin _ g.N.Named.origin c.args.text.now _ _ _ c.in-Ok-reopen.book c.in-Ok-reopen.ensures.found c.requires.origin
 
 pub begin-requires-clause-still : goal.begin-requires-clause-still
 begin-requires-clause-still g c =

@@ -1,7 +1,8 @@
-use Rattle.std.proofs.Common.{rules, arith, ◌≤◌, ◌+◌, ◌∙◌, ap, sym, length}
+use Rattle.std.proofs.Common.{rules, arith, ◌≤◌, ◌+◌, ◌∙◌, ap, sym, length, Ok}
 use Rattle.td_book.specs.Desk.{Fixed}
 use Rattle.td_desk.proofs.Counting.{one_more}
 use Rattle.td_desk.proofs.Growing.{arrive_grown}
+use Rattle.td_desk.proofs.Origins.{arrive_origin}
 use Rattle.td_desk.specs.inner.Ticks.{AreBegun}
 use Rattle.td_desk.proofs.locked.Locked.arrive.Goals as goal
 
@@ -13,6 +14,7 @@ invariant_of-self-2 g c =
     let held : AreBegun g.N.Named.opened c.len.result c.add_ticks.new.ticks.items = c.add_ticks.ensures.begun g.N.Named.opened (search rules) in
     record {
       named = ap (λ (f : Fixed). f.table) k.fixed ∙ old.named;
+      origin = arrive_origin c.args.key.now old.book c.arrive.new.self (Ok c.in-Ok.n) c.in-Ok.ensures ∙ old.origin;
       still = k.still;
       counted = one_more _ _ _ k.one ∙ (ap (λ n. n + 1) old.counted ∙ sym c.add.ensures.total);
       ticked = (held.0, let l = k.long in omega (arith, l, room));

@@ -1,4 +1,4 @@
-use Rattle.std.proofs.Common.{rules, arith, ◌≤◌, ◌+◌, ◌++◌, ◌∷◌, [], ◌∙◌, ap, sym, length}
+use Rattle.std.proofs.Common.{rules, arith, ◌≤◌, ◌+◌, ◌++◌, ◌∷◌, [], ◌∙◌, ap, sym, length, Ok, Err}
 use Rattle.std.specs.Prelude.{◌≡◌}
 use Rattle.td_wbread.specs.Views.{parts_of}
 use Rattle.td_book.specs.Commands.{named_by}
@@ -8,6 +8,7 @@ use Rattle.td_desk.specs.Calls.{skipped_keys}
 use Rattle.td_desk.specs.inner.Matching.{left_out}
 use Rattle.td_desk.proofs.Counting.{one_more}
 use Rattle.td_desk.proofs.Commanding.{told_keys, command_grown, command_kept}
+use Rattle.td_desk.proofs.Origins.{command_origin}
 use Rattle.td_desk.specs.inner.Ticks.{AreBegun}
 use Rattle.td_desk.proofs.locked.Locked.command.Goals as goal
 
@@ -21,6 +22,7 @@ invariant_of-self-in-Err-command g c =
     let held : AreBegun g.N.Named.opened c.len.result c.add_ticks.new.ticks.items = c.add_ticks.ensures.begun g.N.Named.opened (search rules) in
     record {
       named = ap (λ (f : Fixed). f.table) k.fixed ∙ old.named;
+      origin = command_origin p old.book c.command.new.self (Err c.in-Err.refusal) c.in-Err.ensures ∙ old.origin;
       still = k.still;
       counted = ap length k.same ∙ old.counted;
       ticked = (held.0, let l = k.long in omega (arith, l, room, same));
@@ -36,6 +38,7 @@ invariant_of-self-2 g c =
     let held : AreBegun g.N.Named.opened c.len.result c.add_ticks.new.ticks.items = c.add_ticks.ensures.begun g.N.Named.opened (search rules) in
     record {
       named = ap (λ (f : Fixed). f.table) k.fixed ∙ old.named;
+      origin = command_origin p old.book c.command.new.self (Ok c.in-Ok-command.taken) c.in-Ok-command.ensures ∙ old.origin;
       still = k.still;
       counted = one_more _ _ _ k.one ∙ (ap (λ n. n + 1) old.counted ∙ sym c.add.ensures.total);
       ticked = (held.0, let l = k.long in omega (arith, l, room, same));

@@ -1,6 +1,7 @@
 use Rattle.std.proofs.Common.{rules, arith, ◌≤◌, ◌+◌, ◌∙◌, ap, length}
 use Rattle.td_book.specs.Desk.{Fixed}
 use Rattle.td_desk.proofs.Growing.{finish_kept}
+use Rattle.td_desk.proofs.Origins.{finish_origin}
 use Rattle.td_desk.specs.inner.Ticks.{AreBegun}
 use Rattle.td_desk.proofs.locked.Locked.finish.Goals as goal
 
@@ -13,6 +14,7 @@ invariant_of-self-2 g c =
     let held : AreBegun g.N.Named.opened c.len.result c.add_ticks.new.ticks.items = c.add_ticks.ensures.begun g.N.Named.opened (search rules) in
     record {
       named = ap (λ (f : Fixed). f.table) k.fixed ∙ old.named;
+      origin = finish_origin v.hand c.args.outcome v c.finish.new.seat.builder old.book c.finish.new.self c.finish.result c.finish.ensures.outcome ∙ old.origin;
       still = k.still;
       counted = ap length k.same ∙ old.counted;
       ticked = (held.0, let l = k.long in omega (arith, l, room));

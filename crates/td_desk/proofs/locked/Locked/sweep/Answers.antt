@@ -4,6 +4,7 @@ use Rattle.td_book.specs.Arriving.{SweepOutcome}
 use Rattle.td_book.specs.Desk.{Fixed}
 use Rattle.td_desk.proofs.Counting.{one_more}
 use Rattle.td_desk.proofs.Growing.{sweep_grown}
+use Rattle.td_desk.proofs.Origins.{sweep_origin}
 use Rattle.td_desk.specs.inner.Ticks.{AreBegun}
 use Rattle.td_desk.proofs.locked.Locked.sweep.Goals as goal
 
@@ -16,6 +17,7 @@ invariant_of-self-2 g c =
     let held : AreBegun g.N.Named.opened c.len.result c.add_ticks.new.ticks.items = c.add_ticks.ensures.begun g.N.Named.opened (search rules) in
     record {
       named = ap (λ (f : Fixed). f.table) k.fixed ∙ old.named;
+      origin = sweep_origin old.book c.sweep.new.self (Ok (Some c.in-Some.n)) done ∙ old.origin;
       still = k.still;
       counted = one_more _ _ _ k.one ∙ (ap (λ n. n + 1) old.counted ∙ sym c.add.ensures.total);
       ticked = (held.0, let l = k.long in omega (arith, l, room));
