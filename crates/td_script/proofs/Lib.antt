@@ -3,7 +3,9 @@ pub mod RequestTexts
 pub mod AnswerLaws
 pub mod CommandLaws
 pub mod ReportLaws
+pub mod Staying
 pub mod ScriptLaws
+pub mod WatchLaws
 pub mod OpeningLaws
 pub mod RunLaws
 pub mod OnlyLaws

@@ -123,7 +123,7 @@ no_table_stops x archs e f is only its readable =
 
 -- ---- the run
 
-stops_run : (x : Texts) (e : RunFault) → Stops x e → MayStop x e
+pub stops_run : (x : Texts) (e : RunFault) → Stops x e → MayStop x e
 stops_run x (Input (fault.Table e)) h = h
 stops_run x (Input (fault.Archive e)) h = h
 stops_run x (Input (fault.State e)) h = h

@@ -1,6 +1,6 @@
 -- What is read of the texts, layer by layer.
 use Rattle.std.proofs.Common.{◌≡◌, ◌↔◌, ℕ, List, [], ◌∷◌, false, Option, Some, None, Result, Ok, Err, IfOk, IfErr, refl, sym, ap, subst, ◌∙◌, option_map, unwrap_or, map}
-use Rattle.std.specs.Prelude.{MatchResult}
+use Rattle.std.specs.Prelude.{MatchResult, string_bytes}
 use Rattle.td_text.specs.Lines.{lines_of}
 use Rattle.td_relation.specs.Arch.{ArchWords}
 use Rattle.td_relation.specs.TableFile.{IsTable}
@@ -48,7 +48,8 @@ use Rattle.td_script.specs.declared.told.Told.{Told as ToldText}
 use Rattle.td_script.specs.Replies.{Setting}
 use Rattle.td_script.specs.Reporting.{report_with}
 use Rattle.td_script.specs.Script.{IsTold, Told, script, told_of}
-use Rattle.td_script.specs.OpeningInside.{IsBegunBy, IsJournalFault, IsRefusedBy, IsRefusedIn, IsReplacedIn, IsToldFrom, IsToldOf, IsTrackerOf, IsUntold, Tells, of_archive, of_journal, of_state, of_table, of_tracker}
+use Rattle.td_script.specs.Ends.{IsAnswered}
+use Rattle.td_script.specs.OpeningInside.{IsBegunBy, IsJournalFault, IsRefusedBy, IsRefusedIn, IsReplacedIn, IsToldFrom, IsTrackerOf, IsUntold, Tells, of_archive, of_journal, of_state, of_table, of_tracker}
 use Rattle.td_script.specs.Openings.{AreOpened, AreReports, AreRowsOf, IsArchiveOf, IsTrackerIfGiven, Texts}
 
 -- ---- 1. faults
@@ -177,13 +178,13 @@ begun_again rows text table stock builders b is = record {
 
 -- what is told from a book that begins so
 pub told_from : (b new : BookModel) (stock : Stock) (suites : List (List ℕ)) (suite : List ℕ) (report : Option (Table → List ℕ)) (text : List ℕ) (told : ToldText) → IsTold (record { stock = b.fixed.stock; suites = suites; report = report }) text b new told → b.fixed.stock ≡ stock → suites ≡ suite ∷ []
-    → IsToldOf (record { stock = stock; suites = suite ∷ []; report = report }) b.history text told
+    → IsAnswered (record { stock = stock; suites = suite ∷ []; report = report }) b.history text (string_bytes told.text) told.refused
 told_from b new stock suites suite report text told h offers its =
     let e : told_of told new.history ≡ script (record { stock = stock; suites = suite ∷ []; report = report }) b.history text =
     h.is
     ∙ ap (λ (x : Stock). script (record { stock = x; suites = suites; report = report }) b.history text) offers
     ∙ ap (λ (x : List (List ℕ)). script (record { stock = stock; suites = x; report = report }) b.history text) its in
-    record { text = ap (λ (t : Told). t.text) e; refused = ap (λ (t : Told). t.refused) e }
+    record { text_is = ap (λ (t : Told). t.text) e; refused_is = ap (λ (t : Told). t.refused) e }
 
 -- nothing is told over what the texts say
 untold : (x : Texts) (c : Contents) (rows : Table) (e : RunFault) → IsUntold rows x.journal e → IsArchiveOf x c → AreRowsOf c x.state rows → IsTrackerIfGiven x.tracker → IsRefusedBy x e
@@ -200,12 +201,12 @@ untold x c rows Write h archive are tracker = absurd h
 untold x c rows NoMemory h archive are tracker = tt
 
 -- over what the texts say
-pub tells_from : (x : Texts) (c : Contents) (report : Option (Table → List ℕ)) (rows : Table) (text : List ℕ) (r : Result ToldText RunFault)
-    → IfOk r (IsToldFrom (record { stock = supply_of c; suites = x.suite ∷ []; report = report }) x.journal rows text) → IfErr r (IsUntold rows x.journal)
-    → IsArchiveOf x c → AreRowsOf c x.state rows → AreReports c x.tracker report → IsTrackerIfGiven x.tracker → MatchResult r (Tells x text) (IsRefusedBy x)
-tells_from x c report rows text (Ok told) is refused archive are reports tracker =
+pub tells_from : (May : Setting → History → List ℕ → List ℕ → ℕ → Type 0) (x : Texts) (c : Contents) (report : Option (Table → List ℕ)) (rows : Table) (text : List ℕ) (r : Result ToldText RunFault)
+    → IfOk r (IsToldFrom May (record { stock = supply_of c; suites = x.suite ∷ []; report = report }) x.journal rows text) → IfErr r (IsUntold rows x.journal)
+    → IsArchiveOf x c → AreRowsOf c x.state rows → AreReports c x.tracker report → IsTrackerIfGiven x.tracker → MatchResult r (Tells May x text) (IsRefusedBy x)
+tells_from May x c report rows text (Ok told) is refused archive are reports tracker =
     (record { stock = supply_of c; suites = x.suite ∷ []; report = report }, is.0, (c, archive, record { rows = rows; rows_are = are; begun = is.1; stock = refl; suites = refl; reports = reports }), is.2)
-tells_from x c report rows text (Err e) is refused archive are reports tracker = untold x c rows e refused archive are tracker
+tells_from May x c report rows text (Err e) is refused archive are reports tracker = untold x c rows e refused archive are tracker
 
 pub tracker_given : (x : Texts) (t : Tracking) → IsTrackerOf x t → IsTrackerIfGiven x.tracker
 tracker_given x t is = subst IsTrackerIfGiven (sym is.1) (t, is.2)

@@ -8,10 +8,11 @@ use Rattle.td_bytes.specs.declared.text.TextFault.{TextFault}
 use Rattle.td_script.specs.declared.running.RunFault.{RunFault}
 use Rattle.td_script.specs.declared.running.TheConstants.{SCRIPT_LIMIT}
 use Rattle.td_script.specs.declared.told.Told.{Told as ToldText}
+use Rattle.td_core.specs.History.{History}
 use Rattle.td_script.specs.Ends.{Plays}
 use Rattle.td_script.specs.OpeningInside.{IsRefusedBy, IsUnread, Tells}
 use Rattle.td_script.specs.Openings.{Texts}
-use Rattle.td_script.specs.Script.{Told, script}
+use Rattle.td_script.specs.Replies.{Setting}
 
 -- the known bytes are those that were read
 all_read : (known : Option (List ℕ)) (t : List ℕ) → IfSome known (λ all. t ≡ all) → IfSome known (λ all. all ≡ t)
@@ -19,11 +20,11 @@ all_read None t h = tt
 all_read (Some all) t h = sym h
 
 -- something was told of what was read
-pub plays : (x : Texts) (known : Option (List ℕ)) (read : Result (String Global) TextFault) (r : Result ToldText RunFault) (told : ToldText) (So : Told → Type 0) → r ≡ Ok told
+pub plays : (May : Setting → History → List ℕ → List ℕ → ℕ → Type 0) (x : Texts) (known : Option (List ℕ)) (read : Result (String Global) TextFault) (r : Result ToldText RunFault) (told : ToldText) (So : List ℕ → ℕ → Type 0) → r ≡ Ok told
     → IfOk read (λ t. IfSome known (λ all. string_bytes t ≡ all)) → IfOk read (λ t. length (string_bytes t) ≤ SCRIPT_LIMIT)
-    → IfOk read (λ t. MatchResult r (Tells x (string_bytes t)) (IsRefusedBy x)) → IfErr read (λ f. IsUnread x f r)
-    → ((t : Told) → string_bytes told.text ≡ t.text → told.refused ≡ t.refused → So t) → Plays x known So
-plays x known (Ok t) r told So is whole within says unread so =
-    let h = MatchResult-at_ok (Tells x (string_bytes t)) (IsRefusedBy x) told is says in
-    (h.0, h.1, h.2, (string_bytes t, record { whole = all_read known (string_bytes t) whole; fits = (within, IsUtf8-string_bytes t) }, so (script h.0 h.1 (string_bytes t)) h.3.text h.3.refused))
-plays x known (Err f) r told So is whole within says unread so = absurd (subst (IsUnread x f) is unread)
+    → IfOk read (λ t. MatchResult r (Tells May x (string_bytes t)) (IsRefusedBy x)) → IfErr read (λ f. IsUnread x f r)
+    → So (string_bytes told.text) told.refused → Plays May x known So
+plays May x known (Ok t) r told So is whole within says unread so =
+    let h = MatchResult-at_ok (Tells May x (string_bytes t)) (IsRefusedBy x) told is says in
+    (h.0, h.1, h.2, (string_bytes t, record { whole = all_read known (string_bytes t) whole; fits = (within, IsUtf8-string_bytes t) }, (string_bytes told.text, told.refused, h.3, so)))
+plays May x known (Err f) r told So is whole within says unread so = absurd (subst (IsUnread x f) is unread)

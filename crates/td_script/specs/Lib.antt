@@ -1,12 +1,15 @@
 -- What the contracts of this crate cite: a file a thing.
 pub mod Answering
+pub mod Asking
 pub mod Ends
 pub mod Faults
 pub mod OpeningInside
 pub mod Openings
 pub mod Reading
 pub mod Replies
+pub mod Replying
 pub mod Reporting
+pub mod Watched
 pub mod Requests
 pub mod Script
 pub mod Cutting

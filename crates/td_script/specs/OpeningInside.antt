@@ -32,7 +32,6 @@ use Rattle.td_script.specs.declared.told.Told.{Told as ToldText}
 use Rattle.td_script.specs.Ends.{AreFine}
 use Rattle.td_script.specs.Openings.{IsBegun, IsNoJournal, IsNoState, IsPatternRefused, IsReadableOver, IsRefused, IsSet, Texts}
 use Rattle.td_script.specs.Replies.{Setting}
-use Rattle.td_script.specs.Script.{script}
 
 -- ---- 1. faults
 
@@ -136,18 +135,13 @@ IsUntold rows given NotText = ⊥
 IsUntold rows given Write = ⊥
 IsUntold rows given NoMemory = Unit {0}
 
--- this is told of a script from this history
-pub record IsToldOf (s : Setting) (h : History) (lines : List ℕ) (told : ToldText) : Type 0 where
-  pub text : string_bytes told.text ≡ (script s h lines).text
-  pub refused : told.refused ≡ (script s h lines).refused
-
--- the same from these rows, or from the journal over them that is gone on with
-abbrev pub IsToldFrom : Setting → Option (List ℕ) → Table → List ℕ → ToldText → Type 0
-IsToldFrom s given rows text told = (h : History) × IsBegun given rows h × IsToldOf s h text told
+-- this may be told of a script from these rows, or from the journal over them that is gone on with
+abbrev pub IsToldFrom : (Setting → History → List ℕ → List ℕ → ℕ → Type 0) → Setting → Option (List ℕ) → Table → List ℕ → ToldText → Type 0
+IsToldFrom May s given rows lines told = (h : History) × IsBegun given rows h × May s h lines (string_bytes told.text) told.refused
 
 -- the same over what the texts say
-abbrev pub Tells : Texts → List ℕ → ToldText → Type 0
-Tells x text told = (s : Setting) × (h : History) × IsSet x s h × IsToldOf s h text told
+abbrev pub Tells : (Setting → History → List ℕ → List ℕ → ℕ → Type 0) → Texts → List ℕ → ToldText → Type 0
+Tells May x lines told = (s : Setting) × (h : History) × IsSet x s h × May s h lines (string_bytes told.text) told.refused
 
 -- no script was read, for this: a text is refused before it, or memory runs out
 abbrev pub IsUnread : Texts → TextFault → Result ToldText RunFault → Type 0

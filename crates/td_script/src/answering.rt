@@ -1,5 +1,5 @@
 //! The answers to requests.
-ghost use Rattle.std.specs.Prelude.{◌≡◌, IfOk, Some, None};
+ghost use Rattle.std.specs.Prelude.{◌≡◌, IfOk, IfSome, option_map};
 ghost use Rattle.std.specs.String.{string_bytes};
 ghost use Rattle.td_rows.specs.Table.{row_of};
 ghost use Rattle.td_journal.specs.JournalText.{journal_text};
@@ -7,14 +7,14 @@ ghost use Rattle.td_core.specs.History.{rows_of};
 ghost use Rattle.td_core.specs.Offers.{freed, supply_now};
 ghost use Rattle.td_book.specs.Undoing.{undo_stop};
 ghost use Rattle.td_script.specs.Answering.{Answers};
-ghost use Rattle.td_script.specs.Replies.{undoes, arrives, sweeps, shows_row, shows_entry, says};
+ghost use Rattle.td_script.specs.Replies.{undoes, arrives, sweeps, shows_row, shows_entry, says, reports as reports_of};
 
-use crate::writing::{
-    put_entry, put_made, put_refusal, put_row, put_state_refusal, put_undo_refusal, put_undone,
-};
-use std::alloc::AllocError;
+use crate::replying::{put_arrival, put_sweep, put_undo};
+use crate::reports::Reports;
+use crate::writing::{put_entry, put_refusal, put_row};
+use std::alloc::{AllocError, Global};
 use td_board::Board;
-use td_book::{ArriveRefusal, Book, UndoRefusal};
+use td_book::Book;
 use td_journal::{EntryNo, put_journal};
 use td_rows::Key;
 
@@ -29,38 +29,15 @@ pub fn undo(
     requires alone { book.old.fixed.builders ≡ 0 }
     ensures { IfOk result (Answers (undoes book.old.history n (undo_stop book.old.history.journal n)) book.old book.new (string_bytes out.old) (string_bytes out.new)) }
 {
-    match book.undo(board, n) {
-        Ok(()) => {
-            put_undone(out, n)?;
-            Ok(false)
-        }
-        Err(UndoRefusal::NoMemory) => Err(AllocError),
-        Err(refusal) => {
-            put_undo_refusal(out, refusal)?;
-            Ok(true)
-        }
-    }
+    put_undo(out, n, book.undo(board, n))
 }
 
 /// The key's build has arrived.
 pub fn arrive(book: &mut Book<'_>, key: &Key, out: &mut String) -> Result<bool, AllocError>
     ensures { IfOk result (Answers (arrives book.old.history key.now (row_of (rows_of book.old.history) key.now)) book.old book.new (string_bytes out.old) (string_bytes out.new)) }
 {
-    match book.arrive(key) {
-        Ok(n) => {
-            put_made(out, book.journal(), n)?;
-            Ok(false)
-        }
-        Err(ArriveRefusal::NoMemory) => Err(AllocError),
-        Err(ArriveRefusal::NoSuchRow) => {
-            put_refusal(out, "NoSuchRow")?;
-            Ok(true)
-        }
-        Err(ArriveRefusal::DoesNotApply(state)) => {
-            put_state_refusal(out, "DoesNotApply ", state)?;
-            Ok(true)
-        }
-    }
+    let answer = book.arrive(key);
+    put_arrival(out, book.journal(), answer)
 }
 
 /// Frees the rows that wait for what is on offer now.
@@ -68,11 +45,8 @@ pub fn sweep(book: &mut Book<'_>, board: &Board, out: &mut String) -> Result<boo
     requires { board.now.table ≡ book.old.fixed.table }
     ensures { IfOk result (Answers (sweeps book.old.history (freed (supply_now book.old.fixed.stock book.old.history) (rows_of book.old.history))) book.old book.new (string_bytes out.old) (string_bytes out.new)) }
 {
-    match book.sweep(board)? {
-        Some(n) => put_made(out, book.journal(), n)?,
-        None => out.push_str("nothing to sweep\n")?,
-    }
-    Ok(false)
+    let swept = book.sweep(board)?;
+    put_sweep(out, book.journal(), swept)
 }
 
 /// Tells the row of a key.
@@ -113,4 +87,27 @@ pub fn show_journal(book: &Book<'_>, out: &mut String) -> Result<bool, AllocErro
 {
     put_journal(out, book.journal())?;
     Ok(false)
+}
+
+/// Tells the report of the rows, where there is a tracker.
+pub fn show_report<R: Reports>(
+    alloc: Global,
+    book: &Book<'_>,
+    reports: Option<&R>,
+    out: &mut String,
+) -> Result<bool, AllocError>
+    requires { IfSome reports (λ r. R.fits r.now book.now.history.opening book.now.fixed) }
+    ensures { IfOk result (Answers (reports_of book.now.history (option_map (λ r. R.text r.now) reports.entry)) book.now book.now (string_bytes out.old) (string_bytes out.new)) }
+{
+    match reports {
+        Some(reports) => {
+            let text = reports.report(alloc, book)?;
+            out.push_str(text.as_str())?;
+            Ok(false)
+        }
+        None => {
+            put_refusal(out, "NoTracker")?;
+            Ok(true)
+        }
+    }
 }

@@ -2,10 +2,10 @@
 ghost use Rattle.std.specs.Prelude.{◌≡◌, IfOk, IfSome, Some, None, map, option_map};
 ghost use Rattle.std.specs.String.{string_bytes};
 ghost use Rattle.td_script.specs.Answering.{Answers};
-ghost use Rattle.td_script.specs.Replies.{answer as answer_to, asks, reports as reports_on, types};
+ghost use Rattle.td_script.specs.Replies.{answer as answer_to, asks, types};
 ghost use Rattle.td_wbread.specs.Command.{command_at};
 
-use crate::answering::{arrive, show_entry, show_journal, show_row, sweep, undo};
+use crate::answering::{arrive, show_entry, show_journal, show_report, show_row, sweep, undo};
 use crate::commanding::command;
 use crate::line::{Said, read_line};
 use crate::reports::Reports;
@@ -15,29 +15,6 @@ use std::alloc::{AllocError, Global};
 use td_board::Board;
 use td_book::Book;
 use td_wbread::{CommandFault, read_command};
-
-// The report of the rows, where there is a tracker.
-fn report<R: Reports>(
-    alloc: Global,
-    book: &Book<'_>,
-    reports: Option<&R>,
-    out: &mut String,
-) -> Result<bool, AllocError>
-    requires { IfSome reports (λ r. R.fits r.now book.now.fixed) }
-    ensures { IfOk result (Answers (reports_on book.now.history (option_map (λ r. R.text r.now) reports.entry)) book.now book.now (string_bytes out.old) (string_bytes out.new)) }
-{
-    match reports {
-        Some(reports) => {
-            let text = reports.report(alloc, book)?;
-            out.push_str(text.as_str())?;
-            Ok(false)
-        }
-        None => {
-            put_refusal(out, "NoTracker")?;
-            Ok(true)
-        }
-    }
-}
 
 // Answers what is asked for.
 fn ask<R: Reports>(
@@ -51,7 +28,7 @@ fn ask<R: Reports>(
 ) -> Result<bool, AllocError>
     requires board { board.now.table ≡ book.old.fixed.table }
     requires alone { book.old.fixed.builders ≡ 0 }
-    requires fits { IfSome reports (λ r. R.fits r.now book.old.fixed) }
+    requires fits { IfSome reports (λ r. R.fits r.now book.old.history.opening book.old.fixed) }
     ensures { IfOk result (Answers (asks (record { stock = book.old.fixed.stock; suites = map (λ s. s.now) suites.now; report = option_map (λ r. R.text r.now) reports.entry }) book.old.history request.now) book.old book.new (string_bytes out.old) (string_bytes out.new)) }
 {
     match request {
@@ -60,7 +37,7 @@ fn ask<R: Reports>(
         Request::Sweep => sweep(book, board, out),
         Request::Row(key) => show_row(book, key, out),
         Request::Entry(n) => show_entry(book, *n, out),
-        Request::Report => report(alloc, book, reports, out),
+        Request::Report => show_report(alloc, book, reports, out),
         Request::Journal => show_journal(book, out),
     }
 }
@@ -100,7 +77,7 @@ pub fn answer<R: Reports>(
 ) -> Result<bool, AllocError>
     requires board { board.now.table ≡ book.old.fixed.table }
     requires alone { book.old.fixed.builders ≡ 0 }
-    requires fits { IfSome reports (λ r. R.fits r.now book.old.fixed) }
+    requires fits { IfSome reports (λ r. R.fits r.now book.old.history.opening book.old.fixed) }
     ensures { IfOk result (Answers (answer_to (record { stock = book.old.fixed.stock; suites = map (λ s. s.now) suites.now; report = option_map (λ r. R.text r.now) reports.entry }) book.old.history line.now) book.old book.new (string_bytes out.old) (string_bytes out.new)) }
 {
     match read_line(alloc, line)? {

@@ -1,24 +1,24 @@
 //! What is told of a script over the texts of files.
-ghost use Rattle.std.specs.Prelude.{◌≡◌, ◌<◌, ◌^◌, ◌-◌, ◌∷◌, [], None, Some, IfOk, IfErr, IfSome, MatchResult, length, option_map};
+ghost use Rattle.std.specs.Prelude.{◌≡◌, ◌<◌, ◌^◌, ◌-◌, ◌∷◌, [], None, Some, IfOk, IfErr, IfSome, MatchResult, length, option_map, string_bytes};
 ghost use Rattle.td_text.specs.Lines.{lines_of};
 ghost use Rattle.td_relation.specs.TableFile.{IsTable};
 ghost use Rattle.td_relation.specs.TableView.{table};
 ghost use Rattle.td_core.specs.Phases.{NoneBuilt};
 ghost use Rattle.td_indices.specs.Supplying.{supply_of};
+ghost use Rattle.td_report.specs.TransitionView.{IsMade};
+ghost use Rattle.td_script.specs.Asking.{CanBeAsked, TellsBy};
+ghost use Rattle.td_script.specs.Reporting.{report_by};
 ghost use Rattle.td_script.specs.Openings.{AreReadable, AreRowsOf, IsArchiveOf, IsJournalIfGiven, IsReadableOver, texts_of};
-ghost use Rattle.td_book.specs.Desk.{Fixed};
 ghost use Rattle.td_query.specs.Tracking.{IsTracker, Tracking, tracking};
 ghost use Rattle.td_rows.specs.Table.{Table};
-ghost use Rattle.td_script.specs.OpeningInside.{AreReadableWith, CanReplace, IsJournalFault, Stops, IsRefusedBy, IsRefusedIn, IsReplacedIn, IsToldFrom, IsTrackerOf, IsUntold, Tells, of_archive, of_journal, of_state, of_table, of_tracker};
+ghost use Rattle.td_script.specs.OpeningInside.{AreReadableWith, CanReplace, Stops, IsRefusedBy, IsRefusedIn, IsReplacedIn, IsToldFrom, IsTrackerOf, IsUntold, Tells, of_archive, of_journal, of_state, of_table, of_tracker};
 
-use crate::beginning::begin;
 use crate::input_fault::InputFault;
 use crate::inputs::Inputs;
-use crate::reports::Reports;
 use crate::running::RunFault;
-use crate::told::{Told, tell};
+use crate::staff::{Asked, Staff};
+use crate::told::Told;
 use std::alloc::Global;
-use td_board::Board;
 use td_indices::{Archive, ArchiveFault};
 use td_journal::ReadError;
 use td_query::{Tracker, TrackerFault};
@@ -125,152 +125,140 @@ fn journal_of(inputs: &Inputs) -> Option<&str>
 
 // What is told of a script from these rows, or from the journal over them that is gone on with,
 // over what an archive offers.
-fn tell_from<T: Reports>(
+fn tell_from<S: Staff, F: Fn(Asked) -> Result<Told, ReadError>>(
     alloc: Global,
+    staff: &S,
+    tell: &F,
     archive: &Archive<'_, '_>,
     rows: Rows,
     inputs: &Inputs,
-    reports: Option<&T>,
+    reports: Option<&Transition<'_, '_, '_, '_>>,
     script: &str,
 ) -> Result<Told, RunFault>
+    requires asked { CanBeAsked (F.pre tell.now) }
+    requires tells { TellsBy (S.tells staff.now) (F.post tell.now) }
     requires idle { NoneBuilt rows }
-    requires fits { IfSome reports (λ r. (f : Fixed) → T.fits r.now f) }
+    requires made { IfSome reports (λ r. IsMade r.now) }
     requires small { length script.now < 2 ^ 63 - 1 }
-    ensures told { IfOk result (IsToldFrom (record { stock = supply_of archive.now; suites = (texts_of inputs.now).suite ∷ []; report = option_map (λ r. T.text r.now) reports.entry }) (texts_of inputs.now).journal rows script.now) }
+    ensures told { IfOk result (IsToldFrom (S.tells staff.now) (record { stock = supply_of archive.now; suites = (texts_of inputs.now).suite ∷ []; report = option_map (λ r. report_by r.now) reports.entry }) (texts_of inputs.now).journal rows script.now) }
     ensures refused { IfErr result (IsUntold rows (texts_of inputs.now).journal) }
     ensures only { IfErr result (λ fault. IsJournalIfGiven rows (texts_of inputs.now).journal → fault ≡ RunFault.NoMemory) }
 {
-    let suite = inputs.suite.as_str();
-    match tell_in(
+    let asked = Asked {
         alloc,
         archive,
         rows,
-        suite,
-        journal_of(inputs),
+        suite: inputs.suite.as_str(),
+        journal: journal_of(inputs),
         reports,
         script,
-    ) {
+    };
+    match tell(asked) {
         Ok(told) => Ok(told),
         Err(fault) => Err(fault_of_journal(fault)),
     }
 }
 
-// The same, where nothing but the journal may be refused.
-fn tell_in<T: Reports>(
-    alloc: Global,
-    archive: &Archive<'_, '_>,
-    rows: Rows,
-    suite: &str,
-    journal: Option<&str>,
-    reports: Option<&T>,
-    script: &str,
-) -> Result<Told, ReadError>
-    requires idle { NoneBuilt rows }
-    requires fits { IfSome reports (λ r. (f : Fixed) → T.fits r.now f) }
-    requires small { length script.now < 2 ^ 63 - 1 }
-    ensures told { IfOk result (IsToldFrom (record { stock = supply_of archive.now; suites = suite.now ∷ []; report = option_map (λ r. T.text r.now) reports.entry }) (option_map (λ s. s.now) journal.entry) rows script.now) }
-    ensures fault { IfErr result (IsJournalFault rows (option_map (λ s. s.now) journal.entry)) }
-    ensures only { IfErr result (λ fault. IsJournalIfGiven rows (option_map (λ s. s.now) journal.entry) → fault ≡ ReadError.NoMemory) }
-{
-    let Ok((board, desk, _seats)) = Board::make(alloc, rows.len(), 0) else {
-        return Err(ReadError::NoMemory);
-    };
-    let Ok(supply) = archive.supply() else {
-        return Err(ReadError::NoMemory);
-    };
-    let mut book = match begin(alloc, &board, desk, rows, supply, journal) {
-        Ok(book) => book,
-        Err(fault) => return Err(fault),
-    };
-    match tell(
-        alloc,
-        &mut book,
-        &board,
-        [suite].as_slice(),
-        reports,
-        script,
-    ) {
-        Ok(told) => Ok(told),
-        Err(_) => Err(ReadError::NoMemory),
-    }
-}
-
 // The same, with the reports of a tracker.
-fn tell_tracked(
+fn tell_tracked<S: Staff, F: Fn(Asked) -> Result<Told, ReadError>>(
     alloc: Global,
+    staff: &S,
+    tell: &F,
     archive: &Archive<'_, '_>,
     tracker: &Tracker<'_>,
     rows: Rows,
     inputs: &Inputs,
     script: &str,
 ) -> Result<Told, RunFault>
+    requires asked { CanBeAsked (F.pre tell.now) }
+    requires tells { TellsBy (S.tells staff.now) (F.post tell.now) }
     requires archive { IsArchiveOf (texts_of inputs.now) archive.now }
     requires rows { AreRowsOf archive.now (texts_of inputs.now).state rows }
     requires tracker { IsTrackerOf (texts_of inputs.now) (tracking tracker.now) }
     requires idle { NoneBuilt rows }
     requires small { length script.now < 2 ^ 63 - 1 }
-    ensures tells { MatchResult result (Tells (texts_of inputs.now) script.now) (IsRefusedBy (texts_of inputs.now)) }
+    ensures tells { MatchResult result (Tells (S.tells staff.now) (texts_of inputs.now) script.now) (IsRefusedBy (texts_of inputs.now)) }
     ensures only { IfErr result (λ fault. IsJournalIfGiven rows (texts_of inputs.now).journal → fault ≡ RunFault.NoMemory) }
 {
     match Transition::of(alloc, archive, tracker) {
-        Ok(transition) => tell_from(alloc, archive, rows, inputs, Some(&transition), script),
+        Ok(transition) => tell_from(
+            alloc,
+            staff,
+            tell,
+            archive,
+            rows,
+            inputs,
+            Some(&transition),
+            script,
+        ),
         Err(_) => Err(RunFault::NoMemory),
     }
 }
 
 // The same, with the reports of the tracker of a text.
-fn tell_with_tracker(
+fn tell_with_tracker<S: Staff, F: Fn(Asked) -> Result<Told, ReadError>>(
     alloc: Global,
+    staff: &S,
+    tell: &F,
     archive: &Archive<'_, '_>,
     rows: Rows,
     text: &str,
     inputs: &Inputs,
     script: &str,
 ) -> Result<Told, RunFault>
+    requires asked { CanBeAsked (F.pre tell.now) }
+    requires tells { TellsBy (S.tells staff.now) (F.post tell.now) }
     requires archive { IsArchiveOf (texts_of inputs.now) archive.now }
     requires rows { AreRowsOf archive.now (texts_of inputs.now).state rows }
     requires tracker { (texts_of inputs.now).tracker ≡ Some text.now }
     requires idle { NoneBuilt rows }
     requires small { length script.now < 2 ^ 63 - 1 }
-    ensures tells { MatchResult result (Tells (texts_of inputs.now) script.now) (IsRefusedBy (texts_of inputs.now)) }
+    ensures tells { MatchResult result (Tells (S.tells staff.now) (texts_of inputs.now) script.now) (IsRefusedBy (texts_of inputs.now)) }
     ensures only { IfErr result (λ fault. (t : Tracking) → IsTracker text.now t → IsJournalIfGiven rows (texts_of inputs.now).journal → Stops (texts_of inputs.now) fault) }
 {
     match Tracker::read(alloc, text) {
-        Ok(tracker) => tell_tracked(alloc, archive, &tracker, rows, inputs, script),
+        Ok(tracker) => tell_tracked(alloc, staff, tell, archive, &tracker, rows, inputs, script),
         Err(fault) => Err(fault_of_tracker(fault)),
     }
 }
 
 // The same without reports.
-fn tell_untracked(
+fn tell_untracked<S: Staff, F: Fn(Asked) -> Result<Told, ReadError>>(
     alloc: Global,
+    staff: &S,
+    tell: &F,
     archive: &Archive<'_, '_>,
     rows: Rows,
     inputs: &Inputs,
     script: &str,
 ) -> Result<Told, RunFault>
+    requires asked { CanBeAsked (F.pre tell.now) }
+    requires tells { TellsBy (S.tells staff.now) (F.post tell.now) }
     requires archive { IsArchiveOf (texts_of inputs.now) archive.now }
     requires rows { AreRowsOf archive.now (texts_of inputs.now).state rows }
     requires tracker { (texts_of inputs.now).tracker ≡ None }
     requires idle { NoneBuilt rows }
     requires small { length script.now < 2 ^ 63 - 1 }
-    ensures tells { MatchResult result (Tells (texts_of inputs.now) script.now) (IsRefusedBy (texts_of inputs.now)) }
+    ensures tells { MatchResult result (Tells (S.tells staff.now) (texts_of inputs.now) script.now) (IsRefusedBy (texts_of inputs.now)) }
     ensures only { IfErr result (λ fault. IsJournalIfGiven rows (texts_of inputs.now).journal → fault ≡ RunFault.NoMemory) }
 {
-    let none = Option::<&Transition<'_, '_, '_, '_>>::None;
-    tell_from(alloc, archive, rows, inputs, none, script)
+    tell_from(alloc, staff, tell, archive, rows, inputs, None, script)
 }
 
 // What is told of a script over an archive.
-fn tell_over_archive(
+fn tell_over_archive<S: Staff, F: Fn(Asked) -> Result<Told, ReadError>>(
     alloc: Global,
+    staff: &S,
+    tell: &F,
     archive: &Archive<'_, '_>,
     inputs: &Inputs,
     script: &str,
 ) -> Result<Told, RunFault>
+    requires asked { CanBeAsked (F.pre tell.now) }
+    requires tells { TellsBy (S.tells staff.now) (F.post tell.now) }
     requires archive { IsArchiveOf (texts_of inputs.now) archive.now }
     requires small { length script.now < 2 ^ 63 - 1 }
-    ensures tells { MatchResult result (Tells (texts_of inputs.now) script.now) (IsRefusedBy (texts_of inputs.now)) }
+    ensures tells { MatchResult result (Tells (S.tells staff.now) (texts_of inputs.now) script.now) (IsRefusedBy (texts_of inputs.now)) }
     ensures only { IfErr result (λ fault. IsReadableOver archive.now (texts_of inputs.now) → Stops (texts_of inputs.now) fault) }
 {
     let rows = match rows_of(alloc, archive, inputs) {
@@ -278,39 +266,60 @@ fn tell_over_archive(
         Err(fault) => return Err(fault),
     };
     match &inputs.tracker {
-        Some(text) => tell_with_tracker(alloc, archive, rows, text.as_str(), inputs, script),
-        None => tell_untracked(alloc, archive, rows, inputs, script),
+        Some(text) => tell_with_tracker(
+            alloc,
+            staff,
+            tell,
+            archive,
+            rows,
+            text.as_str(),
+            inputs,
+            script,
+        ),
+        None => tell_untracked(alloc, staff, tell, archive, rows, inputs, script),
     }
 }
 
 // The same, over the indices and a table.
-fn tell_over_table(
+fn tell_over_table<S: Staff, F: Fn(Asked) -> Result<Told, ReadError>>(
     alloc: Global,
+    staff: &S,
+    tell: &F,
     archs: &Archs<'_>,
     inputs: &Inputs,
     script: &str,
 ) -> Result<Told, RunFault>
+    requires asked { CanBeAsked (F.pre tell.now) }
+    requires tells { TellsBy (S.tells staff.now) (F.post tell.now) }
     requires table { IsTable (lines_of (texts_of inputs.now).archs) (table archs.now) }
     requires small { length script.now < 2 ^ 63 - 1 }
-    ensures tells { MatchResult result (Tells (texts_of inputs.now) script.now) (IsRefusedBy (texts_of inputs.now)) }
+    ensures tells { MatchResult result (Tells (S.tells staff.now) (texts_of inputs.now) script.now) (IsRefusedBy (texts_of inputs.now)) }
     ensures only { IfErr result (λ fault. AreReadableWith (table archs.now) (texts_of inputs.now) → Stops (texts_of inputs.now) fault) }
 {
     let packages = inputs.packages.as_str();
     let sources = inputs.sources.as_str();
     match Archive::read(alloc, packages, sources, archs) {
-        Ok(archive) => tell_over_archive(alloc, &archive, inputs, script),
+        Ok(archive) => tell_over_archive(alloc, staff, tell, &archive, inputs, script),
         Err(fault) => Err(fault_of_archive(fault)),
     }
 }
 
 /// What is told of a script over the texts of files: these are judged first.
-pub fn tell_over(alloc: Global, inputs: &Inputs, script: &str) -> Result<Told, RunFault>
-    requires { length script.now < 2 ^ 63 - 1 }
-    ensures tells { MatchResult result (Tells (texts_of inputs.now) script.now) (IsRefusedBy (texts_of inputs.now)) }
+pub fn tell_over<S: Staff, F: Fn(Asked) -> Result<Told, ReadError>>(
+    alloc: Global,
+    staff: &S,
+    tell: &F,
+    inputs: &Inputs,
+    script: &str,
+) -> Result<Told, RunFault>
+    requires asked { CanBeAsked (F.pre tell.now) }
+    requires tells { TellsBy (S.tells staff.now) (F.post tell.now) }
+    requires small { length script.now < 2 ^ 63 - 1 }
+    ensures tells { MatchResult result (Tells (S.tells staff.now) (texts_of inputs.now) script.now) (IsRefusedBy (texts_of inputs.now)) }
     ensures only { IfErr result (λ fault. AreReadable (texts_of inputs.now) → Stops (texts_of inputs.now) fault) }
 {
     match Archs::read(alloc, inputs.archs.as_str()) {
-        Ok(archs) => tell_over_table(alloc, &archs, inputs, script),
+        Ok(archs) => tell_over_table(alloc, staff, tell, &archs, inputs, script),
         Err(fault) => Err(fault_of_table(fault)),
     }
 }

@@ -15,11 +15,12 @@ pub trait Reports {
     /// The report of the rows, each line with its newline.
     ghost text: { Self → Table → List ℕ };
 
-    /// What has to hold of it and of what no call changes of the book.
-    ghost fits: { Self → Fixed → Type 0 };
+    /// What has to hold of it, of the rows with which the history opens, and of what no call
+    /// changes of the book.
+    ghost fits: { Self → Table → Fixed → Type 0 };
 
     fn report(&self, alloc: Global, book: &Book<'_>) -> Result<String, AllocError>
-        requires { fits self.now book.now.fixed }
+        requires { fits self.now book.now.history.opening book.now.fixed }
         ensures { IfOk result (λ report. string_bytes report ≡ text self.now (rows_of book.now.history)) };
 }
 
@@ -27,7 +28,7 @@ pub trait Reports {
 impl Reports for Transition<'_, '_, '_, '_> {
     ghost text = { λ x rows. report_by x rows };
 
-    ghost fits = { λ x fixed. IsMade x };
+    ghost fits = { λ x opening fixed. IsMade x };
 
     fn report(&self, alloc: Global, book: &Book<'_>) -> Result<String, AllocError> {
         Transition::report(self, alloc, book.rows())

@@ -1,17 +1,20 @@
 //! The run of a script: from the texts of files and the bytes of a reader to those of a writer.
 ghost use Rattle.std.specs.Prelude.{◌≡◌, ◌⊎◌, ◌≤◌, IfOk, IfErr, MatchResult, length, string_bytes};
 ghost use Rattle.std.specs.Result.{ForOk};
-ghost use Rattle.td_script.specs.Ends.{Only, Says};
+ghost use Rattle.td_script.specs.Asking.{CanBeAsked, TellsBy};
+ghost use Rattle.td_script.specs.Ends.{AreFine, Only, Says, SaysBy};
 ghost use Rattle.td_script.specs.OpeningInside.{IsRefusedBy, IsUnread, Stops, Tells, of_reading};
 ghost use Rattle.td_script.specs.Openings.{AreReadable, texts_of};
 
 use crate::input_fault::InputFault;
 use crate::inputs::Inputs;
 use crate::opening::tell_over;
+use crate::staff::{Alone, Asked, Staff, tell_alone};
 use crate::told::Told;
 use std::alloc::Global;
 use std::io::{Read, Write};
 use td_bytes::{TextFault, read_text, write_whole};
+use td_journal::ReadError;
 
 /// The longest script, in bytes.
 pub const SCRIPT_LIMIT: usize = 1_048_576;
@@ -51,29 +54,68 @@ fn fault_of_text(fault: TextFault) -> RunFault
     }
 }
 
+/// Judges the texts of the files, as before each script.
+pub fn judge(alloc: Global, inputs: &Inputs) -> Result<(), RunFault>
+    ensures fine { MatchResult result (λ _. AreFine (texts_of inputs.now)) (IsRefusedBy (texts_of inputs.now)) }
+    ensures only { IfErr result (λ fault. AreReadable (texts_of inputs.now) → Stops (texts_of inputs.now) fault) }
+{
+    match tell_over(alloc, &Alone, &tell_alone, inputs, "") {
+        Ok(_) => Ok(()),
+        Err(refused) => Err(refused),
+    }
+}
+
 // What is told of what was read. The files are judged before the script.
-fn tell_read(
+fn tell_read<S: Staff, F: Fn(Asked) -> Result<Told, ReadError>>(
     alloc: Global,
+    staff: &S,
+    tell: &F,
     inputs: &Inputs,
     read: Result<String, TextFault>,
 ) -> Result<Told, RunFault>
-    requires { ForOk read (λ text. length (string_bytes text) ≤ SCRIPT_LIMIT) }
-    ensures read { IfOk read (λ text. MatchResult result (Tells (texts_of inputs.now) (string_bytes text)) (IsRefusedBy (texts_of inputs.now))) }
+    requires asked { CanBeAsked (F.pre tell.now) }
+    requires tells { TellsBy (S.tells staff.now) (F.post tell.now) }
+    requires within { ForOk read (λ text. length (string_bytes text) ≤ SCRIPT_LIMIT) }
+    ensures read { IfOk read (λ text. MatchResult result (Tells (S.tells staff.now) (texts_of inputs.now) (string_bytes text)) (IsRefusedBy (texts_of inputs.now))) }
     ensures only { IfOk read (λ _. IfErr result (λ fault. AreReadable (texts_of inputs.now) → Stops (texts_of inputs.now) fault)) }
     ensures unread { IfErr read (λ fault. IsUnread (texts_of inputs.now) fault result) }
     ensures unread_only { IfErr read (λ why. IfErr result (λ fault. AreReadable (texts_of inputs.now) → Stops (texts_of inputs.now) fault ⊎ (fault ≡ of_reading why))) }
 {
     match read {
-        Ok(text) => tell_over(alloc, inputs, text.as_str()),
-        Err(fault) => match tell_over(alloc, inputs, "") {
-            Ok(_) => Err(fault_of_text(fault)),
+        Ok(text) => tell_over(alloc, staff, tell, inputs, text.as_str()),
+        Err(fault) => match judge(alloc, inputs) {
+            Ok(()) => Err(fault_of_text(fault)),
             Err(refused) => Err(refused),
         },
     }
 }
 
-/// Answers the script that the reader has, over what the inputs say, in a world without builders.
+/// Answers the script that the reader has, over what the inputs say, as the staff tells it.
 /// All is read and answered before anything is written.
+pub fn run_with<S: Staff, F: Fn(Asked) -> Result<Told, ReadError>, R: Read, W: Write>(
+    alloc: Global,
+    staff: &S,
+    tell: &F,
+    inputs: &Inputs,
+    reader: &mut R,
+    writer: &mut W,
+) -> Result<ScriptEnd, RunFault>
+    requires asked { CanBeAsked (F.pre tell.now) }
+    requires tells { TellsBy (S.tells staff.now) (F.post tell.now) }
+    ensures says { SaysBy (S.tells staff.now) (texts_of inputs.now) (R.remaining reader.old) (W.contents writer.old) (W.contents writer.new) result }
+    ensures only { Only (texts_of inputs.now) (R.remaining reader.old) result }
+{
+    let read = read_text(alloc, reader, SCRIPT_LIMIT);
+    let told = tell_read(alloc, staff, tell, inputs, read)?;
+    match write_whole(writer, told.text.as_bytes()) {
+        Ok(()) => Ok(ScriptEnd {
+            refusals: told.refused,
+        }),
+        Err(_) => Err(RunFault::Write),
+    }
+}
+
+/// The same in a world without builders.
 pub fn run_script<R: Read, W: Write>(
     alloc: Global,
     inputs: &Inputs,
@@ -83,12 +125,5 @@ pub fn run_script<R: Read, W: Write>(
     ensures says { Says (texts_of inputs.now) (R.remaining reader.old) (W.contents writer.old) (W.contents writer.new) result }
     ensures only { Only (texts_of inputs.now) (R.remaining reader.old) result }
 {
-    let read = read_text(alloc, reader, SCRIPT_LIMIT);
-    let told = tell_read(alloc, inputs, read)?;
-    match write_whole(writer, told.text.as_bytes()) {
-        Ok(()) => Ok(ScriptEnd {
-            refusals: told.refused,
-        }),
-        Err(_) => Err(RunFault::Write),
-    }
+    run_with(alloc, &Alone, &tell_alone, inputs, reader, writer)
 }

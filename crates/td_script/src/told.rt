@@ -29,7 +29,7 @@ fn add_line<R: Reports>(
 ) -> Result<(), AllocError>
     requires board { board.now.table ≡ book.old.fixed.table }
     requires alone { book.old.fixed.builders ≡ 0 }
-    requires fits { IfSome reports (λ r. R.fits r.now book.old.fixed) }
+    requires fits { IfSome reports (λ r. R.fits r.now book.old.history.opening book.old.fixed) }
     requires room { told.old.refused < 2 ^ 63 }
     ensures { OnOk result (IsAdded (record { stock = book.old.fixed.stock; suites = map (λ s. s.now) suites.now; report = option_map (λ r. R.text r.now) reports.entry }) line.now book.old book.new told.old told.new) }
 {
@@ -50,7 +50,7 @@ pub fn tell<R: Reports>(
 ) -> Result<Told, AllocError>
     requires board { board.now.table ≡ book.old.fixed.table }
     requires alone { book.old.fixed.builders ≡ 0 }
-    requires fits { IfSome reports (λ r. R.fits r.now book.old.fixed) }
+    requires fits { IfSome reports (λ r. R.fits r.now book.old.history.opening book.old.fixed) }
     requires small { length script.now < 2 ^ 63 - 1 }
     ensures { IfOk result (IsTold (record { stock = book.old.fixed.stock; suites = map (λ s. s.now) suites.now; report = option_map (λ r. R.text r.now) reports.entry }) script.now book.old book.new) }
 {

@@ -1,4 +1,6 @@
 use Rattle.std.proofs.Common.{◌≡◌, ap, sym, subst, ◌∙◌, refl, rules, None}
+use Rattle.std.specs.Prelude.{IfSome}
+use Rattle.td_rows.specs.Table.{Table}
 use Rattle.td_book.specs.Desk.{Fixed}
 use Rattle.td_script.proofs.ScriptLaws.{IsSoFar, IsSoFar-begun, IsSoFar-next, IsSoFar-done, room}
 use Rattle.td_script.proofs.told.tell.Goals as goal
@@ -11,6 +13,13 @@ add_line-requires-clause-board g c = c.requires.board ∙ ap (λ (f : Fixed). f.
 
 pub add_line-requires-clause-alone : goal.add_line-requires-clause-alone
 add_line-requires-clause-alone g c = ap (λ (f : Fixed). f.builders) c.loop-rest.invariant.fixed ∙ c.requires.alone
+
+pub add_line-requires-clause-fits : goal.add_line-requires-clause-fits
+add_line-requires-clause-fits g c =
+    let now = c.loop-rest.book in
+    let first = c.args.book.now in
+    subst (λ (f : Fixed). IfSome c.args.reports (λ r. g.R.Reports.fits r.now now.history.opening f)) (sym c.loop-rest.invariant.fixed)
+    (subst (λ (t : Table). IfSome c.args.reports (λ r. g.R.Reports.fits r.now t first.fixed)) (sym c.loop-rest.invariant.opening) c.requires.fits)
 
 pub add_line-requires-clause-room : goal.add_line-requires-clause-room
 add_line-requires-clause-room g c =

@@ -1,25 +1,25 @@
-use Rattle.std.proofs.Common.{◌≡◌, ◌∙◌, Err, rules, subst, sym}
+use Rattle.std.proofs.Common.{◌≡◌, Err, refl, rules, subst, sym}
 use Rattle.std.specs.Io.KnownBytes.{Appends}
 use Rattle.td_bytes.specs.Pieces.{AppendsPrefix}
 use Rattle.td_script.specs.Openings.{texts_of}
 use Rattle.td_script.specs.Ends.{Only}
 use Rattle.td_script.proofs.OnlyLaws.{run_only}
 use Rattle.td_script.proofs.RunLaws.{plays}
-use Rattle.td_script.proofs.running.run_script.Goals as goal
+use Rattle.td_script.proofs.running.run_with.Goals as goal
 
 pub returns-in-Ok-clause-says : goal.returns-in-Ok-clause-says
 returns-in-Ok-clause-says g c =
-    plays (texts_of c.args.inputs.now) (g.R.Read.remaining c.args.reader.now) c.read_text-read.result c.tell_read.result c.in_ok-told.told
-    (λ t. (c.in_ok-told.told.refused ≡ t.refused) × Appends (g.W.Write.contents c.args.writer.now) (g.W.Write.contents c.write_whole.new.writer) t.text)
+    plays (g.S.Staff.tells c.args.staff.now) (texts_of c.args.inputs.now) (g.R.Read.remaining c.args.reader.now) c.read_text-read.result c.tell_read.result c.in_ok-told.told
+    (λ text refused. (c.in_ok-told.told.refused ≡ refused) × Appends (g.W.Write.contents c.args.writer.now) (g.W.Write.contents c.write_whole.new.writer) text)
     c.in_ok-told.was c.read_text-read.ensures.text c.read_text-read.ensures.within c.tell_read.ensures.read c.tell_read.ensures.unread
-    (λ t text refused. (refused, subst (λ l. Appends (g.W.Write.contents c.args.writer.now) (g.W.Write.contents c.write_whole.new.writer) l) (c.as_bytes.ensures.value ∙ text) c.in-Ok.ensures.whole))
+    (refl, subst (λ l. Appends (g.W.Write.contents c.args.writer.now) (g.W.Write.contents c.write_whole.new.writer) l) c.as_bytes.ensures.value c.in-Ok.ensures.whole)
 
 pub returns-clause-says : goal.returns-clause-says
 returns-clause-says g c =
-    plays (texts_of c.args.inputs.now) (g.R.Read.remaining c.args.reader.now) c.read_text-read.result c.tell_read.result c.in_ok-told.told
-    (λ t. AppendsPrefix (g.W.Write.contents c.args.writer.now) (g.W.Write.contents c.write_whole.new.writer) t.text)
+    plays (g.S.Staff.tells c.args.staff.now) (texts_of c.args.inputs.now) (g.R.Read.remaining c.args.reader.now) c.read_text-read.result c.tell_read.result c.in_ok-told.told
+    (λ text refused. AppendsPrefix (g.W.Write.contents c.args.writer.now) (g.W.Write.contents c.write_whole.new.writer) text)
     c.in_ok-told.was c.read_text-read.ensures.text c.read_text-read.ensures.within c.tell_read.ensures.read c.tell_read.ensures.unread
-    (λ t text refused. subst (λ l. AppendsPrefix (g.W.Write.contents c.args.writer.now) (g.W.Write.contents c.write_whole.new.writer) l) (c.as_bytes.ensures.value ∙ text) c.in-Err.ensures.prefix)
+    (subst (λ l. AppendsPrefix (g.W.Write.contents c.args.writer.now) (g.W.Write.contents c.write_whole.new.writer) l) c.as_bytes.ensures.value c.in-Err.ensures.prefix)
 
 pub returns-in_err-told-clause-only : goal.returns-in_err-told-clause-only
 returns-in_err-told-clause-only g c =

@@ -2,12 +2,12 @@
 //! is due. The scripts and their answers are this project's worked examples, as in `examples/`.
 ghost use Rattle.std.specs.Prelude.{Some};
 
-use crate::{InputFault, Inputs, RunFault, ScriptEnd, run_script};
 use std::alloc::{AllocError, Global};
 use std::io;
 use std::io::{ErrorKind, Read, Write};
 use std::test::Fail;
 use td_journal::ReadError;
+use td_script::{InputFault, Inputs, RunFault, ScriptEnd, run_script};
 
 const ARCHS: &str = "amd64 linux amd64\ni386 linux i386\n";
 

@@ -1,0 +1,53 @@
+-- How a crew's run ends whose builds end as lines of a text say. This project's own.
+use Rattle.std.specs.Prelude.{◌≡◌, ◌⊎◌, ℕ, List, [], Option, Some, Result, Ok, Err, IfErr, option_map, string_bytes, unwrap_or}
+use Rattle.std.specs.Io.KnownBytes.{Keeps}
+use Rattle.td_text.specs.Lines.{lines_of}
+use Rattle.td_rows.specs.declared.key.Key.{Key}
+use Rattle.td_rows.specs.declared.outcome.Outcome.{Outcome}
+use Rattle.td_core.specs.History.{History}
+use Rattle.td_builder.specs.OutcomeLines.{AreOutcomes, IsFirstBad, ended}
+use Rattle.td_script.specs.declared.inputs.Inputs.{Inputs}
+use Rattle.td_script.specs.declared.running.RunFault.{RunFault}
+use Rattle.td_script.specs.declared.running.RunFault.TheVariants as fault
+use Rattle.td_script.specs.declared.running.ScriptEnd.{ScriptEnd}
+use Rattle.td_script.specs.Ends.{AreFine, IsScriptText, MayStop, SaysBy}
+use Rattle.td_script.specs.OpeningInside.{IsRefusedBy, Stops}
+use Rattle.td_script.specs.Openings.{AreReadable, Texts}
+use Rattle.td_script.specs.Replies.{Setting}
+use Rattle.td_crew.specs.declared.running.CrewFault.{CrewFault}
+use Rattle.td_crew.specs.declared.running.CrewFault.TheVariants.{BadOutcome, Run}
+
+-- the lines that say how builds end: none where there is no text of them
+abbrev pub outcomes_of : Inputs → List (List ℕ)
+outcomes_of x = ended (lines_of (unwrap_or (option_map string_bytes x.outcomes) []))
+
+-- each of the lines is one of a build's end
+abbrev pub AreRead : List (List ℕ) → Type 0
+AreRead lines = (os : List (Key × Outcome)) × AreOutcomes lines os
+
+-- what an end says: of the outcomes as soon as the files in front of them are fine, and of the rest as without them
+abbrev pub CrewSays : (Setting → History → List ℕ → List ℕ → ℕ → Type 0) → Texts → List (List ℕ) → Option (List ℕ) → Option (List ℕ) → Option (List ℕ) → Result ScriptEnd CrewFault → Type 0
+CrewSays May x outcomes known old new (Ok end) = AreRead outcomes × SaysBy May x known old new (Ok end)
+CrewSays May x outcomes known old new (Err (BadOutcome n)) = IsFirstBad outcomes n × AreFine x × Keeps old new
+CrewSays May x outcomes known old new (Err (Run e)) = (AreRead outcomes ⊎ IsRefusedBy x e) × SaysBy May x known old new (Err e)
+
+-- why a crew's run over readable texts may stop, where the reader has a script and the outcomes are read
+abbrev pub CrewMayStop : Texts → CrewFault → Type 0
+CrewMayStop x (BadOutcome n) = ⊥
+CrewMayStop x (Run e) = MayStop x e
+
+-- it stops for nothing else
+abbrev pub CrewOnly : Texts → List (List ℕ) → Option (List ℕ) → Result ScriptEnd CrewFault → Type 0
+CrewOnly x outcomes known result = (text : List ℕ) → known ≡ Some text → IsScriptText text → AreRead outcomes → AreReadable x → IfErr result (CrewMayStop x)
+
+-- ---- as the code has it
+
+-- the outcomes aren't read, or a file in front of them is refused
+abbrev pub IsNoOutcomes : Texts → List (List ℕ) → CrewFault → Type 0
+IsNoOutcomes x outcomes (BadOutcome n) = IsFirstBad outcomes n × AreFine x
+IsNoOutcomes x outcomes (Run e) = IsRefusedBy x e
+
+-- memory runs out, or `regex` refuses a pattern
+abbrev pub StopsSo : Texts → CrewFault → Type 0
+StopsSo x (BadOutcome n) = ⊥
+StopsSo x (Run e) = Stops x e

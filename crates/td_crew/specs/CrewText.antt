@@ -1,0 +1,54 @@
+-- What is told of a script that a clerk answers beside builders. This project's own.
+use Rattle.std.specs.Prelude.{◌≡◌, ℕ, ◌+◌, ◌≤◌, List, [], ◌++◌, Option, Some, None, codes, length, string_bytes}
+use Rattle.td_rows.specs.StateWriting.{state_text}
+use Rattle.td_rows.specs.Table.{Table}
+use Rattle.td_journal.specs.Entries.{standing}
+use Rattle.td_journal.specs.Replay.{Lawful}
+use Rattle.td_core.specs.History.{History, rows_of}
+use Rattle.td_journal.specs.declared.entry.Mark.{Mark}
+use Rattle.td_desk.specs.Marks.{marks_in}
+use Rattle.td_script.specs.declared.told.Told.{Told}
+use Rattle.td_script.specs.Openings.{IsBegun}
+use Rattle.td_script.specs.Replies.{Setting, ended}
+
+-- the line `rows`, and the lines of the rows
+abbrev pub rows_told : Table → List ℕ
+rows_told rows = ended (codes "rows") ++ state_text rows
+
+-- the last of what is told are the rows of a book that was opened over these: the entries of its journal that stand, each of which applies where it stands, lead from those to these. At most each line, each builder and the closing of the desk is a refusal
+pub record EndsWithRows (builders : ℕ) (opened : Table) (script text : List ℕ) (refused : ℕ) : Type 0 where
+  pub history : History
+  pub opening : history.opening ≡ opened
+  pub lawful : Lawful opened (standing history.journal)
+  pub front : List ℕ
+  pub ends : text ≡ front ++ rows_told (rows_of history)
+  pub few : refused ≤ length script + builders + 2
+
+-- what a crew of so many builders may tell of a script from this history
+abbrev pub crew_tells : ℕ → Setting → History → List ℕ → List ℕ → ℕ → Type 0
+crew_tells builders s h script text refused = EndsWithRows builders h.opening script text refused
+
+-- ---- as the code has it
+
+-- there is a history from which a script over these rows starts
+abbrev pub HasBegun : Option (List ℕ) → Table → Type 0
+HasBegun given rows = (h : History) × IsBegun given rows h
+
+-- the marks of the journal that is gone on with
+abbrev pub marks_begun : Option (List ℕ) → List Mark
+marks_begun None = []
+marks_begun (Some text) = marks_in text
+
+-- the rows of a history are put behind what was told
+pub record HasRows (told : Told) (h : History) (now : Told) : Type 0 where
+  pub text : string_bytes now.text ≡ string_bytes told.text ++ rows_told (rows_of h)
+  pub lawful : Lawful h.opening (standing h.journal)
+  pub refused : now.refused ≡ told.refused
+
+-- those with which a desk is closed that was opened over these, and at most one refusal more
+pub record IsClosed (opened : Table) (told now : Told) : Type 0 where
+  pub history : History
+  pub opening : history.opening ≡ opened
+  pub lawful : Lawful opened (standing history.journal)
+  pub text : string_bytes now.text ≡ string_bytes told.text ++ rows_told (rows_of history)
+  pub refused : now.refused ≤ told.refused + 1

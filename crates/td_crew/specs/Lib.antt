@@ -1,0 +1,2 @@
+pub mod CrewEnds
+pub mod CrewText

@@ -1,0 +1,330 @@
+//! A crew: a clerk beside builders.
+ghost use Rattle.std.specs.Prelude.{◌≡◌, ◌+◌, ◌-◌, ◌≤◌, ◌<◌, ◌^◌, All, IfErr, IfOk, IfSome, OnOk, length, option_map, string_bytes};
+ghost use Rattle.td_board.specs.Knowledge.{new_desk};
+ghost use Rattle.td_core.specs.Phases.{NoneBuilt};
+ghost use Rattle.td_rows.specs.Table.{Table};
+ghost use Rattle.td_book.specs.Desk.{Fixed};
+ghost use Rattle.td_supply.specs.Supply.{opened, stock_of};
+ghost use Rattle.td_script.specs.Asking.{IsFit, IsToldOf};
+ghost use Rattle.td_script.specs.OpeningInside.{IsJournalFault};
+ghost use Rattle.td_script.specs.Openings.{IsJournalIfGiven};
+ghost use Rattle.td_crew.specs.CrewText.{EndsWithRows, HasBegun, HasRows, IsClosed, crew_tells, marks_begun};
+
+use crate::building::build;
+use crate::hired::{Hired, hire};
+use crate::shift::Shift;
+use crate::told::tell_lines;
+use std::alloc::{AllocError, Global};
+use std::marker::Brand;
+use std::sync::Wait;
+use std::sync::ledger::{Blank, Ledger};
+use std::thread;
+use std::thread::Threads;
+use td_board::{Board, BuilderSeat, DeskSeat};
+use td_book::Book;
+use td_builder::Builds;
+use td_desk::{Clerk, Desk, Named, PARTS};
+use td_journal::ReadError;
+use td_relation::Archs;
+use td_report::Transition;
+use td_rows::{Rows, rows_text};
+use td_script::{Asked, Reports, Staff, Told};
+use td_supply::Supply;
+
+/// A clerk beside so many builders.
+#[derive(Clone, Copy, Debug, PartialEq, Eq)]
+pub struct Crew {
+    pub builders: usize,
+    ghost few: { builders ≤ 64 },
+}
+
+impl Staff for Crew {
+    ghost use Rattle.td_crew.specs.CrewText.{crew_tells};
+
+    ghost tells = { λ crew s h lines text refused. crew_tells crew.builders s h lines text refused };
+}
+
+// The lines that a clerk answers, and by what.
+#[derive(Drop)]
+struct Lines<'s, T: Reports> {
+    journal: Option<&'s str>,
+    suites: &'s [&'s str],
+    reports: Option<&'s T>,
+    script: &'s str,
+}
+
+// What is told of the lines; then the desk is shut.
+fn tell_all<N: Named, C: Ledger, T: Reports, R: Wait>(
+    rt: &R,
+    alloc: Global,
+    desk: &Desk<'_, N, C>,
+    clerk: &mut Clerk<C>,
+    archs: &Archs<'_>,
+    asked: &Lines<'_, T>,
+) -> Result<Told, AllocError>
+    requires fits { IfSome asked.now.reports (λ r. (t : Table) (f : Fixed) → T.fits r.now t f) }
+    requires small { length asked.now.script.now < 2 ^ 63 - 1 }
+    ensures { IfOk result (λ told. told.refused ≤ length asked.now.script.now + 1) }
+{
+    let told = tell_lines(
+        rt,
+        alloc,
+        desk,
+        clerk,
+        archs,
+        asked.suites,
+        asked.reports,
+        asked.script,
+    );
+    desk.shut(rt);
+    told
+}
+
+// What is told of the lines, while builders work on threads of their own; they are joined then.
+fn tell_beside<
+    N: Named + Send + Sync,
+    C: Ledger + Send + Sync,
+    B: Builds + Sync,
+    T: Reports,
+    R: Threads + Wait + Sync,
+>(
+    rt: &R,
+    alloc: Global,
+    shift: &Shift<'_, '_, N, C>,
+    clerk: &mut Clerk<C>,
+    hired: Vec<Hired<N>>,
+    builds: &B,
+    archs: &Archs<'_>,
+    asked: &Lines<'_, T>,
+) -> Result<Told, AllocError>
+    requires fits { IfSome asked.now.reports (λ r. (t : Table) (f : Fixed) → T.fits r.now t f) }
+    requires small { length asked.now.script.now < 2 ^ 63 - 1 }
+    ensures { IfOk result (λ told. told.refused ≤ length asked.now.script.now + 1) }
+{
+    thread::scope(
+        thread::scope_env(),
+        rt,
+        |scope| -> Result<Told, AllocError>
+            requires { IfSome asked.now.reports (λ r. (t : Table) (f : Fixed) → T.fits r.now t f) × (length asked.now.script.now < 2 ^ 63 - 1) }
+            ensures { IfOk result (λ told. told.refused ≤ length asked.entry.now.script.now + 1) }
+        {
+            for one in hired {
+                if scope.spawn(move || build(rt, shift, one, builds)).is_err() {
+                    shift.miss();
+                }
+            }
+            tell_all(rt, alloc, shift.desk, clerk, archs, asked)
+        },
+    )
+}
+
+// What is told of the lines beside builders on these seats. Each who is missing is a refusal.
+fn tell_in_shift<
+    N: Named + Send + Sync,
+    C: Ledger + Send + Sync,
+    B: Builds + Sync,
+    T: Reports,
+    R: Threads + Wait + Sync,
+>(
+    rt: &R,
+    alloc: Global,
+    desk: &Desk<'_, N, C>,
+    clerk: &mut Clerk<C>,
+    seats: Vec<BuilderSeat>,
+    builds: &B,
+    archs: &Archs<'_>,
+    asked: &Lines<'_, T>,
+) -> Result<Told, AllocError>
+    requires seats { All (λ s. s.table ≡ N.table) seats.items }
+    requires few { length seats.items ≤ 64 }
+    requires fits { IfSome asked.now.reports (λ r. (t : Table) (f : Fixed) → T.fits r.now t f) }
+    requires small { length asked.now.script.now < 2 ^ 63 - 1 }
+    ensures { IfOk result (λ told. told.refused ≤ length asked.now.script.now + length seats.items + 1) }
+{
+    let builders = seats.len() as u64;
+    let hired = hire::<N>(alloc, seats)?;
+    let shift = Shift::new(desk);
+    let mut told = tell_beside(rt, alloc, &shift, clerk, hired, builds, archs, asked)?;
+    told.refused += shift.missed()?.min(builders);
+    Ok(told)
+}
+
+// Puts the rows of a book behind what was told.
+fn tell_rows(alloc: Global, told: Told, book: &Book<'_>) -> Result<Told, AllocError>
+    ensures { IfOk result (HasRows told book.now.history) }
+{
+    let mut told = told;
+    told.text.push_str("rows\n")?;
+    let rows = rows_text(alloc, book.rows())?;
+    told.text.push_str(rows.as_str())?;
+    Ok(told)
+}
+
+// Puts the rows behind with which the desk is closed. Where the clerk's receipts differ from the
+// book's changes, that is a refusal.
+fn close<N: Named, C: Ledger>(
+    alloc: Global,
+    desk: Desk<'_, N, C>,
+    clerk: Clerk<C>,
+    told: Told,
+) -> Result<Told, AllocError>
+    requires room { told.refused < 2 ^ 64 - 1 }
+    ensures { IfOk result (IsClosed N.origin told) }
+{
+    let mut told = told;
+    let mut clerks = Vec::with_capacity(alloc, 1)?;
+    clerks.push(clerk).map_err(AllocError::from)?;
+    match desk.close(clerks) {
+        Ok(book) => tell_rows(alloc, told, &book),
+        Err(differ) => {
+            told.refused += 1;
+            tell_rows(alloc, told, &differ.book)
+        }
+    }
+}
+
+// What a crew at this desk tells of a script.
+fn tell_at<
+    N: Named + Send + Sync,
+    C: Ledger + Send + Sync,
+    B: Builds + Sync,
+    T: Reports,
+    R: Threads + Wait + Sync,
+>(
+    rt: &R,
+    alloc: Global,
+    desk: Desk<'_, N, C>,
+    clerk: Clerk<C>,
+    seats: Vec<BuilderSeat>,
+    builds: &B,
+    archs: &Archs<'_>,
+    asked: &Lines<'_, T>,
+) -> Result<Told, AllocError>
+    requires seats { All (λ s. s.table ≡ N.table) seats.items }
+    requires few { length seats.items ≤ 64 }
+    requires fits { IfSome asked.now.reports (λ r. (t : Table) (f : Fixed) → T.fits r.now t f) }
+    requires small { length asked.now.script.now < 2 ^ 63 - 1 }
+    ensures { IfOk result (λ told. EndsWithRows (length seats.items) N.origin asked.now.script.now (string_bytes told.text) told.refused) }
+{
+    let mut clerk = clerk;
+    let told = tell_in_shift(rt, alloc, &desk, &mut clerk, seats, builds, archs, asked)?;
+    close(alloc, desk, clerk, told)
+}
+
+// The desk over these rows: before the first entry, or with the journal that is gone on with.
+fn begin<'a, N: Named, C: Ledger>(
+    alloc: Global,
+    board: Board,
+    seat: DeskSeat,
+    rows: Rows,
+    supply: Supply<'a>,
+    blank: Blank,
+    journal: Option<&str>,
+) -> Result<(Desk<'a, N, C>, Clerk<C>), ReadError>
+    requires board { board.table ≡ N.table }
+    requires seat { seat.table ≡ N.table }
+    requires origin { N.origin ≡ rows }
+    requires opened { N.opened ≡ marks_begun (option_map (λ s. s.now) journal) }
+    requires fresh_seat { seat.desk ≡ new_desk (length rows) (length seat.desk.noted) }
+    requires idle { NoneBuilt rows }
+    requires fresh_supply { supply ≡ opened (stock_of supply) }
+    requires ledger { (blank.name ≡ C.name) × (blank.parts ≡ C.parts) × (blank.parts ≡ 1024) }
+    ensures begun { OnOk result (HasBegun (option_map (λ s. s.now) journal.entry) rows) }
+    ensures fault { IfErr result (IsJournalFault rows (option_map (λ s. s.now) journal.entry)) }
+    ensures only { IfErr result (λ fault. IsJournalIfGiven rows (option_map (λ s. s.now) journal.entry) → fault ≡ ReadError.NoMemory) }
+{
+    match journal {
+        Some(text) => Desk::<N, C>::reopen(alloc, board, seat, rows, supply, blank, text),
+        None => match Desk::<N, C>::open(alloc, board, seat, rows, supply, blank) {
+            Ok(made) => Ok(made),
+            Err(_) => Err(ReadError::NoMemory),
+        },
+    }
+}
+
+// What a crew at the named board tells of a script.
+fn tell_named<
+    N: Named + Send + Sync,
+    C: Ledger + Send + Sync,
+    B: Builds + Sync,
+    T: Reports,
+    R: Threads + Wait + Sync,
+>(
+    rt: &R,
+    alloc: Global,
+    board: Board,
+    seat: DeskSeat,
+    seats: Vec<BuilderSeat>,
+    rows: Rows,
+    supply: Supply<'_>,
+    blank: Blank,
+    builds: &B,
+    archs: &Archs<'_>,
+    asked: &Lines<'_, T>,
+) -> Result<Told, ReadError>
+    requires board { board.table ≡ N.table }
+    requires seat { seat.table ≡ N.table }
+    requires seats { All (λ s. s.table ≡ N.table) seats.items }
+    requires few { length seats.items ≤ 64 }
+    requires origin { N.origin ≡ rows }
+    requires opened { N.opened ≡ marks_begun (option_map (λ s. s.now) asked.now.journal) }
+    requires fresh_seat { seat.desk ≡ new_desk (length rows) (length seat.desk.noted) }
+    requires idle { NoneBuilt rows }
+    requires fresh_supply { supply ≡ opened (stock_of supply) }
+    requires ledger { (blank.name ≡ C.name) × (blank.parts ≡ C.parts) × (blank.parts ≡ 1024) }
+    requires fits { IfSome asked.now.reports (λ r. (t : Table) (f : Fixed) → T.fits r.now t f) }
+    requires small { length asked.now.script.now < 2 ^ 63 - 1 }
+    ensures begun { OnOk result (HasBegun (option_map (λ s. s.now) asked.now.journal) rows) }
+    ensures told { IfOk result (λ told. EndsWithRows (length seats.items) rows asked.now.script.now (string_bytes told.text) told.refused) }
+    ensures fault { IfErr result (IsJournalFault rows (option_map (λ s. s.now) asked.now.journal)) }
+    ensures only { IfErr result (λ fault. IsJournalIfGiven rows (option_map (λ s. s.now) asked.now.journal) → fault ≡ ReadError.NoMemory) }
+{
+    let journal = asked.journal;
+    let (desk, clerk) = match begin::<N, C>(alloc, board, seat, rows, supply, blank, journal) {
+        Ok(made) => made,
+        Err(fault) => return Err(fault),
+    };
+    match tell_at(rt, alloc, desk, clerk, seats, builds, archs, asked) {
+        Ok(told) => Ok(told),
+        Err(_) => Err(ReadError::NoMemory),
+    }
+}
+
+/// What a crew tells of a script from these rows, or from the journal over them that is gone on
+/// with. Each of its builders builds in this way.
+pub fn tell_script<B: Builds + Sync, R: Threads + Wait + Sync>(
+    rt: &R,
+    crew: Crew,
+    builds: &B,
+    asked: Asked,
+) -> Result<Told, ReadError>
+    requires { IsFit asked }
+    ensures { IsToldOf (crew_tells crew.builders) asked.entry result }
+{
+    let Ok((board, seat, seats)) = Board::make(asked.alloc, asked.rows.len(), crew.builders) else {
+        return Err(ReadError::NoMemory);
+    };
+    let Ok(supply) = asked.archive.supply() else {
+        return Err(ReadError::NoMemory);
+    };
+    let suites = [asked.suite];
+    let lines = Lines {
+        journal: asked.journal,
+        suites: suites.as_slice(),
+        reports: asked.reports,
+        script: asked.script,
+    };
+    tell_named::<Brand, Brand, B, Transition<'_, '_, '_, '_>, R>(
+        rt,
+        asked.alloc,
+        board,
+        seat,
+        seats,
+        asked.rows,
+        supply,
+        Blank::new(PARTS),
+        builds,
+        asked.archive.archs(),
+        &lines,
+    )
+}

@@ -1,0 +1,21 @@
+//! Crews: a script that a clerk answers at a desk, beside builders on threads of their own.
+//!
+//! Start at `run_crew_with`, over outcomes that are read; `run_crew` reads them from a text. The
+//! script is read as `td_script` reads it, and each answer put in the same words; then the desk is
+//! shut, the builders are joined, the desk is closed, and the rows of its book are told.
+//! Promised: the faults of a script, where they are due; and that what is written ends with the
+//! rows of a lawful book over the rows from which the script starts. What stands before is tested
+//! alone: it hangs on who is first.
+#![tactic(auto)]
+
+mod answering;
+mod building;
+mod crew;
+mod dispatch;
+mod hired;
+mod running;
+mod shift;
+mod told;
+
+pub use crew::{Crew, tell_script};
+pub use running::{CrewFault, run_crew, run_crew_with};

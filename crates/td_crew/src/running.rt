@@ -1,0 +1,103 @@
+//! The run of a script by a crew: from the texts of files and the bytes of a reader to those of a
+//! writer.
+ghost use Rattle.std.specs.Prelude.{◌≡◌, [], option_map, string_bytes, unwrap_or};
+ghost use Rattle.td_builder.specs.OutcomeLines.{FaultOf};
+ghost use Rattle.td_script.specs.Asking.{IsFit, IsToldOf};
+ghost use Rattle.td_script.specs.Ends.{Only, SaysBy};
+ghost use Rattle.td_script.specs.Openings.{AreReadable, texts_of};
+ghost use Rattle.td_crew.specs.CrewEnds.{AreRead, CrewOnly, CrewSays, IsNoOutcomes, StopsSo, outcomes_of};
+ghost use Rattle.td_crew.specs.CrewText.{crew_tells};
+
+use crate::crew::{Crew, tell_script};
+use std::alloc::Global;
+use std::io::{Read, Write};
+use std::sync::Wait;
+use std::thread::Threads;
+use td_builder::{Builds, Outcomes, OutcomesFault};
+use td_journal::ReadError;
+use td_script::{Asked, Inputs, RunFault, ScriptEnd, Told, judge, run_with};
+
+/// Why a run by lines of outcomes stopped.
+#[derive(Clone, Copy, Debug, PartialEq, Eq, Drop)]
+pub enum CrewFault {
+    /// The first line of the outcomes that isn't one. The faults of the other files come before it.
+    BadOutcome(usize),
+    Run(RunFault),
+}
+
+/// Answers the script that the reader has, over what the inputs say, beside as many builders as
+/// they say, each of whom builds in this way. Then the desk is shut, the builders are joined, and
+/// the rows are told.
+/// All is read and answered before anything is written.
+pub fn run_crew_with<R: Read, W: Write, B: Builds + Sync, H: Threads + Wait + Sync>(
+    rt: &H,
+    alloc: Global,
+    inputs: &Inputs,
+    reader: &mut R,
+    writer: &mut W,
+    builds: &B,
+) -> Result<ScriptEnd, RunFault>
+    ensures says { SaysBy (crew_tells inputs.now.builders) (texts_of inputs.now) (R.remaining reader.old) (W.contents writer.old) (W.contents writer.new) result }
+    ensures only { Only (texts_of inputs.now) (R.remaining reader.old) result }
+{
+    let crew = Crew {
+        builders: inputs.builders,
+    };
+    run_with(
+        alloc,
+        &crew,
+        &|asked: Asked| -> Result<Told, ReadError>
+            requires { IsFit asked }
+            ensures { IsToldOf (crew_tells crew.builders) asked.entry result }
+        { tell_script(rt, crew, builds, asked) },
+        inputs,
+        reader,
+        writer,
+    )
+}
+
+// The lines that say how builds end.
+fn lines_in(inputs: &Inputs) -> &str
+    ensures { result.now ≡ unwrap_or (option_map string_bytes inputs.now.outcomes) [] }
+{
+    match &inputs.outcomes {
+        Some(text) => text.as_str(),
+        None => "",
+    }
+}
+
+// Why no outcomes are read. The other files come before them.
+fn no_outcomes(alloc: Global, inputs: &Inputs, fault: OutcomesFault) -> CrewFault
+    requires { FaultOf (outcomes_of inputs.now) fault }
+    ensures says { IsNoOutcomes (texts_of inputs.now) (outcomes_of inputs.now) result }
+    ensures only { AreRead (outcomes_of inputs.now) → AreReadable (texts_of inputs.now) → StopsSo (texts_of inputs.now) result }
+{
+    match judge(alloc, inputs) {
+        Err(refused) => CrewFault::Run(refused),
+        Ok(()) => match fault {
+            OutcomesFault::BadLine(line) => CrewFault::BadOutcome(line),
+            OutcomesFault::NoMemory => CrewFault::Run(RunFault::NoMemory),
+        },
+    }
+}
+
+/// The same where builds end as the lines of the outcomes say.
+pub fn run_crew<R: Read, W: Write, H: Threads + Wait + Sync>(
+    rt: &H,
+    alloc: Global,
+    inputs: &Inputs,
+    reader: &mut R,
+    writer: &mut W,
+) -> Result<ScriptEnd, CrewFault>
+    ensures says { CrewSays (crew_tells inputs.now.builders) (texts_of inputs.now) (outcomes_of inputs.now) (R.remaining reader.old) (W.contents writer.old) (W.contents writer.new) result }
+    ensures only { CrewOnly (texts_of inputs.now) (outcomes_of inputs.now) (R.remaining reader.old) result }
+{
+    let outcomes = match Outcomes::read(alloc, lines_in(inputs)) {
+        Ok(outcomes) => outcomes,
+        Err(fault) => return Err(no_outcomes(alloc, inputs, fault)),
+    };
+    match run_crew_with(rt, alloc, inputs, reader, writer, &outcomes) {
+        Ok(end) => Ok(end),
+        Err(fault) => Err(CrewFault::Run(fault)),
+    }
+}

@@ -1,0 +1,96 @@
+//! What is written of the answers of calls, by a clerk alone or beside builders. Each function says
+//! whether the line is refused.
+ghost use Rattle.std.specs.Prelude.{IfOk};
+ghost use Rattle.std.specs.String.{string_bytes};
+ghost use Rattle.td_script.specs.Replying.{IsArrivalPut, IsCommandPut, IsSweepPut, IsUndoPut};
+
+use crate::writing::{
+    put_made, put_refusal, put_skips, put_state_refusal, put_undo_refusal, put_undone,
+};
+use std::alloc::AllocError;
+use td_book::{ArriveRefusal, CommandRefusal, Taken, UndoRefusal};
+use td_journal::{EntryNo, Journal};
+
+/// Appends what an undo answered.
+pub fn put_undo(
+    out: &mut String,
+    n: EntryNo,
+    answer: Result<(), UndoRefusal>,
+) -> Result<bool, AllocError>
+    ensures { IfOk result (IsUndoPut n answer (string_bytes out.old) (string_bytes out.new)) }
+{
+    match answer {
+        Ok(()) => {
+            put_undone(out, n)?;
+            Ok(false)
+        }
+        Err(UndoRefusal::NoMemory) => Err(AllocError),
+        Err(refusal) => {
+            put_undo_refusal(out, refusal)?;
+            Ok(true)
+        }
+    }
+}
+
+/// Appends what an arrival answered. The journal has its entry.
+pub fn put_arrival(
+    out: &mut String,
+    journal: &Journal,
+    answer: Result<EntryNo, ArriveRefusal>,
+) -> Result<bool, AllocError>
+    ensures { IfOk result (IsArrivalPut journal.now.entries answer (string_bytes out.old) (string_bytes out.new)) }
+{
+    match answer {
+        Ok(n) => {
+            put_made(out, journal, n)?;
+            Ok(false)
+        }
+        Err(ArriveRefusal::NoMemory) => Err(AllocError),
+        Err(ArriveRefusal::NoSuchRow) => {
+            put_refusal(out, "NoSuchRow")?;
+            Ok(true)
+        }
+        Err(ArriveRefusal::DoesNotApply(state)) => {
+            put_state_refusal(out, "DoesNotApply ", state)?;
+            Ok(true)
+        }
+    }
+}
+
+/// Appends what a sweep answered. The journal has its entry.
+pub fn put_sweep(
+    out: &mut String,
+    journal: &Journal,
+    swept: Option<EntryNo>,
+) -> Result<bool, AllocError>
+    ensures { IfOk result (IsSweepPut journal.now.entries swept (string_bytes out.old) (string_bytes out.new)) }
+{
+    match swept {
+        Some(n) => put_made(out, journal, n)?,
+        None => out.push_str("nothing to sweep\n")?,
+    }
+    Ok(false)
+}
+
+/// Appends what a command answered. The journal has its entry.
+pub fn put_command(
+    out: &mut String,
+    journal: &Journal,
+    answer: Result<Taken, CommandRefusal>,
+) -> Result<bool, AllocError>
+    ensures { IfOk result (IsCommandPut journal.now.entries answer (string_bytes out.old) (string_bytes out.new)) }
+{
+    match answer {
+        Ok(taken) => {
+            put_made(out, journal, taken.number)?;
+            put_skips(out, taken.skips.as_slice())?;
+            Ok(false)
+        }
+        Err(CommandRefusal::NothingApplies(skips)) => {
+            put_refusal(out, "NothingApplies")?;
+            put_skips(out, skips.as_slice())?;
+            Ok(true)
+        }
+        Err(CommandRefusal::NoMemory) => Err(AllocError),
+    }
+}
