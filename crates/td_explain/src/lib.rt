@@ -10,8 +10,6 @@
 mod explaining;
 mod shown;
 mod spot;
-#[cfg(test)]
-mod tests;
 
 pub use explaining::explain;
 pub use spot::Place;

@@ -1,5 +1,6 @@
 //! The tests of the crates that read and write: streams, stanzas, versions, relations and what is
-//! on offer, indices, command lines, trackers and waves: what no clause says.
+//! on offer, indices, command lines, trackers and waves, the words of the program and its
+//! explanations: what no clause says.
 //!
 //! A module a crate. They stand in a crate of their own, over the crates' public calls, so that
 //! none of those is proved a second time with its tests.
@@ -9,6 +10,8 @@
 mod archives;
 #[cfg(test)]
 mod commands;
+#[cfg(test)]
+mod explanations;
 #[cfg(test)]
 mod relations;
 #[cfg(test)]
@@ -25,3 +28,5 @@ mod trackers;
 mod versions;
 #[cfg(test)]
 mod waves;
+#[cfg(test)]
+mod words;

@@ -165,9 +165,9 @@ pub record HasTrack (options : List Row) (w : TrackWords) : Type 0 where
 abbrev pub AskForTrack : List (List ℕ) → TrackWords → Type 0
 AskForTrack words w = AskFor (codes "track") words × HasTrack (options_of words) w
 
--- how many builders there are: none, until there are crews
+-- how many builders there are at most: as many as a board has seats for
 abbrev pub most_builders : ℕ
-most_builders = 0
+most_builders = 64
 
 -- the number of builders that a text says
 abbrev pub builders_at : List ℕ → Option ℕ

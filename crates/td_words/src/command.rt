@@ -206,7 +206,9 @@ Standard output has the answer to each line:
   undone 1
 Nothing is printed where a file, or the script, isn't of its form; standard error names it.
 With --journal the script goes on with what an earlier one did, as the line `journal` printed it.
-There are no crews yet: --builders takes 0 alone, and an outcomes file is read and not looked at.
+With --builders, builders work beside the script; then the rows are printed as they leave them,
+behind a line `rows`. Their builds end as the lines of --outcomes say (foo/amd64 givenback), and are
+built where none is left; without builders that file is read and not looked at.
 
 docs/FORMATS.md says exactly what is read and printed, and lists the lines.";
 
@@ -227,7 +229,7 @@ fn with_crew<'a>(alloc: Global, command: Command<'a>) -> Result<Command<'a>, All
     ensures app { IfOk result (λ c. app_of c ≡ with_crew_rules (app_of command.entry)) }
     ensures globals { (out-Command command.entry).has_globals ≡ false → IfOk result (λ c. (out-Command c).has_globals ≡ false) }
 {
-    let builders = "How many builders there are: 0, since there are no crews yet";
+    let builders = "How many builders there are, from 0 to 64; none where none are given";
     let outcomes = "How the builds of each row end";
     let journal = "The journal of an earlier run, to go on with";
     command

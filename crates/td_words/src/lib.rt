@@ -11,8 +11,6 @@ mod command;
 mod laws;
 mod request;
 mod run_words;
-#[cfg(test)]
-mod tests;
 
 pub use laws::{
     words_of_a_check_ask_for_it, words_of_a_run_ask_for_it, words_of_a_simulation_ask_for_it,

@@ -10,8 +10,8 @@ use clap::ArgMatches;
 use std::alloc::Global;
 use td_text::number;
 
-/// The most builders that a run has, until there are crews.
-const MAX_BUILDERS: u64 = 0;
+/// The most builders that a run has.
+const MAX_BUILDERS: u64 = 64;
 
 /// The suite that command lines may name where no other is given.
 const SUITE: &str = "unstable";
@@ -32,10 +32,7 @@ fn builders_in(matches: &ArgMatches<'_>) -> Option<usize>
 
 // The text that is said of another value.
 fn no_builders(alloc: Global) -> WordsFault {
-    match String::from_str(
-        alloc,
-        "error: --builders takes 0, since there are no crews yet\n",
-    ) {
+    match String::from_str(alloc, "error: --builders takes a number from 0 to 64\n") {
         Ok(text) => WordsFault::Usage(text),
         Err(_) => WordsFault::NoMemory,
     }

@@ -1,0 +1,29 @@
+use Rattle.std.proofs.Common.{map, string_bytes}
+use Rattle.td_words.specs.CommandLine.{is_explained, options_of}
+use Rattle.td_tool.proofs.Asks.{simulated, checked, tracked, waved, ran_script, only_asked}
+use Rattle.td_tool.proofs.answering.answer.Goals as goal
+
+pub returns : goal.returns
+returns g c =
+    let words = map string_bytes c.args.words.now in
+    let known = g.R.Read.remaining c.args.reader.now in
+    let bytes = g.T.Texts.bytes c.args.texts.now in
+    let can_fail = g.T.Texts.can_fail c.args.texts.now in
+    let old = g.W.Write.contents c.args.output.now in
+    let new = g.W.Write.contents c.act.new.output in
+    let before = g.E.Write.contents c.args.faults.now in
+    let said = g.E.Write.contents c.act.new.faults in
+    let asked = c.read_words.result in
+    let status = c.act.result in
+    let explained = is_explained (options_of words) in
+    let ran = c.act.ensures.request in
+    let told = c.act.ensures.fault in
+    let flag = c.read_words.ensures.explained in
+    record {
+      simulate = λ asks. simulated words known bytes can_fail old new before said status asked explained ran told flag (c.read_words.ensures.simulate asks);
+      check = λ archs packages sources asks. checked words known bytes can_fail old new before said status asked explained archs packages sources ran told flag (c.read_words.ensures.check archs packages sources asks);
+      track = λ w asks. tracked words known bytes can_fail old new before said status asked explained w ran told flag (c.read_words.ensures.track w asks);
+      waves = λ archs packages sources tracker asks. waved words known bytes can_fail old new before said status asked explained archs packages sources tracker ran told flag (c.read_words.ensures.waves archs packages sources tracker asks);
+      run = λ w asks. ran_script words known bytes can_fail old new before said status asked explained w ran told flag (c.read_words.ensures.run w asks);
+      others = only_asked words known bytes can_fail old new before said status asked ran told flag c.read_words.ensures.only;
+    }

@@ -1,0 +1,132 @@
+-- What the inner functions of a check answer. This project's own.
+use Rattle.std.specs.Prelude.{◌≡◌, ℕ, ◌≤◌, List, length, Option, Result, IfOk, IfErr, MatchResult, String, string_bytes}
+use Rattle.std.specs.declared.alloc.Global.{Global}
+use Rattle.std.specs.Io.KnownBytes.{Appends, Keeps}
+use Rattle.td_bytes.specs.Pieces.{AppendsPrefix}
+use Rattle.td_text.specs.Lines.{lines_of}
+use Rattle.td_relation.specs.Arch.{ArchWords}
+use Rattle.td_relation.specs.TableFile.{IsTable}
+use Rattle.td_relation.specs.TableFile as table_file
+use Rattle.td_relation.specs.declared.archs.ArchsFault.TheVariants as table
+use Rattle.td_indices.specs.Archive.{Contents, IsArchive}
+use Rattle.td_indices.specs.Archive as archive_file
+use Rattle.td_indices.specs.Rows.{row_count}
+use Rattle.td_indices.specs.declared.archive_fault.ArchiveFault.{ArchiveFault}
+use Rattle.td_indices.specs.declared.archive_fault.ArchiveFault.TheVariants as archive
+use Rattle.td_tool.specs.declared.checking.Counts.{Counts}
+use Rattle.td_tool.specs.declared.file_texts.FileTexts.{FileTexts}
+use Rattle.td_tool.specs.declared.file_texts.FileFault.{FileFault}
+use Rattle.td_tool.specs.declared.role.Role.{Role}
+use Rattle.td_tool.specs.declared.role.Role.TheVariants.{Archs}
+use Rattle.td_tool.specs.Roles.{role_of_fault}
+use Rattle.td_tool.specs.declared.input_fault.InputFault.TheVariants.{TooLong, NotText, Simulation, Table, Archive, State, NoSuchRow, Tracker, BadOutcome, Journal}
+use Rattle.td_tool.specs.declared.ending.Ending.{Ending}
+use Rattle.td_tool.specs.declared.ending.Ending.TheVariants.{Done, Refused, BadInput, NoMemory, CannotRead, CannotWrite}
+use Rattle.td_tool.specs.Ending.{ending_of_archive, ending_of_file}
+use Rattle.td_tool.specs.Counted.{IsArchiveOf, counts_line, line_of_counts}
+use Rattle.td_tool.specs.Limits.{file_limit}
+use Rattle.td_tool.specs.Checks.{Files, AreTexts, EndsCounted, HasFailed}
+
+-- ---- 1. the files
+
+-- the texts that were read of the files
+abbrev pub AreTextsIn : Files → FileTexts → Type 0
+AreTextsIn files t = AreTexts files (string_bytes t.archs) (string_bytes t.packages) (string_bytes t.sources)
+
+-- a file that wasn't read, for this
+abbrev pub HasFailedIn : Files → FileFault → Type 0
+HasFailedIn files f = HasFailed files f.role f.fault
+
+-- the table's text is within the limit
+abbrev pub IsWithin : FileTexts → Type 0
+IsWithin t = length (string_bytes t.archs) ≤ file_limit
+
+-- ---- 2. the counts
+
+-- these are the counts of the archive
+pub record AreCountsOf (c : Contents) (n : Counts) : Type 0 where
+  pub of_sources : n.sources ≡ length c.sources
+  pub of_binaries : n.binaries ≡ length c.binaries
+  pub of_rows : n.rows ≡ row_count c.table c.sources
+
+-- the counts of an archive that two texts are with this table
+abbrev pub AreCountsWith : List ArchWords → List ℕ → List ℕ → Counts → Type 0
+AreCountsWith t p s n = (c : Contents) × IsArchive t (lines_of p) (lines_of s) c × AreCountsOf c n
+
+-- two texts are no archive with this table, and so it ends
+abbrev pub IsRefusedWith : List ArchWords → List ℕ → List ℕ → Ending → Type 0
+IsRefusedWith t p s ending = (e : ArchiveFault) × archive_file.FaultOf t (lines_of p) (lines_of s) e × (ending ≡ ending_of_archive e)
+
+-- what is counted of two texts with this table: an archive is, unless memory runs out
+pub record IsCountedWith (t : List ArchWords) (p s : List ℕ) (counted : Result Counts Ending) : Type 0 where
+  pub found : IfOk counted (AreCountsWith t p s)
+  pub only : (c : Contents) → IsArchive t (lines_of p) (lines_of s) c → MatchResult counted (AreCountsOf c) (λ e. e ≡ NoMemory)
+  pub refused : IfErr counted (IsRefusedWith t p s)
+
+-- the ending where three texts are no archive, or memory runs out
+abbrev pub IsNoArchive : List ℕ → List ℕ → List ℕ → Ending → Type 0
+IsNoArchive a p s Done = ⊥
+IsNoArchive a p s Refused = ⊥
+IsNoArchive a p s (BadInput role TooLong) = ⊥
+IsNoArchive a p s (BadInput role NotText) = ⊥
+IsNoArchive a p s (BadInput role (Simulation e)) = ⊥
+IsNoArchive a p s (BadInput role (Table table.NoMemory)) = ⊥
+IsNoArchive a p s (BadInput role (Table e)) = (role ≡ Archs) × table_file.FaultOf (lines_of a) e
+IsNoArchive a p s (BadInput role (Archive archive.NoMemory)) = ⊥
+IsNoArchive a p s (BadInput role (Archive e)) = (role ≡ role_of_fault e) × ((t : List ArchWords) × IsTable (lines_of a) t × archive_file.FaultOf t (lines_of p) (lines_of s) e)
+IsNoArchive a p s (BadInput role (State e)) = ⊥
+IsNoArchive a p s (BadInput role NoSuchRow) = ⊥
+IsNoArchive a p s (BadInput role (Tracker e)) = ⊥
+IsNoArchive a p s (BadInput role (BadOutcome n)) = ⊥
+IsNoArchive a p s (BadInput role (Journal e)) = ⊥
+IsNoArchive a p s NoMemory = Unit {0}
+IsNoArchive a p s (CannotRead role) = ⊥
+IsNoArchive a p s CannotWrite = ⊥
+
+-- what is counted of three texts: an archive is, unless memory runs out
+pub record IsCounted (a p s : List ℕ) (counted : Result Counts Ending) : Type 0 where
+  pub found : IfOk counted (λ n. (c : Contents) × IsArchiveOf a p s c × AreCountsOf c n)
+  pub only : (c : Contents) → IsArchiveOf a p s c → MatchResult counted (AreCountsOf c) (λ e. e ≡ NoMemory)
+  pub refused : IfErr counted (IsNoArchive a p s)
+
+-- the line of the counts
+abbrev pub IsLineFor : Counts → String Global → Type 0
+IsLineFor n line = string_bytes line ≡ line_of_counts n.sources n.binaries n.rows
+
+-- ---- 3. what is written
+
+-- this line is written so: whole, or a front of it where the writer failed
+abbrev pub WritesSo : List ℕ → Option (List ℕ) → Option (List ℕ) → Ending → Type 0
+WritesSo line old new Done = Appends old new line
+WritesSo line old new Refused = ⊥
+WritesSo line old new (BadInput role e) = ⊥
+WritesSo line old new NoMemory = ⊥
+WritesSo line old new (CannotRead role) = ⊥
+WritesSo line old new CannotWrite = AppendsPrefix old new line
+
+-- it ends so, and nothing is written
+pub record EndsUnwritten (expected : Ending) (old new : Option (List ℕ)) (ending : Ending) : Type 0 where
+  pub ends : ending ≡ expected
+  pub kept : Keeps old new
+
+-- what an ending says of three texts: they were read, so no read has failed
+abbrev pub TextsSay : List ℕ → List ℕ → List ℕ → Option (List ℕ) → Option (List ℕ) → Ending → Type 0
+TextsSay a p s old new Done = (c : Contents) × IsArchiveOf a p s c × Appends old new (counts_line c)
+TextsSay a p s old new Refused = ⊥
+TextsSay a p s old new (BadInput role e) = IsNoArchive a p s (BadInput role e) × Keeps old new
+TextsSay a p s old new NoMemory = Keeps old new
+TextsSay a p s old new (CannotRead role) = ⊥
+TextsSay a p s old new CannotWrite = (c : Contents) × IsArchiveOf a p s c × AppendsPrefix old new (counts_line c)
+
+-- three texts end the check so: the ending is as it says, and an archive is counted unless a write or memory fails
+pub record TextsEnd (a p s : List ℕ) (old new : Option (List ℕ)) (ending : Ending) : Type 0 where
+  pub says : TextsSay a p s old new ending
+  pub only : (c : Contents) → IsArchiveOf a p s c → EndsCounted c old new ending
+
+-- the same of the texts that were read from the three files
+abbrev pub FileTextsEnd : FileTexts → Option (List ℕ) → Option (List ℕ) → Ending → Type 0
+FileTextsEnd t old new ending = TextsEnd (string_bytes t.archs) (string_bytes t.packages) (string_bytes t.sources) old new ending
+
+-- a file wasn't read, for this
+abbrev pub FileUnread : FileFault → Option (List ℕ) → Option (List ℕ) → Ending → Type 0
+FileUnread f old new ending = EndsUnwritten (ending_of_file f.role f.fault) old new ending

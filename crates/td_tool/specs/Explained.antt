@@ -1,0 +1,146 @@
+-- What is said of an ending where an explanation is asked for. This project's own.
+use Rattle.std.specs.Prelude.{◌≡◌, ℕ, Bool, true, false, List, [], ◌++◌, Option, Some, None, IfSome, String, option_and_then, string_bytes}
+use Rattle.std.specs.declared.alloc.Global.{Global}
+use Rattle.td_bytes.specs.Pieces.{AppendsPrefix}
+use Rattle.td_explain.specs.declared.spot.Place.{Place}
+use Rattle.td_explain.specs.declared.spot.Place.TheVariants.{Whole, Line, Stanza, Byte}
+use Rattle.td_explain.specs.Explanation.{explanation}
+use Rattle.td_words.specs.Asked.{run_words, track_words}
+use Rattle.td_words.specs.CommandLine.{RunWords, TrackWords}
+use Rattle.td_words.specs.declared.request.Request.{Request}
+use Rattle.td_words.specs.declared.request.Request.TheVariants as asked
+use Rattle.td_tool.specs.Ending.{line_of}
+use Rattle.td_tool.specs.Places.{place_of}
+use Rattle.td_tool.specs.Roles.{label_of}
+use Rattle.td_tool.specs.Wanted.{wanted_input}
+use Rattle.td_tool.specs.declared.role.Role.{Role}
+use Rattle.td_tool.specs.declared.role.Role.TheVariants.{Input, Archs, Packages, Sources, State, Tracker, Outcomes, Journal}
+use Rattle.td_tool.specs.declared.input_fault.InputFault.{InputFault}
+use Rattle.td_tool.specs.declared.ending.Ending.{Ending}
+use Rattle.td_tool.specs.declared.ending.Ending.TheVariants.{Done, Refused, BadInput, NoMemory, CannotRead, CannotWrite}
+
+-- ---- 1. the texts that may be refused
+
+-- the paths of an archive's files, by role
+abbrev pub archive_paths : List ℕ → List ℕ → List ℕ → Role → Option (List ℕ)
+archive_paths archs packages sources Input = None
+archive_paths archs packages sources Archs = Some archs
+archive_paths archs packages sources Packages = Some packages
+archive_paths archs packages sources Sources = Some sources
+archive_paths archs packages sources State = None
+archive_paths archs packages sources Tracker = None
+archive_paths archs packages sources Outcomes = None
+archive_paths archs packages sources Journal = None
+
+-- those of a report
+abbrev pub track_paths : TrackWords → Role → Option (List ℕ)
+track_paths w Input = None
+track_paths w Archs = Some w.archs
+track_paths w Packages = Some w.packages
+track_paths w Sources = Some w.sources
+track_paths w State = w.state
+track_paths w Tracker = Some w.tracker
+track_paths w Outcomes = None
+track_paths w Journal = None
+
+-- those of waves
+abbrev pub waves_paths : List ℕ → List ℕ → List ℕ → List ℕ → Role → Option (List ℕ)
+waves_paths archs packages sources tracker Input = None
+waves_paths archs packages sources tracker Archs = Some archs
+waves_paths archs packages sources tracker Packages = Some packages
+waves_paths archs packages sources tracker Sources = Some sources
+waves_paths archs packages sources tracker State = None
+waves_paths archs packages sources tracker Tracker = Some tracker
+waves_paths archs packages sources tracker Outcomes = None
+waves_paths archs packages sources tracker Journal = None
+
+-- those of a run
+abbrev pub run_paths : RunWords → Role → Option (List ℕ)
+run_paths w Input = None
+run_paths w Archs = Some w.archs
+run_paths w Packages = Some w.packages
+run_paths w Sources = Some w.sources
+run_paths w State = w.state
+run_paths w Tracker = w.tracker
+run_paths w Outcomes = w.outcomes
+run_paths w Journal = w.journal
+
+-- what stands in the files of these paths, where it is known
+abbrev pub known_at : (List ℕ → Option (List ℕ)) → (Role → Option (List ℕ)) → Role → Option (List ℕ)
+known_at bytes paths role = option_and_then bytes (paths role)
+
+-- what is on standard input, where it is known
+abbrev pub known_input : Option (List ℕ) → Role → Option (List ℕ)
+known_input known Input = known
+known_input known Archs = None
+known_input known Packages = None
+known_input known Sources = None
+known_input known State = None
+known_input known Tracker = None
+known_input known Outcomes = None
+known_input known Journal = None
+
+-- the paths that a request has
+abbrev pub paths_of : Request → Role → Option (List ℕ)
+paths_of asked.Simulate role = None
+paths_of (asked.Check archs packages sources) role = archive_paths (string_bytes archs) (string_bytes packages) (string_bytes sources) role
+paths_of (asked.Track archs packages sources tracker state chunk) role = track_paths (track_words archs packages sources tracker state chunk) role
+paths_of (asked.Waves archs packages sources tracker) role = waves_paths (string_bytes archs) (string_bytes packages) (string_bytes sources) (string_bytes tracker) role
+paths_of (asked.Run archs packages sources state tracker suite builders outcomes journal) role = run_paths (run_words archs packages sources state tracker suite builders outcomes journal) role
+
+-- the texts of a request, by role, where they are known: a simulation has standard input alone, and of a script no place is explained
+abbrev pub known_of_request : Request → Option (List ℕ) → (List ℕ → Option (List ℕ)) → Role → Option (List ℕ)
+known_of_request asked.Simulate known bytes = known_input known
+known_of_request (asked.Check archs packages sources) known bytes = known_at bytes (archive_paths (string_bytes archs) (string_bytes packages) (string_bytes sources))
+known_of_request (asked.Track archs packages sources tracker state chunk) known bytes = known_at bytes (track_paths (track_words archs packages sources tracker state chunk))
+known_of_request (asked.Waves archs packages sources tracker) known bytes = known_at bytes (waves_paths (string_bytes archs) (string_bytes packages) (string_bytes sources) (string_bytes tracker))
+known_of_request (asked.Run archs packages sources state tracker suite builders outcomes journal) known bytes = known_at bytes (run_paths (run_words archs packages sources state tracker suite builders outcomes journal))
+
+-- ---- 2. the explanation
+
+-- where there is no place no text is looked at; else the text is the known one
+abbrev pub IsLookedAt : Place → Option (List ℕ) → List ℕ → Type 0
+IsLookedAt Whole known text = Unit {0}
+IsLookedAt (Line n) known text = IfSome known (λ all. all ≡ text)
+IsLookedAt (Stanza n) known text = IfSome known (λ all. all ≡ text)
+IsLookedAt (Byte at) known text = IfSome known (λ all. all ≡ text)
+
+-- the text in which an ending is explained
+abbrev pub IsTextFor : Ending → (Role → Option (List ℕ)) → List ℕ → Type 0
+IsTextFor Done known text = Unit {0}
+IsTextFor Refused known text = Unit {0}
+IsTextFor (BadInput role fault) known text = IsLookedAt (place_of fault) (known role) text
+IsTextFor NoMemory known text = Unit {0}
+IsTextFor (CannotRead role) known text = Unit {0}
+IsTextFor CannotWrite known text = Unit {0}
+
+-- the explanation of an ending: of a refused text a line, of any other nothing
+abbrev pub explanation_of : Ending → List ℕ → List ℕ
+explanation_of Done text = []
+explanation_of Refused text = []
+explanation_of (BadInput role fault) text = explanation (label_of role) (place_of fault) (wanted_input fault) text
+explanation_of NoMemory text = []
+explanation_of (CannotRead role) text = []
+explanation_of CannotWrite text = []
+
+-- a line explains the ending, in the known text
+abbrev pub Explains : (Role → Option (List ℕ)) → Ending → List ℕ → Type 0
+Explains known ending line = (text : List ℕ) × IsTextFor ending known text × (line ≡ explanation_of ending text)
+
+-- the same of a fault in one text
+abbrev pub ExplainsFile : Option (List ℕ) → Role → InputFault → List ℕ → Type 0
+ExplainsFile known role fault line = (text : List ℕ) × IfSome known (λ all. all ≡ text) × (line ≡ explanation_of (BadInput role fault) text)
+
+-- the text that was kept of standard input is the known one
+abbrev pub IsKept : (Role → Option (List ℕ)) → Option (String Global) → Type 0
+IsKept known input = IfSome input (λ kept. IfSome (known Input) (λ all. all ≡ string_bytes kept))
+
+-- a front of the explanation is said
+abbrev pub IsSaidOf : (Role → Option (List ℕ)) → Ending → Option (List ℕ) → Option (List ℕ) → Type 0
+IsSaidOf known ending said_before said = (text : List ℕ) × IsTextFor ending known text × AppendsPrefix said_before said (explanation_of ending text)
+
+-- what is said of an ending: its line, and behind it the explanation where that is asked for; of both a front where standard error, memory or another read fails
+abbrev pub SaysOf : Bool → (Role → Option (List ℕ)) → Ending → Option (List ℕ) → Option (List ℕ) → Type 0
+SaysOf false known ending said_before said = AppendsPrefix said_before said (line_of ending)
+SaysOf true known ending said_before said =
+    (text : List ℕ) × IsTextFor ending known text × AppendsPrefix said_before said (line_of ending ++ explanation_of ending text)

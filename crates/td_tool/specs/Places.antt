@@ -1,0 +1,89 @@
+-- Where in its text a refusal is, by its own fields. This project's own.
+use Rattle.std.specs.Prelude.{ℕ, ◌+◌, nat_lt, if◌then◌else◌}
+use Rattle.td_explain.specs.declared.spot.Place.{Place}
+use Rattle.td_explain.specs.declared.spot.Place.TheVariants.{Whole, Line, Stanza, Byte}
+use Rattle.td_stanza.specs.declared.fault.StanzaFault.{StanzaFault}
+use Rattle.td_stanza.specs.declared.fault.StanzaFault.TheVariants as stanza
+use Rattle.td_relation.specs.declared.archs.ArchsFault.{ArchsFault}
+use Rattle.td_relation.specs.declared.archs.ArchsFault.TheVariants as table
+use Rattle.td_indices.specs.declared.archive_fault.ArchiveFault.{ArchiveFault}
+use Rattle.td_indices.specs.declared.archive_fault.ArchiveFault.TheVariants as archive
+use Rattle.td_rows.specs.declared.state_file.StateFault.{StateFault}
+use Rattle.td_rows.specs.declared.state_file.StateFault.TheVariants as state
+use Rattle.td_query.specs.declared.tracker_fault.TrackerFault.{TrackerFault}
+use Rattle.td_query.specs.declared.tracker_fault.TrackerFault.TheVariants as tracker
+use Rattle.td_journal.specs.declared.journal_fault.ReadError.{ReadError}
+use Rattle.td_journal.specs.declared.journal_fault.ReadError.TheVariants as journal
+use Rattle.td_simulate.specs.declared.fault.SimulationFault.{SimulationFault}
+use Rattle.td_simulate.specs.declared.fault.SimulationFault.TheVariants as simulation
+use Rattle.td_tool.specs.declared.input_fault.InputFault.{InputFault}
+use Rattle.td_tool.specs.declared.input_fault.InputFault.TheVariants as refused
+
+-- the line of a state file, or of the opening rows
+abbrev pub place_in_state : StateFault → Place
+place_in_state (state.BadLine n) = Line n
+place_in_state (state.Twice n) = Line n
+place_in_state (state.NotOpening n) = Line n
+place_in_state state.TooManyRows = Whole
+place_in_state state.NoMemory = Whole
+
+-- the line of a simulation
+abbrev pub place_in_simulation : SimulationFault → Place
+place_in_simulation (simulation.Opening e) = place_in_state e
+place_in_simulation (simulation.BadStep n) = Line n
+place_in_simulation simulation.NoMemory = Whole
+
+-- the line of a table of architectures
+abbrev pub place_in_table : ArchsFault → Place
+place_in_table (table.BadLine n) = Line n
+place_in_table (table.Twice n) = Line n
+place_in_table table.TooMany = Whole
+place_in_table table.NoMemory = Whole
+
+-- the line of a control file
+abbrev pub place_in_stanzas : StanzaFault → Place
+place_in_stanzas (stanza.BadName n) = Line n
+place_in_stanzas (stanza.NoColon n) = Line n
+place_in_stanzas (stanza.ContinuationFirst n) = Line n
+place_in_stanzas (stanza.Duplicate n) = Line n
+place_in_stanzas stanza.NoMemory = Whole
+
+-- the line or the stanza of an index
+abbrev pub place_in_index : ArchiveFault → Place
+place_in_index (archive.Stanza f e) = place_in_stanzas e
+place_in_index (archive.MissingField f n field) = Stanza n
+place_in_index (archive.BadVersion f n) = Stanza n
+place_in_index (archive.BadRelation f n) = Stanza n
+place_in_index archive.TooManyRows = Whole
+place_in_index archive.NoMemory = Whole
+
+-- the byte of a tracker
+abbrev pub place_in_tracker : TrackerFault → Place
+place_in_tracker (tracker.Syntax at) = Byte at
+place_in_tracker (tracker.MissingKey k) = Whole
+place_in_tracker (tracker.BadPattern at) = Byte at
+place_in_tracker tracker.NoMemory = Whole
+
+-- the line of a journal's entry: entry n stands on line n + 1, where that is a number of 64 bits
+abbrev pub place_of_entry : ℕ → Place
+place_of_entry n = if nat_lt n 18446744073709551615 then Line (n + 1) else Whole
+
+-- the line of a journal
+abbrev pub place_in_journal : ReadError → Place
+place_in_journal journal.BadHeader = Line 1
+place_in_journal (journal.BadLine n) = Line n
+place_in_journal (journal.Unlawful n) = place_of_entry n
+place_in_journal journal.NoMemory = Whole
+
+-- the place in any text
+abbrev pub place_of : InputFault → Place
+place_of refused.TooLong = Whole
+place_of refused.NotText = Whole
+place_of (refused.Simulation e) = place_in_simulation e
+place_of (refused.Table e) = place_in_table e
+place_of (refused.Archive e) = place_in_index e
+place_of (refused.State e) = place_in_state e
+place_of refused.NoSuchRow = Whole
+place_of (refused.Tracker e) = place_in_tracker e
+place_of (refused.BadOutcome n) = Line n
+place_of (refused.Journal e) = place_in_journal e

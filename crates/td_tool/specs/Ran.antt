@@ -1,0 +1,13 @@
+-- What the program answers and says of a run. This project's own.
+use Rattle.std.specs.Prelude.{◌≡◌, ℕ, Bool, List, Option}
+use Rattle.td_tool.specs.Ending.{status_of}
+use Rattle.td_tool.specs.Explained.{SaysOf}
+use Rattle.td_tool.specs.declared.role.Role.{Role}
+use Rattle.td_tool.specs.declared.ending.Ending.{Ending}
+
+-- the status and what is said on standard error are those of one ending, with which the run ends so; it is explained, by the texts that are known, or not
+pub record Ran (EndsSo : Ending → Type 0) (explained : Bool) (known : Role → Option (List ℕ)) (said_before said : Option (List ℕ)) (status : ℕ) : Type 0 where
+  pub ending : Ending
+  pub answered : status ≡ status_of ending
+  pub ends : EndsSo ending
+  pub says : SaysOf explained known ending said_before said

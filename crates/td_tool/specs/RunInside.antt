@@ -1,0 +1,46 @@
+-- What the inner functions of `run` answer. This project's own.
+use Rattle.std.specs.Prelude.{◌≡◌, ℕ, ◌≤◌, Bool, List, Option, length, option_map, string_bytes}
+use Rattle.std.specs.Borrow.{Bor}
+use Rattle.td_bytes.specs.declared.text.TextFault.{TextFault}
+use Rattle.td_script.specs.Openings as script
+use Rattle.td_script.specs.declared.inputs.Inputs.{Inputs}
+use Rattle.td_tool.specs.declared.file_texts.FileFault.{FileFault}
+use Rattle.td_tool.specs.declared.run_files.RunPaths.{RunPaths}
+use Rattle.td_tool.specs.declared.run_files.RunTexts.{RunTexts}
+use Rattle.td_tool.specs.Limits.{file_limit}
+use Rattle.td_crew.specs.CrewEnds.{outcomes_of}
+use Rattle.td_tool.specs.Runs.{AreTextsOf, FailsAt, RunFiles, Texts, crew_size, outcome_lines, run_files, script_texts}
+
+-- the files of these paths
+abbrev pub run_files_at : (List ℕ → Option (List ℕ)) → (List ℕ → TextFault → Bool) → RunPaths → RunFiles
+run_files_at bytes can_fail p = run_files bytes can_fail p.archs.now p.packages.now p.sources.now (option_map (λ s. s.now) p.state) (option_map (λ s. s.now) p.tracker) (option_map (λ s. s.now) p.outcomes) (option_map (λ s. s.now) p.journal) p.builders
+
+-- the texts that were read
+abbrev pub run_texts_of : RunTexts → Texts
+run_texts_of x = record {
+  archs = string_bytes x.indices.archs;
+  packages = string_bytes x.indices.packages;
+  sources = string_bytes x.indices.sources;
+  state = option_map string_bytes x.state;
+  tracker = option_map string_bytes x.tracker;
+  outcomes = option_map string_bytes x.outcomes;
+  journal = option_map string_bytes x.journal;
+}
+
+-- the files hold the texts that were read
+abbrev pub AreRunTexts : RunFiles → RunTexts → Type 0
+AreRunTexts files x = AreTextsOf files (run_texts_of x)
+
+-- a file wasn't read, for this
+abbrev pub HasRunFailed : RunFiles → FileFault → Type 0
+HasRunFailed files f = FailsAt files f.role f.fault
+
+-- the table's text is within the limit
+abbrev pub IsWithinLimit : RunTexts → Type 0
+IsWithinLimit x = length (string_bytes x.indices.archs) ≤ file_limit
+
+-- a script's inputs have these texts, and so many builders
+pub record AreInputsOf (x : Texts) (suite : List ℕ) (builders : ℕ) (inputs : Inputs) : Type 0 where
+  pub texts : script.texts_of inputs ≡ script_texts x suite
+  pub outcomes : outcomes_of inputs ≡ outcome_lines x
+  pub crew : inputs.builders ≡ crew_size builders

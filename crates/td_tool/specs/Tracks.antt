@@ -1,0 +1,240 @@
+-- What `track` and `waves` leave on standard output, as they end. This project's own.
+use Rattle.std.specs.Prelude.{◌≡◌, ◌⊎◌, ℕ, Bool, true, List, length, Option, Some, None, option_map}
+use Rattle.std.specs.Io.KnownBytes.{Appends, Keeps}
+use Rattle.td_bytes.specs.Pieces.{AppendsPrefix}
+use Rattle.td_bytes.specs.declared.text.TextFault.{TextFault}
+use Rattle.td_text.specs.Lines.{lines_of}
+use Rattle.td_relation.specs.Arch.{ArchWords}
+use Rattle.td_relation.specs.TableFile.{IsTable}
+use Rattle.td_relation.specs.TableFile as table_file
+use Rattle.td_relation.specs.declared.archs.ArchsFault.{ArchsFault}
+use Rattle.td_rows.specs.Keys.{ascending}
+use Rattle.td_rows.specs.Overlay.{first_missing, overlaid}
+use Rattle.td_rows.specs.StateFile.{IsStateFile}
+use Rattle.td_rows.specs.StateFile as state_file
+use Rattle.td_rows.specs.Table.{Table, keys_of, row_of}
+use Rattle.td_rows.specs.declared.key.Key.{Key}
+use Rattle.td_rows.specs.declared.state_file.StateFault.{StateFault}
+use Rattle.td_indices.specs.Archive.{Contents}
+use Rattle.td_indices.specs.Archive as archive_file
+use Rattle.td_indices.specs.Opening.{opening_row}
+use Rattle.td_indices.specs.declared.archive_fault.ArchiveFault.{ArchiveFault}
+use Rattle.td_query.specs.TrackerFaults as tracker_file
+use Rattle.td_query.specs.TrackerGrammar.{said_in}
+use Rattle.td_query.specs.Tracking.{IsTracker, Tracking}
+use Rattle.td_query.specs.declared.tracker_fault.TrackerFault.{TrackerFault}
+use Rattle.td_tool.specs.declared.role.Role.{Role}
+use Rattle.td_tool.specs.declared.role.Role.TheVariants.{Input, Archs, Packages, Sources, State, Tracker, Outcomes, Journal}
+use Rattle.td_tool.specs.declared.ending.Ending.{Ending}
+use Rattle.td_tool.specs.declared.ending.Ending.TheVariants.{Done, Refused, BadInput, NoMemory, CannotRead, CannotWrite}
+use Rattle.td_tool.specs.Ending.{ending_of_archive, ending_of_file, ending_of_missing_row, ending_of_state, ending_of_table, ending_of_tracker}
+use Rattle.td_tool.specs.Counted.{IsArchiveOf}
+use Rattle.td_tool.specs.Checks.{AreTexts, FaultFits, Files, HasFailed, IsFileText, IsTextOf, files_of}
+use Rattle.td_tool.specs.CheckInside.{WritesSo}
+
+-- ---- 1. what is read
+
+-- the bytes of a file, where they are known, and for which faults a read of it may fail
+pub record OneFile : Type 0 where
+  pub known : Option (List ℕ)
+  pub can_fail : TextFault → Bool
+
+-- that of a path
+abbrev pub file_at : (List ℕ → Option (List ℕ)) → (List ℕ → TextFault → Bool) → List ℕ → OneFile
+file_at bytes can_fail path = record { known = bytes path; can_fail = can_fail path }
+
+-- the files of an archive, that of rows where one is given, and that of a tracker
+pub record TrackFiles : Type 0 where
+  pub indices : Files
+  pub state : Option OneFile
+  pub tracker : OneFile
+
+-- those of these paths
+abbrev pub track_files : (List ℕ → Option (List ℕ)) → (List ℕ → TextFault → Bool) → List ℕ → List ℕ → List ℕ → Option (List ℕ) → List ℕ → TrackFiles
+track_files bytes can_fail archs packages sources state tracker =
+    record { indices = files_of bytes can_fail archs packages sources; state = option_map (file_at bytes can_fail) state; tracker = file_at bytes can_fail tracker }
+
+-- what such files hold
+pub record Texts : Type 0 where
+  pub archs : List ℕ
+  pub packages : List ℕ
+  pub sources : List ℕ
+  pub state : Option (List ℕ)
+  pub tracker : List ℕ
+
+-- the text of a file that may be left out
+abbrev pub IsTextIfGiven : Option OneFile → Option (List ℕ) → Type 0
+IsTextIfGiven None None = Unit {0}
+IsTextIfGiven None (Some text) = ⊥
+IsTextIfGiven (Some file) None = ⊥
+IsTextIfGiven (Some file) (Some text) = IsTextOf file.known text
+
+-- the files hold these texts
+pub record AreTextsOf (files : TrackFiles) (x : Texts) : Type 0 where
+  pub indices : AreTexts files.indices x.archs x.packages x.sources
+  pub state : IsTextIfGiven files.state x.state
+  pub tracker : IsTextOf files.tracker.known x.tracker
+
+-- a read of a file may fail so
+pub record MayFail (file : OneFile) (fault : TextFault) : Type 0 where
+  pub may : file.can_fail fault ≡ true
+  pub fits : FaultFits file.known fault
+
+-- a read of the file of a role fails so, and those that are read before it are texts: first those of the archive, then the rows, then the tracker
+abbrev pub FailsAt : TrackFiles → Role → TextFault → Type 0
+FailsAt files Input fault = ⊥
+FailsAt files Archs fault = HasFailed files.indices Archs fault
+FailsAt files Packages fault = HasFailed files.indices Packages fault
+FailsAt files Sources fault = HasFailed files.indices Sources fault
+FailsAt files State fault =
+    (archs : List ℕ) × (packages : List ℕ) × (sources : List ℕ) × AreTexts files.indices archs packages sources
+    × ((file : OneFile) × (files.state ≡ Some file) × MayFail file fault)
+FailsAt files Tracker fault =
+    (archs : List ℕ) × (packages : List ℕ) × (sources : List ℕ) × AreTexts files.indices archs packages sources
+    × ((state : Option (List ℕ)) × IsTextIfGiven files.state state × MayFail files.tracker fault)
+FailsAt files Outcomes fault = ⊥
+FailsAt files Journal fault = ⊥
+
+-- a file isn't read, and so it ends
+abbrev pub IsUnread : TrackFiles → Ending → Type 0
+IsUnread files ending = (role : Role) × (fault : TextFault) × FailsAt files role fault × (ending ≡ ending_of_file role fault)
+
+-- ---- 2. what is found
+
+-- the rows with which a desk opens over an archive
+pub record AreOpened (c : Contents) (rows : Table) : Type 0 where
+  pub same : (k : Key) → row_of rows k ≡ opening_row c k
+  pub rising : ascending (keys_of rows) ≡ true
+
+-- the same, with those of a state file in the place of the ones of their keys, each of which has to be there
+pub record AreReplaced (c : Contents) (text : List ℕ) (rows : Table) : Type 0 where
+  pub opened : Table
+  pub are_opened : AreOpened c opened
+  pub given : Table
+  pub are_given : IsStateFile (lines_of text) given
+  pub none_missing : (k : Key) → first_missing opened given ≡ Some k → ⊥
+  pub replaced : rows ≡ overlaid given opened
+
+-- the rows that are looked at
+abbrev pub AreRowsOf : Contents → Option (List ℕ) → Table → Type 0
+AreRowsOf c None rows = AreOpened c rows
+AreRowsOf c (Some text) rows = AreReplaced c text rows
+
+-- what a tracker says over an archive and rows, as a text
+abbrev pub Saying : Type 1
+Saying = Contents → Tracking → Table → List ℕ → Type 0
+
+-- the text that a tracker says over these rows
+abbrev pub TrackerSays : Saying → Contents → Table → List ℕ → List ℕ → Type 0
+TrackerSays Says c rows tracker text = (t : Tracking) × IsTracker tracker t × Says c t rows text
+
+-- the same over the rows of an archive
+abbrev pub RowsSay : Saying → Contents → Option (List ℕ) → List ℕ → List ℕ → Type 0
+RowsSay Says c state tracker text = (rows : Table) × AreRowsOf c state rows × TrackerSays Says c rows tracker text
+
+-- the same of texts
+abbrev pub TextsSayIt : Saying → Texts → List ℕ → Type 0
+TextsSayIt Says x text = (c : Contents) × IsArchiveOf x.archs x.packages x.sources c × RowsSay Says c x.state x.tracker text
+
+-- ---- 3. what is wrong
+
+-- a text is no tracker, or `regex` refuses one of its patterns, and so it ends
+abbrev pub IsNoTracker : List ℕ → Ending → Type 0
+IsNoTracker text ending = (e : TrackerFault) × tracker_file.FaultOf text e × (ending ≡ ending_of_tracker e)
+
+-- a text is no state file
+abbrev pub IsNoState : List ℕ → Ending → Type 0
+IsNoState text ending = (e : StateFault) × state_file.FaultOf (lines_of text) e × (ending ≡ ending_of_state e)
+
+-- a state file has a row that the archive hasn't
+abbrev pub LacksRow : Contents → List ℕ → Ending → Type 0
+LacksRow c text ending =
+    (opened : Table) × AreOpened c opened × ((given : Table) × IsStateFile (lines_of text) given
+    × ((k : Key) × (first_missing opened given ≡ Some k) × (ending ≡ ending_of_missing_row)))
+
+-- a state file is refused
+abbrev pub IsStateRefused : Contents → Option (List ℕ) → Ending → Type 0
+IsStateRefused c None ending = ⊥
+IsStateRefused c (Some text) ending = IsNoState text ending ⊎ LacksRow c text ending
+
+-- what stands over an archive is refused: the rows before the tracker
+abbrev pub IsRefusedOver : Contents → Option (List ℕ) → List ℕ → Ending → Type 0
+IsRefusedOver c state tracker ending = IsStateRefused c state ending ⊎ ((rows : Table) × AreRowsOf c state rows × IsNoTracker tracker ending)
+
+-- texts are refused: the table of architectures first, then the indices, then what stands over them
+abbrev pub IsNoTable : Texts → Ending → Type 0
+IsNoTable x ending = (e : ArchsFault) × table_file.FaultOf (lines_of x.archs) e × (ending ≡ ending_of_table e)
+
+-- the table is one, and with it the indices are no archive
+abbrev pub AreNoIndices : Texts → Ending → Type 0
+AreNoIndices x ending =
+    (t : List ArchWords) × IsTable (lines_of x.archs) t
+    × ((e : ArchiveFault) × archive_file.FaultOf t (lines_of x.packages) (lines_of x.sources) e × (ending ≡ ending_of_archive e))
+
+-- one of the texts is refused, and so it ends
+abbrev pub AreRefused : Texts → Ending → Type 0
+AreRefused x ending =
+    IsNoTable x ending
+    ⊎ (AreNoIndices x ending
+    ⊎ ((c : Contents) × IsArchiveOf x.archs x.packages x.sources c × IsRefusedOver c x.state x.tracker ending))
+
+-- ---- 4. how it ends
+
+-- texts were read: they are refused and nothing is written, or what they say is, whole, or a front of it where the writer failed
+abbrev pub TextsEndSo : Saying → Texts → Option (List ℕ) → Option (List ℕ) → Ending → Type 0
+TextsEndSo Says x old new ending = (AreRefused x ending × Keeps old new) ⊎ ((text : List ℕ) × TextsSayIt Says x text × WritesSo text old new ending)
+
+-- memory runs out, or a file isn't read, and nothing is written; or the texts end it
+abbrev pub SaysSo : Saying → TrackFiles → Option (List ℕ) → Option (List ℕ) → Ending → Type 0
+SaysSo Says files old new ending =
+    ((ending ≡ NoMemory) × Keeps old new)
+    ⊎ ((IsUnread files ending × Keeps old new)
+    ⊎ ((x : Texts) × AreTextsOf files x × TextsEndSo Says x old new ending))
+
+-- ---- 5. what can't be refused
+
+-- rows can be looked at over an archive, and a text is a tracker
+abbrev pub IsReadableOver : Contents → Option (List ℕ) → List ℕ → Type 0
+IsReadableOver c state tracker = (rows : Table) × AreRowsOf c state rows × ((t : Tracking) × IsTracker tracker t)
+
+-- texts are an archive, rows for it and a tracker
+abbrev pub AreReadable : Texts → Type 0
+AreReadable x = (c : Contents) × IsArchiveOf x.archs x.packages x.sources c × IsReadableOver c x.state x.tracker
+
+-- `regex` refuses a pattern of a tracker, or memory runs out, and so it ends
+abbrev pub IsPatternRefused : List ℕ → Ending → Type 0
+IsPatternRefused text ending = (e : TrackerFault) × tracker_file.IsPatternFault (length text) (tracker_file.log_in (said_in text)) e × (ending ≡ ending_of_tracker e)
+
+-- a file is known to hold a text
+pub record IsKnownText (known : Option (List ℕ)) (text : List ℕ) : Type 0 where
+  pub whole : known ≡ Some text
+  pub read : IsFileText text
+
+-- where a file that may be left out is given, it is known to hold this text; else there is none
+abbrev pub IsKnownIfGiven : Option OneFile → Option (List ℕ) → Type 0
+IsKnownIfGiven None None = Unit {0}
+IsKnownIfGiven None (Some text) = ⊥
+IsKnownIfGiven (Some file) None = ⊥
+IsKnownIfGiven (Some file) (Some text) = IsKnownText file.known text
+
+-- the files are known to hold these texts
+pub record AreKnownTexts (files : TrackFiles) (x : Texts) : Type 0 where
+  pub archs : IsKnownText files.indices.in_archs x.archs
+  pub packages : IsKnownText files.indices.in_packages x.packages
+  pub sources : IsKnownText files.indices.in_sources x.sources
+  pub state : IsKnownIfGiven files.state x.state
+  pub tracker : IsKnownText files.tracker.known x.tracker
+
+-- how what such texts say may end: told, but for a pattern that `regex` refuses, or a write, memory or a read of a file that fails
+abbrev pub EndsTold : Saying → Texts → Option (List ℕ) → Option (List ℕ) → Ending → Type 0
+EndsTold Says x old new Done = (text : List ℕ) × TextsSayIt Says x text × Appends old new text
+EndsTold Says x old new Refused = ⊥
+EndsTold Says x old new (BadInput role e) = IsPatternRefused x.tracker (BadInput role e) × Keeps old new
+EndsTold Says x old new NoMemory = Keeps old new
+EndsTold Says x old new (CannotRead role) = Keeps old new
+EndsTold Says x old new CannotWrite = (text : List ℕ) × TextsSayIt Says x text × AppendsPrefix old new text
+
+-- a run over these files ends so: the ending is as it says, and readable texts are told
+pub record EndsSo (Says : Saying) (files : TrackFiles) (old new : Option (List ℕ)) (ending : Ending) : Type 0 where
+  pub says : SaysSo Says files old new ending
+  pub only : (x : Texts) → AreKnownTexts files x → AreReadable x → EndsTold Says x old new ending

@@ -1,0 +1,100 @@
+-- What is wanted in the place of what is refused: a sentence for each fault, for people. This project's own; want of memory is told otherwise.
+use Rattle.std.specs.Prelude.{ℕ, List, [], codes}
+use Rattle.td_stanza.specs.declared.fault.StanzaFault.{StanzaFault}
+use Rattle.td_stanza.specs.declared.fault.StanzaFault.TheVariants as stanza
+use Rattle.td_relation.specs.declared.archs.ArchsFault.{ArchsFault}
+use Rattle.td_relation.specs.declared.archs.ArchsFault.TheVariants as table
+use Rattle.td_indices.specs.declared.archive_fault.ArchiveFault.{ArchiveFault}
+use Rattle.td_indices.specs.declared.archive_fault.ArchiveFault.TheVariants as archive
+use Rattle.td_indices.specs.declared.archive_fault.IndexField.{IndexField}
+use Rattle.td_indices.specs.declared.archive_fault.IndexField.TheVariants as field
+use Rattle.td_rows.specs.declared.state_file.StateFault.{StateFault}
+use Rattle.td_rows.specs.declared.state_file.StateFault.TheVariants as state
+use Rattle.td_query.specs.declared.tracker_fault.TrackerFault.{TrackerFault}
+use Rattle.td_query.specs.declared.tracker_fault.TrackerFault.TheVariants as tracker
+use Rattle.td_query.specs.declared.tracker_fault.TrackerKey.{TrackerKey}
+use Rattle.td_query.specs.declared.tracker_fault.TrackerKey.TheVariants as key
+use Rattle.td_journal.specs.declared.journal_fault.ReadError.{ReadError}
+use Rattle.td_journal.specs.declared.journal_fault.ReadError.TheVariants as journal
+use Rattle.td_simulate.specs.declared.fault.SimulationFault.{SimulationFault}
+use Rattle.td_simulate.specs.declared.fault.SimulationFault.TheVariants as simulation
+use Rattle.td_tool.specs.declared.input_fault.InputFault.{InputFault}
+use Rattle.td_tool.specs.declared.input_fault.InputFault.TheVariants.{TooLong, NotText, Simulation, Table, Archive, State, NoSuchRow, Tracker, BadOutcome, Journal}
+
+-- of the rows of a state file, or of the opening rows
+abbrev pub wanted_state : StateFault → List ℕ
+wanted_state (state.BadLine n) = codes "a row, as KEY STATE PRIORITY NUMBER"
+wanted_state (state.Twice n) = codes "a key that no line above has"
+wanted_state (state.NotOpening n) = codes "a state other than Building"
+wanted_state state.TooManyRows = codes "at most 1048576 rows"
+wanted_state state.NoMemory = []
+
+-- of a simulation
+abbrev pub wanted_simulation : SimulationFault → List ℕ
+wanted_simulation (simulation.Opening e) = wanted_state e
+wanted_simulation (simulation.BadStep n) = codes "a step, as docs/FORMATS.md lists them"
+wanted_simulation simulation.NoMemory = []
+
+-- of a table of architectures
+abbrev pub wanted_table : ArchsFault → List ℕ
+wanted_table (table.BadLine n) = codes "an architecture, as NAME OS CPU"
+wanted_table (table.Twice n) = codes "a name that no line above has"
+wanted_table table.TooMany = codes "at most 32 architectures"
+wanted_table table.NoMemory = []
+
+-- of the lines of a control file
+abbrev pub wanted_stanza : StanzaFault → List ℕ
+wanted_stanza (stanza.BadName n) = codes "a field, as NAME: VALUE"
+wanted_stanza (stanza.NoColon n) = codes "a colon behind the name of the field"
+wanted_stanza (stanza.ContinuationFirst n) = codes "a field, since none is above that could go on here"
+wanted_stanza (stanza.Duplicate n) = codes "a field that the stanza has not yet"
+wanted_stanza stanza.NoMemory = []
+
+-- of a stanza that lacks a field, or has one that names nothing
+abbrev pub wanted_field : IndexField → List ℕ
+wanted_field field.Package = codes "a field Package that names a package"
+wanted_field field.Version = codes "a field Version"
+wanted_field field.Architecture = codes "a field Architecture"
+wanted_field field.Source = codes "a field Source that names a package"
+
+-- of an index
+abbrev pub wanted_archive : ArchiveFault → List ℕ
+wanted_archive (archive.Stanza f e) = wanted_stanza e
+wanted_archive (archive.MissingField f n field) = wanted_field field
+wanted_archive (archive.BadVersion f n) = codes "versions as deb-version(7) has them"
+wanted_archive (archive.BadRelation f n) = codes "relations as Debian Policy 7.1 has them"
+wanted_archive archive.TooManyRows = codes "at most 1048576 rows"
+wanted_archive archive.NoMemory = []
+
+-- of a tracker that lacks a key
+abbrev pub wanted_key : TrackerKey → List ℕ
+wanted_key key.IsAffected = codes "a key is_affected"
+wanted_key key.IsGood = codes "a key is_good"
+wanted_key key.IsBad = codes "a key is_bad"
+
+-- of a tracker
+abbrev pub wanted_tracker : TrackerFault → List ℕ
+wanted_tracker (tracker.Syntax at) = codes "a key and its query, as docs/FORMATS.md has trackers"
+wanted_tracker (tracker.MissingKey k) = wanted_key k
+wanted_tracker (tracker.BadPattern at) = codes "a pattern without look-around and back references"
+wanted_tracker tracker.NoMemory = []
+
+-- of a journal
+abbrev pub wanted_journal : ReadError → List ℕ
+wanted_journal journal.BadHeader = codes "a journal's header, as transdesk journal 2"
+wanted_journal (journal.BadLine n) = codes "the next entry, as docs/FORMATS.md has journals"
+wanted_journal (journal.Unlawful n) = codes "an entry that applies on the rows, or an undone command"
+wanted_journal journal.NoMemory = []
+
+-- of any text
+abbrev pub wanted_input : InputFault → List ℕ
+wanted_input TooLong = codes "standard input of at most 1048576 bytes"
+wanted_input NotText = codes "a text in UTF-8"
+wanted_input (Simulation e) = wanted_simulation e
+wanted_input (Table e) = wanted_table e
+wanted_input (Archive e) = wanted_archive e
+wanted_input (State e) = wanted_state e
+wanted_input NoSuchRow = codes "rows that the indices give"
+wanted_input (Tracker e) = wanted_tracker e
+wanted_input (BadOutcome n) = codes "how a build ends, as KEY OUTCOME"
+wanted_input (Journal e) = wanted_journal e

@@ -1,0 +1,345 @@
+//! The program: it does what its words ask for, and answers its status.
+ghost use Rattle.std.specs.Prelude.{◌≡◌, ◌⊎◌, ◌≤◌, ℕ, List, length, map, IfSome, option_map, codes, string_bytes, None, IsOkAnd, IfOk, IfErr};
+ghost use Rattle.std.specs.IoError.{error_kind};
+ghost use Rattle.std.specs.Io.KnownBytes.{Keeps};
+ghost use Rattle.td_report.specs.Transition.{IsReport, IsWaves};
+ghost use Rattle.td_words.specs.CommandLine.{AskFor, AskForCheck, AskForRun, AskForTrack, AskForWaves, RunWords, TrackWords, is_explained, options_of};
+ghost use Rattle.td_tool.specs.Ends.{Ends};
+ghost use Rattle.td_tool.specs.Checks.{Checks, files_of};
+ghost use Rattle.td_tool.specs.Explained.{IsKept, archive_paths, known_at, known_input, known_of_request, run_paths, track_paths, waves_paths};
+ghost use Rattle.td_tool.specs.Limits.{input_limit};
+ghost use Rattle.td_tool.specs.Ran.{Ran};
+ghost use Rattle.td_tool.specs.Program.{EndsFor, IsTold, OnlyIfAsked, RanFor, TellsFault, TellsUnread, are_explained, files_asked};
+ghost use Rattle.td_tool.specs.Runs.{EndsRun, run_files, run_files_asked};
+ghost use Rattle.td_tool.specs.TrackInside.{saying_of};
+ghost use Rattle.td_tool.specs.Tracks.{EndsSo, track_files};
+
+use crate::checking::check;
+use crate::ending::{Ended, Ending};
+use crate::explaining::finish;
+use crate::run_files::RunPaths;
+use crate::running::run;
+use crate::simulation::simulate;
+use crate::texts::Texts;
+use crate::track_files::{TrackPaths, given};
+use crate::tracking::{Asked, track};
+use std::alloc::Global;
+use std::io;
+use std::io::{ErrorKind, Read, Write};
+use std::sync::Wait;
+use std::thread::Threads;
+use td_bytes::write_whole;
+use td_words::{Call, Request, WordsFault, read_words};
+
+/// The status where the words ask for nothing that can be done.
+pub const BAD_WORDS: u8 = 3;
+
+// What is said of words that aren't read: of those that aren't UTF-8, unless memory ran out.
+fn tell_unread<E: Write>(error: &io::Error, faults: &mut E) -> u8
+    ensures { TellsUnread (error_kind error.now)
+        (E.contents faults.old) (E.contents faults.new) result }
+{
+    if error.kind() == ErrorKind::OutOfMemory {
+        return Ending::NoMemory.answer(faults);
+    }
+    let _ = write_whole(faults, b"error: a word of the command line is not UTF-8\n");
+    BAD_WORDS
+}
+
+// What is said of words that ask for nothing: the text that says why.
+fn tell_fault<E: Write>(fault: &WordsFault, faults: &mut E) -> u8
+    ensures { TellsFault fault.now (E.contents faults.old) (E.contents faults.new) result }
+{
+    match fault {
+        WordsFault::Usage(text) => {
+            let _ = write_whole(faults, text.as_bytes());
+            BAD_WORDS
+        }
+        WordsFault::NoMemory => Ending::NoMemory.answer(faults),
+    }
+}
+
+// Tells what a tracker says, by the paths that the words gave.
+fn do_track<T: Texts, W: Write>(
+    rt: &(impl Threads + Wait + Sync),
+    alloc: Global,
+    texts: &T,
+    archs: &String,
+    packages: &String,
+    sources: &String,
+    state: &Option<String>,
+    tracker: &String,
+    asked: Asked,
+    output: &mut W,
+) -> Ending
+    ensures { EndsSo (saying_of asked)
+        (track_files (T.bytes texts.now) (T.can_fail texts.now) (string_bytes archs.now)
+        (string_bytes packages.now) (string_bytes sources.now) (option_map string_bytes state.now)
+        (string_bytes tracker.now))
+        (W.contents output.old) (W.contents output.new) result }
+{
+    let paths = TrackPaths {
+        archs: archs.as_str(),
+        packages: packages.as_str(),
+        sources: sources.as_str(),
+        state: given(state),
+        tracker: tracker.as_str(),
+    };
+    track(rt, alloc, texts, &paths, asked, output)
+}
+
+// Runs a script over the files with the paths that the words gave.
+fn do_run<T: Texts, R: Read, W: Write>(
+    rt: &(impl Threads + Wait + Sync),
+    alloc: Global,
+    texts: &T,
+    archs: &String,
+    packages: &String,
+    sources: &String,
+    state: &Option<String>,
+    tracker: &Option<String>,
+    outcomes: &Option<String>,
+    journal: &Option<String>,
+    suite: &String,
+    builders: usize,
+    reader: &mut R,
+    output: &mut W,
+) -> Ending
+    ensures { EndsRun
+        (run_files (T.bytes texts.now) (T.can_fail texts.now) (string_bytes archs.now)
+        (string_bytes packages.now) (string_bytes sources.now) (option_map string_bytes state.now)
+        (option_map string_bytes tracker.now) (option_map string_bytes outcomes.now)
+        (option_map string_bytes journal.now) builders) (string_bytes suite.now)
+        (R.remaining reader.old) (W.contents output.old) (W.contents output.new) result }
+{
+    let paths = RunPaths {
+        archs: archs.as_str(),
+        packages: packages.as_str(),
+        sources: sources.as_str(),
+        state: given(state),
+        tracker: given(tracker),
+        outcomes: given(outcomes),
+        journal: given(journal),
+        builders,
+    };
+    run(rt, alloc, texts, &paths, suite.as_str(), reader, output)
+}
+
+// Does what was asked for.
+fn do_request<T: Texts, R: Read, W: Write>(
+    rt: &(impl Threads + Wait + Sync),
+    alloc: Global,
+    request: &Request,
+    texts: &T,
+    reader: &mut R,
+    output: &mut W,
+) -> Ended
+    ensures ends { EndsFor request.now
+        (R.remaining reader.old) (T.bytes texts.now) (T.can_fail texts.now)
+        (W.contents output.old) (W.contents output.new) result.ending }
+    ensures kept { IsKept (known_of_request request.now (R.remaining reader.old) (T.bytes texts.now)) result.input }
+    ensures short { IfSome result.input (λ kept. length (string_bytes kept) ≤ input_limit) }
+{
+    match request {
+        Request::Simulate => simulate(alloc, reader, output),
+        Request::Check {
+            archs,
+            packages,
+            sources,
+        } => check(
+            alloc,
+            texts,
+            archs.as_str(),
+            packages.as_str(),
+            sources.as_str(),
+            output,
+        )
+        .alone(),
+        Request::Track {
+            archs,
+            packages,
+            sources,
+            tracker,
+            state,
+            chunk,
+        } => {
+            let asked = Asked::Report(*chunk);
+            do_track(
+                rt, alloc, texts, archs, packages, sources, state, tracker, asked, output,
+            )
+            .alone()
+        }
+        Request::Waves {
+            archs,
+            packages,
+            sources,
+            tracker,
+        } => {
+            let asked = Asked::Waves;
+            do_track(
+                rt, alloc, texts, archs, packages, sources, &None, tracker, asked, output,
+            )
+            .alone()
+        }
+        Request::Run {
+            archs,
+            packages,
+            sources,
+            state,
+            tracker,
+            suite,
+            builders,
+            outcomes,
+            journal,
+        } => do_run(
+            rt, alloc, texts, archs, packages, sources, state, tracker, outcomes, journal, suite,
+            *builders, reader, output,
+        )
+        .alone(),
+    }
+}
+
+// Does what the words were read as.
+fn act<T: Texts, R: Read, W: Write, E: Write>(
+    rt: &(impl Threads + Wait + Sync),
+    alloc: Global,
+    asked: Result<Call, WordsFault>,
+    texts: &T,
+    reader: &mut R,
+    output: &mut W,
+    faults: &mut E,
+) -> u8
+    ensures request { IfOk asked (λ call. RanFor call.request call.explained
+        (R.remaining reader.old) (T.bytes texts.now) (T.can_fail texts.now)
+        (W.contents output.old) (W.contents output.new)
+        (E.contents faults.old) (E.contents faults.new) result) }
+    ensures fault { IfErr asked (λ fault. IsTold fault
+        (W.contents output.old) (W.contents output.new)
+        (E.contents faults.old) (E.contents faults.new) result) }
+{
+    match asked {
+        Ok(call) => {
+            let ended = do_request(rt, alloc, &call.request, texts, reader, output);
+            finish(alloc, call.explained, &ended, &call.request, texts, faults)
+        }
+        Err(fault) => tell_fault(&fault, faults),
+    }
+}
+
+// Does what the words ask for.
+fn answer<T: Texts, R: Read, W: Write, E: Write>(
+    rt: &(impl Threads + Wait + Sync),
+    alloc: Global,
+    words: &[String],
+    texts: &T,
+    reader: &mut R,
+    output: &mut W,
+    faults: &mut E,
+) -> u8
+    ensures simulate { AskFor (codes "simulate") (map string_bytes words.now)
+        → Ran (Ends (R.remaining reader.old) (W.contents output.old) (W.contents output.new))
+        (is_explained (options_of (map string_bytes words.now)))
+        (known_input (R.remaining reader.old))
+        (E.contents faults.old) (E.contents faults.new) result }
+    ensures check { (archs packages sources : List ℕ)
+        → AskForCheck (map string_bytes words.now) archs packages sources
+        → Ran (Checks (files_of (T.bytes texts.now) (T.can_fail texts.now) archs packages sources)
+        (W.contents output.old) (W.contents output.new))
+        (is_explained (options_of (map string_bytes words.now)))
+        (known_at (T.bytes texts.now) (archive_paths archs packages sources))
+        (E.contents faults.old) (E.contents faults.new) result }
+    ensures track { (w : TrackWords) → AskForTrack (map string_bytes words.now) w
+        → Ran (EndsSo IsReport (files_asked (T.bytes texts.now) (T.can_fail texts.now) w)
+        (W.contents output.old) (W.contents output.new))
+        (is_explained (options_of (map string_bytes words.now)))
+        (known_at (T.bytes texts.now) (track_paths w))
+        (E.contents faults.old) (E.contents faults.new) result }
+    ensures waves { (archs packages sources tracker : List ℕ)
+        → AskForWaves (map string_bytes words.now) archs packages sources tracker
+        → Ran (EndsSo IsWaves
+        (track_files (T.bytes texts.now) (T.can_fail texts.now) archs packages sources None tracker)
+        (W.contents output.old) (W.contents output.new))
+        (is_explained (options_of (map string_bytes words.now)))
+        (known_at (T.bytes texts.now) (waves_paths archs packages sources tracker))
+        (E.contents faults.old) (E.contents faults.new) result }
+    ensures run { (w : RunWords) → AskForRun (map string_bytes words.now) w
+        → Ran (EndsRun (run_files_asked (T.bytes texts.now) (T.can_fail texts.now) w) w.suite
+        (R.remaining reader.old) (W.contents output.old) (W.contents output.new))
+        (is_explained (options_of (map string_bytes words.now)))
+        (known_at (T.bytes texts.now) (run_paths w))
+        (E.contents faults.old) (E.contents faults.new) result }
+    ensures others { OnlyIfAsked (map string_bytes words.now)
+        (R.remaining reader.old) (T.bytes texts.now) (T.can_fail texts.now)
+        (W.contents output.old) (W.contents output.new)
+        (E.contents faults.old) (E.contents faults.new) result }
+{
+    act(
+        rt,
+        alloc,
+        read_words(alloc, words),
+        texts,
+        reader,
+        output,
+        faults,
+    )
+}
+
+/// Does what the words ask for, and answers the program's status. The first word is the program's
+/// own name. What can't be written to `faults` is left.
+pub fn tool<T: Texts, R: Read, W: Write, E: Write>(
+    rt: &(impl Threads + Wait + Sync),
+    alloc: Global,
+    words: io::Result<Vec<String>>,
+    texts: &T,
+    reader: &mut R,
+    output: &mut W,
+    faults: &mut E,
+) -> u8
+    // What asks for the simulation is answered by it, and explained where that is asked for.
+    ensures simulate { IsOkAnd words (λ given. AskFor (codes "simulate") (map string_bytes given.items))
+        → Ran (Ends (R.remaining reader.old) (W.contents output.old) (W.contents output.new))
+        (are_explained words) (known_input (R.remaining reader.old))
+        (E.contents faults.old) (E.contents faults.new) result }
+    // What asks for the check of three files is answered by it.
+    ensures check { (archs packages sources : List ℕ) → IsOkAnd words (λ given.
+        AskForCheck (map string_bytes given.items) archs packages sources)
+        → Ran (Checks (files_of (T.bytes texts.now) (T.can_fail texts.now) archs packages sources)
+        (W.contents output.old) (W.contents output.new))
+        (are_explained words) (known_at (T.bytes texts.now) (archive_paths archs packages sources))
+        (E.contents faults.old) (E.contents faults.new) result }
+    // What asks for a report, or for waves, is answered by them.
+    ensures track { (w : TrackWords) → IsOkAnd words (λ given.
+        AskForTrack (map string_bytes given.items) w)
+        → Ran (EndsSo IsReport (files_asked (T.bytes texts.now) (T.can_fail texts.now) w)
+        (W.contents output.old) (W.contents output.new))
+        (are_explained words) (known_at (T.bytes texts.now) (track_paths w))
+        (E.contents faults.old) (E.contents faults.new) result }
+    ensures waves { (archs packages sources tracker : List ℕ) → IsOkAnd words (λ given.
+        AskForWaves (map string_bytes given.items) archs packages sources tracker)
+        → Ran (EndsSo IsWaves
+        (track_files (T.bytes texts.now) (T.can_fail texts.now) archs packages sources None tracker)
+        (W.contents output.old) (W.contents output.new))
+        (are_explained words) (known_at (T.bytes texts.now) (waves_paths archs packages sources tracker))
+        (E.contents faults.old) (E.contents faults.new) result }
+    // What asks for a run is answered by it.
+    ensures run { (w : RunWords) → IsOkAnd words (λ given.
+        AskForRun (map string_bytes given.items) w)
+        → Ran (EndsRun (run_files_asked (T.bytes texts.now) (T.can_fail texts.now) w) w.suite
+        (R.remaining reader.old) (W.contents output.old) (W.contents output.new))
+        (are_explained words) (known_at (T.bytes texts.now) (run_paths w))
+        (E.contents faults.old) (E.contents faults.new) result }
+    // Other words are bad, unless memory runs out, and nothing is written.
+    ensures others { IfOk words (λ given. OnlyIfAsked (map string_bytes given.items)
+        (R.remaining reader.old) (T.bytes texts.now) (T.can_fail texts.now)
+        (W.contents output.old) (W.contents output.new)
+        (E.contents faults.old) (E.contents faults.new) result) }
+    // So are words that aren't UTF-8.
+    ensures unread { IfErr words (λ error. TellsUnread (error_kind error)
+        (E.contents faults.old) (E.contents faults.new) result
+        × Keeps (W.contents output.old) (W.contents output.new)) }
+{
+    match words {
+        Ok(words) => answer(rt, alloc, &words, texts, reader, output, faults),
+        Err(error) => tell_unread(&error, faults),
+    }
+}

@@ -1,0 +1,152 @@
+//! The subcommand `check`: sources, binary packages and rows of two indices are counted.
+ghost use Rattle.std.specs.Prelude.{◌≡◌, List, ◌≤◌, length, string_bytes, Ok, Err, IfOk, IfErr, IsOkAnd, MatchResult};
+ghost use Rattle.std.specs.Result.{ForOk};
+ghost use Rattle.td_relation.specs.TableView.{table};
+ghost use Rattle.td_tool.specs.Checks.{Checks, files_of};
+ghost use Rattle.td_tool.specs.CheckInside.{AreCountsOf, EndsUnwritten, FileTextsEnd, FileUnread, IsCounted, IsCountedWith, IsLineFor, IsWithin, WritesSo};
+ghost use Rattle.td_tool.specs.Counted.{line_of_counts};
+ghost use Rattle.td_tool.specs.Ending.{ending_of_archive as archive_ending, ending_of_table as table_ending};
+ghost use Rattle.td_tool.specs.Limits.{file_limit};
+
+use crate::ending::{Ending, ending_of_archive, ending_of_file, ending_of_table};
+use crate::file_texts::{FileFault, FileTexts, read_files};
+use crate::texts::Texts;
+use std::alloc::{AllocError, Global};
+use std::io::Write;
+use td_bytes::write_whole;
+use td_indices::{Archive, ArchiveFault};
+use td_relation::{Archs, ArchsFault};
+use td_text::put_number;
+
+/// How many there are of each.
+#[derive(Drop)]
+pub struct Counts {
+    pub sources: usize,
+    pub binaries: usize,
+    pub rows: usize,
+}
+
+// What is to be counted, by what two indices were read as.
+fn counts_of(archive: Result<Archive<'_, '_>, ArchiveFault>) -> Result<Counts, Ending>
+    ensures counts { IfOk archive.entry (λ a. IsOkAnd result (AreCountsOf a)) }
+    ensures refused { IfErr archive.entry (λ fault. result ≡ Err (archive_ending fault)) }
+{
+    match archive {
+        Ok(archive) => Ok(Counts {
+            sources: archive.source_count(),
+            binaries: archive.binary_count(),
+            rows: archive.row_count(),
+        }),
+        Err(fault) => Err(ending_of_archive(fault)),
+    }
+}
+
+// The same, by what the table of architectures was read as.
+fn counts_with<'a>(
+    alloc: Global,
+    archs: Result<Archs<'a>, ArchsFault>,
+    packages: &'a str,
+    sources: &'a str,
+) -> Result<Counts, Ending>
+    ensures counted { IfOk archs.entry (λ archs.
+        IsCountedWith (table archs) packages.now sources.now result) }
+    ensures refused { IfErr archs.entry (λ fault. result ≡ Err (table_ending fault)) }
+{
+    match archs {
+        Ok(archs) => counts_of(Archive::read(alloc, packages, sources, &archs)),
+        Err(fault) => Err(ending_of_table(fault)),
+    }
+}
+
+// The same, of three texts.
+fn counts_in(alloc: Global, archs: &str, packages: &str, sources: &str) -> Result<Counts, Ending>
+    requires { length archs.now ≤ file_limit }
+    ensures { IsCounted archs.now packages.now sources.now result }
+{
+    counts_with(alloc, Archs::read(alloc, archs), packages, sources)
+}
+
+fn counts_line(alloc: Global, counts: &Counts) -> Result<String, AllocError>
+    ensures { IfOk result (λ line. string_bytes line
+        ≡ line_of_counts counts.now.sources counts.now.binaries counts.now.rows) }
+{
+    let mut line = String::new(alloc);
+    line.push_str("sources ")?;
+    put_number(&mut line, counts.sources as u64)?;
+    line.push_str(" binaries ")?;
+    put_number(&mut line, counts.binaries as u64)?;
+    line.push_str(" rows ")?;
+    put_number(&mut line, counts.rows as u64)?;
+    line.push_str("\n")?;
+    Ok(line)
+}
+
+// The line that is to be written of what was counted.
+fn line_of(alloc: Global, counted: Result<Counts, Ending>) -> Result<String, Ending>
+    ensures line { IfOk counted (λ n. MatchResult result (IsLineFor n) (λ e. e ≡ Ending.NoMemory)) }
+    ensures refused { IfErr counted (λ ending. result ≡ Err ending) }
+{
+    let counts = match counted {
+        Ok(counts) => counts,
+        Err(ending) => return Err(ending),
+    };
+    match counts_line(alloc, &counts) {
+        Ok(line) => Ok(line),
+        Err(_) => Err(Ending::NoMemory),
+    }
+}
+
+/// How a run ends by what is to be written.
+pub fn write<W: Write>(line: Result<String, Ending>, output: &mut W) -> Ending
+    ensures line { IfOk line (λ line.
+        WritesSo (string_bytes line) (W.contents output.old) (W.contents output.new) result) }
+    ensures refused { IfErr line (λ ending.
+        EndsUnwritten ending (W.contents output.old) (W.contents output.new) result) }
+{
+    let line = match line {
+        Ok(line) => line,
+        Err(ending) => return ending,
+    };
+    match write_whole(output, line.as_bytes()) {
+        Ok(()) => Ending::Done,
+        Err(_) => Ending::CannotWrite,
+    }
+}
+
+// How a check ends by what was read of the files.
+fn count<W: Write>(alloc: Global, read: Result<FileTexts, FileFault>, output: &mut W) -> Ending
+    requires { ForOk read IsWithin }
+    ensures texts { IfOk read (λ texts.
+        FileTextsEnd texts (W.contents output.old) (W.contents output.new) result) }
+    ensures unread { IfErr read (λ fault.
+        FileUnread fault (W.contents output.old) (W.contents output.new) result) }
+{
+    let read = match read {
+        Ok(read) => read,
+        Err(unread) => return ending_of_file(unread.role, unread.fault),
+    };
+    let counted = counts_in(
+        alloc,
+        read.archs.as_str(),
+        read.packages.as_str(),
+        read.sources.as_str(),
+    );
+    write(line_of(alloc, counted), output)
+}
+
+/// Counts what the indices hold that have these paths. All is read before anything is written.
+pub fn check<T: Texts, W: Write>(
+    alloc: Global,
+    texts: &T,
+    archs: &str,
+    packages: &str,
+    sources: &str,
+    output: &mut W,
+) -> Ending
+    ensures { Checks
+        (files_of (T.bytes texts.now) (T.can_fail texts.now) archs.now packages.now sources.now)
+        (W.contents output.old) (W.contents output.new) result }
+{
+    let read = read_files(alloc, texts, archs, packages, sources);
+    count(alloc, read, output)
+}

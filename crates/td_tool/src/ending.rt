@@ -1,0 +1,194 @@
+//! How a run of the program ends, by what went wrong.
+ghost use Rattle.std.specs.Prelude.{◌≡◌, ◌++◌, None, OnOk, OnErr};
+ghost use Rattle.std.specs.Io.KnownBytes.{Appends};
+ghost use Rattle.td_bytes.specs.Pieces.{AppendsPrefix};
+ghost use Rattle.td_tool.specs.Ending.{ending_of_archive, ending_of_file, ending_of_journal, ending_of_missing_row, ending_of_simulation, ending_of_state, ending_of_table, ending_of_text, ending_of_tracker, status_of, line_of, line_with};
+
+use crate::input_fault::InputFault;
+use crate::role::{Role, role_of_fault};
+use std::io::Write;
+use td_bytes::{TextFault, WriteFault, write_whole};
+use td_indices::ArchiveFault;
+use td_journal::ReadError;
+use td_query::TrackerFault;
+use td_relation::ArchsFault;
+use td_rows::StateFault;
+use td_simulate::SimulationFault;
+
+/// How a run of the program ends.
+#[derive(Clone, Copy, Debug, PartialEq, Eq, Drop)]
+pub enum Ending {
+    /// All was done.
+    Done,
+    /// All was done, and something was refused, as the output says.
+    Refused,
+    BadInput(Role, InputFault),
+    NoMemory,
+    CannotRead(Role),
+    CannotWrite,
+}
+
+/// How a run ended, with the text of standard input where it was kept.
+#[derive(Drop)]
+pub struct Ended {
+    pub ending: Ending,
+    pub input: Option<String>,
+}
+
+/// How a run ends where no text is read from standard input.
+pub fn ending_of_text(fault: TextFault) -> Ending
+    ensures { result ≡ ending_of_text fault }
+{
+    match fault {
+        TextFault::CannotRead => Ending::CannotRead(Role::Input),
+        TextFault::TooLong => Ending::BadInput(Role::Input, InputFault::TooLong),
+        TextFault::NotText => Ending::BadInput(Role::Input, InputFault::NotText),
+        TextFault::NoMemory => Ending::NoMemory,
+    }
+}
+
+/// How a run ends where a text is no simulation.
+pub fn ending_of_simulation(fault: SimulationFault) -> Ending
+    ensures { result ≡ ending_of_simulation fault }
+{
+    match fault {
+        SimulationFault::NoMemory => Ending::NoMemory,
+        fault => Ending::BadInput(Role::Input, InputFault::Simulation(fault)),
+    }
+}
+
+/// How a run ends where no text is read from a file.
+pub fn ending_of_file(role: Role, fault: TextFault) -> Ending
+    ensures { result ≡ ending_of_file role fault }
+{
+    match fault {
+        TextFault::CannotRead | TextFault::TooLong => Ending::CannotRead(role),
+        TextFault::NotText => Ending::BadInput(role, InputFault::NotText),
+        TextFault::NoMemory => Ending::NoMemory,
+    }
+}
+
+/// How a run ends where a text is no table of architectures.
+pub fn ending_of_table(fault: ArchsFault) -> Ending
+    ensures { result ≡ ending_of_table fault }
+{
+    match fault {
+        ArchsFault::NoMemory => Ending::NoMemory,
+        fault => Ending::BadInput(Role::Archs, InputFault::Table(fault)),
+    }
+}
+
+/// How a run ends where two texts are no archive.
+pub fn ending_of_archive(fault: ArchiveFault) -> Ending
+    ensures { result ≡ ending_of_archive fault }
+{
+    match fault {
+        ArchiveFault::NoMemory => Ending::NoMemory,
+        fault => Ending::BadInput(role_of_fault(fault), InputFault::Archive(fault)),
+    }
+}
+
+/// How a run ends where a text is no state file.
+pub fn ending_of_state(fault: StateFault) -> Ending
+    ensures { result ≡ ending_of_state fault }
+{
+    match fault {
+        StateFault::NoMemory => Ending::NoMemory,
+        fault => Ending::BadInput(Role::State, InputFault::State(fault)),
+    }
+}
+
+/// How a run ends where a state file has a row that the archive hasn't.
+pub fn ending_of_missing_row() -> Ending
+    ensures { result ≡ ending_of_missing_row }
+{
+    Ending::BadInput(Role::State, InputFault::NoSuchRow)
+}
+
+/// How a run ends where a text is no tracker.
+pub fn ending_of_tracker(fault: TrackerFault) -> Ending
+    ensures { result ≡ ending_of_tracker fault }
+{
+    match fault {
+        TrackerFault::NoMemory => Ending::NoMemory,
+        fault => Ending::BadInput(Role::Tracker, InputFault::Tracker(fault)),
+    }
+}
+
+/// How a run ends where a text is no journal over the opening rows.
+pub fn ending_of_journal(fault: ReadError) -> Ending
+    ensures { result ≡ ending_of_journal fault }
+{
+    match fault {
+        ReadError::NoMemory => Ending::NoMemory,
+        fault => Ending::BadInput(Role::Journal, InputFault::Journal(fault)),
+    }
+}
+
+impl Ending {
+    /// The same, with no text kept.
+    pub fn alone(self) -> Ended
+        ensures { result ≡ record { ending = self; input = None } }
+    {
+        Ended {
+            ending: self,
+            input: None,
+        }
+    }
+
+    /// The status that the program ends with.
+    pub fn status(self) -> u8
+        ensures { result ≡ status_of self }
+    {
+        match self {
+            Ending::Done => 0,
+            Ending::Refused => 1,
+            Ending::BadInput(_, _) => 2,
+            Ending::NoMemory => 4,
+            Ending::CannotRead(_) | Ending::CannotWrite => 5,
+        }
+    }
+
+    /// Writes the one line that says what went wrong, where something did.
+    pub fn tell<E: Write>(self, faults: &mut E) -> Result<(), WriteFault>
+        ensures whole { OnOk result
+            (Appends (E.contents faults.old) (E.contents faults.new) (line_of self)) }
+        ensures prefix { OnErr result
+            (AppendsPrefix (E.contents faults.old) (E.contents faults.new) (line_of self)) }
+    {
+        match self {
+            Ending::Done | Ending::Refused => Ok(()),
+            Ending::BadInput(role, fault) => {
+                write_line(faults, role.label().as_bytes(), fault.name().as_bytes())
+            }
+            Ending::NoMemory => write_line(faults, b"", b"want of memory"),
+            Ending::CannotRead(role) => {
+                write_line(faults, role.label().as_bytes(), b"cannot read")
+            }
+            Ending::CannotWrite => write_line(faults, b"", b"cannot write"),
+        }
+    }
+
+    /// `tell`, and the status. What can't be told is left.
+    pub fn answer<E: Write>(self, faults: &mut E) -> u8
+        ensures status { result ≡ status_of self }
+        ensures line { AppendsPrefix (E.contents faults.old) (E.contents faults.new)
+            (line_of self) }
+    {
+        let _ = self.tell(faults);
+        self.status()
+    }
+}
+
+// Writes the program's name, the part of it that is meant, and what went wrong there.
+fn write_line<E: Write>(faults: &mut E, place: &[u8], what: &[u8]) -> Result<(), WriteFault>
+    ensures whole { OnOk result (Appends (E.contents faults.old) (E.contents faults.new)
+        (line_with place.now what.now)) }
+    ensures prefix { OnErr result (AppendsPrefix (E.contents faults.old) (E.contents faults.new)
+        (line_with place.now what.now)) }
+{
+    write_whole(faults, b"transdesk: ")?;
+    write_whole(faults, place)?;
+    write_whole(faults, what)?;
+    write_whole(faults, b"\n")
+}

@@ -1,0 +1,225 @@
+//! The explanation of a refusal: a second line on standard error, where one is asked for.
+ghost use Rattle.std.specs.Prelude.{◌≡◌, ◌≤◌, ◌<◌, ◌^◌, ℕ, List, Option, true, IfSome, length, option_map, string_bytes};
+ghost use Rattle.td_tool.specs.Ending.{status_of};
+ghost use Rattle.td_tool.specs.Explained.{Explains, ExplainsFile, IsKept, IsSaidOf, SaysOf, archive_paths, explanation_of, known_of_request, paths_of};
+ghost use Rattle.td_tool.specs.Limits.{input_limit};
+
+use crate::ending::{Ended, Ending};
+use crate::file_texts::FILE_LIMIT;
+use crate::input_fault::InputFault;
+use crate::places::place_of;
+use crate::role::Role;
+use crate::texts::Texts;
+use crate::track_files::given;
+use crate::wanted::wanted;
+use std::alloc::Global;
+use std::io::Write;
+use td_bytes::write_whole;
+use td_explain::{Place, explain};
+use td_words::Request;
+
+// The path of the table or of an index, of those of an archive.
+fn archive_path<'a>(
+    role: Role,
+    archs: &'a String,
+    packages: &'a String,
+    sources: &'a String,
+) -> Option<&'a str>
+    ensures { option_map (λ p. p.now) result ≡ archive_paths (string_bytes archs.now)
+        (string_bytes packages.now) (string_bytes sources.now) role }
+{
+    match role {
+        Role::Archs => Some(archs.as_str()),
+        Role::Packages => Some(packages.as_str()),
+        Role::Sources => Some(sources.as_str()),
+        Role::Input | Role::State | Role::Tracker | Role::Outcomes | Role::Journal => None,
+    }
+}
+
+// The path of the file with this role, where the words gave one.
+fn path_of(request: &Request, role: Role) -> Option<&str>
+    ensures { option_map (λ p. p.now) result ≡ paths_of request.now role }
+{
+    match request {
+        Request::Simulate => None,
+        Request::Check {
+            archs,
+            packages,
+            sources,
+        } => archive_path(role, archs, packages, sources),
+        Request::Track {
+            archs,
+            packages,
+            sources,
+            tracker,
+            state,
+            chunk: _,
+        } => match role {
+            Role::State => given(state),
+            Role::Tracker => Some(tracker.as_str()),
+            _ => archive_path(role, archs, packages, sources),
+        },
+        Request::Waves {
+            archs,
+            packages,
+            sources,
+            tracker,
+        } => match role {
+            Role::Tracker => Some(tracker.as_str()),
+            _ => archive_path(role, archs, packages, sources),
+        },
+        Request::Run {
+            archs,
+            packages,
+            sources,
+            state,
+            tracker,
+            suite: _,
+            builders: _,
+            outcomes,
+            journal,
+        } => match role {
+            Role::State => given(state),
+            Role::Tracker => given(tracker),
+            Role::Outcomes => given(outcomes),
+            Role::Journal => given(journal),
+            _ => archive_path(role, archs, packages, sources),
+        },
+    }
+}
+
+// The line of a fault in the text.
+fn explain_text(alloc: Global, role: Role, fault: InputFault, text: &str) -> Option<String>
+    requires { length text.now < 2 ^ 63 }
+    ensures { IfSome result (λ line. string_bytes line
+        ≡ explanation_of (Ending.BadInput role fault) text.now) }
+{
+    match explain(alloc, role.label(), place_of(fault), wanted(fault), text) {
+        Ok(line) => Some(line),
+        Err(_) => None,
+    }
+}
+
+// The same of a file, which is read again.
+fn explain_file<T: Texts>(
+    alloc: Global,
+    texts: &T,
+    path: &str,
+    role: Role,
+    fault: InputFault,
+) -> Option<String>
+    ensures { IfSome result (λ line.
+        ExplainsFile (T.bytes texts.now path.now) role fault (string_bytes line)) }
+{
+    match texts.text(alloc, path, FILE_LIMIT) {
+        Ok(text) => explain_text(alloc, role, fault, text.as_str()),
+        Err(_) => None,
+    }
+}
+
+// The same where the fault has a place.
+fn explain_place<T: Texts>(
+    alloc: Global,
+    role: Role,
+    fault: InputFault,
+    input: &Option<String>,
+    request: &Request,
+    texts: &T,
+) -> Option<String>
+    requires { IfSome input.now (λ text. length (string_bytes text) ≤ input_limit) }
+    ensures { (known : Option (List ℕ)) → IsKept (known_of_request request.now known (T.bytes texts.now)) input.now
+        → IfSome result (λ line. ExplainsFile
+        (known_of_request request.now known (T.bytes texts.now) role) role fault (string_bytes line)) }
+{
+    match role {
+        Role::Input => match input {
+            Some(text) => explain_text(alloc, role, fault, text.as_str()),
+            None => None,
+        },
+        _ => match path_of(request, role) {
+            Some(path) => explain_file(alloc, texts, path, role, fault),
+            None => None,
+        },
+    }
+}
+
+// The line that explains how a run ended, where it was refused and memory suffices.
+fn explanation<T: Texts>(
+    alloc: Global,
+    ended: &Ended,
+    request: &Request,
+    texts: &T,
+) -> Option<String>
+    requires { IfSome ended.now.input (λ text. length (string_bytes text) ≤ input_limit) }
+    ensures { (known : Option (List ℕ)) → IsKept (known_of_request request.now known (T.bytes texts.now)) ended.now.input
+        → IfSome result (λ line. Explains
+        (known_of_request request.now known (T.bytes texts.now)) ended.now.ending (string_bytes line)) }
+{
+    let Ending::BadInput(role, fault) = ended.ending else {
+        return None;
+    };
+    match place_of(fault) {
+        Place::Whole => explain_text(alloc, role, fault, ""),
+        _ => explain_place(alloc, role, fault, &ended.input, request, texts),
+    }
+}
+
+// Writes it. What can't be written is left.
+fn say_explanation<T: Texts, E: Write>(
+    alloc: Global,
+    ended: &Ended,
+    request: &Request,
+    texts: &T,
+    faults: &mut E,
+)
+    requires { IfSome ended.now.input (λ text. length (string_bytes text) ≤ input_limit) }
+    ensures { (known : Option (List ℕ)) → IsKept (known_of_request request.now known (T.bytes texts.now)) ended.now.input
+        → IsSaidOf (known_of_request request.now known (T.bytes texts.now)) ended.now.ending
+        (E.contents faults.old) (E.contents faults.new) }
+{
+    if let Some(line) = explanation(alloc, ended, request, texts) {
+        let _ = write_whole(faults, line.as_bytes());
+    }
+}
+
+// Writes the line of the ending, and behind it the explanation.
+fn tell_explained<T: Texts, E: Write>(
+    alloc: Global,
+    ended: &Ended,
+    request: &Request,
+    texts: &T,
+    faults: &mut E,
+)
+    requires { IfSome ended.now.input (λ text. length (string_bytes text) ≤ input_limit) }
+    ensures { (known : Option (List ℕ)) → IsKept (known_of_request request.now known (T.bytes texts.now)) ended.now.input
+        → SaysOf true (known_of_request request.now known (T.bytes texts.now)) ended.now.ending
+        (E.contents faults.old) (E.contents faults.new) }
+{
+    let Ok(()) = ended.ending.tell(faults) else {
+        return;
+    };
+    say_explanation(alloc, ended, request, texts, faults)
+}
+
+/// Says on `faults` how a run of this request ended, with an explanation or without, and answers
+/// the status. What can't be said is left.
+pub fn finish<T: Texts, E: Write>(
+    alloc: Global,
+    explained: bool,
+    ended: &Ended,
+    request: &Request,
+    texts: &T,
+    faults: &mut E,
+) -> u8
+    requires { IfSome ended.now.input (λ text. length (string_bytes text) ≤ input_limit) }
+    ensures status { result ≡ status_of ended.now.ending }
+    ensures says { (known : Option (List ℕ)) → IsKept (known_of_request request.now known (T.bytes texts.now)) ended.now.input
+        → SaysOf explained (known_of_request request.now known (T.bytes texts.now)) ended.now.ending
+        (E.contents faults.old) (E.contents faults.new) }
+{
+    if !explained {
+        return ended.ending.answer(faults);
+    }
+    tell_explained(alloc, ended, request, texts, faults);
+    ended.ending.status()
+}

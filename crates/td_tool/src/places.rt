@@ -1,0 +1,112 @@
+//! Where in its text a refusal is.
+ghost use Rattle.std.specs.Prelude.{◌≡◌};
+ghost use Rattle.td_tool.specs.Places.{place_in_index as place_in_index_of, place_in_journal as place_in_journal_of, place_in_simulation as place_in_simulation_of, place_in_stanzas as place_in_stanzas_of, place_in_state as place_in_state_of, place_in_table as place_in_table_of, place_in_tracker as place_in_tracker_of, place_of_entry as place_of_entry_of, place_of as place_of_of};
+
+use crate::input_fault::InputFault;
+use td_explain::Place;
+use td_indices::ArchiveFault;
+use td_journal::ReadError;
+use td_query::TrackerFault;
+use td_relation::ArchsFault;
+use td_rows::StateFault;
+use td_simulate::SimulationFault;
+use td_stanza::StanzaFault;
+
+fn place_in_state(fault: StateFault) -> Place
+    ensures { result ≡ place_in_state_of fault }
+{
+    match fault {
+        StateFault::BadLine(n) | StateFault::Twice(n) | StateFault::NotOpening(n) => Place::Line(n),
+        StateFault::TooManyRows | StateFault::NoMemory => Place::Whole,
+    }
+}
+
+fn place_in_simulation(fault: SimulationFault) -> Place
+    ensures { result ≡ place_in_simulation_of fault }
+{
+    match fault {
+        SimulationFault::Opening(fault) => place_in_state(fault),
+        SimulationFault::BadStep(n) => Place::Line(n),
+        SimulationFault::NoMemory => Place::Whole,
+    }
+}
+
+fn place_in_table(fault: ArchsFault) -> Place
+    ensures { result ≡ place_in_table_of fault }
+{
+    match fault {
+        ArchsFault::BadLine(n) | ArchsFault::Twice(n) => Place::Line(n),
+        ArchsFault::TooMany | ArchsFault::NoMemory => Place::Whole,
+    }
+}
+
+fn place_in_stanzas(fault: StanzaFault) -> Place
+    ensures { result ≡ place_in_stanzas_of fault }
+{
+    match fault {
+        StanzaFault::BadName(n)
+        | StanzaFault::NoColon(n)
+        | StanzaFault::ContinuationFirst(n)
+        | StanzaFault::Duplicate(n) => Place::Line(n),
+        StanzaFault::NoMemory => Place::Whole,
+    }
+}
+
+fn place_in_index(fault: ArchiveFault) -> Place
+    ensures { result ≡ place_in_index_of fault }
+{
+    match fault {
+        ArchiveFault::Stanza(_, fault) => place_in_stanzas(fault),
+        ArchiveFault::MissingField(_, n, _)
+        | ArchiveFault::BadVersion(_, n)
+        | ArchiveFault::BadRelation(_, n) => Place::Stanza(n),
+        ArchiveFault::TooManyRows | ArchiveFault::NoMemory => Place::Whole,
+    }
+}
+
+fn place_in_tracker(fault: TrackerFault) -> Place
+    ensures { result ≡ place_in_tracker_of fault }
+{
+    match fault {
+        TrackerFault::Syntax(at) | TrackerFault::BadPattern(at) => Place::Byte(at),
+        TrackerFault::MissingKey(_) | TrackerFault::NoMemory => Place::Whole,
+    }
+}
+
+// Entry n of a journal stands on line n + 1.
+fn place_of_entry(n: u64) -> Place
+    ensures { result ≡ place_of_entry_of n }
+{
+    if n < u64::MAX {
+        Place::Line(n as usize + 1)
+    } else {
+        Place::Whole
+    }
+}
+
+fn place_in_journal(fault: ReadError) -> Place
+    ensures { result ≡ place_in_journal_of fault }
+{
+    match fault {
+        ReadError::BadHeader => Place::Line(1),
+        ReadError::BadLine(n) => Place::Line(n),
+        ReadError::Unlawful(n) => place_of_entry(n),
+        ReadError::NoMemory => Place::Whole,
+    }
+}
+
+/// The place of a fault in its text, as the fault has it.
+pub fn place_of(fault: InputFault) -> Place
+    ensures { result ≡ place_of_of fault }
+{
+    match fault {
+        InputFault::TooLong | InputFault::NotText | InputFault::NoSuchRow => Place::Whole,
+        InputFault::Simulation(fault) => place_in_simulation(fault),
+        InputFault::Table(fault) => place_in_table(fault),
+        InputFault::Archive(fault) => place_in_index(fault),
+        InputFault::State(fault) => place_in_state(fault),
+        InputFault::Tracker(fault) => place_in_tracker(fault),
+        InputFault::BadOutcome(n) => Place::Line(n),
+        InputFault::Journal(fault) => place_in_journal(fault),
+    }
+}

@@ -1,0 +1,141 @@
+//! The subcommand `run`: a script over the rows of an archive.
+ghost use Rattle.std.specs.Prelude.{◌≡◌, ◌≤◌, IfOk};
+ghost use Rattle.td_tool.specs.Runs.{EndsRun, OnlyPlayEnds, PlayEnds, ending_of_crew as ending_of_crew_as, ending_of_input as ending_of_input_as, ending_of_script as ending_of_script_as, ending_of_stop as ending_of_stop_as};
+ghost use Rattle.td_tool.specs.RunInside.{AreInputsOf, IsWithinLimit, run_files_at, run_texts_of};
+
+use crate::ending::{
+    Ending, ending_of_archive, ending_of_file, ending_of_journal, ending_of_missing_row,
+    ending_of_state, ending_of_table, ending_of_tracker,
+};
+use crate::input_fault::InputFault;
+use crate::role::Role;
+use crate::run_files::{RunPaths, RunTexts, read_run_files};
+use crate::texts::Texts;
+use std::alloc::{AllocError, Global};
+use std::io::{Read, Write};
+use std::sync::Wait;
+use std::thread::Threads;
+use td_crew::{CrewFault, run_crew};
+use td_script::{InputFault as Refusal, Inputs, MAX_BUILDERS, RunFault, ScriptEnd, run_script};
+
+// How a run ends where a text is refused.
+fn ending_of_input(fault: Refusal) -> Ending
+    ensures { result ≡ ending_of_input_as fault }
+{
+    match fault {
+        Refusal::Table(fault) => ending_of_table(fault),
+        Refusal::Archive(fault) => ending_of_archive(fault),
+        Refusal::State(fault) => ending_of_state(fault),
+        Refusal::NoSuchRow => ending_of_missing_row(),
+        Refusal::Tracker(fault) => ending_of_tracker(fault),
+        Refusal::Journal(fault) => ending_of_journal(fault),
+    }
+}
+
+// How a run ends where its script stopped.
+fn ending_of_stop(fault: RunFault) -> Ending
+    ensures { result ≡ ending_of_stop_as fault }
+{
+    match fault {
+        RunFault::Input(fault) => ending_of_input(fault),
+        RunFault::Read => Ending::CannotRead(Role::Input),
+        RunFault::TooLong => Ending::BadInput(Role::Input, InputFault::TooLong),
+        RunFault::NotText => Ending::BadInput(Role::Input, InputFault::NotText),
+        RunFault::Write => Ending::CannotWrite,
+        RunFault::NoMemory => Ending::NoMemory,
+    }
+}
+
+// How a run ends by how its script did.
+fn ending_of_script(end: Result<ScriptEnd, RunFault>) -> Ending
+    ensures { result ≡ ending_of_script_as end }
+{
+    match end {
+        Ok(end) if end.refusals == 0 => Ending::Done,
+        Ok(_) => Ending::Refused,
+        Err(fault) => ending_of_stop(fault),
+    }
+}
+
+// How a run ends by how its crew did.
+fn ending_of_crew(end: Result<ScriptEnd, CrewFault>) -> Ending
+    ensures { result ≡ ending_of_crew_as end }
+{
+    match end {
+        Ok(end) => ending_of_script(Ok(end)),
+        Err(CrewFault::Run(fault)) => ending_of_stop(fault),
+        Err(CrewFault::BadOutcome(line)) => {
+            Ending::BadInput(Role::Outcomes, InputFault::BadOutcome(line))
+        }
+    }
+}
+
+// What the script runs over.
+fn inputs_of(
+    alloc: Global,
+    texts: RunTexts,
+    suite: &str,
+    builders: usize,
+) -> Result<Inputs, AllocError>
+    requires { IsWithinLimit texts }
+    ensures { IfOk result (AreInputsOf (run_texts_of texts) suite.now builders) }
+{
+    Ok(Inputs {
+        archs: texts.indices.archs,
+        packages: texts.indices.packages,
+        sources: texts.indices.sources,
+        state: texts.state,
+        tracker: texts.tracker,
+        journal: texts.journal,
+        suite: String::from_str(alloc, suite)?,
+        outcomes: texts.outcomes,
+        builders: builders.min(MAX_BUILDERS),
+    })
+}
+
+// How the script ends that the reader has, over what was read of the files.
+fn play<R: Read, W: Write>(
+    rt: &(impl Threads + Wait + Sync),
+    alloc: Global,
+    texts: RunTexts,
+    suite: &str,
+    builders: usize,
+    reader: &mut R,
+    output: &mut W,
+) -> Ending
+    requires { IsWithinLimit texts }
+    ensures says { PlayEnds builders (run_texts_of texts) suite.now
+        (R.remaining reader.old) (W.contents output.old) (W.contents output.new) result }
+    ensures only { OnlyPlayEnds builders (run_texts_of texts) suite.now
+        (R.remaining reader.old) result }
+{
+    let Ok(inputs) = inputs_of(alloc, texts, suite, builders) else {
+        return Ending::NoMemory;
+    };
+    if builders == 0 {
+        ending_of_script(run_script(alloc, &inputs, reader, output))
+    } else {
+        ending_of_crew(run_crew(rt, alloc, &inputs, reader, output))
+    }
+}
+
+/// Answers the script that the reader has, over the files with these paths. The files are read
+/// before the script, and all of it before anything is written.
+pub fn run<T: Texts, R: Read, W: Write>(
+    rt: &(impl Threads + Wait + Sync),
+    alloc: Global,
+    texts: &T,
+    paths: &RunPaths<'_>,
+    suite: &str,
+    reader: &mut R,
+    output: &mut W,
+) -> Ending
+    ensures { EndsRun
+        (run_files_at (T.bytes texts.now) (T.can_fail texts.now) paths.now) suite.now
+        (R.remaining reader.old) (W.contents output.old) (W.contents output.new) result }
+{
+    match read_run_files(alloc, texts, paths) {
+        Ok(read) => play(rt, alloc, read, suite, paths.builders, reader, output),
+        Err(unread) => ending_of_file(unread.role, unread.fault),
+    }
+}

@@ -1,0 +1,65 @@
+//! The subcommand `simulate`: the steps on standard input are played, and their answers written.
+ghost use Rattle.std.specs.Prelude.{◌≡◌, ◌≤◌, length, string_bytes, IfOk, IfErr, IfSome};
+ghost use Rattle.std.specs.Result.{ForOk};
+ghost use Rattle.td_tool.specs.Ends.{Ends};
+ghost use Rattle.td_tool.specs.Limits.{input_limit};
+ghost use Rattle.td_tool.specs.Played.{IsUnread, IsUntold, TellsSo, TextEnds, kept_of};
+
+use crate::ending::{Ended, Ending, ending_of_simulation, ending_of_text};
+use std::alloc::Global;
+use std::io::{Read, Write};
+use td_bytes::{TextFault, read_text, write_whole};
+use td_simulate::{Simulated, SimulationFault, simulate_text};
+
+/// The longest standard input, in bytes.
+pub const INPUT_LIMIT: usize = 1_048_576;
+
+// How a run ends by what was told.
+fn tell<W: Write>(told: Result<Simulated, SimulationFault>, output: &mut W) -> Ending
+    ensures told { IfOk told (λ t.
+        TellsSo t (W.contents output.old) (W.contents output.new) result) }
+    ensures untold { IfErr told (λ fault.
+        IsUntold fault (W.contents output.old) (W.contents output.new) result) }
+{
+    let told = match told {
+        Ok(told) => told,
+        Err(fault) => return ending_of_simulation(fault),
+    };
+    match write_whole(output, told.text.as_bytes()) {
+        Ok(()) if told.refused => Ending::Refused,
+        Ok(()) => Ending::Done,
+        Err(_) => Ending::CannotWrite,
+    }
+}
+
+// How a run ends by what was read of standard input. The text is kept.
+fn play<W: Write>(alloc: Global, read: Result<String, TextFault>, output: &mut W) -> Ended
+    requires { ForOk read (λ text. length (string_bytes text) ≤ input_limit) }
+    ensures text { IfOk read (λ text.
+        TextEnds (string_bytes text) (W.contents output.old) (W.contents output.new) result.ending) }
+    ensures unread { IfErr read (λ fault.
+        IsUnread fault (W.contents output.old) (W.contents output.new) result.ending) }
+    ensures kept { result.input ≡ kept_of read }
+{
+    let text = match read {
+        Ok(text) => text,
+        Err(fault) => return ending_of_text(fault).alone(),
+    };
+    let ending = tell(simulate_text(alloc, text.as_str()), output);
+    Ended {
+        ending,
+        input: Some(text),
+    }
+}
+
+/// Plays the simulation that the reader has. All is read before anything is written, and kept.
+pub fn simulate<R: Read, W: Write>(alloc: Global, reader: &mut R, output: &mut W) -> Ended
+    ensures ends { Ends (R.remaining reader.old) (W.contents output.old) (W.contents output.new)
+        result.ending }
+    ensures kept { IfSome result.input (λ kept.
+        IfSome (R.remaining reader.old) (λ all. all ≡ string_bytes kept)) }
+    ensures short { IfSome result.input (λ kept. length (string_bytes kept) ≤ input_limit) }
+{
+    let read = read_text(alloc, reader, INPUT_LIMIT);
+    play(alloc, read, output)
+}

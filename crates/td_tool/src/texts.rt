@@ -1,0 +1,30 @@
+//! Where the texts of files come from: the disk, or a test's memory.
+use std::alloc::Global;
+use td_bytes::TextFault;
+
+/// Files that are texts, by their paths. The program reads those of the disk; tests have theirs in
+/// memory.
+pub trait Texts {
+    ghost use Rattle.std.specs.Prelude.{◌≡◌, ℕ, ◌≤◌, ◌<◌, Bool, true, List, length, Option, IfOk, IfErr, IfSome, IsErrOf, IsUtf8};
+    ghost use Rattle.std.specs.String.{string_bytes};
+    ghost use Rattle.td_bytes.specs.declared.text.TextFault.{TextFault};
+    ghost use Rattle.td_bytes.specs.declared.text.TextFault.TheVariants.{NotText, TooLong};
+
+    // The bytes of the file with this path, where clauses know them.
+    ghost bytes: { Self → List ℕ → Option (List ℕ) };
+
+    // For which faults a read of the file with this path may fail.
+    ghost can_fail: { Self → List ℕ → TextFault → Bool };
+
+    /// Reads a whole file, a text of at most `limit` bytes.
+    fn text(&self, alloc: Global, path: &str, limit: usize) -> Result<String, TextFault>
+        ensures text { IfOk result (λ text.
+            IfSome (bytes self.now path.now) (λ all. all ≡ string_bytes text)) }
+        ensures within { IfOk result (λ text. length (string_bytes text) ≤ limit) }
+        ensures not_text { IsErrOf result NotText
+            → IfSome (bytes self.now path.now) (λ all. (length all ≤ limit) × ¬ IsUtf8 all) }
+        ensures long { IsErrOf result TooLong
+            → IfSome (bytes self.now path.now) (λ all. limit < length all) }
+        // Nobody but a file says that it can't be read.
+        ensures fails { IfErr result (λ fault. can_fail self.now path.now fault ≡ true) };
+}

@@ -1,0 +1,93 @@
+//! The files of a tracker over an archive.
+ghost use Rattle.std.specs.Prelude.{◌≡◌, IfOk, IfErr, option_map, string_bytes};
+ghost use Rattle.td_tool.specs.Checks.{IsTextOf};
+ghost use Rattle.td_tool.specs.Tracks.{IsTextIfGiven, file_at};
+ghost use Rattle.td_tool.specs.TrackInside.{AreTextsRead, HasFailedAt, HasFailedFor, HasFailedIfGiven, files_at};
+
+use crate::file_texts::{FILE_LIMIT, FileFault, FileTexts, read_files};
+use crate::role::Role;
+use crate::texts::Texts;
+use std::alloc::Global;
+
+/// The paths of the files.
+#[derive(Clone, Copy)]
+pub struct TrackPaths<'w> {
+    pub archs: &'w str,
+    pub packages: &'w str,
+    pub sources: &'w str,
+    /// Rows to put in the place of those that the indices say.
+    pub state: Option<&'w str>,
+    pub tracker: &'w str,
+}
+
+/// What they hold.
+#[derive(Drop)]
+pub struct TrackTexts {
+    pub indices: FileTexts,
+    pub state: Option<String>,
+    pub tracker: String,
+}
+
+/// The text of a `String` that may be missing.
+pub fn given(text: &Option<String>) -> Option<&str>
+    ensures { option_map (λ s. s.now) result ≡ option_map string_bytes text.now }
+{
+    match text {
+        Some(text) => Some(text.as_str()),
+        None => None,
+    }
+}
+
+// Reads the file of a role.
+fn read_one<T: Texts>(alloc: Global, texts: &T, role: Role, path: &str) -> Result<String, FileFault>
+    ensures text { IfOk result (λ text. IsTextOf (T.bytes texts.now path.now) (string_bytes text)) }
+    ensures failed { IfErr result (HasFailedFor (file_at (T.bytes texts.now) (T.can_fail texts.now) path.now) role) }
+{
+    match texts.text(alloc, path, FILE_LIMIT) {
+        Ok(text) => Ok(text),
+        Err(fault) => Err(FileFault { role, fault }),
+    }
+}
+
+/// Reads it where one is given.
+pub fn read_given<T: Texts>(
+    alloc: Global,
+    texts: &T,
+    role: Role,
+    path: Option<&str>,
+) -> Result<Option<String>, FileFault>
+    ensures text { IfOk result (λ text. IsTextIfGiven
+        (option_map (file_at (T.bytes texts.now) (T.can_fail texts.now)) (option_map (λ p. p.now) path.entry))
+        (option_map string_bytes text)) }
+    ensures failed { IfErr result (HasFailedIfGiven
+        (option_map (file_at (T.bytes texts.now) (T.can_fail texts.now)) (option_map (λ p. p.now) path.entry)) role) }
+{
+    match path {
+        Some(path) => match read_one(alloc, texts, role, path) {
+            Ok(text) => Ok(Some(text)),
+            Err(fault) => Err(fault),
+        },
+        None => Ok(None),
+    }
+}
+
+/// Reads all of them, before anything is looked at.
+pub fn read_track_files<T: Texts>(
+    alloc: Global,
+    texts: &T,
+    paths: &TrackPaths<'_>,
+) -> Result<TrackTexts, FileFault>
+    ensures texts { IfOk result (AreTextsRead
+        (files_at (T.bytes texts.now) (T.can_fail texts.now) paths.now)) }
+    ensures failed { IfErr result (HasFailedAt
+        (files_at (T.bytes texts.now) (T.can_fail texts.now) paths.now)) }
+{
+    let indices = read_files(alloc, texts, paths.archs, paths.packages, paths.sources)?;
+    let state = read_given(alloc, texts, Role::State, paths.state)?;
+    let tracker = read_one(alloc, texts, Role::Tracker, paths.tracker)?;
+    Ok(TrackTexts {
+        indices,
+        state,
+        tracker,
+    })
+}

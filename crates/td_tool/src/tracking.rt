@@ -1,0 +1,235 @@
+//! The two subcommands that read a tracker: `track` and `waves`.
+ghost use Rattle.std.specs.Prelude.{◌≡◌, ◌≤◌, Some, Ok, Err, IfOk, IfErr, length, option_map, string_bytes};
+ghost use Rattle.td_relation.specs.TableView.{table};
+ghost use Rattle.td_rows.specs.Overlay.{first_missing, overlaid};
+ghost use Rattle.td_rows.specs.declared.key.Key.{Key};
+ghost use Rattle.td_rows.specs.Table.{Table};
+ghost use Rattle.td_query.specs.Tracking.{IsTracker, Tracking, tracking};
+ghost use Rattle.td_report.specs.Transition.{IsReport};
+ghost use Rattle.td_report.specs.TransitionView as of;
+ghost use Rattle.td_tool.specs.Ending.{ending_of_missing_row};
+ghost use Rattle.td_tool.specs.Limits.{file_limit};
+ghost use Rattle.td_tool.specs.Tracks.{AreReadable, AreRefused, AreRowsOf, EndsSo, IsNoTracker, IsPatternRefused, IsReadableOver, IsRefusedOver, IsStateRefused, RowsSay, TextsSayIt, TrackerSays};
+ghost use Rattle.td_tool.specs.TrackInside.{AreReadableWith, AreRefusedWith, CanReplace, IndicesSay, IsRefusedFor, IsReplaced, OrMemory, files_at, saying_of, texts_of};
+
+use crate::checking::write;
+use crate::ending::{
+    Ending, ending_of_archive, ending_of_file, ending_of_missing_row, ending_of_state,
+    ending_of_table, ending_of_tracker,
+};
+use crate::texts::Texts;
+use crate::track_files::{TrackPaths, TrackTexts, given, read_track_files};
+use std::alloc::{AllocError, Global};
+use std::io::Write;
+use std::thread::Threads;
+use td_indices::Archive;
+use td_query::Tracker;
+use td_relation::Archs;
+use td_report::Transition;
+use td_rows::{Rows, read_state};
+
+/// What is to be told of a tracker.
+#[derive(Clone, Copy, Debug, PartialEq, Eq, Drop)]
+pub enum Asked {
+    /// The report, by chunks of so many rows where that is given.
+    Report(Option<usize>),
+    /// The levels of the affected sources.
+    Waves,
+}
+
+// The report, by chunks where they are given. A chunk has a row at least.
+fn reported(
+    rt: &(impl Threads + Sync),
+    alloc: Global,
+    transition: &Transition<'_, '_, '_, '_>,
+    rows: &Rows,
+    chunk: Option<usize>,
+) -> Result<String, AllocError>
+    requires { of.IsMade transition.now }
+    ensures { IfOk result (λ text. IsReport (of.contents_of transition.now) (of.tracking_of transition.now) rows.now (string_bytes text)) }
+{
+    match chunk {
+        Some(chunk) => transition.report_split(rt, alloc, rows, chunk.max(1)),
+        None => transition.report(alloc, rows),
+    }
+}
+
+// The text that is told.
+fn told(
+    rt: &(impl Threads + Sync),
+    alloc: Global,
+    transition: &Transition<'_, '_, '_, '_>,
+    rows: &Rows,
+    asked: Asked,
+) -> Result<String, AllocError>
+    requires { of.IsMade transition.now }
+    ensures { IfOk result (λ text. saying_of asked (of.contents_of transition.now) (of.tracking_of transition.now) rows.now (string_bytes text)) }
+{
+    match asked {
+        Asked::Report(chunk) => reported(rt, alloc, transition, rows, chunk),
+        Asked::Waves => transition.waves(alloc, rows),
+    }
+}
+
+// The same, of a tracker over an archive.
+fn tracker_says(
+    rt: &(impl Threads + Sync),
+    alloc: Global,
+    archive: &Archive<'_, '_>,
+    rows: &Rows,
+    tracker: &Tracker<'_>,
+    asked: Asked,
+) -> Result<String, AllocError>
+    ensures { IfOk result (λ text. saying_of asked archive.now (tracking tracker.now) rows.now (string_bytes text)) }
+{
+    let transition = Transition::of(alloc, archive, tracker)?;
+    told(rt, alloc, &transition, rows, asked)
+}
+
+// The same, where want of memory ends it.
+fn or_no_memory(text: Result<String, AllocError>) -> Result<String, Ending>
+    ensures ok { IfOk text (λ t. result ≡ Ok t) }
+    ensures err { IfErr text (λ _. result ≡ Err Ending.NoMemory) }
+{
+    match text {
+        Ok(text) => Ok(text),
+        Err(_) => Err(Ending::NoMemory),
+    }
+}
+
+// The same, by the text of a tracker.
+fn tracker_text(
+    rt: &(impl Threads + Sync),
+    alloc: Global,
+    archive: &Archive<'_, '_>,
+    rows: &Rows,
+    tracker: &str,
+    asked: Asked,
+) -> Result<String, Ending>
+    ensures found { IfOk result (λ text. TrackerSays (saying_of asked) archive.now rows.now tracker.now (string_bytes text)) }
+    ensures refused { IfErr result (OrMemory (IsNoTracker tracker.now)) }
+    ensures only { IfErr result (λ ending. (t : Tracking) → IsTracker tracker.now t → IsPatternRefused tracker.now ending) }
+{
+    match Tracker::read(alloc, tracker) {
+        Ok(read) => or_no_memory(tracker_says(rt, alloc, archive, rows, &read, asked)),
+        Err(fault) => Err(ending_of_tracker(fault)),
+    }
+}
+
+// The rows with others in the place of their own, if each of these has one.
+fn put_over(mut rows: Rows, given: Rows) -> Result<Rows, Ending>
+    ensures rows { IfOk result (λ new. new ≡ overlaid given rows) }
+    ensures none_missing { IfOk result (λ _. (k : Key) → first_missing rows given ≡ Some k → ⊥) }
+    ensures missing { IfErr result (λ ending. (k : Key) × (first_missing rows given ≡ Some k) × (ending ≡ ending_of_missing_row)) }
+{
+    match rows.overlay(given) {
+        Ok(()) => Ok(rows),
+        Err(_) => Err(ending_of_missing_row()),
+    }
+}
+
+// The same, of the text of a state file.
+fn replaced(alloc: Global, rows: Rows, text: &str) -> Result<Rows, Ending>
+    ensures rows { IfOk result (IsReplaced rows text.now) }
+    ensures refused { IfErr result (OrMemory (IsRefusedFor rows text.now)) }
+    ensures only { IfErr result (λ ending. CanReplace rows text.now → ending ≡ Ending.NoMemory) }
+{
+    match read_state(alloc, text) {
+        Ok(given) => put_over(rows, given),
+        Err(fault) => Err(ending_of_state(fault)),
+    }
+}
+
+// The rows with which a desk opens, with those of a text, if there is one, in their places.
+fn rows_of(alloc: Global, archive: &Archive<'_, '_>, state: Option<&str>) -> Result<Rows, Ending>
+    ensures rows { IfOk result (AreRowsOf archive.now (option_map (λ s. s.now) state.entry)) }
+    ensures refused { IfErr result (OrMemory (IsStateRefused archive.now (option_map (λ s. s.now) state.entry))) }
+    ensures only { IfErr result (λ ending. (t : Table) → AreRowsOf archive.now (option_map (λ s. s.now) state.entry) t → ending ≡ Ending.NoMemory) }
+{
+    let Ok(rows) = archive.opening_rows() else {
+        return Err(Ending::NoMemory);
+    };
+    let _count = rows.len();
+    match state {
+        Some(text) => replaced(alloc, rows, text),
+        None => Ok(rows),
+    }
+}
+
+// The same text, by what stands over an archive.
+fn archive_text(
+    rt: &(impl Threads + Sync),
+    alloc: Global,
+    archive: &Archive<'_, '_>,
+    state: Option<&str>,
+    tracker: &str,
+    asked: Asked,
+) -> Result<String, Ending>
+    ensures found { IfOk result (λ text. RowsSay (saying_of asked) archive.now (option_map (λ s. s.now) state.entry) tracker.now (string_bytes text)) }
+    ensures refused { IfErr result (OrMemory (IsRefusedOver archive.now (option_map (λ s. s.now) state.entry) tracker.now)) }
+    ensures only { IfErr result (λ ending. IsReadableOver archive.now (option_map (λ s. s.now) state.entry) tracker.now → IsPatternRefused tracker.now ending) }
+{
+    match rows_of(alloc, archive, state) {
+        Ok(rows) => tracker_text(rt, alloc, archive, &rows, tracker, asked),
+        Err(ending) => Err(ending),
+    }
+}
+
+// The same, by the texts of two indices.
+fn indices_text(
+    rt: &(impl Threads + Sync),
+    alloc: Global,
+    archs: &Archs<'_>,
+    texts: &TrackTexts,
+    asked: Asked,
+) -> Result<String, Ending>
+    ensures found { IfOk result (λ text. IndicesSay (saying_of asked) (table archs.now) (texts_of texts.now) (string_bytes text)) }
+    ensures refused { IfErr result (OrMemory (AreRefusedWith (table archs.now) (texts_of texts.now))) }
+    ensures only { IfErr result (λ ending. AreReadableWith (table archs.now) (texts_of texts.now) → IsPatternRefused (texts_of texts.now).tracker ending) }
+{
+    let packages = texts.indices.packages.as_str();
+    let sources = texts.indices.sources.as_str();
+    let tracker = texts.tracker.as_str();
+    match Archive::read(alloc, packages, sources, archs) {
+        Ok(archive) => archive_text(rt, alloc, &archive, given(&texts.state), tracker, asked),
+        Err(fault) => Err(ending_of_archive(fault)),
+    }
+}
+
+// The same, of all texts.
+fn whole_text(
+    rt: &(impl Threads + Sync),
+    alloc: Global,
+    texts: &TrackTexts,
+    asked: Asked,
+) -> Result<String, Ending>
+    requires { length (texts_of texts.now).archs ≤ file_limit }
+    ensures found { IfOk result (λ text. TextsSayIt (saying_of asked) (texts_of texts.now) (string_bytes text)) }
+    ensures refused { IfErr result (OrMemory (AreRefused (texts_of texts.now))) }
+    ensures only { IfErr result (λ ending. AreReadable (texts_of texts.now) → IsPatternRefused (texts_of texts.now).tracker ending) }
+{
+    match Archs::read(alloc, texts.indices.archs.as_str()) {
+        Ok(archs) => indices_text(rt, alloc, &archs, texts, asked),
+        Err(fault) => Err(ending_of_table(fault)),
+    }
+}
+
+/// Tells what the tracker with its path says over the archive. All is read before anything is
+/// written.
+pub fn track<T: Texts, W: Write>(
+    rt: &(impl Threads + Sync),
+    alloc: Global,
+    texts: &T,
+    paths: &TrackPaths<'_>,
+    asked: Asked,
+    output: &mut W,
+) -> Ending
+    ensures { EndsSo (saying_of asked)
+        (files_at (T.bytes texts.now) (T.can_fail texts.now) paths.now)
+        (W.contents output.old) (W.contents output.new) result }
+{
+    match read_track_files(alloc, texts, paths) {
+        Ok(read) => write(whole_text(rt, alloc, &read, asked), output),
+        Err(unread) => ending_of_file(unread.role, unread.fault),
+    }
+}

@@ -1,0 +1,140 @@
+//! What is wanted in the place of what is refused.
+ghost use Rattle.std.specs.Prelude.{◌≡◌};
+ghost use Rattle.td_tool.specs.Wanted.{wanted_archive, wanted_field, wanted_input, wanted_journal, wanted_key, wanted_simulation, wanted_stanza, wanted_state, wanted_table, wanted_tracker};
+
+use crate::input_fault::InputFault;
+use td_indices::{ArchiveFault, IndexField};
+use td_journal::ReadError;
+use td_query::{TrackerFault, TrackerKey};
+use td_relation::ArchsFault;
+use td_rows::StateFault;
+use td_simulate::SimulationFault;
+use td_stanza::StanzaFault;
+
+// Of the rows of a state file, or of the opening rows.
+fn wanted_state(fault: StateFault) -> &'static str
+    ensures { result.now ≡ wanted_state fault }
+{
+    match fault {
+        StateFault::BadLine(_) => "a row, as KEY STATE PRIORITY NUMBER",
+        StateFault::Twice(_) => "a key that no line above has",
+        StateFault::NotOpening(_) => "a state other than Building",
+        StateFault::TooManyRows => "at most 1048576 rows",
+        StateFault::NoMemory => "",
+    }
+}
+
+// Of a simulation.
+fn wanted_simulation(fault: SimulationFault) -> &'static str
+    ensures { result.now ≡ wanted_simulation fault }
+{
+    match fault {
+        SimulationFault::Opening(fault) => wanted_state(fault),
+        SimulationFault::BadStep(_) => "a step, as docs/FORMATS.md lists them",
+        SimulationFault::NoMemory => "",
+    }
+}
+
+// Of a table of architectures.
+fn wanted_table(fault: ArchsFault) -> &'static str
+    ensures { result.now ≡ wanted_table fault }
+{
+    match fault {
+        ArchsFault::BadLine(_) => "an architecture, as NAME OS CPU",
+        ArchsFault::Twice(_) => "a name that no line above has",
+        ArchsFault::TooMany => "at most 32 architectures",
+        ArchsFault::NoMemory => "",
+    }
+}
+
+// Of the lines of a control file.
+fn wanted_stanza(fault: StanzaFault) -> &'static str
+    ensures { result.now ≡ wanted_stanza fault }
+{
+    match fault {
+        StanzaFault::BadName(_) => "a field, as NAME: VALUE",
+        StanzaFault::NoColon(_) => "a colon behind the name of the field",
+        StanzaFault::ContinuationFirst(_) => "a field, since none is above that could go on here",
+        StanzaFault::Duplicate(_) => "a field that the stanza has not yet",
+        StanzaFault::NoMemory => "",
+    }
+}
+
+// Of a stanza that lacks a field, or has one that names nothing.
+fn wanted_field(fault: IndexField) -> &'static str
+    ensures { result.now ≡ wanted_field fault }
+{
+    match fault {
+        IndexField::Package => "a field Package that names a package",
+        IndexField::Version => "a field Version",
+        IndexField::Architecture => "a field Architecture",
+        IndexField::Source => "a field Source that names a package",
+    }
+}
+
+// Of an index.
+fn wanted_archive(fault: ArchiveFault) -> &'static str
+    ensures { result.now ≡ wanted_archive fault }
+{
+    match fault {
+        ArchiveFault::Stanza(_, fault) => wanted_stanza(fault),
+        ArchiveFault::MissingField(_, _, field) => wanted_field(field),
+        ArchiveFault::BadVersion(_, _) => "versions as deb-version(7) has them",
+        ArchiveFault::BadRelation(_, _) => "relations as Debian Policy 7.1 has them",
+        ArchiveFault::TooManyRows => "at most 1048576 rows",
+        ArchiveFault::NoMemory => "",
+    }
+}
+
+// Of a tracker that lacks a key.
+fn wanted_key(fault: TrackerKey) -> &'static str
+    ensures { result.now ≡ wanted_key fault }
+{
+    match fault {
+        TrackerKey::IsAffected => "a key is_affected",
+        TrackerKey::IsGood => "a key is_good",
+        TrackerKey::IsBad => "a key is_bad",
+    }
+}
+
+// Of a tracker.
+fn wanted_tracker(fault: TrackerFault) -> &'static str
+    ensures { result.now ≡ wanted_tracker fault }
+{
+    match fault {
+        TrackerFault::Syntax(_) => "a key and its query, as docs/FORMATS.md has trackers",
+        TrackerFault::MissingKey(key) => wanted_key(key),
+        TrackerFault::BadPattern(_) => "a pattern without look-around and back references",
+        TrackerFault::NoMemory => "",
+    }
+}
+
+// Of a journal.
+fn wanted_journal(fault: ReadError) -> &'static str
+    ensures { result.now ≡ wanted_journal fault }
+{
+    match fault {
+        ReadError::BadHeader => "a journal's header, as transdesk journal 2",
+        ReadError::BadLine(_) => "the next entry, as docs/FORMATS.md has journals",
+        ReadError::Unlawful(_) => "an entry that applies on the rows, or an undone command",
+        ReadError::NoMemory => "",
+    }
+}
+
+/// What is wanted in the place of what a text is refused for.
+pub fn wanted(fault: InputFault) -> &'static str
+    ensures { result.now ≡ wanted_input fault }
+{
+    match fault {
+        InputFault::TooLong => "standard input of at most 1048576 bytes",
+        InputFault::NotText => "a text in UTF-8",
+        InputFault::Simulation(fault) => wanted_simulation(fault),
+        InputFault::Table(fault) => wanted_table(fault),
+        InputFault::Archive(fault) => wanted_archive(fault),
+        InputFault::State(fault) => wanted_state(fault),
+        InputFault::NoSuchRow => "rows that the indices give",
+        InputFault::Tracker(fault) => wanted_tracker(fault),
+        InputFault::BadOutcome(_) => "how a build ends, as KEY OUTCOME",
+        InputFault::Journal(fault) => wanted_journal(fault),
+    }
+}

@@ -1,8 +1,0 @@
-use Rattle.td_relation.specs.TableView.{table}
-use Rattle.transdesk.proofs.Counting.{counted_in}
-use Rattle.transdesk.proofs.checking.counts_in.Goals as goal
-
-pub returns : goal.returns
-returns c =
-    counted_in table c.args.archs.now c.args.packages.now c.args.sources.now c.read.result c.counts_with.result
-    c.read.ensures.found c.read.ensures.only c.read.ensures.fault c.counts_with.ensures.counted c.counts_with.ensures.refused
