@@ -27,9 +27,15 @@ free_avoids : (views : List View) (b : ℕ) (v : BuilderView) (r : ℕ) (p : Pha
     → get_elem? views b ≡ some (Builder v) → v.hand ≡ Free → HandFits views r p → Avoids b p
 free_avoids views b v r closed at free f = tt
 free_avoids views b v r opened at free f = tt
-free_avoids views b v r (held a) at free f = λ e. let h : v.hand ≡ Holding r = same_hand views b v (Holding r) at (subst (λ i. HasHand views i (Holding r)) e f) in cc
-free_avoids views b v r (noted a) at free f = λ e. let h : v.hand ≡ Holding r = same_hand views b v (Holding r) at (subst (λ i. HasHand views i (Holding r)) e f) in cc
-free_avoids views b v r (done a c) at free f = λ e. let h : v.hand ≡ Finished r c = same_hand views b v (Finished r c) at (subst (λ i. HasHand views i (Finished r c)) e f) in cc
+free_avoids views b v r (held a) at free f =
+    λ e. let h : v.hand ≡ Holding r =
+    same_hand views b v (Holding r) at (subst (λ i. HasHand views i (Holding r)) e f) in cc
+free_avoids views b v r (noted a) at free f =
+    λ e. let h : v.hand ≡ Holding r =
+    same_hand views b v (Holding r) at (subst (λ i. HasHand views i (Holding r)) e f) in cc
+free_avoids views b v r (done a c) at free f =
+    λ e. let h : v.hand ≡ Finished r c =
+    same_hand views b v (Finished r c) at (subst (λ i. HasHand views i (Finished r c)) e f) in cc
 
 -- what fits an open row fits it once it is held
 open_held : (b : ℕ) (x : RowView) → RowFits x opened → RowFits x (held b)
@@ -41,7 +47,8 @@ open_held b (Known a) f = absurd f
 -- the list of a builder with a free hand
 free_list : (phases : List Phase) (b : ℕ) (h : Hand) (known mine : List Deed) → h ≡ Free
     → ListFits phases b h known mine → mine ≡ known
-free_list phases b h known mine e f = let t : ListFits phases b Free known mine = subst (λ x. ListFits phases b x known mine) e f in t
+free_list phases b h known mine e f =
+    let t : ListFits phases b Free known mine = subst (λ x. ListFits phases b x known mine) e f in t
 
 -- a claim that is won
 pub claim_keeps : (rows : ℕ) (phases : List Phase) (d : DeskView) (views : List View) (r k : ℕ)
@@ -51,15 +58,25 @@ pub claim_keeps : (rows : ℕ) (phases : List Phase) (d : DeskView) (views : Lis
 claim_keeps rows phases d views r k v f at seat free =
     let v' : BuilderView = with_claim r v in
     let room = at_less views (suc k) (Builder v) seat in
-    builder_moves rows phases d views r opened (held (suc k)) k v v' f at seat refl (open_held (suc k)) (v', set_here views (suc k) (Builder v') room, refl)
+    builder_moves rows phases d views r opened (held (suc k)) k v v' f at seat refl
+    (open_held (suc k)) (v', set_here views (suc k) (Builder v') room, refl)
     (λ q p _ a. free_avoids views (suc k) v q p seat free (f.each_hand q p a))
-    (λ j h known mine apart fits. untouched phases r opened (held (suc k)) (suc j) h known mine at (λ e. omega arith) (λ e. omega arith) fits)
-    (λ known fits. inl (set_here phases r (held (suc k)) (at_less phases r opened at), ap (λ l. l ++ Claim r ∷ []) (free_list phases (suc k) v.hand known v.mine free fits)))
+    (λ j h known mine apart fits.
+    untouched phases r opened (held (suc k)) (suc j) h known mine at (λ e. omega arith)
+    (λ e. omega arith) fits)
+    (λ known fits. inl (
+      set_here phases r (held (suc k)) (at_less phases r opened at),
+      ap (λ l. l ++ Claim r ∷ []) (free_list phases (suc k) v.hand known v.mine free fits),
+    ))
 
 -- the list of a builder whose claim is noted
 noted_list : (phases : List Phase) (b r : ℕ) (h : Hand) (known mine : List Deed) → h ≡ Holding r
     → get_elem? phases r ≡ some (noted b) → ListFits phases b h known mine → mine ≡ known
-noted_list phases b r h known mine e at f = ⊎_elim (λ t. let no : noted b ≡ held b = one_at phases r (noted b) (held b) at t.0 in absurd (cc)) (λ t. t.1) (let t : ListFits phases b (Holding r) known mine = subst (λ x. ListFits phases b x known mine) e f in t)
+noted_list phases b r h known mine e at f =
+    ⊎_elim (λ t. let no : noted b ≡ held b = one_at phases r (noted b) (held b) at t.0 in
+    absurd (cc)) (λ t. t.1)
+    (let t : ListFits phases b (Holding r) known mine =
+    subst (λ x. ListFits phases b x known mine) e f in t)
 
 -- a builder that holds the row r₀ is named by no other row's phase
 holding_avoids : (views : List View) (b : ℕ) (v : BuilderView) (r₀ r : ℕ) (p : Phase)
@@ -67,9 +84,17 @@ holding_avoids : (views : List View) (b : ℕ) (v : BuilderView) (r₀ r : ℕ) 
     → Avoids b p
 holding_avoids views b v r₀ r closed at is ne f = tt
 holding_avoids views b v r₀ r opened at is ne f = tt
-holding_avoids views b v r₀ r (held a) at is ne f = λ e. let h : v.hand ≡ Holding r = same_hand views b v (Holding r) at (subst (λ i. HasHand views i (Holding r)) e f) in ne (ap row_of (sym h ∙ is))
-holding_avoids views b v r₀ r (noted a) at is ne f = λ e. let h : v.hand ≡ Holding r = same_hand views b v (Holding r) at (subst (λ i. HasHand views i (Holding r)) e f) in ne (ap row_of (sym h ∙ is))
-holding_avoids views b v r₀ r (done a c) at is ne f = λ e. let h : v.hand ≡ Finished r c = same_hand views b v (Finished r c) at (subst (λ i. HasHand views i (Finished r c)) e f) in cc
+holding_avoids views b v r₀ r (held a) at is ne f =
+    λ e. let h : v.hand ≡ Holding r =
+    same_hand views b v (Holding r) at (subst (λ i. HasHand views i (Holding r)) e f) in
+    ne (ap row_of (sym h ∙ is))
+holding_avoids views b v r₀ r (noted a) at is ne f =
+    λ e. let h : v.hand ≡ Holding r =
+    same_hand views b v (Holding r) at (subst (λ i. HasHand views i (Holding r)) e f) in
+    ne (ap row_of (sym h ∙ is))
+holding_avoids views b v r₀ r (done a c) at is ne f =
+    λ e. let h : v.hand ≡ Finished r c =
+    same_hand views b v (Finished r c) at (subst (λ i. HasHand views i (Finished r c)) e f) in cc
 
 -- what fits a noted row fits it once it is done
 noted_done : (b : ℕ) (c : OutcomeCode) (x : RowView) → RowFits x (noted b) → RowFits x (done b c)
@@ -87,10 +112,17 @@ pub finish_keeps : (rows : ℕ) (phases : List Phase) (d : DeskView) (views : Li
 finish_keeps rows phases d views r k c v f at seat holds =
     let v' : BuilderView = with_finish r c v in
     let room = at_less views (suc k) (Builder v) seat in
-    builder_moves rows phases d views r (noted (suc k)) (done (suc k) c) k v v' f at seat refl (noted_done (suc k) c) (v', set_here views (suc k) (Builder v') room, refl)
+    builder_moves rows phases d views r (noted (suc k)) (done (suc k) c) k v v' f at seat refl
+    (noted_done (suc k) c) (v', set_here views (suc k) (Builder v') room, refl)
     (λ q p ne a. holding_avoids views (suc k) v r q p seat holds ne (f.each_hand q p a))
-    (λ j h known mine apart fits. untouched phases r (noted (suc k)) (done (suc k) c) (suc j) h known mine at (λ e. apart (omega arith)) (λ e. apart (omega arith)) fits)
-    (λ known fits. inl (set_here phases r (done (suc k) c) (at_less phases r (noted (suc k)) at), ap (λ l. l ++ Finish r c ∷ []) (noted_list phases (suc k) r v.hand known v.mine holds at fits)))
+    (λ j h known mine apart fits.
+    untouched phases r (noted (suc k)) (done (suc k) c) (suc j) h known mine at
+    (λ e. apart (omega arith)) (λ e. apart (omega arith)) fits)
+    (λ known fits. inl (
+      set_here phases r (done (suc k) c) (at_less phases r (noted (suc k)) at),
+      ap (λ l. l ++ Finish r c ∷ [])
+          (noted_list phases (suc k) r v.hand known v.mine holds at fits),
+    ))
 
 -- the outcome of a hand, or built
 abbrev pub outcome_of : Hand → OutcomeCode
@@ -102,7 +134,10 @@ outcome_of (Finished r c) = c
 settled_list : (phases : List Phase) (b r : ℕ) (c : OutcomeCode) (h : Hand) (known mine : List Deed)
     (p : Phase) → h ≡ Finished r c → get_elem? phases r ≡ some p → p ≢ done b c
     → ListFits phases b h known mine → mine ≡ known
-settled_list phases b r c h known mine p e at ne f = ⊎_elim (λ t. absurd (ne (one_at phases r p (done b c) at t.0))) (λ t. t.3) (let t : ListFits phases b (Finished r c) known mine = subst (λ x. ListFits phases b x known mine) e f in t)
+settled_list phases b r c h known mine p e at ne f =
+    ⊎_elim (λ t. absurd (ne (one_at phases r p (done b c) at t.0))) (λ t. t.3)
+    (let t : ListFits phases b (Finished r c) known mine =
+    subst (λ x. ListFits phases b x known mine) e f in t)
 
 -- a builder whose finish is settled is named by no phase
 settled_avoids : (views : List View) (b : ℕ) (v : BuilderView) (r₀ : ℕ) (k : OutcomeCode) (r : ℕ)
@@ -110,9 +145,15 @@ settled_avoids : (views : List View) (b : ℕ) (v : BuilderView) (r₀ : ℕ) (k
     → (r ≡ r₀ → p ≢ done b k) → HandFits views r p → Avoids b p
 settled_avoids views b v r₀ k r closed at is ne f = tt
 settled_avoids views b v r₀ k r opened at is ne f = tt
-settled_avoids views b v r₀ k r (held a) at is ne f = λ e. let h : v.hand ≡ Holding r = same_hand views b v (Holding r) at (subst (λ i. HasHand views i (Holding r)) e f) in cc
-settled_avoids views b v r₀ k r (noted a) at is ne f = λ e. let h : v.hand ≡ Holding r = same_hand views b v (Holding r) at (subst (λ i. HasHand views i (Holding r)) e f) in cc
-settled_avoids views b v r₀ k r (done a c) at is ne f = λ e. let h : v.hand ≡ Finished r c = same_hand views b v (Finished r c) at (subst (λ i. HasHand views i (Finished r c)) e f) in
+settled_avoids views b v r₀ k r (held a) at is ne f =
+    λ e. let h : v.hand ≡ Holding r =
+    same_hand views b v (Holding r) at (subst (λ i. HasHand views i (Holding r)) e f) in cc
+settled_avoids views b v r₀ k r (noted a) at is ne f =
+    λ e. let h : v.hand ≡ Holding r =
+    same_hand views b v (Holding r) at (subst (λ i. HasHand views i (Holding r)) e f) in cc
+settled_avoids views b v r₀ k r (done a c) at is ne f =
+    λ e. let h : v.hand ≡ Finished r c =
+    same_hand views b v (Finished r c) at (subst (λ i. HasHand views i (Finished r c)) e f) in
     let same = sym h ∙ is in ne (ap row_of same) (λ i. done (e i) (ap outcome_of same i))
 
 -- a release that is done
@@ -125,9 +166,12 @@ release_keeps rows phases d views r k c p v f at gone seat holds =
     let v' : BuilderView = with_free_hand v in
     let same : set phases r p ≡ phases = set_again phases r p at in
     let avoids : (q : ℕ) (s : Phase) → get_elem? phases q ≡ some s → Avoids (suc k) s =
-    λ q s a. settled_avoids views (suc k) v r c q s seat holds (λ e no. gone (one_at phases r p s at (subst (λ i. get_elem? phases i ≡ some s) e a) ∙ no)) (f.each_hand q s a) in
+    λ q s a. settled_avoids views (suc k) v r c q s seat holds
+    (λ e no. gone (one_at phases r p s at (subst (λ i. get_elem? phases i ≡ some s) e a) ∙ no))
+    (f.each_hand q s a) in
     subst (λ ps. Fits rows ps d (set views (suc k) (Builder v'))) same
-    (builder_moves rows phases d views r p p k v v' f at seat refl (λ x fits. fits) (hands_after views (suc k) (Builder v') r p (avoids r p at) (f.each_hand r p at))
+    (builder_moves rows phases d views r p p k v v' f at seat refl (λ x fits. fits)
+    (hands_after views (suc k) (Builder v') r p (avoids r p at) (f.each_hand r p at))
     (λ q s _ a. avoids q s a)
     (λ j h known mine apart fits. subst (λ ps. ListFits ps (suc j) h known mine) (sym same) fits)
     (λ known fits. settled_list phases (suc k) r c v.hand known v.mine p holds at gone fits))

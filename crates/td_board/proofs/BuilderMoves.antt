@@ -30,15 +30,22 @@ use Rattle.td_board.proofs.WordLaws.{either_miss}
 -- a claim
 pub claim_allowed : (rows slots id r new : ℕ) (me : SeatState) (v : BuilderView)
     → new ≡ word_of (held v.number) → me ≡ at_builder v → v.hand ≡ Free → r < rows
-    → Allows (Ruled rows) slots id me (r + 1) (λ n. either (eqb n 1) new n) (ClaimTells (step slots (r + 1) 1 new none) me)
+    → Allows (Ruled rows) slots id me (r + 1) (λ n. either (eqb n 1) new n)
+    (ClaimTells (step slots (r + 1) 1 new none) me)
 claim_allowed rows slots id r new me v word is free inside =
-    subst (λ (k : ℕ). Allows (Ruled rows) slots id me (r + 1) (λ n. either (eqb n 1) k n) (ClaimTells (step slots (r + 1) 1 k none) me)) (sym word) (at_word rows slots id r me v is free inside)
+    subst (λ (k : ℕ). Allows (Ruled rows) slots id me (r + 1) (λ n. either (eqb n 1) k n)
+    (ClaimTells (step slots (r + 1) 1 k none) me)) (sym word)
+    (at_word rows slots id r me v is free inside)
   where
     at_word : (rows slots id r : ℕ) (me : SeatState) (v : BuilderView) → me ≡ at_builder v
         → v.hand ≡ Free → r < rows
-        → let new = word_of (held v.number) in Allows (Ruled rows) slots id me (r + 1) (λ n. either (eqb n 1) new n) (ClaimTells (step slots (r + 1) 1 new none) me)
+        → let new = word_of (held v.number) in
+        Allows (Ruled rows) slots id me (r + 1) (λ n. either (eqb n 1) new n)
+        (ClaimTells (step slots (r + 1) 1 new none) me)
     at_word rows slots id r me v is free inside = let new : ℕ = word_of (held v.number) in
-        subst (λ (m : SeatState). Allows (Ruled rows) slots id m (r + 1) (λ n. either (eqb n 1) new n) (ClaimTells (step slots (r + 1) 1 new none) m)) (sym is)
+        subst (λ (m : SeatState).
+        Allows (Ruled rows) slots id m (r + 1) (λ n. either (eqb n 1) new n)
+        (ClaimTells (step slots (r + 1) 1 new none) m)) (sym is)
         (λ s rule _ at _.
         let m : Moment = moment_of rule.phases s.views in
         let stands = rule_stands rows m rule.reached in
@@ -50,24 +57,31 @@ claim_allowed rows slots id r new me v word is free inside =
         let found : n ≡ word_of t.0 = word_at s.words rule.phases r t.0 rule.words_are t.1 in
         dite (ℕ_discrete n 1)
         (λ (won : n ≡ 1).
-        let here : get_elem? rule.phases r ≡ some opened = t.1 ∙ ap some (words_apart t.0 opened (sym found ∙ won)) in
+        let here : get_elem? rule.phases r ≡ some opened =
+        t.1 ∙ ap some (words_apart t.0 opened (sym found ∙ won)) in
         let v' : BuilderView = with_claim r v in (
           Builder v',
           keeps,
           tt,
           record {
             phases = set rule.phases r (held id);
-            words_are = words_set s.words rule.phases r (either (eqb n 1) new n) (held id) rule.words_are (either_hit n 1 new won ∙ ap (λ i. word_of (held i)) number);
+            words_are = words_set s.words rule.phases r (either (eqb n 1) new n)
+                (held id) rule.words_are
+                (either_hit n 1 new won ∙ ap (λ i. word_of (held i)) number);
             reached = steps.after rule.reached (steps.claim_won r id v at free here refl);
           },
-          (λ q e. let same : r ≡ q = omega arith in ((λ _. ap (λ i. at_builder (with_claim i v)) same), (λ lost. absurd (lost won)))),
+          (λ q e. let same : r ≡ q = omega arith in
+              ((λ _. ap (λ i. at_builder (with_claim i v)) same), (λ lost. absurd (lost won)))),
         ))
         (λ (lost : n ≢ 1). (
           Builder v,
           keeps,
           tt,
-          subst (λ k. Ruled rows (stepped s (r + 1) k id [] (Builder v) keeps)) (sym (either_miss n 1 new lost))
-              (ruled_same rows s (r + 1) id (Builder v) rule at (steps.claim_lost r id t.0 v at free t.1 (λ (e : t.0 ≡ opened). lost (found ∙ ap word_of e)) refl)),
+          subst (λ k. Ruled rows (stepped s (r + 1) k id [] (Builder v) keeps))
+              (sym (either_miss n 1 new lost))
+              (ruled_same rows s (r + 1) id (Builder v) rule at
+              (steps.claim_lost r id t.0 v at free t.1
+              (λ (e : t.0 ≡ opened). lost (found ∙ ap word_of e)) refl)),
           (λ q e. ((λ won. absurd (lost won)), (λ _. refl))),
         )))
 
@@ -75,15 +89,23 @@ claim_allowed rows slots id r new me v word is free inside =
 pub finish_allowed : (rows slots id r : ℕ) (c : OutcomeCode) (old new : ℕ) (me : SeatState)
     (v : BuilderView) → old ≡ word_of (noted v.number) → new ≡ word_of (done v.number c)
     → me ≡ at_builder v → v.hand ≡ Holding r → r < rows
-    → Allows (Ruled rows) slots id me (r + 1) (λ n. either (eqb n old) new n) (FinishTells (step slots (r + 1) old new none) me)
+    → Allows (Ruled rows) slots id me (r + 1) (λ n. either (eqb n old) new n)
+    (FinishTells (step slots (r + 1) old new none) me)
 finish_allowed rows slots id r c old new me v word word' is holds inside =
-    subst (λ (k : ℕ × ℕ). Allows (Ruled rows) slots id me (r + 1) (λ n. either (eqb n k.0) k.1 n) (FinishTells (step slots (r + 1) k.0 k.1 none) me)) (λ i. (sym word i, sym word' i)) (at_words rows slots id r c me v is holds inside)
+    subst (λ (k : ℕ × ℕ). Allows (Ruled rows) slots id me (r + 1) (λ n. either (eqb n k.0) k.1 n)
+    (FinishTells (step slots (r + 1) k.0 k.1 none) me)) (λ i. (sym word i, sym word' i))
+    (at_words rows slots id r c me v is holds inside)
   where
     at_words : (rows slots id r : ℕ) (c : OutcomeCode) (me : SeatState) (v : BuilderView)
         → me ≡ at_builder v → v.hand ≡ Holding r → r < rows
-        → let old = word_of (noted v.number) in let new = word_of (done v.number c) in Allows (Ruled rows) slots id me (r + 1) (λ n. either (eqb n old) new n) (FinishTells (step slots (r + 1) old new none) me)
-    at_words rows slots id r c me v is holds inside = let old : ℕ = word_of (noted v.number) in let new : ℕ = word_of (done v.number c) in
-        subst (λ (m : SeatState). Allows (Ruled rows) slots id m (r + 1) (λ n. either (eqb n old) new n) (FinishTells (step slots (r + 1) old new none) m)) (sym is)
+        → let old = word_of (noted v.number) in let new = word_of (done v.number c) in
+        Allows (Ruled rows) slots id me (r + 1) (λ n. either (eqb n old) new n)
+        (FinishTells (step slots (r + 1) old new none) me)
+    at_words rows slots id r c me v is holds inside =
+        let old : ℕ = word_of (noted v.number) in let new : ℕ = word_of (done v.number c) in
+        subst (λ (m : SeatState).
+        Allows (Ruled rows) slots id m (r + 1) (λ n. either (eqb n old) new n)
+        (FinishTells (step slots (r + 1) old new none) m)) (sym is)
         (λ s rule _ at _.
         let m : Moment = moment_of rule.phases s.views in
         let stands = rule_stands rows m rule.reached in
@@ -95,24 +117,34 @@ finish_allowed rows slots id r c old new me v word word' is holds inside =
         let found : n ≡ word_of t.0 = word_at s.words rule.phases r t.0 rule.words_are t.1 in
         dite (ℕ_discrete n old)
         (λ (won : n ≡ old).
-        let here : get_elem? rule.phases r ≡ some (noted id) = t.1 ∙ ap some (words_apart t.0 (noted id) (sym found ∙ (won ∙ ap (λ i. word_of (noted i)) number))) in
+        let here : get_elem? rule.phases r ≡ some (noted id) =
+        t.1 ∙ ap some
+        (words_apart t.0 (noted id) (sym found ∙ (won ∙ ap (λ i. word_of (noted i)) number))) in
         let v' : BuilderView = with_finish r c v in (
           Builder v',
           keeps,
           tt,
           record {
             phases = set rule.phases r (done id c);
-            words_are = words_set s.words rule.phases r (either (eqb n old) new n) (done id c) rule.words_are (either_hit n old new won ∙ ap (λ i. word_of (done i c)) number);
+            words_are = words_set s.words rule.phases r (either (eqb n old) new n)
+                (done id c) rule.words_are
+                (either_hit n old new won ∙ ap (λ i. word_of (done i c)) number);
             reached = steps.after rule.reached (steps.finish_done r id c v at holds here refl);
           },
-          (λ q k e e'. let one : r ≡ q = omega arith in let two = (same_finish v.number v.number c k e').1 in ((λ _ i. at_builder (with_finish (one i) (two i) v)), (λ lost. absurd (lost won)))),
+          (λ q k e e'. let one : r ≡ q = omega arith in
+              let two = (same_finish v.number v.number c k e').1 in
+              ((λ _ i. at_builder (with_finish (one i) (two i) v)), (λ lost. absurd (lost won)))),
         ))
         (λ (lost : n ≢ old). (
           Builder v,
           keeps,
           tt,
-          subst (λ k. Ruled rows (stepped s (r + 1) k id [] (Builder v) keeps)) (sym (either_miss n old new lost))
-              (ruled_same rows s (r + 1) id (Builder v) rule at (steps.finish_early r id t.0 v at holds t.1 (λ (e : t.0 ≡ noted id). lost (found ∙ (ap word_of e ∙ ap (λ i. word_of (noted i)) (sym number)))) refl)),
+          subst (λ k. Ruled rows (stepped s (r + 1) k id [] (Builder v) keeps))
+              (sym (either_miss n old new lost))
+              (ruled_same rows s (r + 1) id (Builder v) rule at
+              (steps.finish_early r id t.0 v at holds t.1
+              (λ (e : t.0 ≡ noted id).
+              lost (found ∙ (ap word_of e ∙ ap (λ i. word_of (noted i)) (sym number)))) refl)),
           (λ q k e e'. ((λ won. absurd (lost won)), (λ _. refl))),
         )))
 
@@ -123,9 +155,12 @@ one_outcome h r q c k e e' = ap outcome_of (sym e ∙ e')
 -- a release
 pub release_allowed : (rows slots id r : ℕ) (c : OutcomeCode) (me : SeatState) (v : BuilderView)
     → me ≡ at_builder v → v.hand ≡ Finished r c → r < rows
-    → Allows (Ruled rows) slots id me (r + 1) (λ n. n) (ReleaseTells (step slots (r + 1) 0 0 none) me)
+    → Allows (Ruled rows) slots id me (r + 1) (λ n. n)
+    (ReleaseTells (step slots (r + 1) 0 0 none) me)
 release_allowed rows slots id r c me v is ended inside =
-    subst (λ (m : SeatState). Allows (Ruled rows) slots id m (r + 1) (λ n. n) (ReleaseTells (step slots (r + 1) 0 0 none) m)) (sym is)
+    subst (λ (m : SeatState).
+    Allows (Ruled rows) slots id m (r + 1) (λ n. n) (ReleaseTells (step slots (r + 1) 0 0 none) m))
+    (sym is)
     (λ s rule _ at _.
     let m : Moment = moment_of rule.phases s.views in
     let stands = rule_stands rows m rule.reached in
@@ -139,12 +174,18 @@ release_allowed rows slots id r c me v is ended inside =
     let same_word : word_of (done id c) ≡ old = ap (λ i. word_of (done i c)) (sym number) in
     dite (ℕ_discrete n old)
     (λ (early : n ≡ old).
-    let here : get_elem? rule.phases r ≡ some (done id c) = t.1 ∙ ap some (words_apart t.0 (done id c) (sym found ∙ (early ∙ sym same_word))) in (
+    let here : get_elem? rule.phases r ≡ some (done id c) =
+    t.1 ∙ ap some (words_apart t.0 (done id c) (sym found ∙ (early ∙ sym same_word))) in (
       Builder v,
       keeps,
       tt,
-      ruled_same rows s (r + 1) id (Builder v) rule at (steps.release_early r id c v at ended here refl),
-      (λ q k e e'. ((λ _. refl), (λ late. absurd (late (early ∙ ap (λ i. word_of (done v.number i)) (one_outcome v.hand r q c k ended e')))))),
+      ruled_same rows s (r + 1) id (Builder v) rule at
+          (steps.release_early r id c v at ended here refl),
+      (λ q k e e'. (
+        (λ _. refl),
+        (λ late. absurd (late
+            (early ∙ ap (λ i. word_of (done v.number i)) (one_outcome v.hand r q c k ended e')))),
+      )),
     ))
     (λ (late : n ≢ old).
     let v' : BuilderView = with_free_hand v in (
@@ -154,7 +195,14 @@ release_allowed rows slots id r c me v is ended inside =
       record {
         phases = rule.phases;
         words_are = set-get_or s.words (r + 1) 0 ∙ rule.words_are;
-        reached = steps.after rule.reached (steps.release_done r id c t.0 v at ended t.1 (λ (e : t.0 ≡ done id c). late (found ∙ (ap word_of e ∙ same_word))) refl);
+        reached = steps.after rule.reached
+            (steps.release_done r id c t.0 v at ended t.1
+            (λ (e : t.0 ≡ done id c). late (found ∙ (ap word_of e ∙ same_word))) refl);
       },
-      (λ q k e e'. ((λ early. absurd (late (early ∙ ap (λ i. word_of (done v.number i)) (sym (one_outcome v.hand r q c k ended e'))))), (λ _. refl))),
+      (λ q k e e'. (
+        (λ early.
+            absurd (late (early ∙ ap (λ i. word_of (done v.number i))
+            (sym (one_outcome v.hand r q c k ended e'))))),
+        (λ _. refl),
+      )),
     )))

@@ -40,7 +40,9 @@ pub at_snoc_or_end : {A : Type 0} (l : List A) (a b : A) (j : ℕ)
 at_snoc_or_end [] a b zero e = inr (refl, some-injective a b e)
 at_snoc_or_end [] a b (suc j) e = absurd (some-ne-none b (sym e))
 at_snoc_or_end (x ∷ xs) a b zero e = inl (omega arith)
-at_snoc_or_end (x ∷ xs) a b (suc j) e = ⊎_elim (λ h. inl (omega arith)) (λ t. let h = t.0 in inr (omega arith, t.1)) (at_snoc_or_end xs a b j e)
+at_snoc_or_end (x ∷ xs) a b (suc j) e =
+    ⊎_elim (λ h. inl (omega arith)) (λ t. let h = t.0 in inr (omega arith, t.1))
+    (at_snoc_or_end xs a b j e)
 
 -- the two ways to read a place
 pub get_or-at : {A : Type 0} (l : List A) (i : ℕ) (a d : A) → get_elem? l i ≡ some a

@@ -33,7 +33,10 @@ use Rattle.td_board.proofs.Schedules.{with_desk, rule_stands}
 named_by_list : (phases : List Phase) (b r : ℕ) (h : Hand) (known mine : List Deed) → h ≡ Holding r
     → ListFits phases b h known mine
     → (p : Phase) × (get_elem? phases r ≡ some p) × (builder_of p ≡ b)
-named_by_list phases b r h known mine e f = ⊎_elim (λ t. (held b, t.0, refl)) (λ t. (noted b, t.0, refl)) (let t : ListFits phases b (Holding r) known mine = subst (λ x. ListFits phases b x known mine) e f in t)
+named_by_list phases b r h known mine e f =
+    ⊎_elim (λ t. (held b, t.0, refl)) (λ t. (noted b, t.0, refl))
+    (let t : ListFits phases b (Holding r) known mine =
+    subst (λ x. ListFits phases b x known mine) e f in t)
 
 -- the same under the rule
 named_as_holder : (rows : ℕ) (phases : List Phase) (d : DeskView) (views : List View) (b r : ℕ)
@@ -42,8 +45,10 @@ named_as_holder : (rows : ℕ) (phases : List Phase) (d : DeskView) (views : Lis
 named_as_holder rows phases d views b r v f at is =
     let seat = builder_seat rows phases d views b v f at in
     let k : ℕ = seat.0 in
-    let old = f.each_builder k (Builder v) (subst (λ i. get_elem? views i ≡ some (Builder v)) seat.1 at) in
-    let t = named_by_list phases (suc k) r old.view.hand old.known old.view.mine (sym (ap (λ (u : BuilderView). u.hand) (same_builder v old.view old.is)) ∙ is) old.listed in
+    let old = f.each_builder k (Builder v)
+    (subst (λ i. get_elem? views i ≡ some (Builder v)) seat.1 at) in
+    let t = named_by_list phases (suc k) r old.view.hand old.known old.view.mine
+    (sym (ap (λ (u : BuilderView). u.hand) (same_builder v old.view old.is)) ∙ is) old.listed in
     (t.0, t.1, t.2 ∙ sym seat.1)
 
 -- two builders that hold a row are both the one that its phase names
@@ -69,48 +74,87 @@ one_row_each rows m reached q r o p at at' named same =
     let f = (rule_stands rows m reached).1 in
     let one = in_hand m.views q o (f.each_hand q o at) (subst (λ n. 0 < n) (sym same) named) in
     let other = in_hand m.views r p (f.each_hand r p at') named in
-    let v = same_builder one.0 other.0 (one_at m.views (builder_of p) (Builder one.0) (Builder other.0) (subst (λ i. get_elem? m.views i ≡ some (Builder one.0)) same one.1) other.1) in
+    let v = same_builder one.0 other.0
+    (one_at m.views (builder_of p) (Builder one.0) (Builder other.0)
+    (subst (λ i. get_elem? m.views i ≡ some (Builder one.0)) same one.1) other.1) in
     sym one.2 ∙ (ap (λ (u : BuilderView). row_of u.hand) v ∙ other.2)
 
 -- the desk's seat is no builder's
 not_first : (m : Moment) (d : DeskView) (b : ℕ) (v : BuilderView) → DeskKnows m d
     → BuilderKnows m b v → b ≢ 0
-not_first m d b v at at' e = not_both d v (one_at m.views 0 (Desk d) (Builder v) at (subst (λ i. get_elem? m.views i ≡ some (Builder v)) e at'))
+not_first m d b v at at' e =
+    not_both d v (one_at m.views 0 (Desk d) (Builder v) at
+    (subst (λ i. get_elem? m.views i ≡ some (Builder v)) e at'))
 
 -- two views of one builder's seat are one
 one_view : (m : Moment) (b i : ℕ) (v u : BuilderView) → BuilderKnows m b v → BuilderKnows m i u
     → b ≡ i → v ≡ u
-one_view m b i v u at at' e = same_builder v u (one_at m.views b (Builder v) (Builder u) at (subst (λ k. get_elem? m.views k ≡ some (Builder u)) (sym e) at'))
+one_view m b i v u at at' e =
+    same_builder v u (one_at m.views b (Builder v) (Builder u) at
+    (subst (λ k. get_elem? m.views k ≡ some (Builder u)) (sym e) at'))
 
 -- builder b, whose seat isn't i, still holds its row
-still : (m n : Moment) (phases : List Phase) (i : ℕ) (w : View) (b r : ℕ) (v : BuilderView) → (let n' : Moment = record { phases = phases; views = set m.views i w } in n ≡ n') → b ≢ i → BuilderKnows m b v → v.hand ≡ Holding r → StillHolds n b r
-still m n phases i w b r v e ne at is = subst (λ x. StillHolds x b r) (sym e) (v, set_else m.views i b w ne ∙ at, is)
+still : (m n : Moment) (phases : List Phase) (i : ℕ) (w : View) (b r : ℕ) (v : BuilderView)
+    → (let n' : Moment = record { phases = phases; views = set m.views i w } in n ≡ n') → b ≢ i
+    → BuilderKnows m b v → v.hand ≡ Holding r → StillHolds n b r
+still m n phases i w b r v e ne at is =
+    subst (λ x. StillHolds x b r) (sym e) (v, set_else m.views i b w ne ∙ at, is)
 
 -- by the kind of step: no other step changes that seat,
 -- and of its own only a finish comes at a hand that holds a row
 pub hold_lasts : HoldLasts
 hold_lasts rows m n reached (seat d at e) b r v here is =
-    inl (subst (λ x. StillHolds x b r) (sym e) (v, at_longer (set m.views 0 (Desk (with_builder d))) (Builder (new_builder (suc (length d.noted))) ∷ []) b (Builder v) (set_else m.views 0 b (Desk (with_builder d)) (not_first m d b v at here) ∙ here), is))
-hold_lasts rows m n reached (offer q d at _ _ e) b r v here is = inl (still m n _ 0 _ b r v e (not_first m d b v at here) here is)
-hold_lasts rows m n reached (withdrawal_won q d at _ _ e) b r v here is = inl (still m n _ 0 _ b r v e (not_first m d b v at here) here is)
-hold_lasts rows m n reached (withdrawal_lost q a d at _ _ e) b r v here is = inl (still m n _ 0 _ b r v e (not_first m d b v at here) here is)
+    inl (subst (λ x. StillHolds x b r) (sym e) (
+      v,
+      at_longer (set m.views 0 (Desk (with_builder d)))
+          (Builder (new_builder (suc (length d.noted))) ∷ []) b (Builder v)
+          (set_else m.views 0 b (Desk (with_builder d)) (not_first m d b v at here) ∙ here),
+      is,
+    ))
+hold_lasts rows m n reached (offer q d at _ _ e) b r v here is =
+    inl (still m n _ 0 _ b r v e (not_first m d b v at here) here is)
+hold_lasts rows m n reached (withdrawal_won q d at _ _ e) b r v here is =
+    inl (still m n _ 0 _ b r v e (not_first m d b v at here) here is)
+hold_lasts rows m n reached (withdrawal_lost q a d at _ _ e) b r v here is =
+    inl (still m n _ 0 _ b r v e (not_first m d b v at here) here is)
 hold_lasts rows m n reached (claim_won q a u at free _ e) b r v here is =
-    inl (still m n _ a _ b r v e (λ h. let same = one_view m b a v u here at h in let no : Holding r ≡ Free = sym is ∙ (ap (λ (u : BuilderView). u.hand) same ∙ free) in cc) here is)
-hold_lasts rows m n reached (claim_lost q a p u at free _ _ e) b r v here is = inl (subst (λ x. StillHolds x b r) (sym e) (v, here, is))
-hold_lasts rows m n reached (note q a d at _ _ e) b r v here is = inl (still m n _ 0 _ b r v e (not_first m d b v at here) here is)
-hold_lasts rows m n reached (finish_done q a c u at holds word e) b r v here is = dite (ℕ_discrete b a)
+    inl (still m n _ a _ b r v e
+    (λ h. let same = one_view m b a v u here at h in
+    let no : Holding r ≡ Free = sym is ∙ (ap (λ (u : BuilderView). u.hand) same ∙ free) in cc) here
+    is)
+hold_lasts rows m n reached (claim_lost q a p u at free _ _ e) b r v here is =
+    inl (subst (λ x. StillHolds x b r) (sym e) (v, here, is))
+hold_lasts rows m n reached (note q a d at _ _ e) b r v here is =
+    inl (still m n _ 0 _ b r v e (not_first m d b v at here) here is)
+hold_lasts rows m n reached (finish_done q a c u at holds word e) b r v here is =
+    dite (ℕ_discrete b a)
     (λ h.
     let same : u ≡ v = sym (one_view m b a v u here at h) in
     let row : q ≡ r = ap row_of (sym holds ∙ (ap (λ (u : BuilderView). u.hand) same ∙ is)) in
-    let phase : get_elem? m.phases r ≡ some (noted b) = subst (λ (z : ℕ × ℕ). get_elem? m.phases z.0 ≡ some (noted z.1)) (λ i. (row i, sym h i)) word in
-    inr (c, phase, e ∙ (λ i. record { phases = set m.phases (row i) (done (sym h i) c); views = set m.views (sym h i) (Builder (with_finish (row i) c (same i))) })))
+    let phase : get_elem? m.phases r ≡ some (noted b) =
+    subst (λ (z : ℕ × ℕ). get_elem? m.phases z.0 ≡ some (noted z.1)) (λ i. (row i, sym h i)) word in
+    inr (
+      c,
+      phase,
+      e ∙ (λ i. record {
+        phases = set m.phases (row i) (done (sym h i) c);
+        views = set m.views (sym h i) (Builder (with_finish (row i) c (same i)));
+      }),
+    ))
     (λ ne. inl (still m n _ a _ b r v e ne here is))
-hold_lasts rows m n reached (finish_early q a p u at _ _ _ e) b r v here is = inl (subst (λ x. StillHolds x b r) (sym e) (v, here, is))
-hold_lasts rows m n reached (settle_done q a c d at _ _ e) b r v here is = inl (still m n _ 0 _ b r v e (not_first m d b v at here) here is)
-hold_lasts rows m n reached (settle_early q a c p d at _ _ _ e) b r v here is = inl (subst (λ x. StillHolds x b r) (sym e) (v, here, is))
+hold_lasts rows m n reached (finish_early q a p u at _ _ _ e) b r v here is =
+    inl (subst (λ x. StillHolds x b r) (sym e) (v, here, is))
+hold_lasts rows m n reached (settle_done q a c d at _ _ e) b r v here is =
+    inl (still m n _ 0 _ b r v e (not_first m d b v at here) here is)
+hold_lasts rows m n reached (settle_early q a c p d at _ _ _ e) b r v here is =
+    inl (subst (λ x. StillHolds x b r) (sym e) (v, here, is))
 hold_lasts rows m n reached (release_done q a c p u at ended _ _ e) b r v here is =
-    inl (still m n _ a _ b r v e (λ h. let same = one_view m b a v u here at h in let no : Holding r ≡ Finished q c = sym is ∙ (ap (λ (u : BuilderView). u.hand) same ∙ ended) in cc) here is)
-hold_lasts rows m n reached (release_early q a c u at _ _ e) b r v here is = inl (subst (λ x. StillHolds x b r) (sym e) (v, here, is))
+    inl (still m n _ a _ b r v e
+    (λ h. let same = one_view m b a v u here at h in
+    let no : Holding r ≡ Finished q c = sym is ∙ (ap (λ (u : BuilderView). u.hand) same ∙ ended) in
+    cc) here is)
+hold_lasts rows m n reached (release_early q a c u at _ _ e) b r v here is =
+    inl (subst (λ x. StillHolds x b r) (sym e) (v, here, is))
 
 -- the noted list, or one deed more
 noted_or_more : (phases : List Phase) (b : ℕ) (h : Hand) (known mine : List Deed)
@@ -129,14 +173,18 @@ nothing_invented rows m reached b d v knows here =
     let k : ℕ = seat.0 in
     let named : b ≡ suc k = seat.1 in
     let place : k ≡ b - 1 = omega arith in
-    let old = f.each_builder k (Builder v) (subst (λ i. get_elem? m.views i ≡ some (Builder v)) named here) in
+    let old = f.each_builder k (Builder v)
+    (subst (λ i. get_elem? m.views i ≡ some (Builder v)) named here) in
     let is : old.view ≡ v = sym (same_builder v old.view old.is) in
-    let known : old.known ≡ noted_of d b = sym (list_at-at d.noted k old.known old.at) ∙ ap (list_at d.noted) place in
+    let known : old.known ≡ noted_of d b =
+    sym (list_at-at d.noted k old.known old.at) ∙ ap (list_at d.noted) place in
     let listed = at_less d.noted k old.known old.at in (
       seat.2 ∙ sym named,
       omega arith,
       omega arith,
-      subst (λ (z : List Deed × BuilderView). (z.1.mine ≡ z.0) ⊎ ((e : Deed) × (z.1.mine ≡ z.0 ++ e ∷ []))) (λ i. (known i, is i)) (noted_or_more m.phases (suc k) old.view.hand old.known old.view.mine old.listed),
+      subst (λ (z : List Deed × BuilderView).
+          (z.1.mine ≡ z.0) ⊎ ((e : Deed) × (z.1.mine ≡ z.0 ++ e ∷ []))) (λ i. (known i, is i))
+          (noted_or_more m.phases (suc k) old.view.hand old.known old.view.mine old.listed),
     )
 
 -- a list begins with itself
@@ -164,38 +212,66 @@ abbrev GoesOn : Moment → ℕ → BuilderView → Type 0
 GoesOn n b v = (w : BuilderView) × BuilderKnows n b w × (w.number ≡ v.number) × Begins w.mine v.mine
 
 -- another seat's step
-goes_on : (m n : Moment) (phases : List Phase) (i : ℕ) (w : View) (b : ℕ) (v : BuilderView) → (let n' : Moment = record { phases = phases; views = set m.views i w } in n ≡ n') → b ≢ i → BuilderKnows m b v → GoesOn n b v
-goes_on m n phases i w b v e ne at = subst (λ x. GoesOn x b v) (sym e) (v, set_else m.views i b w ne ∙ at, refl, same_list v.mine)
+goes_on : (m n : Moment) (phases : List Phase) (i : ℕ) (w : View) (b : ℕ) (v : BuilderView)
+    → (let n' : Moment = record { phases = phases; views = set m.views i w } in n ≡ n') → b ≢ i
+    → BuilderKnows m b v → GoesOn n b v
+goes_on m n phases i w b v e ne at =
+    subst (λ x. GoesOn x b v) (sym e) (v, set_else m.views i b w ne ∙ at, refl, same_list v.mine)
 
 -- a step that changes nothing
 goes_on_same : (m n : Moment) (b : ℕ) (v : BuilderView) → n ≡ m → BuilderKnows m b v → GoesOn n b v
 goes_on_same m n b v e at = subst (λ x. GoesOn x b v) (sym e) (v, at, refl, same_list v.mine)
 
 -- its own step, or another builder's, which goes on from u to u'
-goes_on_own : (m n : Moment) (phases : List Phase) (a : ℕ) (u u' : BuilderView) (b : ℕ) (v : BuilderView) → (let n' : Moment = record { phases = phases; views = set m.views a (Builder u') } in n ≡ n') → BuilderKnows m a u → u'.number ≡ u.number → Begins u'.mine u.mine → BuilderKnows m b v → GoesOn n b v
+goes_on_own : (m n : Moment) (phases : List Phase) (a : ℕ) (u u' : BuilderView) (b : ℕ)
+    (v : BuilderView) → (let n' : Moment =
+    record { phases = phases; views = set m.views a (Builder u') } in n ≡ n') → BuilderKnows m a u
+    → u'.number ≡ u.number → Begins u'.mine u.mine → BuilderKnows m b v → GoesOn n b v
 goes_on_own m n phases a u u' b v e knows number more at = dite (ℕ_discrete b a)
     (λ h.
     let same : u ≡ v = sym (one_view m b a v u at knows h) in
-    let now : get_elem? (set m.views a (Builder u')) b ≡ some (Builder u') = ap (get_elem? (set m.views a (Builder u'))) h ∙ set_here m.views a (Builder u') (at_less m.views a (Builder u) knows) in
-    subst (λ x. GoesOn x b v) (sym e) (u', now, number ∙ ap (λ (x : BuilderView). x.number) same, subst (λ (x : BuilderView). Begins u'.mine x.mine) same more))
+    let now : get_elem? (set m.views a (Builder u')) b ≡ some (Builder u') =
+    ap (get_elem? (set m.views a (Builder u'))) h
+    ∙ set_here m.views a (Builder u') (at_less m.views a (Builder u) knows) in
+    subst (λ x. GoesOn x b v) (sym e) (
+      u',
+      now,
+      number ∙ ap (λ (x : BuilderView). x.number) same,
+      subst (λ (x : BuilderView). Begins u'.mine x.mine) same more,
+    ))
     (λ ne. goes_on m n phases a (Builder u') b v e ne at)
 
 -- each kind of step, for a builder
 builder_goes_on : (m n : Moment) → Step m n → (b : ℕ) (v : BuilderView) → BuilderKnows m b v
     → GoesOn n b v
 builder_goes_on m n (seat d at e) b v here =
-    subst (λ x. GoesOn x b v) (sym e) (v, at_longer (set m.views 0 (Desk (with_builder d))) (Builder (new_builder (suc (length d.noted))) ∷ []) b (Builder v) (set_else m.views 0 b (Desk (with_builder d)) (not_first m d b v at here) ∙ here), refl, same_list v.mine)
-builder_goes_on m n (offer q d at _ _ e) b v here = goes_on m n _ 0 _ b v e (not_first m d b v at here) here
-builder_goes_on m n (withdrawal_won q d at _ _ e) b v here = goes_on m n _ 0 _ b v e (not_first m d b v at here) here
-builder_goes_on m n (withdrawal_lost q a d at _ _ e) b v here = goes_on m n _ 0 _ b v e (not_first m d b v at here) here
-builder_goes_on m n (claim_won q a u at _ _ e) b v here = goes_on_own m n _ a u (with_claim q u) b v e at refl (Claim q ∷ [], refl) here
+    subst (λ x. GoesOn x b v) (sym e) (
+      v,
+      at_longer (set m.views 0 (Desk (with_builder d)))
+          (Builder (new_builder (suc (length d.noted))) ∷ []) b (Builder v)
+          (set_else m.views 0 b (Desk (with_builder d)) (not_first m d b v at here) ∙ here),
+      refl,
+      same_list v.mine,
+    )
+builder_goes_on m n (offer q d at _ _ e) b v here =
+    goes_on m n _ 0 _ b v e (not_first m d b v at here) here
+builder_goes_on m n (withdrawal_won q d at _ _ e) b v here =
+    goes_on m n _ 0 _ b v e (not_first m d b v at here) here
+builder_goes_on m n (withdrawal_lost q a d at _ _ e) b v here =
+    goes_on m n _ 0 _ b v e (not_first m d b v at here) here
+builder_goes_on m n (claim_won q a u at _ _ e) b v here =
+    goes_on_own m n _ a u (with_claim q u) b v e at refl (Claim q ∷ [], refl) here
 builder_goes_on m n (claim_lost q a p u at _ _ _ e) b v here = goes_on_same m n b v e here
-builder_goes_on m n (note q a d at _ _ e) b v here = goes_on m n _ 0 _ b v e (not_first m d b v at here) here
-builder_goes_on m n (finish_done q a c u at _ _ e) b v here = goes_on_own m n _ a u (with_finish q c u) b v e at refl (Finish q c ∷ [], refl) here
+builder_goes_on m n (note q a d at _ _ e) b v here =
+    goes_on m n _ 0 _ b v e (not_first m d b v at here) here
+builder_goes_on m n (finish_done q a c u at _ _ e) b v here =
+    goes_on_own m n _ a u (with_finish q c u) b v e at refl (Finish q c ∷ [], refl) here
 builder_goes_on m n (finish_early q a p u at _ _ _ e) b v here = goes_on_same m n b v e here
-builder_goes_on m n (settle_done q a c d at _ _ e) b v here = goes_on m n _ 0 _ b v e (not_first m d b v at here) here
+builder_goes_on m n (settle_done q a c d at _ _ e) b v here =
+    goes_on m n _ 0 _ b v e (not_first m d b v at here) here
 builder_goes_on m n (settle_early q a c p d at _ _ _ e) b v here = goes_on_same m n b v e here
-builder_goes_on m n (release_done q a c p u at _ _ _ e) b v here = goes_on_own m n _ a u (with_free_hand u) b v e at refl (same_list u.mine) here
+builder_goes_on m n (release_done q a c p u at _ _ _ e) b v here =
+    goes_on_own m n _ a u (with_free_hand u) b v e at refl (same_list u.mine) here
 builder_goes_on m n (release_early q a c u at _ _ e) b v here = goes_on_same m n b v e here
 
 -- the desk goes on from d
@@ -203,39 +279,67 @@ abbrev DeskGoesOn : Moment → DeskView → Type 0
 DeskGoesOn n d = (e : DeskView) × DeskKnows n e × ((b : ℕ) → Begins (noted_of e b) (noted_of d b))
 
 -- its own step, which goes on from u to u'
-desk_goes_on_own : (m n : Moment) (phases : List Phase) (u u' d : DeskView) → (let n' : Moment = record { phases = phases; views = set m.views 0 (Desk u') } in n ≡ n') → DeskKnows m u → DeskKnows m d → ((b : ℕ) → Begins (noted_of u' b) (noted_of u b)) → DeskGoesOn n d
-desk_goes_on_own m n phases u u' d e knows at more = subst (λ x. DeskGoesOn x d) (sym e)
-    (u', set_here m.views 0 (Desk u') (at_less m.views 0 (Desk u) knows), (λ b. subst (λ (x : DeskView). Begins (noted_of u' b) (noted_of x b)) (same_desk_at m u d knows at) (more b)))
+desk_goes_on_own : (m n : Moment) (phases : List Phase) (u u' d : DeskView)
+    → (let n' : Moment = record { phases = phases; views = set m.views 0 (Desk u') } in n ≡ n')
+    → DeskKnows m u → DeskKnows m d → ((b : ℕ) → Begins (noted_of u' b) (noted_of u b))
+    → DeskGoesOn n d
+desk_goes_on_own m n phases u u' d e knows at more = subst (λ x. DeskGoesOn x d) (sym e) (
+  u',
+  set_here m.views 0 (Desk u') (at_less m.views 0 (Desk u) knows),
+  (λ b. subst (λ (x : DeskView). Begins (noted_of u' b) (noted_of x b))
+      (same_desk_at m u d knows at) (more b)),
+)
   where
     same_desk_at : (m : Moment) (u d : DeskView) → DeskKnows m u → DeskKnows m d → u ≡ d
     same_desk_at m u d knows at = same_desk u d (one_at m.views 0 (Desk u) (Desk d) knows at)
 
 -- a builder's step
-desk_goes_on : (m n : Moment) (phases : List Phase) (a : ℕ) (u : BuilderView) (w : View) (d : DeskView) → (let n' : Moment = record { phases = phases; views = set m.views a w } in n ≡ n') → BuilderKnows m a u → DeskKnows m d → DeskGoesOn n d
-desk_goes_on m n phases a u w d e knows at = subst (λ x. DeskGoesOn x d) (sym e) (d, set_else m.views a 0 w (λ h. not_first m d a u at knows (sym h)) ∙ at, (λ b. same_list (noted_of d b)))
+desk_goes_on : (m n : Moment) (phases : List Phase) (a : ℕ) (u : BuilderView) (w : View)
+    (d : DeskView) → (let n' : Moment = record { phases = phases; views = set m.views a w } in
+    n ≡ n') → BuilderKnows m a u → DeskKnows m d → DeskGoesOn n d
+desk_goes_on m n phases a u w d e knows at =
+    subst (λ x. DeskGoesOn x d) (sym e) (
+      d,
+      set_else m.views a 0 w (λ h. not_first m d a u at knows (sym h)) ∙ at,
+      (λ b. same_list (noted_of d b)),
+    )
 
 -- a step that changes nothing
 desk_goes_on_same : (m n : Moment) (d : DeskView) → n ≡ m → DeskKnows m d → DeskGoesOn n d
-desk_goes_on_same m n d e at = subst (λ x. DeskGoesOn x d) (sym e) (d, at, (λ b. same_list (noted_of d b)))
+desk_goes_on_same m n d e at =
+    subst (λ x. DeskGoesOn x d) (sym e) (d, at, (λ b. same_list (noted_of d b)))
 
 -- each kind of step, for the desk
 desk_goes_on_from : (m n : Moment) → Step m n → (d : DeskView) → DeskKnows m d → DeskGoesOn n d
 desk_goes_on_from m n (seat u knows e) d at =
     let u' : DeskView = with_builder u in
     let same : u ≡ d = same_desk u d (one_at m.views 0 (Desk u) (Desk d) knows at) in
-    subst (λ x. DeskGoesOn x d) (sym e)
-    (u', at_longer (set m.views 0 (Desk u')) (Builder (new_builder (suc (length u.noted))) ∷ []) 0 (Desk u') (set_here m.views 0 (Desk u') (at_less m.views 0 (Desk u) knows)), (λ b. subst (λ (x : DeskView). Begins (noted_of u' b) (noted_of x b)) same (list_at-snoc u.noted (b - 1))))
-desk_goes_on_from m n (offer q u knows _ _ e) d at = desk_goes_on_own m n _ u (with_row q Out u) d e knows at (λ b. same_list (noted_of u b))
-desk_goes_on_from m n (withdrawal_won q u knows _ _ e) d at = desk_goes_on_own m n _ u (with_row q In u) d e knows at (λ b. same_list (noted_of u b))
-desk_goes_on_from m n (withdrawal_lost q a u knows _ _ e) d at = desk_goes_on_own m n _ u (with_row q (Seen a) u) d e knows at (λ b. same_list (noted_of u b))
+    subst (λ x. DeskGoesOn x d) (sym e) (
+      u',
+      at_longer (set m.views 0 (Desk u')) (Builder (new_builder (suc (length u.noted))) ∷ []) 0
+          (Desk u') (set_here m.views 0 (Desk u') (at_less m.views 0 (Desk u) knows)),
+      (λ b. subst (λ (x : DeskView). Begins (noted_of u' b) (noted_of x b)) same
+          (list_at-snoc u.noted (b - 1))),
+    )
+desk_goes_on_from m n (offer q u knows _ _ e) d at =
+    desk_goes_on_own m n _ u (with_row q Out u) d e knows at (λ b. same_list (noted_of u b))
+desk_goes_on_from m n (withdrawal_won q u knows _ _ e) d at =
+    desk_goes_on_own m n _ u (with_row q In u) d e knows at (λ b. same_list (noted_of u b))
+desk_goes_on_from m n (withdrawal_lost q a u knows _ _ e) d at =
+    desk_goes_on_own m n _ u (with_row q (Seen a) u) d e knows at (λ b. same_list (noted_of u b))
 desk_goes_on_from m n (claim_won q a u knows _ _ e) d at = desk_goes_on m n _ a u _ d e knows at
 desk_goes_on_from m n (claim_lost q a p u _ _ _ _ e) d at = desk_goes_on_same m n d e at
-desk_goes_on_from m n (note q a u knows _ _ e) d at = desk_goes_on_own m n _ u (with_deed a (Claim q) (with_row q (Known a) u)) d e knows at (λ b. list_at-longer u.noted (a - 1) (b - 1) (Claim q))
+desk_goes_on_from m n (note q a u knows _ _ e) d at =
+    desk_goes_on_own m n _ u (with_deed a (Claim q) (with_row q (Known a) u)) d e knows at (λ b.
+    list_at-longer u.noted (a - 1) (b - 1) (Claim q))
 desk_goes_on_from m n (finish_done q a c u knows _ _ e) d at = desk_goes_on m n _ a u _ d e knows at
 desk_goes_on_from m n (finish_early q a p u _ _ _ _ e) d at = desk_goes_on_same m n d e at
-desk_goes_on_from m n (settle_done q a c u knows _ _ e) d at = desk_goes_on_own m n _ u (with_deed a (Finish q c) (with_row q In u)) d e knows at (λ b. list_at-longer u.noted (a - 1) (b - 1) (Finish q c))
+desk_goes_on_from m n (settle_done q a c u knows _ _ e) d at =
+    desk_goes_on_own m n _ u (with_deed a (Finish q c) (with_row q In u)) d e knows at (λ b.
+    list_at-longer u.noted (a - 1) (b - 1) (Finish q c))
 desk_goes_on_from m n (settle_early q a c p u _ _ _ _ e) d at = desk_goes_on_same m n d e at
-desk_goes_on_from m n (release_done q a c p u knows _ _ _ e) d at = desk_goes_on m n _ a u _ d e knows at
+desk_goes_on_from m n (release_done q a c p u knows _ _ _ e) d at =
+    desk_goes_on m n _ a u _ d e knows at
 desk_goes_on_from m n (release_early q a c u _ _ _ e) d at = desk_goes_on_same m n d e at
 
 -- both

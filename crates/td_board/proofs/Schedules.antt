@@ -27,34 +27,69 @@ Stands rows m = (d : DeskView) × Fits rows m.phases d m.views
 -- with what the desk knows
 pub with_desk : (rows : ℕ) (m : Moment) (d : DeskView) → Stands rows m → DeskKnows m d
     → Fits rows m.phases d m.views
-with_desk rows m d t at = subst (λ x. Fits rows m.phases x m.views) (desk_seat rows m.phases t.0 m.views 0 d t.1 at).1 t.1
+with_desk rows m d t at =
+    subst (λ x. Fits rows m.phases x m.views) (desk_seat rows m.phases t.0 m.views 0 d t.1 at).1 t.1
 
 -- each kind of step
 stands_after : (rows : ℕ) (m n : Moment) → Stands rows m → Step m n → Stands rows n
-stands_after rows m n t (seat d at e) = subst (Stands rows) (sym e) (with_builder d, seat_keeps rows m.phases d m.views (with_desk rows m d t at))
-stands_after rows m n t (offer r d at _ is e) = subst (Stands rows) (sym e) (with_row r Out d, offer_keeps rows m.phases d m.views r (with_desk rows m d t at) is)
-stands_after rows m n t (withdrawal_won r d at _ is e) = subst (Stands rows) (sym e) (with_row r In d, withdrawal_keeps rows m.phases d m.views r (with_desk rows m d t at) is)
-stands_after rows m n t (withdrawal_lost r b d at _ is e) = subst (Stands rows) (sym e) (with_row r (Seen b) d, sight_keeps rows m.phases d m.views r b (with_desk rows m d t at) is)
+stands_after rows m n t (seat d at e) =
+    subst (Stands rows) (sym e)
+    (with_builder d, seat_keeps rows m.phases d m.views (with_desk rows m d t at))
+stands_after rows m n t (offer r d at _ is e) =
+    subst (Stands rows) (sym e)
+    (with_row r Out d, offer_keeps rows m.phases d m.views r (with_desk rows m d t at) is)
+stands_after rows m n t (withdrawal_won r d at _ is e) =
+    subst (Stands rows) (sym e)
+    (with_row r In d, withdrawal_keeps rows m.phases d m.views r (with_desk rows m d t at) is)
+stands_after rows m n t (withdrawal_lost r b d at _ is e) =
+    subst (Stands rows) (sym e)
+    (with_row r (Seen b) d, sight_keeps rows m.phases d m.views r b (with_desk rows m d t at) is)
 stands_after rows m n t (claim_won r b v at free is e) =
     let k = builder_seat rows m.phases t.0 m.views b v t.1 at in
-    let law = claim_keeps rows m.phases t.0 m.views r k.0 v t.1 is (subst (λ i. get_elem? m.views i ≡ some (Builder v)) k.1 at) free in
-    subst (Stands rows) (sym e) (t.0, subst (λ i. Fits rows (set m.phases r (held i)) t.0 (set m.views i (Builder (with_claim r v)))) (sym k.1) law)
+    let law = claim_keeps rows m.phases t.0 m.views r k.0 v t.1 is
+    (subst (λ i. get_elem? m.views i ≡ some (Builder v)) k.1 at) free in
+    subst (Stands rows) (sym e) (
+      t.0,
+      subst (λ i. Fits rows (set m.phases r (held i)) t.0
+          (set m.views i (Builder (with_claim r v)))) (sym k.1) law,
+    )
 stands_after rows m n t (claim_lost r b p v at free is ne e) = subst (Stands rows) (sym e) t
-stands_after rows m n t (note r b d at _ is e) = subst (Stands rows) (sym e) (with_deed b (Claim r) (with_row r (Known b) d), note_keeps rows m.phases d m.views r b (with_desk rows m d t at) is)
+stands_after rows m n t (note r b d at _ is e) =
+    subst (Stands rows) (sym e) (
+      with_deed b (Claim r) (with_row r (Known b) d),
+      note_keeps rows m.phases d m.views r b (with_desk rows m d t at) is,
+    )
 stands_after rows m n t (finish_done r b c v at holds is e) =
     let k = builder_seat rows m.phases t.0 m.views b v t.1 at in
-    let law = finish_keeps rows m.phases t.0 m.views r k.0 c v t.1 (is ∙ ap (λ i. some (noted i)) k.1) (subst (λ i. get_elem? m.views i ≡ some (Builder v)) k.1 at) holds in
-    subst (Stands rows) (sym e) (t.0, subst (λ i. Fits rows (set m.phases r (done i c)) t.0 (set m.views i (Builder (with_finish r c v)))) (sym k.1) law)
+    let law = finish_keeps rows m.phases t.0 m.views r k.0 c v t.1
+    (is ∙ ap (λ i. some (noted i)) k.1) (subst (λ i. get_elem? m.views i ≡ some (Builder v)) k.1 at)
+    holds in
+    subst (Stands rows) (sym e) (
+      t.0,
+      subst (λ i. Fits rows (set m.phases r (done i c)) t.0
+          (set m.views i (Builder (with_finish r c v)))) (sym k.1) law,
+    )
 stands_after rows m n t (finish_early r b p v at holds is ne e) = subst (Stands rows) (sym e) t
-stands_after rows m n t (settle_done r b c d at _ is e) = subst (Stands rows) (sym e) (with_deed b (Finish r c) (with_row r In d), settling_keeps rows m.phases d m.views r b c (with_desk rows m d t at) is)
+stands_after rows m n t (settle_done r b c d at _ is e) =
+    subst (Stands rows) (sym e) (
+      with_deed b (Finish r c) (with_row r In d),
+      settling_keeps rows m.phases d m.views r b c (with_desk rows m d t at) is,
+    )
 stands_after rows m n t (settle_early r b c p d at _ is ne e) = subst (Stands rows) (sym e) t
 stands_after rows m n t (release_done r b c p v at ended is ne e) =
     let k = builder_seat rows m.phases t.0 m.views b v t.1 at in
-    let law = release_keeps rows m.phases t.0 m.views r k.0 c p v t.1 is (λ no. ne (no ∙ ap (λ i. done i c) (sym k.1))) (subst (λ i. get_elem? m.views i ≡ some (Builder v)) k.1 at) ended in
-    subst (Stands rows) (sym e) (t.0, subst (λ i. Fits rows m.phases t.0 (set m.views i (Builder (with_free_hand v)))) (sym k.1) law)
+    let law = release_keeps rows m.phases t.0 m.views r k.0 c p v t.1 is
+    (λ no. ne (no ∙ ap (λ i. done i c) (sym k.1)))
+    (subst (λ i. get_elem? m.views i ≡ some (Builder v)) k.1 at) ended in
+    subst (Stands rows) (sym e) (
+      t.0,
+      subst (λ i. Fits rows m.phases t.0 (set m.views i (Builder (with_free_hand v))))
+          (sym k.1) law,
+    )
 stands_after rows m n t (release_early r b c v at ended is e) = subst (Stands rows) (sym e) t
 
 -- by induction on the schedule
 pub rule_stands : RuleStands
 rule_stands rows m made = (new_desk rows 0, make_keeps rows)
-rule_stands rows n (after {m} reached step) = stands_after rows m n (rule_stands rows m reached) step
+rule_stands rows n (after {m} reached step) =
+    stands_after rows m n (rule_stands rows m reached) step

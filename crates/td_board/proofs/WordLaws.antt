@@ -67,7 +67,8 @@ words_apart (done a c) (held b) e = let low = code_of-small c in absurd (omega a
 words_apart (done a c) (noted b) e = let low = code_of-small c in absurd (omega arith)
 words_apart (done a c) (done b k) e =
     let low = code_of-small c in let low' = code_of-small k in
-    let h : a ≡ b = omega arith in let j : code_of c ≡ code_of k = omega arith in let same = same_code c k j in λ i. done (h i) (same i)
+    let h : a ≡ b = omega arith in let j : code_of c ≡ code_of k = omega arith in
+    let same = same_code c k j in λ i. done (h i) (same i)
 
 -- the outcome of a phase, or built
 abbrev outcome_in : Phase → OutcomeCode
@@ -80,17 +81,24 @@ outcome_in (done b c) = c
 -- two words that show a finish show the same one
 pub same_finish : (a b : ℕ) (c k : OutcomeCode) → word_of (done a c) ≡ word_of (done b k)
     → (a ≡ b) × (c ≡ k)
-same_finish a b c k e = let same = words_apart (done a c) (done b k) e in (ap builder_of same, ap outcome_in same)
+same_finish a b c k e =
+    let same = words_apart (done a c) (done b k) e in (ap builder_of same, ap outcome_in same)
 
 -- the word of a row shows its phase
 pub word_at : (ws : List ℕ) (phases : List Phase) (r : ℕ) (p : Phase) → ws ≡ 0 ∷ map word_of phases
     → get_elem? phases r ≡ some p → get_or ws (r + 1) 0 ≡ word_of p
-word_at ws phases r p e at = ap (λ l. get_or l (r + 1) 0) e ∙ (ap (λ i. get_or (0 ∷ map word_of phases) i 0) (add-one r) ∙ get_or-at (map word_of phases) r (word_of p) 0 (at_map word_of phases r p at))
+word_at ws phases r p e at =
+    ap (λ l. get_or l (r + 1) 0) e
+    ∙ (ap (λ i. get_or (0 ∷ map word_of phases) i 0) (add-one r)
+    ∙ get_or-at (map word_of phases) r (word_of p) 0 (at_map word_of phases r p at))
 
 -- a word is written as the phase changes
 pub words_set : (ws : List ℕ) (phases : List Phase) (r n : ℕ) (p : Phase) → ws
     ≡ 0 ∷ map word_of phases → n ≡ word_of p → set ws (r + 1) n ≡ 0 ∷ map word_of (set phases r p)
-words_set ws phases r n p e is = ap (λ l. set l (r + 1) n) e ∙ (ap (λ i. set (0 ∷ map word_of phases) i n) (add-one r) ∙ ap (λ l. 0 ∷ l) (ap (set (map word_of phases) r) is ∙ sym (map-set word_of phases r p)))
+words_set ws phases r n p e is =
+    ap (λ l. set l (r + 1) n) e
+    ∙ (ap (λ i. set (0 ∷ map word_of phases) i n) (add-one r)
+    ∙ ap (λ l. 0 ∷ l) (ap (set (map word_of phases) r) is ∙ sym (map-set word_of phases r p)))
 
 -- the words of a new board
 pub words_of_closed : (n : ℕ) → map word_of (replicate n closed) ≡ replicate n 0

@@ -1,5 +1,6 @@
 -- What the desk knows after an arrival, and after a sweep.
-use Rattle.std.proofs.Common.{◌≡◌, Bool, true, false, List, [], ◌∷◌, Some, None, if◌then◌else◌, ap, refl, sym, ◌∙◌}
+use Rattle.std.proofs.Common.{◌≡◌, Bool, true, false, List, [], ◌∷◌, Some, None, if◌then◌else◌, ap}
+use Rattle.std.proofs.Common.{refl, sym, ◌∙◌}
 use Rattle.std.specs.Prelude.{Result, Ok, Err, OnOk, OnErr}
 use Rattle.td_rows.specs.declared.key.Key.{Key}
 use Rattle.td_rows.specs.declared.row.Row.{Row}
@@ -15,23 +16,41 @@ use Rattle.td_book.proofs.Seeing.{desks_off, arrive_off, waiting_off}
 use Rattle.td_book.proofs.Steps.{rows_with, up_now}
 
 -- the desk knows as much after an arrival
-pub arrived_view : {A E : Type 0} (a b : InnerModel) (k : Key) (row : Row) (r : Result A E) → ascending (keys_of a.books.history.opening) ≡ true → row_of (rows_of a.books.history) k ≡ Some row → applies Arrive row ≡ true
-    → a.view ≡ seen_off [] (rows_of a.books.history) → OnOk r (b.books.history ≡ with_entry a.books.history (record { kind = Arrive; keys = k ∷ [] })) → OnErr r (b.books.history ≡ a.books.history) → b.view ≡ a.view → b.view ≡ seen_off [] (rows_of b.books.history)
+pub arrived_view : {A E : Type 0} (a b : InnerModel) (k : Key) (row : Row) (r : Result A E)
+    → ascending (keys_of a.books.history.opening) ≡ true
+    → row_of (rows_of a.books.history) k ≡ Some row → applies Arrive row ≡ true
+    → a.view ≡ seen_off [] (rows_of a.books.history)
+    → OnOk r (b.books.history
+    ≡ with_entry a.books.history (record { kind = Arrive; keys = k ∷ [] }))
+    → OnErr r (b.books.history ≡ a.books.history) → b.view ≡ a.view
+    → b.view ≡ seen_off [] (rows_of b.books.history)
 arrived_view a b k row (Ok x) up found fit rest ok err same =
     let t = rows_of a.books.history in
     let fits_all : AppliesOn t Arrive (k ∷ []) = λ q named. whole q (same_key q k) refl named in
-    same ∙ rest ∙ sym (arrive_off (k ∷ []) t (up_now a.books.history up) fits_all) ∙ ap (seen_off []) (sym (rows_with a.books.history (record { kind = Arrive; keys = k ∷ [] }))) ∙ ap (λ (h : History). seen_off [] (rows_of h)) (sym ok)
+    same ∙ rest ∙ sym (arrive_off (k ∷ []) t (up_now a.books.history up) fits_all)
+    ∙ ap (seen_off []) (sym (rows_with a.books.history (record { kind = Arrive; keys = k ∷ [] })))
+    ∙ ap (λ (h : History). seen_off [] (rows_of h)) (sym ok)
   where
-    whole : (q : Key) (v : Bool) → same_key q k ≡ v → (if v then true else false) ≡ true → fits (rows_of a.books.history) Arrive q ≡ true
-    whole q true is h = ap (fits (rows_of a.books.history) Arrive) (same_key-true q k is) ∙ ap (λ x. elim x as (λ _. Bool) [ Some r ↦ applies Arrive r | None ↦ false ]) found ∙ fit
+    whole : (q : Key) (v : Bool) → same_key q k ≡ v → (if v then true else false) ≡ true
+        → fits (rows_of a.books.history) Arrive q ≡ true
+    whole q true is h =
+        ap (fits (rows_of a.books.history) Arrive) (same_key-true q k is)
+        ∙ ap (λ x. elim x as (λ _. Bool) [ Some r ↦ applies Arrive r | None ↦ false ]) found ∙ fit
     whole q false is h = cc
-arrived_view a b k row (Err x) up found fit rest ok err same = same ∙ rest ∙ ap (λ (h : History). seen_off [] (rows_of h)) (sym err)
+arrived_view a b k row (Err x) up found fit rest ok err same =
+    same ∙ rest ∙ ap (λ (h : History). seen_off [] (rows_of h)) (sym err)
 
 -- the rows that a sweep frees aren't offered yet
-pub swept_view : (a b : InnerModel) (keys : List Key) → ascending (keys_of a.books.history.opening) ≡ true → AppliesOn (rows_of a.books.history) Sweep keys → a.view ≡ seen_off [] (rows_of a.books.history)
-    → b.books.history ≡ with_entry a.books.history (record { kind = Sweep; keys = keys }) → b.view ≡ a.view → b.view ≡ seen_off keys (rows_of b.books.history)
+pub swept_view : (a b : InnerModel) (keys : List Key)
+    → ascending (keys_of a.books.history.opening) ≡ true
+    → AppliesOn (rows_of a.books.history) Sweep keys
+    → a.view ≡ seen_off [] (rows_of a.books.history)
+    → b.books.history ≡ with_entry a.books.history (record { kind = Sweep; keys = keys })
+    → b.view ≡ a.view → b.view ≡ seen_off keys (rows_of b.books.history)
 swept_view a b keys up fit rest ok same =
     let t = rows_of a.books.history in
     let rising = up_now a.books.history up in
-    same ∙ rest ∙ waiting_off keys t rising fit ∙ sym (desks_off keys keys Sweep t rising refl fit (λ has k named. named))
-    ∙ ap (seen_off keys) (sym (rows_with a.books.history (record { kind = Sweep; keys = keys }))) ∙ ap (λ (h : History). seen_off keys (rows_of h)) (sym ok)
+    same ∙ rest ∙ waiting_off keys t rising fit
+    ∙ sym (desks_off keys keys Sweep t rising refl fit (λ has k named. named))
+    ∙ ap (seen_off keys) (sym (rows_with a.books.history (record { kind = Sweep; keys = keys })))
+    ∙ ap (λ (h : History). seen_off keys (rows_of h)) (sym ok)

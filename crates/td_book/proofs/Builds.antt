@@ -1,5 +1,7 @@
 -- What the desk does for a builder, over plain values.
-use Rattle.std.proofs.Common.{◌≡◌, IfNone, ℕ, zero, suc, ◌≤◌, ◌==◌, Bool, true, false, ◌&&◌, List, [], ◌∷◌, Option, Some, None, option_map, if◌then◌else◌, slice_get, set, ap, refl, sym, subst, ◌∙◌, arith}
+use Rattle.std.proofs.Common.{◌≡◌, IfNone, ℕ, zero, suc, ◌≤◌, ◌==◌, Bool, true, false, ◌&&◌, List}
+use Rattle.std.proofs.Common.{[], ◌∷◌, Option, Some, None, option_map, if◌then◌else◌, slice_get}
+use Rattle.std.proofs.Common.{set, ap, refl, sym, subst, ◌∙◌, arith}
 use Rattle.td_board.specs.declared.views.RowView.{RowView}
 use Rattle.std.proofs.lemmas.Bool.{eqb-true}
 use mathlib.Core.Option.{some}
@@ -8,7 +10,9 @@ use Rattle.td_board.specs.declared.views.RowView.TheVariants.{In, Known}
 use Rattle.td_rows.specs.declared.key.Key.{Key}
 use Rattle.td_rows.specs.declared.row.Row.{Row}
 use Rattle.td_rows.specs.declared.state.State.{State}
-use Rattle.td_rows.specs.declared.state.State.TheVariants.{NeedsBuild, Building, Built, Uploaded, Installed, DepWait, BdUninstallable, BuildAttempted, Failed, NotForUs}
+use Rattle.td_rows.specs.declared.state.State.TheVariants.{NeedsBuild, Building, Built, Uploaded}
+use Rattle.td_rows.specs.declared.state.State.TheVariants.{Installed, DepWait, BdUninstallable}
+use Rattle.td_rows.specs.declared.state.State.TheVariants.{BuildAttempted, Failed, NotForUs}
 use Rattle.td_rows.specs.declared.kind.Kind.TheVariants.{Claim, Outcome as Ended}
 use Rattle.td_rows.specs.declared.outcome.Outcome.{Outcome}
 use Rattle.td_rows.specs.declared.outcome.Outcome.TheVariants as ends
@@ -30,10 +34,14 @@ use Rattle.td_book.specs.Desk.{InnerModel, BookModel, book_of, Stays, HasRoom, H
 use Rattle.td_book.specs.Calls.{is_lost, noting_one, HasOut, OutAt}
 use Rattle.td_book.specs.Building.{LostTo, Knows, is_built_at, Noticed, IsJobAt}
 use Rattle.td_book.proofs.Seeing.{claimed_off, idle_off, views_at, views-each_row, set_views}
-use Rattle.td_book.proofs.Steps.{rows_with, is_out_at, stays_none, stays_more, stays_fixed, spent_none, key_of}
+use Rattle.td_book.proofs.Steps.{rows_with, is_out_at, stays_none, stays_more, stays_fixed}
+use Rattle.td_book.proofs.Steps.{spent_none, key_of}
 
-pub built_at : (t : Table) (k : Key) (i b : ℕ) (row : Row) → ascending (keys_of t) ≡ true → slice_get t i ≡ Some (k, row) → is_built_at t k b ≡ is_building_by b row.state
-built_at t k i b row up at = ap (λ x. elim x as (λ _. Bool) [ Some r ↦ is_building_by b r.state | None ↦ false ]) (row_of-at t k i row up at)
+pub built_at : (t : Table) (k : Key) (i b : ℕ) (row : Row) → ascending (keys_of t) ≡ true
+    → slice_get t i ≡ Some (k, row) → is_built_at t k b ≡ is_building_by b row.state
+built_at t k i b row up at =
+    ap (λ x. elim x as (λ _. Bool) [ Some r ↦ is_building_by b r.state | None ↦ false ])
+    (row_of-at t k i row up at)
 
 pub queued-unbuilt : (b : ℕ) (s : State) → is_queued s ≡ true → is_building_by b s ≡ false
 queued-unbuilt b NeedsBuild h = refl
@@ -56,71 +64,110 @@ pos_lost zero h = absurd (omega arith)
 pos_lost (suc b) h = refl
 
 -- nothing is noted
-pub knows_none : (b : ℕ) (k : Key) (is : Bool) (m n : InnerModel) → n ≡ m → m.view ≡ seen_off [] (rows_of m.books.history) → is ≡ is_built_at (rows_of m.books.history) k b → Knows b k is m n
+pub knows_none : (b : ℕ) (k : Key) (is : Bool) (m n : InnerModel) → n ≡ m
+    → m.view ≡ seen_off [] (rows_of m.books.history)
+    → is ≡ is_built_at (rows_of m.books.history) k b → Knows b k is m n
 knows_none b k is m n same rest answer = subst (Knows b k is m) (sym same) (record {
   by = 0;
   some_builder = omega arith;
-  history = sym (ap (λ v. if v then with_entry m.books.history (claim_of 0 k) else m.books.history) (and_false (is_queued_at (rows_of m.books.history) k)));
+  history = sym (ap (λ v. if v then with_entry m.books.history (claim_of 0 k) else m.books.history)
+      (and_false (is_queued_at (rows_of m.books.history) k)));
   view = rest;
   stays = stays_none m;
   spent = spent_none (k ∷ []) m.books;
   answers = answer;
 })
 
-row_claimed : (t : Table) (k : Key) (i by : ℕ) (row : Row) → ascending (keys_of t) ≡ true → slice_get t i ≡ Some (k, row) → row_of (applied (Claim by) (k ∷ []) t) k ≡ Some (record row { state = Building by })
+row_claimed : (t : Table) (k : Key) (i by : ℕ) (row : Row) → ascending (keys_of t) ≡ true
+    → slice_get t i ≡ Some (k, row)
+    → row_of (applied (Claim by) (k ∷ []) t) k ≡ Some (record row { state = Building by })
 row_claimed t k i by row up at =
-    row_of-each_row (meant (Claim by) (k ∷ [])) t k ∙ ap (option_map (meant (Claim by) (k ∷ []) k)) (row_of-at t k i row up at)
-    ∙ ap (λ v. Some (if (if v then true else false) then means (Claim by) row else row)) (same_key-refl k)
+    row_of-each_row (meant (Claim by) (k ∷ [])) t k
+    ∙ ap (option_map (meant (Claim by) (k ∷ []) k)) (row_of-at t k i row up at)
+    ∙ ap (λ v. Some (if (if v then true else false) then means (Claim by) row else row))
+    (same_key-refl k)
 
 -- a claim is noted
-pub knows_noted : (by b : ℕ) (k : Key) (i : ℕ) (m n : InnerModel) → LostTo by m n i (k ∷ []) → OutAt (rows_of m.books.history) k i → ascending (keys_of (rows_of m.books.history)) ≡ true → m.view ≡ seen_off [] (rows_of m.books.history) → Knows b k (by == b) m n
+pub knows_noted : (by b : ℕ) (k : Key) (i : ℕ) (m n : InnerModel) → LostTo by m n i (k ∷ [])
+    → OutAt (rows_of m.books.history) k i → ascending (keys_of (rows_of m.books.history)) ≡ true
+    → m.view ≡ seen_off [] (rows_of m.books.history) → Knows b k (by == b) m n
 knows_noted by b k i m n lost out up rest =
     let t = rows_of m.books.history in
     let u = applied (Claim by) (k ∷ []) t in
-    let rows : rows_of n.books.history ≡ u = ap rows_of lost.history ∙ rows_with m.books.history (claim_of by k) in
+    let rows : rows_of n.books.history ≡ u =
+    ap rows_of lost.history ∙ rows_with m.books.history (claim_of by k) in
     let claimed = row_claimed t k i by out.row up out.at in
-    let up_u : ascending (keys_of u) ≡ true = ap ascending (keys_of-each_row (meant (Claim by) (k ∷ [])) t) ∙ up in
-    let queued : (is_queued_at t k && is_lost by) ≡ true = ap (λ v. v && is_lost by) (is_out_at t k i out.row up out.at ∙ out.out) ∙ pos_lost by lost.one in
+    let up_u : ascending (keys_of u) ≡ true =
+    ap ascending (keys_of-each_row (meant (Claim by) (k ∷ [])) t) ∙ up in
+    let queued : (is_queued_at t k && is_lost by) ≡ true =
+    ap (λ v. v && is_lost by) (is_out_at t k i out.row up out.at ∙ out.out)
+    ∙ pos_lost by lost.one in
     record {
       by = by;
       some_builder = lost.some_builder;
-      history = lost.history ∙ sym (ap (λ v. if v then with_entry m.books.history (claim_of by k) else m.books.history) queued);
-      view = lost.view ∙ ap (λ (v : List RowView). set v i (Known by)) rest ∙ claimed_off [] t i k out.row by up out.at
+      history = lost.history
+          ∙ sym (ap (λ v. if v then with_entry m.books.history (claim_of by k) else m.books.history)
+          queued);
+      view =
+          lost.view ∙ ap (λ (v : List RowView). set v i (Known by)) rest
+          ∙ claimed_off [] t i k out.row by up out.at
           ∙ idle_off [] u k up_u (λ row found. same_idle row (sym found ∙ claimed))
           ∙ ap (seen_off []) (sym rows);
       stays = lost.stays;
       spent = lost.spent;
-      answers = sym (ap (λ (x : Table). is_built_at x k b) rows ∙ ap (λ x. elim x as (λ _. Bool) [ Some r ↦ is_building_by b r.state | None ↦ false ]) claimed);
+      answers = sym (ap (λ (x : Table). is_built_at x k b) rows
+          ∙ ap (λ x. elim x as (λ _. Bool) [ Some r ↦ is_building_by b r.state | None ↦ false ])
+          claimed);
     }
   where
-    same_idle : (row : Row) → Some row ≡ Some (record out.row { state = Building by }) → is_queued row.state ≡ false
-    same_idle row h = let is : row ≡ (record out.row { state = Building by }) = cc in ap (λ (r : Row). is_queued r.state) is
+    same_idle : (row : Row) → Some row ≡ Some (record out.row { state = Building by })
+        → is_queued row.state ≡ false
+    same_idle row h =
+        let is : row ≡ (record out.row { state = Building by }) = cc in
+        ap (λ (r : Row). is_queued r.state) is
 
-pub out_of : (t : Table) (i : ℕ) (k : Key) (was : Row) → HasOut t i → slice_get t i ≡ Some (k, was) → OutAt t k i
+pub out_of : (t : Table) (i : ℕ) (k : Key) (was : Row) → HasOut t i → slice_get t i ≡ Some (k, was)
+    → OutAt t k i
 out_of t i k was out at =
     let same = one (out.0, out.1.row) (k, was) (sym out.1.at ∙ at) in
-    record { row = was; at = at; out = ap (λ (p : Key × Row). is_queued p.1.state) (sym same) ∙ out.1.out }
+    record {
+      row = was;
+      at = at;
+      out = ap (λ (p : Key × Row). is_queued p.1.state) (sym same) ∙ out.1.out;
+    }
   where
     one : (a b : Key × Row) → Some a ≡ Some b → a ≡ b
     one a b e = cc
 
 -- ---- the end of a build
 
-pub settled_takes : (p : Planned) (t : Table) (by : ℕ) (ended : Outcome) (k : Key) (i : ℕ) (row : Row) → p ≡ plan_of (Ended by ended) (k ∷ []) t → ascending (keys_of t) ≡ true → slice_get t i ≡ Some (k, row) → is_building_by by row.state ≡ true → takes t p.kind (left p) ≡ k ∷ []
+pub settled_takes : (p : Planned) (t : Table) (by : ℕ) (ended : Outcome) (k : Key) (i : ℕ)
+    (row : Row) → p ≡ plan_of (Ended by ended) (k ∷ []) t → ascending (keys_of t) ≡ true
+    → slice_get t i ≡ Some (k, row) → is_building_by by row.state ≡ true
+    → takes t p.kind (left p) ≡ k ∷ []
 settled_takes p t by ended k i row planned up at built =
     (λ j. takes t (ap (λ (x : Planned). x.kind) planned j) (ap left planned j))
-    ∙ ap (λ v. if v then k ∷ [] else []) (ap (λ x. elim x as (λ _. Bool) [ Some r ↦ applies (Ended by ended) r | None ↦ false ]) (row_of-at t k i row up at) ∙ built)
+    ∙ ap (λ v. if v then k ∷ [] else [])
+    (ap (λ x. elim x as (λ _. Bool) [ Some r ↦ applies (Ended by ended) r | None ↦ false ])
+    (row_of-at t k i row up at) ∙ built)
 
-pub never_none : (P : Type 0) (X : Type 0) (k : Key) (ts : List Key) → ts ≡ k ∷ [] → (r : Option ℕ) → IfNone r ((ts ≡ []) × X) → IfNone r P
+pub never_none : (P : Type 0) (X : Type 0) (k : Key) (ts : List Key) → ts ≡ k ∷ [] → (r : Option ℕ)
+    → IfNone r ((ts ≡ []) × X) → IfNone r P
 never_none P X k ts is None none = absurd (let bad : k ∷ [] ≡ [] = sym is ∙ none.0 in cc)
 never_none P X k ts is (Some n) none = tt
 
 -- ---- a start
 
-pub job_key : (i : ℕ) (b : BookModel) (job : Job) → IsJobAt i b job → slice_get (keys_of b.history.opening) i ≡ Some job.key
-job_key i b job is = ap (λ (ks : List Key). slice_get ks i) (sym (keys_of-rows_of b.history)) ∙ key_of (rows_of b.history) i job.key is.0 is.1
+pub job_key : (i : ℕ) (b : BookModel) (job : Job) → IsJobAt i b job
+    → slice_get (keys_of b.history.opening) i ≡ Some job.key
+job_key i b job is =
+    ap (λ (ks : List Key). slice_get ks i) (sym (keys_of-rows_of b.history))
+    ∙ key_of (rows_of b.history) i job.key is.0 is.1
 
-pub noticed : (i b : ℕ) (k : Key) (is : Bool) (a m n : InnerModel) → Knows b k is m n → m.books.history ≡ a.books.history → Stays a m → slice_get (keys_of a.books.history.opening) i ≡ Some k → Noticed i b is (book_of a) (book_of n)
+pub noticed : (i b : ℕ) (k : Key) (is : Bool) (a m n : InnerModel) → Knows b k is m n
+    → m.books.history ≡ a.books.history → Stays a m
+    → slice_get (keys_of a.books.history.opening) i ≡ Some k
+    → Noticed i b is (book_of a) (book_of n)
 noticed i b k is a m n w same stays at =
     let all = stays_more a m n stays w.stays in
     record {
@@ -135,7 +182,8 @@ noticed i b k is a m n w same stays at =
 
 -- ---- a finish
 
-pub at_key_of : (t : Table) (i : ℕ) (k : Key) → slice_get (keys_of t) i ≡ Some k → (row : Row) × (slice_get t i ≡ Some (k, row))
+pub at_key_of : (t : Table) (i : ℕ) (k : Key) → slice_get (keys_of t) i ≡ Some k
+    → (row : Row) × (slice_get t i ≡ Some (k, row))
 at_key_of [] i k h = absurd (cc)
 at_key_of (p ∷ t) zero k h = (p.1, ap (λ (q : Key). Some (q, p.1)) (one p.0 k h))
   where
@@ -144,14 +192,23 @@ at_key_of (p ∷ t) zero k h = (p.1, ap (λ (q : Key). Some (q, p.1)) (one p.0 k
 at_key_of (p ∷ t) (suc i) k h = at_key_of t i k h
 
 pub one_of_room : (ks : List Key) (b : WatchedView) → HasRoom ks b → HasOne ks b
-one_of_room ks b room = record { spare = let s = room.spare in omega arith; places = λ k named. let p = room.places k named in omega arith }
+one_of_room ks b room =
+    record {
+      spare = let s = room.spare in omega arith;
+      places = λ k named. let p = room.places k named in omega arith;
+    }
 
-noted-opening : (v : Bool) (h : History) (k : Key) (b : ℕ) → (if v then with_entry h (claim_of b k) else h).opening ≡ h.opening
+noted-opening : (v : Bool) (h : History) (k : Key) (b : ℕ)
+    → (if v then with_entry h (claim_of b k) else h).opening ≡ h.opening
 noted-opening true h k b = refl
 noted-opening false h k b = refl
 
-pub noted_keys : (h now : History) (k : Key) (b : ℕ) → now ≡ noting_one h k b → keys_of (rows_of h) ≡ keys_of (rows_of now)
-noted_keys h now k b is = keys_of-rows_of h ∙ ap keys_of (sym (noted-opening (is_queued_at (rows_of h) k && is_lost b) h k b)) ∙ ap (λ (x : History). keys_of x.opening) (sym is) ∙ sym (keys_of-rows_of now)
+pub noted_keys : (h now : History) (k : Key) (b : ℕ) → now ≡ noting_one h k b
+    → keys_of (rows_of h) ≡ keys_of (rows_of now)
+noted_keys h now k b is =
+    keys_of-rows_of h ∙ ap keys_of
+    (sym (noted-opening (is_queued_at (rows_of h) k && is_lost b) h k b))
+    ∙ ap (λ (x : History). keys_of x.opening) (sym is) ∙ sym (keys_of-rows_of now)
 
 known-built : (b : ℕ) (s : State) → is_building_by b s ≡ true → known_as s ≡ Known b
 known-built b NeedsBuild h = cc
@@ -165,8 +222,11 @@ known-built b BuildAttempted h = cc
 known-built b Failed h = cc
 known-built b NotForUs h = cc
 
-pub known_at : (t : Table) (k : Key) (i b : ℕ) (row : Row) → slice_get t i ≡ Some (k, row) → is_building_by b row.state ≡ true → get_elem? (seen_off [] t) i ≡ some (Known b)
-known_at t k i b row at built = views_at (seen_as []) t i k row at ∙ ap (λ (x : RowView). some x) (known-built b row.state built)
+pub known_at : (t : Table) (k : Key) (i b : ℕ) (row : Row) → slice_get t i ≡ Some (k, row)
+    → is_building_by b row.state ≡ true → get_elem? (seen_off [] t) i ≡ some (Known b)
+known_at t k i b row at built =
+    views_at (seen_as []) t i k row at
+    ∙ ap (λ (x : RowView). some x) (known-built b row.state built)
 
 held-ended : (b : ℕ) (o : Outcome) (row : Row) → held_as (means (Ended b o) row).state ≡ In
 held-ended b ends.Built row = refl
@@ -175,10 +235,19 @@ held-ended b ends.GivenBack row = refl
 held-ended b (ends.Waits t) row = refl
 
 -- a build that ended is settled
-pub ended_off : (t : Table) (i : ℕ) (k : Key) (row : Row) (b : ℕ) (o : Outcome) → ascending (keys_of t) ≡ true → slice_get t i ≡ Some (k, row) → set (seen_off [] t) i In ≡ seen_off (k ∷ []) (applied (Ended b o) (k ∷ []) t)
+pub ended_off : (t : Table) (i : ℕ) (k : Key) (row : Row) (b : ℕ) (o : Outcome)
+    → ascending (keys_of t) ≡ true → slice_get t i ≡ Some (k, row)
+    → set (seen_off [] t) i In ≡ seen_off (k ∷ []) (applied (Ended b o) (k ∷ []) t)
 ended_off t i k row b o up at =
     let g : Key → Row → RowView = λ q r. seen_as (k ∷ []) q (meant (Ended b o) (k ∷ []) q r) in
-    let here : g k row ≡ In = ap (λ v. if (if v then true else false) then held_as (if (if v then true else false) then means (Ended b o) row else row).state else known_as (if (if v then true else false) then means (Ended b o) row else row).state) (same_key-refl k) ∙ held-ended b o row in
+    let here : g k row ≡ In =
+    ap (λ v. if (if v then true else false)
+    then held_as (if (if v then true else false) then means (Ended b o) row else row).state
+    else known_as (if (if v then true else false) then means (Ended b o) row else row).state)
+    (same_key-refl k) ∙ held-ended b o row in
     sym (views-each_row (seen_as (k ∷ [])) (meant (Ended b o) (k ∷ [])) t
-    ∙ set_views (seen_as []) g t i k row up at (λ q r apart. sym (ap (λ v. if (if v then true else false) then held_as (if (if v then true else false) then means (Ended b o) r else r).state else known_as (if (if v then true else false) then means (Ended b o) r else r).state) apart))
+    ∙ set_views (seen_as []) g t i k row up at (λ q r apart.
+    sym (ap (λ v. if (if v then true else false)
+    then held_as (if (if v then true else false) then means (Ended b o) r else r).state
+    else known_as (if (if v then true else false) then means (Ended b o) r else r).state) apart))
     ∙ ap (λ (x : RowView). set (seen_off [] t) i x) here)

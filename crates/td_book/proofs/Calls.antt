@@ -1,5 +1,7 @@
 -- The calls of the book over plain values.
-use Rattle.std.proofs.Common.{◌≡◌, ℕ, ◌≤◌, Bool, true, false, ◌&&◌, List, [], ◌∷◌, Option, Some, None, Result, IfSome, filter, if◌then◌else◌, length, ap, refl, sym, subst, ◌∙◌, arith}
+use Rattle.std.proofs.Common.{◌≡◌, ℕ, ◌≤◌, Bool, true, false, ◌&&◌, List, [], ◌∷◌, Option, Some}
+use Rattle.std.proofs.Common.{None, Result, IfSome, filter, if◌then◌else◌, length, ap, refl, sym}
+use Rattle.std.proofs.Common.{subst, ◌∙◌, arith}
 use Rattle.td_board.specs.declared.views.RowView.{RowView}
 use Rattle.td_rows.specs.declared.key.Key.{Key}
 use Rattle.td_rows.specs.declared.kind.Kind.{Kind}
@@ -14,8 +16,11 @@ use Rattle.td_core.specs.History.{History, rows_of, with_entry}
 use Rattle.td_core.specs.Refusals.{is_queued_at}
 use Rattle.td_core.proofs.Phases.{keys_of-rows_of}
 use Rattle.td_book.specs.Watching.{WatchedView}
-use Rattle.td_book.specs.Desk.{InnerModel, BookModel, book_of, fixed_of, Stays, HasRoom, HasOne, claim_of}
-use Rattle.td_book.specs.Calls.{is_lost, noting_one, noting, Choices, Withdrew, off_for, plan_takes, plan_kind, entered, entered_no, IsPlan, IsPlanOf, PlanIsOff, CommandOutcome, IsCommanded, taken_of}
+use Rattle.td_book.specs.Desk.{InnerModel, BookModel, book_of, fixed_of, Stays, HasRoom, HasOne}
+use Rattle.td_book.specs.Desk.{claim_of}
+use Rattle.td_book.specs.Calls.{is_lost, noting_one, noting, Choices, Withdrew, off_for, plan_takes}
+use Rattle.td_book.specs.Calls.{plan_kind, entered, entered_no, IsPlan, IsPlanOf, PlanIsOff}
+use Rattle.td_book.specs.Calls.{CommandOutcome, IsCommanded, taken_of}
 use Rattle.td_book.specs.declared.commanding.CommandRefusal.{CommandRefusal}
 use Rattle.td_book.specs.declared.commanding.Taken.{Taken}
 use Rattle.td_book.specs.declared.skips.Skip.{Skip}
@@ -30,91 +35,164 @@ use Rattle.td_book.proofs.Steps.{stays_more, stays_fixed}
 
 -- ---- 1. the keys that are withdrawn
 
-pub off_within : (kind : Kind) (keys off : List Key) → off ≡ off_for kind keys → (cells kind).state ≡ true → (k : Key) → names keys k ≡ true → names off k ≡ true
-off_within kind keys off is has k named = ap (λ (u : List Key). names u k) (is ∙ ap (λ b. if b then keys else []) has) ∙ named
+pub off_within : (kind : Kind) (keys off : List Key) → off ≡ off_for kind keys
+    → (cells kind).state ≡ true → (k : Key) → names keys k ≡ true → names off k ≡ true
+off_within kind keys off is has k named =
+    ap (λ (u : List Key). names u k) (is ∙ ap (λ b. if b then keys else []) has) ∙ named
 
 pub off_short : (kind : Kind) (keys : List Key) → length (off_for kind keys) ≤ length keys
-off_short kind keys = elim (cells kind).state as (λ b. length (if b then keys else []) ≤ length keys) [ true ↦ omega arith | false ↦ omega arith ]
+off_short kind keys =
+    elim (cells kind).state as (λ b. length (if b then keys else []) ≤ length keys) [
+      | true ↦
+          omega arith
+      | false ↦ omega arith
+    ]
 
-pub room_off : (kind : Kind) (keys off : List Key) (b : WatchedView) → off ≡ off_for kind keys → HasRoom keys b → HasRoom off b
-room_off kind keys off b is room = subst (λ (u : List Key). HasRoom u b) (sym is) (elim (cells kind).state as (λ v. HasRoom (if v then keys else []) b) [
-  | true ↦ room
-  | false ↦ record { spare = let s = room.spare in omega arith; places = λ k named. cc }
-])
+pub room_off : (kind : Kind) (keys off : List Key) (b : WatchedView) → off ≡ off_for kind keys
+    → HasRoom keys b → HasRoom off b
+room_off kind keys off b is room =
+    subst (λ (u : List Key). HasRoom u b) (sym is)
+    (elim (cells kind).state as (λ v. HasRoom (if v then keys else []) b) [
+      | true ↦ room
+      | false ↦ record { spare = let s = room.spare in omega arith; places = λ k named. cc }
+    ])
 
 -- ---- 2. the plan
 
-one_opening : (v : Bool) (h : History) (k : Key) (b : ℕ) → (if v then with_entry h (claim_of b k) else h).opening ≡ h.opening
+one_opening : (v : Bool) (h : History) (k : Key) (b : ℕ)
+    → (if v then with_entry h (claim_of b k) else h).opening ≡ h.opening
 one_opening true h k b = refl
 one_opening false h k b = refl
 
-pub noting-opening : (h : History) (ks : List Key) (bs : List ℕ) → (noting h ks bs).opening ≡ h.opening
+pub noting-opening : (h : History) (ks : List Key) (bs : List ℕ)
+    → (noting h ks bs).opening ≡ h.opening
 noting-opening h [] bs = refl
 noting-opening h (k ∷ ks) [] = refl
-noting-opening h (k ∷ ks) (b ∷ bs) = noting-opening (noting_one h k b) ks bs ∙ one_opening (is_queued_at (rows_of h) k && is_lost b) h k b
+noting-opening h (k ∷ ks) (b ∷ bs) =
+    noting-opening (noting_one h k b) ks bs
+    ∙ one_opening (is_queued_at (rows_of h) k && is_lost b) h k b
 
-pub keys_same : (off : List Key) (h : History) (b w : InnerModel) → b.books.history ≡ h → Withdrew off b w → keys_of (rows_of h) ≡ keys_of (rows_of w.books.history)
+pub keys_same : (off : List Key) (h : History) (b w : InnerModel) → b.books.history ≡ h
+    → Withdrew off b w → keys_of (rows_of h) ≡ keys_of (rows_of w.books.history)
 keys_same off h b w same done =
-    keys_of-rows_of h ∙ ap (λ (x : History). keys_of x.opening) (sym same) ∙ ap keys_of (sym (noting-opening b.books.history off done.choices)) ∙ ap (λ (x : History). keys_of x.opening) (sym done.history) ∙ sym (keys_of-rows_of w.books.history)
+    keys_of-rows_of h ∙ ap (λ (x : History). keys_of x.opening) (sym same)
+    ∙ ap keys_of (sym (noting-opening b.books.history off done.choices))
+    ∙ ap (λ (x : History). keys_of x.opening) (sym done.history)
+    ∙ sym (keys_of-rows_of w.books.history)
 
-pub is_plan_of : (kind : Kind) (matched : List Key) (t u : Table) (plan : Option Planned) → IsPlan kind matched t plan → keys_of t ≡ keys_of u → is_command kind ≡ true → IsPlanOf plan u
+pub is_plan_of : (kind : Kind) (matched : List Key) (t u : Table) (plan : Option Planned)
+    → IsPlan kind matched t plan → keys_of t ≡ keys_of u → is_command kind ≡ true → IsPlanOf plan u
 is_plan_of kind matched t u None is same command = tt
-is_plan_of kind matched t u (Some p) is same command =
-    (plan_of-itself p kind matched u (is ∙ plan_of-same_keys kind matched t u same), ap (λ (x : Planned). is_command x.kind) is ∙ command)
+is_plan_of kind matched t u (Some p) is same command = (
+  plan_of-itself p kind matched u (is ∙ plan_of-same_keys kind matched t u same),
+  ap (λ (x : Planned). is_command x.kind) is ∙ command,
+)
 
-left_is : (kind : Kind) (matched : List Key) (t : Table) (p : Planned) → p ≡ plan_of kind matched t → left p ≡ matched
+left_is : (kind : Kind) (matched : List Key) (t : Table) (p : Planned) → p ≡ plan_of kind matched t
+    → left p ≡ matched
 left_is kind matched t p is = ap left is ∙ left-plan_of kind matched t
 
-pub plan_room : (kind : Kind) (named matched : List Key) (t : Table) (plan : Option Planned) (b : WatchedView) → IsPlan kind matched t plan → ((k : Key) → names matched k ≡ true → names named k ≡ true) → HasOne named b → IfSome plan (λ p. HasOne (left p) b)
+pub plan_room : (kind : Kind) (named matched : List Key) (t : Table) (plan : Option Planned)
+    (b : WatchedView) → IsPlan kind matched t plan
+    → ((k : Key) → names matched k ≡ true → names named k ≡ true) → HasOne named b
+    → IfSome plan (λ p. HasOne (left p) b)
 plan_room kind named matched t None b is among one = tt
-plan_room kind named matched t (Some p) b is among one = record { spare = one.spare; places = λ k h. one.places k (among k (ap (λ (u : List Key). names u k) (sym (left_is kind matched t p is)) ∙ h)) }
+plan_room kind named matched t (Some p) b is among one =
+    record {
+      spare = one.spare;
+      places = λ k h. one.places k
+          (among k (ap (λ (u : List Key). names u k) (sym (left_is kind matched t p is)) ∙ h));
+    }
 
-pub plan_off : (kind : Kind) (named matched off : List Key) (t : Table) (plan : Option Planned) → IsPlan kind matched t plan → ((k : Key) → names matched k ≡ true → names named k ≡ true) → off ≡ off_for kind named → PlanIsOff plan off
+pub plan_off : (kind : Kind) (named matched off : List Key) (t : Table) (plan : Option Planned)
+    → IsPlan kind matched t plan → ((k : Key) → names matched k ≡ true → names named k ≡ true)
+    → off ≡ off_for kind named → PlanIsOff plan off
 plan_off kind named matched off t None is among off_is = tt
 plan_off kind named matched off t (Some p) is among off_is = λ has k h.
-    off_within kind named off off_is (ap (λ (x : Planned). (cells x.kind).state) (sym is) ∙ has) k (among k (ap (λ (u : List Key). names u k) (sym (left_is kind matched t p is)) ∙ h))
+    off_within kind named off off_is (ap (λ (x : Planned). (cells x.kind).state) (sym is) ∙ has) k
+    (among k (ap (λ (u : List Key). names u k) (sym (left_is kind matched t p is)) ∙ h))
 
-takes_is : (kind : Kind) (matched : List Key) (t u : Table) (plan : Option Planned) → IsPlan kind matched t plan → plan_takes u plan ≡ takes u kind matched
+takes_is : (kind : Kind) (matched : List Key) (t u : Table) (plan : Option Planned)
+    → IsPlan kind matched t plan → plan_takes u plan ≡ takes u kind matched
 takes_is kind matched t u None is = ap (takes u kind) (sym is)
-takes_is kind matched t u (Some p) is = λ j. takes u (ap (λ (x : Planned). x.kind) is j) (left_is kind matched t p is j)
+takes_is kind matched t u (Some p) is =
+    λ j. takes u (ap (λ (x : Planned). x.kind) is j) (left_is kind matched t p is j)
 
-entered_is : (kind : Kind) (matched : List Key) (t : Table) (h : History) (plan : Option Planned) → IsPlan kind matched t plan → entered h (plan_kind plan) (plan_takes (rows_of h) plan) ≡ entered h kind (takes (rows_of h) kind matched)
-entered_is kind matched t h None is = ap (λ (u : List Key). entered h kind (takes (rows_of h) kind u)) (sym is)
-entered_is kind matched t h (Some p) is = λ j. entered h (ap (λ (x : Planned). x.kind) is j) (takes_is kind matched t (rows_of h) (Some p) is j)
+entered_is : (kind : Kind) (matched : List Key) (t : Table) (h : History) (plan : Option Planned)
+    → IsPlan kind matched t plan
+    → entered h (plan_kind plan) (plan_takes (rows_of h) plan)
+    ≡ entered h kind (takes (rows_of h) kind matched)
+entered_is kind matched t h None is =
+    ap (λ (u : List Key). entered h kind (takes (rows_of h) kind u)) (sym is)
+entered_is kind matched t h (Some p) is =
+    λ j. entered h (ap (λ (x : Planned). x.kind) is j)
+    (takes_is kind matched t (rows_of h) (Some p) is j)
 
 -- ---- 3. a command
 
-outcome_of : (kind : Kind) (named matched : List Key) (left : Table → List Skip) (old new : BookModel) (choices : List ℕ) → Choices old.fixed.builders (off_for kind named) choices → (ts : List Key) → takes (rows_of (noting old.history (off_for kind named) choices)) kind matched ≡ ts
-    → new.history ≡ entered (noting old.history (off_for kind named) choices) kind ts → (skips : List Skip) → skips ≡ left (rows_of (noting old.history (off_for kind named) choices))
-    → (result : Result Taken CommandRefusal) → result ≡ taken_of (entered_no (noting old.history (off_for kind named) choices) ts) skips → CommandOutcome kind named matched left old new result
-outcome_of kind named matched left old new choices chosen [] eq now skips told result is = subst (CommandOutcome kind named matched left old new) (sym is) (choices, chosen, (eq, now, told))
+outcome_of : (kind : Kind) (named matched : List Key) (left : Table → List Skip)
+    (old new : BookModel) (choices : List ℕ)
+    → Choices old.fixed.builders (off_for kind named) choices → (ts : List Key)
+    → takes (rows_of (noting old.history (off_for kind named) choices)) kind matched ≡ ts
+    → new.history ≡ entered (noting old.history (off_for kind named) choices) kind ts
+    → (skips : List Skip) → skips ≡ left (rows_of (noting old.history (off_for kind named) choices))
+    → (result : Result Taken CommandRefusal)
+    → result ≡ taken_of (entered_no (noting old.history (off_for kind named) choices) ts) skips
+    → CommandOutcome kind named matched left old new result
+outcome_of kind named matched left old new choices chosen [] eq now skips told result is =
+    subst (CommandOutcome kind named matched left old new) (sym is)
+    (choices, chosen, (eq, now, told))
 outcome_of kind named matched left old new choices chosen (k ∷ ks) eq now skips told result is =
     let noted = noting old.history (off_for kind named) choices in
     let taken : takes (rows_of noted) kind matched ≡ [] → ⊥ = λ e. full k ks (sym eq ∙ e) in
-    subst (CommandOutcome kind named matched left old new) (sym is) (choices, chosen, (taken, now ∙ ap (λ (u : List Key). with_entry noted (record { kind = kind; keys = u })) (sym eq), refl, told))
+    subst (CommandOutcome kind named matched left old new) (sym is) (
+      choices,
+      chosen,
+      (
+        taken,
+        now ∙ ap (λ (u : List Key). with_entry noted (record { kind = kind; keys = u })) (sym eq),
+        refl,
+        told,
+      ),
+    )
   where
     full : (q : Key) (qs : List Key) → q ∷ qs ≡ [] → ⊥
     full q qs e = cc
 
 -- room made, rows withdrawn, the entry made, rows offered
-pub commanded : (kind : Kind) (named matched : List Key) (left : Table → List Skip) (a b w d e : InnerModel) (plan : Option Planned) (v : List RowView) (skips : List Skip) (result : Result Taken CommandRefusal)
-    → IsPlan kind matched (rows_of a.books.history) plan → b.books.history ≡ a.books.history → Stays a b → Withdrew (off_for kind named) b w
-    → d.books.history ≡ entered w.books.history (plan_kind plan) (plan_takes (rows_of w.books.history) plan) → Stays w d → e ≡ (record d { view = v })
+pub commanded : (kind : Kind) (named matched : List Key) (left : Table → List Skip)
+    (a b w d e : InnerModel) (plan : Option Planned) (v : List RowView) (skips : List Skip)
+    (result : Result Taken CommandRefusal)
+    → IsPlan kind matched (rows_of a.books.history) plan → b.books.history ≡ a.books.history
+    → Stays a b → Withdrew (off_for kind named) b w
+    → d.books.history ≡ entered w.books.history (plan_kind plan)
+    (plan_takes (rows_of w.books.history) plan) → Stays w d → e ≡ (record d { view = v })
     → skips ≡ left (rows_of w.books.history)
-    → result ≡ taken_of (entered_no w.books.history (plan_takes (rows_of w.books.history) plan)) skips
+    → result
+    ≡ taken_of (entered_no w.books.history (plan_takes (rows_of w.books.history) plan)) skips
     → IsCommanded kind named matched left (book_of a) (book_of e) result
-commanded kind named matched left a b w d e plan v skips result planned same room done made kept offered told is =
+commanded kind named matched left a b w d e plan v skips result planned same room done made kept
+    offered told is =
     let off = off_for kind named in
     let all = stays_more a b d room (stays_more b w d done.stays kept) in
-    let hist : w.books.history ≡ noting a.books.history off done.choices = done.history ∙ ap (λ (h : History). noting h off done.choices) same in
-    let chosen : Choices a.builders off done.choices = subst (λ (n : ℕ). Choices n off done.choices) room.builders done.chosen in
+    let hist : w.books.history ≡ noting a.books.history off done.choices =
+    done.history ∙ ap (λ (h : History). noting h off done.choices) same in
+    let chosen : Choices a.builders off done.choices =
+    subst (λ (n : ℕ). Choices n off done.choices) room.builders done.chosen in
     let books : e.books ≡ d.books = ap (λ (m : InnerModel). m.books) offered in
     record {
       fixed = ap fixed_of offered ∙ stays_fixed a d all;
-      outcome = outcome_of kind named matched left (book_of a) (book_of e) done.choices chosen (takes (rows_of (noting a.books.history off done.choices)) kind matched) refl
-          (ap (λ (x : WatchedView). x.history) books ∙ made ∙ entered_is kind matched (rows_of a.books.history) w.books.history plan planned ∙ ap (λ (h : History). entered h kind (takes (rows_of h) kind matched)) hist)
+      outcome =
+          outcome_of kind named matched left (book_of a) (book_of e) done.choices chosen
+          (takes (rows_of (noting a.books.history off done.choices)) kind matched) refl
+          (ap (λ (x : WatchedView). x.history) books ∙ made
+          ∙ entered_is kind matched (rows_of a.books.history) w.books.history plan planned
+          ∙ ap (λ (h : History). entered h kind (takes (rows_of h) kind matched)) hist)
           skips (told ∙ ap (λ (h : History). left (rows_of h)) hist)
-          result (is ∙ ap (λ (u : List Key). taken_of (entered_no w.books.history u) skips) (takes_is kind matched (rows_of a.books.history) (rows_of w.books.history) plan planned) ∙ ap (λ (h : History). taken_of (entered_no h (takes (rows_of h) kind matched)) skips) hist);
+          result (is ∙ ap (λ (u : List Key). taken_of (entered_no w.books.history u) skips)
+          (takes_is kind matched (rows_of a.books.history) (rows_of w.books.history) plan planned)
+          ∙ ap (λ (h : History). taken_of (entered_no h (takes (rows_of h) kind matched)) skips)
+          hist);
     }
 
 -- ---- 4. a command that is typed
@@ -131,12 +209,17 @@ kinds_command c = by c.verb c.extra c.message
 pub named_rows : (p : Key → Bool) (t : Table) → HaveRows t (filter p (keys_of t))
 named_rows p t k named = is_some-row_of t k ∙ names-filter p (keys_of t) k named
 
-pub off_short_is : (kind : Kind) (keys off : List Key) → off ≡ off_for kind keys → length off ≤ length keys
-off_short_is kind keys off is = subst (λ (u : List Key). length u ≤ length keys) (sym is) (off_short kind keys)
+pub off_short_is : (kind : Kind) (keys off : List Key) → off ≡ off_for kind keys
+    → length off ≤ length keys
+off_short_is kind keys off is =
+    subst (λ (u : List Key). length u ≤ length keys) (sym is) (off_short kind keys)
 
 -- the same command, told otherwise
-pub commanded_as : (kind other : Kind) (named keys : List Key) (matched those : List Key) (left skips : Table → List Skip) (old new : BookModel) (result : Result Taken CommandRefusal)
-    → kind ≡ other → named ≡ keys → matched ≡ those → left ≡ skips → IsCommanded kind named matched left old new result → IsCommanded other keys those skips old new result
+pub commanded_as : (kind other : Kind) (named keys : List Key) (matched those : List Key)
+    (left skips : Table → List Skip) (old new : BookModel) (result : Result Taken CommandRefusal)
+    → kind ≡ other → named ≡ keys → matched ≡ those → left ≡ skips
+    → IsCommanded kind named matched left old new result
+    → IsCommanded other keys those skips old new result
 commanded_as kind other named keys matched those left skips old new result a b c d is =
     subst (λ (x : Kind). IsCommanded x keys those skips old new result) a
     (subst (λ (x : List Key). IsCommanded kind x those skips old new result) b

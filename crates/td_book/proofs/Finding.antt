@@ -1,5 +1,7 @@
 -- The rows that a command names, over plain values.
-use Rattle.std.proofs.Common.{rules, cond, ◌≡◌, ℕ, Bool, true, false, ◌&&◌, ◌||◌, List, [], ◌∷◌, ◌++◌, Option, None, filter, map, is_some, if◌then◌else◌, ap, refl, sym, subst, ◌∙◌}
+use Rattle.std.proofs.Common.{rules, cond, ◌≡◌, ℕ, Bool, true, false, ◌&&◌, ◌||◌, List, [], ◌∷◌}
+use Rattle.std.proofs.Common.{◌++◌, Option, None, filter, map, is_some, if◌then◌else◌, ap, refl}
+use Rattle.std.proofs.Common.{sym, subst, ◌∙◌}
 use Rattle.std.specs.List.{list_any, dedup, dedup_from, AllByRecursion}
 use Rattle.std.specs.List.Sorted.{IsPermutation, IsStrictlySortedBy}
 use Rattle.std.specs.Cmp.Rules.{comparing}
@@ -33,12 +35,15 @@ use Rattle.td_book.specs.Naming.{Adds, version_in}
 
 -- ---- 1. lists of keys that rise
 
-pub below_named : (x k : Key) (ks : List Key) → below_all x ks ≡ true → names ks k ≡ true → is_lt (key_cmp x k) ≡ true
+pub below_named : (x k : Key) (ks : List Key) → below_all x ks ≡ true → names ks k ≡ true
+    → is_lt (key_cmp x k) ≡ true
 below_named x k [] below named = cc
 below_named x k (q ∷ ks) below named =
     let both = and_parts (is_lt (key_cmp x q)) (below_all x ks) below in
-    elim (same_key k q) as (λ b. same_key k q ≡ b → (if b then true else names ks k) ≡ true → is_lt (key_cmp x k) ≡ true) [
-      | true ↦ λ e h. subst (λ (z : Key). is_lt (key_cmp x z) ≡ true) (sym (same_key-true k q e)) both.0
+    elim (same_key k q) as (λ b.
+    same_key k q ≡ b → (if b then true else names ks k) ≡ true → is_lt (key_cmp x k) ≡ true) [
+      | true ↦
+          λ e h. subst (λ (z : Key). is_lt (key_cmp x z) ≡ true) (sym (same_key-true k q e)) both.0
       | false ↦ λ e h. below_named x k ks both.1 h
     ] refl named
 
@@ -53,103 +58,158 @@ never_both : (x y : Key) → is_lt (key_cmp x y) ≡ true → is_lt (key_cmp y x
 never_both x y h g = less_not (key_cmp x y) (key_cmp y x) (key_total.antisymm x y) h g
 
 -- the first of such a list is named by another that names the same, as its first
-first_same : (x y : Key) (xs ys : List Key) → below_all x xs ≡ true → below_all y ys ≡ true → names (y ∷ ys) x ≡ true → names (x ∷ xs) y ≡ true → x ≡ y
+first_same : (x y : Key) (xs ys : List Key) → below_all x xs ≡ true → below_all y ys ≡ true
+    → names (y ∷ ys) x ≡ true → names (x ∷ xs) y ≡ true → x ≡ y
 first_same x y xs ys bx by h g =
-    elim (same_key x y) as (λ b. same_key x y ≡ b → (if b then true else names ys x) ≡ true → x ≡ y) [
+    elim (same_key x y) as (λ b.
+    same_key x y ≡ b → (if b then true else names ys x) ≡ true → x ≡ y) [
       | true ↦ λ e _. same_key-true x y e
-      | false ↦ λ e later. elim (same_key y x) as (λ b. same_key y x ≡ b → (if b then true else names xs y) ≡ true → x ≡ y) [
-        | true ↦ λ e _. sym (same_key-true y x e)
-        | false ↦ λ _ other. absurd (never_both x y (below_named x y xs bx other) (below_named y x ys by later))
-      ] refl g
+      | false ↦
+          λ e later. elim (same_key y x) as (λ b.
+          same_key y x ≡ b → (if b then true else names xs y) ≡ true → x ≡ y) [
+            | true ↦ λ e _. sym (same_key-true y x e)
+            | false ↦
+                λ _ other. absurd
+                (never_both x y (below_named x y xs bx other) (below_named y x ys by later))
+          ] refl g
     ] refl h
 
 names_first : (x : Key) (xs : List Key) → names (x ∷ xs) x ≡ true
 names_first x xs = ap (λ b. if b then true else names xs x) (same_key-refl x)
 
-names_rest : (x k : Key) (xs : List Key) → below_all x xs ≡ true → names xs k ≡ (if same_key k x then false else names (x ∷ xs) k)
-names_rest x k xs below = elim (same_key k x) as (λ b. same_key k x ≡ b → names xs k ≡ (if b then false else (if b then true else names xs k))) [
-  | true ↦ λ e. ap (names xs) (same_key-true k x e) ∙ names-below x xs below
-  | false ↦ λ e. refl
-] refl
+names_rest : (x k : Key) (xs : List Key) → below_all x xs ≡ true
+    → names xs k ≡ (if same_key k x then false else names (x ∷ xs) k)
+names_rest x k xs below =
+    elim (same_key k x) as (λ b.
+    same_key k x ≡ b → names xs k ≡ (if b then false else (if b then true else names xs k))) [
+      | true ↦ λ e. ap (names xs) (same_key-true k x e) ∙ names-below x xs below
+      | false ↦ λ e. refl
+    ] refl
 
 -- two lists that rise and name the same keys are one
-pub rising_same : (xs ys : List Key) → ascending xs ≡ true → ascending ys ≡ true → ((k : Key) → names xs k ≡ names ys k) → xs ≡ ys
+pub rising_same : (xs ys : List Key) → ascending xs ≡ true → ascending ys ≡ true
+    → ((k : Key) → names xs k ≡ names ys k) → xs ≡ ys
 rising_same [] [] ux uy same = refl
-rising_same [] (y ∷ ys) ux uy same = absurd (let bad : false ≡ true = same y ∙ names_first y ys in cc)
-rising_same (x ∷ xs) [] ux uy same = absurd (let bad : true ≡ false = sym (names_first x xs) ∙ same x in cc)
+rising_same [] (y ∷ ys) ux uy same =
+    absurd (let bad : false ≡ true = same y ∙ names_first y ys in cc)
+rising_same (x ∷ xs) [] ux uy same =
+    absurd (let bad : true ≡ false = sym (names_first x xs) ∙ same x in cc)
 rising_same (x ∷ xs) (y ∷ ys) ux uy same =
     let px = and_parts (below_all x xs) (ascending xs) ux in
     let py = and_parts (below_all y ys) (ascending ys) uy in
-    let first : x ≡ y = first_same x y xs ys px.0 py.0 (sym (same x) ∙ names_first x xs) (same y ∙ names_first y ys) in
+    let first : x ≡ y = first_same x y xs ys px.0 py.0 (sym (same x) ∙ names_first x xs)
+    (same y ∙ names_first y ys) in
     let rest : xs ≡ ys = rising_same xs ys px.1 py.1 (λ k.
     names_rest x k xs px.0 ∙ ap (λ (b : Bool). if same_key k x then false else b) (same k)
-    ∙ ap (λ (z : Key). if same_key k z then false else names (y ∷ ys) k) first ∙ sym (names_rest y k ys py.0)) in
+    ∙ ap (λ (z : Key). if same_key k z then false else names (y ∷ ys) k) first
+    ∙ sym (names_rest y k ys py.0)) in
     λ j. first j ∷ rest j
 
 -- a filter names the keys that pass
-pub filter-names : (p : Key → Bool) (ks : List Key) (k : Key) → names (filter p ks) k ≡ (p k && names ks k)
-filter-names p ks k = elim (names (filter p ks) k) as (λ b. names (filter p ks) k ≡ b → b ≡ (p k && names ks k)) [
-  | true ↦ λ e. sym ((λ j. passes-filter p ks k e j && names-filter p ks k e j))
-  | false ↦ λ e. elim (p k) as (λ c. p k ≡ c → false ≡ (c && names ks k)) [
-    | true ↦ λ pass. elim (names ks k) as (λ d. names ks k ≡ d → false ≡ d) [
-      | true ↦ λ named. sym e ∙ kept p ks k pass named
-      | false ↦ λ _. refl
+pub filter-names : (p : Key → Bool) (ks : List Key) (k : Key)
+    → names (filter p ks) k ≡ (p k && names ks k)
+filter-names p ks k =
+    elim (names (filter p ks) k) as (λ b. names (filter p ks) k ≡ b → b ≡ (p k && names ks k)) [
+      | true ↦ λ e. sym ((λ j. passes-filter p ks k e j && names-filter p ks k e j))
+      | false ↦ λ e. elim (p k) as (λ c. p k ≡ c → false ≡ (c && names ks k)) [
+        | true ↦ λ pass. elim (names ks k) as (λ d. names ks k ≡ d → false ≡ d) [
+          | true ↦ λ named. sym e ∙ kept p ks k pass named
+          | false ↦ λ _. refl
+        ] refl
+        | false ↦ λ _. refl
+      ] refl
     ] refl
-    | false ↦ λ _. refl
-  ] refl
-] refl
   where
-    kept : (p : Key → Bool) (ks : List Key) (k : Key) → p k ≡ true → names ks k ≡ true → names (filter p ks) k ≡ true
+    kept : (p : Key → Bool) (ks : List Key) (k : Key) → p k ≡ true → names ks k ≡ true
+        → names (filter p ks) k ≡ true
     kept p [] k pass named = named
-    kept p (q ∷ ks) k pass named = elim (same_key k q) as (λ c. same_key k q ≡ c → (if c then true else names ks k) ≡ true → names (if p q then q ∷ filter p ks else filter p ks) k ≡ true) [
-      | true ↦ λ same _. let passes : p q ≡ true = ap p (sym (same_key-true k q same)) ∙ pass in
-          ap (λ b. names (if b then q ∷ filter p ks else filter p ks) k) passes ∙ ap (λ b. if b then true else names (filter p ks) k) same
-      | false ↦ λ other later. elim (p q) as (λ b. names (if b then q ∷ filter p ks else filter p ks) k ≡ true) [
-        | true ↦ ap (λ b. if b then true else names (filter p ks) k) other ∙ kept p ks k pass later
-        | false ↦ kept p ks k pass later
-      ]
-    ] refl named
+    kept p (q ∷ ks) k pass named =
+        elim (same_key k q) as (λ c.
+        same_key k q ≡ c → (if c then true else names ks k) ≡ true
+        → names (if p q then q ∷ filter p ks else filter p ks) k ≡ true) [
+          | true ↦ λ same _. let passes : p q ≡ true = ap p (sym (same_key-true k q same)) ∙ pass in
+              ap (λ b. names (if b then q ∷ filter p ks else filter p ks) k) passes
+              ∙ ap (λ b. if b then true else names (filter p ks) k) same
+          | false ↦
+              λ other later.
+              elim (p q) as (λ b. names (if b then q ∷ filter p ks else filter p ks) k ≡ true) [
+                | true ↦
+                    ap (λ b. if b then true else names (filter p ks) k) other
+                    ∙ kept p ks k pass later
+                | false ↦ kept p ks k pass later
+              ]
+        ] refl named
 
 -- ---- 2. look-ups
 
 -- a key that is found is added
-pub adds_one : (t : Table) (old new : List Key) (source arch : List ℕ) (k : Key) → k ≡ (record { source = source; arch = arch }) → is_some (row_of t k) ≡ true → new ≡ old ++ k ∷ [] → Adds t old new (λ q. bytes_eq source q.source && bytes_eq arch q.arch)
+pub adds_one : (t : Table) (old new : List Key) (source arch : List ℕ) (k : Key)
+    → k ≡ (record { source = source; arch = arch }) → is_some (row_of t k) ≡ true
+    → new ≡ old ++ k ∷ [] → Adds t old new (λ q. bytes_eq source q.source && bytes_eq arch q.arch)
 adds_one t old new source arch k is there now = λ q.
     ap (λ (ks : List Key). names ks q) now ∙ names-push old k q ∙ told q
   where
     swap : (q : Key) → same_key q k ≡ same_key k q
     swap q = elim (same_key q k) as (λ b. same_key q k ≡ b → b ≡ same_key k q) [
       | true ↦ λ e. sym (same_key-sym q k e)
-      | false ↦ λ e. elim (same_key k q) as (λ c. same_key k q ≡ c → false ≡ c) [ true ↦ λ g. sym e ∙ same_key-sym k q g | false ↦ λ _. refl ] refl
+      | false ↦
+          λ e. elim (same_key k q) as (λ c. same_key k q ≡ c → false ≡ c) [
+            | true ↦
+                λ g. sym e ∙ same_key-sym k q g
+            | false ↦ λ _. refl
+          ] refl
     ] refl
 
-    here : (q : Key) → same_key (record { source = source; arch = arch }) q ≡ ((bytes_eq source q.source && bytes_eq arch q.arch) && is_some (row_of t q))
-    here q = elim (same_key (record { source = source; arch = arch }) q) as (λ b. same_key (record { source = source; arch = arch }) q ≡ b → b ≡ (b && is_some (row_of t q))) [
-      | true ↦ λ e. sym (ap (λ (z : Key). is_some (row_of t z)) (sym (is ∙ same_key-true (record { source = source; arch = arch }) q e)) ∙ there)
-      | false ↦ λ _. refl
-    ] refl
+    here : (q : Key) → same_key (record { source = source; arch = arch }) q
+        ≡ ((bytes_eq source q.source && bytes_eq arch q.arch) && is_some (row_of t q))
+    here q =
+        elim (same_key (record { source = source; arch = arch }) q) as (λ b.
+        same_key (record { source = source; arch = arch }) q ≡ b
+        → b ≡ (b && is_some (row_of t q))) [
+          | true ↦
+              λ e. sym (ap (λ (z : Key). is_some (row_of t z))
+              (sym (is ∙ same_key-true (record { source = source; arch = arch }) q e)) ∙ there)
+          | false ↦ λ _. refl
+        ] refl
 
-    is_it : (q : Key) → same_key q k ≡ ((bytes_eq source q.source && bytes_eq arch q.arch) && is_some (row_of t q))
+    is_it : (q : Key) → same_key q k
+        ≡ ((bytes_eq source q.source && bytes_eq arch q.arch) && is_some (row_of t q))
     is_it q = swap q ∙ ap (λ (z : Key). same_key z q) is ∙ here q
 
-    told : (q : Key) → (if names old q then true else same_key q k) ≡ (names old q || ((bytes_eq source q.source && bytes_eq arch q.arch) && is_some (row_of t q)))
-    told q = elim (names old q) as (λ b. (if b then true else same_key q k) ≡ (b || ((bytes_eq source q.source && bytes_eq arch q.arch) && is_some (row_of t q)))) [
-      | true ↦ refl
-      | false ↦ is_it q
-    ]
+    told : (q : Key) → (if names old q then true else same_key q k)
+        ≡ (names old q
+        || ((bytes_eq source q.source && bytes_eq arch q.arch) && is_some (row_of t q)))
+    told q =
+        elim (names old q) as (λ b.
+        (if b then true else same_key q k)
+        ≡ (b || ((bytes_eq source q.source && bytes_eq arch q.arch) && is_some (row_of t q)))) [
+          | true ↦ refl
+          | false ↦ is_it q
+        ]
 
 -- none is, where none is found
-pub adds_none : (t : Table) (old new : List Key) (source arch : List ℕ) → row_of t (record { source = source; arch = arch }) ≡ None → new ≡ old → Adds t old new (λ q. bytes_eq source q.source && bytes_eq arch q.arch)
+pub adds_none : (t : Table) (old new : List Key) (source arch : List ℕ)
+    → row_of t (record { source = source; arch = arch }) ≡ None → new ≡ old
+    → Adds t old new (λ q. bytes_eq source q.source && bytes_eq arch q.arch)
 adds_none t old new source arch absent now = λ q.
-    ap (λ (ks : List Key). names ks q) now ∙ elim (names old q) as (λ b. b ≡ (b || ((bytes_eq source q.source && bytes_eq arch q.arch) && is_some (row_of t q)))) [
+    ap (λ (ks : List Key). names ks q) now
+    ∙ elim (names old q) as (λ b.
+    b ≡ (b || ((bytes_eq source q.source && bytes_eq arch q.arch) && is_some (row_of t q)))) [
       | true ↦ refl
-      | false ↦ elim (same_key (record { source = source; arch = arch }) q) as (λ b. same_key (record { source = source; arch = arch }) q ≡ b → false ≡ (b && is_some (row_of t q))) [
-        | true ↦ λ e. sym (ap (λ (z : Key). is_some (row_of t z)) (sym (same_key-true (record { source = source; arch = arch }) q e)) ∙ ap (λ (o : Option Row). is_some o) absent)
-        | false ↦ λ _. refl
-      ] refl
+      | false ↦
+          elim (same_key (record { source = source; arch = arch }) q) as (λ b.
+          same_key (record { source = source; arch = arch }) q ≡ b
+          → false ≡ (b && is_some (row_of t q))) [
+            | true ↦
+                λ e. sym (ap (λ (z : Key). is_some (row_of t z))
+                (sym (same_key-true (record { source = source; arch = arch }) q e))
+                ∙ ap (λ (o : Option Row). is_some o) absent)
+            | false ↦ λ _. refl
+          ] refl
     ]
 
-more_archs : (o s x y r : Bool) → ((o || ((s && x) && r)) || ((s && y) && r)) ≡ (o || ((s && (x || y)) && r))
+more_archs : (o s x y r : Bool)
+    → ((o || ((s && x) && r)) || ((s && y) && r)) ≡ (o || ((s && (x || y)) && r))
 more_archs true s x y r = refl
 more_archs false false x y r = refl
 more_archs false true true true true = refl
@@ -158,7 +218,8 @@ more_archs false true true false true = refl
 more_archs false true true false false = refl
 more_archs false true false y r = refl
 
-more_packages : (o x y a r : Bool) → ((o || ((x && a) && r)) || ((y && a) && r)) ≡ (o || (((x || y) && a) && r))
+more_packages : (o x y a r : Bool)
+    → ((o || ((x && a) && r)) || ((y && a) && r)) ≡ (o || (((x || y) && a) && r))
 more_packages true x y a r = refl
 more_packages false true true true true = refl
 more_packages false true true true false = refl
@@ -169,25 +230,39 @@ more_packages false true false false r = refl
 more_packages false false y a r = refl
 
 -- one architecture more
-pub adds_arch : (t : Table) (old mid new : List Key) (s x y : Key → Bool) (z : Key → Bool) → Adds t old mid (λ k. s k && x k) → Adds t mid new (λ k. s k && y k) → ((k : Key) → z k ≡ (x k || y k)) → Adds t old new (λ k. s k && z k)
+pub adds_arch : (t : Table) (old mid new : List Key) (s x y : Key → Bool) (z : Key → Bool)
+    → Adds t old mid (λ k. s k && x k) → Adds t mid new (λ k. s k && y k)
+    → ((k : Key) → z k ≡ (x k || y k)) → Adds t old new (λ k. s k && z k)
 adds_arch t old mid new s x y z first then_ both = λ k.
-    then_ k ∙ ap (λ b. b || ((s k && y k) && is_some (row_of t k))) (first k) ∙ more_archs (names old k) (s k) (x k) (y k) (is_some (row_of t k)) ∙ ap (λ b. names old k || ((s k && b) && is_some (row_of t k))) (sym (both k))
+    then_ k ∙ ap (λ b. b || ((s k && y k) && is_some (row_of t k))) (first k)
+    ∙ more_archs (names old k) (s k) (x k) (y k) (is_some (row_of t k))
+    ∙ ap (λ b. names old k || ((s k && b) && is_some (row_of t k))) (sym (both k))
 
 -- one package more
-pub adds_package : (t : Table) (old mid new : List Key) (x y a : Key → Bool) (z : Key → Bool) → Adds t old mid (λ k. x k && a k) → Adds t mid new (λ k. y k && a k) → ((k : Key) → z k ≡ (x k || y k)) → Adds t old new (λ k. z k && a k)
+pub adds_package : (t : Table) (old mid new : List Key) (x y a : Key → Bool) (z : Key → Bool)
+    → Adds t old mid (λ k. x k && a k) → Adds t mid new (λ k. y k && a k)
+    → ((k : Key) → z k ≡ (x k || y k)) → Adds t old new (λ k. z k && a k)
 adds_package t old mid new x y a z first then_ both = λ k.
-    then_ k ∙ ap (λ b. b || ((y k && a k) && is_some (row_of t k))) (first k) ∙ more_packages (names old k) (x k) (y k) (a k) (is_some (row_of t k)) ∙ ap (λ b. names old k || ((b && a k) && is_some (row_of t k))) (sym (both k))
+    then_ k ∙ ap (λ b. b || ((y k && a k) && is_some (row_of t k))) (first k)
+    ∙ more_packages (names old k) (x k) (y k) (a k) (is_some (row_of t k))
+    ∙ ap (λ b. names old k || ((b && a k) && is_some (row_of t k))) (sym (both k))
 
 -- nothing yet
-pub adds_nothing : (t : Table) (old : List Key) (p : Key → Bool) → ((k : Key) → p k ≡ false) → Adds t old old p
-adds_nothing t old p none = λ k. elim (names old k) as (λ b. b ≡ (b || (p k && is_some (row_of t k)))) [ true ↦ refl | false ↦ ap (λ b. b && is_some (row_of t k)) (sym (none k)) ]
+pub adds_nothing : (t : Table) (old : List Key) (p : Key → Bool) → ((k : Key) → p k ≡ false)
+    → Adds t old old p
+adds_nothing t old p none =
+    λ k. elim (names old k) as (λ b. b ≡ (b || (p k && is_some (row_of t k)))) [
+      | true ↦ refl
+      | false ↦ ap (λ b. b && is_some (row_of t k)) (sym (none k))
+    ]
 
 -- ---- 3. sorting
 
 less_is : (o : Ordering) → o ≡ Less → is_lt o ≡ true
 less_is o e = ap is_lt e
 
-below_from : (x : Key) (ks : List Key) → AllByRecursion (λ y. key_cmp x y ≡ Less) ks → below_all x ks ≡ true
+below_from : (x : Key) (ks : List Key) → AllByRecursion (λ y. key_cmp x y ≡ Less) ks
+    → below_all x ks ≡ true
 below_from x [] h = refl
 below_from x (k ∷ ks) h = λ j. (less_is (key_cmp x k) h.0 j) && (below_from x ks h.1 j)
 
@@ -196,15 +271,25 @@ unfolding IsStrictlySortedBy
 ascending_from [] h = refl
 ascending_from (k ∷ ks) h = λ j. (below_from k ks h.0 j) && (ascending_from ks h.1 j)
 
-names-dedup_from : (y : Key) (xs : List Key) (k : Key) → names (dedup_from same_key y xs) k ≡ names (y ∷ xs) k
+names-dedup_from : (y : Key) (xs : List Key) (k : Key)
+    → names (dedup_from same_key y xs) k ≡ names (y ∷ xs) k
 names-dedup_from y [] k = refl
-names-dedup_from y (x ∷ xs) k = elim (same_key x y) as (λ b. same_key x y ≡ b → names (cond b (dedup_from same_key y xs) (y ∷ dedup_from same_key x xs)) k ≡ (if same_key k y then true else (if same_key k x then true else names xs k))) [
-  | true ↦ λ e. names-dedup_from y xs k ∙ elim (same_key k y) as (λ c. same_key k y ≡ c → (if c then true else names xs k) ≡ (if c then true else (if same_key k x then true else names xs k))) [
-    | true ↦ λ _. refl
-    | false ↦ λ other. ap (λ b. if b then true else names xs k) (sym (ap (same_key k) (same_key-true x y e) ∙ other))
-  ] refl
-  | false ↦ λ _. ap (λ b. if same_key k y then true else b) (names-dedup_from x xs k)
-] refl
+names-dedup_from y (x ∷ xs) k =
+    elim (same_key x y) as (λ b.
+    same_key x y ≡ b → names (cond b (dedup_from same_key y xs) (y ∷ dedup_from same_key x xs)) k
+    ≡ (if same_key k y then true else (if same_key k x then true else names xs k))) [
+      | true ↦
+          λ e. names-dedup_from y xs k
+          ∙ elim (same_key k y) as (λ c.
+          same_key k y ≡ c → (if c then true else names xs k)
+          ≡ (if c then true else (if same_key k x then true else names xs k))) [
+            | true ↦ λ _. refl
+            | false ↦
+                λ other. ap (λ b. if b then true else names xs k)
+                (sym (ap (same_key k) (same_key-true x y e) ∙ other))
+          ] refl
+      | false ↦ λ _. ap (λ b. if same_key k y then true else b) (names-dedup_from x xs k)
+    ] refl
 
 pub names-dedup : (xs : List Key) (k : Key) → names (dedup same_key xs) k ≡ names xs k
 names-dedup [] k = refl
@@ -212,31 +297,52 @@ names-dedup (x ∷ xs) k = names-dedup_from x xs k
 
 names_any : (xs : List Key) (k : Key) → names xs k ≡ list_any (same_key k) xs
 names_any [] k = refl
-names_any (x ∷ xs) k = elim (same_key k x) as (λ b. (if b then true else names xs k) ≡ (b || list_any (same_key k) xs)) [ true ↦ refl | false ↦ names_any xs k ]
+names_any (x ∷ xs) k =
+    elim (same_key k x) as (λ b.
+    (if b then true else names xs k) ≡ (b || list_any (same_key k) xs)) [
+      | true ↦ refl
+      | false ↦ names_any xs k
+    ]
 
 pub names-permutation : (xs ys : List Key) (k : Key) → IsPermutation xs ys → names ys k ≡ names xs k
-names-permutation xs ys k moved = names_any ys k ∙ sym (list_any-IsPermutation (same_key k) xs ys moved) ∙ sym (names_any xs k)
+names-permutation xs ys k moved =
+    names_any ys k ∙ sym (list_any-IsPermutation (same_key k) xs ys moved) ∙ sym (names_any xs k)
 
 pub same_tie : (x y : Key) → same_key x y ≡ eq_by_cmp key_cmp x y
 same_tie x y = search (comparing, rules)
 
 -- what look-ups found, sorted, are the named keys
-pub named_all : (t : Table) (found sorted : List Key) (p : Key → Bool) → ascending (keys_of t) ≡ true → ascending sorted ≡ true → ((k : Key) → names sorted k ≡ names found k) → Adds t [] found p → sorted ≡ filter p (keys_of t)
-named_all t found sorted p up rising same adds = rising_same sorted (filter p (keys_of t)) rising (ascending-filter p (keys_of t) up) (λ k.
+pub named_all : (t : Table) (found sorted : List Key) (p : Key → Bool)
+    → ascending (keys_of t) ≡ true → ascending sorted ≡ true
+    → ((k : Key) → names sorted k ≡ names found k) → Adds t [] found p
+    → sorted ≡ filter p (keys_of t)
+named_all t found sorted p up rising same adds =
+    rising_same sorted (filter p (keys_of t)) rising (ascending-filter p (keys_of t) up) (λ k.
     same k ∙ adds k ∙ ap (λ b. p k && b) (is_some-row_of t k) ∙ sym (filter-names p (keys_of t) k))
 
-pub any_map : {A B : Type 0} (f : A → B) (p : B → Bool) (xs : List A) → list_any p (map f xs) ≡ list_any (λ x. p (f x)) xs
+pub any_map : {A B : Type 0} (f : A → B) (p : B → Bool) (xs : List A)
+    → list_any p (map f xs) ≡ list_any (λ x. p (f x)) xs
 any_map f p [] = refl
 any_map f p (x ∷ xs) = ap (λ b. p (f x) || b) (any_map f p xs)
 
 -- a command names a key by its packages and its architectures
-pub named_same : (command : Command) (source arch : List ℕ) → (list_any (λ p. bytes_eq (string_bytes p.source) source) command.packages.items && list_any (λ a. bytes_eq a.now arch) command.archs.items) ≡ is_named (parts_of command) source arch
-named_same command source arch = λ j. sym (any_map package_of (λ p. bytes_eq p.source source) command.packages.items) j && sym (any_map (λ (a : Bor (List ℕ)). a.now) (λ a. bytes_eq a arch) command.archs.items) j
+pub named_same : (command : Command) (source arch : List ℕ)
+    → (list_any (λ p. bytes_eq (string_bytes p.source) source) command.packages.items
+    && list_any (λ a. bytes_eq a.now arch) command.archs.items)
+    ≡ is_named (parts_of command) source arch
+named_same command source arch =
+    λ j. sym (any_map package_of (λ p. bytes_eq p.source source) command.packages.items) j
+    && sym (any_map (λ (a : Bor (List ℕ)). a.now) (λ a. bytes_eq a arch) command.archs.items) j
 
-pub adds_same : (t : Table) (old new : List Key) (p q : Key → Bool) → ((k : Key) → p k ≡ q k) → Adds t old new p → Adds t old new q
-adds_same t old new p q same adds = λ k. adds k ∙ ap (λ b. names old k || (b && is_some (row_of t k))) (same k)
+pub adds_same : (t : Table) (old new : List Key) (p q : Key → Bool) → ((k : Key) → p k ≡ q k)
+    → Adds t old new p → Adds t old new q
+adds_same t old new p q same adds =
+    λ k. adds k ∙ ap (λ b. names old k || (b && is_some (row_of t k))) (same k)
 
 -- the parts of a source's version are those that its text is read as
-pub version_is : (s : SupplyView) (source : List ℕ) (version : Option Parts) → HasVersion s source version → version ≡ version_in s source
+pub version_is : (s : SupplyView) (source : List ℕ) (version : Option Parts)
+    → HasVersion s source version → version ≡ version_in s source
 version_is s source None has = sym (ap (option_and_then (λ text. result_ok (reading text))) has)
-version_is s source (Some parts) has = sym (ap (option_and_then (λ text. result_ok (reading text))) has.1 ∙ ap result_ok (read_only has.0 parts has.2))
+version_is s source (Some parts) has =
+    sym (ap (option_and_then (λ text. result_ok (reading text))) has.1
+    ∙ ap result_ok (read_only has.0 parts has.2))

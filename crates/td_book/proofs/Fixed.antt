@@ -24,22 +24,26 @@ use Rattle.td_book.specs.Undoing.{UndoAnswer}
 all : (old new : BookModel) → new ≡ old → new.fixed ≡ old.fixed
 all old new same = ap (λ (b : BookModel). b.fixed) same
 
-pub undo_fixed : (stop : Option UndoRefusal) (n : ℕ) (old new : BookModel) (r : Result (Unit {0}) UndoRefusal) → UndoAnswer stop n old new r → new.fixed ≡ old.fixed
+pub undo_fixed : (stop : Option UndoRefusal) (n : ℕ) (old new : BookModel)
+    (r : Result (Unit {0}) UndoRefusal) → UndoAnswer stop n old new r → new.fixed ≡ old.fixed
 undo_fixed None n old new r is = is.fixed
 undo_fixed (Some s) n old new r is = all old new is.1
 
-pub arrive_fixed : (k : Key) (old new : BookModel) (r : Result ℕ ArriveRefusal) → ArriveOutcome k old new r → new.fixed ≡ old.fixed
+pub arrive_fixed : (k : Key) (old new : BookModel) (r : Result ℕ ArriveRefusal)
+    → ArriveOutcome k old new r → new.fixed ≡ old.fixed
 arrive_fixed k old new (Ok n) is = ap (λ (b : BookModel). b.fixed) is.3
 arrive_fixed k old new (Err arrivals.NoSuchRow) is = all old new is.1
 arrive_fixed k old new (Err (arrivals.DoesNotApply s)) is = all old new is.4
 arrive_fixed k old new (Err arrivals.NoMemory) is = all old new is
 
-pub sweep_fixed : (old new : BookModel) (r : Result (Option ℕ) AllocError) → SweepOutcome old new r → new.fixed ≡ old.fixed
+pub sweep_fixed : (old new : BookModel) (r : Result (Option ℕ) AllocError) → SweepOutcome old new r
+    → new.fixed ≡ old.fixed
 sweep_fixed old new (Ok None) is = all old new is.1
 sweep_fixed old new (Ok (Some n)) is = ap (λ (b : BookModel). b.fixed) is.1
 sweep_fixed old new (Err e) is = all old new is
 
-pub start_fixed : (b : ℕ) (hand : Hand) (old new : BookModel) (r : Result Job StartRefusal) → StartOutcome b hand old new r → new.fixed ≡ old.fixed
+pub start_fixed : (b : ℕ) (hand : Hand) (old new : BookModel) (r : Result Job StartRefusal)
+    → StartOutcome b hand old new r → new.fixed ≡ old.fixed
 start_fixed b (Holding i) old new (Ok job) is = is.0.fixed
 start_fixed b (Holding i) old new (Err starts.Mismatch) is = is.fixed
 start_fixed b (Holding i) old new (Err starts.NothingHeld) is = absurd is
@@ -53,19 +57,22 @@ start_fixed b (Finished i c) old new (Err starts.Mismatch) is = all old new is.1
 start_fixed b (Finished i c) old new (Err starts.NothingHeld) is = all old new is.1
 start_fixed b (Finished i c) old new (Err starts.NoMemory) is = all old new is
 
-held_fixed : (i : ℕ) (o : Outcome) (v w : BuilderView) (old new : BookModel) (r : Result ℕ FinishRefusal) → FinishHeld i o v w old new r → new.fixed ≡ old.fixed
+held_fixed : (i : ℕ) (o : Outcome) (v w : BuilderView) (old new : BookModel)
+    (r : Result ℕ FinishRefusal) → FinishHeld i o v w old new r → new.fixed ≡ old.fixed
 held_fixed i o v w old new (Ok n) is = is.0.fixed
 held_fixed i o v w old new (Err finishes.NoMemory) is = all old new is.0
 held_fixed i o v w old new (Err finishes.Mismatch) is = is.1.fixed
 held_fixed i o v w old new (Err finishes.NothingHeld) is = absurd is
 
-again_fixed : (i : ℕ) (c : OutcomeCode) (o : Outcome) (b : ℕ) (old new : BookModel) (r : Result ℕ FinishRefusal) → FinishAgain i c o b old new r → new.fixed ≡ old.fixed
+again_fixed : (i : ℕ) (c : OutcomeCode) (o : Outcome) (b : ℕ) (old new : BookModel)
+    (r : Result ℕ FinishRefusal) → FinishAgain i c o b old new r → new.fixed ≡ old.fixed
 again_fixed i c o b old new (Ok n) is = is.1.fixed
 again_fixed i c o b old new (Err finishes.NothingHeld) is = all old new is.1
 again_fixed i c o b old new (Err finishes.NoMemory) is = all old new is
 again_fixed i c o b old new (Err finishes.Mismatch) is = all old new is.1
 
-pub finish_fixed : (hand : Hand) (o : Outcome) (v w : BuilderView) (old new : BookModel) (r : Result ℕ FinishRefusal) → FinishOutcome hand o v w old new r → new.fixed ≡ old.fixed
+pub finish_fixed : (hand : Hand) (o : Outcome) (v w : BuilderView) (old new : BookModel)
+    (r : Result ℕ FinishRefusal) → FinishOutcome hand o v w old new r → new.fixed ≡ old.fixed
 finish_fixed Free o v w old new r is = all old new is.1
 finish_fixed (Holding i) o v w old new r is = held_fixed i o v w old new r is
 finish_fixed (Finished i c) o v w old new r is = again_fixed i c o v.number old new r is.0

@@ -1,17 +1,23 @@
 -- What an entry, and its undo, do to what is Installed.
-use Rattle.std.proofs.Common.{◌≡◌, ℕ, suc, ◌+◌, ◌-◌, ◌<◌, Bool, true, false, ◌&&◌, ◌||◌, not, List, [], ◌∷◌, ◌++◌, Option, Some, None, if◌then◌else◌, option_map, length, slice_get, ap, refl, sym, subst, ◌∙◌, arith, zero, ◌==◌}
+use Rattle.std.proofs.Common.{◌≡◌, ℕ, suc, ◌+◌, ◌-◌, ◌<◌, Bool, true, false, ◌&&◌, ◌||◌, not, List}
+use Rattle.std.proofs.Common.{[], ◌∷◌, ◌++◌, Option, Some, None, if◌then◌else◌, option_map, length}
+use Rattle.std.proofs.Common.{slice_get, ap, refl, sym, subst, ◌∙◌, arith, zero, ◌==◌}
 use Rattle.std.proofs.lemmas.Bool.{and_parts}
 use Rattle.std.proofs.lemmas.Bool.Decides.{nat_tests}
 use Rattle.td_rows.specs.declared.key.Key.{Key}
 use Rattle.td_rows.specs.declared.row.Row.{Row}
 use Rattle.td_rows.specs.declared.state.State.{State}
-use Rattle.td_rows.specs.declared.state.State.TheVariants.{NeedsBuild, Building, Built, Uploaded, Installed, DepWait, BdUninstallable, BuildAttempted, Failed, NotForUs}
+use Rattle.td_rows.specs.declared.state.State.TheVariants.{NeedsBuild, Building, Built, Uploaded}
+use Rattle.td_rows.specs.declared.state.State.TheVariants.{Installed, DepWait, BdUninstallable}
+use Rattle.td_rows.specs.declared.state.State.TheVariants.{BuildAttempted, Failed, NotForUs}
 use Rattle.td_rows.specs.declared.kind.Kind.{Kind}
-use Rattle.td_rows.specs.declared.kind.Kind.TheVariants.{Gb, Nmu, Bp, Dw, Claim, Outcome as Ended, Arrive, Sweep}
+use Rattle.td_rows.specs.declared.kind.Kind.TheVariants.{Gb, Nmu, Bp, Dw, Claim, Outcome as Ended}
+use Rattle.td_rows.specs.declared.kind.Kind.TheVariants.{Arrive, Sweep}
 use Rattle.td_rows.specs.declared.outcome.Outcome.TheVariants as ends
 use Rattle.td_rows.specs.Keys.{names, ascending}
 use Rattle.td_rows.specs.Meaning.{applies, means}
-use Rattle.td_rows.specs.States.{gives_back, waits_for, is_installed, is_queued, is_building_by, is_coming, is_waiting}
+use Rattle.td_rows.specs.States.{gives_back, waits_for, is_installed, is_queued, is_building_by}
+use Rattle.td_rows.specs.States.{is_coming, is_waiting}
 use Rattle.td_rows.specs.Table.{Table, row_of, keys_of, meant, applied, fits, AppliesOn}
 use Rattle.td_rows.proofs.Tables.{row_of-each_row, applies-fits}
 use Rattle.td_journal.specs.declared.entry.Entry.{Entry}
@@ -22,7 +28,8 @@ use Rattle.td_journal.specs.Entries.{standing_entry, entry_at, undone_at, undone
 use Rattle.td_core.specs.History.{History, rows_of, with_entry, without_entry}
 use Rattle.td_core.specs.Offers.{is_arrival}
 use Rattle.td_book.specs.Watching.{tally, is_there}
-use Rattle.td_book.specs.inner.Tallies.{AreTallied, or_named, but_named, AllAre, IsEntered, IsTakenBack, takes_installed}
+use Rattle.td_book.specs.inner.Tallies.{AreTallied, or_named, but_named, AllAre, IsEntered}
+use Rattle.td_book.specs.inner.Tallies.{IsTakenBack, takes_installed}
 use Rattle.td_book.proofs.Steps.{rows_with, up_now}
 use Rattle.td_book.proofs.Tallies.{tally-each_row}
 
@@ -62,15 +69,18 @@ waiting s h = refl
 
 -- ---- 2. kinds: a rebuild takes Installed away, an arrival gives it, and no other changes it
 
-leaves : (kind : Kind) (row : Row) → takes_installed kind ≡ true → applies kind row ≡ true → (is_installed row.state ≡ true) × (is_installed (means kind row).state ≡ false)
+leaves : (kind : Kind) (row : Row) → takes_installed kind ≡ true → applies kind row ≡ true
+    → (is_installed row.state ≡ true) × (is_installed (means kind row).state ≡ false)
 leaves (Nmu n e m) row is a = ((and_parts (is_installed row.state) _ a).0, refl)
 leaves kind row is a = absurd (cc)
 
-comes : (kind : Kind) (row : Row) → is_arrival kind ≡ true → applies kind row ≡ true → (is_installed row.state ≡ false) × (is_installed (means kind row).state ≡ true)
+comes : (kind : Kind) (row : Row) → is_arrival kind ≡ true → applies kind row ≡ true
+    → (is_installed row.state ≡ false) × (is_installed (means kind row).state ≡ true)
 comes Arrive row is a = (coming row.state a, refl)
 comes kind row is a = absurd (cc)
 
-stays : (kind : Kind) (row : Row) → takes_installed kind ≡ false → is_arrival kind ≡ false → applies kind row ≡ true → is_installed (means kind row).state ≡ is_installed row.state
+stays : (kind : Kind) (row : Row) → takes_installed kind ≡ false → is_arrival kind ≡ false
+    → applies kind row ≡ true → is_installed (means kind row).state ≡ is_installed row.state
 stays Gb row t i a = sym (given row.state a)
 stays (Nmu n e m) row t i a = absurd (cc)
 stays (Bp p) row t i a = refl
@@ -97,87 +107,134 @@ or_false : (b : Bool) → (b || false) ≡ b
 or_false true = refl
 or_false false = refl
 
-left_row : (n : Bool) (m r : Row) → (n ≡ true → (is_installed r.state ≡ true) × (is_installed m.state ≡ false)) → (is_installed (if n then m else r).state || n) ≡ is_installed r.state
+left_row : (n : Bool) (m r : Row)
+    → (n ≡ true → (is_installed r.state ≡ true) × (is_installed m.state ≡ false))
+    → (is_installed (if n then m else r).state || n) ≡ is_installed r.state
 left_row true m r h = ap (λ (b : Bool). b || true) (h refl).1 ∙ sym (h refl).0
 left_row false m r h = or_false (is_installed r.state)
 
-come_row : (n : Bool) (m r : Row) → (n ≡ true → (is_installed r.state ≡ false) × (is_installed m.state ≡ true)) → (is_installed (if n then m else r).state && not n) ≡ is_installed r.state
+come_row : (n : Bool) (m r : Row)
+    → (n ≡ true → (is_installed r.state ≡ false) × (is_installed m.state ≡ true))
+    → (is_installed (if n then m else r).state && not n) ≡ is_installed r.state
 come_row true m r h = and_false (is_installed m.state) ∙ sym (h refl).0
 come_row false m r h = and_true (is_installed r.state)
 
-same_row : (n : Bool) (m r : Row) → (n ≡ true → is_installed m.state ≡ is_installed r.state) → is_installed (if n then m else r).state ≡ is_installed r.state
+same_row : (n : Bool) (m r : Row) → (n ≡ true → is_installed m.state ≡ is_installed r.state)
+    → is_installed (if n then m else r).state ≡ is_installed r.state
 same_row true m r h = h refl
 same_row false m r h = refl
 
-back_row : (n : Bool) (m r : Row) → (n ≡ true → (is_installed r.state ≡ true) × (is_installed m.state ≡ false)) → is_installed (if n then m else r).state ≡ (is_installed r.state && not n)
+back_row : (n : Bool) (m r : Row)
+    → (n ≡ true → (is_installed r.state ≡ true) × (is_installed m.state ≡ false))
+    → is_installed (if n then m else r).state ≡ (is_installed r.state && not n)
 back_row true m r h = (h refl).1 ∙ sym (and_false (is_installed r.state))
 back_row false m r h = sym (and_true (is_installed r.state))
 
-on_row : (kind : Kind) (keys : List Key) (t : Table) (k : Key) (r : Row) → AppliesOn t kind keys → row_of t k ≡ Some r → names keys k ≡ true → applies kind r ≡ true
+on_row : (kind : Kind) (keys : List Key) (t : Table) (k : Key) (r : Row) → AppliesOn t kind keys
+    → row_of t k ≡ Some r → names keys k ≡ true → applies kind r ≡ true
 on_row kind keys t k r all found named = applies-fits t kind k r found (all k named)
 
-pub left-tallied : (kind : Kind) (keys : List Key) (t : Table) (counts : List ℕ) (ws : List (Option ℕ)) → takes_installed kind ≡ true → ascending (keys_of t) ≡ true → AppliesOn t kind keys
+pub left-tallied : (kind : Kind) (keys : List Key) (t : Table) (counts : List ℕ)
+    (ws : List (Option ℕ)) → takes_installed kind ≡ true → ascending (keys_of t) ≡ true
+    → AppliesOn t kind keys
     → AreTallied is_there counts ws t → AreTallied (or_named keys) counts ws (applied kind keys t)
 left-tallied kind keys t counts ws is up all tallied = record {
-  each = λ g lt. tallied.each g lt ∙ sym (tally-each_row (meant kind keys) (or_named keys) is_there g ws t up
-      (λ k r found. left_row (names keys k) (means kind r) r (λ named. leaves kind r is (on_row kind keys t k r all found named))));
+  each =
+      λ g lt. tallied.each g lt
+      ∙ sym (tally-each_row (meant kind keys) (or_named keys) is_there g ws t up
+      (λ k r found. left_row (names keys k) (means kind r) r (λ named.
+      leaves kind r is (on_row kind keys t k r all found named))));
 }
 
-pub come-tallied : (kind : Kind) (keys : List Key) (t : Table) (counts : List ℕ) (ws : List (Option ℕ)) → is_arrival kind ≡ true → ascending (keys_of t) ≡ true → AppliesOn t kind keys
+pub come-tallied : (kind : Kind) (keys : List Key) (t : Table) (counts : List ℕ)
+    (ws : List (Option ℕ)) → is_arrival kind ≡ true → ascending (keys_of t) ≡ true
+    → AppliesOn t kind keys
     → AreTallied is_there counts ws t → AreTallied (but_named keys) counts ws (applied kind keys t)
 come-tallied kind keys t counts ws is up all tallied = record {
-  each = λ g lt. tallied.each g lt ∙ sym (tally-each_row (meant kind keys) (but_named keys) is_there g ws t up
-      (λ k r found. come_row (names keys k) (means kind r) r (λ named. comes kind r is (on_row kind keys t k r all found named))));
+  each =
+      λ g lt. tallied.each g lt
+      ∙ sym (tally-each_row (meant kind keys) (but_named keys) is_there g ws t up
+      (λ k r found. come_row (names keys k) (means kind r) r (λ named.
+      comes kind r is (on_row kind keys t k r all found named))));
 }
 
-pub same-tallied : (kind : Kind) (keys : List Key) (t : Table) (counts : List ℕ) (ws : List (Option ℕ)) → takes_installed kind ≡ false → is_arrival kind ≡ false → ascending (keys_of t) ≡ true → AppliesOn t kind keys
+pub same-tallied : (kind : Kind) (keys : List Key) (t : Table) (counts : List ℕ)
+    (ws : List (Option ℕ)) → takes_installed kind ≡ false → is_arrival kind ≡ false
+    → ascending (keys_of t) ≡ true → AppliesOn t kind keys
     → AreTallied is_there counts ws t → AreTallied is_there counts ws (applied kind keys t)
 same-tallied kind keys t counts ws takes gives up all tallied = record {
-  each = λ g lt. tallied.each g lt ∙ sym (tally-each_row (meant kind keys) is_there is_there g ws t up
-      (λ k r found. same_row (names keys k) (means kind r) r (λ named. stays kind r takes gives (on_row kind keys t k r all found named))));
+  each =
+      λ g lt. tallied.each g lt ∙ sym (tally-each_row (meant kind keys) is_there is_there g ws t up
+      (λ k r found. same_row (names keys k) (means kind r) r (λ named.
+      stays kind r takes gives (on_row kind keys t k r all found named))));
 }
 
 -- ---- 4. the counts over an undo
 
-pub back-tallied : (kind : Kind) (keys : List Key) (t : Table) (counts : List ℕ) (ws : List (Option ℕ)) → takes_installed kind ≡ true → ascending (keys_of t) ≡ true → AppliesOn t kind keys
+pub back-tallied : (kind : Kind) (keys : List Key) (t : Table) (counts : List ℕ)
+    (ws : List (Option ℕ)) → takes_installed kind ≡ true → ascending (keys_of t) ≡ true
+    → AppliesOn t kind keys
     → AreTallied is_there counts ws (applied kind keys t) → AreTallied (but_named keys) counts ws t
 back-tallied kind keys t counts ws is up all tallied = record {
-  each = λ g lt. tallied.each g lt ∙ tally-each_row (meant kind keys) is_there (but_named keys) g ws t up
-      (λ k r found. back_row (names keys k) (means kind r) r (λ named. leaves kind r is (on_row kind keys t k r all found named)));
+  each =
+      λ g lt.
+      tallied.each g lt ∙ tally-each_row (meant kind keys) is_there (but_named keys) g ws t up
+      (λ k r found. back_row (names keys k) (means kind r) r (λ named.
+      leaves kind r is (on_row kind keys t k r all found named)));
 }
 
-pub same-back : (kind : Kind) (keys : List Key) (t : Table) (counts : List ℕ) (ws : List (Option ℕ)) → takes_installed kind ≡ false → is_arrival kind ≡ false → ascending (keys_of t) ≡ true → AppliesOn t kind keys
+pub same-back : (kind : Kind) (keys : List Key) (t : Table) (counts : List ℕ) (ws : List (Option ℕ))
+    → takes_installed kind ≡ false → is_arrival kind ≡ false → ascending (keys_of t) ≡ true
+    → AppliesOn t kind keys
     → AreTallied is_there counts ws (applied kind keys t) → AreTallied is_there counts ws t
 same-back kind keys t counts ws takes gives up all tallied = record {
   each = λ g lt. tallied.each g lt ∙ tally-each_row (meant kind keys) is_there is_there g ws t up
-      (λ k r found. same_row (names keys k) (means kind r) r (λ named. stays kind r takes gives (on_row kind keys t k r all found named)));
+      (λ k r found. same_row (names keys k) (means kind r) r (λ named.
+      stays kind r takes gives (on_row kind keys t k r all found named)));
 }
 
 -- ---- 5. the rows of the keys
 
-row_fit : (t : Table) (kind : Kind) (k : Key) → fits t kind k ≡ true → (r : Row) × (row_of t k ≡ Some r) × (applies kind r ≡ true)
+row_fit : (t : Table) (kind : Kind) (k : Key) → fits t kind k ≡ true
+    → (r : Row) × (row_of t k ≡ Some r) × (applies kind r ≡ true)
 row_fit t kind k fit = of (row_of t k) refl
   where
-    of : (o : Option Row) → row_of t k ≡ o → (r : Row) × (row_of t k ≡ Some r) × (applies kind r ≡ true)
+    of : (o : Option Row) → row_of t k ≡ o
+        → (r : Row) × (row_of t k ≡ Some r) × (applies kind r ≡ true)
     of (Some r) e = (r, e, applies-fits t kind k r e fit)
-    of None e = let bad : false ≡ true = sym (ap (λ (o : Option Row). elim o as (λ _. Bool) [ Some r ↦ applies kind r | None ↦ false ]) e) ∙ fit in absurd (cc)
+    of None e =
+        let bad : false ≡ true =
+        sym (ap (λ (o : Option Row).
+        elim o as (λ _. Bool) [ Some r ↦ applies kind r | None ↦ false ]) e) ∙ fit in absurd (cc)
 
-meant_row : (kind : Kind) (keys : List Key) (t : Table) (k : Key) (r : Row) → row_of t k ≡ Some r → names keys k ≡ true → row_of (applied kind keys t) k ≡ Some (means kind r)
+meant_row : (kind : Kind) (keys : List Key) (t : Table) (k : Key) (r : Row) → row_of t k ≡ Some r
+    → names keys k ≡ true → row_of (applied kind keys t) k ≡ Some (means kind r)
 meant_row kind keys t k r found named =
-    row_of-each_row (meant kind keys) t k ∙ ap (option_map (meant kind keys k)) found ∙ ap (λ (b : Bool). Some (if b then means kind r else r)) named
+    row_of-each_row (meant kind keys) t k ∙ ap (option_map (meant kind keys k)) found
+    ∙ ap (λ (b : Bool). Some (if b then means kind r else r)) named
 
-pub all-left : (kind : Kind) (keys : List Key) (t : Table) → takes_installed kind ≡ true → AppliesOn t kind keys → AllAre false keys (applied kind keys t)
+pub all-left : (kind : Kind) (keys : List Key) (t : Table) → takes_installed kind ≡ true
+    → AppliesOn t kind keys → AllAre false keys (applied kind keys t)
 all-left kind keys t is all = record {
-  each = λ k named. let fit = row_fit t kind k (all k named) in (means kind fit.0, meant_row kind keys t k fit.0 fit.1 named, (leaves kind fit.0 is fit.2).1);
+  each = λ k named. let fit = row_fit t kind k (all k named) in
+      (means kind fit.0, meant_row kind keys t k fit.0 fit.1 named, (leaves kind fit.0 is fit.2).1);
 }
 
-pub all-come : (kind : Kind) (keys : List Key) (t : Table) → is_arrival kind ≡ true → AppliesOn t kind keys → AllAre true keys (applied kind keys t)
+pub all-come : (kind : Kind) (keys : List Key) (t : Table) → is_arrival kind ≡ true
+    → AppliesOn t kind keys → AllAre true keys (applied kind keys t)
 all-come kind keys t is all = record {
-  each = λ k named. let fit = row_fit t kind k (all k named) in (means kind fit.0, meant_row kind keys t k fit.0 fit.1 named, (comes kind fit.0 is fit.2).1);
+  each = λ k named. let fit = row_fit t kind k (all k named) in
+      (means kind fit.0, meant_row kind keys t k fit.0 fit.1 named, (comes kind fit.0 is fit.2).1);
 }
 
-pub all-back : (kind : Kind) (keys : List Key) (t : Table) → takes_installed kind ≡ true → AppliesOn t kind keys → AllAre true keys t
-all-back kind keys t is all = record { each = λ k named. let fit = row_fit t kind k (all k named) in (fit.0, fit.1, (leaves kind fit.0 is fit.2).0) }
+pub all-back : (kind : Kind) (keys : List Key) (t : Table) → takes_installed kind ≡ true
+    → AppliesOn t kind keys → AllAre true keys t
+all-back kind keys t is all =
+    record {
+      each = λ k named.
+          let fit = row_fit t kind k (all k named) in
+          (fit.0, fit.1, (leaves kind fit.0 is fit.2).0);
+    }
 
 -- ---- 6. the entry with its number
 
@@ -189,19 +246,26 @@ entry_at-last : (ms : List Marked) (m : Marked) → entry_at (ms ++ m ∷ []) (l
 entry_at-last ms m =
     let back : length ms + 1 - 1 ≡ length ms = omega arith in
     let not_zero : (length ms + 1 == 0) ≡ false = grind (arith, nat_tests) in
-    ap (λ (b : Bool). if b then None else slice_get (ms ++ m ∷ []) (length ms + 1 - 1)) not_zero ∙ ap (slice_get (ms ++ m ∷ [])) back ∙ slice_get-last ms m
+    ap (λ (b : Bool). if b then None else slice_get (ms ++ m ∷ []) (length ms + 1 - 1)) not_zero
+    ∙ ap (slice_get (ms ++ m ∷ [])) back ∙ slice_get-last ms m
 
-slice_get-undone_at : (ms : List Marked) (i : ℕ) (m : Marked) → slice_get ms i ≡ Some m → slice_get (undone_at ms i) i ≡ Some (record m { mark = Undone })
+slice_get-undone_at : (ms : List Marked) (i : ℕ) (m : Marked) → slice_get ms i ≡ Some m
+    → slice_get (undone_at ms i) i ≡ Some (record m { mark = Undone })
 slice_get-undone_at [] zero m h = cc
 slice_get-undone_at [] (suc i) m h = cc
-slice_get-undone_at (x ∷ ms) zero m h = let same : x ≡ m = cc in ap (λ (y : Marked). Some (record y { mark = Undone })) same
+slice_get-undone_at (x ∷ ms) zero m h =
+    let same : x ≡ m = cc in ap (λ (y : Marked). Some (record y { mark = Undone })) same
 slice_get-undone_at (x ∷ ms) (suc i) m h = slice_get-undone_at ms i m h
 
-entry_at-undone : (ms : List Marked) (n : ℕ) (m : Marked) → entry_at ms n ≡ Some m → entry_at (undone ms n) n ≡ Some (record m { mark = Undone })
-entry_at-undone ms n m h = elim (n == 0) as (λ b. (if b then None else slice_get ms (n - 1)) ≡ Some m → (if b then None else slice_get (undone ms n) (n - 1)) ≡ Some (record m { mark = Undone })) [
-  | true ↦ λ g. cc
-  | false ↦ λ g. slice_get-undone_at ms (n - 1) m g
-] h
+entry_at-undone : (ms : List Marked) (n : ℕ) (m : Marked) → entry_at ms n ≡ Some m
+    → entry_at (undone ms n) n ≡ Some (record m { mark = Undone })
+entry_at-undone ms n m h =
+    elim (n == 0) as (λ b.
+    (if b then None else slice_get ms (n - 1)) ≡ Some m
+    → (if b then None else slice_get (undone ms n) (n - 1)) ≡ Some (record m { mark = Undone })) [
+      | true ↦ λ g. cc
+      | false ↦ λ g. slice_get-undone_at ms (n - 1) m g
+    ] h
 
 marked_same : (a b : Marked) → Some a ≡ Some b → a.entry ≡ b.entry
 marked_same a b h = let same : a ≡ b = cc in ap (λ (m : Marked). m.entry) same
@@ -211,97 +275,156 @@ none_some m h = cc
 
 -- ---- 7. an entry that was made
 
-at_entered : (n : ℕ) (now : History) (counts : List ℕ) (ws : List (Option ℕ)) (e : IsEntered n now counts ws) → entry_at now.journal n ≡ Some (standing_entry e.entry)
-at_entered n now counts ws e = (λ j. entry_at (e.is j).journal (e.number j)) ∙ entry_at-last e.before.journal (standing_entry e.entry)
+at_entered : (n : ℕ) (now : History) (counts : List ℕ) (ws : List (Option ℕ))
+    (e : IsEntered n now counts ws) → entry_at now.journal n ≡ Some (standing_entry e.entry)
+at_entered n now counts ws e =
+    (λ j. entry_at (e.is j).journal (e.number j))
+    ∙ entry_at-last e.before.journal (standing_entry e.entry)
 
-pub entered-none : (n : ℕ) (now : History) (counts : List ℕ) (ws : List (Option ℕ)) → IsEntered n now counts ws → None ≡ entry_at now.journal n → ⊥
-entered-none n now counts ws e got = none_some (standing_entry e.entry) (got ∙ at_entered n now counts ws e)
+pub entered-none : (n : ℕ) (now : History) (counts : List ℕ) (ws : List (Option ℕ))
+    → IsEntered n now counts ws → None ≡ entry_at now.journal n → ⊥
+entered-none n now counts ws e got =
+    none_some (standing_entry e.entry) (got ∙ at_entered n now counts ws e)
 
-entered-is : (n : ℕ) (now : History) (counts : List ℕ) (ws : List (Option ℕ)) (m : Marked) (e : IsEntered n now counts ws) → Some m ≡ entry_at now.journal n → m.entry ≡ e.entry
-entered-is n now counts ws m e got = marked_same m (standing_entry e.entry) (got ∙ at_entered n now counts ws e)
+entered-is : (n : ℕ) (now : History) (counts : List ℕ) (ws : List (Option ℕ)) (m : Marked)
+    (e : IsEntered n now counts ws) → Some m ≡ entry_at now.journal n → m.entry ≡ e.entry
+entered-is n now counts ws m e got =
+    marked_same m (standing_entry e.entry) (got ∙ at_entered n now counts ws e)
 
-rows_entered : (n : ℕ) (now : History) (counts : List ℕ) (ws : List (Option ℕ)) (e : IsEntered n now counts ws) → rows_of now ≡ applied e.entry.kind e.entry.keys (rows_of e.before)
+rows_entered : (n : ℕ) (now : History) (counts : List ℕ) (ws : List (Option ℕ))
+    (e : IsEntered n now counts ws)
+    → rows_of now ≡ applied e.entry.kind e.entry.keys (rows_of e.before)
 rows_entered n now counts ws e = ap rows_of e.is ∙ rows_with e.before e.entry
 
-pub entered-gone : (n : ℕ) (now : History) (counts : List ℕ) (ws : List (Option ℕ)) (m : Marked) → IsEntered n now counts ws → Some m ≡ entry_at now.journal n → takes_installed m.entry.kind ≡ true
+pub entered-gone : (n : ℕ) (now : History) (counts : List ℕ) (ws : List (Option ℕ)) (m : Marked)
+    → IsEntered n now counts ws → Some m ≡ entry_at now.journal n
+    → takes_installed m.entry.kind ≡ true
     → AllAre false m.entry.keys (rows_of now)
 entered-gone n now counts ws m e got takes =
     let same = entered-is n now counts ws m e got in
     subst (λ (ks : List Key). AllAre false ks (rows_of now)) (ap (λ (x : Entry). x.keys) (sym same))
-    (subst (AllAre false e.entry.keys) (sym (rows_entered n now counts ws e)) (all-left e.entry.kind e.entry.keys (rows_of e.before) (ap (λ (x : Entry). takes_installed x.kind) (sym same) ∙ takes) e.applies))
+    (subst (AllAre false e.entry.keys) (sym (rows_entered n now counts ws e))
+    (all-left e.entry.kind e.entry.keys (rows_of e.before)
+    (ap (λ (x : Entry). takes_installed x.kind) (sym same) ∙ takes) e.applies))
 
-pub entered-left : (n : ℕ) (now : History) (counts : List ℕ) (ws : List (Option ℕ)) (m : Marked) → IsEntered n now counts ws → Some m ≡ entry_at now.journal n → takes_installed m.entry.kind ≡ true
+pub entered-left : (n : ℕ) (now : History) (counts : List ℕ) (ws : List (Option ℕ)) (m : Marked)
+    → IsEntered n now counts ws → Some m ≡ entry_at now.journal n
+    → takes_installed m.entry.kind ≡ true
     → AreTallied (or_named m.entry.keys) counts ws (rows_of now)
 entered-left n now counts ws m e got takes =
     let same = entered-is n now counts ws m e got in
-    subst (λ (ks : List Key). AreTallied (or_named ks) counts ws (rows_of now)) (ap (λ (x : Entry). x.keys) (sym same))
+    subst (λ (ks : List Key). AreTallied (or_named ks) counts ws (rows_of now))
+    (ap (λ (x : Entry). x.keys) (sym same))
     (subst (AreTallied (or_named e.entry.keys) counts ws) (sym (rows_entered n now counts ws e))
-    (left-tallied e.entry.kind e.entry.keys (rows_of e.before) counts ws (ap (λ (x : Entry). takes_installed x.kind) (sym same) ∙ takes) (up_now e.before e.rising) e.applies e.tallied))
+    (left-tallied e.entry.kind e.entry.keys (rows_of e.before) counts ws
+    (ap (λ (x : Entry). takes_installed x.kind) (sym same) ∙ takes) (up_now e.before e.rising)
+    e.applies e.tallied))
 
-pub entered-there : (n : ℕ) (now : History) (counts : List ℕ) (ws : List (Option ℕ)) (m : Marked) → IsEntered n now counts ws → Some m ≡ entry_at now.journal n → is_arrival m.entry.kind ≡ true
+pub entered-there : (n : ℕ) (now : History) (counts : List ℕ) (ws : List (Option ℕ)) (m : Marked)
+    → IsEntered n now counts ws → Some m ≡ entry_at now.journal n → is_arrival m.entry.kind ≡ true
     → AllAre true m.entry.keys (rows_of now)
 entered-there n now counts ws m e got comes =
     let same = entered-is n now counts ws m e got in
     subst (λ (ks : List Key). AllAre true ks (rows_of now)) (ap (λ (x : Entry). x.keys) (sym same))
-    (subst (AllAre true e.entry.keys) (sym (rows_entered n now counts ws e)) (all-come e.entry.kind e.entry.keys (rows_of e.before) (ap (λ (x : Entry). is_arrival x.kind) (sym same) ∙ comes) e.applies))
+    (subst (AllAre true e.entry.keys) (sym (rows_entered n now counts ws e))
+    (all-come e.entry.kind e.entry.keys (rows_of e.before)
+    (ap (λ (x : Entry). is_arrival x.kind) (sym same) ∙ comes) e.applies))
 
-pub entered-come : (n : ℕ) (now : History) (counts : List ℕ) (ws : List (Option ℕ)) (m : Marked) → IsEntered n now counts ws → Some m ≡ entry_at now.journal n → is_arrival m.entry.kind ≡ true
+pub entered-come : (n : ℕ) (now : History) (counts : List ℕ) (ws : List (Option ℕ)) (m : Marked)
+    → IsEntered n now counts ws → Some m ≡ entry_at now.journal n → is_arrival m.entry.kind ≡ true
     → AreTallied (but_named m.entry.keys) counts ws (rows_of now)
 entered-come n now counts ws m e got comes =
     let same = entered-is n now counts ws m e got in
-    subst (λ (ks : List Key). AreTallied (but_named ks) counts ws (rows_of now)) (ap (λ (x : Entry). x.keys) (sym same))
+    subst (λ (ks : List Key). AreTallied (but_named ks) counts ws (rows_of now))
+    (ap (λ (x : Entry). x.keys) (sym same))
     (subst (AreTallied (but_named e.entry.keys) counts ws) (sym (rows_entered n now counts ws e))
-    (come-tallied e.entry.kind e.entry.keys (rows_of e.before) counts ws (ap (λ (x : Entry). is_arrival x.kind) (sym same) ∙ comes) (up_now e.before e.rising) e.applies e.tallied))
+    (come-tallied e.entry.kind e.entry.keys (rows_of e.before) counts ws
+    (ap (λ (x : Entry). is_arrival x.kind) (sym same) ∙ comes) (up_now e.before e.rising) e.applies
+    e.tallied))
 
-pub entered-same : (n : ℕ) (now : History) (counts : List ℕ) (ws : List (Option ℕ)) (m : Marked) → IsEntered n now counts ws → Some m ≡ entry_at now.journal n
-    → takes_installed m.entry.kind ≡ false → is_arrival m.entry.kind ≡ false → AreTallied is_there counts ws (rows_of now)
+pub entered-same : (n : ℕ) (now : History) (counts : List ℕ) (ws : List (Option ℕ)) (m : Marked)
+    → IsEntered n now counts ws → Some m ≡ entry_at now.journal n
+    → takes_installed m.entry.kind ≡ false → is_arrival m.entry.kind ≡ false
+    → AreTallied is_there counts ws (rows_of now)
 entered-same n now counts ws m e got takes comes =
     let same = entered-is n now counts ws m e got in
     subst (AreTallied is_there counts ws) (sym (rows_entered n now counts ws e))
-    (same-tallied e.entry.kind e.entry.keys (rows_of e.before) counts ws (ap (λ (x : Entry). takes_installed x.kind) (sym same) ∙ takes) (ap (λ (x : Entry). is_arrival x.kind) (sym same) ∙ comes)
+    (same-tallied e.entry.kind e.entry.keys (rows_of e.before) counts ws
+    (ap (λ (x : Entry). takes_installed x.kind) (sym same) ∙ takes)
+    (ap (λ (x : Entry). is_arrival x.kind) (sym same) ∙ comes)
     (up_now e.before e.rising) e.applies e.tallied)
 
 -- ---- 8. an entry that was undone
 
-at_taken : (n : ℕ) (now : History) (counts : List ℕ) (ws : List (Option ℕ)) (e : IsTakenBack n now counts ws) → entry_at now.journal n ≡ Some (record e.marked { mark = Undone })
-at_taken n now counts ws e = ap (λ (h : History). entry_at h.journal n) e.is ∙ entry_at-undone e.before.journal n e.marked e.there
+at_taken : (n : ℕ) (now : History) (counts : List ℕ) (ws : List (Option ℕ))
+    (e : IsTakenBack n now counts ws)
+    → entry_at now.journal n ≡ Some (record e.marked { mark = Undone })
+at_taken n now counts ws e =
+    ap (λ (h : History). entry_at h.journal n) e.is
+    ∙ entry_at-undone e.before.journal n e.marked e.there
 
-pub taken-none : (n : ℕ) (now : History) (counts : List ℕ) (ws : List (Option ℕ)) → IsTakenBack n now counts ws → None ≡ entry_at now.journal n → ⊥
-taken-none n now counts ws e got = none_some (record e.marked { mark = Undone }) (got ∙ at_taken n now counts ws e)
+pub taken-none : (n : ℕ) (now : History) (counts : List ℕ) (ws : List (Option ℕ))
+    → IsTakenBack n now counts ws → None ≡ entry_at now.journal n → ⊥
+taken-none n now counts ws e got =
+    none_some (record e.marked { mark = Undone }) (got ∙ at_taken n now counts ws e)
 
-taken-is : (n : ℕ) (now : History) (counts : List ℕ) (ws : List (Option ℕ)) (m : Marked) (e : IsTakenBack n now counts ws) → Some m ≡ entry_at now.journal n → m.entry ≡ e.marked.entry
-taken-is n now counts ws m e got = marked_same m (record e.marked { mark = Undone }) (got ∙ at_taken n now counts ws e)
+taken-is : (n : ℕ) (now : History) (counts : List ℕ) (ws : List (Option ℕ)) (m : Marked)
+    (e : IsTakenBack n now counts ws) → Some m ≡ entry_at now.journal n → m.entry ≡ e.marked.entry
+taken-is n now counts ws m e got =
+    marked_same m (record e.marked { mark = Undone }) (got ∙ at_taken n now counts ws e)
 
 -- the rows now are those that the undo leaves
-on_taken : (n : ℕ) (now : History) (counts : List ℕ) (ws : List (Option ℕ)) (e : IsTakenBack n now counts ws) → AppliesOn (rows_of now) e.marked.entry.kind e.marked.entry.keys
-on_taken n now counts ws e = subst (λ (h : History). AppliesOn (rows_of h) e.marked.entry.kind e.marked.entry.keys) (sym e.is) e.redone.applies
+on_taken : (n : ℕ) (now : History) (counts : List ℕ) (ws : List (Option ℕ))
+    (e : IsTakenBack n now counts ws)
+    → AppliesOn (rows_of now) e.marked.entry.kind e.marked.entry.keys
+on_taken n now counts ws e =
+    subst (λ (h : History). AppliesOn (rows_of h) e.marked.entry.kind e.marked.entry.keys)
+    (sym e.is) e.redone.applies
 
-rows_taken : (n : ℕ) (now : History) (counts : List ℕ) (ws : List (Option ℕ)) (e : IsTakenBack n now counts ws) → rows_of e.before ≡ applied e.marked.entry.kind e.marked.entry.keys (rows_of now)
-rows_taken n now counts ws e = e.redone.rows ∙ ap (λ (h : History). applied e.marked.entry.kind e.marked.entry.keys (rows_of h)) (sym e.is)
+rows_taken : (n : ℕ) (now : History) (counts : List ℕ) (ws : List (Option ℕ))
+    (e : IsTakenBack n now counts ws)
+    → rows_of e.before ≡ applied e.marked.entry.kind e.marked.entry.keys (rows_of now)
+rows_taken n now counts ws e =
+    e.redone.rows ∙ ap
+    (λ (h : History). applied e.marked.entry.kind e.marked.entry.keys (rows_of h)) (sym e.is)
 
-up_taken : (n : ℕ) (now : History) (counts : List ℕ) (ws : List (Option ℕ)) (e : IsTakenBack n now counts ws) → ascending (keys_of (rows_of now)) ≡ true
-up_taken n now counts ws e = up_now now (ap (λ (h : History). ascending (keys_of h.opening)) e.is ∙ e.rising)
+up_taken : (n : ℕ) (now : History) (counts : List ℕ) (ws : List (Option ℕ))
+    (e : IsTakenBack n now counts ws) → ascending (keys_of (rows_of now)) ≡ true
+up_taken n now counts ws e =
+    up_now now (ap (λ (h : History). ascending (keys_of h.opening)) e.is ∙ e.rising)
 
-pub taken-there : (n : ℕ) (now : History) (counts : List ℕ) (ws : List (Option ℕ)) (m : Marked) → IsTakenBack n now counts ws → Some m ≡ entry_at now.journal n → takes_installed m.entry.kind ≡ true
+pub taken-there : (n : ℕ) (now : History) (counts : List ℕ) (ws : List (Option ℕ)) (m : Marked)
+    → IsTakenBack n now counts ws → Some m ≡ entry_at now.journal n
+    → takes_installed m.entry.kind ≡ true
     → AllAre true m.entry.keys (rows_of now)
 taken-there n now counts ws m e got takes =
     let same = taken-is n now counts ws m e got in
     subst (λ (ks : List Key). AllAre true ks (rows_of now)) (ap (λ (x : Entry). x.keys) (sym same))
-    (all-back e.marked.entry.kind e.marked.entry.keys (rows_of now) (ap (λ (x : Entry). takes_installed x.kind) (sym same) ∙ takes) (on_taken n now counts ws e))
+    (all-back e.marked.entry.kind e.marked.entry.keys (rows_of now)
+    (ap (λ (x : Entry). takes_installed x.kind) (sym same) ∙ takes) (on_taken n now counts ws e))
 
-pub taken-back : (n : ℕ) (now : History) (counts : List ℕ) (ws : List (Option ℕ)) (m : Marked) → IsTakenBack n now counts ws → Some m ≡ entry_at now.journal n → takes_installed m.entry.kind ≡ true
+pub taken-back : (n : ℕ) (now : History) (counts : List ℕ) (ws : List (Option ℕ)) (m : Marked)
+    → IsTakenBack n now counts ws → Some m ≡ entry_at now.journal n
+    → takes_installed m.entry.kind ≡ true
     → AreTallied (but_named m.entry.keys) counts ws (rows_of now)
 taken-back n now counts ws m e got takes =
     let same = taken-is n now counts ws m e got in
-    subst (λ (ks : List Key). AreTallied (but_named ks) counts ws (rows_of now)) (ap (λ (x : Entry). x.keys) (sym same))
-    (back-tallied e.marked.entry.kind e.marked.entry.keys (rows_of now) counts ws (ap (λ (x : Entry). takes_installed x.kind) (sym same) ∙ takes) (up_taken n now counts ws e) (on_taken n now counts ws e)
+    subst (λ (ks : List Key). AreTallied (but_named ks) counts ws (rows_of now))
+    (ap (λ (x : Entry). x.keys) (sym same))
+    (back-tallied e.marked.entry.kind e.marked.entry.keys (rows_of now) counts ws
+    (ap (λ (x : Entry). takes_installed x.kind) (sym same) ∙ takes) (up_taken n now counts ws e)
+    (on_taken n now counts ws e)
     (subst (AreTallied is_there counts ws) (rows_taken n now counts ws e) e.tallied))
 
-pub taken-same : (n : ℕ) (now : History) (counts : List ℕ) (ws : List (Option ℕ)) (m : Marked) → IsTakenBack n now counts ws → Some m ≡ entry_at now.journal n → takes_installed m.entry.kind ≡ false
+pub taken-same : (n : ℕ) (now : History) (counts : List ℕ) (ws : List (Option ℕ)) (m : Marked)
+    → IsTakenBack n now counts ws → Some m ≡ entry_at now.journal n
+    → takes_installed m.entry.kind ≡ false
     → AreTallied is_there counts ws (rows_of now)
 taken-same n now counts ws m e got takes =
     let same = taken-is n now counts ws m e got in
-    same-back e.marked.entry.kind e.marked.entry.keys (rows_of now) counts ws (ap (λ (x : Entry). takes_installed x.kind) (sym same) ∙ takes) e.other (up_taken n now counts ws e) (on_taken n now counts ws e)
+    same-back e.marked.entry.kind e.marked.entry.keys (rows_of now) counts ws
+    (ap (λ (x : Entry). takes_installed x.kind) (sym same) ∙ takes) e.other
+    (up_taken n now counts ws e) (on_taken n now counts ws e)
     (subst (AreTallied is_there counts ws) (rows_taken n now counts ws e) e.tallied)
 
 -- a command is no arrival

@@ -1,5 +1,6 @@
 -- What an arrival and a sweep do to a book. This project's own.
-use Rattle.std.specs.Prelude.{◌≡◌, ◌≢◌, ℕ, ◌+◌, true, false, List, [], ◌∷◌, Option, Some, None, Result, Ok, Err, length}
+use Rattle.std.specs.Prelude.{◌≡◌, ◌≢◌, ℕ, ◌+◌, true, false, List, [], ◌∷◌, Option, Some, None}
+use Rattle.std.specs.Prelude.{Result, Ok, Err, length}
 use Rattle.std.specs.declared.alloc.AllocError.{AllocError}
 use Rattle.td_rows.specs.declared.key.Key.{Key}
 use Rattle.td_rows.specs.declared.row.Row.{Row}
@@ -10,7 +11,8 @@ use Rattle.td_core.specs.History.{rows_of, with_entry}
 use Rattle.td_core.specs.Offers.{freed, supply_now}
 use Rattle.td_book.specs.Desk.{BookModel}
 use Rattle.td_book.specs.declared.arriving.ArriveRefusal.{ArriveRefusal}
-use Rattle.td_book.specs.declared.arriving.ArriveRefusal.TheVariants.{NoSuchRow, DoesNotApply, NoMemory}
+use Rattle.td_book.specs.declared.arriving.ArriveRefusal.TheVariants.{NoSuchRow, DoesNotApply}
+use Rattle.td_book.specs.declared.arriving.ArriveRefusal.TheVariants.{NoMemory}
 
 -- the entry on the key, where its row has been built or uploaded; else, and for want of memory,
 -- nothing

@@ -1,5 +1,7 @@
 -- What a builder's start and finish do to a book. This project's own.
-use Rattle.std.specs.Prelude.{◌≡◌, ◌⊎◌, ℕ, ◌+◌, ◌≤◌, Bool, true, false, List, [], ◌∷◌, Some, None, Result, Ok, Err, length, slice_get, slice_set, string_bytes, unwrap_or}
+use Rattle.std.specs.Prelude.{◌≡◌, ◌⊎◌, ℕ, ◌+◌, ◌≤◌, Bool, true, false, List, [], ◌∷◌, Some, None}
+use Rattle.std.specs.Prelude.{Result, Ok, Err, length, slice_get, slice_set, string_bytes}
+use Rattle.std.specs.Prelude.{unwrap_or}
 use Rattle.td_board.specs.declared.views.RowView.TheVariants.{Known}
 use Rattle.td_board.specs.Knowledge.{with_finish}
 use Rattle.td_board.specs.declared.views.BuilderView.{BuilderView}
@@ -21,7 +23,8 @@ use Rattle.td_core.specs.History.{History, rows_of, with_entry}
 use Rattle.td_core.specs.Offers.{supply_now}
 use Rattle.td_book.specs.declared.starting.Job.{Job}
 use Rattle.td_book.specs.declared.starting.StartRefusal.{StartRefusal}
-use Rattle.td_book.specs.declared.starting.StartRefusal.TheVariants.{NothingHeld, NoMemory, Mismatch}
+use Rattle.td_book.specs.declared.starting.StartRefusal.TheVariants.{NothingHeld, NoMemory}
+use Rattle.td_book.specs.declared.starting.StartRefusal.TheVariants.{Mismatch}
 use Rattle.td_book.specs.Seen.{seen_off}
 use Rattle.td_book.specs.Desk.{InnerModel, BookModel, Stays, Spent}
 use Rattle.td_book.specs.Calls.{noting_one}

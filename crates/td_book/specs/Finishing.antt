@@ -1,5 +1,6 @@
 -- What the end of a build does to a book. This project's own.
-use Rattle.std.specs.Prelude.{◌≡◌, ◌⊎◌, ℕ, ◌+◌, ◌≤◌, Bool, true, false, [], ◌∷◌, Some, Result, Ok, Err, length, slice_get}
+use Rattle.std.specs.Prelude.{◌≡◌, ◌⊎◌, ℕ, ◌+◌, ◌≤◌, Bool, true, false, [], ◌∷◌, Some, Result, Ok}
+use Rattle.std.specs.Prelude.{Err, length, slice_get}
 use Rattle.td_board.specs.declared.outcome.OutcomeCode.{OutcomeCode}
 use Rattle.td_board.specs.declared.views.BuilderView.{BuilderView}
 use Rattle.td_board.specs.declared.views.Hand.{Hand}
@@ -11,7 +12,8 @@ use Rattle.td_rows.specs.declared.outcome.Outcome.{Outcome}
 use Rattle.td_rows.specs.Table.{keys_of}
 use Rattle.td_core.specs.History.{rows_of, with_entry}
 use Rattle.td_book.specs.declared.finishing.FinishRefusal.{FinishRefusal}
-use Rattle.td_book.specs.declared.finishing.FinishRefusal.TheVariants.{NothingHeld, NoMemory, Mismatch}
+use Rattle.td_book.specs.declared.finishing.FinishRefusal.TheVariants.{NothingHeld, NoMemory}
+use Rattle.td_book.specs.declared.finishing.FinishRefusal.TheVariants.{Mismatch}
 use Rattle.td_book.specs.Desk.{BookModel}
 use Rattle.td_book.specs.Deeds.{code_of}
 use Rattle.td_book.specs.Calls.{noting_one}

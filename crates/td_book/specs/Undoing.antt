@@ -1,5 +1,6 @@
 -- What an undo does to a book. This project's own.
-use Rattle.std.specs.Prelude.{◌≡◌, ℕ, ◌+◌, ◌≤◌, true, List, [], Option, Some, None, Result, Ok, Err, IsSomeAnd, if◌then◌else◌, length}
+use Rattle.std.specs.Prelude.{◌≡◌, ℕ, ◌+◌, ◌≤◌, true, List, [], Option, Some, None, Result, Ok, Err}
+use Rattle.std.specs.Prelude.{IsSomeAnd, if◌then◌else◌, length}
 use Rattle.td_rows.specs.declared.key.Key.{Key}
 use Rattle.td_rows.specs.Keys.{names}
 use Rattle.td_journal.specs.declared.entry.Mark.{Mark}

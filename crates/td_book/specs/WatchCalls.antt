@@ -1,12 +1,14 @@
 -- What the call `watch` does to a book. This project's own.
-use Rattle.std.specs.Prelude.{◌≡◌, ℕ, List, [], ◌∷◌, ◌++◌, Option, Some, None, Result, Ok, Err, is_some, nat_lt, if◌then◌else◌}
+use Rattle.std.specs.Prelude.{◌≡◌, ℕ, List, [], ◌∷◌, ◌++◌, Option, Some, None, Result, Ok, Err}
+use Rattle.std.specs.Prelude.{is_some, nat_lt, if◌then◌else◌}
 use Rattle.std.specs.Option.{option_map, option_or}
 use Rattle.td_rows.specs.declared.key.Key.{Key}
 use Rattle.td_rows.specs.Keys.{names}
 use Rattle.td_rows.specs.Table.{Table, row_of}
 use Rattle.td_core.specs.History.{rows_of}
 use Rattle.td_book.specs.declared.watching.WatchRefusal.{WatchRefusal}
-use Rattle.td_book.specs.declared.watching.WatchRefusal.TheVariants.{NoSuchRow, Twice, BadGroup, NoMemory}
+use Rattle.td_book.specs.declared.watching.WatchRefusal.TheVariants.{NoSuchRow, Twice, BadGroup}
+use Rattle.td_book.specs.declared.watching.WatchRefusal.TheVariants.{NoMemory}
 use Rattle.td_book.specs.Desk.{BookModel}
 use Rattle.td_book.specs.Watching.{WatchView, watch_of}
 

@@ -1,5 +1,6 @@
 //! What the desk does for a builder.
-ghost use Rattle.std.specs.Prelude.{◌≡◌, ◌+◌, ◌≤◌, ◌∷◌, [], true, Some, IfSome, IfNone, length, slice_get, slice_set};
+ghost use Rattle.std.specs.Prelude.{◌≡◌, ◌+◌, ◌≤◌, ◌∷◌, [], true, Some, IfSome, IfNone, length};
+ghost use Rattle.std.specs.Prelude.{slice_get, slice_set};
 ghost use mathlib.Core.Option.{some};
 ghost use lib.ListN.{get_elem?};
 ghost use Rattle.td_board.specs.declared.views.RowView.TheVariants.{In, Out, Known};
@@ -14,7 +15,8 @@ ghost use Rattle.td_book.specs.Seen.{seen_off};
 ghost use Rattle.td_book.specs.Deeds.{code_of};
 ghost use Rattle.td_book.specs.Desk.{HasOne, HasRoom, Stays};
 ghost use Rattle.td_book.specs.Calls.{Claimable};
-ghost use Rattle.td_book.specs.Building.{LostTo, Knows, Settling, IsClosing, IsEndingAt, IsEnded, IsUnended, ended_in, is_built_at};
+ghost use Rattle.td_book.specs.Building.{LostTo, Knows, Settling, IsClosing, IsEndingAt, IsEnded};
+ghost use Rattle.td_book.specs.Building.{IsUnended, ended_in, is_built_at};
 
 use crate::inner::{Inner, is_out};
 use td_board::{Board, BuilderSeat, OutcomeCode, Withdrawal};
@@ -24,7 +26,8 @@ use td_rows::{BuilderNo, Key, Kind, Outcome, Rows, applies};
 
 /// Whether the row with a number is Building by the builder.
 pub(crate) fn is_built(rows: &Rows, number: usize, builder: BuilderNo) -> bool
-    ensures { (k : KeyValue) (row : RowValue) → slice_get rows.now number ≡ Some (k, row) → result ≡ is_building_by builder row.state }
+    ensures { (k : KeyValue) (row : RowValue) → slice_get rows.now number ≡ Some (k, row)
+        → result ≡ is_building_by builder row.state }
 {
     match rows.at(number) {
         Some((_, row)) => applies(&Kind::Outcome(builder, Outcome::Built), row),
@@ -64,7 +67,8 @@ impl<'a> Inner<'a> {
     pub fn know(&mut self, board: &Board, row: usize, builder: BuilderNo, claim: Keys) -> bool
         ghost key: { KeyValue }
         requires board { board.now.table ≡ self.old.table }
-        requires at { (was : RowValue) × (slice_get (rows_of self.old.books.history) row ≡ Some (key, was)) }
+        requires at { (was : RowValue)
+            × (slice_get (rows_of self.old.books.history) row ≡ Some (key, was)) }
         requires claim { claim ≡ key ∷ [] }
         requires room { HasOne claim self.old.books }
         requires rest { self.old.view ≡ seen_off [] (rows_of self.old.books.history) }
@@ -91,14 +95,21 @@ impl<'a> Inner<'a> {
         ghost told: { Settling }
         requires board { board.now.table ≡ self.old.table }
         requires known { get_elem? self.old.view row ≡ some (Known told.by) }
-        requires planned { planned ≡ plan_of (Kind.Outcome told.by told.ended) (told.key ∷ []) (rows_of self.old.books.history) }
+        requires planned { planned
+            ≡ plan_of (Kind.Outcome told.by told.ended) (told.key ∷ [])
+            (rows_of self.old.books.history) }
         requires one { 1 ≤ told.by }
         requires code { code ≡ code_of told.ended }
         requires room { HasOne (told.key ∷ []) self.old.books }
-        requires at { (was : RowValue) × (slice_get (rows_of self.old.books.history) row ≡ Some (told.key, was)) × (is_building_by told.by was.state ≡ true) }
+        requires at { (was : RowValue)
+            × (slice_get (rows_of self.old.books.history) row ≡ Some (told.key, was))
+            × (is_building_by told.by was.state ≡ true) }
         ensures none { IfNone result (self.new ≡ self.old) }
         ensures number { IfSome result (λ n. n ≡ length self.old.books.history.journal + 1) }
-        ensures history { IfSome result (λ n. self.new.books.history ≡ with_entry self.old.books.history (record { kind = Kind.Outcome told.by told.ended; keys = told.key ∷ [] })) }
+        ensures history { IfSome result (λ n.
+            self.new.books.history
+            ≡ with_entry self.old.books.history
+            (record { kind = Kind.Outcome told.by told.ended; keys = told.key ∷ [] })) }
         ensures view { IfSome result (λ n. self.new.view ≡ slice_set self.old.view row In) }
         ensures stays { Stays self.old self.new }
     {
@@ -122,14 +133,18 @@ impl<'a> Inner<'a> {
     ) -> Option<EntryNo>
         requires board { board.now.table ≡ self.old.table }
         requires closing { IsClosing row builder self.old.books.history offered.now plan }
-        requires built { (k : KeyValue) → slice_get (keys_of (rows_of self.old.books.history)) row ≡ Some k → is_built_at (rows_of self.old.books.history) k builder ≡ true }
+        requires built { (k : KeyValue)
+            → slice_get (keys_of (rows_of self.old.books.history)) row ≡ Some k
+            → is_built_at (rows_of self.old.books.history) k builder ≡ true }
         requires one { 1 ≤ builder }
         requires code { code ≡ code_of (ended_in plan.kind) }
         requires room { HasOne offered.now self.old.books }
         requires rest { self.old.view ≡ seen_off [] (rows_of self.old.books.history) }
         ensures none { IfNone result (self.new ≡ self.old) }
         ensures number { IfSome result (λ n. n ≡ length self.old.books.history.journal + 1) }
-        ensures history { IfSome result (λ n. self.new.books.history ≡ with_entry self.old.books.history (record { kind = plan.kind; keys = offered.now })) }
+        ensures history { IfSome result (λ n.
+            self.new.books.history
+            ≡ with_entry self.old.books.history (record { kind = plan.kind; keys = offered.now })) }
         ensures rest { self.new.view ≡ seen_off [] (rows_of self.new.books.history) }
         ensures stays { Stays self.old self.new }
     {
@@ -160,8 +175,12 @@ impl<'a> Inner<'a> {
         ensures rest { self.new.view ≡ seen_off [] (rows_of self.new.books.history) }
         ensures stays { Stays self.old self.new }
         ensures table { seat.new.table ≡ seat.old.table }
-        ensures some { IfSome result (IsEnded row (ended_in ending.plan.kind) seat.old.builder seat.new.builder self.old self.new) }
-        ensures none { IfNone result (IsUnended row (ended_in ending.plan.kind) seat.old.builder seat.new.builder self.old self.new) }
+        ensures some { IfSome result
+            (IsEnded row (ended_in ending.plan.kind) seat.old.builder seat.new.builder self.old
+            self.new) }
+        ensures none { IfNone result
+            (IsUnended row (ended_in ending.plan.kind) seat.old.builder seat.new.builder self.old
+            self.new) }
     {
         let Ending {
             claim,

@@ -133,7 +133,8 @@ impl<'a> Book<'a> {
         requires among { (k : KeyValue) → names matched.items k ≡ true → names named.now k ≡ true }
         requires rows { HaveRows (rows_of self.old.history) named.now }
         requires kind { is_a_command kind ≡ true }
-        ensures { IsCommanded kind named.now matched.items (left_of kind doubts.items) self.old self.new result }
+        ensures { IsCommanded kind named.now matched.items (left_of kind doubts.items) self.old
+            self.new result }
     {
         let off = off_for(&kind, named);
         let Ok(judged) = kind.copy() else {

@@ -47,7 +47,8 @@ impl<'a> Book<'a> {
     ) -> Result<EntryNo, FinishRefusal>
         requires board { board.now.table ≡ self.old.fixed.table }
         requires seat { seat.old.table ≡ self.old.fixed.table }
-        ensures outcome { FinishOutcome seat.old.builder.hand outcome seat.old.builder seat.new.builder self.old self.new result }
+        ensures outcome { FinishOutcome seat.old.builder.hand outcome seat.old.builder
+            seat.new.builder self.old self.new result }
         ensures table { seat.new.table ≡ seat.old.table }
     {
         let _rows = self.inner.desk.rows();
@@ -94,7 +95,8 @@ impl<'a> Book<'a> {
         requires seat { seat.old.table ≡ self.old.fixed.table }
         requires hand { seat.old.builder.hand ≡ Holding row }
         requires within { row < length (rows_of self.old.history) }
-        ensures outcome { FinishHeld row outcome seat.old.builder seat.new.builder self.old self.new result }
+        ensures outcome { FinishHeld row outcome seat.old.builder seat.new.builder self.old self.new
+            result }
         ensures table { seat.new.table ≡ seat.old.table }
     {
         let code = code_of(&outcome);

@@ -1,5 +1,6 @@
 //! The rows that a command names, and those of them whose version matches.
-ghost use Rattle.std.specs.Prelude.{◌≡◌, ◌&&◌, ◌||◌, [], false, true, IfOk, OnOk, filter, is_some, map, option_map, string_bytes, if◌then◌else◌};
+ghost use Rattle.std.specs.Prelude.{◌≡◌, ◌&&◌, ◌||◌, [], false, true, IfOk, OnOk, filter, is_some};
+ghost use Rattle.std.specs.Prelude.{map, option_map, string_bytes, if◌then◌else◌};
 ghost use Rattle.std.specs.List.{list_any};
 ghost use Rattle.std.specs.List.Sorted.{IsStrictlySortedBy};
 ghost use Rattle.std.specs.Ordering.{nat_cmp};
@@ -9,7 +10,8 @@ ghost use Rattle.td_rows.specs.declared.key.Key.{Key as KeyValue};
 ghost use Rattle.td_rows.specs.Table.{Table, keys_of as every_key};
 ghost use Rattle.td_version.specs.Version.{parts_of as version_of};
 ghost use Rattle.td_wbread.specs.Views.{package_of, parts_of};
-ghost use Rattle.td_book.specs.Naming.{Adds, keys_at, is_matched_as, is_matched_at, named_in, version_in as version_in_supply};
+ghost use Rattle.td_book.specs.Naming.{Adds, keys_at, is_matched_as, is_matched_at, named_in};
+ghost use Rattle.td_book.specs.Naming.{version_in as version_in_supply};
 ghost use Rattle.td_book.specs.Skips.{doubt};
 
 use crate::skips::{Skip, SkipReason};
@@ -26,7 +28,9 @@ fn push_number(
     source: &str,
     arch: &str,
 ) -> Result<(), AllocError>
-    ensures { OnOk result (Adds rows.now (keys_at rows.now numbers.old.items) (keys_at rows.now numbers.new.items) (λ k. bytes_eq source.now k.source && bytes_eq arch.now k.arch)) }
+    ensures { OnOk result (Adds rows.now (keys_at rows.now numbers.old.items)
+        (keys_at rows.now numbers.new.items)
+        (λ k. bytes_eq source.now k.source && bytes_eq arch.now k.arch)) }
 {
     let _rising = rows.len();
     if let Some(number) = rows.number_of(source, arch) {
@@ -42,7 +46,9 @@ fn push_on_each(
     source: &str,
     archs: &[&str],
 ) -> Result<(), AllocError>
-    ensures { OnOk result (Adds rows.now (keys_at rows.now numbers.old.items) (keys_at rows.now numbers.new.items) (λ k. bytes_eq source.now k.source && list_any (λ a. bytes_eq a.now k.arch) archs.now)) }
+    ensures { OnOk result (Adds rows.now (keys_at rows.now numbers.old.items)
+        (keys_at rows.now numbers.new.items)
+        (λ k. bytes_eq source.now k.source && list_any (λ a. bytes_eq a.now k.arch) archs.now)) }
 {
     for arch in archs {
         push_number(numbers, rows, source, arch)?;
@@ -58,7 +64,10 @@ fn looked_up(
     packages: &[Package],
     archs: &[&str],
 ) -> Result<Vec<usize>, AllocError>
-    ensures { IfOk result (λ numbers. Adds rows.now [] (keys_at rows.now numbers.items) (λ k. list_any (λ p. bytes_eq (string_bytes p.source) k.source) packages.now && list_any (λ a. bytes_eq a.now k.arch) archs.now)) }
+    ensures { IfOk result (λ numbers.
+        Adds rows.now [] (keys_at rows.now numbers.items)
+        (λ k. list_any (λ p. bytes_eq (string_bytes p.source) k.source) packages.now
+        && list_any (λ a. bytes_eq a.now k.arch) archs.now)) }
 {
     let mut numbers = Vec::new(alloc);
     for package in packages {
@@ -70,7 +79,8 @@ fn looked_up(
 // Sorts numbers, and drops doubles.
 fn sort_numbers(numbers: &mut Vec<usize>)
     ensures rising { IsStrictlySortedBy nat_cmp numbers.new.items }
-    ensures same { (t : Table) (k : KeyValue) → names (keys_at t numbers.new.items) k ≡ names (keys_at t numbers.old.items) k }
+    ensures same { (t : Table) (k : KeyValue)
+        → names (keys_at t numbers.new.items) k ≡ names (keys_at t numbers.old.items) k }
 {
     numbers.sort_unstable();
     numbers.dedup();
@@ -113,7 +123,8 @@ fn matches_as(
     number: RebuildNumber,
     version: Option<Version<'_>>,
 ) -> bool
-    ensures { result ≡ is_matched_as (parts_of command.now) source.now number (option_map version_of version.entry) }
+    ensures { result ≡ is_matched_as (parts_of command.now) source.now number
+        (option_map version_of version.entry) }
 {
     match version {
         Some(version) => command.is_matched(source, &version, number),
@@ -151,7 +162,8 @@ pub(crate) fn matched(
     rows: &Rows,
     named: &[Key],
 ) -> Result<Vec<Key>, AllocError>
-    ensures { IfOk result (λ keys. keys.items ≡ filter (is_matched_at (parts_of command.now) supply.now rows.now) named.now) }
+    ensures { IfOk result (λ keys.
+        keys.items ≡ filter (is_matched_at (parts_of command.now) supply.now rows.now) named.now) }
 {
     let mut matched = Vec::new(alloc);
     for key in named {
@@ -185,7 +197,9 @@ pub(crate) fn doubts(
     rows: &Rows,
     named: &[Key],
 ) -> Result<Vec<Skip>, AllocError>
-    ensures { IfOk result (λ skips. skips.items ≡ map (doubt (is_matched_at (parts_of command.now) supply.now rows.now)) named.now) }
+    ensures { IfOk result (λ skips.
+        skips.items
+        ≡ map (doubt (is_matched_at (parts_of command.now) supply.now rows.now)) named.now) }
 {
     let mut doubts = Vec::new(alloc);
     for key in named {

@@ -35,7 +35,8 @@ impl Model for Offers {
 
     ghost view = { λ o. o.seat };
 
-    ghost invariant = { λ o. IsListed o.seat.desk.rows o.outs.items o.places.items (vec_capacity o.outs) };
+    ghost invariant = { λ o.
+        IsListed o.seat.desk.rows o.outs.items o.places.items (vec_capacity o.outs) };
 }
 
 impl Offers {
@@ -63,7 +64,8 @@ impl Offers {
 
     /// The numbers of the rows on offer, in no order.
     pub fn outs(&self, alloc: Global) -> Result<Vec<usize>, AllocError>
-        ensures { IfOk result (λ numbers. IsPermutation (outs_of self.now.desk.rows) numbers.items) }
+        ensures { IfOk result (λ numbers.
+            IsPermutation (outs_of self.now.desk.rows) numbers.items) }
     {
         Vec::from_slice(alloc, &self.outs)
     }

@@ -27,7 +27,17 @@ impl<'a> Book<'a> {
         requires fresh_seat { desk.desk ≡ new_desk (length rows) (length desk.desk.noted) }
         requires idle { NoneBuilt rows }
         requires fresh_supply { supply ≡ opened_stock (stock_of supply) }
-        ensures { IfOk result (λ book. book ≡ record { history = opened rows; fixed = record { table = desk.table; stock = stock_of supply.entry; builders = length desk.desk.noted; since = 0; watch = no_watch } }) }
+        ensures { IfOk result (λ book.
+            book ≡ record {
+              history = opened rows;
+              fixed = record {
+                table = desk.table;
+                stock = stock_of supply.entry;
+                builders = length desk.desk.noted;
+                since = 0;
+                watch = no_watch;
+              };
+            }) }
     {
         // (`len` says that the keys of the rows rise)
         let _rising = rows.len();

@@ -1,7 +1,8 @@
 //! The rows that a command names and doesn't take.
 ghost use Rattle.std.specs.Prelude.{◌≡◌, filter, map};
 ghost use Rattle.td_rows.specs.Table.{fits as fits_in};
-ghost use Rattle.td_book.specs.Skips.{is_left as is_left_in, left_of, renewed, state_at as state_in};
+ghost use Rattle.td_book.specs.Skips.{is_left as is_left_in, left_of, renewed};
+ghost use Rattle.td_book.specs.Skips.{state_at as state_in};
 
 use std::marker::Model;
 use td_rows::{Key, Kind, Rows, State, applies};

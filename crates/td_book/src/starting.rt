@@ -54,7 +54,8 @@ impl<'a> Book<'a> {
     pub fn start(&mut self, board: &Board, seat: &BuilderSeat) -> Result<Job, StartRefusal>
         requires board { board.now.table ≡ self.old.fixed.table }
         requires seat { seat.now.table ≡ self.old.fixed.table }
-        ensures { StartOutcome seat.now.builder.number seat.now.builder.hand self.old self.new result }
+        ensures { StartOutcome seat.now.builder.number seat.now.builder.hand self.old self.new
+            result }
     {
         let Hand::Holding(row) = seat.hand() else {
             return Err(StartRefusal::NothingHeld);

@@ -84,7 +84,8 @@ impl<'a> Book<'a> {
 
     // Copies of the keys of an entry, if its kind has the state.
     fn keys_off(&self, n: EntryNo) -> Result<Vec<Key>, AllocError>
-        ensures keys { (m : MarkedValue) → entry_at self.now.history.journal n ≡ Some m → IfOk result (λ keys. keys.items ≡ off_keys m.entry.kind m.entry.keys) }
+        ensures keys { (m : MarkedValue) → entry_at self.now.history.journal n ≡ Some m
+            → IfOk result (λ keys. keys.items ≡ off_keys m.entry.kind m.entry.keys) }
         ensures rising { IfOk result (λ keys. ascending keys.items ≡ true) }
     {
         match self.inner.books.journal().entry(n) {

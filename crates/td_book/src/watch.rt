@@ -1,10 +1,13 @@
 //! The rows that are watched, and how many of each group are Installed.
-ghost use Rattle.std.specs.Prelude.{◌≡◌, ◌+◌, ◌<◌, ◌≤◌, ◌^◌, ℕ, true, false, [], IfOk, IfSome, length, slice_index, slice_get, if◌then◌else◌};
+ghost use Rattle.std.specs.Prelude.{◌≡◌, ◌+◌, ◌<◌, ◌≤◌, ◌^◌, ℕ, true, false, [], IfOk, IfSome};
+ghost use Rattle.std.specs.Prelude.{length, slice_index, slice_get, if◌then◌else◌};
 ghost use Rattle.td_rows.specs.Keys.{ascending};
 ghost use Rattle.td_rows.specs.Table.{keys_of};
 ghost use Rattle.td_core.specs.History.{rows_of};
 ghost use Rattle.td_book.specs.Watching.{is_of, is_there};
-ghost use Rattle.td_book.specs.inner.Tallies.{AllAre, AreTallied, IsEntered, IsTakenBack, but_named, group_at, or_named, takes_installed as takes_it};
+ghost use Rattle.td_book.specs.inner.Tallies.{AllAre, AreTallied, IsEntered, IsTakenBack};
+ghost use Rattle.td_book.specs.inner.Tallies.{but_named, group_at, or_named};
+ghost use Rattle.td_book.specs.inner.Tallies.{takes_installed as takes_it};
 ghost use Rattle.td_core.specs.Offers.{is_arrival as is_an_arrival};
 
 use std::alloc::{AllocError, Global};
@@ -70,7 +73,8 @@ impl Watch {
     ) -> Result<Watch, AllocError>
         ensures groups { IfOk result (λ watch. watch.groups ≡ of_rows) }
         ensures len { IfOk result (λ watch. length watch.installed.items ≡ groups) }
-        ensures counts { IfOk result (λ watch. AreTallied is_there watch.installed.items watch.groups.items rows.now) }
+        ensures counts { IfOk result (λ watch.
+            AreTallied is_there watch.installed.items watch.groups.items rows.now) }
     {
         let mut watch = Watch {
             groups: of_rows,
@@ -82,8 +86,10 @@ impl Watch {
 
     // Counts the rows that are Installed.
     fn count(&mut self, rows: &Rows)
-        requires { (g : ℕ) → g < length self.old.installed.items → slice_index self.old.installed.items g ≡ 0 }
-        ensures counts { AreTallied is_there self.new.installed.items self.new.groups.items rows.now }
+        requires { (g : ℕ) → g < length self.old.installed.items
+            → slice_index self.old.installed.items g ≡ 0 }
+        ensures counts { AreTallied is_there self.new.installed.items self.new.groups.items
+            rows.now }
         ensures groups { self.new.groups ≡ self.old.groups }
         ensures len { length self.new.installed.items ≡ length self.old.installed.items }
     {
@@ -106,8 +112,13 @@ impl Watch {
 
     // One Installed row less in the group of the row with a number.
     fn lower(&mut self, number: usize)
-        requires { (g : ℕ) → g < length self.old.installed.items → is_of (group_at self.old.groups.items number) g ≡ true → 1 ≤ slice_index self.old.installed.items g }
-        ensures each { (g : ℕ) → g < length self.old.installed.items → slice_index self.new.installed.items g + (if is_of (group_at self.old.groups.items number) g then 1 else 0) ≡ slice_index self.old.installed.items g }
+        requires { (g : ℕ) → g < length self.old.installed.items
+            → is_of (group_at self.old.groups.items number) g ≡ true
+            → 1 ≤ slice_index self.old.installed.items g }
+        ensures each { (g : ℕ) → g < length self.old.installed.items
+            → slice_index self.new.installed.items g
+            + (if is_of (group_at self.old.groups.items number) g then 1 else 0)
+            ≡ slice_index self.old.installed.items g }
         ensures groups { self.new.groups ≡ self.old.groups }
         ensures len { length self.new.installed.items ≡ length self.old.installed.items }
     {
@@ -120,8 +131,13 @@ impl Watch {
 
     // One Installed row more in the group of the row with a number.
     fn raise(&mut self, number: usize)
-        requires { (g : ℕ) → g < length self.old.installed.items → is_of (group_at self.old.groups.items number) g ≡ true → slice_index self.old.installed.items g + 1 < 2 ^ 64 }
-        ensures each { (g : ℕ) → g < length self.old.installed.items → slice_index self.new.installed.items g ≡ (if is_of (group_at self.old.groups.items number) g then 1 else 0) + slice_index self.old.installed.items g }
+        requires { (g : ℕ) → g < length self.old.installed.items
+            → is_of (group_at self.old.groups.items number) g ≡ true
+            → slice_index self.old.installed.items g + 1 < 2 ^ 64 }
+        ensures each { (g : ℕ) → g < length self.old.installed.items
+            → slice_index self.new.installed.items g
+            ≡ (if is_of (group_at self.old.groups.items number) g then 1 else 0)
+            + slice_index self.old.installed.items g }
         ensures groups { self.new.groups ≡ self.old.groups }
         ensures len { length self.new.installed.items ≡ length self.old.installed.items }
     {
@@ -136,8 +152,10 @@ impl Watch {
     fn lower_each(&mut self, rows: &Rows, keys: &[Key])
         requires rising { ascending keys.now ≡ true }
         requires gone { AllAre false keys.now rows.now }
-        requires counts { AreTallied (or_named keys.now) self.old.installed.items self.old.groups.items rows.now }
-        ensures counts { AreTallied is_there self.new.installed.items self.new.groups.items rows.now }
+        requires counts { AreTallied (or_named keys.now) self.old.installed.items
+            self.old.groups.items rows.now }
+        ensures counts { AreTallied is_there self.new.installed.items self.new.groups.items
+            rows.now }
         ensures groups { self.new.groups ≡ self.old.groups }
         ensures len { length self.new.installed.items ≡ length self.old.installed.items }
     {
@@ -153,8 +171,10 @@ impl Watch {
     fn raise_each(&mut self, rows: &Rows, keys: &[Key])
         requires rising { ascending keys.now ≡ true }
         requires there { AllAre true keys.now rows.now }
-        requires counts { AreTallied (but_named keys.now) self.old.installed.items self.old.groups.items rows.now }
-        ensures counts { AreTallied is_there self.new.installed.items self.new.groups.items rows.now }
+        requires counts { AreTallied (but_named keys.now) self.old.installed.items
+            self.old.groups.items rows.now }
+        ensures counts { AreTallied is_there self.new.installed.items self.new.groups.items
+            rows.now }
         ensures groups { self.new.groups ≡ self.old.groups }
         ensures len { length self.new.installed.items ≡ length self.old.installed.items }
     {
@@ -169,7 +189,8 @@ impl Watch {
     /// Keeps the counts up with entry n, which was made last.
     pub fn entered(&mut self, books: &Books<'_>, n: EntryNo)
         requires { IsEntered n books.now.history self.old.installed.items self.old.groups.items }
-        ensures counts { AreTallied is_there self.new.installed.items self.new.groups.items (rows_of books.now.history) }
+        ensures counts { AreTallied is_there self.new.installed.items self.new.groups.items
+            (rows_of books.now.history) }
         ensures groups { self.new.groups ≡ self.old.groups }
         ensures len { length self.new.installed.items ≡ length self.old.installed.items }
     {
@@ -186,7 +207,8 @@ impl Watch {
     /// Keeps the counts up with the undo of entry n.
     pub fn undone(&mut self, books: &Books<'_>, n: EntryNo)
         requires { IsTakenBack n books.now.history self.old.installed.items self.old.groups.items }
-        ensures counts { AreTallied is_there self.new.installed.items self.new.groups.items (rows_of books.now.history) }
+        ensures counts { AreTallied is_there self.new.installed.items self.new.groups.items
+            (rows_of books.now.history) }
         ensures groups { self.new.groups ≡ self.old.groups }
         ensures len { length self.new.installed.items ≡ length self.old.installed.items }
     {

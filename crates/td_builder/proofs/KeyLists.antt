@@ -1,5 +1,7 @@
 -- The lines of keys, as one more is read.
-use Rattle.std.proofs.Common.{◌≡◌, ℕ, zero, suc, ◌+◌, Bool, true, false, cond, List, [], ◌∷◌, ◌++◌, length, map, Option, Some, None, is_some, Vec, refl, sym, ap, subst, ◌∙◌, arith, add-zero}
+use Rattle.std.proofs.Common.{◌≡◌, ℕ, zero, suc, ◌+◌, Bool, true, false, cond, List, [], ◌∷◌, ◌++◌}
+use Rattle.std.proofs.Common.{length, map, Option, Some, None, is_some, Vec, refl, sym, ap, subst}
+use Rattle.std.proofs.Common.{◌∙◌, arith, add-zero}
 use Rattle.std.specs.Prelude.{slice_get, ◌⊎◌}
 use Rattle.std.specs.Map.{lookup, set_value}
 use Rattle.std.specs.declared.alloc.Global.{Global}
@@ -15,45 +17,68 @@ use Rattle.td_builder.specs.Unused.{KeyLines, lines_of_key, numbered, codes_in}
 
 -- ---- the numbers of lines
 
-pub numbered-push : (k : Key) (n m : ℕ) (os : List (Key × Outcome)) (p : Key × Outcome) → n + length os ≡ m → numbered k n (os ++ p ∷ []) ≡ cond (same_key k p.0) (numbered k n os ++ record { code = code_of p.1; line = m } ∷ []) (numbered k n os)
+pub numbered-push : (k : Key) (n m : ℕ) (os : List (Key × Outcome)) (p : Key × Outcome)
+    → n + length os ≡ m → numbered k n (os ++ p ∷ [])
+    ≡ cond (same_key k p.0) (numbered k n os ++ record { code = code_of p.1; line = m } ∷ [])
+    (numbered k n os)
 numbered-push k n m [] p is =
     let here : n ≡ m = omega (arith, is) in
     ap (λ (x : ℕ). cond (same_key k p.0) (record { code = code_of p.1; line = x } ∷ []) []) here
 numbered-push k n m (q ∷ os) p is =
     let more = numbered-push k (n + 1) m os p (omega (arith, is)) in
-    elim (same_key k q.0) as (λ b. cond b (record { code = code_of q.1; line = n } ∷ numbered k (n + 1) (os ++ p ∷ [])) (numbered k (n + 1) (os ++ p ∷ []))
-    ≡ cond (same_key k p.0) (cond b (record { code = code_of q.1; line = n } ∷ numbered k (n + 1) os) (numbered k (n + 1) os) ++ record { code = code_of p.1; line = m } ∷ []) (cond b (record { code = code_of q.1; line = n } ∷ numbered k (n + 1) os) (numbered k (n + 1) os))) [
-      | true ↦ ap (λ (l : List KeyLine). record { code = code_of q.1; line = n } ∷ l) more ∙ pushed (same_key k p.0) (record { code = code_of q.1; line = n }) (numbered k (n + 1) os) (record { code = code_of p.1; line = m })
+    elim (same_key k q.0) as (λ b.
+    cond b (record { code = code_of q.1; line = n } ∷ numbered k (n + 1) (os ++ p ∷ []))
+    (numbered k (n + 1) (os ++ p ∷ []))
+    ≡ cond (same_key k p.0)
+    (cond b (record { code = code_of q.1; line = n } ∷ numbered k (n + 1) os)
+    (numbered k (n + 1) os) ++ record { code = code_of p.1; line = m } ∷ [])
+    (cond b (record { code = code_of q.1; line = n } ∷ numbered k (n + 1) os)
+    (numbered k (n + 1) os))) [
+      | true ↦
+          ap (λ (l : List KeyLine). record { code = code_of q.1; line = n } ∷ l) more
+          ∙ pushed (same_key k p.0) (record { code = code_of q.1; line = n })
+          (numbered k (n + 1) os) (record { code = code_of p.1; line = m })
       | false ↦ more
     ]
   where
-    pushed : (b : Bool) (x : KeyLine) (l : List KeyLine) (y : KeyLine) → x ∷ cond b (l ++ y ∷ []) l ≡ cond b (x ∷ (l ++ y ∷ [])) (x ∷ l)
+    pushed : (b : Bool) (x : KeyLine) (l : List KeyLine) (y : KeyLine)
+        → x ∷ cond b (l ++ y ∷ []) l ≡ cond b (x ∷ (l ++ y ∷ [])) (x ∷ l)
     pushed true x l y = refl
     pushed false x l y = refl
 
 -- the codes of a key's lines
-pub codes_numbered : (k : Key) (n : ℕ) (os : List (Key × Outcome)) → map (λ (l : KeyLine). l.code) (numbered k n os) ≡ codes_in k os
+pub codes_numbered : (k : Key) (n : ℕ) (os : List (Key × Outcome))
+    → map (λ (l : KeyLine). l.code) (numbered k n os) ≡ codes_in k os
 codes_numbered k n [] = refl
 codes_numbered k n (p ∷ os) =
-    elim (same_key k p.0) as (λ b. map (λ (l : KeyLine). l.code) (cond b (record { code = code_of p.1; line = n } ∷ numbered k (n + 1) os) (numbered k (n + 1) os)) ≡ cond b (code_of p.1 ∷ codes_in k os) (codes_in k os)) [
+    elim (same_key k p.0) as (λ b.
+    map (λ (l : KeyLine). l.code)
+    (cond b (record { code = code_of p.1; line = n } ∷ numbered k (n + 1) os)
+    (numbered k (n + 1) os)) ≡ cond b (code_of p.1 ∷ codes_in k os) (codes_in k os)) [
       | true ↦ ap (λ (l : List OutcomeCode). code_of p.1 ∷ l) (codes_numbered k (n + 1) os)
       | false ↦ codes_numbered k (n + 1) os
     ]
 
-pub texts-push : (os : List (Key × Outcome)) (p : Key × Outcome) → map (λ (x : Key × Outcome). outcome_text x.1) (os ++ p ∷ []) ≡ map (λ (x : Key × Outcome). outcome_text x.1) os ++ outcome_text p.1 ∷ []
+pub texts-push : (os : List (Key × Outcome)) (p : Key × Outcome)
+    → map (λ (x : Key × Outcome). outcome_text x.1) (os ++ p ∷ [])
+    ≡ map (λ (x : Key × Outcome). outcome_text x.1) os ++ outcome_text p.1 ∷ []
 texts-push [] p = refl
 texts-push (q ∷ os) p = ap (λ (l : List (List ℕ)). outcome_text q.1 ∷ l) (texts-push os p)
 
-pub length-texts : (os : List (Key × Outcome)) → length (map (λ (x : Key × Outcome). outcome_text x.1) os) ≡ length os
+pub length-texts : (os : List (Key × Outcome))
+    → length (map (λ (x : Key × Outcome). outcome_text x.1) os) ≡ length os
 length-texts [] = refl
 length-texts (p ∷ os) = ap suc (length-texts os)
 
 -- a line's code is among the codes
-pub code_at : (lines : List KeyLine) (n : ℕ) (line : KeyLine) → slice_get lines n ≡ Some line → slice_get (map (λ (l : KeyLine). l.code) lines) n ≡ Some line.code
+pub code_at : (lines : List KeyLine) (n : ℕ) (line : KeyLine) → slice_get lines n ≡ Some line
+    → slice_get (map (λ (l : KeyLine). l.code) lines) n ≡ Some line.code
 code_at [] n line e = absurd cc
-code_at (x ∷ lines) zero line e = ap (λ (o : Option KeyLine). elim o [ Some l ↦ Some l.code | None ↦ None ]) e
+code_at (x ∷ lines) zero line e =
+    ap (λ (o : Option KeyLine). elim o [ Some l ↦ Some l.code | None ↦ None ]) e
 code_at (x ∷ lines) (suc n) line e = code_at lines n line e
 
-pub length-push : (os : List (Key × Outcome)) (p : Key × Outcome) → length (os ++ p ∷ []) ≡ suc (length os)
+pub length-push : (os : List (Key × Outcome)) (p : Key × Outcome)
+    → length (os ++ p ∷ []) ≡ suc (length os)
 length-push [] p = refl
 length-push (q ∷ os) p = ap suc (length-push os p)

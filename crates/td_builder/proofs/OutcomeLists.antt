@@ -1,5 +1,7 @@
 -- The outcomes of lines, one by one.
-use Rattle.std.proofs.Common.{◌≡◌, ℕ, suc, ◌+◌, ◌<◌, true, false, eqb, List, [], ◌∷◌, ◌++◌, map, length, Option, Some, None, refl, sym, ap, subst, ◌∙◌, append_assoc, arith}
+use Rattle.std.proofs.Common.{◌≡◌, ℕ, suc, ◌+◌, ◌<◌, true, false, eqb, List, [], ◌∷◌, ◌++◌, map}
+use Rattle.std.proofs.Common.{length, Option, Some, None, refl, sym, ap, subst, ◌∙◌, append_assoc}
+use Rattle.std.proofs.Common.{arith}
 use Rattle.std.specs.Prelude.{◌≢◌}
 use Rattle.std.specs.Borrow.{Bor}
 use Rattle.std.specs.List.{AllByRecursion}
@@ -23,7 +25,8 @@ pub ended-none : ended (lines_of []) ≡ ended []
 unfolding ended
 ended-none = refl
 
-ended-filled : (line : List ℕ) (lines : List (List ℕ)) → 0 < length lines → ended (line ∷ lines) ≡ line ∷ ended lines
+ended-filled : (line : List ℕ) (lines : List (List ℕ)) → 0 < length lines
+    → ended (line ∷ lines) ≡ line ∷ ended lines
 unfolding ended
 ended-filled [] [] some = absurd (omega arith)
 ended-filled [] (next ∷ lines) some = refl
@@ -34,9 +37,11 @@ unfolding ended
 ended-empty t none = ap (λ (l : List ℕ). ended (lines_of l)) none
 
 -- a text that isn't empty has its first line
-pub ended-next : (t line : List ℕ) (o : Option (Bor (List ℕ))) → lines_of t ≡ line ∷ lines_left o → t ≡ line ++ left_text o → t ≢ [] → ended (lines_of t) ≡ line ∷ ended (lines_left o)
+pub ended-next : (t line : List ℕ) (o : Option (Bor (List ℕ))) → lines_of t ≡ line ∷ lines_left o
+    → t ≡ line ++ left_text o → t ≢ [] → ended (lines_of t) ≡ line ∷ ended (lines_left o)
 unfolding ended
-ended-next t line (Some rest) is whole some = ap ended is ∙ ended-filled line (lines_of rest.now) (has_line rest.now)
+ended-next t line (Some rest) is whole some =
+    ap ended is ∙ ended-filled line (lines_of rest.now) (has_line rest.now)
 ended-next t [] None is whole some = absurd (some whole)
 ended-next t (x ∷ line) None is whole some = ap ended is
 
@@ -54,16 +59,19 @@ no_text (x ∷ t) h = absurd (let none = eqb-true (suc (length t)) 0 h in omega 
 
 -- ---- line by line
 
-all-push : (os : List (Key × Outcome)) (p : Key × Outcome) → AllByRecursion OutcomeFits os → OutcomeFits p → AllByRecursion OutcomeFits (os ++ p ∷ [])
+all-push : (os : List (Key × Outcome)) (p : Key × Outcome) → AllByRecursion OutcomeFits os
+    → OutcomeFits p → AllByRecursion OutcomeFits (os ++ p ∷ [])
 all-push [] p h fits = (fits, tt)
 all-push (x ∷ os) p h fits = (h.0, all-push os p h.1 fits)
 
-map-push : (os : List (Key × Outcome)) (p : Key × Outcome) → map outcome_line (os ++ p ∷ []) ≡ map outcome_line os ++ outcome_line p ∷ []
+map-push : (os : List (Key × Outcome)) (p : Key × Outcome)
+    → map outcome_line (os ++ p ∷ []) ≡ map outcome_line os ++ outcome_line p ∷ []
 map-push [] p = refl
 map-push (x ∷ os) p = ap (λ (l : List (List ℕ)). outcome_line x ∷ l) (map-push os p)
 
 -- what the outcomes that were read say of the lines, and what is left of these
-pub record AreRead (lines : List (List ℕ)) (os : List (Key × Outcome)) (left : List (List ℕ)) : Type 0 where
+pub record AreRead (lines : List (List ℕ)) (os : List (Key × Outcome))
+    (left : List (List ℕ)) : Type 0 where
   pub parts : lines ≡ map outcome_line os ++ left
   pub fits : AllByRecursion OutcomeFits os
 
@@ -71,29 +79,42 @@ pub AreRead-none : (lines : List (List ℕ)) → AreRead lines [] lines
 AreRead-none lines = record { parts = refl; fits = tt }
 
 -- a line that is read
-pub AreRead-push : (lines : List (List ℕ)) (os : List (Key × Outcome)) (p : Key × Outcome) (line : List ℕ) (left after : List (List ℕ)) → AreRead lines os left → left ≡ line ∷ after → outcome_line_at line ≡ Some p → AreRead lines (os ++ p ∷ []) after
+pub AreRead-push : (lines : List (List ℕ)) (os : List (Key × Outcome)) (p : Key × Outcome)
+    (line : List ℕ) (left after : List (List ℕ)) → AreRead lines os left → left ≡ line ∷ after
+    → outcome_line_at line ≡ Some p → AreRead lines (os ++ p ∷ []) after
 AreRead-push lines os p line left after h is read =
     let f = lines_exact.found line p read in
     record {
       parts = h.parts
-          ∙ ap (λ (l : List (List ℕ)). map outcome_line os ++ l) (is ∙ ap (λ (t : List ℕ). t ∷ after) f.0)
+          ∙ ap (λ (l : List (List ℕ)). map outcome_line os ++ l)
+          (is ∙ ap (λ (t : List ℕ). t ∷ after) f.0)
           ∙ sym (append_assoc (map outcome_line os) (outcome_line p ∷ []) after)
           ∙ ap (λ (l : List (List ℕ)). l ++ after) (sym (map-push os p));
       fits = all-push os p h.fits f.1;
     }
 
 -- no line is left
-pub AreRead-all : (lines : List (List ℕ)) (os : List (Key × Outcome)) (left : List (List ℕ)) → AreRead lines os left → left ≡ [] → AreOutcomes lines os
-AreRead-all lines os left h none = record { spelled = h.parts ∙ ap (λ (l : List (List ℕ)). map outcome_line os ++ l) none ∙ append-nil (map outcome_line os); fits = h.fits }
+pub AreRead-all : (lines : List (List ℕ)) (os : List (Key × Outcome)) (left : List (List ℕ))
+    → AreRead lines os left → left ≡ [] → AreOutcomes lines os
+AreRead-all lines os left h none =
+    record {
+      spelled = h.parts ∙ ap (λ (l : List (List ℕ)). map outcome_line os ++ l) none
+          ∙ append-nil (map outcome_line os);
+      fits = h.fits;
+    }
 
 -- a line that isn't read
-pub AreRead-bad : (number : ℕ) (lines : List (List ℕ)) (os : List (Key × Outcome)) (line : List ℕ) (left after : List (List ℕ)) → AreRead lines os left → left ≡ line ∷ after → outcome_line_at line ≡ None → number ≡ 1 + length os → IsFirstBad lines number
+pub AreRead-bad : (number : ℕ) (lines : List (List ℕ)) (os : List (Key × Outcome)) (line : List ℕ)
+    (left after : List (List ℕ)) → AreRead lines os left → left ≡ line ∷ after
+    → outcome_line_at line ≡ None → number ≡ 1 + length os → IsFirstBad lines number
 AreRead-bad number lines os line left after h is none counted = record {
   before = os;
   line = line;
   after = after;
   parts = h.parts ∙ ap (λ (l : List (List ℕ)). map outcome_line os ++ l) is;
   fits = h.fits;
-  other = λ p fits same. (let bad : Some p ≡ None = sym (lines_exact.again p fits) ∙ ap outcome_line_at (sym same) ∙ none in absurd cc);
+  other = λ p fits same.
+      (let bad : Some p ≡ None =
+      sym (lines_exact.again p fits) ∙ ap outcome_line_at (sym same) ∙ none in absurd cc);
   counted = counted;
 }

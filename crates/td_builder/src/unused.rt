@@ -57,7 +57,8 @@ impl Unused {
     pub fn next(&mut self, alloc: Global, slot: usize, lines: &[KeyLine]) -> Option<Outcome>
         ensures taken { IfSome result (IsTaken slot lines.now
             self.old.used.items self.new.used.items self.old.texts.items self.new.texts.items) }
-        ensures none { IfNone result (IsNext slot lines.now self.old.used.items self.old.texts.items → ⊥) }
+        ensures none { IfNone result
+            (IsNext slot lines.now self.old.used.items self.old.texts.items → ⊥) }
         ensures same { IfNone result (self.new ≡ self.old) }
     {
         if slot >= self.used.len() {

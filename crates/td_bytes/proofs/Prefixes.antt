@@ -15,5 +15,9 @@ AppendsPrefix-first a b first second p =
 pub AppendsPrefix-second : (a b c : Option (List ℕ)) (first second : List ℕ) → Appends a b first
     → AppendsPrefix b c second → AppendsPrefix a c (first ++ second)
 AppendsPrefix-second a b c first second p q =
-    let (front, rest, split, appended) = q in
-    (first ++ front, rest, ap (λ l. first ++ l) split ∙ sym (append_assoc first front rest), Appends-trans a b c first front p appended)
+    let (front, rest, split, appended) = q in (
+      first ++ front,
+      rest,
+      ap (λ l. first ++ l) split ∙ sym (append_assoc first front rest),
+      Appends-trans a b c first front p appended,
+    )

@@ -20,7 +20,8 @@ use Rattle.td_change.proofs.Numbers.{is_some-row_of, changed_at-number_of, HaveR
 pub put_back-push : (m : Cells) (kept : List (ℕ × Row)) (n : ℕ) (row : Row) (t : Table)
     → put_back m (kept ++ (n, row) ∷ []) t ≡ put_back m kept (changed_at n (restore m row) t)
 put_back-push m [] n row t = refl
-put_back-push m (s ∷ kept) n row t = ap (changed_at s.0 (restore m s.1)) (put_back-push m kept n row t)
+put_back-push m (s ∷ kept) n row t =
+    ap (changed_at s.0 (restore m s.1)) (put_back-push m kept n row t)
 
 -- the inner choice is the outer one
 inner_then : {A : Type 0} (b : Bool) (x y z : A)
@@ -56,13 +57,16 @@ restore-restore m was first row = λ j. record {
 
 pub keys_of-given_back : (m : Cells) (keys : List Key) (was now : Table)
     → keys_of (given_back m keys was now) ≡ keys_of now
-keys_of-given_back m keys was now = keys_of-each_row (λ k row. if names keys k then restore m (row_at was k) row else row) now
+keys_of-given_back m keys was now =
+    keys_of-each_row (λ k row. if names keys k then restore m (row_at was k) row else row) now
 
 -- one key more
 given_back-more : (m : Cells) (k : Key) (keys : List Key) (was now : Table)
     → each_row (at_key k (restore m (only m (row_at was k)))) (given_back m keys was now)
     ≡ given_back m (k ∷ keys) was now
-given_back-more m k keys was now = each_row-each_row back (at_key k (restore m (only m (row_at was k)))) now ∙ each_row-alike _ _ now alike
+given_back-more m k keys was now =
+    each_row-each_row back (at_key k (restore m (only m (row_at was k)))) now
+    ∙ each_row-alike _ _ now alike
   where
     back : Key → Row → Row
     back q row = if names keys q then restore m (row_at was q) row else row
@@ -71,13 +75,26 @@ given_back-more m k keys was now = each_row-each_row back (at_key k (restore m (
         → at_key k (restore m (only m (row_at was k))) q
         (if names keys q then restore m (row_at was q) row else row)
         ≡ (if names (k ∷ keys) q then restore m (row_at was q) row else row)
-    alike q row = elim (same_key q k) as (λ b. same_key q k ≡ b → (if b then restore m (only m (row_at was k)) (if names keys q then restore m (row_at was q) row else row) else (if names keys q then restore m (row_at was q) row else row)) ≡ (if (if b then true else names keys q) then restore m (row_at was q) row else row)) [
-      | true ↦ λ e.
-          restore-only m (row_at was k) (if names keys q then restore m (row_at was q) row else row)
-          ∙ elim (names keys q) as (λ b. restore m (row_at was k) (if b then restore m (row_at was q) row else row) ≡ restore m (row_at was k) row) [ true ↦ restore-restore m (row_at was k) (row_at was q) row | false ↦ refl ]
-          ∙ ap (λ (x : Key). restore m (row_at was x) row) (sym (same_key-true q k e))
-      | false ↦ λ _. refl
-    ] refl
+    alike q row =
+        elim (same_key q k) as (λ b.
+        same_key q k ≡ b → (if b
+        then restore m (only m (row_at was k))
+        (if names keys q then restore m (row_at was q) row else row)
+        else (if names keys q then restore m (row_at was q) row else row))
+        ≡ (if (if b then true else names keys q) then restore m (row_at was q) row else row)) [
+          | true ↦ λ e.
+              restore-only m (row_at was k)
+              (if names keys q then restore m (row_at was q) row else row)
+              ∙ elim (names keys q) as (λ b.
+              restore m (row_at was k) (if b then restore m (row_at was q) row else row)
+              ≡ restore m (row_at was k) row) [
+                | true ↦
+                    restore-restore m (row_at was k) (row_at was q) row
+                | false ↦ refl
+              ]
+              ∙ ap (λ (x : Key). restore m (row_at was x) row) (sym (same_key-true q k e))
+          | false ↦ λ _. refl
+        ] refl
 
 -- the kept rows, given back one by one
 pub put_back-kept : (m : Cells) (keys : List Key) (was now : Table) → ascending (keys_of now) ≡ true
@@ -87,10 +104,14 @@ put_back-kept m [] was now up same have = sym (each_row-itself now)
 put_back-kept m (k ∷ keys) was now up same have =
     let rest = given_back m keys was now in
     let keys_are : keys_of rest ≡ keys_of was = keys_of-given_back m keys was now ∙ sym same in
-    let rising : ascending (keys_of rest) ≡ true = ap ascending (keys_of-given_back m keys was now) ∙ up in
-    let some : is_some (row_of rest k) ≡ true = is_some-row_of rest k ∙ ap (λ (ks : List Key). names ks k) keys_are ∙ sym (is_some-row_of was k) ∙ have k (ap (λ b. if b then true else names keys k) (same_key-refl k)) in
+    let rising : ascending (keys_of rest) ≡ true =
+    ap ascending (keys_of-given_back m keys was now) ∙ up in
+    let some : is_some (row_of rest k) ≡ true =
+    is_some-row_of rest k ∙ ap (λ (ks : List Key). names ks k) keys_are ∙ sym (is_some-row_of was k)
+    ∙ have k (ap (λ b. if b then true else names keys k) (same_key-refl k)) in
     let f : Row → Row = restore m (only m (row_at was k)) in
-    ap (changed_at (number_of was k) f) (put_back-kept m keys was now up same (HaveRows-rest was k keys have))
+    ap (changed_at (number_of was k) f)
+    (put_back-kept m keys was now up same (HaveRows-rest was k keys have))
     ∙ ap (λ (ks : List Key). changed_at (place_of ks k) f rest) (sym keys_are)
     ∙ changed_at-number_of rest k f rising some
     ∙ given_back-more m k keys was now

@@ -17,7 +17,9 @@ pub slice_get-number_of : (t : Table) (k : Key) (r : Row) → row_of t k ≡ Som
     → slice_get t (number_of t k) ≡ Some (k, r)
 slice_get-number_of [] k r found = cc
 slice_get-number_of (p ∷ t) k r found =
-    elim (same_key k p.0) as (λ b. same_key k p.0 ≡ b → (if b then Some p.1 else row_of t k) ≡ Some r → slice_get (p ∷ t) (if b then 0 else suc (place_of (keys_of t) k)) ≡ Some (k, r)) [
+    elim (same_key k p.0) as (λ b.
+    same_key k p.0 ≡ b → (if b then Some p.1 else row_of t k) ≡ Some r
+    → slice_get (p ∷ t) (if b then 0 else suc (place_of (keys_of t) k)) ≡ Some (k, r)) [
       | true ↦ λ e f. let row : p.1 ≡ r = cc in λ j. Some (sym (same_key-true k p.0 e) j, row j)
       | false ↦ λ _ f. slice_get-number_of t k r f
     ] refl found
@@ -28,17 +30,26 @@ pub number_of-at : (t : Table) (k : Key) (n : ℕ) (r : Row) → ascending (keys
 number_of-at [] k zero r up at = cc
 number_of-at [] k (suc n) r up at = cc
 number_of-at (p ∷ t) k zero r up at =
-    let same : same_key k p.0 ≡ true = subst (λ (q : Key). same_key k q ≡ true) (sym (some_pair_parts p.0 k p.1 r at).0) (same_key-refl k) in
+    let same : same_key k p.0 ≡ true =
+    subst (λ (q : Key). same_key k q ≡ true) (sym (some_pair_parts p.0 k p.1 r at).0)
+    (same_key-refl k) in
     ap (λ b. if b then 0 else suc (place_of (keys_of t) k)) (sym same)
 number_of-at (p ∷ t) k (suc n) r up at =
     let both = and_parts (below_all p.0 (keys_of t)) (ascending (keys_of t)) up in
-    let other : same_key k p.0 ≡ false = same_key-apart p.0 k (head-apart p t k r both.0 (row_of-at t k n r both.1 at)) in
-    ap suc (number_of-at t k n r both.1 at) ∙ ap (λ b. if b then 0 else suc (place_of (keys_of t) k)) (sym other)
+    let other : same_key k p.0 ≡ false =
+    same_key-apart p.0 k (head-apart p t k r both.0 (row_of-at t k n r both.1 at)) in
+    ap suc (number_of-at t k n r both.1 at)
+    ∙ ap (λ b. if b then 0 else suc (place_of (keys_of t) k)) (sym other)
 
 -- whether a key has a row is told by the keys
 pub is_some-row_of : (t : Table) (k : Key) → is_some (row_of t k) ≡ names (keys_of t) k
 is_some-row_of [] k = refl
-is_some-row_of (p ∷ t) k = elim (same_key k p.0) as (λ b. is_some (if b then Some p.1 else row_of t k) ≡ (if b then true else names (keys_of t) k)) [ true ↦ refl | false ↦ is_some-row_of t k ]
+is_some-row_of (p ∷ t) k =
+    elim (same_key k p.0) as (λ b.
+    is_some (if b then Some p.1 else row_of t k) ≡ (if b then true else names (keys_of t) k)) [
+      | true ↦ refl
+      | false ↦ is_some-row_of t k
+    ]
 
 pub there : {A : Type 0} (o : Option A) → is_some o ≡ true → (x : A) × (o ≡ Some x)
 there None h = absurd cc
@@ -62,13 +73,19 @@ names-below x (k ∷ ks) h =
 pub named-apart : (ks : List Key) (k q : Key) → names ks k ≡ false → names ks q ≡ true
     → same_key q k ≡ false
 named-apart ks k q unnamed named = elim (same_key q k) as (λ b. same_key q k ≡ b → b ≡ false) [
-  | true ↦ λ e. absurd (let bad : true ≡ false = sym named ∙ ap (names ks) (same_key-true q k e) ∙ unnamed in cc)
+  | true ↦
+      λ e. absurd
+      (let bad : true ≡ false = sym named ∙ ap (names ks) (same_key-true q k e) ∙ unnamed in cc)
   | false ↦ λ _. refl
 ] refl
 
 -- what is named by the rest is named by all
 pub names-more : (ks : List Key) (k q : Key) → names ks q ≡ true → names (k ∷ ks) q ≡ true
-names-more ks k q named = elim (same_key q k) as (λ b. (if b then true else names ks q) ≡ true) [ true ↦ refl | false ↦ named ]
+names-more ks k q named =
+    elim (same_key q k) as (λ b. (if b then true else names ks q) ≡ true) [
+      | true ↦ refl
+      | false ↦ named
+    ]
 
 pub HaveRows-rest : (t : Table) (k : Key) (ks : List Key) → HaveRows t (k ∷ ks) → HaveRows t ks
 HaveRows-rest t k ks have q named = have q (names-more ks k q named)

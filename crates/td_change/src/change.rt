@@ -60,7 +60,8 @@ impl Change {
     /// Gives the rows that the change named the kept cells back, as they were when it was made
     /// over rows with the same keys. Every other cell and row stays as it is. It takes no memory.
     pub fn revert(self, rows: &mut Rows)
-        ensures { (kind : KindValue) (keys : List KeyValue) (was : Table) → self ≡ saved kind keys was →
+        ensures { (kind : KindValue) (keys : List KeyValue) (was : Table)
+            → self ≡ saved kind keys was →
             keys_of was ≡ keys_of rows.old → HaveRows was keys →
             rows.new ≡ given_back (written kind) keys was rows.old }
     {

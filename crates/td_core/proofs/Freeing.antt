@@ -62,31 +62,49 @@ pub AppliesOn-freed : (s : SupplyView) (t : Table) → ascending (keys_of t) ≡
 AppliesOn-freed s [] up k named = cc
 AppliesOn-freed s (p ∷ t) up k named =
     let below = first (below_all p.0 (keys_of t)) (ascending (keys_of t)) up in
-    let rest = AppliesOn-freed s t (second (below_all p.0 (keys_of t)) (ascending (keys_of t)) up) k in
-    elim (same_key k p.0) as (λ c. same_key k p.0 ≡ c → told (if c then Some p.1 else row_of t k) ≡ true) [
-      | true ↦ λ is. elim (is_freed s p) as (λ b. is_freed s p ≡ b → names (map (λ (x : Key × Row). x.0) (if b then p ∷ filter (is_freed s) t else filter (is_freed s) t)) k ≡ true → is_waiting p.1.state ≡ true) [
-        | true ↦ λ free _. waits-freed s p free
-        | false ↦ λ _ later. absurd (let bad = sym (rest later) ∙ ap told (row_of-below p.0 k t below is) in cc)
-      ] refl named
-      | false ↦ λ is. rest (elim (is_freed s p) as (λ b. names (map (λ (x : Key × Row). x.0) (if b then p ∷ filter (is_freed s) t else filter (is_freed s) t)) k ≡ true → names (freed s t) k ≡ true) [
-        | true ↦ λ later. sym (ap (λ c. if c then true else names (freed s t) k) is) ∙ later
-        | false ↦ λ later. later
-      ] named)
+    let rest =
+    AppliesOn-freed s t (second (below_all p.0 (keys_of t)) (ascending (keys_of t)) up) k in
+    elim (same_key k p.0) as (λ c.
+    same_key k p.0 ≡ c → told (if c then Some p.1 else row_of t k) ≡ true) [
+      | true ↦
+          λ is. elim (is_freed s p) as (λ b.
+          is_freed s p ≡ b → names
+          (map (λ (x : Key × Row). x.0)
+          (if b then p ∷ filter (is_freed s) t else filter (is_freed s) t)) k ≡ true
+          → is_waiting p.1.state ≡ true) [
+            | true ↦ λ free _. waits-freed s p free
+            | false ↦
+                λ _ later. absurd
+                (let bad = sym (rest later) ∙ ap told (row_of-below p.0 k t below is) in cc)
+          ] refl named
+      | false ↦
+          λ is. rest (elim (is_freed s p) as (λ b.
+          names (map (λ (x : Key × Row). x.0)
+          (if b then p ∷ filter (is_freed s) t else filter (is_freed s) t)) k ≡ true
+          → names (freed s t) k ≡ true) [
+            | true ↦ λ later. sym (ap (λ c. if c then true else names (freed s t) k) is) ∙ later
+            | false ↦ λ later. later
+          ] named)
     ] refl
 
 -- the key of the first row names none of the others
 pub absent-freed : (s : SupplyView) (p : Key × Row) (t : Table) (k : Key)
     → below_all p.0 (keys_of t) ≡ true → ascending (keys_of t) ≡ true → same_key k p.0 ≡ true
     → names (freed s t) k ≡ true → ⊥
-absent-freed s p t k below up is later = let bad = sym (AppliesOn-freed s t up k later) ∙ ap told (row_of-below p.0 k t below is) in cc
+absent-freed s p t k below up is later =
+    let bad = sym (AppliesOn-freed s t up k later) ∙ ap told (row_of-below p.0 k t below is) in cc
 
 below_all-freed : (s : SupplyView) (x : Key) (t : Table) → below_all x (keys_of t) ≡ true
     → below_all x (freed s t) ≡ true
 below_all-freed s x [] h = refl
 below_all-freed s x (p ∷ t) h =
     let rest = below_all-freed s x t (second (is_lt (key_cmp x p.0)) (below_all x (keys_of t)) h) in
-    elim (is_freed s p) as (λ b. below_all x (map (λ (y : Key × Row). y.0) (if b then p ∷ filter (is_freed s) t else filter (is_freed s) t)) ≡ true) [
-      | true ↦ both (is_lt (key_cmp x p.0)) (below_all x (freed s t)) (first (is_lt (key_cmp x p.0)) (below_all x (keys_of t)) h) rest
+    elim (is_freed s p) as (λ b.
+    below_all x (map (λ (y : Key × Row). y.0)
+    (if b then p ∷ filter (is_freed s) t else filter (is_freed s) t)) ≡ true) [
+      | true ↦
+          both (is_lt (key_cmp x p.0)) (below_all x (freed s t))
+          (first (is_lt (key_cmp x p.0)) (below_all x (keys_of t)) h) rest
       | false ↦ rest
     ]
 
@@ -96,20 +114,36 @@ pub ascending-freed : (s : SupplyView) (t : Table) → ascending (keys_of t) ≡
 ascending-freed s [] up = refl
 ascending-freed s (p ∷ t) up =
     let below = first (below_all p.0 (keys_of t)) (ascending (keys_of t)) up in
-    let rest = ascending-freed s t (second (below_all p.0 (keys_of t)) (ascending (keys_of t)) up) in
-    elim (is_freed s p) as (λ b. ascending (map (λ (y : Key × Row). y.0) (if b then p ∷ filter (is_freed s) t else filter (is_freed s) t)) ≡ true) [
-      | true ↦ both (below_all p.0 (freed s t)) (ascending (freed s t)) (below_all-freed s p.0 t below) rest
+    let rest =
+    ascending-freed s t (second (below_all p.0 (keys_of t)) (ascending (keys_of t)) up) in
+    elim (is_freed s p) as (λ b.
+    ascending (map (λ (y : Key × Row). y.0)
+    (if b then p ∷ filter (is_freed s) t else filter (is_freed s) t)) ≡ true) [
+      | true ↦
+          both (below_all p.0 (freed s t)) (ascending (freed s t)) (below_all-freed s p.0 t below)
+          rest
       | false ↦ rest
     ]
 
 -- one more row
 freed-push : (s : SupplyView) (t : Table) (p : Key × Row)
     → freed s (t ++ p ∷ []) ≡ freed s t ++ (if is_freed s p then p.0 ∷ [] else [])
-freed-push s [] p = elim (is_freed s p) as (λ b. map (λ (x : Key × Row). x.0) (if b then p ∷ [] else []) ≡ (if b then p.0 ∷ [] else [])) [ true ↦ refl | false ↦ refl ]
-freed-push s (q ∷ t) p = elim (is_freed s q) as (λ b. map (λ (x : Key × Row). x.0) (if b then q ∷ filter (is_freed s) (t ++ p ∷ []) else filter (is_freed s) (t ++ p ∷ [])) ≡ map (λ (x : Key × Row). x.0) (if b then q ∷ filter (is_freed s) t else filter (is_freed s) t) ++ (if is_freed s p then p.0 ∷ [] else [])) [
-  | true ↦ ap (λ (ks : List Key). q.0 ∷ ks) (freed-push s t p)
-  | false ↦ freed-push s t p
-]
+freed-push s [] p =
+    elim (is_freed s p) as (λ b.
+    map (λ (x : Key × Row). x.0) (if b then p ∷ [] else []) ≡ (if b then p.0 ∷ [] else [])) [
+      | true ↦
+          refl
+      | false ↦ refl
+    ]
+freed-push s (q ∷ t) p =
+    elim (is_freed s q) as (λ b.
+    map (λ (x : Key × Row). x.0)
+    (if b then q ∷ filter (is_freed s) (t ++ p ∷ []) else filter (is_freed s) (t ++ p ∷ []))
+    ≡ map (λ (x : Key × Row). x.0) (if b then q ∷ filter (is_freed s) t else filter (is_freed s) t)
+    ++ (if is_freed s p then p.0 ∷ [] else [])) [
+      | true ↦ ap (λ (ks : List Key). q.0 ∷ ks) (freed-push s t p)
+      | false ↦ freed-push s t p
+    ]
 
 pub freed-next : (s : SupplyView) (t : Table) (n : ℕ) (p : Key × Row) → slice_get t n ≡ Some p
     → freed s (take (n + 1) t) ≡ freed s (take n t) ++ (if is_freed s p then p.0 ∷ [] else [])

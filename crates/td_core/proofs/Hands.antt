@@ -33,25 +33,31 @@ slice_get-set_other [] (suc i) j y other = refl
 slice_get-set_other (z ∷ xs) zero zero y other = absurd (other refl)
 slice_get-set_other (z ∷ xs) zero (suc j) y other = refl
 slice_get-set_other (z ∷ xs) (suc i) zero y other = refl
-slice_get-set_other (z ∷ xs) (suc i) (suc j) y other = slice_get-set_other xs i j y (λ e. other (ap suc e))
+slice_get-set_other (z ∷ xs) (suc i) (suc j) y other =
+    slice_get-set_other xs i j y (λ e. other (ap suc e))
 
 no_hand : (hands : List Hand) (x : Hand) → hand_in hands 0 ≡ Some x → ⊥
 no_hand hands x h = cc
 
 hand_in-at : (hands : List Hand) (b : ℕ) (x : Hand) → hand_in hands b ≡ Some x
     → slice_get hands (b - 1) ≡ Some x
-hand_in-at hands b x h = elim (b == 0) as (λ z. (if z then None else slice_get hands (b - 1)) ≡ Some x → slice_get hands (b - 1) ≡ Some x) [
-  | true ↦ λ g. cc
-  | false ↦ λ g. g
-] h
+hand_in-at hands b x h =
+    elim (b == 0) as (λ z.
+    (if z then None else slice_get hands (b - 1)) ≡ Some x → slice_get hands (b - 1) ≡ Some x) [
+      | true ↦ λ g. cc
+      | false ↦ λ g. g
+    ] h
 
 -- the hand that is put
 pub hand_in-put : (hands : List Hand) (b : ℕ) (x y : Hand) → hand_in hands b ≡ Some x
     → hand_in (set hands (b - 1) y) b ≡ Some y
-hand_in-put hands b x y h = elim (b == 0) as (λ z. (if z then None else slice_get hands (b - 1)) ≡ Some x → (if z then None else slice_get (set hands (b - 1) y) (b - 1)) ≡ Some y) [
-  | true ↦ λ g. cc
-  | false ↦ λ g. slice_get-set hands (b - 1) x y g
-] h
+hand_in-put hands b x y h =
+    elim (b == 0) as (λ z.
+    (if z then None else slice_get hands (b - 1)) ≡ Some x
+    → (if z then None else slice_get (set hands (b - 1) y) (b - 1)) ≡ Some y) [
+      | true ↦ λ g. cc
+      | false ↦ λ g. slice_get-set hands (b - 1) x y g
+    ] h
 
 -- another builder's
 hand_in-other : (hands : List Hand) (b c : ℕ) (x y z : Hand) → hand_in hands b ≡ Some x
@@ -60,7 +66,9 @@ hand_in-other hands zero c x y z hb hc apart = absurd (no_hand hands x hb)
 hand_in-other hands (suc b) zero x y z hb hc apart = absurd (no_hand hands z hc)
 hand_in-other hands (suc b) (suc c) x y z hb hc apart =
     let far : (suc b - 1 ≡ suc c - 1) → ⊥ = λ e. apart (omega (arith, e)) in
-    elim (suc c == 0) as (λ v. (if v then None else slice_get hands (suc c - 1)) ≡ Some z → (if v then None else slice_get (set hands (suc b - 1) y) (suc c - 1)) ≡ Some z) [
+    elim (suc c == 0) as (λ v.
+    (if v then None else slice_get hands (suc c - 1)) ≡ Some z
+    → (if v then None else slice_get (set hands (suc b - 1) y) (suc c - 1)) ≡ Some z) [
       | true ↦ λ g. cc
       | false ↦ λ g. slice_get-set_other hands (suc b - 1) (suc c - 1) y far ∙ g
     ] hc
@@ -83,9 +91,13 @@ pub InHand-put : (hands : List Hand) (b : ℕ) (x y : Hand) (k : Key) (p : Phase
     ≡ Some x → NotHis b x k p → InHand hands k p → InHand (set hands (b - 1) y) k p
 InHand-put hands b x y k Closed hand other h = tt
 InHand-put hands b x y k Open hand other h = tt
-InHand-put hands b x y k (Held c) hand other h = keeps hands b c x y (Holding k) hand h (λ _ e. other.held e)
-InHand-put hands b x y k (Noted c) hand other h = keeps hands b c x y (Holding k) hand h (λ _ e. other.held e)
-InHand-put hands b x y k (Done c o) hand other h = keeps hands b c x y (Finished k o) hand h (λ same e. other.ended o (ap (λ (n : ℕ). Done n o) (sym same)) e)
+InHand-put hands b x y k (Held c) hand other h =
+    keeps hands b c x y (Holding k) hand h (λ _ e. other.held e)
+InHand-put hands b x y k (Noted c) hand other h =
+    keeps hands b c x y (Holding k) hand h (λ _ e. other.held e)
+InHand-put hands b x y k (Done c o) hand other h =
+    keeps hands b c x y (Finished k o) hand h (λ same e.
+    other.ended o (ap (λ (n : ℕ). Done n o) (sym same)) e)
 
 -- ---- one phase changes
 
@@ -104,20 +116,24 @@ row-in w k p sized phase = at (row_of (rows_of w.history) k) refl
 -- another key's phase is as it was
 pub InHand-moved : (w : WorldView) (k : Key) (p : Phase) (hands : List Hand)
     → length w.phases ≡ length w.history.opening → InHand hands k p
-    → ((q : Key) (x : Phase) → same_key q k ≡ false → phase_of w q ≡ Some x → InHand hands q x) → AllInHand (with_phase w k p) hands
+    → ((q : Key) (x : Phase) → same_key q k ≡ false → phase_of w q ≡ Some x → InHand hands q x)
+    → AllInHand (with_phase w k p) hands
 InHand-moved w k p hands sized here others q x phase =
     let row = row-in (with_phase w k p) q x (length-set w.phases _ p ∙ sized) phase in
     elim (same_key q k) as (λ b. same_key q k ≡ b → InHand hands q x) [
       | true ↦ λ is.
           let same : q ≡ k = same_key-true q k is in
-          let given : p ≡ x = phase_of-with_phase w k p x (subst (λ (y : Key). phase_of (with_phase w k p) y ≡ Some x) same phase) in
-          subst (λ (y : Key). InHand hands y x) (sym same) (subst (λ (y : Phase). InHand hands k y) given here)
+          let given : p ≡ x = phase_of-with_phase w k p x
+          (subst (λ (y : Key). phase_of (with_phase w k p) y ≡ Some x) same phase) in
+          subst (λ (y : Key). InHand hands y x) (sym same)
+          (subst (λ (y : Phase). InHand hands k y) given here)
       | false ↦ λ is. others q x is (sym (phase_of-other w k q p row.0 row.1 is) ∙ phase)
     ] refl
 
 -- keys that differ aren't one
 apart_keys : (q k : Key) → same_key q k ≡ false → k ≡ q → ⊥
-apart_keys q k is same = (let yes : same_key q k ≡ true = ap (same_key q) same ∙ same_key-refl q in cc)
+apart_keys q k is same =
+    (let yes : same_key q k ≡ true = ap (same_key q) same ∙ same_key-refl q in cc)
 
 -- a free hand, and one that holds another row
 pub free-not_his : (b : ℕ) (k : Key) (p : Phase) → NotHis b Free k p
@@ -125,4 +141,5 @@ free-not_his b k p = record { held = λ e. cc; ended = λ o _ e. cc }
 
 pub holding-not_his : (b : ℕ) (k q : Key) (p : Phase) → same_key q k ≡ false
     → NotHis b (Holding k) q p
-holding-not_his b k q p is = record { held = λ e. apart_keys q k is (let same : k ≡ q = cc in same); ended = λ o _ e. cc }
+holding-not_his b k q p is =
+    record { held = λ e. apart_keys q k is (let same : k ≡ q = cc in same); ended = λ o _ e. cc }

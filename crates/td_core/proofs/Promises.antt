@@ -50,7 +50,8 @@ IsWorld-after_all w [] i = i
 IsWorld-after_all w (s ∷ steps) i = IsWorld-after_all (after w s) steps (IsWorld-after w s i)
 
 pub every_world : EveryWorld
-every_world t s builders steps rising idle = IsWorld-after_all (world_of t s builders) steps (IsWorld-open t s builders rising idle)
+every_world t s builders steps rising idle =
+    IsWorld-after_all (world_of t s builders) steps (IsWorld-open t s builders rising idle)
 
 waits : (p : Phase) (s : State) → Suits p s → is_pinned p ≡ false → s ≡ NeedsBuild
 waits Closed s suits loose = cc
@@ -60,7 +61,8 @@ waits (Noted b) s suits loose = cc
 waits (Done b o) s suits loose = cc
 
 pub offered_rows_wait : OfferedRowsWait
-offered_rows_wait w k p row i phase found loose = waits p row.state (i.suits k p row phase found) loose
+offered_rows_wait w k p row i phase found loose =
+    waits p row.state (i.suits k p row phase found) loose
 
 same_number : (b c : ℕ) → (b == c) ≡ true → b ≡ c
 same_number b c h = grind (arith, nat_tests, h)
@@ -69,11 +71,18 @@ number_same : (b c : ℕ) → c ≡ b → (b == c) ≡ true
 number_same b c h = grind (arith, nat_tests, h)
 
 built : (p : Phase) (s : State) (b : ℕ) → Suits p s → (s ≡ Building b) ↔ (is_known_by b p ≡ true)
-built Closed s b suits = ((λ is. absurd (let bad : true ≡ false = ap is_building (sym is) ∙ suits in cc)), (λ h. cc))
+built Closed s b suits =
+    ((λ is. absurd (let bad : true ≡ false = ap is_building (sym is) ∙ suits in cc)), (λ h. cc))
 built Open s b suits = ((λ is. absurd (let bad = sym suits ∙ is in cc)), (λ h. cc))
 built (Held c) s b suits = ((λ is. absurd (let bad = sym suits ∙ is in cc)), (λ h. cc))
-built (Noted c) s b suits = ((λ is. number_same b c (let e = sym suits ∙ is in cc)), (λ h. suits ∙ ap (λ (x : ℕ). Building x) (sym (same_number b c h))))
-built (Done c o) s b suits = ((λ is. number_same b c (let e = sym suits ∙ is in cc)), (λ h. suits ∙ ap (λ (x : ℕ). Building x) (sym (same_number b c h))))
+built (Noted c) s b suits = (
+  (λ is. number_same b c (let e = sym suits ∙ is in cc)),
+  (λ h. suits ∙ ap (λ (x : ℕ). Building x) (sym (same_number b c h))),
+)
+built (Done c o) s b suits = (
+  (λ is. number_same b c (let e = sym suits ∙ is in cc)),
+  (λ h. suits ∙ ap (λ (x : ℕ). Building x) (sym (same_number b c h))),
+)
 
 pub built_exactly : BuiltExactly
 built_exactly w k p row b i phase found = built p row.state b (i.suits k p row phase found)
@@ -82,7 +91,9 @@ pub hands_follow : HandsFollow
 hands_follow w k p i phase = i.held k p phase
 
 there : (w : WorldView) (b : ℕ) (h : Hand) → hand_of w b ≡ Some h → (1 ≤ b) × (b ≤ length w.hands)
-there w b h is = let within = hand_of-within w b h is in (omega (arith, within.0), omega (arith, within.0, within.1))
+there w b h is =
+    let within = hand_of-within w b h is in
+    (omega (arith, within.0), omega (arith, within.0, within.1))
 
 pub builders_are_there : BuildersAreThere
 builders_are_there w k p b i phase is = at p is (i.held k p phase)
@@ -93,19 +104,24 @@ builders_are_there w k p b i phase is = at p is (i.held k p phase)
     at : (x : Phase) → builder_in x ≡ Some b → InHand w.hands k x → (1 ≤ b) × (b ≤ length w.hands)
     at Closed e h = cc
     at Open e h = cc
-    at (Held c) e h = subst (λ (n : ℕ). (1 ≤ n) × (n ≤ length w.hands)) (same c b e) (there w c (Holding k) h)
-    at (Noted c) e h = subst (λ (n : ℕ). (1 ≤ n) × (n ≤ length w.hands)) (same c b e) (there w c (Holding k) h)
-    at (Done c o) e h = subst (λ (n : ℕ). (1 ≤ n) × (n ≤ length w.hands)) (same c b e) (there w c (Finished k o) h)
+    at (Held c) e h =
+        subst (λ (n : ℕ). (1 ≤ n) × (n ≤ length w.hands)) (same c b e) (there w c (Holding k) h)
+    at (Noted c) e h =
+        subst (λ (n : ℕ). (1 ≤ n) × (n ≤ length w.hands)) (same c b e) (there w c (Holding k) h)
+    at (Done c o) e h =
+        subst (λ (n : ℕ). (1 ≤ n) × (n ≤ length w.hands)) (same c b e) (there w c (Finished k o) h)
 
 keys-at : (ms : List Marked) (i : ℕ) (m : Marked) → EachHasKeys ms → slice_get ms i ≡ Some m
     → IsKeys m.entry.keys
 keys-at [] zero m h at = cc
 keys-at [] (suc i) m h at = cc
-keys-at (x ∷ ms) zero m h at = let same : x ≡ m = cc in subst (λ (y : Marked). IsKeys y.entry.keys) same h.0
+keys-at (x ∷ ms) zero m h at =
+    let same : x ≡ m = cc in subst (λ (y : Marked). IsKeys y.entry.keys) same h.0
 keys-at (x ∷ ms) (suc i) m h at = keys-at ms i m h.1 at
 
 pub entries_rise : EntriesRise
-entries_rise w n m i at = keys-at w.history.journal (n - 1) m i.keys (entry_at-place w.history.journal n m at).1
+entries_rise w n m i at =
+    keys-at w.history.journal (n - 1) m i.keys (entry_at-place w.history.journal n m at).1
 
 -- the last entry
 slice_get-last : (ms : List Marked) (m : Marked) → slice_get (ms ++ m ∷ []) (length ms) ≡ Some m
@@ -116,7 +132,8 @@ entry_at-last : (ms : List Marked) (m : Marked) → entry_at (ms ++ m ∷ []) (l
 entry_at-last ms m =
     let back : length ms + 1 - 1 ≡ length ms = omega arith in
     let not_zero : (length ms + 1 == 0) ≡ false = grind (arith, nat_tests) in
-    ap (λ b. if b then None else slice_get (ms ++ m ∷ []) (length ms + 1 - 1)) not_zero ∙ ap (slice_get (ms ++ m ∷ [])) back ∙ slice_get-last ms m
+    ap (λ b. if b then None else slice_get (ms ++ m ∷ []) (length ms + 1 - 1)) not_zero
+    ∙ ap (slice_get (ms ++ m ∷ [])) back ∙ slice_get-last ms m
 
 -- nothing stands above the last
 latest-none : (e : Entry) (n number : ℕ) (ms : List Marked) → number + length ms ≤ n + 1
@@ -124,17 +141,24 @@ latest-none : (e : Entry) (n number : ℕ) (ms : List Marked) → number + lengt
 latest-none e n number [] h = refl
 latest-none e n number (m ∷ ms) h =
     let below : nat_lt n number ≡ false = grind (arith, nat_tests, h) in
-    (λ j. option_or (latest-none e n (number + 1) ms (omega (arith, h)) j) (if below j && (is_standing m.mark && touches e m.entry) then Some number else None))
+    (λ j. option_or (latest-none e n (number + 1) ms (omega (arith, h)) j)
+    (if below j && (is_standing m.mark && touches e m.entry) then Some number else None))
 
 length-push : (ms : List Marked) (m : Marked) → length (ms ++ m ∷ []) ≡ length ms + 1
 length-push [] m = refl
 length-push (x ∷ ms) m = let rest = length-push ms m in omega (arith, rest)
 
 blocker-last : (ms : List Marked) (m : Marked) → blocker (ms ++ m ∷ []) (length ms + 1) ≡ None
-blocker-last ms m = ap (λ (x : Option Marked). elim x as (λ _. Option ℕ) [ Some y ↦ latest_touching y.entry (length ms + 1) 1 (ms ++ m ∷ []) | None ↦ None ]) (entry_at-last ms m)
+blocker-last ms m =
+    ap (λ (x : Option Marked).
+    elim x as (λ _. Option ℕ) [
+      | Some y ↦ latest_touching y.entry (length ms + 1) 1 (ms ++ m ∷ [])
+      | None ↦ None
+    ]) (entry_at-last ms m)
     ∙ latest-none m.entry (length ms + 1) 1 (ms ++ m ∷ []) (omega (arith, length-push ms m))
 
-undone_at-last : (ms : List Marked) (m : Marked) → undone_at (ms ++ m ∷ []) (length ms) ≡ ms ++ record m { mark = Dropped } ∷ []
+undone_at-last : (ms : List Marked) (m : Marked)
+    → undone_at (ms ++ m ∷ []) (length ms) ≡ ms ++ record m { mark = Dropped } ∷ []
 undone_at-last [] m = refl
 undone_at-last (x ∷ ms) m = ap (λ (ys : List Marked). x ∷ ys) (undone_at-last ms m)
 
@@ -142,28 +166,40 @@ standing-last : (ms : List Marked) (m : Marked)
     → standing (undone (ms ++ m ∷ []) (length ms + 1)) ≡ standing ms
 standing-last ms m =
     let back : length ms + 1 - 1 ≡ length ms = omega arith in
-    ap (λ (i : ℕ). standing (undone_at (ms ++ m ∷ []) i)) back ∙ ap standing (undone_at-last ms m) ∙ standing-append ms (record m { mark = Dropped } ∷ []) ∙ append-nil (standing ms)
+    ap (λ (i : ℕ). standing (undone_at (ms ++ m ∷ []) i)) back ∙ ap standing (undone_at-last ms m)
+    ∙ standing-append ms (record m { mark = Dropped } ∷ []) ∙ append-nil (standing ms)
 
 -- the refusal of a standing command's undo
 undo_refusal-command : (w : WorldView) (n : ℕ) (m : Marked) → StandingCommand w n m
     → undo_refusal w n ≡ mark_refusal w m Standing (blocker w.history.journal n)
 undo_refusal-command w n m s =
-    ap (λ (x : Option Marked). elim x as (λ _. Option Refusal) [ Some y ↦ refused_if (not (is_command y.entry.kind)) NotACommand (mark_refusal w y y.mark (blocker w.history.journal n)) | None ↦ Some NoSuchEntry ]) s.there
-    ∙ ap (λ b. refused_if (not b) NotACommand (mark_refusal w m m.mark (blocker w.history.journal n))) s.command
+    ap (λ (x : Option Marked).
+    elim x as (λ _. Option Refusal) [
+      | Some y ↦
+          refused_if (not (is_command y.entry.kind)) NotACommand
+          (mark_refusal w y y.mark (blocker w.history.journal n))
+      | None ↦ Some NoSuchEntry
+    ]) s.there
+    ∙ ap (λ b. refused_if (not b) NotACommand
+    (mark_refusal w m m.mark (blocker w.history.journal n))) s.command
     ∙ ap (λ (x : Mark). mark_refusal w m x (blocker w.history.journal n)) s.stands
 
 undo_refusal-none : (w : WorldView) (n : ℕ) (m : Marked) → StandingCommand w n m
     → blocker w.history.journal n ≡ None → first_unpinned w m.entry.kind m.entry.keys ≡ None
     → undo_refusal w n ≡ None
-undo_refusal-none w n m s free pinned = undo_refusal-command w n m s ∙ ap (mark_refusal w m Standing) free ∙ ap (λ (o : Option Key). first_refused o (λ k. NotPinned None) None) pinned
+undo_refusal-none w n m s free pinned =
+    undo_refusal-command w n m s ∙ ap (mark_refusal w m Standing) free
+    ∙ ap (λ (o : Option Key). first_refused o (λ k. NotPinned None) None) pinned
 
 pub undone_else : UndoneElse
-undone_else w n m s free pinned = answer_to-accepted w (Undo n) (undo_refusal-none w n m s free pinned)
+undone_else w n m s free pinned =
+    answer_to-accepted w (Undo n) (undo_refusal-none w n m s free pinned)
 
 pub blocked_exactly : BlockedExactly
 blocked_exactly w n m b s = (
   (λ told. back (blocker w.history.journal n) refl told),
-  (λ is. answer_to-refused w (Undo n) (Blocked b) (undo_refusal-command w n m s ∙ ap (mark_refusal w m Standing) is)),
+  (λ is. answer_to-refused w (Undo n) (Blocked b)
+      (undo_refusal-command w n m s ∙ ap (mark_refusal w m Standing) is)),
 )
   where
     loose : (o : Option Key) (a : Answer) → (elim (first_refused o (λ k. NotPinned None) None) as
@@ -174,12 +210,15 @@ blocked_exactly w n m b s = (
     back : (o : Option ℕ) → blocker w.history.journal n ≡ o
         → answer_to w (Undo n) ≡ Refused (Blocked b) → blocker w.history.journal n ≡ Some b
     back (Some c) is told =
-        let named = sym (answer_to-refused w (Undo n) (Blocked c) (undo_refusal-command w n m s ∙ ap (mark_refusal w m Standing) is)) ∙ told in
+        let named = sym (answer_to-refused w (Undo n) (Blocked c)
+        (undo_refusal-command w n m s ∙ ap (mark_refusal w m Standing) is)) ∙ told in
         let same : c ≡ b = cc in
         is ∙ ap (λ (x : ℕ). Some x) same
     back None is told =
         absurd (loose (first_unpinned w m.entry.kind m.entry.keys) (Undone n)
-        (sym (ap (λ (r : Option Refusal). elim r as (λ _. Answer) [ Some x ↦ Refused x | None ↦ Undone n ]) (undo_refusal-command w n m s ∙ ap (mark_refusal w m Standing) is)) ∙ told))
+        (sym (ap (λ (r : Option Refusal).
+        elim r as (λ _. Answer) [ Some x ↦ Refused x | None ↦ Undone n ])
+        (undo_refusal-command w n m s ∙ ap (mark_refusal w m Standing) is)) ∙ told))
 
 pub undone_at_once : UndoneAtOnce
 undone_at_once w kind keys none =
@@ -187,11 +226,16 @@ undone_at_once w kind keys none =
     let e : Entry = record { kind = kind; keys = keys } in
     let c = commits w kind keys none in
     let ms = w.history.journal in
-    let next : after w (Commit kind keys) ≡ journaled w kind keys = after-accepted w (Commit kind keys) none in
-    let fine : undo_refusal (journaled w kind keys) n ≡ None = undo_refusal-none (journaled w kind keys) n (standing_entry e)
-    (record { there = entry_at-last ms (standing_entry e); stands = refl; command = c.command }) (blocker-last ms (standing_entry e)) c.none_unpinned in (
-      ap (λ (v : WorldView). answer_to v (Undo n)) next ∙ answer_to-accepted (journaled w kind keys) (Undo n) fine,
+    let next : after w (Commit kind keys) ≡ journaled w kind keys =
+    after-accepted w (Commit kind keys) none in
+    let fine : undo_refusal (journaled w kind keys) n ≡ None =
+    undo_refusal-none (journaled w kind keys) n (standing_entry e)
+    (record { there = entry_at-last ms (standing_entry e); stands = refl; command = c.command })
+    (blocker-last ms (standing_entry e)) c.none_unpinned in (
+      ap (λ (v : WorldView). answer_to v (Undo n)) next
+          ∙ answer_to-accepted (journaled w kind keys) (Undo n) fine,
       ap (λ (v : WorldView). rows_of (after v (Undo n)).history) next
-          ∙ ap (λ (v : WorldView). rows_of v.history) (after-accepted (journaled w kind keys) (Undo n) fine)
+          ∙ ap (λ (v : WorldView). rows_of v.history)
+          (after-accepted (journaled w kind keys) (Undo n) fine)
           ∙ ap (replay w.history.opening) (standing-last ms (standing_entry e)),
     )

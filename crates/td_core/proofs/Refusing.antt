@@ -49,7 +49,8 @@ pub none_found : (p : Key → Bool) (ks : List Key) (k : Key) → find p ks ≡ 
 none_found p [] k h named = cc
 none_found p (q ∷ ks) k h named =
     let parts = not_first (p q) q (find p ks) h in
-    elim (same_key k q) as (λ b. same_key k q ≡ b → (if b then true else names ks k) ≡ true → p k ≡ false) [
+    elim (same_key k q) as (λ b.
+    same_key k q ≡ b → (if b then true else names ks k) ≡ true → p k ≡ false) [
       | true ↦ λ e _. ap p (same_key-true k q e) ∙ parts.0
       | false ↦ λ _ n. none_found p ks k parts.1 n
     ] refl named
@@ -65,20 +66,30 @@ pub find-position : {A : Type 0} (p : A → Bool) (xs : List A) (o : Option ℕ)
 find-position {A} p xs o is =
     let n = position_or_len p xs in
     find_at p xs
-    ∙ elim (nat_lt n (length xs)) as (λ b. nat_lt n (length xs) ≡ b → slice_get xs n ≡ (elim (if b then Some n else None) as (λ _. Option A) [ Some i ↦ slice_get xs i | None ↦ None ])) [
+    ∙ elim (nat_lt n (length xs)) as (λ b.
+    nat_lt n (length xs) ≡ b
+    → slice_get xs n ≡ (elim (if b then Some n else None) as (λ _. Option A) [
+      | Some i ↦
+          slice_get xs i
+      | None ↦ None
+    ])) [
       | true ↦ λ _. refl
       | false ↦ λ h. slice_get_past xs n (grind (arith, nat_tests, h))
     ] refl
-    ∙ ap (λ (x : Option ℕ). elim x as (λ _. Option A) [ Some i ↦ slice_get xs i | None ↦ None ]) (sym is)
+    ∙ ap (λ (x : Option ℕ). elim x as (λ _. Option A) [ Some i ↦ slice_get xs i | None ↦ None ])
+    (sym is)
 
 -- whether a row must be pinned and isn't, by the place of its key
 pub is_some-first_unpinned : (w : WorldView) (kind : Kind) (keys : List Key) (o : Option ℕ)
     → o ≡ (if (cells kind).state then position (is_unpinned w) keys else None)
     → is_some (first_unpinned w kind keys) ≡ is_some o
-is_some-first_unpinned w kind keys o is = elim (cells kind).state as (λ b. o ≡ (if b then position (is_unpinned w) keys else None) → is_some (if b then find (is_unpinned w) keys else None) ≡ is_some o) [
-  | true ↦ λ e. is_some-position (is_unpinned w) keys ∙ sym (ap is_some e)
-  | false ↦ λ e. sym (ap is_some e)
-] is
+is_some-first_unpinned w kind keys o is =
+    elim (cells kind).state as (λ b.
+    o ≡ (if b then position (is_unpinned w) keys else None)
+    → is_some (if b then find (is_unpinned w) keys else None) ≡ is_some o) [
+      | true ↦ λ e. is_some-position (is_unpinned w) keys ∙ sym (ap is_some e)
+      | false ↦ λ e. sym (ap is_some e)
+    ] is
   where
     within : (xs : List Key) (i : ℕ) → i < length xs → is_some (slice_get xs i) ≡ true
     within [] i h = absurd (omega (arith, h))
@@ -90,7 +101,9 @@ is_some-first_unpinned w kind keys o is = elim (cells kind).state as (λ b. o �
     is_some-position p xs =
         let n = position_or_len p xs in
         ap is_some (find_at p xs)
-        ∙ elim (nat_lt n (length xs)) as (λ b. nat_lt n (length xs) ≡ b → is_some (slice_get xs n) ≡ is_some (if b then Some n else None)) [
+        ∙ elim (nat_lt n (length xs)) as (λ b.
+        nat_lt n (length xs) ≡ b
+        → is_some (slice_get xs n) ≡ is_some (if b then Some n else None)) [
           | true ↦ λ h. within xs n (grind (arith, nat_tests, h))
           | false ↦ λ h. ap is_some (slice_get_past xs n (grind (arith, nat_tests, h)))
         ] refl
@@ -99,12 +112,21 @@ is_some-first_unpinned w kind keys o is = elim (cells kind).state as (λ b. o �
 pub undo_refusal-free : (w : WorldView) (n : ℕ) (m : Marked) (o : Option ℕ)
     → entry_at w.history.journal n ≡ Some m → is_command m.entry.kind ≡ true
     → is_standing m.mark ≡ true → blocker w.history.journal n ≡ None
-    → o ≡ (if (cells m.entry.kind).state then position (is_unpinned w) m.entry.keys else None) → undo_refusal w n ≡ (if is_some o then Some (NotPinned None) else None)
+    → o ≡ (if (cells m.entry.kind).state then position (is_unpinned w) m.entry.keys else None)
+    → undo_refusal w n ≡ (if is_some o then Some (NotPinned None) else None)
 undo_refusal-free w n m o there command stands free is =
-    ap (λ (x : Option Marked). elim x as (λ _. Option Refusal) [ Some y ↦ refused_if (not (is_command y.entry.kind)) NotACommand (mark_refusal w y y.mark (blocker w.history.journal n)) | None ↦ Some NoSuchEntry ]) there
-    ∙ ap (λ b. refused_if (not b) NotACommand (mark_refusal w m m.mark (blocker w.history.journal n))) command
+    ap (λ (x : Option Marked).
+    elim x as (λ _. Option Refusal) [
+      | Some y ↦
+          refused_if (not (is_command y.entry.kind)) NotACommand
+          (mark_refusal w y y.mark (blocker w.history.journal n))
+      | None ↦ Some NoSuchEntry
+    ]) there
+    ∙ ap (λ b. refused_if (not b) NotACommand
+    (mark_refusal w m m.mark (blocker w.history.journal n))) command
     ∙ (λ j. mark_refusal w m (mark_is m.mark stands j) (free j))
-    ∙ loose (first_unpinned w m.entry.kind m.entry.keys) (is_some-first_unpinned w m.entry.kind m.entry.keys o is)
+    ∙ loose (first_unpinned w m.entry.kind m.entry.keys)
+    (is_some-first_unpinned w m.entry.kind m.entry.keys o is)
   where
     mark_is : (mark : Mark) → is_standing mark ≡ true → mark ≡ Standing
     mark_is Standing h = refl
@@ -117,51 +139,98 @@ undo_refusal-free w n m o there command stands free is =
 
 -- the rows of the keys are pinned, where the kind has the state cell
 abbrev pub Pinned : WorldView → Kind → List Key → Type 0
-Pinned w kind keys = (k : Key) (p : Phase) → names keys k ≡ true → phase_of w k ≡ Some p → (cells kind).state ≡ true → is_pinned p ≡ true
+Pinned w kind keys =
+    (k : Key) (p : Phase) → names keys k ≡ true → phase_of w k ≡ Some p → (cells kind).state ≡ true
+    → is_pinned p ≡ true
 
 pub pinned-first_unpinned : (w : WorldView) (kind : Kind) (keys : List Key)
     → first_unpinned w kind keys ≡ None → Pinned w kind keys
 pinned-first_unpinned w kind keys none k p named phase state =
-    let found : find (is_unpinned w) keys ≡ None = ap (λ b. if b then find (is_unpinned w) keys else None) (sym state) ∙ none in
-    not_false (is_pinned p) (ap (λ (o : Option Phase). elim o as (λ _. Bool) [ Some x ↦ not (is_pinned x) | None ↦ false ]) (sym phase) ∙ none_found (is_unpinned w) keys k found named)
+    let found : find (is_unpinned w) keys ≡ None =
+    ap (λ b. if b then find (is_unpinned w) keys else None) (sym state) ∙ none in
+    not_false (is_pinned p)
+    (ap (λ (o : Option Phase). elim o as (λ _. Bool) [ Some x ↦ not (is_pinned x) | None ↦ false ])
+    (sym phase) ∙ none_found (is_unpinned w) keys k found named)
 
 -- a commit by its tests, each with the place of the first key that fails it
-module _ (w : WorldView) (kind : Kind) (keys : List Key) (command : is_command kind ≡ true) (are : are_keys keys ≡ true) where
-  told : commit_refusal w kind keys ≡ first_refused (find (is_missing (rows_of w.history)) keys) (λ k. NoSuchRow (Some k)) (first_refused (find (is_unfit (rows_of w.history) kind) keys) (λ k. DoesNotApply k) (first_refused (first_unpinned w kind keys) (λ k. NotPinned (Some k)) None))
-  told = λ j. refused_if (not (command j)) NotACommand (refused_if (not (are j)) NoKeys (first_refused (find (is_missing (rows_of w.history)) keys) (λ k. NoSuchRow (Some k)) (first_refused (find (is_unfit (rows_of w.history) kind) keys) (λ k. DoesNotApply k) (first_refused (first_unpinned w kind keys) (λ k. NotPinned (Some k)) None))))
+module _ (w : WorldView) (kind : Kind) (keys : List Key) (command : is_command kind ≡ true)
+    (are : are_keys keys ≡ true) where
+  told : commit_refusal w kind keys
+      ≡ first_refused (find (is_missing (rows_of w.history)) keys) (λ k. NoSuchRow (Some k))
+      (first_refused (find (is_unfit (rows_of w.history) kind) keys) (λ k. DoesNotApply k)
+      (first_refused (first_unpinned w kind keys) (λ k. NotPinned (Some k)) None))
+  told =
+      λ j. refused_if (not (command j)) NotACommand
+      (refused_if (not (are j)) NoKeys
+      (first_refused (find (is_missing (rows_of w.history)) keys) (λ k. NoSuchRow (Some k))
+      (first_refused (find (is_unfit (rows_of w.history) kind) keys) (λ k. DoesNotApply k)
+      (first_refused (first_unpinned w kind keys) (λ k. NotPinned (Some k)) None))))
 
   pub commit_refusal-missing : (at : ℕ) (k : Key)
       → Some at ≡ position (is_missing (rows_of w.history)) keys → slice_get keys at ≡ Some k
       → commit_refusal w kind keys ≡ Some (NoSuchRow (Some k))
-  commit_refusal-missing at k is key = told ∙ ap (λ (o : Option Key). first_refused o (λ q. NoSuchRow (Some q)) (first_refused (find (is_unfit (rows_of w.history) kind) keys) (λ q. DoesNotApply q) (first_refused (first_unpinned w kind keys) (λ q. NotPinned (Some q)) None))) (find-position (is_missing (rows_of w.history)) keys (Some at) is ∙ key)
+  commit_refusal-missing at k is key =
+      told ∙ ap (λ (o : Option Key).
+      first_refused o (λ q. NoSuchRow (Some q))
+      (first_refused (find (is_unfit (rows_of w.history) kind) keys) (λ q. DoesNotApply q)
+      (first_refused (first_unpinned w kind keys) (λ q. NotPinned (Some q)) None)))
+      (find-position (is_missing (rows_of w.history)) keys (Some at) is ∙ key)
 
   module _ (there : None ≡ position (is_missing (rows_of w.history)) keys) where
-    told-there : commit_refusal w kind keys ≡ first_refused (find (is_unfit (rows_of w.history) kind) keys) (λ k. DoesNotApply k) (first_refused (first_unpinned w kind keys) (λ k. NotPinned (Some k)) None)
-    told-there = told ∙ ap (λ (o : Option Key). first_refused o (λ q. NoSuchRow (Some q)) (first_refused (find (is_unfit (rows_of w.history) kind) keys) (λ q. DoesNotApply q) (first_refused (first_unpinned w kind keys) (λ q. NotPinned (Some q)) None))) (find-position (is_missing (rows_of w.history)) keys None there)
+    told-there : commit_refusal w kind keys
+        ≡ first_refused (find (is_unfit (rows_of w.history) kind) keys) (λ k. DoesNotApply k)
+        (first_refused (first_unpinned w kind keys) (λ k. NotPinned (Some k)) None)
+    told-there =
+        told ∙ ap (λ (o : Option Key).
+        first_refused o (λ q. NoSuchRow (Some q))
+        (first_refused (find (is_unfit (rows_of w.history) kind) keys) (λ q. DoesNotApply q)
+        (first_refused (first_unpinned w kind keys) (λ q. NotPinned (Some q)) None)))
+        (find-position (is_missing (rows_of w.history)) keys None there)
 
     pub commit_refusal-unfit : (at : ℕ) (k : Key)
         → Some at ≡ position (is_unfit (rows_of w.history) kind) keys → slice_get keys at ≡ Some k
         → commit_refusal w kind keys ≡ Some (DoesNotApply k)
-    commit_refusal-unfit at k is key = told-there ∙ ap (λ (o : Option Key). first_refused o (λ q. DoesNotApply q) (first_refused (first_unpinned w kind keys) (λ q. NotPinned (Some q)) None)) (find-position (is_unfit (rows_of w.history) kind) keys (Some at) is ∙ key)
+    commit_refusal-unfit at k is key =
+        told-there ∙ ap (λ (o : Option Key).
+        first_refused o (λ q. DoesNotApply q)
+        (first_refused (first_unpinned w kind keys) (λ q. NotPinned (Some q)) None))
+        (find-position (is_unfit (rows_of w.history) kind) keys (Some at) is ∙ key)
 
     module _ (fit : None ≡ position (is_unfit (rows_of w.history) kind) keys) where
-      pub commit_refusal-fit : commit_refusal w kind keys ≡ first_refused (first_unpinned w kind keys) (λ k. NotPinned (Some k)) None
-      commit_refusal-fit = told-there ∙ ap (λ (o : Option Key). first_refused o (λ q. DoesNotApply q) (first_refused (first_unpinned w kind keys) (λ q. NotPinned (Some q)) None)) (find-position (is_unfit (rows_of w.history) kind) keys None fit)
+      pub commit_refusal-fit : commit_refusal w kind keys
+          ≡ first_refused (first_unpinned w kind keys) (λ k. NotPinned (Some k)) None
+      commit_refusal-fit =
+          told-there ∙ ap (λ (o : Option Key).
+          first_refused o (λ q. DoesNotApply q)
+          (first_refused (first_unpinned w kind keys) (λ q. NotPinned (Some q)) None))
+          (find-position (is_unfit (rows_of w.history) kind) keys None fit)
 
       pub commit_refusal-unpinned : (at : ℕ) (k : Key)
           → Some at ≡ (if (cells kind).state then position (is_unpinned w) keys else None)
           → slice_get keys at ≡ Some k → commit_refusal w kind keys ≡ Some (NotPinned (Some k))
-      commit_refusal-unpinned at k is key = commit_refusal-fit ∙ elim (cells kind).state as (λ b. Some at ≡ (if b then position (is_unpinned w) keys else None) → first_refused (if b then find (is_unpinned w) keys else None) (λ q. NotPinned (Some q)) None ≡ Some (NotPinned (Some k))) [
-        | true ↦ λ e. ap (λ (o : Option Key). first_refused o (λ q. NotPinned (Some q)) None) (find-position (is_unpinned w) keys (Some at) e ∙ key)
-        | false ↦ λ e. cc
-      ] is
+      commit_refusal-unpinned at k is key =
+          commit_refusal-fit ∙ elim (cells kind).state as (λ b.
+          Some at ≡ (if b then position (is_unpinned w) keys else None)
+          → first_refused (if b then find (is_unpinned w) keys else None) (λ q. NotPinned (Some q))
+          None ≡ Some (NotPinned (Some k))) [
+            | true ↦
+                λ e. ap (λ (o : Option Key). first_refused o (λ q. NotPinned (Some q)) None)
+                (find-position (is_unpinned w) keys (Some at) e ∙ key)
+            | false ↦ λ e. cc
+          ] is
 
       pub commit_refusal-none : None ≡ (if (cells kind).state then position (is_unpinned w) keys
           else None) → commit_refusal w kind keys ≡ None
-      commit_refusal-none is = commit_refusal-fit ∙ elim (cells kind).state as (λ b. None ≡ (if b then position (is_unpinned w) keys else None) → first_refused (if b then find (is_unpinned w) keys else None) (λ q. NotPinned (Some q)) None ≡ None) [
-        | true ↦ λ e. ap (λ (o : Option Key). first_refused o (λ q. NotPinned (Some q)) None) (find-position (is_unpinned w) keys None e)
-        | false ↦ λ e. refl
-      ] is
+      commit_refusal-none is =
+          commit_refusal-fit ∙ elim (cells kind).state as (λ b.
+          None ≡ (if b then position (is_unpinned w) keys else None)
+          → first_refused (if b then find (is_unpinned w) keys else None) (λ q. NotPinned (Some q))
+          None ≡ None) [
+            | true ↦
+                λ e. ap (λ (o : Option Key). first_refused o (λ q. NotPinned (Some q)) None)
+                (find-position (is_unpinned w) keys None e)
+            | false ↦ λ e. refl
+          ] is
 
 -- a commit that isn't refused
 pub record Commits (w : WorldView) (kind : Kind) (keys : List Key) : Type 0 where
@@ -183,7 +252,8 @@ commits w kind keys h =
     record {
       command = not_false (is_command kind) a.0;
       are = not_false (are_keys keys) b.0;
-      applies = λ k named. not_false (fits t kind k) (none_found (is_unfit t kind) keys k d.0 named);
+      applies =
+          λ k named. not_false (fits t kind k) (none_found (is_unfit t kind) keys k d.0 named);
       pinned = pinned-first_unpinned w kind keys e.0;
       none_unpinned = e.0;
     }
@@ -201,7 +271,13 @@ undoes w n h = at (entry_at w.history.journal n) refl h
         → (mark ≡ Standing) × ((b ≡ None) × (first_unpinned w m.entry.kind m.entry.keys ≡ None))
     marked m Undone b g = cc
     marked m Standing (Some b) g = cc
-    marked m Standing None g = (refl, (refl, (none_first (first_unpinned w m.entry.kind m.entry.keys) (λ k. NotPinned None) None g).0))
+    marked m Standing None g = (
+      refl,
+      (
+        refl,
+        (none_first (first_unpinned w m.entry.kind m.entry.keys) (λ k. NotPinned None) None g).0,
+      ),
+    )
 
     at : (o : Option Marked) → entry_at w.history.journal n ≡ o
         → (elim o as
@@ -216,7 +292,12 @@ undoes w n h = at (entry_at w.history.journal n) refl h
         let a = not_refused (not (is_command m.entry.kind)) NotACommand _ g in
         let b = marked m m.mark (blocker w.history.journal n) a.1 in
         record {
-          stands = record { marked = m; there = there; stands = b.0; command = not_false (is_command m.entry.kind) a.0 };
+          stands = record {
+            marked = m;
+            there = there;
+            stands = b.0;
+            command = not_false (is_command m.entry.kind) a.0;
+          };
           free = b.1.0;
           pinned = pinned-first_unpinned w m.entry.kind m.entry.keys b.1.1;
         }

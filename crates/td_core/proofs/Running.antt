@@ -13,4 +13,5 @@ after_all-push w (x ∷ ss) s = after_all-push (after w x) ss s
 pub answers_to-push : (w : WorldView) (ss : List Step) (s : Step)
     → answers_to w (ss ++ s ∷ []) ≡ answers_to w ss ++ answer_to (after_all w ss) s ∷ []
 answers_to-push w [] s = refl
-answers_to-push w (x ∷ ss) s = ap (λ (as' : List Answer). answer_to w x ∷ as') (answers_to-push (after w x) ss s)
+answers_to-push w (x ∷ ss) s =
+    ap (λ (as' : List Answer). answer_to w x ∷ as') (answers_to-push (after w x) ss s)

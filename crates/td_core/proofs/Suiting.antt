@@ -29,20 +29,24 @@ use Rattle.td_rows.specs.States.{is_building}
 -- a command with the state cell applies to no row that is built
 pub idle-applies : (kind : Kind) (row : Row) → is_command kind ≡ true → (cells kind).state ≡ true
     → applies kind row ≡ true → is_building row.state ≡ false
-idle-applies kind row command state h = elim row.state as (λ s. row.state ≡ s → is_building s ≡ false) [
-  | Building b ↦ λ is. absurd (unfit kind b command state (ap (λ (s : State). applies kind (record row { state = s })) (sym is) ∙ h))
-  | NeedsBuild ↦ λ _. refl
-  | Built ↦ λ _. refl
-  | Uploaded ↦ λ _. refl
-  | Installed ↦ λ _. refl
-  | DepWait ↦ λ _. refl
-  | BdUninstallable ↦ λ _. refl
-  | BuildAttempted ↦ λ _. refl
-  | Failed ↦ λ _. refl
-  | NotForUs ↦ λ _. refl
-] refl
+idle-applies kind row command state h =
+    elim row.state as (λ s. row.state ≡ s → is_building s ≡ false) [
+      | Building b ↦
+          λ is. absurd (unfit kind b command state
+          (ap (λ (s : State). applies kind (record row { state = s })) (sym is) ∙ h))
+      | NeedsBuild ↦ λ _. refl
+      | Built ↦ λ _. refl
+      | Uploaded ↦ λ _. refl
+      | Installed ↦ λ _. refl
+      | DepWait ↦ λ _. refl
+      | BdUninstallable ↦ λ _. refl
+      | BuildAttempted ↦ λ _. refl
+      | Failed ↦ λ _. refl
+      | NotForUs ↦ λ _. refl
+    ] refl
   where
-    unfit : (kind : Kind) (b : ℕ) → is_command kind ≡ true → (cells kind).state ≡ true → applies kind (record row { state = Building b }) ≡ true → ⊥
+    unfit : (kind : Kind) (b : ℕ) → is_command kind ≡ true → (cells kind).state ≡ true
+        → applies kind (record row { state = Building b }) ≡ true → ⊥
     unfit Gb b c s g = cc
     unfit (Nmu n e m) b c s g = cc
     unfit (Bp p) b c s g = cc
@@ -70,8 +74,10 @@ pub suits-idle : (p : Phase) (s s' : State) → is_pinned p ≡ true → Suits p
 suits-idle Closed s s' pinned suits was idle = idle
 suits-idle Open s s' pinned suits was idle = cc
 suits-idle (Held b) s s' pinned suits was idle = cc
-suits-idle (Noted b) s s' pinned suits was idle = absurd (let bad : true ≡ false = ap is_building (sym suits) ∙ was in cc)
-suits-idle (Done b o) s s' pinned suits was idle = absurd (let bad : true ≡ false = ap is_building (sym suits) ∙ was in cc)
+suits-idle (Noted b) s s' pinned suits was idle =
+    absurd (let bad : true ≡ false = ap is_building (sym suits) ∙ was in cc)
+suits-idle (Done b o) s s' pinned suits was idle =
+    absurd (let bad : true ≡ false = ap is_building (sym suits) ∙ was in cc)
 
 -- a kind without the state cell leaves the state
 pub state-means : (kind : Kind) (row : Row) → (cells kind).state ≡ false
@@ -92,10 +98,13 @@ state-means Sweep row h = cc
 pub suits-command : (kind : Kind) (p : Phase) (row : Row) → is_command kind ≡ true
     → applies kind row ≡ true → ((cells kind).state ≡ true → is_pinned p ≡ true) → Suits p row.state
     → Suits p (means kind row).state
-suits-command kind p row command fits pinned suits = elim (cells kind).state as (λ b. (cells kind).state ≡ b → Suits p (means kind row).state) [
-  | true ↦ λ is. suits-idle p row.state (means kind row).state (pinned is) suits (idle-applies kind row command is fits) (idle-means kind row command is)
-  | false ↦ λ is. subst (λ (s : State). Suits p s) (sym (state-means kind row is)) suits
-] refl
+suits-command kind p row command fits pinned suits =
+    elim (cells kind).state as (λ b. (cells kind).state ≡ b → Suits p (means kind row).state) [
+      | true ↦
+          λ is. suits-idle p row.state (means kind row).state (pinned is) suits
+          (idle-applies kind row command is fits) (idle-means kind row command is)
+      | false ↦ λ is. subst (λ (s : State). Suits p s) (sym (state-means kind row is)) suits
+    ] refl
 
 -- entries that are apart from a kind with the state cell leave the state of the rows that it names
 pub state-row_after : (kind : Kind) (keys : List Key) (es : List Entry) (k : Key) (row : Row)
@@ -104,8 +113,11 @@ pub state-row_after : (kind : Kind) (keys : List Key) (es : List Entry) (k : Key
 state-row_after kind keys [] k row apart named state = refl
 state-row_after kind keys (e ∷ es) k row apart named state =
     state-row_after kind keys es k (meant e.kind e.keys k row) apart.1 named state
-    ∙ elim (names e.keys k) as (λ b. names e.keys k ≡ b → (if b then means e.kind row else row).state ≡ row.state) [
-      | true ↦ λ here. state-means e.kind row (left (cells e.kind).state (cells kind).state (apart.0 k named here).state state)
+    ∙ elim (names e.keys k) as (λ b.
+    names e.keys k ≡ b → (if b then means e.kind row else row).state ≡ row.state) [
+      | true ↦
+          λ here. state-means e.kind row
+          (left (cells e.kind).state (cells kind).state (apart.0 k named here).state state)
       | false ↦ λ _. refl
     ] refl
   where
@@ -131,11 +143,18 @@ pub suits-undone : (kind : Kind) (p : Phase) (was now : Row) → is_command kind
     → applies kind was ≡ true → ((cells kind).state ≡ true → now.state ≡ (means kind was).state)
     → ((cells kind).state ≡ true → is_pinned p ≡ true) → Suits p now.state
     → Suits p (restore (written kind) was now).state
-suits-undone kind p was now command fits left pinned suits = elim (cells kind).state as (λ b. (cells kind).state ≡ b → Suits p (restore (written kind) was now).state) [
-  | true ↦ λ is.
-      let back : (restore (written kind) was now).state ≡ was.state = ap (λ b. if b then was.state else now.state) (written-state kind command ∙ is) in
-      subst (λ (s : State). Suits p s) (sym back) (suits-idle p now.state was.state (pinned is) suits (ap is_building (left is) ∙ idle-means kind was command is) (idle-applies kind was command is fits))
-  | false ↦ λ is.
-      let same : (restore (written kind) was now).state ≡ now.state = ap (λ b. if b then was.state else now.state) (written-state kind command ∙ is) in
-      subst (λ (s : State). Suits p s) (sym same) suits
-] refl
+suits-undone kind p was now command fits left pinned suits =
+    elim (cells kind).state as (λ b.
+    (cells kind).state ≡ b → Suits p (restore (written kind) was now).state) [
+      | true ↦ λ is.
+          let back : (restore (written kind) was now).state ≡ was.state =
+          ap (λ b. if b then was.state else now.state) (written-state kind command ∙ is) in
+          subst (λ (s : State). Suits p s) (sym back)
+          (suits-idle p now.state was.state (pinned is) suits
+          (ap is_building (left is) ∙ idle-means kind was command is)
+          (idle-applies kind was command is fits))
+      | false ↦ λ is.
+          let same : (restore (written kind) was now).state ≡ now.state =
+          ap (λ b. if b then was.state else now.state) (written-state kind command ∙ is) in
+          subst (λ (s : State). Suits p s) (sym same) suits
+    ] refl

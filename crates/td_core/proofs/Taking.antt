@@ -19,24 +19,35 @@ use Rattle.td_change.specs.Plans.{without}
 pub passes-filter : (p : Key → Bool) (ks : List Key) (k : Key) → names (filter p ks) k ≡ true
     → p k ≡ true
 passes-filter p [] k h = cc
-passes-filter p (q ∷ ks) k h = elim (p q) as (λ b. p q ≡ b → names (if b then q ∷ filter p ks else filter p ks) k ≡ true → p k ≡ true) [
-  | true ↦ λ is. elim (same_key k q) as (λ c. same_key k q ≡ c → (if c then true else names (filter p ks) k) ≡ true → p k ≡ true) [
-    | true ↦ λ same _. ap p (same_key-true k q same) ∙ is
-    | false ↦ λ _ g. passes-filter p ks k g
-  ] refl
-  | false ↦ λ _ g. passes-filter p ks k g
-] refl h
+passes-filter p (q ∷ ks) k h =
+    elim (p q) as (λ b.
+    p q ≡ b → names (if b then q ∷ filter p ks else filter p ks) k ≡ true → p k ≡ true) [
+      | true ↦
+          λ is. elim (same_key k q) as (λ c.
+          same_key k q ≡ c → (if c then true else names (filter p ks) k) ≡ true → p k ≡ true) [
+            | true ↦ λ same _. ap p (same_key-true k q same) ∙ is
+            | false ↦ λ _ g. passes-filter p ks k g
+          ] refl
+      | false ↦ λ _ g. passes-filter p ks k g
+    ] refl h
 
 pub names-filter : (p : Key → Bool) (ks : List Key) (k : Key) → names (filter p ks) k ≡ true
     → names ks k ≡ true
 names-filter p [] k h = h
-names-filter p (q ∷ ks) k h = elim (same_key k q) as (λ c. names (if p q then q ∷ filter p ks else filter p ks) k ≡ true → same_key k q ≡ c → (if c then true else names ks k) ≡ true) [
-  | true ↦ λ _ _. refl
-  | false ↦ λ g other. elim (p q) as (λ b. names (if b then q ∷ filter p ks else filter p ks) k ≡ true → names ks k ≡ true) [
-    | true ↦ λ f. names-filter p ks k (ap (λ c. if c then true else names (filter p ks) k) (sym other) ∙ f)
-    | false ↦ λ f. names-filter p ks k f
-  ] g
-] h refl
+names-filter p (q ∷ ks) k h =
+    elim (same_key k q) as (λ c.
+    names (if p q then q ∷ filter p ks else filter p ks) k ≡ true → same_key k q ≡ c
+    → (if c then true else names ks k) ≡ true) [
+      | true ↦ λ _ _. refl
+      | false ↦
+          λ g other. elim (p q) as (λ b.
+          names (if b then q ∷ filter p ks else filter p ks) k ≡ true → names ks k ≡ true) [
+            | true ↦
+                λ f. names-filter p ks k
+                (ap (λ c. if c then true else names (filter p ks) k) (sym other) ∙ f)
+            | false ↦ λ f. names-filter p ks k f
+          ] g
+    ] h refl
 
 pub unnamed-filter : (p : Key → Bool) (ks : List Key) (k : Key) → names ks k ≡ false
     → names (filter p ks) k ≡ false
@@ -57,7 +68,9 @@ below_all-filter p x [] h = refl
 below_all-filter p x (q ∷ ks) h =
     let rest = below_all-filter p x ks (second (is_lt (key_cmp x q)) (below_all x ks) h) in
     elim (p q) as (λ b. below_all x (if b then q ∷ filter p ks else filter p ks) ≡ true) [
-      | true ↦ both (is_lt (key_cmp x q)) (below_all x (filter p ks)) (first (is_lt (key_cmp x q)) (below_all x ks) h) rest
+      | true ↦
+          both (is_lt (key_cmp x q)) (below_all x (filter p ks))
+          (first (is_lt (key_cmp x q)) (below_all x ks) h) rest
       | false ↦ rest
     ]
   where
@@ -80,7 +93,9 @@ ascending-filter p (q ∷ ks) h =
     let below = first (below_all q ks) (ascending ks) h in
     let rest = ascending-filter p ks (second (below_all q ks) (ascending ks) h) in
     elim (p q) as (λ b. ascending (if b then q ∷ filter p ks else filter p ks) ≡ true) [
-      | true ↦ both (below_all q (filter p ks)) (ascending (filter p ks)) (below_all-filter p q ks below) rest
+      | true ↦
+          both (below_all q (filter p ks)) (ascending (filter p ks)) (below_all-filter p q ks below)
+          rest
       | false ↦ rest
     ]
   where
@@ -100,17 +115,22 @@ ascending-filter p (q ∷ ks) h =
 pub without-here : (ks rest : List Key) (k : Key) → names ks k ≡ false
     → without k (ks ++ k ∷ rest) ≡ ks ++ rest
 without-here [] rest k h = ap (λ b. if b then rest else k ∷ without k rest) (same_key-refl k)
-without-here (q ∷ ks) rest k h = elim (same_key k q) as (λ b. (if b then true else names ks k) ≡ false → (if b then ks ++ k ∷ rest else q ∷ without k (ks ++ k ∷ rest)) ≡ q ∷ (ks ++ rest)) [
-  | true ↦ λ g. cc
-  | false ↦ λ g. ap (λ (xs : List Key). q ∷ xs) (without-here ks rest k g)
-] h
+without-here (q ∷ ks) rest k h =
+    elim (same_key k q) as (λ b.
+    (if b then true else names ks k) ≡ false
+    → (if b then ks ++ k ∷ rest else q ∷ without k (ks ++ k ∷ rest)) ≡ q ∷ (ks ++ rest)) [
+      | true ↦ λ g. cc
+      | false ↦ λ g. ap (λ (xs : List Key). q ∷ xs) (without-here ks rest k g)
+    ] h
 
 pub filter-append : (p : Key → Bool) (a b : List Key) → filter p (a ++ b) ≡ filter p a ++ filter p b
 filter-append p [] b = refl
-filter-append p (q ∷ a) b = elim (p q) as (λ c. (if c then q ∷ filter p (a ++ b) else filter p (a ++ b)) ≡ (if c then q ∷ filter p a else filter p a) ++ filter p b) [
-  | true ↦ ap (λ (xs : List Key). q ∷ xs) (filter-append p a b)
-  | false ↦ filter-append p a b
-]
+filter-append p (q ∷ a) b =
+    elim (p q) as (λ c. (if c then q ∷ filter p (a ++ b) else filter p (a ++ b))
+    ≡ (if c then q ∷ filter p a else filter p a) ++ filter p b) [
+      | true ↦ ap (λ (xs : List Key). q ∷ xs) (filter-append p a b)
+      | false ↦ filter-append p a b
+    ]
 
 -- the next key, which stays
 pub filter-kept : (p : Key → Bool) (ks : List Key) (i : ℕ) (k : Key) → i < length ks
@@ -119,7 +139,9 @@ pub filter-kept : (p : Key → Bool) (ks : List Key) (i : ℕ) (k : Key) → i <
 filter-kept p ks i k within is fit =
     let at : slice_get ks i ≡ Some k = slice_get-get_or ks i k within ∙ ap (λ x. Some x) (sym is) in
     ap (λ (xs : List Key). filter p xs ++ drop (i + 1) ks) (take-next ks i k at)
-    ∙ ap (λ (xs : List Key). xs ++ drop (i + 1) ks) (filter-append p (take i ks) (k ∷ []) ∙ ap (λ b. filter p (take i ks) ++ (if b then k ∷ [] else [])) fit)
+    ∙ ap (λ (xs : List Key). xs ++ drop (i + 1) ks)
+    (filter-append p (take i ks) (k ∷ [])
+    ∙ ap (λ b. filter p (take i ks) ++ (if b then k ∷ [] else [])) fit)
     ∙ append_assoc (filter p (take i ks)) (k ∷ []) (drop (i + 1) ks)
     ∙ ap (λ (xs : List Key). filter p (take i ks) ++ xs) (sym (drop-next ks i k at))
 
@@ -129,10 +151,15 @@ pub filter-left_out : (p : Key → Bool) (ks : List Key) (i : ℕ) (k : Key) →
     → filter p (take (i + 1) ks) ++ drop (i + 1) ks ≡ without k (filter p (take i ks) ++ drop i ks)
 filter-left_out p ks i k rising within is unfit =
     let at : slice_get ks i ≡ Some k = slice_get-get_or ks i k within ∙ ap (λ x. Some x) (sym is) in
-    let apart : names (take i ks) k ≡ false = ap (names (take i ks)) is ∙ names-before ks i k rising within in
+    let apart : names (take i ks) k ≡ false =
+    ap (names (take i ks)) is ∙ names-before ks i k rising within in
     ap (λ (xs : List Key). filter p xs ++ drop (i + 1) ks) (take-next ks i k at)
-    ∙ ap (λ (xs : List Key). xs ++ drop (i + 1) ks) (filter-append p (take i ks) (k ∷ []) ∙ ap (λ b. filter p (take i ks) ++ (if b then k ∷ [] else [])) unfit ∙ append-nil (filter p (take i ks)))
-    ∙ sym (without-here (filter p (take i ks)) (drop (i + 1) ks) k (unnamed-filter p (take i ks) k apart))
+    ∙ ap (λ (xs : List Key). xs ++ drop (i + 1) ks)
+    (filter-append p (take i ks) (k ∷ [])
+    ∙ ap (λ b. filter p (take i ks) ++ (if b then k ∷ [] else [])) unfit
+    ∙ append-nil (filter p (take i ks)))
+    ∙ sym (without-here (filter p (take i ks)) (drop (i + 1) ks) k
+    (unnamed-filter p (take i ks) k apart))
     ∙ ap (λ (xs : List Key). without k (filter p (take i ks) ++ xs)) (sym (drop-next ks i k at))
 
 pub filter-start : (p : Key → Bool) (ks : List Key) → filter p (take 0 ks) ++ drop 0 ks ≡ ks
@@ -144,12 +171,15 @@ pub filter-end : (p : Key → Bool) (ks : List Key) (i : ℕ) → length ks ≤ 
 filter-end p [] zero h = refl
 filter-end p [] (suc i) h = refl
 filter-end p (k ∷ ks) zero h = absurd (omega (arith, h))
-filter-end p (k ∷ ks) (suc i) h = elim (p k) as (λ b. (if b then k ∷ filter p (take i ks) else filter p (take i ks)) ++ drop i ks ≡ (if b then k ∷ filter p ks else filter p ks)) [
-  | true ↦ ap (λ (xs : List Key). k ∷ xs) (filter-end p ks i (omega (arith, h)))
-  | false ↦ filter-end p ks i (omega (arith, h))
-]
+filter-end p (k ∷ ks) (suc i) h =
+    elim (p k) as (λ b. (if b then k ∷ filter p (take i ks) else filter p (take i ks)) ++ drop i ks
+    ≡ (if b then k ∷ filter p ks else filter p ks)) [
+      | true ↦ ap (λ (xs : List Key). k ∷ xs) (filter-end p ks i (omega (arith, h)))
+      | false ↦ filter-end p ks i (omega (arith, h))
+    ]
 
 -- a list of no items
 pub nil-is_empty : {A : Type 0} (xs : List A) (n : ℕ) → (n == 0) ≡ true → length xs ≡ n → xs ≡ []
 nil-is_empty [] n h e = refl
-nil-is_empty (x ∷ xs) n h e = absurd (let none : n ≡ 0 = grind (arith, nat_tests, h) in omega (arith, e, none))
+nil-is_empty (x ∷ xs) n h e =
+    absurd (let none : n ≡ 0 = grind (arith, nat_tests, h) in omega (arith, e, none))

@@ -73,7 +73,9 @@ use Rattle.td_core.proofs.Hands.{free-not_his, holding-not_his}
 -- the rows after one more entry
 pub rows_of-with_entry : (h : History) (e : Entry)
     → rows_of (with_entry h e) ≡ applied e.kind e.keys (rows_of h)
-rows_of-with_entry h e = ap (replay h.opening) (standing-append h.journal (standing_entry e ∷ [])) ∙ replay-push h.opening (standing h.journal) e
+rows_of-with_entry h e =
+    ap (replay h.opening) (standing-append h.journal (standing_entry e ∷ []))
+    ∙ replay-push h.opening (standing h.journal) e
 
 -- a changed row, as it was
 pub found-before : (t : Table) (f : Key → Row → Row) (k : Key) (row : Row)
@@ -98,10 +100,19 @@ pub record IsSuited (w : WorldView) : Type 0 where
   pub keys : EachHasKeys w.history.journal
 
 suited : (w : WorldView) → IsWorld w → IsSuited w
-suited w i = record { rising = i.rising; lawful = i.lawful; sized = i.sized; suits = i.suits; keys = i.keys }
+suited w i =
+    record { rising = i.rising; lawful = i.lawful; sized = i.sized; suits = i.suits; keys = i.keys }
 
 with_hands : (w : WorldView) → IsSuited w → AllInHand w w.hands → IsWorld w
-with_hands w i held = record { rising = i.rising; lawful = i.lawful; sized = i.sized; suits = i.suits; keys = i.keys; held = held }
+with_hands w i held =
+    record {
+      rising = i.rising;
+      lawful = i.lawful;
+      sized = i.sized;
+      suits = i.suits;
+      keys = i.keys;
+      held = held;
+    }
 
 -- one phase changes, and suits its row
 IsSuited-with_phase : (w : WorldView) (k : Key) (p : Phase) → IsSuited w → ((row : Row)
@@ -111,24 +122,30 @@ IsSuited-with_phase w k p i suits = record {
   lawful = i.lawful;
   keys = i.keys;
   sized = length-set w.phases _ p ∙ i.sized;
-  suits = λ q x row phase found. elim (same_key q k) as (λ b. same_key q k ≡ b → Suits x row.state) [
-    | true ↦ λ is.
-        let same : q ≡ k = same_key-true q k is in
-        let given : p ≡ x = phase_of-with_phase w k p x (subst (λ (y : Key). phase_of (with_phase w k p) y ≡ Some x) same phase) in
-        subst (λ (y : Phase). Suits y row.state) given (suits row (subst (λ (y : Key). row_of (rows_of w.history) y ≡ Some row) same found))
-    | false ↦ λ is. i.suits q x row (sym (phase_of-other w k q p row found is) ∙ phase) found
-  ] refl;
+  suits =
+      λ q x row phase found. elim (same_key q k) as (λ b. same_key q k ≡ b → Suits x row.state) [
+        | true ↦ λ is.
+            let same : q ≡ k = same_key-true q k is in
+            let given : p ≡ x = phase_of-with_phase w k p x
+            (subst (λ (y : Key). phase_of (with_phase w k p) y ≡ Some x) same phase) in
+            subst (λ (y : Phase). Suits y row.state) given
+            (suits row (subst (λ (y : Key). row_of (rows_of w.history) y ≡ Some row) same found))
+        | false ↦ λ is. i.suits q x row (sym (phase_of-other w k q p row found is) ∙ phase) found
+      ] refl;
 }
 
 -- hands don't matter
 IsSuited-with_hand : (w : WorldView) (b : ℕ) (h : Hand) → IsSuited w → IsSuited (with_hand w b h)
-IsSuited-with_hand w b h i = record { rising = i.rising; lawful = i.lawful; sized = i.sized; suits = i.suits; keys = i.keys }
+IsSuited-with_hand w b h i =
+    record { rising = i.rising; lawful = i.lawful; sized = i.sized; suits = i.suits; keys = i.keys }
 
 -- a row whose phase says nothing of a hand
 IsWorld-with_phase : (w : WorldView) (k : Key) (p : Phase) → IsWorld w → InHand w.hands k p
     → ((row : Row) → row_of (rows_of w.history) k ≡ Some row → Suits p row.state)
     → IsWorld (with_phase w k p)
-IsWorld-with_phase w k p i here suits = with_hands (with_phase w k p) (IsSuited-with_phase w k p (suited w i) suits) (InHand-moved w k p w.hands i.sized here (λ q x _ phase. i.held q x phase))
+IsWorld-with_phase w k p i here suits =
+    with_hands (with_phase w k p) (IsSuited-with_phase w k p (suited w i) suits)
+    (InHand-moved w k p w.hands i.sized here (λ q x _ phase. i.held q x phase))
 
 -- the keys of an entry
 one_key : (k : Key) → IsKeys (k ∷ [])
@@ -143,21 +160,30 @@ pub lawful-journaled : (w : WorldView) (kind : Kind) (keys : List Key) → IsWor
     → Lawful w.history.opening (standing (journaled w kind keys).history.journal)
 lawful-journaled w kind keys i applies =
     let e : Entry = record { kind = kind; keys = keys } in
-    subst (Lawful w.history.opening) (sym (standing-append w.history.journal (standing_entry e ∷ []))) (Lawful-push w.history.opening (standing w.history.journal) e i.lawful applies)
+    subst (Lawful w.history.opening)
+    (sym (standing-append w.history.journal (standing_entry e ∷ [])))
+    (Lawful-push w.history.opening (standing w.history.journal) e i.lawful applies)
 
 -- one more entry, after which the phases of its keys suit their rows
 pub IsWorld-journaled : (w : WorldView) (kind : Kind) (keys : List Key) → IsWorld w → IsKeys keys
     → AppliesOn (rows_of w.history) kind keys
-    → ((k : Key) (p : Phase) (row : Row) → names keys k ≡ true → phase_of w k ≡ Some p → row_of (rows_of w.history) k ≡ Some row → Suits p (means kind row).state) → IsWorld (journaled w kind keys)
+    → ((k : Key) (p : Phase) (row : Row) → names keys k ≡ true → phase_of w k ≡ Some p
+    → row_of (rows_of w.history) k ≡ Some row → Suits p (means kind row).state)
+    → IsWorld (journaled w kind keys)
 IsWorld-journaled w kind keys i are applies suits = record {
   rising = i.rising;
-  keys = EachHasKeys-push w.history.journal (standing_entry (record { kind = kind; keys = keys })) i.keys are;
+  keys = EachHasKeys-push w.history.journal (standing_entry (record { kind = kind; keys = keys }))
+      i.keys are;
   held = i.held;
   lawful = lawful-journaled w kind keys i applies;
   sized = i.sized;
   suits = λ k p row phase found.
-      let was = found-before (rows_of w.history) (meant kind keys) k row (sym (ap (λ (t : Table). row_of t k) (rows_of-with_entry w.history (record { kind = kind; keys = keys }))) ∙ found) in
-      subst (λ (r : Row). Suits p r.state) was.1.1 (elim (names keys k) as (λ b. names keys k ≡ b → Suits p (if b then means kind was.0 else was.0).state) [
+      let was = found-before (rows_of w.history) (meant kind keys) k row
+      (sym (ap (λ (t : Table). row_of t k)
+      (rows_of-with_entry w.history (record { kind = kind; keys = keys }))) ∙ found) in
+      subst (λ (r : Row). Suits p r.state) was.1.1
+      (elim (names keys k) as (λ b.
+      names keys k ≡ b → Suits p (if b then means kind was.0 else was.0).state) [
         | true ↦ λ named. suits k p was.0 named phase was.1.0
         | false ↦ λ _. i.suits k p was.0 phase was.1.0
       ] refl);
@@ -166,32 +192,48 @@ IsWorld-journaled w kind keys i are applies suits = record {
 -- one more entry on one key, whose row's phase changes with it
 pub IsWorld-moved : (w : WorldView) (kind : Kind) (k : Key) (p : Phase) → IsWorld w
     → AppliesOn (rows_of w.history) kind (k ∷ []) → InHand w.hands k p
-    → ((row : Row) → row_of (rows_of w.history) k ≡ Some row → Suits p (means kind row).state) → IsWorld (with_phase (journaled w kind (k ∷ [])) k p)
+    → ((row : Row) → row_of (rows_of w.history) k ≡ Some row → Suits p (means kind row).state)
+    → IsWorld (with_phase (journaled w kind (k ∷ [])) k p)
 IsWorld-moved w kind k p i applies here suits = record {
   rising = i.rising;
-  keys = EachHasKeys-push w.history.journal (standing_entry (record { kind = kind; keys = k ∷ [] })) i.keys (one_key k);
+  keys = EachHasKeys-push w.history.journal (standing_entry (record { kind = kind; keys = k ∷ [] }))
+      i.keys (one_key k);
   held = InHand-moved w k p w.hands i.sized here (λ q x _ phase. i.held q x phase);
   lawful = lawful-journaled w kind (k ∷ []) i applies;
   sized = length-set w.phases _ p ∙ i.sized;
   suits = λ q x row phase found.
-      let was = found-before (rows_of w.history) (meant kind (k ∷ [])) q row (sym (ap (λ (t : Table). row_of t q) (rows_of-with_entry w.history (record { kind = kind; keys = k ∷ [] }))) ∙ found) in
-      subst (λ (r : Row). Suits x r.state) was.1.1 (elim (same_key q k) as (λ b. same_key q k ≡ b → Suits x (if (if b then true else false) then means kind was.0 else was.0).state) [
+      let was = found-before (rows_of w.history) (meant kind (k ∷ [])) q row
+      (sym (ap (λ (t : Table). row_of t q)
+      (rows_of-with_entry w.history (record { kind = kind; keys = k ∷ [] }))) ∙ found) in
+      subst (λ (r : Row). Suits x r.state) was.1.1
+      (elim (same_key q k) as (λ b.
+      same_key q k ≡ b
+      → Suits x (if (if b then true else false) then means kind was.0 else was.0).state) [
         | true ↦ λ is.
             let same : q ≡ k = same_key-true q k is in
-            let given : p ≡ x = phase_of-with_phase w k p x (subst (λ (y : Key). phase_of (with_phase w k p) y ≡ Some x) same phase) in
-            subst (λ (y : Phase). Suits y (means kind was.0).state) given (suits was.0 (subst (λ (y : Key). row_of (rows_of w.history) y ≡ Some was.0) same was.1.0))
-        | false ↦ λ is. i.suits q x was.0 (sym (phase_of-other w k q p was.0 was.1.0 is) ∙ phase) was.1.0
+            let given : p ≡ x = phase_of-with_phase w k p x
+            (subst (λ (y : Key). phase_of (with_phase w k p) y ≡ Some x) same phase) in
+            subst (λ (y : Phase). Suits y (means kind was.0).state) given
+            (suits was.0
+            (subst (λ (y : Key). row_of (rows_of w.history) y ≡ Some was.0) same was.1.0))
+        | false ↦
+            λ is. i.suits q x was.0 (sym (phase_of-other w k q p was.0 was.1.0 is) ∙ phase) was.1.0
       ] refl);
 }
 
 -- a commit that isn't refused
 pub IsWorld-commit : (w : WorldView) (kind : Kind) (keys : List Key) → IsWorld w
     → Commits w kind keys → IsWorld (journaled w kind keys)
-IsWorld-commit w kind keys i c = IsWorld-journaled w kind keys i (are_its_keys keys c.are) c.applies (λ k p row named phase found.
-    suits-command kind p row c.command (applies-fits (rows_of w.history) kind k row found (c.applies k named)) (c.pinned k p named phase) (i.suits k p row phase found))
+IsWorld-commit w kind keys i c =
+    IsWorld-journaled w kind keys i (are_its_keys keys c.are) c.applies
+    (λ k p row named phase found.
+    suits-command kind p row c.command
+    (applies-fits (rows_of w.history) kind k row found (c.applies k named))
+    (c.pinned k p named phase) (i.suits k p row phase found))
 
 -- what is known of the entry that is undone, at one of its keys
-pub record Undone (o : Table) (ms : List Marked) (n : ℕ) (m : Marked) (k : Key) (now : Row) : Type 0 where
+pub record Undone (o : Table) (ms : List Marked) (n : ℕ) (m : Marked) (k : Key)
+    (now : Row) : Type 0 where
   pub applies : applies m.entry.kind (row_at (rows_before o ms n) k) ≡ true
   pub state : (cells m.entry.kind).state ≡ true
       → now.state ≡ (means m.entry.kind (row_at (rows_before o ms n) k)).state
@@ -211,14 +253,24 @@ undone-at w n k now i u named found =
     let all : standing ms ≡ before ++ e ∷ after = standing-at ms (n - 1) m place.1 counts in
     let law = (LawfulAfter-rest o [] before (e ∷ after) (subst (Lawful o) all i.lawful)).0 in
     let was = found-before o (row_after (standing ms)) k now found in
-    let earlier : row_of (replay o before) k ≡ Some (row_after before k was.0) = row_of-each_row (row_after before) o k ∙ ap (option_map (row_after before k)) was.1.0 in
-    let at : row_at (rows_before o ms n) k ≡ row_after before k was.0 = ap (λ (x : Option Row). unwrap_or x blank) earlier in
-    let last : now ≡ row_after after k (meant e.kind e.keys k (row_after before k was.0)) = sym was.1.1 ∙ ap (λ (es : List Entry). row_after es k was.0) all ∙ row_after-append before (e ∷ after) k was.0 in
-    let meaning : meant e.kind e.keys k (row_after before k was.0) ≡ means e.kind (row_after before k was.0) = ap (λ b. if b then means e.kind (row_after before k was.0) else row_after before k was.0) named in
+    let earlier : row_of (replay o before) k ≡ Some (row_after before k was.0) =
+    row_of-each_row (row_after before) o k ∙ ap (option_map (row_after before k)) was.1.0 in
+    let at : row_at (rows_before o ms n) k ≡ row_after before k was.0 =
+    ap (λ (x : Option Row). unwrap_or x blank) earlier in
+    let last : now ≡ row_after after k (meant e.kind e.keys k (row_after before k was.0)) =
+    sym was.1.1 ∙ ap (λ (es : List Entry). row_after es k was.0) all
+    ∙ row_after-append before (e ∷ after) k was.0 in
+    let meaning : meant e.kind e.keys k (row_after before k was.0)
+    ≡ means e.kind (row_after before k was.0) =
+    ap (λ b. if b then means e.kind (row_after before k was.0) else row_after before k was.0)
+    named in
     record {
-      applies = ap (applies e.kind) at ∙ applies-fits (replay o before) e.kind k (row_after before k was.0) earlier (law k named);
+      applies = ap (applies e.kind) at
+          ∙ applies-fits (replay o before) e.kind k (row_after before k was.0) earlier
+          (law k named);
       state = λ has. ap (λ (r : Row). r.state) last
-          ∙ state-row_after e.kind e.keys after k (meant e.kind e.keys k (row_after before k was.0)) (Apart-blocker ms n m u.stands.there u.free) named has
+          ∙ state-row_after e.kind e.keys after k (meant e.kind e.keys k (row_after before k was.0))
+          (Apart-blocker ms n m u.stands.there u.free) named has
           ∙ ap (λ (r : Row). r.state) meaning ∙ ap (λ (r : Row). (means e.kind r).state) (sym at);
     }
 
@@ -240,11 +292,20 @@ IsWorld-undo w n i u =
       lawful = undo_is_lawful o ms n m u.stands.there counts u.free i.lawful;
       sized = i.sized;
       suits = λ k p row phase found.
-          let was = found-before (rows_of w.history) (λ q r. if names m.entry.keys q then restore (written m.entry.kind) (row_at (rows_before o ms n) q) r else r) k row (sym (ap (λ (t : Table). row_of t k) back) ∙ found) in
-          subst (λ (r : Row). Suits p r.state) was.1.1 (elim (names m.entry.keys k) as (λ b. names m.entry.keys k ≡ b → Suits p (if b then restore (written m.entry.kind) (row_at (rows_before o ms n) k) was.0 else was.0).state) [
+          let was = found-before (rows_of w.history)
+          (λ q r. if names m.entry.keys q
+          then restore (written m.entry.kind) (row_at (rows_before o ms n) q) r else r) k row
+          (sym (ap (λ (t : Table). row_of t k) back) ∙ found) in
+          subst (λ (r : Row). Suits p r.state) was.1.1
+          (elim (names m.entry.keys k) as (λ b.
+          names m.entry.keys k ≡ b
+          → Suits p (if b then restore (written m.entry.kind) (row_at (rows_before o ms n) k) was.0
+          else was.0).state) [
             | true ↦ λ named.
                 let known = undone-at w n k was.0 i u named was.1.0 in
-                suits-undone m.entry.kind p (row_at (rows_before o ms n) k) was.0 u.stands.command known.applies known.state (u.pinned k p named phase) (i.suits k p was.0 phase was.1.0)
+                suits-undone m.entry.kind p (row_at (rows_before o ms n) k) was.0 u.stands.command
+                known.applies known.state (u.pinned k p named phase)
+                (i.suits k p was.0 phase was.1.0)
             | false ↦ λ _. i.suits k p was.0 phase was.1.0
           ] refl);
     }
@@ -262,10 +323,15 @@ row-there w k p i phase = at (row_of (rows_of w.history) k) refl
 -- a kind that applies on the row of the one key
 pub AppliesOn-one : (t : Table) (kind : Kind) (k : Key) (row : Row) → row_of t k ≡ Some row
     → applies kind row ≡ true → AppliesOn t kind (k ∷ [])
-AppliesOn-one t kind k row found fit q named = elim (same_key q k) as (λ b. same_key q k ≡ b → (if b then true else false) ≡ true → fits t kind q ≡ true) [
-  | true ↦ λ is _. ap (fits t kind) (same_key-true q k is) ∙ ap (λ (o : Option Row). elim o as (λ _. Bool) [ Some r ↦ applies kind r | None ↦ false ]) found ∙ fit
-  | false ↦ λ _ h. cc
-] refl named
+AppliesOn-one t kind k row found fit q named =
+    elim (same_key q k) as (λ b.
+    same_key q k ≡ b → (if b then true else false) ≡ true → fits t kind q ≡ true) [
+      | true ↦
+          λ is _. ap (fits t kind) (same_key-true q k is)
+          ∙ ap (λ (o : Option Row).
+          elim o as (λ _. Bool) [ Some r ↦ applies kind r | None ↦ false ]) found ∙ fit
+      | false ↦ λ _ h. cc
+    ] refl named
 
 queued-state : (s : State) → is_queued s ≡ true → s ≡ NeedsBuild
 queued-state NeedsBuild h = refl
@@ -345,14 +411,23 @@ pub finishes : (w : WorldView) (b : ℕ) (h : Option Hand) → finish_refusal w 
 finishes w b None e = cc
 finishes w b (Some Free) e = cc
 finishes w b (Some (Finished k o)) e = cc
-finishes w b (Some (Holding k)) e = (k, (refl, noted_by b (phase_of w k) (not_false (is_noted_by b (phase_of w k)) (not_refused (not (is_noted_by b (phase_of w k))) NotNoted None e).0)))
+finishes w b (Some (Holding k)) e = (
+  k,
+  (
+    refl,
+    noted_by b (phase_of w k)
+        (not_false (is_noted_by b (phase_of w k))
+        (not_refused (not (is_noted_by b (phase_of w k))) NotNoted None e).0),
+  ),
+)
 
 pub releases : (w : WorldView) (b : ℕ) (h : Option Hand) → release_refusal w b h ≡ None → (k : Key)
     × ((o : Outcome) × ((h ≡ Some (Finished k o)) × (is_done_by b (phase_of w k) ≡ false)))
 releases w b None e = cc
 releases w b (Some Free) e = cc
 releases w b (Some (Holding k)) e = cc
-releases w b (Some (Finished k o)) e = (k, (o, (refl, (not_refused (is_done_by b (phase_of w k)) NotSettled None e).0)))
+releases w b (Some (Finished k o)) e =
+    (k, (o, (refl, (not_refused (is_done_by b (phase_of w k)) NotSettled None e).0)))
 
 idle-ended : (b : ℕ) (o : Outcome) (row : Row) → is_building (means (Ended b o) row).state ≡ false
 idle-ended b WasBuilt row = refl
@@ -363,34 +438,46 @@ idle-ended b (Waits t) row = refl
 IsWorld-offer : (w : WorldView) (k : Key) → IsWorld w → refusal w (Offer k) ≡ None
     → IsWorld (accepted w (Offer k))
 IsWorld-offer w k i none = IsWorld-with_phase w k Open i tt (λ row found.
-    queued-state row.state (sym (ap (λ (o : Option Row). elim o as (λ _. Bool) [ Some r ↦ is_queued r.state | None ↦ false ]) found) ∙ offers (is_queued_at (rows_of w.history) k) (phase_of w k) none))
+    queued-state row.state
+    (sym (ap (λ (o : Option Row).
+    elim o as (λ _. Bool) [ Some r ↦ is_queued r.state | None ↦ false ]) found)
+    ∙ offers (is_queued_at (rows_of w.history) k) (phase_of w k) none))
 
 IsWorld-withdraw : (w : WorldView) (k : Key) → IsWorld w → refusal w (Withdraw k) ≡ None
     → IsWorld (accepted w (Withdraw k))
-IsWorld-withdraw w k i none = IsWorld-with_phase w k Closed i tt (λ row found. ap is_building (i.suits k Open row (withdraws (phase_of w k) none) found))
+IsWorld-withdraw w k i none =
+    IsWorld-with_phase w k Closed i tt (λ row found.
+    ap is_building (i.suits k Open row (withdraws (phase_of w k) none) found))
 
 IsWorld-claim : (w : WorldView) (b : ℕ) (k : Key) → IsWorld w → refusal w (Claim b k) ≡ None
     → IsWorld (accepted w (Claim b k))
 IsWorld-claim w b k i none =
     let c = claims (hand_of w b) (phase_of w k) none in
     let here = hand_in-put w.hands b Free (Holding k) c.0 in
-    with_hands (accepted w (Claim b k)) (IsSuited-with_hand (with_phase w k (Held b)) b (Holding k) (IsSuited-with_phase w k (Held b) (suited w i) (λ row found. i.suits k Open row c.1 found)))
-    (InHand-moved w k (Held b) _ i.sized here (λ q x _ phase. InHand-put w.hands b Free (Holding k) q x c.0 (free-not_his b q x) (i.held q x phase)))
+    with_hands (accepted w (Claim b k))
+    (IsSuited-with_hand (with_phase w k (Held b)) b (Holding k)
+    (IsSuited-with_phase w k (Held b) (suited w i) (λ row found. i.suits k Open row c.1 found)))
+    (InHand-moved w k (Held b) _ i.sized here (λ q x _ phase.
+    InHand-put w.hands b Free (Holding k) q x c.0 (free-not_his b q x) (i.held q x phase)))
 
 pub IsWorld-noted : (w : WorldView) (k : Key) (b : ℕ) → IsWorld w → phase_of w k ≡ Some (Held b)
     → AppliesOn (rows_of w.history) (Claimed b) (k ∷ [])
     × IsWorld (with_phase (journaled w (Claimed b) (k ∷ [])) k (Noted b))
 IsWorld-noted w k b i phase =
     let row = row-there w k (Held b) i phase in
-    let applies = AppliesOn-one (rows_of w.history) (Claimed b) k row.0 row.1 (ap is_queued (i.suits k (Held b) row.0 phase row.1)) in
-    (applies, IsWorld-moved w (Claimed b) k (Noted b) i applies (i.held k (Held b) phase) (λ r found. refl))
+    let applies = AppliesOn-one (rows_of w.history) (Claimed b) k row.0 row.1
+    (ap is_queued (i.suits k (Held b) row.0 phase row.1)) in (
+      applies,
+      IsWorld-moved w (Claimed b) k (Noted b) i applies (i.held k (Held b) phase) (λ r found. refl),
+    )
 
 pub IsWorld-settled : (w : WorldView) (k : Key) (b : ℕ) (o : Outcome) → IsWorld w
     → phase_of w k ≡ Some (Done b o) → AppliesOn (rows_of w.history) (Ended b o) (k ∷ [])
     × IsWorld (with_phase (journaled w (Ended b o) (k ∷ [])) k Closed)
 IsWorld-settled w k b o i phase =
     let row = row-there w k (Done b o) i phase in
-    let applies = AppliesOn-one (rows_of w.history) (Ended b o) k row.0 row.1 (ap (is_building_by b) (i.suits k (Done b o) row.0 phase row.1) ∙ same_itself b) in
+    let applies = AppliesOn-one (rows_of w.history) (Ended b o) k row.0 row.1
+    (ap (is_building_by b) (i.suits k (Done b o) row.0 phase row.1) ∙ same_itself b) in
     (applies, IsWorld-moved w (Ended b o) k Closed i applies tt (λ r found. idle-ended b o r))
 
 pub IsWorld-finished : (w : WorldView) (b : ℕ) (o : Outcome) (k : Key) → IsWorld w
@@ -399,8 +486,12 @@ pub IsWorld-finished : (w : WorldView) (b : ℕ) (o : Outcome) (k : Key) → IsW
 IsWorld-finished w b o k i hand phase =
     let here = hand_in-put w.hands b (Holding k) (Finished k o) hand in
     with_hands (with_hand (with_phase w k (Done b o)) b (Finished k o))
-    (IsSuited-with_hand (with_phase w k (Done b o)) b (Finished k o) (IsSuited-with_phase w k (Done b o) (suited w i) (λ row found. i.suits k (Noted b) row phase found)))
-    (InHand-moved w k (Done b o) _ i.sized here (λ q x is there. InHand-put w.hands b (Holding k) (Finished k o) q x hand (holding-not_his b k q x is) (i.held q x there)))
+    (IsSuited-with_hand (with_phase w k (Done b o)) b (Finished k o)
+    (IsSuited-with_phase w k (Done b o) (suited w i)
+    (λ row found. i.suits k (Noted b) row phase found)))
+    (InHand-moved w k (Done b o) _ i.sized here (λ q x is there.
+    InHand-put w.hands b (Holding k) (Finished k o) q x hand (holding-not_his b k q x is)
+    (i.held q x there)))
 
 -- the ended build that its builder lets go of is settled, or another's
 let_go : (w : WorldView) (b : ℕ) (k q : Key) (o : Outcome) (p : Phase)
@@ -409,7 +500,8 @@ let_go w b k q o p settled there = record {
   held = λ e. cc;
   ended = λ x is e.
       let same : k ≡ q = cc in
-      let done : phase_of w k ≡ Some (Done b x) = ap (phase_of w) same ∙ there ∙ ap (λ (y : Phase). Some y) is in
+      let done : phase_of w k ≡ Some (Done b x) =
+      ap (phase_of w) same ∙ there ∙ ap (λ (y : Phase). Some y) is in
       let yes : is_done_by b (phase_of w k) ≡ true = ap (is_done_by b) done ∙ same_itself b in
       (let no = sym yes ∙ settled in cc);
 }
@@ -421,35 +513,56 @@ IsWorld-release w b i none =
     let k = r.0 in
     let o = r.1.0 in
     with_hands (with_hand w b Free) (IsSuited-with_hand w b Free (suited w i))
-    (λ q p phase. InHand-put w.hands b (Finished k o) Free q p r.1.1.0 (let_go w b k q o p r.1.1.1 phase) (i.held q p phase))
+    (λ q p phase. InHand-put w.hands b (Finished k o) Free q p r.1.1.0
+    (let_go w b k q o p r.1.1.1 phase) (i.held q p phase))
 
 pub arrives : (k : Key) (o : Option Row) → arrive_refusal k o ≡ None
     → (row : Row) × ((o ≡ Some row) × (applies Arrived row ≡ true))
 arrives k None h = cc
-arrives k (Some row) h = (row, (refl, not_false (applies Arrived row) (not_refused (not (applies Arrived row)) (DoesNotApply k) None h).0))
+arrives k (Some row) h = (
+  row,
+  (
+    refl,
+    not_false (applies Arrived row)
+        (not_refused (not (applies Arrived row)) (DoesNotApply k) None h).0,
+  ),
+)
 
 pub IsWorld-arrived : (w : WorldView) (k : Key) (row : Row) → IsWorld w
     → row_of (rows_of w.history) k ≡ Some row → applies Arrived row ≡ true
     → AppliesOn (rows_of w.history) Arrived (k ∷ []) × IsWorld (journaled w Arrived (k ∷ []))
 IsWorld-arrived w k row i found fit =
-    let applies = AppliesOn-one (rows_of w.history) Arrived k row found fit in
-    (applies, IsWorld-journaled w Arrived (k ∷ []) i (one_key k) applies (λ q p r named phase there. suits-arrive p r.state (applies-fits (rows_of w.history) Arrived q r there (applies q named)) (i.suits q p r phase there)))
+    let applies = AppliesOn-one (rows_of w.history) Arrived k row found fit in (
+      applies,
+      IsWorld-journaled w Arrived (k ∷ []) i (one_key k) applies (λ q p r named phase there.
+          suits-arrive p r.state
+          (applies-fits (rows_of w.history) Arrived q r there (applies q named))
+          (i.suits q p r phase there)),
+    )
 
 pub IsWorld-swept : (w : WorldView) (keys : List Key) → IsWorld w → IsKeys keys
     → AppliesOn (rows_of w.history) Swept keys → IsWorld (journaled w Swept keys)
-IsWorld-swept w keys i are applies = IsWorld-journaled w Swept keys i are applies (λ q p r named phase there. suits-sweep p r.state (applies-fits (rows_of w.history) Swept q r there (applies q named)) (i.suits q p r phase there))
+IsWorld-swept w keys i are applies =
+    IsWorld-journaled w Swept keys i are applies (λ q p r named phase there.
+    suits-sweep p r.state (applies-fits (rows_of w.history) Swept q r there (applies q named))
+    (i.suits q p r phase there))
 
 pub AppliesOn-swept_now : (w : WorldView) → IsWorld w
     → AppliesOn (rows_of w.history) Swept (swept_now w)
-AppliesOn-swept_now w i = AppliesOn-freed (supply_of w) (rows_of w.history) (ap ascending (keys_of-rows_of w.history) ∙ i.rising)
+AppliesOn-swept_now w i =
+    AppliesOn-freed (supply_of w) (rows_of w.history)
+    (ap ascending (keys_of-rows_of w.history) ∙ i.rising)
 
 pub rising-swept_now : (w : WorldView) → IsWorld w → ascending (swept_now w) ≡ true
-rising-swept_now w i = ascending-freed (supply_of w) (rows_of w.history) (ap ascending (keys_of-rows_of w.history) ∙ i.rising)
+rising-swept_now w i =
+    ascending-freed (supply_of w) (rows_of w.history)
+    (ap ascending (keys_of-rows_of w.history) ∙ i.rising)
 
 IsWorld-sweep : (w : WorldView) (keys : List Key) → IsWorld w → ascending keys ≡ true
     → AppliesOn (rows_of w.history) Swept keys → IsWorld (swept w keys)
 IsWorld-sweep w [] i rising applies = i
-IsWorld-sweep w (k ∷ keys) i rising applies = IsWorld-swept w (k ∷ keys) i (record { rising = rising; some = omega arith }) applies
+IsWorld-sweep w (k ∷ keys) i rising applies =
+    IsWorld-swept w (k ∷ keys) i (record { rising = rising; some = omega arith }) applies
 
 -- each step that isn't refused
 pub IsWorld-accepted : (w : WorldView) (s : Step) → IsWorld w → refusal w s ≡ None
@@ -460,26 +573,32 @@ IsWorld-accepted w (Claim b k) i none = IsWorld-claim w b k i none
 IsWorld-accepted w (Note k) i none =
     let p = notes (phase_of w k) none in
     subst (λ (x : Option Phase). IsWorld (noted w k x)) (sym p.1) (IsWorld-noted w k p.0 i p.1).1
-IsWorld-accepted w (Commit kind keys) i none = IsWorld-commit w kind keys i (commits w kind keys none)
+IsWorld-accepted w (Commit kind keys) i none =
+    IsWorld-commit w kind keys i (commits w kind keys none)
 IsWorld-accepted w (Undo n) i none = IsWorld-undo w n i (undoes w n none)
 IsWorld-accepted w (Finish b o) i none =
     let f = finishes w b (hand_of w b) none in
-    subst (λ (x : Option Hand). IsWorld (finished w b o x)) (sym f.1.0) (IsWorld-finished w b o f.0 i f.1.0 f.1.1)
+    subst (λ (x : Option Hand). IsWorld (finished w b o x)) (sym f.1.0)
+    (IsWorld-finished w b o f.0 i f.1.0 f.1.1)
 IsWorld-accepted w (Settle k) i none =
     let p = settles (phase_of w k) none in
-    subst (λ (x : Option Phase). IsWorld (settled w k x)) (sym p.1.1) (IsWorld-settled w k p.0 p.1.0 i p.1.1).1
+    subst (λ (x : Option Phase). IsWorld (settled w k x)) (sym p.1.1)
+    (IsWorld-settled w k p.0 p.1.0 i p.1.1).1
 IsWorld-accepted w (Release b) i none = IsWorld-release w b i none
 IsWorld-accepted w (Arrive k) i none =
     let a = arrives k (row_of (rows_of w.history) k) none in
     (IsWorld-arrived w k a.0 i a.1.0 a.1.1).1
-IsWorld-accepted w Sweep i none = IsWorld-sweep w (swept_now w) i (rising-swept_now w i) (AppliesOn-swept_now w i)
+IsWorld-accepted w Sweep i none =
+    IsWorld-sweep w (swept_now w) i (rising-swept_now w i) (AppliesOn-swept_now w i)
 
 -- each step
 pub IsWorld-after : (w : WorldView) (s : Step) → IsWorld w → IsWorld (after w s)
-IsWorld-after w s i = elim (refusal w s) as (λ r. refusal w s ≡ r → IsWorld (elim r as (λ _. WorldView) [ Some x ↦ w | None ↦ accepted w s ])) [
-  | Some x ↦ λ _. i
-  | None ↦ λ none. IsWorld-accepted w s i none
-] refl
+IsWorld-after w s i =
+    elim (refusal w s) as (λ r.
+    refusal w s ≡ r → IsWorld (elim r as (λ _. WorldView) [ Some x ↦ w | None ↦ accepted w s ])) [
+      | Some x ↦ λ _. i
+      | None ↦ λ none. IsWorld-accepted w s i none
+    ] refl
 
 slice_get-replicate : {A : Type 0} (n i : ℕ) (x y : A) → slice_get (replicate n x) i ≡ Some y
     → y ≡ x
@@ -496,27 +615,35 @@ IsWorld-open t s builders rising idle = record {
   lawful = tt;
   sized = length-replicate (length t) Closed;
   suits = λ k p row phase found.
-      subst (λ (x : Phase). Suits x row.state) (sym (slice_get-replicate (length t) (number_of t k) Closed p phase))
+      subst (λ (x : Phase). Suits x row.state)
+      (sym (slice_get-replicate (length t) (number_of t k) Closed p phase))
       (idle k row (sym (ap (λ (u : Table). row_of u k) (replay-none t)) ∙ found));
   keys = tt;
-  held = λ k p phase. subst (InHand (replicate builders Free) k) (sym (slice_get-replicate (length t) (number_of t k) Closed p phase)) tt;
+  held = λ k p phase. subst (InHand (replicate builders Free) k)
+      (sym (slice_get-replicate (length t) (number_of t k) Closed p phase)) tt;
 }
 
 pub answer_to-refused : (w : WorldView) (s : Step) (r : Refusal) → refusal w s ≡ Some r
     → answer_to w s ≡ Refused r
-answer_to-refused w s r h = ap (λ (x : Option Refusal). elim x as (λ _. Answer) [ Some y ↦ Refused y | None ↦ done w s ]) h
+answer_to-refused w s r h =
+    ap (λ (x : Option Refusal). elim x as (λ _. Answer) [ Some y ↦ Refused y | None ↦ done w s ]) h
 
 pub after-refused : (w : WorldView) (s : Step) (r : Refusal) → refusal w s ≡ Some r → after w s ≡ w
-after-refused w s r h = ap (λ (x : Option Refusal). elim x as (λ _. WorldView) [ Some y ↦ w | None ↦ accepted w s ]) h
+after-refused w s r h =
+    ap (λ (x : Option Refusal). elim x as (λ _. WorldView) [ Some y ↦ w | None ↦ accepted w s ]) h
 
 pub answer_to-accepted : (w : WorldView) (s : Step) → refusal w s ≡ None → answer_to w s ≡ done w s
-answer_to-accepted w s h = ap (λ (x : Option Refusal). elim x as (λ _. Answer) [ Some y ↦ Refused y | None ↦ done w s ]) h
+answer_to-accepted w s h =
+    ap (λ (x : Option Refusal). elim x as (λ _. Answer) [ Some y ↦ Refused y | None ↦ done w s ]) h
 
 pub after-accepted : (w : WorldView) (s : Step) → refusal w s ≡ None → after w s ≡ accepted w s
-after-accepted w s h = ap (λ (x : Option Refusal). elim x as (λ _. WorldView) [ Some y ↦ w | None ↦ accepted w s ]) h
+after-accepted w s h =
+    ap (λ (x : Option Refusal). elim x as (λ _. WorldView) [ Some y ↦ w | None ↦ accepted w s ]) h
 
 -- a build that its builder ends
 pub after-finish : (w v : WorldView) (b : ℕ) (o : Outcome) (k : Key) → w ≡ v
     → refusal v (Finish b o) ≡ None → hand_of w b ≡ Some (Holding k)
     → with_hand (with_phase w k (Done b o)) b (Finished k o) ≡ after v (Finish b o)
-after-finish w v b o k same none hand = ap (finished w b o) (sym hand) ∙ (λ j. finished (same j) b o (hand_of (same j) b)) ∙ sym (after-accepted v (Finish b o) none)
+after-finish w v b o k same none hand =
+    ap (finished w b o) (sym hand) ∙ (λ j. finished (same j) b o (hand_of (same j) b))
+    ∙ sym (after-accepted v (Finish b o) none)

@@ -1,5 +1,6 @@
 -- What a crew tells ends with the rows of the book with which its desk is closed.
-use Rattle.std.proofs.Common.{◌≡◌, ℕ, ◌+◌, ◌≤◌, List, ◌++◌, length, Option, Some, None, Result, Ok, Err, refl, sym, ap, subst, ◌∙◌, arith}
+use Rattle.std.proofs.Common.{◌≡◌, ℕ, ◌+◌, ◌≤◌, List, ◌++◌, length, Option, Some, None, Result, Ok}
+use Rattle.std.proofs.Common.{Err, refl, sym, ap, subst, ◌∙◌, arith}
 use Rattle.std.specs.Prelude.{IfErr, IfOk, OnOk, string_bytes}
 use Rattle.std.specs.declared.alloc.AllocError.{AllocError}
 use Rattle.td_rows.specs.Table.{Table}
@@ -24,26 +25,32 @@ use Rattle.td_crew.specs.CrewText.{EndsWithRows, HasBegun, HasRows, IsClosed, cr
 pub begun_none : (rows : Table) → HasBegun None rows
 begun_none rows = (opened rows, refl)
 
-pub begun_named : (marks : List Mark) (rows : Table) (text : List ℕ) → IsNamedJournal marks rows text → HasBegun (Some text) rows
+pub begun_named : (marks : List Mark) (rows : Table) (text : List ℕ)
+    → IsNamedJournal marks rows text → HasBegun (Some text) rows
 begun_named marks rows text n = (given_back (history_of rows n.journal), (n.journal, n.reads, refl))
 
-pub begun_ok : {A E : Type 0} (marks : List Mark) (rows : Table) (text : List ℕ) (r : Result A E) → OnOk r (IsNamedJournal marks rows text) → OnOk r (HasBegun (Some text) rows)
+pub begun_ok : {A E : Type 0} (marks : List Mark) (rows : Table) (text : List ℕ) (r : Result A E)
+    → OnOk r (IsNamedJournal marks rows text) → OnOk r (HasBegun (Some text) rows)
 begun_ok marks rows text (Ok a) named = begun_named marks rows text named
 begun_ok marks rows text (Err e) named = tt
 
 -- over a journal's text, want of memory alone stops it
-pub reopen_only : {B : Type 0} (rows : Table) (text : List ℕ) (r : Result B ReadError) → ((ms : List Marked) → IsJournalText rows text ms → IfErr r (λ e. e ≡ journal.NoMemory))
+pub reopen_only : {B : Type 0} (rows : Table) (text : List ℕ) (r : Result B ReadError)
+    → ((ms : List Marked) → IsJournalText rows text ms → IfErr r (λ e. e ≡ journal.NoMemory))
     → IfErr r (λ e. IsJournalIfGiven rows (Some text) → e ≡ journal.NoMemory)
 reopen_only rows text (Ok b) only = tt
 reopen_only rows text (Err e) only = λ is. only is.0 is.1
 
-opening_begun : (given : Option (List ℕ)) (rows : Table) (h : History) → IsBegun given rows h → h.opening ≡ rows
+opening_begun : (given : Option (List ℕ)) (rows : Table) (h : History) → IsBegun given rows h
+    → h.opening ≡ rows
 opening_begun None rows h is = ap (λ (x : History). x.opening) is
 opening_begun (Some text) rows h is = ap (λ (x : History). x.opening) is.2
 
 -- ---- 2. where it ends
 
-pub rows_closed : (origin : Table) (told mid now : Told) (h : History) → h.opening ≡ origin → string_bytes mid.text ≡ string_bytes told.text → mid.refused ≤ told.refused + 1 → HasRows mid h now
+pub rows_closed : (origin : Table) (told mid now : Told) (h : History) → h.opening ≡ origin
+    → string_bytes mid.text ≡ string_bytes told.text → mid.refused ≤ told.refused + 1
+    → HasRows mid h now
     → IsClosed origin told now
 rows_closed origin told mid now h at same few rows = record {
   history = h;
@@ -53,7 +60,8 @@ rows_closed origin told mid now h at same few rows = record {
   refused = omega (arith, rows.refused);
 }
 
-pub ends_closed : (builders : ℕ) (origin : Table) (script : List ℕ) (told now : Told) → IsClosed origin told now → told.refused ≤ length script + builders + 1
+pub ends_closed : (builders : ℕ) (origin : Table) (script : List ℕ) (told now : Told)
+    → IsClosed origin told now → told.refused ≤ length script + builders + 1
     → EndsWithRows builders origin script (string_bytes now.text) now.refused
 ends_closed builders origin script told now closed few = record {
   history = closed.history;
@@ -64,25 +72,37 @@ ends_closed builders origin script told now closed few = record {
   few = omega (arith, closed.refused);
 }
 
-pub closed_ok : (origin : Table) (told mid : Told) (h : History) (r : Result Told AllocError) → h.opening ≡ origin → string_bytes mid.text ≡ string_bytes told.text → mid.refused ≤ told.refused + 1 → IfOk r (HasRows mid h)
+pub closed_ok : (origin : Table) (told mid : Told) (h : History) (r : Result Told AllocError)
+    → h.opening ≡ origin → string_bytes mid.text ≡ string_bytes told.text
+    → mid.refused ≤ told.refused + 1 → IfOk r (HasRows mid h)
     → IfOk r (IsClosed origin told)
-closed_ok origin told mid h (Ok now) at same few rows = rows_closed origin told mid now h at same few rows
+closed_ok origin told mid h (Ok now) at same few rows =
+    rows_closed origin told mid now h at same few rows
 closed_ok origin told mid h (Err e) at same few rows = tt
 
-pub ends_ok : (builders : ℕ) (origin : Table) (script : List ℕ) (told : Told) (r : Result Told AllocError) → IfOk r (IsClosed origin told) → told.refused ≤ length script + builders + 1
+pub ends_ok : (builders : ℕ) (origin : Table) (script : List ℕ) (told : Told)
+    (r : Result Told AllocError) → IfOk r (IsClosed origin told)
+    → told.refused ≤ length script + builders + 1
     → IfOk r (λ now. EndsWithRows builders origin script (string_bytes now.text) now.refused)
-ends_ok builders origin script told (Ok now) closed few = ends_closed builders origin script told now closed few
+ends_ok builders origin script told (Ok now) closed few =
+    ends_closed builders origin script told now closed few
 ends_ok builders origin script told (Err e) closed few = tt
 
-pub told_from : (builders : ℕ) (s : Setting) (given : Option (List ℕ)) (rows : Table) (lines : List ℕ) (told : Told) → HasBegun given rows
-    → EndsWithRows builders rows lines (string_bytes told.text) told.refused → IsToldFrom (crew_tells builders) s given rows lines told
+pub told_from : (builders : ℕ) (s : Setting) (given : Option (List ℕ)) (rows : Table)
+    (lines : List ℕ) (told : Told) → HasBegun given rows
+    → EndsWithRows builders rows lines (string_bytes told.text) told.refused
+    → IsToldFrom (crew_tells builders) s given rows lines told
 told_from builders s given rows lines told begun ends = (
   begun.0,
   begun.1,
-  subst (λ (t : Table). EndsWithRows builders t lines (string_bytes told.text) told.refused) (sym (opening_begun given rows begun.0 begun.1)) ends,
+  subst (λ (t : Table). EndsWithRows builders t lines (string_bytes told.text) told.refused)
+      (sym (opening_begun given rows begun.0 begun.1)) ends,
 )
 
-pub told_ok : (builders : ℕ) (s : Setting) (given : Option (List ℕ)) (rows : Table) (lines : List ℕ) (r : Result Told ReadError) → OnOk r (HasBegun given rows) → IfOk r (λ told. EndsWithRows builders rows lines (string_bytes told.text) told.refused)
+pub told_ok : (builders : ℕ) (s : Setting) (given : Option (List ℕ)) (rows : Table) (lines : List ℕ)
+    (r : Result Told ReadError) → OnOk r (HasBegun given rows)
+    → IfOk r (λ told. EndsWithRows builders rows lines (string_bytes told.text) told.refused)
     → IfOk r (IsToldFrom (crew_tells builders) s given rows lines)
-told_ok builders s given rows lines (Ok told) begun ends = told_from builders s given rows lines told begun ends
+told_ok builders s given rows lines (Ok told) begun ends =
+    told_from builders s given rows lines told begun ends
 told_ok builders s given rows lines (Err e) begun ends = tt

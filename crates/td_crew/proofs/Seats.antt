@@ -9,12 +9,19 @@ pub length-new_seats : (table : TableId) (b n : ℕ) → length (new_seats table
 length-new_seats table b zero = refl
 length-new_seats table b (suc n) = ap suc (length-new_seats table (suc b) n)
 
-pub new_seats-at : (table : TableId) (b n : ℕ) → All (λ (s : BuilderModel). s.table ≡ table) (new_seats table b n)
+pub new_seats-at : (table : TableId) (b n : ℕ)
+    → All (λ (s : BuilderModel). s.table ≡ table) (new_seats table b n)
 new_seats-at table b zero = All-nil (λ (s : BuilderModel). s.table ≡ table)
-new_seats-at table b (suc n) = All-cons (λ (s : BuilderModel). s.table ≡ table) (new_seat table b) (new_seats table (suc b) n) refl (new_seats-at table (suc b) n)
+new_seats-at table b (suc n) =
+    All-cons (λ (s : BuilderModel). s.table ≡ table) (new_seat table b) (new_seats table (suc b) n)
+    refl (new_seats-at table (suc b) n)
 
-pub seats_at : (table : TableId) (b n : ℕ) (seats : List BuilderModel) → seats ≡ new_seats table b n → All (λ (s : BuilderModel). s.table ≡ table) seats
-seats_at table b n seats is = subst (λ (l : List BuilderModel). All (λ (s : BuilderModel). s.table ≡ table) l) (sym is) (new_seats-at table b n)
+pub seats_at : (table : TableId) (b n : ℕ) (seats : List BuilderModel) → seats ≡ new_seats table b n
+    → All (λ (s : BuilderModel). s.table ≡ table) seats
+seats_at table b n seats is =
+    subst (λ (l : List BuilderModel). All (λ (s : BuilderModel). s.table ≡ table) l) (sym is)
+    (new_seats-at table b n)
 
-pub length-seats : (table : TableId) (b n : ℕ) (seats : List BuilderModel) → seats ≡ new_seats table b n → length seats ≡ n
+pub length-seats : (table : TableId) (b n : ℕ) (seats : List BuilderModel)
+    → seats ≡ new_seats table b n → length seats ≡ n
 length-seats table b n seats is = ap length is ∙ length-new_seats table b n

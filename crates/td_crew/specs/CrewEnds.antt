@@ -1,5 +1,6 @@
 -- How a crew's run ends whose builds end as lines of a text say. This project's own.
-use Rattle.std.specs.Prelude.{◌≡◌, ◌⊎◌, ℕ, List, [], Option, Some, Result, Ok, Err, IfErr, option_map, string_bytes, unwrap_or}
+use Rattle.std.specs.Prelude.{◌≡◌, ◌⊎◌, ℕ, List, [], Option, Some, Result, Ok, Err, IfErr}
+use Rattle.std.specs.Prelude.{option_map, string_bytes, unwrap_or}
 use Rattle.std.specs.Io.KnownBytes.{Keeps}
 use Rattle.td_text.specs.Lines.{lines_of}
 use Rattle.td_rows.specs.declared.key.Key.{Key}
@@ -25,20 +26,28 @@ outcomes_of x = ended (lines_of (unwrap_or (option_map string_bytes x.outcomes) 
 abbrev pub AreRead : List (List ℕ) → Type 0
 AreRead lines = (os : List (Key × Outcome)) × AreOutcomes lines os
 
--- what an end says: of the outcomes as soon as the files in front of them are fine, and of the rest as without them
-abbrev pub CrewSays : (Setting → History → List ℕ → List ℕ → ℕ → Type 0) → Texts → List (List ℕ) → Option (List ℕ) → Option (List ℕ) → Option (List ℕ) → Result ScriptEnd CrewFault → Type 0
-CrewSays May x outcomes known old new (Ok end) = AreRead outcomes × SaysBy May x known old new (Ok end)
-CrewSays May x outcomes known old new (Err (BadOutcome n)) = IsFirstBad outcomes n × AreFine x × Keeps old new
-CrewSays May x outcomes known old new (Err (Run e)) = (AreRead outcomes ⊎ IsRefusedBy x e) × SaysBy May x known old new (Err e)
+-- what an end says: of the outcomes as soon as the files in front of them are fine, and of the rest
+-- as without them
+abbrev pub CrewSays : (Setting → History → List ℕ → List ℕ → ℕ → Type 0) → Texts → List (List ℕ)
+    → Option (List ℕ) → Option (List ℕ) → Option (List ℕ) → Result ScriptEnd CrewFault → Type 0
+CrewSays May x outcomes known old new (Ok end) =
+    AreRead outcomes × SaysBy May x known old new (Ok end)
+CrewSays May x outcomes known old new (Err (BadOutcome n)) =
+    IsFirstBad outcomes n × AreFine x × Keeps old new
+CrewSays May x outcomes known old new (Err (Run e)) =
+    (AreRead outcomes ⊎ IsRefusedBy x e) × SaysBy May x known old new (Err e)
 
--- why a crew's run over readable texts may stop, where the reader has a script and the outcomes are read
+-- why a crew's run over readable texts may stop, where the reader has a script and the outcomes are
+-- read
 abbrev pub CrewMayStop : Texts → CrewFault → Type 0
 CrewMayStop x (BadOutcome n) = ⊥
 CrewMayStop x (Run e) = MayStop x e
 
 -- it stops for nothing else
 abbrev pub CrewOnly : Texts → List (List ℕ) → Option (List ℕ) → Result ScriptEnd CrewFault → Type 0
-CrewOnly x outcomes known result = (text : List ℕ) → known ≡ Some text → IsScriptText text → AreRead outcomes → AreReadable x → IfErr result (CrewMayStop x)
+CrewOnly x outcomes known result =
+    (text : List ℕ) → known ≡ Some text → IsScriptText text → AreRead outcomes → AreReadable x
+    → IfErr result (CrewMayStop x)
 
 -- ---- as the code has it
 

@@ -1,5 +1,6 @@
 -- What is told of a script that a clerk answers beside builders. This project's own.
-use Rattle.std.specs.Prelude.{◌≡◌, ℕ, ◌+◌, ◌≤◌, List, [], ◌++◌, Option, Some, None, codes, length, string_bytes}
+use Rattle.std.specs.Prelude.{◌≡◌, ℕ, ◌+◌, ◌≤◌, List, [], ◌++◌, Option, Some, None, codes, length}
+use Rattle.std.specs.Prelude.{string_bytes}
 use Rattle.td_rows.specs.StateWriting.{state_text}
 use Rattle.td_rows.specs.Table.{Table}
 use Rattle.td_journal.specs.Entries.{standing}
@@ -15,8 +16,11 @@ use Rattle.td_script.specs.Replies.{Setting, ended}
 abbrev pub rows_told : Table → List ℕ
 rows_told rows = ended (codes "rows") ++ state_text rows
 
--- the last of what is told are the rows of a book that was opened over these: the entries of its journal that stand, each of which applies where it stands, lead from those to these. At most each line, each builder and the closing of the desk is a refusal
-pub record EndsWithRows (builders : ℕ) (opened : Table) (script text : List ℕ) (refused : ℕ) : Type 0 where
+-- the last of what is told are the rows of a book that was opened over these: the entries of its
+-- journal that stand, each of which applies where it stands, lead from those to these. At most each
+-- line, each builder and the closing of the desk is a refusal
+pub record EndsWithRows (builders : ℕ) (opened : Table) (script text : List ℕ)
+    (refused : ℕ) : Type 0 where
   pub history : History
   pub opening : history.opening ≡ opened
   pub lawful : Lawful opened (standing history.journal)

@@ -1,5 +1,6 @@
 //! A crew: a clerk beside builders.
-ghost use Rattle.std.specs.Prelude.{◌≡◌, ◌+◌, ◌-◌, ◌≤◌, ◌<◌, ◌^◌, All, IfErr, IfOk, IfSome, OnOk, length, option_map, string_bytes};
+ghost use Rattle.std.specs.Prelude.{◌≡◌, ◌+◌, ◌-◌, ◌≤◌, ◌<◌, ◌^◌, All, IfErr, IfOk, IfSome, OnOk};
+ghost use Rattle.std.specs.Prelude.{length, option_map, string_bytes};
 ghost use Rattle.td_board.specs.Knowledge.{new_desk};
 ghost use Rattle.td_core.specs.Phases.{NoneBuilt};
 ghost use Rattle.td_rows.specs.Table.{Table};
@@ -8,7 +9,8 @@ ghost use Rattle.td_supply.specs.Supply.{opened, stock_of};
 ghost use Rattle.td_script.specs.Asking.{IsFit, IsToldOf};
 ghost use Rattle.td_script.specs.OpeningInside.{IsJournalFault};
 ghost use Rattle.td_script.specs.Openings.{IsJournalIfGiven};
-ghost use Rattle.td_crew.specs.CrewText.{EndsWithRows, HasBegun, HasRows, IsClosed, crew_tells, marks_begun};
+ghost use Rattle.td_crew.specs.CrewText.{EndsWithRows, HasBegun, HasRows, IsClosed, crew_tells};
+ghost use Rattle.td_crew.specs.CrewText.{marks_begun};
 
 use crate::building::build;
 use crate::hired::{Hired, hire};
@@ -41,7 +43,8 @@ pub struct Crew {
 impl Staff for Crew {
     ghost use Rattle.td_crew.specs.CrewText.{crew_tells};
 
-    ghost tells = { λ crew s h lines text refused. crew_tells crew.builders s h lines text refused };
+    ghost tells = { λ crew s h lines text refused.
+        crew_tells crew.builders s h lines text refused };
 }
 
 // The lines that a clerk answers, and by what.
@@ -105,7 +108,8 @@ fn tell_beside<
         thread::scope_env(),
         rt,
         |scope| -> Result<Told, AllocError>
-            requires { IfSome asked.now.reports (λ r. (t : Table) (f : Fixed) → T.fits r.now t f) × (length asked.now.script.now < 2 ^ 63 - 1) }
+            requires { IfSome asked.now.reports (λ r. (t : Table) (f : Fixed) → T.fits r.now t f)
+                × (length asked.now.script.now < 2 ^ 63 - 1) }
             ensures { IfOk result (λ told. told.refused ≤ length asked.entry.now.script.now + 1) }
         {
             for one in hired {
@@ -139,7 +143,8 @@ fn tell_in_shift<
     requires few { length seats.items ≤ 64 }
     requires fits { IfSome asked.now.reports (λ r. (t : Table) (f : Fixed) → T.fits r.now t f) }
     requires small { length asked.now.script.now < 2 ^ 63 - 1 }
-    ensures { IfOk result (λ told. told.refused ≤ length asked.now.script.now + length seats.items + 1) }
+    ensures { IfOk result (λ told.
+        told.refused ≤ length asked.now.script.now + length seats.items + 1) }
 {
     let builders = seats.len() as u64;
     let hired = hire::<N>(alloc, seats)?;
@@ -204,7 +209,9 @@ fn tell_at<
     requires few { length seats.items ≤ 64 }
     requires fits { IfSome asked.now.reports (λ r. (t : Table) (f : Fixed) → T.fits r.now t f) }
     requires small { length asked.now.script.now < 2 ^ 63 - 1 }
-    ensures { IfOk result (λ told. EndsWithRows (length seats.items) N.origin asked.now.script.now (string_bytes told.text) told.refused) }
+    ensures { IfOk result (λ told.
+        EndsWithRows (length seats.items) N.origin asked.now.script.now (string_bytes told.text)
+        told.refused) }
 {
     let mut clerk = clerk;
     let told = tell_in_shift(rt, alloc, &desk, &mut clerk, seats, builds, archs, asked)?;
@@ -231,7 +238,9 @@ fn begin<'a, N: Named, C: Ledger>(
     requires ledger { (blank.name ≡ C.name) × (blank.parts ≡ C.parts) × (blank.parts ≡ 1024) }
     ensures begun { OnOk result (HasBegun (option_map (λ s. s.now) journal.entry) rows) }
     ensures fault { IfErr result (IsJournalFault rows (option_map (λ s. s.now) journal.entry)) }
-    ensures only { IfErr result (λ fault. IsJournalIfGiven rows (option_map (λ s. s.now) journal.entry) → fault ≡ ReadError.NoMemory) }
+    ensures only { IfErr result (λ fault.
+        IsJournalIfGiven rows (option_map (λ s. s.now) journal.entry)
+        → fault ≡ ReadError.NoMemory) }
 {
     match journal {
         Some(text) => Desk::<N, C>::reopen(alloc, board, seat, rows, supply, blank, text),
@@ -275,9 +284,13 @@ fn tell_named<
     requires fits { IfSome asked.now.reports (λ r. (t : Table) (f : Fixed) → T.fits r.now t f) }
     requires small { length asked.now.script.now < 2 ^ 63 - 1 }
     ensures begun { OnOk result (HasBegun (option_map (λ s. s.now) asked.now.journal) rows) }
-    ensures told { IfOk result (λ told. EndsWithRows (length seats.items) rows asked.now.script.now (string_bytes told.text) told.refused) }
+    ensures told { IfOk result (λ told.
+        EndsWithRows (length seats.items) rows asked.now.script.now (string_bytes told.text)
+        told.refused) }
     ensures fault { IfErr result (IsJournalFault rows (option_map (λ s. s.now) asked.now.journal)) }
-    ensures only { IfErr result (λ fault. IsJournalIfGiven rows (option_map (λ s. s.now) asked.now.journal) → fault ≡ ReadError.NoMemory) }
+    ensures only { IfErr result (λ fault.
+        IsJournalIfGiven rows (option_map (λ s. s.now) asked.now.journal)
+        → fault ≡ ReadError.NoMemory) }
 {
     let journal = asked.journal;
     let (desk, clerk) = match begin::<N, C>(alloc, board, seat, rows, supply, blank, journal) {

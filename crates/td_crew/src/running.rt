@@ -5,7 +5,8 @@ ghost use Rattle.td_builder.specs.OutcomeLines.{FaultOf};
 ghost use Rattle.td_script.specs.Asking.{IsFit, IsToldOf};
 ghost use Rattle.td_script.specs.Ends.{Only, SaysBy};
 ghost use Rattle.td_script.specs.Openings.{AreReadable, texts_of};
-ghost use Rattle.td_crew.specs.CrewEnds.{AreRead, CrewOnly, CrewSays, IsNoOutcomes, StopsSo, outcomes_of};
+ghost use Rattle.td_crew.specs.CrewEnds.{AreRead, CrewOnly, CrewSays, IsNoOutcomes, StopsSo};
+ghost use Rattle.td_crew.specs.CrewEnds.{outcomes_of};
 ghost use Rattle.td_crew.specs.CrewText.{crew_tells};
 
 use crate::crew::{Crew, tell_script};
@@ -37,7 +38,8 @@ pub fn run_crew_with<R: Read, W: Write, B: Builds + Sync, H: Threads + Wait + Sy
     writer: &mut W,
     builds: &B,
 ) -> Result<ScriptEnd, RunFault>
-    ensures says { SaysBy (crew_tells inputs.now.builders) (texts_of inputs.now) (R.remaining reader.old) (W.contents writer.old) (W.contents writer.new) result }
+    ensures says { SaysBy (crew_tells inputs.now.builders) (texts_of inputs.now)
+        (R.remaining reader.old) (W.contents writer.old) (W.contents writer.new) result }
     ensures only { Only (texts_of inputs.now) (R.remaining reader.old) result }
 {
     let crew = Crew {
@@ -70,7 +72,8 @@ fn lines_in(inputs: &Inputs) -> &str
 fn no_outcomes(alloc: Global, inputs: &Inputs, fault: OutcomesFault) -> CrewFault
     requires { FaultOf (outcomes_of inputs.now) fault }
     ensures says { IsNoOutcomes (texts_of inputs.now) (outcomes_of inputs.now) result }
-    ensures only { AreRead (outcomes_of inputs.now) → AreReadable (texts_of inputs.now) → StopsSo (texts_of inputs.now) result }
+    ensures only { AreRead (outcomes_of inputs.now) → AreReadable (texts_of inputs.now)
+        → StopsSo (texts_of inputs.now) result }
 {
     match judge(alloc, inputs) {
         Err(refused) => CrewFault::Run(refused),
@@ -89,8 +92,11 @@ pub fn run_crew<R: Read, W: Write, H: Threads + Wait + Sync>(
     reader: &mut R,
     writer: &mut W,
 ) -> Result<ScriptEnd, CrewFault>
-    ensures says { CrewSays (crew_tells inputs.now.builders) (texts_of inputs.now) (outcomes_of inputs.now) (R.remaining reader.old) (W.contents writer.old) (W.contents writer.new) result }
-    ensures only { CrewOnly (texts_of inputs.now) (outcomes_of inputs.now) (R.remaining reader.old) result }
+    ensures says { CrewSays (crew_tells inputs.now.builders) (texts_of inputs.now)
+        (outcomes_of inputs.now) (R.remaining reader.old) (W.contents writer.old)
+        (W.contents writer.new) result }
+    ensures only { CrewOnly (texts_of inputs.now) (outcomes_of inputs.now) (R.remaining reader.old)
+        result }
 {
     let outcomes = match Outcomes::read(alloc, lines_in(inputs)) {
         Ok(outcomes) => outcomes,

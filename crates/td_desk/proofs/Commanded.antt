@@ -11,6 +11,9 @@ use Rattle.td_book.specs.Desk.{BookModel}
 use Rattle.td_desk.specs.Clerks.{ClerkModel, with_receipt}
 use Rattle.td_desk.specs.Calls.{Commanding, command_receipt}
 
-pub commanded : (c : CommandParts) (table : TableId) (clerk after : ClerkModel) (r : Result Taken CommandRefusal) (old new : BookModel) → old.fixed.table ≡ table → IsDone c old new r
-    → IfOk r (λ t. after ≡ with_receipt (command_receipt c old t) clerk) → (r ≡ Err commands.NoMemory) ⊎ Commanding c table clerk after r
+pub commanded : (c : CommandParts) (table : TableId) (clerk after : ClerkModel)
+    (r : Result Taken CommandRefusal) (old new : BookModel) → old.fixed.table ≡ table
+    → IsDone c old new r
+    → IfOk r (λ t. after ≡ with_receipt (command_receipt c old t) clerk)
+    → (r ≡ Err commands.NoMemory) ⊎ Commanding c table clerk after r
 commanded c table clerk after r old new at is told = inr (old, new, at, is, told)

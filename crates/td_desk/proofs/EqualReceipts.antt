@@ -1,5 +1,6 @@
 -- Receipts that are told to be the same are equal.
-use Rattle.std.proofs.Common.{◌≡◌, ◌≢◌, ℕ, ◌==◌, Bool, true, false, ◌&&◌, List, [], ◌∷◌, length, refl, sym, ap, Option, Some, None}
+use Rattle.std.proofs.Common.{◌≡◌, ◌≢◌, ℕ, ◌==◌, Bool, true, false, ◌&&◌, List, [], ◌∷◌, length}
+use Rattle.std.proofs.Common.{refl, sym, ap, Option, Some, None}
 use Rattle.std.proofs.lemmas.Bool.{and_parts, and_from, eq-eqb, eqb-true}
 use Rattle.std.proofs.lemmas.Bool.Decides.{Decides-int_eq}
 use Rattle.std.proofs.lemmas.Cmp.{nat_list_eq_equiv, int_eq_equiv}
@@ -13,7 +14,8 @@ use Rattle.td_rows.specs.Keys.{same_key}
 use Rattle.td_rows.proofs.Keys.{same_key-true, same_key-refl}
 use Rattle.td_desk.specs.declared.receipt.Receipt.{Receipt}
 use Rattle.td_desk.specs.declared.receipt.Receipt.TheVariants.{Made, Swept, Undid}
-use Rattle.td_desk.specs.inner.Matching.{same_text, same_number, same_outcome, same_kind, same_keys, same_receipt}
+use Rattle.td_desk.specs.inner.Matching.{same_text, same_number, same_outcome, same_kind, same_keys}
+use Rattle.td_desk.specs.inner.Matching.{same_receipt}
 
 -- ---- 1. the parts of kinds
 
@@ -132,11 +134,14 @@ same_kind-is kinds.Sweep kinds.Sweep h = refl
 
 same_kind-refl : (k : Kind) → same_kind k k ≡ true
 same_kind-refl kinds.Gb = refl
-same_kind-refl (kinds.Nmu n e t) = and_from (same_number n n) (same_text e e && same_text t t) (same_number-refl n) (and_from (same_text e e) (same_text t t) (same_text-refl e) (same_text-refl t))
+same_kind-refl (kinds.Nmu n e t) =
+    and_from (same_number n n) (same_text e e && same_text t t) (same_number-refl n)
+    (and_from (same_text e e) (same_text t t) (same_text-refl e) (same_text-refl t))
 same_kind-refl (kinds.Bp p) = int_eq_equiv.refl p
 same_kind-refl (kinds.Dw s) = same_text-refl s
 same_kind-refl (kinds.Claim a) = eq-eqb a a refl
-same_kind-refl (kinds.Outcome a o) = and_from (a == a) (same_outcome o o) (eq-eqb a a refl) (same_outcome-refl o)
+same_kind-refl (kinds.Outcome a o) =
+    and_from (a == a) (same_outcome o o) (eq-eqb a a refl) (same_outcome-refl o)
 same_kind-refl kinds.Arrive = refl
 same_kind-refl kinds.Sweep = refl
 
@@ -146,18 +151,22 @@ pub same_keys-is : (js ks : List Key) → same_keys js ks ≡ true → js ≡ ks
 same_keys-is [] [] h = refl
 same_keys-is [] (k ∷ ks) h = absurd (cc)
 same_keys-is (j ∷ js) [] h = absurd (cc)
-same_keys-is (j ∷ js) (k ∷ ks) h = let p = and_parts (same_key j k) (same_keys js ks) h in (λ i. same_key-true j k p.0 i ∷ same_keys-is js ks p.1 i)
+same_keys-is (j ∷ js) (k ∷ ks) h =
+    let p = and_parts (same_key j k) (same_keys js ks) h in
+    (λ i. same_key-true j k p.0 i ∷ same_keys-is js ks p.1 i)
 
 same_keys-refl : (ks : List Key) → same_keys ks ks ≡ true
 same_keys-refl [] = refl
-same_keys-refl (k ∷ ks) = and_from (same_key k k) (same_keys ks ks) (same_key-refl k) (same_keys-refl ks)
+same_keys-refl (k ∷ ks) =
+    and_from (same_key k k) (same_keys ks ks) (same_key-refl k) (same_keys-refl ks)
 
 pub false_of : (b : Bool) → (b ≡ true → ⊥) → false ≡ b
 false_of true h = absurd (h refl)
 false_of false h = refl
 
 pub same_keys-apart : (js ks : List Key) → length js ≢ length ks → false ≡ same_keys js ks
-same_keys-apart js ks apart = false_of (same_keys js ks) (λ h. apart (ap length (same_keys-is js ks h)))
+same_keys-apart js ks apart =
+    false_of (same_keys js ks) (λ h. apart (ap length (same_keys-is js ks h)))
 
 -- ---- 4. receipts
 
@@ -176,6 +185,8 @@ same_receipt-is (Undid n) (Swept m) h = absurd (cc)
 same_receipt-is (Undid n) (Undid m) h = ap Undid (eqb-true n m h)
 
 pub same_receipt-refl : (r : Receipt) → same_receipt r r ≡ true
-same_receipt-refl (Made n k ks) = and_from (n == n) (same_kind k k && same_keys ks ks) (eq-eqb n n refl) (and_from (same_kind k k) (same_keys ks ks) (same_kind-refl k) (same_keys-refl ks))
+same_receipt-refl (Made n k ks) =
+    and_from (n == n) (same_kind k k && same_keys ks ks) (eq-eqb n n refl)
+    (and_from (same_kind k k) (same_keys ks ks) (same_kind-refl k) (same_keys-refl ks))
 same_receipt-refl (Swept n) = eq-eqb n n refl
 same_receipt-refl (Undid n) = eq-eqb n n refl

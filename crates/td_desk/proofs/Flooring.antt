@@ -1,5 +1,6 @@
 -- What the calls of builders say of their seats.
-use Rattle.std.proofs.Common.{◌≡◌, ◌⊎◌, inl, inr, ⊎_elim, ℕ, Bool, true, false, refl, sym, subst, ◌∙◌, Result, Ok, Err}
+use Rattle.std.proofs.Common.{◌≡◌, ◌⊎◌, inl, inr, ⊎_elim, ℕ, Bool, true, false, refl, sym, subst}
+use Rattle.std.proofs.Common.{◌∙◌, Result, Ok, Err}
 use Rattle.std.specs.Prelude.{IfOk, OnOk, OnErr}
 use Rattle.atomic_table.specs.Seated.{TableId}
 use Rattle.td_rows.specs.declared.outcome.Outcome.{Outcome}
@@ -20,45 +21,65 @@ use Rattle.td_book.specs.Finishing.{FinishHeld, FinishOutcome}
 use Rattle.td_builder.specs.Floors.{IsHolding, IsStarted, IsFinished}
 use Rattle.td_desk.specs.Calls.{Starting, Finishing, MayBeJob, is_any_queued}
 
-by_hand : (table : TableId) (b : ℕ) (hand : Hand) (old new : BookModel) (job : Job) → old.fixed.table ≡ table → StartOutcome b hand old new (Ok job) → (r : ℕ) × (hand ≡ Holding r) × MayBeJob table r job
+by_hand : (table : TableId) (b : ℕ) (hand : Hand) (old new : BookModel) (job : Job)
+    → old.fixed.table ≡ table → StartOutcome b hand old new (Ok job)
+    → (r : ℕ) × (hand ≡ Holding r) × MayBeJob table r job
 by_hand table b (Holding i) old new job at is = (i, refl, (old, at, is.1))
 by_hand table b Free old new job at is = absurd (let e = is.0 in cc)
 by_hand table b (Finished i c) old new job at is = absurd (let e = is.0 in cc)
 
-pub started : (table : TableId) (s : BuilderModel) (r : Result Job StartRefusal) → (r ≡ Err starts.NoMemory) ⊎ Starting s table r → IfOk r (IsStarted (MayBeJob table) s)
+pub started : (table : TableId) (s : BuilderModel) (r : Result Job StartRefusal)
+    → (r ≡ Err starts.NoMemory) ⊎ Starting s table r → IfOk r (IsStarted (MayBeJob table) s)
 started table s (Ok job) (inl e) = absurd (cc)
-started table s (Ok job) (inr (old, new, at, is)) = by_hand table s.builder.number s.builder.hand old new job at is
+started table s (Ok job) (inr (old, new, at, is)) =
+    by_hand table s.builder.number s.builder.hand old new job at is
 started table s (Err e) w = tt
 
 same_seat : (s t : BuilderModel) → t.table ≡ s.table → t.builder ≡ s.builder → t ≡ s
 same_seat s t at is = (λ j. record { table = at j; builder = is j })
 
-ended_seat : (o : Outcome) (s t : BuilderModel) (i : ℕ) → s.builder.hand ≡ Holding i → t.table ≡ s.table → t.builder ≡ with_finish i (code_of o) s.builder → IsFinished (code_of o) s t
+ended_seat : (o : Outcome) (s t : BuilderModel) (i : ℕ) → s.builder.hand ≡ Holding i
+    → t.table ≡ s.table → t.builder ≡ with_finish i (code_of o) s.builder
+    → IsFinished (code_of o) s t
 ended_seat o s t i hand at is = (i, hand, (λ j. record { table = at j; builder = is j }))
 
 -- by the answer, of a row that is held
-finished_held : (o : Outcome) (s t : BuilderModel) (i : ℕ) (old new : BookModel) (r : Result ℕ FinishRefusal) → s.builder.hand ≡ Holding i → t.table ≡ s.table → FinishHeld i o s.builder t.builder old new r → OnOk r (IsFinished (code_of o) s t)
+finished_held : (o : Outcome) (s t : BuilderModel) (i : ℕ) (old new : BookModel)
+    (r : Result ℕ FinishRefusal) → s.builder.hand ≡ Holding i → t.table ≡ s.table
+    → FinishHeld i o s.builder t.builder old new r → OnOk r (IsFinished (code_of o) s t)
 finished_held o s t i old new (Ok n) hand at (f, is) = ended_seat o s t i hand at is
 finished_held o s t i old new (Err e) hand at is = tt
 
-refused_held : (o : Outcome) (s t : BuilderModel) (i : ℕ) (old new : BookModel) (r : Result ℕ FinishRefusal) → s.builder.hand ≡ Holding i → t.table ≡ s.table → FinishHeld i o s.builder t.builder old new r → OnErr r ((t ≡ s) ⊎ IsFinished (code_of o) s t)
+refused_held : (o : Outcome) (s t : BuilderModel) (i : ℕ) (old new : BookModel)
+    (r : Result ℕ FinishRefusal) → s.builder.hand ≡ Holding i → t.table ≡ s.table
+    → FinishHeld i o s.builder t.builder old new r → OnErr r ((t ≡ s) ⊎ IsFinished (code_of o) s t)
 refused_held o s t i old new (Ok n) hand at is = tt
 refused_held o s t i old new (Err finishes.NoMemory) hand at (same, is) = inl (same_seat s t at is)
 refused_held o s t i old new (Err finishes.NothingHeld) hand at is = absurd is
 refused_held o s t i old new (Err finishes.Mismatch) hand at (is, seen, was) = ⊎_elim
     (λ (same : t.builder ≡ s.builder). inl (same_seat s t at same))
-    (λ (done : (is ≡ true) × (t.builder ≡ with_finish i (code_of o) s.builder)). inr (ended_seat o s t i hand at done.1))
+    (λ (done : (is ≡ true) × (t.builder ≡ with_finish i (code_of o) s.builder)).
+    inr (ended_seat o s t i hand at done.1))
     was
 
-pub finished : (table : TableId) (o : Outcome) (s t : BuilderModel) (r : Result ℕ FinishRefusal) → IsHolding s → t.table ≡ s.table → Finishing o s t table r → OnOk r (IsFinished (code_of o) s t)
+pub finished : (table : TableId) (o : Outcome) (s t : BuilderModel) (r : Result ℕ FinishRefusal)
+    → IsHolding s → t.table ≡ s.table → Finishing o s t table r
+    → OnOk r (IsFinished (code_of o) s t)
 finished table o s t r (i, hand) at (old, new, named, is) =
-    let f : FinishOutcome (Holding i) o s.builder t.builder old new r = subst (λ h. FinishOutcome h o s.builder t.builder old new r) hand is in
+    let f : FinishOutcome (Holding i) o s.builder t.builder old new r =
+    subst (λ h. FinishOutcome h o s.builder t.builder old new r) hand is in
     finished_held o s t i old new r hand at f
 
-pub kept_or_finished : (table : TableId) (o : Outcome) (s t : BuilderModel) (r : Result ℕ FinishRefusal) → IsHolding s → t.table ≡ s.table → Finishing o s t table r → OnErr r ((t ≡ s) ⊎ IsFinished (code_of o) s t)
+pub kept_or_finished : (table : TableId) (o : Outcome) (s t : BuilderModel)
+    (r : Result ℕ FinishRefusal) → IsHolding s → t.table ≡ s.table → Finishing o s t table r
+    → OnErr r ((t ≡ s) ⊎ IsFinished (code_of o) s t)
 kept_or_finished table o s t r (i, hand) at (old, new, named, is) =
-    let f : FinishOutcome (Holding i) o s.builder t.builder old new r = subst (λ h. FinishOutcome h o s.builder t.builder old new r) hand is in
+    let f : FinishOutcome (Holding i) o s.builder t.builder old new r =
+    subst (λ h. FinishOutcome h o s.builder t.builder old new r) hand is in
     refused_held o s t i old new r hand at f
 
-pub at_end : (table : TableId) (b : Bool) → (book : BookModel) × (book.fixed.table ≡ table) × (b ≡ is_any_queued (rows_of book.history)) → b ≡ false → (book : BookModel) × (book.fixed.table ≡ table) × (is_any_queued (rows_of book.history) ≡ false)
+pub at_end : (table : TableId) (b : Bool)
+    → (book : BookModel) × (book.fixed.table ≡ table) × (b ≡ is_any_queued (rows_of book.history))
+    → b ≡ false → (book : BookModel) × (book.fixed.table ≡ table)
+    × (is_any_queued (rows_of book.history) ≡ false)
 at_end table b (book, at, is) h = (book, at, sym is ∙ h)

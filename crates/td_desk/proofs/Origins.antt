@@ -1,5 +1,6 @@
 -- The rows with which a book was opened stay over every call of it.
-use Rattle.std.proofs.Common.{◌≡◌, ℕ, [], ◌∷◌, Option, Some, None, Result, Ok, Err, Bool, ap, ◌∙◌, filter}
+use Rattle.std.proofs.Common.{◌≡◌, ℕ, [], ◌∷◌, Option, Some, None, Result, Ok, Err, Bool, ap, ◌∙◌}
+use Rattle.std.proofs.Common.{filter}
 use Rattle.std.specs.Prelude.{IsSomeAnd}
 use Rattle.std.specs.declared.alloc.AllocError.{AllocError}
 use Rattle.td_board.specs.declared.outcome.OutcomeCode.{OutcomeCode}
@@ -46,21 +47,26 @@ all old new same = ap origin same
 noted : (h : History) (k : Key) (b : ℕ) → (noting_one h k b).opening ≡ h.opening
 noted h k b = noting-opening h (k ∷ []) (b ∷ [])
 
-pub arrive_origin : (k : Key) (old new : BookModel) (r : Result ℕ ArriveRefusal) → ArriveOutcome k old new r → origin new ≡ origin old
+pub arrive_origin : (k : Key) (old new : BookModel) (r : Result ℕ ArriveRefusal)
+    → ArriveOutcome k old new r → origin new ≡ origin old
 arrive_origin k old new (Ok n) is = ap origin is.3
 arrive_origin k old new (Err arrivals.NoSuchRow) is = all old new is.1
 arrive_origin k old new (Err (arrivals.DoesNotApply s)) is = all old new is.4
 arrive_origin k old new (Err arrivals.NoMemory) is = all old new is
 
-pub sweep_origin : (old new : BookModel) (r : Result (Option ℕ) AllocError) → SweepOutcome old new r → origin new ≡ origin old
+pub sweep_origin : (old new : BookModel) (r : Result (Option ℕ) AllocError) → SweepOutcome old new r
+    → origin new ≡ origin old
 sweep_origin old new (Ok None) is = all old new is.1
 sweep_origin old new (Ok (Some n)) is = ap origin is.1
 sweep_origin old new (Err e) is = all old new is
 
-noticed : (i b : ℕ) (is : Bool) (old new : BookModel) → Noticed i b is old new → origin new ≡ origin old
-noticed i b is old new seen = ap (λ (h : History). h.opening) seen.history ∙ noted old.history seen.key seen.by
+noticed : (i b : ℕ) (is : Bool) (old new : BookModel) → Noticed i b is old new
+    → origin new ≡ origin old
+noticed i b is old new seen =
+    ap (λ (h : History). h.opening) seen.history ∙ noted old.history seen.key seen.by
 
-pub start_origin : (b : ℕ) (hand : Hand) (old new : BookModel) (r : Result Job StartRefusal) → StartOutcome b hand old new r → origin new ≡ origin old
+pub start_origin : (b : ℕ) (hand : Hand) (old new : BookModel) (r : Result Job StartRefusal)
+    → StartOutcome b hand old new r → origin new ≡ origin old
 start_origin b (Holding i) old new (Ok job) is = noticed i b _ old new is.0
 start_origin b (Holding i) old new (Err starts.Mismatch) is = noticed i b _ old new is
 start_origin b (Holding i) old new (Err starts.NothingHeld) is = absurd is
@@ -74,40 +80,59 @@ start_origin b (Finished i c) old new (Err starts.Mismatch) is = all old new is.
 start_origin b (Finished i c) old new (Err starts.NothingHeld) is = all old new is.1
 start_origin b (Finished i c) old new (Err starts.NoMemory) is = all old new is
 
-held_origin : (i : ℕ) (o : Outcome) (v w : BuilderView) (old new : BookModel) (r : Result ℕ FinishRefusal) → FinishHeld i o v w old new r → origin new ≡ origin old
-held_origin i o v w old new (Ok n) is = ap (λ (h : History). h.opening) is.0.history ∙ noted old.history is.0.key is.0.by
+held_origin : (i : ℕ) (o : Outcome) (v w : BuilderView) (old new : BookModel)
+    (r : Result ℕ FinishRefusal) → FinishHeld i o v w old new r → origin new ≡ origin old
+held_origin i o v w old new (Ok n) is =
+    ap (λ (h : History). h.opening) is.0.history ∙ noted old.history is.0.key is.0.by
 held_origin i o v w old new (Err finishes.NoMemory) is = all old new is.0
-held_origin i o v w old new (Err finishes.Mismatch) (is, seen, hand) = noticed i v.number is old new seen
+held_origin i o v w old new (Err finishes.Mismatch) (is, seen, hand) =
+    noticed i v.number is old new seen
 held_origin i o v w old new (Err finishes.NothingHeld) is = absurd is
 
-again_origin : (i : ℕ) (c : OutcomeCode) (o : Outcome) (b : ℕ) (old new : BookModel) (r : Result ℕ FinishRefusal) → FinishAgain i c o b old new r → origin new ≡ origin old
+again_origin : (i : ℕ) (c : OutcomeCode) (o : Outcome) (b : ℕ) (old new : BookModel)
+    (r : Result ℕ FinishRefusal) → FinishAgain i c o b old new r → origin new ≡ origin old
 again_origin i c o b old new (Ok n) is = ap (λ (h : History). h.opening) is.1.history
 again_origin i c o b old new (Err finishes.NothingHeld) is = all old new is.1
 again_origin i c o b old new (Err finishes.NoMemory) is = all old new is
 again_origin i c o b old new (Err finishes.Mismatch) is = all old new is.1
 
-pub finish_origin : (hand : Hand) (o : Outcome) (v w : BuilderView) (old new : BookModel) (r : Result ℕ FinishRefusal) → FinishOutcome hand o v w old new r → origin new ≡ origin old
+pub finish_origin : (hand : Hand) (o : Outcome) (v w : BuilderView) (old new : BookModel)
+    (r : Result ℕ FinishRefusal) → FinishOutcome hand o v w old new r → origin new ≡ origin old
 finish_origin Free o v w old new r is = all old new is.1
 finish_origin (Holding i) o v w old new r is = held_origin i o v w old new r is
 finish_origin (Finished i c) o v w old new r is = again_origin i c o v.number old new r is.0
 
-pub undo_origin : (stop : Option UndoRefusal) (n : ℕ) (old new : BookModel) (r : Result (Unit {0}) UndoRefusal) → UndoAnswer stop n old new r → origin new ≡ origin old
+pub undo_origin : (stop : Option UndoRefusal) (n : ℕ) (old new : BookModel)
+    (r : Result (Unit {0}) UndoRefusal) → UndoAnswer stop n old new r → origin new ≡ origin old
 undo_origin (Some s) n old new r is = all old new is.1
 undo_origin None n old new (Ok u) is = ap (λ (h : History). h.opening) is.outcome
 undo_origin None n old new (Err undos.NoMemory) is = ap (λ (h : History). h.opening) is.outcome
-undo_origin None n old new (Err (undos.Blocked m)) is = blocked (entry_at old.history.journal n) is.outcome
+undo_origin None n old new (Err (undos.Blocked m)) is =
+    blocked (entry_at old.history.journal n) is.outcome
   where
-    blocked : (found : Option Marked) → IsSomeAnd found (λ e. IsWon old.history new.history old.fixed.builders (off_for e.entry.kind e.entry.keys) m) → origin new ≡ origin old
+    blocked : (found : Option Marked)
+        → IsSomeAnd found (λ e.
+        IsWon old.history new.history old.fixed.builders (off_for e.entry.kind e.entry.keys) m)
+        → origin new ≡ origin old
     blocked None h = absurd h
     blocked (Some x) h = ap (λ (y : History). y.opening) h.now
 undo_origin None n old new (Err undos.NoSuchEntry) is = absurd is.outcome
 undo_origin None n old new (Err undos.NotACommand) is = absurd is.outcome
 undo_origin None n old new (Err undos.AlreadyUndone) is = absurd is.outcome
 
-pub command_origin : (c : CommandParts) (old new : BookModel) (r : Result Taken CommandRefusal) → IsDone c old new r → origin new ≡ origin old
+pub command_origin : (c : CommandParts) (old new : BookModel) (r : Result Taken CommandRefusal)
+    → IsDone c old new r → origin new ≡ origin old
 command_origin c old new r done = at r done.outcome
   where
-    at : (r : Result Taken CommandRefusal) → CommandOutcome (kind_of c) (named_by c old) (filter (is_matched_in c old) (named_by c old)) (skips_of (is_matched_in c old) (kind_of c) (named_by c old)) old new r → origin new ≡ origin old
-    at (Ok t) (choices, chosen, enters) = ap (λ (h : History). h.opening) enters.1 ∙ noting-opening old.history (off_for (kind_of c) (named_by c old)) choices
+    at : (r : Result Taken CommandRefusal)
+        → CommandOutcome (kind_of c) (named_by c old)
+        (filter (is_matched_in c old) (named_by c old))
+        (skips_of (is_matched_in c old) (kind_of c) (named_by c old)) old new r
+        → origin new ≡ origin old
+    at (Ok t) (choices, chosen, enters) =
+        ap (λ (h : History). h.opening) enters.1
+        ∙ noting-opening old.history (off_for (kind_of c) (named_by c old)) choices
     at (Err commands.NoMemory) same = ap (λ (h : History). h.opening) same
-    at (Err (commands.NothingApplies skips)) (choices, chosen, nothing) = ap (λ (h : History). h.opening) nothing.1 ∙ noting-opening old.history (off_for (kind_of c) (named_by c old)) choices
+    at (Err (commands.NothingApplies skips)) (choices, chosen, nothing) =
+        ap (λ (h : History). h.opening) nothing.1
+        ∙ noting-opening old.history (off_for (kind_of c) (named_by c old)) choices

@@ -1,4 +1,5 @@
--- What the calls of a desk answer, each over the locked book as it was when the call had the lock, and what receipt a clerk gets. This project's own.
+-- What the calls of a desk answer, each over the locked book as it was when the call had the lock,
+-- and what receipt a clerk gets. This project's own.
 use Rattle.std.specs.Prelude.{◌≡◌, ℕ, Bool, not, List, [], ◌∷◌, Option, Result, IfOk, filter, map}
 use Rattle.std.specs.List.{list_any}
 use Rattle.std.specs.declared.alloc.AllocError.{AllocError}
@@ -40,7 +41,8 @@ skipped_keys skips = map (λ s. s.key) skips
 abbrev pub without : List Key → List Skip → List Key
 without named skips = filter (λ k. not (names (skipped_keys skips) k)) named
 
--- the receipt of a command: its own kind, and the rows that it names in the book without the answered skips
+-- the receipt of a command: its own kind, and the rows that it names in the book without the
+-- answered skips
 abbrev pub command_receipt : CommandParts → BookModel → Taken → Receipt
 command_receipt c old taken = Made taken.number (kind_of c) (without (named_by c old) taken.skips)
 
@@ -51,28 +53,41 @@ arrival_receipt k n = Made n kinds.Arrive (k ∷ [])
 -- ---- 2. answers, over a book at the table
 
 -- a command's, and the clerk's receipt where it is accepted
-abbrev pub Commanding : CommandParts → TableId → ClerkModel → ClerkModel → Result Taken CommandRefusal → Type 0
-Commanding c table clerk after result = (old : BookModel) × (new : BookModel) × (old.fixed.table ≡ table) × IsDone c old new result × IfOk result (λ t. after ≡ with_receipt (command_receipt c old t) clerk)
+abbrev pub Commanding : CommandParts → TableId → ClerkModel → ClerkModel
+    → Result Taken CommandRefusal → Type 0
+Commanding c table clerk after result =
+    (old : BookModel) × (new : BookModel) × (old.fixed.table ≡ table) × IsDone c old new result
+    × IfOk result (λ t. after ≡ with_receipt (command_receipt c old t) clerk)
 
 -- an undo's: what such a book answers to the undo of entry n
 abbrev pub Undoing : ℕ → TableId → Result (Unit {0}) UndoRefusal → Type 0
-Undoing n table result = (old : BookModel) × (new : BookModel) × (old.fixed.table ≡ table) × UndoAnswer (undo_stop old.history.journal n) n old new result
+Undoing n table result =
+    (old : BookModel) × (new : BookModel) × (old.fixed.table ≡ table)
+    × UndoAnswer (undo_stop old.history.journal n) n old new result
 
 -- an arrival's: what such a book answers to the arrival of this key's build
 abbrev pub Arriving : Key → TableId → Result ℕ ArriveRefusal → Type 0
-Arriving k table result = (old : BookModel) × (new : BookModel) × (old.fixed.table ≡ table) × ArriveOutcome k old new result
+Arriving k table result =
+    (old : BookModel) × (new : BookModel) × (old.fixed.table ≡ table)
+    × ArriveOutcome k old new result
 
 -- a sweep's: what such a book answers to it
 abbrev pub Sweeping : TableId → Result (Option ℕ) AllocError → Type 0
-Sweeping table result = (old : BookModel) × (new : BookModel) × (old.fixed.table ≡ table) × SweepOutcome old new result
+Sweeping table result =
+    (old : BookModel) × (new : BookModel) × (old.fixed.table ≡ table) × SweepOutcome old new result
 
 -- a start's: what such a book answers to the builder of this seat, by its hand
 abbrev pub Starting : BuilderModel → TableId → Result Job StartRefusal → Type 0
-Starting seat table result = (old : BookModel) × (new : BookModel) × (old.fixed.table ≡ table) × StartOutcome seat.builder.number seat.builder.hand old new result
+Starting seat table result =
+    (old : BookModel) × (new : BookModel) × (old.fixed.table ≡ table)
+    × StartOutcome seat.builder.number seat.builder.hand old new result
 
 -- a finish's: what such a book answers to it with this outcome, and the builder after it
-abbrev pub Finishing : Outcome → BuilderModel → BuilderModel → TableId → Result ℕ FinishRefusal → Type 0
-Finishing outcome seat after table result = (old : BookModel) × (new : BookModel) × (old.fixed.table ≡ table) × FinishOutcome seat.builder.hand outcome seat.builder after.builder old new result
+abbrev pub Finishing : Outcome → BuilderModel → BuilderModel → TableId → Result ℕ FinishRefusal
+    → Type 0
+Finishing outcome seat after table result =
+    (old : BookModel) × (new : BookModel) × (old.fixed.table ≡ table)
+    × FinishOutcome seat.builder.hand outcome seat.builder after.builder old new result
 
 -- ---- 3. jobs
 

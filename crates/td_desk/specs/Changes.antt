@@ -1,5 +1,6 @@
 -- The changes of a book since its opening, as a list of receipts. This project's own.
-use Rattle.std.specs.Prelude.{ℕ, suc, Bool, true, false, not, List, [], ◌∷◌, ◌++◌, ◌&&◌, ◌||◌, if◌then◌else◌, Option, Some, None}
+use Rattle.std.specs.Prelude.{ℕ, suc, Bool, true, false, not, List, [], ◌∷◌, ◌++◌, ◌&&◌, ◌||◌}
+use Rattle.std.specs.Prelude.{if◌then◌else◌, Option, Some, None}
 use Rattle.td_rows.specs.declared.key.Key.{Key}
 use Rattle.td_rows.specs.declared.kind.Kind.{Kind}
 use Rattle.td_journal.specs.declared.entry.Mark.{Mark}
@@ -24,13 +25,15 @@ abbrev pub changes_at : ℕ → Option Mark → Marked → List Receipt
 changes_at n None m = made_by n m.entry.kind m.entry.keys ++ undone_since n true m.mark
 changes_at n (Some was) m = undone_since n (is_standing was) m.mark
 
--- the changes of the entries from number n on; the marks are those that the first of them had at the opening
+-- the changes of the entries from number n on; the marks are those that the first of them had at
+-- the opening
 abbrev pub changes_from : ℕ → List Marked → List Mark → List Receipt
 changes_from n [] opened = []
 changes_from n (m ∷ ms) [] = changes_at n None m ++ changes_from (suc n) ms []
 changes_from n (m ∷ ms) (was ∷ opened) = changes_at n (Some was) m ++ changes_from (suc n) ms opened
 
--- the changes of a book that was opened with these marks: its entries since but for claims and outcomes, and the entries that were undone since
+-- the changes of a book that was opened with these marks: its entries since but for claims and
+-- outcomes, and the entries that were undone since
 abbrev pub changes : List Mark → BookModel → List Receipt
 changes opened b = changes_from 1 b.history.journal opened
 
@@ -38,4 +41,5 @@ changes opened b = changes_from 1 b.history.journal opened
 abbrev pub still_undone : List Marked → List Mark → Bool
 still_undone ms [] = true
 still_undone [] (was ∷ opened) = false
-still_undone (m ∷ ms) (was ∷ opened) = (is_standing was || not (is_standing m.mark)) && still_undone ms opened
+still_undone (m ∷ ms) (was ∷ opened) =
+    (is_standing was || not (is_standing m.mark)) && still_undone ms opened

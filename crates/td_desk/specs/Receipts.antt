@@ -6,7 +6,8 @@ use Rattle.td_rows.specs.declared.kind.Kind.TheVariants as kinds
 use Rattle.td_desk.specs.declared.receipt.Receipt.{Receipt}
 use Rattle.td_desk.specs.declared.receipt.Receipt.TheVariants.{Made, Swept, Undid}
 
--- the receipt of entry n of this kind on these keys: a sweep's has no keys, since its clerk names none
+-- the receipt of entry n of this kind on these keys: a sweep's has no keys, since its clerk names
+-- none
 abbrev pub made_of : ℕ → Kind → List Key → Receipt
 made_of n kinds.Sweep keys = Swept n
 made_of n kind keys = Made n kind keys

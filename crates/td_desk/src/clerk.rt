@@ -23,7 +23,9 @@ impl<C: Ledger> Model for Clerk<C> {
 
     ghost view = { λ c. record { parts = c.parts; receipts = c.receipts.items } };
 
-    ghost invariant = { λ c. (c.share.parts ≡ c.parts) × (0 < c.parts) × (C.parts ≡ 1024) × (c.share.amount ≡ length c.receipts.items) };
+    ghost invariant = { λ c.
+        (c.share.parts ≡ c.parts) × (0 < c.parts) × (C.parts ≡ 1024)
+        × (c.share.amount ≡ length c.receipts.items) };
 }
 
 impl<C: Ledger> Clerk<C> {
@@ -31,7 +33,9 @@ impl<C: Ledger> Clerk<C> {
     pub fn part(&mut self) -> Option<Clerk<C>>
         ensures { MatchOption result
             ((self.old.parts ≡ 1) × (self.new ≡ self.old))
-            (λ given. (self.new.parts + 1 ≡ self.old.parts) × (self.new.receipts ≡ self.old.receipts) × (given ≡ record { parts = 1; receipts = [] })) }
+            (λ given. (self.new.parts + 1 ≡ self.old.parts)
+            × (self.new.receipts ≡ self.old.receipts)
+            × (given ≡ record { parts = 1; receipts = [] })) }
     {
         if self.parts == 1 {
             return None;
@@ -47,7 +51,11 @@ impl<C: Ledger> Clerk<C> {
 
     /// Takes another clerk's parts and receipts. Where memory is wanting the other is handed back.
     pub fn join(&mut self, other: Clerk<C>) -> Result<(), Clerk<C>>
-        ensures ok { OnOk result (self.new ≡ record { parts = self.old.parts + other.parts; receipts = self.old.receipts ++ other.receipts }) }
+        ensures ok { OnOk result
+            (self.new ≡ record {
+              parts = self.old.parts + other.parts;
+              receipts = self.old.receipts ++ other.receipts;
+            }) }
         ensures err { IfErr result (λ back. (back ≡ other) × (self.new ≡ self.old)) }
     {
         let mut other = other;

@@ -67,7 +67,8 @@ impl<'a, N: Named, C: Ledger> Desk<'a, N, C> {
         clerk: &mut Clerk<C>,
         key: &Key,
     ) -> Result<EntryNo, ArriveRefusal>
-        ensures ok { IfOk result (λ n. clerk.new ≡ with_receipt (arrival_receipt key.now n) clerk.old) }
+        ensures ok { IfOk result (λ n.
+            clerk.new ≡ with_receipt (arrival_receipt key.now n) clerk.old) }
         ensures err { OnErr result (clerk.new ≡ clerk.old) }
         ensures answer { (result ≡ Err ArriveRefusal.NoMemory) ⊎ Arriving key.now N.table result }
     {

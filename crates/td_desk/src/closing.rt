@@ -1,8 +1,10 @@
 //! The closing of a desk.
-ghost use Rattle.std.specs.Prelude.{◌≡◌, ◌+◌, ◌<◌, ◌≤◌, ◌∷◌, ◌↔◌, length, false, IfOk, IfErr, IsPermutation, IsTrue, MatchBool};
+ghost use Rattle.std.specs.Prelude.{◌≡◌, ◌+◌, ◌<◌, ◌≤◌, ◌∷◌, ◌↔◌, length, false, IfOk, IfErr};
+ghost use Rattle.std.specs.Prelude.{IsPermutation, IsTrue, MatchBool};
 ghost use Rattle.td_desk.specs.Changes.{changes};
 ghost use Rattle.td_desk.specs.Clerks.{all_parts, all_receipts};
-ghost use Rattle.td_desk.specs.inner.Ticks.{AreBegun, Takes, TooMany, left_from, is_in, are_ticked as are_ticked_in};
+ghost use Rattle.td_desk.specs.inner.Ticks.{AreBegun, Takes, TooMany, left_from, is_in};
+ghost use Rattle.td_desk.specs.inner.Ticks.{are_ticked as are_ticked_in};
 
 use crate::clerk::Clerk;
 use crate::desk::Desk;
@@ -25,13 +27,18 @@ pub struct Differ<'a, C: Ledger> {
 impl<'a, N: Named, C: Ledger> Desk<'a, N, C> {
     /// The book, where the receipts of these clerks are its changes, each once. It takes no memory.
     pub fn close(self, clerks: Vec<Clerk<C>>) -> Result<Book<'a>, Differ<'a, C>>
-        ensures ok { IfOk result (λ book. IsPermutation (all_receipts clerks.items) (changes N.opened book)) }
-        ensures err { IfErr result (λ differ. (IsPermutation (all_receipts clerks.items) (changes N.opened differ.book) → ⊥) × (differ.clerks.items ≡ clerks.items)) }
+        ensures ok { IfOk result (λ book.
+            IsPermutation (all_receipts clerks.items) (changes N.opened book)) }
+        ensures err { IfErr result (λ differ.
+            (IsPermutation (all_receipts clerks.items) (changes N.opened differ.book) → ⊥)
+            × (differ.clerks.items ≡ clerks.items)) }
         ensures table_ok { IfOk result (λ book. book.fixed.table ≡ N.table) }
         ensures table_err { IfErr result (λ differ. differ.book.fixed.table ≡ N.table) }
         ensures origin_ok { IfOk result (λ book. book.history.opening ≡ N.origin) }
         ensures origin_err { IfErr result (λ differ. differ.book.history.opening ≡ N.origin) }
-        ensures whole { IfErr result (λ differ. all_parts clerks.items ≡ 1024 → length (all_receipts clerks.items) ≡ length (changes N.opened differ.book)) }
+        ensures whole { IfErr result (λ differ.
+            all_parts clerks.items ≡ 1024
+            → length (all_receipts clerks.items) ≡ length (changes N.opened differ.book)) }
     {
         let Desk { locked, .. } = self;
         let Locked {
@@ -54,7 +61,8 @@ impl<'a, N: Named, C: Ledger> Desk<'a, N, C> {
 fn audit<C: Ledger>(ledger: &mut ledger::Book<C>, clerks: &mut Vec<Clerk<C>>)
     ensures clerks { clerks.new.items ≡ clerks.old.items }
     ensures total { ledger.new.total ≡ ledger.old.total }
-    ensures whole { all_parts clerks.old.items ≡ 1024 → length (all_receipts clerks.old.items) ≡ ledger.old.total }
+    ensures whole { all_parts clerks.old.items ≡ 1024
+        → length (all_receipts clerks.old.items) ≡ ledger.old.total }
 {
     if let Some((first, rest)) = clerks.split_first_mut() {
         let Clerk { share, .. } = first;
@@ -69,7 +77,8 @@ fn audit_rest<C: Ledger>(ledger: &mut ledger::Book<C>, pot: &mut Share<C>, rest:
     ensures amount { pot.new.amount ≡ pot.old.amount }
     ensures rest { rest.new ≡ rest.old }
     ensures total { ledger.new.total ≡ ledger.old.total }
-    ensures whole { pot.old.parts + all_parts rest.old ≡ C.parts → pot.old.amount + length (all_receipts rest.old) ≡ ledger.old.total }
+    ensures whole { pot.old.parts + all_parts rest.old ≡ C.parts
+        → pot.old.amount + length (all_receipts rest.old) ≡ ledger.old.total }
 {
     let Some((clerk, more)) = rest.split_first_mut() else {
         ledger.audit(pot);
@@ -93,7 +102,8 @@ fn are_changes<N: Named, C: Ledger>(
     clerks: &Vec<Clerk<C>>,
 ) -> bool
     requires { AreBegun N.opened (length book.now.history.journal) ticks.items }
-    ensures { IsTrue result ↔ IsPermutation (all_receipts clerks.now.items) (changes N.opened book.now) }
+    ensures { IsTrue result
+        ↔ IsPermutation (all_receipts clerks.now.items) (changes N.opened book.now) }
 {
     let mut ticks = ticks;
     let entries = book.journal().as_slice();
@@ -108,7 +118,8 @@ fn tick_clerks<C: Ledger>(entries: &[Marked], ticks: &mut Vec<Tick>, clerks: &Ve
     requires { length entries.now ≤ length ticks.old.items }
     ensures len { length ticks.new.items ≡ length ticks.old.items }
     ensures took { MatchBool result
-        (Takes (all_receipts clerks.now.items) (left_from 1 entries.now ticks.old.items) (left_from 1 entries.now ticks.new.items))
+        (Takes (all_receipts clerks.now.items) (left_from 1 entries.now ticks.old.items)
+        (left_from 1 entries.now ticks.new.items))
         (TooMany (all_receipts clerks.now.items) (left_from 1 entries.now ticks.old.items)) }
 {
     for at in 0..clerks.len() {
@@ -124,7 +135,8 @@ fn tick_receipts(entries: &[Marked], ticks: &mut Vec<Tick>, receipts: &Vec<Recei
     requires { length entries.now ≤ length ticks.old.items }
     ensures len { length ticks.new.items ≡ length ticks.old.items }
     ensures took { MatchBool result
-        (Takes receipts.now.items (left_from 1 entries.now ticks.old.items) (left_from 1 entries.now ticks.new.items))
+        (Takes receipts.now.items (left_from 1 entries.now ticks.old.items)
+        (left_from 1 entries.now ticks.new.items))
         (TooMany receipts.now.items (left_from 1 entries.now ticks.old.items)) }
 {
     for at in 0..receipts.len() {
@@ -140,7 +152,8 @@ fn tick_receipt(entries: &[Marked], ticks: &mut Vec<Tick>, receipt: &Receipt) ->
     requires { length entries.now ≤ length ticks.old.items }
     ensures len { length ticks.new.items ≡ length ticks.old.items }
     ensures took { MatchBool result
-        (IsPermutation (receipt.now ∷ left_from 1 entries.now ticks.new.items) (left_from 1 entries.now ticks.old.items))
+        (IsPermutation (receipt.now ∷ left_from 1 entries.now ticks.new.items)
+        (left_from 1 entries.now ticks.old.items))
         (is_in receipt.now (left_from 1 entries.now ticks.old.items) ≡ false) }
 {
     let n = receipt.number();

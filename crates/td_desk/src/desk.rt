@@ -1,5 +1,6 @@
 //! The desk: its opening, its keys, and what it lends.
-ghost use Rattle.std.specs.Prelude.{◌≡◌, List, None, [], length, true, IfOk, IfErr, OnOk, IfSome, IfNone, MatchBool, slice_get};
+ghost use Rattle.std.specs.Prelude.{◌≡◌, List, None, [], length, true, IfOk, IfErr, OnOk, IfSome};
+ghost use Rattle.std.specs.Prelude.{IfNone, MatchBool, slice_get};
 ghost use Rattle.std.specs.Fn.{FnOnceReturnsAt};
 ghost use Rattle.std.specs.Option.{option_copied};
 ghost use Rattle.td_board.specs.Answers.{IsWon, IsLost};
@@ -94,7 +95,8 @@ impl<'a, N: Named, C: Ledger> Desk<'a, N, C> {
         ensures board { IfOk result (λ made. made.0.board ≡ board) }
         ensures opening { IfOk result (λ made. made.0.opening ≡ rows) }
         ensures found { OnOk result (IsNamedJournal N.opened rows text.now) }
-        ensures only { (ms : List MarkedValue) → IsJournalText rows text.now ms → IfErr result (λ e. e ≡ ReadError.NoMemory) }
+        ensures only { (ms : List MarkedValue) → IsJournalText rows text.now ms
+            → IfErr result (λ e. e ≡ ReadError.NoMemory) }
         ensures fault { IfErr result (FaultOf rows text.now) }
     {
         // (a text's length is a `usize`)

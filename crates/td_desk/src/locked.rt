@@ -1,5 +1,7 @@
 //! What lies under the lock of a desk.
-ghost use Rattle.std.specs.Prelude.{◌≡◌, ◌⊎◌, ◌+◌, ◌<◌, vec_len, vec_capacity, ◌∷◌, ◌++◌, [], length, true, false, Ok, Err, OnOk, OnErr, IfOk, IsPermutation, MatchOption};
+ghost use Rattle.std.specs.Prelude.{◌≡◌, ◌⊎◌, ◌+◌, ◌<◌, vec_len, vec_capacity, ◌∷◌, ◌++◌, []};
+ghost use Rattle.std.specs.Prelude.{length, true, false, Ok, Err, OnOk, OnErr, IfOk, IsPermutation};
+ghost use Rattle.std.specs.Prelude.{MatchOption};
 ghost use Rattle.td_book.specs.Arriving.{ArriveOutcome, SweepOutcome};
 ghost use Rattle.td_book.specs.Building.{StartOutcome};
 ghost use Rattle.td_book.specs.Finishing.{FinishOutcome};
@@ -76,12 +78,16 @@ impl<'a, N: Named, C: Ledger> Locked<'a, N, C> {
         requires board { board.now.table ≡ N.table }
         requires part { 0 < mine.old.parts }
         requires room { vec_len receipts.old < vec_capacity receipts.old }
-        ensures told { IfOk result (λ taken. receipts.new.items ≡ receipts.old.items ++ command_receipt (parts_of command.now) self.old.book taken ∷ []) }
+        ensures told { IfOk result (λ taken.
+            receipts.new.items ≡ receipts.old.items
+            ++ command_receipt (parts_of command.now) self.old.book taken ∷ []) }
         ensures untold { OnErr result (receipts.new.items ≡ receipts.old.items) }
         ensures parts { mine.new.parts ≡ mine.old.parts }
         ensures counted { OnOk result (mine.new.amount ≡ mine.old.amount + 1) }
         ensures uncounted { OnErr result (mine.new.amount ≡ mine.old.amount) }
-        ensures change { IfOk result (λ taken. IsPermutation (command_receipt (parts_of command.now) self.old.book taken ∷ changes N.opened self.old.book) (changes N.opened self.new.book)) }
+        ensures change { IfOk result (λ taken.
+            IsPermutation (command_receipt (parts_of command.now) self.old.book taken
+            ∷ changes N.opened self.old.book) (changes N.opened self.new.book)) }
         ensures shut { self.new.shut ≡ self.old.shut }
         ensures named { self.old.book.fixed.table ≡ N.table }
         ensures answer { IsDone (parts_of command.now) self.old.book self.new.book result }
@@ -120,15 +126,20 @@ impl<'a, N: Named, C: Ledger> Locked<'a, N, C> {
         requires board { board.now.table ≡ N.table }
         requires part { 0 < mine.old.parts }
         requires room { vec_len receipts.old < vec_capacity receipts.old }
-        ensures told { OnOk result (receipts.new.items ≡ receipts.old.items ++ receipt.Undid n ∷ []) }
+        ensures told { OnOk result
+            (receipts.new.items ≡ receipts.old.items ++ receipt.Undid n ∷ []) }
         ensures untold { OnErr result (receipts.new.items ≡ receipts.old.items) }
         ensures parts { mine.new.parts ≡ mine.old.parts }
         ensures counted { OnOk result (mine.new.amount ≡ mine.old.amount + 1) }
         ensures uncounted { OnErr result (mine.new.amount ≡ mine.old.amount) }
-        ensures change { OnOk result (IsPermutation (receipt.Undid n ∷ changes N.opened self.old.book) (changes N.opened self.new.book)) }
+        ensures change { OnOk result
+            (IsPermutation (receipt.Undid n ∷ changes N.opened self.old.book)
+            (changes N.opened self.new.book)) }
         ensures shut { self.new.shut ≡ self.old.shut }
         ensures named { self.old.book.fixed.table ≡ N.table }
-        ensures answer { ((result ≡ Err UndoRefusal.NoMemory) × (self.new.book ≡ self.old.book)) ⊎ UndoAnswer (undo_stop self.old.book.history.journal n) n self.old.book self.new.book result }
+        ensures answer { ((result ≡ Err UndoRefusal.NoMemory) × (self.new.book ≡ self.old.book))
+            ⊎ UndoAnswer (undo_stop self.old.book.history.journal n) n self.old.book self.new.book
+            result }
     {
         let Locked {
             book,
@@ -159,12 +170,15 @@ impl<'a, N: Named, C: Ledger> Locked<'a, N, C> {
         requires keys { keys ≡ key.now ∷ [] }
         requires part { 0 < mine.old.parts }
         requires room { vec_len receipts.old < vec_capacity receipts.old }
-        ensures told { IfOk result (λ n. receipts.new.items ≡ receipts.old.items ++ arrival_receipt key.now n ∷ []) }
+        ensures told { IfOk result (λ n.
+            receipts.new.items ≡ receipts.old.items ++ arrival_receipt key.now n ∷ []) }
         ensures untold { OnErr result (receipts.new.items ≡ receipts.old.items) }
         ensures parts { mine.new.parts ≡ mine.old.parts }
         ensures counted { OnOk result (mine.new.amount ≡ mine.old.amount + 1) }
         ensures uncounted { OnErr result (mine.new.amount ≡ mine.old.amount) }
-        ensures change { IfOk result (λ n. IsPermutation (arrival_receipt key.now n ∷ changes N.opened self.old.book) (changes N.opened self.new.book)) }
+        ensures change { IfOk result (λ n.
+            IsPermutation (arrival_receipt key.now n ∷ changes N.opened self.old.book)
+            (changes N.opened self.new.book)) }
         ensures shut { self.new.shut ≡ self.old.shut }
         ensures named { self.old.book.fixed.table ≡ N.table }
         ensures answer { ArriveOutcome key.now self.old.book self.new.book result }
@@ -199,7 +213,10 @@ impl<'a, N: Named, C: Ledger> Locked<'a, N, C> {
         requires room { vec_len receipts.old < vec_capacity receipts.old }
         ensures told { IfOk result (λ swept. MatchOption swept
             ((receipts.new.items ≡ receipts.old.items) × (mine.new.amount ≡ mine.old.amount))
-            (λ n. (receipts.new.items ≡ receipts.old.items ++ receipt.Swept n ∷ []) × (mine.new.amount ≡ mine.old.amount + 1) × IsPermutation (receipt.Swept n ∷ changes N.opened self.old.book) (changes N.opened self.new.book))) }
+            (λ n. (receipts.new.items ≡ receipts.old.items ++ receipt.Swept n ∷ [])
+            × (mine.new.amount ≡ mine.old.amount + 1)
+            × IsPermutation (receipt.Swept n ∷ changes N.opened self.old.book)
+            (changes N.opened self.new.book))) }
         ensures untold { OnErr result (receipts.new.items ≡ receipts.old.items) }
         ensures parts { mine.new.parts ≡ mine.old.parts }
         ensures uncounted { OnErr result (mine.new.amount ≡ mine.old.amount) }
@@ -228,7 +245,9 @@ impl<'a, N: Named, C: Ledger> Locked<'a, N, C> {
         requires seat { seat.now.table ≡ N.table }
         ensures shut { self.new.shut ≡ self.old.shut }
         ensures named { self.old.book.fixed.table ≡ N.table }
-        ensures answer { ((result ≡ Err StartRefusal.NoMemory) × (self.new.book ≡ self.old.book)) ⊎ StartOutcome seat.now.builder.number seat.now.builder.hand self.old.book self.new.book result }
+        ensures answer { ((result ≡ Err StartRefusal.NoMemory) × (self.new.book ≡ self.old.book))
+            ⊎ StartOutcome seat.now.builder.number seat.now.builder.hand self.old.book self.new.book
+            result }
     {
         let Locked { book, ticks, .. } = self;
         if add_ticks(ticks, book.journal().len(), 1).is_err() {
@@ -249,7 +268,8 @@ impl<'a, N: Named, C: Ledger> Locked<'a, N, C> {
         ensures table { seat.new.table ≡ seat.old.table }
         ensures shut { self.new.shut ≡ self.old.shut }
         ensures named { self.old.book.fixed.table ≡ N.table }
-        ensures answer { FinishOutcome seat.old.builder.hand outcome seat.old.builder seat.new.builder self.old.book self.new.book result }
+        ensures answer { FinishOutcome seat.old.builder.hand outcome seat.old.builder
+            seat.new.builder self.old.book self.new.book result }
     {
         let Locked { book, ticks, .. } = self;
         if matches!(seat.hand(), Hand::Free) {

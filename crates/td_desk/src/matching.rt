@@ -1,6 +1,9 @@
 //! Whether what a receipt says is what an entry has.
 ghost use Rattle.std.specs.Prelude.{◌≡◌};
-ghost use Rattle.td_desk.specs.inner.Matching.{same_keys as same_keys_in, same_kind as same_kind_in, same_number as same_number_in, same_outcome as same_outcome_in};
+ghost use Rattle.td_desk.specs.inner.Matching.{same_keys as same_keys_in};
+ghost use Rattle.td_desk.specs.inner.Matching.{same_kind as same_kind_in};
+ghost use Rattle.td_desk.specs.inner.Matching.{same_number as same_number_in};
+ghost use Rattle.td_desk.specs.inner.Matching.{same_outcome as same_outcome_in};
 
 use td_rows::{Key, Kind, Outcome, RebuildNumber};
 

@@ -1,8 +1,11 @@
 //! Ticks of the changes whose receipts were found.
-ghost use Rattle.std.specs.Prelude.{◌≡◌, ◌+◌, ◌≤◌, ◌∷◌, ◌&&◌, List, true, false, length, OnOk, MatchBool, IsPermutation};
+ghost use Rattle.std.specs.Prelude.{◌≡◌, ◌+◌, ◌≤◌, ◌∷◌, ◌&&◌, List, true, false, length, OnOk};
+ghost use Rattle.std.specs.Prelude.{MatchBool, IsPermutation};
 ghost use Rattle.td_journal.specs.declared.entry.Mark.{Mark as MarkValue};
 ghost use Rattle.td_desk.specs.inner.Matching.{same_receipt, change_of};
-ghost use Rattle.td_desk.specs.inner.Ticks.{AreBegun, is_made_left as is_made_left_in, is_undo_left as is_undo_left_in, is_ticked_at, left_at, is_in};
+ghost use Rattle.td_desk.specs.inner.Ticks.{AreBegun, is_made_left as is_made_left_in};
+ghost use Rattle.td_desk.specs.inner.Ticks.{is_undo_left as is_undo_left_in, is_ticked_at, left_at};
+ghost use Rattle.td_desk.specs.inner.Ticks.{is_in};
 
 use crate::receipt::Receipt;
 use std::alloc::AllocError;
@@ -18,7 +21,8 @@ pub(crate) struct Tick {
 
 /// Ticks for so many entries more than there are.
 pub(crate) fn add_ticks(ticks: &mut Vec<Tick>, held: u64, more: usize) -> Result<(), AllocError>
-    ensures begun { (opened : List MarkValue) → AreBegun opened held ticks.old.items → AreBegun opened held ticks.new.items }
+    ensures begun { (opened : List MarkValue) → AreBegun opened held ticks.old.items
+        → AreBegun opened held ticks.new.items }
     ensures room { OnOk result (held + more ≤ length ticks.new.items) }
 {
     let Ok(held) = usize::try_from(held) else {
@@ -42,7 +46,8 @@ pub(crate) fn add_ticks(ticks: &mut Vec<Tick>, held: u64, more: usize) -> Result
 /// Ticks the change of entry n that this is the receipt of, if it has one that isn't ticked.
 pub(crate) fn tick_at(tick: &mut Tick, n: EntryNo, marked: &Marked, receipt: &Receipt) -> bool
     ensures { MatchBool result
-        (IsPermutation (receipt.now ∷ left_at n marked.now tick.new) (left_at n marked.now tick.old))
+        (IsPermutation (receipt.now ∷ left_at n marked.now tick.new)
+        (left_at n marked.now tick.old))
         ((is_in receipt.now (left_at n marked.now tick.old) ≡ false) × (tick.new ≡ tick.old)) }
 {
     if finds_made(*tick, n, marked, receipt) {
@@ -58,14 +63,18 @@ pub(crate) fn tick_at(tick: &mut Tick, n: EntryNo, marked: &Marked, receipt: &Re
 
 // Whether the receipt is of what a clerk made by entry n, which isn't ticked yet.
 fn finds_made(tick: Tick, n: EntryNo, marked: &Marked, receipt: &Receipt) -> bool
-    ensures { result ≡ (is_made_left_in marked.now tick && same_receipt receipt.now (change_of n marked.now.entry.kind marked.now.entry.keys false)) }
+    ensures { result ≡ (is_made_left_in marked.now tick
+        && same_receipt receipt.now
+        (change_of n marked.now.entry.kind marked.now.entry.keys false)) }
 {
     is_made_left(tick, marked) && receipt.is_of(n, &marked.entry, false)
 }
 
 // Whether it is of its undo, which isn't.
 fn finds_undo(tick: Tick, n: EntryNo, marked: &Marked, receipt: &Receipt) -> bool
-    ensures { result ≡ (is_undo_left_in marked.now tick && same_receipt receipt.now (change_of n marked.now.entry.kind marked.now.entry.keys true)) }
+    ensures { result ≡ (is_undo_left_in marked.now tick
+        && same_receipt receipt.now
+        (change_of n marked.now.entry.kind marked.now.entry.keys true)) }
 {
     is_undo_left(tick, marked) && receipt.is_of(n, &marked.entry, true)
 }

@@ -31,8 +31,10 @@ impl Draft {
         command: &Command<'_>,
     ) -> Result<Draft, AllocError>
         ensures kind { IfOk result (λ draft. draft.kind ≡ kind_in (parts_of command.now)) }
-        ensures named { IfOk result (λ draft. draft.named.items ≡ named_by (parts_of command.now) book.now) }
-        ensures told { IfOk result (λ draft. (draft.told.items ≡ []) × (length draft.named.items ≤ vec_capacity draft.told)) }
+        ensures named { IfOk result (λ draft.
+            draft.named.items ≡ named_by (parts_of command.now) book.now) }
+        ensures told { IfOk result (λ draft.
+            (draft.told.items ≡ []) × (length draft.named.items ≤ vec_capacity draft.told)) }
         ensures rising { IfOk result (λ _. ascending (keys_of (rows_of book.now.history)) ≡ true) }
     {
         let kind = kind_of(command)?;

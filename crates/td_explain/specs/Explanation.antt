@@ -1,5 +1,6 @@
 -- The line that explains a refusal. It is for people, and this project's own.
-use Rattle.std.specs.Prelude.{ℕ, ◌+◌, List, [], ◌++◌, Option, Some, None, codes, chars, decimal, drop, if◌then◌else◌}
+use Rattle.std.specs.Prelude.{ℕ, ◌+◌, List, [], ◌++◌, Option, Some, None, codes, chars, decimal}
+use Rattle.std.specs.Prelude.{drop, if◌then◌else◌}
 use Rattle.std.specs.Str.{is_utf8}
 use Rattle.td_explain.specs.declared.spot.Place.{Place}
 use Rattle.td_explain.specs.declared.spot.Place.TheVariants.{Whole, Line, Stanza, Byte}

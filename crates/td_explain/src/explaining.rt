@@ -1,6 +1,8 @@
 //! The line that explains a refusal.
-ghost use Rattle.std.specs.Prelude.{◌≡◌, ◌++◌, ◌<◌, ◌≤◌, ◌^◌, length, option_map, string_bytes, OnOk, IfOk, IfSome};
-ghost use Rattle.td_explain.specs.Explanation.{explanation, found_name, place_name, place_said, said_of, text_at as text_at_of};
+ghost use Rattle.std.specs.Prelude.{◌≡◌, ◌++◌, ◌<◌, ◌≤◌, ◌^◌, length, option_map, string_bytes};
+ghost use Rattle.std.specs.Prelude.{OnOk, IfOk, IfSome};
+ghost use Rattle.td_explain.specs.Explanation.{explanation, found_name, place_name, place_said};
+ghost use Rattle.td_explain.specs.Explanation.{said_of, text_at as text_at_of};
 ghost use Rattle.td_explain.specs.Spot.{spot_words};
 
 use crate::shown::put_shown;

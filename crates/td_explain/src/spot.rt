@@ -1,7 +1,8 @@
 //! Where in a text a place is.
 ghost use Rattle.std.specs.Prelude.{◌≡◌, ◌+◌, ◌<◌, ◌^◌, ◌≤◌, length, option_map, IfSome};
 ghost use Rattle.td_stanza.specs.Line.{is_separator as is_separator_of};
-ghost use Rattle.td_explain.specs.Spot.{beyond as beyond_of, is_at as is_at_of, offset_of as offset_of_of, spot_of, spot_words};
+ghost use Rattle.td_explain.specs.Spot.{beyond as beyond_of, is_at as is_at_of};
+ghost use Rattle.td_explain.specs.Spot.{offset_of as offset_of_of, spot_of, spot_words};
 
 use td_text::next_line;
 

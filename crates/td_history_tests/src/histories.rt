@@ -324,7 +324,8 @@ fn of_a_history_that_is_read_again_standing_commands_are_kept(rt: HostRuntime) -
 
 // Keys of an entry, all with rows of the history.
 fn keys_there(alloc: Global, kept: &Kept, text: &str) -> Result<Keys, Fail>
-    ensures { IfOk result (λ keys. AppliesOn (rows_of kept.now.history) (KindValue.Bp (pos 0)) keys) }
+    ensures { IfOk result (λ keys.
+        AppliesOn (rows_of kept.now.history) (KindValue.Bp (pos 0)) keys) }
 {
     let keys = keys(alloc, text)?;
     if keys.as_slice().is_empty() || !are_ascending(keys.as_slice()) {

@@ -1,5 +1,7 @@
 -- Putting items one after the other keeps those that count.
-use Rattle.std.proofs.Common.{◌≡◌, ℕ, ◌+◌, Bool, true, false, List, [], ◌∷◌, ◌++◌, Option, Some, None, Result, Ok, Err, refl, sym, ap, ◌∙◌, subst, inl, inr, append_assoc, append-nil}
+use Rattle.std.proofs.Common.{◌≡◌, ℕ, ◌+◌, Bool, true, false, List, [], ◌∷◌, ◌++◌, Option, Some}
+use Rattle.std.proofs.Common.{None, Result, Ok, Err, refl, sym, ap, ◌∙◌, subst, inl, inr}
+use Rattle.std.proofs.Common.{append_assoc, append-nil}
 use Rattle.std.specs.List.{list_any, AllByRecursion}
 use Rattle.std.proofs.lemmas.Bool.{cases_Bool, and_parts, eq-eqb}
 use Rattle.std.specs.Ordering.{is_lt, ordering_reverse}
@@ -17,7 +19,10 @@ use Rattle.td_indices.specs.declared.archive_fault.ArchiveFault.{ArchiveFault}
 use Rattle.td_indices.specs.declared.archive_fault.EntryFault.{EntryFault}
 use Rattle.td_indices.specs.declared.archive_fault.IndexFile.{IndexFile}
 use Rattle.td_indices.specs.declared.archive_fault.IndexFile.TheVariants.{Packages, Sources}
-use Rattle.td_indices.specs.Counting.{Counts, Apart, AreKept, AreItems, GreatestPackagesAreKept, GreatestSourcesAreKept, PackageKeysAreExact, SourceKeysAreExact, LowerPackagesAreExact, LowerSourcesAreExact}
+use Rattle.td_indices.specs.Counting.{Counts, Apart, AreKept, AreItems, GreatestPackagesAreKept}
+use Rattle.td_indices.specs.Counting.{GreatestSourcesAreKept, PackageKeysAreExact}
+use Rattle.td_indices.specs.Counting.{SourceKeysAreExact, LowerPackagesAreExact}
+use Rattle.td_indices.specs.Counting.{LowerSourcesAreExact}
 use Rattle.td_indices.specs.Kept.{KeptBinary, binary_at, same_package, lower_package, put}
 use Rattle.td_indices.specs.PackageKeys.{same_home}
 use Rattle.td_indices.specs.Reading.{at_stanza, in_stanza, over_stanzas, put_some}
@@ -32,40 +37,52 @@ pub record Orders {A : Type 0} (same lower : A → A → Bool) : Type 0 where
   pub under : (z y x : A) → lower z y ≡ true → lower y x ≡ true → lower z x ≡ true
   pub not_over : (z y x : A) → lower y z ≡ false → lower y x ≡ true → lower z x ≡ true
 
-all-map : {A : Type 0} (P Q : A → Type 0) → ((x : A) → P x → Q x) → (xs : List A) → AllByRecursion P xs → AllByRecursion Q xs
+all-map : {A : Type 0} (P Q : A → Type 0) → ((x : A) → P x → Q x) → (xs : List A)
+    → AllByRecursion P xs → AllByRecursion Q xs
 all-map P Q f [] h = tt
 all-map P Q f (x ∷ xs) h = (f x h.0, all-map P Q f xs h.1)
 
-all-append : {A : Type 0} (P : A → Type 0) (xs ys : List A) → AllByRecursion P xs → AllByRecursion P ys → AllByRecursion P (xs ++ ys)
+all-append : {A : Type 0} (P : A → Type 0) (xs ys : List A) → AllByRecursion P xs
+    → AllByRecursion P ys → AllByRecursion P (xs ++ ys)
 all-append P [] ys h k = k
 all-append P (x ∷ xs) ys h k = (h.0, all-append P xs ys h.1 k)
 
-all-pair : {A : Type 0} (P Q : A → Type 0) (xs : List A) → AllByRecursion P xs → AllByRecursion Q xs → AllByRecursion (λ x. P x × Q x) xs
+all-pair : {A : Type 0} (P Q : A → Type 0) (xs : List A) → AllByRecursion P xs → AllByRecursion Q xs
+    → AllByRecursion (λ x. P x × Q x) xs
 all-pair P Q [] h k = tt
 all-pair P Q (x ∷ xs) h k = ((h.0, k.0), all-pair P Q xs h.1 k.1)
 
 module _ {A : Type 0} (same lower : A → A → Bool) (o : Orders same lower) where
   -- one that counts still does, where the next of its key isn't greater
-  still : (items : List A) (x y : A) → (same y x ≡ true → lower y x ≡ false) → Counts same lower items y → Counts same lower (items ++ x ∷ []) y
+  still : (items : List A) (x y : A) → (same y x ≡ true → lower y x ≡ false)
+      → Counts same lower items y → Counts same lower (items ++ x ∷ []) y
   still items x y out h = record {
     before = h.before;
     after = h.after ++ x ∷ [];
     parts = ap (λ (l : List A). l ++ x ∷ []) h.parts ∙ append_assoc h.before (y ∷ h.after) (x ∷ []);
     earlier = h.earlier;
-    later = all-append (λ z. same y z ≡ true → lower y z ≡ false) h.after (x ∷ []) h.later (out, tt);
+    later =
+        all-append (λ z. same y z ≡ true → lower y z ≡ false) h.after (x ∷ []) h.later (out, tt);
   }
 
   -- the next counts, where all of its key before it are lower
-  newest : (items : List A) (x : A) → AllByRecursion (λ z. same x z ≡ true → lower z x ≡ true) items → Counts same lower (items ++ x ∷ []) x
+  newest : (items : List A) (x : A) → AllByRecursion (λ z. same x z ≡ true → lower z x ≡ true) items
+      → Counts same lower (items ++ x ∷ []) x
   newest items x h = record { before = items; after = []; parts = refl; earlier = h; later = tt }
 
   -- what is below one that counts is below a greater one of its key
-  outranked : (items : List A) (x y : A) → same x y ≡ true → lower y x ≡ true → Counts same lower items y → AllByRecursion (λ z. same x z ≡ true → lower z x ≡ true) items
+  outranked : (items : List A) (x y : A) → same x y ≡ true → lower y x ≡ true
+      → Counts same lower items y → AllByRecursion (λ z. same x z ≡ true → lower z x ≡ true) items
   outranked items x y is less h =
       let Low : A → Type 0 = λ z. same x z ≡ true → lower z x ≡ true in
-      let earlier : AllByRecursion Low h.before = all-map (λ z. same y z ≡ true → lower z y ≡ true) Low (λ z f e. o.under z y x (f (o.along y x z (o.back x y is) e)) less) h.before h.earlier in
-      let later : AllByRecursion Low h.after = all-map (λ z. same y z ≡ true → lower y z ≡ false) Low (λ z f e. o.not_over z y x (f (o.along y x z (o.back x y is) e)) less) h.after h.later in
-      subst (λ (l : List A). AllByRecursion Low l) (sym h.parts) (all-append Low h.before (y ∷ h.after) earlier ((λ e. less), later))
+      let earlier : AllByRecursion Low h.before =
+      all-map (λ z. same y z ≡ true → lower z y ≡ true) Low
+      (λ z f e. o.under z y x (f (o.along y x z (o.back x y is) e)) less) h.before h.earlier in
+      let later : AllByRecursion Low h.after =
+      all-map (λ z. same y z ≡ true → lower y z ≡ false) Low
+      (λ z f e. o.not_over z y x (f (o.along y x z (o.back x y is) e)) less) h.after h.later in
+      subst (λ (l : List A). AllByRecursion Low l) (sym h.parts)
+      (all-append Low h.before (y ∷ h.after) earlier ((λ e. less), later))
 
   -- where two have one key, a third that has another than the one has another than the other too
   foreign : (x y w : A) → same x y ≡ true → same y w ≡ false → same x w ≡ false
@@ -85,20 +102,32 @@ module _ {A : Type 0} (same lower : A → A → Bool) (o : Orders same lower) wh
   apart_out : (x w : A) → same x w ≡ false → same w x ≡ true → lower w x ≡ false
   apart_out x w other bad = absurd (let e = sym other ∙ o.back w x bad in cc)
 
-  put_counts : (items : List A) (x : A) (ys : List A) → AllByRecursion (Counts same lower items) ys → Apart same ys → (list_any (same x) ys ≡ false → AllByRecursion (λ z. same x z ≡ true → lower z x ≡ true) items) → AllByRecursion (Counts same lower (items ++ x ∷ [])) (put same lower ys x)
+  put_counts : (items : List A) (x : A) (ys : List A) → AllByRecursion (Counts same lower items) ys
+      → Apart same ys → (list_any (same x) ys ≡ false
+      → AllByRecursion (λ z. same x z ≡ true → lower z x ≡ true) items)
+      → AllByRecursion (Counts same lower (items ++ x ∷ [])) (put same lower ys x)
   put_counts items x [] h apart alone = (newest items x (alone refl), tt)
   put_counts items x (y ∷ ys) h apart alone =
       elim (cases_Bool (same x y)) [
         | inl is ↦
-            let others : AllByRecursion (Counts same lower (items ++ x ∷ [])) ys = all-map (λ w. Counts same lower items w × (same y w ≡ false)) (Counts same lower (items ++ x ∷ [])) (λ w p. still items x w (apart_out x w (foreign x y w is p.1)) p.0) ys (all-pair (Counts same lower items) (λ w. same y w ≡ false) ys h.1 apart.0) in
+            let others : AllByRecursion (Counts same lower (items ++ x ∷ [])) ys =
+            all-map (λ w. Counts same lower items w × (same y w ≡ false))
+            (Counts same lower (items ++ x ∷ []))
+            (λ w p. still items x w (apart_out x w (foreign x y w is p.1)) p.0) ys
+            (all-pair (Counts same lower items) (λ w. same y w ≡ false) ys h.1 apart.0) in
             elim (cases_Bool (lower y x)) [
               | inl less ↦ rw (is, less) (newest items x (outranked items x y is less h.0), others)
               | inr not_less ↦ rw (is, not_less) (still items x y (λ e. not_less) h.0, others)
             ]
-        | inr other ↦ rw other (still items x y (apart_out x y other) h.0, put_counts items x ys h.1 apart.1 (λ none. alone (rw other none)))
+        | inr other ↦
+            rw other (
+              still items x y (apart_out x y other) h.0,
+              put_counts items x ys h.1 apart.1 (λ none. alone (rw other none)),
+            )
       ]
 
-  has_more : (z x : A) (ys : List A) → list_any (same z) ys ≡ true → list_any (same z) (put same lower ys x) ≡ true
+  has_more : (z x : A) (ys : List A) → list_any (same z) ys ≡ true
+      → list_any (same z) (put same lower ys x) ≡ true
   has_more z x [] h = absurd cc
   has_more z x (y ∷ ys) h =
       elim (cases_Bool (same x y)) [
@@ -111,7 +140,9 @@ module _ {A : Type 0} (same lower : A → A → Bool) (o : Orders same lower) wh
         ]
         | inr other ↦ rw other (elim (cases_Bool (same z y)) [
           | inl at ↦ rw at refl
-          | inr past ↦ or_right (same z y) (list_any (same z) (put same lower ys x)) (has_more z x ys (sym (rw past refl) ∙ h))
+          | inr past ↦
+              or_right (same z y) (list_any (same z) (put same lower ys x))
+              (has_more z x ys (sym (rw past refl) ∙ h))
         ])
       ]
 
@@ -123,10 +154,12 @@ module _ {A : Type 0} (same lower : A → A → Bool) (o : Orders same lower) wh
           | inl less ↦ rw (is, less, o.itself x) refl
           | inr not_less ↦ rw (is, not_less) (rw is refl)
         ]
-        | inr other ↦ rw other (or_right (same x y) (list_any (same x) (put same lower ys x)) (has_own x ys))
+        | inr other ↦
+            rw other (or_right (same x y) (list_any (same x) (put same lower ys x)) (has_own x ys))
       ]
 
-  all-put : (P : A → Type 0) (x : A) (ys : List A) → P x → AllByRecursion P ys → AllByRecursion P (put same lower ys x)
+  all-put : (P : A → Type 0) (x : A) (ys : List A) → P x → AllByRecursion P ys
+      → AllByRecursion P (put same lower ys x)
   all-put P x [] p h = (p, tt)
   all-put P x (y ∷ ys) p h =
       elim (cases_Bool (same x y)) [
@@ -142,28 +175,49 @@ module _ {A : Type 0} (same lower : A → A → Bool) (o : Orders same lower) wh
   put_apart x (y ∷ ys) h =
       elim (cases_Bool (same x y)) [
         | inl is ↦ elim (cases_Bool (lower y x)) [
-          | inl less ↦ rw (is, less) (all-map (λ w. same y w ≡ false) (λ w. same x w ≡ false) (λ w p. foreign x y w is p) ys h.0, h.1)
+          | inl less ↦
+              rw (
+                is,
+                less,
+              ) (
+                all-map (λ w. same y w ≡ false) (λ w. same x w ≡ false) (λ w p. foreign x y w is p)
+                    ys h.0,
+                h.1,
+              )
           | inr not_less ↦ rw (is, not_less) h
         ]
-        | inr other ↦ rw other (all-put (λ w. same y w ≡ false) x ys (turned x y other) h.0, put_apart x ys h.1)
+        | inr other ↦
+            rw other
+            (all-put (λ w. same y w ≡ false) x ys (turned x y other) h.0, put_apart x ys h.1)
       ]
 
-  any_along : (x z : A) (ys : List A) → same x z ≡ true → list_any (same z) ys ≡ true → list_any (same x) ys ≡ true
+  any_along : (x z : A) (ys : List A) → same x z ≡ true → list_any (same z) ys ≡ true
+      → list_any (same x) ys ≡ true
   any_along x z [] is h = absurd cc
   any_along x z (y ∷ ys) is h =
       elim (cases_Bool (same z y)) [
         | inl at ↦ rw (o.along x z y is at) refl
-        | inr past ↦ or_right (same x y) (list_any (same x) ys) (any_along x z ys is (sym (rw past refl) ∙ h))
+        | inr past ↦
+            or_right (same x y) (list_any (same x) ys)
+            (any_along x z ys is (sym (rw past refl) ∙ h))
       ]
 
-  alone : (x : A) (items kept : List A) → AllByRecursion (λ z. list_any (same z) kept ≡ true) items → list_any (same x) kept ≡ false → AllByRecursion (λ z. same x z ≡ true → lower z x ≡ true) items
-  alone x items kept each none = all-map (λ z. list_any (same z) kept ≡ true) (λ z. same x z ≡ true → lower z x ≡ true) (λ z p is. absurd (let e = sym none ∙ any_along x z kept is p in cc)) items each
+  alone : (x : A) (items kept : List A) → AllByRecursion (λ z. list_any (same z) kept ≡ true) items
+      → list_any (same x) kept ≡ false
+      → AllByRecursion (λ z. same x z ≡ true → lower z x ≡ true) items
+  alone x items kept each none =
+      all-map (λ z. list_any (same z) kept ≡ true) (λ z. same x z ≡ true → lower z x ≡ true)
+      (λ z p is. absurd (let e = sym none ∙ any_along x z kept is p in cc)) items each
 
   -- an item more
-  pub kept_more : (items kept : List A) (x : A) → AreKept same lower items kept → AreKept same lower (items ++ x ∷ []) (put same lower kept x)
+  pub kept_more : (items kept : List A) (x : A) → AreKept same lower items kept
+      → AreKept same lower (items ++ x ∷ []) (put same lower kept x)
   kept_more items kept x h = record {
     counting = put_counts items x kept h.counting h.apart (alone x items kept h.each);
-    each = all-append (λ z. list_any (same z) (put same lower kept x) ≡ true) items (x ∷ []) (all-map (λ z. list_any (same z) kept ≡ true) (λ z. list_any (same z) (put same lower kept x) ≡ true) (λ z p. has_more z x kept p) items h.each) (has_own x kept, tt);
+    each = all-append (λ z. list_any (same z) (put same lower kept x) ≡ true) items (x ∷ [])
+        (all-map (λ z. list_any (same z) kept ≡ true)
+        (λ z. list_any (same z) (put same lower kept x) ≡ true) (λ z p. has_more z x kept p) items
+        h.each) (has_own x kept, tt);
     apart = put_apart x kept h.apart;
   }
 
@@ -172,33 +226,56 @@ module _ {A : Type 0} (same lower : A → A → Bool) (o : Orders same lower) wh
 
 -- ---- over stanzas
 
-abbrev pub step : {A : Type 0} → (A → A → Bool) → (A → A → Bool) → (ℕ → List Entry → Result (Option A) EntryFault) → IndexFile → ℕ → List A → List Entry → Result (List A) ArchiveFault
-step same lower at file n seen fields = on_ok (in_stanza file n (at n fields)) (λ b. Ok (put_some same lower seen b))
+abbrev pub step : {A : Type 0} → (A → A → Bool) → (A → A → Bool)
+    → (ℕ → List Entry → Result (Option A) EntryFault) → IndexFile → ℕ → List A → List Entry
+    → Result (List A) ArchiveFault
+step same lower at file n seen fields =
+    on_ok (in_stanza file n (at n fields)) (λ b. Ok (put_some same lower seen b))
 
-module _ {A : Type 0} (same lower : A → A → Bool) (o : Orders same lower) (at : ℕ → List Entry → Result (Option A) EntryFault) (file : IndexFile) where
+module _ {A : Type 0} (same lower : A → A → Bool) (o : Orders same lower)
+    (at : ℕ → List Entry → Result (Option A) EntryFault) (file : IndexFile) where
   Kept : ℕ → List A → List (List Entry) → List A → Type 0
-  Kept n done ss kept = (items : List A) × AreItems at n ss items × AreKept same lower (done ++ items) kept
+  Kept n done ss kept =
+      (items : List A) × AreItems at n ss items × AreKept same lower (done ++ items) kept
 
   over_by : (n : ℕ) (seen done : List A) (s : List Entry) (ss : List (List Entry)) (kept : List A)
-      → ((more now : List A) → AreKept same lower now more → over_stanzas (step same lower at file) (n + 1) more ss ≡ Ok kept → Kept (n + 1) now ss kept)
-      → AreKept same lower done seen → (r : Result (Option A) EntryFault) → at n s ≡ r → over_stanzas (step same lower at file) n seen (s ∷ ss) ≡ Ok kept → Kept n done (s ∷ ss) kept
+      → ((more now : List A) → AreKept same lower now more
+      → over_stanzas (step same lower at file) (n + 1) more ss ≡ Ok kept → Kept (n + 1) now ss kept)
+      → AreKept same lower done seen → (r : Result (Option A) EntryFault) → at n s ≡ r
+      → over_stanzas (step same lower at file) n seen (s ∷ ss) ≡ Ok kept → Kept n done (s ∷ ss) kept
   unfolding over_stanzas Kept
-  over_by n seen done s ss kept later h (Err e) r is = absurd (let bad : ◌≡◌ {A = Result (List A) ArchiveFault} (Err (at_stanza file n e)) (Ok kept) = sym (rw r refl) ∙ is in cc)
+  over_by n seen done s ss kept later h (Err e) r is =
+      absurd (let bad : ◌≡◌ {A = Result (List A) ArchiveFault} (Err (at_stanza file n e))
+      (Ok kept) = sym (rw r refl) ∙ is in cc)
   over_by n seen done s ss kept later h (Ok None) r is =
       let f = later seen done h (sym (rw r refl) ∙ is) in
       (f.0, (None, f.0, r, refl, f.1), f.2)
   over_by n seen done s ss kept later h (Ok (Some x)) r is =
-      let f = later (put same lower seen x) (done ++ x ∷ []) (kept_more same lower o done seen x h) (sym (rw r refl) ∙ is) in
-      (x ∷ f.0, (Some x, f.0, r, refl, f.1), subst (λ (l : List A). AreKept same lower l kept) (append_assoc done (x ∷ []) f.0) f.2)
+      let f = later (put same lower seen x) (done ++ x ∷ []) (kept_more same lower o done seen x h)
+      (sym (rw r refl) ∙ is) in (
+        x ∷ f.0,
+        (Some x, f.0, r, refl, f.1),
+        subst (λ (l : List A). AreKept same lower l kept) (append_assoc done (x ∷ []) f.0) f.2,
+      )
 
-  over_kept : (n : ℕ) (seen done : List A) (ss : List (List Entry)) (kept : List A) → AreKept same lower done seen → over_stanzas (step same lower at file) n seen ss ≡ Ok kept → Kept n done ss kept
+  over_kept : (n : ℕ) (seen done : List A) (ss : List (List Entry)) (kept : List A)
+      → AreKept same lower done seen → over_stanzas (step same lower at file) n seen ss ≡ Ok kept
+      → Kept n done ss kept
   unfolding over_stanzas Kept
   over_kept n seen done [] kept h is =
-      let e : seen ≡ kept = cc in
-      ([], refl, subst (λ (k : List A). AreKept same lower (done ++ []) k) e (subst (λ (d : List A). AreKept same lower d seen) (sym (append-nil done)) h))
-  over_kept n seen done (s ∷ ss) kept h is = over_by n seen done s ss kept (λ more now k g. over_kept (n + 1) more now ss kept k g) h (at n s) refl is
+      let e : seen ≡ kept = cc in (
+        [],
+        refl,
+        subst (λ (k : List A). AreKept same lower (done ++ []) k) e
+            (subst (λ (d : List A). AreKept same lower d seen) (sym (append-nil done)) h),
+      )
+  over_kept n seen done (s ∷ ss) kept h is =
+      over_by n seen done s ss kept (λ more now k g. over_kept (n + 1) more now ss kept k g) h
+      (at n s) refl is
 
-  pub all_kept : (ss : List (List Entry)) (kept : List A) → over_stanzas (step same lower at file) 0 [] ss ≡ Ok kept → (items : List A) × AreItems at 0 ss items × AreKept same lower items kept
+  pub all_kept : (ss : List (List Entry)) (kept : List A)
+      → over_stanzas (step same lower at file) 0 [] ss ≡ Ok kept
+      → (items : List A) × AreItems at 0 ss items × AreKept same lower items kept
   unfolding Kept
   all_kept ss kept is = over_kept 0 [] [] ss kept (kept_none same lower o) is
 
@@ -209,10 +286,13 @@ lt_is Less h = refl
 lt_is Equal h = cc
 lt_is Greater h = cc
 
-below : (a b d : Parts) → is_lt (version_cmp a b) ≡ true → is_lt (version_cmp b d) ≡ true → is_lt (version_cmp a d) ≡ true
-below a b d h k = ap is_lt (version_total.trans a b d (lt_is (version_cmp a b) h) (lt_is (version_cmp b d) k))
+below : (a b d : Parts) → is_lt (version_cmp a b) ≡ true → is_lt (version_cmp b d) ≡ true
+    → is_lt (version_cmp a d) ≡ true
+below a b d h k =
+    ap is_lt (version_total.trans a b d (lt_is (version_cmp a b) h) (lt_is (version_cmp b d) k))
 
-not_above : (a b d : Parts) → is_lt (version_cmp b a) ≡ false → is_lt (version_cmp b d) ≡ true → is_lt (version_cmp a d) ≡ true
+not_above : (a b d : Parts) → is_lt (version_cmp b a) ≡ false → is_lt (version_cmp b d) ≡ true
+    → is_lt (version_cmp a d) ≡ true
 not_above a b d h k = by (version_cmp b a) refl
   where
     by : (o : Ordering) → version_cmp b a ≡ o → is_lt (version_cmp a d) ≡ true
@@ -226,22 +306,29 @@ same_home-refl : (h : Option ℕ) → same_home h h ≡ true
 same_home-refl None = refl
 same_home-refl (Some i) = eq-eqb i i refl
 
-package_parts : (a b : KeptBinary) → same_package a b ≡ true → (a.head.name ≡ b.head.name) × (a.head.home ≡ b.head.home)
+package_parts : (a b : KeptBinary) → same_package a b ≡ true
+    → (a.head.name ≡ b.head.name) × (a.head.home ≡ b.head.home)
 package_parts a b h =
-    let both = and_parts _ _ h in
-    ((bytes_eq-Decides a.head.name b.head.name).0 both.0, same_home-is a.head.home b.head.home both.1)
+    let both = and_parts _ _ h in (
+      (bytes_eq-Decides a.head.name b.head.name).0 both.0,
+      same_home-is a.head.home b.head.home both.1,
+    )
 
-package_again : (a b : KeptBinary) → a.head.name ≡ b.head.name → a.head.home ≡ b.head.home → same_package a b ≡ true
+package_again : (a b : KeptBinary) → a.head.name ≡ b.head.name → a.head.home ≡ b.head.home
+    → same_package a b ≡ true
 package_again a b names homes =
-    let first : bytes_eq a.head.name b.head.name ≡ true = (bytes_eq-Decides a.head.name b.head.name).1 names in
-    let second : same_home a.head.home b.head.home ≡ true = subst (λ (h : Option ℕ). same_home a.head.home h ≡ true) homes (same_home-refl a.head.home) in
+    let first : bytes_eq a.head.name b.head.name ≡ true =
+    (bytes_eq-Decides a.head.name b.head.name).1 names in
+    let second : same_home a.head.home b.head.home ≡ true =
+    subst (λ (h : Option ℕ). same_home a.head.home h ≡ true) homes (same_home-refl a.head.home) in
     rw (first, second) refl
 
 package_orders : Orders same_package lower_package
 package_orders = record {
   itself = λ x. package_again x x refl refl;
   back = λ x y h. (let p = package_parts x y h in package_again y x (sym p.0) (sym p.1));
-  along = λ x y z h k. (let p = package_parts x y h in let q = package_parts y z k in package_again x z (p.0 ∙ q.0) (p.1 ∙ q.1));
+  along = λ x y z h k. (let p = package_parts x y h in let q = package_parts y z k in
+      package_again x z (p.0 ∙ q.0) (p.1 ∙ q.1));
   under = λ z y x h k. below z.head.parts y.head.parts x.head.parts h k;
   not_over = λ z y x h k. not_above z.head.parts y.head.parts x.head.parts h k;
 }
@@ -262,10 +349,12 @@ source_orders = record {
 }
 
 pub greatest_packages : GreatestPackagesAreKept
-greatest_packages table stanzas kept is = all_kept same_package lower_package package_orders (binary_at table) Packages stanzas kept is
+greatest_packages table stanzas kept is =
+    all_kept same_package lower_package package_orders (binary_at table) Packages stanzas kept is
 
 pub greatest_sources : GreatestSourcesAreKept
-greatest_sources stanzas kept is = all_kept same_source lower_source source_orders kept_source_at Sources stanzas kept is
+greatest_sources stanzas kept is =
+    all_kept same_source lower_source source_orders kept_source_at Sources stanzas kept is
 
 -- ---- what the two tests say
 

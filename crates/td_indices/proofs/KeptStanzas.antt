@@ -1,5 +1,7 @@
 -- The stanzas that packages and sources were kept of.
-use Rattle.std.proofs.Common.{◌≡◌, ℕ, suc, ◌+◌, List, [], ◌∷◌, ◌++◌, Bool, Option, Some, None, Result, Ok, Err, option_map, slice_get, is_some, true, refl, sym, ap, ◌∙◌, subst, inl, inr, arith}
+use Rattle.std.proofs.Common.{◌≡◌, ℕ, suc, ◌+◌, List, [], ◌∷◌, ◌++◌, Bool, Option, Some, None}
+use Rattle.std.proofs.Common.{Result, Ok, Err, option_map, slice_get, is_some, true, refl, sym, ap}
+use Rattle.std.proofs.Common.{◌∙◌, subst, inl, inr, arith}
 use Rattle.std.specs.List.{AllByRecursion}
 use Rattle.std.specs.Option.{option_map_or}
 use Rattle.std.proofs.lemmas.Bool.{cases_Bool}
@@ -14,67 +16,92 @@ use Rattle.td_indices.specs.Archive.{Contents}
 use Rattle.td_indices.specs.Binaries.{BinaryPackage, package_at}
 use Rattle.td_indices.specs.Counting.{AreItems, Counts, consed}
 use Rattle.td_indices.specs.Fields.{relation_in, value_of}
-use Rattle.td_indices.specs.Kept.{KeptBinary, binary_at, lower_package, provides_at, same_package, with_relations}
+use Rattle.td_indices.specs.Kept.{KeptBinary, binary_at, lower_package, provides_at, same_package}
+use Rattle.td_indices.specs.Kept.{with_relations}
 use Rattle.td_indices.specs.Reading.{binaries_at, sources_at}
-use Rattle.td_indices.specs.Sources.{KeptSource, SourcePackage, is_extra, kept_source_at, lower_source, same_source, source_at as head_at, whole_source_at, with_build_relations}
+use Rattle.td_indices.specs.Sources.{KeptSource, SourcePackage, is_extra, kept_source_at}
+use Rattle.td_indices.specs.Sources.{lower_source, same_source, source_at as head_at}
+use Rattle.td_indices.specs.Sources.{whole_source_at, with_build_relations}
 use Rattle.td_indices.specs.Stanzas.{IsKeptOf, asked_in, asked_or_none}
 use Rattle.td_indices.proofs.CountingLaws.{greatest_packages, greatest_sources}
 use Rattle.td_indices.proofs.LegalNames.{all_at}
 
 -- ---- 1. an item among those of the stanzas is that of one of them
 
-no_item : {A : Type 0} (before after : List A) (x : A) → ◌≡◌ {A = List A} [] (before ++ x ∷ after) → ⊥
+no_item : {A : Type 0} (before after : List A) (x : A) → ◌≡◌ {A = List A} [] (before ++ x ∷ after)
+    → ⊥
 no_item [] after x e = cc
 no_item (y ∷ before) after x e = cc
 
 module _ {A : Type 0} (at : ℕ → List Entry → Result (Option A) EntryFault) where
   -- an item, read of the stanza behind these many
   abbrev OneOf : ℕ → List (List Entry) → A → Type 0
-  OneOf n stanzas x = (k : ℕ) × (fields : List Entry) × (slice_get stanzas k ≡ Some fields) × (at (n + k) fields ≡ Ok (Some x))
+  OneOf n stanzas x =
+      (k : ℕ) × (fields : List Entry) × (slice_get stanzas k ≡ Some fields)
+      × (at (n + k) fields ≡ Ok (Some x))
 
-  further : (n : ℕ) (s : List Entry) (ss : List (List Entry)) (x : A) → OneOf (n + 1) ss x → OneOf n (s ∷ ss) x
+  further : (n : ℕ) (s : List Entry) (ss : List (List Entry)) (x : A) → OneOf (n + 1) ss x
+      → OneOf n (s ∷ ss) x
   further n s ss x h =
       let next : (n + 1) + h.0 ≡ n + suc h.0 = omega arith in
       (suc h.0, h.1, h.2, subst (λ (m : ℕ). at m h.1 ≡ Ok (Some x)) next h.3)
 
-  first : (n : ℕ) (s : List Entry) (ss : List (List Entry)) (x : A) → at n s ≡ Ok (Some x) → OneOf n (s ∷ ss) x
+  first : (n : ℕ) (s : List Entry) (ss : List (List Entry)) (x : A) → at n s ≡ Ok (Some x)
+      → OneOf n (s ∷ ss) x
   first n s ss x h =
       let here : n ≡ n + 0 = omega arith in
       (0, s, refl, subst (λ (m : ℕ). at m s ≡ Ok (Some x)) here h)
 
-  among : (n : ℕ) (s : List Entry) (ss : List (List Entry)) (y : A) (rest before after : List A) (x : A) → ((front : List A) → rest ≡ front ++ x ∷ after → OneOf (n + 1) ss x) → at n s ≡ Ok (Some y) → y ∷ rest ≡ before ++ x ∷ after → OneOf n (s ∷ ss) x
-  among n s ss y rest [] after x later read e = let same : y ≡ x = cc in first n s ss x (read ∙ ap (λ (z : A). Ok (Some z)) same)
-  among n s ss y rest (z ∷ before) after x later read e = let behind : rest ≡ before ++ x ∷ after = cc in further n s ss x (later before behind)
+  among : (n : ℕ) (s : List Entry) (ss : List (List Entry)) (y : A) (rest before after : List A)
+      (x : A) → ((front : List A) → rest ≡ front ++ x ∷ after → OneOf (n + 1) ss x)
+      → at n s ≡ Ok (Some y) → y ∷ rest ≡ before ++ x ∷ after → OneOf n (s ∷ ss) x
+  among n s ss y rest [] after x later read e =
+      let same : y ≡ x = cc in first n s ss x (read ∙ ap (λ (z : A). Ok (Some z)) same)
+  among n s ss y rest (z ∷ before) after x later read e =
+      let behind : rest ≡ before ++ x ∷ after = cc in further n s ss x (later before behind)
 
-  by_stanza : (n : ℕ) (s : List Entry) (ss : List (List Entry)) (rest before after : List A) (x : A) → ((front : List A) → rest ≡ front ++ x ∷ after → OneOf (n + 1) ss x) → (o : Option A) → at n s ≡ Ok o → consed o rest ≡ before ++ x ∷ after → OneOf n (s ∷ ss) x
+  by_stanza : (n : ℕ) (s : List Entry) (ss : List (List Entry)) (rest before after : List A) (x : A)
+      → ((front : List A) → rest ≡ front ++ x ∷ after → OneOf (n + 1) ss x) → (o : Option A)
+      → at n s ≡ Ok o → consed o rest ≡ before ++ x ∷ after → OneOf n (s ∷ ss) x
   by_stanza n s ss rest before after x later None read e = further n s ss x (later before e)
-  by_stanza n s ss rest before after x later (Some y) read e = among n s ss y rest before after x later read e
+  by_stanza n s ss rest before after x later (Some y) read e =
+      among n s ss y rest before after x later read e
 
-  one_of : (n : ℕ) (ss : List (List Entry)) (items before after : List A) (x : A) → AreItems at n ss items → items ≡ before ++ x ∷ after → OneOf n ss x
+  one_of : (n : ℕ) (ss : List (List Entry)) (items before after : List A) (x : A)
+      → AreItems at n ss items → items ≡ before ++ x ∷ after → OneOf n ss x
   one_of n [] items before after x are is = absurd (no_item before after x (sym are ∙ is))
-  one_of n (s ∷ ss) items before after x are is = by_stanza n s ss are.1 before after x (λ front e. one_of (n + 1) ss are.1 front after x are.4 e) are.0 are.2 (sym are.3 ∙ is)
+  one_of n (s ∷ ss) items before after x are is =
+      by_stanza n s ss are.1 before after x
+      (λ front e. one_of (n + 1) ss are.1 front after x are.4 e) are.0 are.2 (sym are.3 ∙ is)
 
 -- ---- 2. the number of its stanza
 
-binary_made : (p : BinaryPackage) (provides : List (List Asked)) (n : ℕ) (b : KeptBinary) → ◌≡◌ {A = Result (Option KeptBinary) EntryFault} (Ok (Some (record { head = p; provides = provides; stanza = n }))) (Ok (Some b)) → n ≡ b.stanza
+binary_made : (p : BinaryPackage) (provides : List (List Asked)) (n : ℕ) (b : KeptBinary)
+    → ◌≡◌ {A = Result (Option KeptBinary) EntryFault}
+    (Ok (Some (record { head = p; provides = provides; stanza = n }))) (Ok (Some b)) → n ≡ b.stanza
 binary_made p provides n b e = cc
 
-binary_number : (n : ℕ) (fields : List Entry) (p : Option BinaryPackage) (b : KeptBinary) → with_relations n fields p ≡ Ok (Some b) → n ≡ b.stanza
+binary_number : (n : ℕ) (fields : List Entry) (p : Option BinaryPackage) (b : KeptBinary)
+    → with_relations n fields p ≡ Ok (Some b) → n ≡ b.stanza
 binary_number n fields None b e = absurd cc
 binary_number n fields (Some p) b e =
     let read = on_ok_parts (provides_at fields) _ (Some b) e in
     binary_made p read.0 n b read.2
 
-pub binary_at-number : (table : List ArchWords) (n : ℕ) (fields : List Entry) (b : KeptBinary) → binary_at table n fields ≡ Ok (Some b) → n ≡ b.stanza
+pub binary_at-number : (table : List ArchWords) (n : ℕ) (fields : List Entry) (b : KeptBinary)
+    → binary_at table n fields ≡ Ok (Some b) → n ≡ b.stanza
 unfolding binary_at
 binary_at-number table n fields b e =
     let read = on_ok_parts (package_at table fields) _ (Some b) e in
     binary_number n fields read.0 b read.2
 
-source_made : (head : SourcePackage) (n : ℕ) (s : KeptSource) → ◌≡◌ {A = Result KeptSource EntryFault} (Ok (record { head = head; stanza = n })) (Ok s) → n ≡ s.stanza
+source_made : (head : SourcePackage) (n : ℕ) (s : KeptSource)
+    → ◌≡◌ {A = Result KeptSource EntryFault} (Ok (record { head = head; stanza = n })) (Ok s)
+    → n ≡ s.stanza
 source_made head n s e = cc
 
-kept_is : (t s : KeptSource) → ◌≡◌ {A = Result (Option KeptSource) EntryFault} (Ok (Some t)) (Ok (Some s)) → t ≡ s
+kept_is : (t s : KeptSource)
+    → ◌≡◌ {A = Result (Option KeptSource) EntryFault} (Ok (Some t)) (Ok (Some s)) → t ≡ s
 kept_is t s e = cc
 
 -- what a kept source's build asks for can be read
@@ -83,14 +110,17 @@ pub record IsReadable (fields : List Entry) (n : ℕ) (s : KeptSource) : Type 0 
   pub depends : List (List Asked)
   pub depends_read : relation_in (value_of fields (codes "Build-Depends")) ≡ Ok depends
   pub arch_depends : List (List Asked)
-  pub arch_depends_read : relation_in (value_of fields (codes "Build-Depends-Arch")) ≡ Ok arch_depends
+  pub arch_depends_read : relation_in (value_of fields (codes "Build-Depends-Arch"))
+      ≡ Ok arch_depends
 
-whole_readable : (n : ℕ) (fields : List Entry) (s : KeptSource) → whole_source_at n fields ≡ Ok s → IsReadable fields n s
+whole_readable : (n : ℕ) (fields : List Entry) (s : KeptSource) → whole_source_at n fields ≡ Ok s
+    → IsReadable fields n s
 unfolding whole_source_at with_build_relations
 whole_readable n fields s e =
     let head = on_ok_parts (head_at fields) _ s e in
     let depends = on_ok_parts (relation_in (value_of fields (codes "Build-Depends"))) _ s head.2 in
-    let arch_depends = on_ok_parts (relation_in (value_of fields (codes "Build-Depends-Arch"))) _ s depends.2 in
+    let arch_depends =
+    on_ok_parts (relation_in (value_of fields (codes "Build-Depends-Arch"))) _ s depends.2 in
     record {
       number = source_made head.0 n s arch_depends.2;
       depends = depends.0;
@@ -99,30 +129,42 @@ whole_readable n fields s e =
       arch_depends_read = arch_depends.1;
     }
 
-pub kept_readable : (n : ℕ) (fields : List Entry) (s : KeptSource) → kept_source_at n fields ≡ Ok (Some s) → IsReadable fields n s
+pub kept_readable : (n : ℕ) (fields : List Entry) (s : KeptSource)
+    → kept_source_at n fields ≡ Ok (Some s) → IsReadable fields n s
 unfolding kept_source_at
 kept_readable n fields s e =
     elim (cases_Bool (is_extra fields)) [
-      | inl extra ↦ absurd (let bad : ◌≡◌ {A = Result (Option KeptSource) EntryFault} (Ok None) (Ok (Some s)) = sym (rw extra refl) ∙ e in cc)
+      | inl extra ↦
+          absurd (let bad : ◌≡◌ {A = Result (Option KeptSource) EntryFault} (Ok None)
+          (Ok (Some s)) = sym (rw extra refl) ∙ e in cc)
       | inr own ↦
-          let read : on_ok (whole_source_at n fields) (λ t. Ok (Some t)) ≡ Ok (Some s) = sym (rw own refl) ∙ e in
+          let read : on_ok (whole_source_at n fields) (λ t. Ok (Some t)) ≡ Ok (Some s) =
+          sym (rw own refl) ∙ e in
           let whole = on_ok_parts (whole_source_at n fields) _ (Some s) read in
-          subst (λ (t : KeptSource). IsReadable fields n t) (kept_is whole.0 s whole.2) (whole_readable n fields whole.0 whole.1)
+          subst (λ (t : KeptSource). IsReadable fields n t) (kept_is whole.0 s whole.2)
+          (whole_readable n fields whole.0 whole.1)
     ]
 
 -- ---- 3. the items of an archive
 
-kept_one : {A : Type 0} (same lower : A → A → Bool) (at : ℕ → List Entry → Result (Option A) EntryFault) (ss : List (List Entry)) (items kept : List A) (i : ℕ) (x : A) → AreItems at 0 ss items → AllByRecursion (Counts same lower items) kept → slice_get kept i ≡ Some x → (k : ℕ) × (fields : List Entry) × (slice_get ss k ≡ Some fields) × (at k fields ≡ Ok (Some x))
+kept_one : {A : Type 0} (same lower : A → A → Bool)
+    (at : ℕ → List Entry → Result (Option A) EntryFault) (ss : List (List Entry))
+    (items kept : List A) (i : ℕ) (x : A) → AreItems at 0 ss items
+    → AllByRecursion (Counts same lower items) kept → slice_get kept i ≡ Some x
+    → (k : ℕ) × (fields : List Entry) × (slice_get ss k ≡ Some fields) × (at k fields ≡ Ok (Some x))
 kept_one same lower at ss items kept i x are counting got =
     let counts = all_at (Counts same lower items) kept i x counting got in
     let one = one_of at 0 ss items counts.before counts.after x are counts.parts in
     let here : 0 + one.0 ≡ one.0 = omega arith in
     (one.0, one.1, one.2, subst (λ (m : ℕ). at m one.1 ≡ Ok (Some x)) here one.3)
 
-pub binary_kept : (table : List ArchWords) (stanzas : List (List Entry)) (kept : List KeptBinary) (i : ℕ) (b : KeptBinary) → binaries_at table stanzas ≡ Ok kept → slice_get kept i ≡ Some b → IsKeptOf (binary_at table) stanzas b.stanza b
+pub binary_kept : (table : List ArchWords) (stanzas : List (List Entry)) (kept : List KeptBinary)
+    (i : ℕ) (b : KeptBinary) → binaries_at table stanzas ≡ Ok kept → slice_get kept i ≡ Some b
+    → IsKeptOf (binary_at table) stanzas b.stanza b
 binary_kept table stanzas kept i b read got =
     let g = greatest_packages table stanzas kept read in
-    let one = kept_one same_package lower_package (binary_at table) stanzas g.0 kept i b g.1 g.2.counting got in
+    let one = kept_one same_package lower_package (binary_at table) stanzas g.0 kept i b g.1
+    g.2.counting got in
     let number : one.0 ≡ b.stanza = binary_at-number table one.0 one.1 b one.3 in
     record {
       fields = one.1;
@@ -130,10 +172,13 @@ binary_kept table stanzas kept i b read got =
       kept = subst (λ (n : ℕ). binary_at table n one.1 ≡ Ok (Some b)) number one.3;
     }
 
-pub source_kept : (stanzas : List (List Entry)) (kept : List KeptSource) (i : ℕ) (s : KeptSource) → sources_at stanzas ≡ Ok kept → slice_get kept i ≡ Some s → IsKeptOf kept_source_at stanzas s.stanza s
+pub source_kept : (stanzas : List (List Entry)) (kept : List KeptSource) (i : ℕ) (s : KeptSource)
+    → sources_at stanzas ≡ Ok kept → slice_get kept i ≡ Some s
+    → IsKeptOf kept_source_at stanzas s.stanza s
 source_kept stanzas kept i s read got =
     let g = greatest_sources stanzas kept read in
-    let one = kept_one same_source lower_source kept_source_at stanzas g.0 kept i s g.1 g.2.counting got in
+    let one = kept_one same_source lower_source kept_source_at stanzas g.0 kept i s g.1 g.2.counting
+    got in
     let number : one.0 ≡ s.stanza = (kept_readable one.0 one.1 s one.3).number in
     record {
       fields = one.1;
@@ -143,7 +188,8 @@ source_kept stanzas kept i s read got =
 
 -- ---- 4. what is looked up by a number
 
-pub mapped : {A B : Type 0} (f : A → B) (o : Option A) (y : B) → option_map f o ≡ Some y → is_some o ≡ true
+pub mapped : {A B : Type 0} (f : A → B) (o : Option A) (y : B) → option_map f o ≡ Some y
+    → is_some o ≡ true
 mapped f None y e = absurd cc
 mapped f (Some x) y e = refl
 
@@ -153,37 +199,61 @@ pub record SourceAt (a : Contents) (n : ℕ) (fields : List Entry) : Type 0 wher
   pub got : slice_get a.sources n ≡ Some source
   pub there : slice_get a.source_stanzas source.stanza ≡ Some fields
 
-pub source_at : (a : Contents) (n : ℕ) (fields : List Entry) → option_map (λ (s : KeptSource). slice_get a.source_stanzas s.stanza) (slice_get a.sources n) ≡ Some (Some fields) → SourceAt a n fields
+pub source_at : (a : Contents) (n : ℕ) (fields : List Entry)
+    → option_map (λ (s : KeptSource). slice_get a.source_stanzas s.stanza) (slice_get a.sources n)
+    ≡ Some (Some fields) → SourceAt a n fields
 source_at a n fields e = by (slice_get a.sources n) refl
   where
     by : (o : Option KeptSource) → slice_get a.sources n ≡ o → SourceAt a n fields
-    by None none = absurd (let bad : None ≡ Some (Some fields) = sym (ap (option_map (λ (s : KeptSource). slice_get a.source_stanzas s.stanza)) none) ∙ e in cc)
+    by None none =
+        absurd (let bad : None ≡ Some (Some fields) =
+        sym (ap (option_map (λ (s : KeptSource). slice_get a.source_stanzas s.stanza)) none) ∙ e in
+        cc)
     by (Some s) got =
-        let same : Some (slice_get a.source_stanzas s.stanza) ≡ Some (Some fields) = sym (ap (option_map (λ (t : KeptSource). slice_get a.source_stanzas t.stanza)) got) ∙ e in
+        let same : Some (slice_get a.source_stanzas s.stanza) ≡ Some (Some fields) =
+        sym (ap (option_map (λ (t : KeptSource). slice_get a.source_stanzas t.stanza)) got) ∙ e in
         record { source = s; got = got; there = cc }
 
 -- its two relations can be read
-pub readable_at : (a : Contents) (n : ℕ) (fields : List Entry) → sources_at a.source_stanzas ≡ Ok a.sources → SourceAt a n fields → (s : KeptSource) × IsReadable fields s.stanza s
+pub readable_at : (a : Contents) (n : ℕ) (fields : List Entry)
+    → sources_at a.source_stanzas ≡ Ok a.sources → SourceAt a n fields
+    → (s : KeptSource) × IsReadable fields s.stanza s
 readable_at a n fields kept at =
     let its = source_kept a.source_stanzas a.sources n at.source kept at.got in
-    let same : its.fields ≡ fields = some_is its.fields fields (sym its.there ∙ at.there) in
-    (at.source, kept_readable at.source.stanza fields at.source (ap (λ (l : List Entry). kept_source_at at.source.stanza l) (sym same) ∙ its.kept))
+    let same : its.fields ≡ fields = some_is its.fields fields (sym its.there ∙ at.there) in (
+      at.source,
+      kept_readable at.source.stanza fields at.source
+          (ap (λ (l : List Entry). kept_source_at at.source.stanza l) (sym same) ∙ its.kept),
+    )
 
 -- a relation of its stanza is that of the source
-asked_at : (a : Contents) (n : ℕ) (fields : List Entry) (field : List ℕ) → SourceAt a n fields → option_map (λ (s : KeptSource). asked_in a s field) (slice_get a.sources n) ≡ Some (relation_in (value_of fields field))
+asked_at : (a : Contents) (n : ℕ) (fields : List Entry) (field : List ℕ) → SourceAt a n fields
+    → option_map (λ (s : KeptSource). asked_in a s field) (slice_get a.sources n)
+    ≡ Some (relation_in (value_of fields field))
 asked_at a n fields field at =
     ap (option_map (λ (s : KeptSource). asked_in a s field)) at.got
-    ∙ ap (λ (o : Option (List Entry)). Some (relation_in (value_of (option_map_or (λ l. l) o []) field))) at.there
+    ∙ ap (λ (o : Option (List Entry)).
+    Some (relation_in (value_of (option_map_or (λ l. l) o []) field))) at.there
 
-pub read_at : {R E : Type 0} (view : R → List (List Asked)) (a : Contents) (n : ℕ) (fields : List Entry) (field : List ℕ) → SourceAt a n fields → (result : Result R E) → IfOk result (λ r. relation_in (value_of fields field) ≡ Ok (view r)) → IfOk result (λ r. option_map (λ (s : KeptSource). asked_in a s field) (slice_get a.sources n) ≡ Some (Ok (view r)))
+pub read_at : {R E : Type 0} (view : R → List (List Asked)) (a : Contents) (n : ℕ)
+    (fields : List Entry) (field : List ℕ) → SourceAt a n fields → (result : Result R E)
+    → IfOk result (λ r. relation_in (value_of fields field) ≡ Ok (view r))
+    → IfOk result (λ r. option_map (λ (s : KeptSource). asked_in a s field) (slice_get a.sources n)
+    ≡ Some (Ok (view r)))
 read_at view a n fields field at (Ok r) h = asked_at a n fields field at ∙ ap Some h
 read_at view a n fields field at (Err e) h = tt
 
-listed : (f : KeptSource → Result (List (List Asked)) EntryFault) (o : Option KeptSource) → option_map (λ (s : KeptSource). asked_or_none (f s)) o ≡ option_map asked_or_none (option_map f o)
+listed : (f : KeptSource → Result (List (List Asked)) EntryFault) (o : Option KeptSource)
+    → option_map (λ (s : KeptSource). asked_or_none (f s)) o
+    ≡ option_map asked_or_none (option_map f o)
 listed f None = refl
 listed f (Some s) = refl
 
-pub list_at : {R E : Type 0} (view : R → List (List Asked)) (a : Contents) (n : ℕ) (fields : List Entry) (field : List ℕ) → SourceAt a n fields → (result : Result R E) → IfOk result (λ r. relation_in (value_of fields field) ≡ Ok (view r)) → IfOk result (λ r. option_map (λ (s : KeptSource). asked_or_none (asked_in a s field)) (slice_get a.sources n) ≡ Some (view r))
+pub list_at : {R E : Type 0} (view : R → List (List Asked)) (a : Contents) (n : ℕ)
+    (fields : List Entry) (field : List ℕ) → SourceAt a n fields → (result : Result R E)
+    → IfOk result (λ r. relation_in (value_of fields field) ≡ Ok (view r))
+    → IfOk result (λ r. option_map (λ (s : KeptSource). asked_or_none (asked_in a s field))
+    (slice_get a.sources n) ≡ Some (view r))
 list_at view a n fields field at (Ok r) h =
     listed (λ (s : KeptSource). asked_in a s field) (slice_get a.sources n)
     ∙ ap (option_map asked_or_none) (asked_at a n fields field at ∙ ap Some h)

@@ -1,5 +1,6 @@
 -- The names that a package offers.
-use Rattle.std.proofs.Common.{◌≡◌, ℕ, Bool, true, false, List, [], ◌∷◌, ◌++◌, Option, Some, None, map, refl, sym, ap, ◌∙◌, inl, inr}
+use Rattle.std.proofs.Common.{◌≡◌, ℕ, Bool, true, false, List, [], ◌∷◌, ◌++◌, Option, Some, None}
+use Rattle.std.proofs.Common.{map, refl, sym, ap, ◌∙◌, inl, inr}
 use Rattle.std.specs.List.{flat_map}
 use Rattle.std.proofs.lemmas.Bool.{cases_Bool}
 use Rattle.std.proofs.lemmas.List.{map-append}
@@ -15,7 +16,8 @@ name o = o.name
 abbrev names : List Supplied → List (List ℕ)
 names offers = map (λ o. o.name) offers
 
-at_home : (home : Option ℕ) (n : List ℕ) (r : Option Bound) → names (provided_at home n r) ≡ names (provided_at None n r)
+at_home : (home : Option ℕ) (n : List ℕ) (r : Option Bound)
+    → names (provided_at home n r) ≡ names (provided_at None n r)
 at_home home n None = refl
 at_home home n (Some r) =
     elim (cases_Bool (is_equal r.operator)) [
@@ -28,7 +30,8 @@ anywhere home [] = refl
 anywhere home (x ∷ []) = at_home home x.name x.restriction
 anywhere home (x ∷ y ∷ more) = refl
 
-all_names : (home : Option ℕ) (ms : List (List Asked)) → names (flat_map (provided home) ms) ≡ flat_map provided_names ms
+all_names : (home : Option ℕ) (ms : List (List Asked))
+    → names (flat_map (provided home) ms) ≡ flat_map provided_names ms
 all_names home [] = refl
 all_names home (m ∷ ms) =
     ap names (flat_map-cons (provided home) m ms)

@@ -1,5 +1,7 @@
--- Of the rows with which a desk opens: no builder has one, and the version of each one's source is known.
-use Rattle.std.proofs.Common.{◌≡◌, ℕ, Bool, false, List, [], ◌∷◌, Option, Some, None, Result, Ok, Err, map, option_map, refl, sym, ap, subst, ◌∙◌, inl, inr}
+-- Of the rows with which a desk opens: no builder has one, and the version of each one's source is
+-- known.
+use Rattle.std.proofs.Common.{◌≡◌, ℕ, Bool, false, List, [], ◌∷◌, Option, Some, None, Result, Ok}
+use Rattle.std.proofs.Common.{Err, map, option_map, refl, sym, ap, subst, ◌∙◌, inl, inr}
 use Rattle.std.specs.Prelude.{IfOk, codes}
 use Rattle.std.specs.List.{AllByRecursion, find}
 use Rattle.std.specs.Str.{bytes_eq}
@@ -18,86 +20,116 @@ use Rattle.td_version.specs.Version.{Parts}
 use Rattle.td_version.specs.declared.version.VersionFault.{VersionFault}
 use Rattle.td_version.proofs.Outcomes.{read_found}
 use Rattle.td_indices.specs.declared.archive_fault.EntryFault.{EntryFault}
-use Rattle.td_indices.specs.declared.archive_fault.IndexField.TheVariants.{Package, Version, Architecture}
+use Rattle.td_indices.specs.declared.archive_fault.IndexField.TheVariants.{Package, Version}
+use Rattle.td_indices.specs.declared.archive_fault.IndexField.TheVariants.{Architecture}
 use Rattle.td_indices.specs.declared.archive_fault.IndexFile.TheVariants.{Sources}
 use Rattle.td_indices.specs.Archive.{Contents, source_named}
-use Rattle.td_indices.specs.Fields.{name_in, needed, relation_in, value_of, version_in, version_or_bad}
+use Rattle.td_indices.specs.Fields.{name_in, needed, relation_in, value_of, version_in}
+use Rattle.td_indices.specs.Fields.{version_or_bad}
 use Rattle.td_indices.specs.OpeningRows.{IsVersionKnown}
 use Rattle.td_indices.specs.Reading.{sources_at}
 use Rattle.td_indices.specs.Supplying.{AreRead, listed, supply_of}
-use Rattle.td_indices.specs.Opening.{current_numbers, greatest, opening_at, opening_of, opening_on, opening_row}
+use Rattle.td_indices.specs.Opening.{current_numbers, greatest, opening_at, opening_of, opening_on}
+use Rattle.td_indices.specs.Opening.{opening_row}
 use Rattle.td_indices.specs.Rows.{has_row}
-use Rattle.td_indices.specs.Sources.{KeptSource, SourcePackage, is_extra, kept_source_at, lower_source, same_source, source_at, whole_source_at, with_build_relations}
+use Rattle.td_indices.specs.Sources.{KeptSource, SourcePackage, is_extra, kept_source_at}
+use Rattle.td_indices.specs.Sources.{lower_source, same_source, source_at, whole_source_at}
+use Rattle.td_indices.specs.Sources.{with_build_relations}
 use Rattle.td_indices.proofs.LegalNames.{all_over}
 
 free_of : (best : Option ℕ) → is_building (opening_of best).state ≡ false
 free_of None = refl
 free_of (Some n) = refl
 
-free_on : (a : Contents) (s : KeptSource) (o : Option ℕ) (row : Row) → opening_on a s o ≡ Some row → is_building row.state ≡ false
+free_on : (a : Contents) (s : KeptSource) (o : Option ℕ) (row : Row) → opening_on a s o ≡ Some row
+    → is_building row.state ≡ false
 free_on a s None row e = absurd cc
 free_on a s (Some place) row e =
     elim (cases_Bool (has_row a.table s.head.archs place)) [
       | inl has ↦
-          let is : opening_of (greatest (current_numbers a s place)) ≡ row = some_is _ row (sym (rw has refl) ∙ e) in
-          subst (λ (r : Row). is_building r.state ≡ false) is (free_of (greatest (current_numbers a s place)))
+          let is : opening_of (greatest (current_numbers a s place)) ≡ row =
+          some_is _ row (sym (rw has refl) ∙ e) in
+          subst (λ (r : Row). is_building r.state ≡ false) is
+          (free_of (greatest (current_numbers a s place)))
       | inr none ↦ absurd (let bad : None ≡ Some row = sym (rw none refl) ∙ e in cc)
     ]
 
-free_at : (a : Contents) (o : Option KeptSource) (arch : List ℕ) (row : Row) → opening_at a o arch ≡ Some row → is_building row.state ≡ false
+free_at : (a : Contents) (o : Option KeptSource) (arch : List ℕ) (row : Row)
+    → opening_at a o arch ≡ Some row → is_building row.state ≡ false
 free_at a None arch row e = absurd cc
 free_at a (Some s) arch row e = free_on a s (place_of a.table arch) row e
 
-pub free : (a : Contents) (k : Key) (row : Row) → opening_row a k ≡ Some row → is_building row.state ≡ false
+pub free : (a : Contents) (k : Key) (row : Row) → opening_row a k ≡ Some row
+    → is_building row.state ≡ false
 free a k row e = free_at a (source_named a k.source) k.arch row e
 
-pub free_rows : {R E : Type 0} (look : R → Key → Option Row) (a : Contents) (r : Result R E) → IfOk r (λ rows. (k : Key) → look rows k ≡ opening_row a k) → IfOk r (λ rows. (k : Key) (row : Row) → look rows k ≡ Some row → is_building row.state ≡ false)
+pub free_rows : {R E : Type 0} (look : R → Key → Option Row) (a : Contents) (r : Result R E)
+    → IfOk r (λ rows. (k : Key) → look rows k ≡ opening_row a k)
+    → IfOk r (λ rows.
+    (k : Key) (row : Row) → look rows k ≡ Some row → is_building row.state ≡ false)
 free_rows look a (Ok rows) h = λ k row at. free a k row (sym (h k) ∙ at)
 free_rows look a (Err e) h = tt
 
 -- ---- the version of a source that is kept
 
-made : (name version archs : List ℕ) (parts : Parts) (s : SourcePackage) → ◌≡◌ {A = Result SourcePackage EntryFault} (Ok (record { name = name; version = version; parts = parts; archs = archs })) (Ok s) → version_in version ≡ Ok parts → version_in s.version ≡ Ok s.parts
+made : (name version archs : List ℕ) (parts : Parts) (s : SourcePackage)
+    → ◌≡◌ {A = Result SourcePackage EntryFault}
+    (Ok (record { name = name; version = version; parts = parts; archs = archs })) (Ok s)
+    → version_in version ≡ Ok parts → version_in s.version ≡ Ok s.parts
 made name version archs parts s e read =
     let texts : version ≡ s.version = cc in
     let both : parts ≡ s.parts = cc in
     ap version_in (sym texts) ∙ read ∙ ap Ok both
 
-source_read : (fields : List Entry) (s : SourcePackage) → source_at fields ≡ Ok s → version_in s.version ≡ Ok s.parts
+source_read : (fields : List Entry) (s : SourcePackage) → source_at fields ≡ Ok s
+    → version_in s.version ≡ Ok s.parts
 unfolding source_at
 source_read fields s e =
     let name = on_ok_parts (name_in Package (value_of fields (codes "Package"))) _ s e in
     let version = on_ok_parts (needed Version (value_of fields (codes "Version"))) _ s name.2 in
-    let archs = on_ok_parts (needed Architecture (value_of fields (codes "Architecture"))) _ s version.2 in
+    let archs =
+    on_ok_parts (needed Architecture (value_of fields (codes "Architecture"))) _ s version.2 in
     let parts = on_ok_parts (version_in version.0) _ s archs.2 in
     made name.0 version.0 archs.0 parts.0 s parts.2 parts.1
 
-head_is : (head : SourcePackage) (n : ℕ) (s : KeptSource) → ◌≡◌ {A = Result KeptSource EntryFault} (Ok (record { head = head; stanza = n })) (Ok s) → head ≡ s.head
+head_is : (head : SourcePackage) (n : ℕ) (s : KeptSource)
+    → ◌≡◌ {A = Result KeptSource EntryFault} (Ok (record { head = head; stanza = n })) (Ok s)
+    → head ≡ s.head
 head_is head n s e = cc
 
-whole_read : (n : ℕ) (fields : List Entry) (s : KeptSource) → whole_source_at n fields ≡ Ok s → version_in s.head.version ≡ Ok s.head.parts
+whole_read : (n : ℕ) (fields : List Entry) (s : KeptSource) → whole_source_at n fields ≡ Ok s
+    → version_in s.head.version ≡ Ok s.head.parts
 unfolding whole_source_at with_build_relations
 whole_read n fields s e =
     let head = on_ok_parts (source_at fields) _ s e in
     let depends = on_ok_parts (relation_in (value_of fields (codes "Build-Depends"))) _ s head.2 in
-    let arch_depends = on_ok_parts (relation_in (value_of fields (codes "Build-Depends-Arch"))) _ s depends.2 in
-    subst (λ (h : SourcePackage). version_in h.version ≡ Ok h.parts) (head_is head.0 n s arch_depends.2) (source_read fields head.0 head.1)
+    let arch_depends =
+    on_ok_parts (relation_in (value_of fields (codes "Build-Depends-Arch"))) _ s depends.2 in
+    subst (λ (h : SourcePackage). version_in h.version ≡ Ok h.parts)
+    (head_is head.0 n s arch_depends.2) (source_read fields head.0 head.1)
 
-kept_is : (t s : KeptSource) → ◌≡◌ {A = Result (Option KeptSource) EntryFault} (Ok (Some t)) (Ok (Some s)) → t ≡ s
+kept_is : (t s : KeptSource)
+    → ◌≡◌ {A = Result (Option KeptSource) EntryFault} (Ok (Some t)) (Ok (Some s)) → t ≡ s
 kept_is t s e = cc
 
-kept_read : (n : ℕ) (fields : List Entry) (s : KeptSource) → kept_source_at n fields ≡ Ok (Some s) → version_in s.head.version ≡ Ok s.head.parts
+kept_read : (n : ℕ) (fields : List Entry) (s : KeptSource) → kept_source_at n fields ≡ Ok (Some s)
+    → version_in s.head.version ≡ Ok s.head.parts
 unfolding kept_source_at
 kept_read n fields s e =
     elim (cases_Bool (is_extra fields)) [
-      | inl extra ↦ absurd (let bad : ◌≡◌ {A = Result (Option KeptSource) EntryFault} (Ok None) (Ok (Some s)) = sym (rw extra refl) ∙ e in cc)
+      | inl extra ↦
+          absurd (let bad : ◌≡◌ {A = Result (Option KeptSource) EntryFault} (Ok None)
+          (Ok (Some s)) = sym (rw extra refl) ∙ e in cc)
       | inr own ↦
-          let read : on_ok (whole_source_at n fields) (λ t. Ok (Some t)) ≡ Ok (Some s) = sym (rw own refl) ∙ e in
+          let read : on_ok (whole_source_at n fields) (λ t. Ok (Some t)) ≡ Ok (Some s) =
+          sym (rw own refl) ∙ e in
           let whole = on_ok_parts (whole_source_at n fields) _ (Some s) read in
-          subst (λ (t : KeptSource). version_in t.head.version ≡ Ok t.head.parts) (kept_is whole.0 s whole.2) (whole_read n fields whole.0 whole.1)
+          subst (λ (t : KeptSource). version_in t.head.version ≡ Ok t.head.parts)
+          (kept_is whole.0 s whole.2) (whole_read n fields whole.0 whole.1)
     ]
 
-found_by : {A : Type 0} (P : A → Type 0) (test : A → Bool) (xs : List A) (x : A) → AllByRecursion P xs → find test xs ≡ Some x → P x
+found_by : {A : Type 0} (P : A → Type 0) (test : A → Bool) (xs : List A) (x : A)
+    → AllByRecursion P xs → find test xs ≡ Some x → P x
 found_by P test [] x h e = absurd cc
 found_by P test (y ∷ xs) x h e =
     elim (cases_Bool (test y)) [
@@ -105,18 +137,27 @@ found_by P test (y ∷ xs) x h e =
       | inr other ↦ found_by P test xs x h.1 (sym (rw other refl) ∙ e)
     ]
 
-read_of : (r : Result Parts VersionFault) (parts : Parts) → version_or_bad r ≡ Ok parts → r ≡ Ok parts
+read_of : (r : Result Parts VersionFault) (parts : Parts) → version_or_bad r ≡ Ok parts
+    → r ≡ Ok parts
 read_of (Ok p) parts e = let same : p ≡ parts = cc in ap Ok same
 read_of (Err f) parts e = absurd cc
 
 -- the versions of the sources that are kept are versions
-pub all_read : (stanzas : List (List Entry)) (sources : List KeptSource) → sources_at stanzas ≡ Ok sources → AreRead sources
+pub all_read : (stanzas : List (List Entry)) (sources : List KeptSource)
+    → sources_at stanzas ≡ Ok sources → AreRead sources
 all_read stanzas sources kept =
-    all_over same_source lower_source kept_source_at Sources (λ (s : KeptSource). IsVersionText s.head.version)
-    (λ n fields s e. (s.head.parts, read_found s.head.version s.head.parts (read_of (reading s.head.version) s.head.parts (kept_read n fields s e))))
+    all_over same_source lower_source kept_source_at Sources (λ (s : KeptSource).
+    IsVersionText s.head.version)
+    (λ n fields s e. (
+      s.head.parts,
+      read_found s.head.version s.head.parts
+          (read_of (reading s.head.version) s.head.parts (kept_read n fields s e)),
+    ))
     0 [] stanzas sources tt kept
 
-find_listed : (name : List ℕ) (ss : List KeptSource) → find (λ (p : List ℕ × List ℕ). bytes_eq name p.0) (map listed ss) ≡ option_map listed (find (λ (s : KeptSource). bytes_eq name s.head.name) ss)
+find_listed : (name : List ℕ) (ss : List KeptSource)
+    → find (λ (p : List ℕ × List ℕ). bytes_eq name p.0) (map listed ss)
+    ≡ option_map listed (find (λ (s : KeptSource). bytes_eq name s.head.name) ss)
 find_listed name [] = refl
 find_listed name (s ∷ ss) =
     elim (cases_Bool (bytes_eq name s.head.name)) [
@@ -124,23 +165,37 @@ find_listed name (s ∷ ss) =
       | inr other ↦ rw other (find_listed name ss)
     ]
 
-known_at : (a : Contents) (name : List ℕ) (s : KeptSource) → sources_at a.source_stanzas ≡ Ok a.sources → source_named a name ≡ Some s → IsVersionKnown (opened (supply_of a)) name
+known_at : (a : Contents) (name : List ℕ) (s : KeptSource)
+    → sources_at a.source_stanzas ≡ Ok a.sources → source_named a name ≡ Some s
+    → IsVersionKnown (opened (supply_of a)) name
 known_at a name s kept named =
-    let all = all_over same_source lower_source kept_source_at Sources (λ (t : KeptSource). version_in t.head.version ≡ Ok t.head.parts) kept_read 0 [] a.source_stanzas a.sources tt kept in
-    let read = found_by (λ (t : KeptSource). version_in t.head.version ≡ Ok t.head.parts) (λ (t : KeptSource). bytes_eq name t.head.name) a.sources s all named in (
+    let all = all_over same_source lower_source kept_source_at Sources
+    (λ (t : KeptSource). version_in t.head.version ≡ Ok t.head.parts) kept_read 0 []
+    a.source_stanzas a.sources tt kept in
+    let read = found_by (λ (t : KeptSource). version_in t.head.version ≡ Ok t.head.parts)
+    (λ (t : KeptSource). bytes_eq name t.head.name) a.sources s all named in (
       s.head.version,
       s.head.parts,
-      ap (option_map (λ (p : List ℕ × List ℕ). p.1)) (find_listed name a.sources ∙ ap (option_map listed) named),
+      ap (option_map (λ (p : List ℕ × List ℕ). p.1))
+          (find_listed name a.sources ∙ ap (option_map listed) named),
       read_of (reading s.head.version) s.head.parts read,
     )
 
-pub known : (a : Contents) → sources_at a.source_stanzas ≡ Ok a.sources → (k : Key) (row : Row) → opening_row a k ≡ Some row → IsVersionKnown (opened (supply_of a)) k.source
+pub known : (a : Contents) → sources_at a.source_stanzas ≡ Ok a.sources → (k : Key) (row : Row)
+    → opening_row a k ≡ Some row → IsVersionKnown (opened (supply_of a)) k.source
 known a kept k row e = by (source_named a k.source) refl
   where
-    by : (o : Option KeptSource) → source_named a k.source ≡ o → IsVersionKnown (opened (supply_of a)) k.source
-    by None none = absurd (let bad : None ≡ Some row = sym (ap (λ (o : Option KeptSource). opening_at a o k.arch) none) ∙ e in cc)
+    by : (o : Option KeptSource) → source_named a k.source ≡ o
+        → IsVersionKnown (opened (supply_of a)) k.source
+    by None none =
+        absurd (let bad : None ≡ Some row =
+        sym (ap (λ (o : Option KeptSource). opening_at a o k.arch) none) ∙ e in cc)
     by (Some s) named = known_at a k.source s kept named
 
-pub known_rows : {R E : Type 0} (look : R → Key → Option Row) (a : Contents) (r : Result R E) → sources_at a.source_stanzas ≡ Ok a.sources → IfOk r (λ rows. (k : Key) → look rows k ≡ opening_row a k) → IfOk r (λ rows. (k : Key) (row : Row) → look rows k ≡ Some row → IsVersionKnown (opened (supply_of a)) k.source)
+pub known_rows : {R E : Type 0} (look : R → Key → Option Row) (a : Contents) (r : Result R E)
+    → sources_at a.source_stanzas ≡ Ok a.sources
+    → IfOk r (λ rows. (k : Key) → look rows k ≡ opening_row a k)
+    → IfOk r (λ rows. (k : Key) (row : Row) → look rows k ≡ Some row
+    → IsVersionKnown (opened (supply_of a)) k.source)
 known_rows look a (Ok rows) kept h = λ k row at. known a kept k row (sym (h k) ∙ at)
 known_rows look a (Err e) kept h = tt

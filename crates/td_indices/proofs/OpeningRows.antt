@@ -1,5 +1,8 @@
 -- Opening rows that are put together source by source.
-use Rattle.std.proofs.Common.{◌≡◌, ◌≢◌, ℕ, zero, suc, ◌+◌, ◌<◌, ◌≤◌, Bool, true, false, ◌&&◌, ◌||◌, nat_lt, ◌==◌, List, [], ◌∷◌, ◌++◌, Option, Some, None, option_map, length, take, drop, get_or, slice_get, add-one, if◌then◌else◌, refl, sym, ap, ◌∙◌, inl, inr, arith}
+use Rattle.std.proofs.Common.{◌≡◌, ◌≢◌, ℕ, zero, suc, ◌+◌, ◌<◌, ◌≤◌, Bool, true, false, ◌&&◌, ◌||◌}
+use Rattle.std.proofs.Common.{nat_lt, ◌==◌, List, [], ◌∷◌, ◌++◌, Option, Some, None, option_map}
+use Rattle.std.proofs.Common.{length, take, drop, get_or, slice_get, add-one, if◌then◌else◌, refl}
+use Rattle.std.proofs.Common.{sym, ap, ◌∙◌, inl, inr, arith}
 use Rattle.std.specs.List.{find, list_any}
 use Rattle.std.specs.Option.{option_map_or, option_or}
 use Rattle.std.specs.Str.{bytes_eq}
@@ -30,7 +33,8 @@ use Rattle.td_indices.proofs.OwnPlaces.{place_own}
 -- ---- 1. a row more
 
 -- the row of a key after one is put in
-pub row_of-insert : (t : Table) (k : Key) (row : Row) (q : Key) → row_of (insert_entry same_key t k row) q ≡ (if same_key q k then Some row else row_of t q)
+pub row_of-insert : (t : Table) (k : Key) (row : Row) (q : Key)
+    → row_of (insert_entry same_key t k row) q ≡ (if same_key q k then Some row else row_of t q)
 row_of-insert [] k row q = refl
 row_of-insert (p ∷ t) k row q =
     elim (cases_Bool (same_key k p.0)) [
@@ -49,7 +53,10 @@ row_of-insert (p ∷ t) k row q =
             | inl here ↦
                 let foreign : same_key q k ≡ false =
                 elim (cases_Bool (same_key q k)) [
-                  | inl bad ↦ absurd (let e : true ≡ false = sym here ∙ ap (λ (x : Key). same_key x p.0) (same_key-true q k bad) ∙ apart in cc)
+                  | inl bad ↦
+                      absurd (let e : true ≡ false =
+                      sym here ∙ ap (λ (x : Key). same_key x p.0) (same_key-true q k bad) ∙ apart in
+                      cc)
                   | inr fine ↦ fine
                 ] in
                 rw (apart, here, foreign) refl
@@ -58,24 +65,35 @@ row_of-insert (p ∷ t) k row q =
     ]
 
 -- whether a key is the one of the source and the architecture
-key_at : (table : List ArchWords) (source arch : List ℕ) (place : ℕ) (k : Key) → option_map (λ (a : ArchWords). a.name) (slice_get table place) ≡ Some arch → is_key_at table source place k ≡ (bytes_eq k.source source && bytes_eq arch k.arch)
+key_at : (table : List ArchWords) (source arch : List ℕ) (place : ℕ) (k : Key)
+    → option_map (λ (a : ArchWords). a.name) (slice_get table place) ≡ Some arch
+    → is_key_at table source place k ≡ (bytes_eq k.source source && bytes_eq arch k.arch)
 key_at table source arch place k named = by (slice_get table place) refl
   where
-    by : (o : Option ArchWords) → slice_get table place ≡ o → is_key_at table source place k ≡ (bytes_eq k.source source && bytes_eq arch k.arch)
-    by None e = absurd (let bad : None ≡ Some arch = sym (ap (option_map (λ (a : ArchWords). a.name)) e) ∙ named in cc)
+    by : (o : Option ArchWords) → slice_get table place ≡ o
+        → is_key_at table source place k ≡ (bytes_eq k.source source && bytes_eq arch k.arch)
+    by None e =
+        absurd (let bad : None ≡ Some arch =
+        sym (ap (option_map (λ (a : ArchWords). a.name)) e) ∙ named in cc)
     by (Some a) e =
-        let is : a.name ≡ arch = some_is a.name arch (sym (ap (option_map (λ (b : ArchWords). b.name)) e) ∙ named) in
-        ap (λ (o : Option ArchWords). bytes_eq k.source source && option_map_or (λ (b : ArchWords). bytes_eq b.name k.arch) o false) e
+        let is : a.name ≡ arch =
+        some_is a.name arch (sym (ap (option_map (λ (b : ArchWords). b.name)) e) ∙ named) in
+        ap (λ (o : Option ArchWords).
+        bytes_eq k.source source
+        && option_map_or (λ (b : ArchWords). bytes_eq b.name k.arch) o false) e
         ∙ ap (λ (n : List ℕ). bytes_eq k.source source && bytes_eq n k.arch) is
 
 -- it is, or it isn't
-pub key_cases : (source arch : List ℕ) (k key : Key) → key ≡ record { source = source; arch = arch } → same_key k key ≡ (bytes_eq k.source source && bytes_eq arch k.arch)
+pub key_cases : (source arch : List ℕ) (k key : Key) → key ≡ record { source = source; arch = arch }
+    → same_key k key ≡ (bytes_eq k.source source && bytes_eq arch k.arch)
 key_cases source arch k key is =
     elim (cases_Bool (same_key k key)) [
       | inl same ↦
           let at : k ≡ record { source = source; arch = arch } = same_key-true k key same ∙ is in
-          let first : bytes_eq k.source source ≡ true = (bytes_eq-Decides k.source source).1 (ap (λ (x : Key). x.source) at) in
-          let second : bytes_eq arch k.arch ≡ true = (bytes_eq-Decides arch k.arch).1 (sym (ap (λ (x : Key). x.arch) at)) in
+          let first : bytes_eq k.source source ≡ true =
+          (bytes_eq-Decides k.source source).1 (ap (λ (x : Key). x.source) at) in
+          let second : bytes_eq arch k.arch ≡ true =
+          (bytes_eq-Decides arch k.arch).1 (sym (ap (λ (x : Key). x.arch) at)) in
           same ∙ sym (and_from (bytes_eq k.source source) (bytes_eq arch k.arch) first second)
       | inr other ↦
           elim (cases_Bool (bytes_eq k.source source && bytes_eq arch k.arch)) [
@@ -84,23 +102,31 @@ key_cases source arch k key is =
                 let sources : k.source ≡ source = (bytes_eq-Decides k.source source).0 both.0 in
                 let archs : k.arch ≡ arch = sym ((bytes_eq-Decides arch k.arch).0 both.1) in
                 let at : k ≡ key = (λ i. record { source = sources i; arch = archs i }) ∙ sym is in
-                absurd (let e : true ≡ false = sym (same_key-refl k) ∙ ap (same_key k) at ∙ other in cc)
+                absurd (let e : true ≡ false = sym (same_key-refl k) ∙ ap (same_key k) at ∙ other in
+                cc)
             | inr fine ↦ other ∙ sym fine
           ]
     ]
 
 -- the rows with the one with which a key opens
-pub opened : (a : Contents) (old new : Table) (source arch : List ℕ) (place : ℕ) (key : Key) (row : Row) → option_map (λ (w : ArchWords). w.name) (slice_get a.table place) ≡ Some arch → key ≡ record { source = source; arch = arch } → Some row ≡ opening_row a key → new ≡ insert_entry same_key old key row
-    → (k : Key) → row_of new k ≡ with_opening (is_key_at a.table source place k) (opening_row a k) (row_of old k)
+pub opened : (a : Contents) (old new : Table) (source arch : List ℕ) (place : ℕ) (key : Key)
+    (row : Row) → option_map (λ (w : ArchWords). w.name) (slice_get a.table place) ≡ Some arch
+    → key ≡ record { source = source; arch = arch } → Some row ≡ opening_row a key
+    → new ≡ insert_entry same_key old key row
+    → (k : Key) → row_of new k
+    ≡ with_opening (is_key_at a.table source place k) (opening_row a k) (row_of old k)
 opened a old new source arch place key row named is opens entries k =
     ap (λ (t : Table). row_of t k) entries ∙ row_of-insert old key row k
     ∙ elim (cases_Bool (same_key k key)) [
       | inl same ↦
-          let at : is_key_at a.table source place k ≡ true = key_at a.table source arch place k named ∙ sym (key_cases source arch k key is) ∙ same in
-          let its : opening_row a k ≡ Some row = ap (opening_row a) (same_key-true k key same) ∙ sym opens in
+          let at : is_key_at a.table source place k ≡ true =
+          key_at a.table source arch place k named ∙ sym (key_cases source arch k key is) ∙ same in
+          let its : opening_row a k ≡ Some row =
+          ap (opening_row a) (same_key-true k key same) ∙ sym opens in
           rw (same, at, its) refl
       | inr other ↦
-          let past : is_key_at a.table source place k ≡ false = key_at a.table source arch place k named ∙ sym (key_cases source arch k key is) ∙ other in
+          let past : is_key_at a.table source place k ≡ false =
+          key_at a.table source arch place k named ∙ sym (key_cases source arch k key is) ∙ other in
           rw (other, past) refl
     ]
 
@@ -112,7 +138,9 @@ got (y ∷ xs) zero x at = some_is y x at
 got (y ∷ xs) (suc n) x at = got xs n x at
 
 -- the architecture at the place of a name has the name
-place_named : (table : List ArchWords) (arch : List ℕ) (place : ℕ) (w : ArchWords) → slice_get table place ≡ Some w → place_of table arch ≡ Some place → bytes_eq w.name arch ≡ true
+place_named : (table : List ArchWords) (arch : List ℕ) (place : ℕ) (w : ArchWords)
+    → slice_get table place ≡ Some w → place_of table arch ≡ Some place
+    → bytes_eq w.name arch ≡ true
 place_named table arch place w at is =
     let found = position-Some (λ (a : ArchWords). bytes_eq a.name arch) table place w is in
     ap (λ (a : ArchWords). bytes_eq a.name arch) (sym (got table place w at)) ∙ found.1
@@ -125,7 +153,8 @@ and_none : (b : Bool) → (b && false) ≡ false
 and_none true = refl
 and_none false = refl
 
--- whether a source with this Architecture field has a row at a place of the table, and before another
+-- whether a source with this Architecture field has a row at a place of the table, and before
+-- another
 abbrev before : List ArchWords → List ℕ → ℕ → Option ℕ → Bool
 before table archs place o = option_map_or (λ p. nat_lt p place && has_row table archs p) o false
 
@@ -133,61 +162,89 @@ before table archs place o = option_map_or (λ p. nat_lt p place && has_row tabl
 ltb-next : (p place : ℕ) → p ≢ place → nat_lt p (place + 1) ≡ nat_lt p place
 ltb-next p place apart = grind arith
 
-before-none : (table : List ArchWords) (archs : List ℕ) (place : ℕ) (o : Option ℕ) → o ≢ Some place → before table archs (place + 1) o ≡ before table archs place o
+before-none : (table : List ArchWords) (archs : List ℕ) (place : ℕ) (o : Option ℕ) → o ≢ Some place
+    → before table archs (place + 1) o ≡ before table archs place o
 before-none table archs place None apart = refl
-before-none table archs place (Some p) apart = ap (λ (b : Bool). b && has_row table archs p) (ltb-next p place (λ e. apart (ap Some e)))
+before-none table archs place (Some p) apart =
+    ap (λ (b : Bool). b && has_row table archs p) (ltb-next p place (λ e. apart (ap Some e)))
 
-pub before_next : (table : List ArchWords) (archs arch : List ℕ) (place : ℕ) (w : ArchWords) → IsApart table → slice_get table place ≡ Some w → has_row table archs place ≡ true → has_row_before table archs (place + 1) arch ≡ (has_row_before table archs place arch || bytes_eq w.name arch)
+pub before_next : (table : List ArchWords) (archs arch : List ℕ) (place : ℕ) (w : ArchWords)
+    → IsApart table → slice_get table place ≡ Some w → has_row table archs place ≡ true
+    → has_row_before table archs (place + 1) arch
+    ≡ (has_row_before table archs place arch || bytes_eq w.name arch)
 before_next table archs arch place w apart at has =
     let own : place_of table w.name ≡ Some place = place_own table place w apart at in
     elim (cases_Bool (bytes_eq w.name arch)) [
       | inl is ↦
-          let here : place_of table arch ≡ Some place = ap (place_of table) (sym ((bytes_eq-Decides w.name arch).0 is)) ∙ own in
-          let now : before table archs (place + 1) (Some place) ≡ true = and_from (nat_lt place (place + 1)) (has_row table archs place) (grind arith) has in
-          ap (before table archs (place + 1)) here ∙ now ∙ sym (or_right (has_row_before table archs place arch) (bytes_eq w.name arch) is)
+          let here : place_of table arch ≡ Some place =
+          ap (place_of table) (sym ((bytes_eq-Decides w.name arch).0 is)) ∙ own in
+          let now : before table archs (place + 1) (Some place) ≡ true =
+          and_from (nat_lt place (place + 1)) (has_row table archs place) (grind arith) has in
+          ap (before table archs (place + 1)) here ∙ now
+          ∙ sym (or_right (has_row_before table archs place arch) (bytes_eq w.name arch) is)
       | inr other ↦
-          let past : place_of table arch ≢ Some place = λ e. (let bad : true ≡ false = sym (place_named table arch place w at e) ∙ other in cc) in
-          before-none table archs place (place_of table arch) past ∙ sym (ap (λ (b : Bool). has_row_before table archs place arch || b) other ∙ or_none (has_row_before table archs place arch))
+          let past : place_of table arch ≢ Some place =
+          λ e. (let bad : true ≡ false = sym (place_named table arch place w at e) ∙ other in cc) in
+          before-none table archs place (place_of table arch) past
+          ∙ sym (ap (λ (b : Bool). has_row_before table archs place arch || b) other
+          ∙ or_none (has_row_before table archs place arch))
     ]
 
-pub before_past : (table : List ArchWords) (archs arch : List ℕ) (place : ℕ) → has_row table archs place ≡ false → has_row_before table archs (place + 1) arch ≡ has_row_before table archs place arch
+pub before_past : (table : List ArchWords) (archs arch : List ℕ) (place : ℕ)
+    → has_row table archs place ≡ false
+    → has_row_before table archs (place + 1) arch ≡ has_row_before table archs place arch
 before_past table archs arch place lacks = by (place_of table arch) refl
   where
-    by : (o : Option ℕ) → place_of table arch ≡ o → has_row_before table archs (place + 1) arch ≡ has_row_before table archs place arch
-    by None e = before-none table archs place (place_of table arch) (λ h. (let bad : None ≡ Some place = sym e ∙ h in cc))
+    by : (o : Option ℕ) → place_of table arch ≡ o
+        → has_row_before table archs (place + 1) arch ≡ has_row_before table archs place arch
+    by None e =
+        before-none table archs place (place_of table arch)
+        (λ h. (let bad : None ≡ Some place = sym e ∙ h in cc))
     by (Some p) e =
         elim (cases_Bool (p == place)) [
           | inl is ↦
               let at_place : place_of table arch ≡ Some place = e ∙ ap Some (eqb-true p place is) in
-              ap (before table archs (place + 1)) at_place ∙ ap (λ (b : Bool). nat_lt place (place + 1) && b) lacks ∙ and_none (nat_lt place (place + 1))
-              ∙ sym (ap (before table archs place) at_place ∙ ap (λ (b : Bool). nat_lt place place && b) lacks ∙ and_none (nat_lt place place))
-          | inr other ↦ before-none table archs place (place_of table arch) (λ h. (let same : p ≡ place = some_is p place (sym e ∙ h) in let bad : true ≡ false = sym (eq-eqb p place same) ∙ other in cc))
+              ap (before table archs (place + 1)) at_place
+              ∙ ap (λ (b : Bool). nat_lt place (place + 1) && b) lacks
+              ∙ and_none (nat_lt place (place + 1))
+              ∙ sym (ap (before table archs place) at_place
+              ∙ ap (λ (b : Bool). nat_lt place place && b) lacks ∙ and_none (nat_lt place place))
+          | inr other ↦
+              before-none table archs place (place_of table arch)
+              (λ h. (let same : p ≡ place = some_is p place (sym e ∙ h) in
+              let bad : true ≡ false = sym (eq-eqb p place same) ∙ other in cc))
         ]
 
 none_below : (p : ℕ) → nat_lt p 0 ≡ false
 none_below p = grind arith
 
 -- no place is before the first, and each before the end
-pub before_first : (table : List ArchWords) (archs arch : List ℕ) → has_row_before table archs 0 arch ≡ false
+pub before_first : (table : List ArchWords) (archs arch : List ℕ)
+    → has_row_before table archs 0 arch ≡ false
 before_first table archs arch = by (place_of table arch)
   where
     by : (o : Option ℕ) → before table archs 0 o ≡ false
     by None = refl
     by (Some p) = ap (λ (b : Bool). b && has_row table archs p) (none_below p)
 
-pub before_end : (table : List ArchWords) (archs arch : List ℕ) → has_row_before table archs (length table) arch ≡ has_row_on table archs arch
+pub before_end : (table : List ArchWords) (archs arch : List ℕ)
+    → has_row_before table archs (length table) arch ≡ has_row_on table archs arch
 before_end table archs arch = by (place_of table arch) refl
   where
-    by : (o : Option ℕ) → place_of table arch ≡ o → before table archs (length table) o ≡ option_map_or (λ p. has_row table archs p) o false
+    by : (o : Option ℕ) → place_of table arch ≡ o
+        → before table archs (length table) o ≡ option_map_or (λ p. has_row table archs p) o false
     by None e = refl
     by (Some p) e =
-        let found = position-Some (λ (a : ArchWords). bytes_eq a.name arch) table p (record { name = []; os = []; cpu = [] }) e in
+        let found = position-Some (λ (a : ArchWords). bytes_eq a.name arch) table p
+        (record { name = []; os = []; cpu = [] }) e in
         ap (λ (b : Bool). b && has_row table archs p) (lt-ltb p (length table) found.0)
 
 -- ---- 3. over places, and over sources
 
 -- what a look-up gives after rows are opened twice
-opened_twice : (b first second : Bool) (opening row : Option Row) → with_opening (b && second) opening (with_opening (b && first) opening row) ≡ with_opening (b && (first || second)) opening row
+opened_twice : (b first second : Bool) (opening row : Option Row)
+    → with_opening (b && second) opening (with_opening (b && first) opening row)
+    ≡ with_opening (b && (first || second)) opening row
 opened_twice false first second opening row = refl
 opened_twice true false second opening row = refl
 opened_twice true true false opening row = refl
@@ -195,36 +252,65 @@ opened_twice true true true None row = refl
 opened_twice true true true (Some r) row = refl
 
 -- before the first place nothing is opened
-pub opened_none : (a : Contents) (source archs : List ℕ) (k : Key) (row : Option Row) → row ≡ with_opening (bytes_eq k.source source && has_row_before a.table archs 0 k.arch) (opening_row a k) row
-opened_none a source archs k row = sym (ap (λ (b : Bool). with_opening b (opening_row a k) row) (ap (λ (b : Bool). bytes_eq k.source source && b) (before_first a.table archs k.arch) ∙ and_none (bytes_eq k.source source)))
+pub opened_none : (a : Contents) (source archs : List ℕ) (k : Key) (row : Option Row)
+    → row ≡ with_opening (bytes_eq k.source source && has_row_before a.table archs 0 k.arch)
+    (opening_row a k) row
+opened_none a source archs k row =
+    sym (ap (λ (b : Bool). with_opening b (opening_row a k) row)
+    (ap (λ (b : Bool). bytes_eq k.source source && b) (before_first a.table archs k.arch)
+    ∙ and_none (bytes_eq k.source source)))
 
 -- the rows before a place, and the one at it
-pub opened_next : (a : Contents) (old mid new : Table) (source archs : List ℕ) (place : ℕ) → IsApart a.table → place < length a.table → has_row a.table archs place ≡ true
-    → ((k : Key) → row_of mid k ≡ with_opening (bytes_eq k.source source && has_row_before a.table archs place k.arch) (opening_row a k) (row_of old k))
-    → ((k : Key) → row_of new k ≡ with_opening (is_key_at a.table source place k) (opening_row a k) (row_of mid k))
-    → (k : Key) → row_of new k ≡ with_opening (bytes_eq k.source source && has_row_before a.table archs (place + 1) k.arch) (opening_row a k) (row_of old k)
-opened_next a old mid new source archs place apart within has so_far here k = by (slice_get a.table place) refl
+pub opened_next : (a : Contents) (old mid new : Table) (source archs : List ℕ) (place : ℕ)
+    → IsApart a.table → place < length a.table → has_row a.table archs place ≡ true
+    → ((k : Key) → row_of mid k
+    ≡ with_opening (bytes_eq k.source source && has_row_before a.table archs place k.arch)
+    (opening_row a k) (row_of old k))
+    → ((k : Key) → row_of new k
+    ≡ with_opening (is_key_at a.table source place k) (opening_row a k) (row_of mid k))
+    → (k : Key) → row_of new k
+    ≡ with_opening (bytes_eq k.source source && has_row_before a.table archs (place + 1) k.arch)
+    (opening_row a k) (row_of old k)
+opened_next a old mid new source archs place apart within has so_far here k =
+    by (slice_get a.table place) refl
   where
-    by : (o : Option ArchWords) → slice_get a.table place ≡ o → row_of new k ≡ with_opening (bytes_eq k.source source && has_row_before a.table archs (place + 1) k.arch) (opening_row a k) (row_of old k)
+    by : (o : Option ArchWords) → slice_get a.table place ≡ o
+        → row_of new k ≡ with_opening
+        (bytes_eq k.source source && has_row_before a.table archs (place + 1) k.arch)
+        (opening_row a k) (row_of old k)
     by None e = absurd (slice_get-none a.table place e within)
     by (Some w) e =
-        let at : is_key_at a.table source place k ≡ (bytes_eq k.source source && bytes_eq w.name k.arch) = ap (λ (o : Option ArchWords). bytes_eq k.source source && option_map_or (λ (b : ArchWords). bytes_eq b.name k.arch) o false) e in
+        let at : is_key_at a.table source place k
+        ≡ (bytes_eq k.source source && bytes_eq w.name k.arch) =
+        ap (λ (o : Option ArchWords).
+        bytes_eq k.source source
+        && option_map_or (λ (b : ArchWords). bytes_eq b.name k.arch) o false) e in
         here k
         ∙ ap (λ (b : Bool). with_opening b (opening_row a k) (row_of mid k)) at
-        ∙ ap (with_opening (bytes_eq k.source source && bytes_eq w.name k.arch) (opening_row a k)) (so_far k)
-        ∙ opened_twice (bytes_eq k.source source) (has_row_before a.table archs place k.arch) (bytes_eq w.name k.arch) (opening_row a k) (row_of old k)
-        ∙ ap (λ (b : Bool). with_opening (bytes_eq k.source source && b) (opening_row a k) (row_of old k)) (sym (before_next a.table archs k.arch place w apart e has))
+        ∙ ap (with_opening (bytes_eq k.source source && bytes_eq w.name k.arch) (opening_row a k))
+        (so_far k)
+        ∙ opened_twice (bytes_eq k.source source) (has_row_before a.table archs place k.arch)
+        (bytes_eq w.name k.arch) (opening_row a k) (row_of old k)
+        ∙ ap (λ (b : Bool). with_opening (bytes_eq k.source source && b) (opening_row a k)
+        (row_of old k)) (sym (before_next a.table archs k.arch place w apart e has))
 
 -- at a place without a row nothing is opened
-pub opened_past : (a : Contents) (source archs : List ℕ) (place : ℕ) → has_row a.table archs place ≡ false → (k : Key) (row : Option Row)
-    → with_opening (bytes_eq k.source source && has_row_before a.table archs place k.arch) (opening_row a k) row ≡ with_opening (bytes_eq k.source source && has_row_before a.table archs (place + 1) k.arch) (opening_row a k) row
-opened_past a source archs place none k row = ap (λ (b : Bool). with_opening (bytes_eq k.source source && b) (opening_row a k) row) (sym (before_past a.table archs k.arch place none))
+pub opened_past : (a : Contents) (source archs : List ℕ) (place : ℕ)
+    → has_row a.table archs place ≡ false → (k : Key) (row : Option Row)
+    → with_opening (bytes_eq k.source source && has_row_before a.table archs place k.arch)
+    (opening_row a k) row ≡ with_opening
+    (bytes_eq k.source source && has_row_before a.table archs (place + 1) k.arch)
+    (opening_row a k) row
+opened_past a source archs place none k row =
+    ap (λ (b : Bool). with_opening (bytes_eq k.source source && b) (opening_row a k) row)
+    (sym (before_past a.table archs k.arch place none))
 
 -- whether a key's source is among sources
 abbrev pub among : List KeptSource → Key → Bool
 among sources k = list_any (λ s. bytes_eq k.source s.head.name) sources
 
-any-push : {A : Type 0} (test : A → Bool) (xs : List A) (x : A) → list_any test (xs ++ x ∷ []) ≡ (list_any test xs || test x)
+any-push : {A : Type 0} (test : A → Bool) (xs : List A) (x : A)
+    → list_any test (xs ++ x ∷ []) ≡ (list_any test xs || test x)
 any-push test [] x = or_none (test x)
 any-push test (y ∷ xs) x =
     elim (cases_Bool (test y)) [
@@ -232,7 +318,9 @@ any-push test (y ∷ xs) x =
       | inr other ↦ rw other (any-push test xs x)
     ]
 
-find-first : {A : Type 0} (test : A → Bool) (xs : List A) (n : ℕ) (x : A) → list_any test (take n xs) ≡ false → slice_get xs n ≡ Some x → test x ≡ true → find test xs ≡ Some x
+find-first : {A : Type 0} (test : A → Bool) (xs : List A) (n : ℕ) (x : A)
+    → list_any test (take n xs) ≡ false → slice_get xs n ≡ Some x → test x ≡ true
+    → find test xs ≡ Some x
 find-first test [] n x none at is = absurd (let bad : None ≡ Some x = at in cc)
 find-first test (y ∷ xs) zero x none at is =
     let same : y ≡ x = some_is y x at in
@@ -244,7 +332,8 @@ find-first test (y ∷ xs) (suc n) x none at is =
       | inr other ↦ rw other (find-first test xs n x (sym (rw other refl) ∙ none) at is)
     ]
 
-find-none : {A : Type 0} (test : A → Bool) (xs : List A) → list_any test xs ≡ false → find test xs ≡ None
+find-none : {A : Type 0} (test : A → Bool) (xs : List A) → list_any test xs ≡ false
+    → find test xs ≡ None
 find-none test [] none = refl
 find-none test (y ∷ xs) none =
     elim (cases_Bool (test y)) [
@@ -265,34 +354,54 @@ opened_new None = refl
 opened_new (Some r) = refl
 
 -- the rows of the sources before one, and its own
-pub source_opened : (a : Contents) (old new : Table) (n : ℕ) (s : KeptSource) → slice_get a.sources n ≡ Some s
+pub source_opened : (a : Contents) (old new : Table) (n : ℕ) (s : KeptSource)
+    → slice_get a.sources n ≡ Some s
     → ((k : Key) → row_of old k ≡ row_so_far a (take n a.sources) k)
-    → ((k : Key) → row_of new k ≡ with_opening (bytes_eq k.source s.head.name && has_row_on a.table s.head.archs k.arch) (opening_row a k) (row_of old k))
+    → ((k : Key) → row_of new k
+    ≡ with_opening (bytes_eq k.source s.head.name && has_row_on a.table s.head.archs k.arch)
+    (opening_row a k) (row_of old k))
     → (k : Key) → row_of new k ≡ row_so_far a (take (n + 1) a.sources) k
 source_opened a old new n s at so_far here k =
-    let more : among (take (n + 1) a.sources) k ≡ (among (take n a.sources) k || bytes_eq k.source s.head.name) = ap (λ (l : List KeptSource). among l k) (take-next a.sources n s at) ∙ any-push (λ (t : KeptSource). bytes_eq k.source t.head.name) (take n a.sources) s in
+    let more : among (take (n + 1) a.sources) k
+    ≡ (among (take n a.sources) k || bytes_eq k.source s.head.name) =
+    ap (λ (l : List KeptSource). among l k) (take-next a.sources n s at)
+    ∙ any-push (λ (t : KeptSource). bytes_eq k.source t.head.name) (take n a.sources) s in
     let old_row = so_far k in
     here k ∙ elim (cases_Bool (bytes_eq k.source s.head.name)) [
       | inl own ↦ elim (cases_Bool (among (take n a.sources) k)) [
         | inl seen ↦
-            let was : row_of old k ≡ opening_row a k = old_row ∙ ap (λ (b : Bool). if b then opening_row a k else None) seen in
-            let now : among (take (n + 1) a.sources) k ≡ true = more ∙ ap (λ (b : Bool). b || bytes_eq k.source s.head.name) seen in
-            ap (with_opening (bytes_eq k.source s.head.name && has_row_on a.table s.head.archs k.arch) (opening_row a k)) was
+            let was : row_of old k ≡ opening_row a k =
+            old_row ∙ ap (λ (b : Bool). if b then opening_row a k else None) seen in
+            let now : among (take (n + 1) a.sources) k ≡ true =
+            more ∙ ap (λ (b : Bool). b || bytes_eq k.source s.head.name) seen in
+            ap (with_opening (bytes_eq k.source s.head.name
+            && has_row_on a.table s.head.archs k.arch) (opening_row a k)) was
             ∙ either (bytes_eq k.source s.head.name && has_row_on a.table s.head.archs k.arch)
             ∙ sym (ap (λ (b : Bool). if b then opening_row a k else None) now)
         | inr new_one ↦
-            let was : row_of old k ≡ None = old_row ∙ ap (λ (b : Bool). if b then opening_row a k else None) new_one in
-            let now : among (take (n + 1) a.sources) k ≡ true = more ∙ or_right (among (take n a.sources) k) (bytes_eq k.source s.head.name) own in
-            let named : source_named a k.source ≡ Some s = find-first (λ (t : KeptSource). bytes_eq k.source t.head.name) a.sources n s new_one at own in
-            let opens : opening_row a k ≡ opening_on a s (place_of a.table k.arch) = ap (λ (o : Option KeptSource). opening_at a o k.arch) named in
-            ap (with_opening (bytes_eq k.source s.head.name && has_row_on a.table s.head.archs k.arch) (opening_row a k)) was
-            ∙ ap (λ (b : Bool). with_opening (b && has_row_on a.table s.head.archs k.arch) (opening_row a k) None) own
-            ∙ fresh (has_row_on a.table s.head.archs k.arch) (place_of a.table k.arch) refl refl opens
+            let was : row_of old k ≡ None =
+            old_row ∙ ap (λ (b : Bool). if b then opening_row a k else None) new_one in
+            let now : among (take (n + 1) a.sources) k ≡ true =
+            more ∙ or_right (among (take n a.sources) k) (bytes_eq k.source s.head.name) own in
+            let named : source_named a k.source ≡ Some s =
+            find-first (λ (t : KeptSource). bytes_eq k.source t.head.name) a.sources n s new_one at
+            own in
+            let opens : opening_row a k ≡ opening_on a s (place_of a.table k.arch) =
+            ap (λ (o : Option KeptSource). opening_at a o k.arch) named in
+            ap (with_opening (bytes_eq k.source s.head.name
+            && has_row_on a.table s.head.archs k.arch) (opening_row a k)) was
+            ∙ ap (λ (b : Bool). with_opening (b && has_row_on a.table s.head.archs k.arch)
+            (opening_row a k) None) own
+            ∙ fresh (has_row_on a.table s.head.archs k.arch) (place_of a.table k.arch) refl refl
+            opens
             ∙ sym (ap (λ (b : Bool). if b then opening_row a k else None) now)
       ]
       | inr foreign ↦
-          let same : among (take (n + 1) a.sources) k ≡ among (take n a.sources) k = more ∙ ap (λ (b : Bool). among (take n a.sources) k || b) foreign ∙ or_none (among (take n a.sources) k) in
-          ap (λ (b : Bool). with_opening (b && has_row_on a.table s.head.archs k.arch) (opening_row a k) (row_of old k)) foreign
+          let same : among (take (n + 1) a.sources) k ≡ among (take n a.sources) k =
+          more ∙ ap (λ (b : Bool). among (take n a.sources) k || b) foreign
+          ∙ or_none (among (take n a.sources) k) in
+          ap (λ (b : Bool). with_opening (b && has_row_on a.table s.head.archs k.arch)
+          (opening_row a k) (row_of old k)) foreign
           ∙ old_row ∙ sym (ap (λ (b : Bool). if b then opening_row a k else None) same)
     ]
   where
@@ -300,44 +409,65 @@ source_opened a old new n s at so_far here k =
     either true = opened_again (opening_row a k)
     either false = refl
 
-    without : (o : Option ℕ) → option_map_or (λ p. has_row a.table s.head.archs p) o false ≡ false → opening_on a s o ≡ None
+    without : (o : Option ℕ) → option_map_or (λ p. has_row a.table s.head.archs p) o false ≡ false
+        → opening_on a s o ≡ None
     without None e = refl
     without (Some p) e = rw e refl
 
-    fresh : (b : Bool) (o : Option ℕ) → has_row_on a.table s.head.archs k.arch ≡ b → place_of a.table k.arch ≡ o → opening_row a k ≡ opening_on a s (place_of a.table k.arch) → with_opening b (opening_row a k) None ≡ opening_row a k
+    fresh : (b : Bool) (o : Option ℕ) → has_row_on a.table s.head.archs k.arch ≡ b
+        → place_of a.table k.arch ≡ o → opening_row a k ≡ opening_on a s (place_of a.table k.arch)
+        → with_opening b (opening_row a k) None ≡ opening_row a k
     fresh true o has at_place opens = opened_new (opening_row a k)
     fresh false o has at_place opens = sym (opens ∙ without (place_of a.table k.arch) has)
 
 -- all sources are gone over
-pub all_opened : (a : Contents) (rows : Table) (n : ℕ) → length a.sources ≤ n → ((k : Key) → row_of rows k ≡ row_so_far a (take n a.sources) k) → (k : Key) → row_of rows k ≡ opening_row a k
+pub all_opened : (a : Contents) (rows : Table) (n : ℕ) → length a.sources ≤ n
+    → ((k : Key) → row_of rows k ≡ row_so_far a (take n a.sources) k) → (k : Key)
+    → row_of rows k ≡ opening_row a k
 all_opened a rows n past so_far k =
     so_far k ∙ ap (λ (l : List KeptSource). row_so_far a l k) (take_all n a.sources past)
     ∙ elim (cases_Bool (among a.sources k)) [
       | inl seen ↦ ap (λ (b : Bool). if b then opening_row a k else None) seen
       | inr none ↦
           ap (λ (b : Bool). if b then opening_row a k else None) none
-          ∙ sym (ap (λ (o : Option KeptSource). opening_at a o k.arch) (find-none (λ (t : KeptSource). bytes_eq k.source t.head.name) a.sources none))
+          ∙ sym (ap (λ (o : Option KeptSource). opening_at a o k.arch)
+          (find-none (λ (t : KeptSource). bytes_eq k.source t.head.name) a.sources none))
     ]
 
 -- how many rows there are before the next place
-pub rows_next : (table : List ArchWords) (archs : List ℕ) (place : ℕ) → has_row table archs place ≡ true → rows_before table archs (place + 1) ≡ rows_before table archs place + 1
-rows_next table archs place has = rw add-one (ap (λ (b : Bool). rows_before table archs place + (if b then 1 else 0)) has)
+pub rows_next : (table : List ArchWords) (archs : List ℕ) (place : ℕ)
+    → has_row table archs place ≡ true
+    → rows_before table archs (place + 1) ≡ rows_before table archs place + 1
+rows_next table archs place has =
+    rw add-one (ap (λ (b : Bool). rows_before table archs place + (if b then 1 else 0)) has)
 
-pub rows_past : (table : List ArchWords) (archs : List ℕ) (place : ℕ) → has_row table archs place ≡ false → rows_before table archs (place + 1) ≡ rows_before table archs place
-rows_past table archs place none = rw add-one (ap (λ (b : Bool). rows_before table archs place + (if b then 1 else 0)) none ∙ omega arith)
+pub rows_past : (table : List ArchWords) (archs : List ℕ) (place : ℕ)
+    → has_row table archs place ≡ false
+    → rows_before table archs (place + 1) ≡ rows_before table archs place
+rows_past table archs place none =
+    rw add-one
+    (ap (λ (b : Bool). rows_before table archs place + (if b then 1 else 0)) none ∙ omega arith)
 
 -- ---- 4. the source with a number
 
-pub source_shown : (x : Source) (o : Option KeptSource) → Some (seen_source x) ≡ option_map shown_source o → (s : KeptSource) × (o ≡ Some s) × (x.name.now ≡ s.head.name) × (x.archs.now ≡ s.head.archs)
+pub source_shown : (x : Source) (o : Option KeptSource)
+    → Some (seen_source x) ≡ option_map shown_source o
+    → (s : KeptSource) × (o ≡ Some s) × (x.name.now ≡ s.head.name) × (x.archs.now ≡ s.head.archs)
 source_shown x None e = absurd cc
 source_shown x (Some s) e =
     let same : seen_source x ≡ shown_source s = some_is (seen_source x) (shown_source s) e in
     (s, refl, ap (λ (t : SourceSeen). t.head.name) same, ap (λ (t : SourceSeen). t.head.archs) same)
 
-pub none_shown : (o : Option KeptSource) → ◌≡◌ {A = Option SourceSeen} None (option_map shown_source o) → o ≡ None
+pub none_shown : (o : Option KeptSource)
+    → ◌≡◌ {A = Option SourceSeen} None (option_map shown_source o) → o ≡ None
 none_shown None e = refl
 none_shown (Some s) e = absurd cc
 
 -- how many rows are left
-pub rows_left : (table : List ArchWords) (sources : List KeptSource) (n : ℕ) (s : KeptSource) → slice_get sources n ≡ Some s → row_count table (drop n sources) ≡ rows_before table s.head.archs (length table) + row_count table (drop (n + 1) sources)
-rows_left table sources n s at = ap (row_count table) (drop-next sources n s at) ∙ sum_by-cons (rows_of table) s (drop (n + 1) sources)
+pub rows_left : (table : List ArchWords) (sources : List KeptSource) (n : ℕ) (s : KeptSource)
+    → slice_get sources n ≡ Some s
+    → row_count table (drop n sources)
+    ≡ rows_before table s.head.archs (length table) + row_count table (drop (n + 1) sources)
+rows_left table sources n s at =
+    ap (row_count table) (drop-next sources n s at)
+    ∙ sum_by-cons (rows_of table) s (drop (n + 1) sources)

@@ -6,7 +6,8 @@ use Rattle.td_version.proofs.Rebuilds.{found_some, found_none}
 use Rattle.td_indices.specs.Opening.{rebuild_number}
 
 -- what is the rebuild of a text is the one found
-pub rebuild_number-is : (text : List ℕ) (n : ℕ) → ((base : List ℕ) (m : ℕ) → IsRebuild text base m → n ≡ m) → n ≡ rebuild_number text
+pub rebuild_number-is : (text : List ℕ) (n : ℕ)
+    → ((base : List ℕ) (m : ℕ) → IsRebuild text base m → n ≡ m) → n ≡ rebuild_number text
 rebuild_number-is text n only = by (rebuild_at text) refl
   where
     by : (o : Option (List ℕ × ℕ)) → rebuild_at text ≡ o → n ≡ rebuild_number text

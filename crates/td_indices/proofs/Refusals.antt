@@ -1,5 +1,6 @@
 -- Two texts have one fault, and none where they are an archive.
-use Rattle.std.proofs.Common.{◌≡◌, ◌≢◌, ◌⊎◌, ℕ, ◌<◌, ◌≤◌, true, false, List, Result, Ok, Err, nat_lt, if◌then◌else◌, refl, sym, ap, ◌∙◌, inl, inr, arith}
+use Rattle.std.proofs.Common.{◌≡◌, ◌≢◌, ◌⊎◌, ℕ, ◌<◌, ◌≤◌, true, false, List, Result, Ok, Err}
+use Rattle.std.proofs.Common.{nat_lt, if◌then◌else◌, refl, sym, ap, ◌∙◌, inl, inr, arith}
 use Rattle.std.specs.Prelude.{IfOk, IfErr}
 use Rattle.std.proofs.lemmas.Bool.{lt-ltb}
 use Rattle.td_text.specs.Lines.{on_ok}
@@ -11,16 +12,24 @@ use Rattle.td_stanza.proofs.Laws.{fault_same, stanzas_fine}
 use Rattle.td_stanza.proofs.Shapes.{stanzas_same}
 use Rattle.td_relation.specs.Arch.{ArchWords}
 use Rattle.td_indices.specs.declared.archive_fault.ArchiveFault.{ArchiveFault}
-use Rattle.td_indices.specs.declared.archive_fault.ArchiveFault.TheVariants.{Stanza, MissingField, BadVersion, BadRelation, TooManyRows, NoMemory}
+use Rattle.td_indices.specs.declared.archive_fault.ArchiveFault.TheVariants.{Stanza, MissingField}
+use Rattle.td_indices.specs.declared.archive_fault.ArchiveFault.TheVariants.{BadVersion}
+use Rattle.td_indices.specs.declared.archive_fault.ArchiveFault.TheVariants.{BadRelation}
+use Rattle.td_indices.specs.declared.archive_fault.ArchiveFault.TheVariants.{TooManyRows, NoMemory}
 use Rattle.td_indices.specs.declared.archive_fault.IndexFile.TheVariants.{Packages, Sources}
-use Rattle.td_indices.specs.Archive.{Contents, FaultOf, HasTooManyRows, IsArchive, IsRefusedFor, IsStanzaFault}
+use Rattle.td_indices.specs.Archive.{Contents, FaultOf, HasTooManyRows, IsArchive, IsRefusedFor}
+use Rattle.td_indices.specs.Archive.{IsStanzaFault}
 use Rattle.td_indices.specs.Reading.{binaries_at, sources_at}
 use Rattle.td_indices.specs.Rows.{row_count}
 use Rattle.td_indices.specs.Sources.{KeptSource}
 
 -- what becomes of the stanzas of both texts
-outcome : List ArchWords → List (List Entry) → List (List Entry) → Result (List KeptSource) ArchiveFault
-outcome table ps ss = on_ok (binaries_at table ps) (λ bs. on_ok (sources_at ss) (λ ks. if nat_lt 1048576 (row_count table ks) then Err TooManyRows else Ok ks))
+outcome : List ArchWords → List (List Entry) → List (List Entry)
+    → Result (List KeptSource) ArchiveFault
+outcome table ps ss =
+    on_ok (binaries_at table ps)
+    (λ bs. on_ok (sources_at ss)
+    (λ ks. if nat_lt 1048576 (row_count table ks) then Err TooManyRows else Ok ks))
 
 not_beyond : (n : ℕ) → n ≤ 1048576 → nat_lt 1048576 n ≡ false
 not_beyond n h = grind arith
@@ -64,7 +73,8 @@ module _ (table : List ArchWords) (pl sl : List (List ℕ)) where
   many : HasTooManyRows table pl sl → Seen TooManyRows
   unfolding outcome
   many h =
-      let beyond : nat_lt 1048576 (row_count table h.contents.sources) ≡ true = lt-ltb 1048576 (row_count table h.contents.sources) h.beyond in
+      let beyond : nat_lt 1048576 (row_count table h.contents.sources) ≡ true =
+      lt-ltb 1048576 (row_count table h.contents.sources) h.beyond in
       inr (inr (record {
         packages = h.contents.packages;
         sources = h.contents.source_stanzas;
@@ -75,7 +85,8 @@ module _ (table : List ArchWords) (pl sl : List (List ℕ)) where
 
   see : (e : ArchiveFault) → e ≢ NoMemory → FaultOf table pl sl e → Seen e
   see (Stanza Packages fault) n h = inl (record { fault = fault; has = h; is = refl })
-  see (Stanza Sources fault) n h = inr (inl (record { packages = h.0; are = h.1; fault = fault; has = h.2; is = refl }))
+  see (Stanza Sources fault) n h =
+      inr (inl (record { packages = h.0; are = h.1; fault = fault; has = h.2; is = refl }))
   see (MissingField file number field) n h = whole (MissingField file number field) h
   see (BadVersion file number) n h = whole (BadVersion file number) h
   see (BadRelation file number) n h = whole (BadRelation file number) h
@@ -84,20 +95,28 @@ module _ (table : List ArchWords) (pl sl : List (List ℕ)) where
 
   one_whole : (e d : ArchiveFault) → Whole e → Whole d → e ≡ d
   one_whole e d x y =
-      let ps : x.packages ≡ y.packages = stanzas_same x.packages y.packages pl x.packages_are y.packages_are in
-      let ss : x.sources ≡ y.sources = stanzas_same x.sources y.sources sl x.sources_are y.sources_are in
-      let same : ◌≡◌ {A = Result (List KeptSource) ArchiveFault} (Err e) (Err d) = sym x.gives ∙ ap (λ (l : List (List Entry)). outcome table l x.sources) ps ∙ ap (outcome table y.packages) ss ∙ y.gives in
+      let ps : x.packages ≡ y.packages =
+      stanzas_same x.packages y.packages pl x.packages_are y.packages_are in
+      let ss : x.sources ≡ y.sources =
+      stanzas_same x.sources y.sources sl x.sources_are y.sources_are in
+      let same : ◌≡◌ {A = Result (List KeptSource) ArchiveFault} (Err e) (Err d) =
+      sym x.gives ∙ ap (λ (l : List (List Entry)). outcome table l x.sources) ps
+      ∙ ap (outcome table y.packages) ss ∙ y.gives in
       cc
 
   one : (e d : ArchiveFault) → Seen e → Seen d → e ≡ d
-  one e d (inl x) (inl y) = x.is ∙ ap (Stanza Packages) (fault_same x.fault y.fault pl x.has y.has) ∙ sym y.is
+  one e d (inl x) (inl y) =
+      x.is ∙ ap (Stanza Packages) (fault_same x.fault y.fault pl x.has y.has) ∙ sym y.is
   one e d (inl x) (inr (inl y)) = absurd (stanzas_fine y.packages x.fault pl y.are x.has)
   one e d (inl x) (inr (inr y)) = absurd (stanzas_fine y.packages x.fault pl y.packages_are x.has)
   one e d (inr (inl x)) (inl y) = absurd (stanzas_fine x.packages y.fault pl x.are y.has)
-  one e d (inr (inl x)) (inr (inl y)) = x.is ∙ ap (Stanza Sources) (fault_same x.fault y.fault sl x.has y.has) ∙ sym y.is
-  one e d (inr (inl x)) (inr (inr y)) = absurd (stanzas_fine y.sources x.fault sl y.sources_are x.has)
+  one e d (inr (inl x)) (inr (inl y)) =
+      x.is ∙ ap (Stanza Sources) (fault_same x.fault y.fault sl x.has y.has) ∙ sym y.is
+  one e d (inr (inl x)) (inr (inr y)) =
+      absurd (stanzas_fine y.sources x.fault sl y.sources_are x.has)
   one e d (inr (inr x)) (inl y) = absurd (stanzas_fine x.packages y.fault pl x.packages_are y.has)
-  one e d (inr (inr x)) (inr (inl y)) = absurd (stanzas_fine x.sources y.fault sl x.sources_are y.has)
+  one e d (inr (inr x)) (inr (inl y)) =
+      absurd (stanzas_fine x.sources y.fault sl x.sources_are y.has)
   one e d (inr (inr x)) (inr (inr y)) = one_whole e d x y
 
   no_fault : (a : Contents) → IsArchive table pl sl a → (e : ArchiveFault) → Seen e → ⊥
@@ -105,18 +124,34 @@ module _ (table : List ArchWords) (pl sl : List (List ℕ)) where
   no_fault a h e (inl x) = stanzas_fine a.packages x.fault pl h.package_stanzas x.has
   no_fault a h e (inr (inl x)) = stanzas_fine a.source_stanzas x.fault sl h.source_stanzas x.has
   no_fault a h e (inr (inr x)) =
-      let within : nat_lt 1048576 (row_count table a.sources) ≡ false = not_beyond (row_count table a.sources) h.limited in
-      let gives : outcome table a.packages a.source_stanzas ≡ Ok a.sources = rw (h.binaries, h.sources, within) refl in
-      let ps : a.packages ≡ x.packages = stanzas_same a.packages x.packages pl h.package_stanzas x.packages_are in
-      let ss : a.source_stanzas ≡ x.sources = stanzas_same a.source_stanzas x.sources sl h.source_stanzas x.sources_are in
-      let same : ◌≡◌ {A = Result (List KeptSource) ArchiveFault} (Ok a.sources) (Err e) = sym gives ∙ ap (λ (l : List (List Entry)). outcome table l a.source_stanzas) ps ∙ ap (outcome table x.packages) ss ∙ x.gives in
+      let within : nat_lt 1048576 (row_count table a.sources) ≡ false =
+      not_beyond (row_count table a.sources) h.limited in
+      let gives : outcome table a.packages a.source_stanzas ≡ Ok a.sources =
+      rw (h.binaries, h.sources, within) refl in
+      let ps : a.packages ≡ x.packages =
+      stanzas_same a.packages x.packages pl h.package_stanzas x.packages_are in
+      let ss : a.source_stanzas ≡ x.sources =
+      stanzas_same a.source_stanzas x.sources sl h.source_stanzas x.sources_are in
+      let same : ◌≡◌ {A = Result (List KeptSource) ArchiveFault} (Ok a.sources) (Err e) =
+      sym gives ∙ ap (λ (l : List (List Entry)). outcome table l a.source_stanzas) ps
+      ∙ ap (outcome table x.packages) ss ∙ x.gives in
       cc
 
-  pub refused : (r : Result Contents ArchiveFault) → IfOk r (IsArchive table pl sl) → IfErr r (FaultOf table pl sl) → (fault : ArchiveFault) → fault ≢ NoMemory → FaultOf table pl sl fault → IsRefusedFor fault r
+  pub refused : (r : Result Contents ArchiveFault) → IfOk r (IsArchive table pl sl)
+      → IfErr r (FaultOf table pl sl) → (fault : ArchiveFault) → fault ≢ NoMemory
+      → FaultOf table pl sl fault → IsRefusedFor fault r
   refused (Ok a) h k fault n f = no_fault a h fault (see fault n f)
-  refused (Err (Stanza file g)) h k fault n f = inr (one (Stanza file g) fault (see (Stanza file g) (λ e. cc) k) (see fault n f))
-  refused (Err (MissingField file number field)) h k fault n f = inr (one (MissingField file number field) fault (see (MissingField file number field) (λ e. cc) k) (see fault n f))
-  refused (Err (BadVersion file number)) h k fault n f = inr (one (BadVersion file number) fault (see (BadVersion file number) (λ e. cc) k) (see fault n f))
-  refused (Err (BadRelation file number)) h k fault n f = inr (one (BadRelation file number) fault (see (BadRelation file number) (λ e. cc) k) (see fault n f))
-  refused (Err TooManyRows) h k fault n f = inr (one TooManyRows fault (see TooManyRows (λ e. cc) k) (see fault n f))
+  refused (Err (Stanza file g)) h k fault n f =
+      inr (one (Stanza file g) fault (see (Stanza file g) (λ e. cc) k) (see fault n f))
+  refused (Err (MissingField file number field)) h k fault n f =
+      inr (one (MissingField file number field) fault
+      (see (MissingField file number field) (λ e. cc) k) (see fault n f))
+  refused (Err (BadVersion file number)) h k fault n f =
+      inr (one (BadVersion file number) fault (see (BadVersion file number) (λ e. cc) k)
+      (see fault n f))
+  refused (Err (BadRelation file number)) h k fault n f =
+      inr (one (BadRelation file number) fault (see (BadRelation file number) (λ e. cc) k)
+      (see fault n f))
+  refused (Err TooManyRows) h k fault n f =
+      inr (one TooManyRows fault (see TooManyRows (λ e. cc) k) (see fault n f))
   refused (Err NoMemory) h k fault n f = inl refl

@@ -1,5 +1,6 @@
 -- Words that match, and rows counted source by source.
-use Rattle.std.proofs.Common.{◌≡◌, ℕ, ◌+◌, Bool, ◌&&◌, ◌||◌, List, [], ◌∷◌, Some, drop, filter, slice_get, option_map, refl, ap, ◌∙◌, inl, inr, arith}
+use Rattle.std.proofs.Common.{◌≡◌, ℕ, ◌+◌, Bool, ◌&&◌, ◌||◌, List, [], ◌∷◌, Some, drop, filter}
+use Rattle.std.proofs.Common.{slice_get, option_map, refl, ap, ◌∙◌, inl, inr, arith}
 use Rattle.std.specs.Borrow.{Bor}
 use Rattle.std.specs.List.{list_any}
 use Rattle.std.proofs.lemmas.Bool.{cases_Bool}
@@ -10,7 +11,8 @@ use Rattle.td_indices.specs.declared.sourced.Sourced.{Sourced}
 use Rattle.td_indices.specs.Rows.{rows_of, row_count}
 use Rattle.td_indices.specs.Sources.{source_of, sources_of}
 
-pub any-filter : {A : Type 0} (keep test : A → Bool) (xs : List A) → list_any (λ x. keep x && test x) xs ≡ list_any test (filter keep xs)
+pub any-filter : {A : Type 0} (keep test : A → Bool) (xs : List A)
+    → list_any (λ x. keep x && test x) xs ≡ list_any test (filter keep xs)
 any-filter keep test [] = refl
 any-filter keep test (x ∷ xs) =
     elim (cases_Bool (keep x)) [
@@ -19,11 +21,21 @@ any-filter keep test (x ∷ xs) =
     ]
 
 -- the sources that are left, from the one with a number on
-pub sources_left : (es : List (Bor (List ℕ) × Sourced)) (n : ℕ) (p : Bor (List ℕ) × Sourced) → slice_get es n ≡ Some p → drop n (sources_of es) ≡ source_of p ∷ drop (n + 1) (sources_of es)
-sources_left es n p at = drop-next (sources_of es) n (source_of p) (slice_get-map source_of es n ∙ ap (option_map source_of) at)
+pub sources_left : (es : List (Bor (List ℕ) × Sourced)) (n : ℕ) (p : Bor (List ℕ) × Sourced)
+    → slice_get es n ≡ Some p → drop n (sources_of es) ≡ source_of p ∷ drop (n + 1) (sources_of es)
+sources_left es n p at =
+    drop-next (sources_of es) n (source_of p)
+    (slice_get-map source_of es n ∙ ap (option_map source_of) at)
 
 -- the rows with those of one source more
-pub rows_counted : (table : List ArchWords) (es : List (Bor (List ℕ) × Sourced)) (n rows own : ℕ) (p : Bor (List ℕ) × Sourced) → slice_get es n ≡ Some p → own ≡ rows_of table (source_of p) → rows + row_count table (drop n (sources_of es)) ≡ row_count table (sources_of es) → (rows + own) + row_count table (drop (n + 1) (sources_of es)) ≡ row_count table (sources_of es)
+pub rows_counted : (table : List ArchWords) (es : List (Bor (List ℕ) × Sourced)) (n rows own : ℕ)
+    (p : Bor (List ℕ) × Sourced) → slice_get es n ≡ Some p → own ≡ rows_of table (source_of p)
+    → rows + row_count table (drop n (sources_of es)) ≡ row_count table (sources_of es)
+    → (rows + own) + row_count table (drop (n + 1) (sources_of es))
+    ≡ row_count table (sources_of es)
 rows_counted table es n rows own p at is h =
-    let left : row_count table (drop n (sources_of es)) ≡ rows_of table (source_of p) + row_count table (drop (n + 1) (sources_of es)) = ap (row_count table) (sources_left es n p at) ∙ sum_by-cons (rows_of table) (source_of p) (drop (n + 1) (sources_of es)) in
+    let left : row_count table (drop n (sources_of es))
+    ≡ rows_of table (source_of p) + row_count table (drop (n + 1) (sources_of es)) =
+    ap (row_count table) (sources_left es n p at)
+    ∙ sum_by-cons (rows_of table) (source_of p) (drop (n + 1) (sources_of es)) in
     omega arith

@@ -13,7 +13,9 @@ use Rattle.td_indices.specs.Sources.{KeptSource, source_of, sources_of}
 abbrev pub is_name_of : List ℕ → Bor (List ℕ) → Bool
 is_name_of name k = bytes_eq name k.now
 
-pub found_source : (name : List ℕ) (es : List (Bor (List ℕ) × Sourced)) (k : Bor (List ℕ)) (v : Sourced) → lookup_key (is_name_of name) es ≡ Some k → lookup (is_name_of name) es ≡ Some v → find (λ (s : KeptSource). bytes_eq name s.head.name) (sources_of es) ≡ Some (source_of (k, v))
+pub found_source : (name : List ℕ) (es : List (Bor (List ℕ) × Sourced)) (k : Bor (List ℕ))
+    (v : Sourced) → lookup_key (is_name_of name) es ≡ Some k → lookup (is_name_of name) es ≡ Some v
+    → find (λ (s : KeptSource). bytes_eq name s.head.name) (sources_of es) ≡ Some (source_of (k, v))
 found_source name [] k v key value = absurd cc
 found_source name (e ∷ es) k v key value =
     elim (cases_Bool (bytes_eq name e.0.now)) [
@@ -21,10 +23,14 @@ found_source name (e ∷ es) k v key value =
           let a : e.0 ≡ k = some_is e.0 k (sym (rw is refl) ∙ key) in
           let b : e.1 ≡ v = some_is e.1 v (sym (rw is refl) ∙ value) in
           rw is (λ i. Some (source_of (a i, b i)))
-      | inr other ↦ rw other (found_source name es k v (sym (rw other refl) ∙ key) (sym (rw other refl) ∙ value))
+      | inr other ↦
+          rw other
+          (found_source name es k v (sym (rw other refl) ∙ key) (sym (rw other refl) ∙ value))
     ]
 
-pub no_source : (name : List ℕ) (es : List (Bor (List ℕ) × Sourced)) → lookup (is_name_of name) es ≡ None → find (λ (s : KeptSource). bytes_eq name s.head.name) (sources_of es) ≡ None
+pub no_source : (name : List ℕ) (es : List (Bor (List ℕ) × Sourced))
+    → lookup (is_name_of name) es ≡ None
+    → find (λ (s : KeptSource). bytes_eq name s.head.name) (sources_of es) ≡ None
 no_source name [] gone = refl
 no_source name (e ∷ es) gone =
     elim (cases_Bool (bytes_eq name e.0.now)) [

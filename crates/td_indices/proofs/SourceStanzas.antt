@@ -1,5 +1,6 @@
 -- Stanzas are kept as packages and as sources exactly where they are.
-use Rattle.std.proofs.Common.{◌≡◌, ◌≢◌, ℕ, Bool, true, false, cond, List, Option, Some, None, Result, Ok, refl, sym, ap, subst, ◌∙◌, inl, inr}
+use Rattle.std.proofs.Common.{◌≡◌, ◌≢◌, ℕ, Bool, true, false, cond, List, Option, Some, None}
+use Rattle.std.proofs.Common.{Result, Ok, refl, sym, ap, subst, ◌∙◌, inl, inr}
 use Rattle.std.specs.Prelude.{codes}
 use Rattle.std.specs.Str.{bytes_eq}
 use Rattle.std.specs.Option.{option_map_or}
@@ -10,33 +11,45 @@ use Rattle.td_text.proofs.Chain.{ok_is, on_ok_parts, some_is}
 use Rattle.td_stanza.specs.Field.{Entry}
 use Rattle.td_relation.specs.Arch.{ArchWords}
 use Rattle.td_indices.specs.declared.archive_fault.EntryFault.{EntryFault}
-use Rattle.td_indices.specs.declared.archive_fault.IndexField.TheVariants.{Package, Version, Architecture}
+use Rattle.td_indices.specs.declared.archive_fault.IndexField.TheVariants.{Package, Version}
+use Rattle.td_indices.specs.declared.archive_fault.IndexField.TheVariants.{Architecture}
 use Rattle.td_indices.specs.Binaries.{BinaryPackage, package_at}
 use Rattle.td_indices.specs.Fields.{name_in, needed, relation_in, value_of, version_in}
 use Rattle.td_indices.specs.Kept.{KeptBinary, binary_at, provides_at, with_relations}
 use Rattle.td_indices.specs.PackageStanzas.{IsKeptPackage, KeptPackagesAreExact}
 use Rattle.td_indices.specs.SourceStanzas.{IsKeptSource, KeptSourcesAreExact}
-use Rattle.td_indices.specs.Sources.{KeptSource, SourcePackage, is_extra, kept_source_at, source_at, whole_source_at, with_build_relations}
-use Rattle.td_indices.proofs.PackageStanzas.{name_again, name_found, needed_found, package_again, package_found, version_again, version_found}
+use Rattle.td_indices.specs.Sources.{KeptSource, SourcePackage, is_extra, kept_source_at, source_at}
+use Rattle.td_indices.specs.Sources.{whole_source_at, with_build_relations}
+use Rattle.td_indices.proofs.PackageStanzas.{name_again, name_found, needed_found, package_again}
+use Rattle.td_indices.proofs.PackageStanzas.{package_found, version_again, version_found}
 
-kept_some : {A : Type 0} (x y : A) → ◌≡◌ {A = Result (Option A) EntryFault} (Ok (Some x)) (Ok (Some y)) → x ≡ y
+kept_some : {A : Type 0} (x y : A)
+    → ◌≡◌ {A = Result (Option A) EntryFault} (Ok (Some x)) (Ok (Some y)) → x ≡ y
 kept_some x y e = cc
 
 -- ---- packages
 
-binary_found : (table : List ArchWords) (number : ℕ) (fields : List Entry) (b : KeptBinary) → binary_at table number fields ≡ Ok (Some b) → IsKeptPackage table number fields b
+binary_found : (table : List ArchWords) (number : ℕ) (fields : List Entry) (b : KeptBinary)
+    → binary_at table number fields ≡ Ok (Some b) → IsKeptPackage table number fields b
 unfolding binary_at provides_at
 binary_found table number fields b e =
     let p = on_ok_parts (package_at table fields) _ (Some b) e in
     by p.0 p.1 p.2
   where
-    by : (o : Option BinaryPackage) → package_at table fields ≡ Ok o → with_relations number fields o ≡ Ok (Some b) → IsKeptPackage table number fields b
-    by None is k = absurd (let bad : ◌≡◌ {A = Result (Option KeptBinary) EntryFault} (Ok None) (Ok (Some b)) = k in cc)
+    by : (o : Option BinaryPackage) → package_at table fields ≡ Ok o
+        → with_relations number fields o ≡ Ok (Some b) → IsKeptPackage table number fields b
+    by None is k =
+        absurd (let bad : ◌≡◌ {A = Result (Option KeptBinary) EntryFault} (Ok None) (Ok (Some b)) =
+        k in cc)
     by (Some p) is k =
-        let all = on_ok_parts (provides_at fields) (λ provides. Ok (Some (record { head = p; provides = provides; stanza = number }))) (Some b) k in
+        let all = on_ok_parts (provides_at fields)
+        (λ provides. Ok (Some (record { head = p; provides = provides; stanza = number })))
+        (Some b) k in
         let depends = on_ok_parts (relation_in (value_of fields (codes "Depends"))) _ all.0 all.1 in
-        let pre_depends = on_ok_parts (relation_in (value_of fields (codes "Pre-Depends"))) _ all.0 depends.2 in
-        subst (IsKeptPackage table number fields) (kept_some (record { head = p; provides = all.0; stanza = number }) b all.2) (record {
+        let pre_depends =
+        on_ok_parts (relation_in (value_of fields (codes "Pre-Depends"))) _ all.0 depends.2 in
+        subst (IsKeptPackage table number fields)
+        (kept_some (record { head = p; provides = all.0; stanza = number }) b all.2) (record {
           head = package_found table fields p is;
           depends = depends.0;
           pre_depends = pre_depends.0;
@@ -46,47 +59,63 @@ binary_found table number fields b e =
           numbered = refl;
         })
 
-binary_again : (table : List ArchWords) (number : ℕ) (fields : List Entry) (b : KeptBinary) → IsKeptPackage table number fields b → binary_at table number fields ≡ Ok (Some b)
+binary_again : (table : List ArchWords) (number : ℕ) (fields : List Entry) (b : KeptBinary)
+    → IsKeptPackage table number fields b → binary_at table number fields ≡ Ok (Some b)
 unfolding binary_at provides_at
 binary_again table number fields b h =
     let head = package_again table fields b.head h.head in
     let depends = h.has_depends in
     let pre_depends = h.has_pre_depends in
     let provides = h.has_provides in
-    rw (head, depends, pre_depends, provides) (ap (λ (n : ℕ). Ok (Some (record { head = b.head; provides = b.provides; stanza = n }))) (sym h.numbered))
+    rw (head, depends, pre_depends, provides)
+    (ap (λ (n : ℕ). Ok (Some (record { head = b.head; provides = b.provides; stanza = n })))
+    (sym h.numbered))
 
 pub kept_packages_are_exact : KeptPackagesAreExact
-kept_packages_are_exact table number fields b = (binary_found table number fields b, binary_again table number fields b)
+kept_packages_are_exact table number fields b =
+    (binary_found table number fields b, binary_again table number fields b)
 
 -- ---- sources
 
-yes_found : (o : Option (List ℕ)) → option_map_or (λ value. bytes_eq value (codes "yes")) o false ≡ false → o ≢ Some (codes "yes")
+yes_found : (o : Option (List ℕ))
+    → option_map_or (λ value. bytes_eq value (codes "yes")) o false ≡ false → o ≢ Some (codes "yes")
 yes_found None h e = absurd (let bad : None ≡ Some (codes "yes") = e in cc)
-yes_found (Some text) h e = absurd (let bad : false ≡ true = sym h ∙ (bytes_eq-Decides text (codes "yes")).1 (some_is text (codes "yes") e) in cc)
+yes_found (Some text) h e =
+    absurd (let bad : false ≡ true =
+    sym h ∙ (bytes_eq-Decides text (codes "yes")).1 (some_is text (codes "yes") e) in cc)
 
-yes_again : (o : Option (List ℕ)) → o ≢ Some (codes "yes") → option_map_or (λ value. bytes_eq value (codes "yes")) o false ≡ false
+yes_again : (o : Option (List ℕ)) → o ≢ Some (codes "yes")
+    → option_map_or (λ value. bytes_eq value (codes "yes")) o false ≡ false
 yes_again None h = refl
 yes_again (Some text) h =
     elim (cases_Bool (bytes_eq text (codes "yes"))) [
-      | inl is ↦ absurd (h (ap (λ (t : List ℕ). Some t) ((bytes_eq-Decides text (codes "yes")).0 is)))
+      | inl is ↦
+          absurd (h (ap (λ (t : List ℕ). Some t) ((bytes_eq-Decides text (codes "yes")).0 is)))
       | inr other ↦ other
     ]
 
-own_found : (number : ℕ) (fields : List Entry) (s : KeptSource) → is_extra fields ≡ false → whole_source_at number fields ≡ Ok s → IsKeptSource number fields s
+own_found : (number : ℕ) (fields : List Entry) (s : KeptSource) → is_extra fields ≡ false
+    → whole_source_at number fields ≡ Ok s → IsKeptSource number fields s
 unfolding whole_source_at source_at with_build_relations
 own_found number fields s own e =
     let head = on_ok_parts (source_at fields) _ s e in
     let depends = on_ok_parts (relation_in (value_of fields (codes "Build-Depends"))) _ s head.2 in
-    let arch_depends = on_ok_parts (relation_in (value_of fields (codes "Build-Depends-Arch"))) _ s depends.2 in
+    let arch_depends =
+    on_ok_parts (relation_in (value_of fields (codes "Build-Depends-Arch"))) _ s depends.2 in
     let name = on_ok_parts (name_in Package (value_of fields (codes "Package"))) _ head.0 head.1 in
-    let version = on_ok_parts (needed Version (value_of fields (codes "Version"))) _ head.0 name.2 in
-    let archs = on_ok_parts (needed Architecture (value_of fields (codes "Architecture"))) _ head.0 version.2 in
+    let version =
+    on_ok_parts (needed Version (value_of fields (codes "Version"))) _ head.0 name.2 in
+    let archs = on_ok_parts (needed Architecture (value_of fields (codes "Architecture"))) _ head.0
+    version.2 in
     let parts = on_ok_parts (version_in version.0) _ head.0 archs.2 in
     let named = name_found Package (value_of fields (codes "Package")) name.0 name.1 in
-    let made : SourcePackage = record { name = name.0; version = version.0; parts = parts.0; archs = archs.0 } in
+    let made : SourcePackage =
+    record { name = name.0; version = version.0; parts = parts.0; archs = archs.0 } in
     let same : made ≡ head.0 = ok_is EntryFault made head.0 parts.2 in
     let kept : KeptSource = record { head = head.0; stanza = number } in
-    subst (IsKeptSource number fields) (ok_is EntryFault kept s arch_depends.2) (subst (λ (h : SourcePackage). IsKeptSource number fields (record { head = h; stanza = number })) same (record {
+    subst (IsKeptSource number fields) (ok_is EntryFault kept s arch_depends.2)
+    (subst (λ (h : SourcePackage).
+    IsKeptSource number fields (record { head = h; stanza = number })) same (record {
       own = yes_found (value_of fields (codes "Extra-Source-Only")) own;
       name = named.0;
       legal = named.1;
@@ -100,33 +129,45 @@ own_found number fields s own e =
       numbered = refl;
     }))
 
-source_found : (number : ℕ) (fields : List Entry) (s : KeptSource) → kept_source_at number fields ≡ Ok (Some s) → IsKeptSource number fields s
+source_found : (number : ℕ) (fields : List Entry) (s : KeptSource)
+    → kept_source_at number fields ≡ Ok (Some s) → IsKeptSource number fields s
 unfolding kept_source_at
 source_found number fields s e = by (is_extra fields) refl e
   where
-    by : (b : Bool) → is_extra fields ≡ b → cond b (Ok None) (on_ok (whole_source_at number fields) (λ t. Ok (Some t))) ≡ Ok (Some s) → IsKeptSource number fields s
-    by true is k = absurd (let bad : ◌≡◌ {A = Result (Option KeptSource) EntryFault} (Ok None) (Ok (Some s)) = k in cc)
+    by : (b : Bool) → is_extra fields ≡ b
+        → cond b (Ok None) (on_ok (whole_source_at number fields) (λ t. Ok (Some t))) ≡ Ok (Some s)
+        → IsKeptSource number fields s
+    by true is k =
+        absurd (let bad : ◌≡◌ {A = Result (Option KeptSource) EntryFault} (Ok None) (Ok (Some s)) =
+        k in cc)
     by false is k =
         let whole = on_ok_parts (whole_source_at number fields) (λ t. Ok (Some t)) (Some s) k in
-        own_found number fields s is (whole.1 ∙ ap (λ (t : KeptSource). Ok t) (kept_some whole.0 s whole.2))
+        own_found number fields s is
+        (whole.1 ∙ ap (λ (t : KeptSource). Ok t) (kept_some whole.0 s whole.2))
 
-head_again : (number : ℕ) (fields : List Entry) (s : KeptSource) → IsKeptSource number fields s → source_at fields ≡ Ok s.head
+head_again : (number : ℕ) (fields : List Entry) (s : KeptSource) → IsKeptSource number fields s
+    → source_at fields ≡ Ok s.head
 unfolding source_at
 head_again number fields s h =
     let name = name_again Package (value_of fields (codes "Package")) s.head.name h.name h.legal in
-    let version : needed Version (value_of fields (codes "Version")) ≡ Ok s.head.version = ap (needed Version) h.version in
-    let archs : needed Architecture (value_of fields (codes "Architecture")) ≡ Ok s.head.archs = ap (needed Architecture) h.archs in
+    let version : needed Version (value_of fields (codes "Version")) ≡ Ok s.head.version =
+    ap (needed Version) h.version in
+    let archs : needed Architecture (value_of fields (codes "Architecture")) ≡ Ok s.head.archs =
+    ap (needed Architecture) h.archs in
     let parts = version_again s.head.version s.head.parts h.readable in
     rw (name, version, archs, parts) refl
 
-source_again : (number : ℕ) (fields : List Entry) (s : KeptSource) → IsKeptSource number fields s → kept_source_at number fields ≡ Ok (Some s)
+source_again : (number : ℕ) (fields : List Entry) (s : KeptSource) → IsKeptSource number fields s
+    → kept_source_at number fields ≡ Ok (Some s)
 unfolding kept_source_at whole_source_at with_build_relations
 source_again number fields s h =
     let own = yes_again (value_of fields (codes "Extra-Source-Only")) h.own in
     let head = head_again number fields s h in
     let depends = h.has_depends in
     let arch_depends = h.has_arch_depends in
-    rw (own, head, depends, arch_depends) (ap (λ (n : ℕ). Ok (Some (record { head = s.head; stanza = n }))) (sym h.numbered))
+    rw (own, head, depends, arch_depends)
+    (ap (λ (n : ℕ). Ok (Some (record { head = s.head; stanza = n }))) (sym h.numbered))
 
 pub kept_sources_are_exact : KeptSourcesAreExact
-kept_sources_are_exact number fields s = (source_found number fields s, source_again number fields s)
+kept_sources_are_exact number fields s =
+    (source_found number fields s, source_again number fields s)

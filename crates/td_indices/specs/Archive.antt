@@ -1,5 +1,6 @@
 -- What an archive holds, of which texts it is read, and why texts are refused. This project's own.
-use Rattle.std.specs.Prelude.{◌≡◌, ◌⊎◌, ℕ, ◌+◌, ◌<◌, ◌≤◌, ◌&&◌, Bool, false, List, [], ◌∷◌, Option, Result, Ok, Err, position, slice_get, if◌then◌else◌}
+use Rattle.std.specs.Prelude.{◌≡◌, ◌⊎◌, ℕ, ◌+◌, ◌<◌, ◌≤◌, ◌&&◌, Bool, false, List, [], ◌∷◌, Option}
+use Rattle.std.specs.Prelude.{Result, Ok, Err, position, slice_get, if◌then◌else◌}
 use Rattle.std.specs.List.{find}
 use Rattle.std.specs.Option.{option_map_or}
 use Rattle.std.specs.Str.{bytes_eq}
@@ -8,14 +9,18 @@ use Rattle.td_stanza.specs.Field.{Entry}
 use Rattle.td_stanza.specs.StanzaGrammar.{AreStanzas}
 use Rattle.td_stanza.specs.StanzaFaults.{HasFault}
 use Rattle.td_stanza.specs.declared.fault.StanzaFault.{StanzaFault}
-use Rattle.td_stanza.specs.declared.fault.StanzaFault.TheVariants.{BadName, NoColon, ContinuationFirst, Duplicate}
+use Rattle.td_stanza.specs.declared.fault.StanzaFault.TheVariants.{BadName, NoColon}
+use Rattle.td_stanza.specs.declared.fault.StanzaFault.TheVariants.{ContinuationFirst, Duplicate}
 use Rattle.td_stanza.specs.declared.fault.StanzaFault.TheVariants as stanza
 use Rattle.td_relation.specs.Arch.{ArchWords}
 use Rattle.td_relation.specs.Meeting.{is_on}
 use Rattle.td_indices.specs.declared.archive_fault.IndexFile.{IndexFile}
 use Rattle.td_indices.specs.declared.archive_fault.IndexFile.TheVariants.{Packages, Sources}
 use Rattle.td_indices.specs.declared.archive_fault.ArchiveFault.{ArchiveFault}
-use Rattle.td_indices.specs.declared.archive_fault.ArchiveFault.TheVariants.{Stanza, MissingField, BadVersion, BadRelation, TooManyRows, NoMemory}
+use Rattle.td_indices.specs.declared.archive_fault.ArchiveFault.TheVariants.{Stanza, MissingField}
+use Rattle.td_indices.specs.declared.archive_fault.ArchiveFault.TheVariants.{BadVersion}
+use Rattle.td_indices.specs.declared.archive_fault.ArchiveFault.TheVariants.{BadRelation}
+use Rattle.td_indices.specs.declared.archive_fault.ArchiveFault.TheVariants.{TooManyRows, NoMemory}
 use Rattle.td_indices.specs.Kept.{KeptBinary}
 use Rattle.td_indices.specs.Sources.{KeptSource}
 use Rattle.td_indices.specs.Reading.{binaries_at, sources_at}

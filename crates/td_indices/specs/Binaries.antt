@@ -1,5 +1,6 @@
 -- What a stanza of a Packages index says (Debian Policy 5.3).
-use Rattle.std.specs.Prelude.{ℕ, ◌==◌, ◌&&◌, List, Option, Some, None, option_map, Result, Ok, Err, length, codes, if◌then◌else◌}
+use Rattle.std.specs.Prelude.{ℕ, ◌==◌, ◌&&◌, List, Option, Some, None, option_map, Result, Ok, Err}
+use Rattle.std.specs.Prelude.{length, codes, if◌then◌else◌}
 use Rattle.std.specs.Borrow.{Bor}
 use Rattle.std.specs.Str.{bytes_eq}
 use Rattle.td_text.specs.Cut.{cut}
@@ -10,7 +11,8 @@ use Rattle.td_version.specs.Version.{Parts, parts_of}
 use Rattle.td_relation.specs.Arch.{ArchWords}
 use Rattle.td_text.specs.Runs.{run, behind, is_blank}
 use Rattle.td_relation.specs.Table.{place_of}
-use Rattle.td_indices.specs.declared.archive_fault.IndexField.TheVariants.{Package, Version, Architecture, Source}
+use Rattle.td_indices.specs.declared.archive_fault.IndexField.TheVariants.{Package, Version}
+use Rattle.td_indices.specs.declared.archive_fault.IndexField.TheVariants.{Architecture, Source}
 use Rattle.td_indices.specs.declared.archive_fault.EntryFault.{EntryFault}
 use Rattle.td_indices.specs.declared.archive_fault.EntryFault.TheVariants.{Missing, BadVersion}
 use Rattle.td_indices.specs.declared.packaged.Head.{Head}

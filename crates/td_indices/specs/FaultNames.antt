@@ -1,7 +1,10 @@
 -- The names of an archive's faults, as they are printed. This project's own.
 use Rattle.std.specs.Prelude.{ℕ, List, codes}
 use Rattle.td_indices.specs.declared.archive_fault.ArchiveFault.{ArchiveFault}
-use Rattle.td_indices.specs.declared.archive_fault.ArchiveFault.TheVariants.{Stanza, MissingField, BadVersion, BadRelation, TooManyRows, NoMemory}
+use Rattle.td_indices.specs.declared.archive_fault.ArchiveFault.TheVariants.{Stanza, MissingField}
+use Rattle.td_indices.specs.declared.archive_fault.ArchiveFault.TheVariants.{BadVersion}
+use Rattle.td_indices.specs.declared.archive_fault.ArchiveFault.TheVariants.{BadRelation}
+use Rattle.td_indices.specs.declared.archive_fault.ArchiveFault.TheVariants.{TooManyRows, NoMemory}
 
 -- the name alone, without the place and the field
 abbrev pub name_of : ArchiveFault → List ℕ

@@ -1,6 +1,7 @@
 -- The fields of a stanza: their values, and what has to stand in some of them (Debian Policy 5.1,
 -- 5.3 and 5.4).
-use Rattle.std.specs.Prelude.{ℕ, Bool, true, false, ◌≡◌, List, [], Option, Some, None, option_map, Result, Ok, Err, if◌then◌else◌}
+use Rattle.std.specs.Prelude.{ℕ, Bool, true, false, ◌≡◌, List, [], Option, Some, None, option_map}
+use Rattle.std.specs.Prelude.{Result, Ok, Err, if◌then◌else◌}
 use Rattle.std.specs.Borrow.{Bor}
 use Rattle.std.specs.List.{find}
 use Rattle.td_text.specs.Words.{is_name}
@@ -17,7 +18,8 @@ use Rattle.td_relation.specs.declared.relation.Relation.{Relation}
 use Rattle.td_relation.specs.declared.relation_fault.RelationFault.{RelationFault}
 use Rattle.td_indices.specs.declared.archive_fault.IndexField.{IndexField}
 use Rattle.td_indices.specs.declared.archive_fault.EntryFault.{EntryFault}
-use Rattle.td_indices.specs.declared.archive_fault.EntryFault.TheVariants.{Missing, BadVersion, BadRelation, NoMemory}
+use Rattle.td_indices.specs.declared.archive_fault.EntryFault.TheVariants.{Missing, BadVersion}
+use Rattle.td_indices.specs.declared.archive_fault.EntryFault.TheVariants.{BadRelation, NoMemory}
 
 -- the value of the field that has the name, in whatever case
 abbrev pub value_of : List Entry → List ℕ → Option (List ℕ)

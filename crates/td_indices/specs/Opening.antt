@@ -1,5 +1,6 @@
 -- The rows with which a desk opens over an archive. This project's own.
-use Rattle.std.specs.Prelude.{ℕ, ◌&&◌, Bool, List, Option, Some, None, fold, filter, map, max, slice_get, if◌then◌else◌}
+use Rattle.std.specs.Prelude.{ℕ, ◌&&◌, Bool, List, Option, Some, None, fold, filter, map, max}
+use Rattle.std.specs.Prelude.{slice_get, if◌then◌else◌}
 use Rattle.std.specs.Option.{option_map_or}
 use Rattle.td_version.specs.Order.{same_version}
 use Rattle.td_version.specs.Splitting.{rebuild_at}

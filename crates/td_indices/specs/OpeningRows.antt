@@ -1,5 +1,6 @@
 -- The rows with which a desk opens, put together source by source. This project's own.
-use Rattle.std.specs.Prelude.{◌≡◌, Some, Ok, ℕ, nat_lt, ◌&&◌, Bool, false, List, Option, slice_get, if◌then◌else◌}
+use Rattle.std.specs.Prelude.{◌≡◌, Some, Ok, ℕ, nat_lt, ◌&&◌, Bool, false, List, Option, slice_get}
+use Rattle.std.specs.Prelude.{if◌then◌else◌}
 use Rattle.std.specs.Option.{option_map_or, option_or}
 use Rattle.std.specs.Str.{bytes_eq}
 use Rattle.td_relation.specs.Arch.{ArchWords}

@@ -1,6 +1,7 @@
 -- On which architectures a source has a row (Debian Policy 5.6.8; that rows are of the table's
 -- architectures is this project's own).
-use Rattle.std.specs.Prelude.{ℕ, zero, suc, ◌+◌, Bool, false, List, slice_get, length, sum_by, if◌then◌else◌}
+use Rattle.std.specs.Prelude.{ℕ, zero, suc, ◌+◌, Bool, false, List, slice_get, length, sum_by}
+use Rattle.std.specs.Prelude.{if◌then◌else◌}
 use Rattle.std.specs.List.{list_any}
 use Rattle.std.specs.Option.{option_map_or}
 use Rattle.td_relation.specs.Arch.{ArchWords, matches}

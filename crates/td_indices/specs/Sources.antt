@@ -1,5 +1,6 @@
 -- What a stanza of a Sources index says (Debian Policy 5.4), and what is kept of it.
-use Rattle.std.specs.Prelude.{ℕ, not, Bool, false, List, Option, Some, None, Result, Ok, Err, map, codes, if◌then◌else◌}
+use Rattle.std.specs.Prelude.{ℕ, not, Bool, false, List, Option, Some, None, Result, Ok, Err, map}
+use Rattle.std.specs.Prelude.{codes, if◌then◌else◌}
 use Rattle.std.specs.Borrow.{Bor}
 use Rattle.std.specs.Option.{option_map_or}
 use Rattle.std.specs.Ordering.{is_lt}
@@ -8,7 +9,8 @@ use Rattle.td_text.specs.Lines.{on_ok}
 use Rattle.td_stanza.specs.Field.{Entry}
 use Rattle.td_version.specs.Order.{version_cmp}
 use Rattle.td_version.specs.Version.{Parts, parts_of}
-use Rattle.td_indices.specs.declared.archive_fault.IndexField.TheVariants.{Package, Version, Architecture}
+use Rattle.td_indices.specs.declared.archive_fault.IndexField.TheVariants.{Package, Version}
+use Rattle.td_indices.specs.declared.archive_fault.IndexField.TheVariants.{Architecture}
 use Rattle.td_indices.specs.declared.archive_fault.EntryFault.{EntryFault}
 use Rattle.td_indices.specs.declared.sourced.Sourced.{Sourced}
 use Rattle.td_indices.specs.declared.sourced.SourceHead.{SourceHead}

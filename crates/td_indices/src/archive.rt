@@ -55,14 +55,34 @@ impl<'t, 'a> Model for Archive<'t, 'a> {
       sources = sources_of a.sources.entries;
     } };
 
-    ghost invariant = { λ a. ((q : List ℕ) → group a.groups q ≡ places_from (is_of q) 0 (binaries_of a.binaries.entries))
-        × (a.rows ≡ row_count (table a.archs.now) (sources_of a.sources.entries)) × (a.rows ≤ max_rows)
+    ghost invariant = { λ a.
+        ((q : List ℕ) → group a.groups q ≡ places_from (is_of q) 0 (binaries_of a.binaries.entries))
+        × (a.rows ≡ row_count (table a.archs.now) (sources_of a.sources.entries))
+        × (a.rows ≤ max_rows)
         × (sources_at a.source_stanzas ≡ Ok (sources_of a.sources.entries))
         × (binaries_at (table a.archs.now) a.packages ≡ Ok (binaries_of a.binaries.entries)) };
 }
 
 impl<'t, 'a> Archive<'t, 'a> {
-    ghost use Rattle.std.specs.Prelude.{◌≡◌, ◌≢◌, ◌+◌, ◌≤◌, ◌<◌, ◌&&◌, true, false, IfOk, IfErr, IfSome, OnOk, MatchResult, Some, length, option_map, slice_get};
+    ghost use Rattle.std.specs.Prelude.{
+      ◌≡◌,
+      ◌≢◌,
+      ◌+◌,
+      ◌≤◌,
+      ◌<◌,
+      ◌&&◌,
+      true,
+      false,
+      IfOk,
+      IfErr,
+      IfSome,
+      OnOk,
+      MatchResult,
+      Some,
+      length,
+      option_map,
+      slice_get,
+    };
     ghost use Rattle.std.specs.Str.{bytes_eq};
     ghost use Rattle.td_text.specs.Lines.{lines_of};
     ghost use Rattle.td_text.specs.Words.{is_name};
@@ -74,13 +94,32 @@ impl<'t, 'a> Archive<'t, 'a> {
     ghost use Rattle.td_rows.specs.Table.{keys_of, row_of};
     ghost use Rattle.td_rows.specs.Text.{has_newline};
     ghost use Rattle.td_indices.specs.declared.archive_fault.ArchiveFault.{ArchiveFault};
-    ghost use Rattle.td_indices.specs.Archive.{Contents, FaultOf, IsArchive, IsRefusedFor, binaries_on, source_named};
+    ghost use Rattle.td_indices.specs.Archive.{
+      Contents,
+      FaultOf,
+      IsArchive,
+      IsRefusedFor,
+      binaries_on,
+      source_named,
+    };
     ghost use Rattle.td_indices.specs.Opening.{opening_row as opening_row_of};
-    ghost use Rattle.td_indices.specs.OpeningRows.{IsVersionKnown, has_row_on, is_key_at, with_opening};
+    ghost use Rattle.td_indices.specs.OpeningRows.{
+      IsVersionKnown,
+      has_row_on,
+      is_key_at,
+      with_opening,
+    };
     ghost use Rattle.td_indices.specs.Rows.{has_row as has_row_of, row_count, rows_before};
     ghost use Rattle.td_indices.specs.Supplying.{supply_of};
     ghost use Rattle.td_supply.specs.Supply.{opened};
-    ghost use Rattle.td_indices.specs.Seen.{BinarySeen, SourceSeen, seen_binary, seen_source, shown_binary, shown_source};
+    ghost use Rattle.td_indices.specs.Seen.{
+      BinarySeen,
+      SourceSeen,
+      seen_binary,
+      seen_source,
+      shown_binary,
+      shown_source,
+    };
 
     /// Reads the two indices. All faults of the stanzas as such come first, those of Packages
     /// before those of Sources; then each stanza in order, Packages first; then the rows are
@@ -92,12 +131,18 @@ impl<'t, 'a> Archive<'t, 'a> {
         archs: &'t Archs<'a>,
     ) -> Result<Archive<'t, 'a>, ArchiveFault>
         // What is read is an archive.
-        ensures found { IfOk result (IsArchive (table archs.now) (lines_of packages.now) (lines_of sources.now)) }
+        ensures found { IfOk result
+            (IsArchive (table archs.now) (lines_of packages.now) (lines_of sources.now)) }
         // An archive is read, unless memory runs out.
-        ensures only { (a : Contents) → IsArchive (table archs.now) (lines_of packages.now) (lines_of sources.now) a → MatchResult result (λ archive. archive ≡ a) (λ e. e ≡ ArchiveFault.NoMemory) }
-        ensures fault { IfErr result (FaultOf (table archs.now) (lines_of packages.now) (lines_of sources.now)) }
+        ensures only { (a : Contents)
+            → IsArchive (table archs.now) (lines_of packages.now) (lines_of sources.now) a
+            → MatchResult result (λ archive. archive ≡ a) (λ e. e ≡ ArchiveFault.NoMemory) }
+        ensures fault { IfErr result
+            (FaultOf (table archs.now) (lines_of packages.now) (lines_of sources.now)) }
         // Two texts with a fault are refused for it, unless memory runs out.
-        ensures refused { (fault : ArchiveFault) → fault ≢ ArchiveFault.NoMemory → FaultOf (table archs.now) (lines_of packages.now) (lines_of sources.now) fault → IsRefusedFor fault result }
+        ensures refused { (fault : ArchiveFault) → fault ≢ ArchiveFault.NoMemory
+            → FaultOf (table archs.now) (lines_of packages.now) (lines_of sources.now) fault
+            → IsRefusedFor fault result }
     {
         Archive::read_parts(alloc, packages, sources, archs)
     }
@@ -108,9 +153,13 @@ impl<'t, 'a> Archive<'t, 'a> {
         sources: &'a str,
         archs: &'t Archs<'a>,
     ) -> Result<Archive<'t, 'a>, ArchiveFault>
-        ensures found { IfOk result (IsArchive (table archs.now) (lines_of packages.now) (lines_of sources.now)) }
-        ensures only { (a : Contents) → IsArchive (table archs.now) (lines_of packages.now) (lines_of sources.now) a → MatchResult result (λ archive. archive ≡ a) (λ e. e ≡ ArchiveFault.NoMemory) }
-        ensures fault { IfErr result (FaultOf (table archs.now) (lines_of packages.now) (lines_of sources.now)) }
+        ensures found { IfOk result
+            (IsArchive (table archs.now) (lines_of packages.now) (lines_of sources.now)) }
+        ensures only { (a : Contents)
+            → IsArchive (table archs.now) (lines_of packages.now) (lines_of sources.now) a
+            → MatchResult result (λ archive. archive ≡ a) (λ e. e ≡ ArchiveFault.NoMemory) }
+        ensures fault { IfErr result
+            (FaultOf (table archs.now) (lines_of packages.now) (lines_of sources.now)) }
     {
         let packages = match read_stanzas(alloc, IndexFile::Packages, packages) {
             Ok(list) => list,
@@ -171,7 +220,8 @@ impl<'t, 'a> Archive<'t, 'a> {
 
     /// The source of a name.
     pub fn source(&self, name: &str) -> Option<Source<'a>>
-        ensures { option_map seen_source result ≡ option_map shown_source (source_named self.now name.now) }
+        ensures { option_map seen_source result
+            ≡ option_map shown_source (source_named self.now name.now) }
     {
         match self.sources.get_key_value(name) {
             Some((name, sourced)) => Some(Source {
@@ -199,7 +249,8 @@ impl<'t, 'a> Archive<'t, 'a> {
 
     /// The binary package with a number, from 0.
     pub fn binary(&self, number: usize) -> Option<Binary<'a>>
-        ensures { option_map seen_binary result ≡ option_map shown_binary (slice_get self.now.binaries number) }
+        ensures { option_map seen_binary result
+            ≡ option_map shown_binary (slice_get self.now.binaries number) }
     {
         let (key, packaged) = self.binaries.get_index(number)?;
         Some(Binary {
@@ -252,7 +303,8 @@ impl<'t, 'a> Archive<'t, 'a> {
 
     /// The source with a number, from 0.
     pub fn source_at(&self, number: usize) -> Option<Source<'a>>
-        ensures found { option_map seen_source result ≡ option_map shown_source (slice_get self.now.sources number) }
+        ensures found { option_map seen_source result
+            ≡ option_map shown_source (slice_get self.now.sources number) }
         ensures legal { IfSome result (λ s. is_name s.name.now ≡ true) }
     {
         let (name, sourced) = self.sources.get_index(number)?;
@@ -274,7 +326,10 @@ impl<'t, 'a> Archive<'t, 'a> {
     ) -> Result<(), AllocError>
         requires source { has_newline source.now ≡ false }
         requires place { place < length self.now.table }
-        ensures rows { OnOk result ((k : Key) → row_of rows.new.entries k ≡ with_opening (is_key_at self.now.table source.now place k) (opening_row_of self.now k) (row_of rows.old.entries k)) }
+        ensures rows { OnOk result
+            ((k : Key) → row_of rows.new.entries k
+            ≡ with_opening (is_key_at self.now.table source.now place k) (opening_row_of self.now k)
+            (row_of rows.old.entries k)) }
         ensures few { OnOk result (length rows.new.entries ≤ length rows.old.entries + 1) }
     {
         let key = Key::from_lines(self.alloc, source, self.archs.name(place))?;
@@ -296,8 +351,15 @@ impl<'t, 'a> Archive<'t, 'a> {
     ) -> Result<(), AllocError>
         requires source { has_newline source.now ≡ false }
         requires apart { IsApart self.now.table }
-        ensures rows { OnOk result ((k : Key) → row_of rows.new.entries k ≡ with_opening (bytes_eq k.source source.now && has_row_on self.now.table archs.now k.arch) (opening_row_of self.now k) (row_of rows.old.entries k)) }
-        ensures few { OnOk result (length rows.new.entries ≤ length rows.old.entries + rows_before self.now.table archs.now (length self.now.table)) }
+        ensures rows { OnOk result
+            ((k : Key) → row_of rows.new.entries k
+            ≡ with_opening (bytes_eq k.source source.now
+            && has_row_on self.now.table archs.now k.arch) (opening_row_of self.now k)
+            (row_of rows.old.entries k)) }
+        ensures few { OnOk result
+            (length rows.new.entries
+            ≤ length rows.old.entries
+            + rows_before self.now.table archs.now (length self.now.table)) }
     {
         for place in 0..self.arch_count() {
             if self.has_row_at(archs, place) {
@@ -309,7 +371,8 @@ impl<'t, 'a> Archive<'t, 'a> {
 
     // The rows of all sources, source by source.
     fn open_all(&self) -> Result<IndexMap<Key, Row>, AllocError>
-        ensures rows { IfOk result (λ rows. (k : Key) → row_of rows.entries k ≡ opening_row_of self.now k) }
+        ensures rows { IfOk result (λ rows.
+            (k : Key) → row_of rows.entries k ≡ opening_row_of self.now k) }
         ensures few { IfOk result (λ rows. length rows.entries ≤ max_rows) }
     {
         let mut rows = IndexMap::with_capacity(self.alloc, self.row_count())?;
@@ -334,11 +397,15 @@ impl<'t, 'a> Archive<'t, 'a> {
     pub fn opening_rows(&self) -> Result<Rows, AllocError>
         ensures rows { IfOk result (λ rows. (k : Key) → row_of rows k ≡ opening_row_of self.now k) }
         // They are as many as `row_count` says.
-        ensures count { IfOk result (λ rows. length rows ≡ row_count self.now.table self.now.sources) }
+        ensures count { IfOk result (λ rows.
+            length rows ≡ row_count self.now.table self.now.sources) }
         // No builder has one of them.
-        ensures free { IfOk result (λ rows. (k : Key) (row : Row) → row_of rows k ≡ Some row → is_building row.state ≡ false) }
+        ensures free { IfOk result (λ rows.
+            (k : Key) (row : Row) → row_of rows k ≡ Some row → is_building row.state ≡ false) }
         // The supply has a version of the source of each.
-        ensures known { IfOk result (λ rows. (k : Key) (row : Row) → row_of rows k ≡ Some row → IsVersionKnown (opened (supply_of self.now)) k.source) }
+        ensures known { IfOk result (λ rows.
+            (k : Key) (row : Row) → row_of rows k ≡ Some row
+            → IsVersionKnown (opened (supply_of self.now)) k.source) }
     {
         let _ = &self.rows;
         self.sorted_rows()

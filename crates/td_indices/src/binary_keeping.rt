@@ -3,7 +3,8 @@ ghost use Rattle.std.specs.Prelude.{◌≡◌, Ok, IfOk, IfErr, OnOk, option_map
 ghost use Rattle.td_stanza.specs.Table.{fields_of};
 ghost use Rattle.td_relation.specs.TableView.{table};
 ghost use Rattle.td_indices.specs.Fields.{Fails};
-ghost use Rattle.td_indices.specs.Kept.{binaries_of, binary_at, binary_of, lower_package, put, same_package, stays};
+ghost use Rattle.td_indices.specs.Kept.{binaries_of, binary_at, binary_of, lower_package, put};
+ghost use Rattle.td_indices.specs.Kept.{same_package, stays};
 ghost use Rattle.td_indices.specs.PackageKeys.{same_key};
 ghost use Rattle.td_version.specs.Version.{parts_of};
 ghost use Rattle.indexmap.specs.IndexMap.{get_by};
@@ -26,8 +27,10 @@ pub fn read_binary<'a>(
     stanza: &Stanza<'_, 'a>,
     number: usize,
 ) -> Result<Option<(PackageKey<'a>, Packaged<'a>)>, EntryFault>
-    ensures ok { IfOk result (λ o. binary_at (table archs.now) number (fields_of stanza.now) ≡ Ok (option_map binary_of o)) }
-    ensures err { IfErr result (λ e. Fails (binary_at (table archs.now) number (fields_of stanza.now)) e) }
+    ensures ok { IfOk result (λ o.
+        binary_at (table archs.now) number (fields_of stanza.now) ≡ Ok (option_map binary_of o)) }
+    ensures err { IfErr result (λ e.
+        Fails (binary_at (table archs.now) number (fields_of stanza.now)) e) }
 {
     let head = match read_head(archs, stanza) {
         Ok(Some(head)) => head,
@@ -70,7 +73,9 @@ pub fn keep_binary<'a>(
     key: PackageKey<'a>,
     packaged: Packaged<'a>,
 ) -> Result<(), AllocError>
-    ensures { OnOk result (binaries_of kept.new.entries ≡ put same_package lower_package (binaries_of kept.old.entries) (binary_of (key.entry, packaged.entry))) }
+    ensures { OnOk result (binaries_of kept.new.entries
+        ≡ put same_package lower_package (binaries_of kept.old.entries)
+        (binary_of (key.entry, packaged.entry))) }
 {
     if has_better(kept, &key, &packaged.parts) {
         return Ok(());

@@ -80,7 +80,8 @@ fn origin<'a>(
 /// The source's version: the one that stands behind the bracket, or the package's own.
 #[tactic(auto, unfolding(crate::specs::Binaries::source_version))]
 fn source_version<'a>(own: Version<'a>, bracket: Option<&'a str>) -> Result<Version<'a>, EntryFault>
-    ensures { version_found result ≡ source_version_of (parts_of own.entry) (option_map (λ x. x.now) bracket.entry) }
+    ensures { version_found result
+        ≡ source_version_of (parts_of own.entry) (option_map (λ x. x.now) bracket.entry) }
 {
     let Some(rest) = bracket else {
         return Ok(own);

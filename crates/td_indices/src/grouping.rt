@@ -17,7 +17,9 @@ pub fn group_binaries<'a>(
     alloc: Global,
     binaries: &IndexMap<PackageKey<'a>, Packaged<'a>>,
 ) -> Result<Groups<'a>, AllocError>
-    ensures { IfOk result (λ groups. (q : List ℕ) → group groups q ≡ places_from (is_of q) 0 (binaries_of binaries.now.entries)) }
+    ensures { IfOk result (λ groups.
+        (q : List ℕ)
+        → group groups q ≡ places_from (is_of q) 0 (binaries_of binaries.now.entries)) }
 {
     let mut groups = Groups::new(alloc);
     for number in 0..binaries.len() {
@@ -30,7 +32,8 @@ pub fn group_binaries<'a>(
 
 /// Whether the binary package with a number is on the architecture, or on `all`.
 fn is_on(binaries: &IndexMap<PackageKey<'_>, Packaged<'_>>, number: usize, arch: usize) -> bool
-    ensures { result ≡ option_map_or (λ b. is_on_of arch b.head.home) (slice_get (binaries_of binaries.now.entries) number) false }
+    ensures { result ≡ option_map_or (λ b. is_on_of arch b.head.home)
+        (slice_get (binaries_of binaries.now.entries) number) false }
 {
     match binaries.get_index(number) {
         Some((key, _)) => match key.arch {
@@ -48,7 +51,10 @@ pub fn those_on(
     numbers: &[usize],
     arch: usize,
 ) -> Result<Vec<usize>, AllocError>
-    ensures { IfOk result (λ there. there.items ≡ filter (λ n. option_map_or (λ b. is_on_of arch b.head.home) (slice_get (binaries_of binaries.now.entries) n) false) numbers.now) }
+    ensures { IfOk result (λ there.
+        there.items ≡ filter (λ n.
+        option_map_or (λ b. is_on_of arch b.head.home)
+        (slice_get (binaries_of binaries.now.entries) n) false) numbers.now) }
 {
     let mut there = Vec::new(alloc);
     for number in numbers {

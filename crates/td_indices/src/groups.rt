@@ -25,7 +25,9 @@ impl<'a> Groups<'a> {
 
     /// Adds a number behind those of its source.
     pub fn push(&mut self, source: &'a str, number: usize) -> Result<(), AllocError>
-        ensures { OnOk result ((q : List ℕ) → group self.new q ≡ (if bytes_eq q source.now then group self.old q ++ number ∷ [] else group self.old q)) }
+        ensures { OnOk result ((q : List ℕ)
+            → group self.new q ≡ (if bytes_eq q source.now then group self.old q ++ number ∷ []
+            else group self.old q)) }
     {
         let list = self.by_source.entry(source)?.or_default();
         list.push(number)?;

@@ -10,7 +10,19 @@ use td_relation::{Archs, Relation};
 use td_stanza::Stanza;
 
 impl<'t, 'a> Archive<'t, 'a> {
-    ghost use Rattle.std.specs.Prelude.{◌≡◌, ◌<◌, [], IfOk, IfSome, Some, Ok, codes, length, option_map, slice_get};
+    ghost use Rattle.std.specs.Prelude.{
+      ◌≡◌,
+      ◌<◌,
+      [],
+      IfOk,
+      IfSome,
+      Some,
+      Ok,
+      codes,
+      length,
+      option_map,
+      slice_get,
+    };
     ghost use Rattle.std.specs.List.{AllByRecursion};
     ghost use Rattle.std.specs.Option.{option_map_or};
     ghost use Rattle.td_stanza.specs.StanzaGrammar.{IsDistinct};
@@ -58,7 +70,8 @@ impl<'t, 'a> Archive<'t, 'a> {
 
     /// What the binary package with a number provides, where it has the field.
     pub fn provides(&self, binary: usize) -> Option<&Relation<'a>>
-        ensures { option_map_or (λ r. members r.now) result [] ≡ option_map_or (λ b. b.provides) (slice_get self.now.binaries binary) [] }
+        ensures { option_map_or (λ r. members r.now) result []
+            ≡ option_map_or (λ b. b.provides) (slice_get self.now.binaries binary) [] }
     {
         let (_, packaged) = self.binaries.get_index(binary)?;
         packaged.provides.as_ref()
@@ -66,7 +79,8 @@ impl<'t, 'a> Archive<'t, 'a> {
 
     /// The names that the binary package with a number offers.
     pub fn offered_names(&self, binary: usize) -> OfferedNames<'_, 'a>
-        ensures { names_left result ≡ option_map_or offered_names_of (slice_get self.now.binaries binary) [] }
+        ensures { names_left result
+            ≡ option_map_or offered_names_of (slice_get self.now.binaries binary) [] }
     {
         let Some((key, packaged)) = self.binaries.get_index(binary) else {
             return OfferedNames::none();
@@ -77,7 +91,8 @@ impl<'t, 'a> Archive<'t, 'a> {
     /// The stanza of the binary package with a number.
     pub fn stanza_of_binary(&self, binary: usize) -> Stanza<'_, 'a>
         requires { binary < length self.now.binaries }
-        ensures there { option_map (λ b. slice_get self.now.packages b.stanza) (slice_get self.now.binaries binary) ≡ Some (Some (fields_of result)) }
+        ensures there { option_map (λ b. slice_get self.now.packages b.stanza)
+            (slice_get self.now.binaries binary) ≡ Some (Some (fields_of result)) }
         ensures distinct { IsDistinct (fields_of result) }
     {
         let (_, packaged) = self.binaries.get_index(binary).unwrap();
@@ -87,7 +102,8 @@ impl<'t, 'a> Archive<'t, 'a> {
     /// The stanza of the source with a number.
     pub fn stanza_of_source(&self, source: usize) -> Stanza<'_, 'a>
         requires { source < length self.now.sources }
-        ensures there { option_map (λ s. slice_get self.now.source_stanzas s.stanza) (slice_get self.now.sources source) ≡ Some (Some (fields_of result)) }
+        ensures there { option_map (λ s. slice_get self.now.source_stanzas s.stanza)
+            (slice_get self.now.sources source) ≡ Some (Some (fields_of result)) }
         ensures distinct { IsDistinct (fields_of result) }
     {
         let (_, sourced) = self.sources.get_index(source).unwrap();
@@ -98,8 +114,12 @@ impl<'t, 'a> Archive<'t, 'a> {
     /// `None` where there is no such field, or whitespace alone in it.
     pub fn build_depends(&self, source: usize) -> Result<Option<Relation<'a>>, AllocError>
         requires { source < length self.now.sources }
-        ensures read { IfOk result (λ r. option_map (λ s. asked_in self.now s (codes "Build-Depends")) (slice_get self.now.sources source) ≡ Some (Ok (asked_by r))) }
-        ensures asked { IfOk result (λ r. option_map (build_depends_of self.now) (slice_get self.now.sources source) ≡ Some (asked_by r)) }
+        ensures read { IfOk result (λ r.
+            option_map (λ s. asked_in self.now s (codes "Build-Depends"))
+            (slice_get self.now.sources source) ≡ Some (Ok (asked_by r))) }
+        ensures asked { IfOk result (λ r.
+            option_map (build_depends_of self.now) (slice_get self.now.sources source)
+            ≡ Some (asked_by r)) }
     {
         read_again(self.alloc, &self.stanza_of_source(source), "Build-Depends")
     }
@@ -107,8 +127,12 @@ impl<'t, 'a> Archive<'t, 'a> {
     /// The same of what the builds of packages ask for that aren't of `all`.
     pub fn build_depends_arch(&self, source: usize) -> Result<Option<Relation<'a>>, AllocError>
         requires { source < length self.now.sources }
-        ensures read { IfOk result (λ r. option_map (λ s. asked_in self.now s (codes "Build-Depends-Arch")) (slice_get self.now.sources source) ≡ Some (Ok (asked_by r))) }
-        ensures asked { IfOk result (λ r. option_map (build_depends_arch_of self.now) (slice_get self.now.sources source) ≡ Some (asked_by r)) }
+        ensures read { IfOk result (λ r.
+            option_map (λ s. asked_in self.now s (codes "Build-Depends-Arch"))
+            (slice_get self.now.sources source) ≡ Some (Ok (asked_by r))) }
+        ensures asked { IfOk result (λ r.
+            option_map (build_depends_arch_of self.now) (slice_get self.now.sources source)
+            ≡ Some (asked_by r)) }
     {
         read_again(
             self.alloc,

@@ -40,7 +40,8 @@ fn provided_name<'a>(member: &[Alternative<'a>]) -> Option<&'a str>
 
 /// The next name that the members of a Provides field offer.
 fn next_provided<'a>(members: &mut Members<'_, 'a>) -> Option<&'a str>
-    ensures { YieldsFirstBy (λ name. name.now) (λ m. flat_map provided_names (members_left m)) members.old result members.new }
+    ensures { YieldsFirstBy (λ name. name.now) (λ m. flat_map provided_names (members_left m))
+        members.old result members.new }
 {
     while let Some(member) = members.next() {
         if let Some(name) = provided_name(member) {

@@ -59,7 +59,8 @@ fn is_current(
     parts: &Version<'_>,
     place: usize,
 ) -> bool
-    ensures { result ≡ is_current_of (parts_of parts.now) place (binary_of (key.now, packaged.now)) }
+    ensures { result
+        ≡ is_current_of (parts_of parts.now) place (binary_of (key.now, packaged.now)) }
 {
     key.arch == Some(place) && is_same_version(&packaged.source_parts, parts)
 }
@@ -71,7 +72,8 @@ fn number_of(
     parts: &Version<'_>,
     place: usize,
 ) -> Option<RebuildNumber>
-    ensures { result ≡ current_number_of (parts_of parts.now) place (Some (binary_of (key.now, packaged.now))) }
+    ensures { result
+        ≡ current_number_of (parts_of parts.now) place (Some (binary_of (key.now, packaged.now))) }
 {
     if is_current(key, packaged, parts, place) {
         Some(rebuild_number(packaged.version))
@@ -87,7 +89,8 @@ fn current_number(
     parts: &Version<'_>,
     place: usize,
 ) -> Option<RebuildNumber>
-    ensures { result ≡ current_number_of (parts_of parts.now) place (slice_get (binaries_of binaries.now.entries) number) }
+    ensures { result ≡ current_number_of (parts_of parts.now) place
+        (slice_get (binaries_of binaries.now.entries) number) }
 {
     match binaries.get_index(number) {
         Some((key, packaged)) => number_of(key, packaged, parts, place),
@@ -102,7 +105,8 @@ pub fn greatest_number(
     parts: &Version<'_>,
     place: usize,
 ) -> Option<RebuildNumber>
-    ensures { result ≡ greatest_at (binaries_of binaries.now.entries) (parts_of parts.now) place None numbers.now }
+    ensures { result ≡ greatest_at (binaries_of binaries.now.entries) (parts_of parts.now) place
+        None numbers.now }
 {
     let mut best = None;
     for number in numbers {
@@ -137,7 +141,9 @@ pub fn opening_on(
     place: usize,
 ) -> Option<Row>
     requires { place < length (table archs.now) }
-    ensures { result ≡ (if has_row_of (table archs.now) sourced.now.archs.now place then Some (opening_of (greatest_at (binaries_of binaries.now.entries) (parts_of sourced.now.parts) place None numbers.now)) else None) }
+    ensures { result ≡ (if has_row_of (table archs.now) sourced.now.archs.now place
+        then Some (opening_of (greatest_at (binaries_of binaries.now.entries)
+        (parts_of sourced.now.parts) place None numbers.now)) else None) }
 {
     if has_row(archs, sourced.archs, place) {
         let best = greatest_number(binaries, numbers, &sourced.parts, place);

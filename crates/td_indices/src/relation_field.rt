@@ -4,7 +4,8 @@ ghost use Rattle.td_stanza.specs.Table.{fields_of};
 ghost use Rattle.td_relation.specs.Asked.{Asked};
 ghost use Rattle.td_relation.specs.Members.{members};
 ghost use Rattle.td_relation.specs.RelationGrammar.{relation_at};
-ghost use Rattle.td_indices.specs.Fields.{Fails, asked_by, relation_in as relation_in_of, relation_or_bad, value_of as value_in};
+ghost use Rattle.td_indices.specs.Fields.{Fails, asked_by, relation_in as relation_in_of};
+ghost use Rattle.td_indices.specs.Fields.{relation_or_bad, value_of as value_in};
 ghost use Rattle.td_indices.specs.Kept.{provides_at};
 
 use crate::archive_fault::EntryFault;
@@ -27,8 +28,10 @@ fn read_relation(alloc: Global, text: &str) -> Result<Relation<'_>, EntryFault>
 
 /// What a relation field asks; `None` where it isn't there, or has whitespace alone.
 pub fn relation_in(alloc: Global, value: Option<&str>) -> Result<Option<Relation<'_>>, EntryFault>
-    ensures ok { IfOk result (λ r. relation_in_of (option_map (λ x. x.now) value.entry) ≡ Ok (asked_by r)) }
-    ensures err { IfErr result (λ e. Fails (relation_in_of (option_map (λ x. x.now) value.entry)) e) }
+    ensures ok { IfOk result (λ r.
+        relation_in_of (option_map (λ x. x.now) value.entry) ≡ Ok (asked_by r)) }
+    ensures err { IfErr result (λ e.
+        Fails (relation_in_of (option_map (λ x. x.now) value.entry)) e) }
 {
     let Some(text) = value else {
         return Ok(None);
@@ -68,8 +71,10 @@ pub fn read_again<'a>(
     stanza: &Stanza<'_, 'a>,
     name: &str,
 ) -> Result<Option<Relation<'a>>, AllocError>
-    requires { (members : List (List Asked)) × (relation_in_of (value_in (fields_of stanza.now) name.now) ≡ Ok members) }
-    ensures { IfOk result (λ r. relation_in_of (value_in (fields_of stanza.now) name.now) ≡ Ok (asked_by r)) }
+    requires { (members : List (List Asked))
+        × (relation_in_of (value_in (fields_of stanza.now) name.now) ≡ Ok members) }
+    ensures { IfOk result (λ r.
+        relation_in_of (value_in (fields_of stanza.now) name.now) ≡ Ok (asked_by r)) }
 {
     match relation_in(alloc, value_of(stanza, name)) {
         Ok(relation) => Ok(relation),

@@ -60,9 +60,11 @@ pub fn count_rows(
     archs: &Archs<'_>,
     sources: &IndexMap<&str, Sourced<'_>>,
 ) -> Result<usize, ArchiveFault>
-    ensures ok { IfOk result (λ rows. rows ≡ row_count (table archs.now) (sources_of sources.now.entries)) }
+    ensures ok { IfOk result (λ rows.
+        rows ≡ row_count (table archs.now) (sources_of sources.now.entries)) }
     ensures limited { IfOk result (λ rows. rows ≤ max_rows) }
-    ensures too_many { IfErr result (λ e. max_rows < row_count (table archs.now) (sources_of sources.now.entries)) }
+    ensures too_many { IfErr result (λ e.
+        max_rows < row_count (table archs.now) (sources_of sources.now.entries)) }
     ensures fault { IfErr result (λ e. e ≡ ArchiveFault.TooManyRows) }
 {
     let mut rows = 0;

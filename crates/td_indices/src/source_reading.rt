@@ -55,8 +55,11 @@ fn with_relations<'a>(
     head: SourceHead<'a>,
     number: usize,
 ) -> Result<(&'a str, Sourced<'a>), EntryFault>
-    ensures ok { IfOk result (λ p. with_build_relations number (fields_of stanza.now) (source_headed head.entry) ≡ Ok (source_of p)) }
-    ensures err { IfErr result (λ e. Fails (with_build_relations number (fields_of stanza.now) (source_headed head.entry)) e) }
+    ensures ok { IfOk result (λ p.
+        with_build_relations number (fields_of stanza.now) (source_headed head.entry)
+        ≡ Ok (source_of p)) }
+    ensures err { IfErr result (λ e.
+        Fails (with_build_relations number (fields_of stanza.now) (source_headed head.entry)) e) }
 {
     match relation_in(alloc, value_of(stanza, "Build-Depends")) {
         Ok(_) => {}
@@ -81,7 +84,8 @@ fn read_whole<'a>(
     stanza: &Stanza<'_, 'a>,
     number: usize,
 ) -> Result<(&'a str, Sourced<'a>), EntryFault>
-    ensures ok { IfOk result (λ p. whole_source_at number (fields_of stanza.now) ≡ Ok (source_of p)) }
+    ensures ok { IfOk result (λ p.
+        whole_source_at number (fields_of stanza.now) ≡ Ok (source_of p)) }
     ensures err { IfErr result (λ e. Fails (whole_source_at number (fields_of stanza.now)) e) }
 {
     match read_head(stanza) {
@@ -97,7 +101,8 @@ pub fn read_source<'a>(
     stanza: &Stanza<'_, 'a>,
     number: usize,
 ) -> Result<Option<(&'a str, Sourced<'a>)>, EntryFault>
-    ensures ok { IfOk result (λ o. kept_source_at number (fields_of stanza.now) ≡ Ok (option_map source_of o)) }
+    ensures ok { IfOk result (λ o.
+        kept_source_at number (fields_of stanza.now) ≡ Ok (option_map source_of o)) }
     ensures err { IfErr result (λ e. Fails (kept_source_at number (fields_of stanza.now)) e) }
 {
     if is_extra(stanza) {

@@ -30,7 +30,8 @@ pub fn read_stanzas<'a>(
     text: &'a str,
 ) -> Result<StanzaList<'a>, ArchiveFault>
     ensures found { IfOk result (λ list. AreStanzas list (lines_of text.now)) }
-    ensures only { (stanzas : List (List Entry)) → AreStanzas stanzas (lines_of text.now) → MatchResult result (λ list. list ≡ stanzas) (λ e. e ≡ ArchiveFault.NoMemory) }
+    ensures only { (stanzas : List (List Entry)) → AreStanzas stanzas (lines_of text.now)
+        → MatchResult result (λ list. list ≡ stanzas) (λ e. e ≡ ArchiveFault.NoMemory) }
     ensures fault { IfErr result (StanzaFaultOf file (lines_of text.now)) }
 {
     match stanzas(alloc, text) {

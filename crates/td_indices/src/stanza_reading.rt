@@ -47,8 +47,12 @@ fn take_binary<'a>(
     number: usize,
 ) -> Result<(), ArchiveFault>
     requires { number + 1 < 2 ^ 64 }
-    ensures ok { OnOk result (binary_step (table archs.now) number (binaries_of kept.old.entries) (fields_of stanza.now) ≡ Ok (binaries_of kept.new.entries)) }
-    ensures err { IfErr result (λ e. IsFaultOf (binary_step (table archs.now) number (binaries_of kept.old.entries) (fields_of stanza.now)) e) }
+    ensures ok { OnOk result
+        (binary_step (table archs.now) number (binaries_of kept.old.entries) (fields_of stanza.now)
+        ≡ Ok (binaries_of kept.new.entries)) }
+    ensures err { IfErr result (λ e.
+        IsFaultOf (binary_step (table archs.now) number (binaries_of kept.old.entries)
+        (fields_of stanza.now)) e) }
     ensures entry { IfErr result (λ e. is_entry e ≡ true) }
 {
     match read_binary(alloc, archs, stanza, number) {
@@ -67,7 +71,8 @@ pub fn read_binaries<'a>(
     archs: &Archs<'_>,
     stanzas: &StanzaList<'a>,
 ) -> Result<IndexMap<PackageKey<'a>, Packaged<'a>>, ArchiveFault>
-    ensures ok { IfOk result (λ kept. binaries_at (table archs.now) stanzas.now ≡ Ok (binaries_of kept.entries)) }
+    ensures ok { IfOk result (λ kept.
+        binaries_at (table archs.now) stanzas.now ≡ Ok (binaries_of kept.entries)) }
     ensures err { IfErr result (λ e. IsFaultOf (binaries_at (table archs.now) stanzas.now) e) }
     ensures entry { IfErr result (λ e. is_entry e ≡ true) }
 {
@@ -92,8 +97,11 @@ fn take_source<'a>(
     number: usize,
 ) -> Result<(), ArchiveFault>
     requires { number + 1 < 2 ^ 64 }
-    ensures ok { OnOk result (source_step number (sources_of kept.old.entries) (fields_of stanza.now) ≡ Ok (sources_of kept.new.entries)) }
-    ensures err { IfErr result (λ e. IsFaultOf (source_step number (sources_of kept.old.entries) (fields_of stanza.now)) e) }
+    ensures ok { OnOk result
+        (source_step number (sources_of kept.old.entries) (fields_of stanza.now)
+        ≡ Ok (sources_of kept.new.entries)) }
+    ensures err { IfErr result (λ e.
+        IsFaultOf (source_step number (sources_of kept.old.entries) (fields_of stanza.now)) e) }
     ensures entry { IfErr result (λ e. is_entry e ≡ true) }
 {
     match read_source(alloc, stanza, number) {

@@ -63,11 +63,15 @@ qualified_found t rest e = by (strip (codes ":") t) refl e
         → IsQualified t rest
     by None none k = record { qualifier = None; fits = tt; joined = some_is t rest k }
     by (Some word) is k =
-        let w = when_some (ltb 0 (length (run is_arch_byte word))) (behind is_arch_byte word) rest k in
+        let w =
+        when_some (ltb 0 (length (run is_arch_byte word))) (behind is_arch_byte word) rest k in
         record {
           qualifier = Some (run is_arch_byte word);
-          fits = and_from (ltb 0 (length (run is_arch_byte word))) (list_all is_arch_byte (run is_arch_byte word)) w.0 (run_passes is_arch_byte word);
-          joined = strip_found (codes ":") t word is ∙ ap (λ (u : List ℕ). 58 ∷ u) (run_joined is_arch_byte word ∙ ap (λ (u : List ℕ). run is_arch_byte word ++ u) w.1);
+          fits = and_from (ltb 0 (length (run is_arch_byte word)))
+              (list_all is_arch_byte (run is_arch_byte word)) w.0 (run_passes is_arch_byte word);
+          joined = strip_found (codes ":") t word is
+              ∙ ap (λ (u : List ℕ). 58 ∷ u)
+              (run_joined is_arch_byte word ∙ ap (λ (u : List ℕ). run is_arch_byte word ++ u) w.1);
         }
 
 pub record IsNamed (t name rest : List ℕ) : Type 0 where
@@ -88,15 +92,20 @@ name_found t p e = by (unqualified (behind is_name_byte (trimmed t))) refl e
         → named (run is_name_byte (trimmed t)) o ≡ Some p → IsNamed t p.0 p.1
     by None none k = absurd cc
     by (Some on) is k =
-        let w = when_some (is_name (run is_name_byte (trimmed t)) && ends_a_name (trimmed on)) (run is_name_byte (trimmed t), trimmed on) p k in
+        let w = when_some (is_name (run is_name_byte (trimmed t)) && ends_a_name (trimmed on))
+        (run is_name_byte (trimmed t), trimmed on) p k in
         let q = qualified_found (behind is_name_byte (trimmed t)) on is in
         subst (λ (r : List ℕ × List ℕ). IsNamed t r.0 r.1) w.1 (record {
           front = run is_space t;
           qualifier = q.qualifier;
           on = on;
-          joined = run_joined is_space t ∙ ap (λ (u : List ℕ). run is_space t ++ u) (run_joined is_name_byte (trimmed t) ∙ ap (λ (u : List ℕ). run is_name_byte (trimmed t) ++ u) q.joined);
+          joined = run_joined is_space t
+              ∙ ap (λ (u : List ℕ). run is_space t ++ u)
+              (run_joined is_name_byte (trimmed t)
+              ∙ ap (λ (u : List ℕ). run is_name_byte (trimmed t) ++ u) q.joined);
           blank = space_blank t;
-          legal = (and_parts (is_name (run is_name_byte (trimmed t))) (ends_a_name (trimmed on)) w.0).0;
+          legal =
+              (and_parts (is_name (run is_name_byte (trimmed t))) (ends_a_name (trimmed on)) w.0).0;
           fits = q.fits;
           is = refl;
         })
@@ -120,7 +129,8 @@ pub record IsBound (t : List ℕ) (restriction : Option Bound) (rest : List ℕ)
   pub before_version : List ℕ
   pub before_end : List ℕ
   pub on : List ℕ
-  pub joined : t ≡ 40 ∷ (before_operator ++ (operator_text operator ++ (before_version ++ (version ++ (before_end ++ 41 ∷ on)))))
+  pub joined : t ≡ 40 ∷ (before_operator
+      ++ (operator_text operator ++ (before_version ++ (version ++ (before_end ++ 41 ∷ on)))))
   pub blank_operator : is_blank before_operator ≡ true
   pub blank_version : is_blank before_version ≡ true
   pub blank_end : is_blank before_end ≡ true
@@ -129,7 +139,8 @@ pub record IsBound (t : List ℕ) (restriction : Option Bound) (rest : List ℕ)
   pub is : trimmed on ≡ rest
 
 -- a version, its `)`, and what follows
-pub record IsClosed (operator : Operator) (t : List ℕ) (restriction : Option Bound) (rest : List ℕ) : Type 0 where
+pub record IsClosed (operator : Operator) (t : List ℕ) (restriction : Option Bound)
+    (rest : List ℕ) : Type 0 where
   pub version : List ℕ
   pub parts : Parts
   pub before_version : List ℕ
@@ -144,7 +155,9 @@ pub record IsClosed (operator : Operator) (t : List ℕ) (restriction : Option B
 
 version_found : (operator : Operator) (t : List ℕ) (p : Option Bound × List ℕ)
     → version_at (Some operator) t ≡ Ok p → IsClosed operator t p.0 p.1
-version_found operator t p e = by (reading (run is_version_byte (trimmed t))) (strip (codes ")") (trimmed (behind is_version_byte (trimmed t)))) refl refl e
+version_found operator t p e =
+    by (reading (run is_version_byte (trimmed t)))
+    (strip (codes ")") (trimmed (behind is_version_byte (trimmed t)))) refl refl e
   where
     by : (r : Result Parts VersionFault) (o : Option (List ℕ))
         → reading (run is_version_byte (trimmed t)) ≡ r → strip (codes ")")
@@ -157,14 +170,24 @@ version_found operator t p e = by (reading (run is_version_byte (trimmed t))) (s
           | inl ends ↦ (
               let bound : Bound = record { operator = operator; version = parts } in
               let made : Option Bound × List ℕ = (Some bound, trimmed on) in
-              let same : made ≡ p = ok_is RelationFault made p (subst (λ (b : Bool). cond b (Ok (Some (record { operator = operator; version = parts }), trimmed on)) (Err BadArchList) ≡ Ok p) ends k) in
+              let same : made ≡ p = ok_is RelationFault made p
+              (subst (λ (b : Bool). cond b
+              (Ok (Some (record { operator = operator; version = parts }), trimmed on))
+              (Err BadArchList) ≡ Ok p) ends k) in
               subst (λ (r : Option Bound × List ℕ). IsClosed operator t r.0 r.1) same (record {
                 version = run is_version_byte (trimmed t);
                 parts = parts;
                 before_version = run is_space t;
                 before_end = run is_space (behind is_version_byte (trimmed t));
                 on = on;
-                joined = run_joined is_space t ∙ ap (λ (u : List ℕ). run is_space t ++ u) (run_joined is_version_byte (trimmed t) ∙ ap (λ (u : List ℕ). run is_version_byte (trimmed t) ++ u) (run_joined is_space (behind is_version_byte (trimmed t)) ∙ ap (λ (u : List ℕ). run is_space (behind is_version_byte (trimmed t)) ++ u) (strip_found (codes ")") (trimmed (behind is_version_byte (trimmed t))) on is)));
+                joined = run_joined is_space t
+                    ∙ ap (λ (u : List ℕ). run is_space t ++ u)
+                    (run_joined is_version_byte (trimmed t)
+                    ∙ ap (λ (u : List ℕ). run is_version_byte (trimmed t) ++ u)
+                    (run_joined is_space (behind is_version_byte (trimmed t))
+                    ∙ ap (λ (u : List ℕ). run is_space (behind is_version_byte (trimmed t)) ++ u)
+                    (strip_found (codes ")") (trimmed (behind is_version_byte (trimmed t))) on
+                    is)));
                 blank_version = space_blank t;
                 blank_end = space_blank (behind is_version_byte (trimmed t));
                 readable = read_found (run is_version_byte (trimmed t)) parts read;
@@ -172,7 +195,12 @@ version_found operator t p e = by (reading (run is_version_byte (trimmed t))) (s
                 is = refl;
               })
               )
-          | inr other ↦ absurd (let bad : ◌≡◌ {A = Result (Option Bound × List ℕ) RelationFault} (Err BadArchList) (Ok p) = subst (λ (b : Bool). cond b (Ok (Some (record { operator = operator; version = parts }), trimmed on)) (Err BadArchList) ≡ Ok p) other k in cc)
+          | inr other ↦
+              absurd (let bad : ◌≡◌ {A = Result (Option Bound × List ℕ) RelationFault}
+              (Err BadArchList) (Ok p) =
+              subst (λ (b : Bool). cond b
+              (Ok (Some (record { operator = operator; version = parts }), trimmed on))
+              (Err BadArchList) ≡ Ok p) other k in cc)
         ]
 
 pub restriction_found : (t : List ℕ) (p : Option Bound × List ℕ) → restriction_at t ≡ Ok p
@@ -195,7 +223,12 @@ restriction_found t p e = by (strip (codes "(") t) refl e
           before_version = c.before_version;
           before_end = c.before_end;
           on = c.on;
-          joined = at ∙ ap (λ (u : List ℕ). 40 ∷ u) (run_joined is_space inside ∙ ap (λ (u : List ℕ). run is_space inside ++ u) (run_joined is_operator_byte (trimmed inside) ∙ ap (λ (u : List ℕ). u ++ behind is_operator_byte (trimmed inside)) text ∙ ap (λ (u : List ℕ). operator_text operator ++ u) c.joined));
+          joined = at ∙ ap (λ (u : List ℕ). 40 ∷ u)
+              (run_joined is_space inside
+              ∙ ap (λ (u : List ℕ). run is_space inside ++ u)
+              (run_joined is_operator_byte (trimmed inside)
+              ∙ ap (λ (u : List ℕ). u ++ behind is_operator_byte (trimmed inside)) text
+              ∙ ap (λ (u : List ℕ). operator_text operator ++ u) c.joined));
           blank_operator = space_blank inside;
           blank_version = c.blank_version;
           blank_end = c.blank_end;
@@ -208,8 +241,13 @@ restriction_found t p e = by (strip (codes "(") t) refl e
         (codes "(") t ≡ o → restricted t o ≡ Ok p → ((p.0 ≡ None) × (t ≡ p.1)) ⊎ IsBound t p.0 p.1
     by None none k =
         let same : (None, t) ≡ p = ok_is RelationFault (None, t) p k in
-        inl (ap (λ (r : Option Bound × List ℕ). r.0) (sym same), ap (λ (r : Option Bound × List ℕ). r.1) same)
-    by (Some inside) is k = inr (inside_found inside (operator_at (run is_operator_byte (trimmed inside))) (strip_found (codes "(") t inside is) refl k)
+        inl (
+          ap (λ (r : Option Bound × List ℕ). r.0) (sym same),
+          ap (λ (r : Option Bound × List ℕ). r.1) same,
+        )
+    by (Some inside) is k =
+        inr (inside_found inside (operator_at (run is_operator_byte (trimmed inside)))
+        (strip_found (codes "(") t inside is) refl k)
 
 -- ---- the architecture list
 
@@ -240,7 +278,8 @@ archs_found t p e = by (strip (codes "[") t) refl e
           on = q.1;
           joined = at ∙ ap (λ (u : List ℕ). 91 ∷ u) (cut_found 93 inside q is).0;
           fits = list.fits;
-          spaced = subst (λ (ws : List (List ℕ)). AreWords ws q.0) list.are (words_found q.0).spaced;
+          spaced =
+              subst (λ (ws : List (List ℕ)). AreWords ws q.0) list.are (words_found q.0).spaced;
           asks = ap (λ (ws : List (List ℕ)). Some ws) list.are;
           is = refl;
         })
@@ -249,5 +288,9 @@ archs_found t p e = by (strip (codes "[") t) refl e
         (codes "[") t ≡ o → bracketed t o ≡ Some p → ((p.0 ≡ None) × (t ≡ p.1)) ⊎ IsList t p.0 p.1
     by None none k =
         let same : (None, t) ≡ p = some_is (None, t) p k in
-        inl (ap (λ (r : Option (List (List ℕ)) × List ℕ). r.0) (sym same), ap (λ (r : Option (List (List ℕ)) × List ℕ). r.1) same)
-    by (Some inside) is k = inr (inside_found inside (cut 93 inside) (strip_found (codes "[") t inside is) refl k)
+        inl (
+          ap (λ (r : Option (List (List ℕ)) × List ℕ). r.0) (sym same),
+          ap (λ (r : Option (List (List ℕ)) × List ℕ). r.1) same,
+        )
+    by (Some inside) is k =
+        inr (inside_found inside (cut 93 inside) (strip_found (codes "[") t inside is) refl k)

@@ -62,7 +62,8 @@ own_lack c (x ∷ t) = by (eqb x c) refl (own_lack c t)
 lack_all : (ps : List (List ℕ)) → AllByRecursion (λ p. Without 44 p) ps → AllByRecursion
     (λ p. Without 62 p) ps → AllByRecursion (λ p. Without 124 p) ps → AllByRecursion Lacks ps
 lack_all [] a b c = tt
-lack_all (p ∷ ps) a b c = (record { comma = a.0; greater = b.0; bar = c.0 }, lack_all ps a.1 b.1 c.1)
+lack_all (p ∷ ps) a b c =
+    (record { comma = a.0; greater = b.0; bar = c.0 }, lack_all ps a.1 b.1 c.1)
 
 -- ---- one list
 
@@ -88,9 +89,17 @@ piece_found p h lacks e = by (strip (codes "<") (trimmed p)) refl e
     by None none k = absurd cc
     by (Some inside) is k =
         let w = when_some (is_profile_list (words inside)) (holds_unprofiled (words inside)) h k in
-        let joined : p ≡ run is_space p ++ 60 ∷ inside = run_joined is_space p ∙ ap (λ (u : List ℕ). run is_space p ++ u) (strip_found (codes "<") (trimmed p) inside is) in
-        let inner = λ (c : ℕ) (l : Without c p). (Without-right c (run is_space p) (60 ∷ inside) (subst (Without c) joined l)).1 in
-        let found = profile_list_found inside w.0 (record { comma = inner 44 lacks.comma; greater = inner 62 lacks.greater; bar = inner 124 lacks.bar }) in
+        let joined : p ≡ run is_space p ++ 60 ∷ inside =
+        run_joined is_space p ∙ ap (λ (u : List ℕ). run is_space p ++ u)
+        (strip_found (codes "<") (trimmed p) inside is) in
+        let inner = λ (c : ℕ) (l : Without c p).
+        (Without-right c (run is_space p) (60 ∷ inside) (subst (Without c) joined l)).1 in
+        let found = profile_list_found inside w.0
+        (record {
+          comma = inner 44 lacks.comma;
+          greater = inner 62 lacks.greater;
+          bar = inner 124 lacks.bar;
+        }) in
         record {
           list = found.list;
           space = run is_space p;
@@ -98,7 +107,8 @@ piece_found p h lacks e = by (strip (codes "<") (trimmed p)) refl e
           joined = joined;
           blank = space_blank p;
           fits = found.fits;
-          spaced = subst (λ (ws : List (List ℕ)). AreWords ws inside) found.are (words_found inside).spaced;
+          spaced = subst (λ (ws : List (List ℕ)). AreWords ws inside) found.are
+              (words_found inside).spaced;
           asks = sym w.1 ∙ ap holds_unprofiled found.are ∙ holds-again found.list found.fits;
         }
 
@@ -115,7 +125,12 @@ step_found seen p x lacks e = by (is_blank p) refl e
     piece_by : (o : Option Bool) → profile_piece p ≡ o
         → on_ok (or_fault BadProfile o) (λ h. Ok (seen || h, false)) ≡ Ok x → IsStep seen p x
     piece_by None none k = absurd cc
-    piece_by (Some h) is k = record { holding = h; piece = piece_found p h lacks is; is = sym (ok_is RelationFault (seen || h, false) x k) }
+    piece_by (Some h) is k =
+        record {
+          holding = h;
+          piece = piece_found p h lacks is;
+          is = sym (ok_is RelationFault (seen || h, false) x k);
+        }
 
     by : (b : Bool) → is_blank p ≡ b
         → cond b (Ok (seen, true)) (on_ok (or_fault BadProfile (profile_piece p)) (λ h. Ok
@@ -145,14 +160,29 @@ pieces_found p [] seen u lacks e =
     let a = on_ok_parts (profile_step (seen, false) p) (λ more. Ok more) (u, true) e in
     let same : a.0 ≡ (u, true) = ok_is RelationFault a.0 (u, true) a.2 in
     elim (step_found seen p a.0 lacks.0 a.1) [
-      | inl blank ↦ record { lists = []; back = p; joined = refl; fits = tt; spaced = tt; blank = blank.0; asks = ap (λ (x : Bool × Bool). x.0) (sym same ∙ blank.1) ∙ sym (or-false seen) }
+      | inl blank ↦
+          record {
+            lists = [];
+            back = p;
+            joined = refl;
+            fits = tt;
+            spaced = tt;
+            blank = blank.0;
+            asks = ap (λ (x : Bool × Bool). x.0) (sym same ∙ blank.1) ∙ sym (or-false seen);
+          }
       | inr list ↦ absurd (not_ended (seen || list.holding) u (sym list.is ∙ same))
     ]
 pieces_found p (q ∷ qs) seen u lacks e =
-    let a = on_ok_parts (profile_step (seen, false) p) (λ more. over profile_step more (q ∷ qs)) (u, true) e in
+    let a = on_ok_parts (profile_step (seen, false) p) (λ more. over profile_step more (q ∷ qs))
+    (u, true) e in
     elim (step_found seen p a.0 lacks.0 a.1) [
-      | inl blank ↦ absurd (let bad : over profile_step (seen, true) (q ∷ qs) ≡ Ok (u, true) = subst (λ (x : Bool × Bool). over profile_step x (q ∷ qs) ≡ Ok (u, true)) blank.1 a.2 in cc)
-      | inr list ↦ joins list (pieces_found q qs (seen || list.holding) u lacks.1 (subst (λ (x : Bool × Bool). over profile_step x (q ∷ qs) ≡ Ok (u, true)) list.is a.2))
+      | inl blank ↦
+          absurd (let bad : over profile_step (seen, true) (q ∷ qs) ≡ Ok (u, true) =
+          subst (λ (x : Bool × Bool). over profile_step x (q ∷ qs) ≡ Ok (u, true)) blank.1 a.2 in
+          cc)
+      | inr list ↦
+          joins list (pieces_found q qs (seen || list.holding) u lacks.1
+          (subst (λ (x : Bool × Bool). over profile_step x (q ∷ qs) ≡ Ok (u, true)) list.is a.2))
     ]
   where
     joins : {x : Bool × Bool} (s : IsStep seen p x) → ArePieces (join_with_byte 62 (q ∷ qs))
@@ -162,11 +192,14 @@ pieces_found p (q ∷ qs) seen u lacks e =
         record {
           lists = record { list = l.list; before = l.space; inside = l.inside } ∷ r.lists;
           back = r.back;
-          joined = ap (λ (t : List ℕ). t ++ 62 ∷ join_with_byte 62 (q ∷ qs)) l.joined ∙ append_assoc l.space (60 ∷ l.inside) (62 ∷ join_with_byte 62 (q ∷ qs)) ∙ ap (λ (t : List ℕ). l.space ++ 60 ∷ (l.inside ++ 62 ∷ t)) r.joined;
+          joined = ap (λ (t : List ℕ). t ++ 62 ∷ join_with_byte 62 (q ∷ qs)) l.joined
+              ∙ append_assoc l.space (60 ∷ l.inside) (62 ∷ join_with_byte 62 (q ∷ qs))
+              ∙ ap (λ (t : List ℕ). l.space ++ 60 ∷ (l.inside ++ 62 ∷ t)) r.joined;
           fits = (l.fits, r.fits);
           spaced = ((l.blank, l.spaced), r.spaced);
           blank = r.blank;
-          asks = r.asks ∙ or_assoc seen s.holding (list_any holds (map (λ l. l.list) r.lists)) ∙ ap (λ (b : Bool). seen || (b || list_any holds (map (λ l. l.list) r.lists))) l.asks;
+          asks = r.asks ∙ or_assoc seen s.holding (list_any holds (map (λ l. l.list) r.lists))
+              ∙ ap (λ (b : Bool). seen || (b || list_any holds (map (λ l. l.list) r.lists))) l.asks;
         }
 
 -- the lists of a text, which need not be trimmed
@@ -183,8 +216,18 @@ some_lists : (t : List ℕ) (u : Bool) (lists : List SpacedProfiles) (back : Lis
     → is_blank t ≡ false → t ≡ profiles_then lists back
     → AllByRecursion ProfilesFit (map (λ l. l.list) lists) → AllByRecursion ProfilesAreSpaced lists
     → is_blank back ≡ true → u ≡ list_any holds (map (λ l. l.list) lists) → AreLists t u
-some_lists t u [] back other joined fits spaced blank asks = absurd (let bad : false ≡ true = sym other ∙ ap is_blank joined ∙ blank in cc)
-some_lists t u (l ∷ ls) back other joined fits spaced blank asks = record { lists = l ∷ ls; back = back; joined = joined; fits = fits; spaced = spaced; blank = blank; asks = asks }
+some_lists t u [] back other joined fits spaced blank asks =
+    absurd (let bad : false ≡ true = sym other ∙ ap is_blank joined ∙ blank in cc)
+some_lists t u (l ∷ ls) back other joined fits spaced blank asks =
+    record {
+      lists = l ∷ ls;
+      back = back;
+      joined = joined;
+      fits = fits;
+      spaced = spaced;
+      blank = blank;
+      asks = asks;
+    }
 
 ended_found : (x : Bool × Bool) (u : Bool) → ended x ≡ Ok u → x ≡ (u, true)
 ended_found (seen, true) u e = ap (λ (b : Bool). (b, true)) (ok_is RelationFault seen u e)
@@ -198,30 +241,55 @@ unprofiled_found t u comma bar e = by (is_blank t) refl e
     over_found : (ps : List (List ℕ)) → slice_split (λ b. eqb b 62) t ≡ ps → is_blank t ≡ false
         → AllByRecursion Lacks ps → over profile_step (false, false) ps ≡ Ok (u, true)
         → AreLists t u
-    over_found [] is other lacks k = absurd (not_ended false u (ok_is RelationFault (false, false) (u, true) k))
+    over_found [] is other lacks k =
+        absurd (not_ended false u (ok_is RelationFault (false, false) (u, true) k))
     over_found (p ∷ ps) is other lacks k =
         let r = pieces_found p ps false u lacks k in
-        let whole : t ≡ join_with_byte 62 (p ∷ ps) = sym (join_with_byte-slice_split 62 t) ∙ ap (join_with_byte 62) is in
+        let whole : t ≡ join_with_byte 62 (p ∷ ps) =
+        sym (join_with_byte-slice_split 62 t) ∙ ap (join_with_byte 62) is in
         some_lists t u r.lists r.back other (whole ∙ r.joined) r.fits r.spaced r.blank r.asks
 
     by : (b : Bool) → is_blank t ≡ b → cond b (Ok true) (on_ok (over profile_step (false, false)
         (slice_split (λ b. eqb b 62) t)) ended) ≡ Ok u → AreLists t u
-    by true is k = record { lists = []; back = t; joined = refl; fits = tt; spaced = tt; blank = is; asks = sym (ok_is RelationFault true u k) }
+    by true is k =
+        record {
+          lists = [];
+          back = t;
+          joined = refl;
+          fits = tt;
+          spaced = tt;
+          blank = is;
+          asks = sym (ok_is RelationFault true u k);
+        }
     by false is k =
-        let a = on_ok_parts (over profile_step (false, false) (slice_split (λ b. eqb b 62) t)) ended u k in
-        let lacks = lack_all (slice_split (λ b. eqb b 62) t) (pieces_lack (λ b. eqb b 62) 44 t comma) (own_lack 62 t) (pieces_lack (λ b. eqb b 62) 124 t bar) in
-        over_found (slice_split (λ b. eqb b 62) t) refl is lacks (a.1 ∙ ap (λ (x : Bool × Bool). Ok x) (ended_found a.0 u a.2))
+        let a = on_ok_parts (over profile_step (false, false) (slice_split (λ b. eqb b 62) t)) ended
+        u k in
+        let lacks = lack_all (slice_split (λ b. eqb b 62) t)
+        (pieces_lack (λ b. eqb b 62) 44 t comma) (own_lack 62 t)
+        (pieces_lack (λ b. eqb b 62) 124 t bar) in
+        over_found (slice_split (λ b. eqb b 62) t) refl is lacks
+        (a.1 ∙ ap (λ (x : Bool × Bool). Ok x) (ended_found a.0 u a.2))
 
 -- with whitespace in front
 behind_space : (space t : List ℕ) (u : Bool) (lists : List SpacedProfiles) (back : List ℕ)
     → is_blank space ≡ true → t ≡ profiles_then lists back
     → AllByRecursion ProfilesFit (map (λ l. l.list) lists) → AllByRecursion ProfilesAreSpaced lists
     → is_blank back ≡ true → u ≡ hold_unprofiled (map (λ l. l.list) lists) → AreLists (space ++ t) u
-behind_space space t u [] back wide joined fits spaced blank asks = record { lists = []; back = space ++ back; joined = ap (λ (x : List ℕ). space ++ x) joined; fits = tt; spaced = tt; blank = is_blank-behind space back wide ∙ blank; asks = asks }
+behind_space space t u [] back wide joined fits spaced blank asks =
+    record {
+      lists = [];
+      back = space ++ back;
+      joined = ap (λ (x : List ℕ). space ++ x) joined;
+      fits = tt;
+      spaced = tt;
+      blank = is_blank-behind space back wide ∙ blank;
+      asks = asks;
+    }
 behind_space space t u (l ∷ ls) back wide joined fits spaced blank asks = record {
   lists = record { list = l.list; before = space ++ l.before; inside = l.inside } ∷ ls;
   back = back;
-  joined = ap (λ (x : List ℕ). space ++ x) joined ∙ sym (append_assoc space l.before (60 ∷ (l.inside ++ 62 ∷ profiles_then ls back)));
+  joined = ap (λ (x : List ℕ). space ++ x) joined
+      ∙ sym (append_assoc space l.before (60 ∷ (l.inside ++ 62 ∷ profiles_then ls back)));
   fits = fits;
   spaced = ((is_blank-behind space l.before wide ∙ spaced.0.0, spaced.0.1), spaced.1);
   blank = blank;
@@ -230,4 +298,5 @@ behind_space space t u (l ∷ ls) back wide joined fits spaced blank asks = reco
 
 pub lists_behind : (space t : List ℕ) (u : Bool) → is_blank space ≡ true → AreLists t u
     → AreLists (space ++ t) u
-lists_behind space t u wide r = behind_space space t u r.lists r.back wide r.joined r.fits r.spaced r.blank r.asks
+lists_behind space t u wide r =
+    behind_space space t u r.lists r.back wide r.joined r.fits r.spaced r.blank r.asks

@@ -39,7 +39,8 @@ pub record IsInner (t : List ℕ) : Type 0 where
   pub bar : Without 124 t
 
 inner_right : (a b : List ℕ) → IsInner (a ++ b) → IsInner b
-inner_right a b h = record { comma = Without-right 44 a b h.comma; bar = Without-right 124 a b h.bar }
+inner_right a b h =
+    record { comma = Without-right 44 a b h.comma; bar = Without-right 124 a b h.bar }
 
 pub record AreArchs (t : List ℕ) (archs : Option (List (List ℕ))) (u : Bool) : Type 0 where
   pub list : Option SpacedArchs
@@ -51,7 +52,8 @@ pub record AreArchs (t : List ℕ) (archs : Option (List (List ℕ))) (u : Bool)
   pub profiles_fit : AllByRecursion ProfilesFit (map (λ l. l.list) profiles)
   pub profiles_spaced : AllByRecursion ProfilesAreSpaced profiles
   pub blank : is_blank back ≡ true
-  pub asks : archs ≡ option_map (λ w. map (marked w.negated) w.names) (option_map (λ l. l.list) list)
+  pub asks : archs
+      ≡ option_map (λ w. map (marked w.negated) w.names) (option_map (λ l. l.list) list)
   pub asks_profiles : u ≡ hold_unprofiled (map (λ l. l.list) profiles)
 
 archs_behind : (space t rest : List ℕ) (archs : Option (List (List ℕ))) (u : Bool)
@@ -62,20 +64,39 @@ archs_behind space t rest archs u wide inner e k =
       | inl none ↦ (
           let same : t ≡ rest = none.1 in
           let there = subst IsInner same inner in
-          let r = lists_behind space t u wide (subst (λ (x : List ℕ). AreLists x u) (sym same) (unprofiled_found rest u there.comma there.bar k)) in
-          record { list = None; profiles = r.lists; back = r.back; joined = r.joined; fits = tt; spaced = tt; profiles_fit = r.fits; profiles_spaced = r.spaced; blank = r.blank; asks = none.0; asks_profiles = r.asks }
+          let r = lists_behind space t u wide
+          (subst (λ (x : List ℕ). AreLists x u) (sym same)
+          (unprofiled_found rest u there.comma there.bar k)) in
+          record {
+            list = None;
+            profiles = r.lists;
+            back = r.back;
+            joined = r.joined;
+            fits = tt;
+            spaced = tt;
+            profiles_fit = r.fits;
+            profiles_spaced = r.spaced;
+            blank = r.blank;
+            asks = none.0;
+            asks_profiles = r.asks;
+          }
           )
       | inr l ↦ (
           let on = on_is l.on rest l.is in
           let shown = subst IsInner l.joined inner in
-          let past : IsInner (93 ∷ l.on) = inner_right l.inside (93 ∷ l.on) (record { comma = shown.comma.1; bar = shown.bar.1 }) in
-          let there : IsInner rest = inner_right (run is_space l.on) rest (subst IsInner on (record { comma = past.comma.1; bar = past.bar.1 })) in
-          let r = lists_behind (run is_space l.on) rest u (space_blank l.on) (unprofiled_found rest u there.comma there.bar k) in
+          let past : IsInner (93 ∷ l.on) =
+          inner_right l.inside (93 ∷ l.on) (record { comma = shown.comma.1; bar = shown.bar.1 }) in
+          let there : IsInner rest =
+          inner_right (run is_space l.on) rest
+          (subst IsInner on (record { comma = past.comma.1; bar = past.bar.1 })) in
+          let r = lists_behind (run is_space l.on) rest u (space_blank l.on)
+          (unprofiled_found rest u there.comma there.bar k) in
           record {
             list = Some (record { list = l.list; before = space; inside = l.inside });
             profiles = r.lists;
             back = r.back;
-            joined = ap (λ (x : List ℕ). space ++ x) l.joined ∙ ap (λ (x : List ℕ). space ++ 91 ∷ (l.inside ++ 93 ∷ x)) (on ∙ r.joined);
+            joined = ap (λ (x : List ℕ). space ++ x) l.joined
+                ∙ ap (λ (x : List ℕ). space ++ 91 ∷ (l.inside ++ 93 ∷ x)) (on ∙ r.joined);
             fits = l.fits;
             spaced = (wide, l.spaced);
             profiles_fit = r.fits;
@@ -87,7 +108,8 @@ archs_behind space t rest archs u wide inner e k =
           )
     ]
 
-pub record IsTail (t : List ℕ) (restriction : Option Bound) (archs : Option (List (List ℕ))) (u : Bool) : Type 0 where
+pub record IsTail (t : List ℕ) (restriction : Option Bound) (archs : Option (List (List ℕ)))
+    (u : Bool) : Type 0 where
   pub bound : Option SpacedBound
   pub list : Option SpacedArchs
   pub profiles : List SpacedProfiles
@@ -101,7 +123,8 @@ pub record IsTail (t : List ℕ) (restriction : Option Bound) (archs : Option (L
   pub profiles_spaced : AllByRecursion ProfilesAreSpaced profiles
   pub blank : is_blank back ≡ true
   pub asks_bound : restriction ≡ option_map bound_asked (option_map (λ b. b.bound) bound)
-  pub asks : archs ≡ option_map (λ w. map (marked w.negated) w.names) (option_map (λ l. l.list) list)
+  pub asks : archs
+      ≡ option_map (λ w. map (marked w.negated) w.names) (option_map (λ l. l.list) list)
   pub asks_profiles : u ≡ hold_unprofiled (map (λ l. l.list) profiles)
 
 tail_behind : (space t more rest : List ℕ) (restriction : Option Bound)
@@ -113,7 +136,23 @@ tail_behind space t more rest restriction archs u wide inner e f k =
       | inl none ↦ (
           let same : t ≡ more = none.1 in
           let a = archs_behind space t rest archs u wide inner (ap archs_at same ∙ f) k in
-          record { bound = None; list = a.list; profiles = a.profiles; back = a.back; joined = a.joined; bound_fits = tt; bound_spaced = tt; fits = a.fits; spaced = a.spaced; profiles_fit = a.profiles_fit; profiles_spaced = a.profiles_spaced; blank = a.blank; asks_bound = none.0; asks = a.asks; asks_profiles = a.asks_profiles }
+          record {
+            bound = None;
+            list = a.list;
+            profiles = a.profiles;
+            back = a.back;
+            joined = a.joined;
+            bound_fits = tt;
+            bound_spaced = tt;
+            fits = a.fits;
+            spaced = a.spaced;
+            profiles_fit = a.profiles_fit;
+            profiles_spaced = a.profiles_spaced;
+            blank = a.blank;
+            asks_bound = none.0;
+            asks = a.asks;
+            asks_profiles = a.asks_profiles;
+          }
           )
       | inr b ↦ (
           let on = on_is b.on more b.is in
@@ -122,16 +161,32 @@ tail_behind space t more rest restriction archs u wide inner e f k =
           let version = b.version ++ ending in
           let spaced_version = b.before_version ++ version in
           let operator = operator_text b.operator ++ spaced_version in
-          let inside : IsInner (b.before_operator ++ operator) = record { comma = shown.comma.1; bar = shown.bar.1 } in
-          let past = inner_right b.before_end (41 ∷ b.on) (inner_right b.version ending (inner_right b.before_version version (inner_right (operator_text b.operator) spaced_version (inner_right b.before_operator operator inside)))) in
-          let there : IsInner more = inner_right (run is_space b.on) more (subst IsInner on (record { comma = past.comma.1; bar = past.bar.1 })) in
+          let inside : IsInner (b.before_operator ++ operator) =
+          record { comma = shown.comma.1; bar = shown.bar.1 } in
+          let past = inner_right b.before_end (41 ∷ b.on)
+          (inner_right b.version ending
+          (inner_right b.before_version version
+          (inner_right (operator_text b.operator) spaced_version
+          (inner_right b.before_operator operator inside)))) in
+          let there : IsInner more =
+          inner_right (run is_space b.on) more
+          (subst IsInner on (record { comma = past.comma.1; bar = past.bar.1 })) in
           let a = archs_behind (run is_space b.on) more rest archs u (space_blank b.on) there f k in
           record {
-            bound = Some (record { bound = record { operator = b.operator; version = b.version; parts = b.parts }; before = space; before_operator = b.before_operator; before_version = b.before_version; before_end = b.before_end });
+            bound = Some (record {
+              bound = record { operator = b.operator; version = b.version; parts = b.parts };
+              before = space;
+              before_operator = b.before_operator;
+              before_version = b.before_version;
+              before_end = b.before_end;
+            });
             list = a.list;
             profiles = a.profiles;
             back = a.back;
-            joined = ap (λ (x : List ℕ). space ++ x) b.joined ∙ ap (λ (x : List ℕ). space ++ 40 ∷ (b.before_operator ++ (operator_text b.operator ++ (b.before_version ++ (b.version ++ (b.before_end ++ 41 ∷ x)))))) (on ∙ a.joined);
+            joined = ap (λ (x : List ℕ). space ++ x) b.joined
+                ∙ ap (λ (x : List ℕ). space ++ 40
+                ∷ (b.before_operator ++ (operator_text b.operator
+                ++ (b.before_version ++ (b.version ++ (b.before_end ++ 41 ∷ x)))))) (on ∙ a.joined);
             bound_fits = b.readable;
             bound_spaced = (wide, b.blank_operator, b.blank_version, b.blank_end);
             fits = a.fits;
@@ -165,17 +220,59 @@ alternative_found t x inner e =
     let n = name_found t name.0 (or_fault_found BadName (name_at t) name.0 name.1) in
     let on = on_is n.on name.0.1 n.is in
     let behind_name = qualifier_part n.qualifier ++ n.on in
-    let past : IsInner n.on = inner_right (qualifier_part n.qualifier) n.on (inner_right name.0.0 behind_name (inner_right n.front (name.0.0 ++ behind_name) (subst IsInner n.joined inner))) in
-    let there : IsInner name.0.1 = inner_right (run is_space n.on) name.0.1 (subst IsInner on past) in
-    let tail = tail_behind (run is_space n.on) name.0.1 restriction.0.1 archs.0.1 restriction.0.0 archs.0.0 unprofiled.0 (space_blank n.on) there restriction.1 (or_fault_found BadArchList (archs_at restriction.0.1) archs.0 archs.1) unprofiled.1 in
-    let made : Asked = record { name = name.0.0; restriction = restriction.0.0; archs = archs.0.0; unprofiled = unprofiled.0 } in
+    let past : IsInner n.on =
+    inner_right (qualifier_part n.qualifier) n.on
+    (inner_right name.0.0 behind_name
+    (inner_right n.front (name.0.0 ++ behind_name) (subst IsInner n.joined inner))) in
+    let there : IsInner name.0.1 =
+    inner_right (run is_space n.on) name.0.1 (subst IsInner on past) in
+    let tail = tail_behind (run is_space n.on) name.0.1 restriction.0.1 archs.0.1 restriction.0.0
+    archs.0.0 unprofiled.0 (space_blank n.on) there restriction.1
+    (or_fault_found BadArchList (archs_at restriction.0.1) archs.0 archs.1) unprofiled.1 in
+    let made : Asked = record {
+      name = name.0.0;
+      restriction = restriction.0.0;
+      archs = archs.0.0;
+      unprofiled = unprofiled.0;
+    } in
     let same : made ≡ x = ok_is RelationFault made x unprofiled.2 in
-    let written : SpacedAlternative = record { front = n.front; name = name.0.0; qualifier = n.qualifier; bound = tail.bound; archs = tail.list; profiles = tail.profiles; back = tail.back } in
-    let asks : made ≡ alternative_asked (unspaced written) = λ i. record { name = name.0.0; restriction = tail.asks_bound i; archs = tail.asks i; unprofiled = tail.asks_profiles i } in
+    let written : SpacedAlternative =
+    record {
+      front = n.front;
+      name = name.0.0;
+      qualifier = n.qualifier;
+      bound = tail.bound;
+      archs = tail.list;
+      profiles = tail.profiles;
+      back = tail.back;
+    } in
+    let asks : made ≡ alternative_asked (unspaced written) =
+    λ i. record {
+      name = name.0.0;
+      restriction = tail.asks_bound i;
+      archs = tail.asks i;
+      unprofiled = tail.asks_profiles i;
+    } in
     record {
       written = written;
-      spaced = record { fits = record { name = n.legal; qualifier = n.fits; bound = tail.bound_fits; archs = tail.fits; profiles = tail.profiles_fit }; front = n.blank; bound = tail.bound_spaced; archs = tail.spaced; profiles = tail.profiles_spaced; back = tail.blank };
-      spelled = n.joined ∙ ap (λ (y : List ℕ). n.front ++ (name.0.0 ++ (qualifier_part n.qualifier ++ y))) (on ∙ tail.joined);
+      spaced = record {
+        fits =
+            record {
+              name = n.legal;
+              qualifier = n.fits;
+              bound = tail.bound_fits;
+              archs = tail.fits;
+              profiles = tail.profiles_fit;
+            };
+        front = n.blank;
+        bound = tail.bound_spaced;
+        archs = tail.spaced;
+        profiles = tail.profiles_spaced;
+        back = tail.blank;
+      };
+      spelled = n.joined ∙ ap
+          (λ (y : List ℕ). n.front ++ (name.0.0 ++ (qualifier_part n.qualifier ++ y)))
+          (on ∙ tail.joined);
       asks = sym same ∙ asks;
     }
 
@@ -205,10 +302,12 @@ alternatives_found p [] seen total inner e =
       some = filled_list r.written [];
       spaced = (r.spaced, tt);
       spelled = r.spelled ∙ sym (append-nil (spaced_alternative r.written));
-      asks = sym (ok_is RelationFault (seen ++ b.0 ∷ []) a.0 b.2 ∙ ok_is RelationFault a.0 total a.2) ∙ ap (λ (x : Asked). seen ++ x ∷ []) r.asks;
+      asks = sym (ok_is RelationFault (seen ++ b.0 ∷ []) a.0 b.2
+          ∙ ok_is RelationFault a.0 total a.2) ∙ ap (λ (x : Asked). seen ++ x ∷ []) r.asks;
     }
 alternatives_found p (q ∷ qs) seen total inner e =
-    let a = on_ok_parts (alternative_step seen p) (λ more. over alternative_step more (q ∷ qs)) total e in
+    let a = on_ok_parts (alternative_step seen p) (λ more. over alternative_step more (q ∷ qs))
+    total e in
     let b = on_ok_parts (alternative_at p) (λ x. Ok (seen ++ x ∷ [])) a.0 a.1 in
     let r = alternative_found p b.0 inner.0 b.1 in
     let later = alternatives_found q qs a.0 total inner.1 a.2 in
@@ -217,7 +316,13 @@ alternatives_found p (q ∷ qs) seen total inner e =
     joins : {x : Asked} {more : List Asked} (r : IsAlternative p x)
         (later : IsMember (join_with_byte 124 (q ∷ qs)) more total) → more ≡ seen ++ x ∷ []
         → IsMember (join_with_byte 124 (p ∷ q ∷ qs)) seen total
-    joins r later is = by r later.written later.some later.spaced later.spelled (later.asks ∙ ap (λ (l : List Asked). l ++ map alternative_asked (map unspaced later.written)) (is ∙ ap (λ (y : Asked). seen ++ y ∷ []) r.asks) ∙ append_assoc seen (alternative_asked (unspaced r.written) ∷ []) (map alternative_asked (map unspaced later.written)))
+    joins r later is =
+        by r later.written later.some later.spaced later.spelled
+        (later.asks ∙ ap (λ (l : List Asked).
+        l ++ map alternative_asked (map unspaced later.written))
+        (is ∙ ap (λ (y : Asked). seen ++ y ∷ []) r.asks)
+        ∙ append_assoc seen (alternative_asked (unspaced r.written) ∷ [])
+        (map alternative_asked (map unspaced later.written)))
       where
         by : {x : Asked} (r : IsAlternative p x) (w : List SpacedAlternative) → w ≢ []
             → AllByRecursion IsSpaced w → join_with_byte 124 (q ∷ qs) ≡ spaced_member (Filled w)
@@ -228,7 +333,8 @@ alternatives_found p (q ∷ qs) seen total inner e =
           written = r.written ∷ v ∷ w;
           some = filled_list r.written (v ∷ w);
           spaced = (r.spaced, spaced);
-          spelled = ap (λ (y : List ℕ). y ++ 124 ∷ join_with_byte 124 (q ∷ qs)) r.spelled ∙ ap (λ (y : List ℕ). spaced_alternative r.written ++ 124 ∷ y) spelled;
+          spelled = ap (λ (y : List ℕ). y ++ 124 ∷ join_with_byte 124 (q ∷ qs)) r.spelled
+              ∙ ap (λ (y : List ℕ). spaced_alternative r.written ++ 124 ∷ y) spelled;
           asks = asks;
         }
 
@@ -247,13 +353,17 @@ no_pieces test (x ∷ t) e = by (test x) (slice_split test t) e
     by false (p ∷ ps) k = absurd cc
 
 member_found : (t : List ℕ) (m : List Asked) → Without 44 t → member_at t ≡ Ok m → IsMember t [] m
-member_found t m comma e = by (slice_split (λ b. eqb b 124) t) refl (inner_all (slice_split (λ b. eqb b 124) t) (pieces_lack (λ b. eqb b 124) 44 t comma) (own_lack 124 t)) e
+member_found t m comma e =
+    by (slice_split (λ b. eqb b 124) t) refl
+    (inner_all (slice_split (λ b. eqb b 124) t) (pieces_lack (λ b. eqb b 124) 44 t comma)
+    (own_lack 124 t)) e
   where
     by : (ps : List (List ℕ)) → slice_split (λ b. eqb b 124) t ≡ ps → AllByRecursion IsInner ps
         → over alternative_step [] ps ≡ Ok m → IsMember t [] m
     by [] is inner k = absurd (no_pieces (λ b. eqb b 124) t is)
     by (p ∷ ps) is inner k =
-        let whole : join_with_byte 124 (p ∷ ps) ≡ t = ap (join_with_byte 124) (sym is) ∙ join_with_byte-slice_split 124 t in
+        let whole : join_with_byte 124 (p ∷ ps) ≡ t =
+        ap (join_with_byte 124) (sym is) ∙ join_with_byte-slice_split 124 t in
         subst (λ (x : List ℕ). IsMember x [] m) whole (alternatives_found p ps [] m inner k)
 
 -- ---- a relation
@@ -273,11 +383,23 @@ one_found p seen more comma e = by (is_blank p) refl e
   where
     by : (b : Bool) → is_blank p ≡ b → cond b (Ok seen)
         (on_ok (member_at p) (λ m. Ok (seen ++ m ∷ []))) ≡ Ok more → IsOne p seen more
-    by true is k = record { member = Blank p; spaced = is; spelled = refl; asks = sym (ok_is RelationFault seen more k) ∙ sym (append-nil seen) }
+    by true is k =
+        record {
+          member = Blank p;
+          spaced = is;
+          spelled = refl;
+          asks = sym (ok_is RelationFault seen more k) ∙ sym (append-nil seen);
+        }
     by false is k =
         let a = on_ok_parts (member_at p) (λ m. Ok (seen ++ m ∷ [])) more k in
         let m = member_found p a.0 comma a.1 in
-        record { member = Filled m.written; spaced = (m.some, m.spaced); spelled = m.spelled; asks = sym (ok_is RelationFault (seen ++ a.0 ∷ []) more a.2) ∙ ap (λ (x : List Asked). seen ++ x ∷ []) m.asks }
+        record {
+          member = Filled m.written;
+          spaced = (m.some, m.spaced);
+          spelled = m.spelled;
+          asks = sym (ok_is RelationFault (seen ++ a.0 ∷ []) more a.2)
+              ∙ ap (λ (x : List Asked). seen ++ x ∷ []) m.asks;
+        }
 
 pub record AreMembers (t : List ℕ) (seen total : List (List Asked)) : Type 0 where
   pub first : SpacedMember
@@ -293,7 +415,13 @@ unfolding over
 members_found p [] seen total comma e =
     let a = on_ok_parts (member_step seen p) (λ more. Ok more) total e in
     let m = one_found p seen a.0 comma.0 a.1 in
-    record { first = m.member; others = []; spaced = (m.spaced, tt); spelled = m.spelled ∙ sym (append-nil (spaced_member m.member)); asks = sym (ok_is RelationFault a.0 total a.2) ∙ m.asks }
+    record {
+      first = m.member;
+      others = [];
+      spaced = (m.spaced, tt);
+      spelled = m.spelled ∙ sym (append-nil (spaced_member m.member));
+      asks = sym (ok_is RelationFault a.0 total a.2) ∙ m.asks;
+    }
 members_found p (q ∷ qs) seen total comma e =
     let a = on_ok_parts (member_step seen p) (λ more. over member_step more (q ∷ qs)) total e in
     let m = one_found p seen a.0 comma.0 a.1 in
@@ -303,8 +431,11 @@ members_found p (q ∷ qs) seen total comma e =
       first = m.member;
       others = rest;
       spaced = (m.spaced, later.spaced);
-      spelled = ap (λ (y : List ℕ). y ++ 44 ∷ join_with_byte 44 (q ∷ qs)) m.spelled ∙ ap (λ (y : List ℕ). spaced_member m.member ++ 44 ∷ y) later.spelled;
-      asks = later.asks ∙ ap (λ (l : List (List Asked)). l ++ asked_of rest) m.asks ∙ append_assoc seen (asked_of (m.member ∷ [])) (asked_of rest) ∙ ap (λ (l : List (List Asked)). seen ++ l) (one_more m.member rest);
+      spelled = ap (λ (y : List ℕ). y ++ 44 ∷ join_with_byte 44 (q ∷ qs)) m.spelled
+          ∙ ap (λ (y : List ℕ). spaced_member m.member ++ 44 ∷ y) later.spelled;
+      asks = later.asks ∙ ap (λ (l : List (List Asked)). l ++ asked_of rest) m.asks
+          ∙ append_assoc seen (asked_of (m.member ∷ [])) (asked_of rest)
+          ∙ ap (λ (l : List (List Asked)). seen ++ l) (one_more m.member rest);
     }
 
 some_found : (ms asked : List (List Asked)) → some_members ms ≡ Ok asked
@@ -318,22 +449,32 @@ found : (text : List ℕ) (asked : List (List Asked)) → relation_at text ≡ O
     → IsRelation text asked
 unfolding relation_at
 found text asked e =
-    let a = on_ok_parts (over member_step [] (slice_split (λ b. eqb b 44) text)) some_members asked e in
+    let a =
+    on_ok_parts (over member_step [] (slice_split (λ b. eqb b 44) text)) some_members asked e in
     let some = some_found a.0 asked a.2 in
-    by (slice_split (λ b. eqb b 44) text) refl (own_lack 44 text) (a.1 ∙ ap (λ (x : List (List Asked)). Ok x) some.0) some.1
+    by (slice_split (λ b. eqb b 44) text) refl (own_lack 44 text)
+    (a.1 ∙ ap (λ (x : List (List Asked)). Ok x) some.0) some.1
   where
     by : (ps : List (List ℕ)) → slice_split (λ b. eqb b 44) text ≡ ps → AllByRecursion (λ p.
         Without 44 p) ps → over member_step [] ps ≡ Ok asked → asked ≢ [] → IsRelation text asked
     by [] is comma k some = absurd (no_pieces (λ b. eqb b 44) text is)
     by (p ∷ ps) is comma k some =
         let m = members_found p ps [] asked comma k in
-        let whole : text ≡ join_with_byte 44 (p ∷ ps) = sym (join_with_byte-slice_split 44 text) ∙ ap (join_with_byte 44) is in
+        let whole : text ≡ join_with_byte 44 (p ∷ ps) =
+        sym (join_with_byte-slice_split 44 text) ∙ ap (join_with_byte 44) is in
         let asks : asked ≡ asked_of (m.first ∷ m.others) = m.asks in
-        record { written = m.first ∷ m.others; spaced = (m.spaced, λ none. some (asks ∙ ap (map (λ m. map alternative_asked m)) none)); spelled = whole ∙ m.spelled; asks = asks }
+        record {
+          written = m.first ∷ m.others;
+          spaced = (m.spaced, λ none. some (asks ∙ ap (map (λ m. map alternative_asked m)) none));
+          spelled = whole ∙ m.spelled;
+          asks = asks;
+        }
 
 again : (text : List ℕ) (asked : List (List Asked)) → IsRelation text asked
     → relation_at text ≡ Ok asked
-again text asked h = ap relation_at h.spelled ∙ spaced_relations_are_read h.written h.spaced ∙ ap (λ (x : List (List Asked)). Ok x) (sym h.asks)
+again text asked h =
+    ap relation_at h.spelled ∙ spaced_relations_are_read h.written h.spaced
+    ∙ ap (λ (x : List (List Asked)). Ok x) (sym h.asks)
 
 pub relations_are_exact : RelationsAreExact
 relations_are_exact text asked = (found text asked, again text asked)

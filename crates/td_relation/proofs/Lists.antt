@@ -12,14 +12,17 @@ pub bytes_eq-append : (word front back : List ℕ) → bytes_eq word (front ++ b
 bytes_eq-append word [] back = refl
 bytes_eq-append [] (x ∷ front) back = refl
 bytes_eq-append (y ∷ word) (x ∷ front) back =
-    ap (λ (b : Bool). eqb y x && b) (bytes_eq-append word front back) ∙ sym (and_assoc (eqb y x) (bytes_eq (take (length front) word) front) (bytes_eq (drop (length front) word) back))
+    ap (λ (b : Bool). eqb y x && b) (bytes_eq-append word front back)
+    ∙ sym (and_assoc (eqb y x) (bytes_eq (take (length front) word) front)
+    (bytes_eq (drop (length front) word) back))
 
 -- ---- lists through a view
 
 prefix_len-map : {A B : Type 0} (test : B → Bool) (view : A → B) (xs : List A)
     → prefix_len test (map view xs) ≡ prefix_len (λ x. test (view x)) xs
 prefix_len-map test view [] = refl
-prefix_len-map test view (x ∷ xs) = ap (λ (n : ℕ). cond (test (view x)) (1 + n) 0) (prefix_len-map test view xs)
+prefix_len-map test view (x ∷ xs) =
+    ap (λ (n : ℕ). cond (test (view x)) (1 + n) 0) (prefix_len-map test view xs)
 
 pub position-map : {A B : Type 0} (test : B → Bool) (view : A → B) (xs : List A)
     → position test (map view xs) ≡ position (λ x. test (view x)) xs

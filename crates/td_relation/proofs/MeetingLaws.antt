@@ -54,7 +54,8 @@ all_go_on f g on (x ∷ xs) h =
 
 -- ---- other names
 
-module _ (some other : List ℕ → List Offered) (place : ℕ) (a : ArchWords) (name : List ℕ) (agree : (q : List ℕ) → q ≢ name → some q ≡ other q) where
+module _ (some other : List ℕ → List Offered) (place : ℕ) (a : ArchWords) (name : List ℕ)
+    (agree : (q : List ℕ) → q ≢ name → some q ≡ other q) where
   alternative_same : (x : Asked) → (active a x && bytes_eq x.name name) ≡ false
       → (active a x && alternative_met some place x) ≡ (active a x && alternative_met other place x)
   alternative_same x h = by (active a x) h
@@ -62,18 +63,28 @@ module _ (some other : List ℕ → List Offered) (place : ℕ) (a : ArchWords) 
       by : (b : Bool) → (b && bytes_eq x.name name) ≡ false
           → (b && alternative_met some place x) ≡ (b && alternative_met other place x)
       by false k = refl
-      by true k = ap (list_any (λ o. is_there place o && satisfies x.restriction o.version)) (agree x.name (λ e. (let bad : true ≡ false = sym ((bytes_eq-Decides x.name name).1 e) ∙ k in cc)))
+      by true k =
+          ap (list_any (λ o. is_there place o && satisfies x.restriction o.version))
+          (agree x.name (λ e.
+          (let bad : true ≡ false = sym ((bytes_eq-Decides x.name name).1 e) ∙ k in cc)))
 
   member_same : (m : List Asked) → list_any (λ x. active a x && bytes_eq x.name name) m ≡ false
       → member_met some place a m ≡ member_met other place a m
-  member_same m h = ap (λ (b : Bool). not (list_any (λ x. active a x) m) || b) (any_same (λ x. active a x && bytes_eq x.name name) (λ x. active a x && alternative_met some place x) (λ x. active a x && alternative_met other place x) alternative_same m h)
+  member_same m h =
+      ap (λ (b : Bool). not (list_any (λ x. active a x) m) || b)
+      (any_same (λ x. active a x && bytes_eq x.name name)
+      (λ x. active a x && alternative_met some place x)
+      (λ x. active a x && alternative_met other place x) alternative_same m h)
 
   pub relation_same : (ms : List (List Asked)) → names a name ms ≡ false
       → met some place a ms ≡ met other place a ms
-  relation_same ms h = all_same (λ m. list_any (λ x. active a x && bytes_eq x.name name) m) (λ m. member_met some place a m) (λ m. member_met other place a m) member_same ms h
+  relation_same ms h =
+      all_same (λ m. list_any (λ x. active a x && bytes_eq x.name name) m)
+      (λ m. member_met some place a m) (λ m. member_met other place a m) member_same ms h
 
 pub others_make_no_difference : OthersMakeNoDifference
-others_make_no_difference some other place a name ms agree h = relation_same some other place a name agree ms h
+others_make_no_difference some other place a name ms agree h =
+    relation_same some other place a name agree ms h
 
 -- ---- more offers
 
@@ -82,7 +93,8 @@ module _ (some more : List ℕ → List Offered) (place : ℕ) (a : ArchWords) w
       → (active a x && alternative_met (λ q. some q ++ more q) place x) ≡ true
   alternative_on x h =
       let p = and_parts (active a x) (alternative_met some place x) h in
-      and_from _ _ p.0 (list_any-append (λ o. is_there place o && satisfies x.restriction o.version) (some x.name) (more x.name) ∙ or_left (alternative_met some place x) _ p.1)
+      and_from _ _ p.0 (list_any-append (λ o. is_there place o && satisfies x.restriction o.version)
+      (some x.name) (more x.name) ∙ or_left (alternative_met some place x) _ p.1)
 
   member_on : (m : List Asked) → member_met some place a m ≡ true
       → member_met (λ q. some q ++ more q) place a m ≡ true
@@ -92,10 +104,14 @@ module _ (some more : List ℕ → List Offered) (place : ℕ) (a : ArchWords) w
           → (b || list_any (λ x. active a x && alternative_met (λ q. some q ++ more q) place x) m)
           ≡ true
       by true k = refl
-      by false k = any_goes_on (λ x. active a x && alternative_met some place x) (λ x. active a x && alternative_met (λ q. some q ++ more q) place x) alternative_on m k
+      by false k =
+          any_goes_on (λ x. active a x && alternative_met some place x)
+          (λ x. active a x && alternative_met (λ q. some q ++ more q) place x) alternative_on m k
 
 pub more_still_meets : MoreStillMeets
-more_still_meets some more place a ms h = all_go_on (λ m. member_met some place a m) (λ m. member_met (λ q. some q ++ more q) place a m) (member_on some more place a) ms h
+more_still_meets some more place a ms h =
+    all_go_on (λ m. member_met some place a m) (λ m. member_met (λ q. some q ++ more q) place a m)
+    (member_on some more place a) ms h
 
 -- ---- architecture lists
 
@@ -103,7 +119,8 @@ plain_word : (n : List ℕ) → is_arch n ≡ true → (is_negated n ≡ false) 
 plain_word [] h = absurd cc
 plain_word (x ∷ n) h =
     let p = and_parts (ltb 0 (length (x ∷ n))) (list_all is_arch_byte (x ∷ n)) h in
-    let other : eqb x 33 ≡ false = misses is_arch_byte 33 x refl (and_parts (is_arch_byte x) (list_all is_arch_byte n) p.1).0 in
+    let other : eqb x 33 ≡ false =
+    misses is_arch_byte 33 x refl (and_parts (is_arch_byte x) (list_all is_arch_byte n) p.1).0 in
     (other, rw other refl)
 
 none_negated : (ns : List (List ℕ)) → AllByRecursion (λ n. IsTrue (is_arch n)) ns
@@ -114,15 +131,20 @@ none_negated (n ∷ ns) h = rw ((plain_word n h.0).0, none_negated ns h.1) refl
 plain_matches : (a : ArchWords) (ns : List (List ℕ)) → AllByRecursion (λ n. IsTrue (is_arch n)) ns
     → list_any (λ w. matches a (bare w)) (map (marked false) ns) ≡ list_any (matches a) ns
 plain_matches a [] h = refl
-plain_matches a (n ∷ ns) h = ap (λ (w : List ℕ). matches a w || list_any (λ v. matches a (bare v)) (map (marked false) ns)) (plain_word n h.0).1 ∙ ap (λ (b : Bool). matches a n || b) (plain_matches a ns h.1)
+plain_matches a (n ∷ ns) h =
+    ap (λ (w : List ℕ). matches a w || list_any (λ v. matches a (bare v)) (map (marked false) ns))
+    (plain_word n h.0).1 ∙ ap (λ (b : Bool). matches a n || b) (plain_matches a ns h.1)
 
 lists_count : (a : ArchWords) (negated : Bool) (ns : List (List ℕ)) → ns ≢ []
     → AllByRecursion (λ n. IsTrue (is_arch n)) ns
-    → counts a (map (marked negated) ns) ≡ cond negated (not (list_any (matches a) ns)) (list_any (matches a) ns)
+    → counts a (map (marked negated) ns)
+    ≡ cond negated (not (list_any (matches a) ns)) (list_any (matches a) ns)
 lists_count a true [] some h = absurd (some refl)
-lists_count a true (n ∷ ns) some h = ap not (list_any-map (λ w. matches a (bare w)) (marked true) (n ∷ ns))
+lists_count a true (n ∷ ns) some h =
+    ap not (list_any-map (λ w. matches a (bare w)) (marked true) (n ∷ ns))
 lists_count a false ns some h =
-    ap (λ (b : Bool). cond b (not (list_any (λ w. matches a (bare w)) (map (marked false) ns))) (list_any (λ w. matches a (bare w)) (map (marked false) ns))) (none_negated ns h)
+    ap (λ (b : Bool). cond b (not (list_any (λ w. matches a (bare w)) (map (marked false) ns)))
+    (list_any (λ w. matches a (bare w)) (map (marked false) ns))) (none_negated ns h)
     ∙ plain_matches a ns h
 
 pub lists_count_so : ListsCount

@@ -16,10 +16,13 @@ use Rattle.td_relation.specs.Offers.{Offered}
 -- a member is met where it has no active alternative, or an active one that is met
 pub member_met-by : (offers : List ℕ → List Offered) (place : ℕ) (a : ArchWords)
     (m : List Alternative) (has met : Bool)
-    → has ≡ list_any (λ x. active a (asked x)) m → met ≡ list_any (λ x. active a (asked x) && alternative_met offers place (asked x)) m → (not has || met) ≡ member_met offers place a (map asked m)
+    → has ≡ list_any (λ x. active a (asked x)) m
+    → met ≡ list_any (λ x. active a (asked x) && alternative_met offers place (asked x)) m
+    → (not has || met) ≡ member_met offers place a (map asked m)
 member_met-by offers place a m has met h k =
     ap (λ (b : Bool). not b || met) (h ∙ sym (list_any-map (λ (x : Asked). active a x) asked m))
-    ∙ ap (λ (b : Bool). not (list_any (λ (x : Asked). active a x) (map asked m)) || b) (k ∙ sym (list_any-map (λ (x : Asked). active a x && alternative_met offers place x) asked m))
+    ∙ ap (λ (b : Bool). not (list_any (λ (x : Asked). active a x) (map asked m)) || b)
+    (k ∙ sym (list_any-map (λ (x : Asked). active a x && alternative_met offers place x) asked m))
 
 -- a test of the filled pieces
 list_any-filter : {A : Type 0} (keep test : A → Bool) (xs : List A)
@@ -38,12 +41,14 @@ Filled w = not (eqb (length w) 0)
 
 -- what a list counts, from the tests of its pieces
 pub counts-by : (a : ArchWords) (pieces : List (List ℕ)) (negated matched : Bool)
-    → negated ≡ list_any (λ w. not (eqb (length w) 0) && is_negated w) pieces → matched ≡ list_any (λ w. not (eqb (length w) 0) && matches a (bare w)) pieces
+    → negated ≡ list_any (λ w. not (eqb (length w) 0) && is_negated w) pieces
+    → matched ≡ list_any (λ w. not (eqb (length w) 0) && matches a (bare w)) pieces
     → cond negated (not matched) matched ≡ counts a (filter (λ w. not (eqb (length w) 0)) pieces)
 counts-by a pieces negated matched h k =
     let n = h ∙ sym (list_any-filter Filled is_negated pieces) in
     let m = k ∙ sym (list_any-filter Filled (λ w. matches a (bare w)) pieces) in
-    ap (λ (b : Bool). cond b (not matched) matched) n ∙ ap (λ (b : Bool). cond (list_any is_negated (filter Filled pieces)) (not b) b) m
+    ap (λ (b : Bool). cond b (not matched) matched) n
+    ∙ ap (λ (b : Bool). cond (list_any is_negated (filter Filled pieces)) (not b) b) m
 
 -- ---- members one behind the other
 
@@ -56,12 +61,15 @@ drop-front (x ∷ xs) (suc n) = drop-front xs n
 -- the member at a place, and those behind it
 pub chunked_at : {A : Type 0} (sizes : List ℕ) (i from : ℕ) (xs member : List A) → i < length sizes
     → member ≡ take (get_or sizes i 0) (drop from xs)
-    → chunked (drop i sizes) (drop from xs) ≡ member ∷ chunked (drop (i + 1) sizes) (drop (from + length member) xs)
+    → chunked (drop i sizes) (drop from xs)
+    ≡ member ∷ chunked (drop (i + 1) sizes) (drop (from + length member) xs)
 chunked_at sizes i from xs member within is =
     let n = get_or sizes i 0 in
-    let first : drop i sizes ≡ n ∷ drop (i + 1) sizes = drop-cons sizes i 0 within ∙ ap (λ (k : ℕ). n ∷ drop k sizes) (sym (add-one i)) in
+    let first : drop i sizes ≡ n ∷ drop (i + 1) sizes =
+    drop-cons sizes i 0 within ∙ ap (λ (k : ℕ). n ∷ drop k sizes) (sym (add-one i)) in
     let behind : drop (from + length member) xs ≡ drop n (drop from xs) =
-    sym (drop-drop (length member) from xs) ∙ ap (λ m. drop (length m) (drop from xs)) is ∙ drop-front (drop from xs) n in
+    sym (drop-drop (length member) from xs) ∙ ap (λ m. drop (length m) (drop from xs)) is
+    ∙ drop-front (drop from xs) n in
     ap (λ (l : List ℕ). chunked l (drop from xs)) first
     ∙ ap (λ m. m ∷ chunked (drop (i + 1) sizes) (drop n (drop from xs))) (sym is)
     ∙ ap (λ ys. member ∷ chunked (drop (i + 1) sizes) ys) (sym behind)
@@ -76,12 +84,14 @@ length-chunked (n ∷ sizes) xs = ap suc (length-chunked sizes (drop n xs))
 pub all_next : {A : Type 0} (test : List A → Bool) (whole rest : List (List A)) (member : List A)
     (more : List (List A)) (b : Bool) → list_all test rest ≡ list_all test whole
     → rest ≡ member ∷ more → b ≡ test member → (b && list_all test more) ≡ list_all test whole
-all_next test whole rest member more b h is tested = ap (λ (a : Bool). a && list_all test more) tested ∙ sym (ap (list_all test) is) ∙ h
+all_next test whole rest member more b h is tested =
+    ap (λ (a : Bool). a && list_all test more) tested ∙ sym (ap (list_all test) is) ∙ h
 
 pub any_next : {A : Type 0} (test : List A → Bool) (whole rest : List (List A)) (member : List A)
     (more : List (List A)) (b : Bool) → list_any test rest ≡ list_any test whole
     → rest ≡ member ∷ more → b ≡ test member → (b || list_any test more) ≡ list_any test whole
-any_next test whole rest member more b h is tested = ap (λ (a : Bool). a || list_any test more) tested ∙ sym (ap (list_any test) is) ∙ h
+any_next test whole rest member more b h is tested =
+    ap (λ (a : Bool). a || list_any test more) tested ∙ sym (ap (list_any test) is) ∙ h
 
 -- behind the last one
 pub drop-all : {A : Type 0} (xs : List A) (i : ℕ) → length xs ≤ i → drop i xs ≡ []
@@ -96,5 +106,6 @@ pub any_of_maps : {A B : Type 0} (test : B → Bool) (view : A → B) (ms : List
     ≡ list_any (λ m. list_any (λ x. test (view x)) m) ms
 any_of_maps test view [] = refl
 any_of_maps test view (m ∷ ms) =
-    ap (λ (b : Bool). b || list_any (λ n. list_any test n) (map (λ n. map view n) ms)) (list_any-map test view m)
+    ap (λ (b : Bool). b || list_any (λ n. list_any test n) (map (λ n. map view n) ms))
+    (list_any-map test view m)
     ∙ ap (λ (b : Bool). list_any (λ x. test (view x)) m || b) (any_of_maps test view ms)

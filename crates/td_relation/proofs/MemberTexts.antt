@@ -25,21 +25,29 @@ use Rattle.td_relation.proofs.PieceLaws.{faulted_first, faulted_same}
 -- ---- the alternatives of a member, behind others
 
 behind_step : (seen s : List Asked) (r : Result Asked RelationFault) (ps : List (List ℕ))
-    → ((more : List Asked) → over alternative_step (seen ++ more) ps ≡ on_ok (over alternative_step more ps) (λ m. Ok (seen ++ m)))
-    → on_ok (on_ok r (λ a. Ok ((seen ++ s) ++ a ∷ []))) (λ more. over alternative_step more ps) ≡ on_ok (on_ok (on_ok r (λ a. Ok (s ++ a ∷ []))) (λ more. over alternative_step more ps)) (λ m. Ok (seen ++ m))
+    → ((more : List Asked)
+    → over alternative_step (seen ++ more) ps
+    ≡ on_ok (over alternative_step more ps) (λ m. Ok (seen ++ m)))
+    → on_ok (on_ok r (λ a. Ok ((seen ++ s) ++ a ∷ []))) (λ more. over alternative_step more ps)
+    ≡ on_ok (on_ok (on_ok r (λ a. Ok (s ++ a ∷ []))) (λ more. over alternative_step more ps))
+    (λ m. Ok (seen ++ m))
 behind_step seen s (Err e) ps later = refl
-behind_step seen s (Ok a) ps later = ap (λ l. over alternative_step l ps) (append_assoc seen s (a ∷ [])) ∙ later (s ++ a ∷ [])
+behind_step seen s (Ok a) ps later =
+    ap (λ l. over alternative_step l ps) (append_assoc seen s (a ∷ [])) ∙ later (s ++ a ∷ [])
 
 pub over-behind : (seen s : List Asked) (ps : List (List ℕ)) → over alternative_step (seen ++ s) ps
     ≡ on_ok (over alternative_step s ps) (λ m. Ok (seen ++ m))
 unfolding over
 over-behind seen s [] = refl
-over-behind seen s (p ∷ ps) = behind_step seen s (alternative_at p) ps (λ more. over-behind seen more ps)
+over-behind seen s (p ∷ ps) =
+    behind_step seen s (alternative_at p) ps (λ more. over-behind seen more ps)
 
 -- what was added is the member
 pub member_added : (seen : List Asked) (text : List ℕ)
     → over alternative_step seen (pieces_of 124 text) ≡ on_ok (member_at text) (λ m. Ok (seen ++ m))
-member_added seen text = ap (λ l. over alternative_step l (pieces_of 124 text)) (sym (append-nil seen)) ∙ over-behind seen [] (pieces_of 124 text)
+member_added seen text =
+    ap (λ l. over alternative_step l (pieces_of 124 text)) (sym (append-nil seen))
+    ∙ over-behind seen [] (pieces_of 124 text)
 
 -- ---- members one behind the other
 
@@ -73,7 +81,8 @@ chunked-push [] n (x ∷ xs) ys h k = absurd (omega arith)
 chunked-push (m ∷ ns) n xs ys h k =
     let low : m ≤ length xs = omega arith in
     let left : total ns ≡ length (drop m xs) = omega (arith, length-left m xs low) in
-    rw (take-behind m xs ys low, drop-behind m xs ys low) (ap (λ l. take m xs ∷ l) (chunked-push ns n (drop m xs) ys left k))
+    rw (take-behind m xs ys low, drop-behind m xs ys low)
+    (ap (λ l. take m xs ∷ l) (chunked-push ns n (drop m xs) ys left k))
 
 pub total-push : (ns : List ℕ) (n : ℕ) → total (ns ++ n ∷ []) ≡ total ns + n
 total-push [] n = omega arith
@@ -97,23 +106,36 @@ map-chunked f (n ∷ ns) xs = rw (map-take f n xs, map-chunked f ns (drop n xs),
 
 -- ---- a member that was pushed
 
-module _ (ns : List ℕ) (old new : List Alternative) (text : List ℕ) (n : ℕ) (whole : total ns ≡ length old) (read : over alternative_step (map asked old) (pieces_of 124 text) ≡ Ok (map asked new)) (size : n ≡ length new - length old) where
+module _ (ns : List ℕ) (old new : List Alternative) (text : List ℕ) (n : ℕ)
+    (whole : total ns ≡ length old)
+    (read : over alternative_step (map asked old) (pieces_of 124 text) ≡ Ok (map asked new))
+    (size : n ≡ length new - length old) where
   parts : (m : List Asked) × (member_at text ≡ Ok m) × (map asked old ++ m ≡ map asked new)
   parts =
-      let p = on_ok_parts (member_at text) (λ m. Ok (map asked old ++ m)) (map asked new) (sym (member_added (map asked old) text) ∙ read) in
+      let p = on_ok_parts (member_at text) (λ m. Ok (map asked old ++ m)) (map asked new)
+      (sym (member_added (map asked old) text) ∙ read) in
       (p.0, p.1, ok_is RelationFault (map asked old ++ p.0) (map asked new) p.2)
 
   lengths : length new ≡ length old + length parts.0
   unfolding parts
-  lengths = omega (arith, ap length parts.2, length-append (map asked old) parts.0, length-map old asked, length-map new asked)
+  lengths =
+      omega (
+        arith,
+        ap length parts.2,
+        length-append (map asked old) parts.0,
+        length-map old asked,
+        length-map new asked,
+      )
 
-  pub member_pushed : on_ok (member_at text) (λ m. Ok (chunked ns (map asked old) ++ m ∷ [])) ≡ Ok (chunked (ns ++ n ∷ []) (map asked new))
+  pub member_pushed : on_ok (member_at text) (λ m. Ok (chunked ns (map asked old) ++ m ∷ []))
+      ≡ Ok (chunked (ns ++ n ∷ []) (map asked new))
   unfolding parts lengths
   member_pushed =
       let front : total ns ≡ length (map asked old) = whole ∙ sym (length-map old asked) in
       let last : n ≡ length parts.0 = omega (arith, lengths, size) in
       ap (λ r. on_ok r (λ m. Ok (chunked ns (map asked old) ++ m ∷ []))) parts.1
-      ∙ ap Ok (sym (chunked-push ns n (map asked old) parts.0 front last) ∙ ap (chunked (ns ++ n ∷ [])) parts.2)
+      ∙ ap Ok (sym (chunked-push ns n (map asked old) parts.0 front last)
+      ∙ ap (chunked (ns ++ n ∷ [])) parts.2)
 
   pub total_pushed : total (ns ++ n ∷ []) ≡ length new
   unfolding parts lengths
@@ -144,15 +166,19 @@ member_fails seen text e is = by e (member_at text) (faulted_same e _ _ (member_
 
 pub member_step-blank : (seen : List (List Asked)) (piece : List ℕ) → is_blank piece ≡ true
     → member_step seen piece ≡ Ok seen
-member_step-blank seen piece h = ap (λ (b : Bool). cond b (Ok seen) (on_ok (member_at piece) (λ m. Ok (seen ++ m ∷ [])))) h
+member_step-blank seen piece h =
+    ap (λ (b : Bool). cond b (Ok seen) (on_ok (member_at piece) (λ m. Ok (seen ++ m ∷ [])))) h
 
 pub member_step-filled : (seen : List (List Asked)) (piece : List ℕ) → is_blank piece ≡ false
     → member_step seen piece ≡ on_ok (member_at piece) (λ m. Ok (seen ++ m ∷ []))
-member_step-filled seen piece h = ap (λ (b : Bool). cond b (Ok seen) (on_ok (member_at piece) (λ m. Ok (seen ++ m ∷ [])))) h
+member_step-filled seen piece h =
+    ap (λ (b : Bool). cond b (Ok seen) (on_ok (member_at piece) (λ m. Ok (seen ++ m ∷ [])))) h
 
 pub member_step-fails : (seen : List (List Asked)) (piece : List ℕ) (e : RelationFault)
     → is_blank piece ≡ false → IsFaultOf (member_at piece) e → IsFaultOf (member_step seen piece) e
-member_step-fails seen piece e h is = faulted_same e _ _ (sym (member_step-filled seen piece h)) (faulted_first e (member_at piece) (λ m. Ok (seen ++ m ∷ [])) is)
+member_step-fails seen piece e h is =
+    faulted_same e _ _ (sym (member_step-filled seen piece h))
+    (faulted_first e (member_at piece) (λ m. Ok (seen ++ m ∷ [])) is)
 
 -- ---- the whole text
 
@@ -172,4 +198,5 @@ pub relation-read : (text : List ℕ) (ns : List ℕ) (xs : List Alternative)
     → relation_at text ≡ Ok (map (λ m. map asked m) (chunked ns xs))
 unfolding relation_at
 relation-read text [] xs h k = absurd (k refl)
-relation-read text (n ∷ ns) xs h k = ap (λ r. on_ok r some_members) h ∙ ap Ok (sym (map-chunked asked (n ∷ ns) xs))
+relation-read text (n ∷ ns) xs h k =
+    ap (λ r. on_ok r some_members) h ∙ ap Ok (sym (map-chunked asked (n ∷ ns) xs))

@@ -27,27 +27,36 @@ pub next_some : (c : ℕ) (t : List ℕ) (x : Bor (List ℕ) × Bor (List ℕ)) 
     → IsSplitOnceResult c t (Some x) → pieces_of c t ≡ x.0.now ∷ pieces_of c x.1.now
 next_some c t x small s =
     let p = split_parts c t (Some x) s small in
-    ap (pieces_of c) p.0 ∙ slice_split_at (λ b. eqb b c) x.0.now c x.1.now (none_is c x.0.now (Without-from_index c x.0.now p.1)) (eq-eqb c c refl)
+    ap (pieces_of c) p.0 ∙ slice_split_at (λ b. eqb b c) x.0.now c x.1.now
+    (none_is c x.0.now (Without-from_index c x.0.now p.1)) (eq-eqb c c refl)
 
 pub next_none : (c : ℕ) (t : List ℕ) → c < 128 → IsSplitOnceResult c t None → pieces_of c t ≡ t ∷ []
-next_none c t small s = slice_split_none (λ b. eqb b c) t (none_is c t (Without-from_index c t (split_parts c t None s small)))
+next_none c t small s =
+    slice_split_none (λ b. eqb b c) t
+    (none_is c t (Without-from_index c t (split_parts c t None s small)))
 
 -- ---- a reading over pieces
 
 module _ {S : Type 0} (step : S → List ℕ → Result S RelationFault) where
   -- what is left of a text begins with its next piece
-  pub taken : (c : ℕ) (seen : S) (o : Option (Bor (List ℕ))) (t : Bor (List ℕ)) (piece : List ℕ) (after : List (List ℕ)) (total : Result S RelationFault)
-      → o ≡ Some t → pieces_of c t.now ≡ piece ∷ after → over step seen (pieces_left c o) ≡ total → over step seen (piece ∷ after) ≡ total
-  taken c seen o t piece after total is cut h = sym (ap (over step seen) (ap (pieces_left c) is ∙ cut)) ∙ h
+  pub taken : (c : ℕ) (seen : S) (o : Option (Bor (List ℕ))) (t : Bor (List ℕ)) (piece : List ℕ)
+      (after : List (List ℕ)) (total : Result S RelationFault)
+      → o ≡ Some t → pieces_of c t.now ≡ piece ∷ after → over step seen (pieces_left c o) ≡ total
+      → over step seen (piece ∷ after) ≡ total
+  taken c seen o t piece after total is cut h =
+      sym (ap (over step seen) (ap (pieces_left c) is ∙ cut)) ∙ h
 
   -- a step that read its piece
-  pub stepped : (seen more : S) (piece : List ℕ) (after : List (List ℕ)) (total : Result S RelationFault)
-      → step seen piece ≡ Ok more → over step seen (piece ∷ after) ≡ total → over step more after ≡ total
+  pub stepped : (seen more : S) (piece : List ℕ) (after : List (List ℕ))
+      (total : Result S RelationFault)
+      → step seen piece ≡ Ok more → over step seen (piece ∷ after) ≡ total
+      → over step more after ≡ total
   unfolding over
   stepped seen more piece after total is h = sym (rw is refl) ∙ h
 
   -- a step with a fault
-  pub fails : (seen : S) (piece : List ℕ) (after : List (List ℕ)) (total : Result S RelationFault) (e : RelationFault)
+  pub fails : (seen : S) (piece : List ℕ) (after : List (List ℕ)) (total : Result S RelationFault)
+      (e : RelationFault)
       → step seen piece ≡ Err e → over step seen (piece ∷ after) ≡ total → total ≡ Err e
   unfolding over
   fails seen piece after total e is h = sym h ∙ rw is refl
@@ -60,7 +69,8 @@ module _ {S : Type 0} (step : S → List ℕ → Result S RelationFault) where
   ends c seen (Some t) total is h = absurd cc
 
   -- a fault at a piece is that of the whole
-  pub faulted : (e : RelationFault) (seen : S) (piece : List ℕ) (after : List (List ℕ)) (total : Result S RelationFault)
+  pub faulted : (e : RelationFault) (seen : S) (piece : List ℕ) (after : List (List ℕ))
+      (total : Result S RelationFault)
       → IsFaultOf (step seen piece) e → over step seen (piece ∷ after) ≡ total → IsFaultOf total e
   faulted BadName seen piece after total is h = fails seen piece after total BadName is h
   faulted BadOperator seen piece after total is h = fails seen piece after total BadOperator is h
@@ -140,7 +150,8 @@ is_arch_list-by pieces some plain negated a b d =
     let z = d ∙ sym (list_all-filter blank_word (is_negated_word is_arch) pieces) in
     ap (λ (q : Bool). q && (plain || negated)) x
     ∙ ap (λ (q : Bool). ltb 0 (length (filled_words pieces)) && (q || negated)) y
-    ∙ ap (λ (q : Bool). ltb 0 (length (filled_words pieces)) && (list_all is_arch (filled_words pieces) || q)) z
+    ∙ ap (λ (q : Bool).
+    ltb 0 (length (filled_words pieces)) && (list_all is_arch (filled_words pieces) || q)) z
 
 pub is_profile_list-by : (pieces : List (List ℕ)) (some profiles : Bool)
     → some ≡ list_any (λ w. not (blank_word w)) pieces → profiles ≡ list_all (λ w. blank_word w
@@ -148,7 +159,8 @@ pub is_profile_list-by : (pieces : List (List ℕ)) (some profiles : Bool)
 is_profile_list-by pieces some profiles a b =
     let x = a ∙ some_filled (λ w. not (blank_word w)) pieces in
     let y = b ∙ sym (list_all-filter blank_word (λ w. is_profile (bare w)) pieces) in
-    ap (λ (q : Bool). q && profiles) x ∙ ap (λ (q : Bool). ltb 0 (length (filled_words pieces)) && q) y
+    ap (λ (q : Bool). q && profiles) x
+    ∙ ap (λ (q : Bool). ltb 0 (length (filled_words pieces)) && q) y
 
 pub unprofiled-by : (pieces : List (List ℕ)) (all : Bool) → all ≡ list_all
     (λ w. blank_word w || is_negated w) pieces → all ≡ list_all is_negated (filled_words pieces)

@@ -47,25 +47,32 @@ archs_bare (Some l) ls back = 91 ∷ (l.inside ++ 93 ∷ profiles_then ls back)
 abbrev pub bound_bare : Option SpacedBound → Option SpacedArchs → List SpacedProfiles → List ℕ
     → List ℕ
 bound_bare None l ls back = archs_bare l ls back
-bound_bare (Some b) l ls back = 40 ∷ (b.before_operator ++ (operator_text b.bound.operator ++ (b.before_version ++ (b.bound.version ++ (b.before_end ++ 41 ∷ archs_then l (profiles_then ls back))))))
+bound_bare (Some b) l ls back =
+    40 ∷ (b.before_operator
+    ++ (operator_text b.bound.operator
+    ++ (b.before_version
+    ++ (b.bound.version ++ (b.before_end ++ 41 ∷ archs_then l (profiles_then ls back))))))
 
 pub lists_trimmed : (ls : List SpacedProfiles) (back : List ℕ) → AllByRecursion ProfilesAreSpaced ls
     → is_blank back ≡ true → trimmed (profiles_then ls back) ≡ lists_bare ls back
 lists_trimmed [] back h end = trimmed_all back end
-lists_trimmed (l ∷ ls) back h end = trimmed_behind l.before (60 ∷ (l.inside ++ 62 ∷ profiles_then ls back)) h.0.0 refl
+lists_trimmed (l ∷ ls) back h end =
+    trimmed_behind l.before (60 ∷ (l.inside ++ 62 ∷ profiles_then ls back)) h.0.0 refl
 
 pub archs_trimmed : (l : Option SpacedArchs) (ls : List SpacedProfiles) (back : List ℕ)
     → ArchsAreSpaced l → AllByRecursion ProfilesAreSpaced ls → is_blank back ≡ true
     → trimmed (archs_then l (profiles_then ls back)) ≡ archs_bare l ls back
 archs_trimmed None ls back s h end = lists_trimmed ls back h end
-archs_trimmed (Some l) ls back s h end = trimmed_behind l.before (91 ∷ (l.inside ++ 93 ∷ profiles_then ls back)) s.0 refl
+archs_trimmed (Some l) ls back s h end =
+    trimmed_behind l.before (91 ∷ (l.inside ++ 93 ∷ profiles_then ls back)) s.0 refl
 
 pub bound_trimmed : (b : Option SpacedBound) (l : Option SpacedArchs) (ls : List SpacedProfiles)
     (back : List ℕ) → BoundIsSpaced b → ArchsAreSpaced l → AllByRecursion ProfilesAreSpaced ls
     → is_blank back ≡ true
     → trimmed (bound_then b (archs_then l (profiles_then ls back))) ≡ bound_bare b l ls back
 bound_trimmed None l ls back t s h end = archs_trimmed l ls back s h end
-bound_trimmed (Some b) l ls back t s h end = trimmed_behind b.before (bound_bare (Some b) l ls back) t.0 refl
+bound_trimmed (Some b) l ls back t s h end =
+    trimmed_behind b.before (bound_bare (Some b) l ls back) t.0 refl
 
 -- runs that end at whitespace and at what begins a part
 pub record Outer (test : ℕ → Bool) : Type 0 where
@@ -78,20 +85,24 @@ lists_stop : (test : ℕ → Bool) (ls : List SpacedProfiles) (back : List ℕ) 
     → AllByRecursion ProfilesAreSpaced ls → is_blank back ≡ true
     → Stops test (profiles_then ls back)
 lists_stop test [] back o h end = Stops-back test back o.lacks end
-lists_stop test (l ∷ ls) back o h end = Stops-blank test l.before (60 ∷ (l.inside ++ 62 ∷ profiles_then ls back)) o.lacks h.0.0 o.less
+lists_stop test (l ∷ ls) back o h end =
+    Stops-blank test l.before (60 ∷ (l.inside ++ 62 ∷ profiles_then ls back)) o.lacks h.0.0 o.less
 
 archs_stop : (test : ℕ → Bool) (l : Option SpacedArchs) (ls : List SpacedProfiles) (back : List ℕ)
     → Outer test → ArchsAreSpaced l → AllByRecursion ProfilesAreSpaced ls → is_blank back ≡ true
     → Stops test (archs_then l (profiles_then ls back))
 archs_stop test None ls back o s h end = lists_stop test ls back o h end
-archs_stop test (Some l) ls back o s h end = Stops-blank test l.before (91 ∷ (l.inside ++ 93 ∷ profiles_then ls back)) o.lacks s.0 o.opens_list
+archs_stop test (Some l) ls back o s h end =
+    Stops-blank test l.before (91 ∷ (l.inside ++ 93 ∷ profiles_then ls back)) o.lacks s.0
+    o.opens_list
 
 pub bound_stops : (test : ℕ → Bool) (b : Option SpacedBound) (l : Option SpacedArchs)
     (ls : List SpacedProfiles) (back : List ℕ) → Outer test → BoundIsSpaced b → ArchsAreSpaced l
     → AllByRecursion ProfilesAreSpaced ls → is_blank back ≡ true
     → Stops test (bound_then b (archs_then l (profiles_then ls back)))
 bound_stops test None l ls back o t s h end = archs_stop test l ls back o s h end
-bound_stops test (Some b) l ls back o t s h end = Stops-blank test b.before (bound_bare (Some b) l ls back) o.lacks t.0 o.opens
+bound_stops test (Some b) l ls back o t s h end =
+    Stops-blank test b.before (bound_bare (Some b) l ls back) o.lacks t.0 o.opens
 
 restriction_ends : (l : Option SpacedArchs) (ls : List SpacedProfiles) (back : List ℕ)
     → ends_a_restriction (archs_bare l ls back) ≡ true
@@ -136,7 +147,8 @@ unqualified_again None rest h s n = ap (after_colon rest) (strip_stops 58 rest n
 unqualified_again (Some word) rest h s n =
     let p = and_parts (ltb 0 (length word)) (list_all is_arch_byte word) h in
     ap (after_colon (codes ":" ++ (word ++ rest))) (strip_again (codes ":") (word ++ rest))
-    ∙ ap (λ (w : List ℕ). cond (ltb 0 (length w)) (Some (behind is_arch_byte (word ++ rest))) None) (run_again is_arch_byte word rest p.1 s)
+    ∙ ap (λ (w : List ℕ). cond (ltb 0 (length w)) (Some (behind is_arch_byte (word ++ rest))) None)
+    (run_again is_arch_byte word rest p.1 s)
     ∙ ap (λ (b : Bool). cond b (Some (behind is_arch_byte (word ++ rest))) None) p.0
     ∙ ap (λ (t : List ℕ). Some t) (behind_again is_arch_byte word rest p.1 s)
 
@@ -156,9 +168,13 @@ name_again front name q rest blank h fits stops archs colon ends =
     let long = ltb-true 1 (length name) a.0 in
     let on = qualifier_part q ++ rest in
     let ends_here = qualifier_stops q rest stops in
-    ap (λ (t : List ℕ). named (run is_name_byte t) (unqualified (behind is_name_byte t))) (trimmed_behind front (name ++ on) blank (Stops-front is_name_byte name on name_no_space (omega arith) b.1))
-    ∙ ap (λ (n : List ℕ). named n (unqualified (behind is_name_byte (name ++ on)))) (run_again is_name_byte name on b.1 ends_here)
-    ∙ ap (λ (t : List ℕ). named name (unqualified t)) (behind_again is_name_byte name on b.1 ends_here)
+    ap (λ (t : List ℕ). named (run is_name_byte t) (unqualified (behind is_name_byte t)))
+    (trimmed_behind front (name ++ on) blank
+    (Stops-front is_name_byte name on name_no_space (omega arith) b.1))
+    ∙ ap (λ (n : List ℕ). named n (unqualified (behind is_name_byte (name ++ on))))
+    (run_again is_name_byte name on b.1 ends_here)
+    ∙ ap (λ (t : List ℕ). named name (unqualified t))
+    (behind_again is_name_byte name on b.1 ends_here)
     ∙ ap (named name) (unqualified_again q rest fits archs colon)
     ∙ ap (λ (y : Bool). cond y (Some (name, trimmed rest)) None) (and_from _ _ h ends)
 
@@ -206,53 +222,84 @@ version_stops (x ∷ version) t some h =
 version_again : (o : Operator) (space version end rest bare : List ℕ) (p : Parts)
     → is_blank space ≡ true → is_blank end ≡ true → IsVersion version p → trimmed rest ≡ bare
     → ends_a_restriction bare ≡ true
-    → version_at (Some o) (space ++ (version ++ (end ++ 41 ∷ rest))) ≡ Ok (Some (record { operator = o; version = p }), bare)
+    → version_at (Some o) (space ++ (version ++ (end ++ 41 ∷ rest)))
+    ≡ Ok (Some (record { operator = o; version = p }), bare)
 version_again o space version end rest bare p blank blank_end v is ends =
     let bytes = version_bytes version p v in
     let on = end ++ 41 ∷ rest in
-    let stops : Stops is_version_byte on = Stops-blank is_version_byte end (41 ∷ rest) version_no_space blank_end refl in
-    ap (λ (t : List ℕ). closed o (reading (run is_version_byte t)) (strip (codes ")") (trimmed (behind is_version_byte t)))) (trimmed_behind space (version ++ on) blank (Stops-front is_version_byte version on version_no_space (version_filled version p v) bytes))
-    ∙ ap (λ (t : List ℕ). closed o (reading t) (strip (codes ")") (trimmed (behind is_version_byte (version ++ on))))) (run_again is_version_byte version on bytes stops)
-    ∙ ap (λ (t : List ℕ). closed o (reading version) (strip (codes ")") (trimmed t))) (behind_again is_version_byte version on bytes stops)
-    ∙ ap (λ (t : List ℕ). closed o (reading version) (strip (codes ")") t)) (trimmed_behind end (41 ∷ rest) blank_end refl)
+    let stops : Stops is_version_byte on =
+    Stops-blank is_version_byte end (41 ∷ rest) version_no_space blank_end refl in
+    ap (λ (t : List ℕ). closed o (reading (run is_version_byte t))
+    (strip (codes ")") (trimmed (behind is_version_byte t))))
+    (trimmed_behind space (version ++ on) blank
+    (Stops-front is_version_byte version on version_no_space (version_filled version p v) bytes))
+    ∙ ap (λ (t : List ℕ). closed o (reading t)
+    (strip (codes ")") (trimmed (behind is_version_byte (version ++ on)))))
+    (run_again is_version_byte version on bytes stops)
+    ∙ ap (λ (t : List ℕ). closed o (reading version) (strip (codes ")") (trimmed t)))
+    (behind_again is_version_byte version on bytes stops)
+    ∙ ap (λ (t : List ℕ). closed o (reading version) (strip (codes ")") t))
+    (trimmed_behind end (41 ∷ rest) blank_end refl)
     ∙ ap (closed o (reading version)) (strip_again (codes ")") rest)
     ∙ ap (λ r. closed o r (Some rest)) (read_only version p v)
-    ∙ ap (λ (t : List ℕ). cond (ends_a_restriction t) (Ok (Some (record { operator = o; version = p }), t)) (Err BadArchList)) is
-    ∙ ap (λ (y : Bool). cond y (Ok (Some (record { operator = o; version = p }), bare)) (Err BadArchList)) ends
+    ∙ ap (λ (t : List ℕ). cond (ends_a_restriction t)
+    (Ok (Some (record { operator = o; version = p }), t)) (Err BadArchList)) is
+    ∙ ap (λ (y : Bool).
+    cond y (Ok (Some (record { operator = o; version = p }), bare)) (Err BadArchList)) ends
 
 pub restriction_again : (b : Option SpacedBound) (l : Option SpacedArchs) (ls : List SpacedProfiles)
     (back : List ℕ) → BoundFits (option_map (λ x. x.bound) b) → BoundIsSpaced b → ArchsAreSpaced l
     → AllByRecursion ProfilesAreSpaced ls → is_blank back ≡ true
-    → restriction_at (bound_bare b l ls back) ≡ Ok (option_map bound_asked (option_map (λ x. x.bound) b), archs_bare l ls back)
+    → restriction_at (bound_bare b l ls back)
+    ≡ Ok (option_map bound_asked (option_map (λ x. x.bound) b), archs_bare l ls back)
 unfolding restriction_at
-restriction_again None l ls back fits t s h end = ap (restricted (archs_bare l ls back)) (no_bound l ls back)
+restriction_again None l ls back fits t s h end =
+    ap (restricted (archs_bare l ls back)) (no_bound l ls back)
 restriction_again (Some b) l ls back fits t s h end =
     let rest = archs_then l (profiles_then ls back) in
     let on = b.before_version ++ (b.bound.version ++ (b.before_end ++ 41 ∷ rest)) in
     let text = operator_text b.bound.operator in
     let inside = b.before_operator ++ (text ++ on) in
-    let stops : Stops is_operator_byte on = Stops-blank is_operator_byte b.before_version (b.bound.version ++ (b.before_end ++ 41 ∷ rest)) operator_no_space t.2 (version_stops b.bound.version (b.before_end ++ 41 ∷ rest) (version_filled b.bound.version b.bound.parts fits) (version_bytes b.bound.version b.bound.parts fits)) in
+    let stops : Stops is_operator_byte on =
+    Stops-blank is_operator_byte b.before_version (b.bound.version ++ (b.before_end ++ 41 ∷ rest))
+    operator_no_space t.2 (version_stops b.bound.version (b.before_end ++ 41 ∷ rest)
+    (version_filled b.bound.version b.bound.parts fits)
+    (version_bytes b.bound.version b.bound.parts fits)) in
     ap (restricted (40 ∷ inside)) (strip_again (codes "(") inside)
-    ∙ ap (λ (u : List ℕ). version_at (operator_at (run is_operator_byte u)) (behind is_operator_byte u)) (trimmed_behind b.before_operator (text ++ on) t.1 (operator_first b.bound.operator on))
-    ∙ ap (λ (u : List ℕ). version_at (operator_at u) (behind is_operator_byte (text ++ on))) (run_again is_operator_byte text on (operator_bytes b.bound.operator) stops)
-    ∙ ap (λ (u : List ℕ). version_at (operator_at text) u) (behind_again is_operator_byte text on (operator_bytes b.bound.operator) stops)
+    ∙ ap (λ (u : List ℕ). version_at (operator_at (run is_operator_byte u))
+    (behind is_operator_byte u))
+    (trimmed_behind b.before_operator (text ++ on) t.1 (operator_first b.bound.operator on))
+    ∙ ap (λ (u : List ℕ). version_at (operator_at u) (behind is_operator_byte (text ++ on)))
+    (run_again is_operator_byte text on (operator_bytes b.bound.operator) stops)
+    ∙ ap (λ (u : List ℕ). version_at (operator_at text) u)
+    (behind_again is_operator_byte text on (operator_bytes b.bound.operator) stops)
     ∙ ap (λ o. version_at o on) (operator_read b.bound.operator)
-    ∙ version_again b.bound.operator b.before_version b.bound.version b.before_end rest (archs_bare l ls back) b.bound.parts t.2 t.3 fits (archs_trimmed l ls back s h end) (restriction_ends l ls back)
+    ∙ version_again b.bound.operator b.before_version b.bound.version b.before_end rest
+    (archs_bare l ls back) b.bound.parts t.2 t.3 fits (archs_trimmed l ls back s h end)
+    (restriction_ends l ls back)
 
 -- ---- the architecture list
 
 pub archs_again : (l : Option SpacedArchs) (ls : List SpacedProfiles) (back : List ℕ)
     → ArchsFit (option_map (λ x. x.list) l) → ArchsAreSpaced l → AllByRecursion ProfilesAreSpaced ls
     → is_blank back ≡ true
-    → archs_at (archs_bare l ls back) ≡ Some (option_map (λ w. map (marked w.negated) w.names) (option_map (λ x. x.list) l), lists_bare ls back)
+    → archs_at (archs_bare l ls back)
+    ≡ Some (
+      option_map (λ w. map (marked w.negated) w.names) (option_map (λ x. x.list) l),
+      lists_bare ls back,
+    )
 unfolding archs_at
 archs_again None ls back fits s h end = ap (bracketed (lists_bare ls back)) (no_list ls back)
 archs_again (Some l) ls back fits s h end =
     let rest = profiles_then ls back in
     let names = map (marked l.list.negated) l.list.names in
-    let lacks : Without 93 l.inside = arch_words-lack 93 l.list.negated l.list.names l.inside refl refl (λ z. omega arith) fits.1 s.1 in
+    let lacks : Without 93 l.inside =
+    arch_words-lack 93 l.list.negated l.list.names l.inside refl refl (λ z. omega arith) fits.1
+    s.1 in
     ap (bracketed (91 ∷ (l.inside ++ 93 ∷ rest))) (strip_again (codes "[") (l.inside ++ 93 ∷ rest))
     ∙ ap listed (cut-at 93 l.inside rest lacks)
-    ∙ ap (λ (w : List (List ℕ)). cond (is_arch_list w) (Some (Some w, trimmed rest)) None) (arch_words l.list.negated l.list.names l.inside fits.1 s.1)
-    ∙ ap (λ (y : Bool). cond y (Some (Some names, trimmed rest)) None) (is_arch_list-again l.list.negated l.list.names fits.0 fits.1)
+    ∙ ap (λ (w : List (List ℕ)). cond (is_arch_list w) (Some (Some w, trimmed rest)) None)
+    (arch_words l.list.negated l.list.names l.inside fits.1 s.1)
+    ∙ ap (λ (y : Bool). cond y (Some (Some names, trimmed rest)) None)
+    (is_arch_list-again l.list.negated l.list.names fits.0 fits.1)
     ∙ ap (λ (t : List ℕ). Some (Some names, t)) (lists_trimmed ls back h end)

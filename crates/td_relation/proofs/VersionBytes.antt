@@ -40,7 +40,8 @@ digit_bytes : (t : List ℕ) → all_ascii_digits t ≡ true → list_all is_ver
 digit_bytes [] h = refl
 digit_bytes (x ∷ t) h =
     let a = and_parts (is_ascii_digit x) (all_ascii_digits t) h in
-    and_from _ _ (revision_byte x (or_right (is_letter x) _ (or_left (is_ascii_digit x) _ a.0))) (digit_bytes t a.1)
+    and_from _ _ (revision_byte x (or_right (is_letter x) _ (or_left (is_ascii_digit x) _ a.0)))
+    (digit_bytes t a.1)
 
 epoch_bytes : (epoch : Option (List ℕ)) → EpochFits epoch
     → list_all is_version_byte (epoch_front epoch) ≡ true
@@ -61,18 +62,29 @@ module _ (text : List ℕ) (p : Parts) (v : IsVersion text p) where
   upstream : (0 < length v.written.upstream) × (list_all is_version_byte v.written.upstream ≡ true)
   upstream =
       let w = v.written in
-      let a = and_parts (ltb 0 (length w.upstream)) (list_all (is_upstream_byte (is_some w.epoch)) w.upstream) v.upstream in
-      (ltb-true 0 (length w.upstream) a.0, pass_on (is_upstream_byte (is_some w.epoch)) is_version_byte w.upstream (λ b h. widen _ _ (is_some w.epoch) _ h) a.1)
+      let a = and_parts (ltb 0 (length w.upstream))
+      (list_all (is_upstream_byte (is_some w.epoch)) w.upstream) v.upstream in (
+        ltb-true 0 (length w.upstream) a.0,
+        pass_on (is_upstream_byte (is_some w.epoch)) is_version_byte w.upstream
+            (λ b h. widen _ _ (is_some w.epoch) _ h) a.1,
+      )
 
   pub version_bytes : list_all is_version_byte text ≡ true
   version_bytes =
       let w = v.written in
       ap (list_all is_version_byte) v.cut.joined
-      ∙ both_pass is_version_byte (epoch_front w.epoch) (w.upstream ++ revision_back w.revision) (epoch_bytes w.epoch v.epoch)
-      (both_pass is_version_byte w.upstream (revision_back w.revision) upstream.1 (revision_bytes w.revision v.revision))
+      ∙ both_pass is_version_byte (epoch_front w.epoch) (w.upstream ++ revision_back w.revision)
+      (epoch_bytes w.epoch v.epoch)
+      (both_pass is_version_byte w.upstream (revision_back w.revision) upstream.1
+      (revision_bytes w.revision v.revision))
 
   pub version_filled : 0 < length text
   version_filled =
       let w = v.written in
       let some = upstream.0 in
-      omega (arith, ap length v.cut.joined, length-append (epoch_front w.epoch) (w.upstream ++ revision_back w.revision), length-append w.upstream (revision_back w.revision))
+      omega (
+        arith,
+        ap length v.cut.joined,
+        length-append (epoch_front w.epoch) (w.upstream ++ revision_back w.revision),
+        length-append w.upstream (revision_back w.revision),
+      )

@@ -35,7 +35,8 @@ unfolding alternative_at
 alternative_again f e a h =
     ap (λ (t : List ℕ). alternative_at (gap f ++ t)) (joined a e)
     ∙ rw (
-      name_again f a.name a.qualifier (bound_on a.bound a.archs a.profiles e) h.name h.qualifier (bound_begins a.bound a.archs a.profiles e) (name_ends a.bound a.archs a.profiles e),
+      name_again f a.name a.qualifier (bound_on a.bound a.archs a.profiles e) h.name h.qualifier
+          (bound_begins a.bound a.archs a.profiles e) (name_ends a.bound a.archs a.profiles e),
       restriction_again a.bound a.archs a.profiles e h.bound,
       archs_again a.archs a.profiles e h.archs,
       unprofiled_again a.profiles e h.profiles,
@@ -61,10 +62,42 @@ pub record Apart (c : ℕ) : Type 0 where
   pub closes_list : 93 ≢ c
 
 pub Apart-bar : Apart 124
-Apart-bar = record { name = refl; arch = refl; version = refl; profile = refl; space = λ z. omega arith; mark = λ z. omega arith; opens = λ z. omega arith; closes = λ z. omega arith; colon = λ z. omega arith; less = λ z. omega arith; equal = λ z. omega arith; greater = λ z. omega arith; opens_list = λ z. omega arith; closes_list = λ z. omega arith }
+Apart-bar =
+    record {
+      name = refl;
+      arch = refl;
+      version = refl;
+      profile = refl;
+      space = λ z. omega arith;
+      mark = λ z. omega arith;
+      opens = λ z. omega arith;
+      closes = λ z. omega arith;
+      colon = λ z. omega arith;
+      less = λ z. omega arith;
+      equal = λ z. omega arith;
+      greater = λ z. omega arith;
+      opens_list = λ z. omega arith;
+      closes_list = λ z. omega arith;
+    }
 
 pub Apart-comma : Apart 44
-Apart-comma = record { name = refl; arch = refl; version = refl; profile = refl; space = λ z. omega arith; mark = λ z. omega arith; opens = λ z. omega arith; closes = λ z. omega arith; colon = λ z. omega arith; less = λ z. omega arith; equal = λ z. omega arith; greater = λ z. omega arith; opens_list = λ z. omega arith; closes_list = λ z. omega arith }
+Apart-comma =
+    record {
+      name = refl;
+      arch = refl;
+      version = refl;
+      profile = refl;
+      space = λ z. omega arith;
+      mark = λ z. omega arith;
+      opens = λ z. omega arith;
+      closes = λ z. omega arith;
+      colon = λ z. omega arith;
+      less = λ z. omega arith;
+      equal = λ z. omega arith;
+      greater = λ z. omega arith;
+      opens_list = λ z. omega arith;
+      closes_list = λ z. omega arith;
+    }
 
 module _ (c : ℕ) (apart : Apart c) where
   qualifier_lacks : (q : Option (List ℕ)) → QualifierFits q → Without c (qualifier_part q)
@@ -81,17 +114,34 @@ module _ (c : ℕ) (apart : Apart c) where
   bound_lacks : (b : Option WrittenBound) → BoundFits b → Without c (bound_part b)
   bound_lacks None h = tt
   bound_lacks (Some b) h =
-      let version = Without-from_test is_version_byte c b.version apart.version (version_bytes b.version b.parts h) in
-      (apart.space, (apart.opens, Without-append c (operator_text b.operator) _ (operator_lacks b.operator) (apart.space, Without-append c b.version (41 ∷ []) version (apart.closes, tt))))
+      let version = Without-from_test is_version_byte c b.version apart.version
+      (version_bytes b.version b.parts h) in (
+        apart.space,
+        (
+          apart.opens,
+          Without-append c (operator_text b.operator) _ (operator_lacks b.operator)
+              (apart.space, Without-append c b.version (41 ∷ []) version (apart.closes, tt)),
+        ),
+      )
 
   archs_lack : (l : Option WrittenArchs) → ArchsFit l → Without c (archs_part l)
   archs_lack None h = tt
   archs_lack (Some l) h =
-      let names = Without-join c (marked l.negated) (codes " ") l.names (apart.space, tt) (each (λ n. IsTrue (is_arch n)) (λ n. Without c (marked l.negated n)) (λ n w. Without-marked c l.negated n apart.mark (Without-arch c n apart.arch w)) l.names h.1) in
+      let names = Without-join c (marked l.negated) (codes " ") l.names (apart.space, tt)
+      (each (λ n. IsTrue (is_arch n)) (λ n. Without c (marked l.negated n))
+      (λ n w. Without-marked c l.negated n apart.mark (Without-arch c n apart.arch w)) l.names
+      h.1) in
       (apart.space, (apart.opens_list, Without-append c _ (93 ∷ []) names (apart.closes_list, tt)))
 
   profile_part-lacks : (l : List WrittenProfile) → ProfilesFit l → Without c (profile_part l)
-  profile_part-lacks l h = (apart.space, (apart.less, Without-append c _ (62 ∷ []) (profiles_lack c apart.profile apart.mark apart.space l h) (apart.greater, tt)))
+  profile_part-lacks l h = (
+    apart.space,
+    (
+      apart.less,
+      Without-append c _ (62 ∷ []) (profiles_lack c apart.profile apart.mark apart.space l h)
+          (apart.greater, tt),
+    ),
+  )
 
   pub alternative_lacks : (a : WrittenAlternative) → AlternativeFits a
       → Without c (alternative_text a)
@@ -100,4 +150,6 @@ module _ (c : ℕ) (apart : Apart c) where
       (Without-append c (qualifier_part a.qualifier) _ (qualifier_lacks a.qualifier h.qualifier)
       (Without-append c (bound_part a.bound) _ (bound_lacks a.bound h.bound)
       (Without-append c (archs_part a.archs) _ (archs_lack a.archs h.archs)
-      (Without-flat_map c profile_part a.profiles (each ProfilesFit (λ l. Without c (profile_part l)) profile_part-lacks a.profiles h.profiles)))))
+      (Without-flat_map c profile_part a.profiles
+      (each ProfilesFit (λ l. Without c (profile_part l)) profile_part-lacks a.profiles
+      h.profiles)))))

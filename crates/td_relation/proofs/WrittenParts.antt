@@ -114,7 +114,8 @@ unqualified_again (Some word) rest h s =
     let p = and_parts (ltb 0 (length word)) (list_all is_arch_byte word) h in
     let stops = Stops-at is_arch_byte 32 rest refl s in
     ap (after_colon (codes ":" ++ (word ++ rest))) (strip_again (codes ":") (word ++ rest))
-    ∙ ap (λ (w : List ℕ). cond (ltb 0 (length w)) (Some (behind is_arch_byte (word ++ rest))) None) (run_again is_arch_byte word rest p.1 stops)
+    ∙ ap (λ (w : List ℕ). cond (ltb 0 (length w)) (Some (behind is_arch_byte (word ++ rest))) None)
+    (run_again is_arch_byte word rest p.1 stops)
     ∙ ap (λ (b : Bool). cond b (Some (behind is_arch_byte (word ++ rest))) None) p.0
     ∙ ap (λ (t : List ℕ). Some t) (behind_again is_arch_byte word rest p.1 stops)
 
@@ -133,8 +134,11 @@ name_again f name q rest h fits s ends =
     let long = ltb-true 1 (length name) a.0 in
     let on = qualifier_part q ++ rest in
     let stops = qualifier_stops q rest s in
-    ap (λ (t : List ℕ). named (run is_name_byte t) (unqualified (behind is_name_byte t))) (trimmed_gap f (name ++ on) ∙ trimmed_same (name ++ on) (Stops-front is_name_byte name on name_no_space (omega arith) b.1))
-    ∙ ap (λ (n : List ℕ). named n (unqualified (behind is_name_byte (name ++ on)))) (run_again is_name_byte name on b.1 stops)
+    ap (λ (t : List ℕ). named (run is_name_byte t) (unqualified (behind is_name_byte t)))
+    (trimmed_gap f (name ++ on)
+    ∙ trimmed_same (name ++ on) (Stops-front is_name_byte name on name_no_space (omega arith) b.1))
+    ∙ ap (λ (n : List ℕ). named n (unqualified (behind is_name_byte (name ++ on))))
+    (run_again is_name_byte name on b.1 stops)
     ∙ ap (λ (t : List ℕ). named name (unqualified t)) (behind_again is_name_byte name on b.1 stops)
     ∙ ap (named name) (unqualified_again q rest fits s)
     ∙ ap (λ (y : Bool). cond y (Some (name, trimmed rest)) None) (and_from _ _ h ends)
@@ -160,29 +164,44 @@ operator_behind Later rest = refl
 
 version_again : (operator : Operator) (version : List ℕ) (p : Parts) (rest : List ℕ)
     → IsVersion version p → ends_a_restriction (trimmed rest) ≡ true
-    → version_at (Some operator) (32 ∷ (version ++ 41 ∷ rest)) ≡ Ok (Some (record { operator = operator; version = p }), trimmed rest)
+    → version_at (Some operator) (32 ∷ (version ++ 41 ∷ rest))
+    ≡ Ok (Some (record { operator = operator; version = p }), trimmed rest)
 version_again operator version p rest v ends =
     let bytes = version_bytes version p v in
-    let front : trimmed (32 ∷ (version ++ 41 ∷ rest)) ≡ version ++ 41 ∷ rest = trimmed_space (version ++ 41 ∷ rest) ∙ trimmed_same (version ++ 41 ∷ rest) (Stops-front is_version_byte version (41 ∷ rest) version_no_space (version_filled version p v) bytes) in
-    ap (λ (t : List ℕ). closed operator (reading (run is_version_byte t)) (strip (codes ")") (trimmed (behind is_version_byte t)))) front
-    ∙ ap (λ (t : List ℕ). closed operator (reading t) (strip (codes ")") (trimmed (behind is_version_byte (version ++ 41 ∷ rest))))) (run_again is_version_byte version (41 ∷ rest) bytes refl)
-    ∙ ap (λ (t : List ℕ). closed operator (reading version) (strip (codes ")") (trimmed t))) (behind_again is_version_byte version (41 ∷ rest) bytes refl)
+    let front : trimmed (32 ∷ (version ++ 41 ∷ rest)) ≡ version ++ 41 ∷ rest =
+    trimmed_space (version ++ 41 ∷ rest)
+    ∙ trimmed_same (version ++ 41 ∷ rest)
+    (Stops-front is_version_byte version (41 ∷ rest) version_no_space (version_filled version p v)
+    bytes) in
+    ap (λ (t : List ℕ). closed operator (reading (run is_version_byte t))
+    (strip (codes ")") (trimmed (behind is_version_byte t)))) front
+    ∙ ap (λ (t : List ℕ). closed operator (reading t)
+    (strip (codes ")") (trimmed (behind is_version_byte (version ++ 41 ∷ rest)))))
+    (run_again is_version_byte version (41 ∷ rest) bytes refl)
+    ∙ ap (λ (t : List ℕ). closed operator (reading version) (strip (codes ")") (trimmed t)))
+    (behind_again is_version_byte version (41 ∷ rest) bytes refl)
     ∙ ap (closed operator (reading version)) (strip_again (codes ")") rest)
     ∙ ap (λ r. closed operator r (Some rest)) (read_only version p v)
-    ∙ ap (λ (y : Bool). cond y (Ok (Some (record { operator = operator; version = p }), trimmed rest)) (Err BadArchList)) ends
+    ∙ ap (λ (y : Bool). cond y
+    (Ok (Some (record { operator = operator; version = p }), trimmed rest)) (Err BadArchList)) ends
 
 pub restriction_again : (b : Option WrittenBound) (l : Option WrittenArchs)
     (ps : List (List WrittenProfile)) (e : Bool) → BoundFits b
-    → restriction_at (trimmed (bound_on b l ps e)) ≡ Ok (option_map bound_asked b, trimmed (archs_on l ps e))
+    → restriction_at (trimmed (bound_on b l ps e))
+    ≡ Ok (option_map bound_asked b, trimmed (archs_on l ps e))
 unfolding restriction_at
 restriction_again None l ps e h = ap (restricted (trimmed (archs_on l ps e))) (no_bound l ps e)
 restriction_again (Some b) l ps e h =
     let rest = archs_on l ps e in
     let inside = operator_text b.operator ++ 32 ∷ (b.version ++ 41 ∷ rest) in
-    let joined : (operator_text b.operator ++ 32 ∷ (b.version ++ 41 ∷ [])) ++ rest ≡ inside = append_assoc (operator_text b.operator) (32 ∷ (b.version ++ 41 ∷ [])) rest ∙ ap (λ (t : List ℕ). operator_text b.operator ++ 32 ∷ t) (append_assoc b.version (41 ∷ []) rest) in
+    let joined : (operator_text b.operator ++ 32 ∷ (b.version ++ 41 ∷ [])) ++ rest ≡ inside =
+    append_assoc (operator_text b.operator) (32 ∷ (b.version ++ 41 ∷ [])) rest
+    ∙ ap (λ (t : List ℕ). operator_text b.operator ++ 32 ∷ t)
+    (append_assoc b.version (41 ∷ []) rest) in
     ap (λ (t : List ℕ). restriction_at (40 ∷ t)) joined
     ∙ ap (restricted (40 ∷ inside)) (strip_again (codes "(") inside)
-    ∙ ap (λ o. version_at o (behind is_operator_byte (trimmed inside))) (operator_read b.operator (b.version ++ 41 ∷ rest))
+    ∙ ap (λ o. version_at o (behind is_operator_byte (trimmed inside)))
+    (operator_read b.operator (b.version ++ 41 ∷ rest))
     ∙ ap (version_at (Some b.operator)) (operator_behind b.operator (b.version ++ 41 ∷ rest))
     ∙ version_again b.operator b.version b.parts rest h (restriction_ends l ps e)
 
@@ -190,16 +209,23 @@ restriction_again (Some b) l ps e h =
 
 pub archs_again : (l : Option WrittenArchs) (ps : List (List WrittenProfile)) (e : Bool)
     → ArchsFit l
-    → archs_at (trimmed (archs_on l ps e)) ≡ Some (option_map (λ w. map (marked w.negated) w.names) l, trimmed (lists_on ps e))
+    → archs_at (trimmed (archs_on l ps e))
+    ≡ Some (option_map (λ w. map (marked w.negated) w.names) l, trimmed (lists_on ps e))
 unfolding archs_at
 archs_again None ps e h = ap (bracketed (trimmed (lists_on ps e))) (no_list ps e)
 archs_again (Some l) ps e h =
     let rest = lists_on ps e in
     let list = join_by (marked l.negated) (codes " ") l.names in
-    let lacks : Without 93 list = Without-join 93 (marked l.negated) (codes " ") l.names ((λ z. omega arith), tt) (each (λ n. IsTrue (is_arch n)) (λ n. Without 93 (marked l.negated n)) (λ n w. Without-marked 93 l.negated n (λ z. omega arith) (Without-arch 93 n refl w)) l.names h.1) in
-    let same : words list ≡ map (marked l.negated) l.names = arch_words-again l.negated l.names h.0 h.1 in
+    let lacks : Without 93 list =
+    Without-join 93 (marked l.negated) (codes " ") l.names ((λ z. omega arith), tt)
+    (each (λ n. IsTrue (is_arch n)) (λ n. Without 93 (marked l.negated n))
+    (λ n w. Without-marked 93 l.negated n (λ z. omega arith) (Without-arch 93 n refl w)) l.names
+    h.1) in
+    let same : words list ≡ map (marked l.negated) l.names =
+    arch_words-again l.negated l.names h.0 h.1 in
     ap (λ (t : List ℕ). archs_at (91 ∷ t)) (append_assoc list (93 ∷ []) rest)
     ∙ ap (bracketed (91 ∷ (list ++ 93 ∷ rest))) (strip_again (codes "[") (list ++ 93 ∷ rest))
     ∙ ap listed (cut-at 93 list rest lacks)
     ∙ ap (λ (w : List (List ℕ)). cond (is_arch_list w) (Some (Some w, trimmed rest)) None) same
-    ∙ ap (λ (y : Bool). cond y (Some (Some (map (marked l.negated) l.names), trimmed rest)) None) (is_arch_list-again l.negated l.names h.0 h.1)
+    ∙ ap (λ (y : Bool). cond y (Some (Some (map (marked l.negated) l.names), trimmed rest)) None)
+    (is_arch_list-again l.negated l.names h.0 h.1)

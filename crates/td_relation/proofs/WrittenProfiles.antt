@@ -35,7 +35,10 @@ pub profiles_lack : (c : ℕ) → is_profile_byte c ≡ false → ¬ (33 ≡ c) 
     → (l : List WrittenProfile) → ProfilesFit l → Without c (list_text l)
 profiles_lack c out mark space l h =
     Without-join c profile_text (codes " ") l (space, tt)
-    (each (λ p. IsTrue (is_profile_name p.name)) (λ p. Without c (profile_text p)) (λ p w. Without-marked c p.negated p.name mark (Without-from_test is_profile_byte c p.name out (and_parts _ (list_all is_profile_byte p.name) w).1)) l h.1)
+    (each (λ p. IsTrue (is_profile_name p.name)) (λ p. Without c (profile_text p))
+    (λ p w. Without-marked c p.negated p.name mark
+    (Without-from_test is_profile_byte c p.name out
+    (and_parts _ (list_all is_profile_byte p.name) w).1)) l h.1)
 
 -- ---- one list
 
@@ -45,14 +48,18 @@ unfolding profile_piece
 piece_again f l h =
     ap (λ (t : List ℕ). profile_list (strip (codes "<") t)) (trimmed_gap f (60 ∷ list_text l))
     ∙ ap profile_list (strip_again (codes "<") (list_text l))
-    ∙ ap (λ (w : List (List ℕ)). cond (is_profile_list w) (Some (holds_unprofiled w)) None) (profile_words-again l h)
-    ∙ ap (λ (b : Bool). cond b (Some (holds_unprofiled (map profile_text l))) None) (is_profile_list-again l h)
+    ∙ ap (λ (w : List (List ℕ)). cond (is_profile_list w) (Some (holds_unprofiled w)) None)
+    (profile_words-again l h)
+    ∙ ap (λ (b : Bool). cond b (Some (holds_unprofiled (map profile_text l))) None)
+    (is_profile_list-again l h)
     ∙ ap (λ (b : Bool). Some b) (holds-again l h)
 
 step_again : (seen f : Bool) (l : List WrittenProfile) → ProfilesFit l
     → profile_step (seen, false) (gap f ++ 60 ∷ list_text l) ≡ Ok (seen || holds l, false)
 step_again seen f l h =
-    ap (λ (b : Bool). cond b (Ok (seen, true)) (on_ok (or_fault BadProfile (profile_piece (gap f ++ 60 ∷ list_text l))) (λ x. Ok (seen || x, false)))) (is_blank-gap f (60 ∷ list_text l))
+    ap (λ (b : Bool). cond b (Ok (seen, true))
+    (on_ok (or_fault BadProfile (profile_piece (gap f ++ 60 ∷ list_text l)))
+    (λ x. Ok (seen || x, false)))) (is_blank-gap f (60 ∷ list_text l))
     ∙ ap (λ o. on_ok (or_fault BadProfile o) (λ x. Ok (seen || x, false))) (piece_again f l h)
 
 -- ---- lists one behind the other
@@ -67,15 +74,21 @@ first_on f l ls e = gap f ++ 60 ∷ (list_text l ++ 62 ∷ lists_on ls e)
 first_joined : (l : List WrittenProfile) (ls : List (List WrittenProfile)) (e : Bool)
     → ((list_text l ++ 62 ∷ []) ++ flat_map profile_part ls) ++ gap e
     ≡ list_text l ++ 62 ∷ lists_on ls e
-first_joined l ls e = ap (λ (t : List ℕ). t ++ gap e) (append_assoc (list_text l) (62 ∷ []) (flat_map profile_part ls)) ∙ append_assoc (list_text l) (62 ∷ flat_map profile_part ls) (gap e)
+first_joined l ls e =
+    ap (λ (t : List ℕ). t ++ gap e)
+    (append_assoc (list_text l) (62 ∷ []) (flat_map profile_part ls))
+    ∙ append_assoc (list_text l) (62 ∷ flat_map profile_part ls) (gap e)
 
 first_cut : (f : Bool) (l : List WrittenProfile) (ls : List (List WrittenProfile)) (e : Bool)
     → ProfilesFit l → slice_split is_greater (first_on f l ls e)
     ≡ (gap f ++ 60 ∷ list_text l) ∷ slice_split is_greater (lists_on ls e)
 first_cut f l ls e h =
-    let lacks : Without 62 (gap f ++ 60 ∷ list_text l) = Without-append 62 (gap f) (60 ∷ list_text l) (gap_lacks f) ((λ z. omega arith), profiles_lack 62 refl (λ z. omega arith) (λ z. omega arith) l h) in
+    let lacks : Without 62 (gap f ++ 60 ∷ list_text l) =
+    Without-append 62 (gap f) (60 ∷ list_text l) (gap_lacks f)
+    ((λ z. omega arith), profiles_lack 62 refl (λ z. omega arith) (λ z. omega arith) l h) in
     ap (slice_split is_greater) (sym (append_assoc (gap f) (60 ∷ list_text l) (62 ∷ lists_on ls e)))
-    ∙ slice_split_at is_greater (gap f ++ 60 ∷ list_text l) 62 (lists_on ls e) (none_is 62 (gap f ++ 60 ∷ list_text l) lacks) refl
+    ∙ slice_split_at is_greater (gap f ++ 60 ∷ list_text l) 62 (lists_on ls e)
+    (none_is 62 (gap f ++ 60 ∷ list_text l) lacks) refl
   where
     gap_lacks : (b : Bool) → Without 62 (gap b)
     gap_lacks true = ((λ z. omega arith), tt)
@@ -90,11 +103,13 @@ last_again seen false = refl
 
 lists_again : (seen f : Bool) (l : List WrittenProfile) (ls : List (List WrittenProfile)) (e : Bool)
     → ProfilesFit l → AllByRecursion ProfilesFit ls
-    → over profile_step (seen, false) (slice_split is_greater (first_on f l ls e)) ≡ Ok (seen || list_any holds (l ∷ ls), true)
+    → over profile_step (seen, false) (slice_split is_greater (first_on f l ls e))
+    ≡ Ok (seen || list_any holds (l ∷ ls), true)
 unfolding over
 lists_again seen f l [] e h hs =
     ap (over profile_step (seen, false)) (first_cut f l [] e h)
-    ∙ ap (λ r. on_ok r (λ more. over profile_step more (slice_split is_greater (gap e)))) (step_again seen f l h)
+    ∙ ap (λ r. on_ok r (λ more. over profile_step more (slice_split is_greater (gap e))))
+    (step_again seen f l h)
     ∙ last_again (seen || holds l) e
     ∙ ap (λ (b : Bool). Ok (b, true)) (ap (λ (b : Bool). seen || b) (none_more (holds l)))
   where
@@ -103,8 +118,10 @@ lists_again seen f l [] e h hs =
     none_more false = refl
 lists_again seen f l (m ∷ ls) e h hs =
     ap (over profile_step (seen, false)) (first_cut f l (m ∷ ls) e h)
-    ∙ ap (λ r. on_ok r (λ more. over profile_step more (slice_split is_greater (lists_on (m ∷ ls) e)))) (step_again seen f l h)
-    ∙ ap (λ (t : List ℕ). over profile_step (seen || holds l, false) (slice_split is_greater (32 ∷ 60 ∷ t))) (first_joined m ls e)
+    ∙ ap (λ r. on_ok r (λ more.
+    over profile_step more (slice_split is_greater (lists_on (m ∷ ls) e)))) (step_again seen f l h)
+    ∙ ap (λ (t : List ℕ). over profile_step (seen || holds l, false)
+    (slice_split is_greater (32 ∷ 60 ∷ t))) (first_joined m ls e)
     ∙ lists_again (seen || holds l) true m ls e hs.0 hs.1
     ∙ ap (λ (b : Bool). Ok (b, true)) (or_assoc seen (holds l) (list_any holds (m ∷ ls)))
 

@@ -23,7 +23,8 @@ pub struct Archs<'a> {
     list: Vec<Arch<'a>>,
     ghost few: { length list.items ≤ max_archs },
     ghost named: { list_all (λ a. is_arch a.name.now) list.items ≡ true },
-    ghost apart: { IsApart (map words_of list.items) } by { IsApart-prop (map words_of list.items) },
+    ghost apart: { IsApart (map words_of list.items) } by { IsApart-prop
+        (map words_of list.items) },
 }
 
 /// Why a text isn't a table of architectures: the first fault. Lines count from 1.
@@ -57,7 +58,23 @@ impl ArchsFault {
 }
 
 impl<'a> Archs<'a> {
-    ghost use Rattle.std.specs.Prelude.{◌≡◌, ◌<◌, ◌≤◌, ◌^◌, List, [], IfOk, IfErr, MatchResult, length, map, option_map, slice_get, Some, Ok};
+    ghost use Rattle.std.specs.Prelude.{
+      ◌≡◌,
+      ◌<◌,
+      ◌≤◌,
+      ◌^◌,
+      List,
+      [],
+      IfOk,
+      IfErr,
+      MatchResult,
+      length,
+      map,
+      option_map,
+      slice_get,
+      Some,
+      Ok,
+    };
     ghost use Rattle.td_relation.specs.Arch.{matches as matches_of, ArchWords};
     ghost use Rattle.td_relation.specs.Table.{place_of};
     ghost use Rattle.td_relation.specs.TableView.{table};

@@ -17,7 +17,8 @@ pub trait Offering {
     /// Whether some offer of the name is on the architecture at this place or on `all`, and is such
     /// as is asked.
     fn has(&self, name: &str, place: usize, restriction: &Option<Restriction<'_>>) -> bool
-        ensures { result ≡ list_any (λ o. suits place (option_map restriction_of restriction.now) o) (on_offer self.now name.now) };
+        ensures { result ≡ list_any (λ o. suits place (option_map restriction_of restriction.now) o)
+            (on_offer self.now name.now) };
 }
 
 impl<'a> Offering for Offers<'a> {

@@ -35,7 +35,18 @@ impl<'a> Offer<'a> {
 }
 
 impl<'a> Offers<'a> {
-    ghost use Rattle.std.specs.Prelude.{◌≡◌, List, ℕ, [], ◌∷◌, ◌++◌, OnOk, OnErr, map, if◌then◌else◌};
+    ghost use Rattle.std.specs.Prelude.{
+      ◌≡◌,
+      List,
+      ℕ,
+      [],
+      ◌∷◌,
+      ◌++◌,
+      OnOk,
+      OnErr,
+      map,
+      if◌then◌else◌,
+    };
     ghost use Rattle.std.specs.Str.{bytes_eq};
     ghost use Rattle.std.specs.Option.{option_map_or};
     ghost use Rattle.td_relation.specs.Offers.{offered, offers_of};

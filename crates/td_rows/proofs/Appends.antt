@@ -19,11 +19,19 @@ grown_by old new piece is = record { more = piece; is = is }
 
 -- a piece was appended, and then something more
 pub grown_on : (old mid new piece : List ℕ) → mid ≡ old ++ piece → Grown mid new → Grown old new
-grown_on old mid new piece is g = record { more = piece ++ g.more; is = g.is ∙ ap (λ (t : List ℕ). t ++ g.more) is ∙ append_assoc old piece g.more }
+grown_on old mid new piece is g =
+    record {
+      more = piece ++ g.more;
+      is = g.is ∙ ap (λ (t : List ℕ). t ++ g.more) is ∙ append_assoc old piece g.more;
+    }
 
 -- something was appended, and then something more
 pub grown_twice : (old mid new : List ℕ) → Grown old mid → Grown mid new → Grown old new
-grown_twice old mid new f g = record { more = f.more ++ g.more; is = g.is ∙ ap (λ (t : List ℕ). t ++ g.more) f.is ∙ append_assoc old f.more g.more }
+grown_twice old mid new f g =
+    record {
+      more = f.more ++ g.more;
+      is = g.is ∙ ap (λ (t : List ℕ). t ++ g.more) f.is ∙ append_assoc old f.more g.more;
+    }
 
 taken : (xs ys : List ℕ) → take (length xs) (xs ++ ys) ≡ xs
 taken [] ys = refl
@@ -33,9 +41,12 @@ taken (x ∷ xs) ys = ap (λ (l : List ℕ). x ∷ l) (taken xs ys)
 pub cut_back : {Z : Type 0} (old new : String Z) (n : ℕ) → n ≡ length (string_bytes old)
     → Grown (string_bytes old) (string_bytes new) → IsSplitPoint (string_bytes new) n
 cut_back old new n len g =
-    let front : take n (string_bytes new) ≡ string_bytes old = rw (len, g.is) (taken (string_bytes old) g.more) in
-    let within : n ≤ length (string_bytes new) = rw (len, g.is, length-append (string_bytes old) g.more) (omega arith) in
-    let place = IsCharBoundary-from_take (string_bytes new) n (IsUtf8-string_bytes new) within (subst IsUtf8 (sym front) (IsUtf8-string_bytes old)) in
+    let front : take n (string_bytes new) ≡ string_bytes old =
+    rw (len, g.is) (taken (string_bytes old) g.more) in
+    let within : n ≤ length (string_bytes new) =
+    rw (len, g.is, length-append (string_bytes old) g.more) (omega arith) in
+    let place = IsCharBoundary-from_take (string_bytes new) n (IsUtf8-string_bytes new) within
+    (subst IsUtf8 (sym front) (IsUtf8-string_bytes old)) in
     (place.0, λ _. place.1)
 
 -- and what is left is what it was

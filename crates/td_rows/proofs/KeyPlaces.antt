@@ -12,7 +12,9 @@ use Rattle.td_rows.specs.KeyModel.{IsKeyText}
 -- no newline stands in a part of a line
 pub has_newline-parts : (n : ℕ) (text : List ℕ) → has_newline text ≡ false
     → (has_newline (take n text) ≡ false) × (has_newline (drop n text) ≡ false)
-has_newline-parts n text h = or-false _ _ (sym (list_any-append (λ c. c == 10) (take n text) (drop n text)) ∙ ap has_newline (take-append-drop n text) ∙ h)
+has_newline-parts n text h =
+    or-false _ _ (sym (list_any-append (λ c. c == 10) (take n text) (drop n text))
+    ∙ ap has_newline (take-append-drop n text) ∙ h)
 
 -- a text may be cut behind its slash
 pub IsCharBoundary-behind : (text bytes : List ℕ) (slash : ℕ) → bytes ≡ text → IsUtf8 bytes

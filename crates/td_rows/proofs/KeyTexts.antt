@@ -13,23 +13,30 @@ use Rattle.td_rows.specs.KeyText.{key_text, KeyFits, key_at}
 -- a byte that no name has stands in no key's text
 pub Without-key_text : (c : ℕ) (k : Key) → c ≢ 47 → Without c k.source → Without c k.arch
     → Without c (key_text k)
-Without-key_text c k other source arch = Without-append c k.source (47 ∷ k.arch) source ((λ e. other (sym e)), arch)
+Without-key_text c k other source arch =
+    Without-append c k.source (47 ∷ k.arch) source ((λ e. other (sym e)), arch)
 
 -- no space stands in a key's text
 pub key_lacks_space : (k : Key) → KeyFits k → Without 32 (key_text k)
-key_lacks_space k h = Without-key_text 32 k (λ e. omega arith) (Without-name 32 k.source refl h.source) (Without-arch 32 k.arch refl h.arch)
+key_lacks_space k h =
+    Without-key_text 32 k (λ e. omega arith) (Without-name 32 k.source refl h.source)
+    (Without-arch 32 k.arch refl h.arch)
 
 -- nor a newline
 pub key_lacks_newline : (k : Key) → KeyFits k → Without 10 (key_text k)
-key_lacks_newline k h = Without-key_text 10 k (λ e. omega arith) (Without-name 10 k.source refl h.source) (Without-arch 10 k.arch refl h.arch)
+key_lacks_newline k h =
+    Without-key_text 10 k (λ e. omega arith) (Without-name 10 k.source refl h.source)
+    (Without-arch 10 k.arch refl h.arch)
 
 key_found : (t : List ℕ) (k : Key) → key_at t ≡ Some k → (t ≡ key_text k) × KeyFits k
 unfolding key_at
 key_found t k e =
     let a = chained _ _ _ e in
-    let w = when_some (is_name a.0.0 && is_arch a.0.1) (record { source = a.0.0; arch = a.0.1 }) k a.2 in
+    let w = when_some (is_name a.0.0 && is_arch a.0.1) (record { source = a.0.0; arch = a.0.1 }) k
+    a.2 in
     let fit = and_parts (is_name a.0.0) (is_arch a.0.1) w.0 in
-    subst (λ (q : Key). (t ≡ key_text q) × KeyFits q) w.1 ((cut_found 47 t a.0 a.1).0, record { source = fit.0; arch = fit.1 })
+    subst (λ (q : Key). (t ≡ key_text q) × KeyFits q) w.1
+    ((cut_found 47 t a.0 a.1).0, record { source = fit.0; arch = fit.1 })
 
 key_again : (k : Key) → KeyFits k → key_at (key_text k) ≡ Some k
 unfolding key_at

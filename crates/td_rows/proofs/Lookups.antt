@@ -17,7 +17,9 @@ pub lookup_key-passes : (k q : Key) (t : Table) → lookup_key (same_key k) t �
     → same_key k q ≡ true
 lookup_key-passes k q [] h = cc
 lookup_key-passes k q (p ∷ t) h =
-    elim (same_key k p.0) as (λ b. same_key k p.0 ≡ b → cond b (Some p.0) (lookup_key (same_key k) t) ≡ Some q → same_key k q ≡ true) [
+    elim (same_key k p.0) as (λ b.
+    same_key k p.0 ≡ b → cond b (Some p.0) (lookup_key (same_key k) t) ≡ Some q
+    → same_key k q ≡ true) [
       | true ↦ λ e is. let at : p.0 ≡ q = cc in subst (λ (x : Key). same_key k x ≡ true) at e
       | false ↦ λ _ later. lookup_key-passes k q t later
     ] refl h

@@ -21,17 +21,27 @@ below_trans : (k q : Key) (ks : List Key) → is_lt (key_cmp k q) ≡ true → b
 below_trans k q [] lt h = refl
 below_trans k q (x ∷ ks) lt h =
     let parts = and_parts _ _ h in
-    let here : is_lt (key_cmp k x) ≡ true = ap is_lt (key_total.trans k q x (is_less _ lt) (is_less _ parts.0)) in
+    let here : is_lt (key_cmp k x) ≡ true =
+    ap is_lt (key_total.trans k q x (is_less _ lt) (is_less _ parts.0)) in
     ap (λ b. b && below_all k ks) here ∙ below_trans k q ks lt parts.1
 
 pub ascending-adjacent : (k q : Key) (ks : List Key)
     → ascending (k ∷ q ∷ ks) ≡ (is_lt (key_cmp k q) && ascending (q ∷ ks))
 ascending-adjacent k q ks =
-    elim (is_lt (key_cmp k q)) as (λ a. is_lt (key_cmp k q) ≡ a → ((a && below_all k ks) && (below_all q ks && ascending ks)) ≡ (a && (below_all q ks && ascending ks))) [
-      | true ↦ λ lt. elim (below_all q ks) as (λ b. below_all q ks ≡ b → (below_all k ks && (b && ascending ks)) ≡ (b && ascending ks)) [
-        | true ↦ λ h. ap (λ c. c && ascending ks) (below_trans k q ks lt h)
-        | false ↦ λ _. elim (below_all k ks) as (λ c. (c && false) ≡ false) [ true ↦ refl | false ↦ refl ]
-      ] refl
+    elim (is_lt (key_cmp k q)) as (λ a.
+    is_lt (key_cmp k q) ≡ a
+    → ((a && below_all k ks) && (below_all q ks && ascending ks))
+    ≡ (a && (below_all q ks && ascending ks))) [
+      | true ↦
+          λ lt. elim (below_all q ks) as (λ b.
+          below_all q ks ≡ b → (below_all k ks && (b && ascending ks)) ≡ (b && ascending ks)) [
+            | true ↦ λ h. ap (λ c. c && ascending ks) (below_trans k q ks lt h)
+            | false ↦
+                λ _. elim (below_all k ks) as (λ c. (c && false) ≡ false) [
+                  | true ↦ refl
+                  | false ↦ refl
+                ]
+          ] refl
       | false ↦ λ _. refl
     ] refl
 

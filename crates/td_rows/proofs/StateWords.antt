@@ -24,7 +24,10 @@ building_found t s e =
     let a = chained _ _ _ e in
     let b = chained _ _ _ a.2 in
     let n = (number_exact (2 ^ 64 - 1) (lit< tt)).found a.0 b.0 b.1 in
-    subst (λ (y : State). IsWordOf t y) (some_is (Building b.0) s b.2) (strip_found (codes "Building=") t a.0 a.1 ∙ ap (λ (d : List ℕ). codes "Building=" ++ d) n.0, omega arith)
+    subst (λ (y : State). IsWordOf t y) (some_is (Building b.0) s b.2) (
+      strip_found (codes "Building=") t a.0 a.1 ∙ ap (λ (d : List ℕ). codes "Building=" ++ d) n.0,
+      omega arith,
+    )
 
 state_found : (t : List ℕ) (s : State) → state_at t ≡ Some s → (t ≡ state_word s) × StateFits s
 unfolding state_at
@@ -42,7 +45,11 @@ state_found t s e =
 state_again : (s : State) → StateFits s → state_at (state_word s) ≡ Some s
 unfolding state_at
 state_again NeedsBuild h = refl
-state_again (Building n) h = rw (strip_again (codes "Building=") (decimal n), (number_exact (2 ^ 64 - 1) (lit< tt)).again n (omega arith)) refl
+state_again (Building n) h =
+    rw (
+      strip_again (codes "Building=") (decimal n),
+      (number_exact (2 ^ 64 - 1) (lit< tt)).again n (omega arith),
+    ) refl
 state_again Built h = refl
 state_again Uploaded h = refl
 state_again Installed h = refl
@@ -57,7 +64,9 @@ state_exact = record { found = state_found; again = state_again }
 
 pub state_lacks_space : (s : State) → StateFits s → Without 32 (state_word s)
 state_lacks_space NeedsBuild h = lacks 32 (state_word NeedsBuild) refl
-state_lacks_space (Building n) h = Without-append 32 (codes "Building=") (decimal n) (lacks 32 (codes "Building=") refl) (Without-decimal 32 n (lit< tt) h)
+state_lacks_space (Building n) h =
+    Without-append 32 (codes "Building=") (decimal n) (lacks 32 (codes "Building=") refl)
+    (Without-decimal 32 n (lit< tt) h)
 state_lacks_space Built h = lacks 32 (state_word Built) refl
 state_lacks_space Uploaded h = lacks 32 (state_word Uploaded) refl
 state_lacks_space Installed h = lacks 32 (state_word Installed) refl
@@ -69,7 +78,9 @@ state_lacks_space NotForUs h = lacks 32 (state_word NotForUs) refl
 
 pub state_lacks_newline : (s : State) → StateFits s → Without 10 (state_word s)
 state_lacks_newline NeedsBuild h = lacks 10 (state_word NeedsBuild) refl
-state_lacks_newline (Building n) h = Without-append 10 (codes "Building=") (decimal n) (lacks 10 (codes "Building=") refl) (Without-decimal 10 n (lit< tt) h)
+state_lacks_newline (Building n) h =
+    Without-append 10 (codes "Building=") (decimal n) (lacks 10 (codes "Building=") refl)
+    (Without-decimal 10 n (lit< tt) h)
 state_lacks_newline Built h = lacks 10 (state_word Built) refl
 state_lacks_newline Uploaded h = lacks 10 (state_word Uploaded) refl
 state_lacks_newline Installed h = lacks 10 (state_word Installed) refl

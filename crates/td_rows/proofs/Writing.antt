@@ -53,10 +53,21 @@ line_lacks : (p : Key × Row) → OpensInLines p → Without 10 (row_line p)
 line_lacks p h =
     let fits = h.opens.fits in
     let row = p.1 in
-    let texts : Without 10 (notes (row.extra, row.dep_wait)) = Without-append 10 (extra_part row.extra) (text_part row.dep_wait) (lack_extra row.extra (let small = fits.texts in omega arith) h.extra) (lack_text row.dep_wait h.dep_wait) in
-    let number : Without 10 (decimal row.number ++ notes (row.extra, row.dep_wait)) = Without-append 10 (decimal row.number) _ (Without-decimal 10 row.number (lit< tt) (let le = fits.number in omega arith)) texts in
-    let numbers : Without 10 (signed_decimal row.priority ++ 32 ∷ (decimal row.number ++ notes (row.extra, row.dep_wait))) = Without-append 10 (signed_decimal row.priority) _ (Without-signed_decimal 10 9999 row.priority (lit< tt) (λ z. omega arith) (lit< tt) fits.priority) ((λ z. omega arith), number) in
-    let words : Without 10 (row_words row) = Without-append 10 (state_word row.state) _ (state_lacks_newline row.state fits.state) ((λ z. omega arith), numbers) in
+    let texts : Without 10 (notes (row.extra, row.dep_wait)) =
+    Without-append 10 (extra_part row.extra) (text_part row.dep_wait)
+    (lack_extra row.extra (let small = fits.texts in omega arith) h.extra)
+    (lack_text row.dep_wait h.dep_wait) in
+    let number : Without 10 (decimal row.number ++ notes (row.extra, row.dep_wait)) =
+    Without-append 10 (decimal row.number) _
+    (Without-decimal 10 row.number (lit< tt) (let le = fits.number in omega arith)) texts in
+    let numbers : Without 10
+    (signed_decimal row.priority ++ 32 ∷ (decimal row.number ++ notes (row.extra, row.dep_wait))) =
+    Without-append 10 (signed_decimal row.priority) _
+    (Without-signed_decimal 10 9999 row.priority (lit< tt) (λ z. omega arith)
+    (lit< tt) fits.priority) ((λ z. omega arith), number) in
+    let words : Without 10 (row_words row) =
+    Without-append 10 (state_word row.state) _ (state_lacks_newline row.state fits.state)
+    ((λ z. omega arith), numbers) in
     Without-append 10 (key_text p.0) _ (key_lacks_newline p.0 fits.key) ((λ z. omega arith), words)
 
 lines_lack : (t : Table) → AllByRecursion OpensInLines t
@@ -75,7 +86,9 @@ row_line-filled p = by p.0.source
 
 filter-filled : (t : Table) → filter is_filled (map row_line t) ≡ map row_line t
 filter-filled [] = refl
-filter-filled (p ∷ t) = let some = row_line-filled p in rw some (ap (λ (l : List (List ℕ)). row_line p ∷ l) (filter-filled t))
+filter-filled (p ∷ t) =
+    let some = row_line-filled p in
+    rw some (ap (λ (l : List (List ℕ)). row_line p ∷ l) (filter-filled t))
 
 opens_each : (t : Table) → AllByRecursion OpensInLines t → AllByRecursion Opens t
 opens_each [] h = tt
@@ -85,16 +98,19 @@ fresh_each : (seen t : Table) → ascending (keys_of (seen ++ t)) ≡ true → F
 fresh_each seen [] up = tt
 fresh_each seen (p ∷ t) up = (
   names-row_of seen p.0 ∙ ap (λ o. is_some o) (row_of-before seen p.0 p.1 t up),
-  fresh_each (seen ++ p ∷ []) t (subst (λ (u : Table). ascending (keys_of u) ≡ true) (sym (append_assoc seen (p ∷ []) t)) up),
+  fresh_each (seen ++ p ∷ []) t
+      (subst (λ (u : Table). ascending (keys_of u) ≡ true) (sym (append_assoc seen (p ∷ []) t)) up),
 )
 
 pub read_again : (t : Table) → IsOpening t → IsStateFile (lines_of (state_text t)) t
 read_again t h =
-    let lines : lines_of (state_text t) ≡ map row_line t ++ [] ∷ [] = lines_of-text_of (map row_line t) (lines_lack t h.rows) in
+    let lines : lines_of (state_text t) ≡ map row_line t ++ [] ∷ [] =
+    lines_of-text_of (map row_line t) (lines_lack t h.rows) in
     record {
       rows = t;
       written = record {
-        spelled = ap (filter is_filled) lines ∙ filter-append is_filled (map row_line t) ([] ∷ []) ∙ append-nil (filter is_filled (map row_line t)) ∙ filter-filled t;
+        spelled = ap (filter is_filled) lines ∙ filter-append is_filled (map row_line t) ([] ∷ [])
+            ∙ append-nil (filter is_filled (map row_line t)) ∙ filter-filled t;
         opening = opens_each t h.rows;
         fresh = fresh_each [] t h.rising;
         limited = h.limited;

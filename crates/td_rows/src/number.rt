@@ -23,7 +23,8 @@ impl Model for Priority {
 
     ghost view = { λ p. p.value };
 
-    ghost invariant = { λ p. (neg_ℤ (pos max_priority) ≤ℤ p.value) × (p.value ≤ℤ pos max_priority) };
+    ghost invariant = { λ p.
+        (neg_ℤ (pos max_priority) ≤ℤ p.value) × (p.value ≤ℤ pos max_priority) };
 
     ghost inverse = { λ z. record { value = z } };
 }

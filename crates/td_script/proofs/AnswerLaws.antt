@@ -1,5 +1,7 @@
 -- What the calls of a book answer, as replies.
-use Rattle.std.proofs.Common.{◌≡◌, ◌≢◌, ℕ, zero, suc, ◌+◌, ◌-◌, ◌≤◌, Bool, true, false, List, [], ◌∷◌, ◌++◌, length, Some, Ok, refl, sym, ap, subst, ◌∙◌, arith, append_assoc, slice_get, if◌then◌else◌, Option, None, Result, Err}
+use Rattle.std.proofs.Common.{◌≡◌, ◌≢◌, ℕ, zero, suc, ◌+◌, ◌-◌, ◌≤◌, Bool, true, false, List, []}
+use Rattle.std.proofs.Common.{◌∷◌, ◌++◌, length, Some, Ok, refl, sym, ap, subst, ◌∙◌, arith}
+use Rattle.std.proofs.Common.{append_assoc, slice_get, if◌then◌else◌, Option, None, Result, Err}
 use Rattle.std.specs.Prelude.{◌==◌, ◌&&◌, codes, IsSomeAnd}
 use Rattle.std.proofs.lemmas.List.{append-nil}
 use Rattle.td_rows.specs.declared.key.Key.{Key}
@@ -21,7 +23,8 @@ use Rattle.td_book.specs.declared.undoing.UndoRefusal.TheVariants as undos
 use Rattle.td_book.specs.Arriving.{ArriveOutcome, SweepOutcome, freed_now}
 use Rattle.td_book.specs.Calls.{noting, noting_one, is_lost, off_for}
 use Rattle.td_book.specs.Undoing.{IsWon, UndoAnswer}
-use Rattle.td_script.specs.Replies.{Reply, enters, entry_made, arrives, sweeps, undoes, refuses, refusal_line, state_refused, undo_name}
+use Rattle.td_script.specs.Replies.{Reply, enters, entry_made, arrives, sweeps, undoes, refuses}
+use Rattle.td_script.specs.Replies.{refusal_line, state_refused, undo_name}
 use Rattle.td_script.specs.Replying.{IsPut, IsEntryPut, IsArrivalPut, IsSweepPut, IsUndoPut}
 use Rattle.td_script.specs.Answering.{Answers}
 
@@ -35,18 +38,28 @@ entry_at-last : (ms : List Marked) (m : Marked) → entry_at (ms ++ m ∷ []) (l
 entry_at-last ms m =
     let back : length ms + 1 - 1 ≡ length ms = omega arith in
     let not_zero : (length ms + 1 == 0) ≡ false = grind arith in
-    ap (λ (b : Bool). if b then None else slice_get (ms ++ m ∷ []) (length ms + 1 - 1)) not_zero ∙ ap (slice_get (ms ++ m ∷ [])) back ∙ slice_get-last ms m
+    ap (λ (b : Bool). if b then None else slice_get (ms ++ m ∷ []) (length ms + 1 - 1)) not_zero
+    ∙ ap (slice_get (ms ++ m ∷ [])) back ∙ slice_get-last ms m
 
 -- an entry that was made is found under its number
-pub made_is : (h now : History) (e : Entry) (n : ℕ) → now ≡ with_entry h e → n ≡ length h.journal + 1 → entry_at now.journal n ≡ Some (standing_entry e)
-made_is h now e n is number = ap (λ (x : History). entry_at x.journal n) is ∙ ap (entry_at (h.journal ++ standing_entry e ∷ [])) number ∙ entry_at-last h.journal (standing_entry e)
+pub made_is : (h now : History) (e : Entry) (n : ℕ) → now ≡ with_entry h e
+    → n ≡ length h.journal + 1 → entry_at now.journal n ≡ Some (standing_entry e)
+made_is h now e n is number =
+    ap (λ (x : History). entry_at x.journal n) is
+    ∙ ap (entry_at (h.journal ++ standing_entry e ∷ [])) number
+    ∙ entry_at-last h.journal (standing_entry e)
 
 -- ---- 2. replies
 
 -- an entry is made, and said with what stands behind it
-pub Answers-made : (e : Entry) (behind : List ℕ) (old new : BookModel) (ms : List Marked) (n : ℕ) (before now : List ℕ) (refused : Bool) → new.history ≡ with_entry old.history e → new.fixed ≡ old.fixed → n ≡ length old.history.journal + 1 → ms ≡ new.history.journal → IsEntryPut ms n behind before now refused → Answers (enters old.history e behind) old new before now refused
+pub Answers-made : (e : Entry) (behind : List ℕ) (old new : BookModel) (ms : List Marked) (n : ℕ)
+    (before now : List ℕ) (refused : Bool) → new.history ≡ with_entry old.history e
+    → new.fixed ≡ old.fixed → n ≡ length old.history.journal + 1 → ms ≡ new.history.journal
+    → IsEntryPut ms n behind before now refused
+    → Answers (enters old.history e behind) old new before now refused
 Answers-made e behind old new ms n before now refused is fixed number same put =
-    let it = put (standing_entry e) (ap (λ (l : List Marked). entry_at l n) same ∙ made_is old.history new.history e n is number) in
+    let it = put (standing_entry e)
+    (ap (λ (l : List Marked). entry_at l n) same ∙ made_is old.history new.history e n is number) in
     record {
       text = it.text_is ∙ ap (λ (m : ℕ). before ++ (entry_made m e.keys ++ behind)) number;
       history = is;
@@ -54,15 +67,20 @@ Answers-made e behind old new ms n before now refused is fixed number same put =
       fixed = fixed;
     }
 
-pub arrives-made : (k : Key) (old new : BookModel) (n : ℕ) → ArriveOutcome k old new (Ok n) → arrives old.history k (row_of (rows_of old.history) k) ≡ enters old.history (record { kind = kinds.Arrive; keys = k ∷ [] }) []
+pub arrives-made : (k : Key) (old new : BookModel) (n : ℕ) → ArriveOutcome k old new (Ok n)
+    → arrives old.history k (row_of (rows_of old.history) k)
+    ≡ enters old.history (record { kind = kinds.Arrive; keys = k ∷ [] }) []
 arrives-made k old new n h = rw (h.1, h.2) refl
 
-pub sweeps-made : (h : History) (keys : List Key) → keys ≢ [] → sweeps h keys ≡ enters h (record { kind = kinds.Sweep; keys = keys }) []
+pub sweeps-made : (h : History) (keys : List Key) → keys ≢ []
+    → sweeps h keys ≡ enters h (record { kind = kinds.Sweep; keys = keys }) []
 sweeps-made h [] some = absurd (some refl)
 sweeps-made h (k ∷ keys) some = refl
 
 -- nothing changes, and the refusal is named
-pub Answers-refused : (name : List ℕ) (old new : BookModel) (before now : List ℕ) (refused : Bool) → new ≡ old → IsPut (refusal_line name) true before now refused → Answers (refuses old.history name []) old new before now refused
+pub Answers-refused : (name : List ℕ) (old new : BookModel) (before now : List ℕ) (refused : Bool)
+    → new ≡ old → IsPut (refusal_line name) true before now refused
+    → Answers (refuses old.history name []) old new before now refused
 Answers-refused name old new before now refused is put = record {
   text = put.text_is ∙ ap (λ (l : List ℕ). before ++ l) (sym (append-nil (refusal_line name)));
   history = ap (λ (b : BookModel). b.history) is;
@@ -73,30 +91,57 @@ Answers-refused name old new before now refused is put = record {
 -- ---- 3. calls
 
 -- of a refusal, what stands behind it is appended then
-pub IsPut-two : (before mid now first behind : List ℕ) → mid ≡ before ++ first → now ≡ mid ++ behind → IsPut (first ++ behind) true before now true
-IsPut-two before mid now first behind one two = record { text_is = two ∙ ap (λ (l : List ℕ). l ++ behind) one ∙ append_assoc before first behind; refusal = refl }
+pub IsPut-two : (before mid now first behind : List ℕ) → mid ≡ before ++ first → now ≡ mid ++ behind
+    → IsPut (first ++ behind) true before now true
+IsPut-two before mid now first behind one two =
+    record {
+      text_is = two ∙ ap (λ (l : List ℕ). l ++ behind) one
+          ∙ append_assoc before first behind;
+      refusal = refl;
+    }
 
-pub Answers-arrival : (k : Key) (old new : BookModel) (ms : List Marked) (a : Result ℕ ArriveRefusal) (before now : List ℕ) (refused : Bool) → ms ≡ new.history.journal → ArriveOutcome k old new a → IsArrivalPut ms a before now refused → Answers (arrives old.history k (row_of (rows_of old.history) k)) old new before now refused
+pub Answers-arrival : (k : Key) (old new : BookModel) (ms : List Marked)
+    (a : Result ℕ ArriveRefusal) (before now : List ℕ) (refused : Bool) → ms ≡ new.history.journal
+    → ArriveOutcome k old new a → IsArrivalPut ms a before now refused
+    → Answers (arrives old.history k (row_of (rows_of old.history) k)) old new before now refused
 Answers-arrival k old new ms (Ok n) before now refused same is put =
     subst (λ (r : Reply). Answers r old new before now refused) (sym (arrives-made k old new n is))
-    (Answers-made (record { kind = kinds.Arrive; keys = k ∷ [] }) [] old new ms n before now refused (ap (λ (b : BookModel). b.history) is.3) (ap (λ (b : BookModel). b.fixed) is.3) is.4 same put)
+    (Answers-made (record { kind = kinds.Arrive; keys = k ∷ [] }) [] old new ms n before now refused
+    (ap (λ (b : BookModel). b.history) is.3) (ap (λ (b : BookModel). b.fixed) is.3) is.4 same put)
 Answers-arrival k old new ms (Err arrivals.NoSuchRow) before now refused same is put =
-    subst (λ (o : Option Row). Answers (arrives old.history k o) old new before now refused) (sym is.0) (Answers-refused (codes "NoSuchRow") old new before now refused is.1 put)
+    subst (λ (o : Option Row). Answers (arrives old.history k o) old new before now refused)
+    (sym is.0) (Answers-refused (codes "NoSuchRow") old new before now refused is.1 put)
 Answers-arrival k old new ms (Err (arrivals.DoesNotApply s)) before now refused same is put =
-    let reply : arrives old.history k (row_of (rows_of old.history) k) ≡ refuses old.history (state_refused is.0) [] = rw (is.1, is.2) refl in
+    let reply : arrives old.history k (row_of (rows_of old.history) k)
+    ≡ refuses old.history (state_refused is.0) [] = rw (is.1, is.2) refl in
     subst (λ (r : Reply). Answers r old new before now refused) (sym reply)
-    (Answers-refused (state_refused is.0) old new before now refused is.4 (subst (λ (u : State). IsPut (refusal_line (codes "DoesNotApply " ++ state_word u)) true before now refused) is.3 put))
+    (Answers-refused (state_refused is.0) old new before now refused is.4
+    (subst (λ (u : State).
+    IsPut (refusal_line (codes "DoesNotApply " ++ state_word u)) true before now refused) is.3 put))
 Answers-arrival k old new ms (Err arrivals.NoMemory) before now refused same is put = absurd put
 
-pub Answers-sweep : (old new : BookModel) (ms : List Marked) (swept : Option ℕ) (before now : List ℕ) (refused : Bool) → ms ≡ new.history.journal → SweepOutcome old new (Ok swept) → IsSweepPut ms swept before now refused → Answers (sweeps old.history (freed_now old)) old new before now refused
+pub Answers-sweep : (old new : BookModel) (ms : List Marked) (swept : Option ℕ)
+    (before now : List ℕ) (refused : Bool) → ms ≡ new.history.journal
+    → SweepOutcome old new (Ok swept) → IsSweepPut ms swept before now refused
+    → Answers (sweeps old.history (freed_now old)) old new before now refused
 Answers-sweep old new ms (Some n) before now refused same is put =
-    subst (λ (r : Reply). Answers r old new before now refused) (sym (sweeps-made old.history (freed_now old) is.0))
-    (Answers-made (record { kind = kinds.Sweep; keys = freed_now old }) [] old new ms n before now refused (ap (λ (b : BookModel). b.history) is.1) (ap (λ (b : BookModel). b.fixed) is.1) is.2 same put)
+    subst (λ (r : Reply). Answers r old new before now refused)
+    (sym (sweeps-made old.history (freed_now old) is.0))
+    (Answers-made (record { kind = kinds.Sweep; keys = freed_now old }) [] old new ms n before now
+    refused (ap (λ (b : BookModel). b.history) is.1) (ap (λ (b : BookModel). b.fixed) is.1) is.2
+    same put)
 Answers-sweep old new ms None before now refused same is put =
     subst (λ (ks : List Key). Answers (sweeps old.history ks) old new before now refused) (sym is.0)
-    (record { text = put.text_is; history = ap (λ (b : BookModel). b.history) is.1; refusal = put.refusal; fixed = ap (λ (b : BookModel). b.fixed) is.1 })
+    (record {
+      text = put.text_is;
+      history = ap (λ (b : BookModel). b.history) is.1;
+      refusal = put.refusal;
+      fixed = ap (λ (b : BookModel). b.fixed) is.1;
+    })
 
-undo_refused : (n : ℕ) (r : UndoRefusal) (before now : List ℕ) (refused : Bool) → IsUndoPut n (Err r) before now refused → IsPut (refusal_line (undo_name r)) true before now refused
+undo_refused : (n : ℕ) (r : UndoRefusal) (before now : List ℕ) (refused : Bool)
+    → IsUndoPut n (Err r) before now refused
+    → IsPut (refusal_line (undo_name r)) true before now refused
 undo_refused n undos.NoSuchEntry before now refused put = put
 undo_refused n undos.NotACommand before now refused put = put
 undo_refused n undos.AlreadyUndone before now refused put = put
@@ -104,27 +149,47 @@ undo_refused n undos.NoMemory before now refused put = absurd put
 undo_refused n (undos.Blocked m) before now refused put = put
 
 -- without builders none was faster
-none_won : (old new : BookModel) (m : ℕ) (found : Option Marked) → old.fixed.builders ≡ 0 → IsSomeAnd found (λ e. IsWon old.history new.history old.fixed.builders (off_for e.entry.kind e.entry.keys) m) → ⊥
+none_won : (old new : BookModel) (m : ℕ) (found : Option Marked) → old.fixed.builders ≡ 0
+    → IsSomeAnd found (λ e.
+    IsWon old.history new.history old.fixed.builders (off_for e.entry.kind e.entry.keys) m) → ⊥
 none_won old new m None none won = won
-none_won old new m (Some e) none won = let one = won.one in let some = won.some_builder in omega (arith, one, some, none)
+none_won old new m (Some e) none won =
+    let one = won.one in let some = won.some_builder in omega (arith, one, some, none)
 
-pub Answers-undo : (stop : Option UndoRefusal) (n : ℕ) (old new : BookModel) (a : Result (Unit {0}) UndoRefusal) (before now : List ℕ) (refused : Bool) → old.fixed.builders ≡ 0 → UndoAnswer stop n old new a → IsUndoPut n a before now refused → Answers (undoes old.history n stop) old new before now refused
+pub Answers-undo : (stop : Option UndoRefusal) (n : ℕ) (old new : BookModel)
+    (a : Result (Unit {0}) UndoRefusal) (before now : List ℕ) (refused : Bool)
+    → old.fixed.builders ≡ 0 → UndoAnswer stop n old new a → IsUndoPut n a before now refused
+    → Answers (undoes old.history n stop) old new before now refused
 Answers-undo (Some r) n old new a before now refused none is put =
-    Answers-refused (undo_name r) old new before now refused is.1 (undo_refused n r before now refused (subst (λ (x : Result (Unit {0}) UndoRefusal). IsUndoPut n x before now refused) is.0 put))
-Answers-undo None n old new (Ok u) before now refused none is put = record { text = put.text_is; history = is.outcome; refusal = put.refusal; fixed = is.fixed }
+    Answers-refused (undo_name r) old new before now refused is.1
+    (undo_refused n r before now refused
+    (subst (λ (x : Result (Unit {0}) UndoRefusal). IsUndoPut n x before now refused) is.0 put))
+Answers-undo None n old new (Ok u) before now refused none is put =
+    record { text = put.text_is; history = is.outcome; refusal = put.refusal; fixed = is.fixed }
 Answers-undo None n old new (Err undos.NoMemory) before now refused none is put = absurd put
-Answers-undo None n old new (Err (undos.Blocked m)) before now refused none is put = absurd (none_won old new m (entry_at old.history.journal n) none is.outcome)
-Answers-undo None n old new (Err undos.NoSuchEntry) before now refused none is put = absurd is.outcome
-Answers-undo None n old new (Err undos.NotACommand) before now refused none is put = absurd is.outcome
-Answers-undo None n old new (Err undos.AlreadyUndone) before now refused none is put = absurd is.outcome
+Answers-undo None n old new (Err (undos.Blocked m)) before now refused none is put =
+    absurd (none_won old new m (entry_at old.history.journal n) none is.outcome)
+Answers-undo None n old new (Err undos.NoSuchEntry) before now refused none is put =
+    absurd is.outcome
+Answers-undo None n old new (Err undos.NotACommand) before now refused none is put =
+    absurd is.outcome
+Answers-undo None n old new (Err undos.AlreadyUndone) before now refused none is put =
+    absurd is.outcome
 
 -- ---- 4. without builders no withdrawal is lost
 
 noting_one-none : (h : History) (k : Key) → noting_one h k zero ≡ h
-noting_one-none h k = elim (is_queued_at (rows_of h) k) as (λ b. (if b && is_lost zero then with_entry h (record { kind = kinds.Claim zero; keys = k ∷ [] }) else h) ≡ h) [ true ↦ refl | false ↦ refl ]
+noting_one-none h k =
+    elim (is_queued_at (rows_of h) k) as (λ b.
+    (if b && is_lost zero then with_entry h (record { kind = kinds.Claim zero; keys = k ∷ [] })
+    else h) ≡ h) [ true ↦ refl | false ↦ refl ]
 
-pub noting-none : (h : History) (ks : List Key) (bs : List ℕ) → ((i b : ℕ) → slice_get bs i ≡ Some b → b ≤ 0) → noting h ks bs ≡ h
+pub noting-none : (h : History) (ks : List Key) (bs : List ℕ)
+    → ((i b : ℕ) → slice_get bs i ≡ Some b → b ≤ 0) → noting h ks bs ≡ h
 noting-none h [] bs none = refl
 noting-none h (k ∷ ks) [] none = refl
-noting-none h (k ∷ ks) (zero ∷ bs) none = ap (λ (x : History). noting x ks bs) (noting_one-none h k) ∙ noting-none h ks bs (λ i b is. none (suc i) b is)
-noting-none h (k ∷ ks) (suc b ∷ bs) none = absurd (let small = none 0 (suc b) refl in omega (arith, small))
+noting-none h (k ∷ ks) (zero ∷ bs) none =
+    ap (λ (x : History). noting x ks bs) (noting_one-none h k)
+    ∙ noting-none h ks bs (λ i b is. none (suc i) b is)
+noting-none h (k ∷ ks) (suc b ∷ bs) none =
+    absurd (let small = none 0 (suc b) refl in omega (arith, small))

@@ -1,5 +1,7 @@
 -- What is read of the texts, layer by layer.
-use Rattle.std.proofs.Common.{◌≡◌, ◌↔◌, ℕ, List, [], ◌∷◌, false, Option, Some, None, Result, Ok, Err, IfOk, IfErr, refl, sym, ap, subst, ◌∙◌, option_map, unwrap_or, map}
+use Rattle.std.proofs.Common.{◌≡◌, ◌↔◌, ℕ, List, [], ◌∷◌, false, Option, Some, None, Result, Ok}
+use Rattle.std.proofs.Common.{Err, IfOk, IfErr, refl, sym, ap, subst, ◌∙◌, option_map, unwrap_or}
+use Rattle.std.proofs.Common.{map}
 use Rattle.std.specs.Prelude.{MatchResult, string_bytes}
 use Rattle.td_text.specs.Lines.{lines_of}
 use Rattle.td_relation.specs.Arch.{ArchWords}
@@ -33,7 +35,8 @@ use Rattle.td_query.specs.declared.tracker_fault.TrackerFault.{TrackerFault}
 use Rattle.td_query.specs.declared.tracker_fault.TrackerFault.TheVariants as tracker
 use Rattle.td_script.specs.declared.input_fault.InputFault.TheVariants as fault
 use Rattle.td_script.specs.declared.running.RunFault.{RunFault}
-use Rattle.td_script.specs.declared.running.RunFault.TheVariants.{Input, Read, TooLong, NotText, Write, NoMemory}
+use Rattle.td_script.specs.declared.running.RunFault.TheVariants.{Input, Read, TooLong, NotText}
+use Rattle.td_script.specs.declared.running.RunFault.TheVariants.{Write, NoMemory}
 use Rattle.td_supply.specs.Supplied.{Supplied, fresh}
 use Rattle.td_supply.specs.Supply.{Stock, SupplyView, opened as opened_stock, stock_of}
 use Rattle.atomic_table.specs.Seated.{TableId}
@@ -49,81 +52,129 @@ use Rattle.td_script.specs.Replies.{Setting}
 use Rattle.td_script.specs.Reporting.{report_with}
 use Rattle.td_script.specs.Script.{IsTold, Told, script, told_of}
 use Rattle.td_script.specs.Ends.{IsAnswered}
-use Rattle.td_script.specs.OpeningInside.{IsBegunBy, IsJournalFault, IsRefusedBy, IsRefusedIn, IsReplacedIn, IsToldFrom, IsTrackerOf, IsUntold, Tells, of_archive, of_journal, of_state, of_table, of_tracker}
-use Rattle.td_script.specs.Openings.{AreOpened, AreReports, AreRowsOf, IsArchiveOf, IsTrackerIfGiven, Texts}
+use Rattle.td_script.specs.OpeningInside.{IsBegunBy, IsJournalFault, IsRefusedBy, IsRefusedIn}
+use Rattle.td_script.specs.OpeningInside.{IsReplacedIn, IsToldFrom, IsTrackerOf, IsUntold, Tells}
+use Rattle.td_script.specs.OpeningInside.{of_archive, of_journal, of_state, of_table, of_tracker}
+use Rattle.td_script.specs.Openings.{AreOpened, AreReports, AreRowsOf, IsArchiveOf}
+use Rattle.td_script.specs.Openings.{IsTrackerIfGiven, Texts}
 
 -- ---- 1. faults
 
-pub table_refused : (x : Texts) (archs : List ℕ) (e : ArchsFault) → archs ≡ x.archs → table_file.FaultOf (lines_of archs) e → IsRefusedBy x (of_table e)
-table_refused x archs (table.BadLine n) is h = subst (λ (t : List ℕ). table_file.FaultOf (lines_of t) (table.BadLine n)) is h
-table_refused x archs (table.Twice n) is h = subst (λ (t : List ℕ). table_file.FaultOf (lines_of t) (table.Twice n)) is h
-table_refused x archs table.TooMany is h = subst (λ (t : List ℕ). table_file.FaultOf (lines_of t) table.TooMany) is h
+pub table_refused : (x : Texts) (archs : List ℕ) (e : ArchsFault) → archs ≡ x.archs
+    → table_file.FaultOf (lines_of archs) e → IsRefusedBy x (of_table e)
+table_refused x archs (table.BadLine n) is h =
+    subst (λ (t : List ℕ). table_file.FaultOf (lines_of t) (table.BadLine n)) is h
+table_refused x archs (table.Twice n) is h =
+    subst (λ (t : List ℕ). table_file.FaultOf (lines_of t) (table.Twice n)) is h
+table_refused x archs table.TooMany is h =
+    subst (λ (t : List ℕ). table_file.FaultOf (lines_of t) table.TooMany) is h
 table_refused x archs table.NoMemory is h = tt
 
 -- that of two texts is that of the ones of the same bytes
-same_fault : (t : List ArchWords) (e : ArchiveFault) (p s packages sources : List ℕ) → p ≡ packages → s ≡ sources → archive_file.FaultOf t (lines_of p) (lines_of s) e → archive_file.FaultOf t (lines_of packages) (lines_of sources) e
-same_fault t e p s packages sources first second h = subst (λ (l : List ℕ). archive_file.FaultOf t (lines_of packages) (lines_of l) e) second (subst (λ (l : List ℕ). archive_file.FaultOf t (lines_of l) (lines_of s) e) first h)
+same_fault : (t : List ArchWords) (e : ArchiveFault) (p s packages sources : List ℕ) → p ≡ packages
+    → s ≡ sources → archive_file.FaultOf t (lines_of p) (lines_of s) e
+    → archive_file.FaultOf t (lines_of packages) (lines_of sources) e
+same_fault t e p s packages sources first second h =
+    subst (λ (l : List ℕ). archive_file.FaultOf t (lines_of packages) (lines_of l) e) second
+    (subst (λ (l : List ℕ). archive_file.FaultOf t (lines_of l) (lines_of s) e) first h)
 
-pub archive_refused : (x : Texts) (t : List ArchWords) (p s : List ℕ) (e : ArchiveFault) → IsTable (lines_of x.archs) t → p ≡ x.packages → s ≡ x.sources → archive_file.FaultOf t (lines_of p) (lines_of s) e → IsRefusedBy x (of_archive e)
-archive_refused x t p s (archive.Stanza f e) is first second h = (t, is, same_fault t (archive.Stanza f e) p s x.packages x.sources first second h)
-archive_refused x t p s (archive.MissingField f n field) is first second h = (t, is, same_fault t (archive.MissingField f n field) p s x.packages x.sources first second h)
-archive_refused x t p s (archive.BadVersion f n) is first second h = (t, is, same_fault t (archive.BadVersion f n) p s x.packages x.sources first second h)
-archive_refused x t p s (archive.BadRelation f n) is first second h = (t, is, same_fault t (archive.BadRelation f n) p s x.packages x.sources first second h)
-archive_refused x t p s archive.TooManyRows is first second h = (t, is, same_fault t archive.TooManyRows p s x.packages x.sources first second h)
+pub archive_refused : (x : Texts) (t : List ArchWords) (p s : List ℕ) (e : ArchiveFault)
+    → IsTable (lines_of x.archs) t → p ≡ x.packages → s ≡ x.sources
+    → archive_file.FaultOf t (lines_of p) (lines_of s) e → IsRefusedBy x (of_archive e)
+archive_refused x t p s (archive.Stanza f e) is first second h =
+    (t, is, same_fault t (archive.Stanza f e) p s x.packages x.sources first second h)
+archive_refused x t p s (archive.MissingField f n field) is first second h =
+    (t, is, same_fault t (archive.MissingField f n field) p s x.packages x.sources first second h)
+archive_refused x t p s (archive.BadVersion f n) is first second h =
+    (t, is, same_fault t (archive.BadVersion f n) p s x.packages x.sources first second h)
+archive_refused x t p s (archive.BadRelation f n) is first second h =
+    (t, is, same_fault t (archive.BadRelation f n) p s x.packages x.sources first second h)
+archive_refused x t p s archive.TooManyRows is first second h =
+    (t, is, same_fault t archive.TooManyRows p s x.packages x.sources first second h)
 archive_refused x t p s archive.NoMemory is first second h = tt
 
-pub state_refused : (opened : Table) (text : List ℕ) (e : StateFault) → state_file.FaultOf (lines_of text) e → IsRefusedIn opened text (of_state e)
+pub state_refused : (opened : Table) (text : List ℕ) (e : StateFault)
+    → state_file.FaultOf (lines_of text) e → IsRefusedIn opened text (of_state e)
 state_refused opened text (state.BadLine n) h = h
 state_refused opened text (state.Twice n) h = h
 state_refused opened text (state.NotOpening n) h = h
 state_refused opened text state.TooManyRows h = h
 state_refused opened text state.NoMemory h = tt
 
-pub journal_fault : (rows : Table) (text : List ℕ) (e : ReadError) → journal_file.FaultOf rows text e → IsJournalFault rows (Some text) e
+pub journal_fault : (rows : Table) (text : List ℕ) (e : ReadError)
+    → journal_file.FaultOf rows text e → IsJournalFault rows (Some text) e
 journal_fault rows text journal.BadHeader h = h
 journal_fault rows text (journal.BadLine n) h = h
 journal_fault rows text (journal.Unlawful n) h = h
 journal_fault rows text journal.NoMemory h = tt
 
-pub journal_untold : (rows : Table) (given : Option (List ℕ)) (e : ReadError) → IsJournalFault rows given e → IsUntold rows given (of_journal e)
+pub journal_untold : (rows : Table) (given : Option (List ℕ)) (e : ReadError)
+    → IsJournalFault rows given e → IsUntold rows given (of_journal e)
 journal_untold rows given journal.BadHeader h = h
 journal_untold rows given (journal.BadLine n) h = h
 journal_untold rows given (journal.Unlawful n) h = h
 journal_untold rows given journal.NoMemory h = tt
 
-pub tracker_refused : (x : Texts) (c : Contents) (rows : Table) (text : List ℕ) (e : TrackerFault) → x.tracker ≡ Some text → IsArchiveOf x c → AreRowsOf c x.state rows → tracker_file.FaultOf text e → IsRefusedBy x (of_tracker e)
-tracker_refused x c rows text (tracker.Syntax p) is archive rows_are h = (c, archive, (rows, rows_are, rw is h))
-tracker_refused x c rows text (tracker.BadPattern p) is archive rows_are h = (c, archive, (rows, rows_are, rw is h))
-tracker_refused x c rows text (tracker.MissingKey k) is archive rows_are h = (c, archive, (rows, rows_are, rw is h))
+pub tracker_refused : (x : Texts) (c : Contents) (rows : Table) (text : List ℕ) (e : TrackerFault)
+    → x.tracker ≡ Some text → IsArchiveOf x c → AreRowsOf c x.state rows
+    → tracker_file.FaultOf text e → IsRefusedBy x (of_tracker e)
+tracker_refused x c rows text (tracker.Syntax p) is archive rows_are h =
+    (c, archive, (rows, rows_are, rw is h))
+tracker_refused x c rows text (tracker.BadPattern p) is archive rows_are h =
+    (c, archive, (rows, rows_are, rw is h))
+tracker_refused x c rows text (tracker.MissingKey k) is archive rows_are h =
+    (c, archive, (rows, rows_are, rw is h))
 tracker_refused x c rows text tracker.NoMemory is archive rows_are h = tt
 
 -- ---- 2. rows
 
 -- rows that no builder has, over others that none has
-pub none_built_over : (given opened : Table) → NoneBuilt given → NoneBuilt opened → NoneBuilt (overlaid given opened)
-none_built_over given opened g o k row h = here (row_of opened k) refl (sym (row_of-each_row (λ q r. unwrap_or (row_of given q) r) opened k) ∙ h)
+pub none_built_over : (given opened : Table) → NoneBuilt given → NoneBuilt opened
+    → NoneBuilt (overlaid given opened)
+none_built_over given opened g o k row h =
+    here (row_of opened k) refl
+    (sym (row_of-each_row (λ q r. unwrap_or (row_of given q) r) opened k) ∙ h)
   where
-    chosen : (own new : Row) (r : Option Row) → row_of given k ≡ r → row_of opened k ≡ Some own → unwrap_or r own ≡ new → is_building new.state ≡ false
+    chosen : (own new : Row) (r : Option Row) → row_of given k ≡ r → row_of opened k ≡ Some own
+        → unwrap_or r own ≡ new → is_building new.state ≡ false
     chosen own new None is at e = subst (λ (x : Row). is_building x.state ≡ false) e (o k own at)
     chosen own new (Some r) is at e = subst (λ (x : Row). is_building x.state ≡ false) e (g k r is)
 
-    here : (r : Option Row) → row_of opened k ≡ r → option_map (λ x. unwrap_or (row_of given k) x) r ≡ Some row → is_building row.state ≡ false
+    here : (r : Option Row) → row_of opened k ≡ r
+        → option_map (λ x. unwrap_or (row_of given k) x) r ≡ Some row
+        → is_building row.state ≡ false
     here None at e = absurd cc
-    here (Some own) at e = let same : unwrap_or (row_of given k) own ≡ row = cc in chosen own row (row_of given k) refl at same
+    here (Some own) at e =
+        let same : unwrap_or (row_of given k) own ≡ row = cc in
+        chosen own row (row_of given k) refl at same
 
-pub missing_key : {A : Type 0} (rows given : Table) (r : Result A OverlayError) (e : OverlayError) → r ≡ Err e → ((k : Key) → (r ≡ Err (NoSuchRow k)) ↔ (first_missing rows given ≡ Some k)) → (k : Key) × (first_missing rows given ≡ Some k)
+pub missing_key : {A : Type 0} (rows given : Table) (r : Result A OverlayError) (e : OverlayError)
+    → r ≡ Err e → ((k : Key) → (r ≡ Err (NoSuchRow k)) ↔ (first_missing rows given ≡ Some k))
+    → (k : Key) × (first_missing rows given ≡ Some k)
 missing_key rows given r (NoSuchRow k) is both = (k, (both k).0 is)
 
 -- over an archive
-pub replaced_rows : (c : Contents) (opened : Table) (text : List ℕ) (r : Result Table RunFault) → AreOpened c opened → IfOk r (IsReplacedIn opened text) → IfOk r (AreRowsOf c (Some text))
-replaced_rows c opened text (Ok rows) are is = record { opened = opened; are_opened = are; given = is.given; are_given = is.are_given; none_missing = is.none_missing; replaced = is.replaced }
+pub replaced_rows : (c : Contents) (opened : Table) (text : List ℕ) (r : Result Table RunFault)
+    → AreOpened c opened → IfOk r (IsReplacedIn opened text) → IfOk r (AreRowsOf c (Some text))
+replaced_rows c opened text (Ok rows) are is =
+    record {
+      opened = opened;
+      are_opened = are;
+      given = is.given;
+      are_given = is.are_given;
+      none_missing = is.none_missing;
+      replaced = is.replaced;
+    }
 replaced_rows c opened text (Err e) are is = tt
 
-refused_row : (x : Texts) (c : Contents) (opened : Table) (text : List ℕ) (e : RunFault) → IsArchiveOf x c → AreOpened c opened → x.state ≡ Some text → IsRefusedIn opened text e → IsRefusedBy x e
+refused_row : (x : Texts) (c : Contents) (opened : Table) (text : List ℕ) (e : RunFault)
+    → IsArchiveOf x c → AreOpened c opened → x.state ≡ Some text → IsRefusedIn opened text e
+    → IsRefusedBy x e
 refused_row x c opened text (Input (fault.Table e)) archive are is h = absurd h
 refused_row x c opened text (Input (fault.Archive e)) archive are is h = absurd h
 refused_row x c opened text (Input (fault.State e)) archive are is h = (c, archive, rw is h)
-refused_row x c opened text (Input fault.NoSuchRow) archive are is h = (c, archive, rw is (opened, are, h))
+refused_row x c opened text (Input fault.NoSuchRow) archive are is h =
+    (c, archive, rw is (opened, are, h))
 refused_row x c opened text (Input (fault.Tracker e)) archive are is h = absurd h
 refused_row x c opened text (Input (fault.Journal e)) archive are is h = absurd h
 refused_row x c opened text Read archive are is h = absurd h
@@ -132,18 +183,26 @@ refused_row x c opened text NotText archive are is h = absurd h
 refused_row x c opened text Write archive are is h = absurd h
 refused_row x c opened text NoMemory archive are is h = tt
 
-pub refused_rows : (x : Texts) (c : Contents) (opened : Table) (text : List ℕ) (r : Result Table RunFault) → IsArchiveOf x c → AreOpened c opened → x.state ≡ Some text → IfErr r (IsRefusedIn opened text) → IfErr r (IsRefusedBy x)
+pub refused_rows : (x : Texts) (c : Contents) (opened : Table) (text : List ℕ)
+    (r : Result Table RunFault) → IsArchiveOf x c → AreOpened c opened → x.state ≡ Some text
+    → IfErr r (IsRefusedIn opened text) → IfErr r (IsRefusedBy x)
 refused_rows x c opened text (Ok rows) archive are is h = tt
-refused_rows x c opened text (Err e) archive are is h = refused_row x c opened text e archive are is h
+refused_rows x c opened text (Err e) archive are is h =
+    refused_row x c opened text e archive are is h
 
 -- ---- 3. the table and the archive
 
-pub archive_of : (x : Texts) (t : List ArchWords) (p s : List ℕ) (c : Contents) → IsTable (lines_of x.archs) t → p ≡ x.packages → s ≡ x.sources → IsArchive t (lines_of p) (lines_of s) c → IsArchiveOf x c
+pub archive_of : (x : Texts) (t : List ArchWords) (p s : List ℕ) (c : Contents)
+    → IsTable (lines_of x.archs) t → p ≡ x.packages → s ≡ x.sources
+    → IsArchive t (lines_of p) (lines_of s) c → IsArchiveOf x c
 archive_of x t p s c is_table first second is =
-    let here : IsArchive t (lines_of x.packages) (lines_of x.sources) c = subst (λ (l : List ℕ). IsArchive t (lines_of x.packages) (lines_of l) c) second (subst (λ (l : List ℕ). IsArchive t (lines_of l) (lines_of s) c) first is) in
+    let here : IsArchive t (lines_of x.packages) (lines_of x.sources) c =
+    subst (λ (l : List ℕ). IsArchive t (lines_of x.packages) (lines_of l) c) second
+    (subst (λ (l : List ℕ). IsArchive t (lines_of l) (lines_of s) c) first is) in
     record {
       is_table = subst (IsTable (lines_of x.archs)) (sym here.same_table) is_table;
-      is_archive = subst (λ (l : List ArchWords). IsArchive l (lines_of x.packages) (lines_of x.sources) c) (sym here.same_table) here;
+      is_archive = subst (λ (l : List ArchWords).
+          IsArchive l (lines_of x.packages) (lines_of x.sources) c) (sym here.same_table) here;
     }
 
 -- ---- 4. what is told
@@ -153,14 +212,26 @@ offers-fresh [] = refl
 offers-fresh (x ∷ xs) = ap (λ (l : List Supplied). x ∷ l) (offers-fresh xs)
 
 pub stock-opened : (s : SupplyView) (k : Stock) → s ≡ opened_stock k → stock_of s ≡ k
-stock-opened s k is = ap stock_of is ∙ ap (λ (l : List Supplied). record { table = k.table; sources = k.sources; offers = l }) (offers-fresh k.offers)
+stock-opened s k is =
+    ap stock_of is ∙ ap (λ (l : List Supplied).
+    record { table = k.table; sources = k.sources; offers = l }) (offers-fresh k.offers)
 
 -- before the first arrival
 pub fresh_supply : (s : SupplyView) (k : Stock) → s ≡ opened_stock k → s ≡ opened_stock (stock_of s)
 fresh_supply s k is = is ∙ ap opened_stock (sym (stock-opened s k is))
 
 -- a book that opens with no entry, and one that opens again
-pub begun_fresh : (rows : Table) (table : TableId) (stock : Stock) (builders since : ℕ) (b : BookModel) → b ≡ record { history = opened rows; fixed = record { table = table; stock = stock; builders = builders; since = since; watch = no_watch } } → IsBegunBy None rows table stock builders b
+pub begun_fresh : (rows : Table) (table : TableId) (stock : Stock) (builders since : ℕ)
+    (b : BookModel) → b ≡ record {
+      history = opened rows;
+      fixed = record {
+        table = table;
+        stock = stock;
+        builders = builders;
+        since = since;
+        watch = no_watch;
+      };
+    } → IsBegunBy None rows table stock builders b
 begun_fresh rows table stock builders since b is = record {
   begun = ap (λ (x : BookModel). x.history) is;
   table_is = ap (λ (x : BookModel). x.fixed.table) is;
@@ -168,7 +239,9 @@ begun_fresh rows table stock builders since b is = record {
   builders_are = ap (λ (x : BookModel). x.fixed.builders) is;
 }
 
-pub begun_again : (rows : Table) (text : List ℕ) (table : TableId) (stock : Stock) (builders : ℕ) (b : BookModel) → IsReopened rows text table stock builders b → IsBegunBy (Some text) rows table stock builders b
+pub begun_again : (rows : Table) (text : List ℕ) (table : TableId) (stock : Stock) (builders : ℕ)
+    (b : BookModel) → IsReopened rows text table stock builders b
+    → IsBegunBy (Some text) rows table stock builders b
 begun_again rows text table stock builders b is = record {
   begun = (is.journal, is.reads, ap (λ (x : BookModel). x.history) is.is);
   table_is = ap (λ (x : BookModel). x.fixed.table) is.is;
@@ -177,23 +250,32 @@ begun_again rows text table stock builders b is = record {
 }
 
 -- what is told from a book that begins so
-pub told_from : (b new : BookModel) (stock : Stock) (suites : List (List ℕ)) (suite : List ℕ) (report : Option (Table → List ℕ)) (text : List ℕ) (told : ToldText) → IsTold (record { stock = b.fixed.stock; suites = suites; report = report }) text b new told → b.fixed.stock ≡ stock → suites ≡ suite ∷ []
-    → IsAnswered (record { stock = stock; suites = suite ∷ []; report = report }) b.history text (string_bytes told.text) told.refused
+pub told_from : (b new : BookModel) (stock : Stock) (suites : List (List ℕ)) (suite : List ℕ)
+    (report : Option (Table → List ℕ)) (text : List ℕ) (told : ToldText)
+    → IsTold (record { stock = b.fixed.stock; suites = suites; report = report }) text b new told
+    → b.fixed.stock ≡ stock → suites ≡ suite ∷ []
+    → IsAnswered (record { stock = stock; suites = suite ∷ []; report = report }) b.history text
+    (string_bytes told.text) told.refused
 told_from b new stock suites suite report text told h offers its =
-    let e : told_of told new.history ≡ script (record { stock = stock; suites = suite ∷ []; report = report }) b.history text =
+    let e : told_of told new.history
+    ≡ script (record { stock = stock; suites = suite ∷ []; report = report }) b.history text =
     h.is
-    ∙ ap (λ (x : Stock). script (record { stock = x; suites = suites; report = report }) b.history text) offers
-    ∙ ap (λ (x : List (List ℕ)). script (record { stock = stock; suites = x; report = report }) b.history text) its in
+    ∙ ap (λ (x : Stock).
+    script (record { stock = x; suites = suites; report = report }) b.history text) offers
+    ∙ ap (λ (x : List (List ℕ)).
+    script (record { stock = stock; suites = x; report = report }) b.history text) its in
     record { text_is = ap (λ (t : Told). t.text) e; refused_is = ap (λ (t : Told). t.refused) e }
 
 -- nothing is told over what the texts say
-untold : (x : Texts) (c : Contents) (rows : Table) (e : RunFault) → IsUntold rows x.journal e → IsArchiveOf x c → AreRowsOf c x.state rows → IsTrackerIfGiven x.tracker → IsRefusedBy x e
+untold : (x : Texts) (c : Contents) (rows : Table) (e : RunFault) → IsUntold rows x.journal e
+    → IsArchiveOf x c → AreRowsOf c x.state rows → IsTrackerIfGiven x.tracker → IsRefusedBy x e
 untold x c rows (Input (fault.Table e)) h archive are tracker = absurd h
 untold x c rows (Input (fault.Archive e)) h archive are tracker = absurd h
 untold x c rows (Input (fault.State e)) h archive are tracker = absurd h
 untold x c rows (Input fault.NoSuchRow) h archive are tracker = absurd h
 untold x c rows (Input (fault.Tracker e)) h archive are tracker = absurd h
-untold x c rows (Input (fault.Journal e)) h archive are tracker = (c, archive, (rows, are, tracker, h))
+untold x c rows (Input (fault.Journal e)) h archive are tracker =
+    (c, archive, (rows, are, tracker, h))
 untold x c rows Read h archive are tracker = absurd h
 untold x c rows TooLong h archive are tracker = absurd h
 untold x c rows NotText h archive are tracker = absurd h
@@ -201,12 +283,32 @@ untold x c rows Write h archive are tracker = absurd h
 untold x c rows NoMemory h archive are tracker = tt
 
 -- over what the texts say
-pub tells_from : (May : Setting → History → List ℕ → List ℕ → ℕ → Type 0) (x : Texts) (c : Contents) (report : Option (Table → List ℕ)) (rows : Table) (text : List ℕ) (r : Result ToldText RunFault)
-    → IfOk r (IsToldFrom May (record { stock = supply_of c; suites = x.suite ∷ []; report = report }) x.journal rows text) → IfErr r (IsUntold rows x.journal)
-    → IsArchiveOf x c → AreRowsOf c x.state rows → AreReports c x.tracker report → IsTrackerIfGiven x.tracker → MatchResult r (Tells May x text) (IsRefusedBy x)
-tells_from May x c report rows text (Ok told) is refused archive are reports tracker =
-    (record { stock = supply_of c; suites = x.suite ∷ []; report = report }, is.0, (c, archive, record { rows = rows; rows_are = are; begun = is.1; stock = refl; suites = refl; reports = reports }), is.2)
-tells_from May x c report rows text (Err e) is refused archive are reports tracker = untold x c rows e refused archive are tracker
+pub tells_from : (May : Setting → History → List ℕ → List ℕ → ℕ → Type 0) (x : Texts) (c : Contents)
+    (report : Option (Table → List ℕ)) (rows : Table) (text : List ℕ) (r : Result ToldText RunFault)
+    → IfOk r (IsToldFrom May
+    (record { stock = supply_of c; suites = x.suite ∷ []; report = report }) x.journal rows text)
+    → IfErr r (IsUntold rows x.journal)
+    → IsArchiveOf x c → AreRowsOf c x.state rows → AreReports c x.tracker report
+    → IsTrackerIfGiven x.tracker → MatchResult r (Tells May x text) (IsRefusedBy x)
+tells_from May x c report rows text (Ok told) is refused archive are reports tracker = (
+  record { stock = supply_of c; suites = x.suite ∷ []; report = report },
+  is.0,
+  (
+    c,
+    archive,
+    record {
+      rows = rows;
+      rows_are = are;
+      begun = is.1;
+      stock = refl;
+      suites = refl;
+      reports = reports;
+    },
+  ),
+  is.2,
+)
+tells_from May x c report rows text (Err e) is refused archive are reports tracker =
+    untold x c rows e refused archive are tracker
 
 pub tracker_given : (x : Texts) (t : Tracking) → IsTrackerOf x t → IsTrackerIfGiven x.tracker
 tracker_given x t is = subst IsTrackerIfGiven (sym is.1) (t, is.2)
@@ -215,15 +317,20 @@ pub none_given : (x : Texts) → x.tracker ≡ None → IsTrackerIfGiven x.track
 none_given x is = subst IsTrackerIfGiven (sym is) tt
 
 -- the reports of a tracker
-pub tracker_reports : (x : Texts) (c a : Contents) (t u : Tracking) (level : List ℕ → Option Level) (depth : ℕ) (report : Table → List ℕ) → a ≡ c → u ≡ t → IsTrackerOf x t → AreLevels a u level depth → ((rows : Table) → report rows ≡ report_with a u level depth rows) → AreReports c x.tracker (Some report)
+pub tracker_reports : (x : Texts) (c a : Contents) (t u : Tracking) (level : List ℕ → Option Level)
+    (depth : ℕ) (report : Table → List ℕ) → a ≡ c → u ≡ t → IsTrackerOf x t
+    → AreLevels a u level depth → ((rows : Table) → report rows ≡ report_with a u level depth rows)
+    → AreReports c x.tracker (Some report)
 tracker_reports x c a t u level depth report same its is levels text =
     subst (λ (o : Option (List ℕ)). AreReports c o (Some report)) (sym is.1) (record {
       tracking = t;
       is_tracker = is.2;
       level = level;
       depth = depth;
-      levels = subst (λ (y : Tracking). AreLevels c y level depth) its (subst (λ (y : Contents). AreLevels y u level depth) same levels);
-      same = λ rows. text rows ∙ ap (λ (y : Contents). report_with y u level depth rows) same ∙ ap (λ (y : Tracking). report_with c y level depth rows) its;
+      levels = subst (λ (y : Tracking). AreLevels c y level depth) its
+          (subst (λ (y : Contents). AreLevels y u level depth) same levels);
+      same = λ rows. text rows ∙ ap (λ (y : Contents). report_with y u level depth rows) same
+          ∙ ap (λ (y : Tracking). report_with c y level depth rows) its;
     })
 
 pub no_reports : (x : Texts) (c : Contents) → x.tracker ≡ None → AreReports c x.tracker None

@@ -1,5 +1,6 @@
 -- What is told of the lines so far.
-use Rattle.std.proofs.Common.{◌≡◌, ℕ, ◌+◌, ◌≤◌, ◌<◌, ◌^◌, ◌-◌, List, [], ◌∷◌, length, Option, Some, None, fold, Bor, refl, sym, ap, subst, ◌∙◌, arith}
+use Rattle.std.proofs.Common.{◌≡◌, ℕ, ◌+◌, ◌≤◌, ◌<◌, ◌^◌, ◌-◌, List, [], ◌∷◌, length, Option, Some}
+use Rattle.std.proofs.Common.{None, fold, Bor, refl, sym, ap, subst, ◌∙◌, arith}
 use Rattle.std.specs.String.{string_bytes}
 use Rattle.td_rows.specs.Table.{Table}
 use Rattle.td_text.specs.Lines.{lines_of, lines_left, left_len}
@@ -18,58 +19,101 @@ abbrev pub setting_of : Stock → List (List ℕ) → Option (Table → List ℕ
 setting_of stock suites report = record { stock = stock; suites = suites; report = report }
 
 -- what is told so far, with the answers to what is left, is the whole
-pub record IsSoFar (suites : List (List ℕ)) (report : Option (Table → List ℕ)) (all : List ℕ) (first now : BookModel) (told : ToldText) (rest : Option (Bor (List ℕ))) : Type 0 where
-  pub is : fold (with_line (setting_of first.fixed.stock suites report)) (told_of told now.history) (lines_left rest) ≡ script (setting_of first.fixed.stock suites report) first.history all
+pub record IsSoFar (suites : List (List ℕ)) (report : Option (Table → List ℕ)) (all : List ℕ)
+    (first now : BookModel) (told : ToldText) (rest : Option (Bor (List ℕ))) : Type 0 where
+  pub is : fold (with_line (setting_of first.fixed.stock suites report)) (told_of told now.history)
+      (lines_left rest) ≡ script (setting_of first.fixed.stock suites report) first.history all
   pub fixed : now.fixed ≡ first.fixed
   pub opening : now.history.opening ≡ first.history.opening
   pub counted : told.refused + left_len rest ≤ length all + 1
 
-pub IsSoFar-begun : (suites : List (List ℕ)) (report : Option (Table → List ℕ)) (all : Bor (List ℕ)) (first : BookModel) (told : ToldText) → string_bytes told.text ≡ [] → told.refused ≡ 0 → IsSoFar suites report all.now first first told (Some all)
+pub IsSoFar-begun : (suites : List (List ℕ)) (report : Option (Table → List ℕ)) (all : Bor (List ℕ))
+    (first : BookModel) (told : ToldText) → string_bytes told.text ≡ [] → told.refused ≡ 0
+    → IsSoFar suites report all.now first first told (Some all)
 IsSoFar-begun suites report all first told none zero_ = record {
-  is = ap (λ (t : List ℕ). fold (with_line (setting_of first.fixed.stock suites report)) (record { text = t; after = first.history; refused = told.refused }) (lines_of all.now)) none
-      ∙ ap (λ (n : ℕ). fold (with_line (setting_of first.fixed.stock suites report)) (record { text = []; after = first.history; refused = n }) (lines_of all.now)) zero_;
+  is =
+      ap (λ (t : List ℕ). fold (with_line (setting_of first.fixed.stock suites report))
+      (record { text = t; after = first.history; refused = told.refused }) (lines_of all.now)) none
+      ∙ ap (λ (n : ℕ). fold (with_line (setting_of first.fixed.stock suites report))
+      (record { text = []; after = first.history; refused = n }) (lines_of all.now)) zero_;
   fixed = refl;
   opening = refl;
   counted = omega (arith, zero_);
 }
 
-pub IsSoFar-next : (suites : List (List ℕ)) (report : Option (Table → List ℕ)) (all line : List ℕ) (first now next : BookModel) (before after : ToldText) (rest : Bor (List ℕ)) (more : Option (Bor (List ℕ))) → IsSoFar suites report all first now before (Some rest) → lines_of rest.now ≡ line ∷ lines_left more → left_len more ≤ length rest.now → IsAdded (setting_of now.fixed.stock suites report) line now next before after → IsSoFar suites report all first next after more
+pub IsSoFar-next : (suites : List (List ℕ)) (report : Option (Table → List ℕ)) (all line : List ℕ)
+    (first now next : BookModel) (before after : ToldText) (rest : Bor (List ℕ))
+    (more : Option (Bor (List ℕ))) → IsSoFar suites report all first now before (Some rest)
+    → lines_of rest.now ≡ line ∷ lines_left more → left_len more ≤ length rest.now
+    → IsAdded (setting_of now.fixed.stock suites report) line now next before after
+    → IsSoFar suites report all first next after more
 IsSoFar-next suites report all line first now next before after rest more h lines shorter added =
     let s = setting_of first.fixed.stock suites report in
-    let one : told_of after next.history ≡ with_line s (told_of before now.history) line = added.is ∙ ap (λ (f : Fixed). with_line (setting_of f.stock suites report) (told_of before now.history) line) h.fixed in
+    let one : told_of after next.history ≡ with_line s (told_of before now.history) line =
+    added.is ∙ ap (λ (f : Fixed).
+    with_line (setting_of f.stock suites report) (told_of before now.history) line) h.fixed in
     record {
-      is = ap (λ (t : Told). fold (with_line s) t (lines_left more)) one ∙ ap (fold (with_line s) (told_of before now.history)) (sym lines) ∙ h.is;
+      is = ap (λ (t : Told). fold (with_line s) t (lines_left more)) one
+          ∙ ap (fold (with_line s) (told_of before now.history)) (sym lines) ∙ h.is;
       fixed = added.fixed ∙ h.fixed;
-      opening = ap (λ (t : Told). t.after.opening) added.is ∙ opening-stays (setting_of now.fixed.stock suites report) now.history line ∙ h.opening;
+      opening = ap (λ (t : Told). t.after.opening) added.is
+          ∙ opening-stays (setting_of now.fixed.stock suites report) now.history line ∙ h.opening;
       counted = omega (arith, h.counted, shorter, added.counted);
     }
 
-pub IsSoFar-done : (suites : List (List ℕ)) (report : Option (Table → List ℕ)) (all : List ℕ) (first now : BookModel) (told : ToldText) (rest : Option (Bor (List ℕ))) → IsSoFar suites report all first now told rest → rest ≡ None → IsTold (setting_of first.fixed.stock suites report) all first now told
+pub IsSoFar-done : (suites : List (List ℕ)) (report : Option (Table → List ℕ)) (all : List ℕ)
+    (first now : BookModel) (told : ToldText) (rest : Option (Bor (List ℕ)))
+    → IsSoFar suites report all first now told rest → rest ≡ None
+    → IsTold (setting_of first.fixed.stock suites report) all first now told
 IsSoFar-done suites report all first now told rest h none = record {
-  is = sym (ap (λ (r : Option (Bor (List ℕ))). fold (with_line (setting_of first.fixed.stock suites report)) (told_of told now.history) (lines_left r)) none) ∙ h.is;
+  is = sym (ap (λ (r : Option (Bor (List ℕ))).
+      fold (with_line (setting_of first.fixed.stock suites report)) (told_of told now.history)
+      (lines_left r)) none) ∙ h.is;
   fixed = h.fixed;
 }
 
-pub room : (suites : List (List ℕ)) (report : Option (Table → List ℕ)) (all : List ℕ) (first now : BookModel) (told : ToldText) (rest : Bor (List ℕ)) → IsSoFar suites report all first now told (Some rest) → length all < 2 ^ 63 - 1 → told.refused < 2 ^ 63
+pub room : (suites : List (List ℕ)) (report : Option (Table → List ℕ)) (all : List ℕ)
+    (first now : BookModel) (told : ToldText) (rest : Bor (List ℕ))
+    → IsSoFar suites report all first now told (Some rest) → length all < 2 ^ 63 - 1
+    → told.refused < 2 ^ 63
 room suites report all first now told rest h small = omega (arith, h.counted, small)
 
 -- ---- what is told by a book that watches rows
 
-told-answered : (s : Setting) (b new : BookModel) (text : List ℕ) (told : ToldText) → IsTold s text b new told → IsAnswered s b.history text (string_bytes told.text) told.refused
-told-answered s b new text told h = record { text_is = ap (λ (t : Told). t.text) h.is; refused_is = ap (λ (t : Told). t.refused) h.is }
+told-answered : (s : Setting) (b new : BookModel) (text : List ℕ) (told : ToldText)
+    → IsTold s text b new told → IsAnswered s b.history text (string_bytes told.text) told.refused
+told-answered s b new text told h =
+    record {
+      text_is = ap (λ (t : Told). t.text) h.is;
+      refused_is = ap (λ (t : Told). t.refused) h.is;
+    }
 
 -- of the book before the watch
-pub told-watched : (suites : List (List ℕ)) (report : Option (Table → List ℕ)) (old b new : BookModel) (watch : WatchView) (text : List ℕ) (told : ToldText) → b ≡ with_watch old watch → IsTold (setting_of b.fixed.stock suites report) text b new told → IsAnswered (setting_of old.fixed.stock suites report) old.history text (string_bytes told.text) told.refused
+pub told-watched : (suites : List (List ℕ)) (report : Option (Table → List ℕ))
+    (old b new : BookModel) (watch : WatchView) (text : List ℕ) (told : ToldText)
+    → b ≡ with_watch old watch → IsTold (setting_of b.fixed.stock suites report) text b new told
+    → IsAnswered (setting_of old.fixed.stock suites report) old.history text
+    (string_bytes told.text) told.refused
 told-watched suites report old b new watch text told is h =
-    subst (λ (x : BookModel). IsAnswered (setting_of x.fixed.stock suites report) x.history text (string_bytes told.text) told.refused) is
+    subst (λ (x : BookModel).
+    IsAnswered (setting_of x.fixed.stock suites report) x.history text (string_bytes told.text)
+    told.refused) is
     (told-answered (setting_of b.fixed.stock suites report) b new text told h)
 
 -- of one that watches none
-pub told-unwatched : (suites : List (List ℕ)) (report : Option (Table → List ℕ)) (b new : BookModel) (text : List ℕ) (told : ToldText) → IsTold (setting_of b.fixed.stock suites report) text b new told → IsAnswered (setting_of b.fixed.stock suites report) b.history text (string_bytes told.text) told.refused
-told-unwatched suites report b new text told h = told-answered (setting_of b.fixed.stock suites report) b new text told h
+pub told-unwatched : (suites : List (List ℕ)) (report : Option (Table → List ℕ)) (b new : BookModel)
+    (text : List ℕ) (told : ToldText)
+    → IsTold (setting_of b.fixed.stock suites report) text b new told
+    → IsAnswered (setting_of b.fixed.stock suites report) b.history text (string_bytes told.text)
+    told.refused
+told-unwatched suites report b new text told h =
+    told-answered (setting_of b.fixed.stock suites report) b new text told h
 
 -- from a book with this stock, for one suite
-pub answered-from : (h : History) (from stock : Stock) (suites : List (List ℕ)) (suite : List ℕ) (report : Option (Table → List ℕ)) (lines text : List ℕ) (refused : ℕ) → IsAnswered (setting_of from suites report) h lines text refused → from ≡ stock → suites ≡ suite ∷ [] → IsAnswered (setting_of stock (suite ∷ []) report) h lines text refused
+pub answered-from : (h : History) (from stock : Stock) (suites : List (List ℕ)) (suite : List ℕ)
+    (report : Option (Table → List ℕ)) (lines text : List ℕ) (refused : ℕ)
+    → IsAnswered (setting_of from suites report) h lines text refused → from ≡ stock
+    → suites ≡ suite ∷ [] → IsAnswered (setting_of stock (suite ∷ []) report) h lines text refused
 answered-from h from stock suites suite report lines text refused is offers its =
     subst (λ (l : List (List ℕ)). IsAnswered (setting_of stock l report) h lines text refused) its
     (subst (λ (x : Stock). IsAnswered (setting_of x suites report) h lines text refused) offers is)

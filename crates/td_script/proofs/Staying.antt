@@ -1,5 +1,6 @@
 -- The rows with which a history opens stay over each answer.
-use Rattle.std.proofs.Common.{◌≡◌, ℕ, true, false, List, [], ◌∷◌, Option, Some, None, Result, Ok, Err, if◌then◌else◌, refl}
+use Rattle.std.proofs.Common.{◌≡◌, ℕ, true, false, List, [], ◌∷◌, Option, Some, None, Result, Ok}
+use Rattle.std.proofs.Common.{Err, if◌then◌else◌, refl}
 use Rattle.std.specs.Prelude.{codes}
 use Rattle.std.specs.List.{flat_map}
 use Rattle.td_rows.specs.declared.key.Key.{Key}
@@ -24,7 +25,9 @@ use Rattle.td_script.specs.declared.request.Request.TheVariants as asked
 use Rattle.td_script.specs.declared.line.Said.{Said}
 use Rattle.td_script.specs.declared.line.Said.TheVariants.{Skipped, Asked, Bad, Typed}
 use Rattle.td_script.specs.Reading.{said_at}
-use Rattle.td_script.specs.Replies.{Reply, Setting, answer, arrives, asks, ended, enters, enters_on, refuses, replies, reports, says, shows_entry, shows_row, skip_line, skipped, state_refused, sweeps, taken, types, undoes}
+use Rattle.td_script.specs.Replies.{Reply, Setting, answer, arrives, asks, ended, enters, enters_on}
+use Rattle.td_script.specs.Replies.{refuses, replies, reports, says, shows_entry, shows_row}
+use Rattle.td_script.specs.Replies.{skip_line, skipped, state_refused, sweeps, taken, types, undoes}
 
 -- its history opens with the rows with which this one does
 abbrev Opens : History → Reply → Type 0
@@ -36,7 +39,10 @@ undo-opens h n (Some r) = refl
 
 arrival-opens : (h : History) (k : Key) (o : Option Row) → Opens h (arrives h k o)
 arrival-opens h k None = refl
-arrival-opens h k (Some row) = elim (applies kinds.Arrive row) as (λ b. Opens h (if b then enters h (record { kind = kinds.Arrive; keys = k ∷ [] }) [] else refuses h (state_refused row) [])) [ true ↦ refl | false ↦ refl ]
+arrival-opens h k (Some row) =
+    elim (applies kinds.Arrive row) as (λ b.
+    Opens h (if b then enters h (record { kind = kinds.Arrive; keys = k ∷ [] }) []
+    else refuses h (state_refused row) [])) [ true ↦ refl | false ↦ refl ]
 
 sweep-opens : (h : History) (keys : List Key) → Opens h (sweeps h keys)
 sweep-opens h [] = refl
@@ -49,7 +55,11 @@ row-opens h k (Some row) = refl
 entry-opens : (h : History) (n : ℕ) → Opens h (shows_entry h n)
 entry-opens h n = by (entry_at h.journal n)
   where
-    by : (o : Option Marked) → Opens h (elim o [ Some m ↦ says h (ended (entry_line n m)) | None ↦ refuses h (codes "NoSuchEntry") [] ])
+    by : (o : Option Marked)
+        → Opens h (elim o [
+          | Some m ↦ says h (ended (entry_line n m))
+          | None ↦ refuses h (codes "NoSuchEntry") []
+        ])
     by None = refl
     by (Some m) = refl
 
@@ -57,12 +67,15 @@ report-opens : (h : History) (o : Option (Table → List ℕ)) → Opens h (repo
 report-opens h None = refl
 report-opens h (Some report) = refl
 
-entered-opens : (h : History) (kind : Kind) (keys : List Key) (behind : List ℕ) → Opens h (enters_on h kind keys behind)
+entered-opens : (h : History) (kind : Kind) (keys : List Key) (behind : List ℕ)
+    → Opens h (enters_on h kind keys behind)
 entered-opens h kind [] behind = refl
 entered-opens h kind (k ∷ keys) behind = refl
 
-typed-opens : (s : Stock) (h : History) (r : Result CommandParts CommandFault) → Opens h (types s h r)
-typed-opens s h (Ok c) = entered-opens h (kind_of c) (taken s h c) (flat_map skip_line (skipped s h c))
+typed-opens : (s : Stock) (h : History) (r : Result CommandParts CommandFault)
+    → Opens h (types s h r)
+typed-opens s h (Ok c) =
+    entered-opens h (kind_of c) (taken s h c) (flat_map skip_line (skipped s h c))
 typed-opens s h (Err fault) = refl
 
 asked-opens : (s : Setting) (h : History) (r : Request) → Opens h (asks s h r)
@@ -74,11 +87,13 @@ asked-opens s h (asked.Entry n) = entry-opens h n
 asked-opens s h asked.Report = report-opens h s.report
 asked-opens s h asked.Journal = refl
 
-said-opens : (s : Setting) (h : History) (line : List ℕ) (said : Said) → Opens h (replies s h line said)
+said-opens : (s : Setting) (h : History) (line : List ℕ) (said : Said)
+    → Opens h (replies s h line said)
 said-opens s h line Skipped = refl
 said-opens s h line (Asked r) = asked-opens s h r
 said-opens s h line Bad = refl
 said-opens s h line Typed = typed-opens s.stock h (command_at s.stock.table s.suites line)
 
-pub opening-stays : (s : Setting) (h : History) (line : List ℕ) → (answer s h line).after.opening ≡ h.opening
+pub opening-stays : (s : Setting) (h : History) (line : List ℕ)
+    → (answer s h line).after.opening ≡ h.opening
 opening-stays s h line = said-opens s h line (said_at line)

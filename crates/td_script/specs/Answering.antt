@@ -4,7 +4,8 @@ use Rattle.td_book.specs.Desk.{BookModel}
 use Rattle.td_script.specs.Replies.{Reply}
 
 -- the reply's text is appended, and its history is the book's; nothing else changes
-pub record Answers (r : Reply) (old new : BookModel) (before now : List ℕ) (refused : Bool) : Type 0 where
+pub record Answers (r : Reply) (old new : BookModel) (before now : List ℕ)
+    (refused : Bool) : Type 0 where
   pub text : now ≡ before ++ r.text
   pub history : new.history ≡ r.after
   pub refusal : refused ≡ r.refused

@@ -1,5 +1,6 @@
 -- What those are asked who answer a script, and what they may tell of it. This project's own.
-use Rattle.std.specs.Prelude.{◌≡◌, ◌<◌, ◌^◌, ◌-◌, ℕ, List, [], ◌∷◌, Option, Result, IfErr, IfOk, IfSome, length, option_map}
+use Rattle.std.specs.Prelude.{◌≡◌, ◌<◌, ◌^◌, ◌-◌, ℕ, List, [], ◌∷◌, Option, Result, IfErr, IfOk}
+use Rattle.std.specs.Prelude.{IfSome, length, option_map}
 use Rattle.td_core.specs.History.{History}
 use Rattle.td_core.specs.Phases.{NoneBuilt}
 use Rattle.td_indices.specs.Supplying.{supply_of}
@@ -19,24 +20,36 @@ journal_asked asked = option_map (λ s. s.now) asked.journal
 
 -- by what lines are answered
 abbrev pub setting_asked : Asked → Setting
-setting_asked asked = record { stock = supply_of asked.archive.now; suites = asked.suite.now ∷ []; report = option_map (λ r. report_by r.now) asked.reports }
+setting_asked asked =
+    record {
+      stock = supply_of asked.archive.now;
+      suites = asked.suite.now ∷ [];
+      report = option_map (λ r. report_by r.now) asked.reports;
+    }
 
--- what a run asks: no row is being built, reports come of a tracker over an archive, and the lines of the script can be counted
+-- what a run asks: no row is being built, reports come of a tracker over an archive, and the lines
+-- of the script can be counted
 pub record IsFit (asked : Asked) : Type 0 where
   pub idle : NoneBuilt asked.rows
   pub made : IfSome asked.reports (λ r. IsMade r.now)
   pub small : length asked.script.now < 2 ^ 63 - 1
 
 -- this may be told of what was asked. Else the journal is refused, or memory runs out
-pub record IsToldOf (May : Setting → History → List ℕ → List ℕ → ℕ → Type 0) (asked : Asked) (result : Result Told ReadError) : Type 0 where
-  pub told : IfOk result (IsToldFrom May (setting_asked asked) (journal_asked asked) asked.rows asked.script.now)
+pub record IsToldOf (May : Setting → History → List ℕ → List ℕ → ℕ → Type 0) (asked : Asked)
+    (result : Result Told ReadError) : Type 0 where
+  pub told : IfOk result
+      (IsToldFrom May (setting_asked asked) (journal_asked asked) asked.rows asked.script.now)
   pub fault : IfErr result (IsJournalFault asked.rows (journal_asked asked))
-  pub only : IfErr result (λ fault. IsJournalIfGiven asked.rows (journal_asked asked) → fault ≡ NoMemory)
+  pub only : IfErr result (λ fault.
+      IsJournalIfGiven asked.rows (journal_asked asked) → fault ≡ NoMemory)
 
 -- all that a run asks may be asked of those who answer what this allows
 abbrev pub CanBeAsked : (Asked → Type 0) → Type 0
 CanBeAsked Allows = (asked : Asked) → IsFit asked → Allows asked
 
 -- whatever they answer may be told
-abbrev pub TellsBy : (Setting → History → List ℕ → List ℕ → ℕ → Type 0) → (Asked → Result Told ReadError → Type 0) → Type 0
-TellsBy May Answers = (asked : Asked) (result : Result Told ReadError) → Answers asked result → IsToldOf May asked result
+abbrev pub TellsBy : (Setting → History → List ℕ → List ℕ → ℕ → Type 0)
+    → (Asked → Result Told ReadError → Type 0) → Type 0
+TellsBy May Answers =
+    (asked : Asked) (result : Result Told ReadError) → Answers asked result
+    → IsToldOf May asked result

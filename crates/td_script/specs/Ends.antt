@@ -1,10 +1,12 @@
 -- How the run of a script ends, and what it leaves. This project's own.
-use Rattle.std.specs.Prelude.{◌≡◌, ◌≤◌, ◌<◌, ℕ, List, length, Option, Some, Result, Ok, Err, IfErr, IfSome, IsUtf8}
+use Rattle.std.specs.Prelude.{◌≡◌, ◌≤◌, ◌<◌, ℕ, List, length, Option, Some, Result, Ok, Err, IfErr}
+use Rattle.std.specs.Prelude.{IfSome, IsUtf8}
 use Rattle.std.specs.Io.KnownBytes.{Appends, Keeps}
 use Rattle.td_bytes.specs.Pieces.{AppendsPrefix}
 use Rattle.td_core.specs.History.{History}
 use Rattle.td_script.specs.declared.running.RunFault.{RunFault}
-use Rattle.td_script.specs.declared.running.RunFault.TheVariants.{Input, Read, TooLong, NotText, Write, NoMemory}
+use Rattle.td_script.specs.declared.running.RunFault.TheVariants.{Input, Read, TooLong, NotText}
+use Rattle.td_script.specs.declared.running.RunFault.TheVariants.{Write, NoMemory}
 use Rattle.td_script.specs.declared.running.ScriptEnd.{ScriptEnd}
 use Rattle.td_script.specs.declared.running.TheConstants.{SCRIPT_LIMIT}
 use Rattle.td_script.specs.declared.input_fault.InputFault.TheVariants as fault
@@ -21,34 +23,48 @@ pub record IsScript (known : Option (List ℕ)) (text : List ℕ) : Type 0 where
   pub whole : IfSome known (λ all. all ≡ text)
   pub fits : IsScriptText text
 
--- a script is answered from this history with this text and so many refusals: as a clerk alone answers it
+-- a script is answered from this history with this text and so many refusals: as a clerk alone
+-- answers it
 pub record IsAnswered (s : Setting) (h : History) (lines text : List ℕ) (refused : ℕ) : Type 0 where
   pub text_is : text ≡ (script s h lines).text
   pub refused_is : refused ≡ (script s h lines).refused
 
--- what was read is a script, and this is so of a text and a number of refusals that may be told of it, so, over what the texts say
-abbrev pub Plays : (Setting → History → List ℕ → List ℕ → ℕ → Type 0) → Texts → Option (List ℕ) → (List ℕ → ℕ → Type 0) → Type 0
-Plays May x known So = (s : Setting) × (h : History) × IsSet x s h × ((lines : List ℕ) × IsScript known lines × ((text : List ℕ) × (refused : ℕ) × May s h lines text refused × So text refused))
+-- what was read is a script, and this is so of a text and a number of refusals that may be told of
+-- it, so, over what the texts say
+abbrev pub Plays : (Setting → History → List ℕ → List ℕ → ℕ → Type 0) → Texts → Option (List ℕ)
+    → (List ℕ → ℕ → Type 0) → Type 0
+Plays May x known So =
+    (s : Setting) × (h : History) × IsSet x s h
+    × ((lines : List ℕ) × IsScript known lines
+    × ((text : List ℕ) × (refused : ℕ) × May s h lines text refused × So text refused))
 
 -- the texts say something: no fault of a script comes before one of theirs
 abbrev pub AreFine : Texts → Type 0
 AreFine x = (s : Setting) × (h : History) × IsSet x s h
 
--- what an end says where this may be told of a script: the whole text is written and its refusals are counted, or a front of it where the writer failed; at every other fault nothing is written
-abbrev pub SaysBy : (Setting → History → List ℕ → List ℕ → ℕ → Type 0) → Texts → Option (List ℕ) → Option (List ℕ) → Option (List ℕ) → Result ScriptEnd RunFault → Type 0
-SaysBy May x known old new (Ok end) = Plays May x known (λ text refused. (end.refusals ≡ refused) × Appends old new text)
+-- what an end says where this may be told of a script: the whole text is written and its refusals
+-- are counted, or a front of it where the writer failed; at every other fault nothing is written
+abbrev pub SaysBy : (Setting → History → List ℕ → List ℕ → ℕ → Type 0) → Texts → Option (List ℕ)
+    → Option (List ℕ) → Option (List ℕ) → Result ScriptEnd RunFault → Type 0
+SaysBy May x known old new (Ok end) =
+    Plays May x known (λ text refused. (end.refusals ≡ refused) × Appends old new text)
 SaysBy May x known old new (Err (Input e)) = IsRefused x e × Keeps old new
 SaysBy May x known old new (Err Read) = AreFine x × Keeps old new
-SaysBy May x known old new (Err TooLong) = AreFine x × IfSome known (λ all. SCRIPT_LIMIT < length all) × Keeps old new
-SaysBy May x known old new (Err NotText) = AreFine x × IfSome known (λ all. (length all ≤ SCRIPT_LIMIT) × ¬ IsUtf8 all) × Keeps old new
-SaysBy May x known old new (Err Write) = Plays May x known (λ text refused. AppendsPrefix old new text)
+SaysBy May x known old new (Err TooLong) =
+    AreFine x × IfSome known (λ all. SCRIPT_LIMIT < length all) × Keeps old new
+SaysBy May x known old new (Err NotText) =
+    AreFine x × IfSome known (λ all. (length all ≤ SCRIPT_LIMIT) × ¬ IsUtf8 all) × Keeps old new
+SaysBy May x known old new (Err Write) =
+    Plays May x known (λ text refused. AppendsPrefix old new text)
 SaysBy May x known old new (Err NoMemory) = Keeps old new
 
 -- the same where a clerk alone answers it
-abbrev pub Says : Texts → Option (List ℕ) → Option (List ℕ) → Option (List ℕ) → Result ScriptEnd RunFault → Type 0
+abbrev pub Says : Texts → Option (List ℕ) → Option (List ℕ) → Option (List ℕ)
+    → Result ScriptEnd RunFault → Type 0
 Says x known old new r = SaysBy IsAnswered x known old new r
 
--- why a run over readable texts may stop, where the reader has a script: a stream or memory fails, or `regex` refuses a pattern
+-- why a run over readable texts may stop, where the reader has a script: a stream or memory fails,
+-- or `regex` refuses a pattern
 abbrev pub MayStop : Texts → RunFault → Type 0
 MayStop x (Input (fault.Table e)) = ⊥
 MayStop x (Input (fault.Archive e)) = ⊥
@@ -64,4 +80,6 @@ MayStop x NoMemory = Unit {0}
 
 -- a run over readable texts stops for nothing else
 abbrev pub Only : Texts → Option (List ℕ) → Result ScriptEnd RunFault → Type 0
-Only x known result = (text : List ℕ) → known ≡ Some text → IsScriptText text → AreReadable x → IfErr result (MayStop x)
+Only x known result =
+    (text : List ℕ) → known ≡ Some text → IsScriptText text → AreReadable x
+    → IfErr result (MayStop x)

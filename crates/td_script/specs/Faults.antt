@@ -14,7 +14,8 @@ use Rattle.td_journal.specs.declared.journal_fault.ReadError.TheVariants as jour
 use Rattle.td_script.specs.declared.role.Role.{Role}
 use Rattle.td_script.specs.declared.role.Role.TheVariants as role
 use Rattle.td_script.specs.declared.input_fault.InputFault.{InputFault}
-use Rattle.td_script.specs.declared.input_fault.InputFault.TheVariants.{Table, Archive, State, NoSuchRow, Tracker, Journal}
+use Rattle.td_script.specs.declared.input_fault.InputFault.TheVariants.{Table, Archive, State}
+use Rattle.td_script.specs.declared.input_fault.InputFault.TheVariants.{NoSuchRow, Tracker, Journal}
 
 -- what a text is read as
 abbrev pub role_name : Role → List ℕ

@@ -27,10 +27,12 @@ use Rattle.td_query.specs.declared.tracker_fault.TrackerFault.TheVariants as tra
 use Rattle.td_script.specs.declared.input_fault.InputFault.{InputFault}
 use Rattle.td_script.specs.declared.input_fault.InputFault.TheVariants as fault
 use Rattle.td_script.specs.declared.running.RunFault.{RunFault}
-use Rattle.td_script.specs.declared.running.RunFault.TheVariants.{Input, Read, TooLong, NotText, Write, NoMemory}
+use Rattle.td_script.specs.declared.running.RunFault.TheVariants.{Input, Read, TooLong, NotText}
+use Rattle.td_script.specs.declared.running.RunFault.TheVariants.{Write, NoMemory}
 use Rattle.td_script.specs.declared.told.Told.{Told as ToldText}
 use Rattle.td_script.specs.Ends.{AreFine}
-use Rattle.td_script.specs.Openings.{IsBegun, IsNoJournal, IsNoState, IsPatternRefused, IsReadableOver, IsRefused, IsSet, Texts}
+use Rattle.td_script.specs.Openings.{IsBegun, IsNoJournal, IsNoState, IsPatternRefused}
+use Rattle.td_script.specs.Openings.{IsReadableOver, IsRefused, IsSet, Texts}
 use Rattle.td_script.specs.Replies.{Setting}
 
 -- ---- 1. faults
@@ -90,7 +92,9 @@ abbrev pub IsInputRefusedIn : Table → List ℕ → InputFault → Type 0
 IsInputRefusedIn opened text (fault.Table e) = ⊥
 IsInputRefusedIn opened text (fault.Archive e) = ⊥
 IsInputRefusedIn opened text (fault.State e) = IsNoState (Some text) e
-IsInputRefusedIn opened text fault.NoSuchRow = (given : Table) × IsStateFile (lines_of text) given × ((k : Key) × (first_missing opened given ≡ Some k))
+IsInputRefusedIn opened text fault.NoSuchRow =
+    (given : Table) × IsStateFile (lines_of text) given
+    × ((k : Key) × (first_missing opened given ≡ Some k))
 IsInputRefusedIn opened text (fault.Tracker e) = ⊥
 IsInputRefusedIn opened text (fault.Journal e) = ⊥
 
@@ -110,7 +114,8 @@ abbrev pub IsTrackerOf : Texts → Tracking → Type 0
 IsTrackerOf x t = (text : List ℕ) × (x.tracker ≡ Some text) × IsTracker text t
 
 -- a book of these rows begins: with no entry, or with the journal over them that is gone on with
-pub record IsBegunBy (given : Option (List ℕ)) (rows : Table) (table : TableId) (stock : Stock) (builders : ℕ) (book : BookModel) : Type 0 where
+pub record IsBegunBy (given : Option (List ℕ)) (rows : Table) (table : TableId) (stock : Stock)
+    (builders : ℕ) (book : BookModel) : Type 0 where
   pub begun : IsBegun given rows book.history
   pub table_is : book.fixed.table ≡ table
   pub stock_is : book.fixed.stock ≡ stock
@@ -136,12 +141,17 @@ IsUntold rows given Write = ⊥
 IsUntold rows given NoMemory = Unit {0}
 
 -- this may be told of a script from these rows, or from the journal over them that is gone on with
-abbrev pub IsToldFrom : (Setting → History → List ℕ → List ℕ → ℕ → Type 0) → Setting → Option (List ℕ) → Table → List ℕ → ToldText → Type 0
-IsToldFrom May s given rows lines told = (h : History) × IsBegun given rows h × May s h lines (string_bytes told.text) told.refused
+abbrev pub IsToldFrom : (Setting → History → List ℕ → List ℕ → ℕ → Type 0) → Setting
+    → Option (List ℕ) → Table → List ℕ → ToldText → Type 0
+IsToldFrom May s given rows lines told =
+    (h : History) × IsBegun given rows h × May s h lines (string_bytes told.text) told.refused
 
 -- the same over what the texts say
-abbrev pub Tells : (Setting → History → List ℕ → List ℕ → ℕ → Type 0) → Texts → List ℕ → ToldText → Type 0
-Tells May x lines told = (s : Setting) × (h : History) × IsSet x s h × May s h lines (string_bytes told.text) told.refused
+abbrev pub Tells : (Setting → History → List ℕ → List ℕ → ℕ → Type 0) → Texts → List ℕ → ToldText
+    → Type 0
+Tells May x lines told =
+    (s : Setting) × (h : History) × IsSet x s h
+    × May s h lines (string_bytes told.text) told.refused
 
 -- no script was read, for this: a text is refused before it, or memory runs out
 abbrev pub IsUnread : Texts → TextFault → Result ToldText RunFault → Type 0
@@ -154,11 +164,14 @@ IsUnread x why (Err e) = AreFine x × (e ≡ of_reading why)
 
 -- the text is a state file whose rows these have
 abbrev pub CanReplace : Table → List ℕ → Type 0
-CanReplace opened text = (given : Table) × IsStateFile (lines_of text) given × ((k : Key) → first_missing opened given ≡ Some k → ⊥)
+CanReplace opened text =
+    (given : Table) × IsStateFile (lines_of text) given
+    × ((k : Key) → first_missing opened given ≡ Some k → ⊥)
 
 -- the indices are an archive with the table, and what stands over it can be read
 abbrev pub AreReadableWith : List ArchWords → Texts → Type 0
-AreReadableWith t x = (c : Contents) × IsArchive t (lines_of x.packages) (lines_of x.sources) c × IsReadableOver c x
+AreReadableWith t x =
+    (c : Contents) × IsArchive t (lines_of x.packages) (lines_of x.sources) c × IsReadableOver c x
 
 -- memory runs out, or `regex` refuses a pattern
 abbrev pub Stops : Texts → RunFault → Type 0

@@ -1,5 +1,7 @@
--- From what a script starts: the history, the offers and the reports that the texts of files say. This project's own.
-use Rattle.std.specs.Prelude.{◌≡◌, ℕ, true, List, [], ◌∷◌, Option, Some, None, length, option_map, string_bytes}
+-- From what a script starts: the history, the offers and the reports that the texts of files say.
+-- This project's own.
+use Rattle.std.specs.Prelude.{◌≡◌, ℕ, true, List, [], ◌∷◌, Option, Some, None, length, option_map}
+use Rattle.std.specs.Prelude.{string_bytes}
 use Rattle.td_text.specs.Lines.{lines_of}
 use Rattle.td_relation.specs.Arch.{ArchWords}
 use Rattle.td_relation.specs.TableFile.{IsTable}
@@ -74,7 +76,8 @@ pub record AreOpened (c : Contents) (rows : Table) : Type 0 where
   pub same : (k : Key) → row_of rows k ≡ opening_row c k
   pub rising : ascending (keys_of rows) ≡ true
 
--- the same, with those of a state file in the place of the ones of their keys, each of which has to be there
+-- the same, with those of a state file in the place of the ones of their keys, each of which has to
+-- be there
 pub record AreReplaced (c : Contents) (text : List ℕ) (rows : Table) : Type 0 where
   pub opened : Table
   pub are_opened : AreOpened c opened
@@ -88,10 +91,13 @@ abbrev pub AreRowsOf : Contents → Option (List ℕ) → Table → Type 0
 AreRowsOf c None rows = AreOpened c rows
 AreRowsOf c (Some text) rows = AreReplaced c text rows
 
--- the history from which the script starts: that before the first entry, or that of the journal that is gone on with, in which each build that was left is given back
+-- the history from which the script starts: that before the first entry, or that of the journal
+-- that is gone on with, in which each build that was left is given back
 abbrev pub IsBegun : Option (List ℕ) → Table → History → Type 0
 IsBegun None rows h = h ≡ opened rows
-IsBegun (Some text) rows h = (entries : List Marked) × IsJournalText rows text entries × (h ≡ given_back (history_of rows entries))
+IsBegun (Some text) rows h =
+    (entries : List Marked) × IsJournalText rows text entries
+    × (h ≡ given_back (history_of rows entries))
 
 -- the reports of a tracker: of any rows by the same levels, which are those of its affected sources
 pub record AreReportsOf (c : Contents) (text : List ℕ) (report : Table → List ℕ) : Type 0 where
@@ -109,7 +115,8 @@ AreReports c None (Some report) = ⊥
 AreReports c (Some text) None = ⊥
 AreReports c (Some text) (Some report) = AreReportsOf c text report
 
--- what stands over an archive: the offers of its index, the suite, the reports, and the history from which the script starts
+-- what stands over an archive: the offers of its index, the suite, the reports, and the history
+-- from which the script starts
 pub record IsSetOver (c : Contents) (x : Texts) (s : Setting) (h : History) : Type 0 where
   pub rows : Table
   pub rows_are : AreRowsOf c x.state rows
@@ -132,7 +139,9 @@ IsNoTable x e = table_file.FaultOf (lines_of x.archs) e
 -- with the table, the indices are no archive
 abbrev pub AreNoIndices : Texts → ArchiveFault → Type 0
 AreNoIndices x archive.NoMemory = ⊥
-AreNoIndices x e = (t : List ArchWords) × IsTable (lines_of x.archs) t × archive_file.FaultOf t (lines_of x.packages) (lines_of x.sources) e
+AreNoIndices x e =
+    (t : List ArchWords) × IsTable (lines_of x.archs) t
+    × archive_file.FaultOf t (lines_of x.packages) (lines_of x.sources) e
 
 -- a text is given, and is no state file
 abbrev pub IsNoState : Option (List ℕ) → StateFault → Type 0
@@ -143,7 +152,10 @@ IsNoState (Some text) e = state_file.FaultOf (lines_of text) e
 -- it is one, and has a row that the archive hasn't
 abbrev pub LacksRow : Contents → Option (List ℕ) → Type 0
 LacksRow c None = ⊥
-LacksRow c (Some text) = (opened : Table) × AreOpened c opened × ((given : Table) × IsStateFile (lines_of text) given × ((k : Key) × (first_missing opened given ≡ Some k)))
+LacksRow c (Some text) =
+    (opened : Table) × AreOpened c opened
+    × ((given : Table) × IsStateFile (lines_of text) given
+    × ((k : Key) × (first_missing opened given ≡ Some k)))
 
 -- a text is given, and is no tracker, or `regex` refuses one of its patterns
 abbrev pub IsNoTracker : Option (List ℕ) → TrackerFault → Type 0
@@ -162,14 +174,18 @@ abbrev pub IsTrackerIfGiven : Option (List ℕ) → Type 0
 IsTrackerIfGiven None = Unit {0}
 IsTrackerIfGiven (Some text) = (t : Tracking) × IsTracker text t
 
--- over an archive, a text is refused for this: the rows before the tracker, and that before the journal
+-- over an archive, a text is refused for this: the rows before the tracker, and that before the
+-- journal
 abbrev pub IsRefusedOver : Contents → Texts → InputFault → Type 0
 IsRefusedOver c x (fault.Table e) = ⊥
 IsRefusedOver c x (fault.Archive e) = ⊥
 IsRefusedOver c x (fault.State e) = IsNoState x.state e
 IsRefusedOver c x fault.NoSuchRow = LacksRow c x.state
-IsRefusedOver c x (fault.Tracker e) = (rows : Table) × AreRowsOf c x.state rows × IsNoTracker x.tracker e
-IsRefusedOver c x (fault.Journal e) = (rows : Table) × AreRowsOf c x.state rows × IsTrackerIfGiven x.tracker × IsNoJournal rows x.journal e
+IsRefusedOver c x (fault.Tracker e) =
+    (rows : Table) × AreRowsOf c x.state rows × IsNoTracker x.tracker e
+IsRefusedOver c x (fault.Journal e) =
+    (rows : Table) × AreRowsOf c x.state rows × IsTrackerIfGiven x.tracker
+    × IsNoJournal rows x.journal e
 
 -- a text is refused for this
 abbrev pub IsRefused : Texts → InputFault → Type 0
@@ -177,8 +193,10 @@ IsRefused x (fault.Table e) = IsNoTable x e
 IsRefused x (fault.Archive e) = AreNoIndices x e
 IsRefused x (fault.State e) = (c : Contents) × IsArchiveOf x c × IsRefusedOver c x (fault.State e)
 IsRefused x fault.NoSuchRow = (c : Contents) × IsArchiveOf x c × IsRefusedOver c x fault.NoSuchRow
-IsRefused x (fault.Tracker e) = (c : Contents) × IsArchiveOf x c × IsRefusedOver c x (fault.Tracker e)
-IsRefused x (fault.Journal e) = (c : Contents) × IsArchiveOf x c × IsRefusedOver c x (fault.Journal e)
+IsRefused x (fault.Tracker e) =
+    (c : Contents) × IsArchiveOf x c × IsRefusedOver c x (fault.Tracker e)
+IsRefused x (fault.Journal e) =
+    (c : Contents) × IsArchiveOf x c × IsRefusedOver c x (fault.Journal e)
 
 -- ---- 3. what can't be refused
 
@@ -202,4 +220,5 @@ AreReadable x = (c : Contents) × IsArchiveOf x c × IsReadableOver c x
 abbrev pub IsPatternRefused : Option (List ℕ) → TrackerFault → Type 0
 IsPatternRefused None e = ⊥
 IsPatternRefused (Some text) tracker.NoMemory = ⊥
-IsPatternRefused (Some text) e = tracker_file.IsPatternFault (length text) (tracker_file.log_in (said_in text)) e
+IsPatternRefused (Some text) e =
+    tracker_file.IsPatternFault (length text) (tracker_file.log_in (said_in text)) e

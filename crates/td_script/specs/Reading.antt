@@ -1,5 +1,6 @@
 -- What a line of a script is. This project's own.
-use Rattle.std.specs.Prelude.{◌≡◌, ◌↔◌, ℕ, ◌==◌, ◌^◌, ◌-◌, Bool, true, not, ◌&&◌, ◌||◌, List, [], ◌∷◌, Option, Some, None, length, if◌then◌else◌, codes}
+use Rattle.std.specs.Prelude.{◌≡◌, ◌↔◌, ℕ, ◌==◌, ◌^◌, ◌-◌, Bool, true, not, ◌&&◌, ◌||◌, List, []}
+use Rattle.std.specs.Prelude.{◌∷◌, Option, Some, None, length, if◌then◌else◌, codes}
 use Rattle.std.specs.Str.{bytes_eq}
 use Rattle.td_text.specs.Chain.{◌>>=◌}
 use Rattle.td_text.specs.Cut.{cut, part, strip}
@@ -11,7 +12,8 @@ use Rattle.td_text.specs.Runs.{behind, is_space, run}
 use Rattle.td_script.specs.declared.request.Verb.{Verb}
 use Rattle.td_script.specs.declared.request.Verb.TheVariants as verb
 use Rattle.td_script.specs.declared.request.Request.{Request}
-use Rattle.td_script.specs.declared.request.Request.TheVariants.{Undo, Arrive, Sweep, Row, Entry, Report, Journal}
+use Rattle.td_script.specs.declared.request.Request.TheVariants.{Undo, Arrive, Sweep, Row, Entry}
+use Rattle.td_script.specs.declared.request.Request.TheVariants.{Report, Journal}
 use Rattle.td_script.specs.declared.line.Said.{Said}
 use Rattle.td_script.specs.declared.line.Said.TheVariants.{Skipped, Asked, Bad, Typed}
 use Rattle.td_script.specs.Requests.{request_line, RequestFits}
@@ -29,7 +31,9 @@ verb_at word =
 
 -- a source and an architecture, a space between them
 unfoldable pub spaced_key_at : List ℕ → Option Key
-spaced_key_at text = cut 32 text >>= λ p. if is_name p.0 && is_arch p.1 then Some (record { source = p.0; arch = p.1 }) else None
+spaced_key_at text =
+    cut 32 text >>= λ p.
+    if is_name p.0 && is_arch p.1 then Some (record { source = p.0; arch = p.1 }) else None
 
 -- nothing may follow
 abbrev pub alone : Request → List ℕ → Option Request
@@ -60,7 +64,13 @@ is_skipped (b ∷ line) = b == 35
 
 -- whether a word is a verb
 abbrev pub is_verb : List ℕ → Bool
-is_verb word = bytes_eq word (codes "undo") || (bytes_eq word (codes "arrive") || (bytes_eq word (codes "sweep") || (bytes_eq word (codes "row") || (bytes_eq word (codes "entry") || (bytes_eq word (codes "report") || bytes_eq word (codes "journal"))))))
+is_verb word =
+    bytes_eq word (codes "undo")
+    || (bytes_eq word (codes "arrive")
+    || (bytes_eq word (codes "sweep")
+    || (bytes_eq word (codes "row")
+    || (bytes_eq word (codes "entry")
+    || (bytes_eq word (codes "report") || bytes_eq word (codes "journal"))))))
 
 -- a byte of a word
 abbrev pub is_word_byte : ℕ → Bool
@@ -76,8 +86,12 @@ unasked line = if is_verb (first_word line) then Bad else Typed
 
 -- what a line is
 unfoldable pub said_at : List ℕ → Said
-said_at line = if is_skipped line then Skipped else elim (request_at line) [ Some r ↦ Asked r | None ↦ unasked line ]
+said_at line =
+    if is_skipped line then Skipped
+    else elim (request_at line) [ Some r ↦ Asked r | None ↦ unasked line ]
 
 -- a line is said to be a request exactly where it is that request's
 abbrev pub LinesAreSaid : Type 0
-LinesAreSaid = (line : List ℕ) (r : Request) → (said_at line ≡ Asked r) ↔ ((line ≡ request_line r) × RequestFits r)
+LinesAreSaid =
+    (line : List ℕ) (r : Request)
+    → (said_at line ≡ Asked r) ↔ ((line ≡ request_line r) × RequestFits r)

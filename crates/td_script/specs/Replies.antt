@@ -1,5 +1,6 @@
 -- The answers to the lines of a script. This project's own.
-use Rattle.std.specs.Prelude.{ℕ, ◌+◌, Bool, true, false, List, [], ◌∷◌, ◌++◌, Option, Some, None, Result, Ok, Err, length, filter, if◌then◌else◌, codes, decimal}
+use Rattle.std.specs.Prelude.{ℕ, ◌+◌, Bool, true, false, List, [], ◌∷◌, ◌++◌, Option, Some, None}
+use Rattle.std.specs.Prelude.{Result, Ok, Err, length, filter, if◌then◌else◌, codes, decimal}
 use Rattle.std.specs.List.{flat_map}
 use Rattle.td_rows.specs.declared.key.Key.{Key}
 use Rattle.td_rows.specs.declared.row.Row.{Row}
@@ -31,12 +32,16 @@ use Rattle.td_book.specs.Naming.{is_matched_at, named_in}
 use Rattle.td_book.specs.Skips.{skips_of}
 use Rattle.td_book.specs.Undoing.{undo_stop}
 use Rattle.td_script.specs.declared.request.Request.{Request}
-use Rattle.td_script.specs.declared.request.Request.TheVariants.{Undo, Arrive, Sweep, Row as AskedRow, Entry as AskedEntry, Report, Journal}
+use Rattle.td_script.specs.declared.request.Request.TheVariants.{Undo, Arrive, Sweep}
+use Rattle.td_script.specs.declared.request.Request.TheVariants.{Row as AskedRow}
+use Rattle.td_script.specs.declared.request.Request.TheVariants.{Entry as AskedEntry, Report}
+use Rattle.td_script.specs.declared.request.Request.TheVariants.{Journal}
 use Rattle.td_script.specs.declared.line.Said.{Said}
 use Rattle.td_script.specs.declared.line.Said.TheVariants.{Skipped, Asked, Bad, Typed}
 use Rattle.td_script.specs.Reading.{said_at}
 
--- what doesn't change over a script: what the index offers, the suites that a command may name, and the report on rows, where there is a tracker
+-- what doesn't change over a script: what the index offers, the suites that a command may name, and
+-- the report on rows, where there is a tracker
 pub record Setting : Type 0 where
   pub stock : Stock
   pub suites : List (List ℕ)
@@ -72,7 +77,12 @@ entry_made n keys = ended (codes "entry " ++ (decimal n ++ (codes " takes" ++ sp
 
 -- the entry is made, and said with what follows it
 abbrev pub enters : History → Entry → List ℕ → Reply
-enters h e behind = record { text = entry_made (length h.journal + 1) e.keys ++ behind; after = with_entry h e; refused = false }
+enters h e behind =
+    record {
+      text = entry_made (length h.journal + 1) e.keys ++ behind;
+      after = with_entry h e;
+      refused = false;
+    }
 
 -- ---- 2. undo
 
@@ -87,7 +97,12 @@ undo_name (undos.Blocked m) = codes "Blocked " ++ decimal m
 -- entry n is undone, where nothing speaks against it
 abbrev pub undoes : History → ℕ → Option UndoRefusal → Reply
 undoes h n (Some r) = refuses h (undo_name r) []
-undoes h n None = record { text = ended (codes "undone " ++ decimal n); after = without_entry h n; refused = false }
+undoes h n None =
+    record {
+      text = ended (codes "undone " ++ decimal n);
+      after = without_entry h n;
+      refused = false;
+    }
 
 -- ---- 3. arrivals and sweeps
 
@@ -98,7 +113,9 @@ state_refused row = codes "DoesNotApply " ++ state_word row.state
 -- the build of a key has arrived, if its row has been built or uploaded
 abbrev pub arrives : History → Key → Option Row → Reply
 arrives h k None = refuses h (codes "NoSuchRow") []
-arrives h k (Some row) = if applies kinds.Arrive row then enters h (record { kind = kinds.Arrive; keys = k ∷ [] }) [] else refuses h (state_refused row) []
+arrives h k (Some row) =
+    if applies kinds.Arrive row then enters h (record { kind = kinds.Arrive; keys = k ∷ [] }) []
+    else refuses h (state_refused row) []
 
 -- the rows that are freed
 abbrev pub sweeps : History → List Key → Reply
@@ -114,7 +131,11 @@ shows_row h k (Some row) = says h (ended (row_line (k, row)))
 
 -- the line of an entry
 abbrev pub shows_entry : History → ℕ → Reply
-shows_entry h n = elim (entry_at h.journal n) [ Some m ↦ says h (ended (entry_line n m)) | None ↦ refuses h (codes "NoSuchEntry") [] ]
+shows_entry h n =
+    elim (entry_at h.journal n) [
+      | Some m ↦ says h (ended (entry_line n m))
+      | None ↦ refuses h (codes "NoSuchEntry") []
+    ]
 
 -- the report of the rows, if there is a tracker
 abbrev pub reports : History → Option (Table → List ℕ) → Reply
@@ -136,7 +157,8 @@ skip_line s = ended (codes "skipped " ++ (key_text s.key ++ 32 ∷ reason_word s
 abbrev pub is_matched : Stock → History → CommandParts → Key → Bool
 is_matched s h c = is_matched_at c (supply_now s h) (rows_of h)
 
--- the keys that a command takes: of the rows that it names those whose version matches and on which its kind applies
+-- the keys that a command takes: of the rows that it names those whose version matches and on which
+-- its kind applies
 abbrev pub taken : Stock → History → CommandParts → List Key
 taken s h c = takes (rows_of h) (kind_of c) (filter (is_matched s h c) (named_in c (rows_of h)))
 

@@ -1,5 +1,6 @@
 -- What is written of the answers of calls, whoever made them. This project's own.
-use Rattle.std.specs.Prelude.{◌≡◌, ℕ, Bool, true, false, List, [], ◌++◌, Option, Some, None, Result, Ok, Err, codes, decimal}
+use Rattle.std.specs.Prelude.{◌≡◌, ℕ, Bool, true, false, List, [], ◌++◌, Option, Some, None, Result}
+use Rattle.std.specs.Prelude.{Ok, Err, codes, decimal}
 use Rattle.std.specs.List.{flat_map}
 use Rattle.td_rows.specs.StateWord.{state_word}
 use Rattle.td_journal.specs.declared.entry.Marked.{Marked}
@@ -20,28 +21,38 @@ pub record IsPut (text : List ℕ) (is : Bool) (before now : List ℕ) (refused 
 
 -- the line of the entry that a journal has under a number, and a text behind it
 abbrev pub IsEntryPut : List Marked → ℕ → List ℕ → List ℕ → List ℕ → Bool → Type 0
-IsEntryPut ms n behind before now refused = (m : Marked) → entry_at ms n ≡ Some m → IsPut (entry_made n m.entry.keys ++ behind) false before now refused
+IsEntryPut ms n behind before now refused =
+    (m : Marked) → entry_at ms n ≡ Some m
+    → IsPut (entry_made n m.entry.keys ++ behind) false before now refused
 
 -- what is written of an undo; of one without memory nothing is
 abbrev pub IsUndoPut : ℕ → Result (Unit {0}) UndoRefusal → List ℕ → List ℕ → Bool → Type 0
-IsUndoPut n (Ok u) before now refused = IsPut (ended (codes "undone " ++ decimal n)) false before now refused
+IsUndoPut n (Ok u) before now refused =
+    IsPut (ended (codes "undone " ++ decimal n)) false before now refused
 IsUndoPut n (Err undos.NoMemory) before now refused = ⊥
 IsUndoPut n (Err r) before now refused = IsPut (refusal_line (undo_name r)) true before now refused
 
 -- of an arrival, where the journal is this afterwards
 abbrev pub IsArrivalPut : List Marked → Result ℕ ArriveRefusal → List ℕ → List ℕ → Bool → Type 0
 IsArrivalPut ms (Ok n) before now refused = IsEntryPut ms n [] before now refused
-IsArrivalPut ms (Err arrivals.NoSuchRow) before now refused = IsPut (refusal_line (codes "NoSuchRow")) true before now refused
-IsArrivalPut ms (Err (arrivals.DoesNotApply s)) before now refused = IsPut (refusal_line (codes "DoesNotApply " ++ state_word s)) true before now refused
+IsArrivalPut ms (Err arrivals.NoSuchRow) before now refused =
+    IsPut (refusal_line (codes "NoSuchRow")) true before now refused
+IsArrivalPut ms (Err (arrivals.DoesNotApply s)) before now refused =
+    IsPut (refusal_line (codes "DoesNotApply " ++ state_word s)) true before now refused
 IsArrivalPut ms (Err arrivals.NoMemory) before now refused = ⊥
 
 -- of a sweep
 abbrev pub IsSweepPut : List Marked → Option ℕ → List ℕ → List ℕ → Bool → Type 0
 IsSweepPut ms (Some n) before now refused = IsEntryPut ms n [] before now refused
-IsSweepPut ms None before now refused = IsPut (ended (codes "nothing to sweep")) false before now refused
+IsSweepPut ms None before now refused =
+    IsPut (ended (codes "nothing to sweep")) false before now refused
 
 -- of a command
-abbrev pub IsCommandPut : List Marked → Result Taken CommandRefusal → List ℕ → List ℕ → Bool → Type 0
-IsCommandPut ms (Ok t) before now refused = IsEntryPut ms t.number (flat_map skip_line t.skips) before now refused
-IsCommandPut ms (Err (commands.NothingApplies skips)) before now refused = IsPut (refusal_line (codes "NothingApplies") ++ flat_map skip_line skips) true before now refused
+abbrev pub IsCommandPut : List Marked → Result Taken CommandRefusal → List ℕ → List ℕ → Bool
+    → Type 0
+IsCommandPut ms (Ok t) before now refused =
+    IsEntryPut ms t.number (flat_map skip_line t.skips) before now refused
+IsCommandPut ms (Err (commands.NothingApplies skips)) before now refused =
+    IsPut (refusal_line (codes "NothingApplies") ++ flat_map skip_line skips) true before now
+    refused
 IsCommandPut ms (Err commands.NoMemory) before now refused = ⊥

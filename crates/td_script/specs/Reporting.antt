@@ -12,7 +12,8 @@ use Rattle.td_report.specs.declared.transition.Transition.{Transition}
 
 -- the text of the report of these rows, where sources stand at these levels
 abbrev pub report_with : Contents → Tracking → (List ℕ → Option Level) → ℕ → Table → List ℕ
-report_with a t level depth rows = text_of (report_lines t.title depth (affected_rows a t level rows))
+report_with a t level depth rows =
+    text_of (report_lines t.title depth (affected_rows a t level rows))
 
 -- the same, of a transition
 abbrev pub report_by : Transition → Table → List ℕ

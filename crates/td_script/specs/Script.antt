@@ -1,5 +1,6 @@
 -- The answers to the lines of a script, one after the other. This project's own.
-use Rattle.std.specs.Prelude.{◌≡◌, ℕ, ◌+◌, ◌≤◌, List, [], ◌++◌, fold, if◌then◌else◌, zero, string_bytes}
+use Rattle.std.specs.Prelude.{◌≡◌, ℕ, ◌+◌, ◌≤◌, List, [], ◌++◌, fold, if◌then◌else◌, zero}
+use Rattle.std.specs.Prelude.{string_bytes}
 use Rattle.td_text.specs.Lines.{lines_of}
 use Rattle.td_core.specs.History.{History}
 use Rattle.td_book.specs.Desk.{BookModel}
@@ -14,7 +15,12 @@ pub record Told : Type 0 where
 
 -- a reply more
 abbrev pub added : Told → Reply → Told
-added t r = record { text = t.text ++ r.text; after = r.after; refused = t.refused + (if r.refused then 1 else 0) }
+added t r =
+    record {
+      text = t.text ++ r.text;
+      after = r.after;
+      refused = t.refused + (if r.refused then 1 else 0);
+    }
 
 -- one line more: it is answered from the history that the lines before it leave
 abbrev pub with_line : Setting → Told → List ℕ → Told
@@ -35,12 +41,14 @@ abbrev pub told_of : ToldText → History → Told
 told_of t h = record { text = string_bytes t.text; after = h; refused = t.refused }
 
 -- one line more is told
-pub record IsAdded (s : Setting) (line : List ℕ) (old new : BookModel) (before now : ToldText) : Type 0 where
+pub record IsAdded (s : Setting) (line : List ℕ) (old new : BookModel)
+    (before now : ToldText) : Type 0 where
   pub is : told_of now new.history ≡ with_line s (told_of before old.history) line
   pub fixed : new.fixed ≡ old.fixed
   pub counted : now.refused ≤ before.refused + 1
 
 -- the text and the count are those of the script, and the book's history is the one behind it
-pub record IsTold (s : Setting) (script_text : List ℕ) (old new : BookModel) (told : ToldText) : Type 0 where
+pub record IsTold (s : Setting) (script_text : List ℕ) (old new : BookModel)
+    (told : ToldText) : Type 0 where
   pub is : told_of told new.history ≡ script s old.history script_text
   pub fixed : new.fixed ≡ old.fixed

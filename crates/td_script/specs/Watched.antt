@@ -9,7 +9,8 @@ use Rattle.td_report.specs.declared.transition.Transition.{Transition}
 
 -- the watch of a transition's groups, over rows with these keys
 abbrev pub watch_by : Transition → Table → WatchView
-watch_by x opening = record { groups = depth_of x + 1; of_rows = map (group_of x) (keys_of opening) }
+watch_by x opening =
+    record { groups = depth_of x + 1; of_rows = map (group_of x) (keys_of opening) }
 
 -- a book that began with these rows watches the groups of a transition
 pub record Watches (x : Transition) (opening : Table) (fixed : Fixed) : Type 0 where

@@ -7,7 +7,8 @@ ghost use Rattle.td_core.specs.History.{rows_of};
 ghost use Rattle.td_core.specs.Offers.{freed, supply_now};
 ghost use Rattle.td_book.specs.Undoing.{undo_stop};
 ghost use Rattle.td_script.specs.Answering.{Answers};
-ghost use Rattle.td_script.specs.Replies.{undoes, arrives, sweeps, shows_row, shows_entry, says, reports as reports_of};
+ghost use Rattle.td_script.specs.Replies.{undoes, arrives, sweeps, shows_row, shows_entry, says};
+ghost use Rattle.td_script.specs.Replies.{reports as reports_of};
 
 use crate::replying::{put_arrival, put_sweep, put_undo};
 use crate::reports::Reports;
@@ -27,14 +28,18 @@ pub fn undo(
 ) -> Result<bool, AllocError>
     requires board { board.now.table ≡ book.old.fixed.table }
     requires alone { book.old.fixed.builders ≡ 0 }
-    ensures { IfOk result (Answers (undoes book.old.history n (undo_stop book.old.history.journal n)) book.old book.new (string_bytes out.old) (string_bytes out.new)) }
+    ensures { IfOk result (Answers
+        (undoes book.old.history n (undo_stop book.old.history.journal n)) book.old book.new
+        (string_bytes out.old) (string_bytes out.new)) }
 {
     put_undo(out, n, book.undo(board, n))
 }
 
 /// The key's build has arrived.
 pub fn arrive(book: &mut Book<'_>, key: &Key, out: &mut String) -> Result<bool, AllocError>
-    ensures { IfOk result (Answers (arrives book.old.history key.now (row_of (rows_of book.old.history) key.now)) book.old book.new (string_bytes out.old) (string_bytes out.new)) }
+    ensures { IfOk result (Answers
+        (arrives book.old.history key.now (row_of (rows_of book.old.history) key.now)) book.old
+        book.new (string_bytes out.old) (string_bytes out.new)) }
 {
     let answer = book.arrive(key);
     put_arrival(out, book.journal(), answer)
@@ -43,7 +48,10 @@ pub fn arrive(book: &mut Book<'_>, key: &Key, out: &mut String) -> Result<bool, 
 /// Frees the rows that wait for what is on offer now.
 pub fn sweep(book: &mut Book<'_>, board: &Board, out: &mut String) -> Result<bool, AllocError>
     requires { board.now.table ≡ book.old.fixed.table }
-    ensures { IfOk result (Answers (sweeps book.old.history (freed (supply_now book.old.fixed.stock book.old.history) (rows_of book.old.history))) book.old book.new (string_bytes out.old) (string_bytes out.new)) }
+    ensures { IfOk result (Answers
+        (sweeps book.old.history
+        (freed (supply_now book.old.fixed.stock book.old.history) (rows_of book.old.history)))
+        book.old book.new (string_bytes out.old) (string_bytes out.new)) }
 {
     let swept = book.sweep(board)?;
     put_sweep(out, book.journal(), swept)
@@ -51,7 +59,9 @@ pub fn sweep(book: &mut Book<'_>, board: &Board, out: &mut String) -> Result<boo
 
 /// Tells the row of a key.
 pub fn show_row(book: &Book<'_>, key: &Key, out: &mut String) -> Result<bool, AllocError>
-    ensures { IfOk result (Answers (shows_row book.now.history key.now (row_of (rows_of book.now.history) key.now)) book.now book.now (string_bytes out.old) (string_bytes out.new)) }
+    ensures { IfOk result (Answers
+        (shows_row book.now.history key.now (row_of (rows_of book.now.history) key.now)) book.now
+        book.now (string_bytes out.old) (string_bytes out.new)) }
 {
     match book.rows().get(key) {
         Some(row) => {
@@ -67,7 +77,8 @@ pub fn show_row(book: &Book<'_>, key: &Key, out: &mut String) -> Result<bool, Al
 
 /// Tells an entry.
 pub fn show_entry(book: &Book<'_>, n: EntryNo, out: &mut String) -> Result<bool, AllocError>
-    ensures { IfOk result (Answers (shows_entry book.now.history n) book.now book.now (string_bytes out.old) (string_bytes out.new)) }
+    ensures { IfOk result (Answers (shows_entry book.now.history n) book.now book.now
+        (string_bytes out.old) (string_bytes out.new)) }
 {
     match book.journal().entry(n) {
         Some(marked) => {
@@ -83,7 +94,8 @@ pub fn show_entry(book: &Book<'_>, n: EntryNo, out: &mut String) -> Result<bool,
 
 /// Tells the journal.
 pub fn show_journal(book: &Book<'_>, out: &mut String) -> Result<bool, AllocError>
-    ensures { IfOk result (Answers (says book.now.history (journal_text book.now.history.journal)) book.now book.now (string_bytes out.old) (string_bytes out.new)) }
+    ensures { IfOk result (Answers (says book.now.history (journal_text book.now.history.journal))
+        book.now book.now (string_bytes out.old) (string_bytes out.new)) }
 {
     put_journal(out, book.journal())?;
     Ok(false)
@@ -97,7 +109,9 @@ pub fn show_report<R: Reports>(
     out: &mut String,
 ) -> Result<bool, AllocError>
     requires { IfSome reports (λ r. R.fits r.now book.now.history.opening book.now.fixed) }
-    ensures { IfOk result (Answers (reports_of book.now.history (option_map (λ r. R.text r.now) reports.entry)) book.now book.now (string_bytes out.old) (string_bytes out.new)) }
+    ensures { IfOk result (Answers
+        (reports_of book.now.history (option_map (λ r. R.text r.now) reports.entry)) book.now
+        book.now (string_bytes out.old) (string_bytes out.new)) }
 {
     match reports {
         Some(reports) => {

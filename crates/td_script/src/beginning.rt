@@ -27,9 +27,13 @@ pub fn begin<'a>(
     requires fresh_seat { desk.desk ≡ new_desk (length rows) (length desk.desk.noted) }
     requires idle { NoneBuilt rows }
     requires fresh_supply { supply ≡ opened_stock (stock_of supply) }
-    ensures begun { IfOk result (IsBegunBy (option_map (λ s. s.now) journal.entry) rows desk.table (stock_of supply.entry) (length desk.desk.noted)) }
+    ensures begun { IfOk result
+        (IsBegunBy (option_map (λ s. s.now) journal.entry) rows desk.table (stock_of supply.entry)
+        (length desk.desk.noted)) }
     ensures fault { IfErr result (IsJournalFault rows (option_map (λ s. s.now) journal.entry)) }
-    ensures only { IfErr result (λ fault. IsJournalIfGiven rows (option_map (λ s. s.now) journal.entry) → fault ≡ ReadError.NoMemory) }
+    ensures only { IfErr result (λ fault.
+        IsJournalIfGiven rows (option_map (λ s. s.now) journal.entry)
+        → fault ≡ ReadError.NoMemory) }
 {
     match journal {
         Some(text) => Book::reopen(alloc, board, desk, rows, supply, text),

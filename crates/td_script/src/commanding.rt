@@ -20,7 +20,9 @@ pub fn command(
 ) -> Result<bool, AllocError>
     requires board { board.now.table ≡ book.old.fixed.table }
     requires alone { book.old.fixed.builders ≡ 0 }
-    ensures { IfOk result (Answers (commands book.old.fixed.stock book.old.history (parts_of command.now)) book.old book.new (string_bytes out.old) (string_bytes out.new)) }
+    ensures { IfOk result (Answers
+        (commands book.old.fixed.stock book.old.history (parts_of command.now)) book.old book.new
+        (string_bytes out.old) (string_bytes out.new)) }
 {
     let answer = book.command(board, command);
     put_command(out, book.journal(), answer)

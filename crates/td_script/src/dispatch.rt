@@ -29,7 +29,13 @@ fn ask<R: Reports>(
     requires board { board.now.table ≡ book.old.fixed.table }
     requires alone { book.old.fixed.builders ≡ 0 }
     requires fits { IfSome reports (λ r. R.fits r.now book.old.history.opening book.old.fixed) }
-    ensures { IfOk result (Answers (asks (record { stock = book.old.fixed.stock; suites = map (λ s. s.now) suites.now; report = option_map (λ r. R.text r.now) reports.entry }) book.old.history request.now) book.old book.new (string_bytes out.old) (string_bytes out.new)) }
+    ensures { IfOk result (Answers
+        (asks (record {
+          stock = book.old.fixed.stock;
+          suites = map (λ s. s.now) suites.now;
+          report = option_map (λ r. R.text r.now) reports.entry;
+        }) book.old.history request.now) book.old book.new (string_bytes out.old)
+        (string_bytes out.new)) }
 {
     match request {
         Request::Undo(n) => undo(book, board, *n, out),
@@ -53,7 +59,10 @@ fn type_in(
 ) -> Result<bool, AllocError>
     requires board { board.now.table ≡ book.old.fixed.table }
     requires alone { book.old.fixed.builders ≡ 0 }
-    ensures { IfOk result (Answers (types book.old.fixed.stock book.old.history (command_at book.old.fixed.stock.table (map (λ s. s.now) suites.now) line.now)) book.old book.new (string_bytes out.old) (string_bytes out.new)) }
+    ensures { IfOk result (Answers
+        (types book.old.fixed.stock book.old.history
+        (command_at book.old.fixed.stock.table (map (λ s. s.now) suites.now) line.now)) book.old
+        book.new (string_bytes out.old) (string_bytes out.new)) }
 {
     match read_command(alloc, line, book.supply().archs(), suites) {
         Ok(typed) => command(book, board, &typed, out),
@@ -78,7 +87,13 @@ pub fn answer<R: Reports>(
     requires board { board.now.table ≡ book.old.fixed.table }
     requires alone { book.old.fixed.builders ≡ 0 }
     requires fits { IfSome reports (λ r. R.fits r.now book.old.history.opening book.old.fixed) }
-    ensures { IfOk result (Answers (answer_to (record { stock = book.old.fixed.stock; suites = map (λ s. s.now) suites.now; report = option_map (λ r. R.text r.now) reports.entry }) book.old.history line.now) book.old book.new (string_bytes out.old) (string_bytes out.new)) }
+    ensures { IfOk result (Answers
+        (answer_to (record {
+          stock = book.old.fixed.stock;
+          suites = map (λ s. s.now) suites.now;
+          report = option_map (λ r. R.text r.now) reports.entry;
+        }) book.old.history line.now) book.old book.new (string_bytes out.old)
+        (string_bytes out.new)) }
 {
     match read_line(alloc, line)? {
         Said::Skipped => Ok(false),

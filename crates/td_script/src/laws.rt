@@ -2,7 +2,8 @@
 ghost use Rattle.td_script.specs.Cutting.{CutScriptsTellTheSame};
 
 /// A script that is cut in two behind a line tells what the whole one does, where the second part
-/// goes on with a text of the journal that the first one leaves, and no row was left with a builder.
+/// goes on with a text of the journal that the first one leaves, and no row was left with a
+/// builder.
 pub fn cut_scripts_tell_the_same()
     ensures { CutScriptsTellTheSame }
 {}

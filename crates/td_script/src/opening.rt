@@ -1,5 +1,6 @@
 //! What is told of a script over the texts of files.
-ghost use Rattle.std.specs.Prelude.{◌≡◌, ◌<◌, ◌^◌, ◌-◌, ◌∷◌, [], None, Some, IfOk, IfErr, IfSome, MatchResult, length, option_map, string_bytes};
+ghost use Rattle.std.specs.Prelude.{◌≡◌, ◌<◌, ◌^◌, ◌-◌, ◌∷◌, [], None, Some, IfOk, IfErr, IfSome};
+ghost use Rattle.std.specs.Prelude.{MatchResult, length, option_map, string_bytes};
 ghost use Rattle.td_text.specs.Lines.{lines_of};
 ghost use Rattle.td_relation.specs.TableFile.{IsTable};
 ghost use Rattle.td_relation.specs.TableView.{table};
@@ -8,10 +9,14 @@ ghost use Rattle.td_indices.specs.Supplying.{supply_of};
 ghost use Rattle.td_report.specs.TransitionView.{IsMade};
 ghost use Rattle.td_script.specs.Asking.{CanBeAsked, TellsBy};
 ghost use Rattle.td_script.specs.Reporting.{report_by};
-ghost use Rattle.td_script.specs.Openings.{AreReadable, AreRowsOf, IsArchiveOf, IsJournalIfGiven, IsReadableOver, texts_of};
+ghost use Rattle.td_script.specs.Openings.{AreReadable, AreRowsOf, IsArchiveOf, IsJournalIfGiven};
+ghost use Rattle.td_script.specs.Openings.{IsReadableOver, texts_of};
 ghost use Rattle.td_query.specs.Tracking.{IsTracker, Tracking, tracking};
 ghost use Rattle.td_rows.specs.Table.{Table};
-ghost use Rattle.td_script.specs.OpeningInside.{AreReadableWith, CanReplace, Stops, IsRefusedBy, IsRefusedIn, IsReplacedIn, IsToldFrom, IsTrackerOf, IsUntold, Tells, of_archive, of_journal, of_state, of_table, of_tracker};
+ghost use Rattle.td_script.specs.OpeningInside.{AreReadableWith, CanReplace, Stops, IsRefusedBy};
+ghost use Rattle.td_script.specs.OpeningInside.{IsRefusedIn, IsReplacedIn, IsToldFrom, IsTrackerOf};
+ghost use Rattle.td_script.specs.OpeningInside.{IsUntold, Tells, of_archive, of_journal, of_state};
+ghost use Rattle.td_script.specs.OpeningInside.{of_table, of_tracker};
 
 use crate::input_fault::InputFault;
 use crate::inputs::Inputs;
@@ -100,7 +105,9 @@ fn rows_of(alloc: Global, archive: &Archive<'_, '_>, inputs: &Inputs) -> Result<
     ensures rows { IfOk result (AreRowsOf archive.now (texts_of inputs.now).state) }
     ensures idle { IfOk result NoneBuilt }
     ensures refused { IfErr result (IsRefusedBy (texts_of inputs.now)) }
-    ensures only { IfErr result (λ fault. (t : Table) → AreRowsOf archive.now (texts_of inputs.now).state t → fault ≡ RunFault.NoMemory) }
+    ensures only { IfErr result (λ fault.
+        (t : Table) → AreRowsOf archive.now (texts_of inputs.now).state t
+        → fault ≡ RunFault.NoMemory) }
 {
     let Ok(rows) = archive.opening_rows() else {
         return Err(RunFault::NoMemory);
@@ -140,9 +147,16 @@ fn tell_from<S: Staff, F: Fn(Asked) -> Result<Told, ReadError>>(
     requires idle { NoneBuilt rows }
     requires made { IfSome reports (λ r. IsMade r.now) }
     requires small { length script.now < 2 ^ 63 - 1 }
-    ensures told { IfOk result (IsToldFrom (S.tells staff.now) (record { stock = supply_of archive.now; suites = (texts_of inputs.now).suite ∷ []; report = option_map (λ r. report_by r.now) reports.entry }) (texts_of inputs.now).journal rows script.now) }
+    ensures told { IfOk result
+        (IsToldFrom (S.tells staff.now)
+        (record {
+          stock = supply_of archive.now;
+          suites = (texts_of inputs.now).suite ∷ [];
+          report = option_map (λ r. report_by r.now) reports.entry;
+        }) (texts_of inputs.now).journal rows script.now) }
     ensures refused { IfErr result (IsUntold rows (texts_of inputs.now).journal) }
-    ensures only { IfErr result (λ fault. IsJournalIfGiven rows (texts_of inputs.now).journal → fault ≡ RunFault.NoMemory) }
+    ensures only { IfErr result (λ fault.
+        IsJournalIfGiven rows (texts_of inputs.now).journal → fault ≡ RunFault.NoMemory) }
 {
     let asked = Asked {
         alloc,
@@ -177,8 +191,10 @@ fn tell_tracked<S: Staff, F: Fn(Asked) -> Result<Told, ReadError>>(
     requires tracker { IsTrackerOf (texts_of inputs.now) (tracking tracker.now) }
     requires idle { NoneBuilt rows }
     requires small { length script.now < 2 ^ 63 - 1 }
-    ensures tells { MatchResult result (Tells (S.tells staff.now) (texts_of inputs.now) script.now) (IsRefusedBy (texts_of inputs.now)) }
-    ensures only { IfErr result (λ fault. IsJournalIfGiven rows (texts_of inputs.now).journal → fault ≡ RunFault.NoMemory) }
+    ensures tells { MatchResult result (Tells (S.tells staff.now) (texts_of inputs.now) script.now)
+        (IsRefusedBy (texts_of inputs.now)) }
+    ensures only { IfErr result (λ fault.
+        IsJournalIfGiven rows (texts_of inputs.now).journal → fault ≡ RunFault.NoMemory) }
 {
     match Transition::of(alloc, archive, tracker) {
         Ok(transition) => tell_from(
@@ -213,8 +229,11 @@ fn tell_with_tracker<S: Staff, F: Fn(Asked) -> Result<Told, ReadError>>(
     requires tracker { (texts_of inputs.now).tracker ≡ Some text.now }
     requires idle { NoneBuilt rows }
     requires small { length script.now < 2 ^ 63 - 1 }
-    ensures tells { MatchResult result (Tells (S.tells staff.now) (texts_of inputs.now) script.now) (IsRefusedBy (texts_of inputs.now)) }
-    ensures only { IfErr result (λ fault. (t : Tracking) → IsTracker text.now t → IsJournalIfGiven rows (texts_of inputs.now).journal → Stops (texts_of inputs.now) fault) }
+    ensures tells { MatchResult result (Tells (S.tells staff.now) (texts_of inputs.now) script.now)
+        (IsRefusedBy (texts_of inputs.now)) }
+    ensures only { IfErr result (λ fault.
+        (t : Tracking) → IsTracker text.now t → IsJournalIfGiven rows (texts_of inputs.now).journal
+        → Stops (texts_of inputs.now) fault) }
 {
     match Tracker::read(alloc, text) {
         Ok(tracker) => tell_tracked(alloc, staff, tell, archive, &tracker, rows, inputs, script),
@@ -239,8 +258,10 @@ fn tell_untracked<S: Staff, F: Fn(Asked) -> Result<Told, ReadError>>(
     requires tracker { (texts_of inputs.now).tracker ≡ None }
     requires idle { NoneBuilt rows }
     requires small { length script.now < 2 ^ 63 - 1 }
-    ensures tells { MatchResult result (Tells (S.tells staff.now) (texts_of inputs.now) script.now) (IsRefusedBy (texts_of inputs.now)) }
-    ensures only { IfErr result (λ fault. IsJournalIfGiven rows (texts_of inputs.now).journal → fault ≡ RunFault.NoMemory) }
+    ensures tells { MatchResult result (Tells (S.tells staff.now) (texts_of inputs.now) script.now)
+        (IsRefusedBy (texts_of inputs.now)) }
+    ensures only { IfErr result (λ fault.
+        IsJournalIfGiven rows (texts_of inputs.now).journal → fault ≡ RunFault.NoMemory) }
 {
     tell_from(alloc, staff, tell, archive, rows, inputs, None, script)
 }
@@ -258,8 +279,10 @@ fn tell_over_archive<S: Staff, F: Fn(Asked) -> Result<Told, ReadError>>(
     requires tells { TellsBy (S.tells staff.now) (F.post tell.now) }
     requires archive { IsArchiveOf (texts_of inputs.now) archive.now }
     requires small { length script.now < 2 ^ 63 - 1 }
-    ensures tells { MatchResult result (Tells (S.tells staff.now) (texts_of inputs.now) script.now) (IsRefusedBy (texts_of inputs.now)) }
-    ensures only { IfErr result (λ fault. IsReadableOver archive.now (texts_of inputs.now) → Stops (texts_of inputs.now) fault) }
+    ensures tells { MatchResult result (Tells (S.tells staff.now) (texts_of inputs.now) script.now)
+        (IsRefusedBy (texts_of inputs.now)) }
+    ensures only { IfErr result (λ fault.
+        IsReadableOver archive.now (texts_of inputs.now) → Stops (texts_of inputs.now) fault) }
 {
     let rows = match rows_of(alloc, archive, inputs) {
         Ok(rows) => rows,
@@ -293,8 +316,11 @@ fn tell_over_table<S: Staff, F: Fn(Asked) -> Result<Told, ReadError>>(
     requires tells { TellsBy (S.tells staff.now) (F.post tell.now) }
     requires table { IsTable (lines_of (texts_of inputs.now).archs) (table archs.now) }
     requires small { length script.now < 2 ^ 63 - 1 }
-    ensures tells { MatchResult result (Tells (S.tells staff.now) (texts_of inputs.now) script.now) (IsRefusedBy (texts_of inputs.now)) }
-    ensures only { IfErr result (λ fault. AreReadableWith (table archs.now) (texts_of inputs.now) → Stops (texts_of inputs.now) fault) }
+    ensures tells { MatchResult result (Tells (S.tells staff.now) (texts_of inputs.now) script.now)
+        (IsRefusedBy (texts_of inputs.now)) }
+    ensures only { IfErr result (λ fault.
+        AreReadableWith (table archs.now) (texts_of inputs.now)
+        → Stops (texts_of inputs.now) fault) }
 {
     let packages = inputs.packages.as_str();
     let sources = inputs.sources.as_str();
@@ -315,8 +341,10 @@ pub fn tell_over<S: Staff, F: Fn(Asked) -> Result<Told, ReadError>>(
     requires asked { CanBeAsked (F.pre tell.now) }
     requires tells { TellsBy (S.tells staff.now) (F.post tell.now) }
     requires small { length script.now < 2 ^ 63 - 1 }
-    ensures tells { MatchResult result (Tells (S.tells staff.now) (texts_of inputs.now) script.now) (IsRefusedBy (texts_of inputs.now)) }
-    ensures only { IfErr result (λ fault. AreReadable (texts_of inputs.now) → Stops (texts_of inputs.now) fault) }
+    ensures tells { MatchResult result (Tells (S.tells staff.now) (texts_of inputs.now) script.now)
+        (IsRefusedBy (texts_of inputs.now)) }
+    ensures only { IfErr result (λ fault.
+        AreReadable (texts_of inputs.now) → Stops (texts_of inputs.now) fault) }
 {
     match Archs::read(alloc, inputs.archs.as_str()) {
         Ok(archs) => tell_over_table(alloc, staff, tell, &archs, inputs, script),

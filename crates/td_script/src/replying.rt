@@ -38,7 +38,8 @@ pub fn put_arrival(
     journal: &Journal,
     answer: Result<EntryNo, ArriveRefusal>,
 ) -> Result<bool, AllocError>
-    ensures { IfOk result (IsArrivalPut journal.now.entries answer (string_bytes out.old) (string_bytes out.new)) }
+    ensures { IfOk result
+        (IsArrivalPut journal.now.entries answer (string_bytes out.old) (string_bytes out.new)) }
 {
     match answer {
         Ok(n) => {
@@ -63,7 +64,8 @@ pub fn put_sweep(
     journal: &Journal,
     swept: Option<EntryNo>,
 ) -> Result<bool, AllocError>
-    ensures { IfOk result (IsSweepPut journal.now.entries swept (string_bytes out.old) (string_bytes out.new)) }
+    ensures { IfOk result
+        (IsSweepPut journal.now.entries swept (string_bytes out.old) (string_bytes out.new)) }
 {
     match swept {
         Some(n) => put_made(out, journal, n)?,
@@ -78,7 +80,8 @@ pub fn put_command(
     journal: &Journal,
     answer: Result<Taken, CommandRefusal>,
 ) -> Result<bool, AllocError>
-    ensures { IfOk result (IsCommandPut journal.now.entries answer (string_bytes out.old) (string_bytes out.new)) }
+    ensures { IfOk result
+        (IsCommandPut journal.now.entries answer (string_bytes out.old) (string_bytes out.new)) }
 {
     match answer {
         Ok(taken) => {

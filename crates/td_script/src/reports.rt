@@ -21,7 +21,8 @@ pub trait Reports {
 
     fn report(&self, alloc: Global, book: &Book<'_>) -> Result<String, AllocError>
         requires { fits self.now book.now.history.opening book.now.fixed }
-        ensures { IfOk result (λ report. string_bytes report ≡ text self.now (rows_of book.now.history)) };
+        ensures { IfOk result (λ report.
+            string_bytes report ≡ text self.now (rows_of book.now.history)) };
 }
 
 /// Reports that are made anew of all rows each time.

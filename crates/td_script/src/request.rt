@@ -1,6 +1,7 @@
 //! The lines of a script that are no commands.
 ghost use Rattle.std.specs.Prelude.{◌≡◌, option_map, IfOk};
-ghost use Rattle.td_script.specs.Reading.{verb_at, spaced_key_at, by_verb, request_at, RequestsAreExact};
+ghost use Rattle.td_script.specs.Reading.{verb_at, spaced_key_at, by_verb, request_at};
+ghost use Rattle.td_script.specs.Reading.{RequestsAreExact};
 
 use std::alloc::{AllocError, Global};
 use td_journal::EntryNo;
@@ -58,7 +59,8 @@ fn read_verb(word: &str) -> Option<Verb>
 // A source and an architecture with a space between them.
 #[tactic(auto, unfolding(crate::specs::Reading::spaced_key_at))]
 fn read_spaced(text: &str) -> Option<(&str, &str)>
-    ensures { option_map (λ p. record { source = p.0.now; arch = p.1.now }) result ≡ spaced_key_at text.now }
+    ensures { option_map (λ p. record { source = p.0.now; arch = p.1.now }) result
+        ≡ spaced_key_at text.now }
 {
     let (source, arch) = cut_at(text, ' ')?;
     if is_name(source) && is_arch(arch) {

@@ -56,8 +56,10 @@ fn fault_of_text(fault: TextFault) -> RunFault
 
 /// Judges the texts of the files, as before each script.
 pub fn judge(alloc: Global, inputs: &Inputs) -> Result<(), RunFault>
-    ensures fine { MatchResult result (λ _. AreFine (texts_of inputs.now)) (IsRefusedBy (texts_of inputs.now)) }
-    ensures only { IfErr result (λ fault. AreReadable (texts_of inputs.now) → Stops (texts_of inputs.now) fault) }
+    ensures fine { MatchResult result (λ _. AreFine (texts_of inputs.now))
+        (IsRefusedBy (texts_of inputs.now)) }
+    ensures only { IfErr result (λ fault.
+        AreReadable (texts_of inputs.now) → Stops (texts_of inputs.now) fault) }
 {
     match tell_over(alloc, &Alone, &tell_alone, inputs, "") {
         Ok(_) => Ok(()),
@@ -76,10 +78,17 @@ fn tell_read<S: Staff, F: Fn(Asked) -> Result<Told, ReadError>>(
     requires asked { CanBeAsked (F.pre tell.now) }
     requires tells { TellsBy (S.tells staff.now) (F.post tell.now) }
     requires within { ForOk read (λ text. length (string_bytes text) ≤ SCRIPT_LIMIT) }
-    ensures read { IfOk read (λ text. MatchResult result (Tells (S.tells staff.now) (texts_of inputs.now) (string_bytes text)) (IsRefusedBy (texts_of inputs.now))) }
-    ensures only { IfOk read (λ _. IfErr result (λ fault. AreReadable (texts_of inputs.now) → Stops (texts_of inputs.now) fault)) }
+    ensures read { IfOk read (λ text.
+        MatchResult result (Tells (S.tells staff.now) (texts_of inputs.now) (string_bytes text))
+        (IsRefusedBy (texts_of inputs.now))) }
+    ensures only { IfOk read (λ _.
+        IfErr result (λ fault.
+        AreReadable (texts_of inputs.now) → Stops (texts_of inputs.now) fault)) }
     ensures unread { IfErr read (λ fault. IsUnread (texts_of inputs.now) fault result) }
-    ensures unread_only { IfErr read (λ why. IfErr result (λ fault. AreReadable (texts_of inputs.now) → Stops (texts_of inputs.now) fault ⊎ (fault ≡ of_reading why))) }
+    ensures unread_only { IfErr read (λ why.
+        IfErr result (λ fault.
+        AreReadable (texts_of inputs.now)
+        → Stops (texts_of inputs.now) fault ⊎ (fault ≡ of_reading why))) }
 {
     match read {
         Ok(text) => tell_over(alloc, staff, tell, inputs, text.as_str()),
@@ -102,7 +111,8 @@ pub fn run_with<S: Staff, F: Fn(Asked) -> Result<Told, ReadError>, R: Read, W: W
 ) -> Result<ScriptEnd, RunFault>
     requires asked { CanBeAsked (F.pre tell.now) }
     requires tells { TellsBy (S.tells staff.now) (F.post tell.now) }
-    ensures says { SaysBy (S.tells staff.now) (texts_of inputs.now) (R.remaining reader.old) (W.contents writer.old) (W.contents writer.new) result }
+    ensures says { SaysBy (S.tells staff.now) (texts_of inputs.now) (R.remaining reader.old)
+        (W.contents writer.old) (W.contents writer.new) result }
     ensures only { Only (texts_of inputs.now) (R.remaining reader.old) result }
 {
     let read = read_text(alloc, reader, SCRIPT_LIMIT);
@@ -122,7 +132,8 @@ pub fn run_script<R: Read, W: Write>(
     reader: &mut R,
     writer: &mut W,
 ) -> Result<ScriptEnd, RunFault>
-    ensures says { Says (texts_of inputs.now) (R.remaining reader.old) (W.contents writer.old) (W.contents writer.new) result }
+    ensures says { Says (texts_of inputs.now) (R.remaining reader.old) (W.contents writer.old)
+        (W.contents writer.new) result }
     ensures only { Only (texts_of inputs.now) (R.remaining reader.old) result }
 {
     run_with(alloc, &Alone, &tell_alone, inputs, reader, writer)

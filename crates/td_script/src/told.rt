@@ -1,5 +1,6 @@
 //! What is told of a script: the answers to its lines, one after the other.
-ghost use Rattle.std.specs.Prelude.{◌≡◌, ◌<◌, ◌^◌, ◌-◌, IfOk, IfSome, OnOk, map, option_map, length};
+ghost use Rattle.std.specs.Prelude.{◌≡◌, ◌<◌, ◌^◌, ◌-◌, IfOk, IfSome, OnOk, map, option_map};
+ghost use Rattle.std.specs.Prelude.{length};
 ghost use Rattle.td_script.specs.Script.{IsAdded, IsTold};
 
 use crate::dispatch::answer;
@@ -31,7 +32,12 @@ fn add_line<R: Reports>(
     requires alone { book.old.fixed.builders ≡ 0 }
     requires fits { IfSome reports (λ r. R.fits r.now book.old.history.opening book.old.fixed) }
     requires room { told.old.refused < 2 ^ 63 }
-    ensures { OnOk result (IsAdded (record { stock = book.old.fixed.stock; suites = map (λ s. s.now) suites.now; report = option_map (λ r. R.text r.now) reports.entry }) line.now book.old book.new told.old told.new) }
+    ensures { OnOk result (IsAdded
+        (record {
+          stock = book.old.fixed.stock;
+          suites = map (λ s. s.now) suites.now;
+          report = option_map (λ r. R.text r.now) reports.entry;
+        }) line.now book.old book.new told.old told.new) }
 {
     if answer(alloc, book, board, suites, reports, line, &mut told.text)? {
         told.refused += 1;
@@ -52,7 +58,12 @@ pub fn tell<R: Reports>(
     requires alone { book.old.fixed.builders ≡ 0 }
     requires fits { IfSome reports (λ r. R.fits r.now book.old.history.opening book.old.fixed) }
     requires small { length script.now < 2 ^ 63 - 1 }
-    ensures { IfOk result (IsTold (record { stock = book.old.fixed.stock; suites = map (λ s. s.now) suites.now; report = option_map (λ r. R.text r.now) reports.entry }) script.now book.old book.new) }
+    ensures { IfOk result (IsTold
+        (record {
+          stock = book.old.fixed.stock;
+          suites = map (λ s. s.now) suites.now;
+          report = option_map (λ r. R.text r.now) reports.entry;
+        }) script.now book.old book.new) }
 {
     let mut told = Told {
         text: String::new(alloc),

@@ -1,5 +1,6 @@
 //! Reports by the counts of a book that watches the groups of a transition.
-ghost use Rattle.std.specs.Prelude.{◌≡◌, ◌<◌, ◌^◌, ◌-◌, ℕ, Some, IfOk, IfSome, OnOk, length, map, option_map, slice_get, string_bytes};
+ghost use Rattle.std.specs.Prelude.{◌≡◌, ◌<◌, ◌^◌, ◌-◌, ℕ, Some, IfOk, IfSome, OnOk, length, map};
+ghost use Rattle.std.specs.Prelude.{option_map, slice_get, string_bytes};
 ghost use Rattle.td_core.specs.History.{rows_of};
 ghost use Rattle.td_book.specs.Watching.{installed_in};
 ghost use Rattle.td_book.specs.WatchCalls.{with_watch};
@@ -36,7 +37,9 @@ impl Reports for Watched<'_, '_, '_, '_, '_> {
 
 // How many rows of each group that a book watches are Installed.
 fn counts_of(alloc: Global, book: &Book<'_>) -> Result<Vec<usize>, AllocError>
-    ensures { IfOk result (λ counts. (group : ℕ) → slice_get counts.items group ≡ installed_in book.now.fixed.watch (rows_of book.now.history) group) }
+    ensures { IfOk result (λ counts.
+        (group : ℕ) → slice_get counts.items group
+        ≡ installed_in book.now.fixed.watch (rows_of book.now.history) group) }
 {
     let mut counts = Vec::new(alloc);
     while let Some(count) = book.installed(counts.len()) {
@@ -52,7 +55,8 @@ fn watch(
     transition: &Transition<'_, '_, '_, '_>,
 ) -> Result<(), AllocError>
     requires { IsMade transition.now }
-    ensures { OnOk result (book.new ≡ with_watch book.old (watch_by transition.now book.old.history.opening)) }
+    ensures { OnOk result
+        (book.new ≡ with_watch book.old (watch_by transition.now book.old.history.opening)) }
 {
     let groups = transition.groups(alloc, book.rows())?;
     match book.watch(groups.count, &groups.rows) {
@@ -74,7 +78,12 @@ fn tell_counted(
     requires alone { book.old.fixed.builders ≡ 0 }
     requires watches { Watches reports.now.transition.now book.old.history.opening book.old.fixed }
     requires small { length script.now < 2 ^ 63 - 1 }
-    ensures { IfOk result (IsTold (record { stock = book.old.fixed.stock; suites = map (λ s. s.now) suites.now; report = Some (report_by reports.now.transition.now) }) script.now book.old book.new) }
+    ensures { IfOk result (IsTold
+        (record {
+          stock = book.old.fixed.stock;
+          suites = map (λ s. s.now) suites.now;
+          report = Some (report_by reports.now.transition.now);
+        }) script.now book.old book.new) }
 {
     tell(alloc, book, board, suites, Some(reports), script)
 }
@@ -93,7 +102,12 @@ pub fn tell_watched(
     requires alone { book.old.fixed.builders ≡ 0 }
     requires made { IfSome transition (λ x. IsMade x.now) }
     requires small { length script.now < 2 ^ 63 - 1 }
-    ensures { IfOk result (λ told. IsAnswered (record { stock = book.old.fixed.stock; suites = map (λ s. s.now) suites.now; report = option_map (λ x. report_by x.now) transition.entry }) book.old.history script.now (string_bytes told.text) told.refused) }
+    ensures { IfOk result (λ told.
+        IsAnswered (record {
+          stock = book.old.fixed.stock;
+          suites = map (λ s. s.now) suites.now;
+          report = option_map (λ x. report_by x.now) transition.entry;
+        }) book.old.history script.now (string_bytes told.text) told.refused) }
 {
     match transition {
         Some(transition) => {

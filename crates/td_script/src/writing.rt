@@ -7,7 +7,8 @@ ghost use Rattle.td_rows.specs.StateWord.{state_word};
 ghost use Rattle.td_journal.specs.declared.entry.Marked.{Marked as MarkedValue};
 ghost use Rattle.td_journal.specs.Entries.{entry_at};
 ghost use Rattle.td_journal.specs.JournalText.{entry_line};
-ghost use Rattle.td_script.specs.Replies.{ended, entry_made, reason_word, refusal_line, skip_line, undo_name};
+ghost use Rattle.td_script.specs.Replies.{ended, entry_made, reason_word, refusal_line, skip_line};
+ghost use Rattle.td_script.specs.Replies.{undo_name};
 
 use std::alloc::AllocError;
 use td_book::{Skip, SkipReason, UndoRefusal};
@@ -25,14 +26,16 @@ pub fn put_refusal(out: &mut String, name: &str) -> Result<(), AllocError>
 }
 
 fn put_block(out: &mut String, n: EntryNo) -> Result<(), AllocError>
-    ensures { OnOk result (string_bytes out.new ≡ string_bytes out.old ++ undo_name (UndoRefusal.Blocked n)) }
+    ensures { OnOk result
+        (string_bytes out.new ≡ string_bytes out.old ++ undo_name (UndoRefusal.Blocked n)) }
 {
     out.push_str("Blocked ")?;
     put_number(out, n)
 }
 
 fn put_blocked(out: &mut String, n: EntryNo) -> Result<(), AllocError>
-    ensures { OnOk result (string_bytes out.new ≡ string_bytes out.old ++ refusal_line (undo_name (UndoRefusal.Blocked n))) }
+    ensures { OnOk result (string_bytes out.new
+        ≡ string_bytes out.old ++ refusal_line (undo_name (UndoRefusal.Blocked n))) }
 {
     out.push_str("refused: ")?;
     put_block(out, n)?;
@@ -41,7 +44,8 @@ fn put_blocked(out: &mut String, n: EntryNo) -> Result<(), AllocError>
 
 /// Appends the line of an undo that is refused.
 pub fn put_undo_refusal(out: &mut String, refusal: UndoRefusal) -> Result<(), AllocError>
-    ensures { OnOk result (string_bytes out.new ≡ string_bytes out.old ++ refusal_line (undo_name refusal)) }
+    ensures { OnOk result
+        (string_bytes out.new ≡ string_bytes out.old ++ refusal_line (undo_name refusal)) }
 {
     match refusal {
         UndoRefusal::NoSuchEntry => put_refusal(out, "NoSuchEntry"),
@@ -54,7 +58,8 @@ pub fn put_undo_refusal(out: &mut String, refusal: UndoRefusal) -> Result<(), Al
 
 /// Appends the line of an entry that is undone.
 pub fn put_undone(out: &mut String, n: EntryNo) -> Result<(), AllocError>
-    ensures { OnOk result (string_bytes out.new ≡ string_bytes out.old ++ ended (codes "undone " ++ decimal n)) }
+    ensures { OnOk result
+        (string_bytes out.new ≡ string_bytes out.old ++ ended (codes "undone " ++ decimal n)) }
 {
     out.push_str("undone ")?;
     put_number(out, n)?;
@@ -62,7 +67,8 @@ pub fn put_undone(out: &mut String, n: EntryNo) -> Result<(), AllocError>
 }
 
 fn put_named_state(out: &mut String, name: &str, state: State) -> Result<(), AllocError>
-    ensures { OnOk result (string_bytes out.new ≡ string_bytes out.old ++ (name.now ++ state_word state)) }
+    ensures { OnOk result
+        (string_bytes out.new ≡ string_bytes out.old ++ (name.now ++ state_word state)) }
 {
     out.push_str(name)?;
     put_state_word(out, state)
@@ -70,7 +76,8 @@ fn put_named_state(out: &mut String, name: &str, state: State) -> Result<(), All
 
 /// Appends the line of a refusal that names a state.
 pub fn put_state_refusal(out: &mut String, name: &str, state: State) -> Result<(), AllocError>
-    ensures { OnOk result (string_bytes out.new ≡ string_bytes out.old ++ refusal_line (name.now ++ state_word state)) }
+    ensures { OnOk result (string_bytes out.new
+        ≡ string_bytes out.old ++ refusal_line (name.now ++ state_word state)) }
 {
     out.push_str("refused: ")?;
     put_named_state(out, name, state)?;
@@ -89,7 +96,8 @@ fn put_taken(out: &mut String, n: EntryNo, keys: &[Key]) -> Result<(), AllocErro
 
 /// Appends the line of an entry that was made.
 pub fn put_made(out: &mut String, journal: &Journal, n: EntryNo) -> Result<(), AllocError>
-    ensures { (m : MarkedValue) → entry_at journal.now.entries n ≡ Some m → OnOk result (string_bytes out.new ≡ string_bytes out.old ++ entry_made n m.entry.keys) }
+    ensures { (m : MarkedValue) → entry_at journal.now.entries n ≡ Some m
+        → OnOk result (string_bytes out.new ≡ string_bytes out.old ++ entry_made n m.entry.keys) }
 {
     let Some(marked) = journal.entry(n) else {
         return Ok(());
@@ -99,7 +107,8 @@ pub fn put_made(out: &mut String, journal: &Journal, n: EntryNo) -> Result<(), A
 
 /// Appends the line of a row.
 pub fn put_row(out: &mut String, key: &Key, row: &Row) -> Result<(), AllocError>
-    ensures { OnOk result (string_bytes out.new ≡ string_bytes out.old ++ ended (row_line (key.now, row.now))) }
+    ensures { OnOk result
+        (string_bytes out.new ≡ string_bytes out.old ++ ended (row_line (key.now, row.now))) }
 {
     put_row_line(out, key, row)?;
     out.push_str("\n")
@@ -107,7 +116,8 @@ pub fn put_row(out: &mut String, key: &Key, row: &Row) -> Result<(), AllocError>
 
 /// Appends the journal's line of an entry.
 pub fn put_entry(out: &mut String, n: EntryNo, marked: &Marked) -> Result<(), AllocError>
-    ensures { OnOk result (string_bytes out.new ≡ string_bytes out.old ++ ended (entry_line n marked.now)) }
+    ensures { OnOk result
+        (string_bytes out.new ≡ string_bytes out.old ++ ended (entry_line n marked.now)) }
 {
     put_entry_line(out, n, marked)?;
     out.push_str("\n")
@@ -134,7 +144,8 @@ fn put_skip(out: &mut String, skip: &Skip) -> Result<(), AllocError>
 
 /// Appends the lines of the rows that a command names and doesn't take.
 pub fn put_skips(out: &mut String, skips: &[Skip]) -> Result<(), AllocError>
-    ensures { OnOk result (string_bytes out.new ≡ string_bytes out.old ++ flat_map skip_line skips.now) }
+    ensures { OnOk result
+        (string_bytes out.new ≡ string_bytes out.old ++ flat_map skip_line skips.now) }
 {
     for skip in skips {
         put_skip(out, skip)?;

@@ -30,16 +30,21 @@ simulation text opening rest t ss is_opening is_rest file steps = record {
 -- a fault of the opening rows
 pub opening_fault : (text opening : List ℕ) (e : StateFault) → opening
     ≡ opening_text (lines_of text) → StateFaultOf (lines_of opening) e → FaultOf text (of_opening e)
-opening_fault text opening (state.BadLine n) is h = subst (λ (o : List ℕ). StateFaultOf (lines_of o) (state.BadLine n)) is h
-opening_fault text opening (state.Twice n) is h = subst (λ (o : List ℕ). StateFaultOf (lines_of o) (state.Twice n)) is h
-opening_fault text opening (state.NotOpening n) is h = subst (λ (o : List ℕ). StateFaultOf (lines_of o) (state.NotOpening n)) is h
-opening_fault text opening state.TooManyRows is h = subst (λ (o : List ℕ). StateFaultOf (lines_of o) state.TooManyRows) is h
+opening_fault text opening (state.BadLine n) is h =
+    subst (λ (o : List ℕ). StateFaultOf (lines_of o) (state.BadLine n)) is h
+opening_fault text opening (state.Twice n) is h =
+    subst (λ (o : List ℕ). StateFaultOf (lines_of o) (state.Twice n)) is h
+opening_fault text opening (state.NotOpening n) is h =
+    subst (λ (o : List ℕ). StateFaultOf (lines_of o) (state.NotOpening n)) is h
+opening_fault text opening state.TooManyRows is h =
+    subst (λ (o : List ℕ). StateFaultOf (lines_of o) state.TooManyRows) is h
 opening_fault text opening state.NoMemory is h = tt
 
 -- the opening rows of a simulation
 pub its_opening : (text opening : List ℕ) (t : Table) (ss : List Step) → opening
     ≡ opening_text (lines_of text) → IsSimulation text t ss → IsStateFile (lines_of opening) t
-its_opening text opening t ss is h = subst (λ (o : List ℕ). IsStateFile (lines_of o) t) (sym is) h.opening
+its_opening text opening t ss is h =
+    subst (λ (o : List ℕ). IsStateFile (lines_of o) t) (sym is) h.opening
 
 -- its steps
 pub its_steps : (text rest : List ℕ) (t : Table) (ss : List Step) → ended (lines_of rest)
@@ -67,7 +72,9 @@ steps_fault text opening rest t first (Opening e) is_opening is_rest is_first fi
 steps_fault text opening rest t first (BadStep n) is_opening is_rest is_first file h = record {
   rows = t;
   opening = subst (λ (o : List ℕ). IsStateFile (lines_of o) t) is_opening file;
-  bad = subst (λ (m : ℕ). IsFirstBad m (lines_after (lines_of text)) n) (is_first (some_steps first n rest h)) (subst (λ (l : List (List ℕ)). IsFirstBad first l n) is_rest h);
+  bad = subst (λ (m : ℕ). IsFirstBad m (lines_after (lines_of text)) n)
+      (is_first (some_steps first n rest h))
+      (subst (λ (l : List (List ℕ)). IsFirstBad first l n) is_rest h);
 }
 steps_fault text opening rest t first NoMemory is_opening is_rest is_first file h = tt
 

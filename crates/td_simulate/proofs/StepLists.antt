@@ -37,16 +37,23 @@ AreRead-push lines ss more s line left after h is read pushed =
     let f = steps_exact.found line s read in
     record {
       parts = h.parts
-          ∙ ap (λ (l : List (List ℕ)). map step_line ss ++ l) (is ∙ ap (λ (t : List ℕ). t ∷ after) f.0)
+          ∙ ap (λ (l : List (List ℕ)). map step_line ss ++ l)
+          (is ∙ ap (λ (t : List ℕ). t ∷ after) f.0)
           ∙ sym (append_assoc (map step_line ss) (step_line s ∷ []) after)
-          ∙ ap (λ (l : List (List ℕ)). l ++ after) (sym (map-push ss s) ∙ ap (map step_line) (sym pushed));
+          ∙ ap (λ (l : List (List ℕ)). l ++ after)
+          (sym (map-push ss s) ∙ ap (map step_line) (sym pushed));
       fits = subst (AllByRecursion StepFits) (sym pushed) (all-push ss s h.fits f.1);
     }
 
 -- no line is left
 pub AreRead-all : (lines : List (List ℕ)) (ss : List Step) (left : List (List ℕ))
     → AreRead lines ss left → left ≡ [] → AreSteps lines ss
-AreRead-all lines ss left h none = record { spelled = h.parts ∙ ap (λ (l : List (List ℕ)). map step_line ss ++ l) none ∙ append-nil (map step_line ss); fits = h.fits }
+AreRead-all lines ss left h none =
+    record {
+      spelled = h.parts ∙ ap (λ (l : List (List ℕ)). map step_line ss ++ l) none
+          ∙ append-nil (map step_line ss);
+      fits = h.fits;
+    }
 
 -- a line that isn't read
 pub AreRead-bad : (first number : ℕ) (lines : List (List ℕ)) (ss : List Step) (line : List ℕ)
@@ -58,14 +65,17 @@ AreRead-bad first number lines ss line left after h is none counted = record {
   after = after;
   parts = h.parts ∙ ap (λ (l : List (List ℕ)). map step_line ss ++ l) is;
   fits = h.fits;
-  other = λ s fits same. (let bad : Some s ≡ None = sym (steps_exact.again s fits) ∙ ap step_at (sym same) ∙ none in absurd cc);
+  other = λ s fits same.
+      (let bad : Some s ≡ None = sym (steps_exact.again s fits) ∙ ap step_at (sym same) ∙ none in
+      absurd cc);
   counted = counted;
 }
 
 -- ---- lines are those of one list of steps
 
 line_of_one : (a b : Step) → StepFits a → StepFits b → step_line a ≡ step_line b → a ≡ b
-line_of_one a b ha hb is = some_is a b (sym (steps_exact.again a ha) ∙ ap step_at is ∙ steps_exact.again b hb)
+line_of_one a b ha hb is =
+    some_is a b (sym (steps_exact.again a ha) ∙ ap step_at is ∙ steps_exact.again b hb)
 
 lines_of_one : (a b : List Step) → AllByRecursion StepFits a → AllByRecursion StepFits b
     → map step_line a ≡ map step_line b → a ≡ b
@@ -88,10 +98,14 @@ no_other : (ss before : List Step) (line : List ℕ) (after : List (List ℕ))
     → ((s : Step) → StepFits s → line ≢ step_line s) → ⊥
 no_other [] [] line after h is other = cc
 no_other [] (x ∷ before) line after h is other = cc
-no_other (s ∷ ss) [] line after h is other = other s h.0 (let head : line ≡ step_line s = cc in head)
-no_other (s ∷ ss) (x ∷ before) line after h is other = no_other ss before line after h.1 (let tail : map step_line ss ≡ map step_line before ++ line ∷ after = cc in tail) other
+no_other (s ∷ ss) [] line after h is other =
+    other s h.0 (let head : line ≡ step_line s = cc in head)
+no_other (s ∷ ss) (x ∷ before) line after h is other =
+    no_other ss before line after h.1
+    (let tail : map step_line ss ≡ map step_line before ++ line ∷ after = cc in tail) other
 
 -- and none of them is bad
 pub AreSteps-bad : (first number : ℕ) (lines : List (List ℕ)) (ss : List Step) → AreSteps lines ss
     → IsFirstBad first lines number → ⊥
-AreSteps-bad first number lines ss h bad = no_other ss bad.before bad.line bad.after h.fits (sym h.spelled ∙ bad.parts) bad.other
+AreSteps-bad first number lines ss h bad =
+    no_other ss bad.before bad.line bad.after h.fits (sym h.spelled ∙ bad.parts) bad.other

@@ -91,7 +91,8 @@ number_step word rest make s line e =
     let a = chained (number_at (2 ^ 64 - 1) rest) (λ n. Some (make n)) s e in
     let f = (number_exact (2 ^ 64 - 1) (lit< tt)).found rest a.0 a.1 in
     subst (λ (y : Step). IsLineOf (word ++ 32 ∷ rest) y) (some_is (make a.0) s a.2)
-    (subst (λ (t : List ℕ). IsLineOf (word ++ 32 ∷ t) (make a.0)) (sym f.0) (line a.0 (let small = f.1 in omega arith)))
+    (subst (λ (t : List ℕ). IsLineOf (word ++ 32 ∷ t) (make a.0)) (sym f.0)
+    (line a.0 (let small = f.1 in omega arith)))
 
 -- ---- a builder's number before the rest
 
@@ -101,13 +102,19 @@ unfolding builder_at
 builder_found t p e =
     let a = chained (cut 32 t) (λ x. number_at (2 ^ 64 - 1) x.0 >>= λ b. Some (b, x.1)) p e in
     let n = chained (number_at (2 ^ 64 - 1) a.0.0) (λ b. Some (b, a.0.1)) p a.2 in
-    let w = word_found 32 (number_at (2 ^ 64 - 1)) decimal (λ k. k ≤ 2 ^ 64 - 1) (number_exact (2 ^ 64 - 1) (lit< tt)) t a.0 n.0 a.1 n.1 in
-    subst (λ (y : ℕ × List ℕ). (t ≡ decimal y.0 ++ 32 ∷ y.1) × (y.0 < 2 ^ 64)) (some_is (n.0, a.0.1) p n.2) (w.0, (let small = w.1 in omega arith))
+    let w = word_found 32 (number_at (2 ^ 64 - 1)) decimal (λ k. k ≤ 2 ^ 64 - 1)
+    (number_exact (2 ^ 64 - 1) (lit< tt)) t a.0 n.0 a.1 n.1 in
+    subst (λ (y : ℕ × List ℕ). (t ≡ decimal y.0 ++ 32 ∷ y.1) × (y.0 < 2 ^ 64))
+    (some_is (n.0, a.0.1) p n.2) (w.0, (let small = w.1 in omega arith))
 
 builder_again : (b : ℕ) (rest : List ℕ) → b < 2 ^ 64
     → builder_at (decimal b ++ 32 ∷ rest) ≡ Some (b, rest)
 unfolding builder_at
-builder_again b rest small = rw (cut-at 32 (decimal b) rest (Without-decimal 32 b (lit< tt) small), (number_exact (2 ^ 64 - 1) (lit< tt)).again b (omega arith)) refl
+builder_again b rest small =
+    rw (
+      cut-at 32 (decimal b) rest (Without-decimal 32 b (lit< tt) small),
+      (number_exact (2 ^ 64 - 1) (lit< tt)).again b (omega arith),
+    ) refl
 
 claim_found : (rest : List ℕ) (s : Step) → claim_at rest ≡ Some s
     → IsLineOf (codes "claim" ++ 32 ∷ rest) s
@@ -117,8 +124,12 @@ claim_found rest s e =
     let k = chained (key_at p.0.1) (λ k. Some (steps.Claim p.0.0 k)) s p.2 in
     let b = builder_found rest p.0 p.1 in
     let f = key_exact.found p.0.1 k.0 k.1 in
-    subst (λ (y : Step). IsLineOf (codes "claim" ++ 32 ∷ rest) y) (some_is (steps.Claim p.0.0 k.0) s k.2)
-    (ap (λ (t : List ℕ). codes "claim" ++ 32 ∷ t) (b.0 ∙ ap (λ (t : List ℕ). decimal p.0.0 ++ 32 ∷ t) f.0), (b.1, f.1))
+    subst (λ (y : Step). IsLineOf (codes "claim" ++ 32 ∷ rest) y)
+    (some_is (steps.Claim p.0.0 k.0) s k.2) (
+      ap (λ (t : List ℕ). codes "claim" ++ 32 ∷ t)
+          (b.0 ∙ ap (λ (t : List ℕ). decimal p.0.0 ++ 32 ∷ t) f.0),
+      (b.1, f.1),
+    )
 
 -- ---- how a build ended
 
@@ -154,7 +165,12 @@ plain_end : (b : ℕ) (o : Outcome) (e t : List ℕ) (q : Kind) (s : Step) → o
 plain_end b o e t q s bare h is =
     let w = when_some (eqb (length e) 0 && eqb (length t) 0) (Ended b o) q h in
     let made : Some (steps.Finish b o) ≡ Some s = ap end_of w.1 ∙ is in
-    record { outcome = o; step = sym (some_is (steps.Finish b o) s made); name = refl; texts = both_empty e t w.0 ∙ ap (λ (l : List ℕ). ([], l)) (sym bare) }
+    record {
+      outcome = o;
+      step = sym (some_is (steps.Finish b o) s made);
+      name = refl;
+      texts = both_empty e t w.0 ∙ ap (λ (l : List ℕ). ([], l)) (sym bare);
+    }
 
 end_found : (b : ℕ) (o : Outcome) (e t : List ℕ) (q : Kind) (s : Step)
     → told (Ended b o) e t ≡ Some q → end_of q ≡ Some s → IsEnd b o e t s
@@ -164,7 +180,12 @@ end_found b GivenBack e t q s h is = plain_end b GivenBack e t q s refl h is
 end_found b (Waits x) e t q s h is =
     let w = when_some (eqb (length e) 0) (Ended b (Waits t)) q h in
     let made : Some (steps.Finish b (Waits t)) ≡ Some s = ap end_of w.1 ∙ is in
-    record { outcome = Waits t; step = sym (some_is (steps.Finish b (Waits t)) s made); name = refl; texts = ap (λ (l : List ℕ). (l, t)) (no_text e w.0) }
+    record {
+      outcome = Waits t;
+      step = sym (some_is (steps.Finish b (Waits t)) s made);
+      name = refl;
+      texts = ap (λ (l : List ℕ). (l, t)) (no_text e w.0);
+    }
 
 finish_joined : (rest d more w ending name text : List ℕ) → rest ≡ d ++ 32 ∷ more
     → more ≡ w ++ ending → w ≡ name → ending ≡ text → rest ≡ d ++ 32 ∷ (name ++ text)
@@ -182,8 +203,11 @@ finish_found rest s e =
     let word = outcome_found (part 32 p.0.1).0 o.0 o.1 in
     let texts = notes_exact.found (part 32 p.0.1).1 n.0 n.1 in
     let end = end_found p.0.0 o.0 n.0.0 n.0.1 k.0 s k.1 k.2 in
-    let line = finish_joined rest (decimal p.0.0) p.0.1 (part 32 p.0.1).0 (part 32 p.0.1).1 (outcome_name end.outcome) (text_part (outcome_text end.outcome)) b.0 (part_joined 32 p.0.1) (word.0 ∙ sym end.name) (texts.0 ∙ ap notes end.texts) in
-    subst (λ (y : Step). IsLineOf (codes "finish" ++ 32 ∷ rest) y) (sym end.step) (ap (λ (t : List ℕ). codes "finish" ++ 32 ∷ t) line, b.1)
+    let line = finish_joined rest (decimal p.0.0) p.0.1 (part 32 p.0.1).0 (part 32 p.0.1).1
+    (outcome_name end.outcome) (text_part (outcome_text end.outcome)) b.0 (part_joined 32 p.0.1)
+    (word.0 ∙ sym end.name) (texts.0 ∙ ap notes end.texts) in
+    subst (λ (y : Step). IsLineOf (codes "finish" ++ 32 ∷ rest) y) (sym end.step)
+    (ap (λ (t : List ℕ). codes "finish" ++ 32 ∷ t) line, b.1)
 
 text_begins : (t : List ℕ) → Begins 32 (text_part t)
 text_begins t = notes_begin ([], t)
@@ -233,13 +257,15 @@ finish_again b o small =
 by_verb_found : (v : Verb) (rest : List ℕ) (s : Step) → by_verb v rest ≡ Some s
     → IsLineOf (verb_word v ++ 32 ∷ rest) s
 by_verb_found Offer rest s e = key_step (codes "offer") rest steps.Offer s (λ k h. (refl, h)) e
-by_verb_found Withdraw rest s e = key_step (codes "withdraw") rest steps.Withdraw s (λ k h. (refl, h)) e
+by_verb_found Withdraw rest s e =
+    key_step (codes "withdraw") rest steps.Withdraw s (λ k h. (refl, h)) e
 by_verb_found Claim rest s e = claim_found rest s e
 by_verb_found Note rest s e = key_step (codes "note") rest steps.Note s (λ k h. (refl, h)) e
 by_verb_found Undo rest s e = number_step (codes "undo") rest steps.Undo s (λ n h. (refl, h)) e
 by_verb_found Finish rest s e = finish_found rest s e
 by_verb_found Settle rest s e = key_step (codes "settle") rest steps.Settle s (λ k h. (refl, h)) e
-by_verb_found Release rest s e = number_step (codes "release") rest steps.Release s (λ n h. (refl, h)) e
+by_verb_found Release rest s e =
+    number_step (codes "release") rest steps.Release s (λ n h. (refl, h)) e
 by_verb_found Arriving rest s e = key_step (codes "arrive") rest steps.Arrive s (λ k h. (refl, h)) e
 
 -- ---- commands
@@ -273,9 +299,18 @@ commit_found word rest s e =
     let ks = keys_found rest in
     let n = notes_exact.found (keys_at rest).1 texts.0 texts.1 in
     let w = told_found bare.0 texts.0.0 texts.0.1 kind.0 kind.1 in
-    subst (λ (y : Step). IsLineOf (word ++ rest) y) (ap (steps.Commit kind.0) (sym named.0) ∙ last.1) (
-      commit_joined word rest (spaced_keys (keys_at rest).0) (keys_at rest).1 (notes (kind_notes kind.0)) (kind_word kind.0) (k.0 ∙ sym w.0) ks.0 (n.0 ∙ ap notes (sym w.1)),
-      record { command = last.0; kind = w.2 k.1; some = named.1; keys = ks.1; texts = subst NotesFit (sym w.1) n.1 },
+    subst (λ (y : Step). IsLineOf (word ++ rest) y)
+    (ap (steps.Commit kind.0) (sym named.0) ∙ last.1) (
+      commit_joined word rest (spaced_keys (keys_at rest).0) (keys_at rest).1
+          (notes (kind_notes kind.0)) (kind_word kind.0) (k.0 ∙ sym w.0) ks.0
+          (n.0 ∙ ap notes (sym w.1)),
+      record {
+        command = last.0;
+        kind = w.2 k.1;
+        some = named.1;
+        keys = ks.1;
+        texts = subst NotesFit (sym w.1) n.1;
+      },
     )
 
 no_verb : (k : Kind) → is_command k ≡ true → verb_at (kind_word k) ≡ None
@@ -297,7 +332,8 @@ commit_again k ks h =
     let command = h.command in
     rw (
       kind_again k h.kind,
-      keys_again ks (notes (kind_notes k)) h.keys (notes_begin (kind_notes k)) (no_key (kind_notes k)),
+      keys_again ks (notes (kind_notes k)) h.keys (notes_begin (kind_notes k))
+          (no_key (kind_notes k)),
       some_again ks h.some,
       notes_exact.again (kind_notes k) h.texts,
       told_again k,
@@ -315,13 +351,19 @@ by_word_found : (line : List ℕ) (o : Option Verb) (s : Step) → verb_at (part
 by_word_found line (Some v) s is e =
     let a = chained (strip (codes " ") (part 32 line).1) (by_verb v) s e in
     let word = verb_found (part 32 line).0 v is in
-    subst (λ (t : List ℕ). IsLineOf t s) (line_parts line (part 32 line).0 (part 32 line).1 v a.0 (part_joined 32 line) word.0 (strip_found (codes " ") (part 32 line).1 a.0 a.1)) (by_verb_found v a.0 s a.2)
-by_word_found line None s is e = subst (λ (t : List ℕ). IsLineOf t s) (sym (part_joined 32 line)) (commit_found (part 32 line).0 (part 32 line).1 s e)
+    subst (λ (t : List ℕ). IsLineOf t s)
+    (line_parts line (part 32 line).0 (part 32 line).1 v a.0 (part_joined 32 line) word.0
+    (strip_found (codes " ") (part 32 line).1 a.0 a.1)) (by_verb_found v a.0 s a.2)
+by_word_found line None s is e =
+    subst (λ (t : List ℕ). IsLineOf t s) (sym (part_joined 32 line))
+    (commit_found (part 32 line).0 (part 32 line).1 s e)
 
 pub step_found : (line : List ℕ) (s : Step) → step_at line ≡ Some s
     → (line ≡ step_line s) × StepFits s
 unfolding step_at
-step_found line s e = or_word step_line StepFits line s steps.Sweep _ tt (λ other. by_word_found line (verb_at (part 32 line).0) s refl other) e
+step_found line s e =
+    or_word step_line StepFits line s steps.Sweep _ tt
+    (λ other. by_word_found line (verb_at (part 32 line).0) s refl other) e
 
 -- a command's line is no sweep's
 no_sweep : (k : Kind) (rest : List ℕ) → is_command k ≡ true
@@ -345,13 +387,16 @@ step_again (steps.Note k) h = rw (key_exact.again k h) refl
 step_again (steps.Commit k ks) h =
     rw (
       no_sweep k (spaced_keys ks ++ notes (kind_notes k)) h.command,
-      part_again 32 (kind_word k) (spaced_keys ks ++ notes (kind_notes k)) (kind_lacks 32 (omega arith) k h.kind) (spaced_begin ks (notes (kind_notes k)) (notes_begin (kind_notes k))),
+      part_again 32 (kind_word k) (spaced_keys ks ++ notes (kind_notes k))
+          (kind_lacks 32 (omega arith) k h.kind)
+          (spaced_begin ks (notes (kind_notes k)) (notes_begin (kind_notes k))),
       no_verb k h.command,
     ) (commit_again k ks h)
 step_again (steps.Undo n) h = rw ((number_exact (2 ^ 64 - 1) (lit< tt)).again n (omega arith)) refl
 step_again (steps.Finish b o) h = finish_again b o h
 step_again (steps.Settle k) h = rw (key_exact.again k h) refl
-step_again (steps.Release b) h = rw ((number_exact (2 ^ 64 - 1) (lit< tt)).again b (omega arith)) refl
+step_again (steps.Release b) h =
+    rw ((number_exact (2 ^ 64 - 1) (lit< tt)).again b (omega arith)) refl
 step_again (steps.Arrive k) h = rw (key_exact.again k h) refl
 step_again steps.Sweep h = refl
 

@@ -52,7 +52,8 @@ taken-mark text rest line lines start h is mark =
     ap (λ (n : ℕ). take n text) (sym h.length)
     ∙ ap (take (length h.front)) h.parts
     ∙ take-append_seam h.front rest
-    ∙ sym (h.opening ∙ ap (λ (l : List ℕ). h.front ++ l) (ap opening_text is ∙ opening-mark line lines mark) ∙ append-nil h.front)
+    ∙ sym (h.opening ∙ ap (λ (l : List ℕ). h.front ++ l)
+    (ap opening_text is ∙ opening-mark line lines mark) ∙ append-nil h.front)
 
 -- behind the last line the opening is the whole
 pub taken-last : (text rest line : List ℕ) (start : ℕ) → IsTaken text start rest → rest ≡ line ++ []
@@ -60,7 +61,8 @@ pub taken-last : (text rest line : List ℕ) (start : ℕ) → IsTaken text star
 taken-last text rest line start h whole is other =
     h.parts
     ∙ ap (λ (l : List ℕ). h.front ++ l) (whole ∙ append-nil line)
-    ∙ sym (h.opening ∙ ap (λ (l : List ℕ). h.front ++ l) (ap opening_text is ∙ opening-last line other))
+    ∙ sym (h.opening
+    ∙ ap (λ (l : List ℕ). h.front ++ l) (ap opening_text is ∙ opening-last line other))
 
 -- a line more
 pub taken-other : (text rest line after : List ℕ) (start : ℕ) → IsTaken text start rest
@@ -68,10 +70,15 @@ pub taken-other : (text rest line after : List ℕ) (start : ℕ) → IsTaken te
     → IsTaken text (start + (length line + 1)) after
 taken-other text rest line after start h whole is other = record {
   front = h.front ++ (line ++ 10 ∷ []);
-  length = omega (arith, h.length, length-append h.front (line ++ 10 ∷ []), length-append line (10 ∷ []));
-  parts = h.parts ∙ ap (λ (l : List ℕ). h.front ++ l) (whole ∙ sym (append_assoc line (10 ∷ []) after)) ∙ sym (append_assoc h.front (line ++ 10 ∷ []) after);
+  length = omega
+      (arith, h.length, length-append h.front (line ++ 10 ∷ []), length-append line (10 ∷ []));
+  parts = h.parts ∙ ap (λ (l : List ℕ). h.front ++ l)
+      (whole ∙ sym (append_assoc line (10 ∷ []) after))
+      ∙ sym (append_assoc h.front (line ++ 10 ∷ []) after);
   opening = h.opening
-      ∙ ap (λ (l : List ℕ). h.front ++ l) (ap opening_text is ∙ opening-other line (lines_of after) (has_line after) other ∙ sym (append_assoc line (10 ∷ []) (opening_text (lines_of after))))
+      ∙ ap (λ (l : List ℕ). h.front ++ l)
+      (ap opening_text is ∙ opening-other line (lines_of after) (has_line after) other
+      ∙ sym (append_assoc line (10 ∷ []) (opening_text (lines_of after))))
       ∙ sym (append_assoc h.front (line ++ 10 ∷ []) (opening_text (lines_of after)));
 }
 
@@ -128,7 +135,8 @@ ended-empty t none = ap (λ (l : List ℕ). ended (lines_of l)) none
 pub ended-next : (t line : List ℕ) (o : Option (Bor (List ℕ))) → lines_of t ≡ line ∷ lines_left o
     → t ≡ line ++ left_text o → t ≢ [] → ended (lines_of t) ≡ line ∷ ended (lines_left o)
 unfolding ended
-ended-next t line (Some rest) is whole some = ap ended is ∙ ended-filled line (lines_of rest.now) (has_line rest.now)
+ended-next t line (Some rest) is whole some =
+    ap ended is ∙ ended-filled line (lines_of rest.now) (has_line rest.now)
 ended-next t [] None is whole some = absurd (some whole)
 ended-next t (x ∷ line) None is whole some = ap ended is
 

@@ -38,7 +38,9 @@ pub fn read_simulation(alloc: Global, text: &str) -> Result<(Rows, Vec<Step>), S
     // What is read is what the text says.
     ensures found { IfOk result (λ read. IsSimulation text.now read.0 read.1.items) }
     // What is a simulation is read, unless memory runs out.
-    ensures only { (t : Table) (ss : List StepValue) → IsSimulation text.now t ss → MatchResult result (λ read. (read.0 ≡ t) × (read.1.items ≡ ss)) (λ e. e ≡ SimulationFault.NoMemory) }
+    ensures only { (t : Table) (ss : List StepValue) → IsSimulation text.now t ss
+        → MatchResult result (λ read. (read.0 ≡ t) × (read.1.items ≡ ss))
+        (λ e. e ≡ SimulationFault.NoMemory) }
     ensures fault { IfErr result (FaultOf text.now) }
 {
     let parts = parts_of(text);
@@ -54,7 +56,8 @@ pub fn read_simulation(alloc: Global, text: &str) -> Result<(Rows, Vec<Step>), S
 
 // Appends the lines of the answers.
 fn put_answers(out: &mut String, answers: &[Answer]) -> Result<(), AllocError>
-    ensures { OnOk result (string_bytes out.new ≡ string_bytes out.old ++ text_of (map answer_line answers.now)) }
+    ensures { OnOk result
+        (string_bytes out.new ≡ string_bytes out.old ++ text_of (map answer_line answers.now)) }
 {
     for answer in answers {
         put_answer_line(out, answer)?;
@@ -78,8 +81,10 @@ fn run_without_offers<'a>(
     steps: Vec<Step>,
 ) -> Result<(World<'a>, Vec<Answer>), AllocError>
     requires { NoneBuilt rows }
-    ensures world { IfOk result (λ end. end.0 ≡ after_all (world_of rows nothing max_builders) steps.items) }
-    ensures answers { IfOk result (λ end. end.1.items ≡ answers_to (world_of rows nothing max_builders) steps.items) }
+    ensures world { IfOk result (λ end.
+        end.0 ≡ after_all (world_of rows nothing max_builders) steps.items) }
+    ensures answers { IfOk result (λ end.
+        end.1.items ≡ answers_to (world_of rows nothing max_builders) steps.items) }
 {
     let builders = MAX_BUILDERS as usize;
     run(alloc, rows, Supply::empty(alloc), builders, steps)
@@ -103,9 +108,11 @@ fn tell(alloc: Global, rows: Rows, steps: Vec<Step>) -> Result<Simulated, AllocE
 /// rows after the last of them.
 pub fn simulate_text(alloc: Global, text: &str) -> Result<Simulated, SimulationFault>
     // What is told is told of the simulation that the text is.
-    ensures found { IfOk result (λ told. (t : Table) × (ss : List StepValue) × IsSimulation text.now t ss × Tells t ss told) }
+    ensures found { IfOk result (λ told.
+        (t : Table) × (ss : List StepValue) × IsSimulation text.now t ss × Tells t ss told) }
     // Of a simulation it is told, unless memory runs out.
-    ensures only { (t : Table) (ss : List StepValue) → IsSimulation text.now t ss → MatchResult result (Tells t ss) (λ e. e ≡ SimulationFault.NoMemory) }
+    ensures only { (t : Table) (ss : List StepValue) → IsSimulation text.now t ss
+        → MatchResult result (Tells t ss) (λ e. e ≡ SimulationFault.NoMemory) }
     ensures fault { IfErr result (FaultOf text.now) }
 {
     let (rows, steps) = match read_simulation(alloc, text) {

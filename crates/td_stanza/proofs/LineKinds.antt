@@ -20,35 +20,45 @@ high_not_blank x h = rw (ne_eqb x 32 (λ e. omega arith), ne_eqb x 9 (λ e. omeg
 
 all_name_bytes : (name : List ℕ) → IsTrue (is_field_name name) → list_all is_name_byte name ≡ true
 all_name_bytes name h =
-    let a = and_parts (ltb 0 (length name)) (not (eqb (get_or name 0 0) 35 || eqb (get_or name 0 0) 45) && list_all is_name_byte name) h in
-    (and_parts (not (eqb (get_or name 0 0) 35 || eqb (get_or name 0 0) 45)) (list_all is_name_byte name) a.1).1
+    let a = and_parts (ltb 0 (length name))
+    (not (eqb (get_or name 0 0) 35 || eqb (get_or name 0 0) 45) && list_all is_name_byte name) h in
+    (and_parts (not (eqb (get_or name 0 0) 35 || eqb (get_or name 0 0) 45))
+    (list_all is_name_byte name) a.1).1
 
-head_not_blank : (x : ℕ) (name : List ℕ) → IsTrue (is_field_name (x ∷ name)) → is_blank_byte x ≡ false
-head_not_blank x name h = high_not_blank x (name_byte_high x (and_parts (is_name_byte x) (list_all is_name_byte name) (all_name_bytes (x ∷ name) h)).0)
+head_not_blank : (x : ℕ) (name : List ℕ) → IsTrue (is_field_name (x ∷ name))
+    → is_blank_byte x ≡ false
+head_not_blank x name h =
+    high_not_blank x (name_byte_high x
+    (and_parts (is_name_byte x) (list_all is_name_byte name) (all_name_bytes (x ∷ name) h)).0)
 
 pub name_lacks_colon : (name : List ℕ) → IsTrue (is_field_name name) → Without 58 name
 name_lacks_colon name h = Without-from_test is_name_byte 58 name refl (all_name_bytes name h)
 
-pub named_filled : (name rest : List ℕ) → IsTrue (is_field_name name) → is_separator (name ++ rest) ≡ false
+pub named_filled : (name rest : List ℕ) → IsTrue (is_field_name name)
+    → is_separator (name ++ rest) ≡ false
 named_filled [] rest h = absurd cc
 named_filled (x ∷ name) rest h = rw (head_not_blank x name h) refl
 
-pub named_begins : (name rest : List ℕ) → IsTrue (is_field_name name) → begins_blank (name ++ rest) ≡ false
+pub named_begins : (name rest : List ℕ) → IsTrue (is_field_name name)
+    → begins_blank (name ++ rest) ≡ false
 named_begins [] rest h = absurd cc
 named_begins (x ∷ name) rest h = head_not_blank x name h
 
 pub continued_filled : (line : List ℕ) → IsTrue (is_continuation line) → is_separator line ≡ false
-continued_filled line h = not-true (is_separator line) (and_parts (begins_blank line) (not (is_separator line)) h).1
+continued_filled line h =
+    not-true (is_separator line) (and_parts (begins_blank line) (not (is_separator line)) h).1
 
 pub continued_begins : (line : List ℕ) → IsTrue (is_continuation line) → begins_blank line ≡ true
 continued_begins line h = (and_parts (begins_blank line) (not (is_separator line)) h).0
 
 -- ---- whether lines end with a separator
 
-pub ends_apart-append : (d : Bool) (a b : List (List ℕ)) → ends_apart d (a ++ b) ≡ ends_apart (ends_apart d a) b
+pub ends_apart-append : (d : Bool) (a b : List (List ℕ))
+    → ends_apart d (a ++ b) ≡ ends_apart (ends_apart d a) b
 ends_apart-append d [] b = refl
 ends_apart-append d (l ∷ a) b = ends_apart-append (is_separator l) a b
 
-pub continued_apart : (more : List (List ℕ)) → AllByRecursion (λ line. IsTrue (is_continuation line)) more → ends_apart false more ≡ false
+pub continued_apart : (more : List (List ℕ))
+    → AllByRecursion (λ line. IsTrue (is_continuation line)) more → ends_apart false more ≡ false
 continued_apart [] h = refl
 continued_apart (l ∷ more) h = rw (continued_filled l h.0) (continued_apart more h.1)

@@ -13,35 +13,53 @@ use Rattle.td_stanza.specs.Field.{is_same_name}
 use Rattle.td_stanza.specs.StanzaGrammar.{names_of, has_name}
 use Rattle.td_stanza.specs.Table.{shown}
 
-begins_with : (a b : List ℕ) → Begins 58 b → eqb (length b) 0 ≡ false → (rest : List ℕ) × (b ≡ 58 ∷ rest)
+begins_with : (a b : List ℕ) → Begins 58 b → eqb (length b) 0 ≡ false
+    → (rest : List ℕ) × (b ≡ 58 ∷ rest)
 begins_with a [] h some = absurd cc
 begins_with a (x ∷ b) h some = (b, ap (λ (y : ℕ). y ∷ b) h)
 
 -- where the part from the colon on isn't empty, it begins with the colon
-pub colon_rest : (line a b : List ℕ) → (a, b) ≡ part 58 line → line ≡ a ++ b → eqb (length b) 0 ≡ false → (rest : List ℕ) × (line ≡ a ++ 58 ∷ rest)
+pub colon_rest : (line a b : List ℕ) → (a, b) ≡ part 58 line → line ≡ a ++ b
+    → eqb (length b) 0 ≡ false → (rest : List ℕ) × (line ≡ a ++ 58 ∷ rest)
 colon_rest line a b is joined some =
-    let begins : Begins 58 b = subst (λ (p : List ℕ × List ℕ). Begins 58 p.1) (sym is) (part_begins 58 line) in
+    let begins : Begins 58 b =
+    subst (λ (p : List ℕ × List ℕ). Begins 58 p.1) (sym is) (part_begins 58 line) in
     let r = begins_with a b begins some in
     (r.0, joined ∙ ap (λ (l : List ℕ). a ++ l) r.1)
 
 -- the test over fields is that over their names
-pub has_name-shown : (fields : List Field) (name : List ℕ) → list_any (λ field. is_same_name name field.name.now) fields ≡ has_name (names_of (map shown fields)) name
-has_name-shown fields name = sym (list_any-map (is_same_name name) (λ e. e.name) (map shown fields) ∙ list_any-map (λ e. is_same_name name e.name) shown fields)
+pub has_name-shown : (fields : List Field) (name : List ℕ)
+    → list_any (λ field. is_same_name name field.name.now) fields
+    ≡ has_name (names_of (map shown fields)) name
+has_name-shown fields name =
+    sym (list_any-map (is_same_name name) (λ e. e.name) (map shown fields)
+    ∙ list_any-map (λ e. is_same_name name e.name) shown fields)
 
 -- ---- what follows the colon
 
-pub tail_is : (here name first rest : List ℕ) → here ≡ (name ++ 58 ∷ first) ++ rest → drop (length name + 1) here ≡ first ++ rest
+pub tail_is : (here name first rest : List ℕ) → here ≡ (name ++ 58 ∷ first) ++ rest
+    → drop (length name + 1) here ≡ first ++ rest
 tail_is here name first rest is =
-    let apart : here ≡ (name ++ 58 ∷ []) ++ (first ++ rest) = is ∙ append_assoc name (58 ∷ first) rest ∙ sym (append_assoc name (58 ∷ []) (first ++ rest)) in
-    ap (drop (length name + 1)) apart ∙ drop_at (name ++ 58 ∷ []) (first ++ rest) (length name + 1) (length-append name (58 ∷ []))
+    let apart : here ≡ (name ++ 58 ∷ []) ++ (first ++ rest) =
+    is ∙ append_assoc name (58 ∷ first) rest ∙ sym (append_assoc name (58 ∷ []) (first ++ rest)) in
+    ap (drop (length name + 1)) apart
+    ∙ drop_at (name ++ 58 ∷ []) (first ++ rest) (length name + 1) (length-append name (58 ∷ []))
 
-pub after_colon : (here name first rest : List ℕ) → IsUtf8 here → here ≡ (name ++ 58 ∷ first) ++ rest → IsCharBoundary here (length name + 1)
+pub after_colon : (here name first rest : List ℕ) → IsUtf8 here
+    → here ≡ (name ++ 58 ∷ first) ++ rest → IsCharBoundary here (length name + 1)
 after_colon here name first rest text is =
     let apart : here ≡ name ++ 58 ∷ (first ++ rest) = is ∙ append_assoc name (58 ∷ first) rest in
-    let len : length here ≡ length name + suc (length (first ++ rest)) = ap length apart ∙ length-append name (58 ∷ (first ++ rest)) in
-    let byte : get_or here (length name) 0 ≡ 58 = ap (λ (l : List ℕ). get_or l (length name) 0) apart ∙ get_or-append_right name (58 ∷ (first ++ rest)) (length name) (length name) 0 refl (omega arith) ∙ (let none : length name - length name ≡ 0 = omega arith in ap (λ (i : ℕ). get_or (58 ∷ (first ++ rest)) i 0) none) in
+    let len : length here ≡ length name + suc (length (first ++ rest)) =
+    ap length apart ∙ length-append name (58 ∷ (first ++ rest)) in
+    let byte : get_or here (length name) 0 ≡ 58 =
+    ap (λ (l : List ℕ). get_or l (length name) 0) apart
+    ∙ get_or-append_right name (58 ∷ (first ++ rest)) (length name) (length name) 0 refl
+    (omega arith) ∙ (let none : length name - length name ≡ 0 = omega arith in
+    ap (λ (i : ℕ). get_or (58 ∷ (first ++ rest)) i 0) none) in
     IsCharBoundary-after_ascii here (length name) text (omega arith) (omega arith)
 
-pub raw_is : (tail raw first more after rest : List ℕ) → tail ≡ raw ++ rest → tail ≡ first ++ after → after ≡ more ++ rest → raw ≡ first ++ more
+pub raw_is : (tail raw first more after rest : List ℕ) → tail ≡ raw ++ rest → tail ≡ first ++ after
+    → after ≡ more ++ rest → raw ≡ first ++ more
 raw_is tail raw first more after rest h k m =
-    append_cancel_right raw (first ++ more) rest (sym h ∙ k ∙ ap (λ (l : List ℕ). first ++ l) m ∙ sym (append_assoc first more rest))
+    append_cancel_right raw (first ++ more) rest
+    (sym h ∙ k ∙ ap (λ (l : List ℕ). first ++ l) m ∙ sym (append_assoc first more rest))

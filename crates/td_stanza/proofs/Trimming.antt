@@ -13,9 +13,14 @@ front_space t r is = ap trimmed_front is
 pub front_tab : (t r : List ℕ) → t ≡ 9 ∷ r → trimmed_front t ≡ trimmed_front r
 front_tab t r is = ap trimmed_front is
 
-pub front_none : (t : List ℕ) → ((r : List ℕ) → t ≢ 32 ∷ r) → ((r : List ℕ) → t ≢ 9 ∷ r) → trimmed_front t ≡ t
+pub front_none : (t : List ℕ) → ((r : List ℕ) → t ≢ 32 ∷ r) → ((r : List ℕ) → t ≢ 9 ∷ r)
+    → trimmed_front t ≡ t
 front_none [] h k = refl
-front_none (x ∷ t) h k = rw (ne_eqb x 32 (λ e. h t (ap (λ (b : ℕ). b ∷ t) e)), ne_eqb x 9 (λ e. k t (ap (λ (b : ℕ). b ∷ t) e))) refl
+front_none (x ∷ t) h k =
+    rw (
+      ne_eqb x 32 (λ e. h t (ap (λ (b : ℕ). b ∷ t) e)),
+      ne_eqb x 9 (λ e. k t (ap (λ (b : ℕ). b ∷ t) e)),
+    ) refl
 
 pub back_space : (t r : List ℕ) → t ≡ r ++ 32 ∷ [] → trimmed_back t ≡ trimmed_back r
 back_space t r is = ap trimmed_back is ∙ rw (reverse-append r (32 ∷ [])) refl
@@ -26,14 +31,21 @@ back_tab t r is = ap trimmed_back is ∙ rw (reverse-append r (9 ∷ [])) refl
 turned : (t r : List ℕ) (x : ℕ) → reverse t ≡ x ∷ r → t ≡ reverse r ++ x ∷ []
 turned t r x is = sym (reverse-reverse t) ∙ ap reverse is ∙ reverse-append (x ∷ []) r
 
-pub back_none : (t : List ℕ) → ((r : List ℕ) → t ≢ r ++ 32 ∷ []) → ((r : List ℕ) → t ≢ r ++ 9 ∷ []) → trimmed_back t ≡ t
-back_none t h k = ap reverse (front_none (reverse t) (λ r e. h (reverse r) (turned t r 32 e)) (λ r e. k (reverse r) (turned t r 9 e))) ∙ reverse-reverse t
+pub back_none : (t : List ℕ) → ((r : List ℕ) → t ≢ r ++ 32 ∷ []) → ((r : List ℕ) → t ≢ r ++ 9 ∷ [])
+    → trimmed_back t ≡ t
+back_none t h k =
+    ap reverse (front_none (reverse t) (λ r e. h (reverse r) (turned t r 32 e))
+    (λ r e. k (reverse r) (turned t r 9 e))) ∙ reverse-reverse t
 
 -- where neither a space nor a tab is stripped
-pub front_by : (t : List ℕ) (r : Option (Bor (List ℕ))) → ((rest : List ℕ) → t ≢ 32 ∷ rest) → MatchOption r ((rest : List ℕ) → t ≢ 9 ∷ rest) (λ x. t ≡ 9 ∷ x.now) → IfNone r (trimmed_front t ≡ t)
+pub front_by : (t : List ℕ) (r : Option (Bor (List ℕ))) → ((rest : List ℕ) → t ≢ 32 ∷ rest)
+    → MatchOption r ((rest : List ℕ) → t ≢ 9 ∷ rest) (λ x. t ≡ 9 ∷ x.now)
+    → IfNone r (trimmed_front t ≡ t)
 front_by t None h k = front_none t h k
 front_by t (Some x) h k = tt
 
-pub back_by : (t : List ℕ) (r : Option (Bor (List ℕ))) → ((front : List ℕ) → t ≢ front ++ 32 ∷ []) → MatchOption r ((front : List ℕ) → t ≢ front ++ 9 ∷ []) (λ x. t ≡ x.now ++ 9 ∷ []) → IfNone r (trimmed_back t ≡ t)
+pub back_by : (t : List ℕ) (r : Option (Bor (List ℕ))) → ((front : List ℕ) → t ≢ front ++ 32 ∷ [])
+    → MatchOption r ((front : List ℕ) → t ≢ front ++ 9 ∷ []) (λ x. t ≡ x.now ++ 9 ∷ [])
+    → IfNone r (trimmed_back t ≡ t)
 back_by t None h k = back_none t h k
 back_by t (Some x) h k = tt

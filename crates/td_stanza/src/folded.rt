@@ -50,7 +50,8 @@ impl Hash for FoldedName<'_> {
 
 /// Feeds a hasher with bytes in lower case.
 fn feed<H: Hasher>(bytes: &[u8], state: &mut H)
-    ensures { state.new ≡ fold H.write state.old (fed.slice fed.u8 (map to_ascii_lowercase bytes.now)) }
+    ensures { state.new
+        ≡ fold H.write state.old (fed.slice fed.u8 (map to_ascii_lowercase bytes.now)) }
 {
     state.write_usize(bytes.len());
     for byte in bytes {

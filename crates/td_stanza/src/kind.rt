@@ -1,7 +1,10 @@
 //! What a line of a control file is: a separator, a field's first line, or its continuation.
 ghost use Rattle.std.specs.Prelude.{◌≡◌};
 ghost use Rattle.td_text.specs.Lines.{lines_of};
-ghost use Rattle.td_stanza.specs.Line.{is_blank_byte as is_blank_byte_of, is_separator as is_separator_of, begins_blank as begins_blank_of, is_continuation, first_line};
+ghost use Rattle.td_stanza.specs.Line.{is_blank_byte as is_blank_byte_of};
+ghost use Rattle.td_stanza.specs.Line.{is_separator as is_separator_of};
+ghost use Rattle.td_stanza.specs.Line.{begins_blank as begins_blank_of, is_continuation};
+ghost use Rattle.td_stanza.specs.Line.{first_line};
 
 use td_text::next_line;
 

@@ -14,7 +14,8 @@ pub fn piece<'s, 'a>(
     number: usize,
 ) -> Option<&'s [Field<'a>]>
     requires { IsTable fields.now starts.now }
-    ensures { option_map (λ x. map shown x.now) result ≡ slice_get (pieces (map shown fields.now) starts.now) number }
+    ensures { option_map (λ x. map shown x.now) result
+        ≡ slice_get (pieces (map shown fields.now) starts.now) number }
 {
     let Some(start) = starts.get(number) else {
         return None;
@@ -28,7 +29,8 @@ pub fn piece<'s, 'a>(
 
 /// The first field that has the name.
 pub fn find_field<'s, 'a>(fields: &'s [Field<'a>], name: &str) -> Option<&'s Field<'a>>
-    ensures { option_map (λ x. x.now) result ≡ find (λ field. is_same_name_of name.now field.name.now) fields.now }
+    ensures { option_map (λ x. x.now) result
+        ≡ find (λ field. is_same_name_of name.now field.name.now) fields.now }
 {
     fields.iter().find(|field| is_same_name(name, field.name))
 }

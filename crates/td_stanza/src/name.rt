@@ -1,7 +1,9 @@
 //! Names of fields, whose letters' case doesn't count.
 ghost use Rattle.std.specs.Prelude.{◌≡◌};
 ghost use Rattle.std.specs.List.{list_all};
-ghost use Rattle.td_stanza.specs.Field.{is_name_byte as is_name_byte_of, is_field_name as is_field_name_of, is_same_name as is_same_name_of};
+ghost use Rattle.td_stanza.specs.Field.{is_name_byte as is_name_byte_of};
+ghost use Rattle.td_stanza.specs.Field.{is_field_name as is_field_name_of};
+ghost use Rattle.td_stanza.specs.Field.{is_same_name as is_same_name_of};
 
 fn is_name_byte(byte: u8) -> bool
     ensures { result ≡ is_name_byte_of byte }

@@ -1,10 +1,12 @@
 //! A control file is read, field by field.
-ghost use Rattle.std.specs.Prelude.{◌≡◌, ◌<◌, ◌≤◌, ◌+◌, ◌-◌, ℕ, List, true, false, ◌∷◌, ◌++◌, [], IfOk, IfErr, OnOk, map, length, take, ◌==◌, if◌then◌else◌};
+ghost use Rattle.std.specs.Prelude.{◌≡◌, ◌<◌, ◌≤◌, ◌+◌, ◌-◌, ℕ, List, true, false, ◌∷◌, ◌++◌, []};
+ghost use Rattle.std.specs.Prelude.{IfOk, IfErr, OnOk, map, length, take, ◌==◌, if◌then◌else◌};
 ghost use Rattle.td_text.specs.Lines.{lines_of, left_text};
 ghost use Rattle.td_stanza.specs.Line.{is_separator as is_separator_of, is_continuation};
 ghost use Rattle.td_stanza.specs.Field.{Entry};
 ghost use Rattle.td_stanza.specs.StanzaGrammar.{AreStanzas, names_of};
-ghost use Rattle.td_stanza.specs.StanzaFaults.{IsFaultAt, HasFault, IsFaultOf, GivesStanzas, GivesFault, IsNewName};
+ghost use Rattle.td_stanza.specs.StanzaFaults.{IsFaultAt, HasFault, IsFaultOf, GivesStanzas};
+ghost use Rattle.td_stanza.specs.StanzaFaults.{GivesFault, IsNewName};
 ghost use Rattle.td_stanza.specs.declared.fault.StanzaFault.{StanzaFault};
 ghost use Rattle.td_stanza.specs.Table.{shown, newlines};
 ghost use Rattle.td_stanza.specs.Continuing.{Skips, IsEnded, IsTaken};
@@ -53,7 +55,8 @@ fn take_field<'a>(
     after: Option<&'a str>,
 ) -> (Field<'a>, Option<&'a str>)
     requires { (first : List ℕ) × (here.now ≡ (name.now ++ 58 ∷ first) ++ left_text after) }
-    ensures taken { (first : List ℕ) → here.now ≡ (name.now ++ 58 ∷ first) ++ left_text after.entry →
+    ensures taken { (first : List ℕ) → here.now ≡ (name.now ++ 58 ∷ first) ++ left_text after.entry
+        →
         IsTaken name.now first after.entry result.0 result.1 }
     ensures ended { IsEnded result.1 }
 {

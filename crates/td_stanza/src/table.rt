@@ -1,5 +1,6 @@
 //! The stanzas of a text, and one of them with its fields.
-ghost use Rattle.std.specs.Prelude.{◌≡◌, length, map, option_map, slice_get, ◌==◌, IfSome, IfNone, false};
+ghost use Rattle.std.specs.Prelude.{◌≡◌, length, map, option_map, slice_get, ◌==◌, IfSome, IfNone};
+ghost use Rattle.std.specs.Prelude.{false};
 ghost use Rattle.td_stanza.specs.Props.{IsDistinct-prop};
 ghost use Rattle.td_stanza.specs.Shown.{shown};
 ghost use Rattle.td_stanza.specs.StanzaGrammar.{IsDistinct, names_of, has_name};
@@ -32,7 +33,8 @@ impl<'a> Model for StanzaList<'a> {
 #[derive(Clone, Copy)]
 pub struct Stanza<'s, 'a> {
     fields: &'s [Field<'a>],
-    ghost distinct: { IsDistinct (map shown fields.now) } by { IsDistinct-prop (map shown fields.now) },
+    ghost distinct: { IsDistinct (map shown fields.now) } by { IsDistinct-prop
+        (map shown fields.now) },
 }
 
 impl<'a> StanzaList<'a> {

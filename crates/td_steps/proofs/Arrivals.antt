@@ -1,5 +1,6 @@
 -- The moves of an arrival and of a sweep lead from the book at rest to the book at rest.
-use Rattle.std.proofs.Common.{◌≡◌, ◌≢◌, ℕ, ◌+◌, true, List, [], ◌∷◌, Some, None, Ok, Err, length, ap, refl, sym, subst, ◌∙◌}
+use Rattle.std.proofs.Common.{◌≡◌, ◌≢◌, ℕ, ◌+◌, true, List, [], ◌∷◌, Some, None, Ok, Err, length}
+use Rattle.std.proofs.Common.{ap, refl, sym, subst, ◌∙◌}
 use Rattle.td_board.specs.declared.views.RowView.{RowView}
 use Rattle.td_rows.specs.declared.key.Key.{Key}
 use Rattle.td_rows.specs.declared.row.Row.{Row}
@@ -17,7 +18,8 @@ use Rattle.td_core.proofs.Worlds.{AppliesOn-one}
 use Rattle.td_book.specs.Desk.{BookModel}
 use Rattle.td_book.specs.Seen.{seen_off}
 use Rattle.td_book.specs.Arriving.{freed_now}
-use Rattle.td_book.specs.declared.arriving.ArriveRefusal.TheVariants.{NoSuchRow, DoesNotApply, NoMemory as NoRoom}
+use Rattle.td_book.specs.declared.arriving.ArriveRefusal.TheVariants.{NoSuchRow, DoesNotApply}
+use Rattle.td_book.specs.declared.arriving.ArriveRefusal.TheVariants.{NoMemory as NoRoom}
 use Rattle.td_book.proofs.Seeing.{arrive_off, waiting_off, desks_off}
 use Rattle.td_book.proofs.Steps.{rows_with, up_now}
 use Rattle.td_core.specs.declared.step.Answer.{Answer}
@@ -26,74 +28,136 @@ use Rattle.td_steps.specs.Sees.{resting, Sees}
 use Rattle.td_steps.specs.Moves.{Move, arrive, sweep, sweeping, swept_as}
 use Rattle.td_steps.specs.Runs.{LeadsOn}
 use Rattle.td_steps.specs.Parts.{offering, Tells}
-use Rattle.td_steps.proofs.Parts.{Leads, leads-then, leads-one, leads-on, tells-at, desk_off, offering-all, up-seen, idle-on}
+use Rattle.td_steps.proofs.Parts.{Leads, leads-then, leads-one, leads-on, tells-at, desk_off}
+use Rattle.td_steps.proofs.Parts.{offering-all, up-seen, idle-on}
 use Rattle.td_steps.specs.Arrivals.{ArrivalsAreSteps, sweep_moves, SweepsAreSteps}
 
 -- ---- 1. arrivals
 
-arrive-leads : (h : History) (st : Stock) (n : ℕ) (k : Key) (row : Row) → ascending (keys_of h.opening) ≡ true → row_of (rows_of h) k ≡ Some row → applies kinds.Arrive row ≡ true → Leads (desk_off h st n []) (arrive k ∷ []) (desk_off (with_entry h (record { kind = kinds.Arrive; keys = k ∷ [] })) st n [])
+arrive-leads : (h : History) (st : Stock) (n : ℕ) (k : Key) (row : Row)
+    → ascending (keys_of h.opening) ≡ true → row_of (rows_of h) k ≡ Some row
+    → applies kinds.Arrive row ≡ true
+    → Leads (desk_off h st n []) (arrive k ∷ [])
+    (desk_off (with_entry h (record { kind = kinds.Arrive; keys = k ∷ [] })) st n [])
 arrive-leads h st n k row up found fit =
     let e : Entry = record { kind = kinds.Arrive; keys = k ∷ [] } in
-    let same : seen_off [] (rows_of h) ≡ seen_off [] (rows_of (with_entry h e)) = sym (ap (seen_off []) (rows_with h e) ∙ arrive_off (k ∷ []) (rows_of h) (up_now h up) (AppliesOn-one (rows_of h) kinds.Arrive k row found fit)) in
-    leads-one (desk_off h st n []) (desk_off (with_entry h e) st n []) (arrive k) (row, found, fit) (ap (λ (x : List RowView). record (desk_off (with_entry h e) st n []) { view = x }) same)
+    let same : seen_off [] (rows_of h) ≡ seen_off [] (rows_of (with_entry h e)) =
+    sym (ap (seen_off []) (rows_with h e)
+    ∙ arrive_off (k ∷ []) (rows_of h) (up_now h up)
+    (AppliesOn-one (rows_of h) kinds.Arrive k row found fit)) in
+    leads-one (desk_off h st n []) (desk_off (with_entry h e) st n []) (arrive k) (row, found, fit)
+    (ap (λ (x : List RowView). record (desk_off (with_entry h e) st n []) { view = x }) same)
 
 pub arrivals_are_steps : ArrivalsAreSteps
 arrivals_are_steps w k old new (Ok n) sees o = (
   arrive k ∷ [],
-  (refl, subst (λ (x : ℕ). Tells (resting old) (arrive k ∷ []) (answers.Entry x)) (sym o.4) (tells-at (resting old) (resting old) [] [] (arrive k) (answers.Entry (length old.history.journal + 1)) refl refl)),
-  leads-on w (resting old) (resting new) (arrive k ∷ []) sees (subst (Leads (resting old) (arrive k ∷ [])) (ap resting (sym o.3)) (arrive-leads old.history old.fixed.stock old.fixed.builders k o.0 (up-seen w old sees) o.1 o.2)),
+  (
+    refl,
+    subst (λ (x : ℕ). Tells (resting old) (arrive k ∷ []) (answers.Entry x)) (sym o.4)
+        (tells-at (resting old) (resting old) [] [] (arrive k)
+        (answers.Entry (length old.history.journal + 1)) refl refl),
+  ),
+  leads-on w (resting old) (resting new) (arrive k ∷ []) sees
+      (subst (Leads (resting old) (arrive k ∷ [])) (ap resting (sym o.3))
+      (arrive-leads old.history old.fixed.stock old.fixed.builders k o.0 (up-seen w old sees) o.1
+      o.2)),
 )
 arrivals_are_steps w k old new (Err NoSuchRow) sees o = ([], refl, idle-on w old new sees o.1)
-arrivals_are_steps w k old new (Err (DoesNotApply s)) sees o = ([], refl, idle-on w old new sees o.4)
+arrivals_are_steps w k old new (Err (DoesNotApply s)) sees o =
+    ([], refl, idle-on w old new sees o.4)
 arrivals_are_steps w k old new (Err NoRoom) sees o = ([], refl, idle-on w old new sees o)
 
 -- ---- 2. sweeps
 
-sweep-leads : (old : BookModel) → ascending (keys_of old.history.opening) ≡ true → Leads (resting old) (sweep_moves old) (resting (record old { history = (sweeping (resting old) (freed_now old)).history }))
+sweep-leads : (old : BookModel) → ascending (keys_of old.history.opening) ≡ true
+    → Leads (resting old) (sweep_moves old)
+    (resting (record old { history = (sweeping (resting old) (freed_now old)).history }))
 sweep-leads old up = at (freed_now old) refl
   where
     fit : AppliesOn (rows_of old.history) kinds.Sweep (freed_now old)
-    fit = AppliesOn-freed (supply_now old.fixed.stock old.history) (rows_of old.history) (up_now old.history up)
+    fit =
+        AppliesOn-freed (supply_now old.fixed.stock old.history) (rows_of old.history)
+        (up_now old.history up)
 
     rise : ascending (freed_now old) ≡ true
-    rise = ascending-freed (supply_now old.fixed.stock old.history) (rows_of old.history) (up_now old.history up)
+    rise =
+        ascending-freed (supply_now old.fixed.stock old.history) (rows_of old.history)
+        (up_now old.history up)
 
-    at : (keys : List Key) → freed_now old ≡ keys → Leads (resting old) (sweep ∷ offering (rows_of (sweeping (resting old) keys).history) keys) (resting (record old { history = (sweeping (resting old) keys).history }))
+    at : (keys : List Key) → freed_now old ≡ keys
+        → Leads (resting old) (sweep
+        ∷ offering (rows_of (sweeping (resting old) keys).history) keys)
+        (resting (record old { history = (sweeping (resting old) keys).history }))
     at [] is = leads-one (resting old) (resting old) sweep tt (ap (sweeping (resting old)) is)
     at (k ∷ keys) is =
         let e : Entry = record { kind = kinds.Sweep; keys = k ∷ keys } in
         let new = with_entry old.history e in
-        let fit' : AppliesOn (rows_of old.history) kinds.Sweep (k ∷ keys) = subst (AppliesOn (rows_of old.history) kinds.Sweep) is fit in
+        let fit' : AppliesOn (rows_of old.history) kinds.Sweep (k ∷ keys) =
+        subst (AppliesOn (rows_of old.history) kinds.Sweep) is fit in
         let same : seen_off [] (rows_of old.history) ≡ seen_off (k ∷ keys) (rows_of new) =
         waiting_off (k ∷ keys) (rows_of old.history) (up_now old.history up) fit'
-        ∙ sym (ap (seen_off (k ∷ keys)) (rows_with old.history e) ∙ desks_off (k ∷ keys) (k ∷ keys) kinds.Sweep (rows_of old.history) (up_now old.history up) refl fit' (λ _ q named. named)) in
-        leads-then (resting old) (desk_off new old.fixed.stock old.fixed.builders (k ∷ keys)) (desk_off new old.fixed.stock old.fixed.builders []) (sweep ∷ []) (offering (rows_of new) (k ∷ keys))
-        (leads-one (resting old) (desk_off new old.fixed.stock old.fixed.builders (k ∷ keys)) sweep tt (ap (sweeping (resting old)) is ∙ ap (λ (x : List RowView). record (desk_off new old.fixed.stock old.fixed.builders (k ∷ keys)) { view = x }) same))
-        (offering-all new old.fixed.stock old.fixed.builders up (k ∷ keys) (ap ascending (sym is) ∙ rise))
+        ∙ sym (ap (seen_off (k ∷ keys)) (rows_with old.history e)
+        ∙ desks_off (k ∷ keys) (k ∷ keys) kinds.Sweep (rows_of old.history)
+        (up_now old.history up) refl fit' (λ _ q named. named)) in
+        leads-then (resting old) (desk_off new old.fixed.stock old.fixed.builders (k ∷ keys))
+        (desk_off new old.fixed.stock old.fixed.builders []) (sweep ∷ [])
+        (offering (rows_of new) (k ∷ keys))
+        (leads-one (resting old) (desk_off new old.fixed.stock old.fixed.builders (k ∷ keys)) sweep
+        tt (ap (sweeping (resting old)) is
+        ∙ ap (λ (x : List RowView).
+        record (desk_off new old.fixed.stock old.fixed.builders (k ∷ keys)) { view = x }) same))
+        (offering-all new old.fixed.stock old.fixed.builders up (k ∷ keys)
+        (ap ascending (sym is) ∙ rise))
 
-swept-none : (old : BookModel) (keys : List Key) → keys ≡ [] → old.history ≡ (sweeping (resting old) keys).history
+swept-none : (old : BookModel) (keys : List Key) → keys ≡ []
+    → old.history ≡ (sweeping (resting old) keys).history
 swept-none old keys e = sym (ap (λ (ks : List Key). (sweeping (resting old) ks).history) e)
 
-swept-some : (old : BookModel) (keys : List Key) → keys ≢ [] → with_entry old.history (record { kind = kinds.Sweep; keys = keys }) ≡ (sweeping (resting old) keys).history
+swept-some : (old : BookModel) (keys : List Key) → keys ≢ []
+    → with_entry old.history (record { kind = kinds.Sweep; keys = keys })
+    ≡ (sweeping (resting old) keys).history
 swept-some old [] some = absurd (some refl)
 swept-some old (k ∷ keys) some = refl
 
-tells-sweep : (old : BookModel) (behind : List Move) (a : Answer) → swept_as (resting old) (freed_now old) ≡ a → Tells (resting old) (sweep ∷ behind) a
+tells-sweep : (old : BookModel) (behind : List Move) (a : Answer)
+    → swept_as (resting old) (freed_now old) ≡ a → Tells (resting old) (sweep ∷ behind) a
 tells-sweep old behind a is = tells-at (resting old) (resting old) [] behind sweep a refl is
 
-swept-told-some : (old : BookModel) (keys : List Key) → keys ≢ [] → swept_as (resting old) keys ≡ answers.Entry (length old.history.journal + 1)
+swept-told-some : (old : BookModel) (keys : List Key) → keys ≢ []
+    → swept_as (resting old) keys ≡ answers.Entry (length old.history.journal + 1)
 swept-told-some old [] some = absurd (some refl)
 swept-told-some old (k ∷ keys) some = refl
 
 module _ (w : WorldView) (old new : BookModel) (sees : Sees w (resting old)) where
-  swept-on : new ≡ record old { history = (sweeping (resting old) (freed_now old)).history } → LeadsOn w (resting old) (sweep_moves old) (resting new)
-  swept-on is = leads-on w (resting old) (resting new) (sweep_moves old) sees (subst (Leads (resting old) (sweep_moves old)) (ap resting (sym is)) (sweep-leads old (up-seen w old sees)))
+  swept-on : new ≡ record old { history = (sweeping (resting old) (freed_now old)).history }
+      → LeadsOn w (resting old) (sweep_moves old) (resting new)
+  swept-on is =
+      leads-on w (resting old) (resting new) (sweep_moves old) sees
+      (subst (Leads (resting old) (sweep_moves old)) (ap resting (sym is))
+      (sweep-leads old (up-seen w old sees)))
 
 pub sweeps_are_steps : SweepsAreSteps
 sweeps_are_steps w old new (Ok None) sees o =
-    let is : new ≡ record old { history = (sweeping (resting old) (freed_now old)).history } = o.1 ∙ ap (λ (h : History). record old { history = h }) (swept-none old (freed_now old) o.0) in
-    (sweep_moves old, (refl, tells-sweep old (offering (rows_of (sweeping (resting old) (freed_now old)).history) (freed_now old)) answers.Nothing (ap (swept_as (resting old)) o.0)), swept-on w old new sees is)
+    let is : new ≡ record old { history = (sweeping (resting old) (freed_now old)).history } =
+    o.1 ∙ ap (λ (h : History). record old { history = h }) (swept-none old (freed_now old) o.0) in (
+      sweep_moves old,
+      (
+        refl,
+        tells-sweep old (offering (rows_of (sweeping (resting old) (freed_now old)).history)
+            (freed_now old)) answers.Nothing (ap (swept_as (resting old)) o.0),
+      ),
+      swept-on w old new sees is,
+    )
 sweeps_are_steps w old new (Ok (Some n)) sees o =
-    let is : new ≡ record old { history = (sweeping (resting old) (freed_now old)).history } = o.1 ∙ ap (λ (h : History). record old { history = h }) (swept-some old (freed_now old) o.0) in
-    (sweep_moves old, (refl, tells-sweep old (offering (rows_of (sweeping (resting old) (freed_now old)).history) (freed_now old)) (answers.Entry n) (swept-told-some old (freed_now old) o.0 ∙ ap (λ (x : ℕ). answers.Entry x) (sym o.2))), swept-on w old new sees is)
+    let is : new ≡ record old { history = (sweeping (resting old) (freed_now old)).history } =
+    o.1 ∙ ap (λ (h : History). record old { history = h }) (swept-some old (freed_now old) o.0) in (
+      sweep_moves old,
+      (
+        refl,
+        tells-sweep old (offering (rows_of (sweeping (resting old) (freed_now old)).history)
+            (freed_now old)) (answers.Entry n)
+            (swept-told-some old (freed_now old) o.0 ∙ ap (λ (x : ℕ). answers.Entry x) (sym o.2)),
+      ),
+      swept-on w old new sees is,
+    )
 sweeps_are_steps w old new (Err e) sees o = ([], refl, idle-on w old new sees o)

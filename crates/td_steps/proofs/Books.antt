@@ -1,5 +1,8 @@
 -- Over any list of calls the opening rows and the entries stay; a command is undone at once.
-use Rattle.std.proofs.Common.{◌≡◌, ℕ, zero, suc, ◌+◌, ◌-◌, ◌≤◌, ◌==◌, Bool, true, false, ◌&&◌, List, [], ◌∷◌, ◌++◌, append_assoc, append-nil, filter, map, Option, Some, None, Result, Ok, Err, if◌then◌else◌, length, slice_get, ap, refl, sym, subst, ◌∙◌, arith}
+use Rattle.std.proofs.Common.{◌≡◌, ℕ, zero, suc, ◌+◌, ◌-◌, ◌≤◌, ◌==◌, Bool, true, false, ◌&&◌, List}
+use Rattle.std.proofs.Common.{[], ◌∷◌, ◌++◌, append_assoc, append-nil, filter, map, Option, Some}
+use Rattle.std.proofs.Common.{None, Result, Ok, Err, if◌then◌else◌, length, slice_get, ap, refl}
+use Rattle.std.proofs.Common.{sym, subst, ◌∙◌, arith}
 use Rattle.std.specs.Prelude.{IsSomeAnd, OnOk, nat_lt}
 use Rattle.std.specs.Option.{option_or}
 use Rattle.std.proofs.lemmas.Bool.Decides.{nat_tests}
@@ -15,7 +18,8 @@ use Rattle.td_journal.specs.declared.entry.Entry.{Entry}
 use Rattle.td_journal.specs.declared.entry.Mark.TheVariants.{Standing, Undone}
 use Rattle.td_journal.specs.declared.entry.Mark.{Mark}
 use Rattle.td_journal.specs.declared.entry.Marked.{Marked}
-use Rattle.td_journal.specs.Entries.{is_command, is_standing, standing, standing_entry, entry_at, undone_at, undone}
+use Rattle.td_journal.specs.Entries.{is_command, is_standing, standing, standing_entry, entry_at}
+use Rattle.td_journal.specs.Entries.{undone_at, undone}
 use Rattle.td_journal.specs.Replay.{replay}
 use Rattle.td_journal.specs.Touching.{touches, latest_touching, blocker}
 use Rattle.td_journal.proofs.Undoing.{standing-append}
@@ -43,86 +47,144 @@ use Rattle.td_book.specs.Undoing.{undo_stop, mark_stop, UndoAnswer, IsWon}
 use Rattle.td_book.proofs.Calls.{kinds_command}
 use Rattle.td_core.specs.Refusals.{is_queued_at}
 use Rattle.td_steps.specs.Commands.{off_in}
-use Rattle.td_steps.specs.Books.{Call, command, undo, start, finish, arrive, sweep, Does, Follows, EntriesStay, RowsAreReplayed, IsBack, UndoneAtOnce, BlockedExactly, UndoneElse}
+use Rattle.td_steps.specs.Books.{Call, command, undo, start, finish, arrive, sweep, Does, Follows}
+use Rattle.td_steps.specs.Books.{EntriesStay, RowsAreReplayed, IsBack, UndoneAtOnce, BlockedExactly}
+use Rattle.td_steps.specs.Books.{UndoneElse}
 
 -- ---- 1. of histories
 
 record Grows (old new : History) : Type 0 where
   opening : new.opening ≡ old.opening
   added : List Entry
-  entries : map (λ (m : Marked). m.entry) new.journal ≡ map (λ (m : Marked). m.entry) old.journal ++ added
+  entries : map (λ (m : Marked). m.entry) new.journal
+      ≡ map (λ (m : Marked). m.entry) old.journal ++ added
 
 grows-none : (h new : History) → new ≡ h → Grows h new
-grows-none h new same = record { opening = ap (λ (x : History). x.opening) same; added = []; entries = ap (λ (x : History). map (λ (m : Marked). m.entry) x.journal) same ∙ sym (append-nil (map (λ (m : Marked). m.entry) h.journal)) }
+grows-none h new same =
+    record {
+      opening = ap (λ (x : History). x.opening) same;
+      added = [];
+      entries = ap (λ (x : History). map (λ (m : Marked). m.entry) x.journal) same
+          ∙ sym (append-nil (map (λ (m : Marked). m.entry) h.journal));
+    }
 
-map-append : (ms ns : List Marked) → map (λ (m : Marked). m.entry) (ms ++ ns) ≡ map (λ (m : Marked). m.entry) ms ++ map (λ (m : Marked). m.entry) ns
+map-append : (ms ns : List Marked)
+    → map (λ (m : Marked). m.entry) (ms ++ ns)
+    ≡ map (λ (m : Marked). m.entry) ms ++ map (λ (m : Marked). m.entry) ns
 map-append [] ns = refl
 map-append (m ∷ ms) ns = ap (λ (es : List Entry). m.entry ∷ es) (map-append ms ns)
 
-map-undone_at : (ms : List Marked) (i : ℕ) → map (λ (m : Marked). m.entry) (undone_at ms i) ≡ map (λ (m : Marked). m.entry) ms
+map-undone_at : (ms : List Marked) (i : ℕ)
+    → map (λ (m : Marked). m.entry) (undone_at ms i) ≡ map (λ (m : Marked). m.entry) ms
 map-undone_at [] i = refl
 map-undone_at (m ∷ ms) zero = refl
 map-undone_at (m ∷ ms) (suc i) = ap (λ (es : List Entry). m.entry ∷ es) (map-undone_at ms i)
 
 grows-entry : (h : History) (e : Entry) → Grows h (with_entry h e)
-grows-entry h e = record { opening = refl; added = e ∷ []; entries = map-append h.journal (standing_entry e ∷ []) }
+grows-entry h e =
+    record {
+      opening = refl;
+      added = e ∷ [];
+      entries = map-append h.journal (standing_entry e ∷ []);
+    }
 
 grows-undone : (h : History) (n : ℕ) → Grows h (without_entry h n)
-grows-undone h n = record { opening = refl; added = []; entries = map-undone_at h.journal (n - 1) ∙ sym (append-nil (map (λ (m : Marked). m.entry) h.journal)) }
+grows-undone h n =
+    record {
+      opening = refl;
+      added = [];
+      entries = map-undone_at h.journal (n - 1)
+          ∙ sym (append-nil (map (λ (m : Marked). m.entry) h.journal));
+    }
 
 grows-then : (a b c : History) → Grows a b → Grows b c → Grows a c
 grows-then a b c one two = record {
   opening = two.opening ∙ one.opening;
   added = one.added ++ two.added;
-  entries = two.entries ∙ ap (λ (es : List Entry). es ++ two.added) one.entries ∙ append_assoc (map (λ (m : Marked). m.entry) a.journal) one.added two.added;
+  entries = two.entries ∙ ap (λ (es : List Entry). es ++ two.added) one.entries
+      ∙ append_assoc (map (λ (m : Marked). m.entry) a.journal) one.added two.added;
 }
 
 grows-to : (h a b : History) → Grows h a → b ≡ a → Grows h b
 grows-to h a b g same = subst (Grows h) (sym same) g
 
 grows-one : (h : History) (k : Key) (b : ℕ) → Grows h (noting_one h k b)
-grows-one h k b = elim (is_queued_at (rows_of h) k && is_lost b) as (λ v. Grows h (if v then with_entry h (claim_of b k) else h)) [ true ↦ grows-entry h (claim_of b k) | false ↦ grows-none h h refl ]
+grows-one h k b =
+    elim (is_queued_at (rows_of h) k && is_lost b) as (λ v.
+    Grows h (if v then with_entry h (claim_of b k) else h)) [
+      | true ↦ grows-entry h (claim_of b k)
+      | false ↦ grows-none h h refl
+    ]
 
 grows-noting : (h : History) (ks : List Key) (bs : List ℕ) → Grows h (noting h ks bs)
 grows-noting h [] bs = grows-none h h refl
 grows-noting h (k ∷ ks) [] = grows-none h h refl
-grows-noting h (k ∷ ks) (b ∷ bs) = grows-then h (noting_one h k b) (noting (noting_one h k b) ks bs) (grows-one h k b) (grows-noting (noting_one h k b) ks bs)
+grows-noting h (k ∷ ks) (b ∷ bs) =
+    grows-then h (noting_one h k b) (noting (noting_one h k b) ks bs) (grows-one h k b)
+    (grows-noting (noting_one h k b) ks bs)
 
 -- ---- 2. of each call
 
-follows : (old new : BookModel) → Grows old.history new.history → new.fixed ≡ old.fixed → Follows old new
-follows old new g fixed = record { opening = g.opening; fixed = fixed; added = g.added; entries = g.entries }
+follows : (old new : BookModel) → Grows old.history new.history → new.fixed ≡ old.fixed
+    → Follows old new
+follows old new g fixed =
+    record { opening = g.opening; fixed = fixed; added = g.added; entries = g.entries }
 
 stays : (old new : BookModel) → new ≡ old → Follows old new
-stays old new same = follows old new (grows-none old.history new.history (ap (λ (b : BookModel). b.history) same)) (ap (λ (b : BookModel). b.fixed) same)
+stays old new same =
+    follows old new (grows-none old.history new.history (ap (λ (b : BookModel). b.history) same))
+    (ap (λ (b : BookModel). b.fixed) same)
 
-command-follows : (c : CommandParts) (old new : BookModel) (r : Result Taken CommandRefusal) → IsDone c old new r → Follows old new
-command-follows c old new (Err commands.NoMemory) is = follows old new (grows-none old.history new.history is.outcome) is.fixed
+command-follows : (c : CommandParts) (old new : BookModel) (r : Result Taken CommandRefusal)
+    → IsDone c old new r → Follows old new
+command-follows c old new (Err commands.NoMemory) is =
+    follows old new (grows-none old.history new.history is.outcome) is.fixed
 command-follows c old new (Err (commands.NothingApplies s)) is =
     let now = noting old.history (off_in c old) is.outcome.0 in
-    follows old new (grows-to old.history now new.history (grows-noting old.history (off_in c old) is.outcome.0) is.outcome.2.1) is.fixed
+    follows old new (grows-to old.history now new.history
+    (grows-noting old.history (off_in c old) is.outcome.0) is.outcome.2.1) is.fixed
 command-follows c old new (Ok taken) is =
     let now = noting old.history (off_in c old) is.outcome.0 in
-    let e : Entry = record { kind = kind_of c; keys = takes (rows_of now) (kind_of c) (filter (is_matched_in c old) (named_by c old)) } in
-    follows old new (grows-to old.history (with_entry now e) new.history (grows-then old.history now (with_entry now e) (grows-noting old.history (off_in c old) is.outcome.0) (grows-entry now e)) is.outcome.2.1) is.fixed
+    let e : Entry = record {
+      kind = kind_of c;
+      keys = takes (rows_of now) (kind_of c) (filter (is_matched_in c old) (named_by c old));
+    } in
+    follows old new (grows-to old.history (with_entry now e) new.history
+    (grows-then old.history now (with_entry now e)
+    (grows-noting old.history (off_in c old) is.outcome.0) (grows-entry now e)) is.outcome.2.1)
+    is.fixed
 
-won-grows : (x : Option Marked) (old new : History) (builders n : ℕ) → IsSomeAnd x (λ (e : Marked). IsWon old new builders (off_for e.entry.kind e.entry.keys) n) → Grows old new
+won-grows : (x : Option Marked) (old new : History) (builders n : ℕ)
+    → IsSomeAnd x (λ (e : Marked). IsWon old new builders (off_for e.entry.kind e.entry.keys) n)
+    → Grows old new
 won-grows None old new builders n o = absurd o
-won-grows (Some m) old new builders n o = grows-to old (with_entry old (claim_of o.by o.key)) new (grows-entry old (claim_of o.by o.key)) o.now
+won-grows (Some m) old new builders n o =
+    grows-to old (with_entry old (claim_of o.by o.key)) new (grows-entry old (claim_of o.by o.key))
+    o.now
 
-undo-follows : (x : Option UndoRefusal) (n : ℕ) (old new : BookModel) (r : Result (Unit {0}) UndoRefusal) → UndoAnswer x n old new r → Follows old new
+undo-follows : (x : Option UndoRefusal) (n : ℕ) (old new : BookModel)
+    (r : Result (Unit {0}) UndoRefusal) → UndoAnswer x n old new r → Follows old new
 undo-follows (Some s) n old new r a = stays old new a.1
-undo-follows None n old new (Ok u) a = follows old new (grows-to old.history (without_entry old.history n) new.history (grows-undone old.history n) a.outcome) a.fixed
-undo-follows None n old new (Err undos.NoMemory) a = follows old new (grows-none old.history new.history a.outcome) a.fixed
-undo-follows None n old new (Err (undos.Blocked m)) a = follows old new (won-grows (entry_at old.history.journal n) old.history new.history old.fixed.builders m a.outcome) a.fixed
+undo-follows None n old new (Ok u) a =
+    follows old new (grows-to old.history (without_entry old.history n) new.history
+    (grows-undone old.history n) a.outcome) a.fixed
+undo-follows None n old new (Err undos.NoMemory) a =
+    follows old new (grows-none old.history new.history a.outcome) a.fixed
+undo-follows None n old new (Err (undos.Blocked m)) a =
+    follows old new (won-grows (entry_at old.history.journal n) old.history new.history
+    old.fixed.builders m a.outcome) a.fixed
 undo-follows None n old new (Err undos.NoSuchEntry) a = absurd a.outcome
 undo-follows None n old new (Err undos.NotACommand) a = absurd a.outcome
 undo-follows None n old new (Err undos.AlreadyUndone) a = absurd a.outcome
 
-noticed-follows : (i b : ℕ) (is : Bool) (old new : BookModel) → Noticed i b is old new → Follows old new
-noticed-follows i b is old new o = follows old new (grows-to old.history (noting_one old.history o.key o.by) new.history (grows-one old.history o.key o.by) o.history) o.fixed
+noticed-follows : (i b : ℕ) (is : Bool) (old new : BookModel) → Noticed i b is old new
+    → Follows old new
+noticed-follows i b is old new o =
+    follows old new (grows-to old.history (noting_one old.history o.key o.by) new.history
+    (grows-one old.history o.key o.by) o.history) o.fixed
 
-start-follows : (b : ℕ) (hand : Hand) (old new : BookModel) (r : Result Job StartRefusal) → StartOutcome b hand old new r → Follows old new
+start-follows : (b : ℕ) (hand : Hand) (old new : BookModel) (r : Result Job StartRefusal)
+    → StartOutcome b hand old new r → Follows old new
 start-follows b (Holding i) old new (Ok job) o = noticed-follows i b true old new o.0
 start-follows b (Holding i) old new (Err starts.Mismatch) o = noticed-follows i b false old new o
 start-follows b (Holding i) old new (Err starts.NothingHeld) o = absurd o
@@ -136,19 +198,24 @@ start-follows b (Finished i c) old new (Err starts.Mismatch) o = stays old new o
 start-follows b (Finished i c) old new (Err starts.NothingHeld) o = stays old new o.1
 start-follows b (Finished i c) old new (Err starts.NoMemory) o = stays old new o
 
-finish-follows : (hand : Hand) (o : Outcome) (v u : BuilderView) (old new : BookModel) (r : Result ℕ FinishRefusal) → FinishOutcome hand o v u old new r → Follows old new
+finish-follows : (hand : Hand) (o : Outcome) (v u : BuilderView) (old new : BookModel)
+    (r : Result ℕ FinishRefusal) → FinishOutcome hand o v u old new r → Follows old new
 finish-follows (Holding i) o v u old new (Ok n) is =
     let f = is.0 in
     let mid = noting_one old.history f.key f.by in
     let e : Entry = record { kind = kinds.Outcome v.number o; keys = f.key ∷ [] } in
-    follows old new (grows-to old.history (with_entry mid e) new.history (grows-then old.history mid (with_entry mid e) (grows-one old.history f.key f.by) (grows-entry mid e)) f.history) f.fixed
-finish-follows (Holding i) o v u old new (Err finishes.Mismatch) is = noticed-follows i v.number is.0 old new is.1
+    follows old new (grows-to old.history (with_entry mid e) new.history
+    (grows-then old.history mid (with_entry mid e) (grows-one old.history f.key f.by)
+    (grows-entry mid e)) f.history) f.fixed
+finish-follows (Holding i) o v u old new (Err finishes.Mismatch) is =
+    noticed-follows i v.number is.0 old new is.1
 finish-follows (Holding i) o v u old new (Err finishes.NothingHeld) is = absurd is
 finish-follows (Holding i) o v u old new (Err finishes.NoMemory) is = stays old new is.0
 finish-follows (Finished i c) o v u old new (Ok n) is =
     let s = is.0.1 in
     let e : Entry = record { kind = kinds.Outcome v.number o; keys = s.key ∷ [] } in
-    follows old new (grows-to old.history (with_entry old.history e) new.history (grows-entry old.history e) s.history) s.fixed
+    follows old new (grows-to old.history (with_entry old.history e) new.history
+    (grows-entry old.history e) s.history) s.fixed
 finish-follows (Finished i c) o v u old new (Err finishes.Mismatch) is = stays old new is.0.1
 finish-follows (Finished i c) o v u old new (Err finishes.NothingHeld) is = stays old new is.0.1
 finish-follows (Finished i c) o v u old new (Err finishes.NoMemory) is = stays old new is.0
@@ -157,20 +224,26 @@ finish-follows Free o v u old new (Err finishes.Mismatch) is = stays old new is.
 finish-follows Free o v u old new (Err finishes.NothingHeld) is = stays old new is.1
 finish-follows Free o v u old new (Err finishes.NoMemory) is = stays old new is.1
 
-entered-follows : (old new : BookModel) (e : Entry) → new ≡ record old { history = with_entry old.history e } → Follows old new
-entered-follows old new e is = follows old new (grows-to old.history (with_entry old.history e) new.history (grows-entry old.history e) (ap (λ (b : BookModel). b.history) is)) (ap (λ (b : BookModel). b.fixed) is)
+entered-follows : (old new : BookModel) (e : Entry)
+    → new ≡ record old { history = with_entry old.history e } → Follows old new
+entered-follows old new e is =
+    follows old new (grows-to old.history (with_entry old.history e) new.history
+    (grows-entry old.history e) (ap (λ (b : BookModel). b.history) is))
+    (ap (λ (b : BookModel). b.fixed) is)
 
 does-follow : (call : Call) (old new : BookModel) → Does call old new → Follows old new
 does-follow (command c r) old new d = command-follows c old new r d
 does-follow (undo n r) old new d = undo-follows (undo_stop old.history.journal n) n old new r d
 does-follow (start b hand r) old new d = start-follows b hand old new r d
 does-follow (finish o v u r) old new d = finish-follows v.hand o v u old new r d
-does-follow (arrive k (Ok n)) old new d = entered-follows old new (record { kind = kinds.Arrive; keys = k ∷ [] }) d.3
+does-follow (arrive k (Ok n)) old new d =
+    entered-follows old new (record { kind = kinds.Arrive; keys = k ∷ [] }) d.3
 does-follow (arrive k (Err arrivals.NoSuchRow)) old new d = stays old new d.1
 does-follow (arrive k (Err (arrivals.DoesNotApply s))) old new d = stays old new d.4
 does-follow (arrive k (Err arrivals.NoMemory)) old new d = stays old new d
 does-follow (sweep (Ok None)) old new d = stays old new d.1
-does-follow (sweep (Ok (Some n))) old new d = entered-follows old new (record { kind = kinds.Sweep; keys = freed_now old }) d.1
+does-follow (sweep (Ok (Some n))) old new d =
+    entered-follows old new (record { kind = kinds.Sweep; keys = freed_now old }) d.1
 does-follow (sweep (Err e)) old new d = stays old new d
 
 -- ---- 3. of lists of calls
@@ -180,11 +253,15 @@ entries_stay [] old new same = stays old new same
 entries_stay (c ∷ calls) old new d =
     let one = does-follow c old d.0 d.1 in
     let rest = entries_stay calls d.0 new d.2 in
-    let g = grows-then old.history d.0.history new.history (record { opening = one.opening; added = one.added; entries = one.entries }) (record { opening = rest.opening; added = rest.added; entries = rest.entries }) in
+    let g = grows-then old.history d.0.history new.history
+    (record { opening = one.opening; added = one.added; entries = one.entries })
+    (record { opening = rest.opening; added = rest.added; entries = rest.entries }) in
     follows old new g (rest.fixed ∙ one.fixed)
 
 pub rows_are_replayed : RowsAreReplayed
-rows_are_replayed t fixed calls new d = ap (λ (o : Table). replay o (standing new.history.journal)) (entries_stay calls (record { history = opened t; fixed = fixed }) new d).opening
+rows_are_replayed t fixed calls new d =
+    ap (λ (o : Table). replay o (standing new.history.journal))
+    (entries_stay calls (record { history = opened t; fixed = fixed }) new d).opening
 
 -- ---- 4. the last entry
 
@@ -196,37 +273,54 @@ entry_at-last : (ms : List Marked) (m : Marked) → entry_at (ms ++ m ∷ []) (l
 entry_at-last ms m =
     let back : length ms + 1 - 1 ≡ length ms = omega arith in
     let not_zero : (length ms + 1 == 0) ≡ false = grind (arith, nat_tests) in
-    ap (λ b. if b then None else slice_get (ms ++ m ∷ []) (length ms + 1 - 1)) not_zero ∙ ap (slice_get (ms ++ m ∷ [])) back ∙ slice_get-last ms m
+    ap (λ b. if b then None else slice_get (ms ++ m ∷ []) (length ms + 1 - 1)) not_zero
+    ∙ ap (slice_get (ms ++ m ∷ [])) back ∙ slice_get-last ms m
 
-latest-none : (e : Entry) (n number : ℕ) (ms : List Marked) → number + length ms ≤ n + 1 → latest_touching e n number ms ≡ None
+latest-none : (e : Entry) (n number : ℕ) (ms : List Marked) → number + length ms ≤ n + 1
+    → latest_touching e n number ms ≡ None
 latest-none e n number [] h = refl
 latest-none e n number (m ∷ ms) h =
     let below : nat_lt n number ≡ false = grind (arith, nat_tests, h) in
-    (λ j. option_or (latest-none e n (number + 1) ms (omega (arith, h)) j) (if below j && (is_standing m.mark && touches e m.entry) then Some number else None))
+    (λ j. option_or (latest-none e n (number + 1) ms (omega (arith, h)) j)
+    (if below j && (is_standing m.mark && touches e m.entry) then Some number else None))
 
 length-push : (ms : List Marked) (m : Marked) → length (ms ++ m ∷ []) ≡ length ms + 1
 length-push [] m = refl
 length-push (x ∷ ms) m = let rest = length-push ms m in omega (arith, rest)
 
 blocker-last : (ms : List Marked) (m : Marked) → blocker (ms ++ m ∷ []) (length ms + 1) ≡ None
-blocker-last ms m = ap (λ (x : Option Marked). elim x as (λ _. Option ℕ) [ Some y ↦ latest_touching y.entry (length ms + 1) 1 (ms ++ m ∷ []) | None ↦ None ]) (entry_at-last ms m)
+blocker-last ms m =
+    ap (λ (x : Option Marked).
+    elim x as (λ _. Option ℕ) [
+      | Some y ↦ latest_touching y.entry (length ms + 1) 1 (ms ++ m ∷ [])
+      | None ↦ None
+    ]) (entry_at-last ms m)
     ∙ latest-none m.entry (length ms + 1) 1 (ms ++ m ∷ []) (omega (arith, length-push ms m))
 
-undone_at-last : (ms : List Marked) (m : Marked) → undone_at (ms ++ m ∷ []) (length ms) ≡ ms ++ record m { mark = Undone } ∷ []
+undone_at-last : (ms : List Marked) (m : Marked)
+    → undone_at (ms ++ m ∷ []) (length ms) ≡ ms ++ record m { mark = Undone } ∷ []
 undone_at-last [] m = refl
 undone_at-last (x ∷ ms) m = ap (λ (ys : List Marked). x ∷ ys) (undone_at-last ms m)
 
-standing-last : (ms : List Marked) (m : Marked) → standing (undone (ms ++ m ∷ []) (length ms + 1)) ≡ standing ms
+standing-last : (ms : List Marked) (m : Marked)
+    → standing (undone (ms ++ m ∷ []) (length ms + 1)) ≡ standing ms
 standing-last ms m =
     let back : length ms + 1 - 1 ≡ length ms = omega arith in
-    ap (λ (i : ℕ). standing (undone_at (ms ++ m ∷ []) i)) back ∙ ap standing (undone_at-last ms m) ∙ standing-append ms (record m { mark = Undone } ∷ []) ∙ append-nil (standing ms)
+    ap (λ (i : ℕ). standing (undone_at (ms ++ m ∷ []) i)) back ∙ ap standing (undone_at-last ms m)
+    ∙ standing-append ms (record m { mark = Undone } ∷ []) ∙ append-nil (standing ms)
 
 -- ---- 5. undos
 
 abbrev stop_of : Option Marked → Option ℕ → Option UndoRefusal
-stop_of x o = elim x as (λ _. Option UndoRefusal) [ Some m ↦ if is_command m.entry.kind then mark_stop m.mark o else Some undos.NotACommand | None ↦ Some undos.NoSuchEntry ]
+stop_of x o =
+    elim x as (λ _. Option UndoRefusal) [
+      | Some m ↦
+          if is_command m.entry.kind then mark_stop m.mark o else Some undos.NotACommand
+      | None ↦ Some undos.NoSuchEntry
+    ]
 
-stop-is : (ms : List Marked) (n : ℕ) (m : Marked) → entry_at ms n ≡ Some m → m.mark ≡ Standing → is_command m.entry.kind ≡ true → undo_stop ms n ≡ mark_stop Standing (blocker ms n)
+stop-is : (ms : List Marked) (n : ℕ) (m : Marked) → entry_at ms n ≡ Some m → m.mark ≡ Standing
+    → is_command m.entry.kind ≡ true → undo_stop ms n ≡ mark_stop Standing (blocker ms n)
 stop-is ms n m there stands is =
     ap (λ (x : Option Marked). stop_of x (blocker ms n)) there
     ∙ ap (λ b. if b then mark_stop m.mark (blocker ms n) else Some undos.NotACommand) is
@@ -234,43 +328,66 @@ stop-is ms n m there stands is =
 
 pub blocked_exactly : BlockedExactly
 blocked_exactly n m old new result can is d =
-    let stop = stop-is old.history.journal n can.marked can.there can.stands can.command ∙ ap (mark_stop Standing) is in
+    let stop = stop-is old.history.journal n can.marked can.there can.stands can.command
+    ∙ ap (mark_stop Standing) is in
     subst (λ (x : Option UndoRefusal). UndoAnswer x n old new result) stop d
 
 pub undone_else : UndoneElse
 undone_else n old new result can free d =
-    let stop = stop-is old.history.journal n can.marked can.there can.stands can.command ∙ ap (mark_stop Standing) free in
+    let stop = stop-is old.history.journal n can.marked can.there can.stands can.command
+    ∙ ap (mark_stop Standing) free in
     (subst (λ (x : Option UndoRefusal). UndoAnswer x n old new result) stop d).outcome
 
-module _ (c : CommandParts) (old between new : BookModel) (taken : Taken) (is : IsDone c old between (Ok taken)) where
+module _ (c : CommandParts) (old between new : BookModel) (taken : Taken)
+    (is : IsDone c old between (Ok taken)) where
   abbrev now : History
   now = noting old.history (off_in c old) is.outcome.0
 
   abbrev made : Entry
-  made = record { kind = kind_of c; keys = takes (rows_of (noting old.history (off_in c old) is.outcome.0)) (kind_of c) (filter (is_matched_in c old) (named_by c old)) }
+  made =
+      record {
+        kind = kind_of c;
+        keys = takes (rows_of (noting old.history (off_in c old) is.outcome.0)) (kind_of c)
+            (filter (is_matched_in c old) (named_by c old));
+      }
 
   there : entry_at between.history.journal taken.number ≡ Some (standing_entry made)
-  there = (λ j. entry_at (is.outcome.2.1 j).journal (is.outcome.2.2 j)) ∙ entry_at-last now.journal (standing_entry made)
+  there =
+      (λ j. entry_at (is.outcome.2.1 j).journal (is.outcome.2.2 j))
+      ∙ entry_at-last now.journal (standing_entry made)
 
   free : blocker between.history.journal taken.number ≡ None
-  free = (λ j. blocker (is.outcome.2.1 j).journal (is.outcome.2.2 j)) ∙ blocker-last now.journal (standing_entry made)
+  free =
+      (λ j. blocker (is.outcome.2.1 j).journal (is.outcome.2.2 j))
+      ∙ blocker-last now.journal (standing_entry made)
 
   stop : undo_stop between.history.journal taken.number ≡ None
-  stop = stop-is between.history.journal taken.number (standing_entry made) there refl (kinds_command c) ∙ ap (mark_stop Standing) free
+  stop =
+      stop-is between.history.journal taken.number (standing_entry made) there refl
+      (kinds_command c) ∙ ap (mark_stop Standing) free
 
-  undone_now : (r : Result (Unit {0}) UndoRefusal) → UndoAnswer None taken.number between new r → OnOk r (IsBack c old between new)
+  undone_now : (r : Result (Unit {0}) UndoRefusal) → UndoAnswer None taken.number between new r
+      → OnOk r (IsBack c old between new)
   undone_now (Ok u) a = record {
     choices = is.outcome.0;
     chosen = is.outcome.1;
     entry = made;
     stood = is.outcome.2.1;
-    rows = ap rows_of a.outcome ∙ (λ j. rows_of (without_entry (is.outcome.2.1 j) (is.outcome.2.2 j))) ∙ ap (replay now.opening) (standing-last now.journal (standing_entry made));
+    rows = ap rows_of a.outcome
+        ∙ (λ j. rows_of (without_entry (is.outcome.2.1 j) (is.outcome.2.2 j)))
+        ∙ ap (replay now.opening) (standing-last now.journal (standing_entry made));
   }
   undone_now (Err r) a = tt
 
-  at_once : (result : Result (Unit {0}) UndoRefusal) → UndoAnswer (undo_stop between.history.journal taken.number) taken.number between new result
-      → (undo_stop between.history.journal taken.number ≡ None) × OnOk result (IsBack c old between new)
-  at_once result d = (stop, undone_now result (subst (λ (x : Option UndoRefusal). UndoAnswer x taken.number between new result) stop d))
+  at_once : (result : Result (Unit {0}) UndoRefusal)
+      → UndoAnswer (undo_stop between.history.journal taken.number) taken.number between new result
+      → (undo_stop between.history.journal taken.number ≡ None)
+      × OnOk result (IsBack c old between new)
+  at_once result d = (
+    stop,
+    undone_now result
+        (subst (λ (x : Option UndoRefusal). UndoAnswer x taken.number between new result) stop d),
+  )
 
 pub undone_at_once : UndoneAtOnce
 undone_at_once c old between new taken result is d = at_once c old between new taken is result d

@@ -14,19 +14,29 @@ use Rattle.td_steps.proofs.Arrivals.{arrivals_are_steps, sweeps_are_steps}
 use Rattle.td_steps.proofs.Builds.{starts_are_steps, finishes_are_steps}
 use Rattle.td_steps.proofs.Openings.{openings_are_steps}
 
-one-call : (w : WorldView) (c : Call) (old new : BookModel) → Sees w (resting old) → Does c old new → (moves : List Move) × MovesOf c old moves × LeadsOn w (resting old) moves (resting new)
+one-call : (w : WorldView) (c : Call) (old new : BookModel) → Sees w (resting old) → Does c old new
+    → (moves : List Move) × MovesOf c old moves × LeadsOn w (resting old) moves (resting new)
 one-call w (command c r) old new sees d = commands_are_steps w c old new r sees d
 one-call w (undo n r) old new sees d = undos_are_steps w n old new r sees d
 one-call w (start b hand r) old new sees d = starts_are_steps w b hand old new r sees d
-one-call w (finish o before behind r) old new sees d = finishes_are_steps w before.hand o before behind old new r sees d
+one-call w (finish o before behind r) old new sees d =
+    finishes_are_steps w before.hand o before behind old new r sees d
 one-call w (arrive k r) old new sees d = arrivals_are_steps w k old new r sees d
 one-call w (sweep r) old new sees d = sweeps_are_steps w old new r sees d
 
 pub calls_are_steps : CallsAreSteps
-calls_are_steps w [] old new sees same = subst (λ (b : BookModel). Sees w (resting b)) (sym same) sees
+calls_are_steps w [] old new sees same =
+    subst (λ (b : BookModel). Sees w (resting b)) (sym same) sees
 calls_are_steps w (c ∷ calls) old new sees d =
-    let one = one-call w c old d.0 sees d.1 in
-    (d.0, d.1, one.0, one.1, λ v runs. let led = one.2 v runs in (led.0, led.1, calls_are_steps v calls d.0 new led.1 d.2))
+    let one = one-call w c old d.0 sees d.1 in (
+      d.0,
+      d.1,
+      one.0,
+      one.1,
+      λ v runs. let led = one.2 v runs in (led.0, led.1, calls_are_steps v calls d.0 new led.1 d.2),
+    )
 
 pub books_are_steps : BooksAreSteps
-books_are_steps t fixed calls new up none d v runs = calls_are_steps v calls (record { history = opened t; fixed = fixed }) new ((openings_are_steps t fixed up none).leads v runs).1 d
+books_are_steps t fixed calls new up none d v runs =
+    calls_are_steps v calls (record { history = opened t; fixed = fixed }) new
+    ((openings_are_steps t fixed up none).leads v runs).1 d

@@ -1,5 +1,6 @@
 -- The moves of an opening lead to the book at rest.
-use Rattle.std.proofs.Common.{◌≡◌, ℕ, zero, suc, true, List, Some, slice_get, length, replicate, ap, refl, sym, subst, ◌∙◌}
+use Rattle.std.proofs.Common.{◌≡◌, ℕ, zero, suc, true, List, Some, slice_get, length, replicate, ap}
+use Rattle.std.proofs.Common.{refl, sym, subst, ◌∙◌}
 use Rattle.std.proofs.lemmas.List.{length-replicate}
 use Rattle.td_board.specs.declared.views.RowView.{RowView}
 use Rattle.td_board.specs.declared.views.RowView.TheVariants as views
@@ -23,7 +24,8 @@ use Rattle.td_steps.specs.Sees.{Desk, resting, Sees, Fits, FitAll}
 use Rattle.td_steps.specs.Runs.{LeadsOn}
 use Rattle.td_steps.specs.Parts.{offering}
 use Rattle.td_steps.proofs.Parts.{Leads, leads-on, desk_off, offering-all}
-use Rattle.td_steps.specs.Openings.{first_desk, world_from, desk_from, MayOpen, OpensWith, HistoriesOpen, OpeningsAreSteps}
+use Rattle.td_steps.specs.Openings.{first_desk, world_from, desk_from, MayOpen, OpensWith}
+use Rattle.td_steps.specs.Openings.{HistoriesOpen, OpeningsAreSteps}
 
 same_of : {A : Type 0} (n i : ℕ) (x y : A) → slice_get (replicate n x) i ≡ Some y → y ≡ x
 same_of zero zero x y h = cc
@@ -32,7 +34,9 @@ same_of (suc n) zero x y h = cc
 same_of (suc n) (suc i) x y h = same_of n i x y h
 
 fit-replicate : (n : ℕ) → FitAll (replicate n views.In) (replicate n Closed)
-fit-replicate n i v p view phase = subst (λ (x : RowView). Fits x p) (sym (same_of n i views.In v view)) (subst (λ (x : Phase). Fits views.In x) (sym (same_of n i Closed p phase)) tt)
+fit-replicate n i v p view phase =
+    subst (λ (x : RowView). Fits x p) (sym (same_of n i views.In v view))
+    (subst (λ (x : Phase). Fits views.In x) (sym (same_of n i Closed p phase)) tt)
 
 sound-from : (h : History) (s : Stock) (n : ℕ) → MayOpen h → IsWorld (world_from h s n)
 sound-from h s n may = record {
@@ -40,18 +44,23 @@ sound-from h s n may = record {
   lawful = may.lawful;
   sized = length-replicate (length h.opening) Closed;
   suits = λ k p row phase found.
-      subst (λ (x : Phase). Suits x row.state) (sym (same_of (length h.opening) (number_of h.opening k) Closed p phase)) (may.idle k row found);
+      subst (λ (x : Phase). Suits x row.state)
+      (sym (same_of (length h.opening) (number_of h.opening k) Closed p phase))
+      (may.idle k row found);
   keys = may.keys;
-  held = λ k p phase. subst (InHand (replicate n hands.Free) k) (sym (same_of (length h.opening) (number_of h.opening k) Closed p phase)) tt;
+  held = λ k p phase. subst (InHand (replicate n hands.Free) k)
+      (sym (same_of (length h.opening) (number_of h.opening k) Closed p phase)) tt;
 }
 
-first-seen : (h : History) (s : Stock) (n : ℕ) → MayOpen h → Sees (world_from h s n) (desk_from h s n)
+first-seen : (h : History) (s : Stock) (n : ℕ) → MayOpen h
+    → Sees (world_from h s n) (desk_from h s n)
 first-seen h s n may = record {
   sound = sound-from h s n may;
   history = refl;
   supply = refl;
   builders = length-replicate n hands.Free;
-  sized = length-replicate (length h.opening) views.In ∙ sym (length-replicate (length h.opening) Closed);
+  sized = length-replicate (length h.opening) views.In
+      ∙ sym (length-replicate (length h.opening) Closed);
   fits = fit-replicate (length h.opening);
 }
 
@@ -62,18 +71,30 @@ histories_open h fixed may =
     let sees = first-seen h fixed.stock fixed.builders may in
     let ks = keys_of (rows_of h) in
     let rise = up_now h may.rising in
-    let view : replicate (length h.opening) views.In ≡ seen_off ks (rows_of h) = ap (λ (n : ℕ). replicate n views.In) (sym (length-rows h)) ∙ unbuilt_off (rows_of h) rise may.idle in
-    let start : first ≡ desk_off h fixed.stock fixed.builders ks = ap (λ (x : List RowView). record first { view = x }) view in
+    let view : replicate (length h.opening) views.In ≡ seen_off ks (rows_of h) =
+    ap (λ (n : ℕ). replicate n views.In) (sym (length-rows h))
+    ∙ unbuilt_off (rows_of h) rise may.idle in
+    let start : first ≡ desk_off h fixed.stock fixed.builders ks =
+    ap (λ (x : List RowView). record first { view = x }) view in
     let leads : Leads first (offering (rows_of h) ks) (resting b) =
-    subst (λ (x : Desk). Leads x (offering (rows_of h) ks) (resting b)) (sym start) (offering-all h fixed.stock fixed.builders may.rising ks rise) in
-    record { sees = sees; leads = leads-on (world_from h fixed.stock fixed.builders) first (resting b) (offering (rows_of h) ks) sees leads }
+    subst (λ (x : Desk). Leads x (offering (rows_of h) ks) (resting b)) (sym start)
+    (offering-all h fixed.stock fixed.builders may.rising ks rise) in
+    record {
+      sees = sees;
+      leads = leads-on (world_from h fixed.stock fixed.builders) first (resting b)
+          (offering (rows_of h) ks) sees leads;
+    }
 
 -- the history before the first entry
 pub openings_are_steps : OpeningsAreSteps
 openings_are_steps t fixed up none =
     let same : rows_of (opened t) ≡ t = replay-none t in
-    let o = histories_open (opened t) fixed (record { rising = up; lawful = tt; keys = tt; idle = subst NoneBuilt (sym same) none }) in
+    let o = histories_open (opened t) fixed
+    (record { rising = up; lawful = tt; keys = tt; idle = subst NoneBuilt (sym same) none }) in
     record {
       sees = o.sees;
-      leads = subst (λ (u : Table). LeadsOn (world_of t fixed.stock fixed.builders) (first_desk t fixed.stock fixed.builders) (offering u (keys_of u)) (resting (record { history = opened t; fixed = fixed }))) same o.leads;
+      leads = subst (λ (u : Table).
+          LeadsOn (world_of t fixed.stock fixed.builders) (first_desk t fixed.stock fixed.builders)
+          (offering u (keys_of u)) (resting (record { history = opened t; fixed = fixed }))) same
+          o.leads;
     }

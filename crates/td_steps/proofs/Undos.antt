@@ -1,5 +1,7 @@
 -- The moves of an undo lead from the book at rest to the book at rest.
-use Rattle.std.proofs.Common.{◌≡◌, ℕ, suc, ◌+◌, Bool, true, false, List, [], ◌∷◌, ◌++◌, append_assoc, ◌≤◌, Option, Some, None, Result, Ok, Err, if◌then◌else◌, length, take, drop, slice_get, ap, refl, sym, subst, ◌∙◌}
+use Rattle.std.proofs.Common.{◌≡◌, ℕ, suc, ◌+◌, Bool, true, false, List, [], ◌∷◌, ◌++◌}
+use Rattle.std.proofs.Common.{append_assoc, ◌≤◌, Option, Some, None, Result, Ok, Err, if◌then◌else◌}
+use Rattle.std.proofs.Common.{length, take, drop, slice_get, ap, refl, sym, subst, ◌∙◌}
 use Rattle.std.specs.Prelude.{IsSomeAnd}
 use Rattle.std.proofs.lemmas.List.{take-append-drop}
 use Rattle.td_board.specs.declared.views.RowView.{RowView}
@@ -34,23 +36,38 @@ use Rattle.td_steps.specs.Moves.{Move, lost, note, undo, moved}
 use Rattle.td_steps.specs.Runs.{moved_all, LeadsOn}
 use Rattle.td_steps.specs.Parts.{winning, offering, Tells}
 use Rattle.td_steps.specs.Undos.{undo_moves, blocked_moves, LostAt, UndoMoves, UndosAreSteps}
-use Rattle.td_steps.proofs.Parts.{Leads, leads-none, leads-then, leads-one, leads-on, tells-at, moved_all-append, desk_off, queued-row, lost-leads, named-off, winning-all, offering-all, apart-none, book-is, up-seen, idle-on, off-rise}
+use Rattle.td_steps.proofs.Parts.{Leads, leads-none, leads-then, leads-one, leads-on, tells-at}
+use Rattle.td_steps.proofs.Parts.{moved_all-append, desk_off, queued-row, lost-leads, named-off}
+use Rattle.td_steps.proofs.Parts.{winning-all, offering-all, apart-none, book-is, up-seen, idle-on}
+use Rattle.td_steps.proofs.Parts.{off-rise}
 
 -- ---- 1. from desk to desk
 
-undo-leads : (h : History) (st : Stock) (b n : ℕ) (c : CanBeUndone h.journal n) → blocker h.journal n ≡ None → Lawful h.opening (standing h.journal) → ascending (keys_of h.opening) ≡ true → ascending c.marked.entry.keys ≡ true
-    → Leads (desk_off h st b []) (undo_moves n c.marked.entry.kind c.marked.entry.keys h) (desk_off (without_entry h n) st b [])
+undo-leads : (h : History) (st : Stock) (b n : ℕ) (c : CanBeUndone h.journal n)
+    → blocker h.journal n ≡ None → Lawful h.opening (standing h.journal)
+    → ascending (keys_of h.opening) ≡ true → ascending c.marked.entry.keys ≡ true
+    → Leads (desk_off h st b []) (undo_moves n c.marked.entry.kind c.marked.entry.keys h)
+    (desk_off (without_entry h n) st b [])
 undo-leads h st b n c free lawful up rises =
     let e = c.marked.entry in
     let off = off_for e.kind e.keys in
     let new = without_entry h n in
     let rise = off-rise e.kind e.keys rises in
-    let within : (cells e.kind).state ≡ true → (k : Key) → names e.keys k ≡ true → names off k ≡ true = off_within e.kind e.keys off refl in
-    let same : seen_off off (rows_of h) ≡ seen_off off (rows_of new) = undone_off h new n off c.marked c free lawful up c.there within refl in
-    leads-then (desk_off h st b []) (desk_off h st b off) (desk_off new st b []) (winning (rows_of h) off) (undo n ∷ offering (rows_of new) off)
+    let within : (cells e.kind).state ≡ true → (k : Key) → names e.keys k ≡ true
+    → names off k ≡ true = off_within e.kind e.keys off refl in
+    let same : seen_off off (rows_of h) ≡ seen_off off (rows_of new) =
+    undone_off h new n off c.marked c free lawful up c.there within refl in
+    leads-then (desk_off h st b []) (desk_off h st b off) (desk_off new st b [])
+    (winning (rows_of h) off) (undo n ∷ offering (rows_of new) off)
     (winning-all h st b [] off up rise (apart-none off))
-    (leads-then (desk_off h st b off) (desk_off new st b off) (desk_off new st b []) (undo n ∷ []) (offering (rows_of new) off)
-    (leads-one (desk_off h st b off) (desk_off new st b off) (undo n) (record { stands = c; free = free; off = λ has k named. named-off h st b off k (within has k named) })
+    (leads-then (desk_off h st b off) (desk_off new st b off) (desk_off new st b []) (undo n ∷ [])
+    (offering (rows_of new) off)
+    (leads-one (desk_off h st b off) (desk_off new st b off) (undo n)
+    (record {
+      stands = c;
+      free = free;
+      off = λ has k named. named-off h st b off k (within has k named);
+    })
     (ap (λ (x : List RowView). record (desk_off new st b off) { view = x }) same))
     (offering-all new st b up off rise))
 
@@ -61,21 +78,31 @@ record Placed (ks : List Key) (k : Key) : Type 0 where
 
 placed : (ks : List Key) (k : Key) → names ks k ≡ true → Placed ks k
 placed [] k named = cc
-placed (q ∷ ks) k named = elim (same_key k q) as (λ b. same_key k q ≡ b → (if b then true else names ks k) ≡ true → Placed (q ∷ ks) k) [
-  | true ↦ λ same _. record { place = 0; at = ap (λ (x : Key). Some x) (sym (same_key-true k q same)) }
-  | false ↦ λ _ rest. let r = placed ks k rest in record { place = suc r.place; at = r.at }
-] refl named
+placed (q ∷ ks) k named =
+    elim (same_key k q) as (λ b.
+    same_key k q ≡ b → (if b then true else names ks k) ≡ true → Placed (q ∷ ks) k) [
+      | true ↦
+          λ same _.
+          record { place = 0; at = ap (λ (x : Key). Some x) (sym (same_key-true k q same)) }
+      | false ↦ λ _ rest. let r = placed ks k rest in record { place = suc r.place; at = r.at }
+    ] refl named
 
-blocked-leads : (h : History) (st : Stock) (n i b : ℕ) (off : List Key) (k : Key) → ascending (keys_of h.opening) ≡ true → ascending off ≡ true → slice_get off i ≡ Some k → is_queued_at (rows_of h) k ≡ true
-    → Leads (desk_off h st n []) (blocked_moves (take i off) k b h) (desk_off (with_entry h (claim_of b k)) st n [])
+blocked-leads : (h : History) (st : Stock) (n i b : ℕ) (off : List Key) (k : Key)
+    → ascending (keys_of h.opening) ≡ true → ascending off ≡ true → slice_get off i ≡ Some k
+    → is_queued_at (rows_of h) k ≡ true
+    → Leads (desk_off h st n []) (blocked_moves (take i off) k b h)
+    (desk_off (with_entry h (claim_of b k)) st n [])
 blocked-leads h st n i b off k up rise at queued =
     let first = take i off in
     let new = with_entry h (claim_of b k) in
     let next : take (i + 1) off ≡ first ++ k ∷ [] = take-next off i k at in
-    let rise' : ascending (first ++ k ∷ []) ≡ true = ap ascending (sym next) ∙ ascending_take off (i + 1) rise in
-    leads-then (desk_off h st n []) (desk_off h st n first) (desk_off new st n []) (winning (rows_of h) first) (lost k b ∷ note k b ∷ offering (rows_of new) (first ++ k ∷ []))
+    let rise' : ascending (first ++ k ∷ []) ≡ true =
+    ap ascending (sym next) ∙ ascending_take off (i + 1) rise in
+    leads-then (desk_off h st n []) (desk_off h st n first) (desk_off new st n [])
+    (winning (rows_of h) first) (lost k b ∷ note k b ∷ offering (rows_of new) (first ++ k ∷ []))
     (winning-all h st n [] first up (ascending_take off i rise) (apart-none first))
-    (leads-then (desk_off h st n first) (desk_off new st n (first ++ k ∷ [])) (desk_off new st n []) (lost k b ∷ note k b ∷ []) (offering (rows_of new) (first ++ k ∷ []))
+    (leads-then (desk_off h st n first) (desk_off new st n (first ++ k ∷ [])) (desk_off new st n [])
+    (lost k b ∷ note k b ∷ []) (offering (rows_of new) (first ++ k ∷ []))
     (lost-leads h st n up first k b (queued-row h k queued) (unnamed_before off i k rise at))
     (offering-all new st n up (first ++ k ∷ []) rise'))
 
@@ -87,96 +114,170 @@ pub record Stands (ms : List Marked) (n : ℕ) : Type 0 where
 pub stop-none : (ms : List Marked) (n : ℕ) → undo_stop ms n ≡ None → Stands ms n
 stop-none ms n h = at (entry_at ms n) refl h
   where
-    by_mark : (m : Marked) (mark : Mark) (o : Option ℕ) → mark_stop mark o ≡ None → (mark ≡ Standing) × (o ≡ None)
+    by_mark : (m : Marked) (mark : Mark) (o : Option ℕ) → mark_stop mark o ≡ None
+        → (mark ≡ Standing) × (o ≡ None)
     by_mark m Undone o g = cc
     by_mark m Standing (Some b) g = cc
     by_mark m Standing None g = (refl, refl)
 
-    by_kind : (m : Marked) → entry_at ms n ≡ Some m → (v : Bool) → is_command m.entry.kind ≡ v → (if v then mark_stop m.mark (blocker ms n) else Some undos.NotACommand) ≡ None → Stands ms n
+    by_kind : (m : Marked) → entry_at ms n ≡ Some m → (v : Bool) → is_command m.entry.kind ≡ v
+        → (if v then mark_stop m.mark (blocker ms n) else Some undos.NotACommand) ≡ None
+        → Stands ms n
     by_kind m there false is g = cc
-    by_kind m there true is g = let s = by_mark m m.mark (blocker ms n) g in record { can = record { marked = m; there = there; stands = s.0; command = is }; free = s.1 }
+    by_kind m there true is g =
+        let s = by_mark m m.mark (blocker ms n) g in
+        record {
+          can = record { marked = m; there = there; stands = s.0; command = is };
+          free = s.1;
+        }
 
-    at : (o : Option Marked) → entry_at ms n ≡ o → (elim o as (λ _. Option UndoRefusal) [ Some m ↦ if is_command m.entry.kind then mark_stop m.mark (blocker ms n) else Some undos.NotACommand | None ↦ Some undos.NoSuchEntry ]) ≡ None → Stands ms n
+    at : (o : Option Marked) → entry_at ms n ≡ o
+        → (elim o as (λ _. Option UndoRefusal) [
+          | Some m ↦
+              if is_command m.entry.kind then mark_stop m.mark (blocker ms n)
+              else Some undos.NotACommand
+          | None ↦ Some undos.NoSuchEntry
+        ]) ≡ None → Stands ms n
     at None there g = cc
     at (Some m) there g = by_kind m there (is_command m.entry.kind) refl g
 
 -- ---- 2. an undo
 
-tells-claim : (h : History) (st : Stock) (n i b : ℕ) (off : List Key) (k : Key) → ascending (keys_of h.opening) ≡ true → ascending off ≡ true → Tells (desk_off h st n []) (blocked_moves (take i off) k b h) (answers.Entry (length h.journal + 1))
+tells-claim : (h : History) (st : Stock) (n i b : ℕ) (off : List Key) (k : Key)
+    → ascending (keys_of h.opening) ≡ true → ascending off ≡ true
+    → Tells (desk_off h st n []) (blocked_moves (take i off) k b h)
+    (answers.Entry (length h.journal + 1))
 tells-claim h st n i b off k up rise =
     let first = take i off in
     let ms = offering (rows_of (with_entry h (claim_of b k))) (first ++ k ∷ []) in
     let before = winning (rows_of h) first in
     let won_first = winning-all h st n [] first up (ascending_take off i rise) (apart-none first) in
-    let to : moved_all (desk_off h st n []) (before ++ lost k b ∷ []) ≡ moved (desk_off h st n first) (lost k b) =
-    moved_all-append (desk_off h st n []) before (lost k b ∷ []) ∙ ap (λ (z : Desk). moved z (lost k b)) won_first.to in
-    subst (λ (all : List Move). Tells (desk_off h st n []) all (answers.Entry (length h.journal + 1))) (append_assoc before (lost k b ∷ []) (note k b ∷ ms))
-    (tells-at (desk_off h st n []) (moved (desk_off h st n first) (lost k b)) (before ++ lost k b ∷ []) ms (note k b) (answers.Entry (length h.journal + 1)) to refl)
+    let to : moved_all (desk_off h st n []) (before ++ lost k b ∷ [])
+    ≡ moved (desk_off h st n first) (lost k b) =
+    moved_all-append (desk_off h st n []) before (lost k b ∷ [])
+    ∙ ap (λ (z : Desk). moved z (lost k b)) won_first.to in
+    subst (λ (all : List Move).
+    Tells (desk_off h st n []) all (answers.Entry (length h.journal + 1)))
+    (append_assoc before (lost k b ∷ []) (note k b ∷ ms))
+    (tells-at (desk_off h st n []) (moved (desk_off h st n first) (lost k b))
+    (before ++ lost k b ∷ []) ms (note k b) (answers.Entry (length h.journal + 1)) to refl)
 
-module _ (w : WorldView) (n : ℕ) (old : BookModel) (sees : Sees w (resting old)) (s : Stands old.history.journal n) where
+module _ (w : WorldView) (n : ℕ) (old : BookModel) (sees : Sees w (resting old))
+    (s : Stands old.history.journal n) where
   pub rises : ascending s.can.marked.entry.keys ≡ true
-  rises = (entries_rise w n s.can.marked sees.sound (ap (λ (h : History). entry_at h.journal n) sees.history ∙ s.can.there)).rising
+  rises =
+      (entries_rise w n s.can.marked sees.sound
+      (ap (λ (h : History). entry_at h.journal n) sees.history ∙ s.can.there)).rising
 
   pub off-rises : ascending (off_for s.can.marked.entry.kind s.can.marked.entry.keys) ≡ true
   off-rises = off-rise s.can.marked.entry.kind s.can.marked.entry.keys rises
 
   lawful : Lawful old.history.opening (standing old.history.journal)
-  lawful = subst (λ (h : History). Lawful h.opening (standing h.journal)) sees.history sees.sound.lawful
+  lawful =
+      subst (λ (h : History). Lawful h.opening (standing h.journal)) sees.history sees.sound.lawful
 
-  pub undone-moves : (u : Unit {0}) → UndoMoves None n old (Ok u) (undo_moves n s.can.marked.entry.kind s.can.marked.entry.keys old.history)
+  pub undone-moves : (u : Unit {0})
+      → UndoMoves None n old (Ok u)
+      (undo_moves n s.can.marked.entry.kind s.can.marked.entry.keys old.history)
   undone-moves u =
       let e = s.can.marked.entry in
       let h = old.history in
       let off = off_for e.kind e.keys in
       let ms = undo_moves n e.kind e.keys h in
-      let won_all = winning-all h old.fixed.stock old.fixed.builders [] off (up-seen w old sees) off-rises (apart-none off) in (
-        subst (λ (x : Option Marked). IsSomeAnd x (λ (m : Marked). ms ≡ undo_moves n m.entry.kind m.entry.keys h)) (sym s.can.there) refl,
-        tells-at (resting old) (desk_off h old.fixed.stock old.fixed.builders off) (winning (rows_of h) off) (offering (rows_of (without_entry h n)) off) (undo n) (answers.Undone n) won_all.to refl,
+      let won_all = winning-all h old.fixed.stock old.fixed.builders [] off
+      (up-seen w old sees) off-rises (apart-none off) in (
+        subst (λ (x : Option Marked).
+            IsSomeAnd x (λ (m : Marked). ms ≡ undo_moves n m.entry.kind m.entry.keys h))
+            (sym s.can.there) refl,
+        tells-at (resting old) (desk_off h old.fixed.stock old.fixed.builders off)
+            (winning (rows_of h) off) (offering (rows_of (without_entry h n)) off) (undo n)
+            (answers.Undone n) won_all.to refl,
       )
 
-  pub stopped-moves : (i by : ℕ) (k : Key) → slice_get (off_for s.can.marked.entry.kind s.can.marked.entry.keys) i ≡ Some k → 1 ≤ by → by ≤ old.fixed.builders
-      → UndoMoves None n old (Err (undos.Blocked (length old.history.journal + 1))) (blocked_moves (take i (off_for s.can.marked.entry.kind s.can.marked.entry.keys)) k by old.history)
+  pub stopped-moves : (i by : ℕ) (k : Key)
+      → slice_get (off_for s.can.marked.entry.kind s.can.marked.entry.keys) i ≡ Some k → 1 ≤ by
+      → by ≤ old.fixed.builders
+      → UndoMoves None n old (Err (undos.Blocked (length old.history.journal + 1)))
+      (blocked_moves (take i (off_for s.can.marked.entry.kind s.can.marked.entry.keys)) k by
+      old.history)
   stopped-moves i by k at one some_builder =
       let e = s.can.marked.entry in
       let h = old.history in
       let off = off_for e.kind e.keys in
       let ms = blocked_moves (take i off) k by h in
-      let parts : off ≡ take i off ++ k ∷ drop (i + 1) off = sym (take-append-drop i off) ∙ ap (λ (x : List Key). take i off ++ x) (drop-next off i k at) in
-      let lost_at : LostAt off old ms = record { first = take i off; key = k; rest = drop (i + 1) off; by = by; one = one; some_builder = some_builder; named = parts; moves_are = refl } in (
-        subst (λ (x : Option Marked). IsSomeAnd x (λ (m : Marked). LostAt (off_for m.entry.kind m.entry.keys) old ms)) (sym s.can.there) lost_at,
+      let parts : off ≡ take i off ++ k ∷ drop (i + 1) off =
+      sym (take-append-drop i off)
+      ∙ ap (λ (x : List Key). take i off ++ x) (drop-next off i k at) in
+      let lost_at : LostAt off old ms =
+      record {
+        first = take i off;
+        key = k;
+        rest = drop (i + 1) off;
+        by = by;
+        one = one;
+        some_builder = some_builder;
+        named = parts;
+        moves_are = refl;
+      } in (
+        subst (λ (x : Option Marked).
+            IsSomeAnd x (λ (m : Marked). LostAt (off_for m.entry.kind m.entry.keys) old ms))
+            (sym s.can.there) lost_at,
         tells-claim h old.fixed.stock old.fixed.builders i by off k (up-seen w old sees) off-rises,
       )
 
-  made : (new : BookModel) → new.fixed ≡ old.fixed → (r : Result (Unit {0}) UndoRefusal) → UndoOutcome n old new r → (moves : List Move) × UndoMoves None n old r moves × LeadsOn w (resting old) moves (resting new)
+  made : (new : BookModel) → new.fixed ≡ old.fixed → (r : Result (Unit {0}) UndoRefusal)
+      → UndoOutcome n old new r
+      → (moves : List Move) × UndoMoves None n old r moves
+      × LeadsOn w (resting old) moves (resting new)
   made new fixed (Ok u) o =
       let e = s.can.marked.entry in
       let ms = undo_moves n e.kind e.keys old.history in (
         ms,
         undone-moves u,
-        leads-on w (resting old) (resting new) ms sees (subst (Leads (resting old) ms) (book-is old new (without_entry old.history n) o fixed)
-            (undo-leads old.history old.fixed.stock old.fixed.builders n s.can s.free lawful (up-seen w old sees) rises)),
+        leads-on w (resting old) (resting new) ms sees
+            (subst (Leads (resting old) ms) (book-is old new (without_entry old.history n) o fixed)
+            (undo-leads old.history old.fixed.stock old.fixed.builders n s.can s.free lawful
+            (up-seen w old sees) rises)),
       )
-  made new fixed (Err undos.NoMemory) o = ([], refl, leads-on w (resting old) (resting new) [] sees (leads-none (resting old) (resting new) (book-is old new old.history o fixed)))
+  made new fixed (Err undos.NoMemory) o = (
+    [],
+    refl,
+    leads-on w (resting old) (resting new) [] sees
+        (leads-none (resting old) (resting new) (book-is old new old.history o fixed)),
+  )
   made new fixed (Err (undos.Blocked b)) o =
       let e = s.can.marked.entry in
       let h = old.history in
       let off = off_for e.kind e.keys in
-      let won_by : IsWon h new.history old.fixed.builders off b = subst (λ (x : Option Marked). IsSomeAnd x (λ (m : Marked). IsWon h new.history old.fixed.builders (off_for m.entry.kind m.entry.keys) b)) s.can.there o in
+      let won_by : IsWon h new.history old.fixed.builders off b =
+      subst (λ (x : Option Marked).
+      IsSomeAnd x (λ (m : Marked).
+      IsWon h new.history old.fixed.builders (off_for m.entry.kind m.entry.keys) b)) s.can.there
+      o in
       let p = placed off won_by.key won_by.is_named in
       let ms = blocked_moves (take p.place off) won_by.key won_by.by h in (
         ms,
-        subst (λ (x : ℕ). UndoMoves None n old (Err (undos.Blocked x)) ms) (sym won_by.number) (stopped-moves p.place won_by.by won_by.key p.at won_by.one won_by.some_builder),
-        leads-on w (resting old) (resting new) ms sees (subst (Leads (resting old) ms) (book-is old new (with_entry h (claim_of won_by.by won_by.key)) won_by.now fixed)
-            (blocked-leads h old.fixed.stock old.fixed.builders p.place won_by.by off won_by.key (up-seen w old sees) off-rises p.at won_by.out)),
+        subst (λ (x : ℕ). UndoMoves None n old (Err (undos.Blocked x)) ms) (sym won_by.number)
+            (stopped-moves p.place won_by.by won_by.key p.at won_by.one won_by.some_builder),
+        leads-on w (resting old) (resting new) ms sees
+            (subst (Leads (resting old) ms)
+            (book-is old new (with_entry h (claim_of won_by.by won_by.key)) won_by.now fixed)
+            (blocked-leads h old.fixed.stock old.fixed.builders p.place won_by.by off won_by.key
+            (up-seen w old sees) off-rises p.at won_by.out)),
       )
   made new fixed (Err undos.NoSuchEntry) o = absurd o
   made new fixed (Err undos.NotACommand) o = absurd o
   made new fixed (Err undos.AlreadyUndone) o = absurd o
 
-stopped : (w : WorldView) (n : ℕ) (old new : BookModel) (sees : Sees w (resting old)) (x : Option UndoRefusal) (result : Result (Unit {0}) UndoRefusal)
-    → undo_stop old.history.journal n ≡ x → UndoAnswer x n old new result → (moves : List Move) × UndoMoves x n old result moves × LeadsOn w (resting old) moves (resting new)
+stopped : (w : WorldView) (n : ℕ) (old new : BookModel) (sees : Sees w (resting old))
+    (x : Option UndoRefusal) (result : Result (Unit {0}) UndoRefusal)
+    → undo_stop old.history.journal n ≡ x → UndoAnswer x n old new result
+    → (moves : List Move) × UndoMoves x n old result moves
+    × LeadsOn w (resting old) moves (resting new)
 stopped w n old new sees (Some r) result is a = ([], refl, idle-on w old new sees a.1)
-stopped w n old new sees None result is a = made w n old sees (stop-none old.history.journal n is) new a.fixed result a.outcome
+stopped w n old new sees None result is a =
+    made w n old sees (stop-none old.history.journal n is) new a.fixed result a.outcome
 
 pub undos_are_steps : UndosAreSteps
-undos_are_steps w n old new result sees answer = stopped w n old new sees (undo_stop old.history.journal n) result refl answer
+undos_are_steps w n old new result sees answer =
+    stopped w n old new sees (undo_stop old.history.journal n) result refl answer

@@ -1,5 +1,7 @@
 -- The claim that stops an undo is the latest entry that blocks it.
-use Rattle.std.proofs.Common.{◌≡◌, ℕ, zero, suc, ◌+◌, ◌-◌, ◌<◌, ◌==◌, Bool, true, false, ◌&&◌, ◌||◌, List, [], ◌∷◌, ◌++◌, Option, Some, None, Err, if◌then◌else◌, length, slice_get, ap, refl, subst, ◌∙◌, arith}
+use Rattle.std.proofs.Common.{◌≡◌, ℕ, zero, suc, ◌+◌, ◌-◌, ◌<◌, ◌==◌, Bool, true, false, ◌&&◌, ◌||◌}
+use Rattle.std.proofs.Common.{List, [], ◌∷◌, ◌++◌, Option, Some, None, Err, if◌then◌else◌, length}
+use Rattle.std.proofs.Common.{slice_get, ap, refl, subst, ◌∙◌, arith}
 use Rattle.std.specs.Prelude.{IsSomeAnd, nat_lt}
 use Rattle.std.specs.Option.{option_or}
 use Rattle.std.proofs.lemmas.Bool.Decides.{nat_tests}
@@ -24,7 +26,8 @@ use Rattle.td_steps.proofs.Undos.{stop-none}
 
 -- ---- 1. entries before the last one
 
-slice_get-front : (ms ns : List Marked) (i : ℕ) (m : Marked) → slice_get ms i ≡ Some m → slice_get (ms ++ ns) i ≡ Some m
+slice_get-front : (ms ns : List Marked) (i : ℕ) (m : Marked) → slice_get ms i ≡ Some m
+    → slice_get (ms ++ ns) i ≡ Some m
 slice_get-front [] ns zero m h = cc
 slice_get-front [] ns (suc i) m h = cc
 slice_get-front (x ∷ ms) ns zero m h = h
@@ -36,21 +39,26 @@ slice_get-inside [] (suc i) m h = cc
 slice_get-inside (x ∷ ms) zero m h = omega arith
 slice_get-inside (x ∷ ms) (suc i) m h = let rest = slice_get-inside ms i m h in omega (arith, rest)
 
-entry_at-front : (ms ns : List Marked) (n : ℕ) (m : Marked) → entry_at ms n ≡ Some m → entry_at (ms ++ ns) n ≡ Some m
+entry_at-front : (ms ns : List Marked) (n : ℕ) (m : Marked) → entry_at ms n ≡ Some m
+    → entry_at (ms ++ ns) n ≡ Some m
 entry_at-front ms ns n m there =
     let place = entry_at-place ms n m there in
     let above : n ≡ suc (n - 1) = place.0 in
     let not_zero : (n == 0) ≡ false = grind (arith, nat_tests, above) in
-    ap (λ b. if b then None else slice_get (ms ++ ns) (n - 1)) not_zero ∙ slice_get-front ms ns (n - 1) m place.1
+    ap (λ b. if b then None else slice_get (ms ++ ns) (n - 1)) not_zero
+    ∙ slice_get-front ms ns (n - 1) m place.1
 
 -- the last one, where it touches
-latest-last : (e c : Entry) (n number q : ℕ) (ms : List Marked) → q ≡ number + length ms → n < q → touches e c ≡ true → latest_touching e n number (ms ++ standing_entry c ∷ []) ≡ Some q
+latest-last : (e c : Entry) (n number q : ℕ) (ms : List Marked) → q ≡ number + length ms → n < q
+    → touches e c ≡ true → latest_touching e n number (ms ++ standing_entry c ∷ []) ≡ Some q
 latest-last e c n number q [] is above touch =
     let here : number ≡ q = omega (arith, is) in
     let over : nat_lt n number ≡ true = grind (arith, nat_tests, here, above) in
     (λ j. if over j && touch j then Some (here j) else None)
 latest-last e c n number q (m ∷ ms) is above touch =
-    ap (λ (o : Option ℕ). option_or o (if nat_lt n number && (is_standing m.mark && touches e m.entry) then Some number else None)) (latest-last e c n (number + 1) q ms (omega (arith, is)) above touch)
+    ap (λ (o : Option ℕ). option_or o
+    (if nat_lt n number && (is_standing m.mark && touches e m.entry) then Some number else None))
+    (latest-last e c n (number + 1) q ms (omega (arith, is)) above touch)
 
 -- ---- 2. what a claim touches
 
@@ -60,42 +68,66 @@ either false b h = h
 
 share-one : (keys : List Key) (k : Key) → names keys k ≡ true → share_key keys (k ∷ []) ≡ true
 share-one [] k named = cc
-share-one (q ∷ keys) k named = elim (same_key k q) as (λ b. same_key k q ≡ b → (if b then true else names keys k) ≡ true → share_key (q ∷ keys) (k ∷ []) ≡ true) [
-  | true ↦ λ same _. ap (λ b. (if b then true else false) || share_key keys (k ∷ [])) (same_key-sym k q same)
-  | false ↦ λ _ rest. either (names (k ∷ []) q) (share_key keys (k ∷ [])) (share-one keys k rest)
-] refl named
+share-one (q ∷ keys) k named =
+    elim (same_key k q) as (λ b.
+    same_key k q ≡ b → (if b then true else names keys k) ≡ true
+    → share_key (q ∷ keys) (k ∷ []) ≡ true) [
+      | true ↦
+          λ same _. ap (λ b. (if b then true else false) || share_key keys (k ∷ []))
+          (same_key-sym k q same)
+      | false ↦
+          λ _ rest. either (names (k ∷ []) q) (share_key keys (k ∷ [])) (share-one keys k rest)
+    ] refl named
 
 -- what is withdrawn for an entry is named by it, and its kind has the state
 record IsOff (kind : Kind) (keys : List Key) (k : Key) : Type 0 where
   state : (cells kind).state ≡ true
   named : names keys k ≡ true
 
-is-off : (kind : Kind) (keys : List Key) (k : Key) → names (off_for kind keys) k ≡ true → IsOff kind keys k
-is-off kind keys k h = elim (cells kind).state as (λ b. (cells kind).state ≡ b → names (if b then keys else []) k ≡ true → IsOff kind keys k) [
-  | true ↦ λ state named. record { state = state; named = named }
-  | false ↦ λ _ none. cc
-] refl h
+is-off : (kind : Kind) (keys : List Key) (k : Key) → names (off_for kind keys) k ≡ true
+    → IsOff kind keys k
+is-off kind keys k h =
+    elim (cells kind).state as (λ b.
+    (cells kind).state ≡ b → names (if b then keys else []) k ≡ true → IsOff kind keys k) [
+      | true ↦ λ state named. record { state = state; named = named }
+      | false ↦ λ _ none. cc
+    ] refl h
 
-touches-claim : (e : Entry) (b : ℕ) (k : Key) → IsOff e.kind e.keys k → touches e (claim_of b k) ≡ true
+touches-claim : (e : Entry) (b : ℕ) (k : Key) → IsOff e.kind e.keys k
+    → touches e (claim_of b k) ≡ true
 touches-claim e b k off =
     let c = cells e.kind in
-    ap (λ s. s && (((((c.state && true) || (c.priority && false)) || (c.number && false)) || (c.dep_wait && false)) || (c.extra && false))) (share-one e.keys k off.named)
-    ∙ ap (λ s. ((((s && true) || (c.priority && false)) || (c.number && false)) || (c.dep_wait && false)) || (c.extra && false)) off.state
+    ap (λ s. s && (((((c.state && true) || (c.priority && false)) || (c.number && false))
+    || (c.dep_wait && false)) || (c.extra && false))) (share-one e.keys k off.named)
+    ∙ ap (λ s. ((((s && true) || (c.priority && false)) || (c.number && false))
+    || (c.dep_wait && false)) || (c.extra && false)) off.state
 
 -- ---- 3. an undo that a claim stops
 
-blocker-last : (ms : List Marked) (c : Entry) (n q : ℕ) (m : Marked) → entry_at ms n ≡ Some m → q ≡ length ms + 1 → touches m.entry c ≡ true → blocker (ms ++ standing_entry c ∷ []) n ≡ Some q
+blocker-last : (ms : List Marked) (c : Entry) (n q : ℕ) (m : Marked) → entry_at ms n ≡ Some m
+    → q ≡ length ms + 1 → touches m.entry c ≡ true
+    → blocker (ms ++ standing_entry c ∷ []) n ≡ Some q
 blocker-last ms c n q m there is touch =
     let place = entry_at-place ms n m there in
     let inside = slice_get-inside ms (n - 1) m place.1 in
-    ap (λ (x : Option Marked). elim x as (λ _. Option ℕ) [ Some y ↦ latest_touching y.entry n 1 (ms ++ standing_entry c ∷ []) | None ↦ None ]) (entry_at-front ms (standing_entry c ∷ []) n m there)
+    ap (λ (x : Option Marked).
+    elim x as (λ _. Option ℕ) [
+      | Some y ↦ latest_touching y.entry n 1 (ms ++ standing_entry c ∷ [])
+      | None ↦ None
+    ]) (entry_at-front ms (standing_entry c ∷ []) n m there)
     ∙ latest-last m.entry c n 1 q ms (omega (arith, is)) (omega (arith, is, inside, place.0)) touch
 
 pub won_names_the_latest : WonNamesTheLatest
 won_names_the_latest n m old new stop d =
     let s = stop-none old.history.journal n stop in
     let e = s.can.marked.entry in
-    let a : UndoAnswer None n old new (Err (Blocked m)) = subst (λ (x : Option UndoRefusal). UndoAnswer x n old new (Err (Blocked m))) stop d in
-    let w : IsWon old.history new.history old.fixed.builders (off_for e.kind e.keys) m = subst (λ (x : Option Marked). IsSomeAnd x (λ (y : Marked). IsWon old.history new.history old.fixed.builders (off_for y.entry.kind y.entry.keys) m)) s.can.there a.outcome in
+    let a : UndoAnswer None n old new (Err (Blocked m)) =
+    subst (λ (x : Option UndoRefusal). UndoAnswer x n old new (Err (Blocked m))) stop d in
+    let w : IsWon old.history new.history old.fixed.builders (off_for e.kind e.keys) m =
+    subst (λ (x : Option Marked).
+    IsSomeAnd x (λ (y : Marked).
+    IsWon old.history new.history old.fixed.builders (off_for y.entry.kind y.entry.keys) m))
+    s.can.there a.outcome in
     ap (λ (h : History). blocker h.journal n) w.now
-    ∙ blocker-last old.history.journal (claim_of w.by w.key) n m s.can.marked s.can.there w.number (touches-claim e w.by w.key (is-off e.kind e.keys w.key w.is_named))
+    ∙ blocker-last old.history.journal (claim_of w.by w.key) n m s.can.marked s.can.there w.number
+    (touches-claim e w.by w.key (is-off e.kind e.keys w.key w.is_named))

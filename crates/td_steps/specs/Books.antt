@@ -1,5 +1,6 @@
 -- What holds of a book over any list of its calls. This project's own.
-use Rattle.std.specs.Prelude.{◌≡◌, ℕ, true, List, [], ◌∷◌, ◌++◌, map, Option, Some, None, Result, Ok, Err, OnOk}
+use Rattle.std.specs.Prelude.{◌≡◌, ℕ, true, List, [], ◌∷◌, ◌++◌, map, Option, Some, None, Result}
+use Rattle.std.specs.Prelude.{Ok, Err, OnOk}
 use Rattle.std.specs.declared.alloc.AllocError.{AllocError}
 use Rattle.td_board.specs.declared.views.BuilderView.{BuilderView}
 use Rattle.td_board.specs.declared.views.Hand.{Hand}

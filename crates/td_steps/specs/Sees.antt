@@ -1,6 +1,7 @@
 -- What the desk and the book know of a world, as a plain value, and when that is so. This project's
 -- own.
-use Rattle.std.specs.Prelude.{◌≡◌, ℕ, Bool, true, false, List, [], length, slice_get, set, Option, Some}
+use Rattle.std.specs.Prelude.{◌≡◌, ℕ, Bool, true, false, List, [], length, slice_get, set, Option}
+use Rattle.std.specs.Prelude.{Some}
 use Rattle.td_board.specs.declared.views.RowView.{RowView}
 use Rattle.td_board.specs.declared.views.RowView.TheVariants.{In, Out, Seen, Known}
 use Rattle.td_rows.specs.declared.key.Key.{Key}

@@ -1,5 +1,6 @@
 -- Whatever builders do, the desk's calls go on to the end. This project's own.
-use Rattle.std.specs.Prelude.{◌≡◌, ◌⊎◌, ℕ, suc, ◌+◌, ◌≤◌, true, List, [], ◌∷◌, None, Ok, Err, length}
+use Rattle.std.specs.Prelude.{◌≡◌, ◌⊎◌, ℕ, suc, ◌+◌, ◌≤◌, true, List, [], ◌∷◌, None, Ok, Err}
+use Rattle.std.specs.Prelude.{length}
 use Rattle.td_rows.specs.declared.key.Key.{Key}
 use Rattle.td_rows.specs.Table.{Table, keys_of}
 use Rattle.td_wbread.specs.Command.{CommandParts}

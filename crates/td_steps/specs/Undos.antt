@@ -1,5 +1,6 @@
 -- The moves of an undo. This project's own.
-use Rattle.std.specs.Prelude.{◌≡◌, ℕ, ◌≤◌, List, [], ◌∷◌, ◌++◌, Option, None, Result, Ok, Err, IsSomeAnd}
+use Rattle.std.specs.Prelude.{◌≡◌, ℕ, ◌≤◌, List, [], ◌∷◌, ◌++◌, Option, None, Result, Ok, Err}
+use Rattle.std.specs.Prelude.{IsSomeAnd}
 use Rattle.td_rows.specs.declared.key.Key.{Key}
 use Rattle.td_rows.specs.declared.kind.Kind.{Kind}
 use Rattle.td_journal.specs.Entries.{entry_at}

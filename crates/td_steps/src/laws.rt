@@ -1,6 +1,7 @@
 //! Each call of the book is a list of steps, each law the contract of a function that does nothing.
 ghost use Rattle.td_steps.specs.Arrivals.{ArrivalsAreSteps, SweepsAreSteps};
-ghost use Rattle.td_steps.specs.Books.{EntriesStay, RowsAreReplayed, EntriesAreLawful, UndoneAtOnce, BlockedExactly, UndoneElse, WonNamesTheLatest};
+ghost use Rattle.td_steps.specs.Books.{EntriesStay, RowsAreReplayed, EntriesAreLawful};
+ghost use Rattle.td_steps.specs.Books.{UndoneAtOnce, BlockedExactly, UndoneElse, WonNamesTheLatest};
 ghost use Rattle.td_steps.specs.Builds.{StartsAreSteps, FinishesAreSteps, FinishesRun};
 ghost use Rattle.td_steps.specs.Calls.{CallsAreSteps, BooksAreSteps};
 ghost use Rattle.td_steps.specs.Choices.{WorldsDecide, DecidedCommandsRun};
@@ -8,7 +9,8 @@ ghost use Rattle.td_steps.specs.Commands.{CommandsAreSteps};
 ghost use Rattle.td_steps.specs.Deeds.{JournalsTellDeeds};
 ghost use Rattle.td_steps.specs.Laws.{MovesAreSteps, BuildersChangeNothing, RunsAreSeen};
 ghost use Rattle.td_steps.specs.Openings.{OpeningsAreSteps, HistoriesOpen};
-ghost use Rattle.td_steps.specs.Reopenings.{ReopeningsAreSteps, ReopenedBooksAreSteps, ReopenedAreReplayed};
+ghost use Rattle.td_steps.specs.Reopenings.{ReopeningsAreSteps, ReopenedBooksAreSteps};
+ghost use Rattle.td_steps.specs.Reopenings.{ReopenedAreReplayed};
 ghost use Rattle.td_steps.specs.Turns.{CommandsGoOn, StartsGoOn, UndosGoOn, OthersGoOn, TurnsRun};
 ghost use Rattle.td_steps.specs.Undos.{UndosAreSteps};
 

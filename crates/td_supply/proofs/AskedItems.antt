@@ -19,7 +19,9 @@ any-places named test items (x ∷ xs) n left =
     elim (cases_Bool (named x)) [
       | inl is ↦
           let here : passes_at test items n ≡ test x = ap (λ o. option_map_or test o false) f.0 in
-          rw is (ap (λ (b : Bool). b || list_any (λ (k : ℕ). passes_at test items k) (places_from named (n + 1) xs)) here ∙ ap (λ (b : Bool). test x || b) later)
+          rw is (ap (λ (b : Bool).
+          b || list_any (λ (k : ℕ). passes_at test items k) (places_from named (n + 1) xs)) here
+          ∙ ap (λ (b : Bool). test x || b) later)
       | inr other ↦ rw other later
     ]
 

@@ -17,12 +17,15 @@ pub written : (name q : List ℕ) (a b : Numbers) (old new : Vec ℕ Global) (f 
     (Some new) → new.items ≡ f old.items
     → numbers_of b q ≡ (if bytes_eq q name then f (numbers_of a q) else numbers_of a q)
 written name q a b old new f there updates is =
-    let seen = ap (λ o. option_map_or (λ (l : Vec ℕ Global). l.items) o []) (hash_map_updates_str name a.by_name b.by_name (Some new) updates q) in
+    let seen = ap (λ o. option_map_or (λ (l : Vec ℕ Global). l.items) o [])
+    (hash_map_updates_str name a.by_name b.by_name (Some new) updates q) in
     elim (cases_Bool (bytes_eq q name)) [
       | inl same ↦
           let e : q ≡ name = same_text q name same in
           let own : bytes_eq name q ≡ true = bytes_eq-swap name q ∙ same in
-          let had : old.items ≡ numbers_of a q = ap (λ o. option_map_or (λ (l : Vec ℕ Global). l.items) o []) there ∙ ap (numbers_of a) (sym e) in
+          let had : old.items ≡ numbers_of a q =
+          ap (λ o. option_map_or (λ (l : Vec ℕ Global). l.items) o []) there
+          ∙ ap (numbers_of a) (sym e) in
           seen ∙ rw (own, same) (is ∙ ap f had)
       | inr other ↦
           let foreign : bytes_eq name q ≡ false = bytes_eq-swap name q ∙ other in

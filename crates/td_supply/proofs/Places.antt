@@ -12,19 +12,25 @@ pub places-push : {A : Type 0} (test : A → Bool) (n : ℕ) (xs : List A) (x : 
     ≡ (if test x then places_from test n xs ++ (n + length xs) ∷ [] else places_from test n xs)
 places-push test n [] x =
     let here : n ≡ n + 0 = omega arith in
-    elim (cases_Bool (test x)) [ inl is ↦ rw is (ap (λ (m : ℕ). m ∷ []) here) | inr other ↦ rw other refl ]
+    elim (cases_Bool (test x)) [
+      | inl is ↦ rw is (ap (λ (m : ℕ). m ∷ []) here)
+      | inr other ↦ rw other refl
+    ]
 places-push test n (y ∷ xs) x =
     let later = places-push test (n + 1) xs x in
     let far : n + 1 + length xs ≡ n + suc (length xs) = omega arith in
     elim (cases_Bool (test x)) [
       | inl is ↦
-          let l : places_from test (n + 1) (xs ++ x ∷ []) ≡ places_from test (n + 1) xs ++ (n + suc (length xs)) ∷ [] = later ∙ rw is refl ∙ ap (λ (m : ℕ). places_from test (n + 1) xs ++ m ∷ []) far in
+          let l : places_from test (n + 1) (xs ++ x ∷ [])
+          ≡ places_from test (n + 1) xs ++ (n + suc (length xs)) ∷ [] =
+          later ∙ rw is refl ∙ ap (λ (m : ℕ). places_from test (n + 1) xs ++ m ∷ []) far in
           elim (cases_Bool (test y)) [
             | inl own ↦ rw (own, is) (ap (λ (l : List ℕ). n ∷ l) l)
             | inr none ↦ rw (none, is) l
           ]
       | inr other ↦
-          let l : places_from test (n + 1) (xs ++ x ∷ []) ≡ places_from test (n + 1) xs = later ∙ rw other refl in
+          let l : places_from test (n + 1) (xs ++ x ∷ []) ≡ places_from test (n + 1) xs =
+          later ∙ rw other refl in
           elim (cases_Bool (test y)) [
             | inl own ↦ rw (own, other) (ap (λ (l : List ℕ). n ∷ l) l)
             | inr none ↦ rw (none, other) l
@@ -38,13 +44,15 @@ pub agrees-push : {A : Type 0} (test : A → Bool) (xs : List A) (x : A) (old ne
 agrees-push test xs x old new n agree last is =
     let from_zero : n ≡ 0 + length xs = omega arith in
     is ∙ ap (λ (l : List ℕ). if test x then l ++ n ∷ [] else l) agree
-    ∙ ap (λ (m : ℕ). if test x then places_from test 0 xs ++ m ∷ [] else places_from test 0 xs) from_zero
+    ∙ ap (λ (m : ℕ). if test x then places_from test 0 xs ++ m ∷ [] else places_from test 0 xs)
+    from_zero
     ∙ sym (places-push test 0 xs x)
 
 -- the same where the item fails the test
 pub agrees-other : {A : Type 0} (test : A → Bool) (xs : List A) (x : A) (old : List ℕ)
     → old ≡ places_from test 0 xs → test x ≡ false → old ≡ places_from test 0 (xs ++ x ∷ [])
-agrees-other test xs x old agree other = agrees-push test xs x old old (length xs) agree refl (sym (rw other refl))
+agrees-other test xs x old agree other =
+    agrees-push test xs x old old (length xs) agree refl (sym (rw other refl))
 
 -- of other items that pass as those do
 pub places-map : {A B : Type 0} (test : B → Bool) (f : A → B) (n : ℕ) (xs : List A)
@@ -52,14 +60,18 @@ pub places-map : {A B : Type 0} (test : B → Bool) (f : A → B) (n : ℕ) (xs 
 places-map test f n [] = refl
 places-map test f n (x ∷ xs) =
     let later = places-map test f (n + 1) xs in
-    elim (cases_Bool (test (f x))) [ inl is ↦ rw is (ap (λ (l : List ℕ). n ∷ l) later) | inr other ↦ rw other later ]
+    elim (cases_Bool (test (f x))) [
+      | inl is ↦ rw is (ap (λ (l : List ℕ). n ∷ l) later)
+      | inr other ↦ rw other later
+    ]
 
 pub places-same : {A : Type 0} (test other : A → Bool) (n : ℕ) (xs : List A)
     → ((x : A) → test x ≡ other x) → places_from test n xs ≡ places_from other n xs
 places-same test other n [] same = refl
 places-same test other n (x ∷ xs) same =
     let later = places-same test other (n + 1) xs same in
-    ap (λ (b : Bool). if b then n ∷ places_from test (n + 1) xs else places_from test (n + 1) xs) (same x)
+    ap (λ (b : Bool). if b then n ∷ places_from test (n + 1) xs else places_from test (n + 1) xs)
+    (same x)
     ∙ ap (λ (l : List ℕ). if other x then n ∷ l else l) later
 
 -- the first of what is left, and the rest

@@ -28,7 +28,9 @@ none_of f (Some x) h = absurd (let bad : Some (f x) ≡ None = h in cc)
 pub no_version : (name : List ℕ) (es : List (Bor (List ℕ) × Bor (List ℕ)))
     → option_map (λ (p : List ℕ × List ℕ). p.1) (find (λ (p : List ℕ × List ℕ). bytes_eq name p.0)
     (sources_of es)) ≡ None → lookup (λ (k : Bor (List ℕ)). bytes_eq name k.now) es ≡ None
-no_version name es gone = none_of (λ (v : Bor (List ℕ)). v.now) (lookup (λ (k : Bor (List ℕ)). bytes_eq name k.now) es) (version_found name es ∙ gone)
+no_version name es gone =
+    none_of (λ (v : Bor (List ℕ)). v.now) (lookup (λ (k : Bor (List ℕ)). bytes_eq name k.now) es)
+    (version_found name es ∙ gone)
 
 -- what holds of each version holds of the one that is found
 pub version_has : (P : List ℕ → Type 0) (name : List ℕ) (es : List (Bor (List ℕ) × Bor (List ℕ)))

@@ -11,4 +11,8 @@ pub bytes_eq-swap : (a b : List ℕ) → bytes_eq a b ≡ bytes_eq b a
 bytes_eq-swap a b =
     let one = bytes_eq-Decides a b in
     let other = bytes_eq-Decides b a in
-    same_from_decides {P = a ≡ b} (bytes_eq a b) (bytes_eq b a) one (λ h. sym (other.0 h), λ e. other.1 (sym e))
+    same_from_decides {P = a ≡ b} (bytes_eq a b) (bytes_eq b a) one (
+      λ h.
+          sym (other.0 h),
+      λ e. other.1 (sym e),
+    )

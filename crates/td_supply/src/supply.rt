@@ -48,7 +48,8 @@ impl<'a> Model for Supply<'a> {
       items = map item s.items.items;
     } };
 
-    ghost invariant = { λ s. ((q : List ℕ) → numbers_of s.by_name q ≡ places_from (is_under q) 0 s.items.items)
+    ghost invariant = { λ s.
+        ((q : List ℕ) → numbers_of s.by_name q ≡ places_from (is_under q) 0 s.items.items)
         × ((q : List ℕ) → numbers_of s.by_source q ≡ places_from (is_by q) 0 s.items.items)
         × AreVersions (sources_of s.sources.entries) };
 }

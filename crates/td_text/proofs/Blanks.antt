@@ -1,5 +1,6 @@
 -- Whitespace in front of a text and at its end: where runs stop, and what is left behind it.
-use Rattle.std.proofs.Common.{◌≡◌, ℕ, Bool, true, false, ◌&&◌, List, [], ◌∷◌, ◌++◌, sym, ap, ◌∙◌, append-nil, inl, inr}
+use Rattle.std.proofs.Common.{◌≡◌, ℕ, Bool, true, false, ◌&&◌, List, [], ◌∷◌, ◌++◌, sym, ap, ◌∙◌}
+use Rattle.std.proofs.Common.{append-nil, inl, inr}
 use Rattle.std.specs.List.{list_all}
 use Rattle.std.proofs.lemmas.Bool.{cases_Bool, and_parts}
 use Rattle.std.proofs.lemmas.List.Folds.{list_all-append}
@@ -15,14 +16,17 @@ not_passed test x lacks h =
     ]
 
 -- a run stops at whitespace, and where it would stop behind that
-pub Stops-blank : (test : ℕ → Bool) (s t : List ℕ) → NoSpace test → is_blank s ≡ true → Stops test t → Stops test (s ++ t)
+pub Stops-blank : (test : ℕ → Bool) (s t : List ℕ) → NoSpace test → is_blank s ≡ true → Stops test t
+    → Stops test (s ++ t)
 Stops-blank test [] t lacks h e = e
-Stops-blank test (x ∷ s) t lacks h e = not_passed test x lacks (and_parts (is_space x) (list_all is_space s) h).0
+Stops-blank test (x ∷ s) t lacks h e =
+    not_passed test x lacks (and_parts (is_space x) (list_all is_space s) h).0
 
 -- and at whitespace alone
 pub Stops-back : (test : ℕ → Bool) (s : List ℕ) → NoSpace test → is_blank s ≡ true → Stops test s
 Stops-back test [] lacks h = tt
-Stops-back test (x ∷ s) lacks h = not_passed test x lacks (and_parts (is_space x) (list_all is_space s) h).0
+Stops-back test (x ∷ s) lacks h =
+    not_passed test x lacks (and_parts (is_space x) (list_all is_space s) h).0
 
 -- what follows whitespace
 pub trimmed_behind : (s t : List ℕ) → is_blank s ≡ true → Stops is_space t → trimmed (s ++ t) ≡ t

@@ -1,5 +1,6 @@
 -- Texts line by line.
-use Rattle.std.proofs.Common.{◌≡◌, ℕ, ◌+◌, eqb, List, [], ◌∷◌, ◌++◌, Option, Some, None, Result, Ok, Err, refl, sym, ap, ◌∙◌, append_assoc, lit<}
+use Rattle.std.proofs.Common.{◌≡◌, ℕ, ◌+◌, eqb, List, [], ◌∷◌, ◌++◌, Option, Some, None, Result, Ok}
+use Rattle.std.proofs.Common.{Err, refl, sym, ap, ◌∙◌, append_assoc, lit<}
 use Rattle.std.specs.Borrow.{Bor}
 use Rattle.std.specs.List.{AllByRecursion}
 use Rattle.std.proofs.lemmas.List.Splits.{slice_split_at, slice_split_none}
@@ -10,21 +11,25 @@ use Rattle.td_text.proofs.Cut.{Without-from_index, none_is}
 
 -- ---- the first line and the others
 
-pub lines_of-cons : (line rest : List ℕ) → Without 10 line → lines_of (line ++ 10 ∷ rest) ≡ line ∷ lines_of rest
+pub lines_of-cons : (line rest : List ℕ) → Without 10 line
+    → lines_of (line ++ 10 ∷ rest) ≡ line ∷ lines_of rest
 lines_of-cons line rest w = slice_split_at (λ b. eqb b 10) line 10 rest (none_is 10 line w) refl
 
 pub lines_of-one : (line : List ℕ) → Without 10 line → lines_of line ≡ line ∷ []
 lines_of-one line w = slice_split_none (λ b. eqb b 10) line (none_is 10 line w)
 
-pub next_some : (t : List ℕ) (x : Bor (List ℕ) × Bor (List ℕ)) → IsSplitOnceResult 10 t (Some x) → lines_of t ≡ x.0.now ∷ lines_of x.1.now
+pub next_some : (t : List ℕ) (x : Bor (List ℕ) × Bor (List ℕ)) → IsSplitOnceResult 10 t (Some x)
+    → lines_of t ≡ x.0.now ∷ lines_of x.1.now
 next_some t x s =
     let p = split_parts 10 t (Some x) s (lit< tt) in
     ap lines_of p.0 ∙ lines_of-cons x.0.now x.1.now (Without-from_index 10 x.0.now p.1)
 
-pub split_now : (t : List ℕ) (x : Bor (List ℕ) × Bor (List ℕ)) → IsSplitOnceResult 10 t (Some x) → t ≡ x.0.now ++ 10 ∷ x.1.now
+pub split_now : (t : List ℕ) (x : Bor (List ℕ) × Bor (List ℕ)) → IsSplitOnceResult 10 t (Some x)
+    → t ≡ x.0.now ++ 10 ∷ x.1.now
 split_now t x s = (split_parts 10 t (Some x) s (lit< tt)).0
 
-pub split_line : (t : List ℕ) (x : Bor (List ℕ) × Bor (List ℕ)) → IsSplitOnceResult 10 t (Some x) → Without 10 x.0.now
+pub split_line : (t : List ℕ) (x : Bor (List ℕ) × Bor (List ℕ)) → IsSplitOnceResult 10 t (Some x)
+    → Without 10 x.0.now
 split_line t x s = Without-from_index 10 x.0.now (split_parts 10 t (Some x) s (lit< tt)).1
 
 pub split_last : (t : List ℕ) → IsSplitOnceResult 10 t None → Without 10 t
@@ -34,37 +39,50 @@ pub next_none : (t : List ℕ) → IsSplitOnceResult 10 t None → lines_of t �
 next_none t s = lines_of-one t (Without-from_index 10 t (split_parts 10 t None s (lit< tt)))
 
 -- lines that were written are read again; behind the last newline stands an empty one
-pub lines_of-text_of : (lines : List (List ℕ)) → AllByRecursion (Without 10) lines → lines_of (text_of lines) ≡ lines ++ [] ∷ []
+pub lines_of-text_of : (lines : List (List ℕ)) → AllByRecursion (Without 10) lines
+    → lines_of (text_of lines) ≡ lines ++ [] ∷ []
 lines_of-text_of [] w = lines_of-one [] tt
 lines_of-text_of (line ∷ lines) w =
-    ap lines_of (append_assoc line (10 ∷ []) (text_of lines)) ∙ lines_of-cons line (text_of lines) w.0 ∙ ap (λ (l : List (List ℕ)). line ∷ l) (lines_of-text_of lines w.1)
+    ap lines_of (append_assoc line (10 ∷ []) (text_of lines))
+    ∙ lines_of-cons line (text_of lines) w.0
+    ∙ ap (λ (l : List (List ℕ)). line ∷ l) (lines_of-text_of lines w.1)
 
 -- ---- the steps over lines
 
 -- what is left of a text begins with its next line
-pub taken : {S F : Type 0} (step : ℕ → S → List ℕ → Result S F) (n : ℕ) (seen : S) (o : Option (Bor (List ℕ))) (t : Bor (List ℕ)) (line : List ℕ) (after : List (List ℕ)) (total : Result S F)
-    → o ≡ Some t → lines_of t.now ≡ line ∷ after → over_lines step n seen (lines_left o) ≡ total → over_lines step n seen (line ∷ after) ≡ total
-taken step n seen o t line after total is cut h = sym (ap (over_lines step n seen) (ap lines_left is ∙ cut)) ∙ h
+pub taken : {S F : Type 0} (step : ℕ → S → List ℕ → Result S F) (n : ℕ) (seen : S)
+    (o : Option (Bor (List ℕ))) (t : Bor (List ℕ)) (line : List ℕ) (after : List (List ℕ))
+    (total : Result S F)
+    → o ≡ Some t → lines_of t.now ≡ line ∷ after → over_lines step n seen (lines_left o) ≡ total
+    → over_lines step n seen (line ∷ after) ≡ total
+taken step n seen o t line after total is cut h =
+    sym (ap (over_lines step n seen) (ap lines_left is ∙ cut)) ∙ h
 
 -- a step that read its line
-pub stepped : {S F : Type 0} (step : ℕ → S → List ℕ → Result S F) (n : ℕ) (seen more : S) (line : List ℕ) (after : List (List ℕ)) (total : Result S F)
-    → step n seen line ≡ Ok more → over_lines step n seen (line ∷ after) ≡ total → over_lines step (n + 1) more after ≡ total
+pub stepped : {S F : Type 0} (step : ℕ → S → List ℕ → Result S F) (n : ℕ) (seen more : S)
+    (line : List ℕ) (after : List (List ℕ)) (total : Result S F)
+    → step n seen line ≡ Ok more → over_lines step n seen (line ∷ after) ≡ total
+    → over_lines step (n + 1) more after ≡ total
 unfolding over_lines
 stepped step n seen more line after total is h = sym (rw is refl) ∙ h
 
 -- a step that left what was seen as it was
-pub skips : {S F : Type 0} (step : ℕ → S → List ℕ → Result S F) (n : ℕ) (seen : S) (line : List ℕ) (after : List (List ℕ)) (total : Result S F)
-    → step n seen line ≡ Ok seen → over_lines step n seen (line ∷ after) ≡ total → over_lines step (n + 1) seen after ≡ total
+pub skips : {S F : Type 0} (step : ℕ → S → List ℕ → Result S F) (n : ℕ) (seen : S) (line : List ℕ)
+    (after : List (List ℕ)) (total : Result S F)
+    → step n seen line ≡ Ok seen → over_lines step n seen (line ∷ after) ≡ total
+    → over_lines step (n + 1) seen after ≡ total
 skips step n seen line after total is h = stepped step n seen seen line after total is h
 
 -- a step with a fault
-pub fails : {S F : Type 0} (step : ℕ → S → List ℕ → Result S F) (n : ℕ) (seen : S) (line : List ℕ) (after : List (List ℕ)) (total : Result S F) (e : F)
+pub fails : {S F : Type 0} (step : ℕ → S → List ℕ → Result S F) (n : ℕ) (seen : S) (line : List ℕ)
+    (after : List (List ℕ)) (total : Result S F) (e : F)
     → step n seen line ≡ Err e → over_lines step n seen (line ∷ after) ≡ total → total ≡ Err e
 unfolding over_lines
 fails step n seen line after total e is h = sym h ∙ rw is refl
 
 -- no line is left
-pub ends : {S F : Type 0} (step : ℕ → S → List ℕ → Result S F) (n : ℕ) (seen : S) (o : Option (Bor (List ℕ))) (total : Result S F)
+pub ends : {S F : Type 0} (step : ℕ → S → List ℕ → Result S F) (n : ℕ) (seen : S)
+    (o : Option (Bor (List ℕ))) (total : Result S F)
     → o ≡ None → over_lines step n seen (lines_left o) ≡ total → total ≡ Ok seen
 unfolding over_lines
 ends step n seen None total is h = sym h

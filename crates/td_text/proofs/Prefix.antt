@@ -1,5 +1,6 @@
 -- What follows a prefix.
-use Rattle.std.proofs.Common.{◌≡◌, ◌≢◌, ℕ, ◌+◌, List, [], ◌∷◌, ◌++◌, length, drop, Option, Some, None, option_map, refl, sym, ap, ◌∙◌, inl, inr}
+use Rattle.std.proofs.Common.{◌≡◌, ◌≢◌, ℕ, ◌+◌, List, [], ◌∷◌, ◌++◌, length, drop, Option, Some}
+use Rattle.std.proofs.Common.{None, option_map, refl, sym, ap, ◌∙◌, inl, inr}
 use Rattle.std.specs.Prelude.{MatchOption, IfSome}
 use Rattle.std.specs.Borrow.{Bor}
 use Rattle.std.specs.Str.Pattern.{FindsTextPrefix}
@@ -19,7 +20,8 @@ strip_found [] t r e = some_is t r e
 strip_found (x ∷ p) [] r e = absurd cc
 strip_found (x ∷ p) (y ∷ t) r e =
     elim (eqb_tells x y) [
-      | inl is ↦ let q : strip p t ≡ Some r = sym (rw is.0 refl) ∙ e in rw (is.1, strip_found p t r q) refl
+      | inl is ↦
+          let q : strip p t ≡ Some r = sym (rw is.0 refl) ∙ e in rw (is.1, strip_found p t r q) refl
       | inr other ↦ absurd (let q : None ≡ Some r = sym (rw other.0 refl) ∙ e in cc)
     ]
 
@@ -32,12 +34,18 @@ strip_none p t h =
 
 -- what `strip_prefix` gives
 abbrev pub IsStripped : List ℕ → List ℕ → Option (Bor (List ℕ)) → Type 0
-IsStripped p t r = MatchOption r (FindsTextPrefix p t None) (λ x. (n : ℕ) × FindsTextPrefix p t (Some n) × (x.now ≡ drop n t) × (length x.now + n ≡ length t))
+IsStripped p t r =
+    MatchOption r (FindsTextPrefix p t None)
+    (λ x.
+    (n : ℕ) × FindsTextPrefix p t (Some n) × (x.now ≡ drop n t) × (length x.now + n ≡ length t))
 
-pub strip-from_prefix : (p t : List ℕ) (r : Option (Bor (List ℕ))) → IsStripped p t r → option_map (λ x. x.now) r ≡ strip p t
+pub strip-from_prefix : (p t : List ℕ) (r : Option (Bor (List ℕ))) → IsStripped p t r
+    → option_map (λ x. x.now) r ≡ strip p t
 strip-from_prefix p t None h = sym (strip_none p t (λ r e. h r e))
-strip-from_prefix p t (Some x) h = sym (ap (strip p) h.1.1 ∙ strip_again p (drop h.0 t) ∙ ap (λ (l : List ℕ). Some l) (sym h.2))
+strip-from_prefix p t (Some x) h =
+    sym (ap (strip p) h.1.1 ∙ strip_again p (drop h.0 t) ∙ ap (λ (l : List ℕ). Some l) (sym h.2))
 
-pub prefix_found : (p t : List ℕ) (r : Option (Bor (List ℕ))) → option_map (λ x. x.now) r ≡ strip p t → IfSome r (λ x. t ≡ p ++ x.now)
+pub prefix_found : (p t : List ℕ) (r : Option (Bor (List ℕ)))
+    → option_map (λ x. x.now) r ≡ strip p t → IfSome r (λ x. t ≡ p ++ x.now)
 prefix_found p t None h = tt
 prefix_found p t (Some x) h = strip_found p t x.now (sym h)

@@ -9,9 +9,12 @@ use Rattle.td_text.proofs.Cut.{Without-from_test}
 
 pub Without-name : (c : ℕ) (t : List ℕ) → is_name_byte c ≡ false → IsTrue (is_name t) → Without c t
 Without-name c t out h =
-    let a = and_parts (ltb 1 (length t)) (is_alphanumeric (get_or t 0 0) && list_all is_name_byte t) h in
+    let a = and_parts (ltb 1 (length t)) (is_alphanumeric (get_or t 0 0) && list_all is_name_byte t)
+    h in
     let b = and_parts (is_alphanumeric (get_or t 0 0)) (list_all is_name_byte t) a.1 in
     Without-from_test is_name_byte c t out b.1
 
 pub Without-arch : (c : ℕ) (t : List ℕ) → is_arch_byte c ≡ false → IsTrue (is_arch t) → Without c t
-Without-arch c t out h = Without-from_test is_arch_byte c t out (and_parts (ltb 0 (length t)) (list_all is_arch_byte t) h).1
+Without-arch c t out h =
+    Without-from_test is_arch_byte c t out
+    (and_parts (ltb 0 (length t)) (list_all is_arch_byte t) h).1

@@ -1,5 +1,7 @@
 -- Numbers as the formats write them: no `+`, no leading zero, no `-0`.
-use Rattle.std.specs.Prelude.{ℕ, ◌==◌, ◌<◌, ◌≤◌, ◌^◌, decimal, nat_lt, nat_le, List, Bool, ◌&&◌, ◌||◌, not, Option, Some, None, length, slice_index, if◌then◌else◌, codes, ℤ, pos, ◌≤ℤ◌}
+use Rattle.std.specs.Prelude.{ℕ, ◌==◌, ◌<◌, ◌≤◌, ◌^◌, decimal, nat_lt, nat_le, List, Bool, ◌&&◌}
+use Rattle.std.specs.Prelude.{◌||◌, not, Option, Some, None, length, slice_index, if◌then◌else◌}
+use Rattle.std.specs.Prelude.{codes, ℤ, pos, ◌≤ℤ◌}
 use Rattle.std.specs.Str.{all_ascii_digits}
 use Rattle.std.specs.Str.Parse.{digits_value}
 use lib.IntN.{neg_ℤ}

@@ -6,7 +6,8 @@ ghost use Rattle.td_text.specs.Cut.{Without, cut, part, strip as strip_of};
 pub fn cut_at(text: &str, mark: char) -> Option<(&str, &str)>
     requires { mark < 128 }
     ensures value { option_map (λ x. (x.0.now, x.1.now)) result ≡ cut mark text.now }
-    ensures found { IfSome result (λ x. (text.now ≡ x.0.now ++ mark ∷ x.1.now) × Without mark x.0.now) }
+    ensures found { IfSome result (λ x.
+        (text.now ≡ x.0.now ++ mark ∷ x.1.now) × Without mark x.0.now) }
     ensures none { IfNone result (Without mark text.now) }
 {
     text.split_once(mark)

@@ -1,7 +1,8 @@
 //! Numbers as the formats write them.
 ghost use Rattle.std.specs.Prelude.{◌≡◌, ◌<◌, ◌≤◌, ◌^◌, IfSome};
 ghost use Rattle.td_text.specs.Limits.{max_rebuild};
-ghost use Rattle.td_text.specs.Numbers.{has_spare_front as has_spare_front_of, number_at, signed_at, IsWithin, NumbersAreExact, SignedAreExact};
+ghost use Rattle.td_text.specs.Numbers.{has_spare_front as has_spare_front_of, number_at};
+ghost use Rattle.td_text.specs.Numbers.{signed_at, IsWithin, NumbersAreExact, SignedAreExact};
 
 use crate::cutting::strip;
 

@@ -1,8 +1,10 @@
 //! Whitespace, and the runs of bytes of a kind at the front of a text.
 ghost use Rattle.std.specs.Prelude.{◌≡◌, ◌≤◌, length};
 ghost use Rattle.std.specs.List.{prefix_len};
-ghost use Rattle.td_text.specs.Runs.{behind, is_blank as is_blank_of, is_space as is_space_of, run, trimmed as trimmed_of};
-ghost use Rattle.td_text.specs.Words.{is_arch_byte as is_arch_byte_of, is_name_byte as is_name_byte_of};
+ghost use Rattle.td_text.specs.Runs.{behind, is_blank as is_blank_of, is_space as is_space_of, run};
+ghost use Rattle.td_text.specs.Runs.{trimmed as trimmed_of};
+ghost use Rattle.td_text.specs.Words.{is_arch_byte as is_arch_byte_of};
+ghost use Rattle.td_text.specs.Words.{is_name_byte as is_name_byte_of};
 
 use crate::word::{is_arch_byte, is_name_byte};
 

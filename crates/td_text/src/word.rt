@@ -1,7 +1,10 @@
 //! The names of packages and of architectures.
 ghost use Rattle.std.specs.Prelude.{◌≡◌};
 ghost use Rattle.std.specs.List.{list_all};
-ghost use Rattle.td_text.specs.Words.{is_alphanumeric as is_alphanumeric_of, is_name_byte as is_name_byte_of, is_arch_byte as is_arch_byte_of, is_name as is_name_of, is_arch as is_arch_of};
+ghost use Rattle.td_text.specs.Words.{is_alphanumeric as is_alphanumeric_of};
+ghost use Rattle.td_text.specs.Words.{is_name_byte as is_name_byte_of};
+ghost use Rattle.td_text.specs.Words.{is_arch_byte as is_arch_byte_of, is_name as is_name_of};
+ghost use Rattle.td_text.specs.Words.{is_arch as is_arch_of};
 
 fn is_alphanumeric(byte: u8) -> bool
     ensures { result ≡ is_alphanumeric_of byte }

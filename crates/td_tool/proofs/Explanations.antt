@@ -1,5 +1,7 @@
 -- The text in which an ending is explained, and what is said of it.
-use Rattle.std.proofs.Common.{◌≡◌, ◌≢◌, ◌≤◌, ℕ, Bool, true, false, List, [], ◌++◌, length, Option, Some, None, IfSome, Result, Ok, Err, OnOk, OnErr, String, string_bytes, append-nil, refl, sym, subst, ap, ◌∙◌}
+use Rattle.std.proofs.Common.{◌≡◌, ◌≢◌, ◌≤◌, ℕ, Bool, true, false, List, [], ◌++◌, length, Option}
+use Rattle.std.proofs.Common.{Some, None, IfSome, Result, Ok, Err, OnOk, OnErr, String}
+use Rattle.std.proofs.Common.{string_bytes, append-nil, refl, sym, subst, ap, ◌∙◌}
 use Rattle.std.specs.declared.alloc.Global.{Global}
 use Rattle.std.specs.Prelude.{option_and_then}
 use Rattle.td_bytes.specs.Pieces.{AppendsPrefix}
@@ -12,14 +14,17 @@ use Rattle.td_words.specs.CommandLine.{RunWords, TrackWords}
 use Rattle.td_words.specs.declared.request.Request.{Request}
 use Rattle.td_words.specs.declared.request.Request.TheVariants as asked
 use Rattle.td_tool.specs.Ending.{line_of}
-use Rattle.td_tool.specs.Explained.{Explains, ExplainsFile, IsKept, IsLookedAt, IsSaidOf, IsTextFor, SaysOf, archive_paths, explanation_of, known_at, known_of_request, paths_of, run_paths, track_paths, waves_paths}
+use Rattle.td_tool.specs.Explained.{Explains, ExplainsFile, IsKept, IsLookedAt, IsSaidOf, IsTextFor}
+use Rattle.td_tool.specs.Explained.{SaysOf, archive_paths, explanation_of, known_at}
+use Rattle.td_tool.specs.Explained.{known_of_request, paths_of, run_paths, track_paths, waves_paths}
 use Rattle.td_tool.specs.Places.{place_of}
 use Rattle.td_tool.specs.declared.role.Role.{Role}
 use Rattle.td_tool.specs.declared.role.Role.TheVariants as role
 use Rattle.td_tool.specs.declared.input_fault.InputFault.{InputFault}
 use Rattle.td_tool.specs.declared.ending.Ended.{Ended}
 use Rattle.td_tool.specs.declared.ending.Ending.{Ending}
-use Rattle.td_tool.specs.declared.ending.Ending.TheVariants.{Done, Refused, BadInput, NoMemory, CannotRead, CannotWrite}
+use Rattle.td_tool.specs.declared.ending.Ending.TheVariants.{Done, Refused, BadInput, NoMemory}
+use Rattle.td_tool.specs.declared.ending.Ending.TheVariants.{CannotRead, CannotWrite}
 
 -- ---- some text is the known one
 
@@ -27,13 +32,15 @@ known_text : (known : Option (List ℕ)) → (text : List ℕ) × IfSome known (
 known_text None = ([], tt)
 known_text (Some all) = (all, refl)
 
-looked_at : (place : Place) (known : Option (List ℕ)) → (text : List ℕ) × IsLookedAt place known text
+looked_at : (place : Place) (known : Option (List ℕ))
+    → (text : List ℕ) × IsLookedAt place known text
 looked_at Whole known = ([], tt)
 looked_at (Line n) known = known_text known
 looked_at (Stanza n) known = known_text known
 looked_at (Byte at) known = known_text known
 
-pub some_text : (ending : Ending) (known : Role → Option (List ℕ)) → (text : List ℕ) × IsTextFor ending known text
+pub some_text : (ending : Ending) (known : Role → Option (List ℕ))
+    → (text : List ℕ) × IsTextFor ending known text
 some_text Done known = ([], tt)
 some_text Refused known = ([], tt)
 some_text (BadInput r fault) known = looked_at (place_of fault) (known r)
@@ -42,51 +49,79 @@ some_text (CannotRead r) known = ([], tt)
 some_text CannotWrite known = ([], tt)
 
 -- a text that is the known one can be looked at, wherever
-is_looked_at : (place : Place) (known : Option (List ℕ)) (text : List ℕ) → IfSome known (λ all. all ≡ text) → IsLookedAt place known text
+is_looked_at : (place : Place) (known : Option (List ℕ)) (text : List ℕ)
+    → IfSome known (λ all. all ≡ text) → IsLookedAt place known text
 is_looked_at Whole known text same = tt
 is_looked_at (Line n) known text same = same
 is_looked_at (Stanza n) known text same = same
 is_looked_at (Byte at) known text same = same
 
-pub explains_role : (known : Role → Option (List ℕ)) (r : Role) (fault : InputFault) (line : List ℕ) → ExplainsFile (known r) r fault line → Explains known (BadInput r fault) line
+pub explains_role : (known : Role → Option (List ℕ)) (r : Role) (fault : InputFault) (line : List ℕ)
+    → ExplainsFile (known r) r fault line → Explains known (BadInput r fault) line
 explains_role known r fault line e = (e.0, is_looked_at (place_of fault) (known r) e.0 e.1, e.2)
 
 -- a file of a request's paths is the known one of its role
-pub file_text : (q : Request) (known : Option (List ℕ)) (bytes : List ℕ → Option (List ℕ)) (r : Role) (path text : List ℕ) → paths_of q r ≡ Some path
-    → IfSome (bytes path) (λ all. all ≡ text) → IfSome (known_of_request q known bytes r) (λ all. all ≡ text)
+pub file_text : (q : Request) (known : Option (List ℕ)) (bytes : List ℕ → Option (List ℕ))
+    (r : Role) (path text : List ℕ) → paths_of q r ≡ Some path
+    → IfSome (bytes path) (λ all. all ≡ text)
+    → IfSome (known_of_request q known bytes r) (λ all. all ≡ text)
 file_text asked.Simulate known bytes r path text is same = absurd cc
-file_text (asked.Check a p s) known bytes r path text is same = subst (λ o. IfSome (option_and_then bytes o) (λ all. all ≡ text)) (sym is) same
-file_text (asked.Track a p s t state chunk) known bytes r path text is same = subst (λ o. IfSome (option_and_then bytes o) (λ all. all ≡ text)) (sym is) same
-file_text (asked.Waves a p s t) known bytes r path text is same = subst (λ o. IfSome (option_and_then bytes o) (λ all. all ≡ text)) (sym is) same
-file_text (asked.Run a p s state tracker suite builders outcomes journal) known bytes r path text is same = subst (λ o. IfSome (option_and_then bytes o) (λ all. all ≡ text)) (sym is) same
+file_text (asked.Check a p s) known bytes r path text is same =
+    subst (λ o. IfSome (option_and_then bytes o) (λ all. all ≡ text)) (sym is) same
+file_text (asked.Track a p s t state chunk) known bytes r path text is same =
+    subst (λ o. IfSome (option_and_then bytes o) (λ all. all ≡ text)) (sym is) same
+file_text (asked.Waves a p s t) known bytes r path text is same =
+    subst (λ o. IfSome (option_and_then bytes o) (λ all. all ≡ text)) (sym is) same
+file_text (asked.Run a p s state tracker suite builders outcomes journal) known bytes r path text is
+    same = subst (λ o. IfSome (option_and_then bytes o) (λ all. all ≡ text)) (sym is) same
 
 -- where only the line of the ending is said, or a front of it
-pub line_alone : (known : Role → Option (List ℕ)) (ending : Ending) (before said : Option (List ℕ)) → AppendsPrefix before said (line_of ending) → SaysOf true known ending before said
-line_alone known ending before said line =
-    ((some_text ending known).0, (some_text ending known).1, AppendsPrefix-first before said (line_of ending) (explanation_of ending (some_text ending known).0) line)
+pub line_alone : (known : Role → Option (List ℕ)) (ending : Ending) (before said : Option (List ℕ))
+    → AppendsPrefix before said (line_of ending) → SaysOf true known ending before said
+line_alone known ending before said line = (
+  (some_text ending known).0,
+  (some_text ending known).1,
+  AppendsPrefix-first before said (line_of ending)
+      (explanation_of ending (some_text ending known).0) line,
+)
 
 -- of what is written a front stands there, whether the write fails or not
-pub wrote_front : {T E : Type 0} (before said : Option (List ℕ)) (bytes : List ℕ) (r : Result T E) → OnOk r (Appends before said bytes) → OnErr r (AppendsPrefix before said bytes) → AppendsPrefix before said bytes
+pub wrote_front : {T E : Type 0} (before said : Option (List ℕ)) (bytes : List ℕ) (r : Result T E)
+    → OnOk r (Appends before said bytes) → OnErr r (AppendsPrefix before said bytes)
+    → AppendsPrefix before said bytes
 wrote_front before said bytes (Ok x) whole front = (bytes, [], sym (append-nil bytes), whole)
 wrote_front before said bytes (Err e) whole front = front
 
 -- where there is no line nothing is said
-pub nothing_said : (known : Role → Option (List ℕ)) (ending : Ending) (before : Option (List ℕ)) → IsSaidOf known ending before before
-nothing_said known ending before =
-    ((some_text ending known).0, (some_text ending known).1, ([], explanation_of ending (some_text ending known).0, refl, Appends-nil before))
+pub nothing_said : (known : Role → Option (List ℕ)) (ending : Ending) (before : Option (List ℕ))
+    → IsSaidOf known ending before before
+nothing_said known ending before = (
+  (some_text ending known).0,
+  (some_text ending known).1,
+  ([], explanation_of ending (some_text ending known).0, refl, Appends-nil before),
+)
 
 -- where there is one a front of it is
-pub line_said : (known : Role → Option (List ℕ)) (ending : Ending) (line written : List ℕ) (before said : Option (List ℕ)) → Explains known ending line → written ≡ line → AppendsPrefix before said written → IsSaidOf known ending before said
-line_said known ending line written before said e same front = (e.0, e.1, subst (AppendsPrefix before said) (same ∙ e.2) front)
+pub line_said : (known : Role → Option (List ℕ)) (ending : Ending) (line written : List ℕ)
+    (before said : Option (List ℕ)) → Explains known ending line → written ≡ line
+    → AppendsPrefix before said written → IsSaidOf known ending before said
+line_said known ending line written before said e same front =
+    (e.0, e.1, subst (AppendsPrefix before said) (same ∙ e.2) front)
 
 -- behind the line of the ending
-pub both_said : (known : Role → Option (List ℕ)) (ending : Ending) (before between said : Option (List ℕ)) → Appends before between (line_of ending) → IsSaidOf known ending between said → SaysOf true known ending before said
-both_said known ending before between said line is =
-    (is.0, is.1, AppendsPrefix-second before between said (line_of ending) (explanation_of ending is.0) line is.2)
+pub both_said : (known : Role → Option (List ℕ)) (ending : Ending)
+    (before between said : Option (List ℕ)) → Appends before between (line_of ending)
+    → IsSaidOf known ending between said → SaysOf true known ending before said
+both_said known ending before between said line is = (
+  is.0,
+  is.1,
+  AppendsPrefix-second before between said (line_of ending) (explanation_of ending is.0) line is.2,
+)
 
 -- ---- the paths of a role
 
-pub track_rest : (w : TrackWords) (r : Role) → r ≢ role.State → r ≢ role.Tracker → archive_paths w.archs w.packages w.sources r ≡ track_paths w r
+pub track_rest : (w : TrackWords) (r : Role) → r ≢ role.State → r ≢ role.Tracker
+    → archive_paths w.archs w.packages w.sources r ≡ track_paths w r
 track_rest w role.Input first second = refl
 track_rest w role.Archs first second = refl
 track_rest w role.Packages first second = refl
@@ -96,7 +131,8 @@ track_rest w role.Tracker first second = absurd (second refl)
 track_rest w role.Outcomes first second = refl
 track_rest w role.Journal first second = refl
 
-pub waves_rest : (archs packages sources tracker : List ℕ) (r : Role) → r ≢ role.Tracker → archive_paths archs packages sources r ≡ waves_paths archs packages sources tracker r
+pub waves_rest : (archs packages sources tracker : List ℕ) (r : Role) → r ≢ role.Tracker
+    → archive_paths archs packages sources r ≡ waves_paths archs packages sources tracker r
 waves_rest archs packages sources tracker role.Input first = refl
 waves_rest archs packages sources tracker role.Archs first = refl
 waves_rest archs packages sources tracker role.Packages first = refl
@@ -106,7 +142,8 @@ waves_rest archs packages sources tracker role.Tracker first = absurd (first ref
 waves_rest archs packages sources tracker role.Outcomes first = refl
 waves_rest archs packages sources tracker role.Journal first = refl
 
-pub run_rest : (w : RunWords) (r : Role) → r ≢ role.State → r ≢ role.Tracker → r ≢ role.Outcomes → r ≢ role.Journal → archive_paths w.archs w.packages w.sources r ≡ run_paths w r
+pub run_rest : (w : RunWords) (r : Role) → r ≢ role.State → r ≢ role.Tracker → r ≢ role.Outcomes
+    → r ≢ role.Journal → archive_paths w.archs w.packages w.sources r ≡ run_paths w r
 run_rest w role.Input first second third fourth = refl
 run_rest w role.Archs first second third fourth = refl
 run_rest w role.Packages first second third fourth = refl
@@ -118,11 +155,16 @@ run_rest w role.Journal first second third fourth = absurd (fourth refl)
 
 -- ---- an ending with no text kept
 
-pub ends_alone : (P : Ending → Type 0) (ending : Ending) (made : Ended) → made ≡ record { ending = ending; input = None } → P ending → P made.ending
+pub ends_alone : (P : Ending → Type 0) (ending : Ending) (made : Ended)
+    → made ≡ record { ending = ending; input = None } → P ending → P made.ending
 ends_alone P ending made is holds = subst (λ (x : Ended). P x.ending) (sym is) holds
 
-pub kept_alone : (known : Role → Option (List ℕ)) (ending : Ending) (made : Ended) → made ≡ record { ending = ending; input = None } → IsKept known made.input
+pub kept_alone : (known : Role → Option (List ℕ)) (ending : Ending) (made : Ended)
+    → made ≡ record { ending = ending; input = None } → IsKept known made.input
 kept_alone known ending made is = subst (λ (x : Ended). IsKept known x.input) (sym is) tt
 
-pub short_alone : (limit : ℕ) (ending : Ending) (made : Ended) → made ≡ record { ending = ending; input = None } → IfSome made.input (λ kept. length (string_bytes kept) ≤ limit)
-short_alone limit ending made is = subst (λ (x : Ended). IfSome x.input (λ kept. length (string_bytes kept) ≤ limit)) (sym is) tt
+pub short_alone : (limit : ℕ) (ending : Ending) (made : Ended)
+    → made ≡ record { ending = ending; input = None }
+    → IfSome made.input (λ kept. length (string_bytes kept) ≤ limit)
+short_alone limit ending made is =
+    subst (λ (x : Ended). IfSome x.input (λ kept. length (string_bytes kept) ≤ limit)) (sym is) tt

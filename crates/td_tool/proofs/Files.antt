@@ -1,5 +1,7 @@
 -- Checks end as they say by what was read of the files.
-use Rattle.std.proofs.Common.{◌≡◌, ℕ, ◌≤◌, ◌<◌, List, length, Option, Some, None, IfSome, Result, Ok, Err, IfOk, IfErr, IsErrOf, IsUtf8, string_bytes, inl, inr, refl, sym, subst}
+use Rattle.std.proofs.Common.{◌≡◌, ℕ, ◌≤◌, ◌<◌, List, length, Option, Some, None, IfSome, Result}
+use Rattle.std.proofs.Common.{Ok, Err, IfOk, IfErr, IsErrOf, IsUtf8, string_bytes, inl, inr, refl}
+use Rattle.std.proofs.Common.{sym, subst}
 use Rattle.std.specs.Result.{ForOk}
 use Rattle.std.specs.Io.KnownBytes.{Keeps}
 use Rattle.td_bytes.specs.declared.text.TextFault.{TextFault}
@@ -10,70 +12,170 @@ use Rattle.td_indices.specs.declared.archive_fault.ArchiveFault.TheVariants as a
 use Rattle.td_tool.specs.declared.file_texts.FileTexts.{FileTexts}
 use Rattle.td_tool.specs.declared.file_texts.FileFault.{FileFault}
 use Rattle.td_tool.specs.declared.role.Role.{Role}
-use Rattle.td_tool.specs.declared.role.Role.TheVariants.{Input, Archs, Packages, Sources, State, Tracker, Outcomes, Journal}
+use Rattle.td_tool.specs.declared.role.Role.TheVariants.{Input, Archs, Packages, Sources, State}
+use Rattle.td_tool.specs.declared.role.Role.TheVariants.{Tracker, Outcomes, Journal}
 use Rattle.td_tool.specs.declared.input_fault.InputFault.{InputFault}
-use Rattle.td_tool.specs.declared.input_fault.InputFault.TheVariants.{TooLong, NotText, Simulation, Table, Archive}
+use Rattle.td_tool.specs.declared.input_fault.InputFault.TheVariants.{TooLong, NotText, Simulation}
+use Rattle.td_tool.specs.declared.input_fault.InputFault.TheVariants.{Table, Archive}
 use Rattle.td_tool.specs.declared.input_fault.InputFault.TheVariants as fault
 use Rattle.td_tool.specs.declared.ending.Ending.{Ending}
-use Rattle.td_tool.specs.declared.ending.Ending.TheVariants.{Done, Refused, BadInput, NoMemory, CannotRead, CannotWrite}
+use Rattle.td_tool.specs.declared.ending.Ending.TheVariants.{Done, Refused, BadInput, NoMemory}
+use Rattle.td_tool.specs.declared.ending.Ending.TheVariants.{CannotRead, CannotWrite}
 use Rattle.td_tool.specs.Ending.{ending_of_file}
 use Rattle.td_tool.specs.Counted.{IsArchiveOf}
 use Rattle.td_tool.specs.Limits.{file_limit}
-use Rattle.td_tool.specs.Checks.{Files, AreTexts, IsTextOf, IsArchiveIn, IsKnownArchive, IsNoText, IsTooLong, FaultFits, HasFailed, HasFileFault, CheckSays, Checks, known_of}
-use Rattle.td_tool.specs.CheckInside.{AreTextsIn, HasFailedIn, IsWithin, IsNoArchive, TextsSay, FileTextsEnd, FileUnread}
+use Rattle.td_tool.specs.Checks.{Files, AreTexts, IsTextOf, IsArchiveIn, IsKnownArchive, IsNoText}
+use Rattle.td_tool.specs.Checks.{IsTooLong, FaultFits, HasFailed, HasFileFault, CheckSays, Checks}
+use Rattle.td_tool.specs.Checks.{known_of}
+use Rattle.td_tool.specs.CheckInside.{AreTextsIn, HasFailedIn, IsWithin, IsNoArchive, TextsSay}
+use Rattle.td_tool.specs.CheckInside.{FileTextsEnd, FileUnread}
 
 -- ---- one file
 
 -- what a fault says of the bytes
 pub fault_fits : {T : Type 0} (known : Option (List ℕ)) (e : TextFault)
-    → (IsErrOf {T = T} (Err e) text.TooLong → IsTooLong known) → (IsErrOf {T = T} (Err e) text.NotText → IsNoText known) → FaultFits known e
+    → (IsErrOf {T = T} (Err e) text.TooLong → IsTooLong known)
+    → (IsErrOf {T = T} (Err e) text.NotText → IsNoText known) → FaultFits known e
 fault_fits known text.CannotRead long other = tt
 fault_fits known text.TooLong long other = long refl
 fault_fits known text.NotText long other = other refl
 fault_fits known text.NoMemory long other = tt
 
-pub within : (files : Files) (r : Result FileTexts FileFault) → IfOk r (AreTextsIn files) → ForOk r IsWithin
+pub within : (files : Files) (r : Result FileTexts FileFault) → IfOk r (AreTextsIn files)
+    → ForOk r IsWithin
 within files r texts x e = (subst (λ q. IfOk q (AreTextsIn files)) e texts).archs_text.read.0
 
 -- a known text is the one that was read
-same_text : (known : Option (List ℕ)) (all text : List ℕ) → known ≡ Some all → IsTextOf known text → all ≡ text
+same_text : (known : Option (List ℕ)) (all text : List ℕ) → known ≡ Some all → IsTextOf known text
+    → all ≡ text
 same_text known all text is of = subst (λ o. IfSome o (λ x. x ≡ text)) is of.whole
 
 -- ---- a file that wasn't read
 
 -- a file of an archive is a text
-no_such_text : (files : Files) (role : Role) (c : Contents) → HasFailed files role text.NotText → IsKnownArchive files c → ⊥
+no_such_text : (files : Files) (role : Role) (c : Contents) → HasFailed files role text.NotText
+    → IsKnownArchive files c → ⊥
 no_such_text files Input c failed known = failed.before
-no_such_text files Archs c failed known = (subst IsNoText known.known_archs failed.fits).1 known.archs_text.1
-no_such_text files Packages c failed known = (subst IsNoText known.known_packages failed.fits).1 known.packages_text.1
+no_such_text files Archs c failed known =
+    (subst IsNoText known.known_archs failed.fits).1 known.archs_text.1
+no_such_text files Packages c failed known =
+    (subst IsNoText known.known_packages failed.fits).1 known.packages_text.1
 no_such_text files State c failed known = failed.before
 no_such_text files Tracker c failed known = failed.before
 no_such_text files Outcomes c failed known = failed.before
 no_such_text files Journal c failed known = failed.before
-no_such_text files Sources c failed known = (subst IsNoText known.known_sources failed.fits).1 known.sources_text.1
+no_such_text files Sources c failed known =
+    (subst IsNoText known.known_sources failed.fits).1 known.sources_text.1
 
-unread : (files : Files) (old new : Option (List ℕ)) (role : Role) (e : TextFault) → HasFailed files role e → Keeps old new → Checks files old new (ending_of_file role e)
-unread files old new role text.CannotRead failed kept = record { says = (inl failed, kept); only = λ c known. kept }
-unread files old new role text.TooLong failed kept = record { says = (inr failed, kept); only = λ c known. kept }
-unread files old new role text.NotText failed kept = record { says = (failed, kept); only = λ c known. no_such_text files role c failed known }
+unread : (files : Files) (old new : Option (List ℕ)) (role : Role) (e : TextFault)
+    → HasFailed files role e → Keeps old new → Checks files old new (ending_of_file role e)
+unread files old new role text.CannotRead failed kept =
+    record { says = (inl failed, kept); only = λ c known. kept }
+unread files old new role text.TooLong failed kept =
+    record { says = (inr failed, kept); only = λ c known. kept }
+unread files old new role text.NotText failed kept =
+    record { says = (failed, kept); only = λ c known. no_such_text files role c failed known }
 unread files old new role text.NoMemory failed kept = record { says = kept; only = λ c known. kept }
 
 -- ---- three texts
 
 has_fault : (files : Files) (t : FileTexts) (role : Role) (e : InputFault) → AreTextsIn files t
-    → IsNoArchive (string_bytes t.archs) (string_bytes t.packages) (string_bytes t.sources) (BadInput role e) → HasFileFault files role e
+    → IsNoArchive (string_bytes t.archs) (string_bytes t.packages) (string_bytes t.sources)
+    (BadInput role e) → HasFileFault files role e
 has_fault files t role TooLong texts is = absurd is
 has_fault files t role NotText texts is = absurd is
 has_fault files t role (Simulation e) texts is = absurd is
-has_fault files t role (Table (table.BadLine n)) texts is = (is.0, record { archs = string_bytes t.archs; packages = string_bytes t.packages; sources = string_bytes t.sources; texts = texts; fault = is.1 })
-has_fault files t role (Table (table.Twice n)) texts is = (is.0, record { archs = string_bytes t.archs; packages = string_bytes t.packages; sources = string_bytes t.sources; texts = texts; fault = is.1 })
-has_fault files t role (Table table.TooMany) texts is = (is.0, record { archs = string_bytes t.archs; packages = string_bytes t.packages; sources = string_bytes t.sources; texts = texts; fault = is.1 })
+has_fault files t role (Table (table.BadLine n)) texts is = (
+  is.0,
+  record {
+    archs = string_bytes t.archs;
+    packages = string_bytes t.packages;
+    sources = string_bytes t.sources;
+    texts = texts;
+    fault = is.1;
+  },
+)
+has_fault files t role (Table (table.Twice n)) texts is = (
+  is.0,
+  record {
+    archs = string_bytes t.archs;
+    packages = string_bytes t.packages;
+    sources = string_bytes t.sources;
+    texts = texts;
+    fault = is.1;
+  },
+)
+has_fault files t role (Table table.TooMany) texts is = (
+  is.0,
+  record {
+    archs = string_bytes t.archs;
+    packages = string_bytes t.packages;
+    sources = string_bytes t.sources;
+    texts = texts;
+    fault = is.1;
+  },
+)
 has_fault files t role (Table table.NoMemory) texts is = absurd is
-has_fault files t role (Archive (archive.Stanza f e)) texts is = (is.0, record { archs = string_bytes t.archs; packages = string_bytes t.packages; sources = string_bytes t.sources; texts = texts; archs_table = is.1.0; is_table = is.1.1; fault = is.1.2 })
-has_fault files t role (Archive (archive.MissingField f n field)) texts is = (is.0, record { archs = string_bytes t.archs; packages = string_bytes t.packages; sources = string_bytes t.sources; texts = texts; archs_table = is.1.0; is_table = is.1.1; fault = is.1.2 })
-has_fault files t role (Archive (archive.BadVersion f n)) texts is = (is.0, record { archs = string_bytes t.archs; packages = string_bytes t.packages; sources = string_bytes t.sources; texts = texts; archs_table = is.1.0; is_table = is.1.1; fault = is.1.2 })
-has_fault files t role (Archive (archive.BadRelation f n)) texts is = (is.0, record { archs = string_bytes t.archs; packages = string_bytes t.packages; sources = string_bytes t.sources; texts = texts; archs_table = is.1.0; is_table = is.1.1; fault = is.1.2 })
-has_fault files t role (Archive archive.TooManyRows) texts is = (is.0, record { archs = string_bytes t.archs; packages = string_bytes t.packages; sources = string_bytes t.sources; texts = texts; archs_table = is.1.0; is_table = is.1.1; fault = is.1.2 })
+has_fault files t role (Archive (archive.Stanza f e)) texts is = (
+  is.0,
+  record {
+    archs = string_bytes t.archs;
+    packages = string_bytes t.packages;
+    sources = string_bytes t.sources;
+    texts = texts;
+    archs_table = is.1.0;
+    is_table = is.1.1;
+    fault = is.1.2;
+  },
+)
+has_fault files t role (Archive (archive.MissingField f n field)) texts is = (
+  is.0,
+  record {
+    archs = string_bytes t.archs;
+    packages = string_bytes t.packages;
+    sources = string_bytes t.sources;
+    texts = texts;
+    archs_table = is.1.0;
+    is_table = is.1.1;
+    fault = is.1.2;
+  },
+)
+has_fault files t role (Archive (archive.BadVersion f n)) texts is = (
+  is.0,
+  record {
+    archs = string_bytes t.archs;
+    packages = string_bytes t.packages;
+    sources = string_bytes t.sources;
+    texts = texts;
+    archs_table = is.1.0;
+    is_table = is.1.1;
+    fault = is.1.2;
+  },
+)
+has_fault files t role (Archive (archive.BadRelation f n)) texts is = (
+  is.0,
+  record {
+    archs = string_bytes t.archs;
+    packages = string_bytes t.packages;
+    sources = string_bytes t.sources;
+    texts = texts;
+    archs_table = is.1.0;
+    is_table = is.1.1;
+    fault = is.1.2;
+  },
+)
+has_fault files t role (Archive archive.TooManyRows) texts is = (
+  is.0,
+  record {
+    archs = string_bytes t.archs;
+    packages = string_bytes t.packages;
+    sources = string_bytes t.sources;
+    texts = texts;
+    archs_table = is.1.0;
+    is_table = is.1.1;
+    fault = is.1.2;
+  },
+)
 has_fault files t role (Archive archive.NoMemory) texts is = absurd is
 has_fault files t role (fault.State e) texts is = absurd is
 has_fault files t role fault.NoSuchRow texts is = absurd is
@@ -81,29 +183,58 @@ has_fault files t role (fault.Tracker e) texts is = absurd is
 has_fault files t role (fault.BadOutcome n) texts is = absurd is
 has_fault files t role (fault.Journal e) texts is = absurd is
 
-archive_in : (files : Files) (t : FileTexts) (c : Contents) → AreTextsIn files t → IsArchiveOf (string_bytes t.archs) (string_bytes t.packages) (string_bytes t.sources) c → IsArchiveIn files c
-archive_in files t c texts is = record { archs = string_bytes t.archs; packages = string_bytes t.packages; sources = string_bytes t.sources; texts = texts; archive = is }
+archive_in : (files : Files) (t : FileTexts) (c : Contents) → AreTextsIn files t
+    → IsArchiveOf (string_bytes t.archs) (string_bytes t.packages) (string_bytes t.sources) c
+    → IsArchiveIn files c
+archive_in files t c texts is =
+    record {
+      archs = string_bytes t.archs;
+      packages = string_bytes t.packages;
+      sources = string_bytes t.sources;
+      texts = texts;
+      archive = is;
+    }
 
-check_says : (files : Files) (t : FileTexts) (old new : Option (List ℕ)) (ending : Ending) → AreTextsIn files t
-    → TextsSay (string_bytes t.archs) (string_bytes t.packages) (string_bytes t.sources) old new ending → CheckSays files old new ending
-check_says files t old new Done texts says = (says.0, archive_in files t says.0 texts says.1, says.2)
+check_says : (files : Files) (t : FileTexts) (old new : Option (List ℕ)) (ending : Ending)
+    → AreTextsIn files t
+    → TextsSay (string_bytes t.archs) (string_bytes t.packages) (string_bytes t.sources) old new
+    ending → CheckSays files old new ending
+check_says files t old new Done texts says =
+    (says.0, archive_in files t says.0 texts says.1, says.2)
 check_says files t old new Refused texts says = says
-check_says files t old new (BadInput role e) texts says = (has_fault files t role e texts says.0, says.1)
+check_says files t old new (BadInput role e) texts says =
+    (has_fault files t role e texts says.0, says.1)
 check_says files t old new NoMemory texts says = says
 check_says files t old new (CannotRead role) texts says = absurd says
-check_says files t old new CannotWrite texts says = (says.0, archive_in files t says.0 texts says.1, says.2)
+check_says files t old new CannotWrite texts says =
+    (says.0, archive_in files t says.0 texts says.1, says.2)
 
 -- the archive that is known is the one that was read
-archive_read : (files : Files) (t : FileTexts) (c : Contents) → AreTextsIn files t → IsKnownArchive files c → IsArchiveOf (string_bytes t.archs) (string_bytes t.packages) (string_bytes t.sources) c
+archive_read : (files : Files) (t : FileTexts) (c : Contents) → AreTextsIn files t
+    → IsKnownArchive files c
+    → IsArchiveOf (string_bytes t.archs) (string_bytes t.packages) (string_bytes t.sources) c
 archive_read files t c texts known =
-    let of_archs = subst (λ a. IsArchiveOf a known.packages known.sources c) (same_text files.in_archs known.archs (string_bytes t.archs) known.known_archs texts.archs_text) known.archive in
-    let of_packages = subst (λ p. IsArchiveOf (string_bytes t.archs) p known.sources c) (same_text files.in_packages known.packages (string_bytes t.packages) known.known_packages texts.packages_text) of_archs in
-    subst (λ s. IsArchiveOf (string_bytes t.archs) (string_bytes t.packages) s c) (same_text files.in_sources known.sources (string_bytes t.sources) known.known_sources texts.sources_text) of_packages
+    let of_archs = subst (λ a. IsArchiveOf a known.packages known.sources c)
+    (same_text files.in_archs known.archs (string_bytes t.archs) known.known_archs texts.archs_text)
+    known.archive in
+    let of_packages = subst (λ p. IsArchiveOf (string_bytes t.archs) p known.sources c)
+    (same_text files.in_packages known.packages (string_bytes t.packages) known.known_packages
+    texts.packages_text) of_archs in
+    subst (λ s. IsArchiveOf (string_bytes t.archs) (string_bytes t.packages) s c)
+    (same_text files.in_sources known.sources (string_bytes t.sources) known.known_sources
+    texts.sources_text) of_packages
 
 -- ---- the whole
 
-pub checks : (files : Files) (old new : Option (List ℕ)) (r : Result FileTexts FileFault) (ending : Ending) → IfOk r (AreTextsIn files) → IfErr r (HasFailedIn files)
-    → IfOk r (λ t. FileTextsEnd t old new ending) → IfErr r (λ f. FileUnread f old new ending) → Checks files old new ending
+pub checks : (files : Files) (old new : Option (List ℕ)) (r : Result FileTexts FileFault)
+    (ending : Ending) → IfOk r (AreTextsIn files) → IfErr r (HasFailedIn files)
+    → IfOk r (λ t. FileTextsEnd t old new ending) → IfErr r (λ f. FileUnread f old new ending)
+    → Checks files old new ending
 checks files old new (Ok t) ending texts failed ends none =
-    record { says = check_says files t old new ending texts ends.says; only = λ c known. ends.only c (archive_read files t c texts known) }
-checks files old new (Err f) ending texts failed ends none = subst (Checks files old new) (sym none.ends) (unread files old new f.role f.fault failed none.kept)
+    record {
+      says = check_says files t old new ending texts ends.says;
+      only = λ c known. ends.only c (archive_read files t c texts known);
+    }
+checks files old new (Err f) ending texts failed ends none =
+    subst (Checks files old new) (sym none.ends)
+    (unread files old new f.role f.fault failed none.kept)

@@ -1,5 +1,6 @@
 -- A run ends as it says, and a script over readable texts is answered.
-use Rattle.std.proofs.Common.{◌≡◌, ℕ, ◌==◌, List, Option, Some, Bool, true, false, Result, Ok, Err, if◌then◌else◌, inl, inr, refl, sym, ap, subst, ◌∙◌}
+use Rattle.std.proofs.Common.{◌≡◌, ℕ, ◌==◌, List, Option, Some, Bool, true, false, Result, Ok, Err}
+use Rattle.std.proofs.Common.{if◌then◌else◌, inl, inr, refl, sym, ap, subst, ◌∙◌}
 use Rattle.std.specs.Io.KnownBytes.{Keeps}
 use Rattle.td_bytes.specs.declared.text.TextFault.{TextFault}
 use Rattle.td_bytes.specs.declared.text.TextFault.TheVariants as text_fault
@@ -17,108 +18,169 @@ use Rattle.td_script.specs.declared.running.RunFault.TheVariants as stopped
 use Rattle.td_script.specs.declared.running.ScriptEnd.{ScriptEnd}
 use Rattle.td_tool.specs.declared.file_texts.FileFault.{FileFault}
 use Rattle.td_tool.specs.declared.role.Role.{Role}
-use Rattle.td_tool.specs.declared.role.Role.TheVariants.{Input, Archs, Packages, Sources, State, Tracker, Outcomes, Journal}
+use Rattle.td_tool.specs.declared.role.Role.TheVariants.{Input, Archs, Packages, Sources, State}
+use Rattle.td_tool.specs.declared.role.Role.TheVariants.{Tracker, Outcomes, Journal}
 use Rattle.td_tool.specs.declared.ending.Ending.{Ending}
 use Rattle.td_tool.specs.declared.ending.Ending.TheVariants.{Done, Refused}
 use Rattle.td_tool.specs.Ending.{ending_of_file, ending_of_tracker}
-use Rattle.td_tool.specs.Runs.{AreKnownTexts, AreTextsOf, EndsRun, FailsAt, MayEnd, OnlyCrewEnds, OnlyEnds, OnlyPlayEnds, PlayEnds, RunFiles, Texts, ending_of_crew, ending_of_script, ending_of_stop, outcome_lines, script_texts}
+use Rattle.td_tool.specs.Runs.{AreKnownTexts, AreTextsOf, EndsRun, FailsAt, MayEnd, OnlyCrewEnds}
+use Rattle.td_tool.specs.Runs.{OnlyEnds, OnlyPlayEnds, PlayEnds, RunFiles, Texts, ending_of_crew}
+use Rattle.td_tool.specs.Runs.{ending_of_script, ending_of_stop, outcome_lines, script_texts}
 use Rattle.td_tool.specs.RunInside.{HasRunFailed}
 use Rattle.td_tool.proofs.Sure.{given_same, given_text, known_same, one_text}
 
 -- ---- a script over readable texts
 
-answered : (t : Option (List ℕ)) (none_refused : Bool) → MayEnd t (if none_refused then Done else Refused)
+answered : (t : Option (List ℕ)) (none_refused : Bool)
+    → MayEnd t (if none_refused then Done else Refused)
 answered t true = tt
 answered t false = tt
 
-bad_pattern : (t : Option (List ℕ)) (e : TrackerFault) → script.IsPatternRefused t e → MayEnd t (ending_of_tracker e)
+bad_pattern : (t : Option (List ℕ)) (e : TrackerFault) → script.IsPatternRefused t e
+    → MayEnd t (ending_of_tracker e)
 bad_pattern t (tracker_fault.Syntax place) bad = (tracker_fault.Syntax place, bad, refl)
 bad_pattern t (tracker_fault.MissingKey key) bad = (tracker_fault.MissingKey key, bad, refl)
 bad_pattern t (tracker_fault.BadPattern place) bad = (tracker_fault.BadPattern place, bad, refl)
 bad_pattern t tracker_fault.NoMemory bad = tt
 
-stop_ends : (x : script.Texts) (known : Option (List ℕ)) (e : RunFault) → Only x known (Err e) → OnlyEnds x known (ending_of_stop e)
-stop_ends x known (stopped.Input (refused.Table e)) only = λ text is fits readable. absurd (only text is fits readable)
-stop_ends x known (stopped.Input (refused.Archive e)) only = λ text is fits readable. absurd (only text is fits readable)
-stop_ends x known (stopped.Input (refused.State e)) only = λ text is fits readable. absurd (only text is fits readable)
-stop_ends x known (stopped.Input refused.NoSuchRow) only = λ text is fits readable. absurd (only text is fits readable)
-stop_ends x known (stopped.Input (refused.Tracker e)) only = λ text is fits readable. bad_pattern x.tracker e (only text is fits readable)
-stop_ends x known (stopped.Input (refused.Journal e)) only = λ text is fits readable. absurd (only text is fits readable)
+stop_ends : (x : script.Texts) (known : Option (List ℕ)) (e : RunFault) → Only x known (Err e)
+    → OnlyEnds x known (ending_of_stop e)
+stop_ends x known (stopped.Input (refused.Table e)) only =
+    λ text is fits readable. absurd (only text is fits readable)
+stop_ends x known (stopped.Input (refused.Archive e)) only =
+    λ text is fits readable. absurd (only text is fits readable)
+stop_ends x known (stopped.Input (refused.State e)) only =
+    λ text is fits readable. absurd (only text is fits readable)
+stop_ends x known (stopped.Input refused.NoSuchRow) only =
+    λ text is fits readable. absurd (only text is fits readable)
+stop_ends x known (stopped.Input (refused.Tracker e)) only =
+    λ text is fits readable. bad_pattern x.tracker e (only text is fits readable)
+stop_ends x known (stopped.Input (refused.Journal e)) only =
+    λ text is fits readable. absurd (only text is fits readable)
 stop_ends x known stopped.Read only = λ text is fits readable. tt
-stop_ends x known stopped.TooLong only = λ text is fits readable. absurd (only text is fits readable)
-stop_ends x known stopped.NotText only = λ text is fits readable. absurd (only text is fits readable)
+stop_ends x known stopped.TooLong only =
+    λ text is fits readable. absurd (only text is fits readable)
+stop_ends x known stopped.NotText only =
+    λ text is fits readable. absurd (only text is fits readable)
 stop_ends x known stopped.Write only = λ text is fits readable. tt
 stop_ends x known stopped.NoMemory only = λ text is fits readable. tt
 
-script_ends : (x : script.Texts) (known : Option (List ℕ)) (r : Result ScriptEnd RunFault) → Only x known r → OnlyEnds x known (ending_of_script r)
+script_ends : (x : script.Texts) (known : Option (List ℕ)) (r : Result ScriptEnd RunFault)
+    → Only x known r → OnlyEnds x known (ending_of_script r)
 script_ends x known (Ok end) only = λ text is fits readable. answered x.tracker (end.refusals == 0)
 script_ends x known (Err e) only = stop_ends x known e only
 
 -- the texts that the script was given are these
-pub script_only : (x y : script.Texts) (known : Option (List ℕ)) (r : Result ScriptEnd RunFault) (ending : Ending) → y ≡ x → Only y known r → ending ≡ ending_of_script r → OnlyEnds x known ending
-script_only x y known r ending same only is = subst (OnlyEnds x known) (sym is) (script_ends x known r (subst (λ z. Only z known r) same only))
+pub script_only : (x y : script.Texts) (known : Option (List ℕ)) (r : Result ScriptEnd RunFault)
+    (ending : Ending) → y ≡ x → Only y known r → ending ≡ ending_of_script r
+    → OnlyEnds x known ending
+script_only x y known r ending same only is =
+    subst (OnlyEnds x known) (sym is)
+    (script_ends x known r (subst (λ z. Only z known r) same only))
 
 -- ---- a crew over readable texts
 
-crew_ends : (x : script.Texts) (lines : List (List ℕ)) (known : Option (List ℕ)) (r : Result ScriptEnd CrewFault) → CrewOnly x lines known r → OnlyCrewEnds x lines known (ending_of_crew r)
-crew_ends x lines known (Ok end) only = λ text is fits read readable. answered x.tracker (end.refusals == 0)
-crew_ends x lines known (Err (crew.Run e)) only = λ text is fits read readable. stop_ends x known e (λ t i f r. only t i f read r) text is fits readable
-crew_ends x lines known (Err (crew.BadOutcome n)) only = λ text is fits read readable. absurd (only text is fits read readable)
+crew_ends : (x : script.Texts) (lines : List (List ℕ)) (known : Option (List ℕ))
+    (r : Result ScriptEnd CrewFault) → CrewOnly x lines known r
+    → OnlyCrewEnds x lines known (ending_of_crew r)
+crew_ends x lines known (Ok end) only =
+    λ text is fits read readable. answered x.tracker (end.refusals == 0)
+crew_ends x lines known (Err (crew.Run e)) only =
+    λ text is fits read readable.
+    stop_ends x known e (λ t i f r. only t i f read r) text is fits readable
+crew_ends x lines known (Err (crew.BadOutcome n)) only =
+    λ text is fits read readable. absurd (only text is fits read readable)
 
-pub crew_only : (x y : script.Texts) (lines given : List (List ℕ)) (known : Option (List ℕ)) (r : Result ScriptEnd CrewFault) (ending : Ending) → y ≡ x → given ≡ lines → CrewOnly y given known r → ending ≡ ending_of_crew r → OnlyCrewEnds x lines known ending
+pub crew_only : (x y : script.Texts) (lines given : List (List ℕ)) (known : Option (List ℕ))
+    (r : Result ScriptEnd CrewFault) (ending : Ending) → y ≡ x → given ≡ lines
+    → CrewOnly y given known r → ending ≡ ending_of_crew r → OnlyCrewEnds x lines known ending
 crew_only x y lines given known r ending same its only is =
-    subst (OnlyCrewEnds x lines known) (sym is) (crew_ends x lines known r (subst (λ l. CrewOnly x l known r) its (subst (λ z. CrewOnly z given known r) same only)))
+    subst (OnlyCrewEnds x lines known) (sym is)
+    (crew_ends x lines known r
+    (subst (λ l. CrewOnly x l known r) its (subst (λ z. CrewOnly z given known r) same only)))
 
 -- whoever answers
-pub play_only : (n : ℕ) (x : Texts) (suite : List ℕ) (known : Option (List ℕ)) (ending : Ending) → MayEnd x.tracker ending → OnlyPlayEnds n x suite known ending
-play_only n x suite known ending may = elim (n == 0) as (λ b. MatchBool b (OnlyEnds (script_texts x suite) known ending) (OnlyCrewEnds (script_texts x suite) (outcome_lines x) known ending)) [
-  | true ↦ λ text is fits readable. may
-  | false ↦ λ text is fits read readable. may
-]
+pub play_only : (n : ℕ) (x : Texts) (suite : List ℕ) (known : Option (List ℕ)) (ending : Ending)
+    → MayEnd x.tracker ending → OnlyPlayEnds n x suite known ending
+play_only n x suite known ending may =
+    elim (n == 0) as (λ b.
+    MatchBool b (OnlyEnds (script_texts x suite) known ending)
+    (OnlyCrewEnds (script_texts x suite) (outcome_lines x) known ending)) [
+      | true ↦ λ text is fits readable. may
+      | false ↦ λ text is fits read readable. may
+    ]
 
 -- ---- known files
 
 same_texts : (files : RunFiles) (x y : Texts) → AreKnownTexts files x → AreTextsOf files y → x ≡ y
 same_texts files x y known read =
-    let made = λ (a p s : List ℕ) (st t o j : Option (List ℕ)). (let it : Texts = record { archs = a; packages = p; sources = s; state = st; tracker = t; outcomes = o; journal = j } in it) in
+    let made = λ (a p s : List ℕ) (st t o j : Option (List ℕ)).
+    (let it : Texts = record {
+      archs = a;
+      packages = p;
+      sources = s;
+      state = st;
+      tracker = t;
+      outcomes = o;
+      journal = j;
+    } in it) in
     let ((((indices, state), tracker), outcomes), journal) = read in
-    ap (λ v. made v x.packages x.sources x.state x.tracker x.outcomes x.journal) (known_same _ x.archs y.archs known.archs indices.archs_text)
-    ∙ ap (λ v. made y.archs v x.sources x.state x.tracker x.outcomes x.journal) (known_same _ x.packages y.packages known.packages indices.packages_text)
-    ∙ ap (λ v. made y.archs y.packages v x.state x.tracker x.outcomes x.journal) (known_same _ x.sources y.sources known.sources indices.sources_text)
-    ∙ ap (λ v. made y.archs y.packages y.sources v x.tracker x.outcomes x.journal) (given_same files.state x.state y.state known.state state)
-    ∙ ap (λ v. made y.archs y.packages y.sources y.state v x.outcomes x.journal) (given_same files.tracker x.tracker y.tracker known.tracker tracker)
-    ∙ ap (λ v. made y.archs y.packages y.sources y.state y.tracker v x.journal) (given_same files.outcomes x.outcomes y.outcomes known.outcomes outcomes)
-    ∙ ap (λ v. made y.archs y.packages y.sources y.state y.tracker y.outcomes v) (given_same files.journal x.journal y.journal known.journal journal)
+    ap (λ v. made v x.packages x.sources x.state x.tracker x.outcomes x.journal)
+    (known_same _ x.archs y.archs known.archs indices.archs_text)
+    ∙ ap (λ v. made y.archs v x.sources x.state x.tracker x.outcomes x.journal)
+    (known_same _ x.packages y.packages known.packages indices.packages_text)
+    ∙ ap (λ v. made y.archs y.packages v x.state x.tracker x.outcomes x.journal)
+    (known_same _ x.sources y.sources known.sources indices.sources_text)
+    ∙ ap (λ v. made y.archs y.packages y.sources v x.tracker x.outcomes x.journal)
+    (given_same files.state x.state y.state known.state state)
+    ∙ ap (λ v. made y.archs y.packages y.sources y.state v x.outcomes x.journal)
+    (given_same files.tracker x.tracker y.tracker known.tracker tracker)
+    ∙ ap (λ v. made y.archs y.packages y.sources y.state y.tracker v x.journal)
+    (given_same files.outcomes x.outcomes y.outcomes known.outcomes outcomes)
+    ∙ ap (λ v. made y.archs y.packages y.sources y.state y.tracker y.outcomes v)
+    (given_same files.journal x.journal y.journal known.journal journal)
 
 -- a known file isn't refused as no text
-no_such_text : (files : RunFiles) (role : Role) (x : Texts) → FailsAt files role text_fault.NotText → AreKnownTexts files x → ⊥
+no_such_text : (files : RunFiles) (role : Role) (x : Texts) → FailsAt files role text_fault.NotText
+    → AreKnownTexts files x → ⊥
 no_such_text files Input x failed known = failed
 no_such_text files Archs x failed known = one_text _ x.archs known.archs failed.fits
 no_such_text files Packages x failed known = one_text _ x.packages known.packages failed.fits
 no_such_text files Sources x failed known = one_text _ x.sources known.sources failed.fits
-no_such_text files State x (before, (file, is, may)) known = given_text files.state x.state file known.state is may.fits
-no_such_text files Tracker x (before, (file, is, may)) known = given_text files.tracker x.tracker file known.tracker is may.fits
-no_such_text files Outcomes x (before, (file, is, may)) known = given_text files.outcomes x.outcomes file known.outcomes is may.fits
-no_such_text files Journal x (before, (file, is, may)) known = given_text files.journal x.journal file known.journal is may.fits
+no_such_text files State x (before, (file, is, may)) known =
+    given_text files.state x.state file known.state is may.fits
+no_such_text files Tracker x (before, (file, is, may)) known =
+    given_text files.tracker x.tracker file known.tracker is may.fits
+no_such_text files Outcomes x (before, (file, is, may)) known =
+    given_text files.outcomes x.outcomes file known.outcomes is may.fits
+no_such_text files Journal x (before, (file, is, may)) known =
+    given_text files.journal x.journal file known.journal is may.fits
 
 -- ---- the whole
 
-unread_ends : (files : RunFiles) (x : Texts) (role : Role) (e : TextFault) → FailsAt files role e → AreKnownTexts files x → MayEnd x.tracker (ending_of_file role e)
+unread_ends : (files : RunFiles) (x : Texts) (role : Role) (e : TextFault) → FailsAt files role e
+    → AreKnownTexts files x → MayEnd x.tracker (ending_of_file role e)
 unread_ends files x role text_fault.CannotRead failed known = tt
 unread_ends files x role text_fault.TooLong failed known = tt
-unread_ends files x role text_fault.NotText failed known = absurd (no_such_text files role x failed known)
+unread_ends files x role text_fault.NotText failed known =
+    absurd (no_such_text files role x failed known)
 unread_ends files x role text_fault.NoMemory failed known = tt
 
-pub run_unread : (files : RunFiles) (suite : List ℕ) (f : FileFault) (known old new : Option (List ℕ)) (ending : Ending) → HasRunFailed files f → ending ≡ ending_of_file f.role f.fault → Keeps old new
+pub run_unread : (files : RunFiles) (suite : List ℕ) (f : FileFault)
+    (known old new : Option (List ℕ)) (ending : Ending) → HasRunFailed files f
+    → ending ≡ ending_of_file f.role f.fault → Keeps old new
     → EndsRun files suite known old new ending
 run_unread files suite f known old new ending failed is kept = record {
   says = inr (inl ((f.role, f.fault, failed, is), kept));
-  only = λ x files-are. play_only files.builders x suite known ending (subst (MayEnd x.tracker) (sym is) (unread_ends files x f.role f.fault failed files-are));
+  only = λ x files-are. play_only files.builders x suite known ending
+      (subst (MayEnd x.tracker) (sym is) (unread_ends files x f.role f.fault failed files-are));
 }
 
-pub run_played : (files : RunFiles) (suite : List ℕ) (x : Texts) (known old new : Option (List ℕ)) (ending : Ending) → AreTextsOf files x → PlayEnds files.builders x suite known old new ending
+pub run_played : (files : RunFiles) (suite : List ℕ) (x : Texts) (known old new : Option (List ℕ))
+    (ending : Ending) → AreTextsOf files x → PlayEnds files.builders x suite known old new ending
     → OnlyPlayEnds files.builders x suite known ending → EndsRun files suite known old new ending
 run_played files suite x known old new ending texts ends only = record {
   says = inr (inr (x, texts, ends));
-  only = λ y files-are. subst (λ z. OnlyPlayEnds files.builders z suite known ending) (sym (same_texts files y x files-are texts)) only;
+  only = λ y files-are. subst (λ z. OnlyPlayEnds files.builders z suite known ending)
+      (sym (same_texts files y x files-are texts)) only;
 }

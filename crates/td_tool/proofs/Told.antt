@@ -1,5 +1,6 @@
 -- How `track` and `waves` end by what was read, and by what was found in it.
-use Rattle.std.proofs.Common.{◌≡◌, ◌↔◌, ◌⊎◌, ℕ, List, true, Option, Some, None, Result, Ok, Err, IfOk, IfErr, String, string_bytes, inl, inr, refl, sym, subst, ◌∙◌}
+use Rattle.std.proofs.Common.{◌≡◌, ◌↔◌, ◌⊎◌, ℕ, List, true, Option, Some, None, Result, Ok, Err}
+use Rattle.std.proofs.Common.{IfOk, IfErr, String, string_bytes, inl, inr, refl, sym, subst, ◌∙◌}
 use Rattle.std.specs.declared.alloc.Global.{Global}
 use Rattle.std.specs.Io.KnownBytes.{Keeps}
 use Rattle.td_text.specs.Lines.{lines_of}
@@ -21,20 +22,26 @@ use Rattle.td_indices.specs.Archive.{Contents, IsArchive}
 use Rattle.td_query.specs.Tracking.{IsTracker, Tracking}
 use Rattle.td_tool.specs.declared.file_texts.FileFault.{FileFault}
 use Rattle.td_tool.specs.declared.role.Role.{Role}
-use Rattle.td_tool.specs.declared.role.Role.TheVariants.{Input, Archs, Packages, Sources, State, Tracker, Outcomes, Journal}
+use Rattle.td_tool.specs.declared.role.Role.TheVariants.{Input, Archs, Packages, Sources, State}
+use Rattle.td_tool.specs.declared.role.Role.TheVariants.{Tracker, Outcomes, Journal}
 use Rattle.td_bytes.specs.declared.text.TextFault.{TextFault}
 use Rattle.td_tool.specs.declared.ending.Ending.{Ending}
 use Rattle.td_tool.specs.declared.ending.Ending.TheVariants.{NoMemory}
-use Rattle.td_tool.specs.Ending.{ending_of_archive, ending_of_file, ending_of_missing_row, ending_of_table}
+use Rattle.td_tool.specs.Ending.{ending_of_archive, ending_of_file, ending_of_missing_row}
+use Rattle.td_tool.specs.Ending.{ending_of_table}
 use Rattle.td_tool.specs.Counted.{IsArchiveOf}
 use Rattle.td_tool.specs.Checks.{AreTexts, HasFailed}
 use Rattle.td_tool.specs.CheckInside.{EndsUnwritten, HasFailedIn, WritesSo}
-use Rattle.td_tool.specs.Tracks.{AreOpened, AreRefused, AreRowsOf, AreTextsOf, EndsSo, FailsAt, IsNoTracker, IsRefusedOver, IsStateRefused, IsTextIfGiven, RowsSay, Saying, Texts, TextsSayIt, TrackFiles, TrackerSays}
-use Rattle.td_tool.specs.TrackInside.{AreRefusedWith, HasFailedAt, HasFailedFor, HasFailedIfGiven, IndicesSay, IsRefusedFor, IsReplaced, OrMemory}
+use Rattle.td_tool.specs.Tracks.{AreOpened, AreRefused, AreRowsOf, AreTextsOf, EndsSo, FailsAt}
+use Rattle.td_tool.specs.Tracks.{IsNoTracker, IsRefusedOver, IsStateRefused, IsTextIfGiven, RowsSay}
+use Rattle.td_tool.specs.Tracks.{Saying, Texts, TextsSayIt, TrackFiles, TrackerSays}
+use Rattle.td_tool.specs.TrackInside.{AreRefusedWith, HasFailedAt, HasFailedFor, HasFailedIfGiven}
+use Rattle.td_tool.specs.TrackInside.{IndicesSay, IsRefusedFor, IsReplaced, OrMemory}
 
 -- ---- a file that wasn't read
 
-first_fails : (files : TrackFiles) (role : Role) (e : TextFault) → HasFailed files.indices role e → FailsAt files role e
+first_fails : (files : TrackFiles) (role : Role) (e : TextFault) → HasFailed files.indices role e
+    → FailsAt files role e
 first_fails files Input e failed = absurd failed.before
 first_fails files Archs e failed = failed
 first_fails files Packages e failed = failed
@@ -44,26 +51,34 @@ first_fails files Tracker e failed = absurd failed.before
 first_fails files Outcomes e failed = absurd failed.before
 first_fails files Journal e failed = absurd failed.before
 
-pub fails_first : (files : TrackFiles) (f : FileFault) → HasFailedIn files.indices f → HasFailedAt files f
+pub fails_first : (files : TrackFiles) (f : FileFault) → HasFailedIn files.indices f
+    → HasFailedAt files f
 fails_first files f failed = first_fails files f.role f.fault failed
 
-pub fails_state : (files : TrackFiles) (f : FileFault) (a p s : List ℕ) → AreTexts files.indices a p s → HasFailedIfGiven files.state State f → HasFailedAt files f
+pub fails_state : (files : TrackFiles) (f : FileFault) (a p s : List ℕ)
+    → AreTexts files.indices a p s → HasFailedIfGiven files.state State f → HasFailedAt files f
 fails_state files f a p s texts failed =
-    subst (λ r. FailsAt files r f.fault) (sym failed.failed.asked) (a, p, s, texts, (failed.file, failed.given, failed.failed.may))
+    subst (λ r. FailsAt files r f.fault) (sym failed.failed.asked)
+    (a, p, s, texts, (failed.file, failed.given, failed.failed.may))
 
-pub fails_tracker : (files : TrackFiles) (f : FileFault) (a p s : List ℕ) (state : Option (List ℕ)) → AreTexts files.indices a p s → IsTextIfGiven files.state state
+pub fails_tracker : (files : TrackFiles) (f : FileFault) (a p s : List ℕ) (state : Option (List ℕ))
+    → AreTexts files.indices a p s → IsTextIfGiven files.state state
     → HasFailedFor files.tracker Tracker f → HasFailedAt files f
 fails_tracker files f a p s state texts given failed =
-    subst (λ r. FailsAt files r f.fault) (sym failed.asked) (a, p, s, texts, (state, given, failed.may))
+    subst (λ r. FailsAt files r f.fault) (sym failed.asked)
+    (a, p, s, texts, (state, given, failed.may))
 
 -- ---- texts
 
 -- what is told of the same archive and tracker
-pub told_of : (Says : Saying) (c d : Contents) (t u : Tracking) (rows : Table) (text : List ℕ) → c ≡ d → t ≡ u → Says c t rows text → Says d u rows text
-told_of Says c d t u rows text first second says = subst (λ x. Says d x rows text) second (subst (λ x. Says x t rows text) first says)
+pub told_of : (Says : Saying) (c d : Contents) (t u : Tracking) (rows : Table) (text : List ℕ)
+    → c ≡ d → t ≡ u → Says c t rows text → Says d u rows text
+told_of Says c d t u rows text first second says =
+    subst (λ x. Says d x rows text) second (subst (λ x. Says x t rows text) first says)
 
 -- the archive of three texts
-pub archive_of : (a p s : List ℕ) (t : List ArchWords) (c : Contents) → IsTable (lines_of a) t → IsArchive t (lines_of p) (lines_of s) c → IsArchiveOf a p s c
+pub archive_of : (a p s : List ℕ) (t : List ArchWords) (c : Contents) → IsTable (lines_of a) t
+    → IsArchive t (lines_of p) (lines_of s) c → IsArchiveOf a p s c
 archive_of a p s t c is_table is = record {
   is_table = subst (IsTable (lines_of a)) (sym is.same_table) is_table;
   is_archive = subst (λ x. IsArchive x (lines_of p) (lines_of s) c) (sym is.same_table) is;
@@ -71,39 +86,67 @@ archive_of a p s t c is_table is = record {
 
 -- ---- what is found, layer by layer
 
-pub found_by_tracker : {E : Type 0} (Says : Saying) (c : Contents) (rows : Table) (tracker : List ℕ) (t : Tracking) (r : Result (String Global) E) (q : Result (String Global) Ending) → IsTracker tracker t
-    → IfOk r (λ text. Says c t rows (string_bytes text)) → IfOk r (λ text. q ≡ Ok text) → IfErr r (λ e. q ≡ Err NoMemory)
+pub found_by_tracker : {E : Type 0} (Says : Saying) (c : Contents) (rows : Table) (tracker : List ℕ)
+    (t : Tracking) (r : Result (String Global) E) (q : Result (String Global) Ending)
+    → IsTracker tracker t
+    → IfOk r (λ text. Says c t rows (string_bytes text)) → IfOk r (λ text. q ≡ Ok text)
+    → IfErr r (λ e. q ≡ Err NoMemory)
     → IfOk q (λ text. TrackerSays Says c rows tracker (string_bytes text))
-found_by_tracker Says c rows tracker t (Ok text) q is says ok err = subst (λ x. IfOk x (λ text. TrackerSays Says c rows tracker (string_bytes text))) (sym ok) (t, is, says)
-found_by_tracker Says c rows tracker t (Err e) q is says ok err = subst (λ x. IfOk x (λ text. TrackerSays Says c rows tracker (string_bytes text))) (sym err) tt
+found_by_tracker Says c rows tracker t (Ok text) q is says ok err =
+    subst (λ x. IfOk x (λ text. TrackerSays Says c rows tracker (string_bytes text))) (sym ok)
+    (t, is, says)
+found_by_tracker Says c rows tracker t (Err e) q is says ok err =
+    subst (λ x. IfOk x (λ text. TrackerSays Says c rows tracker (string_bytes text))) (sym err) tt
 
-pub memory_alone : {E : Type 0} (Bad : Ending → Type 0) (r : Result (String Global) E) (q : Result (String Global) Ending) → IfOk r (λ text. q ≡ Ok text) → IfErr r (λ e. q ≡ Err NoMemory) → IfErr q (OrMemory Bad)
+pub memory_alone : {E : Type 0} (Bad : Ending → Type 0) (r : Result (String Global) E)
+    (q : Result (String Global) Ending) → IfOk r (λ text. q ≡ Ok text)
+    → IfErr r (λ e. q ≡ Err NoMemory) → IfErr q (OrMemory Bad)
 memory_alone Bad (Ok text) q ok err = subst (λ x. IfErr x (OrMemory Bad)) (sym ok) tt
 memory_alone Bad (Err e) q ok err = subst (λ x. IfErr x (OrMemory Bad)) (sym err) (inr refl)
 
 -- ---- rows
 
-pub missing_key : {A : Type 0} (rows given : Table) (r : Result A OverlayError) (e : OverlayError) → r ≡ Err e → ((k : Key) → (r ≡ Err (NoSuchRow k)) ↔ (first_missing rows given ≡ Some k)) → (k : Key) × (first_missing rows given ≡ Some k)
+pub missing_key : {A : Type 0} (rows given : Table) (r : Result A OverlayError) (e : OverlayError)
+    → r ≡ Err e → ((k : Key) → (r ≡ Err (NoSuchRow k)) ↔ (first_missing rows given ≡ Some k))
+    → (k : Key) × (first_missing rows given ≡ Some k)
 missing_key rows given r (NoSuchRow k) is both = (k, (both k).0 is)
 
-pub replaced_by : (rows given : Table) (text : List ℕ) (r : Result Table Ending) → IsStateFile (lines_of text) given
-    → IfOk r (λ new. new ≡ overlaid given rows) → IfOk r (λ new. (k : Key) → first_missing rows given ≡ Some k → ⊥) → IfOk r (IsReplaced rows text)
-replaced_by rows given text (Ok new) is same none = record { given = given; are_given = is; none_missing = none; replaced = same }
+pub replaced_by : (rows given : Table) (text : List ℕ) (r : Result Table Ending)
+    → IsStateFile (lines_of text) given
+    → IfOk r (λ new. new ≡ overlaid given rows)
+    → IfOk r (λ new. (k : Key) → first_missing rows given ≡ Some k → ⊥)
+    → IfOk r (IsReplaced rows text)
+replaced_by rows given text (Ok new) is same none =
+    record { given = given; are_given = is; none_missing = none; replaced = same }
 replaced_by rows given text (Err e) is same none = tt
 
-pub lacks_one : (rows given : Table) (text : List ℕ) (r : Result Table Ending) → IsStateFile (lines_of text) given
-    → IfErr r (λ ending. (k : Key) × (first_missing rows given ≡ Some k) × (ending ≡ ending_of_missing_row)) → IfErr r (OrMemory (IsRefusedFor rows text))
+pub lacks_one : (rows given : Table) (text : List ℕ) (r : Result Table Ending)
+    → IsStateFile (lines_of text) given
+    → IfErr r (λ ending. (k : Key) × (first_missing rows given ≡ Some k)
+    × (ending ≡ ending_of_missing_row)) → IfErr r (OrMemory (IsRefusedFor rows text))
 lacks_one rows given text (Ok new) is missing = tt
 lacks_one rows given text (Err e) is missing = inl (inr (given, is, missing))
 
-pub opened_rows : (c : Contents) (rows : Table) → ((k : Key) → row_of rows k ≡ opening_row c k) → ascending (keys_of rows) ≡ true → AreOpened c rows
+pub opened_rows : (c : Contents) (rows : Table) → ((k : Key) → row_of rows k ≡ opening_row c k)
+    → ascending (keys_of rows) ≡ true → AreOpened c rows
 opened_rows c rows same rising = record { same = same; rising = rising }
 
-pub replaced_rows : (c : Contents) (rows : Table) (text : List ℕ) (r : Result Table Ending) → AreOpened c rows → IfOk r (IsReplaced rows text) → IfOk r (AreRowsOf c (Some text))
-replaced_rows c rows text (Ok new) opened is = record { opened = rows; are_opened = opened; given = is.given; are_given = is.are_given; none_missing = is.none_missing; replaced = is.replaced }
+pub replaced_rows : (c : Contents) (rows : Table) (text : List ℕ) (r : Result Table Ending)
+    → AreOpened c rows → IfOk r (IsReplaced rows text) → IfOk r (AreRowsOf c (Some text))
+replaced_rows c rows text (Ok new) opened is =
+    record {
+      opened = rows;
+      are_opened = opened;
+      given = is.given;
+      are_given = is.are_given;
+      none_missing = is.none_missing;
+      replaced = is.replaced;
+    }
 replaced_rows c rows text (Err e) opened is = tt
 
-pub refused_rows : (c : Contents) (rows : Table) (text : List ℕ) (r : Result Table Ending) → AreOpened c rows → IfErr r (OrMemory (IsRefusedFor rows text)) → IfErr r (OrMemory (IsStateRefused c (Some text)))
+pub refused_rows : (c : Contents) (rows : Table) (text : List ℕ) (r : Result Table Ending)
+    → AreOpened c rows → IfErr r (OrMemory (IsRefusedFor rows text))
+    → IfErr r (OrMemory (IsStateRefused c (Some text)))
 refused_rows c rows text (Ok new) opened is = tt
 refused_rows c rows text (Err e) opened is = elim is [
   | inl bad ↦ elim bad [
@@ -115,12 +158,15 @@ refused_rows c rows text (Err e) opened is = elim is [
 
 -- ---- over an archive
 
-pub rows_say : (Says : Saying) (c : Contents) (state : Option (List ℕ)) (rows : Table) (tracker : List ℕ) (r : Result (String Global) Ending) → AreRowsOf c state rows
-    → IfOk r (λ text. TrackerSays Says c rows tracker (string_bytes text)) → IfOk r (λ text. RowsSay Says c state tracker (string_bytes text))
+pub rows_say : (Says : Saying) (c : Contents) (state : Option (List ℕ)) (rows : Table)
+    (tracker : List ℕ) (r : Result (String Global) Ending) → AreRowsOf c state rows
+    → IfOk r (λ text. TrackerSays Says c rows tracker (string_bytes text))
+    → IfOk r (λ text. RowsSay Says c state tracker (string_bytes text))
 rows_say Says c state rows tracker (Ok text) are says = (rows, are, says)
 rows_say Says c state rows tracker (Err e) are says = tt
 
-pub rows_refuse : (c : Contents) (state : Option (List ℕ)) (rows : Table) (tracker : List ℕ) (r : Result (String Global) Ending) → AreRowsOf c state rows
+pub rows_refuse : (c : Contents) (state : Option (List ℕ)) (rows : Table) (tracker : List ℕ)
+    (r : Result (String Global) Ending) → AreRowsOf c state rows
     → IfErr r (OrMemory (IsNoTracker tracker)) → IfErr r (OrMemory (IsRefusedOver c state tracker))
 rows_refuse c state rows tracker (Ok text) are refused = tt
 rows_refuse c state rows tracker (Err e) are refused = elim refused [
@@ -128,7 +174,8 @@ rows_refuse c state rows tracker (Err e) are refused = elim refused [
   | inr memory ↦ inr memory
 ]
 
-pub state_refused : (c : Contents) (state : Option (List ℕ)) (tracker : List ℕ) (ending : Ending) → OrMemory (IsStateRefused c state) ending → OrMemory (IsRefusedOver c state tracker) ending
+pub state_refused : (c : Contents) (state : Option (List ℕ)) (tracker : List ℕ) (ending : Ending)
+    → OrMemory (IsStateRefused c state) ending → OrMemory (IsRefusedOver c state tracker) ending
 state_refused c state tracker ending refused = elim refused [
   | inl bad ↦ inl (inl bad)
   | inr memory ↦ inr memory
@@ -136,54 +183,87 @@ state_refused c state tracker ending refused = elim refused [
 
 -- ---- over two indices; the texts that were lent are those that were read
 
-pub indices_say : (Says : Saying) (t : List ArchWords) (x : Texts) (c : Contents) (r : Result (String Global) Ending) (packages sources : List ℕ) (state : Option (List ℕ)) (tracker : List ℕ)
-    → packages ≡ x.packages → sources ≡ x.sources → state ≡ x.state → tracker ≡ x.tracker → IsArchive t (lines_of packages) (lines_of sources) c
-    → IfOk r (λ text. RowsSay Says c state tracker (string_bytes text)) → IfOk r (λ text. IndicesSay Says t x (string_bytes text))
+pub indices_say : (Says : Saying) (t : List ArchWords) (x : Texts) (c : Contents)
+    (r : Result (String Global) Ending) (packages sources : List ℕ) (state : Option (List ℕ))
+    (tracker : List ℕ)
+    → packages ≡ x.packages → sources ≡ x.sources → state ≡ x.state → tracker ≡ x.tracker
+    → IsArchive t (lines_of packages) (lines_of sources) c
+    → IfOk r (λ text. RowsSay Says c state tracker (string_bytes text))
+    → IfOk r (λ text. IndicesSay Says t x (string_bytes text))
 indices_say Says t x c (Ok text) packages sources state tracker p s st tr is says = (
   c,
-  subst (λ l. IsArchive t (lines_of x.packages) (lines_of l) c) s (subst (λ l. IsArchive t (lines_of l) (lines_of sources) c) p is),
-  subst (λ l. RowsSay Says c x.state l (string_bytes text)) tr (subst (λ l. RowsSay Says c l tracker (string_bytes text)) st says),
+  subst (λ l. IsArchive t (lines_of x.packages) (lines_of l) c) s
+      (subst (λ l. IsArchive t (lines_of l) (lines_of sources) c) p is),
+  subst (λ l. RowsSay Says c x.state l (string_bytes text)) tr
+      (subst (λ l. RowsSay Says c l tracker (string_bytes text)) st says),
 )
 indices_say Says t x c (Err e) packages sources state tracker p s st tr is says = tt
 
-pub indices_refuse : (t : List ArchWords) (x : Texts) (c : Contents) (r : Result (String Global) Ending) (packages sources : List ℕ) (state : Option (List ℕ)) (tracker : List ℕ)
-    → packages ≡ x.packages → sources ≡ x.sources → state ≡ x.state → tracker ≡ x.tracker → IsArchive t (lines_of packages) (lines_of sources) c
+pub indices_refuse : (t : List ArchWords) (x : Texts) (c : Contents)
+    (r : Result (String Global) Ending) (packages sources : List ℕ) (state : Option (List ℕ))
+    (tracker : List ℕ)
+    → packages ≡ x.packages → sources ≡ x.sources → state ≡ x.state → tracker ≡ x.tracker
+    → IsArchive t (lines_of packages) (lines_of sources) c
     → IfErr r (OrMemory (IsRefusedOver c state tracker)) → IfErr r (OrMemory (AreRefusedWith t x))
 indices_refuse t x c (Ok text) packages sources state tracker p s st tr is refused = tt
 indices_refuse t x c (Err e) packages sources state tracker p s st tr is refused = elim refused [
   | inl bad ↦ inl (inr (
     c,
-    subst (λ l. IsArchive t (lines_of x.packages) (lines_of l) c) s (subst (λ l. IsArchive t (lines_of l) (lines_of sources) c) p is),
+    subst (λ l. IsArchive t (lines_of x.packages) (lines_of l) c) s
+        (subst (λ l. IsArchive t (lines_of l) (lines_of sources) c) p is),
     subst (λ l. IsRefusedOver c x.state l e) tr (subst (λ l. IsRefusedOver c l tracker e) st bad),
   ))
   | inr memory ↦ inr memory
 ]
 
-pub indices_bad : (t : List ArchWords) (x : Texts) (e : ArchiveFault) (ending : Ending) (packages sources : List ℕ) → packages ≡ x.packages → sources ≡ x.sources
-    → archive_file.FaultOf t (lines_of packages) (lines_of sources) e → ending ≡ ending_of_archive e → OrMemory (AreRefusedWith t x) ending
+pub indices_bad : (t : List ArchWords) (x : Texts) (e : ArchiveFault) (ending : Ending)
+    (packages sources : List ℕ) → packages ≡ x.packages → sources ≡ x.sources
+    → archive_file.FaultOf t (lines_of packages) (lines_of sources) e → ending ≡ ending_of_archive e
+    → OrMemory (AreRefusedWith t x) ending
 indices_bad t x e ending packages sources p s bad is =
-    inl (inl (e, subst (λ l. archive_file.FaultOf t (lines_of x.packages) (lines_of l) e) s (subst (λ l. archive_file.FaultOf t (lines_of l) (lines_of sources) e) p bad), is))
+    inl (inl (
+      e,
+      subst (λ l. archive_file.FaultOf t (lines_of x.packages) (lines_of l) e) s
+          (subst (λ l. archive_file.FaultOf t (lines_of l) (lines_of sources) e) p bad),
+      is,
+    ))
 
 -- ---- over a table
 
-table_read : (x : Texts) (archs : List ℕ) (t : List ArchWords) → archs ≡ x.archs → IsTable (lines_of archs) t → IsTable (lines_of x.archs) t
+table_read : (x : Texts) (archs : List ℕ) (t : List ArchWords) → archs ≡ x.archs
+    → IsTable (lines_of archs) t → IsTable (lines_of x.archs) t
 table_read x archs t a is = subst (λ l. IsTable (lines_of l) t) a is
 
-pub texts_say : (Says : Saying) (t : List ArchWords) (x : Texts) (r : Result (String Global) Ending) (archs : List ℕ) → archs ≡ x.archs → IsTable (lines_of archs) t
-    → IfOk r (λ text. IndicesSay Says t x (string_bytes text)) → IfOk r (λ text. TextsSayIt Says x (string_bytes text))
-texts_say Says t x (Ok text) archs a is says = (says.0, archive_of x.archs x.packages x.sources t says.0 (table_read x archs t a is) says.1, says.2)
+pub texts_say : (Says : Saying) (t : List ArchWords) (x : Texts) (r : Result (String Global) Ending)
+    (archs : List ℕ) → archs ≡ x.archs → IsTable (lines_of archs) t
+    → IfOk r (λ text. IndicesSay Says t x (string_bytes text))
+    → IfOk r (λ text. TextsSayIt Says x (string_bytes text))
+texts_say Says t x (Ok text) archs a is says = (
+  says.0,
+  archive_of x.archs x.packages x.sources t says.0 (table_read x archs t a is) says.1,
+  says.2,
+)
 texts_say Says t x (Err e) archs a is says = tt
 
-pub texts_refuse : (t : List ArchWords) (x : Texts) (r : Result (String Global) Ending) (archs : List ℕ) → archs ≡ x.archs → IsTable (lines_of archs) t
+pub texts_refuse : (t : List ArchWords) (x : Texts) (r : Result (String Global) Ending)
+    (archs : List ℕ) → archs ≡ x.archs → IsTable (lines_of archs) t
     → IfErr r (OrMemory (AreRefusedWith t x)) → IfErr r (OrMemory (AreRefused x))
 texts_refuse t x (Ok text) archs a is refused = tt
 texts_refuse t x (Err e) archs a is refused = elim refused [
   | inl bad ↦ elim bad [
     | inl none ↦ inl (inr (inl (t, table_read x archs t a is, none)))
-    | inr over ↦ inl (inr (inr (over.0, archive_of x.archs x.packages x.sources t over.0 (table_read x archs t a is) over.1, over.2)))
+    | inr over ↦
+        inl (inr (inr (
+          over.0,
+          archive_of x.archs x.packages x.sources t over.0 (table_read x archs t a is) over.1,
+          over.2,
+        )))
   ]
   | inr memory ↦ inr memory
 ]
 
-pub table_bad : (x : Texts) (e : ArchsFault) (ending : Ending) (archs : List ℕ) → archs ≡ x.archs → table_file.FaultOf (lines_of archs) e → ending ≡ ending_of_table e → OrMemory (AreRefused x) ending
-table_bad x e ending archs a bad is = inl (inl (e, subst (λ l. table_file.FaultOf (lines_of l) e) a bad, is))
+pub table_bad : (x : Texts) (e : ArchsFault) (ending : Ending) (archs : List ℕ) → archs ≡ x.archs
+    → table_file.FaultOf (lines_of archs) e → ending ≡ ending_of_table e
+    → OrMemory (AreRefused x) ending
+table_bad x e ending archs a bad is =
+    inl (inl (e, subst (λ l. table_file.FaultOf (lines_of l) e) a bad, is))

@@ -1,5 +1,6 @@
 -- What the inner functions of a check answer. This project's own.
-use Rattle.std.specs.Prelude.{◌≡◌, ℕ, ◌≤◌, List, length, Option, Result, IfOk, IfErr, MatchResult, String, string_bytes}
+use Rattle.std.specs.Prelude.{◌≡◌, ℕ, ◌≤◌, List, length, Option, Result, IfOk, IfErr, MatchResult}
+use Rattle.std.specs.Prelude.{String, string_bytes}
 use Rattle.std.specs.declared.alloc.Global.{Global}
 use Rattle.std.specs.Io.KnownBytes.{Appends, Keeps}
 use Rattle.td_bytes.specs.Pieces.{AppendsPrefix}
@@ -19,9 +20,13 @@ use Rattle.td_tool.specs.declared.file_texts.FileFault.{FileFault}
 use Rattle.td_tool.specs.declared.role.Role.{Role}
 use Rattle.td_tool.specs.declared.role.Role.TheVariants.{Archs}
 use Rattle.td_tool.specs.Roles.{role_of_fault}
-use Rattle.td_tool.specs.declared.input_fault.InputFault.TheVariants.{TooLong, NotText, Simulation, Table, Archive, State, NoSuchRow, Tracker, BadOutcome, Journal}
+use Rattle.td_tool.specs.declared.input_fault.InputFault.TheVariants.{TooLong, NotText, Simulation}
+use Rattle.td_tool.specs.declared.input_fault.InputFault.TheVariants.{Table, Archive, State}
+use Rattle.td_tool.specs.declared.input_fault.InputFault.TheVariants.{NoSuchRow, Tracker}
+use Rattle.td_tool.specs.declared.input_fault.InputFault.TheVariants.{BadOutcome, Journal}
 use Rattle.td_tool.specs.declared.ending.Ending.{Ending}
-use Rattle.td_tool.specs.declared.ending.Ending.TheVariants.{Done, Refused, BadInput, NoMemory, CannotRead, CannotWrite}
+use Rattle.td_tool.specs.declared.ending.Ending.TheVariants.{Done, Refused, BadInput, NoMemory}
+use Rattle.td_tool.specs.declared.ending.Ending.TheVariants.{CannotRead, CannotWrite}
 use Rattle.td_tool.specs.Ending.{ending_of_archive, ending_of_file}
 use Rattle.td_tool.specs.Counted.{IsArchiveOf, counts_line, line_of_counts}
 use Rattle.td_tool.specs.Limits.{file_limit}
@@ -31,7 +36,8 @@ use Rattle.td_tool.specs.Checks.{Files, AreTexts, EndsCounted, HasFailed}
 
 -- the texts that were read of the files
 abbrev pub AreTextsIn : Files → FileTexts → Type 0
-AreTextsIn files t = AreTexts files (string_bytes t.archs) (string_bytes t.packages) (string_bytes t.sources)
+AreTextsIn files t =
+    AreTexts files (string_bytes t.archs) (string_bytes t.packages) (string_bytes t.sources)
 
 -- a file that wasn't read, for this
 abbrev pub HasFailedIn : Files → FileFault → Type 0
@@ -55,12 +61,16 @@ AreCountsWith t p s n = (c : Contents) × IsArchive t (lines_of p) (lines_of s) 
 
 -- two texts are no archive with this table, and so it ends
 abbrev pub IsRefusedWith : List ArchWords → List ℕ → List ℕ → Ending → Type 0
-IsRefusedWith t p s ending = (e : ArchiveFault) × archive_file.FaultOf t (lines_of p) (lines_of s) e × (ending ≡ ending_of_archive e)
+IsRefusedWith t p s ending =
+    (e : ArchiveFault) × archive_file.FaultOf t (lines_of p) (lines_of s) e
+    × (ending ≡ ending_of_archive e)
 
 -- what is counted of two texts with this table: an archive is, unless memory runs out
-pub record IsCountedWith (t : List ArchWords) (p s : List ℕ) (counted : Result Counts Ending) : Type 0 where
+pub record IsCountedWith (t : List ArchWords) (p s : List ℕ)
+    (counted : Result Counts Ending) : Type 0 where
   pub found : IfOk counted (AreCountsWith t p s)
-  pub only : (c : Contents) → IsArchive t (lines_of p) (lines_of s) c → MatchResult counted (AreCountsOf c) (λ e. e ≡ NoMemory)
+  pub only : (c : Contents) → IsArchive t (lines_of p) (lines_of s) c
+      → MatchResult counted (AreCountsOf c) (λ e. e ≡ NoMemory)
   pub refused : IfErr counted (IsRefusedWith t p s)
 
 -- the ending where three texts are no archive, or memory runs out
@@ -73,7 +83,10 @@ IsNoArchive a p s (BadInput role (Simulation e)) = ⊥
 IsNoArchive a p s (BadInput role (Table table.NoMemory)) = ⊥
 IsNoArchive a p s (BadInput role (Table e)) = (role ≡ Archs) × table_file.FaultOf (lines_of a) e
 IsNoArchive a p s (BadInput role (Archive archive.NoMemory)) = ⊥
-IsNoArchive a p s (BadInput role (Archive e)) = (role ≡ role_of_fault e) × ((t : List ArchWords) × IsTable (lines_of a) t × archive_file.FaultOf t (lines_of p) (lines_of s) e)
+IsNoArchive a p s (BadInput role (Archive e)) =
+    (role ≡ role_of_fault e)
+    × ((t : List ArchWords) × IsTable (lines_of a) t
+    × archive_file.FaultOf t (lines_of p) (lines_of s) e)
 IsNoArchive a p s (BadInput role (State e)) = ⊥
 IsNoArchive a p s (BadInput role NoSuchRow) = ⊥
 IsNoArchive a p s (BadInput role (Tracker e)) = ⊥
@@ -86,7 +99,8 @@ IsNoArchive a p s CannotWrite = ⊥
 -- what is counted of three texts: an archive is, unless memory runs out
 pub record IsCounted (a p s : List ℕ) (counted : Result Counts Ending) : Type 0 where
   pub found : IfOk counted (λ n. (c : Contents) × IsArchiveOf a p s c × AreCountsOf c n)
-  pub only : (c : Contents) → IsArchiveOf a p s c → MatchResult counted (AreCountsOf c) (λ e. e ≡ NoMemory)
+  pub only : (c : Contents) → IsArchiveOf a p s c
+      → MatchResult counted (AreCountsOf c) (λ e. e ≡ NoMemory)
   pub refused : IfErr counted (IsNoArchive a p s)
 
 -- the line of the counts
@@ -105,7 +119,8 @@ WritesSo line old new (CannotRead role) = ⊥
 WritesSo line old new CannotWrite = AppendsPrefix old new line
 
 -- it ends so, and nothing is written
-pub record EndsUnwritten (expected : Ending) (old new : Option (List ℕ)) (ending : Ending) : Type 0 where
+pub record EndsUnwritten (expected : Ending) (old new : Option (List ℕ))
+    (ending : Ending) : Type 0 where
   pub ends : ending ≡ expected
   pub kept : Keeps old new
 
@@ -116,16 +131,20 @@ TextsSay a p s old new Refused = ⊥
 TextsSay a p s old new (BadInput role e) = IsNoArchive a p s (BadInput role e) × Keeps old new
 TextsSay a p s old new NoMemory = Keeps old new
 TextsSay a p s old new (CannotRead role) = ⊥
-TextsSay a p s old new CannotWrite = (c : Contents) × IsArchiveOf a p s c × AppendsPrefix old new (counts_line c)
+TextsSay a p s old new CannotWrite =
+    (c : Contents) × IsArchiveOf a p s c × AppendsPrefix old new (counts_line c)
 
--- three texts end the check so: the ending is as it says, and an archive is counted unless a write or memory fails
+-- three texts end the check so: the ending is as it says, and an archive is counted unless a write
+-- or memory fails
 pub record TextsEnd (a p s : List ℕ) (old new : Option (List ℕ)) (ending : Ending) : Type 0 where
   pub says : TextsSay a p s old new ending
   pub only : (c : Contents) → IsArchiveOf a p s c → EndsCounted c old new ending
 
 -- the same of the texts that were read from the three files
 abbrev pub FileTextsEnd : FileTexts → Option (List ℕ) → Option (List ℕ) → Ending → Type 0
-FileTextsEnd t old new ending = TextsEnd (string_bytes t.archs) (string_bytes t.packages) (string_bytes t.sources) old new ending
+FileTextsEnd t old new ending =
+    TextsEnd (string_bytes t.archs) (string_bytes t.packages) (string_bytes t.sources) old new
+    ending
 
 -- a file wasn't read, for this
 abbrev pub FileUnread : FileFault → Option (List ℕ) → Option (List ℕ) → Ending → Type 0

@@ -1,5 +1,6 @@
 -- What a check leaves on standard output, as it ends. This project's own.
-use Rattle.std.specs.Prelude.{◌≡◌, ◌⊎◌, ℕ, ◌≤◌, ◌<◌, Bool, true, false, List, length, Option, Some, None, IfSome, IsUtf8}
+use Rattle.std.specs.Prelude.{◌≡◌, ◌⊎◌, ℕ, ◌≤◌, ◌<◌, Bool, true, false, List, length, Option, Some}
+use Rattle.std.specs.Prelude.{None, IfSome, IsUtf8}
 use Rattle.std.specs.Io.KnownBytes.{Appends, Keeps}
 use Rattle.td_bytes.specs.Pieces.{AppendsPrefix}
 use Rattle.td_bytes.specs.declared.text.TextFault.{TextFault}
@@ -16,13 +17,16 @@ use Rattle.td_indices.specs.declared.archive_fault.ArchiveFault.{ArchiveFault}
 use Rattle.td_indices.specs.declared.archive_fault.ArchiveFault.TheVariants as archive
 use Rattle.td_tool.specs.Limits.{file_limit}
 use Rattle.td_tool.specs.declared.role.Role.{Role}
-use Rattle.td_tool.specs.declared.role.Role.TheVariants.{Input, Archs, Packages, Sources, State, Tracker, Outcomes, Journal}
+use Rattle.td_tool.specs.declared.role.Role.TheVariants.{Input, Archs, Packages, Sources, State}
+use Rattle.td_tool.specs.declared.role.Role.TheVariants.{Tracker, Outcomes, Journal}
 use Rattle.td_tool.specs.Roles.{role_of_fault}
 use Rattle.td_tool.specs.declared.input_fault.InputFault.{InputFault}
-use Rattle.td_tool.specs.declared.input_fault.InputFault.TheVariants.{TooLong, NotText, Simulation, Table, Archive}
+use Rattle.td_tool.specs.declared.input_fault.InputFault.TheVariants.{TooLong, NotText, Simulation}
+use Rattle.td_tool.specs.declared.input_fault.InputFault.TheVariants.{Table, Archive}
 use Rattle.td_tool.specs.declared.input_fault.InputFault.TheVariants as fault
 use Rattle.td_tool.specs.declared.ending.Ending.{Ending}
-use Rattle.td_tool.specs.declared.ending.Ending.TheVariants.{Done, Refused, BadInput, NoMemory, CannotRead, CannotWrite}
+use Rattle.td_tool.specs.declared.ending.Ending.TheVariants.{Done, Refused, BadInput, NoMemory}
+use Rattle.td_tool.specs.declared.ending.Ending.TheVariants.{CannotRead, CannotWrite}
 use Rattle.td_tool.specs.Counted.{IsArchiveOf, counts_line}
 
 -- ---- 1. what is read
@@ -35,7 +39,8 @@ pub record Files : Type 0 where
   pub can_fail : Role → TextFault → Bool
 
 -- for which faults a read of the file of a role may fail; no other is read
-abbrev pub failing : (List ℕ → TextFault → Bool) → List ℕ → List ℕ → List ℕ → Role → TextFault → Bool
+abbrev pub failing : (List ℕ → TextFault → Bool) → List ℕ → List ℕ → List ℕ → Role → TextFault
+    → Bool
 failing can_fail archs packages sources Input fault = false
 failing can_fail archs packages sources Archs fault = can_fail archs fault
 failing can_fail archs packages sources Packages fault = can_fail packages fault
@@ -46,9 +51,15 @@ failing can_fail archs packages sources Outcomes fault = false
 failing can_fail archs packages sources Journal fault = false
 
 -- those of three paths
-abbrev pub files_of : (List ℕ → Option (List ℕ)) → (List ℕ → TextFault → Bool) → List ℕ → List ℕ → List ℕ → Files
+abbrev pub files_of : (List ℕ → Option (List ℕ)) → (List ℕ → TextFault → Bool) → List ℕ → List ℕ
+    → List ℕ → Files
 files_of bytes can_fail archs packages sources =
-    record { in_archs = bytes archs; in_packages = bytes packages; in_sources = bytes sources; can_fail = failing can_fail archs packages sources }
+    record {
+      in_archs = bytes archs;
+      in_packages = bytes packages;
+      in_sources = bytes sources;
+      can_fail = failing can_fail archs packages sources;
+    }
 
 -- the bytes of the file of a role, where they are known
 abbrev pub known_of : Files → Role → Option (List ℕ)
@@ -95,7 +106,9 @@ AreTextsBefore files State = ⊥
 AreTextsBefore files Tracker = ⊥
 AreTextsBefore files Outcomes = ⊥
 AreTextsBefore files Journal = ⊥
-AreTextsBefore files Sources = (archs : List ℕ) × (packages : List ℕ) × IsTextOf files.in_archs archs × IsTextOf files.in_packages packages
+AreTextsBefore files Sources =
+    (archs : List ℕ) × (packages : List ℕ) × IsTextOf files.in_archs archs
+    × IsTextOf files.in_packages packages
 
 -- bytes within the limit that are no text
 abbrev pub IsNoText : Option (List ℕ) → Type 0
@@ -120,7 +133,8 @@ pub record HasFailed (files : Files) (role : Role) (fault : TextFault) : Type 0 
 
 -- the file of a role can't be read, or is too long to be
 abbrev pub IsUnreadable : Files → Role → Type 0
-IsUnreadable files role = HasFailed files role text_fault.CannotRead ⊎ HasFailed files role text_fault.TooLong
+IsUnreadable files role =
+    HasFailed files role text_fault.CannotRead ⊎ HasFailed files role text_fault.TooLong
 
 -- all are texts, and the first is no table, for this
 pub record HasTableFault (files : Files) (e : ArchsFault) : Type 0 where
@@ -157,14 +171,17 @@ HasFileFault files role (Archive e) = (role ≡ role_of_fault e) × HasArchiveFa
 
 -- ---- 3. how it ends
 
--- what an ending says of the files and of what is written: the line of the archive, or a front of it where the writer failed, or nothing where a file, a read or memory did
+-- what an ending says of the files and of what is written: the line of the archive, or a front of
+-- it where the writer failed, or nothing where a file, a read or memory did
 abbrev pub CheckSays : Files → Option (List ℕ) → Option (List ℕ) → Ending → Type 0
-CheckSays files old new Done = (c : Contents) × IsArchiveIn files c × Appends old new (counts_line c)
+CheckSays files old new Done =
+    (c : Contents) × IsArchiveIn files c × Appends old new (counts_line c)
 CheckSays files old new Refused = ⊥
 CheckSays files old new (BadInput role e) = HasFileFault files role e × Keeps old new
 CheckSays files old new NoMemory = Keeps old new
 CheckSays files old new (CannotRead role) = IsUnreadable files role × Keeps old new
-CheckSays files old new CannotWrite = (c : Contents) × IsArchiveIn files c × AppendsPrefix old new (counts_line c)
+CheckSays files old new CannotWrite =
+    (c : Contents) × IsArchiveIn files c × AppendsPrefix old new (counts_line c)
 
 -- all three files are known, and are this archive
 pub record IsKnownArchive (files : Files) (c : Contents) : Type 0 where
@@ -188,7 +205,8 @@ EndsCounted c old new NoMemory = Keeps old new
 EndsCounted c old new (CannotRead role) = Keeps old new
 EndsCounted c old new CannotWrite = AppendsPrefix old new (counts_line c)
 
--- a check of these files ends so: the ending is as it says, and an archive is counted unless a write, memory or a read of a file fails
+-- a check of these files ends so: the ending is as it says, and an archive is counted unless a
+-- write, memory or a read of a file fails
 pub record Checks (files : Files) (old new : Option (List ℕ)) (ending : Ending) : Type 0 where
   pub says : CheckSays files old new ending
   pub only : (c : Contents) → IsKnownArchive files c → EndsCounted c old new ending

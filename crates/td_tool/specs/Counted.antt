@@ -8,7 +8,9 @@ use Rattle.td_indices.specs.Rows.{row_count}
 -- the line of so many sources, binary packages and rows
 abbrev pub line_of_counts : ℕ → ℕ → ℕ → List ℕ
 line_of_counts sources binaries rows =
-    codes "sources " ++ (decimal sources ++ (codes " binaries " ++ (decimal binaries ++ (codes " rows " ++ (decimal rows ++ codes "\n")))))
+    codes "sources " ++ (decimal sources
+    ++ (codes " binaries "
+    ++ (decimal binaries ++ (codes " rows " ++ (decimal rows ++ codes "\n")))))
 
 -- the line of an archive: its sources, its binary packages, and the rows with which a desk opens
 abbrev pub counts_line : Contents → List ℕ

@@ -13,7 +13,8 @@ use Rattle.td_tool.specs.declared.input_fault.InputFault.TheVariants.{TooLong, N
 use Rattle.td_tool.specs.declared.input_fault.InputFault.TheVariants as refused
 use Rattle.td_tool.specs.declared.role.Role.TheVariants.{Input}
 use Rattle.td_tool.specs.declared.ending.Ending.{Ending}
-use Rattle.td_tool.specs.declared.ending.Ending.TheVariants.{Done, Refused, BadInput, NoMemory, CannotRead, CannotWrite}
+use Rattle.td_tool.specs.declared.ending.Ending.TheVariants.{Done, Refused, BadInput, NoMemory}
+use Rattle.td_tool.specs.declared.ending.Ending.TheVariants.{CannotRead, CannotWrite}
 
 -- a text that is read: within the limit, and UTF-8
 abbrev pub IsText : List ℕ → Type 0
@@ -40,10 +41,13 @@ pub record WereRead (known : Option (List ℕ)) (rows : Table) (steps : List Ste
   pub text : IsText input
   pub simulation : IsSimulation input rows steps
 
--- a simulation of these rows and steps ends so, and leaves that: its whole output, a front of it where the writer failed, nothing where reading or memory did
+-- a simulation of these rows and steps ends so, and leaves that: its whole output, a front of it
+-- where the writer failed, nothing where reading or memory did
 abbrev pub EndsAs : Table → List Step → Option (List ℕ) → Option (List ℕ) → Ending → Type 0
-EndsAs rows steps old new Done = (any_refused rows steps ≡ false) × Appends old new (output rows steps)
-EndsAs rows steps old new Refused = (any_refused rows steps ≡ true) × Appends old new (output rows steps)
+EndsAs rows steps old new Done =
+    (any_refused rows steps ≡ false) × Appends old new (output rows steps)
+EndsAs rows steps old new Refused =
+    (any_refused rows steps ≡ true) × Appends old new (output rows steps)
 EndsAs rows steps old new (BadInput role e) = ⊥
 EndsAs rows steps old new NoMemory = Keeps old new
 EndsAs rows steps old new (CannotRead role) = Keeps old new
@@ -51,13 +55,16 @@ EndsAs rows steps old new CannotWrite = AppendsPrefix old new (output rows steps
 
 -- what was read is a simulation, and it ends so
 abbrev pub Plays : Option (List ℕ) → Option (List ℕ) → Option (List ℕ) → Ending → Type 0
-Plays known old new ending = (rows : Table) × (steps : List Step) × WereRead known rows steps × EndsAs rows steps old new ending
+Plays known old new ending =
+    (rows : Table) × (steps : List Step) × WereRead known rows steps
+    × EndsAs rows steps old new ending
 
 -- what an ending says of what was read and written
 abbrev pub Says : Option (List ℕ) → Option (List ℕ) → Option (List ℕ) → Ending → Type 0
 Says known old new Done = Plays known old new Done
 Says known old new Refused = Plays known old new Refused
-Says known old new (BadInput role e) = (role ≡ Input) × IfSome known (λ input. HasFault input e) × Keeps old new
+Says known old new (BadInput role e) =
+    (role ≡ Input) × IfSome known (λ input. HasFault input e) × Keeps old new
 Says known old new NoMemory = Keeps old new
 Says known old new (CannotRead role) = (role ≡ Input) × Keeps old new
 Says known old new CannotWrite = Plays known old new CannotWrite
@@ -65,4 +72,6 @@ Says known old new CannotWrite = Plays known old new CannotWrite
 -- a run ends so: the ending is as it says, and a simulation ends as one
 pub record Ends (known old new : Option (List ℕ)) (ending : Ending) : Type 0 where
   pub says : Says known old new ending
-  pub only : (rows : Table) (steps : List Step) → IfSome known (λ input. IsText input → IsSimulation input rows steps → EndsAs rows steps old new ending)
+  pub only : (rows : Table) (steps : List Step)
+      → IfSome known (λ input.
+      IsText input → IsSimulation input rows steps → EndsAs rows steps old new ending)

@@ -1,5 +1,6 @@
 -- What is said of an ending where an explanation is asked for. This project's own.
-use Rattle.std.specs.Prelude.{◌≡◌, ℕ, Bool, true, false, List, [], ◌++◌, Option, Some, None, IfSome, String, option_and_then, string_bytes}
+use Rattle.std.specs.Prelude.{◌≡◌, ℕ, Bool, true, false, List, [], ◌++◌, Option, Some, None, IfSome}
+use Rattle.std.specs.Prelude.{String, option_and_then, string_bytes}
 use Rattle.std.specs.declared.alloc.Global.{Global}
 use Rattle.td_bytes.specs.Pieces.{AppendsPrefix}
 use Rattle.td_explain.specs.declared.spot.Place.{Place}
@@ -14,10 +15,12 @@ use Rattle.td_tool.specs.Places.{place_of}
 use Rattle.td_tool.specs.Roles.{label_of}
 use Rattle.td_tool.specs.Wanted.{wanted_input}
 use Rattle.td_tool.specs.declared.role.Role.{Role}
-use Rattle.td_tool.specs.declared.role.Role.TheVariants.{Input, Archs, Packages, Sources, State, Tracker, Outcomes, Journal}
+use Rattle.td_tool.specs.declared.role.Role.TheVariants.{Input, Archs, Packages, Sources, State}
+use Rattle.td_tool.specs.declared.role.Role.TheVariants.{Tracker, Outcomes, Journal}
 use Rattle.td_tool.specs.declared.input_fault.InputFault.{InputFault}
 use Rattle.td_tool.specs.declared.ending.Ending.{Ending}
-use Rattle.td_tool.specs.declared.ending.Ending.TheVariants.{Done, Refused, BadInput, NoMemory, CannotRead, CannotWrite}
+use Rattle.td_tool.specs.declared.ending.Ending.TheVariants.{Done, Refused, BadInput, NoMemory}
+use Rattle.td_tool.specs.declared.ending.Ending.TheVariants.{CannotRead, CannotWrite}
 
 -- ---- 1. the texts that may be refused
 
@@ -83,18 +86,33 @@ known_input known Journal = None
 -- the paths that a request has
 abbrev pub paths_of : Request → Role → Option (List ℕ)
 paths_of asked.Simulate role = None
-paths_of (asked.Check archs packages sources) role = archive_paths (string_bytes archs) (string_bytes packages) (string_bytes sources) role
-paths_of (asked.Track archs packages sources tracker state chunk) role = track_paths (track_words archs packages sources tracker state chunk) role
-paths_of (asked.Waves archs packages sources tracker) role = waves_paths (string_bytes archs) (string_bytes packages) (string_bytes sources) (string_bytes tracker) role
-paths_of (asked.Run archs packages sources state tracker suite builders outcomes journal) role = run_paths (run_words archs packages sources state tracker suite builders outcomes journal) role
+paths_of (asked.Check archs packages sources) role =
+    archive_paths (string_bytes archs) (string_bytes packages) (string_bytes sources) role
+paths_of (asked.Track archs packages sources tracker state chunk) role =
+    track_paths (track_words archs packages sources tracker state chunk) role
+paths_of (asked.Waves archs packages sources tracker) role =
+    waves_paths (string_bytes archs) (string_bytes packages) (string_bytes sources)
+    (string_bytes tracker) role
+paths_of (asked.Run archs packages sources state tracker suite builders outcomes journal) role =
+    run_paths (run_words archs packages sources state tracker suite builders outcomes journal) role
 
--- the texts of a request, by role, where they are known: a simulation has standard input alone, and of a script no place is explained
-abbrev pub known_of_request : Request → Option (List ℕ) → (List ℕ → Option (List ℕ)) → Role → Option (List ℕ)
+-- the texts of a request, by role, where they are known: a simulation has standard input alone, and
+-- of a script no place is explained
+abbrev pub known_of_request : Request → Option (List ℕ) → (List ℕ → Option (List ℕ)) → Role
+    → Option (List ℕ)
 known_of_request asked.Simulate known bytes = known_input known
-known_of_request (asked.Check archs packages sources) known bytes = known_at bytes (archive_paths (string_bytes archs) (string_bytes packages) (string_bytes sources))
-known_of_request (asked.Track archs packages sources tracker state chunk) known bytes = known_at bytes (track_paths (track_words archs packages sources tracker state chunk))
-known_of_request (asked.Waves archs packages sources tracker) known bytes = known_at bytes (waves_paths (string_bytes archs) (string_bytes packages) (string_bytes sources) (string_bytes tracker))
-known_of_request (asked.Run archs packages sources state tracker suite builders outcomes journal) known bytes = known_at bytes (run_paths (run_words archs packages sources state tracker suite builders outcomes journal))
+known_of_request (asked.Check archs packages sources) known bytes =
+    known_at bytes
+    (archive_paths (string_bytes archs) (string_bytes packages) (string_bytes sources))
+known_of_request (asked.Track archs packages sources tracker state chunk) known bytes =
+    known_at bytes (track_paths (track_words archs packages sources tracker state chunk))
+known_of_request (asked.Waves archs packages sources tracker) known bytes =
+    known_at bytes (waves_paths (string_bytes archs) (string_bytes packages) (string_bytes sources)
+    (string_bytes tracker))
+known_of_request (asked.Run archs packages sources state tracker suite builders outcomes journal)
+    known bytes =
+    known_at bytes
+    (run_paths (run_words archs packages sources state tracker suite builders outcomes journal))
 
 -- ---- 2. the explanation
 
@@ -118,18 +136,22 @@ IsTextFor CannotWrite known text = Unit {0}
 abbrev pub explanation_of : Ending → List ℕ → List ℕ
 explanation_of Done text = []
 explanation_of Refused text = []
-explanation_of (BadInput role fault) text = explanation (label_of role) (place_of fault) (wanted_input fault) text
+explanation_of (BadInput role fault) text =
+    explanation (label_of role) (place_of fault) (wanted_input fault) text
 explanation_of NoMemory text = []
 explanation_of (CannotRead role) text = []
 explanation_of CannotWrite text = []
 
 -- a line explains the ending, in the known text
 abbrev pub Explains : (Role → Option (List ℕ)) → Ending → List ℕ → Type 0
-Explains known ending line = (text : List ℕ) × IsTextFor ending known text × (line ≡ explanation_of ending text)
+Explains known ending line =
+    (text : List ℕ) × IsTextFor ending known text × (line ≡ explanation_of ending text)
 
 -- the same of a fault in one text
 abbrev pub ExplainsFile : Option (List ℕ) → Role → InputFault → List ℕ → Type 0
-ExplainsFile known role fault line = (text : List ℕ) × IfSome known (λ all. all ≡ text) × (line ≡ explanation_of (BadInput role fault) text)
+ExplainsFile known role fault line =
+    (text : List ℕ) × IfSome known (λ all. all ≡ text)
+    × (line ≡ explanation_of (BadInput role fault) text)
 
 -- the text that was kept of standard input is the known one
 abbrev pub IsKept : (Role → Option (List ℕ)) → Option (String Global) → Type 0
@@ -137,10 +159,15 @@ IsKept known input = IfSome input (λ kept. IfSome (known Input) (λ all. all �
 
 -- a front of the explanation is said
 abbrev pub IsSaidOf : (Role → Option (List ℕ)) → Ending → Option (List ℕ) → Option (List ℕ) → Type 0
-IsSaidOf known ending said_before said = (text : List ℕ) × IsTextFor ending known text × AppendsPrefix said_before said (explanation_of ending text)
+IsSaidOf known ending said_before said =
+    (text : List ℕ) × IsTextFor ending known text
+    × AppendsPrefix said_before said (explanation_of ending text)
 
--- what is said of an ending: its line, and behind it the explanation where that is asked for; of both a front where standard error, memory or another read fails
-abbrev pub SaysOf : Bool → (Role → Option (List ℕ)) → Ending → Option (List ℕ) → Option (List ℕ) → Type 0
+-- what is said of an ending: its line, and behind it the explanation where that is asked for; of
+-- both a front where standard error, memory or another read fails
+abbrev pub SaysOf : Bool → (Role → Option (List ℕ)) → Ending → Option (List ℕ) → Option (List ℕ)
+    → Type 0
 SaysOf false known ending said_before said = AppendsPrefix said_before said (line_of ending)
 SaysOf true known ending said_before said =
-    (text : List ℕ) × IsTextFor ending known text × AppendsPrefix said_before said (line_of ending ++ explanation_of ending text)
+    (text : List ℕ) × IsTextFor ending known text
+    × AppendsPrefix said_before said (line_of ending ++ explanation_of ending text)

@@ -1,5 +1,6 @@
 -- How a simulation ends by what was read of standard input. This project's own.
-use Rattle.std.specs.Prelude.{◌≡◌, ℕ, true, false, List, Option, Some, None, Result, Ok, Err, String, string_bytes}
+use Rattle.std.specs.Prelude.{◌≡◌, ℕ, true, false, List, Option, Some, None, Result, Ok, Err}
+use Rattle.std.specs.Prelude.{String, string_bytes}
 use Rattle.std.specs.declared.alloc.Global.{Global}
 use Rattle.std.specs.Io.KnownBytes.{Appends, Keeps}
 use Rattle.td_bytes.specs.Pieces.{AppendsPrefix}
@@ -15,7 +16,8 @@ use Rattle.td_tool.specs.declared.input_fault.InputFault.TheVariants.{TooLong, N
 use Rattle.td_tool.specs.declared.input_fault.InputFault.TheVariants as refused
 use Rattle.td_tool.specs.declared.role.Role.TheVariants.{Input}
 use Rattle.td_tool.specs.declared.ending.Ending.{Ending}
-use Rattle.td_tool.specs.declared.ending.Ending.TheVariants.{Done, Refused, BadInput, NoMemory, CannotRead, CannotWrite}
+use Rattle.td_tool.specs.declared.ending.Ending.TheVariants.{Done, Refused, BadInput, NoMemory}
+use Rattle.td_tool.specs.declared.ending.Ending.TheVariants.{CannotRead, CannotWrite}
 use Rattle.td_tool.specs.Ending.{ending_of_text, ending_of_simulation}
 use Rattle.td_tool.specs.Ends.{EndsAs}
 
@@ -31,7 +33,8 @@ TellsSo told old new (CannotRead role) = ⊥
 TellsSo told old new CannotWrite = AppendsPrefix old new (string_bytes told.text)
 
 -- nothing was told, for this, and nothing is written
-pub record IsUntold (fault : SimulationFault) (old new : Option (List ℕ)) (ending : Ending) : Type 0 where
+pub record IsUntold (fault : SimulationFault) (old new : Option (List ℕ))
+    (ending : Ending) : Type 0 where
   pub ends : ending ≡ ending_of_simulation fault
   pub kept : Keeps old new
 
@@ -39,7 +42,9 @@ pub record IsUntold (fault : SimulationFault) (old new : Option (List ℕ)) (end
 
 -- the text is a simulation, and it ends so
 abbrev pub PlaysText : List ℕ → Option (List ℕ) → Option (List ℕ) → Ending → Type 0
-PlaysText text old new ending = (rows : Table) × (steps : List Step) × IsSimulation text rows steps × EndsAs rows steps old new ending
+PlaysText text old new ending =
+    (rows : Table) × (steps : List Step) × IsSimulation text rows steps
+    × EndsAs rows steps old new ending
 
 -- the text is no simulation, for this
 abbrev pub IsNoSimulation : List ℕ → InputFault → Type 0
@@ -67,7 +72,8 @@ TextSays text old new CannotWrite = PlaysText text old new CannotWrite
 -- a text ends the run so: the ending is as it says, and a simulation ends as one
 pub record TextEnds (text : List ℕ) (old new : Option (List ℕ)) (ending : Ending) : Type 0 where
   pub says : TextSays text old new ending
-  pub only : (rows : Table) (steps : List Step) → IsSimulation text rows steps → EndsAs rows steps old new ending
+  pub only : (rows : Table) (steps : List Step) → IsSimulation text rows steps
+      → EndsAs rows steps old new ending
 
 -- no text was read, for this, and nothing is written
 pub record IsUnread (fault : TextFault) (old new : Option (List ℕ)) (ending : Ending) : Type 0 where

@@ -1,5 +1,7 @@
--- What the program does for words: a subcommand that they ask for, or a text that says what is wrong. This project's own.
-use Rattle.std.specs.Prelude.{◌≡◌, ◌≢◌, ◌⊎◌, ℕ, List, Option, None, Bool, false, Result, Ok, Err, String, Vec, map, option_map, codes, string_bytes}
+-- What the program does for words: a subcommand that they ask for, or a text that says what is
+-- wrong. This project's own.
+use Rattle.std.specs.Prelude.{◌≡◌, ◌≢◌, ◌⊎◌, ℕ, List, Option, None, Bool, false, Result, Ok, Err}
+use Rattle.std.specs.Prelude.{String, Vec, map, option_map, codes, string_bytes}
 use Rattle.std.specs.declared.alloc.Global.{Global}
 use Rattle.std.specs.declared.io.ErrorKind.{ErrorKind}
 use Rattle.std.specs.declared.io.ErrorKind.TheVariants.{OutOfMemory}
@@ -27,7 +29,8 @@ use Rattle.td_tool.specs.Ran.{Ran}
 -- ---- 1. words that ask for nothing
 
 -- the status is that of a bad command line, and of this text a front is said
-pub record IsBadWords (text : List ℕ) (said_before said : Option (List ℕ)) (status : ℕ) : Type 0 where
+pub record IsBadWords (text : List ℕ) (said_before said : Option (List ℕ))
+    (status : ℕ) : Type 0 where
   pub answered : status ≡ 3
   pub line : AppendsPrefix said_before said text
 
@@ -38,11 +41,13 @@ pub record LacksMemory (said_before said : Option (List ℕ)) (status : ℕ) : T
 
 -- what is said of words in which a fault was found: its own text
 abbrev pub TellsFault : WordsFault → Option (List ℕ) → Option (List ℕ) → ℕ → Type 0
-TellsFault (words_fault.Usage text) said_before said status = IsBadWords (string_bytes text) said_before said status
+TellsFault (words_fault.Usage text) said_before said status =
+    IsBadWords (string_bytes text) said_before said status
 TellsFault words_fault.NoMemory said_before said status = LacksMemory said_before said status
 
 -- a fault of the words is told, and nothing is written
-pub record IsTold (fault : WordsFault) (old new said_before said : Option (List ℕ)) (status : ℕ) : Type 0 where
+pub record IsTold (fault : WordsFault) (old new said_before said : Option (List ℕ))
+    (status : ℕ) : Type 0 where
   pub tells : TellsFault fault said_before said status
   pub kept : Keeps old new
 
@@ -51,19 +56,25 @@ abbrev pub no_words : List ℕ
 no_words = codes "error: a word of the command line is not UTF-8\n"
 
 -- what is said of words that aren't read, with an error of this kind
-pub record TellsUnread (kind : ErrorKind) (said_before said : Option (List ℕ)) (status : ℕ) : Type 0 where
+pub record TellsUnread (kind : ErrorKind) (said_before said : Option (List ℕ))
+    (status : ℕ) : Type 0 where
   pub memory : kind ≡ OutOfMemory → LacksMemory said_before said status
   pub other : kind ≢ OutOfMemory → IsBadWords no_words said_before said status
 
 -- some text says that the words are bad, or memory has run out
 abbrev pub TellsSome : Option (List ℕ) → Option (List ℕ) → ℕ → Type 0
-TellsSome said_before said status = ((text : List ℕ) × IsBadWords text said_before said status) ⊎ LacksMemory said_before said status
+TellsSome said_before said status =
+    ((text : List ℕ) × IsBadWords text said_before said status)
+    ⊎ LacksMemory said_before said status
 
 -- ---- 2. words that ask for a subcommand
 
 -- nothing is wrong with the words, and they name one of the subcommands
 abbrev pub AsksForOne : List (List ℕ) → Type 0
-AsksForOne words = AskFor (codes "simulate") words ⊎ (AskFor (codes "check") words ⊎ (AskFor (codes "track") words ⊎ (AskFor (codes "waves") words ⊎ AskFor (codes "run") words)))
+AsksForOne words =
+    AskFor (codes "simulate") words
+    ⊎ (AskFor (codes "check") words
+    ⊎ (AskFor (codes "track") words ⊎ (AskFor (codes "waves") words ⊎ AskFor (codes "run") words)))
 
 -- whether the words that were given want an explanation
 abbrev pub are_explained : {E : Type 0} → Result (Vec (String Global) Global) E → Bool
@@ -71,35 +82,60 @@ are_explained (Ok given) = is_explained (options_of (map string_bytes given.item
 are_explained (Err e) = false
 
 -- the files of which a report is asked for
-abbrev pub files_asked : (List ℕ → Option (List ℕ)) → (List ℕ → TextFault → Bool) → TrackWords → TrackFiles
-files_asked bytes can_fail w = track_files bytes can_fail w.archs w.packages w.sources w.state w.tracker
+abbrev pub files_asked : (List ℕ → Option (List ℕ)) → (List ℕ → TextFault → Bool) → TrackWords
+    → TrackFiles
+files_asked bytes can_fail w =
+    track_files bytes can_fail w.archs w.packages w.sources w.state w.tracker
 
 -- what was asked for ends so
-abbrev pub EndsFor : Request → Option (List ℕ) → (List ℕ → Option (List ℕ)) → (List ℕ → TextFault → Bool) → Option (List ℕ) → Option (List ℕ) → Ending → Type 0
+abbrev pub EndsFor : Request → Option (List ℕ) → (List ℕ → Option (List ℕ))
+    → (List ℕ → TextFault → Bool) → Option (List ℕ) → Option (List ℕ) → Ending → Type 0
 EndsFor Simulate known bytes can_fail old new ending = Ends known old new ending
 EndsFor (Check archs packages sources) known bytes can_fail old new ending =
-    Checks (files_of bytes can_fail (string_bytes archs) (string_bytes packages) (string_bytes sources)) old new ending
+    Checks (files_of bytes can_fail (string_bytes archs) (string_bytes packages)
+    (string_bytes sources)) old new ending
 EndsFor (Track archs packages sources tracker state chunk) known bytes can_fail old new ending =
-    EndsSo IsReport (track_files bytes can_fail (string_bytes archs) (string_bytes packages) (string_bytes sources) (option_map string_bytes state) (string_bytes tracker)) old new ending
+    EndsSo IsReport (track_files bytes can_fail (string_bytes archs) (string_bytes packages)
+    (string_bytes sources) (option_map string_bytes state) (string_bytes tracker)) old new ending
 EndsFor (Waves archs packages sources tracker) known bytes can_fail old new ending =
-    EndsSo IsWaves (track_files bytes can_fail (string_bytes archs) (string_bytes packages) (string_bytes sources) None (string_bytes tracker)) old new ending
-EndsFor (Run archs packages sources state tracker suite builders outcomes journal) known bytes can_fail old new ending =
-    EndsRun (run_files_asked bytes can_fail (run_words archs packages sources state tracker suite builders outcomes journal)) (string_bytes suite) known old new ending
+    EndsSo IsWaves (track_files bytes can_fail (string_bytes archs) (string_bytes packages)
+    (string_bytes sources) None (string_bytes tracker)) old new ending
+EndsFor (Run archs packages sources state tracker suite builders outcomes journal) known bytes
+    can_fail old new ending =
+    EndsRun (run_files_asked bytes can_fail
+    (run_words archs packages sources state tracker suite builders outcomes journal))
+    (string_bytes suite) known old new ending
 
 -- it ran, and is explained or not
-abbrev pub RanFor : Request → Bool → Option (List ℕ) → (List ℕ → Option (List ℕ)) → (List ℕ → TextFault → Bool) → Option (List ℕ) → Option (List ℕ) → Option (List ℕ) → Option (List ℕ) → ℕ → Type 0
-RanFor request explained known bytes can_fail old new said_before said status = Ran (EndsFor request known bytes can_fail old new) explained (known_of_request request known bytes) said_before said status
+abbrev pub RanFor : Request → Bool → Option (List ℕ) → (List ℕ → Option (List ℕ))
+    → (List ℕ → TextFault → Bool) → Option (List ℕ) → Option (List ℕ) → Option (List ℕ)
+    → Option (List ℕ) → ℕ → Type 0
+RanFor request explained known bytes can_fail old new said_before said status =
+    Ran (EndsFor request known bytes can_fail old new) explained
+    (known_of_request request known bytes) said_before said status
 
--- a simulation ran, or a check of some three files, or what a tracker says of some files was told, or a script ran over some files
-abbrev pub RanOne : Bool → Option (List ℕ) → (List ℕ → Option (List ℕ)) → (List ℕ → TextFault → Bool) → Option (List ℕ) → Option (List ℕ) → Option (List ℕ) → Option (List ℕ) → ℕ → Type 0
+-- a simulation ran, or a check of some three files, or what a tracker says of some files was told,
+-- or a script ran over some files
+abbrev pub RanOne : Bool → Option (List ℕ) → (List ℕ → Option (List ℕ))
+    → (List ℕ → TextFault → Bool) → Option (List ℕ) → Option (List ℕ) → Option (List ℕ)
+    → Option (List ℕ) → ℕ → Type 0
 RanOne explained known bytes can_fail old new said_before said status =
     Ran (Ends known old new) explained (known_input known) said_before said status
-    ⊎ (((archs : List ℕ) × (packages : List ℕ) × (sources : List ℕ) × Ran (Checks (files_of bytes can_fail archs packages sources) old new) explained (known_at bytes (archive_paths archs packages sources)) said_before said status)
-    ⊎ (((files : TrackFiles) × (paths : Role → Option (List ℕ)) × (Ran (EndsSo IsReport files old new) explained (known_at bytes paths) said_before said status ⊎ Ran (EndsSo IsWaves files old new) explained (known_at bytes paths) said_before said status))
-    ⊎ ((files : RunFiles) × (suite : List ℕ) × (paths : Role → Option (List ℕ)) × Ran (EndsRun files suite known old new) explained (known_at bytes paths) said_before said status)))
+    ⊎ (((archs : List ℕ) × (packages : List ℕ) × (sources : List ℕ)
+    × Ran (Checks (files_of bytes can_fail archs packages sources) old new) explained
+    (known_at bytes (archive_paths archs packages sources)) said_before said status)
+    ⊎ (((files : TrackFiles) × (paths : Role → Option (List ℕ))
+    × (Ran (EndsSo IsReport files old new) explained (known_at bytes paths) said_before said status
+    ⊎ Ran (EndsSo IsWaves files old new) explained (known_at bytes paths) said_before said status))
+    ⊎ ((files : RunFiles) × (suite : List ℕ) × (paths : Role → Option (List ℕ))
+    × Ran (EndsRun files suite known old new) explained (known_at bytes paths) said_before said
+    status)))
 
 -- they ran it; all else is told, and writes nothing
-abbrev pub OnlyIfAsked : List (List ℕ) → Option (List ℕ) → (List ℕ → Option (List ℕ)) → (List ℕ → TextFault → Bool) → Option (List ℕ) → Option (List ℕ) → Option (List ℕ) → Option (List ℕ) → ℕ → Type 0
+abbrev pub OnlyIfAsked : List (List ℕ) → Option (List ℕ) → (List ℕ → Option (List ℕ))
+    → (List ℕ → TextFault → Bool) → Option (List ℕ) → Option (List ℕ) → Option (List ℕ)
+    → Option (List ℕ) → ℕ → Type 0
 OnlyIfAsked words known bytes can_fail old new said_before said status =
-    (AsksForOne words × RanOne (is_explained (options_of words)) known bytes can_fail old new said_before said status)
+    (AsksForOne words × RanOne (is_explained (options_of words)) known bytes can_fail old new
+    said_before said status)
     ⊎ (TellsSome said_before said status × Keeps old new)

@@ -5,7 +5,8 @@ use Rattle.td_indices.specs.declared.archive_fault.IndexFile.TheVariants as file
 use Rattle.td_indices.specs.declared.archive_fault.ArchiveFault.{ArchiveFault}
 use Rattle.td_indices.specs.declared.archive_fault.ArchiveFault.TheVariants as archive
 use Rattle.td_tool.specs.declared.role.Role.{Role}
-use Rattle.td_tool.specs.declared.role.Role.TheVariants.{Input, Archs, Packages, Sources, State, Tracker, Outcomes, Journal}
+use Rattle.td_tool.specs.declared.role.Role.TheVariants.{Input, Archs, Packages, Sources, State}
+use Rattle.td_tool.specs.declared.role.Role.TheVariants.{Tracker, Outcomes, Journal}
 
 -- the words in front of a fault
 abbrev pub label_of : Role → List ℕ

@@ -9,11 +9,16 @@ use Rattle.td_tool.specs.declared.run_files.RunPaths.{RunPaths}
 use Rattle.td_tool.specs.declared.run_files.RunTexts.{RunTexts}
 use Rattle.td_tool.specs.Limits.{file_limit}
 use Rattle.td_crew.specs.CrewEnds.{outcomes_of}
-use Rattle.td_tool.specs.Runs.{AreTextsOf, FailsAt, RunFiles, Texts, crew_size, outcome_lines, run_files, script_texts}
+use Rattle.td_tool.specs.Runs.{AreTextsOf, FailsAt, RunFiles, Texts, crew_size, outcome_lines}
+use Rattle.td_tool.specs.Runs.{run_files, script_texts}
 
 -- the files of these paths
-abbrev pub run_files_at : (List ℕ → Option (List ℕ)) → (List ℕ → TextFault → Bool) → RunPaths → RunFiles
-run_files_at bytes can_fail p = run_files bytes can_fail p.archs.now p.packages.now p.sources.now (option_map (λ s. s.now) p.state) (option_map (λ s. s.now) p.tracker) (option_map (λ s. s.now) p.outcomes) (option_map (λ s. s.now) p.journal) p.builders
+abbrev pub run_files_at : (List ℕ → Option (List ℕ)) → (List ℕ → TextFault → Bool) → RunPaths
+    → RunFiles
+run_files_at bytes can_fail p =
+    run_files bytes can_fail p.archs.now p.packages.now p.sources.now
+    (option_map (λ s. s.now) p.state) (option_map (λ s. s.now) p.tracker)
+    (option_map (λ s. s.now) p.outcomes) (option_map (λ s. s.now) p.journal) p.builders
 
 -- the texts that were read
 abbrev pub run_texts_of : RunTexts → Texts

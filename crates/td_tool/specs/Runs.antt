@@ -1,5 +1,6 @@
 -- What `run` leaves on standard output, as it ends. This project's own.
-use Rattle.std.specs.Prelude.{◌≡◌, ◌⊎◌, ℕ, ◌==◌, min, Bool, List, [], Option, Result, Ok, Err, Some, MatchBool, option_map, unwrap_or, if◌then◌else◌}
+use Rattle.std.specs.Prelude.{◌≡◌, ◌⊎◌, ℕ, ◌==◌, min, Bool, List, [], Option, Result, Ok, Err, Some}
+use Rattle.std.specs.Prelude.{MatchBool, option_map, unwrap_or, if◌then◌else◌}
 use Rattle.std.specs.Io.KnownBytes.{Keeps}
 use Rattle.td_bytes.specs.declared.text.TextFault.{TextFault}
 use Rattle.td_text.specs.Lines.{lines_of}
@@ -18,13 +19,18 @@ use Rattle.td_script.specs.declared.running.RunFault.TheVariants as stopped
 use Rattle.td_script.specs.declared.running.ScriptEnd.{ScriptEnd}
 use Rattle.td_words.specs.CommandLine.{RunWords}
 use Rattle.td_tool.specs.declared.role.Role.{Role}
-use Rattle.td_tool.specs.declared.role.Role.TheVariants.{Input, Archs, Packages, Sources, State, Tracker, Outcomes, Journal}
+use Rattle.td_tool.specs.declared.role.Role.TheVariants.{Input, Archs, Packages, Sources, State}
+use Rattle.td_tool.specs.declared.role.Role.TheVariants.{Tracker, Outcomes, Journal}
 use Rattle.td_tool.specs.declared.input_fault.InputFault.TheVariants.{TooLong, NotText, BadOutcome}
 use Rattle.td_tool.specs.declared.ending.Ending.{Ending}
-use Rattle.td_tool.specs.declared.ending.Ending.TheVariants.{Done, Refused, BadInput, NoMemory, CannotRead, CannotWrite}
-use Rattle.td_tool.specs.Ending.{ending_of_archive, ending_of_file, ending_of_journal, ending_of_missing_row, ending_of_state, ending_of_table, ending_of_tracker}
+use Rattle.td_tool.specs.declared.ending.Ending.TheVariants.{Done, Refused, BadInput, NoMemory}
+use Rattle.td_tool.specs.declared.ending.Ending.TheVariants.{CannotRead, CannotWrite}
+use Rattle.td_tool.specs.Ending.{ending_of_archive, ending_of_file, ending_of_journal}
+use Rattle.td_tool.specs.Ending.{ending_of_missing_row, ending_of_state, ending_of_table}
+use Rattle.td_tool.specs.Ending.{ending_of_tracker}
 use Rattle.td_tool.specs.Checks.{AreTexts, Files, HasFailed, files_of}
-use Rattle.td_tool.specs.Tracks.{IsKnownIfGiven, IsKnownText, IsTextIfGiven, MayFail, OneFile, file_at}
+use Rattle.td_tool.specs.Tracks.{IsKnownIfGiven, IsKnownText, IsTextIfGiven, MayFail, OneFile}
+use Rattle.td_tool.specs.Tracks.{file_at}
 
 -- ---- 1. what is read
 
@@ -38,7 +44,8 @@ pub record RunFiles : Type 0 where
   pub builders : ℕ
 
 -- those of these paths
-abbrev pub run_files : (List ℕ → Option (List ℕ)) → (List ℕ → TextFault → Bool) → List ℕ → List ℕ → List ℕ → Option (List ℕ) → Option (List ℕ) → Option (List ℕ) → Option (List ℕ) → ℕ → RunFiles
+abbrev pub run_files : (List ℕ → Option (List ℕ)) → (List ℕ → TextFault → Bool) → List ℕ → List ℕ
+    → List ℕ → Option (List ℕ) → Option (List ℕ) → Option (List ℕ) → Option (List ℕ) → ℕ → RunFiles
 run_files bytes can_fail archs packages sources state tracker outcomes journal builders = record {
   indices = files_of bytes can_fail archs packages sources;
   state = option_map (file_at bytes can_fail) state;
@@ -49,8 +56,11 @@ run_files bytes can_fail archs packages sources state tracker outcomes journal b
 }
 
 -- those that the words name
-abbrev pub run_files_asked : (List ℕ → Option (List ℕ)) → (List ℕ → TextFault → Bool) → RunWords → RunFiles
-run_files_asked bytes can_fail w = run_files bytes can_fail w.archs w.packages w.sources w.state w.tracker w.outcomes w.journal w.builders
+abbrev pub run_files_asked : (List ℕ → Option (List ℕ)) → (List ℕ → TextFault → Bool) → RunWords
+    → RunFiles
+run_files_asked bytes can_fail w =
+    run_files bytes can_fail w.archs w.packages w.sources w.state w.tracker w.outcomes w.journal
+    w.builders
 
 -- what such files hold
 pub record Texts : Type 0 where
@@ -93,13 +103,18 @@ FailsAt files Archs fault = HasFailed files.indices Archs fault
 FailsAt files Packages fault = HasFailed files.indices Packages fault
 FailsAt files Sources fault = HasFailed files.indices Sources fault
 FailsAt files State fault = ((x : Texts) × AreBeforeState files x) × FailsIfGiven files.state fault
-FailsAt files Tracker fault = ((x : Texts) × AreBeforeTracker files x) × FailsIfGiven files.tracker fault
-FailsAt files Outcomes fault = ((x : Texts) × AreBeforeOutcomes files x) × FailsIfGiven files.outcomes fault
-FailsAt files Journal fault = ((x : Texts) × AreBeforeJournal files x) × FailsIfGiven files.journal fault
+FailsAt files Tracker fault =
+    ((x : Texts) × AreBeforeTracker files x) × FailsIfGiven files.tracker fault
+FailsAt files Outcomes fault =
+    ((x : Texts) × AreBeforeOutcomes files x) × FailsIfGiven files.outcomes fault
+FailsAt files Journal fault =
+    ((x : Texts) × AreBeforeJournal files x) × FailsIfGiven files.journal fault
 
 -- a file isn't read, and so it ends
 abbrev pub IsUnread : RunFiles → Ending → Type 0
-IsUnread files ending = (role : Role) × (fault : TextFault) × FailsAt files role fault × (ending ≡ ending_of_file role fault)
+IsUnread files ending =
+    (role : Role) × (fault : TextFault) × FailsAt files role fault
+    × (ending ≡ ending_of_file role fault)
 
 -- ---- 2. how it ends
 
@@ -128,13 +143,25 @@ ending_of_script (Err e) = ending_of_stop e
 
 -- what a script runs over: the outcomes are a crew's alone
 abbrev pub script_texts : Texts → List ℕ → script.Texts
-script_texts x suite = record { archs = x.archs; packages = x.packages; sources = x.sources; state = x.state; tracker = x.tracker; journal = x.journal; suite = suite }
+script_texts x suite =
+    record {
+      archs = x.archs;
+      packages = x.packages;
+      sources = x.sources;
+      state = x.state;
+      tracker = x.tracker;
+      journal = x.journal;
+      suite = suite;
+    }
 
--- over these texts a script ends so, which says what is written, and so does the run; or memory runs out, and nothing is
-abbrev pub ScriptEnds : Texts → List ℕ → Option (List ℕ) → Option (List ℕ) → Option (List ℕ) → Ending → Type 0
+-- over these texts a script ends so, which says what is written, and so does the run; or memory
+-- runs out, and nothing is
+abbrev pub ScriptEnds : Texts → List ℕ → Option (List ℕ) → Option (List ℕ) → Option (List ℕ)
+    → Ending → Type 0
 ScriptEnds x suite known old new ending =
     ((ending ≡ NoMemory) × Keeps old new)
-    ⊎ ((r : Result ScriptEnd RunFault) × Says (script_texts x suite) known old new r × (ending ≡ ending_of_script r))
+    ⊎ ((r : Result ScriptEnd RunFault) × Says (script_texts x suite) known old new r
+    × (ending ≡ ending_of_script r))
 
 -- by how a crew's script ended: as a script, or refused for a line of the outcomes
 abbrev pub ending_of_crew : Result ScriptEnd CrewFault → Ending
@@ -150,18 +177,26 @@ outcome_lines x = ended (lines_of (unwrap_or x.outcomes []))
 abbrev pub crew_size : ℕ → ℕ
 crew_size n = min n 64
 
--- over these texts a crew's script ends so, and so does the run; or memory runs out, and nothing is written
-abbrev pub CrewEnds : ℕ → Texts → List ℕ → Option (List ℕ) → Option (List ℕ) → Option (List ℕ) → Ending → Type 0
+-- over these texts a crew's script ends so, and so does the run; or memory runs out, and nothing is
+-- written
+abbrev pub CrewEnds : ℕ → Texts → List ℕ → Option (List ℕ) → Option (List ℕ) → Option (List ℕ)
+    → Ending → Type 0
 CrewEnds n x suite known old new ending =
     ((ending ≡ NoMemory) × Keeps old new)
-    ⊎ ((r : Result ScriptEnd CrewFault) × CrewSays (crew_tells (crew_size n)) (script_texts x suite) (outcome_lines x) known old new r × (ending ≡ ending_of_crew r))
+    ⊎ ((r : Result ScriptEnd CrewFault)
+    × CrewSays (crew_tells (crew_size n)) (script_texts x suite) (outcome_lines x) known old new r
+    × (ending ≡ ending_of_crew r))
 
 -- a script is answered by a clerk alone, or with builders by a crew
-abbrev pub PlayEnds : ℕ → Texts → List ℕ → Option (List ℕ) → Option (List ℕ) → Option (List ℕ) → Ending → Type 0
-PlayEnds n x suite known old new ending = MatchBool (n == 0) (ScriptEnds x suite known old new ending) (CrewEnds n x suite known old new ending)
+abbrev pub PlayEnds : ℕ → Texts → List ℕ → Option (List ℕ) → Option (List ℕ) → Option (List ℕ)
+    → Ending → Type 0
+PlayEnds n x suite known old new ending =
+    MatchBool (n == 0) (ScriptEnds x suite known old new ending)
+    (CrewEnds n x suite known old new ending)
 
 -- memory runs out, or a file isn't read, and nothing is written; or the script ends it
-abbrev pub RunSays : RunFiles → List ℕ → Option (List ℕ) → Option (List ℕ) → Option (List ℕ) → Ending → Type 0
+abbrev pub RunSays : RunFiles → List ℕ → Option (List ℕ) → Option (List ℕ) → Option (List ℕ)
+    → Ending → Type 0
 RunSays files suite known old new ending =
     ((ending ≡ NoMemory) × Keeps old new)
     ⊎ ((IsUnread files ending × Keeps old new)
@@ -179,28 +214,39 @@ pub record AreKnownTexts (files : RunFiles) (x : Texts) : Type 0 where
   pub outcomes : IsKnownIfGiven files.outcomes x.outcomes
   pub journal : IsKnownIfGiven files.journal x.journal
 
--- how a run over readable texts may end: its script is answered, but for a pattern that `regex` refuses, or where a file, a stream or memory fails
+-- how a run over readable texts may end: its script is answered, but for a pattern that `regex`
+-- refuses, or where a file, a stream or memory fails
 abbrev pub MayEnd : Option (List ℕ) → Ending → Type 0
 MayEnd tracker Done = Unit {0}
 MayEnd tracker Refused = Unit {0}
-MayEnd tracker (BadInput role e) = (fault : TrackerFault) × script.IsPatternRefused tracker fault × (BadInput role e ≡ ending_of_tracker fault)
+MayEnd tracker (BadInput role e) =
+    (fault : TrackerFault) × script.IsPatternRefused tracker fault
+    × (BadInput role e ≡ ending_of_tracker fault)
 MayEnd tracker NoMemory = Unit {0}
 MayEnd tracker (CannotRead role) = Unit {0}
 MayEnd tracker CannotWrite = Unit {0}
 
 -- where the reader is known to have a script, and the texts are readable, it ends so
 abbrev pub OnlyEnds : script.Texts → Option (List ℕ) → Ending → Type 0
-OnlyEnds x known ending = (text : List ℕ) → known ≡ Some text → IsScriptText text → script.AreReadable x → MayEnd x.tracker ending
+OnlyEnds x known ending =
+    (text : List ℕ) → known ≡ Some text → IsScriptText text → script.AreReadable x
+    → MayEnd x.tracker ending
 
 -- the same of a crew, where the lines of outcomes are some
 abbrev pub OnlyCrewEnds : script.Texts → List (List ℕ) → Option (List ℕ) → Ending → Type 0
-OnlyCrewEnds x lines known ending = (text : List ℕ) → known ≡ Some text → IsScriptText text → AreRead lines → script.AreReadable x → MayEnd x.tracker ending
+OnlyCrewEnds x lines known ending =
+    (text : List ℕ) → known ≡ Some text → IsScriptText text → AreRead lines → script.AreReadable x
+    → MayEnd x.tracker ending
 
 -- by whether there are builders
 abbrev pub OnlyPlayEnds : ℕ → Texts → List ℕ → Option (List ℕ) → Ending → Type 0
-OnlyPlayEnds n x suite known ending = MatchBool (n == 0) (OnlyEnds (script_texts x suite) known ending) (OnlyCrewEnds (script_texts x suite) (outcome_lines x) known ending)
+OnlyPlayEnds n x suite known ending =
+    MatchBool (n == 0) (OnlyEnds (script_texts x suite) known ending)
+    (OnlyCrewEnds (script_texts x suite) (outcome_lines x) known ending)
 
--- a run over these files ends so: the ending is as it says, and a script over readable texts is answered
-pub record EndsRun (files : RunFiles) (suite : List ℕ) (known old new : Option (List ℕ)) (ending : Ending) : Type 0 where
+-- a run over these files ends so: the ending is as it says, and a script over readable texts is
+-- answered
+pub record EndsRun (files : RunFiles) (suite : List ℕ) (known old new : Option (List ℕ))
+    (ending : Ending) : Type 0 where
   pub says : RunSays files suite known old new ending
   pub only : (x : Texts) → AreKnownTexts files x → OnlyPlayEnds files.builders x suite known ending

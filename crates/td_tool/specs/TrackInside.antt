@@ -1,5 +1,6 @@
 -- What the inner functions of `track` and `waves` answer. This project's own.
-use Rattle.std.specs.Prelude.{◌≡◌, ◌⊎◌, ℕ, ◌≤◌, Bool, List, Option, Some, None, length, option_map, string_bytes}
+use Rattle.std.specs.Prelude.{◌≡◌, ◌⊎◌, ℕ, ◌≤◌, Bool, List, Option, Some, None, length, option_map}
+use Rattle.std.specs.Prelude.{string_bytes}
 use Rattle.std.specs.Borrow.{Bor}
 use Rattle.std.specs.Io.KnownBytes.{Keeps}
 use Rattle.td_bytes.specs.declared.text.TextFault.{TextFault}
@@ -23,7 +24,8 @@ use Rattle.td_tool.specs.declared.tracking.Asked.TheVariants.{Report, Waves}
 use Rattle.td_tool.specs.declared.ending.Ending.{Ending}
 use Rattle.td_tool.specs.declared.ending.Ending.TheVariants.{NoMemory}
 use Rattle.td_tool.specs.Limits.{file_limit}
-use Rattle.td_tool.specs.Tracks.{AreTextsOf, FailsAt, IsNoState, IsReadableOver, IsRefusedOver, MayFail, OneFile, RowsSay, Saying, Texts, TrackFiles, track_files}
+use Rattle.td_tool.specs.Tracks.{AreTextsOf, FailsAt, IsNoState, IsReadableOver, IsRefusedOver}
+use Rattle.td_tool.specs.Tracks.{MayFail, OneFile, RowsSay, Saying, Texts, TrackFiles, track_files}
 
 -- what is told of a tracker
 abbrev pub saying_of : Asked → Saying
@@ -31,8 +33,11 @@ saying_of (Report chunk) = IsReport
 saying_of Waves = IsWaves
 
 -- the files of these paths
-abbrev pub files_at : (List ℕ → Option (List ℕ)) → (List ℕ → TextFault → Bool) → TrackPaths → TrackFiles
-files_at bytes can_fail p = track_files bytes can_fail p.archs.now p.packages.now p.sources.now (option_map (λ s. s.now) p.state) p.tracker.now
+abbrev pub files_at : (List ℕ → Option (List ℕ)) → (List ℕ → TextFault → Bool) → TrackPaths
+    → TrackFiles
+files_at bytes can_fail p =
+    track_files bytes can_fail p.archs.now p.packages.now p.sources.now
+    (option_map (λ s. s.now) p.state) p.tracker.now
 
 -- the texts that were read
 abbrev pub texts_of : TrackTexts → Texts
@@ -79,7 +84,8 @@ pub record IsReplaced (opened : Table) (text : List ℕ) (rows : Table) : Type 0
 -- the text is no state file, or has a row that these haven't
 abbrev pub LacksOneOf : Table → List ℕ → Ending → Type 0
 LacksOneOf opened text ending =
-    (given : Table) × IsStateFile (lines_of text) given × ((k : Key) × (first_missing opened given ≡ Some k) × (ending ≡ ending_of_missing_row))
+    (given : Table) × IsStateFile (lines_of text) given
+    × ((k : Key) × (first_missing opened given ≡ Some k) × (ending ≡ ending_of_missing_row))
 
 -- a state file is refused over these rows, for one or the other, and so it ends
 abbrev pub IsRefusedFor : Table → List ℕ → Ending → Type 0
@@ -87,20 +93,28 @@ IsRefusedFor opened text ending = IsNoState text ending ⊎ LacksOneOf opened te
 
 -- the text is a state file, each row of which these rows have
 abbrev pub CanReplace : Table → List ℕ → Type 0
-CanReplace opened text = (given : Table) × IsStateFile (lines_of text) given × ((k : Key) → first_missing opened given ≡ Some k → ⊥)
+CanReplace opened text =
+    (given : Table) × IsStateFile (lines_of text) given
+    × ((k : Key) → first_missing opened given ≡ Some k → ⊥)
 
 -- ---- the indices with a table
 
 -- what the texts say, where this is the table of architectures
 abbrev pub IndicesSay : Saying → List ArchWords → Texts → List ℕ → Type 0
-IndicesSay Says t x text = (c : Contents) × IsArchive t (lines_of x.packages) (lines_of x.sources) c × RowsSay Says c x.state x.tracker text
+IndicesSay Says t x text =
+    (c : Contents) × IsArchive t (lines_of x.packages) (lines_of x.sources) c
+    × RowsSay Says c x.state x.tracker text
 
 -- the indices are no archive with this table, or what stands over it is refused, and so it ends
 abbrev pub AreRefusedWith : List ArchWords → Texts → Ending → Type 0
 AreRefusedWith t x ending =
-    ((e : ArchiveFault) × archive_file.FaultOf t (lines_of x.packages) (lines_of x.sources) e × (ending ≡ ending_of_archive e))
-    ⊎ ((c : Contents) × IsArchive t (lines_of x.packages) (lines_of x.sources) c × IsRefusedOver c x.state x.tracker ending)
+    ((e : ArchiveFault) × archive_file.FaultOf t (lines_of x.packages) (lines_of x.sources) e
+    × (ending ≡ ending_of_archive e))
+    ⊎ ((c : Contents) × IsArchive t (lines_of x.packages) (lines_of x.sources) c
+    × IsRefusedOver c x.state x.tracker ending)
 
 -- the texts are readable with this table
 abbrev pub AreReadableWith : List ArchWords → Texts → Type 0
-AreReadableWith t x = (c : Contents) × IsArchive t (lines_of x.packages) (lines_of x.sources) c × IsReadableOver c x.state x.tracker
+AreReadableWith t x =
+    (c : Contents) × IsArchive t (lines_of x.packages) (lines_of x.sources) c
+    × IsReadableOver c x.state x.tracker

@@ -24,12 +24,16 @@ use Rattle.td_query.specs.TrackerGrammar.{said_in}
 use Rattle.td_query.specs.Tracking.{IsTracker, Tracking}
 use Rattle.td_query.specs.declared.tracker_fault.TrackerFault.{TrackerFault}
 use Rattle.td_tool.specs.declared.role.Role.{Role}
-use Rattle.td_tool.specs.declared.role.Role.TheVariants.{Input, Archs, Packages, Sources, State, Tracker, Outcomes, Journal}
+use Rattle.td_tool.specs.declared.role.Role.TheVariants.{Input, Archs, Packages, Sources, State}
+use Rattle.td_tool.specs.declared.role.Role.TheVariants.{Tracker, Outcomes, Journal}
 use Rattle.td_tool.specs.declared.ending.Ending.{Ending}
-use Rattle.td_tool.specs.declared.ending.Ending.TheVariants.{Done, Refused, BadInput, NoMemory, CannotRead, CannotWrite}
-use Rattle.td_tool.specs.Ending.{ending_of_archive, ending_of_file, ending_of_missing_row, ending_of_state, ending_of_table, ending_of_tracker}
+use Rattle.td_tool.specs.declared.ending.Ending.TheVariants.{Done, Refused, BadInput, NoMemory}
+use Rattle.td_tool.specs.declared.ending.Ending.TheVariants.{CannotRead, CannotWrite}
+use Rattle.td_tool.specs.Ending.{ending_of_archive, ending_of_file, ending_of_missing_row}
+use Rattle.td_tool.specs.Ending.{ending_of_state, ending_of_table, ending_of_tracker}
 use Rattle.td_tool.specs.Counted.{IsArchiveOf}
-use Rattle.td_tool.specs.Checks.{AreTexts, FaultFits, Files, HasFailed, IsFileText, IsTextOf, files_of}
+use Rattle.td_tool.specs.Checks.{AreTexts, FaultFits, Files, HasFailed, IsFileText, IsTextOf}
+use Rattle.td_tool.specs.Checks.{files_of}
 use Rattle.td_tool.specs.CheckInside.{WritesSo}
 
 -- ---- 1. what is read
@@ -50,9 +54,14 @@ pub record TrackFiles : Type 0 where
   pub tracker : OneFile
 
 -- those of these paths
-abbrev pub track_files : (List ℕ → Option (List ℕ)) → (List ℕ → TextFault → Bool) → List ℕ → List ℕ → List ℕ → Option (List ℕ) → List ℕ → TrackFiles
+abbrev pub track_files : (List ℕ → Option (List ℕ)) → (List ℕ → TextFault → Bool) → List ℕ → List ℕ
+    → List ℕ → Option (List ℕ) → List ℕ → TrackFiles
 track_files bytes can_fail archs packages sources state tracker =
-    record { indices = files_of bytes can_fail archs packages sources; state = option_map (file_at bytes can_fail) state; tracker = file_at bytes can_fail tracker }
+    record {
+      indices = files_of bytes can_fail archs packages sources;
+      state = option_map (file_at bytes can_fail) state;
+      tracker = file_at bytes can_fail tracker;
+    }
 
 -- what such files hold
 pub record Texts : Type 0 where
@@ -80,24 +89,29 @@ pub record MayFail (file : OneFile) (fault : TextFault) : Type 0 where
   pub may : file.can_fail fault ≡ true
   pub fits : FaultFits file.known fault
 
--- a read of the file of a role fails so, and those that are read before it are texts: first those of the archive, then the rows, then the tracker
+-- a read of the file of a role fails so, and those that are read before it are texts: first those
+-- of the archive, then the rows, then the tracker
 abbrev pub FailsAt : TrackFiles → Role → TextFault → Type 0
 FailsAt files Input fault = ⊥
 FailsAt files Archs fault = HasFailed files.indices Archs fault
 FailsAt files Packages fault = HasFailed files.indices Packages fault
 FailsAt files Sources fault = HasFailed files.indices Sources fault
 FailsAt files State fault =
-    (archs : List ℕ) × (packages : List ℕ) × (sources : List ℕ) × AreTexts files.indices archs packages sources
+    (archs : List ℕ) × (packages : List ℕ) × (sources : List ℕ)
+    × AreTexts files.indices archs packages sources
     × ((file : OneFile) × (files.state ≡ Some file) × MayFail file fault)
 FailsAt files Tracker fault =
-    (archs : List ℕ) × (packages : List ℕ) × (sources : List ℕ) × AreTexts files.indices archs packages sources
+    (archs : List ℕ) × (packages : List ℕ) × (sources : List ℕ)
+    × AreTexts files.indices archs packages sources
     × ((state : Option (List ℕ)) × IsTextIfGiven files.state state × MayFail files.tracker fault)
 FailsAt files Outcomes fault = ⊥
 FailsAt files Journal fault = ⊥
 
 -- a file isn't read, and so it ends
 abbrev pub IsUnread : TrackFiles → Ending → Type 0
-IsUnread files ending = (role : Role) × (fault : TextFault) × FailsAt files role fault × (ending ≡ ending_of_file role fault)
+IsUnread files ending =
+    (role : Role) × (fault : TextFault) × FailsAt files role fault
+    × (ending ≡ ending_of_file role fault)
 
 -- ---- 2. what is found
 
@@ -106,7 +120,8 @@ pub record AreOpened (c : Contents) (rows : Table) : Type 0 where
   pub same : (k : Key) → row_of rows k ≡ opening_row c k
   pub rising : ascending (keys_of rows) ≡ true
 
--- the same, with those of a state file in the place of the ones of their keys, each of which has to be there
+-- the same, with those of a state file in the place of the ones of their keys, each of which has to
+-- be there
 pub record AreReplaced (c : Contents) (text : List ℕ) (rows : Table) : Type 0 where
   pub opened : Table
   pub are_opened : AreOpened c opened
@@ -130,21 +145,26 @@ TrackerSays Says c rows tracker text = (t : Tracking) × IsTracker tracker t × 
 
 -- the same over the rows of an archive
 abbrev pub RowsSay : Saying → Contents → Option (List ℕ) → List ℕ → List ℕ → Type 0
-RowsSay Says c state tracker text = (rows : Table) × AreRowsOf c state rows × TrackerSays Says c rows tracker text
+RowsSay Says c state tracker text =
+    (rows : Table) × AreRowsOf c state rows × TrackerSays Says c rows tracker text
 
 -- the same of texts
 abbrev pub TextsSayIt : Saying → Texts → List ℕ → Type 0
-TextsSayIt Says x text = (c : Contents) × IsArchiveOf x.archs x.packages x.sources c × RowsSay Says c x.state x.tracker text
+TextsSayIt Says x text =
+    (c : Contents) × IsArchiveOf x.archs x.packages x.sources c
+    × RowsSay Says c x.state x.tracker text
 
 -- ---- 3. what is wrong
 
 -- a text is no tracker, or `regex` refuses one of its patterns, and so it ends
 abbrev pub IsNoTracker : List ℕ → Ending → Type 0
-IsNoTracker text ending = (e : TrackerFault) × tracker_file.FaultOf text e × (ending ≡ ending_of_tracker e)
+IsNoTracker text ending =
+    (e : TrackerFault) × tracker_file.FaultOf text e × (ending ≡ ending_of_tracker e)
 
 -- a text is no state file
 abbrev pub IsNoState : List ℕ → Ending → Type 0
-IsNoState text ending = (e : StateFault) × state_file.FaultOf (lines_of text) e × (ending ≡ ending_of_state e)
+IsNoState text ending =
+    (e : StateFault) × state_file.FaultOf (lines_of text) e × (ending ≡ ending_of_state e)
 
 -- a state file has a row that the archive hasn't
 abbrev pub LacksRow : Contents → List ℕ → Ending → Type 0
@@ -159,30 +179,38 @@ IsStateRefused c (Some text) ending = IsNoState text ending ⊎ LacksRow c text 
 
 -- what stands over an archive is refused: the rows before the tracker
 abbrev pub IsRefusedOver : Contents → Option (List ℕ) → List ℕ → Ending → Type 0
-IsRefusedOver c state tracker ending = IsStateRefused c state ending ⊎ ((rows : Table) × AreRowsOf c state rows × IsNoTracker tracker ending)
+IsRefusedOver c state tracker ending =
+    IsStateRefused c state ending
+    ⊎ ((rows : Table) × AreRowsOf c state rows × IsNoTracker tracker ending)
 
 -- texts are refused: the table of architectures first, then the indices, then what stands over them
 abbrev pub IsNoTable : Texts → Ending → Type 0
-IsNoTable x ending = (e : ArchsFault) × table_file.FaultOf (lines_of x.archs) e × (ending ≡ ending_of_table e)
+IsNoTable x ending =
+    (e : ArchsFault) × table_file.FaultOf (lines_of x.archs) e × (ending ≡ ending_of_table e)
 
 -- the table is one, and with it the indices are no archive
 abbrev pub AreNoIndices : Texts → Ending → Type 0
 AreNoIndices x ending =
     (t : List ArchWords) × IsTable (lines_of x.archs) t
-    × ((e : ArchiveFault) × archive_file.FaultOf t (lines_of x.packages) (lines_of x.sources) e × (ending ≡ ending_of_archive e))
+    × ((e : ArchiveFault) × archive_file.FaultOf t (lines_of x.packages) (lines_of x.sources) e
+    × (ending ≡ ending_of_archive e))
 
 -- one of the texts is refused, and so it ends
 abbrev pub AreRefused : Texts → Ending → Type 0
 AreRefused x ending =
     IsNoTable x ending
     ⊎ (AreNoIndices x ending
-    ⊎ ((c : Contents) × IsArchiveOf x.archs x.packages x.sources c × IsRefusedOver c x.state x.tracker ending))
+    ⊎ ((c : Contents) × IsArchiveOf x.archs x.packages x.sources c
+    × IsRefusedOver c x.state x.tracker ending))
 
 -- ---- 4. how it ends
 
--- texts were read: they are refused and nothing is written, or what they say is, whole, or a front of it where the writer failed
+-- texts were read: they are refused and nothing is written, or what they say is, whole, or a front
+-- of it where the writer failed
 abbrev pub TextsEndSo : Saying → Texts → Option (List ℕ) → Option (List ℕ) → Ending → Type 0
-TextsEndSo Says x old new ending = (AreRefused x ending × Keeps old new) ⊎ ((text : List ℕ) × TextsSayIt Says x text × WritesSo text old new ending)
+TextsEndSo Says x old new ending =
+    (AreRefused x ending × Keeps old new)
+    ⊎ ((text : List ℕ) × TextsSayIt Says x text × WritesSo text old new ending)
 
 -- memory runs out, or a file isn't read, and nothing is written; or the texts end it
 abbrev pub SaysSo : Saying → TrackFiles → Option (List ℕ) → Option (List ℕ) → Ending → Type 0
@@ -195,15 +223,19 @@ SaysSo Says files old new ending =
 
 -- rows can be looked at over an archive, and a text is a tracker
 abbrev pub IsReadableOver : Contents → Option (List ℕ) → List ℕ → Type 0
-IsReadableOver c state tracker = (rows : Table) × AreRowsOf c state rows × ((t : Tracking) × IsTracker tracker t)
+IsReadableOver c state tracker =
+    (rows : Table) × AreRowsOf c state rows × ((t : Tracking) × IsTracker tracker t)
 
 -- texts are an archive, rows for it and a tracker
 abbrev pub AreReadable : Texts → Type 0
-AreReadable x = (c : Contents) × IsArchiveOf x.archs x.packages x.sources c × IsReadableOver c x.state x.tracker
+AreReadable x =
+    (c : Contents) × IsArchiveOf x.archs x.packages x.sources c × IsReadableOver c x.state x.tracker
 
 -- `regex` refuses a pattern of a tracker, or memory runs out, and so it ends
 abbrev pub IsPatternRefused : List ℕ → Ending → Type 0
-IsPatternRefused text ending = (e : TrackerFault) × tracker_file.IsPatternFault (length text) (tracker_file.log_in (said_in text)) e × (ending ≡ ending_of_tracker e)
+IsPatternRefused text ending =
+    (e : TrackerFault) × tracker_file.IsPatternFault (length text)
+    (tracker_file.log_in (said_in text)) e × (ending ≡ ending_of_tracker e)
 
 -- a file is known to hold a text
 pub record IsKnownText (known : Option (List ℕ)) (text : List ℕ) : Type 0 where
@@ -225,16 +257,20 @@ pub record AreKnownTexts (files : TrackFiles) (x : Texts) : Type 0 where
   pub state : IsKnownIfGiven files.state x.state
   pub tracker : IsKnownText files.tracker.known x.tracker
 
--- how what such texts say may end: told, but for a pattern that `regex` refuses, or a write, memory or a read of a file that fails
+-- how what such texts say may end: told, but for a pattern that `regex` refuses, or a write, memory
+-- or a read of a file that fails
 abbrev pub EndsTold : Saying → Texts → Option (List ℕ) → Option (List ℕ) → Ending → Type 0
 EndsTold Says x old new Done = (text : List ℕ) × TextsSayIt Says x text × Appends old new text
 EndsTold Says x old new Refused = ⊥
-EndsTold Says x old new (BadInput role e) = IsPatternRefused x.tracker (BadInput role e) × Keeps old new
+EndsTold Says x old new (BadInput role e) =
+    IsPatternRefused x.tracker (BadInput role e) × Keeps old new
 EndsTold Says x old new NoMemory = Keeps old new
 EndsTold Says x old new (CannotRead role) = Keeps old new
-EndsTold Says x old new CannotWrite = (text : List ℕ) × TextsSayIt Says x text × AppendsPrefix old new text
+EndsTold Says x old new CannotWrite =
+    (text : List ℕ) × TextsSayIt Says x text × AppendsPrefix old new text
 
 -- a run over these files ends so: the ending is as it says, and readable texts are told
-pub record EndsSo (Says : Saying) (files : TrackFiles) (old new : Option (List ℕ)) (ending : Ending) : Type 0 where
+pub record EndsSo (Says : Saying) (files : TrackFiles) (old new : Option (List ℕ))
+    (ending : Ending) : Type 0 where
   pub says : SaysSo Says files old new ending
   pub only : (x : Texts) → AreKnownTexts files x → AreReadable x → EndsTold Says x old new ending

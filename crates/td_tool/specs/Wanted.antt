@@ -1,4 +1,5 @@
--- What is wanted in the place of what is refused: a sentence for each fault, for people. This project's own; want of memory is told otherwise.
+-- What is wanted in the place of what is refused: a sentence for each fault, for people. This
+-- project's own; want of memory is told otherwise.
 use Rattle.std.specs.Prelude.{ℕ, List, [], codes}
 use Rattle.td_stanza.specs.declared.fault.StanzaFault.{StanzaFault}
 use Rattle.td_stanza.specs.declared.fault.StanzaFault.TheVariants as stanza
@@ -19,7 +20,10 @@ use Rattle.td_journal.specs.declared.journal_fault.ReadError.TheVariants as jour
 use Rattle.td_simulate.specs.declared.fault.SimulationFault.{SimulationFault}
 use Rattle.td_simulate.specs.declared.fault.SimulationFault.TheVariants as simulation
 use Rattle.td_tool.specs.declared.input_fault.InputFault.{InputFault}
-use Rattle.td_tool.specs.declared.input_fault.InputFault.TheVariants.{TooLong, NotText, Simulation, Table, Archive, State, NoSuchRow, Tracker, BadOutcome, Journal}
+use Rattle.td_tool.specs.declared.input_fault.InputFault.TheVariants.{TooLong, NotText, Simulation}
+use Rattle.td_tool.specs.declared.input_fault.InputFault.TheVariants.{Table, Archive, State}
+use Rattle.td_tool.specs.declared.input_fault.InputFault.TheVariants.{NoSuchRow, Tracker}
+use Rattle.td_tool.specs.declared.input_fault.InputFault.TheVariants.{BadOutcome, Journal}
 
 -- of the rows of a state file, or of the opening rows
 abbrev pub wanted_state : StateFault → List ℕ
@@ -46,7 +50,8 @@ wanted_table table.NoMemory = []
 abbrev pub wanted_stanza : StanzaFault → List ℕ
 wanted_stanza (stanza.BadName n) = codes "a field, as NAME: VALUE"
 wanted_stanza (stanza.NoColon n) = codes "a colon behind the name of the field"
-wanted_stanza (stanza.ContinuationFirst n) = codes "a field, since none is above that could go on here"
+wanted_stanza (stanza.ContinuationFirst n) =
+    codes "a field, since none is above that could go on here"
 wanted_stanza (stanza.Duplicate n) = codes "a field that the stanza has not yet"
 wanted_stanza stanza.NoMemory = []
 
@@ -83,7 +88,8 @@ wanted_tracker tracker.NoMemory = []
 abbrev pub wanted_journal : ReadError → List ℕ
 wanted_journal journal.BadHeader = codes "a journal's header, as transdesk journal 2"
 wanted_journal (journal.BadLine n) = codes "the next entry, as docs/FORMATS.md has journals"
-wanted_journal (journal.Unlawful n) = codes "an entry that applies on the rows, or an undone command"
+wanted_journal (journal.Unlawful n) =
+    codes "an entry that applies on the rows, or an undone command"
 wanted_journal journal.NoMemory = []
 
 -- of any text

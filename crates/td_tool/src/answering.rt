@@ -1,15 +1,20 @@
 //! The program: it does what its words ask for, and answers its status.
-ghost use Rattle.std.specs.Prelude.{◌≡◌, ◌⊎◌, ◌≤◌, ℕ, List, length, map, IfSome, option_map, codes, string_bytes, None, IsOkAnd, IfOk, IfErr};
+ghost use Rattle.std.specs.Prelude.{◌≡◌, ◌⊎◌, ◌≤◌, ℕ, List, length, map, IfSome, option_map, codes};
+ghost use Rattle.std.specs.Prelude.{string_bytes, None, IsOkAnd, IfOk, IfErr};
 ghost use Rattle.std.specs.IoError.{error_kind};
 ghost use Rattle.std.specs.Io.KnownBytes.{Keeps};
 ghost use Rattle.td_report.specs.Transition.{IsReport, IsWaves};
-ghost use Rattle.td_words.specs.CommandLine.{AskFor, AskForCheck, AskForRun, AskForTrack, AskForWaves, RunWords, TrackWords, is_explained, options_of};
+ghost use Rattle.td_words.specs.CommandLine.{AskFor, AskForCheck, AskForRun, AskForTrack};
+ghost use Rattle.td_words.specs.CommandLine.{AskForWaves, RunWords, TrackWords, is_explained};
+ghost use Rattle.td_words.specs.CommandLine.{options_of};
 ghost use Rattle.td_tool.specs.Ends.{Ends};
 ghost use Rattle.td_tool.specs.Checks.{Checks, files_of};
-ghost use Rattle.td_tool.specs.Explained.{IsKept, archive_paths, known_at, known_input, known_of_request, run_paths, track_paths, waves_paths};
+ghost use Rattle.td_tool.specs.Explained.{IsKept, archive_paths, known_at, known_input};
+ghost use Rattle.td_tool.specs.Explained.{known_of_request, run_paths, track_paths, waves_paths};
 ghost use Rattle.td_tool.specs.Limits.{input_limit};
 ghost use Rattle.td_tool.specs.Ran.{Ran};
-ghost use Rattle.td_tool.specs.Program.{EndsFor, IsTold, OnlyIfAsked, RanFor, TellsFault, TellsUnread, are_explained, files_asked};
+ghost use Rattle.td_tool.specs.Program.{EndsFor, IsTold, OnlyIfAsked, RanFor, TellsFault};
+ghost use Rattle.td_tool.specs.Program.{TellsUnread, are_explained, files_asked};
 ghost use Rattle.td_tool.specs.Runs.{EndsRun, run_files, run_files_asked};
 ghost use Rattle.td_tool.specs.TrackInside.{saying_of};
 ghost use Rattle.td_tool.specs.Tracks.{EndsSo, track_files};
@@ -137,7 +142,8 @@ fn do_request<T: Texts, R: Read, W: Write>(
     ensures ends { EndsFor request.now
         (R.remaining reader.old) (T.bytes texts.now) (T.can_fail texts.now)
         (W.contents output.old) (W.contents output.new) result.ending }
-    ensures kept { IsKept (known_of_request request.now (R.remaining reader.old) (T.bytes texts.now)) result.input }
+    ensures kept { IsKept
+        (known_of_request request.now (R.remaining reader.old) (T.bytes texts.now)) result.input }
     ensures short { IfSome result.input (λ kept. length (string_bytes kept) ≤ input_limit) }
 {
     match request {
@@ -296,7 +302,8 @@ pub fn tool<T: Texts, R: Read, W: Write, E: Write>(
     faults: &mut E,
 ) -> u8
     // What asks for the simulation is answered by it, and explained where that is asked for.
-    ensures simulate { IsOkAnd words (λ given. AskFor (codes "simulate") (map string_bytes given.items))
+    ensures simulate { IsOkAnd words (λ given.
+        AskFor (codes "simulate") (map string_bytes given.items))
         → Ran (Ends (R.remaining reader.old) (W.contents output.old) (W.contents output.new))
         (are_explained words) (known_input (R.remaining reader.old))
         (E.contents faults.old) (E.contents faults.new) result }
@@ -319,7 +326,8 @@ pub fn tool<T: Texts, R: Read, W: Write, E: Write>(
         → Ran (EndsSo IsWaves
         (track_files (T.bytes texts.now) (T.can_fail texts.now) archs packages sources None tracker)
         (W.contents output.old) (W.contents output.new))
-        (are_explained words) (known_at (T.bytes texts.now) (waves_paths archs packages sources tracker))
+        (are_explained words)
+        (known_at (T.bytes texts.now) (waves_paths archs packages sources tracker))
         (E.contents faults.old) (E.contents faults.new) result }
     // What asks for a run is answered by it.
     ensures run { (w : RunWords) → IsOkAnd words (λ given.

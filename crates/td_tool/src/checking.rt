@@ -1,11 +1,15 @@
 //! The subcommand `check`: sources, binary packages and rows of two indices are counted.
-ghost use Rattle.std.specs.Prelude.{◌≡◌, List, ◌≤◌, length, string_bytes, Ok, Err, IfOk, IfErr, IsOkAnd, MatchResult};
+ghost use Rattle.std.specs.Prelude.{◌≡◌, List, ◌≤◌, length, string_bytes, Ok, Err, IfOk, IfErr};
+ghost use Rattle.std.specs.Prelude.{IsOkAnd, MatchResult};
 ghost use Rattle.std.specs.Result.{ForOk};
 ghost use Rattle.td_relation.specs.TableView.{table};
 ghost use Rattle.td_tool.specs.Checks.{Checks, files_of};
-ghost use Rattle.td_tool.specs.CheckInside.{AreCountsOf, EndsUnwritten, FileTextsEnd, FileUnread, IsCounted, IsCountedWith, IsLineFor, IsWithin, WritesSo};
+ghost use Rattle.td_tool.specs.CheckInside.{AreCountsOf, EndsUnwritten, FileTextsEnd, FileUnread};
+ghost use Rattle.td_tool.specs.CheckInside.{IsCounted, IsCountedWith, IsLineFor, IsWithin};
+ghost use Rattle.td_tool.specs.CheckInside.{WritesSo};
 ghost use Rattle.td_tool.specs.Counted.{line_of_counts};
-ghost use Rattle.td_tool.specs.Ending.{ending_of_archive as archive_ending, ending_of_table as table_ending};
+ghost use Rattle.td_tool.specs.Ending.{ending_of_archive as archive_ending};
+ghost use Rattle.td_tool.specs.Ending.{ending_of_table as table_ending};
 ghost use Rattle.td_tool.specs.Limits.{file_limit};
 
 use crate::ending::{Ending, ending_of_archive, ending_of_file, ending_of_table};

@@ -2,7 +2,10 @@
 ghost use Rattle.std.specs.Prelude.{◌≡◌, ◌++◌, None, OnOk, OnErr};
 ghost use Rattle.std.specs.Io.KnownBytes.{Appends};
 ghost use Rattle.td_bytes.specs.Pieces.{AppendsPrefix};
-ghost use Rattle.td_tool.specs.Ending.{ending_of_archive, ending_of_file, ending_of_journal, ending_of_missing_row, ending_of_simulation, ending_of_state, ending_of_table, ending_of_text, ending_of_tracker, status_of, line_of, line_with};
+ghost use Rattle.td_tool.specs.Ending.{ending_of_archive, ending_of_file, ending_of_journal};
+ghost use Rattle.td_tool.specs.Ending.{ending_of_missing_row, ending_of_simulation};
+ghost use Rattle.td_tool.specs.Ending.{ending_of_state, ending_of_table, ending_of_text};
+ghost use Rattle.td_tool.specs.Ending.{ending_of_tracker, status_of, line_of, line_with};
 
 use crate::input_fault::InputFault;
 use crate::role::{Role, role_of_fault};

@@ -1,7 +1,10 @@
 //! The explanation of a refusal: a second line on standard error, where one is asked for.
-ghost use Rattle.std.specs.Prelude.{◌≡◌, ◌≤◌, ◌<◌, ◌^◌, ℕ, List, Option, true, IfSome, length, option_map, string_bytes};
+ghost use Rattle.std.specs.Prelude.{◌≡◌, ◌≤◌, ◌<◌, ◌^◌, ℕ, List, Option, true, IfSome, length};
+ghost use Rattle.std.specs.Prelude.{option_map, string_bytes};
 ghost use Rattle.td_tool.specs.Ending.{status_of};
-ghost use Rattle.td_tool.specs.Explained.{Explains, ExplainsFile, IsKept, IsSaidOf, SaysOf, archive_paths, explanation_of, known_of_request, paths_of};
+ghost use Rattle.td_tool.specs.Explained.{Explains, ExplainsFile, IsKept, IsSaidOf, SaysOf};
+ghost use Rattle.td_tool.specs.Explained.{archive_paths, explanation_of, known_of_request};
+ghost use Rattle.td_tool.specs.Explained.{paths_of};
 ghost use Rattle.td_tool.specs.Limits.{input_limit};
 
 use crate::ending::{Ended, Ending};
@@ -127,9 +130,11 @@ fn explain_place<T: Texts>(
     texts: &T,
 ) -> Option<String>
     requires { IfSome input.now (λ text. length (string_bytes text) ≤ input_limit) }
-    ensures { (known : Option (List ℕ)) → IsKept (known_of_request request.now known (T.bytes texts.now)) input.now
+    ensures { (known : Option (List ℕ))
+        → IsKept (known_of_request request.now known (T.bytes texts.now)) input.now
         → IfSome result (λ line. ExplainsFile
-        (known_of_request request.now known (T.bytes texts.now) role) role fault (string_bytes line)) }
+        (known_of_request request.now known (T.bytes texts.now) role) role fault
+        (string_bytes line)) }
 {
     match role {
         Role::Input => match input {
@@ -151,9 +156,11 @@ fn explanation<T: Texts>(
     texts: &T,
 ) -> Option<String>
     requires { IfSome ended.now.input (λ text. length (string_bytes text) ≤ input_limit) }
-    ensures { (known : Option (List ℕ)) → IsKept (known_of_request request.now known (T.bytes texts.now)) ended.now.input
+    ensures { (known : Option (List ℕ))
+        → IsKept (known_of_request request.now known (T.bytes texts.now)) ended.now.input
         → IfSome result (λ line. Explains
-        (known_of_request request.now known (T.bytes texts.now)) ended.now.ending (string_bytes line)) }
+        (known_of_request request.now known (T.bytes texts.now)) ended.now.ending
+        (string_bytes line)) }
 {
     let Ending::BadInput(role, fault) = ended.ending else {
         return None;
@@ -173,7 +180,8 @@ fn say_explanation<T: Texts, E: Write>(
     faults: &mut E,
 )
     requires { IfSome ended.now.input (λ text. length (string_bytes text) ≤ input_limit) }
-    ensures { (known : Option (List ℕ)) → IsKept (known_of_request request.now known (T.bytes texts.now)) ended.now.input
+    ensures { (known : Option (List ℕ))
+        → IsKept (known_of_request request.now known (T.bytes texts.now)) ended.now.input
         → IsSaidOf (known_of_request request.now known (T.bytes texts.now)) ended.now.ending
         (E.contents faults.old) (E.contents faults.new) }
 {
@@ -191,7 +199,8 @@ fn tell_explained<T: Texts, E: Write>(
     faults: &mut E,
 )
     requires { IfSome ended.now.input (λ text. length (string_bytes text) ≤ input_limit) }
-    ensures { (known : Option (List ℕ)) → IsKept (known_of_request request.now known (T.bytes texts.now)) ended.now.input
+    ensures { (known : Option (List ℕ))
+        → IsKept (known_of_request request.now known (T.bytes texts.now)) ended.now.input
         → SaysOf true (known_of_request request.now known (T.bytes texts.now)) ended.now.ending
         (E.contents faults.old) (E.contents faults.new) }
 {
@@ -213,7 +222,8 @@ pub fn finish<T: Texts, E: Write>(
 ) -> u8
     requires { IfSome ended.now.input (λ text. length (string_bytes text) ≤ input_limit) }
     ensures status { result ≡ status_of ended.now.ending }
-    ensures says { (known : Option (List ℕ)) → IsKept (known_of_request request.now known (T.bytes texts.now)) ended.now.input
+    ensures says { (known : Option (List ℕ))
+        → IsKept (known_of_request request.now known (T.bytes texts.now)) ended.now.input
         → SaysOf explained (known_of_request request.now known (T.bytes texts.now)) ended.now.ending
         (E.contents faults.old) (E.contents faults.new) }
 {

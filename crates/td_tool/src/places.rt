@@ -1,6 +1,14 @@
 //! Where in its text a refusal is.
 ghost use Rattle.std.specs.Prelude.{◌≡◌};
-ghost use Rattle.td_tool.specs.Places.{place_in_index as place_in_index_of, place_in_journal as place_in_journal_of, place_in_simulation as place_in_simulation_of, place_in_stanzas as place_in_stanzas_of, place_in_state as place_in_state_of, place_in_table as place_in_table_of, place_in_tracker as place_in_tracker_of, place_of_entry as place_of_entry_of, place_of as place_of_of};
+ghost use Rattle.td_tool.specs.Places.{place_in_index as place_in_index_of};
+ghost use Rattle.td_tool.specs.Places.{place_in_journal as place_in_journal_of};
+ghost use Rattle.td_tool.specs.Places.{place_in_simulation as place_in_simulation_of};
+ghost use Rattle.td_tool.specs.Places.{place_in_stanzas as place_in_stanzas_of};
+ghost use Rattle.td_tool.specs.Places.{place_in_state as place_in_state_of};
+ghost use Rattle.td_tool.specs.Places.{place_in_table as place_in_table_of};
+ghost use Rattle.td_tool.specs.Places.{place_in_tracker as place_in_tracker_of};
+ghost use Rattle.td_tool.specs.Places.{place_of_entry as place_of_entry_of};
+ghost use Rattle.td_tool.specs.Places.{place_of as place_of_of};
 
 use crate::input_fault::InputFault;
 use td_explain::Place;

@@ -1,6 +1,10 @@
 //! The subcommand `run`: a script over the rows of an archive.
 ghost use Rattle.std.specs.Prelude.{◌≡◌, ◌≤◌, IfOk};
-ghost use Rattle.td_tool.specs.Runs.{EndsRun, OnlyPlayEnds, PlayEnds, ending_of_crew as ending_of_crew_as, ending_of_input as ending_of_input_as, ending_of_script as ending_of_script_as, ending_of_stop as ending_of_stop_as};
+ghost use Rattle.td_tool.specs.Runs.{EndsRun, OnlyPlayEnds, PlayEnds};
+ghost use Rattle.td_tool.specs.Runs.{ending_of_crew as ending_of_crew_as};
+ghost use Rattle.td_tool.specs.Runs.{ending_of_input as ending_of_input_as};
+ghost use Rattle.td_tool.specs.Runs.{ending_of_script as ending_of_script_as};
+ghost use Rattle.td_tool.specs.Runs.{ending_of_stop as ending_of_stop_as};
 ghost use Rattle.td_tool.specs.RunInside.{AreInputsOf, IsWithinLimit, run_files_at, run_texts_of};
 
 use crate::ending::{

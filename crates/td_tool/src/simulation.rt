@@ -36,7 +36,8 @@ fn tell<W: Write>(told: Result<Simulated, SimulationFault>, output: &mut W) -> E
 fn play<W: Write>(alloc: Global, read: Result<String, TextFault>, output: &mut W) -> Ended
     requires { ForOk read (λ text. length (string_bytes text) ≤ input_limit) }
     ensures text { IfOk read (λ text.
-        TextEnds (string_bytes text) (W.contents output.old) (W.contents output.new) result.ending) }
+        TextEnds (string_bytes text) (W.contents output.old)
+        (W.contents output.new) result.ending) }
     ensures unread { IfErr read (λ fault.
         IsUnread fault (W.contents output.old) (W.contents output.new) result.ending) }
     ensures kept { result.input ≡ kept_of read }

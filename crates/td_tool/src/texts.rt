@@ -5,7 +5,22 @@ use td_bytes::TextFault;
 /// Files that are texts, by their paths. The program reads those of the disk; tests have theirs in
 /// memory.
 pub trait Texts {
-    ghost use Rattle.std.specs.Prelude.{◌≡◌, ℕ, ◌≤◌, ◌<◌, Bool, true, List, length, Option, IfOk, IfErr, IfSome, IsErrOf, IsUtf8};
+    ghost use Rattle.std.specs.Prelude.{
+      ◌≡◌,
+      ℕ,
+      ◌≤◌,
+      ◌<◌,
+      Bool,
+      true,
+      List,
+      length,
+      Option,
+      IfOk,
+      IfErr,
+      IfSome,
+      IsErrOf,
+      IsUtf8,
+    };
     ghost use Rattle.std.specs.String.{string_bytes};
     ghost use Rattle.td_bytes.specs.declared.text.TextFault.{TextFault};
     ghost use Rattle.td_bytes.specs.declared.text.TextFault.TheVariants.{NotText, TooLong};

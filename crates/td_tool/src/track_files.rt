@@ -2,7 +2,8 @@
 ghost use Rattle.std.specs.Prelude.{◌≡◌, IfOk, IfErr, option_map, string_bytes};
 ghost use Rattle.td_tool.specs.Checks.{IsTextOf};
 ghost use Rattle.td_tool.specs.Tracks.{IsTextIfGiven, file_at};
-ghost use Rattle.td_tool.specs.TrackInside.{AreTextsRead, HasFailedAt, HasFailedFor, HasFailedIfGiven, files_at};
+ghost use Rattle.td_tool.specs.TrackInside.{AreTextsRead, HasFailedAt, HasFailedFor};
+ghost use Rattle.td_tool.specs.TrackInside.{HasFailedIfGiven, files_at};
 
 use crate::file_texts::{FILE_LIMIT, FileFault, FileTexts, read_files};
 use crate::role::Role;
@@ -41,7 +42,8 @@ pub fn given(text: &Option<String>) -> Option<&str>
 // Reads the file of a role.
 fn read_one<T: Texts>(alloc: Global, texts: &T, role: Role, path: &str) -> Result<String, FileFault>
     ensures text { IfOk result (λ text. IsTextOf (T.bytes texts.now path.now) (string_bytes text)) }
-    ensures failed { IfErr result (HasFailedFor (file_at (T.bytes texts.now) (T.can_fail texts.now) path.now) role) }
+    ensures failed { IfErr result
+        (HasFailedFor (file_at (T.bytes texts.now) (T.can_fail texts.now) path.now) role) }
 {
     match texts.text(alloc, path, FILE_LIMIT) {
         Ok(text) => Ok(text),
@@ -57,10 +59,12 @@ pub fn read_given<T: Texts>(
     path: Option<&str>,
 ) -> Result<Option<String>, FileFault>
     ensures text { IfOk result (λ text. IsTextIfGiven
-        (option_map (file_at (T.bytes texts.now) (T.can_fail texts.now)) (option_map (λ p. p.now) path.entry))
+        (option_map (file_at (T.bytes texts.now) (T.can_fail texts.now))
+        (option_map (λ p. p.now) path.entry))
         (option_map string_bytes text)) }
     ensures failed { IfErr result (HasFailedIfGiven
-        (option_map (file_at (T.bytes texts.now) (T.can_fail texts.now)) (option_map (λ p. p.now) path.entry)) role) }
+        (option_map (file_at (T.bytes texts.now) (T.can_fail texts.now))
+        (option_map (λ p. p.now) path.entry)) role) }
 {
     match path {
         Some(path) => match read_one(alloc, texts, role, path) {

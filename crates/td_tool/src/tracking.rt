@@ -1,5 +1,6 @@
 //! The two subcommands that read a tracker: `track` and `waves`.
-ghost use Rattle.std.specs.Prelude.{◌≡◌, ◌≤◌, Some, Ok, Err, IfOk, IfErr, length, option_map, string_bytes};
+ghost use Rattle.std.specs.Prelude.{◌≡◌, ◌≤◌, Some, Ok, Err, IfOk, IfErr, length, option_map};
+ghost use Rattle.std.specs.Prelude.{string_bytes};
 ghost use Rattle.td_relation.specs.TableView.{table};
 ghost use Rattle.td_rows.specs.Overlay.{first_missing, overlaid};
 ghost use Rattle.td_rows.specs.declared.key.Key.{Key};
@@ -9,8 +10,12 @@ ghost use Rattle.td_report.specs.Transition.{IsReport};
 ghost use Rattle.td_report.specs.TransitionView as of;
 ghost use Rattle.td_tool.specs.Ending.{ending_of_missing_row};
 ghost use Rattle.td_tool.specs.Limits.{file_limit};
-ghost use Rattle.td_tool.specs.Tracks.{AreReadable, AreRefused, AreRowsOf, EndsSo, IsNoTracker, IsPatternRefused, IsReadableOver, IsRefusedOver, IsStateRefused, RowsSay, TextsSayIt, TrackerSays};
-ghost use Rattle.td_tool.specs.TrackInside.{AreReadableWith, AreRefusedWith, CanReplace, IndicesSay, IsRefusedFor, IsReplaced, OrMemory, files_at, saying_of, texts_of};
+ghost use Rattle.td_tool.specs.Tracks.{AreReadable, AreRefused, AreRowsOf, EndsSo, IsNoTracker};
+ghost use Rattle.td_tool.specs.Tracks.{IsPatternRefused, IsReadableOver, IsRefusedOver};
+ghost use Rattle.td_tool.specs.Tracks.{IsStateRefused, RowsSay, TextsSayIt, TrackerSays};
+ghost use Rattle.td_tool.specs.TrackInside.{AreReadableWith, AreRefusedWith, CanReplace};
+ghost use Rattle.td_tool.specs.TrackInside.{IndicesSay, IsRefusedFor, IsReplaced, OrMemory};
+ghost use Rattle.td_tool.specs.TrackInside.{files_at, saying_of, texts_of};
 
 use crate::checking::write;
 use crate::ending::{
@@ -46,7 +51,9 @@ fn reported(
     chunk: Option<usize>,
 ) -> Result<String, AllocError>
     requires { of.IsMade transition.now }
-    ensures { IfOk result (λ text. IsReport (of.contents_of transition.now) (of.tracking_of transition.now) rows.now (string_bytes text)) }
+    ensures { IfOk result (λ text.
+        IsReport (of.contents_of transition.now) (of.tracking_of transition.now) rows.now
+        (string_bytes text)) }
 {
     match chunk {
         Some(chunk) => transition.report_split(rt, alloc, rows, chunk.max(1)),
@@ -63,7 +70,9 @@ fn told(
     asked: Asked,
 ) -> Result<String, AllocError>
     requires { of.IsMade transition.now }
-    ensures { IfOk result (λ text. saying_of asked (of.contents_of transition.now) (of.tracking_of transition.now) rows.now (string_bytes text)) }
+    ensures { IfOk result (λ text.
+        saying_of asked (of.contents_of transition.now) (of.tracking_of transition.now) rows.now
+        (string_bytes text)) }
 {
     match asked {
         Asked::Report(chunk) => reported(rt, alloc, transition, rows, chunk),
@@ -80,7 +89,8 @@ fn tracker_says(
     tracker: &Tracker<'_>,
     asked: Asked,
 ) -> Result<String, AllocError>
-    ensures { IfOk result (λ text. saying_of asked archive.now (tracking tracker.now) rows.now (string_bytes text)) }
+    ensures { IfOk result (λ text.
+        saying_of asked archive.now (tracking tracker.now) rows.now (string_bytes text)) }
 {
     let transition = Transition::of(alloc, archive, tracker)?;
     told(rt, alloc, &transition, rows, asked)
@@ -106,9 +116,11 @@ fn tracker_text(
     tracker: &str,
     asked: Asked,
 ) -> Result<String, Ending>
-    ensures found { IfOk result (λ text. TrackerSays (saying_of asked) archive.now rows.now tracker.now (string_bytes text)) }
+    ensures found { IfOk result (λ text.
+        TrackerSays (saying_of asked) archive.now rows.now tracker.now (string_bytes text)) }
     ensures refused { IfErr result (OrMemory (IsNoTracker tracker.now)) }
-    ensures only { IfErr result (λ ending. (t : Tracking) → IsTracker tracker.now t → IsPatternRefused tracker.now ending) }
+    ensures only { IfErr result (λ ending.
+        (t : Tracking) → IsTracker tracker.now t → IsPatternRefused tracker.now ending) }
 {
     match Tracker::read(alloc, tracker) {
         Ok(read) => or_no_memory(tracker_says(rt, alloc, archive, rows, &read, asked)),
@@ -120,7 +132,8 @@ fn tracker_text(
 fn put_over(mut rows: Rows, given: Rows) -> Result<Rows, Ending>
     ensures rows { IfOk result (λ new. new ≡ overlaid given rows) }
     ensures none_missing { IfOk result (λ _. (k : Key) → first_missing rows given ≡ Some k → ⊥) }
-    ensures missing { IfErr result (λ ending. (k : Key) × (first_missing rows given ≡ Some k) × (ending ≡ ending_of_missing_row)) }
+    ensures missing { IfErr result (λ ending.
+        (k : Key) × (first_missing rows given ≡ Some k) × (ending ≡ ending_of_missing_row)) }
 {
     match rows.overlay(given) {
         Ok(()) => Ok(rows),
@@ -143,8 +156,11 @@ fn replaced(alloc: Global, rows: Rows, text: &str) -> Result<Rows, Ending>
 // The rows with which a desk opens, with those of a text, if there is one, in their places.
 fn rows_of(alloc: Global, archive: &Archive<'_, '_>, state: Option<&str>) -> Result<Rows, Ending>
     ensures rows { IfOk result (AreRowsOf archive.now (option_map (λ s. s.now) state.entry)) }
-    ensures refused { IfErr result (OrMemory (IsStateRefused archive.now (option_map (λ s. s.now) state.entry))) }
-    ensures only { IfErr result (λ ending. (t : Table) → AreRowsOf archive.now (option_map (λ s. s.now) state.entry) t → ending ≡ Ending.NoMemory) }
+    ensures refused { IfErr result
+        (OrMemory (IsStateRefused archive.now (option_map (λ s. s.now) state.entry))) }
+    ensures only { IfErr result (λ ending.
+        (t : Table) → AreRowsOf archive.now (option_map (λ s. s.now) state.entry) t
+        → ending ≡ Ending.NoMemory) }
 {
     let Ok(rows) = archive.opening_rows() else {
         return Err(Ending::NoMemory);
@@ -165,9 +181,14 @@ fn archive_text(
     tracker: &str,
     asked: Asked,
 ) -> Result<String, Ending>
-    ensures found { IfOk result (λ text. RowsSay (saying_of asked) archive.now (option_map (λ s. s.now) state.entry) tracker.now (string_bytes text)) }
-    ensures refused { IfErr result (OrMemory (IsRefusedOver archive.now (option_map (λ s. s.now) state.entry) tracker.now)) }
-    ensures only { IfErr result (λ ending. IsReadableOver archive.now (option_map (λ s. s.now) state.entry) tracker.now → IsPatternRefused tracker.now ending) }
+    ensures found { IfOk result (λ text.
+        RowsSay (saying_of asked) archive.now (option_map (λ s. s.now) state.entry) tracker.now
+        (string_bytes text)) }
+    ensures refused { IfErr result
+        (OrMemory (IsRefusedOver archive.now (option_map (λ s. s.now) state.entry) tracker.now)) }
+    ensures only { IfErr result (λ ending.
+        IsReadableOver archive.now (option_map (λ s. s.now) state.entry) tracker.now
+        → IsPatternRefused tracker.now ending) }
 {
     match rows_of(alloc, archive, state) {
         Ok(rows) => tracker_text(rt, alloc, archive, &rows, tracker, asked),
@@ -183,9 +204,13 @@ fn indices_text(
     texts: &TrackTexts,
     asked: Asked,
 ) -> Result<String, Ending>
-    ensures found { IfOk result (λ text. IndicesSay (saying_of asked) (table archs.now) (texts_of texts.now) (string_bytes text)) }
-    ensures refused { IfErr result (OrMemory (AreRefusedWith (table archs.now) (texts_of texts.now))) }
-    ensures only { IfErr result (λ ending. AreReadableWith (table archs.now) (texts_of texts.now) → IsPatternRefused (texts_of texts.now).tracker ending) }
+    ensures found { IfOk result (λ text.
+        IndicesSay (saying_of asked) (table archs.now) (texts_of texts.now) (string_bytes text)) }
+    ensures refused { IfErr result
+        (OrMemory (AreRefusedWith (table archs.now) (texts_of texts.now))) }
+    ensures only { IfErr result (λ ending.
+        AreReadableWith (table archs.now) (texts_of texts.now)
+        → IsPatternRefused (texts_of texts.now).tracker ending) }
 {
     let packages = texts.indices.packages.as_str();
     let sources = texts.indices.sources.as_str();
@@ -204,9 +229,11 @@ fn whole_text(
     asked: Asked,
 ) -> Result<String, Ending>
     requires { length (texts_of texts.now).archs ≤ file_limit }
-    ensures found { IfOk result (λ text. TextsSayIt (saying_of asked) (texts_of texts.now) (string_bytes text)) }
+    ensures found { IfOk result (λ text.
+        TextsSayIt (saying_of asked) (texts_of texts.now) (string_bytes text)) }
     ensures refused { IfErr result (OrMemory (AreRefused (texts_of texts.now))) }
-    ensures only { IfErr result (λ ending. AreReadable (texts_of texts.now) → IsPatternRefused (texts_of texts.now).tracker ending) }
+    ensures only { IfErr result (λ ending.
+        AreReadable (texts_of texts.now) → IsPatternRefused (texts_of texts.now).tracker ending) }
 {
     match Archs::read(alloc, texts.indices.archs.as_str()) {
         Ok(archs) => indices_text(rt, alloc, &archs, texts, asked),

@@ -1,6 +1,8 @@
 //! What is wanted in the place of what is refused.
 ghost use Rattle.std.specs.Prelude.{◌≡◌};
-ghost use Rattle.td_tool.specs.Wanted.{wanted_archive, wanted_field, wanted_input, wanted_journal, wanted_key, wanted_simulation, wanted_stanza, wanted_state, wanted_table, wanted_tracker};
+ghost use Rattle.td_tool.specs.Wanted.{wanted_archive, wanted_field, wanted_input, wanted_journal};
+ghost use Rattle.td_tool.specs.Wanted.{wanted_key, wanted_simulation, wanted_stanza, wanted_state};
+ghost use Rattle.td_tool.specs.Wanted.{wanted_table, wanted_tracker};
 
 use crate::input_fault::InputFault;
 use td_indices::{ArchiveFault, IndexField};

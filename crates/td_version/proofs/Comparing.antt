@@ -54,7 +54,15 @@ tail-symbol_onto b (p ∷ ps) = refl
 pub pairs_cmp-symbols_onto : (x y : ℕ) → mark_of x ≡ mark_of y → (ps qs : List Pair)
     → pairs_cmp (symbol_onto x ps) (symbol_onto y qs) ≡ pairs_cmp ps qs
 pairs_cmp-symbols_onto x y e ps qs =
-    rw (pairs_cmp-by_heads (symbol_onto x ps) (symbol_onto y qs), head-symbol_onto x ps, head-symbol_onto y qs, tail-symbol_onto x ps, tail-symbol_onto y qs, e, tied_itself nat_cmp_total (mark_of y))
+    rw (
+      pairs_cmp-by_heads (symbol_onto x ps) (symbol_onto y qs),
+      head-symbol_onto x ps,
+      head-symbol_onto y qs,
+      tail-symbol_onto x ps,
+      tail-symbol_onto y qs,
+      e,
+      tied_itself nat_cmp_total (mark_of y),
+    )
     (sym (pairs_cmp-by_heads ps qs))
 
 pub pairs-digit : (b : ℕ) (t : List ℕ) → is_ascii_digit b ≡ true
@@ -82,8 +90,10 @@ first_mark-symbol b t h = rw h refl
 -- no symbol has the end mark
 pub mark_of-ne : (b : ℕ) → mark_of b ≢ end_mark
 mark_of-ne b =
-    cond_both (eqb b 126) 0 (cond (is_letter b) (b + 2) (b + 258)) (λ (n : ℕ). n ≢ 1) (λ h e. omega arith)
-    (λ h. cond_both (is_letter b) (b + 2) (b + 258) (λ (n : ℕ). n ≢ 1) (λ k e. omega arith) (λ k e. omega arith))
+    cond_both (eqb b 126) 0 (cond (is_letter b) (b + 2) (b + 258)) (λ (n : ℕ). n ≢ 1)
+    (λ h e. omega arith)
+    (λ h. cond_both (is_letter b) (b + 2) (b + 258) (λ (n : ℕ). n ≢ 1) (λ k e. omega arith)
+    (λ k e. omega arith))
 
 -- a part that begins with no symbol: it is empty or begins with a digit
 abbrev pub BeginsNumber : List ℕ → Type 0
@@ -113,8 +123,17 @@ unfolding pairs head first_mark
 marks_head [] = ([], refl)
 marks_head (b ∷ t) =
     elim (cases_Bool (is_ascii_digit b)) [
-      | inl digit ↦ rw digit ([], ap (λ (symbols : List ℕ). map mark_of symbols ++ end_mark ∷ []) (head-digit_onto b (pairs t)))
-      | inr symbol ↦ rw symbol (map mark_of (head (pairs t)).symbols ++ end_mark ∷ [], ap marks (head-symbol_onto b (pairs t)))
+      | inl digit ↦
+          rw digit (
+            [],
+            ap (λ (symbols : List ℕ). map mark_of symbols ++ end_mark ∷ [])
+                (head-digit_onto b (pairs t)),
+          )
+      | inr symbol ↦
+          rw symbol (
+            map mark_of (head (pairs t)).symbols ++ end_mark ∷ [],
+            ap marks (head-symbol_onto b (pairs t)),
+          )
     ]
 
 -- first marks that differ decide
@@ -140,8 +159,10 @@ part_cmp-symbols x y a b same symbol =
           elim (cases_Bool (is_ascii_digit y)) [
             | inl digit ↦ absurd (symbol (same ∙ first_mark-digit y b digit))
             | inr right ↦
-                let marks_same : mark_of x ≡ mark_of y = sym (first_mark-symbol x a left) ∙ same ∙ first_mark-symbol y b right in
-                rw (pairs-symbol x a left, pairs-symbol y b right) (pairs_cmp-symbols_onto x y marks_same (pairs a) (pairs b))
+                let marks_same : mark_of x ≡ mark_of y =
+                sym (first_mark-symbol x a left) ∙ same ∙ first_mark-symbol y b right in
+                rw (pairs-symbol x a left, pairs-symbol y b right)
+                (pairs_cmp-symbols_onto x y marks_same (pairs a) (pairs b))
           ]
     ]
 
@@ -152,7 +173,8 @@ record HeadNumber (t : List ℕ) : Type 0 where
   is : head (pairs t) ≡ record { symbols = []; digits = first_digits t }
   rest : tail (pairs t) ≡ pairs (after_digits t)
 
-pub digit_before_symbol : (b c : ℕ) (ps : List Pair) → digit_onto b (symbol_onto c ps) ≡ record { symbols = []; digits = b ∷ [] } ∷ symbol_onto c ps
+pub digit_before_symbol : (b c : ℕ) (ps : List Pair)
+    → digit_onto b (symbol_onto c ps) ≡ record { symbols = []; digits = b ∷ [] } ∷ symbol_onto c ps
 digit_before_symbol b c [] = refl
 digit_before_symbol b c (p ∷ ps) = refl
 
@@ -163,7 +185,8 @@ digit_before_digits : (b : ℕ) (digits : List ℕ) (ps : List Pair) → head ps
 } → (head (digit_onto b ps)
     ≡ record { symbols = []; digits = b ∷ digits }) × (tail (digit_onto b ps) ≡ tail ps)
 unfolding head tail
-digit_before_digits b digits [] e = (ap (λ (p : Pair). record { symbols = []; digits = b ∷ p.digits }) e, refl)
+digit_before_digits b digits [] e =
+    (ap (λ (p : Pair). record { symbols = []; digits = b ∷ p.digits }) e, refl)
 digit_before_digits b digits (p ∷ ps) e = rw e (refl, refl)
 
 head_number : (t : List ℕ) → BeginsNumber t → HeadNumber t
@@ -177,7 +200,10 @@ head_number (b ∷ c ∷ t) h =
           let both = digit_before_digits b (first_digits (c ∷ t)) (pairs (c ∷ t)) further.is in
           record { is = rw h both.0; rest = rw h (both.1 ∙ further.rest) }
       | inr symbol ↦
-          record { is = rw (h, symbol, digit_before_symbol b c (pairs t)) refl; rest = rw (h, symbol, digit_before_symbol b c (pairs t), symbol) refl }
+          record {
+            is = rw (h, symbol, digit_before_symbol b c (pairs t)) refl;
+            rest = rw (h, symbol, digit_before_symbol b c (pairs t), symbol) refl;
+          }
     ]
 
 -- numbers in front decide where they differ, and else what follows them
@@ -267,8 +293,10 @@ pub nat_cmp-same : (m n : ℕ) → not (eqb (ordering_index (nat_cmp m n)) 1) �
 nat_cmp-same m n h =
     elim (cases_order m n) [
       | inl same ↦ same
-      | inr (inl lt) ↦ absurd (let e = ap (λ o. not (eqb (ordering_index o) 1)) (nat_cmp_less m n lt) in cc)
-      | inr (inr gt) ↦ absurd (let e = ap (λ o. not (eqb (ordering_index o) 1)) (nat_cmp_greater m n gt) in cc)
+      | inr (inl lt) ↦
+          absurd (let e = ap (λ o. not (eqb (ordering_index o) 1)) (nat_cmp_less m n lt) in cc)
+      | inr (inr gt) ↦
+          absurd (let e = ap (λ o. not (eqb (ordering_index o) 1)) (nat_cmp_greater m n gt) in cc)
     ]
 
 pub nonempty_symbol : (t : List ℕ) → first_mark t ≢ end_mark → 1 ≤ length t
@@ -301,11 +329,15 @@ length-after_digits-lt (b ∷ t) h some = rw h (let le = length-after_digits t i
 -- where the first marks differ, their order is the parts' order
 pub marks_decide : (a b : List ℕ) (o : Ordering) → o ≡ nat_cmp (first_mark a) (first_mark b)
     → not (eqb (ordering_index o) 1) ≡ true → o ≡ part_cmp a b
-marks_decide a b o is differ = sym (first_decides o (part_cmp a b) differ) ∙ ap (λ p. ordering_then p (part_cmp a b)) is ∙ sym (part_cmp-by_marks a b)
+marks_decide a b o is differ =
+    sym (first_decides o (part_cmp a b) differ) ∙ ap (λ p. ordering_then p (part_cmp a b)) is
+    ∙ sym (part_cmp-by_marks a b)
 
 pub marks_same : (a b : List ℕ) (o : Ordering) → o ≡ nat_cmp (first_mark a) (first_mark b)
     → not (eqb (ordering_index o) 1) ≡ false → first_mark a ≡ first_mark b
-marks_same a b o is same = nat_cmp-same (first_mark a) (first_mark b) (sym (ap (λ p. not (eqb (ordering_index p) 1)) is) ∙ same)
+marks_same a b o is same =
+    nat_cmp-same (first_mark a) (first_mark b)
+    (sym (ap (λ p. not (eqb (ordering_index p) 1)) is) ∙ same)
 
 -- the numbers in front, and what follows them
 numbers : (a b : List ℕ) (x y : List ℕ) (o : Ordering) → first_mark a ≡ end_mark
@@ -313,21 +345,24 @@ numbers : (a b : List ℕ) (x y : List ℕ) (o : Ordering) → first_mark a ≡ 
     → o ≡ nat_cmp (digits_value 10 x) (digits_value 10 y)
     → part_cmp a b ≡ ordering_then o (part_cmp (after_digits a) (after_digits b))
 numbers a b x y o left right h k is =
-    rw (is, h, k) (part_cmp-numbers a b (BeginsNumber-first_mark a left) (BeginsNumber-first_mark b right))
+    rw (is, h, k)
+    (part_cmp-numbers a b (BeginsNumber-first_mark a left) (BeginsNumber-first_mark b right))
 
 pub numbers_decide : (a b : List ℕ) (x y : List ℕ) (o : Ordering) → first_mark a ≡ end_mark
     → first_mark b ≡ end_mark → x ≡ first_digits a → y ≡ first_digits b
     → o ≡ nat_cmp (digits_value 10 x) (digits_value 10 y) → not (eqb (ordering_index o) 1) ≡ true
     → o ≡ part_cmp a b
 numbers_decide a b x y o left right h k is differ =
-    sym (first_decides o (part_cmp (after_digits a) (after_digits b)) differ) ∙ sym (numbers a b x y o left right h k is)
+    sym (first_decides o (part_cmp (after_digits a) (after_digits b)) differ)
+    ∙ sym (numbers a b x y o left right h k is)
 
 pub numbers_same : (a b : List ℕ) (x y : List ℕ) (o : Ordering) → first_mark a ≡ end_mark
     → first_mark b ≡ end_mark → x ≡ first_digits a → y ≡ first_digits b
     → o ≡ nat_cmp (digits_value 10 x) (digits_value 10 y) → not (eqb (ordering_index o) 1) ≡ false
     → part_cmp (after_digits a) (after_digits b) ≡ part_cmp a b
 numbers_same a b x y o left right h k is same =
-    sym (numbers a b x y o left right h k is ∙ equal_passes o (part_cmp (after_digits a) (after_digits b)) same)
+    sym (numbers a b x y o left right h k is
+    ∙ equal_passes o (part_cmp (after_digits a) (after_digits b)) same)
 
 -- one byte at least goes
 pub numbers_shrink : (a b : List ℕ) → first_mark a ≡ end_mark → first_mark b ≡ end_mark → 0
@@ -337,7 +372,9 @@ numbers_shrink a b left right some =
     let y = length-after_digits b in
     elim (cases_lt 0 (length a)) [
       | inl lt ↦ let z = length-after_digits-lt a (BeginsNumber-first_mark a left) lt in omega arith
-      | inr none ↦ let z = length-after_digits-lt b (BeginsNumber-first_mark b right) (omega arith) in omega arith
+      | inr none ↦
+          let z = length-after_digits-lt b (BeginsNumber-first_mark b right) (omega arith) in
+          omega arith
     ]
 
 pub part_cmp-empty : (a b : List ℕ) → eqb (length a) 0 ≡ true → eqb (length b) 0 ≡ true

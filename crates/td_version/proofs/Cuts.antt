@@ -64,13 +64,23 @@ cut_last_is c (x ∷ t) = last_onto c x t (cut_last c t) (cut_last_is c t)
 
 -- the clause of `rsplit_once` at a character
 abbrev pub IsRsplitOnceResult : ℕ → List ℕ → Option (Bor (List ℕ) × Bor (List ℕ)) → Type 0
-IsRsplitOnceResult c bs r = MatchOption r (RFindsChar c bs None) (λ x. (i : ℕ) × (j : ℕ) × RFindsChar c bs (Some (i, j)) × (x.0.now ≡ take i bs) × (x.1.now ≡ drop j bs) × (i ≤ j) × (length x.0.now ≡ i) × (length x.1.now + j ≡ length bs))
+IsRsplitOnceResult c bs r =
+    MatchOption r (RFindsChar c bs None)
+    (λ x. (i : ℕ) × (j : ℕ) × RFindsChar c bs (Some (i, j)) × (x.0.now ≡ take i bs)
+    × (x.1.now ≡ drop j bs) × (i ≤ j) × (length x.0.now ≡ i) × (length x.1.now + j ≡ length bs))
 
 -- what `rsplit_once` gives is the text cut at the last c
 pub cut_last-from_split : (c : ℕ) (t : List ℕ) (r : Option (Bor (List ℕ) × Bor (List ℕ))) → c < 128
     → IsRsplitOnceResult c t r → option_map (λ x. (x.0.now, x.1.now)) r ≡ cut_last c t
-cut_last-from_split c t None small s = sym (cut_last_none c t (Without-from_index c t (λ i lt. NoCharPasses-char c t i s small lt)))
+cut_last-from_split c t None small s =
+    sym (cut_last_none c t (Without-from_index c t (λ i lt. NoCharPasses-char c t i s small lt)))
 cut_last-from_split c t (Some x) small s =
-    let whole : t ≡ x.0.now ++ c ∷ x.1.now = sym (take-append-drop s.0 t) ∙ ap (λ (l : List ℕ). take s.0 t ++ l) (drop_at_char c t s.0 s.1 s.2.1 small) ∙ ap (λ (l : List ℕ). l ++ c ∷ drop s.1 t) (sym s.3) ∙ ap (λ (l : List ℕ). x.0.now ++ c ∷ l) (sym s.4) in
-    let none : Without c x.1.now = Without-from_index c x.1.now (λ i lt. rw s.4 (NoCharPasses-char c (drop s.1 t) i s.2.0 small (let lt' = rw s.4 at lt in lt'))) in
+    let whole : t ≡ x.0.now ++ c ∷ x.1.now =
+    sym (take-append-drop s.0 t)
+    ∙ ap (λ (l : List ℕ). take s.0 t ++ l) (drop_at_char c t s.0 s.1 s.2.1 small)
+    ∙ ap (λ (l : List ℕ). l ++ c ∷ drop s.1 t) (sym s.3)
+    ∙ ap (λ (l : List ℕ). x.0.now ++ c ∷ l) (sym s.4) in
+    let none : Without c x.1.now =
+    Without-from_index c x.1.now (λ i lt.
+    rw s.4 (NoCharPasses-char c (drop s.1 t) i s.2.0 small (let lt' = rw s.4 at lt in lt'))) in
     sym (ap (cut_last c) whole ∙ cut_last-at c x.0.now x.1.now none)

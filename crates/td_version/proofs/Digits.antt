@@ -32,7 +32,8 @@ unfolding without_zeros
 value-without_zeros [] = refl
 value-without_zeros (b ∷ a) =
     elim (eqb_tells b 48) [
-      | inl is ↦ rw is.0 (value-without_zeros a ∙ ap (λ (d : ℕ). digits_value 10 (d ∷ a)) (sym is.1))
+      | inl is ↦
+          rw is.0 (value-without_zeros a ∙ ap (λ (d : ℕ). digits_value 10 (d ∷ a)) (sym is.1))
       | inr other ↦ rw other.0 refl
     ]
 
@@ -52,7 +53,9 @@ less : (a b : List ℕ) (n m : ℕ) → n < m → length a ≡ length b → AllD
 less [] [] n m lt len h = lt
 less [] (y ∷ b) n m lt len h = absurd (omega arith)
 less (x ∷ a) [] n m lt len h = absurd (omega arith)
-less (x ∷ a) (y ∷ b) n m lt len h = less a b (n * 10 + digit_value x) (m * 10 + digit_value y) (let small = h.0 in omega arith) (omega arith) h.1
+less (x ∷ a) (y ∷ b) n m lt len h =
+    less a b (n * 10 + digit_value x) (m * 10 + digit_value y) (let small = h.0 in omega arith)
+    (omega arith) h.1
 
 -- no digits are as great as a front above 0 over as many digits or more
 fewer : (a b : List ℕ) (m : ℕ) → 0 < m → length a ≤ length b → AllDigits 10 a
@@ -74,7 +77,8 @@ shorter a (y ∷ b) h k lt =
     let q = tells_all_ascii_digits.parts y b k in
     elim (eqb_tells y 48) [
       | inl is ↦
-          let e : digits_value 10 (48 ∷ b) ≡ digits_value 10 (y ∷ b) = ap (λ (d : ℕ). digits_value 10 (d ∷ b)) (sym is.1) in
+          let e : digits_value 10 (48 ∷ b) ≡ digits_value 10 (y ∷ b) =
+          ap (λ (d : ℕ). digits_value 10 (d ∷ b)) (sym is.1) in
           let lt' = rw is.0 at lt in
           let l : digits_value 10 a < digits_value 10 b = shorter a b h q.1 lt' in
           omega (arith, l, e)
@@ -99,12 +103,15 @@ alike (x ∷ a) (y ∷ b) n len h k =
     let dy = digit_value_digit y q.0 in
     let same : length a ≡ length b = omega arith in
     elim (cases_order x y) [
-      | inl is ↦ rw (is, tied_itself nat_cmp_total y) (alike a b (n * 10 + digit_value y) same p.1 q.1)
+      | inl is ↦
+          rw (is, tied_itself nat_cmp_total y) (alike a b (n * 10 + digit_value y) same p.1 q.1)
       | inr (inl lt) ↦
-          let l = less a b (n * 10 + digit_value x) (n * 10 + digit_value y) (omega arith) same (decimal_model.to a p.1) in
+          let l = less a b (n * 10 + digit_value x) (n * 10 + digit_value y) (omega arith) same
+          (decimal_model.to a p.1) in
           rw (nat_cmp_less x y lt) (sym (nat_cmp_less _ _ l))
       | inr (inr gt) ↦
-          let l = less b a (n * 10 + digit_value y) (n * 10 + digit_value x) (omega arith) (sym same) (decimal_model.to b q.1) in
+          let l = less b a (n * 10 + digit_value y) (n * 10 + digit_value x) (omega arith)
+          (sym same) (decimal_model.to b q.1) in
           rw (nat_cmp_greater x y gt) (sym (nat_cmp_greater _ _ l))
     ]
 
@@ -120,13 +127,23 @@ compared a b h k =
     let y = value-without_zeros b in
     elim (cases_order (length (without_zeros a)) (length (without_zeros b))) [
       | inl same ↦
-          rw (same, tied_itself nat_cmp_total (length (without_zeros b)), alike (without_zeros a) (without_zeros b) 0 same p q, x, y) refl
+          rw (
+            same,
+            tied_itself nat_cmp_total (length (without_zeros b)),
+            alike (without_zeros a) (without_zeros b) 0 same p q,
+            x,
+            y,
+          ) refl
       | inr (inl lt) ↦
-          let l : digits_value 10 (without_zeros a) < digits_value 10 b = shorter (without_zeros a) b p k lt in
-          rw (nat_cmp_less _ _ lt) (sym (nat_cmp_less (digits_value 10 a) (digits_value 10 b) (omega arith)))
+          let l : digits_value 10 (without_zeros a) < digits_value 10 b =
+          shorter (without_zeros a) b p k lt in
+          rw (nat_cmp_less _ _ lt)
+          (sym (nat_cmp_less (digits_value 10 a) (digits_value 10 b) (omega arith)))
       | inr (inr gt) ↦
-          let l : digits_value 10 (without_zeros b) < digits_value 10 a = shorter (without_zeros b) a q h gt in
-          rw (nat_cmp_greater _ _ gt) (sym (nat_cmp_greater (digits_value 10 a) (digits_value 10 b) (omega arith)))
+          let l : digits_value 10 (without_zeros b) < digits_value 10 a =
+          shorter (without_zeros b) a q h gt in
+          rw (nat_cmp_greater _ _ gt)
+          (sym (nat_cmp_greater (digits_value 10 a) (digits_value 10 b) (omega arith)))
     ]
 
 -- ---- the loop over zeros
@@ -156,7 +173,9 @@ rest-at_one t = grind (arith, common_steps)
 pub by_length : (a b : List ℕ) → all_ascii_digits a ≡ true → all_ascii_digits b ≡ true
     → nat_cmp (length (without_zeros a)) (length (without_zeros b)) ≢ Equal → nat_cmp (length
     (without_zeros a)) (length (without_zeros b)) ≡ nat_cmp (digits_value 10 a) (digits_value 10 b)
-by_length a b h k differ = sym (first (nat_cmp (length (without_zeros a)) (length (without_zeros b))) (slice_cmp nat_cmp (without_zeros a) (without_zeros b)) differ) ∙ compared a b h k
+by_length a b h k differ =
+    sym (first (nat_cmp (length (without_zeros a)) (length (without_zeros b)))
+    (slice_cmp nat_cmp (without_zeros a) (without_zeros b)) differ) ∙ compared a b h k
   where
     first : (o p : Ordering) → o ≢ Equal → ordering_then o p ≡ o
     first Less p h = refl

@@ -26,7 +26,8 @@ pub upstream_step : (p : Pieces) (has : Bool) (bad : Option ℕ) (r : Result Uni
     → r ≡ checked p.upstream.now p.start bad → part_at (is_upstream_byte
     (is_some (written_of p).epoch)) (upstream_start (written_of p)) p.upstream.now ≡ r
 upstream_step p has bad r start is place answer =
-    ap (λ (h : Bool). part_at (is_upstream_byte h) (upstream_start (written_of p)) p.upstream.now) (is_some-option_map (λ x. x.now) p.epoch ∙ sym is)
+    ap (λ (h : Bool). part_at (is_upstream_byte h) (upstream_start (written_of p)) p.upstream.now)
+    (is_some-option_map (λ x. x.now) p.epoch ∙ sym is)
     ∙ ap (λ (s : ℕ). part_at (is_upstream_byte has) s p.upstream.now) (sym start)
     ∙ ap (λ (o : Option ℕ). checked p.upstream.now p.start o) (sym place)
     ∙ sym answer
@@ -37,7 +38,8 @@ pub revision_step : (p : Pieces) (r : Result Unit VersionFault)
     → r ≡ revision_at (p.start + length p.upstream.now + 1) (written_of p).revision
     → revision_at (revision_start (written_of p)) (written_of p).revision ≡ r
 revision_step p r start answer =
-    ap (λ (s : ℕ). revision_at (s + length p.upstream.now + 1) (written_of p).revision) (sym start) ∙ sym answer
+    ap (λ (s : ℕ). revision_at (s + length p.upstream.now + 1) (written_of p).revision) (sym start)
+    ∙ sym answer
 
 -- ---- the lengths of the pieces
 
@@ -57,7 +59,8 @@ epoch-with_revision epoch rest (Some p) = refl
 pub start-with_revision : (w : Written) (digits rest : List ℕ)
     → w ≡ with_revision (Some digits) rest (cut_last 45 rest) → upstream_start w ≡ length digits + 1
 start-with_revision w digits rest is =
-    ap upstream_start is ∙ ap (λ (epoch : Option (List ℕ)). length (epoch_front epoch)) (epoch-with_revision (Some digits) rest (cut_last 45 rest)) ∙ length-append digits (58 ∷ [])
+    ap upstream_start is ∙ ap (λ (epoch : Option (List ℕ)). length (epoch_front epoch))
+    (epoch-with_revision (Some digits) rest (cut_last 45 rest)) ∙ length-append digits (58 ∷ [])
 
 pub length-with_revision : (text : List ℕ) (w : Written) (digits rest : List ℕ)
     → cut 58 text ≡ Some (digits, rest) → w ≡ with_revision (Some digits) rest (cut_last 45 rest)

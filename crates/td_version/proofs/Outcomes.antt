@@ -44,25 +44,41 @@ cut_with text epoch rest (Some p) last whole colon = record {
 cut_by : (text : List ℕ) (o : Option (List ℕ × List ℕ)) → IsFirstCut 58 text o
     → IsCut text (with_epoch text o)
 cut_by text None first = cut_with text None text (cut_last 45 text) (cut_last_is 45 text) refl first
-cut_by text (Some p) first = cut_with text (Some p.0) p.1 (cut_last 45 p.1) (cut_last_is 45 p.1) (first.0 ∙ sym (append_assoc p.0 (58 ∷ []) p.1)) first.1
+cut_by text (Some p) first =
+    cut_with text (Some p.0) p.1 (cut_last 45 p.1) (cut_last_is 45 p.1)
+    (first.0 ∙ sym (append_assoc p.0 (58 ∷ []) p.1)) first.1
 
 -- a text is cut into its pieces ..
 pub pieces_cut : (text : List ℕ) → IsCut text (pieces text)
 unfolding pieces
 pieces_cut text = cut_by text (cut 58 text) (cut_is 58 text)
 
-revision_of : (epoch : Option (List ℕ)) (upstream : List ℕ) (revision : Option (List ℕ)) → IsLastHyphen upstream revision → with_revision epoch (upstream ++ revision_back revision) (cut_last 45 (upstream ++ revision_back revision)) ≡ record { epoch = epoch; upstream = upstream; revision = revision }
+revision_of : (epoch : Option (List ℕ)) (upstream : List ℕ) (revision : Option (List ℕ))
+    → IsLastHyphen upstream revision
+    → with_revision epoch (upstream ++ revision_back revision)
+    (cut_last 45 (upstream ++ revision_back revision))
+    ≡ record { epoch = epoch; upstream = upstream; revision = revision }
 revision_of epoch upstream None last = rw (append-nil, cut_last_none 45 upstream last) refl
 revision_of epoch upstream (Some revision) last = rw (cut_last-at 45 upstream revision last) refl
 
-pieces_of : (epoch : Option (List ℕ)) (upstream : List ℕ) (revision : Option (List ℕ)) → IsFirstColon epoch (upstream ++ revision_back revision) → IsLastHyphen upstream revision → pieces (epoch_front epoch ++ (upstream ++ revision_back revision)) ≡ record { epoch = epoch; upstream = upstream; revision = revision }
+pieces_of : (epoch : Option (List ℕ)) (upstream : List ℕ) (revision : Option (List ℕ))
+    → IsFirstColon epoch (upstream ++ revision_back revision) → IsLastHyphen upstream revision
+    → pieces (epoch_front epoch ++ (upstream ++ revision_back revision))
+    ≡ record { epoch = epoch; upstream = upstream; revision = revision }
 unfolding pieces
-pieces_of None upstream revision first last = rw (cut_none 58 (upstream ++ revision_back revision) first) (revision_of None upstream revision last)
-pieces_of (Some digits) upstream revision first last = rw (append_assoc digits (58 ∷ []) (upstream ++ revision_back revision), cut-at 58 digits (upstream ++ revision_back revision) first) (revision_of (Some digits) upstream revision last)
+pieces_of None upstream revision first last =
+    rw (cut_none 58 (upstream ++ revision_back revision) first)
+    (revision_of None upstream revision last)
+pieces_of (Some digits) upstream revision first last =
+    rw (
+      append_assoc digits (58 ∷ []) (upstream ++ revision_back revision),
+      cut-at 58 digits (upstream ++ revision_back revision) first,
+    ) (revision_of (Some digits) upstream revision last)
 
 -- .. and into no others
 pub pieces_only : (text : List ℕ) (w : Written) → IsCut text w → pieces text ≡ w
-pieces_only text w cut = ap pieces cut.joined ∙ pieces_of w.epoch w.upstream w.revision cut.first_colon cut.last_hyphen
+pieces_only text w cut =
+    ap pieces cut.joined ∙ pieces_of w.epoch w.upstream w.revision cut.first_colon cut.last_hyphen
 
 -- ---- the checks of a part
 
@@ -87,7 +103,11 @@ part_fits : (may : ℕ → Bool) (start : ℕ) (part : List ℕ) → is_part may
 part_fits may start [] h = absurd cc
 part_fits may start (x ∷ part) h =
     let p = and_parts (ltb 0 (length (x ∷ part))) (list_all may (x ∷ part)) h in
-    rw (ne_eqb (length (x ∷ part)) 0 (λ e. omega arith), all_pass may (x ∷ part) p.1, le-ltb (length (x ∷ part)) (length (x ∷ part)) (omega arith)) refl
+    rw (
+      ne_eqb (length (x ∷ part)) 0 (λ e. omega arith),
+      all_pass may (x ∷ part) p.1,
+      le-ltb (length (x ∷ part)) (length (x ∷ part)) (omega arith),
+    ) refl
 
 part_empty : (may : ℕ → Bool) (start : ℕ) (part : List ℕ) → part ≡ []
     → part_at may start part ≡ Err Empty
@@ -96,7 +116,8 @@ part_empty may start part h = rw h refl
 part_bad : (may : ℕ → Bool) (start : ℕ) (part : List ℕ) (i : ℕ) → position (λ b. not (may b)) part
     ≡ Some i → part_at may start part ≡ Err (BadCharacter (start + i))
 part_bad may start [] i h = absurd cc
-part_bad may start (x ∷ part) i h = rw (ne_eqb (length (x ∷ part)) 0 (λ e. omega arith)) (ap (placed start) h)
+part_bad may start (x ∷ part) i h =
+    rw (ne_eqb (length (x ∷ part)) 0 (λ e. omega arith)) (ap (placed start) h)
 
 -- a part fits, is empty, or has a first bad byte
 data PartCase (may : ℕ → Bool) (part : List ℕ) : Type 0 where
@@ -109,7 +130,9 @@ part_case may [] = empty refl
 part_case may (x ∷ part) =
     elim (cases_Bool (list_all may (x ∷ part))) [
       | inl all ↦ fits (rw (lt-ltb 0 (length (x ∷ part)) (omega arith), all) refl)
-      | inr fails ↦ bad (position_or_len (λ b. not (may b)) (x ∷ part)) (rw (lt-ltb _ _ (some_fails may (x ∷ part) fails)) refl)
+      | inr fails ↦
+          bad (position_or_len (λ b. not (may b)) (x ∷ part))
+          (rw (lt-ltb _ _ (some_fails may (x ∷ part) fails)) refl)
     ]
 
 -- ---- the checks of a whole
@@ -140,22 +163,51 @@ revision_fits start (Some part) h = part_fits is_revision_byte start part h
 
 -- what the checks answer to these pieces
 abbrev IsOutcome : Written → Result Parts VersionFault → Type 0
-IsOutcome w (Ok p) = EpochFits w.epoch × UpstreamFits w × RevisionFits w.revision × (p ≡ parts_written w)
+IsOutcome w (Ok p) =
+    EpochFits w.epoch × UpstreamFits w × RevisionFits w.revision × (p ≡ parts_written w)
 IsOutcome w (Err fault) = HasFault w fault
 
 judged_only : (w : Written) (r : Result Parts VersionFault) → IsOutcome w r → judged w ≡ r
 unfolding judged revision_at
-judged_only w (Ok p) o = rw (epoch_fits w.epoch o.0, part_fits (is_upstream_byte (is_some w.epoch)) (upstream_start w) w.upstream o.1, revision_fits (revision_start w) w.revision o.2, o.3) refl
+judged_only w (Ok p) o =
+    rw (
+      epoch_fits w.epoch o.0,
+      part_fits (is_upstream_byte (is_some w.epoch)) (upstream_start w) w.upstream o.1,
+      revision_fits (revision_start w) w.revision o.2,
+      o.3,
+    ) refl
 judged_only w (Err BadEpoch) o = rw (epoch_bad w.epoch o) refl
 judged_only w (Err Empty) o =
     elim o.1 [
-      | inl none ↦ rw (epoch_fits w.epoch o.0, part_empty (is_upstream_byte (is_some w.epoch)) (upstream_start w) w.upstream none) refl
-      | inr later ↦ rw (epoch_fits w.epoch o.0, part_fits (is_upstream_byte (is_some w.epoch)) (upstream_start w) w.upstream later.0, later.1) refl
+      | inl none ↦
+          rw (
+            epoch_fits w.epoch o.0,
+            part_empty (is_upstream_byte (is_some w.epoch)) (upstream_start w) w.upstream none,
+          ) refl
+      | inr later ↦
+          rw (
+            epoch_fits w.epoch o.0,
+            part_fits (is_upstream_byte (is_some w.epoch)) (upstream_start w) w.upstream later.0,
+            later.1,
+          ) refl
     ]
 judged_only w (Err (BadCharacter place)) o =
     elim o.1 [
-      | inl early ↦ rw (epoch_fits w.epoch o.0, part_bad (is_upstream_byte (is_some w.epoch)) (upstream_start w) w.upstream early.0 early.1, early.2) refl
-      | inr later ↦ rw (epoch_fits w.epoch o.0, part_fits (is_upstream_byte (is_some w.epoch)) (upstream_start w) w.upstream later.0, later.1.1, part_bad is_revision_byte (revision_start w) later.1.0 later.1.2.0 later.1.2.1, later.1.2.2) refl
+      | inl early ↦
+          rw (
+            epoch_fits w.epoch o.0,
+            part_bad (is_upstream_byte (is_some w.epoch)) (upstream_start w) w.upstream early.0
+                early.1,
+            early.2,
+          ) refl
+      | inr later ↦
+          rw (
+            epoch_fits w.epoch o.0,
+            part_fits (is_upstream_byte (is_some w.epoch)) (upstream_start w) w.upstream later.0,
+            later.1.1,
+            part_bad is_revision_byte (revision_start w) later.1.0 later.1.2.0 later.1.2.1,
+            later.1.2.2,
+          ) refl
     ]
 
 -- a revision is missing, fits, is empty, or has a first bad byte
@@ -187,7 +239,10 @@ outcome w =
                 elim (revision_case w.revision) [
                   | sound h ↦ (Ok (parts_written w), (epoch, upstream, h, refl))
                   | blank h ↦ (Err Empty, (epoch, inr (upstream, h)))
-                  | faulty part is i h ↦ (Err (BadCharacter (revision_start w + i)), (epoch, inr (upstream, (part, is, (i, h, refl)))))
+                  | faulty part is i h ↦ (
+                    Err (BadCharacter (revision_start w + i)),
+                    (epoch, inr (upstream, (part, is, (i, h, refl)))),
+                  )
                 ]
           ]
     ]
@@ -200,14 +255,24 @@ judged_is w = let o = outcome w in subst (IsOutcome w) (sym (judged_only w o.0 o
 pub read_found : (text : List ℕ) (p : Parts) → reading text ≡ Ok p → IsVersion text p
 read_found text p e =
     let o = subst (IsOutcome (pieces text)) e (judged_is (pieces text)) in
-    record { written = pieces text; cut = pieces_cut text; epoch = o.0; upstream = o.1; revision = o.2; parts = o.3 }
+    record {
+      written = pieces text;
+      cut = pieces_cut text;
+      epoch = o.0;
+      upstream = o.1;
+      revision = o.2;
+      parts = o.3;
+    }
 
 pub read_only : (text : List ℕ) (p : Parts) → IsVersion text p → reading text ≡ Ok p
-read_only text p v = ap judged (pieces_only text v.written v.cut) ∙ judged_only v.written (Ok p) (v.epoch, v.upstream, v.revision, v.parts)
+read_only text p v =
+    ap judged (pieces_only text v.written v.cut)
+    ∙ judged_only v.written (Ok p) (v.epoch, v.upstream, v.revision, v.parts)
 
 pub read_fault : (text : List ℕ) (fault : VersionFault) → reading text ≡ Err fault
     → IsFirstFault text fault
-read_fault text fault e = (pieces text, pieces_cut text, subst (IsOutcome (pieces text)) e (judged_is (pieces text)))
+read_fault text fault e =
+    (pieces text, pieces_cut text, subst (IsOutcome (pieces text)) e (judged_is (pieces text)))
 
 pub read_refused : (text : List ℕ) (fault : VersionFault) → IsFirstFault text fault
     → reading text ≡ Err fault
@@ -254,6 +319,9 @@ pub judged-revision : (w : Written) (n : ℕ) (fault : VersionFault) → epoch_a
 unfolding judged
 judged-revision w n fault e u v = rw (e, u, v) refl
 
-pub judged-whole : (w : Written) (n : ℕ) → epoch_at w.epoch ≡ Ok n → part_at (is_upstream_byte (is_some w.epoch)) (upstream_start w) w.upstream ≡ Ok tt → revision_at (revision_start w) w.revision ≡ Ok tt → judged w ≡ Ok (record { epoch = n; upstream = w.upstream; revision = w.revision })
+pub judged-whole : (w : Written) (n : ℕ) → epoch_at w.epoch ≡ Ok n
+    → part_at (is_upstream_byte (is_some w.epoch)) (upstream_start w) w.upstream ≡ Ok tt
+    → revision_at (revision_start w) w.revision ≡ Ok tt
+    → judged w ≡ Ok (record { epoch = n; upstream = w.upstream; revision = w.revision })
 unfolding judged
 judged-whole w n e u v = rw (e, u, v) refl

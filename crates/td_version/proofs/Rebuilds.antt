@@ -34,7 +34,8 @@ rebuild_found text base n e =
     let p = chained _ _ _ e in
     let digits = chained _ _ _ p.2 in
     let value = chained _ _ _ digits.2 in
-    let tested = when_none ((eqb (length p.0.0) 0) || (eqb value.0 0)) (Some (p.0.0, value.0)) (base, n) value.2 in
+    let tested = when_none ((eqb (length p.0.0) 0) || (eqb value.0 0)) (Some (p.0.0, value.0))
+    (base, n) value.2 in
     let some = or_parts (eqb (length p.0.0) 0) (eqb value.0 0) tested.0 in
     let same = some_is (p.0.0, value.0) (base, n) tested.1 in
     let cut = subst (IsLastCut 43 text) p.1 (cut_last_is 43 text) in
@@ -43,7 +44,10 @@ rebuild_found text base n e =
     let number_some : value.0 ≢ 0 = eqb-false value.0 0 some.1 in
     let number : 0 < value.0 = above_zero value.0 number_some in
     let based : 0 < length p.0.0 = above_zero (length p.0.0) base_some in
-    let suffix : 43 ∷ p.0.1 ≡ rebuild_suffix value.0 = ap (λ (l : List ℕ). 43 ∷ l) (strip_found (codes "b") p.0.1 digits.0 digits.1 ∙ ap (λ (l : List ℕ). codes "b" ++ l) read.0) ∙ sym (suffix-digits value.0 number) in
+    let suffix : 43 ∷ p.0.1 ≡ rebuild_suffix value.0 =
+    ap (λ (l : List ℕ). 43 ∷ l)
+    (strip_found (codes "b") p.0.1 digits.0 digits.1 ∙ ap (λ (l : List ℕ). codes "b" ++ l) read.0)
+    ∙ sym (suffix-digits value.0 number) in
     subst (λ (x : List ℕ × ℕ). IsSplit text x.0 x.1) same (record {
       spelled = cut.0 ∙ ap (λ (l : List ℕ). p.0.0 ++ l) suffix;
       number = number;
@@ -57,7 +61,8 @@ unfolding rebuild_at
 rebuild_again base n based some bounded =
     rw (
       suffix-digits n some,
-      cut_last-at 43 base (codes "b" ++ decimal n) (λ e. omega arith, Without-decimal 43 n (lit< tt) (omega arith)),
+      cut_last-at 43 base (codes "b" ++ decimal n)
+          (λ e. omega arith, Without-decimal 43 n (lit< tt) (omega arith)),
       strip_again (codes "b") (decimal n),
       (number_exact 9999 (lit< tt)).again n bounded,
       ne_eqb (length base) 0 (λ e. omega arith),
@@ -71,7 +76,8 @@ part_again part n some bounded =
     let found : rebuilt_from (rebuild_text part n) ≡ Some part =
     rw (
       suffix-digits n some,
-      cut_last-at 43 part (codes "b" ++ decimal n) (λ e. omega arith, Without-decimal 43 n (lit< tt) (omega arith)),
+      cut_last-at 43 part (codes "b" ++ decimal n)
+          (λ e. omega arith, Without-decimal 43 n (lit< tt) (omega arith)),
       strip_again (codes "b") (decimal n),
       (number_exact 9999 (lit< tt)).again n bounded,
       ne_eqb n 0 (λ e. omega arith),
@@ -92,8 +98,16 @@ rebuilt_found part base e =
     let read = (number_exact 9999 (lit< tt)).found digits.0 value.0 value.1 in
     let number_some : value.0 ≢ 0 = eqb-false value.0 0 tested.0 in
     let number : 0 < value.0 = above_zero value.0 number_some in
-    let suffix : 43 ∷ p.0.1 ≡ rebuild_suffix value.0 = ap (λ (l : List ℕ). 43 ∷ l) (strip_found (codes "b") p.0.1 digits.0 digits.1 ∙ ap (λ (l : List ℕ). codes "b" ++ l) read.0) ∙ sym (suffix-digits value.0 number) in
-    (value.0, number, read.1, cut.0 ∙ ap (λ (l : List ℕ). p.0.0 ++ l) suffix ∙ ap (λ (l : List ℕ). l ++ rebuild_suffix value.0) same)
+    let suffix : 43 ∷ p.0.1 ≡ rebuild_suffix value.0 =
+    ap (λ (l : List ℕ). 43 ∷ l)
+    (strip_found (codes "b") p.0.1 digits.0 digits.1 ∙ ap (λ (l : List ℕ). codes "b" ++ l) read.0)
+    ∙ sym (suffix-digits value.0 number) in (
+      value.0,
+      number,
+      read.1,
+      cut.0 ∙ ap (λ (l : List ℕ). p.0.0 ++ l) suffix
+          ∙ ap (λ (l : List ℕ). l ++ rebuild_suffix value.0) same,
+    )
 
 -- ---- of what the call returned
 
@@ -102,23 +116,36 @@ pub found_some : (text base : List ℕ) (n : ℕ) → rebuild_at text ≡ Some (
 found_some text base n e =
     let s = rebuild_found text base n e in
     let some = s.number in
-    record { spelled = s.spelled; bounded = s.bounded; based = λ _. s.based; plain = λ none. absurd (omega arith) }
+    record {
+      spelled = s.spelled;
+      bounded = s.bounded;
+      based = λ _. s.based;
+      plain = λ none. absurd (omega arith);
+    }
 
 pub found_none : (text : List ℕ) → rebuild_at text ≡ None → IsRebuild text text 0
 found_none text e = record {
   spelled = sym (append-nil text);
   bounded = omega arith;
   based = λ some. absurd (omega arith);
-  plain = λ _ base n based some bounded is. (let f = sym e ∙ ap rebuild_at is ∙ rebuild_again base n based some bounded in cc);
+  plain = λ _ base n based some bounded is.
+      (let f = sym e ∙ ap rebuild_at is ∙ rebuild_again base n based some bounded in cc);
 }
 
 -- a text is a rebuild in one way
 pub same_rebuild : (text a b : List ℕ) (m n : ℕ) → IsRebuild text a m → IsRebuild text b n
     → (a ≡ b) × (m ≡ n)
-same_rebuild text a b zero zero p q = (sym (append-nil a) ∙ sym p.spelled ∙ q.spelled ∙ append-nil b, refl)
-same_rebuild text a b zero (suc n) p q = absurd (p.plain refl b (suc n) (q.based (omega arith)) (omega arith) q.bounded (sym (append-nil a) ∙ sym p.spelled ∙ q.spelled))
-same_rebuild text a b (suc m) zero p q = absurd (q.plain refl a (suc m) (p.based (omega arith)) (omega arith) p.bounded (sym (append-nil b) ∙ sym q.spelled ∙ p.spelled))
+same_rebuild text a b zero zero p q =
+    (sym (append-nil a) ∙ sym p.spelled ∙ q.spelled ∙ append-nil b, refl)
+same_rebuild text a b zero (suc n) p q =
+    absurd (p.plain refl b (suc n) (q.based (omega arith)) (omega arith) q.bounded
+    (sym (append-nil a) ∙ sym p.spelled ∙ q.spelled))
+same_rebuild text a b (suc m) zero p q =
+    absurd (q.plain refl a (suc m) (p.based (omega arith)) (omega arith) p.bounded
+    (sym (append-nil b) ∙ sym q.spelled ∙ p.spelled))
 same_rebuild text a b (suc m) (suc n) p q =
-    let e = sym (rebuild_again a (suc m) (p.based (omega arith)) (omega arith) p.bounded) ∙ ap rebuild_at (sym p.spelled ∙ q.spelled) ∙ rebuild_again b (suc n) (q.based (omega arith)) (omega arith) q.bounded in
+    let e = sym (rebuild_again a (suc m) (p.based (omega arith)) (omega arith) p.bounded)
+    ∙ ap rebuild_at (sym p.spelled ∙ q.spelled)
+    ∙ rebuild_again b (suc n) (q.based (omega arith)) (omega arith) q.bounded in
     let same = some_is (a, suc m) (b, suc n) e in
     (ap (λ (x : List ℕ × ℕ). x.0) same, ap (λ (x : List ℕ × ℕ). x.1) same)

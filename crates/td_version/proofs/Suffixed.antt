@@ -30,7 +30,8 @@ use Rattle.td_version.proofs.Rising.{part_cmp-suffixes}
 
 abbrev pub extended : Option (List ℕ) → List ℕ → Option (List ℕ) → List ℕ → Written
 extended epoch upstream None s = record { epoch = epoch; upstream = upstream ++ s; revision = None }
-extended epoch upstream (Some revision) s = record { epoch = epoch; upstream = upstream; revision = Some (revision ++ s) }
+extended epoch upstream (Some revision) s =
+    record { epoch = epoch; upstream = upstream; revision = Some (revision ++ s) }
 
 -- the pieces with a suffix behind the last of them
 abbrev pub extend : Written → List ℕ → Written
@@ -43,16 +44,21 @@ first_colon-extended : (epoch : Option (List ℕ)) (upstream : List ℕ) (revisi
     ++ revision_back (extended epoch upstream revision s).revision)
 first_colon-extended (Some digits) upstream None s none first = first
 first_colon-extended (Some digits) upstream (Some revision) s none first = first
-first_colon-extended None upstream None s none first = Without-append 58 (upstream ++ s) [] (Without-append 58 upstream s (Without-left 58 upstream [] first) none) tt
+first_colon-extended None upstream None s none first =
+    Without-append 58 (upstream ++ s) []
+    (Without-append 58 upstream s (Without-left 58 upstream [] first) none) tt
 first_colon-extended None upstream (Some revision) s none first =
     let back = Without-right 58 upstream (45 ∷ revision) first in
-    Without-append 58 upstream (45 ∷ (revision ++ s)) (Without-left 58 upstream (45 ∷ revision) first) (back.0, Without-append 58 revision s back.1 none)
+    Without-append 58 upstream (45 ∷ (revision ++ s))
+    (Without-left 58 upstream (45 ∷ revision) first)
+    (back.0, Without-append 58 revision s back.1 none)
 
 last_hyphen-extended : (epoch : Option (List ℕ)) (upstream : List ℕ) (revision : Option (List ℕ))
     (s : List ℕ) → Without 45 s → IsLastHyphen upstream revision → IsLastHyphen
     (extended epoch upstream revision s).upstream (extended epoch upstream revision s).revision
 last_hyphen-extended epoch upstream None s none last = Without-append 45 upstream s last none
-last_hyphen-extended epoch upstream (Some revision) s none last = Without-append 45 revision s last none
+last_hyphen-extended epoch upstream (Some revision) s none last =
+    Without-append 45 revision s last none
 
 text-extended : (epoch : Option (List ℕ)) (upstream : List ℕ) (revision : Option (List ℕ))
     (s : List ℕ) → (epoch_front epoch ++ (upstream ++ revision_back revision)) ++ s
@@ -74,28 +80,38 @@ digits_lack : (c : ℕ) (t : List ℕ) → is_ascii_digit c ≡ false → all_as
     → Without c t
 digits_lack c [] out h = tt
 digits_lack c (x ∷ t) out h =
-    let p = and_parts (is_ascii_digit x) (all_ascii_digits t) h in
-    (λ e. (let bad : false ≡ true = sym out ∙ ap is_ascii_digit (sym e) ∙ p.0 in cc), digits_lack c t out p.1)
+    let p = and_parts (is_ascii_digit x) (all_ascii_digits t) h in (
+      λ e. (let bad : false ≡ true = sym out ∙ ap is_ascii_digit (sym e) ∙ p.0 in cc),
+      digits_lack c t out p.1,
+    )
 
 suffix_lacks : (c n : ℕ) → is_ascii_digit c ≡ false → 43 ≢ c → 98 ≢ c → n < 2 ^ 64
     → Without c (rebuild_suffix n)
 suffix_lacks c zero out plus letter small = tt
-suffix_lacks c (suc n) out plus letter small = (plus, (letter, digits_lack c (decimal (suc n)) out (digits_decimal decimal_model (suc n) small)))
+suffix_lacks c (suc n) out plus letter small = (
+  plus,
+  (letter, digits_lack c (decimal (suc n)) out (digits_decimal decimal_model (suc n) small)),
+)
 
 -- a rebuild is cut where its base is
 cut_rebuild : (base : List ℕ) (n : ℕ) → n < 2 ^ 64
     → IsCut (rebuild_text base n) (extend (pieces base) (rebuild_suffix n))
-cut_rebuild base n small = cut_extended base (pieces base) (rebuild_suffix n) (pieces_cut base) (suffix_lacks 58 n refl (λ e. omega arith) (λ e. omega arith) small) (suffix_lacks 45 n refl (λ e. omega arith) (λ e. omega arith) small)
+cut_rebuild base n small =
+    cut_extended base (pieces base) (rebuild_suffix n) (pieces_cut base)
+    (suffix_lacks 58 n refl (λ e. omega arith) (λ e. omega arith) small)
+    (suffix_lacks 45 n refl (λ e. omega arith) (λ e. omega arith) small)
 
 digits_may_stand : (t : List ℕ) → all_ascii_digits t ≡ true → list_all is_revision_byte t ≡ true
 digits_may_stand [] h = refl
 digits_may_stand (x ∷ t) h =
     let p = and_parts (is_ascii_digit x) (all_ascii_digits t) h in
-    and_from _ _ (or_right (is_letter x) _ (or_left (is_ascii_digit x) _ p.0)) (digits_may_stand t p.1)
+    and_from _ _ (or_right (is_letter x) _ (or_left (is_ascii_digit x) _ p.0))
+    (digits_may_stand t p.1)
 
 suffix_may_stand : (n : ℕ) → n < 2 ^ 64 → list_all is_revision_byte (rebuild_suffix n) ≡ true
 suffix_may_stand zero small = refl
-suffix_may_stand (suc n) small = digits_may_stand (decimal (suc n)) (digits_decimal decimal_model (suc n) small)
+suffix_may_stand (suc n) small =
+    digits_may_stand (decimal (suc n)) (digits_decimal decimal_model (suc n) small)
 
 all_in_upstream : (has_epoch : Bool) (t : List ℕ) → list_all is_revision_byte t ≡ true
     → list_all (is_upstream_byte has_epoch) t ≡ true
@@ -127,8 +143,18 @@ parts_fit : (epoch : Option (List ℕ)) (upstream : List ℕ) (revision : Option
     → (EpochFits (extended epoch upstream revision (rebuild_suffix n)).epoch
     × UpstreamFits (extended epoch upstream revision (rebuild_suffix n)))
     × RevisionFits (extended epoch upstream revision (rebuild_suffix n)).revision
-parts_fit epoch upstream None n small e u r = ((e, is_part-append (is_upstream_byte (is_some epoch)) upstream (rebuild_suffix n) u (all_in_upstream (is_some epoch) (rebuild_suffix n) (suffix_may_stand n small))), tt)
-parts_fit epoch upstream (Some revision) n small e u r = ((e, u), is_part-append is_revision_byte revision (rebuild_suffix n) r (suffix_may_stand n small))
+parts_fit epoch upstream None n small e u r = (
+  (
+    e,
+    is_part-append (is_upstream_byte (is_some epoch)) upstream (rebuild_suffix n) u
+        (all_in_upstream (is_some epoch) (rebuild_suffix n) (suffix_may_stand n small)),
+  ),
+  tt,
+)
+parts_fit epoch upstream (Some revision) n small e u r = (
+  (e, u),
+  is_part-append is_revision_byte revision (rebuild_suffix n) r (suffix_may_stand n small),
+)
 
 pub rebuilds_read : RebuildsAreVersions
 rebuilds_read base p n v bounded =
@@ -138,7 +164,9 @@ rebuilds_read base p n v bounded =
       parts_written (extend w (rebuild_suffix n)),
       record {
         written = extend w (rebuild_suffix n);
-        cut = cut_extended base w (rebuild_suffix n) v.cut (suffix_lacks 58 n refl (λ e. omega arith) (λ e. omega arith) small) (suffix_lacks 45 n refl (λ e. omega arith) (λ e. omega arith) small);
+        cut = cut_extended base w (rebuild_suffix n) v.cut
+            (suffix_lacks 58 n refl (λ e. omega arith) (λ e. omega arith) small)
+            (suffix_lacks 45 n refl (λ e. omega arith) (λ e. omega arith) small);
         epoch = fit.0.0;
         upstream = fit.0.1;
         revision = fit.1;
@@ -150,16 +178,27 @@ parts_rise : (epoch : Option (List ℕ)) (upstream : List ℕ) (revision : Optio
     → m < n → n < 2 ^ 64
     → version_cmp (parts_written (extended epoch upstream revision (rebuild_suffix m)))
     (parts_written (extended epoch upstream revision (rebuild_suffix n))) ≡ Less
-parts_rise epoch upstream None m n lt small = rw (tied_itself nat_cmp_total (epoch_number epoch), part_cmp-suffixes upstream m n lt small) refl
-parts_rise epoch upstream (Some revision) m n lt small = rw (tied_itself nat_cmp_total (epoch_number epoch), tied_itself part_total upstream, part_cmp-suffixes revision m n lt small) refl
+parts_rise epoch upstream None m n lt small =
+    rw (tied_itself nat_cmp_total (epoch_number epoch), part_cmp-suffixes upstream m n lt small)
+    refl
+parts_rise epoch upstream (Some revision) m n lt small =
+    rw (
+      tied_itself nat_cmp_total (epoch_number epoch),
+      tied_itself part_total upstream,
+      part_cmp-suffixes revision m n lt small,
+    ) refl
 
 -- the parts of a rebuild
 pub parts_are : (base : List ℕ) (n : ℕ) (p : Parts) → n < 2 ^ 64 → IsVersion (rebuild_text base n) p
     → p ≡ parts_written (extend (pieces base) (rebuild_suffix n))
 parts_are base n p small v =
-    v.parts ∙ ap parts_written (sym (pieces_only (rebuild_text base n) v.written v.cut) ∙ pieces_only (rebuild_text base n) (extend (pieces base) (rebuild_suffix n)) (cut_rebuild base n small))
+    v.parts ∙ ap parts_written
+    (sym (pieces_only (rebuild_text base n) v.written v.cut)
+    ∙ pieces_only (rebuild_text base n) (extend (pieces base) (rebuild_suffix n))
+    (cut_rebuild base n small))
 
 pub rebuilds_rise : RebuildsRise
 rebuilds_rise base m n lt bounded low high v w =
     rw (parts_are base m low (omega arith) v, parts_are base n high (omega arith) w)
-    (parts_rise (pieces base).epoch (pieces base).upstream (pieces base).revision m n lt (omega arith))
+    (parts_rise (pieces base).epoch (pieces base).upstream (pieces base).revision m n lt
+    (omega arith))

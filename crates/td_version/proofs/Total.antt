@@ -33,9 +33,12 @@ as_padded zero [] [] h k = refl
 as_padded zero [] (q ∷ qs) h k = absurd (omega arith)
 as_padded zero (p ∷ ps) b h k = absurd (omega arith)
 as_padded (suc n) [] [] h k = as_padded n [] [] (omega arith) (omega arith)
-as_padded (suc n) [] (q ∷ qs) h k = ap (ordering_then (pair_cmp nothing q)) (as_padded n [] qs (omega arith) (omega arith))
-as_padded (suc n) (p ∷ ps) [] h k = ap (ordering_then (pair_cmp p nothing)) (as_padded n ps [] (omega arith) (omega arith))
-as_padded (suc n) (p ∷ ps) (q ∷ qs) h k = ap (ordering_then (pair_cmp p q)) (as_padded n ps qs (omega arith) (omega arith))
+as_padded (suc n) [] (q ∷ qs) h k =
+    ap (ordering_then (pair_cmp nothing q)) (as_padded n [] qs (omega arith) (omega arith))
+as_padded (suc n) (p ∷ ps) [] h k =
+    ap (ordering_then (pair_cmp p nothing)) (as_padded n ps [] (omega arith) (omega arith))
+as_padded (suc n) (p ∷ ps) (q ∷ qs) h k =
+    ap (ordering_then (pair_cmp p q)) (as_padded n ps qs (omega arith) (omega arith))
 
 padded_total : (n : ℕ) → IsTotalOrder (λ a b. slice_cmp pair_cmp (pad n a) (pad n b))
 padded_total n = on_total (pad n) (lists_total pair_total)
@@ -43,18 +46,29 @@ padded_total n = on_total (pad n) (lists_total pair_total)
 pub pairs_total : IsTotalOrder pairs_cmp
 pairs_total = record {
   antisymm = λ a b.
-      as_padded (length a + length b) a b (omega arith) (omega arith) ∙ (padded_total (length a + length b)).antisymm a b ∙ ap ordering_reverse (sym (as_padded (length a + length b) b a (omega arith) (omega arith)));
+      as_padded (length a + length b) a b (omega arith) (omega arith)
+      ∙ (padded_total (length a + length b)).antisymm a b
+      ∙ ap ordering_reverse (sym (as_padded (length a + length b) b a (omega arith) (omega arith)));
   trans = λ a b d p q.
-      as_padded (length a + length b + length d) a d (omega arith) (omega arith) ∙ (padded_total (length a + length b + length d)).trans a b d (sym (as_padded (length a + length b + length d) a b (omega arith) (omega arith)) ∙ p) (sym (as_padded (length a + length b + length d) b d (omega arith) (omega arith)) ∙ q);
+      as_padded (length a + length b + length d) a d (omega arith) (omega arith)
+      ∙ (padded_total (length a + length b + length d)).trans a b d
+      (sym (as_padded (length a + length b + length d) a b (omega arith) (omega arith)) ∙ p)
+      (sym (as_padded (length a + length b + length d) b d (omega arith) (omega arith)) ∙ q);
   congr = λ a b d p.
-      as_padded (length a + length b + length d) a d (omega arith) (omega arith) ∙ (padded_total (length a + length b + length d)).congr a b d (sym (as_padded (length a + length b + length d) a b (omega arith) (omega arith)) ∙ p) ∙ sym (as_padded (length a + length b + length d) b d (omega arith) (omega arith));
+      as_padded (length a + length b + length d) a d (omega arith) (omega arith)
+      ∙ (padded_total (length a + length b + length d)).congr a b d
+      (sym (as_padded (length a + length b + length d) a b (omega arith) (omega arith)) ∙ p)
+      ∙ sym (as_padded (length a + length b + length d) b d (omega arith) (omega arith));
 }
 
 pub part_total : IsTotalOrder part_cmp
 part_total = on_total pairs pairs_total
 
 pub version_total : IsTotalOrder version_cmp
-version_total = then_total (on_total (λ p. p.epoch) nat_cmp_total) (then_total (on_total (λ p. p.upstream) part_total) (on_total (λ p. revision_or_zero p.revision) part_total))
+version_total =
+    then_total (on_total (λ p. p.epoch) nat_cmp_total)
+    (then_total (on_total (λ p. p.upstream) part_total)
+    (on_total (λ p. revision_or_zero p.revision) part_total))
 
 -- ---- the laws in plain words
 
@@ -73,7 +87,9 @@ gt_not : (o : Ordering) → is_gt o ≡ false → o ≢ Greater
 gt_not o h e = absurd (let f = sym h ∙ ap is_gt e in cc)
 
 pub version_transitive : IsTransitive
-version_transitive a b d p q = gt_not (version_cmp a d) (upto version_total a b d (not_gt (version_cmp a b) p) (not_gt (version_cmp b d) q))
+version_transitive a b d p q =
+    gt_not (version_cmp a d)
+    (upto version_total a b d (not_gt (version_cmp a b) p) (not_gt (version_cmp b d) q))
 
 -- `1.0` and `1.0-0`
 pub coarse : SomeTextsAreEqualInOrder
@@ -84,7 +100,9 @@ coarse = record {
   differ = λ e. (let l = ap length e in absurd (omega arith));
   a = record { epoch = 0; upstream = codes "1.0"; revision = None };
   b = record { epoch = 0; upstream = codes "1.0"; revision = Some (codes "0") };
-  reads_one = read_found (codes "1.0") (record { epoch = 0; upstream = codes "1.0"; revision = None }) refl;
-  reads_other = read_found (codes "1.0-0") (record { epoch = 0; upstream = codes "1.0"; revision = Some (codes "0") }) refl;
+  reads_one =
+      read_found (codes "1.0") (record { epoch = 0; upstream = codes "1.0"; revision = None }) refl;
+  reads_other = read_found (codes "1.0-0")
+      (record { epoch = 0; upstream = codes "1.0"; revision = Some (codes "0") }) refl;
   equal = refl;
 }

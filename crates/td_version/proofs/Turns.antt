@@ -22,15 +22,21 @@ symbol_runs b t [] symbol r = record {
 }
 symbol_runs b t (p ∷ ps) symbol r = record {
   joined = ap (λ (l : List ℕ). b ∷ l) r.joined;
-  each = ((and_from _ _ (not_from_false (is_ascii_digit b) symbol) r.each.0.0, r.each.0.1), r.each.1);
-  in_turn = in_turn-front p (record { symbols = b ∷ p.symbols; digits = p.digits }) ps (omega arith) (λ some. some) r.in_turn;
+  each =
+      ((and_from _ _ (not_from_false (is_ascii_digit b) symbol) r.each.0.0, r.each.0.1), r.each.1);
+  in_turn = in_turn-front p (record { symbols = b ∷ p.symbols; digits = p.digits }) ps (omega arith)
+      (λ some. some) r.in_turn;
 }
 
-beside_runs : (b : ℕ) (t symbols digits : List ℕ) (ps : List Pair) → is_ascii_digit b ≡ true → AreRunsOf t (record { symbols = symbols; digits = digits } ∷ ps) → AreRunsOf (b ∷ t) (digit_beside b symbols digits ps)
+beside_runs : (b : ℕ) (t symbols digits : List ℕ) (ps : List Pair) → is_ascii_digit b ≡ true
+    → AreRunsOf t (record { symbols = symbols; digits = digits } ∷ ps)
+    → AreRunsOf (b ∷ t) (digit_beside b symbols digits ps)
 beside_runs b t [] digits ps digit r = record {
   joined = ap (λ (l : List ℕ). b ∷ l) r.joined;
   each = ((refl, and_from _ _ digit r.each.0.1), r.each.1);
-  in_turn = in_turn-front (record { symbols = []; digits = digits }) (record { symbols = []; digits = b ∷ digits }) ps (omega arith) (λ some. omega arith) r.in_turn;
+  in_turn = in_turn-front (record { symbols = []; digits = digits })
+      (record { symbols = []; digits = b ∷ digits }) ps (omega arith)
+      (λ some. omega arith) r.in_turn;
 }
 beside_runs b t (s ∷ symbols) digits ps digit r = record {
   joined = ap (λ (l : List ℕ). b ∷ l) r.joined;

@@ -88,9 +88,11 @@ released_next level left0 heights0 ready0 told more left heights ready user so_f
         | inr p ↦
             let told_none = rw p.0 at (tells s) in
             let same : told s ≡ more s = omega (arith, told_none) in
-            get_or-set_other heights user s (raised level (get_or heights user 0)) 0 (λ q. p.1 (sym q))
+            get_or-set_other heights user s (raised level (get_or heights user 0)) 0 (λ q.
+            p.1 (sym q))
             ∙ so_far.heights_are s
-            ∙ ap (λ n. if n == 0 then get_or heights0 s 0 else raised level (get_or heights0 s 0)) same
+            ∙ ap (λ n. if n == 0 then get_or heights0 s 0 else raised level (get_or heights0 s 0))
+            same
       ];
       ready_are = λ s. elim (eqb_tells user s) [
         | inl p ↦
@@ -98,10 +100,12 @@ released_next level left0 heights0 ready0 told more left heights ready user so_f
             let it = ap (λ k. get_or left k 0) p.1 in
             let set_to = get_or-set_at left user s (get_or left user 0 - 1) 0 (sym p.1)
             (within left user some) in
-            told_ready (get_or left0 s 0) (get_or left s 0) (told s) (uses s ready) (uses s ready0) _
+            told_ready (get_or left0 s 0) (get_or left s 0) (told s) (uses s ready)
+            (uses s ready0) _
             (omega (arith, it)) (so_far.left_is s) (so_far.ready_are s)
             (pushed ∙ ap (λ n. if n - 1 == 0 then uses s ready + 1 else uses s ready) it)
-            ∙ ap (λ n. uses s ready0 + freed (get_or left0 s 0) n) (sym (set_to ∙ ap (λ n. n - 1) it))
+            ∙ ap (λ n. uses s ready0 + freed (get_or left0 s 0) n)
+            (sym (set_to ∙ ap (λ n. n - 1) it))
         | inr p ↦
             let pushed = rw p.0 at (uses-if (get_or left user 0 - 1 == 0) s ready user) in
             pushed ∙ same-if (get_or left user 0 - 1 == 0) (uses s ready) ∙ so_far.ready_are s

@@ -38,5 +38,6 @@ pub struct Command<'a> {
     pub message: Line,
     /// What a rebuild needs beside its build dependencies; empty where there is none.
     pub extra: Line,
-    ghost found: { FindsPackages packages.items places } by { FindsPackages-prop packages.items places },
+    ghost found: { FindsPackages packages.items places } by { FindsPackages-prop packages.items
+        places },
 }

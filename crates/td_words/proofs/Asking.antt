@@ -1,5 +1,7 @@
 -- What `clap` reads in the words that ask for the simulation, and in those that ask for a check.
-use Rattle.std.proofs.Common.{◌≡◌, ℕ, Bool, true, false, List, [], ◌++◌, Option, Some, None, Result, Ok, Err, IfOk, MatchResult, option_map, unwrap_or, codes, string_bytes, refl, sym, ap, subst, inl, inr, ◌∙◌}
+use Rattle.std.proofs.Common.{◌≡◌, ℕ, Bool, true, false, List, [], ◌++◌, Option, Some, None, Result}
+use Rattle.std.proofs.Common.{Ok, Err, IfOk, MatchResult, option_map, unwrap_or, codes}
+use Rattle.std.proofs.Common.{string_bytes, refl, sym, ap, subst, inl, inr, ◌∙◌}
 use Rattle.std.specs.Borrow.{Bor}
 use Rattle.clap.specs.Faults.{is_simple_and_free}
 use Rattle.clap.specs.Kinds.{HasKind}
@@ -14,7 +16,14 @@ use Rattle.clap.proofs.OnLiterals.{clap_on_literals}
 use Rattle.td_words.specs.declared.request.Call.{Call}
 use Rattle.td_words.specs.declared.request.Request.{Request}
 use Rattle.td_words.specs.declared.request.Request.TheVariants.{Simulate, Check, Track, Waves, Run}
-use Rattle.td_words.specs.CommandLine.{AskForCheck, AskForRun, AskForTrack, AskForWaves, CheckWordsExplain, HasFiles, HasRun, HasTrack, HasTracker, PlainRunWordsAsk, RunWordsExplain, SimulationWordsAsk, TrackWords, TrackWordsAsk, TrackWordsExplain, WavesWordsAsk, WavesWordsExplain, WholeRunWordsAsk, asking_for_check, asking_for_plain_run, asking_for_track, asking_for_waves, chunk_in, desk, explaining, faults_of, is_explained, name_in, options_of, plain_run, rows_in}
+use Rattle.td_words.specs.CommandLine.{AskForCheck, AskForRun, AskForTrack, AskForWaves}
+use Rattle.td_words.specs.CommandLine.{CheckWordsExplain, HasFiles, HasRun, HasTrack, HasTracker}
+use Rattle.td_words.specs.CommandLine.{PlainRunWordsAsk, RunWordsExplain, SimulationWordsAsk}
+use Rattle.td_words.specs.CommandLine.{TrackWords, TrackWordsAsk, TrackWordsExplain, WavesWordsAsk}
+use Rattle.td_words.specs.CommandLine.{WavesWordsExplain, WholeRunWordsAsk, asking_for_check}
+use Rattle.td_words.specs.CommandLine.{asking_for_plain_run, asking_for_track, asking_for_waves}
+use Rattle.td_words.specs.CommandLine.{chunk_in, desk, explaining, faults_of, is_explained, name_in}
+use Rattle.td_words.specs.CommandLine.{options_of, plain_run, rows_in}
 use Rattle.td_words.specs.declared.request.WordsFault.{WordsFault}
 use Rattle.td_words.specs.Asked.{Asks, IsRequestIn, call_as, run_words, track_words}
 
@@ -23,24 +32,35 @@ unfolding clap_on_literals
 is_plain = refl
 
 -- what the matches hold is what the words ask for
-pub rows_are_asked : (m : ArgMatches) (words : List (List ℕ)) → HasMatchesOf desk words m → subcommand_rows_of m ≡ subcommand_of desk words
+pub rows_are_asked : (m : ArgMatches) (words : List (List ℕ)) → HasMatchesOf desk words m
+    → subcommand_rows_of m ≡ subcommand_of desk words
 unfolding clap_on_literals
 rows_are_asked m words has = (has refl).1
 
 -- what holds of the answer that has a request holds of the call that has it
-pub holds_of_call : (P : Request → Type 0) (Q : WordsFault → Type 0) (r : Result Request WordsFault) (explained : Bool) (call : Result Call WordsFault) → call ≡ call_as r explained
+pub holds_of_call : (P : Request → Type 0) (Q : WordsFault → Type 0) (r : Result Request WordsFault)
+    (explained : Bool) (call : Result Call WordsFault) → call ≡ call_as r explained
     → MatchResult r P Q → MatchResult call (λ c. P c.request) Q
-holds_of_call P Q (Ok request) explained call is holds = subst (λ c. MatchResult c (λ x. P x.request) Q) (sym is) holds
-holds_of_call P Q (Err fault) explained call is holds = subst (λ c. MatchResult c (λ x. P x.request) Q) (sym is) holds
+holds_of_call P Q (Ok request) explained call is holds =
+    subst (λ c. MatchResult c (λ x. P x.request) Q) (sym is) holds
+holds_of_call P Q (Err fault) explained call is holds =
+    subst (λ c. MatchResult c (λ x. P x.request) Q) (sym is) holds
 
-pub only_of_call : (P : Request → Type 0) (r : Result Request WordsFault) (explained : Bool) (call : Result Call WordsFault) → call ≡ call_as r explained
+pub only_of_call : (P : Request → Type 0) (r : Result Request WordsFault) (explained : Bool)
+    (call : Result Call WordsFault) → call ≡ call_as r explained
     → IfOk r P → IfOk call (λ c. P c.request)
-only_of_call P (Ok request) explained call is holds = subst (λ c. IfOk c (λ x. P x.request)) (sym is) holds
-only_of_call P (Err fault) explained call is holds = subst (λ c. IfOk c (λ x. P x.request)) (sym is) tt
+only_of_call P (Ok request) explained call is holds =
+    subst (λ c. IfOk c (λ x. P x.request)) (sym is) holds
+only_of_call P (Err fault) explained call is holds =
+    subst (λ c. IfOk c (λ x. P x.request)) (sym is) tt
 
-pub flag_of_call : (r : Result Request WordsFault) (explained : Bool) (call : Result Call WordsFault) → call ≡ call_as r explained → IfOk call (λ c. c.explained ≡ explained)
-flag_of_call (Ok request) explained call is = subst (λ c. IfOk c (λ x. x.explained ≡ explained)) (sym is) refl
-flag_of_call (Err fault) explained call is = subst (λ c. IfOk c (λ x. x.explained ≡ explained)) (sym is) tt
+pub flag_of_call : (r : Result Request WordsFault) (explained : Bool)
+    (call : Result Call WordsFault) → call ≡ call_as r explained
+    → IfOk call (λ c. c.explained ≡ explained)
+flag_of_call (Ok request) explained call is =
+    subst (λ c. IfOk c (λ x. x.explained ≡ explained)) (sym is) refl
+flag_of_call (Err fault) explained call is =
+    subst (λ c. IfOk c (λ x. x.explained ≡ explained)) (sym is) tt
 
 -- the words of a simulation ask for it
 pub asks_for_simulation : SimulationWordsAsk
@@ -49,37 +69,108 @@ asks_for_simulation program false = record { ask = (refl, refl); flag = refl }
 asks_for_simulation program true = record { ask = (refl, refl); flag = refl }
 
 -- the words of a check ask for it
-pub asks_for_check : (program archs packages sources : List ℕ) → AskForCheck (asking_for_check program archs packages sources) archs packages sources
+pub asks_for_check : (program archs packages sources : List ℕ)
+    → AskForCheck (asking_for_check program archs packages sources) archs packages sources
 unfolding clap_on_literals
 asks_for_check program archs packages sources =
     ((refl, refl), record { archs_path = refl; packages_path = refl; sources_path = refl })
 
 -- so do those of the others
-track_words_ask : (program a p s t : List ℕ) (state chunk : Option (List ℕ)) (rows : Option ℕ) → chunk_in chunk ≡ Some rows
-    → (let w : TrackWords = record { archs = a; packages = p; sources = s; tracker = t; state = state; chunk = rows } in AskForTrack (asking_for_track program w chunk) w)
+track_words_ask : (program a p s t : List ℕ) (state chunk : Option (List ℕ)) (rows : Option ℕ)
+    → chunk_in chunk ≡ Some rows
+    → (let w : TrackWords =
+    record { archs = a; packages = p; sources = s; tracker = t; state = state; chunk = rows } in
+    AskForTrack (asking_for_track program w chunk) w)
 unfolding clap_on_literals
-track_words_ask program a p s t None None rows same = ((refl, refl), record { files = record { files = record { archs_path = refl; packages_path = refl; sources_path = refl }; tracker_path = refl }; state_path = refl; rows = same })
-track_words_ask program a p s t None (Some chunk) rows same = ((refl, refl), record { files = record { files = record { archs_path = refl; packages_path = refl; sources_path = refl }; tracker_path = refl }; state_path = refl; rows = same })
-track_words_ask program a p s t (Some state) None rows same = ((refl, refl), record { files = record { files = record { archs_path = refl; packages_path = refl; sources_path = refl }; tracker_path = refl }; state_path = refl; rows = same })
-track_words_ask program a p s t (Some state) (Some chunk) rows same = ((refl, refl), record { files = record { files = record { archs_path = refl; packages_path = refl; sources_path = refl }; tracker_path = refl }; state_path = refl; rows = same })
+track_words_ask program a p s t None None rows same = (
+  (refl, refl),
+  record {
+    files = record {
+      files = record { archs_path = refl; packages_path = refl; sources_path = refl };
+      tracker_path = refl;
+    };
+    state_path = refl;
+    rows = same;
+  },
+)
+track_words_ask program a p s t None (Some chunk) rows same = (
+  (refl, refl),
+  record {
+    files = record {
+      files = record { archs_path = refl; packages_path = refl; sources_path = refl };
+      tracker_path = refl;
+    };
+    state_path = refl;
+    rows = same;
+  },
+)
+track_words_ask program a p s t (Some state) None rows same = (
+  (refl, refl),
+  record {
+    files = record {
+      files = record { archs_path = refl; packages_path = refl; sources_path = refl };
+      tracker_path = refl;
+    };
+    state_path = refl;
+    rows = same;
+  },
+)
+track_words_ask program a p s t (Some state) (Some chunk) rows same = (
+  (refl, refl),
+  record {
+    files = record {
+      files = record { archs_path = refl; packages_path = refl; sources_path = refl };
+      tracker_path = refl;
+    };
+    state_path = refl;
+    rows = same;
+  },
+)
 
 pub asks_for_track : TrackWordsAsk
-asks_for_track program w chunk same = track_words_ask program w.archs w.packages w.sources w.tracker w.state chunk w.chunk same
+asks_for_track program w chunk same =
+    track_words_ask program w.archs w.packages w.sources w.tracker w.state chunk w.chunk same
 
 pub asks_for_waves : WavesWordsAsk
 unfolding clap_on_literals
-asks_for_waves program archs packages sources tracker =
-    ((refl, refl), record { files = record { archs_path = refl; packages_path = refl; sources_path = refl }; tracker_path = refl })
+asks_for_waves program archs packages sources tracker = (
+  (refl, refl),
+  record {
+    files = record { archs_path = refl; packages_path = refl; sources_path = refl };
+    tracker_path = refl;
+  },
+)
 
 pub asks_for_plain_run : PlainRunWordsAsk
 unfolding clap_on_literals
-asks_for_plain_run program archs packages sources =
-    ((refl, refl), record { files = record { archs_path = refl; packages_path = refl; sources_path = refl }; state_path = refl; tracker_path = refl; suite_name = refl; count = refl; outcomes_path = refl; journal_path = refl })
+asks_for_plain_run program archs packages sources = (
+  (refl, refl),
+  record {
+    files = record { archs_path = refl; packages_path = refl; sources_path = refl };
+    state_path = refl;
+    tracker_path = refl;
+    suite_name = refl;
+    count = refl;
+    outcomes_path = refl;
+    journal_path = refl;
+  },
+)
 
 pub asks_for_whole_run : WholeRunWordsAsk
 unfolding clap_on_literals
-asks_for_whole_run program archs packages sources state tracker suite builders outcomes journal count same =
-    ((refl, refl), record { files = record { archs_path = refl; packages_path = refl; sources_path = refl }; state_path = refl; tracker_path = refl; suite_name = refl; count = same; outcomes_path = refl; journal_path = refl })
+asks_for_whole_run program archs packages sources state tracker suite builders outcomes journal
+    count same = (
+      (refl, refl),
+      record {
+        files = record { archs_path = refl; packages_path = refl; sources_path = refl };
+        state_path = refl;
+        tracker_path = refl;
+        suite_name = refl;
+        count = same;
+        outcomes_path = refl;
+        journal_path = refl;
+      },
+    )
 
 -- ---- with an explanation
 
@@ -87,28 +178,121 @@ pub check_explains : CheckWordsExplain
 unfolding clap_on_literals
 check_explains = record { same = same; flag = flag }
   where
-    same : (program archs packages sources : List ℕ) (explained : Bool) → AskForCheck (asking_for_check program archs packages sources ++ explaining explained) archs packages sources
-    same program archs packages sources false = ((refl, refl), record { archs_path = refl; packages_path = refl; sources_path = refl })
-    same program archs packages sources true = ((refl, refl), record { archs_path = refl; packages_path = refl; sources_path = refl })
+    same : (program archs packages sources : List ℕ) (explained : Bool)
+        → AskForCheck (asking_for_check program archs packages sources ++ explaining explained)
+        archs packages sources
+    same program archs packages sources false =
+        ((refl, refl), record { archs_path = refl; packages_path = refl; sources_path = refl })
+    same program archs packages sources true =
+        ((refl, refl), record { archs_path = refl; packages_path = refl; sources_path = refl })
 
-    flag : (program archs packages sources : List ℕ) (explained : Bool) → is_explained (options_of (asking_for_check program archs packages sources ++ explaining explained)) ≡ explained
+    flag : (program archs packages sources : List ℕ) (explained : Bool)
+        → is_explained (options_of
+        (asking_for_check program archs packages sources ++ explaining explained)) ≡ explained
     flag program archs packages sources false = refl
     flag program archs packages sources true = refl
 
-track_same : (program a p s t : List ℕ) (state chunk : Option (List ℕ)) (rows : Option ℕ) (explained : Bool) → chunk_in chunk ≡ Some rows
-    → (let w : TrackWords = record { archs = a; packages = p; sources = s; tracker = t; state = state; chunk = rows } in AskForTrack (asking_for_track program w chunk ++ explaining explained) w)
+track_same : (program a p s t : List ℕ) (state chunk : Option (List ℕ)) (rows : Option ℕ)
+    (explained : Bool) → chunk_in chunk ≡ Some rows
+    → (let w : TrackWords =
+    record { archs = a; packages = p; sources = s; tracker = t; state = state; chunk = rows } in
+    AskForTrack (asking_for_track program w chunk ++ explaining explained) w)
 unfolding clap_on_literals
-track_same program a p s t None None rows false same = ((refl, refl), record { files = record { files = record { archs_path = refl; packages_path = refl; sources_path = refl }; tracker_path = refl }; state_path = refl; rows = same })
-track_same program a p s t None (Some chunk) rows false same = ((refl, refl), record { files = record { files = record { archs_path = refl; packages_path = refl; sources_path = refl }; tracker_path = refl }; state_path = refl; rows = same })
-track_same program a p s t (Some state) None rows false same = ((refl, refl), record { files = record { files = record { archs_path = refl; packages_path = refl; sources_path = refl }; tracker_path = refl }; state_path = refl; rows = same })
-track_same program a p s t (Some state) (Some chunk) rows false same = ((refl, refl), record { files = record { files = record { archs_path = refl; packages_path = refl; sources_path = refl }; tracker_path = refl }; state_path = refl; rows = same })
-track_same program a p s t None None rows true same = ((refl, refl), record { files = record { files = record { archs_path = refl; packages_path = refl; sources_path = refl }; tracker_path = refl }; state_path = refl; rows = same })
-track_same program a p s t None (Some chunk) rows true same = ((refl, refl), record { files = record { files = record { archs_path = refl; packages_path = refl; sources_path = refl }; tracker_path = refl }; state_path = refl; rows = same })
-track_same program a p s t (Some state) None rows true same = ((refl, refl), record { files = record { files = record { archs_path = refl; packages_path = refl; sources_path = refl }; tracker_path = refl }; state_path = refl; rows = same })
-track_same program a p s t (Some state) (Some chunk) rows true same = ((refl, refl), record { files = record { files = record { archs_path = refl; packages_path = refl; sources_path = refl }; tracker_path = refl }; state_path = refl; rows = same })
+track_same program a p s t None None rows false same = (
+  (refl, refl),
+  record {
+    files = record {
+      files = record { archs_path = refl; packages_path = refl; sources_path = refl };
+      tracker_path = refl;
+    };
+    state_path = refl;
+    rows = same;
+  },
+)
+track_same program a p s t None (Some chunk) rows false same = (
+  (refl, refl),
+  record {
+    files = record {
+      files = record { archs_path = refl; packages_path = refl; sources_path = refl };
+      tracker_path = refl;
+    };
+    state_path = refl;
+    rows = same;
+  },
+)
+track_same program a p s t (Some state) None rows false same = (
+  (refl, refl),
+  record {
+    files = record {
+      files = record { archs_path = refl; packages_path = refl; sources_path = refl };
+      tracker_path = refl;
+    };
+    state_path = refl;
+    rows = same;
+  },
+)
+track_same program a p s t (Some state) (Some chunk) rows false same = (
+  (refl, refl),
+  record {
+    files = record {
+      files = record { archs_path = refl; packages_path = refl; sources_path = refl };
+      tracker_path = refl;
+    };
+    state_path = refl;
+    rows = same;
+  },
+)
+track_same program a p s t None None rows true same = (
+  (refl, refl),
+  record {
+    files = record {
+      files = record { archs_path = refl; packages_path = refl; sources_path = refl };
+      tracker_path = refl;
+    };
+    state_path = refl;
+    rows = same;
+  },
+)
+track_same program a p s t None (Some chunk) rows true same = (
+  (refl, refl),
+  record {
+    files = record {
+      files = record { archs_path = refl; packages_path = refl; sources_path = refl };
+      tracker_path = refl;
+    };
+    state_path = refl;
+    rows = same;
+  },
+)
+track_same program a p s t (Some state) None rows true same = (
+  (refl, refl),
+  record {
+    files = record {
+      files = record { archs_path = refl; packages_path = refl; sources_path = refl };
+      tracker_path = refl;
+    };
+    state_path = refl;
+    rows = same;
+  },
+)
+track_same program a p s t (Some state) (Some chunk) rows true same = (
+  (refl, refl),
+  record {
+    files = record {
+      files = record { archs_path = refl; packages_path = refl; sources_path = refl };
+      tracker_path = refl;
+    };
+    state_path = refl;
+    rows = same;
+  },
+)
 
-track_flag : (program a p s t : List ℕ) (state chunk : Option (List ℕ)) (rows : Option ℕ) (explained : Bool)
-    → (let w : TrackWords = record { archs = a; packages = p; sources = s; tracker = t; state = state; chunk = rows } in is_explained (options_of (asking_for_track program w chunk ++ explaining explained)) ≡ explained)
+track_flag : (program a p s t : List ℕ) (state chunk : Option (List ℕ)) (rows : Option ℕ)
+    (explained : Bool)
+    → (let w : TrackWords =
+    record { archs = a; packages = p; sources = s; tracker = t; state = state; chunk = rows } in
+    is_explained (options_of (asking_for_track program w chunk ++ explaining explained))
+    ≡ explained)
 unfolding clap_on_literals
 track_flag program a p s t None None rows false = refl
 track_flag program a p s t None (Some chunk) rows false = refl
@@ -121,19 +305,39 @@ track_flag program a p s t (Some state) (Some chunk) rows true = refl
 
 pub track_explains : TrackWordsExplain
 track_explains = record {
-  same = λ program w chunk explained same. track_same program w.archs w.packages w.sources w.tracker w.state chunk w.chunk explained same;
-  flag = λ program w chunk explained. track_flag program w.archs w.packages w.sources w.tracker w.state chunk w.chunk explained;
+  same = λ program w chunk explained same.
+      track_same program w.archs w.packages w.sources w.tracker w.state chunk w.chunk explained
+      same;
+  flag = λ program w chunk explained.
+      track_flag program w.archs w.packages w.sources w.tracker w.state chunk w.chunk explained;
 }
 
 pub waves_explain : WavesWordsExplain
 unfolding clap_on_literals
 waves_explain = record { same = same; flag = flag }
   where
-    same : (program archs packages sources tracker : List ℕ) (explained : Bool) → AskForWaves (asking_for_waves program archs packages sources tracker ++ explaining explained) archs packages sources tracker
-    same program archs packages sources tracker false = ((refl, refl), record { files = record { archs_path = refl; packages_path = refl; sources_path = refl }; tracker_path = refl })
-    same program archs packages sources tracker true = ((refl, refl), record { files = record { archs_path = refl; packages_path = refl; sources_path = refl }; tracker_path = refl })
+    same : (program archs packages sources tracker : List ℕ) (explained : Bool)
+        → AskForWaves (asking_for_waves program archs packages sources tracker
+        ++ explaining explained) archs packages sources tracker
+    same program archs packages sources tracker false = (
+      (refl, refl),
+      record {
+        files = record { archs_path = refl; packages_path = refl; sources_path = refl };
+        tracker_path = refl;
+      },
+    )
+    same program archs packages sources tracker true = (
+      (refl, refl),
+      record {
+        files = record { archs_path = refl; packages_path = refl; sources_path = refl };
+        tracker_path = refl;
+      },
+    )
 
-    flag : (program archs packages sources tracker : List ℕ) (explained : Bool) → is_explained (options_of (asking_for_waves program archs packages sources tracker ++ explaining explained)) ≡ explained
+    flag : (program archs packages sources tracker : List ℕ) (explained : Bool)
+        → is_explained (options_of
+        (asking_for_waves program archs packages sources tracker ++ explaining explained))
+        ≡ explained
     flag program archs packages sources tracker false = refl
     flag program archs packages sources tracker true = refl
 
@@ -141,37 +345,82 @@ pub run_explains : RunWordsExplain
 unfolding clap_on_literals
 run_explains = record { same = same; flag = flag }
   where
-    same : (program archs packages sources : List ℕ) (explained : Bool) → AskForRun (asking_for_plain_run program archs packages sources ++ explaining explained) (plain_run archs packages sources)
-    same program archs packages sources false = ((refl, refl), record { files = record { archs_path = refl; packages_path = refl; sources_path = refl }; state_path = refl; tracker_path = refl; suite_name = refl; count = refl; outcomes_path = refl; journal_path = refl })
-    same program archs packages sources true = ((refl, refl), record { files = record { archs_path = refl; packages_path = refl; sources_path = refl }; state_path = refl; tracker_path = refl; suite_name = refl; count = refl; outcomes_path = refl; journal_path = refl })
+    same : (program archs packages sources : List ℕ) (explained : Bool)
+        → AskForRun (asking_for_plain_run program archs packages sources ++ explaining explained)
+        (plain_run archs packages sources)
+    same program archs packages sources false = (
+      (refl, refl),
+      record {
+        files = record { archs_path = refl; packages_path = refl; sources_path = refl };
+        state_path = refl;
+        tracker_path = refl;
+        suite_name = refl;
+        count = refl;
+        outcomes_path = refl;
+        journal_path = refl;
+      },
+    )
+    same program archs packages sources true = (
+      (refl, refl),
+      record {
+        files = record { archs_path = refl; packages_path = refl; sources_path = refl };
+        state_path = refl;
+        tracker_path = refl;
+        suite_name = refl;
+        count = refl;
+        outcomes_path = refl;
+        journal_path = refl;
+      },
+    )
 
-    flag : (program archs packages sources : List ℕ) (explained : Bool) → is_explained (options_of (asking_for_plain_run program archs packages sources ++ explaining explained)) ≡ explained
+    flag : (program archs packages sources : List ℕ) (explained : Bool)
+        → is_explained (options_of
+        (asking_for_plain_run program archs packages sources ++ explaining explained)) ≡ explained
     flag program archs packages sources false = refl
     flag program archs packages sources true = refl
 
 -- ---- the matches of a subcommand
 
 -- the matches of a subcommand, as they are in the matches that have it
-pub rows_of_matches : (m : ArgMatches) (o : Option (Bor (List ℕ) × Bor ArgMatches)) (p : Bor (List ℕ) × Bor ArgMatches) → o ≡ Some p
+pub rows_of_matches : (m : ArgMatches) (o : Option (Bor (List ℕ) × Bor ArgMatches))
+    (p : Bor (List ℕ) × Bor ArgMatches) → o ≡ Some p
     → option_map (λ q. rows_of (found_of q.1.now)) o ≡ option_map (λ q. q.1) (subcommand_rows_of m)
     → rows_in (subcommand_rows_of m) ≡ rows_of (found_of p.1.now)
-rows_of_matches m o p is same = go (subcommand_rows_of m) (sym same ∙ ap (option_map (λ q. rows_of (found_of q.1.now))) is)
+rows_of_matches m o p is same =
+    go (subcommand_rows_of m) (sym same ∙ ap (option_map (λ q. rows_of (found_of q.1.now))) is)
   where
-    go : (found : Option (List ℕ × List Row)) → option_map (λ q. q.1) found ≡ Some (rows_of (found_of p.1.now)) → rows_in found ≡ rows_of (found_of p.1.now)
+    go : (found : Option (List ℕ × List Row))
+        → option_map (λ q. q.1) found ≡ Some (rows_of (found_of p.1.now))
+        → rows_in found ≡ rows_of (found_of p.1.now)
     go None e = cc
     go (Some q) e = ap (λ (r : Option (List Row)). unwrap_or r []) e
 
 -- what a subcommand asks for, the words do
-pub asks : (words : List (List ℕ)) (found : Option (List ℕ × List Row)) (r : Request) → found ≡ subcommand_of desk words → faults_of words ≡ [] → IsRequestIn found r → Asks words r
+pub asks : (words : List (List ℕ)) (found : Option (List ℕ × List Row)) (r : Request)
+    → found ≡ subcommand_of desk words → faults_of words ≡ [] → IsRequestIn found r → Asks words r
 asks words found Simulate same fine is = (fine, sym (ap name_in same) ∙ is)
-asks words found (Check archs packages sources) same fine is =
-    ((fine, sym (ap name_in same) ∙ is.0), subst (λ o. HasFiles (rows_in o) (string_bytes archs) (string_bytes packages) (string_bytes sources)) same is.1)
-asks words found (Track archs packages sources tracker state chunk) same fine is =
-    ((fine, sym (ap name_in same) ∙ is.0), subst (λ o. HasTrack (rows_in o) (track_words archs packages sources tracker state chunk)) same is.1)
-asks words found (Waves archs packages sources tracker) same fine is =
-    ((fine, sym (ap name_in same) ∙ is.0), subst (λ o. HasTracker (rows_in o) (string_bytes archs) (string_bytes packages) (string_bytes sources) (string_bytes tracker)) same is.1)
-asks words found (Run archs packages sources state tracker suite builders outcomes journal) same fine is =
-    ((fine, sym (ap name_in same) ∙ is.0), subst (λ o. HasRun (rows_in o) (run_words archs packages sources state tracker suite builders outcomes journal)) same is.1)
+asks words found (Check archs packages sources) same fine is = (
+  (fine, sym (ap name_in same) ∙ is.0),
+  subst (λ o. HasFiles (rows_in o) (string_bytes archs) (string_bytes packages)
+      (string_bytes sources)) same is.1,
+)
+asks words found (Track archs packages sources tracker state chunk) same fine is = (
+  (fine, sym (ap name_in same) ∙ is.0),
+  subst (λ o. HasTrack (rows_in o) (track_words archs packages sources tracker state chunk)) same
+      is.1,
+)
+asks words found (Waves archs packages sources tracker) same fine is = (
+  (fine, sym (ap name_in same) ∙ is.0),
+  subst (λ o. HasTracker (rows_in o) (string_bytes archs) (string_bytes packages)
+      (string_bytes sources) (string_bytes tracker)) same is.1,
+)
+asks words found (Run archs packages sources state tracker suite builders outcomes journal) same
+    fine is = (
+      (fine, sym (ap name_in same) ∙ is.0),
+      subst (λ o. HasRun (rows_in o)
+          (run_words archs packages sources state tracker suite builders outcomes journal)) same
+          is.1,
+    )
 
 -- where nothing is wrong with the words, only memory is wanting
 pub no_kind : (e : Error) → HasKind [] e → kind_of e ≡ OutOfMemory

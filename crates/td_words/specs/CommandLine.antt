@@ -1,5 +1,6 @@
 -- The program's command line, as `clap` sees it. This project's own.
-use Rattle.std.specs.Prelude.{◌≡◌, ◌==◌, ℕ, nat_lt, true, false, List, [], ◌∷◌, ◌++◌, Bool, Option, Some, None, option_map, unwrap_or, codes, if◌then◌else◌}
+use Rattle.std.specs.Prelude.{◌≡◌, ◌==◌, ℕ, nat_lt, true, false, List, [], ◌∷◌, ◌++◌, Bool, Option}
+use Rattle.std.specs.Prelude.{Some, None, option_map, unwrap_or, codes, if◌then◌else◌}
 use Rattle.std.specs.Option.{option_map_or}
 use Rattle.std.specs.Str.{bytes_eq}
 use Rattle.td_text.specs.Chain.{◌>>=◌}
@@ -8,7 +9,8 @@ use Rattle.clap.specs.declared.builder.action.ArgAction.TheVariants.{SetTrue}
 use Rattle.clap.specs.Faults.{fault_of}
 use Rattle.clap.specs.Kinds.{Kinds}
 use Rattle.clap.specs.Walk.{Row, Rule, first_of}
-use Rattle.clap.specs.Simple.{App, Shape, new_app, new_rule, new_shape, on_top, subcommand_of, with_rule, with_subcommand}
+use Rattle.clap.specs.Simple.{App, Shape, new_app, new_rule, new_shape, on_top, subcommand_of}
+use Rattle.clap.specs.Simple.{with_rule, with_subcommand}
 
 -- an option that has to be there, once, with one value
 abbrev pub needed_option : List ℕ → Rule
@@ -32,7 +34,9 @@ option_of name = record (new_rule name) { long = Some name; value_names = 1 }
 
 -- the files of an archive
 abbrev pub with_archive_rules : App → App
-with_archive_rules a = with_rule (with_rule (with_rule a (needed_option (codes "archs"))) (needed_option (codes "packages"))) (needed_option (codes "sources"))
+with_archive_rules a =
+    with_rule (with_rule (with_rule a (needed_option (codes "archs")))
+    (needed_option (codes "packages"))) (needed_option (codes "sources"))
 
 -- the subcommand `check`, which needs these files
 abbrev pub check_shape : Shape
@@ -48,29 +52,41 @@ waves_shape = (with_explanation (with_tracker_rules (new_app (codes "waves")))).
 
 -- the subcommand `track`, which may be given other rows too, and how many a chunk has
 abbrev pub track_shape : Shape
-track_shape = (with_explanation (with_rule (with_rule (with_tracker_rules (new_app (codes "track"))) (option_of (codes "state"))) (option_of (codes "chunk")))).top
+track_shape =
+    (with_explanation (with_rule
+    (with_rule (with_tracker_rules (new_app (codes "track"))) (option_of (codes "state")))
+    (option_of (codes "chunk")))).top
 
 -- `run` may be given what a script runs over beside the archive, and by whom its builds are done
 abbrev pub with_desk_rules : App → App
-with_desk_rules a = with_rule (with_rule (with_rule a (option_of (codes "state"))) (option_of (codes "tracker"))) (option_of (codes "suite"))
+with_desk_rules a =
+    with_rule (with_rule (with_rule a (option_of (codes "state"))) (option_of (codes "tracker")))
+    (option_of (codes "suite"))
 
 -- how many builders there are, how their builds end, and a journal to go on with
 abbrev pub with_crew_rules : App → App
-with_crew_rules a = with_rule (with_rule (with_rule a (option_of (codes "builders"))) (option_of (codes "outcomes"))) (option_of (codes "journal"))
+with_crew_rules a =
+    with_rule (with_rule (with_rule a (option_of (codes "builders")))
+    (option_of (codes "outcomes"))) (option_of (codes "journal"))
 
 -- the subcommand `run`, which needs the files of an archive and may be given all of these
 abbrev pub run_shape : Shape
-run_shape = (with_explanation (with_crew_rules (with_desk_rules (with_archive_rules (new_app (codes "run")))))).top
+run_shape =
+    (with_explanation
+    (with_crew_rules (with_desk_rules (with_archive_rules (new_app (codes "run")))))).top
 
 -- the program has a version, and wants one of its subcommands
 abbrev pub desk_without_tracker : App
 desk_without_tracker =
-    let program = on_top (λ s. record s { has_version = true; subcommand_required = true }) (new_app (codes "transdesk")) in
+    let program = on_top (λ s. record s { has_version = true; subcommand_required = true })
+    (new_app (codes "transdesk")) in
     with_subcommand (with_subcommand program simulate_shape) check_shape
 
 -- the program with all its subcommands
 abbrev pub desk : App
-desk = with_subcommand (with_subcommand (with_subcommand desk_without_tracker track_shape) waves_shape) run_shape
+desk =
+    with_subcommand (with_subcommand (with_subcommand desk_without_tracker track_shape) waves_shape)
+    run_shape
 
 -- the name of a subcommand with its matches, and those matches
 abbrev pub name_in : Option (List ℕ × List Row) → Option (List ℕ)
@@ -98,7 +114,8 @@ AskFor name words = (faults_of words ≡ []) × (asked_of words ≡ Some name)
 
 -- whether the option to explain is among these; `clap` has a flag's value as text
 abbrev pub is_explained : List Row → Bool
-is_explained options = option_map_or (λ v. bytes_eq v (codes "true")) (first_of (codes "explain") options) false
+is_explained options =
+    option_map_or (λ v. bytes_eq v (codes "true")) (first_of (codes "explain") options) false
 
 -- nothing is wrong with the words, they name this subcommand, and want an explanation or not
 pub record AskExplained (name : List ℕ) (explained : Bool) (words : List (List ℕ)) : Type 0 where
@@ -116,7 +133,10 @@ explaining true = codes "--explain" ∷ []
 
 -- the words that ask for a simulation
 abbrev pub SimulationWordsAsk : Type 0
-SimulationWordsAsk = (program : List ℕ) (explained : Bool) → AskExplained (codes "simulate") explained (asking_for program (codes "simulate") ++ explaining explained)
+SimulationWordsAsk =
+    (program : List ℕ) (explained : Bool)
+    → AskExplained (codes "simulate") explained
+    (asking_for program (codes "simulate") ++ explaining explained)
 
 -- the three options have these paths
 pub record HasFiles (options : List Row) (archs packages sources : List ℕ) : Type 0 where
@@ -126,7 +146,8 @@ pub record HasFiles (options : List Row) (archs packages sources : List ℕ) : T
 
 -- the words ask for a check, and give the paths of these three files
 abbrev pub AskForCheck : List (List ℕ) → List ℕ → List ℕ → List ℕ → Type 0
-AskForCheck words archs packages sources = AskFor (codes "check") words × HasFiles (options_of words) archs packages sources
+AskForCheck words archs packages sources =
+    AskFor (codes "check") words × HasFiles (options_of words) archs packages sources
 
 -- the options of `waves` have these paths
 pub record HasTracker (options : List Row) (archs packages sources tracker : List ℕ) : Type 0 where
@@ -135,7 +156,8 @@ pub record HasTracker (options : List Row) (archs packages sources tracker : Lis
 
 -- the words ask for the waves of these four files
 abbrev pub AskForWaves : List (List ℕ) → List ℕ → List ℕ → List ℕ → List ℕ → Type 0
-AskForWaves words archs packages sources tracker = AskFor (codes "waves") words × HasTracker (options_of words) archs packages sources tracker
+AskForWaves words archs packages sources tracker =
+    AskFor (codes "waves") words × HasTracker (options_of words) archs packages sources tracker
 
 -- how many rows a piece of the report has: 1 to 1000000
 abbrev pub chunk_at : List ℕ → Option ℕ
@@ -219,7 +241,8 @@ given name path = codes "--" ++ (name ++ (codes "=" ++ path))
 -- the words that ask for a check of these files, whatever their paths are
 abbrev pub asking_for_check : List ℕ → List ℕ → List ℕ → List ℕ → List (List ℕ)
 asking_for_check program archs packages sources =
-    program ∷ codes "check" ∷ given (codes "archs") archs ∷ given (codes "packages") packages ∷ given (codes "sources") sources ∷ []
+    program ∷ codes "check" ∷ given (codes "archs") archs ∷ given (codes "packages") packages
+    ∷ given (codes "sources") sources ∷ []
 
 -- a path that isn't taken for an option: its first byte is no hyphen
 abbrev pub IsPlainPath : List ℕ → Type 0
@@ -229,15 +252,20 @@ IsPlainPath (x ∷ xs) = (x == 45) ≡ false
 -- the same words with the paths as words of their own
 abbrev pub asking_apart : List ℕ → List ℕ → List ℕ → List ℕ → List (List ℕ)
 asking_apart program archs packages sources =
-    program ∷ codes "check" ∷ codes "--archs" ∷ archs ∷ codes "--packages" ∷ packages ∷ codes "--sources" ∷ sources ∷ []
+    program ∷ codes "check" ∷ codes "--archs" ∷ archs ∷ codes "--packages" ∷ packages
+    ∷ codes "--sources" ∷ sources ∷ []
 
 -- both ask for the check of these files
 abbrev pub JoinedWordsAsk : Type 0
-JoinedWordsAsk = (program archs packages sources : List ℕ) → AskForCheck (asking_for_check program archs packages sources) archs packages sources
+JoinedWordsAsk =
+    (program archs packages sources : List ℕ)
+    → AskForCheck (asking_for_check program archs packages sources) archs packages sources
 
 -- those with the paths as words of their own do where no path is taken for an option
 abbrev pub SeparateWordsAsk : Type 0
-SeparateWordsAsk = (program archs packages sources : List ℕ) → IsPlainPath archs → IsPlainPath packages → IsPlainPath sources
+SeparateWordsAsk =
+    (program archs packages sources : List ℕ) → IsPlainPath archs → IsPlainPath packages
+    → IsPlainPath sources
     → AskForCheck (asking_apart program archs packages sources) archs packages sources
 
 -- ---- the words of the other subcommands
@@ -249,29 +277,41 @@ given_if name (Some value) = given name value ∷ []
 
 -- the words that give the files of an archive
 abbrev pub archive_words : List ℕ → List ℕ → List ℕ → List (List ℕ) → List (List ℕ)
-archive_words archs packages sources rest = given (codes "archs") archs ∷ given (codes "packages") packages ∷ given (codes "sources") sources ∷ rest
+archive_words archs packages sources rest =
+    given (codes "archs") archs ∷ given (codes "packages") packages
+    ∷ given (codes "sources") sources ∷ rest
 
 -- the words that ask for waves
 abbrev pub asking_for_waves : List ℕ → List ℕ → List ℕ → List ℕ → List ℕ → List (List ℕ)
 asking_for_waves program archs packages sources tracker =
-    program ∷ codes "waves" ∷ archive_words archs packages sources (given (codes "tracker") tracker ∷ [])
+    program ∷ codes "waves"
+    ∷ archive_words archs packages sources (given (codes "tracker") tracker ∷ [])
 
 -- the words that ask for a report, by what they say of a chunk
 abbrev pub asking_for_track : List ℕ → TrackWords → Option (List ℕ) → List (List ℕ)
 asking_for_track program w chunk =
-    program ∷ codes "track" ∷ archive_words w.archs w.packages w.sources (given (codes "tracker") w.tracker ∷ (given_if (codes "state") w.state ++ given_if (codes "chunk") chunk))
+    program ∷ codes "track"
+    ∷ archive_words w.archs w.packages w.sources
+    (given (codes "tracker") w.tracker
+    ∷ (given_if (codes "state") w.state ++ given_if (codes "chunk") chunk))
 
 -- they ask for it, with other rows or without, in chunks or whole
 abbrev pub TrackWordsAsk : Type 0
-TrackWordsAsk = (program : List ℕ) (w : TrackWords) (chunk : Option (List ℕ)) → chunk_in chunk ≡ Some w.chunk → AskForTrack (asking_for_track program w chunk) w
+TrackWordsAsk =
+    (program : List ℕ) (w : TrackWords) (chunk : Option (List ℕ)) → chunk_in chunk ≡ Some w.chunk
+    → AskForTrack (asking_for_track program w chunk) w
 
 -- the words that ask for waves ask for them
 abbrev pub WavesWordsAsk : Type 0
-WavesWordsAsk = (program archs packages sources tracker : List ℕ) → AskForWaves (asking_for_waves program archs packages sources tracker) archs packages sources tracker
+WavesWordsAsk =
+    (program archs packages sources tracker : List ℕ)
+    → AskForWaves (asking_for_waves program archs packages sources tracker) archs packages sources
+    tracker
 
 -- the words that ask for a run over an archive alone
 abbrev pub asking_for_plain_run : List ℕ → List ℕ → List ℕ → List ℕ → List (List ℕ)
-asking_for_plain_run program archs packages sources = program ∷ codes "run" ∷ archive_words archs packages sources []
+asking_for_plain_run program archs packages sources =
+    program ∷ codes "run" ∷ archive_words archs packages sources []
 
 -- what they ask for
 abbrev pub plain_run : List ℕ → List ℕ → List ℕ → RunWords
@@ -289,39 +329,74 @@ plain_run archs packages sources = record {
 
 -- the words that ask for a run over an archive alone ask for that
 abbrev pub PlainRunWordsAsk : Type 0
-PlainRunWordsAsk = (program archs packages sources : List ℕ) → AskForRun (asking_for_plain_run program archs packages sources) (plain_run archs packages sources)
+PlainRunWordsAsk =
+    (program archs packages sources : List ℕ)
+    → AskForRun (asking_for_plain_run program archs packages sources)
+    (plain_run archs packages sources)
 
 -- the words that ask for a run with everything that may be given, by what they say of the builders
-abbrev pub asking_for_whole_run : List ℕ → List ℕ → List ℕ → List ℕ → List ℕ → List ℕ → List ℕ → List ℕ → List ℕ → List ℕ → List (List ℕ)
+abbrev pub asking_for_whole_run : List ℕ → List ℕ → List ℕ → List ℕ → List ℕ → List ℕ → List ℕ
+    → List ℕ → List ℕ → List ℕ → List (List ℕ)
 asking_for_whole_run program archs packages sources state tracker suite builders outcomes journal =
     program ∷ codes "run" ∷ archive_words archs packages sources
-    (given (codes "state") state ∷ given (codes "tracker") tracker ∷ given (codes "suite") suite ∷ given (codes "builders") builders
+    (given (codes "state") state ∷ given (codes "tracker") tracker ∷ given (codes "suite") suite
+    ∷ given (codes "builders") builders
     ∷ given (codes "outcomes") outcomes ∷ given (codes "journal") journal ∷ [])
 
 -- the words that ask for a run with everything that may be given ask for that
 abbrev pub WholeRunWordsAsk : Type 0
-WholeRunWordsAsk = (program archs packages sources state tracker suite builders outcomes journal : List ℕ) (count : ℕ) → builders_at builders ≡ Some count
-    → AskForRun (asking_for_whole_run program archs packages sources state tracker suite builders outcomes journal)
-    (record { archs = archs; packages = packages; sources = sources; state = Some state; tracker = Some tracker; suite = suite; builders = count; outcomes = Some outcomes; journal = Some journal })
+WholeRunWordsAsk =
+    (program archs packages sources state tracker suite builders outcomes journal : List ℕ)
+    (count : ℕ) → builders_at builders ≡ Some count
+    → AskForRun (asking_for_whole_run program archs packages sources state tracker suite builders
+    outcomes journal)
+    (record {
+      archs = archs;
+      packages = packages;
+      sources = sources;
+      state = Some state;
+      tracker = Some tracker;
+      suite = suite;
+      builders = count;
+      outcomes = Some outcomes;
+      journal = Some journal;
+    })
 
 -- ---- with an explanation
 
--- the words of each other subcommand ask for just what they did, and for an explanation, where that word stands behind them; without it they ask for none
+-- the words of each other subcommand ask for just what they did, and for an explanation, where that
+-- word stands behind them; without it they ask for none
 pub record CheckWordsExplain : Type 0 where
-  pub same : (program archs packages sources : List ℕ) (explained : Bool) → AskForCheck (asking_for_check program archs packages sources ++ explaining explained) archs packages sources
-  pub flag : (program archs packages sources : List ℕ) (explained : Bool) → is_explained (options_of (asking_for_check program archs packages sources ++ explaining explained)) ≡ explained
+  pub same : (program archs packages sources : List ℕ) (explained : Bool)
+      → AskForCheck (asking_for_check program archs packages sources ++ explaining explained) archs
+      packages sources
+  pub flag : (program archs packages sources : List ℕ) (explained : Bool)
+      → is_explained (options_of
+      (asking_for_check program archs packages sources ++ explaining explained)) ≡ explained
 
 -- the same of the words of a report
 pub record TrackWordsExplain : Type 0 where
-  pub same : (program : List ℕ) (w : TrackWords) (chunk : Option (List ℕ)) (explained : Bool) → chunk_in chunk ≡ Some w.chunk → AskForTrack (asking_for_track program w chunk ++ explaining explained) w
-  pub flag : (program : List ℕ) (w : TrackWords) (chunk : Option (List ℕ)) (explained : Bool) → is_explained (options_of (asking_for_track program w chunk ++ explaining explained)) ≡ explained
+  pub same : (program : List ℕ) (w : TrackWords) (chunk : Option (List ℕ)) (explained : Bool)
+      → chunk_in chunk ≡ Some w.chunk
+      → AskForTrack (asking_for_track program w chunk ++ explaining explained) w
+  pub flag : (program : List ℕ) (w : TrackWords) (chunk : Option (List ℕ)) (explained : Bool)
+      → is_explained (options_of (asking_for_track program w chunk ++ explaining explained))
+      ≡ explained
 
 -- the same of the words of waves
 pub record WavesWordsExplain : Type 0 where
-  pub same : (program archs packages sources tracker : List ℕ) (explained : Bool) → AskForWaves (asking_for_waves program archs packages sources tracker ++ explaining explained) archs packages sources tracker
-  pub flag : (program archs packages sources tracker : List ℕ) (explained : Bool) → is_explained (options_of (asking_for_waves program archs packages sources tracker ++ explaining explained)) ≡ explained
+  pub same : (program archs packages sources tracker : List ℕ) (explained : Bool)
+      → AskForWaves (asking_for_waves program archs packages sources tracker
+      ++ explaining explained) archs packages sources tracker
+  pub flag : (program archs packages sources tracker : List ℕ) (explained : Bool)
+      → is_explained (options_of
+      (asking_for_waves program archs packages sources tracker ++ explaining explained)) ≡ explained
 
 -- the same of the words of a run over an archive alone
 pub record RunWordsExplain : Type 0 where
-  pub same : (program archs packages sources : List ℕ) (explained : Bool) → AskForRun (asking_for_plain_run program archs packages sources ++ explaining explained) (plain_run archs packages sources)
-  pub flag : (program archs packages sources : List ℕ) (explained : Bool) → is_explained (options_of (asking_for_plain_run program archs packages sources ++ explaining explained)) ≡ explained
+  pub same : (program archs packages sources : List ℕ) (explained : Bool)
+      → AskForRun (asking_for_plain_run program archs packages sources ++ explaining explained)
+      (plain_run archs packages sources)
+  pub flag : (program archs packages sources : List ℕ) (explained : Bool)
+      → is_explained (options_of
+      (asking_for_plain_run program archs packages sources ++ explaining explained)) ≡ explained

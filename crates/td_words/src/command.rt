@@ -3,7 +3,11 @@ ghost use Rattle.std.specs.Prelude.{◌≡◌, IfOk, codes, false};
 ghost use Rattle.clap.specs.Simple.{app_of, shape_of, with_rule};
 ghost use Rattle.clap.specs.declared.builder.command.Command.TheViews.{out-Command};
 ghost use Rattle.clap.specs.Walk.{rule_of};
-ghost use Rattle.td_words.specs.CommandLine.{check_shape, desk, desk_without_tracker, flag_of, needed_option, option_of, run_shape, simulate_shape, track_shape, waves_shape, with_archive_rules, with_crew_rules, with_desk_rules, with_explanation, with_tracker_rules};
+ghost use Rattle.td_words.specs.CommandLine.{check_shape, desk, desk_without_tracker, flag_of};
+ghost use Rattle.td_words.specs.CommandLine.{needed_option, option_of, run_shape, simulate_shape};
+ghost use Rattle.td_words.specs.CommandLine.{track_shape, waves_shape, with_archive_rules};
+ghost use Rattle.td_words.specs.CommandLine.{with_crew_rules, with_desk_rules, with_explanation};
+ghost use Rattle.td_words.specs.CommandLine.{with_tracker_rules};
 
 use clap::{Arg, ArgAction, Command};
 use std::alloc::{AllocError, Global};
@@ -48,7 +52,8 @@ fn flag<'a>(alloc: Global, name: &'static str, help: &'static str) -> Arg<'a>
 // The same command with it.
 fn explained<'a>(alloc: Global, command: Command<'a>) -> Result<Command<'a>, AllocError>
     ensures app { IfOk result (λ c. app_of c ≡ with_explanation (app_of command.entry)) }
-    ensures globals { (out-Command command.entry).has_globals ≡ false → IfOk result (λ c. (out-Command c).has_globals ≡ false) }
+    ensures globals { (out-Command command.entry).has_globals ≡ false
+        → IfOk result (λ c. (out-Command c).has_globals ≡ false) }
 {
     command.arg(flag(alloc, "explain", EXPLAIN))
 }
@@ -144,8 +149,10 @@ fn with_file<'a>(
     name: &'static str,
     help: &'static str,
 ) -> Result<Command<'a>, AllocError>
-    ensures app { IfOk result (λ c. app_of c ≡ with_rule (app_of command.entry) (needed_option name.now)) }
-    ensures globals { (out-Command command.entry).has_globals ≡ false → IfOk result (λ c. (out-Command c).has_globals ≡ false) }
+    ensures app { IfOk result (λ c.
+        app_of c ≡ with_rule (app_of command.entry) (needed_option name.now)) }
+    ensures globals { (out-Command command.entry).has_globals ≡ false
+        → IfOk result (λ c. (out-Command c).has_globals ≡ false) }
 {
     command.arg(file(alloc, name, help))
 }
@@ -153,7 +160,8 @@ fn with_file<'a>(
 // The same command with the files of an archive.
 fn with_archive<'a>(alloc: Global, command: Command<'a>) -> Result<Command<'a>, AllocError>
     ensures app { IfOk result (λ c. app_of c ≡ with_archive_rules (app_of command.entry)) }
-    ensures globals { (out-Command command.entry).has_globals ≡ false → IfOk result (λ c. (out-Command c).has_globals ≡ false) }
+    ensures globals { (out-Command command.entry).has_globals ≡ false
+        → IfOk result (λ c. (out-Command c).has_globals ≡ false) }
 {
     let command = with_file(alloc, command, "archs", ARCHS)?;
     let command = with_file(alloc, command, "packages", PACKAGES)?;
@@ -163,7 +171,8 @@ fn with_archive<'a>(alloc: Global, command: Command<'a>) -> Result<Command<'a>, 
 // The same command with the files of a tracker over an archive.
 fn with_tracker<'a>(alloc: Global, command: Command<'a>) -> Result<Command<'a>, AllocError>
     ensures app { IfOk result (λ c. app_of c ≡ with_tracker_rules (app_of command.entry)) }
-    ensures globals { (out-Command command.entry).has_globals ≡ false → IfOk result (λ c. (out-Command c).has_globals ≡ false) }
+    ensures globals { (out-Command command.entry).has_globals ≡ false
+        → IfOk result (λ c. (out-Command c).has_globals ≡ false) }
 {
     let command = with_archive(alloc, command)?;
     with_file(alloc, command, "tracker", TRACKER)
@@ -215,7 +224,8 @@ docs/FORMATS.md says exactly what is read and printed, and lists the lines.";
 // The same command with what a desk is opened with beside an archive.
 fn with_desk<'a>(alloc: Global, command: Command<'a>) -> Result<Command<'a>, AllocError>
     ensures app { IfOk result (λ c. app_of c ≡ with_desk_rules (app_of command.entry)) }
-    ensures globals { (out-Command command.entry).has_globals ≡ false → IfOk result (λ c. (out-Command c).has_globals ≡ false) }
+    ensures globals { (out-Command command.entry).has_globals ≡ false
+        → IfOk result (λ c. (out-Command c).has_globals ≡ false) }
 {
     let suite = "The suite that command lines may name; unstable where none is given";
     command
@@ -227,7 +237,8 @@ fn with_desk<'a>(alloc: Global, command: Command<'a>) -> Result<Command<'a>, All
 // The same command with who builds, and with the journal of an earlier run.
 fn with_crew<'a>(alloc: Global, command: Command<'a>) -> Result<Command<'a>, AllocError>
     ensures app { IfOk result (λ c. app_of c ≡ with_crew_rules (app_of command.entry)) }
-    ensures globals { (out-Command command.entry).has_globals ≡ false → IfOk result (λ c. (out-Command c).has_globals ≡ false) }
+    ensures globals { (out-Command command.entry).has_globals ≡ false
+        → IfOk result (λ c. (out-Command c).has_globals ≡ false) }
 {
     let builders = "How many builders there are, from 0 to 64; none where none are given";
     let outcomes = "How the builds of each row end";

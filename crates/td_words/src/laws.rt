@@ -1,6 +1,10 @@
 //! The words that ask for each subcommand do so, as theorems.
-ghost use Rattle.td_words.specs.CommandLine.{CheckWordsExplain, JoinedWordsAsk, PlainRunWordsAsk, RunWordsExplain, SeparateWordsAsk, SimulationWordsAsk, TrackWordsAsk, TrackWordsExplain, WavesWordsAsk, WavesWordsExplain, WholeRunWordsAsk};
-ghost use Rattle.td_words.specs.WordsApart.{SeparatePlainRunWordsAsk, SeparateTrackWordsAsk, SeparateWavesWordsAsk, SeparateWholeRunWordsAsk};
+ghost use Rattle.td_words.specs.CommandLine.{CheckWordsExplain, JoinedWordsAsk, PlainRunWordsAsk};
+ghost use Rattle.td_words.specs.CommandLine.{RunWordsExplain, SeparateWordsAsk, SimulationWordsAsk};
+ghost use Rattle.td_words.specs.CommandLine.{TrackWordsAsk, TrackWordsExplain, WavesWordsAsk};
+ghost use Rattle.td_words.specs.CommandLine.{WavesWordsExplain, WholeRunWordsAsk};
+ghost use Rattle.td_words.specs.WordsApart.{SeparatePlainRunWordsAsk, SeparateTrackWordsAsk};
+ghost use Rattle.td_words.specs.WordsApart.{SeparateWavesWordsAsk, SeparateWholeRunWordsAsk};
 
 /// The words of a simulation ask for it, and for an explanation where `--explain` is one of them.
 pub fn words_of_a_simulation_ask_for_it()

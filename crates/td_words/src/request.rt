@@ -1,11 +1,17 @@
 //! What the words of the command line ask for, or why they ask for nothing.
-ghost use Rattle.std.specs.Prelude.{◌≡◌, ℕ, List, map, option_map, codes, string_bytes, MatchResult, IfOk, IfErr};
+ghost use Rattle.std.specs.Prelude.{◌≡◌, ℕ, List, map, option_map, codes, string_bytes};
+ghost use Rattle.std.specs.Prelude.{MatchResult, IfOk, IfErr};
 ghost use Rattle.clap.specs.Values.{kind_of};
 ghost use Rattle.clap.specs.Matches.{found_of};
 ghost use Rattle.clap.specs.Simple.{subcommand_rows_of};
 ghost use Rattle.clap.specs.Walk.{first_of, rows_of};
-ghost use Rattle.td_words.specs.CommandLine.{AskFor, AskForCheck, AskForRun, AskForTrack, AskForWaves, HasFiles, HasRun, HasTrack, HasTracker, RunWords, TrackWords, chunk_at, chunk_in as chunk_in_of, is_explained, name_in, options_of, rows_in};
-ghost use Rattle.td_words.specs.Asked.{AreWavesIn, AreWavesOf, Asks, IsCheckIn, IsCheckOf, IsRequestIn, IsRunOf, IsTrackIn, IsTrackOf, call_as};
+ghost use Rattle.td_words.specs.CommandLine.{AskFor, AskForCheck, AskForRun, AskForTrack};
+ghost use Rattle.td_words.specs.CommandLine.{AskForWaves, HasFiles, HasRun, HasTrack, HasTracker};
+ghost use Rattle.td_words.specs.CommandLine.{RunWords, TrackWords, chunk_at};
+ghost use Rattle.td_words.specs.CommandLine.{chunk_in as chunk_in_of, is_explained, name_in};
+ghost use Rattle.td_words.specs.CommandLine.{options_of, rows_in};
+ghost use Rattle.td_words.specs.Asked.{AreWavesIn, AreWavesOf, Asks, IsCheckIn, IsCheckOf};
+ghost use Rattle.td_words.specs.Asked.{IsRequestIn, IsRunOf, IsTrackIn, IsTrackOf, call_as};
 
 use crate::command::command;
 use crate::run_words::run_in;
@@ -136,7 +142,8 @@ pub(crate) fn needed_in(
 ) -> Result<String, WordsFault>
     ensures text { (text : List ℕ) → first_of name.now (rows_of (found_of matches.now)) ≡ Some text
         → MatchResult result (λ s. string_bytes s ≡ text) (λ e. e ≡ WordsFault.NoMemory) }
-    ensures only { IfOk result (λ s. first_of name.now (rows_of (found_of matches.now)) ≡ Some (string_bytes s)) }
+    ensures only { IfOk result (λ s.
+        first_of name.now (rows_of (found_of matches.now)) ≡ Some (string_bytes s)) }
 {
     match value_in(matches, name) {
         Some(text) => Ok(String::from_str(alloc, text)?),
@@ -150,7 +157,8 @@ pub(crate) fn given_in(
     matches: &ArgMatches<'_>,
     name: &str,
 ) -> Result<Option<String>, WordsFault>
-    ensures text { IfOk result (λ s. option_map string_bytes s ≡ first_of name.now (rows_of (found_of matches.now))) }
+    ensures text { IfOk result (λ s.
+        option_map string_bytes s ≡ first_of name.now (rows_of (found_of matches.now))) }
     ensures memory { IfErr result (λ e. e ≡ WordsFault.NoMemory) }
 {
     match value_in(matches, name) {
@@ -216,7 +224,8 @@ fn track_in(alloc: Global, matches: &ArgMatches<'_>) -> Result<Request, WordsFau
 fn waves_in(alloc: Global, matches: &ArgMatches<'_>) -> Result<Request, WordsFault>
     ensures waves { (archs packages sources tracker : List ℕ)
         → HasTracker (rows_of (found_of matches.now)) archs packages sources tracker
-        → MatchResult result (AreWavesOf archs packages sources tracker) (λ e. e ≡ WordsFault.NoMemory) }
+        → MatchResult result (AreWavesOf archs packages sources tracker)
+        (λ e. e ≡ WordsFault.NoMemory) }
     ensures only { IfOk result (AreWavesIn (rows_of (found_of matches.now))) }
 {
     Ok(Request::Waves {
@@ -242,7 +251,8 @@ fn request_in(alloc: Global, matches: &ArgMatches<'_>) -> Result<Request, WordsF
     ensures waves { (archs packages sources tracker : List ℕ)
         → name_in (subcommand_rows_of matches.now) ≡ Some (codes "waves")
         → HasTracker (rows_in (subcommand_rows_of matches.now)) archs packages sources tracker
-        → MatchResult result (AreWavesOf archs packages sources tracker) (λ e. e ≡ WordsFault.NoMemory) }
+        → MatchResult result (AreWavesOf archs packages sources tracker)
+        (λ e. e ≡ WordsFault.NoMemory) }
     ensures run { (w : RunWords)
         → name_in (subcommand_rows_of matches.now) ≡ Some (codes "run")
         → HasRun (rows_in (subcommand_rows_of matches.now)) w
@@ -290,14 +300,16 @@ pub fn read_words(alloc: Global, words: &[String]) -> Result<Call, WordsFault>
     // Words that ask for a check of three files are answered by it, unless memory runs out.
     ensures check { (archs packages sources : List ℕ)
         → AskForCheck (map string_bytes words.now) archs packages sources
-        → MatchResult result (λ c. IsCheckOf archs packages sources c.request) (λ e. e ≡ WordsFault.NoMemory) }
+        → MatchResult result (λ c. IsCheckOf archs packages sources c.request)
+        (λ e. e ≡ WordsFault.NoMemory) }
     // Words that ask for a report are answered by it, unless memory runs out.
     ensures track { (w : TrackWords) → AskForTrack (map string_bytes words.now) w
         → MatchResult result (λ c. IsTrackOf w c.request) (λ e. e ≡ WordsFault.NoMemory) }
     // So are words that ask for waves.
     ensures waves { (archs packages sources tracker : List ℕ)
         → AskForWaves (map string_bytes words.now) archs packages sources tracker
-        → MatchResult result (λ c. AreWavesOf archs packages sources tracker c.request) (λ e. e ≡ WordsFault.NoMemory) }
+        → MatchResult result (λ c. AreWavesOf archs packages sources tracker c.request)
+        (λ e. e ≡ WordsFault.NoMemory) }
     // And words that ask for a run.
     ensures run { (w : RunWords) → AskForRun (map string_bytes words.now) w
         → MatchResult result (λ c. IsRunOf w c.request) (λ e. e ≡ WordsFault.NoMemory) }

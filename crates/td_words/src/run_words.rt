@@ -2,7 +2,8 @@
 ghost use Rattle.std.specs.Prelude.{◌≡◌, codes, string_bytes, MatchResult, IfOk, IfErr};
 ghost use Rattle.clap.specs.Matches.{found_of};
 ghost use Rattle.clap.specs.Walk.{first_of, rows_of};
-ghost use Rattle.td_words.specs.CommandLine.{HasRun, RunWords, builders_in as builders_in_of, suite_in as suite_in_of};
+ghost use Rattle.td_words.specs.CommandLine.{HasRun, RunWords, builders_in as builders_in_of};
+ghost use Rattle.td_words.specs.CommandLine.{suite_in as suite_in_of};
 ghost use Rattle.td_words.specs.Asked.{IsRunIn, IsRunOf};
 
 use crate::request::{Request, WordsFault, given_in, needed_in, value_in};
@@ -19,7 +20,8 @@ const SUITE: &str = "unstable";
 // How many builders there are, none where the option is left out; `None` where it says anything
 // else.
 fn builders_in(matches: &ArgMatches<'_>) -> Option<usize>
-    ensures { result ≡ builders_in_of (first_of (codes "builders") (rows_of (found_of matches.now))) }
+    ensures { result
+        ≡ builders_in_of (first_of (codes "builders") (rows_of (found_of matches.now))) }
 {
     match value_in(matches, "builders") {
         Some(text) => match number(text, MAX_BUILDERS) {
@@ -40,7 +42,8 @@ fn no_builders(alloc: Global) -> WordsFault {
 
 // The suite that is named, or the usual one.
 fn suite_in(alloc: Global, matches: &ArgMatches<'_>) -> Result<String, WordsFault>
-    ensures text { IfOk result (λ s. string_bytes s ≡ suite_in_of (first_of (codes "suite") (rows_of (found_of matches.now)))) }
+    ensures text { IfOk result (λ s.
+        string_bytes s ≡ suite_in_of (first_of (codes "suite") (rows_of (found_of matches.now)))) }
     ensures memory { IfErr result (λ e. e ≡ WordsFault.NoMemory) }
 {
     match value_in(matches, "suite") {

@@ -1,5 +1,6 @@
 -- The list of the rows that are on offer, kept up as they change. This project's own.
-use Rattle.std.specs.Prelude.{◌≡◌, ℕ, zero, suc, ◌<◌, ◌≤◌, ◌==◌, Bool, true, false, List, [], ◌∷◌, filter, length, slice_index, if◌then◌else◌}
+use Rattle.std.specs.Prelude.{◌≡◌, ℕ, zero, suc, ◌<◌, ◌≤◌, ◌==◌, Bool, true, false, List, [], ◌∷◌}
+use Rattle.std.specs.Prelude.{filter, length, slice_index, if◌then◌else◌}
 use Rattle.std.specs.List.{count_by, range_with_len}
 use Rattle.td_board.specs.declared.views.RowView.{RowView}
 use Rattle.td_board.specs.declared.views.RowView.TheVariants.{In, Out, Seen, Known}
@@ -25,7 +26,8 @@ outs_of view = filter (is_out_no view) (range_with_len 0 (length view))
 abbrev pub times_in : List ℕ → ℕ → ℕ
 times_in numbers n = count_by (λ m. m == n) numbers
 
--- the list has each row on offer once and no other, the places have, by row, where it stands there, and there is room in the list for every row
+-- the list has each row on offer once and no other, the places have, by row, where it stands there,
+-- and there is room in the list for every row
 pub record IsListed (view : List RowView) (outs places : List ℕ) (room : ℕ) : Type 0 where
   pub once : (n : ℕ) → times_in outs n ≡ (if is_out_no view n then 1 else 0)
   pub placed : (i : ℕ) → i < length outs → slice_index places (slice_index outs i) ≡ i

@@ -29,7 +29,15 @@ pub trait Named {
 impl Named for Brand {
     ghost use Rattle.std.specs.Prelude.{[]};
 
-    ghost table = { record { words = 0; slots = 0; views_name = 0; atom = 0; block = 0; offset = 0; slot_names = [] } };
+    ghost table = { record {
+      words = 0;
+      slots = 0;
+      views_name = 0;
+      atom = 0;
+      block = 0;
+      offset = 0;
+      slot_names = [];
+    } };
 }
 
 // A book of the named board.

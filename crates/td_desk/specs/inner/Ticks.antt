@@ -1,5 +1,7 @@
 -- What is left of a book's changes once some have found their receipts. This project's own.
-use Rattle.std.specs.Prelude.{◌≡◌, ◌+◌, ◌-◌, ◌<◌, ◌≤◌, ℕ, suc, Bool, true, false, not, List, [], ◌∷◌, ◌++◌, ◌&&◌, ◌||◌, if◌then◌else◌, length, map, replicate, IsPermutation}
+use Rattle.std.specs.Prelude.{◌≡◌, ◌+◌, ◌-◌, ◌<◌, ◌≤◌, ℕ, suc, Bool, true, false, not, List, []}
+use Rattle.std.specs.Prelude.{◌∷◌, ◌++◌, ◌&&◌, ◌||◌, if◌then◌else◌, length, map, replicate}
+use Rattle.std.specs.Prelude.{IsPermutation}
 use Rattle.td_journal.specs.declared.entry.Mark.{Mark}
 use Rattle.td_journal.specs.declared.entry.Marked.{Marked}
 use Rattle.td_journal.specs.Entries.{is_standing}
@@ -15,13 +17,15 @@ use Rattle.td_desk.specs.inner.Matching.{same_receipt}
 abbrev pub unticked : Tick
 unticked = record { made = false; undone = false }
 
--- the tick of an entry that was there at the opening: it wasn't made since, and where it was undone then, that isn't a change
+-- the tick of an entry that was there at the opening: it wasn't made since, and where it was undone
+-- then, that isn't a change
 abbrev pub begun_at : Mark → Tick
 begun_at was = record { made = true; undone = not (is_standing was) }
 
 -- ticks of a book that was opened with these marks, for at least n entries
 abbrev pub AreBegun : List Mark → ℕ → List Tick → Type 0
-AreBegun opened n ts = (ts ≡ map begun_at opened ++ replicate (length ts - length opened) unticked) × (n ≤ length ts)
+AreBegun opened n ts =
+    (ts ≡ map begun_at opened ++ replicate (length ts - length opened) unticked) × (n ≤ length ts)
 
 -- whether what a clerk made by the entry isn't ticked yet; and whether its undo isn't
 abbrev pub is_made_left : Marked → Tick → Bool
@@ -37,7 +41,8 @@ one b r = if b then r ∷ [] else []
 
 -- the changes of entry n that aren't ticked
 abbrev pub left_at : ℕ → Marked → Tick → List Receipt
-left_at n m t = one (is_made_left m t) (made_of n m.entry.kind m.entry.keys) ++ one (is_undo_left m t) (Undid n)
+left_at n m t =
+    one (is_made_left m t) (made_of n m.entry.kind m.entry.keys) ++ one (is_undo_left m t) (Undid n)
 
 -- those of the entries from number n on
 abbrev pub left_from : ℕ → List Marked → List Tick → List Receipt

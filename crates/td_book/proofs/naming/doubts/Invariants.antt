@@ -5,4 +5,6 @@ use Rattle.td_book.specs.Skips.{doubt}
 use Rattle.td_book.proofs.naming.doubts.Given as goal
 
 abbrev pub invariant-loop-key : goal.invariant-loop-key
-invariant-loop-key l = l.doubts.items ≡ map (doubt (is_matched_at (parts_of l.command) l.supply l.rows)) (take l.key-index l.named)
+invariant-loop-key l =
+    l.doubts.items ≡ map (doubt (is_matched_at (parts_of l.command) l.supply l.rows))
+    (take l.key-index l.named)

@@ -11,7 +11,14 @@ pub loop-number-preserved : goal.loop-number-preserved
 loop-number-preserved c =
     let within : c.loop-number.number-index < length c.args.numbers.now = omega arith in
     elim c.match-at.branch [
-      | in-Some+in_ok-copy+in_ok-push w ↦ keys_more c.args.rows.now c.args.numbers.now c.loop-number.number-index 0 c.loop-number.keys.items c.match-at.keys.items w.in-Some.key.now w.in-Some.field-0-1.now within w.in-Some.ensures c.loop-number.invariant
-          (ap (λ v. v.items) w.keys-is ∙ w.in_ok-push.ensures.items ∙ ap (λ (k : Key). c.loop-number.keys.items ++ k ∷ []) w.in_ok-copy.ensures)
-      | in_default w ↦ keys_same c.args.rows.now c.args.numbers.now c.loop-number.number-index 0 c.loop-number.keys.items c.match-at.keys.items within w.in_default.ensures c.loop-number.invariant (ap (λ v. v.items) w.keys-is)
+      | in-Some+in_ok-copy+in_ok-push w ↦
+          keys_more c.args.rows.now c.args.numbers.now c.loop-number.number-index 0
+          c.loop-number.keys.items c.match-at.keys.items w.in-Some.key.now w.in-Some.field-0-1.now
+          within w.in-Some.ensures c.loop-number.invariant
+          (ap (λ v. v.items) w.keys-is ∙ w.in_ok-push.ensures.items
+          ∙ ap (λ (k : Key). c.loop-number.keys.items ++ k ∷ []) w.in_ok-copy.ensures)
+      | in_default w ↦
+          keys_same c.args.rows.now c.args.numbers.now c.loop-number.number-index 0
+          c.loop-number.keys.items c.match-at.keys.items within w.in_default.ensures
+          c.loop-number.invariant (ap (λ v. v.items) w.keys-is)
     ]

@@ -6,4 +6,6 @@ use Rattle.td_book.proofs.Numbered.{keys_at-none}
 use Rattle.td_book.proofs.naming.looked_up.Goals as goal
 
 pub loop-package-init : goal.loop-package-init
-loop-package-init c k = ap (λ (ns : List ℕ). names (keys_at c.args.rows.now ns) k) c.new-numbers.ensures.items ∙ ap (λ (ks : List Key). names ks k) (keys_at-none c.args.rows.now)
+loop-package-init c k =
+    ap (λ (ns : List ℕ). names (keys_at c.args.rows.now ns) k) c.new-numbers.ensures.items
+    ∙ ap (λ (ks : List Key). names ks k) (keys_at-none c.args.rows.now)

@@ -6,4 +6,7 @@ use Rattle.td_book.specs.Naming.{Adds, keys_at}
 use Rattle.td_book.proofs.naming.looked_up.Given as goal
 
 abbrev pub invariant-loop-package : goal.invariant-loop-package
-invariant-loop-package l = Adds l.rows [] (keys_at l.rows l.numbers.items) (λ k. list_any (λ p. bytes_eq (string_bytes p.source) k.source) (take l.package-index l.packages) && list_any (λ a. bytes_eq a.now k.arch) l.archs)
+invariant-loop-package l =
+    Adds l.rows [] (keys_at l.rows l.numbers.items)
+    (λ k. list_any (λ p. bytes_eq (string_bytes p.source) k.source)
+    (take l.package-index l.packages) && list_any (λ a. bytes_eq a.now k.arch) l.archs)

@@ -4,4 +4,6 @@ use Rattle.td_book.specs.Naming.{is_matched_at}
 use Rattle.td_book.proofs.naming.matched.Given as goal
 
 abbrev pub invariant-loop-key : goal.invariant-loop-key
-invariant-loop-key l = l.matched.items ≡ filter (is_matched_at (parts_of l.command) l.supply l.rows) (take l.key-index l.named)
+invariant-loop-key l =
+    l.matched.items
+    ≡ filter (is_matched_at (parts_of l.command) l.supply l.rows) (take l.key-index l.named)

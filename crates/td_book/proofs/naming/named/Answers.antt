@@ -15,8 +15,18 @@ returns-clause-keys c =
     let command = c.args.command.now in
     let found = keys_at t c.in_ok-numbers.numbers.items in
     let sorted = keys_at t c.sort_numbers.new.numbers.items in
-    let is = named_all t found sorted (λ k. is_named (parts_of command) k.source k.arch) c.len-rising.ensures.rising (rising_keys t c.sort_numbers.new.numbers.items c.len-rising.ensures.rising c.sort_numbers.ensures.rising) (c.sort_numbers.ensures.same t)
-    (adds_same t [] found (λ k. list_any (λ p. bytes_eq (string_bytes p.source) k.source) c.deref.result.now && list_any (λ a. bytes_eq a.now k.arch) c.deref-2.result.now) (λ k. is_named (parts_of command) k.source k.arch)
-    (λ k. (λ j. list_any (λ p. bytes_eq (string_bytes p.source) k.source) (c.deref.ensures.value j) && list_any (λ a. bytes_eq a.now k.arch) (c.deref-2.ensures.value j)) ∙ named_same command k.source k.arch)
+    let is = named_all t found sorted (λ k. is_named (parts_of command) k.source k.arch)
+    c.len-rising.ensures.rising
+    (rising_keys t c.sort_numbers.new.numbers.items c.len-rising.ensures.rising
+    c.sort_numbers.ensures.rising) (c.sort_numbers.ensures.same t)
+    (adds_same t [] found (λ k.
+    list_any (λ p. bytes_eq (string_bytes p.source) k.source) c.deref.result.now
+    && list_any (λ a. bytes_eq a.now k.arch) c.deref-2.result.now)
+    (λ k. is_named (parts_of command) k.source k.arch)
+    (λ k. (λ j. list_any (λ p. bytes_eq (string_bytes p.source) k.source) (c.deref.ensures.value j)
+    && list_any (λ a. bytes_eq a.now k.arch) (c.deref-2.ensures.value j))
+    ∙ named_same command k.source k.arch)
     c.in_ok-numbers.ensures) in
-    ok_more (λ keys. keys.items ≡ keys_at t c.deref-3.result.now) (λ keys. keys.items ≡ named_in (parts_of command) t) c.keys_of.result (λ keys e. e ∙ ap (keys_at t) c.deref-3.ensures.value ∙ is) c.keys_of.ensures
+    ok_more (λ keys. keys.items ≡ keys_at t c.deref-3.result.now)
+    (λ keys. keys.items ≡ named_in (parts_of command) t) c.keys_of.result
+    (λ keys e. e ∙ ap (keys_at t) c.deref-3.ensures.value ∙ is) c.keys_of.ensures

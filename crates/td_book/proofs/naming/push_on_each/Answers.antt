@@ -15,6 +15,11 @@ loop-arch-preserved c =
     let i = c.loop-arch.arch-index in
     let within : i < length archs = omega arith in
     let added = c.in_ok-push_number.ensures in
-    adds_arch t (keys_at t c.args.numbers.now.items) (keys_at t c.loop-arch.numbers.items) (keys_at t c.push_number.new.numbers.items)
-    (λ k. bytes_eq c.args.source.now k.source) (λ k. list_any (λ (a : Bor (List ℕ)). bytes_eq a.now k.arch) (take i archs)) (λ k. bytes_eq (get_or archs i d).now k.arch) (λ k. list_any (λ (a : Bor (List ℕ)). bytes_eq a.now k.arch) (take (i + 1) archs))
-    c.loop-arch.invariant added (λ k. list_any_more (λ (a : Bor (List ℕ)). bytes_eq a.now k.arch) archs i d within)
+    adds_arch t (keys_at t c.args.numbers.now.items) (keys_at t c.loop-arch.numbers.items)
+    (keys_at t c.push_number.new.numbers.items)
+    (λ k. bytes_eq c.args.source.now k.source)
+    (λ k. list_any (λ (a : Bor (List ℕ)). bytes_eq a.now k.arch) (take i archs))
+    (λ k. bytes_eq (get_or archs i d).now k.arch)
+    (λ k. list_any (λ (a : Bor (List ℕ)). bytes_eq a.now k.arch) (take (i + 1) archs))
+    c.loop-arch.invariant added (λ k.
+    list_any_more (λ (a : Bor (List ℕ)). bytes_eq a.now k.arch) archs i d within)

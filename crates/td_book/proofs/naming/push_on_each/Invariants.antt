@@ -5,4 +5,7 @@ use Rattle.td_book.specs.Naming.{Adds, keys_at}
 use Rattle.td_book.proofs.naming.push_on_each.Given as goal
 
 abbrev pub invariant-loop-arch : goal.invariant-loop-arch
-invariant-loop-arch l = Adds l.rows (keys_at l.rows l.fn.numbers.items) (keys_at l.rows l.numbers.items) (λ k. bytes_eq l.source k.source && list_any (λ a. bytes_eq a.now k.arch) (take l.arch-index l.archs))
+invariant-loop-arch l =
+    Adds l.rows (keys_at l.rows l.fn.numbers.items) (keys_at l.rows l.numbers.items)
+    (λ k. bytes_eq l.source k.source
+    && list_any (λ a. bytes_eq a.now k.arch) (take l.arch-index l.archs))

@@ -6,4 +6,5 @@ pub returns : goal.returns
 returns c =
     let len = c.len-end.ensures.len in
     let test = c.loop-test.false in
-    no_groups-last c.args.rows.now c.loop.counter c.loop.of_rows.items (omega arith) c.loop.invariant
+    no_groups-last c.args.rows.now c.loop.counter c.loop.of_rows.items
+    (omega arith) c.loop.invariant

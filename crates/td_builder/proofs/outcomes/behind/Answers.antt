@@ -6,4 +6,5 @@ use Rattle.td_builder.proofs.OutcomeLists.{ended-none}
 use Rattle.td_builder.proofs.outcomes.behind.Goals as goal
 
 pub returns-in-None-clause-lines : goal.returns-in-None-clause-lines
-returns-in-None-clause-lines c = ended-none ∙ ap (λ (o : Option (Bor (List ℕ))). ended (lines_left o)) (sym c.in-None.is)
+returns-in-None-clause-lines c =
+    ended-none ∙ ap (λ (o : Option (Bor (List ℕ))). ended (lines_left o)) (sym c.in-None.is)

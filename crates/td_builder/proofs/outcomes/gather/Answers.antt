@@ -1,18 +1,22 @@
-use Rattle.std.proofs.Common.{◌≡◌, false, true, eqb, ℕ, List, [], ◌∷◌, ◌++◌, ◌+◌, length, ap, sym, ◌∙◌, rules, arith}
+use Rattle.std.proofs.Common.{◌≡◌, false, true, eqb, ℕ, List, [], ◌∷◌, ◌++◌, ◌+◌, length, ap, sym}
+use Rattle.std.proofs.Common.{◌∙◌, rules, arith}
 use Rattle.td_book.specs.Deeds.{code_of}
 use Rattle.td_builder.specs.declared.key_line.KeyLine.{KeyLine}
 use Rattle.td_builder.specs.OutcomeLines.{outcome_text}
 use Rattle.td_builder.specs.Unused.{with_line}
 use Rattle.td_builder.proofs.KeyLists.{numbered-push, texts-push, length-texts, length-push}
-use Rattle.td_builder.proofs.OutcomeLists.{AreRead-push, AreRead-all, AreRead-bad, ended-next, ended-empty, some_text, length_some, no_text}
+use Rattle.td_builder.proofs.OutcomeLists.{AreRead-push, AreRead-all, AreRead-bad, ended-next}
+use Rattle.td_builder.proofs.OutcomeLists.{ended-empty, some_text, length_some, no_text}
 use Rattle.td_builder.proofs.outcomes.gather.Goals as goal
 
 pub returns-in_default-read-clause-fault : goal.returns-in_default-read-clause-fault
 returns-in_default-read-clause-fault c =
     let h = c.loop-rest.invariant in
     let filled : eqb (length c.loop-rest.rest.now) 0 ≡ false = search rules in
-    let next = ended-next c.loop-rest.rest.now c.next_line.result.0.now c.next_line.result.1 c.next_line.ensures.lines c.next_line.ensures.text (some_text c.loop-rest.rest.now filled) in
-    AreRead-bad (c.len.result + 1) _ h.os c.next_line.result.0.now _ _ h.read next (sym (sym c.in_default-read.is ∙ c.in-Ok.ensures))
+    let next = ended-next c.loop-rest.rest.now c.next_line.result.0.now c.next_line.result.1
+    c.next_line.ensures.lines c.next_line.ensures.text (some_text c.loop-rest.rest.now filled) in
+    AreRead-bad (c.len.result + 1) _ h.os c.next_line.result.0.now _ _ h.read next
+    (sym (sym c.in_default-read.is ∙ c.in-Ok.ensures))
     (omega (arith, c.len.ensures, ap length h.texts, length-texts h.os))
 
 pub loop-rest-preserved : goal.loop-rest-preserved
@@ -20,20 +24,43 @@ loop-rest-preserved c =
     let h = c.loop-rest.invariant in
     let filled : eqb (length c.loop-rest.rest.now) 0 ≡ false = search rules in
     let some = some_text c.loop-rest.rest.now filled in
-    let next = ended-next c.loop-rest.rest.now c.next_line.result.0.now c.next_line.result.1 c.next_line.ensures.lines c.next_line.ensures.text some in
-    let count : 0 + length h.os ≡ length c.loop-rest.gathered.texts.items = omega (arith, ap length h.texts, length-texts h.os) in
-    let line : KeyLine = record { code = code_of c.in-Some.outcome; line = length c.loop-rest.gathered.texts.items } in
+    let next = ended-next c.loop-rest.rest.now c.next_line.result.0.now c.next_line.result.1
+    c.next_line.ensures.lines c.next_line.ensures.text some in
+    let count : 0 + length h.os ≡ length c.loop-rest.gathered.texts.items =
+    omega (arith, ap length h.texts, length-texts h.os) in
+    let line : KeyLine = record {
+      code = code_of c.in-Some.outcome;
+      line = length c.loop-rest.gathered.texts.items;
+    } in
     record {
       os = h.os ++ (c.in-Some.key, c.in-Some.outcome) ∷ [];
-      read = AreRead-push _ h.os (c.in-Some.key, c.in-Some.outcome) c.next_line.result.0.now _ _ h.read (next ∙ ap (λ (l : List (List ℕ)). c.next_line.result.0.now ∷ l) (sym c.behind-rest.ensures.lines)) (sym (sym c.in-Some.is ∙ c.in-Ok.ensures));
-      texts = c.in-Ok-push.ensures.texts ∙ ap (λ (l : List (List ℕ)). l ++ outcome_text c.in-Some.outcome ∷ []) h.texts ∙ sym (texts-push h.os (c.in-Some.key, c.in-Some.outcome));
-      lines = λ k. c.in-Ok-push.ensures.lines k ∙ ap (with_line k c.in-Some.key line) (h.lines k) ∙ sym (numbered-push k 0 (length c.loop-rest.gathered.texts.items) h.os (c.in-Some.key, c.in-Some.outcome) count);
-      small = omega (arith, h.small, c.behind-rest.ensures.shorter, c.next_line.ensures.shorter, length_some c.loop-rest.rest.now some, length-push h.os (c.in-Some.key, c.in-Some.outcome));
+      read = AreRead-push _ h.os (c.in-Some.key, c.in-Some.outcome) c.next_line.result.0.now _ _
+          h.read (next ∙ ap (λ (l : List (List ℕ)). c.next_line.result.0.now ∷ l)
+          (sym c.behind-rest.ensures.lines)) (sym (sym c.in-Some.is ∙ c.in-Ok.ensures));
+      texts = c.in-Ok-push.ensures.texts
+          ∙ ap (λ (l : List (List ℕ)). l ++ outcome_text c.in-Some.outcome ∷ []) h.texts
+          ∙ sym (texts-push h.os (c.in-Some.key, c.in-Some.outcome));
+      lines = λ k. c.in-Ok-push.ensures.lines k ∙ ap (with_line k c.in-Some.key line) (h.lines k)
+          ∙ sym (numbered-push k 0 (length c.loop-rest.gathered.texts.items) h.os
+          (c.in-Some.key, c.in-Some.outcome) count);
+      small = omega (
+        arith,
+        h.small,
+        c.behind-rest.ensures.shorter,
+        c.next_line.ensures.shorter,
+        length_some c.loop-rest.rest.now some,
+        length-push h.os (c.in-Some.key, c.in-Some.outcome),
+      );
       utf8 = search rules;
     }
 
 pub returns-clause-found : goal.returns-clause-found
 returns-clause-found c =
     let h = c.loop-rest.invariant in
-    let none : eqb (length c.loop-rest.rest.now) 0 ≡ true = search rules in
-    (h.os, AreRead-all _ h.os _ h.read (ended-empty c.loop-rest.rest.now (no_text c.loop-rest.rest.now none)), h.texts, h.lines)
+    let none : eqb (length c.loop-rest.rest.now) 0 ≡ true = search rules in (
+      h.os,
+      AreRead-all _ h.os _ h.read
+          (ended-empty c.loop-rest.rest.now (no_text c.loop-rest.rest.now none)),
+      h.texts,
+      h.lines,
+    )

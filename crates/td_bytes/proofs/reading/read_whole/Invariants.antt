@@ -5,7 +5,8 @@ use Rattle.td_bytes.proofs.reading.read_whole.Given as goal
 
 -- what was read so far is what the reader lost
 abbrev pub invariant-loop-buffer : goal.invariant-loop-buffer
-invariant-loop-buffer g l = Consumes (g.R.Read.remaining l.fn.reader) (g.R.Read.remaining l.reader) l.bytes.items
+invariant-loop-buffer g l =
+    Consumes (g.R.Read.remaining l.fn.reader) (g.R.Read.remaining l.reader) l.bytes.items
 
 abbrev pub decreases-loop-buffer : goal.decreases-loop-buffer
 decreases-loop-buffer g l = l.limit + 1 - length l.bytes.items

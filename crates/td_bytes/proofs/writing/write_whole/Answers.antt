@@ -9,5 +9,9 @@ pub loop-rest-preserved : goal.loop-rest-preserved
 loop-rest-preserved g c =
     let (done, split, appended) = c.loop-rest.invariant in
     let rest = c.loop-rest.rest.now in
-    let n = c.in_ok-count.count in
-    (done ++ take n rest, moves_front _ done rest n split ∙ ap (λ l. (done ++ take n rest) ++ l) (sym (take_rest rest n)), Appends-trans _ _ _ _ _ appended c.in_ok-count.ensures.ok)
+    let n = c.in_ok-count.count in (
+      done ++ take n rest,
+      moves_front _ done rest n split
+          ∙ ap (λ l. (done ++ take n rest) ++ l) (sym (take_rest rest n)),
+      Appends-trans _ _ _ _ _ appended c.in_ok-count.ensures.ok,
+    )

@@ -5,7 +5,9 @@ use Rattle.td_bytes.proofs.writing.write_whole.Given as goal
 
 -- what was taken so far is in front of what is left
 abbrev pub invariant-loop-rest : goal.invariant-loop-rest
-invariant-loop-rest g l = (done : List ℕ) × (l.initial.rest ≡ done ++ l.rest) × Appends (g.W.Write.contents l.initial.writer) (g.W.Write.contents l.writer) done
+invariant-loop-rest g l =
+    (done : List ℕ) × (l.initial.rest ≡ done ++ l.rest)
+    × Appends (g.W.Write.contents l.initial.writer) (g.W.Write.contents l.writer) done
 
 abbrev pub decreases-loop-rest : goal.decreases-loop-rest
 decreases-loop-rest g l = length l.rest

@@ -11,5 +11,6 @@ loop-number-preserved c =
     let left = c.pop.new.self.items in
     ap (put_back m left) c.restore.ensures
     ∙ sym (put_back-push m left c.in-Some.number c.in-Some.row c.loop-number.rows)
-    ∙ ap (λ (kept : List (ℕ × Row)). put_back m kept c.loop-number.rows) (sym c.in-Some.ensures.items)
+    ∙ ap (λ (kept : List (ℕ × Row)). put_back m kept c.loop-number.rows)
+    (sym c.in-Some.ensures.items)
     ∙ c.loop-number.invariant

@@ -5,7 +5,8 @@ use Rattle.td_change.proofs.change.put_back.Given as goal
 
 -- what is left to give back leads to the same rows
 abbrev pub invariant-loop-number : goal.invariant-loop-number
-invariant-loop-number l = put_back l.cells l.kept.items l.rows ≡ put_back l.fn.cells l.fn.kept.items l.fn.rows
+invariant-loop-number l =
+    put_back l.cells l.kept.items l.rows ≡ put_back l.fn.cells l.fn.kept.items l.fn.rows
 
 abbrev pub decreases-loop-number : goal.decreases-loop-number
 decreases-loop-number l = vec_len l.kept

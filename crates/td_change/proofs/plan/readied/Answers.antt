@@ -20,14 +20,26 @@ loop-key-preserved c =
     let ks = c.args.keys.now in
     let i = c.loop-key.key-index in
     let k = c.key-item.result in
-    let next : (n : ℕ) (texts : Row) (copy : Key) (entries : List (Key × (ℕ × Row))) → IsAt t k n → texts ≡ texts_of kind → copy ≡ k → entries ≡ insert_entry key_cmp c.loop-key.made.entries copy (n, texts) → entries ≡ map (ready kind t) (take (i + 1) ks) =
+    let next : (n : ℕ) (texts : Row) (copy : Key) (entries : List (Key × (ℕ × Row))) → IsAt t k n
+    → texts ≡ texts_of kind → copy ≡ k
+    → entries ≡ insert_entry key_cmp c.loop-key.made.entries copy (n, texts)
+    → entries ≡ map (ready kind t) (take (i + 1) ks) =
     λ n texts copy entries at texts_are copied inserted.
     inserted ∙ ap (λ (q : Key). insert_entry key_cmp c.loop-key.made.entries q (n, texts)) copied
-    ∙ entries-next kind t ks i k n texts c.loop-key.made.entries c.requires.rising c.len-rising.ensures.rising (omega arith) c.key-item.is at texts_are c.loop-key.invariant in
+    ∙ entries-next kind t ks i k n texts c.loop-key.made.entries c.requires.rising
+    c.len-rising.ensures.rising (omega arith) c.key-item.is at texts_are c.loop-key.invariant in
     elim c.match-number.branch [
       | in-Some+in_ok-texts+in_ok-copy+in_ok-insert+in-Some-1 w ↦
-          ap (λ (m : BTreeMap Key (ℕ × Row)). m.entries) w.made-is ∙ next w.in-Some.number w.in_ok-texts.texts w.in_ok-copy.field-0 w.insert.new.self.entries w.in-Some.ensures.found w.in_ok-texts.ensures.texts w.in_ok-copy.ensures w.in_ok-insert.ensures.entries
+          ap (λ (m : BTreeMap Key (ℕ × Row)). m.entries) w.made-is
+          ∙ next w.in-Some.number w.in_ok-texts.texts w.in_ok-copy.field-0 w.insert.new.self.entries
+          w.in-Some.ensures.found w.in_ok-texts.ensures.texts w.in_ok-copy.ensures
+          w.in_ok-insert.ensures.entries
       | in-Some+in_ok-texts+in_ok-copy+in_ok-insert+in-None-1 w ↦
-          ap (λ (m : BTreeMap Key (ℕ × Row)). m.entries) w.made-is ∙ next w.in-Some.number w.in_ok-texts.texts w.in_ok-copy.field-0 w.insert.new.self.entries w.in-Some.ensures.found w.in_ok-texts.ensures.texts w.in_ok-copy.ensures w.in_ok-insert.ensures.entries
-      | in_default w ↦ absurd (no_row t ks i k c.requires.rows (omega arith) c.key-item.is w.in_default.ensures.absent)
+          ap (λ (m : BTreeMap Key (ℕ × Row)). m.entries) w.made-is
+          ∙ next w.in-Some.number w.in_ok-texts.texts w.in_ok-copy.field-0 w.insert.new.self.entries
+          w.in-Some.ensures.found w.in_ok-texts.ensures.texts w.in_ok-copy.ensures
+          w.in_ok-insert.ensures.entries
+      | in_default w ↦
+          absurd (no_row t ks i k c.requires.rows (omega arith) c.key-item.is
+          w.in_default.ensures.absent)
     ]

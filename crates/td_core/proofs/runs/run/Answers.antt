@@ -11,8 +11,13 @@ loop-step-preserved c =
     let start = world_of c.args.rows (stock_of c.args.supply) c.args.builders in
     let step = c.in-Some.step in
     record {
-      world = c.in_ok-try_step.ensures.ok ∙ ap (λ (w : WorldView). after w step) c.loop-step.invariant.world ∙ sym (after_all-push start c.loop-step.yielded step);
-      answers = c.in_ok-push.ensures.items ∙ (λ j. c.loop-step.invariant.answers j ++ c.in_ok-try_step.ensures.answer j ∷ [])
-          ∙ ap (λ (w : WorldView). answers_to start c.loop-step.yielded ++ answer_to w step ∷ []) c.loop-step.invariant.world
+      world = c.in_ok-try_step.ensures.ok
+          ∙ ap (λ (w : WorldView). after w step) c.loop-step.invariant.world
+          ∙ sym (after_all-push start c.loop-step.yielded step);
+      answers =
+          c.in_ok-push.ensures.items
+          ∙ (λ j. c.loop-step.invariant.answers j ++ c.in_ok-try_step.ensures.answer j ∷ [])
+          ∙ ap (λ (w : WorldView). answers_to start c.loop-step.yielded ++ answer_to w step ∷ [])
+          c.loop-step.invariant.world
           ∙ sym (answers_to-push start c.loop-step.yielded step);
     }

@@ -9,5 +9,6 @@ use Rattle.td_core.proofs.runs.run.Given as goal
 abbrev pub invariant-loop-step : goal.invariant-loop-step
 invariant-loop-step l = record {
   world : l.world ≡ after_all (world_of l.fn.rows (stock_of l.fn.supply) l.fn.builders) l.yielded;
-  answers : l.answers.items ≡ answers_to (world_of l.fn.rows (stock_of l.fn.supply) l.fn.builders) l.yielded;
+  answers : l.answers.items
+      ≡ answers_to (world_of l.fn.rows (stock_of l.fn.supply) l.fn.builders) l.yielded;
 }

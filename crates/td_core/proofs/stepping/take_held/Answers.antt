@@ -18,14 +18,17 @@ none_held (Finished k o) other = refl
 -- the hand that was taken out stands there
 there : (hands : List Hand) (i : ℕ) (h taken : Hand) → i < length hands → taken ≡ h
     → h ≡ get_or hands i h → slice_get hands i ≡ Some taken
-there hands i h taken within was is = slice_get-get_or hands i h within ∙ ap (λ (x : Hand). Some x) (sym is ∙ sym was)
+there hands i h taken within was is =
+    slice_get-get_or hands i h within ∙ ap (λ (x : Hand). Some x) (sym is ∙ sym was)
 
 pub returns-in_default-clause-key : goal.returns-in_default-clause-key
 returns-in_default-clause-key c =
     none_held c.replace.result c.in_default.not-Holding
-    ∙ ap held_in (sym (there c.args.hands.now.items (c.args.builder - 1) c.index_mut-hand.result.now c.replace.result c.requires.within.1 c.replace.ensures.value c.index_mut-hand.ensures.value))
+    ∙ ap held_in (sym (there c.args.hands.now.items (c.args.builder - 1) c.index_mut-hand.result.now
+    c.replace.result c.requires.within.1 c.replace.ensures.value c.index_mut-hand.ensures.value))
 
 pub returns-in_default-clause-stays : goal.returns-in_default-clause-stays
 returns-in_default-clause-stays c =
     set-same c.args.hands.now.items (c.args.builder - 1) c.replace.result
-    (there c.args.hands.now.items (c.args.builder - 1) c.index_mut-hand.result.now c.replace.result c.requires.within.1 c.replace.ensures.value c.index_mut-hand.ensures.value)
+    (there c.args.hands.now.items (c.args.builder - 1) c.index_mut-hand.result.now c.replace.result
+    c.requires.within.1 c.replace.ensures.value c.index_mut-hand.ensures.value)

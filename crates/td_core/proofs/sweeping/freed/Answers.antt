@@ -13,9 +13,13 @@ loop-number-preserved c = elim c.match-at.branch [
   | in-Some+in_ok-push_freed w ↦
       ap (λ (v : Vec Key Global). v.items) w.keys-is
       ∙ w.in_ok-push_freed.ensures
-      ∙ ap (λ (ks : List Key). ks ++ (if is_freed c.args.supply.now (w.in-Some.key.now, w.in-Some.row.now) then w.in-Some.key.now ∷ [] else [])) c.loop-number.invariant
-      ∙ sym (freed-next c.args.supply.now c.args.rows.now c.loop-number.number (w.in-Some.key.now, w.in-Some.row.now) (sym w.in-Some.ensures))
+      ∙ ap (λ (ks : List Key).
+      ks ++ (if is_freed c.args.supply.now (w.in-Some.key.now, w.in-Some.row.now)
+      then w.in-Some.key.now ∷ [] else [])) c.loop-number.invariant
+      ∙ sym (freed-next c.args.supply.now c.args.rows.now c.loop-number.number
+      (w.in-Some.key.now, w.in-Some.row.now) (sym w.in-Some.ensures))
   | in_default w ↦
-      let within : c.loop-number.number < length c.args.rows.now = rw (← c.len-number-end.ensures.len) c.loop-number-test.true in
+      let within : c.loop-number.number < length c.args.rows.now =
+      rw (← c.len-number-end.ensures.len) c.loop-number-test.true in
       absurd (slice_get-none c.args.rows.now c.loop-number.number (sym w.in_default.ensures) within)
 ]

@@ -8,13 +8,19 @@ use Rattle.td_crew.proofs.crew.begin.Goals as goal
 
 pub returns-in-Some-clause-begun : goal.returns-in-Some-clause-begun
 returns-in-Some-clause-begun g c =
-    subst (λ (o : Option (Bor (List ℕ))). OnOk c.reopen.result (HasBegun (option_map (λ s. s.now) o) c.args.rows)) (sym c.in-Some.is)
-    (begun_ok g.N.Named.opened c.args.rows c.in-Some.text.now c.reopen.result c.reopen.ensures.found)
+    subst (λ (o : Option (Bor (List ℕ))).
+    OnOk c.reopen.result (HasBegun (option_map (λ s. s.now) o) c.args.rows)) (sym c.in-Some.is)
+    (begun_ok g.N.Named.opened c.args.rows c.in-Some.text.now c.reopen.result
+    c.reopen.ensures.found)
 
 pub returns-in-Some-clause-only : goal.returns-in-Some-clause-only
 returns-in-Some-clause-only g c =
-    subst (λ (o : Option (Bor (List ℕ))). IfErr c.reopen.result (λ fault. IsJournalIfGiven c.args.rows (option_map (λ s. s.now) o) → fault ≡ NoMemory)) (sym c.in-Some.is)
+    subst (λ (o : Option (Bor (List ℕ))).
+    IfErr c.reopen.result (λ fault.
+    IsJournalIfGiven c.args.rows (option_map (λ s. s.now) o) → fault ≡ NoMemory)) (sym c.in-Some.is)
     (reopen_only c.args.rows c.in-Some.text.now c.reopen.result c.reopen.ensures.only)
 
 pub returns-in-Ok-clause-begun : goal.returns-in-Ok-clause-begun
-returns-in-Ok-clause-begun g c = subst (λ (o : Option (Bor (List ℕ))). HasBegun (option_map (λ s. s.now) o) c.args.rows) (sym c.in-None.is) (begun_none c.args.rows)
+returns-in-Ok-clause-begun g c =
+    subst (λ (o : Option (Bor (List ℕ))). HasBegun (option_map (λ s. s.now) o) c.args.rows)
+    (sym c.in-None.is) (begun_none c.args.rows)

@@ -4,4 +4,6 @@ use Rattle.td_crew.proofs.Endings.{ends_ok}
 use Rattle.td_crew.proofs.crew.tell_at.Goals as goal
 
 pub returns : goal.returns
-returns g c = ends_ok (length c.args.seats.items) g.N.Named.origin c.args.asked.now.script.now c.in_ok-told.told c.close.result c.close.ensures c.in_ok-told.ensures
+returns g c =
+    ends_ok (length c.args.seats.items) g.N.Named.origin c.args.asked.now.script.now
+    c.in_ok-told.told c.close.result c.close.ensures c.in_ok-told.ensures

@@ -8,22 +8,31 @@ use Rattle.td_crew.proofs.Seats.{length-seats, seats_at}
 use Rattle.td_crew.proofs.crew.tell_script.Goals as goal
 
 pub tell_named-requires-clause-seats : goal.tell_named-requires-clause-seats
-tell_named-requires-clause-seats g c κs within = seats_at c.in-Ok.board.table 1 c.args.crew.builders c.in-Ok.seats.items c.in-Ok.ensures.ok.builder_seats
+tell_named-requires-clause-seats g c κs within =
+    seats_at c.in-Ok.board.table 1 c.args.crew.builders c.in-Ok.seats.items
+    c.in-Ok.ensures.ok.builder_seats
 
 pub tell_named-requires-clause-few : goal.tell_named-requires-clause-few
 tell_named-requires-clause-few g c κs within =
-    subst (λ (n : ℕ). n ≤ 64) (sym (length-seats c.in-Ok.board.table 1 c.args.crew.builders c.in-Ok.seats.items c.in-Ok.ensures.ok.builder_seats)) c.args.crew.few
+    subst (λ (n : ℕ). n ≤ 64)
+    (sym (length-seats c.in-Ok.board.table 1 c.args.crew.builders c.in-Ok.seats.items
+    c.in-Ok.ensures.ok.builder_seats)) c.args.crew.few
 
 pub tell_named-requires-clause-fresh_supply : goal.tell_named-requires-clause-fresh_supply
 tell_named-requires-clause-fresh_supply g c κs within = fresh_supply _ _ c.in-Ok-supply.ensures
 
 pub returns : goal.returns
 returns g c =
-    let ends = subst (λ (n : ℕ). IfOk c.tell_named.result (λ told. EndsWithRows n c.args.asked.rows c.args.asked.script.now (string_bytes told.text) told.refused))
-    (length-seats c.in-Ok.board.table 1 c.args.crew.builders c.in-Ok.seats.items c.in-Ok.ensures.ok.builder_seats)
+    let ends = subst (λ (n : ℕ).
+    IfOk c.tell_named.result (λ told.
+    EndsWithRows n c.args.asked.rows c.args.asked.script.now (string_bytes told.text) told.refused))
+    (length-seats c.in-Ok.board.table 1 c.args.crew.builders c.in-Ok.seats.items
+    c.in-Ok.ensures.ok.builder_seats)
     c.tell_named.ensures.told in
     record {
-      told = told_ok c.args.crew.builders (setting_asked c.args.asked) (journal_asked c.args.asked) c.args.asked.rows c.args.asked.script.now c.tell_named.result c.tell_named.ensures.begun ends;
+      told = told_ok c.args.crew.builders (setting_asked c.args.asked) (journal_asked c.args.asked)
+          c.args.asked.rows c.args.asked.script.now c.tell_named.result c.tell_named.ensures.begun
+          ends;
       fault = c.tell_named.ensures.fault;
       only = c.tell_named.ensures.only;
     }

@@ -3,7 +3,12 @@ use Rattle.td_crew.specs.CrewText.{marks_begun}
 use Rattle.td_crew.proofs.crew.tell_script.Given as goal
 
 abbrev pub ghosts-tell_named-N-Named : goal.ghosts-tell_named-N-Named
-ghosts-tell_named-N-Named g a = record { table = a.board.table; origin = a.rows; opened = marks_begun (option_map (λ s. s.now) a.asked.now.journal) }
+ghosts-tell_named-N-Named g a =
+    record {
+      table = a.board.table;
+      origin = a.rows;
+      opened = marks_begun (option_map (λ s. s.now) a.asked.now.journal);
+    }
 
 abbrev pub ghosts-tell_named-C-Ledger : goal.ghosts-tell_named-C-Ledger
 ghosts-tell_named-C-Ledger g a = record { name = a.blank.name; parts = a.blank.parts }

@@ -8,4 +8,7 @@ use Rattle.td_crew.proofs.running.no_outcomes.Goals as goal
 
 pub returns-in-BadLine-clause-only : goal.returns-in-BadLine-clause-only
 returns-in-BadLine-clause-only c =
-    λ read readable. absurd (bad_unread (outcomes_of c.args.inputs.now) c.in-BadLine.line (subst (λ (e : OutcomesFault). FaultOf (outcomes_of c.args.inputs.now) e) c.in-BadLine.is c.requires) read)
+    λ read readable. absurd
+    (bad_unread (outcomes_of c.args.inputs.now) c.in-BadLine.line
+    (subst (λ (e : OutcomesFault). FaultOf (outcomes_of c.args.inputs.now) e) c.in-BadLine.is
+    c.requires) read)

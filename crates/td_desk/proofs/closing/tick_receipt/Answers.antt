@@ -1,7 +1,8 @@
 use Rattle.std.proofs.Common.{rules, arith, ◌≡◌, ◌-◌, ◌<◌, ◌≤◌, length, get_or, sym}
 use Rattle.td_desk.proofs.Ticking.{far, left_tick, left_none, match_bool}
 use Rattle.td_desk.proofs.closing.tick_receipt.Goals as goal
-use Rattle.td_desk.proofs.closing.tick_receipt.Goals.{then-n-eq0-via-then-n-eq0, then-n-eq0-via-else-n-eq0+then-n-entries}
+use Rattle.td_desk.proofs.closing.tick_receipt.Goals.{then-n-eq0-via-then-n-eq0}
+use Rattle.td_desk.proofs.closing.tick_receipt.Goals.{then-n-eq0-via-else-n-eq0+then-n-entries}
 
 pub returns-then-n-eq0-clause-took : goal.returns-then-n-eq0-clause-took
 returns-then-n-eq0-clause-took c =
@@ -10,8 +11,12 @@ returns-then-n-eq0-clause-took c =
     let r = c.args.receipt.now in
     let n = c.number-n.result in
     elim c.then-n-eq0.branch [
-      | then-n-eq0-via-then-n-eq0 w ↦ let z : n ≡ 0 = search rules in far 1 es ts r (λ i h e. omega (arith, e, z, c.number-n.ensures))
-      | then-n-eq0-via-else-n-eq0+then-n-entries w ↦ let z : length es < n = search rules in far 1 es ts r (λ i h e. omega (arith, e, z, h, c.number-n.ensures))
+      | then-n-eq0-via-then-n-eq0 w ↦
+          let z : n ≡ 0 = search rules in
+          far 1 es ts r (λ i h e. omega (arith, e, z, c.number-n.ensures))
+      | then-n-eq0-via-else-n-eq0+then-n-entries w ↦
+          let z : length es < n = search rules in
+          far 1 es ts r (λ i h e. omega (arith, e, z, h, c.number-n.ensures))
     ]
 
 pub returns-clause-took : goal.returns-clause-took
@@ -29,6 +34,8 @@ returns-clause-took c =
     let one-m : m ≡ get_or es (n - 1) m = search rules in
     let one-t : t ≡ get_or ts (n - 1) t = search rules in
     match_bool c.tick_at.result _ _ _ _
-    (λ h. left_tick 1 (n - 1) n es ts m t t' r (omega (arith, some)) (omega (arith, some, within)) (omega (arith, some, within, long)) one-m one-t h)
-    (λ h. left_none 1 (n - 1) n es ts m t r (omega (arith, some)) (omega (arith, some, within)) (omega (arith, some, within, long)) one-m one-t (sym c.number-n.ensures) h.0)
+    (λ h. left_tick 1 (n - 1) n es ts m t t' r (omega (arith, some)) (omega (arith, some, within))
+    (omega (arith, some, within, long)) one-m one-t h)
+    (λ h. left_none 1 (n - 1) n es ts m t r (omega (arith, some)) (omega (arith, some, within))
+    (omega (arith, some, within, long)) one-m one-t (sym c.number-n.ensures) h.0)
     c.tick_at.ensures

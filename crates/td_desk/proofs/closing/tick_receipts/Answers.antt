@@ -8,7 +8,8 @@ returns-then-not-tick_receipt-clause-took c =
     let rs = c.args.receipts.now.items in
     let within : c.loop-at.at < length rs = search rules in
     let one : c.index.result.now ≡ get_or rs c.loop-at.at c.index.result.now = search rules in
-    too_many_at rs c.loop-at.at c.index.result.now _ _ within one c.loop-at.invariant.taken c.if-not-tick_receipt.ensures.took
+    too_many_at rs c.loop-at.at c.index.result.now _ _ within one c.loop-at.invariant.taken
+    c.if-not-tick_receipt.ensures.took
 
 pub loop-at-preserved : goal.loop-at-preserved
 loop-at-preserved c =
@@ -17,6 +18,8 @@ loop-at-preserved c =
     let within : c.loop-at.at < length rs = search rules in
     let one : c.index.result.now ≡ get_or rs c.loop-at.at c.index.result.now = search rules in
     record {
-      taken = takes_one rs c.loop-at.at c.index.result.now (left_from 1 es c.args.ticks.now.items) (left_from 1 es c.loop-at.ticks.items) (left_from 1 es c.tick_receipt.new.ticks.items) within one c.loop-at.invariant.taken c.if-not-tick_receipt.ensures.took;
+      taken = takes_one rs c.loop-at.at c.index.result.now (left_from 1 es c.args.ticks.now.items)
+          (left_from 1 es c.loop-at.ticks.items) (left_from 1 es c.tick_receipt.new.ticks.items)
+          within one c.loop-at.invariant.taken c.if-not-tick_receipt.ensures.took;
       len = c.tick_receipt.ensures.len ∙ c.loop-at.invariant.len;
     }

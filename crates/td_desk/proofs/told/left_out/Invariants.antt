@@ -6,6 +6,7 @@ use Rattle.td_desk.proofs.told.left_out.Given as goal
 
 abbrev pub invariant-loop-key : goal.invariant-loop-key
 invariant-loop-key l = record {
-  same : l.told.items ++ left_out_of l.key-iterator.rest.items (skipped_keys l.rest) ≡ left_out_of l.fn.named.items (skipped_keys l.fn.skips);
+  same : l.told.items ++ left_out_of l.key-iterator.rest.items (skipped_keys l.rest)
+      ≡ left_out_of l.fn.named.items (skipped_keys l.fn.skips);
   room : vec_len l.told + length l.key-iterator.rest.items ≤ vec_capacity l.told;
 }

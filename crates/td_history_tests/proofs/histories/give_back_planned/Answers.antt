@@ -9,10 +9,15 @@ use Rattle.td_core.specs.History.{rows_of}
 use Rattle.td_history_tests.proofs.histories.give_back_planned.Goals as goal
 
 pub commit-requires-clause-rows : goal.commit-requires-clause-rows
-commit-requires-clause-rows c = plan_of-itself c.in_ok-planned.planned Gb c.in_ok-keys.keys (rows_of c.reserve.new.self.history) c.in_ok-planned.ensures
+commit-requires-clause-rows c =
+    plan_of-itself c.in_ok-planned.planned Gb c.in_ok-keys.keys (rows_of c.reserve.new.self.history)
+    c.in_ok-planned.ensures
 
 pub commit-requires-clause-places : goal.commit-requires-clause-places
 commit-requires-clause-places c = λ k named.
-    let keys = ap left c.in_ok-planned.ensures ∙ left-plan_of Gb c.in_ok-keys.keys (rows_of c.reserve.new.self.history) ∙ sym c.as_slice.ensures.keys in
-    let two = c.in_ok-reserve.ensures.places k (subst (λ (ks : List Key). names ks k ≡ true) keys named) in
+    let keys = ap left c.in_ok-planned.ensures
+    ∙ left-plan_of Gb c.in_ok-keys.keys (rows_of c.reserve.new.self.history)
+    ∙ sym c.as_slice.ensures.keys in
+    let two = c.in_ok-reserve.ensures.places k
+    (subst (λ (ks : List Key). names ks k ≡ true) keys named) in
     omega (arith, two)

@@ -6,4 +6,6 @@ use Rattle.td_journal.specs.Replay.{Lawful}
 use Rattle.td_history_tests.proofs.histories.reopened.Goals as goal
 
 pub reopen-requires-clause-lawful : goal.reopen-requires-clause-lawful
-reopen-requires-clause-lawful c = subst (λ (t : Table). Lawful t (standing c.in_ok-journal.journal.entries)) (sym c.opening.view_is) c.in_ok-journal.ensures.found.entries.lawful
+reopen-requires-clause-lawful c =
+    subst (λ (t : Table). Lawful t (standing c.in_ok-journal.journal.entries))
+    (sym c.opening.view_is) c.in_ok-journal.ensures.found.entries.lawful

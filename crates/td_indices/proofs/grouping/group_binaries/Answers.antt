@@ -14,10 +14,15 @@ loop-number-preserved c = elim c.match-get_index.branch [
   | in-Some+in_ok-push w ↦ λ q.
       let bs = binaries_of c.args.binaries.now.entries in
       let p : PackageKey × Packaged = (w.in-Some.field-0-0.now, w.in-Some.packaged.now) in
-      grouped q w.in-Some.packaged.now.source.now (group c.loop-number.groups q) _ _ c.loop-number.number bs (binary_of p)
-      (slice_get-map binary_of c.args.binaries.now.entries c.loop-number.number ∙ ap (option_map binary_of) (sym w.in-Some.ensures.entry)) refl
-      (ap (λ (g : Groups). group g q) w.groups-is ∙ w.in_ok-push.ensures q) (c.loop-number.invariant q)
+      grouped q w.in-Some.packaged.now.source.now (group c.loop-number.groups q) _ _
+      c.loop-number.number bs (binary_of p)
+      (slice_get-map binary_of c.args.binaries.now.entries c.loop-number.number
+      ∙ ap (option_map binary_of) (sym w.in-Some.ensures.entry)) refl
+      (ap (λ (g : Groups). group g q) w.groups-is ∙ w.in_ok-push.ensures q)
+      (c.loop-number.invariant q)
   | in_default w ↦
-      let within : c.loop-number.number < length c.args.binaries.now.entries = rw (← c.len-number-end.ensures.len) c.loop-number-test.true in
-      absurd (slice_get-none c.args.binaries.now.entries c.loop-number.number (sym w.in_default.ensures.entry) within)
+      let within : c.loop-number.number < length c.args.binaries.now.entries =
+      rw (← c.len-number-end.ensures.len) c.loop-number-test.true in
+      absurd (slice_get-none c.args.binaries.now.entries c.loop-number.number
+      (sym w.in_default.ensures.entry) within)
 ]

@@ -6,4 +6,7 @@ use Rattle.td_indices.proofs.grouping.group_binaries.Given as goal
 
 -- the numbers so far, and those that are left
 abbrev pub invariant-loop-number : goal.invariant-loop-number
-invariant-loop-number l = (q : List ℕ) → group l.groups q ++ places_from (is_of q) l.number (drop l.number (binaries_of l.binaries.entries)) ≡ places_from (is_of q) 0 (binaries_of l.binaries.entries)
+invariant-loop-number l =
+    (q : List ℕ) → group l.groups q
+    ++ places_from (is_of q) l.number (drop l.number (binaries_of l.binaries.entries))
+    ≡ places_from (is_of q) 0 (binaries_of l.binaries.entries)

@@ -6,4 +6,7 @@ use Rattle.td_indices.proofs.grouping.those_on.Given as goal
 
 -- of the numbers so far
 abbrev pub invariant-loop-number : goal.invariant-loop-number
-invariant-loop-number l = l.there.items ≡ filter (λ (n : ℕ). option_map_or (λ (b : KeptBinary). is_on l.arch b.head.home) (slice_get (binaries_of l.binaries.entries) n) false) (take l.number-index l.numbers)
+invariant-loop-number l =
+    l.there.items ≡ filter
+    (λ (n : ℕ). option_map_or (λ (b : KeptBinary). is_on l.arch b.head.home)
+    (slice_get (binaries_of l.binaries.entries) n) false) (take l.number-index l.numbers)

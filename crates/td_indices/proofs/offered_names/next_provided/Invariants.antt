@@ -6,4 +6,6 @@ use Rattle.td_indices.proofs.offered_names.next_provided.Given as goal
 
 -- the members so far offer no name
 abbrev pub invariant-loop-member : goal.invariant-loop-member
-invariant-loop-member l = flat_map provided_names (members_left l.members) ≡ flat_map provided_names (members_left l.fn.members)
+invariant-loop-member l =
+    flat_map provided_names (members_left l.members)
+    ≡ flat_map provided_names (members_left l.fn.members)

@@ -7,6 +7,7 @@ use Rattle.td_indices.proofs.rows.count_rows.Given as goal
 -- the rows so far, and those of the sources that are left
 abbrev pub invariant-loop-number : goal.invariant-loop-number
 invariant-loop-number l = record {
-  counted : l.rows + row_count (table l.archs) (drop l.number (sources_of l.sources.entries)) ≡ row_count (table l.archs) (sources_of l.sources.entries);
+  counted : l.rows + row_count (table l.archs) (drop l.number (sources_of l.sources.entries))
+      ≡ row_count (table l.archs) (sources_of l.sources.entries);
   few : l.rows ≤ 1048576;
 }

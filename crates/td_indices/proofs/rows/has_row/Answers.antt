@@ -7,4 +7,6 @@ use Rattle.td_indices.proofs.RowCounts.{any-filter}
 use Rattle.td_indices.proofs.rows.has_row.Goals as goal
 
 pub loop-rest-init : goal.loop-rest-init
-loop-rest-init c = any-filter (λ (w : List ℕ). not (length w == 0)) (matches_at (table c.args.archs.now) c.args.place) (slice_split is_space c.args.words.now)
+loop-rest-init c =
+    any-filter (λ (w : List ℕ). not (length w == 0))
+    (matches_at (table c.args.archs.now) c.args.place) (slice_split is_space c.args.words.now)

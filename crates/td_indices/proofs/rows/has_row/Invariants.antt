@@ -10,4 +10,6 @@ decreases-loop-rest l = left_len l.rest
 
 -- what is left decides
 abbrev pub invariant-loop-rest : goal.invariant-loop-rest
-invariant-loop-rest l = list_any (λ w. not (length w == 0) && matches_at (table l.archs) l.place w) (words_left l.rest) ≡ has_row (table l.archs) l.fn.words l.place
+invariant-loop-rest l =
+    list_any (λ w. not (length w == 0) && matches_at (table l.archs) l.place w) (words_left l.rest)
+    ≡ has_row (table l.archs) l.fn.words l.place

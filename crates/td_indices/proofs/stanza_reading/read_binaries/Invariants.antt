@@ -6,4 +6,6 @@ use Rattle.td_indices.proofs.stanza_reading.read_binaries.Given as goal
 
 -- what is left decides
 abbrev pub invariant-loop-number : goal.invariant-loop-number
-invariant-loop-number l = over_stanzas (binary_step (table l.archs)) l.number (binaries_of l.kept.entries) (drop l.number l.stanzas) ≡ binaries_at (table l.archs) l.stanzas
+invariant-loop-number l =
+    over_stanzas (binary_step (table l.archs)) l.number (binaries_of l.kept.entries)
+    (drop l.number l.stanzas) ≡ binaries_at (table l.archs) l.stanzas

@@ -5,4 +5,6 @@ use Rattle.td_indices.proofs.stanza_reading.read_sources.Given as goal
 
 -- what is left decides
 abbrev pub invariant-loop-number : goal.invariant-loop-number
-invariant-loop-number l = over_stanzas source_step l.number (sources_of l.kept.entries) (drop l.number l.stanzas) ≡ sources_at l.stanzas
+invariant-loop-number l =
+    over_stanzas source_step l.number (sources_of l.kept.entries) (drop l.number l.stanzas)
+    ≡ sources_at l.stanzas

@@ -8,11 +8,15 @@ use Rattle.td_indices.proofs.supplying.build_of.Goals as goal
 pub returns-in-Some : goal.returns-in-Some
 returns-in-Some c =
     let p = c.args.packaged.now in
-    let made : Parts → Option Built = λ base. Some (record { source = p.source.now; base = base }) in
+    let made : Parts → Option Built =
+    λ base. Some (record { source = p.source.now; base = base }) in
     ap made c.base_version.ensures
-    ∙ sym (ap (build_of p.source.now (parts_of p.parts) (parts_of p.source_parts)) (found_source p.source.now c.args.sources.now.entries c.in-Some.field-0-0.now c.in-Some.sourced.now (sym c.in-Some.ensures.key) (sym c.in-Some.ensures.value)))
+    ∙ sym (ap (build_of p.source.now (parts_of p.parts) (parts_of p.source_parts))
+    (found_source p.source.now c.args.sources.now.entries c.in-Some.field-0-0.now
+    c.in-Some.sourced.now (sym c.in-Some.ensures.key) (sym c.in-Some.ensures.value)))
 
 pub returns-in-None : goal.returns-in-None
 returns-in-None c =
     let p = c.args.packaged.now in
-    sym (ap (build_of p.source.now (parts_of p.parts) (parts_of p.source_parts)) (no_source p.source.now c.args.sources.now.entries (sym c.in-None.ensures.value)))
+    sym (ap (build_of p.source.now (parts_of p.parts) (parts_of p.source_parts))
+    (no_source p.source.now c.args.sources.now.entries (sym c.in-None.ensures.value)))

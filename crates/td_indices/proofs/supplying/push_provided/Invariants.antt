@@ -7,4 +7,6 @@ use Rattle.td_indices.proofs.supplying.push_provided.Given as goal
 
 -- what is left decides
 abbrev pub invariant-loop-member : goal.invariant-loop-member
-invariant-loop-member l = with_offers l.supply (flat_map (provided l.arch) (members_left l.member-iterator)) ≡ with_offers l.fn.supply (flat_map (provided l.arch) (members l.provides))
+invariant-loop-member l =
+    with_offers l.supply (flat_map (provided l.arch) (members_left l.member-iterator))
+    ≡ with_offers l.fn.supply (flat_map (provided l.arch) (members l.provides))

@@ -6,6 +6,7 @@ use Rattle.td_indices.proofs.supplying.push_sources.Given as goal
 -- what is left decides, and the sources so far are there
 abbrev pub invariant-loop-number : goal.invariant-loop-number
 invariant-loop-number l = record {
-  decides : with_sources l.supply (drop l.number (sources_of l.sources.entries)) ≡ with_sources l.fn.supply (sources_of l.sources.entries);
+  decides : with_sources l.supply (drop l.number (sources_of l.sources.entries))
+      ≡ with_sources l.fn.supply (sources_of l.sources.entries);
   there : l.supply.sources ≡ map listed (take l.number (sources_of l.sources.entries));
 }

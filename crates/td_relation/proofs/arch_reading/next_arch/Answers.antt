@@ -12,20 +12,28 @@ pub returns-then-is_named-clause-err : goal.returns-then-is_named-clause-err
 returns-then-is_named-clause-err c =
     let a = words_of c.in-Some.arch in
     let list = c.args.list.now in
-    let named : is_named (map words_of list) a.name ≡ true = list_any-map (λ (b : ArchWords). bytes_eq b.name a.name) words_of list ∙ sym c.is_named.ensures ∙ c.if-is_named.true in
+    let named : is_named (map words_of list) a.name ≡ true =
+    list_any-map (λ (b : ArchWords). bytes_eq b.name a.name) words_of list ∙ sym c.is_named.ensures
+    ∙ c.if-is_named.true in
     add_arch-twice c.args.number (map words_of list) c.args.line.now a c.in-Some.ensures named
 
 pub returns-then-list-eq-MAX_ARCHS-clause-err : goal.returns-then-list-eq-MAX_ARCHS-clause-err
 returns-then-list-eq-MAX_ARCHS-clause-err c =
     let a = words_of c.in-Some.arch in
     let list = c.args.list.now in
-    let named : is_named (map words_of list) a.name ≡ false = list_any-map (λ (b : ArchWords). bytes_eq b.name a.name) words_of list ∙ sym c.is_named.ensures ∙ c.if-is_named.false in
-    add_arch-many c.args.number (map words_of list) c.args.line.now a c.in-Some.ensures named (length-map list words_of ∙ c.if-list-eq-MAX_ARCHS.true)
+    let named : is_named (map words_of list) a.name ≡ false =
+    list_any-map (λ (b : ArchWords). bytes_eq b.name a.name) words_of list ∙ sym c.is_named.ensures
+    ∙ c.if-is_named.false in
+    add_arch-many c.args.number (map words_of list) c.args.line.now a c.in-Some.ensures named
+    (length-map list words_of ∙ c.if-list-eq-MAX_ARCHS.true)
 
 pub returns-clause-ok : goal.returns-clause-ok
 returns-clause-ok c =
     let a = words_of c.in-Some.arch in
     let list = c.args.list.now in
-    let named : is_named (map words_of list) a.name ≡ false = list_any-map (λ (b : ArchWords). bytes_eq b.name a.name) words_of list ∙ sym c.is_named.ensures ∙ c.if-is_named.false in
-    let few : length (map words_of list) ≢ 32 = λ full. c.if-list-eq-MAX_ARCHS.false (sym (length-map list words_of) ∙ full) in
+    let named : is_named (map words_of list) a.name ≡ false =
+    list_any-map (λ (b : ArchWords). bytes_eq b.name a.name) words_of list ∙ sym c.is_named.ensures
+    ∙ c.if-is_named.false in
+    let few : length (map words_of list) ≢ 32 =
+    λ full. c.if-list-eq-MAX_ARCHS.false (sym (length-map list words_of) ∙ full) in
     add_arch-ok c.args.number (map words_of list) c.args.line.now a c.in-Some.ensures named few

@@ -11,7 +11,8 @@ decreases-loop-rest l = left_len l.rest
 -- what is left decides; a line takes at least a byte
 abbrev pub invariant-loop-rest : goal.invariant-loop-rest
 invariant-loop-rest l = record {
-  decides : over_lines arch_step (l.number + 1) (map words_of l.list.items) (lines_left l.rest) ≡ archs_at l.fn.text;
+  decides : over_lines arch_step (l.number + 1) (map words_of l.list.items) (lines_left l.rest)
+      ≡ archs_at l.fn.text;
   small : l.number + left_len l.rest ≤ length l.fn.text + 1;
   few : length l.list.items ≤ 32;
 }

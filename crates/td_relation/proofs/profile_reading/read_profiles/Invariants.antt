@@ -9,4 +9,6 @@ decreases-loop-rest l = left_len l.rest
 
 -- what is left decides
 abbrev pub invariant-loop-rest : goal.invariant-loop-rest
-invariant-loop-rest l = over profile_step l.seen (pieces_left 62 l.rest) ≡ over profile_step (false, false) (pieces_of 62 l.fn.text)
+invariant-loop-rest l =
+    over profile_step l.seen (pieces_left 62 l.rest)
+    ≡ over profile_step (false, false) (pieces_of 62 l.fn.text)

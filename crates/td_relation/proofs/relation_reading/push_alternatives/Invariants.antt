@@ -11,6 +11,7 @@ decreases-loop-rest l = left_len l.rest
 -- what is left decides
 abbrev pub invariant-loop-rest : goal.invariant-loop-rest
 invariant-loop-rest l = record {
-  decides : over alternative_step (map asked l.list.items) (pieces_left 124 l.rest) ≡ over alternative_step (map asked l.fn.list.items) (pieces_of 124 l.fn.text);
+  decides : over alternative_step (map asked l.list.items) (pieces_left 124 l.rest)
+      ≡ over alternative_step (map asked l.fn.list.items) (pieces_of 124 l.fn.text);
   longer : length l.fn.list.items ≤ length l.list.items;
 }

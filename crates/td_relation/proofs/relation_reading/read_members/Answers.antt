@@ -12,16 +12,20 @@ pub returns-in-Err-clause-err : goal.returns-in-Err-clause-err
 returns-in-Err-clause-err c =
     let seen = chunked c.loop-rest.sizes.items (map asked c.loop-rest.alternatives.items) in
     let filled : is_blank c.next_piece.result.0.now ≡ false = search rules in
-    let h = taken member_step 44 seen c.loop-rest.rest c.in-Some.text _ _ _ c.in-Some.is c.next_piece.ensures.pieces c.loop-rest.invariant.decides in
-    faulted member_step c.in-Err.fault seen c.next_piece.result.0.now _ _ (member_step-fails seen c.next_piece.result.0.now c.in-Err.fault filled c.in-Err.ensures.err) h
+    let h = taken member_step 44 seen c.loop-rest.rest c.in-Some.text _ _ _ c.in-Some.is
+    c.next_piece.ensures.pieces c.loop-rest.invariant.decides in
+    faulted member_step c.in-Err.fault seen c.next_piece.result.0.now _ _
+    (member_step-fails seen c.next_piece.result.0.now c.in-Err.fault filled c.in-Err.ensures.err) h
 
 pub loop-rest-preserved-in-Ok : goal.loop-rest-preserved-in-Ok
 loop-rest-preserved-in-Ok c =
     let seen = chunked c.loop-rest.sizes.items (map asked c.loop-rest.alternatives.items) in
     let filled : is_blank c.next_piece.result.0.now ≡ false = search rules in
-    let h = taken member_step 44 seen c.loop-rest.rest c.in-Some.text _ _ _ c.in-Some.is c.next_piece.ensures.pieces c.loop-rest.invariant.decides in
+    let h = taken member_step 44 seen c.loop-rest.rest c.in-Some.text _ _ _ c.in-Some.is
+    c.next_piece.ensures.pieces c.loop-rest.invariant.decides in
     record {
-      decides = stepped member_step seen _ c.next_piece.result.0.now _ _ (member_step-filled seen c.next_piece.result.0.now filled ∙ c.in-Ok.ensures.ok) h;
+      decides = stepped member_step seen _ c.next_piece.result.0.now _ _
+          (member_step-filled seen c.next_piece.result.0.now filled ∙ c.in-Ok.ensures.ok) h;
       whole = c.in-Ok.ensures.whole;
     }
 
@@ -29,11 +33,15 @@ pub loop-rest-preserved : goal.loop-rest-preserved
 loop-rest-preserved c =
     let seen = chunked c.loop-rest.sizes.items (map asked c.loop-rest.alternatives.items) in
     let blank : is_blank c.next_piece.result.0.now ≡ true = search rules in
-    let h = taken member_step 44 seen c.loop-rest.rest c.in-Some.text _ _ _ c.in-Some.is c.next_piece.ensures.pieces c.loop-rest.invariant.decides in
+    let h = taken member_step 44 seen c.loop-rest.rest c.in-Some.text _ _ _ c.in-Some.is
+    c.next_piece.ensures.pieces c.loop-rest.invariant.decides in
     record {
-      decides = stepped member_step seen seen c.next_piece.result.0.now _ _ (member_step-blank seen c.next_piece.result.0.now blank) h;
+      decides = stepped member_step seen seen c.next_piece.result.0.now _ _
+          (member_step-blank seen c.next_piece.result.0.now blank) h;
       whole = c.loop-rest.invariant.whole;
     }
 
 pub returns-clause-ok : goal.returns-clause-ok
-returns-clause-ok c = ends member_step 44 (chunked c.loop-rest.sizes.items (map asked c.loop-rest.alternatives.items)) c.loop-rest.rest _ c.in_default.is c.loop-rest.invariant.decides
+returns-clause-ok c =
+    ends member_step 44 (chunked c.loop-rest.sizes.items (map asked c.loop-rest.alternatives.items))
+    c.loop-rest.rest _ c.in_default.is c.loop-rest.invariant.decides

@@ -12,6 +12,7 @@ decreases-loop-rest l = left_len l.rest
 -- what is left decides
 abbrev pub invariant-loop-rest : goal.invariant-loop-rest
 invariant-loop-rest l = record {
-  decides : over member_step (chunked l.sizes.items (map asked l.alternatives.items)) (pieces_left 44 l.rest) ≡ over member_step [] (pieces_of 44 l.fn.text);
+  decides : over member_step (chunked l.sizes.items (map asked l.alternatives.items))
+      (pieces_left 44 l.rest) ≡ over member_step [] (pieces_of 44 l.fn.text);
   whole : total l.sizes.items ≡ length l.alternatives.items;
 }

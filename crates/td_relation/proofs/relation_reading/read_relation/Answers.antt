@@ -11,7 +11,8 @@ pub returns-then-is_empty-clause-err : goal.returns-then-is_empty-clause-err
 returns-then-is_empty-clause-err c =
     let r = c.in-Ok.relation in
     let none : length r.sizes.items ≡ 0 = search rules in
-    relation-empty c.args.text.now r.sizes.items (map asked r.alternatives.items) c.in-Ok.ensures.ok none
+    relation-empty c.args.text.now r.sizes.items (map asked r.alternatives.items) c.in-Ok.ensures.ok
+    none
 
 pub returns-clause-ok : goal.returns-clause-ok
 returns-clause-ok c =

@@ -8,4 +8,7 @@ use Rattle.td_relation.proofs.RunLaws.{operator_is_ascii}
 use Rattle.td_relation.proofs.runs.operator_run.Goals as goal
 
 pub split_at-requires : goal.split_at-requires
-split_at-requires c = subst (λ (n : ℕ). IsCharBoundary c.args.text.now n) (sym (c.operator_len.ensures ∙ ap (prefix_len is_operator_byte) c.as_bytes.ensures.value)) (boundary_run is_operator_byte operator_is_ascii c.args.text.now c.utf8.text)
+split_at-requires c =
+    subst (λ (n : ℕ). IsCharBoundary c.args.text.now n)
+    (sym (c.operator_len.ensures ∙ ap (prefix_len is_operator_byte) c.as_bytes.ensures.value))
+    (boundary_run is_operator_byte operator_is_ascii c.args.text.now c.utf8.text)

@@ -12,11 +12,15 @@ loop-at-preserved c =
     let at = c.loop-at.at in
     let a = c.index-keys-at.result in
     let b = c.index-keys-at-in-loop-at.result in
-    let lt : is_lt (key_cmp a b) ≡ true = sym (ap is_lt c.compare.ensures) ∙ sym c.is_lt.ensures ∙ c.if-not-is_lt.false in
-    let step = ascending_step ks at (at - 1) a b (omega arith) (omega arith) c.index-keys-at.is c.index-keys-at-in-loop-at.is in
-    let same : ascending (drop at ks) ≡ ascending ks = sym (step ∙ ap (λ v. v && ascending (drop at ks)) lt) ∙ c.loop-at.invariant in
+    let lt : is_lt (key_cmp a b) ≡ true =
+    sym (ap is_lt c.compare.ensures) ∙ sym c.is_lt.ensures ∙ c.if-not-is_lt.false in
+    let step = ascending_step ks at (at - 1) a b (omega arith) (omega arith) c.index-keys-at.is
+    c.index-keys-at-in-loop-at.is in
+    let same : ascending (drop at ks) ≡ ascending ks =
+    sym (step ∙ ap (λ v. v && ascending (drop at ks)) lt) ∙ c.loop-at.invariant in
     let back : at + 1 - 1 ≡ at = omega arith in
     ap (λ (n : ℕ). ascending (drop n ks)) back ∙ same
 
 pub returns : goal.returns
-returns c = sym (ascending_end c.args.keys.now (c.loop-at.at - 1) (omega arith)) ∙ c.loop-at.invariant
+returns c =
+    sym (ascending_end c.args.keys.now (c.loop-at.at - 1) (omega arith)) ∙ c.loop-at.invariant

@@ -6,5 +6,7 @@ use Rattle.td_rows.proofs.notes.put_notes.Goals as goal
 
 pub truncate-requires : goal.truncate-requires
 truncate-requires c =
-    let len : c.len-start.result ≡ length (string_bytes c.args.out.now) = omega (arith, c.len-start.ensures, c.args.out.now.bytes.ok.0) in
-    λ _. cut_back c.args.out.now c.put_both-done.new.out c.len-start.result len c.put_both-done.ensures.front
+    let len : c.len-start.result ≡ length (string_bytes c.args.out.now) =
+    omega (arith, c.len-start.ensures, c.args.out.now.bytes.ok.0) in
+    λ _. cut_back c.args.out.now c.put_both-done.new.out c.len-start.result len
+    c.put_both-done.ensures.front

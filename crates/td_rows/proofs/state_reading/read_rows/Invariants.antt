@@ -10,6 +10,7 @@ decreases-loop-rest l = left_len l.rest
 -- what is left decides; a line takes at least a byte
 abbrev pub invariant-loop-rest : goal.invariant-loop-rest
 invariant-loop-rest l = record {
-  decides : over_lines state_step (l.number + 1) l.rows.entries (lines_left l.rest) ≡ state_rows l.fn.text;
+  decides : over_lines state_step (l.number + 1) l.rows.entries (lines_left l.rest)
+      ≡ state_rows l.fn.text;
   small : l.number + left_len l.rest ≤ length l.fn.text + 1;
 }

@@ -13,9 +13,14 @@ loop-number-preserved c = elim c.match-at.branch [
   | in-Some+in_ok-put_row_line+in_ok-push_str w ↦
       ap string_bytes w.text-is
       ∙ w.in_ok-push_str.ensures.bytes
-      ∙ ap (λ (b : List ℕ). b ++ 10 ∷ []) (w.in_ok-put_row_line.ensures.ok ∙ ap (λ (b : List ℕ). b ++ row_line (w.in-Some.key.now, w.in-Some.row.now)) c.loop-number.invariant)
-      ∙ sym (state_text-next c.args.rows.now c.loop-number.number (w.in-Some.key.now, w.in-Some.row.now) (sym w.in-Some.ensures))
+      ∙ ap (λ (b : List ℕ). b ++ 10 ∷ [])
+      (w.in_ok-put_row_line.ensures.ok
+      ∙ ap (λ (b : List ℕ). b ++ row_line (w.in-Some.key.now, w.in-Some.row.now))
+      c.loop-number.invariant)
+      ∙ sym (state_text-next c.args.rows.now c.loop-number.number
+      (w.in-Some.key.now, w.in-Some.row.now) (sym w.in-Some.ensures))
   | in_default w ↦
-      let within : c.loop-number.number < length c.args.rows.now = rw (← c.len-number-end.ensures.len) c.loop-number-test.true in
+      let within : c.loop-number.number < length c.args.rows.now =
+      rw (← c.len-number-end.ensures.len) c.loop-number-test.true in
       absurd (slice_get-none c.args.rows.now c.loop-number.number (sym w.in_default.ensures) within)
 ]

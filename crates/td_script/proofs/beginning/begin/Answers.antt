@@ -10,5 +10,9 @@ use Rattle.td_script.proofs.beginning.begin.Goals as goal
 
 pub returns-in-Some-clause-only : goal.returns-in-Some-clause-only
 returns-in-Some-clause-only c =
-    subst (λ (o : Option (Bor (List ℕ))). IfErr c.reopen.result (λ fault. IsJournalIfGiven c.args.rows (option_map (λ s. s.now) o) → fault ≡ NoMemory)) (sym c.in-Some.is)
-    (reopen_stops (λ (ms : List Marked) (book : BookModel). book.history ≡ given_back (history_of c.args.rows ms)) c.args.rows c.in-Some.text.now c.reopen.result c.reopen.ensures.only)
+    subst (λ (o : Option (Bor (List ℕ))).
+    IfErr c.reopen.result (λ fault.
+    IsJournalIfGiven c.args.rows (option_map (λ s. s.now) o) → fault ≡ NoMemory)) (sym c.in-Some.is)
+    (reopen_stops (λ (ms : List Marked) (book : BookModel).
+    book.history ≡ given_back (history_of c.args.rows ms)) c.args.rows c.in-Some.text.now
+    c.reopen.result c.reopen.ensures.only)

@@ -6,5 +6,7 @@ use Rattle.std.proofs.lemmas.Result.{IfOk-weaker}
 pub returns : goal.returns
 returns c =
     IfOk-weaker c.put_command.result _ _
-    (λ refused put. Answers-command (parts_of c.args.command.now) c.args.book.now c.command-answer.new.self _ _ _ _ refused c.requires.alone c.journal.ensures c.command-answer.ensures put)
+    (λ refused put. Answers-command (parts_of c.args.command.now) c.args.book.now
+    c.command-answer.new.self _ _ _ _ refused c.requires.alone c.journal.ensures
+    c.command-answer.ensures put)
     c.put_command.ensures

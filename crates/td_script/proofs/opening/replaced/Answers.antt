@@ -10,20 +10,32 @@ pub returns-in-Ok-overlay-clause-rows : goal.returns-in-Ok-overlay-clause-rows
 returns-in-Ok-overlay-clause-rows c = record {
   given = c.in-Ok.given;
   are_given = c.in-Ok.ensures.found;
-  none_missing = λ k e. let other = (c.overlay.ensures.missing k).1 e in let is = c.in-Ok-overlay.is in cc;
+  none_missing =
+      λ k e. let other = (c.overlay.ensures.missing k).1 e in let is = c.in-Ok-overlay.is in cc;
   replaced = c.in-Ok-overlay.ensures.ok;
 }
 
 pub returns-in-Ok-overlay-clause-idle : goal.returns-in-Ok-overlay-clause-idle
-returns-in-Ok-overlay-clause-idle c = subst NoneBuilt (sym c.in-Ok-overlay.ensures.ok) (none_built_over c.in-Ok.given c.args.rows (NoneBuilt-state_file c.in-Ok.ensures.found) c.requires)
+returns-in-Ok-overlay-clause-idle c =
+    subst NoneBuilt (sym c.in-Ok-overlay.ensures.ok)
+    (none_built_over c.in-Ok.given c.args.rows (NoneBuilt-state_file c.in-Ok.ensures.found)
+    c.requires)
 
 pub returns-in-Err-overlay-clause-refused : goal.returns-in-Err-overlay-clause-refused
-returns-in-Err-overlay-clause-refused c = (c.in-Ok.given, c.in-Ok.ensures.found, missing_key c.args.rows c.in-Ok.given c.overlay.result c.in-Err-overlay.field-0 c.in-Err-overlay.is c.overlay.ensures.missing)
+returns-in-Err-overlay-clause-refused c = (
+  c.in-Ok.given,
+  c.in-Ok.ensures.found,
+  missing_key c.args.rows c.in-Ok.given c.overlay.result c.in-Err-overlay.field-0
+      c.in-Err-overlay.is c.overlay.ensures.missing,
+)
 
 pub returns-in-Err-clause-only : goal.returns-in-Err-clause-only
-returns-in-Err-clause-only c = λ can. c.fault_of_state.ensures ∙ ap of_state (c.in-Err.ensures.only can.0 can.1)
+returns-in-Err-clause-only c =
+    λ can. c.fault_of_state.ensures ∙ ap of_state (c.in-Err.ensures.only can.0 can.1)
 
 pub returns-in-Err-overlay-clause-only : goal.returns-in-Err-overlay-clause-only
 returns-in-Err-overlay-clause-only c = λ can.
-    let found = missing_key c.args.rows c.in-Ok.given c.overlay.result c.in-Err-overlay.field-0 c.in-Err-overlay.is c.overlay.ensures.missing in
-    absurd (missing_stops c.args.rows c.in-Ok.given c.args.text.now found.0 found.1 (λ u is. c.in-Ok.ensures.only u is) can)
+    let found = missing_key c.args.rows c.in-Ok.given c.overlay.result c.in-Err-overlay.field-0
+    c.in-Err-overlay.is c.overlay.ensures.missing in
+    absurd (missing_stops c.args.rows c.in-Ok.given c.args.text.now found.0 found.1
+    (λ u is. c.in-Ok.ensures.only u is) can)

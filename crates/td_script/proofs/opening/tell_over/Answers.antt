@@ -5,8 +5,10 @@ use Rattle.td_script.proofs.opening.tell_over.Goals as goal
 
 pub returns-in-Ok-clause-only : goal.returns-in-Ok-clause-only
 returns-in-Ok-clause-only g c =
-    table_stops (texts_of c.args.inputs.now) (table c.in-Ok.archs) _ c.tell_over_table.result c.as_str.ensures.value c.in-Ok.ensures.only c.tell_over_table.ensures.only
+    table_stops (texts_of c.args.inputs.now) (table c.in-Ok.archs) _ c.tell_over_table.result
+    c.as_str.ensures.value c.in-Ok.ensures.only c.tell_over_table.ensures.only
 
 pub returns-in-Err-clause-only : goal.returns-in-Err-clause-only
 returns-in-Err-clause-only g c =
-    no_table_stops (texts_of c.args.inputs.now) _ c.in-Err.fault c.fault_of_table.result c.as_str.ensures.value c.in-Err.ensures.only c.fault_of_table.ensures
+    no_table_stops (texts_of c.args.inputs.now) _ c.in-Err.fault c.fault_of_table.result
+    c.as_str.ensures.value c.in-Err.ensures.only c.fault_of_table.ensures

@@ -5,10 +5,14 @@ use Rattle.td_script.proofs.opening.tell_over_table.Goals as goal
 
 pub returns-in-Ok-clause-only : goal.returns-in-Ok-clause-only
 returns-in-Ok-clause-only g c =
-    archive_stops (texts_of c.args.inputs.now) c.in-Ok.archive (table c.args.archs.now) _ _ c.tell_over_archive.result
-    c.as_str-packages.ensures.value c.as_str-sources.ensures.value c.in-Ok.ensures.only c.tell_over_archive.ensures.only
+    archive_stops (texts_of c.args.inputs.now) c.in-Ok.archive (table c.args.archs.now) _ _
+    c.tell_over_archive.result
+    c.as_str-packages.ensures.value c.as_str-sources.ensures.value c.in-Ok.ensures.only
+    c.tell_over_archive.ensures.only
 
 pub returns-in-Err-clause-only : goal.returns-in-Err-clause-only
 returns-in-Err-clause-only g c =
-    no_archive_stops (texts_of c.args.inputs.now) (table c.args.archs.now) _ _ c.in-Err.fault c.fault_of_archive.result
-    c.as_str-packages.ensures.value c.as_str-sources.ensures.value c.in-Err.ensures.only c.fault_of_archive.ensures
+    no_archive_stops (texts_of c.args.inputs.now) (table c.args.archs.now) _ _ c.in-Err.fault
+    c.fault_of_archive.result
+    c.as_str-packages.ensures.value c.as_str-sources.ensures.value c.in-Err.ensures.only
+    c.fault_of_archive.ensures

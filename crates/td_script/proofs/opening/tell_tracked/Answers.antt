@@ -11,7 +11,10 @@ returns-in-Ok-clause-tells g c =
     let x = texts_of c.args.inputs.now in
     let y = c.in-Ok.transition in
     let t = tracking c.args.tracker.now in
-    tells_from (g.S.Staff.tells c.args.staff.now) x c.args.archive.now (Some (report_by y)) c.args.rows c.args.script.now c.tell_from.result
+    tells_from (g.S.Staff.tells c.args.staff.now) x c.args.archive.now
+    (Some (report_by y)) c.args.rows c.args.script.now c.tell_from.result
     c.tell_from.ensures.told c.tell_from.ensures.refused c.requires.archive c.requires.rows
-    (tracker_reports x c.args.archive.now (contents_of y) t (tracking_of y) (level_of y) (depth_of y) (report_by y) c.in-Ok.ensures.archive c.in-Ok.ensures.tracking c.requires.tracker c.in-Ok.ensures.made.leveled (λ rows. refl))
+    (tracker_reports x c.args.archive.now (contents_of y) t (tracking_of y) (level_of y)
+    (depth_of y) (report_by y) c.in-Ok.ensures.archive c.in-Ok.ensures.tracking c.requires.tracker
+    c.in-Ok.ensures.made.leveled (λ rows. refl))
     (tracker_given x t c.requires.tracker)

@@ -5,8 +5,12 @@ use Rattle.td_script.proofs.OnlyLaws.{tracked_stops, tracker_stops}
 use Rattle.td_script.proofs.opening.tell_with_tracker.Goals as goal
 
 pub returns-in-Ok-clause-only : goal.returns-in-Ok-clause-only
-returns-in-Ok-clause-only g c = tracked_stops (texts_of c.args.inputs.now) c.args.text.now c.args.rows c.tell_tracked.result c.tell_tracked.ensures.only
+returns-in-Ok-clause-only g c =
+    tracked_stops (texts_of c.args.inputs.now) c.args.text.now c.args.rows c.tell_tracked.result
+    c.tell_tracked.ensures.only
 
 pub returns-in-Err-clause-only : goal.returns-in-Err-clause-only
 returns-in-Err-clause-only g c = λ t is journal.
-    subst (Stops (texts_of c.args.inputs.now)) (sym c.fault_of_tracker.ensures) (tracker_stops (texts_of c.args.inputs.now) c.args.text.now c.in-Err.fault c.requires.tracker (c.in-Err.ensures.only t is))
+    subst (Stops (texts_of c.args.inputs.now)) (sym c.fault_of_tracker.ensures)
+    (tracker_stops (texts_of c.args.inputs.now) c.args.text.now c.in-Err.fault c.requires.tracker
+    (c.in-Err.ensures.only t is))

@@ -6,8 +6,12 @@ use Rattle.td_script.specs.Replying.{IsCommandPut}
 use Rattle.td_script.proofs.AnswerLaws.{IsPut-two}
 use Rattle.td_script.proofs.replying.put_command.Goals as goal
 
-pub returns-in_ok-put_skips-in-Err-NothingApplies : goal.returns-in_ok-put_skips-in-Err-NothingApplies
+pub returns-in_ok-put_skips-in-Err-NothingApplies :
+    goal.returns-in_ok-put_skips-in-Err-NothingApplies
 returns-in_ok-put_skips-in-Err-NothingApplies c =
-    let same : c.args.answer ≡ Err (refusals.NothingApplies c.in-Err-NothingApplies.skips) = search rules in
-    subst (λ a. IsCommandPut c.args.journal.now.entries a (string_bytes c.args.out.now) (string_bytes c.put_skips-in-Err-NothingApplies.new.out) true) (sym same)
-    (IsPut-two _ _ _ (refusal_line (codes "NothingApplies")) _ c.in_ok-put_refusal-in-Err-NothingApplies.ensures (search rules))
+    let same : c.args.answer ≡ Err (refusals.NothingApplies c.in-Err-NothingApplies.skips) =
+    search rules in
+    subst (λ a. IsCommandPut c.args.journal.now.entries a (string_bytes c.args.out.now)
+    (string_bytes c.put_skips-in-Err-NothingApplies.new.out) true) (sym same)
+    (IsPut-two _ _ _ (refusal_line (codes "NothingApplies")) _
+    c.in_ok-put_refusal-in-Err-NothingApplies.ensures (search rules))

@@ -9,21 +9,39 @@ use Rattle.td_script.proofs.running.run_with.Goals as goal
 
 pub returns-in-Ok-clause-says : goal.returns-in-Ok-clause-says
 returns-in-Ok-clause-says g c =
-    plays (g.S.Staff.tells c.args.staff.now) (texts_of c.args.inputs.now) (g.R.Read.remaining c.args.reader.now) c.read_text-read.result c.tell_read.result c.in_ok-told.told
-    (λ text refused. (c.in_ok-told.told.refused ≡ refused) × Appends (g.W.Write.contents c.args.writer.now) (g.W.Write.contents c.write_whole.new.writer) text)
-    c.in_ok-told.was c.read_text-read.ensures.text c.read_text-read.ensures.within c.tell_read.ensures.read c.tell_read.ensures.unread
-    (refl, subst (λ l. Appends (g.W.Write.contents c.args.writer.now) (g.W.Write.contents c.write_whole.new.writer) l) c.as_bytes.ensures.value c.in-Ok.ensures.whole)
+    plays (g.S.Staff.tells c.args.staff.now) (texts_of c.args.inputs.now)
+    (g.R.Read.remaining c.args.reader.now) c.read_text-read.result c.tell_read.result
+    c.in_ok-told.told
+    (λ text refused. (c.in_ok-told.told.refused ≡ refused)
+    × Appends (g.W.Write.contents c.args.writer.now) (g.W.Write.contents c.write_whole.new.writer)
+    text)
+    c.in_ok-told.was c.read_text-read.ensures.text c.read_text-read.ensures.within
+    c.tell_read.ensures.read c.tell_read.ensures.unread (
+      refl,
+      subst (λ l. Appends (g.W.Write.contents c.args.writer.now)
+          (g.W.Write.contents c.write_whole.new.writer) l) c.as_bytes.ensures.value
+          c.in-Ok.ensures.whole,
+    )
 
 pub returns-clause-says : goal.returns-clause-says
 returns-clause-says g c =
-    plays (g.S.Staff.tells c.args.staff.now) (texts_of c.args.inputs.now) (g.R.Read.remaining c.args.reader.now) c.read_text-read.result c.tell_read.result c.in_ok-told.told
-    (λ text refused. AppendsPrefix (g.W.Write.contents c.args.writer.now) (g.W.Write.contents c.write_whole.new.writer) text)
-    c.in_ok-told.was c.read_text-read.ensures.text c.read_text-read.ensures.within c.tell_read.ensures.read c.tell_read.ensures.unread
-    (subst (λ l. AppendsPrefix (g.W.Write.contents c.args.writer.now) (g.W.Write.contents c.write_whole.new.writer) l) c.as_bytes.ensures.value c.in-Err.ensures.prefix)
+    plays (g.S.Staff.tells c.args.staff.now) (texts_of c.args.inputs.now)
+    (g.R.Read.remaining c.args.reader.now) c.read_text-read.result c.tell_read.result
+    c.in_ok-told.told
+    (λ text refused. AppendsPrefix (g.W.Write.contents c.args.writer.now)
+    (g.W.Write.contents c.write_whole.new.writer) text)
+    c.in_ok-told.was c.read_text-read.ensures.text c.read_text-read.ensures.within
+    c.tell_read.ensures.read c.tell_read.ensures.unread
+    (subst (λ l. AppendsPrefix (g.W.Write.contents c.args.writer.now)
+    (g.W.Write.contents c.write_whole.new.writer) l) c.as_bytes.ensures.value
+    c.in-Err.ensures.prefix)
 
 pub returns-in_err-told-clause-only : goal.returns-in_err-told-clause-only
 returns-in_err-told-clause-only g c =
     let x = texts_of c.args.inputs.now in
     let known = g.R.Read.remaining c.args.reader.now in
     let same : c.from_residual.result ≡ Err c.in_err-told.field-0.0 = search rules in
-    subst (Only x known) (sym same) (run_only x known c.read_text-read.result c.tell_read.result c.in_err-told.field-0.0 c.in_err-told.was c.tell_read.ensures.only c.tell_read.ensures.unread_only c.read_text-read.ensures.long c.read_text-read.ensures.not_text)
+    subst (Only x known) (sym same)
+    (run_only x known c.read_text-read.result c.tell_read.result c.in_err-told.field-0.0
+    c.in_err-told.was c.tell_read.ensures.only c.tell_read.ensures.unread_only
+    c.read_text-read.ensures.long c.read_text-read.ensures.not_text)

@@ -11,7 +11,8 @@ returns-in-Ok-tell_watched c = record {
   told = (
     c.in-Ok-begin.book.history,
     c.in-Ok-begin.ensures.begun.begun,
-    answered-from c.in-Ok-begin.book.history c.in-Ok-begin.book.fixed.stock _ _ c.args.asked.suite.now _ c.args.asked.script.now _ _ c.in-Ok-tell_watched.ensures
+    answered-from c.in-Ok-begin.book.history c.in-Ok-begin.book.fixed.stock _ _
+        c.args.asked.suite.now _ c.args.asked.script.now _ _ c.in-Ok-tell_watched.ensures
         (c.in-Ok-begin.ensures.begun.stock_is ∙ stock-opened _ _ c.in-Ok-supply.ensures)
         (search rules),
   );

@@ -6,4 +6,5 @@ use Rattle.td_script.proofs.writing.put_skips.Given as goal
 
 -- the lines so far are written
 abbrev pub invariant-loop-skip : goal.invariant-loop-skip
-invariant-loop-skip l = string_bytes l.out ≡ string_bytes l.fn.out ++ flat_map skip_line (take l.skip-index l.skips)
+invariant-loop-skip l =
+    string_bytes l.out ≡ string_bytes l.fn.out ++ flat_map skip_line (take l.skip-index l.skips)

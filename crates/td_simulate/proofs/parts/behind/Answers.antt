@@ -7,4 +7,5 @@ use Rattle.td_simulate.proofs.TextParts.{ended-none}
 use Rattle.td_simulate.proofs.parts.behind.Goals as goal
 
 pub returns-in-None-clause-lines : goal.returns-in-None-clause-lines
-returns-in-None-clause-lines c = ended-none ∙ ap (λ (o : Option (Bor (List ℕ))). ended (lines_left o)) (sym c.in-None.is)
+returns-in-None-clause-lines c =
+    ended-none ∙ ap (λ (o : Option (Bor (List ℕ))). ended (lines_left o)) (sym c.in-None.is)

@@ -7,4 +7,6 @@ use Rattle.td_simulate.proofs.simulation.put_answers.Given as goal
 
 -- the lines of the answers so far
 abbrev pub invariant-loop-answer : goal.invariant-loop-answer
-invariant-loop-answer l = string_bytes l.out ≡ string_bytes l.initial.out ++ text_of (map answer_line (take l.answer-index l.answers))
+invariant-loop-answer l =
+    string_bytes l.out
+    ≡ string_bytes l.initial.out ++ text_of (map answer_line (take l.answer-index l.answers))

@@ -12,4 +12,6 @@ tell-requires c = NoneBuilt-state_file c.in-Ok.ensures.found.opening
 pub returns-in-Ok-tell-clause-only : goal.returns-in-Ok-tell-clause-only
 returns-in-Ok-tell-clause-only c = λ t ss is.
     let same = c.in-Ok.ensures.only t ss is in
-    subst (λ (x : Table). Tells x ss c.in-Ok-tell.told) same.0 (subst (λ (x : List Step). Tells c.in-Ok.read.0 x c.in-Ok-tell.told) same.1 c.in-Ok-tell.ensures)
+    subst (λ (x : Table). Tells x ss c.in-Ok-tell.told) same.0
+    (subst (λ (x : List Step). Tells c.in-Ok.read.0 x c.in-Ok-tell.told) same.1
+    c.in-Ok-tell.ensures)

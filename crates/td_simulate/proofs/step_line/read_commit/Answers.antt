@@ -8,9 +8,11 @@ use Rattle.td_simulate.proofs.step_line.read_commit.Goals as goal
 pub with_texts-requires-clause-extra : goal.with_texts-requires-clause-extra
 with_texts-requires-clause-extra c =
     (commit_lacks c.args.rest.now _ c.requires
-    (ap (λ (q : List Key × List ℕ). notes_at q.1) (sym c.in_ok-keys.ensures) ∙ sym c.in-Some-read_notes.ensures)).0
+    (ap (λ (q : List Key × List ℕ). notes_at q.1) (sym c.in_ok-keys.ensures)
+    ∙ sym c.in-Some-read_notes.ensures)).0
 
 pub with_texts-requires-clause-text : goal.with_texts-requires-clause-text
 with_texts-requires-clause-text c =
     (commit_lacks c.args.rest.now _ c.requires
-    (ap (λ (q : List Key × List ℕ). notes_at q.1) (sym c.in_ok-keys.ensures) ∙ sym c.in-Some-read_notes.ensures)).1
+    (ap (λ (q : List Key × List ℕ). notes_at q.1) (sym c.in_ok-keys.ensures)
+    ∙ sym c.in-Some-read_notes.ensures)).1

@@ -14,7 +14,9 @@ pub loop-rest-init : goal.loop-rest-init
 loop-rest-init c =
     let none = c.new-steps.ensures.items in
     record {
-      read = subst (λ (ss : List Step). AreRead (ended (lines_of c.args.text.now)) ss (ended (lines_of c.args.text.now))) (sym none) (AreRead-none (ended (lines_of c.args.text.now)));
+      read = subst (λ (ss : List Step).
+          AreRead (ended (lines_of c.args.text.now)) ss (ended (lines_of c.args.text.now)))
+          (sym none) (AreRead-none (ended (lines_of c.args.text.now)));
       counted = omega (arith, ap length none);
       small = omega arith;
       utf8 = search rules;
@@ -23,8 +25,11 @@ loop-rest-init c =
 pub returns-in_default-read-clause-fault : goal.returns-in_default-read-clause-fault
 returns-in_default-read-clause-fault c =
     let filled : eqb (length c.loop-rest.rest.now) 0 ≡ false = search rules in
-    let next = ended-next c.loop-rest.rest.now c.next_line.result.0.now c.next_line.result.1 c.next_line.ensures.lines c.next_line.ensures.text (some_text c.loop-rest.rest.now filled) in
-    AreRead-bad c.args.first c.loop-rest.number _ c.loop-rest.steps.items c.next_line.result.0.now _ _ c.loop-rest.invariant.read next (sym (sym c.in_default-read.is ∙ c.in-Ok.ensures)) c.loop-rest.invariant.counted
+    let next = ended-next c.loop-rest.rest.now c.next_line.result.0.now c.next_line.result.1
+    c.next_line.ensures.lines c.next_line.ensures.text (some_text c.loop-rest.rest.now filled) in
+    AreRead-bad c.args.first c.loop-rest.number _ c.loop-rest.steps.items c.next_line.result.0.now _
+    _ c.loop-rest.invariant.read next (sym (sym c.in_default-read.is ∙ c.in-Ok.ensures))
+    c.loop-rest.invariant.counted
 
 pub overflow_add-number : goal.overflow_add-number
 overflow_add-number c =
@@ -36,23 +41,41 @@ pub loop-rest-smaller : goal.loop-rest-smaller
 loop-rest-smaller c =
     let filled : eqb (length c.loop-rest.rest.now) 0 ≡ false = search rules in
     let some = length_some c.loop-rest.rest.now (some_text c.loop-rest.rest.now filled) in
-    let less : length c.behind-rest.result.now < length c.loop-rest.rest.now = omega (arith, c.behind-rest.ensures.shorter, c.next_line.ensures.shorter, some) in
+    let less : length c.behind-rest.result.now < length c.loop-rest.rest.now =
+    omega (arith, c.behind-rest.ensures.shorter, c.next_line.ensures.shorter, some) in
     less
 
 pub loop-rest-preserved : goal.loop-rest-preserved
 loop-rest-preserved c =
     let filled : eqb (length c.loop-rest.rest.now) 0 ≡ false = search rules in
     let some = some_text c.loop-rest.rest.now filled in
-    let next = ended-next c.loop-rest.rest.now c.next_line.result.0.now c.next_line.result.1 c.next_line.ensures.lines c.next_line.ensures.text some in
-    let pushed : c.push.new.self.items ≡ c.loop-rest.steps.items ++ c.in-Some.step ∷ [] = c.in-Ok-push.ensures.items in
+    let next = ended-next c.loop-rest.rest.now c.next_line.result.0.now c.next_line.result.1
+    c.next_line.ensures.lines c.next_line.ensures.text some in
+    let pushed : c.push.new.self.items ≡ c.loop-rest.steps.items ++ c.in-Some.step ∷ [] =
+    c.in-Ok-push.ensures.items in
     record {
-      read = AreRead-push _ c.loop-rest.steps.items c.push.new.self.items c.in-Some.step c.next_line.result.0.now _ _ c.loop-rest.invariant.read (next ∙ ap (λ (l : List (List ℕ)). c.next_line.result.0.now ∷ l) (sym c.behind-rest.ensures.lines)) (sym (sym c.in-Some.is ∙ c.in-Ok.ensures)) pushed;
-      counted = omega (arith, c.loop-rest.invariant.counted, ap length pushed, length-append c.loop-rest.steps.items (c.in-Some.step ∷ []));
-      small = omega (arith, c.loop-rest.invariant.small, c.behind-rest.ensures.shorter, c.next_line.ensures.shorter, length_some c.loop-rest.rest.now some);
+      read = AreRead-push _ c.loop-rest.steps.items c.push.new.self.items c.in-Some.step
+          c.next_line.result.0.now _ _ c.loop-rest.invariant.read
+          (next ∙ ap (λ (l : List (List ℕ)). c.next_line.result.0.now ∷ l)
+          (sym c.behind-rest.ensures.lines)) (sym (sym c.in-Some.is ∙ c.in-Ok.ensures)) pushed;
+      counted = omega (
+        arith,
+        c.loop-rest.invariant.counted,
+        ap length pushed,
+        length-append c.loop-rest.steps.items (c.in-Some.step ∷ []),
+      );
+      small = omega (
+        arith,
+        c.loop-rest.invariant.small,
+        c.behind-rest.ensures.shorter,
+        c.next_line.ensures.shorter,
+        length_some c.loop-rest.rest.now some,
+      );
       utf8 = search rules;
     }
 
 pub returns-clause-found : goal.returns-clause-found
 returns-clause-found c =
     let none : eqb (length c.loop-rest.rest.now) 0 ≡ true = search rules in
-    AreRead-all _ c.loop-rest.steps.items _ c.loop-rest.invariant.read (ended-empty c.loop-rest.rest.now (no_text c.loop-rest.rest.now none))
+    AreRead-all _ c.loop-rest.steps.items _ c.loop-rest.invariant.read
+    (ended-empty c.loop-rest.rest.now (no_text c.loop-rest.rest.now none))

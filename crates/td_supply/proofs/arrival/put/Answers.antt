@@ -10,11 +10,13 @@ returns-then-at-len c =
     let items = c.args.items.now in
     let len : c.len.result ≡ length items.items = c.len.ensures ∙ items.ok.0 in
     let within : c.args.at < length items.items = rw (← len) c.if-at-len.true in
-    put-set items.items c.args.at c.index_mut.result.now c.args.rebuilt within c.index_mut.ensures.value
+    put-set items.items c.args.at c.index_mut.result.now c.args.rebuilt within
+    c.index_mut.ensures.value
 
 pub returns-else-at-len : goal.returns-else-at-len
 returns-else-at-len c =
     let items = c.args.items.now in
     let len : c.len.result ≡ length items.items = c.len.ensures ∙ items.ok.0 in
-    let past : length (map item items.items) ≤ c.args.at = rw (length-map items.items item, ← len) c.if-at-len.false in
+    let past : length (map item items.items) ≤ c.args.at =
+    rw (length-map items.items item, ← len) c.if-at-len.false in
     sym (put-past (map item items.items) c.args.at (rebuilt_parts c.args.rebuilt) past)

@@ -15,5 +15,7 @@ loop-at-preserved c =
     let items = map item c.loop-at.items.items in
     ap (put_all left) c.put.ensures
     ∙ sym (put_all-push left (rebuilt_at p) items)
-    ∙ ap (λ (l : List (ℕ × Parts)). put_all l items) (sym (map_push rebuilt_at c.pop.new.self.items p) ∙ ap (map rebuilt_at) (sym c.in-Some.ensures.items))
+    ∙ ap (λ (l : List (ℕ × Parts)). put_all l items)
+    (sym (map_push rebuilt_at c.pop.new.self.items p)
+    ∙ ap (map rebuilt_at) (sym c.in-Some.ensures.items))
     ∙ c.loop-at.invariant

@@ -4,4 +4,11 @@ use Rattle.td_supply.proofs.ArrivalLaws.{the_last_arrival_stands, the_stock_stay
 use Rattle.td_supply.proofs.laws.arrivals_change_their_own.Goals as goal
 
 pub returns : goal.returns
-returns c = record { others = others_stay; all = offers_of_all_stay; rebuilds = rebuilds_are_offered; last = the_last_arrival_stands; stock = the_stock_stays }
+returns c =
+    record {
+      others = others_stay;
+      all = offers_of_all_stay;
+      rebuilds = rebuilds_are_offered;
+      last = the_last_arrival_stands;
+      stock = the_stock_stays;
+    }

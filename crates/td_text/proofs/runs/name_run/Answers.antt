@@ -6,4 +6,7 @@ use Rattle.td_text.proofs.RunLaws.{boundary_run, name_is_ascii}
 use Rattle.td_text.proofs.runs.name_run.Goals as goal
 
 pub split_at-requires : goal.split_at-requires
-split_at-requires c = subst (λ (n : ℕ). IsCharBoundary c.args.text.now n) (sym (c.name_len.ensures ∙ ap (prefix_len is_name_byte) c.as_bytes.ensures.value)) (boundary_run is_name_byte name_is_ascii c.args.text.now c.utf8.text)
+split_at-requires c =
+    subst (λ (n : ℕ). IsCharBoundary c.args.text.now n)
+    (sym (c.name_len.ensures ∙ ap (prefix_len is_name_byte) c.as_bytes.ensures.value))
+    (boundary_run is_name_byte name_is_ascii c.args.text.now c.utf8.text)

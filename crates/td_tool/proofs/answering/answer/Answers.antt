@@ -20,10 +20,19 @@ returns g c =
     let told = c.act.ensures.fault in
     let flag = c.read_words.ensures.explained in
     record {
-      simulate = λ asks. simulated words known bytes can_fail old new before said status asked explained ran told flag (c.read_words.ensures.simulate asks);
-      check = λ archs packages sources asks. checked words known bytes can_fail old new before said status asked explained archs packages sources ran told flag (c.read_words.ensures.check archs packages sources asks);
-      track = λ w asks. tracked words known bytes can_fail old new before said status asked explained w ran told flag (c.read_words.ensures.track w asks);
-      waves = λ archs packages sources tracker asks. waved words known bytes can_fail old new before said status asked explained archs packages sources tracker ran told flag (c.read_words.ensures.waves archs packages sources tracker asks);
-      run = λ w asks. ran_script words known bytes can_fail old new before said status asked explained w ran told flag (c.read_words.ensures.run w asks);
-      others = only_asked words known bytes can_fail old new before said status asked ran told flag c.read_words.ensures.only;
+      simulate = λ asks. simulated words known bytes can_fail old new before said status asked
+          explained ran told flag (c.read_words.ensures.simulate asks);
+      check = λ archs packages sources asks.
+          checked words known bytes can_fail old new before said status asked explained archs
+          packages sources ran told flag (c.read_words.ensures.check archs packages sources asks);
+      track = λ w asks. tracked words known bytes can_fail old new before said status asked
+          explained w ran told flag (c.read_words.ensures.track w asks);
+      waves = λ archs packages sources tracker asks.
+          waved words known bytes can_fail old new before said status asked explained archs packages
+          sources tracker ran told flag
+          (c.read_words.ensures.waves archs packages sources tracker asks);
+      run = λ w asks. ran_script words known bytes can_fail old new before said status asked
+          explained w ran told flag (c.read_words.ensures.run w asks);
+      others = only_asked words known bytes can_fail old new before said status asked ran told flag
+          c.read_words.ensures.only;
     }

@@ -6,6 +6,10 @@ use Rattle.td_tool.proofs.checking.counts_with.Goals as goal
 
 pub returns-in-Ok-clause-counted : goal.returns-in-Ok-clause-counted
 returns-in-Ok-clause-counted c =
-    subst (λ r. IfOk r (λ archs. IsCountedWith (table archs) c.args.packages.now c.args.sources.now c.counts_of.result)) (sym c.in-Ok.is)
-    (counted_with (table c.in-Ok.archs) c.args.packages.now c.args.sources.now c.read.result c.counts_of.result
-    c.read.ensures.found c.read.ensures.only c.read.ensures.fault c.counts_of.ensures.counts c.counts_of.ensures.refused)
+    subst (λ r. IfOk r (λ archs.
+    IsCountedWith (table archs) c.args.packages.now c.args.sources.now c.counts_of.result))
+    (sym c.in-Ok.is)
+    (counted_with (table c.in-Ok.archs) c.args.packages.now c.args.sources.now c.read.result
+    c.counts_of.result
+    c.read.ensures.found c.read.ensures.only c.read.ensures.fault c.counts_of.ensures.counts
+    c.counts_of.ensures.refused)

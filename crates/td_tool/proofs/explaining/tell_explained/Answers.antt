@@ -11,7 +11,9 @@ returns-in_default g c = λ known kept.
     let ending = c.args.ended.now.ending in
     let before = g.E.Write.contents c.args.faults.now in
     let said = g.E.Write.contents c.tell.new.faults in
-    line_alone texts ending before said (wrote_front before said (line_of ending) c.tell.result c.tell.ensures.whole c.tell.ensures.prefix)
+    line_alone texts ending before said
+    (wrote_front before said (line_of ending) c.tell.result c.tell.ensures.whole
+    c.tell.ensures.prefix)
 
 pub returns : goal.returns
 returns g c = λ known kept.
@@ -20,5 +22,6 @@ returns g c = λ known kept.
     let before = g.E.Write.contents c.args.faults.now in
     let between = g.E.Write.contents c.tell.new.faults in
     let said = g.E.Write.contents c.say_explanation.new.faults in
-    both_said texts ending before between said (subst (λ r. OnOk r (Appends before between (line_of ending))) c.in-Ok.is c.tell.ensures.whole)
+    both_said texts ending before between said
+    (subst (λ r. OnOk r (Appends before between (line_of ending))) c.in-Ok.is c.tell.ensures.whole)
     (c.say_explanation.ensures known kept)

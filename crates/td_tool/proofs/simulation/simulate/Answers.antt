@@ -4,10 +4,15 @@ use Rattle.td_tool.proofs.simulation.simulate.Goals as goal
 pub returns-clause-ends : goal.returns-clause-ends
 returns-clause-ends g c =
     let read = c.read_text-read.ensures in
-    ends _ _ _ c.read_text-read.result c.play.result.ending read.text read.within read.long read.not_text c.play.ensures.text c.play.ensures.unread
+    ends _ _ _ c.read_text-read.result c.play.result.ending read.text read.within read.long
+    read.not_text c.play.ensures.text c.play.ensures.unread
 
 pub returns-clause-kept : goal.returns-clause-kept
-returns-clause-kept g c = kept_is _ c.read_text-read.result c.play.result.input c.play.ensures.kept c.read_text-read.ensures.text
+returns-clause-kept g c =
+    kept_is _ c.read_text-read.result c.play.result.input c.play.ensures.kept
+    c.read_text-read.ensures.text
 
 pub returns-clause-short : goal.returns-clause-short
-returns-clause-short g c = kept_within _ c.read_text-read.result c.play.result.input c.play.ensures.kept c.read_text-read.ensures.within
+returns-clause-short g c =
+    kept_within _ c.read_text-read.result c.play.result.input c.play.ensures.kept
+    c.read_text-read.ensures.within

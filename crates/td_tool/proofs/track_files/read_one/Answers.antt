@@ -2,4 +2,8 @@ use Rattle.std.proofs.lemmas.Str.{IsUtf8-string_bytes}
 use Rattle.td_tool.proofs.track_files.read_one.Goals as goal
 
 pub returns-in-Ok-clause-text : goal.returns-in-Ok-clause-text
-returns-in-Ok-clause-text g c = record { whole = c.in-Ok.ensures.text; read = (c.in-Ok.ensures.within, IsUtf8-string_bytes c.in-Ok.text) }
+returns-in-Ok-clause-text g c =
+    record {
+      whole = c.in-Ok.ensures.text;
+      read = (c.in-Ok.ensures.within, IsUtf8-string_bytes c.in-Ok.text);
+    }

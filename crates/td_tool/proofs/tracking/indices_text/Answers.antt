@@ -8,24 +8,33 @@ use Rattle.td_tool.proofs.tracking.indices_text.Goals as goal
 
 pub returns-in-Ok-clause-found : goal.returns-in-Ok-clause-found
 returns-in-Ok-clause-found g c =
-    indices_say (saying_of c.args.asked) (table c.args.archs.now) (texts_of c.args.texts.now) c.in-Ok.archive c.archive_text.result _ _ _ _
-    c.as_str-packages.ensures.value c.as_str-sources.ensures.value c.given.ensures c.as_str-tracker.ensures.value c.in-Ok.ensures.found c.archive_text.ensures.found
+    indices_say (saying_of c.args.asked) (table c.args.archs.now) (texts_of c.args.texts.now)
+    c.in-Ok.archive c.archive_text.result _ _ _ _
+    c.as_str-packages.ensures.value c.as_str-sources.ensures.value c.given.ensures
+    c.as_str-tracker.ensures.value c.in-Ok.ensures.found c.archive_text.ensures.found
 
 pub returns-in-Ok-clause-refused : goal.returns-in-Ok-clause-refused
 returns-in-Ok-clause-refused g c =
-    indices_refuse (table c.args.archs.now) (texts_of c.args.texts.now) c.in-Ok.archive c.archive_text.result _ _ _ _
-    c.as_str-packages.ensures.value c.as_str-sources.ensures.value c.given.ensures c.as_str-tracker.ensures.value c.in-Ok.ensures.found c.archive_text.ensures.refused
+    indices_refuse (table c.args.archs.now) (texts_of c.args.texts.now) c.in-Ok.archive
+    c.archive_text.result _ _ _ _
+    c.as_str-packages.ensures.value c.as_str-sources.ensures.value c.given.ensures
+    c.as_str-tracker.ensures.value c.in-Ok.ensures.found c.archive_text.ensures.refused
 
 pub returns-in-Err-clause-refused : goal.returns-in-Err-clause-refused
 returns-in-Err-clause-refused g c =
-    indices_bad (table c.args.archs.now) (texts_of c.args.texts.now) c.in-Err.fault _ _ _ c.as_str-packages.ensures.value c.as_str-sources.ensures.value c.in-Err.ensures.fault c.ending_of_archive.ensures
+    indices_bad (table c.args.archs.now) (texts_of c.args.texts.now) c.in-Err.fault _ _ _
+    c.as_str-packages.ensures.value c.as_str-sources.ensures.value c.in-Err.ensures.fault
+    c.ending_of_archive.ensures
 
 pub returns-in-Ok-clause-only : goal.returns-in-Ok-clause-only
 returns-in-Ok-clause-only g c =
-    indices_stop (table c.args.archs.now) (texts_of c.args.texts.now) c.in-Ok.archive c.archive_text.result _ _ _ _
-    c.as_str-packages.ensures.value c.as_str-sources.ensures.value c.given.ensures c.as_str-tracker.ensures.value c.in-Ok.ensures.only c.archive_text.ensures.only
+    indices_stop (table c.args.archs.now) (texts_of c.args.texts.now) c.in-Ok.archive
+    c.archive_text.result _ _ _ _
+    c.as_str-packages.ensures.value c.as_str-sources.ensures.value c.given.ensures
+    c.as_str-tracker.ensures.value c.in-Ok.ensures.only c.archive_text.ensures.only
 
 pub returns-in-Err-clause-only : goal.returns-in-Err-clause-only
 returns-in-Err-clause-only g c =
-    no_indices (table c.args.archs.now) (texts_of c.args.texts.now) c.ending_of_archive.result _ _ c.as_str-packages.ensures.value c.as_str-sources.ensures.value
+    no_indices (table c.args.archs.now) (texts_of c.args.texts.now) c.ending_of_archive.result _ _
+    c.as_str-packages.ensures.value c.as_str-sources.ensures.value
     (λ a is. c.ending_of_archive.ensures ∙ ap ending_of_archive (c.in-Err.ensures.only a is))

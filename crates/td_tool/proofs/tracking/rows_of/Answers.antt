@@ -9,20 +9,31 @@ use Rattle.td_tool.proofs.tracking.rows_of.Goals as goal
 
 pub returns-in-Some-clause-rows : goal.returns-in-Some-clause-rows
 returns-in-Some-clause-rows c =
-    subst (λ s. IfOk c.replaced.result (AreRowsOf c.args.archive.now (option_map (λ t. t.now) s))) (sym c.in-Some.is)
-    (replaced_rows c.args.archive.now c.in-Ok.rows c.in-Some.text.now c.replaced.result (opened_rows c.args.archive.now c.in-Ok.rows c.in-Ok.ensures.rows c.len-count.ensures.rising) c.replaced.ensures.rows)
+    subst (λ s. IfOk c.replaced.result (AreRowsOf c.args.archive.now (option_map (λ t. t.now) s)))
+    (sym c.in-Some.is)
+    (replaced_rows c.args.archive.now c.in-Ok.rows c.in-Some.text.now c.replaced.result
+    (opened_rows c.args.archive.now c.in-Ok.rows c.in-Ok.ensures.rows c.len-count.ensures.rising)
+    c.replaced.ensures.rows)
 
 pub returns-in-Some-clause-refused : goal.returns-in-Some-clause-refused
 returns-in-Some-clause-refused c =
-    subst (λ s. IfErr c.replaced.result (OrMemory (IsStateRefused c.args.archive.now (option_map (λ t. t.now) s)))) (sym c.in-Some.is)
-    (refused_rows c.args.archive.now c.in-Ok.rows c.in-Some.text.now c.replaced.result (opened_rows c.args.archive.now c.in-Ok.rows c.in-Ok.ensures.rows c.len-count.ensures.rising) c.replaced.ensures.refused)
+    subst (λ s. IfErr c.replaced.result
+    (OrMemory (IsStateRefused c.args.archive.now (option_map (λ t. t.now) s)))) (sym c.in-Some.is)
+    (refused_rows c.args.archive.now c.in-Ok.rows c.in-Some.text.now c.replaced.result
+    (opened_rows c.args.archive.now c.in-Ok.rows c.in-Ok.ensures.rows c.len-count.ensures.rising)
+    c.replaced.ensures.refused)
 
 pub returns-in-None-clause-rows : goal.returns-in-None-clause-rows
 returns-in-None-clause-rows c =
-    subst (λ s. AreRowsOf c.args.archive.now (option_map (λ t. t.now) s) c.in-Ok.rows) (sym c.in-None.is)
+    subst (λ s. AreRowsOf c.args.archive.now (option_map (λ t. t.now) s) c.in-Ok.rows)
+    (sym c.in-None.is)
     (opened_rows c.args.archive.now c.in-Ok.rows c.in-Ok.ensures.rows c.len-count.ensures.rising)
 
 pub returns-in-Some-clause-only : goal.returns-in-Some-clause-only
 returns-in-Some-clause-only c =
-    subst (λ s. IfErr c.replaced.result (λ ending. (t : Table) → AreRowsOf c.args.archive.now (option_map (λ t. t.now) s) t → ending ≡ NoMemory)) (sym c.in-Some.is)
-    (rows_stop c.args.archive.now c.in-Ok.rows c.in-Some.text.now c.replaced.result (opened_rows c.args.archive.now c.in-Ok.rows c.in-Ok.ensures.rows c.len-count.ensures.rising) c.replaced.ensures.only)
+    subst (λ s. IfErr c.replaced.result
+    (λ ending. (t : Table) → AreRowsOf c.args.archive.now (option_map (λ t. t.now) s) t
+    → ending ≡ NoMemory)) (sym c.in-Some.is)
+    (rows_stop c.args.archive.now c.in-Ok.rows c.in-Some.text.now c.replaced.result
+    (opened_rows c.args.archive.now c.in-Ok.rows c.in-Ok.ensures.rows c.len-count.ensures.rising)
+    c.replaced.ensures.only)

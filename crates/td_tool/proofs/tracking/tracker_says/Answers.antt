@@ -10,5 +10,10 @@ pub returns : goal.returns
 returns g c =
     let x = c.in_ok-transition.transition in
     let Says = saying_of c.args.asked in
-    IfOk-weaker c.told.result (λ text. Says (contents_of x) (tracking_of x) c.args.rows.now (string_bytes text)) (λ text. Says c.args.archive.now (tracking c.args.tracker.now) c.args.rows.now (string_bytes text))
-    (λ text says. told_of Says _ _ _ _ c.args.rows.now (string_bytes text) c.in_ok-transition.ensures.archive c.in_ok-transition.ensures.tracking says) c.told.ensures
+    IfOk-weaker c.told.result
+    (λ text. Says (contents_of x) (tracking_of x) c.args.rows.now (string_bytes text))
+    (λ text.
+    Says c.args.archive.now (tracking c.args.tracker.now) c.args.rows.now (string_bytes text))
+    (λ text says. told_of Says _ _ _ _ c.args.rows.now
+    (string_bytes text) c.in_ok-transition.ensures.archive c.in_ok-transition.ensures.tracking says)
+    c.told.ensures

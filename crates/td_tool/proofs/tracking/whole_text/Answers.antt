@@ -8,20 +8,26 @@ use Rattle.td_tool.proofs.tracking.whole_text.Goals as goal
 
 pub returns-in-Ok-clause-found : goal.returns-in-Ok-clause-found
 returns-in-Ok-clause-found g c =
-    texts_say (saying_of c.args.asked) (table c.in-Ok.archs) (texts_of c.args.texts.now) c.indices_text.result _ c.as_str.ensures.value c.in-Ok.ensures.found c.indices_text.ensures.found
+    texts_say (saying_of c.args.asked) (table c.in-Ok.archs) (texts_of c.args.texts.now)
+    c.indices_text.result _ c.as_str.ensures.value c.in-Ok.ensures.found
+    c.indices_text.ensures.found
 
 pub returns-in-Ok-clause-refused : goal.returns-in-Ok-clause-refused
 returns-in-Ok-clause-refused g c =
-    texts_refuse (table c.in-Ok.archs) (texts_of c.args.texts.now) c.indices_text.result _ c.as_str.ensures.value c.in-Ok.ensures.found c.indices_text.ensures.refused
+    texts_refuse (table c.in-Ok.archs) (texts_of c.args.texts.now) c.indices_text.result _
+    c.as_str.ensures.value c.in-Ok.ensures.found c.indices_text.ensures.refused
 
 pub returns-in-Err-clause-refused : goal.returns-in-Err-clause-refused
 returns-in-Err-clause-refused g c =
-    table_bad (texts_of c.args.texts.now) c.in-Err.fault _ _ c.as_str.ensures.value c.in-Err.ensures.fault c.ending_of_table.ensures
+    table_bad (texts_of c.args.texts.now) c.in-Err.fault _ _ c.as_str.ensures.value
+    c.in-Err.ensures.fault c.ending_of_table.ensures
 
 pub returns-in-Ok-clause-only : goal.returns-in-Ok-clause-only
 returns-in-Ok-clause-only g c =
-    texts_stop (table c.in-Ok.archs) (texts_of c.args.texts.now) c.indices_text.result _ c.as_str.ensures.value c.in-Ok.ensures.only c.indices_text.ensures.only
+    texts_stop (table c.in-Ok.archs) (texts_of c.args.texts.now) c.indices_text.result _
+    c.as_str.ensures.value c.in-Ok.ensures.only c.indices_text.ensures.only
 
 pub returns-in-Err-clause-only : goal.returns-in-Err-clause-only
 returns-in-Err-clause-only g c =
-    no_table (texts_of c.args.texts.now) c.ending_of_table.result _ c.as_str.ensures.value (λ t is. c.ending_of_table.ensures ∙ ap ending_of_table (c.in-Err.ensures.only t is))
+    no_table (texts_of c.args.texts.now) c.ending_of_table.result _ c.as_str.ensures.value (λ t is.
+    c.ending_of_table.ensures ∙ ap ending_of_table (c.in-Err.ensures.only t is))

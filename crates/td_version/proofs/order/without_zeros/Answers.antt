@@ -11,7 +11,9 @@ loop-rest-preserved c =
     ap without_zeros (rest-at_one c.loop-rest.rest.now) ∙ sym z ∙ c.loop-rest.invariant
 
 pub returns-in_default : goal.returns-in_default
-returns-in_default c = sym (without_zeros-none c.loop-rest.rest.now (omega arith)) ∙ c.loop-rest.invariant
+returns-in_default c =
+    sym (without_zeros-none c.loop-rest.rest.now (omega arith)) ∙ c.loop-rest.invariant
 
 pub returns-in_default-2 : goal.returns-in_default-2
-returns-in_default-2 c = sym (without_zeros-other c.loop-rest.rest.now (λ e. omega arith)) ∙ c.loop-rest.invariant
+returns-in_default-2 c =
+    sym (without_zeros-other c.loop-rest.rest.now (λ e. omega arith)) ∙ c.loop-rest.invariant

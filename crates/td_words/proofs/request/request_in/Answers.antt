@@ -6,19 +6,27 @@ use Rattle.td_words.proofs.request.request_in.Goals as goal
 pub returns-in-Some-2-clause-check : goal.returns-in-Some-2-clause-check
 returns-in-Some-2-clause-check c archs packages sources named has =
     c.check_in.ensures.check archs packages sources
-    (subst (λ options. HasFiles options archs packages sources) (rows_of_matches c.args.matches.now c.subcommand.result _ c.in-Some.is c.subcommand.ensures.rows) has)
+    (subst (λ options. HasFiles options archs packages sources)
+    (rows_of_matches c.args.matches.now c.subcommand.result _ c.in-Some.is
+    c.subcommand.ensures.rows) has)
 
 pub returns-in-Some-3-clause-track : goal.returns-in-Some-3-clause-track
 returns-in-Some-3-clause-track c w named has =
     c.track_in.ensures.track w
-    (subst (λ options. HasTrack options w) (rows_of_matches c.args.matches.now c.subcommand.result _ c.in-Some.is c.subcommand.ensures.rows) has)
+    (subst (λ options. HasTrack options w)
+    (rows_of_matches c.args.matches.now c.subcommand.result _ c.in-Some.is
+    c.subcommand.ensures.rows) has)
 
 pub returns-in-Some-4-clause-waves : goal.returns-in-Some-4-clause-waves
 returns-in-Some-4-clause-waves c archs packages sources tracker named has =
     c.waves_in.ensures.waves archs packages sources tracker
-    (subst (λ options. HasTracker options archs packages sources tracker) (rows_of_matches c.args.matches.now c.subcommand.result _ c.in-Some.is c.subcommand.ensures.rows) has)
+    (subst (λ options. HasTracker options archs packages sources tracker)
+    (rows_of_matches c.args.matches.now c.subcommand.result _ c.in-Some.is
+    c.subcommand.ensures.rows) has)
 
 pub returns-in-Some-5-clause-run : goal.returns-in-Some-5-clause-run
 returns-in-Some-5-clause-run c w named has =
     c.run_in.ensures.run w
-    (subst (λ options. HasRun options w) (rows_of_matches c.args.matches.now c.subcommand.result _ c.in-Some.is c.subcommand.ensures.rows) has)
+    (subst (λ options. HasRun options w)
+    (rows_of_matches c.args.matches.now c.subcommand.result _ c.in-Some.is
+    c.subcommand.ensures.rows) has)

@@ -13,9 +13,19 @@ loop-number-preserved c =
     let n : ℕ = c.loop-number.number in
     let z = c.args.self.now.table in
     let pushed = c.in_ok-push.ensures.items in
-    let items : c.push.new.self.items ≡ c.loop-number.seats.items ++ c.seat.result ∷ [] = first_of (search rules, grind (arith, common_steps)) in
-    let seats = items ∙ ((λ i. was.0 i ++ c.seat.ensures.builder i ∷ []) ∙ (new_seats-snoc z 1 n ∙ ap (new_seats z 1) (sym (add-one n)))) in
+    let items : c.push.new.self.items ≡ c.loop-number.seats.items ++ c.seat.result ∷ [] =
+    first_of (search rules, grind (arith, common_steps)) in
+    let seats = items ∙ ((λ i. was.0 i ++ c.seat.ensures.builder i ∷ [])
+    ∙ (new_seats-snoc z 1 n ∙ ap (new_seats z 1) (sym (add-one n)))) in
     let rows = c.args.desk.now.desk.rows in
-    let desk = c.seat.ensures.desk ∙ (ap (λ (m : DeskModel). let r : DeskModel = record m { desk = with_builder m.desk } in r) was.1
-    ∙ (λ i. record { table = c.args.desk.now.table; desk = record { rows = rows; noted = (replicate-snoc n [] ∙ ap (λ k. replicate k []) (sym (add-one n))) i } })) in
+    let desk = c.seat.ensures.desk
+    ∙ (ap (λ (m : DeskModel). let r : DeskModel = record m { desk = with_builder m.desk } in r)
+    was.1
+    ∙ (λ i. record {
+      table = c.args.desk.now.table;
+      desk = record {
+        rows = rows;
+        noted = (replicate-snoc n [] ∙ ap (λ k. replicate k []) (sym (add-one n))) i;
+      };
+    })) in
     (seats, desk)

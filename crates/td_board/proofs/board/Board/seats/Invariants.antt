@@ -5,4 +5,10 @@ use Rattle.td_board.proofs.board.Board.seats.Given as goal
 
 -- the seats so far, and the desk that has a list for each
 abbrev pub invariant-loop-number : goal.invariant-loop-number
-invariant-loop-number l = (l.seats.items ≡ new_seats l.self.table 1 l.number) × (l.desk ≡ (let d : DeskModel = record { table = l.initial.desk.table; desk = record { rows = l.initial.desk.desk.rows; noted = replicate l.number [] } } in d))
+invariant-loop-number l =
+    (l.seats.items ≡ new_seats l.self.table 1 l.number)
+    × (l.desk ≡ (let d : DeskModel =
+    record {
+      table = l.initial.desk.table;
+      desk = record { rows = l.initial.desk.desk.rows; noted = replicate l.number [] };
+    } in d))

@@ -16,44 +16,65 @@ holder-requires c = at_less _ _ _ c.requires.row.1
 
 pub overflow_add-row : goal.overflow_add-row
 overflow_add-row c =
-    let it = desk_use _ _ c.desk.inside.seat.me _ _ _ _ _ _ c.args.row _ c.desk.view_is c.self.view_is c.desk.invariant c.self.invariant c.requires.table c.requires.row.1 in
+    let it = desk_use _ _ c.desk.inside.seat.me _ _ _ _ _ _ c.args.row _ c.desk.view_is
+    c.self.view_is c.desk.invariant c.self.invariant c.requires.table c.requires.row.1 in
     let low : c.args.row + 1 ≤ 1048576 = it.low in
     omega arith
 
 pub compare_exchange-found-requires : goal.compare_exchange-found-requires
 compare_exchange-found-requires c =
-    let it = desk_use _ _ c.desk.inside.seat.me _ _ _ _ _ _ c.args.row _ c.desk.view_is c.self.view_is c.desk.invariant c.self.invariant c.requires.table c.requires.row.1 in
-    let at : c.holder.result ≡ c.requires.row.0 = c.holder.ensures.known _ c.requires.row.1 in
-    (it.same, it.inside, settling_allowed _ _ _ _ c.requires.row.0 c.args.outcome _ _ _ (c.done_word-done.ensures ∙ ap (λ b. word_of (done b c.args.outcome)) at) c.desk.invariant.0 it.here)
+    let it = desk_use _ _ c.desk.inside.seat.me _ _ _ _ _ _ c.args.row _ c.desk.view_is
+    c.self.view_is c.desk.invariant c.self.invariant c.requires.table c.requires.row.1 in
+    let at : c.holder.result ≡ c.requires.row.0 = c.holder.ensures.known _ c.requires.row.1 in (
+      it.same,
+      it.inside,
+      settling_allowed _ _ _ _ c.requires.row.0 c.args.outcome _ _ _
+          (c.done_word-done.ensures ∙ ap (λ b. word_of (done b c.args.outcome)) at)
+          c.desk.invariant.0 it.here,
+    )
 
 -- the build didn't end so
 pub invariant_of-desk : goal.invariant_of-desk
 invariant_of-desk c =
-    let told = (c.compare_exchange-found.ensures.2 c.args.row c.holder.result c.args.outcome refl c.done_word-done.ensures).1 c.if-found-done.true in
-    desk_after _ _ _ (desk_in c.desk.inside.seat.me.0) _ _ (told ∙ c.desk.invariant.0) c.compare_exchange-found.ensures.0 c.desk.invariant.1
+    let told = (c.compare_exchange-found.ensures.2 c.args.row c.holder.result c.args.outcome refl
+    c.done_word-done.ensures).1 c.if-found-done.true in
+    desk_after _ _ _ (desk_in c.desk.inside.seat.me.0) _ _ (told ∙ c.desk.invariant.0)
+    c.compare_exchange-found.ensures.0 c.desk.invariant.1
 
 pub returns-then-found-done : goal.returns-then-found-done
 returns-then-found-done c =
-    let told = (c.compare_exchange-found.ensures.2 c.args.row c.holder.result c.args.outcome refl c.done_word-done.ensures).1 c.if-found-done.true in
-    let table_is = c.compare_exchange-found.ensures.0 ∙ ap (λ (m : DeskModel). m.table) c.desk.view_is in
-    let after = ap (λ (m : SeatState). desk_in m.0) told ∙ ap (λ (m : DeskModel). m.desk) c.desk.view_is in
+    let told = (c.compare_exchange-found.ensures.2 c.args.row c.holder.result c.args.outcome refl
+    c.done_word-done.ensures).1 c.if-found-done.true in
+    let table_is =
+    c.compare_exchange-found.ensures.0 ∙ ap (λ (m : DeskModel). m.table) c.desk.view_is in
+    let after =
+    ap (λ (m : SeatState). desk_in m.0) told ∙ ap (λ (m : DeskModel). m.desk) c.desk.view_is in
     λ i. record { table = table_is i; desk = after i }
 
 -- it did
 pub invariant_of-desk-2 : goal.invariant_of-desk-2
 invariant_of-desk-2 c =
     let n : ℕ = c.holder.result in
-    let told = (c.compare_exchange-found.ensures.2 c.args.row n c.args.outcome refl c.done_word-done.ensures).0 c.if-found-done.false in
-    desk_after _ _ _ (with_deed n (Finish c.args.row c.args.outcome) (with_row c.args.row In (desk_in c.desk.inside.seat.me.0))) _ _ told c.compare_exchange-found.ensures.0
+    let told = (c.compare_exchange-found.ensures.2 c.args.row n c.args.outcome refl
+    c.done_word-done.ensures).0 c.if-found-done.false in
+    desk_after _ _ _ (with_deed n (Finish c.args.row c.args.outcome)
+    (with_row c.args.row In (desk_in c.desk.inside.seat.me.0))) _ _ told
+    c.compare_exchange-found.ensures.0
     (keeps_settling _ _ _ _ c.args.row n (Finish c.args.row c.args.outcome) c.desk.invariant.1)
 
 pub returns : goal.returns
 returns c =
     let b : ℕ = holder_at c.args.desk.now.desk.rows c.args.row in
     let n : ℕ = c.holder.result in
-    let same : n ≡ b = c.holder.ensures.known c.requires.row.0 c.requires.row.1 ∙ sym (holder_at-known c.args.desk.now.desk.rows c.args.row c.requires.row.0 c.requires.row.1) in
-    let told = (c.compare_exchange-found.ensures.2 c.args.row n c.args.outcome refl c.done_word-done.ensures).0 c.if-found-done.false in
-    let table_is = c.compare_exchange-found.ensures.0 ∙ ap (λ (m : DeskModel). m.table) c.desk.view_is in
+    let same : n ≡ b = c.holder.ensures.known c.requires.row.0 c.requires.row.1
+    ∙ sym
+    (holder_at-known c.args.desk.now.desk.rows c.args.row c.requires.row.0 c.requires.row.1) in
+    let told = (c.compare_exchange-found.ensures.2 c.args.row n c.args.outcome refl
+    c.done_word-done.ensures).0 c.if-found-done.false in
+    let table_is =
+    c.compare_exchange-found.ensures.0 ∙ ap (λ (m : DeskModel). m.table) c.desk.view_is in
     let desk_is = ap (λ (m : DeskModel). m.desk) c.desk.view_is in
-    let after = ap (λ (m : SeatState). desk_in m.0) told ∙ (λ i. with_deed (same i) (Finish c.args.row c.args.outcome) (with_row c.args.row In (desk_is i))) in
+    let after = ap (λ (m : SeatState). desk_in m.0) told
+    ∙ (λ i. with_deed (same i) (Finish c.args.row c.args.outcome)
+    (with_row c.args.row In (desk_is i))) in
     λ i. record { table = table_is i; desk = after i }

@@ -14,10 +14,15 @@ use Rattle.td_book.proofs.book.Book.ending.Goals as goal
 
 pub plan-requires : goal.plan-requires
 plan-requires c = record {
-  rows = subst (λ (s : Inside). HaveRows (rows_of s.inner.books.history) c.in_ok-ended.ended) (sym c.self-inside.view_is)
-      (have_one c.rows.result.now c.self.inside.inner.books.history c.in-Some.key.now c.in-Some.field-0-1.now c.args.row c.in_ok-ended.ended
-      (c.rows.ensures.rows ∙ ap (λ (s : Inside). rows_of s.inner.books.history) c.self-inside.view_is)
-      (ap (λ (s : Inside). ascending (keys_of s.inner.books.history.opening)) (sym c.self-inside.view_is) ∙ c.rows.ensures.rising)
+  rows =
+      subst (λ (s : Inside). HaveRows (rows_of s.inner.books.history) c.in_ok-ended.ended)
+      (sym c.self-inside.view_is)
+      (have_one c.rows.result.now c.self.inside.inner.books.history c.in-Some.key.now
+      c.in-Some.field-0-1.now c.args.row c.in_ok-ended.ended
+      (c.rows.ensures.rows
+      ∙ ap (λ (s : Inside). rows_of s.inner.books.history) c.self-inside.view_is)
+      (ap (λ (s : Inside). ascending (keys_of s.inner.books.history.opening))
+      (sym c.self-inside.view_is) ∙ c.rows.ensures.rising)
       c.in-Some.ensures c.in_ok-ended.ensures);
 }
 
@@ -26,17 +31,22 @@ returns-clause-ending c =
     let h = c.args.self.now.history in
     let b = c.args.builder in
     let plan = c.in_ok-plan.plan in
-    let rows = c.rows.ensures.rows ∙ ap (λ (s : Inside). rows_of s.inner.books.history) c.self-inside.view_is ∙ ap (λ (m : BookModel). rows_of m.history) c.self.view_is in
+    let rows = c.rows.ensures.rows
+    ∙ ap (λ (s : Inside). rows_of s.inner.books.history) c.self-inside.view_is
+    ∙ ap (λ (m : BookModel). rows_of m.history) c.self.view_is in
     let there = ap (λ (t : Table). slice_get t c.args.row) (sym rows) ∙ sym c.in-Some.ensures in
-    let kind : plan.kind ≡ Ended b c.args.outcome = ap (λ (p : Planned). p.kind) c.in_ok-plan.ensures in
-    let now = ap (λ (s : Inside). rows_of s.inner.books.history) c.self-inside.view_is ∙ ap (λ (m : BookModel). rows_of m.history) c.self.view_is in
+    let kind : plan.kind ≡ Ended b c.args.outcome =
+    ap (λ (p : Planned). p.kind) c.in_ok-plan.ensures in
+    let now = ap (λ (s : Inside). rows_of s.inner.books.history) c.self-inside.view_is
+    ∙ ap (λ (m : BookModel). rows_of m.history) c.self.view_is in
     record {
       closing = record {
         key = c.in-Some.key.now;
         at = key_of (rows_of h) c.args.row c.in-Some.key.now c.in-Some.field-0-1.now there;
         offered_is = c.in_ok-offered.ensures;
         kind = kind ∙ ap (λ o. Ended b o) (sym (ap ended_in kind));
-        plan_is = c.in_ok-plan.ensures ∙ (λ j. plan_of (sym kind j) (c.in_ok-ended.ensures j) (now j));
+        plan_is =
+            c.in_ok-plan.ensures ∙ (λ j. plan_of (sym kind j) (c.in_ok-ended.ensures j) (now j));
       };
       claim = c.in_ok-claim.ensures;
     }

@@ -7,28 +7,46 @@ use Rattle.td_book.specs.Calls.{Withdrew, IsPlan, IsCommanded, off_for, taken_of
 use Rattle.td_book.specs.declared.book.Book.TheInside.{Inside}
 use Rattle.td_book.specs.Skips.{left_of}
 use Rattle.td_book.proofs.Steps.{room_end}
-use Rattle.td_book.proofs.Calls.{keys_same, is_plan_of, plan_room, plan_off, off_short_is, commanded}
+use Rattle.td_book.proofs.Calls.{keys_same, is_plan_of, plan_room, plan_off, off_short_is}
+use Rattle.td_book.proofs.Calls.{commanded}
 use Rattle.td_book.proofs.book.Book.enter.Goals as goal
 
 pub commit-entry-requires-clause-plan : goal.commit-entry-requires-clause-plan
 commit-entry-requires-clause-plan c =
     let h = c.self.inside.inner.books.history in
-    let planned : IsPlan c.args.kind c.args.matched.items (rows_of h) c.in-Ok-plan.plan = subst (λ (m : BookModel). IsPlan c.args.kind c.args.matched.items (rows_of m.history) c.in-Ok-plan.plan) (sym c.self.view_is) c.in-Ok-plan.ensures in
-    is_plan_of c.args.kind c.args.matched.items (rows_of h) (rows_of c.withdraw_each.new.self.books.history) c.in-Ok-plan.plan planned
-    (keys_same c.off_for-off.result.now h c.reserve.new.self c.withdraw_each.new.self c.reserve.ensures.history c.withdraw_each.ensures) c.requires.kind
+    let planned : IsPlan c.args.kind c.args.matched.items (rows_of h) c.in-Ok-plan.plan =
+    subst (λ (m : BookModel).
+    IsPlan c.args.kind c.args.matched.items (rows_of m.history) c.in-Ok-plan.plan)
+    (sym c.self.view_is) c.in-Ok-plan.ensures in
+    is_plan_of c.args.kind c.args.matched.items (rows_of h)
+    (rows_of c.withdraw_each.new.self.books.history) c.in-Ok-plan.plan planned
+    (keys_same c.off_for-off.result.now h c.reserve.new.self c.withdraw_each.new.self
+    c.reserve.ensures.history c.withdraw_each.ensures) c.requires.kind
 
 pub commit-entry-requires-clause-room : goal.commit-entry-requires-clause-room
 commit-entry-requires-clause-room c =
     let h = c.self.inside.inner.books.history in
-    let planned : IsPlan c.args.kind c.args.matched.items (rows_of h) c.in-Ok-plan.plan = subst (λ (m : BookModel). IsPlan c.args.kind c.args.matched.items (rows_of m.history) c.in-Ok-plan.plan) (sym c.self.view_is) c.in-Ok-plan.ensures in
-    plan_room c.args.kind c.args.named.now c.args.matched.items (rows_of h) c.in-Ok-plan.plan c.withdraw_each.new.self.books planned c.requires.among
-    (room_end c.args.named.now c.off_for-off.result.now c.reserve.new.self.books c.withdraw_each.new.self.books c.in-Ok-reserve.ensures.room c.withdraw_each.ensures.spent (off_short_is c.args.kind c.args.named.now c.off_for-off.result.now c.off_for-off.ensures))
+    let planned : IsPlan c.args.kind c.args.matched.items (rows_of h) c.in-Ok-plan.plan =
+    subst (λ (m : BookModel).
+    IsPlan c.args.kind c.args.matched.items (rows_of m.history) c.in-Ok-plan.plan)
+    (sym c.self.view_is) c.in-Ok-plan.ensures in
+    plan_room c.args.kind c.args.named.now c.args.matched.items (rows_of h) c.in-Ok-plan.plan
+    c.withdraw_each.new.self.books planned c.requires.among
+    (room_end c.args.named.now c.off_for-off.result.now c.reserve.new.self.books
+    c.withdraw_each.new.self.books c.in-Ok-reserve.ensures.room c.withdraw_each.ensures.spent
+    (off_short_is c.args.kind c.args.named.now c.off_for-off.result.now c.off_for-off.ensures))
 
 pub offer_each-requires-clause-held : goal.offer_each-requires-clause-held
 offer_each-requires-clause-held c =
     let h = c.self.inside.inner.books.history in
-    let planned : IsPlan c.args.kind c.args.matched.items (rows_of h) c.in-Ok-plan.plan = subst (λ (m : BookModel). IsPlan c.args.kind c.args.matched.items (rows_of m.history) c.in-Ok-plan.plan) (sym c.self.view_is) c.in-Ok-plan.ensures in
-    c.commit-entry.ensures.view c.off_for-off.result.now (plan_off c.args.kind c.args.named.now c.args.matched.items c.off_for-off.result.now (rows_of h) c.in-Ok-plan.plan planned c.requires.among c.off_for-off.ensures) c.withdraw_each.ensures.view
+    let planned : IsPlan c.args.kind c.args.matched.items (rows_of h) c.in-Ok-plan.plan =
+    subst (λ (m : BookModel).
+    IsPlan c.args.kind c.args.matched.items (rows_of m.history) c.in-Ok-plan.plan)
+    (sym c.self.view_is) c.in-Ok-plan.ensures in
+    c.commit-entry.ensures.view c.off_for-off.result.now
+    (plan_off c.args.kind c.args.named.now c.args.matched.items c.off_for-off.result.now
+    (rows_of h) c.in-Ok-plan.plan planned c.requires.among c.off_for-off.ensures)
+    c.withdraw_each.ensures.view
 
 pub returns : goal.returns
 returns c =
@@ -36,11 +54,25 @@ returns c =
     let w = c.withdraw_each.new.self in
     let d = c.commit-entry.new.self in
     let e = c.offer_each.new.self in
-    let planned : IsPlan c.args.kind c.args.matched.items (rows_of a.books.history) c.in-Ok-plan.plan = subst (λ (m : BookModel). IsPlan c.args.kind c.args.matched.items (rows_of m.history) c.in-Ok-plan.plan) (sym c.self.view_is) c.in-Ok-plan.ensures in
-    let done : Withdrew (off_for c.args.kind c.args.named.now) c.reserve.new.self w = subst (λ (ks : List Key). Withdrew ks c.reserve.new.self w) c.off_for-off.ensures c.withdraw_each.ensures in
-    let rows : c.rows.result.now ≡ rows_of w.books.history = c.rows.ensures.rows ∙ ap (λ (s : Inside). rows_of s.inner.books.history) c.self-inside.view_is in
-    let skips = c.left-skips.ensures ∙ (λ j. left_of (c.in-Ok.ensures j) c.args.doubts.items (rows j)) in
-    let told = c.answer.ensures ∙ ap (λ o. taken_of o c.left-skips.result) c.commit-entry.ensures.number in
-    subst (λ (m : BookModel). IsCommanded c.args.kind c.args.named.now c.args.matched.items (left_of c.args.kind c.args.doubts.items) m (book_of e) c.answer.result) c.self.view_is
-    (commanded c.args.kind c.args.named.now c.args.matched.items (left_of c.args.kind c.args.doubts.items) a c.reserve.new.self w d e c.in-Ok-plan.plan (seen_off [] (rows_of d.books.history)) c.left-skips.result c.answer.result planned
-    c.reserve.ensures.history c.reserve.ensures.stays done c.commit-entry.ensures.history c.commit-entry.ensures.stays c.offer_each.ensures skips told)
+    let planned : IsPlan c.args.kind c.args.matched.items (rows_of a.books.history)
+    c.in-Ok-plan.plan =
+    subst (λ (m : BookModel). IsPlan c.args.kind c.args.matched.items
+    (rows_of m.history) c.in-Ok-plan.plan) (sym c.self.view_is) c.in-Ok-plan.ensures in
+    let done : Withdrew (off_for c.args.kind c.args.named.now) c.reserve.new.self w =
+    subst (λ (ks : List Key). Withdrew ks c.reserve.new.self w) c.off_for-off.ensures
+    c.withdraw_each.ensures in
+    let rows : c.rows.result.now ≡ rows_of w.books.history =
+    c.rows.ensures.rows
+    ∙ ap (λ (s : Inside). rows_of s.inner.books.history) c.self-inside.view_is in
+    let skips =
+    c.left-skips.ensures ∙ (λ j. left_of (c.in-Ok.ensures j) c.args.doubts.items (rows j)) in
+    let told =
+    c.answer.ensures ∙ ap (λ o. taken_of o c.left-skips.result) c.commit-entry.ensures.number in
+    subst (λ (m : BookModel).
+    IsCommanded c.args.kind c.args.named.now c.args.matched.items
+    (left_of c.args.kind c.args.doubts.items) m (book_of e) c.answer.result) c.self.view_is
+    (commanded c.args.kind c.args.named.now c.args.matched.items
+    (left_of c.args.kind c.args.doubts.items) a c.reserve.new.self w d e c.in-Ok-plan.plan
+    (seen_off [] (rows_of d.books.history)) c.left-skips.result c.answer.result planned
+    c.reserve.ensures.history c.reserve.ensures.stays done c.commit-entry.ensures.history
+    c.commit-entry.ensures.stays c.offer_each.ensures skips told)

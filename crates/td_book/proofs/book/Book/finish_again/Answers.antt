@@ -14,8 +14,11 @@ pub returns-then-not-is_built : goal.returns-then-not-is_built
 returns-then-not-is_built c =
     let h = c.args.self.now.history in
     let r = row_of_builder h c.rows.result.now c.args.row c.args.builder c.is_built.result
-    (c.rows.ensures.rows ∙ ap (λ (s : Inside). rows_of s.inner.books.history) c.self-inside.view_is ∙ ap (λ (m : BookModel). rows_of m.history) c.self.view_is)
-    (ap (λ (m : BookModel). ascending (keys_of m.history.opening)) (sym c.self.view_is) ∙ ap (λ (s : Inside). ascending (keys_of s.inner.books.history.opening)) (sym c.self-inside.view_is) ∙ c.rows.ensures.rising)
+    (c.rows.ensures.rows ∙ ap (λ (s : Inside). rows_of s.inner.books.history) c.self-inside.view_is
+    ∙ ap (λ (m : BookModel). rows_of m.history) c.self.view_is)
+    (ap (λ (m : BookModel). ascending (keys_of m.history.opening)) (sym c.self.view_is)
+    ∙ ap (λ (s : Inside). ascending (keys_of s.inner.books.history.opening))
+    (sym c.self-inside.view_is) ∙ c.rows.ensures.rising)
     c.requires.within c.is_built.ensures in
     ((r.0, r.1, r.2 ∙ c.if-not-is_built.true), refl)
 
@@ -23,8 +26,11 @@ pub returns-then-ne : goal.returns-then-ne
 returns-then-ne c =
     let h = c.args.self.now.history in
     let r = row_of_builder h c.rows.result.now c.args.row c.args.builder c.is_built.result
-    (c.rows.ensures.rows ∙ ap (λ (s : Inside). rows_of s.inner.books.history) c.self-inside.view_is ∙ ap (λ (m : BookModel). rows_of m.history) c.self.view_is)
-    (ap (λ (m : BookModel). ascending (keys_of m.history.opening)) (sym c.self.view_is) ∙ ap (λ (s : Inside). ascending (keys_of s.inner.books.history.opening)) (sym c.self-inside.view_is) ∙ c.rows.ensures.rising)
+    (c.rows.ensures.rows ∙ ap (λ (s : Inside). rows_of s.inner.books.history) c.self-inside.view_is
+    ∙ ap (λ (m : BookModel). rows_of m.history) c.self.view_is)
+    (ap (λ (m : BookModel). ascending (keys_of m.history.opening)) (sym c.self.view_is)
+    ∙ ap (λ (s : Inside). ascending (keys_of s.inner.books.history.opening))
+    (sym c.self-inside.view_is) ∙ c.rows.ensures.rising)
     c.requires.within c.is_built.ensures in
     ((r.0, r.1, r.2 ∙ c.if-not-is_built.false), refl)
 
@@ -32,10 +38,15 @@ pub close-requires-clause-built : goal.close-requires-clause-built
 close-requires-clause-built c = λ k there.
     let h = c.args.self.now.history in
     let r = row_of_builder h c.rows.result.now c.args.row c.args.builder c.is_built.result
-    (c.rows.ensures.rows ∙ ap (λ (s : Inside). rows_of s.inner.books.history) c.self-inside.view_is ∙ ap (λ (m : BookModel). rows_of m.history) c.self.view_is)
-    (ap (λ (m : BookModel). ascending (keys_of m.history.opening)) (sym c.self.view_is) ∙ ap (λ (s : Inside). ascending (keys_of s.inner.books.history.opening)) (sym c.self-inside.view_is) ∙ c.rows.ensures.rising)
+    (c.rows.ensures.rows ∙ ap (λ (s : Inside). rows_of s.inner.books.history) c.self-inside.view_is
+    ∙ ap (λ (m : BookModel). rows_of m.history) c.self.view_is)
+    (ap (λ (m : BookModel). ascending (keys_of m.history.opening)) (sym c.self.view_is)
+    ∙ ap (λ (s : Inside). ascending (keys_of s.inner.books.history.opening))
+    (sym c.self-inside.view_is) ∙ c.rows.ensures.rising)
     c.requires.within c.is_built.ensures in
-    built_there h c.reserve.new.self.books.history c.args.row c.args.builder k r.0 (c.reserve.ensures.history ∙ ap (λ (m : BookModel). m.history) c.self.view_is) r.1 (r.2 ∙ c.if-not-is_built.false) there
+    built_there h c.reserve.new.self.books.history c.args.row c.args.builder k r.0
+    (c.reserve.ensures.history ∙ ap (λ (m : BookModel). m.history) c.self.view_is) r.1
+    (r.2 ∙ c.if-not-is_built.false) there
 
 pub returns-in-Some : goal.returns-in-Some
 returns-in-Some c =
@@ -43,8 +54,11 @@ returns-in-Some c =
     let i = c.args.row in
     let b = c.args.builder in
     let r = row_of_builder h c.rows.result.now c.args.row c.args.builder c.is_built.result
-    (c.rows.ensures.rows ∙ ap (λ (s : Inside). rows_of s.inner.books.history) c.self-inside.view_is ∙ ap (λ (m : BookModel). rows_of m.history) c.self.view_is)
-    (ap (λ (m : BookModel). ascending (keys_of m.history.opening)) (sym c.self.view_is) ∙ ap (λ (s : Inside). ascending (keys_of s.inner.books.history.opening)) (sym c.self-inside.view_is) ∙ c.rows.ensures.rising)
+    (c.rows.ensures.rows ∙ ap (λ (s : Inside). rows_of s.inner.books.history) c.self-inside.view_is
+    ∙ ap (λ (m : BookModel). rows_of m.history) c.self.view_is)
+    (ap (λ (m : BookModel). ascending (keys_of m.history.opening)) (sym c.self.view_is)
+    ∙ ap (λ (s : Inside). ascending (keys_of s.inner.books.history.opening))
+    (sym c.self-inside.view_is) ∙ c.rows.ensures.rising)
     c.requires.within c.is_built.ensures in
     let e = c.in-Ok.ensures.ending.closing in
     let same = c.reserve.ensures.history ∙ ap (λ (m : BookModel). m.history) c.self.view_is in (
@@ -53,9 +67,17 @@ returns-in-Some c =
         key = e.key;
         at = ap (λ (ks : List Key). slice_get ks i) (sym (keys_of-rows_of h)) ∙ e.at;
         built = built_there h h i b e.key r.0 refl r.1 (r.2 ∙ c.if-not-is_built.false) e.at;
-        history = c.in-Some.ensures.history ∙ (λ j. with_entry (same j) (record { kind = c.in-Ok.ensures.kind j; keys = (c.as_slice-2.ensures.keys ∙ e.offered_is) j }));
+        history = c.in-Some.ensures.history
+            ∙ (λ j. with_entry (same j)
+            (record {
+              kind = c.in-Ok.ensures.kind j;
+              keys = (c.as_slice-2.ensures.keys ∙ e.offered_is) j;
+            }));
         number = c.in-Some.ensures.number ∙ ap (λ (x : History). length x.journal + 1) same;
-        fixed = stays_fixed c.self.inside.inner c.close.new.self (stays_more c.self.inside.inner c.reserve.new.self c.close.new.self c.reserve.ensures.stays c.in-Some.ensures.stays) ∙ ap (λ (m : BookModel). m.fixed) c.self.view_is;
+        fixed = stays_fixed c.self.inside.inner c.close.new.self
+            (stays_more c.self.inside.inner c.reserve.new.self c.close.new.self
+            c.reserve.ensures.stays c.in-Some.ensures.stays)
+            ∙ ap (λ (m : BookModel). m.fixed) c.self.view_is;
       },
     )
 
@@ -64,8 +86,17 @@ returns c =
     let h = c.args.self.now.history in
     let a = c.self.inside.inner in
     let r = row_of_builder h c.rows.result.now c.args.row c.args.builder c.is_built.result
-    (c.rows.ensures.rows ∙ ap (λ (s : Inside). rows_of s.inner.books.history) c.self-inside.view_is ∙ ap (λ (m : BookModel). rows_of m.history) c.self.view_is)
-    (ap (λ (m : BookModel). ascending (keys_of m.history.opening)) (sym c.self.view_is) ∙ ap (λ (s : Inside). ascending (keys_of s.inner.books.history.opening)) (sym c.self-inside.view_is) ∙ c.rows.ensures.rising)
+    (c.rows.ensures.rows ∙ ap (λ (s : Inside). rows_of s.inner.books.history) c.self-inside.view_is
+    ∙ ap (λ (m : BookModel). rows_of m.history) c.self.view_is)
+    (ap (λ (m : BookModel). ascending (keys_of m.history.opening)) (sym c.self.view_is)
+    ∙ ap (λ (s : Inside). ascending (keys_of s.inner.books.history.opening))
+    (sym c.self-inside.view_is) ∙ c.rows.ensures.rising)
     c.requires.within c.is_built.ensures in
-    let unchanged : book_of c.reserve.new.self ≡ book_of a = λ j. record { history = c.reserve.ensures.history j; fixed = stays_fixed a c.reserve.new.self c.reserve.ensures.stays j } in
-    ((r.0, r.1, r.2 ∙ c.if-not-is_built.false), ap book_of c.in-None.ensures.none ∙ unchanged ∙ c.self.view_is)
+    let unchanged : book_of c.reserve.new.self ≡ book_of a =
+    λ j. record {
+      history = c.reserve.ensures.history j;
+      fixed = stays_fixed a c.reserve.new.self c.reserve.ensures.stays j;
+    } in (
+      (r.0, r.1, r.2 ∙ c.if-not-is_built.false),
+      ap book_of c.in-None.ensures.none ∙ unchanged ∙ c.self.view_is,
+    )

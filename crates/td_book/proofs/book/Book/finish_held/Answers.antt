@@ -17,13 +17,20 @@ returns-clause-outcome c =
     let w = c.finish-ended.new.seat.builder in
     let i = c.args.row in
     let kind = c.in-Ok.ending.plan.kind in
-    subst (λ (m : BookModel). FinishHeld i c.args.outcome v w m (book_of z) c.ok_or.result) c.self.view_is
-    (subst (λ (o : Outcome). FinishHeld i o v w (book_of a) (book_of z) c.ok_or.result) (ap ended_in c.in-Ok.ensures.kind)
-    (subst (λ (r : Result ℕ FinishRefusal). FinishHeld i (ended_in kind) v w (book_of a) (book_of z) r) (sym c.ok_or.ensures.value)
-    (held_of i (ended_in kind) v w a b z c.finish-ended.result c.reserve.ensures.history c.reserve.ensures.stays c.finish-ended.ensures.stays c.finish-ended.ensures.some c.finish-ended.ensures.none)))
+    subst (λ (m : BookModel). FinishHeld i c.args.outcome v w m (book_of z) c.ok_or.result)
+    c.self.view_is
+    (subst (λ (o : Outcome). FinishHeld i o v w (book_of a) (book_of z) c.ok_or.result)
+    (ap ended_in c.in-Ok.ensures.kind)
+    (subst (λ (r : Result ℕ FinishRefusal).
+    FinishHeld i (ended_in kind) v w (book_of a) (book_of z) r) (sym c.ok_or.ensures.value)
+    (held_of i (ended_in kind) v w a b z c.finish-ended.result c.reserve.ensures.history
+    c.reserve.ensures.stays c.finish-ended.ensures.stays c.finish-ended.ensures.some
+    c.finish-ended.ensures.none)))
 
 pub finish-ended-requires-clause-ending : goal.finish-ended-requires-clause-ending
 finish-ended-requires-clause-ending c =
     let ending = c.in-Ok.ending in
-    subst (λ (h : History). IsEndingAt c.args.row c.args.seat.now.builder.number h ending) (sym (c.reserve.ensures.history ∙ ap (λ (m : BookModel). m.history) c.self.view_is))
-    (subst (λ (x : ℕ). IsEndingAt c.args.row x c.args.self.now.history ending) c.number.ensures.number c.in-Ok.ensures.ending)
+    subst (λ (h : History). IsEndingAt c.args.row c.args.seat.now.builder.number h ending)
+    (sym (c.reserve.ensures.history ∙ ap (λ (m : BookModel). m.history) c.self.view_is))
+    (subst (λ (x : ℕ). IsEndingAt c.args.row x c.args.self.now.history ending)
+    c.number.ensures.number c.in-Ok.ensures.ending)

@@ -16,9 +16,16 @@ pub returns : goal.returns
 returns c =
     let t : Table = rows_of c.args.self.now.history in
     let found : List ℕ = c.in_ok-numbers.numbers.items in
-    let outs = ap outs_of (ap (λ (s : Inside). s.inner.view) c.self-inside.view_is ∙ c.self.invariant) ∙ outs_of-rest (rows_of c.self.inside.inner.books.history) ∙ ap (λ (m : BookModel). queued_in (rows_of m.history)) c.self.view_is in
-    let rows : c.rows-rows.result.now ≡ t = c.rows-rows.ensures.rows ∙ ap (λ (s : Inside). rows_of s.inner.books.history) c.self-inside.view_is ∙ ap (λ (m : BookModel). rows_of m.history) c.self.view_is in
+    let outs = ap outs_of (ap (λ (s : Inside). s.inner.view) c.self-inside.view_is
+    ∙ c.self.invariant) ∙ outs_of-rest (rows_of c.self.inside.inner.books.history)
+    ∙ ap (λ (m : BookModel). queued_in (rows_of m.history)) c.self.view_is in
+    let rows : c.rows-rows.result.now ≡ t =
+    c.rows-rows.ensures.rows
+    ∙ ap (λ (s : Inside). rows_of s.inner.books.history) c.self-inside.view_is
+    ∙ ap (λ (m : BookModel). rows_of m.history) c.self.view_is in
     record {
-      all = IsPermutation-trans _ found _ (subst (λ xs. IsPermutation xs found) outs c.in_ok-numbers.ensures) c.sort.ensures.all;
-      order = subst (λ (u : Table). IsSortedBy (is_before u) c.sort.new.numbers.items) rows c.sort.ensures.order;
+      all = IsPermutation-trans _ found _
+          (subst (λ xs. IsPermutation xs found) outs c.in_ok-numbers.ensures) c.sort.ensures.all;
+      order = subst (λ (u : Table). IsSortedBy (is_before u) c.sort.new.numbers.items) rows
+          c.sort.ensures.order;
     }

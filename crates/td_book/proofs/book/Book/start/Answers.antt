@@ -19,9 +19,15 @@ pub job-requires : goal.job-requires
 job-requires c =
     let b = c.self.inside.inner in
     let within = c.in-Holding.ensures.row in
-    let number = c.rows-rows.ensures.number ∙ ap (λ (s : Inside). length s.inner.view) c.self-inside.view_is ∙ ap length c.self.invariant ∙ length-seen_off [] (rows_of b.books.history) in
-    let table = c.rows-rows.ensures.table ∙ ap (λ (s : Inside). board_rows s.inner.table) c.self-inside.view_is ∙ ap (λ (m : BookModel). board_rows m.fixed.table) c.self.view_is ∙ ap board_rows (sym c.requires.seat) in
-    let rows : length (rows_of b.books.history) ≡ length (rows_of c.args.self.now.history) = ap (λ (m : BookModel). length (rows_of m.history)) c.self.view_is in
+    let number = c.rows-rows.ensures.number
+    ∙ ap (λ (s : Inside). length s.inner.view) c.self-inside.view_is ∙ ap length c.self.invariant
+    ∙ length-seen_off [] (rows_of b.books.history) in
+    let table = c.rows-rows.ensures.table
+    ∙ ap (λ (s : Inside). board_rows s.inner.table) c.self-inside.view_is
+    ∙ ap (λ (m : BookModel). board_rows m.fixed.table) c.self.view_is
+    ∙ ap board_rows (sym c.requires.seat) in
+    let rows : length (rows_of b.books.history) ≡ length (rows_of c.args.self.now.history) =
+    ap (λ (m : BookModel). length (rows_of m.history)) c.self.view_is in
     omega (arith, within, number, table, rows)
 
 pub returns : goal.returns
@@ -31,16 +37,34 @@ returns c =
     let i = c.in-Holding.row in
     let number = c.args.seat.now.builder.number in
     let job = c.in-Ok.job in
-    let is_job : IsJobAt i (book_of a) job = subst (λ (m : BookModel). IsJobAt i m job) (sym c.self.view_is) c.in-Ok.ensures in
+    let is_job : IsJobAt i (book_of a) job =
+    subst (λ (m : BookModel). IsJobAt i m job) (sym c.self.view_is) c.in-Ok.ensures in
     let key : head_key c.in-Ok-of_one.claim ≡ job.key = ap head_key c.in-Ok-of_one.ensures in
     let at = job_key i (book_of a) job is_job in
-    let knows : Knows number job.key c.know.result c.reserve.new.self n = subst (λ (x : ℕ). Knows x job.key c.know.result c.reserve.new.self n) c.number.ensures.number (subst (λ (k : Key). Knows c.number.result k c.know.result c.reserve.new.self n) key c.know.ensures) in
-    let told : Noticed i number c.know.result (book_of a) (book_of n) = noticed i number job.key c.know.result a c.reserve.new.self n knows c.reserve.ensures.history c.reserve.ensures.stays at in
-    let all : (r : Result Job StartRefusal) → StartOutcome number (Holding i) (book_of a) (book_of n) r → c.if-know.result ≡ r → StartOutcome number c.args.seat.now.builder.hand c.args.self.now (book_of n) c.if-know.result =
-    λ r is same. subst (λ (m : BookModel). StartOutcome number c.args.seat.now.builder.hand m (book_of n) c.if-know.result) c.self.view_is
-    (subst (λ (x : Result Job StartRefusal). StartOutcome number c.args.seat.now.builder.hand (book_of a) (book_of n) x) (sym same)
-    (subst (λ (h : Hand). StartOutcome number h (book_of a) (book_of n) r) c.in-Holding.ensures.hand is)) in
+    let knows : Knows number job.key c.know.result c.reserve.new.self n =
+    subst (λ (x : ℕ). Knows x job.key c.know.result c.reserve.new.self n) c.number.ensures.number
+    (subst (λ (k : Key). Knows c.number.result k c.know.result c.reserve.new.self n) key
+    c.know.ensures) in
+    let told : Noticed i number c.know.result (book_of a) (book_of n) =
+    noticed i number job.key c.know.result a c.reserve.new.self n knows c.reserve.ensures.history
+    c.reserve.ensures.stays at in
+    let all : (r : Result Job StartRefusal)
+    → StartOutcome number (Holding i) (book_of a) (book_of n) r → c.if-know.result ≡ r
+    → StartOutcome number c.args.seat.now.builder.hand c.args.self.now
+    (book_of n) c.if-know.result =
+    λ r is same. subst (λ (m : BookModel).
+    StartOutcome number c.args.seat.now.builder.hand m (book_of n) c.if-know.result) c.self.view_is
+    (subst (λ (x : Result Job StartRefusal).
+    StartOutcome number c.args.seat.now.builder.hand (book_of a) (book_of n) x) (sym same)
+    (subst (λ (h : Hand). StartOutcome number h (book_of a) (book_of n) r) c.in-Holding.ensures.hand
+    is)) in
     elim c.if-know.branch [
-      | then-know w ↦ all (Ok job) (subst (λ v. Noticed i number v (book_of a) (book_of n)) w.if-know.true told, is_job) w.result-is
-      | else-know w ↦ all (Err Mismatch) (subst (λ v. Noticed i number v (book_of a) (book_of n)) w.if-know.false told) w.result-is
+      | then-know w ↦
+          all (Ok job) (
+            subst (λ v. Noticed i number v (book_of a) (book_of n)) w.if-know.true told,
+            is_job,
+          ) w.result-is
+      | else-know w ↦
+          all (Err Mismatch) (subst (λ v. Noticed i number v (book_of a) (book_of n))
+          w.if-know.false told) w.result-is
     ]

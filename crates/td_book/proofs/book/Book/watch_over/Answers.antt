@@ -18,9 +18,21 @@ returns-in-Ok-over c =
     let now = c.rows-rows.result.now in
     let h = c.args.self.now.history in
     let watch = c.in-Ok-over.watch in
-    let rows : now ≡ rows_of h = c.rows-rows.ensures.rows ∙ ap (λ (s : Inside). rows_of s.inner.books.history) c.self-inside.view_is ∙ ap (λ (b : BookModel). rows_of b.history) c.self.view_is in
-    let stop : watch_stop (rows_of h) c.args.groups given ≡ None = ap (λ (t : Table). watch_stop t c.args.groups given) (sym rows)
-    ∙ stop_none now c.args.groups given (sym c.in_default.ensures) (sym c.in_default-set_groups.ensures.twice) (sym c.in_default-outside.ensures) in
-    let groups = ap (λ v. v.items) c.in-Ok-over.ensures.groups ∙ c.in_default-set_groups.ensures.set ∙ ap (λ (t : Table). map (group_in given) (keys_of t)) rows ∙ ap (map (group_in given)) (keys_of-rows_of h) in
-    let view : view_of watch ≡ watch_of h.opening c.args.groups given = λ j. record { groups = c.in-Ok-over.ensures.len j; of_rows = groups j } in
-    (stop, view, subst (λ (t : Table). AreTallied is_there watch.installed.items watch.groups.items t) rows c.in-Ok-over.ensures.counts)
+    let rows : now ≡ rows_of h =
+    c.rows-rows.ensures.rows
+    ∙ ap (λ (s : Inside). rows_of s.inner.books.history) c.self-inside.view_is
+    ∙ ap (λ (b : BookModel). rows_of b.history) c.self.view_is in
+    let stop : watch_stop (rows_of h) c.args.groups given ≡ None =
+    ap (λ (t : Table). watch_stop t c.args.groups given) (sym rows)
+    ∙ stop_none now c.args.groups given (sym c.in_default.ensures)
+    (sym c.in_default-set_groups.ensures.twice) (sym c.in_default-outside.ensures) in
+    let groups = ap (λ v. v.items) c.in-Ok-over.ensures.groups ∙ c.in_default-set_groups.ensures.set
+    ∙ ap (λ (t : Table). map (group_in given) (keys_of t)) rows
+    ∙ ap (map (group_in given)) (keys_of-rows_of h) in
+    let view : view_of watch ≡ watch_of h.opening c.args.groups given =
+    λ j. record { groups = c.in-Ok-over.ensures.len j; of_rows = groups j } in (
+      stop,
+      view,
+      subst (λ (t : Table). AreTallied is_there watch.installed.items watch.groups.items t) rows
+          c.in-Ok-over.ensures.counts,
+    )

@@ -25,23 +25,35 @@ settle-requires c =
     let i = c.args.row in
     let old = c.args.self.now.books in
     let kind = c.args.plan.kind in
-    let plain : head_key (left c.args.plan) ≡ e.key = ap head_key (ap left e.plan_is ∙ left-plan_of kind (e.key ∷ []) (rows_of old.history)) in
+    let plain : head_key (left c.args.plan) ≡ e.key =
+    ap head_key (ap left e.plan_is ∙ left-plan_of kind (e.key ∷ []) (rows_of old.history)) in
     let by : by_in kind ≡ b = ap by_in e.kind in
     let at = at_key_of (rows_of old.history) i e.key e.at in
-    let up : ascending (keys_of (rows_of old.history)) ≡ true = up_now old.history (ap (λ (m : InnerModel). ascending (keys_of m.books.history.opening)) (sym c.self.view_is) ∙ c.rows-rows.ensures.rising) in
-    let built : is_building_by b at.0.state ≡ true = sym (built_at (rows_of old.history) e.key i b at.0 up at.1) ∙ c.requires.built e.key e.at in (
+    let up : ascending (keys_of (rows_of old.history)) ≡ true =
+    up_now old.history (ap (λ (m : InnerModel). ascending (keys_of m.books.history.opening))
+    (sym c.self.view_is) ∙ c.rows-rows.ensures.rising) in
+    let built : is_building_by b at.0.state ≡ true =
+    sym (built_at (rows_of old.history) e.key i b at.0 up at.1) ∙ c.requires.built e.key e.at in (
       c.requires.board,
       (
-        ap (λ v. get_elem? v i) c.requires.rest ∙ known_at (rows_of old.history) e.key i b at.0 at.1 built ∙ ap (λ (x : ℕ). some (Known x)) (sym by),
+        ap (λ v. get_elem? v i) c.requires.rest
+            ∙ known_at (rows_of old.history) e.key i b at.0 at.1 built
+            ∙ ap (λ (x : ℕ). some (Known x)) (sym by),
         (
-          e.plan_is ∙ (λ j. plan_of ((e.kind ∙ ap (λ (x : ℕ). Ended x (ended_in kind)) (sym by)) j) (sym plain j ∷ []) (rows_of old.history)),
+          e.plan_is ∙ (λ j. plan_of ((e.kind ∙ ap (λ (x : ℕ). Ended x (ended_in kind)) (sym by)) j)
+              (sym plain j ∷ []) (rows_of old.history)),
           (
             subst (λ (x : ℕ). 1 ≤ x) (sym by) c.requires.one,
             (
               c.requires.code,
               (
-                subst (λ (ks : List Key). HasOne ks old) (e.offered_is ∙ ap (λ (k : Key). k ∷ []) (sym plain)) c.requires.room,
-                (at.0, at.1 ∙ ap (λ (k : Key). Some (k, at.0)) (sym plain), ap (λ (x : ℕ). is_building_by x at.0.state) by ∙ built),
+                subst (λ (ks : List Key). HasOne ks old)
+                    (e.offered_is ∙ ap (λ (k : Key). k ∷ []) (sym plain)) c.requires.room,
+                (
+                  at.0,
+                  at.1 ∙ ap (λ (k : Key). Some (k, at.0)) (sym plain),
+                  ap (λ (x : ℕ). is_building_by x at.0.state) by ∙ built,
+                ),
               ),
             ),
           ),
@@ -56,22 +68,30 @@ offer_each-requires-clause-held c =
     let old = c.args.self.now.books in
     let kind = c.args.plan.kind in
     let k = head_key (left c.args.plan) in
-    let plain : k ≡ e.key = ap head_key (ap left e.plan_is ∙ left-plan_of kind (e.key ∷ []) (rows_of old.history)) in
+    let plain : k ≡ e.key =
+    ap head_key (ap left e.plan_is ∙ left-plan_of kind (e.key ∷ []) (rows_of old.history)) in
     let at = at_key_of (rows_of old.history) i k (e.at ∙ ap (λ (q : Key). Some q) (sym plain)) in
-    let up : ascending (keys_of (rows_of old.history)) ≡ true = up_now old.history (ap (λ (m : InnerModel). ascending (keys_of m.books.history.opening)) (sym c.self.view_is) ∙ c.rows-rows.ensures.rising) in
-    let rows = ap rows_of c.in_ok-n.ensures.history ∙ rows_with old.history (record { kind = Ended (by_in kind) (ended_in kind); keys = k ∷ [] }) in
+    let up : ascending (keys_of (rows_of old.history)) ≡ true =
+    up_now old.history (ap (λ (m : InnerModel). ascending (keys_of m.books.history.opening))
+    (sym c.self.view_is) ∙ c.rows-rows.ensures.rising) in
+    let rows = ap rows_of c.in_ok-n.ensures.history
+    ∙ rows_with old.history (record { kind = Ended (by_in kind) (ended_in kind); keys = k ∷ [] }) in
     c.in_ok-n.ensures.view ∙ ap (λ (v : List RowView). set v i In) c.requires.rest
     ∙ ended_off (rows_of old.history) i k at.0 (by_in kind) (ended_in kind) up at.1
     ∙ ap (seen_off (k ∷ [])) (sym rows)
-    ∙ ap (λ (ks : List Key). seen_off ks (rows_of c.settle.new.self.books.history)) (ap (λ (q : Key). q ∷ []) plain ∙ sym e.offered_is)
+    ∙ ap (λ (ks : List Key). seen_off ks (rows_of c.settle.new.self.books.history))
+    (ap (λ (q : Key). q ∷ []) plain ∙ sym e.offered_is)
 
 pub returns-clause-history : goal.returns-clause-history
 returns-clause-history c =
     let e = c.requires.closing in
     let old = c.args.self.now.books in
     let kind = c.args.plan.kind in
-    let plain : head_key (left c.args.plan) ≡ e.key = ap head_key (ap left e.plan_is ∙ left-plan_of kind (e.key ∷ []) (rows_of old.history)) in
+    let plain : head_key (left c.args.plan) ≡ e.key =
+    ap head_key (ap left e.plan_is ∙ left-plan_of kind (e.key ∷ []) (rows_of old.history)) in
     let by : by_in kind ≡ c.args.builder = ap by_in e.kind in
-    let kinds : Ended (by_in kind) (ended_in kind) ≡ kind = ap (λ (x : ℕ). Ended x (ended_in kind)) by ∙ sym e.kind in
+    let kinds : Ended (by_in kind) (ended_in kind) ≡ kind =
+    ap (λ (x : ℕ). Ended x (ended_in kind)) by ∙ sym e.kind in
     ap (λ (m : InnerModel). m.books.history) c.offer_each.ensures ∙ c.in_ok-n.ensures.history
-    ∙ (λ j. with_entry old.history (record { kind = kinds j; keys = (ap (λ (q : Key). q ∷ []) plain ∙ sym e.offered_is) j }))
+    ∙ (λ j. with_entry old.history
+    (record { kind = kinds j; keys = (ap (λ (q : Key). q ∷ []) plain ∙ sym e.offered_is) j }))

@@ -1,4 +1,5 @@
-use Rattle.std.proofs.Common.{◌≡◌, ℕ, ◌∷◌, List, [], Some, Bool, IfSome, slice_get, ap, refl, sym, subst, ◌∙◌, arith, rules, inl}
+use Rattle.std.proofs.Common.{◌≡◌, ℕ, ◌∷◌, List, [], Some, Bool, IfSome, slice_get, ap, refl, sym}
+use Rattle.std.proofs.Common.{subst, ◌∙◌, arith, rules, inl}
 use Rattle.td_rows.specs.declared.key.Key.{Key}
 use Rattle.td_board.specs.Knowledge.{with_finish}
 use Rattle.td_rows.specs.declared.kind.Kind.{Kind}
@@ -18,14 +19,16 @@ know-requires c =
     let claim = c.requires.ending.claim in
     let same : head_key c.args.ending.claim ≡ e.key = ap head_key claim in
     let at = at_key_of (rows_of c.args.self.now.books.history) c.args.row e.key e.at in
-    let one : c.args.ending.claim ≡ head_key c.args.ending.claim ∷ [] = claim ∙ ap (λ (k : Key). k ∷ []) (sym same) in (
+    let one : c.args.ending.claim ≡ head_key c.args.ending.claim ∷ [] =
+    claim ∙ ap (λ (k : Key). k ∷ []) (sym same) in (
       c.requires.board,
       (
         (at.0, at.1 ∙ ap (λ (k : Key). Some (k, at.0)) (sym same)),
         (
           one,
           (
-            subst (λ (ks : List Key). HasOne ks c.args.self.now.books) (e.offered_is ∙ sym claim) (one_of_room c.args.ending.offered c.args.self.now.books c.requires.room),
+            subst (λ (ks : List Key). HasOne ks c.args.self.now.books) (e.offered_is ∙ sym claim)
+                (one_of_room c.args.ending.offered c.args.self.now.books c.requires.room),
             c.requires.rest,
           ),
         ),
@@ -39,13 +42,15 @@ close-requires-clause-closing c =
     let old = c.args.self.now.books in
     let mid = c.know.new.self.books in
     let kind = c.args.ending.plan.kind in
-    let keys = noted_keys old.history mid.history (head_key c.args.ending.claim) c.know.ensures.by c.know.ensures.history in
+    let keys = noted_keys old.history mid.history (head_key c.args.ending.claim) c.know.ensures.by
+    c.know.ensures.history in
     record {
       key = e.key;
       at = ap (λ (ks : List Key). slice_get ks i) (sym keys) ∙ e.at;
       offered_is = c.as_slice.ensures.keys ∙ e.offered_is;
       kind = e.kind ∙ ap (λ (x : ℕ). Ended x (ended_in kind)) (sym c.number-number.ensures.number);
-      plan_is = e.plan_is ∙ plan_of-same_keys kind (e.key ∷ []) (rows_of old.history) (rows_of mid.history) keys;
+      plan_is = e.plan_is
+          ∙ plan_of-same_keys kind (e.key ∷ []) (rows_of old.history) (rows_of mid.history) keys;
     }
 
 pub close-requires-clause-built : goal.close-requires-clause-built
@@ -54,10 +59,14 @@ close-requires-clause-built c = λ k there.
     let i = c.args.row in
     let old = c.args.self.now.books in
     let mid = c.know.new.self.books in
-    let keys = noted_keys old.history mid.history (head_key c.args.ending.claim) c.know.ensures.by c.know.ensures.history in
-    let one : Some k ≡ Some e.key = sym there ∙ ap (λ (ks : List Key). slice_get ks i) (sym keys) ∙ e.at in
-    let same : k ≡ head_key c.args.ending.claim = same_key_of k e.key one ∙ sym (ap head_key c.requires.ending.claim) in
-    ap (λ (q : Key). is_built_at (rows_of mid.history) q c.number-number.result) same ∙ sym c.know.ensures.answers ∙ c.if-not-know.false
+    let keys = noted_keys old.history mid.history (head_key c.args.ending.claim) c.know.ensures.by
+    c.know.ensures.history in
+    let one : Some k ≡ Some e.key =
+    sym there ∙ ap (λ (ks : List Key). slice_get ks i) (sym keys) ∙ e.at in
+    let same : k ≡ head_key c.args.ending.claim =
+    same_key_of k e.key one ∙ sym (ap head_key c.requires.ending.claim) in
+    ap (λ (q : Key). is_built_at (rows_of mid.history) q c.number-number.result) same
+    ∙ sym c.know.ensures.answers ∙ c.if-not-know.false
   where
     same_key_of : (a b : Key) → Some a ≡ Some b → a ≡ b
     same_key_of a b e = cc
@@ -68,7 +77,9 @@ close-requires-clause-room c =
     let old = c.args.self.now.books in
     let mid = c.know.new.self.books in
     let same : head_key c.args.ending.claim ≡ e.key = ap head_key c.requires.ending.claim in
-    let room = room_end (e.key ∷ []) (e.key ∷ []) old mid (subst (λ (ks : List Key). HasRoom ks old) e.offered_is c.requires.room) (subst (λ (k : Key). Spent (k ∷ []) old mid) same c.know.ensures.spent) (omega arith) in
+    let room = room_end (e.key ∷ []) (e.key ∷ []) old mid
+    (subst (λ (ks : List Key). HasRoom ks old) e.offered_is c.requires.room)
+    (subst (λ (k : Key). Spent (k ∷ []) old mid) same c.know.ensures.spent) (omega arith) in
     subst (λ (ks : List Key). HasOne ks mid) (sym (c.as_slice.ensures.keys ∙ e.offered_is)) room
 
 pub returns-then-not-know-clause-none : goal.returns-then-not-know-clause-none
@@ -79,7 +90,10 @@ returns-then-not-know-clause-none c =
       key = e.key;
       at = e.at;
       is = c.know.result;
-      knows = subst (λ (k : Key). Knows c.args.seat.now.builder.number k c.know.result c.args.self.now c.know.new.self) same (subst (λ (x : ℕ). Knows x (head_key c.args.ending.claim) c.know.result c.args.self.now c.know.new.self) c.number-number.ensures.number c.know.ensures);
+      knows = subst (λ (k : Key).
+          Knows c.args.seat.now.builder.number k c.know.result c.args.self.now c.know.new.self) same
+          (subst (λ (x : ℕ). Knows x (head_key c.args.ending.claim) c.know.result c.args.self.now
+          c.know.new.self) c.number-number.ensures.number c.know.ensures);
       hand = inl refl;
     }
 
@@ -91,7 +105,10 @@ returns-then-not-finish-clause-none c =
       key = e.key;
       at = e.at;
       is = c.know.result;
-      knows = subst (λ (k : Key). Knows c.args.seat.now.builder.number k c.know.result c.args.self.now c.know.new.self) same (subst (λ (x : ℕ). Knows x (head_key c.args.ending.claim) c.know.result c.args.self.now c.know.new.self) c.number-number.ensures.number c.know.ensures);
+      knows = subst (λ (k : Key).
+          Knows c.args.seat.now.builder.number k c.know.result c.args.self.now c.know.new.self) same
+          (subst (λ (x : ℕ). Knows x (head_key c.args.ending.claim) c.know.result c.args.self.now
+          c.know.new.self) c.number-number.ensures.number c.know.ensures);
       hand = inl (search rules);
     }
 
@@ -105,11 +122,20 @@ returns-clause-some c =
     let i = c.args.row in
     let kind = c.args.ending.plan.kind in
     let same : head_key c.args.ending.claim ≡ e.key = ap head_key c.requires.ending.claim in
-    let knows : Knows v.number e.key c.know.result a m = subst (λ (k : Key). Knows v.number k c.know.result a m) same (subst (λ (x : ℕ). Knows x (head_key c.args.ending.claim) c.know.result a m) c.number-number.ensures.number c.know.ensures) in
+    let knows : Knows v.number e.key c.know.result a m =
+    subst (λ (k : Key). Knows v.number k c.know.result a m) same
+    (subst (λ (x : ℕ). Knows x (head_key c.args.ending.claim) c.know.result a m)
+    c.number-number.ensures.number c.know.ensures) in
     let hand : c.finish.new.seat.builder ≡ with_finish i c.args.code v = search rules in
-    let history = subst (λ (k : Kind). IfSome c.close.result (λ n. z.books.history ≡ with_entry m.books.history (record { kind = k; keys = e.key ∷ [] }))) e.kind
-    (subst (λ (ks : List Key). IfSome c.close.result (λ n. z.books.history ≡ with_entry m.books.history (record { kind = kind; keys = ks }))) (c.as_slice.ensures.keys ∙ e.offered_is) c.close.ensures.history) in
-    ended_some i (ended_in kind) v c.finish.new.seat.builder a m z e.key c.close.result e.at (subst (λ (x : Bool). Knows v.number e.key x a m) c.if-not-know.false knows)
+    let history = subst (λ (k : Kind).
+    IfSome c.close.result (λ n.
+    z.books.history ≡ with_entry m.books.history (record { kind = k; keys = e.key ∷ [] }))) e.kind
+    (subst (λ (ks : List Key).
+    IfSome c.close.result (λ n.
+    z.books.history ≡ with_entry m.books.history (record { kind = kind; keys = ks })))
+    (c.as_slice.ensures.keys ∙ e.offered_is) c.close.ensures.history) in
+    ended_some i (ended_in kind) v c.finish.new.seat.builder a m z e.key c.close.result e.at
+    (subst (λ (x : Bool). Knows v.number e.key x a m) c.if-not-know.false knows)
     (hand ∙ ap (λ x. with_finish i x v) c.requires.code) c.close.ensures.number history
 
 pub returns-clause-none : goal.returns-clause-none
@@ -120,7 +146,12 @@ returns-clause-none c =
     let v = c.args.seat.now.builder in
     let i = c.args.row in
     let same : head_key c.args.ending.claim ≡ e.key = ap head_key c.requires.ending.claim in
-    let knows : Knows v.number e.key c.know.result a m = subst (λ (k : Key). Knows v.number k c.know.result a m) same (subst (λ (x : ℕ). Knows x (head_key c.args.ending.claim) c.know.result a m) c.number-number.ensures.number c.know.ensures) in
+    let knows : Knows v.number e.key c.know.result a m =
+    subst (λ (k : Key). Knows v.number k c.know.result a m) same
+    (subst (λ (x : ℕ). Knows x (head_key c.args.ending.claim) c.know.result a m)
+    c.number-number.ensures.number c.know.ensures) in
     let hand : c.finish.new.seat.builder ≡ with_finish i c.args.code v = search rules in
-    ended_none i (ended_in c.args.ending.plan.kind) v c.finish.new.seat.builder a m c.close.new.self e.key c.close.result e.at (subst (λ (x : Bool). Knows v.number e.key x a m) c.if-not-know.false knows)
+    ended_none i (ended_in c.args.ending.plan.kind) v c.finish.new.seat.builder a m c.close.new.self
+    e.key c.close.result e.at
+    (subst (λ (x : Bool). Knows v.number e.key x a m) c.if-not-know.false knows)
     (hand ∙ ap (λ x. with_finish i x v) c.requires.code) c.close.ensures.none

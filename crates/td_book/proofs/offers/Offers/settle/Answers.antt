@@ -14,6 +14,13 @@ invariant_of-self c =
     let old : DeskModel = c.self.inside.seat in
     let row : ℕ = c.args.row in
     let by : ℕ = c.requires.row.0 in
-    let closed : DeskModel = record old { desk = with_deed (holder_at old.desk.rows row) (deed.Finish row c.args.outcome) (with_row row In old.desk) } in
-    let known : get_elem? old.desk.rows row ≡ some (Known by) = subst (λ (m : DeskModel). get_elem? m.desk.rows row ≡ some (Known by)) (sym c.self.view_is) c.requires.row.1 in
-    listed-settled c.settle.result old closed c.settle.new.desk _ _ _ row by refl c.settle.ensures known c.self.invariant
+    let closed : DeskModel =
+    record old {
+      desk = with_deed (holder_at old.desk.rows row) (deed.Finish row c.args.outcome)
+          (with_row row In old.desk);
+    } in
+    let known : get_elem? old.desk.rows row ≡ some (Known by) =
+    subst (λ (m : DeskModel). get_elem? m.desk.rows row ≡ some (Known by))
+    (sym c.self.view_is) c.requires.row.1 in
+    listed-settled c.settle.result old closed c.settle.new.desk _ _ _ row by refl c.settle.ensures
+    known c.self.invariant

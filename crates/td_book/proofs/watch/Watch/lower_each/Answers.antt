@@ -1,4 +1,5 @@
-use Rattle.std.proofs.Common.{◌≡◌, Some, None, List, Option, ℕ, length, drop, ◌+◌, true, false, ap, sym, subst, ◌∙◌, arith, refl}
+use Rattle.std.proofs.Common.{◌≡◌, Some, None, List, Option, ℕ, length, drop, ◌+◌, true, false, ap}
+use Rattle.std.proofs.Common.{sym, subst, ◌∙◌, arith, refl}
 use Rattle.td_rows.specs.declared.key.Key.{Key}
 use Rattle.td_book.specs.declared.watch.Watch.{Watch}
 use Rattle.td_book.specs.inner.Tallies.{AreTallied, or_named}
@@ -10,8 +11,11 @@ use Rattle.td_book.proofs.watch.Watch.lower_each.Goals.{in-Some, in_default}
 pub lower-requires : goal.lower-requires
 lower-requires c = λ g lt is.
     let k : Key = c.key-item.result in
-    lower-some c.args.keys.now c.args.rows.now c.loop-key.key-index c.in-Some.number k c.loop-key.self.groups.items c.loop-key.self.installed.items g c.requires.rising c.len-rising.ensures.rising c.requires.gone
-    (key_at c.args.keys.now c.loop-key.key-index k c.loop-key-test.true c.key-item.is) c.in-Some.ensures.found c.loop-key.invariant.counts lt is
+    lower-some c.args.keys.now c.args.rows.now c.loop-key.key-index c.in-Some.number k
+    c.loop-key.self.groups.items c.loop-key.self.installed.items g c.requires.rising
+    c.len-rising.ensures.rising c.requires.gone
+    (key_at c.args.keys.now c.loop-key.key-index k c.loop-key-test.true c.key-item.is)
+    c.in-Some.ensures.found c.loop-key.invariant.counts lt is
 
 pub loop-key-preserved : goal.loop-key-preserved
 loop-key-preserved c =
@@ -20,11 +24,23 @@ loop-key-preserved c =
     let key = key_at c.args.keys.now i k c.loop-key-test.true c.key-item.is in
     elim c.match-number.branch [
       | in-Some w ↦ record {
-        counts = subst (λ (x : Watch). AreTallied (or_named (drop (i + 1) c.args.keys.now)) x.installed.items x.groups.items c.args.rows.now) (sym w.self-is)
-            (subst (λ (x : List (Option ℕ)). AreTallied (or_named (drop (i + 1) c.args.keys.now)) w.lower.new.self.installed.items x c.args.rows.now) (ap (λ x. x.items) (sym w.lower.ensures.groups))
-            (lower-next c.args.keys.now c.args.rows.now i w.in-Some.number k c.loop-key.self.groups.items c.loop-key.self.installed.items w.lower.new.self.installed.items c.requires.rising c.len-rising.ensures.rising c.requires.gone key w.in-Some.ensures.found c.loop-key.invariant.counts w.lower.ensures.len w.lower.ensures.each));
-        groups = ap (λ (x : Watch). x.groups) w.self-is ∙ w.lower.ensures.groups ∙ c.loop-key.invariant.groups;
-        len = ap (λ (x : Watch). length x.installed.items) w.self-is ∙ w.lower.ensures.len ∙ c.loop-key.invariant.len;
+        counts =
+            subst (λ (x : Watch). AreTallied (or_named (drop (i + 1) c.args.keys.now))
+            x.installed.items x.groups.items c.args.rows.now) (sym w.self-is)
+            (subst (λ (x : List (Option ℕ)).
+            AreTallied (or_named (drop (i + 1) c.args.keys.now)) w.lower.new.self.installed.items x
+            c.args.rows.now) (ap (λ x. x.items) (sym w.lower.ensures.groups))
+            (lower-next c.args.keys.now c.args.rows.now i w.in-Some.number k
+            c.loop-key.self.groups.items c.loop-key.self.installed.items
+            w.lower.new.self.installed.items c.requires.rising c.len-rising.ensures.rising
+            c.requires.gone key w.in-Some.ensures.found c.loop-key.invariant.counts
+            w.lower.ensures.len w.lower.ensures.each));
+        groups = ap (λ (x : Watch). x.groups) w.self-is ∙ w.lower.ensures.groups
+            ∙ c.loop-key.invariant.groups;
+        len = ap (λ (x : Watch). length x.installed.items) w.self-is ∙ w.lower.ensures.len
+            ∙ c.loop-key.invariant.len;
       }
-      | in_default w ↦ absurd (no_row false c.args.keys.now c.args.rows.now i k c.requires.gone key w.in_default.ensures.absent)
+      | in_default w ↦
+          absurd (no_row false c.args.keys.now c.args.rows.now i k c.requires.gone key
+          w.in_default.ensures.absent)
     ]

@@ -4,7 +4,8 @@ use Rattle.td_book.proofs.watch.Watch.raise_each.Given as goal
 
 abbrev pub invariant-loop-key : goal.invariant-loop-key
 invariant-loop-key l = record {
-  counts : AreTallied (but_named (drop l.key-index l.keys)) l.self.installed.items l.self.groups.items l.rows;
+  counts : AreTallied (but_named (drop l.key-index l.keys)) l.self.installed.items
+      l.self.groups.items l.rows;
   groups : l.self.groups ≡ l.initial.self.groups;
   len : length l.self.installed.items ≡ length l.initial.self.installed.items;
 }

@@ -19,9 +19,11 @@ returns-clause-taken c =
         number = n;
         line = line;
         text = c.index_mut.result.now;
-        used_at = slice_get_read c.args.self.now.used.items _ c.args.slot n refl slot_within c.index-used.ensures;
+        used_at = slice_get_read c.args.self.now.used.items _ c.args.slot n refl slot_within
+            c.index-used.ensures;
         line_at = slice_get-get_or c.args.lines.now n none line_within;
-        text_at = slice_get_read c.args.self.now.texts.items _ line.line c.index_mut.result.now refl text_within c.index_mut.ensures.value;
+        text_at = slice_get_read c.args.self.now.texts.items _ line.line c.index_mut.result.now refl
+            text_within c.index_mut.ensures.value;
       };
       outcome = c.outcome_of.ensures ∙ ap (outcome_of line.code) c.replace-text.ensures.value;
       counted = search rules;

@@ -16,14 +16,19 @@ invariant_of-self c =
     let was = c.self.inside.rows.entries in
     let e = sym c.remove.ensures.entries in
     record {
-      rising = subst (λ (es : List (Key × (ℕ × Row))). ascending (keys es) ≡ true) e (rising-remove k was c.self.invariant.rising);
-      texts = subst (λ (es : List (Key × (ℕ × Row))). HaveTexts c.self.inside.kind es) e (texts-remove k c.self.inside.kind was c.self.invariant.texts);
+      rising = subst (λ (es : List (Key × (ℕ × Row))). ascending (keys es) ≡ true) e
+          (rising-remove k was c.self.invariant.rising);
+      texts = subst (λ (es : List (Key × (ℕ × Row))). HaveTexts c.self.inside.kind es) e
+          (texts-remove k c.self.inside.kind was c.self.invariant.texts);
       empty = c.self.invariant.empty;
-      room = subst (λ (es : List (Key × (ℕ × Row))). length es ≤ vec_capacity c.self.inside.kept) e (omega (arith, length-remove k was, c.self.invariant.room));
+      room = subst (λ (es : List (Key × (ℕ × Row))). length es ≤ vec_capacity c.self.inside.kept) e
+          (omega (arith, length-remove k was, c.self.invariant.room));
     }
 
 pub returns : goal.returns
 returns c =
-    ap (λ (es : List (Key × (ℕ × Row))). record { kind = c.self.inside.kind; rows = map numbered es }) c.remove.ensures.entries
-    ∙ ap (λ (rows : List (Key × ℕ)). record { kind = c.self.inside.kind; rows = rows }) (numbered-remove c.args.key.now c.self.inside.rows.entries)
+    ap (λ (es : List (Key × (ℕ × Row))).
+    record { kind = c.self.inside.kind; rows = map numbered es }) c.remove.ensures.entries
+    ∙ ap (λ (rows : List (Key × ℕ)). record { kind = c.self.inside.kind; rows = rows })
+    (numbered-remove c.args.key.now c.self.inside.rows.entries)
     ∙ ap (left_out c.args.key.now) c.self.view_is

@@ -15,13 +15,22 @@ invariant_of-result c =
     let ks = c.args.keys.now in
     let e = sym c.in_ok-readied.ensures in
     record {
-      rising = subst (λ (es : List (Key × (ℕ × Row))). ascending (keys es) ≡ true) e (ap ascending (keys-ready kind t ks) ∙ c.requires.rising);
-      texts = subst (λ (k : Kind). HaveTexts k c.in_ok-readied.field-0.entries) (sym c.in_ok-copy.ensures) (subst (λ (es : List (Key × (ℕ × Row))). HaveTexts kind es) e (texts-ready kind t ks));
+      rising = subst (λ (es : List (Key × (ℕ × Row))). ascending (keys es) ≡ true) e
+          (ap ascending (keys-ready kind t ks) ∙ c.requires.rising);
+      texts = subst (λ (k : Kind). HaveTexts k c.in_ok-readied.field-0.entries)
+          (sym c.in_ok-copy.ensures)
+          (subst (λ (es : List (Key × (ℕ × Row))). HaveTexts kind es) e (texts-ready kind t ks));
       empty = c.in_ok-with_capacity.ensures.items;
-      room = omega (arith, ap length c.in_ok-readied.ensures, length-ready kind t ks, c.in_ok-with_capacity.ensures.capacity);
+      room = omega (
+        arith,
+        ap length c.in_ok-readied.ensures,
+        length-ready kind t ks,
+        c.in_ok-with_capacity.ensures.capacity,
+      );
     }
 
 pub returns : goal.returns
 returns c =
     (λ j. record { kind = c.in_ok-copy.ensures j; rows = map numbered (c.in_ok-readied.ensures j) })
-    ∙ ap (λ (rows : List (Key × ℕ)). record { kind = c.args.kind.now; rows = rows }) (numbered-ready c.args.kind.now c.args.rows.now c.args.keys.now)
+    ∙ ap (λ (rows : List (Key × ℕ)). record { kind = c.args.kind.now; rows = rows })
+    (numbered-ready c.args.kind.now c.args.rows.now c.args.keys.now)

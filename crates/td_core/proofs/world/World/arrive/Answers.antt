@@ -10,9 +10,19 @@ use Rattle.td_core.proofs.world.World.arrive.Goals as goal
 
 pub invariant_of-self-2 : goal.invariant_of-self-2
 invariant_of-self-2 c =
-    let w : WorldView = record { history = c.self.inside.kept.history; supply = c.self.inside.kept.stock; phases = c.self.inside.phases.items; hands = c.self.inside.hands.items } in
+    let w : WorldView = record {
+      history = c.self.inside.kept.history;
+      supply = c.self.inside.kept.stock;
+      phases = c.self.inside.phases.items;
+      hands = c.self.inside.hands.items;
+    } in
     let k = c.args.key in
     let row = c.in-Some.row.now in
-    let found : row_of (rows_of w.history) k ≡ Some row = ap (λ (t : Table). row_of t k) (sym c.rows.ensures.rows) ∙ sym c.in-Some.ensures in
+    let found : row_of (rows_of w.history) k ≡ Some row =
+    ap (λ (t : Table). row_of t k) (sym c.rows.ensures.rows) ∙ sym c.in-Some.ensures in
     let fit : applies Arrive row ≡ true = sym c.applies.ensures ∙ c.if-not-applies.false in
-    subst (λ (v : WorldView). IsWorld v) (λ j. record w { history = sym c.in_ok-arrive.ensures.ok j; supply = sym c.arrive.ensures.stock j }) (IsWorld-arrived w k row c.self.invariant found fit).1
+    subst (λ (v : WorldView). IsWorld v)
+    (λ j. record w {
+      history = sym c.in_ok-arrive.ensures.ok j;
+      supply = sym c.arrive.ensures.stock j;
+    }) (IsWorld-arrived w k row c.self.invariant found fit).1

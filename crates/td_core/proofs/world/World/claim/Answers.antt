@@ -8,7 +8,19 @@ use Rattle.td_core.proofs.world.World.claim.Goals as goal
 
 pub invariant_of-self : goal.invariant_of-self
 invariant_of-self c =
-    let w : WorldView = record { history = c.self.inside.kept.history; supply = c.self.inside.kept.stock; phases = c.self.inside.phases.items; hands = c.self.inside.hands.items } in
-    let none = subst (λ (v : WorldView). refusal v (Claim c.args.builder c.args.key) ≡ None) (sym c.self.view_is) (sym c.claim_refusal.ensures ∙ c.in_default.is) in
-    subst (λ (v : WorldView). IsWorld v) (λ j. record { history = w.history; supply = w.supply; phases = sym c.put_phase.ensures j; hands = sym c.put_hand.ensures j })
+    let w : WorldView = record {
+      history = c.self.inside.kept.history;
+      supply = c.self.inside.kept.stock;
+      phases = c.self.inside.phases.items;
+      hands = c.self.inside.hands.items;
+    } in
+    let none = subst (λ (v : WorldView). refusal v (Claim c.args.builder c.args.key) ≡ None)
+    (sym c.self.view_is) (sym c.claim_refusal.ensures ∙ c.in_default.is) in
+    subst (λ (v : WorldView). IsWorld v)
+    (λ j. record {
+      history = w.history;
+      supply = w.supply;
+      phases = sym c.put_phase.ensures j;
+      hands = sym c.put_hand.ensures j;
+    })
     (IsWorld-accepted w (Claim c.args.builder c.args.key) c.self.invariant none)

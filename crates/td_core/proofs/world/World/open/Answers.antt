@@ -9,5 +9,12 @@ use Rattle.td_core.proofs.world.World.open.Goals as goal
 pub invariant_of-result : goal.invariant_of-result
 invariant_of-result c =
     let phases = c.in_ok-phases.ensures ∙ ap (λ n. replicate n Closed) c.len.ensures.len in
-    subst (λ (w : WorldView). IsWorld w) (λ j. record { history = sym c.in_ok-open.ensures.history j; supply = sym c.in_ok-open.ensures.stock j; phases = sym phases j; hands = sym c.in_ok-free.ensures j })
-    (IsWorld-open c.args.rows (stock_of c.args.supply) c.args.builders c.len.ensures.rising c.requires.idle)
+    subst (λ (w : WorldView). IsWorld w)
+    (λ j. record {
+      history = sym c.in_ok-open.ensures.history j;
+      supply = sym c.in_ok-open.ensures.stock j;
+      phases = sym phases j;
+      hands = sym c.in_ok-free.ensures j;
+    })
+    (IsWorld-open c.args.rows (stock_of c.args.supply) c.args.builders c.len.ensures.rising
+    c.requires.idle)

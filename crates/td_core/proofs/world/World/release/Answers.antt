@@ -9,6 +9,13 @@ use Rattle.td_core.proofs.world.World.release.Goals as goal
 
 pub invariant_of-self : goal.invariant_of-self
 invariant_of-self c =
-    let w : WorldView = record { history = c.self.inside.kept.history; supply = c.self.inside.kept.stock; phases = c.self.inside.phases.items; hands = c.self.inside.hands.items } in
-    let none = subst (λ (v : WorldView). refusal v (Release c.args.builder) ≡ None) (sym c.self.view_is) (sym c.release_refusal.ensures ∙ c.in_default.is) in
-    subst (λ (hs : List Hand). IsWorld (record w { hands = hs })) (sym c.put_hand.ensures) (IsWorld-accepted w (Release c.args.builder) c.self.invariant none)
+    let w : WorldView = record {
+      history = c.self.inside.kept.history;
+      supply = c.self.inside.kept.stock;
+      phases = c.self.inside.phases.items;
+      hands = c.self.inside.hands.items;
+    } in
+    let none = subst (λ (v : WorldView). refusal v (Release c.args.builder) ≡ None)
+    (sym c.self.view_is) (sym c.release_refusal.ensures ∙ c.in_default.is) in
+    subst (λ (hs : List Hand). IsWorld (record w { hands = hs })) (sym c.put_hand.ensures)
+    (IsWorld-accepted w (Release c.args.builder) c.self.invariant none)

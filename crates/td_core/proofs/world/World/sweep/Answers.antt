@@ -12,18 +12,41 @@ use Rattle.td_core.proofs.world.World.sweep.Goals as goal
 
 pub new-keys-requires-clause-rising : goal.new-keys-requires-clause-rising
 new-keys-requires-clause-rising c =
-    let w : WorldView = record { history = c.self.inside.kept.history; supply = c.self.inside.kept.stock; phases = c.self.inside.phases.items; hands = c.self.inside.hands.items } in
+    let w : WorldView = record {
+      history = c.self.inside.kept.history;
+      supply = c.self.inside.kept.stock;
+      phases = c.self.inside.phases.items;
+      hands = c.self.inside.hands.items;
+    } in
     ap ascending c.in_ok-keys.ensures ∙ rising-swept_now w c.self.invariant
 
 pub append-requires-clause-applies : goal.append-requires-clause-applies
 append-requires-clause-applies c =
-    let w : WorldView = record { history = c.self.inside.kept.history; supply = c.self.inside.kept.stock; phases = c.self.inside.phases.items; hands = c.self.inside.hands.items } in
-    subst (λ (ks : List Key). AppliesOn (rows_of w.history) Sweep ks) (sym (c.new-keys.ensures ∙ c.in_ok-keys.ensures)) (AppliesOn-swept_now w c.self.invariant)
+    let w : WorldView = record {
+      history = c.self.inside.kept.history;
+      supply = c.self.inside.kept.stock;
+      phases = c.self.inside.phases.items;
+      hands = c.self.inside.hands.items;
+    } in
+    subst (λ (ks : List Key). AppliesOn (rows_of w.history) Sweep ks)
+    (sym (c.new-keys.ensures ∙ c.in_ok-keys.ensures)) (AppliesOn-swept_now w c.self.invariant)
 
 pub invariant_of-self-2 : goal.invariant_of-self-2
 invariant_of-self-2 c =
-    let w : WorldView = record { history = c.self.inside.kept.history; supply = c.self.inside.kept.stock; phases = c.self.inside.phases.items; hands = c.self.inside.hands.items } in
+    let w : WorldView = record {
+      history = c.self.inside.kept.history;
+      supply = c.self.inside.kept.stock;
+      phases = c.self.inside.phases.items;
+      hands = c.self.inside.hands.items;
+    } in
     let some : 0 < length c.in_ok-keys.keys.items = search rules in
-    let history = c.in_ok-append.ensures.ok ∙ ap (λ (ks : List Key). with_entry w.history (record { kind = Sweep; keys = ks })) (c.new-keys.ensures ∙ c.in_ok-keys.ensures) in
-    subst (λ (v : WorldView). IsWorld v) (λ j. record w { history = sym history j; supply = sym c.append.ensures.stock j }) (IsWorld-swept w (swept_now w) c.self.invariant
-    (record { rising = rising-swept_now w c.self.invariant; some = subst (λ (ks : List Key). 0 < length ks) c.in_ok-keys.ensures some }) (AppliesOn-swept_now w c.self.invariant))
+    let history = c.in_ok-append.ensures.ok
+    ∙ ap (λ (ks : List Key). with_entry w.history (record { kind = Sweep; keys = ks }))
+    (c.new-keys.ensures ∙ c.in_ok-keys.ensures) in
+    subst (λ (v : WorldView). IsWorld v)
+    (λ j. record w { history = sym history j; supply = sym c.append.ensures.stock j })
+    (IsWorld-swept w (swept_now w) c.self.invariant
+    (record {
+      rising = rising-swept_now w c.self.invariant;
+      some = subst (λ (ks : List Key). 0 < length ks) c.in_ok-keys.ensures some;
+    }) (AppliesOn-swept_now w c.self.invariant))

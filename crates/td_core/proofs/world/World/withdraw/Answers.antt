@@ -9,6 +9,13 @@ use Rattle.td_core.proofs.world.World.withdraw.Goals as goal
 
 pub invariant_of-self : goal.invariant_of-self
 invariant_of-self c =
-    let w : WorldView = record { history = c.self.inside.kept.history; supply = c.self.inside.kept.stock; phases = c.self.inside.phases.items; hands = c.self.inside.hands.items } in
-    let none = subst (λ (v : WorldView). refusal v (Withdraw c.args.key.now) ≡ None) (sym c.self.view_is) (sym c.withdraw_refusal.ensures ∙ c.in_default.is) in
-    subst (λ (ps : List Phase). IsWorld (record w { phases = ps })) (sym c.put_phase.ensures) (IsWorld-accepted w (Withdraw c.args.key.now) c.self.invariant none)
+    let w : WorldView = record {
+      history = c.self.inside.kept.history;
+      supply = c.self.inside.kept.stock;
+      phases = c.self.inside.phases.items;
+      hands = c.self.inside.hands.items;
+    } in
+    let none = subst (λ (v : WorldView). refusal v (Withdraw c.args.key.now) ≡ None)
+    (sym c.self.view_is) (sym c.withdraw_refusal.ensures ∙ c.in_default.is) in
+    subst (λ (ps : List Phase). IsWorld (record w { phases = ps })) (sym c.put_phase.ensures)
+    (IsWorld-accepted w (Withdraw c.args.key.now) c.self.invariant none)

@@ -3,4 +3,6 @@ use Rattle.td_desk.proofs.Commanded.{commanded}
 use Rattle.td_desk.proofs.desk.Desk.command.Goals as goal
 
 pub returns-clause-answer : goal.returns-clause-answer
-returns-clause-answer g c = commanded _ _ _ _ _ _ _ c.command-answer.ensures.named c.command-answer.ensures.answer (search rules)
+returns-clause-answer g c =
+    commanded _ _ _ _ _ _ _ c.command-answer.ensures.named c.command-answer.ensures.answer
+    (search rules)

@@ -9,12 +9,16 @@ use Rattle.td_desk.proofs.locked.Locked.arrive.Goals as goal
 pub invariant_of-self-2 : goal.invariant_of-self-2
 invariant_of-self-2 g c =
     let old = c.args.self.now in
-    let k = arrive_grown g.N.Named.opened c.args.key.now c.in-Ok.n old.book c.arrive.new.self old.still c.in-Ok.ensures in
-    let room : length old.book.history.journal + 1 ≤ length c.add_ticks.new.ticks.items = search rules in
-    let held : AreBegun g.N.Named.opened c.len.result c.add_ticks.new.ticks.items = c.add_ticks.ensures.begun g.N.Named.opened (search rules) in
+    let k = arrive_grown g.N.Named.opened c.args.key.now c.in-Ok.n old.book c.arrive.new.self
+    old.still c.in-Ok.ensures in
+    let room : length old.book.history.journal + 1 ≤ length c.add_ticks.new.ticks.items =
+    search rules in
+    let held : AreBegun g.N.Named.opened c.len.result c.add_ticks.new.ticks.items =
+    c.add_ticks.ensures.begun g.N.Named.opened (search rules) in
     record {
       named = ap (λ (f : Fixed). f.table) k.fixed ∙ old.named;
-      origin = arrive_origin c.args.key.now old.book c.arrive.new.self (Ok c.in-Ok.n) c.in-Ok.ensures ∙ old.origin;
+      origin = arrive_origin c.args.key.now old.book c.arrive.new.self
+          (Ok c.in-Ok.n) c.in-Ok.ensures ∙ old.origin;
       still = k.still;
       counted = one_more _ _ _ k.one ∙ (ap (λ n. n + 1) old.counted ∙ sym c.add.ensures.total);
       ticked = (held.0, let l = k.long in omega (arith, l, room));
@@ -23,5 +27,6 @@ invariant_of-self-2 g c =
 pub returns-clause-change : goal.returns-clause-change
 returns-clause-change g c =
     let old = c.args.self.now in
-    let k = arrive_grown g.N.Named.opened c.args.key.now c.in-Ok.n old.book c.arrive.new.self old.still c.in-Ok.ensures in
+    let k = arrive_grown g.N.Named.opened c.args.key.now c.in-Ok.n old.book c.arrive.new.self
+    old.still c.in-Ok.ensures in
     k.one

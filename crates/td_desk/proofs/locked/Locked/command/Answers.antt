@@ -16,13 +16,18 @@ pub invariant_of-self-in-Err-command : goal.invariant_of-self-in-Err-command
 invariant_of-self-in-Err-command g c =
     let old = c.args.self.now in
     let p = parts_of c.args.command.now in
-    let k = command_kept g.N.Named.opened p c.in-Err.refusal old.book c.command.new.self old.still c.in-Err.ensures in
-    let same : length c.in-Ok.draft.named.items ≡ length (named_by p old.book) = ap length c.in-Ok.ensures.named in
-    let room : length old.book.history.journal + (length c.in-Ok.draft.named.items + 1) ≤ length c.add_ticks.new.ticks.items = search rules in
-    let held : AreBegun g.N.Named.opened c.len.result c.add_ticks.new.ticks.items = c.add_ticks.ensures.begun g.N.Named.opened (search rules) in
+    let k = command_kept g.N.Named.opened p c.in-Err.refusal old.book c.command.new.self old.still
+    c.in-Err.ensures in
+    let same : length c.in-Ok.draft.named.items ≡ length (named_by p old.book) =
+    ap length c.in-Ok.ensures.named in
+    let room : length old.book.history.journal + (length c.in-Ok.draft.named.items + 1)
+    ≤ length c.add_ticks.new.ticks.items = search rules in
+    let held : AreBegun g.N.Named.opened c.len.result c.add_ticks.new.ticks.items =
+    c.add_ticks.ensures.begun g.N.Named.opened (search rules) in
     record {
       named = ap (λ (f : Fixed). f.table) k.fixed ∙ old.named;
-      origin = command_origin p old.book c.command.new.self (Err c.in-Err.refusal) c.in-Err.ensures ∙ old.origin;
+      origin = command_origin p old.book c.command.new.self (Err c.in-Err.refusal) c.in-Err.ensures
+          ∙ old.origin;
       still = k.still;
       counted = ap length k.same ∙ old.counted;
       ticked = (held.0, let l = k.long in omega (arith, l, room, same));
@@ -32,13 +37,18 @@ pub invariant_of-self-2 : goal.invariant_of-self-2
 invariant_of-self-2 g c =
     let old = c.args.self.now in
     let p = parts_of c.args.command.now in
-    let k = command_grown g.N.Named.opened p old.book c.command.new.self c.in-Ok-command.taken old.still c.in-Ok-command.ensures in
-    let same : length c.in-Ok.draft.named.items ≡ length (named_by p old.book) = ap length c.in-Ok.ensures.named in
-    let room : length old.book.history.journal + (length c.in-Ok.draft.named.items + 1) ≤ length c.add_ticks.new.ticks.items = search rules in
-    let held : AreBegun g.N.Named.opened c.len.result c.add_ticks.new.ticks.items = c.add_ticks.ensures.begun g.N.Named.opened (search rules) in
+    let k = command_grown g.N.Named.opened p old.book c.command.new.self c.in-Ok-command.taken
+    old.still c.in-Ok-command.ensures in
+    let same : length c.in-Ok.draft.named.items ≡ length (named_by p old.book) =
+    ap length c.in-Ok.ensures.named in
+    let room : length old.book.history.journal + (length c.in-Ok.draft.named.items + 1)
+    ≤ length c.add_ticks.new.ticks.items = search rules in
+    let held : AreBegun g.N.Named.opened c.len.result c.add_ticks.new.ticks.items =
+    c.add_ticks.ensures.begun g.N.Named.opened (search rules) in
     record {
       named = ap (λ (f : Fixed). f.table) k.fixed ∙ old.named;
-      origin = command_origin p old.book c.command.new.self (Ok c.in-Ok-command.taken) c.in-Ok-command.ensures ∙ old.origin;
+      origin = command_origin p old.book c.command.new.self (Ok c.in-Ok-command.taken)
+          c.in-Ok-command.ensures ∙ old.origin;
       still = k.still;
       counted = one_more _ _ _ k.one ∙ (ap (λ n. n + 1) old.counted ∙ sym c.add.ensures.total);
       ticked = (held.0, let l = k.long in omega (arith, l, room, same));
@@ -49,8 +59,12 @@ new-requires-clause-rising g c =
     let old = c.args.self.now in
     let p = parts_of c.args.command.now in
     let t = c.in-Ok-command.taken in
-    let keys : c.left_out-keys.result.items ≡ left_out (named_by p old.book) (skipped_keys t.skips) = c.left_out-keys.ensures ∙ (λ i. left_out (c.in-Ok.ensures.named i) (skipped_keys (c.as_slice.ensures i))) in
-    let told = told_keys p old.book c.command.new.self t c.left_out-keys.result.items keys c.in-Ok.ensures.rising c.in-Ok-command.ensures in
+    let keys : c.left_out-keys.result.items
+    ≡ left_out (named_by p old.book) (skipped_keys t.skips) =
+    c.left_out-keys.ensures
+    ∙ (λ i. left_out (c.in-Ok.ensures.named i) (skipped_keys (c.as_slice.ensures i))) in
+    let told = told_keys p old.book c.command.new.self t c.left_out-keys.result.items keys
+    c.in-Ok.ensures.rising c.in-Ok-command.ensures in
     told.rising
 
 pub new-requires-clause-some : goal.new-requires-clause-some
@@ -58,8 +72,12 @@ new-requires-clause-some g c =
     let old = c.args.self.now in
     let p = parts_of c.args.command.now in
     let t = c.in-Ok-command.taken in
-    let keys : c.left_out-keys.result.items ≡ left_out (named_by p old.book) (skipped_keys t.skips) = c.left_out-keys.ensures ∙ (λ i. left_out (c.in-Ok.ensures.named i) (skipped_keys (c.as_slice.ensures i))) in
-    let told = told_keys p old.book c.command.new.self t c.left_out-keys.result.items keys c.in-Ok.ensures.rising c.in-Ok-command.ensures in
+    let keys : c.left_out-keys.result.items
+    ≡ left_out (named_by p old.book) (skipped_keys t.skips) =
+    c.left_out-keys.ensures
+    ∙ (λ i. left_out (c.in-Ok.ensures.named i) (skipped_keys (c.as_slice.ensures i))) in
+    let told = told_keys p old.book c.command.new.self t c.left_out-keys.result.items keys
+    c.in-Ok.ensures.rising c.in-Ok-command.ensures in
     told.some
 
 pub returns-clause-told : goal.returns-clause-told
@@ -67,13 +85,20 @@ returns-clause-told g c =
     let old = c.args.self.now in
     let p = parts_of c.args.command.now in
     let t = c.in-Ok-command.taken in
-    let keys : c.left_out-keys.result.items ≡ left_out (named_by p old.book) (skipped_keys t.skips) = c.left_out-keys.ensures ∙ (λ i. left_out (c.in-Ok.ensures.named i) (skipped_keys (c.as_slice.ensures i))) in
-    let told = told_keys p old.book c.command.new.self t c.left_out-keys.result.items keys c.in-Ok.ensures.rising c.in-Ok-command.ensures in
-    c.push_reserved.ensures.items ∙ (λ i. c.args.receipts.now.items ++ Made t.number (c.in-Ok.ensures.kind i) ((c.new.ensures ∙ told.same) i) ∷ [])
+    let keys : c.left_out-keys.result.items
+    ≡ left_out (named_by p old.book) (skipped_keys t.skips) =
+    c.left_out-keys.ensures
+    ∙ (λ i. left_out (c.in-Ok.ensures.named i) (skipped_keys (c.as_slice.ensures i))) in
+    let told = told_keys p old.book c.command.new.self t c.left_out-keys.result.items keys
+    c.in-Ok.ensures.rising c.in-Ok-command.ensures in
+    c.push_reserved.ensures.items
+    ∙ (λ i. c.args.receipts.now.items
+    ++ Made t.number (c.in-Ok.ensures.kind i) ((c.new.ensures ∙ told.same) i) ∷ [])
 
 pub returns-clause-change : goal.returns-clause-change
 returns-clause-change g c =
     let old = c.args.self.now in
     let p = parts_of c.args.command.now in
-    let k = command_grown g.N.Named.opened p old.book c.command.new.self c.in-Ok-command.taken old.still c.in-Ok-command.ensures in
+    let k = command_grown g.N.Named.opened p old.book c.command.new.self c.in-Ok-command.taken
+    old.still c.in-Ok-command.ensures in
     k.one

@@ -9,12 +9,16 @@ pub invariant_of-self-2 : goal.invariant_of-self-2
 invariant_of-self-2 g c =
     let old = c.args.self.now in
     let v = c.args.seat.now.builder in
-    let k = finish_kept g.N.Named.opened v.hand c.args.outcome v c.finish.new.seat.builder old.book c.finish.new.self c.finish.result old.still c.finish.ensures.outcome in
-    let room : length old.book.history.journal + 2 ≤ length c.add_ticks.new.ticks.items = search rules in
-    let held : AreBegun g.N.Named.opened c.len.result c.add_ticks.new.ticks.items = c.add_ticks.ensures.begun g.N.Named.opened (search rules) in
+    let k = finish_kept g.N.Named.opened v.hand c.args.outcome v c.finish.new.seat.builder old.book
+    c.finish.new.self c.finish.result old.still c.finish.ensures.outcome in
+    let room : length old.book.history.journal + 2 ≤ length c.add_ticks.new.ticks.items =
+    search rules in
+    let held : AreBegun g.N.Named.opened c.len.result c.add_ticks.new.ticks.items =
+    c.add_ticks.ensures.begun g.N.Named.opened (search rules) in
     record {
       named = ap (λ (f : Fixed). f.table) k.fixed ∙ old.named;
-      origin = finish_origin v.hand c.args.outcome v c.finish.new.seat.builder old.book c.finish.new.self c.finish.result c.finish.ensures.outcome ∙ old.origin;
+      origin = finish_origin v.hand c.args.outcome v c.finish.new.seat.builder old.book
+          c.finish.new.self c.finish.result c.finish.ensures.outcome ∙ old.origin;
       still = k.still;
       counted = ap length k.same ∙ old.counted;
       ticked = (held.0, let l = k.long in omega (arith, l, room));

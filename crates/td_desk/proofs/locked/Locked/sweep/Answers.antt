@@ -13,8 +13,10 @@ invariant_of-self-2 g c =
     let old = c.args.self.now in
     let done : SweepOutcome old.book c.sweep.new.self (Ok (Some c.in-Some.n)) = search rules in
     let k = sweep_grown g.N.Named.opened c.in-Some.n old.book c.sweep.new.self old.still done in
-    let room : length old.book.history.journal + 1 ≤ length c.add_ticks.new.ticks.items = search rules in
-    let held : AreBegun g.N.Named.opened c.len.result c.add_ticks.new.ticks.items = c.add_ticks.ensures.begun g.N.Named.opened (search rules) in
+    let room : length old.book.history.journal + 1 ≤ length c.add_ticks.new.ticks.items =
+    search rules in
+    let held : AreBegun g.N.Named.opened c.len.result c.add_ticks.new.ticks.items =
+    c.add_ticks.ensures.begun g.N.Named.opened (search rules) in
     record {
       named = ap (λ (f : Fixed). f.table) k.fixed ∙ old.named;
       origin = sweep_origin old.book c.sweep.new.self (Ok (Some c.in-Some.n)) done ∙ old.origin;

@@ -10,12 +10,16 @@ use Rattle.td_desk.proofs.locked.Locked.undo.Goals as goal
 pub invariant_of-self-in-Err-1 : goal.invariant_of-self-in-Err-1
 invariant_of-self-in-Err-1 g c =
     let old = c.args.self.now in
-    let k = undo_kept g.N.Named.opened c.args.n c.in-Err.refusal old.book c.undo.new.self old.still c.in-Err.ensures in
-    let room : length old.book.history.journal + 1 ≤ length c.add_ticks.new.ticks.items = search rules in
-    let held : AreBegun g.N.Named.opened c.len.result c.add_ticks.new.ticks.items = c.add_ticks.ensures.begun g.N.Named.opened (search rules) in
+    let k = undo_kept g.N.Named.opened c.args.n c.in-Err.refusal old.book c.undo.new.self old.still
+    c.in-Err.ensures in
+    let room : length old.book.history.journal + 1 ≤ length c.add_ticks.new.ticks.items =
+    search rules in
+    let held : AreBegun g.N.Named.opened c.len.result c.add_ticks.new.ticks.items =
+    c.add_ticks.ensures.begun g.N.Named.opened (search rules) in
     record {
       named = ap (λ (f : Fixed). f.table) k.fixed ∙ old.named;
-      origin = undo_origin (undo_stop old.book.history.journal c.args.n) c.args.n old.book c.undo.new.self (Err c.in-Err.refusal) c.in-Err.ensures ∙ old.origin;
+      origin = undo_origin (undo_stop old.book.history.journal c.args.n) c.args.n old.book
+          c.undo.new.self (Err c.in-Err.refusal) c.in-Err.ensures ∙ old.origin;
       still = k.still;
       counted = ap length k.same ∙ old.counted;
       ticked = (held.0, let l = k.long in omega (arith, l, room));
@@ -24,12 +28,16 @@ invariant_of-self-in-Err-1 g c =
 pub invariant_of-self-2 : goal.invariant_of-self-2
 invariant_of-self-2 g c =
     let old = c.args.self.now in
-    let k = undo_grown g.N.Named.opened c.args.n old.book c.undo.new.self old.still c.in-Ok.ensures in
-    let room : length old.book.history.journal + 1 ≤ length c.add_ticks.new.ticks.items = search rules in
-    let held : AreBegun g.N.Named.opened c.len.result c.add_ticks.new.ticks.items = c.add_ticks.ensures.begun g.N.Named.opened (search rules) in
+    let k =
+    undo_grown g.N.Named.opened c.args.n old.book c.undo.new.self old.still c.in-Ok.ensures in
+    let room : length old.book.history.journal + 1 ≤ length c.add_ticks.new.ticks.items =
+    search rules in
+    let held : AreBegun g.N.Named.opened c.len.result c.add_ticks.new.ticks.items =
+    c.add_ticks.ensures.begun g.N.Named.opened (search rules) in
     record {
       named = ap (λ (f : Fixed). f.table) k.fixed ∙ old.named;
-      origin = undo_origin (undo_stop old.book.history.journal c.args.n) c.args.n old.book c.undo.new.self (Ok tt) c.in-Ok.ensures ∙ old.origin;
+      origin = undo_origin (undo_stop old.book.history.journal c.args.n) c.args.n old.book
+          c.undo.new.self (Ok tt) c.in-Ok.ensures ∙ old.origin;
       still = k.still;
       counted = one_more _ _ _ k.one ∙ (ap (λ n. n + 1) old.counted ∙ sym c.add.ensures.total);
       ticked = (held.0, let l = k.long in omega (arith, l, room));
@@ -38,5 +46,6 @@ invariant_of-self-2 g c =
 pub returns-clause-change : goal.returns-clause-change
 returns-clause-change g c =
     let old = c.args.self.now in
-    let k = undo_grown g.N.Named.opened c.args.n old.book c.undo.new.self old.still c.in-Ok.ensures in
+    let k =
+    undo_grown g.N.Named.opened c.args.n old.book c.undo.new.self old.still c.in-Ok.ensures in
     k.one

@@ -11,14 +11,20 @@ unfoldable here : List KeptBinary → ℕ → ℕ → Bool
 here bs arch n = option_map_or (λ (b : KeptBinary). is_on arch b.head.home) (slice_get bs n) false
 
 -- the numbers of a group on an architecture
-those : (bs : List KeptBinary) (source group : List ℕ) (arch : ℕ) → group ≡ places_from (is_of source) 0 bs → filter (here bs arch) group ≡ places_from (λ (b : KeptBinary). is_of source b && is_on arch b.head.home) 0 bs
+those : (bs : List KeptBinary) (source group : List ℕ) (arch : ℕ)
+    → group ≡ places_from (is_of source) 0 bs
+    → filter (here bs arch) group
+    ≡ places_from (λ (b : KeptBinary). is_of source b && is_on arch b.head.home) 0 bs
 unfolding here
-those bs source group arch is = ap (filter (here bs arch)) is ∙ filter-places (is_of source) (λ (b : KeptBinary). is_on arch b.head.home) bs bs 0 refl
+those bs source group arch is =
+    ap (filter (here bs arch)) is
+    ∙ filter-places (is_of source) (λ (b : KeptBinary). is_on arch b.head.home) bs bs 0 refl
 
 pub returns-in-Ok : goal.returns-in-Ok
 unfolding here
 returns-in-Ok c =
     let bs = binaries_of c.self.inside.binaries.entries in
     c.in-Ok.ensures
-    ∙ those bs c.args.source.now c.of_source-numbers.result.now c.args.arch (c.of_source-numbers.ensures ∙ c.self.invariant.0 c.args.source.now)
+    ∙ those bs c.args.source.now c.of_source-numbers.result.now c.args.arch
+    (c.of_source-numbers.ensures ∙ c.self.invariant.0 c.args.source.now)
     ∙ ap (λ (a : Contents). binaries_on a c.args.source.now c.args.arch) c.self.view_is

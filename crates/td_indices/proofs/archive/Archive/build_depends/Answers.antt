@@ -10,19 +10,25 @@ use Rattle.td_indices.proofs.archive.Archive.build_depends.Goals as goal
 pub read_again-requires : goal.read_again-requires
 read_again-requires c =
     let a = c.args.self.now in
-    let kept = subst (λ (v : Contents). sources_at v.source_stanzas ≡ Ok v.sources) c.self.view_is c.self.invariant.3 in
+    let kept = subst (λ (v : Contents). sources_at v.source_stanzas ≡ Ok v.sources) c.self.view_is
+    c.self.invariant.3 in
     let fields = fields_of c.stanza_of_source.result in
-    let its = readable_at a c.args.source fields kept (source_at a c.args.source fields c.stanza_of_source.ensures.there) in
+    let its = readable_at a c.args.source fields kept
+    (source_at a c.args.source fields c.stanza_of_source.ensures.there) in
     (its.1.depends, its.1.depends_read)
 
 pub returns-clause-read : goal.returns-clause-read
 returns-clause-read c =
     let a = c.args.self.now in
     let fields = fields_of c.stanza_of_source.result in
-    read_at asked_by a c.args.source fields (codes "Build-Depends") (source_at a c.args.source fields c.stanza_of_source.ensures.there) c.read_again.result c.read_again.ensures
+    read_at asked_by a c.args.source fields (codes "Build-Depends")
+    (source_at a c.args.source fields c.stanza_of_source.ensures.there) c.read_again.result
+    c.read_again.ensures
 
 pub returns-clause-asked : goal.returns-clause-asked
 returns-clause-asked c =
     let a = c.args.self.now in
     let fields = fields_of c.stanza_of_source.result in
-    list_at asked_by a c.args.source fields (codes "Build-Depends") (source_at a c.args.source fields c.stanza_of_source.ensures.there) c.read_again.result c.read_again.ensures
+    list_at asked_by a c.args.source fields (codes "Build-Depends")
+    (source_at a c.args.source fields c.stanza_of_source.ensures.there) c.read_again.result
+    c.read_again.ensures

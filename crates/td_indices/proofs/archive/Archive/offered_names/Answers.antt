@@ -12,7 +12,10 @@ pub returns : goal.returns
 returns c =
     let es = c.self.inside.binaries.entries in
     let p : PackageKey × Packaged = (c.in-Some.key.now, c.in-Some.packaged.now) in
-    let got : slice_get (binaries_of es) c.args.binary ≡ Some (binary_of p) = slice_get-map binary_of es c.args.binary ∙ ap (option_map binary_of) (sym c.in-Some.ensures.entry) in
+    let got : slice_get (binaries_of es) c.args.binary ≡ Some (binary_of p) =
+    slice_get-map binary_of es c.args.binary
+    ∙ ap (option_map binary_of) (sym c.in-Some.ensures.entry) in
     c.of_package.ensures
     ∙ sym (ap (λ (o : Option KeptBinary). option_map_or offered_names o []) got)
-    ∙ ap (λ (a : Contents). option_map_or offered_names (slice_get a.binaries c.args.binary) []) c.self.view_is
+    ∙ ap (λ (a : Contents). option_map_or offered_names (slice_get a.binaries c.args.binary) [])
+    c.self.view_is

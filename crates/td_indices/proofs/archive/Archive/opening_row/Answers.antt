@@ -18,8 +18,12 @@ returns-in_default c =
       binaries = binaries_of c.self.inside.binaries.entries;
       sources = sources_of c.self.inside.sources.entries;
     } in
-    let gone : source_named a c.args.key.now.source ≡ None = ap (source_named a) (sym c.source.ensures.text) ∙ no_source c.source.result.now c.self.inside.sources.entries (sym c.in_default.ensures.value) in
-    no_row a c.args.key.now gone ∙ ap (λ (b : Contents). opening_row b c.args.key.now) c.self.view_is
+    let gone : source_named a c.args.key.now.source ≡ None =
+    ap (source_named a) (sym c.source.ensures.text)
+    ∙ no_source c.source.result.now c.self.inside.sources.entries
+    (sym c.in_default.ensures.value) in
+    no_row a c.args.key.now gone
+    ∙ ap (λ (b : Contents). opening_row b c.args.key.now) c.self.view_is
 
 pub returns : goal.returns
 returns c =
@@ -31,8 +35,13 @@ returns c =
       sources = sources_of c.self.inside.sources.entries;
     } in
     let s : KeptSource = source_of (c.in-Some.name.now, c.in-Some.sourced.now) in
-    let here : source_named a c.args.key.now.source ≡ Some s = ap (source_named a) (sym c.source.ensures.text) ∙ found_source c.source.result.now c.self.inside.sources.entries c.in-Some.name.now c.in-Some.sourced.now (sym c.in-Some.ensures.key) (sym c.in-Some.ensures.value) in
-    let at : place_of a.table c.args.key.now.arch ≡ Some c.in-Some-index.place = ap (place_of a.table) (sym c.arch.ensures.text) ∙ sym c.in-Some-index.ensures in
+    let here : source_named a c.args.key.now.source ≡ Some s =
+    ap (source_named a) (sym c.source.ensures.text)
+    ∙ found_source c.source.result.now c.self.inside.sources.entries c.in-Some.name.now
+    c.in-Some.sourced.now (sym c.in-Some.ensures.key) (sym c.in-Some.ensures.value) in
+    let at : place_of a.table c.args.key.now.arch ≡ Some c.in-Some-index.place =
+    ap (place_of a.table) (sym c.arch.ensures.text) ∙ sym c.in-Some-index.ensures in
     c.opening_on.ensures
-    ∙ row_found a c.args.key.now s c.of_source-numbers.result.now c.in-Some-index.place here at (c.of_source-numbers.ensures ∙ c.self.invariant.0 c.in-Some.name.now.now)
+    ∙ row_found a c.args.key.now s c.of_source-numbers.result.now c.in-Some-index.place here at
+    (c.of_source-numbers.ensures ∙ c.self.invariant.0 c.in-Some.name.now.now)
     ∙ ap (λ (b : Contents). opening_row b c.args.key.now) c.self.view_is

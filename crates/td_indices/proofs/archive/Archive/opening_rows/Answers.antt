@@ -12,14 +12,20 @@ use Rattle.td_indices.proofs.archive.Archive.opening_rows.Goals as goal
 
 pub returns-clause-count : goal.returns-clause-count
 returns-clause-count c =
-    let apart = subst (λ (v : Contents). IsApart v.table) c.self.view_is c.self.inside.archs.now.apart in
-    let names = subst (λ (v : Contents). Apart same_source v.sources) c.self.view_is (greatest_sources c.self.inside.source_stanzas (sources_of c.self.inside.sources.entries) c.self.invariant.3).2.apart in
-    counted_rows c.args.self.now c.sorted_rows.result apart names c.sorted_rows.ensures.rising c.sorted_rows.ensures.rows
+    let apart =
+    subst (λ (v : Contents). IsApart v.table) c.self.view_is c.self.inside.archs.now.apart in
+    let names = subst (λ (v : Contents). Apart same_source v.sources) c.self.view_is
+    (greatest_sources c.self.inside.source_stanzas (sources_of c.self.inside.sources.entries)
+    c.self.invariant.3).2.apart in
+    counted_rows c.args.self.now c.sorted_rows.result apart names c.sorted_rows.ensures.rising
+    c.sorted_rows.ensures.rows
 
 pub returns-clause-free : goal.returns-clause-free
-returns-clause-free c = free_rows row_of c.args.self.now c.sorted_rows.result c.sorted_rows.ensures.rows
+returns-clause-free c =
+    free_rows row_of c.args.self.now c.sorted_rows.result c.sorted_rows.ensures.rows
 
 pub returns-clause-known : goal.returns-clause-known
 returns-clause-known c =
-    let kept = subst (λ (v : Contents). sources_at v.source_stanzas ≡ Ok v.sources) c.self.view_is c.self.invariant.3 in
+    let kept = subst (λ (v : Contents). sources_at v.source_stanzas ≡ Ok v.sources) c.self.view_is
+    c.self.invariant.3 in
     known_rows row_of c.args.self.now c.sorted_rows.result kept c.sorted_rows.ensures.rows

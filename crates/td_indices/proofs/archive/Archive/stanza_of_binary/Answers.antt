@@ -14,17 +14,24 @@ pub unwrap-requires-2 : goal.unwrap-requires-2
 unwrap-requires-2 c =
     let es = c.self.inside.binaries.entries in
     let p : PackageKey × Packaged = (c.unwrap.result.0.now, c.unwrap.result.1.now) in
-    let at : slice_get es c.args.binary ≡ Some p = sym c.get_index.ensures.entry ∙ ap (option_map deref_pair) c.unwrap.ensures in
-    let got : slice_get (binaries_of es) c.args.binary ≡ Some (binary_of p) = slice_get-map binary_of es c.args.binary ∙ ap (option_map binary_of) at in
-    let its = binary_kept (table c.self.inside.archs.now) c.self.inside.packages (binaries_of es) c.args.binary (binary_of p) c.self.invariant.4 got in
+    let at : slice_get es c.args.binary ≡ Some p =
+    sym c.get_index.ensures.entry ∙ ap (option_map deref_pair) c.unwrap.ensures in
+    let got : slice_get (binaries_of es) c.args.binary ≡ Some (binary_of p) =
+    slice_get-map binary_of es c.args.binary ∙ ap (option_map binary_of) at in
+    let its = binary_kept (table c.self.inside.archs.now) c.self.inside.packages
+    (binaries_of es) c.args.binary (binary_of p) c.self.invariant.4 got in
     mapped fields_of c.stanza.result its.fields (c.stanza.ensures.value ∙ its.there)
 
 pub returns-clause-there : goal.returns-clause-there
 returns-clause-there c =
     let es = c.self.inside.binaries.entries in
     let p : PackageKey × Packaged = (c.unwrap.result.0.now, c.unwrap.result.1.now) in
-    let at : slice_get es c.args.binary ≡ Some p = sym c.get_index.ensures.entry ∙ ap (option_map deref_pair) c.unwrap.ensures in
-    let got : slice_get (binaries_of es) c.args.binary ≡ Some (binary_of p) = slice_get-map binary_of es c.args.binary ∙ ap (option_map binary_of) at in
-    sym (ap (λ (a : Contents). option_map (λ (x : KeptBinary). slice_get a.packages x.stanza) (slice_get a.binaries c.args.binary)) c.self.view_is)
+    let at : slice_get es c.args.binary ≡ Some p =
+    sym c.get_index.ensures.entry ∙ ap (option_map deref_pair) c.unwrap.ensures in
+    let got : slice_get (binaries_of es) c.args.binary ≡ Some (binary_of p) =
+    slice_get-map binary_of es c.args.binary ∙ ap (option_map binary_of) at in
+    sym (ap (λ (a : Contents).
+    option_map (λ (x : KeptBinary). slice_get a.packages x.stanza)
+    (slice_get a.binaries c.args.binary)) c.self.view_is)
     ∙ ap (option_map (λ (x : KeptBinary). slice_get c.self.inside.packages x.stanza)) got
     ∙ ap Some (sym c.stanza.ensures.value ∙ ap (option_map fields_of) c.unwrap-2.ensures)

@@ -31,6 +31,7 @@ returns c =
     let all : c.loop-place.place ≡ length a.table = omega arith in
     record {
       affected = λ t of. sym (sym (affected_by_place a t c.args.source)
-          ∙ ap (λ n. list_any (λ place. is_some (status_at a t c.args.source place)) (range_with_len 0 n))
+          ∙ ap (λ n.
+          list_any (λ place. is_some (status_at a t c.args.source place)) (range_with_len 0 n))
           (sym all) ∙ c.loop-place.invariant t of);
     }

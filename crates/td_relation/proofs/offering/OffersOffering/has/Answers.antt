@@ -9,5 +9,7 @@ use Rattle.td_relation.proofs.offering.OffersOffering.has.Goals as goal
 
 pub returns-in-Some : goal.returns-in-Some
 returns-in-Some c =
-    let test = λ (o : Offered). suits c.args.place (option_map restriction_of c.args.restriction.now) o in
-    c.some_suits.ensures ∙ sym (list_any-map test offered c.in-Some.list.now) ∙ ap (list_any test) c.in-Some.ensures
+    let test =
+    λ (o : Offered). suits c.args.place (option_map restriction_of c.args.restriction.now) o in
+    c.some_suits.ensures ∙ sym (list_any-map test offered c.in-Some.list.now)
+    ∙ ap (list_any test) c.in-Some.ensures

@@ -11,7 +11,12 @@ use Rattle.td_relation.proofs.relation.Relation.is_met.Goals as goal
 
 pub returns : goal.returns
 returns g c =
-    let test = λ (m : List Asked). member_met (g.O.Offering.on_offer c.args.offers.now) c.args.place (words_of c.args.arch) m in
+    let test = λ (m : List Asked).
+    member_met (g.O.Offering.on_offer c.args.offers.now) c.args.place (words_of c.args.arch) m in
     let r = c.args.self.now in
-    let same : chunked c.as_slice-2.result.now c.as_slice.result.now ≡ chunked r.sizes.items r.alternatives.items = rw (c.as_slice-2.ensures.value, c.as_slice.ensures.value) in
-    c.are_met.ensures ∙ ap (list_all (λ (m : List Alternative). test (map asked m))) same ∙ sym (list_all-map test (λ (m : List Alternative). map asked m) (chunked r.sizes.items r.alternatives.items))
+    let same : chunked c.as_slice-2.result.now c.as_slice.result.now
+    ≡ chunked r.sizes.items r.alternatives.items =
+    rw (c.as_slice-2.ensures.value, c.as_slice.ensures.value) in
+    c.are_met.ensures ∙ ap (list_all (λ (m : List Alternative). test (map asked m))) same
+    ∙ sym (list_all-map test (λ (m : List Alternative). map asked m)
+    (chunked r.sizes.items r.alternatives.items))

@@ -25,5 +25,6 @@ loop-number-preserved c =
           ∙ sym (rows-more f rows n (Some pair) within (sym w.in-Some-2.is ∙ c.in_ok-pair.ensures))
       | in_default-2 w ↦
           ap (λ v. v.items) w.grouped-is ∙ c.loop-number.invariant
-          ∙ sym (rows-more f rows n None within (sym w.in_default-2.is ∙ c.in_ok-pair.ensures) ∙ append-nil before)
+          ∙ sym (rows-more f rows n None within (sym w.in_default-2.is ∙ c.in_ok-pair.ensures)
+          ∙ append-nil before)
     ]

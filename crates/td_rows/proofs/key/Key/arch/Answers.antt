@@ -7,7 +7,12 @@ use Rattle.td_rows.proofs.KeyPlaces.{has_newline-parts, IsCharBoundary-behind}
 use Rattle.td_rows.proofs.key.Key.arch.Goals as goal
 
 pub range_from-requires : goal.range_from-requires
-range_from-requires c _ = IsCharBoundary-behind (string_bytes c.self.inside.text) _ c.self.inside.slash c.as_str.ensures.value c.as_str.utf8 c.self.invariant
+range_from-requires c _ =
+    IsCharBoundary-behind (string_bytes c.self.inside.text) _ c.self.inside.slash
+    c.as_str.ensures.value c.as_str.utf8 c.self.invariant
 
 pub returns-clause-one_line : goal.returns-clause-one_line
-returns-clause-one_line c = ap (λ (k : Key). has_newline k.arch) (sym c.self.view_is) ∙ (has_newline-parts (c.self.inside.slash + 1) (string_bytes c.self.inside.text) c.self.invariant.one_line).1
+returns-clause-one_line c =
+    ap (λ (k : Key). has_newline k.arch) (sym c.self.view_is)
+    ∙ (has_newline-parts (c.self.inside.slash + 1) (string_bytes c.self.inside.text)
+    c.self.invariant.one_line).1

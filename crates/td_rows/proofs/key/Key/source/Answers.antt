@@ -7,4 +7,7 @@ use Rattle.td_rows.proofs.KeyPlaces.{has_newline-parts}
 use Rattle.td_rows.proofs.key.Key.source.Goals as goal
 
 pub returns-clause-one_line : goal.returns-clause-one_line
-returns-clause-one_line c = ap (λ (k : Key). has_newline k.source) (sym c.self.view_is) ∙ (has_newline-parts c.self.inside.slash (string_bytes c.self.inside.text) c.self.invariant.one_line).0
+returns-clause-one_line c =
+    ap (λ (k : Key). has_newline k.source) (sym c.self.view_is)
+    ∙ (has_newline-parts c.self.inside.slash (string_bytes c.self.inside.text)
+    c.self.invariant.one_line).0

@@ -10,6 +10,10 @@ use Rattle.td_script.proofs.reports.TransitionReports.report.Goals as goal
 pub returns : goal.returns
 returns c =
     let x = c.args.self.now in
-    IfOk-weaker c.report.result (λ text. IsReport (contents_of x) (tracking_of x) c.rows.result.now (string_bytes text)) (λ text. string_bytes text ≡ report_by x (rows_of c.args.book.now.history))
-    (λ text is. report_once (contents_of x) (tracking_of x) (level_of x) (depth_of x) c.rows.result.now (string_bytes text) c.requires.leveled is ∙ ap (report_by x) c.rows.ensures.rows)
+    IfOk-weaker c.report.result
+    (λ text. IsReport (contents_of x) (tracking_of x) c.rows.result.now (string_bytes text))
+    (λ text. string_bytes text ≡ report_by x (rows_of c.args.book.now.history))
+    (λ text is. report_once (contents_of x) (tracking_of x) (level_of x)
+    (depth_of x) c.rows.result.now (string_bytes text) c.requires.leveled is
+    ∙ ap (report_by x) c.rows.ensures.rows)
     c.report.ensures

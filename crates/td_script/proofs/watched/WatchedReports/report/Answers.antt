@@ -13,8 +13,12 @@ use Rattle.td_script.proofs.watched.WatchedReports.report.Goals as goal
 pub returns : goal.returns
 returns c =
     let x = c.args.self.now.transition.now in
-    IfOk-weaker c.report_counted.result (λ text. IsReport (contents_of x) (tracking_of x) c.rows.result.now (string_bytes text)) (λ text. string_bytes text ≡ report_by x (rows_of c.args.book.now.history))
-    (λ text is. report_once (contents_of x) (tracking_of x) (level_of x) (depth_of x) c.rows.result.now (string_bytes text) c.requires.made.leveled is ∙ ap (report_by x) c.rows.ensures.rows)
+    IfOk-weaker c.report_counted.result
+    (λ text. IsReport (contents_of x) (tracking_of x) c.rows.result.now (string_bytes text))
+    (λ text. string_bytes text ≡ report_by x (rows_of c.args.book.now.history))
+    (λ text is. report_once (contents_of x) (tracking_of x) (level_of x)
+    (depth_of x) c.rows.result.now (string_bytes text) c.requires.made.leveled is
+    ∙ ap (report_by x) c.rows.ensures.rows)
     c.report_counted.ensures
 
 pub report_counted-requires-clause-counts : goal.report_counted-requires-clause-counts
@@ -24,4 +28,5 @@ report_counted-requires-clause-counts c =
     let rows = rows_of b.history in
     subst (λ t. AreCounts x t c.deref.result.now) (sym c.rows.ensures.rows)
     (subst (λ l. AreCounts x rows l) (sym c.deref.ensures.value)
-    (are-counts x b.history.opening rows b.fixed.watch c.in_ok-counts.counts.items (keys_of-rows_of b.history) c.requires.watch c.in_ok-counts.ensures))
+    (are-counts x b.history.opening rows b.fixed.watch c.in_ok-counts.counts.items
+    (keys_of-rows_of b.history) c.requires.watch c.in_ok-counts.ensures))

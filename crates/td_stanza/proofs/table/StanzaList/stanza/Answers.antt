@@ -8,11 +8,21 @@ use Rattle.td_stanza.proofs.table.StanzaList.stanza.Goals as goal
 pub invariant_of-result : goal.invariant_of-result
 invariant_of-result c = record {
   distinct =
-      stanza_distinct c.self.inside.fields.items c.self.inside.starts.items c.args.number (map shown c.in_ok-fields.fields.now) c.self.invariant
-      (sym (c.in_ok-fields.ensures ∙ ap (λ l. slice_get (pieces (map shown l) c.as_slice-2.result.now) c.args.number) c.as_slice.ensures.value ∙ ap (λ l. slice_get (pieces (map shown c.self.inside.fields.items) l) c.args.number) c.as_slice-2.ensures.value));
+      stanza_distinct c.self.inside.fields.items c.self.inside.starts.items c.args.number
+      (map shown c.in_ok-fields.fields.now) c.self.invariant
+      (sym (c.in_ok-fields.ensures
+      ∙ ap (λ l. slice_get (pieces (map shown l) c.as_slice-2.result.now) c.args.number)
+      c.as_slice.ensures.value
+      ∙ ap (λ l. slice_get (pieces (map shown c.self.inside.fields.items) l) c.args.number)
+      c.as_slice-2.ensures.value));
 }
 
 pub returns-clause-distinct : goal.returns-clause-distinct
 returns-clause-distinct c =
-    stanza_distinct c.self.inside.fields.items c.self.inside.starts.items c.args.number (map shown c.in_ok-fields.fields.now) c.self.invariant
-    (sym (c.in_ok-fields.ensures ∙ ap (λ l. slice_get (pieces (map shown l) c.as_slice-2.result.now) c.args.number) c.as_slice.ensures.value ∙ ap (λ l. slice_get (pieces (map shown c.self.inside.fields.items) l) c.args.number) c.as_slice-2.ensures.value))
+    stanza_distinct c.self.inside.fields.items c.self.inside.starts.items c.args.number
+    (map shown c.in_ok-fields.fields.now) c.self.invariant
+    (sym (c.in_ok-fields.ensures
+    ∙ ap (λ l. slice_get (pieces (map shown l) c.as_slice-2.result.now) c.args.number)
+    c.as_slice.ensures.value
+    ∙ ap (λ l. slice_get (pieces (map shown c.self.inside.fields.items) l) c.args.number)
+    c.as_slice-2.ensures.value))

@@ -16,8 +16,12 @@ pub returns-in_default-clause-ok : goal.returns-in_default-clause-ok
 returns-in_default-clause-ok c =
     let s = c.self.inside in
     sym (
-    ap (λ (v : SupplyView). arrived v c.args.source.now c.args.arch.now c.args.number) (sym c.self.view_is)
-    ∙ ap (λ (l : List Item). record { table = table s.archs; sources = sources_of s.sources.entries; items = l }) (arrived-nowhere (table s.archs) c.args.source.now c.args.arch.now c.args.number (sym c.index.ensures ∙ c.in_default.is) (map item s.items.items))
+    ap (λ (v : SupplyView). arrived v c.args.source.now c.args.arch.now c.args.number)
+    (sym c.self.view_is)
+    ∙ ap (λ (l : List Item).
+    record { table = table s.archs; sources = sources_of s.sources.entries; items = l })
+    (arrived-nowhere (table s.archs) c.args.source.now c.args.arch.now c.args.number
+    (sym c.index.ensures ∙ c.in_default.is) (map item s.items.items))
     ∙ c.self.view_is
     )
 
@@ -30,22 +34,31 @@ after c =
     let s = c.self.inside in
     let xs = s.items.items in
     let make = λ (x : Stocked). rebuild_there c.in-Some.place c.args.number (item x).offer in
-    let found : place_of (table s.archs) c.args.arch.now ≡ Some c.in-Some.place = sym c.index.ensures ∙ c.in-Some.is in
+    let found : place_of (table s.archs) c.args.arch.now ≡ Some c.in-Some.place =
+    sym c.index.ensures ∙ c.in-Some.is in
     c.put_each.ensures
     ∙ ap (λ (l : List (ℕ × Parts)). put_all l (map item xs))
     (c.in_ok-made.ensures
     ∙ ap (λ (l : List Stocked). made_of make l c.of-numbers.result.now) c.as_slice.ensures.value
     ∙ ap (made_of make xs) (c.of-numbers.ensures ∙ c.self.invariant.1 c.args.source.now))
-    ∙ put-arrived (table s.archs) c.args.source.now c.args.arch.now c.args.number c.in-Some.place found xs
+    ∙ put-arrived (table s.archs) c.args.source.now c.args.arch.now c.args.number c.in-Some.place
+    found xs
 
 pub invariant_of-self : goal.invariant_of-self
 invariant_of-self c =
     let s = c.self.inside in
-    let kept = λ (test : Supplied → Bool). arrival-places test (table s.archs) c.args.source.now c.args.arch.now c.args.number s.items.items c.put_each.new.items.items (after c) in
-    (λ q. c.self.invariant.0 q ∙ kept (λ o. bytes_eq q o.name), λ q. c.self.invariant.1 q ∙ kept (is_of q), c.self.invariant.2)
+    let kept = λ (test : Supplied → Bool).
+    arrival-places test (table s.archs) c.args.source.now c.args.arch.now c.args.number
+    s.items.items c.put_each.new.items.items (after c) in (
+      λ q. c.self.invariant.0 q ∙ kept (λ o. bytes_eq q o.name),
+      λ q. c.self.invariant.1 q ∙ kept (is_of q),
+      c.self.invariant.2,
+    )
 
 pub returns-clause-ok : goal.returns-clause-ok
 returns-clause-ok c =
     let s = c.self.inside in
-    ap (λ (l : List Item). record { table = table s.archs; sources = sources_of s.sources.entries; items = l }) (after c)
-    ∙ ap (λ (v : SupplyView). arrived v c.args.source.now c.args.arch.now c.args.number) c.self.view_is
+    ap (λ (l : List Item).
+    record { table = table s.archs; sources = sources_of s.sources.entries; items = l }) (after c)
+    ∙ ap (λ (v : SupplyView). arrived v c.args.source.now c.args.arch.now c.args.number)
+    c.self.view_is

@@ -14,5 +14,6 @@ returns-clause-text c =
 
 pub returns-clause-reads : goal.returns-clause-reads
 returns-clause-reads c =
-    subst (λ (o : Option (Bor (List ℕ))). IfSome o (λ v. IsVersionText v.now)) (sym (c.copied.ensures ∙ c.get.ensures.value))
+    subst (λ (o : Option (Bor (List ℕ))). IfSome o (λ v. IsVersionText v.now))
+    (sym (c.copied.ensures ∙ c.get.ensures.value))
     (version_has IsVersionText c.args.source.now c.self.inside.sources.entries c.self.invariant.2)

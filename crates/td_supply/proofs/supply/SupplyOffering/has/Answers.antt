@@ -15,10 +15,12 @@ pub returns : goal.returns
 returns c =
     let name = c.args.name.now in
     let xs = c.self.inside.items.items in
-    let test = λ (o : Offered). suits c.args.place (option_map restriction_of c.args.restriction.now) o in
+    let test =
+    λ (o : Offered). suits c.args.place (option_map restriction_of c.args.restriction.now) o in
     let asked = λ (s : Stocked). test (offered_now (item s)) in
     c.some_suits.ensures
-    ∙ ap (λ (l : List Stocked). list_any (λ (k : ℕ). passes_at asked l k) c.of.result.now) c.as_slice.ensures.value
+    ∙ ap (λ (l : List Stocked). list_any (λ (k : ℕ). passes_at asked l k) c.of.result.now)
+    c.as_slice.ensures.value
     ∙ ap (list_any (λ (k : ℕ). passes_at asked xs k)) (c.of.ensures ∙ c.self.invariant.0 name)
     ∙ any-places (is_under name) asked xs xs 0 refl
     ∙ any-seen (is_named name) test item offered_now xs

@@ -2,11 +2,20 @@ use Rattle.td_tool.proofs.ending.Ending.tell.Goals as goal
 
 pub returns-in-CannotRead-clause-whole : goal.returns-in-CannotRead-clause-whole
 returns-in-CannotRead-clause-whole g c =
-    rw (c.in-CannotRead.is, ← c.label-in-CannotRead.ensures, ← c.as_bytes-in-CannotRead.ensures.value) c.write_line-in-CannotRead.ensures.whole
+    rw (
+      c.in-CannotRead.is,
+      ← c.label-in-CannotRead.ensures,
+      ← c.as_bytes-in-CannotRead.ensures.value,
+    ) c.write_line-in-CannotRead.ensures.whole
 
 pub returns-in-CannotRead-clause-prefix : goal.returns-in-CannotRead-clause-prefix
 returns-in-CannotRead-clause-prefix g c =
-    rw (c.in-CannotRead.is, ← c.label-in-CannotRead.ensures, ← c.as_bytes-in-CannotRead.ensures.value) c.write_line-in-CannotRead.ensures.prefix
+    rw (
+      c.in-CannotRead.is,
+      ← c.label-in-CannotRead.ensures,
+      ← c.as_bytes-in-CannotRead.ensures.value,
+    ) c.write_line-in-CannotRead.ensures.prefix
 
 pub returns-in-CannotWrite-clause-whole : goal.returns-in-CannotWrite-clause-whole
-returns-in-CannotWrite-clause-whole g c = rw c.in-CannotWrite.is c.write_line-in-CannotWrite.ensures.whole
+returns-in-CannotWrite-clause-whole g c =
+    rw c.in-CannotWrite.is c.write_line-in-CannotWrite.ensures.whole
