@@ -6,6 +6,7 @@ pub mod Refusing
 pub mod Suiting
 pub mod Hands
 pub mod Worlds
+pub mod WorldSteps
 pub mod Promises
 pub mod Staying
 pub mod Running

@@ -42,8 +42,8 @@ use Rattle.td_core.specs.Promises.{HandsFollow, builder_in, BuildersAreThere, En
 use Rattle.td_core.specs.Promises.{UndoneAtOnce, StandingCommand, BlockedExactly, UndoneElse}
 use Rattle.td_core.proofs.Phases.{hand_of-within}
 use Rattle.td_core.proofs.Refusing.{commits}
-use Rattle.td_core.proofs.Worlds.{IsWorld-open, IsWorld-after, answer_to-refused}
-use Rattle.td_core.proofs.Worlds.{answer_to-accepted, after-accepted}
+use Rattle.td_core.proofs.WorldSteps.{IsWorld-open, IsWorld-after, answer_to-refused}
+use Rattle.td_core.proofs.WorldSteps.{answer_to-accepted, after-accepted}
 
 IsWorld-after_all : (w : WorldView) (steps : List Step) → IsWorld w → IsWorld (after_all w steps)
 IsWorld-after_all w [] i = i

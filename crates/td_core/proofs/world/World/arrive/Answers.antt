@@ -5,7 +5,7 @@ use Rattle.td_rows.specs.Meaning.{applies}
 use Rattle.td_rows.specs.Table.{Table, row_of}
 use Rattle.td_core.specs.History.{rows_of}
 use Rattle.td_core.specs.Worlds.{WorldView, IsWorld}
-use Rattle.td_core.proofs.Worlds.{IsWorld-arrived}
+use Rattle.td_core.proofs.WorldSteps.{IsWorld-arrived}
 use Rattle.td_core.proofs.world.World.arrive.Goals as goal
 
 pub invariant_of-self-2 : goal.invariant_of-self-2

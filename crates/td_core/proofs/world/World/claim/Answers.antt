@@ -3,7 +3,7 @@ use Rattle.std.proofs.Common.{◌≡◌, None, sym, subst, ◌∙◌}
 use Rattle.td_core.specs.declared.step.Step.TheVariants.{Claim}
 use Rattle.td_core.specs.Worlds.{WorldView, IsWorld}
 use Rattle.td_core.specs.Steps.{refusal}
-use Rattle.td_core.proofs.Worlds.{IsWorld-accepted}
+use Rattle.td_core.proofs.WorldSteps.{IsWorld-accepted}
 use Rattle.td_core.proofs.world.World.claim.Goals as goal
 
 pub invariant_of-self : goal.invariant_of-self

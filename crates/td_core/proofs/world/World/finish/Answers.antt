@@ -9,7 +9,7 @@ use Rattle.td_core.specs.declared.step.Step.TheVariants.{Finish}
 use Rattle.td_core.specs.Worlds.{WorldView, held_in, hand_of, IsWorld}
 use Rattle.td_core.specs.Steps.{refusal}
 use Rattle.td_core.proofs.Phases.{slice_get-hand_of, set-set}
-use Rattle.td_core.proofs.Worlds.{finishes, after-finish, IsWorld-finished}
+use Rattle.td_core.proofs.WorldSteps.{finishes, after-finish, IsWorld-finished}
 use Rattle.td_core.proofs.world.World.finish.Goals as goal
 use Rattle.td_core.proofs.world.World.finish.Goals.{in-Some-take_held}
 use Rattle.td_core.proofs.world.World.finish.Goals.{in_default-take_held+in-Waits-1}

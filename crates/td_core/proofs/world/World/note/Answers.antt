@@ -7,7 +7,7 @@ use Rattle.td_change.specs.Saved.{number_of}
 use Rattle.td_core.specs.declared.step.Phase.TheVariants.{Held, Noted}
 use Rattle.td_core.specs.History.{History, rows_of, with_entry}
 use Rattle.td_core.specs.Worlds.{WorldView, phase_of, IsWorld}
-use Rattle.td_core.proofs.Worlds.{IsWorld-noted}
+use Rattle.td_core.proofs.WorldSteps.{IsWorld-noted}
 use Rattle.td_core.proofs.world.World.note.Goals as goal
 
 pub append-requires : goal.append-requires

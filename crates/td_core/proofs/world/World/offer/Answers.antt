@@ -4,7 +4,7 @@ use Rattle.td_core.specs.declared.step.Phase.{Phase}
 use Rattle.td_core.specs.declared.step.Step.TheVariants.{Offer}
 use Rattle.td_core.specs.Worlds.{WorldView, IsWorld}
 use Rattle.td_core.specs.Steps.{refusal}
-use Rattle.td_core.proofs.Worlds.{IsWorld-accepted}
+use Rattle.td_core.proofs.WorldSteps.{IsWorld-accepted}
 use Rattle.td_core.proofs.world.World.offer.Goals as goal
 
 pub invariant_of-self : goal.invariant_of-self

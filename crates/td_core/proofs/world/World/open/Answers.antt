@@ -3,7 +3,7 @@ use Rattle.std.proofs.Common.{replicate, ap, sym, subst, ◌∙◌}
 use Rattle.td_core.specs.declared.step.Phase.TheVariants.{Closed}
 use Rattle.td_supply.specs.Supply.{stock_of}
 use Rattle.td_core.specs.Worlds.{WorldView, IsWorld}
-use Rattle.td_core.proofs.Worlds.{IsWorld-open}
+use Rattle.td_core.proofs.WorldSteps.{IsWorld-open}
 use Rattle.td_core.proofs.world.World.open.Goals as goal
 
 pub invariant_of-result : goal.invariant_of-result

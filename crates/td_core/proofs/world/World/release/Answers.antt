@@ -4,7 +4,7 @@ use Rattle.td_core.specs.declared.step.Hand.{Hand}
 use Rattle.td_core.specs.declared.step.Step.TheVariants.{Release}
 use Rattle.td_core.specs.Worlds.{WorldView, IsWorld}
 use Rattle.td_core.specs.Steps.{refusal}
-use Rattle.td_core.proofs.Worlds.{IsWorld-accepted}
+use Rattle.td_core.proofs.WorldSteps.{IsWorld-accepted}
 use Rattle.td_core.proofs.world.World.release.Goals as goal
 
 pub invariant_of-self : goal.invariant_of-self

@@ -7,7 +7,7 @@ use Rattle.td_change.specs.Saved.{number_of}
 use Rattle.td_core.specs.declared.step.Phase.TheVariants.{Closed, Done}
 use Rattle.td_core.specs.History.{History, rows_of, with_entry}
 use Rattle.td_core.specs.Worlds.{WorldView, phase_of, IsWorld}
-use Rattle.td_core.proofs.Worlds.{IsWorld-settled}
+use Rattle.td_core.proofs.WorldSteps.{IsWorld-settled}
 use Rattle.td_core.proofs.world.World.settle.Goals as goal
 
 pub append-requires : goal.append-requires

@@ -7,7 +7,7 @@ use Rattle.td_rows.specs.Table.{AppliesOn}
 use Rattle.td_core.specs.History.{rows_of, with_entry}
 use Rattle.td_core.specs.Worlds.{WorldView, IsWorld}
 use Rattle.td_core.specs.Steps.{swept_now}
-use Rattle.td_core.proofs.Worlds.{IsWorld-swept, AppliesOn-swept_now, rising-swept_now}
+use Rattle.td_core.proofs.WorldSteps.{IsWorld-swept, AppliesOn-swept_now, rising-swept_now}
 use Rattle.td_core.proofs.world.World.sweep.Goals as goal
 
 pub new-keys-requires-clause-rising : goal.new-keys-requires-clause-rising
