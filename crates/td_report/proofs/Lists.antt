@@ -1,13 +1,16 @@
 -- Lists of rows, of which one gets a row more.
 use Rattle.std.proofs.Common.{◌≡◌, ◌<◌, ◌+◌, ◌-◌, ◌==◌, ℕ, false, List, [], ◌∷◌, ◌++◌, length, sym}
 use Rattle.std.proofs.Common.{ap, ◌∙◌, inl, inr, arith, if◌then◌else◌, get_or, set, map}
-use Rattle.std.proofs.Common.{get_or-set_other}
+use Rattle.std.proofs.Common.{get_or-set_other, Option, Some, slice_get}
 use Rattle.std.specs.Global.{Vec}
+use Rattle.std.specs.List.{count_by}
 use Rattle.std.proofs.lemmas.Bool.Decides.{eqb_tells}
 use Rattle.std.proofs.lemmas.Grind.{get_or-set_at}
 use Rattle.std.proofs.lemmas.List.{map-set, get_or-map, length-map, append-nil}
+use Rattle.std.proofs.lemmas.Option.{get_or_from_slice_get}
 use Rattle.td_report.specs.declared.item.Item.{Item}
 use Rattle.td_report.specs.Grouped.{list_at}
+use Rattle.td_report.specs.ItemLines.{is_installed}
 
 pub list_at-push : (vs : List (Vec Item)) (b : ℕ) (x : Item) (old new : Vec Item) → b < length vs
     → old ≡ get_or vs b old → new.items ≡ old.items ++ x ∷ []
@@ -54,3 +57,11 @@ pub read-list : (lists : List (Vec Item)) (n : ℕ) (v : Vec Item) (now : List I
     → n < length lists → v ≡ get_or lists n v → now ≡ v.items → now ≡ list_at lists n
 read-list lists n v now lt is e = e ∙ ap (λ (v : Vec Item). v.items) is
     ∙ sym (get_or-map (λ (v : Vec Item). v.items) lists n v [] lt)
+
+-- a count that is kept of some rows is that of the list that has them
+pub count-read : (counts : List ℕ) (n : ℕ) (items mine : List Item)
+    → slice_get counts n ≡ Some (count_by is_installed items) → mine ≡ items
+    → get_or counts n 0 ≡ count_by is_installed mine
+count-read counts n items mine kept same =
+    get_or_from_slice_get counts n (count_by is_installed items) 0 kept
+    ∙ ap (count_by is_installed) (sym same)

@@ -1,12 +1,50 @@
 -- `put_counted_blocks`: what it answers and its loop.
 use Rattle.std.proofs.Common.{◌≡◌, ◌<◌, ◌+◌, ◌++◌, ◌∙◌, ap, length, string_bytes, arith}
+use Rattle.std.proofs.lemmas.Option.{slice_get_within}
 use Rattle.std.proofs.lemmas.Result.{on_ok_weaker}
 use Rattle.td_text.specs.Lines.{text_of}
 use Rattle.td_waves.specs.declared.level.Level.TheVariants.{At, Cyclic}
 use Rattle.td_report.specs.ItemLines.{block_at, block_of}
-use Rattle.td_report.proofs.Lists.{read-list}
+use Rattle.td_report.proofs.Lists.{count-read, read-list}
 use Rattle.td_report.proofs.Texts.{put-more, put-last}
 use Rattle.td_report.proofs.counted.put_counted_blocks.Goals as goal
+
+pub bounds-counts-number : goal.bounds-counts-number
+bounds-counts-number c =
+    let n = c.loop-number.number in
+    let among : n < c.args.depth =
+    omega (
+      arith,
+      c.loop-number-test.true,
+      c.len-number-end.ensures,
+      c.in_ok-grouped.grouped.levels.ok.0,
+      c.in_ok-grouped.ensures.len,
+    ) in
+    slice_get_within c.args.counts.now n _ (c.requires.of_level n among)
+
+pub bounds-counts-depth : goal.bounds-counts-depth
+bounds-counts-depth c = slice_get_within c.args.counts.now c.args.depth _ c.requires.of_cyclic
+
+pub put_counted_block-requires : goal.put_counted_block-requires
+put_counted_block-requires c =
+    let lists = c.in_ok-grouped.grouped.levels.items in
+    let n = c.loop-number.number in
+    let within : n < length lists =
+    omega (
+      arith,
+      c.loop-number-test.true,
+      c.len-number-end.ensures,
+      c.in_ok-grouped.grouped.levels.ok.0,
+    ) in
+    let among : n < c.args.depth = omega (arith, within, c.in_ok-grouped.ensures.len) in
+    let mine = read-list lists n c.index-mine.result.now c.deref.result.now within
+    c.index-mine.ensures c.deref.ensures.value ∙ c.in_ok-grouped.ensures.levels n among in
+    count-read c.args.counts.now n _ c.deref.result.now (c.requires.of_level n among) mine
+
+pub put_counted_block-requires-2 : goal.put_counted_block-requires-2
+put_counted_block-requires-2 c =
+    let mine = c.deref-2.ensures.value ∙ c.in_ok-grouped.ensures.cyclic in
+    count-read c.args.counts.now c.args.depth _ c.deref-2.result.now c.requires.of_cyclic mine
 
 pub loop-number-preserved : goal.loop-number-preserved
 loop-number-preserved c =
