@@ -25,3 +25,6 @@ pub mod OpeningCounts
 pub mod PackageStanzas
 pub mod OfferLaws
 pub mod SourceStanzas
+pub mod IndexReading
+pub mod Pieces
+pub mod Cuts

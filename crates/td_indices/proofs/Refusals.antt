@@ -1,7 +1,7 @@
 -- Two texts have one fault, and none where they are an archive.
-use Rattle.std.proofs.Common.{◌≡◌, ◌≢◌, ◌⊎◌, ℕ, ◌<◌, ◌≤◌, true, false, List, Result, Ok, Err}
-use Rattle.std.proofs.Common.{nat_lt, if◌then◌else◌, refl, sym, ap, ◌∙◌, inl, inr, arith}
-use Rattle.std.specs.Prelude.{IfOk, IfErr}
+use Rattle.std.proofs.Common.{◌≡◌, ◌≢◌, ◌⊎◌, ℕ, ◌≤◌, true, false, List, Result, Ok, Err, nat_lt}
+use Rattle.std.proofs.Common.{if◌then◌else◌, refl, sym, ap, ◌∙◌, inl, inr, arith}
+use Rattle.std.specs.Prelude.{IfOk, IfErr, MatchResult}
 use Rattle.std.proofs.lemmas.Bool.{lt-ltb}
 use Rattle.td_text.specs.Lines.{on_ok}
 use Rattle.td_stanza.specs.Field.{Entry}
@@ -21,6 +21,7 @@ use Rattle.td_indices.specs.Archive.{Contents, FaultOf, HasTooManyRows, IsArchiv
 use Rattle.td_indices.specs.Archive.{IsStanzaFault}
 use Rattle.td_indices.specs.Reading.{binaries_at, sources_at}
 use Rattle.td_indices.specs.Rows.{row_count}
+use Rattle.td_indices.specs.Kept.{KeptBinary}
 use Rattle.td_indices.specs.Sources.{KeptSource}
 
 -- what becomes of the stanzas of both texts
@@ -155,3 +156,50 @@ module _ (table : List ArchWords) (pl sl : List (List ℕ)) where
   refused (Err TooManyRows) h k fault n f =
       inr (one TooManyRows fault (see TooManyRows (λ e. cc) k) (see fault n f))
   refused (Err NoMemory) h k fault n f = inl refl
+
+  -- ---- two texts are one archive
+
+  made : List ArchWords → List (List Entry) → List (List Entry) → List KeptBinary
+      → List KeptSource → Contents
+  made t ps ss bs ks =
+      record { table = t; packages = ps; source_stanzas = ss; binaries = bs; sources = ks }
+
+  ok_same : {A : Type 0} (x y : A) → ◌≡◌ {A = Result A ArchiveFault} (Ok x) (Ok y) → x ≡ y
+  ok_same x y e = cc
+
+  one_archive : (x a : Contents) → IsArchive table pl sl x → IsArchive table pl sl a → x ≡ a
+  unfolding made
+  one_archive x a h k =
+      let ps : x.packages ≡ a.packages =
+      stanzas_same x.packages a.packages pl h.package_stanzas k.package_stanzas in
+      let ss : x.source_stanzas ≡ a.source_stanzas =
+      stanzas_same x.source_stanzas a.source_stanzas sl h.source_stanzas k.source_stanzas in
+      let bs : x.binaries ≡ a.binaries = ok_same x.binaries a.binaries
+      (sym h.binaries ∙ ap (binaries_at table) ps ∙ k.binaries) in
+      let ks : x.sources ≡ a.sources = ok_same x.sources a.sources
+      (sym h.sources ∙ ap sources_at ss ∙ k.sources) in
+      ap (λ (t : List ArchWords). made t x.packages x.source_stanzas x.binaries x.sources)
+      (h.same_table ∙ sym k.same_table)
+      ∙ ap (λ (l : List (List Entry)). made a.table l x.source_stanzas x.binaries x.sources) ps
+      ∙ ap (λ (l : List (List Entry)). made a.table a.packages l x.binaries x.sources) ss
+      ∙ ap (λ (l : List KeptBinary). made a.table a.packages a.source_stanzas l x.sources) bs
+      ∙ ap (made a.table a.packages a.source_stanzas a.binaries) ks
+
+  -- where they are an archive, no fault is seen
+  fine : (a : Contents) → IsArchive table pl sl a → (e : ArchiveFault) → e ≢ NoMemory
+      → FaultOf table pl sl e → ⊥
+  fine a is e some h = no_fault a is e (see e some h)
+
+  pub read_only : (r : Result Contents ArchiveFault) → IfOk r (IsArchive table pl sl)
+      → IfErr r (FaultOf table pl sl) → (a : Contents) → IsArchive table pl sl a
+      → MatchResult r (λ x. x ≡ a) (λ e. e ≡ NoMemory)
+  read_only (Ok x) h k a is = one_archive x a h is
+  read_only (Err (Stanza file g)) h k a is = absurd (fine a is (Stanza file g) (λ e. cc) k)
+  read_only (Err (MissingField file number field)) h k a is =
+      absurd (fine a is (MissingField file number field) (λ e. cc) k)
+  read_only (Err (BadVersion file number)) h k a is =
+      absurd (fine a is (BadVersion file number) (λ e. cc) k)
+  read_only (Err (BadRelation file number)) h k a is =
+      absurd (fine a is (BadRelation file number) (λ e. cc) k)
+  read_only (Err TooManyRows) h k a is = absurd (fine a is TooManyRows (λ e. cc) k)
+  read_only (Err NoMemory) h k a is = refl

@@ -21,3 +21,4 @@ pub mod FirstFaults
 pub mod PackageStanzas
 pub mod OfferLaws
 pub mod SourceStanzas
+pub mod inner

@@ -1,22 +1,24 @@
 //! The archive: two indices that were read, and what is found in them.
 ghost use Rattle.td_rows.specs.Limits.{max_rows};
 
-use crate::archive_fault::{ArchiveFault, IndexFile};
+use crate::archive_fault::ArchiveFault;
 use crate::grouping::{group_binaries, those_on};
 use crate::groups::Groups;
+use crate::index_reading::{PackagesIndex, SourcesIndex, read_packages_index, read_sources_index};
 use crate::opening::opening_on;
 use crate::packaged::{Binary, PackageKey, Packaged};
 use crate::rows::{count_rows, has_row};
+use crate::side_by_side::read_indices;
 use crate::sourced::{Source, Sourced};
-use crate::stanza_list::read_stanzas;
-use crate::stanza_reading::{read_binaries, read_sources};
+use crate::stanza_pieces::StanzaPieces;
 use crate::supplying::stocked;
 use indexmap::IndexMap;
 use std::alloc::{AllocError, Global};
 use std::marker::Model;
+use std::thread::Threads;
 use td_relation::Archs;
 use td_rows::{Key, Row, Rows};
-use td_stanza::{Stanza, StanzaList};
+use td_stanza::Stanza;
 use td_supply::Supply;
 
 /// The binary packages and the sources that count, with the stanzas that they stand in. Contracts
@@ -24,8 +26,8 @@ use td_supply::Supply;
 #[derive(Drop)]
 pub struct Archive<'t, 'a> {
     pub(crate) archs: &'t Archs<'a>,
-    pub(crate) packages: StanzaList<'a>,
-    pub(crate) source_stanzas: StanzaList<'a>,
+    pub(crate) packages: StanzaPieces<'a>,
+    pub(crate) source_stanzas: StanzaPieces<'a>,
     pub(crate) binaries: IndexMap<PackageKey<'a>, Packaged<'a>>,
     pub(crate) sources: IndexMap<&'a str, Sourced<'a>>,
     pub(crate) groups: Groups<'a>,
@@ -71,6 +73,8 @@ impl<'t, 'a> Archive<'t, 'a> {
       ◌≤◌,
       ◌<◌,
       ◌&&◌,
+      ℕ,
+      List,
       true,
       false,
       IfOk,
@@ -102,6 +106,7 @@ impl<'t, 'a> Archive<'t, 'a> {
       binaries_on,
       source_named,
     };
+    ghost use Rattle.td_indices.specs.inner.IndexReading.{ArePackagesRead, AreSourcesRead};
     ghost use Rattle.td_indices.specs.Opening.{opening_row as opening_row_of};
     ghost use Rattle.td_indices.specs.OpeningRows.{
       IsVersionKnown,
@@ -144,10 +149,14 @@ impl<'t, 'a> Archive<'t, 'a> {
             → FaultOf (table archs.now) (lines_of packages.now) (lines_of sources.now) fault
             → IsRefusedFor fault result }
     {
-        Archive::read_parts(alloc, packages, sources, archs)
+        let packages = read_packages_index(alloc, archs, packages);
+        let sources = read_sources_index(alloc, sources);
+        Archive::assembled(alloc, archs, packages, sources)
     }
 
-    fn read_parts(
+    /// Reads them side by side, each in a thread: the same archive, or the same fault.
+    pub fn read_beside(
+        rt: &(impl Threads + Sync),
         alloc: Global,
         packages: &'a str,
         sources: &'a str,
@@ -160,21 +169,48 @@ impl<'t, 'a> Archive<'t, 'a> {
             → MatchResult result (λ archive. archive ≡ a) (λ e. e ≡ ArchiveFault.NoMemory) }
         ensures fault { IfErr result
             (FaultOf (table archs.now) (lines_of packages.now) (lines_of sources.now)) }
+        ensures refused { (fault : ArchiveFault) → fault ≢ ArchiveFault.NoMemory
+            → FaultOf (table archs.now) (lines_of packages.now) (lines_of sources.now) fault
+            → IsRefusedFor fault result }
     {
-        let packages = match read_stanzas(alloc, IndexFile::Packages, packages) {
-            Ok(list) => list,
+        let (packages, sources) = read_indices(rt, alloc, archs, packages, sources);
+        Archive::assembled(alloc, archs, packages, sources)
+    }
+
+    // The archive of the two indices, each as it was read by itself.
+    fn assembled(
+        alloc: Global,
+        archs: &'t Archs<'a>,
+        packages: Result<PackagesIndex<'a>, ArchiveFault>,
+        sources: Result<SourcesIndex<'a>, ArchiveFault>,
+    ) -> Result<Archive<'t, 'a>, ArchiveFault>
+        requires packages { (p : List (List ℕ)) × ArePackagesRead (table archs.now) p packages }
+        requires sources { (s : List (List ℕ)) × AreSourcesRead s sources }
+        ensures found { (p s : List (List ℕ)) → ArePackagesRead (table archs.now) p packages.entry
+            → AreSourcesRead s sources.entry → IfOk result (IsArchive (table archs.now) p s) }
+        ensures fault { (p s : List (List ℕ)) → ArePackagesRead (table archs.now) p packages.entry
+            → AreSourcesRead s sources.entry → IfErr result (FaultOf (table archs.now) p s) }
+    {
+        let PackagesIndex {
+            stanzas: packages,
+            kept: binaries,
+        } = match packages {
+            Ok(index) => index,
             Err(fault) => return Err(fault),
         };
-        let source_stanzas = match read_stanzas(alloc, IndexFile::Sources, sources) {
-            Ok(list) => list,
+        let SourcesIndex {
+            stanzas: source_stanzas,
+            kept: sources,
+        } = match sources {
+            Ok(index) => index,
             Err(fault) => return Err(fault),
         };
-        let binaries = match read_binaries(alloc, archs, &packages) {
-            Ok(binaries) => binaries,
+        let binaries = match binaries {
+            Ok(kept) => kept,
             Err(fault) => return Err(fault),
         };
-        let sources = match read_sources(alloc, &source_stanzas) {
-            Ok(sources) => sources,
+        let sources = match sources {
+            Ok(kept) => kept,
             Err(fault) => return Err(fault),
         };
         let rows = match count_rows(archs, &sources) {

@@ -2,7 +2,8 @@
 //! count, found by their names, the rows with which a desk opens over them, and what they put on
 //! offer.
 //!
-//! Start at `Archive::read`. Texts are slices of the two files; a look-up goes by hash.
+//! Start at `Archive::read`; `read_beside` gives the same, and reads the two files in threads.
+//! Texts are slices of the files; a look-up goes by hash.
 //! Promised: what is read is an archive as `specs/Archive.antt` says, else the first fault is
 //! named; a stanza is a package or a source exactly where `specs/PackageStanzas.antt` and
 //! `specs/SourceStanzas.antt` say so; of several stanzas of one source, or of one package and
@@ -15,23 +16,29 @@ mod archive;
 mod archive_fault;
 mod binary_keeping;
 mod binary_reading;
+mod cutting;
 mod field;
 mod grouping;
 mod groups;
+mod index_reading;
 mod laws;
 mod lookups;
 mod offered_names;
 mod opening;
 mod packaged;
+mod piece_reading;
 mod relation_field;
 mod rows;
+mod side_by_side;
 mod source_keeping;
 mod source_reading;
 mod sourced;
 mod stanza_list;
+mod stanza_pieces;
 mod stanza_reading;
 mod supplying;
 mod text;
+mod work;
 
 pub use archive::Archive;
 pub use archive_fault::{ArchiveFault, IndexField, IndexFile};

@@ -20,10 +20,11 @@ use crate::packaged::{PackageKey, Packaged};
 use crate::source_keeping::keep_source;
 use crate::source_reading::read_source;
 use crate::sourced::Sourced;
+use crate::stanza_pieces::StanzaPieces;
 use indexmap::IndexMap;
 use std::alloc::Global;
 use td_relation::Archs;
-use td_stanza::{Stanza, StanzaList};
+use td_stanza::Stanza;
 
 /// The fault of the stanza with this number, from 0.
 fn at_stanza(file: IndexFile, number: usize, fault: EntryFault) -> ArchiveFault
@@ -69,7 +70,7 @@ fn take_binary<'a>(
 pub fn read_binaries<'a>(
     alloc: Global,
     archs: &Archs<'_>,
-    stanzas: &StanzaList<'a>,
+    stanzas: &StanzaPieces<'a>,
 ) -> Result<IndexMap<PackageKey<'a>, Packaged<'a>>, ArchiveFault>
     ensures ok { IfOk result (λ kept.
         binaries_at (table archs.now) stanzas.now ≡ Ok (binaries_of kept.entries)) }
@@ -117,7 +118,7 @@ fn take_source<'a>(
 /// The sources that the stanzas of Sources keep.
 pub fn read_sources<'a>(
     alloc: Global,
-    stanzas: &StanzaList<'a>,
+    stanzas: &StanzaPieces<'a>,
 ) -> Result<IndexMap<&'a str, Sourced<'a>>, ArchiveFault>
     ensures ok { IfOk result (λ kept. sources_at stanzas.now ≡ Ok (sources_of kept.entries)) }
     ensures err { IfErr result (λ e. IsFaultOf (sources_at stanzas.now) e) }

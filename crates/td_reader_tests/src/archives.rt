@@ -1,6 +1,7 @@
 //! What no clause says: that calls succeed with ample memory, and what the definitions make of
 //! texts. Expected by hand from `docs/FORMATS.md`, deb-version(7) and Policy.
 mod answers;
+mod beside;
 
 use crate::statuses;
 use answers::are_answered;

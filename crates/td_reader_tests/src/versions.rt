@@ -184,7 +184,7 @@ fn the_first_fault_from_the_left_is_named(rt: HostRuntime) {
 fn a_rebuild_suffix_is_split_off_and_written(rt: HostRuntime) -> Result<(), Fail> {
     for (text, base, number) in [
         ("1.2-3+b4", "1.2-3", 4),
-        ("1.2+b9999", "1.2", MAX_REBUILD),
+        ("1.2-3+b9999", "1.2-3", MAX_REBUILD),
         ("1.2+b1+b2", "1.2+b1", 2),
         ("1.2", "1.2", 0),
     ] {

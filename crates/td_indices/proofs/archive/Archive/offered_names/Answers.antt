@@ -1,4 +1,4 @@
-use Rattle.std.proofs.Common.{◌≡◌, ℕ, List, [], Option, Some, option_map, slice_get, sym, ap, ◌∙◌}
+use Rattle.std.proofs.Common.{◌≡◌, [], Option, Some, option_map, slice_get, sym, ap, ◌∙◌}
 use Rattle.std.specs.Option.{option_map_or}
 use Rattle.td_rows.proofs.Lists.{slice_get-map}
 use Rattle.td_indices.specs.declared.packaged.PackageKey.{PackageKey}

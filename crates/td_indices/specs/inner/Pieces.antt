@@ -1,0 +1,15 @@
+-- A text that is read in two pieces, which are cut at an empty line. This project's own.
+use Rattle.std.specs.Prelude.{◌≡◌, ℕ, List, [], ◌∷◌, ◌++◌, Option, Some, None}
+use Rattle.td_text.specs.Lines.{lines_of}
+use Rattle.td_stanza.specs.Field.{Entry}
+use Rattle.td_stanza.specs.StanzaGrammar.{BeginsApart}
+
+-- the stanzas of a list that may be there
+abbrev pub list_of : Option (List (List Entry)) → List (List Entry)
+list_of None = []
+list_of (Some stanzas) = stanzas
+
+-- a text as what stands before a newline and behind it, where a separator follows the newline
+pub record IsCutApart (text before behind : List ℕ) : Type 0 where
+  pub parts : text ≡ before ++ 10 ∷ behind
+  pub apart : BeginsApart (lines_of behind)

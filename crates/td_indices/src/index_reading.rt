@@ -1,0 +1,118 @@
+//! Each of the two files read by itself: its stanzas, and what they keep.
+ghost use Rattle.std.specs.Prelude.{ℕ, List, IfOk, IfErr};
+ghost use Rattle.td_text.specs.Lines.{lines_of};
+ghost use Rattle.td_stanza.specs.StanzaGrammar.{AreStanzas};
+ghost use Rattle.td_relation.specs.TableView.{table};
+ghost use Rattle.td_indices.specs.Archive.{StanzaFaultOf};
+ghost use Rattle.td_indices.specs.declared.archive_fault.IndexFile.TheVariants.{Packages, Sources};
+ghost use Rattle.td_indices.specs.inner.IndexReading.{ArePackagesRead, AreSourcesRead};
+
+use crate::archive_fault::{ArchiveFault, IndexFile};
+use crate::packaged::{PackageKey, Packaged};
+use crate::piece_reading::read_stanzas_beside;
+use crate::sourced::Sourced;
+use crate::stanza_list::read_stanzas;
+use crate::stanza_pieces::StanzaPieces;
+use crate::stanza_reading::{read_binaries, read_sources};
+use indexmap::IndexMap;
+use std::alloc::Global;
+use std::thread::Threads;
+use td_relation::Archs;
+
+/// The stanzas of Packages, and the binary packages that they keep; or the first that can't be
+/// kept.
+#[derive(Drop)]
+pub struct PackagesIndex<'a> {
+    pub stanzas: StanzaPieces<'a>,
+    pub kept: Result<IndexMap<PackageKey<'a>, Packaged<'a>>, ArchiveFault>,
+}
+
+/// The stanzas of Sources, and the sources that they keep; or the first that can't be kept.
+#[derive(Drop)]
+pub struct SourcesIndex<'a> {
+    pub stanzas: StanzaPieces<'a>,
+    pub kept: Result<IndexMap<&'a str, Sourced<'a>>, ArchiveFault>,
+}
+
+/// What the stanzas of Packages keep, where it has some.
+fn keep_packages<'a>(
+    alloc: Global,
+    archs: &Archs<'_>,
+    read: Result<StanzaPieces<'a>, ArchiveFault>,
+) -> Result<PackagesIndex<'a>, ArchiveFault>
+    ensures { (lines : List (List ℕ)) → IfOk read.entry (λ list. AreStanzas list lines)
+        → IfErr read.entry (StanzaFaultOf Packages lines)
+        → ArePackagesRead (table archs.now) lines result }
+{
+    match read {
+        Ok(stanzas) => {
+            let kept = read_binaries(alloc, archs, &stanzas);
+            Ok(PackagesIndex { stanzas, kept })
+        }
+        Err(fault) => Err(fault),
+    }
+}
+
+/// What the stanzas of Sources keep, where it has some.
+fn keep_sources<'a>(
+    alloc: Global,
+    read: Result<StanzaPieces<'a>, ArchiveFault>,
+) -> Result<SourcesIndex<'a>, ArchiveFault>
+    ensures { (lines : List (List ℕ)) → IfOk read.entry (λ list. AreStanzas list lines)
+        → IfErr read.entry (StanzaFaultOf Sources lines)
+        → AreSourcesRead lines result }
+{
+    match read {
+        Ok(stanzas) => {
+            let kept = read_sources(alloc, &stanzas);
+            Ok(SourcesIndex { stanzas, kept })
+        }
+        Err(fault) => Err(fault),
+    }
+}
+
+/// Reads Packages, or tells the first fault of the text as a control file.
+pub fn read_packages_index<'a>(
+    alloc: Global,
+    archs: &Archs<'_>,
+    text: &'a str,
+) -> Result<PackagesIndex<'a>, ArchiveFault>
+    ensures { ArePackagesRead (table archs.now) (lines_of text.now) result }
+{
+    keep_packages(alloc, archs, read_stanzas(alloc, IndexFile::Packages, text))
+}
+
+/// Reads Sources, likewise.
+pub fn read_sources_index<'a>(
+    alloc: Global,
+    text: &'a str,
+) -> Result<SourcesIndex<'a>, ArchiveFault>
+    ensures { AreSourcesRead (lines_of text.now) result }
+{
+    keep_sources(alloc, read_stanzas(alloc, IndexFile::Sources, text))
+}
+
+/// Reads Packages, a long text in two pieces.
+pub fn read_packages_beside<'a, R: Threads + Sync>(
+    rt: &R,
+    alloc: Global,
+    archs: &Archs<'_>,
+    text: &'a str,
+) -> Result<PackagesIndex<'a>, ArchiveFault>
+    ensures { ArePackagesRead (table archs.now) (lines_of text.now) result }
+{
+    let read = read_stanzas_beside(rt, alloc, IndexFile::Packages, text);
+    keep_packages(alloc, archs, read)
+}
+
+/// Reads Sources, likewise.
+pub fn read_sources_beside<'a, R: Threads + Sync>(
+    rt: &R,
+    alloc: Global,
+    text: &'a str,
+) -> Result<SourcesIndex<'a>, ArchiveFault>
+    ensures { AreSourcesRead (lines_of text.now) result }
+{
+    let read = read_stanzas_beside(rt, alloc, IndexFile::Sources, text);
+    keep_sources(alloc, read)
+}
