@@ -1,7 +1,9 @@
 -- What the proofs of this crate share: a file a thing.
 pub mod Seeing
+pub mod AtRest
 pub mod Deeds
 pub mod Steps
+pub mod Withdrawals
 pub mod Arrivals
 pub mod Calls
 pub mod Builds

@@ -1,15 +1,15 @@
 -- The list of the rows on offer, as rows are offered and taken back.
 use Rattle.std.proofs.Common.{arith, ◌≡◌, ◌≢◌, ℕ, zero, suc, ◌+◌, ◌-◌, ◌<◌, ◌≤◌, ◌==◌, Bool, true}
-use Rattle.std.proofs.Common.{false, List, [], ◌∷◌, ◌++◌, length, filter, replicate, cond, get_or}
-use Rattle.std.proofs.Common.{set, length-set, true≢false, eq-eqb, ne_eqb, ⊎_elim, refl, ap, sym}
-use Rattle.std.proofs.Common.{subst, ◌∙◌}
+use Rattle.std.proofs.Common.{false, not, ◌||◌, List, [], ◌∷◌, ◌++◌, length, filter, replicate}
+use Rattle.std.proofs.Common.{cond, get_or, set, length-set, true≢false, eq-eqb, ne_eqb, ⊎_elim}
+use Rattle.std.proofs.Common.{refl, ap, sym, subst, ◌∙◌}
 use mathlib.Core.Option.{some, some-injective, some-ne-none}
 use lib.ListN.{get_elem?}
 use Rattle.std.specs.Prelude.{slice_index, MatchBool}
 use Rattle.std.specs.List.{Contains, range_with_len, swap_remove}
 use Rattle.std.specs.List.Sorted.{IsPermutation}
 use Rattle.std.proofs.lemmas.Bool.{cases_lt}
-use Rattle.std.proofs.lemmas.Bool.Decides.{eqb_tells}
+use Rattle.std.proofs.lemmas.Bool.Decides.{eqb_tells, nat_tests}
 use Rattle.std.proofs.lemmas.List.{get_or-set_other, get_or-set_same, get_or_append_left}
 use Rattle.std.proofs.lemmas.List.{get_or_default, get_or_push, length_push}
 use Rattle.std.proofs.lemmas.List.FromFn.{length-range_with_len}
@@ -28,9 +28,10 @@ use Rattle.td_rows.specs.declared.state.State.TheVariants.{Installed, DepWait, B
 use Rattle.td_rows.specs.declared.state.State.TheVariants.{BuildAttempted, Failed, NotForUs}
 use Rattle.td_rows.specs.States.{is_queued}
 use Rattle.td_rows.specs.Table.{Table}
-use Rattle.td_book.specs.Ready.{is_queued_no, queued_in}
+use Rattle.td_book.specs.Ready.{is_any_queued, is_queued_no, queued_in}
 use Rattle.td_book.specs.Seen.{known_as, seen_off}
-use Rattle.td_book.specs.inner.OutRows.{IsListed, is_out_no, is_out_view, outs_of, times_in}
+use Rattle.td_book.specs.inner.OutRows.{IsListed, is_any_out, is_out_no, is_out_view, outs_of}
+use Rattle.td_book.specs.inner.OutRows.{times_in}
 use Rattle.td_book.proofs.Seeing.{length-seen_off}
 use Rattle.td_book.proofs.Times.{permutation-times_in, place_in, times_in-at, times_in-filter}
 use Rattle.td_book.proofs.Times.{times_in-filter_above, times_in-push_other, times_in-push_same}
@@ -122,6 +123,36 @@ listed-all view outs places room h = permutation-times_in (outs_of view) outs (�
     (λ le. times_in-filter_above (is_out_no view) (length view) n le
     ∙ sym (h.once n ∙ ap once_if (is_out_no-beyond view n le)))
     (cases_lt n (length view)))
+
+is_any_out-none : (view : List RowView) → ((n : ℕ) → is_out_no view n ≡ false)
+    → is_any_out view ≡ false
+is_any_out-none [] none = refl
+is_any_out-none (x ∷ xs) none = (λ j. none zero j || is_any_out-none xs (λ n. none (suc n)) j)
+
+is_any_out-at : (view : List RowView) (n : ℕ) → is_out_no view n ≡ true → is_any_out view ≡ true
+is_any_out-at [] n e = absurd (true≢false (sym e))
+is_any_out-at (x ∷ xs) zero e = ap (λ b. b || is_any_out xs) e
+is_any_out-at (x ∷ xs) (suc n) e =
+    ap (λ b. is_out_view x || b) (is_any_out-at xs n e) ∙ or_true (is_out_view x)
+  where
+    or_true : (b : Bool) → (b || true) ≡ true
+    or_true true = refl
+    or_true false = refl
+
+-- whether the list has any
+pub listed-any : (view : List RowView) (outs places : List ℕ) (room : ℕ)
+    → IsListed view outs places room → not (length outs == 0) ≡ is_any_out view
+listed-any view [] places room h =
+    sym (is_any_out-none view (λ n. none_if (is_out_no view n) (h.once n)))
+  where
+    none_if : (b : Bool) → ◌≡◌ {A = ℕ} 0 (cond b 1 0) → b ≡ false
+    none_if true e = absurd (omega (arith, e))
+    none_if false e = refl
+listed-any view (x ∷ xs) places room h =
+    let least : 1 ≤ times_in (x ∷ xs) x = times_in-at (x ∷ xs) 0 x (omega arith) in
+    let is : times_in (x ∷ xs) x ≡ cond (is_out_no view x) 1 0 = h.once x in
+    let some : (length (x ∷ xs) == 0) ≡ false = grind (arith, nat_tests) in
+    ap not some ∙ sym (is_any_out-at view x (once_true (is_out_no view x) (omega arith)))
 
 few_outs : (view : List RowView) → length (outs_of view) ≤ length view
 few_outs view =
@@ -337,3 +368,8 @@ is_out_no-rest (p ∷ t) (suc i) = is_out_no-rest t i
 -- the rows on offer are those that need a build
 pub outs_of-rest : (t : Table) → outs_of (seen_off [] t) ≡ queued_in t
 outs_of-rest t = λ j. filter (λ i. is_out_no-rest t i j) (range_with_len 0 (length-seen_off [] t j))
+
+-- whether any row is on offer is whether any needs a build
+pub is_any_out-rest : (t : Table) → is_any_out (seen_off [] t) ≡ is_any_queued t
+is_any_out-rest [] = refl
+is_any_out-rest (p ∷ t) = (λ j. known_queued p.1.state j || is_any_out-rest t j)

@@ -2,6 +2,7 @@
 pub mod Seen
 pub mod Deeds
 pub mod Desk
+pub mod AtRest
 pub mod Naming
 pub mod Skips
 pub mod Calls

@@ -1,6 +1,6 @@
 -- The rows that wait for a builder, and their order. This project's own.
 use Rattle.std.specs.Prelude.{ℕ, ℤ, pos, Bool, false, List, Some, None, filter, length, slice_get}
-use Rattle.std.specs.List.{range_with_len}
+use Rattle.std.specs.List.{list_any, range_with_len}
 use Rattle.std.specs.List.Sorted.{IsPermutation, IsSortedBy}
 use Rattle.std.specs.Ordering.{is_lt, int_cmp, nat_cmp, ordering_then}
 use Rattle.td_rows.specs.States.{is_queued}
@@ -9,6 +9,10 @@ use Rattle.td_rows.specs.Table.{Table}
 -- whether the row with a number needs a build
 abbrev pub is_queued_no : Table → ℕ → Bool
 is_queued_no t i = elim (slice_get t i) [ Some p ↦ is_queued p.1.state | None ↦ false ]
+
+-- whether any row needs a build
+abbrev pub is_any_queued : Table → Bool
+is_any_queued t = list_any (λ p. is_queued p.1.state) t
 
 -- the numbers of the rows that need a build, from the first
 abbrev pub queued_in : Table → List ℕ

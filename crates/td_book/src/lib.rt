@@ -6,8 +6,10 @@
 //! `watching` how many rows of a group are Installed. `inner` withdraws rows from the board and
 //! offers them, and says what the desk knows of each row meanwhile.
 //! Promised: at rest a row is offered exactly where it needs a build, and known to be a builder's
-//! exactly where it is Building by it; a claim that a builder has won is noted and never invented;
-//! a refused call changes nothing but for such claims; each call says the history that it leaves.
+//! exactly where it is Building by it (`Book::seat`); a claim is noted where the desk comes upon a
+//! row that a builder has won, and none is invented; a refused call leaves the book but for such
+//! claims, and a refused finish may leave the builder's own hand finished; each call says the
+//! history that it leaves.
 #![tactic(auto)]
 
 mod arriving;

@@ -9,7 +9,7 @@ ghost use Rattle.td_board.specs.Limits.{max_rows};
 ghost use Rattle.td_board.specs.Seats.{rows_of};
 ghost use Rattle.td_board.specs.Knowledge.{with_row, with_deed, holder_at};
 ghost use Rattle.td_board.specs.Answers.{Withdraws};
-ghost use Rattle.td_book.specs.inner.OutRows.{is_out_no, outs_of};
+ghost use Rattle.td_book.specs.inner.OutRows.{is_out_no, is_any_out as is_any_out_in, outs_of};
 
 use std::alloc::{AllocError, Global};
 use std::marker::Model;
@@ -60,6 +60,20 @@ impl Offers {
         ensures bound { result ≤ max_rows }
     {
         self.seat.rows()
+    }
+
+    /// The seat.
+    pub fn seat(&self) -> &DeskSeat
+        ensures { result.now ≡ self.now }
+    {
+        &self.seat
+    }
+
+    /// Whether any row is on offer.
+    pub fn is_any_out(&self) -> bool
+        ensures { result ≡ is_any_out_in self.now.desk.rows }
+    {
+        !self.outs.is_empty()
     }
 
     /// The numbers of the rows on offer, in no order.

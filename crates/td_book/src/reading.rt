@@ -6,8 +6,10 @@ ghost use Rattle.td_journal.specs.Entries.{entry_at, standing};
 ghost use Rattle.td_journal.specs.Replay.{Lawful};
 ghost use Rattle.td_core.specs.History.{rows_of};
 ghost use Rattle.td_core.specs.Offers.{supply_now};
+ghost use Rattle.td_book.specs.AtRest.{IsAtRest};
 
 use crate::book::Book;
+use td_board::DeskSeat;
 use td_journal::{EntryNo, Journal, Marked};
 use td_rows::{Key, Row, Rows};
 use td_supply::Supply;
@@ -41,6 +43,15 @@ impl<'a> Book<'a> {
     {
         self.inner.books.journal()
     }
+
+    /// The desk's seat at the board: what it knows of each row, and what it has noted of each
+    /// builder.
+    pub fn seat(&self) -> &DeskSeat
+        ensures { IsAtRest result.now self.now }
+    {
+        self.inner.seat()
+    }
+
     /// What is on offer: what the index offers, with the builds that have arrived.
     pub fn supply(&self) -> &Supply<'a>
         ensures { result.now ≡ supply_now self.now.fixed.stock self.now.history }

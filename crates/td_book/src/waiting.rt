@@ -2,7 +2,8 @@
 ghost use Rattle.std.specs.Prelude.{◌≡◌, IfOk};
 ghost use Rattle.std.specs.List.Sorted.{IsPermutation, IsSortedBy};
 ghost use Rattle.td_core.specs.History.{rows_of};
-ghost use Rattle.td_book.specs.Ready.{IsReady, is_before, priority_of as priority_in};
+ghost use Rattle.td_book.specs.Ready.{IsReady, is_any_queued, is_before};
+ghost use Rattle.td_book.specs.Ready.{priority_of as priority_in};
 
 use crate::book::Book;
 use std::alloc::{AllocError, Global};
@@ -28,6 +29,13 @@ fn sort(rows: &Rows, numbers: &mut Vec<usize>)
 }
 
 impl<'a> Book<'a> {
+    /// Whether any row waits for a builder. No row is looked at.
+    pub fn waits(&self) -> bool
+        ensures { result ≡ is_any_queued (rows_of self.now.history) }
+    {
+        self.inner.desk.is_any_out()
+    }
+
     /// The numbers of the rows that wait for a builder: greater priority first, then by key. No
     /// other row is looked at.
     pub fn ready(&self) -> Result<Vec<usize>, AllocError>

@@ -204,19 +204,29 @@ fn a_claim_that_a_builder_has_won_blocks_an_undo(rt: HostRuntime) -> Result<(), 
 
 const NEEDS_BUILD: &str = "foo/amd64 Needs-Build 0 1\n";
 
+const NEEDS_FIRST_BUILD: &str = "foo/amd64 Needs-Build 0 0\n";
+
 const WAITS: &str = "\
 start 1 => NothingHeld
-nmu foo . amd64 . -m x --extra-depends libxx => entry 1
+nmu foo . amd64 => entry 1
 claim 1 foo/amd64 => true
-start 1 => foo/amd64 1.2-3+b1 1 (libxx)
+start 1 => foo/amd64 1.2-3+b1 1 ()
 entry 2 => 2 + claim=1 foo/amd64
-start 1 => foo/amd64 1.2-3+b1 1 (libxx)
+start 1 => foo/amd64 1.2-3+b1 1 ()
 finish 1 waits libbar-dev (>= 3) => Ok(3)
-row foo/amd64 => foo/amd64 Dep-Wait 0 1 ;5 libxx : libbar-dev (>= 3)
+row foo/amd64 => foo/amd64 Dep-Wait 0 1 : libbar-dev (>= 3)
 finish 1 waits libbar-dev (>= 3) => Err(NothingHeld)
 start 1 => NothingHeld
 ready => Ok([])
 release => true
+";
+
+const WAITS_WITH_EXTRA: &str = "\
+nmu foo . amd64 . -m x --extra-depends libxx => entry 1
+claim 1 foo/amd64 => true
+start 1 => foo/amd64 1.2-3+b1 1 (libxx)
+finish 1 waits libbar-dev (>= 3) => Ok(3)
+row foo/amd64 => foo/amd64 Dep-Wait 0 1 ;5 libxx : libbar-dev (>= 3)
 ";
 
 const NOTED_BY_A_COMMAND: &str = "\
@@ -254,12 +264,20 @@ fn a_build_goes_from_its_claim_to_its_outcome(rt: HostRuntime) -> Result<(), Fai
             INSTALLED,
             WAITS,
             "transdesk journal 2\n\
+             1 + nmu foo/amd64\n\
+             2 + claim=1 foo/amd64\n\
+             3 + waits=1 foo/amd64 : libbar-dev (>= 3)\n",
+        ),
+        (
+            INSTALLED,
+            WAITS_WITH_EXTRA,
+            "transdesk journal 2\n\
              1 + nmu foo/amd64 ;5 libxx : x\n\
              2 + claim=1 foo/amd64\n\
              3 + waits=1 foo/amd64 : libbar-dev (>= 3)\n",
         ),
         (
-            NEEDS_BUILD,
+            NEEDS_FIRST_BUILD,
             NOTED_BY_A_COMMAND,
             "transdesk journal 2\n1 + claim=1 foo/amd64\n",
         ),

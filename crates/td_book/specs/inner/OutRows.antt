@@ -1,7 +1,7 @@
 -- The list of the rows that are on offer, kept up as they change. This project's own.
 use Rattle.std.specs.Prelude.{◌≡◌, ℕ, zero, suc, ◌<◌, ◌≤◌, ◌==◌, Bool, true, false, List, [], ◌∷◌}
 use Rattle.std.specs.Prelude.{filter, length, slice_index, if◌then◌else◌}
-use Rattle.std.specs.List.{count_by, range_with_len}
+use Rattle.std.specs.List.{count_by, list_any, range_with_len}
 use Rattle.td_board.specs.declared.views.RowView.{RowView}
 use Rattle.td_board.specs.declared.views.RowView.TheVariants.{In, Out, Seen, Known}
 
@@ -17,6 +17,10 @@ abbrev pub is_out_no : List RowView → ℕ → Bool
 is_out_no [] n = false
 is_out_no (x ∷ xs) zero = is_out_view x
 is_out_no (x ∷ xs) (suc n) = is_out_no xs n
+
+-- whether any row is
+abbrev pub is_any_out : List RowView → Bool
+is_any_out view = list_any is_out_view view
 
 -- the numbers of the rows on offer, from the first
 abbrev pub outs_of : List RowView → List ℕ

@@ -1,0 +1,459 @@
+-- Withdrawals, offers and entries, one row after another.
+use Rattle.std.proofs.Common.{◌≡◌, ◌≢◌, ℕ, zero, suc, ◌+◌, ◌<◌, ◌≤◌, Bool, true, false, ◌&&◌, List}
+use Rattle.std.proofs.Common.{[], ◌∷◌, ◌++◌, Option, Some, None, IfSome, IfNone, if◌then◌else◌}
+use Rattle.std.proofs.Common.{length, take, drop, map, set, slice_get, option_to_list, ap, refl}
+use Rattle.std.proofs.Common.{sym, subst, ◌∙◌, arith}
+use Rattle.std.proofs.lemmas.Bool.{and_parts}
+use Rattle.td_board.specs.declared.views.RowView.{RowView}
+use Rattle.td_board.specs.declared.views.RowView.TheVariants.{In, Out, Known}
+use Rattle.td_rows.specs.declared.key.Key.{Key}
+use Rattle.td_rows.specs.declared.kind.Kind.{Kind}
+use Rattle.td_rows.specs.declared.kind.Kind.TheVariants.{Gb, Nmu, Bp, Dw, Claim, Outcome as Ended}
+use Rattle.td_rows.specs.declared.kind.Kind.TheVariants.{Arrive, Sweep}
+use Rattle.td_rows.specs.Kinds.{cells}
+use Rattle.td_rows.specs.Keys.{same_key, names, below_all, ascending}
+use Rattle.td_rows.specs.Meaning.{applies}
+use Rattle.td_rows.specs.Table.{Table, applied, fits, AppliesOn, keys_of}
+use Rattle.td_rows.proofs.Keys.{same_key-true}
+use Rattle.td_rows.proofs.Lists.{take-next, drop-next}
+use Rattle.td_journal.specs.declared.entry.Marked.{Marked}
+use Rattle.td_journal.specs.Commands.{is_command}
+use Rattle.td_journal.specs.Entries.{standing, entry_at, CanBeUndone}
+use Rattle.td_journal.specs.Replay.{Lawful}
+use Rattle.td_journal.specs.Touching.{blocker}
+use Rattle.td_core.specs.Committing.{takes}
+use Rattle.td_core.specs.History.{History, rows_of, with_entry, without_entry}
+use Rattle.td_core.specs.Refusals.{is_queued_at}
+use Rattle.td_core.proofs.Inverse.{undo_has_an_inverse}
+use Rattle.td_core.proofs.Phases.{keys_of-rows_of}
+use Rattle.td_core.proofs.Taking.{AppliesOn-filter, names-filter}
+use Rattle.td_book.specs.Seen.{seen_off, is_desks}
+use Rattle.td_book.specs.Watching.{WatchedView}
+use Rattle.td_book.specs.Desk.{InnerModel, Stays, Spent, claim_of}
+use Rattle.td_book.specs.Calls.{is_lost, noting_one, noting, OutAt, Lost, WithdrewAt, Withdrew}
+use Rattle.td_book.specs.Calls.{IsKeyAt, entered, entered_no}
+use Rattle.td_book.specs.Undoing.{Unlost, LostOne}
+use Rattle.td_book.proofs.Seeing.{withdrawn_off, stays_off, claimed_off, offered_off, idle_off}
+use Rattle.td_book.proofs.Seeing.{desks_off}
+use Rattle.td_book.proofs.Steps.{idle_row, is_out_at, longer, named_at, next, rows_with}
+use Rattle.td_book.proofs.Steps.{same_key_at, spent_more, spent_none, stays_more, stays_none}
+use Rattle.td_book.proofs.Steps.{unnamed_after, unnamed_before}
+
+-- ---- 1. withdrawals
+
+and_false : (a : Bool) → (a && false) ≡ false
+and_false true = refl
+and_false false = refl
+
+pos_lost : (b : ℕ) → 1 ≤ b → is_lost b ≡ true
+pos_lost zero h = absurd (omega arith)
+pos_lost (suc b) h = refl
+
+-- what the desk knows, of one named key more
+next_off : (named : List Key) (i : ℕ) (k : Key) (t : Table) → slice_get named i ≡ Some k
+    → seen_off (take i named ++ k ∷ []) t ≡ seen_off (take (i + 1) named) t
+next_off named i k t at = ap (λ (ks : List Key). seen_off ks t) (sym (take-next named i k at))
+
+-- a withdrawal is won
+pub won_step : (named : List Key) (i n : ℕ) (k : Key) (old new : InnerModel) (answer : Option ℕ)
+    → slice_get named i ≡ Some k → old.view ≡ seen_off (take i named) (rows_of old.books.history)
+    → ascending (keys_of (rows_of old.books.history)) ≡ true
+    → OutAt (rows_of old.books.history) k n → new ≡ (record old { view = set old.view n In })
+    → answer ≡ None → WithdrewAt named i old new answer
+won_step named i n k old new answer at view up out is none =
+    let t = rows_of old.books.history in
+    let same : new.books ≡ old.books = ap (λ (m : InnerModel). m.books) is in
+    let hist : new.books.history ≡ old.books.history = ap (λ (b : WatchedView). b.history) same in
+    let zero_lost = and_false (is_queued_at t k) in
+    record {
+      key = k;
+      at = at;
+      by = 0;
+      some_builder = omega arith;
+      answers = none ∙ sym
+          (ap (λ b. if b then Some (length old.books.history.journal + 1) else None) zero_lost);
+      history = hist ∙ sym (ap
+          (λ b. if b then with_entry old.books.history (claim_of 0 k) else old.books.history)
+          zero_lost);
+      view =
+          ap (λ (m : InnerModel). m.view) is ∙ ap (λ (v : List RowView). set v n In) view
+          ∙ withdrawn_off (take i named) t n k out.row up out.at out.out
+          ∙ next_off named i k t at
+          ∙ ap (λ (h : History). seen_off (take (i + 1) named) (rows_of h)) (sym hist);
+      stays = subst (Stays old) (sym is)
+          (record { table = refl; stock = refl; builders = refl; since = refl; watch = refl });
+      spent = subst (Spent (k ∷ []) old.books) (sym same) (spent_none (k ∷ []) old.books);
+    }
+
+-- a row that is not out is left
+pub idle_step : (named : List Key) (i : ℕ) (k : Key) (old new : InnerModel) (answer : Option ℕ)
+    → slice_get named i ≡ Some k → old.view ≡ seen_off (take i named) (rows_of old.books.history)
+    → ascending (keys_of (rows_of old.books.history)) ≡ true
+    → is_queued_at (rows_of old.books.history) k ≡ false → new ≡ old → answer ≡ None
+    → WithdrewAt named i old new answer
+idle_step named i k old new answer at view up idle is none =
+    let t = rows_of old.books.history in
+    let same : new.books ≡ old.books = ap (λ (m : InnerModel). m.books) is in
+    let hist : new.books.history ≡ old.books.history = ap (λ (b : WatchedView). b.history) same in
+    let zero_lost = and_false (is_queued_at t k) in
+    record {
+      key = k;
+      at = at;
+      by = 0;
+      some_builder = omega arith;
+      answers = none ∙ sym
+          (ap (λ b. if b then Some (length old.books.history.journal + 1) else None) zero_lost);
+      history = hist ∙ sym (ap
+          (λ b. if b then with_entry old.books.history (claim_of 0 k) else old.books.history)
+          zero_lost);
+      view =
+          ap (λ (m : InnerModel). m.view) is ∙ view
+          ∙ stays_off (take i named) t k up (idle_row t k idle)
+          ∙ next_off named i k t at
+          ∙ ap (λ (h : History). seen_off (take (i + 1) named) (rows_of h)) (sym hist);
+      stays = subst (Stays old) (sym is) (stays_none old);
+      spent = subst (Spent (k ∷ []) old.books) (sym same) (spent_none (k ∷ []) old.books);
+    }
+
+-- a withdrawal is lost
+pub lost_step : (named : List Key) (i n : ℕ) (k : Key) (old new : InnerModel) (answer : Option ℕ)
+    → slice_get named i ≡ Some k → old.view ≡ seen_off (take i named) (rows_of old.books.history)
+    → ascending (keys_of (rows_of old.books.history)) ≡ true
+    → OutAt (rows_of old.books.history) k n → Lost old new n (k ∷ [])
+    → answer ≡ Some (length old.books.history.journal + 1) → WithdrewAt named i old new answer
+lost_step named i n k old new answer at view up out lost told =
+    let t = rows_of old.books.history in
+    let b = lost.by in
+    let same : new.books.history ≡ with_entry old.books.history (claim_of b k) = lost.history in
+    let rows : rows_of new.books.history ≡ applied (Claim b) (k ∷ []) t =
+    ap rows_of same ∙ rows_with old.books.history (claim_of b k) in
+    let is : (is_queued_at t k && is_lost b) ≡ true =
+    ap (λ v. v && is_lost b) (is_out_at t k n out.row up out.at ∙ out.out) ∙ pos_lost b lost.one in
+    record {
+      key = k;
+      at = at;
+      by = b;
+      some_builder = lost.some_builder;
+      answers =
+          told ∙ sym (ap (λ v. if v then Some (length old.books.history.journal + 1) else None) is);
+      history = same ∙ sym (ap
+          (λ v. if v then with_entry old.books.history (claim_of b k) else old.books.history) is);
+      view =
+          lost.view ∙ ap (λ (v : List RowView). set v n (Known b)) view
+          ∙ claimed_off (take i named) t n k out.row b up out.at
+          ∙ next_off named i k (applied (Claim b) (k ∷ []) t) at
+          ∙ ap (λ (u : Table). seen_off (take (i + 1) named) u) (sym rows);
+      stays = lost.stays;
+      spent = lost.spent;
+    }
+
+-- a withdrawal, by its answer
+pub withdrew_either : (named : List Key) (i n : ℕ) (k : Key) (keys : List Key)
+    (old new : InnerModel) (answer : Option ℕ)
+    → slice_get named i ≡ Some k → old.view ≡ seen_off (take i named) (rows_of old.books.history)
+    → ascending (keys_of (rows_of old.books.history)) ≡ true
+    → OutAt (rows_of old.books.history) k n → keys ≡ k ∷ []
+    → IfNone answer (new ≡ (record old { view = set old.view n In }))
+    → IfSome answer (λ m. m ≡ length old.books.history.journal + 1)
+    → IfSome answer (λ m. Lost old new n keys)
+    → WithdrewAt named i old new answer
+withdrew_either named i n k keys old new None at view up out one won number lost =
+    won_step named i n k old new None at view up out won refl
+withdrew_either named i n k keys old new (Some m) at view up out one won number lost =
+    lost_step named i n k old new (Some m) at view up out
+    (subst (λ (u : List Key). Lost old new n u) one lost) (ap (λ (x : ℕ). Some x) number)
+
+-- one more named key
+pub noting-push : (h : History) (ks : List Key) (bs : List ℕ) (k : Key) (b : ℕ)
+    → length bs ≡ length ks
+    → noting h (ks ++ k ∷ []) (bs ++ b ∷ []) ≡ noting_one (noting h ks bs) k b
+noting-push h [] [] k b e = refl
+noting-push h [] (c ∷ bs) k b e = absurd (cc)
+noting-push h (q ∷ ks) [] k b e = absurd (cc)
+noting-push h (q ∷ ks) (c ∷ bs) k b e =
+    noting-push (noting_one h q c) ks bs k b
+    (let s : suc (length bs) ≡ suc (length ks) = e in omega arith)
+
+choice_push : (n : ℕ) (bs : List ℕ) (b : ℕ) → ((i c : ℕ) → slice_get bs i ≡ Some c → c ≤ n) → b ≤ n
+    → (i c : ℕ) → slice_get (bs ++ b ∷ []) i ≡ Some c → c ≤ n
+choice_push n [] b h le zero c at =
+    let e : Some b ≡ Some c = at in let f : b ≡ c = cc in omega arith
+choice_push n [] b h le (suc i) c at = absurd (cc)
+choice_push n (x ∷ bs) b h le zero c at = h 0 c at
+choice_push n (x ∷ bs) b h le (suc i) c at = choice_push n bs b (λ j d. h (suc j) d) le i c at
+
+longer_by : (bs : List ℕ) (b : ℕ) → length (bs ++ b ∷ []) ≡ length bs + 1
+longer_by [] b = refl
+longer_by (x ∷ bs) b = let h = longer_by bs b in omega arith
+
+-- the withdrawals go on by one key
+pub withdrew_more : (named : List Key) (i : ℕ) (first old new : InnerModel) (answer : Option ℕ)
+    → ascending named ≡ true → Withdrew (take i named) first old → WithdrewAt named i old new answer
+    → Withdrew (take (i + 1) named) first new
+withdrew_more named i first old new answer rise w s =
+    let ks = take i named in
+    let more : take (i + 1) named ≡ ks ++ s.key ∷ [] = take-next named i s.key s.at in
+    let le : s.by ≤ first.builders = subst (λ (n : ℕ). s.by ≤ n) w.stays.builders s.some_builder in
+    let len : length (w.choices ++ s.by ∷ []) ≡ length (ks ++ s.key ∷ []) =
+    longer_by w.choices s.by ∙ ap (λ (n : ℕ). n + 1) w.chosen.one_each ∙ sym (longer ks s.key) in
+    record {
+      choices = w.choices ++ s.by ∷ [];
+      chosen = record {
+        one_each = len ∙ ap length (sym more);
+        bound = choice_push first.builders w.choices s.by w.chosen.bound le;
+      };
+      history = s.history ∙ ap (λ (h : History). noting_one h s.key s.by) w.history
+          ∙ sym (noting-push first.books.history ks w.choices s.key s.by w.chosen.one_each)
+          ∙ ap (λ (u : List Key). noting first.books.history u (w.choices ++ s.by ∷ [])) (sym more);
+      view = s.view;
+      stays = stays_more first old new w.stays s.stays;
+      spent = subst (λ (u : List Key). Spent u first.books new.books) (sym more)
+          (spent_more ks s.key first.books old.books new.books
+          (unnamed_before named i s.key rise s.at) w.spent s.spent);
+    }
+
+pub withdrew_none : (m : InnerModel) → m.view ≡ seen_off [] (rows_of m.books.history)
+    → Withdrew [] m m
+withdrew_none m view = record {
+  choices = [];
+  chosen = record { one_each = refl; bound = λ i b at. absurd (cc) };
+  history = refl;
+  view = view;
+  stays = stays_none m;
+  spent = spent_none [] m.books;
+}
+
+-- ---- 2. withdrawals up to the first that is lost
+
+not_lost : (v : Bool) (h : History) (k : Key) (b : ℕ)
+    → None ≡ (if v then Some (length h.journal + 1) else None)
+    → (if v then with_entry h (claim_of b k) else h) ≡ h
+not_lost true h k b e = absurd (cc)
+not_lost false h k b e = refl
+
+pub unlost_none : (m : InnerModel) → m.view ≡ seen_off [] (rows_of m.books.history) → Unlost [] m m
+unlost_none m view =
+    record { history = refl; view = view; stays = stays_none m; spent = spent_none [] m.books }
+
+pub unlost_more : (named : List Key) (i : ℕ) (first old new : InnerModel) (answer : Option ℕ)
+    → ascending named ≡ true → Unlost (take i named) first old → WithdrewAt named i old new answer
+    → answer ≡ None → Unlost (take (i + 1) named) first new
+unlost_more named i first old new answer rise u s none =
+    let more : take (i + 1) named ≡ take i named ++ s.key ∷ [] = take-next named i s.key s.at in
+    record {
+      history = s.history ∙ not_lost
+          (is_queued_at (rows_of old.books.history) s.key && is_lost s.by) old.books.history s.key
+          s.by (sym none ∙ s.answers) ∙ u.history;
+      view = s.view;
+      stays = stays_more first old new u.stays s.stays;
+      spent = subst (λ (w : List Key). Spent w first.books new.books) (sym more)
+          (spent_more (take i named) s.key first.books old.books new.books
+          (unnamed_before named i s.key rise s.at) u.spent s.spent);
+    }
+
+pos_of : (b : ℕ) → is_lost b ≡ true → 1 ≤ b
+pos_of zero h = cc
+pos_of (suc b) h = omega arith
+
+some_is : (v : Bool) (a n : ℕ) → Some n ≡ (if v then Some a else None) → (v ≡ true) × (n ≡ a)
+some_is true a n e = (refl, cc)
+some_is false a n e = cc
+
+pub lost_one : (named : List Key) (i : ℕ) (first old new last : InnerModel) (n : ℕ)
+    → Unlost (take i named) first old → WithdrewAt named i old new (Some n)
+    → last ≡ (record new { view = seen_off [] (rows_of new.books.history) })
+    → LostOne first last named n
+lost_one named i first old new last n u s back =
+    let told = some_is (is_queued_at (rows_of old.books.history) s.key && is_lost s.by)
+    (length old.books.history.journal + 1) n s.answers in
+    let both = and_parts (is_queued_at (rows_of old.books.history) s.key) (is_lost s.by) told.0 in
+    let same : last.books.history ≡ new.books.history =
+    ap (λ (m : InnerModel). m.books.history) back in
+    record {
+      won = record {
+        key = s.key;
+        is_named = named_at named i s.key s.at;
+        out = ap (λ (h : History). is_queued_at (rows_of h) s.key) (sym u.history) ∙ both.0;
+        by = s.by;
+        one = pos_of s.by both.1;
+        some_builder = subst (λ (m : ℕ). s.by ≤ m) u.stays.builders s.some_builder;
+        now = same ∙ s.history
+            ∙ ap (λ b. if b then with_entry old.books.history (claim_of s.by s.key)
+            else old.books.history) told.0
+            ∙ ap (λ (h : History). with_entry h (claim_of s.by s.key)) u.history;
+        number = told.1 ∙ ap (λ (h : History). length h.journal + 1) u.history;
+      };
+      view = ap (λ (m : InnerModel). m.view) back
+          ∙ ap (λ (h : History). seen_off [] (rows_of h)) (sym same);
+      stays = stays_more first old last u.stays
+          (stays_more old new last s.stays
+          (subst (Stays new) (sym back)
+          (record { table = refl; stock = refl; builders = refl; since = refl; watch = refl })));
+    }
+
+-- ---- 3. offers
+
+-- the row of the key at a place is offered again
+pub offer_step : (named : List Key) (i n : ℕ) (k : Key) (old new : InnerModel)
+    → slice_get named i ≡ Some k → ascending named ≡ true
+    → ascending (keys_of (rows_of old.books.history)) ≡ true
+    → old.view ≡ seen_off (drop i named) (rows_of old.books.history)
+    → OutAt (rows_of old.books.history) k n → new ≡ (record old { view = set old.view n Out })
+    → new ≡ (record old { view = seen_off (drop (i + 1) named) (rows_of old.books.history) })
+offer_step named i n k old new at rise up view out is =
+    let t = rows_of old.books.history in
+    is ∙ ap (λ (v : List RowView). let m : InnerModel = record old { view = v } in m)
+    (ap (λ (v : List RowView). set v n Out)
+    (view ∙ ap (λ (ks : List Key). seen_off ks t) (drop-next named i k at))
+    ∙ offered_off (drop (i + 1) named) t n k out.row up out.at
+    (ap (λ (j : ℕ). names (drop j named) k) (next i) ∙ unnamed_after named i k rise at) out.out)
+
+pub pass_step : (named : List Key) (i : ℕ) (k : Key) (old new : InnerModel)
+    → slice_get named i ≡ Some k → ascending (keys_of (rows_of old.books.history)) ≡ true
+    → old.view ≡ seen_off (drop i named) (rows_of old.books.history)
+    → is_queued_at (rows_of old.books.history) k ≡ false → new ≡ old
+    → new ≡ (record old { view = seen_off (drop (i + 1) named) (rows_of old.books.history) })
+pass_step named i k old new at up view idle is =
+    let t = rows_of old.books.history in
+    is ∙ (λ j. record old {
+      view = (view ∙ ap (λ (ks : List Key). seen_off ks t) (drop-next named i k at)
+          ∙ idle_off (drop (i + 1) named) t k up (idle_row t k idle)) j;
+    })
+
+-- ---- 4. the lists of one key that are handed out
+
+pub same_claim : (named : List Key) (i : ℕ) (k : Key) (claim : List Key)
+    → slice_get named i ≡ Some k → IsKeyAt named i claim → claim ≡ k ∷ []
+same_claim named i k claim at one =
+    one.2 ∙ ap (λ (x : Key). x ∷ []) (same_key_at one.0 k (sym one.1 ∙ at))
+
+abbrev pub ones : List Key → List (List Key)
+ones ks = map (λ key. key ∷ []) ks
+
+first_one : (ks : List Key) (i : ℕ) (left rest : List (List Key)) (claim : List Key)
+    → left ≡ ones (drop i ks) → left ≡ claim ∷ rest
+    → (IsKeyAt ks i claim) × (rest ≡ ones (drop (i + 1) ks))
+first_one [] zero left rest claim l h = absurd (let bad : [] ≡ claim ∷ rest = sym l ∙ h in cc)
+first_one [] (suc i) left rest claim l h = absurd (let bad : [] ≡ claim ∷ rest = sym l ∙ h in cc)
+first_one (k ∷ ks) zero left rest claim l h =
+    let e : (k ∷ []) ∷ ones ks ≡ claim ∷ rest = sym l ∙ h in
+    let c : claim ≡ k ∷ [] = cc in
+    let r : rest ≡ ones ks = cc in
+    ((k, refl, c), r)
+first_one (k ∷ ks) (suc i) left rest claim l h =
+    let f = first_one ks i left rest claim l h in
+    let e : suc (i + 1) ≡ suc i + 1 = omega arith in
+    (f.0, f.1 ∙ ap (λ (j : ℕ). ones (drop j (k ∷ ks))) e)
+
+pub is_key_at : (named : List Key) (i : ℕ) (left rest : List (List Key)) (claim : List Key)
+    → left ≡ ones (drop i named) → left ≡ option_to_list (Some claim) ++ rest
+    → IsKeyAt named i claim
+is_key_at named i left rest claim l h = (first_one named i left rest claim l h).0
+
+pub left_more : (named : List Key) (i : ℕ) (left rest : List (List Key)) (claim : List Key)
+    → left ≡ ones (drop i named) → left ≡ option_to_list (Some claim) ++ rest
+    → rest ≡ ones (drop (i + 1) named)
+left_more named i left rest claim l h = (first_one named i left rest claim l h).1
+
+pub none_left : (named : List Key) (i : ℕ) → i < length named → [] ≡ ones (drop i named) → ⊥
+none_left [] i h e = absurd (omega arith)
+none_left (x ∷ ks) zero h e = cc
+none_left (x ∷ ks) (suc i) h e = none_left ks i (omega arith) e
+
+below_take : (x : Key) (ks : List Key) (i : ℕ) → below_all x ks ≡ true
+    → below_all x (take i ks) ≡ true
+below_take x ks zero h = refl
+below_take x [] (suc i) h = refl
+below_take x (k ∷ ks) (suc i) h =
+    let both = and_parts _ _ h in
+    ap (λ b. b && below_all x (take i ks)) both.0 ∙ below_take x ks i both.1
+
+pub ascending_take : (ks : List Key) (i : ℕ) → ascending ks ≡ true → ascending (take i ks) ≡ true
+ascending_take ks zero h = refl
+ascending_take [] (suc i) h = refl
+ascending_take (k ∷ ks) (suc i) h =
+    let both = and_parts _ _ h in
+    ap (λ b. b && ascending (take i ks)) (below_take k ks i both.0) ∙ ascending_take ks i both.1
+
+pub take_short : (ks : List Key) (i : ℕ) → length (take i ks) ≤ i
+take_short [] zero = omega arith
+take_short [] (suc i) = omega arith
+take_short (k ∷ ks) zero = omega arith
+take_short (k ∷ ks) (suc i) = let h = take_short ks i in omega arith
+
+pub one_named : (named : List Key) (i : ℕ) (key : Key) (claim : List Key) (k : Key)
+    → slice_get named i ≡ Some key → claim ≡ key ∷ [] → names claim k ≡ true → names named k ≡ true
+one_named named i key claim k at one is =
+    whole (same_key k key) refl (ap (λ (ks : List Key). names ks k) (sym one) ∙ is)
+  where
+    whole : (v : Bool) → same_key k key ≡ v → (if v then true else false) ≡ true
+        → names named k ≡ true
+    whole true same h = ap (names named) (same_key-true k key same) ∙ named_at named i key at
+    whole false same h = cc
+
+-- ---- 5. the entry
+
+pub commands_desks : (kind : Kind) → is_command kind ≡ true → is_desks kind ≡ true
+commands_desks Gb h = refl
+commands_desks (Nmu n e m) h = refl
+commands_desks (Bp p) h = refl
+commands_desks (Dw t) h = refl
+commands_desks (Claim b) h = cc
+commands_desks (Ended b o) h = cc
+commands_desks Arrive h = cc
+commands_desks Sweep h = cc
+
+-- what a commit did, by its answer
+pub entered_of : (h now : History) (kind : Kind) (ts : List Key) (r : Option ℕ)
+    → IfNone r ((ts ≡ []) × (now ≡ h)) → IfSome r (λ n. ts ≢ [])
+    → IfSome r (λ n. n ≡ length h.journal + 1)
+    → IfSome r (λ n. now ≡ with_entry h (record { kind = kind; keys = ts }))
+    → (r ≡ entered_no h ts) × (now ≡ entered h kind ts)
+entered_of h now kind ts None none taken number is =
+    (sym (ap (entered_no h) none.0), none.1 ∙ sym (ap (entered h kind) none.0))
+entered_of h now kind [] (Some n) none taken number is = absurd (taken refl)
+entered_of h now kind (k ∷ ks) (Some n) none taken number is = (ap (λ (x : ℕ). Some x) number, is)
+
+pub entered_off : (h now : History) (kind : Kind) (named off : List Key)
+    → ascending (keys_of (rows_of h)) ≡ true → is_desks kind ≡ true
+    → ((cells kind).state ≡ true → (k : Key) → names named k ≡ true → names off k ≡ true)
+    → now ≡ entered h kind (takes (rows_of h) kind named)
+    → seen_off off (rows_of now) ≡ seen_off off (rows_of h)
+entered_off h now kind named off up desks within is =
+    ap (λ (x : History). seen_off off (rows_of x)) is
+    ∙ cases (takes (rows_of h) kind named) (AppliesOn-filter (rows_of h) kind named)
+    (λ k t. names-filter (fits (rows_of h) kind) named k t)
+  where
+    cases : (ts : List Key) → AppliesOn (rows_of h) kind ts
+        → ((k : Key) → names ts k ≡ true → names named k ≡ true)
+        → seen_off off (rows_of (entered h kind ts)) ≡ seen_off off (rows_of h)
+    cases [] fit among = refl
+    cases (t ∷ ts) fit among =
+        ap (seen_off off) (rows_with h (record { kind = kind; keys = t ∷ ts }))
+        ∙ desks_off off (t ∷ ts) kind (rows_of h) up desks fit (λ has k e. within has k (among k e))
+
+-- ---- 6. the undo
+
+pub undone_off : (h now : History) (n : ℕ) (off : List Key) (m : Marked) → CanBeUndone h.journal n
+    → blocker h.journal n ≡ None → Lawful h.opening (standing h.journal)
+    → ascending (keys_of h.opening) ≡ true → entry_at h.journal n ≡ Some m
+    → ((cells m.entry.kind).state ≡ true → (k : Key) → names m.entry.keys k ≡ true
+    → names off k ≡ true) → now ≡ without_entry h n
+    → seen_off off (rows_of h) ≡ seen_off off (rows_of now)
+undone_off h now n off m c free lawful up there within is =
+    let back = undo_has_an_inverse h n c free lawful in
+    let same : m ≡ c.marked = one m c.marked (sym there ∙ c.there) in
+    let e = c.marked.entry in
+    let within' : (cells e.kind).state ≡ true → (k : Key) → names e.keys k ≡ true
+    → names off k ≡ true =
+    subst (λ (x : Marked).
+    (cells x.entry.kind).state ≡ true → (k : Key) → names x.entry.keys k ≡ true
+    → names off k ≡ true) same within in
+    ap (seen_off off) back.rows
+    ∙ desks_off off e.keys e.kind (rows_of (without_entry h n))
+    (ap ascending (keys_of-rows_of (without_entry h n)) ∙ up) (commands_desks e.kind c.command)
+    back.applies within'
+    ∙ ap (λ (x : History). seen_off off (rows_of x)) (sym is)
+  where
+    one : (a b : Marked) → Some a ≡ Some b → a ≡ b
+    one a b e = cc
