@@ -14,7 +14,7 @@ use Rattle.td_core.specs.History.{History, rows_of, with_entry}
 use Rattle.td_core.specs.Offers.{supply_now}
 use Rattle.td_core.specs.Worlds.{WorldView}
 use Rattle.td_core.proofs.Freeing.{AppliesOn-freed, ascending-freed}
-use Rattle.td_core.proofs.Worlds.{AppliesOn-one}
+use Rattle.td_core.proofs.WorldSteps.{AppliesOn-one}
 use Rattle.td_book.specs.Desk.{BookModel}
 use Rattle.td_book.specs.Seen.{seen_off}
 use Rattle.td_book.specs.Arriving.{freed_now}

@@ -1,9 +1,10 @@
 -- Over any list of calls the opening rows and the entries stay; a command is undone at once.
-use Rattle.std.proofs.Common.{◌≡◌, ℕ, zero, suc, ◌+◌, ◌-◌, ◌≤◌, ◌==◌, Bool, true, false, ◌&&◌, List}
-use Rattle.std.proofs.Common.{[], ◌∷◌, ◌++◌, append_assoc, append-nil, filter, map, Option, Some}
-use Rattle.std.proofs.Common.{None, Result, Ok, Err, if◌then◌else◌, length, slice_get, ap, refl}
-use Rattle.std.proofs.Common.{sym, subst, ◌∙◌, arith}
+use Rattle.std.proofs.Common.{◌≡◌, ℕ, zero, suc, ◌+◌, ◌-◌, ◌≤◌, ◌==◌, Bool, true, false, ◌&&◌, ◌||◌}
+use Rattle.std.proofs.Common.{List, [], ◌∷◌, ◌++◌, append_assoc, append-nil, filter, map, Option}
+use Rattle.std.proofs.Common.{Some, None, Result, Ok, Err, if◌then◌else◌, length, slice_get, ap}
+use Rattle.std.proofs.Common.{refl, sym, subst, ◌∙◌, arith}
 use Rattle.std.specs.Prelude.{IsSomeAnd, OnOk, nat_lt}
+use Rattle.std.specs.List.{list_any}
 use Rattle.std.specs.Option.{option_or}
 use Rattle.std.proofs.lemmas.Bool.Decides.{nat_tests}
 use Rattle.td_board.specs.declared.views.Hand.{Hand}
@@ -36,20 +37,24 @@ use Rattle.td_book.specs.declared.starting.StartRefusal.{StartRefusal}
 use Rattle.td_book.specs.declared.starting.StartRefusal.TheVariants as starts
 use Rattle.td_book.specs.declared.undoing.UndoRefusal.{UndoRefusal}
 use Rattle.td_book.specs.declared.undoing.UndoRefusal.TheVariants as undos
+use Rattle.td_book.specs.declared.watching.WatchRefusal.{WatchRefusal}
+use Rattle.td_book.specs.declared.watching.WatchRefusal.TheVariants as watches
 use Rattle.td_book.specs.Arriving.{freed_now}
 use Rattle.td_book.specs.Building.{StartOutcome, Noticed}
 use Rattle.td_book.specs.Calls.{is_lost, noting_one, noting, off_for}
 use Rattle.td_book.specs.Commands.{named_by, is_matched_in, IsDone}
-use Rattle.td_book.specs.Desk.{BookModel, claim_of}
+use Rattle.td_book.specs.Desk.{Fixed, BookModel, claim_of}
 use Rattle.td_book.specs.Finishing.{FinishOutcome}
 use Rattle.td_wbread.specs.Kinds.{kind_of}
 use Rattle.td_book.specs.Undoing.{undo_stop, mark_stop, UndoAnswer, IsWon}
+use Rattle.td_book.specs.WatchCalls.{WatchOutcome}
+use Rattle.td_book.specs.Watching.{WatchView, watch_of}
 use Rattle.td_book.proofs.Calls.{kinds_command}
 use Rattle.td_core.specs.Refusals.{is_queued_at}
 use Rattle.td_steps.specs.Commands.{off_in}
-use Rattle.td_steps.specs.Books.{Call, command, undo, start, finish, arrive, sweep, Does, Follows}
-use Rattle.td_steps.specs.Books.{EntriesStay, RowsAreReplayed, IsBack, UndoneAtOnce, BlockedExactly}
-use Rattle.td_steps.specs.Books.{UndoneElse}
+use Rattle.td_steps.specs.Books.{Call, command, undo, start, finish, arrive, sweep, watch, is_watch}
+use Rattle.td_steps.specs.Books.{Does, entries_in, Follows, EntriesStay, WatchedStay}
+use Rattle.td_steps.specs.Books.{RowsAreReplayed, IsBack, UndoneAtOnce, BlockedExactly, UndoneElse}
 
 -- ---- 1. of histories
 
@@ -125,31 +130,38 @@ grows-noting h (k ∷ ks) (b ∷ bs) =
 
 -- ---- 2. of each call
 
-follows : (old new : BookModel) → Grows old.history new.history → new.fixed ≡ old.fixed
-    → Follows old new
-follows old new g fixed =
+-- what a call leaves that is no watch
+record Keeps (old new : BookModel) : Type 0 where
+  opening : new.history.opening ≡ old.history.opening
+  fixed : new.fixed ≡ old.fixed
+  added : List Entry
+  entries : entries_in new ≡ entries_in old ++ added
+
+keeps : (old new : BookModel) → Grows old.history new.history → new.fixed ≡ old.fixed
+    → Keeps old new
+keeps old new g fixed =
     record { opening = g.opening; fixed = fixed; added = g.added; entries = g.entries }
 
-stays : (old new : BookModel) → new ≡ old → Follows old new
+stays : (old new : BookModel) → new ≡ old → Keeps old new
 stays old new same =
-    follows old new (grows-none old.history new.history (ap (λ (b : BookModel). b.history) same))
+    keeps old new (grows-none old.history new.history (ap (λ (b : BookModel). b.history) same))
     (ap (λ (b : BookModel). b.fixed) same)
 
-command-follows : (c : CommandParts) (old new : BookModel) (r : Result Taken CommandRefusal)
-    → IsDone c old new r → Follows old new
-command-follows c old new (Err commands.NoMemory) is =
-    follows old new (grows-none old.history new.history is.outcome) is.fixed
-command-follows c old new (Err (commands.NothingApplies s)) is =
+command-keeps : (c : CommandParts) (old new : BookModel) (r : Result Taken CommandRefusal)
+    → IsDone c old new r → Keeps old new
+command-keeps c old new (Err commands.NoMemory) is =
+    keeps old new (grows-none old.history new.history is.outcome) is.fixed
+command-keeps c old new (Err (commands.NothingApplies s)) is =
     let now = noting old.history (off_in c old) is.outcome.0 in
-    follows old new (grows-to old.history now new.history
+    keeps old new (grows-to old.history now new.history
     (grows-noting old.history (off_in c old) is.outcome.0) is.outcome.2.1) is.fixed
-command-follows c old new (Ok taken) is =
+command-keeps c old new (Ok taken) is =
     let now = noting old.history (off_in c old) is.outcome.0 in
     let e : Entry = record {
       kind = kind_of c;
       keys = takes (rows_of now) (kind_of c) (filter (is_matched_in c old) (named_by c old));
     } in
-    follows old new (grows-to old.history (with_entry now e) new.history
+    keeps old new (grows-to old.history (with_entry now e) new.history
     (grows-then old.history now (with_entry now e)
     (grows-noting old.history (off_in c old) is.outcome.0) (grows-entry now e)) is.outcome.2.1)
     is.fixed
@@ -162,101 +174,158 @@ won-grows (Some m) old new builders n o =
     grows-to old (with_entry old (claim_of o.by o.key)) new (grows-entry old (claim_of o.by o.key))
     o.now
 
-undo-follows : (x : Option UndoRefusal) (n : ℕ) (old new : BookModel)
-    (r : Result (Unit {0}) UndoRefusal) → UndoAnswer x n old new r → Follows old new
-undo-follows (Some s) n old new r a = stays old new a.1
-undo-follows None n old new (Ok u) a =
-    follows old new (grows-to old.history (without_entry old.history n) new.history
+undo-keeps : (x : Option UndoRefusal) (n : ℕ) (old new : BookModel)
+    (r : Result (Unit {0}) UndoRefusal) → UndoAnswer x n old new r → Keeps old new
+undo-keeps (Some s) n old new r a = stays old new a.1
+undo-keeps None n old new (Ok u) a =
+    keeps old new (grows-to old.history (without_entry old.history n) new.history
     (grows-undone old.history n) a.outcome) a.fixed
-undo-follows None n old new (Err undos.NoMemory) a =
-    follows old new (grows-none old.history new.history a.outcome) a.fixed
-undo-follows None n old new (Err (undos.Blocked m)) a =
-    follows old new (won-grows (entry_at old.history.journal n) old.history new.history
+undo-keeps None n old new (Err undos.NoMemory) a =
+    keeps old new (grows-none old.history new.history a.outcome) a.fixed
+undo-keeps None n old new (Err (undos.Blocked m)) a =
+    keeps old new (won-grows (entry_at old.history.journal n) old.history new.history
     old.fixed.builders m a.outcome) a.fixed
-undo-follows None n old new (Err undos.NoSuchEntry) a = absurd a.outcome
-undo-follows None n old new (Err undos.NotACommand) a = absurd a.outcome
-undo-follows None n old new (Err undos.AlreadyUndone) a = absurd a.outcome
+undo-keeps None n old new (Err undos.NoSuchEntry) a = absurd a.outcome
+undo-keeps None n old new (Err undos.NotACommand) a = absurd a.outcome
+undo-keeps None n old new (Err undos.AlreadyUndone) a = absurd a.outcome
 
-noticed-follows : (i b : ℕ) (is : Bool) (old new : BookModel) → Noticed i b is old new
-    → Follows old new
-noticed-follows i b is old new o =
-    follows old new (grows-to old.history (noting_one old.history o.key o.by) new.history
+noticed-keeps : (i b : ℕ) (is : Bool) (old new : BookModel) → Noticed i b is old new → Keeps old new
+noticed-keeps i b is old new o =
+    keeps old new (grows-to old.history (noting_one old.history o.key o.by) new.history
     (grows-one old.history o.key o.by) o.history) o.fixed
 
-start-follows : (b : ℕ) (hand : Hand) (old new : BookModel) (r : Result Job StartRefusal)
-    → StartOutcome b hand old new r → Follows old new
-start-follows b (Holding i) old new (Ok job) o = noticed-follows i b true old new o.0
-start-follows b (Holding i) old new (Err starts.Mismatch) o = noticed-follows i b false old new o
-start-follows b (Holding i) old new (Err starts.NothingHeld) o = absurd o
-start-follows b (Holding i) old new (Err starts.NoMemory) o = stays old new o
-start-follows b Free old new (Ok job) o = stays old new o.1
-start-follows b Free old new (Err starts.Mismatch) o = stays old new o.1
-start-follows b Free old new (Err starts.NothingHeld) o = stays old new o.1
-start-follows b Free old new (Err starts.NoMemory) o = stays old new o
-start-follows b (Finished i c) old new (Ok job) o = stays old new o.1
-start-follows b (Finished i c) old new (Err starts.Mismatch) o = stays old new o.1
-start-follows b (Finished i c) old new (Err starts.NothingHeld) o = stays old new o.1
-start-follows b (Finished i c) old new (Err starts.NoMemory) o = stays old new o
+start-keeps : (b : ℕ) (hand : Hand) (old new : BookModel) (r : Result Job StartRefusal)
+    → StartOutcome b hand old new r → Keeps old new
+start-keeps b (Holding i) old new (Ok job) o = noticed-keeps i b true old new o.0
+start-keeps b (Holding i) old new (Err starts.Mismatch) o = noticed-keeps i b false old new o
+start-keeps b (Holding i) old new (Err starts.NothingHeld) o = absurd o
+start-keeps b (Holding i) old new (Err starts.NoMemory) o = stays old new o
+start-keeps b Free old new (Ok job) o = stays old new o.1
+start-keeps b Free old new (Err starts.Mismatch) o = stays old new o.1
+start-keeps b Free old new (Err starts.NothingHeld) o = stays old new o.1
+start-keeps b Free old new (Err starts.NoMemory) o = stays old new o
+start-keeps b (Finished i c) old new (Ok job) o = stays old new o.1
+start-keeps b (Finished i c) old new (Err starts.Mismatch) o = stays old new o.1
+start-keeps b (Finished i c) old new (Err starts.NothingHeld) o = stays old new o.1
+start-keeps b (Finished i c) old new (Err starts.NoMemory) o = stays old new o
 
-finish-follows : (hand : Hand) (o : Outcome) (v u : BuilderView) (old new : BookModel)
-    (r : Result ℕ FinishRefusal) → FinishOutcome hand o v u old new r → Follows old new
-finish-follows (Holding i) o v u old new (Ok n) is =
+finish-keeps : (hand : Hand) (o : Outcome) (v u : BuilderView) (old new : BookModel)
+    (r : Result ℕ FinishRefusal) → FinishOutcome hand o v u old new r → Keeps old new
+finish-keeps (Holding i) o v u old new (Ok n) is =
     let f = is.0 in
     let mid = noting_one old.history f.key f.by in
     let e : Entry = record { kind = kinds.Outcome v.number o; keys = f.key ∷ [] } in
-    follows old new (grows-to old.history (with_entry mid e) new.history
+    keeps old new (grows-to old.history (with_entry mid e) new.history
     (grows-then old.history mid (with_entry mid e) (grows-one old.history f.key f.by)
     (grows-entry mid e)) f.history) f.fixed
-finish-follows (Holding i) o v u old new (Err finishes.Mismatch) is =
-    noticed-follows i v.number is.0 old new is.1
-finish-follows (Holding i) o v u old new (Err finishes.NothingHeld) is = absurd is
-finish-follows (Holding i) o v u old new (Err finishes.NoMemory) is = stays old new is.0
-finish-follows (Finished i c) o v u old new (Ok n) is =
+finish-keeps (Holding i) o v u old new (Err finishes.Mismatch) is =
+    noticed-keeps i v.number is.0 old new is.1
+finish-keeps (Holding i) o v u old new (Err finishes.NothingHeld) is = absurd is
+finish-keeps (Holding i) o v u old new (Err finishes.NoMemory) is = stays old new is.0
+finish-keeps (Finished i c) o v u old new (Ok n) is =
     let s = is.0.1 in
     let e : Entry = record { kind = kinds.Outcome v.number o; keys = s.key ∷ [] } in
-    follows old new (grows-to old.history (with_entry old.history e) new.history
+    keeps old new (grows-to old.history (with_entry old.history e) new.history
     (grows-entry old.history e) s.history) s.fixed
-finish-follows (Finished i c) o v u old new (Err finishes.Mismatch) is = stays old new is.0.1
-finish-follows (Finished i c) o v u old new (Err finishes.NothingHeld) is = stays old new is.0.1
-finish-follows (Finished i c) o v u old new (Err finishes.NoMemory) is = stays old new is.0
-finish-follows Free o v u old new (Ok n) is = stays old new is.1
-finish-follows Free o v u old new (Err finishes.Mismatch) is = stays old new is.1
-finish-follows Free o v u old new (Err finishes.NothingHeld) is = stays old new is.1
-finish-follows Free o v u old new (Err finishes.NoMemory) is = stays old new is.1
+finish-keeps (Finished i c) o v u old new (Err finishes.Mismatch) is = stays old new is.0.1
+finish-keeps (Finished i c) o v u old new (Err finishes.NothingHeld) is = stays old new is.0.1
+finish-keeps (Finished i c) o v u old new (Err finishes.NoMemory) is = stays old new is.0
+finish-keeps Free o v u old new (Ok n) is = stays old new is.1
+finish-keeps Free o v u old new (Err finishes.Mismatch) is = stays old new is.1
+finish-keeps Free o v u old new (Err finishes.NothingHeld) is = stays old new is.1
+finish-keeps Free o v u old new (Err finishes.NoMemory) is = stays old new is.1
 
-entered-follows : (old new : BookModel) (e : Entry)
-    → new ≡ record old { history = with_entry old.history e } → Follows old new
-entered-follows old new e is =
-    follows old new (grows-to old.history (with_entry old.history e) new.history
+entered-keeps : (old new : BookModel) (e : Entry)
+    → new ≡ record old { history = with_entry old.history e } → Keeps old new
+entered-keeps old new e is =
+    keeps old new (grows-to old.history (with_entry old.history e) new.history
     (grows-entry old.history e) (ap (λ (b : BookModel). b.history) is))
     (ap (λ (b : BookModel). b.fixed) is)
 
+does-keep : (call : Call) (old new : BookModel) → is_watch call ≡ false → Does call old new
+    → Keeps old new
+does-keep (command c r) old new other d = command-keeps c old new r d
+does-keep (undo n r) old new other d = undo-keeps (undo_stop old.history.journal n) n old new r d
+does-keep (start b hand r) old new other d = start-keeps b hand old new r d
+does-keep (finish o v u r) old new other d = finish-keeps v.hand o v u old new r d
+does-keep (arrive k (Ok n)) old new other d =
+    entered-keeps old new (record { kind = kinds.Arrive; keys = k ∷ [] }) d.3
+does-keep (arrive k (Err arrivals.NoSuchRow)) old new other d = stays old new d.1
+does-keep (arrive k (Err (arrivals.DoesNotApply s))) old new other d = stays old new d.4
+does-keep (arrive k (Err arrivals.NoMemory)) old new other d = stays old new d
+does-keep (sweep (Ok None)) old new other d = stays old new d.1
+does-keep (sweep (Ok (Some n))) old new other d =
+    entered-keeps old new (record { kind = kinds.Sweep; keys = freed_now old }) d.1
+does-keep (sweep (Err e)) old new other d = stays old new d
+does-keep (watch groups given r) old new other d = absurd (cc)
+
+still_fixed : (a b : Fixed) (w : WatchView) → b ≡ record a { watch = w }
+    → b ≡ record a { watch = b.watch }
+still_fixed a b w same = subst (λ (x : Fixed). x ≡ record a { watch = x.watch }) (sym same) refl
+
+kept-follows : (old new : BookModel) → Keeps old new → Follows old new
+kept-follows old new k =
+    record {
+      opening = k.opening;
+      fixed = still_fixed old.fixed new.fixed old.fixed.watch k.fixed;
+      added = k.added;
+      entries = k.entries;
+    }
+
+watch-follows : (groups : ℕ) (given : List (Key × ℕ)) (old new : BookModel)
+    (r : Result (Unit {0}) WatchRefusal) → WatchOutcome groups given old new r → Follows old new
+watch-follows groups given old new (Ok u) d = record {
+  opening = ap (λ (b : BookModel). b.history.opening) d.1;
+  fixed = still_fixed old.fixed new.fixed (watch_of old.history.opening groups given)
+      (ap (λ (b : BookModel). b.fixed) d.1);
+  added = [];
+  entries = ap entries_in d.1 ∙ sym (append-nil (entries_in old));
+}
+watch-follows groups given old new (Err (watches.NoSuchRow k)) d =
+    kept-follows old new (stays old new d.1)
+watch-follows groups given old new (Err (watches.Twice k)) d =
+    kept-follows old new (stays old new d.1)
+watch-follows groups given old new (Err (watches.BadGroup k)) d =
+    kept-follows old new (stays old new d.1)
+watch-follows groups given old new (Err watches.NoMemory) d = kept-follows old new (stays old new d)
+
 does-follow : (call : Call) (old new : BookModel) → Does call old new → Follows old new
-does-follow (command c r) old new d = command-follows c old new r d
-does-follow (undo n r) old new d = undo-follows (undo_stop old.history.journal n) n old new r d
-does-follow (start b hand r) old new d = start-follows b hand old new r d
-does-follow (finish o v u r) old new d = finish-follows v.hand o v u old new r d
-does-follow (arrive k (Ok n)) old new d =
-    entered-follows old new (record { kind = kinds.Arrive; keys = k ∷ [] }) d.3
-does-follow (arrive k (Err arrivals.NoSuchRow)) old new d = stays old new d.1
-does-follow (arrive k (Err (arrivals.DoesNotApply s))) old new d = stays old new d.4
-does-follow (arrive k (Err arrivals.NoMemory)) old new d = stays old new d
-does-follow (sweep (Ok None)) old new d = stays old new d.1
-does-follow (sweep (Ok (Some n))) old new d =
-    entered-follows old new (record { kind = kinds.Sweep; keys = freed_now old }) d.1
-does-follow (sweep (Err e)) old new d = stays old new d
+does-follow (command c r) old new d = kept-follows old new (does-keep (command c r) old new refl d)
+does-follow (undo n r) old new d = kept-follows old new (does-keep (undo n r) old new refl d)
+does-follow (start b hand r) old new d =
+    kept-follows old new (does-keep (start b hand r) old new refl d)
+does-follow (finish o v u r) old new d =
+    kept-follows old new (does-keep (finish o v u r) old new refl d)
+does-follow (arrive k r) old new d = kept-follows old new (does-keep (arrive k r) old new refl d)
+does-follow (sweep r) old new d = kept-follows old new (does-keep (sweep r) old new refl d)
+does-follow (watch groups given r) old new d = watch-follows groups given old new r d
 
 -- ---- 3. of lists of calls
 
 pub entries_stay : EntriesStay
-entries_stay [] old new same = stays old new same
+entries_stay [] old new same = kept-follows old new (stays old new same)
 entries_stay (c ∷ calls) old new d =
     let one = does-follow c old d.0 d.1 in
     let rest = entries_stay calls d.0 new d.2 in
     let g = grows-then old.history d.0.history new.history
     (record { opening = one.opening; added = one.added; entries = one.entries })
     (record { opening = rest.opening; added = rest.added; entries = rest.entries }) in
-    follows old new g (rest.fixed ∙ one.fixed)
+    record {
+      opening = g.opening;
+      fixed = rest.fixed ∙ ap (λ (x : Fixed). record x { watch = new.fixed.watch }) one.fixed;
+      added = g.added;
+      entries = g.entries;
+    }
+
+neither : (a b : Bool) → (a || b) ≡ false → (a ≡ false) × (b ≡ false)
+neither true b e = absurd (cc)
+neither false b e = (refl, e)
+
+pub watched_stay : WatchedStay
+watched_stay [] old new none same = ap (λ (b : BookModel). b.fixed) same
+watched_stay (c ∷ calls) old new none d =
+    let both = neither (is_watch c) (list_any is_watch calls) none in
+    watched_stay calls d.0 new both.1 d.2 ∙ (does-keep c old d.0 both.0 d.1).fixed
 
 pub rows_are_replayed : RowsAreReplayed
 rows_are_replayed t fixed calls new d =

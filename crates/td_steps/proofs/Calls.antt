@@ -6,11 +6,12 @@ use Rattle.td_book.specs.Desk.{BookModel}
 use Rattle.td_steps.specs.Sees.{Sees, resting}
 use Rattle.td_steps.specs.Moves.{Move}
 use Rattle.td_steps.specs.Runs.{LeadsOn}
-use Rattle.td_steps.specs.Books.{Call, command, undo, start, finish, arrive, sweep, Does}
+use Rattle.td_steps.specs.Books.{Call, command, undo, start, finish, arrive, sweep, watch, Does}
 use Rattle.td_steps.specs.Calls.{MovesOf, CallsAreSteps, BooksAreSteps}
 use Rattle.td_steps.proofs.Commands.{commands_are_steps}
 use Rattle.td_steps.proofs.Undos.{undos_are_steps}
 use Rattle.td_steps.proofs.Arrivals.{arrivals_are_steps, sweeps_are_steps}
+use Rattle.td_steps.proofs.Watches.{watches_are_steps}
 use Rattle.td_steps.proofs.Builds.{starts_are_steps, finishes_are_steps}
 use Rattle.td_steps.proofs.Openings.{openings_are_steps}
 
@@ -23,6 +24,7 @@ one-call w (finish o before behind r) old new sees d =
     finishes_are_steps w before.hand o before behind old new r sees d
 one-call w (arrive k r) old new sees d = arrivals_are_steps w k old new r sees d
 one-call w (sweep r) old new sees d = sweeps_are_steps w old new r sees d
+one-call w (watch groups given r) old new sees d = watches_are_steps w groups given old new r sees d
 
 pub calls_are_steps : CallsAreSteps
 calls_are_steps w [] old new sees same =

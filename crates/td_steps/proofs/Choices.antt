@@ -25,7 +25,7 @@ use Rattle.td_core.specs.Refusals.{is_queued_at, withdraw_refusal, note_refusal}
 use Rattle.td_core.specs.Steps.{after, after_all, noted}
 use Rattle.td_core.specs.Worlds.{WorldView, phase_of, with_phase, journaled}
 use Rattle.td_core.proofs.Phases.{phase_of-other}
-use Rattle.td_core.proofs.Worlds.{after-accepted, after-refused}
+use Rattle.td_core.proofs.WorldSteps.{after-accepted, after-refused}
 use Rattle.td_book.specs.Calls.{is_lost, noting_one, noting, off_for, entered}
 use Rattle.td_book.specs.Desk.{BookModel, claim_of}
 use Rattle.td_book.proofs.Steps.{rows_with}

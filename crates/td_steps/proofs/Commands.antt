@@ -21,7 +21,8 @@ use Rattle.td_book.specs.Seen.{seen_off}
 use Rattle.td_book.specs.declared.commanding.CommandRefusal.{CommandRefusal}
 use Rattle.td_book.specs.declared.commanding.CommandRefusal.TheVariants as commands
 use Rattle.td_book.proofs.Seeing.{desks_off}
-use Rattle.td_book.proofs.Steps.{rows_with, up_now, commands_desks}
+use Rattle.td_book.proofs.Steps.{rows_with, up_now}
+use Rattle.td_book.proofs.Withdrawals.{commands_desks}
 use Rattle.td_book.proofs.Calls.{off_within, noting-opening, kinds_command}
 use Rattle.td_wbread.specs.Command.{CommandParts}
 use Rattle.td_wbread.specs.Naming.{is_named}

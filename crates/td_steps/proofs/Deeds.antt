@@ -11,7 +11,8 @@ use Rattle.td_rows.specs.declared.key.Key.{Key}
 use Rattle.td_journal.specs.declared.entry.Marked.{Marked}
 use Rattle.td_book.specs.Deeds.{IsInside, deeds_of}
 use Rattle.td_book.proofs.Deeds.{at_list_at}
-use Rattle.td_steps.specs.Deeds.{AreOwn, JournalsTellDeeds}
+use Rattle.td_rows.specs.Table.{keys_of}
+use Rattle.td_steps.specs.Deeds.{AreOwn, JournalsTellDeeds, BooksTellDeeds}
 
 -- what the desk has noted of a builder is what the journal says
 noted-told : (d : DeskView) (every : List Key) (since : ℕ) (ms : List Marked)
@@ -33,3 +34,8 @@ journals_tell rows m reached d desk every since ms inside b v mine =
     = nothing_invented rows m reached b d v desk mine in
     own_too v.mine (noted_of d b) (deeds_of b every (drop since ms))
     (noted-told d every since ms inside b law.1 law.2) law.3
+
+pub books_tell : BooksTellDeeds
+books_tell rows m reached seat desk book rest b v mine =
+    journals_tell rows m reached seat.desk desk (keys_of book.history.opening) book.fixed.since
+    book.history.journal rest.noted b v mine

@@ -22,8 +22,8 @@ use Rattle.td_core.specs.Steps.{refusal, after, noted}
 use Rattle.td_core.specs.Worlds.{WorldView, IsWorld, phase_of, with_phase, hand_of, with_hand}
 use Rattle.td_core.specs.Worlds.{journaled}
 use Rattle.td_core.proofs.Promises.{builders_are_there}
-use Rattle.td_core.proofs.Worlds.{IsWorld-after, after-accepted, after-refused, after-finish}
 use Rattle.td_core.proofs.Worlds.{row-there}
+use Rattle.td_core.proofs.WorldSteps.{IsWorld-after, after-accepted, after-refused, after-finish}
 use Rattle.td_book.specs.Calls.{noting_one}
 use Rattle.td_book.specs.Desk.{BookModel, claim_of}
 use Rattle.td_steps.specs.Sees.{Sees, resting}

@@ -23,8 +23,9 @@ use Rattle.td_core.specs.Offers.{supply_now}
 use Rattle.td_core.specs.Refusals.{is_queued_at}
 use Rattle.td_core.proofs.Freeing.{AppliesOn-freed}
 use Rattle.td_core.proofs.Taking.{AppliesOn-filter}
-use Rattle.td_core.proofs.Worlds.{AppliesOn-one}
+use Rattle.td_core.proofs.WorldSteps.{AppliesOn-one}
 use Rattle.td_book.specs.declared.arriving.ArriveRefusal.TheVariants as arrivals
+use Rattle.td_book.specs.declared.watching.WatchRefusal.TheVariants as watches
 use Rattle.td_book.specs.declared.commanding.CommandRefusal.{CommandRefusal}
 use Rattle.td_book.specs.declared.commanding.CommandRefusal.TheVariants as commands
 use Rattle.td_book.specs.declared.commanding.Taken.{Taken}
@@ -45,8 +46,8 @@ use Rattle.td_wbread.specs.Kinds.{kind_of}
 use Rattle.td_book.specs.Undoing.{undo_stop, UndoAnswer, IsWon}
 use Rattle.td_book.proofs.Steps.{up_now}
 use Rattle.td_steps.specs.Commands.{off_in}
-use Rattle.td_steps.specs.Books.{Call, command, undo, start, finish, arrive, sweep, Does, DoAll}
-use Rattle.td_steps.specs.Books.{EntriesAreLawful}
+use Rattle.td_steps.specs.Books.{Call, command, undo, start, finish, arrive, sweep, watch, Does}
+use Rattle.td_steps.specs.Books.{DoAll, EntriesAreLawful}
 use Rattle.td_steps.proofs.Parts.{queued-row}
 use Rattle.td_steps.proofs.Builds.{built-row}
 use Rattle.td_steps.proofs.Undos.{stop-none}
@@ -222,6 +223,12 @@ does-sound (sweep (Ok (Some n))) old new d s =
     (AppliesOn-freed (supply_now old.fixed.stock old.history) (rows_of old.history)
     (up_now old.history s.up)) s
 does-sound (sweep (Err e)) old new d s = same-book old new s d
+does-sound (watch groups given (Ok u)) old new d s =
+    sound-to old.history new.history s (ap (λ (b : BookModel). b.history) d.1)
+does-sound (watch groups given (Err (watches.NoSuchRow k))) old new d s = same-book old new s d.1
+does-sound (watch groups given (Err (watches.Twice k))) old new d s = same-book old new s d.1
+does-sound (watch groups given (Err (watches.BadGroup k))) old new d s = same-book old new s d.1
+does-sound (watch groups given (Err watches.NoMemory)) old new d s = same-book old new s d
 
 -- ---- 3. of lists of calls
 

@@ -5,6 +5,7 @@ pub mod Parts
 pub mod Commands
 pub mod Undos
 pub mod Arrivals
+pub mod Watches
 pub mod Builds
 pub mod Openings
 pub mod Choices

@@ -43,8 +43,8 @@ use Rattle.td_core.specs.Steps.{refusal, answer_to, sweep_answer, accepted, afte
 use Rattle.td_core.specs.Steps.{settled, finished, swept, swept_now}
 use Rattle.td_core.specs.Worlds.{WorldView, phase_of, with_phase, hand_of, with_hand, journaled}
 use Rattle.td_core.specs.Worlds.{IsWorld}
-use Rattle.td_core.proofs.Worlds.{IsWorld-after, answer_to-accepted, answer_to-refused}
-use Rattle.td_core.proofs.Worlds.{after-accepted, after-refused, claims, finishes}
+use Rattle.td_core.proofs.WorldSteps.{IsWorld-after, answer_to-accepted, answer_to-refused}
+use Rattle.td_core.proofs.WorldSteps.{after-accepted, after-refused, claims, finishes}
 use Rattle.td_steps.specs.Sees.{Desk, view_of, with_view, entering, Sees, is_off, Fits, FitAll}
 use Rattle.td_steps.specs.Moves.{Move, offer, won, lost, note, commit, undo, settle, arrive, sweep}
 use Rattle.td_steps.specs.Moves.{step_of, answer_of, next_no, swept_as, moved, sweeping, freed_by}

@@ -27,7 +27,8 @@ use Rattle.td_book.specs.Seen.{seen_off}
 use Rattle.td_book.specs.Undoing.{undo_stop, mark_stop, UndoAnswer, UndoOutcome, IsWon}
 use Rattle.td_book.specs.declared.undoing.UndoRefusal.{UndoRefusal}
 use Rattle.td_book.specs.declared.undoing.UndoRefusal.TheVariants as undos
-use Rattle.td_book.proofs.Steps.{undone_off, unnamed_before, ascending_take}
+use Rattle.td_book.proofs.Steps.{unnamed_before}
+use Rattle.td_book.proofs.Withdrawals.{undone_off, ascending_take}
 use Rattle.td_book.proofs.Calls.{off_within}
 use Rattle.td_core.specs.declared.step.Answer.TheVariants as answers
 use Rattle.td_core.proofs.Promises.{entries_rise}

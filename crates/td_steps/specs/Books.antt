@@ -1,6 +1,7 @@
 -- What holds of a book over any list of its calls. This project's own.
-use Rattle.std.specs.Prelude.{◌≡◌, ℕ, true, List, [], ◌∷◌, ◌++◌, map, Option, Some, None, Result}
-use Rattle.std.specs.Prelude.{Ok, Err, OnOk}
+use Rattle.std.specs.Prelude.{◌≡◌, ℕ, Bool, true, false, List, [], ◌∷◌, ◌++◌, map, Option, Some}
+use Rattle.std.specs.Prelude.{None, Result, Ok, Err, OnOk}
+use Rattle.std.specs.List.{list_any}
 use Rattle.std.specs.declared.alloc.AllocError.{AllocError}
 use Rattle.td_board.specs.declared.views.BuilderView.{BuilderView}
 use Rattle.td_board.specs.declared.views.Hand.{Hand}
@@ -23,6 +24,7 @@ use Rattle.td_book.specs.declared.starting.Job.{Job}
 use Rattle.td_book.specs.declared.starting.StartRefusal.{StartRefusal}
 use Rattle.td_book.specs.declared.undoing.UndoRefusal.{UndoRefusal}
 use Rattle.td_book.specs.declared.undoing.UndoRefusal.TheVariants.{Blocked}
+use Rattle.td_book.specs.declared.watching.WatchRefusal.{WatchRefusal}
 use Rattle.td_book.specs.Arriving.{ArriveOutcome, SweepOutcome}
 use Rattle.td_book.specs.Building.{StartOutcome}
 use Rattle.td_book.specs.Calls.{noting, Choices}
@@ -30,6 +32,7 @@ use Rattle.td_book.specs.Commands.{IsDone}
 use Rattle.td_book.specs.Desk.{Fixed, BookModel}
 use Rattle.td_book.specs.Finishing.{FinishOutcome}
 use Rattle.td_book.specs.Undoing.{undo_stop, UndoAnswer, UndoOutcome}
+use Rattle.td_book.specs.WatchCalls.{WatchOutcome}
 use Rattle.td_steps.specs.Commands.{off_in}
 
 -- a call with what it was given and what it answered; of a finish, what the builder's seat was
@@ -41,6 +44,12 @@ pub data Call : Type 0 where
   finish : Outcome → BuilderView → BuilderView → Result ℕ FinishRefusal → Call
   arrive : Key → Result ℕ ArriveRefusal → Call
   sweep : Result (Option ℕ) AllocError → Call
+  watch : ℕ → List (Key × ℕ) → Result (Unit {0}) WatchRefusal → Call
+
+-- whether it is a watch
+abbrev pub is_watch : Call → Bool
+is_watch (watch groups given result) = true
+is_watch call = false
 
 -- what its contract says of the book before and behind it
 abbrev pub Does : Call → BookModel → BookModel → Type 0
@@ -51,6 +60,7 @@ Does (finish o before behind result) old new =
     FinishOutcome before.hand o before behind old new result
 Does (arrive k result) old new = ArriveOutcome k old new result
 Does (sweep result) old new = SweepOutcome old new result
+Does (watch groups given result) old new = WatchOutcome groups given old new result
 
 -- so it is of each of the calls, one after the other
 abbrev pub DoAll : List Call → BookModel → BookModel → Type 0
@@ -61,16 +71,23 @@ DoAll (c ∷ calls) old new = (between : BookModel) × Does c old between × DoA
 abbrev pub entries_in : BookModel → List Entry
 entries_in b = map (λ (m : Marked). m.entry) b.history.journal
 
--- the opening rows and what no call changes stay, and so does each entry; more are appended
+-- the opening rows and what no call changes stay, the watched rows aside, and so does each entry;
+-- more are appended
 pub record Follows (old new : BookModel) : Type 0 where
   pub opening : new.history.opening ≡ old.history.opening
-  pub fixed : new.fixed ≡ old.fixed
+  pub fixed : new.fixed ≡ record old.fixed { watch = new.fixed.watch }
   pub added : List Entry
   pub entries : entries_in new ≡ entries_in old ++ added
 
 -- so it is over any list of calls
 abbrev pub EntriesStay : Type 0
 EntriesStay = (calls : List Call) (old new : BookModel) → DoAll calls old new → Follows old new
+
+-- and without a watch among them the watched rows stay the same ones
+abbrev pub WatchedStay : Type 0
+WatchedStay =
+    (calls : List Call) (old new : BookModel) → list_any is_watch calls ≡ false
+    → DoAll calls old new → new.fixed ≡ old.fixed
 
 -- whatever calls were made since the opening, with whatever answers: the rows (`Book::rows` shows
 -- them) are the meanings of the journal's standing entries, folded over the opening rows

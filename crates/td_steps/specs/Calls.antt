@@ -15,8 +15,10 @@ use Rattle.td_steps.specs.Parts.{offering}
 use Rattle.td_steps.specs.Commands.{CommandMoves}
 use Rattle.td_steps.specs.Undos.{UndoMoves}
 use Rattle.td_steps.specs.Arrivals.{ArriveMoves, SweepMoves}
+use Rattle.td_steps.specs.Watches.{WatchMoves}
 use Rattle.td_steps.specs.Builds.{StartMoves, FinishMoves}
-use Rattle.td_steps.specs.Books.{Call, command, undo, start, finish, arrive, sweep, Does, DoAll}
+use Rattle.td_steps.specs.Books.{Call, command, undo, start, finish, arrive, sweep, watch, Does}
+use Rattle.td_steps.specs.Books.{DoAll}
 
 -- the moves that a call may have made
 abbrev pub MovesOf : Call → BookModel → List Move → Type 0
@@ -27,6 +29,7 @@ MovesOf (finish o before behind result) old moves =
     FinishMoves before.hand before.number o old result moves
 MovesOf (arrive k result) old moves = ArriveMoves k old result moves
 MovesOf (sweep result) old moves = SweepMoves old result moves
+MovesOf (watch groups given result) old moves = WatchMoves moves
 
 -- each call is a list of moves; from every world to which a run of them leads the calls behind it
 -- are so, and the book sees the world at the end

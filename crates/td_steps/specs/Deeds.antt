@@ -3,10 +3,14 @@ use Rattle.std.specs.Prelude.{◌≡◌, ◌⊎◌, ℕ, List, [], ◌∷◌, �
 use Rattle.td_board.specs.declared.views.Deed.{Deed}
 use Rattle.td_board.specs.declared.views.DeskView.{DeskView}
 use Rattle.td_board.specs.declared.views.BuilderView.{BuilderView}
+use Rattle.td_board.specs.Seats.{DeskModel}
 use Rattle.td_board.specs.Steps.{Moment, DeskKnows, BuilderKnows, Reached}
 use Rattle.td_rows.specs.declared.key.Key.{Key}
 use Rattle.td_journal.specs.declared.entry.Marked.{Marked}
+use Rattle.td_rows.specs.Table.{keys_of}
+use Rattle.td_book.specs.AtRest.{IsAtRest}
 use Rattle.td_book.specs.Deeds.{IsInside, deeds_of}
+use Rattle.td_book.specs.Desk.{BookModel}
 
 -- a builder's own list is that of the journal, but for its last deed at most
 abbrev pub AreOwn : List Deed → List Deed → Type 0
@@ -22,3 +26,14 @@ JournalsTellDeeds = (rows : ℕ) (m : Moment) → Reached rows m
     → (every : List Key) (since : ℕ) (ms : List Marked) → IsInside d.noted every since ms
     → (b : ℕ) (v : BuilderView) → BuilderKnows m b v
     → AreOwn v.mine (deeds_of b every (drop since ms))
+
+-- what the journal of a book says of a builder, after the entries of before
+abbrev pub told_of : ℕ → BookModel → List Deed
+told_of b book = deeds_of b (keys_of book.history.opening) (drop book.fixed.since book.history.journal)
+
+-- so it is of every book at rest: of its seat `Book::seat` ensures this
+abbrev pub BooksTellDeeds : Type 0
+BooksTellDeeds = (rows : ℕ) (m : Moment) → Reached rows m
+    → (seat : DeskModel) → DeskKnows m seat.desk
+    → (book : BookModel) → IsAtRest seat book
+    → (b : ℕ) (v : BuilderView) → BuilderKnows m b v → AreOwn v.mine (told_of b book)

@@ -1,18 +1,20 @@
 //! Each call of the book is a list of steps, each law the contract of a function that does nothing.
 ghost use Rattle.td_steps.specs.Arrivals.{ArrivalsAreSteps, SweepsAreSteps};
-ghost use Rattle.td_steps.specs.Books.{EntriesStay, RowsAreReplayed, EntriesAreLawful};
+ghost use Rattle.td_steps.specs.Books.{EntriesStay, WatchedStay, RowsAreReplayed, EntriesAreLawful};
 ghost use Rattle.td_steps.specs.Books.{UndoneAtOnce, BlockedExactly, UndoneElse, WonNamesTheLatest};
 ghost use Rattle.td_steps.specs.Builds.{StartsAreSteps, FinishesAreSteps, FinishesRun};
 ghost use Rattle.td_steps.specs.Calls.{CallsAreSteps, BooksAreSteps};
 ghost use Rattle.td_steps.specs.Choices.{WorldsDecide, DecidedCommandsRun};
 ghost use Rattle.td_steps.specs.Commands.{CommandsAreSteps};
-ghost use Rattle.td_steps.specs.Deeds.{JournalsTellDeeds};
+ghost use Rattle.td_steps.specs.Deeds.{JournalsTellDeeds, BooksTellDeeds};
 ghost use Rattle.td_steps.specs.Laws.{MovesAreSteps, BuildersChangeNothing, RunsAreSeen};
 ghost use Rattle.td_steps.specs.Openings.{OpeningsAreSteps, HistoriesOpen};
 ghost use Rattle.td_steps.specs.Reopenings.{ReopeningsAreSteps, ReopenedBooksAreSteps};
 ghost use Rattle.td_steps.specs.Reopenings.{ReopenedAreReplayed};
 ghost use Rattle.td_steps.specs.Turns.{CommandsGoOn, StartsGoOn, UndosGoOn, OthersGoOn, TurnsRun};
 ghost use Rattle.td_steps.specs.Undos.{UndosAreSteps};
+ghost use Rattle.td_steps.specs.Watches.{WatchesStayAside, WatchesAreRefusedForReasons};
+ghost use Rattle.td_steps.specs.Watches.{WatchesAreSteps};
 
 /// Each move that the desk may make is the world's step of that name, refused only where it is a
 /// withdrawal that a builder's claim beat; and the desk knows what comes of it.
@@ -53,12 +55,21 @@ pub fn undos_are_steps()
     ensures { UndosAreSteps }
 {}
 
-/// The same of a builder's start and finish, of an arrival and of a sweep.
+/// The same of a builder's start and finish, of an arrival and of a sweep; and a watch is no move
+/// at all.
 pub fn other_calls_are_steps()
     ensures starts { StartsAreSteps }
     ensures finishes { FinishesAreSteps }
     ensures arrivals { ArrivalsAreSteps }
     ensures sweeps { SweepsAreSteps }
+    ensures watches { WatchesAreSteps }
+{}
+
+/// A watch leaves the history and the desk's seat, and a refused one the former watch. It is
+/// refused for its own reason, or for want of memory.
+pub fn watches_stay_aside()
+    ensures aside { WatchesStayAside }
+    ensures reasons { WatchesAreRefusedForReasons }
 {}
 
 /// So it is of any list of calls, whatever they answer, and of any since the opening or a
@@ -94,11 +105,13 @@ pub fn commands_go_on()
 {}
 
 /// Over any list of a book's calls, whatever they answer, the opening rows and each entry stay and
-/// more are appended; so the rows are the standing entries folded over the opening rows, each of
+/// more are appended, and the watched rows stay where none of the calls is a watch; so the rows are
+/// the standing entries folded over the opening rows, each of
 /// which applies on what those before it left. So it is of a reopened book, whose text's entries
 /// count with the later ones.
 pub fn rows_are_replayed()
     ensures entries { EntriesStay }
+    ensures watched { WatchedStay }
     ensures rows { RowsAreReplayed }
     ensures lawful { EntriesAreLawful }
     ensures reopened { ReopenedAreReplayed }
@@ -111,18 +124,21 @@ pub fn a_command_is_undone_at_once()
     ensures { UndoneAtOnce }
 {}
 
-/// A book refuses the undo of a standing command for a later entry exactly where one blocks it, and
-/// names the latest; without one it is undone, but for want of memory or a faster claim, whose
-/// entry it names: behind it that is the latest that blocks. So it is of any book.
+/// The undo of a standing command that a later entry blocks is refused for the latest such, and
+/// changes nothing. One that no later entry blocks is undone, but for want of memory, or where a
+/// builder had won one of its rows: that claim is noted, and the undo refused for the claim's
+/// entry, the latest that blocks it from then on. So it is of any book.
 pub fn an_undo_is_refused_where_blocked()
     ensures blocked { BlockedExactly }
     ensures undone { UndoneElse }
     ensures won { WonNamesTheLatest }
 {}
 
-/// At every moment of every schedule of a board, what a book's journal says of a builder since the
-/// opening is what that builder did, in order: no claim and no outcome is invented, dropped or
-/// changed, and only the builder's last deed may not be there yet.
+/// At every moment of every schedule of a board, what the journal of a book at the desk's seat says
+/// of a builder, after the entries that the book opened with, is what that builder did, in order:
+/// no claim and no outcome is invented, dropped or changed, and only the builder's last deed may
+/// not be there yet. (`Book::seat` is such a seat.)
 pub fn journals_tell_the_builders_deeds()
-    ensures { JournalsTellDeeds }
+    ensures lists { JournalsTellDeeds }
+    ensures books { BooksTellDeeds }
 {}

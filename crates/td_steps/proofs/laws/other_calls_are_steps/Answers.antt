@@ -1,5 +1,6 @@
 use Rattle.td_steps.proofs.Arrivals.{arrivals_are_steps, sweeps_are_steps}
 use Rattle.td_steps.proofs.Builds.{starts_are_steps, finishes_are_steps}
+use Rattle.td_steps.proofs.Watches.{watches_are_steps}
 use Rattle.td_steps.proofs.laws.other_calls_are_steps.Goals as goal
 
 pub returns-clause-starts : goal.returns-clause-starts
@@ -13,3 +14,6 @@ returns-clause-arrivals c = arrivals_are_steps
 
 pub returns-clause-sweeps : goal.returns-clause-sweeps
 returns-clause-sweeps c = sweeps_are_steps
+
+pub returns-clause-watches : goal.returns-clause-watches
+returns-clause-watches c = watches_are_steps
