@@ -13,8 +13,6 @@ mod key_line;
 mod outcome_line;
 mod outcomes;
 mod stop;
-#[cfg(test)]
-mod tests;
 mod unused;
 mod working;
 

@@ -28,7 +28,7 @@ use Rattle.td_book.specs.Desk.{BookModel}
 use Rattle.td_wbread.specs.Kinds.{kind_with, kind_of}
 use Rattle.td_book.specs.Skips.{skip_at, is_skipped, skips_of}
 use Rattle.td_book.proofs.Calls.{kinds_command, off_short}
-use Rattle.td_book.proofs.Steps.{commands_desks}
+use Rattle.td_book.proofs.Withdrawals.{commands_desks}
 use Rattle.td_desk.specs.declared.receipt.Receipt.TheVariants.{Made}
 use Rattle.td_desk.specs.Receipts.{made_of}
 use Rattle.td_desk.specs.Calls.{skipped_keys, without, command_receipt}

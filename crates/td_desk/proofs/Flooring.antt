@@ -18,8 +18,9 @@ use Rattle.td_book.specs.Building.{StartOutcome}
 use Rattle.td_book.specs.Deeds.{code_of}
 use Rattle.td_book.specs.Desk.{BookModel}
 use Rattle.td_book.specs.Finishing.{FinishHeld, FinishOutcome}
+use Rattle.td_book.specs.Ready.{is_any_queued}
 use Rattle.td_builder.specs.Floors.{IsHolding, IsStarted, IsFinished}
-use Rattle.td_desk.specs.Calls.{Starting, Finishing, MayBeJob, is_any_queued}
+use Rattle.td_desk.specs.Calls.{Starting, Finishing, MayBeJob}
 
 by_hand : (table : TableId) (b : ℕ) (hand : Hand) (old new : BookModel) (job : Job)
     → old.fixed.table ≡ table → StartOutcome b hand old new (Ok job)

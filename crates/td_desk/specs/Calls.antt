@@ -1,15 +1,12 @@
 -- What the calls of a desk answer, each over the locked book as it was when the call had the lock,
 -- and what receipt a clerk gets. This project's own.
-use Rattle.std.specs.Prelude.{◌≡◌, ℕ, Bool, not, List, [], ◌∷◌, Option, Result, IfOk, filter, map}
-use Rattle.std.specs.List.{list_any}
+use Rattle.std.specs.Prelude.{◌≡◌, ℕ, not, List, [], ◌∷◌, Option, Result, IfOk, filter, map}
 use Rattle.std.specs.declared.alloc.AllocError.{AllocError}
 use Rattle.atomic_table.specs.Seated.{TableId}
 use Rattle.td_rows.specs.declared.key.Key.{Key}
 use Rattle.td_rows.specs.declared.kind.Kind.TheVariants as kinds
 use Rattle.td_rows.specs.declared.outcome.Outcome.{Outcome}
 use Rattle.td_rows.specs.Keys.{names}
-use Rattle.td_rows.specs.States.{is_queued}
-use Rattle.td_rows.specs.Table.{Table}
 use Rattle.td_wbread.specs.Command.{CommandParts}
 use Rattle.td_wbread.specs.Kinds.{kind_of}
 use Rattle.td_board.specs.Seats.{BuilderModel}
@@ -94,9 +91,3 @@ Finishing outcome seat after table result =
 -- which jobs may be answered for the row with a number: those of a book at the table
 abbrev pub MayBeJob : TableId → ℕ → Job → Type 0
 MayBeJob table row job = (b : BookModel) × (b.fixed.table ≡ table) × IsJobAt row b job
-
--- ---- 4. rows that wait
-
--- whether a row waits for a builder
-abbrev pub is_any_queued : Table → Bool
-is_any_queued t = list_any (λ p. is_queued p.1.state) t

@@ -2,8 +2,8 @@
 ghost use Rattle.std.specs.Prelude.{◌≡◌, ◌⊎◌, Err, IfOk};
 ghost use Rattle.td_core.specs.History.{rows_of};
 ghost use Rattle.td_book.specs.Desk.{BookModel};
-ghost use Rattle.td_book.specs.Ready.{IsReady};
-ghost use Rattle.td_desk.specs.Calls.{Starting, Finishing, is_any_queued};
+ghost use Rattle.td_book.specs.Ready.{IsReady, is_any_queued};
+ghost use Rattle.td_desk.specs.Calls.{Starting, Finishing};
 
 use crate::desk::Desk;
 use crate::named::Named;
@@ -62,9 +62,9 @@ impl<'a, N: Named, C: Ledger> Desk<'a, N, C> {
     }
 }
 
-// Whether a row waits for a builder.
+// Whether a row waits for a builder. It looks at no row.
 fn has_work(book: &Book<'_>) -> bool
     ensures { result ≡ is_any_queued (rows_of book.now.history) }
 {
-    book.rows().iter().any(|(_, row)| row.state.needs_build())
+    book.waits()
 }

@@ -14,7 +14,8 @@ impl<'a, N: Named, C: Ledger> Floor for Desk<'a, N, C> {
     ghost use Rattle.std.specs.Prelude.{◌≡◌, false};
     ghost use Rattle.td_core.specs.History.{rows_of};
     ghost use Rattle.td_book.specs.Desk.{BookModel};
-    ghost use Rattle.td_desk.specs.Calls.{MayBeJob, is_any_queued};
+    ghost use Rattle.td_book.specs.Ready.{is_any_queued};
+    ghost use Rattle.td_desk.specs.Calls.{MayBeJob};
 
     ghost table = { λ d. N.table };
 

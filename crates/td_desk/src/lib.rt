@@ -20,8 +20,6 @@ mod matching;
 mod named;
 mod place;
 mod receipt;
-#[cfg(test)]
-mod tests;
 mod tick;
 mod told;
 

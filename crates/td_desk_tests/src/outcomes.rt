@@ -1,13 +1,10 @@
-//! What no clause says: that calls succeed with ample memory, which line a build uses, and that
-//! work goes on until nothing is ready. Expected answers are by hand from `docs/FORMATS.md`.
-mod floor;
-
-use crate::{Builds, Outcomes};
-use floor::work_over;
+//! Lines of outcomes: which texts are read, and which line a build uses. Expected answers are by
+//! hand from `docs/FORMATS.md`.
 use std::alloc::Global;
 use std::sync::Wait;
 use std::test::Fail;
 use td_book::Job;
+use td_builder::{Builds, Outcomes};
 use td_rows::{Key, Line, Outcome, RebuildNumber, read_key};
 
 // What reading a text answers.
@@ -114,65 +111,5 @@ fn each_build_of_a_key_uses_its_next_line(rt: HostRuntime) -> Result<(), Fail> {
             outcome
         );
     }
-    Ok(())
-}
-
-// The text of a line, so many times over.
-fn times(alloc: Global, line: &str, count: usize) -> Result<String, Fail> {
-    let mut text = String::new(alloc);
-    for _ in 0..count {
-        text.push_str(line)?;
-    }
-    Ok(text)
-}
-
-// Lines and a state file, and what a builder's work answers with the rows that it leaves.
-const WORKS: [(&str, &str, &str); 6] = [
-    (
-        "foo/amd64 givenback\nfoo/amd64 built\n",
-        "foo/amd64 Needs-Build 0 0\n",
-        "Ok(2)\nfoo/amd64 Built 0 0\n",
-    ),
-    (
-        "",
-        "foo/amd64 Needs-Build 0 0\n",
-        "Ok(1)\nfoo/amd64 Built 0 0\n",
-    ),
-    (
-        "",
-        "foo/amd64 Installed 0 0\n",
-        "Ok(0)\nfoo/amd64 Installed 0 0\n",
-    ),
-    ("foo/amd64 built\n", "", "Ok(0)\n"),
-    (
-        "foo/amd64 waits : libbar-dev\n",
-        "foo/amd64 Needs-Build 0 1\n",
-        "Ok(1)\nfoo/amd64 Dep-Wait 0 1 : libbar-dev\n",
-    ),
-    (
-        "foo/i386 attempted\nfoo/amd64 givenback\n",
-        "foo/amd64 Needs-Build 0 0\nfoo/i386 Needs-Build 7 0\n",
-        "Ok(3)\nfoo/amd64 Built 0 0\nfoo/i386 Build-Attempted 7 0\n",
-    ),
-];
-
-#[test]
-fn a_builder_works_until_nothing_is_ready(rt: HostRuntime) -> Result<(), Fail> {
-    for (lines, opening, answer) in WORKS {
-        let outcomes = Outcomes::read(rt.alloc(), lines)?;
-        assert_eq!(rt;
-            work_over(&rt, rt.alloc(), opening, &outcomes)?.as_str(),
-            answer
-        );
-    }
-    Ok(())
-}
-
-#[test]
-fn a_thousand_lines_are_used_one_by_one(rt: HostRuntime) -> Result<(), Fail> {
-    let lines = times(rt.alloc(), "foo/amd64 givenback\n", 1000)?;
-    let outcomes = Outcomes::read(rt.alloc(), lines.as_str())?;
-    let answer = work_over(&rt, rt.alloc(), "foo/amd64 Needs-Build 0 0\n", &outcomes)?;
-    assert_eq!(rt; answer.as_str(), "Ok(1001)\nfoo/amd64 Built 0 0\n");
     Ok(())
 }

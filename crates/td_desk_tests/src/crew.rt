@@ -1,0 +1,296 @@
+//! Builders on threads of their own beside clerks, who command and undo by a fixed sequence of
+//! numbers.
+use crate::people::{Hired, People, TABLE};
+use crate::tally::{Answer, Tally};
+use std::alloc::Global;
+use std::sync::Wait;
+use std::sync::ledger::Ledger;
+use std::test::Fail;
+use std::thread::Threads;
+use std::{mem, thread};
+use td_book::{Book, CommandRefusal, UndoRefusal};
+use td_desk::{Clerk, Desk, Named, Receipt};
+use td_journal::EntryNo;
+use td_relation::Archs;
+use td_rows::Key;
+use td_wbread::read_command;
+
+// How many rows the builders claim.
+const ROWS: usize = 4;
+
+const VERBS: [&str; 5] = ["gb", "bp 5", "bp -5", "nmu", "nmu"];
+
+const TAILS: [&str; 4] = ["foo . ANY", "bar . ANY", "foo bar . ANY", "foo bar . amd64"];
+
+// How builders come to rows: by their work, or by a claim of row after row without pause.
+#[derive(Clone, Copy, PartialEq, Eq)]
+pub(crate) enum Style {
+    Work,
+    Claim,
+}
+
+// Claims each row once, and builds what was won.
+fn claim_each<N: Named, C: Ledger, R: Wait>(
+    rt: &R,
+    desk: &Desk<'static, N, C>,
+    hired: &mut Hired<N>,
+    tally: &Tally,
+) {
+    for row in 0..ROWS {
+        if !hired.claim(desk, row) {
+            continue;
+        }
+        if hired.build(rt, desk, row, tally.outcome()) {
+            tally.finish(1);
+        } else {
+            tally.note(Answer::Wrong);
+        }
+    }
+}
+
+// Claims row after row, until the clerks are done.
+fn claim_on<N: Named, C: Ledger, R: Wait>(
+    rt: &R,
+    desk: &Desk<'static, N, C>,
+    hired: &mut Hired<N>,
+    tally: &Tally,
+) {
+    for _ in rt.forever() {
+        claim_each(rt, desk, hired, tally);
+        if tally.has_ended() {
+            break;
+        }
+    }
+}
+
+// A builder, on a thread.
+fn serve<N: Named, C: Ledger, R: Wait>(
+    rt: &R,
+    desk: &Desk<'static, N, C>,
+    hired: Hired<N>,
+    style: Style,
+    tally: &Tally,
+) {
+    let mut hired = hired;
+    match style {
+        Style::Claim => claim_on(rt, desk, &mut hired, tally),
+        Style::Work => match hired.work(rt, desk, tally) {
+            Ok(builds) => tally.finish(builds),
+            Err(_) => tally.note(Answer::Wrong),
+        },
+    }
+}
+
+// Whether two entries have a row in common.
+fn have_a_row_in_common(book: &Book<'_>, n: EntryNo, m: EntryNo) -> bool {
+    let (Some(one), Some(other)) = (book.entry(n), book.entry(m)) else {
+        return false;
+    };
+    let keys = other.entry.keys.as_slice();
+    one.entry.keys.as_slice().iter().any(|key| is_in(key, keys))
+}
+
+fn is_in(key: &Key, keys: &[Key]) -> bool {
+    keys.iter().any(|other| *other == *key)
+}
+
+// Whether the clerk was told before that the entry is undone.
+fn has_undone(receipts: &[Receipt], n: EntryNo) -> bool {
+    receipts
+        .iter()
+        .any(|receipt| matches!(receipt, Receipt::Undid(m) if *m == n))
+}
+
+// An undo is accepted, blocked by a later entry on one of its rows, or was made before.
+fn undo<N: Named, C: Ledger, R: Wait>(
+    rt: &R,
+    desk: &Desk<'static, N, C>,
+    clerk: &mut Clerk<C>,
+    n: EntryNo,
+) -> Answer {
+    let before = has_undone(clerk.receipts(), n);
+    let lawful = match desk.undo(rt, clerk, n) {
+        Ok(()) if !before => return Answer::Accepted,
+        Err(UndoRefusal::Blocked(m)) => {
+            !before && m > n && desk.look(rt, |book| have_a_row_in_common(book, n, m))
+        }
+        Err(UndoRefusal::AlreadyUndone) => before,
+        _ => false,
+    };
+    if lawful {
+        Answer::Refused
+    } else {
+        Answer::Wrong
+    }
+}
+
+// The number of the clerk's command that is so many back.
+fn own(receipts: &[Receipt], back: u64) -> Option<EntryNo> {
+    receipts
+        .iter()
+        .rev()
+        .filter(|receipt| matches!(receipt, Receipt::Made(_, _, _)))
+        .nth(back as usize)
+        .map(|receipt| receipt.number())
+}
+
+fn has_entry<N: Named, C: Ledger, R: Wait>(rt: &R, desk: &Desk<'static, N, C>, n: EntryNo) -> bool {
+    desk.look(rt, |book| book.entry(n).is_some())
+}
+
+// A command makes the entry that it answers, or skips each row that it names.
+fn command<N: Named, C: Ledger, R: Wait>(
+    rt: &R,
+    alloc: Global,
+    desk: &Desk<'static, N, C>,
+    clerk: &mut Clerk<C>,
+    archs: &Archs<'_>,
+    line: &str,
+) -> Answer {
+    let Ok(command) = read_command(alloc, line, archs, &["unstable"]) else {
+        return Answer::Wrong;
+    };
+    match desk.command(rt, clerk, &command) {
+        Ok(taken) if has_entry(rt, desk, taken.number) => Answer::Accepted,
+        Err(CommandRefusal::NothingApplies(skips)) if skips.as_slice().len() > 1 => Answer::Refused,
+        _ => Answer::Wrong,
+    }
+}
+
+// The command line for a number.
+fn line(alloc: Global, number: u64) -> Option<String> {
+    let verb = VERBS.get((number % 5) as usize)?;
+    let tail = TAILS.get((number / 5 % 4) as usize)?;
+    format!(in alloc; "{verb} {tail}").ok()
+}
+
+// A call for a number: a command on one source or both, or an undo of one of the clerk's own.
+fn call<N: Named, C: Ledger, R: Wait>(
+    rt: &R,
+    alloc: Global,
+    desk: &Desk<'static, N, C>,
+    clerk: &mut Clerk<C>,
+    archs: &Archs<'_>,
+    number: u64,
+) -> Answer {
+    let rest = number / 3;
+    if number % 3 == 0 {
+        return match own(clerk.receipts(), rest % 8) {
+            Some(n) => undo(rt, desk, clerk, n),
+            None => Answer::Refused,
+        };
+    }
+    match line(alloc, rest) {
+        Some(line) => command(rt, alloc, desk, clerk, archs, line.as_str()),
+        None => Answer::Wrong,
+    }
+}
+
+// So many calls of a clerk, and some more where the builders haven't built much by then.
+fn call_often<N: Named, C: Ledger, R: Wait>(
+    rt: &R,
+    alloc: Global,
+    desk: &Desk<'static, N, C>,
+    clerk: &mut Clerk<C>,
+    calls: u64,
+    tally: &Tally,
+) {
+    let Ok(archs) = Archs::read(alloc, TABLE) else {
+        return tally.note(Answer::Wrong);
+    };
+    let mut number = clerk.parts();
+    for count in 0..1_000_000u64 {
+        if count >= calls && tally.is_busy() {
+            return;
+        }
+        number = number
+            .wrapping_mul(6_364_136_223_846_793_005)
+            .wrapping_add(1_442_695_040_888_963_407);
+        tally.note(call(rt, alloc, desk, clerk, &archs, number >> 20));
+    }
+}
+
+// The calls of two clerks at the same time.
+fn call_both<N: Named + Send + Sync, C: Ledger + Send + Sync, R: Threads + Wait + Sync>(
+    rt: &R,
+    alloc: Global,
+    desk: &Desk<'static, N, C>,
+    first: &mut Clerk<C>,
+    second: &mut Clerk<C>,
+    calls: u64,
+    tally: &Tally,
+) {
+    thread::join(
+        rt,
+        || call_often(rt, alloc, desk, first, calls, tally),
+        || call_often(rt, alloc, desk, second, calls, tally),
+    );
+}
+
+// The calls of one clerk, or of two.
+fn call_all<N: Named + Send + Sync, C: Ledger + Send + Sync, R: Threads + Wait + Sync>(
+    rt: &R,
+    alloc: Global,
+    desk: &Desk<'static, N, C>,
+    clerks: &mut Vec<Clerk<C>>,
+    calls: u64,
+    tally: &Tally,
+) {
+    let Some((first, rest)) = clerks.split_first_mut() else {
+        return;
+    };
+    match rest.first_mut() {
+        Some(second) => call_both(rt, alloc, desk, first, second, calls, tally),
+        None => call_often(rt, alloc, desk, first, calls, tally),
+    }
+}
+
+// The calls of the clerks while each builder is on a thread.
+fn call_beside<N: Named + Send + Sync, C: Ledger + Send + Sync, R: Threads + Wait + Sync>(
+    rt: &R,
+    alloc: Global,
+    desk: &Desk<'static, N, C>,
+    clerks: &mut Vec<Clerk<C>>,
+    builders: Vec<Hired<N>>,
+    style: Style,
+    calls: u64,
+    tally: &Tally,
+) {
+    thread::scope(thread::scope_env(), rt, |scope| {
+        for one in builders {
+            if scope
+                .spawn(move || serve(rt, desk, one, style, tally))
+                .is_err()
+            {
+                tally.note(Answer::Wrong);
+            }
+        }
+        call_all(rt, alloc, desk, clerks, calls, tally);
+        tally.end();
+        desk.shut(rt);
+    });
+}
+
+// So many calls of each clerk while all builders build, who are gone then. What was counted.
+pub(crate) fn crew<N: Named + Send + Sync, C: Ledger + Send + Sync, R: Threads + Wait + Sync>(
+    rt: &R,
+    desk: &Desk<'static, N, C>,
+    people: &mut People<N, C>,
+    style: Style,
+    calls: u64,
+) -> Result<String, Fail> {
+    let alloc = people.alloc;
+    let builders = mem::replace(&mut people.builders, Vec::new(alloc));
+    let tally = Tally::new();
+    call_beside(
+        rt,
+        alloc,
+        desk,
+        &mut people.clerks,
+        builders,
+        style,
+        calls,
+        &tally,
+    );
+    tally.told(alloc, calls)
+}

@@ -1,0 +1,44 @@
+//! Clerks and builders at one desk, each on a thread: the rows are a replay of the journal,
+//! whatever the order was in which they came.
+use crate::shop::{Trial, played};
+use std::test::Fail;
+
+const FOUR: &str = "\
+bar/amd64 Needs-Build 0 0
+bar/i386 Installed 0 0
+foo/amd64 Failed 0 0
+foo/i386 Installed 0 1
+";
+
+// Builders who work beside two clerks, of 500 calls each; and builders who claim without pause
+// against the 2,000 calls of one clerk.
+const CREWS: [(usize, &str); 2] = [
+    (
+        8,
+        "part => true\n\
+         beside 500 => wrong 0, accepted some true, built some true, counted all true\n",
+    ),
+    (
+        2,
+        "against 2000 => wrong 0, accepted some true, built some true, counted all true\n",
+    ),
+];
+
+#[test]
+fn rows_are_the_replay_of_the_journal_whoever_comes_first(rt: HostRuntime) -> Result<(), Fail> {
+    for (builders, script) in CREWS {
+        let trial = Trial {
+            builders,
+            opening: FOUR,
+            outcomes: "",
+            script,
+        };
+        let found = played(&rt, rt.alloc(), &trial)?;
+        let first = found
+            .as_str()
+            .split_once("\ntransdesk")
+            .unwrap_or((found.as_str(), ""));
+        assert_eq!(rt; first.0, "closed\nreplayed");
+    }
+    Ok(())
+}

@@ -1,0 +1,32 @@
+//! The tests of the desk, and of builders over it: what no clause says.
+//!
+//! Start at `clerks`, then `builders`, `outcomes`, `journals` and `crews`. `shop` opens a desk and
+//! closes it, `script` reads the calls at it, `people` are the clerks and the builders who make
+//! them. They stand in a crate of their own, over public calls, so that neither the desk nor the
+//! builders are proved a second time with their tests.
+#![tactic(auto)]
+
+#[cfg(test)]
+mod builders;
+#[cfg(test)]
+mod building;
+#[cfg(test)]
+mod clerks;
+#[cfg(test)]
+mod crew;
+#[cfg(test)]
+mod crews;
+#[cfg(test)]
+mod journals;
+#[cfg(test)]
+mod outcomes;
+#[cfg(test)]
+mod people;
+#[cfg(test)]
+mod script;
+#[cfg(test)]
+mod shop;
+#[cfg(test)]
+mod spelling;
+#[cfg(test)]
+mod tally;

@@ -1,0 +1,154 @@
+//! Clerks and builders at a named board.
+ghost use Rattle.std.specs.Prelude.{◌≡◌, All};
+
+use std::alloc::{AllocError, Global};
+use std::marker::PhantomData;
+use std::sync::Wait;
+use std::sync::ledger::Ledger;
+use std::test::Fail;
+use td_board::BuilderSeat;
+use td_builder::{Builds, Outcomes, WorkStop, work};
+use td_desk::{Clerk, Desk, Named};
+use td_rows::Outcome;
+
+// The architectures of the example archive.
+pub(crate) const TABLE: &str = "amd64 linux amd64\ni386 linux i386";
+
+// A builder's seat at the named board.
+#[derive(Drop)]
+pub(crate) struct Hired<N: Named> {
+    seat: BuilderSeat,
+    of: PhantomData<N>,
+    ghost at: { seat.table ≡ N.table },
+}
+
+impl<N: Named> Hired<N> {
+    fn new(seat: BuilderSeat) -> Hired<N>
+        requires { seat.table ≡ N.table }
+    {
+        Hired {
+            seat,
+            of: PhantomData,
+        }
+    }
+
+    // The builder's work at the desk.
+    pub(crate) fn work<C: Ledger, B: Builds, R: Wait>(
+        &mut self,
+        rt: &R,
+        desk: &Desk<'static, N, C>,
+        builds: &B,
+    ) -> Result<u64, WorkStop> {
+        work(rt, desk, &mut self.seat, builds)
+    }
+
+    // Whether the builder's claim of a row wins.
+    pub(crate) fn claim<C: Ledger>(&mut self, desk: &Desk<'static, N, C>, row: usize) -> bool {
+        desk.claim(row, &mut self.seat)
+    }
+
+    // Builds the row in hand, to this end. Whether the job was that row's, and nothing refused.
+    pub(crate) fn build<C: Ledger, R: Wait>(
+        &mut self,
+        rt: &R,
+        desk: &Desk<'static, N, C>,
+        row: usize,
+        outcome: Outcome,
+    ) -> bool {
+        let is_its_own = match desk.start(rt, &self.seat) {
+            Ok(job) => desk.row_no(&job.key) == Some(row),
+            Err(_) => false,
+        };
+        is_its_own && desk.finish(rt, &mut self.seat, outcome).is_ok()
+    }
+}
+
+// The seats, each as one of the named board.
+fn hire<N: Named>(alloc: Global, seats: Vec<BuilderSeat>) -> Result<Vec<Hired<N>>, AllocError>
+    requires { All (λ s. s.table ≡ N.table) seats.items }
+{
+    let mut hired = Vec::with_capacity(alloc, seats.len())?;
+    for seat in seats {
+        hired.push(Hired::new(seat)).map_err(AllocError::from)?;
+    }
+    Ok(hired)
+}
+
+// Who is at a desk, and how builds end.
+#[derive(Drop)]
+pub(crate) struct People<N: Named, C: Ledger> {
+    pub(crate) alloc: Global,
+    pub(crate) outcomes: Outcomes,
+    pub(crate) builders: Vec<Hired<N>>,
+    pub(crate) clerks: Vec<Clerk<C>>,
+}
+
+// One clerk.
+fn alone<C: Ledger>(alloc: Global, clerk: Clerk<C>) -> Result<Vec<Clerk<C>>, AllocError> {
+    let mut clerks = Vec::with_capacity(alloc, 2)?;
+    clerks.push(clerk).map_err(AllocError::from)?;
+    Ok(clerks)
+}
+
+impl<N: Named, C: Ledger> People<N, C> {
+    // One clerk, and a builder on each of the seats.
+    pub(crate) fn new(
+        alloc: Global,
+        clerk: Clerk<C>,
+        seats: Vec<BuilderSeat>,
+        outcomes: &str,
+    ) -> Result<People<N, C>, Fail>
+        requires { All (λ s. s.table ≡ N.table) seats.items }
+    {
+        let clerks = alone(alloc, clerk)?;
+        let builders = hire(alloc, seats)?;
+        Ok(People {
+            alloc,
+            outcomes: Outcomes::read(alloc, outcomes)?,
+            builders,
+            clerks,
+        })
+    }
+
+    // The first clerk gives a part to another, who comes last. Whether there was one to give.
+    pub(crate) fn part(&mut self) -> bool {
+        let Some(first) = self.clerks.first_mut() else {
+            return false;
+        };
+        match first.part() {
+            Some(given) => self.clerks.push(given).is_ok(),
+            None => false,
+        }
+    }
+
+    // The last clerk joins the first. Whether there was another.
+    pub(crate) fn join(&mut self) -> bool {
+        let Some(last) = self.clerks.pop() else {
+            return false;
+        };
+        match self.clerks.first_mut() {
+            Some(first) => first.join(last).is_ok(),
+            None => false,
+        }
+    }
+
+    // The last clerk goes home, with the receipts.
+    pub(crate) fn leave(&mut self) -> bool {
+        self.clerks.pop().is_some()
+    }
+
+    // How often the first clerk can give a part away.
+    pub(crate) fn give(&mut self) -> u64 {
+        let Some(first) = self.clerks.first_mut() else {
+            return 0;
+        };
+        let mut given = 0u64;
+        for _ in 0..5_000 {
+            if first.part().is_none() {
+                return given;
+            }
+            given = given.wrapping_add(1);
+        }
+        given
+    }
+}
