@@ -14,6 +14,7 @@ use Rattle.td_script.specs.OpeningInside.{IsRefusedBy, Stops}
 use Rattle.td_script.specs.Openings.{AreReadable, Texts}
 use Rattle.td_script.specs.Replies.{Setting}
 use Rattle.td_script.proofs.OnlyLaws.{stops_run}
+use Rattle.td_script.proofs.WithoutJournal.{refused_too}
 use Rattle.td_crew.specs.declared.running.CrewFault.{CrewFault}
 use Rattle.td_crew.specs.declared.running.CrewFault.TheVariants.{BadOutcome, Run}
 use Rattle.td_crew.specs.CrewEnds.{AreRead, CrewMayStop, CrewSays, IsNoOutcomes, StopsSo}
@@ -35,7 +36,7 @@ pub unread_says : (May : Setting → History → List ℕ → List ℕ → ℕ �
     → IsNoOutcomes x lines f → Keeps old new → CrewSays May x lines known old new (Err f)
 unread_says May x lines known old new (BadOutcome n) is keeps = (is.0, is.1, keeps)
 unread_says May x lines known old new (Run e) is keeps =
-    (inr is, untouched May x known old new e is keeps)
+    (inr is, untouched May x known old new e (refused_too x e is) keeps)
 
 pub unread_stops : (x : Texts) (f : CrewFault) → StopsSo x f → CrewMayStop x f
 unread_stops x (BadOutcome n) stops = stops

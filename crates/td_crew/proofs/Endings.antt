@@ -1,8 +1,9 @@
 -- What a crew tells ends with the rows of the book with which its desk is closed.
 use Rattle.std.proofs.Common.{◌≡◌, ℕ, ◌+◌, ◌≤◌, List, ◌++◌, length, Option, Some, None, Result, Ok}
-use Rattle.std.proofs.Common.{Err, refl, sym, ap, subst, ◌∙◌, arith}
-use Rattle.std.specs.Prelude.{IfErr, IfOk, OnOk, string_bytes}
+use Rattle.std.proofs.Common.{Err, refl, sym, ap, ap₂, append_assoc, subst, ◌∙◌, arith}
+use Rattle.std.specs.Prelude.{IfErr, IfOk, OnOk, codes, string_bytes}
 use Rattle.std.specs.declared.alloc.AllocError.{AllocError}
+use Rattle.td_rows.specs.StateWriting.{state_text}
 use Rattle.td_rows.specs.Table.{Table}
 use Rattle.td_journal.specs.Entries.{standing}
 use Rattle.td_journal.specs.JournalFile.{IsJournalText}
@@ -16,7 +17,7 @@ use Rattle.td_book.specs.Reopening.{given_back}
 use Rattle.td_desk.specs.Marks.{IsNamedJournal}
 use Rattle.td_script.specs.OpeningInside.{IsToldFrom}
 use Rattle.td_script.specs.Openings.{IsBegun, IsJournalIfGiven}
-use Rattle.td_script.specs.Replies.{Setting}
+use Rattle.td_script.specs.Replies.{Setting, ended}
 use Rattle.td_script.specs.declared.told.Told.{Told}
 use Rattle.td_crew.specs.CrewText.{EndsWithRows, HasBegun, HasRows, IsClosed, crew_tells, rows_told}
 
@@ -47,6 +48,18 @@ opening_begun None rows h is = ap (λ (x : History). x.opening) is
 opening_begun (Some text) rows h is = ap (λ (x : History). x.opening) is.2
 
 -- ---- 2. where it ends
+
+-- the line `rows` and the rows stand behind what was told
+pub rows_put : (told now : Told) (h : History) (front rows : List ℕ)
+    → Lawful h.opening (standing h.journal) → string_bytes now.text ≡ front ++ rows
+    → front ≡ string_bytes told.text ++ ended (codes "rows") → rows ≡ state_text (rows_of h)
+    → now.refused ≡ told.refused → HasRows told h now
+rows_put told now h front rows lawful text begins is same = record {
+  text = text ∙ ap₂ (λ (a b : List ℕ). a ++ b) begins is
+      ∙ append_assoc (string_bytes told.text) (ended (codes "rows")) (state_text (rows_of h));
+  lawful = lawful;
+  refused = same;
+}
 
 pub rows_closed : (origin : Table) (told mid now : Told) (h : History) → h.opening ≡ origin
     → string_bytes mid.text ≡ string_bytes told.text → mid.refused ≤ told.refused + 1

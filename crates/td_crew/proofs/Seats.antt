@@ -1,9 +1,11 @@
--- The seats of a new board's builders.
-use Rattle.std.proofs.Common.{◌≡◌, ℕ, zero, suc, List, length, refl, ap, ◌∙◌, subst, sym}
+-- The seats of a new board.
+use Rattle.std.proofs.Common.{◌≡◌, ℕ, zero, suc, List, [], length, refl, ap, ap₂, ◌∙◌, subst, sym}
 use Rattle.std.specs.List.{All}
+use Rattle.std.proofs.lemmas.List.{length-replicate}
 use Rattle.std.proofs.lemmas.List.Elements.{All-cons, All-nil}
 use Rattle.atomic_table.specs.Seated.{TableId}
-use Rattle.td_board.specs.Seats.{BuilderModel, new_seat, new_seats}
+use Rattle.td_board.specs.Knowledge.{new_desk}
+use Rattle.td_board.specs.Seats.{BuilderModel, DeskModel, new_seat, new_seats}
 
 pub length-new_seats : (table : TableId) (b n : ℕ) → length (new_seats table b n) ≡ n
 length-new_seats table b zero = refl
@@ -25,3 +27,12 @@ seats_at table b n seats is =
 pub length-seats : (table : TableId) (b n : ℕ) (seats : List BuilderModel)
     → seats ≡ new_seats table b n → length seats ≡ n
 length-seats table b n seats is = ap length is ∙ length-new_seats table b n
+
+-- the desk's: nothing is noted yet
+pub desk_at : (table : TableId) (rows builders n : ℕ) (seat : DeskModel)
+    → seat ≡ record { table = table; desk = new_desk rows builders } → rows ≡ n
+    → seat.desk ≡ new_desk n (length seat.desk.noted)
+desk_at table rows builders n seat is same =
+    ap (λ (s : DeskModel). s.desk) is
+    ∙ ap₂ new_desk same
+    (sym (ap (λ (s : DeskModel). length s.desk.noted) is ∙ length-replicate builders []))

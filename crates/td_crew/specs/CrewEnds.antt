@@ -13,7 +13,7 @@ use Rattle.td_script.specs.declared.running.RunFault.TheVariants as fault
 use Rattle.td_script.specs.declared.running.ScriptEnd.{ScriptEnd}
 use Rattle.td_script.specs.Ends.{AreFine, IsScriptText, MayStop, SaysBy}
 use Rattle.td_script.specs.OpeningInside.{IsRefusedBy, Stops}
-use Rattle.td_script.specs.Openings.{AreReadable, Texts}
+use Rattle.td_script.specs.Openings.{AreReadable, Texts, without_journal}
 use Rattle.td_script.specs.Replies.{Setting}
 use Rattle.td_crew.specs.declared.running.CrewFault.{CrewFault}
 use Rattle.td_crew.specs.declared.running.CrewFault.TheVariants.{BadOutcome, Run}
@@ -26,16 +26,16 @@ outcomes_of x = ended (lines_of (unwrap_or (option_map string_bytes x.outcomes) 
 abbrev pub AreRead : List (List ℕ) → Type 0
 AreRead lines = (os : List (Key × Outcome)) × AreOutcomes lines os
 
--- what an end says: of the outcomes as soon as the files in front of them are fine, and of the rest
--- as without them
+-- what an end says: of the outcomes as soon as the files in front of them are fine, whatever the
+-- journal behind them is, and of the rest as without them
 abbrev pub CrewSays : (Setting → History → List ℕ → List ℕ → ℕ → Type 0) → Texts → List (List ℕ)
     → Option (List ℕ) → Option (List ℕ) → Option (List ℕ) → Result ScriptEnd CrewFault → Type 0
 CrewSays May x outcomes known old new (Ok end) =
     AreRead outcomes × SaysBy May x known old new (Ok end)
 CrewSays May x outcomes known old new (Err (BadOutcome n)) =
-    IsFirstBad outcomes n × AreFine x × Keeps old new
+    IsFirstBad outcomes n × AreFine (without_journal x) × Keeps old new
 CrewSays May x outcomes known old new (Err (Run e)) =
-    (AreRead outcomes ⊎ IsRefusedBy x e) × SaysBy May x known old new (Err e)
+    (AreRead outcomes ⊎ IsRefusedBy (without_journal x) e) × SaysBy May x known old new (Err e)
 
 -- why a crew's run over readable texts may stop, where the reader has a script and the outcomes are
 -- read
@@ -43,18 +43,26 @@ abbrev pub CrewMayStop : Texts → CrewFault → Type 0
 CrewMayStop x (BadOutcome n) = ⊥
 CrewMayStop x (Run e) = MayStop x e
 
--- it stops for nothing else
-abbrev pub CrewOnly : Texts → List (List ℕ) → Option (List ℕ) → Result ScriptEnd CrewFault → Type 0
-CrewOnly x outcomes known result =
-    (text : List ℕ) → known ≡ Some text → IsScriptText text → AreRead outcomes → AreReadable x
-    → IfErr result (CrewMayStop x)
+-- why it may stop where they aren't: for a bad line of them, or memory runs out, or `regex` refuses
+-- a pattern
+abbrev pub UnreadMayStop : Texts → CrewFault → Type 0
+UnreadMayStop x (BadOutcome n) = Unit {0}
+UnreadMayStop x (Run e) = Stops x e
+
+-- it stops for nothing else. Where the outcomes aren't read, the journal isn't asked for
+pub record CrewOnly (x : Texts) (outcomes : List (List ℕ)) (known : Option (List ℕ))
+    (result : Result ScriptEnd CrewFault) : Type 0 where
+  pub read : (text : List ℕ) → known ≡ Some text → IsScriptText text → AreRead outcomes
+      → AreReadable x → IfErr result (CrewMayStop x)
+  pub unread : (AreRead outcomes → ⊥) → AreReadable (without_journal x)
+      → IfErr result (UnreadMayStop (without_journal x))
 
 -- ---- as the code has it
 
 -- the outcomes aren't read, or a file in front of them is refused
 abbrev pub IsNoOutcomes : Texts → List (List ℕ) → CrewFault → Type 0
-IsNoOutcomes x outcomes (BadOutcome n) = IsFirstBad outcomes n × AreFine x
-IsNoOutcomes x outcomes (Run e) = IsRefusedBy x e
+IsNoOutcomes x outcomes (BadOutcome n) = IsFirstBad outcomes n × AreFine (without_journal x)
+IsNoOutcomes x outcomes (Run e) = IsRefusedBy (without_journal x) e
 
 -- memory runs out, or `regex` refuses a pattern
 abbrev pub StopsSo : Texts → CrewFault → Type 0

@@ -246,7 +246,7 @@ fn begin<'a, N: Named, C: Ledger>(
         Some(text) => Desk::<N, C>::reopen(alloc, board, seat, rows, supply, blank, text),
         None => match Desk::<N, C>::open(alloc, board, seat, rows, supply, blank) {
             Ok(made) => Ok(made),
-            Err(_) => Err(ReadError::NoMemory),
+            Err(AllocError) => Err(ReadError::NoMemory),
         },
     }
 }
@@ -299,7 +299,7 @@ fn tell_named<
     };
     match tell_at(rt, alloc, desk, clerk, seats, builds, archs, asked) {
         Ok(told) => Ok(told),
-        Err(_) => Err(ReadError::NoMemory),
+        Err(AllocError) => Err(ReadError::NoMemory),
     }
 }
 
@@ -317,8 +317,9 @@ pub fn tell_script<B: Builds + Sync, R: Threads + Wait + Sync>(
     let Ok((board, seat, seats)) = Board::make(asked.alloc, asked.rows.len(), crew.builders) else {
         return Err(ReadError::NoMemory);
     };
-    let Ok(supply) = asked.archive.supply() else {
-        return Err(ReadError::NoMemory);
+    let supply = match asked.archive.supply() {
+        Ok(supply) => supply,
+        Err(AllocError) => return Err(ReadError::NoMemory),
     };
     let suites = [asked.suite];
     let lines = Lines {

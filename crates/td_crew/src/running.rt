@@ -4,9 +4,9 @@ ghost use Rattle.std.specs.Prelude.{◌≡◌, [], option_map, string_bytes, unw
 ghost use Rattle.td_builder.specs.OutcomeLines.{FaultOf};
 ghost use Rattle.td_script.specs.Asking.{IsFit, IsToldOf};
 ghost use Rattle.td_script.specs.Ends.{Only, SaysBy};
-ghost use Rattle.td_script.specs.Openings.{AreReadable, texts_of};
+ghost use Rattle.td_script.specs.Openings.{AreReadable, texts_of, without_journal};
 ghost use Rattle.td_crew.specs.CrewEnds.{AreRead, CrewOnly, CrewSays, IsNoOutcomes, StopsSo};
-ghost use Rattle.td_crew.specs.CrewEnds.{outcomes_of};
+ghost use Rattle.td_crew.specs.CrewEnds.{UnreadMayStop, outcomes_of};
 ghost use Rattle.td_crew.specs.CrewText.{crew_tells};
 
 use crate::crew::{Crew, tell_script};
@@ -16,12 +16,13 @@ use std::sync::Wait;
 use std::thread::Threads;
 use td_builder::{Builds, Outcomes, OutcomesFault};
 use td_journal::ReadError;
-use td_script::{Asked, Inputs, RunFault, ScriptEnd, Told, judge, run_with};
+use td_script::{Asked, Inputs, RunFault, ScriptEnd, Told, judge_files, run_with};
 
 /// Why a run by lines of outcomes stopped.
 #[derive(Clone, Copy, Debug, PartialEq, Eq, Drop)]
 pub enum CrewFault {
-    /// The first line of the outcomes that isn't one. The faults of the other files come before it.
+    /// The first line of the outcomes that isn't one. The faults of the other files come before it,
+    /// but for those of the journal.
     BadOutcome(usize),
     Run(RunFault),
 }
@@ -46,6 +47,7 @@ pub fn run_crew_with<R: Read, W: Write, B: Builds + Sync, H: Threads + Wait + Sy
         builders: inputs.builders,
     };
     run_with(
+        rt,
         alloc,
         &crew,
         &|asked: Asked| -> Result<Told, ReadError>
@@ -68,14 +70,21 @@ fn lines_in(inputs: &Inputs) -> &str
     }
 }
 
-// Why no outcomes are read. The other files come before them.
-fn no_outcomes(alloc: Global, inputs: &Inputs, fault: OutcomesFault) -> CrewFault
+// Why no outcomes are read. The other files come before them, and the journal behind.
+fn no_outcomes(
+    rt: &(impl Threads + Sync),
+    alloc: Global,
+    inputs: &Inputs,
+    fault: OutcomesFault,
+) -> CrewFault
     requires { FaultOf (outcomes_of inputs.now) fault }
     ensures says { IsNoOutcomes (texts_of inputs.now) (outcomes_of inputs.now) result }
     ensures only { AreRead (outcomes_of inputs.now) → AreReadable (texts_of inputs.now)
         → StopsSo (texts_of inputs.now) result }
+    ensures unread { AreReadable (without_journal (texts_of inputs.now))
+        → UnreadMayStop (without_journal (texts_of inputs.now)) result }
 {
-    match judge(alloc, inputs) {
+    match judge_files(rt, alloc, inputs) {
         Err(refused) => CrewFault::Run(refused),
         Ok(()) => match fault {
             OutcomesFault::BadLine(line) => CrewFault::BadOutcome(line),
@@ -100,7 +109,7 @@ pub fn run_crew<R: Read, W: Write, H: Threads + Wait + Sync>(
 {
     let outcomes = match Outcomes::read(alloc, lines_in(inputs)) {
         Ok(outcomes) => outcomes,
-        Err(fault) => return Err(no_outcomes(alloc, inputs, fault)),
+        Err(fault) => return Err(no_outcomes(rt, alloc, inputs, fault)),
     };
     match run_crew_with(rt, alloc, inputs, reader, writer, &outcomes) {
         Ok(end) => Ok(end),

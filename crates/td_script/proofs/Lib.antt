@@ -9,4 +9,5 @@ pub mod WatchLaws
 pub mod OpeningLaws
 pub mod RunLaws
 pub mod OnlyLaws
+pub mod WithoutJournal
 pub mod CutLaws

@@ -36,6 +36,7 @@ use Rattle.td_query.specs.declared.tracker_fault.TrackerFault.{TrackerFault}
 use Rattle.td_query.specs.declared.tracker_fault.TrackerFault.TheVariants as tracker
 use Rattle.td_waves.specs.declared.level.Level.{Level}
 use Rattle.td_report.specs.Transition.{AreLevels}
+use Rattle.td_script.specs.declared.files.Files.{Files}
 use Rattle.td_script.specs.declared.input_fault.InputFault.{InputFault}
 use Rattle.td_script.specs.declared.input_fault.InputFault.TheVariants as fault
 use Rattle.td_script.specs.declared.inputs.Inputs.{Inputs}
@@ -64,6 +65,30 @@ texts_of x = record {
   tracker = option_map string_bytes x.tracker;
   journal = option_map string_bytes x.journal;
   suite = string_bytes x.suite;
+}
+
+-- those that files lend
+abbrev pub texts_lent : Files → Texts
+texts_lent x = record {
+  archs = x.archs.now;
+  packages = x.packages.now;
+  sources = x.sources.now;
+  state = option_map (λ s. s.now) x.state;
+  tracker = option_map (λ s. s.now) x.tracker;
+  journal = option_map (λ s. s.now) x.journal;
+  suite = x.suite.now;
+}
+
+-- the same texts, where no journal is gone on with
+abbrev pub without_journal : Texts → Texts
+without_journal x = record {
+  archs = x.archs;
+  packages = x.packages;
+  sources = x.sources;
+  state = x.state;
+  tracker = x.tracker;
+  journal = None;
+  suite = x.suite;
 }
 
 -- the two indices are this archive, with the architectures of the table

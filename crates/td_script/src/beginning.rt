@@ -6,7 +6,7 @@ ghost use Rattle.td_core.specs.Phases.{NoneBuilt};
 ghost use Rattle.td_script.specs.OpeningInside.{IsBegunBy, IsJournalFault};
 ghost use Rattle.td_script.specs.Openings.{IsJournalIfGiven};
 
-use std::alloc::Global;
+use std::alloc::{AllocError, Global};
 use td_board::{Board, DeskSeat};
 use td_book::Book;
 use td_journal::ReadError;
@@ -39,7 +39,7 @@ pub fn begin<'a>(
         Some(text) => Book::reopen(alloc, board, desk, rows, supply, text),
         None => match Book::open(alloc, board, desk, rows, supply) {
             Ok(book) => Ok(book),
-            Err(_) => Err(ReadError::NoMemory),
+            Err(AllocError) => Err(ReadError::NoMemory),
         },
     }
 }

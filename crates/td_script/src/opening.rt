@@ -10,7 +10,7 @@ ghost use Rattle.td_report.specs.TransitionView.{IsMade};
 ghost use Rattle.td_script.specs.Asking.{CanBeAsked, TellsBy};
 ghost use Rattle.td_script.specs.Reporting.{report_by};
 ghost use Rattle.td_script.specs.Openings.{AreReadable, AreRowsOf, IsArchiveOf, IsJournalIfGiven};
-ghost use Rattle.td_script.specs.Openings.{IsReadableOver, texts_of};
+ghost use Rattle.td_script.specs.Openings.{IsReadableOver, texts_lent, texts_of};
 ghost use Rattle.td_query.specs.Tracking.{IsTracker, Tracking, tracking};
 ghost use Rattle.td_rows.specs.Table.{Table};
 ghost use Rattle.td_script.specs.OpeningInside.{AreReadableWith, CanReplace, Stops, IsRefusedBy};
@@ -18,12 +18,14 @@ ghost use Rattle.td_script.specs.OpeningInside.{IsRefusedIn, IsReplacedIn, IsTol
 ghost use Rattle.td_script.specs.OpeningInside.{IsUntold, Tells, of_archive, of_journal, of_state};
 ghost use Rattle.td_script.specs.OpeningInside.{of_table, of_tracker};
 
+use crate::files::Files;
 use crate::input_fault::InputFault;
 use crate::inputs::Inputs;
 use crate::running::RunFault;
 use crate::staff::{Asked, Staff};
 use crate::told::Told;
-use std::alloc::Global;
+use std::alloc::{AllocError, Global};
+use std::thread::Threads;
 use td_indices::{Archive, ArchiveFault};
 use td_journal::ReadError;
 use td_query::{Tracker, TrackerFault};
@@ -100,33 +102,24 @@ fn replaced(alloc: Global, mut rows: Rows, text: &str) -> Result<Rows, RunFault>
 }
 
 // The rows from which a script starts.
-fn rows_of(alloc: Global, archive: &Archive<'_, '_>, inputs: &Inputs) -> Result<Rows, RunFault>
-    requires { IsArchiveOf (texts_of inputs.now) archive.now }
-    ensures rows { IfOk result (AreRowsOf archive.now (texts_of inputs.now).state) }
+fn rows_of(alloc: Global, archive: &Archive<'_, '_>, files: &Files<'_>) -> Result<Rows, RunFault>
+    requires { IsArchiveOf (texts_lent files.now) archive.now }
+    ensures rows { IfOk result (AreRowsOf archive.now (texts_lent files.now).state) }
     ensures idle { IfOk result NoneBuilt }
-    ensures refused { IfErr result (IsRefusedBy (texts_of inputs.now)) }
+    ensures refused { IfErr result (IsRefusedBy (texts_lent files.now)) }
     ensures only { IfErr result (λ fault.
-        (t : Table) → AreRowsOf archive.now (texts_of inputs.now).state t
+        (t : Table) → AreRowsOf archive.now (texts_lent files.now).state t
         → fault ≡ RunFault.NoMemory) }
 {
-    let Ok(rows) = archive.opening_rows() else {
-        return Err(RunFault::NoMemory);
+    let rows = match archive.opening_rows() {
+        Ok(rows) => rows,
+        Err(AllocError) => return Err(RunFault::NoMemory),
     };
     // (`len` says that the keys of the rows rise)
     let _rising = rows.len();
-    match &inputs.state {
-        Some(text) => replaced(alloc, rows, text.as_str()),
+    match files.state {
+        Some(text) => replaced(alloc, rows, text),
         None => Ok(rows),
-    }
-}
-
-// The text of the journal that is gone on with.
-fn journal_of(inputs: &Inputs) -> Option<&str>
-    ensures { option_map (λ s. s.now) result ≡ (texts_of inputs.now).journal }
-{
-    match &inputs.journal {
-        Some(text) => Some(text.as_str()),
-        None => None,
     }
 }
 
@@ -138,7 +131,7 @@ fn tell_from<S: Staff, F: Fn(Asked) -> Result<Told, ReadError>>(
     tell: &F,
     archive: &Archive<'_, '_>,
     rows: Rows,
-    inputs: &Inputs,
+    files: &Files<'_>,
     reports: Option<&Transition<'_, '_, '_, '_>>,
     script: &str,
 ) -> Result<Told, RunFault>
@@ -151,19 +144,19 @@ fn tell_from<S: Staff, F: Fn(Asked) -> Result<Told, ReadError>>(
         (IsToldFrom (S.tells staff.now)
         (record {
           stock = supply_of archive.now;
-          suites = (texts_of inputs.now).suite ∷ [];
+          suites = (texts_lent files.now).suite ∷ [];
           report = option_map (λ r. report_by r.now) reports.entry;
-        }) (texts_of inputs.now).journal rows script.now) }
-    ensures refused { IfErr result (IsUntold rows (texts_of inputs.now).journal) }
+        }) (texts_lent files.now).journal rows script.now) }
+    ensures refused { IfErr result (IsUntold rows (texts_lent files.now).journal) }
     ensures only { IfErr result (λ fault.
-        IsJournalIfGiven rows (texts_of inputs.now).journal → fault ≡ RunFault.NoMemory) }
+        IsJournalIfGiven rows (texts_lent files.now).journal → fault ≡ RunFault.NoMemory) }
 {
     let asked = Asked {
         alloc,
         archive,
         rows,
-        suite: inputs.suite.as_str(),
-        journal: journal_of(inputs),
+        suite: files.suite,
+        journal: files.journal,
         reports,
         script,
     };
@@ -181,20 +174,20 @@ fn tell_tracked<S: Staff, F: Fn(Asked) -> Result<Told, ReadError>>(
     archive: &Archive<'_, '_>,
     tracker: &Tracker<'_>,
     rows: Rows,
-    inputs: &Inputs,
+    files: &Files<'_>,
     script: &str,
 ) -> Result<Told, RunFault>
     requires asked { CanBeAsked (F.pre tell.now) }
     requires tells { TellsBy (S.tells staff.now) (F.post tell.now) }
-    requires archive { IsArchiveOf (texts_of inputs.now) archive.now }
-    requires rows { AreRowsOf archive.now (texts_of inputs.now).state rows }
-    requires tracker { IsTrackerOf (texts_of inputs.now) (tracking tracker.now) }
+    requires archive { IsArchiveOf (texts_lent files.now) archive.now }
+    requires rows { AreRowsOf archive.now (texts_lent files.now).state rows }
+    requires tracker { IsTrackerOf (texts_lent files.now) (tracking tracker.now) }
     requires idle { NoneBuilt rows }
     requires small { length script.now < 2 ^ 63 - 1 }
-    ensures tells { MatchResult result (Tells (S.tells staff.now) (texts_of inputs.now) script.now)
-        (IsRefusedBy (texts_of inputs.now)) }
+    ensures tells { MatchResult result (Tells (S.tells staff.now) (texts_lent files.now) script.now)
+        (IsRefusedBy (texts_lent files.now)) }
     ensures only { IfErr result (λ fault.
-        IsJournalIfGiven rows (texts_of inputs.now).journal → fault ≡ RunFault.NoMemory) }
+        IsJournalIfGiven rows (texts_lent files.now).journal → fault ≡ RunFault.NoMemory) }
 {
     match Transition::of(alloc, archive, tracker) {
         Ok(transition) => tell_from(
@@ -203,11 +196,11 @@ fn tell_tracked<S: Staff, F: Fn(Asked) -> Result<Told, ReadError>>(
             tell,
             archive,
             rows,
-            inputs,
+            files,
             Some(&transition),
             script,
         ),
-        Err(_) => Err(RunFault::NoMemory),
+        Err(AllocError) => Err(RunFault::NoMemory),
     }
 }
 
@@ -219,24 +212,24 @@ fn tell_with_tracker<S: Staff, F: Fn(Asked) -> Result<Told, ReadError>>(
     archive: &Archive<'_, '_>,
     rows: Rows,
     text: &str,
-    inputs: &Inputs,
+    files: &Files<'_>,
     script: &str,
 ) -> Result<Told, RunFault>
     requires asked { CanBeAsked (F.pre tell.now) }
     requires tells { TellsBy (S.tells staff.now) (F.post tell.now) }
-    requires archive { IsArchiveOf (texts_of inputs.now) archive.now }
-    requires rows { AreRowsOf archive.now (texts_of inputs.now).state rows }
-    requires tracker { (texts_of inputs.now).tracker ≡ Some text.now }
+    requires archive { IsArchiveOf (texts_lent files.now) archive.now }
+    requires rows { AreRowsOf archive.now (texts_lent files.now).state rows }
+    requires tracker { (texts_lent files.now).tracker ≡ Some text.now }
     requires idle { NoneBuilt rows }
     requires small { length script.now < 2 ^ 63 - 1 }
-    ensures tells { MatchResult result (Tells (S.tells staff.now) (texts_of inputs.now) script.now)
-        (IsRefusedBy (texts_of inputs.now)) }
+    ensures tells { MatchResult result (Tells (S.tells staff.now) (texts_lent files.now) script.now)
+        (IsRefusedBy (texts_lent files.now)) }
     ensures only { IfErr result (λ fault.
-        (t : Tracking) → IsTracker text.now t → IsJournalIfGiven rows (texts_of inputs.now).journal
-        → Stops (texts_of inputs.now) fault) }
+        (t : Tracking) → IsTracker text.now t → IsJournalIfGiven rows (texts_lent files.now).journal
+        → Stops (texts_lent files.now) fault) }
 {
     match Tracker::read(alloc, text) {
-        Ok(tracker) => tell_tracked(alloc, staff, tell, archive, &tracker, rows, inputs, script),
+        Ok(tracker) => tell_tracked(alloc, staff, tell, archive, &tracker, rows, files, script),
         Err(fault) => Err(fault_of_tracker(fault)),
     }
 }
@@ -248,22 +241,22 @@ fn tell_untracked<S: Staff, F: Fn(Asked) -> Result<Told, ReadError>>(
     tell: &F,
     archive: &Archive<'_, '_>,
     rows: Rows,
-    inputs: &Inputs,
+    files: &Files<'_>,
     script: &str,
 ) -> Result<Told, RunFault>
     requires asked { CanBeAsked (F.pre tell.now) }
     requires tells { TellsBy (S.tells staff.now) (F.post tell.now) }
-    requires archive { IsArchiveOf (texts_of inputs.now) archive.now }
-    requires rows { AreRowsOf archive.now (texts_of inputs.now).state rows }
-    requires tracker { (texts_of inputs.now).tracker ≡ None }
+    requires archive { IsArchiveOf (texts_lent files.now) archive.now }
+    requires rows { AreRowsOf archive.now (texts_lent files.now).state rows }
+    requires tracker { (texts_lent files.now).tracker ≡ None }
     requires idle { NoneBuilt rows }
     requires small { length script.now < 2 ^ 63 - 1 }
-    ensures tells { MatchResult result (Tells (S.tells staff.now) (texts_of inputs.now) script.now)
-        (IsRefusedBy (texts_of inputs.now)) }
+    ensures tells { MatchResult result (Tells (S.tells staff.now) (texts_lent files.now) script.now)
+        (IsRefusedBy (texts_lent files.now)) }
     ensures only { IfErr result (λ fault.
-        IsJournalIfGiven rows (texts_of inputs.now).journal → fault ≡ RunFault.NoMemory) }
+        IsJournalIfGiven rows (texts_lent files.now).journal → fault ≡ RunFault.NoMemory) }
 {
-    tell_from(alloc, staff, tell, archive, rows, inputs, None, script)
+    tell_from(alloc, staff, tell, archive, rows, files, None, script)
 }
 
 // What is told of a script over an archive.
@@ -272,66 +265,80 @@ fn tell_over_archive<S: Staff, F: Fn(Asked) -> Result<Told, ReadError>>(
     staff: &S,
     tell: &F,
     archive: &Archive<'_, '_>,
-    inputs: &Inputs,
+    files: &Files<'_>,
     script: &str,
 ) -> Result<Told, RunFault>
     requires asked { CanBeAsked (F.pre tell.now) }
     requires tells { TellsBy (S.tells staff.now) (F.post tell.now) }
-    requires archive { IsArchiveOf (texts_of inputs.now) archive.now }
+    requires archive { IsArchiveOf (texts_lent files.now) archive.now }
     requires small { length script.now < 2 ^ 63 - 1 }
-    ensures tells { MatchResult result (Tells (S.tells staff.now) (texts_of inputs.now) script.now)
-        (IsRefusedBy (texts_of inputs.now)) }
+    ensures tells { MatchResult result (Tells (S.tells staff.now) (texts_lent files.now) script.now)
+        (IsRefusedBy (texts_lent files.now)) }
     ensures only { IfErr result (λ fault.
-        IsReadableOver archive.now (texts_of inputs.now) → Stops (texts_of inputs.now) fault) }
+        IsReadableOver archive.now (texts_lent files.now) → Stops (texts_lent files.now) fault) }
 {
-    let rows = match rows_of(alloc, archive, inputs) {
+    let rows = match rows_of(alloc, archive, files) {
         Ok(rows) => rows,
         Err(fault) => return Err(fault),
     };
-    match &inputs.tracker {
-        Some(text) => tell_with_tracker(
-            alloc,
-            staff,
-            tell,
-            archive,
-            rows,
-            text.as_str(),
-            inputs,
-            script,
-        ),
-        None => tell_untracked(alloc, staff, tell, archive, rows, inputs, script),
+    match files.tracker {
+        Some(text) => tell_with_tracker(alloc, staff, tell, archive, rows, text, files, script),
+        None => tell_untracked(alloc, staff, tell, archive, rows, files, script),
     }
 }
 
 // The same, over the indices and a table.
 fn tell_over_table<S: Staff, F: Fn(Asked) -> Result<Told, ReadError>>(
+    rt: &(impl Threads + Sync),
     alloc: Global,
     staff: &S,
     tell: &F,
     archs: &Archs<'_>,
-    inputs: &Inputs,
+    files: &Files<'_>,
     script: &str,
 ) -> Result<Told, RunFault>
     requires asked { CanBeAsked (F.pre tell.now) }
     requires tells { TellsBy (S.tells staff.now) (F.post tell.now) }
-    requires table { IsTable (lines_of (texts_of inputs.now).archs) (table archs.now) }
+    requires table { IsTable (lines_of (texts_lent files.now).archs) (table archs.now) }
     requires small { length script.now < 2 ^ 63 - 1 }
-    ensures tells { MatchResult result (Tells (S.tells staff.now) (texts_of inputs.now) script.now)
-        (IsRefusedBy (texts_of inputs.now)) }
+    ensures tells { MatchResult result (Tells (S.tells staff.now) (texts_lent files.now) script.now)
+        (IsRefusedBy (texts_lent files.now)) }
     ensures only { IfErr result (λ fault.
-        AreReadableWith (table archs.now) (texts_of inputs.now)
-        → Stops (texts_of inputs.now) fault) }
+        AreReadableWith (table archs.now) (texts_lent files.now)
+        → Stops (texts_lent files.now) fault) }
 {
-    let packages = inputs.packages.as_str();
-    let sources = inputs.sources.as_str();
-    match Archive::read(alloc, packages, sources, archs) {
-        Ok(archive) => tell_over_archive(alloc, staff, tell, &archive, inputs, script),
+    match Archive::read_beside(rt, alloc, files.packages, files.sources, archs) {
+        Ok(archive) => tell_over_archive(alloc, staff, tell, &archive, files, script),
         Err(fault) => Err(fault_of_archive(fault)),
     }
 }
 
 /// What is told of a script over the texts of files: these are judged first.
+pub fn tell_over_files<S: Staff, F: Fn(Asked) -> Result<Told, ReadError>>(
+    rt: &(impl Threads + Sync),
+    alloc: Global,
+    staff: &S,
+    tell: &F,
+    files: &Files<'_>,
+    script: &str,
+) -> Result<Told, RunFault>
+    requires asked { CanBeAsked (F.pre tell.now) }
+    requires tells { TellsBy (S.tells staff.now) (F.post tell.now) }
+    requires small { length script.now < 2 ^ 63 - 1 }
+    ensures tells { MatchResult result (Tells (S.tells staff.now) (texts_lent files.now) script.now)
+        (IsRefusedBy (texts_lent files.now)) }
+    ensures only { IfErr result (λ fault.
+        AreReadable (texts_lent files.now) → Stops (texts_lent files.now) fault) }
+{
+    match Archs::read(alloc, files.archs) {
+        Ok(archs) => tell_over_table(rt, alloc, staff, tell, &archs, files, script),
+        Err(fault) => Err(fault_of_table(fault)),
+    }
+}
+
+/// The same over those of inputs.
 pub fn tell_over<S: Staff, F: Fn(Asked) -> Result<Told, ReadError>>(
+    rt: &(impl Threads + Sync),
     alloc: Global,
     staff: &S,
     tell: &F,
@@ -346,8 +353,5 @@ pub fn tell_over<S: Staff, F: Fn(Asked) -> Result<Told, ReadError>>(
     ensures only { IfErr result (λ fault.
         AreReadable (texts_of inputs.now) → Stops (texts_of inputs.now) fault) }
 {
-    match Archs::read(alloc, inputs.archs.as_str()) {
-        Ok(archs) => tell_over_table(alloc, staff, tell, &archs, inputs, script),
-        Err(fault) => Err(fault_of_table(fault)),
-    }
+    tell_over_files(rt, alloc, staff, tell, &Files::of(inputs), script)
 }

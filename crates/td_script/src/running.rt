@@ -4,15 +4,17 @@ ghost use Rattle.std.specs.Result.{ForOk};
 ghost use Rattle.td_script.specs.Asking.{CanBeAsked, TellsBy};
 ghost use Rattle.td_script.specs.Ends.{AreFine, Only, Says, SaysBy};
 ghost use Rattle.td_script.specs.OpeningInside.{IsRefusedBy, IsUnread, Stops, Tells, of_reading};
-ghost use Rattle.td_script.specs.Openings.{AreReadable, texts_of};
+ghost use Rattle.td_script.specs.Openings.{AreReadable, texts_of, without_journal};
 
+use crate::files::Files;
 use crate::input_fault::InputFault;
 use crate::inputs::Inputs;
-use crate::opening::tell_over;
+use crate::opening::{tell_over, tell_over_files};
 use crate::staff::{Alone, Asked, Staff, tell_alone};
 use crate::told::Told;
 use std::alloc::Global;
 use std::io::{Read, Write};
+use std::thread::Threads;
 use td_bytes::{TextFault, read_text, write_whole};
 use td_journal::ReadError;
 
@@ -54,14 +56,34 @@ fn fault_of_text(fault: TextFault) -> RunFault
     }
 }
 
-/// Judges the texts of the files, as before each script.
-pub fn judge(alloc: Global, inputs: &Inputs) -> Result<(), RunFault>
+// Judges the texts of the files, as before each script.
+fn judge(rt: &(impl Threads + Sync), alloc: Global, inputs: &Inputs) -> Result<(), RunFault>
     ensures fine { MatchResult result (λ _. AreFine (texts_of inputs.now))
         (IsRefusedBy (texts_of inputs.now)) }
     ensures only { IfErr result (λ fault.
         AreReadable (texts_of inputs.now) → Stops (texts_of inputs.now) fault) }
 {
-    match tell_over(alloc, &Alone, &tell_alone, inputs, "") {
+    match tell_over(rt, alloc, &Alone, &tell_alone, inputs, "") {
+        Ok(_) => Ok(()),
+        Err(refused) => Err(refused),
+    }
+}
+
+/// Judges the texts that come before the journal: where lines of outcomes are faulty, they are told
+/// of behind these and before it.
+pub fn judge_files(
+    rt: &(impl Threads + Sync),
+    alloc: Global,
+    inputs: &Inputs,
+) -> Result<(), RunFault>
+    ensures fine { MatchResult result (λ _. AreFine (without_journal (texts_of inputs.now)))
+        (IsRefusedBy (without_journal (texts_of inputs.now))) }
+    ensures only { IfErr result (λ fault.
+        AreReadable (without_journal (texts_of inputs.now))
+        → Stops (without_journal (texts_of inputs.now)) fault) }
+{
+    let files = Files::of(inputs).without_journal();
+    match tell_over_files(rt, alloc, &Alone, &tell_alone, &files, "") {
         Ok(_) => Ok(()),
         Err(refused) => Err(refused),
     }
@@ -69,6 +91,7 @@ pub fn judge(alloc: Global, inputs: &Inputs) -> Result<(), RunFault>
 
 // What is told of what was read. The files are judged before the script.
 fn tell_read<S: Staff, F: Fn(Asked) -> Result<Told, ReadError>>(
+    rt: &(impl Threads + Sync),
     alloc: Global,
     staff: &S,
     tell: &F,
@@ -91,8 +114,8 @@ fn tell_read<S: Staff, F: Fn(Asked) -> Result<Told, ReadError>>(
         → Stops (texts_of inputs.now) fault ⊎ (fault ≡ of_reading why))) }
 {
     match read {
-        Ok(text) => tell_over(alloc, staff, tell, inputs, text.as_str()),
-        Err(fault) => match judge(alloc, inputs) {
+        Ok(text) => tell_over(rt, alloc, staff, tell, inputs, text.as_str()),
+        Err(fault) => match judge(rt, alloc, inputs) {
             Ok(()) => Err(fault_of_text(fault)),
             Err(refused) => Err(refused),
         },
@@ -102,6 +125,7 @@ fn tell_read<S: Staff, F: Fn(Asked) -> Result<Told, ReadError>>(
 /// Answers the script that the reader has, over what the inputs say, as the staff tells it.
 /// All is read and answered before anything is written.
 pub fn run_with<S: Staff, F: Fn(Asked) -> Result<Told, ReadError>, R: Read, W: Write>(
+    rt: &(impl Threads + Sync),
     alloc: Global,
     staff: &S,
     tell: &F,
@@ -116,7 +140,7 @@ pub fn run_with<S: Staff, F: Fn(Asked) -> Result<Told, ReadError>, R: Read, W: W
     ensures only { Only (texts_of inputs.now) (R.remaining reader.old) result }
 {
     let read = read_text(alloc, reader, SCRIPT_LIMIT);
-    let told = tell_read(alloc, staff, tell, inputs, read)?;
+    let told = tell_read(rt, alloc, staff, tell, inputs, read)?;
     match write_whole(writer, told.text.as_bytes()) {
         Ok(()) => Ok(ScriptEnd {
             refusals: told.refused,
@@ -127,6 +151,7 @@ pub fn run_with<S: Staff, F: Fn(Asked) -> Result<Told, ReadError>, R: Read, W: W
 
 /// The same in a world without builders.
 pub fn run_script<R: Read, W: Write>(
+    rt: &(impl Threads + Sync),
     alloc: Global,
     inputs: &Inputs,
     reader: &mut R,
@@ -136,5 +161,5 @@ pub fn run_script<R: Read, W: Write>(
         (W.contents writer.new) result }
     ensures only { Only (texts_of inputs.now) (R.remaining reader.old) result }
 {
-    run_with(alloc, &Alone, &tell_alone, inputs, reader, writer)
+    run_with(rt, alloc, &Alone, &tell_alone, inputs, reader, writer)
 }

@@ -6,7 +6,7 @@ ghost use Rattle.td_script.specs.Ends.{IsAnswered};
 use crate::beginning::begin;
 use crate::told::Told;
 use crate::watched::tell_watched;
-use std::alloc::Global;
+use std::alloc::{AllocError, Global};
 use td_board::Board;
 use td_indices::Archive;
 use td_journal::ReadError;
@@ -60,8 +60,9 @@ pub fn tell_alone(asked: Asked) -> Result<Told, ReadError>
     let Ok((board, desk, _seats)) = Board::make(alloc, asked.rows.len(), 0) else {
         return Err(ReadError::NoMemory);
     };
-    let Ok(supply) = asked.archive.supply() else {
-        return Err(ReadError::NoMemory);
+    let supply = match asked.archive.supply() {
+        Ok(supply) => supply,
+        Err(AllocError) => return Err(ReadError::NoMemory),
     };
     let mut book = match begin(alloc, &board, desk, asked.rows, supply, asked.journal) {
         Ok(book) => book,
@@ -76,6 +77,6 @@ pub fn tell_alone(asked: Asked) -> Result<Told, ReadError>
         asked.script,
     ) {
         Ok(told) => Ok(told),
-        Err(_) => Err(ReadError::NoMemory),
+        Err(AllocError) => Err(ReadError::NoMemory),
     }
 }

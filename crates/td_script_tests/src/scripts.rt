@@ -6,6 +6,7 @@ use std::alloc::{AllocError, Global};
 use std::io;
 use std::io::{ErrorKind, Read, Write};
 use std::test::Fail;
+use std::thread::Threads;
 use td_journal::ReadError;
 use td_script::{InputFault, Inputs, RunFault, ScriptEnd, run_script};
 
@@ -123,6 +124,7 @@ fn inputs(
 
 // Runs a script by single bytes: what is written, and how it ends.
 fn ran(
+    rt: &(impl Threads + Sync),
     alloc: Global,
     inputs: &Inputs,
     script: &[u8],
@@ -137,7 +139,7 @@ fn ran(
         taken: Vec::new(alloc),
         room,
     };
-    let end = run_script(alloc, inputs, &mut reader, &mut writer);
+    let end = run_script(rt, alloc, inputs, &mut reader, &mut writer);
     (writer.taken, end)
 }
 
@@ -165,8 +167,6 @@ row foo i386
 ";
 
 const OTHER_KEYS: &str = "\
-# an undo that a later entry on other keys doesn't block
-
 bp 5 foo . ANY
 nmu bar . ANY
 undo 1
@@ -230,6 +230,8 @@ row foo amd64
 ";
 
 const NO_REQUESTS: &str = "\
+# neither this line nor the next one is answered
+
 undo one
 undo  1
 \x20undo 1
@@ -323,7 +325,7 @@ fn each_line_of_a_script_is_answered(rt: HostRuntime) -> Result<(), Fail> {
         ),
     ] {
         let inputs = inputs(alloc, state, None, None)?;
-        let (found, end) = ran(alloc, &inputs, script.as_bytes(), 9999, 9999);
+        let (found, end) = ran(&rt, alloc, &inputs, script.as_bytes(), 9999, 9999);
         assert!(rt; found.as_slice() == text.as_bytes(), "{script}");
         assert_eq!(rt; end, Ok(ScriptEnd { refusals }), "{script}");
     }
@@ -334,11 +336,44 @@ fn each_line_of_a_script_is_answered(rt: HostRuntime) -> Result<(), Fail> {
 fn a_report_is_of_the_rows_as_they_are(rt: HostRuntime) -> Result<(), Fail> {
     let alloc = rt.alloc();
     let inputs = inputs(alloc, "", Some(TRACKER), None)?;
-    let (found, end) = ran(alloc, &inputs, b"nmu foo . i386\nreport\n", 99, 999);
+    let (found, end) = ran(&rt, alloc, &inputs, b"nmu foo . i386\nreport\n", 99, 999);
     assert_eq!(rt; end, Ok(ScriptEnd { refusals: 0 }));
     let text =
         "entry 1 takes foo/i386\ntracker foo\nlevel 1 rows 2 installed 1\nfoo/amd64 unknown Installed 0 0\nfoo/i386 unknown Needs-Build 0 2\naffected 2 good 0 bad 0 partial 0 unknown 2\n";
     assert!(rt; found.as_slice() == text.as_bytes());
+    Ok(())
+}
+
+// A desk over empty files, with a tracker.
+fn over_nothing(alloc: Global) -> Result<Inputs, AllocError> {
+    let tracker = "title = \"T\"; is_affected = true; is_good = false; is_bad = false;";
+    Ok(Inputs {
+        archs: String::new(alloc),
+        packages: String::new(alloc),
+        sources: String::new(alloc),
+        state: None,
+        tracker: Some(String::from_str(alloc, tracker)?),
+        journal: None,
+        suite: String::from_str(alloc, "unstable")?,
+        outcomes: None,
+        builders: 0,
+    })
+}
+
+#[test]
+fn a_report_over_empty_files_counts_nothing(rt: HostRuntime) -> Result<(), Fail> {
+    let inputs = over_nothing(rt.alloc())?;
+    for (script, text) in [
+        ("", ""),
+        (
+            "report\n",
+            "tracker T\naffected 0 good 0 bad 0 partial 0 unknown 0\n",
+        ),
+    ] {
+        let (found, end) = ran(&rt, rt.alloc(), &inputs, script.as_bytes(), 99, 99);
+        assert_eq!(rt; end, Ok(ScriptEnd { refusals: 0 }));
+        assert!(rt; found.as_slice() == text.as_bytes(), "{script}");
+    }
     Ok(())
 }
 
@@ -353,7 +388,14 @@ transdesk journal 1
 fn a_script_goes_on_with_a_journal(rt: HostRuntime) -> Result<(), Fail> {
     let alloc = rt.alloc();
     let inputs = inputs(alloc, "", None, Some(CLAIMED))?;
-    let (found, end) = ran(alloc, &inputs, b"journal\nundo 1\nrow foo amd64\n", 99, 999);
+    let (found, end) = ran(
+        &rt,
+        alloc,
+        &inputs,
+        b"journal\nundo 1\nrow foo amd64\n",
+        99,
+        999,
+    );
     assert_eq!(rt; end, Ok(ScriptEnd { refusals: 1 }));
     let text =
         "transdesk journal 2\n1 + nmu foo/amd64\n2 + claim=1 foo/amd64\n3 + givenback=1 foo/amd64\nrefused: Blocked 3\nfoo/amd64 Needs-Build 0 1\n";
@@ -373,7 +415,7 @@ fn a_text_that_is_no_journal_is_refused(rt: HostRuntime) -> Result<(), Fail> {
         ),
     ] {
         let inputs = inputs(alloc, "", None, Some(journal))?;
-        let (found, end) = ran(alloc, &inputs, b"journal\n", 99, 999);
+        let (found, end) = ran(&rt, alloc, &inputs, b"journal\n", 99, 999);
         assert_eq!(rt;
             end,
             Err(RunFault::Input(InputFault::Journal(fault))),
@@ -384,20 +426,20 @@ fn a_text_that_is_no_journal_is_refused(rt: HostRuntime) -> Result<(), Fail> {
     Ok(())
 }
 
-// NUMBER_BACK has 61 bytes, and what is told of it 111.
+// OTHER_KEYS has 58 bytes, and what is told of it 176.
 #[test]
 fn a_fault_of_a_stream_leaves_a_front(rt: HostRuntime) -> Result<(), Fail> {
     let alloc = rt.alloc();
     let inputs = inputs(alloc, "", None, None)?;
-    let script = NUMBER_BACK.as_bytes();
-    let (whole, _) = ran(alloc, &inputs, script, 999, 999);
+    let script = OTHER_KEYS.as_bytes();
+    let (whole, _) = ran(&rt, alloc, &inputs, script, 999, 999);
     for room in 0..whole.len() {
-        let (front, end) = ran(alloc, &inputs, script, 999, room);
+        let (front, end) = ran(&rt, alloc, &inputs, script, 999, room);
         assert_eq!(rt; end, Err(RunFault::Write));
         assert!(rt; front.as_slice() == &whole[..room], "{room}");
     }
     for readable in 0..script.len() {
-        let (front, end) = ran(alloc, &inputs, script, readable, 999);
+        let (front, end) = ran(&rt, alloc, &inputs, script, readable, 999);
         assert_eq!(rt; end, Err(RunFault::Read));
         assert!(rt; front.is_empty(), "{readable}");
     }

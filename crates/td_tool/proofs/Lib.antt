@@ -3,6 +3,7 @@ pub mod Faulty
 pub mod Stops
 pub mod Plays
 pub mod Files
+pub mod FirstFiles
 pub mod Counting
 pub mod Asks
 pub mod Explanations

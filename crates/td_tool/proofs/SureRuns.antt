@@ -8,7 +8,8 @@ use Rattle.td_query.specs.declared.tracker_fault.TrackerFault.{TrackerFault}
 use Rattle.td_query.specs.declared.tracker_fault.TrackerFault.TheVariants as tracker_fault
 use Rattle.std.specs.Prelude.{MatchBool}
 use Rattle.td_script.specs.Ends.{Only}
-use Rattle.td_crew.specs.CrewEnds.{CrewOnly}
+use Rattle.td_crew.specs.CrewEnds.{CrewOnly, CrewSays}
+use Rattle.td_crew.specs.CrewText.{crew_tells}
 use Rattle.td_crew.specs.declared.running.CrewFault.{CrewFault}
 use Rattle.td_crew.specs.declared.running.CrewFault.TheVariants as crew
 use Rattle.td_script.specs.Openings as script
@@ -87,9 +88,9 @@ crew_ends x lines known (Ok end) only =
     λ text is fits read readable. answered x.tracker (end.refusals == 0)
 crew_ends x lines known (Err (crew.Run e)) only =
     λ text is fits read readable.
-    stop_ends x known e (λ t i f r. only t i f read r) text is fits readable
+    stop_ends x known e (λ t i f r. only.read t i f read r) text is fits readable
 crew_ends x lines known (Err (crew.BadOutcome n)) only =
-    λ text is fits read readable. absurd (only text is fits read readable)
+    λ text is fits read readable. absurd (only.read text is fits read readable)
 
 pub crew_only : (x y : script.Texts) (lines given : List (List ℕ)) (known : Option (List ℕ))
     (r : Result ScriptEnd CrewFault) (ending : Ending) → y ≡ x → given ≡ lines
@@ -98,6 +99,15 @@ crew_only x y lines given known r ending same its only is =
     subst (OnlyCrewEnds x lines known) (sym is)
     (crew_ends x lines known r
     (subst (λ l. CrewOnly x l known r) its (subst (λ z. CrewOnly z given known r) same only)))
+
+pub crew_says : (n m : ℕ) (x y : script.Texts) (lines given : List (List ℕ))
+    (known old new : Option (List ℕ)) (r : Result ScriptEnd CrewFault) → m ≡ n → y ≡ x
+    → given ≡ lines → CrewSays (crew_tells m) y given known old new r
+    → CrewSays (crew_tells n) x lines known old new r
+crew_says n m x y lines given known old new r crew same its says =
+    subst (λ k. CrewSays (crew_tells k) x lines known old new r) crew
+    (subst (λ l. CrewSays (crew_tells m) x l known old new r) its
+    (subst (λ z. CrewSays (crew_tells m) z given known old new r) same says))
 
 -- whoever answers
 pub play_only : (n : ℕ) (x : Texts) (suite : List ℕ) (known : Option (List ℕ)) (ending : Ending)

@@ -65,7 +65,7 @@ fn tell_fault<E: Write>(fault: &WordsFault, faults: &mut E) -> u8
 }
 
 // Tells what a tracker says, by the paths that the words gave.
-fn do_track<T: Texts, W: Write>(
+fn do_track<T: Texts + Sync, W: Write>(
     rt: &(impl Threads + Wait + Sync),
     alloc: Global,
     texts: &T,
@@ -94,7 +94,7 @@ fn do_track<T: Texts, W: Write>(
 }
 
 // Runs a script over the files with the paths that the words gave.
-fn do_run<T: Texts, R: Read, W: Write>(
+fn do_run<T: Texts + Sync, R: Read, W: Write>(
     rt: &(impl Threads + Wait + Sync),
     alloc: Global,
     texts: &T,
@@ -131,7 +131,7 @@ fn do_run<T: Texts, R: Read, W: Write>(
 }
 
 // Does what was asked for.
-fn do_request<T: Texts, R: Read, W: Write>(
+fn do_request<T: Texts + Sync, R: Read, W: Write>(
     rt: &(impl Threads + Wait + Sync),
     alloc: Global,
     request: &Request,
@@ -153,6 +153,7 @@ fn do_request<T: Texts, R: Read, W: Write>(
             packages,
             sources,
         } => check(
+            rt,
             alloc,
             texts,
             archs.as_str(),
@@ -206,7 +207,7 @@ fn do_request<T: Texts, R: Read, W: Write>(
 }
 
 // Does what the words were read as.
-fn act<T: Texts, R: Read, W: Write, E: Write>(
+fn act<T: Texts + Sync, R: Read, W: Write, E: Write>(
     rt: &(impl Threads + Wait + Sync),
     alloc: Global,
     asked: Result<Call, WordsFault>,
@@ -233,7 +234,7 @@ fn act<T: Texts, R: Read, W: Write, E: Write>(
 }
 
 // Does what the words ask for.
-fn answer<T: Texts, R: Read, W: Write, E: Write>(
+fn answer<T: Texts + Sync, R: Read, W: Write, E: Write>(
     rt: &(impl Threads + Wait + Sync),
     alloc: Global,
     words: &[String],
@@ -292,7 +293,7 @@ fn answer<T: Texts, R: Read, W: Write, E: Write>(
 
 /// Does what the words ask for, and answers the program's status. The first word is the program's
 /// own name. What can't be written to `faults` is left.
-pub fn tool<T: Texts, R: Read, W: Write, E: Write>(
+pub fn tool<T: Texts + Sync, R: Read, W: Write, E: Write>(
     rt: &(impl Threads + Wait + Sync),
     alloc: Global,
     words: io::Result<Vec<String>>,

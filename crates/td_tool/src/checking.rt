@@ -17,6 +17,7 @@ use crate::file_texts::{FileFault, FileTexts, read_files};
 use crate::texts::Texts;
 use std::alloc::{AllocError, Global};
 use std::io::Write;
+use std::thread::Threads;
 use td_bytes::write_whole;
 use td_indices::{Archive, ArchiveFault};
 use td_relation::{Archs, ArchsFault};
@@ -47,6 +48,7 @@ fn counts_of(archive: Result<Archive<'_, '_>, ArchiveFault>) -> Result<Counts, E
 
 // The same, by what the table of architectures was read as.
 fn counts_with<'a>(
+    rt: &(impl Threads + Sync),
     alloc: Global,
     archs: Result<Archs<'a>, ArchsFault>,
     packages: &'a str,
@@ -57,17 +59,23 @@ fn counts_with<'a>(
     ensures refused { IfErr archs.entry (λ fault. result ≡ Err (table_ending fault)) }
 {
     match archs {
-        Ok(archs) => counts_of(Archive::read(alloc, packages, sources, &archs)),
+        Ok(archs) => counts_of(Archive::read_beside(rt, alloc, packages, sources, &archs)),
         Err(fault) => Err(ending_of_table(fault)),
     }
 }
 
 // The same, of three texts.
-fn counts_in(alloc: Global, archs: &str, packages: &str, sources: &str) -> Result<Counts, Ending>
+fn counts_in(
+    rt: &(impl Threads + Sync),
+    alloc: Global,
+    archs: &str,
+    packages: &str,
+    sources: &str,
+) -> Result<Counts, Ending>
     requires { length archs.now ≤ file_limit }
     ensures { IsCounted archs.now packages.now sources.now result }
 {
-    counts_with(alloc, Archs::read(alloc, archs), packages, sources)
+    counts_with(rt, alloc, Archs::read(alloc, archs), packages, sources)
 }
 
 fn counts_line(alloc: Global, counts: &Counts) -> Result<String, AllocError>
@@ -118,7 +126,12 @@ pub fn write<W: Write>(line: Result<String, Ending>, output: &mut W) -> Ending
 }
 
 // How a check ends by what was read of the files.
-fn count<W: Write>(alloc: Global, read: Result<FileTexts, FileFault>, output: &mut W) -> Ending
+fn count<W: Write>(
+    rt: &(impl Threads + Sync),
+    alloc: Global,
+    read: Result<FileTexts, FileFault>,
+    output: &mut W,
+) -> Ending
     requires { ForOk read IsWithin }
     ensures texts { IfOk read (λ texts.
         FileTextsEnd texts (W.contents output.old) (W.contents output.new) result) }
@@ -130,6 +143,7 @@ fn count<W: Write>(alloc: Global, read: Result<FileTexts, FileFault>, output: &m
         Err(unread) => return ending_of_file(unread.role, unread.fault),
     };
     let counted = counts_in(
+        rt,
         alloc,
         read.archs.as_str(),
         read.packages.as_str(),
@@ -139,7 +153,8 @@ fn count<W: Write>(alloc: Global, read: Result<FileTexts, FileFault>, output: &m
 }
 
 /// Counts what the indices hold that have these paths. All is read before anything is written.
-pub fn check<T: Texts, W: Write>(
+pub fn check<T: Texts + Sync, W: Write>(
+    rt: &(impl Threads + Sync),
     alloc: Global,
     texts: &T,
     archs: &str,
@@ -151,6 +166,6 @@ pub fn check<T: Texts, W: Write>(
         (files_of (T.bytes texts.now) (T.can_fail texts.now) archs.now packages.now sources.now)
         (W.contents output.old) (W.contents output.new) result }
 {
-    let read = read_files(alloc, texts, archs, packages, sources);
-    count(alloc, read, output)
+    let read = read_files(rt, alloc, texts, archs, packages, sources);
+    count(rt, alloc, read, output)
 }

@@ -7,6 +7,7 @@ use crate::role::Role;
 use crate::texts::Texts;
 use crate::track_files::read_given;
 use std::alloc::Global;
+use std::thread::Threads;
 
 /// The paths of the files.
 #[derive(Clone, Copy)]
@@ -37,7 +38,8 @@ pub struct RunTexts {
 
 /// Reads all of them, before anything is looked at.
 #[tactic(auto, using(crate::proofs::UnreadRuns::run_fails_first, crate::proofs::UnreadRuns::run_fails_state, crate::proofs::UnreadRuns::run_fails_tracker, crate::proofs::UnreadRuns::run_fails_outcomes, crate::proofs::UnreadRuns::run_fails_journal))]
-pub fn read_run_files<T: Texts>(
+pub fn read_run_files<T: Texts + Sync>(
+    rt: &(impl Threads + Sync),
     alloc: Global,
     texts: &T,
     paths: &RunPaths<'_>,
@@ -47,7 +49,7 @@ pub fn read_run_files<T: Texts>(
     ensures failed { IfErr result (HasRunFailed
         (run_files_at (T.bytes texts.now) (T.can_fail texts.now) paths.now)) }
 {
-    let indices = read_files(alloc, texts, paths.archs, paths.packages, paths.sources)?;
+    let indices = read_files(rt, alloc, texts, paths.archs, paths.packages, paths.sources)?;
     let state = read_given(alloc, texts, Role::State, paths.state)?;
     let tracker = read_given(alloc, texts, Role::Tracker, paths.tracker)?;
     let outcomes = read_given(alloc, texts, Role::Outcomes, paths.outcomes)?;

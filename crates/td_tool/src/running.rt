@@ -117,7 +117,7 @@ fn play<R: Read, W: Write>(
         return Ending::NoMemory;
     };
     if builders == 0 {
-        ending_of_script(run_script(alloc, &inputs, reader, output))
+        ending_of_script(run_script(rt, alloc, &inputs, reader, output))
     } else {
         ending_of_crew(run_crew(rt, alloc, &inputs, reader, output))
     }
@@ -125,7 +125,7 @@ fn play<R: Read, W: Write>(
 
 /// Answers the script that the reader has, over the files with these paths. The files are read
 /// before the script, and all of it before anything is written.
-pub fn run<T: Texts, R: Read, W: Write>(
+pub fn run<T: Texts + Sync, R: Read, W: Write>(
     rt: &(impl Threads + Wait + Sync),
     alloc: Global,
     texts: &T,
@@ -138,7 +138,7 @@ pub fn run<T: Texts, R: Read, W: Write>(
         (run_files_at (T.bytes texts.now) (T.can_fail texts.now) paths.now) suite.now
         (R.remaining reader.old) (W.contents output.old) (W.contents output.new) result }
 {
-    match read_run_files(alloc, texts, paths) {
+    match read_run_files(rt, alloc, texts, paths) {
         Ok(read) => play(rt, alloc, read, suite, paths.builders, reader, output),
         Err(unread) => ending_of_file(unread.role, unread.fault),
     }

@@ -1,14 +1,13 @@
 //! The files of a tracker over an archive.
 ghost use Rattle.std.specs.Prelude.{◌≡◌, IfOk, IfErr, option_map, string_bytes};
-ghost use Rattle.td_tool.specs.Checks.{IsTextOf};
 ghost use Rattle.td_tool.specs.Tracks.{IsTextIfGiven, file_at};
-ghost use Rattle.td_tool.specs.TrackInside.{AreTextsRead, HasFailedAt, HasFailedFor};
-ghost use Rattle.td_tool.specs.TrackInside.{HasFailedIfGiven, files_at};
+ghost use Rattle.td_tool.specs.TrackInside.{AreTextsRead, HasFailedAt, HasFailedIfGiven, files_at};
 
-use crate::file_texts::{FILE_LIMIT, FileFault, FileTexts, read_files};
+use crate::file_texts::{FileFault, FileTexts, read_files, read_one};
 use crate::role::Role;
 use crate::texts::Texts;
 use std::alloc::Global;
+use std::thread::Threads;
 
 /// The paths of the files.
 #[derive(Clone, Copy)]
@@ -39,19 +38,7 @@ pub fn given(text: &Option<String>) -> Option<&str>
     }
 }
 
-// Reads the file of a role.
-fn read_one<T: Texts>(alloc: Global, texts: &T, role: Role, path: &str) -> Result<String, FileFault>
-    ensures text { IfOk result (λ text. IsTextOf (T.bytes texts.now path.now) (string_bytes text)) }
-    ensures failed { IfErr result
-        (HasFailedFor (file_at (T.bytes texts.now) (T.can_fail texts.now) path.now) role) }
-{
-    match texts.text(alloc, path, FILE_LIMIT) {
-        Ok(text) => Ok(text),
-        Err(fault) => Err(FileFault { role, fault }),
-    }
-}
-
-/// Reads it where one is given.
+/// Reads the file of a role, where one is given.
 pub fn read_given<T: Texts>(
     alloc: Global,
     texts: &T,
@@ -76,7 +63,8 @@ pub fn read_given<T: Texts>(
 }
 
 /// Reads all of them, before anything is looked at.
-pub fn read_track_files<T: Texts>(
+pub fn read_track_files<T: Texts + Sync>(
+    rt: &(impl Threads + Sync),
     alloc: Global,
     texts: &T,
     paths: &TrackPaths<'_>,
@@ -86,7 +74,7 @@ pub fn read_track_files<T: Texts>(
     ensures failed { IfErr result (HasFailedAt
         (files_at (T.bytes texts.now) (T.can_fail texts.now) paths.now)) }
 {
-    let indices = read_files(alloc, texts, paths.archs, paths.packages, paths.sources)?;
+    let indices = read_files(rt, alloc, texts, paths.archs, paths.packages, paths.sources)?;
     let state = read_given(alloc, texts, Role::State, paths.state)?;
     let tracker = read_one(alloc, texts, Role::Tracker, paths.tracker)?;
     Ok(TrackTexts {

@@ -215,7 +215,7 @@ fn indices_text(
     let packages = texts.indices.packages.as_str();
     let sources = texts.indices.sources.as_str();
     let tracker = texts.tracker.as_str();
-    match Archive::read(alloc, packages, sources, archs) {
+    match Archive::read_beside(rt, alloc, packages, sources, archs) {
         Ok(archive) => archive_text(rt, alloc, &archive, given(&texts.state), tracker, asked),
         Err(fault) => Err(ending_of_archive(fault)),
     }
@@ -243,7 +243,7 @@ fn whole_text(
 
 /// Tells what the tracker with its path says over the archive. All is read before anything is
 /// written.
-pub fn track<T: Texts, W: Write>(
+pub fn track<T: Texts + Sync, W: Write>(
     rt: &(impl Threads + Sync),
     alloc: Global,
     texts: &T,
@@ -255,7 +255,7 @@ pub fn track<T: Texts, W: Write>(
         (files_at (T.bytes texts.now) (T.can_fail texts.now) paths.now)
         (W.contents output.old) (W.contents output.new) result }
 {
-    match read_track_files(alloc, texts, paths) {
+    match read_track_files(rt, alloc, texts, paths) {
         Ok(read) => write(whole_text(rt, alloc, &read, asked), output),
         Err(unread) => ending_of_file(unread.role, unread.fault),
     }

@@ -203,9 +203,9 @@ fn the_rows_of_a_crew_stand_behind_the_answers(rt: HostRuntime) -> Result<(), Fa
     each_tells(&rt, rt.alloc(), &runs)
 }
 
-// Outcomes are looked at behind the other files, where there are builders.
+// Outcomes are looked at behind the tracker and in front of the journal, where there are builders.
 #[test]
-fn a_line_of_outcomes_is_refused_behind_the_files(rt: HostRuntime) -> Result<(), Fail> {
+fn a_line_of_outcomes_is_refused_between_the_files(rt: HostRuntime) -> Result<(), Fail> {
     let runs = [
         (
             " --builders 1 --outcomes b",
@@ -223,7 +223,19 @@ fn a_line_of_outcomes_is_refused_behind_the_files(rt: HostRuntime) -> Result<(),
             " --builders 1 --outcomes b --journal b",
             UNDONE,
             99,
+            "2 |transdesk: outcomes: BadLine\n",
+        ),
+        (
+            " --outcomes b --journal b",
+            UNDONE,
+            99,
             "2 |transdesk: journal: BadHeader\n",
+        ),
+        (
+            " --builders 1 --outcomes b --journal b --tracker b",
+            UNDONE,
+            99,
+            "2 |transdesk: tracker: Syntax\n",
         ),
         (
             " --builders 1 --outcomes b --state b",

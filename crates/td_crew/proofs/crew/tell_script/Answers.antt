@@ -1,10 +1,10 @@
 -- The seats of a new board are those of its builders, as many as the crew has.
-use Rattle.std.proofs.Common.{◌≡◌, ◌≤◌, ℕ, IfOk, string_bytes, subst, sym}
+use Rattle.std.proofs.Common.{◌≡◌, ◌≤◌, ℕ, IfOk, length, string_bytes, subst, sym}
 use Rattle.td_script.proofs.OpeningLaws.{fresh_supply}
 use Rattle.td_script.specs.Asking.{journal_asked, setting_asked}
 use Rattle.td_crew.specs.CrewText.{EndsWithRows}
 use Rattle.td_crew.proofs.Endings.{told_ok}
-use Rattle.td_crew.proofs.Seats.{length-seats, seats_at}
+use Rattle.td_crew.proofs.Seats.{desk_at, length-seats, seats_at}
 use Rattle.td_crew.proofs.crew.tell_script.Goals as goal
 
 pub tell_named-requires-clause-seats : goal.tell_named-requires-clause-seats
@@ -17,6 +17,11 @@ tell_named-requires-clause-few g c κs within =
     subst (λ (n : ℕ). n ≤ 64)
     (sym (length-seats c.in-Ok.board.table 1 c.args.crew.builders c.in-Ok.seats.items
     c.in-Ok.ensures.ok.builder_seats)) c.args.crew.few
+
+pub tell_named-requires-clause-fresh_seat : goal.tell_named-requires-clause-fresh_seat
+tell_named-requires-clause-fresh_seat g c κs within =
+    desk_at c.in-Ok.board.table _ c.args.crew.builders (length c.args.asked.rows) c.in-Ok.seat
+    c.in-Ok.ensures.ok.desk_seat c.len.ensures.len
 
 pub tell_named-requires-clause-fresh_supply : goal.tell_named-requires-clause-fresh_supply
 tell_named-requires-clause-fresh_supply g c κs within = fresh_supply _ _ c.in-Ok-supply.ensures

@@ -1,14 +1,17 @@
-use Rattle.td_relation.specs.TableView.{table}
-use Rattle.td_script.specs.Openings.{texts_of}
-use Rattle.td_script.proofs.OnlyLaws.{no_table_stops, table_stops}
+use Rattle.std.proofs.Common.{IfErr, subst}
+use Rattle.std.specs.Prelude.{MatchResult}
+use Rattle.td_script.specs.OpeningInside.{IsRefusedBy, Stops, Tells}
+use Rattle.td_script.specs.Openings.{AreReadable, Texts}
 use Rattle.td_script.proofs.opening.tell_over.Goals as goal
 
-pub returns-in-Ok-clause-only : goal.returns-in-Ok-clause-only
-returns-in-Ok-clause-only g c =
-    table_stops (texts_of c.args.inputs.now) (table c.in-Ok.archs) _ c.tell_over_table.result
-    c.as_str.ensures.value c.in-Ok.ensures.only c.tell_over_table.ensures.only
-
-pub returns-in-Err-clause-only : goal.returns-in-Err-clause-only
-returns-in-Err-clause-only g c =
-    no_table_stops (texts_of c.args.inputs.now) _ c.in-Err.fault c.fault_of_table.result
-    c.as_str.ensures.value c.in-Err.ensures.only c.fault_of_table.ensures
+pub returns : goal.returns
+returns g c =
+    let May = g.S.Staff.tells c.args.staff.now in
+    record {
+      tells = subst (λ (x : Texts).
+          MatchResult c.tell_over_files.result (Tells May x c.args.script.now) (IsRefusedBy x))
+          c.of.ensures c.tell_over_files.ensures.tells;
+      only = subst (λ (x : Texts).
+          IfErr c.tell_over_files.result (λ fault. AreReadable x → Stops x fault)) c.of.ensures
+          c.tell_over_files.ensures.only;
+    }

@@ -1,14 +1,14 @@
 use Rattle.std.proofs.Common.{Some, refl}
 use Rattle.td_query.specs.Tracking.{tracking}
 use Rattle.td_report.specs.TransitionView.{contents_of, depth_of, level_of, tracking_of}
-use Rattle.td_script.specs.Openings.{texts_of}
+use Rattle.td_script.specs.Openings.{texts_lent}
 use Rattle.td_script.specs.Reporting.{report_by}
 use Rattle.td_script.proofs.OpeningLaws.{tells_from, tracker_given, tracker_reports}
 use Rattle.td_script.proofs.opening.tell_tracked.Goals as goal
 
 pub returns-in-Ok-clause-tells : goal.returns-in-Ok-clause-tells
 returns-in-Ok-clause-tells g c =
-    let x = texts_of c.args.inputs.now in
+    let x = texts_lent c.args.files.now in
     let y = c.in-Ok.transition in
     let t = tracking c.args.tracker.now in
     tells_from (g.S.Staff.tells c.args.staff.now) x c.args.archive.now

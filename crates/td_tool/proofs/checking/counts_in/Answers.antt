@@ -3,7 +3,7 @@ use Rattle.td_tool.proofs.Counting.{counted_in}
 use Rattle.td_tool.proofs.checking.counts_in.Goals as goal
 
 pub returns : goal.returns
-returns c =
+returns g c =
     counted_in table c.args.archs.now c.args.packages.now c.args.sources.now c.read.result
     c.counts_with.result
     c.read.ensures.found c.read.ensures.only c.read.ensures.fault c.counts_with.ensures.counted

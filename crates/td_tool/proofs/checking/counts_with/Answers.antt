@@ -5,11 +5,11 @@ use Rattle.td_tool.proofs.Counting.{counted_with}
 use Rattle.td_tool.proofs.checking.counts_with.Goals as goal
 
 pub returns-in-Ok-clause-counted : goal.returns-in-Ok-clause-counted
-returns-in-Ok-clause-counted c =
+returns-in-Ok-clause-counted g c =
     subst (λ r. IfOk r (λ archs.
     IsCountedWith (table archs) c.args.packages.now c.args.sources.now c.counts_of.result))
     (sym c.in-Ok.is)
-    (counted_with (table c.in-Ok.archs) c.args.packages.now c.args.sources.now c.read.result
+    (counted_with (table c.in-Ok.archs) c.args.packages.now c.args.sources.now c.read_beside.result
     c.counts_of.result
-    c.read.ensures.found c.read.ensures.only c.read.ensures.fault c.counts_of.ensures.counts
-    c.counts_of.ensures.refused)
+    c.read_beside.ensures.found c.read_beside.ensures.only c.read_beside.ensures.fault
+    c.counts_of.ensures.counts c.counts_of.ensures.refused)

@@ -1,0 +1,23 @@
+-- Where the outcomes aren't read nothing is written.
+use Rattle.std.proofs.Common.{rules}
+use Rattle.td_script.specs.Openings.{texts_of}
+use Rattle.td_crew.specs.CrewEnds.{outcomes_of}
+use Rattle.td_crew.specs.CrewText.{crew_tells}
+use Rattle.td_crew.proofs.CrewRuns.{unread_says, unread_stops}
+use Rattle.td_crew.proofs.running.run_crew.Goals as goal
+
+pub returns-in-Err-clause-says : goal.returns-in-Err-clause-says
+returns-in-Err-clause-says g c =
+    let inputs = c.args.inputs.now in
+    unread_says (crew_tells inputs.builders) (texts_of inputs) (outcomes_of inputs)
+    (g.R.Read.remaining c.args.reader.now) (g.W.Write.contents c.args.writer.now)
+    (g.W.Write.contents c.args.writer.now) c.no_outcomes.result
+    c.no_outcomes.ensures.says (search rules)
+
+pub returns-in-Err-clause-only : goal.returns-in-Err-clause-only
+returns-in-Err-clause-only g c = record {
+  read = λ text is fits read readable.
+      unread_stops (texts_of c.args.inputs.now) c.no_outcomes.result
+      (c.no_outcomes.ensures.only read readable);
+  unread = λ unread readable. c.no_outcomes.ensures.unread readable;
+}

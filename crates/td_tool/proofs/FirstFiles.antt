@@ -1,0 +1,38 @@
+-- A file of an archive that wasn't read, behind those that were.
+use Rattle.std.proofs.Common.{◌≡◌, ℕ, Bool, List, Option, sym, subst}
+use Rattle.td_bytes.specs.declared.text.TextFault.{TextFault}
+use Rattle.td_tool.specs.declared.file_texts.FileFault.{FileFault}
+use Rattle.td_tool.specs.declared.role.Role.TheVariants.{Archs, Packages, Sources}
+use Rattle.td_tool.specs.Checks.{HasFailed, IsTextOf, files_of}
+use Rattle.td_tool.specs.CheckInside.{HasFailedIn}
+use Rattle.td_tool.specs.TrackInside.{HasFailedFor}
+use Rattle.td_tool.specs.Tracks.{file_at}
+
+module _ (bytes : List ℕ → Option (List ℕ)) (can_fail : List ℕ → TextFault → Bool)
+    (archs packages sources : List ℕ) (f : FileFault) where
+  pub archs_fail : HasFailedFor (file_at bytes can_fail archs) Archs f
+      → HasFailedIn (files_of bytes can_fail archs packages sources) f
+  archs_fail failed =
+      subst (λ r. HasFailed (files_of bytes can_fail archs packages sources) r f.fault)
+      (sym failed.asked)
+      (record { before = tt; may = failed.may.may; fits = failed.may.fits })
+
+  pub packages_fail : (a : List ℕ) → IsTextOf (bytes archs) a
+      → HasFailedFor (file_at bytes can_fail packages) Packages f
+      → HasFailedIn (files_of bytes can_fail archs packages sources) f
+  packages_fail a in_archs failed =
+      subst (λ r. HasFailed (files_of bytes can_fail archs packages sources) r f.fault)
+      (sym failed.asked)
+      (record { before = (a, in_archs); may = failed.may.may; fits = failed.may.fits })
+
+  pub sources_fail : (a p : List ℕ) → IsTextOf (bytes archs) a → IsTextOf (bytes packages) p
+      → HasFailedFor (file_at bytes can_fail sources) Sources f
+      → HasFailedIn (files_of bytes can_fail archs packages sources) f
+  sources_fail a p in_archs in_packages failed =
+      subst (λ r. HasFailed (files_of bytes can_fail archs packages sources) r f.fault)
+      (sym failed.asked)
+      (record {
+        before = (a, p, in_archs, in_packages);
+        may = failed.may.may;
+        fits = failed.may.fits;
+      })
