@@ -70,6 +70,98 @@ fn each_step_has_its_line_and_its_answer(rt: HostRuntime) -> Result<(), Fail> {
     Ok(())
 }
 
+// A build that ends as an attempt.
+const ATTEMPT: &str = "\
+foo/amd64 Needs-Build 0 0
+steps
+offer foo/amd64
+dw foo/amd64 : libxx
+claim 1 foo/amd64
+claim 2 foo/amd64
+note foo/amd64
+dw foo/amd64 : libxx
+finish 1 attempted
+settle foo/amd64
+gb foo/amd64
+claim 1 foo/amd64
+release 1
+undo 3
+undo 1
+";
+
+const ATTEMPTED: &str = "true \
+done
+refused: NotPinned foo/amd64
+done
+refused: NotOpen
+entry 1
+refused: DoesNotApply foo/amd64
+done
+entry 2
+entry 3
+refused: NotFree
+done
+undone 3
+refused: NotACommand
+rows
+foo/amd64 Build-Attempted 0 0
+";
+
+// An undo past a later entry on another row.
+const OTHER_ROW: &str = "\
+bar/amd64 Installed 0 0
+foo/amd64 Installed 0 0
+steps
+bp=5 foo/amd64
+nmu bar/amd64
+undo 1
+";
+
+const OTHER_ROW_TOLD: &str = "false \
+entry 1
+entry 2
+undone 1
+rows
+bar/amd64 Needs-Build 0 1
+foo/amd64 Installed 0 0
+";
+
+// Undos between commands on one row.
+const ONE_ROW: &str = "\
+foo/amd64 Failed 0 0
+steps
+bp=1 foo/amd64
+gb foo/amd64
+undo 2
+undo 1
+bp=3 foo/amd64
+undo 3
+";
+
+const ONE_ROW_TOLD: &str = "false \
+entry 1
+entry 2
+undone 2
+undone 1
+entry 3
+undone 3
+rows
+foo/amd64 Failed 0 0
+";
+
+#[test]
+fn worked_simulations_are_told(rt: HostRuntime) -> Result<(), Fail> {
+    for (text, expected) in [
+        (ATTEMPT, ATTEMPTED),
+        (OTHER_ROW, OTHER_ROW_TOLD),
+        (ONE_ROW, ONE_ROW_TOLD),
+    ] {
+        let found = told(rt.alloc(), text)?;
+        assert_eq!(rt; found.as_str(), expected);
+    }
+    Ok(())
+}
+
 #[test]
 fn a_text_without_steps_tells_its_rows(rt: HostRuntime) -> Result<(), Fail> {
     let alloc = rt.alloc();
