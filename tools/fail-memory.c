@@ -16,7 +16,7 @@ static int fails(void) {
         const char *text = getenv("FAIL_AT");
         fail_at = text ? atol(text) : 0;
     }
-    if (++asked != fail_at) {
+    if (__atomic_add_fetch(&asked, 1, __ATOMIC_SEQ_CST) != fail_at) {
         return 0;
     }
     const char *hit = getenv("FAIL_HIT");
