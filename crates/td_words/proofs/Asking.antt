@@ -1,6 +1,6 @@
 -- What `clap` reads in the words that ask for the simulation, and in those that ask for a check.
 use Rattle.std.proofs.Common.{◌≡◌, ℕ, Bool, true, false, List, [], ◌++◌, Option, Some, None, Result}
-use Rattle.std.proofs.Common.{Ok, Err, IfOk, MatchResult, option_map, unwrap_or, codes}
+use Rattle.std.proofs.Common.{Ok, Err, IfOk, MatchResult, option_map, unwrap_or}
 use Rattle.std.proofs.Common.{string_bytes, refl, sym, ap, subst, inl, inr, ◌∙◌}
 use Rattle.std.specs.Borrow.{Bor}
 use Rattle.clap.specs.Faults.{is_simple_and_free}

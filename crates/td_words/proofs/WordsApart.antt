@@ -1,15 +1,15 @@
 -- The words of each subcommand ask for it with their values as words of their own.
 use Rattle.std.proofs.Common.{◌≡◌, ℕ, List, [], ◌∷◌, Option, Some, None, unwrap_or, codes, refl}
-use Rattle.std.proofs.Common.{sym, ap, subst, ◌∙◌}
+use Rattle.std.proofs.Common.{sym, ap, subst}
 use Rattle.std.specs.Prelude.{find}
 use Rattle.std.specs.Str.{bytes_eq}
 use Rattle.clap.specs.Kinds.{or_else}
 use Rattle.clap.specs.Walk.{Row, finished, nothing_held, walk_from}
 use Rattle.clap.specs.Simple.{Shape, built, subcommand_of}
 use Rattle.clap.proofs.OnLiterals.{clap_on_literals}
-use Rattle.td_words.specs.CommandLine.{AskForCheck, AskForRun, AskForTrack, AskForWaves, HasFiles}
+use Rattle.td_words.specs.CommandLine.{AskForCheck, AskForTrack, HasFiles}
 use Rattle.td_words.specs.CommandLine.{HasRun, HasTrack, HasTracker, IsPlainPath, RunWords}
-use Rattle.td_words.specs.CommandLine.{TrackWords, asking_apart, builders_at, check_shape, chunk_in}
+use Rattle.td_words.specs.CommandLine.{TrackWords, asking_apart, check_shape, chunk_in}
 use Rattle.td_words.specs.CommandLine.{desk, faults_of, name_in, plain_run, rows_in, run_shape}
 use Rattle.td_words.specs.CommandLine.{track_shape, waves_shape}
 use Rattle.td_words.specs.WordsApart.{AreDeskPlain, ArePlain, DeskValues, IsPlainIfGiven}

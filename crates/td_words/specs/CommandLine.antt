@@ -9,7 +9,7 @@ use Rattle.clap.specs.declared.builder.action.ArgAction.TheVariants.{SetTrue}
 use Rattle.clap.specs.Faults.{fault_of}
 use Rattle.clap.specs.Kinds.{Kinds}
 use Rattle.clap.specs.Walk.{Row, Rule, first_of}
-use Rattle.clap.specs.Simple.{App, Shape, new_app, new_rule, new_shape, on_top, subcommand_of}
+use Rattle.clap.specs.Simple.{App, Shape, new_app, new_rule, on_top, subcommand_of}
 use Rattle.clap.specs.Simple.{with_rule, with_subcommand}
 
 -- an option that has to be there, once, with one value
@@ -76,17 +76,15 @@ run_shape =
     (with_crew_rules (with_desk_rules (with_archive_rules (new_app (codes "run")))))).top
 
 -- the program has a version, and wants one of its subcommands
-abbrev pub desk_without_tracker : App
-desk_without_tracker =
-    let program = on_top (λ s. record s { has_version = true; subcommand_required = true })
-    (new_app (codes "transdesk")) in
-    with_subcommand (with_subcommand program simulate_shape) check_shape
+abbrev pub bare_desk : App
+bare_desk = on_top (λ s. record s { has_version = true; subcommand_required = true })
+    (new_app (codes "transdesk"))
 
--- the program with all its subcommands
+-- the program with its subcommands
 abbrev pub desk : App
 desk =
-    with_subcommand (with_subcommand (with_subcommand desk_without_tracker track_shape) waves_shape)
-    run_shape
+    let counting = with_subcommand (with_subcommand bare_desk simulate_shape) check_shape in
+    with_subcommand (with_subcommand (with_subcommand counting track_shape) waves_shape) run_shape
 
 -- the name of a subcommand with its matches, and those matches
 abbrev pub name_in : Option (List ℕ × List Row) → Option (List ℕ)

@@ -1,9 +1,9 @@
 //! The command line as `clap` is told of it: subcommands, options and their help.
 ghost use Rattle.std.specs.Prelude.{◌≡◌, IfOk, codes, false};
-ghost use Rattle.clap.specs.Simple.{app_of, shape_of, with_rule};
+ghost use Rattle.clap.specs.Simple.{app_of, shape_of, with_rule, with_subcommand};
 ghost use Rattle.clap.specs.declared.builder.command.Command.TheViews.{out-Command};
 ghost use Rattle.clap.specs.Walk.{rule_of};
-ghost use Rattle.td_words.specs.CommandLine.{check_shape, desk, desk_without_tracker, flag_of};
+ghost use Rattle.td_words.specs.CommandLine.{bare_desk, check_shape, desk, flag_of};
 ghost use Rattle.td_words.specs.CommandLine.{needed_option, option_of, run_shape, simulate_shape};
 ghost use Rattle.td_words.specs.CommandLine.{track_shape, waves_shape, with_archive_rules};
 ghost use Rattle.td_words.specs.CommandLine.{with_crew_rules, with_desk_rules, with_explanation};
@@ -142,6 +142,22 @@ fn option<'a>(alloc: Global, name: &'static str, value: &'static str, help: &'st
         .help(help)
 }
 
+// The same command with one more of those.
+fn with_option<'a>(
+    alloc: Global,
+    command: Command<'a>,
+    name: &'static str,
+    value: &'static str,
+    help: &'static str,
+) -> Result<Command<'a>, AllocError>
+    ensures app { IfOk result (λ c.
+        app_of c ≡ with_rule (app_of command.entry) (option_of name.now)) }
+    ensures globals { (out-Command command.entry).has_globals ≡ false
+        → IfOk result (λ c. (out-Command c).has_globals ≡ false) }
+{
+    command.arg(option(alloc, name, value, help))
+}
+
 // The same command with one more file.
 fn with_file<'a>(
     alloc: Global,
@@ -198,9 +214,8 @@ fn track<'a>(alloc: Global) -> Result<Command<'a>, AllocError>
         .after_help(TRACK);
     let command = with_tracker(alloc, command)?;
     let chunk = "Make the report by N rows at a time, in several threads: 1 to 1000000";
-    let command = command
-        .arg(option(alloc, "state", "FILE", STATE))?
-        .arg(option(alloc, "chunk", "N", chunk))?;
+    let command = with_option(alloc, command, "state", "FILE", STATE)?;
+    let command = with_option(alloc, command, "chunk", "N", chunk)?;
     explained(alloc, command)
 }
 
@@ -228,10 +243,9 @@ fn with_desk<'a>(alloc: Global, command: Command<'a>) -> Result<Command<'a>, All
         → IfOk result (λ c. (out-Command c).has_globals ≡ false) }
 {
     let suite = "The suite that command lines may name; unstable where none is given";
-    command
-        .arg(option(alloc, "state", "FILE", STATE))?
-        .arg(option(alloc, "tracker", "FILE", TRACKER))?
-        .arg(option(alloc, "suite", "NAME", suite))
+    let command = with_option(alloc, command, "state", "FILE", STATE)?;
+    let command = with_option(alloc, command, "tracker", "FILE", TRACKER)?;
+    with_option(alloc, command, "suite", "NAME", suite)
 }
 
 // The same command with who builds, and with the journal of an earlier run.
@@ -243,10 +257,9 @@ fn with_crew<'a>(alloc: Global, command: Command<'a>) -> Result<Command<'a>, All
     let builders = "How many builders there are, from 0 to 64; none where none are given";
     let outcomes = "How the builds of each row end";
     let journal = "The journal of an earlier run, to go on with";
-    command
-        .arg(option(alloc, "builders", "N", builders))?
-        .arg(option(alloc, "outcomes", "FILE", outcomes))?
-        .arg(option(alloc, "journal", "FILE", journal))
+    let command = with_option(alloc, command, "builders", "N", builders)?;
+    let command = with_option(alloc, command, "outcomes", "FILE", outcomes)?;
+    with_option(alloc, command, "journal", "FILE", journal)
 }
 
 fn run<'a>(alloc: Global) -> Result<Command<'a>, AllocError>
@@ -265,25 +278,49 @@ fn run<'a>(alloc: Global) -> Result<Command<'a>, AllocError>
     explained(alloc, command)
 }
 
-// The program without the subcommands that read a tracker.
-fn first_part<'a>(alloc: Global) -> Result<Command<'a>, AllocError>
-    ensures { IfOk result (λ c. app_of c ≡ desk_without_tracker) }
+// The program without its subcommands.
+fn program<'a>(alloc: Global) -> Command<'a>
+    ensures { app_of result ≡ bare_desk }
 {
     Command::new(alloc, "transdesk")
         .version("0.1.0")
         .about("A desk for the rebuilds of a Debian transition, whose undo is proved")
         .after_help(STATUSES)
         .subcommand_required(true)
-        .subcommand(simulate(alloc)?)?
-        .subcommand(check(alloc)?)
+}
+
+// The same command with a subcommand more.
+fn with_simulate<'a>(alloc: Global, command: Command<'a>) -> Result<Command<'a>, AllocError>
+    ensures { IfOk result (λ c. app_of c ≡ with_subcommand (app_of command.entry) simulate_shape) }
+{
+    command.subcommand(simulate(alloc)?)
+}
+
+fn with_check<'a>(alloc: Global, command: Command<'a>) -> Result<Command<'a>, AllocError>
+    ensures { IfOk result (λ c. app_of c ≡ with_subcommand (app_of command.entry) check_shape) }
+{
+    command.subcommand(check(alloc)?)
+}
+
+fn with_track<'a>(alloc: Global, command: Command<'a>) -> Result<Command<'a>, AllocError>
+    ensures { IfOk result (λ c. app_of c ≡ with_subcommand (app_of command.entry) track_shape) }
+{
+    command.subcommand(track(alloc)?)
+}
+
+fn with_waves<'a>(alloc: Global, command: Command<'a>) -> Result<Command<'a>, AllocError>
+    ensures { IfOk result (λ c. app_of c ≡ with_subcommand (app_of command.entry) waves_shape) }
+{
+    command.subcommand(waves(alloc)?)
 }
 
 /// The program's command line, as `clap` has it.
 pub(crate) fn command<'a>(alloc: Global) -> Result<Command<'a>, AllocError>
     ensures { IfOk result (λ c. app_of c ≡ desk) }
 {
-    first_part(alloc)?
-        .subcommand(track(alloc)?)?
-        .subcommand(waves(alloc)?)?
-        .subcommand(run(alloc)?)
+    let command = with_simulate(alloc, program(alloc))?;
+    let command = with_check(alloc, command)?;
+    let command = with_track(alloc, command)?;
+    let command = with_waves(alloc, command)?;
+    command.subcommand(run(alloc)?)
 }

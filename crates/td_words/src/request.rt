@@ -110,27 +110,17 @@ pub(crate) fn value_in<'a>(matches: &ArgMatches<'a>, name: &str) -> Option<&'a s
     matches.get_str(name)
 }
 
-// The check that the matches of `check` ask for. Each option is required, so each is there, unless
-// `clap` broke a promise.
+// The check that the matches of `check` ask for.
 fn check_in(alloc: Global, matches: &ArgMatches<'_>) -> Result<Request, WordsFault>
     ensures check { (archs packages sources : List ℕ)
         → HasFiles (rows_of (found_of matches.now)) archs packages sources
         → MatchResult result (IsCheckOf archs packages sources) (λ e. e ≡ WordsFault.NoMemory) }
     ensures only { IfOk result (IsCheckIn (rows_of (found_of matches.now))) }
 {
-    let Some(archs) = value_in(matches, "archs") else {
-        return Err(WordsFault::Usage(String::new(alloc)));
-    };
-    let Some(packages) = value_in(matches, "packages") else {
-        return Err(WordsFault::Usage(String::new(alloc)));
-    };
-    let Some(sources) = value_in(matches, "sources") else {
-        return Err(WordsFault::Usage(String::new(alloc)));
-    };
     Ok(Request::Check {
-        archs: String::from_str(alloc, archs)?,
-        packages: String::from_str(alloc, packages)?,
-        sources: String::from_str(alloc, sources)?,
+        archs: needed_in(alloc, matches, "archs")?,
+        packages: needed_in(alloc, matches, "packages")?,
+        sources: needed_in(alloc, matches, "sources")?,
     })
 }
 
