@@ -1,9 +1,11 @@
 //! A simulation: its text, read, and what is told of it.
-ghost use Rattle.std.specs.Prelude.{◌≡◌, ◌++◌, List, map, IfOk, IfErr, OnOk, MatchResult};
+ghost use Rattle.std.specs.Prelude.{◌≡◌, ◌∷◌, ◌++◌, List, map, codes};
+ghost use Rattle.std.specs.Prelude.{IfOk, IfErr, OnOk, MatchResult};
 ghost use Rattle.std.specs.List.{list_any};
 ghost use Rattle.std.specs.String.{string_bytes};
 ghost use Rattle.td_rows.specs.Limits.{max_builders};
 ghost use Rattle.td_text.specs.Lines.{text_of};
+ghost use Rattle.td_rows.specs.RowLine.{row_line};
 ghost use Rattle.td_rows.specs.Table.{Table};
 ghost use Rattle.td_core.specs.declared.step.Step.{Step as StepValue};
 ghost use Rattle.td_core.specs.Phases.{NoneBuilt};
@@ -90,18 +92,27 @@ fn run_without_offers<'a>(
     run(alloc, rows, Supply::empty(alloc), builders, steps)
 }
 
+// What is told of these answers, and of the rows behind them.
+fn told_of(alloc: Global, rows: &Rows, answers: &[Answer]) -> Result<Simulated, AllocError>
+    ensures text { IfOk result (λ told. string_bytes told.text
+        ≡ text_of (map answer_line answers.now) ++ text_of (codes "rows" ∷ map row_line rows.now)) }
+    ensures refused { IfOk result (λ told. told.refused ≡ list_any is_refused answers.now) }
+{
+    let mut text = String::new(alloc);
+    put_answers(&mut text, answers)?;
+    text.push_str("rows\n")?;
+    text.push_str(rows_text(alloc, rows)?.as_str())?;
+    let refused = any_refused(answers);
+    Ok(Simulated { text, refused })
+}
+
 // What is told of these steps from these rows.
 fn tell(alloc: Global, rows: Rows, steps: Vec<Step>) -> Result<Simulated, AllocError>
     requires { NoneBuilt rows }
     ensures { IfOk result (Tells rows steps.items) }
 {
     let (world, answers) = run_without_offers(alloc, rows, steps)?;
-    let mut text = String::new(alloc);
-    put_answers(&mut text, &answers)?;
-    text.push_str("rows\n")?;
-    text.push_str(rows_text(alloc, world.rows())?.as_str())?;
-    let refused = any_refused(&answers);
-    Ok(Simulated { text, refused })
+    told_of(alloc, world.rows(), &answers)
 }
 
 /// Takes the steps of a simulation's text one after the other, and tells their answers and the
