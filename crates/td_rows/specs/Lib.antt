@@ -25,5 +25,6 @@ pub mod RowLine
 pub mod RowReading
 pub mod RowText
 pub mod StateFile
+pub mod FaultNames
 pub mod StateReading
 pub mod StateWriting

@@ -1,4 +1,7 @@
 //! Why a text is no state file.
+ghost use Rattle.std.specs.Prelude.{◌≡◌};
+ghost use Rattle.td_rows.specs.FaultNames.{name_of};
+
 use thiserror::Error;
 
 /// Why a text isn't a state file: the first fault from its first line on. Lines count from 1.
@@ -18,4 +21,19 @@ pub enum StateFault {
     TooManyRows,
     #[error("want of memory")]
     NoMemory,
+}
+
+impl StateFault {
+    /// The name that the program prints.
+    pub fn name(self) -> &'static str
+        ensures { result.now ≡ name_of self }
+    {
+        match self {
+            StateFault::BadLine(_) => "BadLine",
+            StateFault::Twice(_) => "Twice",
+            StateFault::NotOpening(_) => "NotOpening",
+            StateFault::TooManyRows => "TooManyRows",
+            StateFault::NoMemory => "NoMemory",
+        }
+    }
 }

@@ -2,6 +2,7 @@
 use Rattle.std.specs.Prelude.{ℕ, List, codes}
 use Rattle.td_rows.specs.declared.state_file.StateFault.{StateFault}
 use Rattle.td_rows.specs.declared.state_file.StateFault.TheVariants as state
+use Rattle.td_rows.specs.FaultNames as state_fault
 use Rattle.td_simulate.specs.declared.fault.SimulationFault.{SimulationFault}
 use Rattle.td_simulate.specs.declared.fault.SimulationFault.TheVariants.{Opening, BadStep, NoMemory}
 
@@ -10,16 +11,8 @@ abbrev pub of_opening : StateFault → SimulationFault
 of_opening state.NoMemory = NoMemory
 of_opening e = Opening e
 
--- the name of a fault of the opening rows
-abbrev pub state_fault_name : StateFault → List ℕ
-state_fault_name (state.BadLine n) = codes "BadLine"
-state_fault_name (state.Twice n) = codes "Twice"
-state_fault_name (state.NotOpening n) = codes "NotOpening"
-state_fault_name state.TooManyRows = codes "TooManyRows"
-state_fault_name state.NoMemory = codes "NoMemory"
-
 -- the name of a fault of a simulation
 abbrev pub fault_name : SimulationFault → List ℕ
-fault_name (Opening e) = state_fault_name e
+fault_name (Opening e) = state_fault.name_of e
 fault_name (BadStep n) = codes "BadLine"
 fault_name NoMemory = codes "NoMemory"

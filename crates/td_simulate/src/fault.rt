@@ -1,6 +1,6 @@
 //! Why a text is no simulation.
 ghost use Rattle.std.specs.Prelude.{◌≡◌};
-ghost use Rattle.td_simulate.specs.Faults.{fault_name, of_opening, state_fault_name};
+ghost use Rattle.td_simulate.specs.Faults.{fault_name, of_opening};
 
 use td_rows::StateFault;
 use thiserror::Error;
@@ -28,25 +28,13 @@ pub fn of_opening(fault: StateFault) -> SimulationFault
     }
 }
 
-fn state_fault_name(fault: StateFault) -> &'static str
-    ensures { result.now ≡ state_fault_name fault }
-{
-    match fault {
-        StateFault::BadLine(_) => "BadLine",
-        StateFault::Twice(_) => "Twice",
-        StateFault::NotOpening(_) => "NotOpening",
-        StateFault::TooManyRows => "TooManyRows",
-        StateFault::NoMemory => "NoMemory",
-    }
-}
-
 impl SimulationFault {
     /// The name that the program prints.
     pub fn name(self) -> &'static str
         ensures { result.now ≡ fault_name self }
     {
         match self {
-            SimulationFault::Opening(fault) => state_fault_name(fault),
+            SimulationFault::Opening(fault) => fault.name(),
             SimulationFault::BadStep(_) => "BadLine",
             SimulationFault::NoMemory => "NoMemory",
         }
