@@ -1,16 +1,19 @@
 -- Lists of rows, of which one gets a row more.
 use Rattle.std.proofs.Common.{◌≡◌, ◌<◌, ◌+◌, ◌-◌, ◌==◌, ℕ, false, List, [], ◌∷◌, ◌++◌, length, sym}
 use Rattle.std.proofs.Common.{ap, ◌∙◌, inl, inr, arith, if◌then◌else◌, get_or, set, map}
-use Rattle.std.proofs.Common.{get_or-set_other, Option, Some, slice_get}
+use Rattle.std.proofs.Common.{get_or-set_other, Option, Some, None, slice_get, subst}
+use Rattle.std.specs.Borrow.{Bor}
 use Rattle.std.specs.Global.{Vec}
 use Rattle.std.specs.List.{count_by}
+use Rattle.std.specs.Prelude.{IfSome}
 use Rattle.std.proofs.lemmas.Bool.Decides.{eqb_tells}
 use Rattle.std.proofs.lemmas.Grind.{get_or-set_at}
 use Rattle.std.proofs.lemmas.List.{map-set, get_or-map, length-map, append-nil}
-use Rattle.std.proofs.lemmas.Option.{get_or_from_slice_get}
+use Rattle.td_report.specs.declared.grouping.Grouped.{Grouped}
 use Rattle.td_report.specs.declared.item.Item.{Item}
-use Rattle.td_report.specs.Grouped.{list_at}
-use Rattle.td_report.specs.ItemLines.{is_installed}
+use Rattle.td_report.specs.Blocks.{AreGroupedCounts}
+use Rattle.td_report.specs.Grouped.{AreByLevel, list_at}
+use Rattle.td_report.specs.ItemLines.{AreCountsOf, is_installed}
 
 pub list_at-push : (vs : List (Vec Item)) (b : ℕ) (x : Item) (old new : Vec Item) → b < length vs
     → old ≡ get_or vs b old → new.items ≡ old.items ++ x ∷ []
@@ -58,10 +61,16 @@ pub read-list : (lists : List (Vec Item)) (n : ℕ) (v : Vec Item) (now : List I
 read-list lists n v now lt is e = e ∙ ap (λ (v : Vec Item). v.items) is
     ∙ sym (get_or-map (λ (v : Vec Item). v.items) lists n v [] lt)
 
--- a count that is kept of some rows is that of the list that has them
-pub count-read : (counts : List ℕ) (n : ℕ) (items mine : List Item)
-    → slice_get counts n ≡ Some (count_by is_installed items) → mine ≡ items
-    → get_or counts n 0 ≡ count_by is_installed mine
-count-read counts n items mine kept same =
-    get_or_from_slice_get counts n (count_by is_installed items) 0 kept
-    ∙ ap (count_by is_installed) (sym same)
+-- counts of the rows at levels are those of the lists that have them
+pub counts-grouped : (depth : ℕ) (items : List Item) (grouped : Grouped)
+    (counts : Option (Bor (List ℕ))) → AreByLevel depth items grouped
+    → IfSome counts (λ cs. AreCountsOf depth items cs.now)
+    → IfSome counts (λ cs. AreGroupedCounts grouped cs.now)
+counts-grouped depth items grouped None by are = tt
+counts-grouped depth items grouped (Some cs) by are = record {
+  of_level = λ n lt.
+      let within : n < depth = subst (λ d. n < d) by.len lt in
+      are.of_level n within ∙ ap (λ l. Some (count_by is_installed l)) (sym (by.levels n within));
+  of_cyclic = ap (λ n. slice_get cs.now n) by.len ∙ are.of_cyclic
+      ∙ ap (λ l. Some (count_by is_installed l)) (sym by.cyclic);
+}

@@ -1,7 +1,10 @@
 -- A report of rows is the same wherever they lie.
 use Rattle.std.proofs.Common.{◌≡◌, ◌+◌, ◌==◌, ◌++◌, ◌∷◌, [], ℕ, Bool, List, Some, None, map, filter}
 use Rattle.std.proofs.Common.{length, count_by, refl, sym, ap, ◌∙◌, inl, inr, arith, if◌then◌else◌}
+use Rattle.std.proofs.Common.{Option, subst}
+use Rattle.std.specs.Borrow.{Bor}
 use Rattle.std.specs.List.{flat_map}
+use Rattle.std.specs.Prelude.{IfSome}
 use Rattle.std.proofs.lemmas.Bool.{cases_Bool}
 use Rattle.std.proofs.lemmas.List.{length-map}
 use Rattle.std.proofs.lemmas.List.Sums.{sum_by-cons}
@@ -73,7 +76,7 @@ installed-seen items level =
     ∙ count-map seen report.is_installed (filter (λ x. report.stands_at level (seen x)) items)
 
 -- what is kept of rows is kept of them where they lie
-pub kept-seen : (depth : ℕ) (rows : List AffectedRow) (items : List Item) (kept : List ℕ)
+kept-seen : (depth : ℕ) (rows : List AffectedRow) (items : List Item) (kept : List ℕ)
     → map seen items ≡ rows → AreInstalledCounts depth rows kept → AreCountsOf depth items kept
 kept-seen depth rows items kept are is = record {
   of_level = λ n lt. is.of_level n lt ∙ ap Some
@@ -81,6 +84,16 @@ kept-seen depth rows items kept are is = record {
   of_cyclic = is.of_cyclic
       ∙ ap Some (ap (λ l. report.installed_at l Cyclic) (sym are) ∙ installed-seen items Cyclic);
 }
+
+-- and of them where they were read, if counts are given at all
+pub counts-seen : (depth : ℕ) (rows : List AffectedRow) (items : List Item)
+    (counts : Option (Bor (List ℕ))) (d : ℕ) (now : List Item) → map seen items ≡ rows
+    → d ≡ depth → now ≡ items → IfSome counts (λ cs. AreInstalledCounts depth rows cs.now)
+    → IfSome counts (λ cs. AreCountsOf d now cs.now)
+counts-seen depth rows items None d now are deep same is = tt
+counts-seen depth rows items (Some cs) d now are deep same is =
+    subst (λ d. AreCountsOf d now cs.now) (sym deep)
+    (subst (λ l. AreCountsOf depth l cs.now) (sym same) (kept-seen depth rows items cs.now are is))
 
 last-seen : (items : List Item) → report.last_line (map seen items) ≡ last_line items
 last-seen items = rw (

@@ -1,17 +1,20 @@
 -- What one more row, or one more level, adds to a text.
-use Rattle.std.proofs.Common.{◌≡◌, ◌+◌, ℕ, List, [], ◌∷◌, ◌++◌, map, ap, sym, ◌∙◌, arith}
-use Rattle.std.proofs.Common.{append_assoc}
+use Rattle.std.proofs.Common.{◌≡◌, ◌+◌, ℕ, List, [], ◌∷◌, ◌++◌, map, refl, ap, sym, ◌∙◌, arith}
+use Rattle.std.proofs.Common.{◌<◌, append_assoc, count_by, filter, get_or, length, take}
 use Rattle.std.specs.List.{flat_map, range_with_len}
 use Rattle.std.proofs.lemmas.Grind.{flat_map-append}
-use Rattle.std.proofs.lemmas.List.{append-nil, map-append}
+use Rattle.std.proofs.lemmas.List.{append-nil, map-append, take_more}
 use Rattle.std.proofs.lemmas.List.FromFn.{map-range_with_len_more}
 use Rattle.td_text.specs.Lines.{text_of}
 use Rattle.td_waves.specs.declared.level.Level.{Level}
-use Rattle.td_waves.specs.declared.level.Level.TheVariants.{At, Cyclic}
+use Rattle.td_waves.specs.declared.level.Level.TheVariants.{At}
+use Rattle.td_report.specs.declared.block.Block.{Block}
 use Rattle.td_report.specs.declared.item.Item.{Item}
-use Rattle.td_report.specs.ItemLines.{item_line}
-use Rattle.td_report.specs.Pieces.{lines_text}
+use Rattle.td_report.specs.Blocks.{AreBlocks, Told, texts_of, told, told_at}
+use Rattle.td_report.specs.ItemLines.{is_installed, item_line, stands_at}
+use Rattle.td_report.specs.LinesText.{lines_text}
 use Rattle.td_report.specs.Report.{levels}
+use Rattle.td_report.proofs.Splits.{flat_map-map}
 
 pub text_of-append : (xs ys : List (List ℕ)) → text_of (xs ++ ys) ≡ text_of xs ++ text_of ys
 text_of-append xs ys = flat_map-append (λ line. line ++ 10 ∷ []) xs ys
@@ -22,41 +25,59 @@ lines-append xs ys = ap text_of (map-append item_line xs ys)
 
 -- ---- blocks of levels, one behind the other
 
--- those of the first n levels
-abbrev pub first_blocks : (Level → List (List ℕ)) → ℕ → List (List ℕ)
-first_blocks block n = flat_map block (map At (range_with_len 1 n))
+-- one level more
+pub levels-more : (n : ℕ)
+    → map At (range_with_len 1 (n + 1)) ≡ map At (range_with_len 1 n) ++ At (n + 1) ∷ []
+levels-more n = map-range_with_len_more At 1 n (n + 1) (omega arith)
 
-blocks-more : (block : Level → List (List ℕ)) (n : ℕ)
-    → first_blocks block (n + 1) ≡ first_blocks block n ++ block (At (n + 1))
-blocks-more block n =
-    ap (λ (ls : List Level). flat_map block ls)
-    (map-range_with_len_more At 1 n (n + 1) (omega arith))
-    ∙ flat_map-append block (map At (range_with_len 1 n)) (At (n + 1) ∷ [])
-    ∙ ap (λ (ls : List (List ℕ)). first_blocks block n ++ ls) (append-nil (block (At (n + 1))))
+-- what a block tells of a level
+pub told-block : (items : List Item) (level : Level) (b : Block) → b.level ≡ level
+    → b.items.now ≡ filter (stands_at level) items → b.installed ≡ count_by is_installed b.items.now
+    → told b ≡ told_at items level
+told-block items level b at mine count = λ i. record {
+  level = at i;
+  items = mine i;
+  installed = (count ∙ ap (count_by is_installed) mine) i;
+}
 
--- one is put behind a text
-pub put-more : (block : Level → List (List ℕ)) (n : ℕ) (start now after : List ℕ)
-    → after ≡ now ++ text_of (block (At (n + 1)))
-    → now ≡ start ++ text_of (first_blocks block n)
-    → after ≡ start ++ text_of (first_blocks block (n + 1))
-put-more block n start now after put so =
-    put ∙ ap (λ (t : List ℕ). t ++ text_of (block (At (n + 1)))) so
-    ∙ append_assoc start (text_of (first_blocks block n)) (text_of (block (At (n + 1))))
-    ∙ ap (λ (t : List ℕ). start ++ t)
-    (sym (ap text_of (blocks-more block n) ∙ text_of-append (first_blocks block n)
-    (block (At (n + 1)))))
+-- one block more
+pub told-more : (items : List Item) (ls : List Level) (level : Level) (bs new : List Block)
+    (b : Block) → new ≡ bs ++ b ∷ [] → told b ≡ told_at items level
+    → map told bs ≡ map (told_at items) ls → map told new ≡ map (told_at items) (ls ++ level ∷ [])
+told-more items ls level bs new b is one so =
+    ap (map told) is ∙ map-append told bs (b ∷ [])
+    ∙ ap (λ (ts : List Told). ts ++ told b ∷ []) so
+    ∙ ap (λ (t : Told). map (told_at items) ls ++ t ∷ []) one
+    ∙ sym (map-append (told_at items) ls (level ∷ []))
 
--- and the cyclic one behind those of all levels
-pub put-last : (block : Level → List (List ℕ)) (n depth : ℕ) (start now after : List ℕ)
-    → after ≡ now ++ text_of (block Cyclic) → n ≡ depth
-    → now ≡ start ++ text_of (first_blocks block n)
-    → after ≡ start ++ text_of (flat_map block (levels depth))
-put-last block n depth start now after put all so =
-    let whole : flat_map block (levels depth) ≡ first_blocks block depth ++ block Cyclic =
-    flat_map-append block (map At (range_with_len 1 depth)) (Cyclic ∷ [])
-    ∙ ap (λ (ls : List (List ℕ)). first_blocks block depth ++ ls) (append-nil (block Cyclic)) in
-    put ∙ ap (λ (t : List ℕ). t ++ text_of (block Cyclic))
-    (so ∙ ap (λ k. start ++ text_of (first_blocks block k)) all)
-    ∙ append_assoc start (text_of (first_blocks block depth)) (text_of (block Cyclic))
-    ∙ ap (λ (t : List ℕ). start ++ t)
-    (sym (ap text_of whole ∙ text_of-append (first_blocks block depth) (block Cyclic)))
+-- the text of one block more
+pub texts-more : (lines : Told → List (List ℕ)) (bs : List Block) (i : ℕ) (b : Block)
+    (start now after : List ℕ) → i < length bs → b ≡ get_or bs i b
+    → after ≡ now ++ text_of (lines (told b)) → now ≡ start ++ texts_of lines (take i bs)
+    → after ≡ start ++ texts_of lines (take (i + 1) bs)
+texts-more lines bs i b start now after lt is put so =
+    let own = λ (x : Block). text_of (lines (told x)) in
+    let more : texts_of lines (take (i + 1) bs) ≡ texts_of lines (take i bs) ++ own b =
+    ap (flat_map own) (take_more bs i b lt)
+    ∙ flat_map-append own (take i bs) (get_or bs i b ∷ [])
+    ∙ ap (λ (t : List ℕ). texts_of lines (take i bs) ++ t)
+    (append-nil (own (get_or bs i b)) ∙ ap own (sym is)) in
+    put ∙ ap (λ (t : List ℕ). t ++ own b) so
+    ∙ append_assoc start (texts_of lines (take i bs)) (own b)
+    ∙ ap (λ (t : List ℕ). start ++ t) (sym more)
+
+texts-levels : (lines : Told → List (List ℕ)) (items : List Item) (ls : List Level)
+    → flat_map (λ t. text_of (lines t)) (map (told_at items) ls)
+    ≡ text_of (flat_map (λ l. lines (told_at items l)) ls)
+texts-levels lines items [] = refl
+texts-levels lines items (l ∷ ls) =
+    ap (λ (t : List ℕ). text_of (lines (told_at items l)) ++ t) (texts-levels lines items ls)
+    ∙ sym (text_of-append (lines (told_at items l)) (flat_map (λ l. lines (told_at items l)) ls))
+
+-- the texts of all blocks are that of the levels' lines
+pub texts-blocks : (lines : Told → List (List ℕ)) (depth : ℕ) (items : List Item)
+    (bs : List Block) → AreBlocks depth items bs
+    → texts_of lines bs ≡ text_of (flat_map (λ l. lines (told_at items l)) (levels depth))
+texts-blocks lines depth items bs are =
+    flat_map-map (λ t. text_of (lines t)) told bs ∙ ap (flat_map (λ t. text_of (lines t))) are
+    ∙ texts-levels lines items (levels depth)

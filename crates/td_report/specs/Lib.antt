@@ -5,4 +5,5 @@ pub mod Transition
 pub mod TransitionView
 pub mod Groups
 pub mod Grouped
-pub mod Pieces
+pub mod Blocks
+pub mod LinesText

@@ -1,6 +1,6 @@
-//! How many rows have a status.
+//! How many rows are counted in a report.
 ghost use Rattle.std.specs.Prelude.{◌≡◌, count_by};
-ghost use Rattle.td_report.specs.ItemLines.{has_status};
+ghost use Rattle.td_report.specs.ItemLines.{has_status, is_installed};
 
 use crate::item::Item;
 use td_query::Status;
@@ -12,6 +12,19 @@ pub fn count_of(items: &[Item<'_>], status: Status) -> usize
     let mut count = 0;
     for item in items {
         if item.has_status(status) {
+            count += 1;
+        }
+    }
+    count
+}
+
+/// How many of the rows are Installed.
+pub fn count_installed(items: &[Item<'_>]) -> usize
+    ensures { result ≡ count_by is_installed items.now }
+{
+    let mut count = 0;
+    for item in items {
+        if item.is_installed() {
             count += 1;
         }
     }

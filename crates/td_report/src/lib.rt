@@ -9,15 +9,13 @@
 //! affected row stands under the level of its source, in the order of the keys.
 #![tactic(auto)]
 
-mod counted;
+mod block;
 mod counting;
 mod grouping;
 mod groups;
 mod item;
 mod item_line;
-mod keeping;
 mod lines;
-mod piece;
 mod splitting;
 mod transition;
 mod waves_text;

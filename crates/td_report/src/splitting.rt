@@ -1,106 +1,120 @@
 //! A report whose rows several threads share.
-ghost use Rattle.std.specs.Prelude.{◌≡◌, ◌<◌, ◌≤◌, ◌++◌, ◌^◌, IfOk, OnOk, length, string_bytes};
-ghost use Rattle.std.specs.Prelude.{sum_by};
+ghost use Rattle.std.specs.Prelude.{◌≡◌, ◌≤◌, ◌++◌, IfOk, IfSome, OnOk, string_bytes};
 ghost use Rattle.std.specs.List.{flat_map};
 ghost use Rattle.td_text.specs.Lines.{text_of};
-ghost use Rattle.td_report.specs.Pieces.{ArePieces, IsPieceOf};
-ghost use Rattle.td_report.specs.ItemLines.{block_of, blocks, report_lines};
+ghost use Rattle.td_report.specs.Blocks.{block_lines, texts_of, told};
+ghost use Rattle.td_report.specs.ItemLines.{AreCountsOf, blocks as blocks_of, report_lines};
+ghost use Rattle.td_report.specs.LinesText.{lines_text};
 
+use crate::block::{Block, blocks};
 use crate::grouping::by_level;
 use crate::item::Item;
-use crate::piece::{Piece, make_piece};
+use crate::lines::lines_of;
 use crate::whole::put_block;
 use crate::writing::{put_last_line, put_title_line};
 use rayon::prelude::*;
 use std::alloc::{AllocError, Global};
 use std::thread::Threads;
-use td_waves::Level;
 
-// The pieces of chunks of the rows, in order.
-fn pieces(
+// The lines of chunks of the rows, in order.
+fn chunk_lines(
     rt: &(impl Threads + Sync),
     alloc: Global,
     items: &[Item<'_>],
     chunk: usize,
-) -> Result<Vec<Piece>, AllocError>
+) -> Result<Vec<String>, AllocError>
     requires { 1 ≤ chunk }
-    ensures { IfOk result (λ ps. ArePieces items.now ps.items) }
+    ensures { IfOk result
+        (λ texts. flat_map (λ t. string_bytes t) texts.items ≡ lines_text items.now) }
 {
     items
         .par_chunks(chunk)
         .with_min_len(1)
         .map(
-            |mine: &[Item<'_>]| -> Result<Piece, AllocError>
-                ensures { IfOk result (IsPieceOf mine.now) }
-            { make_piece(alloc, mine) },
+            |mine: &[Item<'_>]| -> Result<String, AllocError>
+                ensures { IfOk result (λ text. string_bytes text ≡ lines_text mine.now) }
+            { lines_of(alloc, mine) },
         )
-        .collect::<Result<Vec<Piece>, AllocError>>(rt, alloc)?
+        .collect::<Result<Vec<String>, AllocError>>(rt, alloc)?
 }
 
-// The pieces as one.
-fn joined(alloc: Global, pieces: &[Piece]) -> Result<Piece, AllocError>
-    requires { sum_by (λ p. p.installed) pieces.now < 2 ^ 64 }
-    ensures text { IfOk result
-        (λ p. string_bytes p.text ≡ flat_map (λ q. string_bytes q.text) pieces.now) }
-    ensures installed { IfOk result (λ p. p.installed ≡ sum_by (λ q. q.installed) pieces.now) }
+// Appends texts one behind the other.
+fn put_texts(out: &mut String, texts: &[String]) -> Result<(), AllocError>
+    ensures { OnOk result (string_bytes out.new
+        ≡ string_bytes out.old ++ flat_map (λ t. string_bytes t) texts.now) }
 {
-    let mut text = String::new(alloc);
-    let mut installed = 0;
-    for piece in pieces {
-        text.push_str(piece.text.as_str())?;
-        installed += piece.installed;
+    for text in texts {
+        out.push_str(text.as_str())?;
     }
-    Ok(Piece { text, installed })
+    Ok(())
 }
 
-// The piece of the rows, made chunk by chunk.
-fn split_piece(
+// The lines of the rows, made chunk by chunk.
+fn split_lines(
     rt: &(impl Threads + Sync),
     alloc: Global,
     items: &[Item<'_>],
     chunk: usize,
-) -> Result<Piece, AllocError>
+) -> Result<String, AllocError>
     requires { 1 ≤ chunk }
-    ensures { IfOk result (IsPieceOf items.now) }
+    ensures { IfOk result (λ text. string_bytes text ≡ lines_text items.now) }
 {
-    let pieces = pieces(rt, alloc, items, chunk)?;
-    joined(alloc, &pieces)
+    let texts = chunk_lines(rt, alloc, items, chunk)?;
+    let mut lines = String::new(alloc);
+    put_texts(&mut lines, &texts)?;
+    Ok(lines)
 }
 
 fn put_split_block(
     rt: &(impl Threads + Sync),
     alloc: Global,
     out: &mut String,
-    level: Level,
-    items: &[Item<'_>],
+    block: &Block<'_, '_>,
     chunk: usize,
 ) -> Result<(), AllocError>
     requires { 1 ≤ chunk }
     ensures { OnOk result
-        (string_bytes out.new ≡ string_bytes out.old ++ text_of (block_of level items.now)) }
+        (string_bytes out.new ≡ string_bytes out.old ++ text_of (block_lines (told block.now))) }
 {
-    let piece = split_piece(rt, alloc, items, chunk)?;
-    put_block(out, level, items, &piece)
+    let lines = split_lines(rt, alloc, block.items, chunk)?;
+    put_block(out, block, &lines)
 }
 
 fn put_split_blocks(
     rt: &(impl Threads + Sync),
     alloc: Global,
     out: &mut String,
-    items: &[Item<'_>],
-    depth: usize,
+    blocks: &[Block<'_, '_>],
     chunk: usize,
 ) -> Result<(), AllocError>
     requires { 1 ≤ chunk }
     ensures { OnOk result
-        (string_bytes out.new ≡ string_bytes out.old ++ text_of (blocks depth items.now)) }
+        (string_bytes out.new ≡ string_bytes out.old ++ texts_of block_lines blocks.now) }
+{
+    for block in blocks {
+        put_split_block(rt, alloc, out, block, chunk)?;
+    }
+    Ok(())
+}
+
+// Appends the lines of all levels.
+fn put_split_levels(
+    rt: &(impl Threads + Sync),
+    alloc: Global,
+    out: &mut String,
+    items: &[Item<'_>],
+    depth: usize,
+    counts: Option<&[usize]>,
+    chunk: usize,
+) -> Result<(), AllocError>
+    requires chunk { 1 ≤ chunk }
+    requires counts { IfSome counts (λ cs. AreCountsOf depth items.now cs.now) }
+    ensures { OnOk result
+        (string_bytes out.new ≡ string_bytes out.old ++ text_of (blocks_of depth items.now)) }
 {
     let grouped = by_level(alloc, items, depth)?;
-    for number in 0..grouped.levels.len() {
-        let level = Level::At(number + 1);
-        put_split_block(rt, alloc, out, level, &grouped.levels[number], chunk)?;
-    }
-    put_split_block(rt, alloc, out, Level::Cyclic, &grouped.cyclic, chunk)
+    let blocks = blocks(alloc, &grouped, counts)?;
+    put_split_blocks(rt, alloc, out, &blocks, chunk)
 }
 
 /// The same text as `report_text` makes, the rows of each level in chunks of so many, which several
@@ -111,15 +125,17 @@ pub fn split_text(
     title: &str,
     depth: usize,
     items: &[Item<'_>],
+    counts: Option<&[usize]>,
     chunk: usize,
 ) -> Result<String, AllocError>
-    requires { 1 ≤ chunk }
+    requires chunk { 1 ≤ chunk }
+    requires counts { IfSome counts (λ cs. AreCountsOf depth items.now cs.now) }
     ensures { IfOk result
         (λ text. string_bytes text ≡ text_of (report_lines title.now depth items.now)) }
 {
     let mut out = String::new(alloc);
     put_title_line(&mut out, title)?;
-    put_split_blocks(rt, alloc, &mut out, items, depth, chunk)?;
+    put_split_levels(rt, alloc, &mut out, items, depth, counts, chunk)?;
     put_last_line(&mut out, items)?;
     Ok(out)
 }

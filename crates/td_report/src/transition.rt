@@ -1,8 +1,6 @@
 //! A tracker over an archive, and what is told of it.
 
-use crate::counted::counted_text;
 use crate::item::Item;
-use crate::keeping::kept_text;
 use crate::splitting::split_text;
 use crate::waves_text::waves_text;
 use crate::whole::report_text;
@@ -24,7 +22,7 @@ pub struct Transition<'b, 't, 'a, 'q> {
 }
 
 impl<'b, 't, 'a, 'q> Transition<'b, 't, 'a, 'q> {
-    ghost use Rattle.std.specs.Prelude.{◌≡◌, ◌≤◌, None, IfOk, map, option_map, slice_get};
+    ghost use Rattle.std.specs.Prelude.{◌≡◌, ◌≤◌, None, IfOk, IfSome, map, option_map, slice_get};
     ghost use Rattle.std.specs.Prelude.{string_bytes};
     ghost use Rattle.std.specs.Option.{option_map_or};
     ghost use Rattle.td_query.specs.Statuses.{status_of};
@@ -112,14 +110,58 @@ impl<'b, 't, 'a, 'q> Transition<'b, 't, 'a, 'q> {
         Ok(items)
     }
 
+    // The report of the rows, by counts of Installed rows where these are given.
+    fn text(
+        &self,
+        alloc: Global,
+        rows: &Rows,
+        counts: Option<&[usize]>,
+    ) -> Result<String, AllocError>
+        requires made { of.IsMade self.now }
+        requires counts { IfSome counts (λ cs. of.AreKept self.now rows.now cs.now) }
+        ensures { IfOk result (λ text. IsReport (of.contents_of self.now)
+            (of.tracking_of self.now) rows.now (string_bytes text)) }
+    {
+        let items = self.items(alloc, rows)?;
+        let depth = self.waves.depth();
+        report_text(alloc, self.tracker.title(), depth, &items, counts)
+    }
+
+    // The same text, made by several threads.
+    fn split(
+        &self,
+        rt: &(impl Threads + Sync),
+        alloc: Global,
+        rows: &Rows,
+        counts: Option<&[usize]>,
+        chunk: usize,
+    ) -> Result<String, AllocError>
+        requires made { of.IsMade self.now }
+        requires counts { IfSome counts (λ cs. of.AreKept self.now rows.now cs.now) }
+        requires chunk { 1 ≤ chunk }
+        ensures { IfOk result (λ text. IsReport (of.contents_of self.now)
+            (of.tracking_of self.now) rows.now (string_bytes text)) }
+    {
+        let items = self.items(alloc, rows)?;
+        let depth = self.waves.depth();
+        split_text(
+            rt,
+            alloc,
+            self.tracker.title(),
+            depth,
+            &items,
+            counts,
+            chunk,
+        )
+    }
+
     /// The report of the rows.
     pub fn report(&self, alloc: Global, rows: &Rows) -> Result<String, AllocError>
         requires { of.IsMade self.now }
         ensures { IfOk result (λ text. IsReport (of.contents_of self.now)
             (of.tracking_of self.now) rows.now (string_bytes text)) }
     {
-        let items = self.items(alloc, rows)?;
-        report_text(alloc, self.tracker.title(), self.waves.depth(), &items)
+        self.text(alloc, rows, None)
     }
 
     /// The same text, the rows of each level in chunks of so many, which several threads share.
@@ -135,9 +177,7 @@ impl<'b, 't, 'a, 'q> Transition<'b, 't, 'a, 'q> {
         ensures { IfOk result (λ text. IsReport (of.contents_of self.now)
             (of.tracking_of self.now) rows.now (string_bytes text)) }
     {
-        let items = self.items(alloc, rows)?;
-        let depth = self.waves.depth();
-        split_text(rt, alloc, self.tracker.title(), depth, &items, chunk)
+        self.split(rt, alloc, rows, None, chunk)
     }
 
     /// The same text, where it is known how many rows of each level are Installed: that of level k
@@ -156,9 +196,7 @@ impl<'b, 't, 'a, 'q> Transition<'b, 't, 'a, 'q> {
         ensures { IfOk result (λ text. IsReport (of.contents_of self.now)
             (of.tracking_of self.now) rows.now (string_bytes text)) }
     {
-        let items = self.items(alloc, rows)?;
-        let depth = self.waves.depth();
-        kept_text(rt, alloc, self.tracker.title(), depth, &items, kept, chunk)
+        self.split(rt, alloc, rows, Some(kept), chunk)
     }
 
     /// The same text, where it is given how many rows of each group are Installed. They aren't
@@ -174,9 +212,7 @@ impl<'b, 't, 'a, 'q> Transition<'b, 't, 'a, 'q> {
         ensures { IfOk result (λ text. IsReport (of.contents_of self.now)
             (of.tracking_of self.now) rows.now (string_bytes text)) }
     {
-        let items = self.items(alloc, rows)?;
-        let depth = self.waves.depth();
-        counted_text(alloc, self.tracker.title(), depth, &items, counts)
+        self.text(alloc, rows, Some(counts))
     }
 
     /// The affected sources of the rows, by level.

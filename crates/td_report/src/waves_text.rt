@@ -1,14 +1,15 @@
 //! The text of waves: the sources of each level.
 ghost use Rattle.std.specs.Prelude.{◌≡◌, ◌++◌, None, IfOk, OnOk, map, option_map, string_bytes};
 ghost use Rattle.td_text.specs.Lines.{text_of};
-ghost use Rattle.td_report.specs.ItemLines.{source_of, wave_of, waves};
+ghost use Rattle.td_report.specs.Blocks.{texts_of, told, wave_lines};
+ghost use Rattle.td_report.specs.ItemLines.{source_of, waves};
 ghost use Rattle.td_report.specs.Report.{each_once, is_last as is_last_of};
 
+use crate::block::{Block, blocks};
 use crate::grouping::by_level;
 use crate::item::Item;
 use crate::writing::{put_level, put_line};
 use std::alloc::{AllocError, Global};
-use td_waves::Level;
 
 // Whether a text is the last one.
 fn is_last(last: Option<&str>, text: &str) -> bool
@@ -36,40 +37,36 @@ fn put_sources(out: &mut String, items: &[Item<'_>]) -> Result<(), AllocError>
     Ok(())
 }
 
-// Appends the lines of a level, of which these are the rows.
-fn put_wave(out: &mut String, level: Level, items: &[Item<'_>]) -> Result<(), AllocError>
+// Appends the lines of a block.
+fn put_wave(out: &mut String, block: &Block<'_, '_>) -> Result<(), AllocError>
     ensures { OnOk result
-        (string_bytes out.new ≡ string_bytes out.old ++ text_of (wave_of level items.now)) }
+        (string_bytes out.new ≡ string_bytes out.old ++ text_of (wave_lines (told block.now))) }
 {
-    if items.is_empty() {
+    if block.items.is_empty() {
         return Ok(());
     }
-    put_level(out, level)?;
+    put_level(out, block.level)?;
     out.push_str("\n")?;
-    put_sources(out, items)
+    put_sources(out, block.items)
 }
 
-fn put_waves(
-    alloc: Global,
-    out: &mut String,
-    items: &[Item<'_>],
-    depth: usize,
-) -> Result<(), AllocError>
+fn put_waves(out: &mut String, blocks: &[Block<'_, '_>]) -> Result<(), AllocError>
     ensures { OnOk result
-        (string_bytes out.new ≡ string_bytes out.old ++ text_of (waves depth items.now)) }
+        (string_bytes out.new ≡ string_bytes out.old ++ texts_of wave_lines blocks.now) }
 {
-    let grouped = by_level(alloc, items, depth)?;
-    for number in 0..grouped.levels.len() {
-        put_wave(out, Level::At(number + 1), &grouped.levels[number])?;
+    for block in blocks {
+        put_wave(out, block)?;
     }
-    put_wave(out, Level::Cyclic, &grouped.cyclic)
+    Ok(())
 }
 
 /// The sources of these affected rows by level, of so many levels.
 pub fn waves_text(alloc: Global, depth: usize, items: &[Item<'_>]) -> Result<String, AllocError>
     ensures { IfOk result (λ text. string_bytes text ≡ text_of (waves depth items.now)) }
 {
+    let grouped = by_level(alloc, items, depth)?;
+    let blocks = blocks(alloc, &grouped, None)?;
     let mut out = String::new(alloc);
-    put_waves(alloc, &mut out, items, depth)?;
+    put_waves(&mut out, &blocks)?;
     Ok(out)
 }

@@ -1,49 +1,12 @@
--- `put_split_blocks`: what it answers and its loop.
-use Rattle.std.proofs.Common.{◌≡◌, ◌<◌, ◌+◌, ◌++◌, ◌∙◌, ap, length, string_bytes, arith}
-use Rattle.std.proofs.lemmas.Result.{on_ok_weaker}
-use Rattle.td_text.specs.Lines.{text_of}
-use Rattle.td_waves.specs.declared.level.Level.TheVariants.{At, Cyclic}
-use Rattle.td_report.specs.ItemLines.{block_at, block_of}
-use Rattle.td_report.proofs.Lists.{read-list}
-use Rattle.td_report.proofs.Texts.{put-more, put-last}
+-- `put_split_blocks`: its loop.
+use Rattle.std.proofs.Common.{string_bytes}
+use Rattle.td_report.specs.Blocks.{block_lines}
+use Rattle.td_report.proofs.Texts.{texts-more}
 use Rattle.td_report.proofs.splitting.put_split_blocks.Goals as goal
 
-pub loop-number-preserved : goal.loop-number-preserved
-loop-number-preserved g c =
-    let lists = c.in_ok-grouped.grouped.levels.items in
-    let n = c.loop-number.number in
-    let within : n < length lists =
-    omega (
-      arith,
-      c.loop-number-test.true,
-      c.len-number-end.ensures,
-      c.in_ok-grouped.grouped.levels.ok.0,
-    ) in
-    let among : n < c.args.depth = omega (arith, within, c.in_ok-grouped.ensures.len) in
-    let mine = read-list lists n c.index.result.now c.deref.result.now within c.index.ensures
-    c.deref.ensures.value ∙ c.in_ok-grouped.ensures.levels n among in
-    put-more (block_at c.args.items.now) n (string_bytes c.args.out.now)
-    (string_bytes c.loop-number.out) (string_bytes c.put_split_block.new.out)
-    (c.in_ok-put_split_block.ensures
-    ∙ ap (λ l. string_bytes c.loop-number.out ++ text_of (block_of (At (n + 1)) l)) mine)
-    c.loop-number.invariant
-
-pub returns : goal.returns
-returns g c =
-    let all : c.loop-number.number ≡ c.args.depth =
-    omega (
-      arith,
-      c.loop-number-test.false,
-      c.loop-number.auto.number-end,
-      c.len-number-end.ensures,
-      c.in_ok-grouped.grouped.levels.ok.0,
-      c.in_ok-grouped.ensures.len,
-    ) in
-    let mine = c.deref-2.ensures.value ∙ c.in_ok-grouped.ensures.cyclic in
-    on_ok_weaker c.put_split_block-2.result
-    (λ put. put-last (block_at c.args.items.now) c.loop-number.number c.args.depth
-    (string_bytes c.args.out.now) (string_bytes c.loop-number.out)
-    (string_bytes c.put_split_block-2.new.out)
-    (put ∙ ap (λ l. string_bytes c.loop-number.out ++ text_of (block_of Cyclic l)) mine) all
-    c.loop-number.invariant)
-    c.put_split_block-2.ensures
+pub loop-block-preserved : goal.loop-block-preserved
+loop-block-preserved g c =
+    texts-more block_lines c.args.blocks.now c.loop-block.block-index c.block-item.result
+    (string_bytes c.args.out.now) (string_bytes c.loop-block.out)
+    (string_bytes c.put_split_block.new.out) c.loop-block-test.true c.block-item.is
+    c.in_ok-put_split_block.ensures c.loop-block.invariant

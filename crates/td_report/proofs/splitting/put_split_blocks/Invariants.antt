@@ -1,11 +1,9 @@
 -- What the loop of `put_split_blocks` keeps.
-use Rattle.std.proofs.Common.{◌≡◌, ◌++◌, string_bytes}
-use Rattle.td_text.specs.Lines.{text_of}
-use Rattle.td_report.specs.ItemLines.{block_at}
-use Rattle.td_report.proofs.Texts.{first_blocks}
+use Rattle.std.proofs.Common.{◌≡◌, ◌++◌, take, string_bytes}
+use Rattle.td_report.specs.Blocks.{block_lines, texts_of}
 use Rattle.td_report.proofs.splitting.put_split_blocks.Given as goal
 
--- the levels so far
-abbrev pub invariant-loop-number : goal.invariant-loop-number
-invariant-loop-number g l = string_bytes l.out ≡ string_bytes l.fn.out ++ text_of
-    (first_blocks (block_at l.items) l.number)
+-- the blocks so far
+abbrev pub invariant-loop-block : goal.invariant-loop-block
+invariant-loop-block g l = string_bytes l.out ≡ string_bytes l.fn.out ++ texts_of block_lines
+    (take l.block-index l.blocks)

@@ -1,11 +1,9 @@
 -- What the loop of `put_waves` keeps.
-use Rattle.std.proofs.Common.{◌≡◌, ◌++◌, string_bytes}
-use Rattle.td_text.specs.Lines.{text_of}
-use Rattle.td_report.specs.ItemLines.{wave_at}
-use Rattle.td_report.proofs.Texts.{first_blocks}
+use Rattle.std.proofs.Common.{◌≡◌, ◌++◌, take, string_bytes}
+use Rattle.td_report.specs.Blocks.{wave_lines, texts_of}
 use Rattle.td_report.proofs.waves_text.put_waves.Given as goal
 
--- the levels so far
-abbrev pub invariant-loop-number : goal.invariant-loop-number
-invariant-loop-number l = string_bytes l.out ≡ string_bytes l.fn.out ++ text_of
-    (first_blocks (wave_at l.items) l.number)
+-- the blocks so far
+abbrev pub invariant-loop-block : goal.invariant-loop-block
+invariant-loop-block l = string_bytes l.out ≡ string_bytes l.fn.out ++ texts_of wave_lines
+    (take l.block-index l.blocks)

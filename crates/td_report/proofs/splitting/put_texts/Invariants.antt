@@ -1,7 +1,7 @@
 -- What the loop of `put_texts` keeps.
 use Rattle.std.proofs.Common.{◌≡◌, ◌++◌, take, string_bytes}
 use Rattle.std.specs.List.{flat_map}
-use Rattle.td_report.proofs.keeping.put_texts.Given as goal
+use Rattle.td_report.proofs.splitting.put_texts.Given as goal
 
 -- the texts so far
 abbrev pub invariant-loop-text : goal.invariant-loop-text

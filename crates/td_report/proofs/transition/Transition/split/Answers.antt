@@ -1,4 +1,4 @@
--- `Transition::report_split`: what it answers.
+-- `Transition::split`: what it answers and the call of `split_text`.
 use Rattle.std.proofs.Common.{◌≡◌, string_bytes}
 use Rattle.std.proofs.lemmas.Result.{IfOk-weaker}
 use Rattle.td_text.specs.Lines.{text_of}
@@ -6,7 +6,8 @@ use Rattle.td_report.specs.ItemLines.{report_lines}
 use Rattle.td_report.specs.Transition.{IsReport}
 use Rattle.td_report.specs.TransitionView.{contents_of, depth_of, level_of, tracking_of}
 use Rattle.td_report.proofs.Items.{is_report}
-use Rattle.td_report.proofs.transition.Transition.report_split.Goals as goal
+use Rattle.td_report.proofs.SeenRows.{counts-seen}
+use Rattle.td_report.proofs.transition.Transition.split.Goals as goal
 
 pub returns : goal.returns
 returns g c =
@@ -21,3 +22,8 @@ returns g c =
     c.requires.made.leveled written c.title.ensures.title c.depth-depth.ensures
     c.deref.ensures.value c.in_ok-items.ensures)
     c.split_text.ensures
+
+pub split_text-requires-clause-counts : goal.split_text-requires-clause-counts
+split_text-requires-clause-counts g c κs within = counts-seen (depth_of c.args.self.now) _ c.in_ok-items.items.items
+    c.args.counts c.depth-depth.result c.deref.result.now c.in_ok-items.ensures
+    c.depth-depth.ensures c.deref.ensures.value c.requires.counts

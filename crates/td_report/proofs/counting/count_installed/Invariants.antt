@@ -1,0 +1,11 @@
+-- What the loop of `count_installed` keeps.
+use Rattle.std.proofs.Common.{◌≡◌, ◌≤◌, take, count_by}
+use Rattle.td_report.specs.ItemLines.{is_installed}
+use Rattle.td_report.proofs.counting.count_installed.Given as goal
+
+-- those so far
+abbrev pub invariant-loop-item : goal.invariant-loop-item
+invariant-loop-item l = record {
+  count : l.count ≡ count_by is_installed (take l.item-index l.items);
+  few : l.count ≤ l.item-index;
+}
