@@ -4,6 +4,7 @@ pub mod BuilderMoves
 pub mod DeskLaws
 pub mod DeskMoves
 pub mod Lists
+pub mod NewSeats
 pub mod PromiseLaws
 pub mod RowLaws
 pub mod Schedules

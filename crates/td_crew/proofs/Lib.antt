@@ -1,3 +1,3 @@
-pub mod Seats
+-- What the proofs of this crate share: a file a thing.
 pub mod CrewRuns
 pub mod Endings

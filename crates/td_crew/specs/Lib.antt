@@ -1,2 +1,3 @@
+-- What the contracts of this crate cite: a file a thing.
 pub mod CrewEnds
 pub mod CrewText

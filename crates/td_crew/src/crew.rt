@@ -1,6 +1,6 @@
 //! A crew: a clerk beside builders.
-ghost use Rattle.std.specs.Prelude.{◌≡◌, ◌+◌, ◌-◌, ◌≤◌, ◌<◌, ◌^◌, All, IfErr, IfOk, IfSome, OnOk};
-ghost use Rattle.std.specs.Prelude.{length, option_map, string_bytes};
+ghost use Rattle.std.specs.Prelude.{◌≡◌, ◌+◌, ◌-◌, ◌≤◌, ◌<◌, ◌^◌, ◌∷◌, [], All, IfErr, IfOk, IfSome};
+ghost use Rattle.std.specs.Prelude.{OnOk, length, option_map, string_bytes};
 ghost use Rattle.td_board.specs.Knowledge.{new_desk};
 ghost use Rattle.td_core.specs.Phases.{NoneBuilt};
 ghost use Rattle.td_rows.specs.Table.{Table};
@@ -165,6 +165,15 @@ fn tell_rows(alloc: Global, told: Told, book: &Book<'_>) -> Result<Told, AllocEr
     Ok(told)
 }
 
+// A list of this clerk alone.
+fn alone<C: Ledger>(alloc: Global, clerk: Clerk<C>) -> Result<Vec<Clerk<C>>, AllocError>
+    ensures { IfOk result (λ clerks. clerks.items ≡ clerk ∷ []) }
+{
+    let mut clerks = Vec::with_capacity(alloc, 1)?;
+    clerks.push(clerk).map_err(AllocError::from)?;
+    Ok(clerks)
+}
+
 // Puts the rows behind with which the desk is closed. Where the clerk's receipts differ from the
 // book's changes, that is a refusal.
 fn close<N: Named, C: Ledger>(
@@ -177,9 +186,7 @@ fn close<N: Named, C: Ledger>(
     ensures { IfOk result (IsClosed N.origin told) }
 {
     let mut told = told;
-    let mut clerks = Vec::with_capacity(alloc, 1)?;
-    clerks.push(clerk).map_err(AllocError::from)?;
-    match desk.close(clerks) {
+    match desk.close(alone(alloc, clerk)?) {
         Ok(book) => tell_rows(alloc, told, &book),
         Err(differ) => {
             told.refused += 1;

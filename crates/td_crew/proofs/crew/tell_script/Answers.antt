@@ -1,10 +1,10 @@
 -- The seats of a new board are those of its builders, as many as the crew has.
 use Rattle.std.proofs.Common.{◌≡◌, ◌≤◌, ℕ, IfOk, length, string_bytes, subst, sym}
+use Rattle.td_board.proofs.NewSeats.{desk_at, length-seats, seats_at}
 use Rattle.td_script.proofs.OpeningLaws.{fresh_supply}
 use Rattle.td_script.specs.Asking.{journal_asked, setting_asked}
 use Rattle.td_crew.specs.CrewText.{EndsWithRows}
 use Rattle.td_crew.proofs.Endings.{told_ok}
-use Rattle.td_crew.proofs.Seats.{desk_at, length-seats, seats_at}
 use Rattle.td_crew.proofs.crew.tell_script.Goals as goal
 
 pub tell_named-requires-clause-seats : goal.tell_named-requires-clause-seats

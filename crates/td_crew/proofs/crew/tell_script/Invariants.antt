@@ -1,3 +1,4 @@
+-- What `tell_script` calls its callees with, for their ghost members.
 use Rattle.std.specs.Prelude.{option_map}
 use Rattle.td_crew.specs.CrewText.{marks_begun}
 use Rattle.td_crew.proofs.crew.tell_script.Given as goal

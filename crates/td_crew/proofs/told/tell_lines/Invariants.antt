@@ -1,3 +1,4 @@
+-- What the loop of `tell_lines` keeps, and what gets less.
 use Rattle.std.proofs.Common.{◌+◌, ◌≤◌, length}
 use Rattle.td_text.specs.Lines.{left_len}
 use Rattle.td_crew.proofs.told.tell_lines.Given as goal

@@ -28,6 +28,13 @@ pub length-seats : (table : TableId) (b n : ℕ) (seats : List BuilderModel)
     → seats ≡ new_seats table b n → length seats ≡ n
 length-seats table b n seats is = ap length is ∙ length-new_seats table b n
 
+-- under the name of their table
+pub seats_named : (table named : TableId) (seats : List BuilderModel)
+    → All (λ (s : BuilderModel). s.table ≡ table) seats → table ≡ named
+    → All (λ (s : BuilderModel). s.table ≡ named) seats
+seats_named table named seats are at =
+    subst (λ (t : TableId). All (λ (s : BuilderModel). s.table ≡ t) seats) at are
+
 -- the desk's: nothing is noted yet
 pub desk_at : (table : TableId) (rows builders n : ℕ) (seat : DeskModel)
     → seat ≡ record { table = table; desk = new_desk rows builders } → rows ≡ n
