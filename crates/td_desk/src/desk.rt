@@ -18,8 +18,8 @@ ghost use Rattle.td_desk.specs.inner.Ticks.{AreBegun};
 use crate::clerk::Clerk;
 use crate::locked::Locked;
 use crate::named::Named;
-use crate::place::begun_ticks;
-use crate::tick::{Tick, add_ticks};
+use crate::place::ticks_of;
+use crate::tick::Tick;
 use std::alloc::{AllocError, Global};
 use std::sync::ledger::{Blank, Ledger};
 use std::sync::{Condvar, Mutex, Wait};
@@ -104,14 +104,11 @@ impl<'a, N: Named, C: Ledger> Desk<'a, N, C> {
         let Ok(opening) = rows.copy() else {
             return Err(ReadError::NoMemory);
         };
-        let Ok(mut ticks) = begun_ticks(alloc, text) else {
-            return Err(ReadError::NoMemory);
-        };
         let book = match Book::reopen(alloc, &board, seat, rows, supply, text) {
             Ok(book) => book,
             Err(fault) => return Err(fault),
         };
-        let Ok(()) = add_ticks(&mut ticks, 0, book.journal().as_slice().len()) else {
+        let Ok(ticks) = ticks_of(alloc, text, book.journal().as_slice().len()) else {
             return Err(ReadError::NoMemory);
         };
         Ok(begin(alloc, board, opening, book, ticks, blank))

@@ -1,9 +1,9 @@
 //! Ticks of the entries of a journal that is read again, by the marks of its lines.
 ghost use Rattle.std.specs.Prelude.{◌≡◌, ◌++◌, map, IfOk, OnOk};
 ghost use Rattle.td_desk.specs.Marks.{mark_at, mark_of, marks_in, place_behind};
-ghost use Rattle.td_desk.specs.inner.Ticks.{begun_at};
+ghost use Rattle.td_desk.specs.inner.Ticks.{AreBegun, begun_at};
 
-use crate::tick::Tick;
+use crate::tick::{Tick, add_ticks};
 use std::alloc::{AllocError, Global};
 
 /// Where a reading of a journal's lines stands: in the number that a line begins with, at its
@@ -15,9 +15,18 @@ pub(crate) enum Place {
     Rest,
 }
 
-/// Ticks of the entries whose lines a journal's text has: none of them is a change, nor is an
-/// undo of then.
-pub(crate) fn begun_ticks(alloc: Global, text: &str) -> Result<Vec<Tick>, AllocError>
+/// Ticks of so many entries of a journal that begins with those whose lines the text has: none of
+/// these is a change, nor is an undo of then.
+pub(crate) fn ticks_of(alloc: Global, text: &str, entries: usize) -> Result<Vec<Tick>, AllocError>
+    ensures { IfOk result (λ ticks. AreBegun (marks_in text.now) entries ticks.items) }
+{
+    let mut ticks = begun_ticks(alloc, text)?;
+    add_ticks(&mut ticks, 0, entries)?;
+    Ok(ticks)
+}
+
+// Ticks of the entries whose lines the text has.
+fn begun_ticks(alloc: Global, text: &str) -> Result<Vec<Tick>, AllocError>
     ensures { IfOk result (λ ticks. ticks.items ≡ map begun_at (marks_in text.now)) }
 {
     let mut ticks = Vec::new(alloc);

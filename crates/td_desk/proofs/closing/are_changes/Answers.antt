@@ -1,3 +1,4 @@
+-- `are_changes`: what it answers.
 use Rattle.std.proofs.Common.{rules, ◌≡◌, ◌∙◌, sym, subst, ap}
 use Rattle.td_desk.specs.Changes.{changes}
 use Rattle.td_desk.specs.Clerks.{all_receipts}

@@ -1,3 +1,4 @@
+-- What the loop of `are_ticked` keeps.
 use Rattle.std.specs.Prelude.{◌≡◌, drop}
 use Rattle.td_desk.specs.inner.Ticks.{are_ticked}
 use Rattle.td_desk.proofs.closing.are_ticked.Given as goal

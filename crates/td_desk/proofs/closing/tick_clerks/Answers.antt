@@ -1,3 +1,4 @@
+-- `tick_clerks`: its loop and the clause `took`.
 use Rattle.std.proofs.Common.{rules, ◌≡◌, ◌<◌, length, get_or, ◌∙◌, ap, subst}
 use Rattle.td_desk.specs.Clerks.{ClerkModel}
 use Rattle.td_desk.specs.inner.Ticks.{left_from, Takes, TooMany}

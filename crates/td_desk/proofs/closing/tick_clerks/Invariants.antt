@@ -1,3 +1,4 @@
+-- What the loop of `tick_clerks` keeps.
 use Rattle.std.specs.Prelude.{◌≡◌, length, take}
 use Rattle.td_desk.specs.Clerks.{all_receipts}
 use Rattle.td_desk.specs.inner.Ticks.{Takes, left_from}

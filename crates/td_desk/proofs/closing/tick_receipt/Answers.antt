@@ -1,3 +1,4 @@
+-- `tick_receipt`: the clause `took`.
 use Rattle.std.proofs.Common.{rules, arith, ◌≡◌, ◌-◌, ◌<◌, ◌≤◌, length, get_or, sym}
 use Rattle.td_desk.proofs.Ticking.{far, left_tick, left_none, match_bool}
 use Rattle.td_desk.proofs.closing.tick_receipt.Goals as goal

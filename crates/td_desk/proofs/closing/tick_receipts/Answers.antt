@@ -1,3 +1,4 @@
+-- `tick_receipts`: its loop and the clause `took`.
 use Rattle.std.proofs.Common.{rules, ◌≡◌, ◌<◌, length, get_or, ◌∙◌}
 use Rattle.td_desk.specs.inner.Ticks.{left_from}
 use Rattle.td_desk.proofs.Ticking.{takes_one, too_many_at}

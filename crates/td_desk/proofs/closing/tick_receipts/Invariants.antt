@@ -1,3 +1,4 @@
+-- What the loop of `tick_receipts` keeps.
 use Rattle.std.specs.Prelude.{◌≡◌, length, take}
 use Rattle.td_desk.specs.inner.Ticks.{Takes, left_from}
 use Rattle.td_desk.proofs.closing.tick_receipts.Given as goal

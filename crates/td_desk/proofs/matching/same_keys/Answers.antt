@@ -1,3 +1,4 @@
+-- `same_keys`: what it answers.
 use Rattle.std.proofs.Common.{rules}
 use Rattle.td_desk.proofs.EqualReceipts.{same_keys-apart}
 use Rattle.td_desk.proofs.matching.same_keys.Goals as goal

@@ -1,3 +1,4 @@
+-- What the loop of `same_keys` keeps.
 use Rattle.std.specs.Prelude.{◌≡◌, drop}
 use Rattle.td_desk.specs.inner.Matching.{same_keys}
 use Rattle.td_desk.proofs.matching.same_keys.Given as goal

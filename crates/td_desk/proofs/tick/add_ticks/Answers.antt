@@ -1,3 +1,4 @@
+-- `add_ticks`: the clause `begun`.
 use Rattle.std.proofs.Common.{rules, ◌≤◌, length}
 use Rattle.std.specs.Result.{is_ok}
 use Rattle.td_desk.proofs.Ticking.{resized}

@@ -1,3 +1,4 @@
+-- `tick_at`: what it answers.
 use Rattle.std.proofs.Common.{rules, sym, ◌∙◌, true, ◌≡◌}
 use Rattle.td_desk.proofs.Ticking.{tick_made, tick_undone}
 use Rattle.td_desk.proofs.tick.tick_at.Goals as goal

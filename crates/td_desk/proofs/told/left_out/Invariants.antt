@@ -1,3 +1,4 @@
+-- What the loop of `left_out` keeps.
 use Rattle.std.proofs.Common.{◌≡◌, ◌≤◌, ◌++◌, length, ◌+◌}
 use Rattle.std.specs.Prelude.{vec_len, vec_capacity}
 use Rattle.td_desk.specs.Calls.{skipped_keys}

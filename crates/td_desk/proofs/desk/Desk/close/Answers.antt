@@ -1,3 +1,4 @@
+-- `Desk::close`: the clauses `ok` and `err`.
 use Rattle.std.proofs.Common.{rules, subst}
 use Rattle.std.specs.Prelude.{IsPermutation}
 use Rattle.td_desk.specs.Changes.{changes}

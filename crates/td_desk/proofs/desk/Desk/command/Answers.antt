@@ -1,3 +1,4 @@
+-- `Desk::command`: the clause `answer`.
 use Rattle.std.proofs.Common.{rules}
 use Rattle.td_desk.proofs.Commanded.{commanded}
 use Rattle.td_desk.proofs.desk.Desk.command.Goals as goal

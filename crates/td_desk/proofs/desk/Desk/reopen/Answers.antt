@@ -1,7 +1,8 @@
 -- A desk over a journal begins with the marks of its text, and with no change.
-use Rattle.std.proofs.Common.{◌<◌, ◌^◌, map, length, sym, ap, ◌∙◌, arith}
-use Rattle.td_desk.specs.inner.Ticks.{AreBegun, begun_at}
-use Rattle.td_desk.proofs.Reopening.{begun_origin, begun_still, begun_none, begun_named, begun_few}
+use Rattle.std.proofs.Common.{◌≡◌, ◌<◌, ◌-◌, ◌^◌, ◌++◌, length, map, sym, ap, subst, arith}
+use Rattle.std.specs.Prelude.{replicate}
+use Rattle.td_desk.specs.inner.Ticks.{begun_at, unticked}
+use Rattle.td_desk.proofs.Reopening.{begun_origin, begun_still, begun_none, begun_named}
 use Rattle.td_desk.proofs.desk.Desk.reopen.Goals as goal
 
 pub begin-requires-clause-origin : goal.begin-requires-clause-origin
@@ -23,12 +24,11 @@ begin-requires-clause-none g c =
 
 pub begin-requires-clause-ticks : goal.begin-requires-clause-ticks
 begin-requires-clause-ticks g c =
-    let old : AreBegun g.N.Named.opened 0 c.in-Ok-begun_ticks.ticks.items =
-    begun_few g.N.Named.opened c.in-Ok-begun_ticks.ticks.items
-    (c.in-Ok-begun_ticks.ensures ∙ ap (map begun_at) (sym c.requires.opened)) in
-    let room = c.in-Ok-add_ticks.ensures.room in (
-      (c.add_ticks.ensures.begun g.N.Named.opened old).0,
-      omega (arith, room, ap length c.as_slice.ensures.entries, ap length c.journal.ensures),
+    let begun = c.in-Ok-ticks_of.ensures in
+    let ticks = c.in-Ok-ticks_of.ticks.items in (
+      subst (λ os. ticks ≡ map begun_at os ++ replicate (length ticks - length os) unticked)
+          (sym c.requires.opened) begun.0,
+      omega (arith, begun.1, ap length c.as_slice.ensures.entries, ap length c.journal.ensures),
     )
 
 pub returns-clause-found : goal.returns-clause-found

@@ -1,3 +1,4 @@
+-- `Locked::arrive`: what its types keep and the clause `change`.
 use Rattle.std.proofs.Common.{rules, arith, ◌≤◌, ◌+◌, ◌∙◌, ap, sym, length, Ok}
 use Rattle.td_book.specs.Desk.{Fixed}
 use Rattle.td_desk.proofs.Counting.{one_more}

@@ -1,3 +1,4 @@
+-- `Locked::command`: what its types keep, the clauses `told` and `change` and the call of `new`.
 use Rattle.std.proofs.Common.{rules, arith, ◌≤◌, ◌+◌, ◌++◌, ◌∷◌, [], ◌∙◌, ap, sym, length, Ok, Err}
 use Rattle.std.specs.Prelude.{◌≡◌}
 use Rattle.td_wbread.specs.Views.{parts_of}

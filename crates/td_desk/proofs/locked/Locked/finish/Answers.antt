@@ -1,3 +1,4 @@
+-- `Locked::finish`: what its types keep.
 use Rattle.std.proofs.Common.{rules, arith, ◌≤◌, ◌+◌, ◌∙◌, ap, length}
 use Rattle.td_book.specs.Desk.{Fixed}
 use Rattle.td_desk.proofs.Growing.{finish_kept}

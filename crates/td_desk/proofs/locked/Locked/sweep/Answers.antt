@@ -1,3 +1,4 @@
+-- `Locked::sweep`: what its types keep and the clause `told`.
 use Rattle.std.proofs.Common.{rules, arith, ◌≤◌, ◌+◌, ◌∙◌, ap, sym, length}
 use Rattle.std.specs.Prelude.{Some, Ok}
 use Rattle.td_book.specs.Arriving.{SweepOutcome}

@@ -1,3 +1,4 @@
+-- `Locked::undo`: what its types keep and the clause `change`.
 use Rattle.std.proofs.Common.{rules, arith, ◌≤◌, ◌+◌, ◌∙◌, ap, sym, length, Ok, Err}
 use Rattle.td_book.specs.Desk.{Fixed}
 use Rattle.td_book.specs.Undoing.{undo_stop}
