@@ -6,11 +6,9 @@ use Rattle.td_indices.specs.declared.archive_fault.IndexFile.TheVariants as file
 use Rattle.td_indices.specs.declared.archive_fault.ArchiveFault.{ArchiveFault}
 use Rattle.td_indices.specs.declared.archive_fault.ArchiveFault.TheVariants as archive
 use Rattle.td_indices.specs.FaultNames as archive_fault
-use Rattle.td_rows.specs.declared.state_file.StateFault.{StateFault}
-use Rattle.td_rows.specs.declared.state_file.StateFault.TheVariants as state
+use Rattle.td_rows.specs.FaultNames as state_fault
 use Rattle.td_query.specs.TrackerFaults as tracker_fault
-use Rattle.td_journal.specs.declared.journal_fault.ReadError.{ReadError}
-use Rattle.td_journal.specs.declared.journal_fault.ReadError.TheVariants as journal
+use Rattle.td_journal.specs.FaultNames as journal_fault
 use Rattle.td_script.specs.declared.role.Role.{Role}
 use Rattle.td_script.specs.declared.role.Role.TheVariants as role
 use Rattle.td_script.specs.declared.input_fault.InputFault.{InputFault}
@@ -49,26 +47,11 @@ role_of NoSuchRow = role.State
 role_of (Tracker e) = role.Tracker
 role_of (Journal e) = role.Journal
 
--- the name of what is wrong with a state file
-abbrev pub state_fault_name : StateFault → List ℕ
-state_fault_name (state.BadLine n) = codes "BadLine"
-state_fault_name (state.Twice n) = codes "Twice"
-state_fault_name (state.NotOpening n) = codes "NotOpening"
-state_fault_name state.TooManyRows = codes "TooManyRows"
-state_fault_name state.NoMemory = codes "NoMemory"
-
--- the name of what is wrong with a journal
-abbrev pub journal_fault_name : ReadError → List ℕ
-journal_fault_name journal.BadHeader = codes "BadHeader"
-journal_fault_name (journal.BadLine n) = codes "BadLine"
-journal_fault_name (journal.Unlawful n) = codes "Unlawful"
-journal_fault_name journal.NoMemory = codes "NoMemory"
-
 -- the name of what is wrong with a text
 abbrev pub fault_name : InputFault → List ℕ
 fault_name (Table e) = archs_fault.name_of e
 fault_name (Archive e) = archive_fault.name_of e
-fault_name (State e) = state_fault_name e
+fault_name (State e) = state_fault.name_of e
 fault_name NoSuchRow = codes "NoSuchRow"
 fault_name (Tracker e) = tracker_fault.fault_name e
-fault_name (Journal e) = journal_fault_name e
+fault_name (Journal e) = journal_fault.name_of e

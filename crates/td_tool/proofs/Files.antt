@@ -6,8 +6,15 @@ use Rattle.std.specs.Result.{ForOk}
 use Rattle.std.specs.Io.KnownBytes.{Keeps}
 use Rattle.td_bytes.specs.declared.text.TextFault.{TextFault}
 use Rattle.td_bytes.specs.declared.text.TextFault.TheVariants as text
+use Rattle.td_text.specs.Lines.{lines_of}
+use Rattle.td_relation.specs.Arch.{ArchWords}
+use Rattle.td_relation.specs.TableFile.{IsTable}
+use Rattle.td_relation.specs.TableFile as table_file
+use Rattle.td_relation.specs.declared.archs.ArchsFault.{ArchsFault}
 use Rattle.td_relation.specs.declared.archs.ArchsFault.TheVariants as table
 use Rattle.td_indices.specs.Archive.{Contents}
+use Rattle.td_indices.specs.Archive as archive_file
+use Rattle.td_indices.specs.declared.archive_fault.ArchiveFault.{ArchiveFault}
 use Rattle.td_indices.specs.declared.archive_fault.ArchiveFault.TheVariants as archive
 use Rattle.td_tool.specs.declared.file_texts.FileTexts.{FileTexts}
 use Rattle.td_tool.specs.declared.file_texts.FileFault.{FileFault}
@@ -26,7 +33,7 @@ use Rattle.td_tool.specs.Counted.{IsArchiveOf}
 use Rattle.td_tool.specs.Limits.{file_limit}
 use Rattle.td_tool.specs.Checks.{Files, AreTexts, IsTextOf, IsArchiveIn, IsKnownArchive, IsNoText}
 use Rattle.td_tool.specs.Checks.{IsTooLong, FaultFits, HasFailed, HasFileFault, CheckSays, Checks}
-use Rattle.td_tool.specs.Checks.{known_of}
+use Rattle.td_tool.specs.Checks.{HasArchiveFault, HasTableFault}
 use Rattle.td_tool.specs.CheckInside.{AreTextsIn, HasFailedIn, IsWithin, IsNoArchive, TextsSay}
 use Rattle.td_tool.specs.CheckInside.{FileTextsEnd, FileUnread}
 
@@ -79,103 +86,53 @@ unread files old new role text.NoMemory failed kept = record { says = kept; only
 
 -- ---- three texts
 
+table_fault : (files : Files) (t : FileTexts) (e : ArchsFault) → AreTextsIn files t
+    → table_file.FaultOf (lines_of (string_bytes t.archs)) e → HasTableFault files e
+table_fault files t e texts is = record {
+  archs = string_bytes t.archs;
+  packages = string_bytes t.packages;
+  sources = string_bytes t.sources;
+  texts = texts;
+  fault = is;
+}
+
+archive_fault : (files : Files) (t : FileTexts) (e : ArchiveFault) → AreTextsIn files t
+    → (ws : List ArchWords) × IsTable (lines_of (string_bytes t.archs)) ws
+    × archive_file.FaultOf ws (lines_of (string_bytes t.packages))
+    (lines_of (string_bytes t.sources)) e → HasArchiveFault files e
+archive_fault files t e texts is = record {
+  archs = string_bytes t.archs;
+  packages = string_bytes t.packages;
+  sources = string_bytes t.sources;
+  texts = texts;
+  archs_table = is.0;
+  is_table = is.1;
+  fault = is.2;
+}
+
 has_fault : (files : Files) (t : FileTexts) (role : Role) (e : InputFault) → AreTextsIn files t
     → IsNoArchive (string_bytes t.archs) (string_bytes t.packages) (string_bytes t.sources)
     (BadInput role e) → HasFileFault files role e
 has_fault files t role TooLong texts is = absurd is
 has_fault files t role NotText texts is = absurd is
 has_fault files t role (Simulation e) texts is = absurd is
-has_fault files t role (Table (table.BadLine n)) texts is = (
-  is.0,
-  record {
-    archs = string_bytes t.archs;
-    packages = string_bytes t.packages;
-    sources = string_bytes t.sources;
-    texts = texts;
-    fault = is.1;
-  },
-)
-has_fault files t role (Table (table.Twice n)) texts is = (
-  is.0,
-  record {
-    archs = string_bytes t.archs;
-    packages = string_bytes t.packages;
-    sources = string_bytes t.sources;
-    texts = texts;
-    fault = is.1;
-  },
-)
-has_fault files t role (Table table.TooMany) texts is = (
-  is.0,
-  record {
-    archs = string_bytes t.archs;
-    packages = string_bytes t.packages;
-    sources = string_bytes t.sources;
-    texts = texts;
-    fault = is.1;
-  },
-)
+has_fault files t role (Table (table.BadLine n)) texts is =
+    (is.0, table_fault files t (table.BadLine n) texts is.1)
+has_fault files t role (Table (table.Twice n)) texts is =
+    (is.0, table_fault files t (table.Twice n) texts is.1)
+has_fault files t role (Table table.TooMany) texts is =
+    (is.0, table_fault files t table.TooMany texts is.1)
 has_fault files t role (Table table.NoMemory) texts is = absurd is
-has_fault files t role (Archive (archive.Stanza f e)) texts is = (
-  is.0,
-  record {
-    archs = string_bytes t.archs;
-    packages = string_bytes t.packages;
-    sources = string_bytes t.sources;
-    texts = texts;
-    archs_table = is.1.0;
-    is_table = is.1.1;
-    fault = is.1.2;
-  },
-)
-has_fault files t role (Archive (archive.MissingField f n field)) texts is = (
-  is.0,
-  record {
-    archs = string_bytes t.archs;
-    packages = string_bytes t.packages;
-    sources = string_bytes t.sources;
-    texts = texts;
-    archs_table = is.1.0;
-    is_table = is.1.1;
-    fault = is.1.2;
-  },
-)
-has_fault files t role (Archive (archive.BadVersion f n)) texts is = (
-  is.0,
-  record {
-    archs = string_bytes t.archs;
-    packages = string_bytes t.packages;
-    sources = string_bytes t.sources;
-    texts = texts;
-    archs_table = is.1.0;
-    is_table = is.1.1;
-    fault = is.1.2;
-  },
-)
-has_fault files t role (Archive (archive.BadRelation f n)) texts is = (
-  is.0,
-  record {
-    archs = string_bytes t.archs;
-    packages = string_bytes t.packages;
-    sources = string_bytes t.sources;
-    texts = texts;
-    archs_table = is.1.0;
-    is_table = is.1.1;
-    fault = is.1.2;
-  },
-)
-has_fault files t role (Archive archive.TooManyRows) texts is = (
-  is.0,
-  record {
-    archs = string_bytes t.archs;
-    packages = string_bytes t.packages;
-    sources = string_bytes t.sources;
-    texts = texts;
-    archs_table = is.1.0;
-    is_table = is.1.1;
-    fault = is.1.2;
-  },
-)
+has_fault files t role (Archive (archive.Stanza f e)) texts is =
+    (is.0, archive_fault files t (archive.Stanza f e) texts is.1)
+has_fault files t role (Archive (archive.MissingField f n field)) texts is =
+    (is.0, archive_fault files t (archive.MissingField f n field) texts is.1)
+has_fault files t role (Archive (archive.BadVersion f n)) texts is =
+    (is.0, archive_fault files t (archive.BadVersion f n) texts is.1)
+has_fault files t role (Archive (archive.BadRelation f n)) texts is =
+    (is.0, archive_fault files t (archive.BadRelation f n) texts is.1)
+has_fault files t role (Archive archive.TooManyRows) texts is =
+    (is.0, archive_fault files t archive.TooManyRows texts is.1)
 has_fault files t role (Archive archive.NoMemory) texts is = absurd is
 has_fault files t role (fault.State e) texts is = absurd is
 has_fault files t role fault.NoSuchRow texts is = absurd is

@@ -10,11 +10,13 @@ use Rattle.td_indices.specs.declared.archive_fault.ArchiveFault.TheVariants as a
 use Rattle.td_indices.specs.FaultNames as archive_fault
 use Rattle.td_rows.specs.declared.state_file.StateFault.{StateFault}
 use Rattle.td_rows.specs.declared.state_file.StateFault.TheVariants as state
+use Rattle.td_rows.specs.FaultNames as state_fault
 use Rattle.td_query.specs.declared.tracker_fault.TrackerFault.{TrackerFault}
 use Rattle.td_query.specs.declared.tracker_fault.TrackerFault.TheVariants as tracker
 use Rattle.td_query.specs.TrackerFaults as tracker_fault
 use Rattle.td_journal.specs.declared.journal_fault.ReadError.{ReadError}
 use Rattle.td_journal.specs.declared.journal_fault.ReadError.TheVariants as journal
+use Rattle.td_journal.specs.FaultNames as journal_fault
 use Rattle.td_simulate.specs.declared.fault.SimulationFault.{SimulationFault}
 use Rattle.td_simulate.specs.declared.fault.SimulationFault.TheVariants as simulation
 use Rattle.td_simulate.specs.Faults.{fault_name}
@@ -82,21 +84,6 @@ ending_of_journal e = BadInput role.Journal (Journal e)
 
 -- ---- 2. what is answered and said
 
--- the name of what is wrong with a state file
-abbrev pub state_fault_name : StateFault → List ℕ
-state_fault_name (state.BadLine n) = codes "BadLine"
-state_fault_name (state.Twice n) = codes "Twice"
-state_fault_name (state.NotOpening n) = codes "NotOpening"
-state_fault_name state.TooManyRows = codes "TooManyRows"
-state_fault_name state.NoMemory = codes "NoMemory"
-
--- the name of what is wrong with a journal
-abbrev pub journal_fault_name : ReadError → List ℕ
-journal_fault_name journal.BadHeader = codes "BadHeader"
-journal_fault_name (journal.BadLine n) = codes "BadLine"
-journal_fault_name (journal.Unlawful n) = codes "Unlawful"
-journal_fault_name journal.NoMemory = codes "NoMemory"
-
 -- the name of what is wrong with a text
 abbrev pub input_fault_name : InputFault → List ℕ
 input_fault_name TooLong = codes "TooLong"
@@ -104,11 +91,11 @@ input_fault_name NotText = codes "NotText"
 input_fault_name (Simulation e) = fault_name e
 input_fault_name (Table e) = archs_fault.name_of e
 input_fault_name (Archive e) = archive_fault.name_of e
-input_fault_name (State e) = state_fault_name e
+input_fault_name (State e) = state_fault.name_of e
 input_fault_name NoSuchRow = codes "NoSuchRow"
 input_fault_name (Tracker e) = tracker_fault.fault_name e
 input_fault_name (BadOutcome n) = codes "BadLine"
-input_fault_name (Journal e) = journal_fault_name e
+input_fault_name (Journal e) = journal_fault.name_of e
 
 -- the status; 3 is for words that ask for nothing that can be done
 abbrev pub status_of : Ending → ℕ

@@ -1,3 +1,4 @@
+-- `undo`: what it answers.
 use Rattle.td_script.proofs.AnswerLaws.{Answers-undo}
 use Rattle.td_script.proofs.answering.undo.Goals as goal
 use Rattle.std.proofs.lemmas.Result.{IfOk-weaker}

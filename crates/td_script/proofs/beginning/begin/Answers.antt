@@ -1,3 +1,4 @@
+-- `begin`: the clause `only`.
 use Rattle.std.proofs.Common.{◌≡◌, ℕ, List, Option, Bor, IfErr, option_map, sym, subst}
 use Rattle.td_journal.specs.declared.entry.Marked.{Marked}
 use Rattle.td_journal.specs.declared.journal_fault.ReadError.TheVariants.{NoMemory}

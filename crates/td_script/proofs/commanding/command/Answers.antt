@@ -1,3 +1,4 @@
+-- `command`: what it answers.
 use Rattle.td_wbread.specs.Views.{parts_of}
 use Rattle.td_script.proofs.CommandLaws.{Answers-command}
 use Rattle.td_script.proofs.commanding.command.Goals as goal

@@ -1,3 +1,4 @@
+-- `replaced`: its clauses.
 use Rattle.std.proofs.Common.{◌∙◌, ap, sym, subst}
 use Rattle.td_core.specs.Phases.{NoneBuilt}
 use Rattle.td_core.proofs.Openings.{NoneBuilt-state_file}

@@ -1,3 +1,4 @@
+-- `rows_of`: the clauses `refused` and `only`.
 use Rattle.std.proofs.Common.{ap, option_map}
 use Rattle.td_script.specs.Openings.{texts_lent}
 use Rattle.td_script.proofs.OnlyLaws.{rows_stop}

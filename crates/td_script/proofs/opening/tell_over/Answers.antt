@@ -1,3 +1,4 @@
+-- `tell_over`: what it answers.
 use Rattle.std.proofs.Common.{IfErr, subst}
 use Rattle.std.specs.Prelude.{MatchResult}
 use Rattle.td_script.specs.OpeningInside.{IsRefusedBy, Stops, Tells}

@@ -1,3 +1,4 @@
+-- `tell_over_archive`: the clause `only`.
 use Rattle.std.proofs.Common.{ap, option_map}
 use Rattle.td_script.specs.Openings.{texts_lent}
 use Rattle.td_script.proofs.OnlyLaws.{given_stops, memory_stops, untracked_stops}

@@ -1,3 +1,4 @@
+-- `tell_over_table`: the clause `only`.
 use Rattle.std.proofs.Common.{refl}
 use Rattle.td_relation.specs.TableView.{table}
 use Rattle.td_script.specs.Openings.{texts_lent}

@@ -1,3 +1,4 @@
+-- `tell_tracked`: the clause `tells`.
 use Rattle.std.proofs.Common.{Some, refl}
 use Rattle.td_query.specs.Tracking.{tracking}
 use Rattle.td_report.specs.TransitionView.{contents_of, depth_of, level_of, tracking_of}

@@ -1,3 +1,4 @@
+-- `tell_with_tracker`: the clause `only`.
 use Rattle.std.proofs.Common.{sym, subst}
 use Rattle.td_script.specs.OpeningInside.{Stops}
 use Rattle.td_script.specs.Openings.{texts_lent}

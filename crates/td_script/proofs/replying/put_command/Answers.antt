@@ -1,3 +1,4 @@
+-- `put_command`: what it answers.
 use Rattle.std.proofs.Common.{◌≡◌, Err, rules, subst, sym}
 use Rattle.std.specs.Prelude.{codes, true, string_bytes}
 use Rattle.td_book.specs.declared.commanding.CommandRefusal.TheVariants as refusals

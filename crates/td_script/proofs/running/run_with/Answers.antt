@@ -1,3 +1,4 @@
+-- `run_with`: the clauses `says` and `only`.
 use Rattle.std.proofs.Common.{◌≡◌, Err, refl, rules, subst, sym}
 use Rattle.std.specs.Io.KnownBytes.{Appends}
 use Rattle.td_bytes.specs.Pieces.{AppendsPrefix}

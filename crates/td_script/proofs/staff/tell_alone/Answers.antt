@@ -1,3 +1,4 @@
+-- `tell_alone`: what it answers and the call of `begin`.
 use Rattle.std.proofs.Common.{◌∙◌, rules}
 use Rattle.td_script.proofs.OpeningLaws.{fresh_supply, stock-opened}
 use Rattle.td_script.proofs.ScriptLaws.{answered-from}

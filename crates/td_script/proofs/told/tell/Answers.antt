@@ -1,3 +1,4 @@
+-- `tell`: its loop, what it answers and the call of `add_line`.
 use Rattle.std.proofs.Common.{◌≡◌, ap, sym, subst, ◌∙◌, refl, rules, None}
 use Rattle.std.specs.Prelude.{IfSome}
 use Rattle.td_rows.specs.Table.{Table}

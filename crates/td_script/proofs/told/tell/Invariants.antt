@@ -1,3 +1,4 @@
+-- What the loop of `tell` keeps, and what gets less.
 use Rattle.std.proofs.Common.{map, option_map, List, ℕ, Bor}
 use Rattle.td_text.specs.Lines.{left_len}
 use Rattle.td_script.proofs.ScriptLaws.{IsSoFar}

@@ -1,3 +1,4 @@
+-- What the loop of `counts_of` keeps, and what gets less.
 use Rattle.std.proofs.Common.{◌-◌, length}
 use Rattle.td_core.specs.History.{rows_of}
 use Rattle.td_script.proofs.WatchLaws.{AreFirst}

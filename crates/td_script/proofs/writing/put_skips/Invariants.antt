@@ -1,3 +1,4 @@
+-- What the loop of `put_skips` keeps.
 use Rattle.std.proofs.Common.{◌≡◌, ◌++◌, take}
 use Rattle.std.specs.List.{flat_map}
 use Rattle.std.specs.String.{string_bytes}

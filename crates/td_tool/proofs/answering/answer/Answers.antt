@@ -1,3 +1,4 @@
+-- `answer`: what it answers.
 use Rattle.std.proofs.Common.{map, string_bytes}
 use Rattle.td_words.specs.CommandLine.{is_explained, options_of}
 use Rattle.td_tool.proofs.Asks.{simulated, checked, tracked, waved, ran_script, only_asked}

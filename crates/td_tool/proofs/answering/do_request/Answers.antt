@@ -1,3 +1,4 @@
+-- `do_request`: the clauses `ends`, `kept` and `short`.
 use Rattle.std.proofs.Common.{sym, subst, string_bytes}
 use Rattle.td_words.specs.declared.request.Request.{Request}
 use Rattle.td_tool.specs.declared.ending.Ending.{Ending}

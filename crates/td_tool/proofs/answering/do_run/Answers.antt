@@ -1,3 +1,4 @@
+-- `do_run`: what it answers.
 use Rattle.td_tool.specs.Runs.{EndsRun, run_files}
 use Rattle.td_tool.proofs.Asks.{holds_of_eight}
 use Rattle.td_tool.proofs.answering.do_run.Goals as goal

@@ -1,3 +1,4 @@
+-- `do_track`: what it answers.
 use Rattle.td_tool.specs.Tracks.{EndsSo, track_files}
 use Rattle.td_tool.specs.TrackInside.{saying_of}
 use Rattle.td_tool.proofs.Asks.{holds_of_five}

@@ -1,3 +1,4 @@
+-- `tool`: its clauses.
 use Rattle.std.proofs.Common.{◌≡◌, List, None, IfOk, IsOkAnd, codes, map, string_bytes, sym, ap}
 use Rattle.std.proofs.Common.{subst, ◌∙◌}
 use Rattle.td_report.specs.Transition.{IsReport, IsWaves}

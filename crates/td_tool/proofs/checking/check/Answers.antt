@@ -1,3 +1,4 @@
+-- `check`: what it answers.
 use Rattle.td_tool.proofs.Files.{checks}
 use Rattle.td_tool.proofs.checking.check.Goals as goal
 

@@ -1,3 +1,4 @@
+-- `counts_in`: what it answers.
 use Rattle.td_relation.specs.TableView.{table}
 use Rattle.td_tool.proofs.Counting.{counted_in}
 use Rattle.td_tool.proofs.checking.counts_in.Goals as goal

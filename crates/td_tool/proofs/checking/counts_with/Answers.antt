@@ -1,3 +1,4 @@
+-- `counts_with`: the clause `counted`.
 use Rattle.std.proofs.Common.{IfOk, sym, subst}
 use Rattle.td_relation.specs.TableView.{table}
 use Rattle.td_tool.specs.CheckInside.{IsCountedWith}

@@ -1,3 +1,4 @@
+-- `write_line`: the clauses `prefix` and `whole`.
 use Rattle.std.proofs.Common.{codes}
 use Rattle.std.proofs.lemmas.Result.{on_ok_weaker, on_err_weaker}
 use Rattle.std.proofs.KnownBytes.{Appends-trans}

@@ -1,3 +1,4 @@
+-- `say_explanation`: what it answers.
 use Rattle.std.proofs.Common.{IfSome, string_bytes, subst}
 use Rattle.td_tool.specs.Explained.{Explains, known_of_request}
 use Rattle.td_tool.proofs.Explanations.{line_said, nothing_said, wrote_front}

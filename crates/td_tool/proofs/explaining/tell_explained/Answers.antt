@@ -1,3 +1,4 @@
+-- `tell_explained`: what it answers.
 use Rattle.std.proofs.Common.{OnOk, subst}
 use Rattle.std.specs.Io.KnownBytes.{Appends}
 use Rattle.td_tool.specs.Ending.{line_of}

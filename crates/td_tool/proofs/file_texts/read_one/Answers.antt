@@ -1,3 +1,4 @@
+-- `read_one`: the clause `text`.
 use Rattle.std.proofs.lemmas.Str.{IsUtf8-string_bytes}
 use Rattle.td_tool.proofs.file_texts.read_one.Goals as goal
 

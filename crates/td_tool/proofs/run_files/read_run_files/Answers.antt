@@ -1,3 +1,4 @@
+-- `read_run_files`: the clause `failed`.
 use Rattle.std.proofs.Common.{option_map, string_bytes}
 use Rattle.std.proofs.lemmas.Result.{err_from_is_err_and}
 use Rattle.td_tool.specs.RunInside.{run_files_at}

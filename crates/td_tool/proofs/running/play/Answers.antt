@@ -1,3 +1,4 @@
+-- `play`: the clauses `only` and `says`.
 use Rattle.std.proofs.Common.{inr, ne_eqb}
 use Rattle.td_script.specs.Openings.{texts_of}
 use Rattle.td_crew.specs.CrewEnds.{outcomes_of}

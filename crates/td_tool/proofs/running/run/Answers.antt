@@ -1,3 +1,4 @@
+-- `run`: what it answers.
 use Rattle.std.proofs.KnownBytes.{Keeps-refl}
 use Rattle.td_tool.specs.RunInside.{run_texts_of}
 use Rattle.td_tool.proofs.SureRuns.{run_played, run_unread}

@@ -1,3 +1,4 @@
+-- `play`: the clause `text`.
 use Rattle.std.proofs.Common.{IfOk, string_bytes, sym, subst}
 use Rattle.td_tool.specs.Played.{TextEnds}
 use Rattle.td_tool.proofs.Plays.{text_ends}

@@ -1,3 +1,4 @@
+-- `simulate`: the clauses `ends`, `kept` and `short`.
 use Rattle.td_tool.proofs.Plays.{ends, kept_is, kept_within}
 use Rattle.td_tool.proofs.simulation.simulate.Goals as goal
 

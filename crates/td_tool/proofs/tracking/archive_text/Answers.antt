@@ -1,3 +1,4 @@
+-- `archive_text`: the clauses `found`, `refused` and `only`.
 use Rattle.td_tool.specs.TrackInside.{saying_of}
 use Rattle.td_tool.proofs.Told.{rows_say, rows_refuse, state_refused}
 use Rattle.td_tool.proofs.Sure.{lacks_memory, over_stops}

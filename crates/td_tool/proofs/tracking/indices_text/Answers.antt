@@ -1,3 +1,4 @@
+-- `indices_text`: the clauses `found`, `refused` and `only`.
 use Rattle.std.proofs.Common.{ap, inl, inr, ◌∙◌}
 use Rattle.td_tool.specs.Ending.{ending_of_archive}
 use Rattle.td_relation.specs.TableView.{table}

@@ -1,3 +1,4 @@
+-- `put_over`: the clauses `none_missing` and `missing`.
 use Rattle.td_tool.proofs.Told.{missing_key}
 use Rattle.td_tool.proofs.tracking.put_over.Goals as goal
 

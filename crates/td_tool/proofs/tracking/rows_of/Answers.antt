@@ -1,3 +1,4 @@
+-- `rows_of`: the clauses `rows`, `refused` and `only`.
 use Rattle.std.proofs.Common.{◌≡◌, Some, None, ap, sym, subst, IfOk, IfErr, option_map}
 use Rattle.td_rows.specs.Table.{Table}
 use Rattle.td_tool.specs.declared.ending.Ending.TheVariants.{NoMemory}

@@ -1,3 +1,4 @@
+-- `told`: what it answers.
 use Rattle.std.proofs.Common.{IfOk, string_bytes, sym, subst}
 use Rattle.td_report.specs.TransitionView.{contents_of, tracking_of}
 use Rattle.td_tool.specs.TrackInside.{saying_of}

@@ -1,3 +1,4 @@
+-- `tracker_says`: what it answers.
 use Rattle.std.proofs.Common.{IfOk, string_bytes}
 use Rattle.std.proofs.lemmas.Result.{IfOk-weaker}
 use Rattle.td_query.specs.Tracking.{tracking}

@@ -1,3 +1,4 @@
+-- `tracker_text`: the clauses `found`, `refused` and `only`.
 use Rattle.std.proofs.Common.{inl, inr, string_bytes}
 use Rattle.td_query.specs.Tracking.{tracking}
 use Rattle.td_tool.specs.TrackInside.{saying_of}

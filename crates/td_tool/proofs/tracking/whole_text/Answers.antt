@@ -1,3 +1,4 @@
+-- `whole_text`: the clauses `found`, `refused` and `only`.
 use Rattle.td_relation.specs.TableView.{table}
 use Rattle.td_tool.specs.TrackInside.{saying_of, texts_of}
 use Rattle.td_tool.proofs.Told.{texts_say, texts_refuse, table_bad}

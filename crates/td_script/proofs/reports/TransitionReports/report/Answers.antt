@@ -1,3 +1,4 @@
+-- `TransitionReports::report`: what it answers.
 use Rattle.std.proofs.Common.{◌≡◌, ◌∙◌, ap, string_bytes}
 use Rattle.td_core.specs.History.{rows_of}
 use Rattle.std.proofs.lemmas.Result.{IfOk-weaker}

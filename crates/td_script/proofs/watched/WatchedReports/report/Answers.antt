@@ -1,3 +1,4 @@
+-- `WatchedReports::report`: what it answers and the call of `report_counted`.
 use Rattle.std.proofs.Common.{◌≡◌, ◌∙◌, ap, string_bytes, subst, sym}
 use Rattle.std.proofs.lemmas.Result.{IfOk-weaker}
 use Rattle.td_core.specs.History.{rows_of}

@@ -1,3 +1,4 @@
+-- `Ending::tell`: the clauses `whole` and `prefix`.
 use Rattle.td_tool.proofs.ending.Ending.tell.Goals as goal
 
 pub returns-in-CannotRead-clause-whole : goal.returns-in-CannotRead-clause-whole
