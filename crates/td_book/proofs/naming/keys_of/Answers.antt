@@ -1,3 +1,4 @@
+-- `keys_of`: its loop.
 use Rattle.std.proofs.Common.{◌<◌, ◌∷◌, ◌++◌, [], length, sym, ap, ◌∙◌, arith}
 use Rattle.td_rows.specs.declared.key.Key.{Key}
 use Rattle.td_book.proofs.Numbered.{keys_at-none, keys_more, keys_same}

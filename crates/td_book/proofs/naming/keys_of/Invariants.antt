@@ -1,3 +1,4 @@
+-- What the loop of `keys_of` keeps.
 use Rattle.std.proofs.Common.{◌≡◌, take}
 use Rattle.td_book.specs.Naming.{keys_at}
 use Rattle.td_book.proofs.naming.keys_of.Given as goal

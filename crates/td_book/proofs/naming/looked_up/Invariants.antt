@@ -1,3 +1,4 @@
+-- What the loop of `looked_up` keeps.
 use Rattle.std.proofs.Common.{◌&&◌, [], take}
 use Rattle.std.specs.Prelude.{string_bytes}
 use Rattle.std.specs.List.{list_any}

@@ -1,3 +1,4 @@
+-- What the loop of `matched` keeps.
 use Rattle.std.proofs.Common.{◌≡◌, filter, take}
 use Rattle.td_wbread.specs.Views.{parts_of}
 use Rattle.td_book.specs.Naming.{is_matched_at}

@@ -1,3 +1,4 @@
+-- `named`: the clause `keys`.
 use Rattle.std.proofs.Common.{◌≡◌, ◌&&◌, [], ◌∙◌, ap}
 use Rattle.std.specs.Prelude.{string_bytes}
 use Rattle.std.specs.List.{list_any}

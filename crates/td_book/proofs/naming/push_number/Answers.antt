@@ -1,3 +1,4 @@
+-- `push_number`: what it answers.
 use Rattle.td_book.proofs.Numbered.{adds_number}
 use Rattle.td_book.proofs.naming.push_number.Goals as goal
 

@@ -1,3 +1,4 @@
+-- What the loop of `push_on_each` keeps.
 use Rattle.std.proofs.Common.{◌&&◌, take}
 use Rattle.std.specs.List.{list_any}
 use Rattle.std.specs.Str.{bytes_eq}

@@ -1,3 +1,4 @@
+-- `sort_numbers`: the clauses `rising` and `same`.
 use Rattle.std.proofs.Common.{ℕ, List, sym, subst}
 use Rattle.std.specs.List.Sorted.{IsStrictlySortedBy}
 use Rattle.std.specs.Ordering.{nat_cmp}

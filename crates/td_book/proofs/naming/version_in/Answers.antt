@@ -1,3 +1,4 @@
+-- `version_in`: what it answers.
 use Rattle.td_book.proofs.Finding.{version_is}
 use Rattle.td_book.proofs.naming.version_in.Goals as goal
 

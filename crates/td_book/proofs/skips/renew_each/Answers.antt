@@ -1,3 +1,4 @@
+-- `renew_each`: its loop.
 use Rattle.std.proofs.Common.{◌+◌, set, ap, sym, ◌∙◌, arith}
 use Rattle.td_book.specs.Skips.{renewed}
 use Rattle.td_book.proofs.Skipping.{set_mapped}

@@ -1,3 +1,4 @@
+-- What the loop of `renew_each` keeps.
 use Rattle.std.proofs.Common.{◌≡◌, ◌++◌, map, take, drop}
 use Rattle.td_book.specs.Skips.{renewed}
 use Rattle.td_book.proofs.skips.renew_each.Given as goal

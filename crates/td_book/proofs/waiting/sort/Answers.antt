@@ -1,3 +1,4 @@
+-- `sort`: the clause `order`.
 use Rattle.std.proofs.Common.{ℕ, ℤ, rules}
 use Rattle.std.proofs.lemmas.Fn.{always_returns_same}
 use Rattle.std.specs.declared.cmp.Reverse.{Reverse}

@@ -1,3 +1,4 @@
+-- `no_groups`: what it answers.
 use Rattle.std.proofs.Common.{arith}
 use Rattle.td_book.proofs.Groups.{no_groups-last}
 use Rattle.td_book.proofs.watching.no_groups.Goals as goal

@@ -1,3 +1,4 @@
+-- What the loop of `no_groups` keeps.
 use Rattle.std.proofs.Common.{◌≡◌, None, replicate}
 use Rattle.td_book.proofs.watching.no_groups.Given as goal
 

@@ -1,3 +1,4 @@
+-- What the loop of `outside` keeps.
 use Rattle.std.proofs.Common.{◌≡◌, drop}
 use Rattle.td_book.specs.WatchCalls.{outside_in}
 use Rattle.td_book.proofs.watching.outside.Given as goal

@@ -1,3 +1,4 @@
+-- `set_groups`: its loop, the clause `twice` and the call of `set_group`.
 use Rattle.std.proofs.Common.{◌≡◌, Option, ℕ, true, false, is_some, take, sym, ap, ◌∙◌}
 use Rattle.td_book.specs.Watching.{group_in}
 use Rattle.td_book.proofs.Groups.{set-twice, set-next, number-within, group-read, key_there}

@@ -1,3 +1,4 @@
+-- What the loop of `set_groups` keeps.
 use Rattle.td_book.proofs.Groups.{AreSet}
 use Rattle.td_book.proofs.watching.set_groups.Given as goal
 

@@ -1,3 +1,4 @@
+-- `unknown`: its loop.
 use Rattle.std.proofs.Common.{sym, ◌∙◌}
 use Rattle.td_book.proofs.Groups.{unknown-later, pair_at, row_there}
 use Rattle.td_book.proofs.watching.unknown.Goals as goal

@@ -1,3 +1,4 @@
+-- What the loop of `unknown` keeps.
 use Rattle.std.proofs.Common.{◌≡◌, drop}
 use Rattle.td_book.specs.WatchCalls.{unknown_in}
 use Rattle.td_book.proofs.watching.unknown.Given as goal

@@ -1,3 +1,4 @@
+-- `rows`: what it answers.
 use Rattle.td_core.proofs.Openings.{NoneBuilt-state_file}
 use Rattle.td_book_tests.proofs.desk.rows.Goals as goal
 

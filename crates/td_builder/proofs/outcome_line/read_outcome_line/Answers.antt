@@ -1,3 +1,4 @@
+-- `read_outcome_line`: the call of `read_ending`.
 use Rattle.std.proofs.Common.{subst, ◌∷◌}
 use Rattle.td_text.specs.Cut.{Without}
 use Rattle.td_text.proofs.Cut.{Without-right}

@@ -1,3 +1,4 @@
+-- `read_own_key`: the call of `from_lines`.
 use Rattle.std.proofs.Common.{sym}
 use Rattle.td_builder.proofs.OutcomeTexts.{key_lacks}
 use Rattle.td_builder.proofs.outcome_line.read_own_key.Goals as goal

@@ -1,3 +1,4 @@
+-- `behind`: the clause `lines`.
 use Rattle.std.proofs.Common.{List, ℕ, Option, ap, sym, ◌∙◌}
 use Rattle.std.specs.Borrow.{Bor}
 use Rattle.td_text.specs.Lines.{lines_left}

@@ -1,3 +1,4 @@
+-- `gather`: its loop and the clauses `fault` and `found`.
 use Rattle.std.proofs.Common.{◌≡◌, false, true, eqb, ℕ, List, [], ◌∷◌, ◌++◌, ◌+◌, length, ap, sym}
 use Rattle.std.proofs.Common.{◌∙◌, rules, arith}
 use Rattle.td_book.specs.Deeds.{code_of}

@@ -1,3 +1,4 @@
+-- What the loop of `gather` keeps, and what gets less.
 use Rattle.std.proofs.Common.{◌≡◌, ◌+◌, ◌≤◌, List, length, map}
 use denote.Text.{Utf8}
 use denote.Shadow.{shadow}

@@ -1,3 +1,4 @@
+-- `text_at`: what it answers.
 use Rattle.td_explain.proofs.Tails.{line_is, tail_is}
 use Rattle.td_explain.proofs.explaining.text_at.Goals as goal
 

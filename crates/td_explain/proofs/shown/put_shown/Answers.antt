@@ -1,3 +1,4 @@
+-- `put_shown`: what it answers and its loop.
 use Rattle.std.proofs.Common.{◌<◌, [], ◌∷◌, string_bytes, arith}
 use Rattle.std.proofs.lemmas.Str.{IsUtf8-past_char, chars_past_char}
 use Rattle.td_explain.proofs.Showing.{empty_chars, ok_bytes, shown_cut, shown_done, shown_step}

@@ -1,3 +1,4 @@
+-- What the loop of `put_shown` keeps.
 use Rattle.std.proofs.Common.{◌≡◌, ◌++◌, IsUtf8, chars, string_bytes}
 use Rattle.std.specs.Str.Iter.{chars_rest}
 use Rattle.td_explain.specs.Shown.{shown, shown_from}

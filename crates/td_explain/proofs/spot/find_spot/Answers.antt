@@ -1,3 +1,4 @@
+-- `find_spot`: its loop and the clause `value`.
 use Rattle.std.proofs.Common.{◌≡◌, ◌+◌, true, false, length, ap, arith, rules}
 use Rattle.td_text.specs.Lines.{left_len}
 use Rattle.td_explain.specs.Spot.{is_at}

@@ -1,3 +1,4 @@
+-- What the loop of `find_spot` keeps, and what gets less.
 use Rattle.std.proofs.Common.{◌≡◌, ◌+◌, ◌≤◌, length}
 use Rattle.td_text.specs.Lines.{lines_left, left_len}
 use Rattle.td_explain.specs.Spot.{spot_in, spot_of}

@@ -1,3 +1,4 @@
+-- `keep_binary`: what it answers.
 use Rattle.std.proofs.Common.{sym, ◌∙◌, ap, List}
 use Rattle.td_indices.specs.declared.packaged.PackageKey.{PackageKey}
 use Rattle.td_indices.specs.declared.packaged.Packaged.{Packaged}

@@ -1,3 +1,4 @@
+-- `read_parts`: what it answers.
 use Rattle.td_relation.proofs.VersionTexts.{read_is}
 use Rattle.td_indices.proofs.field.read_parts.Goals as goal
 

@@ -1,3 +1,4 @@
+-- `value_of`: what it answers.
 use Rattle.td_stanza.specs.Table.{fields_of}
 use Rattle.td_indices.proofs.FieldValues.{value_is}
 use Rattle.td_indices.proofs.field.value_of.Goals as goal

@@ -1,3 +1,4 @@
+-- `group_binaries`: its loop.
 use Rattle.std.proofs.Common.{◌<◌, length, option_map, sym, ap, ◌∙◌, refl}
 use Rattle.td_rows.proofs.Lists.{slice_get-none, slice_get-map}
 use Rattle.td_indices.specs.declared.packaged.PackageKey.{PackageKey}

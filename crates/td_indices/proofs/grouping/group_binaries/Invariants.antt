@@ -1,3 +1,4 @@
+-- What the loop of `group_binaries` keeps.
 use Rattle.std.proofs.Common.{◌≡◌, ℕ, List, ◌++◌, drop}
 use Rattle.td_indices.specs.Archive.{is_of, places_from}
 use Rattle.td_indices.specs.Groups.{group}

@@ -1,3 +1,4 @@
+-- What the loop of `those_on` keeps.
 use Rattle.std.proofs.Common.{◌≡◌, ℕ, false, filter, slice_get, take}
 use Rattle.std.specs.Option.{option_map_or}
 use Rattle.td_relation.specs.Meeting.{is_on}

@@ -1,3 +1,4 @@
+-- `first_faulty_stanzas_are_named`: the clauses `packages` and `sources`.
 use Rattle.td_indices.proofs.FirstFaults.{first_faulty_package, first_faulty_source}
 use Rattle.td_indices.proofs.laws.first_faulty_stanzas_are_named.Goals as goal
 

@@ -1,3 +1,4 @@
+-- `greatest_versions_are_kept`: the clauses `packages` and `sources`.
 use Rattle.td_indices.proofs.CountingLaws.{greatest_packages, greatest_sources}
 use Rattle.td_indices.proofs.laws.greatest_versions_are_kept.Goals as goal
 

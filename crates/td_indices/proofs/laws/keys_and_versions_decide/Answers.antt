@@ -1,3 +1,4 @@
+-- `keys_and_versions_decide`: what it answers.
 use Rattle.td_indices.proofs.CountingLaws.{lower_packages, lower_sources, package_keys, source_keys}
 use Rattle.td_indices.proofs.laws.keys_and_versions_decide.Goals as goal
 

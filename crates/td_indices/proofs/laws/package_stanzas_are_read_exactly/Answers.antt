@@ -1,3 +1,4 @@
+-- `package_stanzas_are_read_exactly`: what it answers.
 use Rattle.td_indices.proofs.PackageStanzas.{packages_are_exact}
 use Rattle.td_indices.proofs.laws.package_stanzas_are_read_exactly.Goals as goal
 

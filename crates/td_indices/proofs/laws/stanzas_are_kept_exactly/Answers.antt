@@ -1,3 +1,4 @@
+-- `stanzas_are_kept_exactly`: what it answers.
 use Rattle.td_indices.proofs.SourceStanzas.{kept_packages_are_exact, kept_sources_are_exact}
 use Rattle.td_indices.proofs.laws.stanzas_are_kept_exactly.Goals as goal
 

@@ -1,3 +1,4 @@
+-- `current_number`: what it answers.
 use Rattle.std.proofs.Common.{option_map, sym, ap, ◌∙◌}
 use Rattle.td_rows.proofs.Lists.{slice_get-map}
 use Rattle.td_version.specs.Version.{parts_of}

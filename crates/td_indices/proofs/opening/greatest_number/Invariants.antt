@@ -1,3 +1,4 @@
+-- What the loop of `greatest_number` keeps.
 use Rattle.std.proofs.Common.{◌≡◌, None, drop}
 use Rattle.td_version.specs.Version.{parts_of}
 use Rattle.td_indices.specs.Kept.{binaries_of}

@@ -1,3 +1,4 @@
+-- `rebuild_number`: what it answers.
 use Rattle.std.proofs.Common.{◌≡◌, true, false, ◌∙◌}
 use Rattle.td_indices.proofs.RebuildNumbers.{rebuild_number-is}
 use Rattle.td_indices.proofs.opening.rebuild_number.Goals as goal

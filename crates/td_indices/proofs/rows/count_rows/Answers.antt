@@ -1,3 +1,4 @@
+-- `count_rows`: its loop.
 use Rattle.std.proofs.Common.{ℕ, ◌<◌, ◌+◌, drop, length, sym, ap, ◌∙◌, arith}
 use Rattle.td_relation.specs.TableView.{table}
 use Rattle.td_rows.proofs.Lists.{slice_get-none}

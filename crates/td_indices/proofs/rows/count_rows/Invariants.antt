@@ -1,3 +1,4 @@
+-- What the loop of `count_rows` keeps.
 use Rattle.std.proofs.Common.{◌≡◌, ◌+◌, ◌≤◌, drop}
 use Rattle.td_relation.specs.TableView.{table}
 use Rattle.td_indices.specs.Rows.{row_count}

@@ -1,3 +1,4 @@
+-- `has_row`: its loop.
 use Rattle.std.proofs.Common.{ℕ, List, ◌==◌, not, length}
 use Rattle.std.specs.List.{slice_split}
 use Rattle.td_text.specs.Runs.{is_space}

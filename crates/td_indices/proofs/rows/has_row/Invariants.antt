@@ -1,3 +1,4 @@
+-- What the loop of `has_row` keeps, and what gets less.
 use Rattle.std.proofs.Common.{◌≡◌, ◌&&◌, ◌==◌, not, length}
 use Rattle.std.specs.List.{list_any}
 use Rattle.td_relation.specs.TableView.{table}

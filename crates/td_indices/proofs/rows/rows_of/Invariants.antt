@@ -1,3 +1,4 @@
+-- What the loop of `rows_of` keeps.
 use Rattle.std.proofs.Common.{◌≡◌, ◌≤◌}
 use Rattle.td_relation.specs.TableView.{table}
 use Rattle.td_indices.specs.Rows.{rows_before}

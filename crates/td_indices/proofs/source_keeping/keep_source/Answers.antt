@@ -1,3 +1,4 @@
+-- `keep_source`: what it answers.
 use Rattle.std.proofs.Common.{ℕ, sym, ◌∙◌, ap, List}
 use Rattle.std.specs.Borrow.{Bor}
 use Rattle.td_indices.specs.declared.sourced.Sourced.{Sourced}

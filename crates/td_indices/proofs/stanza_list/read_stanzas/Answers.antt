@@ -1,3 +1,4 @@
+-- `read_stanzas`: the clause `fault`.
 use Rattle.std.proofs.Common.{subst, sym}
 use Rattle.td_text.specs.Lines.{lines_of}
 use Rattle.td_indices.specs.declared.archive_fault.ArchiveFault.{ArchiveFault}

@@ -1,3 +1,4 @@
+-- `read_binaries`: its loop and the clauses `err` and `ok`.
 use Rattle.std.proofs.Common.{◌<◌, Ok, length, ap, sym, ◌∙◌, arith}
 use Rattle.std.specs.declared.hash.FoldHasher.{FoldHasher}
 use Rattle.std.specs.declared.hash.BuildHasherDefault.{BuildHasherDefault}

@@ -1,3 +1,4 @@
+-- What the loop of `read_binaries` keeps.
 use Rattle.std.proofs.Common.{◌≡◌, drop}
 use Rattle.td_relation.specs.TableView.{table}
 use Rattle.td_indices.specs.Kept.{binaries_of}

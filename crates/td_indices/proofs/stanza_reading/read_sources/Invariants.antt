@@ -1,3 +1,4 @@
+-- What the loop of `read_sources` keeps.
 use Rattle.std.proofs.Common.{◌≡◌, drop}
 use Rattle.td_indices.specs.Sources.{sources_of}
 use Rattle.td_indices.specs.Reading.{over_stanzas, source_step, sources_at}

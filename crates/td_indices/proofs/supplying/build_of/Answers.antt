@@ -1,3 +1,4 @@
+-- `build_of`: what it answers.
 use Rattle.std.proofs.Common.{Option, Some, sym, ap, ◌∙◌}
 use Rattle.td_version.specs.Version.{Parts, parts_of}
 use Rattle.td_supply.specs.Supplied.{Built}

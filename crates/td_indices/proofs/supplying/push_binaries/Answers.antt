@@ -1,3 +1,4 @@
+-- `push_binaries`: its loop.
 use Rattle.std.proofs.Common.{◌≡◌, ◌<◌, ◌+◌, Some, option_map, slice_get, drop, length, sym, ap}
 use Rattle.std.proofs.Common.{◌∙◌}
 use Rattle.td_rows.proofs.Lists.{drop-next, slice_get-map, slice_get-none}

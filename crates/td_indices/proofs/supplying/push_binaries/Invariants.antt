@@ -1,3 +1,4 @@
+-- What the loop of `push_binaries` keeps.
 use Rattle.std.proofs.Common.{◌≡◌, drop}
 use Rattle.std.specs.List.{flat_map}
 use Rattle.td_indices.specs.Kept.{binaries_of}

@@ -1,3 +1,4 @@
+-- What the loop of `push_provided` keeps.
 use Rattle.std.proofs.Common.{◌≡◌}
 use Rattle.std.specs.List.{flat_map}
 use Rattle.td_relation.specs.Members.{members}

@@ -1,3 +1,4 @@
+-- `push_sources`: its loop and the call of `push_source`.
 use Rattle.std.proofs.Common.{◌≡◌, ◌<◌, ℕ, List, [], ◌∷◌, Some, option_map, slice_get, length, sym}
 use Rattle.std.proofs.Common.{ap, ◌∙◌}
 use Rattle.std.specs.Borrow.{Bor}

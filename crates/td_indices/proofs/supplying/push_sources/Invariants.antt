@@ -1,3 +1,4 @@
+-- What the loop of `push_sources` keeps.
 use Rattle.std.proofs.Common.{◌≡◌, drop, map, take}
 use Rattle.td_indices.specs.Sources.{sources_of}
 use Rattle.td_indices.specs.Supplying.{listed, with_sources}

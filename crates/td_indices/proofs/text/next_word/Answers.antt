@@ -1,3 +1,4 @@
+-- `next_word`: the clause `words` and the call of `split_at`.
 use Rattle.std.proofs.Common.{ℕ, List, position, sym, ap, ◌∙◌}
 use Rattle.td_text.specs.Runs.{is_space}
 use Rattle.td_indices.proofs.WordCuts.{word_cut, word_none, boundary_here, boundary_behind}

@@ -1,3 +1,4 @@
+-- `an_undo_is_refused_where_blocked`: the clauses `blocked`, `undone` and `won`.
 use Rattle.td_steps.proofs.Books.{blocked_exactly, undone_else}
 use Rattle.td_steps.proofs.Winning.{won_names_the_latest}
 use Rattle.td_steps.proofs.laws.an_undo_is_refused_where_blocked.Goals as goal

@@ -1,3 +1,4 @@
+-- `calls_are_steps`: the clauses `calls`, `opening` and `reopened`.
 use Rattle.td_steps.proofs.Calls.{calls_are_steps, books_are_steps}
 use Rattle.td_steps.proofs.Reopenings.{reopened_books_are_steps}
 use Rattle.td_steps.proofs.laws.calls_are_steps.Goals as goal

@@ -1,3 +1,4 @@
+-- `commands_can_run`: the clauses `decide` and `run`.
 use Rattle.td_steps.proofs.Choices.{worlds_decide, decided_commands_run}
 use Rattle.td_steps.proofs.laws.commands_can_run.Goals as goal
 

@@ -1,3 +1,4 @@
+-- `commands_go_on`: its clauses.
 use Rattle.td_steps.proofs.Stops.{undos_go_on, others_go_on}
 use Rattle.td_steps.proofs.Turns.{commands_go_on, starts_go_on, turns_run}
 use Rattle.td_steps.proofs.laws.commands_go_on.Goals as goal

@@ -1,3 +1,4 @@
+-- `other_calls_are_steps`: its clauses.
 use Rattle.td_steps.proofs.Arrivals.{arrivals_are_steps, sweeps_are_steps}
 use Rattle.td_steps.proofs.Builds.{starts_are_steps, finishes_are_steps}
 use Rattle.td_steps.proofs.Watches.{watches_are_steps}

@@ -1,3 +1,4 @@
+-- `reopenings_are_steps`: the clauses `histories` and `books`.
 use Rattle.td_steps.proofs.Openings.{histories_open}
 use Rattle.td_steps.proofs.Reopenings.{reopenings_are_steps}
 use Rattle.td_steps.proofs.laws.reopenings_are_steps.Goals as goal

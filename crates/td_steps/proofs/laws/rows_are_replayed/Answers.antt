@@ -1,3 +1,4 @@
+-- `rows_are_replayed`: its clauses.
 use Rattle.td_steps.proofs.Books.{entries_stay, watched_stay, rows_are_replayed}
 use Rattle.td_steps.proofs.Lawful.{entries_are_lawful}
 use Rattle.td_steps.proofs.Reopenings.{reopened_are_replayed}

@@ -1,3 +1,4 @@
+-- `runs_are_seen`: what it answers.
 use Rattle.td_steps.proofs.Moves.{runs_are_seen}
 use Rattle.td_steps.proofs.laws.runs_are_seen.Goals as goal
 

@@ -1,3 +1,4 @@
+-- `cut_at`: the clauses `value`, `found` and `none`.
 use Rattle.td_text.proofs.Cut.{cut-from_split, split_found, split_none}
 use Rattle.td_text.proofs.cutting.cut_at.Goals as goal
 

@@ -1,3 +1,4 @@
+-- `part_at`: the clauses `value` and `before`.
 use Rattle.std.proofs.Common.{Some, None, sym}
 use Rattle.std.proofs.lemmas.Str.Pattern.{find_char}
 use Rattle.td_text.proofs.Cut.{part-from_find, part_none, part_front, Without-from_index}

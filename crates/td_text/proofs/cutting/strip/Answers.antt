@@ -1,3 +1,4 @@
+-- `strip`: the clauses `value` and `found`.
 use Rattle.td_text.proofs.Prefix.{strip-from_prefix, prefix_found}
 use Rattle.td_text.proofs.cutting.strip.Goals as goal
 

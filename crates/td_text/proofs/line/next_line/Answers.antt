@@ -1,3 +1,4 @@
+-- `next_line`: the clauses `lines`, `text` and `line`.
 use Rattle.td_text.proofs.Lines.{next_some, next_none, split_now, split_line, split_last}
 use Rattle.td_text.proofs.line.next_line.Goals as goal
 

@@ -1,3 +1,4 @@
+-- `number`: the clause `value`.
 use Rattle.std.proofs.Common.{sym, ◌∙◌, refl, arith}
 use Rattle.std.proofs.lemmas.Bool.{le-leb, lt-leb}
 use Rattle.td_text.proofs.Numbers.{spare_front, parsed, not_parsed}

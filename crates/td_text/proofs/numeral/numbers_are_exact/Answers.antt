@@ -1,3 +1,4 @@
+-- `numbers_are_exact`: the clauses `numbers` and `signed`.
 use Rattle.td_text.proofs.Numbers.{number_exact}
 use Rattle.td_text.proofs.SignedNumbers.{signed_exact}
 use Rattle.td_text.proofs.numeral.numbers_are_exact.Goals as goal

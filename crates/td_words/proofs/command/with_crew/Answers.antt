@@ -1,3 +1,4 @@
+-- `with_crew`: the clause `app`.
 use Rattle.std.proofs.Common.{ap, subst, ◌≡◌, ◌∙◌}
 use Rattle.std.specs.Result.{IfOk}
 use Rattle.std.specs.Prelude.{codes}

@@ -1,3 +1,4 @@
+-- `words_of_a_run_ask_for_it`: its clauses.
 use Rattle.td_words.proofs.Asking.{asks_for_plain_run, asks_for_whole_run, run_explains}
 use Rattle.td_words.proofs.WordsApart.{asks_for_plain_run_apart, asks_for_whole_run_apart}
 use Rattle.td_words.proofs.laws.words_of_a_run_ask_for_it.Goals as goal

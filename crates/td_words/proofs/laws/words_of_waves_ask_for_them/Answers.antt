@@ -1,3 +1,4 @@
+-- `words_of_waves_ask_for_them`: the clauses `joined`, `separate` and `explained`.
 use Rattle.td_words.proofs.Asking.{asks_for_waves, waves_explain}
 use Rattle.td_words.proofs.WordsApart.{asks_for_waves_apart}
 use Rattle.td_words.proofs.laws.words_of_waves_ask_for_them.Goals as goal

@@ -1,3 +1,4 @@
+-- `read_words`: its clauses.
 use Rattle.std.proofs.Common.{◌≡◌, map, string_bytes, [], true, sym, refl, ap, subst, IfOk, ◌∙◌}
 use Rattle.std.proofs.lemmas.Result.{IfOk-weaker}
 use Rattle.clap.specs.Kinds.{HasKind}

@@ -1,3 +1,4 @@
+-- `request_in`: its clauses.
 use Rattle.std.proofs.Common.{subst}
 use Rattle.td_words.specs.CommandLine.{HasFiles, HasRun, HasTrack, HasTracker}
 use Rattle.td_words.proofs.Asking.{rows_of_matches}

@@ -1,3 +1,4 @@
+-- `Book::command`: what it answers and the call of `enter`.
 use Rattle.std.proofs.Common.{List, filter, ap, sym, ◌∙◌}
 use Rattle.td_rows.specs.declared.key.Key.{Key}
 use Rattle.td_rows.specs.Keys.{ascending, names}

@@ -1,3 +1,4 @@
+-- `Book::ending`: the clause `ending` and the call of `plan`.
 use Rattle.std.proofs.Common.{◌≡◌, slice_get, ap, sym, subst, ◌∙◌}
 use Rattle.td_rows.specs.declared.kind.Kind.TheVariants.{Outcome as Ended}
 use Rattle.td_rows.specs.Keys.{ascending}

@@ -1,3 +1,4 @@
+-- `Book::enter`: what it answers and the calls of `commit-entry` and `offer_each`.
 use Rattle.std.proofs.Common.{◌≡◌, List, [], sym, ap, subst, ◌∙◌}
 use Rattle.td_rows.specs.declared.key.Key.{Key}
 use Rattle.td_core.specs.History.{rows_of}

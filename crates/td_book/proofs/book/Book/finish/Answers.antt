@@ -1,3 +1,4 @@
+-- `Book::finish`: the calls of `finish_held` and `finish_again`.
 use Rattle.std.proofs.Common.{◌≡◌, [], length, ap, sym, ◌∙◌, arith}
 use Rattle.td_board.specs.Seats.{rows_of as board_rows}
 use Rattle.td_core.specs.History.{rows_of}

@@ -1,3 +1,4 @@
+-- `Book::finish_again`: what it answers and the call of `close`.
 use Rattle.std.proofs.Common.{◌≡◌, ◌+◌, List, length, slice_get, ap, refl, sym, ◌∙◌, rules}
 use Rattle.td_rows.specs.declared.key.Key.{Key}
 use Rattle.td_rows.specs.Keys.{ascending}

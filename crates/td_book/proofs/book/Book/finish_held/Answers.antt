@@ -1,3 +1,4 @@
+-- `Book::finish_held`: the clause `outcome` and the call of `finish-ended`.
 use Rattle.std.proofs.Common.{Result, ap, sym, subst, ◌∙◌, ℕ}
 use Rattle.td_rows.specs.declared.outcome.Outcome.{Outcome}
 use Rattle.td_book.specs.declared.finishing.FinishRefusal.{FinishRefusal}

@@ -1,3 +1,4 @@
+-- `Book::start`: what it answers and the call of `job`.
 use Rattle.std.proofs.Common.{◌≡◌, ℕ, [], Ok, Err, Result, length, ap, sym, subst, ◌∙◌, arith}
 use Rattle.td_board.specs.declared.views.Hand.{Hand}
 use Rattle.td_board.specs.declared.views.Hand.TheVariants.{Holding}

@@ -1,3 +1,4 @@
+-- `Book::watch_over`: what it answers.
 use Rattle.std.proofs.Common.{◌≡◌, List, ℕ, None, map, ap, sym, subst, ◌∙◌}
 use Rattle.td_rows.specs.declared.key.Key.{Key}
 use Rattle.td_rows.specs.Table.{Table, keys_of}

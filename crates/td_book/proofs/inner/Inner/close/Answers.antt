@@ -1,3 +1,4 @@
+-- `Inner::close`: the clause `history` and the calls of `settle` and `offer_each`.
 use Rattle.std.proofs.Common.{◌≡◌, ℕ, ◌≤◌, ◌∷◌, List, [], Some, true, set, ap, sym, subst, ◌∙◌}
 use mathlib.Core.Option.{some}
 use lib.ListN.{get_elem?}

@@ -1,3 +1,4 @@
+-- `Inner::finish`: the clauses `none` and `some` and the calls of `know` and `close`.
 use Rattle.std.proofs.Common.{◌≡◌, ℕ, ◌∷◌, List, [], Some, Bool, IfSome, slice_get, ap, refl, sym}
 use Rattle.std.proofs.Common.{subst, ◌∙◌, arith, rules, inl}
 use Rattle.td_rows.specs.declared.key.Key.{Key}

@@ -1,3 +1,4 @@
+-- What `Inner::finish` calls its callees with, for their ghost members.
 use Rattle.td_book.specs.Building.{head_key}
 use Rattle.td_book.proofs.inner.Inner.finish.Given as goal
 

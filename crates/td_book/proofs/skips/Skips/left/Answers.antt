@@ -1,3 +1,4 @@
+-- `Skips::left`: what it answers.
 use Rattle.std.proofs.Common.{◌≡◌, filter, map, ap, ◌∙◌, rules}
 use Rattle.std.proofs.lemmas.Fn.{filter_same}
 use Rattle.td_book.specs.Skips.{is_left, renewed}

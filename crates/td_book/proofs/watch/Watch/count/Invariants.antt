@@ -1,3 +1,4 @@
+-- What the loop of `Watch::count` keeps.
 use Rattle.std.proofs.Common.{◌≡◌, length}
 use Rattle.td_book.proofs.Tallies.{AreCounted}
 use Rattle.td_book.proofs.watch.Watch.count.Given as goal

@@ -1,3 +1,4 @@
+-- `Watch::entered`: the clause `counts` and the calls of `lower_each` and `raise_each`.
 use Rattle.std.proofs.Common.{◌≡◌, ◌∙◌, List, Some, None, false, true, ap, sym, subst}
 use Rattle.td_rows.specs.declared.key.Key.{Key}
 use Rattle.td_rows.specs.Table.{Table}

@@ -1,3 +1,4 @@
+-- `Watch::lower_each`: its loop and the call of `lower`.
 use Rattle.std.proofs.Common.{◌≡◌, Some, None, List, Option, ℕ, length, drop, ◌+◌, true, false, ap}
 use Rattle.std.proofs.Common.{sym, subst, ◌∙◌, arith, refl}
 use Rattle.td_rows.specs.declared.key.Key.{Key}

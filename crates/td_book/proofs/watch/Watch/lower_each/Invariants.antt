@@ -1,3 +1,4 @@
+-- What the loop of `Watch::lower_each` keeps.
 use Rattle.std.proofs.Common.{◌≡◌, drop, length}
 use Rattle.td_book.specs.inner.Tallies.{AreTallied, or_named}
 use Rattle.td_book.proofs.watch.Watch.lower_each.Given as goal

@@ -1,3 +1,4 @@
+-- `Watch::raise_each`: its loop and the call of `raise`.
 use Rattle.std.proofs.Common.{◌≡◌, Some, None, List, Option, ℕ, length, drop, ◌+◌, true, false, ap}
 use Rattle.std.proofs.Common.{sym, subst, ◌∙◌, arith, refl}
 use Rattle.td_rows.specs.declared.key.Key.{Key}

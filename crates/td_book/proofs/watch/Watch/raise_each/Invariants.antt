@@ -1,3 +1,4 @@
+-- What the loop of `Watch::raise_each` keeps.
 use Rattle.std.proofs.Common.{◌≡◌, drop, length}
 use Rattle.td_book.specs.inner.Tallies.{AreTallied, but_named}
 use Rattle.td_book.proofs.watch.Watch.raise_each.Given as goal

@@ -1,3 +1,4 @@
+-- `Outcomes::read`: the clause `found`.
 use Rattle.std.proofs.Common.{List, map, ap, ◌∙◌}
 use Rattle.td_builder.specs.declared.key_line.KeyLine.{KeyLine}
 use Rattle.td_builder.proofs.KeyLists.{codes_numbered}

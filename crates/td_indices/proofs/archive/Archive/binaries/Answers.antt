@@ -1,3 +1,4 @@
+-- `Archive::binaries`: what it answers.
 use Rattle.std.proofs.Common.{◌≡◌, ℕ, Bool, ◌&&◌, List, false, filter, slice_get, ap, ◌∙◌, refl}
 use Rattle.std.specs.Option.{option_map_or}
 use Rattle.td_relation.specs.Meeting.{is_on}

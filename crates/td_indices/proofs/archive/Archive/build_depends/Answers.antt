@@ -1,3 +1,4 @@
+-- `Archive::build_depends`: the clauses `read` and `asked` and the call of `read_again`.
 use Rattle.std.proofs.Common.{◌≡◌, Ok, subst}
 use Rattle.std.specs.Prelude.{codes}
 use Rattle.td_stanza.specs.Table.{fields_of}

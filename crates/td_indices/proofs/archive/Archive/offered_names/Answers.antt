@@ -1,3 +1,4 @@
+-- `Archive::offered_names`: what it answers.
 use Rattle.std.proofs.Common.{◌≡◌, [], Option, Some, option_map, slice_get, sym, ap, ◌∙◌}
 use Rattle.std.specs.Option.{option_map_or}
 use Rattle.td_rows.proofs.Lists.{slice_get-map}

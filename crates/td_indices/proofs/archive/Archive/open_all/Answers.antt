@@ -1,3 +1,4 @@
+-- `Archive::open_all`: its loop, the clauses `rows` and `few` and the call of `open_source`.
 use Rattle.std.proofs.Common.{◌≡◌, ◌&&◌, ◌<◌, ◌≤◌, ◌+◌, ℕ, List, length, slice_get, subst, ap, ◌∙◌}
 use Rattle.std.proofs.Common.{arith, refl}
 use Rattle.td_relation.specs.Table.{IsApart}

@@ -1,3 +1,4 @@
+-- `Archive::open_at`: the clause `rows` and the call of `from_lines`.
 use Rattle.std.proofs.Common.{◌≡◌, Some, option_map, slice_get, sym, ap, ◌∙◌, refl}
 use Rattle.td_relation.specs.Arch.{ArchWords}
 use Rattle.td_rows.proofs.NoteLines.{has_newline-Without}

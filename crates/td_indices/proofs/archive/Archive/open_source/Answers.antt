@@ -1,3 +1,4 @@
+-- `Archive::open_source`: its loop and the clauses `rows` and `few`.
 use Rattle.std.proofs.Common.{◌≡◌, ◌<◌, ◌≤◌, ◌&&◌, true, false, length, sym, subst, ap, ◌∙◌, arith}
 use Rattle.std.proofs.Common.{◌+◌, ℕ, Bool}
 use Rattle.std.specs.Str.{bytes_eq}

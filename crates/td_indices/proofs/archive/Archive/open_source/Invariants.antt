@@ -1,3 +1,4 @@
+-- What the loop of `Archive::open_source` keeps.
 use Rattle.std.proofs.Common.{◌≡◌, ◌+◌, ◌≤◌, ◌&&◌, length}
 use Rattle.std.specs.Str.{bytes_eq}
 use Rattle.td_rows.specs.declared.key.Key.{Key}

@@ -1,3 +1,4 @@
+-- `Archive::opening_row`: what it answers.
 use Rattle.std.proofs.Common.{◌≡◌, None, Some, sym, ap, ◌∙◌}
 use Rattle.td_relation.specs.TableView.{table}
 use Rattle.td_relation.specs.Table.{place_of}

@@ -1,3 +1,4 @@
+-- `Archive::opening_rows`: the clauses `count`, `free` and `known`.
 use Rattle.std.proofs.Common.{◌≡◌, Ok, subst}
 use Rattle.td_relation.specs.Table.{IsApart}
 use Rattle.td_rows.specs.Table.{row_of}

@@ -1,3 +1,4 @@
+-- `Archive::packages_of`: the clause `within`.
 use Rattle.std.proofs.Common.{◌≡◌, ◌≤◌, ◌+◌, ◌<◌, ℕ, List, length, subst, sym, ap, ◌∙◌, arith}
 use Rattle.std.specs.List.{AllByRecursion}
 use Rattle.td_indices.specs.Archive.{Contents, is_of, numbers_of}

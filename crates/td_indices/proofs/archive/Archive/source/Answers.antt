@@ -1,3 +1,4 @@
+-- `Archive::source`: what it answers.
 use Rattle.std.proofs.Common.{option_map, sym, ap, ◌∙◌}
 use Rattle.td_indices.specs.Archive.{Contents, source_named}
 use Rattle.td_indices.specs.Seen.{shown_source}

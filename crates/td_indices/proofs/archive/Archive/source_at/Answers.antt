@@ -1,3 +1,4 @@
+-- `Archive::source_at`: the clause `legal`.
 use Rattle.std.proofs.Common.{sym}
 use Rattle.td_indices.proofs.LegalNames.{legal_at}
 use Rattle.td_indices.proofs.archive.Archive.source_at.Goals as goal

@@ -1,3 +1,4 @@
+-- `Archive::source_number`: the clause `number`.
 use Rattle.std.proofs.Common.{ℕ, List, Bor, sym, ap, ◌∙◌}
 use Rattle.std.specs.Str.{bytes_eq}
 use Rattle.td_relation.proofs.Lists.{position-map}

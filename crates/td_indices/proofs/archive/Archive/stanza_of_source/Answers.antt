@@ -1,3 +1,4 @@
+-- `Archive::stanza_of_source`: the clause `there` and the call of `unwrap`.
 use Rattle.std.proofs.Common.{◌≡◌, ℕ, List, Bor, Some, option_map, slice_get, sym, ap, ◌∙◌}
 use Rattle.std.specs.Map.Iter.{deref_pair}
 use Rattle.td_rows.proofs.Lists.{slice_get-map}

@@ -1,3 +1,4 @@
+-- `Archive::supply`: the call of `stocked`.
 use Rattle.td_indices.specs.Sources.{sources_of}
 use Rattle.td_indices.proofs.CountingLaws.{greatest_sources}
 use Rattle.td_indices.proofs.OpeningLaws.{all_read}
