@@ -23,7 +23,7 @@ use Rattle.td_waves.specs.Waves.{BuildsOn}
 use Rattle.td_waves.specs.Waves as of_waves
 use Rattle.td_report.specs.declared.item.Item.{Item}
 use Rattle.td_text.specs.Lines.{text_of}
-use Rattle.td_report.specs.ItemLines.{report_lines, seen, waves}
+use Rattle.td_report.specs.inner.ItemLines.{report_lines, seen, waves}
 use Rattle.td_report.proofs.SeenRows.{lines-seen, waves-seen}
 use Rattle.td_report.specs.Report as report
 use Rattle.td_report.specs.Report.{AffectedRow}

@@ -11,9 +11,9 @@ use Rattle.std.proofs.lemmas.Grind.{get_or-set_at}
 use Rattle.std.proofs.lemmas.List.{map-set, get_or-map, length-map, append-nil}
 use Rattle.td_report.specs.declared.grouping.Grouped.{Grouped}
 use Rattle.td_report.specs.declared.item.Item.{Item}
-use Rattle.td_report.specs.Blocks.{AreGroupedCounts}
-use Rattle.td_report.specs.Grouped.{AreByLevel, list_at}
-use Rattle.td_report.specs.ItemLines.{AreCountsOf, is_installed}
+use Rattle.td_report.specs.inner.Blocks.{AreGroupedCounts}
+use Rattle.td_report.specs.inner.Grouped.{AreByLevel, list_at}
+use Rattle.td_report.specs.inner.ItemLines.{AreCountsOf, is_installed}
 
 pub list_at-push : (vs : List (Vec Item)) (b : ℕ) (x : Item) (old new : Vec Item) → b < length vs
     → old ≡ get_or vs b old → new.items ≡ old.items ++ x ∷ []

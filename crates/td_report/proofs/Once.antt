@@ -4,7 +4,7 @@ use Rattle.std.proofs.Common.{map, take, length, get_or, ◌<◌, ◌+◌, refl,
 use Rattle.std.proofs.Common.{if◌then◌else◌}
 use Rattle.std.proofs.lemmas.List.{append-nil, map-append, take_more}
 use Rattle.td_report.specs.declared.item.Item.{Item}
-use Rattle.td_report.specs.ItemLines.{source_of}
+use Rattle.td_report.specs.inner.ItemLines.{source_of}
 use Rattle.td_text.specs.Lines.{text_of}
 use Rattle.td_report.specs.Report.{each_once, is_last}
 use Rattle.td_report.proofs.Texts.{text_of-append}

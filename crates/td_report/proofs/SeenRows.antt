@@ -15,8 +15,8 @@ use Rattle.td_query.specs.declared.status.Status.TheVariants.{Good, Bad, Partial
 use Rattle.td_report.specs.Report.{AffectedRow, AreInstalledCounts, each_once, head_line}
 use Rattle.td_report.specs.Report.{level_words, levels, row_line, title_line}
 use Rattle.td_report.specs.Report as report
-use Rattle.td_report.specs.ItemLines.{AreCountsOf, block_at, block_of, blocks, installed_at}
-use Rattle.td_report.specs.ItemLines.{last_line, report_lines, seen, wave_at, wave_of, waves}
+use Rattle.td_report.specs.inner.ItemLines.{AreCountsOf, block_at, block_of, blocks, installed_at}
+use Rattle.td_report.specs.inner.ItemLines.{last_line, report_lines, seen, wave_at, wave_of, waves}
 
 filter-map : {A B : Type 0} (f : A → B) (test : B → Bool) (xs : List A)
     → filter test (map f xs) ≡ map f (filter (λ x. test (f x)) xs)

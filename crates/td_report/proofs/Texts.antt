@@ -10,9 +10,9 @@ use Rattle.td_waves.specs.declared.level.Level.{Level}
 use Rattle.td_waves.specs.declared.level.Level.TheVariants.{At}
 use Rattle.td_report.specs.declared.block.Block.{Block}
 use Rattle.td_report.specs.declared.item.Item.{Item}
-use Rattle.td_report.specs.Blocks.{AreBlocks, Told, texts_of, told, told_at}
-use Rattle.td_report.specs.ItemLines.{is_installed, item_line, stands_at}
-use Rattle.td_report.specs.LinesText.{lines_text}
+use Rattle.td_report.specs.inner.Blocks.{AreBlocks, BlockValue, texts_of, value_at, value_of}
+use Rattle.td_report.specs.inner.ItemLines.{is_installed, item_line, stands_at}
+use Rattle.td_report.specs.inner.LinesText.{lines_text}
 use Rattle.td_report.specs.Report.{levels}
 use Rattle.td_report.proofs.Splits.{flat_map-map}
 
@@ -30,33 +30,34 @@ pub levels-more : (n : ℕ)
     → map At (range_with_len 1 (n + 1)) ≡ map At (range_with_len 1 n) ++ At (n + 1) ∷ []
 levels-more n = map-range_with_len_more At 1 n (n + 1) (omega arith)
 
--- what a block tells of a level
-pub told-block : (items : List Item) (level : Level) (b : Block) → b.level ≡ level
+-- a block of a level, by its parts
+pub value-block : (items : List Item) (level : Level) (b : Block) → b.level ≡ level
     → b.items.now ≡ filter (stands_at level) items → b.installed ≡ count_by is_installed b.items.now
-    → told b ≡ told_at items level
-told-block items level b at mine count = λ i. record {
+    → value_of b ≡ value_at items level
+value-block items level b at mine count = λ i. record {
   level = at i;
   items = mine i;
   installed = (count ∙ ap (count_by is_installed) mine) i;
 }
 
 -- one block more
-pub told-more : (items : List Item) (ls : List Level) (level : Level) (bs new : List Block)
-    (b : Block) → new ≡ bs ++ b ∷ [] → told b ≡ told_at items level
-    → map told bs ≡ map (told_at items) ls → map told new ≡ map (told_at items) (ls ++ level ∷ [])
-told-more items ls level bs new b is one so =
-    ap (map told) is ∙ map-append told bs (b ∷ [])
-    ∙ ap (λ (ts : List Told). ts ++ told b ∷ []) so
-    ∙ ap (λ (t : Told). map (told_at items) ls ++ t ∷ []) one
-    ∙ sym (map-append (told_at items) ls (level ∷ []))
+pub values-more : (items : List Item) (ls : List Level) (level : Level) (bs new : List Block)
+    (b : Block) → new ≡ bs ++ b ∷ [] → value_of b ≡ value_at items level
+    → map value_of bs ≡ map (value_at items) ls
+    → map value_of new ≡ map (value_at items) (ls ++ level ∷ [])
+values-more items ls level bs new b is one so =
+    ap (map value_of) is ∙ map-append value_of bs (b ∷ [])
+    ∙ ap (λ (ts : List BlockValue). ts ++ value_of b ∷ []) so
+    ∙ ap (λ (t : BlockValue). map (value_at items) ls ++ t ∷ []) one
+    ∙ sym (map-append (value_at items) ls (level ∷ []))
 
 -- the text of one block more
-pub texts-more : (lines : Told → List (List ℕ)) (bs : List Block) (i : ℕ) (b : Block)
+pub texts-more : (lines : BlockValue → List (List ℕ)) (bs : List Block) (i : ℕ) (b : Block)
     (start now after : List ℕ) → i < length bs → b ≡ get_or bs i b
-    → after ≡ now ++ text_of (lines (told b)) → now ≡ start ++ texts_of lines (take i bs)
+    → after ≡ now ++ text_of (lines (value_of b)) → now ≡ start ++ texts_of lines (take i bs)
     → after ≡ start ++ texts_of lines (take (i + 1) bs)
 texts-more lines bs i b start now after lt is put so =
-    let own = λ (x : Block). text_of (lines (told x)) in
+    let own = λ (x : Block). text_of (lines (value_of x)) in
     let more : texts_of lines (take (i + 1) bs) ≡ texts_of lines (take i bs) ++ own b =
     ap (flat_map own) (take_more bs i b lt)
     ∙ flat_map-append own (take i bs) (get_or bs i b ∷ [])
@@ -66,18 +67,27 @@ texts-more lines bs i b start now after lt is put so =
     ∙ append_assoc start (texts_of lines (take i bs)) (own b)
     ∙ ap (λ (t : List ℕ). start ++ t) (sym more)
 
-texts-levels : (lines : Told → List (List ℕ)) (items : List Item) (ls : List Level)
-    → flat_map (λ t. text_of (lines t)) (map (told_at items) ls)
-    ≡ text_of (flat_map (λ l. lines (told_at items l)) ls)
+texts-levels : (lines : BlockValue → List (List ℕ)) (items : List Item) (ls : List Level)
+    → flat_map (λ t. text_of (lines t)) (map (value_at items) ls)
+    ≡ text_of (flat_map (λ l. lines (value_at items l)) ls)
 texts-levels lines items [] = refl
 texts-levels lines items (l ∷ ls) =
-    ap (λ (t : List ℕ). text_of (lines (told_at items l)) ++ t) (texts-levels lines items ls)
-    ∙ sym (text_of-append (lines (told_at items l)) (flat_map (λ l. lines (told_at items l)) ls))
+    ap (λ (t : List ℕ). text_of (lines (value_at items l)) ++ t) (texts-levels lines items ls)
+    ∙ sym (text_of-append (lines (value_at items l)) (flat_map (λ l. lines (value_at items l)) ls))
 
 -- the texts of all blocks are that of the levels' lines
-pub texts-blocks : (lines : Told → List (List ℕ)) (depth : ℕ) (items : List Item)
+texts-blocks : (lines : BlockValue → List (List ℕ)) (depth : ℕ) (items : List Item)
     (bs : List Block) → AreBlocks depth items bs
-    → texts_of lines bs ≡ text_of (flat_map (λ l. lines (told_at items l)) (levels depth))
+    → texts_of lines bs ≡ text_of (flat_map (λ l. lines (value_at items l)) (levels depth))
 texts-blocks lines depth items bs are =
-    flat_map-map (λ t. text_of (lines t)) told bs ∙ ap (flat_map (λ t. text_of (lines t))) are
+    flat_map-map (λ t. text_of (lines t)) value_of bs ∙ ap (flat_map (λ t. text_of (lines t))) are
     ∙ texts-levels lines items (levels depth)
+
+-- and so they are where they were put behind a text, from where they were read
+pub blocks-put : (lines : BlockValue → List (List ℕ)) (depth : ℕ) (items : List Item)
+    (bs now : List Block) (start after : List ℕ) → AreBlocks depth items bs → now ≡ bs
+    → after ≡ start ++ texts_of lines now
+    → after ≡ start ++ text_of (flat_map (λ l. lines (value_at items l)) (levels depth))
+blocks-put lines depth items bs now start after are same put =
+    put ∙ ap (λ (t : List ℕ). start ++ t)
+    (ap (texts_of lines) same ∙ texts-blocks lines depth items bs are)

@@ -1,8 +1,8 @@
 //! What a report says of one level.
 ghost use Rattle.std.specs.Prelude.{◌≡◌, ℕ, IfOk, IfSome, List, Some, count_by, slice_get};
-ghost use Rattle.td_report.specs.Blocks.{AreBlocks, AreGroupedCounts};
-ghost use Rattle.td_report.specs.Grouped.{AreByLevel};
-ghost use Rattle.td_report.specs.ItemLines.{is_installed};
+ghost use Rattle.td_report.specs.inner.Blocks.{AreBlocks, AreGroupedCounts};
+ghost use Rattle.td_report.specs.inner.Grouped.{AreByLevel};
+ghost use Rattle.td_report.specs.inner.ItemLines.{is_installed};
 
 use crate::counting::count_installed;
 use crate::grouping::Grouped;
@@ -20,7 +20,8 @@ pub struct Block<'g, 'r> {
 
 // How many of the rows with a group's number are Installed: what is given, or else counted.
 fn installed(items: &[Item<'_>], counts: Option<&[usize]>, group: usize) -> usize
-    requires { IfSome counts (λ cs. slice_get cs.now group ≡ Some (count_by is_installed items.now)) }
+    requires { IfSome counts (λ cs.
+        slice_get cs.now group ≡ Some (count_by is_installed items.now)) }
     ensures { result ≡ count_by is_installed items.now }
 {
     match counts {

@@ -1,6 +1,6 @@
 //! How many rows are counted in a report.
 ghost use Rattle.std.specs.Prelude.{◌≡◌, count_by};
-ghost use Rattle.td_report.specs.ItemLines.{has_status, is_installed};
+ghost use Rattle.td_report.specs.inner.ItemLines.{has_status, is_installed};
 
 use crate::item::Item;
 use td_query::Status;

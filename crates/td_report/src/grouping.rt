@@ -2,7 +2,7 @@
 ghost use Rattle.std.specs.Prelude.{◌≡◌, ℕ, ◌+◌, ◌<◌, ◌++◌, ◌∷◌, ◌==◌, [], IfOk, OnOk, length};
 ghost use Rattle.std.specs.Prelude.{if◌then◌else◌};
 ghost use Rattle.td_waves.specs.declared.level.Level.{Level};
-ghost use Rattle.td_report.specs.Grouped.{AreByLevel, list_at};
+ghost use Rattle.td_report.specs.inner.Grouped.{AreByLevel, list_at};
 ghost use Rattle.td_report.specs.Report.{is_level};
 
 use crate::item::Item;
@@ -49,8 +49,8 @@ impl<'r> Grouped<'r> {
     ghost use Rattle.std.specs.Prelude.{◌≡◌, ℕ, ◌+◌, ◌<◌, ◌++◌, ◌∷◌, [], OnOk, length};
     ghost use Rattle.std.specs.Prelude.{if◌then◌else◌};
     ghost use Rattle.td_waves.specs.declared.level.Level.{Level};
-    ghost use Rattle.td_report.specs.Grouped.{list_at};
-    ghost use Rattle.td_report.specs.ItemLines.{stands_at};
+    ghost use Rattle.td_report.specs.inner.Grouped.{list_at};
+    ghost use Rattle.td_report.specs.inner.ItemLines.{stands_at};
 
     // Adds a row behind the others of its level.
     fn push(&mut self, item: Item<'r>) -> Result<(), AllocError>

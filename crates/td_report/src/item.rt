@@ -17,7 +17,7 @@ pub struct Item<'r> {
 
 impl<'r> Item<'r> {
     ghost use Rattle.std.specs.Prelude.{◌≡◌};
-    ghost use Rattle.td_report.specs.ItemLines.{has_status, is_installed};
+    ghost use Rattle.td_report.specs.inner.ItemLines.{has_status, is_installed};
 
     /// Whether the row is Installed.
     pub fn is_installed(&self) -> bool

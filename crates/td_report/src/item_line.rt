@@ -2,7 +2,7 @@
 ghost use Rattle.std.specs.Prelude.{◌≡◌, ◌++◌, ◌∷◌, [], OnOk, decimal, string_bytes};
 ghost use Rattle.std.specs.Fmt.{signed_decimal};
 ghost use Rattle.td_rows.specs.StateWord.{state_word};
-ghost use Rattle.td_report.specs.ItemLines.{item_line};
+ghost use Rattle.td_report.specs.inner.ItemLines.{item_line};
 
 use crate::item::Item;
 use std::alloc::AllocError;

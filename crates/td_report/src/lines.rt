@@ -1,6 +1,6 @@
 //! The lines of affected rows.
 ghost use Rattle.std.specs.Prelude.{◌≡◌, IfOk, string_bytes};
-ghost use Rattle.td_report.specs.LinesText.{lines_text};
+ghost use Rattle.td_report.specs.inner.LinesText.{lines_text};
 
 use crate::item::Item;
 use crate::item_line::put_item_line;

@@ -2,9 +2,9 @@
 ghost use Rattle.std.specs.Prelude.{◌≡◌, ◌≤◌, ◌++◌, IfOk, IfSome, OnOk, string_bytes};
 ghost use Rattle.std.specs.List.{flat_map};
 ghost use Rattle.td_text.specs.Lines.{text_of};
-ghost use Rattle.td_report.specs.Blocks.{block_lines, texts_of, told};
-ghost use Rattle.td_report.specs.ItemLines.{AreCountsOf, blocks as blocks_of, report_lines};
-ghost use Rattle.td_report.specs.LinesText.{lines_text};
+ghost use Rattle.td_report.specs.inner.Blocks.{block_lines, texts_of, value_of};
+ghost use Rattle.td_report.specs.inner.ItemLines.{AreCountsOf, blocks as blocks_of, report_lines};
+ghost use Rattle.td_report.specs.inner.LinesText.{lines_text};
 
 use crate::block::{Block, blocks};
 use crate::grouping::by_level;
@@ -73,8 +73,8 @@ fn put_split_block(
     chunk: usize,
 ) -> Result<(), AllocError>
     requires { 1 ≤ chunk }
-    ensures { OnOk result
-        (string_bytes out.new ≡ string_bytes out.old ++ text_of (block_lines (told block.now))) }
+    ensures { OnOk result (string_bytes out.new
+        ≡ string_bytes out.old ++ text_of (block_lines (value_of block.now))) }
 {
     let lines = split_lines(rt, alloc, block.items, chunk)?;
     put_block(out, block, &lines)

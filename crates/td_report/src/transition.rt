@@ -28,7 +28,7 @@ impl<'b, 't, 'a, 'q> Transition<'b, 't, 'a, 'q> {
     ghost use Rattle.td_query.specs.Statuses.{status_of};
     ghost use Rattle.td_query.specs.Tracking.{tracking};
     ghost use Rattle.td_report.specs.Groups.{AreCounts};
-    ghost use Rattle.td_report.specs.ItemLines.{seen};
+    ghost use Rattle.td_report.specs.inner.ItemLines.{seen};
     ghost use Rattle.td_report.specs.Transition.{IsReport, IsWaves, affected_row, affected_rows};
     ghost use Rattle.td_report.specs.TransitionView as of;
 

@@ -1,8 +1,8 @@
 //! The text of waves: the sources of each level.
 ghost use Rattle.std.specs.Prelude.{◌≡◌, ◌++◌, None, IfOk, OnOk, map, option_map, string_bytes};
 ghost use Rattle.td_text.specs.Lines.{text_of};
-ghost use Rattle.td_report.specs.Blocks.{texts_of, told, wave_lines};
-ghost use Rattle.td_report.specs.ItemLines.{source_of, waves};
+ghost use Rattle.td_report.specs.inner.Blocks.{texts_of, value_of, wave_lines};
+ghost use Rattle.td_report.specs.inner.ItemLines.{source_of, waves};
 ghost use Rattle.td_report.specs.Report.{each_once, is_last as is_last_of};
 
 use crate::block::{Block, blocks};
@@ -40,7 +40,7 @@ fn put_sources(out: &mut String, items: &[Item<'_>]) -> Result<(), AllocError>
 // Appends the lines of a block.
 fn put_wave(out: &mut String, block: &Block<'_, '_>) -> Result<(), AllocError>
     ensures { OnOk result
-        (string_bytes out.new ≡ string_bytes out.old ++ text_of (wave_lines (told block.now))) }
+        (string_bytes out.new ≡ string_bytes out.old ++ text_of (wave_lines (value_of block.now))) }
 {
     if block.items.is_empty() {
         return Ok(());

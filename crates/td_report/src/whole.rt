@@ -1,9 +1,9 @@
 //! A report, made in one go.
 ghost use Rattle.std.specs.Prelude.{◌≡◌, ◌++◌, IfOk, IfSome, OnOk, string_bytes};
 ghost use Rattle.td_text.specs.Lines.{text_of};
-ghost use Rattle.td_report.specs.Blocks.{block_lines, texts_of, told};
-ghost use Rattle.td_report.specs.ItemLines.{AreCountsOf, blocks as blocks_of, report_lines};
-ghost use Rattle.td_report.specs.LinesText.{lines_text};
+ghost use Rattle.td_report.specs.inner.Blocks.{block_lines, texts_of, value_of};
+ghost use Rattle.td_report.specs.inner.ItemLines.{AreCountsOf, blocks as blocks_of, report_lines};
+ghost use Rattle.td_report.specs.inner.LinesText.{lines_text};
 
 use crate::block::{Block, blocks};
 use crate::grouping::by_level;
@@ -15,8 +15,8 @@ use std::alloc::{AllocError, Global};
 /// Appends the lines of a block, of whose rows these are the lines.
 pub fn put_block(out: &mut String, block: &Block<'_, '_>, lines: &str) -> Result<(), AllocError>
     requires { lines.now ≡ lines_text block.now.items.now }
-    ensures { OnOk result
-        (string_bytes out.new ≡ string_bytes out.old ++ text_of (block_lines (told block.now))) }
+    ensures { OnOk result (string_bytes out.new
+        ≡ string_bytes out.old ++ text_of (block_lines (value_of block.now))) }
 {
     if block.items.is_empty() {
         return Ok(());
@@ -26,8 +26,8 @@ pub fn put_block(out: &mut String, block: &Block<'_, '_>, lines: &str) -> Result
 }
 
 fn put_whole_block(alloc: Global, out: &mut String, block: &Block<'_, '_>) -> Result<(), AllocError>
-    ensures { OnOk result
-        (string_bytes out.new ≡ string_bytes out.old ++ text_of (block_lines (told block.now))) }
+    ensures { OnOk result (string_bytes out.new
+        ≡ string_bytes out.old ++ text_of (block_lines (value_of block.now))) }
 {
     let lines = lines_of(alloc, block.items)?;
     put_block(out, block, &lines)

@@ -1,6 +1,6 @@
 //! The lines of a report but for those of its rows.
 ghost use Rattle.std.specs.Prelude.{◌≡◌, ◌++◌, ◌∷◌, [], OnOk, codes, decimal, string_bytes};
-ghost use Rattle.td_report.specs.ItemLines.{last_line};
+ghost use Rattle.td_report.specs.inner.ItemLines.{last_line};
 ghost use Rattle.td_report.specs.Report.{head_line, level_words, title_line};
 
 use crate::counting::count_of;

@@ -3,9 +3,9 @@ use Rattle.std.proofs.Common.{◌<◌, ◌+◌, ◌∙◌, ap, sym, map, length,
 use Rattle.std.specs.List.{range_with_len}
 use Rattle.td_waves.specs.declared.level.Level.TheVariants.{At}
 use Rattle.td_report.specs.declared.block.Block.{Block}
-use Rattle.td_report.specs.Blocks.{told_at}
+use Rattle.td_report.specs.inner.Blocks.{value_at}
 use Rattle.td_report.proofs.Lists.{read-list}
-use Rattle.td_report.proofs.Texts.{levels-more, told-block, told-more}
+use Rattle.td_report.proofs.Texts.{levels-more, value-block, values-more}
 use Rattle.td_report.proofs.block.blocks.Goals as goal
 
 pub loop-number-preserved : goal.loop-number-preserved
@@ -27,7 +27,7 @@ loop-number-preserved c = λ depth items by.
       items = c.deref-items.result;
       installed = c.installed.result;
     } in
-    told-more items (map At (range_with_len 1 n)) (At (n + 1)) _ c.push.new.self.items block
-    c.in_ok-push.ensures.items (told-block items (At (n + 1)) block refl mine c.installed.ensures)
+    values-more items (map At (range_with_len 1 n)) (At (n + 1)) _ c.push.new.self.items block
+    c.in_ok-push.ensures.items (value-block items (At (n + 1)) block refl mine c.installed.ensures)
     (c.loop-number.invariant depth items by)
-    ∙ ap (map (told_at items)) (sym (levels-more n))
+    ∙ ap (map (value_at items)) (sym (levels-more n))

@@ -1,6 +1,6 @@
 -- What the loop of `count_installed` keeps.
 use Rattle.std.proofs.Common.{◌≡◌, ◌≤◌, take, count_by}
-use Rattle.td_report.specs.ItemLines.{is_installed}
+use Rattle.td_report.specs.inner.ItemLines.{is_installed}
 use Rattle.td_report.proofs.counting.count_installed.Given as goal
 
 -- those so far

@@ -1,6 +1,6 @@
 -- What the loop of `count_of` keeps.
 use Rattle.std.proofs.Common.{◌≡◌, ◌≤◌, take, count_by}
-use Rattle.td_report.specs.ItemLines.{has_status}
+use Rattle.td_report.specs.inner.ItemLines.{has_status}
 use Rattle.td_report.proofs.counting.count_of.Given as goal
 
 -- those so far

@@ -1,6 +1,6 @@
 -- What the loop of `by_level` keeps.
 use Rattle.std.proofs.Common.{take}
-use Rattle.td_report.specs.Grouped.{AreByLevel}
+use Rattle.td_report.specs.inner.Grouped.{AreByLevel}
 use Rattle.td_report.proofs.grouping.by_level.Given as goal
 
 -- the rows so far

@@ -1,6 +1,6 @@
 -- What the loop of `empty_lists` keeps.
 use Rattle.std.proofs.Common.{◌≡◌, ℕ, [], length}
-use Rattle.td_report.specs.Grouped.{list_at}
+use Rattle.td_report.specs.inner.Grouped.{list_at}
 use Rattle.td_report.proofs.grouping.empty_lists.Given as goal
 
 -- empty lists so far

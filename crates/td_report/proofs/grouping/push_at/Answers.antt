@@ -1,6 +1,6 @@
 -- `push_at`: the clause `lists`.
 use Rattle.std.proofs.Common.{◌-◌, ◌<◌, ◌++◌, ◌∷◌, [], Bool, length, ap, ◌∙◌, if◌then◌else◌, arith}
-use Rattle.td_report.specs.Grouped.{list_at}
+use Rattle.td_report.specs.inner.Grouped.{list_at}
 use Rattle.td_report.proofs.Lists.{list_at-push, same_number}
 use Rattle.td_report.proofs.grouping.push_at.Goals as goal
 

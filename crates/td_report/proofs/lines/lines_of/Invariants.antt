@@ -1,6 +1,6 @@
 -- What the loop of `lines_of` keeps.
 use Rattle.std.proofs.Common.{◌≡◌, take, string_bytes}
-use Rattle.td_report.specs.LinesText.{lines_text}
+use Rattle.td_report.specs.inner.LinesText.{lines_text}
 use Rattle.td_report.proofs.lines.lines_of.Given as goal
 
 -- the lines so far

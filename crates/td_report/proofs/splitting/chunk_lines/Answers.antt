@@ -3,7 +3,7 @@ use Rattle.std.proofs.Common.{◌<◌, max, refl, ap, subst, ◌∙◌, string_b
 use Rattle.std.specs.List.{flat_map, AllZip}
 use Rattle.rayon.specs.Lists.{chunks_of}
 use Rattle.rayon.proofs.ToStd.{chunks_of-concat}
-use Rattle.td_report.specs.LinesText.{lines_text}
+use Rattle.td_report.specs.inner.LinesText.{lines_text}
 use Rattle.td_report.proofs.Splits.{flat_map-zipped, flat_map-map, text-parts, IfOk-matched}
 use Rattle.td_report.proofs.Texts.{lines-append}
 use Rattle.td_report.proofs.splitting.chunk_lines.Goals as goal

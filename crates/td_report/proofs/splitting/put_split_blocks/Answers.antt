@@ -1,6 +1,6 @@
 -- `put_split_blocks`: its loop.
 use Rattle.std.proofs.Common.{string_bytes}
-use Rattle.td_report.specs.Blocks.{block_lines}
+use Rattle.td_report.specs.inner.Blocks.{block_lines}
 use Rattle.td_report.proofs.Texts.{texts-more}
 use Rattle.td_report.proofs.splitting.put_split_blocks.Goals as goal
 

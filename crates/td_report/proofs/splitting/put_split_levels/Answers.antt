@@ -1,9 +1,9 @@
 -- `put_split_levels`: what it answers and the call of `blocks`.
-use Rattle.std.proofs.Common.{◌++◌, ◌∙◌, ap, string_bytes}
+use Rattle.std.proofs.Common.{string_bytes}
 use Rattle.std.proofs.lemmas.Result.{on_ok_weaker}
-use Rattle.td_report.specs.Blocks.{block_lines, texts_of}
+use Rattle.td_report.specs.inner.Blocks.{block_lines}
 use Rattle.td_report.proofs.Lists.{counts-grouped}
-use Rattle.td_report.proofs.Texts.{texts-blocks}
+use Rattle.td_report.proofs.Texts.{blocks-put}
 use Rattle.td_report.proofs.splitting.put_split_levels.Goals as goal
 
 pub blocks-requires : goal.blocks-requires
@@ -11,11 +11,9 @@ blocks-requires g c = counts-grouped c.args.depth c.args.items.now c.in_ok-group
     c.args.counts c.in_ok-grouped.ensures c.requires.counts
 
 pub returns : goal.returns
-returns g c =
-    let items = c.args.items.now in
-    on_ok_weaker c.put_split_blocks.result
-    (λ put. put ∙ ap (λ t. string_bytes c.args.out.now ++ t)
-    (ap (texts_of block_lines) c.deref.ensures.value
-    ∙ texts-blocks block_lines c.args.depth items c.in_ok-blocks.blocks.items
-    (c.in_ok-blocks.ensures c.args.depth items c.in_ok-grouped.ensures)))
+returns g c = on_ok_weaker c.put_split_blocks.result
+    (blocks-put block_lines c.args.depth c.args.items.now c.in_ok-blocks.blocks.items
+    c.deref.result.now (string_bytes c.args.out.now) (string_bytes c.put_split_blocks.new.out)
+    (c.in_ok-blocks.ensures c.args.depth c.args.items.now c.in_ok-grouped.ensures)
+    c.deref.ensures.value)
     c.put_split_blocks.ensures

@@ -2,7 +2,7 @@
 use Rattle.std.proofs.Common.{◌≡◌, ◌++◌, None, [], ◌∷◌, ap, sym, ◌∙◌, map, take, string_bytes}
 use Rattle.std.proofs.Common.{append_assoc}
 use Rattle.td_text.specs.Lines.{text_of}
-use Rattle.td_report.specs.ItemLines.{source_of}
+use Rattle.td_report.specs.inner.ItemLines.{source_of}
 use Rattle.td_report.specs.Report.{each_once, is_last}
 use Rattle.td_report.proofs.Once.{last_of, last-push, sources-more, text-new, text-same}
 use Rattle.td_report.proofs.waves_text.put_sources.Goals as goal

@@ -1,7 +1,7 @@
 -- What the loop of `put_sources` keeps.
 use Rattle.std.proofs.Common.{◌≡◌, ◌++◌, None, map, option_map, take, string_bytes}
 use Rattle.td_text.specs.Lines.{text_of}
-use Rattle.td_report.specs.ItemLines.{source_of}
+use Rattle.td_report.specs.inner.ItemLines.{source_of}
 use Rattle.td_report.specs.Report.{each_once}
 use Rattle.td_report.proofs.Once.{last_of}
 use Rattle.td_report.proofs.waves_text.put_sources.Given as goal

@@ -1,6 +1,6 @@
 -- What the loop of `put_waves` keeps.
 use Rattle.std.proofs.Common.{◌≡◌, ◌++◌, take, string_bytes}
-use Rattle.td_report.specs.Blocks.{wave_lines, texts_of}
+use Rattle.td_report.specs.inner.Blocks.{wave_lines, texts_of}
 use Rattle.td_report.proofs.waves_text.put_waves.Given as goal
 
 -- the blocks so far

@@ -1,6 +1,6 @@
 -- What the loop of `put_blocks` keeps.
 use Rattle.std.proofs.Common.{◌≡◌, ◌++◌, take, string_bytes}
-use Rattle.td_report.specs.Blocks.{block_lines, texts_of}
+use Rattle.td_report.specs.inner.Blocks.{block_lines, texts_of}
 use Rattle.td_report.proofs.whole.put_blocks.Given as goal
 
 -- the blocks so far

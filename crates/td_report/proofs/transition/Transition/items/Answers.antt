@@ -1,6 +1,6 @@
 -- `Transition::items`: its loop.
 use Rattle.std.proofs.Common.{◌<◌, ap, ◌∙◌, map, length, arith}
-use Rattle.td_report.specs.ItemLines.{seen}
+use Rattle.td_report.specs.inner.ItemLines.{seen}
 use Rattle.td_report.specs.Transition.{affected_row}
 use Rattle.td_report.specs.TransitionView.{contents_of, level_of, tracking_of}
 use Rattle.td_report.proofs.Items.{items-more, items-same}

@@ -1,6 +1,6 @@
 -- What the loop of `Transition::items` keeps.
 use Rattle.std.proofs.Common.{◌≡◌, map, take}
-use Rattle.td_report.specs.ItemLines.{seen}
+use Rattle.td_report.specs.inner.ItemLines.{seen}
 use Rattle.td_report.specs.Transition.{affected_rows}
 use Rattle.td_report.specs.TransitionView.{contents_of, level_of, tracking_of}
 use Rattle.td_report.proofs.transition.Transition.items.Given as goal

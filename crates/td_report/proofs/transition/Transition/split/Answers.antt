@@ -2,7 +2,7 @@
 use Rattle.std.proofs.Common.{◌≡◌, string_bytes}
 use Rattle.std.proofs.lemmas.Result.{IfOk-weaker}
 use Rattle.td_text.specs.Lines.{text_of}
-use Rattle.td_report.specs.ItemLines.{report_lines}
+use Rattle.td_report.specs.inner.ItemLines.{report_lines}
 use Rattle.td_report.specs.Transition.{IsReport}
 use Rattle.td_report.specs.TransitionView.{contents_of, depth_of, level_of, tracking_of}
 use Rattle.td_report.proofs.Items.{is_report}
@@ -24,6 +24,7 @@ returns g c =
     c.split_text.ensures
 
 pub split_text-requires-clause-counts : goal.split_text-requires-clause-counts
-split_text-requires-clause-counts g c κs within = counts-seen (depth_of c.args.self.now) _ c.in_ok-items.items.items
+split_text-requires-clause-counts g c κs within =
+    counts-seen (depth_of c.args.self.now) _ c.in_ok-items.items.items
     c.args.counts c.depth-depth.result c.deref.result.now c.in_ok-items.ensures
     c.depth-depth.ensures c.deref.ensures.value c.requires.counts

@@ -2,7 +2,7 @@
 use Rattle.std.proofs.Common.{◌≡◌, string_bytes}
 use Rattle.std.proofs.lemmas.Result.{IfOk-weaker}
 use Rattle.td_text.specs.Lines.{text_of}
-use Rattle.td_report.specs.ItemLines.{report_lines}
+use Rattle.td_report.specs.inner.ItemLines.{report_lines}
 use Rattle.td_report.specs.Transition.{IsReport}
 use Rattle.td_report.specs.TransitionView.{contents_of, depth_of, level_of, tracking_of}
 use Rattle.td_report.proofs.Items.{is_report}

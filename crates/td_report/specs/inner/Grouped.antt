@@ -4,7 +4,7 @@ use Rattle.std.specs.Global.{Vec}
 use Rattle.td_waves.specs.declared.level.Level.TheVariants.{At, Cyclic}
 use Rattle.td_report.specs.declared.item.Item.{Item}
 use Rattle.td_report.specs.declared.grouping.Grouped.{Grouped}
-use Rattle.td_report.specs.ItemLines.{stands_at}
+use Rattle.td_report.specs.inner.ItemLines.{stands_at}
 
 -- the list with a number, of vectors
 abbrev pub list_at : List (Vec Item) → ℕ → List Item

@@ -7,23 +7,25 @@ use Rattle.td_waves.specs.declared.level.Level.{Level}
 use Rattle.td_report.specs.declared.block.Block.{Block}
 use Rattle.td_report.specs.declared.grouping.Grouped.{Grouped}
 use Rattle.td_report.specs.declared.item.Item.{Item}
-use Rattle.td_report.specs.Grouped.{list_at}
-use Rattle.td_report.specs.ItemLines.{installed_at, is_installed, item_line, stands_at, wave_of}
+use Rattle.td_report.specs.inner.Grouped.{list_at}
+use Rattle.td_report.specs.inner.ItemLines.{installed_at, is_installed, item_line, stands_at}
+use Rattle.td_report.specs.inner.ItemLines.{wave_of}
 use Rattle.td_report.specs.Report.{head_line, levels}
 
--- a level with its rows, and how many of them are said to be Installed
-pub record Told : Type 0 where
+-- a block, without where it lies: a level with its rows, and how many of them are said to be
+-- Installed
+pub record BlockValue : Type 0 where
   pub level : Level
   pub items : List Item
   pub installed : ℕ
 
--- what a block tells
-abbrev pub told : Block → Told
-told b = record { level = b.level; items = b.items.now; installed = b.installed }
+-- a block as such a value
+abbrev pub value_of : Block → BlockValue
+value_of b = record { level = b.level; items = b.items.now; installed = b.installed }
 
--- what is to be told of a level, of these affected rows
-abbrev pub told_at : List Item → Level → Told
-told_at items level = record {
+-- the block that a level is to have, of these affected rows
+abbrev pub value_at : List Item → Level → BlockValue
+value_at items level = record {
   level = level;
   items = filter (stands_at level) items;
   installed = installed_at items level;
@@ -31,20 +33,20 @@ told_at items level = record {
 
 -- the blocks of all levels and of what is cyclic
 abbrev pub AreBlocks : ℕ → List Item → List Block → Type 0
-AreBlocks depth items bs = map told bs ≡ map (told_at items) (levels depth)
+AreBlocks depth items bs = map value_of bs ≡ map (value_at items) (levels depth)
 
 -- the lines of a block in a report: none where there are no rows
-abbrev pub block_lines : Told → List (List ℕ)
+abbrev pub block_lines : BlockValue → List (List ℕ)
 block_lines t = if length t.items == 0 then []
     else head_line t.level (length t.items) t.installed ∷ map item_line t.items
 
 -- and in waves
-abbrev pub wave_lines : Told → List (List ℕ)
+abbrev pub wave_lines : BlockValue → List (List ℕ)
 wave_lines t = wave_of t.level t.items
 
 -- the texts of blocks, one behind the other
-abbrev pub texts_of : (Told → List (List ℕ)) → List Block → List ℕ
-texts_of lines bs = flat_map (λ b. text_of (lines (told b))) bs
+abbrev pub texts_of : (BlockValue → List (List ℕ)) → List Block → List ℕ
+texts_of lines bs = flat_map (λ b. text_of (lines (value_of b))) bs
 
 -- counts of the Installed rows among those by level: the last is that of what is cyclic
 pub record AreGroupedCounts (grouped : Grouped) (counts : List ℕ) : Type 0 where
