@@ -4,5 +4,6 @@ pub mod Lists
 pub mod Splits
 pub mod SeenRows
 pub mod Items
+pub mod Unaffected
 pub mod Once
 pub mod Counts

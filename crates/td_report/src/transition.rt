@@ -85,13 +85,14 @@ impl<'b, 't, 'a, 'q> Transition<'b, 't, 'a, 'q> {
             (of.tracking_of self.now) (of.level_of self.now)) (slice_get rows.now number) None }
     {
         let (key, row) = rows.at(number)?;
+        // (few sources have a level, and no other is affected)
+        let level = self.level(key.source())?;
         let status = self.status(key)?;
-        let level = self.level(key.source());
         Some(Item {
             key,
             row,
             status,
-            level,
+            level: Some(level),
         })
     }
 
