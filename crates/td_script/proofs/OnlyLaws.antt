@@ -51,7 +51,7 @@ missing_stops rows given t k missing same can =
     can.2 k (subst (λ g. first_missing rows g ≡ Some k) (same can.0 can.1) missing)
 
 -- the rows of an archive are one table
-opened_same : (c : Contents) (t u : Table) → AreOpened c t → AreOpened c u → t ≡ u
+pub opened_same : (c : Contents) (t u : Table) → AreOpened c t → AreOpened c u → t ≡ u
 opened_same c t u one two =
     table-same t u one.rising two.rising (λ k. one.same k ∙ sym (two.same k))
 

@@ -1,6 +1,8 @@
 -- What is answered to words, by what they were read as.
 use Rattle.std.proofs.Common.{◌≡◌, ℕ, Bool, true, false, List, [], Option, Result, Ok, Err, IfOk}
-use Rattle.std.proofs.Common.{IfErr, MatchResult, None, string_bytes, inl, inr, refl, subst}
+use Rattle.std.proofs.Common.{IfErr, IsOkAnd, MatchResult, None, String, Vec, map, string_bytes}
+use Rattle.std.proofs.Common.{inl, inr, refl, sym, ap, subst, ◌∙◌}
+use Rattle.std.specs.declared.alloc.Global.{Global}
 use Rattle.td_bytes.specs.Pieces.{AppendsPrefix}
 use Rattle.td_bytes.proofs.Prefixes.{AppendsPrefix-first}
 use Rattle.td_bytes.specs.declared.text.TextFault.{TextFault}
@@ -19,12 +21,25 @@ use Rattle.td_tool.specs.Ending.{line_of}
 use Rattle.td_tool.specs.Ends.{Ends}
 use Rattle.td_tool.specs.Explained.{SaysOf, archive_paths, known_at, known_input, run_paths}
 use Rattle.td_tool.specs.Explained.{track_paths, waves_paths}
-use Rattle.td_tool.specs.Program.{AsksForOne, IsTold, OnlyIfAsked, RanFor, RanOne, files_asked}
+use Rattle.td_tool.specs.Program.{AsksForOne, IsTold, OnlyIfAsked, RanFor, RanOne, are_explained}
+use Rattle.td_tool.specs.Program.{files_asked}
 use Rattle.td_tool.specs.Runs.{EndsRun, RunFiles, run_files_asked}
 use Rattle.td_tool.specs.Tracks.{EndsSo, Saying, TrackFiles, track_files}
 use Rattle.td_tool.specs.Ran.{Ran}
 use Rattle.td_tool.proofs.Stops.{kept_only}
 use Rattle.td_tool.proofs.SureRuns.{play_only}
+
+-- what is answered to words that are lent is answered to those that were given
+pub of_given : {E : Type 0} (AsksFor : List (List ℕ) → Type 0) (Done : Bool → Type 0)
+    (words : Result (Vec (String Global) Global) E) (given : Vec (String Global) Global)
+    (lent : List (String Global)) → words ≡ Ok given → lent ≡ given.items
+    → (AsksFor (map string_bytes lent) → Done (is_explained (options_of (map string_bytes lent))))
+    → IsOkAnd words (λ given. AsksFor (map string_bytes given.items)) → Done (are_explained words)
+of_given AsksFor Done words given lent are same answered asks =
+    let here = subst (λ r. IsOkAnd r (λ given. AsksFor (map string_bytes given.items))) are asks in
+    subst Done
+    (ap (λ l. is_explained (options_of (map string_bytes l))) same ∙ sym (ap are_explained are))
+    (answered (subst (λ l. AsksFor (map string_bytes l)) (sym same) here))
 
 -- what holds of some paths holds of the same ones
 pub holds_of_three : (P : List ℕ → List ℕ → List ℕ → Type 0) (a b p q s t : List ℕ) → a ≡ b → p ≡ q

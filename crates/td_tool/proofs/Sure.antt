@@ -12,18 +12,18 @@ use Rattle.td_relation.specs.Arch.{ArchWords}
 use Rattle.td_relation.specs.TableFile.{IsTable}
 use Rattle.td_relation.specs.declared.archs.ArchsFault.{ArchsFault}
 use Rattle.td_relation.specs.declared.archs.ArchsFault.TheVariants as table
-use Rattle.td_rows.specs.Keys.{ascending}
 use Rattle.td_rows.specs.Overlay.{first_missing}
 use Rattle.td_rows.specs.StateFile.{IsStateFile}
-use Rattle.td_rows.specs.Table.{Table, keys_of, row_of}
+use Rattle.td_rows.specs.Table.{Table}
 use Rattle.td_rows.specs.declared.key.Key.{Key}
-use Rattle.td_rows.proofs.Sorting.{table-same}
 use Rattle.td_indices.specs.Archive.{Contents, IsArchive}
 use Rattle.td_query.specs.TrackerFaults.{IsPatternFault, log_in}
 use Rattle.td_query.specs.TrackerGrammar.{said_in}
 use Rattle.td_query.specs.Tracking.{IsTracker, Tracking}
 use Rattle.td_query.specs.declared.tracker_fault.TrackerFault.{TrackerFault}
 use Rattle.td_query.specs.declared.tracker_fault.TrackerFault.TheVariants as tracker_fault
+use Rattle.td_script.specs.Openings.{AreOpened, AreRowsOf}
+use Rattle.td_script.proofs.OnlyLaws.{opened_same}
 use Rattle.td_tool.specs.declared.file_texts.FileFault.{FileFault}
 use Rattle.td_tool.specs.declared.role.Role.{Role}
 use Rattle.td_tool.specs.declared.role.Role.TheVariants.{Input, Archs, Packages, Sources, State}
@@ -35,8 +35,8 @@ use Rattle.td_tool.specs.Ending.{ending_of_file, ending_of_missing_row, ending_o
 use Rattle.td_tool.specs.Counted.{IsArchiveOf}
 use Rattle.td_tool.specs.Checks.{FaultFits, IsNoText, IsTextOf}
 use Rattle.td_tool.specs.CheckInside.{EndsUnwritten, WritesSo}
-use Rattle.td_tool.specs.Tracks.{AreKnownTexts, AreOpened, AreReadable, AreRefused, AreReplaced}
-use Rattle.td_tool.specs.Tracks.{AreRowsOf, AreTextsOf, EndsSo, EndsTold, FailsAt, IsKnownIfGiven}
+use Rattle.td_tool.specs.Tracks.{AreKnownTexts, AreReadable, AreRefused, AreTextsOf, EndsSo, EndsTold}
+use Rattle.td_tool.specs.Tracks.{FailsAt, IsKnownIfGiven}
 use Rattle.td_tool.specs.Tracks.{IsKnownText, IsPatternRefused, IsReadableOver, IsTextIfGiven}
 use Rattle.td_tool.specs.Tracks.{MayFail, OneFile, Saying, Texts, TextsSayIt, TrackFiles}
 use Rattle.td_tool.specs.TrackInside.{AreReadableWith, CanReplace, HasFailedAt, OrMemory}
@@ -68,11 +68,6 @@ replaced_stops rows given text (Ok new) same missing = tt
 replaced_stops rows given text (Err e) same missing = λ can.
     absurd (can.2 missing.0
     (subst (λ g. first_missing rows g ≡ Some missing.0) (same can.0 can.1) missing.1))
-
--- the rows of an archive are one table
-opened_same : (c : Contents) (t u : Table) → AreOpened c t → AreOpened c u → t ≡ u
-opened_same c t u one two =
-    table-same t u one.rising two.rising (λ k. one.same k ∙ sym (two.same k))
 
 pub rows_stop : (c : Contents) (opened : Table) (text : List ℕ) (r : Result Table Ending)
     → AreOpened c opened → IfErr r (λ ending. CanReplace opened text → ending ≡ NoMemory)

@@ -20,6 +20,7 @@ use Rattle.td_indices.specs.declared.archive_fault.ArchiveFault.{ArchiveFault}
 use Rattle.td_rows.specs.Table.{Table, keys_of, row_of}
 use Rattle.td_indices.specs.Archive.{Contents, IsArchive}
 use Rattle.td_query.specs.Tracking.{IsTracker, Tracking}
+use Rattle.td_script.specs.Openings.{AreOpened, AreRowsOf}
 use Rattle.td_tool.specs.declared.file_texts.FileFault.{FileFault}
 use Rattle.td_tool.specs.declared.role.Role.{Role}
 use Rattle.td_tool.specs.declared.role.Role.TheVariants.{Input, Archs, Packages, Sources, State}
@@ -30,9 +31,9 @@ use Rattle.td_tool.specs.declared.ending.Ending.TheVariants.{NoMemory}
 use Rattle.td_tool.specs.Ending.{ending_of_archive, ending_of_file, ending_of_missing_row}
 use Rattle.td_tool.specs.Ending.{ending_of_table}
 use Rattle.td_tool.specs.Counted.{IsArchiveOf}
-use Rattle.td_tool.specs.Checks.{AreTexts, HasFailed}
+use Rattle.td_tool.specs.Checks.{AreTexts, Files, HasFailed}
 use Rattle.td_tool.specs.CheckInside.{EndsUnwritten, HasFailedIn, WritesSo}
-use Rattle.td_tool.specs.Tracks.{AreOpened, AreRefused, AreRowsOf, AreTextsOf, EndsSo, FailsAt}
+use Rattle.td_tool.specs.Tracks.{AreRefused, AreTextsOf, EndsSo, FailsAt}
 use Rattle.td_tool.specs.Tracks.{IsNoTracker, IsRefusedOver, IsStateRefused, IsTextIfGiven, RowsSay}
 use Rattle.td_tool.specs.Tracks.{Saying, Texts, TextsSayIt, TrackFiles, TrackerSays}
 use Rattle.td_tool.specs.TrackInside.{AreRefusedWith, HasFailedAt, HasFailedFor, HasFailedIfGiven}
@@ -40,20 +41,24 @@ use Rattle.td_tool.specs.TrackInside.{IndicesSay, IsRefusedFor, IsReplaced, OrMe
 
 -- ---- a file that wasn't read
 
-first_fails : (files : TrackFiles) (role : Role) (e : TextFault) → HasFailed files.indices role e
-    → FailsAt files role e
-first_fails files Input e failed = absurd failed.before
-first_fails files Archs e failed = failed
-first_fails files Packages e failed = failed
-first_fails files Sources e failed = failed
-first_fails files State e failed = absurd failed.before
-first_fails files Tracker e failed = absurd failed.before
-first_fails files Outcomes e failed = absurd failed.before
-first_fails files Journal e failed = absurd failed.before
+-- what has failed among the indices is one of them
+pub index_fails : (files : Files) (Fails : Role → Type 0) (role : Role) (e : TextFault)
+    → (HasFailed files Archs e → Fails Archs) → (HasFailed files Packages e → Fails Packages)
+    → (HasFailed files Sources e → Fails Sources) → HasFailed files role e → Fails role
+index_fails files Fails Input e archs packages sources failed = absurd failed.before
+index_fails files Fails Archs e archs packages sources failed = archs failed
+index_fails files Fails Packages e archs packages sources failed = packages failed
+index_fails files Fails Sources e archs packages sources failed = sources failed
+index_fails files Fails State e archs packages sources failed = absurd failed.before
+index_fails files Fails Tracker e archs packages sources failed = absurd failed.before
+index_fails files Fails Outcomes e archs packages sources failed = absurd failed.before
+index_fails files Fails Journal e archs packages sources failed = absurd failed.before
 
 pub fails_first : (files : TrackFiles) (f : FileFault) → HasFailedIn files.indices f
     → HasFailedAt files f
-fails_first files f failed = first_fails files f.role f.fault failed
+fails_first files f failed =
+    index_fails files.indices (λ role. FailsAt files role f.fault) f.role f.fault
+    (λ h. h) (λ h. h) (λ h. h) failed
 
 pub fails_state : (files : TrackFiles) (f : FileFault) (a p s : List ℕ)
     → AreTexts files.indices a p s → HasFailedIfGiven files.state State f → HasFailedAt files f

@@ -8,21 +8,20 @@ use Rattle.td_relation.specs.Arch.{ArchWords}
 use Rattle.td_relation.specs.TableFile.{IsTable}
 use Rattle.td_relation.specs.TableFile as table_file
 use Rattle.td_relation.specs.declared.archs.ArchsFault.{ArchsFault}
-use Rattle.td_rows.specs.Keys.{ascending}
-use Rattle.td_rows.specs.Overlay.{first_missing, overlaid}
+use Rattle.td_rows.specs.Overlay.{first_missing}
 use Rattle.td_rows.specs.StateFile.{IsStateFile}
 use Rattle.td_rows.specs.StateFile as state_file
-use Rattle.td_rows.specs.Table.{Table, keys_of, row_of}
+use Rattle.td_rows.specs.Table.{Table}
 use Rattle.td_rows.specs.declared.key.Key.{Key}
 use Rattle.td_rows.specs.declared.state_file.StateFault.{StateFault}
 use Rattle.td_indices.specs.Archive.{Contents}
 use Rattle.td_indices.specs.Archive as archive_file
-use Rattle.td_indices.specs.Opening.{opening_row}
 use Rattle.td_indices.specs.declared.archive_fault.ArchiveFault.{ArchiveFault}
 use Rattle.td_query.specs.TrackerFaults as tracker_file
 use Rattle.td_query.specs.TrackerGrammar.{said_in}
 use Rattle.td_query.specs.Tracking.{IsTracker, Tracking}
 use Rattle.td_query.specs.declared.tracker_fault.TrackerFault.{TrackerFault}
+use Rattle.td_script.specs.Openings.{AreOpened, AreRowsOf}
 use Rattle.td_tool.specs.declared.role.Role.{Role}
 use Rattle.td_tool.specs.declared.role.Role.TheVariants.{Input, Archs, Packages, Sources, State}
 use Rattle.td_tool.specs.declared.role.Role.TheVariants.{Tracker, Outcomes, Journal}
@@ -114,26 +113,6 @@ IsUnread files ending =
     × (ending ≡ ending_of_file role fault)
 
 -- ---- 2. what is found
-
--- the rows with which a desk opens over an archive
-pub record AreOpened (c : Contents) (rows : Table) : Type 0 where
-  pub same : (k : Key) → row_of rows k ≡ opening_row c k
-  pub rising : ascending (keys_of rows) ≡ true
-
--- the same, with those of a state file in the place of the ones of their keys, each of which has to
--- be there
-pub record AreReplaced (c : Contents) (text : List ℕ) (rows : Table) : Type 0 where
-  pub opened : Table
-  pub are_opened : AreOpened c opened
-  pub given : Table
-  pub are_given : IsStateFile (lines_of text) given
-  pub none_missing : (k : Key) → first_missing opened given ≡ Some k → ⊥
-  pub replaced : rows ≡ overlaid given opened
-
--- the rows that are looked at
-abbrev pub AreRowsOf : Contents → Option (List ℕ) → Table → Type 0
-AreRowsOf c None rows = AreOpened c rows
-AreRowsOf c (Some text) rows = AreReplaced c text rows
 
 -- what a tracker says over an archive and rows, as a text
 abbrev pub Saying : Type 1

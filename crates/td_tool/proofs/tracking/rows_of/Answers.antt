@@ -2,7 +2,8 @@
 use Rattle.std.proofs.Common.{◌≡◌, Some, None, ap, sym, subst, IfOk, IfErr, option_map}
 use Rattle.td_rows.specs.Table.{Table}
 use Rattle.td_tool.specs.declared.ending.Ending.TheVariants.{NoMemory}
-use Rattle.td_tool.specs.Tracks.{AreRowsOf, IsStateRefused}
+use Rattle.td_script.specs.Openings.{AreRowsOf}
+use Rattle.td_tool.specs.Tracks.{IsStateRefused}
 use Rattle.td_tool.specs.TrackInside.{OrMemory}
 use Rattle.td_tool.proofs.Told.{opened_rows, replaced_rows, refused_rows}
 use Rattle.td_tool.proofs.Sure.{rows_stop}
