@@ -1,5 +1,6 @@
 //! What no clause can say: which answers a crew writes, and that builders of a crew build at the
 //! same time. The archive and the answers are this project's worked examples.
+use crate::archive::{ARCHS, PACKAGES, SOURCES};
 use std::alloc::{AllocError, Global};
 use std::sync::Wait;
 use std::sync::atomic::{AtomicU64, Ordering};
@@ -11,41 +12,6 @@ use td_crew::{CrewFault, run_crew, run_crew_with};
 use td_journal::ReadError;
 use td_rows::Outcome;
 use td_script::{InputFault, Inputs, RunFault, ScriptEnd};
-
-const ARCHS: &str = "amd64 linux amd64\ni386 linux i386\n";
-
-const PACKAGES: &str = "\
-Package: libfoo1
-Source: foo
-Version: 1.2-3
-Architecture: amd64
-
-Package: libfoo1
-Source: foo (1.2-3)
-Version: 1.2-3+b1
-Architecture: i386
-
-Package: libbar-dev
-Source: bar
-Version: 2.0-1
-Architecture: amd64
-
-Package: libbar-dev
-Source: bar
-Version: 2.0-1
-Architecture: i386
-";
-
-const SOURCES: &str = "\
-Package: foo
-Version: 1.2-3
-Architecture: any
-Build-Depends: libbar-dev
-
-Package: bar
-Version: 2.0-1
-Architecture: any
-";
 
 fn inputs(alloc: Global, state: &str, outcomes: &str, builders: u8) -> Result<Inputs, AllocError> {
     Ok(Inputs {

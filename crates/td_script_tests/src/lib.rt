@@ -5,6 +5,8 @@
 #![tactic(auto)]
 
 #[cfg(test)]
+mod archive;
+#[cfg(test)]
 mod crews;
 #[cfg(test)]
 mod first_faults;

@@ -2,6 +2,7 @@
 //! is due. The scripts and their answers are this project's worked examples, as in `examples/`.
 ghost use Rattle.std.specs.Prelude.{Some};
 
+use crate::archive::{ARCHS, PACKAGES, SOURCES};
 use std::alloc::{AllocError, Global};
 use std::io;
 use std::io::{ErrorKind, Read, Write};
@@ -9,41 +10,6 @@ use std::test::Fail;
 use std::thread::Threads;
 use td_journal::ReadError;
 use td_script::{InputFault, Inputs, RunFault, ScriptEnd, run_script};
-
-const ARCHS: &str = "amd64 linux amd64\ni386 linux i386\n";
-
-const PACKAGES: &str = "\
-Package: libfoo1
-Source: foo
-Version: 1.2-3
-Architecture: amd64
-
-Package: libfoo1
-Source: foo (1.2-3)
-Version: 1.2-3+b1
-Architecture: i386
-
-Package: libbar-dev
-Source: bar
-Version: 2.0-1
-Architecture: amd64
-
-Package: libbar-dev
-Source: bar
-Version: 2.0-1
-Architecture: i386
-";
-
-const SOURCES: &str = "\
-Package: foo
-Version: 1.2-3
-Architecture: any
-Build-Depends: libbar-dev
-
-Package: bar
-Version: 2.0-1
-Architecture: any
-";
 
 const TRACKER: &str = "\
 title = \"foo\"; is_affected = .package ~ \"foo\"; is_good = .depends ~ \"none\"; is_bad = false;
