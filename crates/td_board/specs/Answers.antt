@@ -39,7 +39,7 @@ abbrev pub IsWon : ℕ → ℕ → BuilderModel → BuilderModel → Type 0
 IsWon rows row old new = (row < rows) × ((r : ℕ) → old.builder.hand ≢ Holding r)
     × (new ≡ record old { builder = with_claim row old.builder })
 
--- a claim is lost: nothing changed, or a settled finish was released
+-- a claim is lost: nothing changed, or the hand of a settled build was freed
 abbrev pub IsLost : BuilderModel → BuilderModel → Type 0
 IsLost old new =
     (new ≡ old)

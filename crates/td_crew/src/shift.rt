@@ -10,8 +10,8 @@ use td_desk::{Desk, Named};
 use td_journal::EntryNo;
 use td_rows::Outcome;
 
-/// A desk, on whose floor nothing is ready any more once a builder has stopped for memory: the row
-/// in that builder's hand would keep the others busy for good.
+/// A desk as its builders see it. Once a builder has stopped for memory, `ready` says to the others
+/// that memory is wanting: the row in that builder's hand would keep them busy for good.
 #[derive(Drop)]
 pub struct Shift<'d, 'a, N: Named, C: Ledger> {
     pub desk: &'d Desk<'a, N, C>,
