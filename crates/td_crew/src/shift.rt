@@ -59,7 +59,7 @@ impl<'d, 'a, N: Named, C: Ledger> Floor for Shift<'d, 'a, N, C> {
 
     ghost rows = { λ s. s.desk.now.board.rows };
 
-    ghost jobs = { λ s. MayBeJob N.table };
+    ghost jobs = { λ s. MayBeJob N.table N.origin };
 
     ghost ended = { λ s. Unit {0} };
 

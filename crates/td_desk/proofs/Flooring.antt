@@ -4,6 +4,7 @@ use Rattle.std.proofs.Common.{◌∙◌, Result, Ok, Err}
 use Rattle.std.specs.Prelude.{IfOk, OnOk, OnErr}
 use Rattle.atomic_table.specs.Seated.{TableId}
 use Rattle.td_rows.specs.declared.outcome.Outcome.{Outcome}
+use Rattle.td_rows.specs.Table.{Table}
 use Rattle.td_board.specs.declared.views.Hand.{Hand}
 use Rattle.td_board.specs.declared.views.Hand.TheVariants.{Free, Holding, Finished}
 use Rattle.td_board.specs.Seats.{BuilderModel}
@@ -20,21 +21,22 @@ use Rattle.td_book.specs.Desk.{BookModel}
 use Rattle.td_book.specs.Finishing.{FinishHeld, FinishOutcome}
 use Rattle.td_book.specs.Ready.{is_any_queued}
 use Rattle.td_builder.specs.Floors.{IsHolding, IsStarted, IsFinished}
-use Rattle.td_desk.specs.Calls.{Starting, Finishing, MayBeJob}
+use Rattle.td_desk.specs.Calls.{IsOfDesk, Starting, Finishing, MayBeJob}
 
-by_hand : (table : TableId) (b : ℕ) (hand : Hand) (old new : BookModel) (job : Job)
-    → old.fixed.table ≡ table → StartOutcome b hand old new (Ok job)
-    → (r : ℕ) × (hand ≡ Holding r) × MayBeJob table r job
-by_hand table b (Holding i) old new job at is = (i, refl, (old, at, is.1))
-by_hand table b Free old new job at is = absurd (let e = is.0 in cc)
-by_hand table b (Finished i c) old new job at is = absurd (let e = is.0 in cc)
+by_hand : (table : TableId) (opening : Table) (b : ℕ) (hand : Hand) (old new : BookModel)
+    (job : Job) → IsOfDesk table opening old → StartOutcome b hand old new (Ok job)
+    → (r : ℕ) × (hand ≡ Holding r) × MayBeJob table opening r job
+by_hand table opening b (Holding i) old new job of is = (i, refl, (old, of, is.1))
+by_hand table opening b Free old new job of is = absurd (let e = is.0 in cc)
+by_hand table opening b (Finished i c) old new job of is = absurd (let e = is.0 in cc)
 
-pub started : (table : TableId) (s : BuilderModel) (r : Result Job StartRefusal)
-    → (r ≡ Err starts.NoMemory) ⊎ Starting s table r → IfOk r (IsStarted (MayBeJob table) s)
-started table s (Ok job) (inl e) = absurd (cc)
-started table s (Ok job) (inr (old, new, at, is)) =
-    by_hand table s.builder.number s.builder.hand old new job at is
-started table s (Err e) w = tt
+pub started : (table : TableId) (opening : Table) (s : BuilderModel) (r : Result Job StartRefusal)
+    → (r ≡ Err starts.NoMemory) ⊎ Starting s table opening r
+    → IfOk r (IsStarted (MayBeJob table opening) s)
+started table opening s (Ok job) (inl e) = absurd (cc)
+started table opening s (Ok job) (inr (old, new, of, is)) =
+    by_hand table opening s.builder.number s.builder.hand old new job of is
+started table opening s (Err e) w = tt
 
 same_seat : (s t : BuilderModel) → t.table ≡ s.table → t.builder ≡ s.builder → t ≡ s
 same_seat s t at is = (λ j. record { table = at j; builder = is j })
@@ -63,24 +65,24 @@ refused_held o s t i old new (Err finishes.Mismatch) hand at (is, seen, was) = �
     inr (ended_seat o s t i hand at done.1))
     was
 
-pub finished : (table : TableId) (o : Outcome) (s t : BuilderModel) (r : Result ℕ FinishRefusal)
-    → IsHolding s → t.table ≡ s.table → Finishing o s t table r
-    → OnOk r (IsFinished (code_of o) s t)
-finished table o s t r (i, hand) at (old, new, named, is) =
+pub finished : (table : TableId) (opening : Table) (o : Outcome) (s t : BuilderModel)
+    (r : Result ℕ FinishRefusal) → IsHolding s → t.table ≡ s.table
+    → Finishing o s t table opening r → OnOk r (IsFinished (code_of o) s t)
+finished table opening o s t r (i, hand) at (old, new, of, is) =
     let f : FinishOutcome (Holding i) o s.builder t.builder old new r =
     subst (λ h. FinishOutcome h o s.builder t.builder old new r) hand is in
     finished_held o s t i old new r hand at f
 
-pub kept_or_finished : (table : TableId) (o : Outcome) (s t : BuilderModel)
-    (r : Result ℕ FinishRefusal) → IsHolding s → t.table ≡ s.table → Finishing o s t table r
-    → OnErr r ((t ≡ s) ⊎ IsFinished (code_of o) s t)
-kept_or_finished table o s t r (i, hand) at (old, new, named, is) =
+pub kept_or_finished : (table : TableId) (opening : Table) (o : Outcome) (s t : BuilderModel)
+    (r : Result ℕ FinishRefusal) → IsHolding s → t.table ≡ s.table
+    → Finishing o s t table opening r → OnErr r ((t ≡ s) ⊎ IsFinished (code_of o) s t)
+kept_or_finished table opening o s t r (i, hand) at (old, new, of, is) =
     let f : FinishOutcome (Holding i) o s.builder t.builder old new r =
     subst (λ h. FinishOutcome h o s.builder t.builder old new r) hand is in
     refused_held o s t i old new r hand at f
 
-pub at_end : (table : TableId) (b : Bool)
-    → (book : BookModel) × (book.fixed.table ≡ table) × (b ≡ is_any_queued (rows_of book.history))
-    → b ≡ false → (book : BookModel) × (book.fixed.table ≡ table)
+pub at_end : (table : TableId) (opening : Table) (b : Bool)
+    → (book : BookModel) × IsOfDesk table opening book × (b ≡ is_any_queued (rows_of book.history))
+    → b ≡ false → (book : BookModel) × IsOfDesk table opening book
     × (is_any_queued (rows_of book.history) ≡ false)
-at_end table b (book, at, is) h = (book, at, sym is ∙ h)
+at_end table opening b (book, of, is) h = (book, of, sym is ∙ h)

@@ -7,6 +7,9 @@ use Rattle.td_rows.specs.declared.key.Key.{Key}
 use Rattle.td_rows.specs.declared.kind.Kind.TheVariants as kinds
 use Rattle.td_rows.specs.declared.outcome.Outcome.{Outcome}
 use Rattle.td_rows.specs.Keys.{names}
+use Rattle.td_rows.specs.Table.{Table}
+use Rattle.td_journal.specs.Entries.{standing}
+use Rattle.td_journal.specs.Replay.{Lawful}
 use Rattle.td_wbread.specs.Command.{CommandParts}
 use Rattle.td_wbread.specs.Kinds.{kind_of}
 use Rattle.td_board.specs.Seats.{BuilderModel}
@@ -47,47 +50,54 @@ command_receipt c old taken = Made taken.number (kind_of c) (without (named_by c
 abbrev pub arrival_receipt : Key → ℕ → Receipt
 arrival_receipt k n = Made n kinds.Arrive (k ∷ [])
 
--- ---- 2. answers, over a book at the table
+-- ---- 2. answers, over a book of the desk
+
+-- a book that may lie under the desk's lock: at its board, with a lawful history over the rows with
+-- which the desk was opened
+pub record IsOfDesk (table : TableId) (opening : Table) (book : BookModel) : Type 0 where
+  pub at : book.fixed.table ≡ table
+  pub over : book.history.opening ≡ opening
+  pub lawful : Lawful book.history.opening (standing book.history.journal)
 
 -- a command's, and the clerk's receipt where it is accepted
-abbrev pub Commanding : CommandParts → TableId → ClerkModel → ClerkModel
+abbrev pub Commanding : CommandParts → TableId → Table → ClerkModel → ClerkModel
     → Result Taken CommandRefusal → Type 0
-Commanding c table clerk after result =
-    (old : BookModel) × (new : BookModel) × (old.fixed.table ≡ table) × IsDone c old new result
+Commanding c table opening clerk after result =
+    (old : BookModel) × (new : BookModel) × IsOfDesk table opening old × IsDone c old new result
     × IfOk result (λ t. after ≡ with_receipt (command_receipt c old t) clerk)
 
 -- an undo's: what such a book answers to the undo of entry n
-abbrev pub Undoing : ℕ → TableId → Result (Unit {0}) UndoRefusal → Type 0
-Undoing n table result =
-    (old : BookModel) × (new : BookModel) × (old.fixed.table ≡ table)
+abbrev pub Undoing : ℕ → TableId → Table → Result (Unit {0}) UndoRefusal → Type 0
+Undoing n table opening result =
+    (old : BookModel) × (new : BookModel) × IsOfDesk table opening old
     × UndoAnswer (undo_stop old.history.journal n) n old new result
 
 -- an arrival's: what such a book answers to the arrival of this key's build
-abbrev pub Arriving : Key → TableId → Result ℕ ArriveRefusal → Type 0
-Arriving k table result =
-    (old : BookModel) × (new : BookModel) × (old.fixed.table ≡ table)
+abbrev pub Arriving : Key → TableId → Table → Result ℕ ArriveRefusal → Type 0
+Arriving k table opening result =
+    (old : BookModel) × (new : BookModel) × IsOfDesk table opening old
     × ArriveOutcome k old new result
 
 -- a sweep's: what such a book answers to it
-abbrev pub Sweeping : TableId → Result (Option ℕ) AllocError → Type 0
-Sweeping table result =
-    (old : BookModel) × (new : BookModel) × (old.fixed.table ≡ table) × SweepOutcome old new result
+abbrev pub Sweeping : TableId → Table → Result (Option ℕ) AllocError → Type 0
+Sweeping table opening result =
+    (old : BookModel) × (new : BookModel) × IsOfDesk table opening old × SweepOutcome old new result
 
 -- a start's: what such a book answers to the builder of this seat, by its hand
-abbrev pub Starting : BuilderModel → TableId → Result Job StartRefusal → Type 0
-Starting seat table result =
-    (old : BookModel) × (new : BookModel) × (old.fixed.table ≡ table)
+abbrev pub Starting : BuilderModel → TableId → Table → Result Job StartRefusal → Type 0
+Starting seat table opening result =
+    (old : BookModel) × (new : BookModel) × IsOfDesk table opening old
     × StartOutcome seat.builder.number seat.builder.hand old new result
 
 -- a finish's: what such a book answers to it with this outcome, and the builder after it
-abbrev pub Finishing : Outcome → BuilderModel → BuilderModel → TableId → Result ℕ FinishRefusal
-    → Type 0
-Finishing outcome seat after table result =
-    (old : BookModel) × (new : BookModel) × (old.fixed.table ≡ table)
+abbrev pub Finishing : Outcome → BuilderModel → BuilderModel → TableId → Table
+    → Result ℕ FinishRefusal → Type 0
+Finishing outcome seat after table opening result =
+    (old : BookModel) × (new : BookModel) × IsOfDesk table opening old
     × FinishOutcome seat.builder.hand outcome seat.builder after.builder old new result
 
 -- ---- 3. jobs
 
--- which jobs may be answered for the row with a number: those of a book at the table
-abbrev pub MayBeJob : TableId → ℕ → Job → Type 0
-MayBeJob table row job = (b : BookModel) × (b.fixed.table ≡ table) × IsJobAt row b job
+-- which jobs may be answered for the row with a number: those of a book of the desk
+abbrev pub MayBeJob : TableId → Table → ℕ → Job → Type 0
+MayBeJob table opening row job = (b : BookModel) × IsOfDesk table opening b × IsJobAt row b job

@@ -3,7 +3,7 @@ ghost use Rattle.std.specs.Prelude.{◌≡◌, ◌⊎◌, Err, IfOk};
 ghost use Rattle.td_core.specs.History.{rows_of};
 ghost use Rattle.td_book.specs.Desk.{BookModel};
 ghost use Rattle.td_book.specs.Ready.{IsReady, is_any_queued};
-ghost use Rattle.td_desk.specs.Calls.{Starting, Finishing};
+ghost use Rattle.td_desk.specs.Calls.{IsOfDesk, Starting, Finishing};
 
 use crate::desk::Desk;
 use crate::named::Named;
@@ -18,17 +18,17 @@ use td_rows::Outcome;
 impl<'a, N: Named, C: Ledger> Desk<'a, N, C> {
     /// The numbers of the rows that wait for a builder, in the order in which they are to be tried.
     pub fn ready<R: Wait>(&self, rt: &R) -> Result<Vec<usize>, AllocError>
-        ensures { IfOk result (λ numbers. (book : BookModel) × (book.fixed.table ≡ N.table)
+        ensures { IfOk result (λ numbers. (book : BookModel) × IsOfDesk N.table N.origin book
             × IsReady (rows_of book.history) numbers.items) }
     {
         let locked = self.locked.lock(rt);
-        locked.book.ready()
+        locked.book().ready()
     }
 
     /// Starts the build of the row that the builder holds.
     pub fn start<R: Wait>(&self, rt: &R, seat: &BuilderSeat) -> Result<Job, StartRefusal>
         requires { seat.now.table ≡ N.table }
-        ensures { (result ≡ Err StartRefusal.NoMemory) ⊎ Starting seat.now N.table result }
+        ensures { (result ≡ Err StartRefusal.NoMemory) ⊎ Starting seat.now N.table N.origin result }
     {
         self.locked.lock(rt).start(&self.board, seat)
     }
@@ -42,7 +42,7 @@ impl<'a, N: Named, C: Ledger> Desk<'a, N, C> {
     ) -> Result<EntryNo, FinishRefusal>
         requires { seat.old.table ≡ N.table }
         ensures table { seat.new.table ≡ seat.old.table }
-        ensures answer { Finishing outcome seat.old seat.new N.table result }
+        ensures answer { Finishing outcome seat.old seat.new N.table N.origin result }
     {
         let answer = self.locked.lock(rt).finish(&self.board, seat, outcome);
         self.changed.notify_all();
@@ -52,13 +52,13 @@ impl<'a, N: Named, C: Ledger> Desk<'a, N, C> {
     /// Waits until a row waits for a builder, or the desk is shut. False: it is shut, and none
     /// waits.
     pub fn wait_for_work<R: Wait>(&self, rt: &R) -> bool
-        ensures { (book : BookModel) × (book.fixed.table ≡ N.table)
+        ensures { (book : BookModel) × IsOfDesk N.table N.origin book
             × (result ≡ is_any_queued (rows_of book.history)) }
     {
         let locked = self.changed.wait_while(rt, self.locked.lock(rt), |locked| {
             !locked.shut && !has_work(&locked.book)
         });
-        has_work(&locked.book)
+        has_work(locked.book())
     }
 }
 

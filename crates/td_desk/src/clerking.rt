@@ -26,7 +26,7 @@ impl<'a, N: Named, C: Ledger> Desk<'a, N, C> {
         command: &Command<'_>,
     ) -> Result<Taken, CommandRefusal>
         ensures answer { (result ≡ Err CommandRefusal.NoMemory)
-            ⊎ Commanding (parts_of command.now) N.table clerk.old clerk.new result }
+            ⊎ Commanding (parts_of command.now) N.table N.origin clerk.old clerk.new result }
         ensures err { OnErr result (clerk.new ≡ clerk.old) }
     {
         if clerk.receipts.reserve(1).is_err() {
@@ -47,7 +47,7 @@ impl<'a, N: Named, C: Ledger> Desk<'a, N, C> {
     pub fn undo<R: Wait>(&self, rt: &R, clerk: &mut Clerk<C>, n: EntryNo) -> Result<(), UndoRefusal>
         ensures ok { OnOk result (clerk.new ≡ with_receipt (receipt.Undid n) clerk.old) }
         ensures err { OnErr result (clerk.new ≡ clerk.old) }
-        ensures answer { (result ≡ Err UndoRefusal.NoMemory) ⊎ Undoing n N.table result }
+        ensures answer { (result ≡ Err UndoRefusal.NoMemory) ⊎ Undoing n N.table N.origin result }
     {
         if clerk.receipts.reserve(1).is_err() {
             return Err(UndoRefusal::NoMemory);
@@ -70,7 +70,7 @@ impl<'a, N: Named, C: Ledger> Desk<'a, N, C> {
         ensures ok { IfOk result (λ n.
             clerk.new ≡ with_receipt (arrival_receipt key.now n) clerk.old) }
         ensures err { OnErr result (clerk.new ≡ clerk.old) }
-        ensures answer { (result ≡ Err ArriveRefusal.NoMemory) ⊎ Arriving key.now N.table result }
+        ensures answer { (result ≡ Err ArriveRefusal.NoMemory) ⊎ Arriving key.now N.table N.origin result }
     {
         if clerk.receipts.reserve(1).is_err() {
             return Err(ArriveRefusal::NoMemory);
@@ -96,7 +96,7 @@ impl<'a, N: Named, C: Ledger> Desk<'a, N, C> {
             (clerk.new ≡ clerk.old)
             (λ n. clerk.new ≡ with_receipt (receipt.Swept n) clerk.old)) }
         ensures err { OnErr result (clerk.new ≡ clerk.old) }
-        ensures answer { OnOk result (Sweeping N.table result) }
+        ensures answer { OnOk result (Sweeping N.table N.origin result) }
     {
         clerk.receipts.reserve(1)?;
         let swept = self

@@ -11,6 +11,7 @@ ghost use Rattle.td_core.specs.Phases.{NoneBuilt};
 ghost use Rattle.td_book.specs.Desk.{BookModel};
 ghost use Rattle.td_journal.specs.declared.entry.Marked.{Marked as MarkedValue};
 ghost use Rattle.td_journal.specs.JournalFile.{IsJournalText, FaultOf};
+ghost use Rattle.td_desk.specs.Calls.{IsOfDesk};
 ghost use Rattle.td_desk.specs.Changes.{changes, still_undone};
 ghost use Rattle.td_desk.specs.Marks.{marks_in, IsNamedJournal};
 ghost use Rattle.td_desk.specs.inner.Ticks.{AreBegun};
@@ -135,12 +136,11 @@ impl<'a, N: Named, C: Ledger> Desk<'a, N, C> {
     /// Lends the locked book.
     pub fn look<T, F: FnOnce(&Book<'a>) -> T, R: Wait>(&self, rt: &R, f: F) -> T
         requires { F.IsAlwaysCallable f }
-        ensures { (book : BookModel) × (book.fixed.table ≡ N.table)
+        ensures { (book : BookModel) × IsOfDesk N.table N.origin book
             × FnOnceReturnsAt F.FnOnce f book result }
     {
         let locked = self.locked.lock(rt);
-        let book = &locked.book;
-        f(book)
+        f(locked.book())
     }
 
     /// Says that nothing more comes: builders whom no row waits for go home.

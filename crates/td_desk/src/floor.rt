@@ -15,15 +15,15 @@ impl<'a, N: Named, C: Ledger> Floor for Desk<'a, N, C> {
     ghost use Rattle.td_core.specs.History.{rows_of};
     ghost use Rattle.td_book.specs.Desk.{BookModel};
     ghost use Rattle.td_book.specs.Ready.{is_any_queued};
-    ghost use Rattle.td_desk.specs.Calls.{MayBeJob};
+    ghost use Rattle.td_desk.specs.Calls.{IsOfDesk, MayBeJob};
 
     ghost table = { λ d. N.table };
 
     ghost rows = { λ d. d.board.rows };
 
-    ghost jobs = { λ d. MayBeJob N.table };
+    ghost jobs = { λ d. MayBeJob N.table N.origin };
 
-    ghost ended = { λ d. (book : BookModel) × (book.fixed.table ≡ N.table)
+    ghost ended = { λ d. (book : BookModel) × IsOfDesk N.table N.origin book
         × (is_any_queued (rows_of book.history) ≡ false) };
 
     ghost stopped = { λ d stop. Unit {0} };

@@ -9,7 +9,7 @@ ghost use Rattle.td_book.specs.Undoing.{UndoAnswer, undo_stop};
 ghost use Rattle.td_desk.specs.declared.receipt.Receipt.TheVariants as receipt;
 ghost use Rattle.td_wbread.specs.Views.{parts_of};
 ghost use Rattle.td_book.specs.Commands.{IsDone};
-ghost use Rattle.td_desk.specs.Calls.{arrival_receipt, command_receipt};
+ghost use Rattle.td_desk.specs.Calls.{IsOfDesk, arrival_receipt, command_receipt};
 ghost use Rattle.td_desk.specs.Changes.{changes, still_undone};
 ghost use Rattle.td_desk.specs.inner.Ticks.{AreBegun};
 
@@ -66,6 +66,16 @@ impl<'a, N: Named, C: Ledger> Locked<'a, N, C> {
         }
     }
 
+    /// The book, as one of the desk's.
+    pub(crate) fn book(&self) -> &Book<'a>
+        ensures book { result.now ≡ self.now.book }
+        ensures of_desk { IsOfDesk N.table N.origin self.now.book }
+    {
+        // (`rows` says that the history is lawful)
+        let _lawful = self.book.rows();
+        &self.book
+    }
+
     /// A command, with its receipt, for which there is room.
     pub(crate) fn command(
         &mut self,
@@ -89,9 +99,11 @@ impl<'a, N: Named, C: Ledger> Locked<'a, N, C> {
             IsPermutation (command_receipt (parts_of command.now) self.old.book taken
             ∷ changes N.opened self.old.book) (changes N.opened self.new.book)) }
         ensures shut { self.new.shut ≡ self.old.shut }
-        ensures named { self.old.book.fixed.table ≡ N.table }
+        ensures of_desk { IsOfDesk N.table N.origin self.old.book }
         ensures answer { IsDone (parts_of command.now) self.old.book self.new.book result }
     {
+        // (`book` says whose the book is)
+        let _of_desk = self.book();
         let Locked {
             book,
             ledger,
@@ -136,11 +148,13 @@ impl<'a, N: Named, C: Ledger> Locked<'a, N, C> {
             (IsPermutation (receipt.Undid n ∷ changes N.opened self.old.book)
             (changes N.opened self.new.book)) }
         ensures shut { self.new.shut ≡ self.old.shut }
-        ensures named { self.old.book.fixed.table ≡ N.table }
+        ensures of_desk { IsOfDesk N.table N.origin self.old.book }
         ensures answer { ((result ≡ Err UndoRefusal.NoMemory) × (self.new.book ≡ self.old.book))
             ⊎ UndoAnswer (undo_stop self.old.book.history.journal n) n self.old.book self.new.book
             result }
     {
+        // (`book` says whose the book is)
+        let _of_desk = self.book();
         let Locked {
             book,
             ledger,
@@ -180,9 +194,11 @@ impl<'a, N: Named, C: Ledger> Locked<'a, N, C> {
             IsPermutation (arrival_receipt key.now n ∷ changes N.opened self.old.book)
             (changes N.opened self.new.book)) }
         ensures shut { self.new.shut ≡ self.old.shut }
-        ensures named { self.old.book.fixed.table ≡ N.table }
+        ensures of_desk { IsOfDesk N.table N.origin self.old.book }
         ensures answer { ArriveOutcome key.now self.old.book self.new.book result }
     {
+        // (`book` says whose the book is)
+        let _of_desk = self.book();
         let Locked {
             book,
             ledger,
@@ -221,9 +237,11 @@ impl<'a, N: Named, C: Ledger> Locked<'a, N, C> {
         ensures parts { mine.new.parts ≡ mine.old.parts }
         ensures uncounted { OnErr result (mine.new.amount ≡ mine.old.amount) }
         ensures shut { self.new.shut ≡ self.old.shut }
-        ensures named { self.old.book.fixed.table ≡ N.table }
+        ensures of_desk { IsOfDesk N.table N.origin self.old.book }
         ensures answer { SweepOutcome self.old.book self.new.book result }
     {
+        // (`book` says whose the book is)
+        let _of_desk = self.book();
         let Locked {
             book,
             ledger,
@@ -244,11 +262,13 @@ impl<'a, N: Named, C: Ledger> Locked<'a, N, C> {
         requires board { board.now.table ≡ N.table }
         requires seat { seat.now.table ≡ N.table }
         ensures shut { self.new.shut ≡ self.old.shut }
-        ensures named { self.old.book.fixed.table ≡ N.table }
+        ensures of_desk { IsOfDesk N.table N.origin self.old.book }
         ensures answer { ((result ≡ Err StartRefusal.NoMemory) × (self.new.book ≡ self.old.book))
             ⊎ StartOutcome seat.now.builder.number seat.now.builder.hand self.old.book self.new.book
             result }
     {
+        // (`book` says whose the book is)
+        let _of_desk = self.book();
         let Locked { book, ticks, .. } = self;
         if add_ticks(ticks, book.journal().len(), 1).is_err() {
             return Err(StartRefusal::NoMemory);
@@ -267,10 +287,12 @@ impl<'a, N: Named, C: Ledger> Locked<'a, N, C> {
         requires seat { seat.old.table ≡ N.table }
         ensures table { seat.new.table ≡ seat.old.table }
         ensures shut { self.new.shut ≡ self.old.shut }
-        ensures named { self.old.book.fixed.table ≡ N.table }
+        ensures of_desk { IsOfDesk N.table N.origin self.old.book }
         ensures answer { FinishOutcome seat.old.builder.hand outcome seat.old.builder
             seat.new.builder self.old.book self.new.book result }
     {
+        // (`book` says whose the book is)
+        let _of_desk = self.book();
         let Locked { book, ticks, .. } = self;
         if matches!(seat.hand(), Hand::Free) {
             return Err(FinishRefusal::NothingHeld);

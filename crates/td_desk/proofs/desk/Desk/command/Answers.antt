@@ -5,5 +5,5 @@ use Rattle.td_desk.proofs.desk.Desk.command.Goals as goal
 
 pub returns-clause-answer : goal.returns-clause-answer
 returns-clause-answer g c =
-    commanded _ _ _ _ _ _ _ c.command-answer.ensures.named c.command-answer.ensures.answer
+    commanded _ _ _ _ _ _ _ _ c.command-answer.ensures.of_desk c.command-answer.ensures.answer
     (search rules)
