@@ -11,4 +11,6 @@ mod crews;
 #[cfg(test)]
 mod first_faults;
 #[cfg(test)]
+mod reports;
+#[cfg(test)]
 mod scripts;

@@ -411,3 +411,20 @@ fn a_fault_of_a_stream_leaves_a_front(rt: HostRuntime) -> Result<(), Fail> {
     }
     Ok(())
 }
+
+#[test]
+fn a_fault_of_a_script_has_its_name(rt: HostRuntime) -> Result<(), Fail> {
+    let alloc = rt.alloc();
+    let inputs = inputs(alloc, "", None, None)?;
+    let (front, end) = ran(&rt, alloc, &inputs, NUMBER_BACK.as_bytes(), 999, 10);
+    assert_eq!(rt; end, Err(RunFault::Write));
+    assert!(rt; front.as_slice() == "entry 1 ta".as_bytes());
+    let (front, end) = ran(&rt, alloc, &inputs, &[255], 999, 999);
+    assert_eq!(rt; end, Err(RunFault::NotText));
+    assert!(rt; front.is_empty());
+    let long = vec![in alloc; b'#'; 1_048_577]?;
+    let (front, end) = ran(&rt, alloc, &inputs, &long, 1_048_577, 999);
+    assert_eq!(rt; end, Err(RunFault::TooLong));
+    assert!(rt; front.is_empty());
+    Ok(())
+}

@@ -1,0 +1,31 @@
+-- `of_no_rows`: where there is no row, none is Installed.
+use Rattle.std.proofs.Common.{◌≡◌, ◌<◌, ◌+◌, ℕ, List, [], Some, slice_get, replicate, ap, sym, subst}
+use Rattle.std.proofs.Common.{◌∙◌, arith}
+use Rattle.std.proofs.lemmas.List.{get_or-replicate, length-replicate}
+use Rattle.std.proofs.lemmas.Option.{slice_get-get_or}
+use Rattle.td_report.specs.Report.{AreInstalledCounts}
+use Rattle.td_report.specs.Transition.{affected_rows}
+use Rattle.td_report.specs.TransitionView.{contents_of, depth_of, level_of, tracking_of}
+use Rattle.td_script_tests.proofs.reports.of_no_rows.Goals as goal
+
+zero_at : (n i : ℕ) → i < n → slice_get {X = ℕ} (replicate n 0) i ≡ Some 0
+zero_at n i lt =
+    slice_get-get_or (replicate n 0) i 0 (subst (λ k. i < k) (sym (length-replicate n 0)) lt)
+    ∙ ap Some (get_or-replicate n i 0 0 lt)
+
+no_counts : (depth : ℕ) (kept : List ℕ) → kept ≡ replicate (depth + 1) 0
+    → AreInstalledCounts depth [] kept
+no_counts depth kept is = record {
+  of_level = λ n lt. ap (λ l. slice_get l n) is ∙ zero_at (depth + 1) n (omega (arith, lt));
+  of_cyclic = ap (λ l. slice_get l depth) is ∙ zero_at (depth + 1) depth (omega arith);
+}
+
+pub report_kept-requires-clause-kept : goal.report_kept-requires-clause-kept
+report_kept-requires-clause-kept g c κs within =
+    let x = c.args.transition.now in
+    subst (λ rows. AreInstalledCounts (depth_of x)
+    (affected_rows (contents_of x) (tracking_of x) (level_of x) rows) c.deref.result.now)
+    (sym (c.in_ok-rows.ensures ∙ c.new.ensures.items))
+    (no_counts (depth_of x) c.deref.result.now
+    (c.deref.ensures.value ∙ c.in_ok-kept.ensures.items_if_clones_equal (λ y e. e)
+    ∙ ap (λ n. replicate n 0) (c.in-Some.ensures.1 ∙ ap (λ d. d + 1) c.depth.ensures)))
