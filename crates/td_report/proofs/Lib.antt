@@ -5,5 +5,6 @@ pub mod Splits
 pub mod SeenRows
 pub mod Items
 pub mod Unaffected
+pub mod OneText
 pub mod Once
 pub mod Counts

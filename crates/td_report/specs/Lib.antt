@@ -3,4 +3,5 @@ pub mod Report
 pub mod Transition
 pub mod TransitionView
 pub mod Groups
+pub mod Laws
 pub mod inner

@@ -15,6 +15,7 @@ mod grouping;
 mod groups;
 mod item;
 mod item_line;
+mod laws;
 mod lines;
 mod splitting;
 mod transition;
@@ -23,4 +24,5 @@ mod whole;
 mod writing;
 
 pub use groups::Groups;
+pub use laws::reports_are_one_text;
 pub use transition::Transition;
