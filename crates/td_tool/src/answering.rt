@@ -24,7 +24,7 @@ use crate::ending::{Ended, Ending};
 use crate::explaining::finish;
 use crate::run_files::RunPaths;
 use crate::running::run;
-use crate::simulation::simulate;
+use crate::simulation::read_and_play;
 use crate::texts::Texts;
 use crate::track_files::{TrackPaths, given};
 use crate::tracking::{Asked, track};
@@ -147,7 +147,7 @@ fn do_request<T: Texts + Sync, R: Read, W: Write>(
     ensures short { IfSome result.input (λ kept. length (string_bytes kept) ≤ input_limit) }
 {
     match request {
-        Request::Simulate => simulate(alloc, reader, output),
+        Request::Simulate => read_and_play(alloc, reader, output),
         Request::Check {
             archs,
             packages,

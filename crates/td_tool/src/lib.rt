@@ -1,9 +1,10 @@
 //! What the program does, over any reader, files and writers: its words, and its subcommands.
 //!
-//! Start at `tool`: it does what the words ask for. `Texts` is where it finds files. Its
-//! subcommands are `simulation`, `checking`, `tracking` for the two that read a tracker, and
-//! `running`. How a simulation is read and played stands in `td_simulate`, how indices are read in
-//! `td_indices`, what a script says in `td_script`, what the words ask for in `td_words`.
+//! Start at `tool`: it does what the words ask for. `simulate` is that subcommand by itself.
+//! `Texts` is where `tool` finds files. Its subcommands are `simulation`, `checking`, `tracking` for
+//! the two that read a tracker, and `running`. How a simulation is read and played stands in
+//! `td_simulate`, how indices are read in `td_indices`, what a script says in `td_script`, what the
+//! words ask for in `td_words`.
 //! Promised: what is written is the answer to what was read, and nothing where that is refused; a
 //! write that fails leaves a front of it; and the status and the line on standard error say which
 //! (`specs/Ends.antt`, `specs/Checks.antt`, `specs/Tracks.antt`, `specs/Runs.antt`).
@@ -26,4 +27,5 @@ mod tracking;
 mod wanted;
 
 pub use answering::{BAD_WORDS, tool};
+pub use simulation::simulate;
 pub use texts::Texts;

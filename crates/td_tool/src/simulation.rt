@@ -1,9 +1,11 @@
 //! The subcommand `simulate`: the steps on standard input are played, and their answers written.
-ghost use Rattle.std.specs.Prelude.{◌≡◌, ◌≤◌, length, string_bytes, IfOk, IfErr, IfSome};
+ghost use Rattle.std.specs.Prelude.{◌≡◌, ◌≤◌, false, length, string_bytes, IfOk, IfErr, IfSome};
 ghost use Rattle.std.specs.Result.{ForOk};
 ghost use Rattle.td_tool.specs.Ends.{Ends};
+ghost use Rattle.td_tool.specs.Explained.{known_input};
 ghost use Rattle.td_tool.specs.Limits.{input_limit};
 ghost use Rattle.td_tool.specs.Played.{IsUnread, IsUntold, TellsSo, TextEnds, kept_of};
+ghost use Rattle.td_tool.specs.Ran.{Ran};
 
 use crate::ending::{Ended, Ending, ending_of_simulation, ending_of_text};
 use std::alloc::Global;
@@ -53,8 +55,12 @@ fn play<W: Write>(alloc: Global, read: Result<String, TextFault>, output: &mut W
     }
 }
 
-/// Plays the simulation that the reader has. All is read before anything is written, and kept.
-pub fn simulate<R: Read, W: Write>(alloc: Global, reader: &mut R, output: &mut W) -> Ended
+// Plays the simulation that the reader has. All is read before anything is written, and kept.
+pub(crate) fn read_and_play<R: Read, W: Write>(
+    alloc: Global,
+    reader: &mut R,
+    output: &mut W,
+) -> Ended
     ensures ends { Ends (R.remaining reader.old) (W.contents output.old) (W.contents output.new)
         result.ending }
     ensures kept { IfSome result.input (λ kept.
@@ -63,4 +69,21 @@ pub fn simulate<R: Read, W: Write>(alloc: Global, reader: &mut R, output: &mut W
 {
     let read = read_text(alloc, reader, INPUT_LIMIT);
     play(alloc, read, output)
+}
+
+/// The subcommand by itself: it plays the simulation that the reader has, and answers the program's
+/// status. It takes no words, waits for nobody, and explains no refusal.
+pub fn simulate<R: Read, W: Write, E: Write>(
+    alloc: Global,
+    reader: &mut R,
+    output: &mut W,
+    faults: &mut E,
+) -> u8
+    ensures { Ran
+        (Ends (R.remaining reader.old) (W.contents output.old) (W.contents output.new)) false
+        (known_input (R.remaining reader.old)) (E.contents faults.old) (E.contents faults.new)
+        result }
+{
+    let ended = read_and_play(alloc, reader, output);
+    ended.ending.answer(faults)
 }

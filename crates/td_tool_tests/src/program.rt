@@ -8,7 +8,7 @@ use std::sync::Wait;
 use std::test::Fail;
 use std::thread::Threads;
 use td_bytes::{TextFault, read_text};
-use td_tool::{Texts, tool};
+use td_tool::{Texts, simulate, tool};
 
 // Takes three bytes a call, and fails once its room is used up.
 #[derive(Drop)]
@@ -145,6 +145,28 @@ fn a_refused_step_is_answered_and_the_others_are_done(rt: HostRuntime) -> Result
         let found = simulated(&rt, rt.alloc(), &mut UNDONE.as_bytes(), room)?;
         assert_eq!(rt; found.as_str(), told);
     }
+    Ok(())
+}
+
+// What the subcommand by itself answers and writes, in the same form.
+fn played(alloc: Global, mut input: &[u8]) -> Result<String, AllocError> {
+    let mut output = Narrow {
+        taken: Vec::new(alloc),
+        room: 99,
+    };
+    let mut faults: Vec<u8> = Vec::new(alloc);
+    let status = simulate(alloc, &mut input, &mut output, &mut faults);
+    let output = String::from_utf8_lossy(alloc, output.taken.as_slice())?;
+    let faults = String::from_utf8_lossy(alloc, faults.as_slice())?;
+    format!(in alloc; "{status} {output}|{faults}")
+}
+
+#[test]
+fn a_simulation_by_itself_is_answered_as_the_words_are(rt: HostRuntime) -> Result<(), Fail> {
+    let alloc = rt.alloc();
+    assert_eq!(rt; played(alloc, UNDONE.as_bytes())?.as_str(), TOLD);
+    let refused = played(alloc, "\u{ff}".as_bytes())?;
+    assert_eq!(rt; refused.as_str(), "2 |transdesk: input: BadLine\n");
     Ok(())
 }
 

@@ -1,6 +1,6 @@
--- `simulate`: the clauses `ends`, `kept` and `short`.
+-- `read_and_play`: the clauses `ends`, `kept` and `short`.
 use Rattle.td_tool.proofs.Plays.{ends, kept_is, kept_within}
-use Rattle.td_tool.proofs.simulation.simulate.Goals as goal
+use Rattle.td_tool.proofs.simulation.read_and_play.Goals as goal
 
 pub returns-clause-ends : goal.returns-clause-ends
 returns-clause-ends g c =
