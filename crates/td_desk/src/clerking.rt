@@ -70,7 +70,8 @@ impl<'a, N: Named, C: Ledger> Desk<'a, N, C> {
         ensures ok { IfOk result (λ n.
             clerk.new ≡ with_receipt (arrival_receipt key.now n) clerk.old) }
         ensures err { OnErr result (clerk.new ≡ clerk.old) }
-        ensures answer { (result ≡ Err ArriveRefusal.NoMemory) ⊎ Arriving key.now N.table N.origin result }
+        ensures answer { (result ≡ Err ArriveRefusal.NoMemory)
+            ⊎ Arriving key.now N.table N.origin result }
     {
         if clerk.receipts.reserve(1).is_err() {
             return Err(ArriveRefusal::NoMemory);

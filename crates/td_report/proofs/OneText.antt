@@ -1,6 +1,6 @@
 -- What a tracker says over an archive and rows is one text.
-use Rattle.std.proofs.Common.{◌≡◌, ◌≤◌, ℕ, zero, suc, List, Option, None, Some, refl, sym, ap, subst}
-use Rattle.std.proofs.Common.{◌∙◌, arith}
+use Rattle.std.proofs.Common.{◌≡◌, ◌≤◌, ℕ, zero, suc, List, Option, None, Some, refl, sym, ap}
+use Rattle.std.proofs.Common.{subst, ◌∙◌, arith}
 use Rattle.td_text.specs.Lines.{text_of}
 use Rattle.td_rows.specs.Table.{Table}
 use Rattle.td_indices.specs.Archive.{Contents}
@@ -26,7 +26,8 @@ same_place A B x (Some Cyclic) None h g = absurd (g h.0)
 same_place A B x (Some Cyclic) (Some (At k)) h g = same_level A B x (Some Cyclic) k h g
 same_place A B x (Some Cyclic) (Some Cyclic) h g = refl
 
-no_deeper : (level : List ℕ → Option Level) (d e : ℕ) → IsDepth level d → IsDepth level e → d ≤ e
+no_deeper : (level : List ℕ → Option Level) (d e : ℕ) → IsDepth level d → IsDepth level e
+    → d ≤ e
 no_deeper level zero e h g = omega arith
 no_deeper level (suc d) e h g =
     let r = h.reached (suc d) (omega arith) (omega arith) in (g.within r.0 (suc d) r.1).1

@@ -35,8 +35,8 @@ use Rattle.td_tool.specs.Ending.{ending_of_file, ending_of_missing_row, ending_o
 use Rattle.td_tool.specs.Counted.{IsArchiveOf}
 use Rattle.td_tool.specs.Checks.{FaultFits, IsNoText, IsTextOf}
 use Rattle.td_tool.specs.CheckInside.{EndsUnwritten, WritesSo}
-use Rattle.td_tool.specs.Tracks.{AreKnownTexts, AreReadable, AreRefused, AreTextsOf, EndsSo, EndsTold}
-use Rattle.td_tool.specs.Tracks.{FailsAt, IsKnownIfGiven}
+use Rattle.td_tool.specs.Tracks.{AreKnownTexts, AreReadable, AreRefused, AreTextsOf, EndsSo}
+use Rattle.td_tool.specs.Tracks.{EndsTold, FailsAt, IsKnownIfGiven}
 use Rattle.td_tool.specs.Tracks.{IsKnownText, IsPatternRefused, IsReadableOver, IsTextIfGiven}
 use Rattle.td_tool.specs.Tracks.{MayFail, OneFile, Saying, Texts, TextsSayIt, TrackFiles}
 use Rattle.td_tool.specs.TrackInside.{AreReadableWith, CanReplace, HasFailedAt, OrMemory}

@@ -21,7 +21,8 @@ run_fails_first files f failed =
 -- ---- behind the indices
 
 -- the texts that were read so far
-abbrev so_far : List ℕ → List ℕ → List ℕ → Option (List ℕ) → Option (List ℕ) → Option (List ℕ) → Texts
+abbrev so_far : List ℕ → List ℕ → List ℕ → Option (List ℕ) → Option (List ℕ)
+    → Option (List ℕ) → Texts
 so_far a p s state tracker outcomes = record {
   archs = a;
   packages = p;

@@ -1,8 +1,8 @@
 //! What the program does, over any reader, files and writers: its words, and its subcommands.
 //!
 //! Start at `tool`: it does what the words ask for. `simulate` is that subcommand by itself.
-//! `Texts` is where `tool` finds files. Its subcommands are `simulation`, `checking`, `tracking` for
-//! the two that read a tracker, and `running`. How a simulation is read and played stands in
+//! `Texts` is where `tool` finds files. Its subcommands are `simulation`, `checking`, `tracking`
+//! for the two that read a tracker, and `running`. How a simulation is read and played stands in
 //! `td_simulate`, how indices are read in `td_indices`, what a script says in `td_script`, what the
 //! words ask for in `td_words`.
 //! Promised: what is written is the answer to what was read, and nothing where that is refused; a
