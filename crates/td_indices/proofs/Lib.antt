@@ -27,4 +27,5 @@ pub mod OfferLaws
 pub mod SourceStanzas
 pub mod IndexReading
 pub mod Pieces
+pub mod Parts
 pub mod Cuts

@@ -1,3 +1,4 @@
--- What contracts say for the code's sake: how each file is read by itself, and in pieces.
+-- What contracts say for the code's sake: how each file is read by itself, and in pieces and parts.
 pub mod IndexReading
 pub mod Pieces
+pub mod Parts

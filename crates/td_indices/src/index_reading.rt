@@ -4,7 +4,7 @@ ghost use Rattle.td_text.specs.Lines.{lines_of};
 ghost use Rattle.td_stanza.specs.StanzaGrammar.{AreStanzas};
 ghost use Rattle.td_relation.specs.TableView.{table};
 ghost use Rattle.td_indices.specs.Archive.{StanzaFaultOf};
-ghost use Rattle.td_indices.specs.declared.archive_fault.IndexFile.TheVariants.{Packages, Sources};
+ghost use Rattle.td_indices.specs.declared.archive_fault.IndexFile.TheVariants.{Sources};
 ghost use Rattle.td_indices.specs.inner.IndexReading.{ArePackagesRead, AreSourcesRead};
 
 use crate::archive_fault::{ArchiveFault, IndexFile};
@@ -13,7 +13,7 @@ use crate::piece_reading::read_stanzas_beside;
 use crate::sourced::Sourced;
 use crate::stanza_list::read_stanzas;
 use crate::stanza_pieces::StanzaPieces;
-use crate::stanza_reading::{read_binaries, read_sources};
+use crate::stanza_reading::{read_binaries, read_binaries_beside, read_sources};
 use indexmap::IndexMap;
 use std::alloc::Global;
 use std::thread::Threads;
@@ -34,23 +34,37 @@ pub struct SourcesIndex<'a> {
     pub kept: Result<IndexMap<&'a str, Sourced<'a>>, ArchiveFault>,
 }
 
-/// What the stanzas of Packages keep, where it has some.
-fn keep_packages<'a>(
+/// Reads Packages, or tells the first fault of the text as a control file.
+pub fn read_packages_index<'a>(
     alloc: Global,
     archs: &Archs<'_>,
-    read: Result<StanzaPieces<'a>, ArchiveFault>,
+    text: &'a str,
 ) -> Result<PackagesIndex<'a>, ArchiveFault>
-    ensures { (lines : List (List ℕ)) → IfOk read.entry (λ list. AreStanzas list lines)
-        → IfErr read.entry (StanzaFaultOf Packages lines)
-        → ArePackagesRead (table archs.now) lines result }
+    ensures { ArePackagesRead (table archs.now) (lines_of text.now) result }
 {
-    match read {
-        Ok(stanzas) => {
-            let kept = read_binaries(alloc, archs, &stanzas);
-            Ok(PackagesIndex { stanzas, kept })
-        }
-        Err(fault) => Err(fault),
-    }
+    let stanzas = match read_stanzas(alloc, IndexFile::Packages, text) {
+        Ok(stanzas) => stanzas,
+        Err(fault) => return Err(fault),
+    };
+    let kept = read_binaries(alloc, archs, &stanzas);
+    Ok(PackagesIndex { stanzas, kept })
+}
+
+/// The same, a long text in pieces and parts.
+pub fn read_packages_beside<'a, R: Threads + Sync>(
+    rt: &R,
+    alloc: Global,
+    archs: &Archs<'_>,
+    text: &'a str,
+) -> Result<PackagesIndex<'a>, ArchiveFault>
+    ensures { ArePackagesRead (table archs.now) (lines_of text.now) result }
+{
+    let stanzas = match read_stanzas_beside(rt, alloc, IndexFile::Packages, text) {
+        Ok(stanzas) => stanzas,
+        Err(fault) => return Err(fault),
+    };
+    let kept = read_binaries_beside(rt, alloc, archs, &stanzas);
+    Ok(PackagesIndex { stanzas, kept })
 }
 
 /// What the stanzas of Sources keep, where it has some.
@@ -71,17 +85,6 @@ fn keep_sources<'a>(
     }
 }
 
-/// Reads Packages, or tells the first fault of the text as a control file.
-pub fn read_packages_index<'a>(
-    alloc: Global,
-    archs: &Archs<'_>,
-    text: &'a str,
-) -> Result<PackagesIndex<'a>, ArchiveFault>
-    ensures { ArePackagesRead (table archs.now) (lines_of text.now) result }
-{
-    keep_packages(alloc, archs, read_stanzas(alloc, IndexFile::Packages, text))
-}
-
 /// Reads Sources, likewise.
 pub fn read_sources_index<'a>(
     alloc: Global,
@@ -92,20 +95,7 @@ pub fn read_sources_index<'a>(
     keep_sources(alloc, read_stanzas(alloc, IndexFile::Sources, text))
 }
 
-/// Reads Packages, a long text in two pieces.
-pub fn read_packages_beside<'a, R: Threads + Sync>(
-    rt: &R,
-    alloc: Global,
-    archs: &Archs<'_>,
-    text: &'a str,
-) -> Result<PackagesIndex<'a>, ArchiveFault>
-    ensures { ArePackagesRead (table archs.now) (lines_of text.now) result }
-{
-    let read = read_stanzas_beside(rt, alloc, IndexFile::Packages, text);
-    keep_packages(alloc, archs, read)
-}
-
-/// Reads Sources, likewise.
+/// The same, a long text in pieces.
 pub fn read_sources_beside<'a, R: Threads + Sync>(
     rt: &R,
     alloc: Global,

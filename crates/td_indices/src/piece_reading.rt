@@ -1,5 +1,6 @@
-//! The stanzas of one of the files, a long text in two pieces that are read side by side.
+//! The stanzas of one of the files, a long text in pieces that are read side by side.
 ghost use Rattle.std.specs.Prelude.{ℕ, List, IfOk, IfErr, IfSome};
+ghost use denote.Param.Send.{IsSync};
 ghost use Rattle.td_text.specs.Lines.{lines_of};
 ghost use Rattle.td_stanza.specs.StanzaGrammar.{AreStanzas};
 ghost use Rattle.td_indices.specs.Archive.{StanzaFaultOf};
@@ -9,38 +10,25 @@ use crate::archive_fault::{ArchiveFault, IndexFile};
 use crate::cutting::halved;
 use crate::stanza_list::read_stanzas;
 use crate::stanza_pieces::StanzaPieces;
-use crate::work::{Work, both};
+use crate::work::HALVINGS;
 use std::alloc::Global;
+use std::thread;
 use std::thread::Threads;
-use td_stanza::{StanzaList, stanzas};
+use td_stanza::stanzas;
 
-/// A piece that is to be read.
-#[derive(Drop)]
-struct Piece<'a> {
-    alloc: Global,
-    text: &'a str,
-}
-
-impl<'a> Work for Piece<'a> {
-    ghost use Rattle.std.specs.Prelude.{IfSome};
-    ghost use Rattle.td_text.specs.Lines.{lines_of};
-    ghost use Rattle.td_stanza.specs.StanzaGrammar.{AreStanzas};
-
-    type Made = Option<StanzaList<'a>>;
-
-    // Its stanzas, if it has some.
-    ghost makes = { λ piece made. IfSome made (λ list. AreStanzas list (lines_of piece.text.now)) };
-
-    fn make<R: Threads + Sync>(&self, _rt: &R) -> Option<StanzaList<'a>> {
-        stanzas(self.alloc, self.text).ok()
-    }
+/// The stanzas of a text as one piece, if it has some.
+fn read_piece<'a>(alloc: Global, text: &'a str) -> Option<StanzaPieces<'a>>
+    ensures { IfSome result (λ list. AreStanzas list (lines_of text.now)) }
+{
+    let list = stanzas(alloc, text).ok()?;
+    StanzaPieces::whole(alloc, list).ok()
 }
 
 /// The stanzas of two pieces, as those of the text that they were cut from.
 #[tactic(auto, using(crate::proofs::Cuts::cut_stanzas))]
 fn joined<'a>(
-    front: Option<StanzaList<'a>>,
-    rest: Option<StanzaList<'a>>,
+    front: Option<StanzaPieces<'a>>,
+    rest: Option<StanzaPieces<'a>>,
 ) -> Option<StanzaPieces<'a>>
     ensures { (text before behind : List ℕ) → IsCutApart text before behind
         → IfSome front.entry (λ list. AreStanzas list (lines_of before))
@@ -56,32 +44,37 @@ fn joined<'a>(
     StanzaPieces::joined(front, rest)
 }
 
-/// The stanzas of a long text, if it has some.
-fn read_halves<'a, R: Threads + Sync>(
+/// The stanzas of a text, if it has some, in pieces of a text that is long enough.
+#[cycle(pieces)]
+fn read_pieces<'a, R: Threads + Sync>(
     rt: &R,
     alloc: Global,
     text: &'a str,
+    halvings: usize,
 ) -> Option<StanzaPieces<'a>>
     ensures { IfSome result (λ list. AreStanzas list (lines_of text.now)) }
 {
+    if halvings == 0 {
+        return read_piece(alloc, text);
+    }
     let Some((before, behind)) = halved(text) else {
-        return None;
+        return read_piece(alloc, text);
     };
-    let front = Piece {
-        alloc,
-        text: before,
-    };
-    let rest = Piece {
-        alloc,
-        text: behind,
-    };
-    let (front, rest) = both(rt, &front, &rest);
+    let left = halvings - 1;
+    let of_front = move || -> Option<StanzaPieces>
+        requires { IsSync R.row }
+        ensures { IfSome result (λ list. AreStanzas list (lines_of before.entry.now)) }
+    { read_pieces(rt, alloc, before, left) };
+    let of_rest = move || -> Option<StanzaPieces>
+        requires { IsSync R.row }
+        ensures { IfSome result (λ list. AreStanzas list (lines_of behind.entry.now)) }
+    { read_pieces(rt, alloc, behind, left) };
+    let (front, rest) = thread::join(rt, of_front, of_rest);
     joined(front, rest)
 }
 
 /// The same as `read_stanzas` gives. A text that has a fault, or that memory doesn't suffice for,
-/// is
-/// read again as a whole, so that its lines are counted from its first.
+/// is read again as a whole, so that its lines are counted from its first.
 pub fn read_stanzas_beside<'a, R: Threads + Sync>(
     rt: &R,
     alloc: Global,
@@ -91,7 +84,7 @@ pub fn read_stanzas_beside<'a, R: Threads + Sync>(
     ensures found { IfOk result (λ list. AreStanzas list (lines_of text.now)) }
     ensures fault { IfErr result (StanzaFaultOf file (lines_of text.now)) }
 {
-    match read_halves(rt, alloc, text) {
+    match read_pieces(rt, alloc, text, HALVINGS) {
         Some(list) => Ok(list),
         None => read_stanzas(alloc, file, text),
     }

@@ -32,7 +32,10 @@ pub fn read_stanzas<'a>(
     ensures fault { IfErr result (StanzaFaultOf file (lines_of text.now)) }
 {
     match stanzas(alloc, text) {
-        Ok(list) => Ok(StanzaPieces::whole(list)),
+        Ok(list) => match StanzaPieces::whole(alloc, list) {
+            Ok(pieces) => Ok(pieces),
+            Err(_) => Err(ArchiveFault::NoMemory),
+        },
         Err(fault) => Err(in_file(file, fault)),
     }
 }

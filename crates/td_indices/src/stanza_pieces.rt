@@ -1,56 +1,58 @@
-//! The stanzas of a file that was read as a whole, or in two pieces.
+//! The stanzas of a file that was read as a whole, or in pieces.
+use std::alloc::{AllocError, Global};
 use std::marker::Model;
 use td_stanza::{Stanza, StanzaList};
 
-/// The stanzas of a list, and those of another behind them, if there is one. Contracts see all of
-/// them as one list.
+/// The stanzas of a few lists, one list behind the other. Contracts see all of them as one list.
 #[derive(Drop)]
 pub struct StanzaPieces<'a> {
-    front: StanzaList<'a>,
-    rest: Option<StanzaList<'a>>,
-    // How many there are in both.
+    pieces: Vec<StanzaList<'a>>,
+    // How many there are in all.
     count: usize,
 }
 
 impl<'a> Model for StanzaPieces<'a> {
-    ghost use Rattle.std.specs.Prelude.{◌≡◌, ◌++◌, List, length};
+    ghost use Rattle.std.specs.Prelude.{◌≡◌, List, length};
     ghost use Rattle.td_stanza.specs.Field.{Entry};
-    ghost use Rattle.td_indices.specs.inner.Pieces.{list_of};
+    ghost use Rattle.td_indices.specs.inner.Pieces.{all_of};
 
     ghost Value = { List (List Entry) };
 
-    ghost view = { λ p. p.front ++ list_of p.rest };
+    ghost view = { λ p. all_of p.pieces.items };
 
-    ghost invariant = { λ p. p.count ≡ length (p.front ++ list_of p.rest) };
+    ghost invariant = { λ p. p.count ≡ length (all_of p.pieces.items) };
 }
 
 impl<'a> StanzaPieces<'a> {
-    ghost use Rattle.std.specs.Prelude.{◌≡◌, ◌++◌, IfSome, length, option_map, slice_get};
+    ghost use Rattle.std.specs.Prelude.{◌≡◌, ◌++◌, IfOk, IfSome, length, option_map, slice_get};
     ghost use Rattle.td_stanza.specs.Table.{fields_of};
 
     /// The stanzas of one list.
-    #[tactic(auto, using(crate::proofs::Pieces::append_none))]
-    pub fn whole(list: StanzaList<'a>) -> StanzaPieces<'a>
-        ensures { result ≡ list.entry }
+    #[tactic(auto, using(crate::proofs::Pieces::all_of_one))]
+    pub fn whole(alloc: Global, list: StanzaList<'a>) -> Result<StanzaPieces<'a>, AllocError>
+        ensures { IfOk result (λ pieces. pieces ≡ list.entry) }
     {
         let count = list.len();
-        StanzaPieces {
-            front: list,
-            rest: None,
-            count,
-        }
+        let mut pieces = Vec::new(alloc);
+        pieces.push(list)?;
+        Ok(StanzaPieces { pieces, count })
     }
 
-    /// The stanzas of two lists; `None` where there are more than a `usize` counts.
-    pub fn joined(front: StanzaList<'a>, rest: StanzaList<'a>) -> Option<StanzaPieces<'a>>
+    /// Those of some pieces and of others behind them; `None` where there are more than a `usize`
+    /// counts, or memory runs out.
+    pub fn joined(front: StanzaPieces<'a>, rest: StanzaPieces<'a>) -> Option<StanzaPieces<'a>>
         ensures { IfSome result (λ list. list ≡ front.entry ++ rest.entry) }
     {
         let count = front.len().checked_add(rest.len())?;
-        Some(StanzaPieces {
-            front,
-            rest: Some(rest),
-            count,
-        })
+        let mut all = front;
+        let mut more = rest;
+        match all.pieces.append(&mut more.pieces) {
+            Ok(()) => {
+                all.count = count;
+                Some(all)
+            }
+            Err(_) => None,
+        }
     }
 
     /// How many stanzas there are.
@@ -61,17 +63,17 @@ impl<'a> StanzaPieces<'a> {
     }
 
     /// The stanza with this number, from 0.
-    #[tactic(auto, using(crate::proofs::Pieces::get_in_front, crate::proofs::Pieces::get_in_rest))]
     pub fn stanza(&self, number: usize) -> Option<Stanza<'_, 'a>>
         ensures value { option_map fields_of result ≡ slice_get self.now number }
     {
-        let front = self.front.len();
-        if number < front {
-            return self.front.stanza(number);
+        let mut left = number;
+        for piece in &self.pieces {
+            let count = piece.len();
+            if left < count {
+                return piece.stanza(left);
+            }
+            left -= count;
         }
-        match &self.rest {
-            Some(rest) => rest.stanza(number - front),
-            None => None,
-        }
+        None
     }
 }

@@ -1,68 +1,83 @@
 //! What the stanzas of the two indices keep, stanza by stanza up to the first fault.
-ghost use Rattle.std.specs.Prelude.{◌≡◌, ◌+◌, ◌<◌, ◌^◌, true, Ok, IfOk, IfErr, OnOk};
+ghost use Rattle.std.specs.Prelude.{
+  ◌≡◌,
+  ◌+◌,
+  ◌<◌,
+  ◌^◌,
+  true,
+  [],
+  List,
+  Ok,
+  IfOk,
+  IfErr,
+  OnOk,
+  MatchResult,
+  length,
+};
+ghost use Rattle.td_stanza.specs.Field.{Entry};
 ghost use Rattle.td_stanza.specs.Table.{fields_of};
+ghost use Rattle.td_relation.specs.Arch.{ArchWords};
 ghost use Rattle.td_relation.specs.TableView.{table};
 ghost use Rattle.td_indices.specs.Kept.{binaries_of};
 ghost use Rattle.td_indices.specs.Sources.{sources_of};
 ghost use Rattle.td_indices.specs.Reading.{
   IsFaultOf,
-  at_stanza as at_stanza_of,
   binaries_at,
-  binary_step,
   is_entry,
   source_step,
   sources_at,
 };
+ghost use Rattle.td_indices.specs.inner.IndexReading.{IsOfStanza};
+ghost use Rattle.td_indices.specs.inner.Parts.{IsPartRead, put_all};
 
-use crate::archive_fault::{ArchiveFault, EntryFault, IndexFile};
-use crate::binary_keeping::{keep_binary, read_binary};
+use crate::archive_fault::{ArchiveFault, IndexFile};
+use crate::binary_keeping::keep_binary;
 use crate::packaged::{PackageKey, Packaged};
+use crate::part_reading::{read_part, read_parts};
 use crate::source_keeping::keep_source;
 use crate::source_reading::read_source;
 use crate::sourced::Sourced;
+use crate::stanza_fault::at_stanza;
 use crate::stanza_pieces::StanzaPieces;
+use crate::work::HALVINGS;
 use indexmap::IndexMap;
-use std::alloc::Global;
+use std::alloc::{AllocError, Global};
+use std::thread::Threads;
 use td_relation::Archs;
 use td_stanza::Stanza;
 
-/// The fault of the stanza with this number, from 0.
-fn at_stanza(file: IndexFile, number: usize, fault: EntryFault) -> ArchiveFault
-    requires { number + 1 < 2 ^ 64 }
-    ensures value { result ≡ at_stanza_of file number fault }
-    ensures entry { is_entry result ≡ true }
+/// Of these packages, those that count.
+fn keep_all<'a>(
+    alloc: Global,
+    packages: Vec<(PackageKey<'a>, Packaged<'a>)>,
+) -> Result<IndexMap<PackageKey<'a>, Packaged<'a>>, AllocError>
+    ensures { IfOk result (λ kept.
+        binaries_of kept.entries ≡ put_all [] (binaries_of packages.entry.items)) }
 {
-    match fault {
-        EntryFault::Missing(field) => ArchiveFault::MissingField(file, number + 1, field),
-        EntryFault::BadVersion => ArchiveFault::BadVersion(file, number + 1),
-        EntryFault::BadRelation => ArchiveFault::BadRelation(file, number + 1),
-        EntryFault::NoMemory => ArchiveFault::NoMemory,
+    let mut kept = IndexMap::with_capacity(alloc, packages.len())?;
+    for (key, packaged) in packages {
+        keep_binary(&mut kept, key, packaged)?;
     }
+    Ok(kept)
 }
 
-fn take_binary<'a>(
+/// Of the packages that all stanzas stand for, those that count.
+fn kept_of<'a>(
     alloc: Global,
-    kept: &mut IndexMap<PackageKey<'a>, Packaged<'a>>,
-    archs: &Archs<'_>,
-    stanza: &Stanza<'_, 'a>,
-    number: usize,
-) -> Result<(), ArchiveFault>
-    requires { number + 1 < 2 ^ 64 }
-    ensures ok { OnOk result
-        (binary_step (table archs.now) number (binaries_of kept.old.entries) (fields_of stanza.now)
-        ≡ Ok (binaries_of kept.new.entries)) }
-    ensures err { IfErr result (λ e.
-        IsFaultOf (binary_step (table archs.now) number (binaries_of kept.old.entries)
-        (fields_of stanza.now)) e) }
-    ensures entry { IfErr result (λ e. is_entry e ≡ true) }
+    read: Result<Vec<(PackageKey<'a>, Packaged<'a>)>, ArchiveFault>,
+) -> Result<IndexMap<PackageKey<'a>, Packaged<'a>>, ArchiveFault>
+    ensures { (table : List ArchWords) (stanzas : List (List Entry))
+        → IsPartRead table stanzas 0 (length stanzas) read.entry
+        → MatchResult result (λ kept. binaries_at table stanzas ≡ Ok (binaries_of kept.entries))
+        (IsOfStanza (binaries_at table stanzas)) }
 {
-    match read_binary(alloc, archs, stanza, number) {
-        Ok(None) => Ok(()),
-        Ok(Some((key, packaged))) => match keep_binary(kept, key, packaged) {
-            Ok(()) => Ok(()),
-            Err(_) => Err(ArchiveFault::NoMemory),
-        },
-        Err(fault) => Err(at_stanza(IndexFile::Packages, number, fault)),
+    let packages = match read {
+        Ok(packages) => packages,
+        Err(fault) => return Err(fault),
+    };
+    match keep_all(alloc, packages) {
+        Ok(kept) => Ok(kept),
+        Err(_) => Err(ArchiveFault::NoMemory),
     }
 }
 
@@ -72,23 +87,26 @@ pub fn read_binaries<'a>(
     archs: &Archs<'_>,
     stanzas: &StanzaPieces<'a>,
 ) -> Result<IndexMap<PackageKey<'a>, Packaged<'a>>, ArchiveFault>
-    ensures ok { IfOk result (λ kept.
-        binaries_at (table archs.now) stanzas.now ≡ Ok (binaries_of kept.entries)) }
-    ensures err { IfErr result (λ e. IsFaultOf (binaries_at (table archs.now) stanzas.now) e) }
-    ensures entry { IfErr result (λ e. is_entry e ≡ true) }
+    ensures { MatchResult result
+        (λ kept. binaries_at (table archs.now) stanzas.now ≡ Ok (binaries_of kept.entries))
+        (IsOfStanza (binaries_at (table archs.now) stanzas.now)) }
 {
-    let Ok(mut kept) = IndexMap::with_capacity(alloc, stanzas.len()) else {
-        return Err(ArchiveFault::NoMemory);
-    };
-    for number in 0..stanzas.len() {
-        if let Some(stanza) = stanzas.stanza(number) {
-            match take_binary(alloc, &mut kept, archs, &stanza, number) {
-                Ok(()) => {}
-                Err(fault) => return Err(fault),
-            }
-        }
-    }
-    Ok(kept)
+    kept_of(alloc, read_part(alloc, archs, stanzas, 0, stanzas.len()))
+}
+
+/// The same, parts of the stanzas side by side.
+pub fn read_binaries_beside<'a, R: Threads + Sync>(
+    rt: &R,
+    alloc: Global,
+    archs: &Archs<'_>,
+    stanzas: &StanzaPieces<'a>,
+) -> Result<IndexMap<PackageKey<'a>, Packaged<'a>>, ArchiveFault>
+    ensures { MatchResult result
+        (λ kept. binaries_at (table archs.now) stanzas.now ≡ Ok (binaries_of kept.entries))
+        (IsOfStanza (binaries_at (table archs.now) stanzas.now)) }
+{
+    let read = read_parts(rt, alloc, archs, stanzas, 0, stanzas.len(), HALVINGS);
+    kept_of(alloc, read)
 }
 
 fn take_source<'a>(

@@ -4,6 +4,9 @@ ghost use Rattle.std.specs.Thread.{IsSync};
 use std::thread;
 use std::thread::Threads;
 
+/// How often a text, or a list of stanzas, is halved for threads, at most: into eight parts.
+pub const HALVINGS: usize = 3;
+
 /// What a thread does, and what comes of it.
 pub trait Work {
     type Made: Send;

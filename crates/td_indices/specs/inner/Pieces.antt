@@ -1,13 +1,13 @@
--- A text that is read in two pieces, which are cut at an empty line. This project's own.
-use Rattle.std.specs.Prelude.{◌≡◌, ℕ, List, [], ◌∷◌, ◌++◌, Option, Some, None}
+-- A text that is read in pieces, which are cut at an empty line. This project's own.
+use Rattle.std.specs.Prelude.{◌≡◌, ℕ, List, [], ◌∷◌, ◌++◌}
 use Rattle.td_text.specs.Lines.{lines_of}
 use Rattle.td_stanza.specs.Field.{Entry}
 use Rattle.td_stanza.specs.StanzaGrammar.{BeginsApart}
 
--- the stanzas of a list that may be there
-abbrev pub list_of : Option (List (List Entry)) → List (List Entry)
-list_of None = []
-list_of (Some stanzas) = stanzas
+-- the stanzas of all pieces
+abbrev pub all_of : List (List (List Entry)) → List (List Entry)
+all_of [] = []
+all_of (piece ∷ pieces) = piece ++ all_of pieces
 
 -- a text as what stands before a newline and behind it, where a separator follows the newline
 pub record IsCutApart (text before behind : List ℕ) : Type 0 where

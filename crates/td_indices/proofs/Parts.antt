@@ -1,0 +1,82 @@
+-- What parts of the stanzas of Packages come to, one part behind the other.
+use Rattle.std.proofs.Common.{◌≡◌, ℕ, List, [], ◌∷◌, ◌++◌, Some, Result, Ok}
+use Rattle.std.proofs.Common.{Err, arith, length, sym, ap, ◌∙◌, subst}
+use Rattle.std.specs.Global.{Vec}
+use Rattle.std.proofs.lemmas.List.{map-append, drop_all}
+use Rattle.std.proofs.lemmas.List.Sums.{fold-append}
+use Rattle.td_stanza.specs.Field.{Entry}
+use Rattle.td_relation.specs.Arch.{ArchWords}
+use Rattle.td_indices.specs.declared.archive_fault.ArchiveFault.{ArchiveFault}
+use Rattle.td_indices.specs.declared.packaged.PackageKey.{PackageKey}
+use Rattle.td_indices.specs.declared.packaged.Packaged.{Packaged}
+use Rattle.td_indices.specs.Kept.{KeptBinary, binaries_of, binary_at, binary_of, lower_package, put}
+use Rattle.td_indices.specs.Kept.{same_package}
+use Rattle.td_indices.specs.Reading.{binary_step, over_stanzas}
+use Rattle.td_indices.specs.inner.IndexReading.{IsOfStanza}
+use Rattle.td_indices.specs.inner.Parts.{IsPartRead, kept_from, put_all}
+
+-- packages, and others behind them
+pub put_all-append : (seen : List KeptBinary) (xs ys zs : List (PackageKey × Packaged))
+    → zs ≡ xs ++ ys
+    → put_all seen (binaries_of zs) ≡ put_all (put_all seen (binaries_of xs)) (binaries_of ys)
+put_all-append seen xs ys zs is =
+    ap (λ (ps : List (PackageKey × Packaged)). put_all seen (binaries_of ps)) is
+    ∙ ap (put_all seen) (map-append binary_of xs ys)
+    ∙ fold-append (put same_package lower_package) seen (binaries_of xs) (binaries_of ys)
+
+module _ (table : List ArchWords) (stanzas : List (List Entry)) where
+  -- a part, and another behind it
+  pub part_behind : (from middle to : ℕ) (xs ys zs : List (PackageKey × Packaged)) → zs ≡ xs ++ ys
+      → ((seen : List KeptBinary) → kept_from table stanzas from seen
+      ≡ kept_from table stanzas middle (put_all seen (binaries_of xs)))
+      → ((seen : List KeptBinary) → kept_from table stanzas middle seen
+      ≡ kept_from table stanzas to (put_all seen (binaries_of ys)))
+      → (seen : List KeptBinary) → kept_from table stanzas from seen
+      ≡ kept_from table stanzas to (put_all seen (binaries_of zs))
+  part_behind from middle to xs ys zs is front rest seen =
+      front seen
+      ∙ rest (put_all seen (binaries_of xs))
+      ∙ ap (kept_from table stanzas to) (sym (put_all-append seen xs ys zs is))
+
+  -- a part, and a fault behind it
+  pub fault_behind : (from middle : ℕ) (xs : List (PackageKey × Packaged)) (e : ArchiveFault)
+      → ((seen : List KeptBinary) → kept_from table stanzas from seen
+      ≡ kept_from table stanzas middle (put_all seen (binaries_of xs)))
+      → ((seen : List KeptBinary) → IsOfStanza (kept_from table stanzas middle seen) e)
+      → (seen : List KeptBinary) → IsOfStanza (kept_from table stanzas from seen) e
+  fault_behind from middle xs e front fault seen =
+      subst (λ (r : Result (List KeptBinary) ArchiveFault). IsOfStanza r e) (sym (front seen))
+      (fault (put_all seen (binaries_of xs)))
+
+  -- behind the last stanza nothing is left to read
+  pub kept_from-end : (seen : List KeptBinary)
+      → kept_from table stanzas (length stanzas) seen ≡ Ok seen
+  unfolding over_stanzas
+  kept_from-end seen =
+      ap (λ (l : List (List Entry)).
+      over_stanzas (binary_step table) (length stanzas) seen l)
+      (drop_all (length stanzas) stanzas (omega arith))
+
+  -- what was read of a part, and a part's fault
+  pub packages_read : (from to : ℕ) (read : Result (Vec (PackageKey × Packaged)) ArchiveFault)
+      (packages : Vec (PackageKey × Packaged)) → read ≡ Ok packages
+      → IsPartRead table stanzas from to read
+      → (seen : List KeptBinary) → kept_from table stanzas from seen
+      ≡ kept_from table stanzas to (put_all seen (binaries_of packages.items))
+  packages_read from to read packages is h = subst (IsPartRead table stanzas from to) is h
+
+  pub fault_read : (from to : ℕ) (read : Result (Vec (PackageKey × Packaged)) ArchiveFault)
+      (fault : ArchiveFault) → read ≡ Err fault → IsPartRead table stanzas from to read
+      → (seen : List KeptBinary) → IsOfStanza (kept_from table stanzas from seen) fault
+  fault_read from to read fault is h = subst (IsPartRead table stanzas from to) is h
+
+-- a stanza that stands for a package
+pub package_more : (table : List ArchWords) (number : ℕ) (fields : List Entry)
+    (taken : PackageKey × Packaged) (old new : List (PackageKey × Packaged))
+    → new ≡ old ++ taken ∷ []
+    → binary_at table number fields ≡ Ok (Some (binary_of taken))
+    → (seen : List KeptBinary)
+    → binary_step table number (put_all seen (binaries_of old)) fields
+    ≡ Ok (put_all seen (binaries_of new))
+package_more table number fields taken old new is read seen =
+    rw read (ap Ok (sym (put_all-append seen old (taken ∷ []) new is)))
