@@ -1,6 +1,7 @@
 -- What the proofs of this crate share: a file a thing.
 pub mod WordCuts
 pub mod FieldValues
+pub mod Putting
 pub mod Keeping
 pub mod SourceKeeping
 pub mod Steps
