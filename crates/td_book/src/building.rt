@@ -19,7 +19,7 @@ ghost use Rattle.td_book.specs.Building.{LostTo, Knows, Settling, IsClosing, IsE
 ghost use Rattle.td_book.specs.Building.{IsUnended, ended_in, is_built_at};
 
 use crate::inner::{Inner, is_out};
-use td_board::{Board, BuilderSeat, OutcomeCode, Withdrawal};
+use td_board::{Board, BuilderSeat, OutcomeCode};
 use td_core::PlannedCommand;
 use td_journal::{Entry, EntryNo, Keys};
 use td_rows::{BuilderNo, Key, Kind, Outcome, Rows, applies};
@@ -46,18 +46,11 @@ impl<'a> Inner<'a> {
         ensures none { IfNone result (self.new ≡ self.old) }
         ensures noted { IfSome result (λ by. LostTo by self.old self.new row claim) }
     {
-        match self.desk.withdraw(board, row) {
-            Withdrawal::Withdrawn => {
-                self.desk.offer(board, row);
+        match self.take_back(board, row, claim) {
+            Some((builder, _)) => Some(builder),
+            None => {
+                self.offer(board, row);
                 None
-            }
-            Withdrawal::Held(_) => {
-                let builder = self.desk.note(board, row);
-                self.books.append_reserved(Entry {
-                    kind: Kind::Claim(builder),
-                    keys: claim,
-                });
-                Some(builder)
             }
         }
     }
