@@ -1,13 +1,13 @@
 -- What `clap` reads in the words that ask for the simulation, and in those that ask for a check.
 use Rattle.std.proofs.Common.{◌≡◌, ℕ, Bool, true, false, List, [], ◌++◌, Option, Some, None, Result}
-use Rattle.std.proofs.Common.{Ok, Err, IfOk, MatchResult, option_map, unwrap_or}
+use Rattle.std.proofs.Common.{◌∷◌, Ok, Err, IfOk, MatchResult, codes, option_map, unwrap_or}
 use Rattle.std.proofs.Common.{string_bytes, refl, sym, ap, subst, inl, inr, ◌∙◌}
 use Rattle.std.specs.Borrow.{Bor}
 use Rattle.clap.specs.Faults.{is_simple_and_free}
 use Rattle.clap.specs.Kinds.{HasKind}
 use Rattle.clap.specs.Values.{kind_of}
 use Rattle.clap.specs.Matches.{found_of}
-use Rattle.clap.specs.Walk.{Row, rows_of}
+use Rattle.clap.specs.Walk.{Row, first_of, rows_of}
 use Rattle.clap.specs.Simple.{HasMatchesOf, subcommand_of, subcommand_rows_of}
 use Rattle.clap.specs.declared.error.Error.{Error}
 use Rattle.clap.specs.declared.error.kind.ErrorKind.TheVariants.{OutOfMemory}
@@ -16,14 +16,15 @@ use Rattle.clap.proofs.OnLiterals.{clap_on_literals}
 use Rattle.td_words.specs.declared.request.Call.{Call}
 use Rattle.td_words.specs.declared.request.Request.{Request}
 use Rattle.td_words.specs.declared.request.Request.TheVariants.{Simulate, Check, Track, Waves, Run}
-use Rattle.td_words.specs.CommandLine.{AskForCheck, AskForRun, AskForTrack, AskForWaves}
+use Rattle.td_words.specs.CommandLine.{AskFor, AskForCheck, AskForRun, AskForTrack, AskForWaves}
 use Rattle.td_words.specs.CommandLine.{CheckWordsExplain, HasFiles, HasRun, HasTrack, HasTracker}
 use Rattle.td_words.specs.CommandLine.{PlainRunWordsAsk, RunWordsExplain, SimulationWordsAsk}
 use Rattle.td_words.specs.CommandLine.{TrackWords, TrackWordsAsk, TrackWordsExplain, WavesWordsAsk}
 use Rattle.td_words.specs.CommandLine.{WavesWordsExplain, WholeRunWordsAsk, asking_for_check}
 use Rattle.td_words.specs.CommandLine.{asking_for_plain_run, asking_for_track, asking_for_waves}
 use Rattle.td_words.specs.CommandLine.{chunk_in, desk, explaining, faults_of, is_explained, name_in}
-use Rattle.td_words.specs.CommandLine.{options_of, plain_run, rows_in}
+use Rattle.td_words.specs.CommandLine.{RunWords, builders_in, options_of, plain_run, rows_in}
+use Rattle.td_words.specs.CommandLine.{suite_in}
 use Rattle.td_words.specs.declared.request.WordsFault.{WordsFault}
 use Rattle.td_words.specs.Asked.{Asks, IsRequestIn, call_as, run_words, track_words}
 
@@ -68,108 +69,58 @@ unfolding clap_on_literals
 asks_for_simulation program false = record { ask = (refl, refl); flag = refl }
 asks_for_simulation program true = record { ask = (refl, refl); flag = refl }
 
--- the words of a check ask for it
-pub asks_for_check : (program archs packages sources : List ℕ)
-    → AskForCheck (asking_for_check program archs packages sources) archs packages sources
-unfolding clap_on_literals
-asks_for_check program archs packages sources =
-    ((refl, refl), record { archs_path = refl; packages_path = refl; sources_path = refl })
+-- ---- what the options of a report and of a run are
 
--- so do those of the others
-track_words_ask : (program a p s t : List ℕ) (state chunk : Option (List ℕ)) (rows : Option ℕ)
-    → chunk_in chunk ≡ Some rows
-    → (let w : TrackWords =
-    record { archs = a; packages = p; sources = s; tracker = t; state = state; chunk = rows } in
-    AskForTrack (asking_for_track program w chunk) w)
-unfolding clap_on_literals
-track_words_ask program a p s t None None rows same = (
-  (refl, refl),
-  record {
-    files = record {
-      files = record { archs_path = refl; packages_path = refl; sources_path = refl };
-      tracker_path = refl;
-    };
-    state_path = refl;
-    rows = same;
-  },
-)
-track_words_ask program a p s t None (Some chunk) rows same = (
-  (refl, refl),
-  record {
-    files = record {
-      files = record { archs_path = refl; packages_path = refl; sources_path = refl };
-      tracker_path = refl;
-    };
-    state_path = refl;
-    rows = same;
-  },
-)
-track_words_ask program a p s t (Some state) None rows same = (
-  (refl, refl),
-  record {
-    files = record {
-      files = record { archs_path = refl; packages_path = refl; sources_path = refl };
-      tracker_path = refl;
-    };
-    state_path = refl;
-    rows = same;
-  },
-)
-track_words_ask program a p s t (Some state) (Some chunk) rows same = (
-  (refl, refl),
-  record {
-    files = record {
-      files = record { archs_path = refl; packages_path = refl; sources_path = refl };
-      tracker_path = refl;
-    };
-    state_path = refl;
-    rows = same;
-  },
-)
+-- what is found of each option of a report
+abbrev pub AreOptions : List Row → List ℕ → List ℕ → List ℕ → List ℕ → Option (List ℕ)
+    → Option (List ℕ) → Type 0
+AreOptions options a p s t state chunk =
+    (first_of (codes "archs") options ≡ Some a)
+    × (first_of (codes "packages") options ≡ Some p)
+    × (first_of (codes "sources") options ≡ Some s)
+    × (first_of (codes "tracker") options ≡ Some t)
+    × (first_of (codes "state") options ≡ state)
+    × (first_of (codes "chunk") options ≡ chunk)
 
-pub asks_for_track : TrackWordsAsk
-asks_for_track program w chunk same =
-    track_words_ask program w.archs w.packages w.sources w.tracker w.state chunk w.chunk same
+pub has_track : (options : List Row) (a p s t : List ℕ) (state chunk : Option (List ℕ))
+    (rows : Option ℕ) → AreOptions options a p s t state chunk → chunk_in chunk ≡ Some rows
+    → HasTrack options
+    (record { archs = a; packages = p; sources = s; tracker = t; state = state; chunk = rows })
+has_track options a p s t state chunk rows are same =
+    record {
+      files = record {
+        files = record { archs_path = are.0; packages_path = are.1; sources_path = are.2 };
+        tracker_path = are.3;
+      };
+      state_path = are.4;
+      rows = ap chunk_in are.5 ∙ same;
+    }
 
-pub asks_for_waves : WavesWordsAsk
-unfolding clap_on_literals
-asks_for_waves program archs packages sources tracker = (
-  (refl, refl),
-  record {
-    files = record { archs_path = refl; packages_path = refl; sources_path = refl };
-    tracker_path = refl;
-  },
-)
+pub has_run : (options : List Row) (w : RunWords) → HasFiles options w.archs w.packages w.sources
+    → first_of (codes "state") options ≡ w.state → first_of (codes "tracker") options ≡ w.tracker
+    → suite_in (first_of (codes "suite") options) ≡ w.suite
+    → builders_in (first_of (codes "builders") options) ≡ Some w.builders
+    → first_of (codes "outcomes") options ≡ w.outcomes
+    → first_of (codes "journal") options ≡ w.journal → HasRun options w
+has_run options w files state tracker suite count outcomes journal =
+    record {
+      files = files;
+      state_path = state;
+      tracker_path = tracker;
+      suite_name = suite;
+      count = count;
+      outcomes_path = outcomes;
+      journal_path = journal;
+    }
 
-pub asks_for_plain_run : PlainRunWordsAsk
-unfolding clap_on_literals
-asks_for_plain_run program archs packages sources = (
-  (refl, refl),
-  record {
-    files = record { archs_path = refl; packages_path = refl; sources_path = refl };
-    state_path = refl;
-    tracker_path = refl;
-    suite_name = refl;
-    count = refl;
-    outcomes_path = refl;
-    journal_path = refl;
-  },
-)
-
+-- the words of a whole run ask for it
 pub asks_for_whole_run : WholeRunWordsAsk
 unfolding clap_on_literals
 asks_for_whole_run program archs packages sources state tracker suite builders outcomes journal
     count same = (
       (refl, refl),
-      record {
-        files = record { archs_path = refl; packages_path = refl; sources_path = refl };
-        state_path = refl;
-        tracker_path = refl;
-        suite_name = refl;
-        count = same;
-        outcomes_path = refl;
-        journal_path = refl;
-      },
+      (has_run _ _ (record { archs_path = refl; packages_path = refl; sources_path = refl })
+          refl refl refl same refl refl),
     )
 
 -- ---- with an explanation
@@ -192,100 +143,40 @@ check_explains = record { same = same; flag = flag }
     flag program archs packages sources false = refl
     flag program archs packages sources true = refl
 
-track_same : (program a p s t : List ℕ) (state chunk : Option (List ℕ)) (rows : Option ℕ)
-    (explained : Bool) → chunk_in chunk ≡ Some rows
+track_asked : (program a p s t : List ℕ) (state chunk : Option (List ℕ)) (explained : Bool)
     → (let w : TrackWords =
-    record { archs = a; packages = p; sources = s; tracker = t; state = state; chunk = rows } in
-    AskForTrack (asking_for_track program w chunk ++ explaining explained) w)
+    record { archs = a; packages = p; sources = s; tracker = t; state = state; chunk = None } in
+    let words = asking_for_track program w chunk ++ explaining explained in
+    AskFor (codes "track") words × AreOptions (options_of words) a p s t state chunk)
 unfolding clap_on_literals
-track_same program a p s t None None rows false same = (
-  (refl, refl),
-  record {
-    files = record {
-      files = record { archs_path = refl; packages_path = refl; sources_path = refl };
-      tracker_path = refl;
-    };
-    state_path = refl;
-    rows = same;
-  },
-)
-track_same program a p s t None (Some chunk) rows false same = (
-  (refl, refl),
-  record {
-    files = record {
-      files = record { archs_path = refl; packages_path = refl; sources_path = refl };
-      tracker_path = refl;
-    };
-    state_path = refl;
-    rows = same;
-  },
-)
-track_same program a p s t (Some state) None rows false same = (
-  (refl, refl),
-  record {
-    files = record {
-      files = record { archs_path = refl; packages_path = refl; sources_path = refl };
-      tracker_path = refl;
-    };
-    state_path = refl;
-    rows = same;
-  },
-)
-track_same program a p s t (Some state) (Some chunk) rows false same = (
-  (refl, refl),
-  record {
-    files = record {
-      files = record { archs_path = refl; packages_path = refl; sources_path = refl };
-      tracker_path = refl;
-    };
-    state_path = refl;
-    rows = same;
-  },
-)
-track_same program a p s t None None rows true same = (
-  (refl, refl),
-  record {
-    files = record {
-      files = record { archs_path = refl; packages_path = refl; sources_path = refl };
-      tracker_path = refl;
-    };
-    state_path = refl;
-    rows = same;
-  },
-)
-track_same program a p s t None (Some chunk) rows true same = (
-  (refl, refl),
-  record {
-    files = record {
-      files = record { archs_path = refl; packages_path = refl; sources_path = refl };
-      tracker_path = refl;
-    };
-    state_path = refl;
-    rows = same;
-  },
-)
-track_same program a p s t (Some state) None rows true same = (
-  (refl, refl),
-  record {
-    files = record {
-      files = record { archs_path = refl; packages_path = refl; sources_path = refl };
-      tracker_path = refl;
-    };
-    state_path = refl;
-    rows = same;
-  },
-)
-track_same program a p s t (Some state) (Some chunk) rows true same = (
-  (refl, refl),
-  record {
-    files = record {
-      files = record { archs_path = refl; packages_path = refl; sources_path = refl };
-      tracker_path = refl;
-    };
-    state_path = refl;
-    rows = same;
-  },
-)
+track_asked program a p s t None None false =
+    ((refl, refl), (refl, refl, refl, refl, refl, refl))
+track_asked program a p s t None (Some chunk) false =
+    ((refl, refl), (refl, refl, refl, refl, refl, refl))
+track_asked program a p s t (Some state) None false =
+    ((refl, refl), (refl, refl, refl, refl, refl, refl))
+track_asked program a p s t (Some state) (Some chunk) false =
+    ((refl, refl), (refl, refl, refl, refl, refl, refl))
+track_asked program a p s t None None true =
+    ((refl, refl), (refl, refl, refl, refl, refl, refl))
+track_asked program a p s t None (Some chunk) true =
+    ((refl, refl), (refl, refl, refl, refl, refl, refl))
+track_asked program a p s t (Some state) None true =
+    ((refl, refl), (refl, refl, refl, refl, refl, refl))
+track_asked program a p s t (Some state) (Some chunk) true =
+    ((refl, refl), (refl, refl, refl, refl, refl, refl))
+
+track_same : (program : List ℕ) (w : TrackWords) (chunk : Option (List ℕ)) (explained : Bool)
+    → chunk_in chunk ≡ Some w.chunk
+    → AskForTrack (asking_for_track program w chunk ++ explaining explained) w
+track_same program w chunk explained same =
+    let words = asking_for_track program w chunk ++ explaining explained in
+    let asked = track_asked program w.archs w.packages w.sources w.tracker w.state chunk explained
+    in (
+      asked.0,
+      has_track (options_of words) w.archs w.packages w.sources w.tracker w.state chunk w.chunk
+          asked.1 same,
+    )
 
 track_flag : (program a p s t : List ℕ) (state chunk : Option (List ℕ)) (rows : Option ℕ)
     (explained : Bool)
@@ -305,9 +196,7 @@ track_flag program a p s t (Some state) (Some chunk) rows true = refl
 
 pub track_explains : TrackWordsExplain
 track_explains = record {
-  same = λ program w chunk explained same.
-      track_same program w.archs w.packages w.sources w.tracker w.state chunk w.chunk explained
-      same;
+  same = track_same;
   flag = λ program w chunk explained.
       track_flag program w.archs w.packages w.sources w.tracker w.state chunk w.chunk explained;
 }
@@ -350,27 +239,13 @@ run_explains = record { same = same; flag = flag }
         (plain_run archs packages sources)
     same program archs packages sources false = (
       (refl, refl),
-      record {
-        files = record { archs_path = refl; packages_path = refl; sources_path = refl };
-        state_path = refl;
-        tracker_path = refl;
-        suite_name = refl;
-        count = refl;
-        outcomes_path = refl;
-        journal_path = refl;
-      },
+      (has_run _ _ (record { archs_path = refl; packages_path = refl; sources_path = refl })
+          refl refl refl refl refl refl),
     )
     same program archs packages sources true = (
       (refl, refl),
-      record {
-        files = record { archs_path = refl; packages_path = refl; sources_path = refl };
-        state_path = refl;
-        tracker_path = refl;
-        suite_name = refl;
-        count = refl;
-        outcomes_path = refl;
-        journal_path = refl;
-      },
+      (has_run _ _ (record { archs_path = refl; packages_path = refl; sources_path = refl })
+          refl refl refl refl refl refl),
     )
 
     flag : (program archs packages sources : List ℕ) (explained : Bool)
@@ -378,6 +253,30 @@ run_explains = record { same = same; flag = flag }
         (asking_for_plain_run program archs packages sources ++ explaining explained)) ≡ explained
     flag program archs packages sources false = refl
     flag program archs packages sources true = refl
+
+-- ---- without one
+
+pub asks_for_check : (program archs packages sources : List ℕ)
+    → AskForCheck (asking_for_check program archs packages sources) archs packages sources
+asks_for_check program archs packages sources =
+    check_explains.same program archs packages sources false
+
+pub asks_for_track : TrackWordsAsk
+asks_for_track program w chunk same =
+    subst (λ words. AskForTrack words w) (append_nothing (asking_for_track program w chunk))
+    (track_same program w chunk false same)
+  where
+    append_nothing : (words : List (List ℕ)) → words ++ [] ≡ words
+    append_nothing [] = refl
+    append_nothing (word ∷ more) = ap (λ rest. word ∷ rest) (append_nothing more)
+
+pub asks_for_waves : WavesWordsAsk
+asks_for_waves program archs packages sources tracker =
+    waves_explain.same program archs packages sources tracker false
+
+pub asks_for_plain_run : PlainRunWordsAsk
+asks_for_plain_run program archs packages sources =
+    run_explains.same program archs packages sources false
 
 -- ---- the matches of a subcommand
 

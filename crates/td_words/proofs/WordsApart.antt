@@ -16,6 +16,7 @@ use Rattle.td_words.specs.WordsApart.{AreDeskPlain, ArePlain, DeskValues, IsPlai
 use Rattle.td_words.specs.WordsApart.{SeparatePlainRunWordsAsk, SeparateTrackWordsAsk}
 use Rattle.td_words.specs.WordsApart.{SeparateWavesWordsAsk, SeparateWholeRunWordsAsk}
 use Rattle.td_words.specs.WordsApart.{plain_run_apart, track_apart, waves_apart, whole_run_apart}
+use Rattle.td_words.proofs.Asking.{AreOptions, has_run, has_track}
 use Rattle.td_words.proofs.Apart.{Given, Opens, ended, level_passes, walk_is}
 
 -- a subcommand as it is built
@@ -218,46 +219,17 @@ module _ (program a p s t : List ℕ) (rows : Option ℕ) where
       ap (λ w. Some (codes "track", finished built_track.rules w.held))
       (walk_is built_track (walk_from nothing_held) (track_given a p s t (Some x) (Some c)) h)
 
-  track_has : (state chunk : Option (List ℕ)) → chunk_in chunk ≡ Some rows
-      → HasTrack (rows_in (found (codes "track") built_track (track_given a p s t state chunk)))
-      (words_with a p s t state rows)
+  abbrev track_rows : Option (List ℕ) → Option (List ℕ) → List Row
+  track_rows state chunk =
+      rows_in (found (codes "track") built_track (track_given a p s t state chunk))
+
+  track_options : (state chunk : Option (List ℕ))
+      → AreOptions (track_rows state chunk) a p s t state chunk
   unfolding clap_on_literals
-  track_has None None same =
-      record {
-        files = record {
-          files = record { archs_path = refl; packages_path = refl; sources_path = refl };
-          tracker_path = refl;
-        };
-        state_path = refl;
-        rows = same;
-      }
-  track_has None (Some c) same =
-      record {
-        files = record {
-          files = record { archs_path = refl; packages_path = refl; sources_path = refl };
-          tracker_path = refl;
-        };
-        state_path = refl;
-        rows = same;
-      }
-  track_has (Some x) None same =
-      record {
-        files = record {
-          files = record { archs_path = refl; packages_path = refl; sources_path = refl };
-          tracker_path = refl;
-        };
-        state_path = refl;
-        rows = same;
-      }
-  track_has (Some x) (Some c) same =
-      record {
-        files = record {
-          files = record { archs_path = refl; packages_path = refl; sources_path = refl };
-          tracker_path = refl;
-        };
-        state_path = refl;
-        rows = same;
-      }
+  track_options None None = (refl, refl, refl, refl, refl, refl)
+  track_options None (Some c) = (refl, refl, refl, refl, refl, refl)
+  track_options (Some x) None = (refl, refl, refl, refl, refl, refl)
+  track_options (Some x) (Some c) = (refl, refl, refl, refl, refl, refl)
 
   track_asks : (state chunk : Option (List ℕ)) → chunk_in chunk ≡ Some rows → TrackOpens state chunk
       → AskForTrack (track_apart program (words_with a p s t state rows) chunk)
@@ -266,7 +238,7 @@ module _ (program a p s t : List ℕ) (rows : Option ℕ) where
       let entered = track_entered state chunk opens in (
         (track_faults state chunk opens, ap name_in entered),
         subst (λ o. HasTrack (rows_in o) (words_with a p s t state rows)) (sym entered)
-            (track_has state chunk same),
+            (has_track _ a p s t state chunk rows (track_options state chunk) same),
       )
 
 pub asks_for_track_apart : SeparateTrackWordsAsk
@@ -310,15 +282,8 @@ asks_for_plain_run_apart program a p s plain =
     let entered = run_entered program a p s opens in (
       (run_faults program a p s opens, ap name_in entered),
       subst (λ o. HasRun (rows_in o) (plain_run a p s)) (sym entered)
-          (record {
-            files = record { archs_path = refl; packages_path = refl; sources_path = refl };
-            state_path = refl;
-            tracker_path = refl;
-            suite_name = refl;
-            count = refl;
-            outcomes_path = refl;
-            journal_path = refl;
-          }),
+          (has_run _ _ (record { archs_path = refl; packages_path = refl; sources_path = refl })
+          refl refl refl refl refl refl),
     )
 
 abbrev whole_given : List ℕ → List ℕ → List ℕ → DeskValues → List Given
@@ -404,13 +369,6 @@ asks_for_whole_run_apart program a p s v count same plain desk_plain =
     let entered = whole_entered program a p s v opens in (
       (whole_faults program a p s v opens, ap name_in entered),
       subst (λ o. HasRun (rows_in o) (whole_run a p s v count)) (sym entered)
-          (record {
-            files = record { archs_path = refl; packages_path = refl; sources_path = refl };
-            state_path = refl;
-            tracker_path = refl;
-            suite_name = refl;
-            count = same;
-            outcomes_path = refl;
-            journal_path = refl;
-          }),
+          (has_run _ _ (record { archs_path = refl; packages_path = refl; sources_path = refl })
+          refl refl refl same refl refl),
     )
