@@ -102,6 +102,14 @@ fn fault_of(alloc: Global, error: &Error) -> WordsFault
     }
 }
 
+/// The text that is said of a value that an option doesn't take.
+pub(crate) fn said(alloc: Global, text: &str) -> WordsFault {
+    match String::from_str(alloc, text) {
+        Ok(text) => WordsFault::Usage(text),
+        Err(_) => WordsFault::NoMemory,
+    }
+}
+
 /// What an option was given.
 pub(crate) fn value_in<'a>(matches: &ArgMatches<'a>, name: &str) -> Option<&'a str>
     ensures { option_map (λ s. s.now) result
@@ -178,14 +186,6 @@ fn chunk_in(matches: &ArgMatches<'_>) -> Option<Option<usize>>
     }
 }
 
-// The text that is said of another value.
-fn no_chunk(alloc: Global) -> WordsFault {
-    match String::from_str(alloc, "error: --chunk takes a number from 1 to 1000000\n") {
-        Ok(text) => WordsFault::Usage(text),
-        Err(_) => WordsFault::NoMemory,
-    }
-}
-
 // The report that the matches of `track` ask for.
 fn track_in(alloc: Global, matches: &ArgMatches<'_>) -> Result<Request, WordsFault>
     ensures track { (w : TrackWords) → HasTrack (rows_of (found_of matches.now)) w
@@ -198,7 +198,7 @@ fn track_in(alloc: Global, matches: &ArgMatches<'_>) -> Result<Request, WordsFau
     let tracker = needed_in(alloc, matches, "tracker")?;
     let state = given_in(alloc, matches, "state")?;
     let Some(chunk) = chunk_in(matches) else {
-        return Err(no_chunk(alloc));
+        return Err(said(alloc, "error: --chunk takes a number from 1 to 1000000\n"));
     };
     Ok(Request::Track {
         archs,
