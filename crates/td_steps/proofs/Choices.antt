@@ -3,7 +3,6 @@ use Rattle.std.proofs.Common.{◌≡◌, ℕ, zero, suc, ◌≤◌, Bool, true, 
 use Rattle.std.proofs.Common.{Option, Some, None, option_map, if◌then◌else◌, filter, map, slice_get}
 use Rattle.std.proofs.Common.{ap, refl, sym, subst, ◌∙◌, arith}
 use Rattle.std.proofs.lemmas.Bool.{and_parts}
-use Rattle.td_board.specs.declared.views.RowView.TheVariants as views
 use Rattle.td_rows.specs.declared.key.Key.{Key}
 use Rattle.td_rows.specs.declared.row.Row.{Row}
 use Rattle.td_rows.specs.declared.kind.Kind.{Kind}
@@ -29,18 +28,17 @@ use Rattle.td_core.proofs.WorldSteps.{after-accepted, after-refused}
 use Rattle.td_book.specs.Calls.{is_lost, noting_one, noting, off_for, entered}
 use Rattle.td_book.specs.Desk.{BookModel, claim_of}
 use Rattle.td_book.proofs.Steps.{rows_with}
-use Rattle.td_core.proofs.Promises.{builders_are_there}
 use Rattle.td_book.specs.Commands.{named_by, is_matched_in}
 use Rattle.td_wbread.specs.Kinds.{kind_of}
-use Rattle.td_steps.specs.Sees.{Fits, Sees, resting}
+use Rattle.td_steps.specs.Sees.{Sees, resting}
 use Rattle.td_steps.specs.Moves.{Move, offer, won, lost, note, step_of, Chosen}
 use Rattle.td_steps.specs.Runs.{Runs}
 use Rattle.td_steps.specs.Parts.{withdrawing_one, withdrawing, offering_one, offering, committing}
 use Rattle.td_steps.specs.Commands.{entering_moves, command_moves}
 use Rattle.td_steps.specs.Choices.{first_at, Decided, WorldsDecide, DecidedCommandsRun}
-use Rattle.td_steps.proofs.Sees.{phase_seen}
 use Rattle.td_steps.proofs.Parts.{queued-row, view-out, off-rise, up-seen}
 use Rattle.td_steps.proofs.Commands.{named-rise}
+use Rattle.td_steps.proofs.Turns.{first-out}
 
 -- ---- 1. moves that run with no step of a builder between them
 
@@ -227,32 +225,16 @@ first-at : (w : WorldView) (old : BookModel) (k : Key) → Sees w (resting old)
     → First w old.fixed.builders k
 first-at w old k i = at (is_queued_at (rows_of w.history) k) refl
   where
-    by_phase : (p : Phase) → phase_of w k ≡ Some p → Fits views.Out p → First w old.fixed.builders k
-    by_phase phases.Closed phase fit = elim fit [ ]
-    by_phase phases.Open phase fit = record { by = 0; bound = omega arith; is = λ _. phase }
-    by_phase (phases.Held zero) phase fit =
-        absurd (let r = builders_are_there w k (phases.Held 0) 0 i.sound phase refl in
-        omega (arith, r.0))
-    by_phase (phases.Held (suc b)) phase fit =
-        record {
-          by = suc b;
-          bound = let r = builders_are_there w k (phases.Held (suc b)) (suc b) i.sound phase refl in
-              subst (λ (n : ℕ). suc b ≤ n) i.builders r.1;
-          is = λ _. phase;
-        }
-    by_phase (phases.Noted b) phase fit = elim fit [ ]
-    by_phase (phases.Done b o) phase fit = elim fit [ ]
-
     at : (q : Bool) → is_queued_at (rows_of w.history) k ≡ q → First w old.fixed.builders k
     at false queued =
         record { by = 0; bound = omega arith; is = λ e. absurd (true_false (sym e ∙ queued)) }
     at true queued =
         let there : is_queued_at (rows_of old.history) k ≡ true =
         ap (λ (h : History). is_queued_at (rows_of h) k) (sym i.history) ∙ queued in
-        let seen = phase_seen w (resting old) k views.Out i
+        let first = first-out w (resting old) k i
         (view-out old.history old.fixed.stock old.fixed.builders [] k
         (queued-row old.history k there) refl) in
-        by_phase seen.0 seen.1 seen.2
+        record { by = first.by; bound = first.bound; is = λ _. first.is }
 
 pub worlds_decide : WorldsDecide
 worlds_decide w old [] i = ([], record { one_each = refl; bound = λ j b at. cc }, tt)
