@@ -210,7 +210,7 @@ noted_keys h now k b is =
     (sym (noted-opening (is_queued_at (rows_of h) k && is_lost b) h k b))
     ∙ ap (λ (x : History). keys_of x.opening) (sym is) ∙ sym (keys_of-rows_of now)
 
-known-built : (b : ℕ) (s : State) → is_building_by b s ≡ true → known_as s ≡ Known b
+pub known-built : (b : ℕ) (s : State) → is_building_by b s ≡ true → known_as s ≡ Known b
 known-built b NeedsBuild h = cc
 known-built b (Building c) h = ap (λ (x : ℕ). Known x) (eqb-true c b h)
 known-built b Built h = cc

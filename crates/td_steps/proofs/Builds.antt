@@ -1,16 +1,11 @@
 -- The moves of a start and of a finish lead from the book at rest to the book at rest.
 use Rattle.std.proofs.Common.{◌≡◌, ◌++◌, ℕ, Bool, true, false, List, [], ◌∷◌, Option, Some, None}
-use Rattle.std.proofs.Common.{Ok, Err, set, ◌==◌, ap, refl, sym, subst, ◌∙◌, arith}
-use Rattle.std.proofs.lemmas.Bool.Decides.{nat_tests}
+use Rattle.std.proofs.Common.{Ok, Err, set, ap, refl, sym, subst, ◌∙◌}
 use Rattle.td_board.specs.declared.views.Hand.TheVariants.{Free, Holding, Finished}
 use Rattle.td_board.specs.declared.views.RowView.{RowView}
 use Rattle.td_board.specs.declared.views.RowView.TheVariants as views
 use Rattle.td_rows.specs.declared.key.Key.{Key}
 use Rattle.td_rows.specs.declared.row.Row.{Row}
-use Rattle.td_rows.specs.declared.state.State.{State}
-use Rattle.td_rows.specs.declared.state.State.TheVariants.{NeedsBuild, Building, Built, Uploaded}
-use Rattle.td_rows.specs.declared.state.State.TheVariants.{Installed, DepWait, BdUninstallable}
-use Rattle.td_rows.specs.declared.state.State.TheVariants.{BuildAttempted, Failed, NotForUs}
 use Rattle.td_rows.specs.declared.kind.Kind.TheVariants as kinds
 use Rattle.td_rows.specs.declared.outcome.Outcome.{Outcome}
 use Rattle.td_rows.specs.Keys.{ascending}
@@ -23,11 +18,11 @@ use Rattle.td_core.specs.History.{History, rows_of, with_entry}
 use Rattle.td_core.specs.Worlds.{WorldView}
 use Rattle.td_book.specs.Calls.{noting_one}
 use Rattle.td_book.specs.Desk.{BookModel}
-use Rattle.td_book.specs.Seen.{seen_off, known_as}
+use Rattle.td_book.specs.Seen.{seen_off}
 use Rattle.td_book.specs.Building.{Noticed, is_built_at}
 use Rattle.td_book.specs.declared.starting.StartRefusal.TheVariants as starts
 use Rattle.td_book.specs.declared.finishing.FinishRefusal.TheVariants as finishes
-use Rattle.td_book.proofs.Builds.{ended_off}
+use Rattle.td_book.proofs.Builds.{ended_off, known-built}
 use Rattle.td_book.proofs.Steps.{rows_with, up_now}
 use Rattle.td_core.specs.declared.step.Answer.TheVariants as answers
 use Rattle.td_steps.specs.Sees.{resting, view_of, Sees}
@@ -97,21 +92,6 @@ starts_are_steps w b (Finished i c) old new (Err starts.NoMemory) sees o =
     ([], refl, idle-on w old new sees o)
 
 -- ---- 2. a finish
-
-known-built : (b : ℕ) (s : State) → is_building_by b s ≡ true → known_as s ≡ views.Known b
-known-built b NeedsBuild h = cc
-known-built b (Building c) h = ap (λ (x : ℕ). views.Known x) (same c b h)
-  where
-    same : (x y : ℕ) → (x == y) ≡ true → x ≡ y
-    same x y e = grind (arith, nat_tests, e)
-known-built b Built h = cc
-known-built b Uploaded h = cc
-known-built b Installed h = cc
-known-built b DepWait h = cc
-known-built b BdUninstallable h = cc
-known-built b BuildAttempted h = cc
-known-built b Failed h = cc
-known-built b NotForUs h = cc
 
 pub record BuiltRow (h : History) (k : Key) (b : ℕ) : Type 0 where
   pub row : Row
