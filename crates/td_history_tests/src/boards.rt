@@ -1,10 +1,12 @@
 //! What no clause can say: that calls succeed, and that of two threads exactly one wins. Expected
 //! values are this project's own worked examples.
-ghost use Rattle.std.specs.Prelude.{◌≡◌};
+ghost use Rattle.std.specs.Prelude.{◌≡◌, ◌∷◌, [], ℕ, IfOk};
 ghost use mathlib.Core.Option.{some};
 ghost use lib.ListN.{get_elem?};
-ghost use Rattle.td_board.specs.declared.views.RowView.TheVariants.{Out};
+ghost use Rattle.td_board.specs.declared.views.Hand.TheVariants.{Holding};
+ghost use Rattle.td_board.specs.declared.views.RowView.TheVariants.{Out, Seen};
 
+use std::alloc::Global;
 use std::test::Fail;
 use std::thread;
 use std::thread::Threads;
@@ -96,18 +98,31 @@ fn outcomes_have_the_codes_0_to_3(rt: HostRuntime) {
     assert_eq!(rt; codes, [0, 1, 2, 3]);
 }
 
-#[test]
-fn a_finish_waits_for_the_note_and_a_settling_for_the_finish(rt: HostRuntime) -> Result<(), Fail> {
-    let (board, mut desk, mut seats) = Board::make(rt.alloc(), 1, 1)?;
+// A board of one row, which its one builder has claimed and the desk could not take back; and the
+// two seats.
+fn claimed_row(alloc: Global) -> Result<(Board, DeskSeat, BuilderSeat), Fail>
+    ensures desk { IfOk result (λ made. made.1.table ≡ made.0.table) }
+    ensures seat { IfOk result (λ made. made.2.table ≡ made.0.table) }
+    ensures seen { IfOk result (λ made. (b : ℕ) × (made.1.desk.rows ≡ Seen b ∷ [])) }
+    ensures held { IfOk result (λ made. made.2.builder.hand ≡ Holding 0) }
+{
+    let (board, mut desk, mut seats) = Board::make(alloc, 1, 1)?;
     let Some(mut seat) = seats.pop() else {
         return Err(Fail::from("a seat"));
     };
     board.offer(&mut desk, 0);
-    let claimed = board.claim(0, &mut seat);
-    assert!(rt; claimed);
+    if !board.claim(0, &mut seat) {
+        return Err(Fail::from("it is claimed"));
+    }
     let Withdrawal::Held(_) = board.withdraw(&mut desk, 0) else {
         return Err(Fail::from("it was claimed"));
     };
+    Ok((board, desk, seat))
+}
+
+#[test]
+fn a_finish_waits_for_the_note_and_a_settling_for_the_finish(rt: HostRuntime) -> Result<(), Fail> {
+    let (board, mut desk, mut seat) = claimed_row(rt.alloc())?;
     let finished = board.finish(&mut seat, OutcomeCode::Attempted);
     assert!(rt; !finished, "before the note");
     let noted = board.note(&mut desk, 0);
@@ -125,16 +140,7 @@ fn a_finish_waits_for_the_note_and_a_settling_for_the_finish(rt: HostRuntime) ->
 
 #[test]
 fn a_release_waits_for_the_settling(rt: HostRuntime) -> Result<(), Fail> {
-    let (board, mut desk, mut seats) = Board::make(rt.alloc(), 1, 1)?;
-    let Some(mut seat) = seats.pop() else {
-        return Err(Fail::from("a seat"));
-    };
-    board.offer(&mut desk, 0);
-    let claimed = board.claim(0, &mut seat);
-    assert!(rt; claimed);
-    let Withdrawal::Held(_) = board.withdraw(&mut desk, 0) else {
-        return Err(Fail::from("it was claimed"));
-    };
+    let (board, mut desk, mut seat) = claimed_row(rt.alloc())?;
     board.note(&mut desk, 0);
     let finished = board.finish(&mut seat, OutcomeCode::Waits);
     assert!(rt; finished);
@@ -156,16 +162,7 @@ fn a_release_waits_for_the_settling(rt: HostRuntime) -> Result<(), Fail> {
 
 #[test]
 fn a_claim_releases_a_settled_finish_first(rt: HostRuntime) -> Result<(), Fail> {
-    let (board, mut desk, mut seats) = Board::make(rt.alloc(), 1, 1)?;
-    let Some(mut seat) = seats.pop() else {
-        return Err(Fail::from("a seat"));
-    };
-    board.offer(&mut desk, 0);
-    let claimed = board.claim(0, &mut seat);
-    assert!(rt; claimed);
-    let Withdrawal::Held(_) = board.withdraw(&mut desk, 0) else {
-        return Err(Fail::from("it was claimed"));
-    };
+    let (board, mut desk, mut seat) = claimed_row(rt.alloc())?;
     board.note(&mut desk, 0);
     let finished = board.finish(&mut seat, OutcomeCode::GivenBack);
     assert!(rt; finished);
@@ -187,16 +184,7 @@ fn a_claim_releases_a_settled_finish_first(rt: HostRuntime) -> Result<(), Fail> 
 fn a_claim_of_a_row_that_is_not_there_releases_a_settled_finish(
     rt: HostRuntime,
 ) -> Result<(), Fail> {
-    let (board, mut desk, mut seats) = Board::make(rt.alloc(), 1, 1)?;
-    let Some(mut seat) = seats.pop() else {
-        return Err(Fail::from("a seat"));
-    };
-    board.offer(&mut desk, 0);
-    let claimed = board.claim(0, &mut seat);
-    assert!(rt; claimed);
-    let Withdrawal::Held(_) = board.withdraw(&mut desk, 0) else {
-        return Err(Fail::from("it was claimed"));
-    };
+    let (board, mut desk, mut seat) = claimed_row(rt.alloc())?;
     board.note(&mut desk, 0);
     let finished = board.finish(&mut seat, OutcomeCode::Built);
     assert!(rt; finished);
