@@ -10,8 +10,8 @@ use Rattle.td_rows.specs.declared.key.Key.{Key}
 use Rattle.td_rows.specs.declared.outcome.Outcome.{Outcome}
 use Rattle.td_rows.specs.Keys.{same_key}
 use Rattle.td_rows.proofs.Keys.{same_key-true, same_key-sym}
+use Rattle.td_journal.specs.Endings.{outcome_text}
 use Rattle.td_book.specs.Deeds.{code_of}
-use Rattle.td_builder.specs.OutcomeLines.{outcome_text}
 use Rattle.td_builder.specs.declared.key_line.KeyLine.{KeyLine}
 use Rattle.td_builder.specs.Unused.{KeyLines, lines_of_key, numbered, codes_in}
 

@@ -11,53 +11,9 @@ use Rattle.std.proofs.lemmas.List.Splits.{length-slice_split}
 use Rattle.td_text.specs.Lines.{lines_of, lines_left, left_text}
 use Rattle.td_rows.specs.declared.key.Key.{Key}
 use Rattle.td_rows.specs.declared.outcome.Outcome.{Outcome}
-use Rattle.td_builder.specs.OutcomeLines.{outcome_line, OutcomeFits, ended, AreOutcomes, IsFirstBad}
+use Rattle.td_builder.specs.OutcomeLines.{outcome_line, OutcomeFits, AreOutcomes, IsFirstBad}
 use Rattle.td_builder.specs.OutcomeReading.{outcome_line_at}
 use Rattle.td_builder.proofs.OutcomeTexts.{lines_exact}
-
--- ---- lines, the last of which may lack its newline
-
-has_line : (t : List ℕ) → 0 < length (lines_of t)
-has_line t = omega (arith, length-slice_split (λ b. eqb b 10) t)
-
--- nothing stands behind the last line
-pub ended-none : ended (lines_of []) ≡ ended []
-unfolding ended
-ended-none = refl
-
-ended-filled : (line : List ℕ) (lines : List (List ℕ)) → 0 < length lines
-    → ended (line ∷ lines) ≡ line ∷ ended lines
-unfolding ended
-ended-filled [] [] some = absurd (omega arith)
-ended-filled [] (next ∷ lines) some = refl
-ended-filled (x ∷ line) lines some = refl
-
-pub ended-empty : (t : List ℕ) → t ≡ [] → ended (lines_of t) ≡ []
-unfolding ended
-ended-empty t none = ap (λ (l : List ℕ). ended (lines_of l)) none
-
--- a text that isn't empty has its first line
-pub ended-next : (t line : List ℕ) (o : Option (Bor (List ℕ))) → lines_of t ≡ line ∷ lines_left o
-    → t ≡ line ++ left_text o → t ≢ [] → ended (lines_of t) ≡ line ∷ ended (lines_left o)
-unfolding ended
-ended-next t line (Some rest) is whole some =
-    ap ended is ∙ ended-filled line (lines_of rest.now) (has_line rest.now)
-ended-next t [] None is whole some = absurd (some whole)
-ended-next t (x ∷ line) None is whole some = ap ended is
-
-pub some_text : (t : List ℕ) → eqb (length t) 0 ≡ false → t ≢ []
-some_text [] h is = absurd cc
-some_text (x ∷ t) h is = absurd cc
-
-pub length_some : (t : List ℕ) → t ≢ [] → 0 < length t
-length_some [] some = absurd (some refl)
-length_some (x ∷ t) some = omega arith
-
-pub no_text : (t : List ℕ) → eqb (length t) 0 ≡ true → t ≡ []
-no_text [] h = refl
-no_text (x ∷ t) h = absurd (let none = eqb-true (suc (length t)) 0 h in omega arith)
-
--- ---- line by line
 
 all-push : (os : List (Key × Outcome)) (p : Key × Outcome) → AllByRecursion OutcomeFits os
     → OutcomeFits p → AllByRecursion OutcomeFits (os ++ p ∷ [])

@@ -1,11 +1,12 @@
 //! Outcomes of builds, by lines of a text.
 ghost use Rattle.std.specs.Prelude.{◌≡◌, ◌-◌, ◌≤◌, ◌++◌, ◌∷◌, [], List, length, map, OnOk, IfOk};
 ghost use Rattle.std.specs.Prelude.{IfErr};
-ghost use Rattle.td_text.specs.Lines.{lines_of, lines_left, left_len};
+ghost use Rattle.td_text.specs.Lines.{lines_of, ended};
 ghost use Rattle.td_rows.specs.declared.key.Key.{Key as KeyValue};
 ghost use Rattle.td_rows.specs.declared.outcome.Outcome.{Outcome as OutcomeValue};
+ghost use Rattle.td_journal.specs.Endings.{outcome_text};
 ghost use Rattle.td_book.specs.Deeds.{code_of};
-ghost use Rattle.td_builder.specs.OutcomeLines.{AreOutcomes, FaultOf, ended, outcome_text};
+ghost use Rattle.td_builder.specs.OutcomeLines.{AreOutcomes, FaultOf};
 ghost use Rattle.td_builder.specs.Unused.{lines_of_key, numbered, with_line, codes_in, codes_of};
 
 use crate::fault::OutcomesFault;
@@ -18,7 +19,7 @@ use std::alloc::{AllocError, Global};
 use std::sync::{Mutex, Wait};
 use td_book::Job;
 use td_rows::{Key, Line, Outcome};
-use td_text::next_line;
+use td_text::{behind, next_line};
 
 /// A way to build that has no need to: each build of a key ends as the next unused line of it
 /// says, and is built where no line is left. Builders' threads share it, and no line is used
@@ -36,17 +37,6 @@ pub struct Outcomes {
 struct Gathered {
     lines: IndexMap<Key, Vec<KeyLine>>,
     texts: Vec<Line>,
-}
-
-// What stands behind a line: nothing behind the last.
-fn behind(after: Option<&str>) -> &str
-    ensures lines { ended (lines_of result.now) ≡ ended (lines_left after.entry) }
-    ensures shorter { length result.now ≤ left_len after.entry - 1 }
-{
-    match after {
-        Some(rest) => rest,
-        None => "",
-    }
 }
 
 impl Gathered {

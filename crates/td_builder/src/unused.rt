@@ -1,7 +1,7 @@
 //! Which outcome lines weren't used yet.
 ghost use Rattle.std.specs.Prelude.{◌≡◌, ℕ, [], IfOk, IfSome, IfNone, map, replicate};
+ghost use Rattle.td_journal.specs.Endings.{outcome_text};
 ghost use Rattle.td_book.specs.Deeds.{code_of as code_in};
-ghost use Rattle.td_builder.specs.OutcomeLines.{outcome_text};
 ghost use Rattle.td_builder.specs.Unused.{IsNext, IsTaken, outcome_of as outcome_in};
 
 use crate::key_line::KeyLine;

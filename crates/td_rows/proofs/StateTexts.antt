@@ -14,8 +14,7 @@ use Rattle.td_text.proofs.Chain.{on_ok_parts, guard, ok_is}
 use Rattle.td_text.proofs.Cut.{Without-left, Without-right}
 use Rattle.td_text.proofs.FirstFault.{first_fault}
 use Rattle.td_text.proofs.Lines.{fails}
-use Rattle.td_text.proofs.Words.{Without-name, Without-arch}
-use Rattle.td_rows.proofs.NoteLines.{has_newline-Without, extra_lacks, text_lacks}
+use Rattle.td_rows.proofs.NoteLines.{key_lacks, extra_lacks, text_lacks}
 use Rattle.td_rows.specs.declared.key.Key.{Key}
 use Rattle.td_rows.specs.declared.row.Row.{Row}
 use Rattle.td_rows.specs.declared.state_file.StateFault.{StateFault}
@@ -199,8 +198,8 @@ line_lacks_newlines line p w is =
     let texts : Without 10 (notes (p.1.extra, p.1.dep_wait)) =
     Without-right 10 (decimal p.1.number) (notes (p.1.extra, p.1.dep_wait)) number in
     record {
-      source = has_newline-Without p.0.source (Without-name 10 p.0.source refl f.1.key.source);
-      arch = has_newline-Without p.0.arch (Without-arch 10 p.0.arch refl f.1.key.arch);
+      source = (key_lacks p.0 f.1.key).0;
+      arch = (key_lacks p.0 f.1.key).1;
       extra = extra_lacks p.1.extra
           (Without-left 10 (extra_part p.1.extra) (text_part p.1.dep_wait) texts);
       dep_wait = text_lacks p.1.dep_wait

@@ -31,7 +31,7 @@ mod state_writing;
 pub use cells::Cells;
 pub use exchange::{has_text, texts_of};
 pub use key::{Key, are_ascending};
-pub use key_text::{put_key, read_key};
+pub use key_text::{put_key, read_key, read_own_key};
 pub use kind::{Kind, applies, cells_of};
 pub use line::{Line, LineError};
 pub use notes::{put_notes, read_notes};

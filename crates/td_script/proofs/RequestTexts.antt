@@ -12,12 +12,13 @@ use Rattle.td_text.specs.Words.{is_name, is_arch}
 use Rattle.td_text.proofs.Chain.{chained, some_is, when_some, or_word}
 use Rattle.td_text.proofs.Cut.{cut-at, cut_found, lacks, Begins, part_again, part_joined}
 use Rattle.td_text.proofs.Numbers.{number_exact}
+use Rattle.td_text.proofs.Empty.{no_text}
 use Rattle.td_text.proofs.Prefix.{strip_found, strip_again}
 use Rattle.td_text.proofs.Words.{Without-name, Without-arch}
 use Rattle.td_rows.specs.declared.key.Key.{Key}
 use Rattle.td_rows.specs.KeyText.{KeyFits}
 use Rattle.td_rows.specs.Text.{has_newline}
-use Rattle.td_rows.proofs.NoteLines.{has_newline-Without}
+use Rattle.td_rows.proofs.NoteLines.{key_lacks}
 use Rattle.td_script.specs.declared.request.Verb.{Verb}
 use Rattle.td_script.specs.declared.request.Verb.TheVariants as verb
 use Rattle.td_script.specs.declared.request.Request.{Request}
@@ -51,11 +52,7 @@ spaced_exact = record { found = spaced_found; again = spaced_again }
 
 pub spaced_lacks : (t : List ℕ) (k : Key) → spaced_key_at t ≡ Some k
     → (has_newline k.source ≡ false) × (has_newline k.arch ≡ false)
-spaced_lacks t k is =
-    let fits = (spaced_found t k is).1 in (
-      has_newline-Without k.source (Without-name 10 k.source refl fits.source),
-      has_newline-Without k.arch (Without-arch 10 k.arch refl fits.arch),
-    )
+spaced_lacks t k is = key_lacks k (spaced_found t k is).1
 
 -- ---- verbs
 
@@ -88,16 +85,12 @@ verb_found t v e =
 abbrev IsLineOf : List ℕ → Request → Type 0
 IsLineOf line r = (line ≡ request_line r) × RequestFits r
 
-empty : (l : List ℕ) → eqb (length l) 0 ≡ true → l ≡ []
-empty [] h = refl
-empty (x ∷ l) h = absurd (let none = eqb-true (suc (length l)) 0 h in omega arith)
-
 alone_found : (word rest : List ℕ) (x r : Request) → IsLineOf (word ++ []) x
     → cond (eqb (length rest) 0) (Some x) None ≡ Some r → IsLineOf (word ++ rest) r
 alone_found word rest x r line e =
     let a = when_some (eqb (length rest) 0) x r e in
     subst (IsLineOf (word ++ rest)) a.1
-    (subst (λ (t : List ℕ). IsLineOf (word ++ t) x) (sym (empty rest a.0)) line)
+    (subst (λ (t : List ℕ). IsLineOf (word ++ t) x) (sym (no_text rest a.0)) line)
 
 number_found : (word rest : List ℕ) (make : ℕ → Request) (r : Request)
     → ((n : ℕ) → n < 2 ^ 64 → IsLineOf (word ++ (codes " " ++ decimal n)) (make n))

@@ -1,7 +1,8 @@
 -- A text is one simulation at the most, and none where it has a fault.
 use Rattle.std.proofs.Common.{◌≡◌, ◌<◌, ℕ, List, [], ◌∷◌, ◌++◌, map, length, refl, sym, subst, ◌∙◌}
 use Rattle.std.proofs.Common.{arith}
-use Rattle.td_text.specs.Lines.{lines_of}
+use Rattle.td_text.specs.Lines.{lines_of, ended}
+use Rattle.td_text.proofs.Ended.{ended-none}
 use Rattle.td_rows.specs.Table.{Table}
 use Rattle.td_rows.specs.declared.state_file.StateFault.{StateFault}
 use Rattle.td_rows.specs.declared.state_file.StateFault.TheVariants as state
@@ -10,12 +11,11 @@ use Rattle.td_core.specs.declared.step.Step.{Step}
 use Rattle.td_simulate.specs.declared.fault.SimulationFault.{SimulationFault}
 use Rattle.td_simulate.specs.declared.fault.SimulationFault.TheVariants.{Opening, BadStep, NoMemory}
 use Rattle.td_simulate.specs.Faults.{of_opening}
-use Rattle.td_simulate.specs.SimulationText.{opening_text, ended, lines_after, number_after}
+use Rattle.td_simulate.specs.SimulationText.{opening_text, lines_after, number_after}
 use Rattle.td_simulate.specs.SimulationText.{AreSteps, IsSimulation, IsFirstBad, StepsFault}
 use Rattle.td_simulate.specs.SimulationText.{FaultOf}
 use Rattle.td_simulate.specs.StepLines.{step_line}
 use Rattle.td_simulate.proofs.StepLists.{AreSteps-bad}
-use Rattle.td_simulate.proofs.TextParts.{ended-none}
 
 -- the parts of a text, by those that were cut
 pub simulation : (text opening rest : List ℕ) (t : Table) (ss : List Step)

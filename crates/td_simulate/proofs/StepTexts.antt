@@ -17,15 +17,6 @@ use Rattle.td_journal.proofs.KeyWords.{keys_found}
 use Rattle.td_simulate.specs.StepReading.{builder_at}
 use Rattle.td_simulate.proofs.StepWords.{builder_found}
 
--- of a key
-pub key_lacks : (t : List ℕ) (k : Key) → key_at t ≡ Some k
-    → (has_newline k.source ≡ false) × (has_newline k.arch ≡ false)
-key_lacks t k is =
-    let fits = (key_exact.found t k is).1 in (
-      has_newline-Without k.source (Without-name 10 k.source refl fits.source),
-      has_newline-Without k.arch (Without-arch 10 k.arch refl fits.arch),
-    )
-
 notes_at-lack : (t : List ℕ) (n : List ℕ × List ℕ) → Without 10 t → notes_at t ≡ Some n
     → (has_newline n.0 ≡ false) × (has_newline n.1 ≡ false)
 notes_at-lack t n w is = notes_lack n (subst (Without 10) (notes_exact.found t n is).0 w)
@@ -39,14 +30,9 @@ commit_lacks rest n w is =
     notes_at-lack (keys_at rest).1 n
     (Without-right 10 (spaced_keys (keys_at rest).0) (keys_at rest).1 whole) is
 
--- of the end of a build
-pub finish_lacks : (t : List ℕ) (p : ℕ × List ℕ) (n : List ℕ × List ℕ) → Without 10 t
-    → builder_at t ≡ Some p → notes_at (part 32 p.1).1 ≡ Some n
-    → (has_newline n.0 ≡ false) × (has_newline n.1 ≡ false)
-finish_lacks t p n w builder is =
-    let whole : Without 10 (decimal p.0 ++ 32 ∷ p.1) =
-    subst (Without 10) (builder_found t p builder).0 w in
-    let rest : Without 10 p.1 = (Without-right 10 (decimal p.0) (32 ∷ p.1) whole).1 in
-    let parts : Without 10 ((part 32 p.1).0 ++ (part 32 p.1).1) =
-    subst (Without 10) (part_joined 32 p.1) rest in
-    notes_at-lack (part 32 p.1).1 n (Without-right 10 (part 32 p.1).0 (part 32 p.1).1 parts) is
+-- behind the builder of a build's end
+pub finish_lacks : (t : List ℕ) (p : ℕ × List ℕ) → Without 10 t → builder_at t ≡ Some p
+    → Without 10 p.1
+finish_lacks t p w builder =
+    (Without-right 10 (decimal p.0) (32 ∷ p.1)
+    (subst (Without 10) (builder_found t p builder).0 w)).1

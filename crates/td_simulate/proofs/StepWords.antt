@@ -13,7 +13,6 @@ use Rattle.td_text.proofs.Chain.{chained, some_is, when_some, when_none, or_word
 use Rattle.td_text.proofs.Cut.{cut-at, lacks, Begins, part_again, part_joined, word_found}
 use Rattle.td_text.proofs.Numbers.{number_exact, Without-decimal}
 use Rattle.td_text.proofs.Prefix.{strip_found}
-use Rattle.td_simulate.proofs.TextParts.{no_text}
 use Rattle.td_rows.specs.declared.key.Key.{Key}
 use Rattle.td_rows.specs.declared.kind.Kind.{Kind}
 use Rattle.td_rows.specs.declared.kind.Kind.TheVariants.{Gb, Nmu, Bp, Dw, Claim as Claimed}
@@ -25,8 +24,10 @@ use Rattle.td_rows.specs.Notes.{text_part, notes, NotesFit, notes_at}
 use Rattle.td_rows.proofs.KeyTexts.{key_exact}
 use Rattle.td_rows.proofs.NoteTexts.{notes_exact, notes_begin}
 use Rattle.td_journal.specs.Commands.{is_command}
-use Rattle.td_journal.specs.EntryReading.{keys_at, outcome_at, told}
+use Rattle.td_journal.specs.Endings.{ending_text}
+use Rattle.td_journal.specs.EntryReading.{keys_at, told}
 use Rattle.td_journal.specs.JournalText.{kind_word, kind_notes, spaced_keys}
+use Rattle.td_journal.proofs.Endings.{ending_found, ending_again}
 use Rattle.td_journal.proofs.KeyWords.{keys_found, keys_again, spaced_begin, no_key}
 use Rattle.td_journal.proofs.KindWords.{kind_found, kind_again, kind_lacks, told_found, told_again}
 use Rattle.td_core.specs.declared.step.Step.{Step}
@@ -35,9 +36,9 @@ use Rattle.td_simulate.specs.declared.verb.Verb.{Verb}
 use Rattle.td_simulate.specs.declared.verb.Verb.TheVariants.{Offer, Withdraw, Claim, Note, Undo}
 use Rattle.td_simulate.specs.declared.verb.Verb.TheVariants.{Finish, Settle, Release}
 use Rattle.td_simulate.specs.declared.verb.Verb.TheVariants.{Arrive as Arriving}
-use Rattle.td_simulate.specs.StepLines.{outcome_name, outcome_text, step_line, CommandFits}
+use Rattle.td_simulate.specs.StepLines.{step_line, CommandFits}
 use Rattle.td_simulate.specs.StepLines.{StepFits}
-use Rattle.td_simulate.specs.StepReading.{verb_at, builder_at, claim_at, end_of, finish_at, by_verb}
+use Rattle.td_simulate.specs.StepReading.{verb_at, builder_at, claim_at, finish_at, by_verb}
 use Rattle.td_simulate.specs.StepReading.{some_keys, commit_at, by_word, step_at, StepsAreExact}
 
 -- the line is the step's, which can be written
@@ -133,63 +134,8 @@ claim_found rest s e =
 
 -- ---- how a build ended
 
-abbrev Bare : Outcome → Type 0
-Bare o = outcome_text o ≡ []
-
-outcome_found : (t : List ℕ) (o : Outcome) → outcome_at t ≡ Some o → (t ≡ outcome_name o) × Bare o
-unfolding outcome_at
-outcome_found t o e =
-    or_word outcome_name Bare t o Built _ refl (
-    or_word outcome_name Bare t o Attempted _ refl (
-    or_word outcome_name Bare t o GivenBack _ refl (
-    or_word outcome_name Bare t o (Waits []) None refl (λ bad. absurd cc)))) e
-
-both_empty : (e t : List ℕ) → (eqb (length e) 0 && eqb (length t) 0) ≡ true → ◌≡◌ {A =
-    List ℕ × List ℕ} (e, t) ([], [])
-both_empty e t h =
-    let p = and_parts (eqb (length e) 0) (eqb (length t) 0) h in
-    let x = no_text e p.0 in
-    let y = no_text t p.1 in
-    λ i. (x i, y i)
-
--- the end of builder b's build, whose texts are these
-record IsEnd (b : ℕ) (o : Outcome) (e t : List ℕ) (s : Step) : Type 0 where
-  outcome : Outcome
-  step : s ≡ steps.Finish b outcome
-  name : outcome_name outcome ≡ outcome_name o
-  texts : ◌≡◌ {A = List ℕ × List ℕ} (e, t) ([], outcome_text outcome)
-
-plain_end : (b : ℕ) (o : Outcome) (e t : List ℕ) (q : Kind) (s : Step) → outcome_text o ≡ []
-    → cond (eqb (length e) 0 && eqb (length t) 0) (Some (Ended b o)) None ≡ Some q
-    → end_of q ≡ Some s → IsEnd b o e t s
-plain_end b o e t q s bare h is =
-    let w = when_some (eqb (length e) 0 && eqb (length t) 0) (Ended b o) q h in
-    let made : Some (steps.Finish b o) ≡ Some s = ap end_of w.1 ∙ is in
-    record {
-      outcome = o;
-      step = sym (some_is (steps.Finish b o) s made);
-      name = refl;
-      texts = both_empty e t w.0 ∙ ap (λ (l : List ℕ). ([], l)) (sym bare);
-    }
-
-end_found : (b : ℕ) (o : Outcome) (e t : List ℕ) (q : Kind) (s : Step)
-    → told (Ended b o) e t ≡ Some q → end_of q ≡ Some s → IsEnd b o e t s
-end_found b Built e t q s h is = plain_end b Built e t q s refl h is
-end_found b Attempted e t q s h is = plain_end b Attempted e t q s refl h is
-end_found b GivenBack e t q s h is = plain_end b GivenBack e t q s refl h is
-end_found b (Waits x) e t q s h is =
-    let w = when_some (eqb (length e) 0) (Ended b (Waits t)) q h in
-    let made : Some (steps.Finish b (Waits t)) ≡ Some s = ap end_of w.1 ∙ is in
-    record {
-      outcome = Waits t;
-      step = sym (some_is (steps.Finish b (Waits t)) s made);
-      name = refl;
-      texts = ap (λ (l : List ℕ). (l, t)) (no_text e w.0);
-    }
-
-finish_joined : (rest d more w ending name text : List ℕ) → rest ≡ d ++ 32 ∷ more
-    → more ≡ w ++ ending → w ≡ name → ending ≡ text → rest ≡ d ++ 32 ∷ (name ++ text)
-finish_joined rest d more w ending name text h1 h2 h3 h4 = cc
+finish_joined : (rest d more end : List ℕ) → rest ≡ d ++ 32 ∷ more → more ≡ end → rest ≡ d ++ 32 ∷ end
+finish_joined rest d more end h1 h2 = cc
 
 finish_found : (rest : List ℕ) (s : Step) → finish_at rest ≡ Some s
     → IsLineOf (codes "finish" ++ 32 ∷ rest) s
@@ -197,60 +143,17 @@ unfolding finish_at
 finish_found rest s e =
     let p = chained _ _ _ e in
     let o = chained _ _ _ p.2 in
-    let n = chained _ _ _ o.2 in
-    let k = chained _ _ _ n.2 in
     let b = builder_found rest p.0 p.1 in
-    let word = outcome_found (part 32 p.0.1).0 o.0 o.1 in
-    let texts = notes_exact.found (part 32 p.0.1).1 n.0 n.1 in
-    let end = end_found p.0.0 o.0 n.0.0 n.0.1 k.0 s k.1 k.2 in
-    let line = finish_joined rest (decimal p.0.0) p.0.1 (part 32 p.0.1).0 (part 32 p.0.1).1
-    (outcome_name end.outcome) (text_part (outcome_text end.outcome)) b.0 (part_joined 32 p.0.1)
-    (word.0 ∙ sym end.name) (texts.0 ∙ ap notes end.texts) in
-    subst (λ (y : Step). IsLineOf (codes "finish" ++ 32 ∷ rest) y) (sym end.step)
+    let line = finish_joined rest (decimal p.0.0) p.0.1 (ending_text o.0) b.0
+    (ending_found p.0.1 o.0 o.1) in
+    subst (λ (y : Step). IsLineOf (codes "finish" ++ 32 ∷ rest) y)
+    (some_is (steps.Finish p.0.0 o.0) s o.2)
     (ap (λ (t : List ℕ). codes "finish" ++ 32 ∷ t) line, b.1)
 
-text_begins : (t : List ℕ) → Begins 32 (text_part t)
-text_begins t = notes_begin ([], t)
-
-notes_text : (t : List ℕ) → notes_at (text_part t) ≡ Some ([], t)
-notes_text t = notes_exact.again ([], t) (lit< tt)
-
-name_lacks : (o : Outcome) → Without 32 (outcome_name o)
-name_lacks Built = lacks 32 (codes "built") refl
-name_lacks Attempted = lacks 32 (codes "attempted") refl
-name_lacks GivenBack = lacks 32 (codes "givenback") refl
-name_lacks (Waits t) = lacks 32 (codes "waits") refl
-
--- an outcome without its text
-abbrev bare_outcome : Outcome → Outcome
-bare_outcome (Waits t) = Waits []
-bare_outcome o = o
-
-outcome_again : (o : Outcome) → outcome_at (outcome_name o) ≡ Some (bare_outcome o)
-unfolding outcome_at
-outcome_again Built = refl
-outcome_again Attempted = refl
-outcome_again GivenBack = refl
-outcome_again (Waits t) = refl
-
-told_end : (b : ℕ) (o : Outcome) → (told (Ended b (bare_outcome o)) [] (outcome_text o) >>= λ k.
-    end_of k) ≡ Some (steps.Finish b o)
-told_end b Built = refl
-told_end b Attempted = refl
-told_end b GivenBack = refl
-told_end b (Waits t) = refl
-
-finish_again : (b : ℕ) (o : Outcome) → b < 2 ^ 64 → finish_at
-    (decimal b ++ 32 ∷ (outcome_name o ++ text_part (outcome_text o))) ≡ Some (steps.Finish b o)
+finish_again : (b : ℕ) (o : Outcome) → b < 2 ^ 64
+    → finish_at (decimal b ++ 32 ∷ ending_text o) ≡ Some (steps.Finish b o)
 unfolding finish_at
-finish_again b o small =
-    let ending = text_part (outcome_text o) in
-    rw (
-      builder_again b (outcome_name o ++ ending) small,
-      part_again 32 (outcome_name o) ending (name_lacks o) (text_begins (outcome_text o)),
-      outcome_again o,
-      notes_text (outcome_text o),
-    ) (told_end b o)
+finish_again b o small = rw (builder_again b (ending_text o) small, ending_again o) refl
 
 -- ---- a step by its verb
 

@@ -8,13 +8,10 @@ use Rattle.std.proofs.Math.Seq.{take-append_seam}
 use Rattle.std.proofs.lemmas.Bool.{eqb-true}
 use Rattle.std.proofs.lemmas.List.{append-nil, length-append}
 use Rattle.std.proofs.lemmas.List.Splits.{length-slice_split}
-use Rattle.td_text.specs.Lines.{lines_of, lines_left, left_text}
-use Rattle.td_simulate.specs.SimulationText.{is_mark, opening_text, ended, lines_after}
+use Rattle.td_text.specs.Lines.{lines_of, lines_left, left_text, ended}
+use Rattle.td_text.proofs.Ended.{has_line}
+use Rattle.td_simulate.specs.SimulationText.{is_mark, opening_text, lines_after}
 use Rattle.td_simulate.specs.SimulationText.{number_after}
-
--- a text has a line
-has_line : (t : List ℕ) → 0 < length (lines_of t)
-has_line t = omega (arith, length-slice_split (λ b. eqb b 10) t)
 
 -- ---- the opening
 
@@ -112,44 +109,3 @@ pub number-other : (n : ℕ) (line : List ℕ) (lines : List (List ℕ)) → is_
     → number_after n (line ∷ lines) ≡ number_after (n + 1) lines
 unfolding number_after
 number-other n line lines h = rw h refl
-
--- ---- lines, the last of which may lack its newline
-
--- nothing stands behind the last line
-pub ended-none : ended (lines_of []) ≡ ended []
-unfolding ended
-ended-none = refl
-
-ended-filled : (line : List ℕ) (lines : List (List ℕ)) → 0 < length lines
-    → ended (line ∷ lines) ≡ line ∷ ended lines
-unfolding ended
-ended-filled [] [] some = absurd (omega arith)
-ended-filled [] (next ∷ lines) some = refl
-ended-filled (x ∷ line) lines some = refl
-
-pub ended-empty : (t : List ℕ) → t ≡ [] → ended (lines_of t) ≡ []
-unfolding ended
-ended-empty t none = ap (λ (l : List ℕ). ended (lines_of l)) none
-
--- a text that isn't empty has its first line
-pub ended-next : (t line : List ℕ) (o : Option (Bor (List ℕ))) → lines_of t ≡ line ∷ lines_left o
-    → t ≡ line ++ left_text o → t ≢ [] → ended (lines_of t) ≡ line ∷ ended (lines_left o)
-unfolding ended
-ended-next t line (Some rest) is whole some =
-    ap ended is ∙ ended-filled line (lines_of rest.now) (has_line rest.now)
-ended-next t [] None is whole some = absurd (some whole)
-ended-next t (x ∷ line) None is whole some = ap ended is
-
--- ---- empty texts
-
-pub some_text : (t : List ℕ) → eqb (length t) 0 ≡ false → t ≢ []
-some_text [] h is = absurd cc
-some_text (x ∷ t) h is = absurd cc
-
-pub length_some : (t : List ℕ) → t ≢ [] → 0 < length t
-length_some [] some = absurd (some refl)
-length_some (x ∷ t) some = omega arith
-
-pub no_text : (t : List ℕ) → eqb (length t) 0 ≡ true → t ≡ []
-no_text [] h = refl
-no_text (x ∷ t) h = absurd (let none = eqb-true (suc (length t)) 0 h in omega arith)

@@ -4,7 +4,7 @@ use Rattle.std.specs.Prelude.{◌≡◌, ◌≢◌, ℕ, ◌+◌, Bool, List, []
 use Rattle.std.specs.Prelude.{if◌then◌else◌, codes}
 use Rattle.std.specs.List.{AllByRecursion}
 use Rattle.std.specs.Str.{bytes_eq}
-use Rattle.td_text.specs.Lines.{lines_of}
+use Rattle.td_text.specs.Lines.{lines_of, ended}
 use Rattle.td_rows.specs.StateFile.{IsStateFile, IsFirstFault}
 use Rattle.td_rows.specs.Table.{Table}
 use Rattle.td_core.specs.declared.step.Step.{Step}
@@ -22,12 +22,6 @@ opening_text [] = []
 opening_text (line ∷ []) = if is_mark line then [] else line
 opening_text (line ∷ next ∷ lines) = if is_mark line then []
     else (line ++ 10 ∷ opening_text (next ∷ lines))
-
--- without the empty line behind a last newline
-unfoldable pub ended : List (List ℕ) → List (List ℕ)
-ended [] = []
-ended ([] ∷ []) = []
-ended (line ∷ lines) = line ∷ ended lines
 
 -- the lines behind the line `steps`, the last of which may lack its newline;
 -- none where there is no such line

@@ -3,28 +3,15 @@ use Rattle.std.specs.Prelude.{◌≡◌, ℕ, ◌<◌, ◌^◌, true, List, [], 
 use Rattle.std.specs.List.{AllByRecursion}
 use Rattle.td_rows.specs.declared.key.Key.{Key}
 use Rattle.td_rows.specs.declared.kind.Kind.{Kind}
-use Rattle.td_rows.specs.declared.outcome.Outcome.{Outcome}
-use Rattle.td_rows.specs.declared.outcome.Outcome.TheVariants.{Built, Attempted, GivenBack, Waits}
 use Rattle.td_rows.specs.KeyText.{key_text, KeyFits}
-use Rattle.td_rows.specs.Notes.{text_part, notes, NotesFit}
+use Rattle.td_rows.specs.Notes.{notes, NotesFit}
 use Rattle.td_journal.specs.Commands.{is_command}
+use Rattle.td_journal.specs.Endings.{ending_text}
 use Rattle.td_journal.specs.EntryFits.{KindFits}
 use Rattle.td_journal.specs.JournalText.{kind_word, kind_notes, spaced_keys}
 use Rattle.td_core.specs.declared.step.Step.{Step}
 use Rattle.td_core.specs.declared.step.Step.TheVariants.{Offer, Withdraw, Claim, Note, Commit, Undo}
 use Rattle.td_core.specs.declared.step.Step.TheVariants.{Finish, Settle, Release, Arrive, Sweep}
-
--- how a build ended
-abbrev pub outcome_name : Outcome → List ℕ
-outcome_name Built = codes "built"
-outcome_name Attempted = codes "attempted"
-outcome_name GivenBack = codes "givenback"
-outcome_name (Waits t) = codes "waits"
-
--- the relation that it waits for
-abbrev pub outcome_text : Outcome → List ℕ
-outcome_text (Waits t) = t
-outcome_text o = []
 
 -- the line of a step; that of a command is its entry's in a journal, without number and mark
 abbrev pub step_line : Step → List ℕ
@@ -35,7 +22,7 @@ step_line (Note k) = codes "note " ++ key_text k
 step_line (Commit kind keys) = kind_word kind ++ (spaced_keys keys ++ notes (kind_notes kind))
 step_line (Undo n) = codes "undo " ++ decimal n
 step_line (Finish b o) = codes "finish "
-    ++ (decimal b ++ 32 ∷ (outcome_name o ++ text_part (outcome_text o)))
+    ++ (decimal b ++ 32 ∷ ending_text o)
 step_line (Settle k) = codes "settle " ++ key_text k
 step_line (Release b) = codes "release " ++ decimal b
 step_line (Arrive k) = codes "arrive " ++ key_text k

@@ -8,11 +8,11 @@ use Rattle.td_text.specs.Exact.{Exact}
 use Rattle.td_text.specs.Numbers.{number_at}
 use Rattle.td_rows.specs.declared.key.Key.{Key}
 use Rattle.td_rows.specs.declared.kind.Kind.{Kind}
-use Rattle.td_rows.specs.declared.kind.Kind.TheVariants.{Outcome as Ended}
 use Rattle.td_rows.specs.KeyText.{key_at}
 use Rattle.td_rows.specs.Notes.{notes_at}
 use Rattle.td_journal.specs.Commands.{is_command}
-use Rattle.td_journal.specs.EntryReading.{kind_at, keys_at, outcome_at, told}
+use Rattle.td_journal.specs.Endings.{ending_at}
+use Rattle.td_journal.specs.EntryReading.{kind_at, keys_at, told}
 use Rattle.td_core.specs.declared.step.Step.{Step}
 use Rattle.td_core.specs.declared.step.Step.TheVariants as steps
 use Rattle.td_simulate.specs.declared.verb.Verb.{Verb}
@@ -47,19 +47,12 @@ claim_at rest = do
   key ← key_at p.1
   Some (steps.Claim p.0 key)
 
--- the end of a build
-abbrev pub end_of : Kind → Option Step
-end_of (Ended b o) = Some (steps.Finish b o)
-end_of kind = None
-
 -- the end of a build: builder, outcome and its text
 unfoldable pub finish_at : List ℕ → Option Step
 finish_at rest = do
   p ← builder_at rest
-  outcome ← outcome_at (part 32 p.1).0
-  texts ← notes_at (part 32 p.1).1
-  kind ← told (Ended p.0 outcome) texts.0 texts.1
-  end_of kind
+  outcome ← ending_at p.1
+  Some (steps.Finish p.0 outcome)
 
 -- a step by its verb, and what follows the space behind that
 abbrev pub by_verb : Verb → List ℕ → Option Step

@@ -1,9 +1,9 @@
 //! The parts of a simulation's text.
 ghost use Rattle.std.specs.Prelude.{◌≡◌, ◌<◌, ◌≤◌, ◌+◌, ◌-◌, ◌^◌, length};
-ghost use Rattle.td_text.specs.Lines.{lines_of, lines_left, left_len};
-ghost use Rattle.td_simulate.specs.SimulationText.{opening_text, ended, lines_after, number_after};
+ghost use Rattle.td_text.specs.Lines.{lines_of, ended};
+ghost use Rattle.td_simulate.specs.SimulationText.{opening_text, lines_after, number_after};
 
-use td_text::next_line;
+use td_text::{behind, next_line};
 
 /// The parts of a simulation's text.
 #[derive(Clone, Copy, Debug)]
@@ -14,17 +14,6 @@ pub struct Parts<'a> {
     pub steps: &'a str,
     /// The number of the line behind it, if anything stands there.
     pub first: usize,
-}
-
-/// What stands behind a line: nothing behind the last.
-pub fn behind(after: Option<&str>) -> &str
-    ensures lines { ended (lines_of result.now) ≡ ended (lines_left after.entry) }
-    ensures shorter { length result.now ≤ left_len after.entry - 1 }
-{
-    match after {
-        Some(rest) => rest,
-        None => "",
-    }
 }
 
 /// Parts a text at its first line `steps`. Where there is none, nothing stands behind it, whose

@@ -1,27 +1,15 @@
 //! The lines of steps, read.
 ghost use Rattle.std.specs.Prelude.{◌≡◌, option_map, IfOk};
 ghost use Rattle.td_text.specs.Cut.{Without};
-ghost use Rattle.td_rows.specs.declared.kind.Kind.{Kind as KindValue};
-ghost use Rattle.td_rows.specs.KeyText.{key_at};
-ghost use Rattle.td_simulate.specs.StepReading.{builder_at, claim_at, finish_at, end_of, by_verb};
+ghost use Rattle.td_simulate.specs.StepReading.{builder_at, claim_at, finish_at, by_verb};
 ghost use Rattle.td_simulate.specs.StepReading.{some_keys, commit_at, step_at, StepsAreExact};
 
 use crate::verb::{Verb, read_verb};
 use std::alloc::{AllocError, Global};
 use td_core::{KeyList, Step};
-use td_journal::{is_command, read_keys, read_kind, read_outcome, with_texts};
-use td_rows::{BuilderNo, Key, Kind, read_key, read_notes};
+use td_journal::{is_command, read_ending, read_keys, read_kind, with_texts};
+use td_rows::{BuilderNo, Key, read_notes, read_own_key};
 use td_text::{cut_at, number, part_at, strip};
-
-// The key that a text is, in memory of its own.
-fn read_own_key(alloc: Global, text: &str) -> Result<Option<Key>, AllocError>
-    ensures { IfOk result (λ key. key ≡ key_at text.now) }
-{
-    let Some((source, arch)) = read_key(text) else {
-        return Ok(None);
-    };
-    Ok(Some(Key::from_lines(alloc, source, arch)?))
-}
 
 #[tactic(auto, unfolding(crate::specs::StepReading::builder_at))]
 fn read_builder(text: &str) -> Option<(BuilderNo, &str)>
@@ -45,15 +33,6 @@ fn read_claim(alloc: Global, text: &str) -> Result<Option<Step>, AllocError>
     Ok(Some(Step::Claim(builder, key)))
 }
 
-fn end_of(kind: Kind) -> Option<Step>
-    ensures { result ≡ end_of kind }
-{
-    match kind {
-        Kind::Outcome(builder, outcome) => Some(Step::Finish(builder, outcome)),
-        _ => None,
-    }
-}
-
 #[tactic(auto, unfolding(crate::specs::StepReading::finish_at))]
 fn read_finish(alloc: Global, text: &str) -> Result<Option<Step>, AllocError>
     requires { Without 10 text.now }
@@ -62,17 +41,10 @@ fn read_finish(alloc: Global, text: &str) -> Result<Option<Step>, AllocError>
     let Some((builder, rest)) = read_builder(text) else {
         return Ok(None);
     };
-    let (word, ending) = part_at(rest, ' ');
-    let Some(outcome) = read_outcome(alloc, word) else {
+    let Some(outcome) = read_ending(alloc, rest)? else {
         return Ok(None);
     };
-    let Some((extra, text)) = read_notes(ending) else {
-        return Ok(None);
-    };
-    match with_texts(alloc, Kind::Outcome(builder, outcome), extra, text)? {
-        Some(kind) => Ok(end_of(kind)),
-        None => Ok(None),
-    }
+    Ok(Some(Step::Finish(builder, outcome)))
 }
 
 // The step of a verb, by what follows that.

@@ -1,14 +1,13 @@
 //! How the steps of a simulation are read.
 ghost use Rattle.std.specs.Prelude.{◌≡◌, ◌<◌, ◌+◌, ◌^◌, length, IfOk, IfErr, List};
-ghost use Rattle.td_text.specs.Lines.{lines_of};
-ghost use Rattle.td_simulate.specs.SimulationText.{ended, AreSteps, StepsFault};
+ghost use Rattle.td_text.specs.Lines.{lines_of, ended};
+ghost use Rattle.td_simulate.specs.SimulationText.{AreSteps, StepsFault};
 
 use crate::fault::SimulationFault;
-use crate::parts::behind;
 use crate::step_line::read_step;
 use std::alloc::Global;
 use td_core::Step;
-use td_text::next_line;
+use td_text::{behind, next_line};
 
 /// The steps of a text whose first line has the number `first`.
 pub fn read_steps(alloc: Global, text: &str, first: usize) -> Result<Vec<Step>, SimulationFault>

@@ -5,7 +5,9 @@ pub mod Prefix
 pub mod Numbers
 pub mod SignedNumbers
 pub mod Words
+pub mod Empty
 pub mod Lines
+pub mod Ended
 pub mod FirstFault
 pub mod RunLaws
 pub mod RunTexts

@@ -13,6 +13,12 @@ lines_of text = slice_split (λ b. b == 10) text
 abbrev pub text_of : List (List ℕ) → List ℕ
 text_of lines = flat_map (λ line. line ++ 10 ∷ []) lines
 
+-- without the empty line behind a last newline
+unfoldable pub ended : List (List ℕ) → List (List ℕ)
+ended [] = []
+ended ([] ∷ []) = []
+ended (line ∷ lines) = line ∷ ended lines
+
 -- a reading goes on from what was read, and a fault stays
 abbrev pub on_ok : {A B F : Type 0} → Result A F → (A → Result B F) → Result B F
 on_ok (Ok x) f = f x

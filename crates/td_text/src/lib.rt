@@ -18,7 +18,7 @@ mod word;
 mod writing;
 
 pub use cutting::{cut_at, part_at, strip};
-pub use line::next_line;
+pub use line::{behind, next_line};
 pub use numeral::{MAX_REBUILD, number, numbers_are_exact, rebuild_number, signed};
 pub use runs::{arch_run, is_blank, is_space, name_run, trimmed};
 pub use word::{are_arch_bytes, is_arch, is_name};

@@ -1,7 +1,7 @@
 //! The lines of a text, one after the other.
-ghost use Rattle.std.specs.Prelude.{◌≡◌, ◌≤◌, ◌∷◌, ◌++◌, length};
+ghost use Rattle.std.specs.Prelude.{◌≡◌, ◌≤◌, ◌-◌, ◌∷◌, ◌++◌, length};
 ghost use Rattle.td_text.specs.Cut.{Without};
-ghost use Rattle.td_text.specs.Lines.{lines_of, lines_left, left_text, left_len};
+ghost use Rattle.td_text.specs.Lines.{lines_of, lines_left, left_text, left_len, ended};
 
 /// The first line, without its newline, and what follows that; `None` behind the last line.
 pub fn next_line(text: &str) -> (&str, Option<&str>)
@@ -13,5 +13,16 @@ pub fn next_line(text: &str) -> (&str, Option<&str>)
     match text.split_once('\n') {
         Some((line, rest)) => (line, Some(rest)),
         None => (text, None),
+    }
+}
+
+/// What stands behind a line, as `next_line` tells it: nothing behind the last.
+pub fn behind(after: Option<&str>) -> &str
+    ensures lines { ended (lines_of result.now) ≡ ended (lines_left after.entry) }
+    ensures shorter { length result.now ≤ left_len after.entry - 1 }
+{
+    match after {
+        Some(rest) => rest,
+        None => "",
     }
 }

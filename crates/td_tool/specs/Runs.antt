@@ -3,8 +3,7 @@ use Rattle.std.specs.Prelude.{◌≡◌, ◌⊎◌, ℕ, ◌==◌, min, Bool, Li
 use Rattle.std.specs.Prelude.{MatchBool, option_map, unwrap_or, if◌then◌else◌}
 use Rattle.std.specs.Io.KnownBytes.{Keeps}
 use Rattle.td_bytes.specs.declared.text.TextFault.{TextFault}
-use Rattle.td_text.specs.Lines.{lines_of}
-use Rattle.td_builder.specs.OutcomeLines.{ended}
+use Rattle.td_text.specs.Lines.{lines_of, ended}
 use Rattle.td_crew.specs.CrewEnds.{AreRead, CrewSays}
 use Rattle.td_crew.specs.CrewText.{crew_tells}
 use Rattle.td_crew.specs.declared.running.CrewFault.{CrewFault}

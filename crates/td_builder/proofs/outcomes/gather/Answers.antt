@@ -1,13 +1,14 @@
 -- `gather`: its loop and the clauses `fault` and `found`.
 use Rattle.std.proofs.Common.{◌≡◌, false, true, eqb, ℕ, List, [], ◌∷◌, ◌++◌, ◌+◌, length, ap, sym}
 use Rattle.std.proofs.Common.{◌∙◌, rules, arith}
+use Rattle.td_text.proofs.Empty.{some_text, length_some, no_text}
+use Rattle.td_text.proofs.Ended.{ended-next, ended-empty}
+use Rattle.td_journal.specs.Endings.{outcome_text}
 use Rattle.td_book.specs.Deeds.{code_of}
 use Rattle.td_builder.specs.declared.key_line.KeyLine.{KeyLine}
-use Rattle.td_builder.specs.OutcomeLines.{outcome_text}
 use Rattle.td_builder.specs.Unused.{with_line}
 use Rattle.td_builder.proofs.KeyLists.{numbered-push, texts-push, length-texts, length-push}
-use Rattle.td_builder.proofs.OutcomeLists.{AreRead-push, AreRead-all, AreRead-bad, ended-next}
-use Rattle.td_builder.proofs.OutcomeLists.{ended-empty, some_text, length_some, no_text}
+use Rattle.td_builder.proofs.OutcomeLists.{AreRead-push, AreRead-all, AreRead-bad}
 use Rattle.td_builder.proofs.outcomes.gather.Goals as goal
 
 pub returns-in_default-read-clause-fault : goal.returns-in_default-read-clause-fault

@@ -2,10 +2,10 @@
 use Rattle.std.proofs.Common.{◌≡◌, ◌+◌, ◌≤◌, List, length, map}
 use denote.Text.{Utf8}
 use denote.Shadow.{shadow}
-use Rattle.td_text.specs.Lines.{lines_of}
+use Rattle.td_text.specs.Lines.{lines_of, ended}
 use Rattle.td_rows.specs.declared.key.Key.{Key}
 use Rattle.td_rows.specs.declared.outcome.Outcome.{Outcome}
-use Rattle.td_builder.specs.OutcomeLines.{ended, outcome_text}
+use Rattle.td_journal.specs.Endings.{outcome_text}
 use Rattle.td_builder.specs.Unused.{lines_of_key, numbered}
 use Rattle.td_builder.proofs.OutcomeLists.{AreRead}
 use Rattle.td_builder.proofs.outcomes.gather.Given as goal

@@ -2,12 +2,12 @@
 use Rattle.std.proofs.Common.{◌≡◌, ◌<◌, false, true, eqb, ℕ, List, [], ◌∷◌, ◌++◌, length, subst, ap}
 use Rattle.std.proofs.Common.{sym, ◌∙◌, rules, arith}
 use Rattle.std.proofs.lemmas.List.{length-append}
-use Rattle.td_text.specs.Lines.{lines_of}
+use Rattle.td_text.specs.Lines.{lines_of, ended}
+use Rattle.td_text.proofs.Empty.{some_text, length_some, no_text}
+use Rattle.td_text.proofs.Ended.{ended-next, ended-empty}
 use Rattle.td_core.specs.declared.step.Step.{Step}
-use Rattle.td_simulate.specs.SimulationText.{ended}
 use Rattle.td_simulate.proofs.StepLists.{AreRead, AreRead-none, AreRead-push, AreRead-all}
 use Rattle.td_simulate.proofs.StepLists.{AreRead-bad}
-use Rattle.td_simulate.proofs.TextParts.{ended-next, ended-empty, some_text, length_some, no_text}
 use Rattle.td_simulate.proofs.steps_reading.read_steps.Goals as goal
 
 pub loop-rest-init : goal.loop-rest-init

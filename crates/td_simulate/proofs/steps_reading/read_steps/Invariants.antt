@@ -2,8 +2,7 @@
 use Rattle.std.proofs.Common.{◌≡◌, ◌+◌, ◌≤◌, length}
 use denote.Text.{Utf8}
 use denote.Shadow.{shadow}
-use Rattle.td_text.specs.Lines.{lines_of}
-use Rattle.td_simulate.specs.SimulationText.{ended}
+use Rattle.td_text.specs.Lines.{lines_of, ended}
 use Rattle.td_simulate.proofs.StepLists.{AreRead}
 use Rattle.td_simulate.proofs.steps_reading.read_steps.Given as goal
 

@@ -1,10 +1,9 @@
 -- `behind`: the clause `lines`.
 use Rattle.std.proofs.Common.{List, ℕ, Option, ap, sym, ◌∙◌}
 use Rattle.std.specs.Borrow.{Bor}
-use Rattle.td_text.specs.Lines.{lines_left}
-use Rattle.td_builder.specs.OutcomeLines.{ended}
-use Rattle.td_builder.proofs.OutcomeLists.{ended-none}
-use Rattle.td_builder.proofs.outcomes.behind.Goals as goal
+use Rattle.td_text.specs.Lines.{lines_left, ended}
+use Rattle.td_text.proofs.Ended.{ended-none}
+use Rattle.td_text.proofs.line.behind.Goals as goal
 
 pub returns-in-None-clause-lines : goal.returns-in-None-clause-lines
 returns-in-None-clause-lines c =
