@@ -1,9 +1,8 @@
 -- What an entry, and its undo, do to what is Installed.
-use Rattle.std.proofs.Common.{◌≡◌, ℕ, suc, ◌+◌, ◌-◌, ◌<◌, Bool, true, false, ◌&&◌, ◌||◌, not, List}
-use Rattle.std.proofs.Common.{[], ◌∷◌, ◌++◌, Option, Some, None, if◌then◌else◌, option_map, length}
-use Rattle.std.proofs.Common.{slice_get, ap, refl, sym, subst, ◌∙◌, arith, zero, ◌==◌}
+use Rattle.std.proofs.Common.{◌≡◌, ℕ, suc, ◌-◌, Bool, true, false, ◌&&◌, ◌||◌, not, List}
+use Rattle.std.proofs.Common.{[], ◌∷◌, Option, Some, None, if◌then◌else◌, option_map}
+use Rattle.std.proofs.Common.{slice_get, ap, refl, sym, subst, ◌∙◌, zero, ◌==◌}
 use Rattle.std.proofs.lemmas.Bool.{and_parts}
-use Rattle.std.proofs.lemmas.Bool.Decides.{nat_tests}
 use Rattle.td_rows.specs.declared.key.Key.{Key}
 use Rattle.td_rows.specs.declared.row.Row.{Row}
 use Rattle.td_rows.specs.declared.state.State.{State}
@@ -25,9 +24,10 @@ use Rattle.td_journal.specs.declared.entry.Mark.TheVariants.{Undone}
 use Rattle.td_journal.specs.declared.entry.Marked.{Marked}
 use Rattle.td_journal.specs.Commands.{is_command}
 use Rattle.td_journal.specs.Entries.{standing_entry, entry_at, undone_at, undone}
-use Rattle.td_core.specs.History.{History, rows_of, with_entry, without_entry}
+use Rattle.td_journal.proofs.LastEntry.{entry_at-last}
+use Rattle.td_core.specs.History.{History, rows_of}
 use Rattle.td_core.specs.Offers.{is_arrival}
-use Rattle.td_book.specs.Watching.{tally, is_there}
+use Rattle.td_book.specs.Watching.{is_there}
 use Rattle.td_book.specs.inner.Tallies.{AreTallied, or_named, but_named, AllAre, IsEntered}
 use Rattle.td_book.specs.inner.Tallies.{IsTakenBack, takes_installed}
 use Rattle.td_book.proofs.Steps.{rows_with, up_now}
@@ -237,17 +237,6 @@ all-back kind keys t is all =
     }
 
 -- ---- 6. the entry with its number
-
-slice_get-last : (ms : List Marked) (m : Marked) → slice_get (ms ++ m ∷ []) (length ms) ≡ Some m
-slice_get-last [] m = refl
-slice_get-last (x ∷ ms) m = slice_get-last ms m
-
-entry_at-last : (ms : List Marked) (m : Marked) → entry_at (ms ++ m ∷ []) (length ms + 1) ≡ Some m
-entry_at-last ms m =
-    let back : length ms + 1 - 1 ≡ length ms = omega arith in
-    let not_zero : (length ms + 1 == 0) ≡ false = grind (arith, nat_tests) in
-    ap (λ (b : Bool). if b then None else slice_get (ms ++ m ∷ []) (length ms + 1 - 1)) not_zero
-    ∙ ap (slice_get (ms ++ m ∷ [])) back ∙ slice_get-last ms m
 
 slice_get-undone_at : (ms : List Marked) (i : ℕ) (m : Marked) → slice_get ms i ≡ Some m
     → slice_get (undone_at ms i) i ≡ Some (record m { mark = Undone })

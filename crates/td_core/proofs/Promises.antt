@@ -1,24 +1,22 @@
 -- What holds over every list of steps.
-use Rattle.std.proofs.Common.{◌≡◌, ◌↔◌, ℕ, zero, suc, ◌+◌, ◌-◌, ◌≤◌, subst, true, false, not, ◌&&◌}
-use Rattle.std.proofs.Common.{◌==◌, List, [], ◌∷◌, ◌++◌, length, Option, Some, None, if◌then◌else◌}
-use Rattle.std.proofs.Common.{slice_get, ap, refl, sym, ◌∙◌, append-nil, arith}
-use Rattle.std.specs.Prelude.{nat_lt}
-use Rattle.std.specs.Option.{option_or}
+use Rattle.std.proofs.Common.{◌≡◌, ◌↔◌, ℕ, zero, suc, ◌+◌, ◌-◌, ◌≤◌, subst, true, false, not}
+use Rattle.std.proofs.Common.{◌==◌, List, [], ◌∷◌, length, Option, Some, None}
+use Rattle.std.proofs.Common.{slice_get, ap, refl, sym, ◌∙◌, arith}
 use Rattle.std.proofs.lemmas.Bool.Decides.{nat_tests}
 use Rattle.td_rows.specs.declared.key.Key.{Key}
 use Rattle.td_rows.specs.declared.state.State.{State}
 use Rattle.td_rows.specs.declared.state.State.TheVariants.{NeedsBuild, Building}
 use Rattle.td_journal.specs.declared.entry.Entry.{Entry}
 use Rattle.td_journal.specs.declared.entry.Mark.{Mark}
-use Rattle.td_journal.specs.declared.entry.Mark.TheVariants.{Standing, Undone as Dropped}
+use Rattle.td_journal.specs.declared.entry.Mark.TheVariants.{Standing}
 use Rattle.td_journal.specs.declared.entry.Marked.{Marked}
-use Rattle.td_journal.specs.Entries.{is_command, is_standing, standing, standing_entry, entry_at}
-use Rattle.td_journal.specs.Entries.{undone_at, undone}
+use Rattle.td_journal.specs.Entries.{is_command, standing_entry}
 use Rattle.td_journal.specs.Replay.{replay}
-use Rattle.td_journal.specs.Touching.{touches, latest_touching, blocker}
+use Rattle.td_journal.specs.Touching.{blocker}
 use Rattle.td_journal.specs.IsKeys.{IsKeys}
 use Rattle.td_journal.specs.Journaled.{EachHasKeys}
-use Rattle.td_journal.proofs.Undoing.{standing-append, entry_at-place}
+use Rattle.td_journal.proofs.LastEntry.{entry_at-last, blocker-last, standing-last}
+use Rattle.td_journal.proofs.Undoing.{entry_at-place}
 use Rattle.td_core.specs.declared.step.Phase.{Phase}
 use Rattle.td_core.specs.declared.step.Phase.TheVariants.{Closed, Open, Held, Noted, Done}
 use Rattle.td_core.specs.declared.step.Hand.{Hand}
@@ -122,52 +120,6 @@ keys-at (x ∷ ms) (suc i) m h at = keys-at ms i m h.1 at
 pub entries_rise : EntriesRise
 entries_rise w n m i at =
     keys-at w.history.journal (n - 1) m i.keys (entry_at-place w.history.journal n m at).1
-
--- the last entry
-slice_get-last : (ms : List Marked) (m : Marked) → slice_get (ms ++ m ∷ []) (length ms) ≡ Some m
-slice_get-last [] m = refl
-slice_get-last (x ∷ ms) m = slice_get-last ms m
-
-entry_at-last : (ms : List Marked) (m : Marked) → entry_at (ms ++ m ∷ []) (length ms + 1) ≡ Some m
-entry_at-last ms m =
-    let back : length ms + 1 - 1 ≡ length ms = omega arith in
-    let not_zero : (length ms + 1 == 0) ≡ false = grind (arith, nat_tests) in
-    ap (λ b. if b then None else slice_get (ms ++ m ∷ []) (length ms + 1 - 1)) not_zero
-    ∙ ap (slice_get (ms ++ m ∷ [])) back ∙ slice_get-last ms m
-
--- nothing stands above the last
-latest-none : (e : Entry) (n number : ℕ) (ms : List Marked) → number + length ms ≤ n + 1
-    → latest_touching e n number ms ≡ None
-latest-none e n number [] h = refl
-latest-none e n number (m ∷ ms) h =
-    let below : nat_lt n number ≡ false = grind (arith, nat_tests, h) in
-    (λ j. option_or (latest-none e n (number + 1) ms (omega (arith, h)) j)
-    (if below j && (is_standing m.mark && touches e m.entry) then Some number else None))
-
-length-push : (ms : List Marked) (m : Marked) → length (ms ++ m ∷ []) ≡ length ms + 1
-length-push [] m = refl
-length-push (x ∷ ms) m = let rest = length-push ms m in omega (arith, rest)
-
-blocker-last : (ms : List Marked) (m : Marked) → blocker (ms ++ m ∷ []) (length ms + 1) ≡ None
-blocker-last ms m =
-    ap (λ (x : Option Marked).
-    elim x as (λ _. Option ℕ) [
-      | Some y ↦ latest_touching y.entry (length ms + 1) 1 (ms ++ m ∷ [])
-      | None ↦ None
-    ]) (entry_at-last ms m)
-    ∙ latest-none m.entry (length ms + 1) 1 (ms ++ m ∷ []) (omega (arith, length-push ms m))
-
-undone_at-last : (ms : List Marked) (m : Marked)
-    → undone_at (ms ++ m ∷ []) (length ms) ≡ ms ++ record m { mark = Dropped } ∷ []
-undone_at-last [] m = refl
-undone_at-last (x ∷ ms) m = ap (λ (ys : List Marked). x ∷ ys) (undone_at-last ms m)
-
-standing-last : (ms : List Marked) (m : Marked)
-    → standing (undone (ms ++ m ∷ []) (length ms + 1)) ≡ standing ms
-standing-last ms m =
-    let back : length ms + 1 - 1 ≡ length ms = omega arith in
-    ap (λ (i : ℕ). standing (undone_at (ms ++ m ∷ []) i)) back ∙ ap standing (undone_at-last ms m)
-    ∙ standing-append ms (record m { mark = Dropped } ∷ []) ∙ append-nil (standing ms)
 
 -- the refusal of a standing command's undo
 undo_refusal-command : (w : WorldView) (n : ℕ) (m : Marked) → StandingCommand w n m

@@ -13,6 +13,7 @@ use Rattle.td_rows.specs.Table.{row_of}
 use Rattle.td_journal.specs.declared.entry.Entry.{Entry}
 use Rattle.td_journal.specs.declared.entry.Marked.{Marked}
 use Rattle.td_journal.specs.Entries.{entry_at, standing_entry}
+use Rattle.td_journal.proofs.LastEntry.{entry_at-last}
 use Rattle.td_core.specs.History.{History, rows_of, with_entry}
 use Rattle.td_core.specs.Refusals.{is_queued_at}
 use Rattle.td_book.specs.Desk.{BookModel}
@@ -29,17 +30,6 @@ use Rattle.td_script.specs.Replying.{IsPut, IsEntryPut, IsArrivalPut, IsSweepPut
 use Rattle.td_script.specs.Answering.{Answers}
 
 -- ---- 1. the last entry
-
-slice_get-last : (ms : List Marked) (m : Marked) → slice_get (ms ++ m ∷ []) (length ms) ≡ Some m
-slice_get-last [] m = refl
-slice_get-last (x ∷ ms) m = slice_get-last ms m
-
-entry_at-last : (ms : List Marked) (m : Marked) → entry_at (ms ++ m ∷ []) (length ms + 1) ≡ Some m
-entry_at-last ms m =
-    let back : length ms + 1 - 1 ≡ length ms = omega arith in
-    let not_zero : (length ms + 1 == 0) ≡ false = grind arith in
-    ap (λ (b : Bool). if b then None else slice_get (ms ++ m ∷ []) (length ms + 1 - 1)) not_zero
-    ∙ ap (slice_get (ms ++ m ∷ [])) back ∙ slice_get-last ms m
 
 -- an entry that was made is found under its number
 pub made_is : (h now : History) (e : Entry) (n : ℕ) → now ≡ with_entry h e

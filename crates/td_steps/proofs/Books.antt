@@ -23,7 +23,7 @@ use Rattle.td_journal.specs.Entries.{is_command, is_standing, standing, standing
 use Rattle.td_journal.specs.Entries.{undone_at, undone}
 use Rattle.td_journal.specs.Replay.{replay}
 use Rattle.td_journal.specs.Touching.{touches, latest_touching, blocker}
-use Rattle.td_journal.proofs.Undoing.{standing-append}
+use Rattle.td_journal.proofs.LastEntry.{entry_at-last, blocker-last, standing-last}
 use Rattle.td_core.specs.Committing.{takes}
 use Rattle.td_core.specs.History.{History, rows_of, with_entry, without_entry, opened}
 use Rattle.td_book.specs.declared.arriving.ArriveRefusal.TheVariants as arrivals
@@ -332,53 +332,7 @@ rows_are_replayed t fixed calls new d =
     ap (λ (o : Table). replay o (standing new.history.journal))
     (entries_stay calls (record { history = opened t; fixed = fixed }) new d).opening
 
--- ---- 4. the last entry
-
-slice_get-last : (ms : List Marked) (m : Marked) → slice_get (ms ++ m ∷ []) (length ms) ≡ Some m
-slice_get-last [] m = refl
-slice_get-last (x ∷ ms) m = slice_get-last ms m
-
-entry_at-last : (ms : List Marked) (m : Marked) → entry_at (ms ++ m ∷ []) (length ms + 1) ≡ Some m
-entry_at-last ms m =
-    let back : length ms + 1 - 1 ≡ length ms = omega arith in
-    let not_zero : (length ms + 1 == 0) ≡ false = grind (arith, nat_tests) in
-    ap (λ b. if b then None else slice_get (ms ++ m ∷ []) (length ms + 1 - 1)) not_zero
-    ∙ ap (slice_get (ms ++ m ∷ [])) back ∙ slice_get-last ms m
-
-latest-none : (e : Entry) (n number : ℕ) (ms : List Marked) → number + length ms ≤ n + 1
-    → latest_touching e n number ms ≡ None
-latest-none e n number [] h = refl
-latest-none e n number (m ∷ ms) h =
-    let below : nat_lt n number ≡ false = grind (arith, nat_tests, h) in
-    (λ j. option_or (latest-none e n (number + 1) ms (omega (arith, h)) j)
-    (if below j && (is_standing m.mark && touches e m.entry) then Some number else None))
-
-length-push : (ms : List Marked) (m : Marked) → length (ms ++ m ∷ []) ≡ length ms + 1
-length-push [] m = refl
-length-push (x ∷ ms) m = let rest = length-push ms m in omega (arith, rest)
-
-blocker-last : (ms : List Marked) (m : Marked) → blocker (ms ++ m ∷ []) (length ms + 1) ≡ None
-blocker-last ms m =
-    ap (λ (x : Option Marked).
-    elim x as (λ _. Option ℕ) [
-      | Some y ↦ latest_touching y.entry (length ms + 1) 1 (ms ++ m ∷ [])
-      | None ↦ None
-    ]) (entry_at-last ms m)
-    ∙ latest-none m.entry (length ms + 1) 1 (ms ++ m ∷ []) (omega (arith, length-push ms m))
-
-undone_at-last : (ms : List Marked) (m : Marked)
-    → undone_at (ms ++ m ∷ []) (length ms) ≡ ms ++ record m { mark = Undone } ∷ []
-undone_at-last [] m = refl
-undone_at-last (x ∷ ms) m = ap (λ (ys : List Marked). x ∷ ys) (undone_at-last ms m)
-
-standing-last : (ms : List Marked) (m : Marked)
-    → standing (undone (ms ++ m ∷ []) (length ms + 1)) ≡ standing ms
-standing-last ms m =
-    let back : length ms + 1 - 1 ≡ length ms = omega arith in
-    ap (λ (i : ℕ). standing (undone_at (ms ++ m ∷ []) i)) back ∙ ap standing (undone_at-last ms m)
-    ∙ standing-append ms (record m { mark = Undone } ∷ []) ∙ append-nil (standing ms)
-
--- ---- 5. undos
+-- ---- 4. undos
 
 abbrev stop_of : Option Marked → Option ℕ → Option UndoRefusal
 stop_of x o =
