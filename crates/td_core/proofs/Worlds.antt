@@ -35,7 +35,6 @@ use Rattle.td_core.specs.Phases.{Suits}
 use Rattle.td_core.specs.Worlds.{WorldView, phase_of, with_phase, with_hand, journaled}
 use Rattle.td_core.specs.Worlds.{InHand, IsWorld}
 use Rattle.td_core.specs.Refusals.{are_keys}
-use Rattle.td_core.specs.Steps.{after}
 use Rattle.td_core.proofs.Phases.{phase_of-with_phase, phase_of-other}
 use Rattle.td_core.proofs.Phases.{phase_of-absent}
 use Rattle.td_core.proofs.Refusing.{Commits, Undoes}

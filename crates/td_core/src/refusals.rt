@@ -1,5 +1,5 @@
 //! The tests of each step, in their order.
-ghost use Rattle.std.specs.Prelude.{◌≡◌, ◌==◌, None, position, if◌then◌else◌};
+ghost use Rattle.std.specs.Prelude.{◌≡◌, ◌==◌, None, Some, position, if◌then◌else◌, IfOk, IfErr};
 ghost use Rattle.td_rows.specs.Kinds.{cells};
 ghost use Rattle.td_core.specs.History.{rows_of};
 ghost use Rattle.td_core.specs.Worlds.{phase_of, hand_of};
@@ -9,10 +9,11 @@ ghost use Rattle.td_core.specs.Refusals.{finish_refusal as finish_refusal_of};
 ghost use Rattle.td_core.specs.Steps.{refusal};
 ghost use Rattle.td_core.specs.declared.step.Step.{Step};
 
-use crate::searching::is_pinned;
+use crate::key_list::KeyList;
+use crate::searching::{are_keys, first_missing, first_unfit, is_pinned};
 use crate::step::{Hand, Phase, Refusal};
 use crate::world::World;
-use td_journal::{EntryNo, is_command};
+use td_journal::{EntryNo, Keys, is_command};
 use td_rows::{BuilderNo, Key, Kind, cells_of};
 
 impl World<'_> {
@@ -89,6 +90,32 @@ impl World<'_> {
             (Some(Hand::Free), Some(_)) => Some(Refusal::NotOpen),
             (Some(_), Some(_)) => Some(Refusal::NotFree),
         }
+    }
+
+    /// The keys of a command, as those of its entry, or why it is refused: the key that the refusal
+    /// names is moved out of the list.
+    pub(crate) fn admit(&self, kind: &Kind, keys: KeyList) -> Result<Keys, Refusal>
+        ensures keys { IfOk result (λ admitted. admitted ≡ keys) }
+        ensures ok { IfOk result (λ admitted. refusal self.now (Step.Commit kind.now keys) ≡ None) }
+        ensures err { IfErr result (λ refused.
+            refusal self.now (Step.Commit kind.now keys) ≡ Some refused) }
+    {
+        if !is_command(kind) {
+            return Err(Refusal::NotACommand);
+        }
+        if !are_keys(keys.as_slice()) {
+            return Err(Refusal::NoKeys);
+        }
+        if let Some(at) = first_missing(self.rows(), keys.as_slice()) {
+            return Err(Refusal::NoSuchRow(Some(keys.into_key(at))));
+        }
+        if let Some(at) = first_unfit(self.rows(), kind, keys.as_slice()) {
+            return Err(Refusal::DoesNotApply(keys.into_key(at)));
+        }
+        if let Some(at) = self.first_unpinned(kind, keys.as_slice()) {
+            return Err(Refusal::NotPinned(Some(keys.into_key(at))));
+        }
+        Ok(keys.into_keys())
     }
 
     pub(crate) fn undo_refusal(&self, n: EntryNo) -> Option<Refusal>

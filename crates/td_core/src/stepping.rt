@@ -7,12 +7,11 @@ ghost use Rattle.td_core.specs.Worlds.{held_in};
 
 use crate::books::Books;
 use crate::key_list::KeyList;
-use crate::searching::{are_keys, first_missing, first_unfit};
 use crate::step::{Answer, Hand, Phase, Refusal, Step};
 use crate::world::World;
 use std::alloc::AllocError;
 use std::mem;
-use td_journal::{Entry, EntryNo, Keys, is_command};
+use td_journal::{Entry, EntryNo, Keys};
 use td_rows::{BuilderNo, Key, Kind, Outcome};
 
 // Gives the key's row the phase.
@@ -111,26 +110,10 @@ impl World<'_> {
         ensures ok { OnOk result (self.new ≡ after self.old (Step.Commit kind keys)) }
         ensures err { OnErr result (self.new ≡ self.old) }
     {
-        if !is_command(&kind) {
-            return Ok(Answer::Refused(Refusal::NotACommand));
+        match self.admit(&kind, keys) {
+            Ok(keys) => Ok(Answer::Entry(self.kept.append(Entry { kind, keys })?)),
+            Err(refusal) => Ok(Answer::Refused(refusal)),
         }
-        if !are_keys(keys.as_slice()) {
-            return Ok(Answer::Refused(Refusal::NoKeys));
-        }
-        if let Some(at) = first_missing(self.kept.rows(), keys.as_slice()) {
-            let key = keys.into_key(at);
-            return Ok(Answer::Refused(Refusal::NoSuchRow(Some(key))));
-        }
-        if let Some(at) = first_unfit(self.kept.rows(), &kind, keys.as_slice()) {
-            let key = keys.into_key(at);
-            return Ok(Answer::Refused(Refusal::DoesNotApply(key)));
-        }
-        if let Some(at) = self.first_unpinned(&kind, keys.as_slice()) {
-            let key = keys.into_key(at);
-            return Ok(Answer::Refused(Refusal::NotPinned(Some(key))));
-        }
-        let keys = keys.into_keys();
-        Ok(Answer::Entry(self.kept.append(Entry { kind, keys })?))
     }
 
     pub(crate) fn undo(&mut self, n: EntryNo) -> Answer
