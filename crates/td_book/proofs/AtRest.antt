@@ -2,7 +2,7 @@
 use Rattle.std.proofs.Common.{◌≡◌, ◌↔◌, ℕ, zero, suc, List, [], ◌∷◌, Some, slice_get, ap, refl, sym}
 use Rattle.std.proofs.Common.{subst, ◌∙◌}
 use Rattle.td_board.specs.declared.views.RowView.{RowView}
-use Rattle.td_board.specs.declared.views.RowView.TheVariants.{In, Out, Known}
+use Rattle.td_board.specs.declared.views.RowView.TheVariants.{Out, Known}
 use Rattle.td_rows.specs.declared.key.Key.{Key}
 use Rattle.td_rows.specs.declared.row.Row.{Row}
 use Rattle.td_rows.specs.declared.state.State.{State}
@@ -11,7 +11,7 @@ use Rattle.td_rows.specs.declared.state.State.TheVariants.{Installed, DepWait, B
 use Rattle.td_rows.specs.declared.state.State.TheVariants.{BuildAttempted, Failed, NotForUs}
 use Rattle.td_rows.specs.Table.{Table}
 use Rattle.td_book.specs.AtRest.{AreServed}
-use Rattle.td_book.specs.Seen.{known_as, views, seen_off}
+use Rattle.td_book.specs.Seen.{known_as, seen_off}
 
 -- offered exactly where it needs a build
 known-offered : (s : State) → (Some (known_as s) ≡ Some Out) ↔ (s ≡ NeedsBuild)

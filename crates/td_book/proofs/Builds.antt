@@ -31,8 +31,8 @@ use Rattle.td_core.proofs.Phases.{keys_of-rows_of}
 use Rattle.td_book.specs.declared.starting.Job.{Job}
 use Rattle.td_book.specs.Watching.{WatchedView}
 use Rattle.td_book.specs.Desk.{InnerModel, BookModel, book_of, Stays, HasRoom, HasOne, claim_of}
-use Rattle.td_book.specs.Calls.{is_lost, noting_one, HasOut, OutAt}
-use Rattle.td_book.specs.Building.{LostTo, Knows, is_built_at, Noticed, IsJobAt}
+use Rattle.td_book.specs.Calls.{is_lost, noting_one, HasOut, OutAt, LostTo}
+use Rattle.td_book.specs.Building.{Knows, is_built_at, Noticed, IsJobAt}
 use Rattle.td_book.proofs.Seeing.{claimed_off, idle_off, views_at, views-each_row, set_views}
 use Rattle.td_book.proofs.Steps.{rows_with, is_out_at, stays_none, stays_more, stays_fixed}
 use Rattle.td_book.proofs.Steps.{spent_none, key_of}

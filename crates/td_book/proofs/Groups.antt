@@ -2,7 +2,7 @@
 use Rattle.std.proofs.Common.{◌≡◌, ℕ, zero, suc, ◌+◌, ◌<◌, ◌≤◌, Bool, true, false, List, [], ◌∷◌}
 use Rattle.std.proofs.Common.{◌++◌, Option, Some, None, if◌then◌else◌, length, drop, take, map, set}
 use Rattle.std.proofs.Common.{get_or, slice_get, ap, refl, sym, subst, ◌∙◌, arith}
-use Rattle.std.specs.Prelude.{is_some, nat_lt, Result, Ok, Err, replicate}
+use Rattle.std.specs.Prelude.{is_some, nat_lt, Ok, Err, replicate}
 use Rattle.std.specs.Option.{option_map, option_or}
 use Rattle.std.specs.Ordering.{is_lt}
 use Rattle.std.proofs.lemmas.Bool.{and_parts}
@@ -12,20 +12,17 @@ use Rattle.td_rows.specs.declared.key.Key.{Key}
 use Rattle.td_rows.specs.declared.row.Row.{Row}
 use Rattle.td_rows.specs.Keys.{key_cmp, same_key, names, below_all, ascending}
 use Rattle.td_rows.specs.Table.{Table, row_of, keys_of, IsAt}
-use Rattle.td_rows.proofs.Keys.{same_key-true, same_key-refl, same_key-apart, below-apart}
+use Rattle.td_rows.proofs.Keys.{same_key-refl, same_key-apart, below-apart}
 use Rattle.td_rows.proofs.Lists.{drop-next, take-next, slice_get-map}
 use Rattle.td_rows.proofs.Tables.{row_of-at}
-use Rattle.td_core.specs.History.{rows_of}
-use Rattle.td_core.proofs.Phases.{keys_of-rows_of}
 use Rattle.td_book.specs.declared.watch.Watch.{Watch}
 use Rattle.td_book.specs.declared.watching.WatchRefusal.{WatchRefusal}
 use Rattle.td_book.specs.declared.watching.WatchRefusal.TheVariants.{NoSuchRow, Twice, BadGroup}
 use Rattle.td_book.specs.declared.watching.WatchRefusal.TheVariants.{NoMemory}
 use Rattle.td_book.specs.Desk.{InnerModel, BookModel, book_of}
-use Rattle.td_book.specs.Watching.{WatchView, is_there, group_in, watch_of}
+use Rattle.td_book.specs.Watching.{group_in}
 use Rattle.td_book.specs.WatchCalls.{unknown_in, twice_in, outside_in, watch_stop, with_watch}
 use Rattle.td_book.specs.WatchCalls.{WatchOutcome}
-use Rattle.td_book.specs.inner.Tallies.{AreTallied}
 use Rattle.td_book.specs.inner.WatchOver.{view_of, IsOver}
 
 -- ---- 1. a key that stops a watch, pair by pair

@@ -1,6 +1,6 @@
 -- Numbers of rows that pass a test, over plain values.
 use Rattle.std.proofs.Common.{arith, ◌≡◌, ℕ, zero, suc, ◌+◌, Bool, true, false, List, [], ◌∷◌, ◌++◌}
-use Rattle.std.proofs.Common.{filter, if◌then◌else◌, ap, refl, ◌∙◌, sym}
+use Rattle.std.proofs.Common.{filter, if◌then◌else◌, ap, refl, ◌∙◌}
 use Rattle.std.specs.List.{range_with_len}
 use Rattle.std.proofs.lemmas.List.Elements.{filter-append}
 

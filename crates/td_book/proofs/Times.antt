@@ -2,7 +2,7 @@
 use Rattle.std.proofs.Common.{arith, ◌≡◌, ◌≢◌, ℕ, zero, suc, ◌+◌, ◌<◌, ◌≤◌, ◌==◌, Bool, true, false}
 use Rattle.std.proofs.Common.{List, [], ◌∷◌, ◌++◌, length, filter, cond, get_or, if◌then◌else◌}
 use Rattle.std.proofs.Common.{eq-eqb, ne_eqb, ⊎_elim, refl, ap, sym, subst, ◌∙◌}
-use Rattle.std.specs.List.{Contains, range_with_len, remove, sum_by, swap_remove}
+use Rattle.std.specs.List.{Contains, range_with_len, remove, swap_remove}
 use Rattle.std.specs.List.Sorted.{IsPermutation}
 use Rattle.std.proofs.lemmas.Bool.{cases_lt}
 use Rattle.std.proofs.lemmas.Bool.Decides.{eqb_tells}

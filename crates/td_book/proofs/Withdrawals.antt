@@ -12,7 +12,6 @@ use Rattle.td_rows.specs.declared.kind.Kind.TheVariants.{Gb, Nmu, Bp, Dw, Claim,
 use Rattle.td_rows.specs.declared.kind.Kind.TheVariants.{Arrive, Sweep}
 use Rattle.td_rows.specs.Kinds.{cells}
 use Rattle.td_rows.specs.Keys.{same_key, names, below_all, ascending}
-use Rattle.td_rows.specs.Meaning.{applies}
 use Rattle.td_rows.specs.Table.{Table, applied, fits, AppliesOn, keys_of}
 use Rattle.td_rows.proofs.Keys.{same_key-true}
 use Rattle.td_rows.proofs.Lists.{take-next, drop-next}
@@ -123,28 +122,28 @@ pub lost_step : (named : List Key) (i n : ℕ) (k : Key) (old new : InnerModel) 
     → answer ≡ Some (length old.books.history.journal + 1) → WithdrewAt named i old new answer
 lost_step named i n k old new answer at view up out lost told =
     let t = rows_of old.books.history in
-    let b = lost.by in
-    let same : new.books.history ≡ with_entry old.books.history (claim_of b k) = lost.history in
+    let b = lost.0 in
+    let same : new.books.history ≡ with_entry old.books.history (claim_of b k) = lost.1.history in
     let rows : rows_of new.books.history ≡ applied (Claim b) (k ∷ []) t =
     ap rows_of same ∙ rows_with old.books.history (claim_of b k) in
     let is : (is_queued_at t k && is_lost b) ≡ true =
-    ap (λ v. v && is_lost b) (is_out_at t k n out.row up out.at ∙ out.out) ∙ pos_lost b lost.one in
+    ap (λ v. v && is_lost b) (is_out_at t k n out.row up out.at ∙ out.out) ∙ pos_lost b lost.1.one in
     record {
       key = k;
       at = at;
       by = b;
-      some_builder = lost.some_builder;
+      some_builder = lost.1.some_builder;
       answers =
           told ∙ sym (ap (λ v. if v then Some (length old.books.history.journal + 1) else None) is);
       history = same ∙ sym (ap
           (λ v. if v then with_entry old.books.history (claim_of b k) else old.books.history) is);
       view =
-          lost.view ∙ ap (λ (v : List RowView). set v n (Known b)) view
+          lost.1.view ∙ ap (λ (v : List RowView). set v n (Known b)) view
           ∙ claimed_off (take i named) t n k out.row b up out.at
           ∙ next_off named i k (applied (Claim b) (k ∷ []) t) at
           ∙ ap (λ (u : Table). seen_off (take (i + 1) named) u) (sym rows);
-      stays = lost.stays;
-      spent = lost.spent;
+      stays = lost.1.stays;
+      spent = lost.1.spent;
     }
 
 -- a withdrawal, by its answer

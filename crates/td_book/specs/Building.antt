@@ -1,8 +1,7 @@
 -- What a builder's start and finish do to a book. This project's own.
 use Rattle.std.specs.Prelude.{◌≡◌, ◌⊎◌, ℕ, ◌+◌, ◌≤◌, Bool, true, false, List, [], ◌∷◌, Some, None}
-use Rattle.std.specs.Prelude.{Result, Ok, Err, length, slice_get, slice_set, string_bytes}
+use Rattle.std.specs.Prelude.{Result, Ok, Err, length, slice_get, string_bytes}
 use Rattle.std.specs.Prelude.{unwrap_or}
-use Rattle.td_board.specs.declared.views.RowView.TheVariants.{Known}
 use Rattle.td_board.specs.Knowledge.{with_finish}
 use Rattle.td_board.specs.declared.views.BuilderView.{BuilderView}
 use Rattle.td_board.specs.declared.views.Hand.{Hand}
@@ -12,7 +11,7 @@ use Rattle.td_rows.specs.declared.row.Row.{Row}
 use Rattle.td_rows.specs.declared.kind.Kind.{Kind}
 use Rattle.td_rows.specs.declared.outcome.Outcome.{Outcome}
 use Rattle.td_rows.specs.declared.outcome.Outcome.TheVariants.{Built as WasBuilt}
-use Rattle.td_rows.specs.declared.kind.Kind.TheVariants.{Claim, Outcome as Ended}
+use Rattle.td_rows.specs.declared.kind.Kind.TheVariants.{Outcome as Ended}
 use Rattle.td_rows.specs.States.{is_building_by}
 use Rattle.td_rows.specs.Table.{Table, row_of, keys_of}
 use Rattle.td_change.specs.Plans.{Planned, plan_of, left}
@@ -29,16 +28,6 @@ use Rattle.td_book.specs.Seen.{seen_off}
 use Rattle.td_book.specs.Desk.{InnerModel, BookModel, Stays, Spent}
 use Rattle.td_book.specs.Calls.{noting_one}
 use Rattle.td_book.specs.Deeds.{code_of}
-
--- the claim of the row is noted, of this builder
-pub record LostTo (by : ℕ) (old new : InnerModel) (i : ℕ) (claim : List Key) : Type 0 where
-  pub one : 1 ≤ by
-  pub some_builder : by ≤ old.builders
-  pub history : new.books.history
-      ≡ with_entry old.books.history (record { kind = Claim by; keys = claim })
-  pub view : new.view ≡ slice_set old.view i (Known by)
-  pub stays : Stays old new
-  pub spent : Spent claim old.books new.books
 
 -- a build that is settled: its row's key, its builder, and how it ended
 pub record Settling : Type 0 where

@@ -68,9 +68,8 @@ pub record Claimable (old : InnerModel) (i : ℕ) (claim : List Key) : Type 0 wh
   pub out : OutAt (rows_of old.books.history) key i
   pub rising : ascending (keys_of (rows_of old.books.history)) ≡ true
 
--- a builder's claim of the row is noted
-pub record Lost (old new : InnerModel) (i : ℕ) (claim : List Key) : Type 0 where
-  pub by : ℕ
+-- the claim of the row is noted, of this builder
+pub record LostTo (by : ℕ) (old new : InnerModel) (i : ℕ) (claim : List Key) : Type 0 where
   pub one : 1 ≤ by
   pub some_builder : by ≤ old.builders
   pub history : new.books.history
@@ -78,6 +77,10 @@ pub record Lost (old new : InnerModel) (i : ℕ) (claim : List Key) : Type 0 whe
   pub view : new.view ≡ slice_set old.view i (Known by)
   pub stays : Stays old new
   pub spent : Spent claim old.books new.books
+
+-- the claim of the row is noted, of some builder
+abbrev pub Lost : InnerModel → InnerModel → ℕ → List Key → Type 0
+Lost old new i claim = (by : ℕ) × LostTo by old new i claim
 
 -- the list is of the key at a place
 abbrev pub IsKeyAt : List Key → ℕ → List Key → Type 0

@@ -14,8 +14,8 @@ ghost use Rattle.td_core.specs.History.{rows_of, with_entry};
 ghost use Rattle.td_book.specs.Seen.{seen_off};
 ghost use Rattle.td_book.specs.Deeds.{code_of};
 ghost use Rattle.td_book.specs.Desk.{HasOne, HasRoom, Stays};
-ghost use Rattle.td_book.specs.Calls.{Claimable};
-ghost use Rattle.td_book.specs.Building.{LostTo, Knows, Settling, IsClosing, IsEndingAt, IsEnded};
+ghost use Rattle.td_book.specs.Calls.{Claimable, LostTo};
+ghost use Rattle.td_book.specs.Building.{Knows, Settling, IsClosing, IsEndingAt, IsEnded};
 ghost use Rattle.td_book.specs.Building.{IsUnended, ended_in, is_built_at};
 
 use crate::inner::{Inner, is_out};

@@ -4,7 +4,7 @@ ghost use Rattle.td_board.specs.declared.views.Hand.TheVariants.{Holding, Finish
 ghost use Rattle.td_core.specs.History.{rows_of};
 ghost use Rattle.td_book.specs.Building.{IsEndingAt};
 ghost use Rattle.td_book.specs.Deeds.{code_of as code_in};
-ghost use Rattle.td_book.specs.Finishing.{FinishAgain, FinishHeld, FinishOutcome};
+ghost use Rattle.td_book.specs.Finishing.{FinishAgain, FinishHeld, FinishOutcome, HasRowOf};
 
 use crate::book::Book;
 use crate::building::{Ending, is_built};
@@ -110,6 +110,15 @@ impl<'a> Book<'a> {
         ended.ok_or(FinishRefusal::Mismatch)
     }
 
+    // Whether the row with a number is Building by the builder.
+    fn has_build(&self, row: usize, builder: BuilderNo) -> bool
+        requires within { row < length (rows_of self.now.history) }
+        ensures { HasRowOf result row builder self.now }
+    {
+        let _rows = self.inner.books.rows();
+        is_built(self.inner.books.rows(), row, builder)
+    }
+
     // Settles the build of a row that the builder had ended with this code.
     fn finish_again(
         &mut self,
@@ -124,8 +133,7 @@ impl<'a> Book<'a> {
         requires one { 0 < builder }
         ensures { FinishAgain row code outcome builder self.old self.new result }
     {
-        let _rows = self.inner.books.rows();
-        if !is_built(self.inner.books.rows(), row, builder) {
+        if !self.has_build(row, builder) {
             return Err(FinishRefusal::NothingHeld);
         }
         if code_of(&outcome) != code {

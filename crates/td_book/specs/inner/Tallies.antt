@@ -1,10 +1,10 @@
 -- Counts that are kept up by one row after another. This project's own.
-use Rattle.std.specs.Prelude.{◌≡◌, ℕ, ◌+◌, ◌<◌, Bool, true, false, ◌&&◌, ◌||◌, not, List, ◌∷◌, []}
+use Rattle.std.specs.Prelude.{◌≡◌, ℕ, ◌+◌, ◌<◌, Bool, true, false, ◌&&◌, ◌||◌, not, List}
 use Rattle.std.specs.Prelude.{Option, Some, None, length, slice_get, slice_index}
 use Rattle.td_rows.specs.declared.key.Key.{Key}
 use Rattle.td_rows.specs.declared.row.Row.{Row}
 use Rattle.td_rows.specs.declared.kind.Kind.{Kind}
-use Rattle.td_rows.specs.declared.kind.Kind.TheVariants.{Nmu, Arrive}
+use Rattle.td_rows.specs.declared.kind.Kind.TheVariants.{Nmu}
 use Rattle.td_rows.specs.Keys.{names, ascending}
 use Rattle.td_rows.specs.States.{is_installed}
 use Rattle.td_rows.specs.Table.{Table, row_of, keys_of, AppliesOn}

@@ -1,5 +1,5 @@
 -- `set_groups`: its loop, the clause `twice` and the call of `set_group`.
-use Rattle.std.proofs.Common.{◌≡◌, Option, ℕ, true, false, is_some, take, sym, ap, ◌∙◌}
+use Rattle.std.proofs.Common.{◌≡◌, Option, ℕ, false, is_some, take, sym, ap, ◌∙◌}
 use Rattle.td_book.specs.Watching.{group_in}
 use Rattle.td_book.proofs.Groups.{set-twice, set-next, number-within, group-read, key_there}
 use Rattle.td_book.proofs.Groups.{known-all, pair_at}

@@ -1,73 +1,44 @@
 -- `Book::finish_again`: what it answers and the call of `close`.
 use Rattle.std.proofs.Common.{◌≡◌, ◌+◌, List, length, slice_get, ap, refl, sym, ◌∙◌, rules}
 use Rattle.td_rows.specs.declared.key.Key.{Key}
-use Rattle.td_rows.specs.Keys.{ascending}
-use Rattle.td_rows.specs.Table.{keys_of}
-use Rattle.td_core.specs.History.{History, rows_of, with_entry}
+use Rattle.td_core.specs.History.{History, with_entry}
 use Rattle.td_core.proofs.Phases.{keys_of-rows_of}
-use Rattle.td_book.specs.declared.book.Book.TheInside.{Inside}
 use Rattle.td_book.specs.Desk.{BookModel, book_of}
-use Rattle.td_book.proofs.Ends.{row_of_builder, built_there}
+use Rattle.td_book.proofs.Ends.{built_there}
 use Rattle.td_book.proofs.Steps.{stays_more, stays_fixed}
 use Rattle.td_book.proofs.book.Book.finish_again.Goals as goal
 
-pub returns-then-not-is_built : goal.returns-then-not-is_built
-returns-then-not-is_built c =
-    let h = c.args.self.now.history in
-    let r = row_of_builder h c.rows.result.now c.args.row c.args.builder c.is_built.result
-    (c.rows.ensures.rows ∙ ap (λ (s : Inside). rows_of s.inner.books.history) c.self-inside.view_is
-    ∙ ap (λ (m : BookModel). rows_of m.history) c.self.view_is)
-    (ap (λ (m : BookModel). ascending (keys_of m.history.opening)) (sym c.self.view_is)
-    ∙ ap (λ (s : Inside). ascending (keys_of s.inner.books.history.opening))
-    (sym c.self-inside.view_is) ∙ c.rows.ensures.rising)
-    c.requires.within c.is_built.ensures in
-    ((r.0, r.1, r.2 ∙ c.if-not-is_built.true), refl)
+pub returns-then-not-has_build : goal.returns-then-not-has_build
+returns-then-not-has_build c =
+    let r = c.has_build.ensures in
+    ((r.0, r.1, r.2 ∙ c.if-not-has_build.true), refl)
 
 pub returns-then-ne : goal.returns-then-ne
 returns-then-ne c =
-    let h = c.args.self.now.history in
-    let r = row_of_builder h c.rows.result.now c.args.row c.args.builder c.is_built.result
-    (c.rows.ensures.rows ∙ ap (λ (s : Inside). rows_of s.inner.books.history) c.self-inside.view_is
-    ∙ ap (λ (m : BookModel). rows_of m.history) c.self.view_is)
-    (ap (λ (m : BookModel). ascending (keys_of m.history.opening)) (sym c.self.view_is)
-    ∙ ap (λ (s : Inside). ascending (keys_of s.inner.books.history.opening))
-    (sym c.self-inside.view_is) ∙ c.rows.ensures.rising)
-    c.requires.within c.is_built.ensures in
-    ((r.0, r.1, r.2 ∙ c.if-not-is_built.false), refl)
+    let r = c.has_build.ensures in
+    ((r.0, r.1, r.2 ∙ c.if-not-has_build.false), refl)
 
 pub close-requires-clause-built : goal.close-requires-clause-built
 close-requires-clause-built c = λ k there.
     let h = c.args.self.now.history in
-    let r = row_of_builder h c.rows.result.now c.args.row c.args.builder c.is_built.result
-    (c.rows.ensures.rows ∙ ap (λ (s : Inside). rows_of s.inner.books.history) c.self-inside.view_is
-    ∙ ap (λ (m : BookModel). rows_of m.history) c.self.view_is)
-    (ap (λ (m : BookModel). ascending (keys_of m.history.opening)) (sym c.self.view_is)
-    ∙ ap (λ (s : Inside). ascending (keys_of s.inner.books.history.opening))
-    (sym c.self-inside.view_is) ∙ c.rows.ensures.rising)
-    c.requires.within c.is_built.ensures in
+    let r = c.has_build.ensures in
     built_there h c.reserve.new.self.books.history c.args.row c.args.builder k r.0
     (c.reserve.ensures.history ∙ ap (λ (m : BookModel). m.history) c.self.view_is) r.1
-    (r.2 ∙ c.if-not-is_built.false) there
+    (r.2 ∙ c.if-not-has_build.false) there
 
 pub returns-in-Some : goal.returns-in-Some
 returns-in-Some c =
     let h = c.args.self.now.history in
     let i = c.args.row in
     let b = c.args.builder in
-    let r = row_of_builder h c.rows.result.now c.args.row c.args.builder c.is_built.result
-    (c.rows.ensures.rows ∙ ap (λ (s : Inside). rows_of s.inner.books.history) c.self-inside.view_is
-    ∙ ap (λ (m : BookModel). rows_of m.history) c.self.view_is)
-    (ap (λ (m : BookModel). ascending (keys_of m.history.opening)) (sym c.self.view_is)
-    ∙ ap (λ (s : Inside). ascending (keys_of s.inner.books.history.opening))
-    (sym c.self-inside.view_is) ∙ c.rows.ensures.rising)
-    c.requires.within c.is_built.ensures in
+    let r = c.has_build.ensures in
     let e = c.in-Ok.ensures.ending.closing in
     let same = c.reserve.ensures.history ∙ ap (λ (m : BookModel). m.history) c.self.view_is in (
       search rules,
       record {
         key = e.key;
         at = ap (λ (ks : List Key). slice_get ks i) (sym (keys_of-rows_of h)) ∙ e.at;
-        built = built_there h h i b e.key r.0 refl r.1 (r.2 ∙ c.if-not-is_built.false) e.at;
+        built = built_there h h i b e.key r.0 refl r.1 (r.2 ∙ c.if-not-has_build.false) e.at;
         history = c.in-Some.ensures.history
             ∙ (λ j. with_entry (same j)
             (record {
@@ -84,20 +55,13 @@ returns-in-Some c =
 
 pub returns : goal.returns
 returns c =
-    let h = c.args.self.now.history in
     let a = c.self.inside.inner in
-    let r = row_of_builder h c.rows.result.now c.args.row c.args.builder c.is_built.result
-    (c.rows.ensures.rows ∙ ap (λ (s : Inside). rows_of s.inner.books.history) c.self-inside.view_is
-    ∙ ap (λ (m : BookModel). rows_of m.history) c.self.view_is)
-    (ap (λ (m : BookModel). ascending (keys_of m.history.opening)) (sym c.self.view_is)
-    ∙ ap (λ (s : Inside). ascending (keys_of s.inner.books.history.opening))
-    (sym c.self-inside.view_is) ∙ c.rows.ensures.rising)
-    c.requires.within c.is_built.ensures in
+    let r = c.has_build.ensures in
     let unchanged : book_of c.reserve.new.self ≡ book_of a =
     λ j. record {
       history = c.reserve.ensures.history j;
       fixed = stays_fixed a c.reserve.new.self c.reserve.ensures.stays j;
     } in (
-      (r.0, r.1, r.2 ∙ c.if-not-is_built.false),
+      (r.0, r.1, r.2 ∙ c.if-not-has_build.false),
       ap book_of c.in-None.ensures.none ∙ unchanged ∙ c.self.view_is,
     )

@@ -1,5 +1,5 @@
 -- `Book::ready`: the rows on offer, sorted.
-use Rattle.std.proofs.Common.{◌≡◌, [], List, ℕ, ap, sym, subst, ◌∙◌}
+use Rattle.std.proofs.Common.{◌≡◌, List, ℕ, ap, subst, ◌∙◌}
 use Rattle.std.specs.List.Sorted.{IsPermutation, IsSortedBy}
 use Rattle.std.proofs.lemmas.List.Sorted.{IsPermutation-trans}
 use Rattle.td_rows.specs.Table.{Table}
@@ -7,7 +7,6 @@ use Rattle.td_core.specs.History.{rows_of}
 use Rattle.td_book.specs.declared.book.Book.TheInside.{Inside}
 use Rattle.td_book.specs.Desk.{BookModel}
 use Rattle.td_book.specs.Ready.{is_before, queued_in}
-use Rattle.td_book.specs.Seen.{seen_off}
 use Rattle.td_book.specs.inner.OutRows.{outs_of}
 use Rattle.td_book.proofs.OutRows.{outs_of-rest}
 use Rattle.td_book.proofs.book.Book.ready.Goals as goal

@@ -1,10 +1,6 @@
 -- `Book::seat`: what the inside says of the seat, at rest.
-use Rattle.std.proofs.Common.{◌≡◌, [], ap, ◌∙◌, subst}
-use Rattle.td_rows.specs.Table.{keys_of}
-use Rattle.td_core.specs.History.{rows_of}
+use Rattle.std.proofs.Common.{◌∙◌, subst}
 use Rattle.td_book.specs.AtRest.{IsAtRest}
-use Rattle.td_book.specs.Desk.{BookModel}
-use Rattle.td_book.specs.Seen.{seen_off}
 use Rattle.td_book.proofs.AtRest.{served}
 use Rattle.td_book.proofs.book.Book.seat.Goals as goal
 

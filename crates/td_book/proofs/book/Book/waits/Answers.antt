@@ -1,5 +1,5 @@
 -- `Book::waits`: at rest the rows on offer are those that need a build.
-use Rattle.std.proofs.Common.{[], ap, ◌∙◌}
+use Rattle.std.proofs.Common.{ap, ◌∙◌}
 use Rattle.td_core.specs.History.{rows_of}
 use Rattle.td_book.specs.declared.book.Book.TheInside.{Inside}
 use Rattle.td_book.specs.Desk.{BookModel}

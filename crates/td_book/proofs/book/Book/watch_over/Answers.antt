@@ -1,6 +1,5 @@
 -- `Book::watch_over`: what it answers.
-use Rattle.std.proofs.Common.{◌≡◌, List, ℕ, None, map, ap, sym, subst, ◌∙◌}
-use Rattle.td_rows.specs.declared.key.Key.{Key}
+use Rattle.std.proofs.Common.{◌≡◌, None, map, ap, sym, subst, ◌∙◌}
 use Rattle.td_rows.specs.Table.{Table, keys_of}
 use Rattle.td_core.specs.History.{rows_of}
 use Rattle.td_core.proofs.Phases.{keys_of-rows_of}

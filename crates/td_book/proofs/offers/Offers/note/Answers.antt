@@ -1,5 +1,5 @@
 -- `Offers::note`: the row was Seen, and is Known.
-use Rattle.std.proofs.Common.{◌≡◌, ℕ, ap, refl}
+use Rattle.std.proofs.Common.{ℕ, ap, refl}
 use Rattle.td_board.specs.declared.views.RowView.TheVariants.{Known, Seen}
 use Rattle.td_board.specs.Seats.{DeskModel}
 use Rattle.td_book.proofs.OutRows.{listed-kept}

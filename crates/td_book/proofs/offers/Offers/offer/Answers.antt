@@ -1,5 +1,5 @@
 -- `Offers::offer`: the row goes to the end of the list.
-use Rattle.std.proofs.Common.{arith, ◌≡◌, ◌<◌, ℕ, List, length, ap, sym, subst, ◌∙◌}
+use Rattle.std.proofs.Common.{arith, ◌≡◌, ◌<◌, ℕ, List, length, ap, sym, subst}
 use mathlib.Core.Option.{some}
 use lib.ListN.{get_elem?, set}
 use Rattle.td_board.specs.declared.views.RowView.TheVariants.{In}

@@ -1,5 +1,5 @@
 -- `Offers::settle`: the row was Known, and is In or Known.
-use Rattle.std.proofs.Common.{◌≡◌, ◌∷◌, ℕ, refl, sym, subst}
+use Rattle.std.proofs.Common.{◌≡◌, ℕ, refl, sym, subst}
 use mathlib.Core.Option.{some}
 use lib.ListN.{get_elem?}
 use Rattle.td_board.specs.declared.views.Deed.TheVariants as deed

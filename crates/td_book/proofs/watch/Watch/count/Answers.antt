@@ -1,5 +1,5 @@
 -- `Watch::count`: its loop, the clause `counts` and the call of `raise`.
-use Rattle.std.proofs.Common.{◌≡◌, ◌+◌, ◌<◌, List, Option, ℕ, length, ap, sym, subst, ◌∙◌, arith}
+use Rattle.std.proofs.Common.{◌+◌, ◌<◌, List, Option, ℕ, length, ap, sym, subst, ◌∙◌, arith}
 use Rattle.td_book.specs.declared.watch.Watch.{Watch}
 use Rattle.td_book.proofs.Tallies.{AreCounted, counted-bound, counted-there, counted-idle}
 use Rattle.td_book.proofs.Tallies.{counted-last, is_row}

@@ -1,12 +1,11 @@
 -- `Watch::entered`: the clause `counts` and the calls of `lower_each` and `raise_each`.
-use Rattle.std.proofs.Common.{◌≡◌, ◌∙◌, List, Some, None, false, true, ap, sym, subst}
+use Rattle.std.proofs.Common.{◌≡◌, ◌∙◌, List, Some, false, true, ap, sym, subst}
 use Rattle.td_rows.specs.declared.key.Key.{Key}
 use Rattle.td_rows.specs.Table.{Table}
 use Rattle.td_journal.specs.declared.entry.Marked.{Marked}
 use Rattle.td_journal.specs.Entries.{entry_at}
-use Rattle.td_core.specs.History.{rows_of}
 use Rattle.td_book.specs.inner.Tallies.{AllAre, AreTallied, or_named, but_named}
-use Rattle.td_book.proofs.Installing.{entered-none, entered-gone, entered-left, entered-there}
+use Rattle.td_book.proofs.Installing.{entered-gone, entered-left, entered-there}
 use Rattle.td_book.proofs.Installing.{entered-come, entered-same}
 use Rattle.td_book.proofs.watch.Watch.entered.Goals as goal
 

@@ -1,11 +1,11 @@
 -- `Watch::lower_each`: its loop and the call of `lower`.
-use Rattle.std.proofs.Common.{◌≡◌, Some, None, List, Option, ℕ, length, drop, ◌+◌, true, false, ap}
-use Rattle.std.proofs.Common.{sym, subst, ◌∙◌, arith, refl}
+use Rattle.std.proofs.Common.{List, Option, ℕ, length, drop, ◌+◌, false, ap}
+use Rattle.std.proofs.Common.{sym, subst, ◌∙◌}
 use Rattle.td_rows.specs.declared.key.Key.{Key}
 use Rattle.td_book.specs.declared.watch.Watch.{Watch}
 use Rattle.td_book.specs.inner.Tallies.{AreTallied, or_named}
 use Rattle.td_book.proofs.Steps.{key_at}
-use Rattle.td_book.proofs.Tallies.{lower-next, lower-last, lower-some, no_row}
+use Rattle.td_book.proofs.Tallies.{lower-next, lower-some, no_row}
 use Rattle.td_book.proofs.watch.Watch.lower_each.Goals as goal
 use Rattle.td_book.proofs.watch.Watch.lower_each.Goals.{in-Some, in_default}
 

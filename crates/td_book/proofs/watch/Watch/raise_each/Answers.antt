@@ -1,11 +1,11 @@
 -- `Watch::raise_each`: its loop and the call of `raise`.
-use Rattle.std.proofs.Common.{◌≡◌, Some, None, List, Option, ℕ, length, drop, ◌+◌, true, false, ap}
-use Rattle.std.proofs.Common.{sym, subst, ◌∙◌, arith, refl}
+use Rattle.std.proofs.Common.{List, Option, ℕ, length, drop, ◌+◌, true, ap}
+use Rattle.std.proofs.Common.{sym, subst, ◌∙◌, arith}
 use Rattle.td_rows.specs.declared.key.Key.{Key}
 use Rattle.td_book.specs.declared.watch.Watch.{Watch}
 use Rattle.td_book.specs.inner.Tallies.{AreTallied, but_named}
 use Rattle.td_book.proofs.Steps.{key_at}
-use Rattle.td_book.proofs.Tallies.{raise-next, raise-last, raise-bound, no_row}
+use Rattle.td_book.proofs.Tallies.{raise-next, raise-bound, no_row}
 use Rattle.td_book.proofs.watch.Watch.raise_each.Goals as goal
 use Rattle.td_book.proofs.watch.Watch.raise_each.Goals.{in-Some, in_default}
 

@@ -1,11 +1,10 @@
 -- `Watch::undone`: the clause `counts` and the call of `raise_each`.
-use Rattle.std.proofs.Common.{◌≡◌, ◌∙◌, List, Some, None, false, true, ap, sym, subst}
+use Rattle.std.proofs.Common.{◌≡◌, ◌∙◌, List, Some, true, ap, sym, subst}
 use Rattle.td_rows.specs.declared.key.Key.{Key}
 use Rattle.td_rows.specs.Table.{Table}
 use Rattle.td_journal.specs.declared.entry.Marked.{Marked}
 use Rattle.td_journal.specs.Entries.{entry_at}
-use Rattle.td_core.specs.History.{rows_of}
-use Rattle.td_book.specs.inner.Tallies.{AllAre, AreTallied, or_named, but_named}
+use Rattle.td_book.specs.inner.Tallies.{AllAre, AreTallied, but_named}
 use Rattle.td_book.proofs.Installing.{taken-none, taken-there, taken-back, taken-same}
 use Rattle.td_book.proofs.watch.Watch.undone.Goals as goal
 
