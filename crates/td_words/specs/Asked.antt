@@ -7,6 +7,7 @@ use Rattle.td_words.specs.declared.request.Call.{Call}
 use Rattle.td_words.specs.declared.request.Request.{Request}
 use Rattle.td_words.specs.declared.request.Request.TheVariants.{Simulate, Check, Track, Waves, Run}
 use Rattle.td_words.specs.declared.request.WordsFault.{WordsFault}
+use Rattle.td_words.specs.declared.request.WordsFault.TheVariants.{Usage, NoMemory}
 use Rattle.td_words.specs.CommandLine.{AskFor, AskForCheck, AskForRun, AskForTrack, AskForWaves}
 use Rattle.td_words.specs.CommandLine.{HasFiles, HasRun, HasTrack, HasTracker, RunWords, TrackWords}
 use Rattle.td_words.specs.CommandLine.{name_in, rows_in}
@@ -95,6 +96,11 @@ IsRunOf w (Run archs packages sources state tracker suite builders outcomes jour
 abbrev pub call_as : Result Request WordsFault → Bool → Result Call WordsFault
 call_as (Ok request) explained = Ok (record { request = request; explained = explained })
 call_as (Err fault) explained = Err fault
+
+-- the fault says this text, unless memory is wanting for it
+abbrev pub IsUsage : WordsFault → List ℕ → Type 0
+IsUsage (Usage said) text = string_bytes said ≡ text
+IsUsage NoMemory text = Unit {0}
 
 -- the answer is the check that these options give
 abbrev pub IsCheckIn : List Row → Request → Type 0

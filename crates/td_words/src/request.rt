@@ -11,7 +11,7 @@ ghost use Rattle.td_words.specs.CommandLine.{RunWords, TrackWords, chunk_at};
 ghost use Rattle.td_words.specs.CommandLine.{chunk_in as chunk_in_of, is_explained, name_in};
 ghost use Rattle.td_words.specs.CommandLine.{options_of, rows_in};
 ghost use Rattle.td_words.specs.Asked.{AreWavesIn, AreWavesOf, Asks, IsCheckIn, IsCheckOf};
-ghost use Rattle.td_words.specs.Asked.{IsRequestIn, IsRunOf, IsTrackIn, IsTrackOf, call_as};
+ghost use Rattle.td_words.specs.Asked.{IsRequestIn, IsRunOf, IsTrackIn, IsTrackOf, IsUsage, call_as};
 
 use crate::command::command;
 use crate::run_words::run_in;
@@ -102,8 +102,10 @@ fn fault_of(alloc: Global, error: &Error) -> WordsFault
     }
 }
 
-/// The text that is said of a value that an option doesn't take.
-pub(crate) fn said(alloc: Global, text: &str) -> WordsFault {
+/// The fault of a value that an option doesn't take, by the text that says so.
+pub(crate) fn usage_fault(alloc: Global, text: &str) -> WordsFault
+    ensures { IsUsage result text.now }
+{
     match String::from_str(alloc, text) {
         Ok(text) => WordsFault::Usage(text),
         Err(_) => WordsFault::NoMemory,
@@ -198,7 +200,7 @@ fn track_in(alloc: Global, matches: &ArgMatches<'_>) -> Result<Request, WordsFau
     let tracker = needed_in(alloc, matches, "tracker")?;
     let state = given_in(alloc, matches, "state")?;
     let Some(chunk) = chunk_in(matches) else {
-        return Err(said(alloc, "error: --chunk takes a number from 1 to 1000000\n"));
+        return Err(usage_fault(alloc, "error: --chunk takes a number from 1 to 1000000\n"));
     };
     Ok(Request::Track {
         archs,

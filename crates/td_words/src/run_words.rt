@@ -6,7 +6,7 @@ ghost use Rattle.td_words.specs.CommandLine.{HasRun, RunWords, builders_in as bu
 ghost use Rattle.td_words.specs.CommandLine.{suite_in as suite_in_of};
 ghost use Rattle.td_words.specs.Asked.{IsRunIn, IsRunOf};
 
-use crate::request::{Request, WordsFault, given_in, needed_in, said, value_in};
+use crate::request::{Request, WordsFault, given_in, needed_in, usage_fault, value_in};
 use clap::ArgMatches;
 use std::alloc::Global;
 use td_text::number;
@@ -57,7 +57,7 @@ pub(crate) fn run_in(alloc: Global, matches: &ArgMatches<'_>) -> Result<Request,
     let tracker = given_in(alloc, matches, "tracker")?;
     let suite = suite_in(alloc, matches)?;
     let Some(builders) = builders_in(matches) else {
-        return Err(said(alloc, "error: --builders takes a number from 0 to 64\n"));
+        return Err(usage_fault(alloc, "error: --builders takes a number from 0 to 64\n"));
     };
     let outcomes = given_in(alloc, matches, "outcomes")?;
     let journal = given_in(alloc, matches, "journal")?;
