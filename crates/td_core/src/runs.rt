@@ -1,5 +1,5 @@
 //! A list of steps, taken one after the other.
-ghost use Rattle.std.specs.Prelude.{◌≡◌, ◌≤◌, IfOk};
+ghost use Rattle.std.specs.Prelude.{◌≡◌, ◌≤◌, IfOk, OnOk};
 ghost use Rattle.td_core.specs.Phases.{NoneBuilt};
 ghost use Rattle.td_core.specs.Steps.{answers_to, after_all};
 ghost use Rattle.td_core.specs.Worlds.{world_of};
@@ -10,6 +10,22 @@ use crate::world::World;
 use std::alloc::{AllocError, Global};
 use td_rows::Rows;
 use td_supply::Supply;
+
+// Takes the steps one after the other, and answers each.
+fn answer_all(
+    alloc: Global,
+    world: &mut World<'_>,
+    steps: Vec<Step>,
+) -> Result<Vec<Answer>, AllocError>
+    ensures world { OnOk result (world.new ≡ after_all world.old steps.items) }
+    ensures answers { IfOk result (λ answers. answers.items ≡ answers_to world.old steps.items) }
+{
+    let mut answers = Vec::with_capacity(alloc, steps.len())?;
+    for step in steps {
+        answers.push(world.try_step(step)?)?;
+    }
+    Ok(answers)
+}
 
 /// Takes steps one after the other, from rows of which none is built, and answers each.
 pub fn run<'a>(
@@ -28,9 +44,6 @@ pub fn run<'a>(
         end.1.items ≡ answers_to (world_of rows (stock_of supply.entry) builders) steps.items) }
 {
     let mut world = World::open(alloc, rows, supply, builders)?;
-    let mut answers = Vec::with_capacity(alloc, steps.len())?;
-    for step in steps {
-        answers.push(world.try_step(step)?)?;
-    }
+    let answers = answer_all(alloc, &mut world, steps)?;
     Ok((world, answers))
 }

@@ -82,10 +82,12 @@ impl<'a> World<'a> {
         ensures { IfOk result (λ world. world ≡ world_of rows (stock_of supply.entry) builders) }
     {
         let phases = closed(alloc, rows.len())?;
+        let hands = free(alloc, builders)?;
+        let kept = Books::open(alloc, rows, supply)?;
         Ok(World {
-            kept: Books::open(alloc, rows, supply)?,
+            kept,
             phases,
-            hands: free(alloc, builders)?,
+            hands,
             alloc,
         })
     }

@@ -11,10 +11,10 @@ invariant_of-result c =
     let phases = c.in_ok-phases.ensures ∙ ap (λ n. replicate n Closed) c.len.ensures.len in
     subst (λ (w : WorldView). IsWorld w)
     (λ j. record {
-      history = sym c.in_ok-open.ensures.history j;
-      supply = sym c.in_ok-open.ensures.stock j;
+      history = sym c.in_ok-kept.ensures.history j;
+      supply = sym c.in_ok-kept.ensures.stock j;
       phases = sym phases j;
-      hands = sym c.in_ok-free.ensures j;
+      hands = sym c.in_ok-hands.ensures j;
     })
     (IsWorld-open c.args.rows (stock_of c.args.supply) c.args.builders c.len.ensures.rising
     c.requires.idle)

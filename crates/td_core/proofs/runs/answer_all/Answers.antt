@@ -1,14 +1,13 @@
--- `run`: its loop.
+-- `answer_all`: its loop.
 use Rattle.std.proofs.Common.{[], ◌++◌, ◌∷◌, ap, sym, ◌∙◌}
-use Rattle.td_supply.specs.Supply.{stock_of}
-use Rattle.td_core.specs.Worlds.{WorldView, world_of}
+use Rattle.td_core.specs.Worlds.{WorldView}
 use Rattle.td_core.specs.Steps.{answer_to, after, answers_to}
 use Rattle.td_core.proofs.Running.{after_all-push, answers_to-push}
-use Rattle.td_core.proofs.runs.run.Goals as goal
+use Rattle.td_core.proofs.runs.answer_all.Goals as goal
 
 pub loop-step-preserved : goal.loop-step-preserved
 loop-step-preserved c =
-    let start = world_of c.args.rows (stock_of c.args.supply) c.args.builders in
+    let start = c.args.world.now in
     let step = c.in-Some.step in
     record {
       world = c.in_ok-try_step.ensures.ok
