@@ -1,5 +1,7 @@
 //! The lines of a text, one after the other.
-ghost use Rattle.std.specs.Prelude.{◌≡◌, ◌≤◌, ◌-◌, ◌∷◌, ◌++◌, length};
+ghost use Rattle.std.specs.Prelude.{◌≡◌, ◌≤◌, ◌-◌, ℕ, List, [], ◌∷◌, ◌++◌, length};
+ghost use Rattle.std.specs.Prelude.{Option, Some, None};
+ghost use Rattle.std.specs.Borrow.{Bor};
 ghost use Rattle.td_text.specs.Cut.{Without};
 ghost use Rattle.td_text.specs.Lines.{lines_of, lines_left, left_text, left_len, ended};
 
@@ -18,6 +20,8 @@ pub fn next_line(text: &str) -> (&str, Option<&str>)
 
 /// What stands behind a line, as `next_line` tells it: nothing behind the last.
 pub fn behind(after: Option<&str>) -> &str
+    ensures found { (rest : Bor (List ℕ)) → after.entry ≡ Some rest → result.now ≡ rest.now }
+    ensures none { after.entry ≡ None → result.now ≡ [] }
     ensures lines { ended (lines_of result.now) ≡ ended (lines_left after.entry) }
     ensures shorter { length result.now ≤ left_len after.entry - 1 }
 {
