@@ -1,5 +1,5 @@
 -- What an entry, and its undo, do to what is Installed.
-use Rattle.std.proofs.Common.{◌≡◌, ℕ, suc, ◌-◌, Bool, true, false, ◌&&◌, ◌||◌, not, List}
+use Rattle.std.proofs.Common.{◌≡◌, ℕ, suc, ◌-◌, Bool, true, false, not, List}
 use Rattle.std.proofs.Common.{[], ◌∷◌, Option, Some, None, if◌then◌else◌, option_map}
 use Rattle.std.proofs.Common.{slice_get, ap, refl, sym, subst, ◌∙◌, zero, ◌==◌}
 use Rattle.std.proofs.lemmas.Bool.{and_parts}
@@ -22,14 +22,12 @@ use Rattle.td_rows.proofs.Tables.{row_of-each_row, applies-fits}
 use Rattle.td_journal.specs.declared.entry.Entry.{Entry}
 use Rattle.td_journal.specs.declared.entry.Mark.TheVariants.{Undone}
 use Rattle.td_journal.specs.declared.entry.Marked.{Marked}
-use Rattle.td_journal.specs.Commands.{is_command}
 use Rattle.td_journal.specs.Entries.{standing_entry, entry_at, undone_at, undone}
 use Rattle.td_journal.proofs.LastEntry.{entry_at-last}
 use Rattle.td_core.specs.History.{History, rows_of}
-use Rattle.td_core.specs.Offers.{is_arrival}
-use Rattle.td_book.specs.Watching.{is_there}
-use Rattle.td_book.specs.inner.Tallies.{AreTallied, or_named, but_named, AllAre, IsEntered}
-use Rattle.td_book.specs.inner.Tallies.{IsTakenBack, takes_installed}
+use Rattle.td_book.specs.Watching.{is_there, tally}
+use Rattle.td_book.specs.inner.Tallies.{AreChanged, AreTallied, IsEntered, IsTakenBack}
+use Rattle.td_book.specs.inner.Tallies.{made_installed, was_there}
 use Rattle.td_book.proofs.Steps.{rows_with, up_now}
 use Rattle.td_book.proofs.Tallies.{tally-each_row}
 
@@ -69,132 +67,55 @@ waiting s h = refl
 
 -- ---- 2. kinds: a rebuild takes Installed away, an arrival gives it, and no other changes it
 
-leaves : (kind : Kind) (row : Row) → takes_installed kind ≡ true → applies kind row ≡ true
-    → (is_installed row.state ≡ true) × (is_installed (means kind row).state ≡ false)
-leaves (Nmu n e m) row is a = ((and_parts (is_installed row.state) _ a).0, refl)
-leaves kind row is a = absurd (cc)
+makes : (kind : Kind) (there : Bool) (row : Row) → made_installed kind ≡ Some there
+    → applies kind row ≡ true
+    → (is_installed row.state ≡ not there) × (is_installed (means kind row).state ≡ there)
+makes (Nmu n e m) false row is a = ((and_parts (is_installed row.state) _ a).0, refl)
+makes Arrive true row is a = (coming row.state a, refl)
+makes kind there row is a = absurd (cc)
 
-comes : (kind : Kind) (row : Row) → is_arrival kind ≡ true → applies kind row ≡ true
-    → (is_installed row.state ≡ false) × (is_installed (means kind row).state ≡ true)
-comes Arrive row is a = (coming row.state a, refl)
-comes kind row is a = absurd (cc)
+stays : (kind : Kind) (row : Row) → made_installed kind ≡ None → applies kind row ≡ true
+    → is_installed (means kind row).state ≡ is_installed row.state
+stays Gb row none a = sym (given row.state a)
+stays (Nmu n e m) row none a = absurd (cc)
+stays (Bp p) row none a = refl
+stays (Dw x) row none a = sym (waits row.state a)
+stays (Claim b) row none a = sym (queued row.state a)
+stays (Ended b ends.Built) row none a = sym (built b row.state a)
+stays (Ended b ends.Attempted) row none a = sym (built b row.state a)
+stays (Ended b ends.GivenBack) row none a = sym (built b row.state a)
+stays (Ended b (ends.Waits x)) row none a = sym (built b row.state a)
+stays Arrive row none a = absurd (cc)
+stays Sweep row none a = sym (waiting row.state a)
 
-stays : (kind : Kind) (row : Row) → takes_installed kind ≡ false → is_arrival kind ≡ false
-    → applies kind row ≡ true → is_installed (means kind row).state ≡ is_installed row.state
-stays Gb row t i a = sym (given row.state a)
-stays (Nmu n e m) row t i a = absurd (cc)
-stays (Bp p) row t i a = refl
-stays (Dw x) row t i a = sym (waits row.state a)
-stays (Claim b) row t i a = sym (queued row.state a)
-stays (Ended b ends.Built) row t i a = sym (built b row.state a)
-stays (Ended b ends.Attempted) row t i a = sym (built b row.state a)
-stays (Ended b ends.GivenBack) row t i a = sym (built b row.state a)
-stays (Ended b (ends.Waits x)) row t i a = sym (built b row.state a)
-stays Arrive row t i a = absurd (cc)
-stays Sweep row t i a = sym (waiting row.state a)
+-- ---- 3. the counts over an entry, and over an undo
 
--- ---- 3. the counts over an entry
+made_row : (there named : Bool) (m r : Row)
+    → (named ≡ true → (is_installed r.state ≡ not there) × (is_installed m.state ≡ there))
+    → (if named then not there else is_installed (if named then m else r).state)
+    ≡ is_installed r.state
+made_row there true m r h = sym (h refl).0
+made_row there false m r h = refl
 
-and_true : (b : Bool) → (b && true) ≡ b
-and_true true = refl
-and_true false = refl
+back_row : (there named : Bool) (m r : Row)
+    → (named ≡ true → (is_installed r.state ≡ not there) × (is_installed m.state ≡ there))
+    → is_installed (if named then m else r).state
+    ≡ (if named then not (not there) else is_installed r.state)
+back_row true true m r h = (h refl).1
+back_row false true m r h = (h refl).1
+back_row there false m r h = refl
 
-and_false : (b : Bool) → (b && false) ≡ false
-and_false true = refl
-and_false false = refl
-
-or_false : (b : Bool) → (b || false) ≡ b
-or_false true = refl
-or_false false = refl
-
-left_row : (n : Bool) (m r : Row)
-    → (n ≡ true → (is_installed r.state ≡ true) × (is_installed m.state ≡ false))
-    → (is_installed (if n then m else r).state || n) ≡ is_installed r.state
-left_row true m r h = ap (λ (b : Bool). b || true) (h refl).1 ∙ sym (h refl).0
-left_row false m r h = or_false (is_installed r.state)
-
-come_row : (n : Bool) (m r : Row)
-    → (n ≡ true → (is_installed r.state ≡ false) × (is_installed m.state ≡ true))
-    → (is_installed (if n then m else r).state && not n) ≡ is_installed r.state
-come_row true m r h = and_false (is_installed m.state) ∙ sym (h refl).0
-come_row false m r h = and_true (is_installed r.state)
-
-same_row : (n : Bool) (m r : Row) → (n ≡ true → is_installed m.state ≡ is_installed r.state)
-    → is_installed (if n then m else r).state ≡ is_installed r.state
+same_row : (named : Bool) (m r : Row)
+    → (named ≡ true → is_installed m.state ≡ is_installed r.state)
+    → is_installed (if named then m else r).state ≡ is_installed r.state
 same_row true m r h = h refl
 same_row false m r h = refl
-
-back_row : (n : Bool) (m r : Row)
-    → (n ≡ true → (is_installed r.state ≡ true) × (is_installed m.state ≡ false))
-    → is_installed (if n then m else r).state ≡ (is_installed r.state && not n)
-back_row true m r h = (h refl).1 ∙ sym (and_false (is_installed r.state))
-back_row false m r h = sym (and_true (is_installed r.state))
 
 on_row : (kind : Kind) (keys : List Key) (t : Table) (k : Key) (r : Row) → AppliesOn t kind keys
     → row_of t k ≡ Some r → names keys k ≡ true → applies kind r ≡ true
 on_row kind keys t k r all found named = applies-fits t kind k r found (all k named)
 
-pub left-tallied : (kind : Kind) (keys : List Key) (t : Table) (counts : List ℕ)
-    (ws : List (Option ℕ)) → takes_installed kind ≡ true → ascending (keys_of t) ≡ true
-    → AppliesOn t kind keys
-    → AreTallied is_there counts ws t → AreTallied (or_named keys) counts ws (applied kind keys t)
-left-tallied kind keys t counts ws is up all tallied = record {
-  each =
-      λ g lt. tallied.each g lt
-      ∙ sym (tally-each_row (meant kind keys) (or_named keys) is_there g ws t up
-      (λ k r found. left_row (names keys k) (means kind r) r (λ named.
-      leaves kind r is (on_row kind keys t k r all found named))));
-}
-
-pub come-tallied : (kind : Kind) (keys : List Key) (t : Table) (counts : List ℕ)
-    (ws : List (Option ℕ)) → is_arrival kind ≡ true → ascending (keys_of t) ≡ true
-    → AppliesOn t kind keys
-    → AreTallied is_there counts ws t → AreTallied (but_named keys) counts ws (applied kind keys t)
-come-tallied kind keys t counts ws is up all tallied = record {
-  each =
-      λ g lt. tallied.each g lt
-      ∙ sym (tally-each_row (meant kind keys) (but_named keys) is_there g ws t up
-      (λ k r found. come_row (names keys k) (means kind r) r (λ named.
-      comes kind r is (on_row kind keys t k r all found named))));
-}
-
-pub same-tallied : (kind : Kind) (keys : List Key) (t : Table) (counts : List ℕ)
-    (ws : List (Option ℕ)) → takes_installed kind ≡ false → is_arrival kind ≡ false
-    → ascending (keys_of t) ≡ true → AppliesOn t kind keys
-    → AreTallied is_there counts ws t → AreTallied is_there counts ws (applied kind keys t)
-same-tallied kind keys t counts ws takes gives up all tallied = record {
-  each =
-      λ g lt. tallied.each g lt ∙ sym (tally-each_row (meant kind keys) is_there is_there g ws t up
-      (λ k r found. same_row (names keys k) (means kind r) r (λ named.
-      stays kind r takes gives (on_row kind keys t k r all found named))));
-}
-
--- ---- 4. the counts over an undo
-
-pub back-tallied : (kind : Kind) (keys : List Key) (t : Table) (counts : List ℕ)
-    (ws : List (Option ℕ)) → takes_installed kind ≡ true → ascending (keys_of t) ≡ true
-    → AppliesOn t kind keys
-    → AreTallied is_there counts ws (applied kind keys t) → AreTallied (but_named keys) counts ws t
-back-tallied kind keys t counts ws is up all tallied = record {
-  each =
-      λ g lt.
-      tallied.each g lt ∙ tally-each_row (meant kind keys) is_there (but_named keys) g ws t up
-      (λ k r found. back_row (names keys k) (means kind r) r (λ named.
-      leaves kind r is (on_row kind keys t k r all found named)));
-}
-
-pub same-back : (kind : Kind) (keys : List Key) (t : Table) (counts : List ℕ) (ws : List (Option ℕ))
-    → takes_installed kind ≡ false → is_arrival kind ≡ false → ascending (keys_of t) ≡ true
-    → AppliesOn t kind keys
-    → AreTallied is_there counts ws (applied kind keys t) → AreTallied is_there counts ws t
-same-back kind keys t counts ws takes gives up all tallied = record {
-  each = λ g lt. tallied.each g lt ∙ tally-each_row (meant kind keys) is_there is_there g ws t up
-      (λ k r found. same_row (names keys k) (means kind r) r (λ named.
-      stays kind r takes gives (on_row kind keys t k r all found named)));
-}
-
--- ---- 5. the rows of the keys
-
+-- the rows of the keys, before and after
 row_fit : (t : Table) (kind : Kind) (k : Key) → fits t kind k ≡ true
     → (r : Row) × (row_of t k ≡ Some r) × (applies kind r ≡ true)
 row_fit t kind k fit = of (row_of t k) refl
@@ -213,28 +134,53 @@ meant_row kind keys t k r found named =
     row_of-each_row (meant kind keys) t k ∙ ap (option_map (meant kind keys k)) found
     ∙ ap (λ (b : Bool). Some (if b then means kind r else r)) named
 
-pub all-left : (kind : Kind) (keys : List Key) (t : Table) → takes_installed kind ≡ true
-    → AppliesOn t kind keys → AllAre false keys (applied kind keys t)
-all-left kind keys t is all = record {
-  each = λ k named. let fit = row_fit t kind k (all k named) in
-      (means kind fit.0, meant_row kind keys t k fit.0 fit.1 named, (leaves kind fit.0 is fit.2).1);
+made-changed : (kind : Kind) (there : Bool) (keys : List Key) (t : Table) (counts : List ℕ)
+    (ws : List (Option ℕ)) → made_installed kind ≡ Some there → ascending (keys_of t) ≡ true
+    → AppliesOn t kind keys → AreTallied is_there counts ws t
+    → AreChanged there keys counts ws (applied kind keys t)
+made-changed kind there keys t counts ws is up all tallied = record {
+  all = record {
+    each = λ k named. let fit = row_fit t kind k (all k named) in (
+      means kind fit.0,
+      meant_row kind keys t k fit.0 fit.1 named,
+      (makes kind there fit.0 is fit.2).1,
+    );
+  };
+  tallied = record {
+    each =
+        λ g lt. tallied.each g lt
+        ∙ sym (tally-each_row (meant kind keys) (was_there there keys) is_there g ws t up
+        (λ k r found. made_row there (names keys k) (means kind r) r (λ named.
+        makes kind there r is (on_row kind keys t k r all found named))));
+  };
 }
 
-pub all-come : (kind : Kind) (keys : List Key) (t : Table) → is_arrival kind ≡ true
-    → AppliesOn t kind keys → AllAre true keys (applied kind keys t)
-all-come kind keys t is all = record {
-  each = λ k named. let fit = row_fit t kind k (all k named) in
-      (means kind fit.0, meant_row kind keys t k fit.0 fit.1 named, (comes kind fit.0 is fit.2).1);
+back-changed : (kind : Kind) (there : Bool) (keys : List Key) (t : Table) (counts : List ℕ)
+    (ws : List (Option ℕ)) → made_installed kind ≡ Some there → ascending (keys_of t) ≡ true
+    → AppliesOn t kind keys → AreTallied is_there counts ws (applied kind keys t)
+    → AreChanged (not there) keys counts ws t
+back-changed kind there keys t counts ws is up all tallied = record {
+  all = record {
+    each = λ k named. let fit = row_fit t kind k (all k named) in
+        (fit.0, fit.1, (makes kind there fit.0 is fit.2).0);
+  };
+  tallied = record {
+    each =
+        λ g lt. tallied.each g lt
+        ∙ tally-each_row (meant kind keys) is_there (was_there (not there) keys) g ws t up
+        (λ k r found. back_row there (names keys k) (means kind r) r (λ named.
+        makes kind there r is (on_row kind keys t k r all found named)));
+  };
 }
 
-pub all-back : (kind : Kind) (keys : List Key) (t : Table) → takes_installed kind ≡ true
-    → AppliesOn t kind keys → AllAre true keys t
-all-back kind keys t is all =
-    record {
-      each = λ k named.
-          let fit = row_fit t kind k (all k named) in
-          (fit.0, fit.1, (leaves kind fit.0 is fit.2).0);
-    }
+-- a kind that leaves it
+same-tally : (kind : Kind) (keys : List Key) (g : ℕ) (ws : List (Option ℕ)) (t : Table)
+    → made_installed kind ≡ None → ascending (keys_of t) ≡ true → AppliesOn t kind keys
+    → tally is_there g ws (applied kind keys t) ≡ tally is_there g ws t
+same-tally kind keys g ws t none up all =
+    tally-each_row (meant kind keys) is_there is_there g ws t up
+    (λ k r found. same_row (names keys k) (means kind r) r (λ named.
+    stays kind r none (on_row kind keys t k r all found named)))
 
 -- ---- 6. the entry with its number
 
@@ -285,63 +231,33 @@ rows_entered : (n : ℕ) (now : History) (counts : List ℕ) (ws : List (Option 
     → rows_of now ≡ applied e.entry.kind e.entry.keys (rows_of e.before)
 rows_entered n now counts ws e = ap rows_of e.is ∙ rows_with e.before e.entry
 
-pub entered-gone : (n : ℕ) (now : History) (counts : List ℕ) (ws : List (Option ℕ)) (m : Marked)
-    → IsEntered n now counts ws → Some m ≡ entry_at now.journal n
-    → takes_installed m.entry.kind ≡ true
-    → AllAre false m.entry.keys (rows_of now)
-entered-gone n now counts ws m e got takes =
+pub entered-changed : (n : ℕ) (now : History) (counts : List ℕ) (ws : List (Option ℕ)) (m : Marked)
+    (there : Bool) (keys : List Key) (t : Table) → IsEntered n now counts ws
+    → Some m ≡ entry_at now.journal n → made_installed m.entry.kind ≡ Some there
+    → keys ≡ m.entry.keys → t ≡ rows_of now → AreChanged there keys counts ws t
+entered-changed n now counts ws m there keys t e got made are rows =
     let same = entered-is n now counts ws m e got in
-    subst (λ (ks : List Key). AllAre false ks (rows_of now)) (ap (λ (x : Entry). x.keys) (sym same))
-    (subst (AllAre false e.entry.keys) (sym (rows_entered n now counts ws e))
-    (all-left e.entry.kind e.entry.keys (rows_of e.before)
-    (ap (λ (x : Entry). takes_installed x.kind) (sym same) ∙ takes) e.applies))
-
-pub entered-left : (n : ℕ) (now : History) (counts : List ℕ) (ws : List (Option ℕ)) (m : Marked)
-    → IsEntered n now counts ws → Some m ≡ entry_at now.journal n
-    → takes_installed m.entry.kind ≡ true
-    → AreTallied (or_named m.entry.keys) counts ws (rows_of now)
-entered-left n now counts ws m e got takes =
-    let same = entered-is n now counts ws m e got in
-    subst (λ (ks : List Key). AreTallied (or_named ks) counts ws (rows_of now))
-    (ap (λ (x : Entry). x.keys) (sym same))
-    (subst (AreTallied (or_named e.entry.keys) counts ws) (sym (rows_entered n now counts ws e))
-    (left-tallied e.entry.kind e.entry.keys (rows_of e.before) counts ws
-    (ap (λ (x : Entry). takes_installed x.kind) (sym same) ∙ takes) (up_now e.before e.rising)
+    let keys_are : keys ≡ e.entry.keys = are ∙ ap (λ (x : Entry). x.keys) same in
+    subst (λ (ks : List Key). AreChanged there ks counts ws t) (sym keys_are)
+    (subst (AreChanged there e.entry.keys counts ws)
+    (sym (rows ∙ rows_entered n now counts ws e))
+    (made-changed e.entry.kind there e.entry.keys (rows_of e.before) counts ws
+    (ap (λ (x : Entry). made_installed x.kind) (sym same) ∙ made) (up_now e.before e.rising)
     e.applies e.tallied))
-
-pub entered-there : (n : ℕ) (now : History) (counts : List ℕ) (ws : List (Option ℕ)) (m : Marked)
-    → IsEntered n now counts ws → Some m ≡ entry_at now.journal n → is_arrival m.entry.kind ≡ true
-    → AllAre true m.entry.keys (rows_of now)
-entered-there n now counts ws m e got comes =
-    let same = entered-is n now counts ws m e got in
-    subst (λ (ks : List Key). AllAre true ks (rows_of now)) (ap (λ (x : Entry). x.keys) (sym same))
-    (subst (AllAre true e.entry.keys) (sym (rows_entered n now counts ws e))
-    (all-come e.entry.kind e.entry.keys (rows_of e.before)
-    (ap (λ (x : Entry). is_arrival x.kind) (sym same) ∙ comes) e.applies))
-
-pub entered-come : (n : ℕ) (now : History) (counts : List ℕ) (ws : List (Option ℕ)) (m : Marked)
-    → IsEntered n now counts ws → Some m ≡ entry_at now.journal n → is_arrival m.entry.kind ≡ true
-    → AreTallied (but_named m.entry.keys) counts ws (rows_of now)
-entered-come n now counts ws m e got comes =
-    let same = entered-is n now counts ws m e got in
-    subst (λ (ks : List Key). AreTallied (but_named ks) counts ws (rows_of now))
-    (ap (λ (x : Entry). x.keys) (sym same))
-    (subst (AreTallied (but_named e.entry.keys) counts ws) (sym (rows_entered n now counts ws e))
-    (come-tallied e.entry.kind e.entry.keys (rows_of e.before) counts ws
-    (ap (λ (x : Entry). is_arrival x.kind) (sym same) ∙ comes) (up_now e.before e.rising) e.applies
-    e.tallied))
 
 pub entered-same : (n : ℕ) (now : History) (counts : List ℕ) (ws : List (Option ℕ)) (m : Marked)
     → IsEntered n now counts ws → Some m ≡ entry_at now.journal n
-    → takes_installed m.entry.kind ≡ false → is_arrival m.entry.kind ≡ false
-    → AreTallied is_there counts ws (rows_of now)
-entered-same n now counts ws m e got takes comes =
-    let same = entered-is n now counts ws m e got in
-    subst (AreTallied is_there counts ws) (sym (rows_entered n now counts ws e))
-    (same-tallied e.entry.kind e.entry.keys (rows_of e.before) counts ws
-    (ap (λ (x : Entry). takes_installed x.kind) (sym same) ∙ takes)
-    (ap (λ (x : Entry). is_arrival x.kind) (sym same) ∙ comes)
-    (up_now e.before e.rising) e.applies e.tallied)
+    → made_installed m.entry.kind ≡ None → AreTallied is_there counts ws (rows_of now)
+entered-same n now counts ws m e got none = record {
+  each =
+      λ g lt.
+      let same = entered-is n now counts ws m e got in
+      e.tallied.each g lt
+      ∙ sym (ap (tally is_there g ws) (rows_entered n now counts ws e)
+      ∙ same-tally e.entry.kind e.entry.keys g ws (rows_of e.before)
+      (ap (λ (x : Entry). made_installed x.kind) (sym same) ∙ none) (up_now e.before e.rising)
+      e.applies);
+}
 
 -- ---- 8. an entry that was undone
 
@@ -382,41 +298,29 @@ up_taken : (n : ℕ) (now : History) (counts : List ℕ) (ws : List (Option ℕ)
 up_taken n now counts ws e =
     up_now now (ap (λ (h : History). ascending (keys_of h.opening)) e.is ∙ e.rising)
 
-pub taken-there : (n : ℕ) (now : History) (counts : List ℕ) (ws : List (Option ℕ)) (m : Marked)
-    → IsTakenBack n now counts ws → Some m ≡ entry_at now.journal n
-    → takes_installed m.entry.kind ≡ true
-    → AllAre true m.entry.keys (rows_of now)
-taken-there n now counts ws m e got takes =
+pub taken-changed : (n : ℕ) (now : History) (counts : List ℕ) (ws : List (Option ℕ)) (m : Marked)
+    (there : Bool) (keys : List Key) (t : Table) → IsTakenBack n now counts ws
+    → Some m ≡ entry_at now.journal n → made_installed m.entry.kind ≡ Some there
+    → keys ≡ m.entry.keys → t ≡ rows_of now → AreChanged (not there) keys counts ws t
+taken-changed n now counts ws m there keys t e got made are rows =
     let same = taken-is n now counts ws m e got in
-    subst (λ (ks : List Key). AllAre true ks (rows_of now)) (ap (λ (x : Entry). x.keys) (sym same))
-    (all-back e.marked.entry.kind e.marked.entry.keys (rows_of now)
-    (ap (λ (x : Entry). takes_installed x.kind) (sym same) ∙ takes) (on_taken n now counts ws e))
-
-pub taken-back : (n : ℕ) (now : History) (counts : List ℕ) (ws : List (Option ℕ)) (m : Marked)
-    → IsTakenBack n now counts ws → Some m ≡ entry_at now.journal n
-    → takes_installed m.entry.kind ≡ true
-    → AreTallied (but_named m.entry.keys) counts ws (rows_of now)
-taken-back n now counts ws m e got takes =
-    let same = taken-is n now counts ws m e got in
-    subst (λ (ks : List Key). AreTallied (but_named ks) counts ws (rows_of now))
-    (ap (λ (x : Entry). x.keys) (sym same))
-    (back-tallied e.marked.entry.kind e.marked.entry.keys (rows_of now) counts ws
-    (ap (λ (x : Entry). takes_installed x.kind) (sym same) ∙ takes) (up_taken n now counts ws e)
+    let keys_are : keys ≡ e.marked.entry.keys = are ∙ ap (λ (x : Entry). x.keys) same in
+    subst (λ (ks : List Key). AreChanged (not there) ks counts ws t) (sym keys_are)
+    (subst (AreChanged (not there) e.marked.entry.keys counts ws) (sym rows)
+    (back-changed e.marked.entry.kind there e.marked.entry.keys (rows_of now) counts ws
+    (ap (λ (x : Entry). made_installed x.kind) (sym same) ∙ made) (up_taken n now counts ws e)
     (on_taken n now counts ws e)
-    (subst (AreTallied is_there counts ws) (rows_taken n now counts ws e) e.tallied))
+    (subst (AreTallied is_there counts ws) (rows_taken n now counts ws e) e.tallied)))
 
 pub taken-same : (n : ℕ) (now : History) (counts : List ℕ) (ws : List (Option ℕ)) (m : Marked)
     → IsTakenBack n now counts ws → Some m ≡ entry_at now.journal n
-    → takes_installed m.entry.kind ≡ false
-    → AreTallied is_there counts ws (rows_of now)
-taken-same n now counts ws m e got takes =
-    let same = taken-is n now counts ws m e got in
-    same-back e.marked.entry.kind e.marked.entry.keys (rows_of now) counts ws
-    (ap (λ (x : Entry). takes_installed x.kind) (sym same) ∙ takes) e.other
-    (up_taken n now counts ws e) (on_taken n now counts ws e)
-    (subst (AreTallied is_there counts ws) (rows_taken n now counts ws e) e.tallied)
-
--- a command is no arrival
-pub command_stays : (kind : Kind) → is_command kind ≡ true → is_arrival kind ≡ false
-command_stays Arrive h = absurd (cc)
-command_stays kind h = refl
+    → made_installed m.entry.kind ≡ None → AreTallied is_there counts ws (rows_of now)
+taken-same n now counts ws m e got none = record {
+  each =
+      λ g lt.
+      let same = taken-is n now counts ws m e got in
+      e.tallied.each g lt ∙ ap (tally is_there g ws) (rows_taken n now counts ws e)
+      ∙ same-tally e.marked.entry.kind e.marked.entry.keys g ws (rows_of now)
+      (ap (λ (x : Entry). made_installed x.kind) (sym same) ∙ none) (up_taken n now counts ws e)
+      (on_taken n now counts ws e);
+}

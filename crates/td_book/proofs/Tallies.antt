@@ -1,5 +1,5 @@
 -- Counts of the rows that pass a test, and what one row more or less does to them.
-use Rattle.std.proofs.Common.{◌≡◌, ℕ, zero, suc, ◌+◌, ◌<◌, ◌≤◌, Bool, true, false, ◌&&◌, ◌||◌, not}
+use Rattle.std.proofs.Common.{◌≡◌, ℕ, zero, suc, ◌+◌, ◌<◌, ◌≤◌, Bool, true, false, ◌&&◌, not}
 use Rattle.std.proofs.Common.{List, [], ◌∷◌, Option, Some, None, if◌then◌else◌, length, drop}
 use Rattle.std.proofs.Common.{slice_get, ap, refl, sym, ◌∙◌, arith}
 use Rattle.std.specs.Prelude.{IfSome, slice_index}
@@ -17,14 +17,10 @@ use Rattle.td_rows.proofs.Keys.{same_key-refl, same_key-apart, below-apart}
 use Rattle.td_rows.proofs.Lists.{drop-next}
 use Rattle.td_rows.proofs.Tables.{row_of-at, row_of-later, head-apart}
 use Rattle.td_book.specs.Watching.{is_of, tally, is_there}
-use Rattle.td_book.specs.inner.Tallies.{group_at, AreTallied, or_named, but_named, AllAre}
+use Rattle.td_book.specs.inner.Tallies.{group_at, AreTallied, AllAre, IsStep, MayStep, was_there}
 use Rattle.td_book.proofs.Steps.{named_at, named_here, unnamed_after}
 
 -- ---- 1. tests that agree
-
-or_false : (b : Bool) → (b || false) ≡ b
-or_false true = refl
-or_false false = refl
 
 and_true : (b : Bool) → (b && true) ≡ b
 and_true true = refl
@@ -156,121 +152,91 @@ others_next keys i k q at apart =
     ap (λ (ks : List Key). names ks q) (drop-next keys i k at)
     ∙ ap (λ (b : Bool). if b then true else names (drop (i + 1) keys) q) apart
 
--- a row is Installed no more
-or_split : (keys : List Key) (t : Table) (i number : ℕ) (k : Key) (ws : List (Option ℕ)) (g : ℕ)
-    → ascending keys ≡ true → ascending (keys_of t) ≡ true → AllAre false keys t
+-- with a key less the row counts as it is now, and no more as it was
+key_split : (there : Bool) (keys : List Key) (t : Table) (i number : ℕ) (k : Key)
+    (ws : List (Option ℕ)) (g : ℕ)
+    → ascending keys ≡ true → ascending (keys_of t) ≡ true → AllAre there keys t
     → slice_get keys i ≡ Some k → IsAt t k number
-    → tally (or_named (drop i keys)) g ws t
-    ≡ (if is_of (group_at ws number) g then 1 else 0) + tally (or_named (drop (i + 1) keys)) g ws t
-or_split keys t i number k ws g rise up all key at =
-    let gone : is_installed at.row.state ≡ false =
-    named_row false keys t i number k all up key at (named_at keys i k key) in
-    tally-split (or_named (drop i keys)) (or_named (drop (i + 1) keys)) k at.row g ws t number up
-    at.at
-    (ap (λ (b : Bool). b || names (drop i keys) k) gone ∙ named_here keys i k key)
-    (ap (λ (b : Bool). b || names (drop (i + 1) keys) k) gone ∙ unnamed_next keys i k rise key)
-    (λ q r apart. ap (λ (b : Bool). is_installed r.state || b) (others_next keys i k q key apart))
-
--- a row is Installed now
-but_split : (keys : List Key) (t : Table) (i number : ℕ) (k : Key) (ws : List (Option ℕ)) (g : ℕ)
-    → ascending keys ≡ true → ascending (keys_of t) ≡ true → AllAre true keys t
-    → slice_get keys i ≡ Some k → IsAt t k number
-    → tally (but_named (drop (i + 1) keys)) g ws t
-    ≡ (if is_of (group_at ws number) g then 1 else 0) + tally (but_named (drop i keys)) g ws t
-but_split keys t i number k ws g rise up all key at =
-    let there : is_installed at.row.state ≡ true =
-    named_row true keys t i number k all up key at (named_at keys i k key) in
-    tally-split (but_named (drop (i + 1) keys)) (but_named (drop i keys)) k at.row g ws t number up
-    at.at
-    (ap (λ (b : Bool). b && not (names (drop (i + 1) keys) k)) there
-    ∙ ap not (unnamed_next keys i k rise key))
-    (ap (λ (b : Bool). is_installed at.row.state && not b) (named_here keys i k key)
-    ∙ and_false (is_installed at.row.state))
-    (λ q r apart.
-    ap (λ (b : Bool). is_installed r.state && not b) (sym (others_next keys i k q key apart)))
-
-less : (a b w x y : ℕ) → a + w ≡ b → b ≡ x → x ≡ w + y → a ≡ y
-less a b w x y e f s = omega arith
-
-pub lower-next : (keys : List Key) (t : Table) (i number : ℕ) (k : Key) (ws : List (Option ℕ))
-    (old new : List ℕ) → ascending keys ≡ true → ascending (keys_of t) ≡ true → AllAre false keys t
-    → slice_get keys i ≡ Some k → IsAt t k number → AreTallied (or_named (drop i keys)) old ws t
-    → length new ≡ length old
-    → ((g : ℕ) → g < length old
-    → slice_index new g + (if is_of (group_at ws number) g then 1 else 0) ≡ slice_index old g)
-    → AreTallied (or_named (drop (i + 1) keys)) new ws t
-lower-next keys t i number k ws old new rise up all key at counts len each = record {
-  each = λ g lt.
-      let lt' : g < length old = omega arith in
-      less (slice_index new g) (slice_index old g) (if is_of (group_at ws number) g then 1 else 0)
-      (tally (or_named (drop i keys)) g ws t) (tally (or_named (drop (i + 1) keys)) g ws t)
-      (each g lt') (counts.each g lt') (or_split keys t i number k ws g rise up all key at);
-}
-
-pub lower-some : (keys : List Key) (t : Table) (i number : ℕ) (k : Key) (ws : List (Option ℕ))
-    (old : List ℕ) (g : ℕ) → ascending keys ≡ true → ascending (keys_of t) ≡ true
-    → AllAre false keys t
-    → slice_get keys i ≡ Some k → IsAt t k number → AreTallied (or_named (drop i keys)) old ws t
-    → g < length old → is_of (group_at ws number) g ≡ true → 1 ≤ slice_index old g
-lower-some keys t i number k ws old g rise up all key at counts lt is =
-    let split = or_split keys t i number k ws g rise up all key at in
-    let one : (if is_of (group_at ws number) g then 1 else 0) ≡ 1 =
-    ap (λ (b : Bool). if b then 1 else 0) is in
-    one_of (slice_index old g) (tally (or_named (drop i keys)) g ws t)
-    (if is_of (group_at ws number) g then 1 else 0) (tally (or_named (drop (i + 1) keys)) g ws t)
-    (counts.each g lt) split one
+    → IsStep there (if is_of (group_at ws number) g then 1 else 0)
+    (tally (was_there there (drop i keys)) g ws t)
+    (tally (was_there there (drop (i + 1) keys)) g ws t)
+key_split there keys t i number k ws g rise up all key at =
+    by there was now (λ q r apart.
+    ap (λ (b : Bool). if b then not there else is_installed r.state)
+    (others_next keys i k q key apart))
   where
-    one_of : (a x w y : ℕ) → a ≡ x → x ≡ w + y → w ≡ 1 → 1 ≤ a
-    one_of a x w y e s o = omega arith
+    old : Key × Row → Bool
+    old = was_there there (drop i keys)
 
-pub raise-next : (keys : List Key) (t : Table) (i number : ℕ) (k : Key) (ws : List (Option ℕ))
-    (old new : List ℕ) → ascending keys ≡ true → ascending (keys_of t) ≡ true → AllAre true keys t
-    → slice_get keys i ≡ Some k → IsAt t k number → AreTallied (but_named (drop i keys)) old ws t
+    new : Key × Row → Bool
+    new = was_there there (drop (i + 1) keys)
+
+    was : old (k, at.row) ≡ not there
+    was = ap (λ (b : Bool). if b then not there else is_installed at.row.state)
+        (named_here keys i k key)
+
+    now : new (k, at.row) ≡ there
+    now = ap (λ (b : Bool). if b then not there else is_installed at.row.state)
+        (unnamed_next keys i k rise key)
+        ∙ named_row there keys t i number k all up key at (named_at keys i k key)
+
+    by : (b : Bool) → old (k, at.row) ≡ not b → new (k, at.row) ≡ b
+        → ((q : Key) (r : Row) → same_key q k ≡ false → old (q, r) ≡ new (q, r))
+        → IsStep b (if is_of (group_at ws number) g then 1 else 0) (tally old g ws t)
+        (tally new g ws t)
+    by true out into same = tally-split new old k at.row g ws t number up at.at into out
+        (λ q r apart. sym (same q r apart))
+    by false out into same = tally-split old new k at.row g ws t number up at.at out into same
+
+pub step-next : (there : Bool) (keys : List Key) (t : Table) (i number : ℕ) (k : Key)
+    (ws : List (Option ℕ)) (old new : List ℕ) → ascending keys ≡ true
+    → ascending (keys_of t) ≡ true → AllAre there keys t → slice_get keys i ≡ Some k
+    → IsAt t k number → AreTallied (was_there there (drop i keys)) old ws t
     → length new ≡ length old
     → ((g : ℕ) → g < length old
-    → slice_index new g ≡ (if is_of (group_at ws number) g then 1 else 0) + slice_index old g)
-    → AreTallied (but_named (drop (i + 1) keys)) new ws t
-raise-next keys t i number k ws old new rise up all key at counts len each = record {
+    → IsStep there (if is_of (group_at ws number) g then 1 else 0) (slice_index old g)
+    (slice_index new g))
+    → AreTallied (was_there there (drop (i + 1) keys)) new ws t
+step-next there keys t i number k ws old new rise up all key at counts len each = record {
   each = λ g lt.
       let lt' : g < length old = omega arith in
-      each g lt' ∙ ap (λ (n : ℕ). (if is_of (group_at ws number) g then 1 else 0) + n)
-      (counts.each g lt') ∙ sym (but_split keys t i number k ws g rise up all key at);
+      step there (if is_of (group_at ws number) g then 1 else 0) (slice_index old g)
+      (slice_index new g) (tally (was_there there (drop i keys)) g ws t)
+      (tally (was_there there (drop (i + 1) keys)) g ws t) (each g lt') (counts.each g lt')
+      (key_split there keys t i number k ws g rise up all key at);
 }
+  where
+    step : (b : Bool) (w m n x y : ℕ) → IsStep b w m n → m ≡ x → IsStep b w x y → n ≡ y
+    step true w m n x y e f s = omega arith
+    step false w m n x y e f s = omega arith
 
-pub raise-bound : (keys : List Key) (t : Table) (i number : ℕ) (k : Key) (ws : List (Option ℕ))
-    (old : List ℕ) (g : ℕ) → ascending keys ≡ true → ascending (keys_of t) ≡ true
-    → AllAre true keys t
-    → slice_get keys i ≡ Some k → IsAt t k number → AreTallied (but_named (drop i keys)) old ws t
+pub step-may : (there : Bool) (keys : List Key) (t : Table) (i number : ℕ) (k : Key)
+    (ws : List (Option ℕ)) (old : List ℕ) (g : ℕ) → ascending keys ≡ true
+    → ascending (keys_of t) ≡ true → AllAre there keys t → slice_get keys i ≡ Some k
+    → IsAt t k number → AreTallied (was_there there (drop i keys)) old ws t
     → length t ≤ max_rows → g < length old → is_of (group_at ws number) g ≡ true
-    → slice_index old g < max_rows
-raise-bound keys t i number k ws old g rise up all key at counts limited lt is =
-    bound (slice_index old g) (tally (but_named (drop i keys)) g ws t)
-    (if is_of (group_at ws number) g then 1 else 0) (tally (but_named (drop (i + 1) keys)) g ws t)
-    (length t)
-    (counts.each g lt) (but_split keys t i number k ws g rise up all key at)
-    (ap (λ (b : Bool). if b then 1 else 0) is) (tally-bound (but_named (drop (i + 1) keys)) g ws t)
-    limited
+    → MayStep there (slice_index old g)
+step-may there keys t i number k ws old g rise up all key at counts limited lt is =
+    may there (slice_index old g) (tally (was_there there (drop i keys)) g ws t)
+    (if is_of (group_at ws number) g then 1 else 0)
+    (tally (was_there there (drop (i + 1) keys)) g ws t) (length t) (counts.each g lt)
+    (key_split there keys t i number k ws g rise up all key at)
+    (ap (λ (b : Bool). if b then 1 else 0) is)
+    (tally-bound (was_there there (drop (i + 1) keys)) g ws t) limited
   where
-    bound : (a x w y n : ℕ) → a ≡ x → y ≡ w + x → w ≡ 1 → y ≤ n → n ≤ max_rows → a < max_rows
-    bound a x w y n e s o b l = omega arith
+    may : (b : Bool) (a x w y n : ℕ) → a ≡ x → IsStep b w x y → w ≡ 1 → y ≤ n → n ≤ max_rows
+        → MayStep b a
+    may true a x w y n e s o l m = omega arith
+    may false a x w y n e s o l m = omega arith
 
 -- no key is left
-pub lower-last : (keys : List Key) (t : Table) (i : ℕ) (ws : List (Option ℕ)) (counts : List ℕ)
-    → length keys ≤ i → AreTallied (or_named (drop i keys)) counts ws t
-    → AreTallied is_there counts ws t
-lower-last keys t i ws counts end tallied = record {
-  each = λ g lt. tallied.each g lt ∙ tally-same (or_named (drop i keys)) is_there g ws t
-      (λ p. ap (λ (ks : List Key). is_there p || names ks p.0) (drop_all i keys end)
-      ∙ or_false (is_there p));
-}
-
-pub raise-last : (keys : List Key) (t : Table) (i : ℕ) (ws : List (Option ℕ)) (counts : List ℕ)
-    → length keys ≤ i → AreTallied (but_named (drop i keys)) counts ws t
-    → AreTallied is_there counts ws t
-raise-last keys t i ws counts end tallied = record {
-  each = λ g lt. tallied.each g lt ∙ tally-same (but_named (drop i keys)) is_there g ws t
-      (λ p. ap (λ (ks : List Key). is_there p && not (names ks p.0)) (drop_all i keys end)
-      ∙ and_true (is_there p));
+pub step-last : (there : Bool) (keys : List Key) (t : Table) (i : ℕ) (ws : List (Option ℕ))
+    (counts : List ℕ) → length keys ≤ i
+    → AreTallied (was_there there (drop i keys)) counts ws t → AreTallied is_there counts ws t
+step-last there keys t i ws counts end tallied = record {
+  each = λ g lt. tallied.each g lt ∙ tally-same (was_there there (drop i keys)) is_there g ws t
+      (λ p. ap (λ (ks : List Key). if names ks p.0 then not there else is_there p)
+      (drop_all i keys end));
 }
 
 -- ---- 5. counting anew

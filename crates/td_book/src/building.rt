@@ -1,6 +1,6 @@
 //! What the desk does for a builder.
-ghost use Rattle.std.specs.Prelude.{◌≡◌, ◌+◌, ◌≤◌, ◌∷◌, [], true, Some, IfSome, IfNone, length};
-ghost use Rattle.std.specs.Prelude.{slice_get, slice_set};
+ghost use Rattle.std.specs.Prelude.{◌≡◌, ◌+◌, ◌<◌, ◌≤◌, ◌∷◌, [], true, Some, IfSome, IfNone, IfOk};
+ghost use Rattle.std.specs.Prelude.{length, slice_get, slice_set};
 ghost use mathlib.Core.Option.{some};
 ghost use lib.ListN.{get_elem?};
 ghost use Rattle.td_board.specs.declared.views.RowView.TheVariants.{In, Out, Known};
@@ -19,6 +19,7 @@ ghost use Rattle.td_book.specs.Building.{Knows, Settling, IsClosing, IsEndingAt,
 ghost use Rattle.td_book.specs.Building.{IsUnended, ended_in, is_built_at};
 
 use crate::inner::{Inner, is_out};
+use std::alloc::{AllocError, Global};
 use td_board::{Board, BuilderSeat, OutcomeCode};
 use td_core::PlannedCommand;
 use td_journal::{Entry, EntryNo, Keys};
@@ -145,6 +146,54 @@ impl<'a> Inner<'a> {
         let n = self.settle(board, row, code, plan)?;
         self.offer_each(board, offered);
         Some(n)
+    }
+
+    /// What the end of the build of a row needs in memory, with room for its entries.
+    pub fn prepare(
+        &mut self,
+        alloc: Global,
+        row: usize,
+        builder: BuilderNo,
+        outcome: Outcome,
+    ) -> Result<Ending, AllocError>
+        requires { row < length (rows_of self.old.books.history) }
+        ensures history { self.new.books.history ≡ self.old.books.history }
+        ensures view { self.new.view ≡ self.old.view }
+        ensures stays { Stays self.old self.new }
+        ensures ending { IfOk result (IsEndingAt row builder self.new.books.history) }
+        ensures kind { IfOk result (λ ending. ending.plan.kind ≡ Kind.Outcome builder outcome) }
+        ensures room { IfOk result (λ ending. HasRoom ending.offered self.new.books) }
+    {
+        let ending = self.ending(alloc, row, builder, outcome)?;
+        let room = self.reserve(ending.offered.as_slice());
+        room.and(Ok(ending))
+    }
+
+    // The same, but for room.
+    fn ending(
+        &self,
+        alloc: Global,
+        row: usize,
+        builder: BuilderNo,
+        outcome: Outcome,
+    ) -> Result<Ending, AllocError>
+        requires { row < length (rows_of self.now.books.history) }
+        ensures ending { IfOk result (IsEndingAt row builder self.now.books.history) }
+        ensures kind { IfOk result (λ ending. ending.plan.kind ≡ Kind.Outcome builder outcome) }
+    {
+        let Some((key, _)) = self.books.rows().at(row) else {
+            unreachable!()
+        };
+        let claim = Keys::of_one(alloc, key)?;
+        let offered = Keys::of_one(alloc, key)?;
+        let ended = Keys::of_one(alloc, key)?;
+        let kind = Kind::Outcome(builder, outcome);
+        let plan = self.books.plan(kind, ended)?;
+        Ok(Ending {
+            claim,
+            offered,
+            plan,
+        })
     }
 
     /// Ends the build of the row that a builder holds: notes its claim where that isn't done,

@@ -17,7 +17,7 @@ use crate::skips::{Skip, Skips};
 use std::alloc::AllocError;
 use td_board::Board;
 use td_core::PlannedCommand;
-use td_journal::{EntryNo, Keys, OneKeyLists};
+use td_journal::{EntryNo, Keys};
 use td_rows::{Key, Kind, cells_of};
 use td_wbread::{Command, kind_of};
 
@@ -137,34 +137,29 @@ impl<'a> Book<'a> {
             self.new result }
     {
         let off = off_for(&kind, named);
-        let Ok(judged) = kind.copy() else {
+        let Ok(plan) = self.plan(&kind, matched) else {
             return Err(CommandRefusal::NoMemory);
         };
-        let Ok(plan) = self.plan(kind, matched) else {
+        let Ok(claims) = self.inner.claims(self.alloc, off, named) else {
             return Err(CommandRefusal::NoMemory);
         };
-        let Ok(singles) = OneKeyLists::new(self.alloc, off) else {
-            return Err(CommandRefusal::NoMemory);
-        };
-        let Ok(()) = self.inner.reserve(named) else {
-            return Err(CommandRefusal::NoMemory);
-        };
-        self.inner.withdraw_each(board, off, singles);
-        let skips = Skips::left(self.inner.books.rows(), &judged, doubts);
+        self.inner.withdraw_each(board, off, claims);
+        let skips = Skips::left(self.inner.books.rows(), &kind, doubts);
         let entry = self.inner.commit(plan);
         self.inner.offer_each(board, off);
         answer(entry, skips)
     }
 
     // Plans a command, if there are any keys.
-    fn plan(&self, kind: Kind, matched: Vec<Key>) -> Result<Option<PlannedCommand>, AllocError>
+    fn plan(&self, kind: &Kind, matched: Vec<Key>) -> Result<Option<PlannedCommand>, AllocError>
         requires rising { ascending matched.items ≡ true }
         requires rows { HaveRows (rows_of self.now.history) matched.items }
-        ensures { IfOk result (IsPlan kind matched.items (rows_of self.now.history)) }
+        ensures { IfOk result (IsPlan kind.now matched.items (rows_of self.now.history)) }
     {
         if matched.is_empty() {
             return Ok(None);
         }
+        let kind = kind.copy()?;
         Ok(Some(self.inner.books.plan(kind, Keys::new(matched))?))
     }
 }

@@ -1,17 +1,15 @@
 //! The end of a build.
-ghost use Rattle.std.specs.Prelude.{◌≡◌, ◌<◌, IfOk, length};
+ghost use Rattle.std.specs.Prelude.{◌≡◌, ◌<◌, length};
 ghost use Rattle.td_board.specs.declared.views.Hand.TheVariants.{Holding, Finished};
 ghost use Rattle.td_core.specs.History.{rows_of};
-ghost use Rattle.td_book.specs.Building.{IsEndingAt};
 ghost use Rattle.td_book.specs.Deeds.{code_of as code_in};
 ghost use Rattle.td_book.specs.Finishing.{FinishAgain, FinishHeld, FinishOutcome, HasRowOf};
 
 use crate::book::Book;
 use crate::building::{Ending, is_built};
-use std::alloc::AllocError;
 use td_board::{Board, BuilderSeat, Hand, OutcomeCode};
-use td_journal::{EntryNo, Keys};
-use td_rows::{BuilderNo, Kind, Outcome};
+use td_journal::EntryNo;
+use td_rows::{BuilderNo, Outcome};
 
 /// Why a build wasn't ended.
 #[derive(Clone, Copy, Debug, PartialEq, Eq)]
@@ -62,27 +60,6 @@ impl<'a> Book<'a> {
         }
     }
 
-    // What the end of the build of a row needs in memory, but for room.
-    fn ending(&self, row: usize, builder: BuilderNo, outcome: Outcome) -> Result<Ending, AllocError>
-        requires { row < length (rows_of self.now.history) }
-        ensures ending { IfOk result (IsEndingAt row builder self.now.history) }
-        ensures kind { IfOk result (λ ending. ending.plan.kind ≡ Kind.Outcome builder outcome) }
-    {
-        let Some((key, _)) = self.inner.books.rows().at(row) else {
-            unreachable!()
-        };
-        let claim = Keys::of_one(self.alloc, key)?;
-        let offered = Keys::of_one(self.alloc, key)?;
-        let ended = Keys::of_one(self.alloc, key)?;
-        let kind = Kind::Outcome(builder, outcome);
-        let plan = self.inner.books.plan(kind, ended)?;
-        Ok(Ending {
-            claim,
-            offered,
-            plan,
-        })
-    }
-
     // Ends the build of a row that the builder holds.
     fn finish_held(
         &mut self,
@@ -100,10 +77,7 @@ impl<'a> Book<'a> {
         ensures table { seat.new.table ≡ seat.old.table }
     {
         let code = code_of(&outcome);
-        let Ok(ending) = self.ending(row, seat.number(), outcome) else {
-            return Err(FinishRefusal::NoMemory);
-        };
-        let Ok(()) = self.inner.reserve(ending.offered.as_slice()) else {
+        let Ok(ending) = self.inner.prepare(self.alloc, row, seat.number(), outcome) else {
             return Err(FinishRefusal::NoMemory);
         };
         let ended = self.inner.finish(board, seat, row, code, ending);
@@ -139,17 +113,10 @@ impl<'a> Book<'a> {
         if code_of(&outcome) != code {
             return Err(FinishRefusal::Mismatch);
         }
-        let Ok(ending) = self.ending(row, builder, outcome) else {
+        let Ok(ending) = self.inner.prepare(self.alloc, row, builder, outcome) else {
             return Err(FinishRefusal::NoMemory);
         };
-        let Ok(()) = self.inner.reserve(ending.offered.as_slice()) else {
-            return Err(FinishRefusal::NoMemory);
-        };
-        let Ending {
-            claim: _,
-            offered,
-            plan,
-        } = ending;
+        let Ending { offered, plan, .. } = ending;
         match self
             .inner
             .close(board, row, builder, code, offered.as_slice(), plan)

@@ -2,12 +2,14 @@
 ghost use Rattle.std.specs.Prelude.{◌≡◌, IfOk, length};
 ghost use Rattle.td_board.specs.Knowledge.{new_desk};
 ghost use Rattle.td_supply.specs.Supply.{opened as opened_stock, stock_of};
-ghost use Rattle.td_core.specs.History.{opened};
+ghost use Rattle.td_core.specs.History.{opened, rows_of};
 ghost use Rattle.td_core.specs.Phases.{NoneBuilt};
+ghost use Rattle.td_book.specs.Reopening.{book_from};
 ghost use Rattle.td_book.specs.Watching.{no_watch};
 
 use crate::book::Book;
 use crate::inner::Inner;
+use crate::offers::Offers;
 use std::alloc::{AllocError, Global};
 use td_board::{Board, DeskSeat};
 use td_core::Books;
@@ -39,11 +41,30 @@ impl<'a> Book<'a> {
               };
             }) }
     {
-        // (`len` says that the keys of the rows rise)
-        let _rising = rows.len();
+        let offers = Offers::new(alloc, desk)?;
         let books = Books::open(alloc, rows, supply)?;
-        let mut inner = Inner::new(alloc, books, desk)?;
-        inner.offer_all(board);
-        Ok(Book { inner, alloc })
+        Ok(begin(alloc, board, offers, books))
     }
+}
+
+/// The book that begins with a history in which no row is Building: every row that needs a build
+/// is offered.
+pub(crate) fn begin<'a>(
+    alloc: Global,
+    board: &Board,
+    offers: Offers,
+    books: Books<'a>,
+) -> Book<'a>
+    requires table { board.now.table ≡ offers.table }
+    requires fresh_seat { offers.desk
+        ≡ new_desk (length books.history.opening) (length offers.desk.noted) }
+    requires idle { NoneBuilt (rows_of books.history) }
+    ensures { result
+        ≡ book_from offers.table books.entry.stock (length offers.desk.noted) books.entry.history }
+{
+    // (`rows` says that the keys of the rows rise)
+    let _rising = books.rows();
+    let mut inner = Inner::new(alloc, books, offers);
+    inner.offer_all(board);
+    Book { inner, alloc }
 }

@@ -6,7 +6,6 @@ ghost use Rattle.td_book.specs.Building.{IsJobAt, StartOutcome};
 use crate::book::Book;
 use std::alloc::AllocError;
 use td_board::{Board, BuilderSeat, Hand};
-use td_journal::Keys;
 use td_rows::{Key, Line, RebuildNumber};
 use td_version::write_rebuild;
 
@@ -64,10 +63,7 @@ impl<'a> Book<'a> {
         let Ok(job) = self.job(row) else {
             return Err(StartRefusal::NoMemory);
         };
-        let Ok(claim) = Keys::of_one(self.alloc, &job.key) else {
-            return Err(StartRefusal::NoMemory);
-        };
-        let Ok(()) = self.inner.reserve(claim.as_slice()) else {
+        let Ok(claim) = self.inner.claim(self.alloc, &job.key) else {
             return Err(StartRefusal::NoMemory);
         };
         if self.inner.know(board, row, seat.number(), claim) {

@@ -10,7 +10,7 @@ ghost use Rattle.td_book.specs.Undoing.{IsUndone, UndoAnswer, undo_stop};
 use crate::book::{Book, copies};
 use std::alloc::AllocError;
 use td_board::Board;
-use td_journal::{EntryNo, Mark, OneKeyLists, is_command};
+use td_journal::{EntryNo, Mark, is_command};
 use td_rows::{Key, cells_of};
 
 /// Why an entry wasn't undone.
@@ -67,13 +67,10 @@ impl<'a> Book<'a> {
         let Ok(off) = self.keys_off(n) else {
             return Err(UndoRefusal::NoMemory);
         };
-        let Ok(singles) = OneKeyLists::new(self.alloc, &off) else {
+        let Ok(claims) = self.inner.claims(self.alloc, &off, &off) else {
             return Err(UndoRefusal::NoMemory);
         };
-        let Ok(()) = self.inner.reserve(&off) else {
-            return Err(UndoRefusal::NoMemory);
-        };
-        match self.inner.withdraw_until(board, &off, singles) {
+        match self.inner.withdraw_until(board, &off, claims) {
             Some(m) => return Err(UndoRefusal::Blocked(m)),
             None => {}
         }

@@ -1,14 +1,12 @@
 //! The rows that are watched, and how many of each group are Installed.
-ghost use Rattle.std.specs.Prelude.{◌≡◌, ◌+◌, ◌<◌, ◌≤◌, ◌^◌, ℕ, true, false, [], IfOk, IfSome};
-ghost use Rattle.std.specs.Prelude.{length, slice_index, slice_get, if◌then◌else◌};
+ghost use Rattle.std.specs.Prelude.{◌≡◌, ◌<◌, ℕ, true, [], IfOk, IfSome, length};
+ghost use Rattle.std.specs.Prelude.{slice_index, slice_get, if◌then◌else◌};
 ghost use Rattle.td_rows.specs.Keys.{ascending};
-ghost use Rattle.td_rows.specs.Table.{keys_of};
 ghost use Rattle.td_core.specs.History.{rows_of};
 ghost use Rattle.td_book.specs.Watching.{is_of, is_there};
-ghost use Rattle.td_book.specs.inner.Tallies.{AllAre, AreTallied, IsEntered, IsTakenBack};
-ghost use Rattle.td_book.specs.inner.Tallies.{but_named, group_at, or_named};
-ghost use Rattle.td_book.specs.inner.Tallies.{takes_installed as takes_it};
-ghost use Rattle.td_core.specs.Offers.{is_arrival as is_an_arrival};
+ghost use Rattle.td_book.specs.inner.Tallies.{AreChanged, AreTallied, IsEntered, IsStep};
+ghost use Rattle.td_book.specs.inner.Tallies.{IsTakenBack, MayStep, group_at};
+ghost use Rattle.td_book.specs.inner.Tallies.{made_installed as made_installed_by};
 
 use std::alloc::{AllocError, Global};
 use td_core::Books;
@@ -22,23 +20,15 @@ pub struct Watch {
     pub(crate) installed: Vec<usize>,
 }
 
-// Whether an entry of the kind takes Installed from its rows.
-fn takes_installed(kind: &Kind) -> bool
-    ensures { result ≡ takes_it kind.now }
+// Whether an entry of the kind makes its rows Installed, or takes that from them; None where it
+// leaves it.
+fn made_installed(kind: &Kind) -> Option<bool>
+    ensures { result ≡ made_installed_by kind.now }
 {
     match kind {
-        Kind::Nmu { .. } => true,
-        _ => false,
-    }
-}
-
-// Whether an entry of the kind gives Installed to its rows.
-fn is_arrival(kind: &Kind) -> bool
-    ensures { result ≡ is_an_arrival kind.now }
-{
-    match kind {
-        Kind::Arrive => true,
-        _ => false,
+        Kind::Nmu { .. } => Some(false),
+        Kind::Arrive => Some(true),
+        _ => None,
     }
 }
 
@@ -95,7 +85,7 @@ impl Watch {
     {
         for number in 0..rows.len() {
             if is_installed(rows, number) {
-                self.raise(number);
+                self.change(number, true);
             }
         }
     }
@@ -110,50 +100,33 @@ impl Watch {
         }
     }
 
-    // One Installed row less in the group of the row with a number.
-    fn lower(&mut self, number: usize)
+    // One Installed row more in the group of the row with a number, or one less.
+    fn change(&mut self, number: usize, there: bool)
         requires { (g : ℕ) → g < length self.old.installed.items
             → is_of (group_at self.old.groups.items number) g ≡ true
-            → 1 ≤ slice_index self.old.installed.items g }
+            → MayStep there (slice_index self.old.installed.items g) }
         ensures each { (g : ℕ) → g < length self.old.installed.items
-            → slice_index self.new.installed.items g
-            + (if is_of (group_at self.old.groups.items number) g then 1 else 0)
-            ≡ slice_index self.old.installed.items g }
+            → IsStep there (if is_of (group_at self.old.groups.items number) g then 1 else 0)
+            (slice_index self.old.installed.items g) (slice_index self.new.installed.items g) }
         ensures groups { self.new.groups ≡ self.old.groups }
         ensures len { length self.new.installed.items ≡ length self.old.installed.items }
     {
         if let Some(group) = self.group_of(number) {
             if group < self.installed.len() {
-                self.installed[group] -= 1;
+                if there {
+                    self.installed[group] += 1;
+                } else {
+                    self.installed[group] -= 1;
+                }
             }
         }
     }
 
-    // One Installed row more in the group of the row with a number.
-    fn raise(&mut self, number: usize)
-        requires { (g : ℕ) → g < length self.old.installed.items
-            → is_of (group_at self.old.groups.items number) g ≡ true
-            → slice_index self.old.installed.items g + 1 < 2 ^ 64 }
-        ensures each { (g : ℕ) → g < length self.old.installed.items
-            → slice_index self.new.installed.items g
-            ≡ (if is_of (group_at self.old.groups.items number) g then 1 else 0)
-            + slice_index self.old.installed.items g }
-        ensures groups { self.new.groups ≡ self.old.groups }
-        ensures len { length self.new.installed.items ≡ length self.old.installed.items }
-    {
-        if let Some(group) = self.group_of(number) {
-            if group < self.installed.len() {
-                self.installed[group] += 1;
-            }
-        }
-    }
-
-    // The rows of the keys are Installed no more.
-    fn lower_each(&mut self, rows: &Rows, keys: &[Key])
+    // The rows of the keys are Installed now, or no more.
+    fn change_each(&mut self, rows: &Rows, keys: &[Key], there: bool)
         requires rising { ascending keys.now ≡ true }
-        requires gone { AllAre false keys.now rows.now }
-        requires counts { AreTallied (or_named keys.now) self.old.installed.items
-            self.old.groups.items rows.now }
+        requires changed { AreChanged there keys.now self.old.installed.items self.old.groups.items
+            rows.now }
         ensures counts { AreTallied is_there self.new.installed.items self.new.groups.items
             rows.now }
         ensures groups { self.new.groups ≡ self.old.groups }
@@ -162,26 +135,7 @@ impl Watch {
         let _rising = rows.len();
         for key in keys {
             if let Some(number) = rows.number(key) {
-                self.lower(number);
-            }
-        }
-    }
-
-    // The rows of the keys are Installed now.
-    fn raise_each(&mut self, rows: &Rows, keys: &[Key])
-        requires rising { ascending keys.now ≡ true }
-        requires there { AllAre true keys.now rows.now }
-        requires counts { AreTallied (but_named keys.now) self.old.installed.items
-            self.old.groups.items rows.now }
-        ensures counts { AreTallied is_there self.new.installed.items self.new.groups.items
-            rows.now }
-        ensures groups { self.new.groups ≡ self.old.groups }
-        ensures len { length self.new.installed.items ≡ length self.old.installed.items }
-    {
-        let _rising = rows.len();
-        for key in keys {
-            if let Some(number) = rows.number(key) {
-                self.raise(number);
+                self.change(number, there);
             }
         }
     }
@@ -197,10 +151,8 @@ impl Watch {
         let Some(marked) = books.journal().entry(n) else {
             return;
         };
-        if takes_installed(&marked.entry.kind) {
-            self.lower_each(books.rows(), marked.entry.keys.as_slice());
-        } else if is_arrival(&marked.entry.kind) {
-            self.raise_each(books.rows(), marked.entry.keys.as_slice());
+        if let Some(there) = made_installed(&marked.entry.kind) {
+            self.change_each(books.rows(), marked.entry.keys.as_slice(), there);
         }
     }
 
@@ -215,8 +167,8 @@ impl Watch {
         let Some(marked) = books.journal().entry(n) else {
             return;
         };
-        if takes_installed(&marked.entry.kind) {
-            self.raise_each(books.rows(), marked.entry.keys.as_slice());
+        if let Some(there) = made_installed(&marked.entry.kind) {
+            self.change_each(books.rows(), marked.entry.keys.as_slice(), !there);
         }
     }
 }

@@ -1,10 +1,10 @@
 -- Counts that are kept up by one row after another. This project's own.
-use Rattle.std.specs.Prelude.{◌≡◌, ℕ, ◌+◌, ◌<◌, Bool, true, false, ◌&&◌, ◌||◌, not, List}
-use Rattle.std.specs.Prelude.{Option, Some, None, length, slice_get, slice_index}
+use Rattle.std.specs.Prelude.{◌≡◌, ℕ, ◌+◌, ◌<◌, ◌≤◌, ◌^◌, Bool, true, false, not, List, Option, Some}
+use Rattle.std.specs.Prelude.{None, if◌then◌else◌, length, slice_get, slice_index}
 use Rattle.td_rows.specs.declared.key.Key.{Key}
 use Rattle.td_rows.specs.declared.row.Row.{Row}
 use Rattle.td_rows.specs.declared.kind.Kind.{Kind}
-use Rattle.td_rows.specs.declared.kind.Kind.TheVariants.{Nmu}
+use Rattle.td_rows.specs.declared.kind.Kind.TheVariants.{Arrive, Nmu}
 use Rattle.td_rows.specs.Keys.{names, ascending}
 use Rattle.td_rows.specs.States.{is_installed}
 use Rattle.td_rows.specs.Table.{Table, row_of, keys_of, AppliesOn}
@@ -13,7 +13,6 @@ use Rattle.td_journal.specs.declared.entry.Marked.{Marked}
 use Rattle.td_journal.specs.Entries.{entry_at}
 use Rattle.td_core.specs.History.{History, rows_of, with_entry, without_entry}
 use Rattle.td_core.specs.Inverse.{Redone}
-use Rattle.td_core.specs.Offers.{is_arrival}
 use Rattle.td_book.specs.Watching.{tally, is_there}
 
 -- the group of the row with a number
@@ -27,23 +26,37 @@ pub record AreTallied (test : Key × Row → Bool) (counts : List ℕ) (ws : Lis
 
 -- ---- rows that lose or gain Installed, key by key
 
--- the row is Installed, or named by the keys that are left
-abbrev pub or_named : List Key → Key × Row → Bool
-or_named keys p = is_there p || names keys p.0
-
--- the row is Installed, and none that the keys that are left name
-abbrev pub but_named : List Key → Key × Row → Bool
-but_named keys p = is_there p && not (names keys p.0)
-
 -- each of the keys has a row, and its state is Installed, or isn't
 pub record AllAre (is : Bool) (keys : List Key) (t : Table) : Type 0 where
   pub each : (k : Key) → names keys k ≡ true
       → (row : Row) × (row_of t k ≡ Some row) × (is_installed row.state ≡ is)
 
--- whether an entry of the kind takes Installed from its rows
-abbrev pub takes_installed : Kind → Bool
-takes_installed (Nmu n e m) = true
-takes_installed kind = false
+-- whether the row was Installed before those that the keys name came to be so, or to be so no more
+abbrev pub was_there : Bool → List Key → Key × Row → Bool
+was_there there keys p = if names keys p.0 then not there else is_there p
+
+-- the rows of the keys came to be Installed, or to be so no more: the counts are of the rows before
+pub record AreChanged (there : Bool) (keys : List Key) (counts : List ℕ) (ws : List (Option ℕ))
+    (t : Table) : Type 0 where
+  pub all : AllAre there keys t
+  pub tallied : AreTallied (was_there there keys) counts ws t
+
+-- a count before and after some rows more are Installed, or less
+abbrev pub IsStep : Bool → ℕ → ℕ → ℕ → Type 0
+IsStep true rows old new = new ≡ rows + old
+IsStep false rows old new = old ≡ rows + new
+
+-- one more fits, or one less
+abbrev pub MayStep : Bool → ℕ → Type 0
+MayStep true count = count + 1 < 2 ^ 64
+MayStep false count = 1 ≤ count
+
+-- whether an entry of the kind makes its rows Installed, or takes that from them; none where it
+-- leaves it
+abbrev pub made_installed : Kind → Option Bool
+made_installed (Nmu n e m) = Some false
+made_installed Arrive = Some true
+made_installed kind = None
 
 -- entry n was made, of the rows before which the counts are
 pub record IsEntered (n : ℕ) (now : History) (counts : List ℕ) (ws : List (Option ℕ)) : Type 0 where
@@ -63,6 +76,5 @@ pub record IsTakenBack (n : ℕ) (now : History) (counts : List ℕ)
   pub there : entry_at before.journal n ≡ Some marked
   pub is : now ≡ without_entry before n
   pub redone : Redone before n marked
-  pub other : is_arrival marked.entry.kind ≡ false
   pub rising : ascending (keys_of before.opening) ≡ true
   pub tallied : AreTallied is_there counts ws (rows_of before)

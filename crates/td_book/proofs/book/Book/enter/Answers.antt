@@ -15,38 +15,38 @@ use Rattle.td_book.proofs.book.Book.enter.Goals as goal
 pub commit-entry-requires-clause-plan : goal.commit-entry-requires-clause-plan
 commit-entry-requires-clause-plan c =
     let h = c.self.inside.inner.books.history in
-    let planned : IsPlan c.args.kind c.args.matched.items (rows_of h) c.in-Ok-plan.plan =
+    let planned : IsPlan c.args.kind c.args.matched.items (rows_of h) c.in-Ok.plan =
     subst (λ (m : BookModel).
-    IsPlan c.args.kind c.args.matched.items (rows_of m.history) c.in-Ok-plan.plan)
-    (sym c.self.view_is) c.in-Ok-plan.ensures in
+    IsPlan c.args.kind c.args.matched.items (rows_of m.history) c.in-Ok.plan)
+    (sym c.self.view_is) c.in-Ok.ensures in
     is_plan_of c.args.kind c.args.matched.items (rows_of h)
-    (rows_of c.withdraw_each.new.self.books.history) c.in-Ok-plan.plan planned
-    (keys_same c.off_for-off.result.now h c.reserve.new.self c.withdraw_each.new.self
-    c.reserve.ensures.history c.withdraw_each.ensures) c.requires.kind
+    (rows_of c.withdraw_each.new.self.books.history) c.in-Ok.plan planned
+    (keys_same c.off_for-off.result.now h c.claims.new.self c.withdraw_each.new.self
+    c.claims.ensures.history c.withdraw_each.ensures) c.requires.kind
 
 pub commit-entry-requires-clause-room : goal.commit-entry-requires-clause-room
 commit-entry-requires-clause-room c =
     let h = c.self.inside.inner.books.history in
-    let planned : IsPlan c.args.kind c.args.matched.items (rows_of h) c.in-Ok-plan.plan =
+    let planned : IsPlan c.args.kind c.args.matched.items (rows_of h) c.in-Ok.plan =
     subst (λ (m : BookModel).
-    IsPlan c.args.kind c.args.matched.items (rows_of m.history) c.in-Ok-plan.plan)
-    (sym c.self.view_is) c.in-Ok-plan.ensures in
-    plan_room c.args.kind c.args.named.now c.args.matched.items (rows_of h) c.in-Ok-plan.plan
+    IsPlan c.args.kind c.args.matched.items (rows_of m.history) c.in-Ok.plan)
+    (sym c.self.view_is) c.in-Ok.ensures in
+    plan_room c.args.kind c.args.named.now c.args.matched.items (rows_of h) c.in-Ok.plan
     c.withdraw_each.new.self.books planned c.requires.among
-    (room_end c.args.named.now c.off_for-off.result.now c.reserve.new.self.books
-    c.withdraw_each.new.self.books c.in-Ok-reserve.ensures.room c.withdraw_each.ensures.spent
+    (room_end c.args.named.now c.off_for-off.result.now c.claims.new.self.books
+    c.withdraw_each.new.self.books c.in-Ok-claims.ensures.room c.withdraw_each.ensures.spent
     (off_short_is c.args.kind c.args.named.now c.off_for-off.result.now c.off_for-off.ensures))
 
 pub offer_each-requires-clause-held : goal.offer_each-requires-clause-held
 offer_each-requires-clause-held c =
     let h = c.self.inside.inner.books.history in
-    let planned : IsPlan c.args.kind c.args.matched.items (rows_of h) c.in-Ok-plan.plan =
+    let planned : IsPlan c.args.kind c.args.matched.items (rows_of h) c.in-Ok.plan =
     subst (λ (m : BookModel).
-    IsPlan c.args.kind c.args.matched.items (rows_of m.history) c.in-Ok-plan.plan)
-    (sym c.self.view_is) c.in-Ok-plan.ensures in
+    IsPlan c.args.kind c.args.matched.items (rows_of m.history) c.in-Ok.plan)
+    (sym c.self.view_is) c.in-Ok.ensures in
     c.commit-entry.ensures.view c.off_for-off.result.now
     (plan_off c.args.kind c.args.named.now c.args.matched.items c.off_for-off.result.now
-    (rows_of h) c.in-Ok-plan.plan planned c.requires.among c.off_for-off.ensures)
+    (rows_of h) c.in-Ok.plan planned c.requires.among c.off_for-off.ensures)
     c.withdraw_each.ensures.view
 
 pub returns : goal.returns
@@ -56,24 +56,24 @@ returns c =
     let d = c.commit-entry.new.self in
     let e = c.offer_each.new.self in
     let planned : IsPlan c.args.kind c.args.matched.items (rows_of a.books.history)
-    c.in-Ok-plan.plan =
+    c.in-Ok.plan =
     subst (λ (m : BookModel). IsPlan c.args.kind c.args.matched.items
-    (rows_of m.history) c.in-Ok-plan.plan) (sym c.self.view_is) c.in-Ok-plan.ensures in
-    let done : Withdrew (off_for c.args.kind c.args.named.now) c.reserve.new.self w =
-    subst (λ (ks : List Key). Withdrew ks c.reserve.new.self w) c.off_for-off.ensures
+    (rows_of m.history) c.in-Ok.plan) (sym c.self.view_is) c.in-Ok.ensures in
+    let done : Withdrew (off_for c.args.kind c.args.named.now) c.claims.new.self w =
+    subst (λ (ks : List Key). Withdrew ks c.claims.new.self w) c.off_for-off.ensures
     c.withdraw_each.ensures in
     let rows : c.rows.result.now ≡ rows_of w.books.history =
     c.rows.ensures.rows
     ∙ ap (λ (s : Inside). rows_of s.inner.books.history) c.self-inside.view_is in
     let skips =
-    c.left-skips.ensures ∙ (λ j. left_of (c.in-Ok.ensures j) c.args.doubts.items (rows j)) in
+    c.left-skips.ensures ∙ (λ j. left_of c.args.kind c.args.doubts.items (rows j)) in
     let told =
     c.answer.ensures ∙ ap (λ o. taken_of o c.left-skips.result) c.commit-entry.ensures.number in
     subst (λ (m : BookModel).
     IsCommanded c.args.kind c.args.named.now c.args.matched.items
     (left_of c.args.kind c.args.doubts.items) m (book_of e) c.answer.result) c.self.view_is
     (commanded c.args.kind c.args.named.now c.args.matched.items
-    (left_of c.args.kind c.args.doubts.items) a c.reserve.new.self w d e c.in-Ok-plan.plan
+    (left_of c.args.kind c.args.doubts.items) a c.claims.new.self w d e c.in-Ok.plan
     (seen_off [] (rows_of d.books.history)) c.left-skips.result c.answer.result planned
-    c.reserve.ensures.history c.reserve.ensures.stays done c.commit-entry.ensures.history
+    c.claims.ensures.history c.claims.ensures.stays done c.commit-entry.ensures.history
     c.commit-entry.ensures.stays c.offer_each.ensures skips told)

@@ -1,6 +1,7 @@
 -- `Book::finish_again`: what it answers and the call of `close`.
 use Rattle.std.proofs.Common.{◌≡◌, ◌+◌, List, length, slice_get, ap, refl, sym, ◌∙◌, rules}
 use Rattle.td_rows.specs.declared.key.Key.{Key}
+use Rattle.td_rows.specs.Table.{keys_of}
 use Rattle.td_core.specs.History.{History, with_entry}
 use Rattle.td_core.proofs.Phases.{keys_of-rows_of}
 use Rattle.td_book.specs.Desk.{BookModel, book_of}
@@ -22,8 +23,8 @@ pub close-requires-clause-built : goal.close-requires-clause-built
 close-requires-clause-built c = λ k there.
     let h = c.args.self.now.history in
     let r = c.has_build.ensures in
-    built_there h c.reserve.new.self.books.history c.args.row c.args.builder k r.0
-    (c.reserve.ensures.history ∙ ap (λ (m : BookModel). m.history) c.self.view_is) r.1
+    built_there h c.prepare.new.self.books.history c.args.row c.args.builder k r.0
+    (c.prepare.ensures.history ∙ ap (λ (m : BookModel). m.history) c.self.view_is) r.1
     (r.2 ∙ c.if-not-has_build.false) there
 
 pub returns-in-Some : goal.returns-in-Some
@@ -33,22 +34,26 @@ returns-in-Some c =
     let b = c.args.builder in
     let r = c.has_build.ensures in
     let e = c.in-Ok.ensures.ending.closing in
-    let same = c.reserve.ensures.history ∙ ap (λ (m : BookModel). m.history) c.self.view_is in (
+    let same = c.prepare.ensures.history ∙ ap (λ (m : BookModel). m.history) c.self.view_is in
+    let at = ap (λ (g : History). slice_get (keys_of g.opening) i) (sym same)
+    ∙ ap (λ (ks : List Key). slice_get ks i) (sym (keys_of-rows_of c.prepare.new.self.books.history))
+    ∙ e.at in (
       search rules,
       record {
         key = e.key;
-        at = ap (λ (ks : List Key). slice_get ks i) (sym (keys_of-rows_of h)) ∙ e.at;
-        built = built_there h h i b e.key r.0 refl r.1 (r.2 ∙ c.if-not-has_build.false) e.at;
+        at = at;
+        built = built_there h h i b e.key r.0 refl r.1 (r.2 ∙ c.if-not-has_build.false)
+            (ap (λ (ks : List Key). slice_get ks i) (keys_of-rows_of h) ∙ at);
         history = c.in-Some.ensures.history
             ∙ (λ j. with_entry (same j)
             (record {
               kind = c.in-Ok.ensures.kind j;
-              keys = (c.as_slice-2.ensures.keys ∙ e.offered_is) j;
+              keys = (c.as_slice.ensures.keys ∙ e.offered_is) j;
             }));
         number = c.in-Some.ensures.number ∙ ap (λ (x : History). length x.journal + 1) same;
         fixed = stays_fixed c.self.inside.inner c.close.new.self
-            (stays_more c.self.inside.inner c.reserve.new.self c.close.new.self
-            c.reserve.ensures.stays c.in-Some.ensures.stays)
+            (stays_more c.self.inside.inner c.prepare.new.self c.close.new.self
+            c.prepare.ensures.stays c.in-Some.ensures.stays)
             ∙ ap (λ (m : BookModel). m.fixed) c.self.view_is;
       },
     )
@@ -57,10 +62,10 @@ pub returns : goal.returns
 returns c =
     let a = c.self.inside.inner in
     let r = c.has_build.ensures in
-    let unchanged : book_of c.reserve.new.self ≡ book_of a =
+    let unchanged : book_of c.prepare.new.self ≡ book_of a =
     λ j. record {
-      history = c.reserve.ensures.history j;
-      fixed = stays_fixed a c.reserve.new.self c.reserve.ensures.stays j;
+      history = c.prepare.ensures.history j;
+      fixed = stays_fixed a c.prepare.new.self c.prepare.ensures.stays j;
     } in (
       (r.0, r.1, r.2 ∙ c.if-not-has_build.false),
       ap book_of c.in-None.ensures.none ∙ unchanged ∙ c.self.view_is,

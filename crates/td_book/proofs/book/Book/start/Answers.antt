@@ -40,15 +40,15 @@ returns c =
     let job = c.in-Ok.job in
     let is_job : IsJobAt i (book_of a) job =
     subst (λ (m : BookModel). IsJobAt i m job) (sym c.self.view_is) c.in-Ok.ensures in
-    let key : head_key c.in-Ok-of_one.claim ≡ job.key = ap head_key c.in-Ok-of_one.ensures in
+    let key : head_key c.in-Ok-claim.claim ≡ job.key = ap head_key c.in-Ok-claim.ensures.claim in
     let at = job_key i (book_of a) job is_job in
-    let knows : Knows number job.key c.know.result c.reserve.new.self n =
-    subst (λ (x : ℕ). Knows x job.key c.know.result c.reserve.new.self n) c.number.ensures.number
-    (subst (λ (k : Key). Knows c.number.result k c.know.result c.reserve.new.self n) key
+    let knows : Knows number job.key c.know.result c.claim.new.self n =
+    subst (λ (x : ℕ). Knows x job.key c.know.result c.claim.new.self n) c.number.ensures.number
+    (subst (λ (k : Key). Knows c.number.result k c.know.result c.claim.new.self n) key
     c.know.ensures) in
     let told : Noticed i number c.know.result (book_of a) (book_of n) =
-    noticed i number job.key c.know.result a c.reserve.new.self n knows c.reserve.ensures.history
-    c.reserve.ensures.stays at in
+    noticed i number job.key c.know.result a c.claim.new.self n knows c.claim.ensures.history
+    c.claim.ensures.stays at in
     let all : (r : Result Job StartRefusal)
     → StartOutcome number (Holding i) (book_of a) (book_of n) r → c.if-know.result ≡ r
     → StartOutcome number c.args.seat.now.builder.hand c.args.self.now
