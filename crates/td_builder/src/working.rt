@@ -34,15 +34,37 @@ pub fn work<F: Floor, B: Builds, R: Wait>(
         let Ok(ready) = floor.ready(rt) else {
             return Err(WorkStop::NoMemory);
         };
-        for at in 0..ready.len() {
-            if built == u64::MAX {
-                return Ok(built);
-            }
-            built += claim_and_build(rt, floor, ready[at], seat, builds)?;
+        built += build_each(rt, floor, ready.as_slice(), u64::MAX - built, seat, builds)?;
+        if built == u64::MAX || !floor.wait_for_work(rt) {
+            return Ok(built);
         }
-        if !floor.wait_for_work(rt) {
+    }
+    Ok(built)
+}
+
+// Claims each row, and builds those whose claims are won, so many at most. Answers how many builds
+// were finished.
+fn build_each<F: Floor, B: Builds, R: Wait>(
+    rt: &R,
+    floor: &F,
+    rows: &[usize],
+    most: u64,
+    seat: &mut BuilderSeat,
+    builds: &B,
+) -> Result<u64, WorkStop>
+    requires { seat.old.table ≡ F.table floor.now }
+    ensures worked { IfOk result (λ n.
+        Worked (F.jobs floor.now) (B.may builds.now) n seat.old seat.new × (n ≤ most)) }
+    ensures meanwhile { OnErr result ((n : ℕ)
+        × Worked (F.jobs floor.now) (B.may builds.now) n seat.old seat.new) }
+    ensures stopped { IfErr result (F.stopped floor.now) }
+{
+    let mut built = 0u64;
+    for row in rows {
+        if built == most {
             break;
         }
+        built += claim_and_build(rt, floor, *row, seat, builds)?;
     }
     Ok(built)
 }
