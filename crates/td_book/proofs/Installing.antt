@@ -216,11 +216,6 @@ at_entered n now counts ws e =
     (λ j. entry_at (e.is j).journal (e.number j))
     ∙ entry_at-last e.before.journal (standing_entry e.entry)
 
-pub entered-none : (n : ℕ) (now : History) (counts : List ℕ) (ws : List (Option ℕ))
-    → IsEntered n now counts ws → None ≡ entry_at now.journal n → ⊥
-entered-none n now counts ws e got =
-    none_some (standing_entry e.entry) (got ∙ at_entered n now counts ws e)
-
 entered-is : (n : ℕ) (now : History) (counts : List ℕ) (ws : List (Option ℕ)) (m : Marked)
     (e : IsEntered n now counts ws) → Some m ≡ entry_at now.journal n → m.entry ≡ e.entry
 entered-is n now counts ws m e got =

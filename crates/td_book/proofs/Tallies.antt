@@ -30,15 +30,6 @@ and_false : (b : Bool) → (b && false) ≡ false
 and_false true = refl
 and_false false = refl
 
-pub tally-same : (test other : Key × Row → Bool) (g : ℕ) (ws : List (Option ℕ)) (t : Table)
-    → ((p : Key × Row) → test p ≡ other p)
-    → tally test g ws t ≡ tally other g ws t
-tally-same test other g [] t h = refl
-tally-same test other g (w ∷ ws) [] h = refl
-tally-same test other g (w ∷ ws) (p ∷ t) h =
-    ap (λ (b : Bool). (if is_of w g && b then 1 else 0) + tally test g ws t) (h p)
-    ∙ ap (λ (n : ℕ). (if is_of w g && other p then 1 else 0) + n) (tally-same test other g ws t h)
-
 -- they agree but at a key that is below those of all rows
 tally-past : (test other : Key × Row → Bool) (k : Key) (g : ℕ) (ws : List (Option ℕ)) (t : Table)
     → below_all k (keys_of t) ≡ true
@@ -228,16 +219,6 @@ step-may there keys t i number k ws old g rise up all key at counts limited lt i
         → MayStep b a
     may true a x w y n e s o l m = omega arith
     may false a x w y n e s o l m = omega arith
-
--- no key is left
-pub step-last : (there : Bool) (keys : List Key) (t : Table) (i : ℕ) (ws : List (Option ℕ))
-    (counts : List ℕ) → length keys ≤ i
-    → AreTallied (was_there there (drop i keys)) counts ws t → AreTallied is_there counts ws t
-step-last there keys t i ws counts end tallied = record {
-  each = λ g lt. tallied.each g lt ∙ tally-same (was_there there (drop i keys)) is_there g ws t
-      (λ p. ap (λ (ks : List Key). if names ks p.0 then not there else is_there p)
-      (drop_all i keys end));
-}
 
 -- ---- 5. counting anew
 

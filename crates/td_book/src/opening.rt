@@ -49,12 +49,7 @@ impl<'a> Book<'a> {
 
 /// The book that begins with a history in which no row is Building: every row that needs a build
 /// is offered.
-pub(crate) fn begin<'a>(
-    alloc: Global,
-    board: &Board,
-    offers: Offers,
-    books: Books<'a>,
-) -> Book<'a>
+pub(crate) fn begin<'a>(alloc: Global, board: &Board, offers: Offers, books: Books<'a>) -> Book<'a>
     requires table { board.now.table ≡ offers.table }
     requires fresh_seat { offers.desk
         ≡ new_desk (length books.history.opening) (length offers.desk.noted) }

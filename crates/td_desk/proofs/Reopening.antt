@@ -36,10 +36,11 @@ use Rattle.td_book.specs.Desk.{BookModel}
 use Rattle.td_book.specs.Reopening.{return_in, returns_of, given_back, IsReopened}
 use Rattle.td_desk.specs.declared.place.Place.{Place}
 use Rattle.td_desk.specs.declared.place.Place.TheVariants.{Number, Sign, Rest}
-use Rattle.td_desk.specs.Changes.{changes, changes_from, still_undone, undone_since}
+use Rattle.td_desk.specs.Changes.{changes_from, still_undone, undone_since}
 use Rattle.td_desk.specs.Marks.{IsNamedJournal, mark_at, mark_of, marks_from, marks_in}
 use Rattle.td_desk.specs.Marks.{place_behind}
 use Rattle.td_desk.specs.declared.tick.Tick.{Tick}
+use Rattle.td_desk.specs.inner.Begun.{IsBegun}
 use Rattle.td_desk.specs.inner.Ticks.{AreBegun, begun_at, unticked}
 use Rattle.td_desk.proofs.Counting.{changes-append, still-append}
 
@@ -142,11 +143,6 @@ returns_none : (n : ℕ) (t : Table) → changes_from n (map standing_entry (ret
 returns_none n [] = refl
 returns_none n (p ∷ t) = return_none n p.0 p.1.state (returns_of t) (λ i. returns_none i t)
 
--- a book that is opened with a text: what was undone is undone still, and no change was made since
-pub record IsBegun (os : List Mark) (b : BookModel) : Type 0 where
-  pub still : still_undone b.history.journal os ≡ true
-  pub none : changes os b ≡ []
-
 begun_with : (h : History)
     → (still_undone (given_back h).journal (map (λ m. m.mark) h.journal) ≡ true)
     × (changes_from 1 (given_back h).journal (map (λ m. m.mark) h.journal) ≡ [])
@@ -161,54 +157,27 @@ begun_with h =
 
 pub begun_book : (opening : Table) (text : List ℕ) (table : TableId) (stock : Stock) (builders : ℕ)
     (b : BookModel) → length text < 2 ^ 64 → IsReopened opening text table stock builders b
-    → IsBegun (marks_in text) b
+    → IsBegun table opening (marks_in text) b
 begun_book opening text table stock builders b small r =
     let os = marks_told opening text r.journal small r.reads in
     let h = history_of opening r.journal in
-    let at : b.history.journal ≡ (given_back h).journal =
+    let now : b.history.journal ≡ (given_back h).journal =
     ap (λ (x : BookModel). x.history.journal) r.is in
     let all = begun_with h in
     record {
-      still = (λ i. still_undone (at i) (os i)) ∙ all.0;
-      none = (λ i. changes_from 1 (at i) (os i)) ∙ all.1;
+      at = ap (λ (x : BookModel). x.fixed.table) r.is;
+      over = ap (λ (x : BookModel). x.history.opening) r.is;
+      still = (λ i. still_undone (now i) (os i)) ∙ all.0;
+      none = (λ i. changes_from 1 (now i) (os i)) ∙ all.1;
     }
 
-pub begun_table : (opening : Table) (text : List ℕ) (table named : TableId) (stock : Stock)
-    (builders : ℕ) (b : BookModel) → IsReopened opening text table stock builders b → table ≡ named
-    → b.fixed.table ≡ named
-begun_table opening text table named stock builders b r at =
-    ap (λ (x : BookModel). x.fixed.table) r.is ∙ at
-
-pub begun_origin : (opening origin : Table) (text : List ℕ) (table : TableId) (stock : Stock)
-    (builders : ℕ) (b : BookModel) → IsReopened opening text table stock builders b
-    → origin ≡ opening → b.history.opening ≡ origin
-begun_origin opening origin text table stock builders b r at =
-    ap (λ (x : BookModel). x.history.opening) r.is ∙ sym at
-
-pub begun_still : (os : List Mark) (opening : Table) (text : List ℕ) (table : TableId)
-    (stock : Stock) (builders : ℕ) (b : BookModel) → IsReopened opening text table stock builders b
-    → os ≡ marks_in text → length text < 2 ^ 64
-    → still_undone b.history.journal os ≡ true
-begun_still os opening text table stock builders b r named small =
-    ap (still_undone b.history.journal) named
-    ∙ (begun_book opening text table stock builders b small r).still
-
-pub begun_none : (os : List Mark) (opening : Table) (text : List ℕ) (table : TableId)
-    (stock : Stock) (builders : ℕ) (b : BookModel) → IsReopened opening text table stock builders b
-    → os ≡ marks_in text → length text < 2 ^ 64
-    → changes os b ≡ []
-begun_none os opening text table stock builders b r named small =
-    ap (λ (l : List Mark). changes l b) named
-    ∙ (begun_book opening text table stock builders b small r).none
-
-pub begun_named : (os : List Mark) (opening : Table) (text : List ℕ) (table : TableId)
-    (stock : Stock) (builders : ℕ) (b : BookModel) → IsReopened opening text table stock builders b
-    → os ≡ marks_in text → length text < 2 ^ 64
-    → IsNamedJournal os opening text
-begun_named os opening text table stock builders b r named small = record {
+pub begun_named : (opening : Table) (text : List ℕ) (table : TableId) (stock : Stock)
+    (builders : ℕ) (b : BookModel) → length text < 2 ^ 64
+    → IsReopened opening text table stock builders b → IsNamedJournal (marks_in text) opening text
+begun_named opening text table stock builders b small r = record {
   journal = r.journal;
   reads = r.reads;
-  are = named ∙ marks_told opening text r.journal small r.reads;
+  are = marks_told opening text r.journal small r.reads;
 }
 
 -- ticks that are those of the entries of then

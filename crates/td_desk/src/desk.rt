@@ -14,12 +14,13 @@ ghost use Rattle.td_journal.specs.JournalFile.{IsJournalText, FaultOf};
 ghost use Rattle.td_desk.specs.Calls.{IsOfDesk};
 ghost use Rattle.td_desk.specs.Changes.{changes, still_undone};
 ghost use Rattle.td_desk.specs.Marks.{marks_in, IsNamedJournal};
+ghost use Rattle.td_desk.specs.inner.Begun.{IsBegun};
 ghost use Rattle.td_desk.specs.inner.Ticks.{AreBegun};
 
 use crate::clerk::Clerk;
 use crate::locked::Locked;
 use crate::named::Named;
-use crate::place::ticks_of;
+use crate::place::set_ticks;
 use crate::tick::Tick;
 use std::alloc::{AllocError, Global};
 use std::sync::ledger::{Blank, Ledger};
@@ -68,14 +69,15 @@ impl<'a, N: Named, C: Ledger> Desk<'a, N, C> {
         ensures opening { IfOk result (λ made. made.0.opening ≡ rows) }
     {
         let opening = rows.copy()?;
-        let book = Book::open(alloc, &board, seat, rows, supply)?;
-        Ok(begin(alloc, board, opening, book, Vec::new(alloc), blank))
+        match Book::open(alloc, &board, seat, rows, supply) {
+            Ok(book) => Ok(begin(alloc, board, opening, book, Vec::new(alloc), blank)),
+            Err(no_memory) => Err(no_memory),
+        }
     }
 
     /// A desk over the journal whose text it is over the opening rows, in either version, and the
     /// clerk with all parts of its ledger: what was changed before is no change of this desk. Each
     /// row that the journal leaves with a builder is given back.
-    #[tactic(auto, using(crate::proofs::Reopening::begun_table))]
     pub fn reopen(
         alloc: Global,
         board: Board,
@@ -100,19 +102,13 @@ impl<'a, N: Named, C: Ledger> Desk<'a, N, C> {
             → IfErr result (λ e. e ≡ ReadError.NoMemory) }
         ensures fault { IfErr result (FaultOf rows text.now) }
     {
-        // (a text's length is a `usize`)
-        let _len = text.len();
         let Ok(opening) = rows.copy() else {
             return Err(ReadError::NoMemory);
         };
-        let book = match Book::reopen(alloc, &board, seat, rows, supply, text) {
-            Ok(book) => book,
-            Err(fault) => return Err(fault),
-        };
-        let Ok(ticks) = ticks_of(alloc, text, book.journal().as_slice().len()) else {
-            return Err(ReadError::NoMemory);
-        };
-        Ok(begin(alloc, board, opening, book, ticks, blank))
+        match read_back(alloc, &board, seat, rows, supply, text) {
+            Ok((book, ticks)) => Ok(begin(alloc, board, opening, book, ticks, blank)),
+            Err(fault) => Err(fault),
+        }
     }
 
     /// The number of a key's row. It needs no lock, as the rows of a desk stay the same ones.
@@ -158,6 +154,54 @@ impl<'a, N: Named, C: Ledger> Desk<'a, N, C> {
     {
         self.board.claim(row, seat)
     }
+}
+
+// The book of a journal whose text it is over the opening rows, and ticks for its entries.
+fn read_back<'a>(
+    alloc: Global,
+    board: &Board,
+    seat: DeskSeat,
+    rows: Rows,
+    supply: Supply<'a>,
+    text: &str,
+) -> Result<(Book<'a>, Vec<Tick>), ReadError>
+    requires board { board.now.table ≡ seat.table }
+    requires fresh_seat { seat.desk ≡ new_desk (length rows) (length seat.desk.noted) }
+    requires fresh_supply { supply ≡ opened_stock (stock_of supply) }
+    ensures begun { IfOk result (λ made. IsBegun seat.table rows (marks_in text.now) made.0) }
+    ensures named { OnOk result (IsNamedJournal (marks_in text.now) rows text.now) }
+    ensures ticks { IfOk result (λ made.
+        AreBegun (marks_in text.now) (length made.0.history.journal) made.1.items) }
+    ensures only { (ms : List MarkedValue) → IsJournalText rows text.now ms
+        → IfErr result (λ e. e ≡ ReadError.NoMemory) }
+    ensures fault { IfErr result (FaultOf rows text.now) }
+{
+    // (a text's length is a `usize`)
+    let _len = text.len();
+    let book = match Book::reopen(alloc, board, seat, rows, supply, text) {
+        Ok(book) => book,
+        Err(fault) => return Err(fault),
+    };
+    match with_ticks(alloc, text, book) {
+        Ok(made) => Ok(made),
+        Err(_) => Err(ReadError::NoMemory),
+    }
+}
+
+// A book with ticks for its entries, the first of which have the marks of a text.
+fn with_ticks<'a>(
+    alloc: Global,
+    text: &str,
+    book: Book<'a>,
+) -> Result<(Book<'a>, Vec<Tick>), AllocError>
+    ensures book { IfOk result (λ made. made.0 ≡ book.entry) }
+    ensures ticks { IfOk result (λ made.
+        AreBegun (marks_in text.now) (length book.entry.history.journal) made.1.items) }
+{
+    let mut ticks = Vec::new(alloc);
+    let made = set_ticks(alloc, &mut ticks, text, book.journal().as_slice().len());
+    // (so the book is freed nowhere here, which would cost the check fifteen seconds)
+    made.and(Ok((book, ticks)))
 }
 
 // A desk that begins with a book, and the clerk with all parts of its ledger.

@@ -66,7 +66,7 @@ impl<'a, N: Named, C: Ledger> Locked<'a, N, C> {
         }
     }
 
-    /// The book, as one of the desk's.
+    /// The book, as one of the desk's. Each call begins with it, for its own clause `of_desk`.
     pub(crate) fn book(&self) -> &Book<'a>
         ensures book { result.now ≡ self.now.book }
         ensures of_desk { IsOfDesk N.table N.origin self.now.book }
@@ -102,7 +102,6 @@ impl<'a, N: Named, C: Ledger> Locked<'a, N, C> {
         ensures of_desk { IsOfDesk N.table N.origin self.old.book }
         ensures answer { IsDone (parts_of command.now) self.old.book self.new.book result }
     {
-        // (`book` says whose the book is)
         let _of_desk = self.book();
         let Locked {
             book,
@@ -153,7 +152,6 @@ impl<'a, N: Named, C: Ledger> Locked<'a, N, C> {
             ⊎ UndoAnswer (undo_stop self.old.book.history.journal n) n self.old.book self.new.book
             result }
     {
-        // (`book` says whose the book is)
         let _of_desk = self.book();
         let Locked {
             book,
@@ -197,7 +195,6 @@ impl<'a, N: Named, C: Ledger> Locked<'a, N, C> {
         ensures of_desk { IsOfDesk N.table N.origin self.old.book }
         ensures answer { ArriveOutcome key.now self.old.book self.new.book result }
     {
-        // (`book` says whose the book is)
         let _of_desk = self.book();
         let Locked {
             book,
@@ -240,7 +237,6 @@ impl<'a, N: Named, C: Ledger> Locked<'a, N, C> {
         ensures of_desk { IsOfDesk N.table N.origin self.old.book }
         ensures answer { SweepOutcome self.old.book self.new.book result }
     {
-        // (`book` says whose the book is)
         let _of_desk = self.book();
         let Locked {
             book,
@@ -267,7 +263,6 @@ impl<'a, N: Named, C: Ledger> Locked<'a, N, C> {
             ⊎ StartOutcome seat.now.builder.number seat.now.builder.hand self.old.book self.new.book
             result }
     {
-        // (`book` says whose the book is)
         let _of_desk = self.book();
         let Locked { book, ticks, .. } = self;
         if add_ticks(ticks, book.journal().len(), 1).is_err() {
@@ -291,7 +286,6 @@ impl<'a, N: Named, C: Ledger> Locked<'a, N, C> {
         ensures answer { FinishOutcome seat.old.builder.hand outcome seat.old.builder
             seat.new.builder self.old.book self.new.book result }
     {
-        // (`book` says whose the book is)
         let _of_desk = self.book();
         let Locked { book, ticks, .. } = self;
         if matches!(seat.hand(), Hand::Free) {

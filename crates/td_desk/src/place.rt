@@ -15,14 +15,20 @@ pub(crate) enum Place {
     Rest,
 }
 
-/// Ticks of so many entries of a journal that begins with those whose lines the text has: none of
-/// these is a change, nor is an undo of then.
-pub(crate) fn ticks_of(alloc: Global, text: &str, entries: usize) -> Result<Vec<Tick>, AllocError>
-    ensures { IfOk result (λ ticks. AreBegun (marks_in text.now) entries ticks.items) }
+/// Makes ticks of so many entries of a journal that begins with those whose lines the text has:
+/// none of these is a change, nor is an undo of then.
+pub(crate) fn set_ticks(
+    alloc: Global,
+    ticks: &mut Vec<Tick>,
+    text: &str,
+    entries: usize,
+) -> Result<(), AllocError>
+    ensures { OnOk result (AreBegun (marks_in text.now) entries ticks.new.items) }
 {
-    let mut ticks = begun_ticks(alloc, text)?;
-    add_ticks(&mut ticks, 0, entries)?;
-    Ok(ticks)
+    let begun = begun_ticks(alloc, text)?;
+    *ticks = begun;
+    add_ticks(ticks, 0, entries)?;
+    Ok(())
 }
 
 // Ticks of the entries whose lines the text has.
