@@ -1,5 +1,7 @@
 -- Why two texts are refused as an archive.
-use Rattle.std.proofs.Common.{◌≡◌, ◌⊎◌, ℕ, true, false, List, Ok, Err, refl}
+use Rattle.std.proofs.Common.{◌≡◌, ◌<◌, ◌⊎◌, ℕ, true, false, List, Ok, Err, inl, inr, refl, subst}
+use Rattle.std.proofs.Common.{sym}
+use Rattle.td_rows.specs.Limits.{max_rows}
 use Rattle.td_stanza.specs.Field.{Entry}
 use Rattle.td_stanza.specs.StanzaGrammar.{AreStanzas}
 use Rattle.td_relation.specs.Arch.{ArchWords}
@@ -11,6 +13,8 @@ use Rattle.td_indices.specs.declared.archive_fault.ArchiveFault.TheVariants.{Too
 use Rattle.td_indices.specs.Archive.{FaultOf}
 use Rattle.td_indices.specs.Kept.{KeptBinary}
 use Rattle.td_indices.specs.Reading.{binaries_at, sources_at, is_want, is_entry}
+use Rattle.td_indices.specs.Rows.{row_count}
+use Rattle.td_indices.specs.Sources.{KeptSource}
 
 -- a fault of a stanza that can't be kept
 pub entry_fault : (table : List ArchWords) (package_lines source_lines : List (List ℕ))
@@ -46,3 +50,27 @@ entry_fault table pl sl ps ss (BadRelation file number) entry p s is =
     }
 entry_fault table pl sl ps ss TooManyRows entry p s is = absurd cc
 entry_fault table pl sl ps ss NoMemory entry p s is = tt
+
+-- the fault of rows that can't be counted, or of want of memory, where all stanzas are kept
+pub rows_fault : (table : List ArchWords) (ps ss : List (List Entry)) (bs : List KeptBinary)
+    (ks : List KeptSource) (e : ArchiveFault)
+    → (e ≡ NoMemory) ⊎ ((e ≡ TooManyRows) × (max_rows < row_count table ks))
+    → binaries_at table ps ≡ Ok bs → sources_at ss ≡ Ok ks → (p s : List (List ℕ))
+    → AreStanzas ps p → AreStanzas ss s → FaultOf table p s e
+rows_fault table ps ss bs ks e (inl want) binaries sources p s front back =
+    subst (FaultOf table p s) (sym want) tt
+rows_fault table ps ss bs ks e (inr beyond) binaries sources p s front back =
+    subst (FaultOf table p s) (sym beyond.0) (record {
+      contents = record {
+        table = table;
+        packages = ps;
+        source_stanzas = ss;
+        binaries = bs;
+        sources = ks;
+      };
+      package_stanzas = front;
+      source_stanzas = back;
+      binaries = binaries;
+      sources = sources;
+      beyond = beyond.1;
+    })

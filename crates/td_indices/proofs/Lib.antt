@@ -26,7 +26,6 @@ pub mod OpeningCounts
 pub mod PackageStanzas
 pub mod OfferLaws
 pub mod SourceStanzas
-pub mod IndexReading
 pub mod Pieces
 pub mod Parts
 pub mod Cuts

@@ -2,12 +2,12 @@
 ghost use Rattle.td_rows.specs.Limits.{max_rows};
 
 use crate::archive_fault::ArchiveFault;
-use crate::grouping::{group_binaries, those_on};
+use crate::grouping::those_on;
 use crate::groups::Groups;
-use crate::index_reading::{PackagesIndex, SourcesIndex, read_packages_index, read_sources_index};
+use crate::index_reading::{read_packages_index, read_sources_index};
 use crate::opening::opening_on;
 use crate::packaged::{Binary, PackageKey, Packaged};
-use crate::rows::{count_rows, has_row};
+use crate::rows::has_row;
 use crate::side_by_side::read_indices;
 use crate::sourced::{Source, Sourced};
 use crate::stanza_pieces::StanzaPieces;
@@ -32,7 +32,7 @@ pub struct Archive<'t, 'a> {
     pub(crate) sources: IndexMap<&'a str, Sourced<'a>>,
     pub(crate) groups: Groups<'a>,
     // How many rows the sources have.
-    rows: usize,
+    pub(crate) rows: usize,
     pub(crate) alloc: Global,
 }
 
@@ -106,7 +106,6 @@ impl<'t, 'a> Archive<'t, 'a> {
       binaries_on,
       source_named,
     };
-    ghost use Rattle.td_indices.specs.inner.IndexReading.{ArePackagesRead, AreSourcesRead};
     ghost use Rattle.td_indices.specs.Opening.{opening_row as opening_row_of};
     ghost use Rattle.td_indices.specs.OpeningRows.{
       IsVersionKnown,
@@ -175,61 +174,6 @@ impl<'t, 'a> Archive<'t, 'a> {
     {
         let (packages, sources) = read_indices(rt, alloc, archs, packages, sources);
         Archive::assembled(alloc, archs, packages, sources)
-    }
-
-    // The archive of the two indices, each as it was read by itself.
-    fn assembled(
-        alloc: Global,
-        archs: &'t Archs<'a>,
-        packages: Result<PackagesIndex<'a>, ArchiveFault>,
-        sources: Result<SourcesIndex<'a>, ArchiveFault>,
-    ) -> Result<Archive<'t, 'a>, ArchiveFault>
-        requires packages { (p : List (List ℕ)) × ArePackagesRead (table archs.now) p packages }
-        requires sources { (s : List (List ℕ)) × AreSourcesRead s sources }
-        ensures found { (p s : List (List ℕ)) → ArePackagesRead (table archs.now) p packages.entry
-            → AreSourcesRead s sources.entry → IfOk result (IsArchive (table archs.now) p s) }
-        ensures fault { (p s : List (List ℕ)) → ArePackagesRead (table archs.now) p packages.entry
-            → AreSourcesRead s sources.entry → IfErr result (FaultOf (table archs.now) p s) }
-    {
-        let PackagesIndex {
-            stanzas: packages,
-            kept: binaries,
-        } = match packages {
-            Ok(index) => index,
-            Err(fault) => return Err(fault),
-        };
-        let SourcesIndex {
-            stanzas: source_stanzas,
-            kept: sources,
-        } = match sources {
-            Ok(index) => index,
-            Err(fault) => return Err(fault),
-        };
-        let binaries = match binaries {
-            Ok(kept) => kept,
-            Err(fault) => return Err(fault),
-        };
-        let sources = match sources {
-            Ok(kept) => kept,
-            Err(fault) => return Err(fault),
-        };
-        let rows = match count_rows(archs, &sources) {
-            Ok(rows) => rows,
-            Err(fault) => return Err(fault),
-        };
-        let Ok(groups) = group_binaries(alloc, &binaries) else {
-            return Err(ArchiveFault::NoMemory);
-        };
-        Ok(Archive {
-            archs,
-            packages,
-            source_stanzas,
-            binaries,
-            sources,
-            groups,
-            rows,
-            alloc,
-        })
     }
 
     /// How many sources there are.

@@ -1,16 +1,26 @@
 //! The binary packages are put under their sources, and found there by architecture.
-ghost use Rattle.std.specs.Prelude.{◌≡◌, ℕ, List, Some, IfOk, filter, slice_get};
+ghost use Rattle.std.specs.Prelude.{◌≡◌, ◌⊎◌, ◌≤◌, ◌<◌, ℕ, List, Some, IfOk, IfErr};
+ghost use Rattle.std.specs.Prelude.{filter, slice_get};
 ghost use Rattle.std.specs.Option.{option_map_or};
 ghost use Rattle.std.specs.Prelude.{false};
 ghost use Rattle.td_relation.specs.Meeting.{is_on as is_on_of};
 ghost use Rattle.td_indices.specs.Archive.{is_of, is_of_on, places_from};
 ghost use Rattle.td_indices.specs.Groups.{group};
 ghost use Rattle.td_indices.specs.Kept.{binaries_of};
+ghost use Rattle.td_indices.specs.Rows.{row_count};
+ghost use Rattle.td_indices.specs.Sources.{sources_of};
+ghost use Rattle.td_indices.specs.declared.archive_fault.ArchiveFault.{ArchiveFault};
+ghost use Rattle.td_relation.specs.TableView.{table};
+ghost use Rattle.td_rows.specs.Limits.{max_rows};
 
+use crate::archive_fault::ArchiveFault;
 use crate::groups::Groups;
 use crate::packaged::{PackageKey, Packaged};
+use crate::rows::count_rows;
+use crate::sourced::Sourced;
 use indexmap::IndexMap;
 use std::alloc::{AllocError, Global};
+use td_relation::Archs;
 
 /// The numbers of the binary packages, by their sources.
 pub fn group_binaries<'a>(
@@ -28,6 +38,28 @@ pub fn group_binaries<'a>(
         }
     }
     Ok(groups)
+}
+
+/// The numbers of the binary packages by their sources, and how many rows the sources have.
+pub fn grouped_and_counted<'a>(
+    alloc: Global,
+    archs: &Archs<'_>,
+    binaries: &IndexMap<PackageKey<'a>, Packaged<'a>>,
+    sources: &IndexMap<&str, Sourced<'_>>,
+) -> Result<(Groups<'a>, usize), ArchiveFault>
+    ensures groups { IfOk result (λ p. (q : List ℕ)
+        → group p.0 q ≡ places_from (is_of q) 0 (binaries_of binaries.now.entries)) }
+    ensures rows { IfOk result (λ p.
+        p.1 ≡ row_count (table archs.now) (sources_of sources.now.entries)) }
+    ensures limited { IfOk result (λ p. p.1 ≤ max_rows) }
+    ensures fault { IfErr result (λ e. (e ≡ ArchiveFault.NoMemory) ⊎ ((e ≡ ArchiveFault.TooManyRows)
+        × (max_rows < row_count (table archs.now) (sources_of sources.now.entries)))) }
+{
+    let rows = count_rows(archs, sources)?;
+    match group_binaries(alloc, binaries) {
+        Ok(groups) => Ok((groups, rows)),
+        Err(_) => Err(ArchiveFault::NoMemory),
+    }
 }
 
 /// Whether the binary package with a number is on the architecture, or on `all`.

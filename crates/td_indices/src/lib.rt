@@ -14,6 +14,7 @@
 
 mod archive;
 mod archive_fault;
+mod assembling;
 mod binary_keeping;
 mod binary_reading;
 mod cutting;
@@ -26,6 +27,7 @@ mod lookups;
 mod offered_names;
 mod opening;
 mod packaged;
+mod pairing;
 mod part_reading;
 mod piece_reading;
 mod relation_field;

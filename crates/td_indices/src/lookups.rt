@@ -13,6 +13,7 @@ impl<'t, 'a> Archive<'t, 'a> {
     ghost use Rattle.std.specs.Prelude.{
       ◌≡◌,
       ◌<◌,
+      ◌⊎◌,
       [],
       IfOk,
       IfSome,
@@ -32,7 +33,8 @@ impl<'t, 'a> Archive<'t, 'a> {
     ghost use Rattle.td_indices.specs.Archive.{has_row_at, number_named, numbers_of};
     ghost use Rattle.td_indices.specs.Fields.{asked_by};
     ghost use Rattle.td_indices.specs.OfferedNames.{names_left, offered_names as offered_names_of};
-    ghost use Rattle.td_indices.specs.Stanzas.{asked_in, build_depends_of, build_depends_arch_of};
+    ghost use Rattle.td_indices.specs.Stanzas.{asked_in, asked_or_none};
+    ghost use Rattle.td_indices.specs.Stanzas.{build_depends_of, build_depends_arch_of};
 
     /// The table of architectures.
     pub fn archs(&self) -> &'t Archs<'a>
@@ -110,6 +112,21 @@ impl<'t, 'a> Archive<'t, 'a> {
         self.source_stanzas.stanza(sourced.stanza).unwrap()
     }
 
+    // What builds of the source with a number ask for in one of the two fields for that.
+    fn build_relation(&self, source: usize, field: &str) -> Result<Option<Relation<'a>>, AllocError>
+        requires source { source < length self.now.sources }
+        requires field { (field.now ≡ codes "Build-Depends")
+            ⊎ (field.now ≡ codes "Build-Depends-Arch") }
+        ensures read { IfOk result (λ r.
+            option_map (λ s. asked_in self.now s field.now) (slice_get self.now.sources source)
+            ≡ Some (Ok (asked_by r))) }
+        ensures asked { IfOk result (λ r.
+            option_map (λ s. asked_or_none (asked_in self.now s field.now))
+            (slice_get self.now.sources source) ≡ Some (asked_by r)) }
+    {
+        read_again(self.alloc, &self.stanza_of_source(source), field)
+    }
+
     /// What every build of the source with a number asks for, read again from the field's text;
     /// `None` where there is no such field, or whitespace alone in it.
     pub fn build_depends(&self, source: usize) -> Result<Option<Relation<'a>>, AllocError>
@@ -121,7 +138,7 @@ impl<'t, 'a> Archive<'t, 'a> {
             option_map (build_depends_of self.now) (slice_get self.now.sources source)
             ≡ Some (asked_by r)) }
     {
-        read_again(self.alloc, &self.stanza_of_source(source), "Build-Depends")
+        self.build_relation(source, "Build-Depends")
     }
 
     /// The same of what the builds of packages ask for that aren't of `all`.
@@ -134,10 +151,6 @@ impl<'t, 'a> Archive<'t, 'a> {
             option_map (build_depends_arch_of self.now) (slice_get self.now.sources source)
             ≡ Some (asked_by r)) }
     {
-        read_again(
-            self.alloc,
-            &self.stanza_of_source(source),
-            "Build-Depends-Arch",
-        )
+        self.build_relation(source, "Build-Depends-Arch")
     }
 }

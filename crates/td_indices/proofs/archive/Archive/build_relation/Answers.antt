@@ -1,12 +1,11 @@
--- `Archive::build_depends`: the clauses `read` and `asked` and the call of `read_again`.
-use Rattle.std.proofs.Common.{◌≡◌, Ok, subst}
-use Rattle.std.specs.Prelude.{codes}
+-- `Archive::build_relation`: the clauses `read` and `asked` and the call of `read_again`.
+use Rattle.std.proofs.Common.{◌≡◌, ◌∙◌, Ok, ap, inl, inr, subst}
 use Rattle.td_stanza.specs.Table.{fields_of}
 use Rattle.td_indices.specs.Archive.{Contents}
-use Rattle.td_indices.specs.Fields.{asked_by}
+use Rattle.td_indices.specs.Fields.{asked_by, relation_in, value_of}
 use Rattle.td_indices.specs.Reading.{sources_at}
 use Rattle.td_indices.proofs.KeptStanzas.{list_at, read_at, readable_at, source_at}
-use Rattle.td_indices.proofs.archive.Archive.build_depends.Goals as goal
+use Rattle.td_indices.proofs.archive.Archive.build_relation.Goals as goal
 
 pub read_again-requires : goal.read_again-requires
 read_again-requires c =
@@ -16,13 +15,22 @@ read_again-requires c =
     let fields = fields_of c.stanza_of_source.result in
     let its = readable_at a c.args.source fields kept
     (source_at a c.args.source fields c.stanza_of_source.ensures.there) in
-    (its.1.depends, its.1.depends_read)
+    elim c.requires.field [
+      | inl is ↦ (
+        its.1.depends,
+        ap (λ f. relation_in (value_of fields f)) is ∙ its.1.depends_read,
+      )
+      | inr is ↦ (
+        its.1.arch_depends,
+        ap (λ f. relation_in (value_of fields f)) is ∙ its.1.arch_depends_read,
+      )
+    ]
 
 pub returns-clause-read : goal.returns-clause-read
 returns-clause-read c =
     let a = c.args.self.now in
     let fields = fields_of c.stanza_of_source.result in
-    read_at asked_by a c.args.source fields (codes "Build-Depends")
+    read_at asked_by a c.args.source fields c.args.field.now
     (source_at a c.args.source fields c.stanza_of_source.ensures.there) c.read_again.result
     c.read_again.ensures
 
@@ -30,6 +38,6 @@ pub returns-clause-asked : goal.returns-clause-asked
 returns-clause-asked c =
     let a = c.args.self.now in
     let fields = fields_of c.stanza_of_source.result in
-    list_at asked_by a c.args.source fields (codes "Build-Depends")
+    list_at asked_by a c.args.source fields c.args.field.now
     (source_at a c.args.source fields c.stanza_of_source.ensures.there) c.read_again.result
     c.read_again.ensures
