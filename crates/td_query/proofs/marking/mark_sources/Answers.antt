@@ -1,26 +1,16 @@
 -- `mark_sources`: its loop.
-use Rattle.std.proofs.Common.{◌∙◌, map, ap, sym, slice_get}
-use Rattle.regex.specs.Strings.{matcher_pattern}
-use Rattle.td_stanza.specs.Table.{fields_of}
-use Rattle.td_indices.specs.Stanzas.{source_fields}
-use Rattle.td_query.specs.Marks.{mark_by}
+use Rattle.std.proofs.Common.{◌∙◌}
 use Rattle.td_query.specs.Tracking.{tracking}
-use Rattle.td_query.proofs.KeptMarks.{marks-more, stanza_there}
+use Rattle.td_query.proofs.KeptMarks.{marks-more}
 use Rattle.td_query.proofs.marking.mark_sources.Goals as goal
 
 pub loop-number-preserved : goal.loop-number-preserved
 loop-number-preserved c =
     let a = c.args.archive.now in
-    let patterns = map matcher_pattern c.args.matchers.now.items in
-    let t = tracking c.args.tracker.now in
-    let fields = fields_of c.stanza_of_source-stanza.result in
-    let kept = stanza_there a.source_stanzas (λ x. x.stanza)
-    (slice_get a.sources c.loop-number.number) fields c.stanza_of_source-stanza.ensures.there in
     record {
       same = c.mark_of.ensures.same ∙ c.loop-number.invariant.same;
-      marks = marks-more (λ x. mark_by patterns t (source_fields a x)) a.sources
-          c.loop-number.number kept.0 _ _ c.mark_of.result kept.1 c.loop-number.invariant.marks
-          c.in_ok-push.ensures.items
-          (c.mark_of.ensures.mark ∙ ap (λ p. mark_by p t fields) c.loop-number.invariant.same
-          ∙ ap (mark_by patterns t) (sym kept.2));
+      marks = marks-more (tracking c.args.tracker.now) a.source_stanzas (λ x. x.stanza) a.sources
+          c.loop-number.number c.loop-number.invariant.same
+          c.stanza_of_source-stanza.ensures.there c.loop-number.invariant.marks
+          c.in_ok-push.ensures.items c.mark_of.ensures.mark;
     }
