@@ -11,3 +11,4 @@ pub mod RunLaws
 pub mod OnlyLaws
 pub mod WithoutJournal
 pub mod CutLaws
+pub mod StaffLaws

@@ -35,8 +35,7 @@ use Rattle.td_script.specs.declared.running.RunFault.TheVariants.{Write, NoMemor
 use Rattle.td_script.specs.declared.running.TheConstants.{SCRIPT_LIMIT}
 use Rattle.td_script.specs.declared.told.Told.{Told as ToldText}
 use Rattle.td_script.specs.Ends.{IsScriptText, MayStop, Only}
-use Rattle.td_script.specs.OpeningInside.{AreReadableWith, CanReplace, Stops, of_archive}
-use Rattle.td_script.specs.OpeningInside.{of_journal, of_reading, of_table, of_tracker}
+use Rattle.td_script.specs.OpeningInside.{AreReadableWith, CanReplace, Stops, of_input, of_reading}
 use Rattle.td_script.specs.Openings.{AreOpened, AreReadable, AreRowsOf, IsJournalIfGiven}
 use Rattle.td_script.specs.Openings.{IsReadableOver, IsTrackerIfGiven, Texts}
 
@@ -72,7 +71,7 @@ rows_stop c opened state t (Err e) are only is = λ u rows.
 
 -- a tracker is refused for a pattern
 pub tracker_stops : (x : Texts) (t : List ℕ) (e : TrackerFault) → x.tracker ≡ Some t
-    → IsPatternFault (length t) (log_in (said_in t)) e → Stops x (of_tracker e)
+    → IsPatternFault (length t) (log_in (said_in t)) e → Stops x (of_input (fault.Tracker e))
 tracker_stops x t (tracker.Syntax place) is h = absurd h
 tracker_stops x t (tracker.BadPattern place) is h = rw is h
 tracker_stops x t (tracker.MissingKey key) is h = absurd h
@@ -104,31 +103,24 @@ reopen_stops P rows text (Ok b) only = tt
 reopen_stops P rows text (Err e) only = λ is. only is.0 is.1
 
 pub untold_stops : (rows : Table) (given : Option (List ℕ)) (e : ReadError) (f : RunFault)
-    → (IsJournalIfGiven rows given → e ≡ journal.NoMemory) → f ≡ of_journal e
+    → (IsJournalIfGiven rows given → e ≡ journal.NoMemory) → f ≡ of_input (fault.Journal e)
     → IsJournalIfGiven rows given → f ≡ NoMemory
-untold_stops rows given e f only is its = is ∙ ap of_journal (only its)
+untold_stops rows given e f only is its =
+    is ∙ ap (λ (y : ReadError). of_input (fault.Journal y)) (only its)
 
-pub tracked_stops : (x : Texts) (t : List ℕ) (rows : Table) (r : Result ToldText RunFault)
-    → IfErr r (λ e. IsJournalIfGiven rows x.journal → e ≡ NoMemory)
-    → IfErr r (λ e. (u : Tracking) → IsTracker t u → IsJournalIfGiven rows x.journal → Stops x e)
-tracked_stops x t rows (Ok told) only = tt
-tracked_stops x t rows (Err e) only = λ u is its. memory_stops x e (only its)
-
-pub given_stops : (x : Texts) (c : Contents) (t : List ℕ) (rows : Table)
-    (r : Result ToldText RunFault)
-    → IfErr r (λ e. (u : Tracking) → IsTracker t u → IsJournalIfGiven rows x.journal → Stops x e)
-    → x.tracker ≡ Some t → AreRowsOf c x.state rows → IfErr r (λ e. IsReadableOver c x → Stops x e)
-given_stops x c t rows (Ok told) only is are = tt
-given_stops x c t rows (Err e) only is are = λ readable.
+pub given_stops : (x : Texts) (c : Contents) (t : List ℕ) (rows : Table) (e : RunFault)
+    → x.tracker ≡ Some t → AreRowsOf c x.state rows
+    → ((u : Tracking) → IsTracker t u → IsJournalIfGiven rows x.journal → Stops x e)
+    → IsReadableOver c x → Stops x e
+given_stops x c t rows e is are only readable =
     let given = subst IsTrackerIfGiven is readable.tracker in
     only given.0 given.1 (journal_over c x rows are readable)
 
-pub untracked_stops : (x : Texts) (c : Contents) (rows : Table) (r : Result ToldText RunFault)
-    → IfErr r (λ e. IsJournalIfGiven rows x.journal → e ≡ NoMemory) → AreRowsOf c x.state rows
-    → IfErr r (λ e. IsReadableOver c x → Stops x e)
-untracked_stops x c rows (Ok told) only are = tt
-untracked_stops x c rows (Err e) only are =
-    λ readable. memory_stops x e (only (journal_over c x rows are readable))
+pub untracked_stops : (x : Texts) (c : Contents) (rows : Table) (e : RunFault)
+    → AreRowsOf c x.state rows → (IsJournalIfGiven rows x.journal → e ≡ NoMemory)
+    → IsReadableOver c x → Stops x e
+untracked_stops x c rows e are only readable =
+    memory_stops x e (only (journal_over c x rows are readable))
 
 -- over an archive
 pub over_archive : (x : Texts) (c a : Contents) (t : List ArchWords) (p s : List ℕ) → p ≡ x.packages
@@ -140,23 +132,16 @@ over_archive x c a t p s first second same is over =
     (sym (same c (subst (λ l. IsArchive t (lines_of p) (lines_of l) c) (sym second)
     (subst (λ l. IsArchive t (lines_of l) (lines_of x.sources) c) (sym first) is)))) over
 
-pub archive_stops : (x : Texts) (a : Contents) (t : List ArchWords) (p s : List ℕ)
-    (r : Result ToldText RunFault) → p ≡ x.packages → s ≡ x.sources
-    → ((b : Contents) → IsArchive t (lines_of p) (lines_of s) b → a ≡ b)
-    → IfErr r (λ e. IsReadableOver a x → Stops x e) → IfErr r (λ e. AreReadableWith t x → Stops x e)
-archive_stops x a t p s (Ok told) first second same only = tt
-archive_stops x a t p s (Err e) first second same only =
-    λ readable. only (over_archive x readable.0 a t p s first second same readable.1 readable.2)
-
 pub no_archive_stops : (x : Texts) (t : List ArchWords) (p s : List ℕ) (e : ArchiveFault)
     (f : RunFault) → p ≡ x.packages → s ≡ x.sources
     → ((b : Contents) → IsArchive t (lines_of p) (lines_of s) b → e ≡ archive.NoMemory)
-    → f ≡ of_archive e → AreReadableWith t x → Stops x f
+    → f ≡ of_input (fault.Archive e) → AreReadableWith t x → Stops x f
 no_archive_stops x t p s e f first second only is readable =
     let its = subst (λ l. IsArchive t (lines_of p) (lines_of l) readable.0) (sym second)
     (subst (λ l. IsArchive t (lines_of l) (lines_of x.sources) readable.0)
     (sym first) readable.1) in
-    memory_stops x f (is ∙ ap of_archive (only readable.0 its))
+    memory_stops x f
+    (is ∙ ap (λ (y : ArchiveFault). of_input (fault.Archive y)) (only readable.0 its))
 
 -- over a table
 pub over_table : (x : Texts) (t : List ArchWords) (archs : List ℕ) → archs ≡ x.archs
@@ -171,18 +156,11 @@ over_table x t archs is same readable =
       readable.2,
     )
 
-pub table_stops : (x : Texts) (t : List ArchWords) (archs : List ℕ) (r : Result ToldText RunFault)
-    → archs ≡ x.archs → ((u : List ArchWords) → IsTable (lines_of archs) u → t ≡ u)
-    → IfErr r (λ e. AreReadableWith t x → Stops x e) → IfErr r (λ e. AreReadable x → Stops x e)
-table_stops x t archs (Ok told) is same only = tt
-table_stops x t archs (Err e) is same only =
-    λ readable. only (over_table x t archs is same readable)
-
 pub no_table_stops : (x : Texts) (archs : List ℕ) (e : ArchsFault) (f : RunFault) → archs ≡ x.archs
-    → ((u : List ArchWords) → IsTable (lines_of archs) u → e ≡ table.NoMemory) → f ≡ of_table e
-    → AreReadable x → Stops x f
+    → ((u : List ArchWords) → IsTable (lines_of archs) u → e ≡ table.NoMemory)
+    → f ≡ of_input (fault.Table e) → AreReadable x → Stops x f
 no_table_stops x archs e f is only its readable =
-    memory_stops x f (its ∙ ap of_table
+    memory_stops x f (its ∙ ap (λ (y : ArchsFault). of_input (fault.Table y))
     (only readable.0.table
     (subst (λ l. IsTable (lines_of l) readable.0.table) (sym is) readable.1.is_table)))
 

@@ -2,7 +2,7 @@
 use Rattle.std.proofs.Common.{◌≡◌, ◌↔◌, ℕ, List, [], ◌∷◌, false, Option, Some, None, Result, Ok}
 use Rattle.std.proofs.Common.{Err, IfOk, IfErr, refl, sym, ap, subst, ◌∙◌, option_map, unwrap_or}
 use Rattle.std.proofs.Common.{map}
-use Rattle.std.specs.Prelude.{MatchResult, string_bytes}
+use Rattle.std.specs.Prelude.{string_bytes}
 use Rattle.td_text.specs.Lines.{lines_of}
 use Rattle.td_relation.specs.Arch.{ArchWords}
 use Rattle.td_relation.specs.TableFile.{IsTable}
@@ -33,6 +33,7 @@ use Rattle.td_indices.specs.Supplying.{supply_of}
 use Rattle.td_query.specs.TrackerFaults as tracker_file
 use Rattle.td_query.specs.declared.tracker_fault.TrackerFault.{TrackerFault}
 use Rattle.td_query.specs.declared.tracker_fault.TrackerFault.TheVariants as tracker
+use Rattle.td_script.specs.declared.input_fault.InputFault.{InputFault}
 use Rattle.td_script.specs.declared.input_fault.InputFault.TheVariants as fault
 use Rattle.td_script.specs.declared.running.RunFault.{RunFault}
 use Rattle.td_script.specs.declared.running.RunFault.TheVariants.{Input, Read, TooLong, NotText}
@@ -52,16 +53,27 @@ use Rattle.td_script.specs.Replies.{Setting}
 use Rattle.td_script.specs.Reporting.{report_with}
 use Rattle.td_script.specs.Script.{IsTold, Told, script, told_of}
 use Rattle.td_script.specs.Ends.{IsAnswered}
-use Rattle.td_script.specs.OpeningInside.{IsBegunBy, IsJournalFault, IsRefusedBy, IsRefusedIn}
-use Rattle.td_script.specs.OpeningInside.{IsReplacedIn, IsToldFrom, IsTrackerOf, IsUntold, Tells}
-use Rattle.td_script.specs.OpeningInside.{of_archive, of_journal, of_state, of_table, of_tracker}
-use Rattle.td_script.specs.Openings.{AreOpened, AreReports, AreRowsOf, IsArchiveOf}
+use Rattle.td_script.specs.OpeningInside.{IsBegunBy, IsInputRefusedIn, IsJournalFault}
+use Rattle.td_script.specs.OpeningInside.{IsJournalRefused, IsRefusedBy, IsRefusedIn, IsReplacedIn}
+use Rattle.td_script.specs.OpeningInside.{IsToldFrom, IsTrackerOf, IsUntold, OfInput}
+use Rattle.td_script.specs.OpeningInside.{TellsOrRefuses, of_input}
+use Rattle.td_script.specs.Openings.{AreOpened, AreReports, AreRowsOf, IsArchiveOf, IsRefused}
 use Rattle.td_script.specs.Openings.{IsTrackerIfGiven, Texts}
 
 -- ---- 1. faults
 
+-- what is so of each fault of a text is so of an end by one
+pub of_each : (P Q : InputFault → Type 0) → ((i : InputFault) → P i → Q i) → (e : RunFault)
+    → OfInput P e → OfInput Q e
+of_each P Q each (Input i) h = each i h
+of_each P Q each Read h = h
+of_each P Q each TooLong h = h
+of_each P Q each NotText h = h
+of_each P Q each Write h = h
+of_each P Q each NoMemory h = h
+
 pub table_refused : (x : Texts) (archs : List ℕ) (e : ArchsFault) → archs ≡ x.archs
-    → table_file.FaultOf (lines_of archs) e → IsRefusedBy x (of_table e)
+    → table_file.FaultOf (lines_of archs) e → IsRefusedBy x (of_input (fault.Table e))
 table_refused x archs (table.BadLine n) is h =
     subst (λ (t : List ℕ). table_file.FaultOf (lines_of t) (table.BadLine n)) is h
 table_refused x archs (table.Twice n) is h =
@@ -80,7 +92,8 @@ same_fault t e p s packages sources first second h =
 
 pub archive_refused : (x : Texts) (t : List ArchWords) (p s : List ℕ) (e : ArchiveFault)
     → IsTable (lines_of x.archs) t → p ≡ x.packages → s ≡ x.sources
-    → archive_file.FaultOf t (lines_of p) (lines_of s) e → IsRefusedBy x (of_archive e)
+    → archive_file.FaultOf t (lines_of p) (lines_of s) e
+    → IsRefusedBy x (of_input (fault.Archive e))
 archive_refused x t p s (archive.Stanza f e) is first second h =
     (t, is, same_fault t (archive.Stanza f e) p s x.packages x.sources first second h)
 archive_refused x t p s (archive.MissingField f n field) is first second h =
@@ -94,7 +107,7 @@ archive_refused x t p s archive.TooManyRows is first second h =
 archive_refused x t p s archive.NoMemory is first second h = tt
 
 pub state_refused : (opened : Table) (text : List ℕ) (e : StateFault)
-    → state_file.FaultOf (lines_of text) e → IsRefusedIn opened text (of_state e)
+    → state_file.FaultOf (lines_of text) e → IsRefusedIn opened text (of_input (fault.State e))
 state_refused opened text (state.BadLine n) h = h
 state_refused opened text (state.Twice n) h = h
 state_refused opened text (state.NotOpening n) h = h
@@ -109,7 +122,7 @@ journal_fault rows text (journal.Unlawful n) h = h
 journal_fault rows text journal.NoMemory h = tt
 
 pub journal_untold : (rows : Table) (given : Option (List ℕ)) (e : ReadError)
-    → IsJournalFault rows given e → IsUntold rows given (of_journal e)
+    → IsJournalFault rows given e → IsUntold rows given (of_input (fault.Journal e))
 journal_untold rows given journal.BadHeader h = h
 journal_untold rows given (journal.BadLine n) h = h
 journal_untold rows given (journal.Unlawful n) h = h
@@ -117,7 +130,7 @@ journal_untold rows given journal.NoMemory h = tt
 
 pub tracker_refused : (x : Texts) (c : Contents) (rows : Table) (text : List ℕ) (e : TrackerFault)
     → x.tracker ≡ Some text → IsArchiveOf x c → AreRowsOf c x.state rows
-    → tracker_file.FaultOf text e → IsRefusedBy x (of_tracker e)
+    → tracker_file.FaultOf text e → IsRefusedBy x (of_input (fault.Tracker e))
 tracker_refused x c rows text (tracker.Syntax p) is archive rows_are h =
     (c, archive, (rows, rows_are, rw is h))
 tracker_refused x c rows text (tracker.BadPattern p) is archive rows_are h =
@@ -167,28 +180,24 @@ replaced_rows c opened text (Ok rows) are is =
     }
 replaced_rows c opened text (Err e) are is = tt
 
-refused_row : (x : Texts) (c : Contents) (opened : Table) (text : List ℕ) (e : RunFault)
-    → IsArchiveOf x c → AreOpened c opened → x.state ≡ Some text → IsRefusedIn opened text e
-    → IsRefusedBy x e
-refused_row x c opened text (Input (fault.Table e)) archive are is h = absurd h
-refused_row x c opened text (Input (fault.Archive e)) archive are is h = absurd h
-refused_row x c opened text (Input (fault.State e)) archive are is h = (c, archive, rw is h)
-refused_row x c opened text (Input fault.NoSuchRow) archive are is h =
+refused_row : (x : Texts) (c : Contents) (opened : Table) (text : List ℕ) → IsArchiveOf x c
+    → AreOpened c opened → x.state ≡ Some text → (e : InputFault) → IsInputRefusedIn opened text e
+    → IsRefused x e
+refused_row x c opened text archive are is (fault.Table e) h = absurd h
+refused_row x c opened text archive are is (fault.Archive e) h = absurd h
+refused_row x c opened text archive are is (fault.State e) h = (c, archive, rw is h)
+refused_row x c opened text archive are is fault.NoSuchRow h =
     (c, archive, rw is (opened, are, h))
-refused_row x c opened text (Input (fault.Tracker e)) archive are is h = absurd h
-refused_row x c opened text (Input (fault.Journal e)) archive are is h = absurd h
-refused_row x c opened text Read archive are is h = absurd h
-refused_row x c opened text TooLong archive are is h = absurd h
-refused_row x c opened text NotText archive are is h = absurd h
-refused_row x c opened text Write archive are is h = absurd h
-refused_row x c opened text NoMemory archive are is h = tt
+refused_row x c opened text archive are is (fault.Tracker e) h = absurd h
+refused_row x c opened text archive are is (fault.Journal e) h = absurd h
 
 pub refused_rows : (x : Texts) (c : Contents) (opened : Table) (text : List ℕ)
     (r : Result Table RunFault) → IsArchiveOf x c → AreOpened c opened → x.state ≡ Some text
     → IfErr r (IsRefusedIn opened text) → IfErr r (IsRefusedBy x)
 refused_rows x c opened text (Ok rows) archive are is h = tt
 refused_rows x c opened text (Err e) archive are is h =
-    refused_row x c opened text e archive are is h
+    of_each (IsInputRefusedIn opened text) (IsRefused x)
+    (refused_row x c opened text archive are is) e h
 
 -- ---- 3. the table and the archive
 
@@ -267,20 +276,15 @@ told_from b new stock suites suite report text told h offers its =
     record { text_is = ap (λ (t : Told). t.text) e; refused_is = ap (λ (t : Told). t.refused) e }
 
 -- nothing is told over what the texts say
-untold : (x : Texts) (c : Contents) (rows : Table) (e : RunFault) → IsUntold rows x.journal e
-    → IsArchiveOf x c → AreRowsOf c x.state rows → IsTrackerIfGiven x.tracker → IsRefusedBy x e
-untold x c rows (Input (fault.Table e)) h archive are tracker = absurd h
-untold x c rows (Input (fault.Archive e)) h archive are tracker = absurd h
-untold x c rows (Input (fault.State e)) h archive are tracker = absurd h
-untold x c rows (Input fault.NoSuchRow) h archive are tracker = absurd h
-untold x c rows (Input (fault.Tracker e)) h archive are tracker = absurd h
-untold x c rows (Input (fault.Journal e)) h archive are tracker =
-    (c, archive, (rows, are, tracker, h))
-untold x c rows Read h archive are tracker = absurd h
-untold x c rows TooLong h archive are tracker = absurd h
-untold x c rows NotText h archive are tracker = absurd h
-untold x c rows Write h archive are tracker = absurd h
-untold x c rows NoMemory h archive are tracker = tt
+untold : (x : Texts) (c : Contents) (rows : Table) → IsArchiveOf x c → AreRowsOf c x.state rows
+    → IsTrackerIfGiven x.tracker → (e : InputFault) → IsJournalRefused rows x.journal e
+    → IsRefused x e
+untold x c rows archive are tracker (fault.Table e) h = absurd h
+untold x c rows archive are tracker (fault.Archive e) h = absurd h
+untold x c rows archive are tracker (fault.State e) h = absurd h
+untold x c rows archive are tracker fault.NoSuchRow h = absurd h
+untold x c rows archive are tracker (fault.Tracker e) h = absurd h
+untold x c rows archive are tracker (fault.Journal e) h = (c, archive, (rows, are, tracker, h))
 
 -- over what the texts say
 pub tells_from : (May : Setting → History → List ℕ → List ℕ → ℕ → Type 0) (x : Texts) (c : Contents)
@@ -289,7 +293,7 @@ pub tells_from : (May : Setting → History → List ℕ → List ℕ → ℕ �
     (record { stock = supply_of c; suites = x.suite ∷ []; report = report }) x.journal rows text)
     → IfErr r (IsUntold rows x.journal)
     → IsArchiveOf x c → AreRowsOf c x.state rows → AreReports c x.tracker report
-    → IsTrackerIfGiven x.tracker → MatchResult r (Tells May x text) (IsRefusedBy x)
+    → IsTrackerIfGiven x.tracker → TellsOrRefuses May x text r
 tells_from May x c report rows text (Ok told) is refused archive are reports tracker = (
   record { stock = supply_of c; suites = x.suite ∷ []; report = report },
   is.0,
@@ -308,7 +312,8 @@ tells_from May x c report rows text (Ok told) is refused archive are reports tra
   is.2,
 )
 tells_from May x c report rows text (Err e) is refused archive are reports tracker =
-    untold x c rows e refused archive are tracker
+    of_each (IsJournalRefused rows x.journal) (IsRefused x) (untold x c rows archive are tracker) e
+    refused
 
 pub tracker_given : (x : Texts) (t : Tracking) → IsTrackerOf x t → IsTrackerIfGiven x.tracker
 tracker_given x t is = subst IsTrackerIfGiven (sym is.1) (t, is.2)

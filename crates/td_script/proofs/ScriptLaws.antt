@@ -108,12 +108,3 @@ pub told-unwatched : (suites : List (List ℕ)) (report : Option (Table → List
     told.refused
 told-unwatched suites report b new text told h =
     told-answered (setting_of b.fixed.stock suites report) b new text told h
-
--- from a book with this stock, for one suite
-pub answered-from : (h : History) (from stock : Stock) (suites : List (List ℕ)) (suite : List ℕ)
-    (report : Option (Table → List ℕ)) (lines text : List ℕ) (refused : ℕ)
-    → IsAnswered (setting_of from suites report) h lines text refused → from ≡ stock
-    → suites ≡ suite ∷ [] → IsAnswered (setting_of stock (suite ∷ []) report) h lines text refused
-answered-from h from stock suites suite report lines text refused is offers its =
-    subst (λ (l : List (List ℕ)). IsAnswered (setting_of stock l report) h lines text refused) its
-    (subst (λ (x : Stock). IsAnswered (setting_of x suites report) h lines text refused) offers is)

@@ -43,13 +43,9 @@ pub record IsToldOf (May : Setting → History → List ℕ → List ℕ → ℕ
   pub only : IfErr result (λ fault.
       IsJournalIfGiven asked.rows (journal_asked asked) → fault ≡ NoMemory)
 
--- all that a run asks may be asked of those who answer what this allows
-abbrev pub CanBeAsked : (Asked → Type 0) → Type 0
-CanBeAsked Allows = (asked : Asked) → IsFit asked → Allows asked
-
--- whatever they answer may be told
-abbrev pub TellsBy : (Setting → History → List ℕ → List ℕ → ℕ → Type 0)
-    → (Asked → Result Told ReadError → Type 0) → Type 0
-TellsBy May Answers =
-    (asked : Asked) (result : Result Told ReadError) → Answers asked result
-    → IsToldOf May asked result
+-- all that a run asks may be asked of those who answer, and whatever they answer may be told
+pub record CanAnswer (May : Setting → History → List ℕ → List ℕ → ℕ → Type 0)
+    (Allows : Asked → Type 0) (Answers : Asked → Result Told ReadError → Type 0) : Type 0 where
+  pub asked : (asked : Asked) → IsFit asked → Allows asked
+  pub tells : (asked : Asked) (result : Result Told ReadError) → Answers asked result
+      → IsToldOf May asked result

@@ -1,5 +1,6 @@
 -- What the inner functions of a run answer. This project's own.
-use Rattle.std.specs.Prelude.{◌≡◌, ℕ, List, Option, Some, Result, Ok, Err, string_bytes}
+use Rattle.std.specs.Prelude.{◌≡◌, ℕ, List, MatchResult, Option, Some, Result, Ok, Err}
+use Rattle.std.specs.Prelude.{string_bytes}
 use Rattle.td_bytes.specs.declared.text.TextFault.{TextFault}
 use Rattle.td_bytes.specs.declared.text.TextFault.TheVariants as text
 use Rattle.td_text.specs.Lines.{lines_of}
@@ -44,39 +45,24 @@ of_reading text.TooLong = TooLong
 of_reading text.NotText = NotText
 of_reading text.NoMemory = NoMemory
 
--- where a text is no table of architectures
-abbrev pub of_table : ArchsFault → RunFault
-of_table table.NoMemory = NoMemory
-of_table e = Input (fault.Table e)
+-- where a text is refused for this
+abbrev pub of_input : InputFault → RunFault
+of_input (fault.Table table.NoMemory) = NoMemory
+of_input (fault.Archive archive.NoMemory) = NoMemory
+of_input (fault.State state.NoMemory) = NoMemory
+of_input (fault.Tracker tracker.NoMemory) = NoMemory
+of_input (fault.Journal journal.NoMemory) = NoMemory
+of_input e = Input e
 
--- where two texts are no archive
-abbrev pub of_archive : ArchiveFault → RunFault
-of_archive archive.NoMemory = NoMemory
-of_archive e = Input (fault.Archive e)
-
--- where a text is no state file
-abbrev pub of_state : StateFault → RunFault
-of_state state.NoMemory = NoMemory
-of_state e = Input (fault.State e)
-
--- where a text is no tracker
-abbrev pub of_tracker : TrackerFault → RunFault
-of_tracker tracker.NoMemory = NoMemory
-of_tracker e = Input (fault.Tracker e)
-
--- where a text is no journal
-abbrev pub of_journal : ReadError → RunFault
-of_journal journal.NoMemory = NoMemory
-of_journal e = Input (fault.Journal e)
+-- a text has such a fault, or memory runs out
+abbrev pub OfInput : (InputFault → Type 0) → RunFault → Type 0
+OfInput Is (Input e) = Is e
+OfInput Is NoMemory = Unit {0}
+OfInput Is e = ⊥
 
 -- a text is refused for this, or memory runs out
 abbrev pub IsRefusedBy : Texts → RunFault → Type 0
-IsRefusedBy x (Input e) = IsRefused x e
-IsRefusedBy x Read = ⊥
-IsRefusedBy x TooLong = ⊥
-IsRefusedBy x NotText = ⊥
-IsRefusedBy x Write = ⊥
-IsRefusedBy x NoMemory = Unit {0}
+IsRefusedBy x e = OfInput (IsRefused x) e
 
 -- ---- 2. rows
 
@@ -89,23 +75,15 @@ pub record IsReplacedIn (opened : Table) (text : List ℕ) (rows : Table) : Type
 
 -- of a text that isn't put over the rows
 abbrev pub IsInputRefusedIn : Table → List ℕ → InputFault → Type 0
-IsInputRefusedIn opened text (fault.Table e) = ⊥
-IsInputRefusedIn opened text (fault.Archive e) = ⊥
 IsInputRefusedIn opened text (fault.State e) = IsNoState (Some text) e
 IsInputRefusedIn opened text fault.NoSuchRow =
     (given : Table) × IsStateFile (lines_of text) given
     × ((k : Key) × (first_missing opened given ≡ Some k))
-IsInputRefusedIn opened text (fault.Tracker e) = ⊥
-IsInputRefusedIn opened text (fault.Journal e) = ⊥
+IsInputRefusedIn opened text e = ⊥
 
 -- it is no state file, or has a row that these haven't, or memory runs out
 abbrev pub IsRefusedIn : Table → List ℕ → RunFault → Type 0
-IsRefusedIn opened text (Input e) = IsInputRefusedIn opened text e
-IsRefusedIn opened text Read = ⊥
-IsRefusedIn opened text TooLong = ⊥
-IsRefusedIn opened text NotText = ⊥
-IsRefusedIn opened text Write = ⊥
-IsRefusedIn opened text NoMemory = Unit {0}
+IsRefusedIn opened text e = OfInput (IsInputRefusedIn opened text) e
 
 -- ---- 3. what is told
 
@@ -126,19 +104,14 @@ abbrev pub IsJournalFault : Table → Option (List ℕ) → ReadError → Type 0
 IsJournalFault rows given journal.NoMemory = Unit {0}
 IsJournalFault rows given e = IsNoJournal rows given e
 
--- and so nothing is told from these rows
+-- of a text that is no journal over these rows
+abbrev pub IsJournalRefused : Table → Option (List ℕ) → InputFault → Type 0
+IsJournalRefused rows given (fault.Journal e) = IsNoJournal rows given e
+IsJournalRefused rows given e = ⊥
+
+-- and so nothing is told from these rows, or memory runs out
 abbrev pub IsUntold : Table → Option (List ℕ) → RunFault → Type 0
-IsUntold rows given (Input (fault.Table e)) = ⊥
-IsUntold rows given (Input (fault.Archive e)) = ⊥
-IsUntold rows given (Input (fault.State e)) = ⊥
-IsUntold rows given (Input fault.NoSuchRow) = ⊥
-IsUntold rows given (Input (fault.Tracker e)) = ⊥
-IsUntold rows given (Input (fault.Journal e)) = IsNoJournal rows given e
-IsUntold rows given Read = ⊥
-IsUntold rows given TooLong = ⊥
-IsUntold rows given NotText = ⊥
-IsUntold rows given Write = ⊥
-IsUntold rows given NoMemory = Unit {0}
+IsUntold rows given e = OfInput (IsJournalRefused rows given) e
 
 -- this may be told of a script from these rows, or from the journal over them that is gone on with
 abbrev pub IsToldFrom : (Setting → History → List ℕ → List ℕ → ℕ → Type 0) → Setting
@@ -152,6 +125,11 @@ abbrev pub Tells : (Setting → History → List ℕ → List ℕ → ℕ → Ty
 Tells May x lines told =
     (s : Setting) × (h : History) × IsSet x s h
     × May s h lines (string_bytes told.text) told.refused
+
+-- the same, or a text is refused
+abbrev pub TellsOrRefuses : (Setting → History → List ℕ → List ℕ → ℕ → Type 0) → Texts → List ℕ
+    → Result ToldText RunFault → Type 0
+TellsOrRefuses May x lines result = MatchResult result (Tells May x lines) (IsRefusedBy x)
 
 -- no script was read, for this: a text is refused before it, or memory runs out
 abbrev pub IsUnread : Texts → TextFault → Result ToldText RunFault → Type 0
@@ -173,16 +151,11 @@ abbrev pub AreReadableWith : List ArchWords → Texts → Type 0
 AreReadableWith t x =
     (c : Contents) × IsArchive t (lines_of x.packages) (lines_of x.sources) c × IsReadableOver c x
 
+-- `regex` refuses a pattern of the tracker, for this
+abbrev pub IsPatternOf : Option (List ℕ) → InputFault → Type 0
+IsPatternOf given (fault.Tracker e) = IsPatternRefused given e
+IsPatternOf given e = ⊥
+
 -- memory runs out, or `regex` refuses a pattern
 abbrev pub Stops : Texts → RunFault → Type 0
-Stops x (Input (fault.Table e)) = ⊥
-Stops x (Input (fault.Archive e)) = ⊥
-Stops x (Input (fault.State e)) = ⊥
-Stops x (Input fault.NoSuchRow) = ⊥
-Stops x (Input (fault.Tracker e)) = IsPatternRefused x.tracker e
-Stops x (Input (fault.Journal e)) = ⊥
-Stops x Read = ⊥
-Stops x TooLong = ⊥
-Stops x NotText = ⊥
-Stops x Write = ⊥
-Stops x NoMemory = Unit {0}
+Stops x e = OfInput (IsPatternOf x.tracker) e

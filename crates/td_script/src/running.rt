@@ -1,15 +1,16 @@
 //! The run of a script: from the texts of files and the bytes of a reader to those of a writer.
 ghost use Rattle.std.specs.Prelude.{◌≡◌, ◌⊎◌, ◌≤◌, IfOk, IfErr, MatchResult, length, string_bytes};
 ghost use Rattle.std.specs.Result.{ForOk};
-ghost use Rattle.td_script.specs.Asking.{CanBeAsked, TellsBy};
+ghost use Rattle.td_script.specs.Asking.{CanAnswer};
 ghost use Rattle.td_script.specs.Ends.{AreFine, Only, Says, SaysBy};
-ghost use Rattle.td_script.specs.OpeningInside.{IsRefusedBy, IsUnread, Stops, Tells, of_reading};
-ghost use Rattle.td_script.specs.Openings.{AreReadable, texts_of, without_journal};
+ghost use Rattle.td_script.specs.OpeningInside.{IsRefusedBy, IsUnread, Stops, TellsOrRefuses};
+ghost use Rattle.td_script.specs.OpeningInside.{of_reading};
+ghost use Rattle.td_script.specs.Openings.{AreReadable, texts_lent, texts_of, without_journal};
 
 use crate::files::Files;
 use crate::input_fault::InputFault;
 use crate::inputs::Inputs;
-use crate::opening::{tell_over, tell_over_files};
+use crate::opening::{Run, tell_over};
 use crate::staff::{Alone, Asked, Staff, tell_alone};
 use crate::told::Told;
 use std::alloc::Global;
@@ -56,6 +57,26 @@ fn fault_of_text(fault: TextFault) -> RunFault
     }
 }
 
+// Judges the texts that files lend.
+fn judge_lent(rt: &(impl Threads + Sync), alloc: Global, files: Files<'_>) -> Result<(), RunFault>
+    ensures fine { MatchResult result (λ _. AreFine (texts_lent files.entry))
+        (IsRefusedBy (texts_lent files.entry)) }
+    ensures only { IfErr result (λ fault.
+        AreReadable (texts_lent files.entry) → Stops (texts_lent files.entry) fault) }
+{
+    let run = Run {
+        alloc,
+        staff: &Alone,
+        tell: &tell_alone,
+        files,
+        script: "",
+    };
+    match run.tell_all(rt) {
+        Ok(_) => Ok(()),
+        Err(refused) => Err(refused),
+    }
+}
+
 // Judges the texts of the files, as before each script.
 fn judge(rt: &(impl Threads + Sync), alloc: Global, inputs: &Inputs) -> Result<(), RunFault>
     ensures fine { MatchResult result (λ _. AreFine (texts_of inputs.now))
@@ -63,10 +84,7 @@ fn judge(rt: &(impl Threads + Sync), alloc: Global, inputs: &Inputs) -> Result<(
     ensures only { IfErr result (λ fault.
         AreReadable (texts_of inputs.now) → Stops (texts_of inputs.now) fault) }
 {
-    match tell_over(rt, alloc, &Alone, &tell_alone, inputs, "") {
-        Ok(_) => Ok(()),
-        Err(refused) => Err(refused),
-    }
+    judge_lent(rt, alloc, Files::of(inputs))
 }
 
 /// Judges the texts that come before the journal: where lines of outcomes are faulty, they are told
@@ -82,11 +100,7 @@ pub fn judge_files(
         AreReadable (without_journal (texts_of inputs.now))
         → Stops (without_journal (texts_of inputs.now)) fault) }
 {
-    let files = Files::of(inputs).without_journal();
-    match tell_over_files(rt, alloc, &Alone, &tell_alone, &files, "") {
-        Ok(_) => Ok(()),
-        Err(refused) => Err(refused),
-    }
+    judge_lent(rt, alloc, Files::of(inputs).without_journal())
 }
 
 // What is told of what was read. The files are judged before the script.
@@ -98,12 +112,10 @@ fn tell_read<S: Staff, F: Fn(Asked) -> Result<Told, ReadError>>(
     inputs: &Inputs,
     read: Result<String, TextFault>,
 ) -> Result<Told, RunFault>
-    requires asked { CanBeAsked (F.pre tell.now) }
-    requires tells { TellsBy (S.tells staff.now) (F.post tell.now) }
+    requires answers { CanAnswer (S.tells staff.now) (F.pre tell.now) (F.post tell.now) }
     requires within { ForOk read (λ text. length (string_bytes text) ≤ SCRIPT_LIMIT) }
     ensures read { IfOk read (λ text.
-        MatchResult result (Tells (S.tells staff.now) (texts_of inputs.now) (string_bytes text))
-        (IsRefusedBy (texts_of inputs.now))) }
+        TellsOrRefuses (S.tells staff.now) (texts_of inputs.now) (string_bytes text) result) }
     ensures only { IfOk read (λ _.
         IfErr result (λ fault.
         AreReadable (texts_of inputs.now) → Stops (texts_of inputs.now) fault)) }
@@ -133,8 +145,7 @@ pub fn run_with<S: Staff, F: Fn(Asked) -> Result<Told, ReadError>, R: Read, W: W
     reader: &mut R,
     writer: &mut W,
 ) -> Result<ScriptEnd, RunFault>
-    requires asked { CanBeAsked (F.pre tell.now) }
-    requires tells { TellsBy (S.tells staff.now) (F.post tell.now) }
+    requires answers { CanAnswer (S.tells staff.now) (F.pre tell.now) (F.post tell.now) }
     ensures says { SaysBy (S.tells staff.now) (texts_of inputs.now) (R.remaining reader.old)
         (W.contents writer.old) (W.contents writer.new) result }
     ensures only { Only (texts_of inputs.now) (R.remaining reader.old) result }

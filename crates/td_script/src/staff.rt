@@ -1,13 +1,18 @@
 //! Who answers a script, and what they are asked.
-ghost use Rattle.std.specs.Prelude.{◌≡◌, ◌<◌, ◌^◌, ◌-◌, IfErr, IfOk, IfSome, length, option_map};
+ghost use Rattle.std.specs.Prelude.{◌≡◌, ◌<◌, ◌^◌, ◌-◌, ◌∷◌, [], IfErr, IfOk, IfSome, length};
+ghost use Rattle.std.specs.Prelude.{option_map, string_bytes};
+ghost use Rattle.td_board.specs.Knowledge.{new_desk};
+ghost use Rattle.td_report.specs.TransitionView.{IsMade};
 ghost use Rattle.td_script.specs.Asking.{IsFit, IsToldOf};
 ghost use Rattle.td_script.specs.Ends.{IsAnswered};
+ghost use Rattle.td_script.specs.Reporting.{report_by};
 
 use crate::beginning::begin;
 use crate::told::Told;
 use crate::watched::tell_watched;
 use std::alloc::{AllocError, Global};
-use td_board::Board;
+use td_board::{Board, DeskSeat};
+use td_book::Book;
 use td_indices::Archive;
 use td_journal::ReadError;
 use td_report::Transition;
@@ -51,32 +56,66 @@ impl Staff for Alone {
     ghost tells = { λ alone s h lines text refused. IsAnswered s h lines text refused };
 }
 
+// What a clerk alone tells of the lines of a script, from a book.
+fn tell_begun(
+    alloc: Global,
+    book: &mut Book<'_>,
+    board: &Board,
+    suite: &str,
+    reports: Option<&Transition<'_, '_, '_, '_>>,
+    script: &str,
+) -> Result<Told, ReadError>
+    requires board { board.now.table ≡ book.old.fixed.table }
+    requires alone { book.old.fixed.builders ≡ 0 }
+    requires made { IfSome reports (λ r. IsMade r.now) }
+    requires small { length script.now < 2 ^ 63 - 1 }
+    ensures told { IfOk result (λ told.
+        IsAnswered (record {
+          stock = book.old.fixed.stock;
+          suites = suite.now ∷ [];
+          report = option_map (λ r. report_by r.now) reports.entry;
+        }) book.old.history script.now (string_bytes told.text) told.refused) }
+    ensures memory { IfErr result (λ fault. fault ≡ ReadError.NoMemory) }
+{
+    match tell_watched(alloc, book, board, [suite].as_slice(), reports, script) {
+        Ok(told) => Ok(told),
+        Err(AllocError) => Err(ReadError::NoMemory),
+    }
+}
+
+// The same at this board, from the rows and the journal of what is asked.
+fn tell_at(board: &Board, desk: DeskSeat, asked: Asked) -> Result<Told, ReadError>
+    requires board { board.now.table ≡ desk.table }
+    requires seat { desk.desk ≡ new_desk (length asked.rows) 0 }
+    requires fit { IsFit asked }
+    ensures { IsToldOf IsAnswered asked.entry result }
+{
+    let Asked {
+        alloc,
+        archive,
+        rows,
+        suite,
+        journal,
+        reports,
+        script,
+    } = asked;
+    let supply = match archive.supply() {
+        Ok(supply) => supply,
+        Err(AllocError) => return Err(ReadError::NoMemory),
+    };
+    match begin(alloc, board, desk, rows, supply, journal) {
+        Ok(mut book) => tell_begun(alloc, &mut book, board, suite, reports, script),
+        Err(fault) => Err(fault),
+    }
+}
+
 /// What a clerk alone tells of a script.
 pub fn tell_alone(asked: Asked) -> Result<Told, ReadError>
     requires { IsFit asked }
     ensures { IsToldOf IsAnswered asked.entry result }
 {
-    let alloc = asked.alloc;
-    let Ok((board, desk, _seats)) = Board::make(alloc, asked.rows.len(), 0) else {
-        return Err(ReadError::NoMemory);
-    };
-    let supply = match asked.archive.supply() {
-        Ok(supply) => supply,
-        Err(AllocError) => return Err(ReadError::NoMemory),
-    };
-    let mut book = match begin(alloc, &board, desk, asked.rows, supply, asked.journal) {
-        Ok(book) => book,
-        Err(fault) => return Err(fault),
-    };
-    match tell_watched(
-        alloc,
-        &mut book,
-        &board,
-        [asked.suite].as_slice(),
-        asked.reports,
-        asked.script,
-    ) {
-        Ok(told) => Ok(told),
-        Err(AllocError) => Err(ReadError::NoMemory),
+    match Board::make(asked.alloc, asked.rows.len(), 0) {
+        Ok((board, desk, _)) => tell_at(&board, desk, asked),
+        Err(_) => Err(ReadError::NoMemory),
     }
 }

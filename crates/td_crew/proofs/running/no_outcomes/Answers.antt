@@ -3,16 +3,15 @@ use Rattle.std.proofs.Common.{subst}
 use Rattle.td_builder.specs.OutcomeLines.{FaultOf}
 use Rattle.td_builder.specs.declared.fault.OutcomesFault.{OutcomesFault}
 use Rattle.td_script.specs.Openings.{texts_of}
-use Rattle.td_script.proofs.WithoutJournal.{readable_without, stops_too}
+use Rattle.td_script.proofs.WithoutJournal.{readable_without}
 use Rattle.td_crew.specs.CrewEnds.{outcomes_of}
 use Rattle.td_crew.proofs.CrewRuns.{bad_unread}
 use Rattle.td_crew.proofs.running.no_outcomes.Goals as goal
 
 pub returns-in-Err-clause-only : goal.returns-in-Err-clause-only
 returns-in-Err-clause-only g c =
-    let x = texts_of c.args.inputs.now in
     λ read readable.
-    stops_too x c.in-Err.refused (c.in-Err.ensures.only (readable_without x readable))
+    c.in-Err.ensures.only (readable_without (texts_of c.args.inputs.now) readable)
 
 pub returns-in-BadLine-clause-only : goal.returns-in-BadLine-clause-only
 returns-in-BadLine-clause-only g c =

@@ -2,7 +2,9 @@
 use Rattle.std.proofs.Common.{◌∙◌, ap, sym, subst}
 use Rattle.td_core.specs.Phases.{NoneBuilt}
 use Rattle.td_core.proofs.Openings.{NoneBuilt-state_file}
-use Rattle.td_script.specs.OpeningInside.{of_state}
+use Rattle.td_rows.specs.declared.state_file.StateFault.{StateFault}
+use Rattle.td_script.specs.declared.input_fault.InputFault.TheVariants as fault
+use Rattle.td_script.specs.OpeningInside.{of_input}
 use Rattle.td_script.proofs.OnlyLaws.{missing_stops}
 use Rattle.td_script.proofs.OpeningLaws.{missing_key, none_built_over}
 use Rattle.td_script.proofs.opening.replaced.Goals as goal
@@ -32,7 +34,8 @@ returns-in-Err-overlay-clause-refused c = (
 
 pub returns-in-Err-clause-only : goal.returns-in-Err-clause-only
 returns-in-Err-clause-only c =
-    λ can. c.fault_of_state.ensures ∙ ap of_state (c.in-Err.ensures.only can.0 can.1)
+    λ can. c.fault_of.ensures
+    ∙ ap (λ (y : StateFault). of_input (fault.State y)) (c.in-Err.ensures.only can.0 can.1)
 
 pub returns-in-Err-overlay-clause-only : goal.returns-in-Err-overlay-clause-only
 returns-in-Err-overlay-clause-only c = λ can.
