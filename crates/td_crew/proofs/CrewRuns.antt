@@ -1,17 +1,17 @@
 -- How a crew's run ends that is refused.
-use Rattle.std.proofs.Common.{◌≡◌, ◌≢◌, ◌⊎◌, ℕ, List, [], ◌∷◌, ◌++◌, map, Option, Result, Err, inl}
+use Rattle.std.proofs.Common.{◌≡◌, ◌≢◌, ℕ, List, [], ◌∷◌, ◌++◌, map, Option, Err}
 use Rattle.std.proofs.Common.{inr, sym, ap, subst}
 use Rattle.std.specs.List.{AllByRecursion}
 use Rattle.std.specs.Io.KnownBytes.{Keeps}
 use Rattle.td_rows.specs.declared.key.Key.{Key}
 use Rattle.td_rows.specs.declared.outcome.Outcome.{Outcome}
 use Rattle.td_core.specs.History.{History}
-use Rattle.td_builder.specs.OutcomeLines.{AreOutcomes, IsFirstBad, OutcomeFits, outcome_line}
+use Rattle.td_builder.specs.OutcomeLines.{IsFirstBad, OutcomeFits, outcome_line}
 use Rattle.td_script.specs.declared.running.RunFault.{RunFault}
 use Rattle.td_script.specs.declared.running.RunFault.TheVariants as fault
 use Rattle.td_script.specs.Ends.{SaysBy}
-use Rattle.td_script.specs.OpeningInside.{IsRefusedBy, Stops}
-use Rattle.td_script.specs.Openings.{AreReadable, Texts}
+use Rattle.td_script.specs.OpeningInside.{IsRefusedBy}
+use Rattle.td_script.specs.Openings.{Texts}
 use Rattle.td_script.specs.Replies.{Setting}
 use Rattle.td_script.proofs.OnlyLaws.{stops_run}
 use Rattle.td_script.proofs.WithoutJournal.{refused_too}

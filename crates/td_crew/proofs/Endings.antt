@@ -1,22 +1,18 @@
 -- What a crew tells ends with the rows of the book with which its desk is closed.
 use Rattle.std.proofs.Common.{◌≡◌, ℕ, ◌+◌, ◌≤◌, List, ◌++◌, length, Option, Some, None, Result, Ok}
 use Rattle.std.proofs.Common.{Err, refl, sym, ap, ap₂, append_assoc, subst, ◌∙◌, arith}
-use Rattle.std.specs.Prelude.{IfErr, IfOk, OnOk, codes, string_bytes}
-use Rattle.std.specs.declared.alloc.AllocError.{AllocError}
+use Rattle.std.specs.Prelude.{IfOk, OnOk, codes, string_bytes}
 use Rattle.td_rows.specs.StateWriting.{state_text}
 use Rattle.td_rows.specs.Table.{Table}
 use Rattle.td_journal.specs.Entries.{standing}
-use Rattle.td_journal.specs.JournalFile.{IsJournalText}
 use Rattle.td_journal.specs.Replay.{Lawful}
 use Rattle.td_journal.specs.declared.entry.Mark.{Mark}
-use Rattle.td_journal.specs.declared.entry.Marked.{Marked}
 use Rattle.td_journal.specs.declared.journal_fault.ReadError.{ReadError}
-use Rattle.td_journal.specs.declared.journal_fault.ReadError.TheVariants as journal
 use Rattle.td_core.specs.History.{History, history_of, opened, rows_of}
 use Rattle.td_book.specs.Reopening.{given_back}
 use Rattle.td_desk.specs.Marks.{IsNamedJournal}
 use Rattle.td_script.specs.OpeningInside.{IsToldFrom}
-use Rattle.td_script.specs.Openings.{IsBegun, IsJournalIfGiven}
+use Rattle.td_script.specs.Openings.{IsBegun}
 use Rattle.td_script.specs.Replies.{Setting, ended}
 use Rattle.td_script.specs.declared.told.Told.{Told}
 use Rattle.td_crew.specs.CrewText.{EndsWithRows, HasBegun, HasRows, IsClosed, crew_tells, rows_told}
@@ -29,18 +25,6 @@ begun_none rows = (opened rows, refl)
 pub begun_named : (marks : List Mark) (rows : Table) (text : List ℕ)
     → IsNamedJournal marks rows text → HasBegun (Some text) rows
 begun_named marks rows text n = (given_back (history_of rows n.journal), (n.journal, n.reads, refl))
-
-pub begun_ok : {A E : Type 0} (marks : List Mark) (rows : Table) (text : List ℕ) (r : Result A E)
-    → OnOk r (IsNamedJournal marks rows text) → OnOk r (HasBegun (Some text) rows)
-begun_ok marks rows text (Ok a) named = begun_named marks rows text named
-begun_ok marks rows text (Err e) named = tt
-
--- over a journal's text, want of memory alone stops it
-pub reopen_only : {B : Type 0} (rows : Table) (text : List ℕ) (r : Result B ReadError)
-    → ((ms : List Marked) → IsJournalText rows text ms → IfErr r (λ e. e ≡ journal.NoMemory))
-    → IfErr r (λ e. IsJournalIfGiven rows (Some text) → e ≡ journal.NoMemory)
-reopen_only rows text (Ok b) only = tt
-reopen_only rows text (Err e) only = λ is. only is.0 is.1
 
 opening_begun : (given : Option (List ℕ)) (rows : Table) (h : History) → IsBegun given rows h
     → h.opening ≡ rows
@@ -84,22 +68,6 @@ ends_closed builders origin script told now closed few = record {
   ends = closed.text;
   few = omega (arith, closed.refused);
 }
-
-pub closed_ok : (origin : Table) (told mid : Told) (h : History) (r : Result Told AllocError)
-    → h.opening ≡ origin → string_bytes mid.text ≡ string_bytes told.text
-    → mid.refused ≤ told.refused + 1 → IfOk r (HasRows mid h)
-    → IfOk r (IsClosed origin told)
-closed_ok origin told mid h (Ok now) at same few rows =
-    rows_closed origin told mid now h at same few rows
-closed_ok origin told mid h (Err e) at same few rows = tt
-
-pub ends_ok : (builders : ℕ) (origin : Table) (script : List ℕ) (told : Told)
-    (r : Result Told AllocError) → IfOk r (IsClosed origin told)
-    → told.refused ≤ length script + builders + 1
-    → IfOk r (λ now. EndsWithRows builders origin script (string_bytes now.text) now.refused)
-ends_ok builders origin script told (Ok now) closed few =
-    ends_closed builders origin script told now closed few
-ends_ok builders origin script told (Err e) closed few = tt
 
 pub told_from : (builders : ℕ) (s : Setting) (given : Option (List ℕ)) (rows : Table)
     (lines : List ℕ) (told : Told) → HasBegun given rows

@@ -8,8 +8,6 @@ use Rattle.td_rows.specs.declared.outcome.Outcome.{Outcome}
 use Rattle.td_core.specs.History.{History}
 use Rattle.td_builder.specs.OutcomeLines.{AreOutcomes, IsFirstBad}
 use Rattle.td_script.specs.declared.inputs.Inputs.{Inputs}
-use Rattle.td_script.specs.declared.running.RunFault.{RunFault}
-use Rattle.td_script.specs.declared.running.RunFault.TheVariants as fault
 use Rattle.td_script.specs.declared.running.ScriptEnd.{ScriptEnd}
 use Rattle.td_script.specs.Ends.{AreFine, IsScriptText, MayStop, SaysBy}
 use Rattle.td_script.specs.OpeningInside.{IsRefusedBy, Stops}

@@ -4,7 +4,8 @@ ghost use Rattle.std.specs.Prelude.{IfSome};
 ghost use Rattle.td_rows.specs.Table.{Table};
 ghost use Rattle.td_book.specs.Desk.{Fixed};
 
-use std::alloc::{AllocError, Global};
+use crate::lines::Lines;
+use std::alloc::AllocError;
 use std::sync::Wait;
 use std::sync::ledger::Ledger;
 use td_desk::{Clerk, Desk, Named};
@@ -53,13 +54,14 @@ fn sweep<N: Named, C: Ledger, R: Wait>(
 // The report of the rows. The reports fit any book.
 fn report<N: Named, C: Ledger, T: Reports, R: Wait>(
     rt: &R,
-    alloc: Global,
     desk: &Desk<'_, N, C>,
-    reports: Option<&T>,
+    lines: &Lines<'_, '_, T>,
     out: &mut String,
 ) -> Result<bool, AllocError>
-    requires fits { IfSome reports (λ r. (t : Table) (f : Fixed) → T.fits r.now t f) }
+    requires fits { IfSome lines.now.reports (λ r. (t : Table) (f : Fixed) → T.fits r.now t f) }
 {
+    let alloc = lines.alloc;
+    let reports = lines.reports;
     desk.look(
         rt,
         |book| -> Result<bool, AllocError>
@@ -71,14 +73,13 @@ fn report<N: Named, C: Ledger, T: Reports, R: Wait>(
 /// Appends the answer to a request.
 pub fn ask<N: Named, C: Ledger, T: Reports, R: Wait>(
     rt: &R,
-    alloc: Global,
     desk: &Desk<'_, N, C>,
     clerk: &mut Clerk<C>,
-    reports: Option<&T>,
+    lines: &Lines<'_, '_, T>,
     request: &Request,
     out: &mut String,
 ) -> Result<bool, AllocError>
-    requires fits { IfSome reports (λ r. (t : Table) (f : Fixed) → T.fits r.now t f) }
+    requires fits { IfSome lines.now.reports (λ r. (t : Table) (f : Fixed) → T.fits r.now t f) }
 {
     match request {
         Request::Undo(n) => put_undo(out, *n, desk.undo(rt, clerk, *n)),
@@ -86,7 +87,7 @@ pub fn ask<N: Named, C: Ledger, T: Reports, R: Wait>(
         Request::Sweep => sweep(rt, desk, clerk, out),
         Request::Row(key) => desk.look(rt, |book| show_row(book, key, out)),
         Request::Entry(n) => desk.look(rt, |book| show_entry(book, *n, out)),
-        Request::Report => report(rt, alloc, desk, reports, out),
+        Request::Report => report(rt, desk, lines, out),
         Request::Journal => desk.look(rt, |book| show_journal(book, out)),
     }
 }

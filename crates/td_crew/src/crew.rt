@@ -14,6 +14,7 @@ ghost use Rattle.td_crew.specs.CrewText.{marks_begun};
 
 use crate::building::build;
 use crate::hired::{Hired, hire};
+use crate::lines::Lines;
 use crate::shift::Shift;
 use crate::told::tell_lines;
 use std::alloc::{AllocError, Global};
@@ -27,7 +28,6 @@ use td_book::Book;
 use td_builder::Builds;
 use td_desk::{Clerk, Desk, Named, PARTS};
 use td_journal::ReadError;
-use td_relation::Archs;
 use td_report::Transition;
 use td_rows::{Rows, rows_text};
 use td_script::{Asked, Reports, Staff, Told};
@@ -47,38 +47,17 @@ impl Staff for Crew {
         crew_tells crew.builders s h lines text refused };
 }
 
-// The lines that a clerk answers, and by what.
-#[derive(Drop)]
-struct Lines<'s, T: Reports> {
-    journal: Option<&'s str>,
-    suites: &'s [&'s str],
-    reports: Option<&'s T>,
-    script: &'s str,
-}
-
 // What is told of the lines; then the desk is shut.
 fn tell_all<N: Named, C: Ledger, T: Reports, R: Wait>(
     rt: &R,
-    alloc: Global,
     desk: &Desk<'_, N, C>,
     clerk: &mut Clerk<C>,
-    archs: &Archs<'_>,
-    asked: &Lines<'_, T>,
+    lines: &Lines<'_, '_, T>,
 ) -> Result<Told, AllocError>
-    requires fits { IfSome asked.now.reports (λ r. (t : Table) (f : Fixed) → T.fits r.now t f) }
-    requires small { length asked.now.script.now < 2 ^ 63 - 1 }
-    ensures { IfOk result (λ told. told.refused ≤ length asked.now.script.now + 1) }
+    requires fits { IfSome lines.now.reports (λ r. (t : Table) (f : Fixed) → T.fits r.now t f) }
+    ensures { IfOk result (λ told. told.refused ≤ length lines.now.script.now + 1) }
 {
-    let told = tell_lines(
-        rt,
-        alloc,
-        desk,
-        clerk,
-        archs,
-        asked.suites,
-        asked.reports,
-        asked.script,
-    );
+    let told = tell_lines(rt, desk, clerk, lines);
     desk.shut(rt);
     told
 }
@@ -92,32 +71,28 @@ fn tell_beside<
     R: Threads + Wait + Sync,
 >(
     rt: &R,
-    alloc: Global,
     shift: &Shift<'_, '_, N, C>,
     clerk: &mut Clerk<C>,
     hired: Vec<Hired<N>>,
     builds: &B,
-    archs: &Archs<'_>,
-    asked: &Lines<'_, T>,
+    lines: &Lines<'_, '_, T>,
 ) -> Result<Told, AllocError>
-    requires fits { IfSome asked.now.reports (λ r. (t : Table) (f : Fixed) → T.fits r.now t f) }
-    requires small { length asked.now.script.now < 2 ^ 63 - 1 }
-    ensures { IfOk result (λ told. told.refused ≤ length asked.now.script.now + 1) }
+    requires fits { IfSome lines.now.reports (λ r. (t : Table) (f : Fixed) → T.fits r.now t f) }
+    ensures { IfOk result (λ told. told.refused ≤ length lines.now.script.now + 1) }
 {
     thread::scope(
         thread::scope_env(),
         rt,
         |scope| -> Result<Told, AllocError>
-            requires { IfSome asked.now.reports (λ r. (t : Table) (f : Fixed) → T.fits r.now t f)
-                × (length asked.now.script.now < 2 ^ 63 - 1) }
-            ensures { IfOk result (λ told. told.refused ≤ length asked.entry.now.script.now + 1) }
+            requires { IfSome lines.now.reports (λ r. (t : Table) (f : Fixed) → T.fits r.now t f) }
+            ensures { IfOk result (λ told. told.refused ≤ length lines.entry.now.script.now + 1) }
         {
             for one in hired {
                 if scope.spawn(move || build(rt, shift, one, builds)).is_err() {
                     shift.miss();
                 }
             }
-            tell_all(rt, alloc, shift.desk, clerk, archs, asked)
+            tell_all(rt, shift.desk, clerk, lines)
         },
     )
 }
@@ -131,25 +106,22 @@ fn tell_in_shift<
     R: Threads + Wait + Sync,
 >(
     rt: &R,
-    alloc: Global,
     desk: &Desk<'_, N, C>,
     clerk: &mut Clerk<C>,
     seats: Vec<BuilderSeat>,
     builds: &B,
-    archs: &Archs<'_>,
-    asked: &Lines<'_, T>,
+    lines: &Lines<'_, '_, T>,
 ) -> Result<Told, AllocError>
     requires seats { All (λ s. s.table ≡ N.table) seats.items }
     requires few { length seats.items ≤ 64 }
-    requires fits { IfSome asked.now.reports (λ r. (t : Table) (f : Fixed) → T.fits r.now t f) }
-    requires small { length asked.now.script.now < 2 ^ 63 - 1 }
+    requires fits { IfSome lines.now.reports (λ r. (t : Table) (f : Fixed) → T.fits r.now t f) }
     ensures { IfOk result (λ told.
-        told.refused ≤ length asked.now.script.now + length seats.items + 1) }
+        told.refused ≤ length lines.now.script.now + length seats.items + 1) }
 {
     let builders = seats.len() as u64;
-    let hired = hire::<N>(alloc, seats)?;
+    let hired = hire::<N>(lines.alloc, seats)?;
     let shift = Shift::new(desk);
-    let mut told = tell_beside(rt, alloc, &shift, clerk, hired, builds, archs, asked)?;
+    let mut told = tell_beside(rt, &shift, clerk, hired, builds, lines)?;
     told.refused += shift.missed()?.min(builders);
     Ok(told)
 }
@@ -174,8 +146,19 @@ fn alone<C: Ledger>(alloc: Global, clerk: Clerk<C>) -> Result<Vec<Clerk<C>>, All
     Ok(clerks)
 }
 
-// Puts the rows behind with which the desk is closed. Where the clerk's receipts differ from the
-// book's changes, that is a refusal.
+// The book with which a desk is closed, and how many refusals that is: one where the receipts of
+// these clerks differ from the book's changes.
+fn closed<'a, N: Named, C: Ledger>(desk: Desk<'a, N, C>, clerks: Vec<Clerk<C>>) -> (Book<'a>, u64)
+    ensures opening { result.0.history.opening ≡ N.origin }
+    ensures few { result.1 ≤ 1 }
+{
+    match desk.close(clerks) {
+        Ok(book) => (book, 0),
+        Err(differ) => (differ.book, 1),
+    }
+}
+
+// Puts the rows behind with which the desk is closed.
 fn close<N: Named, C: Ledger>(
     alloc: Global,
     desk: Desk<'_, N, C>,
@@ -185,14 +168,11 @@ fn close<N: Named, C: Ledger>(
     requires room { told.refused < 2 ^ 64 - 1 }
     ensures { IfOk result (IsClosed N.origin told) }
 {
+    let clerks = alone(alloc, clerk)?;
+    let (book, refusals) = closed(desk, clerks);
     let mut told = told;
-    match desk.close(alone(alloc, clerk)?) {
-        Ok(book) => tell_rows(alloc, told, &book),
-        Err(differ) => {
-            told.refused += 1;
-            tell_rows(alloc, told, &differ.book)
-        }
-    }
+    told.refused += refusals;
+    tell_rows(alloc, told, &book)
 }
 
 // What a crew at this desk tells of a script.
@@ -204,25 +184,22 @@ fn tell_at<
     R: Threads + Wait + Sync,
 >(
     rt: &R,
-    alloc: Global,
     desk: Desk<'_, N, C>,
     clerk: Clerk<C>,
     seats: Vec<BuilderSeat>,
     builds: &B,
-    archs: &Archs<'_>,
-    asked: &Lines<'_, T>,
+    lines: &Lines<'_, '_, T>,
 ) -> Result<Told, AllocError>
     requires seats { All (λ s. s.table ≡ N.table) seats.items }
     requires few { length seats.items ≤ 64 }
-    requires fits { IfSome asked.now.reports (λ r. (t : Table) (f : Fixed) → T.fits r.now t f) }
-    requires small { length asked.now.script.now < 2 ^ 63 - 1 }
+    requires fits { IfSome lines.now.reports (λ r. (t : Table) (f : Fixed) → T.fits r.now t f) }
     ensures { IfOk result (λ told.
-        EndsWithRows (length seats.items) N.origin asked.now.script.now (string_bytes told.text)
+        EndsWithRows (length seats.items) N.origin lines.now.script.now (string_bytes told.text)
         told.refused) }
 {
     let mut clerk = clerk;
-    let told = tell_in_shift(rt, alloc, &desk, &mut clerk, seats, builds, archs, asked)?;
-    close(alloc, desk, clerk, told)
+    let told = tell_in_shift(rt, &desk, &mut clerk, seats, builds, lines)?;
+    close(lines.alloc, desk, clerk, told)
 }
 
 // The desk over these rows: before the first entry, or with the journal that is gone on with.
@@ -267,7 +244,6 @@ fn tell_named<
     R: Threads + Wait + Sync,
 >(
     rt: &R,
-    alloc: Global,
     board: Board,
     seat: DeskSeat,
     seats: Vec<BuilderSeat>,
@@ -275,38 +251,34 @@ fn tell_named<
     supply: Supply<'_>,
     blank: Blank,
     builds: &B,
-    archs: &Archs<'_>,
-    asked: &Lines<'_, T>,
+    lines: &Lines<'_, '_, T>,
 ) -> Result<Told, ReadError>
     requires board { board.table ≡ N.table }
     requires seat { seat.table ≡ N.table }
     requires seats { All (λ s. s.table ≡ N.table) seats.items }
     requires few { length seats.items ≤ 64 }
     requires origin { N.origin ≡ rows }
-    requires opened { N.opened ≡ marks_begun (option_map (λ s. s.now) asked.now.journal) }
+    requires opened { N.opened ≡ marks_begun (option_map (λ s. s.now) lines.now.journal) }
     requires fresh_seat { seat.desk ≡ new_desk (length rows) (length seat.desk.noted) }
     requires idle { NoneBuilt rows }
     requires fresh_supply { supply ≡ opened (stock_of supply) }
     requires ledger { (blank.name ≡ C.name) × (blank.parts ≡ C.parts) × (blank.parts ≡ 1024) }
-    requires fits { IfSome asked.now.reports (λ r. (t : Table) (f : Fixed) → T.fits r.now t f) }
-    requires small { length asked.now.script.now < 2 ^ 63 - 1 }
-    ensures begun { OnOk result (HasBegun (option_map (λ s. s.now) asked.now.journal) rows) }
+    requires fits { IfSome lines.now.reports (λ r. (t : Table) (f : Fixed) → T.fits r.now t f) }
+    ensures begun { OnOk result (HasBegun (option_map (λ s. s.now) lines.now.journal) rows) }
     ensures told { IfOk result (λ told.
-        EndsWithRows (length seats.items) rows asked.now.script.now (string_bytes told.text)
+        EndsWithRows (length seats.items) rows lines.now.script.now (string_bytes told.text)
         told.refused) }
-    ensures fault { IfErr result (IsJournalFault rows (option_map (λ s. s.now) asked.now.journal)) }
+    ensures fault { IfErr result (IsJournalFault rows (option_map (λ s. s.now) lines.now.journal)) }
     ensures only { IfErr result (λ fault.
-        IsJournalIfGiven rows (option_map (λ s. s.now) asked.now.journal)
+        IsJournalIfGiven rows (option_map (λ s. s.now) lines.now.journal)
         → fault ≡ ReadError.NoMemory) }
 {
-    let journal = asked.journal;
-    let (desk, clerk) = match begin::<N, C>(alloc, board, seat, rows, supply, blank, journal) {
-        Ok(made) => made,
-        Err(fault) => return Err(fault),
-    };
-    match tell_at(rt, alloc, desk, clerk, seats, builds, archs, asked) {
-        Ok(told) => Ok(told),
-        Err(AllocError) => Err(ReadError::NoMemory),
+    match begin::<N, C>(lines.alloc, board, seat, rows, supply, blank, lines.journal) {
+        Ok((desk, clerk)) => match tell_at(rt, desk, clerk, seats, builds, lines) {
+            Ok(told) => Ok(told),
+            Err(AllocError) => Err(ReadError::NoMemory),
+        },
+        Err(fault) => Err(fault),
     }
 }
 
@@ -330,14 +302,15 @@ pub fn tell_script<B: Builds + Sync, R: Threads + Wait + Sync>(
     };
     let suites = [asked.suite];
     let lines = Lines {
-        journal: asked.journal,
+        alloc: asked.alloc,
+        archs: asked.archive.archs(),
         suites: suites.as_slice(),
         reports: asked.reports,
+        journal: asked.journal,
         script: asked.script,
     };
     tell_named::<Brand, Brand, B, Transition<'_, '_, '_, '_>, R>(
         rt,
-        asked.alloc,
         board,
         seat,
         seats,
@@ -345,7 +318,6 @@ pub fn tell_script<B: Builds + Sync, R: Threads + Wait + Sync>(
         supply,
         Blank::new(PARTS),
         builds,
-        asked.archive.archs(),
         &lines,
     )
 }

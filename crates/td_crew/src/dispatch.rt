@@ -4,26 +4,24 @@ ghost use Rattle.td_rows.specs.Table.{Table};
 ghost use Rattle.td_book.specs.Desk.{Fixed};
 
 use crate::answering::{ask, command};
-use std::alloc::{AllocError, Global};
+use crate::lines::Lines;
+use std::alloc::AllocError;
 use std::sync::Wait;
 use std::sync::ledger::Ledger;
 use td_desk::{Clerk, Desk, Named};
-use td_relation::Archs;
 use td_script::{Reports, Said, put_refusal, read_line};
 use td_wbread::{CommandFault, read_command};
 
 // The answer to a line that is typed.
-fn type_in<N: Named, C: Ledger, R: Wait>(
+fn type_in<N: Named, C: Ledger, T: Reports, R: Wait>(
     rt: &R,
-    alloc: Global,
     desk: &Desk<'_, N, C>,
     clerk: &mut Clerk<C>,
-    archs: &Archs<'_>,
-    suites: &[&str],
+    lines: &Lines<'_, '_, T>,
     line: &str,
     out: &mut String,
 ) -> Result<bool, AllocError> {
-    match read_command(alloc, line, archs, suites) {
+    match read_command(lines.alloc, line, lines.archs, lines.suites) {
         Ok(typed) => command(rt, desk, clerk, &typed, out),
         Err(CommandFault::Wrong(fault, _)) => {
             put_refusal(out, fault.name())?;
@@ -36,24 +34,21 @@ fn type_in<N: Named, C: Ledger, R: Wait>(
 /// Appends the answer to a line. Answers whether it is refused.
 pub fn answer<N: Named, C: Ledger, T: Reports, R: Wait>(
     rt: &R,
-    alloc: Global,
     desk: &Desk<'_, N, C>,
     clerk: &mut Clerk<C>,
-    archs: &Archs<'_>,
-    suites: &[&str],
-    reports: Option<&T>,
+    lines: &Lines<'_, '_, T>,
     line: &str,
     out: &mut String,
 ) -> Result<bool, AllocError>
-    requires fits { IfSome reports (λ r. (t : Table) (f : Fixed) → T.fits r.now t f) }
+    requires fits { IfSome lines.now.reports (λ r. (t : Table) (f : Fixed) → T.fits r.now t f) }
 {
-    match read_line(alloc, line)? {
+    match read_line(lines.alloc, line)? {
         Said::Skipped => Ok(false),
-        Said::Asked(request) => ask(rt, alloc, desk, clerk, reports, &request, out),
+        Said::Asked(request) => ask(rt, desk, clerk, lines, &request, out),
         Said::Bad => {
             put_refusal(out, "BadLine")?;
             Ok(true)
         }
-        Said::Typed => type_in(rt, alloc, desk, clerk, archs, suites, line, out),
+        Said::Typed => type_in(rt, desk, clerk, lines, line, out),
     }
 }

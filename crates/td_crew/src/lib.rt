@@ -13,6 +13,7 @@ mod building;
 mod crew;
 mod dispatch;
 mod hired;
+mod lines;
 mod running;
 mod shift;
 mod told;

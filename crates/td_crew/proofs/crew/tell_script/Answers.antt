@@ -1,5 +1,5 @@
 -- The seats of a new board are those of its builders, as many as the crew has.
-use Rattle.std.proofs.Common.{◌≡◌, ◌≤◌, ℕ, IfOk, length, string_bytes, subst, sym}
+use Rattle.std.proofs.Common.{◌≤◌, ℕ, IfOk, length, string_bytes, subst, sym}
 use Rattle.td_board.proofs.NewSeats.{desk_at, length-seats, seats_at}
 use Rattle.td_script.proofs.OpeningLaws.{fresh_supply}
 use Rattle.td_script.specs.Asking.{journal_asked, setting_asked}

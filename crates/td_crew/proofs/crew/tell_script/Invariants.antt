@@ -8,7 +8,7 @@ ghosts-tell_named-N-Named g a =
     record {
       table = a.board.table;
       origin = a.rows;
-      opened = marks_begun (option_map (λ s. s.now) a.asked.now.journal);
+      opened = marks_begun (option_map (λ s. s.now) a.lines.now.journal);
     }
 
 abbrev pub ghosts-tell_named-C-Ledger : goal.ghosts-tell_named-C-Ledger

@@ -5,7 +5,7 @@ use Rattle.td_crew.proofs.told.tell_lines.Given as goal
 
 -- each line that was answered was refused at most once
 abbrev pub invariant-loop-rest : goal.invariant-loop-rest
-invariant-loop-rest g l = l.told.refused + left_len l.rest ≤ length l.fn.script + 1
+invariant-loop-rest g l = l.told.refused + left_len l.rest ≤ length l.fn.lines.script.now + 1
 
 abbrev pub decreases-loop-rest : goal.decreases-loop-rest
 decreases-loop-rest g l = left_len l.rest

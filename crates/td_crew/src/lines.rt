@@ -1,0 +1,20 @@
+//! The lines of a script, and by what a clerk answers them.
+ghost use Rattle.std.specs.Prelude.{◌<◌, ◌^◌, ◌-◌, length};
+
+use std::alloc::Global;
+use td_relation::Archs;
+use td_script::Reports;
+
+/// The lines that a clerk answers, and by what. That the reports fit any book is asked of each
+/// call (`fits`): for a trait's own fact no ghost field can say that it is one.
+#[derive(Drop)]
+pub struct Lines<'s, 'a, T: Reports> {
+    pub alloc: Global,
+    pub archs: &'s Archs<'a>,
+    pub suites: &'s [&'s str],
+    pub reports: Option<&'s T>,
+    /// The text of the journal that is gone on with.
+    pub journal: Option<&'s str>,
+    pub script: &'s str,
+    ghost small: { length script.now < 2 ^ 63 - 1 },
+}
