@@ -1,6 +1,6 @@
 //! A crew: a clerk beside builders.
-ghost use Rattle.std.specs.Prelude.{◌≡◌, ◌+◌, ◌-◌, ◌≤◌, ◌<◌, ◌^◌, ◌∷◌, [], All, IfErr, IfOk, IfSome};
-ghost use Rattle.std.specs.Prelude.{OnOk, length, option_map, string_bytes};
+ghost use Rattle.std.specs.Prelude.{◌≡◌, ◌+◌, ◌-◌, ◌≤◌, ◌<◌, ◌^◌, ◌∷◌, [], All, IfErr, IfOk};
+ghost use Rattle.std.specs.Prelude.{IfSome, OnOk, length, option_map, string_bytes};
 ghost use Rattle.td_board.specs.Knowledge.{new_desk};
 ghost use Rattle.td_core.specs.Phases.{NoneBuilt};
 ghost use Rattle.td_rows.specs.Table.{Table};

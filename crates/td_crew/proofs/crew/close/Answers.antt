@@ -13,5 +13,6 @@ returns g c =
       refused = c.args.told.refused + c.closed-book.result.1;
     } in
     IfOk-weaker c.tell_rows.result _ _
-    (λ now. rows_closed g.N.Named.origin c.args.told mid now book.history c.closed-book.ensures.opening
-    refl (omega (arith, c.closed-book.ensures.few))) c.tell_rows.ensures
+    (λ now. rows_closed g.N.Named.origin c.args.told mid now book.history
+    c.closed-book.ensures.opening refl (omega (arith, c.closed-book.ensures.few)))
+    c.tell_rows.ensures
