@@ -5,8 +5,9 @@ use std::alloc::Global;
 use td_relation::Archs;
 use td_script::Reports;
 
-/// The lines that a clerk answers, and by what. That the reports fit any book is asked of each
-/// call (`fits`): for a trait's own fact no ghost field can say that it is one.
+/// The lines that a clerk answers, and by what. That the reports fit any book is no field of it:
+/// what `fits` says is left to `Reports`, and a ghost field has to be known as a proposition. So
+/// each call asks for it.
 #[derive(Drop)]
 pub struct Lines<'s, 'a, T: Reports> {
     pub alloc: Global,
