@@ -34,7 +34,7 @@ pub arrive_fixed : (k : Key) (old new : BookModel) (r : Result ℕ ArriveRefusal
 arrive_fixed k old new (Ok n) is = ap (λ (b : BookModel). b.fixed) is.3
 arrive_fixed k old new (Err arrivals.NoSuchRow) is = all old new is.1
 arrive_fixed k old new (Err (arrivals.DoesNotApply s)) is = all old new is.4
-arrive_fixed k old new (Err arrivals.NoMemory) is = all old new is
+arrive_fixed k old new (Err arrivals.NoMemory) is = all old new is.3
 
 pub sweep_fixed : (old new : BookModel) (r : Result (Option ℕ) AllocError) → SweepOutcome old new r
     → new.fixed ≡ old.fixed
@@ -48,14 +48,8 @@ start_fixed b (Holding i) old new (Ok job) is = is.0.fixed
 start_fixed b (Holding i) old new (Err starts.Mismatch) is = is.fixed
 start_fixed b (Holding i) old new (Err starts.NothingHeld) is = absurd is
 start_fixed b (Holding i) old new (Err starts.NoMemory) is = all old new is
-start_fixed b Free old new (Ok job) is = all old new is.1
-start_fixed b Free old new (Err starts.Mismatch) is = all old new is.1
-start_fixed b Free old new (Err starts.NothingHeld) is = all old new is.1
-start_fixed b Free old new (Err starts.NoMemory) is = all old new is
-start_fixed b (Finished i c) old new (Ok job) is = all old new is.1
-start_fixed b (Finished i c) old new (Err starts.Mismatch) is = all old new is.1
-start_fixed b (Finished i c) old new (Err starts.NothingHeld) is = all old new is.1
-start_fixed b (Finished i c) old new (Err starts.NoMemory) is = all old new is
+start_fixed b Free old new r is = all old new is.1
+start_fixed b (Finished i c) old new r is = all old new is.1
 
 held_fixed : (i : ℕ) (o : Outcome) (v w : BuilderView) (old new : BookModel)
     (r : Result ℕ FinishRefusal) → FinishHeld i o v w old new r → new.fixed ≡ old.fixed
@@ -68,7 +62,7 @@ again_fixed : (i : ℕ) (c : OutcomeCode) (o : Outcome) (b : ℕ) (old new : Boo
     (r : Result ℕ FinishRefusal) → FinishAgain i c o b old new r → new.fixed ≡ old.fixed
 again_fixed i c o b old new (Ok n) is = is.1.fixed
 again_fixed i c o b old new (Err finishes.NothingHeld) is = all old new is.1
-again_fixed i c o b old new (Err finishes.NoMemory) is = all old new is
+again_fixed i c o b old new (Err finishes.NoMemory) is = all old new is.1
 again_fixed i c o b old new (Err finishes.Mismatch) is = all old new is.1
 
 pub finish_fixed : (hand : Hand) (o : Outcome) (v w : BuilderView) (old new : BookModel)

@@ -14,8 +14,8 @@ use Rattle.td_book.specs.declared.arriving.ArriveRefusal.{ArriveRefusal}
 use Rattle.td_book.specs.declared.arriving.ArriveRefusal.TheVariants.{NoSuchRow, DoesNotApply}
 use Rattle.td_book.specs.declared.arriving.ArriveRefusal.TheVariants.{NoMemory}
 
--- the entry on the key, where its row has been built or uploaded; else, and for want of memory,
--- nothing
+-- the entry on the key, where its row has been built or uploaded; else nothing, and nothing where
+-- memory is wanting for that entry
 abbrev pub ArriveOutcome : Key → BookModel → BookModel → Result ℕ ArriveRefusal → Type 0
 ArriveOutcome k old new (Ok n) =
     (row : Row) × (row_of (rows_of old.history) k ≡ Some row) × (applies Arrive row ≡ true)
@@ -26,7 +26,9 @@ ArriveOutcome k old new (Err NoSuchRow) = (row_of (rows_of old.history) k ≡ No
 ArriveOutcome k old new (Err (DoesNotApply s)) =
     (row : Row) × (row_of (rows_of old.history) k ≡ Some row) × (applies Arrive row ≡ false)
     × (s ≡ row.state) × (new ≡ old)
-ArriveOutcome k old new (Err NoMemory) = new ≡ old
+ArriveOutcome k old new (Err NoMemory) =
+    (row : Row) × (row_of (rows_of old.history) k ≡ Some row) × (applies Arrive row ≡ true)
+    × (new ≡ old)
 
 -- the keys of the rows that the offers free now
 abbrev pub freed_now : BookModel → List Key

@@ -80,13 +80,13 @@ pub record Noticed (i b : ℕ) (is : Bool) (old new : BookModel) : Type 0 where
   pub answers : is ≡ is_built_at (rows_of new.history) key b
   pub fixed : new.fixed ≡ old.fixed
 
--- with no row in hand nothing is started; else the builder has the row, and its job is of the rows
--- as they are then
+-- with no row in hand nothing is started, and no memory is taken; else the builder has the row, and
+-- its job is of the rows as they are then
 abbrev pub StartOutcome : ℕ → Hand → BookModel → BookModel → Result Job StartRefusal → Type 0
 StartOutcome b (Holding i) old new (Ok job) = Noticed i b true old new × IsJobAt i old job
 StartOutcome b (Holding i) old new (Err Mismatch) = Noticed i b false old new
 StartOutcome b (Holding i) old new (Err NothingHeld) = ⊥
-StartOutcome b hand old new (Err NoMemory) = new ≡ old
+StartOutcome b (Holding i) old new (Err NoMemory) = new ≡ old
 StartOutcome b hand old new result = (result ≡ Err NothingHeld) × (new ≡ old)
 
 -- ---- a finish

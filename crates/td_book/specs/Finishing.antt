@@ -60,13 +60,14 @@ pub record Settles (i b : ℕ) (o : Outcome) (old new : BookModel) (n : ℕ) : T
 abbrev pub HasRowOf : Bool → ℕ → ℕ → BookModel → Type 0
 HasRowOf is i b m = (key : Key) × IsKeyOf m i key × (is_built_at (rows_of m.history) key b ≡ is)
 
--- a finish once more, by a hand whose build ended with this code: a settled one holds nothing, and
--- one of another code changes nothing
+-- a finish once more, by a hand whose build ended with this code: a settled one holds nothing, one
+-- of another code changes nothing, and memory is taken for one that isn't settled and has the code
 abbrev pub FinishAgain : ℕ → OutcomeCode → Outcome → ℕ → BookModel → BookModel
     → Result ℕ FinishRefusal → Type 0
 FinishAgain i c o b old new (Ok n) = (code_of o ≡ c) × Settles i b o old new n
 FinishAgain i c o b old new (Err NothingHeld) = HasRowOf false i b old × (new ≡ old)
-FinishAgain i c o b old new (Err NoMemory) = new ≡ old
+FinishAgain i c o b old new (Err NoMemory) =
+    HasRowOf true i b old × (new ≡ old) × (code_of o ≡ c)
 FinishAgain i c o b old new (Err Mismatch) = HasRowOf true i b old × (new ≡ old)
 
 -- by what the hand has

@@ -65,7 +65,7 @@ arrivals_are_steps w k old new (Ok n) sees o = (
 arrivals_are_steps w k old new (Err NoSuchRow) sees o = ([], refl, idle-on w old new sees o.1)
 arrivals_are_steps w k old new (Err (DoesNotApply s)) sees o =
     ([], refl, idle-on w old new sees o.4)
-arrivals_are_steps w k old new (Err NoRoom) sees o = ([], refl, idle-on w old new sees o)
+arrivals_are_steps w k old new (Err NoRoom) sees o = ([], refl, idle-on w old new sees o.3)
 
 -- ---- 2. sweeps
 

@@ -200,14 +200,8 @@ start-keeps b (Holding i) old new (Ok job) o = noticed-keeps i b true old new o.
 start-keeps b (Holding i) old new (Err starts.Mismatch) o = noticed-keeps i b false old new o
 start-keeps b (Holding i) old new (Err starts.NothingHeld) o = absurd o
 start-keeps b (Holding i) old new (Err starts.NoMemory) o = stays old new o
-start-keeps b Free old new (Ok job) o = stays old new o.1
-start-keeps b Free old new (Err starts.Mismatch) o = stays old new o.1
-start-keeps b Free old new (Err starts.NothingHeld) o = stays old new o.1
-start-keeps b Free old new (Err starts.NoMemory) o = stays old new o
-start-keeps b (Finished i c) old new (Ok job) o = stays old new o.1
-start-keeps b (Finished i c) old new (Err starts.Mismatch) o = stays old new o.1
-start-keeps b (Finished i c) old new (Err starts.NothingHeld) o = stays old new o.1
-start-keeps b (Finished i c) old new (Err starts.NoMemory) o = stays old new o
+start-keeps b Free old new r o = stays old new o.1
+start-keeps b (Finished i c) old new r o = stays old new o.1
 
 finish-keeps : (hand : Hand) (o : Outcome) (v u : BuilderView) (old new : BookModel)
     (r : Result ℕ FinishRefusal) → FinishOutcome hand o v u old new r → Keeps old new
@@ -229,7 +223,7 @@ finish-keeps (Finished i c) o v u old new (Ok n) is =
     (grows-entry old.history e) s.history) s.fixed
 finish-keeps (Finished i c) o v u old new (Err finishes.Mismatch) is = stays old new is.0.1
 finish-keeps (Finished i c) o v u old new (Err finishes.NothingHeld) is = stays old new is.0.1
-finish-keeps (Finished i c) o v u old new (Err finishes.NoMemory) is = stays old new is.0
+finish-keeps (Finished i c) o v u old new (Err finishes.NoMemory) is = stays old new is.0.1
 finish-keeps Free o v u old new (Ok n) is = stays old new is.1
 finish-keeps Free o v u old new (Err finishes.Mismatch) is = stays old new is.1
 finish-keeps Free o v u old new (Err finishes.NothingHeld) is = stays old new is.1
@@ -252,7 +246,7 @@ does-keep (arrive k (Ok n)) old new other d =
     entered-keeps old new (record { kind = kinds.Arrive; keys = k ∷ [] }) d.3
 does-keep (arrive k (Err arrivals.NoSuchRow)) old new other d = stays old new d.1
 does-keep (arrive k (Err (arrivals.DoesNotApply s))) old new other d = stays old new d.4
-does-keep (arrive k (Err arrivals.NoMemory)) old new other d = stays old new d
+does-keep (arrive k (Err arrivals.NoMemory)) old new other d = stays old new d.3
 does-keep (sweep (Ok None)) old new other d = stays old new d.1
 does-keep (sweep (Ok (Some n))) old new other d =
     entered-keeps old new (record { kind = kinds.Sweep; keys = freed_now old }) d.1

@@ -76,20 +76,8 @@ starts_are_steps w b (Holding i) old new (Err starts.Mismatch) sees o =
 starts_are_steps w b (Holding i) old new (Err starts.NothingHeld) sees o = absurd o
 starts_are_steps w b (Holding i) old new (Err starts.NoMemory) sees o =
     ([], refl, idle-on w old new sees o)
-starts_are_steps w b Free old new (Ok job) sees o = ([], refl, idle-on w old new sees o.1)
-starts_are_steps w b Free old new (Err starts.Mismatch) sees o =
-    ([], refl, idle-on w old new sees o.1)
-starts_are_steps w b Free old new (Err starts.NothingHeld) sees o =
-    ([], refl, idle-on w old new sees o.1)
-starts_are_steps w b Free old new (Err starts.NoMemory) sees o =
-    ([], refl, idle-on w old new sees o)
-starts_are_steps w b (Finished i c) old new (Ok job) sees o = ([], refl, idle-on w old new sees o.1)
-starts_are_steps w b (Finished i c) old new (Err starts.Mismatch) sees o =
-    ([], refl, idle-on w old new sees o.1)
-starts_are_steps w b (Finished i c) old new (Err starts.NothingHeld) sees o =
-    ([], refl, idle-on w old new sees o.1)
-starts_are_steps w b (Finished i c) old new (Err starts.NoMemory) sees o =
-    ([], refl, idle-on w old new sees o)
+starts_are_steps w b Free old new r sees o = ([], refl, idle-on w old new sees o.1)
+starts_are_steps w b (Finished i c) old new r sees o = ([], refl, idle-on w old new sees o.1)
 
 -- ---- 2. a finish
 
@@ -199,7 +187,7 @@ finishes_are_steps w (Finished i c) o v u old new (Err finishes.Mismatch) sees i
 finishes_are_steps w (Finished i c) o v u old new (Err finishes.NothingHeld) sees is =
     ([], refl, idle-on w old new sees is.0.1)
 finishes_are_steps w (Finished i c) o v u old new (Err finishes.NoMemory) sees is =
-    ([], refl, idle-on w old new sees is.0)
+    ([], refl, idle-on w old new sees is.0.1)
 finishes_are_steps w Free o v u old new (Ok n) sees is = ([], refl, idle-on w old new sees is.1)
 finishes_are_steps w Free o v u old new (Err finishes.Mismatch) sees is =
     ([], refl, idle-on w old new sees is.1)

@@ -161,14 +161,8 @@ start-sound b (Holding i) old new (Ok job) o s = noticed-sound i b true old new 
 start-sound b (Holding i) old new (Err starts.Mismatch) o s = noticed-sound i b false old new o s
 start-sound b (Holding i) old new (Err starts.NothingHeld) o s = absurd o
 start-sound b (Holding i) old new (Err starts.NoMemory) o s = same-book old new s o
-start-sound b Free old new (Ok job) o s = same-book old new s o.1
-start-sound b Free old new (Err starts.Mismatch) o s = same-book old new s o.1
-start-sound b Free old new (Err starts.NothingHeld) o s = same-book old new s o.1
-start-sound b Free old new (Err starts.NoMemory) o s = same-book old new s o
-start-sound b (Finished i c) old new (Ok job) o s = same-book old new s o.1
-start-sound b (Finished i c) old new (Err starts.Mismatch) o s = same-book old new s o.1
-start-sound b (Finished i c) old new (Err starts.NothingHeld) o s = same-book old new s o.1
-start-sound b (Finished i c) old new (Err starts.NoMemory) o s = same-book old new s o
+start-sound b Free old new r o s = same-book old new s o.1
+start-sound b (Finished i c) old new r o s = same-book old new s o.1
 
 finish-sound : (hand : Hand) (o : Outcome) (v u : BuilderView) (old new : BookModel)
     (r : Result ℕ FinishRefusal) → FinishOutcome hand o v u old new r → Sound old.history
@@ -191,7 +185,7 @@ finish-sound (Finished i c) o v u old new (Ok n) is s =
 finish-sound (Finished i c) o v u old new (Err finishes.Mismatch) is s = same-book old new s is.0.1
 finish-sound (Finished i c) o v u old new (Err finishes.NothingHeld) is s =
     same-book old new s is.0.1
-finish-sound (Finished i c) o v u old new (Err finishes.NoMemory) is s = same-book old new s is.0
+finish-sound (Finished i c) o v u old new (Err finishes.NoMemory) is s = same-book old new s is.0.1
 finish-sound Free o v u old new (Ok n) is s = same-book old new s is.1
 finish-sound Free o v u old new (Err finishes.Mismatch) is s = same-book old new s is.1
 finish-sound Free o v u old new (Err finishes.NothingHeld) is s = same-book old new s is.1
@@ -216,7 +210,7 @@ does-sound (arrive k (Ok n)) old new d s =
     (AppliesOn-one (rows_of old.history) kinds.Arrive k d.0 d.1 d.2) s
 does-sound (arrive k (Err arrivals.NoSuchRow)) old new d s = same-book old new s d.1
 does-sound (arrive k (Err (arrivals.DoesNotApply why))) old new d s = same-book old new s d.4
-does-sound (arrive k (Err arrivals.NoMemory)) old new d s = same-book old new s d
+does-sound (arrive k (Err arrivals.NoMemory)) old new d s = same-book old new s d.3
 does-sound (sweep (Ok None)) old new d s = same-book old new s d.1
 does-sound (sweep (Ok (Some n))) old new d s =
     entry-sound old new (record { kind = kinds.Sweep; keys = freed_now old }) d.1
