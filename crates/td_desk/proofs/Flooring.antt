@@ -12,7 +12,6 @@ use Rattle.td_board.specs.Knowledge.{with_finish}
 use Rattle.td_core.specs.History.{rows_of}
 use Rattle.td_book.specs.declared.starting.Job.{Job}
 use Rattle.td_book.specs.declared.starting.StartRefusal.{StartRefusal}
-use Rattle.td_book.specs.declared.starting.StartRefusal.TheVariants as starts
 use Rattle.td_book.specs.declared.finishing.FinishRefusal.{FinishRefusal}
 use Rattle.td_book.specs.declared.finishing.FinishRefusal.TheVariants as finishes
 use Rattle.td_book.specs.Building.{StartOutcome}
@@ -31,10 +30,8 @@ by_hand table opening b Free old new job of is = absurd (let e = is.0 in cc)
 by_hand table opening b (Finished i c) old new job of is = absurd (let e = is.0 in cc)
 
 pub started : (table : TableId) (opening : Table) (s : BuilderModel) (r : Result Job StartRefusal)
-    → (r ≡ Err starts.NoMemory) ⊎ Starting s table opening r
-    → IfOk r (IsStarted (MayBeJob table opening) s)
-started table opening s (Ok job) (inl e) = absurd (cc)
-started table opening s (Ok job) (inr (old, new, of, is)) =
+    → Starting s table opening r → IfOk r (IsStarted (MayBeJob table opening) s)
+started table opening s (Ok job) (old, new, of, is) =
     by_hand table opening s.builder.number s.builder.hand old new job of is
 started table opening s (Err e) w = tt
 
@@ -68,7 +65,9 @@ refused_held o s t i old new (Err finishes.Mismatch) hand at (is, seen, was) = �
 pub finished : (table : TableId) (opening : Table) (o : Outcome) (s t : BuilderModel)
     (r : Result ℕ FinishRefusal) → IsHolding s → t.table ≡ s.table
     → Finishing o s t table opening r → OnOk r (IsFinished (code_of o) s t)
-finished table opening o s t r (i, hand) at (old, new, of, is) =
+finished table opening o s t r (i, hand) at (old, new, of, inl (e, busy, all, same)) =
+    subst (λ x. OnOk x (IsFinished (code_of o) s t)) (sym e) tt
+finished table opening o s t r (i, hand) at (old, new, of, inr is) =
     let f : FinishOutcome (Holding i) o s.builder t.builder old new r =
     subst (λ h. FinishOutcome h o s.builder t.builder old new r) hand is in
     finished_held o s t i old new r hand at f
@@ -76,7 +75,9 @@ finished table opening o s t r (i, hand) at (old, new, of, is) =
 pub kept_or_finished : (table : TableId) (opening : Table) (o : Outcome) (s t : BuilderModel)
     (r : Result ℕ FinishRefusal) → IsHolding s → t.table ≡ s.table
     → Finishing o s t table opening r → OnErr r ((t ≡ s) ⊎ IsFinished (code_of o) s t)
-kept_or_finished table opening o s t r (i, hand) at (old, new, of, is) =
+kept_or_finished table opening o s t r (i, hand) at (old, new, of, inl (e, busy, all, same)) =
+    subst (λ x. OnErr x ((t ≡ s) ⊎ IsFinished (code_of o) s t)) (sym e) (inl (same_seat s t at same))
+kept_or_finished table opening o s t r (i, hand) at (old, new, of, inr is) =
     let f : FinishOutcome (Holding i) o s.builder t.builder old new r =
     subst (λ h. FinishOutcome h o s.builder t.builder old new r) hand is in
     refused_held o s t i old new r hand at f

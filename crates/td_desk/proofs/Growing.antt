@@ -109,7 +109,7 @@ pub arrive_kept : (os : List Mark) (k : Key) (e : ArriveRefusal) (old new : Book
     → Kept os old new 1
 arrive_kept os k arrivals.NoSuchRow old new still is = unchanged os old new 1 still is.1
 arrive_kept os k (arrivals.DoesNotApply s) old new still is = unchanged os old new 1 still is.4
-arrive_kept os k arrivals.NoMemory old new still is = unchanged os old new 1 still is
+arrive_kept os k arrivals.NoMemory old new still is = unchanged os old new 1 still is.3
 
 pub sweep_grown : (os : List Mark) (n : ℕ) (old new : BookModel)
     → still_undone old.history.journal os ≡ true → SweepOutcome old new (Ok (Some n))
@@ -145,17 +145,8 @@ start_kept os b (Holding i) old new (Err starts.Mismatch) still is =
     noticed os i b false old new still is
 start_kept os b (Holding i) old new (Err starts.NothingHeld) still is = absurd is
 start_kept os b (Holding i) old new (Err starts.NoMemory) still is = unchanged os old new 1 still is
-start_kept os b Free old new (Ok job) still is = unchanged os old new 1 still is.1
-start_kept os b Free old new (Err starts.Mismatch) still is = unchanged os old new 1 still is.1
-start_kept os b Free old new (Err starts.NothingHeld) still is = unchanged os old new 1 still is.1
-start_kept os b Free old new (Err starts.NoMemory) still is = unchanged os old new 1 still is
-start_kept os b (Finished i c) old new (Ok job) still is = unchanged os old new 1 still is.1
-start_kept os b (Finished i c) old new (Err starts.Mismatch) still is =
-    unchanged os old new 1 still is.1
-start_kept os b (Finished i c) old new (Err starts.NothingHeld) still is =
-    unchanged os old new 1 still is.1
-start_kept os b (Finished i c) old new (Err starts.NoMemory) still is =
-    unchanged os old new 1 still is
+start_kept os b Free old new r still is = unchanged os old new 1 still is.1
+start_kept os b (Finished i c) old new r still is = unchanged os old new 1 still is.1
 
 more_room : (os : List Mark) (old new : BookModel) → Kept os old new 1 → Kept os old new 2
 more_room os old new k =
@@ -188,7 +179,7 @@ again_kept os i c o b old new (Ok n) still is =
     (ap (λ (x : History). x.journal) s.history)))
 again_kept os i c o b old new (Err finishes.NothingHeld) still is =
     unchanged os old new 2 still is.1
-again_kept os i c o b old new (Err finishes.NoMemory) still is = unchanged os old new 2 still is
+again_kept os i c o b old new (Err finishes.NoMemory) still is = unchanged os old new 2 still is.1
 again_kept os i c o b old new (Err finishes.Mismatch) still is = unchanged os old new 2 still is.1
 
 pub finish_kept : (os : List Mark) (hand : Hand) (o : Outcome) (v w : BuilderView)

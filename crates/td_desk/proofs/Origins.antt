@@ -52,7 +52,7 @@ pub arrive_origin : (k : Key) (old new : BookModel) (r : Result ℕ ArriveRefusa
 arrive_origin k old new (Ok n) is = ap origin is.3
 arrive_origin k old new (Err arrivals.NoSuchRow) is = all old new is.1
 arrive_origin k old new (Err (arrivals.DoesNotApply s)) is = all old new is.4
-arrive_origin k old new (Err arrivals.NoMemory) is = all old new is
+arrive_origin k old new (Err arrivals.NoMemory) is = all old new is.3
 
 pub sweep_origin : (old new : BookModel) (r : Result (Option ℕ) AllocError) → SweepOutcome old new r
     → origin new ≡ origin old
@@ -71,14 +71,8 @@ start_origin b (Holding i) old new (Ok job) is = noticed i b _ old new is.0
 start_origin b (Holding i) old new (Err starts.Mismatch) is = noticed i b _ old new is
 start_origin b (Holding i) old new (Err starts.NothingHeld) is = absurd is
 start_origin b (Holding i) old new (Err starts.NoMemory) is = all old new is
-start_origin b Free old new (Ok job) is = all old new is.1
-start_origin b Free old new (Err starts.Mismatch) is = all old new is.1
-start_origin b Free old new (Err starts.NothingHeld) is = all old new is.1
-start_origin b Free old new (Err starts.NoMemory) is = all old new is
-start_origin b (Finished i c) old new (Ok job) is = all old new is.1
-start_origin b (Finished i c) old new (Err starts.Mismatch) is = all old new is.1
-start_origin b (Finished i c) old new (Err starts.NothingHeld) is = all old new is.1
-start_origin b (Finished i c) old new (Err starts.NoMemory) is = all old new is
+start_origin b Free old new r is = all old new is.1
+start_origin b (Finished i c) old new r is = all old new is.1
 
 held_origin : (i : ℕ) (o : Outcome) (v w : BuilderView) (old new : BookModel)
     (r : Result ℕ FinishRefusal) → FinishHeld i o v w old new r → origin new ≡ origin old
@@ -93,7 +87,7 @@ again_origin : (i : ℕ) (c : OutcomeCode) (o : Outcome) (b : ℕ) (old new : Bo
     (r : Result ℕ FinishRefusal) → FinishAgain i c o b old new r → origin new ≡ origin old
 again_origin i c o b old new (Ok n) is = ap (λ (h : History). h.opening) is.1.history
 again_origin i c o b old new (Err finishes.NothingHeld) is = all old new is.1
-again_origin i c o b old new (Err finishes.NoMemory) is = all old new is
+again_origin i c o b old new (Err finishes.NoMemory) is = all old new is.1
 again_origin i c o b old new (Err finishes.Mismatch) is = all old new is.1
 
 pub finish_origin : (hand : Hand) (o : Outcome) (v w : BuilderView) (old new : BookModel)

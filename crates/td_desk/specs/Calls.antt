@@ -1,6 +1,7 @@
 -- What the calls of a desk answer, each over the locked book as it was when the call had the lock,
 -- and what receipt a clerk gets. This project's own.
-use Rattle.std.specs.Prelude.{◌≡◌, ℕ, not, List, [], ◌∷◌, Option, Result, IfOk, filter, map}
+use Rattle.std.specs.Prelude.{◌≡◌, ◌≢◌, ◌⊎◌, ℕ, not, List, [], ◌∷◌, Option, Result, Err, IfOk}
+use Rattle.std.specs.Prelude.{filter, map}
 use Rattle.std.specs.declared.alloc.AllocError.{AllocError}
 use Rattle.atomic_table.specs.Seated.{TableId}
 use Rattle.td_rows.specs.declared.key.Key.{Key}
@@ -13,6 +14,8 @@ use Rattle.td_journal.specs.Replay.{Lawful}
 use Rattle.td_wbread.specs.Command.{CommandParts}
 use Rattle.td_wbread.specs.Kinds.{kind_of}
 use Rattle.td_board.specs.Seats.{BuilderModel}
+use Rattle.td_board.specs.declared.views.BuilderView.{BuilderView}
+use Rattle.td_board.specs.declared.views.Hand.TheVariants.{Free}
 use Rattle.td_book.specs.declared.arriving.ArriveRefusal.{ArriveRefusal}
 use Rattle.td_book.specs.declared.commanding.CommandRefusal.{CommandRefusal}
 use Rattle.td_book.specs.declared.commanding.Taken.{Taken}
@@ -20,6 +23,7 @@ use Rattle.td_book.specs.declared.undoing.UndoRefusal.{UndoRefusal}
 use Rattle.td_book.specs.declared.starting.Job.{Job}
 use Rattle.td_book.specs.declared.starting.StartRefusal.{StartRefusal}
 use Rattle.td_book.specs.declared.finishing.FinishRefusal.{FinishRefusal}
+use Rattle.td_book.specs.declared.finishing.FinishRefusal.TheVariants as finishes
 use Rattle.td_book.specs.declared.skips.Skip.{Skip}
 use Rattle.td_book.specs.Arriving.{ArriveOutcome, SweepOutcome}
 use Rattle.td_book.specs.Building.{IsJobAt, StartOutcome}
@@ -89,12 +93,20 @@ Starting seat table opening result =
     (old : BookModel) × (new : BookModel) × IsOfDesk table opening old
     × StartOutcome seat.builder.number seat.builder.hand old new result
 
--- a finish's: what such a book answers to it with this outcome, and the builder after it
+-- what a book answers to a finish with this outcome, and the builder after it; but where memory is
+-- wanting before the book is asked, a builder whose hand isn't free is told so, and all stays
+abbrev pub FinishTold : Outcome → BuilderView → BuilderView → BookModel → BookModel
+    → Result ℕ FinishRefusal → Type 0
+FinishTold outcome v w old new result =
+    ((result ≡ Err finishes.NoMemory) × (v.hand ≢ Free) × (new ≡ old) × (w ≡ v))
+    ⊎ FinishOutcome v.hand outcome v w old new result
+
+-- a finish's: what such a book answers to it so
 abbrev pub Finishing : Outcome → BuilderModel → BuilderModel → TableId → Table
     → Result ℕ FinishRefusal → Type 0
 Finishing outcome seat after table opening result =
     (old : BookModel) × (new : BookModel) × IsOfDesk table opening old
-    × FinishOutcome seat.builder.hand outcome seat.builder after.builder old new result
+    × FinishTold outcome seat.builder after.builder old new result
 
 -- ---- 3. jobs
 

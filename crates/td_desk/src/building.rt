@@ -1,5 +1,5 @@
 //! The calls of builders.
-ghost use Rattle.std.specs.Prelude.{◌≡◌, ◌⊎◌, Err, IfOk};
+ghost use Rattle.std.specs.Prelude.{◌≡◌, IfOk};
 ghost use Rattle.td_core.specs.History.{rows_of};
 ghost use Rattle.td_book.specs.Desk.{BookModel};
 ghost use Rattle.td_book.specs.Ready.{IsReady, is_any_queued};
@@ -28,7 +28,7 @@ impl<'a, N: Named, C: Ledger> Desk<'a, N, C> {
     /// Starts the build of the row that the builder holds.
     pub fn start<R: Wait>(&self, rt: &R, seat: &BuilderSeat) -> Result<Job, StartRefusal>
         requires { seat.now.table ≡ N.table }
-        ensures { (result ≡ Err StartRefusal.NoMemory) ⊎ Starting seat.now N.table N.origin result }
+        ensures { Starting seat.now N.table N.origin result }
     {
         self.locked.lock(rt).start(&self.board, seat)
     }

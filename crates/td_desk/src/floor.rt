@@ -1,4 +1,12 @@
-//! The desk as a floor on which builders find rows.
+//! The desk as a floor on which builders find rows: each call answers what the desk's does.
+ghost use Rattle.std.specs.Prelude.{◌≡◌, ◌⊎◌, false, IfErr, IfOk, OnOk, OnErr};
+ghost use Rattle.td_core.specs.History.{rows_of};
+ghost use Rattle.td_book.specs.Deeds.{code_of};
+ghost use Rattle.td_book.specs.Desk.{BookModel};
+ghost use Rattle.td_book.specs.Ready.{IsReady, is_any_queued};
+ghost use Rattle.td_builder.specs.Floors.{IsHolding, IsStarted, IsFinished};
+ghost use Rattle.td_desk.specs.Calls.{IsOfDesk, Starting, Finishing, MayBeJob};
+
 use crate::desk::Desk;
 use crate::named::Named;
 use std::alloc::AllocError;
@@ -28,7 +36,11 @@ impl<'a, N: Named, C: Ledger> Floor for Desk<'a, N, C> {
 
     ghost stopped = { λ d stop. Unit {0} };
 
-    fn ready<R: Wait>(&self, rt: &R) -> Result<Vec<usize>, AllocError> {
+    fn ready<R: Wait>(&self, rt: &R) -> Result<Vec<usize>, AllocError>
+        ensures answer { IfOk result (λ numbers. (book : BookModel)
+            × IsOfDesk N.table N.origin book × IsReady (rows_of book.history) numbers.items) }
+        ensures err { OnErr result (Unit {0}) }
+    {
         Desk::ready(self, rt)
     }
 
@@ -37,7 +49,12 @@ impl<'a, N: Named, C: Ledger> Floor for Desk<'a, N, C> {
     }
 
     #[tactic(auto, using(crate::proofs::Flooring::started))]
-    fn start<R: Wait>(&self, rt: &R, seat: &BuilderSeat) -> Result<Job, StartRefusal> {
+    fn start<R: Wait>(&self, rt: &R, seat: &BuilderSeat) -> Result<Job, StartRefusal>
+        requires { seat.now.table ≡ N.table }
+        ensures answer { Starting seat.now N.table N.origin result }
+        ensures job { IfOk result (IsStarted (MayBeJob N.table N.origin) seat.now) }
+        ensures err { IfErr result (λ e. Unit {0}) }
+    {
         Desk::start(self, rt, seat)
     }
 
@@ -47,12 +64,25 @@ impl<'a, N: Named, C: Ledger> Floor for Desk<'a, N, C> {
         rt: &R,
         seat: &mut BuilderSeat,
         outcome: Outcome,
-    ) -> Result<EntryNo, FinishRefusal> {
+    ) -> Result<EntryNo, FinishRefusal>
+        requires table { seat.old.table ≡ N.table }
+        requires hand { IsHolding seat.old }
+        ensures answer { Finishing outcome seat.old seat.new N.table N.origin result }
+        ensures ok { OnOk result (IsFinished (code_of outcome) seat.old seat.new) }
+        ensures seat { OnErr result
+            ((seat.new ≡ seat.old) ⊎ IsFinished (code_of outcome) seat.old seat.new) }
+        ensures err { IfErr result (λ e. Unit {0}) }
+    {
         Desk::finish(self, rt, seat, outcome)
     }
 
     #[tactic(auto, using(crate::proofs::Flooring::at_end))]
-    fn wait_for_work<R: Wait>(&self, rt: &R) -> bool {
+    fn wait_for_work<R: Wait>(&self, rt: &R) -> bool
+        ensures answer { (book : BookModel) × IsOfDesk N.table N.origin book
+            × (result ≡ is_any_queued (rows_of book.history)) }
+        ensures ended { result ≡ false → (book : BookModel) × IsOfDesk N.table N.origin book
+            × (is_any_queued (rows_of book.history) ≡ false) }
+    {
         Desk::wait_for_work(self, rt)
     }
 }

@@ -4,12 +4,11 @@ ghost use Rattle.std.specs.Prelude.{length, true, false, Ok, Err, OnOk, OnErr, I
 ghost use Rattle.std.specs.Prelude.{MatchOption};
 ghost use Rattle.td_book.specs.Arriving.{ArriveOutcome, SweepOutcome};
 ghost use Rattle.td_book.specs.Building.{StartOutcome};
-ghost use Rattle.td_book.specs.Finishing.{FinishOutcome};
 ghost use Rattle.td_book.specs.Undoing.{UndoAnswer, undo_stop};
 ghost use Rattle.td_desk.specs.declared.receipt.Receipt.TheVariants as receipt;
 ghost use Rattle.td_wbread.specs.Views.{parts_of};
 ghost use Rattle.td_book.specs.Commands.{IsDone};
-ghost use Rattle.td_desk.specs.Calls.{IsOfDesk, arrival_receipt, command_receipt};
+ghost use Rattle.td_desk.specs.Calls.{FinishTold, IsOfDesk, arrival_receipt, command_receipt};
 ghost use Rattle.td_desk.specs.Changes.{changes, still_undone};
 ghost use Rattle.td_desk.specs.inner.Ticks.{AreBegun};
 
@@ -193,7 +192,8 @@ impl<'a, N: Named, C: Ledger> Locked<'a, N, C> {
             (changes N.opened self.new.book)) }
         ensures shut { self.new.shut ≡ self.old.shut }
         ensures of_desk { IsOfDesk N.table N.origin self.old.book }
-        ensures answer { ArriveOutcome key.now self.old.book self.new.book result }
+        ensures answer { ((result ≡ Err ArriveRefusal.NoMemory) × (self.new.book ≡ self.old.book))
+            ⊎ ArriveOutcome key.now self.old.book self.new.book result }
     {
         let _of_desk = self.book();
         let Locked {
@@ -259,12 +259,14 @@ impl<'a, N: Named, C: Ledger> Locked<'a, N, C> {
         requires seat { seat.now.table ≡ N.table }
         ensures shut { self.new.shut ≡ self.old.shut }
         ensures of_desk { IsOfDesk N.table N.origin self.old.book }
-        ensures answer { ((result ≡ Err StartRefusal.NoMemory) × (self.new.book ≡ self.old.book))
-            ⊎ StartOutcome seat.now.builder.number seat.now.builder.hand self.old.book self.new.book
-            result }
+        ensures answer { StartOutcome seat.now.builder.number seat.now.builder.hand self.old.book
+            self.new.book result }
     {
         let _of_desk = self.book();
         let Locked { book, ticks, .. } = self;
+        let Hand::Holding(_) = seat.hand() else {
+            return Err(StartRefusal::NothingHeld);
+        };
         if add_ticks(ticks, book.journal().len(), 1).is_err() {
             return Err(StartRefusal::NoMemory);
         }
@@ -283,8 +285,8 @@ impl<'a, N: Named, C: Ledger> Locked<'a, N, C> {
         ensures table { seat.new.table ≡ seat.old.table }
         ensures shut { self.new.shut ≡ self.old.shut }
         ensures of_desk { IsOfDesk N.table N.origin self.old.book }
-        ensures answer { FinishOutcome seat.old.builder.hand outcome seat.old.builder
-            seat.new.builder self.old.book self.new.book result }
+        ensures answer { FinishTold outcome seat.old.builder seat.new.builder self.old.book
+            self.new.book result }
     {
         let _of_desk = self.book();
         let Locked { book, ticks, .. } = self;
