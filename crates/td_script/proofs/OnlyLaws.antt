@@ -102,12 +102,6 @@ pub reopen_stops : {B : Type 0} (P : List Marked → B → Type 0) (rows : Table
 reopen_stops P rows text (Ok b) only = tt
 reopen_stops P rows text (Err e) only = λ is. only is.0 is.1
 
-pub untold_stops : (rows : Table) (given : Option (List ℕ)) (e : ReadError) (f : RunFault)
-    → (IsJournalIfGiven rows given → e ≡ journal.NoMemory) → f ≡ of_input (fault.Journal e)
-    → IsJournalIfGiven rows given → f ≡ NoMemory
-untold_stops rows given e f only is its =
-    is ∙ ap (λ (y : ReadError). of_input (fault.Journal y)) (only its)
-
 pub given_stops : (x : Texts) (c : Contents) (t : List ℕ) (rows : Table) (e : RunFault)
     → x.tracker ≡ Some t → AreRowsOf c x.state rows
     → ((u : Tracking) → IsTracker t u → IsJournalIfGiven rows x.journal → Stops x e)

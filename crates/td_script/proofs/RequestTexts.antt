@@ -7,7 +7,6 @@ use Rattle.std.proofs.lemmas.Bool.{and_parts, eqb-true}
 use Rattle.td_text.specs.Chain.{◌>>=◌}
 use Rattle.td_text.specs.Cut.{Without, part, strip}
 use Rattle.td_text.specs.Numbers.{number_at}
-use Rattle.td_text.specs.Exact.{Exact}
 use Rattle.td_text.specs.Words.{is_name, is_arch}
 use Rattle.td_text.proofs.Chain.{chained, some_is, when_some, or_word}
 use Rattle.td_text.proofs.Cut.{cut-at, cut_found, lacks, Begins, part_again, part_joined}
@@ -46,9 +45,6 @@ spaced_again k h =
     let source = h.source in
     let arch = h.arch in
     rw (cut-at 32 k.source k.arch (Without-name 32 k.source refl source), source, arch) refl
-
-pub spaced_exact : Exact spaced_key_at two_words KeyFits
-spaced_exact = record { found = spaced_found; again = spaced_again }
 
 pub spaced_lacks : (t : List ℕ) (k : Key) → spaced_key_at t ≡ Some k
     → (has_newline k.source ≡ false) × (has_newline k.arch ≡ false)

@@ -9,11 +9,10 @@ use Rattle.td_bytes.specs.declared.text.TextFault.{TextFault}
 use Rattle.td_script.specs.declared.running.RunFault.{RunFault}
 use Rattle.td_script.specs.declared.running.TheConstants.{SCRIPT_LIMIT}
 use Rattle.td_script.specs.declared.told.Told.{Told as ToldText}
-use Rattle.td_core.specs.History.{History}
 use Rattle.td_script.specs.Ends.{Plays}
 use Rattle.td_script.specs.OpeningInside.{IsRefusedBy, IsUnread, Tells}
 use Rattle.td_script.specs.Openings.{Texts}
-use Rattle.td_script.specs.Replies.{Setting}
+use Rattle.td_script.specs.Telling.{Telling}
 
 -- the known bytes are those that were read
 all_read : (known : Option (List ℕ)) (t : List ℕ) → IfSome known (λ all. t ≡ all)
@@ -22,9 +21,9 @@ all_read None t h = tt
 all_read (Some all) t h = sym h
 
 -- something was told of what was read
-pub plays : (May : Setting → History → List ℕ → List ℕ → ℕ → Type 0) (x : Texts)
-    (known : Option (List ℕ)) (read : Result (String Global) TextFault)
-    (r : Result ToldText RunFault) (told : ToldText) (So : List ℕ → ℕ → Type 0) → r ≡ Ok told
+pub plays : (May : Telling) (x : Texts) (known : Option (List ℕ))
+    (read : Result (String Global) TextFault) (r : Result ToldText RunFault) (told : ToldText)
+    (So : List ℕ → ℕ → Type 0) → r ≡ Ok told
     → IfOk read (λ t. IfSome known (λ all. string_bytes t ≡ all))
     → IfOk read (λ t. length (string_bytes t) ≤ SCRIPT_LIMIT)
     → IfOk read (λ t. MatchResult r (Tells May x (string_bytes t)) (IsRefusedBy x))

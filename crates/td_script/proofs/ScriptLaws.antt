@@ -1,15 +1,11 @@
 -- What is told of the lines so far.
 use Rattle.std.proofs.Common.{◌≡◌, ℕ, ◌+◌, ◌≤◌, ◌<◌, ◌^◌, ◌-◌, List, [], ◌∷◌, length, Option, Some}
-use Rattle.std.proofs.Common.{None, fold, Bor, refl, sym, ap, subst, ◌∙◌, arith}
+use Rattle.std.proofs.Common.{None, fold, Bor, refl, sym, ap, ◌∙◌, arith}
 use Rattle.std.specs.String.{string_bytes}
 use Rattle.td_rows.specs.Table.{Table}
 use Rattle.td_text.specs.Lines.{lines_of, lines_left, left_len}
 use Rattle.td_supply.specs.Supply.{Stock}
-use Rattle.td_core.specs.History.{History}
 use Rattle.td_book.specs.Desk.{BookModel, Fixed}
-use Rattle.td_book.specs.WatchCalls.{with_watch}
-use Rattle.td_book.specs.Watching.{WatchView}
-use Rattle.td_script.specs.Ends.{IsAnswered}
 use Rattle.td_script.specs.declared.told.Told.{Told as ToldText}
 use Rattle.td_script.specs.Replies.{Setting}
 use Rattle.td_script.proofs.Staying.{opening-stays}
@@ -77,34 +73,3 @@ pub room : (suites : List (List ℕ)) (report : Option (Table → List ℕ)) (al
     → IsSoFar suites report all first now told (Some rest) → length all < 2 ^ 63 - 1
     → told.refused < 2 ^ 63
 room suites report all first now told rest h small = omega (arith, h.counted, small)
-
--- ---- what is told by a book that watches rows
-
-told-answered : (s : Setting) (b new : BookModel) (text : List ℕ) (told : ToldText)
-    → IsTold s text b new told → IsAnswered s b.history text (string_bytes told.text) told.refused
-told-answered s b new text told h =
-    record {
-      text_is = ap (λ (t : Told). t.text) h.is;
-      refused_is = ap (λ (t : Told). t.refused) h.is;
-    }
-
--- of the book before the watch
-pub told-watched : (suites : List (List ℕ)) (report : Option (Table → List ℕ))
-    (old b new : BookModel) (watch : WatchView) (text : List ℕ) (told : ToldText)
-    → b ≡ with_watch old watch → IsTold (setting_of b.fixed.stock suites report) text b new told
-    → IsAnswered (setting_of old.fixed.stock suites report) old.history text
-    (string_bytes told.text) told.refused
-told-watched suites report old b new watch text told is h =
-    subst (λ (x : BookModel).
-    IsAnswered (setting_of x.fixed.stock suites report) x.history text (string_bytes told.text)
-    told.refused) is
-    (told-answered (setting_of b.fixed.stock suites report) b new text told h)
-
--- of one that watches none
-pub told-unwatched : (suites : List (List ℕ)) (report : Option (Table → List ℕ)) (b new : BookModel)
-    (text : List ℕ) (told : ToldText)
-    → IsTold (setting_of b.fixed.stock suites report) text b new told
-    → IsAnswered (setting_of b.fixed.stock suites report) b.history text (string_bytes told.text)
-    told.refused
-told-unwatched suites report b new text told h =
-    told-answered (setting_of b.fixed.stock suites report) b new text told h

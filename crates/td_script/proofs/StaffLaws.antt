@@ -1,6 +1,6 @@
 -- What a clerk alone tells of what is asked.
 use Rattle.std.proofs.Common.{◌≡◌, ℕ, List, [], ◌∷◌, Option, Result, Ok, Err, IfOk, IfErr, sym}
-use Rattle.std.proofs.Common.{option_map, subst}
+use Rattle.std.proofs.Common.{subst}
 use Rattle.std.specs.Prelude.{string_bytes}
 use Rattle.td_rows.specs.Table.{Table}
 use Rattle.td_journal.specs.declared.journal_fault.ReadError.{ReadError}
@@ -13,6 +13,7 @@ use Rattle.td_script.specs.Ends.{IsAnswered}
 use Rattle.td_script.specs.OpeningInside.{IsJournalFault}
 use Rattle.td_script.specs.Openings.{IsBegun}
 use Rattle.td_script.specs.Reporting.{report_by}
+use Rattle.td_script.specs.Settings.{setting_lent}
 use Rattle.td_script.specs.declared.staff.Asked.{Asked}
 use Rattle.td_script.specs.declared.told.Told.{Told}
 use Rattle.td_script.proofs.ScriptLaws.{setting_of}
@@ -29,16 +30,15 @@ one_suite h stock suites suite report lines text refused is its =
 -- from a book that begins so
 pub told_begun : (asked : Asked) (h : History) (stock : Stock) (r : Result Told ReadError)
     → IsBegun (journal_asked asked) asked.rows h → stock ≡ supply_of asked.archive.now
-    → IfOk r (λ told. IsAnswered (setting_of stock (asked.suite.now ∷ [])
-    (option_map (λ r. report_by r.now) asked.reports)) h asked.script.now (string_bytes told.text)
-    told.refused) → IfErr r (λ e. e ≡ NoMemory) → IsToldOf IsAnswered asked r
+    → IfOk r (λ told. IsAnswered (setting_lent report_by stock (asked.suite ∷ []) asked.reports) h
+    asked.script.now (string_bytes told.text) told.refused) → IfErr r (λ e. e ≡ NoMemory)
+    → IsToldOf IsAnswered asked r
 told_begun asked h stock (Ok told) begun offers answered memory = record {
   told = (
     h,
     begun,
-    subst (λ (x : Stock). IsAnswered (setting_of x (asked.suite.now ∷ [])
-        (option_map (λ r. report_by r.now) asked.reports)) h asked.script.now
-        (string_bytes told.text) told.refused) offers answered,
+    subst (λ (x : Stock). IsAnswered (setting_lent report_by x (asked.suite ∷ []) asked.reports) h
+        asked.script.now (string_bytes told.text) told.refused) offers answered,
   );
   fault = tt;
   only = tt;

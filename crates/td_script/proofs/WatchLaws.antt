@@ -1,11 +1,10 @@
 -- The counts of a book that watches a transition's groups are those of the groups.
-use Rattle.std.proofs.Common.{◌≡◌, ℕ, zero, suc, ◌+◌, ◌≤◌, ◌<◌, ◌&&◌, Bool, true, false, List, []}
-use Rattle.std.proofs.Common.{◌∷◌, ◌++◌, length, Option, Some, None, map, count_by, slice_get}
-use Rattle.std.proofs.Common.{if◌then◌else◌, inl, inr, refl, sym, ap, ◌∙◌, arith}
-use Rattle.std.specs.Prelude.{nat_lt, option_map}
+use Rattle.std.proofs.Common.{◌≡◌, ℕ, ◌+◌, ◌<◌, ◌&&◌, Bool, true, false, List, []}
+use Rattle.std.proofs.Common.{◌∷◌, length, Option, Some, None, map, count_by, slice_get}
+use Rattle.std.proofs.Common.{if◌then◌else◌, refl, sym, ap, ◌∙◌, arith}
+use Rattle.std.specs.Prelude.{option_map}
 use Rattle.std.specs.List.{cons_option}
-use Rattle.std.proofs.lemmas.Bool.{le-ltb, lt-ltb, ltb-false, ltb-true}
-use Rattle.std.proofs.lemmas.Option.{slice_get_cases}
+use Rattle.std.proofs.lemmas.Bool.{lt-ltb}
 use Rattle.std.proofs.lemmas.List.Sums.{sum_by-cons}
 use Rattle.td_rows.specs.declared.key.Key.{Key}
 use Rattle.td_rows.specs.Keys.{names, same_key}
@@ -91,56 +90,6 @@ tally-count x group (p ∷ t) =
 abbrev pub AreFirst : WatchView → Table → List ℕ → Type 0
 AreFirst watch rows counts =
     (group : ℕ) → group < length counts → slice_get counts group ≡ installed_in watch rows group
-
-pub first-none : (watch : WatchView) (rows : Table) → AreFirst watch rows []
-first-none watch rows group lt = absurd (omega (arith, lt))
-
-get-more : (f : ℕ → Option ℕ) (xs : List ℕ) (n : ℕ)
-    → ((i : ℕ) → i < length xs → slice_get xs i ≡ f i) → Some n ≡ f (length xs) → (i : ℕ)
-    → i < length (xs ++ n ∷ []) → slice_get (xs ++ n ∷ []) i ≡ f i
-get-more f [] n before is zero lt = is
-get-more f [] n before is (suc i) lt = absurd (omega (arith, lt))
-get-more f (x ∷ xs) n before is zero lt = before zero (omega arith)
-get-more f (x ∷ xs) n before is (suc i) lt =
-    get-more (λ j. f (suc j)) xs n (λ j small. before (suc j) (omega (arith, small))) is i
-    (omega (arith, lt))
-
-pub first-more : (watch : WatchView) (rows : Table) (counts : List ℕ) (n : ℕ)
-    → AreFirst watch rows counts → Some n ≡ installed_in watch rows (length counts)
-    → AreFirst watch rows (counts ++ n ∷ [])
-first-more watch rows counts n before is = get-more (installed_in watch rows) counts n before is
-
--- one more of them is one less to come
-pub fewer-left : (watch : WatchView) (rows : Table) (n group : ℕ)
-    → Some n ≡ installed_in watch rows group → group < watch.groups
-fewer-left watch rows n group is = by (nat_lt group watch.groups) refl is
-  where
-    by : (b : Bool) → nat_lt group watch.groups ≡ b
-        → Some n ≡ (if b then Some (tally is_there group watch.of_rows rows) else None)
-        → group < watch.groups
-    by true lt at = ltb-true group watch.groups lt
-    by false other at = cc
-
-pub first-all : (watch : WatchView) (rows : Table) (counts : List ℕ) → AreFirst watch rows counts
-    → None ≡ installed_in watch rows (length counts) → (group : ℕ)
-    → slice_get counts group ≡ installed_in watch rows group
-first-all watch rows counts before end group = elim (slice_get_cases counts group).1 [
-  | inl h ↦ before group h.1
-  | inr h ↦
-      h.1 ∙ sym (ap (λ (b : Bool).
-      if b then Some (tally is_there group watch.of_rows rows) else None)
-      (le-ltb group watch.groups (past h.0)))
-]
-  where
-    over : (b : Bool) → nat_lt (length counts) watch.groups ≡ b
-        → None ≡ (if b then Some (tally is_there (length counts) watch.of_rows rows) else None)
-        → watch.groups ≤ length counts
-    over true lt at = cc
-    over false other at = ltb-false (length counts) watch.groups other
-
-    past : length counts ≤ group → watch.groups ≤ group
-    past le =
-        let all = over (nat_lt (length counts) watch.groups) refl end in omega (arith, le, all)
 
 -- what a book that watches the groups says of them
 pub are-counts : (x : Transition) (opening rows : Table) (watch : WatchView) (counts : List ℕ)

@@ -1,7 +1,6 @@
 -- What those are asked who answer a script, and what they may tell of it. This project's own.
 use Rattle.std.specs.Prelude.{◌≡◌, ◌<◌, ◌^◌, ◌-◌, ℕ, List, [], ◌∷◌, Option, Result, IfErr, IfOk}
 use Rattle.std.specs.Prelude.{IfSome, length, option_map}
-use Rattle.td_core.specs.History.{History}
 use Rattle.td_core.specs.Phases.{NoneBuilt}
 use Rattle.td_indices.specs.Supplying.{supply_of}
 use Rattle.td_journal.specs.declared.journal_fault.ReadError.{ReadError}
@@ -11,6 +10,8 @@ use Rattle.td_script.specs.OpeningInside.{IsJournalFault, IsToldFrom}
 use Rattle.td_script.specs.Openings.{IsJournalIfGiven}
 use Rattle.td_script.specs.Replies.{Setting}
 use Rattle.td_script.specs.Reporting.{report_by}
+use Rattle.td_script.specs.Settings.{setting_lent}
+use Rattle.td_script.specs.Telling.{Telling}
 use Rattle.td_script.specs.declared.staff.Asked.{Asked}
 use Rattle.td_script.specs.declared.told.Told.{Told}
 
@@ -21,11 +22,7 @@ journal_asked asked = option_map (λ s. s.now) asked.journal
 -- by what lines are answered
 abbrev pub setting_asked : Asked → Setting
 setting_asked asked =
-    record {
-      stock = supply_of asked.archive.now;
-      suites = asked.suite.now ∷ [];
-      report = option_map (λ r. report_by r.now) asked.reports;
-    }
+    setting_lent report_by (supply_of asked.archive.now) (asked.suite ∷ []) asked.reports
 
 -- what a run asks: no row is being built, reports come of a tracker over an archive, and the lines
 -- of the script can be counted
@@ -35,8 +32,7 @@ pub record IsFit (asked : Asked) : Type 0 where
   pub small : length asked.script.now < 2 ^ 63 - 1
 
 -- this may be told of what was asked. Else the journal is refused, or memory runs out
-pub record IsToldOf (May : Setting → History → List ℕ → List ℕ → ℕ → Type 0) (asked : Asked)
-    (result : Result Told ReadError) : Type 0 where
+pub record IsToldOf (May : Telling) (asked : Asked) (result : Result Told ReadError) : Type 0 where
   pub told : IfOk result
       (IsToldFrom May (setting_asked asked) (journal_asked asked) asked.rows asked.script.now)
   pub fault : IfErr result (IsJournalFault asked.rows (journal_asked asked))
@@ -44,8 +40,8 @@ pub record IsToldOf (May : Setting → History → List ℕ → List ℕ → ℕ
       IsJournalIfGiven asked.rows (journal_asked asked) → fault ≡ NoMemory)
 
 -- all that a run asks may be asked of those who answer, and whatever they answer may be told
-pub record CanAnswer (May : Setting → History → List ℕ → List ℕ → ℕ → Type 0)
-    (Allows : Asked → Type 0) (Answers : Asked → Result Told ReadError → Type 0) : Type 0 where
+pub record CanAnswer (May : Telling) (Allows : Asked → Type 0)
+    (Answers : Asked → Result Told ReadError → Type 0) : Type 0 where
   pub asked : (asked : Asked) → IsFit asked → Allows asked
   pub tells : (asked : Asked) (result : Result Told ReadError) → Answers asked result
       → IsToldOf May asked result

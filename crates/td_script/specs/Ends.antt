@@ -13,6 +13,7 @@ use Rattle.td_script.specs.declared.input_fault.InputFault.TheVariants as fault
 use Rattle.td_script.specs.Openings.{AreReadable, IsPatternRefused, IsRefused, IsSet, Texts}
 use Rattle.td_script.specs.Replies.{Setting}
 use Rattle.td_script.specs.Script.{script}
+use Rattle.td_script.specs.Telling.{Telling}
 
 -- a text that is read as a script: within the limit, and UTF-8
 abbrev pub IsScriptText : List ℕ → Type 0
@@ -31,8 +32,7 @@ pub record IsAnswered (s : Setting) (h : History) (lines text : List ℕ) (refus
 
 -- what was read is a script, and this is so of a text and a number of refusals that may be told of
 -- it, so, over what the texts say
-abbrev pub Plays : (Setting → History → List ℕ → List ℕ → ℕ → Type 0) → Texts → Option (List ℕ)
-    → (List ℕ → ℕ → Type 0) → Type 0
+abbrev pub Plays : Telling → Texts → Option (List ℕ) → (List ℕ → ℕ → Type 0) → Type 0
 Plays May x known So =
     (s : Setting) × (h : History) × IsSet x s h
     × ((lines : List ℕ) × IsScript known lines
@@ -44,8 +44,8 @@ AreFine x = (s : Setting) × (h : History) × IsSet x s h
 
 -- what an end says where this may be told of a script: the whole text is written and its refusals
 -- are counted, or a front of it where the writer failed; at every other fault nothing is written
-abbrev pub SaysBy : (Setting → History → List ℕ → List ℕ → ℕ → Type 0) → Texts → Option (List ℕ)
-    → Option (List ℕ) → Option (List ℕ) → Result ScriptEnd RunFault → Type 0
+abbrev pub SaysBy : Telling → Texts → Option (List ℕ) → Option (List ℕ) → Option (List ℕ)
+    → Result ScriptEnd RunFault → Type 0
 SaysBy May x known old new (Ok end) =
     Plays May x known (λ text refused. (end.refusals ≡ refused) × Appends old new text)
 SaysBy May x known old new (Err (Input e)) = IsRefused x e × Keeps old new

@@ -12,4 +12,6 @@ pub mod Reporting
 pub mod Watched
 pub mod Requests
 pub mod Script
+pub mod Settings
+pub mod Telling
 pub mod Cutting

@@ -35,6 +35,7 @@ use Rattle.td_script.specs.Ends.{AreFine}
 use Rattle.td_script.specs.Openings.{IsBegun, IsNoJournal, IsNoState, IsPatternRefused}
 use Rattle.td_script.specs.Openings.{IsReadableOver, IsRefused, IsSet, Texts}
 use Rattle.td_script.specs.Replies.{Setting}
+use Rattle.td_script.specs.Telling.{Telling}
 
 -- ---- 1. faults
 
@@ -114,21 +115,18 @@ abbrev pub IsUntold : Table → Option (List ℕ) → RunFault → Type 0
 IsUntold rows given e = OfInput (IsJournalRefused rows given) e
 
 -- this may be told of a script from these rows, or from the journal over them that is gone on with
-abbrev pub IsToldFrom : (Setting → History → List ℕ → List ℕ → ℕ → Type 0) → Setting
-    → Option (List ℕ) → Table → List ℕ → ToldText → Type 0
+abbrev pub IsToldFrom : Telling → Setting → Option (List ℕ) → Table → List ℕ → ToldText → Type 0
 IsToldFrom May s given rows lines told =
     (h : History) × IsBegun given rows h × May s h lines (string_bytes told.text) told.refused
 
 -- the same over what the texts say
-abbrev pub Tells : (Setting → History → List ℕ → List ℕ → ℕ → Type 0) → Texts → List ℕ → ToldText
-    → Type 0
+abbrev pub Tells : Telling → Texts → List ℕ → ToldText → Type 0
 Tells May x lines told =
     (s : Setting) × (h : History) × IsSet x s h
     × May s h lines (string_bytes told.text) told.refused
 
 -- the same, or a text is refused
-abbrev pub TellsOrRefuses : (Setting → History → List ℕ → List ℕ → ℕ → Type 0) → Texts → List ℕ
-    → Result ToldText RunFault → Type 0
+abbrev pub TellsOrRefuses : Telling → Texts → List ℕ → Result ToldText RunFault → Type 0
 TellsOrRefuses May x lines result = MatchResult result (Tells May x lines) (IsRefusedBy x)
 
 -- no script was read, for this: a text is refused before it, or memory runs out

@@ -1,8 +1,9 @@
 //! The answer to a line.
-ghost use Rattle.std.specs.Prelude.{◌≡◌, IfOk, IfSome, Some, None, map, option_map};
+ghost use Rattle.std.specs.Prelude.{◌≡◌, IfOk, IfSome, Some, None, map};
 ghost use Rattle.std.specs.String.{string_bytes};
 ghost use Rattle.td_script.specs.Answering.{Answers};
 ghost use Rattle.td_script.specs.Replies.{answer as answer_to, asks, types};
+ghost use Rattle.td_script.specs.Settings.{setting_lent};
 ghost use Rattle.td_wbread.specs.Command.{command_at};
 
 use crate::answering::{arrive, show_entry, show_journal, show_report, show_row, sweep, undo};
@@ -30,12 +31,8 @@ fn ask<R: Reports>(
     requires alone { book.old.fixed.builders ≡ 0 }
     requires fits { IfSome reports (λ r. R.fits r.now book.old.history.opening book.old.fixed) }
     ensures { IfOk result (Answers
-        (asks (record {
-          stock = book.old.fixed.stock;
-          suites = map (λ s. s.now) suites.now;
-          report = option_map (λ r. R.text r.now) reports.entry;
-        }) book.old.history request.now) book.old book.new (string_bytes out.old)
-        (string_bytes out.new)) }
+        (asks (setting_lent R.text book.old.fixed.stock suites.now reports.entry) book.old.history
+        request.now) book.old book.new (string_bytes out.old) (string_bytes out.new)) }
 {
     match request {
         Request::Undo(n) => undo(book, board, *n, out),
@@ -88,11 +85,8 @@ pub fn answer<R: Reports>(
     requires alone { book.old.fixed.builders ≡ 0 }
     requires fits { IfSome reports (λ r. R.fits r.now book.old.history.opening book.old.fixed) }
     ensures { IfOk result (Answers
-        (answer_to (record {
-          stock = book.old.fixed.stock;
-          suites = map (λ s. s.now) suites.now;
-          report = option_map (λ r. R.text r.now) reports.entry;
-        }) book.old.history line.now) book.old book.new (string_bytes out.old)
+        (answer_to (setting_lent R.text book.old.fixed.stock suites.now reports.entry)
+        book.old.history line.now) book.old book.new (string_bytes out.old)
         (string_bytes out.new)) }
 {
     match read_line(alloc, line)? {

@@ -1,6 +1,6 @@
 //! What is told of a script over the texts of files.
 ghost use Rattle.std.specs.Prelude.{◌≡◌, ◌<◌, ◌^◌, ◌-◌, ◌∷◌, [], None, Some, IfOk, IfErr, IfSome};
-ghost use Rattle.std.specs.Prelude.{length, option_map};
+ghost use Rattle.std.specs.Prelude.{length};
 ghost use Rattle.td_text.specs.Lines.{lines_of};
 ghost use Rattle.td_relation.specs.TableFile.{IsTable};
 ghost use Rattle.td_relation.specs.TableView.{table};
@@ -9,6 +9,7 @@ ghost use Rattle.td_indices.specs.Supplying.{supply_of};
 ghost use Rattle.td_report.specs.TransitionView.{IsMade};
 ghost use Rattle.td_script.specs.Asking.{CanAnswer};
 ghost use Rattle.td_script.specs.Reporting.{report_by};
+ghost use Rattle.td_script.specs.Settings.{setting_lent};
 ghost use Rattle.td_script.specs.Openings.{AreReadable, AreRowsOf, IsArchiveOf, IsJournalIfGiven};
 ghost use Rattle.td_script.specs.Openings.{IsReadableOver, texts_lent, texts_of};
 ghost use Rattle.td_query.specs.Tracking.{IsTracker, Tracking, tracking};
@@ -112,11 +113,8 @@ impl<S: Staff, F: Fn(Asked) -> Result<Told, ReadError>> Run<'_, S, F> {
         requires made { IfSome reports (λ r. IsMade r.now) }
         ensures told { IfOk result
             (IsToldFrom (S.tells self.now.staff.now)
-            (record {
-              stock = supply_of archive.now;
-              suites = (texts_lent self.now.files).suite ∷ [];
-              report = option_map (λ r. report_by r.now) reports.entry;
-            }) (texts_lent self.now.files).journal rows self.now.script.now) }
+            (setting_lent report_by (supply_of archive.now) (self.now.files.suite ∷ [])
+            reports.entry) (texts_lent self.now.files).journal rows self.now.script.now) }
         ensures refused { IfErr result (IsUntold rows (texts_lent self.now.files).journal) }
         ensures only { IfErr result (λ fault.
             IsJournalIfGiven rows (texts_lent self.now.files).journal

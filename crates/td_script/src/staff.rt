@@ -1,11 +1,12 @@
 //! Who answers a script, and what they are asked.
 ghost use Rattle.std.specs.Prelude.{◌≡◌, ◌<◌, ◌^◌, ◌-◌, ◌∷◌, [], IfErr, IfOk, IfSome, length};
-ghost use Rattle.std.specs.Prelude.{option_map, string_bytes};
+ghost use Rattle.std.specs.Prelude.{string_bytes};
 ghost use Rattle.td_board.specs.Knowledge.{new_desk};
 ghost use Rattle.td_report.specs.TransitionView.{IsMade};
 ghost use Rattle.td_script.specs.Asking.{IsFit, IsToldOf};
 ghost use Rattle.td_script.specs.Ends.{IsAnswered};
 ghost use Rattle.td_script.specs.Reporting.{report_by};
+ghost use Rattle.td_script.specs.Settings.{setting_lent};
 
 use crate::beginning::begin;
 use crate::told::Told;
@@ -38,12 +39,10 @@ pub struct Asked<'i, 't, 'a, 's, 'j, 'r, 'b, 'u, 'c, 'q, 'l> {
 /// Who answers a script: a clerk alone, or one beside builders. What they answer is a closure's
 /// contract (`run_with`).
 pub trait Staff {
-    ghost use Rattle.std.specs.Prelude.{List, ℕ};
-    ghost use Rattle.td_core.specs.History.{History};
-    ghost use Rattle.td_script.specs.Replies.{Setting};
+    ghost use Rattle.td_script.specs.Telling.{Telling};
 
     /// What may be told of a script from this history: the text, and how many refusals.
-    ghost tells: { Self → Setting → History → List ℕ → List ℕ → ℕ → Type 0 };
+    ghost tells: { Self → Telling };
 }
 
 /// A clerk in a world without builders.
@@ -53,7 +52,7 @@ pub struct Alone;
 impl Staff for Alone {
     ghost use Rattle.td_script.specs.Ends.{IsAnswered};
 
-    ghost tells = { λ alone s h lines text refused. IsAnswered s h lines text refused };
+    ghost tells = { λ alone. IsAnswered };
 }
 
 // What a clerk alone tells of the lines of a script, from a book.
@@ -70,11 +69,8 @@ fn tell_begun(
     requires made { IfSome reports (λ r. IsMade r.now) }
     requires small { length script.now < 2 ^ 63 - 1 }
     ensures told { IfOk result (λ told.
-        IsAnswered (record {
-          stock = book.old.fixed.stock;
-          suites = suite.now ∷ [];
-          report = option_map (λ r. report_by r.now) reports.entry;
-        }) book.old.history script.now (string_bytes told.text) told.refused) }
+        IsAnswered (setting_lent report_by book.old.fixed.stock (suite.entry ∷ []) reports.entry)
+        book.old.history script.now (string_bytes told.text) told.refused) }
     ensures memory { IfErr result (λ fault. fault ≡ ReadError.NoMemory) }
 {
     match tell_watched(alloc, book, board, [suite].as_slice(), reports, script) {

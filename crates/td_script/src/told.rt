@@ -1,7 +1,7 @@
 //! What is told of a script: the answers to its lines, one after the other.
-ghost use Rattle.std.specs.Prelude.{◌≡◌, ◌<◌, ◌^◌, ◌-◌, IfOk, IfSome, OnOk, map, option_map};
-ghost use Rattle.std.specs.Prelude.{length};
+ghost use Rattle.std.specs.Prelude.{◌≡◌, ◌<◌, ◌^◌, ◌-◌, IfOk, IfSome, OnOk, length};
 ghost use Rattle.td_script.specs.Script.{IsAdded, IsTold};
+ghost use Rattle.td_script.specs.Settings.{setting_lent};
 
 use crate::dispatch::answer;
 use crate::reports::Reports;
@@ -33,11 +33,8 @@ fn add_line<R: Reports>(
     requires fits { IfSome reports (λ r. R.fits r.now book.old.history.opening book.old.fixed) }
     requires room { told.old.refused < 2 ^ 63 }
     ensures { OnOk result (IsAdded
-        (record {
-          stock = book.old.fixed.stock;
-          suites = map (λ s. s.now) suites.now;
-          report = option_map (λ r. R.text r.now) reports.entry;
-        }) line.now book.old book.new told.old told.new) }
+        (setting_lent R.text book.old.fixed.stock suites.now reports.entry) line.now book.old
+        book.new told.old told.new) }
 {
     if answer(alloc, book, board, suites, reports, line, &mut told.text)? {
         told.refused += 1;
@@ -59,11 +56,8 @@ pub fn tell<R: Reports>(
     requires fits { IfSome reports (λ r. R.fits r.now book.old.history.opening book.old.fixed) }
     requires small { length script.now < 2 ^ 63 - 1 }
     ensures { IfOk result (IsTold
-        (record {
-          stock = book.old.fixed.stock;
-          suites = map (λ s. s.now) suites.now;
-          report = option_map (λ r. R.text r.now) reports.entry;
-        }) script.now book.old book.new) }
+        (setting_lent R.text book.old.fixed.stock suites.now reports.entry) script.now book.old
+        book.new) }
 {
     let mut told = Told {
         text: String::new(alloc),

@@ -1,6 +1,6 @@
 //! Reports by the counts of a book that watches the groups of a transition.
-ghost use Rattle.std.specs.Prelude.{◌≡◌, ◌<◌, ◌^◌, ◌-◌, ℕ, Some, IfOk, IfSome, OnOk, length, map};
-ghost use Rattle.std.specs.Prelude.{option_map, slice_get, string_bytes};
+ghost use Rattle.std.specs.Prelude.{◌≡◌, ◌<◌, ◌^◌, ◌-◌, ℕ, Some, IfOk, IfSome, OnOk, length};
+ghost use Rattle.std.specs.Prelude.{slice_get, string_bytes};
 ghost use Rattle.td_core.specs.History.{rows_of};
 ghost use Rattle.td_book.specs.Watching.{installed_in};
 ghost use Rattle.td_book.specs.WatchCalls.{with_watch};
@@ -8,6 +8,7 @@ ghost use Rattle.td_report.specs.TransitionView.{IsMade};
 ghost use Rattle.td_script.specs.Ends.{IsAnswered};
 ghost use Rattle.td_script.specs.Reporting.{report_by};
 ghost use Rattle.td_script.specs.Script.{IsTold};
+ghost use Rattle.td_script.specs.Settings.{setting_lent};
 ghost use Rattle.td_script.specs.Watched.{Watches, watch_by};
 
 use crate::reports::Reports;
@@ -79,11 +80,8 @@ fn tell_counted(
     requires watches { Watches reports.now.transition.now book.old.history.opening book.old.fixed }
     requires small { length script.now < 2 ^ 63 - 1 }
     ensures { IfOk result (IsTold
-        (record {
-          stock = book.old.fixed.stock;
-          suites = map (λ s. s.now) suites.now;
-          report = Some (report_by reports.now.transition.now);
-        }) script.now book.old book.new) }
+        (setting_lent report_by book.old.fixed.stock suites.now (Some reports.now.transition))
+        script.now book.old book.new) }
 {
     tell(alloc, book, board, suites, Some(reports), script)
 }
@@ -103,11 +101,8 @@ pub fn tell_watched(
     requires made { IfSome transition (λ x. IsMade x.now) }
     requires small { length script.now < 2 ^ 63 - 1 }
     ensures { IfOk result (λ told.
-        IsAnswered (record {
-          stock = book.old.fixed.stock;
-          suites = map (λ s. s.now) suites.now;
-          report = option_map (λ x. report_by x.now) transition.entry;
-        }) book.old.history script.now (string_bytes told.text) told.refused) }
+        IsAnswered (setting_lent report_by book.old.fixed.stock suites.now transition.entry)
+        book.old.history script.now (string_bytes told.text) told.refused) }
 {
     match transition {
         Some(transition) => {
