@@ -5,14 +5,13 @@ use Rattle.std.specs.List.{AllByRecursion}
 use Rattle.std.specs.Io.KnownBytes.{Keeps}
 use Rattle.td_rows.specs.declared.key.Key.{Key}
 use Rattle.td_rows.specs.declared.outcome.Outcome.{Outcome}
-use Rattle.td_core.specs.History.{History}
 use Rattle.td_builder.specs.OutcomeLines.{IsFirstBad, OutcomeFits, outcome_line}
 use Rattle.td_script.specs.declared.running.RunFault.{RunFault}
 use Rattle.td_script.specs.declared.running.RunFault.TheVariants as fault
 use Rattle.td_script.specs.Ends.{SaysBy}
 use Rattle.td_script.specs.OpeningInside.{IsRefusedBy}
 use Rattle.td_script.specs.Openings.{Texts}
-use Rattle.td_script.specs.Replies.{Setting}
+use Rattle.td_script.specs.Telling.{Telling}
 use Rattle.td_script.proofs.OnlyLaws.{stops_run}
 use Rattle.td_script.proofs.WithoutJournal.{refused_too}
 use Rattle.td_crew.specs.declared.running.CrewFault.{CrewFault}
@@ -20,9 +19,8 @@ use Rattle.td_crew.specs.declared.running.CrewFault.TheVariants.{BadOutcome, Run
 use Rattle.td_crew.specs.CrewEnds.{AreRead, CrewMayStop, CrewSays, IsNoOutcomes, StopsSo}
 
 -- nothing is written where a text is refused
-untouched : (May : Setting → History → List ℕ → List ℕ → ℕ → Type 0) (x : Texts)
-    (known old new : Option (List ℕ)) (e : RunFault) → IsRefusedBy x e → Keeps old new
-    → SaysBy May x known old new (Err e)
+untouched : (May : Telling) (x : Texts) (known old new : Option (List ℕ)) (e : RunFault)
+    → IsRefusedBy x e → Keeps old new → SaysBy May x known old new (Err e)
 untouched May x known old new (fault.Input i) refused keeps = (refused, keeps)
 untouched May x known old new fault.Read refused keeps = absurd refused
 untouched May x known old new fault.TooLong refused keeps = absurd refused
@@ -31,8 +29,8 @@ untouched May x known old new fault.Write refused keeps = absurd refused
 untouched May x known old new fault.NoMemory refused keeps = keeps
 
 -- where the outcomes aren't read
-pub unread_says : (May : Setting → History → List ℕ → List ℕ → ℕ → Type 0) (x : Texts)
-    (lines : List (List ℕ)) (known old new : Option (List ℕ)) (f : CrewFault)
+pub unread_says : (May : Telling) (x : Texts) (lines : List (List ℕ))
+    (known old new : Option (List ℕ)) (f : CrewFault)
     → IsNoOutcomes x lines f → Keeps old new → CrewSays May x lines known old new (Err f)
 unread_says May x lines known old new (BadOutcome n) is keeps = (is.0, is.1, keeps)
 unread_says May x lines known old new (Run e) is keeps =

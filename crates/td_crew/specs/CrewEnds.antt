@@ -5,14 +5,13 @@ use Rattle.std.specs.Io.KnownBytes.{Keeps}
 use Rattle.td_text.specs.Lines.{lines_of, ended}
 use Rattle.td_rows.specs.declared.key.Key.{Key}
 use Rattle.td_rows.specs.declared.outcome.Outcome.{Outcome}
-use Rattle.td_core.specs.History.{History}
 use Rattle.td_builder.specs.OutcomeLines.{AreOutcomes, IsFirstBad}
 use Rattle.td_script.specs.declared.inputs.Inputs.{Inputs}
 use Rattle.td_script.specs.declared.running.ScriptEnd.{ScriptEnd}
 use Rattle.td_script.specs.Ends.{AreFine, IsScriptText, MayStop, SaysBy}
 use Rattle.td_script.specs.OpeningInside.{IsRefusedBy, Stops}
 use Rattle.td_script.specs.Openings.{AreReadable, Texts, without_journal}
-use Rattle.td_script.specs.Replies.{Setting}
+use Rattle.td_script.specs.Telling.{Telling}
 use Rattle.td_crew.specs.declared.running.CrewFault.{CrewFault}
 use Rattle.td_crew.specs.declared.running.CrewFault.TheVariants.{BadOutcome, Run}
 
@@ -26,8 +25,8 @@ AreRead lines = (os : List (Key × Outcome)) × AreOutcomes lines os
 
 -- what an end says: of the outcomes as soon as the files in front of them are fine, whatever the
 -- journal behind them is, and of the rest as without them
-abbrev pub CrewSays : (Setting → History → List ℕ → List ℕ → ℕ → Type 0) → Texts → List (List ℕ)
-    → Option (List ℕ) → Option (List ℕ) → Option (List ℕ) → Result ScriptEnd CrewFault → Type 0
+abbrev pub CrewSays : Telling → Texts → List (List ℕ) → Option (List ℕ) → Option (List ℕ)
+    → Option (List ℕ) → Result ScriptEnd CrewFault → Type 0
 CrewSays May x outcomes known old new (Ok end) =
     AreRead outcomes × SaysBy May x known old new (Ok end)
 CrewSays May x outcomes known old new (Err (BadOutcome n)) =

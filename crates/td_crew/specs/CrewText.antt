@@ -10,7 +10,8 @@ use Rattle.td_journal.specs.declared.entry.Mark.{Mark}
 use Rattle.td_desk.specs.Marks.{marks_in}
 use Rattle.td_script.specs.declared.told.Told.{Told}
 use Rattle.td_script.specs.Openings.{IsBegun}
-use Rattle.td_script.specs.Replies.{Setting, ended}
+use Rattle.td_script.specs.Replies.{ended}
+use Rattle.td_script.specs.Telling.{Telling}
 
 -- the line `rows`, and the lines of the rows
 abbrev pub rows_told : Table → List ℕ
@@ -29,7 +30,7 @@ pub record EndsWithRows (builders : ℕ) (opened : Table) (script text : List �
   pub few : refused ≤ length script + builders + 2
 
 -- what a crew of so many builders may tell of a script from this history
-abbrev pub crew_tells : ℕ → Setting → History → List ℕ → List ℕ → ℕ → Type 0
+abbrev pub crew_tells : ℕ → Telling
 crew_tells builders s h script text refused = EndsWithRows builders h.opening script text refused
 
 -- ---- as the code has it

@@ -1,3 +1,4 @@
 -- What the contracts of this crate cite: a file a thing.
 pub mod CrewEnds
 pub mod CrewText
+pub mod Lines

@@ -1,8 +1,6 @@
 //! The answers of a desk, put in the words of scripts. Each function says whether the line is
 //! refused.
-ghost use Rattle.std.specs.Prelude.{IfSome};
-ghost use Rattle.td_rows.specs.Table.{Table};
-ghost use Rattle.td_book.specs.Desk.{Fixed};
+ghost use Rattle.td_crew.specs.Lines.{FitAnyBook};
 
 use crate::lines::Lines;
 use std::alloc::AllocError;
@@ -58,14 +56,14 @@ fn report<N: Named, C: Ledger, T: Reports, R: Wait>(
     lines: &Lines<'_, '_, T>,
     out: &mut String,
 ) -> Result<bool, AllocError>
-    requires fits { IfSome lines.now.reports (λ r. (t : Table) (f : Fixed) → T.fits r.now t f) }
+    requires fits { FitAnyBook T.fits lines.now.reports }
 {
     let alloc = lines.alloc;
     let reports = lines.reports;
     desk.look(
         rt,
         |book| -> Result<bool, AllocError>
-            requires { IfSome reports (λ r. (t : Table) (f : Fixed) → T.fits r.now t f) }
+            requires { FitAnyBook T.fits reports }
         { show_report(alloc, book, reports, out) },
     )
 }
@@ -79,7 +77,7 @@ pub fn ask<N: Named, C: Ledger, T: Reports, R: Wait>(
     request: &Request,
     out: &mut String,
 ) -> Result<bool, AllocError>
-    requires fits { IfSome lines.now.reports (λ r. (t : Table) (f : Fixed) → T.fits r.now t f) }
+    requires fits { FitAnyBook T.fits lines.now.reports }
 {
     match request {
         Request::Undo(n) => put_undo(out, *n, desk.undo(rt, clerk, *n)),

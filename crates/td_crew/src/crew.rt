@@ -1,16 +1,15 @@
 //! A crew: a clerk beside builders.
 ghost use Rattle.std.specs.Prelude.{◌≡◌, ◌+◌, ◌-◌, ◌≤◌, ◌<◌, ◌^◌, ◌∷◌, [], All, IfErr, IfOk};
-ghost use Rattle.std.specs.Prelude.{IfSome, OnOk, length, option_map, string_bytes};
+ghost use Rattle.std.specs.Prelude.{OnOk, length, option_map, string_bytes};
 ghost use Rattle.td_board.specs.Knowledge.{new_desk};
 ghost use Rattle.td_core.specs.Phases.{NoneBuilt};
-ghost use Rattle.td_rows.specs.Table.{Table};
-ghost use Rattle.td_book.specs.Desk.{Fixed};
 ghost use Rattle.td_supply.specs.Supply.{opened, stock_of};
 ghost use Rattle.td_script.specs.Asking.{IsFit, IsToldOf};
 ghost use Rattle.td_script.specs.OpeningInside.{IsJournalFault};
 ghost use Rattle.td_script.specs.Openings.{IsJournalIfGiven};
 ghost use Rattle.td_crew.specs.CrewText.{EndsWithRows, HasBegun, HasRows, IsClosed, crew_tells};
 ghost use Rattle.td_crew.specs.CrewText.{marks_begun};
+ghost use Rattle.td_crew.specs.Lines.{FitAnyBook};
 
 use crate::building::build;
 use crate::hired::{Hired, hire};
@@ -43,8 +42,7 @@ pub struct Crew {
 impl Staff for Crew {
     ghost use Rattle.td_crew.specs.CrewText.{crew_tells};
 
-    ghost tells = { λ crew s h lines text refused.
-        crew_tells crew.builders s h lines text refused };
+    ghost tells = { λ crew. crew_tells crew.builders };
 }
 
 // What is told of the lines; then the desk is shut.
@@ -54,7 +52,7 @@ fn tell_all<N: Named, C: Ledger, T: Reports, R: Wait>(
     clerk: &mut Clerk<C>,
     lines: &Lines<'_, '_, T>,
 ) -> Result<Told, AllocError>
-    requires fits { IfSome lines.now.reports (λ r. (t : Table) (f : Fixed) → T.fits r.now t f) }
+    requires fits { FitAnyBook T.fits lines.now.reports }
     ensures { IfOk result (λ told. told.refused ≤ length lines.now.script.now + 1) }
 {
     let told = tell_lines(rt, desk, clerk, lines);
@@ -63,28 +61,22 @@ fn tell_all<N: Named, C: Ledger, T: Reports, R: Wait>(
 }
 
 // What is told of the lines, while builders work on threads of their own; they are joined then.
-fn tell_beside<
-    N: Named + Send + Sync,
-    C: Ledger + Send + Sync,
-    B: Builds + Sync,
-    T: Reports,
-    R: Threads + Wait + Sync,
->(
-    rt: &R,
+fn tell_beside<N: Named + Send + Sync, C: Ledger + Send + Sync, T: Reports>(
+    rt: &(impl Threads + Wait + Sync),
     shift: &Shift<'_, '_, N, C>,
     clerk: &mut Clerk<C>,
     hired: Vec<Hired<N>>,
-    builds: &B,
+    builds: &(impl Builds + Sync),
     lines: &Lines<'_, '_, T>,
 ) -> Result<Told, AllocError>
-    requires fits { IfSome lines.now.reports (λ r. (t : Table) (f : Fixed) → T.fits r.now t f) }
+    requires fits { FitAnyBook T.fits lines.now.reports }
     ensures { IfOk result (λ told. told.refused ≤ length lines.now.script.now + 1) }
 {
     thread::scope(
         thread::scope_env(),
         rt,
         |scope| -> Result<Told, AllocError>
-            requires { IfSome lines.now.reports (λ r. (t : Table) (f : Fixed) → T.fits r.now t f) }
+            requires { FitAnyBook T.fits lines.now.reports }
             ensures { IfOk result (λ told. told.refused ≤ length lines.entry.now.script.now + 1) }
         {
             for one in hired {
@@ -98,23 +90,17 @@ fn tell_beside<
 }
 
 // What is told of the lines beside builders on these seats. Each who is missing is a refusal.
-fn tell_in_shift<
-    N: Named + Send + Sync,
-    C: Ledger + Send + Sync,
-    B: Builds + Sync,
-    T: Reports,
-    R: Threads + Wait + Sync,
->(
-    rt: &R,
+fn tell_in_shift<N: Named + Send + Sync, C: Ledger + Send + Sync, T: Reports>(
+    rt: &(impl Threads + Wait + Sync),
     desk: &Desk<'_, N, C>,
     clerk: &mut Clerk<C>,
     seats: Vec<BuilderSeat>,
-    builds: &B,
+    builds: &(impl Builds + Sync),
     lines: &Lines<'_, '_, T>,
 ) -> Result<Told, AllocError>
     requires seats { All (λ s. s.table ≡ N.table) seats.items }
     requires few { length seats.items ≤ 64 }
-    requires fits { IfSome lines.now.reports (λ r. (t : Table) (f : Fixed) → T.fits r.now t f) }
+    requires fits { FitAnyBook T.fits lines.now.reports }
     ensures { IfOk result (λ told.
         told.refused ≤ length lines.now.script.now + length seats.items + 1) }
 {
@@ -176,23 +162,17 @@ fn close<N: Named, C: Ledger>(
 }
 
 // What a crew at this desk tells of a script.
-fn tell_at<
-    N: Named + Send + Sync,
-    C: Ledger + Send + Sync,
-    B: Builds + Sync,
-    T: Reports,
-    R: Threads + Wait + Sync,
->(
-    rt: &R,
+fn tell_at<N: Named + Send + Sync, C: Ledger + Send + Sync, T: Reports>(
+    rt: &(impl Threads + Wait + Sync),
     desk: Desk<'_, N, C>,
     clerk: Clerk<C>,
     seats: Vec<BuilderSeat>,
-    builds: &B,
+    builds: &(impl Builds + Sync),
     lines: &Lines<'_, '_, T>,
 ) -> Result<Told, AllocError>
     requires seats { All (λ s. s.table ≡ N.table) seats.items }
     requires few { length seats.items ≤ 64 }
-    requires fits { IfSome lines.now.reports (λ r. (t : Table) (f : Fixed) → T.fits r.now t f) }
+    requires fits { FitAnyBook T.fits lines.now.reports }
     ensures { IfOk result (λ told.
         EndsWithRows (length seats.items) N.origin lines.now.script.now (string_bytes told.text)
         told.refused) }
@@ -236,21 +216,15 @@ fn begin<'a, N: Named, C: Ledger>(
 }
 
 // What a crew at the named board tells of a script.
-fn tell_named<
-    N: Named + Send + Sync,
-    C: Ledger + Send + Sync,
-    B: Builds + Sync,
-    T: Reports,
-    R: Threads + Wait + Sync,
->(
-    rt: &R,
+fn tell_named<N: Named + Send + Sync, C: Ledger + Send + Sync, T: Reports>(
+    rt: &(impl Threads + Wait + Sync),
     board: Board,
     seat: DeskSeat,
     seats: Vec<BuilderSeat>,
     rows: Rows,
     supply: Supply<'_>,
     blank: Blank,
-    builds: &B,
+    builds: &(impl Builds + Sync),
     lines: &Lines<'_, '_, T>,
 ) -> Result<Told, ReadError>
     requires board { board.table ≡ N.table }
@@ -263,7 +237,7 @@ fn tell_named<
     requires idle { NoneBuilt rows }
     requires fresh_supply { supply ≡ opened (stock_of supply) }
     requires ledger { (blank.name ≡ C.name) × (blank.parts ≡ C.parts) × (blank.parts ≡ 1024) }
-    requires fits { IfSome lines.now.reports (λ r. (t : Table) (f : Fixed) → T.fits r.now t f) }
+    requires fits { FitAnyBook T.fits lines.now.reports }
     ensures begun { OnOk result (HasBegun (option_map (λ s. s.now) lines.now.journal) rows) }
     ensures told { IfOk result (λ told.
         EndsWithRows (length seats.items) rows lines.now.script.now (string_bytes told.text)
@@ -309,7 +283,7 @@ pub fn tell_script<B: Builds + Sync, R: Threads + Wait + Sync>(
         journal: asked.journal,
         script: asked.script,
     };
-    tell_named::<Brand, Brand, B, Transition<'_, '_, '_, '_>, R>(
+    tell_named::<Brand, Brand, Transition<'_, '_, '_, '_>>(
         rt,
         board,
         seat,

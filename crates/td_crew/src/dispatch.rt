@@ -1,7 +1,5 @@
 //! The answer to a line at a desk.
-ghost use Rattle.std.specs.Prelude.{IfSome};
-ghost use Rattle.td_rows.specs.Table.{Table};
-ghost use Rattle.td_book.specs.Desk.{Fixed};
+ghost use Rattle.td_crew.specs.Lines.{FitAnyBook};
 
 use crate::answering::{ask, command};
 use crate::lines::Lines;
@@ -40,7 +38,7 @@ pub fn answer<N: Named, C: Ledger, T: Reports, R: Wait>(
     line: &str,
     out: &mut String,
 ) -> Result<bool, AllocError>
-    requires fits { IfSome lines.now.reports (λ r. (t : Table) (f : Fixed) → T.fits r.now t f) }
+    requires fits { FitAnyBook T.fits lines.now.reports }
 {
     match read_line(lines.alloc, line)? {
         Said::Skipped => Ok(false),

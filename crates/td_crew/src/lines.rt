@@ -7,7 +7,7 @@ use td_script::Reports;
 
 /// The lines that a clerk answers, and by what. That the reports fit any book is no field of it:
 /// what `fits` says is left to `Reports`, and a ghost field has to be known as a proposition. So
-/// each call asks for it.
+/// each call asks for it, by `FitAnyBook`.
 #[derive(Drop)]
 pub struct Lines<'s, 'a, T: Reports> {
     pub alloc: Global,

@@ -1,7 +1,6 @@
 //! What is told of a script at a desk: the answers to its lines, one after the other.
-ghost use Rattle.std.specs.Prelude.{◌+◌, ◌≤◌, ◌<◌, ◌^◌, IfOk, IfSome, OnOk, length};
-ghost use Rattle.td_rows.specs.Table.{Table};
-ghost use Rattle.td_book.specs.Desk.{Fixed};
+ghost use Rattle.std.specs.Prelude.{◌+◌, ◌≤◌, ◌<◌, ◌^◌, IfOk, OnOk, length};
+ghost use Rattle.td_crew.specs.Lines.{FitAnyBook};
 
 use crate::dispatch::answer;
 use crate::lines::Lines;
@@ -21,7 +20,7 @@ fn add_line<N: Named, C: Ledger, T: Reports, R: Wait>(
     line: &str,
     told: &mut Told,
 ) -> Result<(), AllocError>
-    requires fits { IfSome lines.now.reports (λ r. (t : Table) (f : Fixed) → T.fits r.now t f) }
+    requires fits { FitAnyBook T.fits lines.now.reports }
     requires room { told.old.refused < 2 ^ 63 }
     ensures { OnOk result (told.new.refused ≤ told.old.refused + 1) }
 {
@@ -38,7 +37,7 @@ pub fn tell_lines<N: Named, C: Ledger, T: Reports, R: Wait>(
     clerk: &mut Clerk<C>,
     lines: &Lines<'_, '_, T>,
 ) -> Result<Told, AllocError>
-    requires fits { IfSome lines.now.reports (λ r. (t : Table) (f : Fixed) → T.fits r.now t f) }
+    requires fits { FitAnyBook T.fits lines.now.reports }
     ensures { IfOk result (λ told. told.refused ≤ length lines.now.script.now + 1) }
 {
     let mut told = Told {
