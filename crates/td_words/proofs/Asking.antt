@@ -3,12 +3,12 @@ use Rattle.std.proofs.Common.{◌≡◌, ℕ, Bool, true, false, List, [], ◌++
 use Rattle.std.proofs.Common.{◌∷◌, Ok, Err, IfOk, MatchResult, codes, option_map, unwrap_or}
 use Rattle.std.proofs.Common.{string_bytes, refl, sym, ap, subst, inl, inr, ◌∙◌}
 use Rattle.std.specs.Borrow.{Bor}
-use Rattle.clap.specs.Faults.{is_simple_and_free}
+use Rattle.clap.specs.Faults.{fault_of, is_simple_and_free}
 use Rattle.clap.specs.Kinds.{HasKind}
 use Rattle.clap.specs.Values.{kind_of}
 use Rattle.clap.specs.Matches.{found_of}
 use Rattle.clap.specs.Walk.{Row, first_of, rows_of}
-use Rattle.clap.specs.Simple.{HasMatchesOf, subcommand_of, subcommand_rows_of}
+use Rattle.clap.specs.Simple.{App, HasMatchesOf, subcommand_of, subcommand_rows_of}
 use Rattle.clap.specs.declared.error.Error.{Error}
 use Rattle.clap.specs.declared.error.kind.ErrorKind.TheVariants.{OutOfMemory}
 use Rattle.clap.specs.declared.parser.matches.ArgMatches.{ArgMatches}
@@ -32,11 +32,12 @@ pub is_plain : is_simple_and_free desk ≡ true
 unfolding clap_on_literals
 is_plain = refl
 
--- what the matches hold is what the words ask for
-pub rows_are_asked : (m : ArgMatches) (words : List (List ℕ)) → HasMatchesOf desk words m
-    → subcommand_rows_of m ≡ subcommand_of desk words
+-- what the matches hold is what the words ask for, by the command that was built
+pub rows_are_asked : (built : App) (m : ArgMatches) (words : List (List ℕ)) → built ≡ desk
+    → HasMatchesOf built words m → subcommand_rows_of m ≡ subcommand_of desk words
 unfolding clap_on_literals
-rows_are_asked m words has = (has refl).1
+rows_are_asked built m words same has =
+    ((subst (λ a. HasMatchesOf a words m) same has) refl).1
 
 -- what holds of the answer that has a request holds of the call that has it
 pub holds_of_call : (P : Request → Type 0) (Q : WordsFault → Type 0) (r : Result Request WordsFault)
@@ -116,12 +117,11 @@ has_run options w files state tracker suite count outcomes journal =
 -- the words of a whole run ask for it
 pub asks_for_whole_run : WholeRunWordsAsk
 unfolding clap_on_literals
-asks_for_whole_run program archs packages sources state tracker suite builders outcomes journal
-    count same = (
-      (refl, refl),
-      (has_run _ _ (record { archs_path = refl; packages_path = refl; sources_path = refl })
-          refl refl refl same refl refl),
-    )
+asks_for_whole_run program archs packages sources v count same = (
+  (refl, refl),
+  (has_run _ _ (record { archs_path = refl; packages_path = refl; sources_path = refl })
+      refl refl refl same refl refl),
+)
 
 -- ---- with an explanation
 
@@ -321,7 +321,20 @@ asks words found (Run archs packages sources state tracker suite builders outcom
           is.1,
     )
 
+-- what `clap` says of words by the command that was built, it says of these words
+pub said_of_words : (Says : App → Type 0) (built : App) → built ≡ desk
+    → (is_simple_and_free built ≡ true → Says built) → Says desk
+said_of_words Says built same says =
+    subst (λ a. is_simple_and_free a ≡ true → Says a) same says is_plain
+
 -- where nothing is wrong with the words, only memory is wanting
 pub no_kind : (e : Error) → HasKind [] e → kind_of e ≡ OutOfMemory
 no_kind e (inl memory) = memory
 no_kind e (inr among) = absurd among
+
+pub only_memory : (built : App) (words : List (List ℕ)) (e : Error) → built ≡ desk
+    → faults_of words ≡ [] → (is_simple_and_free built ≡ true → HasKind (fault_of built words) e)
+    → kind_of e ≡ OutOfMemory
+only_memory built words e same none kinds =
+    no_kind e (subst (λ k. HasKind k e) none
+    (said_of_words (λ a. HasKind (fault_of a words) e) built same kinds))

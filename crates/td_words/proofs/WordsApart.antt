@@ -7,12 +7,12 @@ use Rattle.clap.specs.Kinds.{or_else}
 use Rattle.clap.specs.Walk.{Row, finished, nothing_held, walk_from}
 use Rattle.clap.specs.Simple.{Shape, built, subcommand_of}
 use Rattle.clap.proofs.OnLiterals.{clap_on_literals}
-use Rattle.td_words.specs.CommandLine.{AskForCheck, AskForTrack, HasFiles}
-use Rattle.td_words.specs.CommandLine.{HasRun, HasTrack, HasTracker, IsPlainPath, RunWords}
+use Rattle.td_words.specs.CommandLine.{AskForCheck, AskForTrack, DeskValues, HasFiles}
+use Rattle.td_words.specs.CommandLine.{HasRun, HasTrack, HasTracker, IsPlainPath}
 use Rattle.td_words.specs.CommandLine.{TrackWords, asking_apart, check_shape, chunk_in}
 use Rattle.td_words.specs.CommandLine.{desk, faults_of, name_in, plain_run, rows_in, run_shape}
-use Rattle.td_words.specs.CommandLine.{track_shape, waves_shape}
-use Rattle.td_words.specs.WordsApart.{AreDeskPlain, ArePlain, DeskValues, IsPlainIfGiven}
+use Rattle.td_words.specs.CommandLine.{track_shape, waves_shape, whole_run}
+use Rattle.td_words.specs.WordsApart.{AreDeskPlain, ArePlain, IsPlainIfGiven}
 use Rattle.td_words.specs.WordsApart.{SeparatePlainRunWordsAsk, SeparateTrackWordsAsk}
 use Rattle.td_words.specs.WordsApart.{SeparateWavesWordsAsk, SeparateWholeRunWordsAsk}
 use Rattle.td_words.specs.WordsApart.{plain_run_apart, track_apart, waves_apart, whole_run_apart}
@@ -347,20 +347,6 @@ unfolding clap_on_literals
 whole_entered program a p s v h =
     ap (λ w. Some (codes "run", finished built_run.rules w.held))
     (walk_is built_run (walk_from nothing_held) (whole_given a p s v) h)
-
-abbrev whole_run : List ℕ → List ℕ → List ℕ → DeskValues → ℕ → RunWords
-whole_run a p s v count =
-    record {
-      archs = a;
-      packages = p;
-      sources = s;
-      state = Some v.state;
-      tracker = Some v.tracker;
-      suite = v.suite;
-      builders = count;
-      outcomes = Some v.outcomes;
-      journal = Some v.journal;
-    }
 
 pub asks_for_whole_run_apart : SeparateWholeRunWordsAsk
 unfolding clap_on_literals

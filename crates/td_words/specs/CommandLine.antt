@@ -332,33 +332,45 @@ PlainRunWordsAsk =
     → AskForRun (asking_for_plain_run program archs packages sources)
     (plain_run archs packages sources)
 
--- the words that ask for a run with everything that may be given, by what they say of the builders
-abbrev pub asking_for_whole_run : List ℕ → List ℕ → List ℕ → List ℕ → List ℕ → List ℕ → List ℕ
-    → List ℕ → List ℕ → List ℕ → List (List ℕ)
-asking_for_whole_run program archs packages sources state tracker suite builders outcomes journal =
+-- what else may be given to a run: other rows, a tracker, a suite, how many builders, what their
+-- builds come to, and a journal to go on with
+pub record DeskValues : Type 0 where
+  pub state : List ℕ
+  pub tracker : List ℕ
+  pub suite : List ℕ
+  pub builders : List ℕ
+  pub outcomes : List ℕ
+  pub journal : List ℕ
+
+-- the words that ask for a run with all of them
+abbrev pub asking_for_whole_run : List ℕ → List ℕ → List ℕ → List ℕ → DeskValues → List (List ℕ)
+asking_for_whole_run program archs packages sources v =
     program ∷ codes "run" ∷ archive_words archs packages sources
-    (given (codes "state") state ∷ given (codes "tracker") tracker ∷ given (codes "suite") suite
-    ∷ given (codes "builders") builders
-    ∷ given (codes "outcomes") outcomes ∷ given (codes "journal") journal ∷ [])
+    (given (codes "state") v.state ∷ given (codes "tracker") v.tracker
+    ∷ given (codes "suite") v.suite ∷ given (codes "builders") v.builders
+    ∷ given (codes "outcomes") v.outcomes ∷ given (codes "journal") v.journal ∷ [])
+
+-- what they ask for, by how many builders they say
+abbrev pub whole_run : List ℕ → List ℕ → List ℕ → DeskValues → ℕ → RunWords
+whole_run archs packages sources v count = record {
+  archs = archs;
+  packages = packages;
+  sources = sources;
+  state = Some v.state;
+  tracker = Some v.tracker;
+  suite = v.suite;
+  builders = count;
+  outcomes = Some v.outcomes;
+  journal = Some v.journal;
+}
 
 -- the words that ask for a run with everything that may be given ask for that
 abbrev pub WholeRunWordsAsk : Type 0
 WholeRunWordsAsk =
-    (program archs packages sources state tracker suite builders outcomes journal : List ℕ)
-    (count : ℕ) → builders_at builders ≡ Some count
-    → AskForRun (asking_for_whole_run program archs packages sources state tracker suite builders
-    outcomes journal)
-    (record {
-      archs = archs;
-      packages = packages;
-      sources = sources;
-      state = Some state;
-      tracker = Some tracker;
-      suite = suite;
-      builders = count;
-      outcomes = Some outcomes;
-      journal = Some journal;
-    })
+    (program archs packages sources : List ℕ) (v : DeskValues) (count : ℕ)
+    → builders_at v.builders ≡ Some count
+    → AskForRun (asking_for_whole_run program archs packages sources v)
+    (whole_run archs packages sources v count)
 
 -- ---- with an explanation
 

@@ -1,7 +1,8 @@
 -- The words of `track`, `waves` and `run` with each value as a word of its own. This project's own.
 use Rattle.std.specs.Prelude.{◌≡◌, ℕ, List, [], ◌∷◌, ◌++◌, Option, Some, None, codes}
-use Rattle.td_words.specs.CommandLine.{AskForRun, AskForTrack, AskForWaves, IsPlainPath, TrackWords}
-use Rattle.td_words.specs.CommandLine.{builders_at, chunk_in, plain_run}
+use Rattle.td_words.specs.CommandLine.{AskForRun, AskForTrack, AskForWaves, DeskValues}
+use Rattle.td_words.specs.CommandLine.{IsPlainPath, TrackWords, builders_at, chunk_in, plain_run}
+use Rattle.td_words.specs.CommandLine.{whole_run}
 
 -- `--NAME VALUE`, and the words behind them
 abbrev pub apart : List ℕ → List ℕ → List (List ℕ) → List (List ℕ)
@@ -70,17 +71,7 @@ SeparatePlainRunWordsAsk =
     (program archs packages sources : List ℕ) → ArePlain archs packages sources
     → AskForRun (plain_run_apart program archs packages sources) (plain_run archs packages sources)
 
--- what else may be given to a run: other rows, a tracker, a suite, how many builders, what their
--- builds come to, and a journal to go on with
-pub record DeskValues : Type 0 where
-  pub state : List ℕ
-  pub tracker : List ℕ
-  pub suite : List ℕ
-  pub builders : List ℕ
-  pub outcomes : List ℕ
-  pub journal : List ℕ
-
--- none of them is taken for an option
+-- nothing that is given to a run beside an archive is taken for an option
 pub record AreDeskPlain (v : DeskValues) : Type 0 where
   pub state_plain : IsPlainPath v.state
   pub tracker_plain : IsPlainPath v.tracker
@@ -104,14 +95,4 @@ SeparateWholeRunWordsAsk =
     → builders_at v.builders ≡ Some count
     → ArePlain archs packages sources → AreDeskPlain v
     → AskForRun (whole_run_apart program archs packages sources v)
-    (record {
-      archs = archs;
-      packages = packages;
-      sources = sources;
-      state = Some v.state;
-      tracker = Some v.tracker;
-      suite = v.suite;
-      builders = count;
-      outcomes = Some v.outcomes;
-      journal = Some v.journal;
-    })
+    (whole_run archs packages sources v count)
