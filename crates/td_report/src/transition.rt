@@ -12,7 +12,7 @@ use td_rows::{Key, Row, Rows};
 use td_waves::{Level, Waves};
 
 /// What a tracker makes of an archive: which rows are affected, and in which levels their sources
-/// can be rebuilt. The only way to one is `of`.
+/// can be rebuilt. The only ways to one are `of` and `with_marks`.
 #[derive(Drop)]
 pub struct Transition<'b, 't, 'a, 'q> {
     archive: &'b Archive<'t, 'a>,
@@ -25,6 +25,7 @@ impl<'b, 't, 'a, 'q> Transition<'b, 't, 'a, 'q> {
     ghost use Rattle.std.specs.Prelude.{◌≡◌, ◌≤◌, None, IfOk, IfSome, map, option_map, slice_get};
     ghost use Rattle.std.specs.Prelude.{string_bytes};
     ghost use Rattle.std.specs.Option.{option_map_or};
+    ghost use Rattle.td_query.specs.Marks.{AreMarks};
     ghost use Rattle.td_query.specs.Statuses.{status_of};
     ghost use Rattle.td_query.specs.Tracking.{tracking};
     ghost use Rattle.td_report.specs.Groups.{AreCounts};
@@ -43,6 +44,21 @@ impl<'b, 't, 'a, 'q> Transition<'b, 't, 'a, 'q> {
         ensures tracking { IfOk result (λ x. of.tracking_of x ≡ tracking tracker.now) }
     {
         let marks = Marks::make(alloc, archive, tracker)?;
+        Transition::with_marks(alloc, archive, tracker, marks)
+    }
+
+    /// The same, where the marks of the archive were made before.
+    pub fn with_marks(
+        alloc: Global,
+        archive: &'b Archive<'t, 'a>,
+        tracker: &'b Tracker<'q>,
+        marks: Marks,
+    ) -> Result<Transition<'b, 't, 'a, 'q>, AllocError>
+        requires { AreMarks archive.now (tracking tracker.now) marks }
+        ensures made { IfOk result of.IsMade }
+        ensures archive { IfOk result (λ x. of.contents_of x ≡ archive.now) }
+        ensures tracking { IfOk result (λ x. of.tracking_of x ≡ tracking tracker.now) }
+    {
         let names = marks.affected_sources(alloc, archive)?;
         let waves = Waves::of(alloc, archive, &names)?;
         Ok(Transition {

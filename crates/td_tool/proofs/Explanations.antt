@@ -1,26 +1,18 @@
 -- The text in which an ending is explained, and what is said of it.
-use Rattle.std.proofs.Common.{◌≡◌, ◌≢◌, ◌≤◌, ℕ, Bool, true, false, List, [], ◌++◌, length, Option}
-use Rattle.std.proofs.Common.{Some, None, IfSome, Result, Ok, Err, OnOk, OnErr, String}
-use Rattle.std.proofs.Common.{string_bytes, append-nil, refl, sym, subst, ap, ◌∙◌}
-use Rattle.std.specs.declared.alloc.Global.{Global}
-use Rattle.std.specs.Prelude.{option_and_then}
+use Rattle.std.proofs.Common.{◌≡◌, ◌≤◌, ℕ, true, List, [], length, Option}
+use Rattle.std.proofs.Common.{Some, None, IfSome, Result, Ok, Err, OnOk, OnErr}
+use Rattle.std.proofs.Common.{string_bytes, append-nil, refl, sym, subst, ◌∙◌}
 use Rattle.td_bytes.specs.Pieces.{AppendsPrefix}
 use Rattle.std.specs.Io.KnownBytes.{Appends}
 use Rattle.std.proofs.KnownBytes.{Appends-nil}
 use Rattle.td_bytes.proofs.Prefixes.{AppendsPrefix-first, AppendsPrefix-second}
 use Rattle.td_explain.specs.declared.spot.Place.{Place}
 use Rattle.td_explain.specs.declared.spot.Place.TheVariants.{Whole, Line, Stanza, Byte}
-use Rattle.td_words.specs.CommandLine.{RunWords, TrackWords}
-use Rattle.td_words.specs.declared.request.Request.{Request}
-use Rattle.td_words.specs.declared.request.Request.TheVariants as asked
 use Rattle.td_tool.specs.Ending.{line_of}
-use Rattle.td_tool.specs.Explained.{Explains, ExplainsFile, IsKept, IsLookedAt, IsSaidOf, IsTextFor}
-use Rattle.td_tool.specs.Explained.{SaysOf, archive_paths, explanation_of, known_at}
-use Rattle.td_tool.specs.Explained.{known_of_request, paths_of, run_paths, track_paths, waves_paths}
+use Rattle.td_tool.specs.Explained.{Explains, IsKept, IsLookedAt, IsSaidOf, IsTextFor}
+use Rattle.td_tool.specs.Explained.{SaysOf, explanation_of}
 use Rattle.td_tool.specs.Places.{place_of}
 use Rattle.td_tool.specs.declared.role.Role.{Role}
-use Rattle.td_tool.specs.declared.role.Role.TheVariants as role
-use Rattle.td_tool.specs.declared.input_fault.InputFault.{InputFault}
 use Rattle.td_tool.specs.declared.ending.Ended.{Ended}
 use Rattle.td_tool.specs.declared.ending.Ending.{Ending}
 use Rattle.td_tool.specs.declared.ending.Ending.TheVariants.{Done, Refused, BadInput, NoMemory}
@@ -47,33 +39,6 @@ some_text (BadInput r fault) known = looked_at (place_of fault) (known r)
 some_text NoMemory known = ([], tt)
 some_text (CannotRead r) known = ([], tt)
 some_text CannotWrite known = ([], tt)
-
--- a text that is the known one can be looked at, wherever
-is_looked_at : (place : Place) (known : Option (List ℕ)) (text : List ℕ)
-    → IfSome known (λ all. all ≡ text) → IsLookedAt place known text
-is_looked_at Whole known text same = tt
-is_looked_at (Line n) known text same = same
-is_looked_at (Stanza n) known text same = same
-is_looked_at (Byte at) known text same = same
-
-pub explains_role : (known : Role → Option (List ℕ)) (r : Role) (fault : InputFault) (line : List ℕ)
-    → ExplainsFile (known r) r fault line → Explains known (BadInput r fault) line
-explains_role known r fault line e = (e.0, is_looked_at (place_of fault) (known r) e.0 e.1, e.2)
-
--- a file of a request's paths is the known one of its role
-pub file_text : (q : Request) (known : Option (List ℕ)) (bytes : List ℕ → Option (List ℕ))
-    (r : Role) (path text : List ℕ) → paths_of q r ≡ Some path
-    → IfSome (bytes path) (λ all. all ≡ text)
-    → IfSome (known_of_request q known bytes r) (λ all. all ≡ text)
-file_text asked.Simulate known bytes r path text is same = absurd cc
-file_text (asked.Check a p s) known bytes r path text is same =
-    subst (λ o. IfSome (option_and_then bytes o) (λ all. all ≡ text)) (sym is) same
-file_text (asked.Track a p s t state chunk) known bytes r path text is same =
-    subst (λ o. IfSome (option_and_then bytes o) (λ all. all ≡ text)) (sym is) same
-file_text (asked.Waves a p s t) known bytes r path text is same =
-    subst (λ o. IfSome (option_and_then bytes o) (λ all. all ≡ text)) (sym is) same
-file_text (asked.Run a p s state tracker suite builders outcomes journal) known bytes r path text is
-    same = subst (λ o. IfSome (option_and_then bytes o) (λ all. all ≡ text)) (sym is) same
 
 -- where only the line of the ending is said, or a front of it
 pub line_alone : (known : Role → Option (List ℕ)) (ending : Ending) (before said : Option (List ℕ))
@@ -117,41 +82,6 @@ both_said known ending before between said line is = (
   is.1,
   AppendsPrefix-second before between said (line_of ending) (explanation_of ending is.0) line is.2,
 )
-
--- ---- the paths of a role
-
-pub track_rest : (w : TrackWords) (r : Role) → r ≢ role.State → r ≢ role.Tracker
-    → archive_paths w.archs w.packages w.sources r ≡ track_paths w r
-track_rest w role.Input first second = refl
-track_rest w role.Archs first second = refl
-track_rest w role.Packages first second = refl
-track_rest w role.Sources first second = refl
-track_rest w role.State first second = absurd (first refl)
-track_rest w role.Tracker first second = absurd (second refl)
-track_rest w role.Outcomes first second = refl
-track_rest w role.Journal first second = refl
-
-pub waves_rest : (archs packages sources tracker : List ℕ) (r : Role) → r ≢ role.Tracker
-    → archive_paths archs packages sources r ≡ waves_paths archs packages sources tracker r
-waves_rest archs packages sources tracker role.Input first = refl
-waves_rest archs packages sources tracker role.Archs first = refl
-waves_rest archs packages sources tracker role.Packages first = refl
-waves_rest archs packages sources tracker role.Sources first = refl
-waves_rest archs packages sources tracker role.State first = refl
-waves_rest archs packages sources tracker role.Tracker first = absurd (first refl)
-waves_rest archs packages sources tracker role.Outcomes first = refl
-waves_rest archs packages sources tracker role.Journal first = refl
-
-pub run_rest : (w : RunWords) (r : Role) → r ≢ role.State → r ≢ role.Tracker → r ≢ role.Outcomes
-    → r ≢ role.Journal → archive_paths w.archs w.packages w.sources r ≡ run_paths w r
-run_rest w role.Input first second third fourth = refl
-run_rest w role.Archs first second third fourth = refl
-run_rest w role.Packages first second third fourth = refl
-run_rest w role.Sources first second third fourth = refl
-run_rest w role.State first second third fourth = absurd (first refl)
-run_rest w role.Tracker first second third fourth = absurd (second refl)
-run_rest w role.Outcomes first second third fourth = absurd (third refl)
-run_rest w role.Journal first second third fourth = absurd (fourth refl)
 
 -- ---- an ending with no text kept
 

@@ -1,8 +1,7 @@
 -- Checks end as they say by what was read of the files.
-use Rattle.std.proofs.Common.{◌≡◌, ℕ, ◌≤◌, ◌<◌, List, length, Option, Some, None, IfSome, Result}
-use Rattle.std.proofs.Common.{Ok, Err, IfOk, IfErr, IsErrOf, IsUtf8, string_bytes, inl, inr, refl}
+use Rattle.std.proofs.Common.{◌≡◌, ℕ, List, Option, Some, IfSome, Result}
+use Rattle.std.proofs.Common.{Ok, Err, IfOk, IfErr, string_bytes, inl, inr}
 use Rattle.std.proofs.Common.{sym, subst}
-use Rattle.std.specs.Result.{ForOk}
 use Rattle.std.specs.Io.KnownBytes.{Keeps}
 use Rattle.td_bytes.specs.declared.text.TextFault.{TextFault}
 use Rattle.td_bytes.specs.declared.text.TextFault.TheVariants as text
@@ -30,27 +29,13 @@ use Rattle.td_tool.specs.declared.ending.Ending.TheVariants.{Done, Refused, BadI
 use Rattle.td_tool.specs.declared.ending.Ending.TheVariants.{CannotRead, CannotWrite}
 use Rattle.td_tool.specs.Ending.{ending_of_file}
 use Rattle.td_tool.specs.Counted.{IsArchiveOf}
-use Rattle.td_tool.specs.Limits.{file_limit}
-use Rattle.td_tool.specs.Checks.{Files, AreTexts, IsTextOf, IsArchiveIn, IsKnownArchive, IsNoText}
-use Rattle.td_tool.specs.Checks.{IsTooLong, FaultFits, HasFailed, HasFileFault, CheckSays, Checks}
+use Rattle.td_tool.specs.Checks.{Files, IsTextOf, IsArchiveIn, IsKnownArchive, IsNoText}
+use Rattle.td_tool.specs.Checks.{HasFailed, HasFileFault, CheckSays, Checks}
 use Rattle.td_tool.specs.Checks.{HasArchiveFault, HasTableFault}
-use Rattle.td_tool.specs.CheckInside.{AreTextsIn, HasFailedIn, IsWithin, IsNoArchive, TextsSay}
+use Rattle.td_tool.specs.CheckInside.{AreTextsIn, HasFailedIn, IsNoArchive, TextsSay}
 use Rattle.td_tool.specs.CheckInside.{FileTextsEnd, FileUnread}
 
 -- ---- one file
-
--- what a fault says of the bytes
-pub fault_fits : {T : Type 0} (known : Option (List ℕ)) (e : TextFault)
-    → (IsErrOf {T = T} (Err e) text.TooLong → IsTooLong known)
-    → (IsErrOf {T = T} (Err e) text.NotText → IsNoText known) → FaultFits known e
-fault_fits known text.CannotRead long other = tt
-fault_fits known text.TooLong long other = long refl
-fault_fits known text.NotText long other = other refl
-fault_fits known text.NoMemory long other = tt
-
-pub within : (files : Files) (r : Result FileTexts FileFault) → IfOk r (AreTextsIn files)
-    → ForOk r IsWithin
-within files r texts x e = (subst (λ q. IfOk q (AreTextsIn files)) e texts).archs_text.read.0
 
 -- a known text is the one that was read
 same_text : (known : Option (List ℕ)) (all text : List ℕ) → known ≡ Some all → IsTextOf known text

@@ -1,5 +1,5 @@
 -- A run of `track` or `waves` ends as it says, and readable texts are told.
-use Rattle.std.proofs.Common.{◌≡◌, ◌<◌, ◌≤◌, ℕ, List, length, Option, Some, None, true, IfSome}
+use Rattle.std.proofs.Common.{◌≡◌, ◌⊎◌, ◌<◌, ◌≤◌, ℕ, List, length, Option, Some, None, true, IfSome}
 use Rattle.std.proofs.Common.{IsUtf8, Result, Ok, Err, IfOk, IfErr, MatchResult, String}
 use Rattle.std.proofs.Common.{string_bytes, inl, inr, refl, sym, ap, subst, ◌∙◌}
 use Rattle.std.specs.declared.alloc.Global.{Global}
@@ -47,16 +47,22 @@ pub lacks_memory : (text : List ℕ) (ending : Ending) → ending ≡ NoMemory
     → IsPatternRefused text ending
 lacks_memory text ending is = (tracker_fault.NoMemory, tt, is)
 
-pub tracker_stops : {E : Type 0} (text : List ℕ) (r : Result (String Global) E)
+-- what is told of rows that are there fails for want of memory alone
+pub memory_stops : {E : Type 0} (Are : Table → Type 0) (r : Result (String Global) E)
     (q : Result (String Global) Ending) → IfOk r (λ t. q ≡ Ok t) → IfErr r (λ e. q ≡ Err NoMemory)
-    → IfErr q (λ ending. (t : Tracking) → IsTracker text t → IsPatternRefused text ending)
-tracker_stops text (Ok t) q ok err =
-    subst (λ x. IfErr x
-    (λ ending. (t : Tracking) → IsTracker text t → IsPatternRefused text ending)) (sym ok) tt
-tracker_stops text (Err e) q ok err =
-    subst (λ x. IfErr x (λ ending.
-    (t : Tracking) → IsTracker text t → IsPatternRefused text ending)) (sym err)
-    (λ t is. lacks_memory text NoMemory refl)
+    → IfErr q (λ ending. (t : Table) → Are t → ending ≡ NoMemory)
+memory_stops Are (Ok text) q ok err =
+    subst (λ x. IfErr x (λ ending. (t : Table) → Are t → ending ≡ NoMemory)) (sym ok) tt
+memory_stops Are (Err e) q ok err =
+    subst (λ x. IfErr x (λ ending. (t : Table) → Are t → ending ≡ NoMemory)) (sym err)
+    (λ t are. refl)
+
+-- what holds of how the first may end, and of want of memory, holds of how both end
+pub ended_by : {A : Type 0} (Holds : Ending → Type 0) (first : Result A Ending) (ending : Ending)
+    → IfErr first Holds → Holds NoMemory → (first ≡ Err ending) ⊎ (ending ≡ NoMemory)
+    → Holds ending
+ended_by Holds first ending bad memory (inl is) = subst (λ x. IfErr x Holds) is bad
+ended_by Holds first ending bad memory (inr is) = subst Holds (sym is) memory
 
 -- rows that can be put in their places are
 pub replaced_stops : (rows given : Table) (text : List ℕ) (r : Result Table Ending)
@@ -84,10 +90,24 @@ rows_stop c opened text (Err e) are only = λ t replaced.
 
 pub over_stops : (c : Contents) (state : Option (List ℕ)) (tracker : List ℕ)
     (r : Result (String Global) Ending)
-    → IfErr r (λ ending. (t : Tracking) → IsTracker tracker t → IsPatternRefused tracker ending)
+    → IfErr r (λ ending. (t : Table) → AreRowsOf c state t → ending ≡ NoMemory)
     → IfErr r (λ ending. IsReadableOver c state tracker → IsPatternRefused tracker ending)
 over_stops c state tracker (Ok text) only = tt
-over_stops c state tracker (Err e) only = λ readable. only readable.2.0 readable.2.1
+over_stops c state tracker (Err e) only = λ readable.
+    lacks_memory tracker e (only readable.0 readable.1)
+
+-- the same where the text is no tracker
+pub no_tracker_stops : (c : Contents) (state : Option (List ℕ)) (tracker : List ℕ)
+    (rows : Result Table Ending) (second ending : Ending)
+    → IfErr rows (λ e. (t : Table) → AreRowsOf c state t → e ≡ NoMemory)
+    → ((t : Tracking) → IsTracker tracker t → IsPatternRefused tracker second)
+    → IfOk rows (λ t. ending ≡ second) → IfErr rows (λ e. ending ≡ e)
+    → IsReadableOver c state tracker → IsPatternRefused tracker ending
+no_tracker_stops c state tracker (Ok t) second ending only pattern ok err readable =
+    subst (IsPatternRefused tracker) (sym ok) (pattern readable.2.0 readable.2.1)
+no_tracker_stops c state tracker (Err e) second ending only pattern ok err readable =
+    subst (IsPatternRefused tracker) (sym err)
+    (lacks_memory tracker e (only readable.0 readable.1))
 
 -- the texts that were lent are those that were read
 pub indices_stop : (t : List ArchWords) (x : Texts) (c : Contents)

@@ -1,8 +1,7 @@
 -- How `track` and `waves` end by what was read, and by what was found in it.
-use Rattle.std.proofs.Common.{◌≡◌, ◌↔◌, ◌⊎◌, ℕ, List, true, Option, Some, None, Result, Ok, Err}
-use Rattle.std.proofs.Common.{IfOk, IfErr, String, string_bytes, inl, inr, refl, sym, subst, ◌∙◌}
+use Rattle.std.proofs.Common.{◌≡◌, ◌↔◌, ℕ, List, true, Option, Some, Result, Ok, Err}
+use Rattle.std.proofs.Common.{IfOk, IfErr, String, string_bytes, inl, inr, refl, sym, subst}
 use Rattle.std.specs.declared.alloc.Global.{Global}
-use Rattle.std.specs.Io.KnownBytes.{Keeps}
 use Rattle.td_text.specs.Lines.{lines_of}
 use Rattle.td_relation.specs.Arch.{ArchWords}
 use Rattle.td_relation.specs.TableFile.{IsTable}
@@ -21,23 +20,22 @@ use Rattle.td_rows.specs.Table.{Table, keys_of, row_of}
 use Rattle.td_indices.specs.Archive.{Contents, IsArchive}
 use Rattle.td_query.specs.Tracking.{IsTracker, Tracking}
 use Rattle.td_script.specs.Openings.{AreOpened, AreRowsOf}
-use Rattle.td_tool.specs.declared.file_texts.FileFault.{FileFault}
 use Rattle.td_tool.specs.declared.role.Role.{Role}
 use Rattle.td_tool.specs.declared.role.Role.TheVariants.{Input, Archs, Packages, Sources, State}
 use Rattle.td_tool.specs.declared.role.Role.TheVariants.{Tracker, Outcomes, Journal}
 use Rattle.td_bytes.specs.declared.text.TextFault.{TextFault}
 use Rattle.td_tool.specs.declared.ending.Ending.{Ending}
 use Rattle.td_tool.specs.declared.ending.Ending.TheVariants.{NoMemory}
-use Rattle.td_tool.specs.Ending.{ending_of_archive, ending_of_file, ending_of_missing_row}
+use Rattle.td_tool.specs.Ending.{ending_of_archive, ending_of_missing_row}
 use Rattle.td_tool.specs.Ending.{ending_of_table}
 use Rattle.td_tool.specs.Counted.{IsArchiveOf}
-use Rattle.td_tool.specs.Checks.{AreTexts, Files, HasFailed}
-use Rattle.td_tool.specs.CheckInside.{EndsUnwritten, HasFailedIn, WritesSo}
-use Rattle.td_tool.specs.Tracks.{AreRefused, AreTextsOf, EndsSo, FailsAt}
-use Rattle.td_tool.specs.Tracks.{IsNoTracker, IsRefusedOver, IsStateRefused, IsTextIfGiven, RowsSay}
-use Rattle.td_tool.specs.Tracks.{Saying, Texts, TextsSayIt, TrackFiles, TrackerSays}
-use Rattle.td_tool.specs.TrackInside.{AreRefusedWith, HasFailedAt, HasFailedFor, HasFailedIfGiven}
+use Rattle.td_tool.specs.Checks.{Files, HasFailed}
+use Rattle.td_tool.specs.Tracks.{AreRefused}
+use Rattle.td_tool.specs.Tracks.{IsNoTracker, IsRefusedOver, IsStateRefused, RowsSay}
+use Rattle.td_tool.specs.Tracks.{Saying, Texts, TextsSayIt}
+use Rattle.td_tool.specs.TrackInside.{AreRefusedWith}
 use Rattle.td_tool.specs.TrackInside.{IndicesSay, IsRefusedFor, IsReplaced, OrMemory}
+use Rattle.td_tool.specs.TrackInside.{RowsAreSaid}
 
 -- ---- a file that wasn't read
 
@@ -53,25 +51,6 @@ index_fails files Fails State e archs packages sources failed = absurd failed.be
 index_fails files Fails Tracker e archs packages sources failed = absurd failed.before
 index_fails files Fails Outcomes e archs packages sources failed = absurd failed.before
 index_fails files Fails Journal e archs packages sources failed = absurd failed.before
-
-pub fails_first : (files : TrackFiles) (f : FileFault) → HasFailedIn files.indices f
-    → HasFailedAt files f
-fails_first files f failed =
-    index_fails files.indices (λ role. FailsAt files role f.fault) f.role f.fault
-    (λ h. h) (λ h. h) (λ h. h) failed
-
-pub fails_state : (files : TrackFiles) (f : FileFault) (a p s : List ℕ)
-    → AreTexts files.indices a p s → HasFailedIfGiven files.state State f → HasFailedAt files f
-fails_state files f a p s texts failed =
-    subst (λ r. FailsAt files r f.fault) (sym failed.failed.asked)
-    (a, p, s, texts, (failed.file, failed.given, failed.failed.may))
-
-pub fails_tracker : (files : TrackFiles) (f : FileFault) (a p s : List ℕ) (state : Option (List ℕ))
-    → AreTexts files.indices a p s → IsTextIfGiven files.state state
-    → HasFailedFor files.tracker Tracker f → HasFailedAt files f
-fails_tracker files f a p s state texts given failed =
-    subst (λ r. FailsAt files r f.fault) (sym failed.asked)
-    (a, p, s, texts, (state, given, failed.may))
 
 -- ---- texts
 
@@ -91,17 +70,16 @@ archive_of a p s t c is_table is = record {
 
 -- ---- what is found, layer by layer
 
-pub found_by_tracker : {E : Type 0} (Says : Saying) (c : Contents) (rows : Table) (tracker : List ℕ)
-    (t : Tracking) (r : Result (String Global) E) (q : Result (String Global) Ending)
-    → IsTracker tracker t
-    → IfOk r (λ text. Says c t rows (string_bytes text)) → IfOk r (λ text. q ≡ Ok text)
-    → IfErr r (λ e. q ≡ Err NoMemory)
-    → IfOk q (λ text. TrackerSays Says c rows tracker (string_bytes text))
-found_by_tracker Says c rows tracker t (Ok text) q is says ok err =
-    subst (λ x. IfOk x (λ text. TrackerSays Says c rows tracker (string_bytes text))) (sym ok)
-    (t, is, says)
-found_by_tracker Says c rows tracker t (Err e) q is says ok err =
-    subst (λ x. IfOk x (λ text. TrackerSays Says c rows tracker (string_bytes text))) (sym err) tt
+pub rows_are_said : {E : Type 0} (Says : Saying) (c : Contents) (state : Option (List ℕ))
+    (rows : Table) (t : Tracking) (r : Result (String Global) E) (q : Result (String Global) Ending)
+    → AreRowsOf c state rows → IfOk r (λ text. Says c t rows (string_bytes text))
+    → IfOk r (λ text. q ≡ Ok text) → IfErr r (λ e. q ≡ Err NoMemory)
+    → IfOk q (λ text. RowsAreSaid Says c state t (string_bytes text))
+rows_are_said Says c state rows t (Ok text) q are says ok err =
+    subst (λ x. IfOk x (λ text. RowsAreSaid Says c state t (string_bytes text))) (sym ok)
+    (rows, are, says)
+rows_are_said Says c state rows t (Err e) q are says ok err =
+    subst (λ x. IfOk x (λ text. RowsAreSaid Says c state t (string_bytes text))) (sym err) tt
 
 pub memory_alone : {E : Type 0} (Bad : Ending → Type 0) (r : Result (String Global) E)
     (q : Result (String Global) Ending) → IfOk r (λ text. q ≡ Ok text)
@@ -163,21 +141,12 @@ refused_rows c rows text (Err e) opened is = elim is [
 
 -- ---- over an archive
 
-pub rows_say : (Says : Saying) (c : Contents) (state : Option (List ℕ)) (rows : Table)
-    (tracker : List ℕ) (r : Result (String Global) Ending) → AreRowsOf c state rows
-    → IfOk r (λ text. TrackerSays Says c rows tracker (string_bytes text))
+pub rows_say : (Says : Saying) (c : Contents) (state : Option (List ℕ)) (tracker : List ℕ)
+    (t : Tracking) (r : Result (String Global) Ending) → IsTracker tracker t
+    → IfOk r (λ text. RowsAreSaid Says c state t (string_bytes text))
     → IfOk r (λ text. RowsSay Says c state tracker (string_bytes text))
-rows_say Says c state rows tracker (Ok text) are says = (rows, are, says)
-rows_say Says c state rows tracker (Err e) are says = tt
-
-pub rows_refuse : (c : Contents) (state : Option (List ℕ)) (rows : Table) (tracker : List ℕ)
-    (r : Result (String Global) Ending) → AreRowsOf c state rows
-    → IfErr r (OrMemory (IsNoTracker tracker)) → IfErr r (OrMemory (IsRefusedOver c state tracker))
-rows_refuse c state rows tracker (Ok text) are refused = tt
-rows_refuse c state rows tracker (Err e) are refused = elim refused [
-  | inl none ↦ inl (inr (rows, are, none))
-  | inr memory ↦ inr memory
-]
+rows_say Says c state tracker t (Ok text) is said = (said.0, said.1, (t, is, said.2))
+rows_say Says c state tracker t (Err e) is said = tt
 
 pub state_refused : (c : Contents) (state : Option (List ℕ)) (tracker : List ℕ) (ending : Ending)
     → OrMemory (IsStateRefused c state) ending → OrMemory (IsRefusedOver c state tracker) ending
@@ -185,6 +154,24 @@ state_refused c state tracker ending refused = elim refused [
   | inl bad ↦ inl (inl bad)
   | inr memory ↦ inr memory
 ]
+
+pub rows_refuse : (c : Contents) (state : Option (List ℕ)) (tracker : List ℕ)
+    (r : Result (String Global) Ending) → IfErr r (OrMemory (IsStateRefused c state))
+    → IfErr r (OrMemory (IsRefusedOver c state tracker))
+rows_refuse c state tracker (Ok text) refused = tt
+rows_refuse c state tracker (Err e) refused = state_refused c state tracker e refused
+
+-- rows that are refused are told of first, else that the text is no tracker
+pub no_tracker_refused : (c : Contents) (state : Option (List ℕ)) (tracker : List ℕ)
+    (rows : Result Table Ending) (second ending : Ending) → IfOk rows (AreRowsOf c state)
+    → IfErr rows (OrMemory (IsStateRefused c state)) → IsNoTracker tracker second
+    → IfOk rows (λ t. ending ≡ second) → IfErr rows (λ e. ending ≡ e)
+    → OrMemory (IsRefusedOver c state tracker) ending
+no_tracker_refused c state tracker (Ok t) second ending are refused none ok err =
+    subst (OrMemory (IsRefusedOver c state tracker)) (sym ok) (inl (inr (t, are, none)))
+no_tracker_refused c state tracker (Err e) second ending are refused none ok err =
+    subst (OrMemory (IsRefusedOver c state tracker)) (sym err)
+    (state_refused c state tracker e refused)
 
 -- ---- over two indices; the texts that were lent are those that were read
 

@@ -13,7 +13,9 @@ use Rattle.td_rows.specs.declared.key.Key.{Key}
 use Rattle.td_indices.specs.Archive.{Contents, IsArchive}
 use Rattle.td_indices.specs.Archive as archive_file
 use Rattle.td_indices.specs.declared.archive_fault.ArchiveFault.{ArchiveFault}
+use Rattle.td_query.specs.Tracking.{Tracking}
 use Rattle.td_report.specs.Transition.{IsReport, IsWaves}
+use Rattle.td_script.specs.Openings.{AreRowsOf}
 use Rattle.td_tool.specs.Ending.{ending_of_archive, ending_of_missing_row}
 use Rattle.td_tool.specs.declared.role.Role.{Role}
 use Rattle.td_tool.specs.declared.file_texts.FileFault.{FileFault}
@@ -67,6 +69,10 @@ pub record HasFailedIfGiven (files : Option OneFile) (role : Role) (f : FileFaul
   pub file : OneFile
   pub given : files ≡ Some file
   pub failed : HasFailedFor file role f
+
+-- what a tracker says over the rows of an archive, or over those of a state file in their places
+abbrev pub RowsAreSaid : Saying → Contents → Option (List ℕ) → Tracking → List ℕ → Type 0
+RowsAreSaid Says c state t text = (rows : Table) × AreRowsOf c state rows × Says c t rows text
 
 -- an ending is this, or want of memory
 abbrev pub OrMemory : (Ending → Type 0) → Ending → Type 0

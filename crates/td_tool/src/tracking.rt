@@ -1,21 +1,23 @@
 //! The two subcommands that read a tracker: `track` and `waves`.
-ghost use Rattle.std.specs.Prelude.{◌≡◌, ◌≤◌, Some, Ok, Err, IfOk, IfErr, length, option_map};
+ghost use Rattle.std.specs.Prelude.{◌≡◌, ◌⊎◌, ◌≤◌, Some, Ok, Err, IfOk, IfErr, length, option_map};
 ghost use Rattle.std.specs.Prelude.{string_bytes};
 ghost use Rattle.td_relation.specs.TableView.{table};
 ghost use Rattle.td_rows.specs.Overlay.{first_missing, overlaid};
 ghost use Rattle.td_rows.specs.declared.key.Key.{Key};
 ghost use Rattle.td_rows.specs.Table.{Table};
-ghost use Rattle.td_query.specs.Tracking.{IsTracker, Tracking, tracking};
+ghost use Rattle.td_query.specs.Marks.{AreMarks};
+ghost use Rattle.td_query.specs.Tracking.{tracking};
 ghost use Rattle.td_report.specs.Transition.{IsReport};
 ghost use Rattle.td_report.specs.TransitionView as of;
 ghost use Rattle.td_tool.specs.Ending.{ending_of_missing_row};
 ghost use Rattle.td_tool.specs.Limits.{file_limit};
 ghost use Rattle.td_script.specs.Openings.{AreRowsOf};
-ghost use Rattle.td_tool.specs.Tracks.{AreReadable, AreRefused, EndsSo, IsNoTracker};
+ghost use Rattle.td_tool.specs.Tracks.{AreReadable, AreRefused, EndsSo};
 ghost use Rattle.td_tool.specs.Tracks.{IsPatternRefused, IsReadableOver, IsRefusedOver};
-ghost use Rattle.td_tool.specs.Tracks.{IsStateRefused, RowsSay, TextsSayIt, TrackerSays};
+ghost use Rattle.td_tool.specs.Tracks.{IsStateRefused, RowsSay, TextsSayIt};
 ghost use Rattle.td_tool.specs.TrackInside.{AreReadableWith, AreRefusedWith, CanReplace};
 ghost use Rattle.td_tool.specs.TrackInside.{IndicesSay, IsRefusedFor, IsReplaced, OrMemory};
+ghost use Rattle.td_tool.specs.TrackInside.{RowsAreSaid};
 ghost use Rattle.td_tool.specs.TrackInside.{files_at, saying_of, texts_of};
 
 use crate::checking::write;
@@ -27,9 +29,10 @@ use crate::texts::Texts;
 use crate::track_files::{TrackPaths, TrackTexts, given, read_track_files};
 use std::alloc::{AllocError, Global};
 use std::io::Write;
+use std::thread;
 use std::thread::Threads;
 use td_indices::Archive;
-use td_query::Tracker;
+use td_query::{Marks, Tracker};
 use td_relation::Archs;
 use td_report::Transition;
 use td_rows::{Rows, read_state};
@@ -81,22 +84,6 @@ fn told(
     }
 }
 
-// The same, of a tracker over an archive.
-fn tracker_says(
-    rt: &(impl Threads + Sync),
-    alloc: Global,
-    archive: &Archive<'_, '_>,
-    rows: &Rows,
-    tracker: &Tracker<'_>,
-    asked: Asked,
-) -> Result<String, AllocError>
-    ensures { IfOk result (λ text.
-        saying_of asked archive.now (tracking tracker.now) rows.now (string_bytes text)) }
-{
-    let transition = Transition::of(alloc, archive, tracker)?;
-    told(rt, alloc, &transition, rows, asked)
-}
-
 // The same, where want of memory ends it.
 fn or_no_memory(text: Result<String, AllocError>) -> Result<String, Ending>
     ensures ok { IfOk text (λ t. result ≡ Ok t) }
@@ -105,27 +92,6 @@ fn or_no_memory(text: Result<String, AllocError>) -> Result<String, Ending>
     match text {
         Ok(text) => Ok(text),
         Err(_) => Err(Ending::NoMemory),
-    }
-}
-
-// The same, by the text of a tracker.
-fn tracker_text(
-    rt: &(impl Threads + Sync),
-    alloc: Global,
-    archive: &Archive<'_, '_>,
-    rows: &Rows,
-    tracker: &str,
-    asked: Asked,
-) -> Result<String, Ending>
-    ensures found { IfOk result (λ text.
-        TrackerSays (saying_of asked) archive.now rows.now tracker.now (string_bytes text)) }
-    ensures refused { IfErr result (OrMemory (IsNoTracker tracker.now)) }
-    ensures only { IfErr result (λ ending.
-        (t : Tracking) → IsTracker tracker.now t → IsPatternRefused tracker.now ending) }
-{
-    match Tracker::read(alloc, tracker) {
-        Ok(read) => or_no_memory(tracker_says(rt, alloc, archive, rows, &read, asked)),
-        Err(fault) => Err(ending_of_tracker(fault)),
     }
 }
 
@@ -173,7 +139,112 @@ fn rows_of(alloc: Global, archive: &Archive<'_, '_>, state: Option<&str>) -> Res
     }
 }
 
-// The same text, by what stands over an archive.
+// The rows of an archive, in a thread of their own, beside what a tracker marks in it.
+fn rows_beside(
+    rt: &(impl Threads + Sync),
+    alloc: Global,
+    archive: &Archive<'_, '_>,
+    state: Option<&str>,
+    tracker: &Tracker<'_>,
+) -> (Result<Rows, Ending>, Result<Marks, AllocError>)
+    ensures rows { IfOk result.0 (AreRowsOf archive.now (option_map (λ s. s.now) state.entry)) }
+    ensures refused { IfErr result.0
+        (OrMemory (IsStateRefused archive.now (option_map (λ s. s.now) state.entry))) }
+    ensures only { IfErr result.0 (λ ending.
+        (t : Table) → AreRowsOf archive.now (option_map (λ s. s.now) state.entry) t
+        → ending ≡ Ending.NoMemory) }
+    ensures marks { IfOk result.1 (AreMarks archive.now (tracking tracker.now)) }
+{
+    let of_rows = move || -> Result<Rows, Ending>
+        ensures rows { IfOk result
+            (AreRowsOf archive.entry.now (option_map (λ s. s.now) state.entry)) }
+        ensures refused { IfErr result
+            (OrMemory (IsStateRefused archive.entry.now (option_map (λ s. s.now) state.entry))) }
+        ensures only { IfErr result (λ ending.
+            (t : Table) → AreRowsOf archive.entry.now (option_map (λ s. s.now) state.entry) t
+            → ending ≡ Ending.NoMemory) }
+    { rows_of(alloc, archive, state) };
+    let of_marks = move || -> Result<Marks, AllocError>
+        ensures { IfOk result (AreMarks archive.entry.now (tracking tracker.entry.now)) }
+    { Marks::make(alloc, archive, tracker) };
+    thread::join(rt, of_rows, of_marks)
+}
+
+// Both of what was made side by side, or how the first of the two ends it.
+fn both_made<A: Drop, B: Drop>(
+    first: Result<A, Ending>,
+    second: Result<B, AllocError>,
+) -> Result<(A, B), Ending>
+    ensures ok { IfOk result (λ p. (first ≡ Ok p.0) × (second ≡ Ok p.1)) }
+    ensures err { IfErr result (λ ending. (first ≡ Err ending) ⊎ (ending ≡ Ending.NoMemory)) }
+{
+    match first {
+        Ok(first) => match second {
+            Ok(second) => Ok((first, second)),
+            Err(_) => Err(Ending::NoMemory),
+        },
+        Err(ending) => Err(ending),
+    }
+}
+
+// How a run ends: as the first does where that failed, and else so.
+fn first_told<A: Drop>(first: Result<A, Ending>, second: Ending) -> Ending
+    ensures ok { IfOk first (λ _. result ≡ second) }
+    ensures err { IfErr first (λ ending. result ≡ ending) }
+{
+    match first {
+        Ok(_) => second,
+        Err(ending) => ending,
+    }
+}
+
+// The text that is told, by what a tracker marks in an archive.
+fn marks_say(
+    rt: &(impl Threads + Sync),
+    alloc: Global,
+    archive: &Archive<'_, '_>,
+    rows: &Rows,
+    tracker: &Tracker<'_>,
+    marks: Marks,
+    asked: Asked,
+) -> Result<String, AllocError>
+    requires { AreMarks archive.now (tracking tracker.now) marks }
+    ensures { IfOk result (λ text.
+        saying_of asked archive.now (tracking tracker.now) rows.now (string_bytes text)) }
+{
+    let transition = Transition::with_marks(alloc, archive, tracker, marks)?;
+    told(rt, alloc, &transition, rows, asked)
+}
+
+// The same, of a tracker over an archive and its rows.
+fn tracker_says(
+    rt: &(impl Threads + Sync),
+    alloc: Global,
+    archive: &Archive<'_, '_>,
+    state: Option<&str>,
+    tracker: &Tracker<'_>,
+    asked: Asked,
+) -> Result<String, Ending>
+    ensures found { IfOk result (λ text.
+        RowsAreSaid (saying_of asked) archive.now (option_map (λ s. s.now) state.entry)
+        (tracking tracker.now) (string_bytes text)) }
+    ensures refused { IfErr result
+        (OrMemory (IsStateRefused archive.now (option_map (λ s. s.now) state.entry))) }
+    ensures only { IfErr result (λ ending.
+        (t : Table) → AreRowsOf archive.now (option_map (λ s. s.now) state.entry) t
+        → ending ≡ Ending.NoMemory) }
+{
+    let (rows, marks) = rows_beside(rt, alloc, archive, state, tracker);
+    match both_made(rows, marks) {
+        Ok((rows, marks)) => {
+            or_no_memory(marks_say(rt, alloc, archive, &rows, tracker, marks, asked))
+        }
+        Err(ending) => Err(ending),
+    }
+}
+
+// The same text, by the text of the tracker. Rows that are refused are told of before a tracker
+// that is.
 fn archive_text(
     rt: &(impl Threads + Sync),
     alloc: Global,
@@ -191,9 +262,12 @@ fn archive_text(
         IsReadableOver archive.now (option_map (λ s. s.now) state.entry) tracker.now
         → IsPatternRefused tracker.now ending) }
 {
-    match rows_of(alloc, archive, state) {
-        Ok(rows) => tracker_text(rt, alloc, archive, &rows, tracker, asked),
-        Err(ending) => Err(ending),
+    match Tracker::read(alloc, tracker) {
+        Ok(read) => tracker_says(rt, alloc, archive, state, &read, asked),
+        Err(fault) => {
+            let rows = rows_of(alloc, archive, state);
+            Err(first_told(rows, ending_of_tracker(fault)))
+        }
     }
 }
 
