@@ -1,5 +1,5 @@
 //! Builds that wait for one another, and the work of builders alone.
-use crate::people::People;
+use crate::people::{Hired, People};
 use std::sync::Wait;
 use std::sync::atomic::{AtomicU64, Ordering};
 use std::sync::ledger::Ledger;
@@ -43,7 +43,24 @@ pub(crate) fn work_alone<N: Named, C: Ledger, R: Wait>(
     Some(first.work(rt, desk, &people.outcomes))
 }
 
-// What the work of two builders is answered whose builds wait for one another.
+// What the work of these two is answered, whose builds wait for one another.
+fn work_both<N: Named + Send + Sync, C: Ledger + Send + Sync, R: Threads + Wait + Sync>(
+    rt: &R,
+    desk: &Desk<'static, N, C>,
+    one: &mut Hired<N>,
+    two: &mut Hired<N>,
+) -> (Result<u64, WorkStop>, Result<u64, WorkStop>) {
+    let together = Together {
+        begun: AtomicU64::new(0),
+    };
+    thread::join(
+        rt,
+        || one.work(rt, desk, &together),
+        || two.work(rt, desk, &together),
+    )
+}
+
+// The same of the first two builders.
 pub(crate) fn work_together<N: Named + Send + Sync, C: Ledger + Send + Sync, R>(
     rt: &R,
     desk: &Desk<'static, N, C>,
@@ -54,12 +71,5 @@ where
 {
     let (one, rest) = people.builders.split_first_mut()?;
     let two = rest.first_mut()?;
-    let together = Together {
-        begun: AtomicU64::new(0),
-    };
-    Some(thread::join(
-        rt,
-        || one.work(rt, desk, &together),
-        || two.work(rt, desk, &together),
-    ))
+    Some(work_both(rt, desk, one, two))
 }

@@ -164,6 +164,34 @@ fn line(alloc: Global, number: u64) -> Option<String> {
     format!(in alloc; "{verb} {tail}").ok()
 }
 
+// An undo of the clerk's command that is so many back; a refusal where there is none.
+fn undo_own<N: Named, C: Ledger, R: Wait>(
+    rt: &R,
+    desk: &Desk<'static, N, C>,
+    clerk: &mut Clerk<C>,
+    back: u64,
+) -> Answer {
+    match own(clerk.receipts(), back) {
+        Some(n) => undo(rt, desk, clerk, n),
+        None => Answer::Refused,
+    }
+}
+
+// The command for a number.
+fn command_by<N: Named, C: Ledger, R: Wait>(
+    rt: &R,
+    alloc: Global,
+    desk: &Desk<'static, N, C>,
+    clerk: &mut Clerk<C>,
+    archs: &Archs<'_>,
+    number: u64,
+) -> Answer {
+    match line(alloc, number) {
+        Some(line) => command(rt, alloc, desk, clerk, archs, line.as_str()),
+        None => Answer::Wrong,
+    }
+}
+
 // A call for a number: a command on one source or both, or an undo of one of the clerk's own.
 fn call<N: Named, C: Ledger, R: Wait>(
     rt: &R,
@@ -175,14 +203,9 @@ fn call<N: Named, C: Ledger, R: Wait>(
 ) -> Answer {
     let rest = number / 3;
     if number % 3 == 0 {
-        return match own(clerk.receipts(), rest % 8) {
-            Some(n) => undo(rt, desk, clerk, n),
-            None => Answer::Refused,
-        };
-    }
-    match line(alloc, rest) {
-        Some(line) => command(rt, alloc, desk, clerk, archs, line.as_str()),
-        None => Answer::Wrong,
+        undo_own(rt, desk, clerk, rest % 8)
+    } else {
+        command_by(rt, alloc, desk, clerk, archs, rest)
     }
 }
 

@@ -3,6 +3,7 @@
 ghost use Rattle.std.specs.Prelude.{◌≡◌, ◌∷◌, [], ℕ, IfOk};
 ghost use mathlib.Core.Option.{some};
 ghost use lib.ListN.{get_elem?};
+ghost use Rattle.td_board.specs.Knowledge.{new_desk};
 ghost use Rattle.td_board.specs.declared.views.Hand.TheVariants.{Holding};
 ghost use Rattle.td_board.specs.declared.views.RowView.TheVariants.{Out, Seen};
 
@@ -245,15 +246,29 @@ fn claim_and_withdrawal<R: Threads + Sync>(
     )
 }
 
+// Offers the one row of a new desk.
+fn offer_first(board: &Board, desk: &mut DeskSeat)
+    requires { desk.old ≡ record { table = board.now.table; desk = new_desk 1 1 } }
+    ensures table { desk.new.table ≡ board.now.table }
+    ensures row { get_elem? desk.new.desk.rows 0 ≡ some Out }
+{
+    board.offer(desk, 0);
+}
+
+// The same at a new board.
+fn claimed_or_withdrawn<R: Threads + Sync>(rt: &R, alloc: Global) -> Result<(bool, bool), Fail> {
+    let (board, mut desk, mut seats) = Board::make(alloc, 1, 1)?;
+    let Some(seat) = seats.pop() else {
+        return Err(Fail::from("a seat"));
+    };
+    offer_first(&board, &mut desk);
+    Ok(claim_and_withdrawal(rt, &board, desk, seat))
+}
+
 #[test]
 fn of_a_claim_and_a_withdrawal_one_wins(rt: HostRuntime) -> Result<(), Fail> {
     for _ in 0..1000 {
-        let (board, mut desk, mut seats) = Board::make(rt.alloc(), 1, 1)?;
-        let Some(seat) = seats.pop() else {
-            return Err(Fail::from("a seat"));
-        };
-        board.offer(&mut desk, 0);
-        let (claimed, withdrawn) = claim_and_withdrawal(&rt, &board, desk, seat);
+        let (claimed, withdrawn) = claimed_or_withdrawn(&rt, rt.alloc())?;
         assert!(rt; claimed != withdrawn);
     }
     Ok(())
