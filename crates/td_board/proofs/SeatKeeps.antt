@@ -1,7 +1,7 @@
 -- Each step keeps what the seats' types say.
 use Rattle.std.proofs.Common.{◌≡◌, ◌≢◌, ℕ, zero, suc, ◌+◌, ◌-◌, ◌*◌, ◌/◌, ◌<◌, ◌≤◌, List, [], ◌∷◌}
 use Rattle.std.proofs.Common.{◌++◌, zero-add, length, replicate, set, sym, refl, ap, ◌∙◌, subst}
-use Rattle.std.proofs.Common.{⊎_elim, arith, length-set, length-append, get_or-set_other}
+use Rattle.std.proofs.Common.{⊎_elim, arith, length-set, get_or-set_other}
 use Rattle.std.proofs.Common.{get_or-set_same}
 use Rattle.std.specs.Prelude.{slice_index}
 use mathlib.Core.Logic.{dite}
@@ -19,7 +19,7 @@ use Rattle.td_board.specs.declared.views.Hand.{Hand}
 use Rattle.td_board.specs.declared.views.Hand.TheVariants.{Holding, Finished}
 use Rattle.td_board.specs.declared.views.DeskView.{DeskView}
 use Rattle.td_board.specs.declared.views.BuilderView.{BuilderView}
-use Rattle.td_board.specs.Knowledge.{new_desk, with_builder, with_row, with_deed, noted_of}
+use Rattle.td_board.specs.Knowledge.{new_desk, with_row, with_deed, noted_of}
 use Rattle.td_board.specs.Knowledge.{holder_at}
 use Rattle.td_board.specs.Tells.{SeatState, at_desk, at_builder, desk_in, builder_in}
 use Rattle.td_board.specs.Seats.{IsDesk, KnowsItsBuilders, IsBuilder, HasRow, rows_of, new_seat}
@@ -143,30 +143,6 @@ keeps_settling z d hs bs r b e is =
     keeps_row z d (with_deed b e (with_row r In d)) hs bs r In is refl
     (length-set d.noted (b - 1) (noted_of d b ++ e ∷ [])) (λ c h. absurd (cc)) (λ c h. absurd (cc))
     (λ c h. absurd (cc)) (λ c h. absurd (cc))
-
--- a builder more
-pub keeps_builder : (z : TableId) (d : DeskView) (hs : List ℕ) (bs n : ℕ) → IsDesk z d hs bs
-    → n ≡ length d.noted + 1 → n ≤ max_builders → IsDesk z (with_builder d) hs n
-keeps_builder z d hs bs n is next few =
-    record {
-      words = is.words;
-      size = is.size;
-      long = is.long;
-      small = is.small;
-      count = next ∙ sym (length-append d.noted ([] ∷ []));
-      few = few;
-      seen = is.seen;
-      known = is.known;
-      seated = record {
-        seen = λ r b e. more b (is.seated.seen r b e);
-        known = λ r b e. more b (is.seated.known r b e);
-      };
-    }
-  where
-    more : (b : ℕ) → (0 < b) × (b ≤ length d.noted) → (0 < b) × (b ≤ length (d.noted ++ [] ∷ []))
-    more b s =
-        let long : length (d.noted ++ [] ∷ []) ≡ length d.noted + 1 =
-        length-append d.noted ([] ∷ []) in let high : b ≤ length d.noted = s.1 in (s.0, omega arith)
 
 -- the desk's seat of a new board
 pub keeps_new : (z : TableId) (rows : ℕ) → z.words ≡ rows + 1 → rows ≤ max_rows

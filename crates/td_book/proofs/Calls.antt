@@ -16,7 +16,7 @@ use Rattle.td_core.specs.History.{History, rows_of, with_entry}
 use Rattle.td_core.specs.Refusals.{is_queued_at}
 use Rattle.td_core.proofs.Phases.{keys_of-rows_of}
 use Rattle.td_book.specs.Watching.{WatchedView}
-use Rattle.td_book.specs.Desk.{InnerModel, BookModel, book_of, fixed_of, Stays, HasRoom, HasOne}
+use Rattle.td_book.specs.Desk.{InnerModel, BookModel, book_of, fixed_of, Stays, HasOne}
 use Rattle.td_book.specs.Desk.{claim_of}
 use Rattle.td_book.specs.Calls.{is_lost, noting_one, noting, Choices, Withdrew, off_for, plan_takes}
 use Rattle.td_book.specs.Calls.{plan_kind, entered, entered_no, IsPlan, IsPlanOf, PlanIsOff}
@@ -47,15 +47,6 @@ off_short kind keys =
           omega arith
       | false ↦ omega arith
     ]
-
-pub room_off : (kind : Kind) (keys off : List Key) (b : WatchedView) → off ≡ off_for kind keys
-    → HasRoom keys b → HasRoom off b
-room_off kind keys off b is room =
-    subst (λ (u : List Key). HasRoom u b) (sym is)
-    (elim (cells kind).state as (λ v. HasRoom (if v then keys else []) b) [
-      | true ↦ room
-      | false ↦ record { spare = let s = room.spare in omega arith; places = λ k named. cc }
-    ])
 
 -- ---- 2. the plan
 

@@ -1,18 +1,14 @@
 -- The rows that a command names, over plain values.
-use Rattle.std.proofs.Common.{rules, cond, ◌≡◌, ℕ, Bool, true, false, ◌&&◌, ◌||◌, List, [], ◌∷◌}
+use Rattle.std.proofs.Common.{◌≡◌, ℕ, Bool, true, false, ◌&&◌, ◌||◌, List, [], ◌∷◌}
 use Rattle.std.proofs.Common.{◌++◌, Option, None, filter, map, is_some, if◌then◌else◌, ap, refl}
 use Rattle.std.proofs.Common.{sym, subst, ◌∙◌}
-use Rattle.std.specs.List.{list_any, dedup, dedup_from, AllByRecursion}
-use Rattle.std.specs.List.Sorted.{IsPermutation, IsStrictlySortedBy}
-use Rattle.std.specs.Cmp.Rules.{comparing}
-use Rattle.std.proofs.lemmas.List.Sorted.{list_any-IsPermutation}
-use Rattle.std.specs.Ordering.{is_lt, eq_by_cmp, ordering_reverse}
+use Rattle.std.specs.List.{list_any}
+use Rattle.std.specs.Ordering.{is_lt, ordering_reverse}
 use Rattle.std.specs.declared.cmp.Ordering.{Ordering}
 use Rattle.std.specs.declared.cmp.Ordering.TheVariants.{Less, Equal, Greater}
 use Rattle.std.specs.Str.{bytes_eq}
 use Rattle.std.proofs.lemmas.Bool.{and_parts}
 use Rattle.td_rows.specs.declared.key.Key.{Key}
-use Rattle.td_rows.specs.declared.row.Row.{Row}
 use Rattle.td_rows.specs.Keys.{key_cmp, same_key, names, below_all, ascending}
 use Rattle.td_rows.specs.Table.{Table, row_of, keys_of}
 use Rattle.td_rows.proofs.Keys.{key_total, same_key-true, same_key-refl, same_key-sym}
@@ -187,27 +183,6 @@ adds_one t old new source arch k is there now = λ q.
           | false ↦ is_it q
         ]
 
--- none is, where none is found
-pub adds_none : (t : Table) (old new : List Key) (source arch : List ℕ)
-    → row_of t (record { source = source; arch = arch }) ≡ None → new ≡ old
-    → Adds t old new (λ q. bytes_eq source q.source && bytes_eq arch q.arch)
-adds_none t old new source arch absent now = λ q.
-    ap (λ (ks : List Key). names ks q) now
-    ∙ elim (names old q) as (λ b.
-    b ≡ (b || ((bytes_eq source q.source && bytes_eq arch q.arch) && is_some (row_of t q)))) [
-      | true ↦ refl
-      | false ↦
-          elim (same_key (record { source = source; arch = arch }) q) as (λ b.
-          same_key (record { source = source; arch = arch }) q ≡ b
-          → false ≡ (b && is_some (row_of t q))) [
-            | true ↦
-                λ e. sym (ap (λ (z : Key). is_some (row_of t z))
-                (sym (same_key-true (record { source = source; arch = arch }) q e))
-                ∙ ap (λ (o : Option Row). is_some o) absent)
-            | false ↦ λ _. refl
-          ] refl
-    ]
-
 more_archs : (o s x y r : Bool)
     → ((o || ((s && x) && r)) || ((s && y) && r)) ≡ (o || ((s && (x || y)) && r))
 more_archs true s x y r = refl
@@ -218,17 +193,6 @@ more_archs false true true false true = refl
 more_archs false true true false false = refl
 more_archs false true false y r = refl
 
-more_packages : (o x y a r : Bool)
-    → ((o || ((x && a) && r)) || ((y && a) && r)) ≡ (o || (((x || y) && a) && r))
-more_packages true x y a r = refl
-more_packages false true true true true = refl
-more_packages false true true true false = refl
-more_packages false true true false r = refl
-more_packages false true false true true = refl
-more_packages false true false true false = refl
-more_packages false true false false r = refl
-more_packages false false y a r = refl
-
 -- one architecture more
 pub adds_arch : (t : Table) (old mid new : List Key) (s x y : Key → Bool) (z : Key → Bool)
     → Adds t old mid (λ k. s k && x k) → Adds t mid new (λ k. s k && y k)
@@ -238,78 +202,7 @@ adds_arch t old mid new s x y z first then_ both = λ k.
     ∙ more_archs (names old k) (s k) (x k) (y k) (is_some (row_of t k))
     ∙ ap (λ b. names old k || ((s k && b) && is_some (row_of t k))) (sym (both k))
 
--- one package more
-pub adds_package : (t : Table) (old mid new : List Key) (x y a : Key → Bool) (z : Key → Bool)
-    → Adds t old mid (λ k. x k && a k) → Adds t mid new (λ k. y k && a k)
-    → ((k : Key) → z k ≡ (x k || y k)) → Adds t old new (λ k. z k && a k)
-adds_package t old mid new x y a z first then_ both = λ k.
-    then_ k ∙ ap (λ b. b || ((y k && a k) && is_some (row_of t k))) (first k)
-    ∙ more_packages (names old k) (x k) (y k) (a k) (is_some (row_of t k))
-    ∙ ap (λ b. names old k || ((b && a k) && is_some (row_of t k))) (sym (both k))
-
--- nothing yet
-pub adds_nothing : (t : Table) (old : List Key) (p : Key → Bool) → ((k : Key) → p k ≡ false)
-    → Adds t old old p
-adds_nothing t old p none =
-    λ k. elim (names old k) as (λ b. b ≡ (b || (p k && is_some (row_of t k)))) [
-      | true ↦ refl
-      | false ↦ ap (λ b. b && is_some (row_of t k)) (sym (none k))
-    ]
-
 -- ---- 3. sorting
-
-less_is : (o : Ordering) → o ≡ Less → is_lt o ≡ true
-less_is o e = ap is_lt e
-
-below_from : (x : Key) (ks : List Key) → AllByRecursion (λ y. key_cmp x y ≡ Less) ks
-    → below_all x ks ≡ true
-below_from x [] h = refl
-below_from x (k ∷ ks) h = λ j. (less_is (key_cmp x k) h.0 j) && (below_from x ks h.1 j)
-
-pub ascending_from : (ks : List Key) → IsStrictlySortedBy key_cmp ks → ascending ks ≡ true
-unfolding IsStrictlySortedBy
-ascending_from [] h = refl
-ascending_from (k ∷ ks) h = λ j. (below_from k ks h.0 j) && (ascending_from ks h.1 j)
-
-names-dedup_from : (y : Key) (xs : List Key) (k : Key)
-    → names (dedup_from same_key y xs) k ≡ names (y ∷ xs) k
-names-dedup_from y [] k = refl
-names-dedup_from y (x ∷ xs) k =
-    elim (same_key x y) as (λ b.
-    same_key x y ≡ b → names (cond b (dedup_from same_key y xs) (y ∷ dedup_from same_key x xs)) k
-    ≡ (if same_key k y then true else (if same_key k x then true else names xs k))) [
-      | true ↦
-          λ e. names-dedup_from y xs k
-          ∙ elim (same_key k y) as (λ c.
-          same_key k y ≡ c → (if c then true else names xs k)
-          ≡ (if c then true else (if same_key k x then true else names xs k))) [
-            | true ↦ λ _. refl
-            | false ↦
-                λ other. ap (λ b. if b then true else names xs k)
-                (sym (ap (same_key k) (same_key-true x y e) ∙ other))
-          ] refl
-      | false ↦ λ _. ap (λ b. if same_key k y then true else b) (names-dedup_from x xs k)
-    ] refl
-
-pub names-dedup : (xs : List Key) (k : Key) → names (dedup same_key xs) k ≡ names xs k
-names-dedup [] k = refl
-names-dedup (x ∷ xs) k = names-dedup_from x xs k
-
-names_any : (xs : List Key) (k : Key) → names xs k ≡ list_any (same_key k) xs
-names_any [] k = refl
-names_any (x ∷ xs) k =
-    elim (same_key k x) as (λ b.
-    (if b then true else names xs k) ≡ (b || list_any (same_key k) xs)) [
-      | true ↦ refl
-      | false ↦ names_any xs k
-    ]
-
-pub names-permutation : (xs ys : List Key) (k : Key) → IsPermutation xs ys → names ys k ≡ names xs k
-names-permutation xs ys k moved =
-    names_any ys k ∙ sym (list_any-IsPermutation (same_key k) xs ys moved) ∙ sym (names_any xs k)
-
-pub same_tie : (x y : Key) → same_key x y ≡ eq_by_cmp key_cmp x y
-same_tie x y = search (comparing, rules)
 
 -- what look-ups found, sorted, are the named keys
 pub named_all : (t : Table) (found sorted : List Key) (p : Key → Bool)

@@ -1,12 +1,11 @@
 -- The groups of the rows, as they are set one by one.
-use Rattle.std.proofs.Common.{◌≡◌, ℕ, zero, suc, ◌+◌, ◌<◌, ◌≤◌, Bool, true, false, List, [], ◌∷◌}
+use Rattle.std.proofs.Common.{◌≡◌, ℕ, zero, suc, ◌+◌, ◌<◌, Bool, true, false, List, [], ◌∷◌}
 use Rattle.std.proofs.Common.{◌++◌, Option, Some, None, if◌then◌else◌, length, drop, take, map, set}
 use Rattle.std.proofs.Common.{get_or, slice_get, ap, refl, sym, subst, ◌∙◌, arith}
-use Rattle.std.specs.Prelude.{is_some, nat_lt, Ok, Err, replicate}
+use Rattle.std.specs.Prelude.{is_some, replicate}
 use Rattle.std.specs.Option.{option_map, option_or}
 use Rattle.std.specs.Ordering.{is_lt}
 use Rattle.std.proofs.lemmas.Bool.{and_parts}
-use Rattle.std.proofs.lemmas.List.{drop_all, take_all}
 use Rattle.std.proofs.lemmas.Option.{slice_get_read}
 use Rattle.td_rows.specs.declared.key.Key.{Key}
 use Rattle.td_rows.specs.declared.row.Row.{Row}
@@ -15,24 +14,11 @@ use Rattle.td_rows.specs.Table.{Table, row_of, keys_of, IsAt}
 use Rattle.td_rows.proofs.Keys.{same_key-refl, same_key-apart, below-apart}
 use Rattle.td_rows.proofs.Lists.{drop-next, take-next, slice_get-map}
 use Rattle.td_rows.proofs.Tables.{row_of-at}
-use Rattle.td_book.specs.declared.watch.Watch.{Watch}
-use Rattle.td_book.specs.declared.watching.WatchRefusal.{WatchRefusal}
 use Rattle.td_book.specs.declared.watching.WatchRefusal.TheVariants.{NoSuchRow, Twice, BadGroup}
-use Rattle.td_book.specs.declared.watching.WatchRefusal.TheVariants.{NoMemory}
-use Rattle.td_book.specs.Desk.{InnerModel, BookModel, book_of}
 use Rattle.td_book.specs.Watching.{group_in}
-use Rattle.td_book.specs.WatchCalls.{unknown_in, twice_in, outside_in, watch_stop, with_watch}
-use Rattle.td_book.specs.WatchCalls.{WatchOutcome}
-use Rattle.td_book.specs.inner.WatchOver.{view_of, IsOver}
+use Rattle.td_book.specs.WatchCalls.{unknown_in, twice_in, outside_in, watch_stop}
 
 -- ---- 1. a key that stops a watch, pair by pair
-
-pub unknown-here : (t : Table) (given : List (Key × ℕ)) (i : ℕ) (p : Key × ℕ)
-    → slice_get given i ≡ Some p → row_of t p.0 ≡ None → unknown_in t (drop i given) ≡ Some p.0
-unknown-here t given i p at none =
-    ap (unknown_in t) (drop-next given i p at)
-    ∙ ap (λ (o : Option Row). if is_some o then unknown_in t (drop (i + 1) given) else Some p.0)
-    none
 
 pub unknown-later : (t : Table) (given : List (Key × ℕ)) (i : ℕ) (p : Key × ℕ) (r : Row)
     → slice_get given i ≡ Some p → row_of t p.0 ≡ Some r
@@ -41,28 +27,6 @@ unknown-later t given i p r at found =
     ap (unknown_in t) (drop-next given i p at)
     ∙ ap (λ (o : Option Row). if is_some o then unknown_in t (drop (i + 1) given) else Some p.0)
     found
-
-pub unknown-last : (t : Table) (given : List (Key × ℕ)) (i : ℕ) → length given ≤ i
-    → unknown_in t (drop i given) ≡ None
-unknown-last t given i end = ap (unknown_in t) (drop_all i given end)
-
-pub outside-here : (groups : ℕ) (given : List (Key × ℕ)) (i : ℕ) (p : Key × ℕ)
-    → slice_get given i ≡ Some p → nat_lt p.1 groups ≡ false
-    → outside_in groups (drop i given) ≡ Some p.0
-outside-here groups given i p at none =
-    ap (outside_in groups) (drop-next given i p at)
-    ∙ ap (λ (b : Bool). if b then outside_in groups (drop (i + 1) given) else Some p.0) none
-
-pub outside-later : (groups : ℕ) (given : List (Key × ℕ)) (i : ℕ) (p : Key × ℕ)
-    → slice_get given i ≡ Some p → nat_lt p.1 groups ≡ true
-    → outside_in groups (drop i given) ≡ outside_in groups (drop (i + 1) given)
-outside-later groups given i p at within =
-    ap (outside_in groups) (drop-next given i p at)
-    ∙ ap (λ (b : Bool). if b then outside_in groups (drop (i + 1) given) else Some p.0) within
-
-pub outside-last : (groups : ℕ) (given : List (Key × ℕ)) (i : ℕ) → length given ≤ i
-    → outside_in groups (drop i given) ≡ None
-outside-last groups given i end = ap (outside_in groups) (drop_all i given end)
 
 -- each key has a row where none is unknown
 pub known-all : (t : Table) (given : List (Key × ℕ)) (i : ℕ) (p : Key × ℕ)
@@ -149,10 +113,6 @@ pub record AreSet (i : ℕ) (of_rows : List (Option ℕ)) (t : Table)
   pub groups : of_rows ≡ map (group_in (take i given)) (keys_of t)
   pub once : twice_in (map (λ (q : Key × ℕ). q.0) (take i given)) (drop i given) ≡ twice_in [] given
 
-pub set-first : (of_rows : List (Option ℕ)) (t : Table) (given : List (Key × ℕ))
-    → of_rows ≡ map (group_in []) (keys_of t) → AreSet 0 of_rows t given
-set-first of_rows t given none = record { groups = none; once = refl }
-
 map-push : (given : List (Key × ℕ)) (p : Key × ℕ)
     → map (λ (q : Key × ℕ). q.0) (given ++ p ∷ []) ≡ map (λ (q : Key × ℕ). q.0) given ++ p.0 ∷ []
 map-push [] p = refl
@@ -227,47 +187,7 @@ set-twice i of_rows t given p sets at taken =
     else twice_in (map (λ (q : Key × ℕ). q.0) (take i given) ++ p.0 ∷ []) (drop (i + 1) given))
     (sym (names-keys (take i given) p.0) ∙ taken)
 
-pub set-last-once : (i : ℕ) (of_rows : List (Option ℕ)) (t : Table) (given : List (Key × ℕ))
-    → length given ≤ i → AreSet i of_rows t given → twice_in [] given ≡ None
-set-last-once i of_rows t given end sets =
-    sym sets.once ∙ ap (twice_in (map (λ (q : Key × ℕ). q.0) (take i given))) (drop_all i given end)
-
-pub set-last : (i : ℕ) (of_rows : List (Option ℕ)) (t : Table) (given : List (Key × ℕ))
-    → length given ≤ i → AreSet i of_rows t given → of_rows ≡ map (group_in given) (keys_of t)
-set-last i of_rows t given end sets =
-    sets.groups ∙ ap (λ (ps : List (Key × ℕ)). map (group_in ps) (keys_of t)) (take_all i given end)
-
 -- ---- 3. the call
-
-pub stop_unknown : (t : Table) (groups : ℕ) (given : List (Key × ℕ)) (k : Key)
-    → unknown_in t given ≡ Some k → watch_stop t groups given ≡ Some (NoSuchRow k)
-stop_unknown t groups given k a =
-    ap (λ (o : Option Key). option_or (option_map NoSuchRow o)
-    (option_or (option_map Twice (twice_in [] given))
-    (option_map BadGroup (outside_in groups given)))) a
-
-pub stop_twice : (t : Table) (groups : ℕ) (given : List (Key × ℕ)) (k : Key)
-    → unknown_in t given ≡ None → twice_in [] given ≡ Some k
-    → watch_stop t groups given ≡ Some (Twice k)
-stop_twice t groups given k a b =
-    ap (λ (o : Option Key).
-    option_or (option_map NoSuchRow o)
-    (option_or (option_map Twice (twice_in [] given))
-    (option_map BadGroup (outside_in groups given)))) a
-    ∙ ap (λ (o : Option Key).
-    option_or (option_map Twice o) (option_map BadGroup (outside_in groups given))) b
-
-pub stop_outside : (t : Table) (groups : ℕ) (given : List (Key × ℕ)) (k : Key)
-    → unknown_in t given ≡ None → twice_in [] given ≡ None → outside_in groups given ≡ Some k
-    → watch_stop t groups given ≡ Some (BadGroup k)
-stop_outside t groups given k a b o =
-    ap (λ (o : Option Key).
-    option_or (option_map NoSuchRow o)
-    (option_or (option_map Twice (twice_in [] given))
-    (option_map BadGroup (outside_in groups given)))) a
-    ∙ ap (λ (o : Option Key).
-    option_or (option_map Twice o) (option_map BadGroup (outside_in groups given))) b
-    ∙ ap (λ (o : Option Key). option_map BadGroup o) o
 
 pub stop_none : (t : Table) (groups : ℕ) (given : List (Key × ℕ)) → unknown_in t given ≡ None
     → twice_in [] given ≡ None → outside_in groups given ≡ None → watch_stop t groups given ≡ None
@@ -280,32 +200,10 @@ stop_none t groups given a b o =
     option_or (option_map Twice o) (option_map BadGroup (outside_in groups given))) b
     ∙ ap (λ (o : Option Key). option_map BadGroup o) o
 
--- a book whose watch is another
-pub watched_as : (old new : InnerModel) (groups : ℕ) (given : List (Key × ℕ)) (w : Watch)
-    → IsOver groups given (book_of old) (Ok w)
-    → new ≡ (record old { books = record old.books { watch = view_of w } })
-    → WatchOutcome groups given (book_of old) (book_of new) (Ok tt)
-watched_as old new groups given w over is =
-    (over.0, ap book_of is ∙ ap (with_watch (book_of old)) over.1)
-
-pub refused_as : (old new : BookModel) (groups : ℕ) (given : List (Key × ℕ)) (e : WatchRefusal)
-    → IsOver groups given old (Err e) → new ≡ old → WatchOutcome groups given old new (Err e)
-refused_as old new groups given (NoSuchRow k) is same = (is, same)
-refused_as old new groups given (Twice k) is same = (is, same)
-refused_as old new groups given (BadGroup k) is same = (is, same)
-refused_as old new groups given NoMemory is same = same
-
 -- ---- 4. places without a group
 
 abbrev pub no_group : Option ℕ
 no_group = None
-
-pub none-push : (i : ℕ) → replicate i no_group ++ no_group ∷ [] ≡ replicate (i + 1) no_group
-none-push zero = refl
-none-push (suc i) =
-    let next : suc i + 1 ≡ suc (i + 1) = omega arith in
-    ap (λ (l : List (Option ℕ)). None ∷ l) (none-push i)
-    ∙ ap (λ (n : ℕ). replicate n no_group) (sym next)
 
 map-none : (ks : List Key) → map (group_in []) ks ≡ replicate (length ks) None
 map-none [] = refl

@@ -197,18 +197,6 @@ spent_more keys k a b c apart s t = record {
     either q false true u v x y = omega arith
     either q false false u v x y = omega arith
 
-pub room_left : (named : List Key) (i : ℕ) (a b : WatchedView) → i < length named
-    → length (take i named) ≤ i → HasRoom named a → Spent (take i named) a b → HasOne named b
-room_left named i a b within short room s = record {
-  spare = let x = room.spare in let y = s.spare in omega arith;
-  places =
-      λ k is. let x = room.places k is in let y = s.places k in two (names (take i named) k) x y;
-}
-  where
-    two : {m n : ℕ} (v : Bool) → 2 ≤ m → m ≤ n + (if v then 1 else 0) → 1 ≤ n
-    two true x y = omega arith
-    two false x y = omega arith
-
 pub room_end : (named keys : List Key) (a b : WatchedView) → HasRoom named a → Spent keys a b
     → length keys ≤ length named → HasOne named b
 room_end named keys a b room s short = record {

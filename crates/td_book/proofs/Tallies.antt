@@ -250,10 +250,6 @@ next_row g i p ws t at =
     ∙ ap (λ (n : ℕ). (if is_of (group_at ws i) g && is_there p then 1 else 0)
     + tally is_there g (drop n ws) (drop n t)) next
 
-pub counted-first : (counts : List ℕ) (ws : List (Option ℕ)) (t : Table)
-    → ((g : ℕ) → g < length counts → slice_index counts g ≡ 0) → AreCounted 0 counts ws t
-counted-first counts ws t none = record { each = λ g lt. let zero_now = none g lt in omega arith }
-
 more : (a b w x y s : ℕ) → b + x ≡ s → x ≡ w + y → a ≡ w + b → a + y ≡ s
 more a b w x y s e f h = omega arith
 

@@ -211,17 +211,6 @@ withdrew_more named i first old new answer rise w s =
           (unnamed_before named i s.key rise s.at) w.spent s.spent);
     }
 
-pub withdrew_none : (m : InnerModel) → m.view ≡ seen_off [] (rows_of m.books.history)
-    → Withdrew [] m m
-withdrew_none m view = record {
-  choices = [];
-  chosen = record { one_each = refl; bound = λ i b at. absurd (cc) };
-  history = refl;
-  view = view;
-  stays = stays_none m;
-  spent = spent_none [] m.books;
-}
-
 -- ---- 2. withdrawals up to the first that is lost
 
 not_lost : (v : Bool) (h : History) (k : Key) (b : ℕ)
@@ -229,10 +218,6 @@ not_lost : (v : Bool) (h : History) (k : Key) (b : ℕ)
     → (if v then with_entry h (claim_of b k) else h) ≡ h
 not_lost true h k b e = absurd (cc)
 not_lost false h k b e = refl
-
-pub unlost_none : (m : InnerModel) → m.view ≡ seen_off [] (rows_of m.books.history) → Unlost [] m m
-unlost_none m view =
-    record { history = refl; view = view; stays = stays_none m; spent = spent_none [] m.books }
 
 pub unlost_more : (named : List Key) (i : ℕ) (first old new : InnerModel) (answer : Option ℕ)
     → ascending named ≡ true → Unlost (take i named) first old → WithdrewAt named i old new answer
@@ -373,12 +358,6 @@ ascending_take [] (suc i) h = refl
 ascending_take (k ∷ ks) (suc i) h =
     let both = and_parts _ _ h in
     ap (λ b. b && ascending (take i ks)) (below_take k ks i both.0) ∙ ascending_take ks i both.1
-
-pub take_short : (ks : List Key) (i : ℕ) → length (take i ks) ≤ i
-take_short [] zero = omega arith
-take_short [] (suc i) = omega arith
-take_short (k ∷ ks) zero = omega arith
-take_short (k ∷ ks) (suc i) = let h = take_short ks i in omega arith
 
 pub one_named : (named : List Key) (i : ℕ) (key : Key) (claim : List Key) (k : Key)
     → slice_get named i ≡ Some key → claim ≡ key ∷ [] → names claim k ≡ true → names named k ≡ true

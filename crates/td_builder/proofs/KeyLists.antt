@@ -1,19 +1,15 @@
 -- The lines of keys, as one more is read.
-use Rattle.std.proofs.Common.{◌≡◌, ℕ, zero, suc, ◌+◌, Bool, true, false, cond, List, [], ◌∷◌, ◌++◌}
-use Rattle.std.proofs.Common.{length, map, Option, Some, None, is_some, Vec, refl, sym, ap, subst}
-use Rattle.std.proofs.Common.{◌∙◌, arith, add-zero}
-use Rattle.std.specs.Prelude.{slice_get, ◌⊎◌}
-use Rattle.std.specs.Map.{lookup, set_value}
-use Rattle.std.specs.declared.alloc.Global.{Global}
+use Rattle.std.proofs.Common.{◌≡◌, ℕ, suc, ◌+◌, Bool, true, false, cond, List, [], ◌∷◌, ◌++◌}
+use Rattle.std.proofs.Common.{length, map, refl, ap}
+use Rattle.std.proofs.Common.{◌∙◌, arith}
 use Rattle.td_board.specs.declared.outcome.OutcomeCode.{OutcomeCode}
 use Rattle.td_rows.specs.declared.key.Key.{Key}
 use Rattle.td_rows.specs.declared.outcome.Outcome.{Outcome}
 use Rattle.td_rows.specs.Keys.{same_key}
-use Rattle.td_rows.proofs.Keys.{same_key-true, same_key-sym}
 use Rattle.td_journal.specs.Endings.{outcome_text}
 use Rattle.td_book.specs.Deeds.{code_of}
 use Rattle.td_builder.specs.declared.key_line.KeyLine.{KeyLine}
-use Rattle.td_builder.specs.Unused.{KeyLines, lines_of_key, numbered, codes_in}
+use Rattle.td_builder.specs.Unused.{numbered, codes_in}
 
 -- ---- the numbers of lines
 
@@ -69,14 +65,6 @@ pub length-texts : (os : List (Key × Outcome))
     → length (map (λ (x : Key × Outcome). outcome_text x.1) os) ≡ length os
 length-texts [] = refl
 length-texts (p ∷ os) = ap suc (length-texts os)
-
--- a line's code is among the codes
-pub code_at : (lines : List KeyLine) (n : ℕ) (line : KeyLine) → slice_get lines n ≡ Some line
-    → slice_get (map (λ (l : KeyLine). l.code) lines) n ≡ Some line.code
-code_at [] n line e = absurd cc
-code_at (x ∷ lines) zero line e =
-    ap (λ (o : Option KeyLine). elim o [ Some l ↦ Some l.code | None ↦ None ]) e
-code_at (x ∷ lines) (suc n) line e = code_at lines n line e
 
 pub length-push : (os : List (Key × Outcome)) (p : Key × Outcome)
     → length (os ++ p ∷ []) ≡ suc (length os)

@@ -1,14 +1,8 @@
 -- The outcomes of lines, one by one.
-use Rattle.std.proofs.Common.{◌≡◌, ℕ, suc, ◌+◌, ◌<◌, true, false, eqb, List, [], ◌∷◌, ◌++◌, map}
-use Rattle.std.proofs.Common.{length, Option, Some, None, refl, sym, ap, subst, ◌∙◌, append_assoc}
-use Rattle.std.proofs.Common.{arith}
-use Rattle.std.specs.Prelude.{◌≢◌}
-use Rattle.std.specs.Borrow.{Bor}
+use Rattle.std.proofs.Common.{◌≡◌, ℕ, ◌+◌, List, [], ◌∷◌, ◌++◌, map}
+use Rattle.std.proofs.Common.{length, Some, None, refl, sym, ap, ◌∙◌, append_assoc}
 use Rattle.std.specs.List.{AllByRecursion}
-use Rattle.std.proofs.lemmas.Bool.{eqb-true}
 use Rattle.std.proofs.lemmas.List.{append-nil}
-use Rattle.std.proofs.lemmas.List.Splits.{length-slice_split}
-use Rattle.td_text.specs.Lines.{lines_of, lines_left, left_text}
 use Rattle.td_rows.specs.declared.key.Key.{Key}
 use Rattle.td_rows.specs.declared.outcome.Outcome.{Outcome}
 use Rattle.td_builder.specs.OutcomeLines.{outcome_line, OutcomeFits, AreOutcomes, IsFirstBad}
@@ -30,9 +24,6 @@ pub record AreRead (lines : List (List ℕ)) (os : List (Key × Outcome))
     (left : List (List ℕ)) : Type 0 where
   pub parts : lines ≡ map outcome_line os ++ left
   pub fits : AllByRecursion OutcomeFits os
-
-pub AreRead-none : (lines : List (List ℕ)) → AreRead lines [] lines
-AreRead-none lines = record { parts = refl; fits = tt }
 
 -- a line that is read
 pub AreRead-push : (lines : List (List ℕ)) (os : List (Key × Outcome)) (p : Key × Outcome)

@@ -39,15 +39,6 @@ slice_get-set_other (z ∷ xs) (suc i) (suc j) y other =
 no_hand : (hands : List Hand) (x : Hand) → hand_in hands 0 ≡ Some x → ⊥
 no_hand hands x h = cc
 
-hand_in-at : (hands : List Hand) (b : ℕ) (x : Hand) → hand_in hands b ≡ Some x
-    → slice_get hands (b - 1) ≡ Some x
-hand_in-at hands b x h =
-    elim (b == 0) as (λ z.
-    (if z then None else slice_get hands (b - 1)) ≡ Some x → slice_get hands (b - 1) ≡ Some x) [
-      | true ↦ λ g. cc
-      | false ↦ λ g. g
-    ] h
-
 -- the hand that is put
 pub hand_in-put : (hands : List Hand) (b : ℕ) (x y : Hand) → hand_in hands b ≡ Some x
     → hand_in (set hands (b - 1) y) b ≡ Some y

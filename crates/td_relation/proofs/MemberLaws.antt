@@ -1,9 +1,8 @@
 -- Members, seen through what their alternatives ask.
-use Rattle.std.proofs.Common.{◌≡◌, ℕ, zero, suc, get_or, add-one, drop-cons, ◌+◌, ◌≤◌, ◌<◌, Bool}
+use Rattle.std.proofs.Common.{◌≡◌, ℕ, suc, Bool}
 use Rattle.std.proofs.Common.{true, false, cond, not, eqb, ◌&&◌, ◌||◌, List, [], ◌∷◌, map, length}
-use Rattle.std.proofs.Common.{take, drop, refl, sym, ap, ◌∙◌, arith}
-use Rattle.std.specs.List.{list_any, list_all, filter}
-use Rattle.std.proofs.lemmas.List.{drop-drop}
+use Rattle.std.proofs.Common.{drop, refl, sym, ap, ◌∙◌}
+use Rattle.std.specs.List.{list_any, filter}
 use Rattle.td_text.proofs.Chain.{list_any-map}
 use Rattle.td_relation.specs.declared.relation.Alternative.{Alternative}
 use Rattle.td_relation.specs.Arch.{ArchWords, matches}
@@ -52,53 +51,11 @@ counts-by a pieces negated matched h k =
 
 -- ---- members one behind the other
 
--- a front that was taken is dropped
-drop-front : {A : Type 0} (xs : List A) (n : ℕ) → drop (length (take n xs)) xs ≡ drop n xs
-drop-front xs zero = refl
-drop-front [] (suc n) = refl
-drop-front (x ∷ xs) (suc n) = drop-front xs n
-
--- the member at a place, and those behind it
-pub chunked_at : {A : Type 0} (sizes : List ℕ) (i from : ℕ) (xs member : List A) → i < length sizes
-    → member ≡ take (get_or sizes i 0) (drop from xs)
-    → chunked (drop i sizes) (drop from xs)
-    ≡ member ∷ chunked (drop (i + 1) sizes) (drop (from + length member) xs)
-chunked_at sizes i from xs member within is =
-    let n = get_or sizes i 0 in
-    let first : drop i sizes ≡ n ∷ drop (i + 1) sizes =
-    drop-cons sizes i 0 within ∙ ap (λ (k : ℕ). n ∷ drop k sizes) (sym (add-one i)) in
-    let behind : drop (from + length member) xs ≡ drop n (drop from xs) =
-    sym (drop-drop (length member) from xs) ∙ ap (λ m. drop (length m) (drop from xs)) is
-    ∙ drop-front (drop from xs) n in
-    ap (λ (l : List ℕ). chunked l (drop from xs)) first
-    ∙ ap (λ m. m ∷ chunked (drop (i + 1) sizes) (drop n (drop from xs))) (sym is)
-    ∙ ap (λ ys. member ∷ chunked (drop (i + 1) sizes) ys) (sym behind)
-
 -- there are as many pieces as lengths
 pub length-chunked : {A : Type 0} (sizes : List ℕ) (xs : List A)
     → length (chunked sizes xs) ≡ length sizes
 length-chunked [] xs = refl
 length-chunked (n ∷ sizes) xs = ap suc (length-chunked sizes (drop n xs))
-
--- a list of pieces that begins with this one
-pub all_next : {A : Type 0} (test : List A → Bool) (whole rest : List (List A)) (member : List A)
-    (more : List (List A)) (b : Bool) → list_all test rest ≡ list_all test whole
-    → rest ≡ member ∷ more → b ≡ test member → (b && list_all test more) ≡ list_all test whole
-all_next test whole rest member more b h is tested =
-    ap (λ (a : Bool). a && list_all test more) tested ∙ sym (ap (list_all test) is) ∙ h
-
-pub any_next : {A : Type 0} (test : List A → Bool) (whole rest : List (List A)) (member : List A)
-    (more : List (List A)) (b : Bool) → list_any test rest ≡ list_any test whole
-    → rest ≡ member ∷ more → b ≡ test member → (b || list_any test more) ≡ list_any test whole
-any_next test whole rest member more b h is tested =
-    ap (λ (a : Bool). a || list_any test more) tested ∙ sym (ap (list_any test) is) ∙ h
-
--- behind the last one
-pub drop-all : {A : Type 0} (xs : List A) (i : ℕ) → length xs ≤ i → drop i xs ≡ []
-drop-all [] zero h = refl
-drop-all [] (suc i) h = refl
-drop-all (x ∷ xs) zero h = absurd (omega arith)
-drop-all (x ∷ xs) (suc i) h = drop-all xs i (omega arith)
 
 -- a test of each element of each piece, through a view
 pub any_of_maps : {A B : Type 0} (test : B → Bool) (view : A → B) (ms : List (List A))

@@ -96,17 +96,6 @@ pub faulted_same : {A : Type 0} (e : RelationFault) (r s : Result A RelationFaul
     → IsFaultOf r e → IsFaultOf s e
 faulted_same e r s same is = subst (λ x. IsFaultOf x e) same is
 
--- a fault that is named is the reading's
-pub fault_is : {A : Type 0} (e : RelationFault) (r : Result A RelationFault) → r ≡ Err e
-    → IsFaultOf r e
-fault_is BadName r h = h
-fault_is BadOperator r h = h
-fault_is BadVersion r h = h
-fault_is BadArchList r h = h
-fault_is BadProfile r h = h
-fault_is Empty r h = h
-fault_is NoMemory r h = tt
-
 -- ---- tests of the filled pieces
 
 pub list_all-filter : {A : Type 0} (skip test : A → Bool) (xs : List A)

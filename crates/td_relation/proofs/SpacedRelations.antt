@@ -1,25 +1,21 @@
 -- Relations with whitespace wherever it is free are read.
-use Rattle.std.proofs.Common.{◌≡◌, ◌≢◌, ℕ, Bool, true, false, eqb, ltb, List, [], ◌∷◌, ◌++◌, length}
-use Rattle.std.proofs.Common.{get_or, map, Option, Some, None, option_map, Ok, refl, sym, ap, ◌∙◌}
+use Rattle.std.proofs.Common.{◌≡◌, ◌≢◌, ℕ, Bool, true, false, eqb, List, [], ◌∷◌, ◌++◌}
+use Rattle.std.proofs.Common.{map, Option, Some, None, option_map, Ok, refl, sym, ap, ◌∙◌}
 use Rattle.std.proofs.Common.{append_assoc, append-nil, arith}
 use Rattle.std.specs.Prelude.{codes}
-use Rattle.std.specs.List.{list_all, slice_split, flat_map, AllByRecursion}
-use Rattle.std.proofs.lemmas.Bool.{and_parts}
+use Rattle.std.specs.List.{slice_split, flat_map, AllByRecursion}
 use Rattle.std.proofs.lemmas.List.Splits.{slice_split_at, slice_split_none}
 use Rattle.td_text.specs.Cut.{Without}
 use Rattle.td_text.specs.Lines.{on_ok}
-use Rattle.td_text.specs.Words.{is_alphanumeric, is_name_byte, is_arch_byte, is_name}
+use Rattle.td_text.specs.Words.{is_name_byte, is_arch_byte}
 use Rattle.td_text.proofs.Cut.{Without-append, Without-from_test, none_is}
-use Rattle.td_text.proofs.Words.{Without-name, Without-arch}
-use Rattle.td_relation.specs.declared.relation.Operator.{Operator}
-use Rattle.td_relation.specs.declared.relation.Operator.TheVariants.{Earlier, EarlierOrEqual, Equal}
-use Rattle.td_relation.specs.declared.relation.Operator.TheVariants.{LaterOrEqual, Later}
+use Rattle.td_text.proofs.Words.{Without-name}
 use Rattle.td_text.specs.Runs.{is_space, is_blank}
 use Rattle.td_relation.specs.Asked.{Asked}
 use Rattle.td_relation.specs.RelationGrammar.{ends_a_name, is_version_byte, alternative_at, over}
 use Rattle.td_relation.specs.RelationGrammar.{alternative_step, member_at, member_step}
 use Rattle.td_relation.specs.RelationGrammar.{some_members, relation_at}
-use Rattle.td_relation.specs.RelationWriting.{operator_text, qualifier_part, QualifierFits}
+use Rattle.td_relation.specs.RelationWriting.{operator_text, qualifier_part}
 use Rattle.td_relation.specs.RelationWriting.{BoundFits, ArchsFit, ProfilesFit, WrittenAlternative}
 use Rattle.td_relation.specs.RelationWriting.{alternative_asked}
 use Rattle.td_relation.specs.Spacing.{SpacedBound, SpacedArchs, SpacedProfiles, SpacedAlternative}
@@ -30,7 +26,6 @@ use Rattle.td_relation.specs.Spacing.{ArchsAreSpaced, ProfilesAreSpaced, IsSpace
 use Rattle.td_relation.specs.Spacing.{SpacedRelationsAreRead, WhitespaceMakesNoDifference}
 use Rattle.td_text.proofs.Blanks.{is_blank-behind}
 use Rattle.td_relation.proofs.MemberTexts.{member_step-blank, member_step-filled}
-use Rattle.td_text.proofs.RunTexts.{NoSpace, not_space}
 use Rattle.td_relation.proofs.WrittenMembers.{name_not_blank}
 use Rattle.td_relation.proofs.SpacedParts.{Outer, bound_stops, bound_trimmed, name_ends, name_again}
 use Rattle.td_relation.proofs.SpacedParts.{restriction_again, archs_again}
@@ -39,6 +34,7 @@ use Rattle.td_relation.proofs.SpacedWords.{arch_words-lack, profile_words-lack}
 use Rattle.td_relation.proofs.VersionBytes.{version_bytes}
 use Rattle.td_relation.proofs.WordTexts.{Without-join}
 use Rattle.td_relation.proofs.WrittenAlternatives.{Apart, Apart-bar, Apart-comma}
+use Rattle.td_relation.proofs.WrittenAlternatives.{operator_lacks, qualifier_lacks}
 
 -- ---- an alternative
 
@@ -92,17 +88,6 @@ module _ (c : ℕ) (apart : Apart c) (out : is_space c ≡ false) where
   blank_lacks : (s : List ℕ) → is_blank s ≡ true → Without c s
   blank_lacks s h = Without-from_test is_space c s out h
 
-  qualifier_lacks : (q : Option (List ℕ)) → QualifierFits q → Without c (qualifier_part q)
-  qualifier_lacks None h = tt
-  qualifier_lacks (Some word) h = (apart.colon, Without-arch c word apart.arch h)
-
-  operator_lacks : (o : Operator) → Without c (operator_text o)
-  operator_lacks Earlier = (apart.less, (apart.less, tt))
-  operator_lacks EarlierOrEqual = (apart.less, (apart.equal, tt))
-  operator_lacks Equal = (apart.equal, tt)
-  operator_lacks LaterOrEqual = (apart.greater, (apart.equal, tt))
-  operator_lacks Later = (apart.greater, (apart.greater, tt))
-
   profiles_lack : (ls : List SpacedProfiles) (rest : List ℕ)
       → AllByRecursion ProfilesFit (map (λ x. x.list) ls) → AllByRecursion ProfilesAreSpaced ls
       → Without c rest → Without c (profiles_then ls rest)
@@ -135,7 +120,8 @@ module _ (c : ℕ) (apart : Apart c) (out : is_space c ≡ false) where
       Without-append c b.before _ (blank_lacks b.before h.0) (
         apart.opens,
         Without-append c b.before_operator _ (blank_lacks b.before_operator h.1)
-            (Without-append c (operator_text b.bound.operator) _ (operator_lacks b.bound.operator)
+            (Without-append c (operator_text b.bound.operator) _
+            (operator_lacks c apart b.bound.operator)
             (Without-append c b.before_version _ (blank_lacks b.before_version h.2)
             (Without-append c b.bound.version _ version
             (Without-append c b.before_end _ (blank_lacks b.before_end h.3) (apart.closes, w))))),
@@ -146,7 +132,7 @@ module _ (c : ℕ) (apart : Apart c) (out : is_space c ≡ false) where
       Without-append c a.front _ (blank_lacks a.front h.front)
       (Without-append c a.name _ (Without-name c a.name apart.name h.fits.name)
       (Without-append c (qualifier_part a.qualifier) _
-      (qualifier_lacks a.qualifier h.fits.qualifier)
+      (qualifier_lacks c apart a.qualifier h.fits.qualifier)
       (bound_lacks a.bound _ h.fits.bound h.bound
       (archs_lack a.archs _ h.fits.archs h.archs
       (profiles_lack a.profiles a.back h.fits.profiles h.profiles (blank_lacks a.back h.back))))))
@@ -199,9 +185,6 @@ member_again (a ∷ others) some h = alternatives_again [] a others h.0 h.1
 
 abbrev is_comma : ℕ → Bool
 is_comma b = eqb b 44
-
-name_no_space : NoSpace is_name_byte
-name_no_space = record { space = refl; tab = refl; newline = refl }
 
 member_not_blank : (m : List SpacedAlternative) → m ≢ [] → AllByRecursion IsSpaced m
     → is_blank (spaced_member (Filled m)) ≡ false

@@ -100,11 +100,11 @@ Apart-comma =
     }
 
 module _ (c : ℕ) (apart : Apart c) where
-  qualifier_lacks : (q : Option (List ℕ)) → QualifierFits q → Without c (qualifier_part q)
+  pub qualifier_lacks : (q : Option (List ℕ)) → QualifierFits q → Without c (qualifier_part q)
   qualifier_lacks None h = tt
   qualifier_lacks (Some word) h = (apart.colon, Without-arch c word apart.arch h)
 
-  operator_lacks : (o : Operator) → Without c (operator_text o)
+  pub operator_lacks : (o : Operator) → Without c (operator_text o)
   operator_lacks Earlier = (apart.less, (apart.less, tt))
   operator_lacks EarlierOrEqual = (apart.less, (apart.equal, tt))
   operator_lacks Equal = (apart.equal, tt)

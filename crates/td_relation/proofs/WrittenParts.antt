@@ -1,11 +1,11 @@
 -- The parts of an alternative, written in the canonical way one behind the other,
 -- are read again one by one.
-use Rattle.std.proofs.Common.{◌≡◌, ℕ, Bool, true, false, cond, eqb, ltb, List, [], ◌∷◌, ◌++◌}
+use Rattle.std.proofs.Common.{◌≡◌, ℕ, Bool, true, false, cond, ltb, List, [], ◌∷◌, ◌++◌}
 use Rattle.std.proofs.Common.{length, get_or, map, Option, Some, None, option_map, Ok, Err, refl}
 use Rattle.std.proofs.Common.{ap, ◌∙◌, append_assoc, arith}
 use Rattle.std.specs.Prelude.{codes, IsTrue}
 use Rattle.std.specs.List.{list_all, flat_map, join_by}
-use Rattle.std.proofs.lemmas.Bool.{and_parts, ne_eqb, ltb-true, or_right, and_from}
+use Rattle.std.proofs.lemmas.Bool.{and_parts, ltb-true, or_right, and_from}
 use Rattle.td_text.specs.Cut.{Without, strip}
 use Rattle.td_text.specs.Words.{is_alphanumeric, is_name_byte, is_arch_byte, is_name, is_arch}
 use Rattle.td_text.proofs.Cut.{Begins, cut-at}
@@ -63,10 +63,6 @@ pub bound_begins : (b : Option WrittenBound) (l : Option WrittenArchs)
     (ps : List (List WrittenProfile)) (e : Bool) → Begins 32 (bound_on b l ps e)
 bound_begins None l ps e = archs_begin l ps e
 bound_begins (Some b) l ps e = refl
-
--- and then with what may stand there
-filled : (x : ℕ) (t : List ℕ) → eqb (length (x ∷ t)) 0 ≡ false
-filled x t = ne_eqb (length (x ∷ t)) 0 (λ e. omega arith)
 
 restriction_ends : (l : Option WrittenArchs) (ps : List (List WrittenProfile)) (e : Bool)
     → ends_a_restriction (trimmed (archs_on l ps e)) ≡ true

@@ -49,9 +49,5 @@ cut_back old new n len g =
     (subst IsUtf8 (sym front) (IsUtf8-string_bytes old)) in
     (place.0, λ _. place.1)
 
--- and what is left is what it was
-pub cut_to : (old new : List ℕ) (n : ℕ) → n ≡ length old → Grown old new → take n new ≡ old
-cut_to old new n len g = rw (len, g.is) (taken old g.more)
-
 -- by which a front is kept
 pub ruleset growing = (grown_by_nothing, grown_by, grown_on, grown_twice)

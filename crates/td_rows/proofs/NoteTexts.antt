@@ -43,10 +43,6 @@ text_found (x ∷ t) w e =
     strip_found (codes " : ") (x ∷ t) a.0 a.1 ∙ sym (text_part-some a.0 b.0)
     ∙ ap text_part (some_is _ _ b.1)
 
--- the text alone
-pub text_exact : Exact text_at text_part (λ w. Unit {0})
-text_exact = record { found = λ t w e. (text_found t w e, tt); again = λ w _. text_again w }
-
 -- ---- the extra dependencies
 
 extra_part-some : (e : List ℕ) → 0 < length e

@@ -17,16 +17,6 @@ use Rattle.td_simulate.specs.SimulationText.{FaultOf}
 use Rattle.td_simulate.specs.StepLines.{step_line}
 use Rattle.td_simulate.proofs.StepLists.{AreSteps-bad}
 
--- the parts of a text, by those that were cut
-pub simulation : (text opening rest : List ℕ) (t : Table) (ss : List Step)
-    → opening ≡ opening_text (lines_of text) → ended (lines_of rest) ≡ lines_after (lines_of text)
-    → IsStateFile (lines_of opening) t → AreSteps (ended (lines_of rest)) ss
-    → IsSimulation text t ss
-simulation text opening rest t ss is_opening is_rest file steps = record {
-  opening = subst (λ (o : List ℕ). IsStateFile (lines_of o) t) is_opening file;
-  steps = subst (λ (l : List (List ℕ)). AreSteps l ss) is_rest steps;
-}
-
 -- a fault of the opening rows
 pub opening_fault : (text opening : List ℕ) (e : StateFault) → opening
     ≡ opening_text (lines_of text) → StateFaultOf (lines_of opening) e → FaultOf text (of_opening e)

@@ -11,9 +11,6 @@ use Rattle.td_stanza.specs.Line.{is_continuation, first_line}
 use Rattle.td_stanza.specs.Value.{after_newlines}
 use Rattle.td_stanza.specs.Continuing.{Skips}
 
-pub skips_none : (o : Option (Bor (List ℕ))) → Skips o o
-skips_none o = record { more = []; lines = refl; text = refl; continued = tt }
-
 all_more : (more : List (List ℕ)) (line : List ℕ)
     → AllByRecursion (λ l. IsTrue (is_continuation l)) more → IsTrue (is_continuation line)
     → AllByRecursion (λ l. IsTrue (is_continuation l)) (more ++ line ∷ [])

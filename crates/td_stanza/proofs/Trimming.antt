@@ -7,12 +7,6 @@ use Rattle.std.proofs.lemmas.Bool.{ne_eqb}
 use Rattle.std.proofs.lemmas.List.{reverse-append, reverse-reverse}
 use Rattle.td_stanza.specs.Value.{trimmed_front, trimmed_back}
 
-pub front_space : (t r : List ℕ) → t ≡ 32 ∷ r → trimmed_front t ≡ trimmed_front r
-front_space t r is = ap trimmed_front is
-
-pub front_tab : (t r : List ℕ) → t ≡ 9 ∷ r → trimmed_front t ≡ trimmed_front r
-front_tab t r is = ap trimmed_front is
-
 pub front_none : (t : List ℕ) → ((r : List ℕ) → t ≢ 32 ∷ r) → ((r : List ℕ) → t ≢ 9 ∷ r)
     → trimmed_front t ≡ t
 front_none [] h k = refl
@@ -21,12 +15,6 @@ front_none (x ∷ t) h k =
       ne_eqb x 32 (λ e. h t (ap (λ (b : ℕ). b ∷ t) e)),
       ne_eqb x 9 (λ e. k t (ap (λ (b : ℕ). b ∷ t) e)),
     ) refl
-
-pub back_space : (t r : List ℕ) → t ≡ r ++ 32 ∷ [] → trimmed_back t ≡ trimmed_back r
-back_space t r is = ap trimmed_back is ∙ rw (reverse-append r (32 ∷ [])) refl
-
-pub back_tab : (t r : List ℕ) → t ≡ r ++ 9 ∷ [] → trimmed_back t ≡ trimmed_back r
-back_tab t r is = ap trimmed_back is ∙ rw (reverse-append r (9 ∷ [])) refl
 
 turned : (t r : List ℕ) (x : ℕ) → reverse t ≡ x ∷ r → t ≡ reverse r ++ x ∷ []
 turned t r x is = sym (reverse-reverse t) ∙ ap reverse is ∙ reverse-append (x ∷ []) r

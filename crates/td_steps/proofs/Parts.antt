@@ -27,7 +27,7 @@ use Rattle.td_core.specs.Refusals.{is_queued_at}
 use Rattle.td_core.specs.Worlds.{WorldView}
 use Rattle.td_core.proofs.Phases.{keys_of-rows_of, number_of-absent, set-set}
 use Rattle.td_book.specs.Calls.{is_lost, noting_one, noting, off_for}
-use Rattle.td_book.specs.Desk.{Fixed, BookModel, claim_of}
+use Rattle.td_book.specs.Desk.{BookModel, claim_of}
 use Rattle.td_book.specs.Seen.{known_as, held_as, seen_as, views as views_by, seen_off}
 use Rattle.td_book.proofs.Seeing.{withdrawn_off, stays_off, claimed_off, offered_off, idle_off}
 use Rattle.td_book.proofs.Seeing.{held_in, known_out, length-seen_off}
@@ -93,10 +93,6 @@ tells-at d x a b m told to is =
 abbrev pub desk_off : History → Stock → ℕ → List Key → Desk
 desk_off h st n off =
     record { history = h; stock = st; view = seen_off off (rows_of h); builders = n }
-
--- the row of a key, by its number
-record RowAt (h : History) (k : Key) (row : Row) : Type 0 where
-  at : slice_get (rows_of h) (number_of h.opening k) ≡ Some (k, row)
 
 pub row-at : (h : History) (k : Key) (row : Row) → row_of (rows_of h) k ≡ Some row
     → slice_get (rows_of h) (number_of h.opening k) ≡ Some (k, row)
@@ -354,10 +350,6 @@ winning-all h st n done (k ∷ ks) up rise apart =
     (winning-all h st n (done ++ k ∷ []) ks up both.1 (apart-rest done k ks both.0 apart)))
 
 -- ---- 6. the book at rest
-
-pub resting-is : (h : History) (f : Fixed)
-    → desk_off h f.stock f.builders [] ≡ resting (record { history = h; fixed = f })
-resting-is h f = refl
 
 -- a book whose history is told, and of which nothing else changed
 pub book-is : (old new : BookModel) (h : History) → new.history ≡ h → new.fixed ≡ old.fixed

@@ -302,11 +302,6 @@ refused text (Err other) e fault f = let g = e ∙ read_refused text fault f in 
 
 -- ---- the steps of `judge`
 
-pub judged-epoch : (w : Written) (fault : VersionFault) → epoch_at w.epoch ≡ Err fault
-    → judged w ≡ Err fault
-unfolding judged
-judged-epoch w fault e = rw e refl
-
 pub judged-upstream : (w : Written) (n : ℕ) (fault : VersionFault) → epoch_at w.epoch ≡ Ok n
     → part_at (is_upstream_byte (is_some w.epoch)) (upstream_start w) w.upstream ≡ Err fault
     → judged w ≡ Err fault

@@ -26,11 +26,6 @@ FindsFirst count packages places = (source : List ℕ) (test : Option Package �
     list_any (λ place. test (slice_get packages place)) (places_of places source) ≡ list_any
     (λ p. bytes_eq (string_bytes p.source) source && test (Some p)) (take count packages)
 
-pub find_none : (packages : List Package) (places : Places)
-    → ((source : List ℕ) → places_of places source ≡ []) → FindsFirst 0 packages places
-find_none packages places none =
-    λ source test. ap (list_any (λ place. test (slice_get packages place))) (none source)
-
 either : (test : ℕ → Bool) (old : List ℕ) (place : ℕ) (same : Bool) → list_any test
     (cond same (old ++ place ∷ []) old) ≡ (list_any test old || ((same && test place) || false))
 either test old place true = list_any-append test old (place ∷ [])

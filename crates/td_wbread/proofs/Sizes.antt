@@ -1,5 +1,5 @@
 -- A priority's size is read where it is written by digits alone.
-use Rattle.std.proofs.Common.{◌≡◌, ◌≢◌, ℕ, cond, ltb, leb, List, [], ◌∷◌, length, get_or, Some}
+use Rattle.std.proofs.Common.{◌≡◌, ◌≢◌, ℕ, cond, ltb, leb, List, length, get_or, Some}
 use Rattle.std.proofs.Common.{None, Ok, Err, refl, arith, inl, inr}
 use Rattle.std.specs.Str.{all_ascii_digits}
 use Rattle.std.specs.Str.Parse.{digits_value, ParsesUnsigned}
@@ -7,10 +7,6 @@ use Rattle.std.proofs.lemmas.Bool.{and_parts, cases_Bool, ltb-true, lt-ltb, leb-
 use Rattle.std.proofs.lemmas.Str.Parse.{parse_plain}
 use Rattle.td_version.proofs.Digits.{decimal_model}
 use Rattle.td_wbread.specs.Verbs.{is_size, size_at}
-
-pub signed_size : (t : List ℕ) → get_or t 0 0 ≡ 43 → size_at t ≡ None
-signed_size [] e = absurd (omega arith)
-signed_size (x ∷ t) e = rw (e, lt-ltb 0 (length (x ∷ t)) (omega arith)) refl
 
 pub parsed_size : (t : List ℕ) (n : ℕ) → ParsesUnsigned {E =
     ℕ} 32 10 t (Ok n) → get_or t 0 0 ≢ 43 → size_at t ≡ cond (leb n 9999) (Some n) None

@@ -257,21 +257,6 @@ is_open q text is h = open_mark q text is (by (cut q text) h)
 
 -- ---- what is seen of a word
 
-pub nothing_seen : (text : List ℕ) → IsSeen text [] true text
-nothing_seen text =
-    record {
-      front = [];
-      taken = record {
-        marked = refl;
-        one = refl;
-        closed = refl;
-        one_line = refl;
-        long = omega arith;
-      };
-      joined = refl;
-      bare = refl;
-    }
-
 pub run_seen : (text word : List ℕ) (is_bare : Bool) (rest : List ℕ) → IsSeen text word is_bare rest
     → IsSeen text (word ++ run is_plain rest) is_bare (behind is_plain rest)
 run_seen text word is_bare rest s =
