@@ -1,7 +1,7 @@
 -- A supply that is filled offer by offer.
 use Rattle.std.proofs.Common.{◌≡◌, ℕ, zero, suc, ◌+◌, true, false, List, [], ◌∷◌, ◌++◌, Some, None}
 use Rattle.std.proofs.Common.{map, option_map, drop, take, slice_get, refl, sym, ap, ◌∙◌, inl, inr}
-use Rattle.std.proofs.Common.{append_assoc, append-nil}
+use Rattle.std.proofs.Common.{append_assoc}
 use Rattle.std.specs.List.{find, flat_map}
 use Rattle.std.specs.Str.{bytes_eq}
 use Rattle.std.proofs.lemmas.Bool.{cases_Bool}
@@ -14,13 +14,6 @@ use Rattle.td_indices.specs.Counting.{Apart}
 use Rattle.td_indices.specs.Sources.{KeptSource, same_source}
 use Rattle.td_indices.specs.Supplying.{listed, with_offers, with_sources}
 use Rattle.td_indices.proofs.LegalNames.{all_at}
-
--- nothing more
-pub offers_none : (s : SupplyView) → with_offers s [] ≡ s
-offers_none s = λ i. record { table = s.table; sources = s.sources; items = append-nil s.items i }
-
-pub sources_none : (s : SupplyView) → with_sources s [] ≡ s
-sources_none s = λ i. record { table = s.table; sources = append-nil s.sources i; items = s.items }
 
 -- some, and then others
 pub offers_joined : (s : SupplyView) (xs ys : List Supplied)
@@ -49,11 +42,6 @@ offered_next f old new total x xs left is more h =
     ∙ offers_joined old (f x) (flat_map f xs)
     ∙ sym (ap (λ (l : List _). with_offers old (flat_map f l)) is)
     ∙ h
-
-pub offered_all : {A : Type 0} (f : A → List Supplied) (s total : SupplyView) (left : List A)
-    → left ≡ [] → with_offers s (flat_map f left) ≡ total → s ≡ total
-offered_all f s total left is h =
-    sym (offers_none s) ∙ sym (ap (λ (l : List _). with_offers s (flat_map f l)) is) ∙ h
 
 -- the source with a number has the name of none before it
 apart_before : (ss : List KeptSource) (n : ℕ) (s : KeptSource) → Apart same_source ss

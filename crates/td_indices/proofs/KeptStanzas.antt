@@ -1,30 +1,27 @@
 -- The stanzas that packages and sources were kept of.
 use Rattle.std.proofs.Common.{◌≡◌, ℕ, suc, ◌+◌, List, [], ◌∷◌, ◌++◌, Bool, Option, Some, None}
 use Rattle.std.proofs.Common.{Result, Ok, Err, option_map, slice_get, is_some, true, refl, sym, ap}
-use Rattle.std.proofs.Common.{◌∙◌, subst, inl, inr, arith}
+use Rattle.std.proofs.Common.{◌∙◌, subst, arith}
 use Rattle.std.specs.List.{AllByRecursion}
 use Rattle.std.specs.Option.{option_map_or}
-use Rattle.std.proofs.lemmas.Bool.{cases_Bool}
-use Rattle.td_text.specs.Lines.{on_ok}
-use Rattle.td_text.proofs.Chain.{on_ok_parts, some_is}
+use Rattle.td_text.proofs.Chain.{some_is}
 use Rattle.td_stanza.specs.Field.{Entry}
 use Rattle.td_relation.specs.Arch.{ArchWords}
 use Rattle.td_relation.specs.Asked.{Asked}
-use Rattle.std.specs.Prelude.{codes, IfOk}
+use Rattle.std.specs.Prelude.{IfOk}
 use Rattle.td_indices.specs.declared.archive_fault.EntryFault.{EntryFault}
 use Rattle.td_indices.specs.Archive.{Contents}
-use Rattle.td_indices.specs.Binaries.{BinaryPackage, package_at}
 use Rattle.td_indices.specs.Counting.{AreItems, Counts, consed}
 use Rattle.td_indices.specs.Fields.{relation_in, value_of}
-use Rattle.td_indices.specs.Kept.{KeptBinary, binary_at, lower_package, provides_at, same_package}
-use Rattle.td_indices.specs.Kept.{with_relations}
+use Rattle.td_indices.specs.Kept.{KeptBinary, binary_at, lower_package, same_package}
 use Rattle.td_indices.specs.Reading.{binaries_at, sources_at}
-use Rattle.td_indices.specs.Sources.{KeptSource, SourcePackage, is_extra, kept_source_at}
-use Rattle.td_indices.specs.Sources.{lower_source, same_source, source_at as head_at}
-use Rattle.td_indices.specs.Sources.{whole_source_at, with_build_relations}
+use Rattle.td_indices.specs.Sources.{KeptSource, kept_source_at}
+use Rattle.td_indices.specs.Sources.{lower_source, same_source}
+use Rattle.td_indices.specs.SourceStanzas.{IsKeptSource}
 use Rattle.td_indices.specs.Stanzas.{IsKeptOf, asked_in, asked_or_none}
 use Rattle.td_indices.proofs.CountingLaws.{greatest_packages, greatest_sources}
 use Rattle.td_indices.proofs.LegalNames.{all_at}
+use Rattle.td_indices.proofs.SourceStanzas.{binary_found, source_found}
 
 -- ---- 1. an item among those of the stanzas is that of one of them
 
@@ -74,78 +71,7 @@ module _ {A : Type 0} (at : ℕ → List Entry → Result (Option A) EntryFault)
       by_stanza n s ss are.1 before after x
       (λ front e. one_of (n + 1) ss are.1 front after x are.4 e) are.0 are.2 (sym are.3 ∙ is)
 
--- ---- 2. the number of its stanza
-
-binary_made : (p : BinaryPackage) (provides : List (List Asked)) (n : ℕ) (b : KeptBinary)
-    → ◌≡◌ {A = Result (Option KeptBinary) EntryFault}
-    (Ok (Some (record { head = p; provides = provides; stanza = n }))) (Ok (Some b)) → n ≡ b.stanza
-binary_made p provides n b e = cc
-
-binary_number : (n : ℕ) (fields : List Entry) (p : Option BinaryPackage) (b : KeptBinary)
-    → with_relations n fields p ≡ Ok (Some b) → n ≡ b.stanza
-binary_number n fields None b e = absurd cc
-binary_number n fields (Some p) b e =
-    let read = on_ok_parts (provides_at fields) _ (Some b) e in
-    binary_made p read.0 n b read.2
-
-pub binary_at-number : (table : List ArchWords) (n : ℕ) (fields : List Entry) (b : KeptBinary)
-    → binary_at table n fields ≡ Ok (Some b) → n ≡ b.stanza
-unfolding binary_at
-binary_at-number table n fields b e =
-    let read = on_ok_parts (package_at table fields) _ (Some b) e in
-    binary_number n fields read.0 b read.2
-
-source_made : (head : SourcePackage) (n : ℕ) (s : KeptSource)
-    → ◌≡◌ {A = Result KeptSource EntryFault} (Ok (record { head = head; stanza = n })) (Ok s)
-    → n ≡ s.stanza
-source_made head n s e = cc
-
-kept_is : (t s : KeptSource)
-    → ◌≡◌ {A = Result (Option KeptSource) EntryFault} (Ok (Some t)) (Ok (Some s)) → t ≡ s
-kept_is t s e = cc
-
--- what a kept source's build asks for can be read
-pub record IsReadable (fields : List Entry) (n : ℕ) (s : KeptSource) : Type 0 where
-  pub number : n ≡ s.stanza
-  pub depends : List (List Asked)
-  pub depends_read : relation_in (value_of fields (codes "Build-Depends")) ≡ Ok depends
-  pub arch_depends : List (List Asked)
-  pub arch_depends_read : relation_in (value_of fields (codes "Build-Depends-Arch"))
-      ≡ Ok arch_depends
-
-whole_readable : (n : ℕ) (fields : List Entry) (s : KeptSource) → whole_source_at n fields ≡ Ok s
-    → IsReadable fields n s
-unfolding whole_source_at with_build_relations
-whole_readable n fields s e =
-    let head = on_ok_parts (head_at fields) _ s e in
-    let depends = on_ok_parts (relation_in (value_of fields (codes "Build-Depends"))) _ s head.2 in
-    let arch_depends =
-    on_ok_parts (relation_in (value_of fields (codes "Build-Depends-Arch"))) _ s depends.2 in
-    record {
-      number = source_made head.0 n s arch_depends.2;
-      depends = depends.0;
-      depends_read = depends.1;
-      arch_depends = arch_depends.0;
-      arch_depends_read = arch_depends.1;
-    }
-
-pub kept_readable : (n : ℕ) (fields : List Entry) (s : KeptSource)
-    → kept_source_at n fields ≡ Ok (Some s) → IsReadable fields n s
-unfolding kept_source_at
-kept_readable n fields s e =
-    elim (cases_Bool (is_extra fields)) [
-      | inl extra ↦
-          absurd (let bad : ◌≡◌ {A = Result (Option KeptSource) EntryFault} (Ok None)
-          (Ok (Some s)) = sym (rw extra refl) ∙ e in cc)
-      | inr own ↦
-          let read : on_ok (whole_source_at n fields) (λ t. Ok (Some t)) ≡ Ok (Some s) =
-          sym (rw own refl) ∙ e in
-          let whole = on_ok_parts (whole_source_at n fields) _ (Some s) read in
-          subst (λ (t : KeptSource). IsReadable fields n t) (kept_is whole.0 s whole.2)
-          (whole_readable n fields whole.0 whole.1)
-    ]
-
--- ---- 3. the items of an archive
+-- ---- 2. the items of an archive
 
 kept_one : {A : Type 0} (same lower : A → A → Bool)
     (at : ℕ → List Entry → Result (Option A) EntryFault) (ss : List (List Entry))
@@ -165,7 +91,7 @@ binary_kept table stanzas kept i b read got =
     let g = greatest_packages table stanzas kept read in
     let one = kept_one same_package lower_package (binary_at table) stanzas g.0 kept i b g.1
     g.2.counting got in
-    let number : one.0 ≡ b.stanza = binary_at-number table one.0 one.1 b one.3 in
+    let number : one.0 ≡ b.stanza = sym (binary_found table one.0 one.1 b one.3).numbered in
     record {
       fields = one.1;
       there = subst (λ (n : ℕ). slice_get stanzas n ≡ Some one.1) number one.2;
@@ -179,14 +105,14 @@ source_kept stanzas kept i s read got =
     let g = greatest_sources stanzas kept read in
     let one = kept_one same_source lower_source kept_source_at stanzas g.0 kept i s g.1 g.2.counting
     got in
-    let number : one.0 ≡ s.stanza = (kept_readable one.0 one.1 s one.3).number in
+    let number : one.0 ≡ s.stanza = sym (source_found one.0 one.1 s one.3).numbered in
     record {
       fields = one.1;
       there = subst (λ (n : ℕ). slice_get stanzas n ≡ Some one.1) number one.2;
       kept = subst (λ (n : ℕ). kept_source_at n one.1 ≡ Ok (Some s)) number one.3;
     }
 
--- ---- 4. what is looked up by a number
+-- ---- 3. what is looked up by a number
 
 pub mapped : {A B : Type 0} (f : A → B) (o : Option A) (y : B) → option_map f o ≡ Some y
     → is_some o ≡ true
@@ -217,12 +143,12 @@ source_at a n fields e = by (slice_get a.sources n) refl
 -- its two relations can be read
 pub readable_at : (a : Contents) (n : ℕ) (fields : List Entry)
     → sources_at a.source_stanzas ≡ Ok a.sources → SourceAt a n fields
-    → (s : KeptSource) × IsReadable fields s.stanza s
+    → (s : KeptSource) × IsKeptSource s.stanza fields s
 readable_at a n fields kept at =
     let its = source_kept a.source_stanzas a.sources n at.source kept at.got in
     let same : its.fields ≡ fields = some_is its.fields fields (sym its.there ∙ at.there) in (
       at.source,
-      kept_readable at.source.stanza fields at.source
+      source_found at.source.stanza fields at.source
           (ap (λ (l : List Entry). kept_source_at at.source.stanza l) (sym same) ∙ its.kept),
     )
 

@@ -10,9 +10,6 @@ use Rattle.td_supply.specs.Supplied.{Supplied}
 use Rattle.td_indices.specs.Supplying.{is_equal, provided, provided_at}
 use Rattle.td_indices.specs.OfferedNames.{NamesAreThoseOfOffers, provided_names}
 
-name : Supplied → List ℕ
-name o = o.name
-
 abbrev names : List Supplied → List (List ℕ)
 names offers = map (λ o. o.name) offers
 

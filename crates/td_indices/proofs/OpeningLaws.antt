@@ -2,12 +2,11 @@
 -- known.
 use Rattle.std.proofs.Common.{◌≡◌, ℕ, Bool, false, List, [], ◌∷◌, Option, Some, None, Result, Ok}
 use Rattle.std.proofs.Common.{Err, map, option_map, refl, sym, ap, subst, ◌∙◌, inl, inr}
-use Rattle.std.specs.Prelude.{IfOk, codes}
+use Rattle.std.specs.Prelude.{IfOk}
 use Rattle.std.specs.List.{AllByRecursion, find}
 use Rattle.std.specs.Str.{bytes_eq}
 use Rattle.std.proofs.lemmas.Bool.{cases_Bool}
-use Rattle.td_text.specs.Lines.{on_ok}
-use Rattle.td_text.proofs.Chain.{on_ok_parts, some_is}
+use Rattle.td_text.proofs.Chain.{some_is}
 use Rattle.td_rows.specs.declared.key.Key.{Key}
 use Rattle.td_rows.specs.declared.row.Row.{Row}
 use Rattle.td_rows.specs.States.{is_building}
@@ -18,13 +17,9 @@ use Rattle.td_supply.specs.VersionTexts.{IsVersionText}
 use Rattle.td_version.specs.Reading.{reading}
 use Rattle.td_version.specs.Version.{Parts}
 use Rattle.td_version.specs.declared.version.VersionFault.{VersionFault}
-use Rattle.td_version.proofs.Outcomes.{read_found}
-use Rattle.td_indices.specs.declared.archive_fault.EntryFault.{EntryFault}
-use Rattle.td_indices.specs.declared.archive_fault.IndexField.TheVariants.{Package, Version}
-use Rattle.td_indices.specs.declared.archive_fault.IndexField.TheVariants.{Architecture}
 use Rattle.td_indices.specs.declared.archive_fault.IndexFile.TheVariants.{Sources}
 use Rattle.td_indices.specs.Archive.{Contents, source_named}
-use Rattle.td_indices.specs.Fields.{name_in, needed, relation_in, value_of, version_in}
+use Rattle.td_indices.specs.Fields.{version_in}
 use Rattle.td_indices.specs.Fields.{version_or_bad}
 use Rattle.td_indices.specs.OpeningRows.{IsVersionKnown}
 use Rattle.td_indices.specs.Reading.{sources_at}
@@ -32,10 +27,11 @@ use Rattle.td_indices.specs.Supplying.{AreRead, listed, supply_of}
 use Rattle.td_indices.specs.Opening.{current_numbers, greatest, opening_at, opening_of, opening_on}
 use Rattle.td_indices.specs.Opening.{opening_row}
 use Rattle.td_indices.specs.Rows.{has_row}
-use Rattle.td_indices.specs.Sources.{KeptSource, SourcePackage, is_extra, kept_source_at}
-use Rattle.td_indices.specs.Sources.{lower_source, same_source, source_at, whole_source_at}
-use Rattle.td_indices.specs.Sources.{with_build_relations}
+use Rattle.td_indices.specs.Sources.{KeptSource, kept_source_at}
+use Rattle.td_indices.specs.Sources.{lower_source, same_source}
 use Rattle.td_indices.proofs.LegalNames.{all_over}
+use Rattle.td_indices.proofs.PackageStanzas.{version_again}
+use Rattle.td_indices.proofs.SourceStanzas.{source_found}
 
 free_of : (best : Option ℕ) → is_building (opening_of best).state ≡ false
 free_of None = refl
@@ -72,61 +68,10 @@ free_rows look a (Err e) h = tt
 
 -- ---- the version of a source that is kept
 
-made : (name version archs : List ℕ) (parts : Parts) (s : SourcePackage)
-    → ◌≡◌ {A = Result SourcePackage EntryFault}
-    (Ok (record { name = name; version = version; parts = parts; archs = archs })) (Ok s)
-    → version_in version ≡ Ok parts → version_in s.version ≡ Ok s.parts
-made name version archs parts s e read =
-    let texts : version ≡ s.version = cc in
-    let both : parts ≡ s.parts = cc in
-    ap version_in (sym texts) ∙ read ∙ ap Ok both
-
-source_read : (fields : List Entry) (s : SourcePackage) → source_at fields ≡ Ok s
-    → version_in s.version ≡ Ok s.parts
-unfolding source_at
-source_read fields s e =
-    let name = on_ok_parts (name_in Package (value_of fields (codes "Package"))) _ s e in
-    let version = on_ok_parts (needed Version (value_of fields (codes "Version"))) _ s name.2 in
-    let archs =
-    on_ok_parts (needed Architecture (value_of fields (codes "Architecture"))) _ s version.2 in
-    let parts = on_ok_parts (version_in version.0) _ s archs.2 in
-    made name.0 version.0 archs.0 parts.0 s parts.2 parts.1
-
-head_is : (head : SourcePackage) (n : ℕ) (s : KeptSource)
-    → ◌≡◌ {A = Result KeptSource EntryFault} (Ok (record { head = head; stanza = n })) (Ok s)
-    → head ≡ s.head
-head_is head n s e = cc
-
-whole_read : (n : ℕ) (fields : List Entry) (s : KeptSource) → whole_source_at n fields ≡ Ok s
-    → version_in s.head.version ≡ Ok s.head.parts
-unfolding whole_source_at with_build_relations
-whole_read n fields s e =
-    let head = on_ok_parts (source_at fields) _ s e in
-    let depends = on_ok_parts (relation_in (value_of fields (codes "Build-Depends"))) _ s head.2 in
-    let arch_depends =
-    on_ok_parts (relation_in (value_of fields (codes "Build-Depends-Arch"))) _ s depends.2 in
-    subst (λ (h : SourcePackage). version_in h.version ≡ Ok h.parts)
-    (head_is head.0 n s arch_depends.2) (source_read fields head.0 head.1)
-
-kept_is : (t s : KeptSource)
-    → ◌≡◌ {A = Result (Option KeptSource) EntryFault} (Ok (Some t)) (Ok (Some s)) → t ≡ s
-kept_is t s e = cc
-
 kept_read : (n : ℕ) (fields : List Entry) (s : KeptSource) → kept_source_at n fields ≡ Ok (Some s)
     → version_in s.head.version ≡ Ok s.head.parts
-unfolding kept_source_at
 kept_read n fields s e =
-    elim (cases_Bool (is_extra fields)) [
-      | inl extra ↦
-          absurd (let bad : ◌≡◌ {A = Result (Option KeptSource) EntryFault} (Ok None)
-          (Ok (Some s)) = sym (rw extra refl) ∙ e in cc)
-      | inr own ↦
-          let read : on_ok (whole_source_at n fields) (λ t. Ok (Some t)) ≡ Ok (Some s) =
-          sym (rw own refl) ∙ e in
-          let whole = on_ok_parts (whole_source_at n fields) _ (Some s) read in
-          subst (λ (t : KeptSource). version_in t.head.version ≡ Ok t.head.parts)
-          (kept_is whole.0 s whole.2) (whole_read n fields whole.0 whole.1)
-    ]
+    version_again s.head.version s.head.parts (source_found n fields s e).readable
 
 found_by : {A : Type 0} (P : A → Type 0) (test : A → Bool) (xs : List A) (x : A)
     → AllByRecursion P xs → find test xs ≡ Some x → P x
@@ -148,11 +93,7 @@ pub all_read : (stanzas : List (List Entry)) (sources : List KeptSource)
 all_read stanzas sources kept =
     all_over same_source lower_source kept_source_at Sources (λ (s : KeptSource).
     IsVersionText s.head.version)
-    (λ n fields s e. (
-      s.head.parts,
-      read_found s.head.version s.head.parts
-          (read_of (reading s.head.version) s.head.parts (kept_read n fields s e)),
-    ))
+    (λ n fields s e. (s.head.parts, (source_found n fields s e).readable))
     0 [] stanzas sources tt kept
 
 find_listed : (name : List ℕ) (ss : List KeptSource)

@@ -1,21 +1,17 @@
 -- The numbers of items that pass a test.
-use Rattle.std.proofs.Common.{◌≡◌, ℕ, zero, suc, ◌+◌, ◌<◌, ◌≤◌, arith, length, Bool, true, false}
-use Rattle.std.proofs.Common.{◌&&◌, List, [], ◌∷◌, ◌++◌, Some, drop, filter, slice_get}
-use Rattle.std.proofs.Common.{if◌then◌else◌, refl, sym, ap, ◌∙◌, inl, inr, append_assoc, add-one}
+use Rattle.std.proofs.Common.{◌≡◌, ℕ, ◌+◌, ◌<◌, ◌≤◌, arith, length, Bool, false}
+use Rattle.std.proofs.Common.{◌&&◌, List, [], ◌∷◌, ◌++◌, Some, take, drop, filter, slice_get}
+use Rattle.std.proofs.Common.{if◌then◌else◌, refl, sym, ap, ◌∙◌, inl, inr, add-one}
 use Rattle.std.specs.List.{AllByRecursion}
 use Rattle.std.specs.Option.{option_map_or}
 use Rattle.std.specs.Str.{bytes_eq}
 use Rattle.std.proofs.lemmas.Bool.{cases_Bool}
-use Rattle.std.proofs.Math.Seq.{drop-nil}
-use Rattle.td_rows.proofs.Lists.{drop-next}
+use Rattle.std.proofs.lemmas.List.{length-take-le}
+use Rattle.td_rows.proofs.Lists.{take-next}
+pub use Rattle.td_supply.proofs.Places.{any-filter, any-places, front_of}
+use Rattle.td_supply.proofs.Places.{places-push}
 use Rattle.td_indices.specs.Archive.{places_from, is_of}
 use Rattle.td_indices.specs.Kept.{KeptBinary}
-
-pub front_of : {A : Type 0} (bs : List A) (n : ℕ) (x : A) (xs : List A) → drop n bs ≡ x ∷ xs
-    → (slice_get bs n ≡ Some x) × (drop (suc n) bs ≡ xs)
-front_of [] n x xs h = absurd (let bad : ◌≡◌ {A = List _} [] (x ∷ xs) = sym (drop-nil n) ∙ h in cc)
-front_of (b ∷ bs) zero x xs h = (cc, cc)
-front_of (b ∷ bs) (suc n) x xs h = front_of bs n x xs h
 
 -- of the numbers of items that pass one test, those whose items pass another
 pub filter-places : {A : Type 0} (test there : A → Bool) (bs xs : List A) (n : ℕ) → drop n bs ≡ xs
@@ -33,31 +29,15 @@ filter-places test there bs (x ∷ xs) n h =
       | inr fails ↦ rw fails later
     ]
 
--- the numbers so far with that of one package more, and those that are left
-pub grouped : (q source : List ℕ) (old new total : List ℕ) (n : ℕ) (bs : List KeptBinary)
-    (b : KeptBinary) → slice_get bs n ≡ Some b → b.head.source ≡ source
+-- the numbers so far, with one package more
+pub grouped : (q source : List ℕ) (old new : List ℕ) (n : ℕ) (bs : List KeptBinary) (b : KeptBinary)
+    → n ≤ length bs → slice_get bs n ≡ Some b → b.head.source ≡ source
     → new ≡ (if bytes_eq q source then old ++ n ∷ [] else old)
-    → old ++ places_from (is_of q) n (drop n bs) ≡ total
-    → new ++ places_from (is_of q) (n + 1) (drop (n + 1) bs) ≡ total
-grouped q source old new total n bs b at is added h =
-    let left = drop-next bs n b at in
-    let whole : old ++ places_from (is_of q) n (b ∷ drop (n + 1) bs) ≡ total =
-    ap (λ (l : List KeptBinary). old ++ places_from (is_of q) n l) (sym left) ∙ h in
-    elim (cases_Bool (bytes_eq q source)) [
-      | inl named ↦
-          let own : bytes_eq q b.head.source ≡ true = ap (bytes_eq q) is ∙ named in
-          let joined : old ++ n ∷ places_from (is_of q) (n + 1) (drop (n + 1) bs) ≡ total =
-          sym (rw own refl) ∙ whole in
-          ap (λ (l : List ℕ). l ++ places_from (is_of q) (n + 1) (drop (n + 1) bs))
-          (added ∙ rw named refl)
-          ∙ append_assoc old (n ∷ []) (places_from (is_of q) (n + 1) (drop (n + 1) bs)) ∙ joined
-      | inr other ↦
-          let foreign : bytes_eq q b.head.source ≡ false = ap (bytes_eq q) is ∙ other in
-          let same : old ++ places_from (is_of q) (n + 1) (drop (n + 1) bs) ≡ total =
-          sym (rw foreign refl) ∙ whole in
-          ap (λ (l : List ℕ). l ++ places_from (is_of q) (n + 1) (drop (n + 1) bs))
-          (added ∙ rw other refl) ∙ same
-    ]
+    → old ≡ places_from (is_of q) 0 (take n bs) → new ≡ places_from (is_of q) 0 (take (n + 1) bs)
+grouped q source old new n bs b within at is added h =
+    let long : 0 + length (take n bs) ≡ n = omega (arith, length-take-le n bs within) in
+    added
+    ∙ sym (rw (take-next bs n b at, places-push (is_of q) 0 (take n bs) b, long, is, ← h) refl)
 
 -- they are numbers of items
 pub places-within : {A : Type 0} (test : A → Bool) (m n : ℕ) (xs : List A) → n + length xs ≤ m

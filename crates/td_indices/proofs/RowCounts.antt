@@ -1,24 +1,13 @@
 -- Words that match, and rows counted source by source.
-use Rattle.std.proofs.Common.{◌≡◌, ℕ, ◌+◌, Bool, ◌&&◌, ◌||◌, List, [], ◌∷◌, Some, drop, filter}
-use Rattle.std.proofs.Common.{slice_get, option_map, refl, ap, ◌∙◌, inl, inr, arith}
+use Rattle.std.proofs.Common.{◌≡◌, ℕ, ◌+◌, List, ◌∷◌, Some, drop}
+use Rattle.std.proofs.Common.{slice_get, option_map, ap, ◌∙◌, arith}
 use Rattle.std.specs.Borrow.{Bor}
-use Rattle.std.specs.List.{list_any}
-use Rattle.std.proofs.lemmas.Bool.{cases_Bool}
 use Rattle.std.proofs.lemmas.List.Sums.{sum_by-cons}
 use Rattle.td_rows.proofs.Lists.{drop-next, slice_get-map}
 use Rattle.td_relation.specs.Arch.{ArchWords}
 use Rattle.td_indices.specs.declared.sourced.Sourced.{Sourced}
 use Rattle.td_indices.specs.Rows.{rows_of, row_count}
 use Rattle.td_indices.specs.Sources.{source_of, sources_of}
-
-pub any-filter : {A : Type 0} (keep test : A → Bool) (xs : List A)
-    → list_any (λ x. keep x && test x) xs ≡ list_any test (filter keep xs)
-any-filter keep test [] = refl
-any-filter keep test (x ∷ xs) =
-    elim (cases_Bool (keep x)) [
-      | inl is ↦ rw is (ap (λ (b : Bool). test x || b) (any-filter keep test xs))
-      | inr out ↦ rw out (any-filter keep test xs)
-    ]
 
 -- the sources that are left, from the one with a number on
 pub sources_left : (es : List (Bor (List ℕ) × Sourced)) (n : ℕ) (p : Bor (List ℕ) × Sourced)

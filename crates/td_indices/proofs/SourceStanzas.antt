@@ -29,7 +29,7 @@ kept_some x y e = cc
 
 -- ---- packages
 
-binary_found : (table : List ArchWords) (number : ℕ) (fields : List Entry) (b : KeptBinary)
+pub binary_found : (table : List ArchWords) (number : ℕ) (fields : List Entry) (b : KeptBinary)
     → binary_at table number fields ≡ Ok (Some b) → IsKeptPackage table number fields b
 unfolding binary_at provides_at
 binary_found table number fields b e =
@@ -129,7 +129,7 @@ own_found number fields s own e =
       numbered = refl;
     }))
 
-source_found : (number : ℕ) (fields : List Entry) (s : KeptSource)
+pub source_found : (number : ℕ) (fields : List Entry) (s : KeptSource)
     → kept_source_at number fields ≡ Ok (Some s) → IsKeptSource number fields s
 unfolding kept_source_at
 source_found number fields s e = by (is_extra fields) refl e

@@ -1,6 +1,6 @@
 -- What an archive holds, of which texts it is read, and why texts are refused. This project's own.
-use Rattle.std.specs.Prelude.{◌≡◌, ◌⊎◌, ℕ, ◌+◌, ◌<◌, ◌≤◌, ◌&&◌, Bool, false, List, [], ◌∷◌, Option}
-use Rattle.std.specs.Prelude.{Result, Ok, Err, position, slice_get, if◌then◌else◌}
+use Rattle.std.specs.Prelude.{◌≡◌, ◌⊎◌, ℕ, ◌<◌, ◌≤◌, ◌&&◌, Bool, false, List, Option}
+use Rattle.std.specs.Prelude.{Result, Ok, Err, position, slice_get}
 use Rattle.std.specs.List.{find}
 use Rattle.std.specs.Option.{option_map_or}
 use Rattle.std.specs.Str.{bytes_eq}
@@ -14,6 +14,7 @@ use Rattle.td_stanza.specs.declared.fault.StanzaFault.TheVariants.{ContinuationF
 use Rattle.td_stanza.specs.declared.fault.StanzaFault.TheVariants as stanza
 use Rattle.td_relation.specs.Arch.{ArchWords}
 use Rattle.td_relation.specs.Meeting.{is_on}
+pub use Rattle.td_supply.specs.Places.{places_from}
 use Rattle.td_indices.specs.declared.archive_fault.IndexFile.{IndexFile}
 use Rattle.td_indices.specs.declared.archive_fault.IndexFile.TheVariants.{Packages, Sources}
 use Rattle.td_indices.specs.declared.archive_fault.ArchiveFault.{ArchiveFault}
@@ -48,12 +49,6 @@ number_named a name = position (λ s. bytes_eq name s.head.name) a.sources
 abbrev pub has_row_at : Contents → ℕ → ℕ → Bool
 has_row_at a number place =
     option_map_or (λ s. has_row a.table s.head.archs place) (slice_get a.sources number) false
-
--- the numbers, from n on, of the items that pass a test
-abbrev pub places_from : {A : Type 0} → (A → Bool) → ℕ → List A → List ℕ
-places_from test n [] = []
-places_from test n (x ∷ xs) =
-    if test x then n ∷ places_from test (n + 1) xs else places_from test (n + 1) xs
 
 -- a binary package is its source's where it names it
 abbrev pub is_of : List ℕ → KeptBinary → Bool

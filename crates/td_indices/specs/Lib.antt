@@ -7,7 +7,6 @@ pub mod Kept
 pub mod Sources
 pub mod Reading
 pub mod Rows
-pub mod Groups
 pub mod Archive
 pub mod FaultNames
 pub mod Seen

@@ -13,7 +13,6 @@ use Rattle.td_indices.specs.declared.archive_fault.IndexField.TheVariants.{Packa
 use Rattle.td_indices.specs.declared.archive_fault.IndexField.TheVariants.{Architecture}
 use Rattle.td_indices.specs.declared.archive_fault.EntryFault.{EntryFault}
 use Rattle.td_indices.specs.declared.sourced.Sourced.{Sourced}
-use Rattle.td_indices.specs.declared.sourced.SourceHead.{SourceHead}
 use Rattle.td_indices.specs.Fields.{value_of, needed, name_in, version_in, relation_in}
 
 -- ---- 1. the stanza
@@ -73,21 +72,6 @@ lower_source a b = is_lt (version_cmp a.head.parts b.head.parts)
 
 -- ---- what the readers give and the map holds, without where it lies in memory
 
--- the source of a stanza's head
-abbrev pub source_headed : SourceHead → SourcePackage
-source_headed h =
-    record {
-      name = h.name.now;
-      version = h.version.now;
-      parts = parts_of h.parts;
-      archs = h.archs.now;
-    }
-
--- that source, or the stanza's fault
-abbrev pub source_found : Result SourceHead EntryFault → Result SourcePackage EntryFault
-source_found (Ok head) = Ok (source_headed head)
-source_found (Err fault) = Err fault
-
 -- a source with its name, as the map holds them
 abbrev pub source_of : Bor (List ℕ) × Sourced → KeptSource
 source_of p = record {
@@ -99,6 +83,12 @@ source_of p = record {
   };
   stanza = p.1.stanza;
 }
+
+-- what was read of a stanza, before the relations of its build, or the stanza's fault
+abbrev pub source_found : Result (Bor (List ℕ) × Sourced) EntryFault
+    → Result SourcePackage EntryFault
+source_found (Ok p) = Ok (source_of p).head
+source_found (Err fault) = Err fault
 
 -- all sources that the map holds, in its order
 abbrev pub sources_of : List (Bor (List ℕ) × Sourced) → List KeptSource

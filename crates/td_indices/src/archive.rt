@@ -3,7 +3,6 @@ ghost use Rattle.td_rows.specs.Limits.{max_rows};
 
 use crate::archive_fault::ArchiveFault;
 use crate::grouping::those_on;
-use crate::groups::Groups;
 use crate::index_reading::{read_packages_index, read_sources_index};
 use crate::opening::opening_on;
 use crate::packaged::{Binary, PackageKey, Packaged};
@@ -19,7 +18,7 @@ use std::thread::Threads;
 use td_relation::Archs;
 use td_rows::{Key, Row, Rows};
 use td_stanza::Stanza;
-use td_supply::Supply;
+use td_supply::{Numbers, Supply};
 
 /// The binary packages and the sources that count, with the stanzas that they stand in. Contracts
 /// see them as `Contents`.
@@ -30,7 +29,8 @@ pub struct Archive<'t, 'a> {
     pub(crate) source_stanzas: StanzaPieces<'a>,
     pub(crate) binaries: IndexMap<PackageKey<'a>, Packaged<'a>>,
     pub(crate) sources: IndexMap<&'a str, Sourced<'a>>,
-    pub(crate) groups: Groups<'a>,
+    // The numbers of each source's binary packages, by its name.
+    pub(crate) groups: Numbers<'a>,
     // How many rows the sources have.
     pub(crate) rows: usize,
     pub(crate) alloc: Global,
@@ -40,12 +40,12 @@ impl<'t, 'a> Model for Archive<'t, 'a> {
     ghost use Rattle.std.specs.Prelude.{◌≡◌, ℕ, ◌≤◌, List, Ok};
     ghost use Rattle.td_relation.specs.TableView.{table};
     ghost use Rattle.td_indices.specs.Archive.{Contents, is_of, places_from};
-    ghost use Rattle.td_indices.specs.Groups.{group};
     ghost use Rattle.td_indices.specs.Kept.{binaries_of};
     ghost use Rattle.td_indices.specs.Reading.{binaries_at, sources_at};
     ghost use Rattle.td_indices.specs.Rows.{row_count};
     ghost use Rattle.td_indices.specs.Sources.{sources_of};
     ghost use Rattle.td_rows.specs.Limits.{max_rows};
+    ghost use Rattle.td_supply.specs.Numbers.{numbers_of};
 
     ghost Value = { Contents };
 
@@ -58,7 +58,8 @@ impl<'t, 'a> Model for Archive<'t, 'a> {
     } };
 
     ghost invariant = { λ a.
-        ((q : List ℕ) → group a.groups q ≡ places_from (is_of q) 0 (binaries_of a.binaries.entries))
+        ((q : List ℕ)
+        → numbers_of a.groups q ≡ places_from (is_of q) 0 (binaries_of a.binaries.entries))
         × (a.rows ≡ row_count (table a.archs.now) (sources_of a.sources.entries))
         × (a.rows ≤ max_rows)
         × (sources_at a.source_stanzas ≡ Ok (sources_of a.sources.entries))
@@ -220,7 +221,7 @@ impl<'t, 'a> Archive<'t, 'a> {
     pub fn binaries(&self, source: &str, arch: usize) -> Result<Vec<usize>, AllocError>
         ensures { IfOk result (λ numbers. numbers.items ≡ binaries_on self.now source.now arch) }
     {
-        let numbers = self.groups.of_source(source);
+        let numbers = self.groups.of(source);
         match those_on(self.alloc, &self.binaries, numbers, arch) {
             Ok(there) => Ok(there),
             Err(error) => Err(error),
@@ -255,7 +256,7 @@ impl<'t, 'a> Archive<'t, 'a> {
         let Some(place) = self.archs.index(key.arch()) else {
             return None;
         };
-        let numbers = self.groups.of_source(name);
+        let numbers = self.groups.of(name);
         opening_on(
             self.alloc,
             self.archs,

@@ -5,33 +5,33 @@ ghost use Rattle.std.specs.Option.{option_map_or};
 ghost use Rattle.std.specs.Prelude.{false};
 ghost use Rattle.td_relation.specs.Meeting.{is_on as is_on_of};
 ghost use Rattle.td_indices.specs.Archive.{is_of, is_of_on, places_from};
-ghost use Rattle.td_indices.specs.Groups.{group};
 ghost use Rattle.td_indices.specs.Kept.{binaries_of};
 ghost use Rattle.td_indices.specs.Rows.{row_count};
 ghost use Rattle.td_indices.specs.Sources.{sources_of};
 ghost use Rattle.td_indices.specs.declared.archive_fault.ArchiveFault.{ArchiveFault};
 ghost use Rattle.td_relation.specs.TableView.{table};
 ghost use Rattle.td_rows.specs.Limits.{max_rows};
+ghost use Rattle.td_supply.specs.Numbers.{numbers_of};
 
 use crate::archive_fault::ArchiveFault;
-use crate::groups::Groups;
 use crate::packaged::{PackageKey, Packaged};
 use crate::rows::count_rows;
 use crate::sourced::Sourced;
 use indexmap::IndexMap;
 use std::alloc::{AllocError, Global};
 use td_relation::Archs;
+use td_supply::Numbers;
 
 /// The numbers of the binary packages, by their sources.
 pub fn group_binaries<'a>(
     alloc: Global,
     binaries: &IndexMap<PackageKey<'a>, Packaged<'a>>,
-) -> Result<Groups<'a>, AllocError>
+) -> Result<Numbers<'a>, AllocError>
     ensures { IfOk result (λ groups.
         (q : List ℕ)
-        → group groups q ≡ places_from (is_of q) 0 (binaries_of binaries.now.entries)) }
+        → numbers_of groups q ≡ places_from (is_of q) 0 (binaries_of binaries.now.entries)) }
 {
-    let mut groups = Groups::new(alloc);
+    let mut groups = Numbers::new(alloc);
     for number in 0..binaries.len() {
         if let Some((_, packaged)) = binaries.get_index(number) {
             groups.push(packaged.source, number)?;
@@ -46,9 +46,9 @@ pub fn grouped_and_counted<'a>(
     archs: &Archs<'_>,
     binaries: &IndexMap<PackageKey<'a>, Packaged<'a>>,
     sources: &IndexMap<&str, Sourced<'_>>,
-) -> Result<(Groups<'a>, usize), ArchiveFault>
+) -> Result<(Numbers<'a>, usize), ArchiveFault>
     ensures groups { IfOk result (λ p. (q : List ℕ)
-        → group p.0 q ≡ places_from (is_of q) 0 (binaries_of binaries.now.entries)) }
+        → numbers_of p.0 q ≡ places_from (is_of q) 0 (binaries_of binaries.now.entries)) }
     ensures rows { IfOk result (λ p.
         p.1 ≡ row_count (table archs.now) (sources_of sources.now.entries)) }
     ensures limited { IfOk result (λ p. p.1 ≤ max_rows) }

@@ -9,11 +9,13 @@ ghost use Rattle.td_indices.specs.inner.IndexReading.{ArePackagesRead, AreSource
 
 use crate::archive_fault::{ArchiveFault, IndexFile};
 use crate::packaged::{PackageKey, Packaged};
+use crate::part_reading::{read_part, read_parts};
 use crate::piece_reading::read_stanzas_beside;
 use crate::sourced::Sourced;
 use crate::stanza_list::read_stanzas;
 use crate::stanza_pieces::StanzaPieces;
-use crate::stanza_reading::{read_binaries, read_binaries_beside, read_sources};
+use crate::stanza_reading::{kept_of, read_sources};
+use crate::work::HALVINGS;
 use indexmap::IndexMap;
 use std::alloc::Global;
 use std::thread::Threads;
@@ -46,7 +48,8 @@ pub fn read_packages_index<'a>(
         Ok(stanzas) => stanzas,
         Err(fault) => return Err(fault),
     };
-    let kept = read_binaries(alloc, archs, &stanzas);
+    let read = read_part(alloc, archs, &stanzas, 0, stanzas.len());
+    let kept = kept_of(alloc, read);
     Ok(PackagesIndex { stanzas, kept })
 }
 
@@ -63,7 +66,8 @@ pub fn read_packages_beside<'a, R: Threads + Sync>(
         Ok(stanzas) => stanzas,
         Err(fault) => return Err(fault),
     };
-    let kept = read_binaries_beside(rt, alloc, archs, &stanzas);
+    let read = read_parts(rt, alloc, archs, &stanzas, 0, stanzas.len(), HALVINGS);
+    let kept = kept_of(alloc, read);
     Ok(PackagesIndex { stanzas, kept })
 }
 

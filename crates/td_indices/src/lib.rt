@@ -20,7 +20,6 @@ mod binary_reading;
 mod cutting;
 mod field;
 mod grouping;
-mod groups;
 mod index_reading;
 mod laws;
 mod lookups;

@@ -67,7 +67,7 @@ impl<'t, 'a> Archive<'t, 'a> {
         ensures numbers { result.now ≡ numbers_of self.now source.now }
         ensures within { AllByRecursion (λ n. n < length self.now.binaries) result.now }
     {
-        self.groups.of_source(source)
+        self.groups.of(source)
     }
 
     /// What the binary package with a number provides, where it has the field.

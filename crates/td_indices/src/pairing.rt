@@ -12,11 +12,5 @@ pub fn paired<A: Drop, B: Drop>(
     ensures err { IfErr result (λ e. (first ≡ Err e)
         ⊎ ((a : A) × (first ≡ Ok a) × (second ≡ Err e))) }
 {
-    match first {
-        Ok(first) => match second {
-            Ok(second) => Ok((first, second)),
-            Err(fault) => Err(fault),
-        },
-        Err(fault) => Err(fault),
-    }
+    Ok((first?, second?))
 }

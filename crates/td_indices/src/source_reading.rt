@@ -1,13 +1,13 @@
 //! A stanza of Sources is read: its name, its version and its Architecture field.
-ghost use Rattle.std.specs.Prelude.{◌≡◌, Ok, IfOk, IfErr, option_map};
+ghost use Rattle.std.specs.Prelude.{◌≡◌, ℕ, Ok, IfOk, IfErr, OnOk, option_map};
 ghost use Rattle.td_stanza.specs.Table.{fields_of};
 ghost use Rattle.td_indices.specs.Fields.{Fails};
 ghost use Rattle.td_indices.specs.Sources.{
+  SourcePackage,
   is_extra as is_extra_of,
   kept_source_at,
   source_at,
   source_found,
-  source_headed,
   source_of,
   whole_source_at,
   with_build_relations,
@@ -16,7 +16,7 @@ ghost use Rattle.td_indices.specs.Sources.{
 use crate::archive_fault::{EntryFault, IndexField};
 use crate::field::{name_in, needed, value_of, version_in};
 use crate::relation_field::relation_in;
-use crate::sourced::{SourceHead, Sourced};
+use crate::sourced::Sourced;
 use std::alloc::Global;
 use td_stanza::Stanza;
 
@@ -30,52 +30,45 @@ fn is_extra(stanza: &Stanza<'_, '_>) -> bool
     }
 }
 
-/// The source of a stanza.
+/// The source of a stanza with a number.
 #[tactic(auto, unfolding(crate::specs::Sources::source_at))]
-fn read_head<'a>(stanza: &Stanza<'_, 'a>) -> Result<SourceHead<'a>, EntryFault>
-    ensures { source_found result ≡ source_at (fields_of stanza.now) }
+fn read_head<'a>(
+    stanza: &Stanza<'_, 'a>,
+    number: usize,
+) -> Result<(&'a str, Sourced<'a>), EntryFault>
+    ensures head { source_found result ≡ source_at (fields_of stanza.now) }
+    ensures numbered { IfOk result (λ p. p.1.stanza ≡ number) }
 {
     let name = name_in(IndexField::Package, value_of(stanza, "Package"))?;
     let version = needed(IndexField::Version, value_of(stanza, "Version"))?;
     let archs = needed(IndexField::Architecture, value_of(stanza, "Architecture"))?;
     let parts = version_in(version)?;
-    Ok(SourceHead {
-        name,
+    let sourced = Sourced {
         version,
         parts,
         archs,
-    })
+        stanza: number,
+    };
+    Ok((name, sourced))
 }
 
-/// A source, where what its build asks for can be read. It is read for its faults alone.
+/// Reads what the builds of a source ask for, for its faults alone.
 #[tactic(auto, unfolding(crate::specs::Sources::with_build_relations))]
-fn with_relations<'a>(
-    alloc: Global,
-    stanza: &Stanza<'_, 'a>,
-    head: SourceHead<'a>,
-    number: usize,
-) -> Result<(&'a str, Sourced<'a>), EntryFault>
-    ensures ok { IfOk result (λ p.
-        with_build_relations number (fields_of stanza.now) (source_headed head.entry)
-        ≡ Ok (source_of p)) }
-    ensures err { IfErr result (λ e.
-        Fails (with_build_relations number (fields_of stanza.now) (source_headed head.entry)) e) }
+fn check_relations(alloc: Global, stanza: &Stanza<'_, '_>) -> Result<(), EntryFault>
+    ensures ok { OnOk result ((number : ℕ) (head : SourcePackage)
+        → with_build_relations number (fields_of stanza.now) head
+        ≡ Ok (record { head = head; stanza = number })) }
+    ensures err { IfErr result (λ e. (number : ℕ) (head : SourcePackage)
+        → Fails (with_build_relations number (fields_of stanza.now) head) e) }
 {
     match relation_in(alloc, value_of(stanza, "Build-Depends")) {
         Ok(_) => {}
         Err(fault) => return Err(fault),
     }
     match relation_in(alloc, value_of(stanza, "Build-Depends-Arch")) {
-        Ok(_) => {}
-        Err(fault) => return Err(fault),
+        Ok(_) => Ok(()),
+        Err(fault) => Err(fault),
     }
-    let sourced = Sourced {
-        version: head.version,
-        parts: head.parts,
-        archs: head.archs,
-        stanza: number,
-    };
-    Ok((head.name, sourced))
 }
 
 #[tactic(auto, unfolding(crate::specs::Sources::whole_source_at))]
@@ -88,8 +81,12 @@ fn read_whole<'a>(
         whole_source_at number (fields_of stanza.now) ≡ Ok (source_of p)) }
     ensures err { IfErr result (λ e. Fails (whole_source_at number (fields_of stanza.now)) e) }
 {
-    match read_head(stanza) {
-        Ok(head) => with_relations(alloc, stanza, head, number),
+    let source = match read_head(stanza, number) {
+        Ok(source) => source,
+        Err(fault) => return Err(fault),
+    };
+    match check_relations(alloc, stanza) {
+        Ok(()) => Ok(source),
         Err(fault) => Err(fault),
     }
 }

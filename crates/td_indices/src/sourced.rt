@@ -14,15 +14,6 @@ pub struct Sourced<'a> {
     pub stanza: usize,
 }
 
-/// What a stanza of Sources says of a source, but for its relations.
-#[derive(Clone, Copy, Debug)]
-pub struct SourceHead<'a> {
-    pub name: &'a str,
-    pub version: &'a str,
-    pub parts: Version<'a>,
-    pub archs: &'a str,
-}
-
 /// A source of an archive.
 #[derive(Clone, Copy, Debug)]
 pub struct Source<'a> {

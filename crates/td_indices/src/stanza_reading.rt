@@ -17,7 +17,6 @@ ghost use Rattle.std.specs.Prelude.{
 ghost use Rattle.td_stanza.specs.Field.{Entry};
 ghost use Rattle.td_stanza.specs.Table.{fields_of};
 ghost use Rattle.td_relation.specs.Arch.{ArchWords};
-ghost use Rattle.td_relation.specs.TableView.{table};
 ghost use Rattle.td_indices.specs.Kept.{binaries_of};
 ghost use Rattle.td_indices.specs.Sources.{sources_of};
 ghost use Rattle.td_indices.specs.Reading.{
@@ -33,17 +32,13 @@ ghost use Rattle.td_indices.specs.inner.Parts.{IsPartRead, put_all};
 use crate::archive_fault::{ArchiveFault, IndexFile};
 use crate::binary_keeping::keep_binary;
 use crate::packaged::{PackageKey, Packaged};
-use crate::part_reading::{read_part, read_parts};
 use crate::source_keeping::keep_source;
 use crate::source_reading::read_source;
 use crate::sourced::Sourced;
 use crate::stanza_fault::at_stanza;
 use crate::stanza_pieces::StanzaPieces;
-use crate::work::HALVINGS;
 use indexmap::IndexMap;
 use std::alloc::{AllocError, Global};
-use std::thread::Threads;
-use td_relation::Archs;
 use td_stanza::Stanza;
 
 /// Of these packages, those that count.
@@ -62,7 +57,7 @@ fn keep_all<'a>(
 }
 
 /// Of the packages that all stanzas stand for, those that count.
-fn kept_of<'a>(
+pub fn kept_of<'a>(
     alloc: Global,
     read: Result<Vec<(PackageKey<'a>, Packaged<'a>)>, ArchiveFault>,
 ) -> Result<IndexMap<PackageKey<'a>, Packaged<'a>>, ArchiveFault>
@@ -79,34 +74,6 @@ fn kept_of<'a>(
         Ok(kept) => Ok(kept),
         Err(_) => Err(ArchiveFault::NoMemory),
     }
-}
-
-/// The binary packages that the stanzas of Packages keep.
-pub fn read_binaries<'a>(
-    alloc: Global,
-    archs: &Archs<'_>,
-    stanzas: &StanzaPieces<'a>,
-) -> Result<IndexMap<PackageKey<'a>, Packaged<'a>>, ArchiveFault>
-    ensures { MatchResult result
-        (λ kept. binaries_at (table archs.now) stanzas.now ≡ Ok (binaries_of kept.entries))
-        (IsOfStanza (binaries_at (table archs.now) stanzas.now)) }
-{
-    kept_of(alloc, read_part(alloc, archs, stanzas, 0, stanzas.len()))
-}
-
-/// The same, parts of the stanzas side by side.
-pub fn read_binaries_beside<'a, R: Threads + Sync>(
-    rt: &R,
-    alloc: Global,
-    archs: &Archs<'_>,
-    stanzas: &StanzaPieces<'a>,
-) -> Result<IndexMap<PackageKey<'a>, Packaged<'a>>, ArchiveFault>
-    ensures { MatchResult result
-        (λ kept. binaries_at (table archs.now) stanzas.now ≡ Ok (binaries_of kept.entries))
-        (IsOfStanza (binaries_at (table archs.now) stanzas.now)) }
-{
-    let read = read_parts(rt, alloc, archs, stanzas, 0, stanzas.len(), HALVINGS);
-    kept_of(alloc, read)
 }
 
 fn take_source<'a>(

@@ -1,7 +1,8 @@
 -- The numbers of the items that pass a test.
 use Rattle.std.proofs.Common.{◌≡◌, ℕ, zero, suc, ◌+◌, Bool, false, List, [], ◌∷◌, ◌++◌, length}
 use Rattle.std.proofs.Common.{if◌then◌else◌, refl, sym, ap, ◌∙◌, inl, inr, arith, map, drop}
-use Rattle.std.proofs.Common.{slice_get, Some}
+use Rattle.std.proofs.Common.{slice_get, Some, ◌&&◌, ◌||◌, filter, add-one}
+use Rattle.std.specs.List.{list_any}
 use Rattle.std.proofs.Math.Seq.{drop-nil}
 use Rattle.std.proofs.lemmas.Bool.{cases_Bool}
 use Rattle.td_supply.specs.Places.{places_from}
@@ -80,3 +81,27 @@ pub front_of : {A : Type 0} (items : List A) (n : ℕ) (x : A) (xs : List A) →
 front_of [] n x xs h = absurd (let bad : ◌≡◌ {A = List _} [] (x ∷ xs) = sym (drop-nil n) ∙ h in cc)
 front_of (y ∷ items) zero x xs h = (cc, cc)
 front_of (y ∷ items) (suc n) x xs h = front_of items n x xs h
+
+-- an item that passes one test has a number that passes another
+pub any-places : {A : Type 0} (test : A → Bool) (f : ℕ → Bool) (g : A → Bool) (all xs : List A)
+    (n : ℕ) → ((k : ℕ) (x : A) → slice_get all k ≡ Some x → f k ≡ g x) → drop n all ≡ xs
+    → list_any f (places_from test n xs) ≡ list_any (λ x. test x && g x) xs
+any-places test f g all [] n e h = refl
+any-places test f g all (x ∷ xs) n e h =
+    let front = front_of all n x xs h in
+    let later = any-places test f g all xs (n + 1) e (rw add-one front.1) in
+    elim (cases_Bool (test x)) [
+      | inl passes ↦ rw passes
+          (ap (λ b. b || list_any f (places_from test (n + 1) xs)) (e n x front.0)
+          ∙ ap (λ b. g x || b) later)
+      | inr fails ↦ rw fails later
+    ]
+
+pub any-filter : {A : Type 0} (keep test : A → Bool) (xs : List A)
+    → list_any (λ x. keep x && test x) xs ≡ list_any test (filter keep xs)
+any-filter keep test [] = refl
+any-filter keep test (x ∷ xs) =
+    elim (cases_Bool (keep x)) [
+      | inl is ↦ rw is (ap (λ (b : Bool). test x || b) (any-filter keep test xs))
+      | inr out ↦ rw out (any-filter keep test xs)
+    ]

@@ -17,14 +17,6 @@ pub or-false : (a : Bool) → (a || false) ≡ a
 or-false true = refl
 or-false false = refl
 
-pub and-false : (a : Bool) → (a && false) ≡ false
-and-false true = refl
-and-false false = refl
-
-pub and-true : (a : Bool) → (a && true) ≡ a
-and-true true = refl
-and-true false = refl
-
 pub and-or : (c a b : Bool) → ((c && a) || (c && b)) ≡ (c && (a || b))
 and-or true a b = refl
 and-or false a b = refl

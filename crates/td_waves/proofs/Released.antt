@@ -25,9 +25,6 @@ within xs i h = elim (cases_lt i (length xs)) [
       (omega (arith, get_or_past xs i 0 past))
 ]
 
-raised_twice : (level h : ℕ) → raised level (raised level h) ≡ raised level h
-raised_twice level h = grind (arith, nat_tests)
-
 told_heights : (level h0 h told more : ℕ) → h ≡ (if told == 0 then h0 else raised level h0)
     → more ≡ told + 1 → raised level h ≡ (if more == 0 then h0 else raised level h0)
 told_heights level h0 h told more e m = grind (arith, nat_tests)

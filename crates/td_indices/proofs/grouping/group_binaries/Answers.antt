@@ -1,11 +1,15 @@
--- `group_binaries`: its loop.
-use Rattle.std.proofs.Common.{◌<◌, length, option_map, sym, ap, ◌∙◌, refl}
+-- `group_binaries`: what it answers and its loop.
+use Rattle.std.proofs.Common.{◌≡◌, ◌<◌, ◌≤◌, List, length, option_map, take, sym, ap, ◌∙◌, refl}
+use Rattle.std.proofs.Common.{arith}
+use Rattle.std.proofs.Math.Seq.{take-length}
+use Rattle.std.proofs.lemmas.List.{length-map}
 use Rattle.td_rows.proofs.Lists.{slice_get-none, slice_get-map}
 use Rattle.td_indices.specs.declared.packaged.PackageKey.{PackageKey}
 use Rattle.td_indices.specs.declared.packaged.Packaged.{Packaged}
-use Rattle.td_indices.specs.declared.groups.Groups.{Groups}
-use Rattle.td_indices.specs.Groups.{group}
-use Rattle.td_indices.specs.Kept.{binary_of, binaries_of}
+use Rattle.td_supply.specs.declared.numbers.Numbers.{Numbers}
+use Rattle.td_supply.specs.Numbers.{numbers_of}
+use Rattle.td_indices.specs.Archive.{is_of, places_from}
+use Rattle.td_indices.specs.Kept.{KeptBinary, binary_of, binaries_of}
 use Rattle.td_indices.proofs.Places.{grouped}
 use Rattle.td_indices.proofs.grouping.group_binaries.Goals as goal
 use Rattle.td_indices.proofs.grouping.group_binaries.Goals.{in-Some+in_ok-push, in_default}
@@ -13,13 +17,16 @@ use Rattle.td_indices.proofs.grouping.group_binaries.Goals.{in-Some+in_ok-push, 
 pub loop-number-preserved : goal.loop-number-preserved
 loop-number-preserved c = elim c.match-get_index.branch [
   | in-Some+in_ok-push w ↦ λ q.
-      let bs = binaries_of c.args.binaries.now.entries in
+      let es = c.args.binaries.now.entries in
       let p : PackageKey × Packaged = (w.in-Some.field-0-0.now, w.in-Some.packaged.now) in
-      grouped q w.in-Some.packaged.now.source.now (group c.loop-number.groups q) _ _
-      c.loop-number.number bs (binary_of p)
-      (slice_get-map binary_of c.args.binaries.now.entries c.loop-number.number
+      let within : c.loop-number.number ≤ length (binaries_of es) =
+      omega
+      (arith, c.loop-number-test.true, c.len-number-end.ensures.len, length-map es binary_of) in
+      grouped q w.in-Some.packaged.now.source.now (numbers_of c.loop-number.groups q) _
+      c.loop-number.number (binaries_of es) (binary_of p) within
+      (slice_get-map binary_of es c.loop-number.number
       ∙ ap (option_map binary_of) (sym w.in-Some.ensures.entry)) refl
-      (ap (λ (g : Groups). group g q) w.groups-is ∙ w.in_ok-push.ensures q)
+      (ap (λ (g : Numbers). numbers_of g q) w.groups-is ∙ w.in_ok-push.ensures.ok q)
       (c.loop-number.invariant q)
   | in_default w ↦
       let within : c.loop-number.number < length c.args.binaries.now.entries =
@@ -27,3 +34,12 @@ loop-number-preserved c = elim c.match-get_index.branch [
       absurd (slice_get-none c.args.binaries.now.entries c.loop-number.number
       (sym w.in_default.ensures.entry) within)
 ]
+
+pub returns : goal.returns
+returns c = λ q.
+    let bs = binaries_of c.args.binaries.now.entries in
+    let all : c.loop-number.number ≡ length bs =
+    omega (arith, c.len-number-end.ensures.len, length-map c.args.binaries.now.entries binary_of) in
+    c.loop-number.invariant q
+    ∙ ap (λ (xs : List KeptBinary). places_from (is_of q) 0 xs)
+    (ap (λ k. take k bs) all ∙ take-length bs)

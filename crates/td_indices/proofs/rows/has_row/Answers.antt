@@ -4,7 +4,7 @@ use Rattle.std.specs.List.{slice_split}
 use Rattle.td_text.specs.Runs.{is_space}
 use Rattle.td_relation.specs.TableView.{table}
 use Rattle.td_indices.specs.Rows.{matches_at}
-use Rattle.td_indices.proofs.RowCounts.{any-filter}
+use Rattle.td_supply.proofs.Places.{any-filter}
 use Rattle.td_indices.proofs.rows.has_row.Goals as goal
 
 pub loop-rest-init : goal.loop-rest-init

@@ -26,6 +26,6 @@ unfolding here
 returns-in-Ok c =
     let bs = binaries_of c.self.inside.binaries.entries in
     c.in-Ok.ensures
-    ∙ those bs c.args.source.now c.of_source-numbers.result.now c.args.arch
-    (c.of_source-numbers.ensures ∙ c.self.invariant.0 c.args.source.now)
+    ∙ those bs c.args.source.now c.of-numbers.result.now c.args.arch
+    (c.of-numbers.ensures ∙ c.self.invariant.0 c.args.source.now)
     ∙ ap (λ (a : Contents). binaries_on a c.args.source.now c.args.arch) c.self.view_is

@@ -18,11 +18,11 @@ read_again-requires c =
     elim c.requires.field [
       | inl is ↦ (
         its.1.depends,
-        ap (λ f. relation_in (value_of fields f)) is ∙ its.1.depends_read,
+        ap (λ f. relation_in (value_of fields f)) is ∙ its.1.has_depends,
       )
       | inr is ↦ (
         its.1.arch_depends,
-        ap (λ f. relation_in (value_of fields f)) is ∙ its.1.arch_depends_read,
+        ap (λ f. relation_in (value_of fields f)) is ∙ its.1.has_arch_depends,
       )
     ]
 

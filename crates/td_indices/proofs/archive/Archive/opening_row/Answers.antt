@@ -43,6 +43,6 @@ returns c =
     let at : place_of a.table c.args.key.now.arch ≡ Some c.in-Some-index.place =
     ap (place_of a.table) (sym c.arch.ensures.text) ∙ sym c.in-Some-index.ensures in
     c.opening_on.ensures
-    ∙ row_found a c.args.key.now s c.of_source-numbers.result.now c.in-Some-index.place here at
-    (c.of_source-numbers.ensures ∙ c.self.invariant.0 c.in-Some.name.now.now)
+    ∙ row_found a c.args.key.now s c.of-numbers.result.now c.in-Some-index.place here at
+    (c.of-numbers.ensures ∙ c.self.invariant.0 c.in-Some.name.now.now)
     ∙ ap (λ (b : Contents). opening_row b c.args.key.now) c.self.view_is

@@ -8,7 +8,7 @@ use Rattle.td_supply.specs.declared.stocked.Stocked.{Stocked}
 use Rattle.td_supply.specs.Asking.{passes_at}
 use Rattle.td_supply.specs.Supply.{SupplyView, is_named, offered_now, offers_of}
 use Rattle.td_supply.specs.SupplyViews.{item, is_under}
-use Rattle.td_supply.proofs.AskedItems.{any-places, any-seen}
+use Rattle.td_supply.proofs.AskedItems.{any-asked, any-seen}
 use Rattle.td_supply.proofs.supply.SupplyOffering.has.Goals as goal
 
 pub returns : goal.returns
@@ -22,6 +22,6 @@ returns c =
     ∙ ap (λ (l : List Stocked). list_any (λ (k : ℕ). passes_at asked l k) c.of.result.now)
     c.as_slice.ensures.value
     ∙ ap (list_any (λ (k : ℕ). passes_at asked xs k)) (c.of.ensures ∙ c.self.invariant.0 name)
-    ∙ any-places (is_under name) asked xs xs 0 refl
+    ∙ any-asked (is_under name) asked xs
     ∙ any-seen (is_named name) test item offered_now xs
     ∙ ap (λ (v : SupplyView). list_any test (offers_of v.items name)) c.self.view_is
