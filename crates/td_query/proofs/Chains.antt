@@ -5,9 +5,9 @@ use Rattle.td_text.specs.Lines.{on_ok}
 use Rattle.td_query.specs.declared.read_fault.RawPattern.{RawPattern}
 use Rattle.td_query.specs.declared.read_fault.ReadFault.{ReadFault}
 use Rattle.td_query.specs.declared.read_fault.ReadFault.TheVariants.{Syntax, NoMemory}
+use Rattle.td_query.specs.declared.query.Joint.{Joint}
 use Rattle.td_query.specs.Query.{Shape}
-use Rattle.td_query.specs.QueryGrammar.{Log, Read, behind_mark, and_next, more_and, or_next}
-use Rattle.td_query.specs.QueryGrammar.{more_or}
+use Rattle.td_query.specs.QueryGrammar.{Log, Read, behind_mark, mark_of, more, next}
 use Rattle.td_query.specs.Views.{Gives}
 
 -- a fault of a part is that of the whole
@@ -22,26 +22,14 @@ pub goes_on : (first : Read) (x : Shape × Log × List ℕ) (f : Shape × Log ×
     (total : Read) → on_ok first f ≡ total → first ≡ Ok x → f x ≡ total
 goes_on first x f total h e = sym (ap (λ r. on_ok r f) e) ∙ h
 
--- with an `&` in front there is a part more
-pub and_taken : (read : Log → List ℕ → Read) (n : ℕ) (parts : List Shape) (log : Log) (t u : List ℕ)
-    (total : Read)
-    → behind_mark (38 ∷ []) t ≡ Some u → length u < length t → length t ≤ n
-    → more_and read n parts log t ≡ total
+-- with the mark in front there is a part more
+pub taken : (joint : Joint) (read : Log → List ℕ → Read) (n : ℕ) (parts : List Shape) (log : Log)
+    (t u : List ℕ) (total : Read)
+    → behind_mark (mark_of joint) t ≡ Some u → length u < length t → length t ≤ n
+    → more joint read n parts log t ≡ total
     → (m : ℕ) × (n ≡ suc m)
-    × (on_ok (read log u) (λ x. more_and read m (parts ++ x.0 ∷ []) x.1 x.2) ≡ total)
-unfolding more_and
-and_taken read zero parts log t u total is less room h = absurd (omega arith)
-and_taken read (suc m) parts log t u total is less room h =
-    (m, refl, sym (ap (and_next read (more_and read m) parts log t) is) ∙ h)
-
--- with a `|` in front there is a part more
-pub or_taken : (read : Log → List ℕ → Read) (n : ℕ) (parts : List Shape) (log : Log) (t u : List ℕ)
-    (total : Read)
-    → behind_mark (124 ∷ []) t ≡ Some u → length u < length t → length t ≤ n
-    → more_or read n parts log t ≡ total
-    → (m : ℕ) × (n ≡ suc m)
-    × (on_ok (read log u) (λ x. more_or read m (parts ++ x.0 ∷ []) x.1 x.2) ≡ total)
-unfolding more_or
-or_taken read zero parts log t u total is less room h = absurd (omega arith)
-or_taken read (suc m) parts log t u total is less room h =
-    (m, refl, sym (ap (or_next read (more_or read m) parts log t) is) ∙ h)
+    × (on_ok (read log u) (λ x. more joint read m (parts ++ x.0 ∷ []) x.1 x.2) ≡ total)
+unfolding more
+taken joint read zero parts log t u total is less room h = absurd (omega arith)
+taken joint read (suc m) parts log t u total is less room h =
+    (m, refl, sym (ap (next joint read (more joint read m) parts log t) is) ∙ h)

@@ -1,6 +1,6 @@
 -- Patterns, one after another.
 use Rattle.std.proofs.Common.{◌≡◌, ℕ, suc, ◌+◌, ◌-◌, ◌<◌, List, [], ◌∷◌, ◌++◌, length, get_or, take}
-use Rattle.std.proofs.Common.{drop, map, refl, sym, ap, ◌∙◌, subst}
+use Rattle.std.proofs.Common.{drop, map, refl, sym, ap, ◌∙◌}
 use Rattle.std.proofs.lemmas.List.{take-append-drop, take_more, map-append}
 use Rattle.std.proofs.Math.Seq.{drop-cons}
 use Rattle.regex.specs.Failures.{IsPattern}
@@ -12,12 +12,6 @@ use Rattle.td_query.specs.QueryGrammar.{Raw, Log}
 use Rattle.td_query.specs.Sources.{source_of, AreDefault, ArePatterns, IsRefusedForCause}
 use Rattle.td_query.specs.TrackerFaults.{IsFirstRefused}
 use Rattle.td_query.specs.Views.{raw_of}
-
--- what is compiled is a pattern
-pub pattern_is : (r : Regex) (text : List ℕ) → regex_config r ≡ default_config
-    → regex_source r ≡ text → IsReadFromSource r → IsPattern default_config text
-pattern_is r text config source read = subst (λ k. IsPattern k text) config
-    (subst (λ (s : List ℕ). IsPattern (regex_config r) s) source (_, _, read))
 
 ArePatterns-push : (log : Log) (r : Raw) → ArePatterns log → IsPattern default_config (source_of r)
     → ArePatterns (log ++ r ∷ [])

@@ -1,7 +1,7 @@
 -- The status of a row by what holds on its stanzas.
-use Rattle.std.proofs.Common.{◌≡◌, ℕ, ◌+◌, ◌≤◌, ◌||◌, ◌&&◌, Bool, true, false, List, [], ◌∷◌}
-use Rattle.std.proofs.Common.{Option, Some, None, length, drop, slice_get, refl, ap, ◌∙◌, inl, inr}
-use Rattle.std.proofs.Common.{add-one, sym}
+use Rattle.std.proofs.Common.{◌≡◌, ℕ, ◌≤◌, ◌||◌, ◌&&◌, Bool, true, false, List, [], ◌∷◌}
+use Rattle.std.proofs.Common.{Option, Some, None, length, slice_get, refl, ap, ◌∙◌, inl, inr}
+use Rattle.std.proofs.Common.{sym}
 use Rattle.std.specs.List.{list_any}
 use Rattle.std.specs.Option.{option_map_or}
 use Rattle.std.proofs.lemmas.Bool.{cases_Bool}
@@ -14,12 +14,12 @@ use Rattle.td_relation.specs.Meeting.{is_on}
 use Rattle.td_relation.specs.Table.{place_of}
 use Rattle.td_rows.specs.declared.key.Key.{Key}
 use Rattle.td_indices.specs.Archive.{Contents, has_row_at, is_of, is_of_on, number_named}
-use Rattle.td_indices.specs.Archive.{numbers_of, places_from}
+use Rattle.td_indices.specs.Archive.{numbers_of}
 use Rattle.td_indices.specs.Kept.{KeptBinary}
 use Rattle.td_indices.specs.Rows.{has_row, matches_at}
 use Rattle.td_indices.specs.Sources.{KeptSource}
 use Rattle.td_indices.specs.Stanzas.{package_fields, source_fields}
-use Rattle.td_indices.proofs.Places.{front_of}
+use Rattle.td_indices.proofs.Places.{any-places}
 use Rattle.td_query.specs.declared.mark.Mark.{Mark}
 use Rattle.td_query.specs.Marks.{gathered, mark_by, mark_there, row_mark}
 use Rattle.td_query.specs.Query.{Shape}
@@ -28,21 +28,6 @@ use Rattle.td_query.specs.Tracking.{Tracking}
 use Rattle.td_query.specs.Truth.{truth}
 
 -- ---- 1. some number's item, and some item
-
--- among the numbers of the items that pass a test
-any-places : {A : Type 0} (test : A → Bool) (f : ℕ → Bool) (g : A → Bool) (all xs : List A) (n : ℕ)
-    → ((k : ℕ) (x : A) → slice_get all k ≡ Some x → f k ≡ g x) → drop n all ≡ xs
-    → list_any f (places_from test n xs) ≡ list_any (λ x. test x && g x) xs
-any-places test f g all [] n e h = refl
-any-places test f g all (x ∷ xs) n e h =
-    let front = front_of all n x xs h in
-    let later = any-places test f g all xs (n + 1) e (rw add-one front.1) in
-    elim (cases_Bool (test x)) [
-      | inl passes ↦ rw passes
-          (ap (λ b. b || list_any f (places_from test (n + 1) xs)) (e n x front.0)
-          ∙ ap (λ b. g x || b) later)
-      | inr fails ↦ rw fails later
-    ]
 
 any-same : {A : Type 0} (f g : A → Bool) (xs : List A) → ((x : A) → f x ≡ g x)
     → list_any f xs ≡ list_any g xs

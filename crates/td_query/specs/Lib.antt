@@ -14,3 +14,4 @@ pub mod Statuses
 pub mod Marks
 pub mod QueryLaws
 pub mod StatusLaws
+pub mod inner

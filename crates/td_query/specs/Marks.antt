@@ -6,6 +6,8 @@ use Rattle.std.specs.Option.{option_map_or}
 use Rattle.regex.specs.Patterns.{Re}
 use Rattle.td_stanza.specs.Field.{Entry}
 use Rattle.td_relation.specs.Meeting.{is_on}
+use Rattle.td_indices.specs.declared.archive_fault.IndexFile.{IndexFile}
+use Rattle.td_indices.specs.declared.archive_fault.IndexFile.TheVariants.{Packages, Sources}
 use Rattle.td_indices.specs.Archive.{Contents, numbers_of}
 use Rattle.td_indices.specs.Stanzas.{package_fields, source_fields}
 use Rattle.td_query.specs.declared.mark.Mark.{Mark}
@@ -24,6 +26,11 @@ mark_by patterns t fields = record {
 -- the same with the tracker's own
 abbrev pub mark_on : Tracking → List Entry → Mark
 mark_on t fields = mark_by t.patterns t fields
+
+-- the fields of the stanzas of a file that binary packages, or sources, were kept of
+abbrev pub kept_fields : Contents → IndexFile → List (List Entry)
+kept_fields a Packages = map (package_fields a) a.binaries
+kept_fields a Sources = map (source_fields a) a.sources
 
 -- the marks are those of the stanzas that binary packages and sources were kept of
 pub record AreMarks (a : Contents) (t : Tracking) (m : Marks) : Type 0 where

@@ -1,5 +1,7 @@
 -- Queries, without where they lie in memory. This project's own.
 use Rattle.std.specs.Prelude.{ℕ, Bool, true, false, List, [], ◌∷◌}
+use Rattle.td_query.specs.declared.query.Joint.{Joint}
+use Rattle.td_query.specs.declared.query.Joint.TheVariants.{And, Or}
 use Rattle.td_query.specs.declared.query.Query.{Query}
 use Rattle.td_query.specs.declared.query.Query.TheOpen.{Query-F}
 use Rattle.td_query.specs.declared.query.Query.TheFolds.{fold-Query}
@@ -33,6 +35,11 @@ any_from x (y ∷ ys) = either x (any_from y ys)
 abbrev pub any_of : List Shape → Shape
 any_of [] = always false
 any_of (x ∷ xs) = any_from x xs
+
+-- what a mark between the parts makes of them
+abbrev pub joined : Joint → List Shape → Shape
+joined And parts = all_of parts
+joined Or parts = any_of parts
 
 -- one level of a query, with the shapes of its parts in their places
 abbrev pub shape_step : Query-F Shape → Shape

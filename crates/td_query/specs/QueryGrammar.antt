@@ -6,7 +6,9 @@ use Rattle.std.specs.Str.{bytes_eq}
 use Rattle.td_text.specs.Cut.{cut, strip}
 use Rattle.td_text.specs.Lines.{on_ok}
 use Rattle.td_text.specs.Runs.{run, behind}
-use Rattle.td_query.specs.Query.{Shape, always, text, pattern, negated, all_of, any_of}
+use Rattle.td_query.specs.declared.query.Joint.{Joint}
+use Rattle.td_query.specs.declared.query.Joint.TheVariants.{And, Or}
+use Rattle.td_query.specs.Query.{Shape, always, text, pattern, negated, joined}
 use Rattle.td_query.specs.Tokens.{skipped, is_key_byte, common_len, pattern_in}
 
 -- a pattern as it stands in a text:
@@ -115,38 +117,36 @@ abbrev pub or_else : Option (List ℕ) → (List ℕ → Read) → Read → Read
 or_else None f other = other
 or_else (Some t) f other = f t
 
--- the parts so far, and with an `&` in front the next
-abbrev pub and_next : (Log → List ℕ → Read) → (List Shape → Log → List ℕ → Read) → List Shape → Log
-    → List ℕ → Option (List ℕ) → Read
-and_next read more parts log t None = Ok (all_of parts, log, t)
-and_next read more parts log t (Some u) = on_ok (read log u) (λ x. more (parts ++ x.0 ∷ []) x.1 x.2)
+-- the mark between the parts
+abbrev pub mark_of : Joint → List ℕ
+mark_of And = codes "&"
+mark_of Or = codes "|"
 
--- {"&" not} behind the parts so far, at most so many
-unfoldable pub more_and : (Log → List ℕ → Read) → ℕ → List Shape → Log → List ℕ → Read
-more_and read zero parts log t = Ok (all_of parts, log, t)
-more_and read (suc n) parts log t = and_next read (more_and read n) parts log t
-    (behind_mark (codes "&") t)
+-- the parts so far, and with the mark in front the next
+abbrev pub next : Joint → (Log → List ℕ → Read) → (List Shape → Log → List ℕ → Read) → List Shape
+    → Log → List ℕ → Option (List ℕ) → Read
+next joint read more parts log t None = Ok (joined joint parts, log, t)
+next joint read more parts log t (Some u) =
+    on_ok (read log u) (λ x. more (parts ++ x.0 ∷ []) x.1 x.2)
 
--- the parts so far, and with a `|` in front the next
-abbrev pub or_next : (Log → List ℕ → Read) → (List Shape → Log → List ℕ → Read) → List Shape → Log
-    → List ℕ → Option (List ℕ) → Read
-or_next read more parts log t None = Ok (any_of parts, log, t)
-or_next read more parts log t (Some u) = on_ok (read log u) (λ x. more (parts ++ x.0 ∷ []) x.1 x.2)
+-- {mark part} behind the parts so far, at most so many
+unfoldable pub more : Joint → (Log → List ℕ → Read) → ℕ → List Shape → Log → List ℕ → Read
+more joint read zero parts log t = Ok (joined joint parts, log, t)
+more joint read (suc n) parts log t = next joint read (more joint read n) parts log t
+    (behind_mark (mark_of joint) t)
 
--- {"|" and} behind the parts so far, at most so many
-unfoldable pub more_or : (Log → List ℕ → Read) → ℕ → List Shape → Log → List ℕ → Read
-more_or read zero parts log t = Ok (any_of parts, log, t)
-more_or read (suc n) parts log t = or_next read (more_or read n) parts log t
-    (behind_mark (codes "|") t)
+-- part {mark part}; each takes a byte at least, so there are no more than bytes
+abbrev pub parts_with : Joint → (Log → List ℕ → Read) → Log → List ℕ → Read
+parts_with joint read log t =
+    on_ok (read log t) (λ x. more joint read (length x.2) (x.0 ∷ []) x.1 x.2)
 
--- not {"&" not}; each takes a byte at least, so there are no more than bytes
+-- not {"&" not}
 abbrev pub and_with : (Log → List ℕ → Read) → Log → List ℕ → Read
-and_with read log t = on_ok (read log t) (λ x. more_and read (length x.2) (x.0 ∷ []) x.1 x.2)
+and_with read log t = parts_with And read log t
 
 -- and {"|" and}
 unfoldable pub or_with : (Log → List ℕ → Read) → Log → List ℕ → Read
-or_with read log t = on_ok (and_with read log t)
-    (λ x. more_or (and_with read) (length x.2) (x.0 ∷ []) x.1 x.2)
+or_with read log t = parts_with Or (and_with read) log t
 
 -- "!" not | "(" or ")" | atom, with so many brackets and `!` left to open
 unfoldable pub not_in : ℕ → Log → List ℕ → Read
@@ -164,9 +164,14 @@ not_in (suc depth) log t =
 abbrev pub not_at : ℕ → Log → List ℕ → Read
 not_at depth log t = not_in depth log t
 
--- what a `|` joins: one of these, or several with `&` between them
-abbrev pub and_at : ℕ → Log → List ℕ → Read
-and_at depth log t = and_with (not_in depth) log t
+-- what a mark joins: `&` these, `|` also several of them with `&` between
+abbrev pub part_at : Joint → ℕ → Log → List ℕ → Read
+part_at And depth log t = not_in depth log t
+part_at Or depth log t = and_with (not_in depth) log t
+
+-- one part, or several with the mark between them
+abbrev pub parts_at : Joint → ℕ → Log → List ℕ → Read
+parts_at joint depth log t = parts_with joint (part_at joint depth) log t
 
 -- a query, with so many brackets and `!` left to open
 abbrev pub or_at : ℕ → Log → List ℕ → Read

@@ -1,7 +1,7 @@
 //! How the parts of a query without `&`, `|` and `!` are read.
 ghost use Rattle.std.specs.Prelude.{◌<◌, ◌≤◌, IfOk, List, length, map};
 ghost use Rattle.td_query.specs.declared.read_fault.RawPattern.{RawPattern};
-ghost use Rattle.td_query.specs.QueryGrammar.{atom, field_atom, slash_atom, tested, tilde_atom};
+ghost use Rattle.td_query.specs.QueryGrammar.{atom, field_atom, slash_atom, tilde_atom};
 ghost use Rattle.td_query.specs.QueryGrammar.{word_atom};
 ghost use Rattle.td_query.specs.Tokens.{pattern_in};
 ghost use Rattle.td_query.specs.Views.{Gives, raw_of};
@@ -51,32 +51,8 @@ fn read_slash<'a>(
     }
 }
 
-// What stands behind a `~`.
-#[tactic(auto, unfolding(crate::specs::QueryGrammar::tested))]
-fn read_test<'a>(
-    field: &'a str,
-    text: &'a str,
-    log: &mut Vec<RawPattern<'a>>,
-) -> Result<(Query<'a>, &'a str), ReadFault>
-    ensures gives { Gives result log.new.items
-        (tested (map raw_of log.old.items) field.now text.now) }
-    ensures shorter { IfOk result (λ x. length x.1.now ≤ length text.now) }
-{
-    let at = skip(text);
-    if let Some(quoted) = strip(at, "\"") {
-        return match cut_at(quoted, '"') {
-            None => Err(ReadFault::Syntax(0)),
-            Some((text, rest)) => Ok((Query::Text(field, text), rest)),
-        };
-    }
-    match strip(at, "/") {
-        None => Err(ReadFault::Syntax(at.len())),
-        Some(rest) => read_slash(field, at.len(), rest, log),
-    }
-}
-
-// What stands behind the name of a field.
-#[tactic(auto, unfolding(crate::specs::QueryGrammar::tilde_atom))]
+// What stands behind the name of a field: a `~`, and a text or a pattern.
+#[tactic(auto, unfolding(crate::specs::QueryGrammar::tilde_atom, crate::specs::QueryGrammar::tested))]
 fn read_tilde<'a>(
     field: &'a str,
     text: &'a str,
@@ -87,9 +63,19 @@ fn read_tilde<'a>(
     ensures shorter { IfOk result (λ x. length x.1.now ≤ length text.now) }
 {
     let at = skip(text);
-    match strip(at, "~") {
+    let Some(rest) = strip(at, "~") else {
+        return Err(ReadFault::Syntax(at.len()));
+    };
+    let at = skip(rest);
+    if let Some(quoted) = strip(at, "\"") {
+        return match cut_at(quoted, '"') {
+            None => Err(ReadFault::Syntax(0)),
+            Some((text, rest)) => Ok((Query::Text(field, text), rest)),
+        };
+    }
+    match strip(at, "/") {
         None => Err(ReadFault::Syntax(at.len())),
-        Some(rest) => read_test(field, rest, log),
+        Some(rest) => read_slash(field, at.len(), rest, log),
     }
 }
 

@@ -1,51 +1,61 @@
 //! How the marks of an archive are made: each query is evaluated once on each stanza.
-ghost use Rattle.std.specs.Prelude.{◌≡◌, IfOk, map};
+ghost use Rattle.std.specs.Prelude.{◌≡◌, ◌<◌, IfOk, Some, length, map, slice_get};
 ghost use Rattle.regex.specs.Strings.{matcher_pattern};
-ghost use Rattle.td_indices.specs.Stanzas.{package_fields, source_fields};
-ghost use Rattle.td_query.specs.Marks.{mark_by};
+ghost use Rattle.td_stanza.specs.StanzaGrammar.{IsDistinct};
+ghost use Rattle.td_stanza.specs.Table.{fields_of};
+ghost use Rattle.td_query.specs.Marks.{kept_fields, mark_by};
 ghost use Rattle.td_query.specs.Tracking.{tracking};
 
 use crate::mark::{Mark, mark_of};
 use crate::tracker::Tracker;
 use regex::Matcher;
 use std::alloc::{AllocError, Global};
-use td_indices::Archive;
+use td_indices::{Archive, IndexFile};
+use td_stanza::Stanza;
 
-/// Those of the stanzas of binary packages.
-pub fn mark_packages(
-    alloc: Global,
-    archive: &Archive<'_, '_>,
-    tracker: &Tracker<'_>,
-    matchers: &mut Vec<Matcher>,
-) -> Result<Vec<Mark>, AllocError>
-    ensures marks { IfOk result
-        (λ marks. marks.items ≡ map (λ b. mark_by (map matcher_pattern matchers.old.items)
-        (tracking tracker.now) (package_fields archive.now b)) archive.now.binaries) }
-    ensures same { map matcher_pattern matchers.new.items ≡ map matcher_pattern matchers.old.items }
+// Of how many stanzas of a file something was kept.
+fn kept_count(archive: &Archive<'_, '_>, file: IndexFile) -> usize
+    ensures count { result ≡ length (kept_fields archive.now file) }
 {
-    let mut marks = Vec::with_capacity(alloc, archive.binary_count())?;
-    for number in 0..archive.binary_count() {
-        let stanza = archive.stanza_of_binary(number);
-        marks.push(mark_of(tracker, &stanza, matchers))?;
+    match file {
+        IndexFile::Packages => archive.binary_count(),
+        IndexFile::Sources => archive.source_count(),
     }
-    Ok(marks)
 }
 
-/// Those of the stanzas of sources.
-pub fn mark_sources(
+// The stanza of the binary package, or of the source, with a number.
+fn kept_stanza<'x, 'a>(
+    archive: &'x Archive<'_, 'a>,
+    file: IndexFile,
+    number: usize,
+) -> Stanza<'x, 'a>
+    requires { number < length (kept_fields archive.now file) }
+    ensures there { slice_get (kept_fields archive.now file) number ≡ Some (fields_of result) }
+    ensures distinct { IsDistinct (fields_of result) }
+{
+    match file {
+        IndexFile::Packages => archive.stanza_of_binary(number),
+        IndexFile::Sources => archive.stanza_of_source(number),
+    }
+}
+
+/// Those of the stanzas of a file that binary packages, or sources, were kept of.
+pub fn mark_stanzas(
     alloc: Global,
     archive: &Archive<'_, '_>,
+    file: IndexFile,
     tracker: &Tracker<'_>,
     matchers: &mut Vec<Matcher>,
 ) -> Result<Vec<Mark>, AllocError>
     ensures marks { IfOk result
-        (λ marks. marks.items ≡ map (λ s. mark_by (map matcher_pattern matchers.old.items)
-        (tracking tracker.now) (source_fields archive.now s)) archive.now.sources) }
+        (λ marks. marks.items ≡ map (mark_by (map matcher_pattern matchers.old.items)
+        (tracking tracker.now)) (kept_fields archive.now file)) }
     ensures same { map matcher_pattern matchers.new.items ≡ map matcher_pattern matchers.old.items }
 {
-    let mut marks = Vec::with_capacity(alloc, archive.source_count())?;
-    for number in 0..archive.source_count() {
-        let stanza = archive.stanza_of_source(number);
+    let count = kept_count(archive, file);
+    let mut marks = Vec::with_capacity(alloc, count)?;
+    for number in 0..count {
+        let stanza = kept_stanza(archive, file, number);
         marks.push(mark_of(tracker, &stanza, matchers))?;
     }
     Ok(marks)

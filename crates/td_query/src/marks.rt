@@ -1,13 +1,13 @@
 //! The marks of an archive: what a tracker says of each stanza, and of rows by it.
 
 use crate::mark::Mark;
-use crate::marking::{mark_packages, mark_sources};
+use crate::marking::mark_stanzas;
 use crate::row_mark::is_there;
 use crate::status::Status;
 use crate::tracker::Tracker;
 use crate::truth::matchers_of;
 use std::alloc::{AllocError, Global};
-use td_indices::Archive;
+use td_indices::{Archive, IndexFile};
 
 /// What a tracker says of each stanza of an archive, so that the status of a row takes no memory
 /// and looks at the packages of its own source alone.
@@ -33,8 +33,8 @@ impl Marks {
         ensures marks { IfOk result (AreMarks archive.now (tracking tracker.now)) }
     {
         let mut matchers = matchers_of(alloc, tracker.patterns.as_slice())?;
-        let packages = mark_packages(alloc, archive, tracker, &mut matchers)?;
-        let sources = mark_sources(alloc, archive, tracker, &mut matchers)?;
+        let packages = mark_stanzas(alloc, archive, IndexFile::Packages, tracker, &mut matchers)?;
+        let sources = mark_stanzas(alloc, archive, IndexFile::Sources, tracker, &mut matchers)?;
         Ok(Marks { packages, sources })
     }
 

@@ -2,11 +2,12 @@
 ghost use Rattle.std.specs.Prelude.{◌<◌, ◌≡◌, List, length, IfOk, IfSome, map, option_map};
 ghost use Rattle.td_query.specs.declared.read_fault.RawPattern.{RawPattern};
 ghost use Rattle.td_query.specs.Query.{shape_of};
-ghost use Rattle.td_query.specs.QueryGrammar.{and_at, behind_mark, closed, not_at, or_at};
+ghost use Rattle.td_query.specs.QueryGrammar.{behind_mark, closed, not_at, or_at};
+ghost use Rattle.td_query.specs.QueryGrammar.{part_at, parts_at};
 ghost use Rattle.td_query.specs.Views.{Gives, raw_of};
 
 use crate::atom::read_atom;
-use crate::query::{Query, all_of, any_of};
+use crate::query::{Joint, Query};
 use crate::read_fault::{RawPattern, ReadFault};
 use crate::tokens::skip;
 use std::alloc::Global;
@@ -40,7 +41,7 @@ fn close<'a>(inner: Query<'a>, text: &'a str) -> Result<(Query<'a>, &'a str), Re
 }
 
 #[cycle(parser)]
-#[tactic(auto, unfolding(crate::specs::QueryGrammar::not_in))]
+#[tactic(auto, unfolding(crate::specs::QueryGrammar::not_in, crate::specs::QueryGrammar::or_with))]
 fn read_not<'a>(
     alloc: Global,
     text: &'a str,
@@ -63,64 +64,62 @@ fn read_not<'a>(
         if depth == 0 {
             return Err(ReadFault::Syntax(at.len()));
         }
-        let (inner, rest) = read_or(alloc, rest, depth - 1, log)?;
+        let (inner, rest) = read_parts(alloc, rest, depth - 1, Joint::Or, log)?;
         return close(inner, rest);
     }
     read_atom(at, log)
 }
 
+// What the mark joins.
 #[cycle(parser)]
-#[tactic(auto, unfolding(crate::specs::QueryGrammar::more_and))]
-fn read_and<'a>(
+fn read_part<'a>(
     alloc: Global,
     text: &'a str,
     depth: u8,
+    joint: Joint,
     log: &mut Vec<RawPattern<'a>>,
 ) -> Result<(Query<'a>, &'a str), ReadFault>
-    ensures gives { Gives result log.new.items (and_at depth (map raw_of log.old.items) text.now) }
+    ensures gives { Gives result log.new.items
+        (part_at joint depth (map raw_of log.old.items) text.now) }
     ensures shorter { IfOk result (λ x. length x.1.now < length text.now) }
 {
-    let (first, mut rest) = read_not(alloc, text, depth, log)?;
-    let mut parts = Vec::new(alloc);
-    parts.push(first)?;
-    while let Some(after) = behind(rest, "&") {
-        let (next, left) = match read_not(alloc, after, depth, log) {
-            Ok(read) => read,
-            Err(fault) => return Err(fault),
-        };
-        parts.push(next)?;
-        rest = left;
+    match joint {
+        Joint::And => read_not(alloc, text, depth, log),
+        Joint::Or => read_parts(alloc, text, depth, Joint::And, log),
     }
-    Ok((all_of(parts), rest))
 }
 
+// One part, or several with the mark between them.
 #[cycle(parser)]
-#[tactic(auto, unfolding(crate::specs::QueryGrammar::more_or, crate::specs::QueryGrammar::or_with))]
-fn read_or<'a>(
+#[tactic(auto, unfolding(crate::specs::QueryGrammar::more))]
+fn read_parts<'a>(
     alloc: Global,
     text: &'a str,
     depth: u8,
+    joint: Joint,
     log: &mut Vec<RawPattern<'a>>,
 ) -> Result<(Query<'a>, &'a str), ReadFault>
-    ensures gives { Gives result log.new.items (or_at depth (map raw_of log.old.items) text.now) }
+    ensures gives { Gives result log.new.items
+        (parts_at joint depth (map raw_of log.old.items) text.now) }
     ensures shorter { IfOk result (λ x. length x.1.now < length text.now) }
 {
-    let (first, mut rest) = read_and(alloc, text, depth, log)?;
+    let (first, mut rest) = read_part(alloc, text, depth, joint, log)?;
     let mut parts = Vec::new(alloc);
     parts.push(first)?;
-    while let Some(after) = behind(rest, "|") {
-        let (next, left) = match read_and(alloc, after, depth, log) {
+    while let Some(after) = behind(rest, joint.mark()) {
+        let (next, left) = match read_part(alloc, after, depth, joint, log) {
             Ok(read) => read,
             Err(fault) => return Err(fault),
         };
         parts.push(next)?;
         rest = left;
     }
-    Ok((any_of(parts), rest))
+    Ok((joint.join(parts), rest))
 }
 
 /// The query at the front of a text, and what follows it. Its patterns are put behind those of
 /// the log.
+#[tactic(auto, unfolding(crate::specs::QueryGrammar::or_with))]
 pub fn read_query<'a>(
     alloc: Global,
     text: &'a str,
@@ -129,5 +128,5 @@ pub fn read_query<'a>(
     ensures gives { Gives result log.new.items (or_at 100 (map raw_of log.old.items) text.now) }
     ensures shorter { IfOk result (λ x. length x.1.now < length text.now) }
 {
-    read_or(alloc, text, MAX_NESTING, log)
+    read_parts(alloc, text, MAX_NESTING, Joint::Or, log)
 }

@@ -1,6 +1,4 @@
-//! A query.
-ghost use Rattle.std.specs.Prelude.{◌≡◌, map};
-ghost use Rattle.td_query.specs.Query.{all_of as all_of_shapes, any_of as any_of_shapes, shape_of};
+//! A query, and the marks between its parts.
 
 /// A query over the fields of a stanza. A pattern is kept by its number.
 #[derive(Drop)]
@@ -16,28 +14,62 @@ pub enum Query<'a> {
     Any(Vec<Query<'a>>),
 }
 
-/// What an `&` between the parts makes of them; one part stands for itself.
-pub fn all_of(mut parts: Vec<Query<'_>>) -> Query<'_>
-    ensures shape { shape_of result ≡ all_of_shapes (map shape_of parts.entry.items) }
-{
-    match parts.len() {
-        1 => match parts.pop() {
-            Some(only) => only,
-            None => Query::All(parts),
-        },
-        _ => Query::All(parts),
-    }
+/// What stands between the parts of a query.
+#[derive(Clone, Copy)]
+pub enum Joint {
+    /// `&`: each part has to hold.
+    And,
+    /// `|`: one of them has to hold.
+    Or,
 }
 
-/// What a `|` between the parts makes of them; one part stands for itself.
-pub fn any_of(mut parts: Vec<Query<'_>>) -> Query<'_>
-    ensures shape { shape_of result ≡ any_of_shapes (map shape_of parts.entry.items) }
-{
-    match parts.len() {
-        1 => match parts.pop() {
-            Some(only) => only,
-            None => Query::Any(parts),
-        },
-        _ => Query::Any(parts),
+impl Joint {
+    ghost use Rattle.std.specs.Prelude.{◌≡◌, length, map};
+    ghost use Rattle.td_query.specs.Query.{joined, shape_of};
+    ghost use Rattle.td_query.specs.QueryGrammar.{mark_of};
+    ghost use Rattle.td_query.specs.inner.Settling.{settling};
+
+    /// How it is written.
+    pub fn mark(self) -> &'static str
+        ensures mark { result.now ≡ mark_of self }
+        ensures one { length result.now ≡ 1 }
+    {
+        match self {
+            Joint::And => "&",
+            Joint::Or => "|",
+        }
+    }
+
+    /// The answer of a part that settles what all of them come to.
+    pub fn settles(self) -> bool
+        ensures answer { result ≡ settling self }
+    {
+        match self {
+            Joint::And => false,
+            Joint::Or => true,
+        }
+    }
+
+    // The query of several parts.
+    fn over(self, parts: Vec<Query<'_>>) -> Query<'_>
+        ensures shape { shape_of result ≡ joined self (map shape_of parts.entry.items) }
+    {
+        match self {
+            Joint::And => Query::All(parts),
+            Joint::Or => Query::Any(parts),
+        }
+    }
+
+    /// What it makes of the parts; one part stands for itself.
+    pub fn join(self, mut parts: Vec<Query<'_>>) -> Query<'_>
+        ensures shape { shape_of result ≡ joined self (map shape_of parts.entry.items) }
+    {
+        match parts.len() {
+            1 => match parts.pop() {
+                Some(only) => only,
+                None => self.over(parts),
+            },
+            _ => self.over(parts),
+        }
     }
 }

@@ -4,10 +4,10 @@ ghost use Rattle.regex.specs.Strings.{matcher_pattern, regex_pattern};
 ghost use Rattle.td_stanza.specs.StanzaGrammar.{IsDistinct};
 ghost use Rattle.td_stanza.specs.Table.{fields_of};
 ghost use Rattle.td_indices.specs.Fields.{value_of as value_in};
-ghost use Rattle.td_query.specs.Query.{all_of, any_of, shape_of};
+ghost use Rattle.td_query.specs.Query.{joined, shape_of};
 ghost use Rattle.td_query.specs.Truth.{is_found as is_found_of, truth};
 
-use crate::query::Query;
+use crate::query::{Joint, Query};
 use crate::standing::stands_in;
 use regex::{Matcher, Regex};
 use std::alloc::{AllocError, Global};
@@ -52,41 +52,26 @@ pub fn holds(query: &Query, stanza: &Stanza, matchers: &mut Vec<Matcher>) -> boo
             Some(value) => is_found(matchers, *number, value),
         },
         Query::Not(part) => !holds(part, stanza, matchers),
-        Query::All(parts) => all_hold(parts, stanza, matchers),
-        Query::Any(parts) => any_holds(parts, stanza, matchers),
+        Query::All(parts) => parts_hold(Joint::And, parts, stanza, matchers),
+        Query::Any(parts) => parts_hold(Joint::Or, parts, stanza, matchers),
     }
 }
 
-// Whether each part holds.
+// Whether parts with the mark between them hold: the first that settles it decides.
 #[cycle(holds)]
-fn all_hold(parts: &[Query], stanza: &Stanza, matchers: &mut Vec<Matcher>) -> bool
+fn parts_hold(joint: Joint, parts: &[Query], stanza: &Stanza, matchers: &mut Vec<Matcher>) -> bool
     requires distinct { IsDistinct (fields_of stanza.now) }
     ensures truth { result ≡ truth (map matcher_pattern matchers.old.items) (fields_of stanza.now)
-        (all_of (map shape_of parts.now)) }
+        (joined joint (map shape_of parts.now)) }
     ensures same { map matcher_pattern matchers.new.items ≡ map matcher_pattern matchers.old.items }
 {
+    let settles = joint.settles();
     for i in 0..parts.len() {
-        if !holds(&parts[i], stanza, matchers) {
-            return false;
+        if holds(&parts[i], stanza, matchers) == settles {
+            return settles;
         }
     }
-    true
-}
-
-// Whether some part holds.
-#[cycle(holds)]
-fn any_holds(parts: &[Query], stanza: &Stanza, matchers: &mut Vec<Matcher>) -> bool
-    requires distinct { IsDistinct (fields_of stanza.now) }
-    ensures truth { result ≡ truth (map matcher_pattern matchers.old.items) (fields_of stanza.now)
-        (any_of (map shape_of parts.now)) }
-    ensures same { map matcher_pattern matchers.new.items ≡ map matcher_pattern matchers.old.items }
-{
-    for i in 0..parts.len() {
-        if holds(&parts[i], stanza, matchers) {
-            return true;
-        }
-    }
-    false
+    !settles
 }
 
 /// What searches for each pattern, made once for a pass over many stanzas.

@@ -1,5 +1,5 @@
 -- Lists of rows, of which one gets a row more.
-use Rattle.std.proofs.Common.{◌≡◌, ◌<◌, ◌+◌, ◌-◌, ◌==◌, ℕ, false, List, [], ◌∷◌, ◌++◌, length, sym}
+use Rattle.std.proofs.Common.{◌≡◌, ◌<◌, ◌+◌, ◌-◌, ◌==◌, ℕ, List, [], ◌∷◌, ◌++◌, length, sym}
 use Rattle.std.proofs.Common.{ap, ◌∙◌, inl, inr, arith, if◌then◌else◌, get_or, set, map}
 use Rattle.std.proofs.Common.{get_or-set_other, Option, Some, None, slice_get, subst}
 use Rattle.std.specs.Borrow.{Bor}
@@ -46,13 +46,6 @@ same_number level n h = elim (eqb_tells (level - 1) n) [
     | inl q ↦ absurd (p.1 (omega (arith, q.1, h)))
     | inr q ↦ p.0 ∙ sym q.0
   ]
-]
-
--- no list has this level's number
-pub no_number : (level n : ℕ) → (level ≡ n + 1 → ⊥) → (level == (n + 1)) ≡ false
-no_number level n h = elim (eqb_tells level (n + 1)) [
-  | inl q ↦ absurd (h q.1)
-  | inr q ↦ q.0
 ]
 
 -- what was read of the list with a number

@@ -16,7 +16,7 @@ use Rattle.td_rows.specs.declared.key.Key.{Key}
 use Rattle.td_rows.specs.declared.row.Row.{Row}
 use Rattle.td_indices.specs.Archive.{Contents, number_named}
 use Rattle.td_indices.specs.Sources.{KeptSource}
-use Rattle.td_indices.proofs.RowCounts.{any-filter}
+use Rattle.td_indices.proofs.Places.{any-filter}
 use Rattle.td_query.specs.declared.status.Status.{Status}
 use Rattle.td_query.specs.Statuses.{affected_names, is_affected, row_status, status_at, status_of}
 use Rattle.td_query.specs.Tracking.{Tracking}

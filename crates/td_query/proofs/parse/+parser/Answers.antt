@@ -1,24 +1,28 @@
 -- `parser`: the clause `gives` and its loop.
-use Rattle.std.proofs.Common.{◌≡◌, ◌∙◌, ◌++◌, ◌∷◌, [], List, map, ap, sym, rules, arith}
+use Rattle.std.proofs.Common.{◌≡◌, ℕ, ◌∙◌, ◌++◌, ◌∷◌, [], List, map, ap, sym, rules, arith}
 use Rattle.std.proofs.lemmas.List.{map-append}
 use Rattle.td_query.specs.Query.{Shape, shape_of}
-use Rattle.td_query.specs.QueryGrammar.{not_in, and_with, more_and, more_or}
+use Rattle.td_query.specs.QueryGrammar.{behind_mark, more, part_at}
 use Rattle.td_query.specs.Views.{raw_of}
-use Rattle.td_query.proofs.Chains.{fails_on, goes_on, and_taken, or_taken}
+use Rattle.td_query.proofs.Chains.{fails_on, goes_on, taken}
 use Rattle.td_query.proofs.parse.+parser.Goals as goal
 
-pub read_and-returns-in-Err-clause-gives : goal.read_and-returns-in-Err-clause-gives
-read_and-returns-in-Err-clause-gives t c =
+pub read_parts-returns-in-Err-clause-gives : goal.read_parts-returns-in-Err-clause-gives
+read_parts-returns-in-Err-clause-gives t c =
     let d = c.loop-after.invariant.decides in
-    let x = and_taken (not_in c.args.depth) d.0 _ _ c.loop-after.rest.now c.in-Some.after.now _
-    (sym c.in-Some.ensures.value) c.in-Some.ensures.shorter d.1 d.2 in
+    let front = ap (λ (mark : List ℕ). behind_mark mark c.loop-after.rest.now)
+    (sym c.mark.ensures.mark) ∙ sym c.in-Some.ensures.value in
+    let x = taken c.args.joint (part_at c.args.joint c.args.depth) d.0 _ _ c.loop-after.rest.now
+    c.in-Some.after.now _ front c.in-Some.ensures.shorter d.1 d.2 in
     fails_on c.in-Err.fault _ _ _ _ x.2 c.in-Err.ensures.gives
 
-pub read_and-loop-after-preserved : goal.read_and-loop-after-preserved
-read_and-loop-after-preserved t c =
+pub read_parts-loop-after-preserved : goal.read_parts-loop-after-preserved
+read_parts-loop-after-preserved t c =
     let d = c.loop-after.invariant.decides in
-    let x = and_taken (not_in c.args.depth) d.0 _ _ c.loop-after.rest.now c.in-Some.after.now _
-    (sym c.in-Some.ensures.value) c.in-Some.ensures.shorter d.1 d.2 in
+    let front = ap (λ (mark : List ℕ). behind_mark mark c.loop-after.rest.now)
+    (sym c.mark.ensures.mark) ∙ sym c.in-Some.ensures.value in
+    let x = taken c.args.joint (part_at c.args.joint c.args.depth) d.0 _ _ c.loop-after.rest.now
+    c.in-Some.after.now _ front c.in-Some.ensures.shorter d.1 d.2 in
     let parts : map shape_of c.push-in-Some.new.self.items ≡ map shape_of c.loop-after.parts.items
     ++ shape_of c.in-Ok.read.0 ∷ [] =
     ap (map shape_of) c.in_ok-push-2.ensures.items ∙ map-append shape_of c.loop-after.parts.items
@@ -27,36 +31,8 @@ read_and-loop-after-preserved t c =
       decides = (
         x.0,
         omega (arith, x.1, d.1, c.in-Some.ensures.shorter, c.in-Ok.ensures.shorter),
-        ap (λ (ps : List Shape). more_and (not_in c.args.depth) x.0 ps
-            (map raw_of c.read_not-in-Some.new.log.items) c.in-Ok.read.1.now) parts
-            ∙ goes_on _ _ _ _ x.2 c.in-Ok.ensures.gives,
-      );
-      shorter = omega (arith, c.in-Some.ensures.shorter, c.in-Ok.ensures.shorter);
-      utf8 = search rules;
-    }
-
-pub read_or-returns-in-Err-clause-gives : goal.read_or-returns-in-Err-clause-gives
-read_or-returns-in-Err-clause-gives t c =
-    let d = c.loop-after.invariant.decides in
-    let x = or_taken (and_with (not_in c.args.depth)) d.0 _ _ c.loop-after.rest.now
-    c.in-Some.after.now _ (sym c.in-Some.ensures.value) c.in-Some.ensures.shorter d.1 d.2 in
-    fails_on c.in-Err.fault _ _ _ _ x.2 c.in-Err.ensures.gives
-
-pub read_or-loop-after-preserved : goal.read_or-loop-after-preserved
-read_or-loop-after-preserved t c =
-    let d = c.loop-after.invariant.decides in
-    let x = or_taken (and_with (not_in c.args.depth)) d.0 _ _ c.loop-after.rest.now
-    c.in-Some.after.now _ (sym c.in-Some.ensures.value) c.in-Some.ensures.shorter d.1 d.2 in
-    let parts : map shape_of c.push-in-Some.new.self.items ≡ map shape_of c.loop-after.parts.items
-    ++ shape_of c.in-Ok.read.0 ∷ [] =
-    ap (map shape_of) c.in_ok-push-2.ensures.items ∙ map-append shape_of c.loop-after.parts.items
-    (c.in-Ok.read.0 ∷ []) in
-    record {
-      decides = (
-        x.0,
-        omega (arith, x.1, d.1, c.in-Some.ensures.shorter, c.in-Ok.ensures.shorter),
-        ap (λ (ps : List Shape). more_or (and_with (not_in c.args.depth)) x.0 ps
-            (map raw_of c.read_and-in-Some.new.log.items) c.in-Ok.read.1.now) parts
+        ap (λ (ps : List Shape). more c.args.joint (part_at c.args.joint c.args.depth) x.0 ps
+            (map raw_of c.read_part-in-Some.new.log.items) c.in-Ok.read.1.now) parts
             ∙ goes_on _ _ _ _ x.2 c.in-Ok.ensures.gives,
       );
       shorter = omega (arith, c.in-Some.ensures.shorter, c.in-Ok.ensures.shorter);

@@ -1,16 +1,15 @@
--- What the loop of `mark_packages` keeps.
+-- What the loop of `mark_stanzas` keeps.
 use Rattle.std.proofs.Common.{◌≡◌, map, take}
 use Rattle.regex.specs.Strings.{matcher_pattern}
-use Rattle.td_indices.specs.Stanzas.{package_fields}
-use Rattle.td_query.specs.Marks.{mark_by}
+use Rattle.td_query.specs.Marks.{kept_fields, mark_by}
 use Rattle.td_query.specs.Tracking.{tracking}
-use Rattle.td_query.proofs.marking.mark_packages.Given as goal
+use Rattle.td_query.proofs.marking.mark_stanzas.Given as goal
 
 -- the marks of the first ones
 abbrev pub invariant-loop-number : goal.invariant-loop-number
 invariant-loop-number l = record {
   same : map matcher_pattern l.matchers.items ≡ map matcher_pattern l.fn.matchers.items;
   marks : l.marks.items ≡ map
-      (λ x. mark_by (map matcher_pattern l.fn.matchers.items) (tracking l.tracker)
-      (package_fields l.archive x)) (take l.number l.archive.binaries);
+      (mark_by (map matcher_pattern l.fn.matchers.items) (tracking l.tracker))
+      (take l.number (kept_fields l.archive l.file));
 }
