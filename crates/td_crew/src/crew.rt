@@ -7,7 +7,8 @@ ghost use Rattle.td_supply.specs.Supply.{opened, stock_of};
 ghost use Rattle.td_script.specs.Asking.{IsFit, IsToldOf};
 ghost use Rattle.td_script.specs.OpeningInside.{IsJournalFault};
 ghost use Rattle.td_script.specs.Openings.{IsJournalIfGiven};
-ghost use Rattle.td_crew.specs.CrewText.{EndsWithRows, HasBegun, HasRows, IsClosed, crew_tells};
+ghost use Rattle.td_desk.specs.GoingOn.{Begins};
+ghost use Rattle.td_crew.specs.CrewText.{EndsFrom, HasBegun, HasRows, IsClosed, crew_tells};
 ghost use Rattle.td_crew.specs.CrewText.{marks_begun};
 ghost use Rattle.td_crew.specs.Lines.{FitAnyBook};
 
@@ -135,7 +136,8 @@ fn alone<C: Ledger>(alloc: Global, clerk: Clerk<C>) -> Result<Vec<Clerk<C>>, All
 // The book with which a desk is closed, and how many refusals that is: one where the receipts of
 // these clerks differ from the book's changes.
 fn closed<'a, N: Named, C: Ledger>(desk: Desk<'a, N, C>, clerks: Vec<Clerk<C>>) -> (Book<'a>, u64)
-    ensures opening { result.0.history.opening ≡ N.origin }
+    ensures opening { result.0.history.opening ≡ N.origin.rows }
+    ensures began { Begins N.origin result.0.history.journal }
     ensures few { result.1 ≤ 1 }
 {
     match desk.close(clerks) {
@@ -173,9 +175,8 @@ fn tell_at<N: Named + Send + Sync, C: Ledger + Send + Sync, T: Reports>(
     requires seats { All (λ s. s.table ≡ N.table) seats.items }
     requires few { length seats.items ≤ 64 }
     requires fits { FitAnyBook T.fits lines.now.reports }
-    ensures { IfOk result (λ told.
-        EndsWithRows (length seats.items) N.origin lines.now.script.now (string_bytes told.text)
-        told.refused) }
+    ensures { IfOk result
+        (EndsFrom (length seats.items) N.origin.journal N.origin.rows lines.now.script.now) }
 {
     let mut clerk = clerk;
     let told = tell_in_shift(rt, &desk, &mut clerk, seats, builds, lines)?;
@@ -194,7 +195,12 @@ fn begin<'a, N: Named, C: Ledger>(
 ) -> Result<(Desk<'a, N, C>, Clerk<C>), ReadError>
     requires board { board.table ≡ N.table }
     requires seat { seat.table ≡ N.table }
-    requires origin { N.origin ≡ rows }
+    requires origin { N.origin
+        ≡ record {
+          rows = rows;
+          stock = stock_of supply;
+          journal = option_map (λ s. s.now) journal;
+        } }
     requires opened { N.opened ≡ marks_begun (option_map (λ s. s.now) journal) }
     requires fresh_seat { seat.desk ≡ new_desk (length rows) (length seat.desk.noted) }
     requires idle { NoneBuilt rows }
@@ -231,7 +237,12 @@ fn tell_named<N: Named + Send + Sync, C: Ledger + Send + Sync, T: Reports>(
     requires seat { seat.table ≡ N.table }
     requires seats { All (λ s. s.table ≡ N.table) seats.items }
     requires few { length seats.items ≤ 64 }
-    requires origin { N.origin ≡ rows }
+    requires origin { N.origin
+        ≡ record {
+          rows = rows;
+          stock = stock_of supply;
+          journal = option_map (λ s. s.now) lines.now.journal;
+        } }
     requires opened { N.opened ≡ marks_begun (option_map (λ s. s.now) lines.now.journal) }
     requires fresh_seat { seat.desk ≡ new_desk (length rows) (length seat.desk.noted) }
     requires idle { NoneBuilt rows }
@@ -239,9 +250,9 @@ fn tell_named<N: Named + Send + Sync, C: Ledger + Send + Sync, T: Reports>(
     requires ledger { (blank.name ≡ C.name) × (blank.parts ≡ C.parts) × (blank.parts ≡ 1024) }
     requires fits { FitAnyBook T.fits lines.now.reports }
     ensures begun { OnOk result (HasBegun (option_map (λ s. s.now) lines.now.journal) rows) }
-    ensures told { IfOk result (λ told.
-        EndsWithRows (length seats.items) rows lines.now.script.now (string_bytes told.text)
-        told.refused) }
+    ensures told { IfOk result
+        (EndsFrom (length seats.items) (option_map (λ s. s.now) lines.now.journal) rows
+        lines.now.script.now) }
     ensures fault { IfErr result (IsJournalFault rows (option_map (λ s. s.now) lines.now.journal)) }
     ensures only { IfErr result (λ fault.
         IsJournalIfGiven rows (option_map (λ s. s.now) lines.now.journal)

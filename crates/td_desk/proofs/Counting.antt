@@ -1,9 +1,9 @@
 -- How the changes of a book grow with its calls.
 use Rattle.std.proofs.Common.{◌≡◌, ℕ, zero, suc, ◌+◌, ◌-◌, ◌≤◌, Bool, true, false, not, ◌&&◌, ◌||◌}
 use Rattle.std.proofs.Common.{List, [], ◌∷◌, ◌++◌, length, Some, refl, sym, ap, ◌∙◌, subst, arith}
-use Rattle.std.proofs.Common.{append-nil, length-append, append_assoc, Result, Ok, Err}
+use Rattle.std.proofs.Common.{append-nil, length-append, append_assoc}
 use Rattle.std.proofs.Common.{if◌then◌else◌}
-use Rattle.std.specs.Prelude.{OnErr, slice_get, Option, None, IsPermutation}
+use Rattle.std.specs.Prelude.{slice_get, Option, None, IsPermutation}
 use Rattle.std.proofs.lemmas.Option.{same_Some}
 use Rattle.std.proofs.lemmas.Bool.{and_parts, ne_eqb}
 use Rattle.std.proofs.lemmas.List.Sorted.{IsPermutation-refl, IsPermutation-sym}
@@ -272,7 +272,3 @@ long_undid n ms = long-undone ms (n - 1)
 pub one_more : (r : Receipt) (old new : List Receipt) → IsPermutation (r ∷ old) new
     → length new ≡ length old + 1
 one_more r old new h = length_permutation (r ∷ old) new h ∙ omega arith
-
-pub on_err : {A E : Type 0} (r : Result A E) (P : Type 0) → P → OnErr r P
-on_err (Ok x) P h = tt
-on_err (Err e) P h = h

@@ -4,7 +4,6 @@ use Rattle.std.proofs.Common.{◌∙◌, Result, Ok, Err}
 use Rattle.std.specs.Prelude.{IfOk, OnOk, OnErr}
 use Rattle.atomic_table.specs.Seated.{TableId}
 use Rattle.td_rows.specs.declared.outcome.Outcome.{Outcome}
-use Rattle.td_rows.specs.Table.{Table}
 use Rattle.td_board.specs.declared.views.Hand.{Hand}
 use Rattle.td_board.specs.declared.views.Hand.TheVariants.{Free, Holding, Finished}
 use Rattle.td_board.specs.Seats.{BuilderModel}
@@ -21,19 +20,20 @@ use Rattle.td_book.specs.Finishing.{FinishHeld, FinishOutcome}
 use Rattle.td_book.specs.Ready.{is_any_queued}
 use Rattle.td_builder.specs.Floors.{IsHolding, IsStarted, IsFinished}
 use Rattle.td_desk.specs.Calls.{IsOfDesk, Starting, Finishing, MayBeJob}
+use Rattle.td_desk.specs.Names.{Origin}
 
-by_hand : (table : TableId) (opening : Table) (b : ℕ) (hand : Hand) (old new : BookModel)
-    (job : Job) → IsOfDesk table opening old → StartOutcome b hand old new (Ok job)
-    → (r : ℕ) × (hand ≡ Holding r) × MayBeJob table opening r job
-by_hand table opening b (Holding i) old new job of is = (i, refl, (old, of, is.1))
-by_hand table opening b Free old new job of is = absurd (let e = is.0 in cc)
-by_hand table opening b (Finished i c) old new job of is = absurd (let e = is.0 in cc)
+by_hand : (table : TableId) (origin : Origin) (b : ℕ) (hand : Hand) (old new : BookModel)
+    (job : Job) → IsOfDesk table origin old → StartOutcome b hand old new (Ok job)
+    → (r : ℕ) × (hand ≡ Holding r) × MayBeJob table origin r job
+by_hand table origin b (Holding i) old new job of is = (i, refl, (old, of, is.1))
+by_hand table origin b Free old new job of is = absurd (let e = is.0 in cc)
+by_hand table origin b (Finished i c) old new job of is = absurd (let e = is.0 in cc)
 
-pub started : (table : TableId) (opening : Table) (s : BuilderModel) (r : Result Job StartRefusal)
-    → Starting s table opening r → IfOk r (IsStarted (MayBeJob table opening) s)
-started table opening s (Ok job) (old, new, of, is) =
-    by_hand table opening s.builder.number s.builder.hand old new job of is
-started table opening s (Err e) w = tt
+pub started : (table : TableId) (origin : Origin) (s : BuilderModel) (r : Result Job StartRefusal)
+    → Starting s table origin r → IfOk r (IsStarted (MayBeJob table origin) s)
+started table origin s (Ok job) (old, new, of, is) =
+    by_hand table origin s.builder.number s.builder.hand old new job of is
+started table origin s (Err e) w = tt
 
 same_seat : (s t : BuilderModel) → t.table ≡ s.table → t.builder ≡ s.builder → t ≡ s
 same_seat s t at is = (λ j. record { table = at j; builder = is j })
@@ -62,28 +62,29 @@ refused_held o s t i old new (Err finishes.Mismatch) hand at (is, seen, was) = �
     inr (ended_seat o s t i hand at done.1))
     was
 
-pub finished : (table : TableId) (opening : Table) (o : Outcome) (s t : BuilderModel)
+pub finished : (table : TableId) (origin : Origin) (o : Outcome) (s t : BuilderModel)
     (r : Result ℕ FinishRefusal) → IsHolding s → t.table ≡ s.table
-    → Finishing o s t table opening r → OnOk r (IsFinished (code_of o) s t)
-finished table opening o s t r (i, hand) at (old, new, of, inl (e, busy, all, same)) =
+    → Finishing o s t table origin r → OnOk r (IsFinished (code_of o) s t)
+finished table origin o s t r (i, hand) at (old, new, of, inl (e, busy, all, same)) =
     subst (λ x. OnOk x (IsFinished (code_of o) s t)) (sym e) tt
-finished table opening o s t r (i, hand) at (old, new, of, inr is) =
+finished table origin o s t r (i, hand) at (old, new, of, inr is) =
     let f : FinishOutcome (Holding i) o s.builder t.builder old new r =
     subst (λ h. FinishOutcome h o s.builder t.builder old new r) hand is in
     finished_held o s t i old new r hand at f
 
-pub kept_or_finished : (table : TableId) (opening : Table) (o : Outcome) (s t : BuilderModel)
+pub kept_or_finished : (table : TableId) (origin : Origin) (o : Outcome) (s t : BuilderModel)
     (r : Result ℕ FinishRefusal) → IsHolding s → t.table ≡ s.table
-    → Finishing o s t table opening r → OnErr r ((t ≡ s) ⊎ IsFinished (code_of o) s t)
-kept_or_finished table opening o s t r (i, hand) at (old, new, of, inl (e, busy, all, same)) =
-    subst (λ x. OnErr x ((t ≡ s) ⊎ IsFinished (code_of o) s t)) (sym e) (inl (same_seat s t at same))
-kept_or_finished table opening o s t r (i, hand) at (old, new, of, inr is) =
+    → Finishing o s t table origin r → OnErr r ((t ≡ s) ⊎ IsFinished (code_of o) s t)
+kept_or_finished table origin o s t r (i, hand) at (old, new, of, inl (e, busy, all, same)) =
+    subst (λ x. OnErr x ((t ≡ s) ⊎ IsFinished (code_of o) s t)) (sym e)
+    (inl (same_seat s t at same))
+kept_or_finished table origin o s t r (i, hand) at (old, new, of, inr is) =
     let f : FinishOutcome (Holding i) o s.builder t.builder old new r =
     subst (λ h. FinishOutcome h o s.builder t.builder old new r) hand is in
     refused_held o s t i old new r hand at f
 
-pub at_end : (table : TableId) (opening : Table) (b : Bool)
-    → (book : BookModel) × IsOfDesk table opening book × (b ≡ is_any_queued (rows_of book.history))
-    → b ≡ false → (book : BookModel) × IsOfDesk table opening book
+pub at_end : (table : TableId) (origin : Origin) (b : Bool)
+    → (book : BookModel) × IsOfDesk table origin book × (b ≡ is_any_queued (rows_of book.history))
+    → b ≡ false → (book : BookModel) × IsOfDesk table origin book
     × (is_any_queued (rows_of book.history) ≡ false)
-at_end table opening b (book, of, is) h = (book, of, sym is ∙ h)
+at_end table origin b (book, of, is) h = (book, of, sym is ∙ h)

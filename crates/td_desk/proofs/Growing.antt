@@ -3,7 +3,6 @@ use Rattle.std.proofs.Common.{◌≡◌, ℕ, ◌+◌, ◌≤◌, Bool, true, fa
 use Rattle.std.proofs.Common.{length-append, refl, sym, ap, ◌∙◌, subst, arith, Option, Some, None}
 use Rattle.std.proofs.Common.{Result, Ok, Err, if◌then◌else◌}
 use Rattle.std.specs.Prelude.{IsPermutation, IsSomeAnd}
-use Rattle.std.specs.declared.alloc.AllocError.{AllocError}
 use Rattle.td_board.specs.declared.outcome.OutcomeCode.{OutcomeCode}
 use Rattle.td_board.specs.declared.views.BuilderView.{BuilderView}
 use Rattle.td_board.specs.declared.views.Hand.{Hand}
@@ -19,6 +18,7 @@ use Rattle.td_journal.specs.Entries.{entry_at, standing_entry, undone, CanBeUndo
 use Rattle.td_journal.specs.Commands.{is_command}
 use Rattle.td_journal.specs.Touching.{blocker}
 use Rattle.td_core.specs.History.{History}
+use Rattle.std.specs.declared.alloc.AllocError.{AllocError}
 use Rattle.td_book.specs.declared.arriving.ArriveRefusal.{ArriveRefusal}
 use Rattle.td_book.specs.declared.arriving.ArriveRefusal.TheVariants as arrivals
 use Rattle.td_book.specs.declared.finishing.FinishRefusal.{FinishRefusal}
@@ -43,12 +43,14 @@ use Rattle.td_desk.specs.Changes.{changes, changes_from, still_undone}
 use Rattle.td_desk.proofs.Counting.{Notes, notes_none, notes_entry, notes_more, notes_one}
 use Rattle.td_desk.proofs.Counting.{changes_noted, still_noted, long_noted, changes_entry}
 use Rattle.td_desk.proofs.Counting.{still_entry, changes_undid, still_undid, long_undid}
+use Rattle.td_desk.proofs.GoingOn.{Extends, extends-append, extends-twice, extends-undone}
 
 -- the book has as many changes as before: at most claims and outcomes came
 pub record Kept (os : List Mark) (old new : BookModel) (most : ℕ) : Type 0 where
   pub fixed : new.fixed ≡ old.fixed
   pub still : still_undone new.history.journal os ≡ true
   pub long : length new.history.journal ≤ length old.history.journal + most
+  pub on : Extends old.history.journal new.history.journal
   pub same : changes os new ≡ changes os old
 
 -- it has one change more
@@ -56,6 +58,7 @@ pub record Grown (os : List Mark) (r : Receipt) (old new : BookModel) (most : �
   pub fixed : new.fixed ≡ old.fixed
   pub still : still_undone new.history.journal os ≡ true
   pub long : length new.history.journal ≤ length old.history.journal + most
+  pub on : Extends old.history.journal new.history.journal
   pub one : IsPermutation (r ∷ changes os old) (changes os new)
 
 pub kept : (os : List Mark) (old new : BookModel) (most : ℕ)
@@ -65,6 +68,7 @@ kept os old new most still fixed notes = record {
   fixed = fixed;
   still = still_noted os old.history.journal new.history.journal most still notes;
   long = long_noted old.history.journal new.history.journal most notes;
+  on = extends-append old.history.journal new.history.journal notes.more notes.at;
   same = changes_noted os old.history.journal new.history.journal most still notes;
 }
 
@@ -89,6 +93,9 @@ grown os old new mid e n most still fixed notes own at num =
       still = still_entry os mid new.history.journal e still' at;
       long = let x = long_noted old.history.journal mid most notes in
           omega (arith, x, ap length at, length-append mid (standing_entry e ∷ []));
+      on = extends-twice old.history.journal mid new.history.journal
+          (extends-append old.history.journal mid notes.more notes.at)
+          (extends-append mid new.history.journal (standing_entry e ∷ []) at);
       one = subst (λ l. IsPermutation (made_of n e.kind e.keys ∷ l) (changes os new)) before
           (changes_entry os mid new.history.journal e n still' own at num);
     }
@@ -150,7 +157,13 @@ start_kept os b (Finished i c) old new r still is = unchanged os old new 1 still
 
 more_room : (os : List Mark) (old new : BookModel) → Kept os old new 1 → Kept os old new 2
 more_room os old new k =
-    record { fixed = k.fixed; still = k.still; long = let x = k.long in omega arith; same = k.same }
+    record {
+      fixed = k.fixed;
+      still = k.still;
+      long = let x = k.long in omega arith;
+      on = k.on;
+      same = k.same;
+    }
 
 held_kept : (os : List Mark) (i : ℕ) (o : Outcome) (v w : BuilderView) (old new : BookModel)
     (r : Result ℕ FinishRefusal) → still_undone old.history.journal os ≡ true
@@ -225,6 +238,7 @@ free_undo os None n old new at still is =
       fixed = is.fixed;
       still = ap (λ l. still_undone l os) now ∙ still_undid os n ms still;
       long = let e = ap length now in let f = long_undid n ms in omega arith;
+      on = extends-undone ms new.history.journal n now;
       one = subst (λ l. IsPermutation (Undid n ∷ changes os old) (changes_from 1 l os)) (sym now)
           (changes_undid os n ms still can);
     }

@@ -2,6 +2,7 @@
 pub mod EqualReceipts
 pub mod Ticking
 pub mod Counting
+pub mod GoingOn
 pub mod Growing
 pub mod Origins
 pub mod Commanding

@@ -1,11 +1,13 @@
 -- A journal's text has the marks of its journal, and a book that is opened with it has no changes
 -- yet.
 use Rattle.std.proofs.Common.{◌≡◌, ℕ, suc, ◌+◌, ◌-◌, ◌<◌, ◌^◌, Bool, true, false, not, ◌&&◌, ◌||◌}
-use Rattle.std.proofs.Common.{◌==◌, List, [], ◌∷◌, ◌++◌, map, length, refl, sym, ap, ◌∙◌, arith}
+use Rattle.std.proofs.Common.{◌==◌, List, [], ◌∷◌, ◌++◌, map, length, refl, sym, subst, Some, ap}
+use Rattle.std.proofs.Common.{◌∙◌, arith}
 use Rattle.std.proofs.Common.{append_assoc, append-nil, length-append, if◌then◌else◌, ne_eqb, lit<}
 use Rattle.std.specs.Prelude.{decimal, replicate}
 use Rattle.std.specs.List.{AllByRecursion, cons_option}
 use Rattle.std.proofs.lemmas.List.{length-map, map-append}
+use Rattle.std.proofs.lemmas.Option.{same_Some}
 use Rattle.atomic_table.specs.Seated.{TableId}
 use Rattle.td_text.specs.Cut.{Without}
 use Rattle.td_text.proofs.Cut.{Without-right}
@@ -29,7 +31,7 @@ use Rattle.td_journal.specs.JournalText.{entry_line, entry_lines, mark_sign, kin
 use Rattle.td_journal.specs.JournalText.{spaced_keys}
 use Rattle.td_rows.specs.Notes.{notes}
 use Rattle.td_journal.proofs.EntryLines.{line_lacks}
-use Rattle.td_journal.proofs.JournalFiles.{header_lacks}
+use Rattle.td_journal.proofs.JournalFiles.{header_lacks, texts_are_one}
 use Rattle.td_supply.specs.Supply.{Stock}
 use Rattle.td_core.specs.History.{History, rows_of, history_of}
 use Rattle.td_book.specs.Desk.{BookModel}
@@ -37,6 +39,8 @@ use Rattle.td_book.specs.Reopening.{return_in, returns_of, given_back, IsReopene
 use Rattle.td_desk.specs.declared.place.Place.{Place}
 use Rattle.td_desk.specs.declared.place.Place.TheVariants.{Number, Sign, Rest}
 use Rattle.td_desk.specs.Changes.{changes_from, still_undone, undone_since}
+use Rattle.td_desk.specs.GoingOn.{GoesOn}
+use Rattle.td_desk.proofs.GoingOn.{goes_on-same}
 use Rattle.td_desk.specs.Marks.{IsNamedJournal, mark_at, mark_of, marks_from, marks_in}
 use Rattle.td_desk.specs.Marks.{place_behind}
 use Rattle.td_desk.specs.declared.tick.Tick.{Tick}
@@ -157,7 +161,8 @@ begun_with h =
 
 pub begun_book : (opening : Table) (text : List ℕ) (table : TableId) (stock : Stock) (builders : ℕ)
     (b : BookModel) → length text < 2 ^ 64 → IsReopened opening text table stock builders b
-    → IsBegun table opening (marks_in text) b
+    → IsBegun table (record { rows = opening; stock = stock; journal = Some text })
+    (marks_in text) b
 begun_book opening text table stock builders b small r =
     let os = marks_told opening text r.journal small r.reads in
     let h = history_of opening r.journal in
@@ -167,6 +172,12 @@ begun_book opening text table stock builders b small r =
     record {
       at = ap (λ (x : BookModel). x.fixed.table) r.is;
       over = ap (λ (x : BookModel). x.history.opening) r.is;
+      stocked = ap (λ (x : BookModel). x.fixed.stock) r.is;
+      began = λ other before is reads.
+          subst (λ ms. GoesOn (given_back (history_of opening ms)).journal b.history.journal)
+          (texts_are_one opening text r.journal before small r.reads
+          (subst (λ t. IsJournalText opening t before) (sym (same_Some text other is)) reads))
+          (goes_on-same (given_back h).journal b.history.journal now);
       still = (λ i. still_undone (now i) (os i)) ∙ all.0;
       none = (λ i. changes_from 1 (now i) (os i)) ∙ all.1;
     }

@@ -236,9 +236,6 @@ left_unticked n zero (m ∷ ms) h = absurd (omega (arith, h))
 left_unticked n (suc k) (m ∷ ms) h =
     (λ i. at_unticked n m i ++ left_unticked (suc n) k ms (omega (arith, h)) i)
 
-no_entries : (n : ℕ) (ts : List Tick) (os : List Mark) → left_from n [] ts ≡ changes_from n [] os
-no_entries n ts os = refl
-
 left_begun : (n more : ℕ) (ms : List Marked) (os : List Mark)
     → length ms ≤ length (map begun_at os ++ replicate more unticked)
     → left_from n ms (map begun_at os ++ replicate more unticked) ≡ changes_from n ms os
@@ -280,9 +277,6 @@ nil_left n (m ∷ ms) (t ∷ ts) =
     ∙ (λ i. nil_at n m t i && nil_left (suc n) ms ts i)
 
 -- ---- 6. many receipts
-
-pub takes_none : (old : List Receipt) → Takes [] old old
-takes_none old = IsPermutation-refl old
 
 pub takes_more : (xs ys old mid new : List Receipt) → Takes xs old mid → Takes ys mid new
     → Takes (xs ++ ys) old new

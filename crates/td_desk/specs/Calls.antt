@@ -8,7 +8,6 @@ use Rattle.td_rows.specs.declared.key.Key.{Key}
 use Rattle.td_rows.specs.declared.kind.Kind.TheVariants as kinds
 use Rattle.td_rows.specs.declared.outcome.Outcome.{Outcome}
 use Rattle.td_rows.specs.Keys.{names}
-use Rattle.td_rows.specs.Table.{Table}
 use Rattle.td_journal.specs.Entries.{standing}
 use Rattle.td_journal.specs.Replay.{Lawful}
 use Rattle.td_wbread.specs.Command.{CommandParts}
@@ -34,6 +33,8 @@ use Rattle.td_book.specs.Undoing.{UndoAnswer, undo_stop}
 use Rattle.td_desk.specs.declared.receipt.Receipt.{Receipt}
 use Rattle.td_desk.specs.declared.receipt.Receipt.TheVariants.{Made}
 use Rattle.td_desk.specs.Clerks.{ClerkModel, with_receipt}
+use Rattle.td_desk.specs.GoingOn.{Begins}
+use Rattle.td_desk.specs.Names.{Origin}
 
 -- ---- 1. receipts
 
@@ -57,40 +58,42 @@ arrival_receipt k n = Made n kinds.Arrive (k ∷ [])
 -- ---- 2. answers, over a book of the desk
 
 -- a book that may lie under the desk's lock: at its board, with a lawful history over the rows with
--- which the desk was opened
-pub record IsOfDesk (table : TableId) (opening : Table) (book : BookModel) : Type 0 where
+-- which the desk was opened, with the offers of then, and with the entries of then before its own
+pub record IsOfDesk (table : TableId) (origin : Origin) (book : BookModel) : Type 0 where
   pub at : book.fixed.table ≡ table
-  pub over : book.history.opening ≡ opening
+  pub over : book.history.opening ≡ origin.rows
+  pub stocked : book.fixed.stock ≡ origin.stock
+  pub began : Begins origin book.history.journal
   pub lawful : Lawful book.history.opening (standing book.history.journal)
 
 -- a command's, and the clerk's receipt where it is accepted
-abbrev pub Commanding : CommandParts → TableId → Table → ClerkModel → ClerkModel
+abbrev pub Commanding : CommandParts → TableId → Origin → ClerkModel → ClerkModel
     → Result Taken CommandRefusal → Type 0
-Commanding c table opening clerk after result =
-    (old : BookModel) × (new : BookModel) × IsOfDesk table opening old × IsDone c old new result
+Commanding c table origin clerk after result =
+    (old : BookModel) × (new : BookModel) × IsOfDesk table origin old × IsDone c old new result
     × IfOk result (λ t. after ≡ with_receipt (command_receipt c old t) clerk)
 
 -- an undo's: what such a book answers to the undo of entry n
-abbrev pub Undoing : ℕ → TableId → Table → Result (Unit {0}) UndoRefusal → Type 0
-Undoing n table opening result =
-    (old : BookModel) × (new : BookModel) × IsOfDesk table opening old
+abbrev pub Undoing : ℕ → TableId → Origin → Result (Unit {0}) UndoRefusal → Type 0
+Undoing n table origin result =
+    (old : BookModel) × (new : BookModel) × IsOfDesk table origin old
     × UndoAnswer (undo_stop old.history.journal n) n old new result
 
 -- an arrival's: what such a book answers to the arrival of this key's build
-abbrev pub Arriving : Key → TableId → Table → Result ℕ ArriveRefusal → Type 0
-Arriving k table opening result =
-    (old : BookModel) × (new : BookModel) × IsOfDesk table opening old
+abbrev pub Arriving : Key → TableId → Origin → Result ℕ ArriveRefusal → Type 0
+Arriving k table origin result =
+    (old : BookModel) × (new : BookModel) × IsOfDesk table origin old
     × ArriveOutcome k old new result
 
 -- a sweep's: what such a book answers to it
-abbrev pub Sweeping : TableId → Table → Result (Option ℕ) AllocError → Type 0
-Sweeping table opening result =
-    (old : BookModel) × (new : BookModel) × IsOfDesk table opening old × SweepOutcome old new result
+abbrev pub Sweeping : TableId → Origin → Result (Option ℕ) AllocError → Type 0
+Sweeping table origin result =
+    (old : BookModel) × (new : BookModel) × IsOfDesk table origin old × SweepOutcome old new result
 
 -- a start's: what such a book answers to the builder of this seat, by its hand
-abbrev pub Starting : BuilderModel → TableId → Table → Result Job StartRefusal → Type 0
-Starting seat table opening result =
-    (old : BookModel) × (new : BookModel) × IsOfDesk table opening old
+abbrev pub Starting : BuilderModel → TableId → Origin → Result Job StartRefusal → Type 0
+Starting seat table origin result =
+    (old : BookModel) × (new : BookModel) × IsOfDesk table origin old
     × StartOutcome seat.builder.number seat.builder.hand old new result
 
 -- what a book answers to a finish with this outcome, and the builder after it; but where memory is
@@ -102,14 +105,14 @@ FinishTold outcome v w old new result =
     ⊎ FinishOutcome v.hand outcome v w old new result
 
 -- a finish's: what such a book answers to it so
-abbrev pub Finishing : Outcome → BuilderModel → BuilderModel → TableId → Table
+abbrev pub Finishing : Outcome → BuilderModel → BuilderModel → TableId → Origin
     → Result ℕ FinishRefusal → Type 0
-Finishing outcome seat after table opening result =
-    (old : BookModel) × (new : BookModel) × IsOfDesk table opening old
+Finishing outcome seat after table origin result =
+    (old : BookModel) × (new : BookModel) × IsOfDesk table origin old
     × FinishTold outcome seat.builder after.builder old new result
 
 -- ---- 3. jobs
 
 -- which jobs may be answered for the row with a number: those of a book of the desk
-abbrev pub MayBeJob : TableId → Table → ℕ → Job → Type 0
-MayBeJob table opening row job = (b : BookModel) × IsOfDesk table opening b × IsJobAt row b job
+abbrev pub MayBeJob : TableId → Origin → ℕ → Job → Type 0
+MayBeJob table origin row job = (b : BookModel) × IsOfDesk table origin b × IsJobAt row b job

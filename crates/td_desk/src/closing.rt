@@ -3,6 +3,7 @@ ghost use Rattle.std.specs.Prelude.{◌≡◌, ◌+◌, ◌<◌, ◌≤◌, ◌�
 ghost use Rattle.std.specs.Prelude.{IsPermutation, IsTrue, MatchBool};
 ghost use Rattle.td_desk.specs.Changes.{changes};
 ghost use Rattle.td_desk.specs.Clerks.{all_parts, all_receipts};
+ghost use Rattle.td_desk.specs.GoingOn.{Begins};
 ghost use Rattle.td_desk.specs.inner.Ticks.{AreBegun, Takes, TooMany, left_from, is_in};
 ghost use Rattle.td_desk.specs.inner.Ticks.{are_ticked as are_ticked_in};
 
@@ -34,8 +35,13 @@ impl<'a, N: Named, C: Ledger> Desk<'a, N, C> {
             × (differ.clerks.items ≡ clerks.items)) }
         ensures table_ok { IfOk result (λ book. book.fixed.table ≡ N.table) }
         ensures table_err { IfErr result (λ differ. differ.book.fixed.table ≡ N.table) }
-        ensures origin_ok { IfOk result (λ book. book.history.opening ≡ N.origin) }
-        ensures origin_err { IfErr result (λ differ. differ.book.history.opening ≡ N.origin) }
+        ensures origin_ok { IfOk result (λ book. book.history.opening ≡ N.origin.rows) }
+        ensures origin_err { IfErr result (λ differ. differ.book.history.opening ≡ N.origin.rows) }
+        ensures stock_ok { IfOk result (λ book. book.fixed.stock ≡ N.origin.stock) }
+        ensures stock_err { IfErr result (λ differ. differ.book.fixed.stock ≡ N.origin.stock) }
+        ensures began_ok { IfOk result (λ book. Begins N.origin book.history.journal) }
+        ensures began_err { IfErr result (λ differ.
+            Begins N.origin differ.book.history.journal) }
         ensures whole { IfErr result (λ differ.
             all_parts clerks.items ≡ 1024
             → length (all_receipts clerks.items) ≡ length (changes N.opened differ.book)) }

@@ -1,6 +1,6 @@
 //! The desk: its opening, its keys, and what it lends.
-ghost use Rattle.std.specs.Prelude.{◌≡◌, List, None, [], length, true, IfOk, IfErr, OnOk, IfSome};
-ghost use Rattle.std.specs.Prelude.{IfNone, MatchBool, slice_get};
+ghost use Rattle.std.specs.Prelude.{◌≡◌, List, None, Some, [], length, true, IfOk, IfErr, OnOk};
+ghost use Rattle.std.specs.Prelude.{IfNone, IfSome, MatchBool, slice_get};
 ghost use Rattle.std.specs.Fn.{FnOnceReturnsAt};
 ghost use Rattle.std.specs.Option.{option_copied};
 ghost use Rattle.td_board.specs.Answers.{IsWon, IsLost};
@@ -13,6 +13,7 @@ ghost use Rattle.td_journal.specs.declared.entry.Marked.{Marked as MarkedValue};
 ghost use Rattle.td_journal.specs.JournalFile.{IsJournalText, FaultOf};
 ghost use Rattle.td_desk.specs.Calls.{IsOfDesk};
 ghost use Rattle.td_desk.specs.Changes.{changes, still_undone};
+ghost use Rattle.td_desk.specs.GoingOn.{Begins};
 ghost use Rattle.td_desk.specs.Marks.{marks_in, IsNamedJournal};
 ghost use Rattle.td_desk.specs.inner.Begun.{IsBegun};
 ghost use Rattle.td_desk.specs.inner.Ticks.{AreBegun};
@@ -58,7 +59,8 @@ impl<'a, N: Named, C: Ledger> Desk<'a, N, C> {
     ) -> Result<(Desk<'a, N, C>, Clerk<C>), AllocError>
         requires board { board.table ≡ N.table }
         requires seat { seat.table ≡ N.table }
-        requires origin { N.origin ≡ rows }
+        requires origin { N.origin
+            ≡ record { rows = rows; stock = stock_of supply; journal = None } }
         requires opened { N.opened ≡ [] }
         requires fresh_seat { seat.desk ≡ new_desk (length rows) (length seat.desk.noted) }
         requires idle { NoneBuilt rows }
@@ -89,7 +91,8 @@ impl<'a, N: Named, C: Ledger> Desk<'a, N, C> {
     ) -> Result<(Desk<'a, N, C>, Clerk<C>), ReadError>
         requires board { board.table ≡ N.table }
         requires seat { seat.table ≡ N.table }
-        requires origin { N.origin ≡ rows }
+        requires origin { N.origin
+            ≡ record { rows = rows; stock = stock_of supply; journal = Some text.now } }
         requires opened { N.opened ≡ marks_in text.now }
         requires fresh_seat { seat.desk ≡ new_desk (length rows) (length seat.desk.noted) }
         requires fresh_supply { supply ≡ opened_stock (stock_of supply) }
@@ -168,7 +171,10 @@ fn read_back<'a>(
     requires board { board.now.table ≡ seat.table }
     requires fresh_seat { seat.desk ≡ new_desk (length rows) (length seat.desk.noted) }
     requires fresh_supply { supply ≡ opened_stock (stock_of supply) }
-    ensures begun { IfOk result (λ made. IsBegun seat.table rows (marks_in text.now) made.0) }
+    ensures begun { IfOk result (λ made.
+        IsBegun seat.table
+        (record { rows = rows; stock = stock_of supply.entry; journal = Some text.now })
+        (marks_in text.now) made.0) }
     ensures named { OnOk result (IsNamedJournal (marks_in text.now) rows text.now) }
     ensures ticks { IfOk result (λ made.
         AreBegun (marks_in text.now) (length made.0.history.journal) made.1.items) }
@@ -215,7 +221,9 @@ fn begin<'a, N: Named, C: Ledger>(
 ) -> (Desk<'a, N, C>, Clerk<C>)
     requires board { board.table ≡ N.table }
     requires book { book.fixed.table ≡ N.table }
-    requires origin { book.history.opening ≡ N.origin }
+    requires origin { book.history.opening ≡ N.origin.rows }
+    requires stocked { book.fixed.stock ≡ N.origin.stock }
+    requires began { Begins N.origin book.history.journal }
     requires still { still_undone book.history.journal N.opened ≡ true }
     requires none { changes N.opened book ≡ [] }
     requires ticks { AreBegun N.opened (length book.history.journal) ticks.items }

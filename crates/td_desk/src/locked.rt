@@ -10,6 +10,7 @@ ghost use Rattle.td_wbread.specs.Views.{parts_of};
 ghost use Rattle.td_book.specs.Commands.{IsDone};
 ghost use Rattle.td_desk.specs.Calls.{FinishTold, IsOfDesk, arrival_receipt, command_receipt};
 ghost use Rattle.td_desk.specs.Changes.{changes, still_undone};
+ghost use Rattle.td_desk.specs.GoingOn.{Begins};
 ghost use Rattle.td_desk.specs.inner.Ticks.{AreBegun};
 
 use crate::named::Named;
@@ -38,7 +39,9 @@ pub(crate) struct Locked<'a, N: Named, C: Ledger> {
     pub(crate) shut: bool,
     of: PhantomData<N>,
     ghost named: { book.fixed.table ≡ N.table },
-    ghost origin: { book.history.opening ≡ N.origin },
+    ghost origin: { book.history.opening ≡ N.origin.rows },
+    ghost stocked: { book.fixed.stock ≡ N.origin.stock },
+    ghost began: { Begins N.origin book.history.journal },
     ghost still: { still_undone book.history.journal N.opened ≡ true },
     ghost counted: { length (changes N.opened book) ≡ ledger.total },
     ghost ticked: { AreBegun N.opened (length book.history.journal) ticks.items },
@@ -48,7 +51,9 @@ impl<'a, N: Named, C: Ledger> Locked<'a, N, C> {
     /// A book without changes, with a ledger of nothing.
     pub(crate) fn new(book: Book<'a>, ledger: ledger::Book<C>, ticks: Vec<Tick>) -> Locked<'a, N, C>
         requires named { book.fixed.table ≡ N.table }
-        requires origin { book.history.opening ≡ N.origin }
+        requires origin { book.history.opening ≡ N.origin.rows }
+        requires stocked { book.fixed.stock ≡ N.origin.stock }
+        requires began { Begins N.origin book.history.journal }
         requires still { still_undone book.history.journal N.opened ≡ true }
         requires book { changes N.opened book ≡ [] }
         requires ledger { ledger.total ≡ 0 }

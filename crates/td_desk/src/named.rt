@@ -1,28 +1,28 @@
 //! Names of boards.
 use std::marker::Brand;
 
-/// Names one board, the rows from which its book starts, and the marks of the journal with which it
-/// was opened. A function over a name is called with `Brand`, and the call picks what it names.
+/// Names one board, what its book starts from, and the marks of the journal with which it was
+/// opened. A function over a name is called with `Brand`, and the call picks what it names.
 pub trait Named {
     ghost use Rattle.std.specs.Prelude.{List};
     ghost use Rattle.atomic_table.specs.Seated.{TableId};
     ghost use Rattle.td_journal.specs.declared.entry.Mark.{Mark};
-    ghost use Rattle.td_rows.specs.Table.{Table};
+    ghost use Rattle.td_desk.specs.Names.{Origin};
 
     ghost table: { TableId };
 
-    ghost origin: { Table };
+    ghost origin: { Origin };
 
     ghost opened: { List Mark };
 }
 
 impl Named for Brand {
     ghost use Rattle.std.specs.Prelude.{[]};
-    ghost use Rattle.td_desk.specs.Names.{no_table};
+    ghost use Rattle.td_desk.specs.Names.{no_origin, no_table};
 
     ghost table = { no_table };
 
-    ghost origin = { [] };
+    ghost origin = { no_origin };
 
     ghost opened = { [] };
 }

@@ -14,5 +14,6 @@ returns g c =
     } in
     IfOk-weaker c.tell_rows.result _ _
     (λ now. rows_closed g.N.Named.origin c.args.told mid now book.history
-    c.closed-book.ensures.opening refl (omega (arith, c.closed-book.ensures.few)))
+    c.closed-book.ensures.opening c.closed-book.ensures.began refl
+    (omega (arith, c.closed-book.ensures.few)))
     c.tell_rows.ensures

@@ -1,9 +1,9 @@
 -- The seats of a new board are those of its builders, as many as the crew has.
-use Rattle.std.proofs.Common.{◌≤◌, ℕ, IfOk, length, string_bytes, subst, sym}
+use Rattle.std.proofs.Common.{◌≤◌, ℕ, IfOk, length, subst, sym}
 use Rattle.td_board.proofs.NewSeats.{desk_at, length-seats, seats_at}
 use Rattle.td_script.proofs.OpeningLaws.{fresh_supply}
 use Rattle.td_script.specs.Asking.{journal_asked, setting_asked}
-use Rattle.td_crew.specs.CrewText.{EndsWithRows}
+use Rattle.td_crew.specs.CrewText.{EndsFrom}
 use Rattle.td_crew.proofs.Endings.{told_ok}
 use Rattle.td_crew.proofs.crew.tell_script.Goals as goal
 
@@ -29,11 +29,10 @@ tell_named-requires-clause-fresh_supply g c κs within = fresh_supply _ _ c.in-O
 pub returns : goal.returns
 returns g c =
     let ends = subst (λ (n : ℕ).
-    IfOk c.tell_named.result (λ told.
-    EndsWithRows n c.args.asked.rows c.args.asked.script.now (string_bytes told.text) told.refused))
+    IfOk c.tell_named.result (EndsFrom n (journal_asked c.args.asked) c.args.asked.rows
+    c.args.asked.script.now))
     (length-seats c.in-Ok.board.table 1 c.args.crew.builders c.in-Ok.seats.items
-    c.in-Ok.ensures.ok.builder_seats)
-    c.tell_named.ensures.told in
+    c.in-Ok.ensures.ok.builder_seats) c.tell_named.ensures.told in
     record {
       told = told_ok c.args.crew.builders (setting_asked c.args.asked) (journal_asked c.args.asked)
           c.args.asked.rows c.args.asked.script.now c.tell_named.result c.tell_named.ensures.begun

@@ -1,5 +1,6 @@
 -- What `tell_script` calls its callees with, for their ghost members.
 use Rattle.std.specs.Prelude.{option_map}
+use Rattle.td_supply.specs.Supply.{stock_of}
 use Rattle.td_crew.specs.CrewText.{marks_begun}
 use Rattle.td_crew.proofs.crew.tell_script.Given as goal
 
@@ -7,7 +8,11 @@ abbrev pub ghosts-tell_named-N-Named : goal.ghosts-tell_named-N-Named
 ghosts-tell_named-N-Named g a =
     record {
       table = a.board.table;
-      origin = a.rows;
+      origin = record {
+        rows = a.rows;
+        stock = stock_of a.supply;
+        journal = option_map (λ s. s.now) a.lines.now.journal;
+      };
       opened = marks_begun (option_map (λ s. s.now) a.lines.now.journal);
     }
 

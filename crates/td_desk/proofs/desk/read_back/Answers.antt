@@ -1,5 +1,6 @@
 -- `read_back`: the clauses `begun`, `named` and `ticks`.
-use Rattle.std.proofs.Common.{subst, sym, arith}
+use Rattle.std.proofs.Common.{Some, subst, sym, arith}
+use Rattle.td_supply.specs.Supply.{stock_of}
 use Rattle.td_desk.specs.Marks.{marks_in}
 use Rattle.td_desk.specs.inner.Begun.{IsBegun}
 use Rattle.td_desk.proofs.Reopening.{begun_book, begun_named}
@@ -7,7 +8,12 @@ use Rattle.td_desk.proofs.desk.read_back.Goals as goal
 
 pub returns-in-Ok-with_ticks-clause-begun : goal.returns-in-Ok-with_ticks-clause-begun
 returns-in-Ok-with_ticks-clause-begun c =
-    subst (IsBegun c.args.seat.table c.args.rows (marks_in c.args.text.now))
+    subst (IsBegun c.args.seat.table
+    (record {
+      rows = c.args.rows;
+      stock = stock_of c.args.supply;
+      journal = Some c.args.text.now;
+    }) (marks_in c.args.text.now))
     (sym c.in-Ok-with_ticks.ensures.book)
     (begun_book _ c.args.text.now _ _ _ c.in-Ok.book (omega arith) c.in-Ok.ensures.found)
 

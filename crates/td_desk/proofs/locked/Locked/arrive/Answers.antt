@@ -1,11 +1,32 @@
 -- `Locked::arrive`: what its types keep and the clause `change`.
-use Rattle.std.proofs.Common.{rules, arith, ◌≤◌, ◌+◌, ◌∙◌, ap, sym, length, Ok}
+use Rattle.std.proofs.Common.{rules, arith, ◌≤◌, ◌+◌, ◌∙◌, ap, sym, length, Ok, Err}
 use Rattle.td_book.specs.Desk.{Fixed}
 use Rattle.td_desk.proofs.Counting.{one_more}
-use Rattle.td_desk.proofs.Growing.{arrive_grown}
+use Rattle.td_desk.proofs.Growing.{arrive_grown, arrive_kept}
+use Rattle.td_desk.proofs.GoingOn.{begins-on}
 use Rattle.td_desk.proofs.Origins.{arrive_origin}
 use Rattle.td_desk.specs.inner.Ticks.{AreBegun}
 use Rattle.td_desk.proofs.locked.Locked.arrive.Goals as goal
+
+pub invariant_of-self-in-Err-1 : goal.invariant_of-self-in-Err-1
+invariant_of-self-in-Err-1 g c =
+    let old = c.args.self.now in
+    let k = arrive_kept g.N.Named.opened c.args.key.now c.in-Err.refusal old.book c.arrive.new.self
+    old.still c.in-Err.ensures in
+    let room : length old.book.history.journal + 1 ≤ length c.add_ticks.new.ticks.items =
+    search rules in
+    let held : AreBegun g.N.Named.opened c.len.result c.add_ticks.new.ticks.items =
+    c.add_ticks.ensures.begun g.N.Named.opened (search rules) in
+    record {
+      named = ap (λ (f : Fixed). f.table) k.fixed ∙ old.named;
+      origin = arrive_origin c.args.key.now old.book c.arrive.new.self
+          (Err c.in-Err.refusal) c.in-Err.ensures ∙ old.origin;
+      stocked = ap (λ (f : Fixed). f.stock) k.fixed ∙ old.stocked;
+      began = begins-on g.N.Named.origin old.book.history.journal _ old.began k.on;
+      still = k.still;
+      counted = ap length k.same ∙ old.counted;
+      ticked = (held.0, let l = k.long in omega (arith, l, room));
+    }
 
 pub invariant_of-self-2 : goal.invariant_of-self-2
 invariant_of-self-2 g c =
@@ -20,6 +41,8 @@ invariant_of-self-2 g c =
       named = ap (λ (f : Fixed). f.table) k.fixed ∙ old.named;
       origin = arrive_origin c.args.key.now old.book c.arrive.new.self
           (Ok c.in-Ok.n) c.in-Ok.ensures ∙ old.origin;
+      stocked = ap (λ (f : Fixed). f.stock) k.fixed ∙ old.stocked;
+      began = begins-on g.N.Named.origin old.book.history.journal _ old.began k.on;
       still = k.still;
       counted = one_more _ _ _ k.one ∙ (ap (λ n. n + 1) old.counted ∙ sym c.add.ensures.total);
       ticked = (held.0, let l = k.long in omega (arith, l, room));

@@ -9,6 +9,7 @@ use Rattle.td_desk.specs.Calls.{skipped_keys}
 use Rattle.td_desk.specs.inner.Matching.{left_out}
 use Rattle.td_desk.proofs.Counting.{one_more}
 use Rattle.td_desk.proofs.Commanding.{told_keys, command_grown, command_kept}
+use Rattle.td_desk.proofs.GoingOn.{begins-on}
 use Rattle.td_desk.proofs.Origins.{command_origin}
 use Rattle.td_desk.specs.inner.Ticks.{AreBegun}
 use Rattle.td_desk.proofs.locked.Locked.command.Goals as goal
@@ -29,6 +30,8 @@ invariant_of-self-in-Err-command g c =
       named = ap (λ (f : Fixed). f.table) k.fixed ∙ old.named;
       origin = command_origin p old.book c.command.new.self (Err c.in-Err.refusal) c.in-Err.ensures
           ∙ old.origin;
+      stocked = ap (λ (f : Fixed). f.stock) k.fixed ∙ old.stocked;
+      began = begins-on g.N.Named.origin old.book.history.journal _ old.began k.on;
       still = k.still;
       counted = ap length k.same ∙ old.counted;
       ticked = (held.0, let l = k.long in omega (arith, l, room, same));
@@ -50,6 +53,8 @@ invariant_of-self-2 g c =
       named = ap (λ (f : Fixed). f.table) k.fixed ∙ old.named;
       origin = command_origin p old.book c.command.new.self (Ok c.in-Ok-command.taken)
           c.in-Ok-command.ensures ∙ old.origin;
+      stocked = ap (λ (f : Fixed). f.stock) k.fixed ∙ old.stocked;
+      began = begins-on g.N.Named.origin old.book.history.journal _ old.began k.on;
       still = k.still;
       counted = one_more _ _ _ k.one ∙ (ap (λ n. n + 1) old.counted ∙ sym c.add.ensures.total);
       ticked = (held.0, let l = k.long in omega (arith, l, room, same));

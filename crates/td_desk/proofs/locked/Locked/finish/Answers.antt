@@ -2,6 +2,7 @@
 use Rattle.std.proofs.Common.{rules, arith, ◌≤◌, ◌+◌, ◌∙◌, ap, length}
 use Rattle.td_book.specs.Desk.{Fixed}
 use Rattle.td_desk.proofs.Growing.{finish_kept}
+use Rattle.td_desk.proofs.GoingOn.{begins-on}
 use Rattle.td_desk.proofs.Origins.{finish_origin}
 use Rattle.td_desk.specs.inner.Ticks.{AreBegun}
 use Rattle.td_desk.proofs.locked.Locked.finish.Goals as goal
@@ -20,6 +21,8 @@ invariant_of-self-2 g c =
       named = ap (λ (f : Fixed). f.table) k.fixed ∙ old.named;
       origin = finish_origin v.hand c.args.outcome v c.finish.new.seat.builder old.book
           c.finish.new.self c.finish.result c.finish.ensures.outcome ∙ old.origin;
+      stocked = ap (λ (f : Fixed). f.stock) k.fixed ∙ old.stocked;
+      began = begins-on g.N.Named.origin old.book.history.journal _ old.began k.on;
       still = k.still;
       counted = ap length k.same ∙ old.counted;
       ticked = (held.0, let l = k.long in omega (arith, l, room));

@@ -2,6 +2,7 @@
 use Rattle.std.proofs.Common.{rules, arith, ◌≤◌, ◌+◌, ◌∙◌, ap, length}
 use Rattle.td_book.specs.Desk.{Fixed}
 use Rattle.td_desk.proofs.Growing.{start_kept}
+use Rattle.td_desk.proofs.GoingOn.{begins-on}
 use Rattle.td_desk.proofs.Origins.{start_origin}
 use Rattle.td_desk.specs.inner.Ticks.{AreBegun}
 use Rattle.td_desk.proofs.locked.Locked.start.Goals as goal
@@ -19,6 +20,8 @@ invariant_of-self-2 g c =
       named = ap (λ (f : Fixed). f.table) k.fixed ∙ old.named;
       origin = start_origin c.args.seat.now.builder.number c.args.seat.now.builder.hand old.book
           c.start.new.self c.start.result c.start.ensures ∙ old.origin;
+      stocked = ap (λ (f : Fixed). f.stock) k.fixed ∙ old.stocked;
+      began = begins-on g.N.Named.origin old.book.history.journal _ old.began k.on;
       still = k.still;
       counted = ap length k.same ∙ old.counted;
       ticked = (held.0, let l = k.long in omega (arith, l, room));

@@ -4,6 +4,7 @@ use Rattle.td_book.specs.Desk.{Fixed}
 use Rattle.td_book.specs.Undoing.{undo_stop}
 use Rattle.td_desk.proofs.Counting.{one_more}
 use Rattle.td_desk.proofs.Growing.{undo_grown, undo_kept}
+use Rattle.td_desk.proofs.GoingOn.{begins-on}
 use Rattle.td_desk.proofs.Origins.{undo_origin}
 use Rattle.td_desk.specs.inner.Ticks.{AreBegun}
 use Rattle.td_desk.proofs.locked.Locked.undo.Goals as goal
@@ -21,6 +22,8 @@ invariant_of-self-in-Err-1 g c =
       named = ap (λ (f : Fixed). f.table) k.fixed ∙ old.named;
       origin = undo_origin (undo_stop old.book.history.journal c.args.n) c.args.n old.book
           c.undo.new.self (Err c.in-Err.refusal) c.in-Err.ensures ∙ old.origin;
+      stocked = ap (λ (f : Fixed). f.stock) k.fixed ∙ old.stocked;
+      began = begins-on g.N.Named.origin old.book.history.journal _ old.began k.on;
       still = k.still;
       counted = ap length k.same ∙ old.counted;
       ticked = (held.0, let l = k.long in omega (arith, l, room));
@@ -39,6 +42,8 @@ invariant_of-self-2 g c =
       named = ap (λ (f : Fixed). f.table) k.fixed ∙ old.named;
       origin = undo_origin (undo_stop old.book.history.journal c.args.n) c.args.n old.book
           c.undo.new.self (Ok tt) c.in-Ok.ensures ∙ old.origin;
+      stocked = ap (λ (f : Fixed). f.stock) k.fixed ∙ old.stocked;
+      began = begins-on g.N.Named.origin old.book.history.journal _ old.began k.on;
       still = k.still;
       counted = one_more _ _ _ k.one ∙ (ap (λ n. n + 1) old.counted ∙ sym c.add.ensures.total);
       ticked = (held.0, let l = k.long in omega (arith, l, room));
