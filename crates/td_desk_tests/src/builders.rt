@@ -1,5 +1,5 @@
-//! Builders at a desk: what their work answers, and that they build at the same time. Expected
-//! answers are by hand from the tables of `docs/FORMATS.md`.
+//! Builders at a desk: what their work answers. Expected answers are by hand from the tables of
+//! `docs/FORMATS.md`.
 use crate::shop::{Trial, played};
 use std::alloc::{AllocError, Global};
 use std::test::Fail;
@@ -103,25 +103,5 @@ fn a_thousand_lines_are_used_one_by_one(rt: HostRuntime) -> Result<(), Fail> {
         builds.as_str()
     )?;
     assert_eq!(rt; found.as_str(), expected.as_str());
-    Ok(())
-}
-
-// Were one build to end before the other begins, its row would be Build-Attempted.
-#[test]
-fn two_builds_overlap(rt: HostRuntime) -> Result<(), Fail> {
-    let trial = Trial {
-        builders: 2,
-        opening: "foo/amd64 Needs-Build 0 0\nfoo/i386 Needs-Build 0 0\n",
-        outcomes: "",
-        script: "shut => true\ntogether => Some((Ok(1), Ok(1)))\n",
-    };
-    let found = played(&rt, rt.alloc(), &trial)?;
-    assert!(rt;
-        found.as_str().starts_with("closed\nreplayed\n"),
-        "{}",
-        found.as_str()
-    );
-    let rows = "\nfoo/amd64 Built 0 0\nfoo/i386 Built 0 0\n";
-    assert!(rt; found.as_str().ends_with(rows), "{}", found.as_str());
     Ok(())
 }

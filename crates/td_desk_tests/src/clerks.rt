@@ -1,6 +1,7 @@
 //! What clerks are told, what they read at the desk, and when it is closed. Expected answers are by
 //! hand from the tables of `docs/FORMATS.md`.
-use crate::shop::{INSTALLED, Trial, played};
+use crate::sample::INSTALLED;
+use crate::shop::{Trial, played};
 use std::test::Fail;
 
 const TWO_CLERKS: &str = "\

@@ -1,6 +1,7 @@
 //! Builders on threads of their own beside clerks, who command and undo by a fixed sequence of
 //! numbers.
-use crate::people::{Hired, People, TABLE};
+use crate::people::{Hired, People};
+use crate::sample::TABLE;
 use crate::tally::{Answer, Tally};
 use std::alloc::Global;
 use std::sync::Wait;

@@ -1,5 +1,6 @@
 //! Desks over journals that are read again. Expected answers are by hand from `docs/FORMATS.md`.
-use crate::shop::{INSTALLED, Trial, played_on};
+use crate::sample::INSTALLED;
+use crate::shop::{Trial, played_on};
 use std::test::Fail;
 
 const LEFT: &str = "transdesk journal 1\n1 + nmu foo/amd64\n2 + claim=1 foo/amd64\n";

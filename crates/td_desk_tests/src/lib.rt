@@ -1,15 +1,16 @@
-//! The tests of the desk, and of builders over it: what no clause says.
+//! The tests of the book, of the desk, and of builders over it: what no clause says.
 //!
-//! Start at `clerks`, then `builders`, `outcomes`, `journals` and `crews`. `shop` opens a desk and
-//! closes it, `script` reads the calls at it, `people` are the clerks and the builders who make
-//! them. They stand in a crate of their own, over public calls, so that neither the desk nor the
+//! Start at `book`, which are those of a book alone, then `clerks`, `builders`, `outcomes`,
+//! `journals` and `crews`. `sample` is what all begin with. `shop` opens a desk and closes it,
+//! `script` reads the calls at it, `people` are the clerks and the builders who make them. They
+//! stand in a crate of their own, over public calls, so that neither the book nor the desk nor the
 //! builders are proved a second time with their tests.
 #![tactic(auto)]
 
 #[cfg(test)]
-mod builders;
+mod book;
 #[cfg(test)]
-mod building;
+mod builders;
 #[cfg(test)]
 mod clerks;
 #[cfg(test)]
@@ -22,6 +23,8 @@ mod journals;
 mod outcomes;
 #[cfg(test)]
 mod people;
+#[cfg(test)]
+mod sample;
 #[cfg(test)]
 mod script;
 #[cfg(test)]

@@ -11,9 +11,6 @@ use td_builder::{Builds, Outcomes, WorkStop, work};
 use td_desk::{Clerk, Desk, Named};
 use td_rows::Outcome;
 
-// The architectures of the example archive.
-pub(crate) const TABLE: &str = "amd64 linux amd64\ni386 linux i386";
-
 // A builder's seat at the named board.
 #[derive(Drop)]
 pub(crate) struct Hired<N: Named> {
@@ -130,6 +127,16 @@ impl<N: Named, C: Ledger> People<N, C> {
             Some(first) => first.join(last).is_ok(),
             None => false,
         }
+    }
+
+    // What the first builder's work is answered, whose builds end as the outcome lines say.
+    pub(crate) fn work_alone<R: Wait>(
+        &mut self,
+        rt: &R,
+        desk: &Desk<'static, N, C>,
+    ) -> Option<Result<u64, WorkStop>> {
+        let first = self.builders.first_mut()?;
+        Some(first.work(rt, desk, &self.outcomes))
     }
 
     // The last clerk goes home, with the receipts.

@@ -1,8 +1,8 @@
 //! The reader of scripts: a line is a call at the desk, and behind `=>` what it is answered.
-use crate::building::{work_alone, work_together};
 use crate::crew::{Style, crew};
-use crate::people::{People, TABLE};
-use crate::spelling::{entry_line, on_one_line, receipts, row_line, shown, spelled};
+use crate::people::People;
+use crate::sample::TABLE;
+use crate::spelling::{entry_line, key, number, on_one_line, receipts, row_line, shown, spelled};
 use std::alloc::Global;
 use std::sync::Wait;
 use std::sync::ledger::Ledger;
@@ -11,18 +11,7 @@ use std::thread::Threads;
 use td_desk::{Clerk, Desk, Named};
 use td_journal::text;
 use td_relation::Archs;
-use td_rows::{Key, read_key};
 use td_wbread::read_command;
-
-fn number(digits: &str) -> u64 {
-    digits.parse::<u64>().unwrap_or(0)
-}
-
-// The key of `source/arch`.
-fn key(alloc: Global, text: &str) -> Result<Key, Fail> {
-    let (source, arch) = read_key(text).ok_or("a key")?;
-    Ok(Key::new(alloc, source, arch)?)
-}
 
 // What a command of a clerk is answered.
 fn command<N: Named, C: Ledger, R: Wait>(
@@ -161,8 +150,7 @@ fn build<N: Named + Send + Sync, C: Ledger + Send + Sync, R: Threads + Wait + Sy
 ) -> Result<String, Fail> {
     let alloc = people.alloc;
     match word {
-        "work" => shown(alloc, &work_alone(rt, desk, people)),
-        "together" => shown(alloc, &work_together(rt, desk, people)),
+        "work" => shown(alloc, &people.work_alone(rt, desk)),
         "beside" => crew(rt, desk, people, Style::Work, number(rest)),
         _ => crew(rt, desk, people, Style::Claim, number(rest)),
     }
@@ -178,7 +166,7 @@ fn answer<N: Named + Send + Sync, C: Ledger + Send + Sync, R: Threads + Wait + S
     let (word, rest) = line.split_once(' ').unwrap_or((line, ""));
     match word {
         "part" | "join" | "leave" | "give" | "receipts" => meet(people, word),
-        "work" | "together" | "beside" | "against" => build(rt, desk, people, word, rest),
+        "work" | "beside" | "against" => build(rt, desk, people, word, rest),
         "row_no" | "key_at" | "row" | "entry" | "journal" | "ready" => {
             ask(rt, people.alloc, desk, word, rest)
         }

@@ -1,16 +1,36 @@
-//! The texts of the desk's answers.
+//! The texts of what a book and a desk answer, and what the words of a script say.
 use std::alloc::{AllocError, Global};
 use std::fmt::Debug;
 use std::sync::ledger::Ledger;
 use std::test::Fail;
-use td_book::{CommandRefusal, Skips, Taken};
+use td_book::{CommandRefusal, Job, Skips, StartRefusal, Taken, WatchRefusal};
 use td_desk::{Clerk, Receipt};
 use td_journal::{Marked, put_entry_line};
-use td_rows::{Key, Row, put_row_line};
+use td_rows::{Key, Line, Outcome, Row, put_row_line, read_key};
+
+pub(crate) fn number(digits: &str) -> u64 {
+    digits.parse::<u64>().unwrap_or(0)
+}
+
+// The key of `source/arch`.
+pub(crate) fn key(alloc: Global, text: &str) -> Result<Key, Fail> {
+    let (source, arch) = read_key(text).ok_or("a key")?;
+    Ok(Key::new(alloc, source, arch)?)
+}
 
 // What an answer is called.
 pub(crate) fn shown(alloc: Global, answer: &impl Debug) -> Result<String, Fail> {
     Ok(format!(in alloc; "{answer:?}")?)
+}
+
+// The outcome of a word, or of `waits` and the relation.
+pub(crate) fn outcome(alloc: Global, text: &str) -> Result<Outcome, Fail> {
+    Ok(match text {
+        "built" => Outcome::Built,
+        "attempted" => Outcome::Attempted,
+        "givenback" => Outcome::GivenBack,
+        _ => Outcome::Waits(Line::new(alloc, text.strip_prefix("waits ").ok_or("an outcome")?)?),
+    })
 }
 
 // The keys and reasons of skips, each behind a comma.
@@ -35,6 +55,32 @@ pub(crate) fn spelled(alloc: Global, told: &Result<Taken, CommandRefusal>) -> Re
         Err(CommandRefusal::NoMemory) => out.push_str("NoMemory")?,
     }
     Ok(out)
+}
+
+pub(crate) fn spelled_watch(
+    alloc: Global,
+    told: &Result<(), WatchRefusal>,
+) -> Result<String, Fail> {
+    Ok(match told {
+        Ok(()) => format!(in alloc; "watched")?,
+        Err(WatchRefusal::NoSuchRow(key)) => format!(in alloc; "NoSuchRow {}", key.as_str())?,
+        Err(WatchRefusal::Twice(key)) => format!(in alloc; "Twice {}", key.as_str())?,
+        Err(WatchRefusal::BadGroup(key)) => format!(in alloc; "BadGroup {}", key.as_str())?,
+        Err(WatchRefusal::NoMemory) => format!(in alloc; "NoMemory")?,
+    })
+}
+
+pub(crate) fn spelled_job(alloc: Global, told: &Result<Job, StartRefusal>) -> Result<String, Fail> {
+    match told {
+        Ok(job) => Ok(format!(in alloc;
+            "{} {} {} ({})",
+            job.key.as_str(),
+            job.version.as_str(),
+            job.number.get(),
+            job.extra.as_str()
+        )?),
+        Err(refusal) => shown(alloc, refusal),
+    }
 }
 
 // An entry as its line.

@@ -1,6 +1,6 @@
 //! Rows that are watched under groups: their counts as the rows change, and what isn't watched. By
 //! hand from the rows of the example archive whose transition has two levels.
-use crate::script::journal_after;
+use super::script::journal_after;
 use std::test::Fail;
 
 // The rows of that archive.

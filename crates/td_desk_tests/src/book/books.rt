@@ -1,15 +1,8 @@
 //! That calls succeed with ample memory, and what they answer over the example archive. Expected
 //! answers are the project's own worked examples, by hand from the tables of `docs/FORMATS.md`.
-use crate::script::journal_after;
+use super::script::journal_after;
+use crate::sample::INSTALLED;
 use std::test::Fail;
-
-// The rows of the example archive.
-pub(crate) const INSTALLED: &str = "\
-bar/amd64 Installed 0 0
-bar/i386 Installed 0 0
-foo/amd64 Installed 0 0
-foo/i386 Installed 0 1
-";
 
 const TAKES: &str = "\
 nmu foo_1.2-3 . ANY . unstable . -m \"Rebuild against libbar2\" => entry 1

@@ -4,8 +4,9 @@ ghost use Rattle.td_board.specs.Knowledge.{new_desk};
 ghost use Rattle.td_core.specs.Phases.{NoneBuilt};
 ghost use Rattle.td_supply.specs.Supply.{opened, stock_of};
 
+use crate::sample::{TABLE, rows, supply};
 use crate::spelling::{
-    outcome, shown, spelled, spelled_entry, spelled_job, spelled_row, spelled_watch,
+    entry_line, key, outcome, row_line, shown, spelled, spelled_job, spelled_watch,
 };
 use std::alloc::Global;
 use std::test::Fail;
@@ -13,46 +14,9 @@ use td_board::{Board, BuilderSeat, DeskSeat, Hand};
 use td_book::Book;
 use td_journal::{EntryNo, text};
 use td_relation::Archs;
-use td_rows::{Key, Outcome, Rows, read_key, read_state};
-use td_supply::{Build, Supply};
-use td_version::Version;
+use td_rows::{Key, Outcome, Rows};
+use td_supply::Supply;
 use td_wbread::read_command;
-
-const TABLE: &str = "amd64 linux amd64\ni386 linux i386";
-
-// The rows of a state file that is short.
-fn rows(alloc: Global, text: &str) -> Result<Rows, Fail>
-    ensures { IfOk result (λ rows. NoneBuilt rows) }
-{
-    if text.len() > 1000 {
-        return Err(Fail::from("a longer text than the test reads"));
-    }
-    Ok(read_state(alloc, text)?)
-}
-
-// Two sources, and the development files of one of them on two architectures.
-fn supply(alloc: Global) -> Result<Supply<'static>, Fail>
-    ensures { IfOk result (λ supply. supply ≡ opened (stock_of supply)) }
-{
-    let base = Version::read("2.0-1")?;
-    let _read = Version::read("1.2-3")?;
-    let build = Some(Build {
-        source: "bar",
-        base,
-    });
-    let mut supply = Supply::new(alloc, Archs::read(alloc, TABLE)?);
-    supply.push_source("bar", "2.0-1")?;
-    supply.push_source("foo", "1.2-3")?;
-    supply.push("libbar-dev", Some(base), Some(0), build)?;
-    supply.push("libbar-dev", Some(base), Some(1), build)?;
-    Ok(supply)
-}
-
-// The key of `source/arch`.
-pub(crate) fn key(alloc: Global, text: &str) -> Result<Key, Fail> {
-    let (source, arch) = read_key(text).ok_or("a key")?;
-    Ok(Key::new(alloc, source, arch)?)
-}
 
 // A book over the example archive, with its board and three builders.
 #[derive(Drop)]
@@ -224,10 +188,10 @@ impl Desk {
 
     pub(crate) fn row(&self, text: &str) -> Result<String, Fail> {
         let key = key(self.alloc, text)?;
-        spelled_row(self.alloc, &key, self.book.row(&key))
+        Ok(row_line(self.alloc, &key, self.book.row(&key))?)
     }
 
     pub(crate) fn entry(&self, n: EntryNo) -> Result<String, Fail> {
-        spelled_entry(self.alloc, n, self.book.entry(n))
+        Ok(entry_line(self.alloc, self.book.entry(n), n)?)
     }
 }

@@ -1,13 +1,10 @@
 //! The reader of scripts: a line is a call, and behind `=>` what it is answered.
-use crate::desk::{Desk, key, open_desk};
+use super::desk::{Desk, open_desk};
+use crate::spelling::{key, number};
 use std::alloc::Global;
 use std::test::Fail;
 use td_journal::text;
 use td_rows::Key;
-
-fn number(digits: &str) -> u64 {
-    digits.parse::<u64>().unwrap_or(0)
-}
 
 // The rows of words `source/arch=group`, with their groups.
 fn groups(alloc: Global, words: &str) -> Result<Vec<(Key, usize)>, Fail> {

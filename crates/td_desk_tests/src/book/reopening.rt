@@ -1,7 +1,7 @@
 //! Books over journals that are read again: what builds are given back, and what texts are refused.
-use crate::books::INSTALLED;
-use crate::desk::refusal_of;
-use crate::script::journal_behind;
+use super::desk::refusal_of;
+use super::script::journal_behind;
+use crate::sample::INSTALLED;
 use std::test::Fail;
 
 const ONE_LEFT: &str = "transdesk journal 1\n1 + nmu foo/amd64\n2 + claim=1 foo/amd64\n";

@@ -1,0 +1,50 @@
+//! What the tests begin with: the rows of the example archive, and what its index offers.
+ghost use Rattle.std.specs.Prelude.{◌≡◌, IfOk};
+ghost use Rattle.td_core.specs.Phases.{NoneBuilt};
+ghost use Rattle.td_supply.specs.Supply.{opened, stock_of};
+
+use std::alloc::Global;
+use std::test::Fail;
+use td_relation::Archs;
+use td_rows::{Rows, read_state};
+use td_supply::{Build, Supply};
+use td_version::Version;
+
+// The architectures of the example archive.
+pub(crate) const TABLE: &str = "amd64 linux amd64\ni386 linux i386";
+
+// The rows of the example archive.
+pub(crate) const INSTALLED: &str = "\
+bar/amd64 Installed 0 0
+bar/i386 Installed 0 0
+foo/amd64 Installed 0 0
+foo/i386 Installed 0 1
+";
+
+// The rows of a state file that is short.
+pub(crate) fn rows(alloc: Global, text: &str) -> Result<Rows, Fail>
+    ensures { IfOk result (λ rows. NoneBuilt rows) }
+{
+    if text.len() > 1000 {
+        return Err(Fail::from("a longer text than the test reads"));
+    }
+    Ok(read_state(alloc, text)?)
+}
+
+// Two sources, and the development files of one of them on two architectures.
+pub(crate) fn supply(alloc: Global) -> Result<Supply<'static>, Fail>
+    ensures { IfOk result (λ supply. supply ≡ opened (stock_of supply)) }
+{
+    let base = Version::read("2.0-1")?;
+    let _read = Version::read("1.2-3")?;
+    let build = Some(Build {
+        source: "bar",
+        base,
+    });
+    let mut supply = Supply::new(alloc, Archs::read(alloc, TABLE)?);
+    supply.push_source("bar", "2.0-1")?;
+    supply.push_source("foo", "1.2-3")?;
+    supply.push("libbar-dev", Some(base), Some(0), build)?;
+    supply.push("libbar-dev", Some(base), Some(1), build)?;
+    Ok(supply)
+}
