@@ -35,14 +35,10 @@ fn a_check_is_asked_for_with_three_files(rt: HostRuntime) -> Result<(), Fail> {
         "transdesk check --sources s --archs a --packages=p",
     ] {
         match read_words(rt.alloc(), &words(rt.alloc(), line)?)?.request {
-            Request::Check {
-                archs,
-                packages,
-                sources,
-            } => {
-                assert_eq!(rt; archs.as_str(), "a", "{line}");
-                assert_eq!(rt; packages.as_str(), "p", "{line}");
-                assert_eq!(rt; sources.as_str(), "s", "{line}");
+            Request::Check(files) => {
+                assert_eq!(rt; files.archs.as_str(), "a", "{line}");
+                assert_eq!(rt; files.packages.as_str(), "p", "{line}");
+                assert_eq!(rt; files.sources.as_str(), "s", "{line}");
             }
             _ => return Err(Fail::from("a check is due")),
         }
@@ -70,15 +66,14 @@ fn a_report_is_asked_for_with_four_files_or_more(rt: HostRuntime) -> Result<(), 
         ),
     ] {
         match read_words(rt.alloc(), &words(rt.alloc(), line)?)?.request {
-            Request::Track {
-                tracker,
-                state,
-                chunk,
-                ..
-            } => {
-                assert_eq!(rt; tracker.as_str(), "t", "{line}");
-                assert_eq!(rt; state.as_ref().map(|state| state.as_str()), rows, "{line}");
-                assert_eq!(rt; chunk, count, "{line}");
+            Request::Track(track) => {
+                assert_eq!(rt; track.tracker.as_str(), "t", "{line}");
+                assert_eq!(rt;
+                    track.state.as_ref().map(|state| state.as_str()),
+                    rows,
+                    "{line}"
+                );
+                assert_eq!(rt; track.chunk, count, "{line}");
             }
             _ => return Err(Fail::from("a report is due")),
         }
@@ -90,15 +85,10 @@ fn a_report_is_asked_for_with_four_files_or_more(rt: HostRuntime) -> Result<(), 
 fn waves_are_asked_for_with_four_files(rt: HostRuntime) -> Result<(), Fail> {
     let line = "transdesk waves --archs a --packages p --sources s --tracker t";
     match read_words(rt.alloc(), &words(rt.alloc(), line)?)?.request {
-        Request::Waves {
-            archs,
-            packages,
-            sources,
-            tracker,
-        } => {
-            assert_eq!(rt; archs.as_str(), "a");
-            assert_eq!(rt; packages.as_str(), "p");
-            assert_eq!(rt; sources.as_str(), "s");
+        Request::Waves { files, tracker } => {
+            assert_eq!(rt; files.archs.as_str(), "a");
+            assert_eq!(rt; files.packages.as_str(), "p");
+            assert_eq!(rt; files.sources.as_str(), "s");
             assert_eq!(rt; tracker.as_str(), "t");
         }
         _ => return Err(Fail::from("waves are due")),
@@ -108,26 +98,20 @@ fn waves_are_asked_for_with_four_files(rt: HostRuntime) -> Result<(), Fail> {
 
 // What `run` was given, in the order of its help; `-` where nothing was.
 fn run_of(alloc: Global, line: &str) -> Result<String, WordsFault> {
-    let Request::Run {
-        archs,
-        packages,
-        sources,
-        state,
-        tracker,
-        suite,
-        builders,
-        outcomes,
-        journal,
-    } = read_words(alloc, &words(alloc, line)?)?.request
-    else {
+    let Request::Run(run) = read_words(alloc, &words(alloc, line)?)?.request else {
         return Ok(String::new(alloc));
     };
     let text = format!(in alloc;
-        "{archs} {packages} {sources} {} {} {suite} {builders} {} {}",
-        or_dash(&state),
-        or_dash(&tracker),
-        or_dash(&outcomes),
-        or_dash(&journal)
+        "{} {} {} {} {} {} {} {} {}",
+        run.files.archs,
+        run.files.packages,
+        run.files.sources,
+        or_dash(&run.state),
+        or_dash(&run.tracker),
+        run.suite,
+        run.builders,
+        or_dash(&run.outcomes),
+        or_dash(&run.journal)
     )?;
     Ok(text)
 }

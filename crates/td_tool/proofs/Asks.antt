@@ -3,6 +3,7 @@ use Rattle.std.proofs.Common.{◌≡◌, ℕ, Bool, true, false, List, [], Optio
 use Rattle.std.proofs.Common.{IfErr, IsOkAnd, MatchResult, None, String, Vec, map, string_bytes}
 use Rattle.std.proofs.Common.{inl, inr, refl, sym, ap, subst, ◌∙◌}
 use Rattle.std.specs.declared.alloc.Global.{Global}
+use Rattle.std.specs.Io.KnownBytes.{Keeps}
 use Rattle.td_bytes.specs.Pieces.{AppendsPrefix}
 use Rattle.td_bytes.proofs.Prefixes.{AppendsPrefix-first}
 use Rattle.td_bytes.specs.declared.text.TextFault.{TextFault}
@@ -14,17 +15,18 @@ use Rattle.td_words.specs.declared.request.Request.{Request}
 use Rattle.td_words.specs.declared.request.Request.TheVariants.{Simulate, Check, Track, Waves, Run}
 use Rattle.td_words.specs.declared.request.WordsFault.{WordsFault}
 use Rattle.td_words.specs.declared.request.WordsFault.TheVariants as words_fault
+use Rattle.td_tool.specs.declared.ending.Ending.{Ending}
 use Rattle.td_tool.specs.declared.ending.Ending.TheVariants.{NoMemory}
 use Rattle.td_tool.specs.declared.role.Role.{Role}
-use Rattle.td_tool.specs.Checks.{Files, Checks, files_of}
+use Rattle.td_tool.specs.Checks.{Checks, files_of}
 use Rattle.td_tool.specs.Ending.{line_of}
 use Rattle.td_tool.specs.Ends.{Ends}
 use Rattle.td_tool.specs.Explained.{SaysOf, archive_paths, known_at, known_input, run_paths}
 use Rattle.td_tool.specs.Explained.{track_paths, waves_paths}
 use Rattle.td_tool.specs.Program.{AsksForOne, IsTold, OnlyIfAsked, RanFor, RanOne, are_explained}
 use Rattle.td_tool.specs.Program.{files_asked}
-use Rattle.td_tool.specs.Runs.{EndsRun, RunFiles, run_files_asked}
-use Rattle.td_tool.specs.Tracks.{EndsSo, Saying, TrackFiles, track_files}
+use Rattle.td_tool.specs.Runs.{EndsRun, run_files_asked}
+use Rattle.td_tool.specs.Tracks.{EndsSo, track_files}
 use Rattle.td_tool.specs.Ran.{Ran}
 use Rattle.td_tool.proofs.Stops.{kept_only}
 use Rattle.td_tool.proofs.SureRuns.{play_only}
@@ -42,35 +44,18 @@ of_given AsksFor Done words given lent are same answered asks =
     (answered (subst (λ l. AsksFor (map string_bytes l)) (sym same) here))
 
 -- what holds of some paths holds of the same ones
-pub holds_of_three : (P : List ℕ → List ℕ → List ℕ → Type 0) (a b p q s t : List ℕ) → a ≡ b → p ≡ q
+holds_of_three : (P : List ℕ → List ℕ → List ℕ → Type 0) (a b p q s t : List ℕ) → a ≡ b → p ≡ q
     → s ≡ t → P a p s → P b q t
 holds_of_three P a b p q s t first second third holds =
     let one = subst (λ x. P x p s) first holds in
     let two = subst (λ x. P b x s) second one in
     subst (λ x. P b q x) third two
 
-pub holds_of_five : (P : List ℕ → List ℕ → List ℕ → Option (List ℕ) → List ℕ → Type 0)
-    (a b p q s t : List ℕ) (state given : Option (List ℕ)) (k l : List ℕ)
-    → a ≡ b → p ≡ q → s ≡ t → state ≡ given → k ≡ l → P a p s state k → P b q t given l
-holds_of_five P a b p q s t state given k l first second third fourth fifth holds =
-    let three = holds_of_three (λ x y z. P x y z state k) a b p q s t first second third holds in
-    let four = subst (λ x. P b q t x k) fourth three in
-    subst (λ x. P b q t given x) fifth four
-
-pub holds_of_eight : (P : List ℕ → List ℕ → List ℕ → Option (List ℕ) → Option (List ℕ)
-    → Option (List ℕ) → Option (List ℕ) → List ℕ → Type 0) (a b p q s t : List ℕ)
-    (st ts tr rt ou uo jo oj : Option (List ℕ)) (k l : List ℕ)
-    → a ≡ b → p ≡ q → s ≡ t → st ≡ ts → tr ≡ rt → ou ≡ uo → jo ≡ oj → k ≡ l → P a p s st tr ou jo k
-    → P b q t ts rt uo oj l
-holds_of_eight P a b p q s t st ts tr rt ou uo jo oj k l first second third fourth fifth sixth
-    seventh eighth holds =
-    let three =
-    holds_of_three (λ x y z. P x y z st tr ou jo k) a b p q s t first second third holds in
-    let four = subst (λ x. P b q t x tr ou jo k) fourth three in
-    let five = subst (λ x. P b q t ts x ou jo k) fifth four in
-    let six = subst (λ x. P b q t ts rt x jo k) sixth five in
-    let seven = subst (λ x. P b q t ts rt uo x k) seventh six in
-    subst (λ x. P b q t ts rt uo oj x) eighth seven
+holds_of_four : (P : List ℕ → List ℕ → List ℕ → List ℕ → Type 0) (a b p q s t k l : List ℕ)
+    → a ≡ b → p ≡ q → s ≡ t → k ≡ l → P a p s k → P b q t l
+holds_of_four P a b p q s t k l first second third fourth holds =
+    let three = holds_of_three (λ x y z. P x y z k) a b p q s t first second third holds in
+    subst (λ x. P b q t x) fourth three
 
 -- want of memory may end each, and is not explained
 memory_said : (explained : Bool) (texts : Role → Option (List ℕ)) (before said : Option (List ℕ))
@@ -78,57 +63,6 @@ memory_said : (explained : Bool) (texts : Role → Option (List ℕ)) (before sa
 memory_said false texts before said line = line
 memory_said true texts before said line =
     ([], tt, AppendsPrefix-first before said (line_of NoMemory) [] line)
-
-check_lacks : (files : Files) (explained : Bool) (texts : Role → Option (List ℕ))
-    (old new before said : Option (List ℕ)) (status : ℕ)
-    → IsTold words_fault.NoMemory old new before said status
-    → Ran (Checks files old new) explained texts before said status
-check_lacks files explained texts old new before said status told =
-    record {
-      ending = NoMemory;
-      answered = told.tells.answered;
-      ends = record { says = told.kept; only = λ c known. told.kept };
-      says = memory_said explained texts before said told.tells.line;
-    }
-
-track_lacks : (Says : Saying) (files : TrackFiles) (explained : Bool)
-    (texts : Role → Option (List ℕ)) (old new before said : Option (List ℕ)) (status : ℕ)
-    → IsTold words_fault.NoMemory old new before said status
-    → Ran (EndsSo Says files old new) explained texts before said status
-track_lacks Says files explained texts old new before said status told =
-    record {
-      ending = NoMemory;
-      answered = told.tells.answered;
-      ends = record { says = inl (refl, told.kept); only = λ x known readable. told.kept };
-      says = memory_said explained texts before said told.tells.line;
-    }
-
-run_lacks : (files : RunFiles) (suite : List ℕ) (explained : Bool) (texts : Role → Option (List ℕ))
-    (known old new before said : Option (List ℕ)) (status : ℕ)
-    → IsTold words_fault.NoMemory old new before said status
-    → Ran (EndsRun files suite known old new) explained texts before said status
-run_lacks files suite explained texts known old new before said status told =
-    record {
-      ending = NoMemory;
-      answered = told.tells.answered;
-      ends = record {
-        says = inl (refl, told.kept);
-        only = λ x files-are. play_only files.builders x suite known NoMemory tt;
-      };
-      says = memory_said explained texts before said told.tells.line;
-    }
-
-simulation_lacks : (explained : Bool) (texts : Role → Option (List ℕ))
-    (known old new before said : Option (List ℕ)) (status : ℕ)
-    → IsTold words_fault.NoMemory old new before said status
-    → Ran (Ends known old new) explained texts before said status
-simulation_lacks explained texts known old new before said status told =
-    record {
-      ending = NoMemory;
-      answered = told.tells.answered;
-      ends = record { says = told.kept; only = kept_only known old new told.kept };
-      says = memory_said explained texts before said told.tells.line;
-    }
 
 module _ (words : List (List ℕ)) (known : Option (List ℕ)) (bytes : List ℕ → Option (List ℕ))
     (can_fail : List ℕ → TextFault → Bool) (old new before said : Option (List ℕ))
@@ -144,16 +78,36 @@ module _ (words : List (List ℕ)) (known : Option (List ℕ)) (bytes : List ℕ
   abbrev HasFlag : Bool → Result Call WordsFault → Type 0
   HasFlag explained r = IfOk r (λ c. c.explained ≡ explained)
 
+  -- what was asked for has run, and is explained where that was asked; or memory was wanting for
+  -- the
+  -- words
+  answered : (Did : Ending → Type 0) (texts : Role → Option (List ℕ)) (Is : Request → Type 0)
+      (r : Result Call WordsFault) (explained : Bool)
+      → ((q : Request) (b : Bool)
+      → RanFor q b known bytes can_fail old new before said status → Is q
+      → Ran Did b texts before said status)
+      → (Keeps old new → Did NoMemory) → HasRun r → WasTold r → HasFlag explained r
+      → MatchResult r (λ c. Is c.request) (λ e. e ≡ words_fault.NoMemory)
+      → Ran Did explained texts before said status
+  answered Did texts Is (Ok c) explained runs lacks ran told flag is =
+      subst (λ b. Ran Did b texts before said status) flag (runs c.request c.explained ran is)
+  answered Did texts Is (Err f) explained runs lacks ran told flag is =
+      let lacking = subst (λ x. IsTold x old new before said status) is told in
+      record {
+        ending = NoMemory;
+        answered = lacking.tells.answered;
+        ends = lacks lacking.kept;
+        says = memory_said explained texts before said lacking.tells.line;
+      }
+
   pub simulated : (r : Result Call WordsFault) (explained : Bool) → HasRun r → WasTold r
       → HasFlag explained r
       → MatchResult r (λ c. c.request ≡ Simulate) (λ e. e ≡ words_fault.NoMemory)
       → Ran (Ends known old new) explained (known_input known) before said status
-  simulated (Ok c) explained ran told flag is =
-      subst (λ b. Ran (Ends known old new) b (known_input known) before said status) flag
-      (subst (λ q. RanFor q c.explained known bytes can_fail old new before said status) is ran)
-  simulated (Err f) explained ran told flag is =
-      simulation_lacks explained (known_input known) known old new before said status
-      (subst (λ x. IsTold x old new before said status) is told)
+  simulated r explained =
+      answered (Ends known old new) (known_input known) (λ q. q ≡ Simulate) r explained
+      (λ q b ran is. subst (λ x. RanFor x b known bytes can_fail old new before said status) is ran)
+      (λ kept. record { says = kept; only = kept_only known old new kept })
 
   check_request : (q : Request) (explained : Bool) (archs packages sources : List ℕ)
       → RanFor q explained known bytes can_fail old new before said status
@@ -161,15 +115,15 @@ module _ (words : List (List ℕ)) (known : Option (List ℕ)) (bytes : List ℕ
       → Ran (Checks (files_of bytes can_fail archs packages sources) old new) explained
       (known_at bytes (archive_paths archs packages sources)) before said status
   check_request Simulate explained archs packages sources ran is = absurd is
-  check_request (Track a p s t state chunk) explained archs packages sources ran is = absurd is
-  check_request (Waves a p s t) explained archs packages sources ran is = absurd is
-  check_request (Run a p s state tracker suite builders outcomes journal) explained archs packages
-      sources ran is = absurd is
-  check_request (Check a p s) explained archs packages sources ran is =
+  check_request (Track r) explained archs packages sources ran is = absurd is
+  check_request (Waves p t) explained archs packages sources ran is = absurd is
+  check_request (Run r) explained archs packages sources ran is = absurd is
+  check_request (Check p) explained archs packages sources ran is =
       holds_of_three (λ x y z.
       Ran (Checks (files_of bytes can_fail x y z) old new) explained
-      (known_at bytes (archive_paths x y z)) before said status) (string_bytes a) archs
-      (string_bytes p) packages (string_bytes s) sources is.0 is.1 is.2 ran
+      (known_at bytes (archive_paths x y z)) before said status) (string_bytes p.archs) archs
+      (string_bytes p.packages) packages (string_bytes p.sources) sources is.archs is.packages
+      is.sources ran
 
   pub checked : (r : Result Call WordsFault) (explained : Bool) (archs packages sources : List ℕ)
       → HasRun r → WasTold r → HasFlag explained r
@@ -177,25 +131,22 @@ module _ (words : List (List ℕ)) (known : Option (List ℕ)) (bytes : List ℕ
       (λ e. e ≡ words_fault.NoMemory)
       → Ran (Checks (files_of bytes can_fail archs packages sources) old new)
       explained (known_at bytes (archive_paths archs packages sources)) before said status
-  checked (Ok c) explained archs packages sources ran told flag is =
-      subst (λ b. Ran (Checks (files_of bytes can_fail archs packages sources) old new) b
-      (known_at bytes (archive_paths archs packages sources)) before said status) flag
-      (check_request c.request c.explained archs packages sources ran is)
-  checked (Err f) explained archs packages sources ran told flag is =
-      check_lacks (files_of bytes can_fail archs packages sources) explained
-      (known_at bytes (archive_paths archs packages sources)) old new before said status
-      (subst (λ x. IsTold x old new before said status) is told)
+  checked r explained archs packages sources =
+      answered (Checks (files_of bytes can_fail archs packages sources) old new)
+      (known_at bytes (archive_paths archs packages sources)) (IsCheckOf archs packages sources) r
+      explained (λ q b. check_request q b archs packages sources)
+      (λ kept. record { says = kept; only = λ c is. kept })
 
   track_request : (q : Request) (explained : Bool) (w : TrackWords)
       → RanFor q explained known bytes can_fail old new before said status → IsTrackOf w q
       → Ran (EndsSo IsReport (files_asked bytes can_fail w) old new) explained
       (known_at bytes (track_paths w)) before said status
   track_request Simulate explained w ran is = absurd is
-  track_request (Check a p s) explained w ran is = absurd is
-  track_request (Waves a p s t) explained w ran is = absurd is
-  track_request (Run a p s state tracker suite builders outcomes journal) explained w ran is =
+  track_request (Check p) explained w ran is = absurd is
+  track_request (Waves p t) explained w ran is = absurd is
+  track_request (Run r) explained w ran is =
       absurd is
-  track_request (Track a p s t state chunk) explained w ran is =
+  track_request (Track r) explained w ran is =
       subst (λ x. Ran (EndsSo IsReport (files_asked bytes can_fail x) old new) explained
       (known_at bytes (track_paths x)) before said status) is ran
 
@@ -204,13 +155,10 @@ module _ (words : List (List ℕ)) (known : Option (List ℕ)) (bytes : List ℕ
       → MatchResult r (λ c. IsTrackOf w c.request) (λ e. e ≡ words_fault.NoMemory)
       → Ran (EndsSo IsReport (files_asked bytes can_fail w) old new)
       explained (known_at bytes (track_paths w)) before said status
-  tracked (Ok c) explained w ran told flag is =
-      subst (λ b. Ran (EndsSo IsReport (files_asked bytes can_fail w) old new) b
-      (known_at bytes (track_paths w)) before said status) flag
-      (track_request c.request c.explained w ran is)
-  tracked (Err f) explained w ran told flag is =
-      track_lacks IsReport (files_asked bytes can_fail w) explained (known_at bytes (track_paths w))
-      old new before said status (subst (λ x. IsTold x old new before said status) is told)
+  tracked r explained w =
+      answered (EndsSo IsReport (files_asked bytes can_fail w) old new)
+      (known_at bytes (track_paths w)) (IsTrackOf w) r explained (λ q b. track_request q b w)
+      (λ kept. record { says = inl (refl, kept); only = λ x are readable. kept })
 
   waves_request : (q : Request) (explained : Bool) (archs packages sources tracker : List ℕ)
       → RanFor q explained known bytes can_fail old new before said status
@@ -219,17 +167,16 @@ module _ (words : List (List ℕ)) (known : Option (List ℕ)) (bytes : List ℕ
       new) explained (known_at bytes (waves_paths archs packages sources tracker)) before said
       status
   waves_request Simulate explained archs packages sources tracker ran is = absurd is
-  waves_request (Check a p s) explained archs packages sources tracker ran is = absurd is
-  waves_request (Track a p s t state chunk) explained archs packages sources tracker ran is =
+  waves_request (Check p) explained archs packages sources tracker ran is = absurd is
+  waves_request (Track r) explained archs packages sources tracker ran is =
       absurd is
-  waves_request (Run a p s state file suite builders outcomes journal) explained archs packages
-      sources tracker ran is = absurd is
-  waves_request (Waves a p s t) explained archs packages sources tracker ran is =
-      holds_of_five (λ x y z state k.
-      Ran (EndsSo IsWaves (track_files bytes can_fail x y z state k) old new) explained
+  waves_request (Run r) explained archs packages sources tracker ran is = absurd is
+  waves_request (Waves p t) explained archs packages sources tracker ran is =
+      holds_of_four (λ x y z k.
+      Ran (EndsSo IsWaves (track_files bytes can_fail x y z None k) old new) explained
       (known_at bytes (waves_paths x y z k)) before said status)
-      (string_bytes a) archs (string_bytes p) packages (string_bytes s) sources None None
-      (string_bytes t) tracker is.0 is.1 is.2 refl is.3 ran
+      (string_bytes p.archs) archs (string_bytes p.packages) packages (string_bytes p.sources)
+      sources (string_bytes t) tracker is.0.archs is.0.packages is.0.sources is.1 ran
 
   pub waved : (r : Result Call WordsFault) (explained : Bool)
       (archs packages sources tracker : List ℕ) → HasRun r → WasTold r → HasFlag explained r
@@ -238,25 +185,23 @@ module _ (words : List (List ℕ)) (known : Option (List ℕ)) (bytes : List ℕ
       → Ran (EndsSo IsWaves (track_files bytes can_fail archs packages sources None tracker)
       old new) explained (known_at bytes (waves_paths archs packages sources tracker)) before said
       status
-  waved (Ok c) explained archs packages sources tracker ran told flag is =
-      subst (λ b. Ran (EndsSo IsWaves
-      (track_files bytes can_fail archs packages sources None tracker) old new) b
-      (known_at bytes (waves_paths archs packages sources tracker)) before said status) flag
-      (waves_request c.request c.explained archs packages sources tracker ran is)
-  waved (Err f) explained archs packages sources tracker ran told flag is =
-      track_lacks IsWaves (track_files bytes can_fail archs packages sources None tracker) explained
-      (known_at bytes (waves_paths archs packages sources tracker)) old new before said status
-      (subst (λ x. IsTold x old new before said status) is told)
+  waved r explained archs packages sources tracker =
+      answered
+      (EndsSo IsWaves (track_files bytes can_fail archs packages sources None tracker) old new)
+      (known_at bytes (waves_paths archs packages sources tracker))
+      (AreWavesOf archs packages sources tracker) r explained
+      (λ q b. waves_request q b archs packages sources tracker)
+      (λ kept. record { says = inl (refl, kept); only = λ x are readable. kept })
 
   run_request : (q : Request) (explained : Bool) (w : RunWords)
       → RanFor q explained known bytes can_fail old new before said status → IsRunOf w q
       → Ran (EndsRun (run_files_asked bytes can_fail w) w.suite known old new) explained
       (known_at bytes (run_paths w)) before said status
   run_request Simulate explained w ran is = absurd is
-  run_request (Check a p s) explained w ran is = absurd is
-  run_request (Track a p s t state chunk) explained w ran is = absurd is
-  run_request (Waves a p s t) explained w ran is = absurd is
-  run_request (Run a p s state tracker suite builders outcomes journal) explained w ran is =
+  run_request (Check p) explained w ran is = absurd is
+  run_request (Track r) explained w ran is = absurd is
+  run_request (Waves p t) explained w ran is = absurd is
+  run_request (Run r) explained w ran is =
       subst (λ x. Ran (EndsRun (run_files_asked bytes can_fail x) x.suite known old new) explained
       (known_at bytes (run_paths x)) before said status) is ran
 
@@ -265,25 +210,25 @@ module _ (words : List (List ℕ)) (known : Option (List ℕ)) (bytes : List ℕ
       → MatchResult r (λ c. IsRunOf w c.request) (λ e. e ≡ words_fault.NoMemory)
       → Ran (EndsRun (run_files_asked bytes can_fail w) w.suite known old new)
       explained (known_at bytes (run_paths w)) before said status
-  ran_script (Ok c) explained w ran told flag is =
-      subst (λ b. Ran (EndsRun (run_files_asked bytes can_fail w) w.suite known old new) b
-      (known_at bytes (run_paths w)) before said status) flag
-      (run_request c.request c.explained w ran is)
-  ran_script (Err f) explained w ran told flag is =
-      run_lacks (run_files_asked bytes can_fail w) w.suite explained (known_at bytes (run_paths w))
-      known old new before said status (subst (λ x. IsTold x old new before said status) is told)
+  ran_script r explained w =
+      answered (EndsRun (run_files_asked bytes can_fail w) w.suite known old new)
+      (known_at bytes (run_paths w)) (IsRunOf w) r explained (λ q b. run_request q b w)
+      (λ kept. record {
+        says = inl (refl, kept);
+        only = λ x are. play_only w.builders x w.suite known NoMemory tt;
+      })
 
   asked_one : (q : Request) (explained : Bool)
       → RanFor q explained known bytes can_fail old new before said status → Asks words q
       → AsksForOne words × RanOne explained known bytes can_fail old new before said status
   asked_one Simulate explained ran asks = (inl asks, inl ran)
-  asked_one (Check a p s) explained ran asks =
-      (inr (inl asks.0), inr (inl (string_bytes a, string_bytes p, string_bytes s, ran)))
-  asked_one (Track a p s t state chunk) explained ran asks =
+  asked_one (Check p) explained ran asks =
+      (inr (inl asks.0), inr (inl (_, _, _, ran)))
+  asked_one (Track r) explained ran asks =
       (inr (inr (inl asks.0)), inr (inr (inl (_, _, inl ran))))
-  asked_one (Waves a p s t) explained ran asks =
+  asked_one (Waves p t) explained ran asks =
       (inr (inr (inr (inl asks.0))), inr (inr (inl (_, _, inr ran))))
-  asked_one (Run a p s state tracker suite builders outcomes journal) explained ran asks =
+  asked_one (Run r) explained ran asks =
       (inr (inr (inr (inr asks.0))), inr (inr (inr (_, _, _, ran))))
 
   pub only_asked : (r : Result Call WordsFault) → HasRun r → WasTold r

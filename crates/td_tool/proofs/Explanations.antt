@@ -9,8 +9,7 @@ use Rattle.td_bytes.proofs.Prefixes.{AppendsPrefix-first, AppendsPrefix-second}
 use Rattle.td_explain.specs.declared.spot.Place.{Place}
 use Rattle.td_explain.specs.declared.spot.Place.TheVariants.{Whole, Line, Stanza, Byte}
 use Rattle.td_tool.specs.Ending.{line_of}
-use Rattle.td_tool.specs.Explained.{Explains, IsKept, IsLookedAt, IsSaidOf, IsTextFor}
-use Rattle.td_tool.specs.Explained.{SaysOf, explanation_of}
+use Rattle.td_tool.specs.Explained.{Explains, IsKept, IsLookedAt, IsTextFor, SaysOf, explanation_of}
 use Rattle.td_tool.specs.Places.{place_of}
 use Rattle.td_tool.specs.declared.role.Role.{Role}
 use Rattle.td_tool.specs.declared.ending.Ended.{Ended}
@@ -56,6 +55,12 @@ pub wrote_front : {T E : Type 0} (before said : Option (List ℕ)) (bytes : List
     → AppendsPrefix before said bytes
 wrote_front before said bytes (Ok x) whole front = (bytes, [], sym (append-nil bytes), whole)
 wrote_front before said bytes (Err e) whole front = front
+
+-- a front of the explanation is said
+abbrev pub IsSaidOf : (Role → Option (List ℕ)) → Ending → Option (List ℕ) → Option (List ℕ) → Type 0
+IsSaidOf known ending said_before said =
+    (text : List ℕ) × IsTextFor ending known text
+    × AppendsPrefix said_before said (explanation_of ending text)
 
 -- where there is no line nothing is said
 pub nothing_said : (known : Role → Option (List ℕ)) (ending : Ending) (before : Option (List ℕ))

@@ -1,7 +1,6 @@
 -- Checks end as they say by what was read of the files.
-use Rattle.std.proofs.Common.{◌≡◌, ℕ, List, Option, Some, IfSome, Result}
-use Rattle.std.proofs.Common.{Ok, Err, IfOk, IfErr, string_bytes, inl, inr}
-use Rattle.std.proofs.Common.{sym, subst}
+use Rattle.std.proofs.Common.{◌≡◌, ℕ, List, Option, Some, IfSome, Result, Ok, Err, IfOk, IfErr}
+use Rattle.std.proofs.Common.{string_bytes, inl, inr, sym, subst}
 use Rattle.std.specs.Io.KnownBytes.{Keeps}
 use Rattle.td_bytes.specs.declared.text.TextFault.{TextFault}
 use Rattle.td_bytes.specs.declared.text.TextFault.TheVariants as text
@@ -29,9 +28,8 @@ use Rattle.td_tool.specs.declared.ending.Ending.TheVariants.{Done, Refused, BadI
 use Rattle.td_tool.specs.declared.ending.Ending.TheVariants.{CannotRead, CannotWrite}
 use Rattle.td_tool.specs.Ending.{ending_of_file}
 use Rattle.td_tool.specs.Counted.{IsArchiveOf}
-use Rattle.td_tool.specs.Checks.{Files, IsTextOf, IsArchiveIn, IsKnownArchive, IsNoText}
-use Rattle.td_tool.specs.Checks.{HasFailed, HasFileFault, CheckSays, Checks}
-use Rattle.td_tool.specs.Checks.{HasArchiveFault, HasTableFault}
+use Rattle.td_tool.specs.Checks.{Files, IsTextOf, IsArchiveIn, IsKnownArchive, IsNoText, HasFailed}
+use Rattle.td_tool.specs.Checks.{HasFileFault, CheckSays, Checks, HasArchiveFault, HasTableFault}
 use Rattle.td_tool.specs.CheckInside.{AreTextsIn, HasFailedIn, IsNoArchive, TextsSay}
 use Rattle.td_tool.specs.CheckInside.{FileTextsEnd, FileUnread}
 

@@ -1,5 +1,5 @@
 -- A text that was read ends the run as it says.
-use Rattle.std.proofs.Common.{◌≡◌, ℕ, ◌≤◌, ◌<◌, true, false, List, length, Option, Some, None}
+use Rattle.std.proofs.Common.{◌≡◌, ℕ, ◌≤◌, ◌<◌, List, length, Option, Some, None}
 use Rattle.std.proofs.Common.{IfSome, Result, Ok, Err, IfOk, IfErr, IsErrOf, IsUtf8, MatchResult}
 use Rattle.std.proofs.Common.{String, string_bytes, refl, sym, subst, ◌∙◌}
 use Rattle.std.specs.declared.alloc.Global.{Global}

@@ -1,5 +1,5 @@
 -- Runs of which no text was read end as they say.
-use Rattle.std.proofs.Common.{◌≡◌, ℕ, ◌≤◌, ◌<◌, List, length, Option, Some, None, IfSome, Err}
+use Rattle.std.proofs.Common.{ℕ, ◌≤◌, ◌<◌, List, length, Option, Some, None, IfSome, Err}
 use Rattle.std.proofs.Common.{IsErrOf, IsUtf8, refl, subst, sym, arith}
 use Rattle.std.specs.Io.KnownBytes.{Keeps}
 use Rattle.td_bytes.specs.declared.text.TextFault.{TextFault}

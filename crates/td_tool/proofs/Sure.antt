@@ -1,17 +1,14 @@
 -- A run of `track` or `waves` ends as it says, and readable texts are told.
-use Rattle.std.proofs.Common.{◌≡◌, ◌⊎◌, ◌<◌, ◌≤◌, ℕ, List, length, Option, Some, None, true, IfSome}
-use Rattle.std.proofs.Common.{IsUtf8, Result, Ok, Err, IfOk, IfErr, MatchResult, String}
+use Rattle.std.proofs.Common.{◌≡◌, ◌⊎◌, ℕ, List, length, Option, Some, None, IfSome}
+use Rattle.std.proofs.Common.{Result, Ok, Err, IfOk, IfErr, String}
 use Rattle.std.proofs.Common.{string_bytes, inl, inr, refl, sym, ap, subst, ◌∙◌}
 use Rattle.std.specs.declared.alloc.Global.{Global}
-use Rattle.std.specs.Io.KnownBytes.{Appends, Keeps}
-use Rattle.td_bytes.specs.Pieces.{AppendsPrefix}
+use Rattle.std.specs.Io.KnownBytes.{Keeps}
 use Rattle.td_bytes.specs.declared.text.TextFault.{TextFault}
 use Rattle.td_bytes.specs.declared.text.TextFault.TheVariants as text_fault
 use Rattle.td_text.specs.Lines.{lines_of}
 use Rattle.td_relation.specs.Arch.{ArchWords}
 use Rattle.td_relation.specs.TableFile.{IsTable}
-use Rattle.td_relation.specs.declared.archs.ArchsFault.{ArchsFault}
-use Rattle.td_relation.specs.declared.archs.ArchsFault.TheVariants as table
 use Rattle.td_rows.specs.Overlay.{first_missing}
 use Rattle.td_rows.specs.StateFile.{IsStateFile}
 use Rattle.td_rows.specs.Table.{Table}
@@ -22,8 +19,6 @@ use Rattle.td_query.specs.TrackerGrammar.{said_in}
 use Rattle.td_query.specs.Tracking.{IsTracker, Tracking}
 use Rattle.td_query.specs.declared.tracker_fault.TrackerFault.{TrackerFault}
 use Rattle.td_query.specs.declared.tracker_fault.TrackerFault.TheVariants as tracker_fault
-use Rattle.td_script.specs.Openings.{AreOpened, AreRowsOf}
-use Rattle.td_script.proofs.OnlyLaws.{opened_same}
 use Rattle.td_tool.specs.declared.file_texts.FileFault.{FileFault}
 use Rattle.td_tool.specs.declared.role.Role.{Role}
 use Rattle.td_tool.specs.declared.role.Role.TheVariants.{Input, Archs, Packages, Sources, State}
@@ -32,14 +27,14 @@ use Rattle.td_tool.specs.declared.ending.Ending.{Ending}
 use Rattle.td_tool.specs.declared.ending.Ending.TheVariants.{Done, Refused, BadInput, NoMemory}
 use Rattle.td_tool.specs.declared.ending.Ending.TheVariants.{CannotRead, CannotWrite}
 use Rattle.td_tool.specs.Ending.{ending_of_file, ending_of_missing_row, ending_of_tracker}
-use Rattle.td_tool.specs.Counted.{IsArchiveOf}
-use Rattle.td_tool.specs.Checks.{FaultFits, IsNoText, IsTextOf}
+use Rattle.td_tool.specs.Checks.{IsNoText, IsTextOf}
 use Rattle.td_tool.specs.CheckInside.{EndsUnwritten, WritesSo}
 use Rattle.td_tool.specs.Tracks.{AreKnownTexts, AreReadable, AreRefused, AreTextsOf, EndsSo}
 use Rattle.td_tool.specs.Tracks.{EndsTold, FailsAt, IsKnownIfGiven}
 use Rattle.td_tool.specs.Tracks.{IsKnownText, IsPatternRefused, IsReadableOver, IsTextIfGiven}
-use Rattle.td_tool.specs.Tracks.{MayFail, OneFile, Saying, Texts, TextsSayIt, TrackFiles}
-use Rattle.td_tool.specs.TrackInside.{AreReadableWith, CanReplace, HasFailedAt, OrMemory}
+use Rattle.td_tool.specs.Tracks.{OneFile, Saying, Texts, TextsSayIt, TrackFiles}
+use Rattle.td_tool.specs.TrackInside.{AreReadableWith, CanReplace, EndsWithoutRows, HasFailedAt}
+use Rattle.td_tool.specs.TrackInside.{OrMemory}
 
 -- ---- what is readable is refused for nothing but a pattern
 
@@ -47,22 +42,14 @@ pub lacks_memory : (text : List ℕ) (ending : Ending) → ending ≡ NoMemory
     → IsPatternRefused text ending
 lacks_memory text ending is = (tracker_fault.NoMemory, tt, is)
 
--- what is told of rows that are there fails for want of memory alone
-pub memory_stops : {E : Type 0} (Are : Table → Type 0) (r : Result (String Global) E)
-    (q : Result (String Global) Ending) → IfOk r (λ t. q ≡ Ok t) → IfErr r (λ e. q ≡ Err NoMemory)
-    → IfErr q (λ ending. (t : Table) → Are t → ending ≡ NoMemory)
-memory_stops Are (Ok text) q ok err =
-    subst (λ x. IfErr x (λ ending. (t : Table) → Are t → ending ≡ NoMemory)) (sym ok) tt
-memory_stops Are (Err e) q ok err =
-    subst (λ x. IfErr x (λ ending. (t : Table) → Are t → ending ≡ NoMemory)) (sym err)
-    (λ t are. refl)
-
 -- what holds of how the first may end, and of want of memory, holds of how both end
-pub ended_by : {A : Type 0} (Holds : Ending → Type 0) (first : Result A Ending) (ending : Ending)
-    → IfErr first Holds → Holds NoMemory → (first ≡ Err ending) ⊎ (ending ≡ NoMemory)
+pub ended_by : {A B E : Type 0} (Holds : Ending → Type 0) (first : Result A Ending)
+    (second : Result B E) (ending : Ending) → IfErr first Holds → Holds NoMemory
+    → (first ≡ Err ending)
+    ⊎ ((a : A) × (e : E) × (first ≡ Ok a) × (second ≡ Err e) × (ending ≡ NoMemory))
     → Holds ending
-ended_by Holds first ending bad memory (inl is) = subst (λ x. IfErr x Holds) is bad
-ended_by Holds first ending bad memory (inr is) = subst Holds (sym is) memory
+ended_by Holds first second ending bad memory (inl is) = subst (λ x. IfErr x Holds) is bad
+ended_by Holds first second ending bad memory (inr is) = subst Holds (sym is.4) memory
 
 -- rows that can be put in their places are
 pub replaced_stops : (rows given : Table) (text : List ℕ) (r : Result Table Ending)
@@ -75,39 +62,26 @@ replaced_stops rows given text (Err e) same missing = λ can.
     absurd (can.2 missing.0
     (subst (λ g. first_missing rows g ≡ Some missing.0) (same can.0 can.1) missing.1))
 
-pub rows_stop : (c : Contents) (opened : Table) (text : List ℕ) (r : Result Table Ending)
-    → AreOpened c opened → IfErr r (λ ending. CanReplace opened text → ending ≡ NoMemory)
-    → IfErr r (λ ending. (t : Table) → AreRowsOf c (Some text) t → ending ≡ NoMemory)
-rows_stop c opened text (Ok new) are only = tt
-rows_stop c opened text (Err e) are only = λ t replaced.
-    only (
-      replaced.given,
-      replaced.are_given,
-      λ k missing. replaced.none_missing k
-          (subst (λ o. first_missing o replaced.given ≡ Some k)
-          (opened_same c opened replaced.opened are replaced.are_opened) missing),
-    )
-
 pub over_stops : (c : Contents) (state : Option (List ℕ)) (tracker : List ℕ)
     (r : Result (String Global) Ending)
-    → IfErr r (λ ending. (t : Table) → AreRowsOf c state t → ending ≡ NoMemory)
+    → IfErr r (EndsWithoutRows c state)
     → IfErr r (λ ending. IsReadableOver c state tracker → IsPatternRefused tracker ending)
-over_stops c state tracker (Ok text) only = tt
-over_stops c state tracker (Err e) only = λ readable.
-    lacks_memory tracker e (only readable.0 readable.1)
+over_stops c state tracker (Ok text) none = tt
+over_stops c state tracker (Err e) none = λ readable.
+    lacks_memory tracker e (none.only readable.0 readable.1)
 
 -- the same where the text is no tracker
 pub no_tracker_stops : (c : Contents) (state : Option (List ℕ)) (tracker : List ℕ)
     (rows : Result Table Ending) (second ending : Ending)
-    → IfErr rows (λ e. (t : Table) → AreRowsOf c state t → e ≡ NoMemory)
+    → IfErr rows (EndsWithoutRows c state)
     → ((t : Tracking) → IsTracker tracker t → IsPatternRefused tracker second)
     → IfOk rows (λ t. ending ≡ second) → IfErr rows (λ e. ending ≡ e)
     → IsReadableOver c state tracker → IsPatternRefused tracker ending
-no_tracker_stops c state tracker (Ok t) second ending only pattern ok err readable =
+no_tracker_stops c state tracker (Ok t) second ending none pattern ok err readable =
     subst (IsPatternRefused tracker) (sym ok) (pattern readable.2.0 readable.2.1)
-no_tracker_stops c state tracker (Err e) second ending only pattern ok err readable =
+no_tracker_stops c state tracker (Err e) second ending none pattern ok err readable =
     subst (IsPatternRefused tracker) (sym err)
-    (lacks_memory tracker e (only readable.0 readable.1))
+    (lacks_memory tracker e (none.only readable.0 readable.1))
 
 -- the texts that were lent are those that were read
 pub indices_stop : (t : List ArchWords) (x : Texts) (c : Contents)

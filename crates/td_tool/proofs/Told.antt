@@ -1,6 +1,6 @@
 -- How `track` and `waves` end by what was read, and by what was found in it.
 use Rattle.std.proofs.Common.{◌≡◌, ◌↔◌, ℕ, List, true, Option, Some, Result, Ok, Err}
-use Rattle.std.proofs.Common.{IfOk, IfErr, String, string_bytes, inl, inr, refl, sym, subst}
+use Rattle.std.proofs.Common.{IfOk, IfErr, String, string_bytes, inl, inr, sym, subst}
 use Rattle.std.specs.declared.alloc.Global.{Global}
 use Rattle.td_text.specs.Lines.{lines_of}
 use Rattle.td_relation.specs.Arch.{ArchWords}
@@ -20,22 +20,20 @@ use Rattle.td_rows.specs.Table.{Table, keys_of, row_of}
 use Rattle.td_indices.specs.Archive.{Contents, IsArchive}
 use Rattle.td_query.specs.Tracking.{IsTracker, Tracking}
 use Rattle.td_script.specs.Openings.{AreOpened, AreRowsOf}
+use Rattle.td_script.proofs.OnlyLaws.{opened_same}
 use Rattle.td_tool.specs.declared.role.Role.{Role}
 use Rattle.td_tool.specs.declared.role.Role.TheVariants.{Input, Archs, Packages, Sources, State}
 use Rattle.td_tool.specs.declared.role.Role.TheVariants.{Tracker, Outcomes, Journal}
 use Rattle.td_bytes.specs.declared.text.TextFault.{TextFault}
 use Rattle.td_tool.specs.declared.ending.Ending.{Ending}
 use Rattle.td_tool.specs.declared.ending.Ending.TheVariants.{NoMemory}
-use Rattle.td_tool.specs.Ending.{ending_of_archive, ending_of_missing_row}
-use Rattle.td_tool.specs.Ending.{ending_of_table}
+use Rattle.td_tool.specs.Ending.{ending_of_archive, ending_of_missing_row, ending_of_table}
 use Rattle.td_tool.specs.Counted.{IsArchiveOf}
 use Rattle.td_tool.specs.Checks.{Files, HasFailed}
-use Rattle.td_tool.specs.Tracks.{AreRefused}
-use Rattle.td_tool.specs.Tracks.{IsNoTracker, IsRefusedOver, IsStateRefused, RowsSay}
+use Rattle.td_tool.specs.Tracks.{AreRefused, IsNoTracker, IsRefusedOver, IsStateRefused, RowsSay}
 use Rattle.td_tool.specs.Tracks.{Saying, Texts, TextsSayIt}
-use Rattle.td_tool.specs.TrackInside.{AreRefusedWith}
-use Rattle.td_tool.specs.TrackInside.{IndicesSay, IsRefusedFor, IsReplaced, OrMemory}
-use Rattle.td_tool.specs.TrackInside.{RowsAreSaid}
+use Rattle.td_tool.specs.TrackInside.{AreRefusedWith, CanReplace, EndsWithoutRows, IndicesSay}
+use Rattle.td_tool.specs.TrackInside.{IsRefusedFor, IsReplaced, OrMemory, RowsAreSaid}
 
 -- ---- a file that wasn't read
 
@@ -81,11 +79,12 @@ rows_are_said Says c state rows t (Ok text) q are says ok err =
 rows_are_said Says c state rows t (Err e) q are says ok err =
     subst (λ x. IfOk x (λ text. RowsAreSaid Says c state t (string_bytes text))) (sym err) tt
 
-pub memory_alone : {E : Type 0} (Bad : Ending → Type 0) (r : Result (String Global) E)
+-- what holds of want of memory holds where nothing else fails
+pub memory_alone : {E : Type 0} (Holds : Ending → Type 0) (r : Result (String Global) E)
     (q : Result (String Global) Ending) → IfOk r (λ text. q ≡ Ok text)
-    → IfErr r (λ e. q ≡ Err NoMemory) → IfErr q (OrMemory Bad)
-memory_alone Bad (Ok text) q ok err = subst (λ x. IfErr x (OrMemory Bad)) (sym ok) tt
-memory_alone Bad (Err e) q ok err = subst (λ x. IfErr x (OrMemory Bad)) (sym err) (inr refl)
+    → IfErr r (λ e. q ≡ Err NoMemory) → Holds NoMemory → IfErr q Holds
+memory_alone Holds (Ok text) q ok err memory = subst (λ x. IfErr x Holds) (sym ok) tt
+memory_alone Holds (Err e) q ok err memory = subst (λ x. IfErr x Holds) (sym err) memory
 
 -- ---- rows
 
@@ -129,15 +128,27 @@ replaced_rows c rows text (Err e) opened is = tt
 
 pub refused_rows : (c : Contents) (rows : Table) (text : List ℕ) (r : Result Table Ending)
     → AreOpened c rows → IfErr r (OrMemory (IsRefusedFor rows text))
-    → IfErr r (OrMemory (IsStateRefused c (Some text)))
-refused_rows c rows text (Ok new) opened is = tt
-refused_rows c rows text (Err e) opened is = elim is [
-  | inl bad ↦ elim bad [
-    | inl none ↦ inl (inl none)
-    | inr lacks ↦ inl (inr (rows, opened, lacks))
-  ]
-  | inr memory ↦ inr memory
-]
+    → IfErr r (λ ending. CanReplace rows text → ending ≡ NoMemory)
+    → IfErr r (EndsWithoutRows c (Some text))
+refused_rows c rows text (Ok new) opened is only = tt
+refused_rows c rows text (Err e) opened is only =
+    record {
+      refused = elim is [
+        | inl bad ↦ elim bad [
+          | inl none ↦ inl (inl none)
+          | inr lacks ↦ inl (inr (rows, opened, lacks))
+        ]
+        | inr memory ↦ inr memory
+      ];
+      only = λ t replaced.
+          only (
+            replaced.given,
+            replaced.are_given,
+            λ k missing. replaced.none_missing k
+                (subst (λ o. first_missing o replaced.given ≡ Some k)
+                (opened_same c rows replaced.opened opened replaced.are_opened) missing),
+          );
+    }
 
 -- ---- over an archive
 
@@ -156,22 +167,22 @@ state_refused c state tracker ending refused = elim refused [
 ]
 
 pub rows_refuse : (c : Contents) (state : Option (List ℕ)) (tracker : List ℕ)
-    (r : Result (String Global) Ending) → IfErr r (OrMemory (IsStateRefused c state))
+    (r : Result (String Global) Ending) → IfErr r (EndsWithoutRows c state)
     → IfErr r (OrMemory (IsRefusedOver c state tracker))
-rows_refuse c state tracker (Ok text) refused = tt
-rows_refuse c state tracker (Err e) refused = state_refused c state tracker e refused
+rows_refuse c state tracker (Ok text) none = tt
+rows_refuse c state tracker (Err e) none = state_refused c state tracker e none.refused
 
 -- rows that are refused are told of first, else that the text is no tracker
 pub no_tracker_refused : (c : Contents) (state : Option (List ℕ)) (tracker : List ℕ)
     (rows : Result Table Ending) (second ending : Ending) → IfOk rows (AreRowsOf c state)
-    → IfErr rows (OrMemory (IsStateRefused c state)) → IsNoTracker tracker second
+    → IfErr rows (EndsWithoutRows c state) → IsNoTracker tracker second
     → IfOk rows (λ t. ending ≡ second) → IfErr rows (λ e. ending ≡ e)
     → OrMemory (IsRefusedOver c state tracker) ending
-no_tracker_refused c state tracker (Ok t) second ending are refused none ok err =
-    subst (OrMemory (IsRefusedOver c state tracker)) (sym ok) (inl (inr (t, are, none)))
-no_tracker_refused c state tracker (Err e) second ending are refused none ok err =
+no_tracker_refused c state tracker (Ok t) second ending are none bad ok err =
+    subst (OrMemory (IsRefusedOver c state tracker)) (sym ok) (inl (inr (t, are, bad)))
+no_tracker_refused c state tracker (Err e) second ending are none bad ok err =
     subst (OrMemory (IsRefusedOver c state tracker)) (sym err)
-    (state_refused c state tracker e refused)
+    (state_refused c state tracker e none.refused)
 
 -- ---- over two indices; the texts that were lent are those that were read
 

@@ -1,5 +1,6 @@
 -- A file of a run that wasn't read, behind those that were.
-use Rattle.std.proofs.Common.{◌≡◌, ℕ, List, Option, None, inl, inr, refl, sym, subst}
+use Rattle.std.proofs.Common.{◌≡◌, ℕ, List, Option, None, Result, Ok, Err, IfErr, IsErrAnd, sym}
+use Rattle.std.proofs.Common.{subst}
 use Rattle.td_tool.specs.declared.file_texts.FileFault.{FileFault}
 use Rattle.td_tool.specs.declared.role.Role.{Role}
 use Rattle.td_tool.specs.declared.role.Role.TheVariants.{State, Tracker, Outcomes, Journal}
@@ -17,6 +18,12 @@ pub run_fails_first : (files : RunFiles) (f : FileFault) → HasFailedIn files.i
 run_fails_first files f failed =
     index_fails files.indices (λ role. FailsAt files role f.fault) f.role f.fault
     (λ h. h) (λ h. h) (λ h. h) failed
+
+-- a fault that is passed on is the one that was found
+pub passed_on : {T : Type 0} (Holds : FileFault → Type 0) (f : FileFault) (r : Result T FileFault)
+    → IsErrAnd r (λ e. e ≡ f) → Holds f → IfErr r Holds
+passed_on Holds f (Ok x) is holds = tt
+passed_on Holds f (Err e) is holds = subst Holds (sym is) holds
 
 -- ---- behind the indices
 

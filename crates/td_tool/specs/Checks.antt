@@ -1,6 +1,6 @@
 -- What a check leaves on standard output, as it ends. This project's own.
 use Rattle.std.specs.Prelude.{◌≡◌, ◌⊎◌, ℕ, ◌≤◌, ◌<◌, Bool, true, false, List, length, Option, Some}
-use Rattle.std.specs.Prelude.{None, IfSome, IsUtf8}
+use Rattle.std.specs.Prelude.{None, IfSome, IsUtf8, string_bytes}
 use Rattle.std.specs.Io.KnownBytes.{Appends, Keeps}
 use Rattle.td_bytes.specs.Pieces.{AppendsPrefix}
 use Rattle.td_bytes.specs.declared.text.TextFault.{TextFault}
@@ -15,6 +15,7 @@ use Rattle.td_indices.specs.Archive.{Contents}
 use Rattle.td_indices.specs.Archive as archive_file
 use Rattle.td_indices.specs.declared.archive_fault.ArchiveFault.{ArchiveFault}
 use Rattle.td_indices.specs.declared.archive_fault.ArchiveFault.TheVariants as archive
+use Rattle.td_words.specs.declared.request.ArchivePaths.{ArchivePaths}
 use Rattle.td_tool.specs.Limits.{file_limit}
 use Rattle.td_tool.specs.declared.role.Role.{Role}
 use Rattle.td_tool.specs.declared.role.Role.TheVariants.{Input, Archs, Packages, Sources, State}
@@ -60,6 +61,13 @@ files_of bytes can_fail archs packages sources =
       in_sources = bytes sources;
       can_fail = failing can_fail archs packages sources;
     }
+
+-- those that the words name
+abbrev pub archive_files_at : (List ℕ → Option (List ℕ)) → (List ℕ → TextFault → Bool)
+    → ArchivePaths → Files
+archive_files_at bytes can_fail p =
+    files_of bytes can_fail (string_bytes p.archs) (string_bytes p.packages)
+    (string_bytes p.sources)
 
 -- the bytes of the file of a role, where they are known
 abbrev pub known_of : Files → Role → Option (List ℕ)

@@ -46,16 +46,17 @@ track_paths w Tracker = Some w.tracker
 track_paths w Outcomes = None
 track_paths w Journal = None
 
--- those of waves
+-- those of waves: as of a report over the archive's own rows
 abbrev pub waves_paths : List ℕ → List ℕ → List ℕ → List ℕ → Role → Option (List ℕ)
-waves_paths archs packages sources tracker Input = None
-waves_paths archs packages sources tracker Archs = Some archs
-waves_paths archs packages sources tracker Packages = Some packages
-waves_paths archs packages sources tracker Sources = Some sources
-waves_paths archs packages sources tracker State = None
-waves_paths archs packages sources tracker Tracker = Some tracker
-waves_paths archs packages sources tracker Outcomes = None
-waves_paths archs packages sources tracker Journal = None
+waves_paths archs packages sources tracker =
+    track_paths (record {
+      archs = archs;
+      packages = packages;
+      sources = sources;
+      tracker = tracker;
+      state = None;
+      chunk = None;
+    })
 
 -- those of a run
 abbrev pub run_paths : RunWords → Role → Option (List ℕ)
@@ -86,33 +87,28 @@ known_input known Journal = None
 -- the paths that a request has
 abbrev pub paths_of : Request → Role → Option (List ℕ)
 paths_of asked.Simulate role = None
-paths_of (asked.Check archs packages sources) role =
-    archive_paths (string_bytes archs) (string_bytes packages) (string_bytes sources) role
-paths_of (asked.Track archs packages sources tracker state chunk) role =
-    track_paths (track_words archs packages sources tracker state chunk) role
-paths_of (asked.Waves archs packages sources tracker) role =
-    waves_paths (string_bytes archs) (string_bytes packages) (string_bytes sources)
-    (string_bytes tracker) role
-paths_of (asked.Run archs packages sources state tracker suite builders outcomes journal) role =
-    run_paths (run_words archs packages sources state tracker suite builders outcomes journal) role
+paths_of (asked.Check files) role =
+    archive_paths (string_bytes files.archs) (string_bytes files.packages)
+    (string_bytes files.sources) role
+paths_of (asked.Track r) role = track_paths (track_words r) role
+paths_of (asked.Waves files tracker) role =
+    waves_paths (string_bytes files.archs) (string_bytes files.packages)
+    (string_bytes files.sources) (string_bytes tracker) role
+paths_of (asked.Run r) role = run_paths (run_words r) role
 
 -- the texts of a request, by role, where they are known: a simulation has standard input alone, and
 -- of a script no place is explained
 abbrev pub known_of_request : Request → Option (List ℕ) → (List ℕ → Option (List ℕ)) → Role
     → Option (List ℕ)
 known_of_request asked.Simulate known bytes = known_input known
-known_of_request (asked.Check archs packages sources) known bytes =
-    known_at bytes
-    (archive_paths (string_bytes archs) (string_bytes packages) (string_bytes sources))
-known_of_request (asked.Track archs packages sources tracker state chunk) known bytes =
-    known_at bytes (track_paths (track_words archs packages sources tracker state chunk))
-known_of_request (asked.Waves archs packages sources tracker) known bytes =
-    known_at bytes (waves_paths (string_bytes archs) (string_bytes packages) (string_bytes sources)
-    (string_bytes tracker))
-known_of_request (asked.Run archs packages sources state tracker suite builders outcomes journal)
-    known bytes =
-    known_at bytes
-    (run_paths (run_words archs packages sources state tracker suite builders outcomes journal))
+known_of_request (asked.Check files) known bytes =
+    known_at bytes (archive_paths (string_bytes files.archs) (string_bytes files.packages)
+    (string_bytes files.sources))
+known_of_request (asked.Track r) known bytes = known_at bytes (track_paths (track_words r))
+known_of_request (asked.Waves files tracker) known bytes =
+    known_at bytes (waves_paths (string_bytes files.archs) (string_bytes files.packages)
+    (string_bytes files.sources) (string_bytes tracker))
+known_of_request (asked.Run r) known bytes = known_at bytes (run_paths (run_words r))
 
 -- ---- 2. the explanation
 
@@ -156,12 +152,6 @@ ExplainsFile known role fault line =
 -- the text that was kept of standard input is the known one
 abbrev pub IsKept : (Role → Option (List ℕ)) → Option (String Global) → Type 0
 IsKept known input = IfSome input (λ kept. IfSome (known Input) (λ all. all ≡ string_bytes kept))
-
--- a front of the explanation is said
-abbrev pub IsSaidOf : (Role → Option (List ℕ)) → Ending → Option (List ℕ) → Option (List ℕ) → Type 0
-IsSaidOf known ending said_before said =
-    (text : List ℕ) × IsTextFor ending known text
-    × AppendsPrefix said_before said (explanation_of ending text)
 
 -- what is said of an ending: its line, and behind it the explanation where that is asked for; of
 -- both a front where standard error, memory or another read fails

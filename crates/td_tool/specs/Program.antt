@@ -1,7 +1,7 @@
 -- What the program does for words: a subcommand that they ask for, or a text that says what is
 -- wrong. This project's own.
 use Rattle.std.specs.Prelude.{◌≡◌, ◌≢◌, ◌⊎◌, ℕ, List, Option, None, Bool, false, Result, Ok, Err}
-use Rattle.std.specs.Prelude.{String, Vec, map, option_map, codes, string_bytes}
+use Rattle.std.specs.Prelude.{String, Vec, map, codes, string_bytes}
 use Rattle.std.specs.declared.alloc.Global.{Global}
 use Rattle.std.specs.declared.io.ErrorKind.{ErrorKind}
 use Rattle.std.specs.declared.io.ErrorKind.TheVariants.{OutOfMemory}
@@ -13,13 +13,13 @@ use Rattle.td_words.specs.declared.request.Request.TheVariants.{Simulate, Check,
 use Rattle.td_words.specs.declared.request.WordsFault.{WordsFault}
 use Rattle.td_words.specs.declared.request.WordsFault.TheVariants as words_fault
 use Rattle.td_report.specs.Transition.{IsReport, IsWaves}
-use Rattle.td_words.specs.Asked.{run_words}
+use Rattle.td_words.specs.Asked.{run_words, track_words}
 use Rattle.td_words.specs.CommandLine.{AskFor, TrackWords, is_explained, options_of}
 use Rattle.td_tool.specs.declared.ending.Ending.{Ending}
 use Rattle.td_tool.specs.declared.ending.Ending.TheVariants.{NoMemory}
 use Rattle.td_tool.specs.Ending.{line_of}
 use Rattle.td_tool.specs.Ends.{Ends}
-use Rattle.td_tool.specs.Checks.{Checks, files_of}
+use Rattle.td_tool.specs.Checks.{Checks, archive_files_at, files_of}
 use Rattle.td_tool.specs.Tracks.{EndsSo, TrackFiles, track_files}
 use Rattle.td_tool.specs.Runs.{EndsRun, RunFiles, run_files_asked}
 use Rattle.td_tool.specs.Explained.{archive_paths, known_at, known_input, known_of_request}
@@ -91,20 +91,17 @@ files_asked bytes can_fail w =
 abbrev pub EndsFor : Request → Option (List ℕ) → (List ℕ → Option (List ℕ))
     → (List ℕ → TextFault → Bool) → Option (List ℕ) → Option (List ℕ) → Ending → Type 0
 EndsFor Simulate known bytes can_fail old new ending = Ends known old new ending
-EndsFor (Check archs packages sources) known bytes can_fail old new ending =
-    Checks (files_of bytes can_fail (string_bytes archs) (string_bytes packages)
-    (string_bytes sources)) old new ending
-EndsFor (Track archs packages sources tracker state chunk) known bytes can_fail old new ending =
-    EndsSo IsReport (track_files bytes can_fail (string_bytes archs) (string_bytes packages)
-    (string_bytes sources) (option_map string_bytes state) (string_bytes tracker)) old new ending
-EndsFor (Waves archs packages sources tracker) known bytes can_fail old new ending =
-    EndsSo IsWaves (track_files bytes can_fail (string_bytes archs) (string_bytes packages)
-    (string_bytes sources) None (string_bytes tracker)) old new ending
-EndsFor (Run archs packages sources state tracker suite builders outcomes journal) known bytes
-    can_fail old new ending =
-    EndsRun (run_files_asked bytes can_fail
-    (run_words archs packages sources state tracker suite builders outcomes journal))
-    (string_bytes suite) known old new ending
+EndsFor (Check files) known bytes can_fail old new ending =
+    Checks (archive_files_at bytes can_fail files) old new ending
+EndsFor (Track r) known bytes can_fail old new ending =
+    EndsSo IsReport (files_asked bytes can_fail (track_words r)) old new ending
+EndsFor (Waves files tracker) known bytes can_fail old new ending =
+    EndsSo IsWaves (track_files bytes can_fail (string_bytes files.archs)
+    (string_bytes files.packages) (string_bytes files.sources) None (string_bytes tracker)) old new
+    ending
+EndsFor (Run r) known bytes can_fail old new ending =
+    EndsRun (run_files_asked bytes can_fail (run_words r)) (string_bytes r.suite) known old new
+    ending
 
 -- it ran, and is explained or not
 abbrev pub RanFor : Request → Bool → Option (List ℕ) → (List ℕ → Option (List ℕ))

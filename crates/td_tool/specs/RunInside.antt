@@ -1,24 +1,21 @@
 -- What the inner functions of `run` answer. This project's own.
 use Rattle.std.specs.Prelude.{◌≡◌, ℕ, ◌≤◌, Bool, List, Option, length, option_map, string_bytes}
-use Rattle.std.specs.Borrow.{Bor}
 use Rattle.td_bytes.specs.declared.text.TextFault.{TextFault}
 use Rattle.td_script.specs.Openings as script
 use Rattle.td_script.specs.declared.inputs.Inputs.{Inputs}
+use Rattle.td_words.specs.Asked.{run_words}
+use Rattle.td_words.specs.declared.request.RunRequest.{RunRequest}
 use Rattle.td_tool.specs.declared.file_texts.FileFault.{FileFault}
-use Rattle.td_tool.specs.declared.run_files.RunPaths.{RunPaths}
 use Rattle.td_tool.specs.declared.run_files.RunTexts.{RunTexts}
 use Rattle.td_tool.specs.Limits.{file_limit}
 use Rattle.td_crew.specs.CrewEnds.{outcomes_of}
 use Rattle.td_tool.specs.Runs.{AreTextsOf, FailsAt, RunFiles, Texts, crew_size, outcome_lines}
-use Rattle.td_tool.specs.Runs.{run_files, script_texts}
+use Rattle.td_tool.specs.Runs.{run_files_asked, script_texts}
 
--- the files of these paths
-abbrev pub run_files_at : (List ℕ → Option (List ℕ)) → (List ℕ → TextFault → Bool) → RunPaths
-    → RunFiles
-run_files_at bytes can_fail p =
-    run_files bytes can_fail p.archs.now p.packages.now p.sources.now
-    (option_map (λ s. s.now) p.state) (option_map (λ s. s.now) p.tracker)
-    (option_map (λ s. s.now) p.outcomes) (option_map (λ s. s.now) p.journal) p.builders
+-- the files that are asked for
+abbrev pub run_files_at : (List ℕ → Option (List ℕ)) → (List ℕ → TextFault → Bool)
+    → RunRequest → RunFiles
+run_files_at bytes can_fail r = run_files_asked bytes can_fail (run_words r)
 
 -- the texts that were read
 abbrev pub run_texts_of : RunTexts → Texts

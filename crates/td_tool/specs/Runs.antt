@@ -42,24 +42,17 @@ pub record RunFiles : Type 0 where
   pub journal : Option OneFile
   pub builders : ℕ
 
--- those of these paths
-abbrev pub run_files : (List ℕ → Option (List ℕ)) → (List ℕ → TextFault → Bool) → List ℕ → List ℕ
-    → List ℕ → Option (List ℕ) → Option (List ℕ) → Option (List ℕ) → Option (List ℕ) → ℕ → RunFiles
-run_files bytes can_fail archs packages sources state tracker outcomes journal builders = record {
-  indices = files_of bytes can_fail archs packages sources;
-  state = option_map (file_at bytes can_fail) state;
-  tracker = option_map (file_at bytes can_fail) tracker;
-  outcomes = option_map (file_at bytes can_fail) outcomes;
-  journal = option_map (file_at bytes can_fail) journal;
-  builders = builders;
-}
-
 -- those that the words name
 abbrev pub run_files_asked : (List ℕ → Option (List ℕ)) → (List ℕ → TextFault → Bool) → RunWords
     → RunFiles
-run_files_asked bytes can_fail w =
-    run_files bytes can_fail w.archs w.packages w.sources w.state w.tracker w.outcomes w.journal
-    w.builders
+run_files_asked bytes can_fail w = record {
+  indices = files_of bytes can_fail w.archs w.packages w.sources;
+  state = option_map (file_at bytes can_fail) w.state;
+  tracker = option_map (file_at bytes can_fail) w.tracker;
+  outcomes = option_map (file_at bytes can_fail) w.outcomes;
+  journal = option_map (file_at bytes can_fail) w.journal;
+  builders = w.builders;
+}
 
 -- what such files hold
 pub record Texts : Type 0 where

@@ -1,8 +1,5 @@
 -- What the inner functions of `track` and `waves` answer. This project's own.
-use Rattle.std.specs.Prelude.{◌≡◌, ◌⊎◌, ℕ, ◌≤◌, Bool, List, Option, Some, None, length, option_map}
-use Rattle.std.specs.Prelude.{string_bytes}
-use Rattle.std.specs.Borrow.{Bor}
-use Rattle.std.specs.Io.KnownBytes.{Keeps}
+use Rattle.std.specs.Prelude.{◌≡◌, ◌⊎◌, ℕ, Bool, List, Option, Some, option_map, string_bytes}
 use Rattle.td_bytes.specs.declared.text.TextFault.{TextFault}
 use Rattle.td_text.specs.Lines.{lines_of}
 use Rattle.td_relation.specs.Arch.{ArchWords}
@@ -25,8 +22,8 @@ use Rattle.td_tool.specs.declared.tracking.Asked.{Asked}
 use Rattle.td_tool.specs.declared.tracking.Asked.TheVariants.{Report, Waves}
 use Rattle.td_tool.specs.declared.ending.Ending.{Ending}
 use Rattle.td_tool.specs.declared.ending.Ending.TheVariants.{NoMemory}
-use Rattle.td_tool.specs.Limits.{file_limit}
 use Rattle.td_tool.specs.Tracks.{AreTextsOf, FailsAt, IsNoState, IsReadableOver, IsRefusedOver}
+use Rattle.td_tool.specs.Tracks.{IsStateRefused}
 use Rattle.td_tool.specs.Tracks.{MayFail, OneFile, RowsSay, Saying, Texts, TrackFiles, track_files}
 
 -- what is told of a tracker
@@ -38,8 +35,9 @@ saying_of Waves = IsWaves
 abbrev pub files_at : (List ℕ → Option (List ℕ)) → (List ℕ → TextFault → Bool) → TrackPaths
     → TrackFiles
 files_at bytes can_fail p =
-    track_files bytes can_fail p.archs.now p.packages.now p.sources.now
-    (option_map (λ s. s.now) p.state) p.tracker.now
+    track_files bytes can_fail (string_bytes p.files.now.archs) (string_bytes p.files.now.packages)
+    (string_bytes p.files.now.sources) (option_map string_bytes p.state.now)
+    (string_bytes p.tracker.now)
 
 -- the texts that were read
 abbrev pub texts_of : TrackTexts → Texts
@@ -77,6 +75,12 @@ RowsAreSaid Says c state t text = (rows : Table) × AreRowsOf c state rows × Sa
 -- an ending is this, or want of memory
 abbrev pub OrMemory : (Ending → Type 0) → Ending → Type 0
 OrMemory Ends ending = Ends ending ⊎ (ending ≡ NoMemory)
+
+-- there are no rows to look at over an archive, and so it ends: their text is refused, or memory
+-- runs out, and that alone where the rows can be had
+pub record EndsWithoutRows (c : Contents) (state : Option (List ℕ)) (ending : Ending) : Type 0 where
+  pub refused : OrMemory (IsStateRefused c state) ending
+  pub only : (rows : Table) → AreRowsOf c state rows → ending ≡ NoMemory
 
 -- ---- rows
 

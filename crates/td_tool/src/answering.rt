@@ -1,5 +1,5 @@
 //! The program: it does what its words ask for, and answers its status.
-ghost use Rattle.std.specs.Prelude.{◌≡◌, ◌⊎◌, ◌≤◌, ℕ, List, length, map, IfSome, option_map, codes};
+ghost use Rattle.std.specs.Prelude.{◌≤◌, ℕ, List, length, map, IfSome, codes};
 ghost use Rattle.std.specs.Prelude.{string_bytes, None, IsOkAnd, IfOk, IfErr};
 ghost use Rattle.std.specs.IoError.{error_kind};
 ghost use Rattle.std.specs.Io.KnownBytes.{Keeps};
@@ -15,18 +15,16 @@ ghost use Rattle.td_tool.specs.Limits.{input_limit};
 ghost use Rattle.td_tool.specs.Ran.{Ran};
 ghost use Rattle.td_tool.specs.Program.{EndsFor, IsTold, OnlyIfAsked, RanFor, TellsFault};
 ghost use Rattle.td_tool.specs.Program.{TellsUnread, are_explained, files_asked};
-ghost use Rattle.td_tool.specs.Runs.{EndsRun, run_files, run_files_asked};
-ghost use Rattle.td_tool.specs.TrackInside.{saying_of};
+ghost use Rattle.td_tool.specs.Runs.{EndsRun, run_files_asked};
 ghost use Rattle.td_tool.specs.Tracks.{EndsSo, track_files};
 
 use crate::checking::check;
 use crate::ending::{Ended, Ending};
 use crate::explaining::finish;
-use crate::run_files::RunPaths;
 use crate::running::run;
 use crate::simulation::read_and_play;
 use crate::texts::Texts;
-use crate::track_files::{TrackPaths, given};
+use crate::track_files::TrackPaths;
 use crate::tracking::{Asked, track};
 use std::alloc::Global;
 use std::io;
@@ -64,72 +62,6 @@ fn tell_fault<E: Write>(fault: &WordsFault, faults: &mut E) -> u8
     }
 }
 
-// Tells what a tracker says, by the paths that the words gave.
-fn do_track<T: Texts + Sync, W: Write>(
-    rt: &(impl Threads + Wait + Sync),
-    alloc: Global,
-    texts: &T,
-    archs: &String,
-    packages: &String,
-    sources: &String,
-    state: &Option<String>,
-    tracker: &String,
-    asked: Asked,
-    output: &mut W,
-) -> Ending
-    ensures { EndsSo (saying_of asked)
-        (track_files (T.bytes texts.now) (T.can_fail texts.now) (string_bytes archs.now)
-        (string_bytes packages.now) (string_bytes sources.now) (option_map string_bytes state.now)
-        (string_bytes tracker.now))
-        (W.contents output.old) (W.contents output.new) result }
-{
-    let paths = TrackPaths {
-        archs: archs.as_str(),
-        packages: packages.as_str(),
-        sources: sources.as_str(),
-        state: given(state),
-        tracker: tracker.as_str(),
-    };
-    track(rt, alloc, texts, &paths, asked, output)
-}
-
-// Runs a script over the files with the paths that the words gave.
-fn do_run<T: Texts + Sync, R: Read, W: Write>(
-    rt: &(impl Threads + Wait + Sync),
-    alloc: Global,
-    texts: &T,
-    archs: &String,
-    packages: &String,
-    sources: &String,
-    state: &Option<String>,
-    tracker: &Option<String>,
-    outcomes: &Option<String>,
-    journal: &Option<String>,
-    suite: &String,
-    builders: usize,
-    reader: &mut R,
-    output: &mut W,
-) -> Ending
-    ensures { EndsRun
-        (run_files (T.bytes texts.now) (T.can_fail texts.now) (string_bytes archs.now)
-        (string_bytes packages.now) (string_bytes sources.now) (option_map string_bytes state.now)
-        (option_map string_bytes tracker.now) (option_map string_bytes outcomes.now)
-        (option_map string_bytes journal.now) builders) (string_bytes suite.now)
-        (R.remaining reader.old) (W.contents output.old) (W.contents output.new) result }
-{
-    let paths = RunPaths {
-        archs: archs.as_str(),
-        packages: packages.as_str(),
-        sources: sources.as_str(),
-        state: given(state),
-        tracker: given(tracker),
-        outcomes: given(outcomes),
-        journal: given(journal),
-        builders,
-    };
-    run(rt, alloc, texts, &paths, suite.as_str(), reader, output)
-}
-
 // Does what was asked for.
 fn do_request<T: Texts + Sync, R: Read, W: Write>(
     rt: &(impl Threads + Wait + Sync),
@@ -148,61 +80,25 @@ fn do_request<T: Texts + Sync, R: Read, W: Write>(
 {
     match request {
         Request::Simulate => read_and_play(alloc, reader, output),
-        Request::Check {
-            archs,
-            packages,
-            sources,
-        } => check(
-            rt,
-            alloc,
-            texts,
-            archs.as_str(),
-            packages.as_str(),
-            sources.as_str(),
-            output,
-        )
-        .alone(),
-        Request::Track {
-            archs,
-            packages,
-            sources,
-            tracker,
-            state,
-            chunk,
-        } => {
-            let asked = Asked::Report(*chunk);
-            do_track(
-                rt, alloc, texts, archs, packages, sources, state, tracker, asked, output,
-            )
-            .alone()
+        Request::Check(files) => check(rt, alloc, texts, files, output).alone(),
+        Request::Track(request) => {
+            let paths = TrackPaths {
+                files: &request.files,
+                state: &request.state,
+                tracker: &request.tracker,
+            };
+            let asked = Asked::Report(request.chunk);
+            track(rt, alloc, texts, &paths, asked, output).alone()
         }
-        Request::Waves {
-            archs,
-            packages,
-            sources,
-            tracker,
-        } => {
-            let asked = Asked::Waves;
-            do_track(
-                rt, alloc, texts, archs, packages, sources, &None, tracker, asked, output,
-            )
-            .alone()
+        Request::Waves { files, tracker } => {
+            let paths = TrackPaths {
+                files,
+                state: &None,
+                tracker,
+            };
+            track(rt, alloc, texts, &paths, Asked::Waves, output).alone()
         }
-        Request::Run {
-            archs,
-            packages,
-            sources,
-            state,
-            tracker,
-            suite,
-            builders,
-            outcomes,
-            journal,
-        } => do_run(
-            rt, alloc, texts, archs, packages, sources, state, tracker, outcomes, journal, suite,
-            *builders, reader, output,
-        )
-        .alone(),
+        Request::Run(request) => run(rt, alloc, texts, request, reader, output).alone(),
     }
 }
 

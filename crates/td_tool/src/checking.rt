@@ -1,9 +1,9 @@
 //! The subcommand `check`: sources, binary packages and rows of two indices are counted.
-ghost use Rattle.std.specs.Prelude.{◌≡◌, List, ◌≤◌, length, string_bytes, Ok, Err, IfOk, IfErr};
+ghost use Rattle.std.specs.Prelude.{◌≡◌, ◌≤◌, length, string_bytes, Ok, Err, IfOk, IfErr};
 ghost use Rattle.std.specs.Prelude.{IsOkAnd, MatchResult};
 ghost use Rattle.std.specs.Result.{ForOk};
 ghost use Rattle.td_relation.specs.TableView.{table};
-ghost use Rattle.td_tool.specs.Checks.{Checks, files_of};
+ghost use Rattle.td_tool.specs.Checks.{Checks, archive_files_at};
 ghost use Rattle.td_tool.specs.CheckInside.{AreCountsOf, EndsUnwritten, FileTextsEnd, FileUnread};
 ghost use Rattle.td_tool.specs.CheckInside.{IsCounted, IsCountedWith, IsLineFor, IsWithin};
 ghost use Rattle.td_tool.specs.CheckInside.{WritesSo};
@@ -22,6 +22,7 @@ use td_bytes::write_whole;
 use td_indices::{Archive, ArchiveFault};
 use td_relation::{Archs, ArchsFault};
 use td_text::put_number;
+use td_words::ArchivePaths;
 
 /// How many there are of each.
 #[derive(Drop)]
@@ -157,15 +158,13 @@ pub fn check<T: Texts + Sync, W: Write>(
     rt: &(impl Threads + Sync),
     alloc: Global,
     texts: &T,
-    archs: &str,
-    packages: &str,
-    sources: &str,
+    paths: &ArchivePaths,
     output: &mut W,
 ) -> Ending
     ensures { Checks
-        (files_of (T.bytes texts.now) (T.can_fail texts.now) archs.now packages.now sources.now)
+        (archive_files_at (T.bytes texts.now) (T.can_fail texts.now) paths.now)
         (W.contents output.old) (W.contents output.new) result }
 {
-    let read = read_files(rt, alloc, texts, archs, packages, sources);
+    let read = read_files(rt, alloc, texts, paths);
     count(rt, alloc, read, output)
 }

@@ -1,5 +1,5 @@
 //! How a run of the program ends, by what went wrong.
-ghost use Rattle.std.specs.Prelude.{◌≡◌, ◌++◌, None, OnOk, OnErr};
+ghost use Rattle.std.specs.Prelude.{◌≡◌, None, OnOk, OnErr};
 ghost use Rattle.std.specs.Io.KnownBytes.{Appends};
 ghost use Rattle.td_bytes.specs.Pieces.{AppendsPrefix};
 ghost use Rattle.td_tool.specs.Ending.{ending_of_archive, ending_of_file, ending_of_journal};

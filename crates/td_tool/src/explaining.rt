@@ -1,10 +1,9 @@
 //! The explanation of a refusal: a second line on standard error, where one is asked for.
 ghost use Rattle.std.specs.Prelude.{◌≡◌, ◌≤◌, ◌<◌, ◌^◌, ℕ, List, Option, true, IfSome, length};
-ghost use Rattle.std.specs.Prelude.{option_map, string_bytes};
+ghost use Rattle.std.specs.Prelude.{option_copied, option_map, string_bytes};
 ghost use Rattle.td_tool.specs.Ending.{status_of};
-ghost use Rattle.td_tool.specs.Explained.{Explains, ExplainsFile, IsKept, IsSaidOf, SaysOf};
-ghost use Rattle.td_tool.specs.Explained.{archive_paths, explanation_of, known_of_request};
-ghost use Rattle.td_tool.specs.Explained.{paths_of};
+ghost use Rattle.td_tool.specs.Explained.{Explains, ExplainsFile, IsKept, SaysOf, archive_paths};
+ghost use Rattle.td_tool.specs.Explained.{explanation_of, known_of_request, paths_of};
 ghost use Rattle.td_tool.specs.Limits.{input_limit};
 
 use crate::ending::{Ended, Ending};
@@ -13,80 +12,49 @@ use crate::input_fault::InputFault;
 use crate::places::place_of;
 use crate::role::Role;
 use crate::texts::Texts;
-use crate::track_files::given;
 use crate::wanted::wanted;
 use std::alloc::Global;
 use std::io::Write;
 use td_bytes::write_whole;
 use td_explain::{Place, explain};
-use td_words::Request;
+use td_words::{ArchivePaths, Request};
 
 // The path of the table or of an index, of those of an archive.
-fn archive_path<'a>(
-    role: Role,
-    archs: &'a String,
-    packages: &'a String,
-    sources: &'a String,
-) -> Option<&'a str>
-    ensures { option_map (λ p. p.now) result ≡ archive_paths (string_bytes archs.now)
-        (string_bytes packages.now) (string_bytes sources.now) role }
+fn archive_path(role: Role, files: &ArchivePaths) -> Option<&String>
+    ensures { option_map string_bytes (option_copied result)
+        ≡ archive_paths (string_bytes files.now.archs) (string_bytes files.now.packages)
+        (string_bytes files.now.sources) role }
 {
     match role {
-        Role::Archs => Some(archs.as_str()),
-        Role::Packages => Some(packages.as_str()),
-        Role::Sources => Some(sources.as_str()),
+        Role::Archs => Some(&files.archs),
+        Role::Packages => Some(&files.packages),
+        Role::Sources => Some(&files.sources),
         Role::Input | Role::State | Role::Tracker | Role::Outcomes | Role::Journal => None,
     }
 }
 
 // The path of the file with this role, where the words gave one.
-fn path_of(request: &Request, role: Role) -> Option<&str>
-    ensures { option_map (λ p. p.now) result ≡ paths_of request.now role }
+fn path_of(request: &Request, role: Role) -> Option<&String>
+    ensures { option_map string_bytes (option_copied result) ≡ paths_of request.now role }
 {
     match request {
         Request::Simulate => None,
-        Request::Check {
-            archs,
-            packages,
-            sources,
-        } => archive_path(role, archs, packages, sources),
-        Request::Track {
-            archs,
-            packages,
-            sources,
-            tracker,
-            state,
-            chunk: _,
-        } => match role {
-            Role::State => given(state),
-            Role::Tracker => Some(tracker.as_str()),
-            _ => archive_path(role, archs, packages, sources),
+        Request::Check(files) => archive_path(role, files),
+        Request::Track(request) => match role {
+            Role::State => request.state.as_ref(),
+            Role::Tracker => Some(&request.tracker),
+            _ => archive_path(role, &request.files),
         },
-        Request::Waves {
-            archs,
-            packages,
-            sources,
-            tracker,
-        } => match role {
-            Role::Tracker => Some(tracker.as_str()),
-            _ => archive_path(role, archs, packages, sources),
+        Request::Waves { files, tracker } => match role {
+            Role::Tracker => Some(tracker),
+            _ => archive_path(role, files),
         },
-        Request::Run {
-            archs,
-            packages,
-            sources,
-            state,
-            tracker,
-            suite: _,
-            builders: _,
-            outcomes,
-            journal,
-        } => match role {
-            Role::State => given(state),
-            Role::Tracker => given(tracker),
-            Role::Outcomes => given(outcomes),
-            Role::Journal => given(journal),
-            _ => archive_path(role, archs, packages, sources),
+        Request::Run(request) => match role {
+            Role::State => request.state.as_ref(),
+            Role::Tracker => request.tracker.as_ref(),
+            Role::Outcomes => request.outcomes.as_ref(),
+            Role::Journal => request.journal.as_ref(),
+            _ => archive_path(role, &request.files),
         },
     }
 }
@@ -107,14 +75,14 @@ fn explain_text(alloc: Global, role: Role, fault: InputFault, text: &str) -> Opt
 fn explain_file<T: Texts>(
     alloc: Global,
     texts: &T,
-    path: &str,
+    path: &String,
     role: Role,
     fault: InputFault,
 ) -> Option<String>
     ensures { IfSome result (λ line.
-        ExplainsFile (T.bytes texts.now path.now) role fault (string_bytes line)) }
+        ExplainsFile (T.bytes texts.now (string_bytes path.now)) role fault (string_bytes line)) }
 {
-    match texts.text(alloc, path, FILE_LIMIT) {
+    match texts.text(alloc, path.as_str(), FILE_LIMIT) {
         Ok(text) => explain_text(alloc, role, fault, text.as_str()),
         Err(_) => None,
     }
@@ -171,26 +139,7 @@ fn explanation<T: Texts>(
     }
 }
 
-// Writes it. What can't be written is left.
-fn say_explanation<T: Texts, E: Write>(
-    alloc: Global,
-    ended: &Ended,
-    request: &Request,
-    texts: &T,
-    faults: &mut E,
-)
-    requires { IfSome ended.now.input (λ text. length (string_bytes text) ≤ input_limit) }
-    ensures { (known : Option (List ℕ))
-        → IsKept (known_of_request request.now known (T.bytes texts.now)) ended.now.input
-        → IsSaidOf (known_of_request request.now known (T.bytes texts.now)) ended.now.ending
-        (E.contents faults.old) (E.contents faults.new) }
-{
-    if let Some(line) = explanation(alloc, ended, request, texts) {
-        let _ = write_whole(faults, line.as_bytes());
-    }
-}
-
-// Writes the line of the ending, and behind it the explanation.
+// Writes the line of the ending, and behind it the explanation. What can't be written is left.
 fn tell_explained<T: Texts, E: Write>(
     alloc: Global,
     ended: &Ended,
@@ -207,7 +156,9 @@ fn tell_explained<T: Texts, E: Write>(
     let Ok(()) = ended.ending.tell(faults) else {
         return;
     };
-    say_explanation(alloc, ended, request, texts, faults)
+    if let Some(line) = explanation(alloc, ended, request, texts) {
+        let _ = write_whole(faults, line.as_bytes());
+    }
 }
 
 /// Says on `faults` how a run of this request ended, with an explanation or without, and answers

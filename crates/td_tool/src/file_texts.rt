@@ -1,6 +1,6 @@
 //! The files of an archive, as texts.
 ghost use Rattle.std.specs.Prelude.{IfOk, IfErr, string_bytes};
-ghost use Rattle.td_tool.specs.Checks.{IsTextOf, files_of};
+ghost use Rattle.td_tool.specs.Checks.{IsTextOf, archive_files_at};
 ghost use Rattle.td_tool.specs.CheckInside.{AreTextsIn, HasFailedIn};
 ghost use Rattle.td_tool.specs.TrackInside.{HasFailedFor};
 ghost use Rattle.td_tool.specs.Tracks.{file_at};
@@ -12,6 +12,7 @@ use std::alloc::Global;
 use std::thread;
 use std::thread::Threads;
 use td_bytes::TextFault;
+use td_words::ArchivePaths;
 
 /// The longest file, in bytes.
 pub const FILE_LIMIT: usize = 1_073_741_824;
@@ -36,14 +37,14 @@ pub fn read_one<T: Texts>(
     alloc: Global,
     texts: &T,
     role: Role,
-    path: &str,
+    path: &String,
 ) -> Result<String, FileFault>
     ensures text { IfOk result (λ text.
-        IsTextOf (T.bytes texts.now path.now) (string_bytes text)) }
+        IsTextOf (T.bytes texts.now (string_bytes path.now)) (string_bytes text)) }
     ensures failed { IfErr result (HasFailedFor
-        (file_at (T.bytes texts.now) (T.can_fail texts.now) path.now) role) }
+        (file_at (T.bytes texts.now) (T.can_fail texts.now) (string_bytes path.now)) role) }
 {
-    match texts.text(alloc, path, FILE_LIMIT) {
+    match texts.text(alloc, path.as_str(), FILE_LIMIT) {
         Ok(text) => Ok(text),
         Err(fault) => Err(FileFault { role, fault }),
     }
@@ -54,22 +55,23 @@ fn read_indices<T: Texts + Sync>(
     rt: &(impl Threads + Sync),
     alloc: Global,
     texts: &T,
-    packages: &str,
-    sources: &str,
+    paths: &ArchivePaths,
 ) -> (Result<String, FileFault>, Result<String, FileFault>)
     ensures packages { IfOk result.0 (λ text.
-        IsTextOf (T.bytes texts.now packages.now) (string_bytes text)) }
+        IsTextOf (T.bytes texts.now (string_bytes paths.now.packages)) (string_bytes text)) }
     ensures no_packages { IfErr result.0 (HasFailedFor
-        (file_at (T.bytes texts.now) (T.can_fail texts.now) packages.now) Packages) }
+        (file_at (T.bytes texts.now) (T.can_fail texts.now) (string_bytes paths.now.packages))
+        Packages) }
     ensures sources { IfOk result.1 (λ text.
-        IsTextOf (T.bytes texts.now sources.now) (string_bytes text)) }
+        IsTextOf (T.bytes texts.now (string_bytes paths.now.sources)) (string_bytes text)) }
     ensures no_sources { IfErr result.1 (HasFailedFor
-        (file_at (T.bytes texts.now) (T.can_fail texts.now) sources.now) Sources) }
+        (file_at (T.bytes texts.now) (T.can_fail texts.now) (string_bytes paths.now.sources))
+        Sources) }
 {
     thread::join(
         rt,
-        || read_one(alloc, texts, Role::Packages, packages),
-        || read_one(alloc, texts, Role::Sources, sources),
+        || read_one(alloc, texts, Role::Packages, &paths.packages),
+        || read_one(alloc, texts, Role::Sources, &paths.sources),
     )
 }
 
@@ -80,17 +82,15 @@ pub fn read_files<T: Texts + Sync>(
     rt: &(impl Threads + Sync),
     alloc: Global,
     texts: &T,
-    archs: &str,
-    packages: &str,
-    sources: &str,
+    paths: &ArchivePaths,
 ) -> Result<FileTexts, FileFault>
     ensures texts { IfOk result (AreTextsIn
-        (files_of (T.bytes texts.now) (T.can_fail texts.now) archs.now packages.now sources.now)) }
+        (archive_files_at (T.bytes texts.now) (T.can_fail texts.now) paths.now)) }
     ensures failed { IfErr result (HasFailedIn
-        (files_of (T.bytes texts.now) (T.can_fail texts.now) archs.now packages.now sources.now)) }
+        (archive_files_at (T.bytes texts.now) (T.can_fail texts.now) paths.now)) }
 {
-    let archs = read_one(alloc, texts, Role::Archs, archs)?;
-    let (packages, sources) = read_indices(rt, alloc, texts, packages, sources);
+    let archs = read_one(alloc, texts, Role::Archs, &paths.archs)?;
+    let (packages, sources) = read_indices(rt, alloc, texts, paths);
     let packages = packages?;
     let sources = sources?;
     Ok(FileTexts {

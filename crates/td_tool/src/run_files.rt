@@ -8,25 +8,9 @@ use crate::texts::Texts;
 use crate::track_files::read_given;
 use std::alloc::Global;
 use std::thread::Threads;
+use td_words::RunRequest;
 
-/// The paths of the files.
-#[derive(Clone, Copy)]
-pub struct RunPaths<'w> {
-    pub archs: &'w str,
-    pub packages: &'w str,
-    pub sources: &'w str,
-    /// Rows to put in the place of those that the indices say.
-    pub state: Option<&'w str>,
-    pub tracker: Option<&'w str>,
-    /// How the builds of a crew end. Where there is no crew it is read and not looked at.
-    pub outcomes: Option<&'w str>,
-    /// The journal that is gone on with.
-    pub journal: Option<&'w str>,
-    /// How many builders are asked for.
-    pub builders: usize,
-}
-
-/// What they hold.
+/// What the files of a run hold.
 #[derive(Drop)]
 pub struct RunTexts {
     pub indices: FileTexts,
@@ -42,18 +26,18 @@ pub fn read_run_files<T: Texts + Sync>(
     rt: &(impl Threads + Sync),
     alloc: Global,
     texts: &T,
-    paths: &RunPaths<'_>,
+    request: &RunRequest,
 ) -> Result<RunTexts, FileFault>
     ensures texts { IfOk result (AreRunTexts
-        (run_files_at (T.bytes texts.now) (T.can_fail texts.now) paths.now)) }
+        (run_files_at (T.bytes texts.now) (T.can_fail texts.now) request.now)) }
     ensures failed { IfErr result (HasRunFailed
-        (run_files_at (T.bytes texts.now) (T.can_fail texts.now) paths.now)) }
+        (run_files_at (T.bytes texts.now) (T.can_fail texts.now) request.now)) }
 {
-    let indices = read_files(rt, alloc, texts, paths.archs, paths.packages, paths.sources)?;
-    let state = read_given(alloc, texts, Role::State, paths.state)?;
-    let tracker = read_given(alloc, texts, Role::Tracker, paths.tracker)?;
-    let outcomes = read_given(alloc, texts, Role::Outcomes, paths.outcomes)?;
-    let journal = read_given(alloc, texts, Role::Journal, paths.journal)?;
+    let indices = read_files(rt, alloc, texts, &request.files)?;
+    let state = read_given(alloc, texts, Role::State, &request.state)?;
+    let tracker = read_given(alloc, texts, Role::Tracker, &request.tracker)?;
+    let outcomes = read_given(alloc, texts, Role::Outcomes, &request.outcomes)?;
+    let journal = read_given(alloc, texts, Role::Journal, &request.journal)?;
     Ok(RunTexts {
         indices,
         state,

@@ -1,5 +1,5 @@
 //! The subcommand `run`: a script over the rows of an archive.
-ghost use Rattle.std.specs.Prelude.{◌≡◌, ◌≤◌, IfOk};
+ghost use Rattle.std.specs.Prelude.{◌≡◌, IfOk, string_bytes};
 ghost use Rattle.td_tool.specs.Runs.{EndsRun, OnlyPlayEnds, PlayEnds};
 ghost use Rattle.td_tool.specs.Runs.{ending_of_crew as ending_of_crew_as};
 ghost use Rattle.td_tool.specs.Runs.{ending_of_input as ending_of_input_as};
@@ -13,7 +13,7 @@ use crate::ending::{
 };
 use crate::input_fault::InputFault;
 use crate::role::Role;
-use crate::run_files::{RunPaths, RunTexts, read_run_files};
+use crate::run_files::{RunTexts, read_run_files};
 use crate::texts::Texts;
 use std::alloc::{AllocError, Global};
 use std::io::{Read, Write};
@@ -21,6 +21,7 @@ use std::sync::Wait;
 use std::thread::Threads;
 use td_crew::{CrewFault, run_crew};
 use td_script::{InputFault as Refusal, Inputs, MAX_BUILDERS, RunFault, ScriptEnd, run_script};
+use td_words::RunRequest;
 
 // How a run ends where a text is refused.
 fn ending_of_input(fault: Refusal) -> Ending
@@ -75,14 +76,10 @@ fn ending_of_crew(end: Result<ScriptEnd, CrewFault>) -> Ending
 }
 
 // What the script runs over.
-fn inputs_of(
-    alloc: Global,
-    texts: RunTexts,
-    suite: &str,
-    builders: usize,
-) -> Result<Inputs, AllocError>
+fn inputs_of(alloc: Global, texts: RunTexts, request: &RunRequest) -> Result<Inputs, AllocError>
     requires { IsWithinLimit texts }
-    ensures { IfOk result (AreInputsOf (run_texts_of texts) suite.now builders) }
+    ensures { IfOk result (AreInputsOf (run_texts_of texts) (string_bytes request.now.suite)
+        request.now.builders) }
 {
     Ok(Inputs {
         archs: texts.indices.archs,
@@ -91,9 +88,9 @@ fn inputs_of(
         state: texts.state,
         tracker: texts.tracker,
         journal: texts.journal,
-        suite: String::from_str(alloc, suite)?,
+        suite: String::from_str(alloc, request.suite.as_str())?,
         outcomes: texts.outcomes,
-        builders: builders.min(MAX_BUILDERS),
+        builders: request.builders.min(MAX_BUILDERS),
     })
 }
 
@@ -102,44 +99,44 @@ fn play<R: Read, W: Write>(
     rt: &(impl Threads + Wait + Sync),
     alloc: Global,
     texts: RunTexts,
-    suite: &str,
-    builders: usize,
+    request: &RunRequest,
     reader: &mut R,
     output: &mut W,
 ) -> Ending
     requires { IsWithinLimit texts }
-    ensures says { PlayEnds builders (run_texts_of texts) suite.now
+    ensures says { PlayEnds request.now.builders (run_texts_of texts)
+        (string_bytes request.now.suite)
         (R.remaining reader.old) (W.contents output.old) (W.contents output.new) result }
-    ensures only { OnlyPlayEnds builders (run_texts_of texts) suite.now
-        (R.remaining reader.old) result }
+    ensures only { OnlyPlayEnds request.now.builders (run_texts_of texts)
+        (string_bytes request.now.suite) (R.remaining reader.old) result }
 {
-    let Ok(inputs) = inputs_of(alloc, texts, suite, builders) else {
+    let Ok(inputs) = inputs_of(alloc, texts, request) else {
         return Ending::NoMemory;
     };
-    if builders == 0 {
+    if request.builders == 0 {
         ending_of_script(run_script(rt, alloc, &inputs, reader, output))
     } else {
         ending_of_crew(run_crew(rt, alloc, &inputs, reader, output))
     }
 }
 
-/// Answers the script that the reader has, over the files with these paths. The files are read
-/// before the script, and all of it before anything is written.
+/// Answers the script that the reader has, over the files that are asked for. They are read before
+/// the script, and all of it before anything is written.
 pub fn run<T: Texts + Sync, R: Read, W: Write>(
     rt: &(impl Threads + Wait + Sync),
     alloc: Global,
     texts: &T,
-    paths: &RunPaths<'_>,
-    suite: &str,
+    request: &RunRequest,
     reader: &mut R,
     output: &mut W,
 ) -> Ending
     ensures { EndsRun
-        (run_files_at (T.bytes texts.now) (T.can_fail texts.now) paths.now) suite.now
+        (run_files_at (T.bytes texts.now) (T.can_fail texts.now) request.now)
+        (string_bytes request.now.suite)
         (R.remaining reader.old) (W.contents output.old) (W.contents output.new) result }
 {
-    match read_run_files(rt, alloc, texts, paths) {
-        Ok(read) => play(rt, alloc, read, suite, paths.builders, reader, output),
+    match read_run_files(rt, alloc, texts, request) {
+        Ok(read) => play(rt, alloc, read, request, reader, output),
         Err(unread) => ending_of_file(unread.role, unread.fault),
     }
 }

@@ -1,5 +1,5 @@
 //! The files of a tracker over an archive.
-ghost use Rattle.std.specs.Prelude.{◌≡◌, IfOk, IfErr, option_map, string_bytes};
+ghost use Rattle.std.specs.Prelude.{IfOk, IfErr, option_map, string_bytes};
 ghost use Rattle.td_tool.specs.Tracks.{IsTextIfGiven, file_at};
 ghost use Rattle.td_tool.specs.TrackInside.{AreTextsRead, HasFailedAt, HasFailedIfGiven, files_at};
 
@@ -8,16 +8,15 @@ use crate::role::Role;
 use crate::texts::Texts;
 use std::alloc::Global;
 use std::thread::Threads;
+use td_words::ArchivePaths;
 
 /// The paths of the files.
 #[derive(Clone, Copy)]
 pub struct TrackPaths<'w> {
-    pub archs: &'w str,
-    pub packages: &'w str,
-    pub sources: &'w str,
+    pub files: &'w ArchivePaths,
     /// Rows to put in the place of those that the indices say.
-    pub state: Option<&'w str>,
-    pub tracker: &'w str,
+    pub state: &'w Option<String>,
+    pub tracker: &'w String,
 }
 
 /// What they hold.
@@ -28,30 +27,20 @@ pub struct TrackTexts {
     pub tracker: String,
 }
 
-/// The text of a `String` that may be missing.
-pub fn given(text: &Option<String>) -> Option<&str>
-    ensures { option_map (λ s. s.now) result ≡ option_map string_bytes text.now }
-{
-    match text {
-        Some(text) => Some(text.as_str()),
-        None => None,
-    }
-}
-
 /// Reads the file of a role, where one is given.
 pub fn read_given<T: Texts>(
     alloc: Global,
     texts: &T,
     role: Role,
-    path: Option<&str>,
+    path: &Option<String>,
 ) -> Result<Option<String>, FileFault>
     ensures text { IfOk result (λ text. IsTextIfGiven
         (option_map (file_at (T.bytes texts.now) (T.can_fail texts.now))
-        (option_map (λ p. p.now) path.entry))
+        (option_map string_bytes path.now))
         (option_map string_bytes text)) }
     ensures failed { IfErr result (HasFailedIfGiven
         (option_map (file_at (T.bytes texts.now) (T.can_fail texts.now))
-        (option_map (λ p. p.now) path.entry)) role) }
+        (option_map string_bytes path.now)) role) }
 {
     match path {
         Some(path) => match read_one(alloc, texts, role, path) {
@@ -74,7 +63,7 @@ pub fn read_track_files<T: Texts + Sync>(
     ensures failed { IfErr result (HasFailedAt
         (files_at (T.bytes texts.now) (T.can_fail texts.now) paths.now)) }
 {
-    let indices = read_files(rt, alloc, texts, paths.archs, paths.packages, paths.sources)?;
+    let indices = read_files(rt, alloc, texts, paths.files)?;
     let state = read_given(alloc, texts, Role::State, paths.state)?;
     let tracker = read_one(alloc, texts, Role::Tracker, paths.tracker)?;
     Ok(TrackTexts {

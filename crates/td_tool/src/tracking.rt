@@ -4,7 +4,6 @@ ghost use Rattle.std.specs.Prelude.{string_bytes};
 ghost use Rattle.td_relation.specs.TableView.{table};
 ghost use Rattle.td_rows.specs.Overlay.{first_missing, overlaid};
 ghost use Rattle.td_rows.specs.declared.key.Key.{Key};
-ghost use Rattle.td_rows.specs.Table.{Table};
 ghost use Rattle.td_query.specs.Marks.{AreMarks};
 ghost use Rattle.td_query.specs.Tracking.{tracking};
 ghost use Rattle.td_report.specs.Transition.{IsReport};
@@ -12,13 +11,11 @@ ghost use Rattle.td_report.specs.TransitionView as of;
 ghost use Rattle.td_tool.specs.Ending.{ending_of_missing_row};
 ghost use Rattle.td_tool.specs.Limits.{file_limit};
 ghost use Rattle.td_script.specs.Openings.{AreRowsOf};
-ghost use Rattle.td_tool.specs.Tracks.{AreReadable, AreRefused, EndsSo};
-ghost use Rattle.td_tool.specs.Tracks.{IsPatternRefused, IsReadableOver, IsRefusedOver};
-ghost use Rattle.td_tool.specs.Tracks.{IsStateRefused, RowsSay, TextsSayIt};
+ghost use Rattle.td_tool.specs.Tracks.{AreReadable, AreRefused, EndsSo, IsPatternRefused};
+ghost use Rattle.td_tool.specs.Tracks.{IsReadableOver, IsRefusedOver, RowsSay, TextsSayIt};
 ghost use Rattle.td_tool.specs.TrackInside.{AreReadableWith, AreRefusedWith, CanReplace};
-ghost use Rattle.td_tool.specs.TrackInside.{IndicesSay, IsRefusedFor, IsReplaced, OrMemory};
-ghost use Rattle.td_tool.specs.TrackInside.{RowsAreSaid};
-ghost use Rattle.td_tool.specs.TrackInside.{files_at, saying_of, texts_of};
+ghost use Rattle.td_tool.specs.TrackInside.{EndsWithoutRows, IndicesSay, IsRefusedFor, IsReplaced};
+ghost use Rattle.td_tool.specs.TrackInside.{OrMemory, RowsAreSaid, files_at, saying_of, texts_of};
 
 use crate::checking::write;
 use crate::ending::{
@@ -26,7 +23,7 @@ use crate::ending::{
     ending_of_table, ending_of_tracker,
 };
 use crate::texts::Texts;
-use crate::track_files::{TrackPaths, TrackTexts, given, read_track_files};
+use crate::track_files::{TrackPaths, TrackTexts, read_track_files};
 use std::alloc::{AllocError, Global};
 use std::io::Write;
 use std::thread;
@@ -121,20 +118,16 @@ fn replaced(alloc: Global, rows: Rows, text: &str) -> Result<Rows, Ending>
 }
 
 // The rows with which a desk opens, with those of a text, if there is one, in their places.
-fn rows_of(alloc: Global, archive: &Archive<'_, '_>, state: Option<&str>) -> Result<Rows, Ending>
-    ensures rows { IfOk result (AreRowsOf archive.now (option_map (λ s. s.now) state.entry)) }
-    ensures refused { IfErr result
-        (OrMemory (IsStateRefused archive.now (option_map (λ s. s.now) state.entry))) }
-    ensures only { IfErr result (λ ending.
-        (t : Table) → AreRowsOf archive.now (option_map (λ s. s.now) state.entry) t
-        → ending ≡ Ending.NoMemory) }
+fn rows_of(alloc: Global, archive: &Archive<'_, '_>, state: &Option<String>) -> Result<Rows, Ending>
+    ensures rows { IfOk result (AreRowsOf archive.now (option_map string_bytes state.now)) }
+    ensures none { IfErr result (EndsWithoutRows archive.now (option_map string_bytes state.now)) }
 {
     let Ok(rows) = archive.opening_rows() else {
         return Err(Ending::NoMemory);
     };
     let _count = rows.len();
     match state {
-        Some(text) => replaced(alloc, rows, text),
+        Some(text) => replaced(alloc, rows, text.as_str()),
         None => Ok(rows),
     }
 }
@@ -144,25 +137,19 @@ fn rows_beside(
     rt: &(impl Threads + Sync),
     alloc: Global,
     archive: &Archive<'_, '_>,
-    state: Option<&str>,
+    state: &Option<String>,
     tracker: &Tracker<'_>,
 ) -> (Result<Rows, Ending>, Result<Marks, AllocError>)
-    ensures rows { IfOk result.0 (AreRowsOf archive.now (option_map (λ s. s.now) state.entry)) }
-    ensures refused { IfErr result.0
-        (OrMemory (IsStateRefused archive.now (option_map (λ s. s.now) state.entry))) }
-    ensures only { IfErr result.0 (λ ending.
-        (t : Table) → AreRowsOf archive.now (option_map (λ s. s.now) state.entry) t
-        → ending ≡ Ending.NoMemory) }
+    ensures rows { IfOk result.0 (AreRowsOf archive.now (option_map string_bytes state.now)) }
+    ensures none { IfErr result.0
+        (EndsWithoutRows archive.now (option_map string_bytes state.now)) }
     ensures marks { IfOk result.1 (AreMarks archive.now (tracking tracker.now)) }
 {
     let of_rows = move || -> Result<Rows, Ending>
         ensures rows { IfOk result
-            (AreRowsOf archive.entry.now (option_map (λ s. s.now) state.entry)) }
-        ensures refused { IfErr result
-            (OrMemory (IsStateRefused archive.entry.now (option_map (λ s. s.now) state.entry))) }
-        ensures only { IfErr result (λ ending.
-            (t : Table) → AreRowsOf archive.entry.now (option_map (λ s. s.now) state.entry) t
-            → ending ≡ Ending.NoMemory) }
+            (AreRowsOf archive.entry.now (option_map string_bytes state.entry.now)) }
+        ensures none { IfErr result
+            (EndsWithoutRows archive.entry.now (option_map string_bytes state.entry.now)) }
     { rows_of(alloc, archive, state) };
     let of_marks = move || -> Result<Marks, AllocError>
         ensures { IfOk result (AreMarks archive.entry.now (tracking tracker.entry.now)) }
@@ -176,7 +163,9 @@ fn both_made<A: Drop, B: Drop>(
     second: Result<B, AllocError>,
 ) -> Result<(A, B), Ending>
     ensures ok { IfOk result (λ p. (first ≡ Ok p.0) × (second ≡ Ok p.1)) }
-    ensures err { IfErr result (λ ending. (first ≡ Err ending) ⊎ (ending ≡ Ending.NoMemory)) }
+    ensures err { IfErr result (λ ending. (first ≡ Err ending)
+        ⊎ ((a : A) × (e : AllocError) × (first ≡ Ok a) × (second ≡ Err e)
+        × (ending ≡ Ending.NoMemory))) }
 {
     match first {
         Ok(first) => match second {
@@ -221,18 +210,14 @@ fn tracker_says(
     rt: &(impl Threads + Sync),
     alloc: Global,
     archive: &Archive<'_, '_>,
-    state: Option<&str>,
+    state: &Option<String>,
     tracker: &Tracker<'_>,
     asked: Asked,
 ) -> Result<String, Ending>
     ensures found { IfOk result (λ text.
-        RowsAreSaid (saying_of asked) archive.now (option_map (λ s. s.now) state.entry)
+        RowsAreSaid (saying_of asked) archive.now (option_map string_bytes state.now)
         (tracking tracker.now) (string_bytes text)) }
-    ensures refused { IfErr result
-        (OrMemory (IsStateRefused archive.now (option_map (λ s. s.now) state.entry))) }
-    ensures only { IfErr result (λ ending.
-        (t : Table) → AreRowsOf archive.now (option_map (λ s. s.now) state.entry) t
-        → ending ≡ Ending.NoMemory) }
+    ensures none { IfErr result (EndsWithoutRows archive.now (option_map string_bytes state.now)) }
 {
     let (rows, marks) = rows_beside(rt, alloc, archive, state, tracker);
     match both_made(rows, marks) {
@@ -249,17 +234,17 @@ fn archive_text(
     rt: &(impl Threads + Sync),
     alloc: Global,
     archive: &Archive<'_, '_>,
-    state: Option<&str>,
+    state: &Option<String>,
     tracker: &str,
     asked: Asked,
 ) -> Result<String, Ending>
     ensures found { IfOk result (λ text.
-        RowsSay (saying_of asked) archive.now (option_map (λ s. s.now) state.entry) tracker.now
+        RowsSay (saying_of asked) archive.now (option_map string_bytes state.now) tracker.now
         (string_bytes text)) }
     ensures refused { IfErr result
-        (OrMemory (IsRefusedOver archive.now (option_map (λ s. s.now) state.entry) tracker.now)) }
+        (OrMemory (IsRefusedOver archive.now (option_map string_bytes state.now) tracker.now)) }
     ensures only { IfErr result (λ ending.
-        IsReadableOver archive.now (option_map (λ s. s.now) state.entry) tracker.now
+        IsReadableOver archive.now (option_map string_bytes state.now) tracker.now
         → IsPatternRefused tracker.now ending) }
 {
     match Tracker::read(alloc, tracker) {
@@ -291,7 +276,7 @@ fn indices_text(
     let sources = texts.indices.sources.as_str();
     let tracker = texts.tracker.as_str();
     match Archive::read_beside(rt, alloc, packages, sources, archs) {
-        Ok(archive) => archive_text(rt, alloc, &archive, given(&texts.state), tracker, asked),
+        Ok(archive) => archive_text(rt, alloc, &archive, &texts.state, tracker, asked),
         Err(fault) => Err(ending_of_archive(fault)),
     }
 }

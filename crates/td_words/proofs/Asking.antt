@@ -26,7 +26,7 @@ use Rattle.td_words.specs.CommandLine.{chunk_in, desk, explaining, faults_of, is
 use Rattle.td_words.specs.CommandLine.{RunWords, builders_in, options_of, plain_run, rows_in}
 use Rattle.td_words.specs.CommandLine.{suite_in}
 use Rattle.td_words.specs.declared.request.WordsFault.{WordsFault}
-use Rattle.td_words.specs.Asked.{Asks, IsRequestIn, call_as, run_words, track_words}
+use Rattle.td_words.specs.Asked.{AreFilesIn, Asks, IsRequestIn, call_as, run_words, track_words}
 
 pub is_plain : is_simple_and_free desk ≡ true
 unfolding clap_on_literals
@@ -83,16 +83,18 @@ AreOptions options a p s t state chunk =
     × (first_of (codes "state") options ≡ state)
     × (first_of (codes "chunk") options ≡ chunk)
 
+pub has_tracker : (options : List Row) (a p s t : List ℕ) → HasFiles options a p s
+    → first_of (codes "tracker") options ≡ Some t → HasTracker options a p s t
+has_tracker options a p s t files tracker = record { files = files; tracker_path = tracker }
+
 pub has_track : (options : List Row) (a p s t : List ℕ) (state chunk : Option (List ℕ))
     (rows : Option ℕ) → AreOptions options a p s t state chunk → chunk_in chunk ≡ Some rows
     → HasTrack options
     (record { archs = a; packages = p; sources = s; tracker = t; state = state; chunk = rows })
 has_track options a p s t state chunk rows are same =
     record {
-      files = record {
-        files = record { archs_path = are.0; packages_path = are.1; sources_path = are.2 };
-        tracker_path = are.3;
-      };
+      files = has_tracker options a p s t
+          (record { archs_path = are.0; packages_path = are.1; sources_path = are.2 }) are.3;
       state_path = are.4;
       rows = ap chunk_in are.5 ∙ same;
     }
@@ -210,17 +212,13 @@ waves_explain = record { same = same; flag = flag }
         ++ explaining explained) archs packages sources tracker
     same program archs packages sources tracker false = (
       (refl, refl),
-      record {
-        files = record { archs_path = refl; packages_path = refl; sources_path = refl };
-        tracker_path = refl;
-      },
+      (has_tracker _ _ _ _ _
+          (record { archs_path = refl; packages_path = refl; sources_path = refl }) refl),
     )
     same program archs packages sources tracker true = (
       (refl, refl),
-      record {
-        files = record { archs_path = refl; packages_path = refl; sources_path = refl };
-        tracker_path = refl;
-      },
+      (has_tracker _ _ _ _ _
+          (record { archs_path = refl; packages_path = refl; sources_path = refl }) refl),
     )
 
     flag : (program archs packages sources tracker : List ℕ) (explained : Bool)
@@ -298,28 +296,23 @@ rows_of_matches m o p is same =
 pub asks : (words : List (List ℕ)) (found : Option (List ℕ × List Row)) (r : Request)
     → found ≡ subcommand_of desk words → faults_of words ≡ [] → IsRequestIn found r → Asks words r
 asks words found Simulate same fine is = (fine, sym (ap name_in same) ∙ is)
-asks words found (Check archs packages sources) same fine is = (
+asks words found (Check files) same fine is = (
   (fine, sym (ap name_in same) ∙ is.0),
-  subst (λ o. HasFiles (rows_in o) (string_bytes archs) (string_bytes packages)
-      (string_bytes sources)) same is.1,
+  subst (λ o. AreFilesIn (rows_in o) files) same is.1,
 )
-asks words found (Track archs packages sources tracker state chunk) same fine is = (
+asks words found (Track r) same fine is = (
   (fine, sym (ap name_in same) ∙ is.0),
-  subst (λ o. HasTrack (rows_in o) (track_words archs packages sources tracker state chunk)) same
-      is.1,
+  subst (λ o. HasTrack (rows_in o) (track_words r)) same is.1,
 )
-asks words found (Waves archs packages sources tracker) same fine is = (
+asks words found (Waves files tracker) same fine is = (
   (fine, sym (ap name_in same) ∙ is.0),
-  subst (λ o. HasTracker (rows_in o) (string_bytes archs) (string_bytes packages)
-      (string_bytes sources) (string_bytes tracker)) same is.1,
+  subst (λ o. HasTracker (rows_in o) (string_bytes files.archs) (string_bytes files.packages)
+      (string_bytes files.sources) (string_bytes tracker)) same is.1,
 )
-asks words found (Run archs packages sources state tracker suite builders outcomes journal) same
-    fine is = (
-      (fine, sym (ap name_in same) ∙ is.0),
-      subst (λ o. HasRun (rows_in o)
-          (run_words archs packages sources state tracker suite builders outcomes journal)) same
-          is.1,
-    )
+asks words found (Run r) same fine is = (
+  (fine, sym (ap name_in same) ∙ is.0),
+  subst (λ o. HasRun (rows_in o) (run_words r)) same is.1,
+)
 
 -- what `clap` says of words by the command that was built, it says of these words
 pub said_of_words : (Says : App → Type 0) (built : App) → built ≡ desk

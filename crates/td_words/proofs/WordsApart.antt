@@ -1,23 +1,26 @@
 -- The words of each subcommand ask for it with their values as words of their own.
-use Rattle.std.proofs.Common.{◌≡◌, ℕ, List, [], ◌∷◌, Option, Some, None, unwrap_or, codes, refl}
-use Rattle.std.proofs.Common.{sym, ap, subst}
+use Rattle.std.proofs.Common.{◌≡◌, ℕ, false, List, [], ◌∷◌, Option, Some, None, unwrap_or, codes}
+use Rattle.std.proofs.Common.{refl, sym, ap, subst, ◌∙◌}
 use Rattle.std.specs.Prelude.{find}
+use Rattle.std.specs.List.{fold}
 use Rattle.std.specs.Str.{bytes_eq}
-use Rattle.clap.specs.Kinds.{or_else}
+use Rattle.clap.specs.Faults.{level_fault}
+use Rattle.clap.specs.Kinds.{Kinds, or_else}
 use Rattle.clap.specs.Walk.{Row, finished, nothing_held, walk_from}
 use Rattle.clap.specs.Simple.{Shape, built, subcommand_of}
 use Rattle.clap.proofs.OnLiterals.{clap_on_literals}
-use Rattle.td_words.specs.CommandLine.{AskForCheck, AskForTrack, DeskValues, HasFiles}
+use Rattle.td_words.specs.CommandLine.{AskFor, AskForCheck, AskForTrack, DeskValues, HasFiles}
 use Rattle.td_words.specs.CommandLine.{HasRun, HasTrack, HasTracker, IsPlainPath}
 use Rattle.td_words.specs.CommandLine.{TrackWords, asking_apart, check_shape, chunk_in}
-use Rattle.td_words.specs.CommandLine.{desk, faults_of, name_in, plain_run, rows_in, run_shape}
-use Rattle.td_words.specs.CommandLine.{track_shape, waves_shape, whole_run}
+use Rattle.td_words.specs.CommandLine.{desk, faults_of, name_in, options_of, plain_run, rows_in}
+use Rattle.td_words.specs.CommandLine.{run_shape, track_shape, waves_shape, whole_run}
 use Rattle.td_words.specs.WordsApart.{AreDeskPlain, ArePlain, IsPlainIfGiven}
 use Rattle.td_words.specs.WordsApart.{SeparatePlainRunWordsAsk, SeparateTrackWordsAsk}
 use Rattle.td_words.specs.WordsApart.{SeparateWavesWordsAsk, SeparateWholeRunWordsAsk}
 use Rattle.td_words.specs.WordsApart.{plain_run_apart, track_apart, waves_apart, whole_run_apart}
-use Rattle.td_words.proofs.Asking.{AreOptions, has_run, has_track}
-use Rattle.td_words.proofs.Apart.{Given, Opens, ended, level_passes, walk_is}
+use Rattle.td_words.proofs.Asking.{AreOptions, has_run, has_track, has_tracker}
+use Rattle.td_words.proofs.Apart.{Given, Opens, end_fault, ended, level_passes, stepped, walk_is}
+use Rattle.td_words.proofs.Apart.{words_of}
 
 -- a subcommand as it is built
 abbrev built_as : List ℕ → Shape → Shape
@@ -27,97 +30,54 @@ built_as name shape = unwrap_or (find (λ s. bytes_eq s.name name) (built desk).
 abbrev archive_given : List ℕ → List ℕ → List ℕ → List Given → List Given
 archive_given a p s more = (codes "archs", a) ∷ (codes "packages", p) ∷ (codes "sources", s) ∷ more
 
--- what a subcommand is entered with
-abbrev found : List ℕ → Shape → List Given → Option (List ℕ × List Row)
-found name b gs = Some (name, finished b.rules (ended b gs).held)
+-- what a subcommand is entered with, once the words behind it are walked through
+abbrev entered : List ℕ → Shape → List Given → Option (List ℕ × List Row)
+entered name b gs =
+    Some (name, finished b.rules (fold (stepped b) (walk_from nothing_held) (words_of gs)).held)
+
+-- what may be wrong with these words
+abbrev faults_in : Shape → List Given → Kinds
+faults_in b gs = or_else (level_fault b [] nothing_held (words_of gs) false []) []
+
+-- where no value is taken for an option, the words ask for the subcommand, and give these values
+asked_by : (Has : List Row → Type 0) (name : List ℕ) (b : Shape) (words : List (List ℕ))
+    (gs : List Given) → subcommand_of desk words ≡ entered name b gs
+    → faults_of words ≡ faults_in b gs → end_fault b gs ≡ []
+    → Opens b (walk_from nothing_held) gs → Has (finished b.rules (ended b gs).held)
+    → AskFor name words × Has (options_of words)
+asked_by Has name b words gs enters fails ends opens has =
+    let found = enters ∙ ap (λ w. Some (name, finished b.rules w.held))
+    (walk_is b (walk_from nothing_held) gs opens) in (
+      (fails ∙ ap (λ kinds. or_else kinds []) (level_passes b gs opens ends), ap name_in found),
+      subst (λ o. Has (rows_in o)) (sym found) has,
+    )
 
 -- ---- check
-
-abbrev built_check : Shape
-built_check = built_as (codes "check") check_shape
-
-abbrev check_given : List ℕ → List ℕ → List ℕ → List Given
-check_given a p s = archive_given a p s []
-
-check_opens : (a p s : List ℕ) → IsPlainPath a → IsPlainPath p → IsPlainPath s
-    → Opens built_check (walk_from nothing_held) (check_given a p s)
-unfolding clap_on_literals
-check_opens a p s pa pp ps = (refl, refl, pa, (refl, refl, pp, (refl, refl, ps, tt)))
-
-check_faults : (program a p s : List ℕ)
-    → Opens built_check (walk_from nothing_held) (check_given a p s)
-    → faults_of (asking_apart program a p s) ≡ []
-unfolding clap_on_literals
-check_faults program a p s h =
-    ap (λ kinds. or_else kinds []) (level_passes built_check (check_given a p s) h refl)
-
-check_entered : (program a p s : List ℕ)
-    → Opens built_check (walk_from nothing_held) (check_given a p s)
-    → subcommand_of desk (asking_apart program a p s)
-    ≡ found (codes "check") built_check (check_given a p s)
-unfolding clap_on_literals
-check_entered program a p s h =
-    ap (λ w. Some (codes "check", finished built_check.rules w.held))
-    (walk_is built_check (walk_from nothing_held) (check_given a p s) h)
 
 pub asks_apart : (program archs packages sources : List ℕ) → IsPlainPath archs
     → IsPlainPath packages → IsPlainPath sources
     → AskForCheck (asking_apart program archs packages sources) archs packages sources
 unfolding clap_on_literals
 asks_apart program a p s pa pp ps =
-    let opens = check_opens a p s pa pp ps in
-    let entered = check_entered program a p s opens in (
-      (check_faults program a p s opens, ap name_in entered),
-      subst (λ o. HasFiles (rows_in o) a p s) (sym entered)
-          (record { archs_path = refl; packages_path = refl; sources_path = refl }),
-    )
+    asked_by (λ o. HasFiles o a p s) (codes "check") (built_as (codes "check") check_shape)
+    (asking_apart program a p s) (archive_given a p s []) refl refl refl
+    (refl, refl, pa, (refl, refl, pp, (refl, refl, ps, tt)))
+    (record { archs_path = refl; packages_path = refl; sources_path = refl })
 
 -- ---- waves
 
-abbrev built_waves : Shape
-built_waves = built_as (codes "waves") waves_shape
-
-abbrev waves_given : List ℕ → List ℕ → List ℕ → List ℕ → List Given
-waves_given a p s t = archive_given a p s ((codes "tracker", t) ∷ [])
-
-waves_opens : (a p s t : List ℕ) → ArePlain a p s → IsPlainPath t
-    → Opens built_waves (walk_from nothing_held) (waves_given a p s t)
-unfolding clap_on_literals
-waves_opens a p s t h pt = (
-  refl,
-  refl,
-  h.archs_plain,
-  (refl, refl, h.packages_plain, (refl, refl, h.sources_plain, (refl, refl, pt, tt))),
-)
-
-waves_faults : (program a p s t : List ℕ)
-    → Opens built_waves (walk_from nothing_held) (waves_given a p s t)
-    → faults_of (waves_apart program a p s t) ≡ []
-unfolding clap_on_literals
-waves_faults program a p s t h =
-    ap (λ kinds. or_else kinds []) (level_passes built_waves (waves_given a p s t) h refl)
-
-waves_entered : (program a p s t : List ℕ)
-    → Opens built_waves (walk_from nothing_held) (waves_given a p s t)
-    → subcommand_of desk (waves_apart program a p s t)
-    ≡ found (codes "waves") built_waves (waves_given a p s t)
-unfolding clap_on_literals
-waves_entered program a p s t h =
-    ap (λ w. Some (codes "waves", finished built_waves.rules w.held))
-    (walk_is built_waves (walk_from nothing_held) (waves_given a p s t) h)
-
 pub asks_for_waves_apart : SeparateWavesWordsAsk
 unfolding clap_on_literals
-asks_for_waves_apart program a p s t plain pt =
-    let opens = waves_opens a p s t plain pt in
-    let entered = waves_entered program a p s t opens in (
-      (waves_faults program a p s t opens, ap name_in entered),
-      subst (λ o. HasTracker (rows_in o) a p s t) (sym entered)
-          (record {
-            files = record { archs_path = refl; packages_path = refl; sources_path = refl };
-            tracker_path = refl;
-          }),
+asks_for_waves_apart program a p s t h pt =
+    asked_by (λ o. HasTracker o a p s t) (codes "waves") (built_as (codes "waves") waves_shape)
+    (waves_apart program a p s t) (archive_given a p s ((codes "tracker", t) ∷ [])) refl refl refl (
+      refl,
+      refl,
+      h.archs_plain,
+      (refl, refl, h.packages_plain, (refl, refl, h.sources_plain, (refl, refl, pt, tt))),
     )
+    (has_tracker _ _ _ _ _ (record { archs_path = refl; packages_path = refl; sources_path = refl })
+    refl)
 
 -- ---- track
 
@@ -128,233 +88,131 @@ abbrev if_given : List ℕ → Option (List ℕ) → List Given → List Given
 if_given name None more = more
 if_given name (Some value) more = (name, value) ∷ more
 
-abbrev track_given : List ℕ → List ℕ → List ℕ → List ℕ → Option (List ℕ) → Option (List ℕ)
-    → List Given
-track_given a p s t state chunk =
-    archive_given a p s
-    ((codes "tracker", t) ∷ if_given (codes "state") state (if_given (codes "chunk") chunk []))
+abbrev track_more : List ℕ → Option (List ℕ) → Option (List ℕ) → List Given
+track_more t state chunk =
+    (codes "tracker", t) ∷ if_given (codes "state") state (if_given (codes "chunk") chunk [])
 
 abbrev words_with : List ℕ → List ℕ → List ℕ → List ℕ → Option (List ℕ) → Option ℕ → TrackWords
 words_with a p s t state rows =
     record { archs = a; packages = p; sources = s; tracker = t; state = state; chunk = rows }
 
-module _ (program a p s t : List ℕ) (rows : Option ℕ) where
-  abbrev TrackOpens : Option (List ℕ) → Option (List ℕ) → Type 0
-  TrackOpens state chunk =
-      Opens built_track (walk_from nothing_held) (track_given a p s t state chunk)
+module _ (program a p s t : List ℕ) (rows : Option ℕ) (h : ArePlain a p s) where
+  abbrev track_given : Option (List ℕ) → Option (List ℕ) → List Given
+  track_given state chunk = archive_given a p s (track_more t state chunk)
 
-  track_opens : (state chunk : Option (List ℕ)) → ArePlain a p s → IsPlainPath t
-      → IsPlainIfGiven state → IsPlainIfGiven chunk → TrackOpens state chunk
+  abbrev track_words : Option (List ℕ) → Option (List ℕ) → List (List ℕ)
+  track_words state chunk = track_apart program (words_with a p s t state rows) chunk
+
+  -- the files of an archive are no options, and what follows them decides
+  track_archive : (more : List Given)
+      → Opens built_track (ended built_track (archive_given a p s [])) more
+      → Opens built_track (walk_from nothing_held) (archive_given a p s more)
   unfolding clap_on_literals
-  track_opens None None h pt ps pc = (
+  track_archive more opens = (
     refl,
     refl,
     h.archs_plain,
-    (refl, refl, h.packages_plain, (refl, refl, h.sources_plain, (refl, refl, pt, tt))),
-  )
-  track_opens None (Some c) h pt ps pc = (
-    refl,
-    refl,
-    h.archs_plain,
-    (
-      refl,
-      refl,
-      h.packages_plain,
-      (refl, refl, h.sources_plain, (refl, refl, pt, (refl, refl, pc, tt))),
-    ),
-  )
-  track_opens (Some x) None h pt ps pc = (
-    refl,
-    refl,
-    h.archs_plain,
-    (
-      refl,
-      refl,
-      h.packages_plain,
-      (refl, refl, h.sources_plain, (refl, refl, pt, (refl, refl, ps, tt))),
-    ),
-  )
-  track_opens (Some x) (Some c) h pt ps pc = (
-    refl,
-    refl,
-    h.archs_plain,
-    (
-      refl,
-      refl,
-      h.packages_plain,
-      (refl, refl, h.sources_plain, (refl, refl, pt, (refl, refl, ps, (refl, refl, pc, tt)))),
-    ),
+    (refl, refl, h.packages_plain, (refl, refl, h.sources_plain, opens)),
   )
 
-  track_faults : (state chunk : Option (List ℕ)) → TrackOpens state chunk
-      → faults_of (track_apart program (words_with a p s t state rows) chunk) ≡ []
+  track_by : (state chunk : Option (List ℕ)) → chunk_in chunk ≡ Some rows
+      → subcommand_of desk (track_words state chunk)
+      ≡ entered (codes "track") built_track (track_given state chunk)
+      → faults_of (track_words state chunk) ≡ faults_in built_track (track_given state chunk)
+      → end_fault built_track (track_given state chunk) ≡ []
+      → AreOptions (finished built_track.rules (ended built_track (track_given state chunk)).held) a
+      p s t state chunk
+      → Opens built_track (ended built_track (archive_given a p s [])) (track_more t state chunk)
+      → AskForTrack (track_words state chunk) (words_with a p s t state rows)
+  track_by state chunk same enters fails ends are opens =
+      asked_by (λ o. HasTrack o (words_with a p s t state rows)) (codes "track") built_track
+      (track_words state chunk) (track_given state chunk) enters fails ends
+      (track_archive (track_more t state chunk) opens)
+      (has_track _ a p s t state chunk rows are same)
+
+  track_asks : (state chunk : Option (List ℕ)) → chunk_in chunk ≡ Some rows → IsPlainPath t
+      → IsPlainIfGiven state → IsPlainIfGiven chunk
+      → AskForTrack (track_words state chunk) (words_with a p s t state rows)
   unfolding clap_on_literals
-  track_faults None None h =
-      ap (λ kinds. or_else kinds [])
-      (level_passes built_track (track_given a p s t None None) h refl)
-  track_faults None (Some c) h =
-      ap (λ kinds. or_else kinds [])
-      (level_passes built_track (track_given a p s t None (Some c)) h refl)
-  track_faults (Some x) None h =
-      ap (λ kinds. or_else kinds [])
-      (level_passes built_track (track_given a p s t (Some x) None) h refl)
-  track_faults (Some x) (Some c) h =
-      ap (λ kinds. or_else kinds [])
-      (level_passes built_track (track_given a p s t (Some x) (Some c)) h refl)
-
-  track_entered : (state chunk : Option (List ℕ)) → TrackOpens state chunk
-      → subcommand_of desk (track_apart program (words_with a p s t state rows) chunk)
-      ≡ found (codes "track") built_track (track_given a p s t state chunk)
-  unfolding clap_on_literals
-  track_entered None None h =
-      ap (λ w. Some (codes "track", finished built_track.rules w.held))
-      (walk_is built_track (walk_from nothing_held) (track_given a p s t None None) h)
-  track_entered None (Some c) h =
-      ap (λ w. Some (codes "track", finished built_track.rules w.held))
-      (walk_is built_track (walk_from nothing_held) (track_given a p s t None (Some c)) h)
-  track_entered (Some x) None h =
-      ap (λ w. Some (codes "track", finished built_track.rules w.held))
-      (walk_is built_track (walk_from nothing_held) (track_given a p s t (Some x) None) h)
-  track_entered (Some x) (Some c) h =
-      ap (λ w. Some (codes "track", finished built_track.rules w.held))
-      (walk_is built_track (walk_from nothing_held) (track_given a p s t (Some x) (Some c)) h)
-
-  abbrev track_rows : Option (List ℕ) → Option (List ℕ) → List Row
-  track_rows state chunk =
-      rows_in (found (codes "track") built_track (track_given a p s t state chunk))
-
-  track_options : (state chunk : Option (List ℕ))
-      → AreOptions (track_rows state chunk) a p s t state chunk
-  unfolding clap_on_literals
-  track_options None None = (refl, refl, refl, refl, refl, refl)
-  track_options None (Some c) = (refl, refl, refl, refl, refl, refl)
-  track_options (Some x) None = (refl, refl, refl, refl, refl, refl)
-  track_options (Some x) (Some c) = (refl, refl, refl, refl, refl, refl)
-
-  track_asks : (state chunk : Option (List ℕ)) → chunk_in chunk ≡ Some rows → TrackOpens state chunk
-      → AskForTrack (track_apart program (words_with a p s t state rows) chunk)
-      (words_with a p s t state rows)
-  track_asks state chunk same opens =
-      let entered = track_entered state chunk opens in (
-        (track_faults state chunk opens, ap name_in entered),
-        subst (λ o. HasTrack (rows_in o) (words_with a p s t state rows)) (sym entered)
-            (has_track _ a p s t state chunk rows (track_options state chunk) same),
-      )
+  track_asks None None same pt ps pc =
+      track_by None None same refl refl refl (refl, refl, refl, refl, refl, refl)
+      (refl, refl, pt, tt)
+  track_asks None (Some c) same pt ps pc =
+      track_by None (Some c) same refl refl refl (refl, refl, refl, refl, refl, refl)
+      (refl, refl, pt, (refl, refl, pc, tt))
+  track_asks (Some x) None same pt ps pc =
+      track_by (Some x) None same refl refl refl (refl, refl, refl, refl, refl, refl)
+      (refl, refl, pt, (refl, refl, ps, tt))
+  track_asks (Some x) (Some c) same pt ps pc =
+      track_by (Some x) (Some c) same refl refl refl (refl, refl, refl, refl, refl, refl)
+      (refl, refl, pt, (refl, refl, ps, (refl, refl, pc, tt)))
 
 pub asks_for_track_apart : SeparateTrackWordsAsk
 asks_for_track_apart program w chunk same plain pt ps pc =
-    track_asks program w.archs w.packages w.sources w.tracker w.chunk w.state chunk same
-    (track_opens program w.archs w.packages w.sources w.tracker w.chunk w.state chunk plain pt ps
-    pc)
+    track_asks program w.archs w.packages w.sources w.tracker w.chunk plain w.state chunk same pt ps
+    pc
 
 -- ---- run
 
 abbrev built_run : Shape
 built_run = built_as (codes "run") run_shape
 
-abbrev run_given : List ℕ → List ℕ → List ℕ → List Given
-run_given a p s = archive_given a p s []
-
-run_opens : (a p s : List ℕ) → ArePlain a p s
-    → Opens built_run (walk_from nothing_held) (run_given a p s)
+run_opens : (a p s : List ℕ) (more : List Given) → ArePlain a p s
+    → Opens built_run (ended built_run (archive_given a p s [])) more
+    → Opens built_run (walk_from nothing_held) (archive_given a p s more)
 unfolding clap_on_literals
-run_opens a p s h =
-    (refl, refl, h.archs_plain, (refl, refl, h.packages_plain, (refl, refl, h.sources_plain, tt)))
-
-run_faults : (program a p s : List ℕ) → Opens built_run (walk_from nothing_held) (run_given a p s)
-    → faults_of (plain_run_apart program a p s) ≡ []
-unfolding clap_on_literals
-run_faults program a p s h =
-    ap (λ kinds. or_else kinds []) (level_passes built_run (run_given a p s) h refl)
-
-run_entered : (program a p s : List ℕ) → Opens built_run (walk_from nothing_held) (run_given a p s)
-    → subcommand_of desk (plain_run_apart program a p s)
-    ≡ found (codes "run") built_run (run_given a p s)
-unfolding clap_on_literals
-run_entered program a p s h =
-    ap (λ w. Some (codes "run", finished built_run.rules w.held))
-    (walk_is built_run (walk_from nothing_held) (run_given a p s) h)
+run_opens a p s more h opens = (
+  refl,
+  refl,
+  h.archs_plain,
+  (refl, refl, h.packages_plain, (refl, refl, h.sources_plain, opens)),
+)
 
 pub asks_for_plain_run_apart : SeparatePlainRunWordsAsk
 unfolding clap_on_literals
 asks_for_plain_run_apart program a p s plain =
-    let opens = run_opens a p s plain in
-    let entered = run_entered program a p s opens in (
-      (run_faults program a p s opens, ap name_in entered),
-      subst (λ o. HasRun (rows_in o) (plain_run a p s)) (sym entered)
-          (has_run _ _ (record { archs_path = refl; packages_path = refl; sources_path = refl })
-          refl refl refl refl refl refl),
-    )
+    asked_by (λ o. HasRun o (plain_run a p s)) (codes "run") built_run
+    (plain_run_apart program a p s) (archive_given a p s []) refl refl refl
+    (run_opens a p s [] plain tt)
+    (has_run _ _ (record { archs_path = refl; packages_path = refl; sources_path = refl })
+    refl refl refl refl refl refl)
 
-abbrev whole_given : List ℕ → List ℕ → List ℕ → DeskValues → List Given
-whole_given a p s v =
-    archive_given a p s ((codes "state", v.state) ∷ (codes "tracker", v.tracker)
-    ∷ (codes "suite", v.suite) ∷ (codes "builders", v.builders) ∷ (codes "outcomes", v.outcomes)
-    ∷ (codes "journal", v.journal) ∷ [])
+abbrev whole_more : DeskValues → List Given
+whole_more v =
+    (codes "state", v.state) ∷ (codes "tracker", v.tracker) ∷ (codes "suite", v.suite)
+    ∷ (codes "builders", v.builders) ∷ (codes "outcomes", v.outcomes)
+    ∷ (codes "journal", v.journal) ∷ []
 
-whole_opens : (a p s : List ℕ) (v : DeskValues) → ArePlain a p s → AreDeskPlain v
-    → Opens built_run (walk_from nothing_held) (whole_given a p s v)
+whole_opens : (a p s : List ℕ) (v : DeskValues) → AreDeskPlain v
+    → Opens built_run (ended built_run (archive_given a p s [])) (whole_more v)
 unfolding clap_on_literals
-whole_opens a p s v h k = (
+whole_opens a p s v k = (
   refl,
   refl,
-  h.archs_plain,
+  k.state_plain,
   (
     refl,
     refl,
-    h.packages_plain,
+    k.tracker_plain,
     (
       refl,
       refl,
-      h.sources_plain,
+      k.suite_plain,
       (
         refl,
         refl,
-        k.state_plain,
-        (
-          refl,
-          refl,
-          k.tracker_plain,
-          (
-            refl,
-            refl,
-            k.suite_plain,
-            (
-              refl,
-              refl,
-              k.builders_plain,
-              (refl, refl, k.outcomes_plain, (refl, refl, k.journal_plain, tt)),
-            ),
-          ),
-        ),
+        k.builders_plain,
+        (refl, refl, k.outcomes_plain, (refl, refl, k.journal_plain, tt)),
       ),
     ),
   ),
 )
 
-whole_faults : (program a p s : List ℕ) (v : DeskValues)
-    → Opens built_run (walk_from nothing_held) (whole_given a p s v)
-    → faults_of (whole_run_apart program a p s v) ≡ []
-unfolding clap_on_literals
-whole_faults program a p s v h =
-    ap (λ kinds. or_else kinds []) (level_passes built_run (whole_given a p s v) h refl)
-
-whole_entered : (program a p s : List ℕ) (v : DeskValues)
-    → Opens built_run (walk_from nothing_held) (whole_given a p s v)
-    → subcommand_of desk (whole_run_apart program a p s v)
-    ≡ found (codes "run") built_run (whole_given a p s v)
-unfolding clap_on_literals
-whole_entered program a p s v h =
-    ap (λ w. Some (codes "run", finished built_run.rules w.held))
-    (walk_is built_run (walk_from nothing_held) (whole_given a p s v) h)
-
 pub asks_for_whole_run_apart : SeparateWholeRunWordsAsk
 unfolding clap_on_literals
 asks_for_whole_run_apart program a p s v count same plain desk_plain =
-    let opens = whole_opens a p s v plain desk_plain in
-    let entered = whole_entered program a p s v opens in (
-      (whole_faults program a p s v opens, ap name_in entered),
-      subst (λ o. HasRun (rows_in o) (whole_run a p s v count)) (sym entered)
-          (has_run _ _ (record { archs_path = refl; packages_path = refl; sources_path = refl })
-          refl refl refl same refl refl),
-    )
+    asked_by (λ o. HasRun o (whole_run a p s v count)) (codes "run") built_run
+    (whole_run_apart program a p s v) (archive_given a p s (whole_more v)) refl refl refl
+    (run_opens a p s (whole_more v) plain (whole_opens a p s v desk_plain))
+    (has_run _ _ (record { archs_path = refl; packages_path = refl; sources_path = refl })
+    refl refl refl same refl refl)

@@ -1,9 +1,11 @@
 -- What an answer says of the words. This project's own.
-use Rattle.std.specs.Prelude.{◌≡◌, ℕ, List, Bool, Option, Some, Result, Ok, Err, String, option_map}
+use Rattle.std.specs.Prelude.{◌≡◌, ℕ, List, Bool, Option, Some, Result, Ok, Err, option_map}
 use Rattle.std.specs.Prelude.{string_bytes, codes}
-use Rattle.std.specs.declared.alloc.Global.{Global}
 use Rattle.clap.specs.Walk.{Row}
 use Rattle.td_words.specs.declared.request.Call.{Call}
+use Rattle.td_words.specs.declared.request.ArchivePaths.{ArchivePaths}
+use Rattle.td_words.specs.declared.request.TrackRequest.{TrackRequest}
+use Rattle.td_words.specs.declared.request.RunRequest.{RunRequest}
 use Rattle.td_words.specs.declared.request.Request.{Request}
 use Rattle.td_words.specs.declared.request.Request.TheVariants.{Simulate, Check, Track, Waves, Run}
 use Rattle.td_words.specs.declared.request.WordsFault.{WordsFault}
@@ -13,82 +15,79 @@ use Rattle.td_words.specs.CommandLine.{HasFiles, HasRun, HasTrack, HasTracker, R
 use Rattle.td_words.specs.CommandLine.{name_in, rows_in}
 
 -- what a report is asked for with, by the texts that say so
-abbrev pub track_words : String Global → String Global → String Global → String Global
-    → Option (String Global) → Option ℕ → TrackWords
-track_words archs packages sources tracker state chunk = record {
-  archs = string_bytes archs;
-  packages = string_bytes packages;
-  sources = string_bytes sources;
-  tracker = string_bytes tracker;
-  state = option_map string_bytes state;
-  chunk = chunk;
+abbrev pub track_words : TrackRequest → TrackWords
+track_words r = record {
+  archs = string_bytes r.files.archs;
+  packages = string_bytes r.files.packages;
+  sources = string_bytes r.files.sources;
+  tracker = string_bytes r.tracker;
+  state = option_map string_bytes r.state;
+  chunk = r.chunk;
 }
 
 -- what a script runs over, likewise
-abbrev pub run_words : String Global → String Global → String Global → Option (String Global)
-    → Option (String Global) → String Global → ℕ → Option (String Global) → Option (String Global)
-    → RunWords
-run_words archs packages sources state tracker suite builders outcomes journal = record {
-  archs = string_bytes archs;
-  packages = string_bytes packages;
-  sources = string_bytes sources;
-  state = option_map string_bytes state;
-  tracker = option_map string_bytes tracker;
-  suite = string_bytes suite;
-  builders = builders;
-  outcomes = option_map string_bytes outcomes;
-  journal = option_map string_bytes journal;
+abbrev pub run_words : RunRequest → RunWords
+run_words r = record {
+  archs = string_bytes r.files.archs;
+  packages = string_bytes r.files.packages;
+  sources = string_bytes r.files.sources;
+  state = option_map string_bytes r.state;
+  tracker = option_map string_bytes r.tracker;
+  suite = string_bytes r.suite;
+  builders = r.builders;
+  outcomes = option_map string_bytes r.outcomes;
+  journal = option_map string_bytes r.journal;
 }
 
 -- the words ask for just this
 abbrev pub Asks : List (List ℕ) → Request → Type 0
 Asks words Simulate = AskFor (codes "simulate") words
-Asks words (Check archs packages sources) =
-    AskForCheck words (string_bytes archs) (string_bytes packages) (string_bytes sources)
-Asks words (Track archs packages sources tracker state chunk) =
-    AskForTrack words (track_words archs packages sources tracker state chunk)
-Asks words (Waves archs packages sources tracker) =
-    AskForWaves words (string_bytes archs) (string_bytes packages) (string_bytes sources)
-    (string_bytes tracker)
-Asks words (Run archs packages sources state tracker suite builders outcomes journal) =
-    AskForRun words (run_words archs packages sources state tracker suite builders outcomes journal)
+Asks words (Check files) =
+    AskForCheck words (string_bytes files.archs) (string_bytes files.packages)
+    (string_bytes files.sources)
+Asks words (Track r) = AskForTrack words (track_words r)
+Asks words (Waves files tracker) =
+    AskForWaves words (string_bytes files.archs) (string_bytes files.packages)
+    (string_bytes files.sources) (string_bytes tracker)
+Asks words (Run r) = AskForRun words (run_words r)
+
+-- the files have these paths
+pub record AreFilesOf (a p s : List ℕ) (files : ArchivePaths) : Type 0 where
+  pub archs : string_bytes files.archs ≡ a
+  pub packages : string_bytes files.packages ≡ p
+  pub sources : string_bytes files.sources ≡ s
 
 -- the answer is the check of these files
 abbrev pub IsCheckOf : List ℕ → List ℕ → List ℕ → Request → Type 0
 IsCheckOf a p s Simulate = ⊥
-IsCheckOf a p s (Check archs packages sources) =
-    (string_bytes archs ≡ a) × (string_bytes packages ≡ p) × (string_bytes sources ≡ s)
-IsCheckOf a p s (Track archs packages sources tracker state chunk) = ⊥
-IsCheckOf a p s (Waves archs packages sources tracker) = ⊥
-IsCheckOf a p s (Run archs packages sources state tracker suite builders outcomes journal) = ⊥
+IsCheckOf a p s (Check files) = AreFilesOf a p s files
+IsCheckOf a p s (Track r) = ⊥
+IsCheckOf a p s (Waves files tracker) = ⊥
+IsCheckOf a p s (Run r) = ⊥
 
 -- the answer is the waves of these files
 abbrev pub AreWavesOf : List ℕ → List ℕ → List ℕ → List ℕ → Request → Type 0
 AreWavesOf a p s t Simulate = ⊥
-AreWavesOf a p s t (Check archs packages sources) = ⊥
-AreWavesOf a p s t (Track archs packages sources tracker state chunk) = ⊥
-AreWavesOf a p s t (Waves archs packages sources tracker) =
-    (string_bytes archs ≡ a) × (string_bytes packages ≡ p) × (string_bytes sources ≡ s)
-    × (string_bytes tracker ≡ t)
-AreWavesOf a p s t (Run archs packages sources state tracker suite builders outcomes journal) = ⊥
+AreWavesOf a p s t (Check files) = ⊥
+AreWavesOf a p s t (Track r) = ⊥
+AreWavesOf a p s t (Waves files tracker) = AreFilesOf a p s files × (string_bytes tracker ≡ t)
+AreWavesOf a p s t (Run r) = ⊥
 
 -- the answer is the report that is asked for so
 abbrev pub IsTrackOf : TrackWords → Request → Type 0
 IsTrackOf w Simulate = ⊥
-IsTrackOf w (Check archs packages sources) = ⊥
-IsTrackOf w (Track archs packages sources tracker state chunk) =
-    track_words archs packages sources tracker state chunk ≡ w
-IsTrackOf w (Waves archs packages sources tracker) = ⊥
-IsTrackOf w (Run archs packages sources state tracker suite builders outcomes journal) = ⊥
+IsTrackOf w (Check files) = ⊥
+IsTrackOf w (Track r) = track_words r ≡ w
+IsTrackOf w (Waves files tracker) = ⊥
+IsTrackOf w (Run r) = ⊥
 
 -- the answer is the run that is asked for so
 abbrev pub IsRunOf : RunWords → Request → Type 0
 IsRunOf w Simulate = ⊥
-IsRunOf w (Check archs packages sources) = ⊥
-IsRunOf w (Track archs packages sources tracker state chunk) = ⊥
-IsRunOf w (Waves archs packages sources tracker) = ⊥
-IsRunOf w (Run archs packages sources state tracker suite builders outcomes journal) =
-    run_words archs packages sources state tracker suite builders outcomes journal ≡ w
+IsRunOf w (Check files) = ⊥
+IsRunOf w (Track r) = ⊥
+IsRunOf w (Waves files tracker) = ⊥
+IsRunOf w (Run r) = run_words r ≡ w
 
 -- ---- the parts of the reading
 
@@ -102,56 +101,53 @@ abbrev pub IsUsage : WordsFault → List ℕ → Type 0
 IsUsage (Usage said) text = string_bytes said ≡ text
 IsUsage NoMemory text = Unit {0}
 
+-- the files are those that these options give
+abbrev pub AreFilesIn : List Row → ArchivePaths → Type 0
+AreFilesIn options files =
+    HasFiles options (string_bytes files.archs) (string_bytes files.packages)
+    (string_bytes files.sources)
+
 -- the answer is the check that these options give
 abbrev pub IsCheckIn : List Row → Request → Type 0
 IsCheckIn options Simulate = ⊥
-IsCheckIn options (Check archs packages sources) =
-    HasFiles options (string_bytes archs) (string_bytes packages) (string_bytes sources)
-IsCheckIn options (Track archs packages sources tracker state chunk) = ⊥
-IsCheckIn options (Waves archs packages sources tracker) = ⊥
-IsCheckIn options (Run archs packages sources state tracker suite builders outcomes journal) = ⊥
+IsCheckIn options (Check files) = AreFilesIn options files
+IsCheckIn options (Track r) = ⊥
+IsCheckIn options (Waves files tracker) = ⊥
+IsCheckIn options (Run r) = ⊥
 
 -- the answer is the report that these options give
 abbrev pub IsTrackIn : List Row → Request → Type 0
 IsTrackIn options Simulate = ⊥
-IsTrackIn options (Check archs packages sources) = ⊥
-IsTrackIn options (Track archs packages sources tracker state chunk) =
-    HasTrack options (track_words archs packages sources tracker state chunk)
-IsTrackIn options (Waves archs packages sources tracker) = ⊥
-IsTrackIn options (Run archs packages sources state tracker suite builders outcomes journal) = ⊥
+IsTrackIn options (Check files) = ⊥
+IsTrackIn options (Track r) = HasTrack options (track_words r)
+IsTrackIn options (Waves files tracker) = ⊥
+IsTrackIn options (Run r) = ⊥
 
 -- the answer is the waves that these options give
 abbrev pub AreWavesIn : List Row → Request → Type 0
 AreWavesIn options Simulate = ⊥
-AreWavesIn options (Check archs packages sources) = ⊥
-AreWavesIn options (Track archs packages sources tracker state chunk) = ⊥
-AreWavesIn options (Waves archs packages sources tracker) =
-    HasTracker options (string_bytes archs) (string_bytes packages) (string_bytes sources)
-    (string_bytes tracker)
-AreWavesIn options (Run archs packages sources state tracker suite builders outcomes journal) = ⊥
+AreWavesIn options (Check files) = ⊥
+AreWavesIn options (Track r) = ⊥
+AreWavesIn options (Waves files tracker) =
+    HasTracker options (string_bytes files.archs) (string_bytes files.packages)
+    (string_bytes files.sources) (string_bytes tracker)
+AreWavesIn options (Run r) = ⊥
 
 -- the answer is the run that these options give
 abbrev pub IsRunIn : List Row → Request → Type 0
 IsRunIn options Simulate = ⊥
-IsRunIn options (Check archs packages sources) = ⊥
-IsRunIn options (Track archs packages sources tracker state chunk) = ⊥
-IsRunIn options (Waves archs packages sources tracker) = ⊥
-IsRunIn options (Run archs packages sources state tracker suite builders outcomes journal) =
-    HasRun options (run_words archs packages sources state tracker suite builders outcomes journal)
+IsRunIn options (Check files) = ⊥
+IsRunIn options (Track r) = ⊥
+IsRunIn options (Waves files tracker) = ⊥
+IsRunIn options (Run r) = HasRun options (run_words r)
 
 -- the answer is what this subcommand asks for
 abbrev pub IsRequestIn : Option (List ℕ × List Row) → Request → Type 0
 IsRequestIn found Simulate = name_in found ≡ Some (codes "simulate")
-IsRequestIn found (Check archs packages sources) =
-    (name_in found ≡ Some (codes "check"))
-    × IsCheckIn (rows_in found) (Check archs packages sources)
-IsRequestIn found (Track archs packages sources tracker state chunk) =
-    (name_in found ≡ Some (codes "track"))
-    × IsTrackIn (rows_in found) (Track archs packages sources tracker state chunk)
-IsRequestIn found (Waves archs packages sources tracker) =
-    (name_in found ≡ Some (codes "waves"))
-    × AreWavesIn (rows_in found) (Waves archs packages sources tracker)
-IsRequestIn found (Run archs packages sources state tracker suite builders outcomes journal) =
-    (name_in found ≡ Some (codes "run"))
-    × IsRunIn (rows_in found)
-    (Run archs packages sources state tracker suite builders outcomes journal)
+IsRequestIn found (Check files) =
+    (name_in found ≡ Some (codes "check")) × IsCheckIn (rows_in found) (Check files)
+IsRequestIn found (Track r) =
+    (name_in found ≡ Some (codes "track")) × IsTrackIn (rows_in found) (Track r)
+IsRequestIn found (Waves files tracker) =
+    (name_in found ≡ Some (codes "waves")) × AreWavesIn (rows_in found) (Waves files tracker)
+IsRequestIn found (Run r) = (name_in found ≡ Some (codes "run")) × IsRunIn (rows_in found) (Run r)

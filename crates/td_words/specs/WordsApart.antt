@@ -1,8 +1,7 @@
 -- The words of `track`, `waves` and `run` with each value as a word of its own. This project's own.
 use Rattle.std.specs.Prelude.{◌≡◌, ℕ, List, [], ◌∷◌, ◌++◌, Option, Some, None, codes}
-use Rattle.td_words.specs.CommandLine.{AskForRun, AskForTrack, AskForWaves, DeskValues}
-use Rattle.td_words.specs.CommandLine.{IsPlainPath, TrackWords, builders_at, chunk_in, plain_run}
-use Rattle.td_words.specs.CommandLine.{whole_run}
+use Rattle.td_words.specs.CommandLine.{AskForRun, AskForTrack, AskForWaves, DeskValues, IsPlainPath}
+use Rattle.td_words.specs.CommandLine.{TrackWords, builders_at, chunk_in, plain_run, whole_run}
 
 -- `--NAME VALUE`, and the words behind them
 abbrev pub apart : List ℕ → List ℕ → List (List ℕ) → List (List ℕ)

@@ -1,13 +1,12 @@
 //! The command line as `clap` is told of it: subcommands, options and their help.
-ghost use Rattle.std.specs.Prelude.{◌≡◌, IfOk, codes, false};
-ghost use Rattle.clap.specs.Simple.{app_of, shape_of, with_rule, with_subcommand};
+ghost use Rattle.std.specs.Prelude.{◌≡◌, IfOk, false};
+ghost use Rattle.clap.specs.Simple.{app_of, shape_of, with_rule};
 ghost use Rattle.clap.specs.declared.builder.command.Command.TheViews.{out-Command};
 ghost use Rattle.clap.specs.Walk.{rule_of};
-ghost use Rattle.td_words.specs.CommandLine.{bare_desk, check_shape, desk, flag_of};
-ghost use Rattle.td_words.specs.CommandLine.{needed_option, option_of, run_shape, simulate_shape};
-ghost use Rattle.td_words.specs.CommandLine.{track_shape, waves_shape, with_archive_rules};
-ghost use Rattle.td_words.specs.CommandLine.{with_crew_rules, with_desk_rules, with_explanation};
-ghost use Rattle.td_words.specs.CommandLine.{with_tracker_rules};
+ghost use Rattle.td_words.specs.CommandLine.{bare_desk, check_shape, desk, flag_of, needed_option};
+ghost use Rattle.td_words.specs.CommandLine.{option_of, run_shape, simulate_shape, track_shape};
+ghost use Rattle.td_words.specs.CommandLine.{waves_shape, with_archive_rules, with_crew_rules};
+ghost use Rattle.td_words.specs.CommandLine.{with_desk_rules, with_explanation, with_tracker_rules};
 
 use clap::{Arg, ArgAction, Command};
 use std::alloc::{AllocError, Global};
@@ -85,18 +84,6 @@ const SOURCES: &str = "The Sources index";
 
 const TRACKER: &str = "Which packages the transition affects, and which of them are good or bad";
 
-// An option that has to be there, with the path of a file.
-fn file<'a>(alloc: Global, name: &'static str, help: &'static str) -> Arg<'a>
-    ensures rule { rule_of result ≡ needed_option name.now }
-    ensures global { result.global ≡ false }
-{
-    Arg::new(alloc, name)
-        .long(name)
-        .value_name("FILE")
-        .help(help)
-        .required(true)
-}
-
 fn check<'a>(alloc: Global) -> Result<Command<'a>, AllocError>
     ensures shape { IfOk result (λ c. shape_of c ≡ check_shape) }
     ensures globals { IfOk result (λ c. (out-Command c).has_globals ≡ false) }
@@ -142,7 +129,15 @@ fn option<'a>(alloc: Global, name: &'static str, value: &'static str, help: &'st
         .help(help)
 }
 
-// The same command with one more of those.
+// An option that has to be there, with the path of a file.
+fn file<'a>(alloc: Global, name: &'static str, help: &'static str) -> Arg<'a>
+    ensures rule { rule_of result ≡ needed_option name.now }
+    ensures global { result.global ≡ false }
+{
+    option(alloc, name, "FILE", help).required(true)
+}
+
+// The same command with one more option that may be left out.
 fn with_option<'a>(
     alloc: Global,
     command: Command<'a>,
@@ -289,38 +284,13 @@ fn program<'a>(alloc: Global) -> Command<'a>
         .subcommand_required(true)
 }
 
-// The same command with a subcommand more.
-fn with_simulate<'a>(alloc: Global, command: Command<'a>) -> Result<Command<'a>, AllocError>
-    ensures { IfOk result (λ c. app_of c ≡ with_subcommand (app_of command.entry) simulate_shape) }
-{
-    command.subcommand(simulate(alloc)?)
-}
-
-fn with_check<'a>(alloc: Global, command: Command<'a>) -> Result<Command<'a>, AllocError>
-    ensures { IfOk result (λ c. app_of c ≡ with_subcommand (app_of command.entry) check_shape) }
-{
-    command.subcommand(check(alloc)?)
-}
-
-fn with_track<'a>(alloc: Global, command: Command<'a>) -> Result<Command<'a>, AllocError>
-    ensures { IfOk result (λ c. app_of c ≡ with_subcommand (app_of command.entry) track_shape) }
-{
-    command.subcommand(track(alloc)?)
-}
-
-fn with_waves<'a>(alloc: Global, command: Command<'a>) -> Result<Command<'a>, AllocError>
-    ensures { IfOk result (λ c. app_of c ≡ with_subcommand (app_of command.entry) waves_shape) }
-{
-    command.subcommand(waves(alloc)?)
-}
-
 /// The program's command line, as `clap` has it.
 pub(crate) fn command<'a>(alloc: Global) -> Result<Command<'a>, AllocError>
     ensures { IfOk result (λ c. app_of c ≡ desk) }
 {
-    let command = with_simulate(alloc, program(alloc))?;
-    let command = with_check(alloc, command)?;
-    let command = with_track(alloc, command)?;
-    let command = with_waves(alloc, command)?;
+    let command = program(alloc).subcommand(simulate(alloc)?)?;
+    let command = command.subcommand(check(alloc)?)?;
+    let command = command.subcommand(track(alloc)?)?;
+    let command = command.subcommand(waves(alloc)?)?;
     command.subcommand(run(alloc)?)
 }

@@ -16,4 +16,4 @@ pub use laws::{
     words_of_a_check_ask_for_it, words_of_a_run_ask_for_it, words_of_a_simulation_ask_for_it,
     words_of_a_track_ask_for_it, words_of_waves_ask_for_them,
 };
-pub use request::{Call, Request, WordsFault, read_words};
+pub use request::{ArchivePaths, Call, Request, RunRequest, TrackRequest, WordsFault, read_words};

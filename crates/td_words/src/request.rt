@@ -10,8 +10,9 @@ ghost use Rattle.td_words.specs.CommandLine.{AskForWaves, HasFiles, HasRun, HasT
 ghost use Rattle.td_words.specs.CommandLine.{RunWords, TrackWords, chunk_at};
 ghost use Rattle.td_words.specs.CommandLine.{chunk_in as chunk_in_of, is_explained, name_in};
 ghost use Rattle.td_words.specs.CommandLine.{options_of, rows_in};
-ghost use Rattle.td_words.specs.Asked.{AreWavesIn, AreWavesOf, Asks, IsCheckIn, IsCheckOf};
-ghost use Rattle.td_words.specs.Asked.{IsRequestIn, IsRunOf, IsTrackIn, IsTrackOf, IsUsage, call_as};
+ghost use Rattle.td_words.specs.Asked.{AreFilesIn, AreFilesOf, AreWavesIn, AreWavesOf, Asks};
+ghost use Rattle.td_words.specs.Asked.{IsCheckIn, IsCheckOf, IsRequestIn, IsRunOf, IsTrackIn};
+ghost use Rattle.td_words.specs.Asked.{IsTrackOf, IsUsage, call_as};
 
 use crate::command::command;
 use crate::run_words::run_in;
@@ -23,45 +24,56 @@ use td_text::number;
 /// The most rows that a piece of a report has.
 const MAX_CHUNK: u64 = 1_000_000;
 
+/// The paths of an archive's files.
+#[derive(Debug, Drop)]
+pub struct ArchivePaths {
+    pub archs: String,
+    pub packages: String,
+    pub sources: String,
+}
+
+/// A report over these files, by chunks of so many rows where that is given.
+#[derive(Debug, Drop)]
+pub struct TrackRequest {
+    pub files: ArchivePaths,
+    pub tracker: String,
+    /// Rows to put in the place of those that the indices say.
+    pub state: Option<String>,
+    pub chunk: Option<usize>,
+}
+
+/// A run over these files.
+#[derive(Debug, Drop)]
+pub struct RunRequest {
+    pub files: ArchivePaths,
+    /// Rows to put in the place of those that the indices say.
+    pub state: Option<String>,
+    pub tracker: Option<String>,
+    /// The suite that command lines may name.
+    pub suite: String,
+    /// How many builders are asked for.
+    pub builders: usize,
+    /// How the builds of a crew end. Where there is no crew it is read and not looked at.
+    pub outcomes: Option<String>,
+    /// The journal that is gone on with.
+    pub journal: Option<String>,
+}
+
 /// What the words ask for.
 #[derive(Debug, Drop)]
 pub enum Request {
     /// The steps of a simulation are on standard input.
     Simulate,
-    /// What is to be counted stands in the files with these paths.
-    Check {
-        archs: String,
-        packages: String,
-        sources: String,
-    },
-    /// So does what is to be reported, by chunks of so many rows where that is given.
-    Track {
-        archs: String,
-        packages: String,
-        sources: String,
-        tracker: String,
-        state: Option<String>,
-        chunk: Option<usize>,
-    },
-    /// And that of which the levels are to be listed.
+    /// What is to be counted stands in these files.
+    Check(ArchivePaths),
+    Track(TrackRequest),
+    /// That of which the levels are to be listed stands in these files.
     Waves {
-        archs: String,
-        packages: String,
-        sources: String,
+        files: ArchivePaths,
         tracker: String,
     },
-    /// The script is on standard input, and runs over what stands in these files.
-    Run {
-        archs: String,
-        packages: String,
-        sources: String,
-        state: Option<String>,
-        tracker: Option<String>,
-        suite: String,
-        builders: usize,
-        outcomes: Option<String>,
-        journal: Option<String>,
-    },
+    /// The script is on standard input.
+    Run(RunRequest),
 }
 
 /// What they ask for, and whether a refusal is to be explained.
@@ -127,11 +139,7 @@ fn check_in(alloc: Global, matches: &ArgMatches<'_>) -> Result<Request, WordsFau
         → MatchResult result (IsCheckOf archs packages sources) (λ e. e ≡ WordsFault.NoMemory) }
     ensures only { IfOk result (IsCheckIn (rows_of (found_of matches.now))) }
 {
-    Ok(Request::Check {
-        archs: needed_in(alloc, matches, "archs")?,
-        packages: needed_in(alloc, matches, "packages")?,
-        sources: needed_in(alloc, matches, "sources")?,
-    })
+    Ok(Request::Check(archive_in(alloc, matches)?))
 }
 
 /// The text of an option that is required, so it is there, unless `clap` broke a promise.
@@ -149,6 +157,23 @@ pub(crate) fn needed_in(
         Some(text) => Ok(String::from_str(alloc, text)?),
         None => Err(WordsFault::Usage(String::new(alloc))),
     }
+}
+
+/// The files of an archive.
+pub(crate) fn archive_in(
+    alloc: Global,
+    matches: &ArgMatches<'_>,
+) -> Result<ArchivePaths, WordsFault>
+    ensures files { (archs packages sources : List ℕ)
+        → HasFiles (rows_of (found_of matches.now)) archs packages sources
+        → MatchResult result (AreFilesOf archs packages sources) (λ e. e ≡ WordsFault.NoMemory) }
+    ensures only { IfOk result (AreFilesIn (rows_of (found_of matches.now))) }
+{
+    Ok(ArchivePaths {
+        archs: needed_in(alloc, matches, "archs")?,
+        packages: needed_in(alloc, matches, "packages")?,
+        sources: needed_in(alloc, matches, "sources")?,
+    })
 }
 
 /// The text of an option that may be left out.
@@ -194,22 +219,18 @@ fn track_in(alloc: Global, matches: &ArgMatches<'_>) -> Result<Request, WordsFau
         → MatchResult result (IsTrackOf w) (λ e. e ≡ WordsFault.NoMemory) }
     ensures only { IfOk result (IsTrackIn (rows_of (found_of matches.now))) }
 {
-    let archs = needed_in(alloc, matches, "archs")?;
-    let packages = needed_in(alloc, matches, "packages")?;
-    let sources = needed_in(alloc, matches, "sources")?;
+    let files = archive_in(alloc, matches)?;
     let tracker = needed_in(alloc, matches, "tracker")?;
     let state = given_in(alloc, matches, "state")?;
     let Some(chunk) = chunk_in(matches) else {
         return Err(usage_fault(alloc, "error: --chunk takes a number from 1 to 1000000\n"));
     };
-    Ok(Request::Track {
-        archs,
-        packages,
-        sources,
+    Ok(Request::Track(TrackRequest {
+        files,
         tracker,
         state,
         chunk,
-    })
+    }))
 }
 
 // The waves that the matches of `waves` ask for.
@@ -221,9 +242,7 @@ fn waves_in(alloc: Global, matches: &ArgMatches<'_>) -> Result<Request, WordsFau
     ensures only { IfOk result (AreWavesIn (rows_of (found_of matches.now))) }
 {
     Ok(Request::Waves {
-        archs: needed_in(alloc, matches, "archs")?,
-        packages: needed_in(alloc, matches, "packages")?,
-        sources: needed_in(alloc, matches, "sources")?,
+        files: archive_in(alloc, matches)?,
         tracker: needed_in(alloc, matches, "tracker")?,
     })
 }

@@ -6,7 +6,9 @@ ghost use Rattle.td_words.specs.CommandLine.{HasRun, RunWords, builders_in as bu
 ghost use Rattle.td_words.specs.CommandLine.{suite_in as suite_in_of};
 ghost use Rattle.td_words.specs.Asked.{IsRunIn, IsRunOf};
 
-use crate::request::{Request, WordsFault, given_in, needed_in, usage_fault, value_in};
+use crate::request::{
+    Request, RunRequest, WordsFault, archive_in, given_in, usage_fault, value_in,
+};
 use clap::ArgMatches;
 use std::alloc::Global;
 use td_text::number;
@@ -50,9 +52,7 @@ pub(crate) fn run_in(alloc: Global, matches: &ArgMatches<'_>) -> Result<Request,
         → MatchResult result (IsRunOf w) (λ e. e ≡ WordsFault.NoMemory) }
     ensures only { IfOk result (IsRunIn (rows_of (found_of matches.now))) }
 {
-    let archs = needed_in(alloc, matches, "archs")?;
-    let packages = needed_in(alloc, matches, "packages")?;
-    let sources = needed_in(alloc, matches, "sources")?;
+    let files = archive_in(alloc, matches)?;
     let state = given_in(alloc, matches, "state")?;
     let tracker = given_in(alloc, matches, "tracker")?;
     let suite = suite_in(alloc, matches)?;
@@ -61,15 +61,13 @@ pub(crate) fn run_in(alloc: Global, matches: &ArgMatches<'_>) -> Result<Request,
     };
     let outcomes = given_in(alloc, matches, "outcomes")?;
     let journal = given_in(alloc, matches, "journal")?;
-    Ok(Request::Run {
-        archs,
-        packages,
-        sources,
+    Ok(Request::Run(RunRequest {
+        files,
         state,
         tracker,
         suite,
         builders,
         outcomes,
         journal,
-    })
+    }))
 }

@@ -1,11 +1,9 @@
 -- `do_request`: the clauses `ends`, `kept` and `short`.
-use Rattle.std.proofs.Common.{sym, subst, string_bytes}
+use Rattle.std.proofs.Common.{sym, subst}
 use Rattle.td_words.specs.declared.request.Request.{Request}
 use Rattle.td_tool.specs.declared.ending.Ending.{Ending}
-use Rattle.td_tool.specs.Checks.{Checks, files_of}
 use Rattle.td_tool.specs.Explained.{known_of_request}
 use Rattle.td_tool.specs.Program.{EndsFor}
-use Rattle.td_tool.proofs.Asks.{holds_of_three}
 use Rattle.td_tool.proofs.Explanations.{ends_alone, kept_alone, short_alone}
 use Rattle.td_tool.proofs.answering.do_request.Goals as goal
 
@@ -16,15 +14,7 @@ returns-in-Check-clause-ends g c =
     (g.T.Texts.can_fail c.args.texts.now) (g.W.Write.contents c.args.output.now)
     (g.W.Write.contents c.check.new.output) ending in
     ends_alone (Says c.args.request.now) c.check.result c.alone.result c.alone.ensures
-    (subst (λ q. Says q c.check.result) (sym c.in-Check.is)
-    (holds_of_three (λ a p s.
-    Checks (files_of (g.T.Texts.bytes c.args.texts.now) (g.T.Texts.can_fail c.args.texts.now) a p s)
-    (g.W.Write.contents c.args.output.now) (g.W.Write.contents c.check.new.output) c.check.result)
-    c.as_str.result.now (string_bytes c.in-Check.archs) c.as_str-in-Check.result.now
-    (string_bytes c.in-Check.packages) c.as_str-in-Check-2.result.now
-    (string_bytes c.in-Check.sources)
-    c.as_str.ensures.value c.as_str-in-Check.ensures.value c.as_str-in-Check-2.ensures.value
-    c.check.ensures))
+    (subst (λ q. Says q c.check.result) (sym c.in-Check.is) c.check.ensures)
 
 pub returns-in-Check-clause-kept : goal.returns-in-Check-clause-kept
 returns-in-Check-clause-kept g c =
@@ -39,56 +29,56 @@ returns-in-Track-clause-ends g c =
     let Says : Request → Ending → Type 0 =
     λ q ending. EndsFor q (g.R.Read.remaining c.args.reader.now) (g.T.Texts.bytes c.args.texts.now)
     (g.T.Texts.can_fail c.args.texts.now) (g.W.Write.contents c.args.output.now)
-    (g.W.Write.contents c.do_track.new.output) ending in
-    ends_alone (Says c.args.request.now) c.do_track.result c.alone-in-Track.result
+    (g.W.Write.contents c.track.new.output) ending in
+    ends_alone (Says c.args.request.now) c.track.result c.alone-in-Track.result
     c.alone-in-Track.ensures
-    (subst (λ q. Says q c.do_track.result) (sym c.in-Track.is) c.do_track.ensures)
+    (subst (λ q. Says q c.track.result) (sym c.in-Track.is) c.track.ensures)
 
 pub returns-in-Track-clause-kept : goal.returns-in-Track-clause-kept
 returns-in-Track-clause-kept g c =
     kept_alone (known_of_request c.args.request.now (g.R.Read.remaining c.args.reader.now)
-    (g.T.Texts.bytes c.args.texts.now)) c.do_track.result c.alone-in-Track.result
+    (g.T.Texts.bytes c.args.texts.now)) c.track.result c.alone-in-Track.result
     c.alone-in-Track.ensures
 
 pub returns-in-Track-clause-short : goal.returns-in-Track-clause-short
 returns-in-Track-clause-short g c =
-    short_alone _ c.do_track.result c.alone-in-Track.result c.alone-in-Track.ensures
+    short_alone _ c.track.result c.alone-in-Track.result c.alone-in-Track.ensures
 
 pub returns-in-Waves-clause-ends : goal.returns-in-Waves-clause-ends
 returns-in-Waves-clause-ends g c =
     let Says : Request → Ending → Type 0 =
     λ q ending. EndsFor q (g.R.Read.remaining c.args.reader.now) (g.T.Texts.bytes c.args.texts.now)
     (g.T.Texts.can_fail c.args.texts.now) (g.W.Write.contents c.args.output.now)
-    (g.W.Write.contents c.do_track-in-Waves.new.output) ending in
-    ends_alone (Says c.args.request.now) c.do_track-in-Waves.result c.alone-in-Waves.result
+    (g.W.Write.contents c.track-in-Waves.new.output) ending in
+    ends_alone (Says c.args.request.now) c.track-in-Waves.result c.alone-in-Waves.result
     c.alone-in-Waves.ensures
-    (subst (λ q. Says q c.do_track-in-Waves.result) (sym c.in-Waves.is) c.do_track-in-Waves.ensures)
+    (subst (λ q. Says q c.track-in-Waves.result) (sym c.in-Waves.is) c.track-in-Waves.ensures)
 
 pub returns-in-Waves-clause-kept : goal.returns-in-Waves-clause-kept
 returns-in-Waves-clause-kept g c =
     kept_alone (known_of_request c.args.request.now (g.R.Read.remaining c.args.reader.now)
-    (g.T.Texts.bytes c.args.texts.now)) c.do_track-in-Waves.result c.alone-in-Waves.result
+    (g.T.Texts.bytes c.args.texts.now)) c.track-in-Waves.result c.alone-in-Waves.result
     c.alone-in-Waves.ensures
 
 pub returns-in-Waves-clause-short : goal.returns-in-Waves-clause-short
 returns-in-Waves-clause-short g c =
-    short_alone _ c.do_track-in-Waves.result c.alone-in-Waves.result c.alone-in-Waves.ensures
+    short_alone _ c.track-in-Waves.result c.alone-in-Waves.result c.alone-in-Waves.ensures
 
 pub returns-in-Run-clause-ends : goal.returns-in-Run-clause-ends
 returns-in-Run-clause-ends g c =
     let Says : Request → Ending → Type 0 =
     λ q ending. EndsFor q (g.R.Read.remaining c.args.reader.now) (g.T.Texts.bytes c.args.texts.now)
     (g.T.Texts.can_fail c.args.texts.now) (g.W.Write.contents c.args.output.now)
-    (g.W.Write.contents c.do_run.new.output) ending in
-    ends_alone (Says c.args.request.now) c.do_run.result c.alone-in-Run.result
+    (g.W.Write.contents c.run.new.output) ending in
+    ends_alone (Says c.args.request.now) c.run.result c.alone-in-Run.result
     c.alone-in-Run.ensures
-    (subst (λ q. Says q c.do_run.result) (sym c.in-Run.is) c.do_run.ensures)
+    (subst (λ q. Says q c.run.result) (sym c.in-Run.is) c.run.ensures)
 
 pub returns-in-Run-clause-kept : goal.returns-in-Run-clause-kept
 returns-in-Run-clause-kept g c =
     kept_alone (known_of_request c.args.request.now (g.R.Read.remaining c.args.reader.now)
-    (g.T.Texts.bytes c.args.texts.now)) c.do_run.result c.alone-in-Run.result c.alone-in-Run.ensures
+    (g.T.Texts.bytes c.args.texts.now)) c.run.result c.alone-in-Run.result c.alone-in-Run.ensures
 
 pub returns-in-Run-clause-short : goal.returns-in-Run-clause-short
 returns-in-Run-clause-short g c =
-    short_alone _ c.do_run.result c.alone-in-Run.result c.alone-in-Run.ensures
+    short_alone _ c.run.result c.alone-in-Run.result c.alone-in-Run.ensures

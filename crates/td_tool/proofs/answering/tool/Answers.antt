@@ -1,5 +1,5 @@
 -- `tool`: its clauses.
-use Rattle.std.proofs.Common.{List, None, IfOk, codes, map, string_bytes, sym, subst}
+use Rattle.std.proofs.Common.{None, IfOk, codes, map, string_bytes, sym, subst}
 use Rattle.td_report.specs.Transition.{IsReport, IsWaves}
 use Rattle.td_words.specs.CommandLine.{AskFor, AskForCheck, AskForRun, AskForTrack, AskForWaves}
 use Rattle.td_tool.specs.Checks.{Checks, files_of}

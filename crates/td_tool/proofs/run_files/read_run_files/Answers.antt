@@ -1,54 +1,33 @@
 -- `read_run_files`: the clause `failed`.
-use Rattle.std.proofs.Common.{option_map, string_bytes}
-use Rattle.std.proofs.lemmas.Result.{err_from_is_err_and}
-use Rattle.td_tool.specs.RunInside.{run_files_at}
-use Rattle.td_tool.proofs.UnreadRuns.{run_fails_tracker, run_fails_outcomes, run_fails_journal}
+use Rattle.td_tool.specs.RunInside.{HasRunFailed, run_files_at}
+use Rattle.td_tool.proofs.UnreadRuns.{passed_on, run_fails_tracker, run_fails_outcomes}
+use Rattle.td_tool.proofs.UnreadRuns.{run_fails_journal}
 use Rattle.td_tool.proofs.run_files.read_run_files.Goals as goal
 
 pub returns-in_err-tracker-clause-failed : goal.returns-in_err-tracker-clause-failed
 returns-in_err-tracker-clause-failed g c =
-    let p = err_from_is_err_and c.from_residual-in_err-tracker.result
-    c.from_residual-in_err-tracker.ensures.1 in
     let files = run_files_at (g.T.Texts.bytes c.args.texts.now)
-    (g.T.Texts.can_fail c.args.texts.now) c.args.paths.now in
-    let x = c.in_ok-indices.indices in
-    rw (
-      p.1,
-      p.2,
-    ) (run_fails_tracker files c.in_err-tracker.field-0.0 (string_bytes x.archs)
-    (string_bytes x.packages) (string_bytes x.sources)
-    (option_map string_bytes c.in_ok-state.state)
-    c.in_ok-indices.ensures.texts c.in_ok-state.ensures.text c.in_err-tracker.ensures.failed)
+    (g.T.Texts.can_fail c.args.texts.now) c.args.request.now in
+    passed_on (HasRunFailed files) c.in_err-tracker.field-0.0 c.from_residual-in_err-tracker.result
+    c.from_residual-in_err-tracker.ensures.1
+    (run_fails_tracker files c.in_err-tracker.field-0.0 _ _ _ _ c.in_ok-indices.ensures.texts
+    c.in_ok-state.ensures.text c.in_err-tracker.ensures.failed)
 
 pub returns-in_err-outcomes-clause-failed : goal.returns-in_err-outcomes-clause-failed
 returns-in_err-outcomes-clause-failed g c =
-    let p = err_from_is_err_and c.from_residual-in_err-outcomes.result
-    c.from_residual-in_err-outcomes.ensures.1 in
     let files = run_files_at (g.T.Texts.bytes c.args.texts.now)
-    (g.T.Texts.can_fail c.args.texts.now) c.args.paths.now in
-    let x = c.in_ok-indices.indices in
-    rw (
-      p.1,
-      p.2,
-    ) (run_fails_outcomes files c.in_err-outcomes.field-0.0 (string_bytes x.archs)
-    (string_bytes x.packages) (string_bytes x.sources)
-    (option_map string_bytes c.in_ok-state.state) (option_map string_bytes c.in_ok-tracker.tracker)
-    c.in_ok-indices.ensures.texts c.in_ok-state.ensures.text c.in_ok-tracker.ensures.text
-    c.in_err-outcomes.ensures.failed)
+    (g.T.Texts.can_fail c.args.texts.now) c.args.request.now in
+    passed_on (HasRunFailed files) c.in_err-outcomes.field-0.0
+    c.from_residual-in_err-outcomes.result c.from_residual-in_err-outcomes.ensures.1
+    (run_fails_outcomes files c.in_err-outcomes.field-0.0 _ _ _ _ _ c.in_ok-indices.ensures.texts
+    c.in_ok-state.ensures.text c.in_ok-tracker.ensures.text c.in_err-outcomes.ensures.failed)
 
 pub returns-in_err-journal-clause-failed : goal.returns-in_err-journal-clause-failed
 returns-in_err-journal-clause-failed g c =
-    let p = err_from_is_err_and c.from_residual-in_err-journal.result
-    c.from_residual-in_err-journal.ensures.1 in
     let files = run_files_at (g.T.Texts.bytes c.args.texts.now)
-    (g.T.Texts.can_fail c.args.texts.now) c.args.paths.now in
-    let x = c.in_ok-indices.indices in
-    rw (
-      p.1,
-      p.2,
-    ) (run_fails_journal files c.in_err-journal.field-0.0 (string_bytes x.archs)
-    (string_bytes x.packages) (string_bytes x.sources)
-    (option_map string_bytes c.in_ok-state.state) (option_map string_bytes c.in_ok-tracker.tracker)
-    (option_map string_bytes c.in_ok-outcomes.outcomes)
-    c.in_ok-indices.ensures.texts c.in_ok-state.ensures.text c.in_ok-tracker.ensures.text
-    c.in_ok-outcomes.ensures.text c.in_err-journal.ensures.failed)
+    (g.T.Texts.can_fail c.args.texts.now) c.args.request.now in
+    passed_on (HasRunFailed files) c.in_err-journal.field-0.0 c.from_residual-in_err-journal.result
+    c.from_residual-in_err-journal.ensures.1
+    (run_fails_journal files c.in_err-journal.field-0.0 _ _ _ _ _ _ c.in_ok-indices.ensures.texts
+    c.in_ok-state.ensures.text c.in_ok-tracker.ensures.text c.in_ok-outcomes.ensures.text
+    c.in_err-journal.ensures.failed)

@@ -13,23 +13,24 @@ returns-in-Ok-clause-found g c =
 pub returns-in-Ok-clause-refused : goal.returns-in-Ok-clause-refused
 returns-in-Ok-clause-refused g c =
     rows_refuse c.args.archive.now _ c.args.tracker.now c.tracker_says.result
-    c.tracker_says.ensures.refused
+    c.tracker_says.ensures.none
 
 pub returns-in-Ok-clause-only : goal.returns-in-Ok-clause-only
 returns-in-Ok-clause-only g c =
     over_stops c.args.archive.now _ c.args.tracker.now c.tracker_says.result
-    c.tracker_says.ensures.only
+    c.tracker_says.ensures.none
 
 pub returns-in-Err-clause-refused : goal.returns-in-Err-clause-refused
 returns-in-Err-clause-refused g c =
     no_tracker_refused c.args.archive.now _ c.args.tracker.now c.rows_of-rows.result
-    c.ending_of_tracker.result c.first_told.result c.rows_of-rows.ensures.rows c.rows_of-rows.ensures.refused
+    c.ending_of_tracker.result c.first_told.result c.rows_of-rows.ensures.rows
+    c.rows_of-rows.ensures.none
     (c.in-Err.fault, c.in-Err.ensures.fault, c.ending_of_tracker.ensures)
     c.first_told.ensures.ok c.first_told.ensures.err
 
 pub returns-in-Err-clause-only : goal.returns-in-Err-clause-only
 returns-in-Err-clause-only g c =
     no_tracker_stops c.args.archive.now _ c.args.tracker.now c.rows_of-rows.result
-    c.ending_of_tracker.result c.first_told.result c.rows_of-rows.ensures.only
+    c.ending_of_tracker.result c.first_told.result c.rows_of-rows.ensures.none
     (λ t is. (c.in-Err.fault, c.in-Err.ensures.only t is, c.ending_of_tracker.ensures))
     c.first_told.ensures.ok c.first_told.ensures.err

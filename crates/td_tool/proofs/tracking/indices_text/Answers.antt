@@ -1,5 +1,5 @@
 -- `indices_text`: the clauses `found`, `refused` and `only`.
-use Rattle.std.proofs.Common.{ap, inl, inr, ◌∙◌}
+use Rattle.std.proofs.Common.{ap, refl, ◌∙◌}
 use Rattle.td_tool.specs.Ending.{ending_of_archive}
 use Rattle.td_relation.specs.TableView.{table}
 use Rattle.td_tool.specs.TrackInside.{saying_of, texts_of}
@@ -11,14 +11,14 @@ pub returns-in-Ok-clause-found : goal.returns-in-Ok-clause-found
 returns-in-Ok-clause-found g c =
     indices_say (saying_of c.args.asked) (table c.args.archs.now) (texts_of c.args.texts.now)
     c.in-Ok.archive c.archive_text.result _ _ _ _
-    c.as_str-packages.ensures.value c.as_str-sources.ensures.value c.given.ensures
+    c.as_str-packages.ensures.value c.as_str-sources.ensures.value refl
     c.as_str-tracker.ensures.value c.in-Ok.ensures.found c.archive_text.ensures.found
 
 pub returns-in-Ok-clause-refused : goal.returns-in-Ok-clause-refused
 returns-in-Ok-clause-refused g c =
     indices_refuse (table c.args.archs.now) (texts_of c.args.texts.now) c.in-Ok.archive
     c.archive_text.result _ _ _ _
-    c.as_str-packages.ensures.value c.as_str-sources.ensures.value c.given.ensures
+    c.as_str-packages.ensures.value c.as_str-sources.ensures.value refl
     c.as_str-tracker.ensures.value c.in-Ok.ensures.found c.archive_text.ensures.refused
 
 pub returns-in-Err-clause-refused : goal.returns-in-Err-clause-refused
@@ -31,7 +31,7 @@ pub returns-in-Ok-clause-only : goal.returns-in-Ok-clause-only
 returns-in-Ok-clause-only g c =
     indices_stop (table c.args.archs.now) (texts_of c.args.texts.now) c.in-Ok.archive
     c.archive_text.result _ _ _ _
-    c.as_str-packages.ensures.value c.as_str-sources.ensures.value c.given.ensures
+    c.as_str-packages.ensures.value c.as_str-sources.ensures.value refl
     c.as_str-tracker.ensures.value c.in-Ok.ensures.only c.archive_text.ensures.only
 
 pub returns-in-Err-clause-only : goal.returns-in-Err-clause-only

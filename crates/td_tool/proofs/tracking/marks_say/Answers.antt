@@ -1,5 +1,5 @@
 -- `marks_say`: what it answers.
-use Rattle.std.proofs.Common.{IfOk, string_bytes}
+use Rattle.std.proofs.Common.{string_bytes}
 use Rattle.std.proofs.lemmas.Result.{IfOk-weaker}
 use Rattle.td_query.specs.Tracking.{tracking}
 use Rattle.td_report.specs.TransitionView.{contents_of, tracking_of}

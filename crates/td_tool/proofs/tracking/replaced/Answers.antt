@@ -1,5 +1,5 @@
 -- `replaced`: the clauses `rows`, `refused` and `only`.
-use Rattle.std.proofs.Common.{ap, inl, inr, ◌∙◌}
+use Rattle.std.proofs.Common.{ap, inl, ◌∙◌}
 use Rattle.td_tool.specs.Ending.{ending_of_state}
 use Rattle.td_tool.proofs.Told.{replaced_by, lacks_one}
 use Rattle.td_tool.proofs.Sure.{replaced_stops}

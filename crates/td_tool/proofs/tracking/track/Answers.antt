@@ -1,5 +1,4 @@
 -- `track`: what it answers.
-use Rattle.std.proofs.Common.{IfOk, sym, subst}
 use Rattle.std.proofs.KnownBytes.{Keeps-refl}
 use Rattle.td_tool.specs.TrackInside.{files_at, saying_of, texts_of}
 use Rattle.td_tool.proofs.Sure.{ends_read, ends_unread}

@@ -1,0 +1,8 @@
+-- `track_in`: the clause `track`, where memory runs out for the files.
+use Rattle.std.proofs.lemmas.Result.{err_from_is_err_and}
+use Rattle.td_words.proofs.request.track_in.Goals as goal
+
+pub returns-in_err-files-clause-track : goal.returns-in_err-files-clause-track
+returns-in_err-files-clause-track c w has =
+    let p = err_from_is_err_and c.from_residual.result c.from_residual.ensures.1 in
+    rw (p.1, p.2) (c.in_err-files.ensures.files w.archs w.packages w.sources has.files.files)

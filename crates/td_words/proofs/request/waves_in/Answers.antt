@@ -1,0 +1,8 @@
+-- `waves_in`: the clause `waves`, where memory runs out for the files.
+use Rattle.std.proofs.lemmas.Result.{err_from_is_err_and}
+use Rattle.td_words.proofs.request.waves_in.Goals as goal
+
+pub returns-in_err-archive_in-clause-waves : goal.returns-in_err-archive_in-clause-waves
+returns-in_err-archive_in-clause-waves c archs packages sources tracker has =
+    let p = err_from_is_err_and c.from_residual.result c.from_residual.ensures.1 in
+    rw (p.1, p.2) (c.in_err-archive_in.ensures.files archs packages sources has.files)
