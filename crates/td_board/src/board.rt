@@ -44,7 +44,7 @@ impl Model for Board {
 }
 
 /// Why a board wasn't made.
-#[derive(Clone, Copy, Debug, PartialEq, Eq, Hash, Error)]
+#[derive(Clone, Copy, Debug, PartialEq, Eq, Error)]
 pub enum MakeRefusal {
     #[error("a board has at most {MAX_ROWS} rows")]
     TooManyRows,

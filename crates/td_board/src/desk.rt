@@ -14,7 +14,7 @@ use crate::seats::DeskSeat;
 use crate::words::{CLOSED, OPEN, PER_BUILDER, done_word, noted_word};
 
 /// What became of a withdrawal.
-#[derive(Clone, Copy, Debug, PartialEq, Eq, Hash)]
+#[derive(Clone, Copy, Debug, PartialEq, Eq)]
 pub enum Withdrawal {
     Withdrawn,
     /// The builder of this number was faster.

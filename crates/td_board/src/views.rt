@@ -22,7 +22,7 @@ pub enum Deed {
 }
 
 /// What a builder has in hand: a row by its number, and after the finish how its build ended.
-#[derive(Clone, Copy, Debug, PartialEq, Eq, Hash)]
+#[derive(Clone, Copy, Debug, PartialEq, Eq)]
 pub enum Hand {
     Free,
     Holding(usize),

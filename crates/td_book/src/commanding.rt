@@ -22,7 +22,7 @@ use td_rows::{Key, Kind, cells_of};
 use td_wbread::{Command, kind_of};
 
 /// What a command did.
-#[derive(Debug, Drop)]
+#[derive(Drop)]
 pub struct Taken {
     /// The number of its entry.
     pub number: EntryNo,

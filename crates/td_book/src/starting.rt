@@ -10,7 +10,7 @@ use td_rows::{Key, Line, RebuildNumber};
 use td_version::write_rebuild;
 
 /// What is to be built.
-#[derive(Debug, Drop)]
+#[derive(Drop)]
 pub struct Job {
     pub key: Key,
     /// The source's version, with the rebuild's suffix.

@@ -11,7 +11,7 @@ use td_board::OutcomeCode;
 use td_rows::Key;
 
 /// A line of a key: how the build ends, and the line's number from 0.
-#[derive(Clone, Copy, Debug, PartialEq, Eq)]
+#[derive(Clone, Copy)]
 pub struct KeyLine {
     pub code: OutcomeCode,
     pub line: usize,

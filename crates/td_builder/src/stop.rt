@@ -6,7 +6,7 @@ use td_book::{FinishRefusal, StartRefusal};
 use thiserror::Error;
 
 /// Why a builder stopped before its floor was shut.
-#[derive(Clone, Copy, Debug, PartialEq, Eq, Hash, Error)]
+#[derive(Clone, Copy, Debug, PartialEq, Eq, Error)]
 pub enum WorkStop {
     #[error("want of memory")]
     NoMemory,

@@ -10,7 +10,7 @@ use std::io::{ErrorKind, Read};
 use thiserror::Error;
 
 /// Why not all was read.
-#[derive(Clone, Copy, Debug, PartialEq, Eq, Hash, Drop, Error)]
+#[derive(Clone, Copy, Debug, PartialEq, Eq, Drop, Error)]
 pub enum ReadFault {
     /// The reader failed.
     #[error("cannot read")]

@@ -11,7 +11,7 @@ use std::io::Read;
 use thiserror::Error;
 
 /// Why no text was read. What is both too long and no text is too long.
-#[derive(Clone, Copy, Debug, PartialEq, Eq, Hash, Drop, Error)]
+#[derive(Clone, Copy, Debug, PartialEq, Eq, Drop, Error)]
 pub enum TextFault {
     /// The reader failed.
     #[error("cannot read")]

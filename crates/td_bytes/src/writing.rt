@@ -7,7 +7,7 @@ use std::io::{ErrorKind, Write};
 use thiserror::Error;
 
 /// The writer failed, or takes no more.
-#[derive(Clone, Copy, Debug, PartialEq, Eq, Hash, Drop, Error)]
+#[derive(Clone, Copy, Debug, PartialEq, Eq, Drop, Error)]
 #[error("cannot write")]
 pub struct WriteFault;
 

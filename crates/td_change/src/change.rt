@@ -16,7 +16,7 @@ use td_rows::{Cells, Key, Kind, Row, Rows};
 
 /// What an entry of the journal changed: of each row that it named, by the row's number, what
 /// the cells were that its kind writes.
-#[derive(Debug, Drop)]
+#[derive(Drop)]
 pub struct Change {
     pub(crate) cells: Cells,
     pub(crate) kept: Vec<(usize, Row)>,

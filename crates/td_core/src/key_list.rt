@@ -7,7 +7,7 @@ use td_journal::Keys;
 use td_rows::Key;
 
 /// Any list of keys. Contracts see the list.
-#[derive(Debug, Drop)]
+#[derive(Drop)]
 pub struct KeyList {
     keys: Vec<Key>,
 }

@@ -4,7 +4,7 @@ use td_journal::EntryNo;
 use td_rows::{BuilderNo, Key, Kind, Outcome};
 
 /// Where the build of a row stands between the desk and the builders.
-#[derive(Debug, Drop)]
+#[derive(Drop)]
 pub enum Phase {
     /// Not offered.
     Closed,
@@ -19,7 +19,7 @@ pub enum Phase {
 }
 
 /// What a builder has in hand.
-#[derive(Debug, Drop)]
+#[derive(Drop)]
 pub enum Hand {
     Free,
     Holding(Key),
@@ -27,7 +27,7 @@ pub enum Hand {
 }
 
 /// One thing that happens: of the desk, or of a builder.
-#[derive(Debug, Drop)]
+#[derive(Drop)]
 pub enum Step {
     /// The desk offers a row that needs a build.
     Offer(Key),
@@ -99,7 +99,7 @@ pub enum Refusal {
 }
 
 /// What a step answers.
-#[derive(Debug, PartialEq, Eq, Drop)]
+#[derive(PartialEq, Eq, Drop)]
 pub enum Answer {
     Done,
     /// The entry was journalled under the number.

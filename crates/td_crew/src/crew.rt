@@ -34,7 +34,7 @@ use td_script::{Asked, Reports, Staff, Told};
 use td_supply::Supply;
 
 /// A clerk beside so many builders.
-#[derive(Clone, Copy, Debug, PartialEq, Eq)]
+#[derive(Clone, Copy)]
 pub struct Crew {
     pub builders: usize,
     ghost few: { builders ≤ 64 },

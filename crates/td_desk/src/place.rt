@@ -8,7 +8,7 @@ use std::alloc::{AllocError, Global};
 
 /// Where a reading of a journal's lines stands: in the number that a line begins with, at its
 /// mark, or behind that.
-#[derive(Clone, Copy, Debug, PartialEq, Eq)]
+#[derive(Clone, Copy)]
 pub(crate) enum Place {
     Number,
     Sign,

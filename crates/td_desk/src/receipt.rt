@@ -9,7 +9,7 @@ use td_journal::{Entry, EntryNo, Keys};
 use td_rows::Kind;
 
 /// What a clerk was told of a change.
-#[derive(Debug, Drop)]
+#[derive(Drop)]
 pub enum Receipt {
     /// An entry was made, of a command or an arrival, on these keys.
     Made(EntryNo, Kind, Keys),

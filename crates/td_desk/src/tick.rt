@@ -13,7 +13,7 @@ use td_journal::{EntryNo, Marked};
 use td_rows::Kind;
 
 /// Which changes of an entry have found their receipts.
-#[derive(Clone, Copy, Debug, PartialEq, Eq)]
+#[derive(Clone, Copy)]
 pub(crate) struct Tick {
     pub(crate) made: bool,
     pub(crate) undone: bool,

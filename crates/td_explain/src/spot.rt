@@ -7,7 +7,7 @@ ghost use Rattle.td_explain.specs.Spot.{offset_of as offset_of_of, spot_of, spot
 use td_text::next_line;
 
 /// A place in a text, as a refusal has it.
-#[derive(Clone, Copy, Debug, PartialEq, Eq, Hash, Drop)]
+#[derive(Clone, Copy, Drop)]
 pub enum Place {
     /// None: the text as a whole is meant.
     Whole,
@@ -20,7 +20,7 @@ pub enum Place {
 }
 
 /// The line that is meant, its number, and behind how many of its bytes the place is.
-#[derive(Clone, Copy, Debug, PartialEq, Eq)]
+#[derive(Clone, Copy)]
 pub struct Spot<'a> {
     pub number: usize,
     pub offset: usize,

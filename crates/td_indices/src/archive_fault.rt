@@ -6,14 +6,14 @@ use td_stanza::StanzaFault;
 use thiserror::Error;
 
 /// One of the two files.
-#[derive(Clone, Copy, Debug, PartialEq, Eq, Hash)]
+#[derive(Clone, Copy, Debug, PartialEq, Eq)]
 pub enum IndexFile {
     Packages,
     Sources,
 }
 
 /// A field that a stanza needs, or that has to name a package.
-#[derive(Clone, Copy, Debug, PartialEq, Eq, Hash)]
+#[derive(Clone, Copy, Debug, PartialEq, Eq)]
 pub enum IndexField {
     Package,
     Version,

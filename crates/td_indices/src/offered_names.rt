@@ -12,7 +12,7 @@ use crate::supplying::is_equal;
 use td_relation::{Alternative, Members};
 
 /// The names that a binary package offers: its own, and those that it provides.
-#[derive(Clone, Copy, Debug)]
+#[derive(Clone, Copy)]
 pub struct OfferedNames<'r, 'a> {
     pub(crate) own: Option<&'a str>,
     pub(crate) provided: Members<'r, 'a>,

@@ -6,7 +6,7 @@ use td_version::Version;
 
 /// What a binary package is found by: its name, and the place of its architecture in the table;
 /// `None` for `all`.
-#[derive(Clone, Copy, Debug)]
+#[derive(Clone, Copy)]
 pub struct PackageKey<'a> {
     pub name: &'a str,
     pub arch: Option<usize>,
@@ -50,7 +50,7 @@ impl Hash for PackageKey<'_> {
 }
 
 /// What a stanza of Packages says of a binary package, but for its relations.
-#[derive(Clone, Copy, Debug)]
+#[derive(Clone, Copy)]
 pub struct Head<'a> {
     pub key: PackageKey<'a>,
     /// The version as it is written.
@@ -61,7 +61,7 @@ pub struct Head<'a> {
 }
 
 /// What is kept of a stanza of Packages beside its key.
-#[derive(Debug, Drop)]
+#[derive(Drop)]
 pub struct Packaged<'a> {
     pub version: &'a str,
     pub parts: Version<'a>,
@@ -73,7 +73,7 @@ pub struct Packaged<'a> {
 }
 
 /// A binary package of an archive.
-#[derive(Clone, Copy, Debug)]
+#[derive(Clone, Copy)]
 pub struct Binary<'a> {
     pub name: &'a str,
     /// The place of its architecture in the table; `None` for `all`.

@@ -3,7 +3,7 @@
 use td_version::Version;
 
 /// What is kept of a stanza of Sources beside the source's name.
-#[derive(Debug, Drop)]
+#[derive(Drop)]
 pub struct Sourced<'a> {
     /// The version as it is written.
     pub version: &'a str,
@@ -15,7 +15,7 @@ pub struct Sourced<'a> {
 }
 
 /// A source of an archive.
-#[derive(Clone, Copy, Debug)]
+#[derive(Clone, Copy)]
 pub struct Source<'a> {
     pub name: &'a str,
     /// The version as it is written.

@@ -15,7 +15,7 @@ use regex::{Error, Regex};
 use std::alloc::Global;
 
 // Why a text is no pattern.
-#[derive(Clone, Copy, Debug, PartialEq, Eq)]
+#[derive(Clone, Copy, Debug)]
 enum PatternFault {
     BadPattern,
     NoMemory,

@@ -14,7 +14,7 @@ use regex::Matcher;
 use td_stanza::Stanza;
 
 /// Which of the queries hold.
-#[derive(Clone, Copy, Debug, PartialEq, Eq)]
+#[derive(Clone, Copy)]
 pub struct Mark {
     pub affected: bool,
     pub good: bool,

@@ -11,7 +11,7 @@ use td_indices::{Archive, IndexFile};
 
 /// What a tracker says of each stanza of an archive, so that the status of a row takes no memory
 /// and looks at the packages of its own source alone.
-#[derive(Debug, Drop)]
+#[derive(Drop)]
 pub struct Marks {
     packages: Vec<Mark>,
     sources: Vec<Mark>,

@@ -33,7 +33,7 @@ impl<T: Drop> From<AllocFailed<T>> for ReadFault {
 
 /// A pattern as it stands in a text: how much of the text is left at its opening `/`, and what
 /// stands between its slashes.
-#[derive(Clone, Copy, Debug)]
+#[derive(Clone, Copy)]
 pub struct RawPattern<'a> {
     pub left: usize,
     pub raw: &'a str,

@@ -5,7 +5,7 @@ ghost use Rattle.td_query.specs.TrackerFaults.{fault_name, key_name};
 use thiserror::Error;
 
 /// A key that a tracker needs.
-#[derive(Clone, Copy, Debug, PartialEq, Eq, Hash)]
+#[derive(Clone, Copy, Debug, PartialEq, Eq)]
 pub enum TrackerKey {
     IsAffected,
     IsGood,

@@ -11,7 +11,7 @@ ghost use Rattle.td_relation.specs.ArchReading.{arch_at};
 use td_text::{cut_at, is_arch};
 
 /// An architecture of the table, by slices of its line.
-#[derive(Clone, Copy, Debug)]
+#[derive(Clone, Copy)]
 pub struct Arch<'a> {
     pub name: &'a str,
     pub os: &'a str,

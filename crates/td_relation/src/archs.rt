@@ -18,7 +18,7 @@ use thiserror::Error;
 pub const MAX_ARCHS: usize = 32;
 
 /// The architectures of a table, in the order of its lines; no two have one name.
-#[derive(Debug, Drop)]
+#[derive(Drop)]
 pub struct Archs<'a> {
     list: Vec<Arch<'a>>,
     ghost few: { length list.items ≤ max_archs },
@@ -28,7 +28,7 @@ pub struct Archs<'a> {
 }
 
 /// Why a text isn't a table of architectures: the first fault. Lines count from 1.
-#[derive(Clone, Copy, Debug, PartialEq, Eq, Hash, Drop, Error)]
+#[derive(Clone, Copy, Debug, PartialEq, Eq, Drop, Error)]
 pub enum ArchsFault {
     /// The line isn't `NAME OS CPU`.
     #[error("line {0} isn't an architecture's")]

@@ -3,7 +3,7 @@ use crate::relation::Alternative;
 
 /// The members of a relation, one after the other, each as its alternatives. A step costs the same
 /// wherever the member stands.
-#[derive(Clone, Copy, Debug)]
+#[derive(Clone, Copy)]
 pub struct Members<'r, 'a> {
     pub(crate) alternatives: &'r [Alternative<'a>],
     pub(crate) sizes: &'r [usize],

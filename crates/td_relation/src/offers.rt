@@ -6,7 +6,7 @@ use std::collections::HashMap;
 use td_version::Version;
 
 /// What is offered under a name.
-#[derive(Clone, Copy, Debug)]
+#[derive(Clone, Copy)]
 pub struct Offer<'a> {
     pub version: Option<Version<'a>>,
     /// The place of its architecture in the table; `None` for `all`.
@@ -14,7 +14,7 @@ pub struct Offer<'a> {
 }
 
 /// Offers, found by their names.
-#[derive(Debug, Drop)]
+#[derive(Drop)]
 pub struct Offers<'a> {
     by_name: HashMap<&'a str, Vec<Offer<'a>>>,
 }

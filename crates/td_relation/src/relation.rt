@@ -10,7 +10,7 @@ use std::alloc::Global;
 use td_version::Version;
 
 /// How an offer's version has to stand to the one that is given (Debian Policy 7.1).
-#[derive(Clone, Copy, Debug)]
+#[derive(Clone, Copy)]
 pub enum Operator {
     /// `<<`
     Earlier,
@@ -25,14 +25,14 @@ pub enum Operator {
 }
 
 /// What is asked of an offer's version.
-#[derive(Clone, Copy, Debug)]
+#[derive(Clone, Copy)]
 pub struct Restriction<'a> {
     pub operator: Operator,
     pub version: Version<'a>,
 }
 
 /// One alternative of a member.
-#[derive(Clone, Copy, Debug)]
+#[derive(Clone, Copy)]
 pub struct Alternative<'a> {
     pub name: &'a str,
     pub restriction: Option<Restriction<'a>>,
@@ -60,7 +60,7 @@ impl Alternative<'_> {
 }
 
 /// A relation: the alternatives in one list, and how many of them each member has.
-#[derive(Debug, Drop)]
+#[derive(Drop)]
 pub struct Relation<'a> {
     pub(crate) alternatives: Vec<Alternative<'a>>,
     pub(crate) sizes: Vec<usize>,

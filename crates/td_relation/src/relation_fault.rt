@@ -2,7 +2,7 @@
 use thiserror::Error;
 
 /// Why a text isn't a relation: the first fault from the left.
-#[derive(Clone, Copy, Debug, PartialEq, Eq, Hash, Drop, Error)]
+#[derive(Clone, Copy, Debug, PartialEq, Eq, Drop, Error)]
 pub enum RelationFault {
     /// No package name stands at the front of an alternative, or something else follows it.
     #[error("bad name")]

@@ -3,7 +3,7 @@ ghost use Rattle.std.specs.Prelude.{◌≡◌};
 ghost use Rattle.td_rows.specs.Cells.{overlap};
 
 /// Which cells of a row a kind reads or writes.
-#[derive(Clone, Copy, Debug, PartialEq, Eq)]
+#[derive(Clone, Copy)]
 pub struct Cells {
     pub state: bool,
     pub priority: bool,

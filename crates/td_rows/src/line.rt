@@ -17,7 +17,7 @@ use std::marker::Model;
 use thiserror::Error;
 
 /// A text without a newline. Contracts see its bytes.
-#[derive(Debug)]
+
 pub struct Line {
     // The text, where it isn't empty: most rows have none, and there are many rows.
     text: Option<Box<String>>,
@@ -41,7 +41,7 @@ impl Drop for Line {
 }
 
 /// Why a text is no `Line`.
-#[derive(Clone, Copy, Debug, PartialEq, Eq, Hash, Drop, Error)]
+#[derive(Clone, Copy, Debug, PartialEq, Eq, Drop, Error)]
 pub enum LineError {
     #[error("a newline stands in the text")]
     Newline,

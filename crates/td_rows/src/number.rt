@@ -13,7 +13,7 @@ use td_text::{MAX_REBUILD, rebuild_number, signed};
 pub const MAX_PRIORITY: i16 = 9999;
 
 /// How urgent a build is, from -9999 to 9999; a row opens with 0.
-#[derive(Clone, Copy, Debug, PartialEq, Eq)]
+#[derive(Clone, Copy, PartialEq, Eq)]
 pub struct Priority {
     value: i16,
 }
@@ -69,7 +69,7 @@ impl Priority {
 }
 
 /// The number of a rebuild, the `N` of `+bN`, from 0 (the source's own build) to 9999.
-#[derive(Clone, Copy, Debug, PartialEq, Eq)]
+#[derive(Clone, Copy, PartialEq, Eq)]
 pub struct RebuildNumber {
     number: u16,
 }

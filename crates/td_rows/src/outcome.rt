@@ -6,7 +6,7 @@ use crate::line::Line;
 use std::alloc::AllocError;
 
 /// How a build ended.
-#[derive(Debug, Drop, PartialEq, Eq)]
+#[derive(Drop, PartialEq, Eq)]
 pub enum Outcome {
     Built,
     Attempted,

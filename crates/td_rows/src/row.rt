@@ -8,7 +8,7 @@ use crate::state::State;
 use std::alloc::{AllocError, Global};
 
 /// What the desk knows of a key.
-#[derive(Debug, Drop, PartialEq, Eq)]
+#[derive(Drop)]
 pub struct Row {
     pub state: State,
     pub priority: Priority,

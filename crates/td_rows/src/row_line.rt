@@ -20,7 +20,7 @@ use std::alloc::{AllocError, Global};
 use td_text::{cut_at, number, part_at, put_number, put_signed, signed};
 
 /// A row, by slices of the line that it was read from.
-#[derive(Clone, Copy, Debug)]
+#[derive(Clone, Copy)]
 pub struct RowText<'a> {
     pub source: &'a str,
     pub arch: &'a str,

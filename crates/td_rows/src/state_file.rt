@@ -5,7 +5,7 @@ ghost use Rattle.td_rows.specs.FaultNames.{name_of};
 use thiserror::Error;
 
 /// Why a text isn't a state file: the first fault from its first line on. Lines count from 1.
-#[derive(Clone, Copy, Debug, PartialEq, Eq, Hash, Drop, Error)]
+#[derive(Clone, Copy, Debug, PartialEq, Eq, Drop, Error)]
 pub enum StateFault {
     /// The line isn't a row's.
     #[error("line {0} isn't a row's")]

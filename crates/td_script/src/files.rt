@@ -4,7 +4,7 @@ ghost use Rattle.std.specs.Prelude.{◌≡◌, ◌<◌, ◌^◌, length, option_
 use crate::inputs::Inputs;
 
 /// The texts of the files, and the suite that a command may name.
-#[derive(Clone, Copy, Debug)]
+#[derive(Clone, Copy)]
 pub struct Files<'i> {
     pub archs: &'i str,
     pub packages: &'i str,

@@ -5,7 +5,7 @@ ghost use Rattle.std.specs.Prelude.{◌≡◌, ◌≤◌, ◌<◌, ◌^◌, None
 pub const MAX_BUILDERS: usize = 64;
 
 /// The texts of the files, and the suite that a command may name.
-#[derive(Debug, Drop)]
+#[derive(Drop)]
 pub struct Inputs {
     /// The table of architectures.
     pub archs: String,

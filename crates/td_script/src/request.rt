@@ -9,7 +9,7 @@ use td_rows::Key;
 use td_text::{cut_at, is_arch, is_name, number, part_at, strip};
 
 /// The first word of a line that is no command.
-#[derive(Clone, Copy, Debug, PartialEq, Eq)]
+#[derive(Clone, Copy)]
 pub enum Verb {
     Undo,
     Arrive,
@@ -21,7 +21,7 @@ pub enum Verb {
 }
 
 /// What a script asks for beside commands.
-#[derive(Debug, Drop)]
+#[derive(Drop)]
 pub enum Request {
     /// The entry is undone.
     Undo(EntryNo),

@@ -46,7 +46,7 @@ pub trait Staff {
 }
 
 /// A clerk in a world without builders.
-#[derive(Clone, Copy, Debug, PartialEq, Eq)]
+#[derive(Clone, Copy)]
 pub struct Alone;
 
 impl Staff for Alone {

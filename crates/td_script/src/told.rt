@@ -11,7 +11,7 @@ use td_book::Book;
 use td_text::next_line;
 
 /// What is told of a script.
-#[derive(Debug, Drop)]
+#[derive(Drop)]
 pub struct Told {
     pub text: String,
     /// How many lines were refused.

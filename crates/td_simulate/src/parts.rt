@@ -6,7 +6,7 @@ ghost use Rattle.td_simulate.specs.SimulationText.{opening_text, lines_after, nu
 use td_text::{behind, next_line};
 
 /// The parts of a simulation's text.
-#[derive(Clone, Copy, Debug)]
+#[derive(Clone, Copy)]
 pub struct Parts<'a> {
     /// What stands before the line `steps`.
     pub opening: &'a str,

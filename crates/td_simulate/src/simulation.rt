@@ -26,7 +26,7 @@ use td_rows::{MAX_BUILDERS, Rows, read_state, rows_text};
 use td_supply::Supply;
 
 /// What is told of a simulation.
-#[derive(Debug, Drop)]
+#[derive(Drop)]
 pub struct Simulated {
     /// A line for each answer, the word `rows`, and a line for each row.
     pub text: String,

@@ -3,7 +3,7 @@ use std::alloc::{AllocError, Global};
 use std::collections::HashMap;
 
 /// Numbers of items, found by a name; each name has its own in the order in which they came.
-#[derive(Debug, Drop)]
+#[derive(Drop)]
 pub struct Numbers<'a> {
     by_name: HashMap<&'a str, Vec<usize>>,
 }

@@ -3,21 +3,21 @@ use td_version::Version;
 
 /// Whose rebuild an offer may be: a binary package of the source, which a rebuild offers at this
 /// version with its number behind it.
-#[derive(Clone, Copy, Debug)]
+#[derive(Clone, Copy)]
 pub struct Build<'a> {
     pub source: &'a str,
     pub base: Version<'a>,
 }
 
 /// The version of a rebuild that has arrived: the base, with another last part.
-#[derive(Debug, Drop)]
+#[derive(Drop)]
 pub struct Rebuilt<'a> {
     pub base: Version<'a>,
     pub last: String,
 }
 
 /// An offer, and the rebuild of it that has arrived, if one has.
-#[derive(Debug, Drop)]
+#[derive(Drop)]
 pub struct Stocked<'a> {
     pub name: &'a str,
     pub version: Option<Version<'a>>,

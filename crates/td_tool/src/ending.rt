@@ -19,7 +19,7 @@ use td_rows::StateFault;
 use td_simulate::SimulationFault;
 
 /// How a run of the program ends.
-#[derive(Clone, Copy, Debug, PartialEq, Eq, Drop)]
+#[derive(Clone, Copy, Drop)]
 pub enum Ending {
     /// All was done.
     Done,

@@ -35,7 +35,7 @@ use td_report::Transition;
 use td_rows::{Rows, read_state};
 
 /// What is to be told of a tracker.
-#[derive(Clone, Copy, Debug, PartialEq, Eq, Drop)]
+#[derive(Clone, Copy, Drop)]
 pub enum Asked {
     /// The report, by chunks of so many rows where that is given.
     Report(Option<usize>),

@@ -9,7 +9,7 @@ use thiserror::Error;
 pub const MAX_EPOCH: u32 = 2_147_483_647;
 
 /// A version by its parts, slices of the text that it was read from.
-#[derive(Clone, Copy, Debug)]
+#[derive(Clone, Copy)]
 pub struct Version<'a> {
     /// 0 where none is written.
     pub epoch: u32,
@@ -20,7 +20,7 @@ pub struct Version<'a> {
 }
 
 /// What is wrong with a text that is no version: the first fault from the left.
-#[derive(Clone, Copy, Debug, PartialEq, Eq, Hash, Error)]
+#[derive(Clone, Copy, Debug, PartialEq, Eq, Error)]
 pub enum VersionFault {
     /// The upstream part is empty, or a revision that is written.
     #[error("empty part")]

@@ -12,7 +12,7 @@ use crate::level::Level;
 use std::alloc::{AllocError, Global};
 
 /// A level for each node.
-#[derive(Debug, Drop)]
+#[derive(Drop)]
 pub struct Levelling {
     // 0 for what is in no level.
     numbers: Vec<usize>,

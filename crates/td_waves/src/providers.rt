@@ -7,14 +7,14 @@ use td_indices::Archive;
 
 /// What is kept of a package under a name: the place of its architecture, `None` for `all`, and the
 /// number of its source among those affected.
-#[derive(Clone, Copy, Debug)]
+#[derive(Clone, Copy)]
 pub struct Provider {
     pub home: Option<usize>,
     pub owner: usize,
 }
 
 /// The packages of affected sources, by the names that they offer.
-#[derive(Debug, Drop)]
+#[derive(Drop)]
 pub struct Providers<'a> {
     by_name: HashMap<&'a str, Vec<Provider>>,
 }

@@ -5,7 +5,7 @@ use crate::places::Places;
 use td_rows::{Line, Priority, RebuildNumber};
 
 /// What a command does to the rows that it names.
-#[derive(Clone, Copy, Debug, PartialEq, Eq)]
+#[derive(Clone, Copy)]
 pub enum Verb {
     /// Gives builds back.
     Gb,
@@ -18,7 +18,7 @@ pub enum Verb {
 }
 
 /// A package that a command names.
-#[derive(Debug, Drop)]
+#[derive(Drop)]
 pub struct Package {
     pub source: String,
     /// The version that the source has to have, where one is given.
@@ -26,7 +26,7 @@ pub struct Package {
 }
 
 /// A command: what is to be done, and to which rows.
-#[derive(Debug, Drop)]
+#[derive(Drop)]
 pub struct Command<'a> {
     pub verb: Verb,
     pub packages: Vec<Package>,

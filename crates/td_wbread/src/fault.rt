@@ -2,7 +2,7 @@
 use thiserror::Error;
 
 /// What is wrong with a line that is no command.
-#[derive(Clone, Copy, Debug, PartialEq, Eq, Hash, Drop, Error)]
+#[derive(Clone, Copy, Debug, PartialEq, Eq, Drop, Error)]
 pub enum LineFault {
     #[error("a quote isn't closed")]
     UnterminatedQuote,
@@ -33,7 +33,7 @@ pub enum LineFault {
 }
 
 /// Why a line wasn't read as a command.
-#[derive(Clone, Copy, Debug, PartialEq, Eq, Hash, Drop, Error)]
+#[derive(Clone, Copy, Debug, PartialEq, Eq, Drop, Error)]
 pub enum CommandFault {
     /// The first fault from the left, and its place in the line, in bytes.
     #[error("{0} (at byte {1})")]

@@ -7,7 +7,7 @@ use std::alloc::{AllocError, Global};
 use std::collections::HashMap;
 
 /// Places in a list of packages, found by a source; each source has its own, in rising order.
-#[derive(Debug, Drop)]
+#[derive(Drop)]
 pub struct Places {
     by_source: HashMap<String, Vec<usize>>,
 }

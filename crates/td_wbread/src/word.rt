@@ -3,7 +3,7 @@ use crate::fault::{CommandFault, LineFault};
 use td_rows::Line;
 
 /// A word of a line, without its quotes.
-#[derive(Debug, Drop)]
+#[derive(Drop)]
 pub struct Word {
     pub text: Line,
     /// Whether it is written without quotes.
@@ -13,7 +13,7 @@ pub struct Word {
 }
 
 /// What stands behind the last word of a line.
-#[derive(Clone, Copy, Debug)]
+#[derive(Clone, Copy)]
 pub enum End {
     /// Nothing: the line ends at this place.
     Closed(usize),

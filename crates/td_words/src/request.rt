@@ -25,7 +25,7 @@ use td_text::number;
 const MAX_CHUNK: u64 = 1_000_000;
 
 /// The paths of an archive's files.
-#[derive(Debug, Drop)]
+#[derive(Drop)]
 pub struct ArchivePaths {
     pub archs: String,
     pub packages: String,
@@ -33,7 +33,7 @@ pub struct ArchivePaths {
 }
 
 /// A report over these files, by chunks of so many rows where that is given.
-#[derive(Debug, Drop)]
+#[derive(Drop)]
 pub struct TrackRequest {
     pub files: ArchivePaths,
     pub tracker: String,
@@ -43,7 +43,7 @@ pub struct TrackRequest {
 }
 
 /// A run over these files.
-#[derive(Debug, Drop)]
+#[derive(Drop)]
 pub struct RunRequest {
     pub files: ArchivePaths,
     /// Rows to put in the place of those that the indices say.
@@ -60,7 +60,7 @@ pub struct RunRequest {
 }
 
 /// What the words ask for.
-#[derive(Debug, Drop)]
+#[derive(Drop)]
 pub enum Request {
     /// The steps of a simulation are on standard input.
     Simulate,
@@ -77,7 +77,7 @@ pub enum Request {
 }
 
 /// What they ask for, and whether a refusal is to be explained.
-#[derive(Debug, Drop)]
+#[derive(Drop)]
 pub struct Call {
     pub request: Request,
     pub explained: bool,
