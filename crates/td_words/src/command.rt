@@ -1,6 +1,6 @@
 //! The command line as `clap` is told of it: subcommands, options and their help.
 ghost use Rattle.std.specs.Prelude.{◌≡◌, IfOk, false};
-ghost use Rattle.clap.specs.Simple.{app_of, shape_of, with_rule};
+ghost use Rattle.clap.specs.Simple.{App, Shape, app_of, shape_of, with_rule, with_subcommand};
 ghost use Rattle.clap.specs.declared.builder.command.Command.TheViews.{out-Command};
 ghost use Rattle.clap.specs.Walk.{rule_of};
 ghost use Rattle.td_words.specs.CommandLine.{bare_desk, check_shape, desk, flag_of, needed_option};
@@ -284,13 +284,27 @@ fn program<'a>(alloc: Global) -> Command<'a>
         .subcommand_required(true)
 }
 
+// The same program with one more subcommand.
+fn with_part<'a>(
+    whole: Result<Command<'a>, AllocError>,
+    part: Result<Command<'a>, AllocError>,
+) -> Result<Command<'a>, AllocError>
+    ensures { IfOk result (λ c. (a : App) (s : Shape)
+        → IfOk whole.entry (λ w. app_of w ≡ a) → IfOk part.entry (λ p. shape_of p ≡ s)
+        → IfOk part.entry (λ p. (out-Command p).has_globals ≡ false)
+        → app_of c ≡ with_subcommand a s) }
+{
+    let whole = whole?;
+    whole.subcommand(part?)
+}
+
 /// The program's command line, as `clap` has it.
 pub(crate) fn command<'a>(alloc: Global) -> Result<Command<'a>, AllocError>
     ensures { IfOk result (λ c. app_of c ≡ desk) }
 {
-    let command = program(alloc).subcommand(simulate(alloc)?)?;
-    let command = command.subcommand(check(alloc)?)?;
-    let command = command.subcommand(track(alloc)?)?;
-    let command = command.subcommand(waves(alloc)?)?;
-    command.subcommand(run(alloc)?)
+    let whole = with_part(Ok(program(alloc)), simulate(alloc));
+    let whole = with_part(whole, check(alloc));
+    let whole = with_part(whole, track(alloc));
+    let whole = with_part(whole, waves(alloc));
+    with_part(whole, run(alloc))
 }

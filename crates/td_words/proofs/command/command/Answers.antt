@@ -1,31 +1,29 @@
 -- `command`: what it answers.
-use Rattle.std.proofs.Common.{◌≡◌, false, ap, ◌∙◌}
+use Rattle.std.proofs.Common.{◌≡◌}
 use Rattle.std.proofs.lemmas.Result.{IfOk-weaker}
-use Rattle.clap.specs.Built.{AddsSubcommand}
-use Rattle.clap.specs.Simple.{App, Shape, app_of, shape_of, with_subcommand}
-use Rattle.clap.specs.declared.builder.command.Command.{Command}
-use Rattle.clap.specs.declared.builder.command.Command.TheViews.{out-Command}
-use Rattle.td_words.specs.CommandLine.{desk}
+use Rattle.clap.specs.Simple.{app_of, with_subcommand}
+use Rattle.td_words.specs.CommandLine.{bare_desk, check_shape, desk, run_shape, simulate_shape}
+use Rattle.td_words.specs.CommandLine.{track_shape, waves_shape}
 use Rattle.td_words.proofs.command.command.Goals as goal
-
--- a command with one more subcommand
-with_one : (a : App) (shape : Shape) (old sub new : Command) → AddsSubcommand old sub new
-    → app_of old ≡ a → shape_of sub ≡ shape → (out-Command sub).has_globals ≡ false
-    → app_of new ≡ with_subcommand a shape
-with_one a shape old sub new adds before is none =
-    adds.shape none ∙ (ap (λ x. with_subcommand x (shape_of sub)) before
-    ∙ ap (with_subcommand a) is)
 
 pub returns : goal.returns
 returns c =
-    let one = with_one _ _ _ _ _ c.in_ok-command.ensures c.program.ensures
-    c.in_ok-simulate.ensures.shape c.in_ok-simulate.ensures.globals in
-    let two = with_one _ _ _ _ _ c.in_ok-command-2.ensures one c.in_ok-check.ensures.shape
-    c.in_ok-check.ensures.globals in
-    let three = with_one _ _ _ _ _ c.in_ok-command-3.ensures two c.in_ok-track.ensures.shape
-    c.in_ok-track.ensures.globals in
-    let four = with_one _ _ _ _ _ c.in_ok-command-4.ensures three c.in_ok-waves.ensures.shape
-    c.in_ok-waves.ensures.globals in
-    IfOk-weaker c.subcommand-5.result _ (λ r. app_of r ≡ desk)
-    (λ r adds. with_one _ _ _ _ _ adds four c.in_ok-run.ensures.shape c.in_ok-run.ensures.globals)
-    c.subcommand-5.ensures
+    let one = with_subcommand bare_desk simulate_shape in
+    let two = with_subcommand one check_shape in
+    let three = with_subcommand two track_shape in
+    let four = with_subcommand three waves_shape in
+    let of_one = IfOk-weaker c.with_part-whole.result _ (λ x. app_of x ≡ one)
+    (λ x h. h bare_desk simulate_shape c.program.ensures c.simulate.ensures.shape
+    c.simulate.ensures.globals) c.with_part-whole.ensures in
+    let of_two = IfOk-weaker c.with_part-whole-2.result _ (λ x. app_of x ≡ two)
+    (λ x h. h one check_shape of_one c.check.ensures.shape c.check.ensures.globals)
+    c.with_part-whole-2.ensures in
+    let of_three = IfOk-weaker c.with_part-whole-3.result _ (λ x. app_of x ≡ three)
+    (λ x h. h two track_shape of_two c.track.ensures.shape c.track.ensures.globals)
+    c.with_part-whole-3.ensures in
+    let of_four = IfOk-weaker c.with_part-whole-4.result _ (λ x. app_of x ≡ four)
+    (λ x h. h three waves_shape of_three c.waves.ensures.shape c.waves.ensures.globals)
+    c.with_part-whole-4.ensures in
+    IfOk-weaker c.with_part.result _ (λ x. app_of x ≡ desk)
+    (λ x h. h four run_shape of_four c.run.ensures.shape c.run.ensures.globals)
+    c.with_part.ensures
