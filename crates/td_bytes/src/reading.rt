@@ -1,9 +1,9 @@
 //! A reader is read to its end, within a limit.
 ghost use Rattle.std.specs.Prelude.{◌≡◌, ◌≤◌, ◌<◌, length, take, IfOk, OnOk, OnErr, IfSome};
-ghost use Rattle.std.specs.Prelude.{IsErrOf};
+ghost use Rattle.std.specs.Prelude.{IfErr, IsErrOf};
 ghost use Rattle.std.specs.Io.{ReadsAtMost};
 ghost use Rattle.std.specs.Io.KnownBytes.{Consumes, IsAtEnd, Keeps};
-ghost use Rattle.td_bytes.specs.Pieces.{ConsumesFront};
+ghost use Rattle.td_bytes.specs.Pieces.{ConsumesFront, HasLost};
 
 use std::alloc::{AllocError, Global};
 use std::io::{ErrorKind, Read};
@@ -69,15 +69,18 @@ pub fn read_whole<R: Read>(
     ensures long { IsErrOf result ReadFault.TooLong
         → IfSome (R.remaining reader.old) (λ all. limit < length all) }
     ensures lost { ConsumesFront (R.remaining reader.old) (R.remaining reader.new) }
+    ensures fault { IfErr result (HasLost limit (R.remaining reader.old) (R.remaining reader.new)) }
 {
     let mut bytes = Vec::new(alloc);
     let mut buffer = [0u8; PIECE];
-    while bytes.len() <= limit {
+    loop {
         let count = read_piece(reader, &mut buffer)?;
         if count == 0 {
             return Ok(bytes);
         }
+        if limit - bytes.len() < count {
+            return Err(ReadFault::TooLong);
+        }
         bytes.extend_from_slice(&buffer[..count])?;
     }
-    Err(ReadFault::TooLong)
 }
