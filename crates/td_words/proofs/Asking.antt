@@ -1,4 +1,6 @@
 -- What `clap` reads in the words that ask for the simulation, and in those that ask for a check.
+use Rattle.td_words.specs.declared.request.WordsFault.TheVariants.{NoMemory}
+use Rattle.td_words.specs.Asked.{IsUsage}
 use Rattle.std.proofs.Common.{◌≡◌, ℕ, Bool, true, false, List, [], ◌++◌, Option, Some, None, Result}
 use Rattle.std.proofs.Common.{◌∷◌, Ok, Err, IfOk, MatchResult, codes, option_map, unwrap_or}
 use Rattle.std.proofs.Common.{string_bytes, refl, sym, ap, subst, inl, inr, ◌∙◌}
@@ -331,3 +333,7 @@ pub only_memory : (built : App) (words : List (List ℕ)) (e : Error) → built 
 only_memory built words e same none kinds =
     no_kind e (subst (λ k. HasKind k e) none
     (said_of_words (λ a. HasKind (fault_of a words) e) built same kinds))
+
+-- want of memory may stand for any text
+pub memory_said : (fault : WordsFault) (text : List ℕ) → fault ≡ NoMemory → IsUsage fault text
+memory_said fault text is = subst (λ e. IsUsage e text) (sym is) tt

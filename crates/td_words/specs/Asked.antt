@@ -101,6 +101,10 @@ abbrev pub IsUsage : WordsFault → List ℕ → Type 0
 IsUsage (Usage said) text = string_bytes said ≡ text
 IsUsage NoMemory text = Unit {0}
 
+-- what is said of a chunk of any other number
+abbrev pub chunk_said : List ℕ
+chunk_said = codes "error: --chunk takes a number from 1 to 1000000\n"
+
 -- the files are those that these options give
 abbrev pub AreFilesIn : List Row → ArchivePaths → Type 0
 AreFilesIn options files =

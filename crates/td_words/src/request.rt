@@ -10,7 +10,8 @@ ghost use Rattle.td_words.specs.CommandLine.{AskForWaves, HasFiles, HasRun, HasT
 ghost use Rattle.td_words.specs.CommandLine.{RunWords, TrackWords, chunk_at};
 ghost use Rattle.td_words.specs.CommandLine.{chunk_in as chunk_in_of, is_explained, name_in};
 ghost use Rattle.td_words.specs.CommandLine.{options_of, rows_in};
-ghost use Rattle.td_words.specs.Asked.{AreFilesIn, AreFilesOf, AreWavesIn, AreWavesOf, Asks};
+ghost use Rattle.td_words.specs.Asked.{chunk_said, AreFilesIn, AreFilesOf, AreWavesIn, AreWavesOf};
+ghost use Rattle.td_words.specs.Asked.{Asks};
 ghost use Rattle.td_words.specs.Asked.{IsCheckIn, IsCheckOf, IsRequestIn, IsRunOf, IsTrackIn};
 ghost use Rattle.td_words.specs.Asked.{IsTrackOf, IsUsage, call_as};
 
@@ -217,6 +218,9 @@ fn chunk_in(matches: &ArgMatches<'_>) -> Option<Option<usize>>
 fn track_in(alloc: Global, matches: &ArgMatches<'_>) -> Result<Request, WordsFault>
     ensures track { (w : TrackWords) → HasTrack (rows_of (found_of matches.now)) w
         → MatchResult result (IsTrackOf w) (λ e. e ≡ WordsFault.NoMemory) }
+    ensures said { (archs packages sources tracker : List ℕ)
+        → HasTracker (rows_of (found_of matches.now)) archs packages sources tracker
+        → IfErr result (λ e. IsUsage e chunk_said) }
     ensures only { IfOk result (IsTrackIn (rows_of (found_of matches.now))) }
 {
     let files = archive_in(alloc, matches)?;
@@ -268,6 +272,10 @@ fn request_in(alloc: Global, matches: &ArgMatches<'_>) -> Result<Request, WordsF
         → name_in (subcommand_rows_of matches.now) ≡ Some (codes "run")
         → HasRun (rows_in (subcommand_rows_of matches.now)) w
         → MatchResult result (IsRunOf w) (λ e. e ≡ WordsFault.NoMemory) }
+    ensures track_said { (archs packages sources tracker : List ℕ)
+        → name_in (subcommand_rows_of matches.now) ≡ Some (codes "track")
+        → HasTracker (rows_in (subcommand_rows_of matches.now)) archs packages sources tracker
+        → IfErr result (λ e. IsUsage e chunk_said) }
     ensures only { IfOk result (IsRequestIn (subcommand_rows_of matches.now)) }
 {
     match matches.subcommand() {
@@ -316,6 +324,11 @@ pub fn read_words(alloc: Global, words: &[String]) -> Result<Call, WordsFault>
     // Words that ask for a report are answered by it, unless memory runs out.
     ensures track { (w : TrackWords) → AskForTrack (map string_bytes words.now) w
         → MatchResult result (λ c. IsTrackOf w c.request) (λ e. e ≡ WordsFault.NoMemory) }
+    // Where only the number of a chunk is wrong, that is said.
+    ensures track_said { (archs packages sources tracker : List ℕ)
+        → AskFor (codes "track") (map string_bytes words.now)
+        → HasTracker (options_of (map string_bytes words.now)) archs packages sources tracker
+        → IfErr result (λ e. IsUsage e chunk_said) }
     // So are words that ask for waves.
     ensures waves { (archs packages sources tracker : List ℕ)
         → AskForWaves (map string_bytes words.now) archs packages sources tracker

@@ -1,4 +1,6 @@
 -- `read_words`: its clauses.
+use Rattle.td_words.specs.Asked.{IsUsage, chunk_said}
+use Rattle.td_words.proofs.Asking.{memory_said}
 use Rattle.std.proofs.Common.{◌≡◌, map, string_bytes, [], sym, refl, ap, subst, IfOk, ◌∙◌}
 use Rattle.std.proofs.lemmas.Result.{IfOk-weaker}
 use Rattle.clap.specs.Faults.{fault_of}
@@ -108,3 +110,18 @@ pub returns-in-Err-clause-run : goal.returns-in-Err-clause-run
 returns-in-Err-clause-run c w asking =
     c.fault_of.ensures (only_memory _ (map string_bytes c.args.words.now) c.in-Err.error
     c.in_ok-command.ensures asking.0.0 c.in-Err.ensures.kinds)
+
+pub returns-in-Ok-clause-track_said : goal.returns-in-Ok-clause-track_said
+returns-in-Ok-clause-track_said c archs packages sources tracker asking has =
+    let m = c.in-Ok.matches in
+    let texts = map string_bytes c.args.words.now in
+    let rows = rows_are_asked _ m texts c.in_ok-command.ensures c.in-Ok.ensures.matches in
+    holds_of_call (λ q. Unit {0}) (λ e. IsUsage e chunk_said) c.request_in.result
+    c.is_explained_in.result c.call_of.result c.call_of.ensures
+    (c.request_in.ensures.track_said archs packages sources tracker (ap name_in rows ∙ asking.1)
+    (subst (λ o. HasTracker (rows_in o) archs packages sources tracker) (sym rows) has))
+
+pub returns-in-Err-clause-track_said : goal.returns-in-Err-clause-track_said
+returns-in-Err-clause-track_said c archs packages sources tracker asking has =
+    memory_said _ _ (c.fault_of.ensures (only_memory _ (map string_bytes c.args.words.now)
+    c.in-Err.error c.in_ok-command.ensures asking.0 c.in-Err.ensures.kinds))

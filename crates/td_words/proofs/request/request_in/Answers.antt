@@ -31,3 +31,10 @@ returns-in-Some-5-clause-run c w named has =
     (subst (λ options. HasRun options w)
     (rows_of_matches c.args.matches.now c.subcommand.result _ c.in-Some.is
     c.subcommand.ensures.rows) has)
+
+pub returns-in-Some-3-clause-track_said : goal.returns-in-Some-3-clause-track_said
+returns-in-Some-3-clause-track_said c archs packages sources tracker named has =
+    c.track_in.ensures.said archs packages sources tracker
+    (subst (λ options. HasTracker options archs packages sources tracker)
+    (rows_of_matches c.args.matches.now c.subcommand.result _ c.in-Some.is
+    c.subcommand.ensures.rows) has)
