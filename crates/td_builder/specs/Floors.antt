@@ -1,5 +1,5 @@
 -- What a floor's calls say of a builder's seat. This project's own.
-use Rattle.std.specs.Prelude.{◌≡◌, ℕ}
+use Rattle.std.specs.Prelude.{◌≡◌, ◌≢◌, ℕ}
 use Rattle.td_board.specs.declared.outcome.OutcomeCode.{OutcomeCode}
 use Rattle.td_board.specs.declared.views.Hand.TheVariants.{Holding}
 use Rattle.td_board.specs.Seats.{BuilderModel}
@@ -9,6 +9,10 @@ use Rattle.td_book.specs.declared.starting.Job.{Job}
 -- the seat holds a row
 abbrev pub IsHolding : BuilderModel → Type 0
 IsHolding s = (r : ℕ) × (s.builder.hand ≡ Holding r)
+
+-- the seat holds no row: its hand is free, or its build ended
+abbrev pub IsIdle : BuilderModel → Type 0
+IsIdle s = (r : ℕ) → s.builder.hand ≢ Holding r
 
 -- the seat holds a row, for which the job may be answered
 abbrev pub IsStarted : (ℕ → Job → Type 0) → BuilderModel → Job → Type 0

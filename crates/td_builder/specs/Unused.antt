@@ -1,7 +1,7 @@
 -- The outcome lines of each key, and which of them is used next. This project's own.
 use Rattle.std.specs.Prelude.{◌≡◌, ◌≢◌, ◌⊎◌, ℕ, ◌+◌, List, [], ◌∷◌, ◌++◌, Vec, Some, None, map}
-use Rattle.std.specs.Prelude.{slice_get, slice_set, if◌then◌else◌}
-use Rattle.std.specs.Map.{lookup}
+use Rattle.std.specs.Prelude.{Option, position, slice_get, slice_set, if◌then◌else◌}
+use Rattle.std.specs.Map.{keys_of, lookup}
 use Rattle.std.specs.declared.alloc.Global.{Global}
 use Rattle.td_board.specs.declared.outcome.OutcomeCode.{OutcomeCode}
 use Rattle.td_board.specs.declared.outcome.OutcomeCode.TheVariants as code
@@ -71,3 +71,19 @@ pub record IsTaken (slot : ℕ) (lines : List KeyLine) (used used' : List ℕ)
   pub outcome : o ≡ outcome_of next.line.code next.text
   pub counted : used' ≡ slice_set used slot (next.number + 1)
   pub moved : texts' ≡ slice_set texts next.line.line []
+
+-- the place of a key among the keys with lines
+abbrev pub slot_of : KeyLines → Key → Option ℕ
+slot_of m k = position (same_key k) (keys_of m)
+
+-- the next line of the key
+abbrev pub IsNextOf : KeyLines → Key → List ℕ → List (List ℕ) → Type 0
+IsNextOf m k used texts =
+    (slot : ℕ) × (slot_of m k ≡ Some slot) × IsNext slot (lines_of_key m k) used texts
+
+-- the outcome is that of the next line of the key, which is used now
+abbrev pub IsTakenOf : KeyLines → Key → List ℕ → List ℕ → List (List ℕ) → List (List ℕ) → Outcome
+    → Type 0
+IsTakenOf m k used used' texts texts' o =
+    (slot : ℕ) × (slot_of m k ≡ Some slot)
+    × IsTaken slot (lines_of_key m k) used used' texts texts' o

@@ -113,11 +113,8 @@ impl Builds for Outcomes {
     ghost may = { λ o job outcome. MayAnswer (codes_of o job.key) (code_of outcome) };
 
     fn build<R: Wait>(&self, rt: &R, job: &Job) -> Outcome {
-        let Some((slot, _, lines)) = self.lines.get_full(&job.key) else {
-            return Outcome::Built;
-        };
         let mut unused = self.unused.lock(rt);
-        match unused.next(self.alloc, slot, lines.as_slice()) {
+        match unused.next_of(self.alloc, &self.lines, &job.key) {
             Some(outcome) => outcome,
             None => Outcome::Built,
         }

@@ -2,13 +2,15 @@
 ghost use Rattle.std.specs.Prelude.{◌≡◌, ℕ, [], IfOk, IfSome, IfNone, map, replicate};
 ghost use Rattle.td_journal.specs.Endings.{outcome_text};
 ghost use Rattle.td_book.specs.Deeds.{code_of as code_in};
-ghost use Rattle.td_builder.specs.Unused.{IsNext, IsTaken, outcome_of as outcome_in};
+ghost use Rattle.td_builder.specs.Unused.{IsNext, IsNextOf, IsTaken, IsTakenOf};
+ghost use Rattle.td_builder.specs.Unused.{outcome_of as outcome_in};
 
 use crate::key_line::KeyLine;
+use indexmap::IndexMap;
 use std::alloc::{AllocError, Global};
 use std::mem;
 use td_board::OutcomeCode;
-use td_rows::{Line, Outcome};
+use td_rows::{Key, Line, Outcome};
 
 /// What of the outcome lines wasn't used yet: the texts by line, and by key how many of its lines
 /// were used.
@@ -53,8 +55,26 @@ impl Unused {
         Ok(Unused { texts, used })
     }
 
-    /// Uses the next of a key's lines, and answers its outcome. It takes no memory.
-    pub fn next(&mut self, alloc: Global, slot: usize, lines: &[KeyLine]) -> Option<Outcome>
+    /// Uses the next of a key's lines, and answers its outcome; None where the key has none left.
+    /// It takes no memory.
+    pub fn next_of(
+        &mut self,
+        alloc: Global,
+        lines: &IndexMap<Key, Vec<KeyLine>>,
+        key: &Key,
+    ) -> Option<Outcome>
+        ensures taken { IfSome result (IsTakenOf lines.now.entries key.now self.old.used.items
+            self.new.used.items self.old.texts.items self.new.texts.items) }
+        ensures none { IfNone result (IsNextOf lines.now.entries key.now self.old.used.items
+            self.old.texts.items → ⊥) }
+        ensures same { IfNone result (self.new ≡ self.old) }
+    {
+        let (slot, _, lines) = lines.get_full(key)?;
+        self.next(alloc, slot, lines.as_slice())
+    }
+
+    // Uses the next of the lines of the key in a slot.
+    fn next(&mut self, alloc: Global, slot: usize, lines: &[KeyLine]) -> Option<Outcome>
         ensures taken { IfSome result (IsTaken slot lines.now
             self.old.used.items self.new.used.items self.old.texts.items self.new.texts.items) }
         ensures none { IfNone result

@@ -1,6 +1,6 @@
 //! A builder's work.
 ghost use Rattle.std.specs.Prelude.{◌≡◌, ◌≤◌, ◌⊎◌, ◌^◌, ◌-◌, ℕ, IfOk, IfErr, OnOk, OnErr};
-ghost use Rattle.td_builder.specs.Floors.{IsHolding};
+ghost use Rattle.td_builder.specs.Floors.{IsHolding, IsIdle};
 ghost use Rattle.td_builder.specs.Turns.{Worked};
 
 use crate::floor::{Builds, Floor};
@@ -20,6 +20,7 @@ pub fn work<F: Floor, B: Builds, R: Wait>(
     requires { seat.old.table ≡ F.table floor.now }
     ensures worked { IfOk result (λ n.
         Worked (F.jobs floor.now) (B.may builds.now) n seat.old seat.new) }
+    ensures idle { OnOk result (IsIdle seat.new) }
     ensures ended { IfOk result (λ n. F.ended floor.now ⊎ (n ≡ 2 ^ 64 - 1)) }
     ensures meanwhile { OnErr result ((n : ℕ)
         × Worked (F.jobs floor.now) (B.may builds.now) n seat.old seat.new) }
@@ -52,9 +53,11 @@ fn build_each<F: Floor, B: Builds, R: Wait>(
     seat: &mut BuilderSeat,
     builds: &B,
 ) -> Result<u64, WorkStop>
-    requires { seat.old.table ≡ F.table floor.now }
+    requires table { seat.old.table ≡ F.table floor.now }
+    requires idle { IsIdle seat.old }
     ensures worked { IfOk result (λ n.
         Worked (F.jobs floor.now) (B.may builds.now) n seat.old seat.new × (n ≤ most)) }
+    ensures idle { OnOk result (IsIdle seat.new) }
     ensures meanwhile { OnErr result ((n : ℕ)
         × Worked (F.jobs floor.now) (B.may builds.now) n seat.old seat.new) }
     ensures stopped { IfErr result (F.stopped floor.now) }
@@ -77,9 +80,11 @@ fn claim_and_build<F: Floor, B: Builds, R: Wait>(
     seat: &mut BuilderSeat,
     builds: &B,
 ) -> Result<u64, WorkStop>
-    requires { seat.old.table ≡ F.table floor.now }
+    requires table { seat.old.table ≡ F.table floor.now }
+    requires idle { IsIdle seat.old }
     ensures worked { IfOk result (λ n.
         Worked (F.jobs floor.now) (B.may builds.now) n seat.old seat.new × (n ≤ 1)) }
+    ensures idle { OnOk result (IsIdle seat.new) }
     ensures meanwhile { OnErr result ((n : ℕ)
         × Worked (F.jobs floor.now) (B.may builds.now) n seat.old seat.new) }
     ensures stopped { IfErr result (F.stopped floor.now) }
@@ -102,6 +107,7 @@ fn build_held<F: Floor, B: Builds, R: Wait>(
     requires hand { IsHolding seat.old }
     ensures worked { OnOk result
         (Worked (F.jobs floor.now) (B.may builds.now) 1 seat.old seat.new) }
+    ensures idle { OnOk result (IsIdle seat.new) }
     ensures meanwhile { OnErr result ((n : ℕ)
         × Worked (F.jobs floor.now) (B.may builds.now) n seat.old seat.new) }
     ensures stopped { IfErr result (F.stopped floor.now) }

@@ -19,4 +19,5 @@ loop-row-preserved g c = (
       c.loop-row.seat c.claim_and_build.new.seat c.loop-row.built c.in_ok-built.field-0
       c.loop-row.invariant.0 c.in_ok-built.ensures.worked.0,
   omega (arith, c.loop-row.invariant.1, c.if-built-most.false, c.in_ok-built.ensures.worked.1),
+  c.in_ok-built.ensures.idle,
 )
