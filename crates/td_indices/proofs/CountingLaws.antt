@@ -302,7 +302,7 @@ not_above a b d h k = by (version_cmp b a) refl
 
 -- ---- keys
 
-same_home-refl : (h : Option ℕ) → same_home h h ≡ true
+pub same_home-refl : (h : Option ℕ) → same_home h h ≡ true
 same_home-refl None = refl
 same_home-refl (Some i) = eq-eqb i i refl
 

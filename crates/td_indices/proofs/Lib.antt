@@ -26,6 +26,9 @@ pub mod OpeningCounts
 pub mod PackageStanzas
 pub mod OfferLaws
 pub mod SourceStanzas
+mod Skipped
 pub mod Pieces
 pub mod Parts
 pub mod Cuts
+pub mod OpeningNumbers
+pub mod FaultOrder

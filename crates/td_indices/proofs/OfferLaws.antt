@@ -29,10 +29,10 @@ pub has_cases : {X : Type 0} (x : X) (xs : List X) (y : X) → Contains (x ∷ x
 has_cases x xs y (zero, low, is) = inl is
 has_cases x xs y (suc k, low, is) = inr (k, omega arith, is)
 
-has_first : {X : Type 0} (x : X) (xs : List X) → Contains (x ∷ xs) x
+pub has_first : {X : Type 0} (x : X) (xs : List X) → Contains (x ∷ xs) x
 has_first x xs = (0, omega arith, refl)
 
-has_more : {X : Type 0} (x : X) (xs : List X) (y : X) → Contains xs y → Contains (x ∷ xs) y
+pub has_more : {X : Type 0} (x : X) (xs : List X) (y : X) → Contains xs y → Contains (x ∷ xs) y
 has_more x xs y h = let low = h.1 in (suc h.0, omega arith, h.2)
 
 one_has : {X : Type 0} (x y : X) → Contains (x ∷ []) y → x ≡ y

@@ -21,3 +21,5 @@ pub mod PackageStanzas
 pub mod OfferLaws
 pub mod SourceStanzas
 pub mod inner
+pub mod OpeningLaws
+pub mod FaultLaws

@@ -71,3 +71,21 @@ abbrev pub KeptPackagesAreExact : Type 0
 KeptPackagesAreExact =
     (table : List ArchWords) (number : ℕ) (fields : List Entry) (b : KeptBinary)
     → (binary_at table number fields ≡ Ok (Some b)) ↔ IsKeptPackage table number fields b
+
+-- the stanza is that of a package elsewhere: it has the fields that are needed and a legal name,
+-- and its architecture is neither in the table nor `all`
+pub record IsElsewhere (table : List ArchWords) (fields : List Entry) : Type 0 where
+  pub name : List ℕ
+  pub version : List ℕ
+  pub arch : List ℕ
+  pub named : value_of fields (codes "Package") ≡ Some name
+  pub legal : IsTrue (is_name name)
+  pub versioned : value_of fields (codes "Version") ≡ Some version
+  pub there : value_of fields (codes "Architecture") ≡ Some arch
+  pub elsewhere : home_of table arch ≡ None
+
+-- a stanza of Packages is skipped exactly where its package is elsewhere
+abbrev pub SkippedPackagesAreExact : Type 0
+SkippedPackagesAreExact =
+    (table : List ArchWords) (number : ℕ) (fields : List Entry)
+    → (binary_at table number fields ≡ Ok None) ↔ IsElsewhere table fields

@@ -1,6 +1,6 @@
 -- Which stanzas of Sources are which sources: Debian Policy 5.4, 5.6; that one with
 -- `Extra-Source-Only: yes` is none is this project's own.
-use Rattle.std.specs.Prelude.{◌≡◌, ◌≢◌, ◌↔◌, ℕ, IsTrue, List, Some, Ok, codes}
+use Rattle.std.specs.Prelude.{◌≡◌, ◌≢◌, ◌↔◌, ℕ, IsTrue, List, Some, None, Ok, codes}
 use Rattle.td_text.specs.Words.{is_name}
 use Rattle.td_stanza.specs.Field.{Entry}
 use Rattle.td_version.specs.Grammar.{IsVersion}
@@ -29,3 +29,10 @@ abbrev pub KeptSourcesAreExact : Type 0
 KeptSourcesAreExact =
     (number : ℕ) (fields : List Entry) (s : KeptSource)
     → (kept_source_at number fields ≡ Ok (Some s)) ↔ IsKeptSource number fields s
+
+-- a stanza of Sources is skipped exactly where it is an extra one
+abbrev pub SkippedSourcesAreExact : Type 0
+SkippedSourcesAreExact =
+    (number : ℕ) (fields : List Entry)
+    → (kept_source_at number fields ≡ Ok None)
+    ↔ (value_of fields (codes "Extra-Source-Only") ≡ Some (codes "yes"))

@@ -7,11 +7,14 @@ ghost use Rattle.td_indices.specs.Counting.{
   PackageKeysAreExact,
   SourceKeysAreExact,
 };
+ghost use Rattle.td_indices.specs.FaultLaws.{PackageFaultsComeInOrder, SourceFaultsComeInOrder};
 ghost use Rattle.td_indices.specs.FirstFaults.{FirstFaultyPackageIsNamed, FirstFaultySourceIsNamed};
 ghost use Rattle.td_indices.specs.OfferLaws.{OffersAreExact};
+ghost use Rattle.td_indices.specs.OpeningLaws.{OpeningRowsAreExact};
 ghost use Rattle.td_indices.specs.OfferedNames.{NamesAreThoseOfOffers};
 ghost use Rattle.td_indices.specs.PackageStanzas.{KeptPackagesAreExact, PackagesAreExact};
-ghost use Rattle.td_indices.specs.SourceStanzas.{KeptSourcesAreExact};
+ghost use Rattle.td_indices.specs.PackageStanzas.{SkippedPackagesAreExact};
+ghost use Rattle.td_indices.specs.SourceStanzas.{KeptSourcesAreExact, SkippedSourcesAreExact};
 
 /// Of the packages and the sources that the stanzas stand for, each by itself, those are kept that
 /// count: one of each key, with the greatest version, the first of those equal in order.
@@ -57,4 +60,19 @@ pub fn offers_come_of_packages()
 pub fn stanzas_are_kept_exactly()
     ensures packages { KeptPackagesAreExact }
     ensures sources { KeptSourcesAreExact }
+    ensures elsewhere { SkippedPackagesAreExact }
+    ensures extra { SkippedSourcesAreExact }
+{}
+
+/// A key opens exactly with the row that the packages of its source give it that were built there:
+/// Installed with the greatest number of a rebuild, or blank where there is none.
+pub fn opening_rows_are_by_what_was_built()
+    ensures { OpeningRowsAreExact }
+{}
+
+/// Of the faults of a stanza the fields that it needs come first, then its versions, then its
+/// relations.
+pub fn faults_of_a_stanza_come_in_order()
+    ensures packages { PackageFaultsComeInOrder }
+    ensures sources { SourceFaultsComeInOrder }
 {}

@@ -15,3 +15,5 @@ pub mod RowStatuses
 pub mod AffectedSources
 pub mod Meanings
 pub mod Grades
+pub mod QueryRules
+pub mod KeyRules

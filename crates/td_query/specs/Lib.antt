@@ -13,5 +13,7 @@ pub mod Tracking
 pub mod Statuses
 pub mod Marks
 pub mod QueryLaws
+pub mod QueryRules
 pub mod StatusLaws
 pub mod inner
+pub mod KeyRules

@@ -1,8 +1,12 @@
 //! What queries and statuses mean, as laws over their definitions.
+ghost use Rattle.td_query.specs.KeyRules.{QueriesAreSaid, TitlesAreSaid};
 ghost use Rattle.td_query.specs.QueryLaws.{AbsentFieldsNeverMatch, ConjunctionsAreAnd};
 ghost use Rattle.td_query.specs.QueryLaws.{ConstantsAreTheirNames, DisjunctionsAreOr};
 ghost use Rattle.td_query.specs.QueryLaws.{NegationsAreNot, PatternsMatchWhereTheyAreFound};
 ghost use Rattle.td_query.specs.QueryLaws.{TextsMatchWhereTheyStand};
+ghost use Rattle.td_query.specs.QueryRules.{AndBindsBeforeOr, AndBindsBehindOr, BracketsAreRead};
+ghost use Rattle.td_query.specs.QueryRules.{ConjunctionsAreRead, DisjunctionsAreRead};
+ghost use Rattle.td_query.specs.QueryRules.{NegationsAreRead, PartsAreRead};
 ghost use Rattle.td_query.specs.StatusLaws.{RowsAloneHaveAStatus, RowsAreGradedByTheirStanzas};
 ghost use Rattle.td_query.specs.StatusLaws.{RowsSatisfyByAStanza};
 
@@ -12,6 +16,23 @@ pub fn queries_are_as_in_logic()
     ensures negation { NegationsAreNot }
     ensures conjunction { ConjunctionsAreAnd }
     ensures disjunction { DisjunctionsAreOr }
+{}
+
+/// A query is read by its rules: `!` before `&`, and `&` before `|`; brackets make a part.
+pub fn queries_are_read_by_their_rules()
+    ensures negation { NegationsAreRead }
+    ensures brackets { BracketsAreRead }
+    ensures parts { PartsAreRead }
+    ensures conjunction { ConjunctionsAreRead }
+    ensures disjunction { DisjunctionsAreRead }
+    ensures before { AndBindsBeforeOr }
+    ensures behind { AndBindsBehindOr }
+{}
+
+/// Each key says what is read under its own name, in place of what it said before.
+pub fn keys_say_what_is_read()
+    ensures queries { QueriesAreSaid }
+    ensures titles { TitlesAreSaid }
 {}
 
 /// A text is found exactly where it stands in a field's value with bounds on both sides, a pattern

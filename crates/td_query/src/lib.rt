@@ -33,7 +33,8 @@ mod truth;
 mod unescape;
 
 pub use laws::{
-    fields_match_by_their_values, queries_are_as_in_logic, rows_are_graded_by_their_stanzas,
+    fields_match_by_their_values, keys_say_what_is_read, queries_are_as_in_logic,
+    queries_are_read_by_their_rules, rows_are_graded_by_their_stanzas,
 };
 pub use marks::Marks;
 pub use query::Query;

@@ -13,3 +13,4 @@ pub mod Names
 pub mod Finding
 pub mod Graphs
 pub mod Standing
+pub mod AskingLaws

@@ -9,3 +9,4 @@ pub mod Asking
 pub mod Edges
 pub mod Waves
 pub mod WavesView
+pub mod BuildsOnLaws

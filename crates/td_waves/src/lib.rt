@@ -11,11 +11,13 @@ mod asking;
 mod edges;
 mod fitting;
 mod graph;
+mod laws;
 mod level;
 mod named;
 mod placing;
 mod providers;
 mod waves;
 
+pub use laws::sources_build_on_what_they_ask_for;
 pub use level::Level;
 pub use waves::Waves;

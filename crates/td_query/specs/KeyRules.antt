@@ -1,0 +1,27 @@
+-- What the values of a tracker's keys say. This project's own, in the style of ben.
+use Rattle.std.specs.Prelude.{◌≡◌, ℕ, List, ◌++◌, Some, Ok, codes}
+use Rattle.td_text.specs.Cut.{cut}
+use Rattle.td_query.specs.Query.{Shape}
+use Rattle.td_query.specs.QueryGrammar.{Log, or_at}
+use Rattle.td_query.specs.Tokens.{skipped}
+use Rattle.td_query.specs.TrackerGrammar.{Said, value_at}
+
+-- a query under a key that needs one is said by it, in place of an earlier one, and nothing else
+-- changes but the patterns
+pub record SaysQueries (s : Said) (t : List ℕ) (query : Shape) (log : Log)
+    (rest : List ℕ) : Type 0 where
+  pub affected : value_at (codes "is_affected") s t
+      ≡ Ok (record s { affected = Some query; log = log }, rest)
+  pub good : value_at (codes "is_good") s t ≡ Ok (record s { good = Some query; log = log }, rest)
+  pub bad : value_at (codes "is_bad") s t ≡ Ok (record s { bad = Some query; log = log }, rest)
+
+-- so it is, where a value is read as a query
+abbrev pub QueriesAreSaid : Type 0
+QueriesAreSaid = (s : Said) (t : List ℕ) (query : Shape) (log : Log) (rest : List ℕ)
+    → or_at 100 s.log t ≡ Ok (query, log, rest) → SaysQueries s t query log rest
+
+-- a title is what stands between two `"`, in place of an earlier one
+abbrev pub TitlesAreSaid : Type 0
+TitlesAreSaid = (s : Said) (t u title rest : List ℕ) → skipped t ≡ codes "\"" ++ u
+    → cut 34 u ≡ Some (title, rest)
+    → value_at (codes "title") s t ≡ Ok (record s { title = title }, rest)

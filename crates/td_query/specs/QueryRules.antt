@@ -1,0 +1,69 @@
+-- The rules of queries, each by what its parts are read as. This project's own, in the style of ben.
+use Rattle.std.specs.Prelude.{◌≡◌, ℕ, suc, List, ◌++◌, None, Ok, codes}
+use Rattle.td_query.specs.Query.{Shape, negated, both, either}
+use Rattle.td_query.specs.QueryGrammar.{Log, behind_mark, not_in, or_at}
+use Rattle.td_query.specs.Tokens.{skipped}
+
+-- with so many brackets and `!` left to open, a text begins with what `&` joins: this query, with
+-- these patterns before it and behind it, and what follows
+abbrev pub IsPart : ℕ → Log → List ℕ → Shape → Log → List ℕ → Type 0
+IsPart depth log t s after rest = not_in depth log t ≡ Ok (s, after, rest)
+
+-- the same of a whole query
+abbrev pub IsWhole : ℕ → Log → List ℕ → Shape → Log → List ℕ → Type 0
+IsWhole depth log t s after rest = or_at depth log t ≡ Ok (s, after, rest)
+
+-- behind whitespace and comments stand these bytes, and then the rest
+abbrev pub Comes : List ℕ → List ℕ → List ℕ → Type 0
+Comes bytes t rest = skipped t ≡ bytes ++ rest
+
+-- neither mark does
+abbrev pub IsOver : List ℕ → Type 0
+IsOver t = (behind_mark (codes "&") t ≡ None) × (behind_mark (codes "|") t ≡ None)
+
+-- ---- 1. parts
+
+-- `!` negates the part behind it
+abbrev pub NegationsAreRead : Type 0
+NegationsAreRead = (depth : ℕ) (log after : Log) (t u rest : List ℕ) (s : Shape)
+    → Comes (codes "!") t u → IsPart depth log u s after rest
+    → IsPart (suc depth) log t (negated s) after rest
+
+-- brackets make a part of a query
+abbrev pub BracketsAreRead : Type 0
+BracketsAreRead = (depth : ℕ) (log after : Log) (t u v rest : List ℕ) (s : Shape)
+    → Comes (codes "(") t u → IsWhole depth log u s after v → Comes (codes ")") v rest
+    → IsPart (suc depth) log t s after rest
+
+-- ---- 2. `&` and `|`
+
+-- a part alone is a query
+abbrev pub PartsAreRead : Type 0
+PartsAreRead = (depth : ℕ) (log after : Log) (t rest : List ℕ) (s : Shape)
+    → IsPart depth log t s after rest → IsOver rest → IsWhole depth log t s after rest
+
+-- two with `&` between them
+abbrev pub ConjunctionsAreRead : Type 0
+ConjunctionsAreRead = (depth : ℕ) (log one two : Log) (t u v rest : List ℕ) (a b : Shape)
+    → IsPart depth log t a one u → Comes (codes "&") u v → IsPart depth one v b two rest
+    → IsOver rest → IsWhole depth log t (both a b) two rest
+
+-- two with `|` between them
+abbrev pub DisjunctionsAreRead : Type 0
+DisjunctionsAreRead = (depth : ℕ) (log one two : Log) (t u v rest : List ℕ) (a b : Shape)
+    → IsPart depth log t a one u → Comes (codes "|") u v → IsPart depth one v b two rest
+    → IsOver rest → IsWhole depth log t (either a b) two rest
+
+-- `a & b | c`: `&` binds before `|`
+abbrev pub AndBindsBeforeOr : Type 0
+AndBindsBeforeOr = (depth : ℕ) (log one two three : Log) (t u v w x rest : List ℕ) (a b c : Shape)
+    → IsPart depth log t a one u → Comes (codes "&") u v → IsPart depth one v b two w
+    → Comes (codes "|") w x → IsPart depth two x c three rest → IsOver rest
+    → IsWhole depth log t (either (both a b) c) three rest
+
+-- `a | b & c` likewise
+abbrev pub AndBindsBehindOr : Type 0
+AndBindsBehindOr = (depth : ℕ) (log one two three : Log) (t u v w x rest : List ℕ) (a b c : Shape)
+    → IsPart depth log t a one u → Comes (codes "|") u v → IsPart depth one v b two w
+    → Comes (codes "&") w x → IsPart depth two x c three rest → IsOver rest
+    → IsWhole depth log t (either a (both b c)) three rest
