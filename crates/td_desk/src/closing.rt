@@ -1,7 +1,7 @@
 //! The closing of a desk.
-ghost use Rattle.std.specs.Prelude.{◌≡◌, ◌+◌, ◌<◌, ◌≤◌, ◌∷◌, ◌↔◌, length, false, IfOk, IfErr};
+ghost use Rattle.std.specs.Prelude.{◌≡◌, ◌+◌, ◌<◌, ◌≤◌, ◌∷◌, ◌↔◌, length, false, true, IfOk, IfErr};
 ghost use Rattle.std.specs.Prelude.{IsPermutation, IsTrue, MatchBool};
-ghost use Rattle.td_desk.specs.Changes.{changes};
+ghost use Rattle.td_desk.specs.Changes.{changes, still_undone};
 ghost use Rattle.td_desk.specs.Clerks.{all_parts, all_receipts};
 ghost use Rattle.td_desk.specs.GoingOn.{Begins};
 ghost use Rattle.td_desk.specs.inner.Ticks.{AreBegun, Takes, TooMany, left_from, is_in};
@@ -42,6 +42,10 @@ impl<'a, N: Named, C: Ledger> Desk<'a, N, C> {
         ensures began_ok { IfOk result (λ book. Begins N.origin book.history.journal) }
         ensures began_err { IfErr result (λ differ.
             Begins N.origin differ.book.history.journal) }
+        ensures still_ok { IfOk result (λ book.
+            still_undone book.history.journal N.opened ≡ true) }
+        ensures still_err { IfErr result (λ differ.
+            still_undone differ.book.history.journal N.opened ≡ true) }
         ensures whole { IfErr result (λ differ.
             all_parts clerks.items ≡ 1024
             → length (all_receipts clerks.items) ≡ length (changes N.opened differ.book)) }
