@@ -32,7 +32,7 @@ use Rattle.td_script.specs.declared.input_fault.InputFault.TheVariants as fault
 use Rattle.td_script.specs.declared.running.RunFault.{RunFault}
 use Rattle.td_script.specs.declared.running.RunFault.TheVariants.{Input, Read, TooLong, NotText}
 use Rattle.td_script.specs.declared.running.RunFault.TheVariants.{Write, NoMemory}
-use Rattle.td_script.specs.declared.running.TheConstants.{SCRIPT_LIMIT}
+use Rattle.td_script.specs.Limits.{script_limit}
 use Rattle.td_script.specs.declared.told.Told.{Told as ToldText}
 use Rattle.td_script.specs.Ends.{IsScriptText, MayStop, Only}
 use Rattle.td_script.specs.OpeningInside.{AreReadableWith, CanReplace, Stops, of_input, of_reading}
@@ -174,10 +174,10 @@ stops_run x Write h = absurd h
 stops_run x NoMemory h = tt
 
 abbrev IsLong : Option (List ℕ) → Type 0
-IsLong known = IfSome known (λ all. SCRIPT_LIMIT < length all)
+IsLong known = IfSome known (λ all. script_limit < length all)
 
 abbrev IsNoText : Option (List ℕ) → Type 0
-IsNoText known = IfSome known (λ all. (length all ≤ SCRIPT_LIMIT) × ¬ IsUtf8 all)
+IsNoText known = IfSome known (λ all. (length all ≤ script_limit) × ¬ IsUtf8 all)
 
 unread_run : (x : Texts) (known : Option (List ℕ)) (t : List ℕ) (f : TextFault) → known ≡ Some t
     → IsScriptText t → (f ≡ text.TooLong → IsLong known) → (f ≡ text.NotText → IsNoText known)

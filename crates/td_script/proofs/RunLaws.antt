@@ -7,7 +7,7 @@ use Rattle.std.proofs.lemmas.Result.{MatchResult-at_ok}
 use Rattle.std.proofs.lemmas.Str.{IsUtf8-string_bytes}
 use Rattle.td_bytes.specs.declared.text.TextFault.{TextFault}
 use Rattle.td_script.specs.declared.running.RunFault.{RunFault}
-use Rattle.td_script.specs.declared.running.TheConstants.{SCRIPT_LIMIT}
+use Rattle.td_script.specs.Limits.{script_limit}
 use Rattle.td_script.specs.declared.told.Told.{Told as ToldText}
 use Rattle.td_script.specs.Ends.{Plays}
 use Rattle.td_script.specs.OpeningInside.{IsRefusedBy, IsUnread, Tells}
@@ -25,7 +25,7 @@ pub plays : (May : Telling) (x : Texts) (known : Option (List ℕ))
     (read : Result (String Global) TextFault) (r : Result ToldText RunFault) (told : ToldText)
     (So : List ℕ → ℕ → Type 0) → r ≡ Ok told
     → IfOk read (λ t. IfSome known (λ all. string_bytes t ≡ all))
-    → IfOk read (λ t. length (string_bytes t) ≤ SCRIPT_LIMIT)
+    → IfOk read (λ t. length (string_bytes t) ≤ script_limit)
     → IfOk read (λ t. MatchResult r (Tells May x (string_bytes t)) (IsRefusedBy x))
     → IfErr read (λ f. IsUnread x f r)
     → So (string_bytes told.text) told.refused → Plays May x known So

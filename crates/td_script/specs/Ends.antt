@@ -8,7 +8,7 @@ use Rattle.td_script.specs.declared.running.RunFault.{RunFault}
 use Rattle.td_script.specs.declared.running.RunFault.TheVariants.{Input, Read, TooLong, NotText}
 use Rattle.td_script.specs.declared.running.RunFault.TheVariants.{Write, NoMemory}
 use Rattle.td_script.specs.declared.running.ScriptEnd.{ScriptEnd}
-use Rattle.td_script.specs.declared.running.TheConstants.{SCRIPT_LIMIT}
+use Rattle.td_script.specs.Limits.{script_limit}
 use Rattle.td_script.specs.declared.input_fault.InputFault.TheVariants as fault
 use Rattle.td_script.specs.Openings.{AreReadable, IsPatternRefused, IsRefused, IsSet, Texts}
 use Rattle.td_script.specs.Replies.{Setting}
@@ -17,7 +17,7 @@ use Rattle.td_script.specs.Telling.{Telling}
 
 -- a text that is read as a script: within the limit, and UTF-8
 abbrev pub IsScriptText : List ℕ → Type 0
-IsScriptText text = (length text ≤ SCRIPT_LIMIT) × IsUtf8 text
+IsScriptText text = (length text ≤ script_limit) × IsUtf8 text
 
 -- all that the reader had
 pub record IsScript (known : Option (List ℕ)) (text : List ℕ) : Type 0 where
@@ -51,9 +51,9 @@ SaysBy May x known old new (Ok end) =
 SaysBy May x known old new (Err (Input e)) = IsRefused x e × Keeps old new
 SaysBy May x known old new (Err Read) = AreFine x × Keeps old new
 SaysBy May x known old new (Err TooLong) =
-    AreFine x × IfSome known (λ all. SCRIPT_LIMIT < length all) × Keeps old new
+    AreFine x × IfSome known (λ all. script_limit < length all) × Keeps old new
 SaysBy May x known old new (Err NotText) =
-    AreFine x × IfSome known (λ all. (length all ≤ SCRIPT_LIMIT) × ¬ IsUtf8 all) × Keeps old new
+    AreFine x × IfSome known (λ all. (length all ≤ script_limit) × ¬ IsUtf8 all) × Keeps old new
 SaysBy May x known old new (Err Write) =
     Plays May x known (λ text refused. AppendsPrefix old new text)
 SaysBy May x known old new (Err NoMemory) = Keeps old new

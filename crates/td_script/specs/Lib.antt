@@ -15,3 +15,4 @@ pub mod Script
 pub mod Settings
 pub mod Telling
 pub mod Cutting
+pub mod Limits

@@ -2,6 +2,7 @@
 ghost use Rattle.std.specs.Prelude.{◌≡◌, ◌⊎◌, ◌≤◌, IfOk, IfErr, MatchResult, length, string_bytes};
 ghost use Rattle.std.specs.Result.{ForOk};
 ghost use Rattle.td_script.specs.Asking.{CanAnswer};
+ghost use Rattle.td_script.specs.Limits.{script_limit};
 ghost use Rattle.td_script.specs.Ends.{AreFine, Only, Says, SaysBy};
 ghost use Rattle.td_script.specs.OpeningInside.{IsRefusedBy, IsUnread, Stops, TellsOrRefuses};
 ghost use Rattle.td_script.specs.OpeningInside.{of_reading};
@@ -113,7 +114,7 @@ fn tell_read<S: Staff, F: Fn(Asked) -> Result<Told, ReadError>>(
     read: Result<String, TextFault>,
 ) -> Result<Told, RunFault>
     requires answers { CanAnswer (S.tells staff.now) (F.pre tell.now) (F.post tell.now) }
-    requires within { ForOk read (λ text. length (string_bytes text) ≤ SCRIPT_LIMIT) }
+    requires within { ForOk read (λ text. length (string_bytes text) ≤ script_limit) }
     ensures read { IfOk read (λ text.
         TellsOrRefuses (S.tells staff.now) (texts_of inputs.now) (string_bytes text) result) }
     ensures only { IfOk read (λ _.
