@@ -15,14 +15,16 @@ use Rattle.td_script.specs.declared.input_fault.InputFault.{InputFault}
 use Rattle.td_script.specs.declared.input_fault.InputFault.TheVariants.{Table, Archive, State}
 use Rattle.td_script.specs.declared.input_fault.InputFault.TheVariants.{NoSuchRow, Tracker, Journal}
 
--- what a text is read as
-abbrev pub role_name : Role → List ℕ
-role_name role.Archs = codes "archs"
-role_name role.Packages = codes "packages"
-role_name role.Sources = codes "sources"
-role_name role.State = codes "state"
-role_name role.Tracker = codes "tracker"
-role_name role.Journal = codes "journal"
+-- the words in front of a text's fault
+abbrev pub label_of : Role → List ℕ
+label_of role.Input = codes "input: "
+label_of role.Archs = codes "archs: "
+label_of role.Packages = codes "packages: "
+label_of role.Sources = codes "sources: "
+label_of role.State = codes "state: "
+label_of role.Tracker = codes "tracker: "
+label_of role.Outcomes = codes "outcomes: "
+label_of role.Journal = codes "journal: "
 
 -- one of the two indices
 abbrev pub role_of_index : IndexFile → Role

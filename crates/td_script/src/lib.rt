@@ -34,6 +34,7 @@ pub use input_fault::InputFault;
 pub use inputs::{Inputs, MAX_BUILDERS};
 pub use laws::cut_scripts_tell_the_same;
 pub use line::{Said, asked_lines_are_requests, read_line};
+pub use opening::put_state_over;
 pub use replying::{put_arrival, put_command, put_sweep, put_undo};
 pub use reports::Reports;
 pub use request::{Request, read_request, request_lines_are_exact};

@@ -47,8 +47,8 @@ fn fault_of(fault: InputFault) -> RunFault
     }
 }
 
-// The rows with those of a state file in the place of the ones of their keys.
-fn replaced(alloc: Global, mut rows: Rows, text: &str) -> Result<Rows, RunFault>
+/// The rows with those of a state file in the place of the ones of their keys.
+pub fn put_state_over(alloc: Global, mut rows: Rows, text: &str) -> Result<Rows, RunFault>
     requires { NoneBuilt rows }
     ensures rows { IfOk result (IsReplacedIn rows text.now) }
     ensures idle { IfOk result NoneBuilt }
@@ -82,7 +82,7 @@ fn rows_of(alloc: Global, archive: &Archive<'_, '_>, files: &Files<'_>) -> Resul
     // (`len` says that the keys of the rows rise)
     let _rising = rows.len();
     match files.state {
-        Some(text) => replaced(alloc, rows, text),
+        Some(text) => put_state_over(alloc, rows, text),
         None => Ok(rows),
     }
 }

@@ -1,10 +1,12 @@
-//! What the texts of a run are read as.
+//! What a text is read as, and the label of that.
 ghost use Rattle.std.specs.Prelude.{◌≡◌};
-ghost use Rattle.td_script.specs.Faults.{role_name};
+ghost use Rattle.td_script.specs.Faults.{label_of};
 
 /// What a text is read as.
 #[derive(Clone, Copy, Debug, PartialEq, Eq, Drop)]
 pub enum Role {
+    /// Standard input.
+    Input,
     /// The table of architectures.
     Archs,
     /// The Packages index.
@@ -15,22 +17,26 @@ pub enum Role {
     State,
     /// The tracker.
     Tracker,
+    /// How the builds of a crew end.
+    Outcomes,
     /// The journal that is gone on with.
     Journal,
 }
 
 impl Role {
-    /// The name that the program prints.
-    pub fn name(self) -> &'static str
-        ensures { result.now ≡ role_name self }
+    /// What stands in front of a text's fault.
+    pub fn label(self) -> &'static str
+        ensures { result.now ≡ label_of self }
     {
         match self {
-            Role::Archs => "archs",
-            Role::Packages => "packages",
-            Role::Sources => "sources",
-            Role::State => "state",
-            Role::Tracker => "tracker",
-            Role::Journal => "journal",
+            Role::Input => "input: ",
+            Role::Archs => "archs: ",
+            Role::Packages => "packages: ",
+            Role::Sources => "sources: ",
+            Role::State => "state: ",
+            Role::Tracker => "tracker: ",
+            Role::Outcomes => "outcomes: ",
+            Role::Journal => "journal: ",
         }
     }
 }

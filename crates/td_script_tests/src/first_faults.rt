@@ -2,11 +2,17 @@
 use std::alloc::{AllocError, Global};
 use std::test::Fail;
 use td_crew::{CrewFault, run_crew};
-use td_script::{Inputs, RunFault, ScriptEnd};
+use td_script::{Inputs, Role, RunFault, ScriptEnd};
 
 // The files in the order in which they are judged.
-const ROLES: [&str; 7] = [
-    "archs", "packages", "sources", "state", "tracker", "outcomes", "journal",
+const ROLES: [Role; 7] = [
+    Role::Archs,
+    Role::Packages,
+    Role::Sources,
+    Role::State,
+    Role::Tracker,
+    Role::Outcomes,
+    Role::Journal,
 ];
 
 // An archive without sources, and a builder.
@@ -25,41 +31,42 @@ fn inputs(alloc: Global) -> Inputs {
 }
 
 // Gives the file of a role a text that has none of the seven forms.
-fn spoil(alloc: Global, inputs: &mut Inputs, role: &str) -> Result<(), AllocError> {
+fn spoil(alloc: Global, inputs: &mut Inputs, role: Role) -> Result<(), AllocError> {
     let text = String::from_str(alloc, "Package: foo\n")?;
     match role {
-        "archs" => inputs.archs = text,
-        "packages" => inputs.packages = text,
-        "sources" => inputs.sources = text,
-        "state" => inputs.state = Some(text),
-        "tracker" => inputs.tracker = Some(text),
-        "outcomes" => inputs.outcomes = Some(text),
-        _ => inputs.journal = Some(text),
+        Role::Input => {}
+        Role::Archs => inputs.archs = text,
+        Role::Packages => inputs.packages = text,
+        Role::Sources => inputs.sources = text,
+        Role::State => inputs.state = Some(text),
+        Role::Tracker => inputs.tracker = Some(text),
+        Role::Outcomes => inputs.outcomes = Some(text),
+        Role::Journal => inputs.journal = Some(text),
     }
     Ok(())
 }
 
 // The role of the file that is told of.
-fn told_of(end: Result<ScriptEnd, CrewFault>) -> &'static str {
+fn told_of(end: Result<ScriptEnd, CrewFault>) -> Option<Role> {
     match end {
-        Err(CrewFault::Run(RunFault::Input(fault))) => fault.role().name(),
-        Err(CrewFault::BadOutcome(_)) => "outcomes",
-        _ => "none",
+        Err(CrewFault::Run(RunFault::Input(fault))) => Some(fault.role()),
+        Err(CrewFault::BadOutcome(_)) => Some(Role::Outcomes),
+        _ => None,
     }
 }
 
 // A file is told of alone, too.
 #[test]
 fn of_two_faulty_files_the_earlier_is_told_of(rt: HostRuntime) -> Result<(), Fail> {
-    for (number, first) in ROLES.iter().enumerate() {
-        for second in ROLES.iter().skip(number) {
+    for (number, first) in ROLES.iter().copied().enumerate() {
+        for second in ROLES.iter().copied().skip(number) {
             let mut inputs = inputs(rt.alloc());
             spoil(rt.alloc(), &mut inputs, first)?;
             spoil(rt.alloc(), &mut inputs, second)?;
             let mut script = "".as_bytes();
             let mut written = Vec::new(rt.alloc());
             let end = run_crew(&rt, rt.alloc(), &inputs, &mut script, &mut written);
-            assert_eq!(rt; told_of(end), *first, "{first}, {second}");
+            assert_eq!(rt; told_of(end), Some(first), "{first:?}, {second:?}");
             assert_eq!(rt; written.len(), 0);
         }
     }

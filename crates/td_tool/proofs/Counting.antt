@@ -12,10 +12,11 @@ use Rattle.td_indices.specs.Archive.{Contents, IsArchive}
 use Rattle.td_indices.specs.Archive as archive_file
 use Rattle.td_indices.specs.declared.archive_fault.ArchiveFault.{ArchiveFault}
 use Rattle.td_indices.specs.declared.archive_fault.ArchiveFault.TheVariants as archive
+use Rattle.td_script.specs.declared.input_fault.InputFault.TheVariants as form
 use Rattle.td_tool.specs.declared.checking.Counts.{Counts}
 use Rattle.td_tool.specs.declared.ending.Ending.{Ending}
 use Rattle.td_tool.specs.declared.ending.Ending.TheVariants.{NoMemory}
-use Rattle.td_tool.specs.Ending.{ending_of_archive, ending_of_table}
+use Rattle.td_tool.specs.Ending.{ending_of_form}
 use Rattle.td_tool.specs.Counted.{IsArchiveOf}
 use Rattle.td_tool.specs.CheckInside.{AreCountsOf, AreCountsWith, IsRefusedWith, IsCountedWith}
 use Rattle.td_tool.specs.CheckInside.{IsNoArchive, IsCounted}
@@ -41,21 +42,22 @@ pub counted_with : (t : List ArchWords) (p s : List ℕ) (r : Result Contents Ar
     → MatchResult r (λ x. x ≡ a) (λ e. e ≡ archive.NoMemory))
     → IfErr r (archive_file.FaultOf t (lines_of p) (lines_of s))
     → IfOk r (λ c. IsOkAnd counted (AreCountsOf c))
-    → IfErr r (λ e. counted ≡ Err (ending_of_archive e)) → IsCountedWith t p s counted
+    → IfErr r (λ e. counted ≡ Err (ending_of_form (form.Archive e))) → IsCountedWith t p s counted
 counted_with t p s (Ok c) counted is only bad counts refused =
     counts_known t p s c counted is only counts
 counted_with t p s (Err e) counted is only bad counts refused =
     subst (IsCountedWith t p s) (sym refused)
     (record {
       found = tt;
-      only = λ a other. ap ending_of_archive (only a other);
+      only = λ a other. ap (λ e. ending_of_form (form.Archive e)) (only a other);
       refused = (e, bad, refl);
     })
 
 -- ---- three texts
 
 no_archive : (a p s : List ℕ) (t : List ArchWords) (e : ArchiveFault) → IsTable (lines_of a) t
-    → archive_file.FaultOf t (lines_of p) (lines_of s) e → IsNoArchive a p s (ending_of_archive e)
+    → archive_file.FaultOf t (lines_of p) (lines_of s) e
+    → IsNoArchive a p s (ending_of_form (form.Archive e))
 no_archive a p s t (archive.Stanza f e) is bad = (refl, (t, is, bad))
 no_archive a p s t (archive.MissingField f n field) is bad = (refl, (t, is, bad))
 no_archive a p s t (archive.BadVersion f n) is bad = (refl, (t, is, bad))
@@ -65,23 +67,23 @@ no_archive a p s t archive.NoMemory is bad = tt
 
 no_table : (a p s : List ℕ) (e : ArchsFault) → table_file.FaultOf (lines_of a) e
     → ((t : List ArchWords) → IsTable (lines_of a) t → e ≡ table.NoMemory)
-    → IsCounted a p s (Err (ending_of_table e))
+    → IsCounted a p s (Err (ending_of_form (form.Table e)))
 no_table a p s (table.BadLine n) bad only =
     record {
       found = tt;
-      only = λ c is. ap ending_of_table (only c.table is.is_table);
+      only = λ c is. ap (λ e. ending_of_form (form.Table e)) (only c.table is.is_table);
       refused = (refl, bad);
     }
 no_table a p s (table.Twice n) bad only =
     record {
       found = tt;
-      only = λ c is. ap ending_of_table (only c.table is.is_table);
+      only = λ c is. ap (λ e. ending_of_form (form.Table e)) (only c.table is.is_table);
       refused = (refl, bad);
     }
 no_table a p s table.TooMany bad only =
     record {
       found = tt;
-      only = λ c is. ap ending_of_table (only c.table is.is_table);
+      only = λ c is. ap (λ e. ending_of_form (form.Table e)) (only c.table is.is_table);
       refused = (refl, bad);
     }
 no_table a p s table.NoMemory bad only = record { found = tt; only = λ c is. refl; refused = tt }
@@ -100,7 +102,7 @@ pub counted_in : {A : Type 0} (view : A → List ArchWords) (a p s : List ℕ) (
     → MatchResult r (λ x. view x ≡ t) (λ e. e ≡ table.NoMemory))
     → IfErr r (table_file.FaultOf (lines_of a))
     → IfOk r (λ x. IsCountedWith (view x) p s counted)
-    → IfErr r (λ e. counted ≡ Err (ending_of_table e)) → IsCounted a p s counted
+    → IfErr r (λ e. counted ≡ Err (ending_of_form (form.Table e))) → IsCounted a p s counted
 counted_in view a p s (Ok x) counted is only bad with refused = record {
   found =
       IfOk-weaker counted (AreCountsWith (view x) p s)

@@ -11,7 +11,7 @@ use Rattle.td_explain.specs.declared.spot.Place.TheVariants.{Whole, Line, Stanza
 use Rattle.td_tool.specs.Ending.{line_of}
 use Rattle.td_tool.specs.Explained.{Explains, IsKept, IsLookedAt, IsTextFor, SaysOf, explanation_of}
 use Rattle.td_tool.specs.Places.{place_of}
-use Rattle.td_tool.specs.declared.role.Role.{Role}
+use Rattle.td_script.specs.declared.role.Role.{Role}
 use Rattle.td_tool.specs.declared.ending.Ended.{Ended}
 use Rattle.td_tool.specs.declared.ending.Ending.{Ending}
 use Rattle.td_tool.specs.declared.ending.Ending.TheVariants.{Done, Refused, BadInput, NoMemory}

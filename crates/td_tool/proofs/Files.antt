@@ -16,13 +16,13 @@ use Rattle.td_indices.specs.declared.archive_fault.ArchiveFault.{ArchiveFault}
 use Rattle.td_indices.specs.declared.archive_fault.ArchiveFault.TheVariants as archive
 use Rattle.td_tool.specs.declared.file_texts.FileTexts.{FileTexts}
 use Rattle.td_tool.specs.declared.file_texts.FileFault.{FileFault}
-use Rattle.td_tool.specs.declared.role.Role.{Role}
-use Rattle.td_tool.specs.declared.role.Role.TheVariants.{Input, Archs, Packages, Sources, State}
-use Rattle.td_tool.specs.declared.role.Role.TheVariants.{Tracker, Outcomes, Journal}
+use Rattle.td_script.specs.declared.role.Role.{Role}
+use Rattle.td_script.specs.declared.role.Role.TheVariants.{Input, Archs, Packages, Sources, State}
+use Rattle.td_script.specs.declared.role.Role.TheVariants.{Tracker, Outcomes, Journal}
 use Rattle.td_tool.specs.declared.input_fault.InputFault.{InputFault}
 use Rattle.td_tool.specs.declared.input_fault.InputFault.TheVariants.{TooLong, NotText, Simulation}
-use Rattle.td_tool.specs.declared.input_fault.InputFault.TheVariants.{Table, Archive}
-use Rattle.td_tool.specs.declared.input_fault.InputFault.TheVariants as fault
+use Rattle.td_tool.specs.declared.input_fault.InputFault.TheVariants.{BadOutcome, Form}
+use Rattle.td_script.specs.declared.input_fault.InputFault.TheVariants as form
 use Rattle.td_tool.specs.declared.ending.Ending.{Ending}
 use Rattle.td_tool.specs.declared.ending.Ending.TheVariants.{Done, Refused, BadInput, NoMemory}
 use Rattle.td_tool.specs.declared.ending.Ending.TheVariants.{CannotRead, CannotWrite}
@@ -99,29 +99,29 @@ has_fault : (files : Files) (t : FileTexts) (role : Role) (e : InputFault) → A
 has_fault files t role TooLong texts is = absurd is
 has_fault files t role NotText texts is = absurd is
 has_fault files t role (Simulation e) texts is = absurd is
-has_fault files t role (Table (table.BadLine n)) texts is =
+has_fault files t role (Form (form.Table (table.BadLine n))) texts is =
     (is.0, table_fault files t (table.BadLine n) texts is.1)
-has_fault files t role (Table (table.Twice n)) texts is =
+has_fault files t role (Form (form.Table (table.Twice n))) texts is =
     (is.0, table_fault files t (table.Twice n) texts is.1)
-has_fault files t role (Table table.TooMany) texts is =
+has_fault files t role (Form (form.Table table.TooMany)) texts is =
     (is.0, table_fault files t table.TooMany texts is.1)
-has_fault files t role (Table table.NoMemory) texts is = absurd is
-has_fault files t role (Archive (archive.Stanza f e)) texts is =
+has_fault files t role (Form (form.Table table.NoMemory)) texts is = absurd is
+has_fault files t role (Form (form.Archive (archive.Stanza f e))) texts is =
     (is.0, archive_fault files t (archive.Stanza f e) texts is.1)
-has_fault files t role (Archive (archive.MissingField f n field)) texts is =
+has_fault files t role (Form (form.Archive (archive.MissingField f n field))) texts is =
     (is.0, archive_fault files t (archive.MissingField f n field) texts is.1)
-has_fault files t role (Archive (archive.BadVersion f n)) texts is =
+has_fault files t role (Form (form.Archive (archive.BadVersion f n))) texts is =
     (is.0, archive_fault files t (archive.BadVersion f n) texts is.1)
-has_fault files t role (Archive (archive.BadRelation f n)) texts is =
+has_fault files t role (Form (form.Archive (archive.BadRelation f n))) texts is =
     (is.0, archive_fault files t (archive.BadRelation f n) texts is.1)
-has_fault files t role (Archive archive.TooManyRows) texts is =
+has_fault files t role (Form (form.Archive archive.TooManyRows)) texts is =
     (is.0, archive_fault files t archive.TooManyRows texts is.1)
-has_fault files t role (Archive archive.NoMemory) texts is = absurd is
-has_fault files t role (fault.State e) texts is = absurd is
-has_fault files t role fault.NoSuchRow texts is = absurd is
-has_fault files t role (fault.Tracker e) texts is = absurd is
-has_fault files t role (fault.BadOutcome n) texts is = absurd is
-has_fault files t role (fault.Journal e) texts is = absurd is
+has_fault files t role (Form (form.Archive archive.NoMemory)) texts is = absurd is
+has_fault files t role (Form (form.State e)) texts is = absurd is
+has_fault files t role (Form form.NoSuchRow) texts is = absurd is
+has_fault files t role (Form (form.Tracker e)) texts is = absurd is
+has_fault files t role (BadOutcome n) texts is = absurd is
+has_fault files t role (Form (form.Journal e)) texts is = absurd is
 
 archive_in : (files : Files) (t : FileTexts) (c : Contents) → AreTextsIn files t
     → IsArchiveOf (string_bytes t.archs) (string_bytes t.packages) (string_bytes t.sources) c

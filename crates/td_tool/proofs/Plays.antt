@@ -111,13 +111,8 @@ fault_of text NotText read is = absurd is
 fault_of text (Simulation (fault.Opening s)) read is = (read, is)
 fault_of text (Simulation (fault.BadStep n)) read is = (read, is)
 fault_of text (Simulation fault.NoMemory) read is = absurd is
-fault_of text (refused.Table e) read is = absurd is
-fault_of text (refused.Archive e) read is = absurd is
-fault_of text (refused.State e) read is = absurd is
-fault_of text refused.NoSuchRow read is = absurd is
-fault_of text (refused.Tracker e) read is = absurd is
 fault_of text (refused.BadOutcome n) read is = absurd is
-fault_of text (refused.Journal e) read is = absurd is
+fault_of text (refused.Form e) read is = absurd is
 
 has_fault : (known : Option (List ℕ)) (text : List ℕ) (e : InputFault)
     → IfSome known (λ all. text ≡ all) → IsText text → IsNoSimulation text e

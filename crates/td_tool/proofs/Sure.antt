@@ -9,32 +9,29 @@ use Rattle.td_bytes.specs.declared.text.TextFault.TheVariants as text_fault
 use Rattle.td_text.specs.Lines.{lines_of}
 use Rattle.td_relation.specs.Arch.{ArchWords}
 use Rattle.td_relation.specs.TableFile.{IsTable}
-use Rattle.td_rows.specs.Overlay.{first_missing}
-use Rattle.td_rows.specs.StateFile.{IsStateFile}
 use Rattle.td_rows.specs.Table.{Table}
-use Rattle.td_rows.specs.declared.key.Key.{Key}
 use Rattle.td_indices.specs.Archive.{Contents, IsArchive}
 use Rattle.td_query.specs.TrackerFaults.{IsPatternFault, log_in}
 use Rattle.td_query.specs.TrackerGrammar.{said_in}
 use Rattle.td_query.specs.Tracking.{IsTracker, Tracking}
 use Rattle.td_query.specs.declared.tracker_fault.TrackerFault.{TrackerFault}
 use Rattle.td_query.specs.declared.tracker_fault.TrackerFault.TheVariants as tracker_fault
+use Rattle.td_script.specs.declared.input_fault.InputFault.TheVariants as form
 use Rattle.td_tool.specs.declared.file_texts.FileFault.{FileFault}
-use Rattle.td_tool.specs.declared.role.Role.{Role}
-use Rattle.td_tool.specs.declared.role.Role.TheVariants.{Input, Archs, Packages, Sources, State}
-use Rattle.td_tool.specs.declared.role.Role.TheVariants.{Tracker, Outcomes, Journal}
+use Rattle.td_script.specs.declared.role.Role.{Role}
+use Rattle.td_script.specs.declared.role.Role.TheVariants.{Input, Archs, Packages, Sources, State}
+use Rattle.td_script.specs.declared.role.Role.TheVariants.{Tracker, Outcomes, Journal}
 use Rattle.td_tool.specs.declared.ending.Ending.{Ending}
 use Rattle.td_tool.specs.declared.ending.Ending.TheVariants.{Done, Refused, BadInput, NoMemory}
 use Rattle.td_tool.specs.declared.ending.Ending.TheVariants.{CannotRead, CannotWrite}
-use Rattle.td_tool.specs.Ending.{ending_of_file, ending_of_missing_row, ending_of_tracker}
+use Rattle.td_tool.specs.Ending.{ending_of_file, ending_of_form}
 use Rattle.td_tool.specs.Checks.{IsNoText, IsTextOf}
 use Rattle.td_tool.specs.CheckInside.{EndsUnwritten, WritesSo}
 use Rattle.td_tool.specs.Tracks.{AreKnownTexts, AreReadable, AreRefused, AreTextsOf, EndsSo}
 use Rattle.td_tool.specs.Tracks.{EndsTold, FailsAt, IsKnownIfGiven}
 use Rattle.td_tool.specs.Tracks.{IsKnownText, IsPatternRefused, IsReadableOver, IsTextIfGiven}
 use Rattle.td_tool.specs.Tracks.{OneFile, Saying, Texts, TextsSayIt, TrackFiles}
-use Rattle.td_tool.specs.TrackInside.{AreReadableWith, CanReplace, EndsWithoutRows, HasFailedAt}
-use Rattle.td_tool.specs.TrackInside.{OrMemory}
+use Rattle.td_tool.specs.TrackInside.{AreReadableWith, EndsWithoutRows, HasFailedAt, OrMemory}
 
 -- ---- what is readable is refused for nothing but a pattern
 
@@ -50,17 +47,6 @@ pub ended_by : {A B E : Type 0} (Holds : Ending → Type 0) (first : Result A En
     → Holds ending
 ended_by Holds first second ending bad memory (inl is) = subst (λ x. IfErr x Holds) is bad
 ended_by Holds first second ending bad memory (inr is) = subst Holds (sym is.4) memory
-
--- rows that can be put in their places are
-pub replaced_stops : (rows given : Table) (text : List ℕ) (r : Result Table Ending)
-    → ((t : Table) → IsStateFile (lines_of text) t → given ≡ t)
-    → IfErr r (λ ending. (k : Key) × (first_missing rows given ≡ Some k)
-    × (ending ≡ ending_of_missing_row))
-    → IfErr r (λ ending. CanReplace rows text → ending ≡ NoMemory)
-replaced_stops rows given text (Ok new) same missing = tt
-replaced_stops rows given text (Err e) same missing = λ can.
-    absurd (can.2 missing.0
-    (subst (λ g. first_missing rows g ≡ Some missing.0) (same can.0 can.1) missing.1))
 
 pub over_stops : (c : Contents) (state : Option (List ℕ)) (tracker : List ℕ)
     (r : Result (String Global) Ending)
@@ -224,7 +210,7 @@ told_whole Says x text old new CannotWrite says writes = (text, says, writes)
 -- none was, for a pattern or for memory
 told_none : (Says : Saying) (x : Texts) (e : TrackerFault) (old new : Option (List ℕ))
     → IsPatternFault (length x.tracker) (log_in (said_in x.tracker)) e → Keeps old new
-    → EndsTold Says x old new (ending_of_tracker e)
+    → EndsTold Says x old new (ending_of_form (form.Tracker e))
 told_none Says x (tracker_fault.Syntax place) old new bad kept = absurd bad
 told_none Says x (tracker_fault.BadPattern place) old new bad kept =
     ((tracker_fault.BadPattern place, bad, refl), kept)

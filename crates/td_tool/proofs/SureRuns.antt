@@ -13,20 +13,20 @@ use Rattle.td_crew.specs.CrewText.{crew_tells}
 use Rattle.td_crew.specs.declared.running.CrewFault.{CrewFault}
 use Rattle.td_crew.specs.declared.running.CrewFault.TheVariants as crew
 use Rattle.td_script.specs.Openings as script
-use Rattle.td_script.specs.declared.input_fault.InputFault.TheVariants as refused
 use Rattle.td_script.specs.declared.running.RunFault.{RunFault}
 use Rattle.td_script.specs.declared.running.RunFault.TheVariants as stopped
 use Rattle.td_script.specs.declared.running.ScriptEnd.{ScriptEnd}
+use Rattle.td_script.specs.declared.input_fault.InputFault.TheVariants as form
 use Rattle.td_tool.specs.declared.file_texts.FileFault.{FileFault}
-use Rattle.td_tool.specs.declared.role.Role.{Role}
-use Rattle.td_tool.specs.declared.role.Role.TheVariants.{Input, Archs, Packages, Sources, State}
-use Rattle.td_tool.specs.declared.role.Role.TheVariants.{Tracker, Outcomes, Journal}
+use Rattle.td_script.specs.declared.role.Role.{Role}
+use Rattle.td_script.specs.declared.role.Role.TheVariants.{Input, Archs, Packages, Sources, State}
+use Rattle.td_script.specs.declared.role.Role.TheVariants.{Tracker, Outcomes, Journal}
 use Rattle.td_tool.specs.declared.ending.Ending.{Ending}
 use Rattle.td_tool.specs.declared.ending.Ending.TheVariants.{Done, Refused}
-use Rattle.td_tool.specs.Ending.{ending_of_file, ending_of_tracker}
+use Rattle.td_tool.specs.Ending.{ending_of_file, ending_of_form, ending_of_stop}
 use Rattle.td_tool.specs.Runs.{AreKnownTexts, AreTextsOf, EndsRun, FailsAt, MayEnd, OnlyCrewEnds}
 use Rattle.td_tool.specs.Runs.{OnlyEnds, OnlyPlayEnds, PlayEnds, RunFiles, Texts, ending_of_crew}
-use Rattle.td_tool.specs.Runs.{ending_of_script, ending_of_stop, outcome_lines, script_texts}
+use Rattle.td_tool.specs.Runs.{ending_of_script, outcome_lines, script_texts}
 use Rattle.td_tool.specs.RunInside.{HasRunFailed}
 use Rattle.td_tool.proofs.Sure.{given_same, given_text, known_same, one_text}
 
@@ -38,7 +38,7 @@ answered t true = tt
 answered t false = tt
 
 bad_pattern : (t : Option (List ℕ)) (e : TrackerFault) → script.IsPatternRefused t e
-    → MayEnd t (ending_of_tracker e)
+    → MayEnd t (ending_of_form (form.Tracker e))
 bad_pattern t (tracker_fault.Syntax place) bad = (tracker_fault.Syntax place, bad, refl)
 bad_pattern t (tracker_fault.MissingKey key) bad = (tracker_fault.MissingKey key, bad, refl)
 bad_pattern t (tracker_fault.BadPattern place) bad = (tracker_fault.BadPattern place, bad, refl)
@@ -46,17 +46,17 @@ bad_pattern t tracker_fault.NoMemory bad = tt
 
 stop_ends : (x : script.Texts) (known : Option (List ℕ)) (e : RunFault) → Only x known (Err e)
     → OnlyEnds x known (ending_of_stop e)
-stop_ends x known (stopped.Input (refused.Table e)) only =
+stop_ends x known (stopped.Input (form.Table e)) only =
     λ text is fits readable. absurd (only text is fits readable)
-stop_ends x known (stopped.Input (refused.Archive e)) only =
+stop_ends x known (stopped.Input (form.Archive e)) only =
     λ text is fits readable. absurd (only text is fits readable)
-stop_ends x known (stopped.Input (refused.State e)) only =
+stop_ends x known (stopped.Input (form.State e)) only =
     λ text is fits readable. absurd (only text is fits readable)
-stop_ends x known (stopped.Input refused.NoSuchRow) only =
+stop_ends x known (stopped.Input form.NoSuchRow) only =
     λ text is fits readable. absurd (only text is fits readable)
-stop_ends x known (stopped.Input (refused.Tracker e)) only =
+stop_ends x known (stopped.Input (form.Tracker e)) only =
     λ text is fits readable. bad_pattern x.tracker e (only text is fits readable)
-stop_ends x known (stopped.Input (refused.Journal e)) only =
+stop_ends x known (stopped.Input (form.Journal e)) only =
     λ text is fits readable. absurd (only text is fits readable)
 stop_ends x known stopped.Read only = λ text is fits readable. tt
 stop_ends x known stopped.TooLong only =

@@ -1,6 +1,6 @@
 -- How `track` and `waves` end by what was read, and by what was found in it.
-use Rattle.std.proofs.Common.{◌≡◌, ◌↔◌, ℕ, List, true, Option, Some, Result, Ok, Err}
-use Rattle.std.proofs.Common.{IfOk, IfErr, String, string_bytes, inl, inr, sym, subst}
+use Rattle.std.proofs.Common.{◌≡◌, ℕ, List, true, Option, Some, Result, Ok, Err}
+use Rattle.std.proofs.Common.{IfOk, IfErr, String, string_bytes, inl, inr, refl, sym, subst}
 use Rattle.std.specs.declared.alloc.Global.{Global}
 use Rattle.td_text.specs.Lines.{lines_of}
 use Rattle.td_relation.specs.Arch.{ArchWords}
@@ -8,32 +8,36 @@ use Rattle.td_relation.specs.TableFile.{IsTable}
 use Rattle.td_relation.specs.TableFile as table_file
 use Rattle.td_relation.specs.declared.archs.ArchsFault.{ArchsFault}
 use Rattle.td_rows.specs.Keys.{ascending}
-use Rattle.td_rows.specs.Overlay.{first_missing, overlaid}
-use Rattle.td_rows.specs.StateFile.{IsStateFile}
+use Rattle.td_rows.specs.Overlay.{first_missing}
+use Rattle.td_rows.specs.StateFile as state_file
 use Rattle.td_rows.specs.declared.key.Key.{Key}
-use Rattle.td_rows.specs.declared.rows.OverlayError.{OverlayError}
-use Rattle.td_rows.specs.declared.rows.OverlayError.TheVariants.{NoSuchRow}
+use Rattle.td_rows.specs.declared.state_file.StateFault.{StateFault}
+use Rattle.td_rows.specs.declared.state_file.StateFault.TheVariants as state
 use Rattle.td_indices.specs.Archive as archive_file
 use Rattle.td_indices.specs.Opening.{opening_row}
 use Rattle.td_indices.specs.declared.archive_fault.ArchiveFault.{ArchiveFault}
 use Rattle.td_rows.specs.Table.{Table, keys_of, row_of}
 use Rattle.td_indices.specs.Archive.{Contents, IsArchive}
 use Rattle.td_query.specs.Tracking.{IsTracker, Tracking}
-use Rattle.td_script.specs.Openings.{AreOpened, AreRowsOf}
+use Rattle.td_script.specs.OpeningInside.{CanReplace, IsRefusedIn, IsReplacedIn}
+use Rattle.td_script.specs.Openings.{AreOpened, AreRowsOf, IsNoState}
 use Rattle.td_script.proofs.OnlyLaws.{opened_same}
-use Rattle.td_tool.specs.declared.role.Role.{Role}
-use Rattle.td_tool.specs.declared.role.Role.TheVariants.{Input, Archs, Packages, Sources, State}
-use Rattle.td_tool.specs.declared.role.Role.TheVariants.{Tracker, Outcomes, Journal}
+use Rattle.td_script.specs.declared.role.Role.{Role}
+use Rattle.td_script.specs.declared.role.Role.TheVariants.{Input, Archs, Packages, Sources, State}
+use Rattle.td_script.specs.declared.role.Role.TheVariants.{Tracker, Outcomes, Journal}
 use Rattle.td_bytes.specs.declared.text.TextFault.{TextFault}
+use Rattle.td_script.specs.declared.input_fault.InputFault.TheVariants as form
+use Rattle.td_script.specs.declared.running.RunFault.{RunFault}
+use Rattle.td_script.specs.declared.running.RunFault.TheVariants as stopped
 use Rattle.td_tool.specs.declared.ending.Ending.{Ending}
 use Rattle.td_tool.specs.declared.ending.Ending.TheVariants.{NoMemory}
-use Rattle.td_tool.specs.Ending.{ending_of_archive, ending_of_missing_row, ending_of_table}
+use Rattle.td_tool.specs.Ending.{ending_of_form, ending_of_stop}
 use Rattle.td_tool.specs.Counted.{IsArchiveOf}
 use Rattle.td_tool.specs.Checks.{Files, HasFailed}
 use Rattle.td_tool.specs.Tracks.{AreRefused, IsNoTracker, IsRefusedOver, IsStateRefused, RowsSay}
 use Rattle.td_tool.specs.Tracks.{Saying, Texts, TextsSayIt}
-use Rattle.td_tool.specs.TrackInside.{AreRefusedWith, CanReplace, EndsWithoutRows, IndicesSay}
-use Rattle.td_tool.specs.TrackInside.{IsRefusedFor, IsReplaced, OrMemory, RowsAreSaid}
+use Rattle.td_tool.specs.TrackInside.{AreRefusedWith, EndsWithoutRows, IndicesSay, IsRefusedFor}
+use Rattle.td_tool.specs.TrackInside.{OrMemory, RowsAreSaid}
 
 -- ---- a file that wasn't read
 
@@ -88,33 +92,37 @@ memory_alone Holds (Err e) q ok err memory = subst (λ x. IfErr x Holds) (sym er
 
 -- ---- rows
 
-pub missing_key : {A : Type 0} (rows given : Table) (r : Result A OverlayError) (e : OverlayError)
-    → r ≡ Err e → ((k : Key) → (r ≡ Err (NoSuchRow k)) ↔ (first_missing rows given ≡ Some k))
-    → (k : Key) × (first_missing rows given ≡ Some k)
-missing_key rows given r (NoSuchRow k) is both = (k, (both k).0 is)
+no_state : (text : List ℕ) (e : StateFault) → IsNoState (Some text) e
+    → state_file.FaultOf (lines_of text) e
+no_state text (state.BadLine n) is = is
+no_state text (state.Twice n) is = is
+no_state text (state.NotOpening n) is = is
+no_state text state.TooManyRows is = is
+no_state text state.NoMemory is = absurd is
 
-pub replaced_by : (rows given : Table) (text : List ℕ) (r : Result Table Ending)
-    → IsStateFile (lines_of text) given
-    → IfOk r (λ new. new ≡ overlaid given rows)
-    → IfOk r (λ new. (k : Key) → first_missing rows given ≡ Some k → ⊥)
-    → IfOk r (IsReplaced rows text)
-replaced_by rows given text (Ok new) is same none =
-    record { given = given; are_given = is; none_missing = none; replaced = same }
-replaced_by rows given text (Err e) is same none = tt
-
-pub lacks_one : (rows given : Table) (text : List ℕ) (r : Result Table Ending)
-    → IsStateFile (lines_of text) given
-    → IfErr r (λ ending. (k : Key) × (first_missing rows given ≡ Some k)
-    × (ending ≡ ending_of_missing_row)) → IfErr r (OrMemory (IsRefusedFor rows text))
-lacks_one rows given text (Ok new) is missing = tt
-lacks_one rows given text (Err e) is missing = inl (inr (given, is, missing))
+-- rows that a state file isn't put over
+pub refused_for : (opened : Table) (text : List ℕ) (e : RunFault) → IsRefusedIn opened text e
+    → OrMemory (IsRefusedFor opened text) (ending_of_stop e)
+refused_for opened text (stopped.Input (form.Table e)) is = absurd is
+refused_for opened text (stopped.Input (form.Archive e)) is = absurd is
+refused_for opened text (stopped.Input (form.State e)) is =
+    inl (inl (e, no_state text e is, refl))
+refused_for opened text (stopped.Input form.NoSuchRow) is =
+    inl (inr (is.0, is.1, (is.2.0, is.2.1, refl)))
+refused_for opened text (stopped.Input (form.Tracker e)) is = absurd is
+refused_for opened text (stopped.Input (form.Journal e)) is = absurd is
+refused_for opened text stopped.Read is = absurd is
+refused_for opened text stopped.TooLong is = absurd is
+refused_for opened text stopped.NotText is = absurd is
+refused_for opened text stopped.Write is = absurd is
+refused_for opened text stopped.NoMemory is = inr refl
 
 pub opened_rows : (c : Contents) (rows : Table) → ((k : Key) → row_of rows k ≡ opening_row c k)
     → ascending (keys_of rows) ≡ true → AreOpened c rows
 opened_rows c rows same rising = record { same = same; rising = rising }
 
 pub replaced_rows : (c : Contents) (rows : Table) (text : List ℕ) (r : Result Table Ending)
-    → AreOpened c rows → IfOk r (IsReplaced rows text) → IfOk r (AreRowsOf c (Some text))
+    → AreOpened c rows → IfOk r (IsReplacedIn rows text) → IfOk r (AreRowsOf c (Some text))
 replaced_rows c rows text (Ok new) opened is =
     record {
       opened = rows;
@@ -221,7 +229,8 @@ indices_refuse t x c (Err e) packages sources state tracker p s st tr is refused
 
 pub indices_bad : (t : List ArchWords) (x : Texts) (e : ArchiveFault) (ending : Ending)
     (packages sources : List ℕ) → packages ≡ x.packages → sources ≡ x.sources
-    → archive_file.FaultOf t (lines_of packages) (lines_of sources) e → ending ≡ ending_of_archive e
+    → archive_file.FaultOf t (lines_of packages) (lines_of sources) e
+    → ending ≡ ending_of_form (form.Archive e)
     → OrMemory (AreRefusedWith t x) ending
 indices_bad t x e ending packages sources p s bad is =
     inl (inl (
@@ -266,7 +275,7 @@ texts_refuse t x (Err e) archs a is refused = elim refused [
 ]
 
 pub table_bad : (x : Texts) (e : ArchsFault) (ending : Ending) (archs : List ℕ) → archs ≡ x.archs
-    → table_file.FaultOf (lines_of archs) e → ending ≡ ending_of_table e
+    → table_file.FaultOf (lines_of archs) e → ending ≡ ending_of_form (form.Table e)
     → OrMemory (AreRefused x) ending
 table_bad x e ending archs a bad is =
     inl (inl (e, subst (λ l. table_file.FaultOf (lines_of l) e) a bad, is))

@@ -17,16 +17,15 @@ use Rattle.td_indices.specs.declared.archive_fault.ArchiveFault.TheVariants as a
 use Rattle.td_tool.specs.declared.checking.Counts.{Counts}
 use Rattle.td_tool.specs.declared.file_texts.FileTexts.{FileTexts}
 use Rattle.td_tool.specs.declared.file_texts.FileFault.{FileFault}
-use Rattle.td_tool.specs.declared.role.Role.TheVariants.{Archs}
-use Rattle.td_tool.specs.Roles.{role_of_fault}
+use Rattle.td_script.specs.declared.role.Role.TheVariants.{Archs}
+use Rattle.td_script.specs.Faults.{role_of_archive}
 use Rattle.td_tool.specs.declared.input_fault.InputFault.TheVariants.{TooLong, NotText, Simulation}
-use Rattle.td_tool.specs.declared.input_fault.InputFault.TheVariants.{Table, Archive, State}
-use Rattle.td_tool.specs.declared.input_fault.InputFault.TheVariants.{NoSuchRow, Tracker}
-use Rattle.td_tool.specs.declared.input_fault.InputFault.TheVariants.{BadOutcome, Journal}
+use Rattle.td_tool.specs.declared.input_fault.InputFault.TheVariants.{BadOutcome, Form}
+use Rattle.td_script.specs.declared.input_fault.InputFault.TheVariants as form
 use Rattle.td_tool.specs.declared.ending.Ending.{Ending}
 use Rattle.td_tool.specs.declared.ending.Ending.TheVariants.{Done, Refused, BadInput, NoMemory}
 use Rattle.td_tool.specs.declared.ending.Ending.TheVariants.{CannotRead, CannotWrite}
-use Rattle.td_tool.specs.Ending.{ending_of_archive, ending_of_file}
+use Rattle.td_tool.specs.Ending.{ending_of_file, ending_of_form}
 use Rattle.td_tool.specs.Counted.{IsArchiveOf, counts_line, line_of_counts}
 use Rattle.td_tool.specs.Limits.{file_limit}
 use Rattle.td_tool.specs.Checks.{Files, AreTexts, EndsCounted, HasFailed}
@@ -62,7 +61,7 @@ AreCountsWith t p s n = (c : Contents) × IsArchive t (lines_of p) (lines_of s) 
 abbrev pub IsRefusedWith : List ArchWords → List ℕ → List ℕ → Ending → Type 0
 IsRefusedWith t p s ending =
     (e : ArchiveFault) × archive_file.FaultOf t (lines_of p) (lines_of s) e
-    × (ending ≡ ending_of_archive e)
+    × (ending ≡ ending_of_form (form.Archive e))
 
 -- what is counted of two texts with this table: an archive is, unless memory runs out
 pub record IsCountedWith (t : List ArchWords) (p s : List ℕ)
@@ -79,18 +78,19 @@ IsNoArchive a p s Refused = ⊥
 IsNoArchive a p s (BadInput role TooLong) = ⊥
 IsNoArchive a p s (BadInput role NotText) = ⊥
 IsNoArchive a p s (BadInput role (Simulation e)) = ⊥
-IsNoArchive a p s (BadInput role (Table table.NoMemory)) = ⊥
-IsNoArchive a p s (BadInput role (Table e)) = (role ≡ Archs) × table_file.FaultOf (lines_of a) e
-IsNoArchive a p s (BadInput role (Archive archive.NoMemory)) = ⊥
-IsNoArchive a p s (BadInput role (Archive e)) =
-    (role ≡ role_of_fault e)
+IsNoArchive a p s (BadInput role (BadOutcome n)) = ⊥
+IsNoArchive a p s (BadInput role (Form (form.Table table.NoMemory))) = ⊥
+IsNoArchive a p s (BadInput role (Form (form.Table e))) =
+    (role ≡ Archs) × table_file.FaultOf (lines_of a) e
+IsNoArchive a p s (BadInput role (Form (form.Archive archive.NoMemory))) = ⊥
+IsNoArchive a p s (BadInput role (Form (form.Archive e))) =
+    (role ≡ role_of_archive e)
     × ((t : List ArchWords) × IsTable (lines_of a) t
     × archive_file.FaultOf t (lines_of p) (lines_of s) e)
-IsNoArchive a p s (BadInput role (State e)) = ⊥
-IsNoArchive a p s (BadInput role NoSuchRow) = ⊥
-IsNoArchive a p s (BadInput role (Tracker e)) = ⊥
-IsNoArchive a p s (BadInput role (BadOutcome n)) = ⊥
-IsNoArchive a p s (BadInput role (Journal e)) = ⊥
+IsNoArchive a p s (BadInput role (Form (form.State e))) = ⊥
+IsNoArchive a p s (BadInput role (Form form.NoSuchRow)) = ⊥
+IsNoArchive a p s (BadInput role (Form (form.Tracker e))) = ⊥
+IsNoArchive a p s (BadInput role (Form (form.Journal e))) = ⊥
 IsNoArchive a p s NoMemory = Unit {0}
 IsNoArchive a p s (CannotRead role) = ⊥
 IsNoArchive a p s CannotWrite = ⊥

@@ -17,14 +17,14 @@ use Rattle.td_indices.specs.declared.archive_fault.ArchiveFault.{ArchiveFault}
 use Rattle.td_indices.specs.declared.archive_fault.ArchiveFault.TheVariants as archive
 use Rattle.td_words.specs.declared.request.ArchivePaths.{ArchivePaths}
 use Rattle.td_tool.specs.Limits.{file_limit}
-use Rattle.td_tool.specs.declared.role.Role.{Role}
-use Rattle.td_tool.specs.declared.role.Role.TheVariants.{Input, Archs, Packages, Sources, State}
-use Rattle.td_tool.specs.declared.role.Role.TheVariants.{Tracker, Outcomes, Journal}
-use Rattle.td_tool.specs.Roles.{role_of_fault}
+use Rattle.td_script.specs.declared.role.Role.{Role}
+use Rattle.td_script.specs.declared.role.Role.TheVariants.{Input, Archs, Packages, Sources, State}
+use Rattle.td_script.specs.declared.role.Role.TheVariants.{Tracker, Outcomes, Journal}
+use Rattle.td_script.specs.Faults.{role_of_archive}
 use Rattle.td_tool.specs.declared.input_fault.InputFault.{InputFault}
 use Rattle.td_tool.specs.declared.input_fault.InputFault.TheVariants.{TooLong, NotText, Simulation}
-use Rattle.td_tool.specs.declared.input_fault.InputFault.TheVariants.{Table, Archive}
-use Rattle.td_tool.specs.declared.input_fault.InputFault.TheVariants as fault
+use Rattle.td_tool.specs.declared.input_fault.InputFault.TheVariants.{BadOutcome, Form}
+use Rattle.td_script.specs.declared.input_fault.InputFault.TheVariants as form
 use Rattle.td_tool.specs.declared.ending.Ending.{Ending}
 use Rattle.td_tool.specs.declared.ending.Ending.TheVariants.{Done, Refused, BadInput, NoMemory}
 use Rattle.td_tool.specs.declared.ending.Ending.TheVariants.{CannotRead, CannotWrite}
@@ -167,15 +167,16 @@ abbrev pub HasFileFault : Files → Role → InputFault → Type 0
 HasFileFault files role TooLong = ⊥
 HasFileFault files role NotText = HasFailed files role text_fault.NotText
 HasFileFault files role (Simulation e) = ⊥
-HasFileFault files role (Table table.NoMemory) = ⊥
-HasFileFault files role (Table e) = (role ≡ Archs) × HasTableFault files e
-HasFileFault files role (Archive archive.NoMemory) = ⊥
-HasFileFault files role (fault.State e) = ⊥
-HasFileFault files role fault.NoSuchRow = ⊥
-HasFileFault files role (fault.Tracker e) = ⊥
-HasFileFault files role (fault.BadOutcome n) = ⊥
-HasFileFault files role (fault.Journal e) = ⊥
-HasFileFault files role (Archive e) = (role ≡ role_of_fault e) × HasArchiveFault files e
+HasFileFault files role (BadOutcome n) = ⊥
+HasFileFault files role (Form (form.Table table.NoMemory)) = ⊥
+HasFileFault files role (Form (form.Table e)) = (role ≡ Archs) × HasTableFault files e
+HasFileFault files role (Form (form.Archive archive.NoMemory)) = ⊥
+HasFileFault files role (Form (form.State e)) = ⊥
+HasFileFault files role (Form form.NoSuchRow) = ⊥
+HasFileFault files role (Form (form.Tracker e)) = ⊥
+HasFileFault files role (Form (form.Journal e)) = ⊥
+HasFileFault files role (Form (form.Archive e)) =
+    (role ≡ role_of_archive e) × HasArchiveFault files e
 
 -- ---- 3. how it ends
 

@@ -2,32 +2,25 @@
 use Rattle.std.specs.Prelude.{ℕ, List, [], ◌++◌, codes}
 use Rattle.td_bytes.specs.declared.text.TextFault.{TextFault}
 use Rattle.td_bytes.specs.declared.text.TextFault.TheVariants as text
-use Rattle.td_relation.specs.declared.archs.ArchsFault.{ArchsFault}
 use Rattle.td_relation.specs.declared.archs.ArchsFault.TheVariants as table
-use Rattle.td_relation.specs.FaultNames as archs_fault
-use Rattle.td_indices.specs.declared.archive_fault.ArchiveFault.{ArchiveFault}
 use Rattle.td_indices.specs.declared.archive_fault.ArchiveFault.TheVariants as archive
-use Rattle.td_indices.specs.FaultNames as archive_fault
-use Rattle.td_rows.specs.declared.state_file.StateFault.{StateFault}
 use Rattle.td_rows.specs.declared.state_file.StateFault.TheVariants as state
-use Rattle.td_rows.specs.FaultNames as state_fault
-use Rattle.td_query.specs.declared.tracker_fault.TrackerFault.{TrackerFault}
 use Rattle.td_query.specs.declared.tracker_fault.TrackerFault.TheVariants as tracker
-use Rattle.td_query.specs.TrackerFaults as tracker_fault
-use Rattle.td_journal.specs.declared.journal_fault.ReadError.{ReadError}
 use Rattle.td_journal.specs.declared.journal_fault.ReadError.TheVariants as journal
-use Rattle.td_journal.specs.FaultNames as journal_fault
 use Rattle.td_simulate.specs.declared.fault.SimulationFault.{SimulationFault}
 use Rattle.td_simulate.specs.declared.fault.SimulationFault.TheVariants as simulation
 use Rattle.td_simulate.specs.Faults.{fault_name}
-use Rattle.td_tool.specs.declared.role.Role.{Role}
-use Rattle.td_tool.specs.declared.role.Role.TheVariants as role
-use Rattle.td_tool.specs.Roles.{label_of, role_of_fault}
+use Rattle.td_script.specs.declared.input_fault.InputFault.{InputFault as FormFault}
+use Rattle.td_script.specs.declared.input_fault.InputFault.TheVariants as form
+use Rattle.td_script.specs.declared.running.RunFault.{RunFault}
+use Rattle.td_script.specs.declared.running.RunFault.TheVariants as stopped
+use Rattle.td_script.specs.Faults as form_fault
+use Rattle.td_script.specs.Faults.{label_of, role_of}
+use Rattle.td_script.specs.declared.role.Role.{Role}
+use Rattle.td_script.specs.declared.role.Role.TheVariants as role
 use Rattle.td_tool.specs.declared.input_fault.InputFault.{InputFault}
 use Rattle.td_tool.specs.declared.input_fault.InputFault.TheVariants.{TooLong, NotText, Simulation}
-use Rattle.td_tool.specs.declared.input_fault.InputFault.TheVariants.{Table, Archive, State}
-use Rattle.td_tool.specs.declared.input_fault.InputFault.TheVariants.{NoSuchRow, Tracker}
-use Rattle.td_tool.specs.declared.input_fault.InputFault.TheVariants.{BadOutcome, Journal}
+use Rattle.td_tool.specs.declared.input_fault.InputFault.TheVariants.{BadOutcome, Form}
 use Rattle.td_tool.specs.declared.ending.Ending.{Ending}
 use Rattle.td_tool.specs.declared.ending.Ending.TheVariants.{Done, Refused, BadInput, NoMemory}
 use Rattle.td_tool.specs.declared.ending.Ending.TheVariants.{CannotRead, CannotWrite}
@@ -53,34 +46,23 @@ ending_of_file r text.TooLong = CannotRead r
 ending_of_file r text.NotText = BadInput r NotText
 ending_of_file r text.NoMemory = NoMemory
 
--- how a run ends where a text is no table of architectures
-abbrev pub ending_of_table : ArchsFault → Ending
-ending_of_table table.NoMemory = NoMemory
-ending_of_table e = BadInput role.Archs (Table e)
+-- how a run ends where a text isn't of its form; want of memory is no fault of the text
+abbrev pub ending_of_form : FormFault → Ending
+ending_of_form (form.Table table.NoMemory) = NoMemory
+ending_of_form (form.Archive archive.NoMemory) = NoMemory
+ending_of_form (form.State state.NoMemory) = NoMemory
+ending_of_form (form.Tracker tracker.NoMemory) = NoMemory
+ending_of_form (form.Journal journal.NoMemory) = NoMemory
+ending_of_form e = BadInput (role_of e) (Form e)
 
--- how a run ends where two texts are no archive
-abbrev pub ending_of_archive : ArchiveFault → Ending
-ending_of_archive archive.NoMemory = NoMemory
-ending_of_archive e = BadInput (role_of_fault e) (Archive e)
-
--- how a run ends where a text is no state file
-abbrev pub ending_of_state : StateFault → Ending
-ending_of_state state.NoMemory = NoMemory
-ending_of_state e = BadInput role.State (State e)
-
--- how a run ends where a state file has a row that the archive hasn't
-abbrev pub ending_of_missing_row : Ending
-ending_of_missing_row = BadInput role.State NoSuchRow
-
--- how a run ends where a text is no tracker
-abbrev pub ending_of_tracker : TrackerFault → Ending
-ending_of_tracker tracker.NoMemory = NoMemory
-ending_of_tracker e = BadInput role.Tracker (Tracker e)
-
--- how a run ends where a text is no journal over the opening rows
-abbrev pub ending_of_journal : ReadError → Ending
-ending_of_journal journal.NoMemory = NoMemory
-ending_of_journal e = BadInput role.Journal (Journal e)
+-- how a run ends where its script stopped
+abbrev pub ending_of_stop : RunFault → Ending
+ending_of_stop (stopped.Input e) = ending_of_form e
+ending_of_stop stopped.Read = CannotRead role.Input
+ending_of_stop stopped.TooLong = BadInput role.Input TooLong
+ending_of_stop stopped.NotText = BadInput role.Input NotText
+ending_of_stop stopped.Write = CannotWrite
+ending_of_stop stopped.NoMemory = NoMemory
 
 -- ---- 2. what is answered and said
 
@@ -89,13 +71,8 @@ abbrev pub input_fault_name : InputFault → List ℕ
 input_fault_name TooLong = codes "TooLong"
 input_fault_name NotText = codes "NotText"
 input_fault_name (Simulation e) = fault_name e
-input_fault_name (Table e) = archs_fault.name_of e
-input_fault_name (Archive e) = archive_fault.name_of e
-input_fault_name (State e) = state_fault.name_of e
-input_fault_name NoSuchRow = codes "NoSuchRow"
-input_fault_name (Tracker e) = tracker_fault.fault_name e
 input_fault_name (BadOutcome n) = codes "BadLine"
-input_fault_name (Journal e) = journal_fault.name_of e
+input_fault_name (Form e) = form_fault.fault_name e
 
 -- the status; 3 is for words that ask for nothing that can be done
 abbrev pub status_of : Ending → ℕ

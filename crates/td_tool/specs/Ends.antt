@@ -11,7 +11,7 @@ use Rattle.td_tool.specs.Limits.{input_limit}
 use Rattle.td_tool.specs.declared.input_fault.InputFault.{InputFault}
 use Rattle.td_tool.specs.declared.input_fault.InputFault.TheVariants.{TooLong, NotText, Simulation}
 use Rattle.td_tool.specs.declared.input_fault.InputFault.TheVariants as refused
-use Rattle.td_tool.specs.declared.role.Role.TheVariants.{Input}
+use Rattle.td_script.specs.declared.role.Role.TheVariants.{Input}
 use Rattle.td_tool.specs.declared.ending.Ending.{Ending}
 use Rattle.td_tool.specs.declared.ending.Ending.TheVariants.{Done, Refused, BadInput, NoMemory}
 use Rattle.td_tool.specs.declared.ending.Ending.TheVariants.{CannotRead, CannotWrite}
@@ -26,13 +26,8 @@ HasFault input TooLong = input_limit < length input
 HasFault input NotText = (length input ≤ input_limit) × ¬ IsUtf8 input
 HasFault input (Simulation fault.NoMemory) = ⊥
 HasFault input (Simulation e) = IsText input × FaultOf input e
-HasFault input (refused.Table e) = ⊥
-HasFault input (refused.Archive e) = ⊥
-HasFault input (refused.State e) = ⊥
-HasFault input refused.NoSuchRow = ⊥
-HasFault input (refused.Tracker e) = ⊥
 HasFault input (refused.BadOutcome n) = ⊥
-HasFault input (refused.Journal e) = ⊥
+HasFault input (refused.Form e) = ⊥
 
 -- these rows and steps were read, from all that the reader had
 pub record WereRead (known : Option (List ℕ)) (rows : Table) (steps : List Step) : Type 0 where

@@ -12,11 +12,11 @@ use Rattle.td_words.specs.declared.request.Request.{Request}
 use Rattle.td_words.specs.declared.request.Request.TheVariants as asked
 use Rattle.td_tool.specs.Ending.{line_of}
 use Rattle.td_tool.specs.Places.{place_of}
-use Rattle.td_tool.specs.Roles.{label_of}
+use Rattle.td_script.specs.Faults.{label_of}
 use Rattle.td_tool.specs.Wanted.{wanted_input}
-use Rattle.td_tool.specs.declared.role.Role.{Role}
-use Rattle.td_tool.specs.declared.role.Role.TheVariants.{Input, Archs, Packages, Sources, State}
-use Rattle.td_tool.specs.declared.role.Role.TheVariants.{Tracker, Outcomes, Journal}
+use Rattle.td_script.specs.declared.role.Role.{Role}
+use Rattle.td_script.specs.declared.role.Role.TheVariants.{Input, Archs, Packages, Sources, State}
+use Rattle.td_script.specs.declared.role.Role.TheVariants.{Tracker, Outcomes, Journal}
 use Rattle.td_tool.specs.declared.input_fault.InputFault.{InputFault}
 use Rattle.td_tool.specs.declared.ending.Ending.{Ending}
 use Rattle.td_tool.specs.declared.ending.Ending.TheVariants.{Done, Refused, BadInput, NoMemory}

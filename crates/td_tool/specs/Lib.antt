@@ -1,6 +1,5 @@
 -- What the contracts of this crate cite: a file a thing.
 pub mod Limits
-pub mod Roles
 pub mod Ending
 pub mod Places
 pub mod Wanted

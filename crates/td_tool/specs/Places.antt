@@ -16,6 +16,8 @@ use Rattle.td_journal.specs.declared.journal_fault.ReadError.{ReadError}
 use Rattle.td_journal.specs.declared.journal_fault.ReadError.TheVariants as journal
 use Rattle.td_simulate.specs.declared.fault.SimulationFault.{SimulationFault}
 use Rattle.td_simulate.specs.declared.fault.SimulationFault.TheVariants as simulation
+use Rattle.td_script.specs.declared.input_fault.InputFault.{InputFault as FormFault}
+use Rattle.td_script.specs.declared.input_fault.InputFault.TheVariants as form
 use Rattle.td_tool.specs.declared.input_fault.InputFault.{InputFault}
 use Rattle.td_tool.specs.declared.input_fault.InputFault.TheVariants as refused
 
@@ -75,15 +77,19 @@ place_in_journal (journal.BadLine n) = Line n
 place_in_journal (journal.Unlawful n) = place_of_entry n
 place_in_journal journal.NoMemory = Whole
 
+-- the place in a text that isn't of its form
+abbrev pub place_in_form : FormFault → Place
+place_in_form (form.Table e) = place_in_table e
+place_in_form (form.Archive e) = place_in_index e
+place_in_form (form.State e) = place_in_state e
+place_in_form form.NoSuchRow = Whole
+place_in_form (form.Tracker e) = place_in_tracker e
+place_in_form (form.Journal e) = place_in_journal e
+
 -- the place in any text
 abbrev pub place_of : InputFault → Place
 place_of refused.TooLong = Whole
 place_of refused.NotText = Whole
 place_of (refused.Simulation e) = place_in_simulation e
-place_of (refused.Table e) = place_in_table e
-place_of (refused.Archive e) = place_in_index e
-place_of (refused.State e) = place_in_state e
-place_of refused.NoSuchRow = Whole
-place_of (refused.Tracker e) = place_in_tracker e
 place_of (refused.BadOutcome n) = Line n
-place_of (refused.Journal e) = place_in_journal e
+place_of (refused.Form e) = place_in_form e

@@ -14,7 +14,7 @@ use Rattle.td_simulate.specs.SimulationText.{IsSimulation, FaultOf}
 use Rattle.td_tool.specs.declared.input_fault.InputFault.{InputFault}
 use Rattle.td_tool.specs.declared.input_fault.InputFault.TheVariants.{TooLong, NotText, Simulation}
 use Rattle.td_tool.specs.declared.input_fault.InputFault.TheVariants as refused
-use Rattle.td_tool.specs.declared.role.Role.TheVariants.{Input}
+use Rattle.td_script.specs.declared.role.Role.TheVariants.{Input}
 use Rattle.td_tool.specs.declared.ending.Ending.{Ending}
 use Rattle.td_tool.specs.declared.ending.Ending.TheVariants.{Done, Refused, BadInput, NoMemory}
 use Rattle.td_tool.specs.declared.ending.Ending.TheVariants.{CannotRead, CannotWrite}
@@ -52,13 +52,8 @@ IsNoSimulation text TooLong = ⊥
 IsNoSimulation text NotText = ⊥
 IsNoSimulation text (Simulation fault.NoMemory) = ⊥
 IsNoSimulation text (Simulation e) = FaultOf text e
-IsNoSimulation text (refused.Table e) = ⊥
-IsNoSimulation text (refused.Archive e) = ⊥
-IsNoSimulation text (refused.State e) = ⊥
-IsNoSimulation text refused.NoSuchRow = ⊥
-IsNoSimulation text (refused.Tracker e) = ⊥
 IsNoSimulation text (refused.BadOutcome n) = ⊥
-IsNoSimulation text (refused.Journal e) = ⊥
+IsNoSimulation text (refused.Form e) = ⊥
 
 -- what an ending says of a text: it was read, so no read has failed
 abbrev pub TextSays : List ℕ → Option (List ℕ) → Option (List ℕ) → Ending → Type 0

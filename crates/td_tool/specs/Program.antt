@@ -23,7 +23,7 @@ use Rattle.td_tool.specs.Checks.{Checks, archive_files_at, files_of}
 use Rattle.td_tool.specs.Tracks.{EndsSo, TrackFiles, track_files}
 use Rattle.td_tool.specs.Runs.{EndsRun, RunFiles, run_files_asked}
 use Rattle.td_tool.specs.Explained.{archive_paths, known_at, known_input, known_of_request}
-use Rattle.td_tool.specs.declared.role.Role.{Role}
+use Rattle.td_script.specs.declared.role.Role.{Role}
 use Rattle.td_tool.specs.Ran.{Ran}
 
 -- ---- 1. words that ask for nothing

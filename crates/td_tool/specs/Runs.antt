@@ -11,22 +11,18 @@ use Rattle.td_crew.specs.declared.running.CrewFault.TheVariants as crew
 use Rattle.td_query.specs.declared.tracker_fault.TrackerFault.{TrackerFault}
 use Rattle.td_script.specs.Ends.{IsScriptText, Says}
 use Rattle.td_script.specs.Openings as script
-use Rattle.td_script.specs.declared.input_fault.InputFault.{InputFault}
-use Rattle.td_script.specs.declared.input_fault.InputFault.TheVariants as refused
+use Rattle.td_script.specs.declared.input_fault.InputFault.TheVariants as form
 use Rattle.td_script.specs.declared.running.RunFault.{RunFault}
-use Rattle.td_script.specs.declared.running.RunFault.TheVariants as stopped
 use Rattle.td_script.specs.declared.running.ScriptEnd.{ScriptEnd}
 use Rattle.td_words.specs.CommandLine.{RunWords}
-use Rattle.td_tool.specs.declared.role.Role.{Role}
-use Rattle.td_tool.specs.declared.role.Role.TheVariants.{Input, Archs, Packages, Sources, State}
-use Rattle.td_tool.specs.declared.role.Role.TheVariants.{Tracker, Outcomes, Journal}
-use Rattle.td_tool.specs.declared.input_fault.InputFault.TheVariants.{TooLong, NotText, BadOutcome}
+use Rattle.td_script.specs.declared.role.Role.{Role}
+use Rattle.td_script.specs.declared.role.Role.TheVariants.{Input, Archs, Packages, Sources, State}
+use Rattle.td_script.specs.declared.role.Role.TheVariants.{Tracker, Outcomes, Journal}
+use Rattle.td_tool.specs.declared.input_fault.InputFault.TheVariants.{BadOutcome}
 use Rattle.td_tool.specs.declared.ending.Ending.{Ending}
 use Rattle.td_tool.specs.declared.ending.Ending.TheVariants.{Done, Refused, BadInput, NoMemory}
 use Rattle.td_tool.specs.declared.ending.Ending.TheVariants.{CannotRead, CannotWrite}
-use Rattle.td_tool.specs.Ending.{ending_of_archive, ending_of_file, ending_of_journal}
-use Rattle.td_tool.specs.Ending.{ending_of_missing_row, ending_of_state, ending_of_table}
-use Rattle.td_tool.specs.Ending.{ending_of_tracker}
+use Rattle.td_tool.specs.Ending.{ending_of_file, ending_of_form, ending_of_stop}
 use Rattle.td_tool.specs.Checks.{AreTexts, Files, HasFailed, files_of}
 use Rattle.td_tool.specs.Tracks.{IsKnownIfGiven, IsKnownText, IsTextIfGiven, MayFail, OneFile}
 use Rattle.td_tool.specs.Tracks.{file_at}
@@ -109,24 +105,6 @@ IsUnread files ending =
     × (ending ≡ ending_of_file role fault)
 
 -- ---- 2. how it ends
-
--- by why a text is refused
-abbrev pub ending_of_input : InputFault → Ending
-ending_of_input (refused.Table e) = ending_of_table e
-ending_of_input (refused.Archive e) = ending_of_archive e
-ending_of_input (refused.State e) = ending_of_state e
-ending_of_input refused.NoSuchRow = ending_of_missing_row
-ending_of_input (refused.Tracker e) = ending_of_tracker e
-ending_of_input (refused.Journal e) = ending_of_journal e
-
--- by why a script stopped
-abbrev pub ending_of_stop : RunFault → Ending
-ending_of_stop (stopped.Input e) = ending_of_input e
-ending_of_stop stopped.Read = CannotRead Input
-ending_of_stop stopped.TooLong = BadInput Input TooLong
-ending_of_stop stopped.NotText = BadInput Input NotText
-ending_of_stop stopped.Write = CannotWrite
-ending_of_stop stopped.NoMemory = NoMemory
 
 -- by how a script ended: with the status of a refusal where a line was refused
 abbrev pub ending_of_script : Result ScriptEnd RunFault → Ending
@@ -213,7 +191,7 @@ MayEnd tracker Done = Unit {0}
 MayEnd tracker Refused = Unit {0}
 MayEnd tracker (BadInput role e) =
     (fault : TrackerFault) × script.IsPatternRefused tracker fault
-    × (BadInput role e ≡ ending_of_tracker fault)
+    × (BadInput role e ≡ ending_of_form (form.Tracker fault))
 MayEnd tracker NoMemory = Unit {0}
 MayEnd tracker (CannotRead role) = Unit {0}
 MayEnd tracker CannotWrite = Unit {0}

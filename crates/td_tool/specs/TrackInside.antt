@@ -3,7 +3,7 @@ use Rattle.std.specs.Prelude.{◌≡◌, ◌⊎◌, ℕ, Bool, List, Option, Som
 use Rattle.td_bytes.specs.declared.text.TextFault.{TextFault}
 use Rattle.td_text.specs.Lines.{lines_of}
 use Rattle.td_relation.specs.Arch.{ArchWords}
-use Rattle.td_rows.specs.Overlay.{first_missing, overlaid}
+use Rattle.td_rows.specs.Overlay.{first_missing}
 use Rattle.td_rows.specs.StateFile.{IsStateFile}
 use Rattle.td_rows.specs.Table.{Table}
 use Rattle.td_rows.specs.declared.key.Key.{Key}
@@ -13,8 +13,9 @@ use Rattle.td_indices.specs.declared.archive_fault.ArchiveFault.{ArchiveFault}
 use Rattle.td_query.specs.Tracking.{Tracking}
 use Rattle.td_report.specs.Transition.{IsReport, IsWaves}
 use Rattle.td_script.specs.Openings.{AreRowsOf}
-use Rattle.td_tool.specs.Ending.{ending_of_archive, ending_of_missing_row}
-use Rattle.td_tool.specs.declared.role.Role.{Role}
+use Rattle.td_script.specs.declared.input_fault.InputFault.TheVariants as form
+use Rattle.td_tool.specs.Ending.{ending_of_form}
+use Rattle.td_script.specs.declared.role.Role.{Role}
 use Rattle.td_tool.specs.declared.file_texts.FileFault.{FileFault}
 use Rattle.td_tool.specs.declared.track_files.TrackPaths.{TrackPaths}
 use Rattle.td_tool.specs.declared.track_files.TrackTexts.{TrackTexts}
@@ -84,28 +85,15 @@ pub record EndsWithoutRows (c : Contents) (state : Option (List ℕ)) (ending : 
 
 -- ---- rows
 
--- rows with those of a state file in their places
-pub record IsReplaced (opened : Table) (text : List ℕ) (rows : Table) : Type 0 where
-  pub given : Table
-  pub are_given : IsStateFile (lines_of text) given
-  pub none_missing : (k : Key) → first_missing opened given ≡ Some k → ⊥
-  pub replaced : rows ≡ overlaid given opened
-
 -- the text is no state file, or has a row that these haven't
 abbrev pub LacksOneOf : Table → List ℕ → Ending → Type 0
 LacksOneOf opened text ending =
     (given : Table) × IsStateFile (lines_of text) given
-    × ((k : Key) × (first_missing opened given ≡ Some k) × (ending ≡ ending_of_missing_row))
+    × ((k : Key) × (first_missing opened given ≡ Some k) × (ending ≡ ending_of_form form.NoSuchRow))
 
 -- a state file is refused over these rows, for one or the other, and so it ends
 abbrev pub IsRefusedFor : Table → List ℕ → Ending → Type 0
 IsRefusedFor opened text ending = IsNoState text ending ⊎ LacksOneOf opened text ending
-
--- the text is a state file, each row of which these rows have
-abbrev pub CanReplace : Table → List ℕ → Type 0
-CanReplace opened text =
-    (given : Table) × IsStateFile (lines_of text) given
-    × ((k : Key) → first_missing opened given ≡ Some k → ⊥)
 
 -- ---- the indices with a table
 
@@ -119,7 +107,7 @@ IndicesSay Says t x text =
 abbrev pub AreRefusedWith : List ArchWords → Texts → Ending → Type 0
 AreRefusedWith t x ending =
     ((e : ArchiveFault) × archive_file.FaultOf t (lines_of x.packages) (lines_of x.sources) e
-    × (ending ≡ ending_of_archive e))
+    × (ending ≡ ending_of_form (form.Archive e)))
     ⊎ ((c : Contents) × IsArchive t (lines_of x.packages) (lines_of x.sources) c
     × IsRefusedOver c x.state x.tracker ending)
 

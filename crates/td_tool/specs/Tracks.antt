@@ -22,14 +22,14 @@ use Rattle.td_query.specs.TrackerGrammar.{said_in}
 use Rattle.td_query.specs.Tracking.{IsTracker, Tracking}
 use Rattle.td_query.specs.declared.tracker_fault.TrackerFault.{TrackerFault}
 use Rattle.td_script.specs.Openings.{AreOpened, AreRowsOf}
-use Rattle.td_tool.specs.declared.role.Role.{Role}
-use Rattle.td_tool.specs.declared.role.Role.TheVariants.{Input, Archs, Packages, Sources, State}
-use Rattle.td_tool.specs.declared.role.Role.TheVariants.{Tracker, Outcomes, Journal}
+use Rattle.td_script.specs.declared.role.Role.{Role}
+use Rattle.td_script.specs.declared.role.Role.TheVariants.{Input, Archs, Packages, Sources, State}
+use Rattle.td_script.specs.declared.role.Role.TheVariants.{Tracker, Outcomes, Journal}
+use Rattle.td_script.specs.declared.input_fault.InputFault.TheVariants as form
 use Rattle.td_tool.specs.declared.ending.Ending.{Ending}
 use Rattle.td_tool.specs.declared.ending.Ending.TheVariants.{Done, Refused, BadInput, NoMemory}
 use Rattle.td_tool.specs.declared.ending.Ending.TheVariants.{CannotRead, CannotWrite}
-use Rattle.td_tool.specs.Ending.{ending_of_archive, ending_of_file, ending_of_missing_row}
-use Rattle.td_tool.specs.Ending.{ending_of_state, ending_of_table, ending_of_tracker}
+use Rattle.td_tool.specs.Ending.{ending_of_file, ending_of_form}
 use Rattle.td_tool.specs.Counted.{IsArchiveOf}
 use Rattle.td_tool.specs.Checks.{AreTexts, FaultFits, Files, HasFailed, IsFileText, IsTextOf}
 use Rattle.td_tool.specs.Checks.{files_of}
@@ -138,18 +138,20 @@ TextsSayIt Says x text =
 -- a text is no tracker, or `regex` refuses one of its patterns, and so it ends
 abbrev pub IsNoTracker : List ℕ → Ending → Type 0
 IsNoTracker text ending =
-    (e : TrackerFault) × tracker_file.FaultOf text e × (ending ≡ ending_of_tracker e)
+    (e : TrackerFault) × tracker_file.FaultOf text e × (ending ≡ ending_of_form (form.Tracker e))
 
 -- a text is no state file
 abbrev pub IsNoState : List ℕ → Ending → Type 0
 IsNoState text ending =
-    (e : StateFault) × state_file.FaultOf (lines_of text) e × (ending ≡ ending_of_state e)
+    (e : StateFault) × state_file.FaultOf (lines_of text) e
+    × (ending ≡ ending_of_form (form.State e))
 
 -- a state file has a row that the archive hasn't
 abbrev pub LacksRow : Contents → List ℕ → Ending → Type 0
 LacksRow c text ending =
     (opened : Table) × AreOpened c opened × ((given : Table) × IsStateFile (lines_of text) given
-    × ((k : Key) × (first_missing opened given ≡ Some k) × (ending ≡ ending_of_missing_row)))
+    × ((k : Key) × (first_missing opened given ≡ Some k)
+    × (ending ≡ ending_of_form form.NoSuchRow)))
 
 -- a state file is refused
 abbrev pub IsStateRefused : Contents → Option (List ℕ) → Ending → Type 0
@@ -165,14 +167,15 @@ IsRefusedOver c state tracker ending =
 -- texts are refused: the table of architectures first, then the indices, then what stands over them
 abbrev pub IsNoTable : Texts → Ending → Type 0
 IsNoTable x ending =
-    (e : ArchsFault) × table_file.FaultOf (lines_of x.archs) e × (ending ≡ ending_of_table e)
+    (e : ArchsFault) × table_file.FaultOf (lines_of x.archs) e
+    × (ending ≡ ending_of_form (form.Table e))
 
 -- the table is one, and with it the indices are no archive
 abbrev pub AreNoIndices : Texts → Ending → Type 0
 AreNoIndices x ending =
     (t : List ArchWords) × IsTable (lines_of x.archs) t
     × ((e : ArchiveFault) × archive_file.FaultOf t (lines_of x.packages) (lines_of x.sources) e
-    × (ending ≡ ending_of_archive e))
+    × (ending ≡ ending_of_form (form.Archive e)))
 
 -- one of the texts is refused, and so it ends
 abbrev pub AreRefused : Texts → Ending → Type 0
@@ -214,7 +217,7 @@ AreReadable x =
 abbrev pub IsPatternRefused : List ℕ → Ending → Type 0
 IsPatternRefused text ending =
     (e : TrackerFault) × tracker_file.IsPatternFault (length text)
-    (tracker_file.log_in (said_in text)) e × (ending ≡ ending_of_tracker e)
+    (tracker_file.log_in (said_in text)) e × (ending ≡ ending_of_form (form.Tracker e))
 
 -- a file is known to hold a text
 pub record IsKnownText (known : Option (List ℕ)) (text : List ℕ) : Type 0 where

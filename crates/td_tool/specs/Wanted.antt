@@ -19,11 +19,11 @@ use Rattle.td_journal.specs.declared.journal_fault.ReadError.{ReadError}
 use Rattle.td_journal.specs.declared.journal_fault.ReadError.TheVariants as journal
 use Rattle.td_simulate.specs.declared.fault.SimulationFault.{SimulationFault}
 use Rattle.td_simulate.specs.declared.fault.SimulationFault.TheVariants as simulation
+use Rattle.td_script.specs.declared.input_fault.InputFault.{InputFault as FormFault}
+use Rattle.td_script.specs.declared.input_fault.InputFault.TheVariants as form
 use Rattle.td_tool.specs.declared.input_fault.InputFault.{InputFault}
 use Rattle.td_tool.specs.declared.input_fault.InputFault.TheVariants.{TooLong, NotText, Simulation}
-use Rattle.td_tool.specs.declared.input_fault.InputFault.TheVariants.{Table, Archive, State}
-use Rattle.td_tool.specs.declared.input_fault.InputFault.TheVariants.{NoSuchRow, Tracker}
-use Rattle.td_tool.specs.declared.input_fault.InputFault.TheVariants.{BadOutcome, Journal}
+use Rattle.td_tool.specs.declared.input_fault.InputFault.TheVariants.{BadOutcome, Form}
 
 -- of the rows of a state file, or of the opening rows
 abbrev pub wanted_state : StateFault → List ℕ
@@ -92,15 +92,19 @@ wanted_journal (journal.Unlawful n) =
     codes "an entry that applies on the rows, or an undone command"
 wanted_journal journal.NoMemory = []
 
+-- of a text that isn't of its form
+abbrev pub wanted_form : FormFault → List ℕ
+wanted_form (form.Table e) = wanted_table e
+wanted_form (form.Archive e) = wanted_archive e
+wanted_form (form.State e) = wanted_state e
+wanted_form form.NoSuchRow = codes "rows that the indices give"
+wanted_form (form.Tracker e) = wanted_tracker e
+wanted_form (form.Journal e) = wanted_journal e
+
 -- of any text
 abbrev pub wanted_input : InputFault → List ℕ
 wanted_input TooLong = codes "standard input of at most 1048576 bytes"
 wanted_input NotText = codes "a text in UTF-8"
 wanted_input (Simulation e) = wanted_simulation e
-wanted_input (Table e) = wanted_table e
-wanted_input (Archive e) = wanted_archive e
-wanted_input (State e) = wanted_state e
-wanted_input NoSuchRow = codes "rows that the indices give"
-wanted_input (Tracker e) = wanted_tracker e
 wanted_input (BadOutcome n) = codes "how a build ends, as KEY OUTCOME"
-wanted_input (Journal e) = wanted_journal e
+wanted_input (Form e) = wanted_form e

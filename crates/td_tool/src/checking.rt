@@ -8,11 +8,10 @@ ghost use Rattle.td_tool.specs.CheckInside.{AreCountsOf, EndsUnwritten, FileText
 ghost use Rattle.td_tool.specs.CheckInside.{IsCounted, IsCountedWith, IsLineFor, IsWithin};
 ghost use Rattle.td_tool.specs.CheckInside.{WritesSo};
 ghost use Rattle.td_tool.specs.Counted.{line_of_counts};
-ghost use Rattle.td_tool.specs.Ending.{ending_of_archive as archive_ending};
-ghost use Rattle.td_tool.specs.Ending.{ending_of_table as table_ending};
+ghost use Rattle.td_tool.specs.Ending.{ending_of_form as ending_of};
 ghost use Rattle.td_tool.specs.Limits.{file_limit};
 
-use crate::ending::{Ending, ending_of_archive, ending_of_file, ending_of_table};
+use crate::ending::{Ending, ending_of_file, ending_of_form};
 use crate::file_texts::{FileFault, FileTexts, read_files};
 use crate::texts::Texts;
 use std::alloc::{AllocError, Global};
@@ -21,6 +20,7 @@ use std::thread::Threads;
 use td_bytes::write_whole;
 use td_indices::{Archive, ArchiveFault};
 use td_relation::{Archs, ArchsFault};
+use td_script::InputFault as FormFault;
 use td_text::put_number;
 use td_words::ArchivePaths;
 
@@ -35,7 +35,8 @@ pub struct Counts {
 // What is to be counted, by what two indices were read as.
 fn counts_of(archive: Result<Archive<'_, '_>, ArchiveFault>) -> Result<Counts, Ending>
     ensures counts { IfOk archive.entry (λ a. IsOkAnd result (AreCountsOf a)) }
-    ensures refused { IfErr archive.entry (λ fault. result ≡ Err (archive_ending fault)) }
+    ensures refused { IfErr archive.entry (λ fault.
+        result ≡ Err (ending_of (FormFault.Archive fault))) }
 {
     match archive {
         Ok(archive) => Ok(Counts {
@@ -43,7 +44,7 @@ fn counts_of(archive: Result<Archive<'_, '_>, ArchiveFault>) -> Result<Counts, E
             binaries: archive.binary_count(),
             rows: archive.row_count(),
         }),
-        Err(fault) => Err(ending_of_archive(fault)),
+        Err(fault) => Err(ending_of_form(FormFault::Archive(fault))),
     }
 }
 
@@ -57,11 +58,12 @@ fn counts_with<'a>(
 ) -> Result<Counts, Ending>
     ensures counted { IfOk archs.entry (λ archs.
         IsCountedWith (table archs) packages.now sources.now result) }
-    ensures refused { IfErr archs.entry (λ fault. result ≡ Err (table_ending fault)) }
+    ensures refused { IfErr archs.entry (λ fault.
+        result ≡ Err (ending_of (FormFault.Table fault))) }
 {
     match archs {
         Ok(archs) => counts_of(Archive::read_beside(rt, alloc, packages, sources, &archs)),
-        Err(fault) => Err(ending_of_table(fault)),
+        Err(fault) => Err(ending_of_form(FormFault::Table(fault))),
     }
 }
 

@@ -2,13 +2,11 @@
 ghost use Rattle.std.specs.Prelude.{◌≡◌, None, OnOk, OnErr};
 ghost use Rattle.std.specs.Io.KnownBytes.{Appends};
 ghost use Rattle.td_bytes.specs.Pieces.{AppendsPrefix};
-ghost use Rattle.td_tool.specs.Ending.{ending_of_archive, ending_of_file, ending_of_journal};
-ghost use Rattle.td_tool.specs.Ending.{ending_of_missing_row, ending_of_simulation};
-ghost use Rattle.td_tool.specs.Ending.{ending_of_state, ending_of_table, ending_of_text};
-ghost use Rattle.td_tool.specs.Ending.{ending_of_tracker, status_of, line_of, line_with};
+ghost use Rattle.td_tool.specs.Ending.{ending_of_file, ending_of_form, ending_of_simulation};
+ghost use Rattle.td_tool.specs.Ending.{ending_of_stop, ending_of_text, line_of, line_with};
+ghost use Rattle.td_tool.specs.Ending.{status_of};
 
 use crate::input_fault::InputFault;
-use crate::role::{Role, role_of_fault};
 use std::io::Write;
 use td_bytes::{TextFault, WriteFault, write_whole};
 use td_indices::ArchiveFault;
@@ -16,6 +14,7 @@ use td_journal::ReadError;
 use td_query::TrackerFault;
 use td_relation::ArchsFault;
 use td_rows::StateFault;
+use td_script::{InputFault as FormFault, Role, RunFault};
 use td_simulate::SimulationFault;
 
 /// How a run of the program ends.
@@ -71,60 +70,31 @@ pub fn ending_of_file(role: Role, fault: TextFault) -> Ending
     }
 }
 
-/// How a run ends where a text is no table of architectures.
-pub fn ending_of_table(fault: ArchsFault) -> Ending
-    ensures { result ≡ ending_of_table fault }
+/// How a run ends where a text isn't of its form. Want of memory is no fault of the text.
+pub fn ending_of_form(fault: FormFault) -> Ending
+    ensures { result ≡ ending_of_form fault }
 {
     match fault {
-        ArchsFault::NoMemory => Ending::NoMemory,
-        fault => Ending::BadInput(Role::Archs, InputFault::Table(fault)),
+        FormFault::Table(ArchsFault::NoMemory)
+        | FormFault::Archive(ArchiveFault::NoMemory)
+        | FormFault::State(StateFault::NoMemory)
+        | FormFault::Tracker(TrackerFault::NoMemory)
+        | FormFault::Journal(ReadError::NoMemory) => Ending::NoMemory,
+        fault => Ending::BadInput(fault.role(), InputFault::Form(fault)),
     }
 }
 
-/// How a run ends where two texts are no archive.
-pub fn ending_of_archive(fault: ArchiveFault) -> Ending
-    ensures { result ≡ ending_of_archive fault }
+/// How a run ends where its script stopped.
+pub fn ending_of_stop(fault: RunFault) -> Ending
+    ensures { result ≡ ending_of_stop fault }
 {
     match fault {
-        ArchiveFault::NoMemory => Ending::NoMemory,
-        fault => Ending::BadInput(role_of_fault(fault), InputFault::Archive(fault)),
-    }
-}
-
-/// How a run ends where a text is no state file.
-pub fn ending_of_state(fault: StateFault) -> Ending
-    ensures { result ≡ ending_of_state fault }
-{
-    match fault {
-        StateFault::NoMemory => Ending::NoMemory,
-        fault => Ending::BadInput(Role::State, InputFault::State(fault)),
-    }
-}
-
-/// How a run ends where a state file has a row that the archive hasn't.
-pub fn ending_of_missing_row() -> Ending
-    ensures { result ≡ ending_of_missing_row }
-{
-    Ending::BadInput(Role::State, InputFault::NoSuchRow)
-}
-
-/// How a run ends where a text is no tracker.
-pub fn ending_of_tracker(fault: TrackerFault) -> Ending
-    ensures { result ≡ ending_of_tracker fault }
-{
-    match fault {
-        TrackerFault::NoMemory => Ending::NoMemory,
-        fault => Ending::BadInput(Role::Tracker, InputFault::Tracker(fault)),
-    }
-}
-
-/// How a run ends where a text is no journal over the opening rows.
-pub fn ending_of_journal(fault: ReadError) -> Ending
-    ensures { result ≡ ending_of_journal fault }
-{
-    match fault {
-        ReadError::NoMemory => Ending::NoMemory,
-        fault => Ending::BadInput(Role::Journal, InputFault::Journal(fault)),
+        RunFault::Input(fault) => ending_of_form(fault),
+        RunFault::Read => Ending::CannotRead(Role::Input),
+        RunFault::TooLong => Ending::BadInput(Role::Input, InputFault::TooLong),
+        RunFault::NotText => Ending::BadInput(Role::Input, InputFault::NotText),
+        RunFault::Write => Ending::CannotWrite,
+        RunFault::NoMemory => Ending::NoMemory,
     }
 }
 

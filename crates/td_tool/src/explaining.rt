@@ -10,13 +10,13 @@ use crate::ending::{Ended, Ending};
 use crate::file_texts::FILE_LIMIT;
 use crate::input_fault::InputFault;
 use crate::places::place_of;
-use crate::role::Role;
 use crate::texts::Texts;
 use crate::wanted::wanted;
 use std::alloc::Global;
 use std::io::Write;
 use td_bytes::write_whole;
 use td_explain::{Place, explain};
+use td_script::Role;
 use td_words::{ArchivePaths, Request};
 
 // The path of the table or of an index, of those of an archive.

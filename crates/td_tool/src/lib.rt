@@ -17,7 +17,6 @@ mod explaining;
 mod file_texts;
 mod input_fault;
 mod places;
-mod role;
 mod run_files;
 mod running;
 mod simulation;

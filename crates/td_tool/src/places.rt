@@ -1,5 +1,6 @@
 //! Where in its text a refusal is.
 ghost use Rattle.std.specs.Prelude.{◌≡◌};
+ghost use Rattle.td_tool.specs.Places.{place_in_form as place_in_form_of};
 ghost use Rattle.td_tool.specs.Places.{place_in_index as place_in_index_of};
 ghost use Rattle.td_tool.specs.Places.{place_in_journal as place_in_journal_of};
 ghost use Rattle.td_tool.specs.Places.{place_in_simulation as place_in_simulation_of};
@@ -17,6 +18,7 @@ use td_journal::ReadError;
 use td_query::TrackerFault;
 use td_relation::ArchsFault;
 use td_rows::StateFault;
+use td_script::InputFault as FormFault;
 use td_simulate::SimulationFault;
 use td_stanza::StanzaFault;
 
@@ -103,18 +105,27 @@ fn place_in_journal(fault: ReadError) -> Place
     }
 }
 
+fn place_in_form(fault: FormFault) -> Place
+    ensures { result ≡ place_in_form_of fault }
+{
+    match fault {
+        FormFault::Table(fault) => place_in_table(fault),
+        FormFault::Archive(fault) => place_in_index(fault),
+        FormFault::State(fault) => place_in_state(fault),
+        FormFault::NoSuchRow => Place::Whole,
+        FormFault::Tracker(fault) => place_in_tracker(fault),
+        FormFault::Journal(fault) => place_in_journal(fault),
+    }
+}
+
 /// The place of a fault in its text, as the fault has it.
 pub fn place_of(fault: InputFault) -> Place
     ensures { result ≡ place_of_of fault }
 {
     match fault {
-        InputFault::TooLong | InputFault::NotText | InputFault::NoSuchRow => Place::Whole,
+        InputFault::TooLong | InputFault::NotText => Place::Whole,
         InputFault::Simulation(fault) => place_in_simulation(fault),
-        InputFault::Table(fault) => place_in_table(fault),
-        InputFault::Archive(fault) => place_in_index(fault),
-        InputFault::State(fault) => place_in_state(fault),
-        InputFault::Tracker(fault) => place_in_tracker(fault),
         InputFault::BadOutcome(n) => Place::Line(n),
-        InputFault::Journal(fault) => place_in_journal(fault),
+        InputFault::Form(fault) => place_in_form(fault),
     }
 }

@@ -3,11 +3,11 @@ ghost use Rattle.std.specs.Prelude.{IfOk, IfErr};
 ghost use Rattle.td_tool.specs.RunInside.{AreRunTexts, HasRunFailed, run_files_at};
 
 use crate::file_texts::{FileFault, FileTexts, read_files};
-use crate::role::Role;
 use crate::texts::Texts;
 use crate::track_files::read_given;
 use std::alloc::Global;
 use std::thread::Threads;
+use td_script::Role;
 use td_words::RunRequest;
 
 /// What the files of a run hold.

@@ -2,17 +2,11 @@
 ghost use Rattle.std.specs.Prelude.{◌≡◌, IfOk, string_bytes};
 ghost use Rattle.td_tool.specs.Runs.{EndsRun, OnlyPlayEnds, PlayEnds};
 ghost use Rattle.td_tool.specs.Runs.{ending_of_crew as ending_of_crew_as};
-ghost use Rattle.td_tool.specs.Runs.{ending_of_input as ending_of_input_as};
 ghost use Rattle.td_tool.specs.Runs.{ending_of_script as ending_of_script_as};
-ghost use Rattle.td_tool.specs.Runs.{ending_of_stop as ending_of_stop_as};
 ghost use Rattle.td_tool.specs.RunInside.{AreInputsOf, IsWithinLimit, run_files_at, run_texts_of};
 
-use crate::ending::{
-    Ending, ending_of_archive, ending_of_file, ending_of_journal, ending_of_missing_row,
-    ending_of_state, ending_of_table, ending_of_tracker,
-};
+use crate::ending::{Ending, ending_of_file, ending_of_stop};
 use crate::input_fault::InputFault;
-use crate::role::Role;
 use crate::run_files::{RunTexts, read_run_files};
 use crate::texts::Texts;
 use std::alloc::{AllocError, Global};
@@ -20,36 +14,8 @@ use std::io::{Read, Write};
 use std::sync::Wait;
 use std::thread::Threads;
 use td_crew::{CrewFault, run_crew};
-use td_script::{InputFault as Refusal, Inputs, MAX_BUILDERS, RunFault, ScriptEnd, run_script};
+use td_script::{Inputs, MAX_BUILDERS, Role, RunFault, ScriptEnd, run_script};
 use td_words::RunRequest;
-
-// How a run ends where a text is refused.
-fn ending_of_input(fault: Refusal) -> Ending
-    ensures { result ≡ ending_of_input_as fault }
-{
-    match fault {
-        Refusal::Table(fault) => ending_of_table(fault),
-        Refusal::Archive(fault) => ending_of_archive(fault),
-        Refusal::State(fault) => ending_of_state(fault),
-        Refusal::NoSuchRow => ending_of_missing_row(),
-        Refusal::Tracker(fault) => ending_of_tracker(fault),
-        Refusal::Journal(fault) => ending_of_journal(fault),
-    }
-}
-
-// How a run ends where its script stopped.
-fn ending_of_stop(fault: RunFault) -> Ending
-    ensures { result ≡ ending_of_stop_as fault }
-{
-    match fault {
-        RunFault::Input(fault) => ending_of_input(fault),
-        RunFault::Read => Ending::CannotRead(Role::Input),
-        RunFault::TooLong => Ending::BadInput(Role::Input, InputFault::TooLong),
-        RunFault::NotText => Ending::BadInput(Role::Input, InputFault::NotText),
-        RunFault::Write => Ending::CannotWrite,
-        RunFault::NoMemory => Ending::NoMemory,
-    }
-}
 
 // How a run ends by how its script did.
 fn ending_of_script(end: Result<ScriptEnd, RunFault>) -> Ending

@@ -4,10 +4,10 @@ ghost use Rattle.td_tool.specs.Tracks.{IsTextIfGiven, file_at};
 ghost use Rattle.td_tool.specs.TrackInside.{AreTextsRead, HasFailedAt, HasFailedIfGiven, files_at};
 
 use crate::file_texts::{FileFault, FileTexts, read_files, read_one};
-use crate::role::Role;
 use crate::texts::Texts;
 use std::alloc::Global;
 use std::thread::Threads;
+use td_script::Role;
 use td_words::ArchivePaths;
 
 /// The paths of the files.

@@ -2,26 +2,22 @@
 ghost use Rattle.std.specs.Prelude.{◌≡◌, ◌⊎◌, ◌≤◌, Some, Ok, Err, IfOk, IfErr, length, option_map};
 ghost use Rattle.std.specs.Prelude.{string_bytes};
 ghost use Rattle.td_relation.specs.TableView.{table};
-ghost use Rattle.td_rows.specs.Overlay.{first_missing, overlaid};
-ghost use Rattle.td_rows.specs.declared.key.Key.{Key};
+ghost use Rattle.td_core.specs.Phases.{NoneBuilt};
 ghost use Rattle.td_query.specs.Marks.{AreMarks};
 ghost use Rattle.td_query.specs.Tracking.{tracking};
 ghost use Rattle.td_report.specs.Transition.{IsReport};
 ghost use Rattle.td_report.specs.TransitionView as of;
-ghost use Rattle.td_tool.specs.Ending.{ending_of_missing_row};
 ghost use Rattle.td_tool.specs.Limits.{file_limit};
+ghost use Rattle.td_script.specs.OpeningInside.{CanReplace, IsReplacedIn};
 ghost use Rattle.td_script.specs.Openings.{AreRowsOf};
 ghost use Rattle.td_tool.specs.Tracks.{AreReadable, AreRefused, EndsSo, IsPatternRefused};
 ghost use Rattle.td_tool.specs.Tracks.{IsReadableOver, IsRefusedOver, RowsSay, TextsSayIt};
-ghost use Rattle.td_tool.specs.TrackInside.{AreReadableWith, AreRefusedWith, CanReplace};
-ghost use Rattle.td_tool.specs.TrackInside.{EndsWithoutRows, IndicesSay, IsRefusedFor, IsReplaced};
+ghost use Rattle.td_tool.specs.TrackInside.{AreReadableWith, AreRefusedWith, EndsWithoutRows};
+ghost use Rattle.td_tool.specs.TrackInside.{IndicesSay, IsRefusedFor};
 ghost use Rattle.td_tool.specs.TrackInside.{OrMemory, RowsAreSaid, files_at, saying_of, texts_of};
 
 use crate::checking::write;
-use crate::ending::{
-    Ending, ending_of_archive, ending_of_file, ending_of_missing_row, ending_of_state,
-    ending_of_table, ending_of_tracker,
-};
+use crate::ending::{Ending, ending_of_file, ending_of_form, ending_of_stop};
 use crate::texts::Texts;
 use crate::track_files::{TrackPaths, TrackTexts, read_track_files};
 use std::alloc::{AllocError, Global};
@@ -32,7 +28,8 @@ use td_indices::Archive;
 use td_query::{Marks, Tracker};
 use td_relation::Archs;
 use td_report::Transition;
-use td_rows::{Rows, read_state};
+use td_rows::Rows;
+use td_script::{InputFault as FormFault, put_state_over};
 
 /// What is to be told of a tracker.
 #[derive(Clone, Copy, Drop)]
@@ -92,28 +89,16 @@ fn or_no_memory(text: Result<String, AllocError>) -> Result<String, Ending>
     }
 }
 
-// The rows with others in the place of their own, if each of these has one.
-fn put_over(mut rows: Rows, given: Rows) -> Result<Rows, Ending>
-    ensures rows { IfOk result (λ new. new ≡ overlaid given rows) }
-    ensures none_missing { IfOk result (λ _. (k : Key) → first_missing rows given ≡ Some k → ⊥) }
-    ensures missing { IfErr result (λ ending.
-        (k : Key) × (first_missing rows given ≡ Some k) × (ending ≡ ending_of_missing_row)) }
-{
-    match rows.overlay(given) {
-        Ok(()) => Ok(rows),
-        Err(_) => Err(ending_of_missing_row()),
-    }
-}
-
-// The same, of the text of a state file.
+// The rows with those of a state file in the place of the ones of their keys.
 fn replaced(alloc: Global, rows: Rows, text: &str) -> Result<Rows, Ending>
-    ensures rows { IfOk result (IsReplaced rows text.now) }
+    requires { NoneBuilt rows }
+    ensures rows { IfOk result (IsReplacedIn rows text.now) }
     ensures refused { IfErr result (OrMemory (IsRefusedFor rows text.now)) }
     ensures only { IfErr result (λ ending. CanReplace rows text.now → ending ≡ Ending.NoMemory) }
 {
-    match read_state(alloc, text) {
-        Ok(given) => put_over(rows, given),
-        Err(fault) => Err(ending_of_state(fault)),
+    match put_state_over(alloc, rows, text) {
+        Ok(rows) => Ok(rows),
+        Err(fault) => Err(ending_of_stop(fault)),
     }
 }
 
@@ -251,7 +236,8 @@ fn archive_text(
         Ok(read) => tracker_says(rt, alloc, archive, state, &read, asked),
         Err(fault) => {
             let rows = rows_of(alloc, archive, state);
-            Err(first_told(rows, ending_of_tracker(fault)))
+            let refused = ending_of_form(FormFault::Tracker(fault));
+            Err(first_told(rows, refused))
         }
     }
 }
@@ -277,7 +263,7 @@ fn indices_text(
     let tracker = texts.tracker.as_str();
     match Archive::read_beside(rt, alloc, packages, sources, archs) {
         Ok(archive) => archive_text(rt, alloc, &archive, &texts.state, tracker, asked),
-        Err(fault) => Err(ending_of_archive(fault)),
+        Err(fault) => Err(ending_of_form(FormFault::Archive(fault))),
     }
 }
 
@@ -297,7 +283,7 @@ fn whole_text(
 {
     match Archs::read(alloc, texts.indices.archs.as_str()) {
         Ok(archs) => indices_text(rt, alloc, &archs, texts, asked),
-        Err(fault) => Err(ending_of_table(fault)),
+        Err(fault) => Err(ending_of_form(FormFault::Table(fault))),
     }
 }
 

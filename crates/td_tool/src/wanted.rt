@@ -1,6 +1,7 @@
 //! What is wanted in the place of what is refused.
 ghost use Rattle.std.specs.Prelude.{◌≡◌};
-ghost use Rattle.td_tool.specs.Wanted.{wanted_archive, wanted_field, wanted_input, wanted_journal};
+ghost use Rattle.td_tool.specs.Wanted.{wanted_archive, wanted_field, wanted_form, wanted_input};
+ghost use Rattle.td_tool.specs.Wanted.{wanted_journal};
 ghost use Rattle.td_tool.specs.Wanted.{wanted_key, wanted_simulation, wanted_stanza, wanted_state};
 ghost use Rattle.td_tool.specs.Wanted.{wanted_table, wanted_tracker};
 
@@ -10,6 +11,7 @@ use td_journal::ReadError;
 use td_query::{TrackerFault, TrackerKey};
 use td_relation::ArchsFault;
 use td_rows::StateFault;
+use td_script::InputFault as FormFault;
 use td_simulate::SimulationFault;
 use td_stanza::StanzaFault;
 
@@ -123,6 +125,20 @@ fn wanted_journal(fault: ReadError) -> &'static str
     }
 }
 
+// Of a text that isn't of its form.
+fn wanted_form(fault: FormFault) -> &'static str
+    ensures { result.now ≡ wanted_form fault }
+{
+    match fault {
+        FormFault::Table(fault) => wanted_table(fault),
+        FormFault::Archive(fault) => wanted_archive(fault),
+        FormFault::State(fault) => wanted_state(fault),
+        FormFault::NoSuchRow => "rows that the indices give",
+        FormFault::Tracker(fault) => wanted_tracker(fault),
+        FormFault::Journal(fault) => wanted_journal(fault),
+    }
+}
+
 /// What is wanted in the place of what a text is refused for.
 pub fn wanted(fault: InputFault) -> &'static str
     ensures { result.now ≡ wanted_input fault }
@@ -131,12 +147,7 @@ pub fn wanted(fault: InputFault) -> &'static str
         InputFault::TooLong => "standard input of at most 1048576 bytes",
         InputFault::NotText => "a text in UTF-8",
         InputFault::Simulation(fault) => wanted_simulation(fault),
-        InputFault::Table(fault) => wanted_table(fault),
-        InputFault::Archive(fault) => wanted_archive(fault),
-        InputFault::State(fault) => wanted_state(fault),
-        InputFault::NoSuchRow => "rows that the indices give",
-        InputFault::Tracker(fault) => wanted_tracker(fault),
         InputFault::BadOutcome(_) => "how a build ends, as KEY OUTCOME",
-        InputFault::Journal(fault) => wanted_journal(fault),
+        InputFault::Form(fault) => wanted_form(fault),
     }
 }

@@ -8,13 +8,13 @@ use Rattle.td_script.proofs.opening.rows_of.Goals as goal
 pub returns-in-Some-clause-refused : goal.returns-in-Some-clause-refused
 returns-in-Some-clause-refused c =
     refused_rows (texts_lent c.args.files.now) c.args.archive.now c.in-Ok.rows c.in-Some.text.now
-    c.replaced.result c.requires
+    c.put_state_over.result c.requires
     (record { same = c.in-Ok.ensures.rows; rising = c.len-rising.ensures.rising })
-    (ap (option_map (λ s. s.now)) c.in-Some.is) c.replaced.ensures.refused
+    (ap (option_map (λ s. s.now)) c.in-Some.is) c.put_state_over.ensures.refused
 
 pub returns-in-Some-clause-only : goal.returns-in-Some-clause-only
 returns-in-Some-clause-only c =
     rows_stop c.args.archive.now c.in-Ok.rows (texts_lent c.args.files.now).state c.in-Some.text.now
-    c.replaced.result
+    c.put_state_over.result
     (record { same = c.in-Ok.ensures.rows; rising = c.len-rising.ensures.rising })
-    c.replaced.ensures.only (ap (option_map (λ s. s.now)) c.in-Some.is)
+    c.put_state_over.ensures.only (ap (option_map (λ s. s.now)) c.in-Some.is)

@@ -23,14 +23,14 @@ returns-in-Ok-clause-only g c =
 pub returns-in-Err-clause-refused : goal.returns-in-Err-clause-refused
 returns-in-Err-clause-refused g c =
     no_tracker_refused c.args.archive.now _ c.args.tracker.now c.rows_of-rows.result
-    c.ending_of_tracker.result c.first_told.result c.rows_of-rows.ensures.rows
+    c.ending_of_form-refused.result c.first_told.result c.rows_of-rows.ensures.rows
     c.rows_of-rows.ensures.none
-    (c.in-Err.fault, c.in-Err.ensures.fault, c.ending_of_tracker.ensures)
+    (c.in-Err.fault, c.in-Err.ensures.fault, c.ending_of_form-refused.ensures)
     c.first_told.ensures.ok c.first_told.ensures.err
 
 pub returns-in-Err-clause-only : goal.returns-in-Err-clause-only
 returns-in-Err-clause-only g c =
     no_tracker_stops c.args.archive.now _ c.args.tracker.now c.rows_of-rows.result
-    c.ending_of_tracker.result c.first_told.result c.rows_of-rows.ensures.none
-    (λ t is. (c.in-Err.fault, c.in-Err.ensures.only t is, c.ending_of_tracker.ensures))
+    c.ending_of_form-refused.result c.first_told.result c.rows_of-rows.ensures.none
+    (λ t is. (c.in-Err.fault, c.in-Err.ensures.only t is, c.ending_of_form-refused.ensures))
     c.first_told.ensures.ok c.first_told.ensures.err

@@ -1,6 +1,7 @@
 -- `indices_text`: the clauses `found`, `refused` and `only`.
 use Rattle.std.proofs.Common.{ap, refl, ◌∙◌}
-use Rattle.td_tool.specs.Ending.{ending_of_archive}
+use Rattle.td_script.specs.declared.input_fault.InputFault.TheVariants as form
+use Rattle.td_tool.specs.Ending.{ending_of_form}
 use Rattle.td_relation.specs.TableView.{table}
 use Rattle.td_tool.specs.TrackInside.{saying_of, texts_of}
 use Rattle.td_tool.proofs.Told.{indices_say, indices_refuse, indices_bad}
@@ -25,7 +26,7 @@ pub returns-in-Err-clause-refused : goal.returns-in-Err-clause-refused
 returns-in-Err-clause-refused g c =
     indices_bad (table c.args.archs.now) (texts_of c.args.texts.now) c.in-Err.fault _ _ _
     c.as_str-packages.ensures.value c.as_str-sources.ensures.value c.in-Err.ensures.fault
-    c.ending_of_archive.ensures
+    c.ending_of_form.ensures
 
 pub returns-in-Ok-clause-only : goal.returns-in-Ok-clause-only
 returns-in-Ok-clause-only g c =
@@ -36,6 +37,7 @@ returns-in-Ok-clause-only g c =
 
 pub returns-in-Err-clause-only : goal.returns-in-Err-clause-only
 returns-in-Err-clause-only g c =
-    no_indices (table c.args.archs.now) (texts_of c.args.texts.now) c.ending_of_archive.result _ _
+    no_indices (table c.args.archs.now) (texts_of c.args.texts.now) c.ending_of_form.result _ _
     c.as_str-packages.ensures.value c.as_str-sources.ensures.value
-    (λ a is. c.ending_of_archive.ensures ∙ ap ending_of_archive (c.in-Err.ensures.only a is))
+    (λ a is. c.ending_of_form.ensures
+    ∙ ap (λ e. ending_of_form (form.Archive e)) (c.in-Err.ensures.only a is))

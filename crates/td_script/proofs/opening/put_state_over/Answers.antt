@@ -1,4 +1,4 @@
--- `replaced`: its clauses.
+-- `put_state_over`: its clauses.
 use Rattle.std.proofs.Common.{◌∙◌, ap, sym, subst}
 use Rattle.td_core.specs.Phases.{NoneBuilt}
 use Rattle.td_core.proofs.Openings.{NoneBuilt-state_file}
@@ -7,7 +7,7 @@ use Rattle.td_script.specs.declared.input_fault.InputFault.TheVariants as fault
 use Rattle.td_script.specs.OpeningInside.{of_input}
 use Rattle.td_script.proofs.OnlyLaws.{missing_stops}
 use Rattle.td_script.proofs.OpeningLaws.{missing_key, none_built_over}
-use Rattle.td_script.proofs.opening.replaced.Goals as goal
+use Rattle.td_script.proofs.opening.put_state_over.Goals as goal
 
 pub returns-in-Ok-overlay-clause-rows : goal.returns-in-Ok-overlay-clause-rows
 returns-in-Ok-overlay-clause-rows c = record {
