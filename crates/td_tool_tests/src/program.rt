@@ -37,7 +37,7 @@ impl Write for Narrow {
 
 // Gives some bytes, and then fails.
 #[derive(Drop)]
-pub struct Breaking<'a>(pub &'a [u8]);
+pub(crate) struct Breaking<'a>(pub &'a [u8]);
 
 impl Read for Breaking<'_> {
     fn read(&mut self, buffer: &mut [u8]) -> io::Result<usize> {
@@ -61,7 +61,7 @@ fn words(alloc: Global, line: &str) -> Result<Vec<String>, AllocError> {
 
 // Files in memory: their paths, and their bytes.
 #[derive(Clone, Copy, Drop)]
-pub struct Shelf<'a>(pub &'a [(&'a str, &'a [u8])]);
+pub(crate) struct Shelf<'a>(pub &'a [(&'a str, &'a [u8])]);
 
 impl Texts for Shelf<'_> {
     ghost bytes = { λ _ _. None };
@@ -80,7 +80,7 @@ impl Texts for Shelf<'_> {
 }
 
 // What the program answers and writes, as `STATUS OUTPUT|FAULTS`.
-pub fn ran<R: Read>(
+pub(crate) fn ran<R: Read>(
     rt: &(impl Threads + Wait + Sync),
     alloc: Global,
     line: &str,
@@ -247,12 +247,12 @@ fn words_that_ask_for_nothing_are_answered_on_the_faults(rt: HostRuntime) -> Res
 }
 
 // examples/foobar.archs, foobar.packages and foobar.sources.
-pub const ARCHS: &str = "amd64 linux amd64\ni386 linux i386\n";
+pub(crate) const ARCHS: &str = "amd64 linux amd64\ni386 linux i386\n";
 
-pub const PACKAGES: &str =
+pub(crate) const PACKAGES: &str =
     "Package: libfoo1\nSource: foo\nVersion: 1.2-3\nArchitecture: amd64\n\nPackage: libfoo1\nSource: foo (1.2-3)\nVersion: 1.2-3+b1\nArchitecture: i386\n\nPackage: libbar-dev\nSource: bar\nVersion: 2.0-1\nArchitecture: amd64\n\nPackage: libbar-dev\nSource: bar\nVersion: 2.0-1\nArchitecture: i386\n";
 
-pub const SOURCES: &str =
+pub(crate) const SOURCES: &str =
     "Package: foo\nVersion: 1.2-3\nArchitecture: any\nBuild-Depends: libbar-dev\n\nPackage: bar\nVersion: 2.0-1\nArchitecture: any\n";
 
 // What the program answers and writes of these three files; a path in capitals has none.
@@ -325,7 +325,7 @@ fn the_file_that_is_refused_is_named(rt: HostRuntime) -> Result<(), Fail> {
     Ok(())
 }
 
-pub fn bytes_of(text: &str) -> &[u8] {
+pub(crate) fn bytes_of(text: &str) -> &[u8] {
     if text == "\u{ff}" {
         b"\xff"
     } else {
