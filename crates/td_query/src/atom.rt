@@ -1,5 +1,6 @@
 //! How the parts of a query without `&`, `|` and `!` are read.
-ghost use Rattle.std.specs.Prelude.{◌<◌, ◌≤◌, IfOk, List, length, map};
+ghost use Rattle.std.specs.Prelude.{◌<◌, ◌≤◌, ◌≢◌, IfErr, IfOk, List, length, map};
+ghost use Rattle.td_query.specs.declared.read_fault.ReadFault.{ReadFault};
 ghost use Rattle.td_query.specs.declared.read_fault.RawPattern.{RawPattern};
 ghost use Rattle.td_query.specs.QueryGrammar.{atom, field_atom, slash_atom, tilde_atom};
 ghost use Rattle.td_query.specs.QueryGrammar.{word_atom};
@@ -16,6 +17,7 @@ use td_text::{cut_at, strip};
 fn read_word(at: &str) -> Result<(Query<'_>, &str), ReadFault>
     ensures gives { (log : List RawPattern) → Gives result log (word_atom (map raw_of log) at.now) }
     ensures shorter { IfOk result (λ x. length x.1.now < length at.now) }
+    ensures certain { IfErr result (λ e. e ≢ ReadFault.NoMemory) }
 {
     let (word, rest) = word_run(at);
     match word {

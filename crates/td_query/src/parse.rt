@@ -1,5 +1,7 @@
 //! How a query is read: `!` binds before `&`, and `&` before `|`.
-ghost use Rattle.std.specs.Prelude.{◌<◌, ◌≡◌, List, length, IfOk, IfSome, map, option_map};
+ghost use Rattle.std.specs.Prelude.{◌<◌, ◌≡◌, ◌≢◌, List, length, IfErr, IfOk, IfSome, map};
+ghost use Rattle.std.specs.Prelude.{option_map};
+ghost use Rattle.td_query.specs.declared.read_fault.ReadFault.{ReadFault};
 ghost use Rattle.td_query.specs.declared.read_fault.RawPattern.{RawPattern};
 ghost use Rattle.td_query.specs.Query.{shape_of};
 ghost use Rattle.td_query.specs.QueryGrammar.{behind_mark, closed, not_at, or_at};
@@ -32,6 +34,7 @@ fn close<'a>(inner: Query<'a>, text: &'a str) -> Result<(Query<'a>, &'a str), Re
     ensures gives { (log : List RawPattern)
         → Gives result log (closed (shape_of inner.entry, map raw_of log, text.now)) }
     ensures shorter { IfOk result (λ x. length x.1.now < length text.now) }
+    ensures certain { IfErr result (λ e. e ≢ ReadFault.NoMemory) }
 {
     let at = skip(text);
     match strip(at, ")") {

@@ -1,5 +1,7 @@
 //! How a tracker is read.
-ghost use Rattle.std.specs.Prelude.{◌≡◌, ◌≤◌, ◌<◌, IfOk, IfSome, length, option_map, codes};
+ghost use Rattle.std.specs.Prelude.{◌≡◌, ◌≢◌, ◌≤◌, ◌<◌, IfErr, IfOk, IfSome, length, option_map};
+ghost use Rattle.std.specs.Prelude.{codes};
+ghost use Rattle.td_query.specs.declared.read_fault.ReadFault.{ReadFault};
 ghost use Rattle.td_text.specs.Cut.{strip as strip_of};
 ghost use Rattle.td_query.specs.Tokens.{skipped};
 ghost use Rattle.td_query.specs.TrackerGrammar.{ended as ended_of, entries, entry_at};
@@ -42,6 +44,7 @@ fn read_title<'a>(text: &'a str, keys: &mut Keys<'a>) -> Result<&'a str, ReadFau
     ensures gives { GivesSaid result keys.new (title_value (said keys.old)
         (length (skipped text.now)) (strip_of (codes "\"") (skipped text.now))) }
     ensures shorter { IfOk result (λ x. length x.now ≤ length text.now) }
+    ensures certain { IfErr result (λ e. e ≢ ReadFault.NoMemory) }
 {
     let at = skip(text);
     match strip(at, "\"") {
@@ -119,6 +122,7 @@ fn read_value<'a>(
 fn read_end<'a>(text: &'a str, keys: &Keys<'a>) -> Result<&'a str, ReadFault>
     ensures gives { GivesSaid result keys.now (ended_of (said keys.now, text.now)) }
     ensures shorter { IfOk result (λ x. length x.now ≤ length text.now) }
+    ensures certain { IfErr result (λ e. e ≢ ReadFault.NoMemory) }
 {
     let at = skip(text);
     match strip(at, ";") {
