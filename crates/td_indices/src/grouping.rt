@@ -1,5 +1,5 @@
 //! The binary packages are put under their sources, and found there by architecture.
-ghost use Rattle.std.specs.Prelude.{◌≡◌, ◌⊎◌, ◌≤◌, ◌<◌, ℕ, List, Some, IfOk, IfErr};
+ghost use Rattle.std.specs.Prelude.{◌≡◌, ◌⊎◌, ◌≤◌, ◌<◌, ℕ, List, Some, IfOk, IfErr, IsErrOf};
 ghost use Rattle.std.specs.Prelude.{filter, slice_get};
 ghost use Rattle.std.specs.Option.{option_map_or};
 ghost use Rattle.std.specs.Prelude.{false};
@@ -52,6 +52,8 @@ pub fn grouped_and_counted<'a>(
     ensures rows { IfOk result (λ p.
         p.1 ≡ row_count (table archs.now) (sources_of sources.now.entries)) }
     ensures limited { IfOk result (λ p. p.1 ≤ max_rows) }
+    ensures counted { max_rows < row_count (table archs.now) (sources_of sources.now.entries)
+        → IsErrOf result ArchiveFault.TooManyRows }
     ensures fault { IfErr result (λ e. (e ≡ ArchiveFault.NoMemory) ⊎ ((e ≡ ArchiveFault.TooManyRows)
         × (max_rows < row_count (table archs.now) (sources_of sources.now.entries)))) }
 {
