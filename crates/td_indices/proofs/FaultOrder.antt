@@ -1,6 +1,6 @@
 -- In which order the faults of a stanza come.
 use Rattle.std.proofs.Common.{◌≡◌, ◌⊎◌, ℕ, ◌≤◌, ◌==◌, Bool, true, false, cond, List, Option, Some}
-use Rattle.std.proofs.Common.{None, length, Result, Ok, Err, refl, sym, ap, subst, ◌∙◌, inl, inr, arith}
+use Rattle.std.proofs.Common.{None, length, Result, Ok, Err, refl, ap, subst, inl, inr, arith}
 use Rattle.std.specs.Prelude.{codes}
 use Rattle.td_text.specs.Cut.{cut}
 use Rattle.td_text.specs.Lines.{on_ok}
@@ -21,14 +21,16 @@ use Rattle.td_indices.specs.declared.archive_fault.IndexField.TheVariants.{Archi
 use Rattle.td_indices.specs.Binaries.{BinaryPackage, bracketed, front_name, home_of, if_here}
 use Rattle.td_indices.specs.Binaries.{local_at, named_front, origin_of, package_at, source_text}
 use Rattle.td_indices.specs.Binaries.{source_version}
-use Rattle.td_indices.specs.FaultLaws.{HasNeeded, PackageFaultsComeInOrder}
-use Rattle.td_indices.specs.FaultLaws.{SourceFaultsComeInOrder}
+use Rattle.td_indices.specs.FaultLaws.{PackageFaultsComeInOrder, SourceFaultsComeInOrder}
 use Rattle.td_indices.specs.Fields.{name_in, needed, value_of, version_in, version_or_bad}
-use Rattle.td_indices.specs.Kept.{KeptBinary, binary_at, with_relations}
+use Rattle.td_indices.specs.Kept.{binary_at, with_relations}
+use Rattle.td_indices.specs.Needed.{HasNeeded}
 use Rattle.td_indices.specs.PackageStanzas.{IsPackage}
 use Rattle.td_indices.specs.Sources.{KeptSource, SourcePackage, is_extra, kept_source_at, source_at}
 use Rattle.td_indices.specs.Sources.{whole_source_at, with_build_relations}
-use Rattle.td_indices.proofs.PackageStanzas.{name_found, needed_found, package_found, version_found}
+use Rattle.td_indices.proofs.Needed.{needed_bad, needed_read, needed_then}
+use Rattle.td_indices.proofs.PackageStanzas.{package_found, package_needs, version_found}
+use Rattle.td_indices.proofs.SourceStanzas.{versioned}
 
 -- ---- how late a fault comes
 
@@ -129,50 +131,34 @@ here_low fields name version None = tt
 here_low fields name version (Some home) =
     chain 1 (local_at fields name version home) _ (local_low fields name version home) (λ p. tt)
 
-package_low : (table : List ArchWords) (fields : List Entry) → FailsBy 1 (package_at table fields)
-unfolding package_at
-package_low table fields =
+-- what is needed is read first
+behind_low : {A : Type 0} (fields : List Entry)
+    (next : List ℕ → List ℕ → List ℕ → Result A EntryFault)
+    → ((name version arch : List ℕ) → FailsBy 1 (next name version arch))
+    → FailsBy 1 (needed_then fields next)
+behind_low fields next low =
     chain 1 (name_in Package (value_of fields (codes "Package"))) _
     (later _ (name_low Package (value_of fields (codes "Package")))) (λ name.
     chain 1 (needed Version (value_of fields (codes "Version"))) _
     (later _ (needed_low Version (value_of fields (codes "Version")))) (λ version.
     chain 1 (needed Architecture (value_of fields (codes "Architecture"))) _
-    (later _ (needed_low Architecture (value_of fields (codes "Architecture")))) (λ arch.
-    here_low fields name version (home_of table arch))))
+    (later _ (needed_low Architecture (value_of fields (codes "Architecture"))))
+    (λ arch. low name version arch)))
+
+package_low : (table : List ArchWords) (fields : List Entry) → FailsBy 1 (package_at table fields)
+unfolding package_at
+package_low table fields =
+    behind_low fields (λ name version arch. if_here fields name version (home_of table arch))
+    (λ name version arch. here_low fields name version (home_of table arch))
 
 head_low : (fields : List Entry) → FailsBy 1 (source_at fields)
 unfolding source_at
 head_low fields =
-    chain 1 (name_in Package (value_of fields (codes "Package"))) _
-    (later _ (name_low Package (value_of fields (codes "Package")))) (λ name.
-    chain 1 (needed Version (value_of fields (codes "Version"))) _
-    (later _ (needed_low Version (value_of fields (codes "Version")))) (λ version.
-    chain 1 (needed Architecture (value_of fields (codes "Architecture"))) _
-    (later _ (needed_low Architecture (value_of fields (codes "Architecture")))) (λ archs.
-    chain 1 (version_in version) _ (version_low version) (λ parts. tt))))
-
-too_early : {A : Type 0} (r : Result A EntryFault) → FailsBy 0 r → r ≡ Err BadVersion → ⊥
-too_early r low h = let bad = fails 0 r BadVersion low h in omega (arith, bad)
+    behind_low fields versioned (λ name version arch.
+    chain 1 (version_in version) _ (version_low version) (λ parts. tt))
 
 too_late : {A : Type 0} (r : Result A EntryFault) → FailsBy 1 r → r ≡ Err BadRelation → ⊥
 too_late r low h = let bad = fails 1 r BadRelation low h in omega (arith, bad)
-
--- ---- what a stanza has before a fault
-
-has_needed : (fields : List Entry) (name version arch : List ℕ)
-    → name_in Package (value_of fields (codes "Package")) ≡ Ok name
-    → needed Version (value_of fields (codes "Version")) ≡ Ok version
-    → needed Architecture (value_of fields (codes "Architecture")) ≡ Ok arch
-    → HasNeeded fields version arch
-has_needed fields name version arch h k l =
-    let named = name_found Package (value_of fields (codes "Package")) name h in
-    record {
-      name = name;
-      named = named.0;
-      legal = named.1;
-      versioned = needed_found Version (value_of fields (codes "Version")) version k;
-      there = needed_found Architecture (value_of fields (codes "Architecture")) arch l;
-    }
 
 -- ---- packages
 
@@ -191,24 +177,9 @@ package_fails : (table : List ArchWords) (fields : List Entry)
     → package_at table fields ≡ Err BadVersion → NeededHere table fields
 unfolding package_at
 package_fails table fields e =
-    elim (failing (name_in Package (value_of fields (codes "Package"))) _ BadVersion e) [
-      | inl bad ↦ absurd (too_early _ (name_low Package (value_of fields (codes "Package"))) bad)
-      | inr name ↦
-          elim (failing (needed Version (value_of fields (codes "Version"))) _ BadVersion name.2) [
-            | inl bad ↦
-                absurd (too_early _ (needed_low Version (value_of fields (codes "Version"))) bad)
-            | inr version ↦
-                elim (failing (needed Architecture (value_of fields (codes "Architecture"))) _
-                BadVersion version.2) [
-                  | inl bad ↦
-                      absurd (too_early _
-                      (needed_low Architecture (value_of fields (codes "Architecture"))) bad)
-                  | inr arch ↦
-                      here_fails table fields name.0 version.0 arch.0 (home_of table arch.0) refl
-                      (has_needed fields name.0 version.0 arch.0 name.1 version.1 arch.1) arch.2
-                ]
-          ]
-    ]
+    let p = needed_bad fields
+    (λ name version arch. if_here fields name version (home_of table arch)) e in
+    here_fails table fields p.has.name p.version p.arch (home_of table p.arch) refl p.has p.behind
 
 of_package : (table : List ArchWords) (fields : List Entry) (p : BinaryPackage)
     → IsPackage table fields p → NeededHere table fields
@@ -216,13 +187,7 @@ of_package table fields p h = (
   p.version,
   h.arch,
   p.home,
-  record {
-    name = p.name;
-    named = h.name;
-    legal = h.legal;
-    versioned = h.version;
-    there = h.there;
-  },
+  package_needs table fields p h,
   h.here,
 )
 
@@ -255,42 +220,16 @@ head_found : (fields : List Entry) (head : SourcePackage) → source_at fields �
     × IsVersion version parts
 unfolding source_at
 head_found fields head e =
-    let name = on_ok_parts (name_in Package (value_of fields (codes "Package"))) _ head e in
-    let version = on_ok_parts (needed Version (value_of fields (codes "Version"))) _ head name.2 in
-    let arch = on_ok_parts (needed Architecture (value_of fields (codes "Architecture"))) _ head
-    version.2 in
-    let parts = on_ok_parts (version_in version.0) _ head arch.2 in (
-      version.0,
-      arch.0,
-      parts.0,
-      has_needed fields name.0 version.0 arch.0 name.1 version.1 arch.1,
-      version_found version.0 parts.0 parts.1,
-    )
+    let p = needed_read fields versioned head e in
+    let parts = on_ok_parts (version_in p.version) _ head p.behind in
+    (p.version, p.arch, parts.0, p.has, version_found p.version parts.0 parts.1)
 
 head_fails : (fields : List Entry) → source_at fields ≡ Err BadVersion
     → (version arch : List ℕ) × HasNeeded fields version arch
 unfolding source_at
 head_fails fields e =
-    elim (failing (name_in Package (value_of fields (codes "Package"))) _ BadVersion e) [
-      | inl bad ↦ absurd (too_early _ (name_low Package (value_of fields (codes "Package"))) bad)
-      | inr name ↦
-          elim (failing (needed Version (value_of fields (codes "Version"))) _ BadVersion name.2) [
-            | inl bad ↦
-                absurd (too_early _ (needed_low Version (value_of fields (codes "Version"))) bad)
-            | inr version ↦
-                elim (failing (needed Architecture (value_of fields (codes "Architecture"))) _
-                BadVersion version.2) [
-                  | inl bad ↦
-                      absurd (too_early _
-                      (needed_low Architecture (value_of fields (codes "Architecture"))) bad)
-                  | inr arch ↦ (
-                    version.0,
-                    arch.0,
-                    has_needed fields name.0 version.0 arch.0 name.1 version.1 arch.1,
-                  )
-                ]
-          ]
-    ]
+    let p = needed_bad fields versioned e in
+    (p.version, p.arch, p.has)
 
 ok_fails : (s : KeptSource) (e : EntryFault)
     → ◌≡◌ {A = Result (Option KeptSource) EntryFault} (Ok (Some s)) (Err e) → ⊥

@@ -1,6 +1,6 @@
 -- What the proofs of this crate share: a file a thing.
 pub mod WordCuts
-pub mod FieldValues
+mod FieldValues
 pub mod Putting
 pub mod Keeping
 pub mod SourceKeeping
@@ -23,6 +23,7 @@ pub mod FirstFaults
 pub mod Refusals
 pub mod OpeningLaws
 pub mod OpeningCounts
+mod Needed
 pub mod PackageStanzas
 pub mod OfferLaws
 pub mod SourceStanzas

@@ -25,39 +25,17 @@ use Rattle.td_text.proofs.RunTexts.{NoSpace, behind_again, run_again}
 use Rattle.td_relation.proofs.VersionBytes.{version_bytes}
 use Rattle.td_indices.specs.declared.archive_fault.EntryFault.{EntryFault}
 use Rattle.td_indices.specs.declared.archive_fault.EntryFault.TheVariants.{Missing, BadVersion}
-use Rattle.td_indices.specs.declared.archive_fault.IndexField.{IndexField}
-use Rattle.td_indices.specs.declared.archive_fault.IndexField.TheVariants.{Package, Version}
-use Rattle.td_indices.specs.declared.archive_fault.IndexField.TheVariants.{Architecture, Source}
+use Rattle.td_indices.specs.declared.archive_fault.IndexField.TheVariants.{Source}
 use Rattle.td_indices.specs.Binaries.{BinaryPackage, bracketed, front_name, home_of, if_here}
 use Rattle.td_indices.specs.Binaries.{local_at, named_front, origin_of, package_at, source_text}
 use Rattle.td_indices.specs.Binaries.{source_version}
-use Rattle.td_indices.specs.Fields.{name_in, needed, value_of, version_in, version_or_bad}
+use Rattle.td_indices.specs.Fields.{value_of, version_in, version_or_bad}
+use Rattle.td_indices.specs.Needed.{HasNeeded}
 use Rattle.td_indices.specs.PackageStanzas.{HasSource, IsName, IsNameWithVersion, IsPackage}
 use Rattle.td_indices.specs.PackageStanzas.{PackagesAreExact}
+use Rattle.td_indices.proofs.Needed.{needed_again, needed_read}
 
 -- ---- fields
-
-pub name_found : (field : IndexField) (o : Option (List ℕ)) (name : List ℕ)
-    → name_in field o ≡ Ok name → (o ≡ Some name) × (is_name name ≡ true)
-name_found field None name e = absurd cc
-name_found field (Some text) name e = by (is_name text) refl e
-  where
-    by : (b : Bool) → is_name text ≡ b → cond b (Ok text) (Err (Missing field)) ≡ Ok name
-        → (Some text ≡ Some name) × (is_name name ≡ true)
-    by true is k =
-        let same = ok_is EntryFault text name k in
-        (ap (λ (t : List ℕ). Some t) same, ap is_name (sym same) ∙ is)
-    by false is k = absurd cc
-
-pub name_again : (field : IndexField) (o : Option (List ℕ)) (name : List ℕ) → o ≡ Some name
-    → is_name name ≡ true → name_in field o ≡ Ok name
-name_again field o name e legal =
-    ap (name_in field) e ∙ ap (λ (b : Bool). cond b (Ok name) (Err (Missing field))) legal
-
-pub needed_found : (field : IndexField) (o : Option (List ℕ)) (text : List ℕ)
-    → needed field o ≡ Ok text → o ≡ Some text
-needed_found field None text e = absurd cc
-needed_found field (Some t) text e = ap (λ (x : List ℕ). Some x) (ok_is EntryFault t text e)
 
 version_read : (r : Result Parts VersionFault) (parts : Parts) → version_or_bad r ≡ Ok parts
     → r ≡ Ok parts
@@ -298,17 +276,11 @@ pub package_found : (table : List ArchWords) (fields : List Entry) (p : BinaryPa
     → package_at table fields ≡ Ok (Some p) → IsPackage table fields p
 unfolding package_at
 package_found table fields p e =
-    let name = on_ok_parts (name_in Package (value_of fields (codes "Package"))) _ (Some p) e in
-    let version =
-    on_ok_parts (needed Version (value_of fields (codes "Version"))) _ (Some p) name.2 in
-    let arch = on_ok_parts (needed Architecture (value_of fields (codes "Architecture"))) _
-    (Some p) version.2 in
-    let here = here_found fields name.0 version.0 (home_of table arch.0) p arch.2 in
-    let named = name_found Package (value_of fields (codes "Package")) name.0 name.1 in
-    local_found table fields name.0 version.0 arch.0 here.home p named.0 named.1
-    (needed_found Version (value_of fields (codes "Version")) version.0 version.1)
-    (needed_found Architecture (value_of fields (codes "Architecture")) arch.0 arch.1) here.is
-    here.read
+    let at = needed_read fields
+    (λ name version arch. if_here fields name version (home_of table arch)) (Some p) e in
+    let here = here_found fields at.has.name at.version (home_of table at.arch) p at.behind in
+    local_found table fields at.has.name at.version at.arch here.home p at.has.named at.has.legal
+    at.has.versioned at.has.there here.is here.read
 
 local_again : (table : List ArchWords) (fields : List Entry) (p : BinaryPackage)
     → IsPackage table fields p → local_at fields p.name p.version p.home ≡ Ok p
@@ -321,18 +293,24 @@ local_again table fields p h =
     let source_parts = source.version in
     rw (origin, parts, source_parts) refl
 
+abbrev pub package_needs : (table : List ArchWords) (fields : List Entry) (p : BinaryPackage)
+    (h : IsPackage table fields p) → HasNeeded fields p.version h.arch
+package_needs table fields p h = record {
+  name = p.name;
+  named = h.name;
+  legal = h.legal;
+  versioned = h.version;
+  there = h.there;
+}
+
 pub package_again : (table : List ArchWords) (fields : List Entry) (p : BinaryPackage)
     → IsPackage table fields p → package_at table fields ≡ Ok (Some p)
 unfolding package_at
 package_again table fields p h =
-    let name = name_again Package (value_of fields (codes "Package")) p.name h.name h.legal in
-    let version : needed Version (value_of fields (codes "Version")) ≡ Ok p.version =
-    ap (needed Version) h.version in
-    let arch : needed Architecture (value_of fields (codes "Architecture")) ≡ Ok h.arch =
-    ap (needed Architecture) h.there in
     let here = h.here in
     let local = local_again table fields p h in
-    rw (name, version, arch, here, local) refl
+    needed_again fields (λ name version arch. if_here fields name version (home_of table arch))
+    p.version h.arch (package_needs table fields p h) ∙ rw (here, local) refl
 
 pub packages_are_exact : PackagesAreExact
 packages_are_exact table fields p = (package_found table fields p, package_again table fields p)

@@ -1,6 +1,6 @@
 -- Which stanzas are skipped: those of packages elsewhere, and of extra sources.
 use Rattle.std.proofs.Common.{◌≡◌, ℕ, Bool, true, false, cond, List, Option, Some, None}
-use Rattle.std.proofs.Common.{Result, Ok, refl, sym, ap, ◌∙◌}
+use Rattle.std.proofs.Common.{Result, Ok, refl, ap, ◌∙◌}
 use Rattle.std.specs.Prelude.{codes}
 use Rattle.std.specs.Str.{bytes_eq}
 use Rattle.std.specs.Option.{option_map_or}
@@ -10,18 +10,16 @@ use Rattle.td_text.proofs.Chain.{on_ok_parts, some_is}
 use Rattle.td_stanza.specs.Field.{Entry}
 use Rattle.td_relation.specs.Arch.{ArchWords}
 use Rattle.td_indices.specs.declared.archive_fault.EntryFault.{EntryFault}
-use Rattle.td_indices.specs.declared.archive_fault.IndexField.TheVariants.{Package, Version}
-use Rattle.td_indices.specs.declared.archive_fault.IndexField.TheVariants.{Architecture}
 use Rattle.td_indices.specs.Binaries.{BinaryPackage, home_of, if_here, local_at, package_at}
-use Rattle.td_indices.specs.Fields.{name_in, needed, value_of}
-use Rattle.td_indices.specs.Kept.{KeptBinary, binary_at, provides_at, with_relations}
+use Rattle.td_indices.specs.Fields.{value_of}
+use Rattle.td_indices.specs.Kept.{binary_at, provides_at, with_relations}
 use Rattle.td_indices.specs.PackageStanzas.{IsElsewhere, SkippedPackagesAreExact}
 use Rattle.td_indices.specs.SourceStanzas.{SkippedSourcesAreExact}
-use Rattle.td_indices.specs.Sources.{KeptSource, is_extra, kept_source_at, whole_source_at}
-use Rattle.td_indices.proofs.PackageStanzas.{name_again, name_found, needed_found}
+use Rattle.td_indices.specs.Sources.{is_extra, kept_source_at, whole_source_at}
+use Rattle.td_indices.proofs.Needed.{needed_again, needed_read}
 
-some_not_none : {A : Type 0} (x : A) → ◌≡◌ {A = Result (Option A) EntryFault} (Ok (Some x)) (Ok None)
-    → ⊥
+some_not_none : {A : Type 0} (x : A)
+    → ◌≡◌ {A = Result (Option A) EntryFault} (Ok (Some x)) (Ok None) → ⊥
 some_not_none x e = cc
 
 -- ---- packages
@@ -37,20 +35,13 @@ package_skipped : (table : List ArchWords) (fields : List Entry) → package_at 
     → IsElsewhere table fields
 unfolding package_at
 package_skipped table fields e =
-    let name = on_ok_parts (name_in Package (value_of fields (codes "Package"))) _ None e in
-    let version = on_ok_parts (needed Version (value_of fields (codes "Version"))) _ None name.2 in
-    let arch =
-    on_ok_parts (needed Architecture (value_of fields (codes "Architecture"))) _ None version.2 in
-    let is_named = name_found Package (value_of fields (codes "Package")) name.0 name.1 in
+    let p = needed_read fields
+    (λ name version arch. if_here fields name version (home_of table arch)) None e in
     record {
-      name = name.0;
-      version = version.0;
-      arch = arch.0;
-      named = is_named.0;
-      legal = is_named.1;
-      versioned = needed_found Version (value_of fields (codes "Version")) version.0 version.1;
-      there = needed_found Architecture (value_of fields (codes "Architecture")) arch.0 arch.1;
-      elsewhere = nowhere fields name.0 version.0 (home_of table arch.0) arch.2;
+      version = p.version;
+      arch = p.arch;
+      has = p.has;
+      elsewhere = nowhere fields p.has.name p.version (home_of table p.arch) p.behind;
     }
 
 binary_skipped : (table : List ArchWords) (number : ℕ) (fields : List Entry)
@@ -73,13 +64,9 @@ elsewhere_skipped : (table : List ArchWords) (number : ℕ) (fields : List Entry
     → IsElsewhere table fields → binary_at table number fields ≡ Ok None
 unfolding binary_at package_at
 elsewhere_skipped table number fields h =
-    let name = name_again Package (value_of fields (codes "Package")) h.name h.named h.legal in
-    let version : needed Version (value_of fields (codes "Version")) ≡ Ok h.version =
-    ap (needed Version) h.versioned in
-    let arch : needed Architecture (value_of fields (codes "Architecture")) ≡ Ok h.arch =
-    ap (needed Architecture) h.there in
-    let elsewhere = h.elsewhere in
-    rw (name, version, arch, elsewhere) refl
+    ap (λ (o : Result (Option BinaryPackage) EntryFault). on_ok o (with_relations number fields))
+    (needed_again fields (λ name version arch. if_here fields name version (home_of table arch))
+    h.version h.arch h.has ∙ ap (if_here fields h.has.name h.version) h.elsewhere)
 
 pub skipped_packages_are_exact : SkippedPackagesAreExact
 skipped_packages_are_exact table number fields =

@@ -11,16 +11,15 @@ use Rattle.td_text.proofs.Chain.{ok_is, on_ok_parts, some_is}
 use Rattle.td_stanza.specs.Field.{Entry}
 use Rattle.td_relation.specs.Arch.{ArchWords}
 use Rattle.td_indices.specs.declared.archive_fault.EntryFault.{EntryFault}
-use Rattle.td_indices.specs.declared.archive_fault.IndexField.TheVariants.{Package, Version}
-use Rattle.td_indices.specs.declared.archive_fault.IndexField.TheVariants.{Architecture}
 use Rattle.td_indices.specs.Binaries.{BinaryPackage, package_at}
-use Rattle.td_indices.specs.Fields.{name_in, needed, relation_in, value_of, version_in}
+use Rattle.td_indices.specs.Fields.{relation_in, value_of, version_in}
 use Rattle.td_indices.specs.Kept.{KeptBinary, binary_at, provides_at, with_relations}
 use Rattle.td_indices.specs.PackageStanzas.{IsKeptPackage, KeptPackagesAreExact}
 use Rattle.td_indices.specs.SourceStanzas.{IsKeptSource, KeptSourcesAreExact}
 use Rattle.td_indices.specs.Sources.{KeptSource, SourcePackage, is_extra, kept_source_at, source_at}
 use Rattle.td_indices.specs.Sources.{whole_source_at, with_build_relations}
-use Rattle.td_indices.proofs.PackageStanzas.{name_again, name_found, needed_found, package_again}
+use Rattle.td_indices.proofs.Needed.{needed_again, needed_read}
+use Rattle.td_indices.proofs.PackageStanzas.{package_again}
 use Rattle.td_indices.proofs.PackageStanzas.{package_found, version_again, version_found}
 
 kept_some : {A : Type 0} (x y : A)
@@ -94,6 +93,12 @@ yes_again (Some text) h =
       | inr other ↦ other
     ]
 
+-- the version of a source, and the source
+abbrev pub versioned : List ℕ → List ℕ → List ℕ → Result SourcePackage EntryFault
+versioned name version archs =
+    on_ok (version_in version) (λ parts.
+    Ok (record { name = name; version = version; parts = parts; archs = archs }))
+
 own_found : (number : ℕ) (fields : List Entry) (s : KeptSource) → is_extra fields ≡ false
     → whole_source_at number fields ≡ Ok s → IsKeptSource number fields s
 unfolding whole_source_at source_at with_build_relations
@@ -102,26 +107,21 @@ own_found number fields s own e =
     let depends = on_ok_parts (relation_in (value_of fields (codes "Build-Depends"))) _ s head.2 in
     let arch_depends =
     on_ok_parts (relation_in (value_of fields (codes "Build-Depends-Arch"))) _ s depends.2 in
-    let name = on_ok_parts (name_in Package (value_of fields (codes "Package"))) _ head.0 head.1 in
-    let version =
-    on_ok_parts (needed Version (value_of fields (codes "Version"))) _ head.0 name.2 in
-    let archs = on_ok_parts (needed Architecture (value_of fields (codes "Architecture"))) _ head.0
-    version.2 in
-    let parts = on_ok_parts (version_in version.0) _ head.0 archs.2 in
-    let named = name_found Package (value_of fields (codes "Package")) name.0 name.1 in
+    let at = needed_read fields versioned head.0 head.1 in
+    let parts = on_ok_parts (version_in at.version) _ head.0 at.behind in
     let made : SourcePackage =
-    record { name = name.0; version = version.0; parts = parts.0; archs = archs.0 } in
+    record { name = at.has.name; version = at.version; parts = parts.0; archs = at.arch } in
     let same : made ≡ head.0 = ok_is EntryFault made head.0 parts.2 in
     let kept : KeptSource = record { head = head.0; stanza = number } in
     subst (IsKeptSource number fields) (ok_is EntryFault kept s arch_depends.2)
     (subst (λ (h : SourcePackage).
     IsKeptSource number fields (record { head = h; stanza = number })) same (record {
       own = yes_found (value_of fields (codes "Extra-Source-Only")) own;
-      name = named.0;
-      legal = named.1;
-      version = needed_found Version (value_of fields (codes "Version")) version.0 version.1;
-      readable = version_found version.0 parts.0 parts.1;
-      archs = needed_found Architecture (value_of fields (codes "Architecture")) archs.0 archs.1;
+      name = at.has.named;
+      legal = at.has.legal;
+      version = at.has.versioned;
+      readable = version_found at.version parts.0 parts.1;
+      archs = at.has.there;
       depends = depends.0;
       arch_depends = arch_depends.0;
       has_depends = depends.1;
@@ -149,13 +149,14 @@ head_again : (number : ℕ) (fields : List Entry) (s : KeptSource) → IsKeptSou
     → source_at fields ≡ Ok s.head
 unfolding source_at
 head_again number fields s h =
-    let name = name_again Package (value_of fields (codes "Package")) s.head.name h.name h.legal in
-    let version : needed Version (value_of fields (codes "Version")) ≡ Ok s.head.version =
-    ap (needed Version) h.version in
-    let archs : needed Architecture (value_of fields (codes "Architecture")) ≡ Ok s.head.archs =
-    ap (needed Architecture) h.archs in
     let parts = version_again s.head.version s.head.parts h.readable in
-    rw (name, version, archs, parts) refl
+    needed_again fields versioned s.head.version s.head.archs (record {
+      name = s.head.name;
+      named = h.name;
+      legal = h.legal;
+      versioned = h.version;
+      there = h.archs;
+    }) ∙ rw parts refl
 
 source_again : (number : ℕ) (fields : List Entry) (s : KeptSource) → IsKeptSource number fields s
     → kept_source_at number fields ≡ Ok (Some s)

@@ -17,6 +17,7 @@ pub mod Supplying
 pub mod Stanzas
 pub mod OfferedNames
 pub mod FirstFaults
+pub mod Needed
 pub mod PackageStanzas
 pub mod OfferLaws
 pub mod SourceStanzas

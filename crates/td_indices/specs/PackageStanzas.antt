@@ -11,6 +11,7 @@ use Rattle.td_text.specs.Runs.{is_blank}
 use Rattle.td_indices.specs.Binaries.{BinaryPackage, home_of, package_at}
 use Rattle.td_indices.specs.Fields.{relation_in, value_of}
 use Rattle.td_indices.specs.Kept.{KeptBinary, binary_at}
+use Rattle.td_indices.specs.Needed.{HasNeeded}
 
 -- `foo`: a name alone; the source has the version that the package has
 pub record IsName (text source : List ℕ) (own parts : Parts) : Type 0 where
@@ -72,16 +73,12 @@ KeptPackagesAreExact =
     (table : List ArchWords) (number : ℕ) (fields : List Entry) (b : KeptBinary)
     → (binary_at table number fields ≡ Ok (Some b)) ↔ IsKeptPackage table number fields b
 
--- the stanza is that of a package elsewhere: it has the fields that are needed and a legal name,
--- and its architecture is neither in the table nor `all`
+-- the stanza is that of a package elsewhere: it has what is needed, and its architecture is neither
+-- in the table nor `all`
 pub record IsElsewhere (table : List ArchWords) (fields : List Entry) : Type 0 where
-  pub name : List ℕ
   pub version : List ℕ
   pub arch : List ℕ
-  pub named : value_of fields (codes "Package") ≡ Some name
-  pub legal : IsTrue (is_name name)
-  pub versioned : value_of fields (codes "Version") ≡ Some version
-  pub there : value_of fields (codes "Architecture") ≡ Some arch
+  pub has : HasNeeded fields version arch
   pub elsewhere : home_of table arch ≡ None
 
 -- a stanza of Packages is skipped exactly where its package is elsewhere

@@ -17,7 +17,6 @@ use std::marker::Model;
 use std::thread::Threads;
 use td_relation::Archs;
 use td_rows::{Key, Row, Rows};
-use td_stanza::Stanza;
 use td_supply::{Numbers, Supply};
 
 /// The binary packages and the sources that count, with the stanzas that they stand in. Contracts
@@ -91,7 +90,6 @@ impl<'t, 'a> Archive<'t, 'a> {
     ghost use Rattle.std.specs.Str.{bytes_eq};
     ghost use Rattle.td_text.specs.Lines.{lines_of};
     ghost use Rattle.td_text.specs.Words.{is_name};
-    ghost use Rattle.td_stanza.specs.Table.{fields_of};
     ghost use Rattle.td_relation.specs.TableView.{table};
     ghost use Rattle.td_relation.specs.Table.{IsApart};
     ghost use Rattle.td_rows.specs.States.{is_building};
@@ -204,16 +202,8 @@ impl<'t, 'a> Archive<'t, 'a> {
         ensures { option_map seen_source result
             ≡ option_map shown_source (source_named self.now name.now) }
     {
-        match self.sources.get_key_value(name) {
-            Some((name, sourced)) => Some(Source {
-                name,
-                version: sourced.version,
-                parts: sourced.parts,
-                archs: sourced.archs,
-                stanza: sourced.stanza,
-            }),
-            None => None,
-        }
+        let (name, sourced) = self.sources.get_key_value(name)?;
+        Some(Source::of_entry(name, sourced))
     }
 
     /// The numbers of a source's binary packages on an architecture of the table: those there, and
@@ -289,13 +279,7 @@ impl<'t, 'a> Archive<'t, 'a> {
         ensures legal { IfSome result (λ s. is_name s.name.now ≡ true) }
     {
         let (name, sourced) = self.sources.get_index(number)?;
-        Some(Source {
-            name,
-            version: sourced.version,
-            parts: sourced.parts,
-            archs: sourced.archs,
-            stanza: sourced.stanza,
-        })
+        Some(Source::of_entry(name, sourced))
     }
 
     // Puts the row with which a source opens on the architecture at a place among others.
@@ -397,19 +381,5 @@ impl<'t, 'a> Archive<'t, 'a> {
         ensures { IfOk result (λ supply. supply ≡ opened (supply_of self.now)) }
     {
         stocked(self.alloc, self.archs, &self.sources, &self.binaries)
-    }
-
-    /// The stanza of Packages with a number, from 0.
-    pub fn package_stanza(&self, number: usize) -> Option<Stanza<'_, 'a>>
-        ensures { option_map fields_of result ≡ slice_get self.now.packages number }
-    {
-        self.packages.stanza(number)
-    }
-
-    /// The stanza of Sources with a number, from 0.
-    pub fn source_stanza(&self, number: usize) -> Option<Stanza<'_, 'a>>
-        ensures { option_map fields_of result ≡ slice_get self.now.source_stanzas number }
-    {
-        self.source_stanzas.stanza(number)
     }
 }

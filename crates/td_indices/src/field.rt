@@ -17,7 +17,7 @@ use td_stanza::Stanza;
 use td_text::is_name;
 use td_version::{Version, VersionFault};
 
-/// The value of a field.
+/// The value of the field that has the name, in whatever case.
 pub fn value_of<'a>(stanza: &Stanza<'_, 'a>, name: &str) -> Option<&'a str>
     ensures { option_map (λ x. x.now) result ≡ value_in (fields_of stanza.now) name.now }
 {

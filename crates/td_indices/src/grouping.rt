@@ -14,7 +14,7 @@ ghost use Rattle.td_rows.specs.Limits.{max_rows};
 ghost use Rattle.td_supply.specs.Numbers.{numbers_of};
 
 use crate::archive_fault::ArchiveFault;
-use crate::packaged::{PackageKey, Packaged};
+use crate::packaged::{PackageKey, Packaged, is_on};
 use crate::rows::count_rows;
 use crate::sourced::Sourced;
 use indexmap::IndexMap;
@@ -65,15 +65,16 @@ pub fn grouped_and_counted<'a>(
 }
 
 /// Whether the binary package with a number is on the architecture, or on `all`.
-fn is_on(binaries: &IndexMap<PackageKey<'_>, Packaged<'_>>, number: usize, arch: usize) -> bool
+fn is_number_on(
+    binaries: &IndexMap<PackageKey<'_>, Packaged<'_>>,
+    number: usize,
+    arch: usize,
+) -> bool
     ensures { result ≡ option_map_or (λ b. is_on_of arch b.head.home)
         (slice_get (binaries_of binaries.now.entries) number) false }
 {
     match binaries.get_index(number) {
-        Some((key, _)) => match key.arch {
-            None => true,
-            Some(place) => place == arch,
-        },
+        Some((key, _)) => is_on(arch, key.arch),
         None => false,
     }
 }
@@ -92,7 +93,7 @@ pub fn those_on(
 {
     let mut there = Vec::new(alloc);
     for number in numbers {
-        if is_on(binaries, *number, arch) {
+        if is_number_on(binaries, *number, arch) {
             there.push(*number)?;
         }
     }

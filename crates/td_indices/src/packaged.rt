@@ -1,4 +1,6 @@
 //! What is read and kept of a stanza of Packages, and what an archive shows of it.
+ghost use Rattle.std.specs.Prelude.{◌≡◌};
+ghost use Rattle.td_relation.specs.Meeting.{is_on as is_on_of};
 
 use std::hash::{Hash, Hasher};
 use td_relation::Relation;
@@ -46,6 +48,17 @@ impl Hash for PackageKey<'_> {
     fn hash<H: Hasher>(&self, state: &mut H) {
         self.name.hash(state);
         self.arch.hash(state);
+    }
+}
+
+/// Whether a package with this home is on the architecture at a place of the table: the home is
+/// that place, or `None` for `all`.
+pub fn is_on(place: usize, home: Option<usize>) -> bool
+    ensures { result ≡ is_on_of place home }
+{
+    match home {
+        None => true,
+        Some(arch) => arch == place,
     }
 }
 

@@ -1,4 +1,7 @@
 //! What is read and kept of a stanza of Sources, and what an archive shows of it.
+ghost use Rattle.std.specs.Prelude.{◌≡◌};
+ghost use Rattle.td_indices.specs.Seen.{seen_source, shown_source};
+ghost use Rattle.td_indices.specs.Sources.{source_of};
 
 use td_version::Version;
 
@@ -25,4 +28,19 @@ pub struct Source<'a> {
     pub archs: &'a str,
     /// The number of its stanza in Sources, from 0.
     pub stanza: usize,
+}
+
+impl<'a> Source<'a> {
+    /// What an archive shows of a source that it holds under its name.
+    pub(crate) fn of_entry(name: &'a str, sourced: &Sourced<'a>) -> Source<'a>
+        ensures { seen_source result ≡ shown_source (source_of (name.entry, sourced.now)) }
+    {
+        Source {
+            name,
+            version: sourced.version,
+            parts: sourced.parts,
+            archs: sourced.archs,
+            stanza: sourced.stanza,
+        }
+    }
 }
