@@ -1,11 +1,10 @@
 -- What the values of a tracker's keys say.
-use Rattle.std.proofs.Common.{◌≡◌, ℕ, List, ◌∷◌, length, Option, Some, Ok, refl, ap, ◌∙◌}
+use Rattle.std.proofs.Common.{ℕ, List, length, ap, ◌∙◌}
 use Rattle.std.specs.Prelude.{codes}
-use Rattle.td_text.specs.Cut.{cut, strip}
+use Rattle.td_text.specs.Cut.{strip}
 use Rattle.td_text.specs.Lines.{on_ok}
-use Rattle.td_query.specs.QueryGrammar.{Read, or_at}
-use Rattle.td_query.specs.KeyRules.{QueriesAreSaid, SaysQueries, TitlesAreSaid}
-use Rattle.td_query.specs.Tokens.{skipped}
+use Rattle.td_query.specs.QueryGrammar.{Read}
+use Rattle.td_query.specs.KeyRules.{QueriesAreSaid, TitlesAreSaid}
 use Rattle.td_query.specs.TrackerGrammar.{title_value, titled, value_at, with_affected, with_bad}
 use Rattle.td_query.specs.TrackerGrammar.{with_good}
 

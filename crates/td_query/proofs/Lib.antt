@@ -8,7 +8,7 @@ pub mod TruthLaws
 pub mod Entries
 pub mod Unescaping
 pub mod PatternLists
-pub mod TrackerTexts
+mod Refusals
 pub mod Gathering
 pub mod KeptMarks
 pub mod RowStatuses

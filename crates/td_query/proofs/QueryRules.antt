@@ -1,19 +1,19 @@
 -- The rules of queries.
-use Rattle.std.proofs.Common.{◌≡◌, ℕ, zero, suc, List, [], ◌∷◌, ◌++◌, length, Option, Some, None}
-use Rattle.std.proofs.Common.{Result, Ok, Err, refl, sym, ap, ◌∙◌}
+use Rattle.std.proofs.Common.{◌≡◌, ℕ, zero, suc, List, [], ◌∷◌, ◌++◌, length, Some, None}
+use Rattle.std.proofs.Common.{Ok, refl, ap, ◌∙◌}
 use Rattle.std.specs.Prelude.{codes}
 use Rattle.td_text.specs.Cut.{strip}
 use Rattle.td_text.specs.Lines.{on_ok}
 use Rattle.td_query.specs.declared.query.Joint.{Joint}
 use Rattle.td_query.specs.declared.query.Joint.TheVariants.{And, Or}
-use Rattle.td_query.specs.Query.{Shape, joined, negated, both, either}
+use Rattle.td_query.specs.Query.{Shape, joined, both}
 use Rattle.td_query.specs.QueryGrammar.{Log, Read, and_with, atom, behind_mark, closed, closed_by}
-use Rattle.td_query.specs.QueryGrammar.{mark_of, more, negating, next, not_in, or_at, or_else}
+use Rattle.td_query.specs.QueryGrammar.{mark_of, more, negating, next, not_in, or_else}
 use Rattle.td_query.specs.QueryGrammar.{or_with, parts_with}
 use Rattle.td_query.specs.QueryRules.{AndBindsBeforeOr, AndBindsBehindOr, BracketsAreRead, Comes}
-use Rattle.td_query.specs.QueryRules.{ConjunctionsAreRead, DisjunctionsAreRead, IsOver}
+use Rattle.td_query.specs.QueryRules.{ConjunctionsAreRead, DisjunctionsAreRead}
 use Rattle.td_query.specs.QueryRules.{NegationsAreRead, PartsAreRead}
-use Rattle.td_query.specs.Tokens.{skipped, skipped_in}
+use Rattle.td_query.specs.Tokens.{skipped_in}
 
 -- ---- marks
 

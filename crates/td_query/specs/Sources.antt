@@ -1,13 +1,13 @@
 -- The patterns of a tracker, as `regex` is given them. This project's own.
-use Rattle.std.specs.Prelude.{◌≡◌, ◌≢◌, ℕ, ◌==◌, ◌&&◌, Bool, false, List, [], ◌∷◌, if◌then◌else◌}
+use Rattle.std.specs.Prelude.{◌≡◌, ℕ, ◌==◌, ◌&&◌, Bool, false, List, [], ◌∷◌, if◌then◌else◌}
 use Rattle.std.specs.List.{AllByRecursion}
-use Rattle.regex.specs.Patterns.{default_config}
+use Rattle.regex.specs.Patterns.{Refuses, default_config}
 use Rattle.regex.specs.Strings.{regex_config, IsReadFromSource}
-use Rattle.regex.specs.Sources.{IsRefusal}
 use Rattle.regex.specs.Failures.{IsPattern, IsRightKind}
 use Rattle.regex.specs.declared.error.Error.{Error}
 use Rattle.regex.specs.declared.string.regex.Regex.{Regex}
-use Rattle.regex.specs.declared.error.Error.TheVariants.{OutOfMemory}
+use Rattle.regex.specs.declared.error.Error.TheVariants.{CompiledTooBig, Internal, OutOfMemory}
+use Rattle.regex.specs.declared.error.Error.TheVariants.{Syntax}
 use Rattle.td_query.specs.QueryGrammar.{Raw, Log}
 
 -- whether a text begins with a slash
@@ -34,10 +34,19 @@ source_of r = unescaped r.raw
 abbrev pub ArePatterns : Log → Type 0
 ArePatterns log = AllByRecursion (λ r. IsPattern default_config (source_of r)) log
 
--- `regex` has an error for the text, and it is another than want of memory
+-- what an error of `regex` says of a text. One of syntax: the grammar doesn't read it, or it is
+-- nested deeper than the limit. Too large: it is a pattern, and no more, since the contract of
+-- `Regex::new` says nothing else of that (its clause `kind`)
+abbrev pub IsCause : List ℕ → Error → Type 0
+IsCause text (Syntax fault) = Refuses default_config text fault.kind
+    × IsRightKind default_config text (Syntax fault)
+IsCause text CompiledTooBig = IsPattern default_config text
+IsCause text Internal = ⊥
+IsCause text OutOfMemory = ⊥
+
+-- `regex` refuses the text, and not for want of memory
 abbrev pub IsRefusedForCause : List ℕ → Type 0
-IsRefusedForCause text = (e : Error) × (e ≢ OutOfMemory) × IsRefusal default_config text e
-    × IsRightKind default_config text e
+IsRefusedForCause text = (e : Error) × IsCause text e
 
 -- patterns as `Regex::new` gives them:
 -- each is what the grammar of `regex` reads in its text, with the default options

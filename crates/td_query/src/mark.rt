@@ -1,7 +1,6 @@
 //! What a tracker's three queries say of a stanza, or of a row.
 ghost use Rattle.std.specs.Prelude.{◌≡◌, ◌↔◌, true, false, map, None, Some};
 ghost use Rattle.regex.specs.Strings.{matcher_pattern};
-ghost use Rattle.td_stanza.specs.StanzaGrammar.{IsDistinct};
 ghost use Rattle.td_stanza.specs.Table.{fields_of};
 ghost use Rattle.td_query.specs.Marks.{either_mark, mark_by, no_mark};
 ghost use Rattle.td_query.specs.Statuses.{status_where};
@@ -71,7 +70,6 @@ impl Mark {
 
 /// Which of a tracker's queries hold on a stanza.
 pub fn mark_of(tracker: &Tracker<'_>, stanza: &Stanza, matchers: &mut Vec<Matcher>) -> Mark
-    requires distinct { IsDistinct (fields_of stanza.now) }
     ensures mark { result ≡ mark_by (map matcher_pattern matchers.old.items)
         (tracking tracker.now) (fields_of stanza.now) }
     ensures same { map matcher_pattern matchers.new.items ≡ map matcher_pattern matchers.old.items }

@@ -1,7 +1,6 @@
 //! How the marks of an archive are made: each query is evaluated once on each stanza.
 ghost use Rattle.std.specs.Prelude.{◌≡◌, ◌<◌, IfOk, Some, length, map, slice_get};
 ghost use Rattle.regex.specs.Strings.{matcher_pattern};
-ghost use Rattle.td_stanza.specs.StanzaGrammar.{IsDistinct};
 ghost use Rattle.td_stanza.specs.Table.{fields_of};
 ghost use Rattle.td_query.specs.Marks.{kept_fields, mark_by};
 ghost use Rattle.td_query.specs.Tracking.{tracking};
@@ -31,7 +30,6 @@ fn kept_stanza<'x, 'a>(
 ) -> Stanza<'x, 'a>
     requires { number < length (kept_fields archive.now file) }
     ensures there { slice_get (kept_fields archive.now file) number ≡ Some (fields_of result) }
-    ensures distinct { IsDistinct (fields_of result) }
 {
     match file {
         IndexFile::Packages => archive.stanza_of_binary(number),

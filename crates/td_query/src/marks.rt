@@ -2,12 +2,11 @@
 
 use crate::mark::Mark;
 use crate::marking::mark_stanzas;
-use crate::row_mark::is_there;
 use crate::status::Status;
 use crate::tracker::Tracker;
 use crate::truth::matchers_of;
 use std::alloc::{AllocError, Global};
-use td_indices::{Archive, IndexFile};
+use td_indices::{Archive, IndexFile, is_on};
 
 /// What a tracker says of each stanza of an archive, so that the status of a row takes no memory
 /// and looks at the packages of its own source alone.
@@ -44,7 +43,7 @@ impl Marks {
             → result ≡ mark_there_of archive.now t.patterns t place number }
     {
         match archive.binary(number) {
-            Some(binary) if is_there(place, binary.arch) => match self.packages.get(number) {
+            Some(binary) if is_on(place, binary.arch) => match self.packages.get(number) {
                 Some(mark) => *mark,
                 None => Mark::none(),
             },

@@ -1,24 +1,13 @@
 //! Which of a tracker's queries hold on some stanza of a row, evaluated on each stanza of it.
 ghost use Rattle.std.specs.Prelude.{◌≡◌, map};
 ghost use Rattle.regex.specs.Strings.{matcher_pattern};
-ghost use Rattle.td_relation.specs.Meeting.{is_on};
 ghost use Rattle.td_query.specs.Marks.{mark_there as mark_there_of, row_mark as row_mark_of};
 ghost use Rattle.td_query.specs.Tracking.{tracking};
 
 use crate::mark::{Mark, mark_of};
 use crate::tracker::Tracker;
 use regex::Matcher;
-use td_indices::Archive;
-
-/// Whether a package with this home is on the architecture at a place.
-pub fn is_there(place: usize, home: Option<usize>) -> bool
-    ensures there { result ≡ is_on place home }
-{
-    match home {
-        None => true,
-        Some(arch) => arch == place,
-    }
-}
+use td_indices::{Archive, is_on};
 
 // What holds on the stanza of the package with a number, if it is there.
 fn mark_there(
@@ -33,7 +22,7 @@ fn mark_there(
     ensures same { map matcher_pattern matchers.new.items ≡ map matcher_pattern matchers.old.items }
 {
     match archive.binary(number) {
-        Some(binary) if is_there(place, binary.arch) => {
+        Some(binary) if is_on(place, binary.arch) => {
             mark_of(tracker, &archive.stanza_of_binary(number), matchers)
         }
         _ => Mark::none(),

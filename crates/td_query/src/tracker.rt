@@ -1,9 +1,10 @@
 //! A tracker: its queries, and what they make of an archive.
-ghost use Rattle.std.specs.Prelude.{◌≡◌, IfErr, IfOk, length, map};
+ghost use Rattle.std.specs.Prelude.{◌≡◌, IfErr, IfOk, Ok, length, map};
 ghost use Rattle.regex.specs.Strings.{regex_source};
 ghost use Rattle.td_query.specs.Statuses.{status_of};
 ghost use Rattle.td_query.specs.TrackerFaults.{FaultOf, IsMissing, IsPatternFault, log_in};
-ghost use Rattle.td_query.specs.TrackerGrammar.{said_in};
+ghost use Rattle.td_query.specs.Sources.{AreDefault, ArePatterns, source_of};
+ghost use Rattle.td_query.specs.TrackerGrammar.{Said, nothing_said, said_in};
 ghost use Rattle.td_query.specs.Tracking.{AreCompiled, IsSaid, IsTracker, Tracking, tracking};
 ghost use Rattle.td_query.specs.TrackerViews.{said};
 
@@ -62,6 +63,37 @@ fn whole<'a>(keys: Keys<'a>, patterns: Vec<Regex>) -> Result<Tracker<'a>, Tracke
     })
 }
 
+// Reads a text's keys up to its end, and compiles their patterns.
+fn read_patterns<'a>(
+    alloc: Global,
+    text: &'a str,
+    keys: &mut Keys<'a>,
+) -> Result<Vec<Regex>, TrackerFault>
+    requires fresh { said keys.now ≡ nothing_said }
+    ensures said { IfOk result (λ ps. said_in text.now ≡ Ok (said keys.new)) }
+    ensures sources { IfOk result
+        (λ ps. map regex_source ps.items ≡ map source_of (said keys.new).log) }
+    ensures read { IfOk result (λ ps. ArePatterns (said keys.new).log) }
+    ensures compiled { IfOk result (λ ps. AreDefault ps.items) }
+    ensures only { (s : Said) → said_in text.now ≡ Ok s → ArePatterns s.log
+        → IfErr result (IsPatternFault (length text.now) (log_in (said_in text.now))) }
+    ensures fault { IfErr result (FaultOf text.now) }
+{
+    let left = match read_entries(alloc, text, keys) {
+        Ok(()) => None,
+        Err(ReadFault::Syntax(left)) => Some(left),
+        Err(ReadFault::NoMemory) => return Err(TrackerFault::NoMemory),
+    };
+    let patterns = match compile(alloc, text.len(), keys.log.as_slice()) {
+        Ok(patterns) => patterns,
+        Err(fault) => return Err(fault),
+    };
+    match left {
+        None => Ok(patterns),
+        Some(left) => Err(TrackerFault::Syntax(text.len().saturating_sub(left))),
+    }
+}
+
 impl<'a> Tracker<'a> {
     /// Reads a tracker. The first fault from the left decides, and a pattern stands before what
     /// follows it; then the keys that are missing, in the order `is_affected`, `is_good`, `is_bad`.
@@ -78,18 +110,10 @@ impl<'a> Tracker<'a> {
         ensures fault { IfErr result (FaultOf text.now) }
     {
         let mut keys = no_keys(alloc);
-        let left = match read_entries(alloc, text, &mut keys) {
-            Ok(()) => None,
-            Err(ReadFault::Syntax(left)) => Some(left),
-            Err(ReadFault::NoMemory) => return Err(TrackerFault::NoMemory),
-        };
-        let patterns = match compile(alloc, text.len(), keys.log.as_slice()) {
+        let patterns = match read_patterns(alloc, text, &mut keys) {
             Ok(patterns) => patterns,
             Err(fault) => return Err(fault),
         };
-        if let Some(left) = left {
-            return Err(TrackerFault::Syntax(text.len().saturating_sub(left)));
-        }
         match whole(keys, patterns) {
             Ok(tracker) => Ok(tracker),
             Err(key) => Err(TrackerFault::MissingKey(key)),

@@ -1,9 +1,7 @@
 //! Whether a query holds on a stanza.
-ghost use Rattle.std.specs.Prelude.{◌≡◌, IfOk, length, map, option_map, slice_get};
+ghost use Rattle.std.specs.Prelude.{◌≡◌, IfOk, length, map, slice_get};
 ghost use Rattle.regex.specs.Strings.{matcher_pattern, regex_pattern};
-ghost use Rattle.td_stanza.specs.StanzaGrammar.{IsDistinct};
 ghost use Rattle.td_stanza.specs.Table.{fields_of};
-ghost use Rattle.td_indices.specs.Fields.{value_of as value_in};
 ghost use Rattle.td_query.specs.Query.{joined, shape_of};
 ghost use Rattle.td_query.specs.Truth.{is_found as is_found_of, truth};
 
@@ -11,15 +9,8 @@ use crate::query::{Joint, Query};
 use crate::standing::stands_in;
 use regex::{Matcher, Regex};
 use std::alloc::{AllocError, Global};
+use td_indices::value_of;
 use td_stanza::Stanza;
-
-// The value of a field.
-fn value_of<'a>(stanza: &Stanza<'_, 'a>, name: &str) -> Option<&'a str>
-    requires distinct { IsDistinct (fields_of stanza.now) }
-    ensures value { option_map (λ x. x.now) result ≡ value_in (fields_of stanza.now) name.now }
-{
-    stanza.get(name)
-}
 
 // Whether the pattern of a number, if there is one, is found in the value.
 fn is_found(matchers: &mut Vec<Matcher>, number: usize, value: &str) -> bool
@@ -36,7 +27,6 @@ fn is_found(matchers: &mut Vec<Matcher>, number: usize, value: &str) -> bool
 /// Whether the query holds on the stanza.
 #[cycle(holds)]
 pub fn holds(query: &Query, stanza: &Stanza, matchers: &mut Vec<Matcher>) -> bool
-    requires distinct { IsDistinct (fields_of stanza.now) }
     ensures truth { result ≡ truth (map matcher_pattern matchers.old.items) (fields_of stanza.now)
         (shape_of query.now) }
     ensures same { map matcher_pattern matchers.new.items ≡ map matcher_pattern matchers.old.items }
@@ -60,7 +50,6 @@ pub fn holds(query: &Query, stanza: &Stanza, matchers: &mut Vec<Matcher>) -> boo
 // Whether parts with the mark between them hold: the first that settles it decides.
 #[cycle(holds)]
 fn parts_hold(joint: Joint, parts: &[Query], stanza: &Stanza, matchers: &mut Vec<Matcher>) -> bool
-    requires distinct { IsDistinct (fields_of stanza.now) }
     ensures truth { result ≡ truth (map matcher_pattern matchers.old.items) (fields_of stanza.now)
         (joined joint (map shape_of parts.now)) }
     ensures same { map matcher_pattern matchers.new.items ≡ map matcher_pattern matchers.old.items }

@@ -1,21 +1,10 @@
 //! Where an alternative of a source's build meets a package: on some architecture.
 ghost use Rattle.std.specs.Prelude.{◌≡◌, ◌<◌, ℕ, Option, length};
 ghost use Rattle.td_relation.specs.Asked.{asked};
-ghost use Rattle.td_relation.specs.Meeting.{is_on};
 ghost use Rattle.td_waves.specs.BuildsOn.{fits as fits_of, fits_at as fits_at_of};
 
-use td_indices::Archive;
+use td_indices::{Archive, is_on};
 use td_relation::Alternative;
-
-// Whether a package with this home is on the architecture at a place.
-fn is_there(place: usize, home: Option<usize>) -> bool
-    ensures { result ≡ is_on place home }
-{
-    match home {
-        None => true,
-        Some(arch) => arch == place,
-    }
-}
 
 fn fits_at(
     archive: &Archive<'_, '_>,
@@ -27,7 +16,7 @@ fn fits_at(
     requires { place < length archive.now.table }
     ensures { result ≡ fits_at_of archive.now source (asked alternative.now) home place }
 {
-    is_there(place, home)
+    is_on(place, home)
         && alternative.is_active(archive.archs(), place)
         && archive.has_row(source, place)
 }
