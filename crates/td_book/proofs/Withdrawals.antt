@@ -82,6 +82,7 @@ won_step named i n k old new answer at view up out is none =
       stays = subst (Stays old) (sym is)
           (record { table = refl; stock = refl; builders = refl; since = refl; watch = refl });
       spent = subst (Spent (k ∷ []) old.books) (sym same) (spent_none (k ∷ []) old.books);
+      kept = λ _. same;
     }
 
 -- a row that is not out is left
@@ -112,7 +113,11 @@ idle_step named i k old new answer at view up idle is none =
           ∙ ap (λ (h : History). seen_off (take (i + 1) named) (rows_of h)) (sym hist);
       stays = subst (Stays old) (sym is) (stays_none old);
       spent = subst (Spent (k ∷ []) old.books) (sym same) (spent_none (k ∷ []) old.books);
+      kept = λ _. same;
     }
+
+some_not : (o : Option ℕ) (n : ℕ) → o ≡ Some n → o ≡ None → ⊥
+some_not o n some none = absurd (let e : None ≡ Some n = sym none ∙ some in cc)
 
 -- a withdrawal is lost
 pub lost_step : (named : List Key) (i n : ℕ) (k : Key) (old new : InnerModel) (answer : Option ℕ)
@@ -144,6 +149,7 @@ lost_step named i n k old new answer at view up out lost told =
           ∙ ap (λ (u : Table). seen_off (take (i + 1) named) u) (sym rows);
       stays = lost.1.stays;
       spent = lost.1.spent;
+      kept = λ none. absurd (some_not answer (length old.books.history.journal + 1) told none);
     }
 
 -- a withdrawal, by its answer
@@ -213,27 +219,14 @@ withdrew_more named i first old new answer rise w s =
 
 -- ---- 2. withdrawals up to the first that is lost
 
-not_lost : (v : Bool) (h : History) (k : Key) (b : ℕ)
-    → None ≡ (if v then Some (length h.journal + 1) else None)
-    → (if v then with_entry h (claim_of b k) else h) ≡ h
-not_lost true h k b e = absurd (cc)
-not_lost false h k b e = refl
-
 pub unlost_more : (named : List Key) (i : ℕ) (first old new : InnerModel) (answer : Option ℕ)
-    → ascending named ≡ true → Unlost (take i named) first old → WithdrewAt named i old new answer
-    → answer ≡ None → Unlost (take (i + 1) named) first new
-unlost_more named i first old new answer rise u s none =
-    let more : take (i + 1) named ≡ take i named ++ s.key ∷ [] = take-next named i s.key s.at in
-    record {
-      history = s.history ∙ not_lost
-          (is_queued_at (rows_of old.books.history) s.key && is_lost s.by) old.books.history s.key
-          s.by (sym none ∙ s.answers) ∙ u.history;
-      view = s.view;
-      stays = stays_more first old new u.stays s.stays;
-      spent = subst (λ (w : List Key). Spent w first.books new.books) (sym more)
-          (spent_more (take i named) s.key first.books old.books new.books
-          (unnamed_before named i s.key rise s.at) u.spent s.spent);
-    }
+    → Unlost (take i named) first old → WithdrewAt named i old new answer → answer ≡ None
+    → Unlost (take (i + 1) named) first new
+unlost_more named i first old new answer u s none = record {
+  books = s.kept none ∙ u.books;
+  view = s.view;
+  stays = stays_more first old new u.stays s.stays;
+}
 
 pos_of : (b : ℕ) → is_lost b ≡ true → 1 ≤ b
 pos_of zero h = cc
@@ -251,21 +244,23 @@ lost_one named i first old new last n u s back =
     let told = some_is (is_queued_at (rows_of old.books.history) s.key && is_lost s.by)
     (length old.books.history.journal + 1) n s.answers in
     let both = and_parts (is_queued_at (rows_of old.books.history) s.key) (is_lost s.by) told.0 in
+    let hist : old.books.history ≡ first.books.history =
+    ap (λ (b : WatchedView). b.history) u.books in
     let same : last.books.history ≡ new.books.history =
     ap (λ (m : InnerModel). m.books.history) back in
     record {
       won = record {
         key = s.key;
         is_named = named_at named i s.key s.at;
-        out = ap (λ (h : History). is_queued_at (rows_of h) s.key) (sym u.history) ∙ both.0;
+        out = ap (λ (h : History). is_queued_at (rows_of h) s.key) (sym hist) ∙ both.0;
         by = s.by;
         one = pos_of s.by both.1;
         some_builder = subst (λ (m : ℕ). s.by ≤ m) u.stays.builders s.some_builder;
         now = same ∙ s.history
             ∙ ap (λ b. if b then with_entry old.books.history (claim_of s.by s.key)
             else old.books.history) told.0
-            ∙ ap (λ (h : History). with_entry h (claim_of s.by s.key)) u.history;
-        number = told.1 ∙ ap (λ (h : History). length h.journal + 1) u.history;
+            ∙ ap (λ (h : History). with_entry h (claim_of s.by s.key)) hist;
+        number = told.1 ∙ ap (λ (h : History). length h.journal + 1) hist;
       };
       view = ap (λ (m : InnerModel). m.view) back
           ∙ ap (λ (h : History). seen_off [] (rows_of h)) (sym same);

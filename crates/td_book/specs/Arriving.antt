@@ -14,6 +14,14 @@ use Rattle.td_book.specs.declared.arriving.ArriveRefusal.{ArriveRefusal}
 use Rattle.td_book.specs.declared.arriving.ArriveRefusal.TheVariants.{NoSuchRow, DoesNotApply}
 use Rattle.td_book.specs.declared.arriving.ArriveRefusal.TheVariants.{NoMemory}
 
+-- why an arrival makes no entry: the key has no row, or an arrival doesn't apply on it
+abbrev pub ArriveStop : Key → BookModel → ArriveRefusal → Type 0
+ArriveStop k b NoSuchRow = row_of (rows_of b.history) k ≡ None
+ArriveStop k b (DoesNotApply s) =
+    (row : Row) × (row_of (rows_of b.history) k ≡ Some row) × (applies Arrive row ≡ false)
+    × (s ≡ row.state)
+ArriveStop k b NoMemory = ⊥
+
 -- the entry on the key, where its row has been built or uploaded; else nothing, and nothing where
 -- memory is wanting for that entry
 abbrev pub ArriveOutcome : Key → BookModel → BookModel → Result ℕ ArriveRefusal → Type 0

@@ -103,6 +103,7 @@ pub record WithdrewAt (named : List Key) (i : ℕ) (old new : InnerModel)
   pub view : new.view ≡ seen_off (take (i + 1) named) (rows_of new.books.history)
   pub stays : Stays old new
   pub spent : Spent (key ∷ []) old.books new.books
+  pub kept : answer ≡ None → new.books ≡ old.books
 
 -- the named rows are withdrawn, but for those that builders had won
 pub record Withdrew (named : List Key) (old new : InnerModel) : Type 0 where

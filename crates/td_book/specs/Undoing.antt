@@ -1,8 +1,9 @@
 -- What an undo does to a book. This project's own.
-use Rattle.std.specs.Prelude.{◌≡◌, ℕ, ◌+◌, ◌≤◌, true, List, [], Option, Some, None, Result, Ok, Err}
-use Rattle.std.specs.Prelude.{IsSomeAnd, if◌then◌else◌, length}
+use Rattle.std.specs.Prelude.{◌≡◌, ◌≢◌, ℕ, ◌+◌, ◌≤◌, true, List, [], Option, Some, None, Result, Ok}
+use Rattle.std.specs.Prelude.{Err, IsSomeAnd, if◌then◌else◌, length}
 use Rattle.td_rows.specs.declared.key.Key.{Key}
 use Rattle.td_rows.specs.Keys.{names}
+use Rattle.td_rows.specs.Kinds.{cells}
 use Rattle.td_journal.specs.declared.entry.Mark.{Mark}
 use Rattle.td_journal.specs.declared.entry.Mark.TheVariants.{Standing, Undone}
 use Rattle.td_journal.specs.declared.entry.Marked.{Marked}
@@ -11,17 +12,16 @@ use Rattle.td_journal.specs.Touching.{blocker}
 use Rattle.td_core.specs.History.{History, rows_of, with_entry, without_entry}
 use Rattle.td_core.specs.Refusals.{is_queued_at}
 use Rattle.td_book.specs.Seen.{seen_off}
-use Rattle.td_book.specs.Desk.{InnerModel, BookModel, Stays, Spent, claim_of}
+use Rattle.td_book.specs.Desk.{InnerModel, BookModel, Stays, claim_of}
 use Rattle.td_book.specs.Calls.{off_for}
 use Rattle.td_book.specs.declared.undoing.UndoRefusal.{UndoRefusal}
 use Rattle.td_book.specs.declared.undoing.UndoRefusal.TheVariants as undos
 
 -- the named rows are withdrawn, and no builder had won one
 pub record Unlost (named : List Key) (old new : InnerModel) : Type 0 where
-  pub history : new.books.history ≡ old.books.history
+  pub books : new.books ≡ old.books
   pub view : new.view ≡ seen_off named (rows_of new.books.history)
   pub stays : Stays old new
-  pub spent : Spent named old.books new.books
 
 -- a builder had won a named row that was out, and the entry of its claim has this number
 pub record IsWon (before after : History) (builders : ℕ) (named : List Key) (n : ℕ) : Type 0 where
@@ -40,6 +40,28 @@ pub record LostOne (old new : InnerModel) (named : List Key) (n : ℕ) : Type 0 
   pub view : new.view ≡ seen_off [] (rows_of new.books.history)
   pub stays : Stays old new
 
+-- the rows of the keys are withdrawn, and room for a claim may have been made
+pub record AreOff (keys : List Key) (old new : InnerModel) : Type 0 where
+  pub history : new.books.history ≡ old.books.history
+  pub view : new.view ≡ seen_off keys (rows_of new.books.history)
+  pub stays : Stays old new
+
+-- what the withdrawal of keys answers: they are withdrawn, or a builder had won one; memory is
+-- wanting only where there are any
+abbrev pub WithdrawAnswer : List Key → InnerModel → InnerModel → Result (Unit {0}) UndoRefusal
+    → Type 0
+WithdrawAnswer keys old new (Ok u) = AreOff keys old new
+WithdrawAnswer keys old new (Err undos.NoMemory) =
+    (keys ≢ []) × (new.books.history ≡ old.books.history) × (new.view ≡ old.view) × Stays old new
+WithdrawAnswer keys old new (Err (undos.Blocked m)) = LostOne old new keys m
+WithdrawAnswer keys old new (Err undos.NoSuchEntry) = ⊥
+WithdrawAnswer keys old new (Err undos.NotACommand) = ⊥
+WithdrawAnswer keys old new (Err undos.AlreadyUndone) = ⊥
+
+-- the kind of entry n has to do with the states of its rows, so an undo withdraws them
+abbrev pub HasState : List Marked → ℕ → Type 0
+HasState ms n = IsSomeAnd (entry_at ms n) (λ m. (cells m.entry.kind).state ≡ true)
+
 -- what an undo does of a standing command that no later entry touches
 abbrev pub UndoOutcome : ℕ → BookModel → BookModel → Result (Unit {0}) UndoRefusal → Type 0
 UndoOutcome n old new (Ok u) = new.history ≡ without_entry old.history n
@@ -52,11 +74,12 @@ UndoOutcome n old new (Err undos.NotACommand) = ⊥
 UndoOutcome n old new (Err undos.AlreadyUndone) = ⊥
 
 -- an undo of a standing command that no later entry touches leaves the book and answers so: what is
--- fixed stays, and the history fits the answer
+-- fixed stays, the history fits the answer, and memory is wanting only where rows are withdrawn
 pub record IsUndone (n : ℕ) (old new : BookModel)
     (result : Result (Unit {0}) UndoRefusal) : Type 0 where
   pub fixed : new.fixed ≡ old.fixed
   pub outcome : UndoOutcome n old new result
+  pub memory : result ≡ Err undos.NoMemory → HasState old.history.journal n
 
 -- why an undo is stopped by an entry's mark, or by its blocker if it has one: it is undone already,
 -- or blocked

@@ -1,12 +1,15 @@
 //! Arrivals and sweeps.
-ghost use Rattle.td_book.specs.Arriving.{ArriveOutcome, SweepOutcome};
-ghost use Rattle.std.specs.Prelude.{◌≡◌};
+ghost use Rattle.std.specs.Prelude.{◌≡◌, true, Some, IfErr, IfOk};
+ghost use Rattle.td_rows.specs.Meaning.{applies as applies_to};
+ghost use Rattle.td_rows.specs.Table.{row_of};
+ghost use Rattle.td_core.specs.History.{rows_of};
+ghost use Rattle.td_book.specs.Arriving.{ArriveOutcome, ArriveStop, SweepOutcome};
 
 use crate::book::{Book, copies};
 use std::alloc::AllocError;
 use td_board::Board;
 use td_journal::{Entry, EntryNo, Keys};
-use td_rows::{Key, Kind, State, applies};
+use td_rows::{Key, Kind, Row, State, applies};
 
 #[derive(Clone, Copy, Debug, PartialEq, Eq)]
 pub enum ArriveRefusal {
@@ -16,9 +19,12 @@ pub enum ArriveRefusal {
 }
 
 impl<'a> Book<'a> {
-    /// The key's build has arrived in the archive.
-    pub fn arrive(&mut self, key: &Key) -> Result<EntryNo, ArriveRefusal>
-        ensures { ArriveOutcome key.now self.old self.new result }
+    /// The key's row, if an arrival applies on it, or why it doesn't. It takes no memory.
+    pub fn arrival_row(&self, key: &Key) -> Result<&Row, ArriveRefusal>
+        ensures ok { IfOk result (λ row.
+            (row_of (rows_of self.now.history) key.now ≡ Some row.now)
+            × (applies_to Kind.Arrive row.now ≡ true)) }
+        ensures err { IfErr result (ArriveStop key.now self.now) }
     {
         let Some(row) = self.inner.books.rows().get(key) else {
             return Err(ArriveRefusal::NoSuchRow);
@@ -26,7 +32,16 @@ impl<'a> Book<'a> {
         if !applies(&Kind::Arrive, row) {
             return Err(ArriveRefusal::DoesNotApply(row.state));
         }
-        let number = row.number;
+        Ok(row)
+    }
+
+    /// The key's build has arrived in the archive.
+    pub fn arrive(&mut self, key: &Key) -> Result<EntryNo, ArriveRefusal>
+        ensures { ArriveOutcome key.now self.old self.new result }
+    {
+        // (`rows` says that the keys of the rows rise)
+        let _rows = self.inner.books.rows();
+        let number = self.arrival_row(key)?.number;
         match self.inner.arrive(key, number) {
             Ok(n) => Ok(n),
             Err(_) => Err(ArriveRefusal::NoMemory),

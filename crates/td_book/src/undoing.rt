@@ -1,14 +1,17 @@
 //! Undos.
-ghost use Rattle.std.specs.Prelude.{◌≡◌, true, Some, None, IfOk, IfNone};
+ghost use Rattle.std.specs.Prelude.{◌≡◌, true, [], Some, None, IfOk, IfNone, OnErr};
 ghost use Rattle.td_rows.specs.Keys.{ascending};
 ghost use Rattle.td_journal.specs.declared.entry.Marked.{Marked as MarkedValue};
 ghost use Rattle.td_journal.specs.Entries.{entry_at, CanBeUndone};
 ghost use Rattle.td_journal.specs.Touching.{blocker};
+ghost use Rattle.td_core.specs.History.{rows_of};
+ghost use Rattle.td_book.specs.Seen.{seen_off};
 ghost use Rattle.td_book.specs.Calls.{off_for as off_keys};
-ghost use Rattle.td_book.specs.Undoing.{IsUndone, UndoAnswer, undo_stop};
+ghost use Rattle.td_book.specs.Undoing.{HasState, IsUndone, UndoAnswer, WithdrawAnswer, undo_stop};
 
 use crate::book::{Book, copies};
-use std::alloc::AllocError;
+use crate::inner::Inner;
+use std::alloc::{AllocError, Global};
 use td_board::Board;
 use td_journal::{EntryNo, Mark, is_command};
 use td_rows::{Key, cells_of};
@@ -35,8 +38,8 @@ impl<'a> Book<'a> {
         self.undo_standing(board, n)
     }
 
-    // Why an undo makes no atomic step, if so.
-    fn undo_refusal(&self, n: EntryNo) -> Option<UndoRefusal>
+    /// Why an undo makes no atomic step, if so. It takes no memory.
+    pub fn undo_refusal(&self, n: EntryNo) -> Option<UndoRefusal>
         ensures stop { result ≡ undo_stop self.now.history.journal n }
         ensures stands { IfNone result (CanBeUndone self.now.history.journal n) }
         ensures free { IfNone result (blocker self.now.history.journal n ≡ None) }
@@ -57,8 +60,9 @@ impl<'a> Book<'a> {
         }
     }
 
-    // Undoes a standing command that no later entry blocks, unless a builder won one of its rows.
-    fn undo_standing(&mut self, board: &Board, n: EntryNo) -> Result<(), UndoRefusal>
+    /// Undoes a standing command that no later entry blocks, unless a builder won one of its rows.
+    /// Ask `undo_refusal` first.
+    pub fn undo_standing(&mut self, board: &Board, n: EntryNo) -> Result<(), UndoRefusal>
         requires board { board.now.table ≡ self.old.fixed.table }
         requires stands { CanBeUndone self.old.history.journal n }
         requires free { blocker self.old.history.journal n ≡ None }
@@ -67,13 +71,7 @@ impl<'a> Book<'a> {
         let Ok(off) = self.keys_off(n) else {
             return Err(UndoRefusal::NoMemory);
         };
-        let Ok(claims) = self.inner.claims(self.alloc, &off, &off) else {
-            return Err(UndoRefusal::NoMemory);
-        };
-        match self.inner.withdraw_until(board, &off, claims) {
-            Some(m) => return Err(UndoRefusal::Blocked(m)),
-            None => {}
-        }
+        self.inner.withdraw_all(self.alloc, board, &off)?;
         self.inner.undo(n);
         self.inner.offer_each(board, &off);
         Ok(())
@@ -84,12 +82,39 @@ impl<'a> Book<'a> {
         ensures keys { (m : MarkedValue) → entry_at self.now.history.journal n ≡ Some m
             → IfOk result (λ keys. keys.items ≡ off_keys m.entry.kind m.entry.keys) }
         ensures rising { IfOk result (λ keys. ascending keys.items ≡ true) }
+        ensures memory { OnErr result (HasState self.now.history.journal n) }
     {
         match self.inner.books.journal().entry(n) {
             Some(marked) if cells_of(&marked.entry.kind).state => {
                 copies(self.alloc, marked.entry.keys.as_slice())
             }
             _ => Ok(Vec::new(self.alloc)),
+        }
+    }
+}
+
+impl<'a> Inner<'a> {
+    // Withdraws the keys' rows, unless a builder has won one. Without keys it takes no memory.
+    fn withdraw_all(
+        &mut self,
+        alloc: Global,
+        board: &Board,
+        keys: &[Key],
+    ) -> Result<(), UndoRefusal>
+        requires board { board.now.table ≡ self.old.table }
+        requires rising { ascending keys.now ≡ true }
+        requires rest { self.old.view ≡ seen_off [] (rows_of self.old.books.history) }
+        ensures { WithdrawAnswer keys.now self.old self.new result }
+    {
+        if keys.is_empty() {
+            return Ok(());
+        }
+        let Ok(claims) = self.claims_for_one(alloc, keys) else {
+            return Err(UndoRefusal::NoMemory);
+        };
+        match self.withdraw_until(board, keys, claims) {
+            Some(m) => Err(UndoRefusal::Blocked(m)),
+            None => Ok(()),
         }
     }
 }
