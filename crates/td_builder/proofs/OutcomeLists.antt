@@ -1,12 +1,17 @@
 -- The outcomes of lines, one by one.
 use Rattle.std.proofs.Common.{◌≡◌, ℕ, ◌+◌, List, [], ◌∷◌, ◌++◌, map}
-use Rattle.std.proofs.Common.{length, Some, None, refl, sym, ap, ◌∙◌, append_assoc}
+use Rattle.std.proofs.Common.{length, Some, None, refl, sym, ap, subst, ◌∙◌, append_assoc}
+use Rattle.std.specs.Prelude.{Option, Result, Ok, Err, IfOk}
+use Rattle.std.specs.declared.alloc.AllocError.{AllocError}
 use Rattle.std.specs.List.{AllByRecursion}
 use Rattle.std.proofs.lemmas.List.{append-nil}
 use Rattle.td_rows.specs.declared.key.Key.{Key}
 use Rattle.td_rows.specs.declared.outcome.Outcome.{Outcome}
+use Rattle.td_builder.specs.declared.fault.OutcomesFault.{OutcomesFault}
+use Rattle.td_builder.specs.declared.fault.OutcomesFault.TheVariants.{BadLine, NoMemory}
 use Rattle.td_builder.specs.OutcomeLines.{outcome_line, OutcomeFits, AreOutcomes, IsFirstBad}
-use Rattle.td_builder.specs.OutcomeReading.{outcome_line_at}
+use Rattle.td_builder.specs.OutcomeLines.{FaultOf}
+use Rattle.td_builder.specs.OutcomeReading.{outcome_line_at, line_told}
 use Rattle.td_builder.proofs.OutcomeTexts.{lines_exact}
 
 all-push : (os : List (Key × Outcome)) (p : Key × Outcome) → AllByRecursion OutcomeFits os
@@ -65,3 +70,20 @@ AreRead-bad number lines os line left after h is none counted = record {
       sym (lines_exact.again p fits) ∙ ap outcome_line_at (sym same) ∙ none in absurd cc);
   counted = counted;
 }
+
+-- a line is read where that is told
+pub told-read : (r : Result (Option (Key × Outcome)) AllocError) (n : ℕ) (p : Key × Outcome)
+    (o : Option (Key × Outcome)) → IfOk r (λ x. x ≡ o) → line_told r n ≡ Ok p → o ≡ Some p
+told-read (Ok (Some q)) n p o is told = sym is ∙ (let same : q ≡ p = cc in ap Some same)
+told-read (Ok None) n p o is told = cc
+told-read (Err e) n p o is told = cc
+
+-- a fault that is told: the line with this number is none, or memory is wanting
+pub told-fault : (lines : List (List ℕ)) (r : Result (Option (Key × Outcome)) AllocError) (n : ℕ)
+    (e : OutcomesFault) (o : Option (Key × Outcome)) → IfOk r (λ x. x ≡ o) → line_told r n ≡ Err e
+    → (o ≡ None → IsFirstBad lines n) → FaultOf lines e
+told-fault lines (Ok (Some q)) n e o is told bad = cc
+told-fault lines (Ok None) n e o is told bad =
+    let same : BadLine n ≡ e = cc in subst (FaultOf lines) same (bad (sym is))
+told-fault lines (Err x) n e o is told bad =
+    let same : NoMemory ≡ e = cc in subst (FaultOf lines) same tt

@@ -1,6 +1,5 @@
 -- Outcome lines are read exactly.
 use Rattle.std.proofs.Common.{◌≡◌, ℕ, List, ◌∷◌, ◌++◌, Some, refl, subst}
-use Rattle.td_text.specs.Cut.{cut}
 use Rattle.td_text.specs.Exact.{Exact}
 use Rattle.td_text.proofs.Chain.{chained, some_is}
 use Rattle.td_text.proofs.Cut.{cut-at, word_found}

@@ -1,6 +1,7 @@
 -- The outcome lines of each key, and which of them is used next. This project's own.
-use Rattle.std.specs.Prelude.{◌≡◌, ◌≢◌, ◌⊎◌, ℕ, ◌+◌, List, [], ◌∷◌, ◌++◌, Vec, Some, None, map}
-use Rattle.std.specs.Prelude.{Option, position, slice_get, slice_set, if◌then◌else◌}
+use Rattle.std.specs.Prelude.{◌≡◌, ◌⊎◌, ℕ, ◌+◌, List, [], ◌∷◌, ◌++◌, Vec, Some, None, map}
+use Rattle.std.specs.Prelude.{Option, length, position, replicate, slice_get, slice_set}
+use Rattle.std.specs.Prelude.{if◌then◌else◌}
 use Rattle.std.specs.Map.{keys_of, lookup}
 use Rattle.std.specs.declared.alloc.Global.{Global}
 use Rattle.td_board.specs.declared.outcome.OutcomeCode.{OutcomeCode}
@@ -9,6 +10,7 @@ use Rattle.td_rows.specs.declared.key.Key.{Key}
 use Rattle.td_rows.specs.declared.outcome.Outcome.{Outcome}
 use Rattle.td_rows.specs.declared.outcome.Outcome.TheVariants.{Built, Attempted, GivenBack, Waits}
 use Rattle.td_rows.specs.Keys.{same_key}
+use Rattle.td_journal.specs.Endings.{outcome_text}
 use Rattle.td_book.specs.Deeds.{code_of}
 use Rattle.td_builder.specs.declared.key_line.KeyLine.{KeyLine}
 use Rattle.td_builder.specs.declared.outcomes.Outcomes.{Outcomes}
@@ -41,6 +43,13 @@ codes_in k (p ∷ os) = if same_key k p.0 then code_of p.1 ∷ codes_in k os els
 -- the codes of a key's outcomes
 abbrev pub codes_of : Outcomes → Key → List OutcomeCode
 codes_of o k = map (λ (l : KeyLine). l.code) (lines_of_key o.lines.entries k)
+
+-- no line of these keys was used: each has the code and the text of its end, by the lines' numbers
+pub record AreUnused (m : KeyLines) (used : List ℕ) (texts : List (List ℕ)) : Type 0 where
+  pub ends : List (Key × Outcome)
+  pub lines : (k : Key) → lines_of_key m k ≡ numbered k 0 ends
+  pub texts_are : texts ≡ map (λ p. outcome_text p.1) ends
+  pub none_used : used ≡ replicate (length m) 0
 
 -- a code that a line has, or built
 abbrev pub MayAnswer : List OutcomeCode → OutcomeCode → Type 0

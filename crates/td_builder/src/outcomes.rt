@@ -7,16 +7,17 @@ ghost use Rattle.td_rows.specs.declared.outcome.Outcome.{Outcome as OutcomeValue
 ghost use Rattle.td_journal.specs.Endings.{outcome_text};
 ghost use Rattle.td_book.specs.Deeds.{code_of};
 ghost use Rattle.td_builder.specs.OutcomeLines.{AreOutcomes, FaultOf};
+ghost use Rattle.td_builder.specs.OutcomeReading.{line_told};
 ghost use Rattle.td_builder.specs.Unused.{lines_of_key, numbered, with_line, codes_in, codes_of};
 
 use crate::fault::OutcomesFault;
 use crate::floor::Builds;
 use crate::key_line::{KeyLine, push_line};
 use crate::outcome_line::read_outcome_line;
-use crate::unused::{Unused, parts_of};
+use crate::unused::{Unused, UnusedLock, parts_of};
 use indexmap::IndexMap;
 use std::alloc::{AllocError, Global};
-use std::sync::{Mutex, Wait};
+use std::sync::Wait;
 use td_book::Job;
 use td_rows::{Key, Line, Outcome};
 use td_text::{behind, next_line};
@@ -29,7 +30,7 @@ pub struct Outcomes {
     alloc: Global,
     lines: IndexMap<Key, Vec<KeyLine>>,
     // Behind the lock: which lines were used, and the texts of the others.
-    unused: Mutex<Unused>,
+    unused: UnusedLock,
 }
 
 // The lines that were read, and their texts in order.
@@ -56,6 +57,21 @@ impl Gathered {
     }
 }
 
+// What was read of the line with a number, or its fault: a line that is none isn't told as want of
+// memory.
+fn told(
+    read: Result<Option<(Key, Outcome)>, AllocError>,
+    number: usize,
+) -> Result<(Key, Outcome), OutcomesFault>
+    ensures { result ≡ line_told read number }
+{
+    match read {
+        Ok(Some(line)) => Ok(line),
+        Ok(None) => Err(OutcomesFault::BadLine(number)),
+        Err(_) => Err(OutcomesFault::NoMemory),
+    }
+}
+
 // The lines of a text.
 fn gather(alloc: Global, text: &str) -> Result<Gathered, OutcomesFault>
     ensures found { IfOk result (λ g. (os : List (KeyValue × OutcomeValue))
@@ -71,12 +87,8 @@ fn gather(alloc: Global, text: &str) -> Result<Gathered, OutcomesFault>
     let mut rest = text;
     while !rest.is_empty() {
         let (line, after) = next_line(rest);
-        let Ok(read) = read_outcome_line(alloc, line) else {
-            return Err(OutcomesFault::NoMemory);
-        };
-        let Some((key, outcome)) = read else {
-            return Err(OutcomesFault::BadLine(gathered.texts.len() + 1));
-        };
+        let read = read_outcome_line(alloc, line);
+        let (key, outcome) = told(read, gathered.texts.len() + 1)?;
         let Ok(()) = gathered.push(alloc, key, outcome) else {
             return Err(OutcomesFault::NoMemory);
         };
@@ -98,10 +110,11 @@ impl Outcomes {
         let Ok(unused) = Unused::new(alloc, texts, lines.len()) else {
             return Err(OutcomesFault::NoMemory);
         };
+        let unused = UnusedLock::new(&lines, unused);
         Ok(Outcomes {
             alloc,
             lines,
-            unused: Mutex::new(unused),
+            unused,
         })
     }
 }

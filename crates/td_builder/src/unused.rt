@@ -2,13 +2,14 @@
 ghost use Rattle.std.specs.Prelude.{◌≡◌, ℕ, [], IfOk, IfSome, IfNone, map, replicate};
 ghost use Rattle.td_journal.specs.Endings.{outcome_text};
 ghost use Rattle.td_book.specs.Deeds.{code_of as code_in};
-ghost use Rattle.td_builder.specs.Unused.{IsNext, IsNextOf, IsTaken, IsTakenOf};
+ghost use Rattle.td_builder.specs.Unused.{AreUnused, IsNext, IsNextOf, IsTaken, IsTakenOf};
 ghost use Rattle.td_builder.specs.Unused.{outcome_of as outcome_in};
 
 use crate::key_line::KeyLine;
 use indexmap::IndexMap;
 use std::alloc::{AllocError, Global};
 use std::mem;
+use std::sync::{Mutex, MutexGuard, Wait};
 use td_board::OutcomeCode;
 use td_rows::{Key, Line, Outcome};
 
@@ -18,6 +19,29 @@ use td_rows::{Key, Line, Outcome};
 pub(crate) struct Unused {
     texts: Vec<Line>,
     used: Vec<usize>,
+}
+
+/// The same under a lock, which is made while no line is used, and each has its text.
+#[derive(Drop)]
+pub(crate) struct UnusedLock {
+    unused: Mutex<Unused>,
+}
+
+impl UnusedLock {
+    /// The lock of what was read.
+    pub(crate) fn new(lines: &IndexMap<Key, Vec<KeyLine>>, unused: Unused) -> UnusedLock
+        requires { AreUnused lines.now.entries unused.used.items unused.texts.items }
+    {
+        let _lines = lines;
+        UnusedLock {
+            unused: Mutex::new(unused),
+        }
+    }
+
+    /// Waits for the lock, and takes it.
+    pub(crate) fn lock<R: Wait>(&self, rt: &R) -> MutexGuard<'_, Unused> {
+        self.unused.lock(rt)
+    }
 }
 
 // How a build ended, without the text, and the text.

@@ -1,5 +1,5 @@
 -- `build_each`: its loop and the clause `meanwhile`.
-use Rattle.std.proofs.Common.{◌≡◌, ℕ, ◌+◌, arith}
+use Rattle.std.proofs.Common.{◌+◌, arith}
 use Rattle.td_builder.proofs.Turning.{worked_more, on_err_from}
 use Rattle.td_builder.proofs.working.build_each.Goals as goal
 

@@ -1,5 +1,5 @@
 -- `Outcomes::read`: the clause `found`.
-use Rattle.std.proofs.Common.{List, map, ap, ◌∙◌}
+use Rattle.std.proofs.Common.{map, ap, ◌∙◌}
 use Rattle.td_builder.specs.declared.key_line.KeyLine.{KeyLine}
 use Rattle.td_builder.proofs.KeyLists.{codes_numbered}
 use Rattle.td_builder.proofs.outcomes.Outcomes.read.Goals as goal

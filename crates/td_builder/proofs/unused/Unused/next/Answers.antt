@@ -1,5 +1,5 @@
 -- `Unused::next`: the clause `taken`.
-use Rattle.std.proofs.Common.{rules, ◌≡◌, ◌<◌, length, refl, ap, sym, ◌∙◌}
+use Rattle.std.proofs.Common.{rules, ◌<◌, length, refl, ap, ◌∙◌}
 use Rattle.std.specs.Prelude.{slice_index_or}
 use Rattle.std.proofs.lemmas.Option.{slice_get-get_or, slice_get_read}
 use Rattle.td_board.specs.declared.outcome.OutcomeCode.TheVariants.{Built}
