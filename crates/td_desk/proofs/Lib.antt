@@ -9,3 +9,4 @@ pub mod Commanding
 pub mod Flooring
 pub mod Commanded
 pub mod Reopening
+pub mod Undoing

@@ -1,7 +1,7 @@
 -- What the calls of a desk answer, each over the locked book as it was when the call had the lock,
 -- and what receipt a clerk gets. This project's own.
-use Rattle.std.specs.Prelude.{◌≡◌, ◌≢◌, ◌⊎◌, ℕ, not, List, [], ◌∷◌, Option, Result, Err, IfOk}
-use Rattle.std.specs.Prelude.{filter, map}
+use Rattle.std.specs.Prelude.{◌≡◌, ◌≢◌, ◌⊎◌, ℕ, not, List, [], ◌∷◌, Option, None, Result, Err}
+use Rattle.std.specs.Prelude.{IfOk, filter, map}
 use Rattle.std.specs.declared.alloc.AllocError.{AllocError}
 use Rattle.atomic_table.specs.Seated.{TableId}
 use Rattle.td_rows.specs.declared.key.Key.{Key}
@@ -19,6 +19,7 @@ use Rattle.td_book.specs.declared.arriving.ArriveRefusal.{ArriveRefusal}
 use Rattle.td_book.specs.declared.commanding.CommandRefusal.{CommandRefusal}
 use Rattle.td_book.specs.declared.commanding.Taken.{Taken}
 use Rattle.td_book.specs.declared.undoing.UndoRefusal.{UndoRefusal}
+use Rattle.td_book.specs.declared.undoing.UndoRefusal.TheVariants as undos
 use Rattle.td_book.specs.declared.starting.Job.{Job}
 use Rattle.td_book.specs.declared.starting.StartRefusal.{StartRefusal}
 use Rattle.td_book.specs.declared.finishing.FinishRefusal.{FinishRefusal}
@@ -73,11 +74,17 @@ Commanding c table origin clerk after result =
     (old : BookModel) × (new : BookModel) × IsOfDesk table origin old × IsDone c old new result
     × IfOk result (λ t. after ≡ with_receipt (command_receipt c old t) clerk)
 
--- an undo's: what such a book answers to the undo of entry n
+-- what a book answers to the undo of entry n; but where memory is wanting before it is undone, an
+-- undo that the marks don't refuse is told so, and all stays
+abbrev pub UndoTold : ℕ → BookModel → BookModel → Result (Unit {0}) UndoRefusal → Type 0
+UndoTold n old new result =
+    ((result ≡ Err undos.NoMemory) × (undo_stop old.history.journal n ≡ None) × (new ≡ old))
+    ⊎ UndoAnswer (undo_stop old.history.journal n) n old new result
+
+-- an undo's: what such a book answers to it so
 abbrev pub Undoing : ℕ → TableId → Origin → Result (Unit {0}) UndoRefusal → Type 0
 Undoing n table origin result =
-    (old : BookModel) × (new : BookModel) × IsOfDesk table origin old
-    × UndoAnswer (undo_stop old.history.journal n) n old new result
+    (old : BookModel) × (new : BookModel) × IsOfDesk table origin old × UndoTold n old new result
 
 -- an arrival's: what such a book answers to the arrival of this key's build
 abbrev pub Arriving : Key → TableId → Origin → Result ℕ ArriveRefusal → Type 0

@@ -11,7 +11,7 @@ use std::alloc::AllocError;
 use std::sync::Wait;
 use std::sync::ledger::Ledger;
 use td_board::BuilderSeat;
-use td_book::{Book, FinishRefusal, Job, StartRefusal};
+use td_book::{FinishRefusal, Job, StartRefusal};
 use td_journal::EntryNo;
 use td_rows::Outcome;
 
@@ -45,7 +45,7 @@ impl<'a, N: Named, C: Ledger> Desk<'a, N, C> {
         ensures answer { Finishing outcome seat.old seat.new N.table N.origin result }
     {
         let answer = self.locked.lock(rt).finish(&self.board, seat, outcome);
-        self.changed.notify_all();
+        self.locked.wake();
         answer
     }
 
@@ -55,16 +55,6 @@ impl<'a, N: Named, C: Ledger> Desk<'a, N, C> {
         ensures { (book : BookModel) × IsOfDesk N.table N.origin book
             × (result ≡ is_any_queued (rows_of book.history)) }
     {
-        let locked = self.changed.wait_while(rt, self.locked.lock(rt), |locked| {
-            !locked.shut && !has_work(&locked.book)
-        });
-        has_work(locked.book())
+        self.locked.lock_awake(rt).has_work()
     }
-}
-
-// Whether a row waits for a builder. It looks at no row.
-fn has_work(book: &Book<'_>) -> bool
-    ensures { result ≡ is_any_queued (rows_of book.now.history) }
-{
-    book.waits()
 }

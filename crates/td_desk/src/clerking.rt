@@ -8,11 +8,11 @@ ghost use Rattle.td_desk.specs.Clerks.{with_receipt};
 use crate::clerk::Clerk;
 use crate::desk::Desk;
 use crate::named::Named;
-use std::alloc::{AllocError, Global};
+use std::alloc::AllocError;
 use std::sync::Wait;
 use std::sync::ledger::Ledger;
 use td_book::{ArriveRefusal, CommandRefusal, Taken, UndoRefusal};
-use td_journal::{EntryNo, Keys};
+use td_journal::EntryNo;
 use td_rows::Key;
 use td_wbread::Command;
 
@@ -39,7 +39,7 @@ impl<'a, N: Named, C: Ledger> Desk<'a, N, C> {
             &mut clerk.receipts,
             command,
         );
-        self.changed.notify_all();
+        self.locked.wake();
         answer
     }
 
@@ -47,16 +47,13 @@ impl<'a, N: Named, C: Ledger> Desk<'a, N, C> {
     pub fn undo<R: Wait>(&self, rt: &R, clerk: &mut Clerk<C>, n: EntryNo) -> Result<(), UndoRefusal>
         ensures ok { OnOk result (clerk.new ≡ with_receipt (receipt.Undid n) clerk.old) }
         ensures err { OnErr result (clerk.new ≡ clerk.old) }
-        ensures answer { (result ≡ Err UndoRefusal.NoMemory) ⊎ Undoing n N.table N.origin result }
+        ensures answer { Undoing n N.table N.origin result }
     {
-        if clerk.receipts.reserve(1).is_err() {
-            return Err(UndoRefusal::NoMemory);
-        }
         let answer = self
             .locked
             .lock(rt)
             .undo(&self.board, &mut clerk.share, &mut clerk.receipts, n);
-        self.changed.notify_all();
+        self.locked.wake();
         answer
     }
 
@@ -70,20 +67,13 @@ impl<'a, N: Named, C: Ledger> Desk<'a, N, C> {
         ensures ok { IfOk result (λ n.
             clerk.new ≡ with_receipt (arrival_receipt key.now n) clerk.old) }
         ensures err { OnErr result (clerk.new ≡ clerk.old) }
-        ensures answer { (result ≡ Err ArriveRefusal.NoMemory)
-            ⊎ Arriving key.now N.table N.origin result }
+        ensures answer { Arriving key.now N.table N.origin result }
     {
-        if clerk.receipts.reserve(1).is_err() {
-            return Err(ArriveRefusal::NoMemory);
-        }
-        let Ok(keys) = one_key(self.alloc, key) else {
-            return Err(ArriveRefusal::NoMemory);
-        };
         let answer = self
             .locked
             .lock(rt)
-            .arrive(&mut clerk.share, &mut clerk.receipts, key, keys);
-        self.changed.notify_all();
+            .arrive(&mut clerk.share, &mut clerk.receipts, key, self.alloc);
+        self.locked.wake();
         answer
     }
 
@@ -107,16 +97,7 @@ impl<'a, N: Named, C: Ledger> Desk<'a, N, C> {
         let Some(n) = swept else {
             return Ok(None);
         };
-        self.changed.notify_all();
+        self.locked.wake();
         Ok(Some(n))
     }
-}
-
-// The keys of an entry on one key.
-fn one_key(alloc: Global, key: &Key) -> Result<Keys, AllocError>
-    ensures { IfOk result (λ keys. keys ≡ key.now ∷ []) }
-{
-    let mut keys = Vec::with_capacity(alloc, 1)?;
-    keys.push(key.copy()?)?;
-    Ok(Keys::new(keys))
 }

@@ -19,13 +19,14 @@ ghost use Rattle.td_desk.specs.inner.Begun.{IsBegun};
 ghost use Rattle.td_desk.specs.inner.Ticks.{AreBegun};
 
 use crate::clerk::Clerk;
+use crate::lock::Lock;
 use crate::locked::Locked;
 use crate::named::Named;
 use crate::place::set_ticks;
 use crate::tick::Tick;
 use std::alloc::{AllocError, Global};
+use std::sync::Wait;
 use std::sync::ledger::{Blank, Ledger};
-use std::sync::{Condvar, Mutex, Wait};
 use td_board::{Board, BuilderSeat, DeskSeat};
 use td_book::Book;
 use td_journal::ReadError;
@@ -42,8 +43,7 @@ pub struct Desk<'a, N: Named, C: Ledger> {
     pub(crate) alloc: Global,
     pub(crate) board: Board,
     pub(crate) opening: Rows,
-    pub(crate) locked: Mutex<Locked<'a, N, C>>,
-    pub(crate) changed: Condvar,
+    pub(crate) locked: Lock<'a, N, C>,
     ghost named: { board.table ≡ N.table },
 }
 
@@ -144,8 +144,7 @@ impl<'a, N: Named, C: Ledger> Desk<'a, N, C> {
 
     /// Says that nothing more comes: builders whom no row waits for go home.
     pub fn shut<R: Wait>(&self, rt: &R) {
-        self.locked.lock(rt).shut = true;
-        self.changed.notify_all();
+        self.locked.shut(rt);
     }
 
     /// A builder's claim of a row, without the lock.
@@ -237,8 +236,7 @@ fn begin<'a, N: Named, C: Ledger>(
         alloc,
         board,
         opening,
-        locked: Mutex::new(Locked::new(book, ledger, ticks)),
-        changed: Condvar::new(),
+        locked: Lock::new(Locked::new(book, ledger, ticks)),
     };
     let clerk = Clerk {
         share,

@@ -15,6 +15,7 @@ mod clerking;
 mod closing;
 mod desk;
 mod floor;
+mod lock;
 mod locked;
 mod matching;
 mod named;

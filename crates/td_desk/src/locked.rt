@@ -1,14 +1,16 @@
 //! What lies under the lock of a desk.
-ghost use Rattle.std.specs.Prelude.{◌≡◌, ◌⊎◌, ◌+◌, ◌<◌, vec_len, vec_capacity, ◌∷◌, ◌++◌, []};
-ghost use Rattle.std.specs.Prelude.{length, true, false, Ok, Err, OnOk, OnErr, IfOk, IsPermutation};
+ghost use Rattle.std.specs.Prelude.{◌≡◌, ◌||◌, ◌+◌, ◌<◌, vec_len, vec_capacity, ◌∷◌, ◌++◌, [], not};
+ghost use Rattle.std.specs.Prelude.{length, true, false, OnOk, OnErr, IfOk, IsPermutation};
 ghost use Rattle.std.specs.Prelude.{MatchOption};
 ghost use Rattle.td_book.specs.Arriving.{ArriveOutcome, SweepOutcome};
 ghost use Rattle.td_book.specs.Building.{StartOutcome};
-ghost use Rattle.td_book.specs.Undoing.{UndoAnswer, undo_stop};
+ghost use Rattle.td_book.specs.Ready.{is_any_queued};
+ghost use Rattle.td_core.specs.History.{rows_of};
 ghost use Rattle.td_desk.specs.declared.receipt.Receipt.TheVariants as receipt;
 ghost use Rattle.td_wbread.specs.Views.{parts_of};
 ghost use Rattle.td_book.specs.Commands.{IsDone};
-ghost use Rattle.td_desk.specs.Calls.{FinishTold, IsOfDesk, arrival_receipt, command_receipt};
+ghost use Rattle.td_desk.specs.Calls.{FinishTold, IsOfDesk, UndoTold, arrival_receipt};
+ghost use Rattle.td_desk.specs.Calls.{command_receipt};
 ghost use Rattle.td_desk.specs.Changes.{changes, still_undone};
 ghost use Rattle.td_desk.specs.GoingOn.{Begins};
 ghost use Rattle.td_desk.specs.inner.Ticks.{AreBegun};
@@ -36,7 +38,7 @@ pub(crate) struct Locked<'a, N: Named, C: Ledger> {
     pub(crate) book: Book<'a>,
     pub(crate) ledger: ledger::Book<C>,
     pub(crate) ticks: Vec<Tick>,
-    pub(crate) shut: bool,
+    shut: bool,
     of: PhantomData<N>,
     ghost named: { book.fixed.table ≡ N.table },
     ghost origin: { book.history.opening ≡ N.origin.rows },
@@ -80,6 +82,32 @@ impl<'a, N: Named, C: Ledger> Locked<'a, N, C> {
         &self.book
     }
 
+    /// Shuts the desk.
+    pub(crate) fn shut(&mut self)
+        ensures shut { self.new.shut ≡ true }
+        ensures book { self.new.book ≡ self.old.book }
+    {
+        self.shut = true;
+    }
+
+    /// Whether who asks for work has to wait: the desk is open, and no row waits for a builder.
+    pub(crate) fn is_idle(&self) -> bool
+        ensures { result
+            ≡ not (self.now.shut || is_any_queued (rows_of self.now.book.history)) }
+    {
+        !self.shut && !self.book.waits()
+    }
+
+    /// Whether a row waits for a builder. It is asked of a desk that is shut, or where one does.
+    pub(crate) fn has_work(&self) -> bool
+        requires { (self.now.shut || is_any_queued (rows_of self.now.book.history)) ≡ true }
+        ensures work { result ≡ is_any_queued (rows_of self.now.book.history) }
+        ensures shut { result ≡ false → self.now.shut ≡ true }
+        ensures of_desk { IsOfDesk N.table N.origin self.now.book }
+    {
+        self.book().waits()
+    }
+
     /// A command, with its receipt, for which there is room.
     pub(crate) fn command(
         &mut self,
@@ -119,10 +147,7 @@ impl<'a, N: Named, C: Ledger> Locked<'a, N, C> {
         if add_ticks(ticks, book.journal().len(), draft.named.len() + 1).is_err() {
             return Err(CommandRefusal::NoMemory);
         }
-        let taken = match book.command(board, command) {
-            Ok(taken) => taken,
-            Err(refusal) => return Err(refusal),
-        };
+        let taken = book.command(board, command)?;
         ledger.add(mine, 1);
         let Draft { kind, named, told } = draft;
         let keys = left_out(named, taken.skips.as_slice(), told);
@@ -130,7 +155,7 @@ impl<'a, N: Named, C: Ledger> Locked<'a, N, C> {
         Ok(taken)
     }
 
-    /// An undo, with its receipt, for which there is room.
+    /// An undo, with its receipt. One that the marks refuse is told so before memory is taken.
     pub(crate) fn undo(
         &mut self,
         board: &Board,
@@ -140,7 +165,6 @@ impl<'a, N: Named, C: Ledger> Locked<'a, N, C> {
     ) -> Result<(), UndoRefusal>
         requires board { board.now.table ≡ N.table }
         requires part { 0 < mine.old.parts }
-        requires room { vec_len receipts.old < vec_capacity receipts.old }
         ensures told { OnOk result
             (receipts.new.items ≡ receipts.old.items ++ receipt.Undid n ∷ []) }
         ensures untold { OnErr result (receipts.new.items ≡ receipts.old.items) }
@@ -152,9 +176,7 @@ impl<'a, N: Named, C: Ledger> Locked<'a, N, C> {
             (changes N.opened self.new.book)) }
         ensures shut { self.new.shut ≡ self.old.shut }
         ensures of_desk { IsOfDesk N.table N.origin self.old.book }
-        ensures answer { ((result ≡ Err UndoRefusal.NoMemory) × (self.new.book ≡ self.old.book))
-            ⊎ UndoAnswer (undo_stop self.old.book.history.journal n) n self.old.book self.new.book
-            result }
+        ensures answer { UndoTold n self.old.book self.new.book result }
     {
         let _of_desk = self.book();
         let Locked {
@@ -163,29 +185,28 @@ impl<'a, N: Named, C: Ledger> Locked<'a, N, C> {
             ticks,
             ..
         } = self;
-        if add_ticks(ticks, book.journal().len(), 1).is_err() {
+        if let Some(refusal) = book.undo_refusal(n) {
+            return Err(refusal);
+        }
+        if receipts.reserve(1).is_err() || add_ticks(ticks, book.journal().len(), 1).is_err() {
             return Err(UndoRefusal::NoMemory);
         }
-        match book.undo(board, n) {
-            Ok(()) => {}
-            Err(refusal) => return Err(refusal),
-        }
+        book.undo_standing(board, n)?;
         ledger.add(mine, 1);
         receipts.push_reserved(Receipt::Undid(n));
         Ok(())
     }
 
-    /// An arrival, with its receipt, for which there is room.
+    /// An arrival, with its receipt. One without a row on which it applies is told so before memory
+    /// is taken.
     pub(crate) fn arrive(
         &mut self,
         mine: &mut Share<C>,
         receipts: &mut Vec<Receipt>,
         key: &Key,
-        keys: Keys,
+        alloc: Global,
     ) -> Result<EntryNo, ArriveRefusal>
-        requires keys { keys ≡ key.now ∷ [] }
         requires part { 0 < mine.old.parts }
-        requires room { vec_len receipts.old < vec_capacity receipts.old }
         ensures told { IfOk result (λ n.
             receipts.new.items ≡ receipts.old.items ++ arrival_receipt key.now n ∷ []) }
         ensures untold { OnErr result (receipts.new.items ≡ receipts.old.items) }
@@ -197,8 +218,7 @@ impl<'a, N: Named, C: Ledger> Locked<'a, N, C> {
             (changes N.opened self.new.book)) }
         ensures shut { self.new.shut ≡ self.old.shut }
         ensures of_desk { IsOfDesk N.table N.origin self.old.book }
-        ensures answer { ((result ≡ Err ArriveRefusal.NoMemory) × (self.new.book ≡ self.old.book))
-            ⊎ ArriveOutcome key.now self.old.book self.new.book result }
+        ensures answer { ArriveOutcome key.now self.old.book self.new.book result }
     {
         let _of_desk = self.book();
         let Locked {
@@ -207,13 +227,16 @@ impl<'a, N: Named, C: Ledger> Locked<'a, N, C> {
             ticks,
             ..
         } = self;
-        if add_ticks(ticks, book.journal().len(), 1).is_err() {
+        if let Err(refusal) = book.arrival_row(key) {
+            return Err(refusal);
+        }
+        let Ok(keys) = Keys::of_one(alloc, key) else {
+            return Err(ArriveRefusal::NoMemory);
+        };
+        if receipts.reserve(1).is_err() || add_ticks(ticks, book.journal().len(), 1).is_err() {
             return Err(ArriveRefusal::NoMemory);
         }
-        let n = match book.arrive(key) {
-            Ok(n) => n,
-            Err(refusal) => return Err(refusal),
-        };
+        let n = book.arrive(key)?;
         ledger.add(mine, 1);
         receipts.push_reserved(Receipt::Made(n, Kind::Arrive, keys));
         Ok(n)

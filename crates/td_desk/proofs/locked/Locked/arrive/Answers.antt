@@ -1,5 +1,6 @@
 -- `Locked::arrive`: what its types keep and the clause `change`.
 use Rattle.std.proofs.Common.{rules, arith, ◌≤◌, ◌+◌, ◌∙◌, ap, sym, length, Ok, Err}
+use Rattle.td_book.specs.Arriving.{ArriveOutcome}
 use Rattle.td_book.specs.Desk.{Fixed}
 use Rattle.td_desk.proofs.Counting.{one_more}
 use Rattle.td_desk.proofs.Growing.{arrive_grown, arrive_kept}
@@ -8,11 +9,13 @@ use Rattle.td_desk.proofs.Origins.{arrive_origin}
 use Rattle.td_desk.specs.inner.Ticks.{AreBegun}
 use Rattle.td_desk.proofs.locked.Locked.arrive.Goals as goal
 
-pub invariant_of-self-in-Err-1 : goal.invariant_of-self-in-Err-1
-invariant_of-self-in-Err-1 g c =
+pub invariant_of-self-in-Break-1 : goal.invariant_of-self-in-Break-1
+invariant_of-self-in-Break-1 g c =
     let old = c.args.self.now in
-    let k = arrive_kept g.N.Named.opened c.args.key.now c.in-Err.refusal old.book c.arrive.new.self
-    old.still c.in-Err.ensures in
+    let done : ArriveOutcome c.args.key.now old.book c.arrive.new.self (Err c.in_err-n.field-0.0) =
+    search rules in
+    let k = arrive_kept g.N.Named.opened c.args.key.now c.in_err-n.field-0.0 old.book c.arrive.new.self
+    old.still done in
     let room : length old.book.history.journal + 1 ≤ length c.add_ticks.new.ticks.items =
     search rules in
     let held : AreBegun g.N.Named.opened c.len.result c.add_ticks.new.ticks.items =
@@ -20,7 +23,7 @@ invariant_of-self-in-Err-1 g c =
     record {
       named = ap (λ (f : Fixed). f.table) k.fixed ∙ old.named;
       origin = arrive_origin c.args.key.now old.book c.arrive.new.self
-          (Err c.in-Err.refusal) c.in-Err.ensures ∙ old.origin;
+          (Err c.in_err-n.field-0.0) done ∙ old.origin;
       stocked = ap (λ (f : Fixed). f.stock) k.fixed ∙ old.stocked;
       began = begins-on g.N.Named.origin old.book.history.journal _ old.began k.on;
       still = k.still;
@@ -31,8 +34,10 @@ invariant_of-self-in-Err-1 g c =
 pub invariant_of-self-2 : goal.invariant_of-self-2
 invariant_of-self-2 g c =
     let old = c.args.self.now in
-    let k = arrive_grown g.N.Named.opened c.args.key.now c.in-Ok.n old.book c.arrive.new.self
-    old.still c.in-Ok.ensures in
+    let done : ArriveOutcome c.args.key.now old.book c.arrive.new.self (Ok c.in_ok-n.n) =
+    search rules in
+    let k = arrive_grown g.N.Named.opened c.args.key.now c.in_ok-n.n old.book c.arrive.new.self
+    old.still done in
     let room : length old.book.history.journal + 1 ≤ length c.add_ticks.new.ticks.items =
     search rules in
     let held : AreBegun g.N.Named.opened c.len.result c.add_ticks.new.ticks.items =
@@ -40,7 +45,7 @@ invariant_of-self-2 g c =
     record {
       named = ap (λ (f : Fixed). f.table) k.fixed ∙ old.named;
       origin = arrive_origin c.args.key.now old.book c.arrive.new.self
-          (Ok c.in-Ok.n) c.in-Ok.ensures ∙ old.origin;
+          (Ok c.in_ok-n.n) done ∙ old.origin;
       stocked = ap (λ (f : Fixed). f.stock) k.fixed ∙ old.stocked;
       began = begins-on g.N.Named.origin old.book.history.journal _ old.began k.on;
       still = k.still;
@@ -51,6 +56,8 @@ invariant_of-self-2 g c =
 pub returns-clause-change : goal.returns-clause-change
 returns-clause-change g c =
     let old = c.args.self.now in
-    let k = arrive_grown g.N.Named.opened c.args.key.now c.in-Ok.n old.book c.arrive.new.self
-    old.still c.in-Ok.ensures in
+    let done : ArriveOutcome c.args.key.now old.book c.arrive.new.self (Ok c.in_ok-n.n) =
+    search rules in
+    let k = arrive_grown g.N.Named.opened c.args.key.now c.in_ok-n.n old.book c.arrive.new.self
+    old.still done in
     k.one

@@ -1,0 +1,67 @@
+//! The lock of a desk, and who waits at it for work.
+ghost use Rattle.std.specs.Prelude.{◌≡◌, ◌||◌, false, not, true};
+ghost use Rattle.std.specs.Sync.Mutex.{mutex_guard_value};
+ghost use Rattle.td_core.specs.History.{rows_of};
+ghost use Rattle.td_book.specs.Ready.{is_any_queued};
+
+use crate::locked::Locked;
+use crate::named::Named;
+use std::sync::ledger::Ledger;
+use std::sync::{Condvar, Mutex, MutexGuard, Wait};
+
+/// What lies under the lock. It is made open, and `shut` alone shuts it: the fields are seen here
+/// alone.
+#[derive(Drop)]
+pub(crate) struct Lock<'a, N: Named, C: Ledger> {
+    locked: Mutex<Locked<'a, N, C>>,
+    changed: Condvar,
+}
+
+impl<'a, N: Named, C: Ledger> Lock<'a, N, C> {
+    /// The lock of a desk that is open.
+    pub(crate) fn new(locked: Locked<'a, N, C>) -> Lock<'a, N, C>
+        requires { locked.shut ≡ false }
+    {
+        Lock {
+            locked: Mutex::new(locked),
+            changed: Condvar::new(),
+        }
+    }
+
+    /// Waits for the lock, and takes it.
+    pub(crate) fn lock<R: Wait>(&self, rt: &R) -> MutexGuard<'_, Locked<'a, N, C>> {
+        self.locked.lock(rt)
+    }
+
+    /// Wakes those who wait for work.
+    pub(crate) fn wake(&self) {
+        self.changed.notify_all();
+    }
+
+    /// Shuts the desk, and wakes those who wait.
+    pub(crate) fn shut<R: Wait>(&self, rt: &R) {
+        self.locked.lock(rt).shut();
+        self.wake();
+    }
+
+    /// Waits until a row waits for a builder, or the desk is shut, and takes the lock.
+    pub(crate) fn lock_awake<R: Wait>(&self, rt: &R) -> MutexGuard<'_, Locked<'a, N, C>>
+        ensures { ((mutex_guard_value result).shut
+            || is_any_queued (rows_of (mutex_guard_value result).book.history)) ≡ true }
+    {
+        self.changed.wait_while(
+            rt,
+            self.locked.lock(rt),
+            |locked| -> bool
+                ensures now { locked.new ≡ locked.old }
+                ensures idle { result
+                    ≡ not (locked.old.shut || is_any_queued (rows_of locked.old.book.history)) }
+            { locked.is_idle() },
+        )
+    }
+
+    /// What lies under it.
+    pub(crate) fn into_inner(self) -> Locked<'a, N, C> {
+        self.locked.into_inner()
+    }
+}
