@@ -1,9 +1,9 @@
 -- Counts of the Installed rows of groups are those of levels.
 use Rattle.std.proofs.Common.{◌≡◌, ◌<◌, ◌≤◌, ◌+◌, ◌-◌, ◌&&◌, ◌∷◌, [], ℕ}
-use Rattle.std.proofs.Common.{List, Option, None, Some, filter, count_by, refl, sym, ap, ◌∙◌, inl}
-use Rattle.std.proofs.Common.{inr}
-use Rattle.std.proofs.Common.{arith, if◌then◌else◌}
-use Rattle.std.specs.Prelude.{is_some}
+use Rattle.std.proofs.Common.{List, Option, None, Some, filter, count_by, map, refl, sym, ap, subst}
+use Rattle.std.proofs.Common.{◌∙◌, inl, inr, arith, if◌then◌else◌}
+use Rattle.std.specs.Borrow.{Bor}
+use Rattle.std.specs.Prelude.{IfSome, is_some}
 use Rattle.std.specs.List.{cons_option}
 use Rattle.std.specs.Option.{option_map}
 use Rattle.std.proofs.lemmas.Bool.{cases_Bool}
@@ -19,25 +19,23 @@ use Rattle.td_waves.specs.declared.level.Level.{Level}
 use Rattle.td_waves.specs.declared.level.Level.TheVariants.{At, Cyclic}
 use Rattle.td_waves.specs.Levels.{IsDepth}
 use Rattle.td_report.specs.Groups.{AreCounts, is_group, is_there, level_group}
-use Rattle.td_report.specs.Report.{AffectedRow, AreInstalledCounts, is_installed}
-use Rattle.td_report.specs.Report.{is_level, stands_at}
+use Rattle.td_report.specs.Report.{AffectedRow, is_installed, is_level, stands_at}
 use Rattle.td_report.specs.Transition.{affected_rows}
 use Rattle.td_report.specs.TransitionView.{contents_of, depth_of, level_of, tracking_of}
+use Rattle.td_report.specs.declared.item.Item.{Item}
+use Rattle.td_report.specs.inner.Blocks.{AreInstalledCounts, installed_at}
+use Rattle.td_report.specs.inner.ItemLines.{seen}
 use Rattle.td_report.specs.declared.transition.Transition.{Transition}
-
--- the rows at a level that are Installed
-abbrev here : Level → List AffectedRow → ℕ
-here level rows = count_by is_installed (filter (stands_at level) rows)
 
 -- one row more, of which a group is counted as a level is
 one-more : (level : Level) (group depth : ℕ) (l : Option Level)
     → is_group (level_group depth l) group ≡ is_level level l
     → (s : Option Status) (key : Key) (row : Row) (rest : List AffectedRow) (n : ℕ)
-    → n ≡ here level rest
+    → n ≡ installed_at rest level
     → (if is_group (if is_some s then level_group depth l else None) group
     && is_installed_state row.state then 1 else 0) + n
-    ≡ here level (cons_option (option_map (λ status. record
-    { key = key; row = row; status = status; level = l }) s) rest)
+    ≡ installed_at (cons_option (option_map (λ status. record
+    { key = key; row = row; status = status; level = l }) s) rest) level
 one-more level group depth l same None key row rest n so = omega (arith, so)
 one-more level group depth l same (Some s) key row rest n so =
     let r : AffectedRow = record { key = key; row = row; status = s; level = l } in
@@ -55,7 +53,7 @@ group-level : (x : Transition) (level : Level) (group : ℕ)
     → ((source : List ℕ) → is_group (level_group (depth_of x) (level_of x source)) group
     ≡ is_level level (level_of x source)) → (rows : Table)
     → count_by (is_there x group) rows
-    ≡ here level (affected_rows (contents_of x) (tracking_of x) (level_of x) rows)
+    ≡ installed_at (affected_rows (contents_of x) (tracking_of x) (level_of x) rows) level
 group-level x level group same [] = refl
 group-level x level group same (p ∷ rows) =
     sum_by-cons (λ q. if is_there x group q then 1 else 0) p rows
@@ -105,7 +103,7 @@ of-cyclic depth (Some Cyclic) within = elim (eqb_tells depth depth) [
 
 -- ---- the counts
 
-pub counts-levels : (x : Transition) (rows : Table) (counts : List ℕ)
+counts-levels : (x : Transition) (rows : Table) (counts : List ℕ)
     → IsDepth (level_of x) (depth_of x) → AreCounts x rows counts
     → AreInstalledCounts (depth_of x)
     (affected_rows (contents_of x) (tracking_of x) (level_of x) rows) counts
@@ -117,3 +115,15 @@ counts-levels x rows counts deep are = record {
       (group-level x Cyclic (depth_of x) (λ source. of-cyclic (depth_of x) (level_of x source)
       (λ k is. deep.within source k is)) rows);
 }
+
+-- and so they are of the rows where they were read, if counts are given at all
+pub counts_read : (x : Transition) (rows : Table) (items now : List Item) (d : ℕ)
+    (counts : Option (Bor (List ℕ))) → IsDepth (level_of x) (depth_of x)
+    → map seen items ≡ affected_rows (contents_of x) (tracking_of x) (level_of x) rows
+    → now ≡ items → d ≡ depth_of x → IfSome counts (λ cs. AreCounts x rows cs.now)
+    → IfSome counts (λ cs. AreInstalledCounts d (map seen now) cs.now)
+counts_read x rows items now d None deep are same is of_groups = tt
+counts_read x rows items now d (Some cs) deep are same is of_groups =
+    subst (λ d. AreInstalledCounts d (map seen now) cs.now) (sym is)
+    (subst (λ l. AreInstalledCounts (depth_of x) l cs.now) (sym (ap (map seen) same ∙ are))
+    (counts-levels x rows cs.now deep of_groups))

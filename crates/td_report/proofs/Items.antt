@@ -23,10 +23,8 @@ use Rattle.td_waves.specs.Waves.{BuildsOn}
 use Rattle.td_waves.specs.Waves as of_waves
 use Rattle.td_report.specs.declared.item.Item.{Item}
 use Rattle.td_text.specs.Lines.{text_of}
-use Rattle.td_report.specs.inner.ItemLines.{report_lines, seen, waves}
-use Rattle.td_report.proofs.SeenRows.{lines-seen, waves-seen}
-use Rattle.td_report.specs.Report as report
-use Rattle.td_report.specs.Report.{AffectedRow}
+use Rattle.td_report.specs.inner.ItemLines.{seen}
+use Rattle.td_report.specs.Report.{AffectedRow, report_lines, waves_lines}
 use Rattle.td_report.specs.Transition.{AreLevels, IsAffected, IsReport, IsWaves, affected_rows}
 
 -- ---- one row more
@@ -93,24 +91,22 @@ are_levels a t names level depth is stands deep = record {
 pub is_report : (a : Contents) (t : Tracking) (level : List ℕ → Option Level) (depth : ℕ)
     (rows : Table) (items now : List Item) (title : List ℕ) (d : ℕ) (text : List ℕ)
     → AreLevels a t level depth
-    → text ≡ text_of (report_lines title d now) → title ≡ t.title → d ≡ depth → now ≡ items
-    → map seen items ≡ affected_rows a t level rows → IsReport a t rows text
+    → text ≡ text_of (report_lines title d (map seen now)) → title ≡ t.title → d ≡ depth
+    → now ≡ items → map seen items ≡ affected_rows a t level rows → IsReport a t rows text
 is_report a t level depth rows items now title d text levels written titled deep same are = record {
   level = level;
   depth = depth;
   levels = levels;
   written =
       written
-      ∙ ap (λ x. text_of (report_lines x d now)) titled
-      ∙ ap (λ x. text_of (report_lines t.title x now)) deep
-      ∙ ap (λ x. text_of (report_lines t.title depth x)) same
-      ∙ sym (ap (λ (ls : List (List ℕ)). text_of ls) (lines-seen t.title depth items))
-      ∙ ap (λ x. text_of (report.report_lines t.title depth x)) are;
+      ∙ ap (λ x. text_of (report_lines x d (map seen now))) titled
+      ∙ ap (λ x. text_of (report_lines t.title x (map seen now))) deep
+      ∙ ap (λ x. text_of (report_lines t.title depth x)) (ap (map seen) same ∙ are);
 }
 
 pub are_waves : (a : Contents) (t : Tracking) (level : List ℕ → Option Level) (depth : ℕ)
     (rows : Table) (items now : List Item) (d : ℕ) (text : List ℕ) → AreLevels a t level depth
-    → text ≡ text_of (waves d now) → d ≡ depth → now ≡ items
+    → text ≡ text_of (waves_lines d (map seen now)) → d ≡ depth → now ≡ items
     → map seen items ≡ affected_rows a t level rows → IsWaves a t rows text
 are_waves a t level depth rows items now d text levels written deep same are = record {
   level = level;
@@ -118,8 +114,6 @@ are_waves a t level depth rows items now d text levels written deep same are = r
   levels = levels;
   written =
       written
-      ∙ ap (λ x. text_of (waves x now)) deep
-      ∙ ap (λ x. text_of (waves depth x)) same
-      ∙ sym (ap (λ (ls : List (List ℕ)). text_of ls) (waves-seen depth items))
-      ∙ ap (λ x. text_of (report.waves_lines depth x)) are;
+      ∙ ap (λ x. text_of (waves_lines x (map seen now))) deep
+      ∙ ap (λ x. text_of (waves_lines depth x)) (ap (map seen) same ∙ are);
 }

@@ -9,11 +9,13 @@ use Rattle.std.specs.Prelude.{IfSome}
 use Rattle.std.proofs.lemmas.Bool.Decides.{eqb_tells}
 use Rattle.std.proofs.lemmas.Grind.{get_or-set_at}
 use Rattle.std.proofs.lemmas.List.{map-set, get_or-map, length-map, append-nil}
+use Rattle.td_waves.specs.declared.level.Level.TheVariants.{At, Cyclic}
 use Rattle.td_report.specs.declared.grouping.Grouped.{Grouped}
 use Rattle.td_report.specs.declared.item.Item.{Item}
-use Rattle.td_report.specs.inner.Blocks.{AreGroupedCounts}
+use Rattle.td_report.specs.inner.Blocks.{AreGroupedCounts, AreInstalledCounts}
 use Rattle.td_report.specs.inner.Grouped.{AreByLevel, list_at}
-use Rattle.td_report.specs.inner.ItemLines.{AreCountsOf, is_installed}
+use Rattle.td_report.specs.inner.ItemLines.{is_installed, seen}
+use Rattle.td_report.proofs.SeenRows.{installed-seen}
 
 pub list_at-push : (vs : List (Vec Item)) (b : ℕ) (x : Item) (old new : Vec Item) → b < length vs
     → old ≡ get_or vs b old → new.items ≡ old.items ++ x ∷ []
@@ -57,13 +59,14 @@ read-list lists n v now lt is e = e ∙ ap (λ (v : Vec Item). v.items) is
 -- counts of the rows at levels are those of the lists that have them
 pub counts-grouped : (depth : ℕ) (items : List Item) (grouped : Grouped)
     (counts : Option (Bor (List ℕ))) → AreByLevel depth items grouped
-    → IfSome counts (λ cs. AreCountsOf depth items cs.now)
+    → IfSome counts (λ cs. AreInstalledCounts depth (map seen items) cs.now)
     → IfSome counts (λ cs. AreGroupedCounts grouped cs.now)
 counts-grouped depth items grouped None by are = tt
 counts-grouped depth items grouped (Some cs) by are = record {
   of_level = λ n lt.
       let within : n < depth = subst (λ d. n < d) by.len lt in
-      are.of_level n within ∙ ap (λ l. Some (count_by is_installed l)) (sym (by.levels n within));
+      are.of_level n within ∙ ap Some (installed-seen items (At (n + 1))
+      ∙ ap (count_by is_installed) (sym (by.levels n within)));
   of_cyclic = ap (λ n. slice_get cs.now n) by.len ∙ are.of_cyclic
-      ∙ ap (λ l. Some (count_by is_installed l)) (sym by.cyclic);
+      ∙ ap Some (installed-seen items Cyclic ∙ ap (count_by is_installed) (sym by.cyclic));
 }

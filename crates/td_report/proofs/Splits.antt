@@ -16,11 +16,6 @@ flat_map-zipped P f g says (x ∷ xs) (y ∷ ys) h =
     ap (λ l. l ++ flat_map g ys) (says x y h.0)
     ∙ ap (λ l. f x ++ l) (flat_map-zipped P f g says xs ys h.1)
 
-pub flat_map-map : {X Y : Type 0} (f : Y → List ℕ) (g : X → Y) (xs : List X)
-    → flat_map (λ x. f (g x)) xs ≡ flat_map f (map g xs)
-flat_map-map f g [] = refl
-flat_map-map f g (x ∷ xs) = ap (λ l. f (g x) ++ l) (flat_map-map f g xs)
-
 -- a text of a list that goes part by part
 pub text-parts : {X : Type 0} (f : List X → List ℕ) → f [] ≡ [] → ((xs ys : List X) → f (xs ++ ys)
     ≡ f xs ++ f ys) → (xss : List (List X)) → flat_map f xss ≡ f (flat_map (λ l. l) xss)

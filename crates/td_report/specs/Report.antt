@@ -1,7 +1,6 @@
 -- The lines of a report. This project's own.
-use Rattle.std.specs.Prelude.{◌≡◌, ℕ, ◌+◌, ◌<◌, ◌==◌, ◌∷◌, ◌++◌, [], List, Bool, true, false}
-use Rattle.std.specs.Prelude.{Option, Some, None, map, filter, length, count_by, slice_get, codes}
-use Rattle.std.specs.Prelude.{decimal, if◌then◌else◌}
+use Rattle.std.specs.Prelude.{ℕ, ◌==◌, ◌∷◌, ◌++◌, [], List, Bool, true, false, Option, Some, None}
+use Rattle.std.specs.Prelude.{map, filter, length, count_by, codes, decimal, if◌then◌else◌}
 use Rattle.std.specs.Fmt.{signed_decimal}
 use Rattle.std.specs.List.{flat_map, range_with_len}
 use Rattle.std.specs.Str.{bytes_eq}
@@ -103,16 +102,6 @@ levels depth = map At (range_with_len 1 depth) ++ Cyclic ∷ []
 abbrev pub report_lines : List ℕ → ℕ → List AffectedRow → List (List ℕ)
 report_lines title depth rows = title_line title ∷
     (flat_map (block_at rows) (levels depth) ++ last_line rows ∷ [])
-
--- how many of the affected rows at a level are Installed
-abbrev pub installed_at : List AffectedRow → Level → ℕ
-installed_at rows level = count_by is_installed (filter (stands_at level) rows)
-
--- the counts of Installed rows by group:
--- that of level k has number k - 1, and that of what is cyclic is the last
-pub record AreInstalledCounts (depth : ℕ) (rows : List AffectedRow) (kept : List ℕ) : Type 0 where
-  pub of_level : (n : ℕ) → n < depth → slice_get kept n ≡ Some (installed_at rows (At (n + 1)))
-  pub of_cyclic : slice_get kept depth ≡ Some (installed_at rows Cyclic)
 
 -- ---- 4. the waves
 

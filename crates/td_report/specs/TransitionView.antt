@@ -5,9 +5,7 @@ use Rattle.td_query.specs.Tracking.{Tracking, tracking}
 use Rattle.td_waves.specs.WavesView as waves
 use Rattle.td_waves.specs.declared.level.Level.{Level}
 use Rattle.td_query.specs.Marks.{AreMarks}
-use Rattle.td_rows.specs.Table.{Table}
-use Rattle.td_report.specs.Report.{AreInstalledCounts}
-use Rattle.td_report.specs.Transition.{AreLevels, affected_rows}
+use Rattle.td_report.specs.Transition.{AreLevels}
 use Rattle.td_report.specs.declared.transition.Transition.{Transition}
 
 -- its archive
@@ -31,8 +29,3 @@ depth_of x = waves.depth_of x.waves
 pub record IsMade (x : Transition) : Type 0 where
   pub marked : AreMarks (contents_of x) (tracking_of x) x.marks
   pub leveled : AreLevels (contents_of x) (tracking_of x) (level_of x) (depth_of x)
-
--- the counts of the Installed rows that it affects, by group
-abbrev pub AreKept : Transition → Table → List ℕ → Type 0
-AreKept x rows kept = AreInstalledCounts (depth_of x)
-    (affected_rows (contents_of x) (tracking_of x) (level_of x) rows) kept

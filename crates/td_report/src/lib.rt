@@ -10,6 +10,7 @@
 #![tactic(auto)]
 
 mod block;
+mod blocks;
 mod counting;
 mod grouping;
 mod groups;
@@ -17,10 +18,10 @@ mod item;
 mod item_line;
 mod laws;
 mod lines;
+mod report_text;
 mod splitting;
 mod transition;
 mod waves_text;
-mod whole;
 mod writing;
 
 pub use groups::Groups;

@@ -1,9 +1,10 @@
 //! A tracker over an archive, and what is told of it.
 
 use crate::item::Item;
-use crate::splitting::split_text;
+use crate::lines::{Lines, Whole};
+use crate::report_text::report_text;
+use crate::splitting::Chunks;
 use crate::waves_text::waves_text;
-use crate::whole::report_text;
 use std::alloc::{AllocError, Global};
 use std::thread::Threads;
 use td_indices::Archive;
@@ -127,49 +128,24 @@ impl<'b, 't, 'a, 'q> Transition<'b, 't, 'a, 'q> {
         Ok(items)
     }
 
-    // The report of the rows, by counts of Installed rows where these are given.
-    fn text(
+    // The report of the rows, whose lines are made so, by counts of Installed rows where these are
+    // given.
+    fn text<L: Lines>(
         &self,
         alloc: Global,
         rows: &Rows,
         counts: Option<&[usize]>,
+        lines: &L,
     ) -> Result<String, AllocError>
         requires made { of.IsMade self.now }
-        requires counts { IfSome counts (λ cs. of.AreKept self.now rows.now cs.now) }
+        requires counts { IfSome counts (λ cs. AreCounts self.now rows.now cs.now) }
+        requires ready { L.ready lines.now }
         ensures { IfOk result (λ text. IsReport (of.contents_of self.now)
             (of.tracking_of self.now) rows.now (string_bytes text)) }
     {
         let items = self.items(alloc, rows)?;
         let depth = self.waves.depth();
-        report_text(alloc, self.tracker.title(), depth, &items, counts)
-    }
-
-    // The same text, made by several threads.
-    fn split(
-        &self,
-        rt: &(impl Threads + Sync),
-        alloc: Global,
-        rows: &Rows,
-        counts: Option<&[usize]>,
-        chunk: usize,
-    ) -> Result<String, AllocError>
-        requires made { of.IsMade self.now }
-        requires counts { IfSome counts (λ cs. of.AreKept self.now rows.now cs.now) }
-        requires chunk { 1 ≤ chunk }
-        ensures { IfOk result (λ text. IsReport (of.contents_of self.now)
-            (of.tracking_of self.now) rows.now (string_bytes text)) }
-    {
-        let items = self.items(alloc, rows)?;
-        let depth = self.waves.depth();
-        split_text(
-            rt,
-            alloc,
-            self.tracker.title(),
-            depth,
-            &items,
-            counts,
-            chunk,
-        )
+        report_text(alloc, self.tracker.title(), depth, &items, counts, lines)
     }
 
     /// The report of the rows.
@@ -178,7 +154,7 @@ impl<'b, 't, 'a, 'q> Transition<'b, 't, 'a, 'q> {
         ensures { IfOk result (λ text. IsReport (of.contents_of self.now)
             (of.tracking_of self.now) rows.now (string_bytes text)) }
     {
-        self.text(alloc, rows, None)
+        self.text(alloc, rows, None, &Whole)
     }
 
     /// The same text, the rows of each level in chunks of so many, which several threads share.
@@ -194,26 +170,7 @@ impl<'b, 't, 'a, 'q> Transition<'b, 't, 'a, 'q> {
         ensures { IfOk result (λ text. IsReport (of.contents_of self.now)
             (of.tracking_of self.now) rows.now (string_bytes text)) }
     {
-        self.split(rt, alloc, rows, None, chunk)
-    }
-
-    /// The same text, where it is known how many rows of each level are Installed: that of level k
-    /// has number k - 1, and that of what is cyclic number `depth`. They aren't counted anew.
-    pub fn report_kept(
-        &self,
-        rt: &(impl Threads + Sync),
-        alloc: Global,
-        rows: &Rows,
-        kept: &[usize],
-        chunk: usize,
-    ) -> Result<String, AllocError>
-        requires made { of.IsMade self.now }
-        requires kept { of.AreKept self.now rows.now kept.now }
-        requires chunk { 1 ≤ chunk }
-        ensures { IfOk result (λ text. IsReport (of.contents_of self.now)
-            (of.tracking_of self.now) rows.now (string_bytes text)) }
-    {
-        self.split(rt, alloc, rows, Some(kept), chunk)
+        self.text(alloc, rows, None, &Chunks { rt, size: chunk })
     }
 
     /// The same text, where it is given how many rows of each group are Installed. They aren't
@@ -229,7 +186,25 @@ impl<'b, 't, 'a, 'q> Transition<'b, 't, 'a, 'q> {
         ensures { IfOk result (λ text. IsReport (of.contents_of self.now)
             (of.tracking_of self.now) rows.now (string_bytes text)) }
     {
-        self.text(alloc, rows, Some(counts))
+        self.text(alloc, rows, Some(counts), &Whole)
+    }
+
+    /// The same, in chunks.
+    pub fn report_kept(
+        &self,
+        rt: &(impl Threads + Sync),
+        alloc: Global,
+        rows: &Rows,
+        kept: &[usize],
+        chunk: usize,
+    ) -> Result<String, AllocError>
+        requires made { of.IsMade self.now }
+        requires kept { AreCounts self.now rows.now kept.now }
+        requires chunk { 1 ≤ chunk }
+        ensures { IfOk result (λ text. IsReport (of.contents_of self.now)
+            (of.tracking_of self.now) rows.now (string_bytes text)) }
+    {
+        self.text(alloc, rows, Some(kept), &Chunks { rt, size: chunk })
     }
 
     /// The affected sources of the rows, by level.

@@ -1,11 +1,12 @@
 //! The text of waves: the sources of each level.
 ghost use Rattle.std.specs.Prelude.{◌≡◌, ◌++◌, None, IfOk, OnOk, map, option_map, string_bytes};
 ghost use Rattle.td_text.specs.Lines.{text_of};
-ghost use Rattle.td_report.specs.inner.Blocks.{texts_of, value_of, wave_lines};
-ghost use Rattle.td_report.specs.inner.ItemLines.{source_of, waves};
-ghost use Rattle.td_report.specs.Report.{each_once, is_last as is_last_of};
+ghost use Rattle.td_report.specs.inner.Blocks.{texts_of};
+ghost use Rattle.td_report.specs.inner.ItemLines.{seen, source_of};
+ghost use Rattle.td_report.specs.Report.{each_once, is_last as is_last_of, wave_of, waves_lines};
 
-use crate::block::{Block, blocks};
+use crate::block::Block;
+use crate::blocks::blocks;
 use crate::grouping::by_level;
 use crate::item::Item;
 use crate::writing::{put_level, put_line};
@@ -39,8 +40,8 @@ fn put_sources(out: &mut String, items: &[Item<'_>]) -> Result<(), AllocError>
 
 // Appends the lines of a block.
 fn put_wave(out: &mut String, block: &Block<'_, '_>) -> Result<(), AllocError>
-    ensures { OnOk result
-        (string_bytes out.new ≡ string_bytes out.old ++ text_of (wave_lines (value_of block.now))) }
+    ensures { OnOk result (string_bytes out.new ≡ string_bytes out.old
+        ++ text_of (wave_of block.now.level (map seen block.now.items.now))) }
 {
     if block.items.is_empty() {
         return Ok(());
@@ -52,7 +53,7 @@ fn put_wave(out: &mut String, block: &Block<'_, '_>) -> Result<(), AllocError>
 
 fn put_waves(out: &mut String, blocks: &[Block<'_, '_>]) -> Result<(), AllocError>
     ensures { OnOk result
-        (string_bytes out.new ≡ string_bytes out.old ++ texts_of wave_lines blocks.now) }
+        (string_bytes out.new ≡ string_bytes out.old ++ texts_of wave_of blocks.now) }
 {
     for block in blocks {
         put_wave(out, block)?;
@@ -62,7 +63,8 @@ fn put_waves(out: &mut String, blocks: &[Block<'_, '_>]) -> Result<(), AllocErro
 
 /// The sources of these affected rows by level, of so many levels.
 pub fn waves_text(alloc: Global, depth: usize, items: &[Item<'_>]) -> Result<String, AllocError>
-    ensures { IfOk result (λ text. string_bytes text ≡ text_of (waves depth items.now)) }
+    ensures { IfOk result
+        (λ text. string_bytes text ≡ text_of (waves_lines depth (map seen items.now))) }
 {
     let grouped = by_level(alloc, items, depth)?;
     let blocks = blocks(alloc, &grouped, None)?;

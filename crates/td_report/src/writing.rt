@@ -1,7 +1,7 @@
 //! The lines of a report but for those of its rows.
-ghost use Rattle.std.specs.Prelude.{◌≡◌, ◌++◌, ◌∷◌, [], OnOk, codes, decimal, string_bytes};
-ghost use Rattle.td_report.specs.inner.ItemLines.{last_line};
-ghost use Rattle.td_report.specs.Report.{head_line, level_words, title_line};
+ghost use Rattle.std.specs.Prelude.{◌≡◌, ◌++◌, ◌∷◌, [], OnOk, codes, decimal, map, string_bytes};
+ghost use Rattle.td_report.specs.inner.ItemLines.{seen};
+ghost use Rattle.td_report.specs.Report.{head_line, last_line, level_words, title_line};
 
 use crate::counting::count_of;
 use crate::item::Item;
@@ -65,8 +65,8 @@ pub fn put_head_line(
 
 /// Appends the last line.
 pub fn put_last_line(out: &mut String, items: &[Item<'_>]) -> Result<(), AllocError>
-    ensures { OnOk result
-        (string_bytes out.new ≡ string_bytes out.old ++ (last_line items.now ++ 10 ∷ [])) }
+    ensures { OnOk result (string_bytes out.new
+        ≡ string_bytes out.old ++ (last_line (map seen items.now) ++ 10 ∷ [])) }
 {
     put_counted(out, "affected ", items.len())?;
     put_counted(out, " good ", count_of(items, Status::Good))?;

@@ -1,10 +1,11 @@
 -- `chunk_lines`: what it answers.
-use Rattle.std.proofs.Common.{◌<◌, max, refl, ap, subst, ◌∙◌, string_bytes, rules}
+use Rattle.std.proofs.Common.{◌<◌, max, refl, ap, subst, sym, ◌∙◌, string_bytes, rules}
 use Rattle.std.specs.List.{flat_map, AllZip}
+use Rattle.std.proofs.lemmas.List.Folds.{flat_map-map}
 use Rattle.rayon.specs.Lists.{chunks_of}
 use Rattle.rayon.proofs.ToStd.{chunks_of-concat}
 use Rattle.td_report.specs.inner.LinesText.{lines_text}
-use Rattle.td_report.proofs.Splits.{flat_map-zipped, flat_map-map, text-parts, IfOk-matched}
+use Rattle.td_report.proofs.Splits.{flat_map-zipped, text-parts, IfOk-matched}
 use Rattle.td_report.proofs.Texts.{lines-append}
 use Rattle.td_report.proofs.splitting.chunk_lines.Goals as goal
 
@@ -21,7 +22,7 @@ returns g c =
     ap (λ ts. flat_map (λ t. string_bytes t) ts) h.2
     ∙ flat_map-zipped _ (λ x. lines_text x.now) (λ t. string_bytes t) (λ x y says. says) chain.0 h.0
     (subst (AllZip _ chain.0) h.1 chain.2)
-    ∙ flat_map-map lines_text (λ x. x.now) chain.0
+    ∙ sym (flat_map-map lines_text (λ x. x.now) chain.0)
     ∙ ap (flat_map lines_text) chain.1
     ∙ text-parts lines_text refl lines-append (chunks_of size c.map.result.base.base.slice.now)
     ∙ ap lines_text whole)

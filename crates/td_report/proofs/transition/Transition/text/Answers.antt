@@ -1,20 +1,21 @@
 -- `Transition::text`: what it answers and the call of `report_text`.
-use Rattle.std.proofs.Common.{◌≡◌, string_bytes}
+use Rattle.std.proofs.Common.{◌≡◌, map, string_bytes}
 use Rattle.std.proofs.lemmas.Result.{IfOk-weaker}
 use Rattle.td_text.specs.Lines.{text_of}
-use Rattle.td_report.specs.inner.ItemLines.{report_lines}
+use Rattle.td_report.specs.inner.ItemLines.{seen}
+use Rattle.td_report.specs.Report.{report_lines}
 use Rattle.td_report.specs.Transition.{IsReport}
 use Rattle.td_report.specs.TransitionView.{contents_of, depth_of, level_of, tracking_of}
+use Rattle.td_report.proofs.Counts.{counts_read}
 use Rattle.td_report.proofs.Items.{is_report}
-use Rattle.td_report.proofs.SeenRows.{counts-seen}
 use Rattle.td_report.proofs.transition.Transition.text.Goals as goal
 
 pub returns : goal.returns
-returns c =
+returns g c =
     let self = c.args.self.now in
     IfOk-weaker c.report_text.result
     (λ text. string_bytes text ≡ text_of
-    (report_lines c.title.result.now c.depth-depth.result c.deref.result.now))
+    (report_lines c.title.result.now c.depth-depth.result (map seen c.deref.result.now)))
     (λ text. IsReport (contents_of self) (tracking_of self) c.args.rows.now (string_bytes text))
     (λ text written. is_report (contents_of self) (tracking_of self) (level_of self)
     (depth_of self) c.args.rows.now c.in_ok-items.items.items c.deref.result.now
@@ -23,7 +24,8 @@ returns c =
     c.deref.ensures.value c.in_ok-items.ensures)
     c.report_text.ensures
 
-pub report_text-requires : goal.report_text-requires
-report_text-requires c = counts-seen (depth_of c.args.self.now) _ c.in_ok-items.items.items
-    c.args.counts c.depth-depth.result c.deref.result.now c.in_ok-items.ensures
-    c.depth-depth.ensures c.deref.ensures.value c.requires.counts
+pub report_text-requires-clause-counts : goal.report_text-requires-clause-counts
+report_text-requires-clause-counts g c =
+    counts_read c.args.self.now c.args.rows.now c.in_ok-items.items.items c.deref.result.now
+    c.depth-depth.result c.args.counts c.requires.made.leveled.deep c.in_ok-items.ensures
+    c.deref.ensures.value c.depth-depth.ensures c.requires.counts
