@@ -12,3 +12,4 @@ pub mod OnlyLaws
 pub mod WithoutJournal
 pub mod CutLaws
 pub mod StaffLaws
+pub mod StateLaws

@@ -1,17 +1,15 @@
 -- What the inner functions of a run answer. This project's own.
-use Rattle.std.specs.Prelude.{◌≡◌, ℕ, List, MatchResult, Option, Some, Result, Ok, Err}
-use Rattle.std.specs.Prelude.{string_bytes}
+use Rattle.std.specs.Prelude.{◌≡◌, ℕ, List, IfErr, IfOk, MatchResult, Option, Some, Result, Ok}
+use Rattle.std.specs.Prelude.{Err, string_bytes}
 use Rattle.td_bytes.specs.declared.text.TextFault.{TextFault}
 use Rattle.td_bytes.specs.declared.text.TextFault.TheVariants as text
 use Rattle.td_text.specs.Lines.{lines_of}
 use Rattle.td_relation.specs.Arch.{ArchWords}
-use Rattle.td_relation.specs.declared.archs.ArchsFault.{ArchsFault}
 use Rattle.td_relation.specs.declared.archs.ArchsFault.TheVariants as table
 use Rattle.td_rows.specs.Overlay.{first_missing, overlaid}
 use Rattle.td_rows.specs.StateFile.{IsStateFile}
 use Rattle.td_rows.specs.Table.{Table}
 use Rattle.td_rows.specs.declared.key.Key.{Key}
-use Rattle.td_rows.specs.declared.state_file.StateFault.{StateFault}
 use Rattle.td_rows.specs.declared.state_file.StateFault.TheVariants as state
 use Rattle.td_journal.specs.declared.journal_fault.ReadError.{ReadError}
 use Rattle.td_journal.specs.declared.journal_fault.ReadError.TheVariants as journal
@@ -20,18 +18,16 @@ use Rattle.atomic_table.specs.Seated.{TableId}
 use Rattle.td_supply.specs.Supply.{Stock}
 use Rattle.td_book.specs.Desk.{BookModel}
 use Rattle.td_indices.specs.Archive.{Contents, IsArchive}
-use Rattle.td_indices.specs.declared.archive_fault.ArchiveFault.{ArchiveFault}
 use Rattle.td_indices.specs.declared.archive_fault.ArchiveFault.TheVariants as archive
 use Rattle.td_query.specs.Tracking.{IsTracker, Tracking}
-use Rattle.td_query.specs.declared.tracker_fault.TrackerFault.{TrackerFault}
 use Rattle.td_query.specs.declared.tracker_fault.TrackerFault.TheVariants as tracker
 use Rattle.td_script.specs.declared.input_fault.InputFault.{InputFault}
 use Rattle.td_script.specs.declared.input_fault.InputFault.TheVariants as fault
 use Rattle.td_script.specs.declared.running.RunFault.{RunFault}
 use Rattle.td_script.specs.declared.running.RunFault.TheVariants.{Input, Read, TooLong, NotText}
-use Rattle.td_script.specs.declared.running.RunFault.TheVariants.{Write, NoMemory}
+use Rattle.td_script.specs.declared.running.RunFault.TheVariants.{NoMemory}
 use Rattle.td_script.specs.declared.told.Told.{Told as ToldText}
-use Rattle.td_script.specs.Ends.{AreFine}
+use Rattle.td_script.specs.Ends.{AreFine, IsAnswered}
 use Rattle.td_script.specs.Openings.{IsBegun, IsNoJournal, IsNoState, IsPatternRefused}
 use Rattle.td_script.specs.Openings.{IsReadableOver, IsRefused, IsSet, Texts}
 use Rattle.td_script.specs.Replies.{Setting}
@@ -74,6 +70,13 @@ pub record IsReplacedIn (opened : Table) (text : List ℕ) (rows : Table) : Type
   pub none_missing : (k : Key) → first_missing opened given ≡ Some k → ⊥
   pub replaced : rows ≡ overlaid given opened
 
+-- rows with given ones in the places of their keys, or one of these has no place
+abbrev pub IsPutOver : Table → Table → Result Table RunFault → Type 0
+IsPutOver opened given (Ok rows) =
+    (rows ≡ overlaid given opened) × ((k : Key) → first_missing opened given ≡ Some k → ⊥)
+IsPutOver opened given (Err e) =
+    (e ≡ Input fault.NoSuchRow) × ((k : Key) × (first_missing opened given ≡ Some k))
+
 -- of a text that isn't put over the rows
 abbrev pub IsInputRefusedIn : Table → List ℕ → InputFault → Type 0
 IsInputRefusedIn opened text (fault.State e) = IsNoState (Some text) e
@@ -99,6 +102,13 @@ pub record IsBegunBy (given : Option (List ℕ)) (rows : Table) (table : TableId
   pub table_is : book.fixed.table ≡ table
   pub stock_is : book.fixed.stock ≡ stock
   pub builders_are : book.fixed.builders ≡ builders
+
+-- a clerk alone answers these lines from a book, or memory runs out
+pub record IsToldFor (book : BookModel) (s : Setting) (lines : List ℕ)
+    (result : Result ToldText ReadError) : Type 0 where
+  pub told : IfOk result (λ told.
+      IsAnswered s book.history lines (string_bytes told.text) told.refused)
+  pub memory : IfErr result (λ fault. fault ≡ journal.NoMemory)
 
 -- a text is no journal over these rows, for this, or memory runs out
 abbrev pub IsJournalFault : Table → Option (List ℕ) → ReadError → Type 0

@@ -32,14 +32,18 @@ IsUndoPut n (Ok u) before now refused =
 IsUndoPut n (Err undos.NoMemory) before now refused = ⊥
 IsUndoPut n (Err r) before now refused = IsPut (refusal_line (undo_name r)) true before now refused
 
+-- of an arrival that is refused
+abbrev pub IsArrivalRefused : ArriveRefusal → List ℕ → List ℕ → Bool → Type 0
+IsArrivalRefused arrivals.NoSuchRow before now refused =
+    IsPut (refusal_line (codes "NoSuchRow")) true before now refused
+IsArrivalRefused (arrivals.DoesNotApply s) before now refused =
+    IsPut (refusal_line (codes "DoesNotApply " ++ state_word s)) true before now refused
+IsArrivalRefused arrivals.NoMemory before now refused = ⊥
+
 -- of an arrival, where the journal is this afterwards
 abbrev pub IsArrivalPut : List Marked → Result ℕ ArriveRefusal → List ℕ → List ℕ → Bool → Type 0
 IsArrivalPut ms (Ok n) before now refused = IsEntryPut ms n [] before now refused
-IsArrivalPut ms (Err arrivals.NoSuchRow) before now refused =
-    IsPut (refusal_line (codes "NoSuchRow")) true before now refused
-IsArrivalPut ms (Err (arrivals.DoesNotApply s)) before now refused =
-    IsPut (refusal_line (codes "DoesNotApply " ++ state_word s)) true before now refused
-IsArrivalPut ms (Err arrivals.NoMemory) before now refused = ⊥
+IsArrivalPut ms (Err r) before now refused = IsArrivalRefused r before now refused
 
 -- of a sweep
 abbrev pub IsSweepPut : List Marked → Option ℕ → List ℕ → List ℕ → Bool → Type 0
@@ -47,12 +51,16 @@ IsSweepPut ms (Some n) before now refused = IsEntryPut ms n [] before now refuse
 IsSweepPut ms None before now refused =
     IsPut (ended (codes "nothing to sweep")) false before now refused
 
+-- of a command that is refused
+abbrev pub IsCommandRefused : CommandRefusal → List ℕ → List ℕ → Bool → Type 0
+IsCommandRefused (commands.NothingApplies skips) before now refused =
+    IsPut (refusal_line (codes "NothingApplies") ++ flat_map skip_line skips) true before now
+    refused
+IsCommandRefused commands.NoMemory before now refused = ⊥
+
 -- of a command
 abbrev pub IsCommandPut : List Marked → Result Taken CommandRefusal → List ℕ → List ℕ → Bool
     → Type 0
 IsCommandPut ms (Ok t) before now refused =
     IsEntryPut ms t.number (flat_map skip_line t.skips) before now refused
-IsCommandPut ms (Err (commands.NothingApplies skips)) before now refused =
-    IsPut (refusal_line (codes "NothingApplies") ++ flat_map skip_line skips) true before now
-    refused
-IsCommandPut ms (Err commands.NoMemory) before now refused = ⊥
+IsCommandPut ms (Err r) before now refused = IsCommandRefused r before now refused

@@ -16,6 +16,7 @@ mod files;
 mod input_fault;
 mod inputs;
 mod laws;
+mod letting_go;
 mod line;
 mod opening;
 mod replying;
@@ -35,11 +36,13 @@ pub use inputs::{Inputs, MAX_BUILDERS};
 pub use laws::cut_scripts_tell_the_same;
 pub use line::{Said, asked_lines_are_requests, read_line};
 pub use opening::put_state_over;
-pub use replying::{put_arrival, put_command, put_sweep, put_undo};
+pub use replying::{
+    put_arrival, put_arrival_refusal, put_command, put_command_refusal, put_sweep, put_undo,
+};
 pub use reports::Reports;
 pub use request::{Request, read_request, request_lines_are_exact};
 pub use role::Role;
 pub use running::{RunFault, SCRIPT_LIMIT, ScriptEnd, judge_files, run_script, run_with};
 pub use staff::{Alone, Asked, Staff, tell_alone};
 pub use told::{Told, tell};
-pub use writing::put_refusal;
+pub use writing::{put_refusal, put_skips, put_taken};

@@ -1,6 +1,6 @@
 //! What is told of a script over the texts of files.
 ghost use Rattle.std.specs.Prelude.{◌≡◌, ◌<◌, ◌^◌, ◌-◌, ◌∷◌, [], None, Some, IfOk, IfErr, IfSome};
-ghost use Rattle.std.specs.Prelude.{length};
+ghost use Rattle.std.specs.Prelude.{Ok, Err, length};
 ghost use Rattle.td_text.specs.Lines.{lines_of};
 ghost use Rattle.td_relation.specs.TableFile.{IsTable};
 ghost use Rattle.td_relation.specs.TableView.{table};
@@ -15,12 +15,13 @@ ghost use Rattle.td_script.specs.Openings.{IsReadableOver, texts_lent, texts_of}
 ghost use Rattle.td_query.specs.Tracking.{IsTracker, Tracking, tracking};
 ghost use Rattle.td_rows.specs.Table.{Table};
 ghost use Rattle.td_script.specs.OpeningInside.{AreReadableWith, CanReplace, Stops, IsRefusedBy};
-ghost use Rattle.td_script.specs.OpeningInside.{IsRefusedIn, IsReplacedIn, IsToldFrom, IsTrackerOf};
-ghost use Rattle.td_script.specs.OpeningInside.{IsUntold, TellsOrRefuses, of_input};
+ghost use Rattle.td_script.specs.OpeningInside.{IsPutOver, IsRefusedIn, IsReplacedIn, IsToldFrom};
+ghost use Rattle.td_script.specs.OpeningInside.{IsTrackerOf, IsUntold, TellsOrRefuses, of_input};
 
 use crate::files::Files;
 use crate::input_fault::InputFault;
 use crate::inputs::Inputs;
+use crate::letting_go::{let_go_archive, let_go_tracker, let_go_transition};
 use crate::running::RunFault;
 use crate::staff::{Asked, Staff};
 use crate::told::Told;
@@ -47,22 +48,30 @@ fn fault_of(fault: InputFault) -> RunFault
     }
 }
 
+// The rows with those that were read of a state file in the place of the ones of their keys.
+fn put_over(mut rows: Rows, read: Result<Rows, StateFault>) -> Result<Rows, RunFault>
+    ensures put { IfOk read (λ given. IsPutOver rows given result) }
+    ensures refused { IfErr read (λ fault. result ≡ Err (of_input (InputFault.State fault))) }
+{
+    match read {
+        Ok(given) => match rows.overlay(given) {
+            Ok(()) => Ok(rows),
+            Err(_) => Err(RunFault::Input(InputFault::NoSuchRow)),
+        },
+        Err(fault) => Err(fault_of(InputFault::State(fault))),
+    }
+}
+
 /// The rows with those of a state file in the place of the ones of their keys.
-pub fn put_state_over(alloc: Global, mut rows: Rows, text: &str) -> Result<Rows, RunFault>
+pub fn put_state_over(alloc: Global, rows: Rows, text: &str) -> Result<Rows, RunFault>
     requires { NoneBuilt rows }
     ensures rows { IfOk result (IsReplacedIn rows text.now) }
     ensures idle { IfOk result NoneBuilt }
     ensures refused { IfErr result (IsRefusedIn rows text.now) }
     ensures only { IfErr result (λ fault. CanReplace rows text.now → fault ≡ RunFault.NoMemory) }
 {
-    let given = match read_state(alloc, text) {
-        Ok(given) => given,
-        Err(fault) => return Err(fault_of(InputFault::State(fault))),
-    };
-    match rows.overlay(given) {
-        Ok(()) => Ok(rows),
-        Err(_) => Err(RunFault::Input(InputFault::NoSuchRow)),
-    }
+    let read = read_state(alloc, text);
+    put_over(rows, read)
 }
 
 // The rows from which a script starts.
@@ -84,6 +93,17 @@ fn rows_of(alloc: Global, archive: &Archive<'_, '_>, files: &Files<'_>) -> Resul
     match files.state {
         Some(text) => put_state_over(alloc, rows, text),
         None => Ok(rows),
+    }
+}
+
+// What was told, or the fault of the journal.
+fn told_or_refused(told: Result<Told, ReadError>) -> Result<Told, RunFault>
+    ensures told { IfOk told (λ t. result ≡ Ok t) }
+    ensures refused { IfErr told (λ fault. result ≡ Err (of_input (InputFault.Journal fault))) }
+{
+    match told {
+        Ok(told) => Ok(told),
+        Err(fault) => Err(fault_of(InputFault::Journal(fault))),
     }
 }
 
@@ -129,10 +149,7 @@ impl<S: Staff, F: Fn(Asked) -> Result<Told, ReadError>> Run<'_, S, F> {
             reports,
             script: self.script,
         };
-        match (self.tell)(asked) {
-            Ok(told) => Ok(told),
-            Err(fault) => Err(fault_of(InputFault::Journal(fault))),
-        }
+        told_or_refused((self.tell)(asked))
     }
 
     // The same, with the reports of a tracker.
@@ -155,7 +172,11 @@ impl<S: Staff, F: Fn(Asked) -> Result<Told, ReadError>> Run<'_, S, F> {
             → fault ≡ RunFault.NoMemory) }
     {
         match Transition::of(self.alloc, archive, tracker) {
-            Ok(transition) => self.tell_from(archive, rows, Some(&transition)),
+            Ok(transition) => {
+                let told = self.tell_from(archive, rows, Some(&transition));
+                let_go_transition(transition);
+                told
+            }
             Err(AllocError) => Err(RunFault::NoMemory),
         }
     }
@@ -181,7 +202,11 @@ impl<S: Staff, F: Fn(Asked) -> Result<Told, ReadError>> Run<'_, S, F> {
             → Stops (texts_lent self.now.files) fault) }
     {
         match Tracker::read(self.alloc, text) {
-            Ok(tracker) => self.tell_tracked(archive, &tracker, rows),
+            Ok(tracker) => {
+                let told = self.tell_tracked(archive, &tracker, rows);
+                let_go_tracker(tracker);
+                told
+            }
             Err(fault) => Err(fault_of(InputFault::Tracker(fault))),
         }
     }
@@ -245,7 +270,11 @@ impl<S: Staff, F: Fn(Asked) -> Result<Told, ReadError>> Run<'_, S, F> {
             ..
         } = self.files;
         match Archive::read_beside(rt, self.alloc, packages, sources, archs) {
-            Ok(archive) => self.tell_over_archive(&archive),
+            Ok(archive) => {
+                let told = self.tell_over_archive(&archive);
+                let_go_archive(archive);
+                told
+            }
             Err(fault) => Err(fault_of(InputFault::Archive(fault))),
         }
     }

@@ -2,7 +2,8 @@
 //! whether the line is refused.
 ghost use Rattle.std.specs.Prelude.{IfOk};
 ghost use Rattle.std.specs.String.{string_bytes};
-ghost use Rattle.td_script.specs.Replying.{IsArrivalPut, IsCommandPut, IsSweepPut, IsUndoPut};
+ghost use Rattle.td_script.specs.Replying.{IsArrivalPut, IsArrivalRefused, IsCommandPut};
+ghost use Rattle.td_script.specs.Replying.{IsCommandRefused, IsSweepPut, IsUndoPut};
 
 use crate::writing::{
     put_made, put_refusal, put_skips, put_state_refusal, put_undo_refusal, put_undone,
@@ -32,6 +33,24 @@ pub fn put_undo(
     }
 }
 
+/// Appends why an arrival was refused.
+pub fn put_arrival_refusal(out: &mut String, refusal: ArriveRefusal) -> Result<bool, AllocError>
+    ensures { IfOk result
+        (IsArrivalRefused refusal (string_bytes out.old) (string_bytes out.new)) }
+{
+    match refusal {
+        ArriveRefusal::NoMemory => Err(AllocError),
+        ArriveRefusal::NoSuchRow => {
+            put_refusal(out, "NoSuchRow")?;
+            Ok(true)
+        }
+        ArriveRefusal::DoesNotApply(state) => {
+            put_state_refusal(out, "DoesNotApply ", state)?;
+            Ok(true)
+        }
+    }
+}
+
 /// Appends what an arrival answered. The journal has its entry.
 pub fn put_arrival(
     out: &mut String,
@@ -46,15 +65,7 @@ pub fn put_arrival(
             put_made(out, journal, n)?;
             Ok(false)
         }
-        Err(ArriveRefusal::NoMemory) => Err(AllocError),
-        Err(ArriveRefusal::NoSuchRow) => {
-            put_refusal(out, "NoSuchRow")?;
-            Ok(true)
-        }
-        Err(ArriveRefusal::DoesNotApply(state)) => {
-            put_state_refusal(out, "DoesNotApply ", state)?;
-            Ok(true)
-        }
+        Err(refusal) => put_arrival_refusal(out, refusal),
     }
 }
 
@@ -74,6 +85,21 @@ pub fn put_sweep(
     Ok(false)
 }
 
+/// Appends why a command was refused, and the rows that it names.
+pub fn put_command_refusal(out: &mut String, refusal: CommandRefusal) -> Result<bool, AllocError>
+    ensures { IfOk result
+        (IsCommandRefused refusal (string_bytes out.old) (string_bytes out.new)) }
+{
+    match refusal {
+        CommandRefusal::NothingApplies(skips) => {
+            put_refusal(out, "NothingApplies")?;
+            put_skips(out, skips.as_slice())?;
+            Ok(true)
+        }
+        CommandRefusal::NoMemory => Err(AllocError),
+    }
+}
+
 /// Appends what a command answered. The journal has its entry.
 pub fn put_command(
     out: &mut String,
@@ -89,11 +115,6 @@ pub fn put_command(
             put_skips(out, taken.skips.as_slice())?;
             Ok(false)
         }
-        Err(CommandRefusal::NothingApplies(skips)) => {
-            put_refusal(out, "NothingApplies")?;
-            put_skips(out, skips.as_slice())?;
-            Ok(true)
-        }
-        Err(CommandRefusal::NoMemory) => Err(AllocError),
+        Err(refusal) => put_command_refusal(out, refusal),
     }
 }

@@ -1,5 +1,6 @@
 //! The run of a script: from the texts of files and the bytes of a reader to those of a writer.
-ghost use Rattle.std.specs.Prelude.{◌≡◌, ◌⊎◌, ◌≤◌, IfOk, IfErr, MatchResult, length, string_bytes};
+ghost use Rattle.std.specs.Prelude.{◌≡◌, ◌⊎◌, ◌≤◌, Ok, Err, IfOk, IfErr, MatchResult, length};
+ghost use Rattle.std.specs.Prelude.{string_bytes};
 ghost use Rattle.std.specs.Result.{ForOk};
 ghost use Rattle.td_script.specs.Asking.{CanAnswer};
 ghost use Rattle.td_script.specs.Limits.{script_limit};
@@ -58,6 +59,17 @@ fn fault_of_text(fault: TextFault) -> RunFault
     }
 }
 
+// Whether something would be told of an empty script.
+fn judged(told: Result<Told, RunFault>) -> Result<(), RunFault>
+    ensures fine { IfOk told (λ _. result ≡ Ok tt) }
+    ensures refused { IfErr told (λ fault. result ≡ Err fault) }
+{
+    match told {
+        Ok(_) => Ok(()),
+        Err(refused) => Err(refused),
+    }
+}
+
 // Judges the texts that files lend.
 fn judge_lent(rt: &(impl Threads + Sync), alloc: Global, files: Files<'_>) -> Result<(), RunFault>
     ensures fine { MatchResult result (λ _. AreFine (texts_lent files.entry))
@@ -72,10 +84,7 @@ fn judge_lent(rt: &(impl Threads + Sync), alloc: Global, files: Files<'_>) -> Re
         files,
         script: "",
     };
-    match run.tell_all(rt) {
-        Ok(_) => Ok(()),
-        Err(refused) => Err(refused),
-    }
+    judged(run.tell_all(rt))
 }
 
 // Judges the texts of the files, as before each script.
@@ -104,6 +113,17 @@ pub fn judge_files(
     judge_lent(rt, alloc, Files::of(inputs).without_journal())
 }
 
+// What is told where no script was read, for this: the fault of the files, if they have one.
+fn unread(judged: Result<(), RunFault>, why: TextFault) -> Result<Told, RunFault>
+    ensures fine { IfOk judged (λ _. result ≡ Err (of_reading why)) }
+    ensures refused { IfErr judged (λ fault. result ≡ Err fault) }
+{
+    match judged {
+        Ok(()) => Err(fault_of_text(why)),
+        Err(refused) => Err(refused),
+    }
+}
+
 // What is told of what was read. The files are judged before the script.
 fn tell_read<S: Staff, F: Fn(Asked) -> Result<Told, ReadError>>(
     rt: &(impl Threads + Sync),
@@ -128,10 +148,7 @@ fn tell_read<S: Staff, F: Fn(Asked) -> Result<Told, ReadError>>(
 {
     match read {
         Ok(text) => tell_over(rt, alloc, staff, tell, inputs, text.as_str()),
-        Err(fault) => match judge(rt, alloc, inputs) {
-            Ok(()) => Err(fault_of_text(fault)),
-            Err(refused) => Err(refused),
-        },
+        Err(why) => unread(judge(rt, alloc, inputs), why),
     }
 }
 

@@ -1,14 +1,16 @@
 //! Who answers a script, and what they are asked.
-ghost use Rattle.std.specs.Prelude.{◌≡◌, ◌<◌, ◌^◌, ◌-◌, ◌∷◌, [], IfErr, IfOk, IfSome, length};
-ghost use Rattle.std.specs.Prelude.{string_bytes};
+ghost use Rattle.std.specs.Prelude.{◌≡◌, ◌<◌, ◌^◌, ◌-◌, ◌∷◌, [], Err, IfOk, IfSome};
+ghost use Rattle.std.specs.Prelude.{MatchResult, length};
 ghost use Rattle.td_board.specs.Knowledge.{new_desk};
 ghost use Rattle.td_report.specs.TransitionView.{IsMade};
 ghost use Rattle.td_script.specs.Asking.{IsFit, IsToldOf};
 ghost use Rattle.td_script.specs.Ends.{IsAnswered};
+ghost use Rattle.td_script.specs.OpeningInside.{IsToldFor};
 ghost use Rattle.td_script.specs.Reporting.{report_by};
 ghost use Rattle.td_script.specs.Settings.{setting_lent};
 
-use crate::beginning::begin;
+use crate::beginning::begin_over;
+use crate::letting_go::let_go_book;
 use crate::told::Told;
 use crate::watched::tell_watched;
 use std::alloc::{AllocError, Global};
@@ -68,14 +70,40 @@ fn tell_begun(
     requires alone { book.old.fixed.builders ≡ 0 }
     requires made { IfSome reports (λ r. IsMade r.now) }
     requires small { length script.now < 2 ^ 63 - 1 }
-    ensures told { IfOk result (λ told.
-        IsAnswered (setting_lent report_by book.old.fixed.stock (suite.entry ∷ []) reports.entry)
-        book.old.history script.now (string_bytes told.text) told.refused) }
-    ensures memory { IfErr result (λ fault. fault ≡ ReadError.NoMemory) }
+    ensures { IsToldFor book.old (setting_lent report_by book.old.fixed.stock (suite.entry ∷ [])
+        reports.entry) script.now result }
 {
     match tell_watched(alloc, book, board, [suite].as_slice(), reports, script) {
         Ok(told) => Ok(told),
         Err(AllocError) => Err(ReadError::NoMemory),
+    }
+}
+
+// The same from a book, if one was begun.
+fn tell_if_begun(
+    alloc: Global,
+    begun: Result<Book<'_>, ReadError>,
+    board: &Board,
+    suite: &str,
+    reports: Option<&Transition<'_, '_, '_, '_>>,
+    script: &str,
+) -> Result<Told, ReadError>
+    requires board { IfOk begun (λ book. board.now.table ≡ book.fixed.table) }
+    requires alone { IfOk begun (λ book. book.fixed.builders ≡ 0) }
+    requires made { IfSome reports (λ r. IsMade r.now) }
+    requires small { length script.now < 2 ^ 63 - 1 }
+    ensures { MatchResult begun.entry
+        (λ book. IsToldFor book (setting_lent report_by book.fixed.stock (suite.entry ∷ [])
+        reports.entry) script.now result)
+        (λ fault. result ≡ Err fault) }
+{
+    match begun {
+        Ok(mut book) => {
+            let told = tell_begun(alloc, &mut book, board, suite, reports, script);
+            let_go_book(book);
+            told
+        }
+        Err(fault) => Err(fault),
     }
 }
 
@@ -86,23 +114,22 @@ fn tell_at(board: &Board, desk: DeskSeat, asked: Asked) -> Result<Told, ReadErro
     requires fit { IsFit asked }
     ensures { IsToldOf IsAnswered asked.entry result }
 {
-    let Asked {
-        alloc,
-        archive,
-        rows,
-        suite,
-        journal,
-        reports,
-        script,
-    } = asked;
-    let supply = match archive.supply() {
-        Ok(supply) => supply,
-        Err(AllocError) => return Err(ReadError::NoMemory),
-    };
-    match begin(alloc, board, desk, rows, supply, journal) {
-        Ok(mut book) => tell_begun(alloc, &mut book, board, suite, reports, script),
-        Err(fault) => Err(fault),
-    }
+    let begun = begin_over(
+        asked.alloc,
+        board,
+        desk,
+        asked.rows,
+        asked.archive,
+        asked.journal,
+    );
+    tell_if_begun(
+        asked.alloc,
+        begun,
+        board,
+        asked.suite,
+        asked.reports,
+        asked.script,
+    )
 }
 
 /// What a clerk alone tells of a script.

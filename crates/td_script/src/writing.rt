@@ -84,7 +84,8 @@ pub fn put_state_refusal(out: &mut String, name: &str, state: State) -> Result<(
     out.push_str("\n")
 }
 
-fn put_taken(out: &mut String, n: EntryNo, keys: &[Key]) -> Result<(), AllocError>
+/// Appends the line of an entry that was made on these keys.
+pub fn put_taken(out: &mut String, n: EntryNo, keys: &[Key]) -> Result<(), AllocError>
     ensures { OnOk result (string_bytes out.new ≡ string_bytes out.old ++ entry_made n keys.now) }
 {
     out.push_str("entry ")?;

@@ -1,45 +1,27 @@
 -- `put_state_over`: its clauses.
-use Rattle.std.proofs.Common.{◌∙◌, ap, sym, subst}
-use Rattle.td_core.specs.Phases.{NoneBuilt}
-use Rattle.td_core.proofs.Openings.{NoneBuilt-state_file}
-use Rattle.td_rows.specs.declared.state_file.StateFault.{StateFault}
-use Rattle.td_script.specs.declared.input_fault.InputFault.TheVariants as fault
-use Rattle.td_script.specs.OpeningInside.{of_input}
-use Rattle.td_script.proofs.OnlyLaws.{missing_stops}
-use Rattle.td_script.proofs.OpeningLaws.{missing_key, none_built_over}
+use Rattle.td_script.proofs.StateLaws.{state_put}
 use Rattle.td_script.proofs.opening.put_state_over.Goals as goal
 
-pub returns-in-Ok-overlay-clause-rows : goal.returns-in-Ok-overlay-clause-rows
-returns-in-Ok-overlay-clause-rows c = record {
-  given = c.in-Ok.given;
-  are_given = c.in-Ok.ensures.found;
-  none_missing =
-      λ k e. let other = (c.overlay.ensures.missing k).1 e in let is = c.in-Ok-overlay.is in cc;
-  replaced = c.in-Ok-overlay.ensures.ok;
-}
+pub returns-clause-rows : goal.returns-clause-rows
+returns-clause-rows c =
+    (state_put c.args.rows c.args.text.now c.read_state-read.result c.put_over.result c.requires
+    c.read_state-read.ensures.found c.read_state-read.ensures.only c.read_state-read.ensures.fault
+    c.put_over.ensures.put c.put_over.ensures.refused).rows
 
-pub returns-in-Ok-overlay-clause-idle : goal.returns-in-Ok-overlay-clause-idle
-returns-in-Ok-overlay-clause-idle c =
-    subst NoneBuilt (sym c.in-Ok-overlay.ensures.ok)
-    (none_built_over c.in-Ok.given c.args.rows (NoneBuilt-state_file c.in-Ok.ensures.found)
-    c.requires)
+pub returns-clause-idle : goal.returns-clause-idle
+returns-clause-idle c =
+    (state_put c.args.rows c.args.text.now c.read_state-read.result c.put_over.result c.requires
+    c.read_state-read.ensures.found c.read_state-read.ensures.only c.read_state-read.ensures.fault
+    c.put_over.ensures.put c.put_over.ensures.refused).idle
 
-pub returns-in-Err-overlay-clause-refused : goal.returns-in-Err-overlay-clause-refused
-returns-in-Err-overlay-clause-refused c = (
-  c.in-Ok.given,
-  c.in-Ok.ensures.found,
-  missing_key c.args.rows c.in-Ok.given c.overlay.result c.in-Err-overlay.field-0
-      c.in-Err-overlay.is c.overlay.ensures.missing,
-)
+pub returns-clause-refused : goal.returns-clause-refused
+returns-clause-refused c =
+    (state_put c.args.rows c.args.text.now c.read_state-read.result c.put_over.result c.requires
+    c.read_state-read.ensures.found c.read_state-read.ensures.only c.read_state-read.ensures.fault
+    c.put_over.ensures.put c.put_over.ensures.refused).refused
 
-pub returns-in-Err-clause-only : goal.returns-in-Err-clause-only
-returns-in-Err-clause-only c =
-    λ can. c.fault_of.ensures
-    ∙ ap (λ (y : StateFault). of_input (fault.State y)) (c.in-Err.ensures.only can.0 can.1)
-
-pub returns-in-Err-overlay-clause-only : goal.returns-in-Err-overlay-clause-only
-returns-in-Err-overlay-clause-only c = λ can.
-    let found = missing_key c.args.rows c.in-Ok.given c.overlay.result c.in-Err-overlay.field-0
-    c.in-Err-overlay.is c.overlay.ensures.missing in
-    absurd (missing_stops c.args.rows c.in-Ok.given c.args.text.now found.0 found.1
-    (λ u is. c.in-Ok.ensures.only u is) can)
+pub returns-clause-only : goal.returns-clause-only
+returns-clause-only c =
+    (state_put c.args.rows c.args.text.now c.read_state-read.result c.put_over.result c.requires
+    c.read_state-read.ensures.found c.read_state-read.ensures.only c.read_state-read.ensures.fault
+    c.put_over.ensures.put c.put_over.ensures.refused).only

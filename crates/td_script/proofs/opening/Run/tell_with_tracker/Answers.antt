@@ -8,9 +8,9 @@ use Rattle.td_script.proofs.opening.Run.tell_with_tracker.Goals as goal
 
 pub returns-in-Ok-clause-only : goal.returns-in-Ok-clause-only
 returns-in-Ok-clause-only g c =
-    IfErr-weaker c.tell_tracked.result _ _
+    IfErr-weaker c.tell_tracked-told.result _ _
     (λ e only t is journal. memory_stops (texts_lent c.args.self.now.files) e (only journal))
-    c.tell_tracked.ensures.only
+    c.tell_tracked-told.ensures.only
 
 pub returns-in-Err-clause-only : goal.returns-in-Err-clause-only
 returns-in-Err-clause-only g c = λ t is journal.
