@@ -1,7 +1,9 @@
 -- What a crew tells ends with the rows of the book with which its desk is closed.
-use Rattle.std.proofs.Common.{◌≡◌, ℕ, ◌+◌, ◌≤◌, List, ◌++◌, length, Option, Some, None, Result, Ok}
-use Rattle.std.proofs.Common.{Err, refl, sym, ap, ap₂, append_assoc, subst, ◌∙◌, arith}
+use Rattle.std.proofs.Common.{◌≡◌, ℕ, ◌+◌, true, List, ◌++◌, map, Option, Some, None, Result, Ok}
+use Rattle.std.proofs.Common.{Err, refl, sym, ap, ap₂, append_assoc, subst, ◌∙◌}
 use Rattle.std.specs.Prelude.{IfOk, OnOk, codes, string_bytes}
+use Rattle.atomic_table.specs.Seated.{TableId}
+use Rattle.td_text.specs.Lines.{lines_of}
 use Rattle.td_rows.specs.StateWriting.{state_text}
 use Rattle.td_rows.specs.Table.{Table}
 use Rattle.td_journal.specs.Entries.{standing}
@@ -10,14 +12,22 @@ use Rattle.td_journal.specs.declared.entry.Mark.{Mark}
 use Rattle.td_journal.specs.declared.journal_fault.ReadError.{ReadError}
 use Rattle.td_core.specs.History.{History, history_of, opened, rows_of}
 use Rattle.td_book.specs.Reopening.{given_back}
+use Rattle.td_book.specs.Desk.{BookModel}
+use Rattle.td_desk.specs.declared.receipt.Receipt.{Receipt}
+use Rattle.td_desk.specs.Calls.{IsOfDesk}
+use Rattle.td_desk.specs.Changes.{changes, still_undone}
 use Rattle.td_desk.specs.GoingOn.{Begins, GoesOn}
 use Rattle.td_desk.specs.Marks.{IsNamedJournal}
 use Rattle.td_desk.specs.Names.{Origin}
 use Rattle.td_script.specs.OpeningInside.{IsToldFrom}
 use Rattle.td_script.specs.Openings.{IsBegun}
 use Rattle.td_script.specs.Replies.{Setting, ended}
-use Rattle.td_script.specs.declared.told.Told.{Told}
-use Rattle.td_crew.specs.CrewText.{EndsFrom, HasBegun, HasRows, IsClosed, crew_tells, rows_told}
+use Rattle.td_script.specs.declared.told.Told.{Told as ToldText}
+use Rattle.td_crew.specs.CrewText.{EndsFrom, HasBegun, HasRows, IsClosed, IsClosing, IsOfCrew}
+use Rattle.td_crew.specs.CrewText.{IsShift, IsShort, crew_tells, marks_begun, rows_told, told_with}
+use Rattle.td_crew.specs.CrewText.{untold}
+use Rattle.td_crew.proofs.BegunMarks.{changes_told, still_told}
+use Rattle.td_crew.proofs.Replied.{told_more}
 
 -- ---- 1. where a crew starts
 
@@ -41,10 +51,34 @@ begun-on origin None h now at is began =
 begun-on origin (Some text) h now at (before, reads, is) began =
     subst (λ (x : History). GoesOn x.journal now.journal) (sym is) (began text before at reads)
 
+-- what is known of the book with which a desk is closed
+pub desk_book : (table : TableId) (origin : Origin) (b made : BookModel) → b ≡ made
+    → made.fixed.table ≡ table → made.history.opening ≡ origin.rows
+    → made.fixed.stock ≡ origin.stock → Begins origin made.history.journal
+    → Lawful b.history.opening (standing b.history.journal) → IsOfDesk table origin b
+desk_book table origin b made same at over stocked began lawful = record {
+  at = ap (λ (x : BookModel). x.fixed.table) same ∙ at;
+  over = ap (λ (x : BookModel). x.history.opening) same ∙ over;
+  stocked = ap (λ (x : BookModel). x.fixed.stock) same ∙ stocked;
+  began = subst (λ (x : BookModel). Begins origin x.history.journal) (sym same) began;
+  lawful = lawful;
+}
+
+-- a book of the desk is one of the crew's
+pub crew_book : (table : TableId) (origin : Origin) (s : Setting) (h : History) (b : BookModel)
+    → s.stock ≡ origin.stock → IsBegun origin.journal origin.rows h → IsOfDesk table origin b
+    → IsOfCrew s h b
+crew_book table origin s h b stock is of = record {
+  opening = of.over ∙ sym (opening_begun origin.journal origin.rows h is);
+  stocked = of.stocked ∙ sym stock;
+  on = begun-on origin origin.journal h b.history refl is of.began;
+  lawful = of.lawful;
+}
+
 -- ---- 2. where it ends
 
 -- the line `rows` and the rows stand behind what was told
-pub rows_put : (told now : Told) (h : History) (front rows : List ℕ)
+pub rows_put : (told now : ToldText) (h : History) (front rows : List ℕ)
     → Lawful h.opening (standing h.journal) → string_bytes now.text ≡ front ++ rows
     → front ≡ string_bytes told.text ++ ended (codes "rows") → rows ≡ state_text (rows_of h)
     → now.refused ≡ told.refused → HasRows told h now
@@ -55,34 +89,62 @@ rows_put told now h front rows lawful text begins is same = record {
   refused = same;
 }
 
-pub rows_closed : (origin : Origin) (told mid now : Told) (h : History) → h.opening ≡ origin.rows
-    → Begins origin h.journal → string_bytes mid.text ≡ string_bytes told.text
-    → mid.refused ≤ told.refused + 1 → HasRows mid h now → IsClosed origin told now
-rows_closed origin told mid now h at began same few rows = record {
-  history = h;
-  opening = at;
-  began = began;
-  lawful = rows.lawful;
-  text = rows.text ∙ ap (λ (l : List ℕ). l ++ rows_told (rows_of h)) same;
-  refused = omega (arith, rows.refused);
-}
+-- the rows of the book with which a desk is closed
+pub rows_closed : (table : TableId) (origin : Origin) (opened : List Mark)
+    (receipts : List Receipt) (told mid now : ToldText) (b : BookModel) (closing : ℕ)
+    → IsOfDesk table origin b → still_undone b.history.journal opened ≡ true
+    → IsClosing receipts (changes opened b) closing → string_bytes mid.text ≡ string_bytes told.text
+    → mid.refused ≡ told.refused + closing → HasRows mid b.history now
+    → IsClosed table origin opened receipts told now
+rows_closed table origin opened receipts told mid now b closing of still closed same more rows =
+    record {
+      book = b;
+      of_desk = of;
+      still = still;
+      text = rows.text ∙ ap (λ (l : List ℕ). l ++ rows_told (rows_of b.history)) same;
+      closing = closing;
+      closed = closed;
+      refused = rows.refused ∙ more;
+    }
 
-pub ends_closed : (builders : ℕ) (origin : Origin) (script : List ℕ) (told now : Told)
-    → IsClosed origin told now → told.refused ≤ length script + builders + 1
-    → EndsFrom builders origin.journal origin.rows script now
-ends_closed builders origin script told now closed few = λ h is. record {
-  history = closed.history;
-  opening = closed.opening ∙ sym (opening_begun origin.journal origin.rows h is);
-  on = begun-on origin origin.journal h closed.history refl is closed.began;
-  lawful = closed.lawful;
-  front = string_bytes told.text;
-  ends = closed.text;
-  few = omega (arith, closed.refused);
-}
+-- what is told of the lines, of those who are missing and of the closing is what a crew may tell
+pub ends_closed : (builders : ℕ) (table : TableId) (origin : Origin) (s : Setting)
+    (opened : List Mark) (script : List ℕ) (receipts : List Receipt) (told now : ToldText)
+    → s.stock ≡ origin.stock → opened ≡ marks_begun origin.journal → IsShort origin.journal
+    → IsShift table origin s script builders receipts told
+    → IsClosed table origin opened receipts told now
+    → EndsFrom builders s origin.journal origin.rows script now
+ends_closed builders table origin s opened script receipts told now stock marks short shift closed =
+    λ h is.
+    let of =
+    λ (b : BookModel) (o : IsOfDesk table origin b). crew_book table origin s h b stock is o in
+    let last = of closed.book closed.of_desk in
+    let ms = closed.book.history.journal in
+    let begun = map (λ m. m.mark) h.journal in
+    let same : changes opened closed.book ≡ changes begun closed.book =
+    ap (λ (os : List Mark). changes os closed.book) marks
+    ∙ changes_told origin.journal origin.rows h ms short is last.on in
+    record {
+      told = told_with shift.lines receipts;
+      lines = told_more (IsOfDesk table origin) (IsOfCrew s h) of s (lines_of script) untold
+          (told_with shift.lines receipts) shift.are;
+      book = closed.book;
+      of_crew = last;
+      still = still_told origin.journal origin.rows h ms short is last.on
+          (ap (still_undone ms) (sym marks) ∙ closed.still);
+      text_is = closed.text
+          ∙ ap (λ (l : List ℕ). l ++ rows_told (rows_of closed.book.history)) shift.text_is;
+      missing = shift.missing;
+      few = shift.few;
+      closing = closed.closing;
+      closed = subst (λ (found : List Receipt). IsClosing receipts found closed.closing) same
+          closed.closed;
+      refused_is = closed.refused ∙ ap (λ (n : ℕ). n + closed.closing) shift.refused_is;
+    }
 
 pub told_ok : (builders : ℕ) (s : Setting) (given : Option (List ℕ)) (rows : Table) (lines : List ℕ)
-    (r : Result Told ReadError) → OnOk r (HasBegun given rows)
-    → IfOk r (EndsFrom builders given rows lines)
+    (r : Result ToldText ReadError) → OnOk r (HasBegun given rows)
+    → IfOk r (EndsFrom builders s given rows lines)
     → IfOk r (IsToldFrom (crew_tells builders) s given rows lines)
 told_ok builders s given rows lines (Ok told) begun ends =
     (begun.0, begun.1, ends begun.0 begun.1)

@@ -1,3 +1,6 @@
 -- What the proofs of this crate share: a file a thing.
 pub mod CrewRuns
 pub mod Endings
+pub mod BegunMarks
+pub mod Replied
+pub mod ToldSoFar

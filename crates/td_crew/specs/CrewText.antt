@@ -1,41 +1,98 @@
 -- What is told of a script that a clerk answers beside builders. This project's own.
-use Rattle.std.specs.Prelude.{◌≡◌, ℕ, ◌+◌, ◌≤◌, List, [], ◌++◌, Option, Some, None, codes, length}
-use Rattle.std.specs.Prelude.{string_bytes}
+use Rattle.std.specs.Prelude.{◌≡◌, ◌⊎◌, ℕ, ◌+◌, ◌≤◌, true, List, [], ◌∷◌, ◌++◌, Option, Some, None}
+use Rattle.std.specs.Prelude.{◌<◌, ◌^◌, IfSome, IsPermutation, codes, length, if◌then◌else◌, map}
+use Rattle.std.specs.Prelude.{string_bytes, zero}
+use Rattle.atomic_table.specs.Seated.{TableId}
+use Rattle.td_text.specs.Lines.{lines_of}
 use Rattle.td_rows.specs.StateWriting.{state_text}
 use Rattle.td_rows.specs.Table.{Table}
 use Rattle.td_journal.specs.Entries.{standing}
 use Rattle.td_journal.specs.Replay.{Lawful}
 use Rattle.td_core.specs.History.{History, rows_of}
 use Rattle.td_journal.specs.declared.entry.Mark.{Mark}
-use Rattle.td_desk.specs.GoingOn.{Begins, GoesOn}
+use Rattle.td_book.specs.Desk.{BookModel}
+use Rattle.td_desk.specs.declared.receipt.Receipt.{Receipt}
+use Rattle.td_desk.specs.Calls.{IsOfDesk}
+use Rattle.td_desk.specs.Changes.{changes, still_undone}
+use Rattle.td_desk.specs.GoingOn.{GoesOn}
 use Rattle.td_desk.specs.Marks.{marks_in}
 use Rattle.td_desk.specs.Names.{Origin}
-use Rattle.td_script.specs.declared.told.Told.{Told}
+use Rattle.td_script.specs.declared.told.Told.{Told as ToldText}
 use Rattle.td_script.specs.Openings.{IsBegun}
-use Rattle.td_script.specs.Replies.{ended}
+use Rattle.td_script.specs.Replies.{Setting, ended}
 use Rattle.td_script.specs.Telling.{Telling}
+use Rattle.td_crew.specs.Replies.{DeskReply, MayReply}
+
+-- ---- 1. the lines
+
+-- what was told of lines: the text, how many were refused, and the receipts that the clerk got
+pub record Told : Type 0 where
+  pub text : List ℕ
+  pub refused : ℕ
+  pub receipts : List Receipt
+
+-- of no line
+abbrev pub untold : Told
+untold = record { text = []; refused = zero; receipts = [] }
+
+-- a reply more
+abbrev pub with_reply : Told → DeskReply → Told
+with_reply t r =
+    record {
+      text = t.text ++ r.text;
+      refused = t.refused + (if r.refused then 1 else 0);
+      receipts = t.receipts ++ r.receipts;
+    }
+
+-- lines are told one after the other, each by a reply that may be made to it
+abbrev pub AreTold : (List ℕ → DeskReply → Type 0) → List (List ℕ) → Told → Told → Type 0
+AreTold May [] t last = last ≡ t
+AreTold May (line ∷ lines) t last =
+    (r : DeskReply) × May line r × AreTold May lines (with_reply t r) last
+
+-- ---- 2. the whole
+
+-- a book that may lie under the lock of the crew's desk: its history goes on with the one from
+-- which
+-- the script starts, over the same offers, and each entry that stands applies where it stands
+pub record IsOfCrew (s : Setting) (begun : History) (book : BookModel) : Type 0 where
+  pub opening : book.history.opening ≡ begun.opening
+  pub stocked : book.fixed.stock ≡ s.stock
+  pub on : GoesOn begun.journal book.history.journal
+  pub lawful : Lawful book.history.opening (standing book.history.journal)
 
 -- the line `rows`, and the lines of the rows
 abbrev pub rows_told : Table → List ℕ
 rows_told rows = ended (codes "rows") ++ state_text rows
 
--- the last of what is told are the rows of a history that goes on with the one from which the script
--- starts: the entries of its journal that stand, each of which applies where it stands, lead from
--- the opening rows to these. At most each line, each builder and the closing of the desk is a
--- refusal
-pub record EndsWithRows (builders : ℕ) (begun : History) (script text : List ℕ)
+-- closing a desk is a refusal where the receipts aren't the changes, each once
+abbrev pub IsClosing : List Receipt → List Receipt → ℕ → Type 0
+IsClosing receipts found refusals =
+    ((refusals ≡ 0) × IsPermutation receipts found)
+    ⊎ ((refusals ≡ 1) × (IsPermutation receipts found → ⊥))
+
+-- the answers to the lines are told, each what some book of the crew's answers, and then the rows
+-- of
+-- the book with which the desk is closed. What was undone where the script starts is undone in it
+-- still. A refusal is a line that is refused, a builder who is missing, and a closing where the
+-- receipts of the lines aren't the changes of the book
+pub record EndsWithRows (builders : ℕ) (s : Setting) (begun : History) (script text : List ℕ)
     (refused : ℕ) : Type 0 where
-  pub history : History
-  pub opening : history.opening ≡ begun.opening
-  pub on : GoesOn begun.journal history.journal
-  pub lawful : Lawful history.opening (standing history.journal)
-  pub front : List ℕ
-  pub ends : text ≡ front ++ rows_told (rows_of history)
-  pub few : refused ≤ length script + builders + 2
+  pub told : Told
+  pub lines : AreTold (MayReply (IsOfCrew s begun) s) (lines_of script) untold told
+  pub book : BookModel
+  pub of_crew : IsOfCrew s begun book
+  pub still : still_undone book.history.journal (map (λ m. m.mark) begun.journal) ≡ true
+  pub text_is : text ≡ told.text ++ rows_told (rows_of book.history)
+  pub missing : ℕ
+  pub few : missing ≤ builders
+  pub closing : ℕ
+  pub closed : IsClosing told.receipts (changes (map (λ m. m.mark) begun.journal) book) closing
+  pub refused_is : refused ≡ told.refused + missing + closing
 
 -- what a crew of so many builders may tell of a script from this history
 abbrev pub crew_tells : ℕ → Telling
-crew_tells builders s h script text refused = EndsWithRows builders h script text refused
+crew_tells builders s h script text refused = EndsWithRows builders s h script text refused
 
 -- ---- as the code has it
 
@@ -44,27 +101,58 @@ abbrev pub HasBegun : Option (List ℕ) → Table → Type 0
 HasBegun given rows = (h : History) × IsBegun given rows h
 
 -- the same, from whatever history a script over these rows starts
-abbrev pub EndsFrom : ℕ → Option (List ℕ) → Table → List ℕ → Told → Type 0
-EndsFrom builders given rows script told =
+abbrev pub EndsFrom : ℕ → Setting → Option (List ℕ) → Table → List ℕ → ToldText → Type 0
+EndsFrom builders s given rows script told =
     (h : History) → IsBegun given rows h
-    → EndsWithRows builders h script (string_bytes told.text) told.refused
+    → EndsWithRows builders s h script (string_bytes told.text) told.refused
 
 -- the marks of the journal that is gone on with
 abbrev pub marks_begun : Option (List ℕ) → List Mark
 marks_begun None = []
 marks_begun (Some text) = marks_in text
 
+-- its text is one that can be counted
+abbrev pub IsShort : Option (List ℕ) → Type 0
+IsShort given = IfSome given (λ text. length text < 2 ^ 64)
+
+-- what was told, with the receipts of the clerk
+abbrev pub told_with : ToldText → List Receipt → Told
+told_with t receipts =
+    record { text = string_bytes t.text; refused = t.refused; receipts = receipts }
+
+-- a reply more, which a book of the desk may make
+abbrev pub IsReplied : TableId → Origin → Setting → List ℕ → Told → Told → Type 0
+IsReplied table origin s line old new =
+    (r : DeskReply) × MayReply (IsOfDesk table origin) s line r × (new ≡ with_reply old r)
+
+-- the lines are told so by a clerk who has no receipts before
+abbrev pub AreAnswered : TableId → Origin → Setting → List ℕ → List Receipt → ToldText → Type 0
+AreAnswered table origin s script receipts told =
+    AreTold (MayReply (IsOfDesk table origin) s) (lines_of script) untold (told_with told receipts)
+
+-- and so many builders are missing at most
+pub record IsShift (table : TableId) (origin : Origin) (s : Setting) (script : List ℕ)
+    (builders : ℕ) (receipts : List Receipt) (told : ToldText) : Type 0 where
+  pub lines : ToldText
+  pub are : AreAnswered table origin s script receipts lines
+  pub text_is : string_bytes told.text ≡ string_bytes lines.text
+  pub missing : ℕ
+  pub few : missing ≤ builders
+  pub refused_is : told.refused ≡ lines.refused + missing
+
 -- the rows of a history are put behind what was told
-pub record HasRows (told : Told) (h : History) (now : Told) : Type 0 where
+pub record HasRows (told : ToldText) (h : History) (now : ToldText) : Type 0 where
   pub text : string_bytes now.text ≡ string_bytes told.text ++ rows_told (rows_of h)
   pub lawful : Lawful h.opening (standing h.journal)
   pub refused : now.refused ≡ told.refused
 
--- those with which a desk is closed that was opened so, and at most one refusal more
-pub record IsClosed (origin : Origin) (told now : Told) : Type 0 where
-  pub history : History
-  pub opening : history.opening ≡ origin.rows
-  pub began : Begins origin history.journal
-  pub lawful : Lawful history.opening (standing history.journal)
-  pub text : string_bytes now.text ≡ string_bytes told.text ++ rows_told (rows_of history)
-  pub refused : now.refused ≤ told.refused + 1
+-- those with which a desk is closed that was opened so, and a refusal where the receipts differ
+pub record IsClosed (table : TableId) (origin : Origin) (opened : List Mark)
+    (receipts : List Receipt) (told now : ToldText) : Type 0 where
+  pub book : BookModel
+  pub of_desk : IsOfDesk table origin book
+  pub still : still_undone book.history.journal opened ≡ true
+  pub text : string_bytes now.text ≡ string_bytes told.text ++ rows_told (rows_of book.history)
+  pub closing : ℕ
+  pub closed : IsClosing receipts (changes opened book) closing
+  pub refused : now.refused ≡ told.refused + closing

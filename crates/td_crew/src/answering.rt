@@ -1,71 +1,122 @@
 //! The answers of a desk, put in the words of scripts. Each function says whether the line is
 //! refused.
+ghost use Rattle.std.specs.Prelude.{◌≡◌, ◌++◌, ◌∷◌, [], ℕ, List, IfOk, string_bytes};
+ghost use Rattle.td_rows.specs.declared.key.Key.{Key as KeyValue};
+ghost use Rattle.td_rows.specs.declared.kind.Kind.{Kind};
+ghost use Rattle.td_wbread.specs.Views.{parts_of};
+ghost use Rattle.td_desk.specs.declared.receipt.Receipt.{Receipt as ReceiptValue};
+ghost use Rattle.td_desk.specs.declared.receipt.Receipt.TheVariants.{Made};
+ghost use Rattle.td_desk.specs.Calls.{IsOfDesk};
+ghost use Rattle.td_script.specs.Replies.{entry_made};
+ghost use Rattle.td_script.specs.Settings.{setting_lent};
 ghost use Rattle.td_crew.specs.Lines.{FitAnyBook};
+ghost use Rattle.td_crew.specs.Replies.{MayAnswer, MayArrive, MayCommand, MaySweep};
+ghost use Rattle.td_crew.specs.Replies.{MayUndo, Says, keys_at};
 
 use crate::lines::Lines;
-use std::alloc::AllocError;
+use crate::shown::{entry, journal, report, row, swept_in};
+use std::alloc::{AllocError, Global};
 use std::sync::Wait;
 use std::sync::ledger::Ledger;
-use td_desk::{Clerk, Desk, Named};
+use td_desk::{Clerk, Desk, Named, Receipt};
+use td_journal::EntryNo;
 use td_rows::Key;
 use td_script::{
-    Reports, Request, put_arrival, put_command, put_sweep, put_undo, show_entry, show_journal,
-    show_report, show_row,
+    Reports, Request, put_arrival_refusal, put_command_refusal, put_skips, put_taken, put_undo,
 };
 use td_wbread::Command;
 
-/// Appends the answer to a command.
+// The keys of the entry of which the clerk got a receipt last.
+fn keys_made<C: Ledger>(clerk: &Clerk<C>) -> &[Key]
+    ensures { (before : List ReceiptValue) (n : ℕ) (kind : Kind) (keys : List KeyValue)
+        → clerk.now.receipts ≡ before ++ Made n kind keys ∷ [] → result.now ≡ keys }
+{
+    match clerk.receipts().last() {
+        Some(Receipt::Made(_, _, keys)) => keys.as_slice(),
+        _ => &[],
+    }
+}
+
+/// Appends the answer to a command. Its entry is told by the receipt.
 pub fn command<N: Named, C: Ledger, R: Wait>(
     rt: &R,
     desk: &Desk<'_, N, C>,
     clerk: &mut Clerk<C>,
     command: &Command<'_>,
     out: &mut String,
-) -> Result<bool, AllocError> {
-    let answer = desk.command(rt, clerk, command);
-    desk.look(rt, |book| put_command(out, book.journal(), answer))
+) -> Result<bool, AllocError>
+    ensures { IfOk result (Says (MayCommand (IsOfDesk N.table N.origin) (parts_of command.now))
+        (string_bytes out.old) (string_bytes out.new) clerk.old.receipts clerk.new.receipts) }
+{
+    match desk.command(rt, clerk, command) {
+        Ok(taken) => {
+            put_taken(out, taken.number, keys_made(clerk))?;
+            put_skips(out, taken.skips.as_slice())?;
+            Ok(false)
+        }
+        Err(refusal) => put_command_refusal(out, refusal),
+    }
 }
 
-// The answer to an arrival.
+// The answer to an undo.
+fn undo<N: Named, C: Ledger, R: Wait>(
+    rt: &R,
+    desk: &Desk<'_, N, C>,
+    clerk: &mut Clerk<C>,
+    n: EntryNo,
+    out: &mut String,
+) -> Result<bool, AllocError>
+    ensures { IfOk result (Says (MayUndo (IsOfDesk N.table N.origin) n) (string_bytes out.old)
+        (string_bytes out.new) clerk.old.receipts clerk.new.receipts) }
+{
+    put_undo(out, n, desk.undo(rt, clerk, n))
+}
+
+// The answer to an arrival. Its entry is told by the receipt.
 fn arrive<N: Named, C: Ledger, R: Wait>(
     rt: &R,
     desk: &Desk<'_, N, C>,
     clerk: &mut Clerk<C>,
     key: &Key,
     out: &mut String,
-) -> Result<bool, AllocError> {
-    let answer = desk.arrive(rt, clerk, key);
-    desk.look(rt, |book| put_arrival(out, book.journal(), answer))
+) -> Result<bool, AllocError>
+    ensures { IfOk result (Says (MayArrive (IsOfDesk N.table N.origin) key.now)
+        (string_bytes out.old) (string_bytes out.new) clerk.old.receipts clerk.new.receipts) }
+{
+    match desk.arrive(rt, clerk, key) {
+        Ok(n) => {
+            put_taken(out, n, keys_made(clerk))?;
+            Ok(false)
+        }
+        Err(refusal) => put_arrival_refusal(out, refusal),
+    }
 }
 
-// The answer to a sweep.
+// The answer to a sweep. A receipt of one has no keys, so they are read off the journal.
 fn sweep<N: Named, C: Ledger, R: Wait>(
     rt: &R,
     desk: &Desk<'_, N, C>,
     clerk: &mut Clerk<C>,
-    out: &mut String,
-) -> Result<bool, AllocError> {
-    let swept = desk.sweep(rt, clerk)?;
-    desk.look(rt, |book| put_sweep(out, book.journal(), swept))
-}
-
-// The report of the rows. The reports fit any book.
-fn report<N: Named, C: Ledger, T: Reports, R: Wait>(
-    rt: &R,
-    desk: &Desk<'_, N, C>,
-    lines: &Lines<'_, '_, T>,
+    alloc: Global,
     out: &mut String,
 ) -> Result<bool, AllocError>
-    requires fits { FitAnyBook T.fits lines.now.reports }
+    ensures { IfOk result (Says (MaySweep (IsOfDesk N.table N.origin)) (string_bytes out.old)
+        (string_bytes out.new) clerk.old.receipts clerk.new.receipts) }
 {
-    let alloc = lines.alloc;
-    let reports = lines.reports;
-    desk.look(
-        rt,
-        |book| -> Result<bool, AllocError>
-            requires { FitAnyBook T.fits reports }
-        { show_report(alloc, book, reports, out) },
-    )
+    match desk.sweep(rt, clerk)? {
+        Some(n) => {
+            let text = desk.look(
+                rt,
+                |book| -> Result<String, AllocError>
+                    ensures { IfOk result (λ text. string_bytes text
+                        ≡ entry_made n (keys_at book.now.history.journal n)) }
+                { swept_in(alloc, book, n) },
+            )?;
+            out.push_str(text.as_str())?;
+        }
+        None => out.push_str("nothing to sweep\n")?,
+    }
+    Ok(false)
 }
 
 /// Appends the answer to a request.
@@ -78,14 +129,17 @@ pub fn ask<N: Named, C: Ledger, T: Reports, R: Wait>(
     out: &mut String,
 ) -> Result<bool, AllocError>
     requires fits { FitAnyBook T.fits lines.now.reports }
+    ensures { IfOk result (Says (MayAnswer (IsOfDesk N.table N.origin)
+        (setting_lent T.text N.origin.stock lines.now.suites.now lines.now.reports) request.now)
+        (string_bytes out.old) (string_bytes out.new) clerk.old.receipts clerk.new.receipts) }
 {
     match request {
-        Request::Undo(n) => put_undo(out, *n, desk.undo(rt, clerk, *n)),
+        Request::Undo(n) => undo(rt, desk, clerk, *n, out),
         Request::Arrive(key) => arrive(rt, desk, clerk, key, out),
-        Request::Sweep => sweep(rt, desk, clerk, out),
-        Request::Row(key) => desk.look(rt, |book| show_row(book, key, out)),
-        Request::Entry(n) => desk.look(rt, |book| show_entry(book, *n, out)),
+        Request::Sweep => sweep(rt, desk, clerk, lines.alloc, out),
+        Request::Row(key) => row(rt, desk, lines.alloc, key, out),
+        Request::Entry(n) => entry(rt, desk, lines.alloc, *n, out),
         Request::Report => report(rt, desk, lines, out),
-        Request::Journal => desk.look(rt, |book| show_journal(book, out)),
+        Request::Journal => journal(rt, desk, lines.alloc, out),
     }
 }

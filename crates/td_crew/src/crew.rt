@@ -1,15 +1,19 @@
 //! A crew: a clerk beside builders.
 ghost use Rattle.std.specs.Prelude.{◌≡◌, ◌+◌, ◌-◌, ◌≤◌, ◌<◌, ◌^◌, ◌∷◌, [], All, IfErr, IfOk};
-ghost use Rattle.std.specs.Prelude.{OnOk, length, option_map, string_bytes};
+ghost use Rattle.std.specs.Prelude.{OnOk, length, option_map, string_bytes, true};
+ghost use Rattle.td_desk.specs.Clerks.{all_receipts};
 ghost use Rattle.td_board.specs.Knowledge.{new_desk};
+ghost use Rattle.td_relation.specs.TableView.{table};
 ghost use Rattle.td_core.specs.Phases.{NoneBuilt};
 ghost use Rattle.td_supply.specs.Supply.{opened, stock_of};
 ghost use Rattle.td_script.specs.Asking.{IsFit, IsToldOf};
 ghost use Rattle.td_script.specs.OpeningInside.{IsJournalFault};
 ghost use Rattle.td_script.specs.Openings.{IsJournalIfGiven};
-ghost use Rattle.td_desk.specs.GoingOn.{Begins};
-ghost use Rattle.td_crew.specs.CrewText.{EndsFrom, HasBegun, HasRows, IsClosed, crew_tells};
-ghost use Rattle.td_crew.specs.CrewText.{marks_begun};
+ghost use Rattle.td_script.specs.Settings.{setting_lent};
+ghost use Rattle.td_desk.specs.Calls.{IsOfDesk};
+ghost use Rattle.td_desk.specs.Changes.{changes, still_undone};
+ghost use Rattle.td_crew.specs.CrewText.{AreAnswered, EndsFrom, HasBegun, HasRows, IsClosed};
+ghost use Rattle.td_crew.specs.CrewText.{IsClosing, IsShift, IsShort, crew_tells, marks_begun};
 ghost use Rattle.td_crew.specs.Lines.{FitAnyBook};
 
 use crate::building::build;
@@ -46,39 +50,56 @@ impl Staff for Crew {
     ghost tells = { λ crew. crew_tells crew.builders };
 }
 
-// What is told of the lines; then the desk is shut.
+// What is told of the lines, and the clerk with the receipts of them; then the desk is shut.
 fn tell_all<N: Named, C: Ledger, T: Reports, R: Wait>(
     rt: &R,
     desk: &Desk<'_, N, C>,
-    clerk: &mut Clerk<C>,
+    clerk: Clerk<C>,
     lines: &Lines<'_, '_, T>,
-) -> Result<Told, AllocError>
+) -> Result<(Told, Clerk<C>), AllocError>
     requires fits { FitAnyBook T.fits lines.now.reports }
-    ensures { IfOk result (λ told. told.refused ≤ length lines.now.script.now + 1) }
+    requires archs { table lines.now.archs.now ≡ N.origin.stock.table }
+    requires new { clerk.receipts ≡ [] }
+    ensures few { IfOk result (λ made. made.0.refused ≤ length lines.now.script.now + 1) }
+    ensures told { IfOk result (λ made. AreAnswered N.table N.origin
+        (setting_lent T.text N.origin.stock lines.now.suites.now lines.now.reports)
+        lines.now.script.now made.1.receipts made.0) }
 {
-    let told = tell_lines(rt, desk, clerk, lines);
+    let mut clerk = clerk;
+    let told = tell_lines(rt, desk, &mut clerk, lines);
     desk.shut(rt);
-    told
+    Ok((told?, clerk))
 }
 
-// What is told of the lines, while builders work on threads of their own; they are joined then.
+// The same while builders work on threads of their own; they are joined then.
 fn tell_beside<N: Named + Send + Sync, C: Ledger + Send + Sync, T: Reports>(
     rt: &(impl Threads + Wait + Sync),
     shift: &Shift<'_, '_, N, C>,
-    clerk: &mut Clerk<C>,
+    clerk: Clerk<C>,
     hired: Vec<Hired<N>>,
     builds: &(impl Builds + Sync),
     lines: &Lines<'_, '_, T>,
-) -> Result<Told, AllocError>
+) -> Result<(Told, Clerk<C>), AllocError>
     requires fits { FitAnyBook T.fits lines.now.reports }
-    ensures { IfOk result (λ told. told.refused ≤ length lines.now.script.now + 1) }
+    requires archs { table lines.now.archs.now ≡ N.origin.stock.table }
+    requires new { clerk.receipts ≡ [] }
+    ensures few { IfOk result (λ made. made.0.refused ≤ length lines.now.script.now + 1) }
+    ensures told { IfOk result (λ made. AreAnswered N.table N.origin
+        (setting_lent T.text N.origin.stock lines.now.suites.now lines.now.reports)
+        lines.now.script.now made.1.receipts made.0) }
 {
     thread::scope(
         thread::scope_env(),
         rt,
-        |scope| -> Result<Told, AllocError>
-            requires { FitAnyBook T.fits lines.now.reports }
-            ensures { IfOk result (λ told. told.refused ≤ length lines.entry.now.script.now + 1) }
+        |scope| -> Result<(Told, Clerk<C>), AllocError>
+            requires fits { FitAnyBook T.fits lines.now.reports }
+            requires archs { table lines.now.archs.now ≡ N.origin.stock.table }
+            requires new { clerk.receipts ≡ [] }
+            ensures few { IfOk result (λ made.
+                made.0.refused ≤ length lines.entry.now.script.now + 1) }
+            ensures told { IfOk result (λ made. AreAnswered N.table N.origin
+                (setting_lent T.text N.origin.stock lines.entry.now.suites.now
+                lines.entry.now.reports) lines.entry.now.script.now made.1.receipts made.0) }
         {
             for one in hired {
                 if scope.spawn(move || build(rt, shift, one, builds)).is_err() {
@@ -90,27 +111,33 @@ fn tell_beside<N: Named + Send + Sync, C: Ledger + Send + Sync, T: Reports>(
     )
 }
 
-// What is told of the lines beside builders on these seats. Each who is missing is a refusal.
+// What is told of the lines beside builders on these seats, and the clerk with the receipts of
+// them. Each builder who is missing is a refusal.
 fn tell_in_shift<N: Named + Send + Sync, C: Ledger + Send + Sync, T: Reports>(
     rt: &(impl Threads + Wait + Sync),
     desk: &Desk<'_, N, C>,
-    clerk: &mut Clerk<C>,
+    clerk: Clerk<C>,
     seats: Vec<BuilderSeat>,
     builds: &(impl Builds + Sync),
     lines: &Lines<'_, '_, T>,
-) -> Result<Told, AllocError>
+) -> Result<(Told, Clerk<C>), AllocError>
     requires seats { All (λ s. s.table ≡ N.table) seats.items }
     requires few { length seats.items ≤ 64 }
     requires fits { FitAnyBook T.fits lines.now.reports }
-    ensures { IfOk result (λ told.
-        told.refused ≤ length lines.now.script.now + length seats.items + 1) }
+    requires archs { table lines.now.archs.now ≡ N.origin.stock.table }
+    requires new { clerk.receipts ≡ [] }
+    ensures few { IfOk result (λ made.
+        made.0.refused ≤ length lines.now.script.now + length seats.items + 1) }
+    ensures told { IfOk result (λ made. IsShift N.table N.origin
+        (setting_lent T.text N.origin.stock lines.now.suites.now lines.now.reports)
+        lines.now.script.now (length seats.items) made.1.receipts made.0) }
 {
     let builders = seats.len() as u64;
     let hired = hire::<N>(lines.alloc, seats)?;
     let shift = Shift::new(desk);
-    let mut told = tell_beside(rt, &shift, clerk, hired, builds, lines)?;
+    let (mut told, clerk) = tell_beside(rt, &shift, clerk, hired, builds, lines)?;
     told.refused += shift.missed()?.min(builders);
-    Ok(told)
+    Ok((told, clerk))
 }
 
 // Puts the rows of a book behind what was told.
@@ -136,14 +163,17 @@ fn alone<C: Ledger>(alloc: Global, clerk: Clerk<C>) -> Result<Vec<Clerk<C>>, All
 // The book with which a desk is closed, and how many refusals that is: one where the receipts of
 // these clerks differ from the book's changes.
 fn closed<'a, N: Named, C: Ledger>(desk: Desk<'a, N, C>, clerks: Vec<Clerk<C>>) -> (Book<'a>, u64)
-    ensures opening { result.0.history.opening ≡ N.origin.rows }
-    ensures began { Begins N.origin result.0.history.journal }
-    ensures few { result.1 ≤ 1 }
+    ensures of_desk { IsOfDesk N.table N.origin result.0 }
+    ensures still { still_undone result.0.history.journal N.opened ≡ true }
+    ensures closed { IsClosing (all_receipts clerks.items) (changes N.opened result.0) result.1 }
 {
-    match desk.close(clerks) {
+    let (book, refusals) = match desk.close(clerks) {
         Ok(book) => (book, 0),
         Err(differ) => (differ.book, 1),
-    }
+    };
+    // (`rows` says that the history is lawful)
+    let _lawful = book.rows();
+    (book, refusals)
 }
 
 // Puts the rows behind with which the desk is closed.
@@ -154,7 +184,7 @@ fn close<N: Named, C: Ledger>(
     told: Told,
 ) -> Result<Told, AllocError>
     requires room { told.refused < 2 ^ 64 - 1 }
-    ensures { IfOk result (IsClosed N.origin told) }
+    ensures { IfOk result (IsClosed N.table N.origin N.opened clerk.receipts told) }
 {
     let clerks = alone(alloc, clerk)?;
     let (book, refusals) = closed(desk, clerks);
@@ -175,11 +205,15 @@ fn tell_at<N: Named + Send + Sync, C: Ledger + Send + Sync, T: Reports>(
     requires seats { All (λ s. s.table ≡ N.table) seats.items }
     requires few { length seats.items ≤ 64 }
     requires fits { FitAnyBook T.fits lines.now.reports }
-    ensures { IfOk result
-        (EndsFrom (length seats.items) N.origin.journal N.origin.rows lines.now.script.now) }
+    requires archs { table lines.now.archs.now ≡ N.origin.stock.table }
+    requires new { clerk.receipts ≡ [] }
+    requires opened { N.opened ≡ marks_begun N.origin.journal }
+    requires short { IsShort N.origin.journal }
+    ensures { IfOk result (EndsFrom (length seats.items)
+        (setting_lent T.text N.origin.stock lines.now.suites.now lines.now.reports)
+        N.origin.journal N.origin.rows lines.now.script.now) }
 {
-    let mut clerk = clerk;
-    let told = tell_in_shift(rt, &desk, &mut clerk, seats, builds, lines)?;
+    let (told, clerk) = tell_in_shift(rt, &desk, clerk, seats, builds, lines)?;
     close(lines.alloc, desk, clerk, told)
 }
 
@@ -207,13 +241,19 @@ fn begin<'a, N: Named, C: Ledger>(
     requires fresh_supply { supply ≡ opened (stock_of supply) }
     requires ledger { (blank.name ≡ C.name) × (blank.parts ≡ C.parts) × (blank.parts ≡ 1024) }
     ensures begun { OnOk result (HasBegun (option_map (λ s. s.now) journal.entry) rows) }
+    ensures clerk { IfOk result (λ made. made.1.receipts ≡ []) }
+    ensures short { OnOk result (IsShort (option_map (λ s. s.now) journal.entry)) }
     ensures fault { IfErr result (IsJournalFault rows (option_map (λ s. s.now) journal.entry)) }
     ensures only { IfErr result (λ fault.
         IsJournalIfGiven rows (option_map (λ s. s.now) journal.entry)
         → fault ≡ ReadError.NoMemory) }
 {
     match journal {
-        Some(text) => Desk::<N, C>::reopen(alloc, board, seat, rows, supply, blank, text),
+        Some(text) => {
+            // (a text's length is a `usize`)
+            let _len = text.len();
+            Desk::<N, C>::reopen(alloc, board, seat, rows, supply, blank, text)
+        }
         None => match Desk::<N, C>::open(alloc, board, seat, rows, supply, blank) {
             Ok(made) => Ok(made),
             Err(AllocError) => Err(ReadError::NoMemory),
@@ -249,10 +289,11 @@ fn tell_named<N: Named + Send + Sync, C: Ledger + Send + Sync, T: Reports>(
     requires fresh_supply { supply ≡ opened (stock_of supply) }
     requires ledger { (blank.name ≡ C.name) × (blank.parts ≡ C.parts) × (blank.parts ≡ 1024) }
     requires fits { FitAnyBook T.fits lines.now.reports }
+    requires archs { table lines.now.archs.now ≡ (stock_of supply).table }
     ensures begun { OnOk result (HasBegun (option_map (λ s. s.now) lines.now.journal) rows) }
-    ensures told { IfOk result
-        (EndsFrom (length seats.items) (option_map (λ s. s.now) lines.now.journal) rows
-        lines.now.script.now) }
+    ensures told { IfOk result (EndsFrom (length seats.items)
+        (setting_lent T.text (stock_of supply.entry) lines.now.suites.now lines.now.reports)
+        (option_map (λ s. s.now) lines.now.journal) rows lines.now.script.now) }
     ensures fault { IfErr result (IsJournalFault rows (option_map (λ s. s.now) lines.now.journal)) }
     ensures only { IfErr result (λ fault.
         IsJournalIfGiven rows (option_map (λ s. s.now) lines.now.journal)

@@ -1,5 +1,11 @@
 //! The answer to a line at a desk.
+ghost use Rattle.std.specs.Prelude.{◌≡◌, IfOk, map, string_bytes};
+ghost use Rattle.td_relation.specs.TableView.{table};
+ghost use Rattle.td_wbread.specs.Command.{command_at};
+ghost use Rattle.td_desk.specs.Calls.{IsOfDesk};
+ghost use Rattle.td_script.specs.Settings.{setting_lent};
 ghost use Rattle.td_crew.specs.Lines.{FitAnyBook};
+ghost use Rattle.td_crew.specs.Replies.{MayReply, MayType, Says};
 
 use crate::answering::{ask, command};
 use crate::lines::Lines;
@@ -18,7 +24,11 @@ fn type_in<N: Named, C: Ledger, T: Reports, R: Wait>(
     lines: &Lines<'_, '_, T>,
     line: &str,
     out: &mut String,
-) -> Result<bool, AllocError> {
+) -> Result<bool, AllocError>
+    ensures { IfOk result (Says (MayType (IsOfDesk N.table N.origin)
+        (command_at (table lines.now.archs.now) (map (λ s. s.now) lines.now.suites.now) line.now))
+        (string_bytes out.old) (string_bytes out.new) clerk.old.receipts clerk.new.receipts) }
+{
     match read_command(lines.alloc, line, lines.archs, lines.suites) {
         Ok(typed) => command(rt, desk, clerk, &typed, out),
         Err(CommandFault::Wrong(fault, _)) => {
@@ -39,6 +49,10 @@ pub fn answer<N: Named, C: Ledger, T: Reports, R: Wait>(
     out: &mut String,
 ) -> Result<bool, AllocError>
     requires fits { FitAnyBook T.fits lines.now.reports }
+    requires archs { table lines.now.archs.now ≡ N.origin.stock.table }
+    ensures { IfOk result (Says (MayReply (IsOfDesk N.table N.origin)
+        (setting_lent T.text N.origin.stock lines.now.suites.now lines.now.reports) line.now)
+        (string_bytes out.old) (string_bytes out.new) clerk.old.receipts clerk.new.receipts) }
 {
     match read_line(lines.alloc, line)? {
         Said::Skipped => Ok(false),

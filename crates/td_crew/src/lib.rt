@@ -3,9 +3,9 @@
 //! Start at `run_crew_with`, over outcomes that are read; `run_crew` reads them from a text. The
 //! script is read as `td_script` reads it, and each answer put in the same words; then the desk is
 //! shut, the builders are joined, the desk is closed, and the rows of its book are told.
-//! Promised: the faults of a script, where they are due; and that what is written ends with the
-//! rows of a lawful book over the rows from which the script starts. What stands before is tested
-//! alone: it hangs on who is first.
+//! Promised: the faults of a script, where they are due; that what is written is a reply to each
+//! line, which some book of the desk answers, and then the rows of the book with which the desk is
+//! closed; and the number of refusals. Which book answers a line hangs on who is first.
 #![tactic(auto)]
 
 mod answering;
@@ -16,6 +16,7 @@ mod hired;
 mod lines;
 mod running;
 mod shift;
+mod shown;
 mod told;
 
 pub use crew::{Crew, tell_script};

@@ -1,5 +1,8 @@
 //! What is told of a script at a desk: the answers to its lines, one after the other.
-ghost use Rattle.std.specs.Prelude.{◌+◌, ◌≤◌, ◌<◌, ◌^◌, IfOk, OnOk, length};
+ghost use Rattle.std.specs.Prelude.{◌≡◌, ◌+◌, ◌≤◌, ◌<◌, ◌^◌, [], IfOk, OnOk, length};
+ghost use Rattle.td_relation.specs.TableView.{table};
+ghost use Rattle.td_script.specs.Settings.{setting_lent};
+ghost use Rattle.td_crew.specs.CrewText.{AreAnswered, IsReplied, told_with};
 ghost use Rattle.td_crew.specs.Lines.{FitAnyBook};
 
 use crate::dispatch::answer;
@@ -21,8 +24,12 @@ fn add_line<N: Named, C: Ledger, T: Reports, R: Wait>(
     told: &mut Told,
 ) -> Result<(), AllocError>
     requires fits { FitAnyBook T.fits lines.now.reports }
+    requires archs { table lines.now.archs.now ≡ N.origin.stock.table }
     requires room { told.old.refused < 2 ^ 63 }
-    ensures { OnOk result (told.new.refused ≤ told.old.refused + 1) }
+    ensures few { OnOk result (told.new.refused ≤ told.old.refused + 1) }
+    ensures replied { OnOk result (IsReplied N.table N.origin
+        (setting_lent T.text N.origin.stock lines.now.suites.now lines.now.reports) line.now
+        (told_with told.old clerk.old.receipts) (told_with told.new clerk.new.receipts)) }
 {
     if answer(rt, desk, clerk, lines, line, &mut told.text)? {
         told.refused += 1;
@@ -38,7 +45,12 @@ pub fn tell_lines<N: Named, C: Ledger, T: Reports, R: Wait>(
     lines: &Lines<'_, '_, T>,
 ) -> Result<Told, AllocError>
     requires fits { FitAnyBook T.fits lines.now.reports }
-    ensures { IfOk result (λ told. told.refused ≤ length lines.now.script.now + 1) }
+    requires archs { table lines.now.archs.now ≡ N.origin.stock.table }
+    requires new { clerk.old.receipts ≡ [] }
+    ensures few { IfOk result (λ told. told.refused ≤ length lines.now.script.now + 1) }
+    ensures told { IfOk result (AreAnswered N.table N.origin
+        (setting_lent T.text N.origin.stock lines.now.suites.now lines.now.reports)
+        lines.now.script.now clerk.new.receipts) }
 {
     let mut told = Told {
         text: String::new(lines.alloc),

@@ -1,19 +1,29 @@
 -- The rows of a closed desk's book stand over those from which it started.
-use Rattle.std.proofs.Common.{◌+◌, refl, arith}
+use Rattle.std.proofs.Common.{◌+◌, List, append-nil, refl, subst}
 use Rattle.std.proofs.lemmas.Result.{IfOk-weaker}
+use Rattle.td_desk.specs.Changes.{changes}
+use Rattle.td_desk.specs.Clerks.{ClerkModel, all_receipts}
+use Rattle.td_desk.specs.declared.receipt.Receipt.{Receipt}
 use Rattle.td_script.specs.declared.told.Told.{Told}
+use Rattle.td_crew.specs.CrewText.{IsClosing}
 use Rattle.td_crew.proofs.Endings.{rows_closed}
 use Rattle.td_crew.proofs.crew.close.Goals as goal
 
 pub returns : goal.returns
 returns g c =
     let book = c.closed-book.result.0 in
+    let more = c.closed-book.result.1 in
+    let found = changes g.N.Named.opened book in
     let mid : Told = record {
       text = c.args.told.text;
-      refused = c.args.told.refused + c.closed-book.result.1;
+      refused = c.args.told.refused + more;
     } in
+    let closed = subst (λ (rs : List Receipt). IsClosing rs found more)
+    (append-nil c.args.clerk.receipts)
+    (subst (λ (cs : List ClerkModel). IsClosing (all_receipts cs) found more)
+    c.in_ok-clerks.ensures c.closed-book.ensures.closed) in
     IfOk-weaker c.tell_rows.result _ _
-    (λ now. rows_closed g.N.Named.origin c.args.told mid now book.history
-    c.closed-book.ensures.opening c.closed-book.ensures.began refl
-    (omega (arith, c.closed-book.ensures.few)))
+    (λ now. rows_closed g.N.Named.table g.N.Named.origin g.N.Named.opened c.args.clerk.receipts
+    c.args.told mid now book more c.closed-book.ensures.of_desk c.closed-book.ensures.still closed
+    refl refl)
     c.tell_rows.ensures

@@ -1,8 +1,12 @@
 -- The seats of a new board are those of its builders, as many as the crew has.
-use Rattle.std.proofs.Common.{◌≤◌, ℕ, IfOk, length, subst, sym}
+use Rattle.std.proofs.Common.{◌≡◌, ◌≤◌, ℕ, List, [], ◌∷◌, Bor, IfOk, length, map, option_map}
+use Rattle.std.proofs.Common.{rules, subst, sym}
 use Rattle.td_board.proofs.NewSeats.{desk_at, length-seats, seats_at}
-use Rattle.td_script.proofs.OpeningLaws.{fresh_supply}
+use Rattle.td_supply.specs.Supply.{Stock, stock_of}
+use Rattle.td_script.proofs.OpeningLaws.{fresh_supply, stock-opened}
 use Rattle.td_script.specs.Asking.{journal_asked, setting_asked}
+use Rattle.td_indices.specs.Supplying.{supply_of}
+use Rattle.td_script.specs.Reporting.{report_by}
 use Rattle.td_crew.specs.CrewText.{EndsFrom}
 use Rattle.td_crew.proofs.Endings.{told_ok}
 use Rattle.td_crew.proofs.crew.tell_script.Goals as goal
@@ -28,14 +32,28 @@ tell_named-requires-clause-fresh_supply g c κs within = fresh_supply _ _ c.in-O
 
 pub returns : goal.returns
 returns g c =
-    let ends = subst (λ (n : ℕ).
-    IfOk c.tell_named.result (EndsFrom n (journal_asked c.args.asked) c.args.asked.rows
-    c.args.asked.script.now))
-    (length-seats c.in-Ok.board.table 1 c.args.crew.builders c.in-Ok.seats.items
-    c.in-Ok.ensures.ok.builder_seats) c.tell_named.ensures.told in
+    let asked = c.args.asked in
+    let count = length-seats c.in-Ok.board.table 1 c.args.crew.builders c.in-Ok.seats.items
+    c.in-Ok.ensures.ok.builder_seats in
+    let stock = stock-opened _ _ c.in-Ok-supply.ensures in
+    let Ends = λ (n : ℕ) (k : Stock) (suites : List (List ℕ)).
+    IfOk c.tell_named.result (EndsFrom n
+    (record {
+      stock = k;
+      suites = suites;
+      report = option_map (λ r. report_by r.now) asked.reports;
+    })
+    (journal_asked asked) asked.rows asked.script.now) in
+    let one : map (λ (s : Bor (List ℕ)). s.now) c.as_slice.result.now ≡ asked.suite.now ∷ [] =
+    search rules in
+    let ends = subst (λ (n : ℕ). Ends n (supply_of asked.archive.now) (asked.suite.now ∷ [])) count
+    (subst (λ (k : Stock). Ends (length c.in-Ok.seats.items) k (asked.suite.now ∷ [])) stock
+    (subst (λ (suites : List (List ℕ)).
+    Ends (length c.in-Ok.seats.items) (stock_of c.in-Ok-supply.supply) suites) one
+    c.tell_named.ensures.told)) in
     record {
-      told = told_ok c.args.crew.builders (setting_asked c.args.asked) (journal_asked c.args.asked)
-          c.args.asked.rows c.args.asked.script.now c.tell_named.result c.tell_named.ensures.begun
+      told = told_ok c.args.crew.builders (setting_asked asked) (journal_asked asked)
+          asked.rows asked.script.now c.tell_named.result c.tell_named.ensures.begun
           ends;
       fault = c.tell_named.ensures.fault;
       only = c.tell_named.ensures.only;

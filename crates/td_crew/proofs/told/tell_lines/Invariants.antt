@@ -1,11 +1,15 @@
 -- What the loop of `tell_lines` keeps, and what gets less.
-use Rattle.std.proofs.Common.{◌+◌, ◌≤◌, length}
 use Rattle.td_text.specs.Lines.{left_len}
+use Rattle.td_script.specs.Settings.{setting_lent}
+use Rattle.td_crew.proofs.ToldSoFar.{IsSoFar}
 use Rattle.td_crew.proofs.told.tell_lines.Given as goal
 
--- each line that was answered was refused at most once
+-- what is told so far, with what is told of the rest, is the whole
 abbrev pub invariant-loop-rest : goal.invariant-loop-rest
-invariant-loop-rest g l = l.told.refused + left_len l.rest ≤ length l.fn.lines.script.now + 1
+invariant-loop-rest g l =
+    IsSoFar g.N.Named.table g.N.Named.origin
+    (setting_lent g.T.Reports.text g.N.Named.origin.stock l.fn.lines.suites.now l.fn.lines.reports)
+    l.fn.lines.script.now l.clerk.receipts l.told l.rest
 
 abbrev pub decreases-loop-rest : goal.decreases-loop-rest
 decreases-loop-rest g l = left_len l.rest

@@ -1,0 +1,374 @@
+-- What a clerk beside builders says is what a book of the desk answers, in the words of scripts.
+use Rattle.std.proofs.Common.{◌≡◌, ◌⊎◌, ℕ, Bool, true, false, List, [], ◌∷◌, ◌++◌, Option, Some}
+use Rattle.std.proofs.Common.{None, Result, Ok, Err, inl, inr, refl, sym, ap, ◌∙◌, append-nil}
+use Rattle.std.proofs.Common.{append_assoc, subst}
+use Rattle.std.specs.declared.alloc.AllocError.{AllocError}
+use Rattle.std.specs.Prelude.{IfOk, OnErr, OnOk, codes, decimal, string_bytes}
+use Rattle.std.specs.List.{flat_map}
+use Rattle.atomic_table.specs.Seated.{TableId}
+use Rattle.td_rows.specs.declared.key.Key.{Key}
+use Rattle.td_rows.specs.declared.kind.Kind.{Kind}
+use Rattle.td_rows.specs.StateWord.{state_word}
+use Rattle.td_rows.specs.Table.{Table}
+use Rattle.td_core.specs.History.{History}
+use Rattle.td_wbread.specs.declared.fault.CommandFault.{CommandFault}
+use Rattle.td_wbread.specs.declared.fault.CommandFault.TheVariants.{Wrong}
+use Rattle.td_wbread.specs.declared.fault.LineFault.{LineFault}
+use Rattle.td_wbread.specs.FaultNames.{name_of}
+use Rattle.td_wbread.specs.Faults.{IsFaultOf}
+use Rattle.td_wbread.specs.Command.{CommandParts, command_at}
+use Rattle.td_wbread.specs.Kinds.{kind_of}
+use Rattle.td_book.specs.declared.arriving.ArriveRefusal.{ArriveRefusal}
+use Rattle.td_book.specs.declared.arriving.ArriveRefusal.TheVariants as arrivals
+use Rattle.td_book.specs.declared.commanding.CommandRefusal.{CommandRefusal}
+use Rattle.td_book.specs.declared.commanding.CommandRefusal.TheVariants as commands
+use Rattle.td_book.specs.declared.commanding.Taken.{Taken}
+use Rattle.td_book.specs.declared.undoing.UndoRefusal.{UndoRefusal}
+use Rattle.td_book.specs.declared.undoing.UndoRefusal.TheVariants as undos
+use Rattle.td_book.specs.Commands.{named_by}
+use Rattle.td_book.specs.Desk.{BookModel}
+use Rattle.td_desk.specs.declared.receipt.Receipt.{Receipt}
+use Rattle.td_desk.specs.declared.receipt.Receipt.TheVariants.{Made, Swept, Undid}
+use Rattle.td_desk.specs.Calls.{Arriving, Commanding, IsOfDesk, Sweeping, Undoing, arrival_receipt}
+use Rattle.td_desk.specs.Calls.{command_receipt, without}
+use Rattle.td_desk.specs.Clerks.{ClerkModel, with_receipt}
+use Rattle.td_desk.specs.Names.{Origin}
+use Rattle.td_script.specs.declared.request.Request.{Request}
+use Rattle.td_script.specs.declared.request.Request.TheVariants as requests
+use Rattle.td_script.specs.declared.line.Said.{Said}
+use Rattle.td_script.specs.declared.line.Said.TheVariants.{Skipped, Asked, Bad, Typed}
+use Rattle.td_script.specs.Reading.{said_at}
+use Rattle.td_script.specs.Replies.{Reply, Setting, ended, entry_made, refusal_line, skip_line}
+use Rattle.td_script.specs.Replies.{undo_name}
+use Rattle.td_script.specs.Replying.{IsArrivalRefused, IsCommandRefused, IsPut, IsUndoPut}
+use Rattle.td_crew.specs.declared.shown.Shown.{Shown}
+use Rattle.td_crew.specs.Replies.{DeskReply, IsOfSweep, IsOfUndo, IsSaid, IsShown, MayAnswer}
+use Rattle.td_crew.specs.Replies.{MayArrive}
+use Rattle.td_crew.specs.Replies.{MayCommand, MayReply, MayReport, MaySay, MayShow, MaySweep}
+use Rattle.td_crew.specs.Replies.{MayType, MayUndo, Says}
+use Rattle.td_crew.specs.Replies.{declines, keys_at, makes, tells}
+use Rattle.td_crew.specs.CrewText.{AreTold, Told, with_reply}
+
+-- ---- 1. what is put
+
+-- a refusal is told, and the clerk gets no receipt
+said_refused : (name before now : List ℕ) (old new : List Receipt) (refused : Bool)
+    → IsPut (refusal_line name) true before now refused → new ≡ old
+    → IsSaid (declines name []) before now old new refused
+said_refused name before now old new refused put same = record {
+  text_is = put.text_is ∙ ap (λ (l : List ℕ). before ++ l) (sym (append-nil (refusal_line name)));
+  receipts_are = same ∙ sym (append-nil old);
+  refusal = put.refusal;
+}
+
+-- an entry is told, and the clerk gets its receipt
+made_said : (n : ℕ) (keys : List Key) (behind before mid now : List ℕ) (receipt : Receipt)
+    (old new : ClerkModel) → mid ≡ before ++ entry_made n keys → now ≡ mid ++ behind
+    → new ≡ with_receipt receipt old
+    → IsSaid (record {
+      text = entry_made n keys ++ behind;
+      refused = false;
+      receipts = receipt ∷ [];
+    }) before now old.receipts new.receipts false
+made_said n keys behind before mid now receipt old new one two got = record {
+  text_is = two ∙ ap (λ (l : List ℕ). l ++ behind) one
+      ∙ append_assoc before (entry_made n keys) behind;
+  receipts_are = ap (λ (c : ClerkModel). c.receipts) got;
+  refusal = refl;
+}
+
+-- where memory isn't wanting, there is an answer
+answered : {A B : Type 0} → (A → ⊥) → A ⊎ B → B
+answered other (inl a) = absurd (other a)
+answered other (inr b) = b
+
+-- ---- 2. calls
+
+-- an undo is refused by a book
+undo_refused : (table : TableId) (origin : Origin) (n : ℕ) (e : UndoRefusal) (before now : List ℕ)
+    (old new : ClerkModel) (refused : Bool) → Undoing n table origin (Err e)
+    → IsOfUndo n (Err e) (declines (undo_name e) []) → new ≡ old
+    → IsPut (refusal_line (undo_name e)) true before now refused
+    → Says (MayUndo (IsOfDesk table origin) n) before now old.receipts new.receipts refused
+undo_refused table origin n e before now old new refused a of same put = (
+  declines (undo_name e) [],
+  (a.0, a.1, Err e, a.2, a.3, of),
+  said_refused (undo_name e) before now old.receipts new.receipts refused put
+      (ap (λ (c : ClerkModel). c.receipts) same),
+)
+
+-- what is said to an undo
+pub undo_said : (table : TableId) (origin : Origin) (n : ℕ)
+    (answer : Result (Unit {0}) UndoRefusal) (before now : List ℕ) (old new : ClerkModel)
+    (refused : Bool) → Undoing n table origin answer
+    → OnOk answer (new ≡ with_receipt (Undid n) old) → OnErr answer (new ≡ old)
+    → IsUndoPut n answer before now refused
+    → Says (MayUndo (IsOfDesk table origin) n) before now old.receipts new.receipts refused
+undo_said table origin n (Ok u) before now old new refused its ok err put = (
+  record {
+    text = ended (codes "undone " ++ decimal n);
+    refused = false;
+    receipts = Undid n ∷ [];
+  },
+  (its.0, its.1, Ok u, its.2, its.3, refl),
+  record {
+    text_is = put.text_is;
+    receipts_are = ap (λ (c : ClerkModel). c.receipts) ok;
+    refusal = put.refusal;
+  },
+)
+undo_said table origin n (Err undos.NoMemory) before now old new refused a ok err put = absurd put
+undo_said table origin n (Err undos.NoSuchEntry) before now old new refused a ok err put =
+    undo_refused table origin n undos.NoSuchEntry before now old new refused
+    a refl err put
+undo_said table origin n (Err undos.NotACommand) before now old new refused a ok err put =
+    undo_refused table origin n undos.NotACommand before now old new refused
+    a refl err put
+undo_said table origin n (Err undos.AlreadyUndone) before now old new refused a ok err put =
+    undo_refused table origin n undos.AlreadyUndone before now old new refused
+    a refl err put
+undo_said table origin n (Err (undos.Blocked m)) before now old new refused a ok err put =
+    undo_refused table origin n (undos.Blocked m) before now old new refused
+    a refl err put
+
+-- what is said to an arrival that is entered
+pub arrival_made : (table : TableId) (origin : Origin) (k : Key) (n : ℕ) (keys : List Key)
+    (before now : List ℕ) (old new : ClerkModel)
+    → Arriving k table origin (Ok n)
+    → new ≡ with_receipt (arrival_receipt k n) old → keys ≡ k ∷ []
+    → now ≡ before ++ entry_made n keys
+    → Says (MayArrive (IsOfDesk table origin) k) before now old.receipts new.receipts false
+arrival_made table origin k n keys before now old new its got own put = (
+  makes n (k ∷ []) [] (arrival_receipt k n),
+  (its.0, its.1, Ok n, its.2, its.3, refl),
+  made_said n (k ∷ []) [] before now now (arrival_receipt k n) old new
+      (put ∙ ap (λ (ks : List Key). before ++ entry_made n ks) own) (sym (append-nil now)) got,
+)
+
+-- and to one that is refused
+pub arrival_refused : (table : TableId) (origin : Origin) (k : Key) (e : ArriveRefusal)
+    (before now : List ℕ) (old new : ClerkModel) (refused : Bool)
+    → Arriving k table origin (Err e)
+    → new ≡ old → IsArrivalRefused e before now refused
+    → Says (MayArrive (IsOfDesk table origin) k) before now old.receipts new.receipts refused
+arrival_refused table origin k arrivals.NoSuchRow before now old new refused its same put = (
+  declines (codes "NoSuchRow") [],
+  (its.0, its.1, Err arrivals.NoSuchRow, its.2, its.3, refl),
+  said_refused (codes "NoSuchRow") before now old.receipts new.receipts refused put
+      (ap (λ (c : ClerkModel). c.receipts) same),
+)
+arrival_refused table origin k (arrivals.DoesNotApply s) before now old new refused its same put = (
+  declines (codes "DoesNotApply " ++ state_word s) [],
+  (its.0, its.1, Err (arrivals.DoesNotApply s), its.2, its.3, refl),
+  said_refused (codes "DoesNotApply " ++ state_word s) before now old.receipts new.receipts
+      refused put (ap (λ (c : ClerkModel). c.receipts) same),
+)
+arrival_refused table origin k arrivals.NoMemory before now old new refused a same put = absurd put
+
+-- what is said to a sweep that finds something
+pub sweep_made : (table : TableId) (origin : Origin) (n : ℕ) (b : BookModel)
+    (before now : List ℕ) (old new : ClerkModel) → Sweeping table origin (Ok (Some n))
+    → IsOfDesk table origin b → new ≡ with_receipt (Swept n) old
+    → now ≡ before ++ entry_made n (keys_at b.history.journal n)
+    → Says (MaySweep (IsOfDesk table origin)) before now old.receipts new.receipts false
+sweep_made table origin n b before now old new a of got put =
+    let keys = keys_at b.history.journal n in (
+      makes n keys [] (Swept n),
+      (a.0, a.1, Some n, a.2, a.3, (b, of, refl)),
+      made_said n keys [] before now now (Swept n) old new put (sym (append-nil now)) got,
+    )
+
+-- and to one that finds nothing
+pub sweep_none : (table : TableId) (origin : Origin) (before now : List ℕ) (old new : ClerkModel)
+    → Sweeping table origin (Ok None) → new ≡ old
+    → now ≡ before ++ ended (codes "nothing to sweep")
+    → Says (MaySweep (IsOfDesk table origin)) before now old.receipts new.receipts false
+sweep_none table origin before now old new a same put = (
+  tells (ended (codes "nothing to sweep")),
+  (a.0, a.1, None, a.2, a.3, refl),
+  record {
+    text_is = put;
+    receipts_are = ap (λ (c : ClerkModel). c.receipts) same ∙ sym (append-nil old.receipts);
+    refusal = refl;
+  },
+)
+
+-- what is said to a command that is entered: the keys are those of its receipt
+pub command_made : (table : TableId) (origin : Origin) (c : CommandParts) (t : Taken)
+    (keys : List Key) (before mid now : List ℕ) (old new : ClerkModel)
+    → (◌≡◌ {A = Result Taken CommandRefusal} (Ok t) (Err commands.NoMemory)
+    ⊎ Commanding c table origin old new (Ok t))
+    → ((front : List Receipt) (n : ℕ) (kind : Kind) (own : List Key)
+    → new.receipts ≡ front ++ Made n kind own ∷ [] → keys ≡ own)
+    → mid ≡ before ++ entry_made t.number keys → now ≡ mid ++ flat_map skip_line t.skips
+    → Says (MayCommand (IsOfDesk table origin) c) before now old.receipts new.receipts false
+command_made table origin c t keys before mid now old new a own put behind =
+    let its = answered (λ none. let h = none in cc) a in
+    let kept = without (named_by c its.0) t.skips in
+    let same = own old.receipts t.number (kind_of c) kept
+    (ap (λ (x : ClerkModel). x.receipts) its.4) in (
+      makes t.number kept (flat_map skip_line t.skips) (command_receipt c its.0 t),
+      (its.0, its.1, Ok t, its.2, its.3, refl),
+      made_said t.number kept (flat_map skip_line t.skips) before mid now
+          (command_receipt c its.0 t) old new
+          (put ∙ ap (λ (ks : List Key). before ++ entry_made t.number ks) same) behind its.4,
+    )
+
+-- and to one that is refused
+pub command_refused : (table : TableId) (origin : Origin) (c : CommandParts) (e : CommandRefusal)
+    (before now : List ℕ) (old new : ClerkModel) (refused : Bool)
+    → (◌≡◌ {A = Result Taken CommandRefusal} (Err e) (Err commands.NoMemory)
+    ⊎ Commanding c table origin old new (Err e))
+    → new ≡ old → IsCommandRefused e before now refused
+    → Says (MayCommand (IsOfDesk table origin) c) before now old.receipts new.receipts refused
+command_refused table origin c (commands.NothingApplies skips) before now old new refused a same
+    put =
+    let its = answered (λ none. let h = none in cc) a in (
+      declines (codes "NothingApplies") (flat_map skip_line skips),
+      (its.0, its.1, Err (commands.NothingApplies skips), its.2, its.3, refl),
+      record {
+        text_is = put.text_is;
+        receipts_are = ap (λ (x : ClerkModel). x.receipts) same ∙ sym (append-nil old.receipts);
+        refusal = put.refusal;
+      },
+    )
+command_refused table origin c commands.NoMemory before now old new refused a same put = absurd put
+
+-- what is said to what changes nothing
+pub shown_said : (table : TableId) (origin : Origin) (reply : History → Reply) (b seen : BookModel)
+    (shown : Shown) (before now : List ℕ) (receipts : List Receipt) (refused : Bool)
+    → IsOfDesk table origin b → seen ≡ b → IsShown (reply seen.history) shown
+    → now ≡ before ++ string_bytes shown.text → refused ≡ shown.refused
+    → Says (MayShow (IsOfDesk table origin) reply) before now receipts receipts refused
+shown_said table origin reply b seen shown before now receipts refused of same is put said =
+    let its = subst (λ (x : BookModel). IsShown (reply x.history) shown) same is in (
+      record {
+        text = (reply b.history).text;
+        refused = (reply b.history).refused;
+        receipts = [];
+      },
+      (b, of, refl),
+      record {
+        text_is = put ∙ ap (λ (l : List ℕ). before ++ l) its.0;
+        receipts_are = sym (append-nil receipts);
+        refusal = said ∙ its.1;
+      },
+    )
+
+-- by which request it was asked for
+pub asked_for : (table : TableId) (origin : Origin) (s : Setting) (q request : Request)
+    (r : Result Bool AllocError) (before now : List ℕ) (receipts : List Receipt) → request ≡ q
+    → IfOk r (Says (MayAnswer (IsOfDesk table origin) s q) before now receipts receipts)
+    → IfOk r (Says (MayAnswer (IsOfDesk table origin) s request) before now receipts receipts)
+asked_for table origin s q request r before now receipts is said =
+    subst (λ (x : Request).
+    IfOk r (Says (MayAnswer (IsOfDesk table origin) s x) before now receipts receipts))
+    (sym is) said
+
+pub refusal_said : (May : DeskReply → Type 0) (name before now : List ℕ) (receipts : List Receipt)
+    → May (declines name []) → now ≡ before ++ refusal_line name
+    → Says May before now receipts receipts true
+refusal_said May name before now receipts may put = (
+  declines name [],
+  may,
+  said_refused name before now receipts receipts true (record { text_is = put; refusal = refl })
+      refl,
+)
+
+-- a report is said, whichever it is
+pub report_said : (report : Option (Table → List ℕ)) (with : Table → List ℕ)
+    (before text now : List ℕ) (receipts : List Receipt) → report ≡ Some with
+    → now ≡ before ++ text → Says (MayReport report) before now receipts receipts false
+report_said report with before text now receipts is put = (
+  tells text,
+  subst (λ (o : Option (Table → List ℕ)). MayReport o (tells text)) (sym is) (text, refl),
+  record { text_is = put; receipts_are = sym (append-nil receipts); refusal = refl },
+)
+
+-- and that there is none
+pub untracked_said : (report : Option (Table → List ℕ)) (before now : List ℕ)
+    (receipts : List Receipt) → report ≡ None
+    → now ≡ before ++ refusal_line (codes "NoTracker")
+    → Says (MayReport report) before now receipts receipts true
+untracked_said report before now receipts is put =
+    refusal_said (MayReport report) (codes "NoTracker") before now receipts
+    (subst (λ (o : Option (Table → List ℕ)). MayReport o (declines (codes "NoTracker") [])) (sym is)
+    refl) put
+
+-- what is said to a line that is typed and has a fault
+pub fault_said : (Of : BookModel → Type 0) (read : Result CommandParts CommandFault)
+    (e : CommandFault) (what : LineFault) (place : ℕ) (before now : List ℕ)
+    (receipts : List Receipt) → IsFaultOf read e → e ≡ Wrong what place
+    → now ≡ before ++ refusal_line (name_of what)
+    → Says (MayType Of read) before now receipts receipts true
+fault_said Of read e what place before now receipts is same put =
+    subst (λ (k : Result CommandParts CommandFault).
+    Says (MayType Of k) before now receipts receipts true) (sym (subst (IsFaultOf read) same is))
+    (refusal_said (MayType Of (Err (Wrong what place))) (name_of what) before now receipts refl put)
+
+-- what is said to a line that says nothing
+pub skipped_said : (Of : BookModel → Type 0) (s : Setting) (line text : List ℕ)
+    (receipts : List Receipt) (said : Said) → said ≡ said_at line → said ≡ Skipped
+    → Says (MayReply Of s line) text text receipts receipts false
+skipped_said Of s line text receipts said at is = (
+  tells [],
+  subst (λ (w : Said). MaySay Of s line w (tells [])) (sym is ∙ at) refl,
+  record {
+    text_is = sym (append-nil text);
+    receipts_are = sym (append-nil receipts);
+    refusal = refl;
+  },
+)
+
+-- and to one that can't be read
+pub bad_said : (Of : BookModel → Type 0) (s : Setting) (line before now : List ℕ)
+    (receipts : List Receipt) (said : Said) → said ≡ said_at line → said ≡ Bad
+    → now ≡ before ++ refusal_line (codes "BadLine")
+    → Says (MayReply Of s line) before now receipts receipts true
+bad_said Of s line before now receipts said at is put =
+    refusal_said (MayReply Of s line) (codes "BadLine") before now receipts
+    (subst (λ (w : Said). MaySay Of s line w (declines (codes "BadLine") [])) (sym is ∙ at) refl)
+    put
+
+-- ---- 3. from some books to others
+
+swept_more : (Of Also : BookModel → Type 0) → ((b : BookModel) → Of b → Also b)
+    → (swept : Option ℕ) (r : DeskReply) → IsOfSweep Of swept r → IsOfSweep Also swept r
+swept_more Of Also f None r m = m
+swept_more Of Also f (Some n) r m = (m.0, f m.0 m.1, m.2)
+
+answer_more : (Of Also : BookModel → Type 0) → ((b : BookModel) → Of b → Also b) → (s : Setting)
+    (q : Request) (r : DeskReply) → MayAnswer Of s q r → MayAnswer Also s q r
+answer_more Of Also f s (requests.Undo n) r m = (m.0, m.1, m.2, f m.0 m.3, m.4, m.5)
+answer_more Of Also f s (requests.Arrive k) r m = (m.0, m.1, m.2, f m.0 m.3, m.4, m.5)
+answer_more Of Also f s requests.Sweep r m =
+    (m.0, m.1, m.2, f m.0 m.3, m.4, swept_more Of Also f m.2 r m.5)
+answer_more Of Also f s (requests.Row k) r m = (m.0, f m.0 m.1, m.2)
+answer_more Of Also f s (requests.Entry n) r m = (m.0, f m.0 m.1, m.2)
+answer_more Of Also f s requests.Report r m = m
+answer_more Of Also f s requests.Journal r m = (m.0, f m.0 m.1, m.2)
+
+type_more : (Of Also : BookModel → Type 0) → ((b : BookModel) → Of b → Also b)
+    → (c : Result CommandParts CommandFault) (r : DeskReply) → MayType Of c r → MayType Also c r
+type_more Of Also f (Ok c) r m = (m.0, m.1, m.2, f m.0 m.3, m.4, m.5)
+type_more Of Also f (Err e) r m = m
+
+say_more : (Of Also : BookModel → Type 0) → ((b : BookModel) → Of b → Also b) → (s : Setting)
+    (line : List ℕ) (said : Said) (r : DeskReply) → MaySay Of s line said r
+    → MaySay Also s line said r
+say_more Of Also f s line Skipped r m = m
+say_more Of Also f s line (Asked q) r m = answer_more Of Also f s q r m
+say_more Of Also f s line Bad r m = m
+say_more Of Also f s line Typed r m =
+    type_more Of Also f (command_at s.stock.table s.suites line) r m
+
+-- lines that are told over books are told over whatever these books are
+pub told_more : (Of Also : BookModel → Type 0) → ((b : BookModel) → Of b → Also b) → (s : Setting)
+    (lines : List (List ℕ)) (t last : Told) → AreTold (MayReply Of s) lines t last
+    → AreTold (MayReply Also s) lines t last
+told_more Of Also f s [] t last m = m
+told_more Of Also f s (line ∷ lines) t last m = (
+  m.0,
+  say_more Of Also f s line (said_at line) m.0 m.1,
+  told_more Of Also f s lines (with_reply t m.0) last m.2,
+)

@@ -1,0 +1,40 @@
+-- What is said to a sweep is what a book of the desk answers.
+use Rattle.std.proofs.Common.{◌≡◌, Ok, Option, ℕ, rules, subst}
+use Rattle.std.specs.Prelude.{MatchOption, string_bytes}
+use Rattle.td_book.specs.Desk.{BookModel}
+use Rattle.td_desk.specs.declared.receipt.Receipt.TheVariants.{Swept}
+use Rattle.td_desk.specs.Calls.{Sweeping}
+use Rattle.td_desk.specs.Clerks.{with_receipt}
+use Rattle.td_script.specs.Replies.{entry_made}
+use Rattle.td_crew.specs.Replies.{keys_at}
+use Rattle.td_crew.proofs.Replied.{sweep_made, sweep_none}
+use Rattle.td_crew.proofs.answering.sweep.Goals as goal
+
+pub returns-in_ok-push_str-in-Some : goal.returns-in_ok-push_str-in-Some
+returns-in_ok-push_str-in-Some g c =
+    let old = c.args.clerk.now in
+    let new = c.sweep.new.clerk in
+    let n = c.in-Some.n in
+    let seen = c.in_ok-text-in-Some.ensures in
+    let answer = subst (λ (o : Option ℕ). Sweeping g.N.Named.table g.N.Named.origin (Ok o))
+    c.in-Some.is c.in_ok-n.ensures.answer in
+    let got = subst (λ (o : Option ℕ).
+    MatchOption o (new ≡ old) (λ m. new ≡ with_receipt (Swept m) old)) c.in-Some.is
+    c.in_ok-n.ensures.ok in
+    let text = subst (λ (x : BookModel).
+    string_bytes c.in_ok-text-in-Some.text ≡ entry_made n (keys_at x.history.journal n)) seen.2.2
+    seen.2.1
+    in
+    sweep_made g.N.Named.table g.N.Named.origin n seen.0 _ _ old new answer seen.1 got
+    (search rules)
+
+pub returns-in_ok-push_str-in-None : goal.returns-in_ok-push_str-in-None
+returns-in_ok-push_str-in-None g c =
+    let old = c.args.clerk.now in
+    let new = c.sweep.new.clerk in
+    let answer = subst (λ (o : Option ℕ). Sweeping g.N.Named.table g.N.Named.origin (Ok o))
+    c.in-None.is c.in_ok-n.ensures.answer in
+    let same = subst (λ (o : Option ℕ).
+    MatchOption o (new ≡ old) (λ m. new ≡ with_receipt (Swept m) old)) c.in-None.is
+    c.in_ok-n.ensures.ok in
+    sweep_none g.N.Named.table g.N.Named.origin _ _ old new answer same (search rules)

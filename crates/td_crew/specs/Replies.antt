@@ -1,0 +1,183 @@
+-- What a clerk beside builders says to a line: what a book of the desk answers, in the words of
+-- scripts. This project's own.
+use Rattle.std.specs.Prelude.{◌≡◌, ℕ, Bool, true, false, List, [], ◌∷◌, ◌++◌, Option, Some, None}
+use Rattle.std.specs.Prelude.{Result, Ok, Err, codes, decimal, string_bytes}
+use Rattle.std.specs.List.{flat_map}
+use Rattle.td_rows.specs.declared.key.Key.{Key}
+use Rattle.td_rows.specs.StateWord.{state_word}
+use Rattle.td_journal.specs.declared.entry.Marked.{Marked}
+use Rattle.td_journal.specs.Entries.{entry_at}
+use Rattle.td_core.specs.History.{History}
+use Rattle.td_wbread.specs.declared.fault.CommandFault.{CommandFault}
+use Rattle.td_wbread.specs.Command.{CommandParts, command_at}
+use Rattle.td_book.specs.declared.arriving.ArriveRefusal.{ArriveRefusal}
+use Rattle.td_book.specs.declared.arriving.ArriveRefusal.TheVariants as arrivals
+use Rattle.td_book.specs.declared.commanding.CommandRefusal.{CommandRefusal}
+use Rattle.td_book.specs.declared.commanding.CommandRefusal.TheVariants as commands
+use Rattle.td_book.specs.declared.commanding.Taken.{Taken}
+use Rattle.td_book.specs.declared.undoing.UndoRefusal.{UndoRefusal}
+use Rattle.td_book.specs.declared.undoing.UndoRefusal.TheVariants as undos
+use Rattle.td_book.specs.Arriving.{ArriveOutcome, SweepOutcome}
+use Rattle.td_book.specs.Commands.{IsDone, named_by}
+use Rattle.td_book.specs.Desk.{BookModel}
+use Rattle.td_desk.specs.declared.receipt.Receipt.{Receipt}
+use Rattle.td_desk.specs.declared.receipt.Receipt.TheVariants.{Swept, Undid}
+use Rattle.td_desk.specs.Calls.{UndoTold, arrival_receipt, command_receipt, without}
+use Rattle.td_script.specs.declared.request.Request.{Request}
+use Rattle.td_rows.specs.Table.{Table}
+use Rattle.td_script.specs.declared.request.Request.TheVariants.{Undo, Arrive, Sweep, Report}
+use Rattle.td_script.specs.declared.line.Said.{Said}
+use Rattle.td_script.specs.declared.line.Said.TheVariants.{Skipped, Asked, Bad, Typed}
+use Rattle.td_script.specs.Reading.{said_at}
+use Rattle.td_script.specs.Replies.{Reply, Setting, asks, ended, entry_made, fault_name}
+use Rattle.td_script.specs.Replies.{refusal_line, skip_line, undo_name}
+use Rattle.td_crew.specs.declared.shown.Shown.{Shown}
+
+-- what is said to a line: a text, whether the line is refused, and the receipts that the clerk got
+pub record DeskReply : Type 0 where
+  pub text : List ℕ
+  pub refused : Bool
+  pub receipts : List Receipt
+
+-- ---- 1. replies in general
+
+-- this is said, and nothing is changed
+abbrev pub tells : List ℕ → DeskReply
+tells text = record { text = text; refused = false; receipts = [] }
+
+-- the refusal is named, with what follows it
+abbrev pub declines : List ℕ → List ℕ → DeskReply
+declines name behind =
+    record { text = refusal_line name ++ behind; refused = true; receipts = [] }
+
+-- the entry is made, and said with what follows it
+abbrev pub makes : ℕ → List Key → List ℕ → Receipt → DeskReply
+makes n keys behind receipt =
+    record { text = entry_made n keys ++ behind; refused = false; receipts = receipt ∷ [] }
+
+-- ---- 2. what a book answers, in words. Want of memory is no answer
+
+-- to an undo
+abbrev pub IsOfUndo : ℕ → Result (Unit {0}) UndoRefusal → DeskReply → Type 0
+IsOfUndo n (Ok u) r =
+    r ≡ record {
+      text = ended (codes "undone " ++ decimal n);
+      refused = false;
+      receipts = Undid n ∷ [];
+    }
+IsOfUndo n (Err undos.NoMemory) r = ⊥
+IsOfUndo n (Err e) r = r ≡ declines (undo_name e) []
+
+-- to an arrival
+abbrev pub IsOfArrival : Key → Result ℕ ArriveRefusal → DeskReply → Type 0
+IsOfArrival k (Ok n) r = r ≡ makes n (k ∷ []) [] (arrival_receipt k n)
+IsOfArrival k (Err arrivals.NoSuchRow) r = r ≡ declines (codes "NoSuchRow") []
+IsOfArrival k (Err (arrivals.DoesNotApply s)) r =
+    r ≡ declines (codes "DoesNotApply " ++ state_word s) []
+IsOfArrival k (Err arrivals.NoMemory) r = ⊥
+
+-- the keys of the entry with a number, where a journal has it
+abbrev pub keys_at : List Marked → ℕ → List Key
+keys_at ms n =
+    elim (entry_at ms n) [
+      | Some m ↦ m.entry.keys
+      | None ↦ []
+    ]
+
+-- to a sweep: the keys are those of its entry in a book that is looked at behind it
+abbrev pub IsOfSweep : (BookModel → Type 0) → Option ℕ → DeskReply → Type 0
+IsOfSweep Of None r = r ≡ tells (ended (codes "nothing to sweep"))
+IsOfSweep Of (Some n) r =
+    (b : BookModel) × Of b × (r ≡ makes n (keys_at b.history.journal n) [] (Swept n))
+
+-- to a command: its entry is on the rows that it names in the book without those that are skipped
+abbrev pub IsOfCommand : CommandParts → BookModel → Result Taken CommandRefusal → DeskReply → Type 0
+IsOfCommand c b (Ok t) r =
+    r ≡ makes t.number (without (named_by c b) t.skips) (flat_map skip_line t.skips)
+    (command_receipt c b t)
+IsOfCommand c b (Err (commands.NothingApplies skips)) r =
+    r ≡ declines (codes "NothingApplies") (flat_map skip_line skips)
+IsOfCommand c b (Err commands.NoMemory) r = ⊥
+
+-- ---- 3. what may be said, where some books may lie under the desk's lock
+
+-- to an undo of entry n
+abbrev pub MayUndo : (BookModel → Type 0) → ℕ → DeskReply → Type 0
+MayUndo Of n r =
+    (old : BookModel) × (new : BookModel) × (answer : Result (Unit {0}) UndoRefusal) × Of old
+    × UndoTold n old new answer × IsOfUndo n answer r
+
+-- to the arrival of a key's build
+abbrev pub MayArrive : (BookModel → Type 0) → Key → DeskReply → Type 0
+MayArrive Of k r =
+    (old : BookModel) × (new : BookModel) × (answer : Result ℕ ArriveRefusal) × Of old
+    × ArriveOutcome k old new answer × IsOfArrival k answer r
+
+-- to a sweep
+abbrev pub MaySweep : (BookModel → Type 0) → DeskReply → Type 0
+MaySweep Of r =
+    (old : BookModel) × (new : BookModel) × (swept : Option ℕ) × Of old
+    × SweepOutcome old new (Ok swept) × IsOfSweep Of swept r
+
+-- to a command
+abbrev pub MayCommand : (BookModel → Type 0) → CommandParts → DeskReply → Type 0
+MayCommand Of c r =
+    (old : BookModel) × (new : BookModel) × (answer : Result Taken CommandRefusal) × Of old
+    × IsDone c old new answer × IsOfCommand c old answer r
+
+-- to what changes nothing: what a clerk alone would say over the book
+abbrev pub MayShow : (BookModel → Type 0) → (History → Reply) → DeskReply → Type 0
+MayShow Of reply r =
+    (b : BookModel) × Of b
+    × (r ≡ record {
+      text = (reply b.history).text;
+      refused = (reply b.history).refused;
+      receipts = [];
+    })
+
+-- to `report`: that there is no tracker, or some text
+abbrev pub MayReport : Option (Table → List ℕ) → DeskReply → Type 0
+MayReport None r = r ≡ declines (codes "NoTracker") []
+MayReport (Some report) r = (text : List ℕ) × (r ≡ tells text)
+
+-- to a request
+abbrev pub MayAnswer : (BookModel → Type 0) → Setting → Request → DeskReply → Type 0
+MayAnswer Of s (Undo n) r = MayUndo Of n r
+MayAnswer Of s (Arrive k) r = MayArrive Of k r
+MayAnswer Of s Sweep r = MaySweep Of r
+MayAnswer Of s Report r = MayReport s.report r
+MayAnswer Of s q r = MayShow Of (λ h. asks s h q) r
+
+-- to what is typed: to the command that it is, or its first fault
+abbrev pub MayType : (BookModel → Type 0) → Result CommandParts CommandFault → DeskReply → Type 0
+MayType Of (Ok c) r = MayCommand Of c r
+MayType Of (Err fault) r = r ≡ declines (fault_name fault) []
+
+-- to a line, by what it is
+abbrev pub MaySay : (BookModel → Type 0) → Setting → List ℕ → Said → DeskReply → Type 0
+MaySay Of s line Skipped r = r ≡ tells []
+MaySay Of s line (Asked q) r = MayAnswer Of s q r
+MaySay Of s line Bad r = r ≡ declines (codes "BadLine") []
+MaySay Of s line Typed r = MayType Of (command_at s.stock.table s.suites line) r
+
+-- to a line
+abbrev pub MayReply : (BookModel → Type 0) → Setting → List ℕ → DeskReply → Type 0
+MayReply Of s line r = MaySay Of s line (said_at line) r
+
+-- ---- as the code has it
+
+-- a book shows this of a reply that changes nothing
+abbrev pub IsShown : Reply → Shown → Type 0
+IsShown reply shown = (string_bytes shown.text ≡ reply.text) × (shown.refused ≡ reply.refused)
+
+-- a reply is appended, and its receipts are the clerk's
+pub record IsSaid (r : DeskReply) (before now : List ℕ) (old new : List Receipt)
+    (refused : Bool) : Type 0 where
+  pub text_is : now ≡ before ++ r.text
+  pub receipts_are : new ≡ old ++ r.receipts
+  pub refusal : refused ≡ r.refused
+
+-- a reply that may be, is
+abbrev pub Says : (DeskReply → Type 0) → List ℕ → List ℕ → List Receipt → List Receipt → Bool
+    → Type 0
+Says May before now old new refused = (r : DeskReply) × May r × IsSaid r before now old new refused
