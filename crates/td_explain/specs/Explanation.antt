@@ -3,21 +3,20 @@ use Rattle.std.specs.Prelude.{ℕ, ◌+◌, List, [], ◌++◌, Option, Some, No
 use Rattle.std.specs.Prelude.{drop, if◌then◌else◌}
 use Rattle.std.specs.Str.{is_utf8}
 use Rattle.td_explain.specs.declared.spot.Place.{Place}
-use Rattle.td_explain.specs.declared.spot.Place.TheVariants.{Whole, Line, Stanza, Byte}
+use Rattle.td_explain.specs.declared.spot.Point.{Point}
+use Rattle.td_explain.specs.declared.spot.Point.TheVariants.{Line, Stanza, Byte}
 use Rattle.td_explain.specs.Shown.{shown}
-use Rattle.td_explain.specs.Spot.{SpotWords, spot_of}
+use Rattle.td_explain.specs.Spot.{SpotWords, point_of, spot_of}
 
 -- the place as it is counted
-abbrev pub place_name : Place → List ℕ
-place_name Whole = []
-place_name (Line number) = codes "line " ++ decimal number
-place_name (Stanza number) = codes "stanza " ++ decimal number
-place_name (Byte at) = codes "byte " ++ decimal at
+abbrev pub point_name : Point → List ℕ
+point_name (Line number) = codes "line " ++ decimal number
+point_name (Stanza number) = codes "stanza " ++ decimal number
+point_name (Byte at) = codes "byte " ++ decimal at
 
 -- where it is found: of a stanza its line, and of a byte its line and its column; both count from
 -- 1, a column by bytes
-abbrev pub found_name : Place → SpotWords → List ℕ
-found_name Whole spot = []
+abbrev pub found_name : Point → SpotWords → List ℕ
 found_name (Line number) spot = []
 found_name (Stanza number) spot = codes ", line " ++ decimal spot.number
 found_name (Byte at) spot =
@@ -29,15 +28,19 @@ text_at spot =
     if is_utf8 (drop spot.offset spot.line) then drop spot.offset spot.line else spot.line
 
 -- what stands there
-abbrev pub said_of : Place → Option SpotWords → List ℕ
-said_of place None = place_name place
-said_of place (Some spot) =
-    place_name place ++ (found_name place spot ++ (codes " has " ++ shown (chars (text_at spot))))
+abbrev pub said_of : Point → Option SpotWords → List ℕ
+said_of point None = point_name point
+said_of point (Some spot) =
+    point_name point ++ (found_name point spot ++ (codes " has " ++ shown (chars (text_at spot))))
 
 -- of the text as a whole nothing is said
+abbrev pub said_if : Option Point → List ℕ → List ℕ
+said_if None text = []
+said_if (Some point) text = said_of point (spot_of point text) ++ codes "; "
+
+-- what is said of a place
 abbrev pub place_said : Place → List ℕ → List ℕ
-place_said Whole text = []
-place_said place text = said_of place (spot_of place text) ++ codes "; "
+place_said place text = said_if (point_of place) text
 
 -- the line: the text's role, what stands at the place, and what is wanted
 abbrev pub explanation : List ℕ → Place → List ℕ → List ℕ → List ℕ

@@ -1,31 +1,30 @@
 //! The line that explains a refusal.
 ghost use Rattle.std.specs.Prelude.{◌≡◌, ◌++◌, ◌<◌, ◌≤◌, ◌^◌, length, option_map, string_bytes};
 ghost use Rattle.std.specs.Prelude.{OnOk, IfOk, IfSome};
-ghost use Rattle.td_explain.specs.Explanation.{explanation, found_name, place_name, place_said};
+ghost use Rattle.td_explain.specs.Explanation.{explanation, found_name, place_said, point_name};
 ghost use Rattle.td_explain.specs.Explanation.{said_of, text_at as text_at_of};
 ghost use Rattle.td_explain.specs.Spot.{spot_words};
 
 use crate::shown::put_shown;
-use crate::spot::{Place, Spot, find_spot};
+use crate::spot::{Place, Point, Spot, find_spot, point_of};
 use std::alloc::{AllocError, Global};
 use std::str;
 use td_text::put_number;
 
 // Appends the place as it is counted.
-fn put_place(out: &mut String, place: Place) -> Result<(), AllocError>
-    ensures { OnOk result (string_bytes out.new ≡ string_bytes out.old ++ place_name place) }
+fn put_point(out: &mut String, point: Point) -> Result<(), AllocError>
+    ensures { OnOk result (string_bytes out.new ≡ string_bytes out.old ++ point_name point) }
 {
-    match place {
-        Place::Whole => Ok(()),
-        Place::Line(number) => {
+    match point {
+        Point::Line(number) => {
             out.push_str("line ")?;
             put_number(out, number as u64)
         }
-        Place::Stanza(number) => {
+        Point::Stanza(number) => {
             out.push_str("stanza ")?;
             put_number(out, number as u64)
         }
-        Place::Byte(at) => {
+        Point::Byte(at) => {
             out.push_str("byte ")?;
             put_number(out, at as u64)
         }
@@ -33,18 +32,18 @@ fn put_place(out: &mut String, place: Place) -> Result<(), AllocError>
 }
 
 // Appends where it is found.
-fn put_found(out: &mut String, place: Place, spot: &Spot<'_>) -> Result<(), AllocError>
+fn put_found(out: &mut String, point: Point, spot: &Spot<'_>) -> Result<(), AllocError>
     requires { spot.now.offset < 2 ^ 63 }
     ensures { OnOk result (string_bytes out.new
-        ≡ string_bytes out.old ++ found_name place (spot_words spot.now)) }
+        ≡ string_bytes out.old ++ found_name point (spot_words spot.now)) }
 {
-    match place {
-        Place::Whole | Place::Line(_) => Ok(()),
-        Place::Stanza(_) => {
+    match point {
+        Point::Line(_) => Ok(()),
+        Point::Stanza(_) => {
             out.push_str(", line ")?;
             put_number(out, spot.number as u64)
         }
-        Place::Byte(_) => {
+        Point::Byte(_) => {
             out.push_str(", line ")?;
             put_number(out, spot.number as u64)?;
             out.push_str(", column ")?;
@@ -66,16 +65,16 @@ fn text_at<'a>(spot: &Spot<'a>) -> &'a str
 }
 
 // Appends what stands at the place.
-fn put_said(out: &mut String, place: Place, spot: Option<Spot<'_>>) -> Result<(), AllocError>
+fn put_said(out: &mut String, point: Point, spot: Option<Spot<'_>>) -> Result<(), AllocError>
     requires { IfSome spot (λ s. (s.offset ≤ length s.line.now) × (length s.line.now < 2 ^ 63)) }
     ensures { OnOk result (string_bytes out.new
-        ≡ string_bytes out.old ++ said_of place (option_map spot_words spot.entry)) }
+        ≡ string_bytes out.old ++ said_of point (option_map spot_words spot.entry)) }
 {
-    put_place(out, place)?;
+    put_point(out, point)?;
     let Some(spot) = spot else {
         return Ok(());
     };
-    put_found(out, place, &spot)?;
+    put_found(out, point, &spot)?;
     out.push_str(" has ")?;
     put_shown(out, text_at(&spot))
 }
@@ -86,13 +85,11 @@ fn put_where(out: &mut String, place: Place, text: &str) -> Result<(), AllocErro
     ensures { OnOk result (string_bytes out.new
         ≡ string_bytes out.old ++ place_said place text.now) }
 {
-    match place {
-        Place::Whole => Ok(()),
-        place => {
-            put_said(out, place, find_spot(text, place))?;
-            out.push_str("; ")
-        }
-    }
+    let Some(point) = point_of(place) else {
+        return Ok(());
+    };
+    put_said(out, point, find_spot(text, point))?;
+    out.push_str("; ")
 }
 
 /// The line that says what stands at a place of the text with this role, and what is wanted there.

@@ -2,7 +2,8 @@
 ghost use Rattle.std.specs.Prelude.{◌≡◌, ◌+◌, ◌<◌, ◌^◌, ◌≤◌, length, option_map, IfSome};
 ghost use Rattle.td_stanza.specs.Line.{is_separator as is_separator_of};
 ghost use Rattle.td_explain.specs.Spot.{beyond as beyond_of, is_at as is_at_of};
-ghost use Rattle.td_explain.specs.Spot.{offset_of as offset_of_of, spot_of, spot_words};
+ghost use Rattle.td_explain.specs.Spot.{offset_of as offset_of_of, point_of as point_of_of};
+ghost use Rattle.td_explain.specs.Spot.{spot_of, spot_words};
 
 use td_text::next_line;
 
@@ -19,12 +20,35 @@ pub enum Place {
     Byte(usize),
 }
 
+/// A place within a text: any but the text as a whole.
+#[derive(Clone, Copy, Drop)]
+pub enum Point {
+    /// The line with this number, from 1 on.
+    Line(usize),
+    /// The stanza with this number, from 1 on.
+    Stanza(usize),
+    /// The byte behind so many others.
+    Byte(usize),
+}
+
 /// The line that is meant, its number, and behind how many of its bytes the place is.
 #[derive(Clone, Copy)]
 pub struct Spot<'a> {
     pub number: usize,
     pub offset: usize,
     pub line: &'a str,
+}
+
+/// The same place within its text, where it is within.
+pub fn point_of(place: Place) -> Option<Point>
+    ensures { result ≡ point_of_of place }
+{
+    match place {
+        Place::Whole => None,
+        Place::Line(number) => Some(Point::Line(number)),
+        Place::Stanza(number) => Some(Point::Stanza(number)),
+        Place::Byte(at) => Some(Point::Byte(at)),
+    }
 }
 
 // Whether the line is spaces and tabs alone.
@@ -35,63 +59,61 @@ fn is_separator(line: &str) -> bool
 }
 
 // Whether the place is in this line; `apart` says that a stanza may begin here.
-fn is_at(place: Place, apart: bool, line: &str) -> bool
-    ensures { result ≡ is_at_of place apart line.now }
+fn is_at(point: Point, apart: bool, line: &str) -> bool
+    ensures { result ≡ is_at_of point apart line.now }
 {
-    match place {
-        Place::Whole => false,
-        Place::Line(number) => number <= 1,
-        Place::Stanza(number) => apart && number <= 1 && !is_separator(line),
-        Place::Byte(at) => at <= line.len(),
+    match point {
+        Point::Line(number) => number <= 1,
+        Point::Stanza(number) => apart && number <= 1 && !is_separator(line),
+        Point::Byte(at) => at <= line.len(),
     }
 }
 
 // The same place, as it is counted behind the line.
-fn beyond(place: Place, apart: bool, line: &str) -> Place
-    ensures { result ≡ beyond_of place apart line.now }
+fn beyond(point: Point, apart: bool, line: &str) -> Point
+    ensures { result ≡ beyond_of point apart line.now }
 {
-    match place {
-        Place::Whole => Place::Whole,
-        Place::Line(number) => Place::Line(number.saturating_sub(1)),
-        Place::Stanza(number) if apart && !is_separator(line) => {
-            Place::Stanza(number.saturating_sub(1))
+    match point {
+        Point::Line(number) => Point::Line(number.saturating_sub(1)),
+        Point::Stanza(number) if apart && !is_separator(line) => {
+            Point::Stanza(number.saturating_sub(1))
         }
-        Place::Stanza(number) => Place::Stanza(number),
-        Place::Byte(at) => Place::Byte(at.saturating_sub(line.len()).saturating_sub(1)),
+        Point::Stanza(number) => Point::Stanza(number),
+        Point::Byte(at) => Point::Byte(at.saturating_sub(line.len()).saturating_sub(1)),
     }
 }
 
 // Behind how many bytes of its line the place is.
-fn offset_of(place: Place) -> usize
-    ensures { result ≡ offset_of_of place }
+fn offset_of(point: Point) -> usize
+    ensures { result ≡ offset_of_of point }
 {
-    match place {
-        Place::Byte(at) => at,
-        _ => 0,
+    match point {
+        Point::Byte(at) => at,
+        Point::Line(_) | Point::Stanza(_) => 0,
     }
 }
 
 /// Looks for the place, line by line.
-pub fn find_spot(text: &str, place: Place) -> Option<Spot<'_>>
+pub fn find_spot(text: &str, point: Point) -> Option<Spot<'_>>
     requires { length text.now < 2 ^ 63 }
-    ensures value { option_map spot_words result ≡ spot_of place text.now }
+    ensures value { option_map spot_words result ≡ spot_of point text.now }
     ensures within { IfSome result (λ s. s.offset ≤ length s.line.now) }
 {
-    let mut place = place;
+    let mut point = point;
     let mut apart = true;
     let mut number = 1;
     let mut rest = Some(text);
     while let Some(here) = rest {
         let (line, after) = next_line(here);
-        if is_at(place, apart, line) {
-            let offset = offset_of(place);
+        if is_at(point, apart, line) {
+            let offset = offset_of(point);
             return Some(Spot {
                 number,
                 offset,
                 line,
             });
         }
-        place = beyond(place, apart, line);
+        point = beyond(point, apart, line);
         apart = is_separator(line);
         number += 1;
         rest = after;

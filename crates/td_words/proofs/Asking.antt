@@ -3,7 +3,7 @@ use Rattle.td_words.specs.declared.request.WordsFault.TheVariants.{NoMemory}
 use Rattle.td_words.specs.Asked.{IsUsage}
 use Rattle.std.proofs.Common.{◌≡◌, ℕ, Bool, true, false, List, [], ◌++◌, Option, Some, None, Result}
 use Rattle.std.proofs.Common.{◌∷◌, Ok, Err, IfOk, MatchResult, codes, option_map, unwrap_or}
-use Rattle.std.proofs.Common.{string_bytes, refl, sym, ap, subst, inl, inr, ◌∙◌}
+use Rattle.std.proofs.Common.{refl, sym, ap, subst, inl, inr, ◌∙◌}
 use Rattle.std.specs.Borrow.{Bor}
 use Rattle.clap.specs.Faults.{fault_of, is_simple_and_free}
 use Rattle.clap.specs.Kinds.{HasKind}
@@ -17,18 +17,17 @@ use Rattle.clap.specs.declared.parser.matches.ArgMatches.{ArgMatches}
 use Rattle.clap.proofs.OnLiterals.{clap_on_literals}
 use Rattle.td_words.specs.declared.request.Call.{Call}
 use Rattle.td_words.specs.declared.request.Request.{Request}
-use Rattle.td_words.specs.declared.request.Request.TheVariants.{Simulate, Check, Track, Waves, Run}
 use Rattle.td_words.specs.CommandLine.{AskFor, AskForCheck, AskForRun, AskForTrack, AskForWaves}
 use Rattle.td_words.specs.CommandLine.{CheckWordsExplain, HasFiles, HasRun, HasTrack, HasTracker}
 use Rattle.td_words.specs.CommandLine.{PlainRunWordsAsk, RunWordsExplain, SimulationWordsAsk}
 use Rattle.td_words.specs.CommandLine.{TrackWords, TrackWordsAsk, TrackWordsExplain, WavesWordsAsk}
 use Rattle.td_words.specs.CommandLine.{WavesWordsExplain, WholeRunWordsAsk, asking_for_check}
 use Rattle.td_words.specs.CommandLine.{asking_for_plain_run, asking_for_track, asking_for_waves}
-use Rattle.td_words.specs.CommandLine.{chunk_in, desk, explaining, faults_of, is_explained, name_in}
+use Rattle.td_words.specs.CommandLine.{chunk_in, desk, explaining, faults_of, is_explained}
 use Rattle.td_words.specs.CommandLine.{RunWords, builders_in, options_of, plain_run, rows_in}
 use Rattle.td_words.specs.CommandLine.{suite_in}
 use Rattle.td_words.specs.declared.request.WordsFault.{WordsFault}
-use Rattle.td_words.specs.Asked.{AreFilesIn, Asks, IsRequestIn, call_as, run_words, track_words}
+use Rattle.td_words.specs.Asked.{Asks, IsGivenBy, RequestWords, call_as}
 
 pub is_plain : is_simple_and_free desk ≡ true
 unfolding clap_on_literals
@@ -295,26 +294,10 @@ rows_of_matches m o p is same =
     go (Some q) e = ap (λ (r : Option (List Row)). unwrap_or r []) e
 
 -- what a subcommand asks for, the words do
-pub asks : (words : List (List ℕ)) (found : Option (List ℕ × List Row)) (r : Request)
-    → found ≡ subcommand_of desk words → faults_of words ≡ [] → IsRequestIn found r → Asks words r
-asks words found Simulate same fine is = (fine, sym (ap name_in same) ∙ is)
-asks words found (Check files) same fine is = (
-  (fine, sym (ap name_in same) ∙ is.0),
-  subst (λ o. AreFilesIn (rows_in o) files) same is.1,
-)
-asks words found (Track r) same fine is = (
-  (fine, sym (ap name_in same) ∙ is.0),
-  subst (λ o. HasTrack (rows_in o) (track_words r)) same is.1,
-)
-asks words found (Waves files tracker) same fine is = (
-  (fine, sym (ap name_in same) ∙ is.0),
-  subst (λ o. HasTracker (rows_in o) (string_bytes files.archs) (string_bytes files.packages)
-      (string_bytes files.sources) (string_bytes tracker)) same is.1,
-)
-asks words found (Run r) same fine is = (
-  (fine, sym (ap name_in same) ∙ is.0),
-  subst (λ o. HasRun (rows_in o) (run_words r)) same is.1,
-)
+pub asks : (words : List (List ℕ)) (found : Option (List ℕ × List Row)) (asked : RequestWords)
+    → found ≡ subcommand_of desk words → faults_of words ≡ [] → IsGivenBy found asked
+    → Asks words asked
+asks words found asked same fine is = (fine, subst (λ o. IsGivenBy o asked) same is)
 
 -- what `clap` says of words by the command that was built, it says of these words
 pub said_of_words : (Says : App → Type 0) (built : App) → built ≡ desk

@@ -1,6 +1,7 @@
 -- What an answer says of the words. This project's own.
-use Rattle.std.specs.Prelude.{◌≡◌, ℕ, List, Bool, Option, Some, Result, Ok, Err, option_map}
+use Rattle.std.specs.Prelude.{◌≡◌, ℕ, List, [], Bool, Option, Some, Result, Ok, Err, option_map}
 use Rattle.std.specs.Prelude.{string_bytes, codes}
+use Rattle.clap.specs.Simple.{subcommand_of}
 use Rattle.clap.specs.Walk.{Row}
 use Rattle.td_words.specs.declared.request.Call.{Call}
 use Rattle.td_words.specs.declared.request.ArchivePaths.{ArchivePaths}
@@ -10,9 +11,8 @@ use Rattle.td_words.specs.declared.request.Request.{Request}
 use Rattle.td_words.specs.declared.request.Request.TheVariants.{Simulate, Check, Track, Waves, Run}
 use Rattle.td_words.specs.declared.request.WordsFault.{WordsFault}
 use Rattle.td_words.specs.declared.request.WordsFault.TheVariants.{Usage, NoMemory}
-use Rattle.td_words.specs.CommandLine.{AskFor, AskForCheck, AskForRun, AskForTrack, AskForWaves}
 use Rattle.td_words.specs.CommandLine.{HasFiles, HasRun, HasTrack, HasTracker, RunWords, TrackWords}
-use Rattle.td_words.specs.CommandLine.{name_in, rows_in}
+use Rattle.td_words.specs.CommandLine.{desk, faults_of, name_in, rows_in}
 
 -- what a report is asked for with, by the texts that say so
 abbrev pub track_words : TrackRequest → TrackWords
@@ -39,55 +39,40 @@ run_words r = record {
   journal = option_map string_bytes r.journal;
 }
 
--- the words ask for just this
-abbrev pub Asks : List (List ℕ) → Request → Type 0
-Asks words Simulate = AskFor (codes "simulate") words
-Asks words (Check files) =
-    AskForCheck words (string_bytes files.archs) (string_bytes files.packages)
-    (string_bytes files.sources)
-Asks words (Track r) = AskForTrack words (track_words r)
-Asks words (Waves files tracker) =
-    AskForWaves words (string_bytes files.archs) (string_bytes files.packages)
-    (string_bytes files.sources) (string_bytes tracker)
-Asks words (Run r) = AskForRun words (run_words r)
+-- what is asked for, by the texts that say so
+pub data RequestWords : Type 0 where
+  simulation : RequestWords
+  check_of : (archs packages sources : List ℕ) → RequestWords
+  report_of : TrackWords → RequestWords
+  waves_of : (archs packages sources tracker : List ℕ) → RequestWords
+  run_of : RunWords → RequestWords
 
--- the files have these paths
-pub record AreFilesOf (a p s : List ℕ) (files : ArchivePaths) : Type 0 where
-  pub archs : string_bytes files.archs ≡ a
-  pub packages : string_bytes files.packages ≡ p
-  pub sources : string_bytes files.sources ≡ s
+-- the texts of a request
+abbrev pub request_words : Request → RequestWords
+request_words Simulate = simulation
+request_words (Check files) =
+    check_of (string_bytes files.archs) (string_bytes files.packages) (string_bytes files.sources)
+request_words (Track r) = report_of (track_words r)
+request_words (Waves files tracker) =
+    waves_of (string_bytes files.archs) (string_bytes files.packages) (string_bytes files.sources)
+    (string_bytes tracker)
+request_words (Run r) = run_of (run_words r)
 
--- the answer is the check of these files
-abbrev pub IsCheckOf : List ℕ → List ℕ → List ℕ → Request → Type 0
-IsCheckOf a p s Simulate = ⊥
-IsCheckOf a p s (Check files) = AreFilesOf a p s files
-IsCheckOf a p s (Track r) = ⊥
-IsCheckOf a p s (Waves files tracker) = ⊥
-IsCheckOf a p s (Run r) = ⊥
+-- a subcommand asks for just this, with its options
+abbrev pub IsGivenBy : Option (List ℕ × List Row) → RequestWords → Type 0
+IsGivenBy found simulation = name_in found ≡ Some (codes "simulate")
+IsGivenBy found (check_of archs packages sources) =
+    (name_in found ≡ Some (codes "check")) × HasFiles (rows_in found) archs packages sources
+IsGivenBy found (report_of w) =
+    (name_in found ≡ Some (codes "track")) × HasTrack (rows_in found) w
+IsGivenBy found (waves_of archs packages sources tracker) =
+    (name_in found ≡ Some (codes "waves"))
+    × HasTracker (rows_in found) archs packages sources tracker
+IsGivenBy found (run_of w) = (name_in found ≡ Some (codes "run")) × HasRun (rows_in found) w
 
--- the answer is the waves of these files
-abbrev pub AreWavesOf : List ℕ → List ℕ → List ℕ → List ℕ → Request → Type 0
-AreWavesOf a p s t Simulate = ⊥
-AreWavesOf a p s t (Check files) = ⊥
-AreWavesOf a p s t (Track r) = ⊥
-AreWavesOf a p s t (Waves files tracker) = AreFilesOf a p s files × (string_bytes tracker ≡ t)
-AreWavesOf a p s t (Run r) = ⊥
-
--- the answer is the report that is asked for so
-abbrev pub IsTrackOf : TrackWords → Request → Type 0
-IsTrackOf w Simulate = ⊥
-IsTrackOf w (Check files) = ⊥
-IsTrackOf w (Track r) = track_words r ≡ w
-IsTrackOf w (Waves files tracker) = ⊥
-IsTrackOf w (Run r) = ⊥
-
--- the answer is the run that is asked for so
-abbrev pub IsRunOf : RunWords → Request → Type 0
-IsRunOf w Simulate = ⊥
-IsRunOf w (Check files) = ⊥
-IsRunOf w (Track r) = ⊥
-IsRunOf w (Waves files tracker) = ⊥
-IsRunOf w (Run r) = run_words r ≡ w
+-- the words of a command line ask for just this, and nothing is wrong with them
+abbrev pub Asks : List (List ℕ) → RequestWords → Type 0
+Asks words asked = (faults_of words ≡ []) × IsGivenBy (subcommand_of desk words) asked
 
 -- ---- the parts of the reading
 
@@ -105,53 +90,18 @@ IsUsage NoMemory text = Unit {0}
 abbrev pub chunk_said : List ℕ
 chunk_said = codes "error: --chunk takes a number from 1 to 1000000\n"
 
+-- what is said of any other number of builders
+abbrev pub builders_said : List ℕ
+builders_said = codes "error: --builders takes a number from 0 to 64\n"
+
+-- the files have these paths
+pub record AreFilesOf (archs packages sources : List ℕ) (files : ArchivePaths) : Type 0 where
+  pub same_archs : string_bytes files.archs ≡ archs
+  pub same_packages : string_bytes files.packages ≡ packages
+  pub same_sources : string_bytes files.sources ≡ sources
+
 -- the files are those that these options give
 abbrev pub AreFilesIn : List Row → ArchivePaths → Type 0
 AreFilesIn options files =
     HasFiles options (string_bytes files.archs) (string_bytes files.packages)
     (string_bytes files.sources)
-
--- the answer is the check that these options give
-abbrev pub IsCheckIn : List Row → Request → Type 0
-IsCheckIn options Simulate = ⊥
-IsCheckIn options (Check files) = AreFilesIn options files
-IsCheckIn options (Track r) = ⊥
-IsCheckIn options (Waves files tracker) = ⊥
-IsCheckIn options (Run r) = ⊥
-
--- the answer is the report that these options give
-abbrev pub IsTrackIn : List Row → Request → Type 0
-IsTrackIn options Simulate = ⊥
-IsTrackIn options (Check files) = ⊥
-IsTrackIn options (Track r) = HasTrack options (track_words r)
-IsTrackIn options (Waves files tracker) = ⊥
-IsTrackIn options (Run r) = ⊥
-
--- the answer is the waves that these options give
-abbrev pub AreWavesIn : List Row → Request → Type 0
-AreWavesIn options Simulate = ⊥
-AreWavesIn options (Check files) = ⊥
-AreWavesIn options (Track r) = ⊥
-AreWavesIn options (Waves files tracker) =
-    HasTracker options (string_bytes files.archs) (string_bytes files.packages)
-    (string_bytes files.sources) (string_bytes tracker)
-AreWavesIn options (Run r) = ⊥
-
--- the answer is the run that these options give
-abbrev pub IsRunIn : List Row → Request → Type 0
-IsRunIn options Simulate = ⊥
-IsRunIn options (Check files) = ⊥
-IsRunIn options (Track r) = ⊥
-IsRunIn options (Waves files tracker) = ⊥
-IsRunIn options (Run r) = HasRun options (run_words r)
-
--- the answer is what this subcommand asks for
-abbrev pub IsRequestIn : Option (List ℕ × List Row) → Request → Type 0
-IsRequestIn found Simulate = name_in found ≡ Some (codes "simulate")
-IsRequestIn found (Check files) =
-    (name_in found ≡ Some (codes "check")) × IsCheckIn (rows_in found) (Check files)
-IsRequestIn found (Track r) =
-    (name_in found ≡ Some (codes "track")) × IsTrackIn (rows_in found) (Track r)
-IsRequestIn found (Waves files tracker) =
-    (name_in found ≡ Some (codes "waves")) × AreWavesIn (rows_in found) (Waves files tracker)
-IsRequestIn found (Run r) = (name_in found ≡ Some (codes "run")) × IsRunIn (rows_in found) (Run r)

@@ -10,10 +10,9 @@ ghost use Rattle.td_words.specs.CommandLine.{AskForWaves, HasFiles, HasRun, HasT
 ghost use Rattle.td_words.specs.CommandLine.{RunWords, TrackWords, chunk_at};
 ghost use Rattle.td_words.specs.CommandLine.{chunk_in as chunk_in_of, is_explained, name_in};
 ghost use Rattle.td_words.specs.CommandLine.{options_of, rows_in};
-ghost use Rattle.td_words.specs.Asked.{chunk_said, AreFilesIn, AreFilesOf, AreWavesIn, AreWavesOf};
-ghost use Rattle.td_words.specs.Asked.{Asks};
-ghost use Rattle.td_words.specs.Asked.{IsCheckIn, IsCheckOf, IsRequestIn, IsRunOf, IsTrackIn};
-ghost use Rattle.td_words.specs.Asked.{IsTrackOf, IsUsage, call_as};
+ghost use Rattle.td_words.specs.Asked.{AreFilesIn, AreFilesOf, Asks, IsGivenBy, IsUsage, call_as};
+ghost use Rattle.td_words.specs.Asked.{builders_said, check_of, chunk_said, report_of};
+ghost use Rattle.td_words.specs.Asked.{request_words, run_of, waves_of};
 
 use crate::command::command;
 use crate::run_words::run_in;
@@ -137,8 +136,10 @@ pub(crate) fn value_in<'a>(matches: &ArgMatches<'a>, name: &str) -> Option<&'a s
 fn check_in(alloc: Global, matches: &ArgMatches<'_>) -> Result<Request, WordsFault>
     ensures check { (archs packages sources : List ℕ)
         → HasFiles (rows_of (found_of matches.now)) archs packages sources
-        → MatchResult result (IsCheckOf archs packages sources) (λ e. e ≡ WordsFault.NoMemory) }
-    ensures only { IfOk result (IsCheckIn (rows_of (found_of matches.now))) }
+        → MatchResult result (λ r. request_words r ≡ check_of archs packages sources)
+        (λ e. e ≡ WordsFault.NoMemory) }
+    ensures only { IfOk result (λ r. IsGivenBy
+        (Some (codes "check", rows_of (found_of matches.now))) (request_words r)) }
 {
     Ok(Request::Check(archive_in(alloc, matches)?))
 }
@@ -217,11 +218,13 @@ fn chunk_in(matches: &ArgMatches<'_>) -> Option<Option<usize>>
 // The report that the matches of `track` ask for.
 fn track_in(alloc: Global, matches: &ArgMatches<'_>) -> Result<Request, WordsFault>
     ensures track { (w : TrackWords) → HasTrack (rows_of (found_of matches.now)) w
-        → MatchResult result (IsTrackOf w) (λ e. e ≡ WordsFault.NoMemory) }
+        → MatchResult result (λ r. request_words r ≡ report_of w)
+        (λ e. e ≡ WordsFault.NoMemory) }
     ensures said { (archs packages sources tracker : List ℕ)
         → HasTracker (rows_of (found_of matches.now)) archs packages sources tracker
         → IfErr result (λ e. IsUsage e chunk_said) }
-    ensures only { IfOk result (IsTrackIn (rows_of (found_of matches.now))) }
+    ensures only { IfOk result (λ r. IsGivenBy
+        (Some (codes "track", rows_of (found_of matches.now))) (request_words r)) }
 {
     let files = archive_in(alloc, matches)?;
     let tracker = needed_in(alloc, matches, "tracker")?;
@@ -241,9 +244,10 @@ fn track_in(alloc: Global, matches: &ArgMatches<'_>) -> Result<Request, WordsFau
 fn waves_in(alloc: Global, matches: &ArgMatches<'_>) -> Result<Request, WordsFault>
     ensures waves { (archs packages sources tracker : List ℕ)
         → HasTracker (rows_of (found_of matches.now)) archs packages sources tracker
-        → MatchResult result (AreWavesOf archs packages sources tracker)
+        → MatchResult result (λ r. request_words r ≡ waves_of archs packages sources tracker)
         (λ e. e ≡ WordsFault.NoMemory) }
-    ensures only { IfOk result (AreWavesIn (rows_of (found_of matches.now))) }
+    ensures only { IfOk result (λ r. IsGivenBy
+        (Some (codes "waves", rows_of (found_of matches.now))) (request_words r)) }
 {
     Ok(Request::Waves {
         files: archive_in(alloc, matches)?,
@@ -258,25 +262,33 @@ fn request_in(alloc: Global, matches: &ArgMatches<'_>) -> Result<Request, WordsF
     ensures check { (archs packages sources : List ℕ)
         → name_in (subcommand_rows_of matches.now) ≡ Some (codes "check")
         → HasFiles (rows_in (subcommand_rows_of matches.now)) archs packages sources
-        → MatchResult result (IsCheckOf archs packages sources) (λ e. e ≡ WordsFault.NoMemory) }
+        → MatchResult result (λ r. request_words r ≡ check_of archs packages sources)
+        (λ e. e ≡ WordsFault.NoMemory) }
     ensures track { (w : TrackWords)
         → name_in (subcommand_rows_of matches.now) ≡ Some (codes "track")
         → HasTrack (rows_in (subcommand_rows_of matches.now)) w
-        → MatchResult result (IsTrackOf w) (λ e. e ≡ WordsFault.NoMemory) }
+        → MatchResult result (λ r. request_words r ≡ report_of w)
+        (λ e. e ≡ WordsFault.NoMemory) }
     ensures waves { (archs packages sources tracker : List ℕ)
         → name_in (subcommand_rows_of matches.now) ≡ Some (codes "waves")
         → HasTracker (rows_in (subcommand_rows_of matches.now)) archs packages sources tracker
-        → MatchResult result (AreWavesOf archs packages sources tracker)
+        → MatchResult result (λ r. request_words r ≡ waves_of archs packages sources tracker)
         (λ e. e ≡ WordsFault.NoMemory) }
     ensures run { (w : RunWords)
         → name_in (subcommand_rows_of matches.now) ≡ Some (codes "run")
         → HasRun (rows_in (subcommand_rows_of matches.now)) w
-        → MatchResult result (IsRunOf w) (λ e. e ≡ WordsFault.NoMemory) }
+        → MatchResult result (λ r. request_words r ≡ run_of w)
+        (λ e. e ≡ WordsFault.NoMemory) }
     ensures track_said { (archs packages sources tracker : List ℕ)
         → name_in (subcommand_rows_of matches.now) ≡ Some (codes "track")
         → HasTracker (rows_in (subcommand_rows_of matches.now)) archs packages sources tracker
         → IfErr result (λ e. IsUsage e chunk_said) }
-    ensures only { IfOk result (IsRequestIn (subcommand_rows_of matches.now)) }
+    ensures run_said { (archs packages sources : List ℕ)
+        → name_in (subcommand_rows_of matches.now) ≡ Some (codes "run")
+        → HasFiles (rows_in (subcommand_rows_of matches.now)) archs packages sources
+        → IfErr result (λ e. IsUsage e builders_said) }
+    ensures only { IfOk result (λ r.
+        IsGivenBy (subcommand_rows_of matches.now) (request_words r)) }
 {
     match matches.subcommand() {
         Some((name, _)) if name == "simulate" => Ok(Request::Simulate),
@@ -319,11 +331,12 @@ pub fn read_words(alloc: Global, words: &[String]) -> Result<Call, WordsFault>
     // Words that ask for a check of three files are answered by it, unless memory runs out.
     ensures check { (archs packages sources : List ℕ)
         → AskForCheck (map string_bytes words.now) archs packages sources
-        → MatchResult result (λ c. IsCheckOf archs packages sources c.request)
+        → MatchResult result (λ c. request_words c.request ≡ check_of archs packages sources)
         (λ e. e ≡ WordsFault.NoMemory) }
     // Words that ask for a report are answered by it, unless memory runs out.
     ensures track { (w : TrackWords) → AskForTrack (map string_bytes words.now) w
-        → MatchResult result (λ c. IsTrackOf w c.request) (λ e. e ≡ WordsFault.NoMemory) }
+        → MatchResult result (λ c. request_words c.request ≡ report_of w)
+        (λ e. e ≡ WordsFault.NoMemory) }
     // Where only the number of a chunk is wrong, that is said.
     ensures track_said { (archs packages sources tracker : List ℕ)
         → AskFor (codes "track") (map string_bytes words.now)
@@ -332,13 +345,21 @@ pub fn read_words(alloc: Global, words: &[String]) -> Result<Call, WordsFault>
     // So are words that ask for waves.
     ensures waves { (archs packages sources tracker : List ℕ)
         → AskForWaves (map string_bytes words.now) archs packages sources tracker
-        → MatchResult result (λ c. AreWavesOf archs packages sources tracker c.request)
+        → MatchResult result (λ c. request_words c.request
+        ≡ waves_of archs packages sources tracker)
         (λ e. e ≡ WordsFault.NoMemory) }
     // And words that ask for a run.
     ensures run { (w : RunWords) → AskForRun (map string_bytes words.now) w
-        → MatchResult result (λ c. IsRunOf w c.request) (λ e. e ≡ WordsFault.NoMemory) }
+        → MatchResult result (λ c. request_words c.request ≡ run_of w)
+        (λ e. e ≡ WordsFault.NoMemory) }
+    // Where only the number of builders is wrong, that is said.
+    ensures run_said { (archs packages sources : List ℕ)
+        → AskFor (codes "run") (map string_bytes words.now)
+        → HasFiles (options_of (map string_bytes words.now)) archs packages sources
+        → IfErr result (λ e. IsUsage e builders_said) }
     // Words that are answered are without fault, and name what they are answered by.
-    ensures only { IfOk result (λ c. Asks (map string_bytes words.now) c.request) }
+    ensures only { IfOk result (λ c.
+        Asks (map string_bytes words.now) (request_words c.request)) }
     // An explanation is due exactly where the option is given.
     ensures explained { IfOk result (λ c. c.explained
         ≡ is_explained (options_of (map string_bytes words.now))) }

@@ -1,10 +1,11 @@
 //! The words that ask for a run.
-ghost use Rattle.std.specs.Prelude.{◌≡◌, codes, string_bytes, MatchResult, IfOk, IfErr};
+ghost use Rattle.std.specs.Prelude.{◌≡◌, ℕ, List, Some, codes, option_map, string_bytes};
+ghost use Rattle.std.specs.Prelude.{MatchResult, IfOk, IfErr};
 ghost use Rattle.clap.specs.Matches.{found_of};
 ghost use Rattle.clap.specs.Walk.{first_of, rows_of};
-ghost use Rattle.td_words.specs.CommandLine.{HasRun, RunWords, builders_in as builders_in_of};
-ghost use Rattle.td_words.specs.CommandLine.{suite_in as suite_in_of};
-ghost use Rattle.td_words.specs.Asked.{IsRunIn, IsRunOf};
+ghost use Rattle.td_words.specs.CommandLine.{HasFiles, HasRun, RunWords};
+ghost use Rattle.td_words.specs.CommandLine.{builders_in as builders_in_of, suite_in as suite_in_of};
+ghost use Rattle.td_words.specs.Asked.{IsGivenBy, IsUsage, builders_said, request_words, run_of};
 
 use crate::request::{
     Request, RunRequest, WordsFault, archive_in, given_in, usage_fault, value_in,
@@ -46,28 +47,86 @@ fn suite_in(alloc: Global, matches: &ArgMatches<'_>) -> Result<String, WordsFaul
     }
 }
 
-/// The run that the matches of `run` ask for.
-pub(crate) fn run_in(alloc: Global, matches: &ArgMatches<'_>) -> Result<Request, WordsFault>
-    ensures run { (w : RunWords) → HasRun (rows_of (found_of matches.now)) w
-        → MatchResult result (IsRunOf w) (λ e. e ≡ WordsFault.NoMemory) }
-    ensures only { IfOk result (IsRunIn (rows_of (found_of matches.now))) }
+// What a desk is opened with beside an archive.
+#[derive(Drop)]
+struct DeskOptions {
+    state: Option<String>,
+    tracker: Option<String>,
+    suite: String,
+}
+
+fn desk_in(alloc: Global, matches: &ArgMatches<'_>) -> Result<DeskOptions, WordsFault>
+    ensures state { IfOk result (λ d. option_map string_bytes d.state
+        ≡ first_of (codes "state") (rows_of (found_of matches.now))) }
+    ensures tracker { IfOk result (λ d. option_map string_bytes d.tracker
+        ≡ first_of (codes "tracker") (rows_of (found_of matches.now))) }
+    ensures suite { IfOk result (λ d. string_bytes d.suite
+        ≡ suite_in_of (first_of (codes "suite") (rows_of (found_of matches.now)))) }
+    ensures memory { IfErr result (λ e. e ≡ WordsFault.NoMemory) }
 {
-    let files = archive_in(alloc, matches)?;
     let state = given_in(alloc, matches, "state")?;
     let tracker = given_in(alloc, matches, "tracker")?;
     let suite = suite_in(alloc, matches)?;
+    Ok(DeskOptions {
+        state,
+        tracker,
+        suite,
+    })
+}
+
+// Who builds, and the journal of an earlier run.
+#[derive(Drop)]
+struct CrewOptions {
+    builders: usize,
+    outcomes: Option<String>,
+    journal: Option<String>,
+}
+
+fn crew_in(alloc: Global, matches: &ArgMatches<'_>) -> Result<CrewOptions, WordsFault>
+    ensures builders { IfOk result (λ c.
+        builders_in_of (first_of (codes "builders") (rows_of (found_of matches.now)))
+        ≡ Some c.builders) }
+    ensures outcomes { IfOk result (λ c. option_map string_bytes c.outcomes
+        ≡ first_of (codes "outcomes") (rows_of (found_of matches.now))) }
+    ensures journal { IfOk result (λ c. option_map string_bytes c.journal
+        ≡ first_of (codes "journal") (rows_of (found_of matches.now))) }
+    ensures memory { (count : ℕ)
+        → builders_in_of (first_of (codes "builders") (rows_of (found_of matches.now))) ≡ Some count
+        → IfErr result (λ e. e ≡ WordsFault.NoMemory) }
+    ensures said { IfErr result (λ e. IsUsage e builders_said) }
+{
     let Some(builders) = builders_in(matches) else {
         return Err(usage_fault(alloc, "error: --builders takes a number from 0 to 64\n"));
     };
     let outcomes = given_in(alloc, matches, "outcomes")?;
     let journal = given_in(alloc, matches, "journal")?;
-    Ok(Request::Run(RunRequest {
-        files,
-        state,
-        tracker,
-        suite,
+    Ok(CrewOptions {
         builders,
         outcomes,
         journal,
+    })
+}
+
+/// The run that the matches of `run` ask for.
+pub(crate) fn run_in(alloc: Global, matches: &ArgMatches<'_>) -> Result<Request, WordsFault>
+    ensures run { (w : RunWords) → HasRun (rows_of (found_of matches.now)) w
+        → MatchResult result (λ r. request_words r ≡ run_of w) (λ e. e ≡ WordsFault.NoMemory) }
+    ensures said { (archs packages sources : List ℕ)
+        → HasFiles (rows_of (found_of matches.now)) archs packages sources
+        → IfErr result (λ e. IsUsage e builders_said) }
+    ensures only { IfOk result (λ r. IsGivenBy
+        (Some (codes "run", rows_of (found_of matches.now))) (request_words r)) }
+{
+    let files = archive_in(alloc, matches)?;
+    let desk = desk_in(alloc, matches)?;
+    let crew = crew_in(alloc, matches)?;
+    Ok(Request::Run(RunRequest {
+        files,
+        state: desk.state,
+        tracker: desk.tracker,
+        suite: desk.suite,
+        builders: crew.builders,
+        outcomes: crew.outcomes,
+        journal: crew.journal,
     }))
 }

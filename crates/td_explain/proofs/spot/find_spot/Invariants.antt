@@ -10,5 +10,5 @@ decreases-loop-rest l = left_len l.rest
 -- what is left decides; a line takes at least a byte
 abbrev pub invariant-loop-rest : goal.invariant-loop-rest
 invariant-loop-rest l =
-    (spot_in l.place l.apart l.number (lines_left l.rest) ≡ spot_of l.fn.place l.fn.text)
+    (spot_in l.point l.apart l.number (lines_left l.rest) ≡ spot_of l.fn.point l.fn.text)
     × (l.number + left_len l.rest ≤ length l.fn.text + 2)

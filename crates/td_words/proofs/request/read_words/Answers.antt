@@ -1,5 +1,5 @@
 -- `read_words`: its clauses.
-use Rattle.td_words.specs.Asked.{IsUsage, chunk_said}
+use Rattle.td_words.specs.Asked.{IsUsage, builders_said, chunk_said}
 use Rattle.td_words.proofs.Asking.{memory_said}
 use Rattle.std.proofs.Common.{◌≡◌, map, string_bytes, [], sym, refl, ap, subst, IfOk, ◌∙◌}
 use Rattle.std.proofs.lemmas.Result.{IfOk-weaker}
@@ -7,7 +7,8 @@ use Rattle.clap.specs.Faults.{fault_of}
 use Rattle.clap.specs.Simple.{subcommand_rows_of}
 use Rattle.td_words.specs.CommandLine.{HasFiles, HasRun, HasTrack, HasTracker, is_explained}
 use Rattle.td_words.specs.CommandLine.{name_in, rows_in}
-use Rattle.td_words.specs.Asked.{AreWavesOf, Asks, IsCheckOf, IsRequestIn, IsRunOf, IsTrackOf}
+use Rattle.td_words.specs.Asked.{Asks, IsGivenBy, check_of, report_of, request_words, run_of}
+use Rattle.td_words.specs.Asked.{waves_of}
 use Rattle.td_words.specs.declared.request.Request.TheVariants.{Simulate}
 use Rattle.td_words.specs.declared.request.WordsFault.TheVariants.{NoMemory}
 use Rattle.td_words.proofs.Asking.{asks, flag_of_call, holds_of_call, only_memory, only_of_call}
@@ -28,7 +29,8 @@ returns-in-Ok-clause-check c archs packages sources asking =
     let m = c.in-Ok.matches in
     let texts = map string_bytes c.args.words.now in
     let rows = rows_are_asked _ m texts c.in_ok-command.ensures c.in-Ok.ensures.matches in
-    holds_of_call (IsCheckOf archs packages sources) (λ e. e ≡ NoMemory) c.request_in.result
+    holds_of_call (λ r. request_words r ≡ check_of archs packages sources)
+    (λ e. e ≡ NoMemory) c.request_in.result
     c.is_explained_in.result c.call_of.result c.call_of.ensures
     (c.request_in.ensures.check archs packages sources (ap name_in rows ∙ asking.0.1)
     (subst (λ o. HasFiles (rows_in o) archs packages sources) (sym rows) asking.1))
@@ -38,7 +40,8 @@ returns-in-Ok-clause-track c w asking =
     let m = c.in-Ok.matches in
     let texts = map string_bytes c.args.words.now in
     let rows = rows_are_asked _ m texts c.in_ok-command.ensures c.in-Ok.ensures.matches in
-    holds_of_call (IsTrackOf w) (λ e. e ≡ NoMemory) c.request_in.result c.is_explained_in.result
+    holds_of_call (λ r. request_words r ≡ report_of w) (λ e. e ≡ NoMemory)
+    c.request_in.result c.is_explained_in.result
     c.call_of.result c.call_of.ensures
     (c.request_in.ensures.track w (ap name_in rows ∙ asking.0.1)
     (subst (λ o. HasTrack (rows_in o) w) (sym rows) asking.1))
@@ -48,7 +51,7 @@ returns-in-Ok-clause-waves c archs packages sources tracker asking =
     let m = c.in-Ok.matches in
     let texts = map string_bytes c.args.words.now in
     let rows = rows_are_asked _ m texts c.in_ok-command.ensures c.in-Ok.ensures.matches in
-    holds_of_call (AreWavesOf archs packages sources tracker)
+    holds_of_call (λ r. request_words r ≡ waves_of archs packages sources tracker)
     (λ e. e ≡ NoMemory) c.request_in.result c.is_explained_in.result c.call_of.result
     c.call_of.ensures
     (c.request_in.ensures.waves archs packages sources tracker (ap name_in rows ∙ asking.0.1)
@@ -59,7 +62,8 @@ returns-in-Ok-clause-run c w asking =
     let m = c.in-Ok.matches in
     let texts = map string_bytes c.args.words.now in
     let rows = rows_are_asked _ m texts c.in_ok-command.ensures c.in-Ok.ensures.matches in
-    holds_of_call (IsRunOf w) (λ e. e ≡ NoMemory) c.request_in.result c.is_explained_in.result
+    holds_of_call (λ r. request_words r ≡ run_of w) (λ e. e ≡ NoMemory)
+    c.request_in.result c.is_explained_in.result
     c.call_of.result c.call_of.ensures
     (c.request_in.ensures.run w (ap name_in rows ∙ asking.0.1)
     (subst (λ o. HasRun (rows_in o) w) (sym rows) asking.1))
@@ -71,10 +75,11 @@ returns-in-Ok-clause-only c =
     let rows = rows_are_asked _ m texts c.in_ok-command.ensures c.in-Ok.ensures.matches in
     let kinds = said_of_words (λ a. fault_of a texts ≡ []) _ c.in_ok-command.ensures
     c.in-Ok.ensures.kinds in
-    only_of_call (Asks texts) c.request_in.result c.is_explained_in.result c.call_of.result
-    c.call_of.ensures
-    (IfOk-weaker c.request_in.result (IsRequestIn (subcommand_rows_of m)) (Asks texts)
-    (λ r is. asks texts (subcommand_rows_of m) r rows kinds is)
+    only_of_call (λ r. Asks texts (request_words r)) c.request_in.result c.is_explained_in.result
+    c.call_of.result c.call_of.ensures
+    (IfOk-weaker c.request_in.result (λ r. IsGivenBy (subcommand_rows_of m) (request_words r))
+    (λ r. Asks texts (request_words r))
+    (λ r is. asks texts (subcommand_rows_of m) (request_words r) rows kinds is)
     c.request_in.ensures.only)
 
 pub returns-in-Ok-clause-explained : goal.returns-in-Ok-clause-explained
@@ -123,5 +128,20 @@ returns-in-Ok-clause-track_said c archs packages sources tracker asking has =
 
 pub returns-in-Err-clause-track_said : goal.returns-in-Err-clause-track_said
 returns-in-Err-clause-track_said c archs packages sources tracker asking has =
+    memory_said _ _ (c.fault_of.ensures (only_memory _ (map string_bytes c.args.words.now)
+    c.in-Err.error c.in_ok-command.ensures asking.0 c.in-Err.ensures.kinds))
+
+pub returns-in-Ok-clause-run_said : goal.returns-in-Ok-clause-run_said
+returns-in-Ok-clause-run_said c archs packages sources asking has =
+    let m = c.in-Ok.matches in
+    let texts = map string_bytes c.args.words.now in
+    let rows = rows_are_asked _ m texts c.in_ok-command.ensures c.in-Ok.ensures.matches in
+    holds_of_call (λ q. Unit {0}) (λ e. IsUsage e builders_said) c.request_in.result
+    c.is_explained_in.result c.call_of.result c.call_of.ensures
+    (c.request_in.ensures.run_said archs packages sources (ap name_in rows ∙ asking.1)
+    (subst (λ o. HasFiles (rows_in o) archs packages sources) (sym rows) has))
+
+pub returns-in-Err-clause-run_said : goal.returns-in-Err-clause-run_said
+returns-in-Err-clause-run_said c archs packages sources asking has =
     memory_said _ _ (c.fault_of.ensures (only_memory _ (map string_bytes c.args.words.now)
     c.in-Err.error c.in_ok-command.ensures asking.0 c.in-Err.ensures.kinds))

@@ -38,3 +38,10 @@ returns-in-Some-3-clause-track_said c archs packages sources tracker named has =
     (subst (λ options. HasTracker options archs packages sources tracker)
     (rows_of_matches c.args.matches.now c.subcommand.result _ c.in-Some.is
     c.subcommand.ensures.rows) has)
+
+pub returns-in-Some-5-clause-run_said : goal.returns-in-Some-5-clause-run_said
+returns-in-Some-5-clause-run_said c archs packages sources named has =
+    c.run_in.ensures.said archs packages sources
+    (subst (λ options. HasFiles options archs packages sources)
+    (rows_of_matches c.args.matches.now c.subcommand.result _ c.in-Some.is
+    c.subcommand.ensures.rows) has)
