@@ -8,7 +8,8 @@ use Rattle.td_bytes.specs.Pieces.{AppendsPrefix}
 use Rattle.td_bytes.proofs.Prefixes.{AppendsPrefix-first}
 use Rattle.td_bytes.specs.declared.text.TextFault.{TextFault}
 use Rattle.td_report.specs.Transition.{IsReport, IsWaves}
-use Rattle.td_words.specs.Asked.{AreWavesOf, Asks, IsCheckOf, IsRunOf, IsTrackOf}
+use Rattle.td_words.specs.Asked.{Asks, RequestWords, check_of, report_of, request_words, run_of}
+use Rattle.td_words.specs.Asked.{simulation, waves_of}
 use Rattle.td_words.specs.CommandLine.{RunWords, TrackWords, is_explained, options_of}
 use Rattle.td_words.specs.declared.request.Call.{Call}
 use Rattle.td_words.specs.declared.request.Request.{Request}
@@ -23,8 +24,7 @@ use Rattle.td_tool.specs.Ending.{line_of}
 use Rattle.td_tool.specs.Ends.{Ends}
 use Rattle.td_tool.specs.Explained.{SaysOf, archive_paths, known_at, known_input, run_paths}
 use Rattle.td_tool.specs.Explained.{track_paths, waves_paths}
-use Rattle.td_tool.specs.Program.{AsksForOne, IsTold, OnlyIfAsked, RanFor, RanOne, are_explained}
-use Rattle.td_tool.specs.Program.{files_asked}
+use Rattle.td_tool.specs.Program.{IsTold, OnlyIfAsked, RanFor, are_explained, files_asked}
 use Rattle.td_tool.specs.Runs.{EndsRun, run_files_asked}
 use Rattle.td_tool.specs.Tracks.{EndsSo, track_files}
 use Rattle.td_tool.specs.Ran.{Ran}
@@ -42,20 +42,6 @@ of_given AsksFor Done words given lent are same answered asks =
     subst Done
     (ap (λ l. is_explained (options_of (map string_bytes l))) same ∙ sym (ap are_explained are))
     (answered (subst (λ l. AsksFor (map string_bytes l)) (sym same) here))
-
--- what holds of some paths holds of the same ones
-holds_of_three : (P : List ℕ → List ℕ → List ℕ → Type 0) (a b p q s t : List ℕ) → a ≡ b → p ≡ q
-    → s ≡ t → P a p s → P b q t
-holds_of_three P a b p q s t first second third holds =
-    let one = subst (λ x. P x p s) first holds in
-    let two = subst (λ x. P b x s) second one in
-    subst (λ x. P b q x) third two
-
-holds_of_four : (P : List ℕ → List ℕ → List ℕ → List ℕ → Type 0) (a b p q s t k l : List ℕ)
-    → a ≡ b → p ≡ q → s ≡ t → k ≡ l → P a p s k → P b q t l
-holds_of_four P a b p q s t k l first second third fourth holds =
-    let three = holds_of_three (λ x y z. P x y z k) a b p q s t first second third holds in
-    subst (λ x. P b q t x) fourth three
 
 -- want of memory may end each, and is not explained
 memory_said : (explained : Bool) (texts : Role → Option (List ℕ)) (before said : Option (List ℕ))
@@ -79,8 +65,7 @@ module _ (words : List (List ℕ)) (known : Option (List ℕ)) (bytes : List ℕ
   HasFlag explained r = IfOk r (λ c. c.explained ≡ explained)
 
   -- what was asked for has run, and is explained where that was asked; or memory was wanting for
-  -- the
-  -- words
+  -- the words
   answered : (Did : Ending → Type 0) (texts : Role → Option (List ℕ)) (Is : Request → Type 0)
       (r : Result Call WordsFault) (explained : Bool)
       → ((q : Request) (b : Bool)
@@ -100,6 +85,35 @@ module _ (words : List (List ℕ)) (known : Option (List ℕ)) (bytes : List ℕ
         says = memory_said explained texts before said lacking.tells.line;
       }
 
+  -- what ran for a request ran for its words
+  abbrev RanWords : RequestWords → Bool → Type 0
+  RanWords simulation b = Ran (Ends known old new) b (known_input known) before said status
+  RanWords (check_of archs packages sources) b =
+      Ran (Checks (files_of bytes can_fail archs packages sources) old new) b
+      (known_at bytes (archive_paths archs packages sources)) before said status
+  RanWords (report_of w) b =
+      Ran (EndsSo IsReport (files_asked bytes can_fail w) old new) b
+      (known_at bytes (track_paths w)) before said status
+  RanWords (waves_of archs packages sources tracker) b =
+      Ran (EndsSo IsWaves (track_files bytes can_fail archs packages sources None tracker) old new)
+      b (known_at bytes (waves_paths archs packages sources tracker)) before said status
+  RanWords (run_of w) b =
+      Ran (EndsRun (run_files_asked bytes can_fail w) w.suite known old new) b
+      (known_at bytes (run_paths w)) before said status
+
+  ran_words : (q : Request) (b : Bool) → RanFor q b known bytes can_fail old new before said status
+      → RanWords (request_words q) b
+  ran_words Simulate b ran = ran
+  ran_words (Check p) b ran = ran
+  ran_words (Track r) b ran = ran
+  ran_words (Waves p t) b ran = ran
+  ran_words (Run r) b ran = ran
+
+  ran_same : (w : RequestWords) (q : Request) (b : Bool)
+      → RanFor q b known bytes can_fail old new before said status → request_words q ≡ w
+      → RanWords w b
+  ran_same w q b ran is = subst (λ v. RanWords v b) is (ran_words q b ran)
+
   pub simulated : (r : Result Call WordsFault) (explained : Bool) → HasRun r → WasTold r
       → HasFlag explained r
       → MatchResult r (λ c. c.request ≡ Simulate) (λ e. e ≡ words_fault.NoMemory)
@@ -109,78 +123,33 @@ module _ (words : List (List ℕ)) (known : Option (List ℕ)) (bytes : List ℕ
       (λ q b ran is. subst (λ x. RanFor x b known bytes can_fail old new before said status) is ran)
       (λ kept. record { says = kept; only = kept_only known old new kept })
 
-  check_request : (q : Request) (explained : Bool) (archs packages sources : List ℕ)
-      → RanFor q explained known bytes can_fail old new before said status
-      → IsCheckOf archs packages sources q
-      → Ran (Checks (files_of bytes can_fail archs packages sources) old new) explained
-      (known_at bytes (archive_paths archs packages sources)) before said status
-  check_request Simulate explained archs packages sources ran is = absurd is
-  check_request (Track r) explained archs packages sources ran is = absurd is
-  check_request (Waves p t) explained archs packages sources ran is = absurd is
-  check_request (Run r) explained archs packages sources ran is = absurd is
-  check_request (Check p) explained archs packages sources ran is =
-      holds_of_three (λ x y z.
-      Ran (Checks (files_of bytes can_fail x y z) old new) explained
-      (known_at bytes (archive_paths x y z)) before said status) (string_bytes p.archs) archs
-      (string_bytes p.packages) packages (string_bytes p.sources) sources is.archs is.packages
-      is.sources ran
-
   pub checked : (r : Result Call WordsFault) (explained : Bool) (archs packages sources : List ℕ)
       → HasRun r → WasTold r → HasFlag explained r
-      → MatchResult r (λ c. IsCheckOf archs packages sources c.request)
+      → MatchResult r (λ c. request_words c.request ≡ check_of archs packages sources)
       (λ e. e ≡ words_fault.NoMemory)
       → Ran (Checks (files_of bytes can_fail archs packages sources) old new)
       explained (known_at bytes (archive_paths archs packages sources)) before said status
   checked r explained archs packages sources =
       answered (Checks (files_of bytes can_fail archs packages sources) old new)
-      (known_at bytes (archive_paths archs packages sources)) (IsCheckOf archs packages sources) r
-      explained (λ q b. check_request q b archs packages sources)
+      (known_at bytes (archive_paths archs packages sources))
+      (λ q. request_words q ≡ check_of archs packages sources) r
+      explained (ran_same (check_of archs packages sources))
       (λ kept. record { says = kept; only = λ c is. kept })
-
-  track_request : (q : Request) (explained : Bool) (w : TrackWords)
-      → RanFor q explained known bytes can_fail old new before said status → IsTrackOf w q
-      → Ran (EndsSo IsReport (files_asked bytes can_fail w) old new) explained
-      (known_at bytes (track_paths w)) before said status
-  track_request Simulate explained w ran is = absurd is
-  track_request (Check p) explained w ran is = absurd is
-  track_request (Waves p t) explained w ran is = absurd is
-  track_request (Run r) explained w ran is =
-      absurd is
-  track_request (Track r) explained w ran is =
-      subst (λ x. Ran (EndsSo IsReport (files_asked bytes can_fail x) old new) explained
-      (known_at bytes (track_paths x)) before said status) is ran
 
   pub tracked : (r : Result Call WordsFault) (explained : Bool) (w : TrackWords) → HasRun r
       → WasTold r → HasFlag explained r
-      → MatchResult r (λ c. IsTrackOf w c.request) (λ e. e ≡ words_fault.NoMemory)
+      → MatchResult r (λ c. request_words c.request ≡ report_of w) (λ e. e ≡ words_fault.NoMemory)
       → Ran (EndsSo IsReport (files_asked bytes can_fail w) old new)
       explained (known_at bytes (track_paths w)) before said status
   tracked r explained w =
       answered (EndsSo IsReport (files_asked bytes can_fail w) old new)
-      (known_at bytes (track_paths w)) (IsTrackOf w) r explained (λ q b. track_request q b w)
+      (known_at bytes (track_paths w)) (λ q. request_words q ≡ report_of w) r explained
+      (ran_same (report_of w))
       (λ kept. record { says = inl (refl, kept); only = λ x are readable. kept })
-
-  waves_request : (q : Request) (explained : Bool) (archs packages sources tracker : List ℕ)
-      → RanFor q explained known bytes can_fail old new before said status
-      → AreWavesOf archs packages sources tracker q
-      → Ran (EndsSo IsWaves (track_files bytes can_fail archs packages sources None tracker) old
-      new) explained (known_at bytes (waves_paths archs packages sources tracker)) before said
-      status
-  waves_request Simulate explained archs packages sources tracker ran is = absurd is
-  waves_request (Check p) explained archs packages sources tracker ran is = absurd is
-  waves_request (Track r) explained archs packages sources tracker ran is =
-      absurd is
-  waves_request (Run r) explained archs packages sources tracker ran is = absurd is
-  waves_request (Waves p t) explained archs packages sources tracker ran is =
-      holds_of_four (λ x y z k.
-      Ran (EndsSo IsWaves (track_files bytes can_fail x y z None k) old new) explained
-      (known_at bytes (waves_paths x y z k)) before said status)
-      (string_bytes p.archs) archs (string_bytes p.packages) packages (string_bytes p.sources)
-      sources (string_bytes t) tracker is.0.archs is.0.packages is.0.sources is.1 ran
 
   pub waved : (r : Result Call WordsFault) (explained : Bool)
       (archs packages sources tracker : List ℕ) → HasRun r → WasTold r → HasFlag explained r
-      → MatchResult r (λ c. AreWavesOf archs packages sources tracker c.request)
+      → MatchResult r (λ c. request_words c.request ≡ waves_of archs packages sources tracker)
       (λ e. e ≡ words_fault.NoMemory)
       → Ran (EndsSo IsWaves (track_files bytes can_fail archs packages sources None tracker)
       old new) explained (known_at bytes (waves_paths archs packages sources tracker)) before said
@@ -189,55 +158,34 @@ module _ (words : List (List ℕ)) (known : Option (List ℕ)) (bytes : List ℕ
       answered
       (EndsSo IsWaves (track_files bytes can_fail archs packages sources None tracker) old new)
       (known_at bytes (waves_paths archs packages sources tracker))
-      (AreWavesOf archs packages sources tracker) r explained
-      (λ q b. waves_request q b archs packages sources tracker)
+      (λ q. request_words q ≡ waves_of archs packages sources tracker) r explained
+      (ran_same (waves_of archs packages sources tracker))
       (λ kept. record { says = inl (refl, kept); only = λ x are readable. kept })
-
-  run_request : (q : Request) (explained : Bool) (w : RunWords)
-      → RanFor q explained known bytes can_fail old new before said status → IsRunOf w q
-      → Ran (EndsRun (run_files_asked bytes can_fail w) w.suite known old new) explained
-      (known_at bytes (run_paths w)) before said status
-  run_request Simulate explained w ran is = absurd is
-  run_request (Check p) explained w ran is = absurd is
-  run_request (Track r) explained w ran is = absurd is
-  run_request (Waves p t) explained w ran is = absurd is
-  run_request (Run r) explained w ran is =
-      subst (λ x. Ran (EndsRun (run_files_asked bytes can_fail x) x.suite known old new) explained
-      (known_at bytes (run_paths x)) before said status) is ran
 
   pub ran_script : (r : Result Call WordsFault) (explained : Bool) (w : RunWords) → HasRun r
       → WasTold r → HasFlag explained r
-      → MatchResult r (λ c. IsRunOf w c.request) (λ e. e ≡ words_fault.NoMemory)
+      → MatchResult r (λ c. request_words c.request ≡ run_of w) (λ e. e ≡ words_fault.NoMemory)
       → Ran (EndsRun (run_files_asked bytes can_fail w) w.suite known old new)
       explained (known_at bytes (run_paths w)) before said status
   ran_script r explained w =
       answered (EndsRun (run_files_asked bytes can_fail w) w.suite known old new)
-      (known_at bytes (run_paths w)) (IsRunOf w) r explained (λ q b. run_request q b w)
+      (known_at bytes (run_paths w)) (λ q. request_words q ≡ run_of w) r explained
+      (ran_same (run_of w))
       (λ kept. record {
         says = inl (refl, kept);
         only = λ x are. play_only w.builders x w.suite known NoMemory tt;
       })
 
-  asked_one : (q : Request) (explained : Bool)
-      → RanFor q explained known bytes can_fail old new before said status → Asks words q
-      → AsksForOne words × RanOne explained known bytes can_fail old new before said status
-  asked_one Simulate explained ran asks = (inl asks, inl ran)
-  asked_one (Check p) explained ran asks =
-      (inr (inl asks.0), inr (inl (_, _, _, ran)))
-  asked_one (Track r) explained ran asks =
-      (inr (inr (inl asks.0)), inr (inr (inl (_, _, inl ran))))
-  asked_one (Waves p t) explained ran asks =
-      (inr (inr (inr (inl asks.0))), inr (inr (inl (_, _, inr ran))))
-  asked_one (Run r) explained ran asks =
-      (inr (inr (inr (inr asks.0))), inr (inr (inr (_, _, _, ran))))
-
   pub only_asked : (r : Result Call WordsFault) → HasRun r → WasTold r
       → HasFlag (is_explained (options_of words)) r
-      → IfOk r (λ c. Asks words c.request)
+      → IfOk r (λ c. Asks words (request_words c.request))
       → OnlyIfAsked words known bytes can_fail old new before said status
   only_asked (Ok c) ran told flag asks =
-      inl (subst (λ b. AsksForOne words × RanOne b known bytes can_fail old new before said status)
-      flag (asked_one c.request c.explained ran asks))
+      inl (
+        c.request,
+        asks,
+        subst (λ b. RanFor c.request b known bytes can_fail old new before said status) flag ran,
+      )
   only_asked (Err (words_fault.Usage text)) ran told flag asks =
       inr (inl (string_bytes text, told.tells), told.kept)
   only_asked (Err words_fault.NoMemory) ran told flag asks = inr (inr told.tells, told.kept)

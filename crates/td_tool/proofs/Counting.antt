@@ -15,7 +15,6 @@ use Rattle.td_indices.specs.declared.archive_fault.ArchiveFault.TheVariants as a
 use Rattle.td_script.specs.declared.input_fault.InputFault.TheVariants as form
 use Rattle.td_tool.specs.declared.checking.Counts.{Counts}
 use Rattle.td_tool.specs.declared.ending.Ending.{Ending}
-use Rattle.td_tool.specs.declared.ending.Ending.TheVariants.{NoMemory}
 use Rattle.td_tool.specs.Ending.{ending_of_form}
 use Rattle.td_tool.specs.Counted.{IsArchiveOf}
 use Rattle.td_tool.specs.CheckInside.{AreCountsOf, AreCountsWith, IsRefusedWith, IsCountedWith}
@@ -88,7 +87,8 @@ no_table a p s table.TooMany bad only =
     }
 no_table a p s table.NoMemory bad only = record { found = tt; only = λ c is. refl; refused = tt }
 
-archive_of : (a p s : List ℕ) (t : List ArchWords) (c : Contents) → IsTable (lines_of a) t
+-- the archive of three texts
+pub archive_of : (a p s : List ℕ) (t : List ArchWords) (c : Contents) → IsTable (lines_of a) t
     → IsArchive t (lines_of p) (lines_of s) c → IsArchiveOf a p s c
 archive_of a p s t c is_table is = record {
   is_table = subst (IsTable (lines_of a)) (sym is.same_table) is_table;

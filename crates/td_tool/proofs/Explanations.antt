@@ -1,21 +1,26 @@
 -- The text in which an ending is explained, and what is said of it.
-use Rattle.std.proofs.Common.{◌≡◌, ◌≤◌, ℕ, true, List, [], length, Option}
-use Rattle.std.proofs.Common.{Some, None, IfSome, Result, Ok, Err, OnOk, OnErr}
-use Rattle.std.proofs.Common.{string_bytes, append-nil, refl, sym, subst, ◌∙◌}
+use Rattle.std.proofs.Common.{◌≡◌, ◌⊎◌, ◌≤◌, ℕ, Bool, true, false, List, [], length, Option}
+use Rattle.std.proofs.Common.{Some, None, IfSome, Result, Ok, Err, IfOk, IfErr, MatchResult, OnOk}
+use Rattle.std.proofs.Common.{String, string_bytes, append-nil, inl, inr, refl, sym, subst, ◌∙◌}
+use Rattle.std.specs.declared.alloc.Global.{Global}
 use Rattle.td_bytes.specs.Pieces.{AppendsPrefix}
-use Rattle.std.specs.Io.KnownBytes.{Appends}
-use Rattle.std.proofs.KnownBytes.{Appends-nil}
+use Rattle.std.specs.Io.KnownBytes.{Appends, Keeps}
+use Rattle.std.proofs.KnownBytes.{Appends-trans}
 use Rattle.td_bytes.proofs.Prefixes.{AppendsPrefix-first, AppendsPrefix-second}
 use Rattle.td_explain.specs.declared.spot.Place.{Place}
 use Rattle.td_explain.specs.declared.spot.Place.TheVariants.{Whole, Line, Stanza, Byte}
+use Rattle.td_words.specs.declared.request.Request.{Request}
 use Rattle.td_tool.specs.Ending.{line_of}
-use Rattle.td_tool.specs.Explained.{Explains, IsKept, IsLookedAt, IsTextFor, SaysOf, explanation_of}
+use Rattle.td_tool.specs.Explained.{Explains, HasNone, IsKept, IsLookedAt, IsTextFor, SaysOf}
+use Rattle.td_tool.specs.Explained.{SaysAll, explanation_of, line_if}
 use Rattle.td_tool.specs.Places.{place_of}
 use Rattle.td_script.specs.declared.role.Role.{Role}
 use Rattle.td_tool.specs.declared.ending.Ended.{Ended}
 use Rattle.td_tool.specs.declared.ending.Ending.{Ending}
 use Rattle.td_tool.specs.declared.ending.Ending.TheVariants.{Done, Refused, BadInput, NoMemory}
 use Rattle.td_tool.specs.declared.ending.Ending.TheVariants.{CannotRead, CannotWrite}
+use Rattle.td_tool.specs.declared.explaining.Unexplained.{Unexplained}
+use Rattle.td_tool.specs.declared.explaining.Unexplained.TheVariants as unexplained
 
 -- ---- some text is the known one
 
@@ -40,21 +45,21 @@ some_text (CannotRead r) known = ([], tt)
 some_text CannotWrite known = ([], tt)
 
 -- where only the line of the ending is said, or a front of it
-pub line_alone : (known : Role → Option (List ℕ)) (ending : Ending) (before said : Option (List ℕ))
-    → AppendsPrefix before said (line_of ending) → SaysOf true known ending before said
-line_alone known ending before said line = (
+pub line_alone : (explained : Bool) (known : Role → Option (List ℕ)) (ending : Ending)
+    (before said : Option (List ℕ)) → AppendsPrefix before said (line_of ending)
+    → SaysOf explained known ending before said
+line_alone false known ending before said line = line
+line_alone true known ending before said line = (
   (some_text ending known).0,
   (some_text ending known).1,
   AppendsPrefix-first before said (line_of ending)
       (explanation_of ending (some_text ending known).0) line,
 )
 
--- of what is written a front stands there, whether the write fails or not
-pub wrote_front : {T E : Type 0} (before said : Option (List ℕ)) (bytes : List ℕ) (r : Result T E)
-    → OnOk r (Appends before said bytes) → OnErr r (AppendsPrefix before said bytes)
+-- what is said is a front of itself
+whole_front : (before said : Option (List ℕ)) (bytes : List ℕ) → Appends before said bytes
     → AppendsPrefix before said bytes
-wrote_front before said bytes (Ok x) whole front = (bytes, [], sym (append-nil bytes), whole)
-wrote_front before said bytes (Err e) whole front = front
+whole_front before said bytes whole = (bytes, [], sym (append-nil bytes), whole)
 
 -- a front of the explanation is said
 abbrev pub IsSaidOf : (Role → Option (List ℕ)) → Ending → Option (List ℕ) → Option (List ℕ) → Type 0
@@ -63,23 +68,23 @@ IsSaidOf known ending said_before said =
     × AppendsPrefix said_before said (explanation_of ending text)
 
 -- where there is no line nothing is said
-pub nothing_said : (known : Role → Option (List ℕ)) (ending : Ending) (before : Option (List ℕ))
-    → IsSaidOf known ending before before
-nothing_said known ending before = (
+nothing_said : (known : Role → Option (List ℕ)) (ending : Ending) (before said : Option (List ℕ))
+    → Appends before said [] → IsSaidOf known ending before said
+nothing_said known ending before said none = (
   (some_text ending known).0,
   (some_text ending known).1,
-  ([], explanation_of ending (some_text ending known).0, refl, Appends-nil before),
+  ([], explanation_of ending (some_text ending known).0, refl, none),
 )
 
 -- where there is one a front of it is
-pub line_said : (known : Role → Option (List ℕ)) (ending : Ending) (line written : List ℕ)
-    (before said : Option (List ℕ)) → Explains known ending line → written ≡ line
-    → AppendsPrefix before said written → IsSaidOf known ending before said
-line_said known ending line written before said e same front =
-    (e.0, e.1, subst (AppendsPrefix before said) (same ∙ e.2) front)
+line_said : (known : Role → Option (List ℕ)) (ending : Ending) (line : List ℕ)
+    (before said : Option (List ℕ)) → Explains known ending line
+    → AppendsPrefix before said line → IsSaidOf known ending before said
+line_said known ending line before said e front =
+    (e.0, e.1, subst (AppendsPrefix before said) e.2 front)
 
 -- behind the line of the ending
-pub both_said : (known : Role → Option (List ℕ)) (ending : Ending)
+both_said : (known : Role → Option (List ℕ)) (ending : Ending)
     (before between said : Option (List ℕ)) → Appends before between (line_of ending)
     → IsSaidOf known ending between said → SaysOf true known ending before said
 both_said known ending before between said line is = (
@@ -87,6 +92,92 @@ both_said known ending before between said line is = (
   is.1,
   AppendsPrefix-second before between said (line_of ending) (explanation_of ending is.0) line is.2,
 )
+
+-- what is kept is kept with nothing behind it
+kept_as_nothing : (before said : Option (List ℕ)) → Keeps before said → Appends before said []
+kept_as_nothing None said same = tt
+kept_as_nothing (Some xs) None same = absurd same
+kept_as_nothing (Some xs) (Some ys) same = same ∙ sym (append-nil xs)
+
+-- what is written of an explanation, by what was made of it and by how the write ends
+abbrev Put : Option (List ℕ) → Option (List ℕ) → Result (Option (String Global)) Unexplained
+    → Result (Unit {0}) Unexplained → Type 0
+Put between said r q =
+    IfOk r (λ told. MatchResult q (λ u. Appends between said (line_if told))
+    (λ e. (e ≡ unexplained.CannotWrite) × AppendsPrefix between said (line_if told)))
+
+-- nothing is, where there is none for a fault
+abbrev Left : Option (List ℕ) → Option (List ℕ) → Result (Option (String Global)) Unexplained
+    → Result (Unit {0}) Unexplained → Type 0
+Left between said r q = IfErr r (λ e. (q ≡ Err e) × Keeps between said)
+
+-- it isn't all said for this
+pub said_not : (Fails : Unexplained → Type 0) (between said : Option (List ℕ))
+    (r : Result (Option (String Global)) Unexplained) (q : Result (Unit {0}) Unexplained)
+    → IfErr r Fails → Put between said r q → Left between said r q
+    → IfErr q (λ e. (e ≡ unexplained.CannotWrite) ⊎ Fails e)
+said_not Fails between said (Ok told) (Ok u) fails put left = tt
+said_not Fails between said (Ok told) (Err e) fails put left = inl put.0
+said_not Fails between said (Err e) q fails put left =
+    subst (λ x. IfErr x (λ f. (f ≡ unexplained.CannotWrite) ⊎ Fails f)) (sym left.0) (inr fails)
+
+-- behind the line of the ending
+module _ (known : Role → Option (List ℕ)) (ended : Ended) (request : Request)
+    (before between said : Option (List ℕ)) where
+  abbrev Explained : Result (Option (String Global)) Unexplained → Type 0
+  Explained r = IfOk r (λ told. IfSome told (λ line.
+      Explains known ended.ending (string_bytes line)))
+
+  -- all of it is
+  pub said_whole : (r : Result (Option (String Global)) Unexplained)
+      (q : Result (Unit {0}) Unexplained) → Appends before between (line_of ended.ending)
+      → Explained r → IfOk r (λ told. told ≡ None → HasNone ended.ending ended.input request)
+      → Put between said r q → Left between said r q
+      → OnOk q (SaysAll true known ended request before said)
+  said_whole (Ok (Some line)) (Ok u) first explained none put left =
+      inl (
+        explained.0,
+        explained.1,
+        Appends-trans before between said (line_of ended.ending)
+            (explanation_of ended.ending explained.0) first
+            (subst (Appends between said) explained.2 put),
+      )
+  said_whole (Ok None) (Ok u) first explained none put left =
+      inr (
+        none refl,
+        subst (Appends before said) (append-nil (line_of ended.ending))
+            (Appends-trans before between said (line_of ended.ending) [] first put),
+      )
+  said_whole (Ok told) (Err e) first explained none put left = tt
+  said_whole (Err e) (Ok u) first explained none put left =
+      (let other : Ok u ≡ Err e = left.0 in absurd cc)
+  said_whole (Err e) (Err f) first explained none put left = tt
+
+  -- a front of it is
+  pub said_front : (r : Result (Option (String Global)) Unexplained)
+      (q : Result (Unit {0}) Unexplained) → Appends before between (line_of ended.ending)
+      → Explained r → Put between said r q → Left between said r q
+      → SaysOf true known ended.ending before said
+  said_front (Ok (Some line)) (Ok u) first explained put left =
+      both_said known ended.ending before between said first
+      (line_said known ended.ending (string_bytes line) between said explained
+      (whole_front between said (string_bytes line) put))
+  said_front (Ok (Some line)) (Err e) first explained put left =
+      both_said known ended.ending before between said first
+      (line_said known ended.ending (string_bytes line) between said explained put.1)
+  said_front (Ok None) (Ok u) first explained put left =
+      both_said known ended.ending before between said first
+      (nothing_said known ended.ending between said put)
+  said_front (Ok None) (Err e) first explained put left =
+      let some = some_text ended.ending known in
+      both_said known ended.ending before between said first (
+        some.0,
+        some.1,
+        AppendsPrefix-first between said [] (explanation_of ended.ending some.0) put.1,
+      )
+  said_front (Err e) q first explained put left =
+      both_said known ended.ending before between said first
+      (nothing_said known ended.ending between said (kept_as_nothing between said left.1))
 
 -- ---- an ending with no text kept
 

@@ -21,8 +21,9 @@ use Rattle.td_tool.specs.declared.input_fault.InputFault.TheVariants as refused
 use Rattle.td_tool.specs.declared.ending.Ending.{Ending}
 use Rattle.td_tool.specs.declared.ending.Ending.TheVariants.{Done, Refused, BadInput, NoMemory}
 use Rattle.td_tool.specs.declared.ending.Ending.TheVariants.{CannotRead, CannotWrite}
-use Rattle.td_tool.specs.Ending.{ending_of_simulation}
+use Rattle.td_tool.specs.Ending.{ending_of_simulation, ending_of_text}
 use Rattle.td_tool.specs.Ends.{IsText, HasFault, EndsAs, Plays, Says, Ends}
+use Rattle.td_tool.specs.Explained.{IsTextKept}
 use Rattle.td_tool.specs.Limits.{input_limit}
 use Rattle.td_tool.specs.Played.{TellsSo, IsUntold, PlaysText, IsNoSimulation, TextSays, TextEnds}
 use Rattle.td_tool.specs.Played.{IsUnread, kept_of}
@@ -190,3 +191,31 @@ kept_within limit (Ok text) input is within =
     subst (λ o. IfSome o (λ kept. length (string_bytes kept) ≤ limit)) (sym is) within
 kept_within limit (Err fault) input is within =
     subst (λ o. IfSome o (λ kept. length (string_bytes kept) ≤ limit)) (sym is) tt
+
+-- where a text is refused as a simulation, it was read
+some_kept : (ending : Ending) (text : String Global) → IsTextKept ending (Some text)
+some_kept Done text = tt
+some_kept Refused text = tt
+some_kept (BadInput role TooLong) text = tt
+some_kept (BadInput role NotText) text = tt
+some_kept (BadInput role (Simulation e)) text = refl
+some_kept (BadInput role (refused.BadOutcome n)) text = tt
+some_kept (BadInput role (refused.Form e)) text = tt
+some_kept NoMemory text = tt
+some_kept (CannotRead role) text = tt
+some_kept CannotWrite text = tt
+
+unread_kept : (fault : TextFault) (input : Option (String Global))
+    → IsTextKept (ending_of_text fault) input
+unread_kept text_fault.CannotRead input = tt
+unread_kept text_fault.TooLong input = tt
+unread_kept text_fault.NotText input = tt
+unread_kept text_fault.NoMemory input = tt
+
+pub text_kept : (read : Result (String Global) TextFault) (input : Option (String Global))
+    (old new : Option (List ℕ)) (ending : Ending) → input ≡ kept_of read
+    → IfErr read (λ e. IsUnread e old new ending) → IsTextKept ending input
+text_kept (Ok text) input old new ending is none =
+    subst (IsTextKept ending) (sym is) (some_kept ending text)
+text_kept (Err fault) input old new ending is none =
+    subst (λ e. IsTextKept e input) (sym none.ends) (unread_kept fault input)

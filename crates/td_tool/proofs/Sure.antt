@@ -6,18 +6,13 @@ use Rattle.std.specs.declared.alloc.Global.{Global}
 use Rattle.std.specs.Io.KnownBytes.{Keeps}
 use Rattle.td_bytes.specs.declared.text.TextFault.{TextFault}
 use Rattle.td_bytes.specs.declared.text.TextFault.TheVariants as text_fault
-use Rattle.td_text.specs.Lines.{lines_of}
-use Rattle.td_relation.specs.Arch.{ArchWords}
-use Rattle.td_relation.specs.TableFile.{IsTable}
-use Rattle.td_rows.specs.Table.{Table}
-use Rattle.td_indices.specs.Archive.{Contents, IsArchive}
 use Rattle.td_query.specs.TrackerFaults.{IsPatternFault, log_in}
 use Rattle.td_query.specs.TrackerGrammar.{said_in}
-use Rattle.td_query.specs.Tracking.{IsTracker, Tracking}
 use Rattle.td_query.specs.declared.tracker_fault.TrackerFault.{TrackerFault}
 use Rattle.td_query.specs.declared.tracker_fault.TrackerFault.TheVariants as tracker_fault
 use Rattle.td_script.specs.declared.input_fault.InputFault.TheVariants as form
 use Rattle.td_tool.specs.declared.file_texts.FileFault.{FileFault}
+use Rattle.td_tool.specs.declared.track_files.TrackTexts.{TrackTexts}
 use Rattle.td_script.specs.declared.role.Role.{Role}
 use Rattle.td_script.specs.declared.role.Role.TheVariants.{Input, Archs, Packages, Sources, State}
 use Rattle.td_script.specs.declared.role.Role.TheVariants.{Tracker, Outcomes, Journal}
@@ -26,18 +21,13 @@ use Rattle.td_tool.specs.declared.ending.Ending.TheVariants.{Done, Refused, BadI
 use Rattle.td_tool.specs.declared.ending.Ending.TheVariants.{CannotRead, CannotWrite}
 use Rattle.td_tool.specs.Ending.{ending_of_file, ending_of_form}
 use Rattle.td_tool.specs.Checks.{IsNoText, IsTextOf}
-use Rattle.td_tool.specs.CheckInside.{EndsUnwritten, WritesSo}
+use Rattle.td_tool.specs.CheckInside.{EndsUnwritten, FileUnread, WritesSo}
 use Rattle.td_tool.specs.Tracks.{AreKnownTexts, AreReadable, AreRefused, AreTextsOf, EndsSo}
-use Rattle.td_tool.specs.Tracks.{EndsTold, FailsAt, IsKnownIfGiven}
-use Rattle.td_tool.specs.Tracks.{IsKnownText, IsPatternRefused, IsReadableOver, IsTextIfGiven}
+use Rattle.td_tool.specs.Tracks.{EndsTold, FailsAt, IsKnownIfGiven, IsKnownText, IsTextIfGiven}
 use Rattle.td_tool.specs.Tracks.{OneFile, Saying, Texts, TextsSayIt, TrackFiles}
-use Rattle.td_tool.specs.TrackInside.{AreReadableWith, EndsWithoutRows, HasFailedAt, OrMemory}
+use Rattle.td_tool.specs.TrackInside.{AreTextsRead, HasFailedAt, Tells, TellsTexts, texts_of}
 
--- ---- what is readable is refused for nothing but a pattern
-
-pub lacks_memory : (text : List ℕ) (ending : Ending) → ending ≡ NoMemory
-    → IsPatternRefused text ending
-lacks_memory text ending is = (tracker_fault.NoMemory, tt, is)
+-- ---- what ends first
 
 -- what holds of how the first may end, and of want of memory, holds of how both end
 pub ended_by : {A B E : Type 0} (Holds : Ending → Type 0) (first : Result A Ending)
@@ -47,76 +37,6 @@ pub ended_by : {A B E : Type 0} (Holds : Ending → Type 0) (first : Result A En
     → Holds ending
 ended_by Holds first second ending bad memory (inl is) = subst (λ x. IfErr x Holds) is bad
 ended_by Holds first second ending bad memory (inr is) = subst Holds (sym is.4) memory
-
-pub over_stops : (c : Contents) (state : Option (List ℕ)) (tracker : List ℕ)
-    (r : Result (String Global) Ending)
-    → IfErr r (EndsWithoutRows c state)
-    → IfErr r (λ ending. IsReadableOver c state tracker → IsPatternRefused tracker ending)
-over_stops c state tracker (Ok text) none = tt
-over_stops c state tracker (Err e) none = λ readable.
-    lacks_memory tracker e (none.only readable.0 readable.1)
-
--- the same where the text is no tracker
-pub no_tracker_stops : (c : Contents) (state : Option (List ℕ)) (tracker : List ℕ)
-    (rows : Result Table Ending) (second ending : Ending)
-    → IfErr rows (EndsWithoutRows c state)
-    → ((t : Tracking) → IsTracker tracker t → IsPatternRefused tracker second)
-    → IfOk rows (λ t. ending ≡ second) → IfErr rows (λ e. ending ≡ e)
-    → IsReadableOver c state tracker → IsPatternRefused tracker ending
-no_tracker_stops c state tracker (Ok t) second ending none pattern ok err readable =
-    subst (IsPatternRefused tracker) (sym ok) (pattern readable.2.0 readable.2.1)
-no_tracker_stops c state tracker (Err e) second ending none pattern ok err readable =
-    subst (IsPatternRefused tracker) (sym err)
-    (lacks_memory tracker e (none.only readable.0 readable.1))
-
--- the texts that were lent are those that were read
-pub indices_stop : (t : List ArchWords) (x : Texts) (c : Contents)
-    (r : Result (String Global) Ending) (packages sources : List ℕ) (state : Option (List ℕ))
-    (tracker : List ℕ)
-    → packages ≡ x.packages → sources ≡ x.sources → state ≡ x.state → tracker ≡ x.tracker
-    → ((a : Contents) → IsArchive t (lines_of packages) (lines_of sources) a → c ≡ a)
-    → IfErr r (λ ending. IsReadableOver c state tracker → IsPatternRefused tracker ending)
-    → IfErr r (λ ending. AreReadableWith t x → IsPatternRefused x.tracker ending)
-indices_stop t x c (Ok text) packages sources state tracker p s st tr same only = tt
-indices_stop t x c (Err e) packages sources state tracker p s st tr same only = λ readable.
-    let is = subst (λ l. IsArchive t (lines_of packages) (lines_of l) readable.0) (sym s)
-    (subst (λ l. IsArchive t (lines_of l) (lines_of x.sources) readable.0) (sym p) readable.1) in
-    let over = subst (λ l. IsReadableOver readable.0 state l) (sym tr)
-    (subst (λ l. IsReadableOver readable.0 l x.tracker) (sym st) readable.2) in
-    subst (λ l. IsPatternRefused l e) tr
-    (only (subst (λ a. IsReadableOver a state tracker) (sym (same readable.0 is)) over))
-
-pub no_indices : (t : List ArchWords) (x : Texts) (ending : Ending) (packages sources : List ℕ)
-    → packages ≡ x.packages → sources ≡ x.sources
-    → ((a : Contents) → IsArchive t (lines_of packages) (lines_of sources) a → ending ≡ NoMemory)
-    → AreReadableWith t x → IsPatternRefused x.tracker ending
-no_indices t x ending packages sources p s only readable =
-    lacks_memory x.tracker ending (only readable.0
-    (subst (λ l. IsArchive t (lines_of packages) (lines_of l) readable.0) (sym s)
-    (subst (λ l. IsArchive t (lines_of l) (lines_of x.sources) readable.0) (sym p) readable.1)))
-
-pub texts_stop : (t : List ArchWords) (x : Texts) (r : Result (String Global) Ending)
-    (archs : List ℕ) → archs ≡ x.archs → ((u : List ArchWords) → IsTable (lines_of archs) u → t ≡ u)
-    → IfErr r (λ ending. AreReadableWith t x → IsPatternRefused x.tracker ending)
-    → IfErr r (λ ending. AreReadable x → IsPatternRefused x.tracker ending)
-texts_stop t x (Ok text) archs a same only = tt
-texts_stop t x (Err e) archs a same only = λ readable.
-    let (c, whole, over) = readable in
-    let one = same c.table (subst (λ l. IsTable (lines_of l) c.table) (sym a) whole.is_table) in
-    only (
-      c,
-      subst (λ u. IsArchive u (lines_of x.packages) (lines_of x.sources) c)
-          (sym one) whole.is_archive,
-      over,
-    )
-
-pub no_table : (x : Texts) (ending : Ending) (archs : List ℕ) → archs ≡ x.archs
-    → ((u : List ArchWords) → IsTable (lines_of archs) u → ending ≡ NoMemory) → AreReadable x
-    → IsPatternRefused x.tracker ending
-no_table x ending archs a only readable =
-    let (c, whole, over) = readable in
-    lacks_memory x.tracker ending
-    (only c.table (subst (λ l. IsTable (lines_of l) c.table) (sym a) whole.is_table))
 
 -- ---- known files
 
@@ -186,7 +106,7 @@ unread_told Says files x old new role text_fault.NotText failed kept known =
     absurd (no_such_text files role x failed known)
 unread_told Says files x old new role text_fault.NoMemory failed kept known = kept
 
-pub ends_unread : (Says : Saying) (files : TrackFiles) (f : FileFault) (old new : Option (List ℕ))
+ends_unread : (Says : Saying) (files : TrackFiles) (f : FileFault) (old new : Option (List ℕ))
     (ending : Ending) → HasFailedAt files f → ending ≡ ending_of_file f.role f.fault → Keeps old new
     → EndsSo Says files old new ending
 ends_unread Says files f old new ending failed is kept = record {
@@ -217,28 +137,40 @@ told_none Says x (tracker_fault.BadPattern place) old new bad kept =
 told_none Says x (tracker_fault.MissingKey key) old new bad kept = absurd bad
 told_none Says x tracker_fault.NoMemory old new bad kept = kept
 
-pub ends_read : (Says : Saying) (files : TrackFiles) (x : Texts) (r : Result (String Global) Ending)
-    (old new : Option (List ℕ)) (ending : Ending) → AreTextsOf files x
-    → IfOk r (λ text. TextsSayIt Says x (string_bytes text)) → IfErr r (OrMemory (AreRefused x))
-    → IfErr r (λ e. AreReadable x → IsPatternRefused x.tracker e)
+-- ---- by what was read
+
+pub tells_texts : (Says : Saying) (x : Texts) (r : Result (String Global) Ending)
+    (old new : Option (List ℕ)) (ending : Ending) → Tells Says x r
     → IfOk r (λ text. WritesSo (string_bytes text) old new ending)
-    → IfErr r (λ e. EndsUnwritten e old new ending) → EndsSo Says files old new ending
-ends_read Says files x (Ok text) old new ending texts says refused only writes unwritten = record {
-  says = inr (inr (x, texts, inr (string_bytes text, says, writes)));
-  only = λ y known readable.
-      subst (λ z. EndsTold Says z old new ending) (sym (same_texts files y x known texts))
-      (told_whole Says x (string_bytes text) old new ending says writes);
+    → IfErr r (λ e. EndsUnwritten e old new ending) → TellsTexts Says x old new ending
+tells_texts Says x (Ok text) old new ending tells writes unwritten = record {
+  says = inr (inr (string_bytes text, tells.found, writes));
+  only = λ readable. told_whole Says x (string_bytes text) old new ending tells.found writes;
 }
-ends_read Says files x (Err e) old new ending texts says refused only writes unwritten = record {
-  says = elim refused [
-    | inl bad ↦
-        inr (inr (x, texts, inl (subst (AreRefused x) (sym unwritten.ends) bad, unwritten.kept)))
+tells_texts Says x (Err e) old new ending tells writes unwritten = record {
+  says = elim tells.refused [
+    | inl bad ↦ inr (inl (subst (AreRefused x) (sym unwritten.ends) bad, unwritten.kept))
     | inr memory ↦ inl (unwritten.ends ∙ memory, unwritten.kept)
   ];
-  only = λ y known readable.
-      let same = same_texts files y x known texts in
-      let stopped = only (subst AreReadable same readable) in
-      subst (λ z. EndsTold Says z old new ending) (sym same)
-      (subst (EndsTold Says x old new) (sym (unwritten.ends ∙ stopped.2))
-      (told_none Says x stopped.0 old new stopped.1 unwritten.kept));
+  only = λ readable.
+      let stopped = tells.only readable in
+      subst (EndsTold Says x old new) (sym (unwritten.ends ∙ stopped.2))
+      (told_none Says x stopped.0 old new stopped.1 unwritten.kept);
 }
+
+pub ends_so : (Says : Saying) (files : TrackFiles) (old new : Option (List ℕ))
+    (r : Result TrackTexts FileFault) (ending : Ending) → IfOk r (AreTextsRead files)
+    → IfErr r (HasFailedAt files) → IfOk r (λ x. TellsTexts Says (texts_of x) old new ending)
+    → IfErr r (λ f. FileUnread f old new ending) → EndsSo Says files old new ending
+ends_so Says files old new (Ok read) ending texts failed tells unread = record {
+  says = elim tells.says [
+    | inl lacks ↦ inl lacks
+    | inr ends ↦ inr (inr (texts_of read, texts, ends))
+  ];
+  only = λ y known readable.
+      let same = same_texts files y (texts_of read) known texts in
+      subst (λ z. EndsTold Says z old new ending) (sym same)
+      (tells.only (subst AreReadable same readable));
+}
+ends_so Says files old new (Err f) ending texts failed tells unread =
+    ends_unread Says files f old new ending failed unread.ends unread.kept

@@ -1,14 +1,15 @@
 -- A run ends as it says, and a script over readable texts is answered.
 use Rattle.std.proofs.Common.{◌≡◌, ℕ, ◌==◌, List, Option, Bool, true, false, Result, Ok, Err}
-use Rattle.std.proofs.Common.{if◌then◌else◌, inl, inr, refl, sym, ap, subst, ◌∙◌}
+use Rattle.std.proofs.Common.{IfOk, IfErr, if◌then◌else◌, inl, inr, refl, sym, ap, subst, ◌∙◌}
 use Rattle.std.specs.Io.KnownBytes.{Keeps}
 use Rattle.td_bytes.specs.declared.text.TextFault.{TextFault}
 use Rattle.td_bytes.specs.declared.text.TextFault.TheVariants as text_fault
 use Rattle.td_query.specs.declared.tracker_fault.TrackerFault.{TrackerFault}
 use Rattle.td_query.specs.declared.tracker_fault.TrackerFault.TheVariants as tracker_fault
 use Rattle.std.specs.Prelude.{MatchBool}
-use Rattle.td_script.specs.Ends.{Only}
-use Rattle.td_crew.specs.CrewEnds.{CrewOnly, CrewSays}
+use Rattle.td_script.specs.Ends.{Only, Says}
+use Rattle.td_script.specs.declared.inputs.Inputs.{Inputs}
+use Rattle.td_crew.specs.CrewEnds.{CrewOnly, CrewSays, outcomes_of}
 use Rattle.td_crew.specs.CrewText.{crew_tells}
 use Rattle.td_crew.specs.declared.running.CrewFault.{CrewFault}
 use Rattle.td_crew.specs.declared.running.CrewFault.TheVariants as crew
@@ -18,16 +19,19 @@ use Rattle.td_script.specs.declared.running.RunFault.TheVariants as stopped
 use Rattle.td_script.specs.declared.running.ScriptEnd.{ScriptEnd}
 use Rattle.td_script.specs.declared.input_fault.InputFault.TheVariants as form
 use Rattle.td_tool.specs.declared.file_texts.FileFault.{FileFault}
+use Rattle.td_tool.specs.declared.run_files.RunTexts.{RunTexts}
 use Rattle.td_script.specs.declared.role.Role.{Role}
 use Rattle.td_script.specs.declared.role.Role.TheVariants.{Input, Archs, Packages, Sources, State}
 use Rattle.td_script.specs.declared.role.Role.TheVariants.{Tracker, Outcomes, Journal}
 use Rattle.td_tool.specs.declared.ending.Ending.{Ending}
-use Rattle.td_tool.specs.declared.ending.Ending.TheVariants.{Done, Refused}
+use Rattle.td_tool.specs.declared.ending.Ending.TheVariants.{Done, Refused, NoMemory}
 use Rattle.td_tool.specs.Ending.{ending_of_file, ending_of_form, ending_of_stop}
 use Rattle.td_tool.specs.Runs.{AreKnownTexts, AreTextsOf, EndsRun, FailsAt, MayEnd, OnlyCrewEnds}
-use Rattle.td_tool.specs.Runs.{OnlyEnds, OnlyPlayEnds, PlayEnds, RunFiles, Texts, ending_of_crew}
-use Rattle.td_tool.specs.Runs.{ending_of_script, outcome_lines, script_texts}
-use Rattle.td_tool.specs.RunInside.{HasRunFailed}
+use Rattle.td_tool.specs.Runs.{OnlyEnds, OnlyPlayEnds, RunFiles, Texts, ending_of_crew}
+use Rattle.td_tool.specs.Runs.{crew_size, ending_of_script, outcome_lines, script_texts}
+use Rattle.td_tool.specs.CheckInside.{EndsUnwritten, FileUnread}
+use Rattle.td_tool.specs.RunInside.{AreInputsOf, AreRunTexts, HasRunFailed, Plays, PlaysInputs}
+use Rattle.td_tool.specs.RunInside.{PlaysTexts, run_texts_of}
 use Rattle.td_tool.proofs.Sure.{given_same, given_text, known_same, one_text}
 
 -- ---- a script over readable texts
@@ -72,7 +76,7 @@ script_ends x known (Ok end) only = λ text is fits readable. answered x.tracker
 script_ends x known (Err e) only = stop_ends x known e only
 
 -- the texts that the script was given are these
-pub script_only : (x y : script.Texts) (known : Option (List ℕ)) (r : Result ScriptEnd RunFault)
+script_only : (x y : script.Texts) (known : Option (List ℕ)) (r : Result ScriptEnd RunFault)
     (ending : Ending) → y ≡ x → Only y known r → ending ≡ ending_of_script r
     → OnlyEnds x known ending
 script_only x y known r ending same only is =
@@ -92,7 +96,7 @@ crew_ends x lines known (Err (crew.Run e)) only =
 crew_ends x lines known (Err (crew.BadOutcome n)) only =
     λ text is fits read readable. absurd (only.read text is fits read readable)
 
-pub crew_only : (x y : script.Texts) (lines given : List (List ℕ)) (known : Option (List ℕ))
+crew_only : (x y : script.Texts) (lines given : List (List ℕ)) (known : Option (List ℕ))
     (r : Result ScriptEnd CrewFault) (ending : Ending) → y ≡ x → given ≡ lines
     → CrewOnly y given known r → ending ≡ ending_of_crew r → OnlyCrewEnds x lines known ending
 crew_only x y lines given known r ending same its only is =
@@ -100,7 +104,7 @@ crew_only x y lines given known r ending same its only is =
     (crew_ends x lines known r
     (subst (λ l. CrewOnly x l known r) its (subst (λ z. CrewOnly z given known r) same only)))
 
-pub crew_says : (n m : ℕ) (x y : script.Texts) (lines given : List (List ℕ))
+crew_says : (n m : ℕ) (x y : script.Texts) (lines given : List (List ℕ))
     (known old new : Option (List ℕ)) (r : Result ScriptEnd CrewFault) → m ≡ n → y ≡ x
     → given ≡ lines → CrewSays (crew_tells m) y given known old new r
     → CrewSays (crew_tells n) x lines known old new r
@@ -108,6 +112,44 @@ crew_says n m x y lines given known old new r crew same its says =
     subst (λ k. CrewSays (crew_tells k) x lines known old new r) crew
     (subst (λ l. CrewSays (crew_tells m) x l known old new r) its
     (subst (λ z. CrewSays (crew_tells m) z given known old new r) same says))
+
+-- ---- by the inputs
+
+pub plays_alone : (n : ℕ) (x : Texts) (suite : List ℕ) (inputs : Inputs)
+    (known old new : Option (List ℕ)) (r : Result ScriptEnd RunFault) (ending : Ending) → n ≡ 0
+    → AreInputsOf x suite n inputs → Says (script.texts_of inputs) known old new r
+    → Only (script.texts_of inputs) known r → ending ≡ ending_of_script r
+    → Plays n x suite known old new ending
+plays_alone n x suite inputs known old new r ending zero are says only is =
+    subst (λ m. Plays m x suite known old new ending) (sym zero)
+    (record {
+      says = (r, subst (λ y. Says y known old new r) are.texts says, is);
+      only = script_only (script_texts x suite) (script.texts_of inputs) known r ending are.texts
+          only is;
+    })
+
+pub plays_crew : (n : ℕ) (x : Texts) (suite : List ℕ) (inputs : Inputs)
+    (known old new : Option (List ℕ)) (r : Result ScriptEnd CrewFault) (ending : Ending)
+    → (n == 0) ≡ false → AreInputsOf x suite n inputs
+    → CrewSays (crew_tells inputs.builders) (script.texts_of inputs) (outcomes_of inputs) known old
+    new r
+    → CrewOnly (script.texts_of inputs) (outcomes_of inputs) known r → ending ≡ ending_of_crew r
+    → Plays n x suite known old new ending
+plays_crew n x suite inputs known old new r ending some are says only is =
+    record {
+      says =
+          rw some (
+            r,
+            crew_says (crew_size n) inputs.builders (script_texts x suite) (script.texts_of inputs)
+                (outcome_lines x) (outcomes_of inputs) known old new r are.crew are.texts
+                are.outcomes says,
+            is,
+          );
+      only =
+          rw some
+          (crew_only (script_texts x suite) (script.texts_of inputs) (outcome_lines x)
+          (outcomes_of inputs) known r ending are.texts are.outcomes only is);
+    }
 
 -- whoever answers
 pub play_only : (n : ℕ) (x : Texts) (suite : List ℕ) (known : Option (List ℕ)) (ending : Ending)
@@ -176,7 +218,7 @@ unread_ends files x role text_fault.NotText failed known =
     absurd (no_such_text files role x failed known)
 unread_ends files x role text_fault.NoMemory failed known = tt
 
-pub run_unread : (files : RunFiles) (suite : List ℕ) (f : FileFault)
+run_unread : (files : RunFiles) (suite : List ℕ) (f : FileFault)
     (known old new : Option (List ℕ)) (ending : Ending) → HasRunFailed files f
     → ending ≡ ending_of_file f.role f.fault → Keeps old new
     → EndsRun files suite known old new ending
@@ -186,11 +228,32 @@ run_unread files suite f known old new ending failed is kept = record {
       (subst (MayEnd x.tracker) (sym is) (unread_ends files x f.role f.fault failed files-are));
 }
 
-pub run_played : (files : RunFiles) (suite : List ℕ) (x : Texts) (known old new : Option (List ℕ))
-    (ending : Ending) → AreTextsOf files x → PlayEnds files.builders x suite known old new ending
-    → OnlyPlayEnds files.builders x suite known ending → EndsRun files suite known old new ending
-run_played files suite x known old new ending texts ends only = record {
-  says = inr (inr (x, texts, ends));
-  only = λ y files-are. subst (λ z. OnlyPlayEnds files.builders z suite known ending)
-      (sym (same_texts files y x files-are texts)) only;
+-- memory may be wanting for the inputs
+pub texts_played : {E : Type 0} (n : ℕ) (x : Texts) (suite : List ℕ)
+    (known old new : Option (List ℕ)) (r : Result Inputs E) (ending : Ending)
+    → IfOk r (AreInputsOf x suite n) → IfOk r (λ i. PlaysInputs n i known old new ending)
+    → IfErr r (λ e. EndsUnwritten NoMemory old new ending)
+    → PlaysTexts n x suite known old new ending
+texts_played n x suite known old new (Ok inputs) ending are plays lacks =
+    let played = plays x suite are in
+    record { says = inr played.says; only = played.only }
+texts_played n x suite known old new (Err e) ending are plays lacks = record {
+  says = inl (lacks.ends, lacks.kept);
+  only = play_only n x suite known ending (subst (MayEnd x.tracker) (sym lacks.ends) tt);
 }
+
+pub run_ends : (files : RunFiles) (suite : List ℕ) (known old new : Option (List ℕ))
+    (r : Result RunTexts FileFault) (ending : Ending) → IfOk r (AreRunTexts files)
+    → IfErr r (HasRunFailed files)
+    → IfOk r (λ x. PlaysTexts files.builders (run_texts_of x) suite known old new ending)
+    → IfErr r (λ f. FileUnread f old new ending) → EndsRun files suite known old new ending
+run_ends files suite known old new (Ok read) ending texts failed plays unread = record {
+  says = elim plays.says [
+    | inl lacks ↦ inl lacks
+    | inr ends ↦ inr (inr (run_texts_of read, texts, ends))
+  ];
+  only = λ y files-are. subst (λ z. OnlyPlayEnds files.builders z suite known ending)
+      (sym (same_texts files y (run_texts_of read) files-are texts)) plays.only;
+}
+run_ends files suite known old new (Err f) ending texts failed plays unread =
+    run_unread files suite f known old new ending failed unread.ends unread.kept

@@ -1,8 +1,10 @@
 -- What is said of an ending where an explanation is asked for. This project's own.
-use Rattle.std.specs.Prelude.{◌≡◌, ℕ, Bool, true, false, List, [], ◌++◌, Option, Some, None, IfSome}
-use Rattle.std.specs.Prelude.{String, option_and_then, string_bytes}
+use Rattle.std.specs.Prelude.{◌≡◌, ◌⊎◌, ℕ, Bool, true, false, List, [], ◌++◌, Option, Some, None}
+use Rattle.std.specs.Prelude.{IfSome, IsSome, IsSomeAnd, String, option_and_then, string_bytes}
 use Rattle.std.specs.declared.alloc.Global.{Global}
+use Rattle.std.specs.Io.KnownBytes.{Appends}
 use Rattle.td_bytes.specs.Pieces.{AppendsPrefix}
+use Rattle.td_bytes.specs.declared.text.TextFault.{TextFault}
 use Rattle.td_explain.specs.declared.spot.Place.{Place}
 use Rattle.td_explain.specs.declared.spot.Place.TheVariants.{Whole, Line, Stanza, Byte}
 use Rattle.td_explain.specs.Explanation.{explanation}
@@ -18,9 +20,13 @@ use Rattle.td_script.specs.declared.role.Role.{Role}
 use Rattle.td_script.specs.declared.role.Role.TheVariants.{Input, Archs, Packages, Sources, State}
 use Rattle.td_script.specs.declared.role.Role.TheVariants.{Tracker, Outcomes, Journal}
 use Rattle.td_tool.specs.declared.input_fault.InputFault.{InputFault}
+use Rattle.td_tool.specs.declared.input_fault.InputFault.TheVariants.{Simulation}
+use Rattle.td_tool.specs.declared.ending.Ended.{Ended}
 use Rattle.td_tool.specs.declared.ending.Ending.{Ending}
 use Rattle.td_tool.specs.declared.ending.Ending.TheVariants.{Done, Refused, BadInput, NoMemory}
 use Rattle.td_tool.specs.declared.ending.Ending.TheVariants.{CannotRead, CannotWrite}
+use Rattle.td_tool.specs.declared.explaining.Unexplained.{Unexplained}
+use Rattle.td_tool.specs.declared.explaining.Unexplained.TheVariants as unexplained
 
 -- ---- 1. the texts that may be refused
 
@@ -153,6 +159,11 @@ ExplainsFile known role fault line =
 abbrev pub IsKept : (Role → Option (List ℕ)) → Option (String Global) → Type 0
 IsKept known input = IfSome input (λ kept. IfSome (known Input) (λ all. all ≡ string_bytes kept))
 
+-- the text of a simulation is kept where it is refused as one
+abbrev pub IsTextKept : Ending → Option (String Global) → Type 0
+IsTextKept (BadInput role (Simulation e)) input = IsSome input
+IsTextKept ending input = Unit {0}
+
 -- what is said of an ending: its line, and behind it the explanation where that is asked for; of
 -- both a front where standard error, memory or another read fails
 abbrev pub SaysOf : Bool → (Role → Option (List ℕ)) → Ending → Option (List ℕ) → Option (List ℕ)
@@ -161,3 +172,53 @@ SaysOf false known ending said_before said = AppendsPrefix said_before said (lin
 SaysOf true known ending said_before said =
     (text : List ℕ) × IsTextFor ending known text
     × AppendsPrefix said_before said (line_of ending ++ explanation_of ending text)
+
+-- ---- 3. whether all of it is said
+
+-- no text of this role is at hand: of standard input none was kept, of a file there is no path
+abbrev pub HasNoText : Role → Option (String Global) → Request → Type 0
+HasNoText Input input request = input ≡ None
+HasNoText role input request = paths_of request role ≡ None
+
+-- the place is one in a text, and that isn't at hand
+abbrev pub IsUnseen : Place → Role → Option (String Global) → Request → Type 0
+IsUnseen Whole role input request = ⊥
+IsUnseen place role input request = HasNoText role input request
+
+-- there is no explanation to say: no text is refused, or that which is isn't at hand
+abbrev pub HasNone : Ending → Option (String Global) → Request → Type 0
+HasNone (BadInput role fault) input request = IsUnseen (place_of fault) role input request
+HasNone ending input request = Unit {0}
+
+-- all is said: the line of the ending, and behind it, where that is asked for, the explanation, or
+-- nothing where there is none
+abbrev pub SaysAll : Bool → (Role → Option (List ℕ)) → Ended → Request → Option (List ℕ)
+    → Option (List ℕ) → Type 0
+SaysAll false known ended request said_before said =
+    Appends said_before said (line_of ended.ending)
+SaysAll true known ended request said_before said =
+    ((text : List ℕ) × IsTextFor ended.ending known text
+    × Appends said_before said (line_of ended.ending ++ explanation_of ended.ending text))
+    ⊎ (HasNone ended.ending ended.input request × Appends said_before said (line_of ended.ending))
+
+-- why a line isn't made from a file: memory is wanting, or a read of it may fail so
+abbrev pub FailsAgain : (TextFault → Bool) → Unexplained → Type 0
+FailsAgain can_fail (unexplained.Unread why) = can_fail why ≡ true
+FailsAgain can_fail unexplained.NoMemory = Unit {0}
+FailsAgain can_fail unexplained.CannotWrite = ⊥
+
+-- the same of a file that has this path
+abbrev pub FailsFor : (List ℕ → TextFault → Bool) → Option (List ℕ) → Unexplained → Type 0
+FailsFor can_fail path (unexplained.Unread why) = IsSomeAnd path (λ p. can_fail p why ≡ true)
+FailsFor can_fail path unexplained.NoMemory = Unit {0}
+FailsFor can_fail path unexplained.CannotWrite = ⊥
+
+-- the same of the refused text, and of nothing else
+abbrev pub FailsOf : (List ℕ → TextFault → Bool) → Request → Ending → Unexplained → Type 0
+FailsOf can_fail request (BadInput role fault) e = FailsFor can_fail (paths_of request role) e
+FailsOf can_fail request ending e = ⊥
+
+-- the bytes of a line, where there is one
+abbrev pub line_if : Option (String Global) → List ℕ
+line_if None = []
+line_if (Some line) = string_bytes line

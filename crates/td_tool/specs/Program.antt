@@ -13,17 +13,16 @@ use Rattle.td_words.specs.declared.request.Request.TheVariants.{Simulate, Check,
 use Rattle.td_words.specs.declared.request.WordsFault.{WordsFault}
 use Rattle.td_words.specs.declared.request.WordsFault.TheVariants as words_fault
 use Rattle.td_report.specs.Transition.{IsReport, IsWaves}
-use Rattle.td_words.specs.Asked.{run_words, track_words}
-use Rattle.td_words.specs.CommandLine.{AskFor, TrackWords, is_explained, options_of}
+use Rattle.td_words.specs.Asked.{Asks, request_words, run_words, track_words}
+use Rattle.td_words.specs.CommandLine.{TrackWords, is_explained, options_of}
 use Rattle.td_tool.specs.declared.ending.Ending.{Ending}
 use Rattle.td_tool.specs.declared.ending.Ending.TheVariants.{NoMemory}
 use Rattle.td_tool.specs.Ending.{line_of}
 use Rattle.td_tool.specs.Ends.{Ends}
-use Rattle.td_tool.specs.Checks.{Checks, archive_files_at, files_of}
+use Rattle.td_tool.specs.Checks.{Checks, archive_files_at}
 use Rattle.td_tool.specs.Tracks.{EndsSo, TrackFiles, track_files}
-use Rattle.td_tool.specs.Runs.{EndsRun, RunFiles, run_files_asked}
-use Rattle.td_tool.specs.Explained.{archive_paths, known_at, known_input, known_of_request}
-use Rattle.td_script.specs.declared.role.Role.{Role}
+use Rattle.td_tool.specs.Runs.{EndsRun, run_files_asked}
+use Rattle.td_tool.specs.Explained.{known_of_request}
 use Rattle.td_tool.specs.Ran.{Ran}
 
 -- ---- 1. words that ask for nothing
@@ -69,13 +68,6 @@ TellsSome said_before said status =
 
 -- ---- 2. words that ask for a subcommand
 
--- nothing is wrong with the words, and they name one of the subcommands
-abbrev pub AsksForOne : List (List ℕ) → Type 0
-AsksForOne words =
-    AskFor (codes "simulate") words
-    ⊎ (AskFor (codes "check") words
-    ⊎ (AskFor (codes "track") words ⊎ (AskFor (codes "waves") words ⊎ AskFor (codes "run") words)))
-
 -- whether the words that were given want an explanation
 abbrev pub are_explained : {E : Type 0} → Result (Vec (String Global) Global) E → Bool
 are_explained (Ok given) = is_explained (options_of (map string_bytes given.items))
@@ -111,28 +103,12 @@ RanFor request explained known bytes can_fail old new said_before said status =
     Ran (EndsFor request known bytes can_fail old new) explained
     (known_of_request request known bytes) said_before said status
 
--- a simulation ran, or a check of some three files, or what a tracker says of some files was told,
--- or a script ran over some files
-abbrev pub RanOne : Bool → Option (List ℕ) → (List ℕ → Option (List ℕ))
-    → (List ℕ → TextFault → Bool) → Option (List ℕ) → Option (List ℕ) → Option (List ℕ)
-    → Option (List ℕ) → ℕ → Type 0
-RanOne explained known bytes can_fail old new said_before said status =
-    Ran (Ends known old new) explained (known_input known) said_before said status
-    ⊎ (((archs : List ℕ) × (packages : List ℕ) × (sources : List ℕ)
-    × Ran (Checks (files_of bytes can_fail archs packages sources) old new) explained
-    (known_at bytes (archive_paths archs packages sources)) said_before said status)
-    ⊎ (((files : TrackFiles) × (paths : Role → Option (List ℕ))
-    × (Ran (EndsSo IsReport files old new) explained (known_at bytes paths) said_before said status
-    ⊎ Ran (EndsSo IsWaves files old new) explained (known_at bytes paths) said_before said status))
-    ⊎ ((files : RunFiles) × (suite : List ℕ) × (paths : Role → Option (List ℕ))
-    × Ran (EndsRun files suite known old new) explained (known_at bytes paths) said_before said
-    status)))
-
--- they ran it; all else is told, and writes nothing
+-- they ask for this and it ran; all else is told, and writes nothing
 abbrev pub OnlyIfAsked : List (List ℕ) → Option (List ℕ) → (List ℕ → Option (List ℕ))
     → (List ℕ → TextFault → Bool) → Option (List ℕ) → Option (List ℕ) → Option (List ℕ)
     → Option (List ℕ) → ℕ → Type 0
 OnlyIfAsked words known bytes can_fail old new said_before said status =
-    (AsksForOne words × RanOne (is_explained (options_of words)) known bytes can_fail old new
-    said_before said status)
+    ((request : Request) × Asks words (request_words request)
+    × RanFor request (is_explained (options_of words)) known bytes can_fail old new said_before said
+    status)
     ⊎ (TellsSome said_before said status × Keeps old new)

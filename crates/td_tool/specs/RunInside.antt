@@ -1,5 +1,7 @@
 -- What the inner functions of `run` answer. This project's own.
-use Rattle.std.specs.Prelude.{◌≡◌, ℕ, ◌≤◌, Bool, List, Option, length, option_map, string_bytes}
+use Rattle.std.specs.Prelude.{◌≡◌, ◌⊎◌, ℕ, ◌≤◌, Bool, List, Option, length, option_map}
+use Rattle.std.specs.Prelude.{string_bytes}
+use Rattle.std.specs.Io.KnownBytes.{Keeps}
 use Rattle.td_bytes.specs.declared.text.TextFault.{TextFault}
 use Rattle.td_script.specs.Openings as script
 use Rattle.td_script.specs.declared.inputs.Inputs.{Inputs}
@@ -9,8 +11,10 @@ use Rattle.td_tool.specs.declared.file_texts.FileFault.{FileFault}
 use Rattle.td_tool.specs.declared.run_files.RunTexts.{RunTexts}
 use Rattle.td_tool.specs.Limits.{file_limit}
 use Rattle.td_crew.specs.CrewEnds.{outcomes_of}
-use Rattle.td_tool.specs.Runs.{AreTextsOf, FailsAt, RunFiles, Texts, crew_size, outcome_lines}
-use Rattle.td_tool.specs.Runs.{run_files_asked, script_texts}
+use Rattle.td_tool.specs.declared.ending.Ending.{Ending}
+use Rattle.td_tool.specs.declared.ending.Ending.TheVariants.{NoMemory}
+use Rattle.td_tool.specs.Runs.{AreTextsOf, FailsAt, OnlyPlayEnds, PlayEnds, RunFiles, Texts}
+use Rattle.td_tool.specs.Runs.{crew_size, outcome_lines, run_files_asked, script_texts}
 
 -- the files that are asked for
 abbrev pub run_files_at : (List ℕ → Option (List ℕ)) → (List ℕ → TextFault → Bool)
@@ -46,3 +50,22 @@ pub record AreInputsOf (x : Texts) (suite : List ℕ) (builders : ℕ) (inputs :
   pub texts : script.texts_of inputs ≡ script_texts x suite
   pub outcomes : outcomes_of inputs ≡ outcome_lines x
   pub crew : inputs.builders ≡ crew_size builders
+
+-- over these texts the run is played so, and ends as it may
+pub record Plays (n : ℕ) (x : Texts) (suite : List ℕ) (known old new : Option (List ℕ))
+    (ending : Ending) : Type 0 where
+  pub says : PlayEnds n x suite known old new ending
+  pub only : OnlyPlayEnds n x suite known ending
+
+-- so it is over whatever texts the inputs have
+abbrev pub PlaysInputs : ℕ → Inputs → Option (List ℕ) → Option (List ℕ) → Option (List ℕ) → Ending
+    → Type 0
+PlaysInputs n inputs known old new ending =
+    (x : Texts) (suite : List ℕ) → AreInputsOf x suite n inputs
+    → Plays n x suite known old new ending
+
+-- so it is over the texts that were read, or memory runs out and nothing is written
+pub record PlaysTexts (n : ℕ) (x : Texts) (suite : List ℕ) (known old new : Option (List ℕ))
+    (ending : Ending) : Type 0 where
+  pub says : ((ending ≡ NoMemory) × Keeps old new) ⊎ PlayEnds n x suite known old new ending
+  pub only : OnlyPlayEnds n x suite known ending

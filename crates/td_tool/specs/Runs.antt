@@ -124,14 +124,12 @@ script_texts x suite =
       suite = suite;
     }
 
--- over these texts a script ends so, which says what is written, and so does the run; or memory
--- runs out, and nothing is
+-- over these texts a script ends so, which says what is written, and so does the run
 abbrev pub ScriptEnds : Texts → List ℕ → Option (List ℕ) → Option (List ℕ) → Option (List ℕ)
     → Ending → Type 0
 ScriptEnds x suite known old new ending =
-    ((ending ≡ NoMemory) × Keeps old new)
-    ⊎ ((r : Result ScriptEnd RunFault) × Says (script_texts x suite) known old new r
-    × (ending ≡ ending_of_script r))
+    (r : Result ScriptEnd RunFault) × Says (script_texts x suite) known old new r
+    × (ending ≡ ending_of_script r)
 
 -- by how a crew's script ended: as a script, or refused for a line of the outcomes
 abbrev pub ending_of_crew : Result ScriptEnd CrewFault → Ending
@@ -147,15 +145,13 @@ outcome_lines x = ended (lines_of (unwrap_or x.outcomes []))
 abbrev pub crew_size : ℕ → ℕ
 crew_size n = min n 64
 
--- over these texts a crew's script ends so, and so does the run; or memory runs out, and nothing is
--- written
+-- over these texts a crew's script ends so, and so does the run
 abbrev pub CrewEnds : ℕ → Texts → List ℕ → Option (List ℕ) → Option (List ℕ) → Option (List ℕ)
     → Ending → Type 0
 CrewEnds n x suite known old new ending =
-    ((ending ≡ NoMemory) × Keeps old new)
-    ⊎ ((r : Result ScriptEnd CrewFault)
+    (r : Result ScriptEnd CrewFault)
     × CrewSays (crew_tells (crew_size n)) (script_texts x suite) (outcome_lines x) known old new r
-    × (ending ≡ ending_of_crew r))
+    × (ending ≡ ending_of_crew r)
 
 -- a script is answered by a clerk alone, or with builders by a crew
 abbrev pub PlayEnds : ℕ → Texts → List ℕ → Option (List ℕ) → Option (List ℕ) → Option (List ℕ)

@@ -1,30 +1,21 @@
 -- What `track` and `waves` leave on standard output, as they end. This project's own.
-use Rattle.std.specs.Prelude.{◌≡◌, ◌⊎◌, ℕ, Bool, true, List, length, Option, Some, None, option_map}
+use Rattle.std.specs.Prelude.{◌≡◌, ◌⊎◌, ℕ, Bool, true, List, [], length, Option, Some, None}
+use Rattle.std.specs.Prelude.{option_map}
 use Rattle.std.specs.Io.KnownBytes.{Appends, Keeps}
 use Rattle.td_bytes.specs.Pieces.{AppendsPrefix}
 use Rattle.td_bytes.specs.declared.text.TextFault.{TextFault}
-use Rattle.td_text.specs.Lines.{lines_of}
-use Rattle.td_relation.specs.Arch.{ArchWords}
-use Rattle.td_relation.specs.TableFile.{IsTable}
-use Rattle.td_relation.specs.TableFile as table_file
-use Rattle.td_relation.specs.declared.archs.ArchsFault.{ArchsFault}
-use Rattle.td_rows.specs.Overlay.{first_missing}
-use Rattle.td_rows.specs.StateFile.{IsStateFile}
-use Rattle.td_rows.specs.StateFile as state_file
 use Rattle.td_rows.specs.Table.{Table}
-use Rattle.td_rows.specs.declared.key.Key.{Key}
-use Rattle.td_rows.specs.declared.state_file.StateFault.{StateFault}
 use Rattle.td_indices.specs.Archive.{Contents}
-use Rattle.td_indices.specs.Archive as archive_file
-use Rattle.td_indices.specs.declared.archive_fault.ArchiveFault.{ArchiveFault}
 use Rattle.td_query.specs.TrackerFaults as tracker_file
 use Rattle.td_query.specs.TrackerGrammar.{said_in}
 use Rattle.td_query.specs.Tracking.{IsTracker, Tracking}
 use Rattle.td_query.specs.declared.tracker_fault.TrackerFault.{TrackerFault}
-use Rattle.td_script.specs.Openings.{AreOpened, AreRowsOf}
+use Rattle.td_script.specs.Openings as script
+use Rattle.td_script.specs.Openings.{AreRowsOf}
 use Rattle.td_script.specs.declared.role.Role.{Role}
 use Rattle.td_script.specs.declared.role.Role.TheVariants.{Input, Archs, Packages, Sources, State}
 use Rattle.td_script.specs.declared.role.Role.TheVariants.{Tracker, Outcomes, Journal}
+use Rattle.td_script.specs.declared.input_fault.InputFault.{InputFault as FormFault}
 use Rattle.td_script.specs.declared.input_fault.InputFault.TheVariants as form
 use Rattle.td_tool.specs.declared.ending.Ending.{Ending}
 use Rattle.td_tool.specs.declared.ending.Ending.TheVariants.{Done, Refused, BadInput, NoMemory}
@@ -135,55 +126,25 @@ TextsSayIt Says x text =
 
 -- ---- 3. what is wrong
 
--- a text is no tracker, or `regex` refuses one of its patterns, and so it ends
-abbrev pub IsNoTracker : List ℕ → Ending → Type 0
-IsNoTracker text ending =
-    (e : TrackerFault) × tracker_file.FaultOf text e × (ending ≡ ending_of_form (form.Tracker e))
+-- the texts as a script has them, which has no journal here, and no suite
+abbrev pub as_script : Texts → script.Texts
+as_script x = record {
+  archs = x.archs;
+  packages = x.packages;
+  sources = x.sources;
+  state = x.state;
+  tracker = Some x.tracker;
+  journal = None;
+  suite = [];
+}
 
--- a text is no state file
-abbrev pub IsNoState : List ℕ → Ending → Type 0
-IsNoState text ending =
-    (e : StateFault) × state_file.FaultOf (lines_of text) e
-    × (ending ≡ ending_of_form (form.State e))
+-- a text has such a fault, and so it ends
+abbrev pub IsEndedBy : (FormFault → Type 0) → Ending → Type 0
+IsEndedBy Has ending = (e : FormFault) × Has e × (ending ≡ ending_of_form e)
 
--- a state file has a row that the archive hasn't
-abbrev pub LacksRow : Contents → List ℕ → Ending → Type 0
-LacksRow c text ending =
-    (opened : Table) × AreOpened c opened × ((given : Table) × IsStateFile (lines_of text) given
-    × ((k : Key) × (first_missing opened given ≡ Some k)
-    × (ending ≡ ending_of_form form.NoSuchRow)))
-
--- a state file is refused
-abbrev pub IsStateRefused : Contents → Option (List ℕ) → Ending → Type 0
-IsStateRefused c None ending = ⊥
-IsStateRefused c (Some text) ending = IsNoState text ending ⊎ LacksRow c text ending
-
--- what stands over an archive is refused: the rows before the tracker
-abbrev pub IsRefusedOver : Contents → Option (List ℕ) → List ℕ → Ending → Type 0
-IsRefusedOver c state tracker ending =
-    IsStateRefused c state ending
-    ⊎ ((rows : Table) × AreRowsOf c state rows × IsNoTracker tracker ending)
-
--- texts are refused: the table of architectures first, then the indices, then what stands over them
-abbrev pub IsNoTable : Texts → Ending → Type 0
-IsNoTable x ending =
-    (e : ArchsFault) × table_file.FaultOf (lines_of x.archs) e
-    × (ending ≡ ending_of_form (form.Table e))
-
--- the table is one, and with it the indices are no archive
-abbrev pub AreNoIndices : Texts → Ending → Type 0
-AreNoIndices x ending =
-    (t : List ArchWords) × IsTable (lines_of x.archs) t
-    × ((e : ArchiveFault) × archive_file.FaultOf t (lines_of x.packages) (lines_of x.sources) e
-    × (ending ≡ ending_of_form (form.Archive e)))
-
--- one of the texts is refused, and so it ends
+-- one of the texts is refused, as a script's are, and so it ends
 abbrev pub AreRefused : Texts → Ending → Type 0
-AreRefused x ending =
-    IsNoTable x ending
-    ⊎ (AreNoIndices x ending
-    ⊎ ((c : Contents) × IsArchiveOf x.archs x.packages x.sources c
-    × IsRefusedOver c x.state x.tracker ending))
+AreRefused x ending = IsEndedBy (script.IsRefused (as_script x)) ending
 
 -- ---- 4. how it ends
 
@@ -203,15 +164,9 @@ SaysSo Says files old new ending =
 
 -- ---- 5. what can't be refused
 
--- rows can be looked at over an archive, and a text is a tracker
-abbrev pub IsReadableOver : Contents → Option (List ℕ) → List ℕ → Type 0
-IsReadableOver c state tracker =
-    (rows : Table) × AreRowsOf c state rows × ((t : Tracking) × IsTracker tracker t)
-
 -- texts are an archive, rows for it and a tracker
 abbrev pub AreReadable : Texts → Type 0
-AreReadable x =
-    (c : Contents) × IsArchiveOf x.archs x.packages x.sources c × IsReadableOver c x.state x.tracker
+AreReadable x = script.AreReadable (as_script x)
 
 -- `regex` refuses a pattern of a tracker, or memory runs out, and so it ends
 abbrev pub IsPatternRefused : List ℕ → Ending → Type 0

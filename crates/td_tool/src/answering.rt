@@ -1,5 +1,5 @@
 //! The program: it does what its words ask for, and answers its status.
-ghost use Rattle.std.specs.Prelude.{◌≤◌, ℕ, List, length, map, IfSome, codes};
+ghost use Rattle.std.specs.Prelude.{◌≡◌, ◌≤◌, ℕ, List, length, map, IfSome, codes};
 ghost use Rattle.std.specs.Prelude.{string_bytes, None, IsOkAnd, IfOk, IfErr};
 ghost use Rattle.std.specs.IoError.{error_kind};
 ghost use Rattle.std.specs.Io.KnownBytes.{Keeps};
@@ -9,8 +9,9 @@ ghost use Rattle.td_words.specs.CommandLine.{AskForWaves, RunWords, TrackWords, 
 ghost use Rattle.td_words.specs.CommandLine.{options_of};
 ghost use Rattle.td_tool.specs.Ends.{Ends};
 ghost use Rattle.td_tool.specs.Checks.{Checks, files_of};
-ghost use Rattle.td_tool.specs.Explained.{IsKept, archive_paths, known_at, known_input};
-ghost use Rattle.td_tool.specs.Explained.{known_of_request, run_paths, track_paths, waves_paths};
+ghost use Rattle.td_tool.specs.Explained.{IsKept, IsTextKept, archive_paths, known_at};
+ghost use Rattle.td_tool.specs.Explained.{known_input, known_of_request, run_paths, track_paths};
+ghost use Rattle.td_tool.specs.Explained.{waves_paths};
 ghost use Rattle.td_tool.specs.Limits.{input_limit};
 ghost use Rattle.td_tool.specs.Ran.{Ran};
 ghost use Rattle.td_tool.specs.Program.{EndsFor, IsTold, OnlyIfAsked, RanFor, TellsFault};
@@ -77,6 +78,7 @@ fn do_request<T: Texts + Sync, R: Read, W: Write>(
     ensures kept { IsKept
         (known_of_request request.now (R.remaining reader.old) (T.bytes texts.now)) result.input }
     ensures short { IfSome result.input (λ kept. length (string_bytes kept) ≤ input_limit) }
+    ensures text { request.now ≡ Request.Simulate → IsTextKept result.ending result.input }
 {
     match request {
         Request::Simulate => read_and_play(alloc, reader, output),

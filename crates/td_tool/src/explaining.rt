@@ -1,10 +1,16 @@
 //! The explanation of a refusal: a second line on standard error, where one is asked for.
-ghost use Rattle.std.specs.Prelude.{◌≡◌, ◌≤◌, ◌<◌, ◌^◌, ℕ, List, Option, true, IfSome, length};
+ghost use Rattle.std.specs.Prelude.{◌≡◌, ◌⊎◌, ◌≤◌, ◌<◌, ◌^◌, ℕ, List, Option, Some, None, Ok, Err};
+ghost use Rattle.std.specs.Prelude.{IfOk, IfErr, IfSome, MatchResult, OnOk, length};
 ghost use Rattle.std.specs.Prelude.{option_copied, option_map, string_bytes};
+ghost use Rattle.std.specs.Io.KnownBytes.{Appends, Keeps};
+ghost use Rattle.std.specs.Result.{ForOk};
+ghost use Rattle.td_bytes.specs.Pieces.{AppendsPrefix};
 ghost use Rattle.td_tool.specs.Ending.{status_of};
-ghost use Rattle.td_tool.specs.Explained.{Explains, ExplainsFile, IsKept, SaysOf, archive_paths};
-ghost use Rattle.td_tool.specs.Explained.{explanation_of, known_of_request, paths_of};
-ghost use Rattle.td_tool.specs.Limits.{input_limit};
+ghost use Rattle.td_tool.specs.Explained.{Explains, ExplainsFile, FailsAgain, FailsFor, FailsOf};
+ghost use Rattle.td_tool.specs.Explained.{HasNoText, HasNone, IsKept, SaysAll, SaysOf};
+ghost use Rattle.td_tool.specs.Explained.{archive_paths, explanation_of, known_of_request, line_if};
+ghost use Rattle.td_tool.specs.Explained.{paths_of};
+ghost use Rattle.td_tool.specs.Limits.{file_limit, input_limit};
 
 use crate::ending::{Ended, Ending};
 use crate::file_texts::FILE_LIMIT;
@@ -14,10 +20,19 @@ use crate::texts::Texts;
 use crate::wanted::wanted;
 use std::alloc::Global;
 use std::io::Write;
-use td_bytes::write_whole;
+use td_bytes::{TextFault, write_whole};
 use td_explain::{Place, explain};
 use td_script::Role;
 use td_words::{ArchivePaths, Request};
+
+/// Why a refusal isn't explained.
+#[derive(Clone, Copy, Drop)]
+pub enum Unexplained {
+    /// Its file isn't read again.
+    Unread(TextFault),
+    NoMemory,
+    CannotWrite,
+}
 
 // The path of the table or of an index, of those of an archive.
 fn archive_path(role: Role, files: &ArchivePaths) -> Option<&String>
@@ -60,14 +75,40 @@ fn path_of(request: &Request, role: Role) -> Option<&String>
 }
 
 // The line of a fault in the text.
-fn explain_text(alloc: Global, role: Role, fault: InputFault, text: &str) -> Option<String>
+fn explain_text(
+    alloc: Global,
+    role: Role,
+    fault: InputFault,
+    text: &str,
+) -> Result<String, Unexplained>
     requires { length text.now < 2 ^ 63 }
-    ensures { IfSome result (λ line. string_bytes line
-        ≡ explanation_of (Ending.BadInput role fault) text.now) }
+    ensures { MatchResult result
+        (λ line. string_bytes line ≡ explanation_of (Ending.BadInput role fault) text.now)
+        (λ e. e ≡ Unexplained.NoMemory) }
 {
     match explain(alloc, role.label(), place_of(fault), wanted(fault), text) {
-        Ok(line) => Some(line),
-        Err(_) => None,
+        Ok(line) => Ok(line),
+        Err(_) => Err(Unexplained::NoMemory),
+    }
+}
+
+// The same, by what was read again of a file.
+fn explain_read(
+    alloc: Global,
+    role: Role,
+    fault: InputFault,
+    read: Result<String, TextFault>,
+) -> Result<String, Unexplained>
+    requires { ForOk read (λ text. length (string_bytes text) ≤ file_limit) }
+    ensures line { IfOk read (λ text. MatchResult result
+        (λ line. string_bytes line
+        ≡ explanation_of (Ending.BadInput role fault) (string_bytes text))
+        (λ e. e ≡ Unexplained.NoMemory)) }
+    ensures unread { IfErr read (λ why. result ≡ Err (Unexplained.Unread why)) }
+{
+    match read {
+        Ok(text) => explain_text(alloc, role, fault, text.as_str()),
+        Err(why) => Err(Unexplained::Unread(why)),
     }
 }
 
@@ -78,17 +119,16 @@ fn explain_file<T: Texts>(
     path: &String,
     role: Role,
     fault: InputFault,
-) -> Option<String>
-    ensures { IfSome result (λ line.
+) -> Result<String, Unexplained>
+    ensures line { IfOk result (λ line.
         ExplainsFile (T.bytes texts.now (string_bytes path.now)) role fault (string_bytes line)) }
+    ensures failed { IfErr result (FailsAgain (T.can_fail texts.now (string_bytes path.now))) }
 {
-    match texts.text(alloc, path.as_str(), FILE_LIMIT) {
-        Ok(text) => explain_text(alloc, role, fault, text.as_str()),
-        Err(_) => None,
-    }
+    let read = texts.text(alloc, path.as_str(), FILE_LIMIT);
+    explain_read(alloc, role, fault, read)
 }
 
-// The same where the fault has a place.
+// The same where the fault has a place; nothing where no text of its role is at hand.
 fn explain_place<T: Texts>(
     alloc: Global,
     role: Role,
@@ -96,69 +136,117 @@ fn explain_place<T: Texts>(
     input: &Option<String>,
     request: &Request,
     texts: &T,
-) -> Option<String>
+) -> Result<Option<String>, Unexplained>
     requires { IfSome input.now (λ text. length (string_bytes text) ≤ input_limit) }
-    ensures { (known : Option (List ℕ))
+    ensures line { (known : Option (List ℕ))
         → IsKept (known_of_request request.now known (T.bytes texts.now)) input.now
-        → IfSome result (λ line. ExplainsFile
+        → IfOk result (λ told. IfSome told (λ line. ExplainsFile
         (known_of_request request.now known (T.bytes texts.now) role) role fault
-        (string_bytes line)) }
+        (string_bytes line))) }
+    ensures none { IfOk result (λ told. told ≡ None → HasNoText role input.now request.now) }
+    ensures failed { IfErr result (FailsFor (T.can_fail texts.now) (paths_of request.now role)) }
 {
     match role {
         Role::Input => match input {
-            Some(text) => explain_text(alloc, role, fault, text.as_str()),
-            None => None,
+            Some(text) => some_line(explain_text(alloc, role, fault, text.as_str())),
+            None => Ok(None),
         },
         _ => match path_of(request, role) {
-            Some(path) => explain_file(alloc, texts, path, role, fault),
-            None => None,
+            Some(path) => some_line(explain_file(alloc, texts, path, role, fault)),
+            None => Ok(None),
         },
     }
 }
 
-// The line that explains how a run ended, where it was refused and memory suffices.
+// A line that there is.
+fn some_line(line: Result<String, Unexplained>) -> Result<Option<String>, Unexplained>
+    ensures ok { IfOk line (λ text. result ≡ Ok (Some text)) }
+    ensures err { IfErr line (λ e. result ≡ Err e) }
+{
+    match line {
+        Ok(line) => Ok(Some(line)),
+        Err(error) => Err(error),
+    }
+}
+
+// The line that explains how a run ended, where it was refused.
 fn explanation<T: Texts>(
     alloc: Global,
     ended: &Ended,
     request: &Request,
     texts: &T,
-) -> Option<String>
+) -> Result<Option<String>, Unexplained>
     requires { IfSome ended.now.input (λ text. length (string_bytes text) ≤ input_limit) }
-    ensures { (known : Option (List ℕ))
+    ensures line { (known : Option (List ℕ))
         → IsKept (known_of_request request.now known (T.bytes texts.now)) ended.now.input
-        → IfSome result (λ line. Explains
+        → IfOk result (λ told. IfSome told (λ line. Explains
         (known_of_request request.now known (T.bytes texts.now)) ended.now.ending
-        (string_bytes line)) }
+        (string_bytes line))) }
+    ensures none { IfOk result (λ told. told ≡ None
+        → HasNone ended.now.ending ended.now.input request.now) }
+    ensures failed { IfErr result (FailsOf (T.can_fail texts.now) request.now ended.now.ending) }
 {
     let Ending::BadInput(role, fault) = ended.ending else {
-        return None;
+        return Ok(None);
     };
     match place_of(fault) {
-        Place::Whole => explain_text(alloc, role, fault, ""),
+        Place::Whole => some_line(explain_text(alloc, role, fault, "")),
         _ => explain_place(alloc, role, fault, &ended.input, request, texts),
     }
 }
 
-// Writes the line of the ending, and behind it the explanation. What can't be written is left.
-fn tell_explained<T: Texts, E: Write>(
+// Writes the explanation, where there is one.
+fn put_explanation<E: Write>(
+    explanation: Result<Option<String>, Unexplained>,
+    faults: &mut E,
+) -> Result<(), Unexplained>
+    ensures line { IfOk explanation (λ told. MatchResult result
+        (λ _. Appends (E.contents faults.old) (E.contents faults.new) (line_if told))
+        (λ e. (e ≡ Unexplained.CannotWrite)
+        × AppendsPrefix (E.contents faults.old) (E.contents faults.new) (line_if told))) }
+    ensures none { IfErr explanation (λ e. (result ≡ Err e)
+        × Keeps (E.contents faults.old) (E.contents faults.new)) }
+{
+    let line = match explanation {
+        Ok(Some(line)) => line,
+        Ok(None) => return Ok(()),
+        Err(error) => return Err(error),
+    };
+    match write_whole(faults, line.as_bytes()) {
+        Ok(()) => Ok(()),
+        Err(_) => Err(Unexplained::CannotWrite),
+    }
+}
+
+// Writes the line of the ending, and behind it the explanation where one is asked for, or answers
+// why not all is written.
+fn say<T: Texts, E: Write>(
     alloc: Global,
+    explained: bool,
     ended: &Ended,
     request: &Request,
     texts: &T,
     faults: &mut E,
-)
+) -> Result<(), Unexplained>
     requires { IfSome ended.now.input (λ text. length (string_bytes text) ≤ input_limit) }
-    ensures { (known : Option (List ℕ))
+    ensures whole { (known : Option (List ℕ))
         → IsKept (known_of_request request.now known (T.bytes texts.now)) ended.now.input
-        → SaysOf true (known_of_request request.now known (T.bytes texts.now)) ended.now.ending
+        → OnOk result (SaysAll explained (known_of_request request.now known (T.bytes texts.now))
+        ended.now request.now (E.contents faults.old) (E.contents faults.new)) }
+    ensures failed { IfErr result (λ e. (e ≡ Unexplained.CannotWrite)
+        ⊎ FailsOf (T.can_fail texts.now) request.now ended.now.ending e) }
+    ensures front { (known : Option (List ℕ))
+        → IsKept (known_of_request request.now known (T.bytes texts.now)) ended.now.input
+        → SaysOf explained (known_of_request request.now known (T.bytes texts.now)) ended.now.ending
         (E.contents faults.old) (E.contents faults.new) }
 {
     let Ok(()) = ended.ending.tell(faults) else {
-        return;
+        return Err(Unexplained::CannotWrite);
     };
-    if let Some(line) = explanation(alloc, ended, request, texts) {
-        let _ = write_whole(faults, line.as_bytes());
+    if !explained {
+        return Ok(());
     }
+    put_explanation(explanation(alloc, ended, request, texts), faults)
 }
 
 /// Says on `faults` how a run of this request ended, with an explanation or without, and answers
@@ -178,9 +266,6 @@ pub fn finish<T: Texts, E: Write>(
         → SaysOf explained (known_of_request request.now known (T.bytes texts.now)) ended.now.ending
         (E.contents faults.old) (E.contents faults.new) }
 {
-    if !explained {
-        return ended.ending.answer(faults);
-    }
-    tell_explained(alloc, ended, request, texts, faults);
+    let _ = say(alloc, explained, ended, request, texts, faults);
     ended.ending.status()
 }

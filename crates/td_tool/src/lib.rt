@@ -6,8 +6,9 @@
 //! `td_simulate`, how indices are read in `td_indices`, what a script says in `td_script`, what the
 //! words ask for in `td_words`.
 //! Promised: what is written is the answer to what was read, and nothing where that is refused; a
-//! write that fails leaves a front of it; and the status and the line on standard error say which
-//! (`specs/Ends.antt`, `specs/Checks.antt`, `specs/Tracks.antt`, `specs/Runs.antt`).
+//! write that fails leaves a front of it; the status and the line on standard error say which
+//! (`specs/Ends.antt`, `specs/Checks.antt`, `specs/Tracks.antt`, `specs/Runs.antt`); and a refusal
+//! is explained where that is asked for (`specs/Explained.antt`).
 #![tactic(auto)]
 
 mod answering;

@@ -1,11 +1,14 @@
 //! The subcommand `run`: a script over the rows of an archive.
-ghost use Rattle.std.specs.Prelude.{◌≡◌, IfOk, string_bytes};
-ghost use Rattle.td_tool.specs.Runs.{EndsRun, OnlyPlayEnds, PlayEnds};
-ghost use Rattle.td_tool.specs.Runs.{ending_of_crew as ending_of_crew_as};
+ghost use Rattle.std.specs.Prelude.{◌≡◌, IfOk, IfErr, string_bytes};
+ghost use Rattle.std.specs.Result.{ForOk};
+ghost use Rattle.td_tool.specs.CheckInside.{EndsUnwritten, FileUnread};
+ghost use Rattle.td_tool.specs.Runs.{EndsRun, ending_of_crew as ending_of_crew_as};
 ghost use Rattle.td_tool.specs.Runs.{ending_of_script as ending_of_script_as};
-ghost use Rattle.td_tool.specs.RunInside.{AreInputsOf, IsWithinLimit, run_files_at, run_texts_of};
+ghost use Rattle.td_tool.specs.RunInside.{AreInputsOf, IsWithinLimit, PlaysInputs, PlaysTexts};
+ghost use Rattle.td_tool.specs.RunInside.{run_files_at, run_texts_of};
 
 use crate::ending::{Ending, ending_of_file, ending_of_stop};
+use crate::file_texts::FileFault;
 use crate::input_fault::InputFault;
 use crate::run_files::{RunTexts, read_run_files};
 use crate::texts::Texts;
@@ -60,30 +63,52 @@ fn inputs_of(alloc: Global, texts: RunTexts, request: &RunRequest) -> Result<Inp
     })
 }
 
-// How the script ends that the reader has, over what was read of the files.
+// How the script ends that the reader has, by its inputs.
 fn play<R: Read, W: Write>(
     rt: &(impl Threads + Wait + Sync),
     alloc: Global,
-    texts: RunTexts,
-    request: &RunRequest,
+    inputs: Result<Inputs, AllocError>,
+    builders: usize,
     reader: &mut R,
     output: &mut W,
 ) -> Ending
-    requires { IsWithinLimit texts }
-    ensures says { PlayEnds request.now.builders (run_texts_of texts)
-        (string_bytes request.now.suite)
-        (R.remaining reader.old) (W.contents output.old) (W.contents output.new) result }
-    ensures only { OnlyPlayEnds request.now.builders (run_texts_of texts)
-        (string_bytes request.now.suite) (R.remaining reader.old) result }
+    ensures played { IfOk inputs (λ inputs. PlaysInputs builders inputs
+        (R.remaining reader.old) (W.contents output.old) (W.contents output.new) result) }
+    ensures memory { IfErr inputs (λ _. EndsUnwritten Ending.NoMemory
+        (W.contents output.old) (W.contents output.new) result) }
 {
-    let Ok(inputs) = inputs_of(alloc, texts, request) else {
+    let Ok(inputs) = inputs else {
         return Ending::NoMemory;
     };
-    if request.builders == 0 {
+    if builders == 0 {
         ending_of_script(run_script(rt, alloc, &inputs, reader, output))
     } else {
         ending_of_crew(run_crew(rt, alloc, &inputs, reader, output))
     }
+}
+
+// The same, by what was read of the files.
+fn play_texts<R: Read, W: Write>(
+    rt: &(impl Threads + Wait + Sync),
+    alloc: Global,
+    read: Result<RunTexts, FileFault>,
+    request: &RunRequest,
+    reader: &mut R,
+    output: &mut W,
+) -> Ending
+    requires { ForOk read IsWithinLimit }
+    ensures texts { IfOk read (λ texts. PlaysTexts request.now.builders (run_texts_of texts)
+        (string_bytes request.now.suite)
+        (R.remaining reader.old) (W.contents output.old) (W.contents output.new) result) }
+    ensures unread { IfErr read (λ fault.
+        FileUnread fault (W.contents output.old) (W.contents output.new) result) }
+{
+    let read = match read {
+        Ok(read) => read,
+        Err(unread) => return ending_of_file(unread.role, unread.fault),
+    };
+    let inputs = inputs_of(alloc, read, request);
+    play(rt, alloc, inputs, request.builders, reader, output)
 }
 
 /// Answers the script that the reader has, over the files that are asked for. They are read before
@@ -101,8 +126,6 @@ pub fn run<T: Texts + Sync, R: Read, W: Write>(
         (string_bytes request.now.suite)
         (R.remaining reader.old) (W.contents output.old) (W.contents output.new) result }
 {
-    match read_run_files(rt, alloc, texts, request) {
-        Ok(read) => play(rt, alloc, read, request, reader, output),
-        Err(unread) => ending_of_file(unread.role, unread.fault),
-    }
+    let read = read_run_files(rt, alloc, texts, request);
+    play_texts(rt, alloc, read, request, reader, output)
 }

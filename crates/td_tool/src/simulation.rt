@@ -2,7 +2,7 @@
 ghost use Rattle.std.specs.Prelude.{◌≡◌, ◌≤◌, false, length, string_bytes, IfOk, IfErr, IfSome};
 ghost use Rattle.std.specs.Result.{ForOk};
 ghost use Rattle.td_tool.specs.Ends.{Ends};
-ghost use Rattle.td_tool.specs.Explained.{known_input};
+ghost use Rattle.td_tool.specs.Explained.{IsTextKept, known_input};
 ghost use Rattle.td_tool.specs.Limits.{input_limit};
 ghost use Rattle.td_tool.specs.Played.{IsUnread, IsUntold, TellsSo, TextEnds, kept_of};
 ghost use Rattle.td_tool.specs.Ran.{Ran};
@@ -66,6 +66,7 @@ pub(crate) fn read_and_play<R: Read, W: Write>(
     ensures kept { IfSome result.input (λ kept.
         IfSome (R.remaining reader.old) (λ all. all ≡ string_bytes kept)) }
     ensures short { IfSome result.input (λ kept. length (string_bytes kept) ≤ input_limit) }
+    ensures text { IsTextKept result.ending result.input }
 {
     let read = read_text(alloc, reader, INPUT_LIMIT);
     play(alloc, read, output)

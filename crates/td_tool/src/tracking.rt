@@ -1,35 +1,37 @@
 //! The two subcommands that read a tracker: `track` and `waves`.
-ghost use Rattle.std.specs.Prelude.{◌≡◌, ◌⊎◌, ◌≤◌, Some, Ok, Err, IfOk, IfErr, length, option_map};
-ghost use Rattle.std.specs.Prelude.{string_bytes};
+ghost use Rattle.std.specs.Prelude.{◌≡◌, ◌⊎◌, Ok, Err, IfOk, IfErr, option_map, string_bytes};
+ghost use Rattle.std.specs.Result.{ForOk};
 ghost use Rattle.td_relation.specs.TableView.{table};
 ghost use Rattle.td_core.specs.Phases.{NoneBuilt};
 ghost use Rattle.td_query.specs.Marks.{AreMarks};
 ghost use Rattle.td_query.specs.Tracking.{tracking};
 ghost use Rattle.td_report.specs.Transition.{IsReport};
 ghost use Rattle.td_report.specs.TransitionView as of;
-ghost use Rattle.td_tool.specs.Limits.{file_limit};
-ghost use Rattle.td_script.specs.OpeningInside.{CanReplace, IsReplacedIn};
+ghost use Rattle.td_script.specs.OpeningInside.{CanReplace, IsInputRefusedIn, IsReplacedIn};
 ghost use Rattle.td_script.specs.Openings.{AreRowsOf};
-ghost use Rattle.td_tool.specs.Tracks.{AreReadable, AreRefused, EndsSo, IsPatternRefused};
-ghost use Rattle.td_tool.specs.Tracks.{IsReadableOver, IsRefusedOver, RowsSay, TextsSayIt};
-ghost use Rattle.td_tool.specs.TrackInside.{AreReadableWith, AreRefusedWith, EndsWithoutRows};
-ghost use Rattle.td_tool.specs.TrackInside.{IndicesSay, IsRefusedFor};
-ghost use Rattle.td_tool.specs.TrackInside.{OrMemory, RowsAreSaid, files_at, saying_of, texts_of};
+ghost use Rattle.td_tool.specs.CheckInside.{FileUnread};
+ghost use Rattle.td_tool.specs.Ending.{ending_of_form as ending_of};
+ghost use Rattle.td_tool.specs.Ending.{ending_of_stop as ending_of_stopped};
+ghost use Rattle.td_tool.specs.Tracks.{EndsSo, IsEndedBy};
+ghost use Rattle.td_tool.specs.TrackInside.{EndsWithoutRows, IsTableWithin, OrMemory, RowsAreSaid};
+ghost use Rattle.td_tool.specs.TrackInside.{Tells, TellsNone, TellsOver, TellsTexts, TellsTracker};
+ghost use Rattle.td_tool.specs.TrackInside.{TellsWith, files_at, saying_of, texts_of};
 
 use crate::checking::write;
 use crate::ending::{Ending, ending_of_file, ending_of_form, ending_of_stop};
+use crate::file_texts::FileFault;
 use crate::texts::Texts;
 use crate::track_files::{TrackPaths, TrackTexts, read_track_files};
 use std::alloc::{AllocError, Global};
 use std::io::Write;
 use std::thread;
 use std::thread::Threads;
-use td_indices::Archive;
-use td_query::{Marks, Tracker};
-use td_relation::Archs;
+use td_indices::{Archive, ArchiveFault};
+use td_query::{Marks, Tracker, TrackerFault};
+use td_relation::{Archs, ArchsFault};
 use td_report::Transition;
 use td_rows::Rows;
-use td_script::{InputFault as FormFault, put_state_over};
+use td_script::{InputFault as FormFault, RunFault, put_state_over};
 
 /// What is to be told of a tracker.
 #[derive(Clone, Copy, Drop)]
@@ -78,14 +80,25 @@ fn told(
     }
 }
 
-// The same, where want of memory ends it.
-fn or_no_memory(text: Result<String, AllocError>) -> Result<String, Ending>
-    ensures ok { IfOk text (λ t. result ≡ Ok t) }
-    ensures err { IfErr text (λ _. result ≡ Err Ending.NoMemory) }
+// What was made, or the ending where memory is wanting for it.
+fn or_no_memory<A: Drop>(made: Result<A, AllocError>) -> Result<A, Ending>
+    ensures ok { IfOk made (λ a. result ≡ Ok a) }
+    ensures err { IfErr made (λ _. result ≡ Err Ending.NoMemory) }
 {
-    match text {
-        Ok(text) => Ok(text),
+    match made {
+        Ok(made) => Ok(made),
         Err(_) => Err(Ending::NoMemory),
+    }
+}
+
+// What was made, or how a run ends where it stopped.
+fn or_ending<A: Drop>(made: Result<A, RunFault>) -> Result<A, Ending>
+    ensures ok { IfOk made (λ a. result ≡ Ok a) }
+    ensures err { IfErr made (λ fault. result ≡ Err (ending_of_stopped fault)) }
+{
+    match made {
+        Ok(made) => Ok(made),
+        Err(fault) => Err(ending_of_stop(fault)),
     }
 }
 
@@ -93,13 +106,10 @@ fn or_no_memory(text: Result<String, AllocError>) -> Result<String, Ending>
 fn replaced(alloc: Global, rows: Rows, text: &str) -> Result<Rows, Ending>
     requires { NoneBuilt rows }
     ensures rows { IfOk result (IsReplacedIn rows text.now) }
-    ensures refused { IfErr result (OrMemory (IsRefusedFor rows text.now)) }
+    ensures refused { IfErr result (OrMemory (IsEndedBy (IsInputRefusedIn rows text.now))) }
     ensures only { IfErr result (λ ending. CanReplace rows text.now → ending ≡ Ending.NoMemory) }
 {
-    match put_state_over(alloc, rows, text) {
-        Ok(rows) => Ok(rows),
-        Err(fault) => Err(ending_of_stop(fault)),
-    }
+    or_ending(put_state_over(alloc, rows, text))
 }
 
 // The rows with which a desk opens, with those of a text, if there is one, in their places.
@@ -213,26 +223,22 @@ fn tracker_says(
     }
 }
 
-// The same text, by the text of the tracker. Rows that are refused are told of before a tracker
-// that is.
-fn archive_text(
+// The same text, by what the tracker was read as. Rows that are refused are told of before a
+// tracker that is.
+fn tracker_text(
     rt: &(impl Threads + Sync),
     alloc: Global,
     archive: &Archive<'_, '_>,
     state: &Option<String>,
-    tracker: &str,
+    tracker: Result<Tracker<'_>, TrackerFault>,
     asked: Asked,
 ) -> Result<String, Ending>
-    ensures found { IfOk result (λ text.
-        RowsSay (saying_of asked) archive.now (option_map string_bytes state.now) tracker.now
-        (string_bytes text)) }
-    ensures refused { IfErr result
-        (OrMemory (IsRefusedOver archive.now (option_map string_bytes state.now) tracker.now)) }
-    ensures only { IfErr result (λ ending.
-        IsReadableOver archive.now (option_map string_bytes state.now) tracker.now
-        → IsPatternRefused tracker.now ending) }
+    ensures said { IfOk tracker.entry (λ t. TellsTracker (saying_of asked) archive.now
+        (option_map string_bytes state.now) (tracking t) result) }
+    ensures refused { IfErr tracker.entry (λ fault. TellsNone archive.now
+        (option_map string_bytes state.now) (ending_of (FormFault.Tracker fault)) result) }
 {
-    match Tracker::read(alloc, tracker) {
+    match tracker {
         Ok(read) => tracker_says(rt, alloc, archive, state, &read, asked),
         Err(fault) => {
             let rows = rows_of(alloc, archive, state);
@@ -242,28 +248,60 @@ fn archive_text(
     }
 }
 
-// The same, by the texts of two indices.
-fn indices_text(
+// The same, over an archive.
+fn archive_text(
     rt: &(impl Threads + Sync),
     alloc: Global,
-    archs: &Archs<'_>,
+    archive: &Archive<'_, '_>,
     texts: &TrackTexts,
     asked: Asked,
 ) -> Result<String, Ending>
-    ensures found { IfOk result (λ text.
-        IndicesSay (saying_of asked) (table archs.now) (texts_of texts.now) (string_bytes text)) }
-    ensures refused { IfErr result
-        (OrMemory (AreRefusedWith (table archs.now) (texts_of texts.now))) }
-    ensures only { IfErr result (λ ending.
-        AreReadableWith (table archs.now) (texts_of texts.now)
-        → IsPatternRefused (texts_of texts.now).tracker ending) }
+    ensures { TellsOver (saying_of asked) archive.now (texts_of texts.now) result }
 {
-    let packages = texts.indices.packages.as_str();
-    let sources = texts.indices.sources.as_str();
-    let tracker = texts.tracker.as_str();
-    match Archive::read_beside(rt, alloc, packages, sources, archs) {
-        Ok(archive) => archive_text(rt, alloc, &archive, &texts.state, tracker, asked),
+    let tracker = Tracker::read(alloc, texts.tracker.as_str());
+    tracker_text(rt, alloc, archive, &texts.state, tracker, asked)
+}
+
+// The same, by what two indices were read as.
+fn indices_text(
+    rt: &(impl Threads + Sync),
+    alloc: Global,
+    archive: Result<Archive<'_, '_>, ArchiveFault>,
+    texts: &TrackTexts,
+    asked: Asked,
+) -> Result<String, Ending>
+    ensures said { IfOk archive.entry (λ a.
+        TellsOver (saying_of asked) a (texts_of texts.now) result) }
+    ensures refused { IfErr archive.entry (λ fault.
+        result ≡ Err (ending_of (FormFault.Archive fault))) }
+{
+    match archive {
+        Ok(archive) => archive_text(rt, alloc, &archive, texts, asked),
         Err(fault) => Err(ending_of_form(FormFault::Archive(fault))),
+    }
+}
+
+// The same, by what the table of architectures was read as.
+fn table_text<'a>(
+    rt: &(impl Threads + Sync),
+    alloc: Global,
+    archs: Result<Archs<'a>, ArchsFault>,
+    texts: &'a TrackTexts,
+    asked: Asked,
+) -> Result<String, Ending>
+    ensures said { IfOk archs.entry (λ archs.
+        TellsWith (saying_of asked) (table archs) (texts_of texts.now) result) }
+    ensures refused { IfErr archs.entry (λ fault.
+        result ≡ Err (ending_of (FormFault.Table fault))) }
+{
+    match archs {
+        Ok(archs) => {
+            let packages = texts.indices.packages.as_str();
+            let sources = texts.indices.sources.as_str();
+            let archive = Archive::read_beside(rt, alloc, packages, sources, &archs);
+            indices_text(rt, alloc, archive, texts, asked)
+        }
+        Err(fault) => Err(ending_of_form(FormFault::Table(fault))),
     }
 }
 
@@ -274,17 +312,32 @@ fn whole_text(
     texts: &TrackTexts,
     asked: Asked,
 ) -> Result<String, Ending>
-    requires { length (texts_of texts.now).archs ≤ file_limit }
-    ensures found { IfOk result (λ text.
-        TextsSayIt (saying_of asked) (texts_of texts.now) (string_bytes text)) }
-    ensures refused { IfErr result (OrMemory (AreRefused (texts_of texts.now))) }
-    ensures only { IfErr result (λ ending.
-        AreReadable (texts_of texts.now) → IsPatternRefused (texts_of texts.now).tracker ending) }
+    requires { IsTableWithin texts.now }
+    ensures { Tells (saying_of asked) (texts_of texts.now) result }
 {
-    match Archs::read(alloc, texts.indices.archs.as_str()) {
-        Ok(archs) => indices_text(rt, alloc, &archs, texts, asked),
-        Err(fault) => Err(ending_of_form(FormFault::Table(fault))),
-    }
+    let archs = Archs::read(alloc, texts.indices.archs.as_str());
+    table_text(rt, alloc, archs, texts, asked)
+}
+
+// How a run ends by what was read of the files.
+fn tell<W: Write>(
+    rt: &(impl Threads + Sync),
+    alloc: Global,
+    read: Result<TrackTexts, FileFault>,
+    asked: Asked,
+    output: &mut W,
+) -> Ending
+    requires { ForOk read IsTableWithin }
+    ensures texts { IfOk read (λ x. TellsTexts (saying_of asked) (texts_of x)
+        (W.contents output.old) (W.contents output.new) result) }
+    ensures unread { IfErr read (λ fault.
+        FileUnread fault (W.contents output.old) (W.contents output.new) result) }
+{
+    let read = match read {
+        Ok(read) => read,
+        Err(unread) => return ending_of_file(unread.role, unread.fault),
+    };
+    write(whole_text(rt, alloc, &read, asked), output)
 }
 
 /// Tells what the tracker with its path says over the archive. All is read before anything is
@@ -301,8 +354,6 @@ pub fn track<T: Texts + Sync, W: Write>(
         (files_at (T.bytes texts.now) (T.can_fail texts.now) paths.now)
         (W.contents output.old) (W.contents output.new) result }
 {
-    match read_track_files(rt, alloc, texts, paths) {
-        Ok(read) => write(whole_text(rt, alloc, &read, asked), output),
-        Err(unread) => ending_of_file(unread.role, unread.fault),
-    }
+    let read = read_track_files(rt, alloc, texts, paths);
+    tell(rt, alloc, read, asked, output)
 }

@@ -1,0 +1,15 @@
+-- `tell`: the clause `texts`.
+use Rattle.std.proofs.Common.{IfOk, sym, subst}
+use Rattle.td_tool.specs.TrackInside.{TellsTexts, saying_of, texts_of}
+use Rattle.td_tool.proofs.Sure.{tells_texts}
+use Rattle.td_tool.proofs.tracking.tell.Goals as goal
+
+pub returns-clause-texts : goal.returns-clause-texts
+returns-clause-texts g c =
+    let old = g.W.Write.contents c.args.output.now in
+    let new = g.W.Write.contents c.write.new.output in
+    subst (λ r. IfOk r (λ x.
+    TellsTexts (saying_of c.args.asked) (texts_of x) old new c.write.result))
+    (sym c.in-Ok.is)
+    (tells_texts (saying_of c.args.asked) (texts_of c.in-Ok.read) c.whole_text.result old new
+    c.write.result c.whole_text.ensures c.write.ensures.line c.write.ensures.refused)
