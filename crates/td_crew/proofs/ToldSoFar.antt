@@ -1,7 +1,6 @@
 -- What is told of the lines so far, at a desk.
 use Rattle.std.proofs.Common.{◌≡◌, ℕ, ◌+◌, ◌≤◌, List, [], ◌∷◌, length, Option}
-use Rattle.std.proofs.Common.{None, Some, Bor, Bool, refl, sym, subst, ap, ◌∙◌, arith}
-use Rattle.std.proofs.Common.{if◌then◌else◌}
+use Rattle.std.proofs.Common.{None, Some, Bor, refl, sym, subst, arith}
 use Rattle.std.specs.Prelude.{string_bytes}
 use Rattle.atomic_table.specs.Seated.{TableId}
 use Rattle.td_text.specs.Lines.{left_len, lines_left, lines_of}
@@ -10,7 +9,7 @@ use Rattle.td_desk.specs.Calls.{IsOfDesk}
 use Rattle.td_desk.specs.Names.{Origin}
 use Rattle.td_script.specs.declared.told.Told.{Told as ToldText}
 use Rattle.td_script.specs.Replies.{Setting}
-use Rattle.td_crew.specs.Replies.{MayReply, Says}
+use Rattle.td_crew.specs.Replies.{MayReply}
 use Rattle.td_crew.specs.CrewText.{AreAnswered, AreTold, IsReplied, Told, told_with, untold}
 
 -- whatever is told of what is left, with what was told so far it is told of the whole
@@ -62,21 +61,3 @@ so_far-done table origin s script receipts told rest h none =
     (subst (λ (r : Option (Bor (List ℕ))).
     AreTold (MayReply (IsOfDesk table origin) s) (lines_left r) (told_with told receipts)
     (told_with told receipts)) (sym none) refl)
-
--- one line more
-pub line_added : (table : TableId) (origin : Origin) (s : Setting) (line : List ℕ)
-    (before after : ToldText) (old new : List Receipt) (refused : Bool)
-    → Says (MayReply (IsOfDesk table origin) s line) (string_bytes before.text)
-    (string_bytes after.text) old new refused
-    → after.refused ≡ before.refused + (if refused then 1 else 0)
-    → IsReplied table origin s line (told_with before old) (told_with after new)
-line_added table origin s line before after old new refused said count = (
-  said.0,
-  said.1,
-  λ i. record {
-    text = said.2.text_is i;
-    refused = (count
-        ∙ ap (λ (b : Bool). before.refused + (if b then 1 else 0)) said.2.refusal) i;
-    receipts = said.2.receipts_are i;
-  },
-)
