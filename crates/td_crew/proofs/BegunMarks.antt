@@ -25,6 +25,7 @@ use Rattle.td_desk.specs.Receipts.{made_of}
 use Rattle.td_desk.proofs.Reopening.{marks_told}
 use Rattle.td_script.specs.Openings.{IsBegun}
 use Rattle.td_crew.specs.CrewText.{IsShort, marks_begun}
+use Rattle.td_crew.proofs.Heads.{first_of, rest_of}
 
 abbrev marks : List Marked → List Mark
 marks ms = map (λ m. m.mark) ms
@@ -62,16 +63,6 @@ abbrev StartsWith : List Entry → List Marked → Type 0
 StartsWith [] ms = Unit {0}
 StartsWith (e ∷ es) [] = ⊥
 StartsWith (e ∷ es) (x ∷ ms) = (x.entry ≡ e) × StartsWith es ms
-
--- the first of some entries, or another
-abbrev first_of : Entry → List Entry → Entry
-first_of d [] = d
-first_of d (x ∷ xs) = x
-
--- the others
-abbrev rest_of : List Entry → List Entry
-rest_of [] = []
-rest_of (x ∷ xs) = xs
 
 StartsWith-take : (es : List Entry) (ms : List Marked) → take (length es) (entries ms) ≡ es
     → StartsWith es ms

@@ -17,6 +17,7 @@ use Rattle.td_script.proofs.WithoutJournal.{refused_too}
 use Rattle.td_crew.specs.declared.running.CrewFault.{CrewFault}
 use Rattle.td_crew.specs.declared.running.CrewFault.TheVariants.{BadOutcome, Run}
 use Rattle.td_crew.specs.CrewEnds.{AreRead, CrewMayStop, CrewSays, IsNoOutcomes, StopsSo}
+use Rattle.td_crew.proofs.Heads.{first_of, rest_of}
 
 -- nothing is written where a text is refused
 untouched : (May : Telling) (x : Texts) (known old new : Option (List ℕ)) (e : RunFault)
@@ -41,14 +42,6 @@ unread_stops x (BadOutcome n) stops = stops
 unread_stops x (Run e) stops = stops_run x e stops
 
 -- ---- a first bad line
-
-abbrev first_of : List ℕ → List (List ℕ) → List ℕ
-first_of d [] = d
-first_of d (l ∷ ls) = l
-
-abbrev rest_of : List (List ℕ) → List (List ℕ)
-rest_of [] = []
-rest_of (l ∷ ls) = ls
 
 clash : (before os : List (Key × Outcome)) (line : List ℕ) (after : List (List ℕ))
     → map outcome_line os ≡ map outcome_line before ++ line ∷ after → AllByRecursion OutcomeFits os
