@@ -1,5 +1,6 @@
 //! A list of steps, taken one after the other.
 ghost use Rattle.std.specs.Prelude.{◌≡◌, ◌≤◌, IfOk, OnOk};
+ghost use Rattle.td_rows.specs.Limits.{max_builders};
 ghost use Rattle.td_core.specs.Phases.{NoneBuilt};
 ghost use Rattle.td_core.specs.Steps.{answers_to, after_all};
 ghost use Rattle.td_core.specs.Worlds.{world_of};
@@ -35,7 +36,7 @@ pub fn run<'a>(
     builders: usize,
     steps: Vec<Step>,
 ) -> Result<(World<'a>, Vec<Answer>), AllocError>
-    requires builders { builders ≤ 64 }
+    requires builders { builders ≤ max_builders }
     requires idle { NoneBuilt rows }
     requires fresh { supply ≡ opened (stock_of supply) }
     ensures world { IfOk result

@@ -68,6 +68,8 @@ fn free(alloc: Global, count: usize) -> Result<Vec<Hand>, AllocError>
 }
 
 impl<'a> World<'a> {
+    ghost use Rattle.td_rows.specs.Limits.{max_builders};
+
     /// The world of these rows and offers before its first step: no row is offered, and all hands
     /// are free.
     pub fn open(
@@ -76,7 +78,7 @@ impl<'a> World<'a> {
         supply: Supply<'a>,
         builders: usize,
     ) -> Result<World<'a>, AllocError>
-        requires builders { builders ≤ 64 }
+        requires builders { builders ≤ max_builders }
         requires idle { NoneBuilt rows }
         requires fresh { supply ≡ opened (stock_of supply) }
         ensures { IfOk result (λ world. world ≡ world_of rows (stock_of supply.entry) builders) }

@@ -3,6 +3,7 @@ ghost use Rattle.std.specs.Prelude.{◌≡◌, ◌+◌, ◌-◌, ◌≤◌, ◌<
 ghost use Rattle.std.specs.Prelude.{OnOk, length, option_map, string_bytes, true};
 ghost use Rattle.td_desk.specs.Clerks.{all_receipts};
 ghost use Rattle.td_board.specs.Knowledge.{new_desk};
+ghost use Rattle.td_board.specs.Limits.{max_builders};
 ghost use Rattle.td_relation.specs.TableView.{table};
 ghost use Rattle.td_core.specs.Phases.{NoneBuilt};
 ghost use Rattle.td_supply.specs.Supply.{opened, stock_of};
@@ -41,7 +42,7 @@ use td_supply::Supply;
 #[derive(Clone, Copy)]
 pub struct Crew {
     pub builders: usize,
-    ghost few: { builders ≤ 64 },
+    ghost few: { builders ≤ max_builders },
 }
 
 impl Staff for Crew {
@@ -122,7 +123,7 @@ fn tell_in_shift<N: Named + Send + Sync, C: Ledger + Send + Sync, T: Reports>(
     lines: &Lines<'_, '_, T>,
 ) -> Result<(Told, Clerk<C>), AllocError>
     requires seats { All (λ s. s.table ≡ N.table) seats.items }
-    requires few { length seats.items ≤ 64 }
+    requires few { length seats.items ≤ max_builders }
     requires fits { FitAnyBook T.fits lines.now.reports }
     requires archs { table lines.now.archs.now ≡ N.origin.stock.table }
     requires new { clerk.receipts ≡ [] }
@@ -203,7 +204,7 @@ fn tell_at<N: Named + Send + Sync, C: Ledger + Send + Sync, T: Reports>(
     lines: &Lines<'_, '_, T>,
 ) -> Result<Told, AllocError>
     requires seats { All (λ s. s.table ≡ N.table) seats.items }
-    requires few { length seats.items ≤ 64 }
+    requires few { length seats.items ≤ max_builders }
     requires fits { FitAnyBook T.fits lines.now.reports }
     requires archs { table lines.now.archs.now ≡ N.origin.stock.table }
     requires new { clerk.receipts ≡ [] }
@@ -276,7 +277,7 @@ fn tell_named<N: Named + Send + Sync, C: Ledger + Send + Sync, T: Reports>(
     requires board { board.table ≡ N.table }
     requires seat { seat.table ≡ N.table }
     requires seats { All (λ s. s.table ≡ N.table) seats.items }
-    requires few { length seats.items ≤ 64 }
+    requires few { length seats.items ≤ max_builders }
     requires origin { N.origin
         ≡ record {
           rows = rows;

@@ -1,8 +1,6 @@
 //! What a script runs over.
 ghost use Rattle.std.specs.Prelude.{◌≡◌, ◌≤◌, ◌<◌, ◌^◌, None, length, string_bytes};
-
-/// The most builders that a crew has.
-pub const MAX_BUILDERS: usize = 64;
+ghost use Rattle.td_board.specs.Limits.{max_builders};
 
 /// The texts of the files, and the suite that a command may name.
 #[derive(Drop)]
@@ -24,5 +22,5 @@ pub struct Inputs {
     /// How many builders a crew has. A script has none.
     pub builders: usize,
     ghost within: { length (string_bytes archs) < 2 ^ 63 },
-    ghost few: { builders ≤ 64 },
+    ghost few: { builders ≤ max_builders },
 }

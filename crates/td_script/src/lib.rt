@@ -32,7 +32,7 @@ mod writing;
 pub use answering::{show_entry, show_journal, show_report, show_row};
 pub use dispatch::answer;
 pub use input_fault::InputFault;
-pub use inputs::{Inputs, MAX_BUILDERS};
+pub use inputs::Inputs;
 pub use laws::cut_scripts_tell_the_same;
 pub use line::{Said, asked_lines_are_requests, read_line};
 pub use opening::put_state_over;

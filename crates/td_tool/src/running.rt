@@ -16,8 +16,9 @@ use std::alloc::{AllocError, Global};
 use std::io::{Read, Write};
 use std::sync::Wait;
 use std::thread::Threads;
+use td_board::MAX_BUILDERS;
 use td_crew::{CrewFault, run_crew};
-use td_script::{Inputs, MAX_BUILDERS, Role, RunFault, ScriptEnd, run_script};
+use td_script::{Inputs, Role, RunFault, ScriptEnd, run_script};
 use td_words::RunRequest;
 
 // How a run ends by how its script did.

@@ -1,6 +1,7 @@
 -- The seats of a new board are those of its builders, as many as the crew has.
 use Rattle.std.proofs.Common.{◌≡◌, ◌≤◌, ℕ, List, [], ◌∷◌, Bor, IfOk, length, map, option_map}
 use Rattle.std.proofs.Common.{rules, subst, sym}
+use Rattle.td_board.specs.Limits.{max_builders}
 use Rattle.td_board.proofs.NewSeats.{desk_at, length-seats, seats_at}
 use Rattle.td_supply.specs.Supply.{Stock, stock_of}
 use Rattle.td_script.proofs.OpeningLaws.{fresh_supply, stock-opened}
@@ -18,7 +19,7 @@ tell_named-requires-clause-seats g c κs within =
 
 pub tell_named-requires-clause-few : goal.tell_named-requires-clause-few
 tell_named-requires-clause-few g c κs within =
-    subst (λ (n : ℕ). n ≤ 64)
+    subst (λ (n : ℕ). n ≤ max_builders)
     (sym (length-seats c.in-Ok.board.table 1 c.args.crew.builders c.in-Ok.seats.items
     c.in-Ok.ensures.ok.builder_seats)) c.args.crew.few
 
