@@ -187,11 +187,19 @@ fn close<N: Named, C: Ledger>(
     requires room { told.refused < 2 ^ 64 - 1 }
     ensures { IfOk result (IsClosed N.table N.origin N.opened clerk.receipts told) }
 {
-    let clerks = alone(alloc, clerk)?;
+    let clerks = match alone(alloc, clerk) {
+        Ok(clerks) => clerks,
+        Err(error) => {
+            drop(desk);
+            return Err(error);
+        }
+    };
     let (book, refusals) = closed(desk, clerks);
     let mut told = told;
     told.refused += refusals;
-    tell_rows(alloc, told, &book)
+    let told = tell_rows(alloc, told, &book);
+    drop(book);
+    told
 }
 
 // What a crew at this desk tells of a script.

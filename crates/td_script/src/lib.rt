@@ -16,7 +16,6 @@ mod files;
 mod input_fault;
 mod inputs;
 mod laws;
-mod letting_go;
 mod line;
 mod opening;
 mod replying;

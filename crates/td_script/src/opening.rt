@@ -21,7 +21,6 @@ ghost use Rattle.td_script.specs.OpeningInside.{IsTrackerOf, IsUntold, TellsOrRe
 use crate::files::Files;
 use crate::input_fault::InputFault;
 use crate::inputs::Inputs;
-use crate::letting_go::{let_go_archive, let_go_tracker, let_go_transition};
 use crate::running::RunFault;
 use crate::staff::{Asked, Staff};
 use crate::told::Told;
@@ -174,7 +173,7 @@ impl<S: Staff, F: Fn(Asked) -> Result<Told, ReadError>> Run<'_, S, F> {
         match Transition::of(self.alloc, archive, tracker) {
             Ok(transition) => {
                 let told = self.tell_from(archive, rows, Some(&transition));
-                let_go_transition(transition);
+                drop(transition);
                 told
             }
             Err(AllocError) => Err(RunFault::NoMemory),
@@ -204,7 +203,7 @@ impl<S: Staff, F: Fn(Asked) -> Result<Told, ReadError>> Run<'_, S, F> {
         match Tracker::read(self.alloc, text) {
             Ok(tracker) => {
                 let told = self.tell_tracked(archive, &tracker, rows);
-                let_go_tracker(tracker);
+                drop(tracker);
                 told
             }
             Err(fault) => Err(fault_of(InputFault::Tracker(fault))),
@@ -272,7 +271,7 @@ impl<S: Staff, F: Fn(Asked) -> Result<Told, ReadError>> Run<'_, S, F> {
         match Archive::read_beside(rt, self.alloc, packages, sources, archs) {
             Ok(archive) => {
                 let told = self.tell_over_archive(&archive);
-                let_go_archive(archive);
+                drop(archive);
                 told
             }
             Err(fault) => Err(fault_of(InputFault::Archive(fault))),

@@ -10,7 +10,6 @@ ghost use Rattle.td_script.specs.Reporting.{report_by};
 ghost use Rattle.td_script.specs.Settings.{setting_lent};
 
 use crate::beginning::begin_over;
-use crate::letting_go::let_go_book;
 use crate::told::Told;
 use crate::watched::tell_watched;
 use std::alloc::{AllocError, Global};
@@ -100,7 +99,7 @@ fn tell_if_begun(
     match begun {
         Ok(mut book) => {
             let told = tell_begun(alloc, &mut book, board, suite, reports, script);
-            let_go_book(book);
+            drop(book);
             told
         }
         Err(fault) => Err(fault),

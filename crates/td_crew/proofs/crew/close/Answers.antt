@@ -21,9 +21,9 @@ returns g c =
     let closed = subst (λ (rs : List Receipt). IsClosing rs found more)
     (append-nil c.args.clerk.receipts)
     (subst (λ (cs : List ClerkModel). IsClosing (all_receipts cs) found more)
-    c.in_ok-clerks.ensures c.closed-book.ensures.closed) in
-    IfOk-weaker c.tell_rows.result _ _
+    c.in-Ok.ensures c.closed-book.ensures.closed) in
+    IfOk-weaker c.tell_rows-told.result _ _
     (λ now. rows_closed g.N.Named.table g.N.Named.origin g.N.Named.opened c.args.clerk.receipts
     c.args.told mid now book more c.closed-book.ensures.of_desk c.closed-book.ensures.still closed
     refl refl)
-    c.tell_rows.ensures
+    c.tell_rows-told.ensures
