@@ -1,4 +1,4 @@
--- What is kept of the stanzas.
+-- What is kept of the stanzas. Which stanzas count is this project's own.
 use Rattle.std.specs.Prelude.{ℕ, ◌&&◌, not, Bool, false, List, [], ◌∷◌, Option, Some, None, Result}
 use Rattle.std.specs.Prelude.{Ok, map, codes, if◌then◌else◌}
 use Rattle.std.specs.Str.{bytes_eq}

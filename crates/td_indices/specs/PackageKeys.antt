@@ -1,4 +1,4 @@
--- What a binary package is found by: its name and where it is.
+-- What a binary package is found by: its name and where it is. This project's own.
 use Rattle.std.specs.Prelude.{ℕ, Bool, Option, ◌&&◌}
 use Rattle.std.specs.Bool.{◌==◌}
 use Rattle.std.specs.Option.{option_eq}

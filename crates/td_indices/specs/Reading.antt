@@ -1,4 +1,5 @@
 -- The two indices read stanza by stanza; the first fault decides.
+-- That order of faults is this project's own.
 use Rattle.std.specs.Prelude.{◌≡◌, ℕ, ◌+◌, Bool, true, false, List, [], ◌∷◌, Option, Some, None}
 use Rattle.std.specs.Prelude.{Result, Ok, Err}
 use Rattle.td_text.specs.Lines.{on_ok}

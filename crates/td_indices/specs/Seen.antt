@@ -1,4 +1,5 @@
 -- Binary packages and sources as an archive shows them, without where their texts lie in memory.
+-- This project's own.
 use Rattle.std.specs.Prelude.{ℕ}
 use Rattle.td_version.specs.Version.{parts_of}
 use Rattle.td_indices.specs.declared.packaged.Binary.{Binary}

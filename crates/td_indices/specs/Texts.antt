@@ -1,4 +1,4 @@
--- A text in pieces between whitespace, and what is left of it.
+-- A text in pieces between whitespace, and what is left of it. This project's own.
 use Rattle.std.specs.Prelude.{ℕ, ◌+◌, List, [], Option, Some, None, length}
 use Rattle.std.specs.Borrow.{Bor}
 use Rattle.std.specs.List.{slice_split}

@@ -1,4 +1,4 @@
--- What the readers give, without where it lies in memory.
+-- What the readers give, without where it lies in memory. This project's own.
 use Rattle.std.specs.Prelude.{◌≡◌, ℕ, List, Result, Ok, Err, map}
 use Rattle.std.specs.Borrow.{Bor}
 use Rattle.td_query.specs.declared.query.Query.{Query}

@@ -1,4 +1,4 @@
--- How a table of architectures is read: line by line, the first fault decides.
+-- How a table of architectures is read: line by line, the first fault decides. This project's own.
 use Rattle.std.specs.Prelude.{ℕ, ◌==◌, ◌&&◌, List, [], ◌∷◌, ◌++◌, Option, Some, None, Result, Ok}
 use Rattle.std.specs.Prelude.{Err, length, if◌then◌else◌}
 use Rattle.td_text.specs.Chain.{◌>>=◌}

@@ -1,4 +1,4 @@
--- What an alternative of a relation asks, without where its texts lie in memory.
+-- What an alternative of a relation asks, without where its texts lie in memory. Policy 7.1.
 use Rattle.std.specs.Prelude.{ℕ, Bool, List, Option, option_map}
 use Rattle.td_version.specs.Version.{Parts, parts_of}
 use Rattle.td_relation.specs.declared.relation.Operator.{Operator}

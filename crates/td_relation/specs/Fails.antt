@@ -1,4 +1,4 @@
--- Faults, and the want of memory that may stand in place of any.
+-- Faults, and the want of memory that may stand in place of any. This project's own.
 use Rattle.std.specs.Prelude.{◌≡◌, Result, Err}
 use Rattle.td_relation.specs.declared.archs.ArchsFault.{ArchsFault}
 use Rattle.td_relation.specs.declared.archs.ArchsFault.TheVariants.{BadLine, Twice, TooMany}

@@ -1,4 +1,4 @@
--- The members of a relation, each a list of alternatives.
+-- The members of a relation, each a list of alternatives. Policy 7.1.
 use Rattle.std.specs.Prelude.{ℕ, ◌+◌, List, [], ◌∷◌, map, take, drop}
 use Rattle.td_relation.specs.declared.relation.Relation.{Relation}
 use Rattle.td_relation.specs.Asked.{Asked, asked}

@@ -1,4 +1,4 @@
--- The members that are still to come, where a relation is gone through.
+-- The members that are still to come, where a relation is gone through. This project's own.
 use Rattle.std.specs.Prelude.{List, map}
 use Rattle.td_relation.specs.declared.members.Members.{Members}
 use Rattle.td_relation.specs.Asked.{Asked, asked}

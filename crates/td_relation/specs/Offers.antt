@@ -1,4 +1,4 @@
--- Offers by their names.
+-- Offers by their names. Policy 7.5.
 use Rattle.std.specs.Prelude.{ℕ, List, [], Option, map, option_map}
 use Rattle.std.specs.Option.{option_map_or}
 use Rattle.std.specs.HashMap.{get_by}

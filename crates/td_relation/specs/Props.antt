@@ -1,4 +1,5 @@
 -- Whether a table names no architecture twice is a fact that can be kept in a value.
+-- This project's own.
 use mathlib.Core.Bool.{Bool-set}
 use mathlib.Core.HLevel.{×_prop, Unit-prop}
 use Rattle.std.specs.Prelude.{List, [], ◌∷◌, ◌++◌}

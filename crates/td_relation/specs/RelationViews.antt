@@ -1,4 +1,4 @@
--- What the readers give, without where it lies in memory.
+-- What the readers give, without where it lies in memory. This project's own.
 use Rattle.std.specs.Prelude.{◌≡◌, ℕ, List, Option, option_map, Result, Ok, Err}
 use Rattle.std.specs.Borrow.{Bor}
 use Rattle.td_relation.specs.declared.relation.Restriction.{Restriction}

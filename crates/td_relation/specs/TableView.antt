@@ -1,4 +1,4 @@
--- The table that an `Archs` holds.
+-- The table that an `Archs` holds. This project's own.
 use Rattle.std.specs.Prelude.{List, map}
 use Rattle.td_relation.specs.declared.archs.Archs.{Archs}
 use Rattle.td_relation.specs.Arch.{ArchWords, words_of}

@@ -1,4 +1,4 @@
--- What a `Transition` is of.
+-- What a `Transition` is of. This project's own.
 use Rattle.std.specs.Prelude.{ℕ, List, Option}
 use Rattle.td_indices.specs.Archive.{Contents}
 use Rattle.td_query.specs.Tracking.{Tracking, tracking}

@@ -1,4 +1,4 @@
--- Where the lines of a field end.
+-- Where the lines of a field end. Policy 5.1.
 use Rattle.std.specs.Prelude.{◌≡◌, ℕ, IsTrue, false, List, ◌++◌, Option}
 use Rattle.std.specs.Borrow.{Bor}
 use Rattle.std.specs.List.{AllByRecursion}

@@ -1,4 +1,4 @@
--- Whether names are new is a fact that can be kept in a value.
+-- Whether names are new is a fact that can be kept in a value. This project's own.
 use mathlib.Core.Bool.{Bool-set}
 use mathlib.Core.HLevel.{×_prop, Unit-prop}
 use Rattle.std.specs.Prelude.{ℕ, List, [], ◌∷◌, ◌++◌}

@@ -1,4 +1,4 @@
--- A field without where its texts lie in memory.
+-- A field without where its texts lie in memory. This project's own.
 use Rattle.td_stanza.specs.declared.entry.Field.{Field}
 use Rattle.td_stanza.specs.Field.{Entry}
 

@@ -1,4 +1,5 @@
 -- What is wrong with lines that aren't stanzas: the first line with a fault.
+-- The faults are this project's own.
 use Rattle.std.specs.Prelude.{◌≡◌, ℕ, ◌+◌, Bool, true, false, IsTrue, List, [], ◌∷◌, ◌++◌, length}
 use Rattle.std.specs.Prelude.{Result, Ok, Err, ◌⊎◌}
 use Rattle.td_text.specs.Cut.{part}

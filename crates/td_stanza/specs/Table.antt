@@ -1,4 +1,4 @@
--- The stanzas that a flat list of fields has, by where each starts in it.
+-- The stanzas that a flat list of fields has, by where each starts in it. This project's own.
 pub use Rattle.td_stanza.specs.Shown.{shown}
 use Rattle.std.specs.Prelude.{◌≡◌, ℕ, ◌+◌, ◌-◌, ◌==◌, count_by, List, [], ◌∷◌, length, take, drop}
 use Rattle.std.specs.Prelude.{map, slice_get, Option, Some, IsTrue}

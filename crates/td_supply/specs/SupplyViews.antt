@@ -1,4 +1,4 @@
--- What a supply holds, without where its texts lie in memory.
+-- What a supply holds, without where its texts lie in memory. This project's own.
 use Rattle.std.specs.Prelude.{ℕ, Bool, List, map, option_map}
 use Rattle.std.specs.Borrow.{Bor}
 use Rattle.std.specs.String.{string_bytes}

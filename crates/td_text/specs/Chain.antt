@@ -1,4 +1,4 @@
--- A chain of readings: each goes on with what the one before it gave.
+-- A chain of readings: each goes on with what the one before it gave. This project's own.
 use Rattle.std.specs.Prelude.{Option, Some, None}
 
 -- what `?` goes on with; `do x ← a; b` stands for `a >>= λ x. b`

@@ -1,4 +1,4 @@
--- A text that is cut at a byte, or after a prefix.
+-- A text that is cut at a byte, or after a prefix. This project's own.
 use Rattle.std.specs.Prelude.{◌≢◌, ℕ, ◌==◌, List, [], ◌∷◌, Option, Some, None, if◌then◌else◌}
 use Rattle.std.specs.List.{AllByRecursion}
 use Rattle.td_text.specs.Chain.{◌>>=◌}

@@ -1,4 +1,4 @@
--- Texts that stand for values, and what it means to read them exactly.
+-- Texts that stand for values, and what it means to read them exactly. This project's own.
 use Rattle.std.specs.Prelude.{◌≡◌, ℕ, List, Option, Some}
 
 -- reading gives a value exactly where the text is the spelling of that value, and the value fits:

@@ -1,4 +1,4 @@
--- The first line with a fault.
+-- The first line with a fault. This project's own.
 use Rattle.std.specs.Prelude.{◌≡◌, ℕ, ◌+◌, List, ◌∷◌, ◌++◌, Result, Ok, Err, length}
 use Rattle.td_text.specs.Lines.{over_lines}
 

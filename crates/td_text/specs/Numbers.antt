@@ -1,4 +1,4 @@
--- Numbers as the formats write them: no `+`, no leading zero, no `-0`.
+-- Numbers as the formats write them: no `+`, no leading zero, no `-0`. This project's own.
 use Rattle.std.specs.Prelude.{ℕ, ◌==◌, ◌<◌, ◌≤◌, ◌^◌, decimal, nat_lt, nat_le, List, Bool, ◌&&◌}
 use Rattle.std.specs.Prelude.{◌||◌, not, Option, Some, None, length, slice_index, if◌then◌else◌}
 use Rattle.std.specs.Prelude.{codes, ℤ, pos, ◌≤ℤ◌}

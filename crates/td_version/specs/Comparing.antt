@@ -1,4 +1,5 @@
 -- What the comparison in place looks at. proofs/Comparing.antt joins it to the order.
+-- This project's own.
 use Rattle.std.specs.Prelude.{ℕ, ◌==◌, List, [], ◌∷◌, if◌then◌else◌}
 use Rattle.std.specs.Char.{is_ascii_digit}
 use Rattle.td_version.specs.Order.{end_mark, mark_of}

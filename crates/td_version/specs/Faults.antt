@@ -1,4 +1,5 @@
 -- What is wrong with a text that is no version: its first fault from the left.
+-- That order of faults is this project's own.
 use Rattle.std.specs.Prelude.{◌≡◌, ℕ, ◌+◌, not, ◌⊎◌, Bool, List, [], Some, is_some, length}
 use Rattle.std.specs.Prelude.{position}
 use Rattle.td_version.specs.declared.version.VersionFault.{VersionFault}

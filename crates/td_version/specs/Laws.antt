@@ -1,4 +1,4 @@
--- Laws of the order of versions, and of rebuilds in it.
+-- Laws of the order of versions, and of rebuilds in it. deb-version(7).
 use Rattle.std.specs.Prelude.{◌≡◌, ◌≢◌, ℕ, ◌<◌, ◌≤◌, List}
 use Rattle.std.specs.Ordering.{ordering_reverse}
 use Rattle.std.specs.declared.cmp.Ordering.TheVariants.{Less, Equal, Greater}

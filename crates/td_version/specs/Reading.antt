@@ -1,4 +1,5 @@
 -- What the reader computes. proofs/Outcomes.antt joins it to the grammar and the faults.
+-- This project's own.
 use Rattle.std.specs.Prelude.{ℕ, ◌+◌, ◌==◌, not, Bool, List, [], ◌∷◌, Option, Some, None, is_some}
 use Rattle.std.specs.Prelude.{option_map, Result, Ok, Err, length, position, if◌then◌else◌}
 use Rattle.std.specs.Str.Parse.{digits_value}

@@ -1,4 +1,5 @@
 -- The pairs of a part are its runs of symbols and digits in turn.
+-- deb-version(7), Sorting algorithm.
 use Rattle.std.specs.Prelude.{◌≡◌, ℕ, ◌+◌, ◌<◌, not, List, [], ◌∷◌, ◌++◌, IsTrue, length}
 use Rattle.std.specs.Char.{is_ascii_digit}
 use Rattle.std.specs.List.{AllByRecursion, flat_map, list_all}

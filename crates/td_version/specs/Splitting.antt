@@ -1,4 +1,5 @@
 -- How a rebuild suffix is found. proofs/Rebuilds.antt joins it to what a rebuild is.
+-- This project's own.
 use Rattle.std.specs.Prelude.{ℕ, ◌==◌, ◌||◌, List, Option, Some, None, length, codes, if◌then◌else◌}
 use Rattle.td_text.specs.Limits.{max_rebuild}
 use Rattle.td_text.specs.Chain.{◌>>=◌}

@@ -1,4 +1,4 @@
--- The sources that are found to be built on, by their numbers.
+-- The sources that are found to be built on, by their numbers. This project's own.
 use Rattle.std.specs.Prelude.{ℕ, ◌==◌, ◌&&◌, ◌||◌, Bool, List}
 use Rattle.std.specs.List.{list_any}
 use Rattle.td_relation.specs.Asked.{Asked}

@@ -1,4 +1,4 @@
--- The affected sources by number, and which of them build on which.
+-- The affected sources by number, and which of them build on which. This project's own.
 use Rattle.std.specs.Prelude.{◌≡◌, ◌<◌, ◌&&◌, ℕ, List, [], length, nat_lt, slice_index_or}
 use Rattle.std.specs.Borrow.{Bor}
 use Rattle.std.specs.Global.{Vec}

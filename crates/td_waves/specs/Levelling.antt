@@ -1,4 +1,4 @@
--- The levels that were found.
+-- The levels that were found. This project's own.
 use Rattle.std.specs.Prelude.{◌≡◌, ℕ, ◌==◌, List, slice_index_or, Option, None, Some, slice_get}
 use Rattle.std.specs.Prelude.{option_map, if◌then◌else◌}
 use Rattle.td_waves.specs.declared.level.Level.{Level}

@@ -1,4 +1,4 @@
--- The levels in which things that build on one another can be rebuilt.
+-- The levels in which things that build on one another can be rebuilt. This project's own.
 use Rattle.std.specs.Prelude.{◌≡◌, ◌⊎◌, ◌<◌, ◌≤◌, ℕ, zero, suc, Option, None, Some}
 use Rattle.td_waves.specs.declared.level.Level.{Level}
 use Rattle.td_waves.specs.declared.level.Level.TheVariants.{At, Cyclic}

@@ -1,4 +1,5 @@
 -- What is found under a name: the packages of the affected sources that offer it.
+-- This project's own.
 use Rattle.std.specs.Prelude.{ℕ, zero, suc, Bool, false, ◌&&◌, ◌||◌, List, [], Option, slice_get}
 use Rattle.std.specs.Prelude.{slice_index_or}
 use Rattle.std.specs.List.{list_any}

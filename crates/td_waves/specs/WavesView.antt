@@ -1,4 +1,4 @@
--- What a `Waves` says of each source.
+-- What a `Waves` says of each source. This project's own.
 use Rattle.std.specs.Prelude.{ℕ, List, Option}
 use Rattle.td_waves.specs.declared.level.Level.{Level}
 use Rattle.td_waves.specs.declared.waves.Waves.{Waves}

@@ -1,4 +1,4 @@
--- The names of faults, as they are printed.
+-- The names of faults, as they are printed. This project's own.
 use Rattle.std.specs.Prelude.{ℕ, List, codes}
 use Rattle.td_wbread.specs.declared.fault.LineFault.{LineFault}
 use Rattle.td_wbread.specs.declared.fault.LineFault.TheVariants.{UnterminatedQuote, UnknownCommand}

@@ -1,4 +1,4 @@
--- What the readers give, without where it lies in memory.
+-- What the readers give, without where it lies in memory. This project's own.
 use Rattle.std.specs.Prelude.{ℕ, List, Option, option_map, map, Result, Ok, Err, string_bytes}
 use Rattle.std.specs.Borrow.{Bor}
 use Rattle.td_wbread.specs.declared.command.Verb.{Verb}
