@@ -132,7 +132,8 @@ lost_step named i n k old new answer at view up out lost told =
     let rows : rows_of new.books.history ≡ applied (Claim b) (k ∷ []) t =
     ap rows_of same ∙ rows_with old.books.history (claim_of b k) in
     let is : (is_queued_at t k && is_lost b) ≡ true =
-    ap (λ v. v && is_lost b) (is_out_at t k n out.row up out.at ∙ out.out) ∙ pos_lost b lost.1.one in
+    ap (λ v. v && is_lost b) (is_out_at t k n out.row up out.at ∙ out.out)
+    ∙ pos_lost b lost.1.one in
     record {
       key = k;
       at = at;

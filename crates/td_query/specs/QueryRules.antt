@@ -1,4 +1,5 @@
--- The rules of queries, each by what its parts are read as. This project's own, in the style of ben.
+-- The rules of queries, each by what its parts are read as. This project's own, in the style of
+-- ben.
 use Rattle.std.specs.Prelude.{◌≡◌, ℕ, suc, List, ◌++◌, None, Ok, codes}
 use Rattle.td_query.specs.Query.{Shape, negated, both, either}
 use Rattle.td_query.specs.QueryGrammar.{Log, behind_mark, not_in, or_at}

@@ -11,7 +11,8 @@ use Rattle.td_core.proofs.Openings.{NoneBuilt-state_file}
 use Rattle.td_script.specs.declared.input_fault.InputFault.TheVariants as input
 use Rattle.td_script.specs.declared.running.RunFault.{RunFault}
 use Rattle.td_script.specs.declared.running.RunFault.TheVariants.{NoMemory}
-use Rattle.td_script.specs.OpeningInside.{CanReplace, IsPutOver, IsRefusedIn, IsReplacedIn, of_input}
+use Rattle.td_script.specs.OpeningInside.{CanReplace, IsPutOver, IsRefusedIn, IsReplacedIn}
+use Rattle.td_script.specs.OpeningInside.{of_input}
 use Rattle.td_script.proofs.OnlyLaws.{missing_stops}
 use Rattle.td_script.proofs.OpeningLaws.{none_built_over}
 

@@ -134,7 +134,8 @@ claim_found rest s e =
 
 -- ---- how a build ended
 
-finish_joined : (rest d more end : List ℕ) → rest ≡ d ++ 32 ∷ more → more ≡ end → rest ≡ d ++ 32 ∷ end
+finish_joined : (rest d more end : List ℕ) → rest ≡ d ++ 32 ∷ more → more ≡ end
+    → rest ≡ d ++ 32 ∷ end
 finish_joined rest d more end h1 h2 = cc
 
 finish_found : (rest : List ℕ) (s : Step) → finish_at rest ≡ Some s

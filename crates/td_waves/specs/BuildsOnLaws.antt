@@ -11,7 +11,8 @@ use Rattle.td_waves.specs.BuildsOn.{asked_first, asked_for_arch, builds_on}
 
 -- on the architecture at a place the source with a number has a row, the alternative is active, and
 -- the package is there or of `all`
-pub record MeetsAt (a : Contents) (source : ℕ) (x : Asked) (b : KeptBinary) (place : ℕ) : Type 0 where
+pub record MeetsAt (a : Contents) (source : ℕ) (x : Asked) (b : KeptBinary)
+    (place : ℕ) : Type 0 where
   pub row : IsTrue (has_row_at a source place)
   pub arch : ArchWords
   pub at : slice_get a.table place ≡ Some arch

@@ -4,7 +4,8 @@ ghost use Rattle.std.specs.Prelude.{MatchResult, IfOk, IfErr};
 ghost use Rattle.clap.specs.Matches.{found_of};
 ghost use Rattle.clap.specs.Walk.{first_of, rows_of};
 ghost use Rattle.td_words.specs.CommandLine.{HasFiles, HasRun, RunWords};
-ghost use Rattle.td_words.specs.CommandLine.{builders_in as builders_in_of, suite_in as suite_in_of};
+ghost use Rattle.td_words.specs.CommandLine.{builders_in as builders_in_of};
+ghost use Rattle.td_words.specs.CommandLine.{suite_in as suite_in_of};
 ghost use Rattle.td_words.specs.Asked.{IsGivenBy, IsUsage, builders_said, request_words, run_of};
 
 use crate::request::{

@@ -36,7 +36,8 @@ returns-in-Some c =
     let e = c.in-Ok.ensures.ending.closing in
     let same = c.prepare.ensures.history ∙ ap (λ (m : BookModel). m.history) c.self.view_is in
     let at = ap (λ (g : History). slice_get (keys_of g.opening) i) (sym same)
-    ∙ ap (λ (ks : List Key). slice_get ks i) (sym (keys_of-rows_of c.prepare.new.self.books.history))
+    ∙ ap (λ (ks : List Key). slice_get ks i)
+    (sym (keys_of-rows_of c.prepare.new.self.books.history))
     ∙ e.at in (
       search rules,
       record {

@@ -13,7 +13,8 @@ change_each-requires-clause-changed c =
     (c.in-Some.ensures.entry ∙ ap (λ (ms : List Marked). entry_at ms c.args.n) c.journal.ensures)
     (sym c.in-Some-made_installed.ensures) c.as_slice.ensures.keys c.rows.ensures.rows
 
-pub returns-in_default-made_installed-clause-counts : goal.returns-in_default-made_installed-clause-counts
+pub returns-in_default-made_installed-clause-counts :
+    goal.returns-in_default-made_installed-clause-counts
 returns-in_default-made_installed-clause-counts c =
     entered-same c.args.n c.args.books.now.history c.args.self.now.installed.items
     c.args.self.now.groups.items c.in-Some.marked.now c.requires

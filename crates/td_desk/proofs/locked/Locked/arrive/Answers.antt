@@ -14,7 +14,8 @@ invariant_of-self-in-Break-1 g c =
     let old = c.args.self.now in
     let done : ArriveOutcome c.args.key.now old.book c.arrive.new.self (Err c.in_err-n.field-0.0) =
     search rules in
-    let k = arrive_kept g.N.Named.opened c.args.key.now c.in_err-n.field-0.0 old.book c.arrive.new.self
+    let k =
+    arrive_kept g.N.Named.opened c.args.key.now c.in_err-n.field-0.0 old.book c.arrive.new.self
     old.still done in
     let room : length old.book.history.journal + 1 ≤ length c.add_ticks.new.ticks.items =
     search rules in

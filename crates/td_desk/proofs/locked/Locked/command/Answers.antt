@@ -19,7 +19,8 @@ invariant_of-self-in-Break-1 g c =
     let old = c.args.self.now in
     let p = parts_of c.args.command.now in
     let done : IsDone p old.book c.command.new.self (Err c.in_err-taken.field-0.0) = search rules in
-    let k = command_kept g.N.Named.opened p c.in_err-taken.field-0.0 old.book c.command.new.self old.still
+    let k = command_kept g.N.Named.opened p c.in_err-taken.field-0.0 old.book c.command.new.self
+    old.still
     done in
     let same : length c.in-Ok.draft.named.items ≡ length (named_by p old.book) =
     ap length c.in-Ok.ensures.named in

@@ -15,7 +15,8 @@ returns-in-Ok-clause-tells g c =
     let t = tracking c.args.tracker.now in
     tells_from (g.S.Staff.tells run.staff.now) x c.args.archive.now
     (Some (report_by y)) c.args.rows run.script.now c.tell_from-told.result
-    c.tell_from-told.ensures.told c.tell_from-told.ensures.refused c.requires.archive c.requires.rows
+    c.tell_from-told.ensures.told c.tell_from-told.ensures.refused c.requires.archive
+    c.requires.rows
     (tracker_reports x c.args.archive.now (contents_of y) t (tracking_of y) (level_of y)
     (depth_of y) (report_by y) c.in-Ok.ensures.archive c.in-Ok.ensures.tracking c.requires.tracker
     c.in-Ok.ensures.made.leveled (λ rows. refl))
