@@ -46,6 +46,29 @@ fn a_builder_with_a_row_claims_no_other(rt: HostRuntime) -> Result<(), Fail> {
     Ok(())
 }
 
+// Whether the seats are numbered from 1 on, and have nothing in hand.
+fn are_free(seats: &[BuilderSeat]) -> bool {
+    for (index, seat) in seats.iter().enumerate() {
+        let number = (index as u64).saturating_add(1);
+        if seat.number() != number || seat.hand() != Hand::Free {
+            return false;
+        }
+    }
+    true
+}
+
+// Whether a board is made with just so many rows and builders, as it and its seats say.
+fn is_made(alloc: Global, rows: usize, builders: usize) -> Result<bool, Fail> {
+    let (board, desk, seats) = Board::make(alloc, rows, builders)?;
+    let has_rows = board.rows() == rows && desk.rows() == rows;
+    let has_builders = desk.builders() == builders as u64 && seats.len() == builders;
+    let are_free = are_free(&seats);
+    drop(seats);
+    drop(desk);
+    drop(board);
+    Ok(has_rows && has_builders && are_free)
+}
+
 #[test]
 fn a_board_keeps_to_its_limits(rt: HostRuntime) -> Result<(), Fail> {
     for (rows, builders, refusal) in [
@@ -53,21 +76,11 @@ fn a_board_keeps_to_its_limits(rt: HostRuntime) -> Result<(), Fail> {
         (1_048_577, 1, MakeRefusal::TooManyRows),
         (1_048_577, 65, MakeRefusal::TooManyRows),
     ] {
-        match Board::make(rt.alloc(), rows, builders) {
-            Ok(_) => return Err(Fail::from("a board beyond the limits")),
-            Err(found) => assert_eq!(rt; found, refusal),
-        }
+        let found = Board::make(rt.alloc(), rows, builders).err();
+        assert_eq!(rt; found, Some(refusal));
     }
     for (rows, builders) in [(0, 0), (1_048_576, 64)] {
-        let (board, desk, seats) = Board::make(rt.alloc(), rows, builders)?;
-        assert_eq!(rt; board.rows(), rows);
-        assert_eq!(rt; desk.rows(), rows);
-        assert_eq!(rt; desk.builders(), builders as u64);
-        assert_eq!(rt; seats.len(), builders);
-        for (index, seat) in seats.iter().enumerate() {
-            assert_eq!(rt; seat.number(), index as u64 + 1);
-            assert_eq!(rt; seat.hand(), Hand::Free);
-        }
+        assert!(rt; is_made(rt.alloc(), rows, builders)?, "{rows} rows");
     }
     Ok(())
 }
@@ -121,6 +134,13 @@ fn claimed_row(alloc: Global) -> Result<(Board, DeskSeat, BuilderSeat), Fail>
     Ok((board, desk, seat))
 }
 
+// Lets a board and its two seats go.
+fn close(board: Board, desk: DeskSeat, seat: BuilderSeat) {
+    drop(seat);
+    drop(desk);
+    drop(board);
+}
+
 #[test]
 fn a_finish_waits_for_the_note_and_a_settling_for_the_finish(rt: HostRuntime) -> Result<(), Fail> {
     let (board, mut desk, mut seat) = claimed_row(rt.alloc())?;
@@ -136,6 +156,7 @@ fn a_finish_waits_for_the_note_and_a_settling_for_the_finish(rt: HostRuntime) ->
     assert!(rt; !settled, "with another outcome");
     let settled = board.settle(&mut desk, 0, OutcomeCode::Attempted);
     assert!(rt; settled);
+    close(board, desk, seat);
     Ok(())
 }
 
@@ -145,19 +166,18 @@ fn a_release_waits_for_the_settling(rt: HostRuntime) -> Result<(), Fail> {
     board.note(&mut desk, 0);
     let finished = board.finish(&mut seat, OutcomeCode::Waits);
     assert!(rt; finished);
-    let Hand::Finished(0, OutcomeCode::Waits) = seat.hand() else {
-        return Err(Fail::from("the hand is finished"));
-    };
+    let is_finished = matches!(seat.hand(), Hand::Finished(0, OutcomeCode::Waits));
+    assert!(rt; is_finished);
     let released = board.release(&mut seat);
     assert!(rt; !released, "before the settling");
     let settled = board.settle(&mut desk, 0, OutcomeCode::Waits);
     assert!(rt; settled);
-    let Hand::Finished(0, OutcomeCode::Waits) = seat.hand() else {
-        return Err(Fail::from("the hand is still finished"));
-    };
+    let is_finished = matches!(seat.hand(), Hand::Finished(0, OutcomeCode::Waits));
+    assert!(rt; is_finished, "still");
     let released = board.release(&mut seat);
     assert!(rt; released);
     assert_eq!(rt; seat.hand(), Hand::Free);
+    close(board, desk, seat);
     Ok(())
 }
 
@@ -178,6 +198,7 @@ fn a_claim_releases_a_settled_finish_first(rt: HostRuntime) -> Result<(), Fail> 
     let claimed = board.claim(0, &mut seat);
     assert!(rt; claimed);
     assert_eq!(rt; seat.hand(), Hand::Holding(0));
+    close(board, desk, seat);
     Ok(())
 }
 
@@ -194,6 +215,7 @@ fn a_claim_of_a_row_that_is_not_there_releases_a_settled_finish(
     let claimed = board.claim(1, &mut seat);
     assert!(rt; !claimed, "no such row");
     assert_eq!(rt; seat.hand(), Hand::Free);
+    close(board, desk, seat);
     Ok(())
 }
 

@@ -34,7 +34,7 @@ fn key(alloc: Global, text: &str) -> Result<Key, Fail> {
 }
 
 // Keys with a space between them.
-fn keys(alloc: Global, text: &str) -> Result<KeyList, Fail> {
+pub(crate) fn keys(alloc: Global, text: &str) -> Result<KeyList, Fail> {
     let mut keys = Vec::new(alloc);
     for word in text.split(' ') {
         keys.push(key(alloc, word)?)?;
@@ -89,21 +89,20 @@ enum Told {
 
 // Whether the answer is that.
 fn is_told(answer: &Answer, told: Told) -> bool {
-    match told {
-        Told::Entry(n) => *answer == Answer::Entry(n),
-        Told::Undone(n) => *answer == Answer::Undone(n),
-        Told::Nothing => *answer == Answer::Nothing,
-        Told::Blocked(n) => *answer == Answer::Refused(Refusal::Blocked(n)),
-        Told::AlreadyUndone => *answer == Answer::Refused(Refusal::AlreadyUndone),
-        Told::NotACommand => *answer == Answer::Refused(Refusal::NotACommand),
-        Told::NoSuchRow(key) => match answer {
-            Answer::Refused(Refusal::NoSuchRow(Some(named))) => named.as_str() == key,
-            _ => false,
-        },
-        Told::DoesNotApply(key) => match answer {
-            Answer::Refused(Refusal::DoesNotApply(named)) => named.as_str() == key,
-            _ => false,
-        },
+    match (told, answer) {
+        (Told::Entry(n), Answer::Entry(found)) => n == *found,
+        (Told::Undone(n), Answer::Undone(found)) => n == *found,
+        (Told::Nothing, Answer::Nothing) => true,
+        (Told::Blocked(n), Answer::Refused(Refusal::Blocked(found))) => n == *found,
+        (Told::AlreadyUndone, Answer::Refused(Refusal::AlreadyUndone)) => true,
+        (Told::NotACommand, Answer::Refused(Refusal::NotACommand)) => true,
+        (Told::NoSuchRow(key), Answer::Refused(Refusal::NoSuchRow(Some(found)))) => {
+            found.as_str() == key
+        }
+        (Told::DoesNotApply(key), Answer::Refused(Refusal::DoesNotApply(found))) => {
+            found.as_str() == key
+        }
+        _ => false,
     }
 }
 
@@ -140,7 +139,50 @@ fn rows_told(
     }
 }
 
-// The rows after the steps of a table; the line that is answered otherwise, if one is.
+// The rows after the steps of a table, from these rows on; the line that is answered otherwise, if
+// one is.
+fn rows_run(
+    alloc: Global,
+    opening: Rows,
+    supply: Supply<'_>,
+    steps: Vec<Step>,
+    table: &[(&'static str, Told)],
+) -> Result<String, Fail>
+    requires supply { supply ≡ opened (stock_of supply) }
+    requires opening { NoneBuilt opening }
+{
+    match run(alloc, opening, supply, 0, steps) {
+        Ok((world, answers)) => {
+            let told = rows_told(alloc, &world, answers.as_slice(), table);
+            drop(answers);
+            drop(world);
+            told
+        }
+        Err(_) => Err(Fail::from("want of memory")),
+    }
+}
+
+// The same from the rows that are read.
+fn rows_stepped(
+    alloc: Global,
+    supply: Supply<'_>,
+    opening: &str,
+    steps: Vec<Step>,
+    table: &[(&'static str, Told)],
+) -> Result<String, Fail>
+    requires { supply ≡ opened (stock_of supply) }
+{
+    match rows(alloc, opening) {
+        Ok(opening) => rows_run(alloc, opening, supply, steps, table),
+        Err(fail) => {
+            drop(steps);
+            drop(supply);
+            Err(fail)
+        }
+    }
+}
+
+// The same by the table alone.
 fn rows_after(
     alloc: Global,
     supply: Supply<'_>,
@@ -149,11 +191,12 @@ fn rows_after(
 ) -> Result<String, Fail>
     requires { supply ≡ opened (stock_of supply) }
 {
-    let steps = steps(alloc, table)?;
-    let opening = rows(alloc, opening)?;
-    match run(alloc, opening, supply, 0, steps) {
-        Ok((world, answers)) => rows_told(alloc, &world, answers.as_slice(), table),
-        Err(_) => Err(Fail::from("want of memory")),
+    match steps(alloc, table) {
+        Ok(steps) => rows_stepped(alloc, supply, opening, steps, table),
+        Err(fail) => {
+            drop(supply);
+            Err(fail)
+        }
     }
 }
 
@@ -236,9 +279,15 @@ const EXTRAS: [(&str, Told); 16] = [
     ("sweep", Told::Nothing),
 ];
 
+// The rows after these steps, with the library on offer.
+fn rows_after_extras(alloc: Global) -> Result<String, Fail> {
+    let supply = library(alloc)?;
+    rows_after(alloc, supply, WAITING, &EXTRAS)
+}
+
 #[test]
 fn a_rebuild_waits_for_what_it_needs_beside_it(rt: HostRuntime) -> Result<(), Fail> {
-    let rows = rows_after(rt.alloc(), library(rt.alloc())?, WAITING, &EXTRAS)?;
+    let rows = rows_after_extras(rt.alloc())?;
     assert_eq!(rt; rows.as_str(), FREED);
     Ok(())
 }
@@ -288,7 +337,11 @@ fn rows_gone_on(alloc: Global, books: &mut Books<'_>) -> Result<String, Fail> {
 
 fn rows_reopened(alloc: Global, opening: &str, journal: &str) -> Result<String, Fail> {
     match reopened(alloc, opening, journal) {
-        Ok(mut books) => rows_gone_on(alloc, &mut books),
+        Ok(mut books) => {
+            let rows = rows_gone_on(alloc, &mut books);
+            drop(books);
+            rows
+        }
         Err(fail) => Err(fail),
     }
 }
@@ -318,7 +371,9 @@ fn are_kept(kept: &Kept) -> bool {
 #[test]
 fn of_a_history_that_is_read_again_standing_commands_are_kept(rt: HostRuntime) -> Result<(), Fail> {
     let kept = history(rt.alloc(), WAITING, ARRIVED)?;
-    assert!(rt; are_kept(&kept));
+    let are_kept = are_kept(&kept);
+    drop(kept);
+    assert!(rt; are_kept);
     Ok(())
 }
 
@@ -383,7 +438,11 @@ fn planned_answers(alloc: Global, kept: &mut Kept) -> Result<String, Fail> {
 fn rows_planned(alloc: Global, opening: &str) -> Result<String, Fail> {
     let rows = rows(alloc, opening)?;
     match Kept::open(alloc, rows) {
-        Ok(mut kept) => planned_answers(alloc, &mut kept),
+        Ok(mut kept) => {
+            let answers = planned_answers(alloc, &mut kept);
+            drop(kept);
+            answers
+        }
         Err(_) => Err(Fail::from("want of memory")),
     }
 }
