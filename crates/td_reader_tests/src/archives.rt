@@ -251,7 +251,11 @@ fn rows_of(rt: &impl Abort, alloc: Global, table: &str, sources: &str) -> Option
         panic!(rt; "the table is read");
     };
     match Archive::read(alloc, "", sources, &archs) {
-        Ok(archive) => Some(archive.row_count()),
+        Ok(archive) => {
+            let count = archive.row_count();
+            drop(archive);
+            Some(count)
+        }
         Err(fault) => {
             assert_eq!(rt; fault, ArchiveFault::TooManyRows);
             None

@@ -1,6 +1,7 @@
 //! What no clause says: that lines are read with ample memory, and what the definitions make of the
 //! lines that the release team writes. Expected by hand, from the rules in `docs/FORMATS.md`.
 use std::alloc::Global;
+use std::process::Abort;
 use std::test::Fail;
 use td_relation::Archs;
 use td_rows::{Kind, Line, RebuildNumber};
@@ -119,12 +120,17 @@ fn reading(alloc: Global, line: &str) -> Result<String, Fail> {
     }
 }
 
+fn is_read_as(rt: &impl Abort, alloc: Global, line: &str, want: &str) -> Result<(), Fail> {
+    let got = reading(alloc, line)?;
+    assert_eq!(rt; got.as_str(), want, "{line}");
+    Ok(())
+}
+
 #[test]
 fn lines_are_read_as_the_release_team_means_them(rt: HostRuntime) -> Result<(), Fail> {
     for row in LINES.split('\n') {
         if let Some((line, want)) = row.split_once(" # ") {
-            let got = reading(rt.alloc(), line)?;
-            assert_eq!(rt; got.as_str(), want);
+            is_read_as(&rt, rt.alloc(), line, want)?;
         }
     }
     Ok(())
@@ -168,20 +174,29 @@ bar_1.2-3 foo_1 # false
 foo_1 foo_1.2-3 # true
 ";
 
-// Whether the command names the row foo/i386 and its version matches.
-fn takes(alloc: Global, packages: &str) -> Result<bool, Fail> {
-    let archs = Archs::read(alloc, TABLE)?;
-    let line = format!(in alloc; "gb {packages} . ANY -amd64")?;
-    let Ok(command) = read_command(alloc, line.as_str(), &archs, &[]) else {
-        return Err(Fail::from("it isn't read"));
+// Whether the command names the row foo/i386 and not foo/amd64, and its version matches.
+fn takes_foo(command: &Command<'_>) -> bool {
+    let Ok(version) = Version::read("1.2-3") else {
+        return false;
     };
-    let version = Version::read("1.2-3")?;
     let number = RebuildNumber::new(2).unwrap_or(RebuildNumber::zero());
-    Ok(
-        command.is_named("foo", "i386")
-            && !command.is_named("foo", "amd64")
-            && command.is_matched("foo", &version, number),
-    )
+    command.is_named("foo", "i386")
+        && !command.is_named("foo", "amd64")
+        && command.is_matched("foo", &version, number)
+}
+
+// The same of the command for these packages on i386.
+fn takes(alloc: Global, packages: &str) -> Result<bool, Fail> {
+    let line = format!(in alloc; "gb {packages} . ANY -amd64")?;
+    let archs = Archs::read(alloc, TABLE)?;
+    match read_command(alloc, line.as_str(), &archs, &[]) {
+        Ok(command) => {
+            let is_taken = takes_foo(&command);
+            drop(command);
+            Ok(is_taken)
+        }
+        Err(_) => Err(Fail::from("it isn't read")),
+    }
 }
 
 #[test]
@@ -203,18 +218,28 @@ fn has_kind(alloc: Global, line: &str, kind: &Kind) -> Result<bool, Fail> {
     Ok(kind_of(&command)? == *kind)
 }
 
+fn third_rebuild(alloc: Global) -> Result<Kind, Fail> {
+    let extra = Line::new(alloc, "libbar-dev")?;
+    Ok(Kind::Nmu {
+        number: RebuildNumber::new(3),
+        extra,
+        message: Line::new(alloc, "Rebuild")?,
+    })
+}
+
+fn makes(alloc: Global, line: &str, kind: Kind) -> Result<bool, Fail> {
+    let is_made = has_kind(alloc, line, &kind);
+    drop(kind);
+    is_made
+}
+
 #[test]
 fn a_command_makes_an_entry_of_its_kind(rt: HostRuntime) -> Result<(), Fail> {
     let alloc = rt.alloc();
-    assert!(rt; has_kind(alloc, "gb foo . ANY", &Kind::Gb)?);
-    let nmu = Kind::Nmu {
-        number: RebuildNumber::new(3),
-        extra: Line::new(alloc, "libbar-dev")?,
-        message: Line::new(alloc, "Rebuild")?,
-    };
+    assert!(rt; makes(alloc, "gb foo . ANY", Kind::Gb)?);
     let line = "nmu 3 foo . ANY . -m Rebuild --extra-depends libbar-dev";
-    assert!(rt; has_kind(alloc, line, &nmu)?);
-    let dw = Kind::Dw(Line::new(alloc, "libbar-dev")?);
-    assert!(rt; has_kind(alloc, "dw foo . ANY . -m libbar-dev", &dw)?);
+    assert!(rt; makes(alloc, line, third_rebuild(alloc)?)?);
+    let line = "dw foo . ANY . -m libbar-dev";
+    assert!(rt; makes(alloc, line, Kind::Dw(Line::new(alloc, "libbar-dev")?))?);
     Ok(())
 }

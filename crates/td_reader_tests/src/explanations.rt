@@ -1,4 +1,6 @@
 //! Lines worked by hand: this project's own.
+use std::alloc::Global;
+use std::process::Abort;
 use std::test::Fail;
 use td_explain::{Place, explain};
 
@@ -60,17 +62,26 @@ fn one_line_stays_one_line(rt: HostRuntime) -> Result<(), Fail> {
     Ok(())
 }
 
+/// 60 characters of two bytes each.
+const SIXTY: &str = "\
+éééééééééé\
+éééééééééé\
+éééééééééé\
+éééééééééé\
+éééééééééé\
+éééééééééé";
+
+fn is_cut(rt: &impl Abort, alloc: Global, behind: &str, mark: &str) -> Result<(), Fail> {
+    let text = format!(in alloc; "{SIXTY}{behind}")?;
+    let line = explain(alloc, "", Place::Line(1), "x", text.as_str())?;
+    let wanted = format!(in alloc; "line 1 has \"{SIXTY}\"{mark}; wanted: x\n")?;
+    assert_eq!(rt; line.as_str(), wanted.as_str());
+    Ok(())
+}
+
 // 60 characters are shown, and of more the first 60.
 #[test]
 fn a_long_line_is_cut(rt: HostRuntime) -> Result<(), Fail> {
-    let ten = "éééééééééé";
-    let sixty = format!(in rt.alloc(); "{ten}{ten}{ten}{ten}{ten}{ten}")?;
-    let line = explain(rt.alloc(), "", Place::Line(1), "x", sixty.as_str())?;
-    let whole = format!(in rt.alloc(); "line 1 has \"{sixty}\"; wanted: x\n")?;
-    assert_eq!(rt; line.as_str(), whole.as_str());
-    let longer = format!(in rt.alloc(); "{sixty}z")?;
-    let line = explain(rt.alloc(), "", Place::Line(1), "x", longer.as_str())?;
-    let cut = format!(in rt.alloc(); "line 1 has \"{sixty}\"...; wanted: x\n")?;
-    assert_eq!(rt; line.as_str(), cut.as_str());
-    Ok(())
+    is_cut(&rt, rt.alloc(), "", "")?;
+    is_cut(&rt, rt.alloc(), "z", "...")
 }

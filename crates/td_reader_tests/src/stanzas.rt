@@ -1,26 +1,32 @@
 //! Control files that are read, or refused at a line. Expected by hand, from Policy 5.1.
-use std::alloc::Global;
+use std::alloc::{AllocError, Global};
 use std::process::Abort;
 use std::test::Fail;
-use td_stanza::{StanzaFault, stanzas};
+use td_stanza::{Stanza, StanzaFault, StanzaList, stanzas};
 
-/// The fields of all stanzas, an empty line behind each stanza.
-fn shown(alloc: Global, text: &str) -> Result<String, Fail> {
-    let mut out = String::new(alloc);
-    let list = stanzas(alloc, text)?;
+fn put_fields(out: &mut String, stanza: &Stanza<'_, '_>) -> Result<(), AllocError> {
+    for place in 0..stanza.len() {
+        if let Some((name, value)) = stanza.field(place) {
+            write!(out, "{name}={value}|")?;
+        }
+    }
+    out.push_str("\n")
+}
+
+fn put_stanzas(out: &mut String, list: &StanzaList<'_>) -> Result<(), AllocError> {
     for number in 0..list.len() {
         if let Some(stanza) = list.stanza(number) {
-            for place in 0..stanza.len() {
-                if let Some((name, value)) = stanza.field(place) {
-                    out.push_str(name)?;
-                    out.push_str("=")?;
-                    out.push_str(value)?;
-                    out.push_str("|")?;
-                }
-            }
+            put_fields(out, &stanza)?;
         }
-        out.push_str("\n")?;
     }
+    Ok(())
+}
+
+/// The fields of all stanzas, a newline behind each stanza.
+fn shown(alloc: Global, text: &str) -> Result<String, Fail> {
+    let list = stanzas(alloc, text)?;
+    let mut out = String::new(alloc);
+    put_stanzas(&mut out, &list)?;
     Ok(out)
 }
 
@@ -31,24 +37,30 @@ fn is_fault(rt: &impl Abort, alloc: Global, text: &str, fault: StanzaFault) {
     }
 }
 
+fn is_foo(rt: &impl Abort, first: &Stanza<'_, '_>) {
+    assert!(rt; first.len() == 2 && !first.is_empty());
+    assert!(rt; first.get("package") == Some("foo"));
+    assert!(rt; first.get("DEPENDS") == Some("\n libc6,\n libfoo1"));
+    assert!(rt; first.field(0) == Some(("Package", "foo")));
+    assert!(rt; first.get("Version").is_none() && first.field(2).is_none());
+}
+
+fn begins_with_foo(rt: &impl Abort, list: &StanzaList<'_>) {
+    assert!(rt; list.len() == 2 && !list.is_empty());
+    match list.stanza(0) {
+        Some(first) => is_foo(rt, &first),
+        None => panic!(rt; "the text has a first stanza"),
+    }
+    assert!(rt; list.stanza(2).is_none());
+}
+
 // Two stanzas, the second without a newline at its end.
 #[test]
 fn a_value_keeps_the_newlines_inside_it(rt: HostRuntime) -> Result<(), Fail> {
     let text = "Package: foo \nDepends:\n libc6,\n libfoo1\n \nPackage: bar";
     let list = stanzas(rt.alloc(), text)?;
-    assert_eq!(rt; list.len(), 2);
-    assert!(rt; !list.is_empty());
-    let Some(first) = list.stanza(0) else {
-        return Err(Fail::from("the text has a first stanza"));
-    };
-    assert_eq!(rt; first.len(), 2);
-    assert!(rt; !first.is_empty());
-    assert_eq!(rt; first.get("package"), Some("foo"));
-    assert_eq!(rt; first.get("DEPENDS"), Some("\n libc6,\n libfoo1"));
-    assert_eq!(rt; first.field(0), Some(("Package", "foo")));
-    assert!(rt; first.get("Version").is_none());
-    assert!(rt; first.field(2).is_none());
-    assert!(rt; list.stanza(2).is_none());
+    begins_with_foo(&rt, &list);
+    drop(list);
     let out = shown(rt.alloc(), text)?;
     assert_eq!(rt;
         out.as_str(),
@@ -158,23 +170,42 @@ Package-List:
 Directory: pool/main/0/0ad
 ";
 
+/// A field's name, and its value.
+type Held = (&'static str, &'static str);
+
+const OF_PACKAGES: [Held; 2] = [("Source", "0ad"), ("Version", "0.27.0-1")];
+
+const OF_SOURCES: [Held; 2] = [
+    (
+        "files",
+        "\n 34bbd1a1 2391 0ad_0.27.0-1.dsc\n 4ae0c0ff 75656312 0ad_0.27.0.orig.tar.xz",
+    ),
+    ("Directory", "pool/main/0/0ad"),
+];
+
+/// Whether the first stanza has so many fields, these among them.
+fn holds(list: &StanzaList<'_>, count: usize, fields: &[Held]) -> bool {
+    let Some(stanza) = list.stanza(0) else {
+        return false;
+    };
+    for (name, value) in fields {
+        if stanza.get(name) != Some(*value) {
+            return false;
+        }
+    }
+    stanza.len() == count
+}
+
+/// The same of the stanzas of a text.
+fn is_holding(alloc: Global, text: &str, count: usize, fields: &[Held]) -> Result<bool, Fail> {
+    let list = stanzas(alloc, text)?;
+    Ok(holds(&list, count, fields))
+}
+
 // From Debian's own indices (sid).
 #[test]
 fn stanzas_of_the_archive_are_read(rt: HostRuntime) -> Result<(), Fail> {
-    let list = stanzas(rt.alloc(), PACKAGES)?;
-    let Some(stanza) = list.stanza(0) else {
-        return Err(Fail::from("the text has a stanza"));
-    };
-    assert_eq!(rt; stanza.get("Source"), Some("0ad"));
-    assert_eq!(rt; stanza.get("Version"), Some("0.27.0-1"));
-    assert_eq!(rt; stanza.len(), 11);
-    let list = stanzas(rt.alloc(), SOURCES)?;
-    let Some(stanza) = list.stanza(0) else {
-        return Err(Fail::from("the text has a stanza"));
-    };
-    let files = "\n 34bbd1a1 2391 0ad_0.27.0-1.dsc\n 4ae0c0ff 75656312 0ad_0.27.0.orig.tar.xz";
-    assert_eq!(rt; stanza.get("files"), Some(files));
-    assert_eq!(rt; stanza.get("Directory"), Some("pool/main/0/0ad"));
-    assert_eq!(rt; stanza.len(), 8);
+    assert!(rt; is_holding(rt.alloc(), PACKAGES, 11, &OF_PACKAGES)?);
+    assert!(rt; is_holding(rt.alloc(), SOURCES, 8, &OF_SOURCES)?);
     Ok(())
 }

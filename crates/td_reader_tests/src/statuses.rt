@@ -153,6 +153,19 @@ fn statuses_marked(
     Ok(out)
 }
 
+/// The statuses of these rows by a tracker.
+fn statuses_by(
+    alloc: Global,
+    archive: &Archive<'_, '_>,
+    tracker: &Tracker<'_>,
+    rows: &str,
+) -> Result<String, Fail> {
+    let marks = Marks::make(alloc, archive, tracker)?;
+    let told = statuses_marked(alloc, archive, tracker, &marks, rows);
+    drop(marks);
+    told
+}
+
 /// The statuses of these rows by the tracker of a text.
 fn statuses(
     alloc: Global,
@@ -161,10 +174,9 @@ fn statuses(
     rows: &str,
 ) -> Result<String, Fail> {
     let tracker = Tracker::read(alloc, tracker)?;
-    match Marks::make(alloc, archive, &tracker) {
-        Ok(marks) => statuses_marked(alloc, archive, &tracker, &marks, rows),
-        Err(_) => Err(Fail::from("want of memory")),
-    }
+    let told = statuses_by(alloc, archive, &tracker, rows);
+    drop(tracker);
+    told
 }
 
 /// A tracker's text, rows, and the statuses that they have.
@@ -187,9 +199,11 @@ fn are_graded<'x>(
             for (tracker, rows, expected) in asked {
                 is_graded(rt, alloc, &archive, tracker, rows, expected);
             }
+            drop(archive);
         }
         Err(fault) => panic!(rt; "refused: {fault:?}"),
     }
+    drop(archs);
 }
 
 fn is_graded(
@@ -282,7 +296,11 @@ fn affected_by(
 fn affected(alloc: Global, archive: &Archive<'_, '_>, query: &str) -> Result<String, AllocError> {
     let text = format!(in alloc; "is_affected = {query}; is_good = true; is_bad = true;")?;
     match Tracker::read(alloc, text.as_str()) {
-        Ok(tracker) => affected_by(alloc, archive, &tracker),
+        Ok(tracker) => {
+            let told = affected_by(alloc, archive, &tracker);
+            drop(tracker);
+            told
+        }
         Err(_) => String::from_str(alloc, "no tracker"),
     }
 }
@@ -314,7 +332,11 @@ fn queries_affect_the_sources_that_they_should(rt: HostRuntime) {
         panic!(rt; "the table is read");
     };
     match Archive::read(rt.alloc(), TWO_PACKAGES, TWO_SOURCES, &archs) {
-        Ok(archive) => are_affecting(&rt, rt.alloc(), &archive),
+        Ok(archive) => {
+            are_affecting(&rt, rt.alloc(), &archive);
+            drop(archive);
+        }
         Err(fault) => panic!(rt; "refused: {fault:?}"),
     }
+    drop(archs);
 }

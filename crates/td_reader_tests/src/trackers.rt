@@ -1,6 +1,7 @@
 //! What no clause says: that trackers are read with ample memory, and what the definitions make of
 //! texts. Expected by hand, from the rules in `docs/FORMATS.md`; places are counted in the text.
-use std::alloc::Global;
+use std::alloc::{AllocError, Global};
+use std::process::Abort;
 use std::test::Fail;
 use td_query::{Tracker, TrackerFault};
 
@@ -44,25 +45,38 @@ title = "ocaml"; is_affected = .build-depends ~ /ocaml-nox|dh-ocaml/ & !(.packag
 is_affected = true; is_good = true; is_bad = true; title = 1; → Syntax 59
 "##;
 
-/// What reading the text gives, as the table writes it.
-fn reading(alloc: Global, text: &str) -> Result<String, Fail> {
-    let mut out = String::new(alloc);
-    match Tracker::read(alloc, text) {
-        Ok(tracker) => write!(out, "\"{}\"", tracker.title())?,
-        Err(TrackerFault::Syntax(place)) => write!(out, "Syntax {place}")?,
-        Err(TrackerFault::BadPattern(place)) => write!(out, "BadPattern {place}")?,
-        Err(TrackerFault::MissingKey(key)) => write!(out, "MissingKey {}", key.name())?,
-        Err(TrackerFault::NoMemory) => return Err(Fail::from("want of memory")),
+fn fault_told(alloc: Global, fault: &TrackerFault) -> Result<String, AllocError> {
+    match fault {
+        TrackerFault::Syntax(place) => format!(in alloc; "Syntax {place}"),
+        TrackerFault::BadPattern(place) => format!(in alloc; "BadPattern {place}"),
+        TrackerFault::MissingKey(key) => format!(in alloc; "MissingKey {}", key.name()),
+        TrackerFault::NoMemory => Err(AllocError),
     }
-    Ok(out)
+}
+
+/// What reading the text gives, as the table writes it.
+fn reading(alloc: Global, text: &str) -> Result<String, AllocError> {
+    match Tracker::read(alloc, text) {
+        Ok(tracker) => {
+            let told = format!(in alloc; "\"{}\"", tracker.title());
+            drop(tracker);
+            told
+        }
+        Err(fault) => fault_told(alloc, &fault),
+    }
+}
+
+fn is_read_as(rt: &impl Abort, alloc: Global, text: &str, want: &str) -> Result<(), Fail> {
+    let got = reading(alloc, text)?;
+    assert_eq!(rt; got.as_str(), want, "{text}");
+    Ok(())
 }
 
 #[test]
 fn texts_are_read_as_trackers_or_refused_at_their_first_fault(rt: HostRuntime) -> Result<(), Fail> {
     for row in TEXTS.split('\n') {
         if let Some((text, want)) = row.split_once(" → ") {
-            let got = reading(rt.alloc(), text)?;
-            assert_eq!(rt; got.as_str(), want, "{text}");
+            is_read_as(&rt, rt.alloc(), text, want)?;
         }
     }
     Ok(())
@@ -71,9 +85,7 @@ fn texts_are_read_as_trackers_or_refused_at_their_first_fault(rt: HostRuntime) -
 #[test]
 fn a_title_may_have_newlines(rt: HostRuntime) -> Result<(), Fail> {
     let text = "title = \"two\nlines\"; is_affected = true; is_good = true; is_bad = true;";
-    let got = reading(rt.alloc(), text)?;
-    assert_eq!(rt; got.as_str(), "\"two\nlines\"");
-    Ok(())
+    is_read_as(&rt, rt.alloc(), text, "\"two\nlines\"")
 }
 
 /// A key with what stands in so many brackets.
@@ -91,17 +103,19 @@ fn nested(alloc: Global, depth: usize, inner: &str, close: &str) -> Result<Strin
     Ok(out)
 }
 
+/// How many brackets, what stands in them, how each closes, and what reading that gives.
+const NESTED: [(usize, &str, &str, &str); 4] = [
+    (100, "true", ")", "MissingKey is_good"),
+    (100, "!true", ")", "Syntax 114"),
+    (99, "!true", ")", "MissingKey is_good"),
+    (101, "", "", "Syntax 114"),
+];
+
 #[test]
 fn a_hundred_brackets_may_be_open(rt: HostRuntime) -> Result<(), Fail> {
-    for (depth, inner, close, want) in [
-        (100, "true", ")", "MissingKey is_good"),
-        (100, "!true", ")", "Syntax 114"),
-        (99, "!true", ")", "MissingKey is_good"),
-        (101, "", "", "Syntax 114"),
-    ] {
-        let text = nested(rt.alloc(), depth, inner, close)?;
-        let got = reading(rt.alloc(), text.as_str())?;
-        assert_eq!(rt; got.as_str(), want, "{depth} {inner}");
+    for (depth, inner, close, want) in &NESTED {
+        let text = nested(rt.alloc(), *depth, inner, close)?;
+        is_read_as(&rt, rt.alloc(), text.as_str(), want)?;
     }
     Ok(())
 }

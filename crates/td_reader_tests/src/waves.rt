@@ -1,39 +1,75 @@
 //! Levels of affected sources over a small archive. Expected by hand, from the control files.
 use crate::statuses::{ARCHS, PACKAGES, SOURCES};
+use std::alloc::Global;
 use std::process::Abort;
 use std::test::Fail;
 use td_indices::Archive;
 use td_relation::Archs;
 use td_waves::{Level, Waves};
 
-// In the archive of examples/waves.* pa builds on qb, rc and sd on each other.
+/// An affected source, or one that isn't, and its level.
+type Placed = (&'static str, Option<Level>);
 
-fn level_is(rt: &impl Abort, waves: &Waves<'_>, source: &str, wanted: Option<Level>) {
-    assert_eq!(rt; waves.level(source), wanted);
+fn are_placed(rt: &impl Abort, waves: &Waves<'_>, depth: usize, placed: &[Placed]) {
+    for (source, level) in placed {
+        assert_eq!(rt; waves.level(source), *level, "{source}");
+    }
+    assert_eq!(rt; waves.depth(), depth);
+}
+
+/// Asks for the levels of the affected sources over the archive.
+fn are_levelled(
+    rt: &impl Abort,
+    alloc: Global,
+    archive: &Archive<'_, '_>,
+    affected: &[&str],
+    depth: usize,
+    placed: &[Placed],
+) {
+    match Waves::of(alloc, archive, affected) {
+        Ok(waves) => {
+            are_placed(rt, &waves, depth, placed);
+            drop(waves);
+        }
+        Err(_) => panic!(rt; "want of memory"),
+    }
+}
+
+/// Asks for these levels over the archive of examples/waves.*.
+fn have_levels(rt: &impl Abort, alloc: Global, affected: &[&str], depth: usize, placed: &[Placed]) {
+    let Ok(archs) = Archs::read(alloc, ARCHS) else {
+        panic!(rt; "the table is read");
+    };
+    match Archive::read(alloc, PACKAGES, SOURCES, &archs) {
+        Ok(archive) => {
+            are_levelled(rt, alloc, &archive, affected, depth, placed);
+            drop(archive);
+        }
+        Err(fault) => panic!(rt; "refused: {fault:?}"),
+    }
+    drop(archs);
+}
+
+// There pa builds on qb, rc and sd on each other.
+#[test]
+fn a_cycle_stands_beside_two_levels(rt: HostRuntime) {
+    let affected = ["sd", "pa", "qb", "rc", "pa"];
+    let placed = [
+        ("pa", Some(Level::At(2))),
+        ("qb", Some(Level::At(1))),
+        ("rc", Some(Level::Cyclic)),
+        ("sd", Some(Level::Cyclic)),
+        ("te", None),
+    ];
+    have_levels(&rt, rt.alloc(), &affected, 2, &placed);
 }
 
 #[test]
-fn a_cycle_stands_beside_two_levels(rt: HostRuntime) -> Result<(), Fail> {
-    let archs = Archs::read(rt.alloc(), ARCHS)?;
-    let archive = Archive::read(rt.alloc(), PACKAGES, SOURCES, &archs)?;
-    let waves = Waves::of(rt.alloc(), &archive, &["sd", "pa", "qb", "rc", "pa"])?;
-    level_is(&rt, &waves, "pa", Some(Level::At(2)));
-    level_is(&rt, &waves, "qb", Some(Level::At(1)));
-    level_is(&rt, &waves, "rc", Some(Level::Cyclic));
-    level_is(&rt, &waves, "sd", Some(Level::Cyclic));
-    level_is(&rt, &waves, "te", None);
-    assert_eq!(rt; waves.depth(), 2);
-    Ok(())
-}
-
-#[test]
-fn what_is_not_affected_holds_nothing_up(rt: HostRuntime) -> Result<(), Fail> {
-    let archs = Archs::read(rt.alloc(), ARCHS)?;
-    let archive = Archive::read(rt.alloc(), PACKAGES, SOURCES, &archs)?;
-    let waves = Waves::of(rt.alloc(), &archive, &["pa", "rc"])?;
-    level_is(&rt, &waves, "pa", Some(Level::At(1)));
-    level_is(&rt, &waves, "rc", Some(Level::At(1)));
-    level_is(&rt, &waves, "sd", None);
-    assert_eq!(rt; waves.depth(), 1);
-    Ok(())
+fn what_is_not_affected_holds_nothing_up(rt: HostRuntime) {
+    let placed = [
+        ("pa", Some(Level::At(1))),
+        ("rc", Some(Level::At(1))),
+        ("sd", None),
+    ];
+    have_levels(&rt, rt.alloc(), &["pa", "rc"], 1, &placed);
 }

@@ -1,7 +1,8 @@
 //! What each line of words asks for, and the texts: this project's own, and `clap`'s.
 use std::alloc::{AllocError, Global};
+use std::process::Abort;
 use std::test::Fail;
-use td_words::{Call, Request, WordsFault, read_words};
+use td_words::{ArchivePaths, Request, RunRequest, TrackRequest, WordsFault, read_words};
 
 fn words(alloc: Global, line: &str) -> Result<Vec<String>, AllocError> {
     let mut words = Vec::new(alloc);
@@ -19,103 +20,6 @@ fn usage(alloc: Global, line: &str) -> Result<String, WordsFault> {
     }
 }
 
-#[test]
-fn a_subcommand_is_asked_for_by_its_name(rt: HostRuntime) -> Result<(), Fail> {
-    let call = read_words(rt.alloc(), &words(rt.alloc(), "transdesk simulate")?)?;
-    assert!(rt; matches!(call.request, Request::Simulate));
-    Ok(())
-}
-
-// `transdesk check` and these words, with the paths in the order of the options in its help.
-#[test]
-fn a_check_is_asked_for_with_three_files(rt: HostRuntime) -> Result<(), Fail> {
-    for line in [
-        "transdesk check --archs a --packages p --sources s",
-        "transdesk check --archs=a --packages=p --sources=s",
-        "transdesk check --sources s --archs a --packages=p",
-    ] {
-        match read_words(rt.alloc(), &words(rt.alloc(), line)?)?.request {
-            Request::Check(files) => {
-                assert_eq!(rt; files.archs.as_str(), "a", "{line}");
-                assert_eq!(rt; files.packages.as_str(), "p", "{line}");
-                assert_eq!(rt; files.sources.as_str(), "s", "{line}");
-            }
-            _ => return Err(Fail::from("a check is due")),
-        }
-    }
-    Ok(())
-}
-
-#[test]
-fn a_report_is_asked_for_with_four_files_or_more(rt: HostRuntime) -> Result<(), Fail> {
-    for (line, rows, count) in [
-        (
-            "transdesk track --archs a --packages p --sources s --tracker t",
-            None,
-            None,
-        ),
-        (
-            "transdesk track --tracker=t --state r --archs a --packages p --sources s",
-            Some("r"),
-            None,
-        ),
-        (
-            "transdesk track --chunk 1000000 --archs a --packages p --sources s --tracker t",
-            None,
-            Some(1_000_000),
-        ),
-    ] {
-        match read_words(rt.alloc(), &words(rt.alloc(), line)?)?.request {
-            Request::Track(track) => {
-                assert_eq!(rt; track.tracker.as_str(), "t", "{line}");
-                assert_eq!(rt;
-                    track.state.as_ref().map(|state| state.as_str()),
-                    rows,
-                    "{line}"
-                );
-                assert_eq!(rt; track.chunk, count, "{line}");
-            }
-            _ => return Err(Fail::from("a report is due")),
-        }
-    }
-    Ok(())
-}
-
-#[test]
-fn waves_are_asked_for_with_four_files(rt: HostRuntime) -> Result<(), Fail> {
-    let line = "transdesk waves --archs a --packages p --sources s --tracker t";
-    match read_words(rt.alloc(), &words(rt.alloc(), line)?)?.request {
-        Request::Waves { files, tracker } => {
-            assert_eq!(rt; files.archs.as_str(), "a");
-            assert_eq!(rt; files.packages.as_str(), "p");
-            assert_eq!(rt; files.sources.as_str(), "s");
-            assert_eq!(rt; tracker.as_str(), "t");
-        }
-        _ => return Err(Fail::from("waves are due")),
-    }
-    Ok(())
-}
-
-// What `run` was given, in the order of its help; `-` where nothing was.
-fn run_of(alloc: Global, line: &str) -> Result<String, WordsFault> {
-    let Request::Run(run) = read_words(alloc, &words(alloc, line)?)?.request else {
-        return Ok(String::new(alloc));
-    };
-    let text = format!(in alloc;
-        "{} {} {} {} {} {} {} {} {}",
-        run.files.archs,
-        run.files.packages,
-        run.files.sources,
-        or_dash(&run.state),
-        or_dash(&run.tracker),
-        run.suite,
-        run.builders,
-        or_dash(&run.outcomes),
-        or_dash(&run.journal)
-    )?;
-    Ok(text)
-}
-
 fn or_dash(text: &Option<String>) -> &str {
     match text {
         Some(text) => text.as_str(),
@@ -123,175 +27,315 @@ fn or_dash(text: &Option<String>) -> &str {
     }
 }
 
+fn files_told(alloc: Global, word: &str, files: &ArchivePaths) -> Result<String, AllocError> {
+    format!(in alloc;
+        "{word} {} {} {}",
+        files.archs, files.packages, files.sources
+    )
+}
+
+fn put_track(out: &mut String, track: &TrackRequest) -> Result<(), AllocError> {
+    write!(out, " {} {}", track.tracker, or_dash(&track.state))?;
+    match track.chunk {
+        Some(count) => write!(out, " {count}"),
+        None => out.push_str(" -"),
+    }
+}
+
+fn put_run(out: &mut String, run: &RunRequest) -> Result<(), AllocError> {
+    write!(
+        out,
+        " {} {} {} {} {} {}",
+        or_dash(&run.state),
+        or_dash(&run.tracker),
+        run.suite,
+        run.builders,
+        or_dash(&run.outcomes),
+        or_dash(&run.journal)
+    )
+}
+
+fn track_told(alloc: Global, track: &TrackRequest) -> Result<String, AllocError> {
+    let mut out = files_told(alloc, "track", &track.files)?;
+    put_track(&mut out, track)?;
+    Ok(out)
+}
+
+fn run_told(alloc: Global, run: &RunRequest) -> Result<String, AllocError> {
+    let mut out = files_told(alloc, "run", &run.files)?;
+    put_run(&mut out, run)?;
+    Ok(out)
+}
+
+fn waves_told(alloc: Global, files: &ArchivePaths, tracker: &str) -> Result<String, AllocError> {
+    let mut out = files_told(alloc, "waves", files)?;
+    write!(out, " {tracker}")?;
+    Ok(out)
+}
+
+fn told(alloc: Global, request: &Request) -> Result<String, AllocError> {
+    match request {
+        Request::Simulate => String::from_str(alloc, "simulate"),
+        Request::Check(files) => files_told(alloc, "check", files),
+        Request::Track(track) => track_told(alloc, track),
+        Request::Waves { files, tracker } => waves_told(alloc, files, tracker.as_str()),
+        Request::Run(run) => run_told(alloc, run),
+    }
+}
+
+/// What the words ask for: its name, and what it was given, in the order of the options in its
+/// help; `-` where nothing was.
+fn request_of(alloc: Global, line: &str) -> Result<String, WordsFault> {
+    let call = read_words(alloc, &words(alloc, line)?)?;
+    let told = told(alloc, &call.request);
+    drop(call);
+    Ok(told?)
+}
+
+/// A command line, and what it asks for.
+type Asked = (&'static str, &'static str);
+
+fn are_asked_for(rt: &impl Abort, alloc: Global, cases: &[Asked]) -> Result<(), Fail> {
+    for (line, expected) in cases {
+        assert_eq!(rt; request_of(alloc, line)?.as_str(), *expected, "{line}");
+    }
+    Ok(())
+}
+
+#[test]
+fn a_subcommand_is_asked_for_by_its_name(rt: HostRuntime) -> Result<(), Fail> {
+    are_asked_for(&rt, rt.alloc(), &[("transdesk simulate", "simulate")])
+}
+
+// `transdesk check` and these words, with the paths in the order of the options in its help.
+#[test]
+fn a_check_is_asked_for_with_three_files(rt: HostRuntime) -> Result<(), Fail> {
+    let cases = [
+        (
+            "transdesk check --archs a --packages p --sources s",
+            "check a p s",
+        ),
+        (
+            "transdesk check --archs=a --packages=p --sources=s",
+            "check a p s",
+        ),
+        (
+            "transdesk check --sources s --archs a --packages=p",
+            "check a p s",
+        ),
+    ];
+    are_asked_for(&rt, rt.alloc(), &cases)
+}
+
+#[test]
+fn a_report_is_asked_for_with_four_files_or_more(rt: HostRuntime) -> Result<(), Fail> {
+    let cases = [
+        (
+            "transdesk track --archs a --packages p --sources s --tracker t",
+            "track a p s t - -",
+        ),
+        (
+            "transdesk track --tracker=t --state r --archs a --packages p --sources s",
+            "track a p s t r -",
+        ),
+        (
+            "transdesk track --chunk 1000000 --archs a --packages p --sources s --tracker t",
+            "track a p s t - 1000000",
+        ),
+    ];
+    are_asked_for(&rt, rt.alloc(), &cases)
+}
+
+#[test]
+fn waves_are_asked_for_with_four_files(rt: HostRuntime) -> Result<(), Fail> {
+    let line = "transdesk waves --archs a --packages p --sources s --tracker t";
+    are_asked_for(&rt, rt.alloc(), &[(line, "waves a p s t")])
+}
+
 #[test]
 fn a_run_is_asked_for_with_three_files_or_more(rt: HostRuntime) -> Result<(), Fail> {
-    for (line, given) in [
+    let cases = [
         (
             "transdesk run --archs a --packages p --sources s",
-            "a p s - - unstable 0 - -",
+            "run a p s - - unstable 0 - -",
         ),
         (
             "transdesk run --suite sid --archs a --packages=p --sources s",
-            "a p s - - sid 0 - -",
+            "run a p s - - sid 0 - -",
         ),
         (
-            "transdesk run --archs a --packages p --sources s --state r --tracker t --suite x --builders 64 --outcomes o --journal j",
-            "a p s r t x 64 o j",
+            "transdesk run --archs a --packages p --sources s --state r --tracker t \
+             --suite x --builders 64 --outcomes o --journal j",
+            "run a p s r t x 64 o j",
         ),
-    ] {
-        assert_eq!(rt; run_of(rt.alloc(), line)?.as_str(), given, "{line}");
-    }
+    ];
+    are_asked_for(&rt, rt.alloc(), &cases)
+}
+
+/// A command line, and the front of the text that answers it.
+const ANSWERED: [(&str, &str); 29] = [
+    ("transdesk", "error: 'transdesk' requires a subcommand"),
+    ("transdesk --version", "transdesk 0.1.0\n"),
+    ("transdesk -V", "transdesk 0.1.0\n"),
+    (
+        "transdesk --help",
+        "A desk for the rebuilds of a Debian transition",
+    ),
+    (
+        "transdesk help",
+        "A desk for the rebuilds of a Debian transition",
+    ),
+    ("transdesk help simulate", "Play steps of the desk"),
+    ("transdesk simulate --help", "Play steps of the desk"),
+    (
+        "transdesk simulate --explain --explain",
+        "error: the argument '--explain' cannot be used multiple times",
+    ),
+    (
+        "transdesk simulate --explain=true",
+        "error: unexpected value 'true' for '--explain' found",
+    ),
+    (
+        "transdesk --explain simulate",
+        "error: unexpected argument '--explain' found",
+    ),
+    (
+        "transdesk simulat",
+        "error: unrecognized subcommand 'simulat'",
+    ),
+    (
+        "transdesk simulate file",
+        "error: unexpected argument 'file' found",
+    ),
+    (
+        "transdesk simulate simulate",
+        "error: unexpected argument 'simulate' found",
+    ),
+    (
+        "transdesk --journal simulate",
+        "error: unexpected argument '--journal' found",
+    ),
+    (
+        "transdesk check --archs a --packages p",
+        "error: the following required arguments were not provided:\n  --sources <FILE>\n",
+    ),
+    (
+        "transdesk check --archs a --archs a --packages p --sources s",
+        "error: the argument '--archs <FILE>' cannot be used multiple times",
+    ),
+    (
+        "transdesk check --archs a --packages p --sources",
+        "error: a value is required for '--sources <FILE>' but none was supplied",
+    ),
+    (
+        "transdesk check --archs a --packages p --sources s file",
+        "error: unexpected argument 'file' found",
+    ),
+    (
+        "transdesk check --help",
+        "Count what two package indices hold",
+    ),
+    (
+        "transdesk track --archs a --packages p --sources s",
+        "error: the following required arguments were not provided:\n  --tracker <FILE>\n",
+    ),
+    (
+        "transdesk track --archs a --packages p --sources s --tracker t --chunk 0",
+        "error: --chunk takes a number from 1 to 1000000\n",
+    ),
+    (
+        "transdesk waves --archs a --packages p --sources s --tracker t --state r",
+        "error: unexpected argument '--state' found",
+    ),
+    (
+        "transdesk track --help",
+        "Report how far a transition has come",
+    ),
+    ("transdesk waves --help", "List the sources of a transition"),
+    (
+        "transdesk run --archs a --packages p",
+        "error: the following required arguments were not provided:\n  --sources <FILE>\n",
+    ),
+    (
+        "transdesk run --archs a --packages p --sources s --builders 65",
+        "error: --builders takes a number from 0 to 64\n",
+    ),
+    (
+        "transdesk run --archs a --packages p --sources s --builders 00",
+        "error: --builders takes a number from 0 to 64\n",
+    ),
+    (
+        "transdesk run --archs a --packages p --sources s --suite x --suite y",
+        "error: the argument '--suite <NAME>' cannot be used multiple times",
+    ),
+    (
+        "transdesk run --help",
+        "Do what a script says over the rows",
+    ),
+];
+
+fn is_answered(rt: &impl Abort, alloc: Global, line: &str, front: &str) -> Result<(), Fail> {
+    let text = usage(alloc, line)?;
+    assert!(rt; text.as_str().starts_with(front), "{line}: {text}");
+    assert!(rt; text.as_str().ends_with('\n'), "{line}: {text}");
     Ok(())
 }
 
 // Help and the version are answered by their texts, as a bad command line is by its fault.
 #[test]
 fn other_words_are_answered_by_a_text(rt: HostRuntime) -> Result<(), Fail> {
-    for (line, front) in [
-        ("transdesk", "error: 'transdesk' requires a subcommand"),
-        ("transdesk --version", "transdesk 0.1.0\n"),
-        ("transdesk -V", "transdesk 0.1.0\n"),
-        (
-            "transdesk --help",
-            "A desk for the rebuilds of a Debian transition",
-        ),
-        (
-            "transdesk help",
-            "A desk for the rebuilds of a Debian transition",
-        ),
-        ("transdesk help simulate", "Play steps of the desk"),
-        ("transdesk simulate --help", "Play steps of the desk"),
-        (
-            "transdesk simulate --explain --explain",
-            "error: the argument '--explain' cannot be used multiple times",
-        ),
-        (
-            "transdesk simulate --explain=true",
-            "error: unexpected value 'true' for '--explain' found",
-        ),
-        (
-            "transdesk --explain simulate",
-            "error: unexpected argument '--explain' found",
-        ),
-        (
-            "transdesk simulat",
-            "error: unrecognized subcommand 'simulat'",
-        ),
-        (
-            "transdesk simulate file",
-            "error: unexpected argument 'file' found",
-        ),
-        (
-            "transdesk simulate simulate",
-            "error: unexpected argument 'simulate' found",
-        ),
-        (
-            "transdesk --journal simulate",
-            "error: unexpected argument '--journal' found",
-        ),
-        (
-            "transdesk check --archs a --packages p",
-            "error: the following required arguments were not provided:\n  --sources <FILE>\n",
-        ),
-        (
-            "transdesk check --archs a --archs a --packages p --sources s",
-            "error: the argument '--archs <FILE>' cannot be used multiple times",
-        ),
-        (
-            "transdesk check --archs a --packages p --sources",
-            "error: a value is required for '--sources <FILE>' but none was supplied",
-        ),
-        (
-            "transdesk check --archs a --packages p --sources s file",
-            "error: unexpected argument 'file' found",
-        ),
-        (
-            "transdesk check --help",
-            "Count what two package indices hold",
-        ),
-        (
-            "transdesk track --archs a --packages p --sources s",
-            "error: the following required arguments were not provided:\n  --tracker <FILE>\n",
-        ),
-        (
-            "transdesk track --archs a --packages p --sources s --tracker t --chunk 0",
-            "error: --chunk takes a number from 1 to 1000000\n",
-        ),
-        (
-            "transdesk waves --archs a --packages p --sources s --tracker t --state r",
-            "error: unexpected argument '--state' found",
-        ),
-        (
-            "transdesk track --help",
-            "Report how far a transition has come",
-        ),
-        ("transdesk waves --help", "List the sources of a transition"),
-        (
-            "transdesk run --archs a --packages p",
-            "error: the following required arguments were not provided:\n  --sources <FILE>\n",
-        ),
-        (
-            "transdesk run --archs a --packages p --sources s --builders 65",
-            "error: --builders takes a number from 0 to 64\n",
-        ),
-        (
-            "transdesk run --archs a --packages p --sources s --builders 00",
-            "error: --builders takes a number from 0 to 64\n",
-        ),
-        (
-            "transdesk run --archs a --packages p --sources s --suite x --suite y",
-            "error: the argument '--suite <NAME>' cannot be used multiple times",
-        ),
-        (
-            "transdesk run --help",
-            "Do what a script says over the rows",
-        ),
-    ] {
-        let text = usage(rt.alloc(), line)?;
-        assert!(rt; text.as_str().starts_with(front), "{line}: {text}");
-        assert!(rt; text.as_str().ends_with('\n'), "{line}: {text}");
+    for (line, front) in &ANSWERED {
+        is_answered(&rt, rt.alloc(), line, front)?;
     }
     Ok(())
 }
 
-// A path may be the very word.
+fn is_explained(alloc: Global, line: &str) -> Result<bool, WordsFault> {
+    let call = read_words(alloc, &words(alloc, line)?)?;
+    let explained = call.explained;
+    drop(call);
+    Ok(explained)
+}
+
+/// A command line, and whether it asks for an explanation. A path may be the very word.
+const EXPLAINED: [(&str, bool); 10] = [
+    ("transdesk simulate", false),
+    ("transdesk simulate --explain", true),
+    ("transdesk check --archs a --packages p --sources s", false),
+    (
+        "transdesk check --explain --archs a --packages p --sources s",
+        true,
+    ),
+    (
+        "transdesk check --archs a --packages p --sources=--explain",
+        false,
+    ),
+    (
+        "transdesk check --archs a --packages p --sources s --explain",
+        true,
+    ),
+    (
+        "transdesk track --archs a --packages p --explain --sources s --tracker t",
+        true,
+    ),
+    (
+        "transdesk waves --archs a --packages p --explain --sources s --tracker t",
+        true,
+    ),
+    (
+        "transdesk run --archs a --packages p --explain --sources s",
+        true,
+    ),
+    (
+        "transdesk run --archs a --packages p --sources s --suite explain",
+        false,
+    ),
+];
+
 #[test]
 fn an_explanation_is_asked_for_by_its_option(rt: HostRuntime) -> Result<(), Fail> {
-    for (line, explained) in [
-        ("transdesk simulate", false),
-        ("transdesk simulate --explain", true),
-        ("transdesk check --archs a --packages p --sources s", false),
-        (
-            "transdesk check --explain --archs a --packages p --sources s",
-            true,
-        ),
-        (
-            "transdesk check --archs a --packages p --sources=--explain",
-            false,
-        ),
-        (
-            "transdesk check --archs a --packages p --sources s --explain",
-            true,
-        ),
-        (
-            "transdesk track --archs a --packages p --explain --sources s --tracker t",
-            true,
-        ),
-        (
-            "transdesk waves --archs a --packages p --explain --sources s --tracker t",
-            true,
-        ),
-        (
-            "transdesk run --archs a --packages p --explain --sources s",
-            true,
-        ),
-        (
-            "transdesk run --archs a --packages p --sources s --suite explain",
-            false,
-        ),
-    ] {
-        let Call { explained: is, .. } = read_words(rt.alloc(), &words(rt.alloc(), line)?)?;
-        assert_eq!(rt; is, explained, "{line}");
+    for (line, explained) in &EXPLAINED {
+        assert_eq!(rt; is_explained(rt.alloc(), line)?, *explained, "{line}");
     }
     Ok(())
 }

@@ -70,16 +70,18 @@ fn met(supply: &Supply<'_>, relation: &str) -> &'static str {
 
 fn meets(archive: &Archive<'_, '_>, relation: &str) -> Result<&'static str, AllocError> {
     let supply = archive.supply()?;
-    Ok(met(&supply, relation))
+    let told = met(&supply, relation);
+    drop(supply);
+    Ok(told)
 }
 
 // Whether the relation is met once the second rebuild of foo has arrived on amd64.
 fn rebuilt(archive: &Archive<'_, '_>, relation: &str) -> Result<&'static str, AllocError> {
     let mut supply = archive.supply()?;
-    match supply.arrive("foo", "amd64", 2) {
-        Ok(_) => Ok(met(&supply, relation)),
-        Err(error) => Err(error),
-    }
+    let arrived = supply.arrive("foo", "amd64", 2);
+    let told = met(&supply, relation);
+    drop(supply);
+    arrived.and(Ok(told))
 }
 
 // The names that a package offers, each behind a space.
@@ -188,7 +190,9 @@ pub(super) fn are_answered<'x>(
             for (asked, expected) in questions {
                 is_answered(rt, alloc, &archive, asked, expected);
             }
+            drop(archive);
         }
         Err(fault) => panic!(rt; "refused: {fault:?}"),
     }
+    drop(archs);
 }

@@ -18,6 +18,14 @@ fn long_text(alloc: Global) -> Result<String, AllocError> {
     Ok(text)
 }
 
+fn counts(archive: &Archive<'_, '_>) -> (usize, usize, usize) {
+    (
+        archive.source_count(),
+        archive.binary_count(),
+        archive.row_count(),
+    )
+}
+
 // What is found in the archive of these two texts.
 fn found(
     rt: &(impl Threads + Abort + Sync),
@@ -29,11 +37,11 @@ fn found(
         panic!(rt; "the table is read");
     };
     match Archive::read_beside(rt, alloc, packages, sources, &archs) {
-        Ok(archive) => Ok((
-            archive.source_count(),
-            archive.binary_count(),
-            archive.row_count(),
-        )),
+        Ok(archive) => {
+            let counts = counts(&archive);
+            drop(archive);
+            Ok(counts)
+        }
         Err(fault) => Err(fault),
     }
 }
