@@ -81,7 +81,7 @@ wanted_key key.IsBad = codes "a key is_bad"
 abbrev pub wanted_tracker : TrackerFault → List ℕ
 wanted_tracker (tracker.Syntax at) = codes "a key and its query, as docs/FORMATS.md has trackers"
 wanted_tracker (tracker.MissingKey k) = wanted_key k
-wanted_tracker (tracker.BadPattern at) = codes "a pattern without look-around and back references"
+wanted_tracker (tracker.BadPattern at) = codes "a pattern that regex takes: no look-around, no open bracket"
 wanted_tracker tracker.NoMemory = []
 
 -- of a journal

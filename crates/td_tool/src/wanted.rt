@@ -108,7 +108,8 @@ fn wanted_tracker(fault: TrackerFault) -> &'static str
     match fault {
         TrackerFault::Syntax(_) => "a key and its query, as docs/FORMATS.md has trackers",
         TrackerFault::MissingKey(key) => wanted_key(key),
-        TrackerFault::BadPattern(_) => "a pattern without look-around and back references",
+        TrackerFault::BadPattern(_) =>
+            "a pattern that regex takes: no look-around, no open bracket",
         TrackerFault::NoMemory => "",
     }
 }

@@ -14,13 +14,13 @@ use std::alloc::{AllocError, Global};
 const STATUSES: &str = "\
 Exit status:
   0  done
-  1  something was refused; standard output says what
+  1  something was refused; standard output says what, but not of a builder that is missing
   2  bad input
   3  bad command line, or a call for help
   4  want of memory
   5  a read or a write failed
 With 2, 4 and 5 standard error has one line that says what was wrong; with 2 and --explain a second
-one that says where, and what is wanted.
+one that says what is wanted, and where, if the fault has a place.
 
 docs/FORMATS.md says exactly what is read and printed.";
 
@@ -223,7 +223,8 @@ Standard output has the answer to each line:
   entry 1 takes foo/amd64 foo/i386
   foo/amd64 Needs-Build 0 1
   undone 1
-Nothing is printed where a file, or the script, isn't of its form; standard error names it.
+A line that isn't of its form is refused, and the others are done. Nothing is printed where a file
+isn't of its form, or the script no text or too long; standard error names it.
 With --journal the script goes on with what an earlier one did, as the line `journal` printed it.
 With --builders, builders work beside the script; then the rows are printed as they leave them,
 behind a line `rows`. Their builds end as the lines of --outcomes say (foo/amd64 givenback), and are
