@@ -24,23 +24,3 @@ impl Texts for Disk<'_> {
         }
     }
 }
-
-#[cfg(test)]
-mod tests {
-    use super::*;
-    use std::test::Fail;
-
-    // The system answers so for a folder and for a path that nothing has.
-    #[test]
-    fn a_file_of_the_disk_is_read_or_is_refused(rt: HostRuntime) -> Result<(), Fail> {
-        let alloc = rt.alloc();
-        for path in [".", "/", "no such file"] {
-            let found = Disk(&rt).text(alloc, path, 9).err();
-            assert_eq!(rt; found, Some(TextFault::CannotRead), "{path}");
-        }
-        assert_eq!(rt; Disk(&rt).text(alloc, "/dev/null", 9)?.as_str(), "");
-        let found = Disk(&rt).text(alloc, "/dev/zero", 9).err();
-        assert_eq!(rt; found, Some(TextFault::TooLong));
-        Ok(())
-    }
-}

@@ -1,7 +1,6 @@
 //! The files of the disk, as the texts that the program asks for.
 //!
-//! Start at `Disk`. It promises nothing: no clause knows what a file's bytes are. Its test stands
-//! here, so that the program isn't proved a second time with it.
+//! Start at `Disk`. It promises nothing: no clause knows what a file's bytes are.
 #![tactic(auto)]
 
 mod disk;

@@ -71,7 +71,7 @@ fn is_made(alloc: Global, rows: usize, builders: usize) -> Result<bool, Fail> {
 
 #[test]
 fn a_board_keeps_to_its_limits(rt: HostRuntime) -> Result<(), Fail> {
-    for (rows, builders, refusal) in [
+    for &(rows, builders, refusal) in &[
         (2, 65, MakeRefusal::TooManyBuilders),
         (1_048_577, 1, MakeRefusal::TooManyRows),
         (1_048_577, 65, MakeRefusal::TooManyRows),
@@ -79,7 +79,7 @@ fn a_board_keeps_to_its_limits(rt: HostRuntime) -> Result<(), Fail> {
         let found = Board::make(rt.alloc(), rows, builders).err();
         assert_eq!(rt; found, Some(refusal));
     }
-    for (rows, builders) in [(0, 0), (1_048_576, 64)] {
+    for &(rows, builders) in &[(0, 0), (1_048_576, 64)] {
         assert!(rt; is_made(rt.alloc(), rows, builders)?, "{rows} rows");
     }
     Ok(())
@@ -87,7 +87,7 @@ fn a_board_keeps_to_its_limits(rt: HostRuntime) -> Result<(), Fail> {
 
 #[test]
 fn a_refusal_says_the_limit(rt: HostRuntime) -> Result<(), Fail> {
-    for (refusal, text) in [
+    for &(refusal, text) in &[
         (MakeRefusal::TooManyRows, "a board has at most 1048576 rows"),
         (
             MakeRefusal::TooManyBuilders,

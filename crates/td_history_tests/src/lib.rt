@@ -1,4 +1,5 @@
-//! The tests of the crates from the rows to a simulation, and of the board: what no clause says.
+//! The tests of texts, of the crates from the rows to a simulation, and of the board: what no
+//! clause says.
 //!
 //! A module a crate. They stand in a crate of their own, over the crates' public calls, so that
 //! none of those is proved a second time with its tests.
@@ -20,3 +21,5 @@ mod replays;
 mod rows;
 #[cfg(test)]
 mod simulations;
+#[cfg(test)]
+mod texts;

@@ -12,8 +12,6 @@ mod cutting;
 mod line;
 mod numeral;
 mod runs;
-#[cfg(test)]
-mod tests;
 mod word;
 mod writing;
 

@@ -1,6 +1,8 @@
 //! Tests of `--explain`, over an input and files in memory. `examples/explained/` has one of each
 //! refusal.
-use crate::program::{ARCHS, Breaking, PACKAGES, SOURCES, Shelf, ran};
+use crate::archive::{ARCHS, PACKAGES, SOURCES};
+use crate::program::{Shelf, ran};
+use crate::streams::Drip;
 use std::alloc::{AllocError, Global};
 use std::sync::Wait;
 use std::test::Fail;
@@ -18,7 +20,7 @@ fn checked(
         ("p", PACKAGES.as_bytes()),
         ("s", sources),
     ];
-    let mut input = Breaking(b"");
+    let mut input = Drip::broken(b"");
     ran(rt, alloc, line, Shelf(&shelf), &mut input, 99)
 }
 
@@ -27,7 +29,7 @@ const EXPLAINED: &str = "transdesk check --archs a --packages p --sources s --ex
 // Where nothing is refused nothing is explained.
 #[test]
 fn a_file_that_is_refused_is_explained(rt: HostRuntime) -> Result<(), Fail> {
-    for (sources, told) in [
+    for &(sources, told) in &[
         (SOURCES.as_bytes(), "0 sources 2 binaries 4 rows 4\n|"),
         (
             b"Package: foo\r\n".as_slice(),

@@ -1,55 +1,16 @@
 //! The program in memory: what it writes and answers, on worked examples of this project's own.
-ghost use Rattle.std.specs.Prelude.{None, Some, true};
+ghost use Rattle.std.specs.Prelude.{None, true};
 
+use crate::archive::{ARCHS, PACKAGES, SOURCES};
+use crate::streams::{Drip, Narrow};
 use std::alloc::{AllocError, Global};
 use std::io;
-use std::io::{ErrorKind, Read, Write};
+use std::io::{ErrorKind, Read};
 use std::sync::Wait;
 use std::test::Fail;
 use std::thread::Threads;
 use td_bytes::{TextFault, read_text};
 use td_tool::{Texts, simulate, tool};
-
-// Takes three bytes a call, and fails once its room is used up.
-#[derive(Drop)]
-struct Narrow {
-    taken: Vec<u8>,
-    room: usize,
-}
-
-impl Write for Narrow {
-    ghost contents = { λ w. Some w.taken.items };
-
-    fn write(&mut self, bytes: &[u8]) -> io::Result<usize> {
-        let count = bytes.len().min(self.room).min(3);
-        if count == 0 {
-            return Err(io::Error::from(ErrorKind::BrokenPipe));
-        }
-        self.taken.extend_from_slice(&bytes[..count])?;
-        self.room -= count;
-        Ok(count)
-    }
-
-    fn flush(&mut self) -> io::Result<()> {
-        Ok(())
-    }
-}
-
-// Gives some bytes, and then fails.
-#[derive(Drop)]
-pub(crate) struct Breaking<'a>(pub &'a [u8]);
-
-impl Read for Breaking<'_> {
-    fn read(&mut self, buffer: &mut [u8]) -> io::Result<usize> {
-        let count = self.0.len().min(buffer.len());
-        if count == 0 {
-            return Err(io::Error::from(ErrorKind::Other));
-        }
-        buffer[..count].copy_from_slice(&self.0[..count]);
-        self.0 = &self.0[count..];
-        Ok(count)
-    }
-}
 
 fn words(alloc: Global, line: &str) -> Result<Vec<String>, AllocError> {
     let mut words = Vec::new(alloc);
@@ -88,10 +49,7 @@ pub(crate) fn ran<R: Read>(
     input: &mut R,
     room: usize,
 ) -> Result<String, AllocError> {
-    let mut output = Narrow {
-        taken: Vec::new(alloc),
-        room,
-    };
+    let mut output = Narrow::new(alloc, room);
     let mut faults: Vec<u8> = Vec::new(alloc);
     let words = words(alloc, line)?;
     let status = tool(
@@ -137,7 +95,7 @@ foo/amd64 Built 0 1
 
 #[test]
 fn a_refused_step_is_answered_and_the_others_are_done(rt: HostRuntime) -> Result<(), Fail> {
-    for (room, told) in [
+    for &(room, told) in &[
         (99, TOLD),
         (10, "5 entry 1\nre|transdesk: cannot write\n"),
         (0, "5 |transdesk: cannot write\n"),
@@ -150,10 +108,7 @@ fn a_refused_step_is_answered_and_the_others_are_done(rt: HostRuntime) -> Result
 
 // What the subcommand by itself answers and writes, in the same form.
 fn played(alloc: Global, mut input: &[u8]) -> Result<String, AllocError> {
-    let mut output = Narrow {
-        taken: Vec::new(alloc),
-        room: 99,
-    };
+    let mut output = Narrow::new(alloc, 99);
     let mut faults: Vec<u8> = Vec::new(alloc);
     let status = simulate(alloc, &mut input, &mut output, &mut faults);
     let output = String::from_utf8_lossy(alloc, output.taken.as_slice())?;
@@ -172,7 +127,7 @@ fn a_simulation_by_itself_is_answered_as_the_words_are(rt: HostRuntime) -> Resul
 
 #[test]
 fn an_input_that_is_refused_is_named_and_nothing_is_written(rt: HostRuntime) -> Result<(), Fail> {
-    for (input, told) in [
+    for &(input, told) in &[
         (b"".as_slice(), "0 rows\n|"),
         (b"\xff".as_slice(), "2 |transdesk: input: NotText\n"),
         (b"steps\n\n".as_slice(), "2 |transdesk: input: BadLine\n"),
@@ -191,7 +146,7 @@ fn an_input_that_is_refused_is_named_and_nothing_is_written(rt: HostRuntime) -> 
     ] {
         let mut reader = input;
         assert_eq!(rt; simulated(&rt, rt.alloc(), &mut reader, 99)?.as_str(), told);
-        let mut breaking = Breaking(input);
+        let mut breaking = Drip::broken(input);
         let found = simulated(&rt, rt.alloc(), &mut breaking, 99)?;
         assert_eq!(rt; found.as_str(), "5 |transdesk: input: cannot read\n");
     }
@@ -202,7 +157,7 @@ fn an_input_that_is_refused_is_named_and_nothing_is_written(rt: HostRuntime) -> 
 #[test]
 fn an_input_is_read_up_to_its_limit(rt: HostRuntime) -> Result<(), Fail> {
     let alloc = rt.alloc();
-    for (len, byte, told) in [
+    for &(len, byte, told) in &[
         (1_048_576, b'\n', "0 rows\n|"),
         (1_048_577, b'\n', "2 |transdesk: input: TooLong\n"),
         (1_048_577, b'\xff', "2 |transdesk: input: TooLong\n"),
@@ -217,7 +172,7 @@ fn an_input_is_read_up_to_its_limit(rt: HostRuntime) -> Result<(), Fail> {
 #[test]
 fn words_that_ask_for_nothing_are_answered_on_the_faults(rt: HostRuntime) -> Result<(), Fail> {
     let alloc = rt.alloc();
-    for line in [
+    for &line in &[
         "transdesk",
         "transdesk --help",
         "transdesk --version",
@@ -236,7 +191,7 @@ fn words_that_ask_for_nothing_are_answered_on_the_faults(rt: HostRuntime) -> Res
             alloc,
             Ok(words),
             &Shelf(&[]),
-            &mut Breaking(b""),
+            &mut Drip::broken(b""),
             &mut output,
             &mut faults,
         );
@@ -245,15 +200,6 @@ fn words_that_ask_for_nothing_are_answered_on_the_faults(rt: HostRuntime) -> Res
     }
     Ok(())
 }
-
-// examples/foobar.archs, foobar.packages and foobar.sources.
-pub(crate) const ARCHS: &str = "amd64 linux amd64\ni386 linux i386\n";
-
-pub(crate) const PACKAGES: &str =
-    "Package: libfoo1\nSource: foo\nVersion: 1.2-3\nArchitecture: amd64\n\nPackage: libfoo1\nSource: foo (1.2-3)\nVersion: 1.2-3+b1\nArchitecture: i386\n\nPackage: libbar-dev\nSource: bar\nVersion: 2.0-1\nArchitecture: amd64\n\nPackage: libbar-dev\nSource: bar\nVersion: 2.0-1\nArchitecture: i386\n";
-
-pub(crate) const SOURCES: &str =
-    "Package: foo\nVersion: 1.2-3\nArchitecture: any\nBuild-Depends: libbar-dev\n\nPackage: bar\nVersion: 2.0-1\nArchitecture: any\n";
 
 // What the program answers and writes of these three files; a path in capitals has none.
 fn checked(
@@ -273,7 +219,7 @@ fn checked(
         alloc,
         line.as_str(),
         Shelf(&shelf),
-        &mut Breaking(b""),
+        &mut Drip::broken(b""),
         room,
     )
 }
@@ -282,7 +228,7 @@ fn checked(
 #[test]
 fn an_archive_is_counted(rt: HostRuntime) -> Result<(), Fail> {
     let texts = [ARCHS.as_bytes(), PACKAGES.as_bytes(), SOURCES.as_bytes()];
-    for (room, told) in [
+    for &(room, told) in &[
         (99, "0 sources 2 binaries 4 rows 4\n|"),
         (9, "5 sources 2|transdesk: cannot write\n"),
         (0, "5 |transdesk: cannot write\n"),
@@ -297,7 +243,7 @@ fn an_archive_is_counted(rt: HostRuntime) -> Result<(), Fail> {
 // for bytes that are no text.
 #[test]
 fn the_file_that_is_refused_is_named(rt: HostRuntime) -> Result<(), Fail> {
-    for (archs, packages, sources, told) in [
+    for &(archs, packages, sources, told) in &[
         ("\u{ff}", "", "", "2 |transdesk: archs: NotText\n"),
         ("x", "\u{ff}", "\u{ff}", "2 |transdesk: packages: NotText\n"),
         ("x", "x", "\u{ff}", "2 |transdesk: sources: NotText\n"),
@@ -336,7 +282,7 @@ pub(crate) fn bytes_of(text: &str) -> &[u8] {
 // Words that aren't UTF-8 come from the system as an error of this kind.
 #[test]
 fn words_that_are_not_read_are_told(rt: HostRuntime) -> Result<(), Fail> {
-    for (kind, told) in [
+    for &(kind, told) in &[
         (
             ErrorKind::InvalidData,
             "3 error: a word of the command line is not UTF-8\n",
@@ -350,7 +296,7 @@ fn words_that_are_not_read_are_told(rt: HostRuntime) -> Result<(), Fail> {
             rt.alloc(),
             Err(io::Error::from(kind)),
             &Shelf(&[]),
-            &mut Breaking(b""),
+            &mut Drip::broken(b""),
             &mut output,
             &mut faults,
         );
@@ -364,7 +310,7 @@ fn words_that_are_not_read_are_told(rt: HostRuntime) -> Result<(), Fail> {
 
 #[test]
 fn a_file_that_is_missing_is_named(rt: HostRuntime) -> Result<(), Fail> {
-    for (paths, told) in [
+    for &(paths, told) in &[
         (["A", "P", "S"], "5 |transdesk: archs: cannot read\n"),
         (["a", "P", "S"], "5 |transdesk: packages: cannot read\n"),
         (["a", "p", "S"], "5 |transdesk: sources: cannot read\n"),

@@ -1,5 +1,7 @@
 //! Tests of `run`, over files in memory.
-use crate::program::{ARCHS, Breaking, PACKAGES, SOURCES, Shelf, ran};
+use crate::archive::{ARCHS, PACKAGES, SOURCES};
+use crate::program::{Shelf, ran};
+use crate::streams::Drip;
 use std::alloc::{AllocError, Global};
 use std::process::Abort;
 use std::sync::Wait;
@@ -256,7 +258,7 @@ fn a_script_that_is_not_read_is_told_of(rt: HostRuntime) -> Result<(), Fail> {
         ("s", SOURCES.as_bytes()),
         ("b", b"x\n"),
     ];
-    for (line, told) in [
+    for &(line, told) in &[
         (
             "transdesk run --archs a --packages p --sources s",
             "5 |transdesk: input: cannot read\n",
@@ -274,7 +276,7 @@ fn a_script_that_is_not_read_is_told_of(rt: HostRuntime) -> Result<(), Fail> {
             "5 |transdesk: input: cannot read\n",
         ),
     ] {
-        let mut breaking = Breaking(b"row foo amd64\n");
+        let mut breaking = Drip::broken(b"row foo amd64\n");
         let found = ran(&rt, rt.alloc(), line, Shelf(&shelf), &mut breaking, 99)?;
         assert_eq!(rt; found.as_str(), told, "{line}");
     }
@@ -286,7 +288,7 @@ fn a_script_that_is_not_read_is_told_of(rt: HostRuntime) -> Result<(), Fail> {
 fn a_script_is_a_text_up_to_its_limit(rt: HostRuntime) -> Result<(), Fail> {
     let shelf = [("e", "".as_bytes())];
     let line = "transdesk run --archs e --packages e --sources e";
-    for (len, byte, told) in [
+    for &(len, byte, told) in &[
         (0, b'\n', "0 |"),
         (1_048_576, b'\n', "0 |"),
         (1_048_577, b'\n', "2 |transdesk: input: TooLong\n"),

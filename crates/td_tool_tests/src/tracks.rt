@@ -1,5 +1,6 @@
 //! Tests of `track` and `waves`, over files in memory.
-use crate::program::{Breaking, Shelf, bytes_of, ran};
+use crate::program::{Shelf, bytes_of, ran};
+use crate::streams::Drip;
 use std::alloc::{AllocError, Global};
 use std::sync::Wait;
 use std::test::Fail;
@@ -40,7 +41,7 @@ fn tracked<'a>(
         alloc,
         line.as_str(),
         Shelf(&shelf),
-        &mut Breaking(b""),
+        &mut Drip::broken(b""),
         999,
     )
 }
@@ -59,7 +60,7 @@ affected 4 good 1 bad 2 partial 1 unknown 0
 
 #[test]
 fn a_report_is_the_same_in_chunks(rt: HostRuntime) -> Result<(), Fail> {
-    for words in [
+    for &words in &[
         "track",
         "track --chunk 1",
         "track --chunk 2",
@@ -154,7 +155,7 @@ fn a_tracker_that_affects_nothing_has_an_empty_report(rt: HostRuntime) -> Result
 // The state file is looked at before the tracker, and both are read before.
 #[test]
 fn the_state_or_the_tracker_that_is_refused_is_named(rt: HostRuntime) -> Result<(), Fail> {
-    for (state, tracker, told) in [
+    for &(state, tracker, told) in &[
         ("\u{ff}", "\u{ff}", "2 |transdesk: state: NotText\n"),
         ("x", "\u{ff}", "2 |transdesk: tracker: NotText\n"),
         ("x", "x", "2 |transdesk: state: BadLine\n"),
@@ -183,7 +184,7 @@ fn the_state_or_the_tracker_that_is_refused_is_named(rt: HostRuntime) -> Result<
 
 #[test]
 fn a_state_or_a_tracker_that_is_missing_is_named(rt: HostRuntime) -> Result<(), Fail> {
-    for (words, told) in [
+    for &(words, told) in &[
         ("track --state R", "5 |transdesk: state: cannot read\n"),
         (
             "track --chunk 0",

@@ -1,9 +1,9 @@
 //! The archive of the tests, as that of `examples/foobar.*`: foo builds with a package of bar, on
 //! two architectures. This project's own worked example.
 
-pub const ARCHS: &str = "amd64 linux amd64\ni386 linux i386\n";
+pub(crate) const ARCHS: &str = "amd64 linux amd64\ni386 linux i386\n";
 
-pub const PACKAGES: &str = "\
+pub(crate) const PACKAGES: &str = "\
 Package: libfoo1
 Source: foo
 Version: 1.2-3
@@ -25,7 +25,7 @@ Version: 2.0-1
 Architecture: i386
 ";
 
-pub const SOURCES: &str = "\
+pub(crate) const SOURCES: &str = "\
 Package: foo
 Version: 1.2-3
 Architecture: any
