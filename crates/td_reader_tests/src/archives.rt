@@ -3,11 +3,11 @@
 mod answers;
 mod beside;
 
+use crate::checks::{is_same, made};
 use crate::statuses;
 use answers::are_answered;
 use std::alloc::{AllocError, Global};
 use std::process::Abort;
-use std::test::Fail;
 use td_indices::{Archive, ArchiveFault, IndexField, IndexFile};
 use td_relation::Archs;
 use td_stanza::StanzaFault;
@@ -162,11 +162,12 @@ sd/amd64 Installed 0 0
 te/amd64 Installed 0 0
 ";
 
+const WAVES: [(&str, &str); 2] = [("counts", "5 6 5"), ("rows", WAVES_OPENING)];
+
 #[test]
 fn five_sources_have_five_rows(rt: HostRuntime) {
-    let questions = [("counts", "5 6 5"), ("rows", WAVES_OPENING)];
-    let (table, packages, sources) = (statuses::ARCHS, statuses::PACKAGES, statuses::SOURCES);
-    are_answered(&rt, rt.alloc(), table, packages, sources, &questions);
+    let (packages, sources) = (statuses::PACKAGES, statuses::SOURCES);
+    are_answered(&rt, rt.alloc(), statuses::ARCHS, packages, sources, &WAVES);
 }
 
 // Policy 7.5: `(= 2)` gives a version; another restriction, or two alternatives, offer no name.
@@ -208,6 +209,11 @@ fn packages_and_sources_are_asked_by_their_numbers(rt: HostRuntime) {
     are_answered(&rt, rt.alloc(), ARCHS, ASKED, SOURCES, &NUMBERED);
 }
 
+fn fault_of(rt: &impl Abort, alloc: Global, packages: &str, sources: &str) -> Option<ArchiveFault> {
+    let archs = made(rt, Archs::read(alloc, ARCHS));
+    Archive::read(alloc, packages, sources, &archs).err()
+}
+
 // These many stanzas of Packages, and behind them one without what it needs.
 fn faulty_after(alloc: Global, count: usize) -> Result<String, AllocError> {
     let mut text = String::new(alloc);
@@ -220,19 +226,21 @@ fn faulty_after(alloc: Global, count: usize) -> Result<String, AllocError> {
 
 // The 65,537th stanza has its number like any other.
 #[test]
-fn a_fault_past_sixty_five_thousand_stanzas_is_named(rt: HostRuntime) -> Result<(), Fail> {
-    let text = faulty_after(rt.alloc(), 65536)?;
+fn a_fault_past_sixty_five_thousand_stanzas_is_named(rt: HostRuntime) {
+    let text = made(&rt, faulty_after(rt.alloc(), 65536));
+    let found = fault_of(&rt, rt.alloc(), text.as_str(), "");
     let fault = ArchiveFault::MissingField(IndexFile::Packages, 65537, IndexField::Version);
-    is_refused(&rt, rt.alloc(), ARCHS, text.as_str(), "", fault);
-    Ok(())
+    is_same(&rt, &found, &Some(fault), "the last stanza");
 }
 
 // This many sources, each for every architecture.
 fn sources_of_any(alloc: Global, count: usize) -> Result<String, AllocError> {
     let mut text = String::new(alloc);
     for number in 0..count {
-        let stanza = format!(in alloc; "Package: s{number}\nVersion: 1\nArchitecture: any\n\n")?;
-        text.push_str(stanza.as_str())?;
+        write!(
+            text,
+            "Package: s{number}\nVersion: 1\nArchitecture: any\n\n"
+        )?;
     }
     Ok(text)
 }
@@ -240,104 +248,90 @@ fn sources_of_any(alloc: Global, count: usize) -> Result<String, AllocError> {
 fn table_of(alloc: Global, count: usize) -> Result<String, AllocError> {
     let mut text = String::new(alloc);
     for number in 0..count {
-        let line = format!(in alloc; "arch{number} linux cpu{number}\n")?;
-        text.push_str(line.as_str())?;
+        writeln!(text, "arch{number} linux cpu{number}")?;
     }
     Ok(text)
 }
 
-fn rows_of(rt: &impl Abort, alloc: Global, table: &str, sources: &str) -> Option<usize> {
-    let Ok(archs) = Archs::read(alloc, table) else {
-        panic!(rt; "the table is read");
-    };
+fn rows_of(
+    rt: &impl Abort,
+    alloc: Global,
+    table: &str,
+    sources: &str,
+) -> Result<usize, ArchiveFault> {
+    let archs = made(rt, Archs::read(alloc, table));
     match Archive::read(alloc, "", sources, &archs) {
         Ok(archive) => {
             let count = archive.row_count();
             drop(archive);
-            Some(count)
+            Ok(count)
         }
-        Err(fault) => {
-            assert_eq!(rt; fault, ArchiveFault::TooManyRows);
-            None
-        }
+        Err(fault) => Err(fault),
     }
 }
+
+const MOST_ROWS: [(usize, Result<usize, ArchiveFault>); 2] = [
+    (32768, Ok(1048576)),
+    (32769, Err(ArchiveFault::TooManyRows)),
+];
 
 // 32,768 sources on 32 architectures have the 1,048,576 rows that a desk may have.
 #[test]
-fn one_row_too_many_is_too_many_rows(rt: HostRuntime) -> Result<(), Fail> {
-    let table = table_of(rt.alloc(), 32)?;
-    for (count, rows) in [(32768, Some(1048576)), (32769, None)] {
-        let sources = sources_of_any(rt.alloc(), count)?;
-        assert_eq!(rt;
-            rows_of(&rt, rt.alloc(), table.as_str(), sources.as_str()),
-            rows
-        );
+fn one_row_too_many_is_too_many_rows(rt: HostRuntime) {
+    let table = made(&rt, table_of(rt.alloc(), 32));
+    for (count, expected) in &MOST_ROWS {
+        let sources = made(&rt, sources_of_any(rt.alloc(), *count));
+        let found = rows_of(&rt, rt.alloc(), table.as_str(), sources.as_str());
+        is_same(&rt, &found, expected, "rows of many sources");
     }
-    Ok(())
 }
 
-fn is_refused<'x>(
-    rt: &impl Abort,
-    alloc: Global,
-    table: &'x str,
-    packages: &'x str,
-    sources: &'x str,
-    wanted: ArchiveFault,
-) {
-    let Ok(archs) = Archs::read(alloc, table) else {
-        panic!(rt; "the table is read");
-    };
-    match Archive::read(alloc, packages, sources, &archs) {
-        Ok(_) => panic!(rt; "read: {packages}{sources}"),
-        Err(fault) => assert_eq!(rt; fault, wanted, "{packages}{sources}"),
-    }
-}
+const LIB: &str = "Package: lib\nArchitecture: i386\nVersion: 1\n";
+
+/// Packages, Sources, and their first fault.
+const FAULTS: [(&str, &str, ArchiveFault); 7] = [
+    (
+        "x",
+        "y",
+        ArchiveFault::Stanza(IndexFile::Packages, StanzaFault::NoColon(1)),
+    ),
+    (
+        LIB,
+        "y",
+        ArchiveFault::Stanza(IndexFile::Sources, StanzaFault::NoColon(1)),
+    ),
+    (
+        "Package: L\nVersion: 1\n",
+        "",
+        ArchiveFault::MissingField(IndexFile::Packages, 1, IndexField::Package),
+    ),
+    (
+        "Package: lib\nVersion: 1_0\nArchitecture: i386\nSource: F (1)\n",
+        "",
+        ArchiveFault::MissingField(IndexFile::Packages, 1, IndexField::Source),
+    ),
+    (
+        "Package: lib\nVersion: 1\nArchitecture: i386\nSource: foo (1_0)\nDepends: F\n",
+        "",
+        ArchiveFault::BadVersion(IndexFile::Packages, 1),
+    ),
+    (
+        "Package: lib\nVersion: 1\nArchitecture: all\nPre-Depends: F\n",
+        "Package: foo\n",
+        ArchiveFault::BadRelation(IndexFile::Packages, 1),
+    ),
+    (
+        LIB,
+        "Package: foo\nArchitecture: any\n",
+        ArchiveFault::MissingField(IndexFile::Sources, 1, IndexField::Version),
+    ),
+];
 
 // A stanza without what it needs, and which fault is the first one.
 #[test]
 fn the_first_fault_decides(rt: HostRuntime) {
-    let alloc = rt.alloc();
-    let packages = IndexFile::Packages;
-    let lib = "Package: lib\nArchitecture: i386\nVersion: 1\n";
-    let cases = [
-        (
-            "x",
-            "y",
-            ArchiveFault::Stanza(packages, StanzaFault::NoColon(1)),
-        ),
-        (
-            lib,
-            "y",
-            ArchiveFault::Stanza(IndexFile::Sources, StanzaFault::NoColon(1)),
-        ),
-        (
-            "Package: L\nVersion: 1\n",
-            "",
-            ArchiveFault::MissingField(packages, 1, IndexField::Package),
-        ),
-        (
-            "Package: lib\nVersion: 1_0\nArchitecture: i386\nSource: F (1)\n",
-            "",
-            ArchiveFault::MissingField(packages, 1, IndexField::Source),
-        ),
-        (
-            "Package: lib\nVersion: 1\nArchitecture: i386\nSource: foo (1_0)\nDepends: F\n",
-            "",
-            ArchiveFault::BadVersion(packages, 1),
-        ),
-        (
-            "Package: lib\nVersion: 1\nArchitecture: all\nPre-Depends: F\n",
-            "Package: foo\n",
-            ArchiveFault::BadRelation(packages, 1),
-        ),
-        (
-            lib,
-            "Package: foo\nArchitecture: any\n",
-            ArchiveFault::MissingField(IndexFile::Sources, 1, IndexField::Version),
-        ),
-    ];
-    for (packages, sources, wanted) in cases {
-        is_refused(&rt, alloc, ARCHS, packages, sources, wanted);
+    for (packages, sources, fault) in &FAULTS {
+        let found = fault_of(&rt, rt.alloc(), packages, sources);
+        is_same(&rt, &found, &Some(*fault), packages);
     }
 }

@@ -1,14 +1,16 @@
 //! What no clause says: that lines are read with ample memory, and what the definitions make of the
 //! lines that the release team writes. Expected by hand, from the rules in `docs/FORMATS.md`.
-use std::alloc::Global;
+use crate::checks::{holds, is_told, made};
+use std::alloc::{AllocError, Global};
 use std::process::Abort;
-use std::test::Fail;
 use td_relation::Archs;
 use td_rows::{Kind, Line, RebuildNumber};
 use td_version::Version;
 use td_wbread::{Command, CommandFault, Verb, kind_of, read_command};
 
 const TABLE: &str = "amd64 linux amd64\ni386 linux i386";
+
+const SUITES: [&str; 1] = ["unstable"];
 
 /// A line, and behind `#` what is read: verb, packages, architectures, message and extra, or the
 /// fault and its place.
@@ -64,115 +66,131 @@ nmu foo . ANY . -m "x # UnterminatedQuote 19
 nmu 1 "foo # UnterminatedQuote 6
 "##;
 
-fn put_verb(out: &mut String, verb: &Verb) -> Result<(), Fail> {
+fn put_verb(out: &mut String, verb: &Verb) -> Result<(), AllocError> {
     match verb {
-        Verb::Gb => out.push_str("gb")?,
-        Verb::Nmu(None) => out.push_str("nmu")?,
-        Verb::Nmu(Some(number)) => write!(out, "nmu {}", number.get())?,
-        Verb::Bp(priority) => write!(out, "bp {}", priority.get())?,
-        Verb::Dw => out.push_str("dw")?,
+        Verb::Gb => out.push_str("gb"),
+        Verb::Nmu(None) => out.push_str("nmu"),
+        Verb::Nmu(Some(number)) => write!(out, "nmu {}", number.get()),
+        Verb::Bp(priority) => write!(out, "bp {}", priority.get()),
+        Verb::Dw => out.push_str("dw"),
     }
-    Ok(())
 }
 
-fn put_packages(out: &mut String, command: &Command<'_>) -> Result<(), Fail> {
+fn put_version(out: &mut String, version: &str) -> Result<(), AllocError> {
+    out.push_str("_")?;
+    out.push_str(version)
+}
+
+fn put_packages(out: &mut String, command: &Command<'_>) -> Result<(), AllocError> {
     for package in &command.packages {
         out.push_str(" ")?;
         out.push_str(package.source.as_str())?;
         if let Some(version) = &package.version {
-            out.push_str("_")?;
-            out.push_str(version.as_str())?;
+            put_version(out, version.as_str())?;
         }
     }
     Ok(())
 }
 
-fn put_text(out: &mut String, text: &str) -> Result<(), Fail> {
+fn put_archs(out: &mut String, archs: &[&str]) -> Result<(), AllocError> {
     out.push_str(" /")?;
-    if !text.is_empty() {
+    for arch in archs {
         out.push_str(" ")?;
-        out.push_str(text)?;
+        out.push_str(arch)?;
     }
     Ok(())
 }
 
-fn told(alloc: Global, command: &Command<'_>) -> Result<String, Fail> {
-    let mut out = String::new(alloc);
-    put_verb(&mut out, &command.verb)?;
-    put_packages(&mut out, command)?;
+fn put_text(out: &mut String, text: &str) -> Result<(), AllocError> {
     out.push_str(" /")?;
-    for arch in &command.archs {
-        out.push_str(" ")?;
-        out.push_str(arch)?;
+    if text.is_empty() {
+        return Ok(());
     }
-    put_text(&mut out, command.message.as_str())?;
-    put_text(&mut out, command.extra.as_str())?;
+    out.push_str(" ")?;
+    out.push_str(text)
+}
+
+fn put_command(out: &mut String, command: &Command<'_>) -> Result<(), AllocError> {
+    put_verb(out, &command.verb)?;
+    put_packages(out, command)?;
+    put_archs(out, command.archs.as_slice())?;
+    put_text(out, command.message.as_str())?;
+    put_text(out, command.extra.as_str())
+}
+
+fn told(alloc: Global, command: &Command<'_>) -> Result<String, AllocError> {
+    let mut out = String::new(alloc);
+    put_command(&mut out, command)?;
     Ok(out)
 }
 
 /// What reading the line gives, as the table writes it.
-fn reading(alloc: Global, line: &str) -> Result<String, Fail> {
-    let archs = Archs::read(alloc, TABLE)?;
-    match read_command(alloc, line, &archs, &["unstable"]) {
-        Ok(command) => told(alloc, &command),
-        Err(CommandFault::Wrong(what, place)) => Ok(format!(in alloc; "{} {place}", what.name())?),
-        Err(CommandFault::NoMemory) => Err(Fail::from("want of memory")),
+fn reading(alloc: Global, archs: &Archs<'_>, line: &str) -> Result<String, AllocError> {
+    match read_command(alloc, line, archs, &SUITES) {
+        Ok(command) => {
+            let told = told(alloc, &command);
+            drop(command);
+            told
+        }
+        Err(CommandFault::Wrong(what, place)) => format!(in alloc; "{} {place}", what.name()),
+        Err(CommandFault::NoMemory) => Err(AllocError),
     }
-}
-
-fn is_read_as(rt: &impl Abort, alloc: Global, line: &str, want: &str) -> Result<(), Fail> {
-    let got = reading(alloc, line)?;
-    assert_eq!(rt; got.as_str(), want, "{line}");
-    Ok(())
 }
 
 #[test]
-fn lines_are_read_as_the_release_team_means_them(rt: HostRuntime) -> Result<(), Fail> {
+fn lines_are_read_as_the_release_team_means_them(rt: HostRuntime) {
+    let archs = made(&rt, Archs::read(rt.alloc(), TABLE));
     for row in LINES.split('\n') {
         if let Some((line, want)) = row.split_once(" # ") {
-            is_read_as(&rt, rt.alloc(), line, want)?;
+            is_told(&rt, reading(rt.alloc(), &archs, line), want, line);
         }
     }
-    Ok(())
 }
 
 // Whether the first bytes of a line are read, or refused at a place within them.
-fn is_answered(alloc: Global, line: &str, len: usize) -> Result<bool, Fail> {
+fn is_answered(alloc: Global, archs: &Archs<'_>, line: &str, len: usize) -> bool {
     let Some(front) = line.get(..len) else {
-        return Ok(false);
+        return false;
     };
-    let archs = Archs::read(alloc, TABLE)?;
-    match read_command(alloc, front, &archs, &["unstable"]) {
-        Ok(_) => Ok(true),
-        Err(CommandFault::Wrong(_, place)) => Ok(place <= len),
-        Err(CommandFault::NoMemory) => Ok(false),
+    match read_command(alloc, front, archs, &SUITES) {
+        Ok(_) => true,
+        Err(CommandFault::Wrong(_, place)) => place <= len,
+        Err(CommandFault::NoMemory) => false,
+    }
+}
+
+fn fronts_are_answered(rt: &impl Abort, alloc: Global, archs: &Archs<'_>, line: &str) {
+    for len in 0..line.len() {
+        holds(rt, is_answered(alloc, archs, line, len), line);
     }
 }
 
 #[test]
-fn each_front_of_a_line_is_answered(rt: HostRuntime) -> Result<(), Fail> {
+fn each_front_of_a_line_is_answered(rt: HostRuntime) {
+    let archs = made(&rt, Archs::read(rt.alloc(), TABLE));
     for row in LINES.split('\n') {
-        for len in 0..row.len() {
-            assert!(rt; is_answered(rt.alloc(), row, len)?);
-        }
+        fronts_are_answered(&rt, rt.alloc(), &archs, row);
     }
-    Ok(())
 }
 
-/// A package's version, and behind `#` whether it matches foo 1.2-3 whose row has the number 2.
-const VERSIONS: &str = "\
-foo # true
-foo_1.2-3 # true
-foo_0:1.2-3 # true
-foo_1.2-3+b2 # true
-foo_1.2-3+b1 # false
-foo_1.2-4 # false
-foo_1.2-4+b2 # false
-foo_1.2-+b2 # false
-bar # false
-bar_1.2-3 foo_1 # false
-foo_1 foo_1.2-3 # true
-";
+/// A command's packages, and whether they match foo 1.2-3 whose row has the number 2.
+const VERSIONS: [(&str, bool); 11] = [
+    ("foo", true),
+    ("foo_1.2-3", true),
+    ("foo_0:1.2-3", true),
+    ("foo_1.2-3+b2", true),
+    ("foo_1.2-3+b1", false),
+    ("foo_1.2-4", false),
+    ("foo_1.2-4+b2", false),
+    ("foo_1.2-+b2", false),
+    ("bar", false),
+    ("bar_1.2-3 foo_1", false),
+    ("foo_1 foo_1.2-3", true),
+];
+
+fn command<'a>(rt: &impl Abort, alloc: Global, archs: &Archs<'a>, line: &str) -> Command<'a> {
+    made(rt, read_command(alloc, line, archs, &[]))
+}
 
 // Whether the command names the row foo/i386 and not foo/amd64, and its version matches.
 fn takes_foo(command: &Command<'_>) -> bool {
@@ -186,60 +204,55 @@ fn takes_foo(command: &Command<'_>) -> bool {
 }
 
 // The same of the command for these packages on i386.
-fn takes(alloc: Global, packages: &str) -> Result<bool, Fail> {
-    let line = format!(in alloc; "gb {packages} . ANY -amd64")?;
-    let archs = Archs::read(alloc, TABLE)?;
-    match read_command(alloc, line.as_str(), &archs, &[]) {
-        Ok(command) => {
-            let is_taken = takes_foo(&command);
-            drop(command);
-            Ok(is_taken)
-        }
-        Err(_) => Err(Fail::from("it isn't read")),
-    }
+fn takes(rt: &impl Abort, alloc: Global, archs: &Archs<'_>, packages: &str) -> bool {
+    let line = made(rt, format!(in alloc; "gb {packages} . ANY -amd64"));
+    let command = command(rt, alloc, archs, line.as_str());
+    let is_taken = takes_foo(&command);
+    drop(command);
+    is_taken
 }
 
 #[test]
-fn a_command_takes_the_rows_whose_version_matches(rt: HostRuntime) -> Result<(), Fail> {
-    for row in VERSIONS.split('\n') {
-        if let Some((packages, want)) = row.split_once(" # ") {
-            assert_eq!(rt; takes(rt.alloc(), packages)?, want == "true");
-        }
+fn a_command_takes_the_rows_whose_version_matches(rt: HostRuntime) {
+    let archs = made(&rt, Archs::read(rt.alloc(), TABLE));
+    for (packages, want) in &VERSIONS {
+        let is_taken = takes(&rt, rt.alloc(), &archs, packages);
+        holds(&rt, is_taken == *want, packages);
     }
-    Ok(())
 }
 
-// Whether the line is a command that makes an entry of this kind.
-fn has_kind(alloc: Global, line: &str, kind: &Kind) -> Result<bool, Fail> {
-    let archs = Archs::read(alloc, TABLE)?;
-    let Ok(command) = read_command(alloc, line, &archs, &[]) else {
-        return Err(Fail::from("it isn't read"));
-    };
-    Ok(kind_of(&command)? == *kind)
+// The kind of the entry that a line's command makes.
+fn kind(rt: &impl Abort, alloc: Global, line: &str) -> Kind {
+    let archs = made(rt, Archs::read(alloc, TABLE));
+    let command = command(rt, alloc, &archs, line);
+    let kind = kind_of(&command);
+    drop(command);
+    made(rt, kind)
 }
 
-fn third_rebuild(alloc: Global) -> Result<Kind, Fail> {
-    let extra = Line::new(alloc, "libbar-dev")?;
-    Ok(Kind::Nmu {
+fn has_kind(rt: &impl Abort, alloc: Global, line: &str, expected: Kind) {
+    let kind = kind(rt, alloc, line);
+    holds(rt, kind == expected, line);
+}
+
+fn line(rt: &impl Abort, alloc: Global, text: &str) -> Line {
+    made(rt, Line::new(alloc, text))
+}
+
+fn third_rebuild(rt: &impl Abort, alloc: Global) -> Kind {
+    Kind::Nmu {
         number: RebuildNumber::new(3),
-        extra,
-        message: Line::new(alloc, "Rebuild")?,
-    })
-}
-
-fn makes(alloc: Global, line: &str, kind: Kind) -> Result<bool, Fail> {
-    let is_made = has_kind(alloc, line, &kind);
-    drop(kind);
-    is_made
+        extra: line(rt, alloc, "libbar-dev"),
+        message: line(rt, alloc, "Rebuild"),
+    }
 }
 
 #[test]
-fn a_command_makes_an_entry_of_its_kind(rt: HostRuntime) -> Result<(), Fail> {
+fn a_command_makes_an_entry_of_its_kind(rt: HostRuntime) {
     let alloc = rt.alloc();
-    assert!(rt; makes(alloc, "gb foo . ANY", Kind::Gb)?);
-    let line = "nmu 3 foo . ANY . -m Rebuild --extra-depends libbar-dev";
-    assert!(rt; makes(alloc, line, third_rebuild(alloc)?)?);
-    let line = "dw foo . ANY . -m libbar-dev";
-    assert!(rt; makes(alloc, line, Kind::Dw(Line::new(alloc, "libbar-dev")?))?);
-    Ok(())
+    has_kind(&rt, alloc, "gb foo . ANY", Kind::Gb);
+    let nmu = "nmu 3 foo . ANY . -m Rebuild --extra-depends libbar-dev";
+    has_kind(&rt, alloc, nmu, third_rebuild(&rt, alloc));
+    let dw = Kind::Dw(line(&rt, alloc, "libbar-dev"));
+    has_kind(&rt, alloc, "dw foo . ANY . -m libbar-dev", dw);
 }

@@ -2,12 +2,14 @@
 //! on offer, indices, command lines, trackers and waves, the words of the program and its
 //! explanations: what no clause says.
 //!
-//! A module a crate. They stand in a crate of their own, over the crates' public calls, so that
-//! none of those is proved a second time with its tests.
+//! A module a crate, beside what all of them ask. They stand in a crate of their own, over the
+//! crates' public calls, so that none of those is proved a second time with its tests.
 #![tactic(auto)]
 
 #[cfg(test)]
 mod archives;
+#[cfg(test)]
+mod checks;
 #[cfg(test)]
 mod commands;
 #[cfg(test)]

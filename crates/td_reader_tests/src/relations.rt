@@ -3,9 +3,9 @@ ghost use Rattle.std.specs.Prelude.{List, [], ◌∷◌, if◌then◌else◌};
 ghost use Rattle.std.specs.Str.{bytes_eq};
 ghost use Rattle.td_relation.specs.Offers.{offered};
 
+use crate::checks::{holds, is_same, made};
 use std::alloc::{AllocError, Global};
 use std::process::Abort;
-use std::test::Fail;
 use td_relation::{
     Alternative, Archs, ArchsFault, MAX_ARCHS, Offer, Offering, Offers, Relation, RelationFault,
     Restriction,
@@ -16,140 +16,129 @@ const TABLE: &str =
     "# name os cpu\namd64 linux amd64\n\ni386 linux i386\nkfreebsd-amd64 kfreebsd amd64";
 
 /// Offers of the worked example: a library and its development files on amd64 and i386, and one for
-/// every architecture; each with its version and the place of its architecture.
-const OFFERED: [(&str, &str, Option<usize>); 6] = [
+/// every architecture; each with its version and the place of its architecture. One is without a
+/// version.
+const OFFERED: [(&str, &str, Option<usize>); 7] = [
     ("libfoo1", "1.2-3", Some(0)),
     ("libfoo1", "1.2-3+b1", Some(1)),
     ("libbar-dev", "2.0-1", Some(0)),
     ("libbar-dev", "2.0-1", Some(1)),
     ("data", "1.0", None),
     ("native", "1.0-0", Some(0)),
+    ("virtual", "", Some(0)),
 ];
 
-/// Puts up these, and one without a version.
-fn fill(offers: &mut Offers<'_>) -> Result<(), Fail> {
+fn fill(offers: &mut Offers<'_>) -> Result<(), AllocError> {
     for (name, version, arch) in &OFFERED {
-        offers.push(name, Some(Version::read(version)?), *arch)?;
+        offers.push(name, Version::read(version).ok(), *arch)?;
     }
-    offers.push("virtual", None, Some(0))?;
     Ok(())
 }
 
-fn example(alloc: Global) -> Result<Offers<'static>, Fail> {
+fn example(alloc: Global) -> Result<Offers<'static>, AllocError> {
     let mut offers = Offers::new(alloc);
     match fill(&mut offers) {
         Ok(()) => Ok(offers),
-        Err(fault) => {
+        Err(error) => {
             drop(offers);
-            Err(fault)
+            Err(error)
         }
     }
 }
 
 /// Whether these offers meet the relation on the table's first architecture, and on its second.
-fn met_of(
-    relation: &Relation<'_>,
-    offers: &Offers<'_>,
-    archs: &Archs<'_>,
-) -> Result<(bool, bool), Fail> {
+fn met_on(relation: &Relation<'_>, offers: &Offers<'_>, archs: &Archs<'_>) -> Option<(bool, bool)> {
     if archs.len() < 2 {
-        return Err(Fail::from("the table is short"));
+        return None;
     }
-    Ok((
-        relation.met_by(offers, archs, 0),
-        relation.met_by(offers, archs, 1),
-    ))
+    let there = relation.met_by(offers, archs, 0);
+    Some((there, relation.met_by(offers, archs, 1)))
 }
 
-/// Whether these offers meet the relation of this text on amd64, and on i386.
-fn met_among(alloc: Global, text: &str, offers: &Offers<'_>) -> Result<(bool, bool), Fail> {
-    let relation = Relation::read(alloc, text)?;
-    match Archs::read(alloc, TABLE) {
-        Ok(archs) => met_of(&relation, offers, &archs),
-        Err(_) => Err(Fail::from("the table is read")),
+/// The same of the relation of a text; nothing where it isn't read.
+fn met(alloc: Global, text: &str, offers: &Offers<'_>, archs: &Archs<'_>) -> Option<(bool, bool)> {
+    match Relation::read(alloc, text) {
+        Ok(relation) => met_on(&relation, offers, archs),
+        Err(_) => None,
     }
-}
-
-/// Whether the example's offers meet the relation on amd64, and on i386.
-fn met(alloc: Global, text: &str) -> Result<(bool, bool), Fail> {
-    let offers = example(alloc)?;
-    let met = met_among(alloc, text, &offers);
-    drop(offers);
-    met
 }
 
 /// A relation, and whether the example's offers meet it on amd64, and on i386.
-type Asked = (&'static str, (bool, bool));
+type Asked<'a> = (&'a str, (bool, bool));
 
-fn are_met(rt: &impl Abort, alloc: Global, asked: &[Asked]) -> Result<(), Fail> {
+fn are_met(rt: &impl Abort, alloc: Global, asked: &[Asked<'_>]) {
+    let archs = made(rt, Archs::read(alloc, TABLE));
+    let offers = made(rt, example(alloc));
     for (text, expected) in asked {
-        assert_eq!(rt; met(alloc, text)?, *expected, "{text}");
+        let found = met(alloc, text, &offers, &archs);
+        is_same(rt, &found, &Some(*expected), text);
     }
-    Ok(())
+    drop(offers);
 }
 
 fn fault_of(alloc: Global, text: &str) -> Option<RelationFault> {
-    match Relation::read(alloc, text) {
-        Ok(_) => None,
-        Err(fault) => Some(fault),
-    }
+    Relation::read(alloc, text).err()
 }
+
+const WORKED: [Asked<'static>; 6] = [
+    (
+        "libqq-dev [i386], libbar-dev (>= 2) <!nocheck>",
+        (true, false),
+    ),
+    ("libbar-dev <nocheck>", (true, true)),
+    ("libbar-dev:any (<< 2)", (false, false)),
+    ("libqq-dev | libbar-dev", (true, true)),
+    ("libfoo1 (= 1.2-3)", (true, false)),
+    ("data (>= 1.0), libbar-dev, ", (true, true)),
+];
 
 // The worked example: expected by hand, from Policy 7.1.
 #[test]
-fn a_build_dependency_is_met_by_what_is_on_offer_there(rt: HostRuntime) -> Result<(), Fail> {
-    let asked = [
-        (
-            "libqq-dev [i386], libbar-dev (>= 2) <!nocheck>",
-            (true, false),
-        ),
-        ("libbar-dev <nocheck>", (true, true)),
-        ("libbar-dev:any (<< 2)", (false, false)),
-        ("libqq-dev | libbar-dev", (true, true)),
-        ("libfoo1 (= 1.2-3)", (true, false)),
-        ("data (>= 1.0), libbar-dev, ", (true, true)),
-    ];
-    are_met(&rt, rt.alloc(), &asked)
+fn a_build_dependency_is_met_by_what_is_on_offer_there(rt: HostRuntime) {
+    are_met(&rt, rt.alloc(), &WORKED);
 }
+
+const OPERATORS: [Asked<'static>; 7] = [
+    ("native (<< 1.0)", (false, false)),
+    ("native (<= 1.0)", (true, false)),
+    ("native (= 1.0)", (true, false)),
+    ("native (>= 1.0)", (true, false)),
+    ("native (>> 1.0)", (false, false)),
+    ("native ( << 1.0+b1 )", (true, false)),
+    ("native(>>1.0~rc1)", (true, false)),
+];
 
 // Policy 7.1: `<<` is strictly earlier; deb-version(7): 1.0 and 1.0-0 are equal. What they are met
 // by is on offer on amd64 alone.
 #[test]
-fn operators_go_by_the_order_of_versions(rt: HostRuntime) -> Result<(), Fail> {
-    let asked = [
-        ("native (<< 1.0)", (false, false)),
-        ("native (<= 1.0)", (true, false)),
-        ("native (= 1.0)", (true, false)),
-        ("native (>= 1.0)", (true, false)),
-        ("native (>> 1.0)", (false, false)),
-        ("native ( << 1.0+b1 )", (true, false)),
-        ("native(>>1.0~rc1)", (true, false)),
-    ];
-    are_met(&rt, rt.alloc(), &asked)
+fn operators_go_by_the_order_of_versions(rt: HostRuntime) {
+    are_met(&rt, rt.alloc(), &OPERATORS);
 }
+
+const VIRTUAL: [Asked<'static>; 2] = [
+    ("virtual", (true, false)),
+    ("virtual (>= 0)", (false, false)),
+];
 
 // Policy 7.5: a virtual package without a version satisfies no versioned relation.
 #[test]
-fn an_offer_without_a_version_satisfies_only_no_restriction(rt: HostRuntime) -> Result<(), Fail> {
-    let asked = [
-        ("virtual", (true, false)),
-        ("virtual (>= 0)", (false, false)),
-    ];
-    are_met(&rt, rt.alloc(), &asked)
+fn an_offer_without_a_version_satisfies_only_no_restriction(rt: HostRuntime) {
+    are_met(&rt, rt.alloc(), &VIRTUAL);
 }
+
+const INACTIVE: [Asked<'static>; 6] = [
+    ("missing [!linux-any]", (true, true)),
+    ("missing [any-i386 kfreebsd-any]", (true, false)),
+    ("missing [!amd64 !kfreebsd-any]", (true, false)),
+    ("missing <!nocheck> <!nodoc>", (false, false)),
+    ("missing <!nocheck nodoc>", (true, true)),
+    ("missing <cross> <!nodoc>", (false, false)),
+];
 
 // Policy 7.1: architecture lists; deb-src-control(5): build profiles.
 #[test]
-fn inactive_alternatives_ask_nothing(rt: HostRuntime) -> Result<(), Fail> {
-    let asked = [
-        ("missing [!linux-any]", (true, true)),
-        ("missing [any-i386 kfreebsd-any]", (true, false)),
-        ("missing [!amd64 !kfreebsd-any]", (true, false)),
-        ("missing <!nocheck> <!nodoc>", (false, false)),
-        ("missing <!nocheck nodoc>", (true, true)),
-        ("missing <cross> <!nodoc>", (false, false)),
-    ];
-    are_met(&rt, rt.alloc(), &asked)
+fn inactive_alternatives_ask_nothing(rt: HostRuntime) {
+    are_met(&rt, rt.alloc(), &INACTIVE);
 }
 
 /// A text, and what is wrong with it.
@@ -177,22 +166,19 @@ const FAULTS: [(&str, RelationFault); 21] = [
     ("foo (< 1), B", RelationFault::BadOperator),
 ];
 
-fn are_refused(rt: &impl Abort, alloc: Global, cases: &[(&'static str, RelationFault)]) {
-    for (text, fault) in cases {
-        assert_eq!(rt; fault_of(alloc, text), Some(*fault), "{text}");
-    }
-}
+const UNFAULTED: [&str; 2] = [
+    "foo,,bar,",
+    " foo:any(>=1)[ !i386 !hurd-any ]<!a b>\n\t< c >",
+];
 
 // By place from the left, and then by number: this project's own.
 #[test]
 fn the_first_fault_from_the_left_is_named(rt: HostRuntime) {
-    let alloc = rt.alloc();
-    are_refused(&rt, alloc, &FAULTS);
-    for text in [
-        "foo,,bar,",
-        " foo:any(>=1)[ !i386 !hurd-any ]<!a b>\n\t< c >",
-    ] {
-        assert_eq!(rt; fault_of(alloc, text), None, "{text}");
+    for (text, fault) in &FAULTS {
+        is_same(&rt, &fault_of(rt.alloc(), text), &Some(*fault), text);
+    }
+    for text in &UNFAULTED {
+        is_same(&rt, &fault_of(rt.alloc(), text), &None, text);
     }
 }
 
@@ -212,88 +198,108 @@ impl<'a> Offering for Sole<'a> {
 }
 
 /// Whether the offer meets the relation of this text on amd64.
-fn sole_meets(alloc: Global, text: &str, sole: &Sole<'_>) -> Result<bool, Fail> {
-    let relation = Relation::read(alloc, text)?;
-    let archs = Archs::read(alloc, TABLE)?;
-    Ok(archs.len() > 0 && relation.met_by(sole, &archs, 0))
+fn sole_meets(alloc: Global, text: &str, sole: &Sole<'_>, archs: &Archs<'_>) -> Option<bool> {
+    match Relation::read(alloc, text) {
+        Ok(relation) => Some(archs.len() > 0 && relation.met_by(sole, archs, 0)),
+        Err(_) => None,
+    }
 }
+
+fn foo() -> Sole<'static> {
+    let version = Version::read("1.2").ok();
+    let arch = None;
+    Sole {
+        name: "foo",
+        offer: Offer { version, arch },
+    }
+}
+
+/// A relation, and whether the offer meets it.
+const OF_SOLE: [(&str, bool); 2] = [
+    ("foo (>= 1) | bar, foo (<< 2)", true),
+    ("foo (>= 1), bar", false),
+];
 
 // Policy 7.1 and 7.5, as for the offers of the worked example.
 #[test]
-fn another_type_is_asked_what_it_offers(rt: HostRuntime) -> Result<(), Fail> {
-    let alloc = rt.alloc();
-    let version = Some(Version::read("1.2")?);
-    let arch = None;
-    let sole = Sole {
-        name: "foo",
-        offer: Offer { version, arch },
-    };
-    assert!(rt; sole_meets(alloc, "foo (>= 1) | bar, foo (<< 2)", &sole)?);
-    assert!(rt; !sole_meets(alloc, "foo (>= 1), bar", &sole)?);
-    Ok(())
+fn another_type_is_asked_what_it_offers(rt: HostRuntime) {
+    let archs = made(&rt, Archs::read(rt.alloc(), TABLE));
+    let sole = foo();
+    for (text, expected) in &OF_SOLE {
+        let is_met = sole_meets(rt.alloc(), text, &sole, &archs);
+        is_same(&rt, &is_met, &Some(*expected), text);
+    }
 }
 
-fn first_name<'a>(member: Option<&[Alternative<'a>]>) -> Option<&'a str> {
-    Some(member?.first()?.name)
+fn first_is(member: Option<&[Alternative<'_>]>, name: &str) -> bool {
+    match member {
+        Some(alternatives) => match alternatives.first() {
+            Some(first) => first.name == name,
+            None => false,
+        },
+        None => false,
+    }
 }
 
-fn has_two_members(rt: &impl Abort, relation: &Relation<'_>) {
+fn has_two_members(relation: &Relation<'_>) -> bool {
     let mut members = relation.members();
-    assert!(rt; members.count() == 2);
-    assert!(rt; first_name(members.next()) == Some("foo"));
-    assert!(rt; first_name(members.next()) == Some("baz"));
-    assert!(rt; members.next().is_none());
+    members.count() == 2
+        && first_is(members.next(), "foo")
+        && first_is(members.next(), "baz")
+        && members.next().is_none()
 }
 
 // Policy 7.1: commas between members, bars between alternatives.
 #[test]
-fn a_relation_is_gone_through_member_by_member(rt: HostRuntime) -> Result<(), Fail> {
-    let relation = Relation::read(rt.alloc(), "foo (= 1) | bar, , baz")?;
-    has_two_members(&rt, &relation);
-    Ok(())
+fn a_relation_is_gone_through_member_by_member(rt: HostRuntime) {
+    let text = "foo (= 1) | bar, , baz";
+    let relation = made(&rt, Relation::read(rt.alloc(), text));
+    holds(&rt, has_two_members(&relation), text);
 }
 
-fn names_its_active(rt: &impl Abort, relation: &Relation<'_>, archs: &Archs<'_>) {
-    assert!(rt; archs.len() == 3);
-    assert!(rt; relation.names(archs, 1, "foo"));
-    assert!(rt; !relation.names(archs, 0, "foo"));
-    assert!(rt; relation.names(archs, 0, "bar"));
-    assert!(rt; !relation.names(archs, 0, "baz"));
+fn names_its_active(relation: &Relation<'_>, archs: &Archs<'_>) -> bool {
+    archs.len() == 3
+        && relation.names(archs, 1, "foo")
+        && !relation.names(archs, 0, "foo")
+        && relation.names(archs, 0, "bar")
+        && !relation.names(archs, 0, "baz")
 }
 
 #[test]
-fn a_relation_names_what_is_active_there(rt: HostRuntime) -> Result<(), Fail> {
-    let alloc = rt.alloc();
-    let archs = Archs::read(alloc, TABLE)?;
-    let relation = Relation::read(alloc, "foo [i386] | bar, baz <nodoc>")?;
-    names_its_active(&rt, &relation, &archs);
-    Ok(())
+fn a_relation_names_what_is_active_there(rt: HostRuntime) {
+    let text = "foo [i386] | bar, baz <nodoc>";
+    let archs = made(&rt, Archs::read(rt.alloc(), TABLE));
+    let relation = made(&rt, Relation::read(rt.alloc(), text));
+    holds(&rt, names_its_active(&relation, &archs), text);
 }
 
 // Policy 11.1.1: architecture wildcards.
-fn names_its_own(rt: &impl Abort, archs: &Archs<'_>) {
-    assert!(rt; archs.len() == 3);
-    assert!(rt; archs.name(2) == "kfreebsd-amd64");
-    assert!(rt; archs.index("i386") == Some(1) && archs.index("any").is_none());
-    assert!(rt; archs.matches(2, "any-amd64") && archs.matches(2, "kfreebsd-any"));
-    assert!(rt; archs.matches(2, "any"));
-    assert!(rt; !archs.matches(2, "amd64") && !archs.matches(2, "linux-any"));
+fn names_its_own(archs: &Archs<'_>) -> bool {
+    archs.len() == 3
+        && archs.name(2) == "kfreebsd-amd64"
+        && archs.index("i386") == Some(1)
+        && archs.index("any").is_none()
+        && archs.matches(2, "any-amd64")
+        && archs.matches(2, "kfreebsd-any")
+        && archs.matches(2, "any")
+        && !archs.matches(2, "amd64")
+        && !archs.matches(2, "linux-any")
 }
 
 #[test]
-fn a_table_names_its_architectures_and_their_wildcards(rt: HostRuntime) -> Result<(), Fail> {
-    let archs = Archs::read(rt.alloc(), TABLE)?.copy()?;
-    names_its_own(&rt, &archs);
-    Ok(())
+fn a_table_names_its_architectures_and_their_wildcards(rt: HostRuntime) {
+    let archs = made(&rt, Archs::read(rt.alloc(), TABLE));
+    let copy = made(&rt, archs.copy());
+    drop(archs);
+    holds(&rt, names_its_own(&copy), TABLE);
 }
 
-/// How many architectures a table has. A text of a million bytes or more isn't read.
+/// How many architectures a table has.
 fn table_size(alloc: Global, text: &str) -> Result<usize, ArchsFault> {
-    if text.len() >= 1_000_000 {
-        return Err(ArchsFault::NoMemory);
+    match Archs::read(alloc, text) {
+        Ok(archs) => Ok(archs.len()),
+        Err(fault) => Err(fault),
     }
-    let archs = Archs::read(alloc, text)?;
-    Ok(archs.len())
 }
 
 /// A table, and its first faulty line.
@@ -307,17 +313,13 @@ const TABLES: [(&str, ArchsFault); 7] = [
     ("a b c\n# x\na d e", ArchsFault::Twice(3)),
 ];
 
-fn are_faulty(rt: &impl Abort, alloc: Global, tables: &[(&'static str, ArchsFault)]) {
-    for (text, fault) in tables {
-        assert_eq!(rt; table_size(alloc, text), Err(*fault), "{text}");
-    }
-}
-
 // This project's own.
 #[test]
 fn the_first_faulty_line_of_a_table_is_named(rt: HostRuntime) {
-    assert_eq!(rt; table_size(rt.alloc(), ""), Ok(0));
-    are_faulty(&rt, rt.alloc(), &TABLES);
+    is_same(&rt, &table_size(rt.alloc(), ""), &Ok(0), "an empty table");
+    for (text, fault) in &TABLES {
+        is_same(&rt, &table_size(rt.alloc(), text), &Err(*fault), text);
+    }
 }
 
 /// Lines `NAME linux x`, with so many names.
@@ -329,14 +331,20 @@ fn many(alloc: Global, count: usize) -> Result<String, AllocError> {
     Ok(text)
 }
 
+/// What is read of a table of so many.
+fn size_of_many(alloc: Global, count: usize) -> Result<usize, ArchsFault> {
+    match many(alloc, count) {
+        Ok(text) => table_size(alloc, text.as_str()),
+        Err(_) => Err(ArchsFault::NoMemory),
+    }
+}
+
 #[test]
-fn a_table_has_room_for_its_limit(rt: HostRuntime) -> Result<(), Fail> {
-    let full = many(rt.alloc(), MAX_ARCHS)?;
-    assert_eq!(rt; table_size(rt.alloc(), full.as_str()), Ok(32));
-    let more = many(rt.alloc(), MAX_ARCHS + 1)?;
-    let fault = ArchsFault::TooMany;
-    assert_eq!(rt; table_size(rt.alloc(), more.as_str()), Err(fault));
-    Ok(())
+fn a_table_has_room_for_its_limit(rt: HostRuntime) {
+    let full = size_of_many(rt.alloc(), MAX_ARCHS);
+    is_same(&rt, &full, &Ok(32), "a full table");
+    let more = size_of_many(rt.alloc(), MAX_ARCHS + 1);
+    is_same(&rt, &more, &Err(ArchsFault::TooMany), "one more");
 }
 
 fn ten_thousand(alloc: Global) -> Result<String, AllocError> {
@@ -349,8 +357,7 @@ fn ten_thousand(alloc: Global) -> Result<String, AllocError> {
 }
 
 #[test]
-fn ten_thousand_alternatives_are_read(rt: HostRuntime) -> Result<(), Fail> {
-    let text = ten_thousand(rt.alloc())?;
-    assert_eq!(rt; met(rt.alloc(), text.as_str())?, (true, true));
-    Ok(())
+fn ten_thousand_alternatives_are_read(rt: HostRuntime) {
+    let text = made(&rt, ten_thousand(rt.alloc()));
+    are_met(&rt, rt.alloc(), &[(text.as_str(), (true, true))]);
 }

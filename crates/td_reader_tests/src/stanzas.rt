@@ -1,7 +1,7 @@
 //! Control files that are read, or refused at a line. Expected by hand, from Policy 5.1.
+use crate::checks::{holds, is_same, is_told, made};
 use std::alloc::{AllocError, Global};
 use std::process::Abort;
-use std::test::Fail;
 use td_stanza::{Stanza, StanzaFault, StanzaList, stanzas};
 
 fn put_fields(out: &mut String, stanza: &Stanza<'_, '_>) -> Result<(), AllocError> {
@@ -13,90 +13,112 @@ fn put_fields(out: &mut String, stanza: &Stanza<'_, '_>) -> Result<(), AllocErro
     out.push_str("\n")
 }
 
-fn put_stanzas(out: &mut String, list: &StanzaList<'_>) -> Result<(), AllocError> {
+fn told(alloc: Global, list: &StanzaList<'_>) -> Result<String, AllocError> {
+    let mut out = String::new(alloc);
     for number in 0..list.len() {
         if let Some(stanza) = list.stanza(number) {
-            put_fields(out, &stanza)?;
+            put_fields(&mut out, &stanza)?;
         }
     }
-    Ok(())
-}
-
-/// The fields of all stanzas, a newline behind each stanza.
-fn shown(alloc: Global, text: &str) -> Result<String, Fail> {
-    let list = stanzas(alloc, text)?;
-    let mut out = String::new(alloc);
-    put_stanzas(&mut out, &list)?;
     Ok(out)
 }
 
-fn is_fault(rt: &impl Abort, alloc: Global, text: &str, fault: StanzaFault) {
+/// The fields of all stanzas, a newline behind each stanza.
+fn shown(alloc: Global, text: &str) -> Result<String, AllocError> {
     match stanzas(alloc, text) {
-        Ok(_) => panic!(rt; "{text} is read"),
-        Err(found) => assert_eq!(rt; found, fault, "{text}"),
+        Ok(list) => told(alloc, &list),
+        Err(_) => String::from_str(alloc, "refused"),
     }
 }
 
-fn is_foo(rt: &impl Abort, first: &Stanza<'_, '_>) {
-    assert!(rt; first.len() == 2 && !first.is_empty());
-    assert!(rt; first.get("package") == Some("foo"));
-    assert!(rt; first.get("DEPENDS") == Some("\n libc6,\n libfoo1"));
-    assert!(rt; first.field(0) == Some(("Package", "foo")));
-    assert!(rt; first.get("Version").is_none() && first.field(2).is_none());
+fn fault_of(alloc: Global, text: &str) -> Option<StanzaFault> {
+    stanzas(alloc, text).err()
 }
 
-fn begins_with_foo(rt: &impl Abort, list: &StanzaList<'_>) {
-    assert!(rt; list.len() == 2 && !list.is_empty());
+/// Whether the stanza has the field with this value.
+fn has(stanza: &Stanza<'_, '_>, name: &str, value: &str) -> bool {
+    match stanza.get(name) {
+        Some(found) => found == value,
+        None => false,
+    }
+}
+
+/// Whether this is the stanza's first field.
+fn begins_with(stanza: &Stanza<'_, '_>, name: &str, value: &str) -> bool {
+    match stanza.field(0) {
+        Some((first, found)) => first == name && found == value,
+        None => false,
+    }
+}
+
+fn is_foo(first: &Stanza<'_, '_>) -> bool {
+    first.len() == 2
+        && !first.is_empty()
+        && has(first, "package", "foo")
+        && has(first, "DEPENDS", "\n libc6,\n libfoo1")
+        && begins_with(first, "Package", "foo")
+        && first.get("Version").is_none()
+        && first.field(2).is_none()
+}
+
+fn begins_with_foo(list: &StanzaList<'_>) -> bool {
     match list.stanza(0) {
-        Some(first) => is_foo(rt, &first),
-        None => panic!(rt; "the text has a first stanza"),
+        Some(first) => {
+            is_foo(&first) && list.len() == 2 && !list.is_empty() && list.stanza(2).is_none()
+        }
+        None => false,
     }
-    assert!(rt; list.stanza(2).is_none());
 }
 
 // Two stanzas, the second without a newline at its end.
 #[test]
-fn a_value_keeps_the_newlines_inside_it(rt: HostRuntime) -> Result<(), Fail> {
+fn a_value_keeps_the_newlines_inside_it(rt: HostRuntime) {
     let text = "Package: foo \nDepends:\n libc6,\n libfoo1\n \nPackage: bar";
-    let list = stanzas(rt.alloc(), text)?;
-    begins_with_foo(&rt, &list);
+    let list = made(&rt, stanzas(rt.alloc(), text));
+    holds(&rt, begins_with_foo(&list), text);
     drop(list);
-    let out = shown(rt.alloc(), text)?;
-    assert_eq!(rt;
-        out.as_str(),
-        "Package=foo|Depends=\n libc6,\n libfoo1|\nPackage=bar|\n"
-    );
-    Ok(())
+    let wanted = "Package=foo|Depends=\n libc6,\n libfoo1|\nPackage=bar|\n";
+    is_told(&rt, shown(rt.alloc(), text), wanted, text);
 }
 
-#[test]
-fn a_text_of_separators_has_no_stanza(rt: HostRuntime) -> Result<(), Fail> {
-    for text in ["", "\n", "\n\n", " \n\t\n", "\t \t"] {
-        let list = stanzas(rt.alloc(), text)?;
-        assert!(rt; list.is_empty(), "{text}");
+/// Whether a text is read, and has no stanza.
+fn is_without(alloc: Global, text: &str) -> bool {
+    match stanzas(alloc, text) {
+        Ok(list) => list.is_empty(),
+        Err(_) => false,
     }
-    Ok(())
 }
+
+const SEPARATORS: [&str; 5] = ["", "\n", "\n\n", " \n\t\n", "\t \t"];
+
+#[test]
+fn a_text_of_separators_has_no_stanza(rt: HostRuntime) {
+    for text in &SEPARATORS {
+        holds(&rt, is_without(rt.alloc(), text), text);
+    }
+}
+
+/// A text, and its first fault.
+const FAULTS: [(&str, StanzaFault); 13] = [
+    (" x", StanzaFault::ContinuationFirst(1)),
+    ("a: 1\n\t\n x\n", StanzaFault::ContinuationFirst(3)),
+    ("Package: a1\npackage: b2", StanzaFault::Duplicate(2)),
+    ("a: 1\n b\nA:\n", StanzaFault::Duplicate(3)),
+    ("Package", StanzaFault::NoColon(1)),
+    ("Package\n foo: bar\n", StanzaFault::NoColon(1)),
+    ("# c", StanzaFault::BadName(1)),
+    ("#c: d", StanzaFault::BadName(1)),
+    ("a: 1\n\n-b: 2", StanzaFault::BadName(3)),
+    (": no name\nPackage", StanzaFault::BadName(1)),
+    ("Pack age: a", StanzaFault::BadName(1)),
+    ("Paket\u{e9}: a", StanzaFault::BadName(1)),
+    ("two words", StanzaFault::BadName(1)),
+];
 
 #[test]
 fn the_first_line_with_a_fault_decides(rt: HostRuntime) {
-    let cases = [
-        (" x", StanzaFault::ContinuationFirst(1)),
-        ("a: 1\n\t\n x\n", StanzaFault::ContinuationFirst(3)),
-        ("Package: a1\npackage: b2", StanzaFault::Duplicate(2)),
-        ("a: 1\n b\nA:\n", StanzaFault::Duplicate(3)),
-        ("Package", StanzaFault::NoColon(1)),
-        ("Package\n foo: bar\n", StanzaFault::NoColon(1)),
-        ("# c", StanzaFault::BadName(1)),
-        ("#c: d", StanzaFault::BadName(1)),
-        ("a: 1\n\n-b: 2", StanzaFault::BadName(3)),
-        (": no name\nPackage", StanzaFault::BadName(1)),
-        ("Pack age: a", StanzaFault::BadName(1)),
-        ("Paket\u{e9}: a", StanzaFault::BadName(1)),
-        ("two words", StanzaFault::BadName(1)),
-    ];
-    for (text, fault) in cases {
-        is_fault(&rt, rt.alloc(), text, fault);
+    for (text, fault) in &FAULTS {
+        is_same(&rt, &fault_of(rt.alloc(), text), &Some(*fault), text);
     }
 }
 
@@ -105,37 +127,57 @@ const MANY: &str = "0:\n1:\n2:\n3:\n4:\n5:\n6:\n7:\n8:\n9:\n\
 A:\nB:\nC:\nD:\nE:\nF:\nG:\nH:\nI:\nJ:\nK:\nL:\nM:\n\
 N:\nO:\nP:\nQ:\nR:\nS:\nT:\nU:\nV:\nW:\nX:\nY:\nZ:\n";
 
-/// What is found in the text with a line behind it, as the numbers of stanzas and of the fields of
-/// the last one.
-fn counted(alloc: Global, line: &str) -> Result<(usize, usize), Fail> {
+/// The many fields with a line behind them.
+fn many_and(alloc: Global, line: &str) -> Result<String, AllocError> {
     let mut text = String::from_str(alloc, MANY)?;
     text.push_str(line)?;
-    let list = stanzas(alloc, text.as_str())?;
-    let stanza = list.stanza(list.len().saturating_sub(1));
-    Ok((list.len(), stanza.map_or(0, |stanza| stanza.len())))
+    Ok(text)
 }
+
+/// The number of stanzas, and of the fields of the last one.
+fn counts(alloc: Global, list: &StanzaList<'_>) -> Result<String, AllocError> {
+    let fields = match list.stanza(list.len().saturating_sub(1)) {
+        Some(last) => last.len(),
+        None => 0,
+    };
+    format!(in alloc; "{} {fields}", list.len())
+}
+
+/// What is read of the many fields with a line behind them: the counts, or the fault.
+fn counted(alloc: Global, line: &str) -> Result<String, AllocError> {
+    let text = many_and(alloc, line)?;
+    match stanzas(alloc, text.as_str()) {
+        Ok(list) => counts(alloc, &list),
+        Err(fault) => format!(in alloc; "{fault:?}"),
+    }
+}
+
+/// A line behind the many fields, and what is read with it.
+const BEHIND_MANY: [(&str, &str); 8] = [
+    ("9:", "Duplicate(37)"),
+    ("a:", "Duplicate(37)"),
+    ("v:", "Duplicate(37)"),
+    ("W:", "Duplicate(37)"),
+    ("w:", "Duplicate(37)"),
+    ("z: z", "Duplicate(37)"),
+    ("zz:", "1 37"),
+    ("\nz:", "2 1"),
+];
 
 // Debian Policy 5.1: a stanza has a name once, in whatever case.
 #[test]
-fn a_name_comes_once_among_many_fields(rt: HostRuntime) -> Result<(), Fail> {
-    for line in ["9:", "a:", "v:", "W:", "w:", "z: z"] {
-        let mut text = String::from_str(rt.alloc(), MANY)?;
-        text.push_str(line)?;
-        is_fault(&rt, rt.alloc(), text.as_str(), StanzaFault::Duplicate(37));
+fn a_name_comes_once_among_many_fields(rt: HostRuntime) {
+    for (line, read) in &BEHIND_MANY {
+        is_told(&rt, counted(rt.alloc(), line), read, line);
     }
-    assert_eq!(rt; counted(rt.alloc(), "zz:")?, (1, 37));
-    assert_eq!(rt; counted(rt.alloc(), "\nz:")?, (2, 1));
-    Ok(())
 }
 
 // A line of a dot alone, a tab, a colon where a name would stand, a carriage return.
 #[test]
-fn a_continuation_has_any_text(rt: HostRuntime) -> Result<(), Fail> {
+fn a_continuation_has_any_text(rt: HostRuntime) {
     let text = "Description: short\n long\n .\n\ttab: here\nTag:a\t\r\n  \n\nA:\n";
-    let out = shown(rt.alloc(), text)?;
     let wanted = "Description=short\n long\n .\n\ttab: here|Tag=a\t\r|\nA=|\n";
-    assert_eq!(rt; out.as_str(), wanted);
-    Ok(())
+    is_told(&rt, shown(rt.alloc(), text), wanted, text);
 }
 
 /// A stanza of sid's Packages.
@@ -183,29 +225,32 @@ const OF_SOURCES: [Held; 2] = [
     ("Directory", "pool/main/0/0ad"),
 ];
 
-/// Whether the first stanza has so many fields, these among them.
-fn holds(list: &StanzaList<'_>, count: usize, fields: &[Held]) -> bool {
-    let Some(stanza) = list.stanza(0) else {
-        return false;
-    };
+/// Whether the stanza has so many fields, these among them.
+fn has_all(stanza: &Stanza<'_, '_>, count: usize, fields: &[Held]) -> bool {
     for (name, value) in fields {
-        if stanza.get(name) != Some(*value) {
+        if !has(stanza, name, value) {
             return false;
         }
     }
     stanza.len() == count
 }
 
-/// The same of the stanzas of a text.
-fn is_holding(alloc: Global, text: &str, count: usize, fields: &[Held]) -> Result<bool, Fail> {
-    let list = stanzas(alloc, text)?;
-    Ok(holds(&list, count, fields))
+/// The same of the first stanza.
+fn first_has_all(list: &StanzaList<'_>, count: usize, fields: &[Held]) -> bool {
+    match list.stanza(0) {
+        Some(first) => has_all(&first, count, fields),
+        None => false,
+    }
+}
+
+fn are_held(rt: &impl Abort, alloc: Global, text: &str, count: usize, fields: &[Held]) {
+    let list = made(rt, stanzas(alloc, text));
+    holds(rt, first_has_all(&list, count, fields), text);
 }
 
 // From Debian's own indices (sid).
 #[test]
-fn stanzas_of_the_archive_are_read(rt: HostRuntime) -> Result<(), Fail> {
-    assert!(rt; is_holding(rt.alloc(), PACKAGES, 11, &OF_PACKAGES)?);
-    assert!(rt; is_holding(rt.alloc(), SOURCES, 8, &OF_SOURCES)?);
-    Ok(())
+fn stanzas_of_the_archive_are_read(rt: HostRuntime) {
+    are_held(&rt, rt.alloc(), PACKAGES, 11, &OF_PACKAGES);
+    are_held(&rt, rt.alloc(), SOURCES, 8, &OF_SOURCES);
 }

@@ -1,9 +1,9 @@
 //! Statuses over two small archives. Expected by hand, from the rules in `docs/FORMATS.md`.
+use crate::checks::{is_told, made};
 use std::alloc::{AllocError, Global};
 use std::process::Abort;
-use std::test::Fail;
 use td_indices::Archive;
-use td_query::{Marks, Tracker};
+use td_query::{Marks, Status, Tracker};
 use td_relation::Archs;
 use td_rows::Key;
 
@@ -118,23 +118,51 @@ is_good = .depends ~ "libfoo2";
 is_bad = .depends ~ "libfoo1";
 "#;
 
-/// A row's status, as the tracker and as its marks say, where they say the same.
-fn status(
+/// A row's status as the tracker says.
+fn tracked(
     alloc: Global,
+    archive: &Archive<'_, '_>,
+    tracker: &Tracker<'_>,
+    source: &str,
+    arch: &str,
+) -> Result<Option<Status>, AllocError> {
+    match Key::new(alloc, source, arch) {
+        Ok(key) => tracker.status(alloc, archive, &key),
+        Err(_) => Err(AllocError),
+    }
+}
+
+/// A row's status as the marks say.
+fn marked(archive: &Archive<'_, '_>, marks: &Marks, source: &str, arch: &str) -> Option<Status> {
+    let number = archive.source_number(source).unwrap_or(usize::MAX);
+    let place = archive.archs().index(arch).unwrap_or(usize::MAX);
+    marks.status(archive, number, place)
+}
+
+fn status_name(status: Option<Status>) -> &'static str {
+    match status {
+        Some(status) => status.name(),
+        None => "-",
+    }
+}
+
+/// Puts down a row's status behind a space, as the tracker and as its marks say, where they say the
+/// same.
+fn put_status(
+    out: &mut String,
     archive: &Archive<'_, '_>,
     tracker: &Tracker<'_>,
     marks: &Marks,
     row: &str,
-) -> Result<&'static str, Fail> {
-    let (source, arch) = row.split_once('/').ok_or("a row")?;
-    let key = Key::new(alloc, source, arch)?;
-    let status = tracker.status(alloc, archive, &key)?;
-    let number = archive.source_number(source).unwrap_or(usize::MAX);
-    let place = archive.archs().index(arch).unwrap_or(usize::MAX);
-    if status != marks.status(archive, number, place) {
-        return Ok("two statuses");
+) -> Result<(), AllocError> {
+    let (source, arch) = row.split_once('/').unwrap_or((row, ""));
+    let status = tracked(*out.allocator(), archive, tracker, source, arch)?;
+    out.push_str(" ")?;
+    if status == marked(archive, marks, source, arch) {
+        out.push_str(status_name(status))
+    } else {
+        out.push_str("two statuses")
     }
-    Ok(status.map_or("-", |status| status.name()))
 }
 
 /// The statuses of these rows, each behind a space.
@@ -144,11 +172,10 @@ fn statuses_marked(
     tracker: &Tracker<'_>,
     marks: &Marks,
     rows: &str,
-) -> Result<String, Fail> {
+) -> Result<String, AllocError> {
     let mut out = String::new(alloc);
     for row in rows.split(' ') {
-        out.push_str(" ")?;
-        out.push_str(status(alloc, archive, tracker, marks, row)?)?;
+        put_status(&mut out, archive, tracker, marks, row)?;
     }
     Ok(out)
 }
@@ -159,11 +186,15 @@ fn statuses_by(
     archive: &Archive<'_, '_>,
     tracker: &Tracker<'_>,
     rows: &str,
-) -> Result<String, Fail> {
-    let marks = Marks::make(alloc, archive, tracker)?;
-    let told = statuses_marked(alloc, archive, tracker, &marks, rows);
-    drop(marks);
-    told
+) -> Result<String, AllocError> {
+    match Marks::make(alloc, archive, tracker) {
+        Ok(marks) => {
+            let told = statuses_marked(alloc, archive, tracker, &marks, rows);
+            drop(marks);
+            told
+        }
+        Err(error) => Err(error),
+    }
 }
 
 /// The statuses of these rows by the tracker of a text.
@@ -172,11 +203,15 @@ fn statuses(
     archive: &Archive<'_, '_>,
     tracker: &str,
     rows: &str,
-) -> Result<String, Fail> {
-    let tracker = Tracker::read(alloc, tracker)?;
-    let told = statuses_by(alloc, archive, &tracker, rows);
-    drop(tracker);
-    told
+) -> Result<String, AllocError> {
+    match Tracker::read(alloc, tracker) {
+        Ok(tracker) => {
+            let told = statuses_by(alloc, archive, &tracker, rows);
+            drop(tracker);
+            told
+        }
+        Err(_) => String::from_str(alloc, "no tracker"),
+    }
 }
 
 /// A tracker's text, rows, and the statuses that they have.
@@ -191,43 +226,23 @@ fn are_graded<'x>(
     sources: &'x str,
     asked: &[Asked],
 ) {
-    let Ok(archs) = Archs::read(alloc, table) else {
-        panic!(rt; "the table is read");
-    };
-    match Archive::read(alloc, packages, sources, &archs) {
-        Ok(archive) => {
-            for (tracker, rows, expected) in asked {
-                is_graded(rt, alloc, &archive, tracker, rows, expected);
-            }
-            drop(archive);
-        }
-        Err(fault) => panic!(rt; "refused: {fault:?}"),
+    let archs = made(rt, Archs::read(alloc, table));
+    let archive = made(rt, Archive::read(alloc, packages, sources, &archs));
+    for (tracker, rows, expected) in asked {
+        is_told(rt, statuses(alloc, &archive, tracker, rows), expected, rows);
     }
-    drop(archs);
+    drop(archive);
 }
 
-fn is_graded(
-    rt: &impl Abort,
-    alloc: Global,
-    archive: &Archive<'_, '_>,
-    tracker: &str,
-    rows: &str,
-    expected: &str,
-) {
-    match statuses(alloc, archive, tracker, rows) {
-        Ok(found) => assert_eq!(rt; found.as_str(), expected, "{rows}"),
-        Err(_) => panic!(rt; "no answer at {rows}"),
-    }
-}
+const TRANSITION: [Asked; 1] = [(
+    LIBFOO2,
+    "pa/amd64 qb/amd64 rc/amd64 sd/amd64 te/amd64 te/i386 no/amd64",
+    " good partial bad bad - - -",
+)];
 
 #[test]
 fn the_rows_of_a_transition_have_their_statuses(rt: HostRuntime) {
-    let asked = [(
-        LIBFOO2,
-        "pa/amd64 qb/amd64 rc/amd64 sd/amd64 te/amd64 te/i386 no/amd64",
-        " good partial bad bad - - -",
-    )];
-    are_graded(&rt, rt.alloc(), ARCHS, PACKAGES, SOURCES, &asked);
+    are_graded(&rt, rt.alloc(), ARCHS, PACKAGES, SOURCES, &TRANSITION);
 }
 
 const TWO_ROWS: &str = "one/amd64 one/i386 two/amd64 two/i386 three/amd64 three/i386";
@@ -279,23 +294,37 @@ fn spaced(alloc: Global, names: &[&str]) -> Result<String, AllocError> {
     Ok(out)
 }
 
-/// The sources that a tracker affects.
-fn affected_by(
+/// The sources that are marked as affected.
+fn affected_marked(
     alloc: Global,
     archive: &Archive<'_, '_>,
-    tracker: &Tracker<'_>,
+    marks: &Marks,
 ) -> Result<String, AllocError> {
-    let marks = Marks::make(alloc, archive, tracker)?;
     match marks.affected_sources(alloc, archive) {
         Ok(names) => spaced(alloc, names.as_slice()),
         Err(error) => Err(error),
     }
 }
 
-/// The affected sources of a query.
-fn affected(alloc: Global, archive: &Archive<'_, '_>, query: &str) -> Result<String, AllocError> {
-    let text = format!(in alloc; "is_affected = {query}; is_good = true; is_bad = true;")?;
-    match Tracker::read(alloc, text.as_str()) {
+/// The sources that a tracker affects.
+fn affected_by(
+    alloc: Global,
+    archive: &Archive<'_, '_>,
+    tracker: &Tracker<'_>,
+) -> Result<String, AllocError> {
+    match Marks::make(alloc, archive, tracker) {
+        Ok(marks) => {
+            let told = affected_marked(alloc, archive, &marks);
+            drop(marks);
+            told
+        }
+        Err(error) => Err(error),
+    }
+}
+
+/// The sources that the tracker of a text affects.
+fn affected(alloc: Global, archive: &Archive<'_, '_>, tracker: &str) -> Result<String, AllocError> {
+    match Tracker::read(alloc, tracker) {
         Ok(tracker) => {
             let told = affected_by(alloc, archive, &tracker);
             drop(tracker);
@@ -312,10 +341,10 @@ fn is_affecting(
     query: &str,
     expected: &str,
 ) {
-    match affected(alloc, archive, query) {
-        Ok(found) => assert_eq!(rt; found.as_str(), expected, "{query}"),
-        Err(_) => panic!(rt; "want of memory at {query}"),
-    }
+    let text = format!(in alloc; "is_affected = {query}; is_good = true; is_bad = true;");
+    let tracker = made(rt, text);
+    let told = affected(alloc, archive, tracker.as_str());
+    is_told(rt, told, expected, query);
 }
 
 fn are_affecting(rt: &impl Abort, alloc: Global, archive: &Archive<'_, '_>) {
@@ -328,15 +357,9 @@ fn are_affecting(rt: &impl Abort, alloc: Global, archive: &Archive<'_, '_>) {
 
 #[test]
 fn queries_affect_the_sources_that_they_should(rt: HostRuntime) {
-    let Ok(archs) = Archs::read(rt.alloc(), TWO_ARCHS) else {
-        panic!(rt; "the table is read");
-    };
-    match Archive::read(rt.alloc(), TWO_PACKAGES, TWO_SOURCES, &archs) {
-        Ok(archive) => {
-            are_affecting(&rt, rt.alloc(), &archive);
-            drop(archive);
-        }
-        Err(fault) => panic!(rt; "refused: {fault:?}"),
-    }
-    drop(archs);
+    let archs = made(&rt, Archs::read(rt.alloc(), TWO_ARCHS));
+    let read = Archive::read(rt.alloc(), TWO_PACKAGES, TWO_SOURCES, &archs);
+    let archive = made(&rt, read);
+    are_affecting(&rt, rt.alloc(), &archive);
+    drop(archive);
 }

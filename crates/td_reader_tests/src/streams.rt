@@ -3,10 +3,10 @@
 //! number of bytes. Expected values follow from the texts and these numbers.
 ghost use Rattle.std.specs.Prelude.{Some};
 
+use crate::checks::{holds, is_same, is_told, made};
 use std::alloc::Global;
 use std::io;
 use std::io::{ErrorKind, Read, Write};
-use std::test::Fail;
 use td_bytes::{ReadFault, TextFault, WriteFault, read_text, read_whole, write_whole};
 
 // Gives one byte a call, is interrupted before each, and fails where its room is used up.
@@ -100,71 +100,103 @@ impl Write for Narrow {
     }
 }
 
-#[test]
-fn a_text_is_read_to_its_end_up_to_the_limit(rt: HostRuntime) -> Result<(), Fail> {
-    let alloc = rt.alloc();
-    for (limit, is_read) in [(0, false), (4, false), (5, true), (6, true)] {
-        match read_whole(alloc, &mut Drip::new(b"steps", 9), limit) {
-            Ok(bytes) => assert!(rt;
-                is_read && bytes.as_slice() == b"steps".as_slice(),
-                "{limit}"
-            ),
-            Err(fault) => assert!(rt; !is_read && fault == ReadFault::TooLong, "{limit}"),
-        }
+// Whether what is read is this.
+fn is_read<R: Read>(
+    alloc: Global,
+    reader: &mut R,
+    limit: usize,
+    expected: &[u8],
+) -> Result<bool, ReadFault> {
+    match read_whole(alloc, reader, limit) {
+        Ok(bytes) => Ok(bytes.as_slice() == expected),
+        Err(fault) => Err(fault),
     }
-    let empty = read_whole(alloc, &mut Drip::new(b"", 9), 0)?;
-    assert!(rt; empty.is_empty());
-    Ok(())
+}
+
+// Whether what is read of bytes that drip is all of them.
+fn drips(alloc: Global, bytes: &[u8], limit: usize) -> Result<bool, ReadFault> {
+    let mut drip = Drip::new(bytes, 9);
+    is_read(alloc, &mut drip, limit, bytes)
+}
+
+const LIMITS: [(usize, Result<bool, ReadFault>); 4] = [
+    (0, Err(ReadFault::TooLong)),
+    (4, Err(ReadFault::TooLong)),
+    (5, Ok(true)),
+    (6, Ok(true)),
+];
+
+#[test]
+fn a_text_is_read_to_its_end_up_to_the_limit(rt: HostRuntime) {
+    for (limit, expected) in &LIMITS {
+        is_same(&rt, &drips(rt.alloc(), b"steps", *limit), expected, "steps");
+    }
+    is_same(&rt, &drips(rt.alloc(), b"", 0), &Ok(true), "an empty text");
+}
+
+// Bytes, how many of them there is room for, and the fault.
+const FAULTS: [(&[u8], usize, TextFault); 5] = [
+    (b"gb \xff!", 9, TextFault::NotText),
+    (b"gb \xff!!", 9, TextFault::TooLong),
+    (b"gb \xff!", 5, TextFault::CannotRead),
+    (b"gb foo", 0, TextFault::CannotRead),
+    (b"gb foo", 3, TextFault::CannotRead),
+];
+
+fn fault_of(alloc: Global, bytes: &[u8], room: usize) -> Option<TextFault> {
+    let mut drip = Drip::new(bytes, room);
+    read_text(alloc, &mut drip, 5).err()
 }
 
 #[test]
-fn a_fault_of_reading_has_its_name(rt: HostRuntime) -> Result<(), Fail> {
-    let alloc = rt.alloc();
-    for (bytes, room, fault) in [
-        (b"gb \xff!".as_slice(), 9, TextFault::NotText),
-        (b"gb \xff!!".as_slice(), 9, TextFault::TooLong),
-        (b"gb \xff!".as_slice(), 5, TextFault::CannotRead),
-        (b"gb foo".as_slice(), 0, TextFault::CannotRead),
-        (b"gb foo".as_slice(), 3, TextFault::CannotRead),
-    ] {
-        match read_text(alloc, &mut Drip::new(bytes, room), 5) {
-            Ok(_) => return Err(Fail::from("a fault is due")),
-            Err(found) => assert_eq!(rt; found, fault),
-        }
+fn a_fault_of_reading_has_its_name(rt: HostRuntime) {
+    for (bytes, room, fault) in &FAULTS {
+        let found = fault_of(rt.alloc(), bytes, *room);
+        is_same(&rt, &found, &Some(*fault), "a fault is due");
     }
-    let text = read_text(alloc, &mut Drip::new(b"f\xc3\xbc\n", 9), 4)?;
-    assert_eq!(rt; text.as_str(), "fü\n");
-    Ok(())
+    let mut drip = Drip::new(b"f\xc3\xbc\n", 9);
+    is_told(&rt, read_text(rt.alloc(), &mut drip, 4), "fü\n", "a text");
+}
+
+// Whether what is read of a slice, which gives as much as there is room for, is all of it.
+fn flows(alloc: Global, bytes: &[u8], limit: usize) -> Result<bool, ReadFault> {
+    let mut reader: &[u8] = bytes;
+    is_read(alloc, &mut reader, limit, bytes)
 }
 
 // Two pieces of 4,096 bytes and a little more.
 #[test]
-fn a_long_text_is_read_in_pieces(rt: HostRuntime) -> Result<(), Fail> {
-    let alloc = rt.alloc();
-    let long = vec![in alloc; b'x'; 9000]?;
-    let mut reader: &[u8] = &long;
-    let bytes = read_whole(alloc, &mut reader, 9000)?;
-    assert!(rt; bytes.as_slice() == long.as_slice());
-    let mut reader: &[u8] = &long;
-    let fault = read_whole(alloc, &mut reader, 8999).err();
-    assert_eq!(rt; fault, Some(ReadFault::TooLong));
-    Ok(())
+fn a_long_text_is_read_in_pieces(rt: HostRuntime) {
+    let long = made(&rt, vec![in rt.alloc(); b'x'; 9000]);
+    let whole = flows(rt.alloc(), long.as_slice(), 9000);
+    is_same(&rt, &whole, &Ok(true), "9000 bytes");
+    let fault = flows(rt.alloc(), long.as_slice(), 8999);
+    is_same(&rt, &fault, &Err(ReadFault::TooLong), "one too many");
 }
+
+// Whether a narrow writer gets this front of a text, and all of it where there is more room.
+fn gets(alloc: Global, room: usize, is_full: bool, front: &str) -> bool {
+    let mut writer = Narrow::new(alloc, room, is_full);
+    let is_written = match write_whole(&mut writer, b"steps") {
+        Ok(()) => true,
+        Err(WriteFault) => false,
+    };
+    is_written == (room > 5) && writer.taken.as_slice() == front.as_bytes()
+}
+
+const FRONTS: [(usize, bool, &str); 6] = [
+    (9, false, "steps"),
+    (6, true, "steps"),
+    (5, false, "steps"),
+    (3, false, "ste"),
+    (3, true, "ste"),
+    (0, false, ""),
+];
 
 #[test]
 fn a_narrow_writer_gets_all_and_a_full_one_a_front(rt: HostRuntime) {
-    for (room, is_full, front) in [
-        (9, false, "steps"),
-        (6, true, "steps"),
-        (5, false, "steps"),
-        (3, false, "ste"),
-        (3, true, "ste"),
-        (0, false, ""),
-    ] {
-        let mut writer = Narrow::new(rt.alloc(), room, is_full);
-        let written = write_whole(&mut writer, b"steps");
-        assert_eq!(rt; written.is_ok(), room > 5, "{room}");
-        assert!(rt; writer.taken.as_slice() == front.as_bytes(), "{room}");
-        assert!(rt; written.is_ok() || written == Err(WriteFault));
+    for (room, is_full, front) in &FRONTS {
+        let is_gotten = gets(rt.alloc(), *room, *is_full, front);
+        holds(&rt, is_gotten, front);
     }
 }

@@ -2,70 +2,72 @@
 ghost use Rattle.std.specs.Prelude.{List, [], ◌∷◌, if◌then◌else◌};
 ghost use Rattle.std.specs.Str.{bytes_eq};
 
-use std::alloc::Global;
+use crate::checks::{holds, made};
+use std::alloc::{AllocError, Global};
 use std::process::Abort;
-use std::test::Fail;
 use td_relation::Archs;
 use td_supply::{Build, Supply};
 use td_version::Version;
 
 const TABLE: &str = "amd64 linux amd64\ni386 linux i386";
 
-/// Puts up a source with a library's development files on amd64 and i386, a name that these provide
-/// on amd64, and its documentation for every architecture.
-fn put_bar(supply: &mut Supply<'_>) -> Result<(), Fail> {
-    let base = Version::read("2.0-1")?;
-    let build = Some(Build {
-        source: "bar",
-        base,
-    });
+/// A package, its version, the place of its architecture and its source.
+type Put = (&'static str, &'static str, Option<usize>, &'static str);
+
+/// A library's development files on amd64 and i386, a name that these provide on amd64, and its
+/// documentation for every architecture; and a package whose version has an epoch and no revision.
+const PUT: [Put; 5] = [
+    ("libbar-dev", "2.0-1", Some(0), "bar"),
+    ("libbar-dev", "2.0-1", Some(1), "bar"),
+    ("libbar-abi-2", "", Some(0), ""),
+    ("bar-doc", "2.0-1", None, "bar"),
+    ("baz", "1:3", Some(0), "baz"),
+];
+
+/// Puts up a package of a source; a name that is provided has neither a version nor a source.
+fn put(supply: &mut Supply<'_>, (name, version, arch, source): &Put) -> Result<(), AllocError> {
+    match Version::read(version) {
+        Ok(base) => {
+            let source = *source;
+            supply.push(*name, Some(base), *arch, Some(Build { source, base }))
+        }
+        Err(_) => supply.push(*name, None, *arch, None),
+    }
+}
+
+/// Puts up the one source that has a version.
+fn put_source(supply: &mut Supply<'_>) -> Result<(), AllocError> {
+    let Ok(_) = Version::read("2.0-1") else {
+        return Err(AllocError);
+    };
     if supply.version("bar").is_none() {
         supply.push_source("bar", "2.0-1")?;
     }
-    supply.push("libbar-dev", Some(base), Some(0), build)?;
-    supply.push("libbar-dev", Some(base), Some(1), build)?;
-    supply.push("libbar-abi-2", None, Some(0), None)?;
-    supply.push("bar-doc", Some(base), None, build)?;
     Ok(())
 }
 
-/// Puts up a source of one package, whose version has an epoch and no revision.
-fn put_baz(supply: &mut Supply<'_>) -> Result<(), Fail> {
-    let base = Version::read("1:3")?;
-    let build = Some(Build {
-        source: "baz",
-        base,
-    });
-    supply.push("baz", Some(base), Some(0), build)?;
+fn fill(supply: &mut Supply<'_>) -> Result<(), AllocError> {
+    put_source(supply)?;
+    for package in &PUT {
+        put(supply, package)?;
+    }
     Ok(())
-}
-
-fn fill(supply: &mut Supply<'_>) -> Result<(), Fail> {
-    put_bar(supply)?;
-    put_baz(supply)
 }
 
 /// The offers of a small index.
-fn example(alloc: Global) -> Result<Supply<'static>, Fail> {
-    let mut supply = Supply::new(alloc, Archs::read(alloc, TABLE)?);
-    match fill(&mut supply) {
-        Ok(()) => Ok(supply),
-        Err(fault) => {
-            drop(supply);
-            Err(fault)
-        }
+fn example(rt: &impl Abort, alloc: Global) -> Supply<'static> {
+    let archs = made(rt, Archs::read(alloc, TABLE));
+    let mut supply = Supply::new(alloc, archs);
+    made(rt, fill(&mut supply));
+    supply
+}
+
+/// Whether the supply answers so, whether it meets the relation.
+fn answers(supply: &Supply<'_>, text: &str, arch: &str, expected: bool) -> bool {
+    match supply.meets(text, arch) {
+        Ok(is_met) => is_met == expected,
+        Err(_) => false,
     }
-}
-
-/// Whether the supply meets the relation; `None` where memory was wanting.
-fn met(supply: &Supply<'_>, text: &str, arch: &str) -> Option<bool> {
-    supply.meets(text, arch).ok()
-}
-
-/// The upstream part of a source's version.
-fn upstream<'a>(supply: &Supply<'a>, source: &str) -> Option<&'a str> {
-    let version = supply.version_parts(source)?;
-    Some(version.upstream)
 }
 
 /// A relation, an architecture, and whether the relation is met there.
@@ -73,11 +75,7 @@ type Asked = (&'static str, &'static str, bool);
 
 fn are_met(rt: &impl Abort, supply: &Supply<'_>, asked: &[Asked]) {
     for (text, arch, expected) in asked {
-        assert_eq!(rt;
-            met(supply, text, arch),
-            Some(*expected),
-            "{text} on {arch}"
-        );
+        holds(rt, answers(supply, text, arch, *expected), text);
     }
 }
 
@@ -97,21 +95,15 @@ const WITH_BAR: [Asked; 5] = [
 
 const WITH_BAZ: [Asked; 1] = [("baz (= 1:3+b12)", "amd64", true)];
 
-fn rebuilds_arrive(rt: &impl Abort, supply: &mut Supply<'_>) -> Result<(), Fail> {
-    are_met(rt, supply, &BEFORE);
-    supply.arrive("bar", "amd64", 1)?;
-    are_met(rt, supply, &WITH_BAR);
-    supply.arrive("baz", "amd64", 12)?;
-    are_met(rt, supply, &WITH_BAZ);
-    Ok(())
-}
-
 #[test]
-fn a_rebuild_is_offered_once_it_has_arrived(rt: HostRuntime) -> Result<(), Fail> {
-    let mut supply = example(rt.alloc())?;
-    let arrived = rebuilds_arrive(&rt, &mut supply);
+fn a_rebuild_is_offered_once_it_has_arrived(rt: HostRuntime) {
+    let mut supply = example(&rt, rt.alloc());
+    are_met(&rt, &supply, &BEFORE);
+    made(&rt, supply.arrive("bar", "amd64", 1));
+    are_met(&rt, &supply, &WITH_BAR);
+    made(&rt, supply.arrive("baz", "amd64", 12));
+    are_met(&rt, &supply, &WITH_BAZ);
     drop(supply);
-    arrived
 }
 
 const WANTING: [Asked; 3] = [
@@ -120,29 +112,36 @@ const WANTING: [Asked; 3] = [
     ("libbar-dev (> 1)", "amd64", false),
 ];
 
-fn are_wanting(rt: &impl Abort, supply: &Supply<'_>) {
-    are_met(rt, supply, &WANTING);
-    assert_eq!(rt; supply.version("bar"), Some("2.0-1"));
-    assert!(rt; supply.version("baz").is_none());
-    assert_eq!(rt; upstream(supply, "bar"), Some("2.0"));
-    assert!(rt; upstream(supply, "baz").is_none());
-    assert!(rt; supply.archs().len() == 2 && supply.len() == 5);
+/// How the source's version is written.
+fn version<'a>(supply: &Supply<'a>, source: &str) -> &'a str {
+    supply.version(source).unwrap_or("none")
 }
 
-/// Whether a supply of nothing meets the relation.
-fn empty_meets(alloc: Global, text: &str) -> Option<bool> {
-    let supply = Supply::empty(alloc);
-    let is_met = met(&supply, text, "amd64");
-    drop(supply);
-    is_met
+/// The upstream part of a source's version.
+fn upstream<'a>(supply: &Supply<'a>, source: &str) -> &'a str {
+    match supply.version_parts(source) {
+        Some(version) => version.upstream,
+        None => "none",
+    }
+}
+
+fn has_what_was_put(supply: &Supply<'_>) -> bool {
+    version(supply, "bar") == "2.0-1"
+        && version(supply, "baz") == "none"
+        && upstream(supply, "bar") == "2.0"
+        && upstream(supply, "baz") == "none"
+        && supply.archs().len() == 2
+        && supply.len() == 5
 }
 
 #[test]
-fn what_is_not_there_is_not_met(rt: HostRuntime) -> Result<(), Fail> {
-    assert_eq!(rt; empty_meets(rt.alloc(), "libbar-dev"), Some(false));
-    let mut supply = example(rt.alloc())?;
-    let arrived = supply.arrive("bar", "s390x", 1);
-    are_wanting(&rt, &supply);
+fn what_is_not_there_is_not_met(rt: HostRuntime) {
+    let empty = Supply::empty(rt.alloc());
+    are_met(&rt, &empty, &[("libbar-dev", "amd64", false)]);
+    drop(empty);
+    let mut supply = example(&rt, rt.alloc());
+    made(&rt, supply.arrive("bar", "s390x", 1));
+    are_met(&rt, &supply, &WANTING);
+    holds(&rt, has_what_was_put(&supply), "what was put");
     drop(supply);
-    Ok(arrived?)
 }

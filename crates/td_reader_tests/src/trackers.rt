@@ -1,8 +1,8 @@
 //! What no clause says: that trackers are read with ample memory, and what the definitions make of
 //! texts. Expected by hand, from the rules in `docs/FORMATS.md`; places are counted in the text.
+use crate::checks::{is_told, made};
 use std::alloc::{AllocError, Global};
-use std::process::Abort;
-use std::test::Fail;
+use std::fmt::Display;
 use td_query::{Tracker, TrackerFault};
 
 /// A text, and behind `→` its title, or the fault with its place or key.
@@ -45,11 +45,15 @@ title = "ocaml"; is_affected = .build-depends ~ /ocaml-nox|dh-ocaml/ & !(.packag
 is_affected = true; is_good = true; is_bad = true; title = 1; → Syntax 59
 "##;
 
+fn told_of(alloc: Global, name: &str, what: &impl Display) -> Result<String, AllocError> {
+    format!(in alloc; "{name} {what}")
+}
+
 fn fault_told(alloc: Global, fault: &TrackerFault) -> Result<String, AllocError> {
     match fault {
-        TrackerFault::Syntax(place) => format!(in alloc; "Syntax {place}"),
-        TrackerFault::BadPattern(place) => format!(in alloc; "BadPattern {place}"),
-        TrackerFault::MissingKey(key) => format!(in alloc; "MissingKey {}", key.name()),
+        TrackerFault::Syntax(place) => told_of(alloc, "Syntax", place),
+        TrackerFault::BadPattern(place) => told_of(alloc, "BadPattern", place),
+        TrackerFault::MissingKey(key) => told_of(alloc, "MissingKey", &key.name()),
         TrackerFault::NoMemory => Err(AllocError),
     }
 }
@@ -66,39 +70,34 @@ fn reading(alloc: Global, text: &str) -> Result<String, AllocError> {
     }
 }
 
-fn is_read_as(rt: &impl Abort, alloc: Global, text: &str, want: &str) -> Result<(), Fail> {
-    let got = reading(alloc, text)?;
-    assert_eq!(rt; got.as_str(), want, "{text}");
-    Ok(())
-}
-
 #[test]
-fn texts_are_read_as_trackers_or_refused_at_their_first_fault(rt: HostRuntime) -> Result<(), Fail> {
+fn texts_are_read_as_trackers_or_refused_at_their_first_fault(rt: HostRuntime) {
     for row in TEXTS.split('\n') {
         if let Some((text, want)) = row.split_once(" → ") {
-            is_read_as(&rt, rt.alloc(), text, want)?;
+            is_told(&rt, reading(rt.alloc(), text), want, text);
         }
     }
-    Ok(())
 }
 
 #[test]
-fn a_title_may_have_newlines(rt: HostRuntime) -> Result<(), Fail> {
+fn a_title_may_have_newlines(rt: HostRuntime) {
     let text = "title = \"two\nlines\"; is_affected = true; is_good = true; is_bad = true;";
-    is_read_as(&rt, rt.alloc(), text, "\"two\nlines\"")
+    is_told(&rt, reading(rt.alloc(), text), "\"two\nlines\"", text);
+}
+
+fn put_times(out: &mut String, text: &str, count: usize) -> Result<(), AllocError> {
+    for _ in 0..count {
+        out.push_str(text)?;
+    }
+    Ok(())
 }
 
 /// A key with what stands in so many brackets.
-fn nested(alloc: Global, depth: usize, inner: &str, close: &str) -> Result<String, Fail> {
-    let mut out = String::new(alloc);
-    out.push_str("is_affected = ")?;
-    for _ in 0..depth {
-        out.push_str("(")?;
-    }
+fn nested(alloc: Global, depth: usize, inner: &str, close: &str) -> Result<String, AllocError> {
+    let mut out = String::from_str(alloc, "is_affected = ")?;
+    put_times(&mut out, "(", depth)?;
     out.push_str(inner)?;
-    for _ in 0..depth {
-        out.push_str(close)?;
-    }
+    put_times(&mut out, close, depth)?;
     out.push_str(";")?;
     Ok(out)
 }
@@ -112,10 +111,9 @@ const NESTED: [(usize, &str, &str, &str); 4] = [
 ];
 
 #[test]
-fn a_hundred_brackets_may_be_open(rt: HostRuntime) -> Result<(), Fail> {
+fn a_hundred_brackets_may_be_open(rt: HostRuntime) {
     for (depth, inner, close, want) in &NESTED {
-        let text = nested(rt.alloc(), *depth, inner, close)?;
-        is_read_as(&rt, rt.alloc(), text.as_str(), want)?;
+        let text = made(&rt, nested(rt.alloc(), *depth, inner, close));
+        is_told(&rt, reading(rt.alloc(), text.as_str()), want, inner);
     }
-    Ok(())
 }

@@ -1,8 +1,8 @@
 //! Versions that are read, ordered and rebuilt.
+use crate::checks::{holds, is_same, is_text, is_told, made};
 use std::alloc::{AllocError, Global};
 use std::cmp::Ordering;
 use std::process::Abort;
-use std::test::Fail;
 use td_version::{
     MAX_EPOCH, MAX_REBUILD, Version, VersionFault, base_of, cmp_version, is_same_version,
     split_rebuild, write_rebuild,
@@ -77,14 +77,23 @@ const ORDERED: &str = "\
 1.2-3+b1 < 1.2-3+nmu1
 ";
 
-fn order(a: &str, b: &str) -> Result<&'static str, VersionFault> {
-    let a = Version::read(a)?;
-    let b = Version::read(b)?;
-    Ok(match cmp_version(&a, &b) {
+fn sign(order: Ordering) -> &'static str {
+    match order {
         Ordering::Less => "<",
         Ordering::Equal => "=",
         Ordering::Greater => ">",
-    })
+    }
+}
+
+/// How two versions are ordered.
+fn order(a: &str, b: &str) -> &'static str {
+    let Ok(a) = Version::read(a) else {
+        return "the first isn't read";
+    };
+    match Version::read(b) {
+        Ok(b) => sign(cmp_version(&a, &b)),
+        Err(_) => "the second isn't read",
+    }
 }
 
 fn turned(order: &str) -> &'static str {
@@ -95,37 +104,59 @@ fn turned(order: &str) -> &'static str {
     }
 }
 
-/// Whether the row's versions are ordered as it says, either way round.
-fn is_ordered(row: &str) -> Option<bool> {
-    let (a, rest) = row.split_once(' ')?;
-    let (expected, b) = rest.split_once(' ')?;
-    let (there, back) = (order(a, b).ok()?, order(b, a).ok()?);
-    Some(there == expected && back == turned(expected))
+/// Whether these versions are ordered so, either way round.
+fn are_ordered(a: &str, expected: &str, b: &str) -> bool {
+    order(a, b) == expected && order(b, a) == turned(expected)
+}
+
+/// Whether the row's versions are ordered as it says.
+fn is_ordered(row: &str) -> bool {
+    let Some((a, rest)) = row.split_once(' ') else {
+        return false;
+    };
+    match rest.split_once(' ') {
+        Some((expected, b)) => are_ordered(a, expected, b),
+        None => false,
+    }
 }
 
 #[test]
 fn versions_are_ordered_as_dpkg_orders_them(rt: HostRuntime) {
     for row in ORDERED.lines() {
-        if !row.starts_with('#') {
-            assert_eq!(rt; is_ordered(row), Some(true), "{row}");
-        }
+        holds(&rt, row.starts_with('#') || is_ordered(row), row);
+    }
+}
+
+/// Whether two versions are the same in order.
+fn sameness(a: &str, b: &str) -> &'static str {
+    let Ok(a) = Version::read(a) else {
+        return "the first isn't read";
+    };
+    match Version::read(b) {
+        Ok(b) if is_same_version(&a, &b) => "the same",
+        Ok(_) => "another",
+        Err(_) => "the second isn't read",
     }
 }
 
 #[test]
-fn equal_order_is_not_equal_text(rt: HostRuntime) -> Result<(), Fail> {
-    let bare = Version::read("1.0")?;
-    assert!(rt; is_same_version(&bare, &Version::read("1.0-0")?));
-    assert!(rt; !is_same_version(&bare, &Version::read("1.0+b1")?));
-    Ok(())
+fn equal_order_is_not_equal_text(rt: HostRuntime) {
+    is_text(&rt, sameness("1.0", "1.0-0"), "the same", "1.0-0");
+    is_text(&rt, sameness("1.0", "1.0+b1"), "another", "1.0+b1");
 }
 
 /// A version's epoch, its upstream part and its revision.
 type Parts<'a> = (u32, &'a str, Option<&'a str>);
 
-fn parts(text: &str) -> Option<Parts<'_>> {
-    let version = Version::read(text).ok()?;
-    Some((version.epoch, version.upstream, version.revision))
+fn is_read_as(text: &str, (epoch, upstream, revision): &Parts<'_>) -> bool {
+    match Version::read(text) {
+        Ok(version) => version.epoch == *epoch && has_rest(&version, upstream, *revision),
+        Err(_) => false,
+    }
+}
+
+fn has_rest(version: &Version<'_>, upstream: &str, revision: Option<&str>) -> bool {
+    version.upstream == upstream && version.revision == revision
 }
 
 // The forms of deb-version(7).
@@ -140,8 +171,8 @@ const FORMS: [(&str, Parts<'static>); 6] = [
 
 #[test]
 fn a_version_has_an_epoch_an_upstream_part_and_a_revision(rt: HostRuntime) {
-    for (text, expected) in &FORMS {
-        assert!(rt; parts(text) == Some(*expected), "{text}");
+    for (text, parts) in &FORMS {
+        holds(&rt, is_read_as(text, parts), text);
     }
 }
 
@@ -174,16 +205,12 @@ const FAULTS: [(&str, VersionFault); 25] = [
     ("1.é", VersionFault::BadCharacter(2)),
 ];
 
-fn are_refused(rt: &impl Abort, cases: &[(&'static str, VersionFault)]) {
-    for (text, fault) in cases {
-        assert_eq!(rt; Version::read(text).err(), Some(*fault), "{text}");
-    }
-}
-
 // Policy 5.6.12 has the forms; that the first fault from the left is named is this project's own.
 #[test]
 fn the_first_fault_from_the_left_is_named(rt: HostRuntime) {
-    are_refused(&rt, &FAULTS);
+    for (text, fault) in &FAULTS {
+        is_same(&rt, &Version::read(text).err(), &Some(*fault), text);
+    }
 }
 
 /// A version, what stands before its rebuild suffix, and the suffix's number.
@@ -215,34 +242,42 @@ fn rebuilt(alloc: Global, base: &str, number: u16) -> Result<String, AllocError>
     write_rebuild(alloc, base, number)
 }
 
-/// Whether the suffix is split off, and written again.
-fn is_split(alloc: Global, text: &str, base: &str, number: u16) -> Result<bool, AllocError> {
-    let written = rebuilt(alloc, base, number)?;
-    Ok(split_rebuild(text) == (base, number) && written.as_str() == text)
+/// Whether a text is split into these.
+fn is_split(text: &str, base: &str, number: u16) -> bool {
+    let (front, suffix) = split_rebuild(text);
+    front == base && suffix == number
+}
+
+fn are_whole(rt: &impl Abort) {
+    for text in &UNSUFFIXED {
+        holds(rt, is_split(text, text, 0), text);
+    }
 }
 
 // Debian Policy has no word on the number's form; no leading zeros and at most 9999 are this
 // project's own.
 #[test]
-fn a_rebuild_suffix_is_split_off_and_written(rt: HostRuntime) -> Result<(), Fail> {
+fn a_rebuild_suffix_is_split_off_and_written(rt: HostRuntime) {
     for (text, base, number) in &SUFFIXED {
-        assert!(rt; is_split(rt.alloc(), text, base, *number)?, "{text}");
+        holds(&rt, is_split(text, base, *number), text);
+        is_told(&rt, rebuilt(rt.alloc(), base, *number), text, base);
     }
-    for text in &UNSUFFIXED {
-        assert_eq!(rt; split_rebuild(text), (*text, 0), "{text}");
-    }
-    Ok(())
+    are_whole(&rt);
 }
 
 /// The upstream part and the revision of a version's base.
-fn base_parts(text: &str) -> Option<(&str, Option<&str>)> {
-    let base = base_of(&Version::read(text).ok()?);
-    Some((base.upstream, base.revision))
+type Base<'a> = (&'a str, Option<&'a str>);
+
+fn has_base(text: &str, (upstream, revision): &Base<'_>) -> bool {
+    match Version::read(text) {
+        Ok(version) => has_rest(&base_of(&version), upstream, *revision),
+        Err(_) => false,
+    }
 }
 
 // As `split_rebuild` has it, which leaves `+b1` whole; of `1.0-+b1` nothing is left behind the
 // hyphen.
-const BASES: [(&str, (&str, Option<&str>)); 6] = [
+const BASES: [(&str, Base<'static>); 6] = [
     ("1:1.2-3+b4", ("1.2", Some("3"))),
     ("1.2+b1+b2", ("1.2+b1", None)),
     ("1.0+b0", ("1.0+b0", None)),
@@ -253,33 +288,32 @@ const BASES: [(&str, (&str, Option<&str>)); 6] = [
 
 #[test]
 fn a_version_has_a_base(rt: HostRuntime) {
-    for (text, expected) in &BASES {
-        assert!(rt; base_parts(text) == Some(*expected), "{text}");
+    for (text, base) in &BASES {
+        holds(&rt, has_base(text, base), text);
     }
 }
 
 /// A text's front, and what follows it so many times.
 type Repeated = (&'static str, &'static str, u32);
 
-fn repeated(alloc: Global, (front, unit, count): Repeated) -> Result<String, AllocError> {
+fn repeated(alloc: Global, (front, unit, count): &Repeated) -> Result<String, AllocError> {
     let mut text = String::from_str(alloc, front)?;
-    for _ in 0..count {
+    for _ in 0..*count {
         text.push_str(unit)?;
     }
     Ok(text)
 }
 
-fn are_ordered(
+fn are_ordered_repeated(
     rt: &impl Abort,
     alloc: Global,
-    a: Repeated,
+    a: &Repeated,
     expected: &str,
-    b: Repeated,
-) -> Result<(), Fail> {
-    let a = repeated(alloc, a)?;
-    let b = repeated(alloc, b)?;
-    assert_eq!(rt; order(a.as_str(), b.as_str())?, expected);
-    Ok(())
+    b: &Repeated,
+) {
+    let a = made(rt, repeated(alloc, a));
+    let b = made(rt, repeated(alloc, b));
+    is_text(rt, order(a.as_str(), b.as_str()), expected, expected);
 }
 
 const LONG: [(Repeated, &str, Repeated); 5] = [
@@ -291,9 +325,8 @@ const LONG: [(Repeated, &str, Repeated); 5] = [
 ];
 
 #[test]
-fn versions_of_a_hundred_thousand_digits_are_ordered(rt: HostRuntime) -> Result<(), Fail> {
+fn versions_of_a_hundred_thousand_digits_are_ordered(rt: HostRuntime) {
     for (a, expected, b) in &LONG {
-        are_ordered(&rt, rt.alloc(), *a, expected, *b)?;
+        are_ordered_repeated(&rt, rt.alloc(), a, expected, b);
     }
-    Ok(())
 }

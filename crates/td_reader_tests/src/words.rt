@@ -1,7 +1,7 @@
 //! What each line of words asks for, and the texts: this project's own, and `clap`'s.
+use crate::checks::{holds, is_told, made};
 use std::alloc::{AllocError, Global};
 use std::process::Abort;
-use std::test::Fail;
 use td_words::{ArchivePaths, Request, RunRequest, TrackRequest, WordsFault, read_words};
 
 fn words(alloc: Global, line: &str) -> Result<Vec<String>, AllocError> {
@@ -12,11 +12,13 @@ fn words(alloc: Global, line: &str) -> Result<Vec<String>, AllocError> {
     Ok(words)
 }
 
-fn usage(alloc: Global, line: &str) -> Result<String, WordsFault> {
-    match read_words(alloc, &words(alloc, line)?) {
-        Ok(_) => Ok(String::new(alloc)),
+/// The text that answers words which ask for nothing.
+fn usage(alloc: Global, line: &str) -> Result<String, AllocError> {
+    let words = words(alloc, line)?;
+    match read_words(alloc, &words) {
+        Ok(_) => String::from_str(alloc, "they ask for something"),
         Err(WordsFault::Usage(text)) => Ok(text),
-        Err(WordsFault::NoMemory) => Err(WordsFault::NoMemory),
+        Err(WordsFault::NoMemory) => Err(AllocError),
     }
 }
 
@@ -85,91 +87,98 @@ fn told(alloc: Global, request: &Request) -> Result<String, AllocError> {
 
 /// What the words ask for: its name, and what it was given, in the order of the options in its
 /// help; `-` where nothing was.
-fn request_of(alloc: Global, line: &str) -> Result<String, WordsFault> {
-    let call = read_words(alloc, &words(alloc, line)?)?;
-    let told = told(alloc, &call.request);
-    drop(call);
-    Ok(told?)
+fn request_of(alloc: Global, line: &str) -> Result<String, AllocError> {
+    let words = words(alloc, line)?;
+    match read_words(alloc, &words) {
+        Ok(call) => {
+            let told = told(alloc, &call.request);
+            drop(call);
+            told
+        }
+        Err(_) => String::from_str(alloc, "they ask for nothing"),
+    }
 }
 
 /// A command line, and what it asks for.
 type Asked = (&'static str, &'static str);
 
-fn are_asked_for(rt: &impl Abort, alloc: Global, cases: &[Asked]) -> Result<(), Fail> {
+fn are_asked_for(rt: &impl Abort, alloc: Global, cases: &[Asked]) {
     for (line, expected) in cases {
-        assert_eq!(rt; request_of(alloc, line)?.as_str(), *expected, "{line}");
+        is_told(rt, request_of(alloc, line), expected, line);
     }
-    Ok(())
 }
 
 #[test]
-fn a_subcommand_is_asked_for_by_its_name(rt: HostRuntime) -> Result<(), Fail> {
-    are_asked_for(&rt, rt.alloc(), &[("transdesk simulate", "simulate")])
+fn a_subcommand_is_asked_for_by_its_name(rt: HostRuntime) {
+    are_asked_for(&rt, rt.alloc(), &[("transdesk simulate", "simulate")]);
 }
+
+const CHECKS: [Asked; 3] = [
+    (
+        "transdesk check --archs a --packages p --sources s",
+        "check a p s",
+    ),
+    (
+        "transdesk check --archs=a --packages=p --sources=s",
+        "check a p s",
+    ),
+    (
+        "transdesk check --sources s --archs a --packages=p",
+        "check a p s",
+    ),
+];
 
 // `transdesk check` and these words, with the paths in the order of the options in its help.
 #[test]
-fn a_check_is_asked_for_with_three_files(rt: HostRuntime) -> Result<(), Fail> {
-    let cases = [
-        (
-            "transdesk check --archs a --packages p --sources s",
-            "check a p s",
-        ),
-        (
-            "transdesk check --archs=a --packages=p --sources=s",
-            "check a p s",
-        ),
-        (
-            "transdesk check --sources s --archs a --packages=p",
-            "check a p s",
-        ),
-    ];
-    are_asked_for(&rt, rt.alloc(), &cases)
+fn a_check_is_asked_for_with_three_files(rt: HostRuntime) {
+    are_asked_for(&rt, rt.alloc(), &CHECKS);
+}
+
+const REPORTS: [Asked; 3] = [
+    (
+        "transdesk track --archs a --packages p --sources s --tracker t",
+        "track a p s t - -",
+    ),
+    (
+        "transdesk track --tracker=t --state r --archs a --packages p --sources s",
+        "track a p s t r -",
+    ),
+    (
+        "transdesk track --chunk 1000000 --archs a --packages p --sources s --tracker t",
+        "track a p s t - 1000000",
+    ),
+];
+
+#[test]
+fn a_report_is_asked_for_with_four_files_or_more(rt: HostRuntime) {
+    are_asked_for(&rt, rt.alloc(), &REPORTS);
 }
 
 #[test]
-fn a_report_is_asked_for_with_four_files_or_more(rt: HostRuntime) -> Result<(), Fail> {
-    let cases = [
-        (
-            "transdesk track --archs a --packages p --sources s --tracker t",
-            "track a p s t - -",
-        ),
-        (
-            "transdesk track --tracker=t --state r --archs a --packages p --sources s",
-            "track a p s t r -",
-        ),
-        (
-            "transdesk track --chunk 1000000 --archs a --packages p --sources s --tracker t",
-            "track a p s t - 1000000",
-        ),
-    ];
-    are_asked_for(&rt, rt.alloc(), &cases)
-}
-
-#[test]
-fn waves_are_asked_for_with_four_files(rt: HostRuntime) -> Result<(), Fail> {
+fn waves_are_asked_for_with_four_files(rt: HostRuntime) {
     let line = "transdesk waves --archs a --packages p --sources s --tracker t";
-    are_asked_for(&rt, rt.alloc(), &[(line, "waves a p s t")])
+    are_asked_for(&rt, rt.alloc(), &[(line, "waves a p s t")]);
 }
 
+const RUNS: [Asked; 3] = [
+    (
+        "transdesk run --archs a --packages p --sources s",
+        "run a p s - - unstable 0 - -",
+    ),
+    (
+        "transdesk run --suite sid --archs a --packages=p --sources s",
+        "run a p s - - sid 0 - -",
+    ),
+    (
+        "transdesk run --archs a --packages p --sources s --state r --tracker t \
+         --suite x --builders 64 --outcomes o --journal j",
+        "run a p s r t x 64 o j",
+    ),
+];
+
 #[test]
-fn a_run_is_asked_for_with_three_files_or_more(rt: HostRuntime) -> Result<(), Fail> {
-    let cases = [
-        (
-            "transdesk run --archs a --packages p --sources s",
-            "run a p s - - unstable 0 - -",
-        ),
-        (
-            "transdesk run --suite sid --archs a --packages=p --sources s",
-            "run a p s - - sid 0 - -",
-        ),
-        (
-            "transdesk run --archs a --packages p --sources s --state r --tracker t \
-             --suite x --builders 64 --outcomes o --journal j",
-            "run a p s r t x 64 o j",
-        ),
-    ];
-    are_asked_for(&rt, rt.alloc(), &cases)
+fn a_run_is_asked_for_with_three_files_or_more(rt: HostRuntime) {
+    are_asked_for(&rt, rt.alloc(), &RUNS);
 }
 
 /// A command line, and the front of the text that answers it.
@@ -274,27 +283,30 @@ const ANSWERED: [(&str, &str); 29] = [
     ),
 ];
 
-fn is_answered(rt: &impl Abort, alloc: Global, line: &str, front: &str) -> Result<(), Fail> {
-    let text = usage(alloc, line)?;
-    assert!(rt; text.as_str().starts_with(front), "{line}: {text}");
-    assert!(rt; text.as_str().ends_with('\n'), "{line}: {text}");
-    Ok(())
+fn is_answer(text: &str, front: &str) -> bool {
+    text.starts_with(front) && text.ends_with('\n')
 }
 
 // Help and the version are answered by their texts, as a bad command line is by its fault.
 #[test]
-fn other_words_are_answered_by_a_text(rt: HostRuntime) -> Result<(), Fail> {
+fn other_words_are_answered_by_a_text(rt: HostRuntime) {
     for (line, front) in &ANSWERED {
-        is_answered(&rt, rt.alloc(), line, front)?;
+        let text = made(&rt, usage(rt.alloc(), line));
+        holds(&rt, is_answer(text.as_str(), front), text.as_str());
     }
-    Ok(())
 }
 
-fn is_explained(alloc: Global, line: &str) -> Result<bool, WordsFault> {
-    let call = read_words(alloc, &words(alloc, line)?)?;
-    let explained = call.explained;
-    drop(call);
-    Ok(explained)
+/// Whether the words ask for an explanation; nothing where they ask for nothing.
+fn is_explained(alloc: Global, line: &str) -> Result<Option<bool>, AllocError> {
+    let words = words(alloc, line)?;
+    match read_words(alloc, &words) {
+        Ok(call) => {
+            let explained = call.explained;
+            drop(call);
+            Ok(Some(explained))
+        }
+        Err(_) => Ok(None),
+    }
 }
 
 /// A command line, and whether it asks for an explanation. A path may be the very word.
@@ -333,28 +345,29 @@ const EXPLAINED: [(&str, bool); 10] = [
 ];
 
 #[test]
-fn an_explanation_is_asked_for_by_its_option(rt: HostRuntime) -> Result<(), Fail> {
-    for (line, explained) in &EXPLAINED {
-        assert_eq!(rt; is_explained(rt.alloc(), line)?, *explained, "{line}");
+fn an_explanation_is_asked_for_by_its_option(rt: HostRuntime) {
+    for (line, expected) in &EXPLAINED {
+        let explained = made(&rt, is_explained(rt.alloc(), line));
+        holds(&rt, explained == Some(*expected), line);
     }
-    Ok(())
 }
 
+const STATUSES: [&str; 9] = [
+    "  simulate  ",
+    "  check  ",
+    "  track  ",
+    "  waves  ",
+    "  run  ",
+    "Exit status:\n  0  done\n  1  something was refused",
+    "\n  2  bad input\n  3  bad command line, or a call for help\n",
+    "\n  4  want of memory\n  5  a read or a write failed\n",
+    "docs/FORMATS.md",
+];
+
 #[test]
-fn help_has_the_statuses(rt: HostRuntime) -> Result<(), Fail> {
-    let text = usage(rt.alloc(), "transdesk --help")?;
-    for line in [
-        "  simulate  ",
-        "  check  ",
-        "  track  ",
-        "  waves  ",
-        "  run  ",
-        "Exit status:\n  0  done\n  1  something was refused",
-        "\n  2  bad input\n  3  bad command line, or a call for help\n",
-        "\n  4  want of memory\n  5  a read or a write failed\n",
-        "docs/FORMATS.md",
-    ] {
-        assert!(rt; text.as_str().contains(line), "{text}");
+fn help_has_the_statuses(rt: HostRuntime) {
+    let text = made(&rt, usage(rt.alloc(), "transdesk --help"));
+    for line in &STATUSES {
+        holds(&rt, text.as_str().contains(line), line);
     }
-    Ok(())
 }

@@ -1,6 +1,8 @@
 //! Questions to an archive, in words, and what it answers. One function owns the archive; the
 //! others have it by reference, so that the proof of a test is short.
+use crate::checks::{is_told, made};
 use std::alloc::{AllocError, Global};
+use std::fmt::Debug;
 use std::process::Abort;
 use td_indices::{Archive, Binary};
 use td_relation::Archs;
@@ -11,6 +13,10 @@ fn number(digits: &str) -> usize {
     digits.parse::<usize>().unwrap_or(usize::MAX)
 }
 
+pub(super) fn shown(alloc: Global, answer: &impl Debug) -> Result<String, AllocError> {
+    format!(in alloc; "{answer:?}")
+}
+
 fn spelled(alloc: Global, binary: Option<Binary<'_>>) -> Result<String, AllocError> {
     match binary {
         Some(found) => format!(in alloc; "{} {} {}", found.name, found.version, found.source),
@@ -18,7 +24,7 @@ fn spelled(alloc: Global, binary: Option<Binary<'_>>) -> Result<String, AllocErr
     }
 }
 
-fn counts(alloc: Global, archive: &Archive<'_, '_>) -> Result<String, AllocError> {
+pub(super) fn counts(alloc: Global, archive: &Archive<'_, '_>) -> Result<String, AllocError> {
     format!(in alloc;
         "{} {} {}",
         archive.source_count(),
@@ -30,8 +36,10 @@ fn counts(alloc: Global, archive: &Archive<'_, '_>) -> Result<String, AllocError
 // The numbers of a source's packages on an architecture, whose place is the first word.
 fn binaries(alloc: Global, archive: &Archive<'_, '_>, rest: &str) -> Result<String, AllocError> {
     let (place, source) = rest.split_once(' ').unwrap_or(("", rest));
-    let numbers = archive.binaries(source, number(place))?;
-    format!(in alloc; "{:?}", numbers.as_slice())
+    match archive.binaries(source, number(place)) {
+        Ok(numbers) => shown(alloc, &numbers.as_slice()),
+        Err(error) => Err(error),
+    }
 }
 
 // The version of a source, and the number of its stanza.
@@ -50,7 +58,7 @@ fn rebuild(archive: &Archive<'_, '_>, key: &Key) -> Option<u16> {
 fn opening(alloc: Global, archive: &Archive<'_, '_>, name: &str) -> Result<String, AllocError> {
     let (source, arch) = read_key(name).unwrap_or(("", ""));
     match Key::new(alloc, source, arch) {
-        Ok(key) => format!(in alloc; "{:?}", rebuild(archive, &key)),
+        Ok(key) => shown(alloc, &rebuild(archive, &key)),
         Err(_) => Err(AllocError),
     }
 }
@@ -60,28 +68,42 @@ fn rows(alloc: Global, archive: &Archive<'_, '_>) -> Result<String, AllocError> 
     rows_text(alloc, &rows)
 }
 
-fn met(supply: &Supply<'_>, relation: &str) -> &'static str {
+fn met(alloc: Global, supply: &Supply<'_>, relation: &str) -> Result<String, AllocError> {
     match supply.meets(relation, "amd64") {
-        Ok(true) => "met",
-        Ok(false) => "not met",
-        Err(_) => "want of memory",
+        Ok(true) => String::from_str(alloc, "met"),
+        Ok(false) => String::from_str(alloc, "not met"),
+        Err(error) => Err(error),
     }
 }
 
-fn meets(archive: &Archive<'_, '_>, relation: &str) -> Result<&'static str, AllocError> {
-    let supply = archive.supply()?;
-    let told = met(&supply, relation);
-    drop(supply);
-    Ok(told)
+fn meets(alloc: Global, archive: &Archive<'_, '_>, relation: &str) -> Result<String, AllocError> {
+    match archive.supply() {
+        Ok(supply) => {
+            let told = met(alloc, &supply, relation);
+            drop(supply);
+            told
+        }
+        Err(error) => Err(error),
+    }
+}
+
+fn met_then(alloc: Global, supply: &mut Supply<'_>, relation: &str) -> Result<String, AllocError> {
+    match supply.arrive("foo", "amd64", 2) {
+        Ok(()) => met(alloc, supply, relation),
+        Err(error) => Err(error),
+    }
 }
 
 // Whether the relation is met once the second rebuild of foo has arrived on amd64.
-fn rebuilt(archive: &Archive<'_, '_>, relation: &str) -> Result<&'static str, AllocError> {
-    let mut supply = archive.supply()?;
-    let arrived = supply.arrive("foo", "amd64", 2);
-    let told = met(&supply, relation);
-    drop(supply);
-    arrived.and(Ok(told))
+fn rebuilt(alloc: Global, archive: &Archive<'_, '_>, relation: &str) -> Result<String, AllocError> {
+    match archive.supply() {
+        Ok(mut supply) => {
+            let told = met_then(alloc, &mut supply, relation);
+            drop(supply);
+            told
+        }
+        Err(error) => Err(error),
+    }
 }
 
 // The names that a package offers, each behind a space.
@@ -111,19 +133,29 @@ fn second_package_is_of_bar(archive: &Archive<'_, '_>) -> bool {
 }
 
 // Whether every build of the first source asks for something.
-fn depends(archive: &Archive<'_, '_>) -> Result<bool, AllocError> {
+fn depends(alloc: Global, archive: &Archive<'_, '_>) -> Result<String, AllocError> {
     if archive.source_count() == 0 {
-        return Ok(false);
+        return String::from_str(alloc, "no source");
     }
-    Ok(archive.build_depends(0)?.is_some())
+    match archive.build_depends(0) {
+        Ok(relation) => shown(alloc, &relation.is_some()),
+        Err(error) => Err(error),
+    }
 }
 
 // The same of the builds of packages that aren't of `all`.
-fn depends_arch(archive: &Archive<'_, '_>) -> Result<bool, AllocError> {
+fn depends_arch(alloc: Global, archive: &Archive<'_, '_>) -> Result<String, AllocError> {
     if archive.source_count() == 0 {
-        return Ok(false);
+        return String::from_str(alloc, "no source");
     }
-    Ok(archive.build_depends_arch(0)?.is_some())
+    match archive.build_depends_arch(0) {
+        Ok(relation) => shown(alloc, &relation.is_some()),
+        Err(error) => Err(error),
+    }
+}
+
+fn archs(alloc: Global, archive: &Archive<'_, '_>) -> Result<String, AllocError> {
+    format!(in alloc; "{} {}", archive.archs().len(), archive.arch_count())
 }
 
 fn lookup(
@@ -133,14 +165,14 @@ fn lookup(
     rest: &str,
 ) -> Result<String, AllocError> {
     match word {
-        "number" => format!(in alloc; "{:?}", archive.source_number(rest)),
-        "archs" => format!(in alloc; "{} {}", archive.archs().len(), archive.arch_count()),
-        "first" => format!(in alloc; "{:?}", first_source(archive)),
-        "second" => format!(in alloc; "{}", second_package_is_of_bar(archive)),
-        "depends" => format!(in alloc; "{}", depends(archive)?),
-        "depends-arch" => format!(in alloc; "{}", depends_arch(archive)?),
-        "provides" => format!(in alloc; "{}", archive.provides(number(rest)).is_some()),
-        _ => format!(in alloc; "{:?}", archive.packages_of(rest)),
+        "number" => shown(alloc, &archive.source_number(rest)),
+        "archs" => archs(alloc, archive),
+        "first" => shown(alloc, &first_source(archive)),
+        "second" => shown(alloc, &second_package_is_of_bar(archive)),
+        "depends" => depends(alloc, archive),
+        "depends-arch" => depends_arch(alloc, archive),
+        "provides" => shown(alloc, &archive.provides(number(rest)).is_some()),
+        _ => shown(alloc, &archive.packages_of(rest)),
     }
 }
 
@@ -153,23 +185,10 @@ fn answer(alloc: Global, archive: &Archive<'_, '_>, asked: &str) -> Result<Strin
         "source" => source(alloc, archive, rest),
         "opening" => opening(alloc, archive, rest),
         "rows" => rows(alloc, archive),
-        "meets" => String::from_str(alloc, meets(archive, rest)?),
-        "rebuilt" => String::from_str(alloc, rebuilt(archive, rest)?),
+        "meets" => meets(alloc, archive, rest),
+        "rebuilt" => rebuilt(alloc, archive, rest),
         "names" => names(alloc, archive, rest),
         _ => lookup(alloc, archive, word, rest),
-    }
-}
-
-fn is_answered(
-    rt: &impl Abort,
-    alloc: Global,
-    archive: &Archive<'_, '_>,
-    asked: &str,
-    expected: &str,
-) {
-    match answer(alloc, archive, asked) {
-        Ok(answered) => assert_eq!(rt; answered.as_str(), expected, "{asked}"),
-        Err(_) => panic!(rt; "want of memory at {asked}"),
     }
 }
 
@@ -182,17 +201,10 @@ pub(super) fn are_answered<'x>(
     sources: &'x str,
     questions: &[(&'static str, &'static str)],
 ) {
-    let Ok(archs) = Archs::read(alloc, table) else {
-        panic!(rt; "the table is read");
-    };
-    match Archive::read(alloc, packages, sources, &archs) {
-        Ok(archive) => {
-            for (asked, expected) in questions {
-                is_answered(rt, alloc, &archive, asked, expected);
-            }
-            drop(archive);
-        }
-        Err(fault) => panic!(rt; "refused: {fault:?}"),
+    let archs = made(rt, Archs::read(alloc, table));
+    let archive = made(rt, Archive::read(alloc, packages, sources, &archs));
+    for (asked, expected) in questions {
+        is_told(rt, answer(alloc, &archive, asked), expected, asked);
     }
-    drop(archs);
+    drop(archive);
 }

@@ -1,74 +1,59 @@
 //! Indices that are read side by side, each in two pieces: what no clause says is that they are
 //! read where memory suffices.
+use super::answers::{counts, shown};
+use crate::checks::{is_told, made};
 use std::alloc::{AllocError, Global};
 use std::process::Abort;
-use std::test::Fail;
 use std::thread::Threads;
-use td_indices::{Archive, ArchiveFault, IndexFile};
+use td_indices::Archive;
 use td_relation::Archs;
-use td_stanza::StanzaFault;
 
 // 4,000 stanzas, more bytes than are read as a whole; each has three lines and an empty one.
 fn long_text(alloc: Global) -> Result<String, AllocError> {
     let mut text = String::new(alloc);
     for number in 0..4000 {
-        let stanza = format!(in alloc; "Package: s{number}\nVersion: 1\nArchitecture: amd64\n\n")?;
-        text.push_str(stanza.as_str())?;
+        write!(
+            text,
+            "Package: s{number}\nVersion: 1\nArchitecture: amd64\n\n"
+        )?;
     }
     Ok(text)
 }
 
-fn counts(archive: &Archive<'_, '_>) -> (usize, usize, usize) {
-    (
-        archive.source_count(),
-        archive.binary_count(),
-        archive.row_count(),
-    )
-}
-
-// What is found in the archive of these two texts.
+// How many sources, packages and rows the archive of these two texts has, or its fault.
 fn found(
     rt: &(impl Threads + Abort + Sync),
     alloc: Global,
     packages: &str,
     sources: &str,
-) -> Result<(usize, usize, usize), ArchiveFault> {
-    let Ok(archs) = Archs::read(alloc, "amd64 linux amd64\n") else {
-        panic!(rt; "the table is read");
-    };
+) -> Result<String, AllocError> {
+    let archs = made(rt, Archs::read(alloc, "amd64 linux amd64\n"));
     match Archive::read_beside(rt, alloc, packages, sources, &archs) {
         Ok(archive) => {
-            let counts = counts(&archive);
+            let counts = counts(alloc, &archive);
             drop(archive);
-            Ok(counts)
+            counts
         }
-        Err(fault) => Err(fault),
+        Err(fault) => shown(alloc, &fault),
     }
 }
 
 #[test]
-fn long_indices_are_read_side_by_side(rt: HostRuntime) -> Result<(), Fail> {
-    let alloc = rt.alloc();
-    let long = long_text(alloc)?;
-    let long = long.as_str();
-    assert_eq!(rt; found(&rt, alloc, long, long), Ok((4000, 4000, 4000)));
-    assert_eq!(rt; found(&rt, alloc, "", long), Ok((4000, 0, 4000)));
-    Ok(())
+fn long_indices_are_read_side_by_side(rt: HostRuntime) {
+    let long = made(&rt, long_text(rt.alloc()));
+    let both = found(&rt, rt.alloc(), long.as_str(), long.as_str());
+    is_told(&rt, both, "4000 4000 4000", "both");
+    let sources = found(&rt, rt.alloc(), "", long.as_str());
+    is_told(&rt, sources, "4000 0 4000", "Sources");
 }
 
 // The line is counted from the first of the text, and Packages comes before Sources.
 #[test]
-fn the_last_line_of_a_long_index_is_named(rt: HostRuntime) -> Result<(), Fail> {
-    let alloc = rt.alloc();
-    let mut long = long_text(alloc)?;
-    long.push_str("x\n")?;
-    let long = long.as_str();
-    for (packages, sources, file) in [
-        (long, long, IndexFile::Packages),
-        ("", long, IndexFile::Sources),
-    ] {
-        let fault = ArchiveFault::Stanza(file, StanzaFault::NoColon(16001));
-        assert_eq!(rt; found(&rt, alloc, packages, sources), Err(fault));
-    }
-    Ok(())
+fn the_last_line_of_a_long_index_is_named(rt: HostRuntime) {
+    let mut long = made(&rt, long_text(rt.alloc()));
+    made(&rt, long.push_str("x\n"));
+    let both = found(&rt, rt.alloc(), long.as_str(), long.as_str());
+    is_told(&rt, both, "Stanza(Packages, NoColon(16001))", "both");
+    let sources = found(&rt, rt.alloc(), "", long.as_str());
+    is_told(&rt, sources, "Stanza(Sources, NoColon(16001))", "Sources");
 }
