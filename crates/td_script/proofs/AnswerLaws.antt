@@ -1,9 +1,12 @@
 -- What the calls of a book answer, as replies.
-use Rattle.std.proofs.Common.{◌≡◌, ◌≢◌, ℕ, zero, suc, ◌+◌, ◌-◌, ◌≤◌, Bool, true, false, List, []}
+use Rattle.std.proofs.Common.{◌≡◌, ◌≢◌, ℕ, zero, suc, ◌+◌, ◌≤◌, Bool, true, false, List, []}
 use Rattle.std.proofs.Common.{◌∷◌, ◌++◌, length, Some, Ok, refl, sym, ap, subst, ◌∙◌, arith}
 use Rattle.std.proofs.Common.{append_assoc, slice_get, if◌then◌else◌, Option, None, Result, Err}
-use Rattle.std.specs.Prelude.{◌==◌, ◌&&◌, codes, IsSomeAnd}
+use Rattle.std.proofs.Common.{IfOk, OnOk}
+use Rattle.std.specs.Prelude.{◌&&◌, codes, IsSomeAnd}
 use Rattle.std.proofs.lemmas.List.{append-nil}
+use Rattle.std.proofs.lemmas.Result.{IfOk-weaker}
+use Rattle.std.specs.Result.{is_ok, result_and}
 use Rattle.td_rows.specs.declared.key.Key.{Key}
 use Rattle.td_rows.specs.declared.kind.Kind.TheVariants as kinds
 use Rattle.td_rows.specs.declared.row.Row.{Row}
@@ -25,7 +28,7 @@ use Rattle.td_book.specs.Arriving.{ArriveOutcome, SweepOutcome, freed_now}
 use Rattle.td_book.specs.Calls.{noting, noting_one, is_lost, off_for}
 use Rattle.td_book.specs.Undoing.{IsWon, UndoAnswer}
 use Rattle.td_script.specs.Replies.{Reply, enters, entry_made, arrives, sweeps, undoes, refuses}
-use Rattle.td_script.specs.Replies.{refusal_line, state_refused, undo_name}
+use Rattle.td_script.specs.Replies.{refusal_line, says, state_refused, undo_name}
 use Rattle.td_script.specs.Replying.{IsPut, IsEntryPut, IsArrivalPut, IsSweepPut, IsUndoPut}
 use Rattle.td_script.specs.Answering.{Answers}
 
@@ -40,6 +43,44 @@ made_is h now e n is number =
     ∙ entry_at-last h.journal (standing_entry e)
 
 -- ---- 2. replies
+
+-- what is put, and then whether the line is refused
+pub IsPut-and : {E : Type 0} (text before now : List ℕ) (is : Bool) (put : Result (Unit {0}) E)
+    (said : Result Bool E) → said ≡ result_and put (Ok is) → OnOk put (now ≡ before ++ text)
+    → IfOk said (IsPut text is before now)
+IsPut-and text before now is (Ok u) said same it =
+    subst (λ r. IfOk r (IsPut text is before now)) (sym same)
+    (record { text_is = it; refusal = refl })
+IsPut-and text before now is (Err e) said same it =
+    subst (λ r. IfOk r (IsPut text is before now)) (sym same) tt
+
+-- the same of an entry that is found
+pub IsEntryPut-and : {E : Type 0} (ms : List Marked) (n : ℕ) (before now : List ℕ)
+    (put : Result (Unit {0}) E) (said : Result Bool E) → said ≡ result_and put (Ok false)
+    → ((m : Marked) → entry_at ms n ≡ Some m
+    → OnOk put (now ≡ before ++ entry_made n m.entry.keys))
+    → IfOk said (IsEntryPut ms n [] before now)
+IsEntryPut-and ms n before now (Ok u) said same it =
+    subst (λ r. IfOk r (IsEntryPut ms n [] before now)) (sym same) (λ m at. record {
+      text_is = it m at
+          ∙ ap (λ (l : List ℕ). before ++ l) (sym (append-nil (entry_made n m.entry.keys)));
+      refusal = refl;
+    })
+IsEntryPut-and ms n before now (Err e) said same it =
+    subst (λ r. IfOk r (IsEntryPut ms n [] before now)) (sym same) tt
+
+-- what is appended, if there is room for it
+pub OnOk-pushed : {E : Type 0} (before now text : List ℕ) (put : Result (Unit {0}) E)
+    → now ≡ (if is_ok put then before ++ text else before) → OnOk put (now ≡ before ++ text)
+OnOk-pushed before now text (Ok u) is = is
+OnOk-pushed before now text (Err e) is = tt
+
+-- nothing changes, and a text is said
+pub Answers-said : (text : List ℕ) (book : BookModel) (before now : List ℕ) (refused : Bool)
+    → IsPut text false before now refused
+    → Answers (says book.history text) book book before now refused
+Answers-said text book before now refused put =
+    record { text = put.text_is; history = refl; refusal = put.refusal; fixed = refl }
 
 -- an entry is made, and said with what stands behind it
 pub Answers-made : (e : Entry) (behind : List ℕ) (old new : BookModel) (ms : List Marked) (n : ℕ)
@@ -77,6 +118,15 @@ Answers-refused name old new before now refused is put = record {
   refusal = put.refusal;
   fixed = ap (λ (b : BookModel). b.fixed) is;
 }
+
+-- the same of a call that refuses the line
+pub Answers-refuse : {E : Type 0} (name : List ℕ) (book : BookModel) (before now : List ℕ)
+    (said : Result Bool E) → IfOk said (IsPut (refusal_line name) true before now)
+    → IfOk said (Answers (refuses book.history name []) book book before now)
+Answers-refuse name book before now said put =
+    IfOk-weaker said (IsPut (refusal_line name) true before now)
+    (Answers (refuses book.history name []) book book before now)
+    (λ refused. Answers-refused name book book before now refused refl) put
 
 -- ---- 3. calls
 

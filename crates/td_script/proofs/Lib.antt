@@ -13,3 +13,4 @@ pub mod WithoutJournal
 pub mod CutLaws
 pub mod StaffLaws
 pub mod StateLaws
+pub mod Words

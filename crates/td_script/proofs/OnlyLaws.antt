@@ -173,10 +173,12 @@ stops_run x NotText h = absurd h
 stops_run x Write h = absurd h
 stops_run x NoMemory h = tt
 
-abbrev IsLong : Option (List ℕ) → Type 0
+-- the reader had more than a script may have ..
+abbrev pub IsLong : Option (List ℕ) → Type 0
 IsLong known = IfSome known (λ all. script_limit < length all)
 
-abbrev IsNoText : Option (List ℕ) → Type 0
+-- .. or no text
+abbrev pub IsNoText : Option (List ℕ) → Type 0
 IsNoText known = IfSome known (λ all. (length all ≤ script_limit) × ¬ IsUtf8 all)
 
 unread_run : (x : Texts) (known : Option (List ℕ)) (t : List ℕ) (f : TextFault) → known ≡ Some t

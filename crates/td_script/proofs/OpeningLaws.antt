@@ -25,6 +25,10 @@ use Rattle.td_waves.specs.declared.level.Level.{Level}
 use Rattle.td_report.specs.Transition.{AreLevels}
 use Rattle.td_script.specs.declared.told.Told.{Told as ToldText}
 use Rattle.td_script.specs.Reporting.{report_with}
+use Rattle.td_query.specs.TrackerFaults.{FaultOf}
+use Rattle.td_query.specs.declared.tracker_fault.TrackerFault.{TrackerFault}
+use Rattle.td_query.specs.declared.tracker_fault.TrackerFault.TheVariants as tracker
+use Rattle.td_script.specs.OpeningInside.{IsReplacedIn, of_input}
 use Rattle.td_script.specs.OpeningInside.{IsInputRefusedIn, IsJournalRefused, IsRefusedBy}
 use Rattle.td_script.specs.OpeningInside.{IsRefusedIn, IsToldFrom, IsTrackerOf, IsUntold, OfInput}
 use Rattle.td_script.specs.OpeningInside.{TellsOrRefuses}
@@ -81,6 +85,21 @@ refused_row x c opened text archive are is fault.NoSuchRow h =
     (c, archive, rw is (opened, are, h))
 refused_row x c opened text archive are is (fault.Tracker e) h = absurd h
 refused_row x c opened text archive are is (fault.Journal e) h = absurd h
+
+-- with those of the state file in their places
+pub replaced_rows : (c : Contents) (opened : Table) (state : Option (List ℕ)) (text : List ℕ)
+    (r : Result Table RunFault) → AreOpened c opened → state ≡ Some text
+    → IfOk r (IsReplacedIn opened text) → IfOk r (AreRowsOf c state)
+replaced_rows c opened state text (Ok rows) are is put =
+    subst (λ (o : Option (List ℕ)). AreRowsOf c o rows) (sym is) (record {
+      opened = opened;
+      are_opened = are;
+      given = put.given;
+      are_given = put.are_given;
+      none_missing = put.none_missing;
+      replaced = put.replaced;
+    })
+replaced_rows c opened state text (Err e) are is put = tt
 
 pub refused_rows : (x : Texts) (c : Contents) (opened : Table) (text : List ℕ)
     (r : Result Table RunFault) → IsArchiveOf x c → AreOpened c opened → x.state ≡ Some text
@@ -147,6 +166,18 @@ tells_from May x c report rows text (Err e) is refused archive are reports track
 
 pub tracker_given : (x : Texts) (t : Tracking) → IsTrackerOf x t → IsTrackerIfGiven x.tracker
 tracker_given x t is = subst IsTrackerIfGiven (sym is.1) (t, is.2)
+
+-- the tracker that is given is none, or memory runs out
+pub tracker_refused : (x : Texts) (c : Contents) (rows : Table) (text : List ℕ) → IsArchiveOf x c
+    → AreRowsOf c x.state rows → x.tracker ≡ Some text → (e : TrackerFault) → FaultOf text e
+    → IsRefusedBy x (of_input (fault.Tracker e))
+tracker_refused x c rows text archive are is (tracker.Syntax place) h =
+    (c, archive, (rows, are, rw is h))
+tracker_refused x c rows text archive are is (tracker.BadPattern place) h =
+    (c, archive, (rows, are, rw is h))
+tracker_refused x c rows text archive are is (tracker.MissingKey key) h =
+    (c, archive, (rows, are, rw is h))
+tracker_refused x c rows text archive are is tracker.NoMemory h = tt
 
 -- the reports of a tracker
 pub tracker_reports : (x : Texts) (c a : Contents) (t u : Tracking) (level : List ℕ → Option Level)

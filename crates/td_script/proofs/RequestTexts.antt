@@ -1,9 +1,9 @@
 -- The line of a request is read exactly.
-use Rattle.std.proofs.Common.{◌≡◌, ℕ, suc, Bool, ◌<◌, ◌^◌, ◌-◌, ◌&&◌, true, cond, eqb, false, List}
-use Rattle.std.proofs.Common.{[], ◌∷◌, ◌++◌, length, Option, Some, None, refl, sym, ap, subst, ◌∙◌}
+use Rattle.std.proofs.Common.{◌≡◌, ℕ, Bool, ◌<◌, ◌^◌, ◌-◌, ◌&&◌, true, cond, eqb, false, List}
+use Rattle.std.proofs.Common.{[], ◌++◌, length, Option, Some, None, refl, sym, ap, subst, ◌∙◌}
 use Rattle.std.proofs.Common.{arith, lit<}
 use Rattle.std.specs.Prelude.{codes, decimal}
-use Rattle.std.proofs.lemmas.Bool.{and_parts, eqb-true}
+use Rattle.std.proofs.lemmas.Bool.{and_parts}
 use Rattle.td_text.specs.Chain.{◌>>=◌}
 use Rattle.td_text.specs.Cut.{Without, part, strip}
 use Rattle.td_text.specs.Numbers.{number_at}
@@ -13,7 +13,7 @@ use Rattle.td_text.proofs.Cut.{cut-at, cut_found, lacks, Begins, part_again, par
 use Rattle.td_text.proofs.Numbers.{number_exact}
 use Rattle.td_text.proofs.Empty.{no_text}
 use Rattle.td_text.proofs.Prefix.{strip_found, strip_again}
-use Rattle.td_text.proofs.Words.{Without-name, Without-arch}
+use Rattle.td_text.proofs.Words.{Without-name}
 use Rattle.td_rows.specs.declared.key.Key.{Key}
 use Rattle.td_rows.specs.KeyText.{KeyFits}
 use Rattle.td_rows.specs.Text.{has_newline}

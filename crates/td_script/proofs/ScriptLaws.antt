@@ -7,6 +7,7 @@ use Rattle.td_text.specs.Lines.{lines_of, lines_left, left_len}
 use Rattle.td_supply.specs.Supply.{Stock}
 use Rattle.td_book.specs.Desk.{BookModel, Fixed}
 use Rattle.td_script.specs.declared.told.Told.{Told as ToldText}
+use Rattle.td_script.specs.Ends.{IsAnswered}
 use Rattle.td_script.specs.Replies.{Setting}
 use Rattle.td_script.proofs.Staying.{opening-stays}
 use Rattle.td_script.specs.Script.{Told, with_line, script, told_of, IsAdded, IsTold}
@@ -73,3 +74,12 @@ pub room : (suites : List (List ℕ)) (report : Option (Table → List ℕ)) (al
     → IsSoFar suites report all first now told (Some rest) → length all < 2 ^ 63 - 1
     → told.refused < 2 ^ 63
 room suites report all first now told rest h small = omega (arith, h.counted, small)
+
+-- what is told of a whole script answers it
+pub told_answered : (s : Setting) (lines : List ℕ) (old new : BookModel) (told : ToldText)
+    → IsTold s lines old new told
+    → IsAnswered s old.history lines (string_bytes told.text) told.refused
+told_answered s lines old new told h = record {
+  text_is = ap (λ (t : Told). t.text) h.is;
+  refused_is = ap (λ (t : Told). t.refused) h.is;
+}

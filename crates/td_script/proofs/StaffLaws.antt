@@ -1,22 +1,28 @@
 -- What a clerk alone tells of what is asked.
 use Rattle.std.proofs.Common.{◌≡◌, ℕ, List, [], ◌∷◌, Option, Result, Ok, Err, IfOk, IfErr, sym}
-use Rattle.std.proofs.Common.{subst}
+use Rattle.std.proofs.Common.{ap, subst}
 use Rattle.std.specs.Prelude.{string_bytes}
 use Rattle.std.specs.Prelude.{MatchResult}
 use Rattle.atomic_table.specs.Seated.{TableId}
 use Rattle.td_rows.specs.Table.{Table}
 use Rattle.td_journal.specs.declared.journal_fault.ReadError.{ReadError}
 use Rattle.td_journal.specs.declared.journal_fault.ReadError.TheVariants.{NoMemory}
+use Rattle.td_journal.specs.declared.journal_fault.ReadError.TheVariants as journal
 use Rattle.td_supply.specs.Supply.{Stock}
 use Rattle.td_core.specs.History.{History}
 use Rattle.td_book.specs.Desk.{BookModel}
 use Rattle.td_indices.specs.Supplying.{supply_of}
-use Rattle.td_script.specs.Asking.{IsToldOf, journal_asked}
+use Rattle.td_script.specs.Asking.{IsToldOf, journal_asked, setting_asked}
 use Rattle.td_script.specs.Ends.{IsAnswered}
-use Rattle.td_script.specs.OpeningInside.{IsBegunBy, IsJournalFault, IsToldFor}
+use Rattle.td_script.specs.OpeningInside.{IsBegunBy, IsJournalFault, IsToldFor, IsToldFrom}
+use Rattle.td_script.specs.OpeningInside.{IsUntold, of_input}
 use Rattle.td_script.specs.Openings.{IsJournalIfGiven}
 use Rattle.td_script.specs.Reporting.{report_by}
 use Rattle.td_script.specs.Settings.{setting_lent}
+use Rattle.td_script.specs.Telling.{Telling}
+use Rattle.td_script.specs.declared.input_fault.InputFault.TheVariants as fault
+use Rattle.td_script.specs.declared.running.RunFault.{RunFault}
+use Rattle.td_script.specs.declared.running.RunFault.TheVariants as RunFaults
 use Rattle.td_script.specs.declared.staff.Asked.{Asked}
 use Rattle.td_script.specs.declared.told.Told.{Told}
 use Rattle.td_script.proofs.ScriptLaws.{setting_of}
@@ -59,3 +65,33 @@ told_begun asked table builders (Ok book) (Err e) begun fault only is = record {
 }
 told_begun asked table builders (Err e) r begun fault only is =
     subst (IsToldOf IsAnswered asked) (sym is) (record { told = tt; fault = fault; only = only })
+
+-- ---- what a run makes of it
+
+-- the fault of a journal, as one of a run
+journal_untold : (rows : Table) (given : Option (List ℕ)) (e : ReadError)
+    → IsJournalFault rows given e → IsUntold rows given (of_input (fault.Journal e))
+journal_untold rows given journal.BadHeader h = h
+journal_untold rows given (journal.BadLine n) h = h
+journal_untold rows given (journal.Unlawful n) h = h
+journal_untold rows given journal.NoMemory h = tt
+
+-- what may be told of what was asked, or why the run stops
+pub record IsRunOf (May : Telling) (asked : Asked) (r : Result Told RunFault) : Type 0 where
+  pub told : IfOk r
+      (IsToldFrom May (setting_asked asked) (journal_asked asked) asked.rows asked.script.now)
+  pub refused : IfErr r (IsUntold asked.rows (journal_asked asked))
+  pub only : IfErr r (λ e.
+      IsJournalIfGiven asked.rows (journal_asked asked) → e ≡ RunFaults.NoMemory)
+
+pub run_of : (May : Telling) (asked : Asked) (told : Result Told ReadError)
+    (r : Result Told RunFault) → IsToldOf May asked told → IfOk told (λ t. r ≡ Ok t)
+    → IfErr told (λ e. r ≡ Err (of_input (fault.Journal e))) → IsRunOf May asked r
+run_of May asked (Ok t) r is same other =
+    subst (IsRunOf May asked) (sym same) (record { told = is.told; refused = tt; only = tt })
+run_of May asked (Err e) r is same other =
+    subst (IsRunOf May asked) (sym other) (record {
+      told = tt;
+      refused = journal_untold asked.rows (journal_asked asked) e is.fault;
+      only = λ given. ap (λ (y : ReadError). of_input (fault.Journal y)) (is.only given);
+    })

@@ -1,5 +1,5 @@
 -- What becomes of rows over which a state file is put.
-use Rattle.std.proofs.Common.{◌≡◌, ℕ, List, Some, Result, Ok, Err, IfOk, IfErr, sym, ap, subst}
+use Rattle.std.proofs.Common.{◌≡◌, ℕ, List, Result, Ok, Err, IfOk, IfErr, sym, ap, subst}
 use Rattle.std.specs.Prelude.{MatchResult}
 use Rattle.td_text.specs.Lines.{lines_of}
 use Rattle.td_rows.specs.StateFile.{FaultOf, IsStateFile}

@@ -39,6 +39,14 @@ spaced_key_at text =
 abbrev pub alone : Request → List ℕ → Option Request
 alone r rest = if length rest == 0 then Some r else None
 
+-- the number behind a space ..
+abbrev pub number_behind : List ℕ → Option ℕ
+number_behind rest = strip (codes " ") rest >>= number_at (2 ^ 64 - 1)
+
+-- .. or the key
+abbrev pub key_behind : List ℕ → Option Key
+key_behind rest = strip (codes " ") rest >>= spaced_key_at
+
 -- a request by its verb, and what follows that
 abbrev pub by_verb : Verb → List ℕ → Option Request
 by_verb verb.Undo rest = strip (codes " ") rest >>= number_at (2 ^ 64 - 1) >>= λ n. Some (Undo n)

@@ -1,5 +1,5 @@
 //! The answers to requests.
-ghost use Rattle.std.specs.Prelude.{◌≡◌, IfOk, IfSome, option_map};
+ghost use Rattle.std.specs.Prelude.{◌≡◌, false, IfOk, IfSome, option_map};
 ghost use Rattle.std.specs.String.{string_bytes};
 ghost use Rattle.td_rows.specs.Table.{row_of};
 ghost use Rattle.td_journal.specs.JournalText.{journal_text};
@@ -9,10 +9,11 @@ ghost use Rattle.td_book.specs.Undoing.{undo_stop};
 ghost use Rattle.td_script.specs.Answering.{Answers};
 ghost use Rattle.td_script.specs.Replies.{undoes, arrives, sweeps, shows_row, shows_entry, says};
 ghost use Rattle.td_script.specs.Replies.{reports as reports_of};
+ghost use Rattle.td_script.specs.Replying.{IsPut};
 
 use crate::replying::{put_arrival, put_sweep, put_undo};
 use crate::reports::Reports;
-use crate::writing::{put_entry, put_refusal, put_row};
+use crate::writing::{put_entry, put_row, refuse};
 use std::alloc::{AllocError, Global};
 use td_board::Board;
 use td_book::Book;
@@ -64,14 +65,8 @@ pub fn show_row(book: &Book<'_>, key: &Key, out: &mut String) -> Result<bool, Al
         book.now (string_bytes out.old) (string_bytes out.new)) }
 {
     match book.rows().get(key) {
-        Some(row) => {
-            put_row(out, key, row)?;
-            Ok(false)
-        }
-        None => {
-            put_refusal(out, "NoSuchRow")?;
-            Ok(true)
-        }
+        Some(row) => put_row(out, key, row).and(Ok(false)),
+        None => refuse(out, "NoSuchRow"),
     }
 }
 
@@ -81,14 +76,8 @@ pub fn show_entry(book: &Book<'_>, n: EntryNo, out: &mut String) -> Result<bool,
         (string_bytes out.old) (string_bytes out.new)) }
 {
     match book.journal().entry(n) {
-        Some(marked) => {
-            put_entry(out, n, marked)?;
-            Ok(false)
-        }
-        None => {
-            put_refusal(out, "NoSuchEntry")?;
-            Ok(true)
-        }
+        Some(marked) => put_entry(out, n, marked).and(Ok(false)),
+        None => refuse(out, "NoSuchEntry"),
     }
 }
 
@@ -99,6 +88,21 @@ pub fn show_journal(book: &Book<'_>, out: &mut String) -> Result<bool, AllocErro
 {
     put_journal(out, book.journal())?;
     Ok(false)
+}
+
+// Appends the report of the rows.
+fn put_report<R: Reports>(
+    alloc: Global,
+    book: &Book<'_>,
+    reports: &R,
+    out: &mut String,
+) -> Result<bool, AllocError>
+    requires { R.fits reports.now book.now.history.opening book.now.fixed }
+    ensures { IfOk result (IsPut (R.text reports.now (rows_of book.now.history)) false
+        (string_bytes out.old) (string_bytes out.new)) }
+{
+    let text = reports.report(alloc, book)?;
+    out.push_str(text.as_str()).and(Ok(false))
 }
 
 /// Tells the report of the rows, where there is a tracker.
@@ -114,14 +118,7 @@ pub fn show_report<R: Reports>(
         book.now (string_bytes out.old) (string_bytes out.new)) }
 {
     match reports {
-        Some(reports) => {
-            let text = reports.report(alloc, book)?;
-            out.push_str(text.as_str())?;
-            Ok(false)
-        }
-        None => {
-            put_refusal(out, "NoTracker")?;
-            Ok(true)
-        }
+        Some(reports) => put_report(alloc, book, reports, out),
+        None => refuse(out, "NoTracker"),
     }
 }

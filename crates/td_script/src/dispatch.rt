@@ -11,7 +11,7 @@ use crate::commanding::command;
 use crate::line::{Said, read_line};
 use crate::reports::Reports;
 use crate::request::Request;
-use crate::writing::put_refusal;
+use crate::writing::refuse;
 use std::alloc::{AllocError, Global};
 use td_board::Board;
 use td_book::Book;
@@ -63,10 +63,7 @@ fn type_in(
 {
     match read_command(alloc, line, book.supply().archs(), suites) {
         Ok(typed) => command(book, board, &typed, out),
-        Err(CommandFault::Wrong(fault, _)) => {
-            put_refusal(out, fault.name())?;
-            Ok(true)
-        }
+        Err(CommandFault::Wrong(fault, _)) => refuse(out, fault.name()),
         Err(CommandFault::NoMemory) => Err(AllocError),
     }
 }
@@ -92,10 +89,7 @@ pub fn answer<R: Reports>(
     match read_line(alloc, line)? {
         Said::Skipped => Ok(false),
         Said::Asked(request) => ask(alloc, book, board, suites, reports, &request, out),
-        Said::Bad => {
-            put_refusal(out, "BadLine")?;
-            Ok(true)
-        }
+        Said::Bad => refuse(out, "BadLine"),
         Said::Typed => type_in(alloc, book, board, suites, line, out),
     }
 }

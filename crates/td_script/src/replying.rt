@@ -6,7 +6,7 @@ ghost use Rattle.td_script.specs.Replying.{IsArrivalPut, IsArrivalRefused, IsCom
 ghost use Rattle.td_script.specs.Replying.{IsCommandRefused, IsSweepPut, IsUndoPut};
 
 use crate::writing::{
-    put_made, put_refusal, put_skips, put_state_refusal, put_undo_refusal, put_undone,
+    put_made, put_refusal, put_skips, put_state_refusal, put_undo_refusal, put_undone, refuse,
 };
 use std::alloc::AllocError;
 use td_book::{ArriveRefusal, CommandRefusal, Taken, UndoRefusal};
@@ -21,15 +21,9 @@ pub fn put_undo(
     ensures { IfOk result (IsUndoPut n answer (string_bytes out.old) (string_bytes out.new)) }
 {
     match answer {
-        Ok(()) => {
-            put_undone(out, n)?;
-            Ok(false)
-        }
+        Ok(()) => put_undone(out, n).and(Ok(false)),
         Err(UndoRefusal::NoMemory) => Err(AllocError),
-        Err(refusal) => {
-            put_undo_refusal(out, refusal)?;
-            Ok(true)
-        }
+        Err(refusal) => put_undo_refusal(out, refusal).and(Ok(true)),
     }
 }
 
@@ -40,13 +34,9 @@ pub fn put_arrival_refusal(out: &mut String, refusal: ArriveRefusal) -> Result<b
 {
     match refusal {
         ArriveRefusal::NoMemory => Err(AllocError),
-        ArriveRefusal::NoSuchRow => {
-            put_refusal(out, "NoSuchRow")?;
-            Ok(true)
-        }
+        ArriveRefusal::NoSuchRow => refuse(out, "NoSuchRow"),
         ArriveRefusal::DoesNotApply(state) => {
-            put_state_refusal(out, "DoesNotApply ", state)?;
-            Ok(true)
+            put_state_refusal(out, "DoesNotApply ", state).and(Ok(true))
         }
     }
 }
@@ -61,10 +51,7 @@ pub fn put_arrival(
         (IsArrivalPut journal.now.entries answer (string_bytes out.old) (string_bytes out.new)) }
 {
     match answer {
-        Ok(n) => {
-            put_made(out, journal, n)?;
-            Ok(false)
-        }
+        Ok(n) => put_made(out, journal, n).and(Ok(false)),
         Err(refusal) => put_arrival_refusal(out, refusal),
     }
 }

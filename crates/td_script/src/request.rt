@@ -1,6 +1,8 @@
 //! The lines of a script that are no commands.
 ghost use Rattle.std.specs.Prelude.{◌≡◌, option_map, IfOk};
 ghost use Rattle.td_script.specs.Reading.{verb_at, spaced_key_at, by_verb, request_at};
+ghost use Rattle.td_script.specs.Reading.{alone as alone_at, key_behind as key_behind_at};
+ghost use Rattle.td_script.specs.Reading.{number_behind as number_behind_at};
 ghost use Rattle.td_script.specs.Reading.{RequestsAreExact};
 
 use std::alloc::{AllocError, Global};
@@ -39,9 +41,9 @@ pub enum Request {
     Journal,
 }
 
-// The verb that a word is.
+/// The verb that a word is.
 #[tactic(auto, unfolding(crate::specs::Reading::verb_at))]
-fn read_verb(word: &str) -> Option<Verb>
+pub fn read_verb(word: &str) -> Option<Verb>
     ensures { result ≡ verb_at word.now }
 {
     match word {
@@ -62,12 +64,7 @@ fn read_spaced(text: &str) -> Option<(&str, &str)>
     ensures { option_map (λ p. record { source = p.0.now; arch = p.1.now }) result
         ≡ spaced_key_at text.now }
 {
-    let (source, arch) = cut_at(text, ' ')?;
-    if is_name(source) && is_arch(arch) {
-        Some((source, arch))
-    } else {
-        None
-    }
+    cut_at(text, ' ').filter(|(source, arch)| is_name(source) && is_arch(arch))
 }
 
 // The same, in memory of its own.
@@ -80,32 +77,43 @@ fn read_own_key(alloc: Global, text: &str) -> Result<Option<Key>, AllocError>
     Ok(Some(Key::from_lines(alloc, source, arch)?))
 }
 
+// A request that is one word: nothing may follow.
+fn alone(request: Request, rest: &str) -> Option<Request>
+    ensures { result ≡ alone_at request rest.now }
+{
+    rest.is_empty().then_some(request)
+}
+
+// The number behind a space.
+fn number_behind(rest: &str) -> Option<EntryNo>
+    ensures { result ≡ number_behind_at rest.now }
+{
+    number(strip(rest, " ")?, u64::MAX)
+}
+
+// The key behind a space, in memory of its own.
+fn key_behind(alloc: Global, rest: &str) -> Result<Option<Key>, AllocError>
+    ensures { IfOk result (λ key. key ≡ key_behind_at rest.now) }
+{
+    match strip(rest, " ") {
+        Some(text) => read_own_key(alloc, text),
+        None => Ok(None),
+    }
+}
+
 // A request by its verb, and what follows that.
 fn read_by_verb(alloc: Global, verb: Verb, rest: &str) -> Result<Option<Request>, AllocError>
     ensures { IfOk result (λ request. request ≡ by_verb verb rest.now) }
 {
     match verb {
-        Verb::Sweep if rest.is_empty() => return Ok(Some(Request::Sweep)),
-        Verb::Report if rest.is_empty() => return Ok(Some(Request::Report)),
-        Verb::Journal if rest.is_empty() => return Ok(Some(Request::Journal)),
-        Verb::Sweep | Verb::Report | Verb::Journal => return Ok(None),
-        _ => {}
+        Verb::Undo => Ok(number_behind(rest).map(|n| Request::Undo(n))),
+        Verb::Entry => Ok(number_behind(rest).map(|n| Request::Entry(n))),
+        Verb::Sweep => Ok(alone(Request::Sweep, rest)),
+        Verb::Report => Ok(alone(Request::Report, rest)),
+        Verb::Journal => Ok(alone(Request::Journal, rest)),
+        Verb::Arrive => Ok(key_behind(alloc, rest)?.map(|key| Request::Arrive(key))),
+        Verb::Row => Ok(key_behind(alloc, rest)?.map(|key| Request::Row(key))),
     }
-    let Some(rest) = strip(rest, " ") else {
-        return Ok(None);
-    };
-    match verb {
-        Verb::Undo => return Ok(number(rest, u64::MAX).map(|n| Request::Undo(n))),
-        Verb::Entry => return Ok(number(rest, u64::MAX).map(|n| Request::Entry(n))),
-        _ => {}
-    }
-    let Some(key) = read_own_key(alloc, rest)? else {
-        return Ok(None);
-    };
-    Ok(Some(match verb {
-        Verb::Arrive => Request::Arrive(key),
-        _ => Request::Row(key),
-    }))
 }
 
 /// The request whose line it is.

@@ -1,5 +1,5 @@
 //! The lines of answers.
-ghost use Rattle.std.specs.Prelude.{◌≡◌, ◌++◌, Some, OnOk, codes, decimal};
+ghost use Rattle.std.specs.Prelude.{◌≡◌, ◌++◌, Some, true, IfOk, OnOk, codes, decimal};
 ghost use Rattle.std.specs.List.{flat_map};
 ghost use Rattle.std.specs.String.{string_bytes};
 ghost use Rattle.td_rows.specs.RowLine.{row_line};
@@ -9,6 +9,7 @@ ghost use Rattle.td_journal.specs.Entries.{entry_at};
 ghost use Rattle.td_journal.specs.JournalText.{entry_line};
 ghost use Rattle.td_script.specs.Replies.{ended, entry_made, reason_word, refusal_line, skip_line};
 ghost use Rattle.td_script.specs.Replies.{undo_name};
+ghost use Rattle.td_script.specs.Replying.{IsPut};
 
 use std::alloc::AllocError;
 use td_book::{Skip, SkipReason, UndoRefusal};
@@ -23,6 +24,14 @@ pub fn put_refusal(out: &mut String, name: &str) -> Result<(), AllocError>
     out.push_str("refused: ")?;
     out.push_str(name)?;
     out.push_str("\n")
+}
+
+/// Refuses a line: appends the line of the refusal, and answers that it is refused.
+pub fn refuse(out: &mut String, name: &str) -> Result<bool, AllocError>
+    ensures { IfOk result
+        (IsPut (refusal_line name.now) true (string_bytes out.old) (string_bytes out.new)) }
+{
+    put_refusal(out, name).and(Ok(true))
 }
 
 fn put_block(out: &mut String, n: EntryNo) -> Result<(), AllocError>

@@ -1,5 +1,5 @@
 -- `put_over`: the clause `put`.
-use Rattle.std.proofs.Common.{◌≡◌, Result, Ok, Err, IfOk, refl, sym, subst}
+use Rattle.std.proofs.Common.{Result, Ok, Err, IfOk, refl, sym, subst}
 use Rattle.td_rows.specs.Table.{Table}
 use Rattle.td_rows.specs.declared.state_file.StateFault.{StateFault}
 use Rattle.td_script.specs.OpeningInside.{IsPutOver}

@@ -3,9 +3,9 @@ use Rattle.std.proofs.Common.{◌≡◌, Err, refl, rules, subst, sym}
 use Rattle.std.specs.Io.KnownBytes.{Appends}
 use Rattle.td_bytes.specs.Pieces.{AppendsPrefix}
 use Rattle.td_script.specs.Openings.{texts_of}
-use Rattle.td_script.specs.Ends.{Only}
+use Rattle.td_script.specs.Ends.{Only, SaysBy}
 use Rattle.td_script.proofs.OnlyLaws.{run_only}
-use Rattle.td_script.proofs.RunLaws.{plays}
+use Rattle.td_script.proofs.RunLaws.{plays, stopped}
 use Rattle.td_script.proofs.running.run_with.Goals as goal
 
 pub returns-in-Ok-clause-says : goal.returns-in-Ok-clause-says
@@ -45,4 +45,16 @@ returns-in_err-told-clause-only g c =
     subst (Only x known) (sym same)
     (run_only x known c.read_text-read.result c.tell_read.result c.in_err-told.field-0.0
     c.in_err-told.was c.tell_read.ensures.only c.tell_read.ensures.unread_only
+    c.read_text-read.ensures.long c.read_text-read.ensures.not_text)
+
+pub returns-in_err-told-clause-says : goal.returns-in_err-told-clause-says
+returns-in_err-told-clause-says g c =
+    let May = g.S.Staff.tells c.args.staff.now in
+    let x = texts_of c.args.inputs.now in
+    let known = g.R.Read.remaining c.args.reader.now in
+    let old = g.W.Write.contents c.args.writer.now in
+    let same : c.from_residual.result ≡ Err c.in_err-told.field-0.0 = search rules in
+    subst (SaysBy May x known old old) (sym same)
+    (stopped May x known old c.read_text-read.result c.tell_read.result c.in_err-told.field-0.0
+    c.in_err-told.was c.tell_read.ensures.read c.tell_read.ensures.unread
     c.read_text-read.ensures.long c.read_text-read.ensures.not_text)

@@ -1,10 +1,25 @@
--- `Run::tell_with_tracker`: the clause `only`.
+-- `Run::tell_with_tracker`: its clauses and the tracker of the call of `tell_tracked`.
 use Rattle.std.proofs.Common.{sym, subst}
 use Rattle.std.proofs.lemmas.Result.{IfErr-weaker}
-use Rattle.td_script.specs.OpeningInside.{Stops}
+use Rattle.td_script.specs.OpeningInside.{IsRefusedBy, Stops}
 use Rattle.td_script.specs.Openings.{texts_lent}
 use Rattle.td_script.proofs.OnlyLaws.{memory_stops, tracker_stops}
+use Rattle.td_script.proofs.OpeningLaws.{tracker_refused}
 use Rattle.td_script.proofs.opening.Run.tell_with_tracker.Goals as goal
+
+pub tell_tracked-told-requires-clause-tracker : goal.tell_tracked-told-requires-clause-tracker
+tell_tracked-told-requires-clause-tracker g c =
+    (c.args.text.now, c.requires.tracker, c.in-Ok.ensures.found)
+
+pub returns-in-Ok-clause-tells : goal.returns-in-Ok-clause-tells
+returns-in-Ok-clause-tells g c = c.tell_tracked-told.ensures.tells
+
+pub returns-in-Err-clause-tells : goal.returns-in-Err-clause-tells
+returns-in-Err-clause-tells g c =
+    subst (IsRefusedBy (texts_lent c.args.self.now.files)) (sym c.fault_of.ensures)
+    (tracker_refused (texts_lent c.args.self.now.files) c.args.archive.now c.args.rows
+    c.args.text.now c.requires.archive c.requires.rows c.requires.tracker c.in-Err.fault
+    c.in-Err.ensures.fault)
 
 pub returns-in-Ok-clause-only : goal.returns-in-Ok-clause-only
 returns-in-Ok-clause-only g c =
