@@ -81,12 +81,13 @@ wanted_key key.IsBad = codes "a key is_bad"
 abbrev pub wanted_tracker : TrackerFault → List ℕ
 wanted_tracker (tracker.Syntax at) = codes "a key and its query, as docs/FORMATS.md has trackers"
 wanted_tracker (tracker.MissingKey k) = wanted_key k
-wanted_tracker (tracker.BadPattern at) = codes "a pattern that regex takes: no look-around, no open bracket"
+wanted_tracker (tracker.BadPattern at) =
+    codes "a pattern that regex takes: no look-around, back reference or open bracket"
 wanted_tracker tracker.NoMemory = []
 
 -- of a journal
 abbrev pub wanted_journal : ReadError → List ℕ
-wanted_journal journal.BadHeader = codes "a journal's header, as transdesk journal 2"
+wanted_journal journal.BadHeader = codes "a journal's header line with its newline, as transdesk journal 2"
 wanted_journal (journal.BadLine n) = codes "the next entry, as docs/FORMATS.md has journals"
 wanted_journal (journal.Unlawful n) =
     codes "an entry that applies on the rows, or an undone command"

@@ -109,7 +109,7 @@ fn wanted_tracker(fault: TrackerFault) -> &'static str
         TrackerFault::Syntax(_) => "a key and its query, as docs/FORMATS.md has trackers",
         TrackerFault::MissingKey(key) => wanted_key(key),
         TrackerFault::BadPattern(_) =>
-            "a pattern that regex takes: no look-around, no open bracket",
+            "a pattern that regex takes: no look-around, back reference or open bracket",
         TrackerFault::NoMemory => "",
     }
 }
@@ -119,7 +119,7 @@ fn wanted_journal(fault: ReadError) -> &'static str
     ensures { result.now ≡ wanted_journal fault }
 {
     match fault {
-        ReadError::BadHeader => "a journal's header, as transdesk journal 2",
+        ReadError::BadHeader => "a journal's header line with its newline, as transdesk journal 2",
         ReadError::BadLine(_) => "the next entry, as docs/FORMATS.md has journals",
         ReadError::Unlawful(_) => "an entry that applies on the rows, or an undone command",
         ReadError::NoMemory => "",
