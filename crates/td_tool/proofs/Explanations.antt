@@ -1,7 +1,8 @@
 -- The text in which an ending is explained, and what is said of it.
 use Rattle.std.proofs.Common.{◌≡◌, ◌⊎◌, ◌≤◌, ℕ, Bool, true, false, List, [], length, Option}
 use Rattle.std.proofs.Common.{Some, None, IfSome, Result, Ok, Err, IfOk, IfErr, MatchResult, OnOk}
-use Rattle.std.proofs.Common.{String, string_bytes, append-nil, inl, inr, refl, sym, subst, ◌∙◌}
+use Rattle.std.proofs.Common.{OnErr, String, string_bytes, append-nil, inl, inr, refl, sym, subst}
+use Rattle.std.proofs.Common.{◌∙◌}
 use Rattle.std.specs.declared.alloc.Global.{Global}
 use Rattle.td_bytes.specs.Pieces.{AppendsPrefix}
 use Rattle.std.specs.Io.KnownBytes.{Appends, Keeps}
@@ -60,6 +61,13 @@ line_alone true known ending before said line = (
 whole_front : (before said : Option (List ℕ)) (bytes : List ℕ) → Appends before said bytes
     → AppendsPrefix before said bytes
 whole_front before said bytes whole = (bytes, [], sym (append-nil bytes), whole)
+
+-- what is written is a front of what was to be, whether or not the write fails
+pub front_said : {T E : Type 0} (before said : Option (List ℕ)) (bytes : List ℕ) (r : Result T E)
+    → OnOk r (Appends before said bytes) → OnErr r (AppendsPrefix before said bytes)
+    → AppendsPrefix before said bytes
+front_said before said bytes (Ok u) whole front = whole_front before said bytes whole
+front_said before said bytes (Err e) whole front = front
 
 -- a front of the explanation is said
 abbrev pub IsSaidOf : (Role → Option (List ℕ)) → Ending → Option (List ℕ) → Option (List ℕ) → Type 0

@@ -32,6 +32,17 @@ pub struct Counts {
     pub rows: usize,
 }
 
+// How many an archive has.
+fn archive_counts(archive: &Archive<'_, '_>) -> Counts
+    ensures { AreCountsOf archive.now result }
+{
+    Counts {
+        sources: archive.source_count(),
+        binaries: archive.binary_count(),
+        rows: archive.row_count(),
+    }
+}
+
 // What is to be counted, by what two indices were read as.
 fn counts_of(archive: Result<Archive<'_, '_>, ArchiveFault>) -> Result<Counts, Ending>
     ensures counts { IfOk archive.entry (λ a. IsOkAnd result (AreCountsOf a)) }
@@ -39,11 +50,11 @@ fn counts_of(archive: Result<Archive<'_, '_>, ArchiveFault>) -> Result<Counts, E
         result ≡ Err (ending_of (FormFault.Archive fault))) }
 {
     match archive {
-        Ok(archive) => Ok(Counts {
-            sources: archive.source_count(),
-            binaries: archive.binary_count(),
-            rows: archive.row_count(),
-        }),
+        Ok(archive) => {
+            let counts = archive_counts(&archive);
+            drop(archive);
+            Ok(counts)
+        }
         Err(fault) => Err(ending_of_form(FormFault::Archive(fault))),
     }
 }

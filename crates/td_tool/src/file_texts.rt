@@ -26,7 +26,7 @@ pub struct FileTexts {
 }
 
 /// A file that wasn't read, and why.
-#[derive(Clone, Copy, Debug, Drop)]
+#[derive(Clone, Copy, Drop)]
 pub struct FileFault {
     pub role: Role,
     pub fault: TextFault,

@@ -21,7 +21,6 @@ pub struct RunTexts {
 }
 
 /// Reads all of them, before anything is looked at.
-#[tactic(auto, using(crate::proofs::UnreadRuns::run_fails_first, crate::proofs::UnreadRuns::run_fails_state, crate::proofs::UnreadRuns::run_fails_tracker, crate::proofs::UnreadRuns::run_fails_outcomes, crate::proofs::UnreadRuns::run_fails_journal))]
 pub fn read_run_files<T: Texts + Sync>(
     rt: &(impl Threads + Sync),
     alloc: Global,

@@ -64,7 +64,26 @@ fn inputs_of(alloc: Global, texts: RunTexts, request: &RunRequest) -> Result<Inp
     })
 }
 
-// How the script ends that the reader has, by its inputs.
+// How the script ends that the reader has, over its inputs.
+fn play_over<R: Read, W: Write>(
+    rt: &(impl Threads + Wait + Sync),
+    alloc: Global,
+    inputs: &Inputs,
+    builders: usize,
+    reader: &mut R,
+    output: &mut W,
+) -> Ending
+    ensures { PlaysInputs builders inputs.now
+        (R.remaining reader.old) (W.contents output.old) (W.contents output.new) result }
+{
+    if builders == 0 {
+        ending_of_script(run_script(rt, alloc, inputs, reader, output))
+    } else {
+        ending_of_crew(run_crew(rt, alloc, inputs, reader, output))
+    }
+}
+
+// The same, where memory sufficed for the inputs.
 fn play<R: Read, W: Write>(
     rt: &(impl Threads + Wait + Sync),
     alloc: Global,
@@ -81,11 +100,9 @@ fn play<R: Read, W: Write>(
     let Ok(inputs) = inputs else {
         return Ending::NoMemory;
     };
-    if builders == 0 {
-        ending_of_script(run_script(rt, alloc, &inputs, reader, output))
-    } else {
-        ending_of_crew(run_crew(rt, alloc, &inputs, reader, output))
-    }
+    let ending = play_over(rt, alloc, &inputs, builders, reader, output);
+    drop(inputs);
+    ending
 }
 
 // The same, by what was read of the files.

@@ -276,7 +276,11 @@ fn indices_text(
         result ≡ Err (ending_of (FormFault.Archive fault))) }
 {
     match archive {
-        Ok(archive) => archive_text(rt, alloc, &archive, texts, asked),
+        Ok(archive) => {
+            let text = archive_text(rt, alloc, &archive, texts, asked);
+            drop(archive);
+            text
+        }
         Err(fault) => Err(ending_of_form(FormFault::Archive(fault))),
     }
 }

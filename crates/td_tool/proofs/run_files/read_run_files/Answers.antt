@@ -1,8 +1,25 @@
--- `read_run_files`: the clause `failed`.
+-- `read_run_files`: its clauses.
 use Rattle.td_tool.specs.RunInside.{HasRunFailed, run_files_at}
-use Rattle.td_tool.proofs.UnreadRuns.{passed_on, run_fails_tracker, run_fails_outcomes}
-use Rattle.td_tool.proofs.UnreadRuns.{run_fails_journal}
+use Rattle.td_tool.proofs.UnreadRuns.{passed_on, run_fails_first, run_fails_state}
+use Rattle.td_tool.proofs.UnreadRuns.{run_fails_tracker, run_fails_outcomes, run_fails_journal}
 use Rattle.td_tool.proofs.run_files.read_run_files.Goals as goal
+
+pub returns-in_err-indices-clause-failed : goal.returns-in_err-indices-clause-failed
+returns-in_err-indices-clause-failed g c =
+    let files = run_files_at (g.T.Texts.bytes c.args.texts.now)
+    (g.T.Texts.can_fail c.args.texts.now) c.args.request.now in
+    passed_on (HasRunFailed files) c.in_err-indices.field-0.0 c.from_residual.result
+    c.from_residual.ensures.1
+    (run_fails_first files c.in_err-indices.field-0.0 c.in_err-indices.ensures.failed)
+
+pub returns-in_err-state-clause-failed : goal.returns-in_err-state-clause-failed
+returns-in_err-state-clause-failed g c =
+    let files = run_files_at (g.T.Texts.bytes c.args.texts.now)
+    (g.T.Texts.can_fail c.args.texts.now) c.args.request.now in
+    passed_on (HasRunFailed files) c.in_err-state.field-0.0 c.from_residual-in_err-state.result
+    c.from_residual-in_err-state.ensures.1
+    (run_fails_state files c.in_err-state.field-0.0 _ _ _ c.in_ok-indices.ensures.texts
+    c.in_err-state.ensures.failed)
 
 pub returns-in_err-tracker-clause-failed : goal.returns-in_err-tracker-clause-failed
 returns-in_err-tracker-clause-failed g c =
@@ -31,3 +48,12 @@ returns-in_err-journal-clause-failed g c =
     (run_fails_journal files c.in_err-journal.field-0.0 _ _ _ _ _ _ c.in_ok-indices.ensures.texts
     c.in_ok-state.ensures.text c.in_ok-tracker.ensures.text c.in_ok-outcomes.ensures.text
     c.in_err-journal.ensures.failed)
+
+pub returns-clause-texts : goal.returns-clause-texts
+returns-clause-texts g c = (
+  (
+    ((c.in_ok-indices.ensures.texts, c.in_ok-state.ensures.text), c.in_ok-tracker.ensures.text),
+    c.in_ok-outcomes.ensures.text,
+  ),
+  c.in_ok-journal.ensures.text,
+)
