@@ -1,15 +1,17 @@
 //! Builders at a desk: what their work answers. Expected answers are by hand from the tables of
 //! `docs/FORMATS.md`.
-use crate::shop::{Trial, played};
+use crate::shop::{Trial, all_leave};
 use std::alloc::{AllocError, Global};
 use std::test::Fail;
 
-// How builds end, the rows at the opening, the calls, and what the closed desk leaves.
-const WORKS: [(&str, &str, &str, &str); 4] = [
+const WORKS: [(Trial<'static>, &str); 4] = [
     (
-        "foo/amd64 waits : libbar-dev\n",
-        "foo/amd64 Installed 0 0\n",
-        "nmu foo . amd64 => entry 1\nshut => true\nwork => Some(Ok(1))\n",
+        Trial {
+            builders: 1,
+            opening: "foo/amd64 Installed 0 0\n",
+            outcomes: "foo/amd64 waits : libbar-dev\n",
+            script: "nmu foo . amd64 => entry 1\nshut => true\nwork => Some(Ok(1))\n",
+        },
         "closed\nreplayed\ntransdesk journal 2\n\
          1 + nmu foo/amd64\n\
          2 + claim=1 foo/amd64\n\
@@ -17,9 +19,12 @@ const WORKS: [(&str, &str, &str, &str); 4] = [
          foo/amd64 Dep-Wait 0 1 : libbar-dev\n",
     ),
     (
-        "foo/amd64 givenback\nfoo/amd64 built\n",
-        "foo/amd64 Needs-Build 0 0\n",
-        "shut => true\nwork => Some(Ok(2))\nwork => Some(Ok(0))\n",
+        Trial {
+            builders: 1,
+            opening: "foo/amd64 Needs-Build 0 0\n",
+            outcomes: "foo/amd64 givenback\nfoo/amd64 built\n",
+            script: "shut => true\nwork => Some(Ok(2))\nwork => Some(Ok(0))\n",
+        },
         "closed\nreplayed\ntransdesk journal 2\n\
          1 + claim=1 foo/amd64\n\
          2 + givenback=1 foo/amd64\n\
@@ -28,9 +33,12 @@ const WORKS: [(&str, &str, &str, &str); 4] = [
          foo/amd64 Built 0 0\n",
     ),
     (
-        "foo/i386 attempted\nfoo/amd64 givenback\n",
-        "foo/amd64 Needs-Build 0 0\nfoo/i386 Needs-Build 7 0\n",
-        "ready => Ok([1, 0])\nshut => true\nwork => Some(Ok(3))\nready => Ok([])\n",
+        Trial {
+            builders: 1,
+            opening: "foo/amd64 Needs-Build 0 0\nfoo/i386 Needs-Build 7 0\n",
+            outcomes: "foo/i386 attempted\nfoo/amd64 givenback\n",
+            script: "ready => Ok([1, 0])\nshut => true\nwork => Some(Ok(3))\nready => Ok([])\n",
+        },
         "closed\nreplayed\ntransdesk journal 2\n\
          1 + claim=1 foo/i386\n\
          2 + attempted=1 foo/i386\n\
@@ -42,25 +50,19 @@ const WORKS: [(&str, &str, &str, &str); 4] = [
          foo/i386 Build-Attempted 7 0\n",
     ),
     (
-        "",
-        "",
-        "shut => true\nwork => Some(Ok(0))\n",
+        Trial {
+            builders: 1,
+            opening: "",
+            outcomes: "",
+            script: "shut => true\nwork => Some(Ok(0))\n",
+        },
         "closed\nreplayed\ntransdesk journal 2\n",
     ),
 ];
 
 #[test]
 fn a_builder_works_until_nothing_is_ready(rt: HostRuntime) -> Result<(), Fail> {
-    for (outcomes, opening, script, expected) in WORKS {
-        let trial = Trial {
-            builders: 1,
-            opening,
-            outcomes,
-            script,
-        };
-        assert_eq!(rt; played(&rt, rt.alloc(), &trial)?.as_str(), expected);
-    }
-    Ok(())
+    all_leave(&rt, rt.alloc(), &WORKS)
 }
 
 // A line, a thousand times over.
@@ -72,9 +74,9 @@ fn thousand(alloc: Global, line: &str) -> Result<String, AllocError> {
     Ok(text)
 }
 
-// The lines of a thousand builds that are given back.
+// What is left of a thousand builds that are given back, and of the last, which succeeds.
 fn thousand_builds(alloc: Global) -> Result<String, Fail> {
-    let mut text = String::new(alloc);
+    let mut text = String::from_str(alloc, "closed\nreplayed\ntransdesk journal 2\n")?;
     for build in 0..1000u64 {
         write!(
             &mut text,
@@ -83,25 +85,20 @@ fn thousand_builds(alloc: Global) -> Result<String, Fail> {
             build * 2 + 2
         )?;
     }
+    text.push_str("2001 + claim=1 foo/amd64\n2002 + built=1 foo/amd64\n")?;
+    text.push_str("foo/amd64 Built 0 0\n")?;
     Ok(text)
 }
 
 #[test]
 fn a_thousand_lines_are_used_one_by_one(rt: HostRuntime) -> Result<(), Fail> {
     let outcomes = thousand(rt.alloc(), "foo/amd64 givenback\n")?;
+    let expected = thousand_builds(rt.alloc())?;
     let trial = Trial {
         builders: 1,
         opening: "foo/amd64 Needs-Build 0 0\n",
         outcomes: outcomes.as_str(),
         script: "shut => true\nwork => Some(Ok(1001))\n",
     };
-    let found = played(&rt, rt.alloc(), &trial)?;
-    let builds = thousand_builds(rt.alloc())?;
-    let expected = format!(in rt.alloc();
-        "closed\nreplayed\ntransdesk journal 2\n{}\
-         2001 + claim=1 foo/amd64\n2002 + built=1 foo/amd64\nfoo/amd64 Built 0 0\n",
-        builds.as_str()
-    )?;
-    assert_eq!(rt; found.as_str(), expected.as_str());
-    Ok(())
+    all_leave(&rt, rt.alloc(), &[(trial, expected.as_str())])
 }

@@ -1,8 +1,12 @@
 //! What clerks are told, what they read at the desk, and when it is closed. Expected answers are by
 //! hand from the tables of `docs/FORMATS.md`.
 use crate::sample::INSTALLED;
-use crate::shop::{Trial, played};
+use crate::shop::{Trial, all_leave};
+use std::alloc::Global;
+use std::process::Abort;
+use std::sync::Wait;
 use std::test::Fail;
+use std::thread::Threads;
 
 const TWO_CLERKS: &str = "\
 part => true
@@ -28,26 +32,35 @@ foo/amd64 Built 0 1
 foo/i386 Built 0 2
 ";
 
+// That the trial whose script ends so leaves this front before the book.
+fn ends<R: Threads + Wait + Abort + Sync>(
+    rt: &R,
+    alloc: Global,
+    end: &str,
+    front: &str,
+) -> Result<(), Fail> {
+    let script = format!(in alloc; "{TWO_CLERKS}{end}")?;
+    let expected = format!(in alloc; "{front}\n{TWO_CHANGED}")?;
+    let trial = Trial {
+        builders: 1,
+        opening: INSTALLED,
+        outcomes: "",
+        script: script.as_str(),
+    };
+    all_leave(rt, alloc, &[(trial, expected.as_str())])
+}
+
 // Builds are no clerk's change. What the first clerk has in the end stands before the book.
 #[test]
 fn a_desk_is_closed_by_the_receipts_of_all_clerks(rt: HostRuntime) -> Result<(), Fail> {
-    for (end, front) in [
-        ("", "closed"),
-        ("join => true\n", "closed"),
-        ("leave => true\n", "[1023: made 1 foo/amd64 foo/i386;]"),
-    ] {
-        let script = format!(in rt.alloc(); "{TWO_CLERKS}{end}")?;
-        let trial = Trial {
-            builders: 1,
-            opening: INSTALLED,
-            outcomes: "",
-            script: script.as_str(),
-        };
-        let found = played(&rt, rt.alloc(), &trial)?;
-        let expected = format!(in rt.alloc(); "{front}\n{TWO_CHANGED}")?;
-        assert_eq!(rt; found.as_str(), expected.as_str());
-    }
-    Ok(())
+    ends(&rt, rt.alloc(), "", "closed")?;
+    ends(&rt, rt.alloc(), "join => true\n", "closed")?;
+    ends(
+        &rt,
+        rt.alloc(),
+        "leave => true\n",
+        "[1023: made 1 foo/amd64 foo/i386;]",
+    )
 }
 
 const NUMBERED: &str = "\
@@ -94,68 +107,79 @@ row foo/amd64 => foo/amd64 Needs-Build 0 1
 receipts => [1024: made 1 bar/amd64; swept 2;]
 ";
 
+const READ_BACK: [(Trial<'static>, &str); 4] = [
+    (
+        Trial {
+            builders: 1,
+            opening: INSTALLED,
+            outcomes: "",
+            script: "",
+        },
+        "closed\nreplayed\ntransdesk journal 2\n\
+         bar/amd64 Installed 0 0\n\
+         bar/i386 Installed 0 0\n\
+         foo/amd64 Installed 0 0\n\
+         foo/i386 Installed 0 1\n",
+    ),
+    (
+        Trial {
+            builders: 1,
+            opening: INSTALLED,
+            outcomes: "",
+            script: NUMBERED,
+        },
+        "closed\nreplayed\ntransdesk journal 2\n\
+         bar/amd64 Installed 0 0\n\
+         bar/i386 Installed 0 0\n\
+         foo/amd64 Installed 0 0\n\
+         foo/i386 Installed 0 1\n",
+    ),
+    (
+        Trial {
+            builders: 1,
+            opening: INSTALLED,
+            outcomes: "",
+            script: LOOKED_AT,
+        },
+        "closed\nreplayed\ntransdesk journal 2\n\
+         1 - nmu=1 foo/amd64\n\
+         bar/amd64 Installed 0 0\n\
+         bar/i386 Installed 0 0\n\
+         foo/amd64 Installed 0 0\n\
+         foo/i386 Installed 0 1\n",
+    ),
+    (
+        Trial {
+            builders: 1,
+            opening: WAITING,
+            outcomes: "",
+            script: SWEPT,
+        },
+        "closed\nreplayed\ntransdesk journal 2\n\
+         1 + arrive bar/amd64\n\
+         2 + sweep foo/amd64\n\
+         bar/amd64 Installed 0 1\n\
+         foo/amd64 Needs-Build 0 1\n",
+    ),
+];
+
 #[test]
 fn desk_reads_back(rt: HostRuntime) -> Result<(), Fail> {
-    for (opening, script, expected) in [
-        (
-            INSTALLED,
-            "",
-            "closed\nreplayed\ntransdesk journal 2\n\
-             bar/amd64 Installed 0 0\n\
-             bar/i386 Installed 0 0\n\
-             foo/amd64 Installed 0 0\n\
-             foo/i386 Installed 0 1\n",
-        ),
-        (
-            INSTALLED,
-            NUMBERED,
-            "closed\nreplayed\ntransdesk journal 2\n\
-             bar/amd64 Installed 0 0\n\
-             bar/i386 Installed 0 0\n\
-             foo/amd64 Installed 0 0\n\
-             foo/i386 Installed 0 1\n",
-        ),
-        (
-            INSTALLED,
-            LOOKED_AT,
-            "closed\nreplayed\ntransdesk journal 2\n\
-             1 - nmu=1 foo/amd64\n\
-             bar/amd64 Installed 0 0\n\
-             bar/i386 Installed 0 0\n\
-             foo/amd64 Installed 0 0\n\
-             foo/i386 Installed 0 1\n",
-        ),
-        (
-            WAITING,
-            SWEPT,
-            "closed\nreplayed\ntransdesk journal 2\n\
-             1 + arrive bar/amd64\n\
-             2 + sweep foo/amd64\n\
-             bar/amd64 Installed 0 1\n\
-             foo/amd64 Needs-Build 0 1\n",
-        ),
-    ] {
-        let trial = Trial {
-            builders: 1,
-            opening,
-            outcomes: "",
-            script,
-        };
-        assert_eq!(rt; played(&rt, rt.alloc(), &trial)?.as_str(), expected);
-    }
-    Ok(())
+    all_leave(&rt, rt.alloc(), &READ_BACK)
 }
 
 // A ledger has 1,024 parts.
-#[test]
-fn a_clerk_gives_all_parts_away_but_the_last(rt: HostRuntime) -> Result<(), Fail> {
-    let trial = Trial {
+const GIVEN_AWAY: [(Trial<'static>, &str); 1] = [(
+    Trial {
         builders: 1,
         opening: "foo/amd64 Installed 0 0\n",
         outcomes: "",
         script: "receipts => [1024:]\ngive => 1023\nreceipts => [1:]\ngive => 0\npart => false\n",
-    };
-    let expected = "closed\nreplayed\ntransdesk journal 2\nfoo/amd64 Installed 0 0\n";
-    assert_eq!(rt; played(&rt, rt.alloc(), &trial)?.as_str(), expected);
-    Ok(())
+    },
+    "closed\nreplayed\ntransdesk journal 2\nfoo/amd64 Installed 0 0\n",
+)];
+
+#[test]
+fn a_clerk_gives_all_parts_away_but_the_last(rt: HostRuntime) -> Result<(), Fail> {
+    all_leave(&rt, rt.alloc(), &GIVEN_AWAY)
 }

@@ -1,7 +1,7 @@
 //! Builders on threads of their own beside clerks, who command and undo by a fixed sequence of
 //! numbers.
 use crate::people::{Hired, People};
-use crate::sample::TABLE;
+use crate::sample::{TABLE, next_number};
 use crate::tally::{Answer, Tally};
 use std::alloc::Global;
 use std::sync::Wait;
@@ -9,12 +9,12 @@ use std::sync::ledger::Ledger;
 use std::test::Fail;
 use std::thread::Threads;
 use std::{mem, thread};
-use td_book::{Book, CommandRefusal, UndoRefusal};
+use td_book::{Book, CommandRefusal, Taken, UndoRefusal};
 use td_desk::{Clerk, Desk, Named, Receipt};
 use td_journal::EntryNo;
 use td_relation::Archs;
 use td_rows::Key;
-use td_wbread::read_command;
+use td_wbread::{Command, read_command};
 
 // How many rows the builders claim.
 const ROWS: usize = 4;
@@ -82,17 +82,22 @@ fn serve<N: Named, C: Ledger, R: Wait>(
     }
 }
 
-// Whether two entries have a row in common.
-fn have_a_row_in_common(book: &Book<'_>, n: EntryNo, m: EntryNo) -> bool {
-    let (Some(one), Some(other)) = (book.entry(n), book.entry(m)) else {
-        return false;
-    };
-    let keys = other.entry.keys.as_slice();
-    one.entry.keys.as_slice().iter().any(|key| is_in(key, keys))
+// The keys of an entry; none where there is no such entry.
+fn keys_of<'b>(book: &'b Book<'_>, n: EntryNo) -> &'b [Key] {
+    match book.entry(n) {
+        Some(marked) => marked.entry.keys.as_slice(),
+        None => &[],
+    }
 }
 
 fn is_in(key: &Key, keys: &[Key]) -> bool {
     keys.iter().any(|other| *other == *key)
+}
+
+// Whether two entries have a row in common.
+fn have_a_row_in_common(book: &Book<'_>, n: EntryNo, m: EntryNo) -> bool {
+    let keys = keys_of(book, m);
+    keys_of(book, n).iter().any(|key| is_in(key, keys))
 }
 
 // Whether the clerk was told before that the entry is undone.
@@ -140,6 +145,28 @@ fn has_entry<N: Named, C: Ledger, R: Wait>(rt: &R, desk: &Desk<'static, N, C>, n
 }
 
 // A command makes the entry that it answers, or skips each row that it names.
+fn judged<N: Named, C: Ledger, R: Wait>(
+    rt: &R,
+    desk: &Desk<'static, N, C>,
+    told: &Result<Taken, CommandRefusal>,
+) -> Answer {
+    match told {
+        Ok(taken) if has_entry(rt, desk, taken.number) => Answer::Accepted,
+        Err(CommandRefusal::NothingApplies(skips)) if skips.as_slice().len() > 1 => Answer::Refused,
+        _ => Answer::Wrong,
+    }
+}
+
+fn take<N: Named, C: Ledger, R: Wait>(
+    rt: &R,
+    desk: &Desk<'static, N, C>,
+    clerk: &mut Clerk<C>,
+    command: &Command<'_>,
+) -> Answer {
+    let told = desk.command(rt, clerk, command);
+    judged(rt, desk, &told)
+}
+
 fn command<N: Named, C: Ledger, R: Wait>(
     rt: &R,
     alloc: Global,
@@ -148,13 +175,13 @@ fn command<N: Named, C: Ledger, R: Wait>(
     archs: &Archs<'_>,
     line: &str,
 ) -> Answer {
-    let Ok(command) = read_command(alloc, line, archs, &["unstable"]) else {
-        return Answer::Wrong;
-    };
-    match desk.command(rt, clerk, &command) {
-        Ok(taken) if has_entry(rt, desk, taken.number) => Answer::Accepted,
-        Err(CommandRefusal::NothingApplies(skips)) if skips.as_slice().len() > 1 => Answer::Refused,
-        _ => Answer::Wrong,
+    match read_command(alloc, line, archs, &["unstable"]) {
+        Ok(command) => {
+            let answer = take(rt, desk, clerk, &command);
+            drop(command);
+            answer
+        }
+        Err(_) => Answer::Wrong,
     }
 }
 
@@ -227,9 +254,7 @@ fn call_often<N: Named, C: Ledger, R: Wait>(
         if count >= calls && tally.is_busy() {
             return;
         }
-        number = number
-            .wrapping_mul(6_364_136_223_846_793_005)
-            .wrapping_add(1_442_695_040_888_963_407);
+        number = next_number(number);
         tally.note(call(rt, alloc, desk, clerk, &archs, number >> 20));
     }
 }

@@ -1,7 +1,11 @@
 //! Clerks and builders at one desk, each on a thread: the rows are a replay of the journal,
 //! whatever the order was in which they came.
 use crate::shop::{Trial, played};
+use std::alloc::Global;
+use std::process::Abort;
+use std::sync::Wait;
 use std::test::Fail;
+use std::thread::Threads;
 
 const FOUR: &str = "\
 bar/amd64 Needs-Build 0 0
@@ -24,6 +28,20 @@ const CREWS: [(usize, &str); 2] = [
     ),
 ];
 
+// That what the trial leaves begins so.
+fn begins<R: Threads + Wait + Abort + Sync>(
+    rt: &R,
+    alloc: Global,
+    trial: &Trial<'_>,
+    expected: &str,
+) -> Result<(), Fail> {
+    let left = played(rt, alloc, trial)?;
+    let all = left.as_str();
+    let (front, _) = all.split_once("\ntransdesk").unwrap_or((all, ""));
+    assert_eq!(rt; front, expected);
+    Ok(())
+}
+
 #[test]
 fn rows_are_the_replay_of_the_journal_whoever_comes_first(rt: HostRuntime) -> Result<(), Fail> {
     for (builders, script) in CREWS {
@@ -33,12 +51,7 @@ fn rows_are_the_replay_of_the_journal_whoever_comes_first(rt: HostRuntime) -> Re
             outcomes: "",
             script,
         };
-        let found = played(&rt, rt.alloc(), &trial)?;
-        let first = found
-            .as_str()
-            .split_once("\ntransdesk")
-            .unwrap_or((found.as_str(), ""));
-        assert_eq!(rt; first.0, "closed\nreplayed");
+        begins(&rt, rt.alloc(), &trial, "closed\nreplayed")?;
     }
     Ok(())
 }

@@ -1,7 +1,11 @@
 //! Desks over journals that are read again. Expected answers are by hand from `docs/FORMATS.md`.
 use crate::sample::INSTALLED;
 use crate::shop::{Trial, played_on};
+use std::alloc::Global;
+use std::process::Abort;
+use std::sync::Wait;
 use std::test::Fail;
+use std::thread::Threads;
 
 const LEFT: &str = "transdesk journal 1\n1 + nmu foo/amd64\n2 + claim=1 foo/amd64\n";
 
@@ -86,43 +90,46 @@ const JOURNALS: [(&str, &str, &str); 4] = [
     ),
 ];
 
-#[test]
-fn a_desk_goes_on_with_a_journal(rt: HostRuntime) -> Result<(), Fail> {
-    for (journal, script, expected) in JOURNALS {
-        let trial = Trial {
-            builders: 1,
-            opening: INSTALLED,
-            outcomes: "",
-            script,
-        };
-        assert_eq!(rt;
-            played_on(&rt, rt.alloc(), journal, &trial)?.as_str(),
-            expected
-        );
-    }
+fn leaves<R: Threads + Wait + Abort + Sync>(
+    rt: &R,
+    alloc: Global,
+    journal: &str,
+    script: &str,
+    expected: &str,
+) -> Result<(), Fail> {
+    let trial = Trial {
+        builders: 1,
+        opening: INSTALLED,
+        outcomes: "",
+        script,
+    };
+    let left = played_on(rt, alloc, journal, &trial)?;
+    assert_eq!(rt; left.as_str(), expected);
     Ok(())
 }
 
 #[test]
+fn a_desk_goes_on_with_a_journal(rt: HostRuntime) -> Result<(), Fail> {
+    for (journal, script, expected) in JOURNALS {
+        leaves(&rt, rt.alloc(), journal, script, expected)?;
+    }
+    Ok(())
+}
+
+// A text, and why no desk goes on with it.
+const OTHERS: [(&str, &str); 3] = [
+    ("", "BadHeader"),
+    ("transdesk journal 1\n\n", "BadLine(2)"),
+    (
+        "transdesk journal 1\n1 - nmu foo/amd64\n2 + dw foo/amd64 : libbar-dev\n",
+        "Unlawful(2)",
+    ),
+];
+
+#[test]
 fn a_desk_goes_on_with_no_other_text(rt: HostRuntime) -> Result<(), Fail> {
-    for (journal, fault) in [
-        ("", "BadHeader"),
-        ("transdesk journal 1\n\n", "BadLine(2)"),
-        (
-            "transdesk journal 1\n1 - nmu foo/amd64\n2 + dw foo/amd64 : libbar-dev\n",
-            "Unlawful(2)",
-        ),
-    ] {
-        let trial = Trial {
-            builders: 1,
-            opening: INSTALLED,
-            outcomes: "",
-            script: "",
-        };
-        assert_eq!(rt;
-            played_on(&rt, rt.alloc(), journal, &trial)?.as_str(),
-            fault
-        );
+    for (journal, fault) in OTHERS {
+        leaves(&rt, rt.alloc(), journal, "", fault)?;
     }
     Ok(())
 }

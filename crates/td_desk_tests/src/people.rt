@@ -97,14 +97,21 @@ impl<N: Named, C: Ledger> People<N, C> {
     ) -> Result<People<N, C>, Fail>
         requires { All (λ s. s.table ≡ N.table) seats.items }
     {
+        let outcomes = Outcomes::read(alloc, outcomes)?;
         let clerks = alone(alloc, clerk)?;
         let builders = hire(alloc, seats)?;
         Ok(People {
             alloc,
-            outcomes: Outcomes::read(alloc, outcomes)?,
+            outcomes,
             builders,
             clerks,
         })
+    }
+
+    // The clerks, once the builders are gone.
+    pub(crate) fn into_clerks(self) -> Vec<Clerk<C>> {
+        let People { clerks, .. } = self;
+        clerks
     }
 
     // The first clerk gives a part to another, who comes last. Whether there was one to give.
@@ -135,8 +142,10 @@ impl<N: Named, C: Ledger> People<N, C> {
         rt: &R,
         desk: &Desk<'static, N, C>,
     ) -> Option<Result<u64, WorkStop>> {
-        let first = self.builders.first_mut()?;
-        Some(first.work(rt, desk, &self.outcomes))
+        match self.builders.first_mut() {
+            Some(first) => Some(first.work(rt, desk, &self.outcomes)),
+            None => None,
+        }
     }
 
     // The last clerk goes home, with the receipts.

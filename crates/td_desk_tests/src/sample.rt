@@ -1,7 +1,7 @@
 //! What the tests begin with: the rows of the example archive, and what its index offers.
-ghost use Rattle.std.specs.Prelude.{◌≡◌, IfOk};
+ghost use Rattle.std.specs.Prelude.{◌≡◌, IfOk, OnOk};
 ghost use Rattle.td_core.specs.Phases.{NoneBuilt};
-ghost use Rattle.td_supply.specs.Supply.{opened, stock_of};
+ghost use Rattle.td_supply.specs.Supply.{opened, stock_of, unstocked};
 
 use std::alloc::Global;
 use std::test::Fail;
@@ -21,6 +21,13 @@ foo/amd64 Installed 0 0
 foo/i386 Installed 0 1
 ";
 
+// The number behind another in a fixed sequence, by which calls are chosen.
+pub(crate) fn next_number(number: u64) -> u64 {
+    number
+        .wrapping_mul(6_364_136_223_846_793_005)
+        .wrapping_add(1_442_695_040_888_963_407)
+}
+
 // The rows of a state file that is short.
 pub(crate) fn rows(alloc: Global, text: &str) -> Result<Rows, Fail>
     ensures { IfOk result (λ rows. NoneBuilt rows) }
@@ -31,9 +38,10 @@ pub(crate) fn rows(alloc: Global, text: &str) -> Result<Rows, Fail>
     Ok(read_state(alloc, text)?)
 }
 
-// Two sources, and the development files of one of them on two architectures.
-pub(crate) fn supply(alloc: Global) -> Result<Supply<'static>, Fail>
-    ensures { IfOk result (λ supply. supply ≡ opened (stock_of supply)) }
+// Puts up two sources, and the development files of one of them on two architectures.
+fn fill(supply: &mut Supply<'_>) -> Result<(), Fail>
+    requires { supply.old ≡ opened (unstocked supply.old.table) }
+    ensures { OnOk result (supply.new ≡ opened (stock_of supply.new)) }
 {
     let base = Version::read("2.0-1")?;
     let _read = Version::read("1.2-3")?;
@@ -41,10 +49,24 @@ pub(crate) fn supply(alloc: Global) -> Result<Supply<'static>, Fail>
         source: "bar",
         base,
     });
-    let mut supply = Supply::new(alloc, Archs::read(alloc, TABLE)?);
     supply.push_source("bar", "2.0-1")?;
     supply.push_source("foo", "1.2-3")?;
     supply.push("libbar-dev", Some(base), Some(0), build)?;
     supply.push("libbar-dev", Some(base), Some(1), build)?;
-    Ok(supply)
+    Ok(())
+}
+
+// What the index of the example archive offers.
+pub(crate) fn supply(alloc: Global) -> Result<Supply<'static>, Fail>
+    ensures { IfOk result (λ supply. supply ≡ opened (stock_of supply)) }
+{
+    let archs = Archs::read(alloc, TABLE)?;
+    let mut supply = Supply::new(alloc, archs);
+    match fill(&mut supply) {
+        Ok(()) => Ok(supply),
+        Err(fail) => {
+            drop(supply);
+            Err(fail)
+        }
+    }
 }

@@ -2,18 +2,32 @@
 use crate::crew::{Style, crew};
 use crate::people::People;
 use crate::sample::TABLE;
-use crate::spelling::{entry_line, key, number, on_one_line, receipts, row_line, shown, spelled};
+use crate::spelling::{
+    entry_line, key, number, on_one_line, receipts, row_line, shown, spelled, unlike,
+};
 use std::alloc::Global;
 use std::sync::Wait;
 use std::sync::ledger::Ledger;
 use std::test::Fail;
 use std::thread::Threads;
 use td_desk::{Clerk, Desk, Named};
-use td_journal::text;
+use td_journal::{EntryNo, text};
 use td_relation::Archs;
-use td_wbread::read_command;
+use td_wbread::{Command, read_command};
 
 // What a command of a clerk is answered.
+fn take<N: Named, C: Ledger, R: Wait>(
+    rt: &R,
+    alloc: Global,
+    desk: &Desk<'static, N, C>,
+    clerk: &mut Clerk<C>,
+    command: &Command<'_>,
+) -> Result<String, Fail> {
+    let told = desk.command(rt, clerk, command);
+    spelled(alloc, &told)
+}
+
+// The same of its line.
 fn command<N: Named, C: Ledger, R: Wait>(
     rt: &R,
     alloc: Global,
@@ -22,9 +36,14 @@ fn command<N: Named, C: Ledger, R: Wait>(
     line: &str,
 ) -> Result<String, Fail> {
     let archs = Archs::read(alloc, TABLE)?;
-    let command = read_command(alloc, line, &archs, &["unstable"])?;
-    let told = desk.command(rt, clerk, &command);
-    spelled(alloc, &told)
+    match read_command(alloc, line, &archs, &["unstable"]) {
+        Ok(command) => {
+            let told = take(rt, alloc, desk, clerk, &command);
+            drop(command);
+            told
+        }
+        Err(fault) => Err(Fail::from(fault)),
+    }
 }
 
 // What an arrival that a clerk tells of is answered.
@@ -89,6 +108,16 @@ fn journal<N: Named, C: Ledger, R: Wait>(
     Ok(on_one_line(alloc, told.as_str())?)
 }
 
+// The entry that the desk has with a number, as its line.
+fn entry<N: Named, C: Ledger, R: Wait>(
+    rt: &R,
+    alloc: Global,
+    desk: &Desk<'static, N, C>,
+    n: EntryNo,
+) -> Result<String, Fail> {
+    Ok(desk.look(rt, |book| entry_line(alloc, book.entry(n), n))?)
+}
+
 fn row_no<N: Named, C: Ledger>(
     alloc: Global,
     desk: &Desk<'static, N, C>,
@@ -110,50 +139,50 @@ fn key_at<N: Named, C: Ledger>(
     Ok(String::from_str(alloc, name)?)
 }
 
-// What a question is answered.
+// What a line is answered that asks something, or that is a call of the first clerk.
 fn ask<N: Named, C: Ledger, R: Wait>(
     rt: &R,
-    alloc: Global,
     desk: &Desk<'static, N, C>,
-    word: &str,
-    rest: &str,
+    people: &mut People<N, C>,
+    line: &str,
 ) -> Result<String, Fail> {
-    let n = number(rest);
+    let alloc = people.alloc;
+    let (word, rest) = line.split_once(' ').unwrap_or((line, ""));
     match word {
         "row_no" => row_no(alloc, desk, rest),
-        "key_at" => key_at(alloc, desk, n as usize),
+        "key_at" => key_at(alloc, desk, number(rest) as usize),
         "row" => row(rt, alloc, desk, rest),
-        "entry" => Ok(desk.look(rt, |book| entry_line(alloc, book.entry(n), n))?),
+        "entry" => entry(rt, alloc, desk, number(rest)),
         "journal" => journal(rt, alloc, desk),
-        _ => shown(alloc, &desk.ready(rt)),
+        "ready" => shown(alloc, &desk.ready(rt)),
+        _ => call_by(rt, desk, people, 0, line),
     }
 }
 
-// What clerks are answered who do something among themselves.
-fn meet<N: Named, C: Ledger>(people: &mut People<N, C>, word: &str) -> Result<String, Fail> {
-    match word {
+// What a line is answered by which clerks do something among themselves, or any of those.
+fn meet<N: Named, C: Ledger, R: Wait>(
+    rt: &R,
+    desk: &Desk<'static, N, C>,
+    people: &mut People<N, C>,
+    line: &str,
+) -> Result<String, Fail> {
+    match line {
         "part" => shown(people.alloc, &people.part()),
         "join" => shown(people.alloc, &people.join()),
         "leave" => shown(people.alloc, &people.leave()),
         "give" => shown(people.alloc, &people.give()),
-        _ => receipts(people.alloc, &people.clerks),
+        "receipts" => receipts(people.alloc, &people.clerks),
+        _ => ask(rt, desk, people, line),
     }
 }
 
-// What builders are answered.
-fn build<N: Named + Send + Sync, C: Ledger + Send + Sync, R: Threads + Wait + Sync>(
+fn shut<N: Named, C: Ledger, R: Wait>(
     rt: &R,
+    alloc: Global,
     desk: &Desk<'static, N, C>,
-    people: &mut People<N, C>,
-    word: &str,
-    rest: &str,
 ) -> Result<String, Fail> {
-    let alloc = people.alloc;
-    match word {
-        "work" => shown(alloc, &people.work_alone(rt, desk)),
-        "beside" => crew(rt, desk, people, Style::Work, number(rest)),
-        _ => crew(rt, desk, people, Style::Claim, number(rest)),
-    }
+    desk.shut(rt);
+    shown(alloc, &true)
 }
 
 // What a line of a script is answered.
@@ -165,17 +194,12 @@ fn answer<N: Named + Send + Sync, C: Ledger + Send + Sync, R: Threads + Wait + S
 ) -> Result<String, Fail> {
     let (word, rest) = line.split_once(' ').unwrap_or((line, ""));
     match word {
-        "part" | "join" | "leave" | "give" | "receipts" => meet(people, word),
-        "work" | "beside" | "against" => build(rt, desk, people, word, rest),
-        "row_no" | "key_at" | "row" | "entry" | "journal" | "ready" => {
-            ask(rt, people.alloc, desk, word, rest)
-        }
-        "shut" => {
-            desk.shut(rt);
-            shown(people.alloc, &true)
-        }
+        "shut" => shut(rt, people.alloc, desk),
+        "work" => shown(people.alloc, &people.work_alone(rt, desk)),
+        "beside" => crew(rt, desk, people, Style::Work, number(rest)),
+        "against" => crew(rt, desk, people, Style::Claim, number(rest)),
         "second" => call_by(rt, desk, people, 1, rest),
-        _ => call_by(rt, desk, people, 0, line),
+        _ => meet(rt, desk, people, line),
     }
 }
 
@@ -186,12 +210,11 @@ fn otherwise<N: Named + Send + Sync, C: Ledger + Send + Sync, R: Threads + Wait 
     people: &mut People<N, C>,
     line: &str,
 ) -> Result<Option<String>, Fail> {
-    let (call, expected) = line.split_once(" => ").ok_or("a call")?;
+    let Some((call, expected)) = line.split_once(" => ") else {
+        return Err(Fail::from("a call"));
+    };
     let told = answer(rt, desk, people, call)?;
-    if told.as_str() == expected {
-        return Ok(None);
-    }
-    Ok(Some(format!(in people.alloc; "{line}, but {}", told.as_str())?))
+    unlike(people.alloc, line, expected, told.as_str())
 }
 
 // The first line of a script that is answered otherwise, with the answer.

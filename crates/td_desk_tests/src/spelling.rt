@@ -23,14 +23,33 @@ pub(crate) fn shown(alloc: Global, answer: &impl Debug) -> Result<String, Fail> 
     Ok(format!(in alloc; "{answer:?}")?)
 }
 
+// The line of a script, with the answer, where that isn't the expected one.
+pub(crate) fn unlike(
+    alloc: Global,
+    line: &str,
+    expected: &str,
+    told: &str,
+) -> Result<Option<String>, Fail> {
+    if told == expected {
+        return Ok(None);
+    }
+    Ok(Some(format!(in alloc; "{line}, but {told}")?))
+}
+
+// The outcome of `waits` and the relation.
+fn waiting(alloc: Global, text: &str) -> Result<Outcome, Fail> {
+    let relation = text.strip_prefix("waits ").ok_or("an outcome")?;
+    Ok(Outcome::Waits(Line::new(alloc, relation)?))
+}
+
 // The outcome of a word, or of `waits` and the relation.
 pub(crate) fn outcome(alloc: Global, text: &str) -> Result<Outcome, Fail> {
-    Ok(match text {
-        "built" => Outcome::Built,
-        "attempted" => Outcome::Attempted,
-        "givenback" => Outcome::GivenBack,
-        _ => Outcome::Waits(Line::new(alloc, text.strip_prefix("waits ").ok_or("an outcome")?)?),
-    })
+    match text {
+        "built" => Ok(Outcome::Built),
+        "attempted" => Ok(Outcome::Attempted),
+        "givenback" => Ok(Outcome::GivenBack),
+        _ => waiting(alloc, text),
+    }
 }
 
 // The keys and reasons of skips, each behind a comma.
@@ -61,13 +80,14 @@ pub(crate) fn spelled_watch(
     alloc: Global,
     told: &Result<(), WatchRefusal>,
 ) -> Result<String, Fail> {
-    Ok(match told {
-        Ok(()) => format!(in alloc; "watched")?,
-        Err(WatchRefusal::NoSuchRow(key)) => format!(in alloc; "NoSuchRow {}", key.as_str())?,
-        Err(WatchRefusal::Twice(key)) => format!(in alloc; "Twice {}", key.as_str())?,
-        Err(WatchRefusal::BadGroup(key)) => format!(in alloc; "BadGroup {}", key.as_str())?,
-        Err(WatchRefusal::NoMemory) => format!(in alloc; "NoMemory")?,
-    })
+    let (word, key) = match told {
+        Ok(()) => ("watched", ""),
+        Err(WatchRefusal::NoSuchRow(key)) => ("NoSuchRow ", key.as_str()),
+        Err(WatchRefusal::Twice(key)) => ("Twice ", key.as_str()),
+        Err(WatchRefusal::BadGroup(key)) => ("BadGroup ", key.as_str()),
+        Err(WatchRefusal::NoMemory) => ("NoMemory", ""),
+    };
+    Ok(format!(in alloc; "{word}{key}")?)
 }
 
 pub(crate) fn spelled_job(alloc: Global, told: &Result<Job, StartRefusal>) -> Result<String, Fail> {
@@ -126,13 +146,14 @@ fn put_keys(out: &mut String, keys: &[Key]) -> Result<(), AllocError> {
 }
 
 fn put_receipt(out: &mut String, receipt: &Receipt) -> Result<(), Fail> {
-    match receipt {
-        Receipt::Made(n, _, keys) => {
-            write!(out, " made {n}")?;
-            put_keys(out, keys.as_slice())?;
-        }
-        Receipt::Swept(n) => write!(out, " swept {n}")?,
-        Receipt::Undid(n) => write!(out, " undid {n}")?,
+    let word = match receipt {
+        Receipt::Made(_, _, _) => "made",
+        Receipt::Swept(_) => "swept",
+        Receipt::Undid(_) => "undid",
+    };
+    write!(out, " {word} {}", receipt.number())?;
+    if let Receipt::Made(_, _, keys) = receipt {
+        put_keys(out, keys.as_slice())?;
     }
     Ok(out.push(';')?)
 }

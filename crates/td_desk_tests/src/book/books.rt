@@ -1,6 +1,6 @@
 //! That calls succeed with ample memory, and what they answer over the example archive. Expected
 //! answers are the project's own worked examples, by hand from the tables of `docs/FORMATS.md`.
-use super::script::journal_after;
+use super::script::{Played, are_played};
 use crate::sample::INSTALLED;
 use std::test::Fail;
 
@@ -34,34 +34,32 @@ row foo/amd64 => foo/amd64 Installed 0 0
 entry 2 => 2 + nmu foo/i386
 ";
 
+const TAKEN: [Played; 4] = [
+    (
+        INSTALLED,
+        TAKES,
+        "transdesk journal 2\n1 + nmu foo/amd64 foo/i386 : Rebuild against libbar2\n",
+    ),
+    (
+        INSTALLED,
+        SKIPS,
+        "transdesk journal 2\n1 + nmu=1 foo/amd64\n2 + nmu foo/i386\n",
+    ),
+    (
+        "foo/amd64 Installed 0 9999\n",
+        LAST_NUMBER,
+        "transdesk journal 2\n",
+    ),
+    (
+        INSTALLED,
+        CHOSEN_ONCE,
+        "transdesk journal 2\n1 - nmu foo/amd64\n2 + nmu foo/i386\n",
+    ),
+];
+
 #[test]
 fn a_command_takes_rows_and_says_which_it_skips(rt: HostRuntime) -> Result<(), Fail> {
-    for (opening, script, journal) in [
-        (
-            INSTALLED,
-            TAKES,
-            "transdesk journal 2\n1 + nmu foo/amd64 foo/i386 : Rebuild against libbar2\n",
-        ),
-        (
-            INSTALLED,
-            SKIPS,
-            "transdesk journal 2\n1 + nmu=1 foo/amd64\n2 + nmu foo/i386\n",
-        ),
-        (
-            "foo/amd64 Installed 0 9999\n",
-            LAST_NUMBER,
-            "transdesk journal 2\n",
-        ),
-        (
-            INSTALLED,
-            CHOSEN_ONCE,
-            "transdesk journal 2\n1 - nmu foo/amd64\n2 + nmu foo/i386\n",
-        ),
-    ] {
-        let found = journal_after(rt.alloc(), opening, script)?;
-        assert_eq!(rt; found.as_str(), journal);
-    }
-    Ok(())
+    are_played(&rt, rt.alloc(), &TAKEN)
 }
 
 const NUMBER_BACK: &str = "\
@@ -100,30 +98,32 @@ undo 2 => Ok(())
 row foo/amd64 => foo/amd64 Installed 0 0
 ";
 
+const BLOCKED: [Played; 4] = [
+    (
+        INSTALLED,
+        NUMBER_BACK,
+        "transdesk journal 2\n1 - nmu foo/i386\n2 + nmu foo/i386\n",
+    ),
+    (
+        INSTALLED,
+        OTHER_KEYS,
+        "transdesk journal 2\n1 - bp=5 foo/amd64 foo/i386\n2 + nmu bar/amd64 bar/i386\n",
+    ),
+    (
+        INSTALLED,
+        EQUAL_VALUE,
+        "transdesk journal 2\n1 - bp=5 foo/amd64\n2 - bp=5 foo/amd64\n",
+    ),
+    (
+        INSTALLED,
+        OTHER_CELLS,
+        "transdesk journal 2\n1 - nmu foo/amd64\n2 - bp=7 foo/amd64\n",
+    ),
+];
+
 #[test]
 fn an_undo_is_blocked_by_the_last_entry_that_touches(rt: HostRuntime) -> Result<(), Fail> {
-    for (script, journal) in [
-        (
-            NUMBER_BACK,
-            "transdesk journal 2\n1 - nmu foo/i386\n2 + nmu foo/i386\n",
-        ),
-        (
-            OTHER_KEYS,
-            "transdesk journal 2\n1 - bp=5 foo/amd64 foo/i386\n2 + nmu bar/amd64 bar/i386\n",
-        ),
-        (
-            EQUAL_VALUE,
-            "transdesk journal 2\n1 - bp=5 foo/amd64\n2 - bp=5 foo/amd64\n",
-        ),
-        (
-            OTHER_CELLS,
-            "transdesk journal 2\n1 - nmu foo/amd64\n2 - bp=7 foo/amd64\n",
-        ),
-    ] {
-        let found = journal_after(rt.alloc(), INSTALLED, script)?;
-        assert_eq!(rt; found.as_str(), journal);
-    }
-    Ok(())
+    are_played(&rt, rt.alloc(), &BLOCKED)
 }
 
 const BUILT_I386: &str = "\
@@ -169,30 +169,32 @@ row bar/i386 => bar/i386 Installed 0 0
 row foo/amd64 => foo/amd64 Installed 0 0
 ";
 
+const CLAIMED: [Played; 4] = [
+    (
+        BUILT_I386,
+        WON,
+        "transdesk journal 2\n1 + nmu bar/amd64 bar/i386 foo/amd64\n2 + claim=1 bar/i386\n",
+    ),
+    (
+        BUILT_I386,
+        WON_FIRST,
+        "transdesk journal 2\n1 + nmu bar/amd64 bar/i386 foo/amd64\n2 + claim=1 bar/amd64\n",
+    ),
+    (
+        BUILT_I386,
+        WON_LAST,
+        "transdesk journal 2\n1 + nmu bar/amd64 bar/i386 foo/amd64\n2 + claim=1 foo/amd64\n",
+    ),
+    (
+        BUILT_I386,
+        TOO_LATE,
+        "transdesk journal 2\n1 - nmu bar/amd64 bar/i386 foo/amd64\n",
+    ),
+];
+
 #[test]
 fn a_claim_that_a_builder_has_won_blocks_an_undo(rt: HostRuntime) -> Result<(), Fail> {
-    for (script, journal) in [
-        (
-            WON,
-            "transdesk journal 2\n1 + nmu bar/amd64 bar/i386 foo/amd64\n2 + claim=1 bar/i386\n",
-        ),
-        (
-            WON_FIRST,
-            "transdesk journal 2\n1 + nmu bar/amd64 bar/i386 foo/amd64\n2 + claim=1 bar/amd64\n",
-        ),
-        (
-            WON_LAST,
-            "transdesk journal 2\n1 + nmu bar/amd64 bar/i386 foo/amd64\n2 + claim=1 foo/amd64\n",
-        ),
-        (
-            TOO_LATE,
-            "transdesk journal 2\n1 - nmu bar/amd64 bar/i386 foo/amd64\n",
-        ),
-    ] {
-        let found = journal_after(rt.alloc(), BUILT_I386, script)?;
-        assert_eq!(rt; found.as_str(), journal);
-    }
-    Ok(())
+    are_played(&rt, rt.alloc(), &CLAIMED)
 }
 
 const NEEDS_BUILD: &str = "foo/amd64 Needs-Build 0 1\n";
@@ -250,55 +252,53 @@ claim 3 foo/amd64 => true
 finish 3 built => Ok(7)
 ";
 
+const BUILT: [Played; 5] = [
+    (
+        INSTALLED,
+        WAITS,
+        "transdesk journal 2\n\
+         1 + nmu foo/amd64\n\
+         2 + claim=1 foo/amd64\n\
+         3 + waits=1 foo/amd64 : libbar-dev (>= 3)\n",
+    ),
+    (
+        INSTALLED,
+        WAITS_WITH_EXTRA,
+        "transdesk journal 2\n\
+         1 + nmu foo/amd64 ;5 libxx : x\n\
+         2 + claim=1 foo/amd64\n\
+         3 + waits=1 foo/amd64 : libbar-dev (>= 3)\n",
+    ),
+    (
+        NEEDS_FIRST_BUILD,
+        NOTED_BY_A_COMMAND,
+        "transdesk journal 2\n1 + claim=1 foo/amd64\n",
+    ),
+    (
+        NEEDS_BUILD,
+        PRIORITY_BACK,
+        "transdesk journal 2\n\
+         1 - bp=5 foo/amd64\n\
+         2 + claim=1 foo/amd64\n\
+         3 + built=1 foo/amd64\n",
+    ),
+    (
+        NEEDS_BUILD,
+        GIVEN_BACK,
+        "transdesk journal 2\n\
+         1 + claim=2 foo/amd64\n\
+         2 + givenback=2 foo/amd64\n\
+         3 + claim=1 foo/amd64\n\
+         4 + attempted=1 foo/amd64\n\
+         5 + gb foo/amd64\n\
+         6 + claim=3 foo/amd64\n\
+         7 + built=3 foo/amd64\n",
+    ),
+];
+
 #[test]
 fn a_build_goes_from_its_claim_to_its_outcome(rt: HostRuntime) -> Result<(), Fail> {
-    for (opening, script, journal) in [
-        (
-            INSTALLED,
-            WAITS,
-            "transdesk journal 2\n\
-             1 + nmu foo/amd64\n\
-             2 + claim=1 foo/amd64\n\
-             3 + waits=1 foo/amd64 : libbar-dev (>= 3)\n",
-        ),
-        (
-            INSTALLED,
-            WAITS_WITH_EXTRA,
-            "transdesk journal 2\n\
-             1 + nmu foo/amd64 ;5 libxx : x\n\
-             2 + claim=1 foo/amd64\n\
-             3 + waits=1 foo/amd64 : libbar-dev (>= 3)\n",
-        ),
-        (
-            NEEDS_FIRST_BUILD,
-            NOTED_BY_A_COMMAND,
-            "transdesk journal 2\n1 + claim=1 foo/amd64\n",
-        ),
-        (
-            NEEDS_BUILD,
-            PRIORITY_BACK,
-            "transdesk journal 2\n\
-             1 - bp=5 foo/amd64\n\
-             2 + claim=1 foo/amd64\n\
-             3 + built=1 foo/amd64\n",
-        ),
-        (
-            NEEDS_BUILD,
-            GIVEN_BACK,
-            "transdesk journal 2\n\
-             1 + claim=2 foo/amd64\n\
-             2 + givenback=2 foo/amd64\n\
-             3 + claim=1 foo/amd64\n\
-             4 + attempted=1 foo/amd64\n\
-             5 + gb foo/amd64\n\
-             6 + claim=3 foo/amd64\n\
-             7 + built=3 foo/amd64\n",
-        ),
-    ] {
-        let found = journal_after(rt.alloc(), opening, script)?;
-        assert_eq!(rt; found.as_str(), journal);
-    }
-    Ok(())
+    are_played(&rt, rt.alloc(), &BUILT)
 }
 
 const UPLOADED: &str = "\
@@ -335,31 +335,29 @@ entry 1 => 1 + nmu foo/amd64 ;24 libbar-dev (>= 2.0-1+b1) : Rebuild
 undo 1 => Err(Blocked(4))
 ";
 
+const FREED: [Played; 2] = [
+    (
+        UPLOADED,
+        SWEPT,
+        "transdesk journal 2\n\
+         1 + dw foo/amd64 : libbar-dev (>= 2.0-1+b1)\n\
+         2 + arrive bar/amd64\n\
+         3 + sweep foo/amd64\n",
+    ),
+    (
+        UPLOADED_FIRST,
+        SWEPT_WITH_EXTRA,
+        "transdesk journal 2\n\
+         1 + nmu foo/amd64 ;24 libbar-dev (>= 2.0-1+b1) : Rebuild\n\
+         2 + dw foo/amd64 : libbar-dev (>= 2)\n\
+         3 + arrive bar/amd64\n\
+         4 + sweep foo/amd64\n",
+    ),
+];
+
 #[test]
 fn a_sweep_frees_the_rows_whose_wait_an_arrival_ends(rt: HostRuntime) -> Result<(), Fail> {
-    for (opening, script, journal) in [
-        (
-            UPLOADED,
-            SWEPT,
-            "transdesk journal 2\n\
-             1 + dw foo/amd64 : libbar-dev (>= 2.0-1+b1)\n\
-             2 + arrive bar/amd64\n\
-             3 + sweep foo/amd64\n",
-        ),
-        (
-            UPLOADED_FIRST,
-            SWEPT_WITH_EXTRA,
-            "transdesk journal 2\n\
-             1 + nmu foo/amd64 ;24 libbar-dev (>= 2.0-1+b1) : Rebuild\n\
-             2 + dw foo/amd64 : libbar-dev (>= 2)\n\
-             3 + arrive bar/amd64\n\
-             4 + sweep foo/amd64\n",
-        ),
-    ] {
-        let found = journal_after(rt.alloc(), opening, script)?;
-        assert_eq!(rt; found.as_str(), journal);
-    }
-    Ok(())
+    are_played(&rt, rt.alloc(), &FREED)
 }
 
 const IN_ORDER: &str = "\
@@ -377,15 +375,18 @@ ready => Ok([3, 1, 2, 0])
 ";
 
 // The rows have the numbers 0 to 3 in the order of their keys.
+const READY: [Played; 1] = [(
+    INSTALLED,
+    IN_ORDER,
+    "transdesk journal 2\n\
+     1 + nmu bar/amd64 bar/i386 foo/amd64 foo/i386\n\
+     2 + bp=5 foo/i386\n\
+     3 + bp=-5 bar/amd64\n\
+     4 + claim=1 foo/i386\n\
+     5 + givenback=1 foo/i386\n",
+)];
+
 #[test]
 fn rows_are_ready_by_priority_and_then_by_key(rt: HostRuntime) -> Result<(), Fail> {
-    let journal = "transdesk journal 2\n\
-         1 + nmu bar/amd64 bar/i386 foo/amd64 foo/i386\n\
-         2 + bp=5 foo/i386\n\
-         3 + bp=-5 bar/amd64\n\
-         4 + claim=1 foo/i386\n\
-         5 + givenback=1 foo/i386\n";
-    let found = journal_after(rt.alloc(), INSTALLED, IN_ORDER)?;
-    assert_eq!(rt; found.as_str(), journal);
-    Ok(())
+    are_played(&rt, rt.alloc(), &READY)
 }

@@ -1,10 +1,11 @@
 //! A book over the example archive, with its board and three builders; and a call of each kind.
-ghost use Rattle.std.specs.Prelude.{◌≡◌, IfOk, length};
+ghost use Rattle.std.specs.Prelude.{◌≡◌, All, IfOk, length};
 ghost use Rattle.td_board.specs.Knowledge.{new_desk};
 ghost use Rattle.td_core.specs.Phases.{NoneBuilt};
 ghost use Rattle.td_supply.specs.Supply.{opened, stock_of};
 
-use crate::sample::{TABLE, rows, supply};
+use crate::sample::TABLE;
+use crate::shop::{Shop, furnished};
 use crate::spelling::{
     entry_line, key, outcome, row_line, shown, spelled, spelled_job, spelled_watch,
 };
@@ -12,17 +13,16 @@ use std::alloc::Global;
 use std::test::Fail;
 use td_board::{Board, BuilderSeat, DeskSeat, Hand};
 use td_book::Book;
-use td_journal::{EntryNo, text};
+use td_journal::{EntryNo, ReadError, text};
 use td_relation::Archs;
 use td_rows::{Key, Outcome, Rows};
 use td_supply::Supply;
-use td_wbread::read_command;
+use td_wbread::{Command, read_command};
 
 // A book over the example archive, with its board and three builders.
 #[derive(Drop)]
 pub(crate) struct Desk {
     pub(crate) alloc: Global,
-    archs: Archs<'static>,
     board: Board,
     pub(crate) book: Book<'static>,
     one: BuilderSeat,
@@ -49,26 +49,31 @@ fn open_book(
     requires fresh_supply { supply ≡ opened (stock_of supply) }
     ensures { IfOk result (λ book. book.fixed.table ≡ board.now.table) }
 {
-    let Some(text) = journal else {
-        return Ok(Book::open(alloc, board, seat, rows, supply)?);
-    };
-    Ok(Book::reopen(alloc, board, seat, rows, supply, text)?)
+    match journal {
+        Some(text) => Book::reopen(alloc, board, seat, rows, supply, text).map_err(Fail::from),
+        None => Book::open(alloc, board, seat, rows, supply).map_err(Fail::from),
+    }
 }
 
-// A desk that opens with these rows, over a journal where one is given.
-pub(crate) fn open_desk(alloc: Global, opening: &str, journal: Option<&str>) -> Result<Desk, Fail> {
-    let rows = rows(alloc, opening)?;
-    let supply = supply(alloc)?;
-    let archs = Archs::read(alloc, TABLE)?;
-    let (board, seat, mut builders) = Board::make(alloc, rows.len(), 3)?;
+// A desk with this book, and three of these builders.
+fn seated(
+    alloc: Global,
+    board: Board,
+    book: Book<'static>,
+    builders: Vec<BuilderSeat>,
+) -> Result<Desk, Fail>
+    requires book { book.fixed.table ≡ board.table }
+    requires builders { All (λ s. s.table ≡ board.table) builders.items }
+{
+    let mut builders = builders;
     let (Some(three), Some(two), Some(one)) = (builders.pop(), builders.pop(), builders.pop())
     else {
+        drop(book);
+        drop(board);
         return Err(Fail::from("three builders"));
     };
-    let book = open_book(alloc, &board, seat, rows, supply, journal)?;
     Ok(Desk {
         alloc,
-        archs,
         board,
         book,
         one,
@@ -77,31 +82,96 @@ pub(crate) fn open_desk(alloc: Global, opening: &str, journal: Option<&str>) -> 
     })
 }
 
-// Why a text isn't a journal's over these rows; or the journal that a book has with it.
-pub(crate) fn refusal_of(alloc: Global, opening: &str, journal: &str) -> Result<String, Fail> {
-    let rows = rows(alloc, opening)?;
-    let supply = supply(alloc)?;
-    let (board, seat, _builders) = Board::make(alloc, rows.len(), 3)?;
-    match Book::reopen(alloc, &board, seat, rows, supply, journal) {
+// A desk with what it opens with, over a journal where one is given.
+fn desk_of(alloc: Global, shop: Shop, journal: Option<&str>) -> Result<Desk, Fail> {
+    let Shop {
+        board,
+        seat,
+        builders,
+        rows,
+        supply,
+    } = shop;
+    match open_book(alloc, &board, seat, rows, supply, journal) {
+        Ok(book) => seated(alloc, board, book, builders),
+        Err(fail) => {
+            drop(builders);
+            drop(board);
+            Err(fail)
+        }
+    }
+}
+
+// A desk that opens with these rows, over a journal where one is given.
+pub(crate) fn open_desk(alloc: Global, opening: &str, journal: Option<&str>) -> Result<Desk, Fail> {
+    match furnished(alloc, opening, 3) {
+        Ok(shop) => desk_of(alloc, shop, journal),
+        Err(fail) => Err(fail),
+    }
+}
+
+// The journal that the book has, or why there is none.
+fn journal_or_refusal(
+    alloc: Global,
+    begun: &Result<Book<'static>, ReadError>,
+) -> Result<String, Fail> {
+    match begun {
         Ok(book) => Ok(text(alloc, book.journal())?),
-        Err(refusal) => shown(alloc, &refusal),
+        Err(refusal) => shown(alloc, refusal),
+    }
+}
+
+// Why a text isn't a journal's over what a book opens with; or the journal that a book has with it.
+fn refusal_at(alloc: Global, shop: Shop, journal: &str) -> Result<String, Fail> {
+    let Shop {
+        board,
+        seat,
+        builders,
+        rows,
+        supply,
+    } = shop;
+    drop(builders);
+    let begun = Book::reopen(alloc, &board, seat, rows, supply, journal);
+    drop(board);
+    let told = journal_or_refusal(alloc, &begun);
+    drop(begun);
+    told
+}
+
+// The same over these rows.
+pub(crate) fn refusal_of(alloc: Global, opening: &str, journal: &str) -> Result<String, Fail> {
+    match furnished(alloc, opening, 3) {
+        Ok(shop) => refusal_at(alloc, shop, journal),
+        Err(fail) => Err(fail),
     }
 }
 
 impl Desk {
-    // What a command line is answered.
-    pub(crate) fn command(&mut self, line: &str) -> Result<String, Fail> {
-        let command = read_command(self.alloc, line, &self.archs, &["unstable"])?;
-        let told = self.book.command(&self.board, &command);
+    // What a command is answered.
+    fn take(&mut self, command: &Command<'_>) -> Result<String, Fail> {
+        let told = self.book.command(&self.board, command);
         spelled(self.alloc, &told)
+    }
+
+    // The same of its line.
+    pub(crate) fn command(&mut self, line: &str) -> Result<String, Fail> {
+        let archs = Archs::read(self.alloc, TABLE)?;
+        match read_command(self.alloc, line, &archs, &["unstable"]) {
+            Ok(command) => {
+                let told = self.take(&command);
+                drop(command);
+                told
+            }
+            Err(fault) => Err(Fail::from(fault)),
+        }
     }
 
     // Whether the builder's claim of a key's row wins.
     pub(crate) fn claim(&mut self, builder: u64, text: &str) -> Result<String, Fail> {
         let key = key(self.alloc, text)?;
-        let row = self.book.rows().number(&key).ok_or("a row")?;
-        let claimed = self.claim_row(builder, row);
-        shown(self.alloc, &claimed)
+        let Some(row) = self.book.rows().number(&key) else {
+            return Err(Fail::from("a row"));
+        };
+        shown(self.alloc, &self.claim_row(builder, row))
     }
 
     fn claim_row(&mut self, builder: u64, row: usize) -> bool {

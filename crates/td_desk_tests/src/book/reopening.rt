@@ -1,6 +1,6 @@
 //! Books over journals that are read again: what builds are given back, and what texts are refused.
 use super::desk::refusal_of;
-use super::script::journal_behind;
+use super::script::journal_after;
 use crate::sample::INSTALLED;
 use std::test::Fail;
 
@@ -33,50 +33,56 @@ start 1 => foo/i386 1.2-3+b2 2 ()
 undo 1 => Err(Blocked(7))
 ";
 
+// A journal, a script at a desk over it, and the journal after that.
+const LEFT: [(&str, &str, &str); 2] = [
+    (
+        ONE_LEFT,
+        AFTER_ONE_LEFT,
+        "transdesk journal 2\n\
+         1 + nmu foo/amd64\n\
+         2 + claim=1 foo/amd64\n\
+         3 + givenback=1 foo/amd64\n\
+         4 + claim=2 foo/amd64\n\
+         5 + built=2 foo/amd64\n",
+    ),
+    (
+        TWO_LEFT,
+        AFTER_TWO_LEFT,
+        "transdesk journal 2\n\
+         1 + nmu bar/amd64 foo/i386\n\
+         2 + claim=1 foo/i386\n\
+         3 + claim=1 bar/amd64\n\
+         4 - bp=5 foo/amd64\n\
+         5 + givenback=1 bar/amd64\n\
+         6 + givenback=1 foo/i386\n\
+         7 + claim=1 foo/i386\n",
+    ),
+];
+
 #[test]
 fn a_build_that_a_journal_left_is_given_back(rt: HostRuntime) -> Result<(), Fail> {
-    for (left, script, journal) in [
-        (
-            ONE_LEFT,
-            AFTER_ONE_LEFT,
-            "transdesk journal 2\n\
-             1 + nmu foo/amd64\n\
-             2 + claim=1 foo/amd64\n\
-             3 + givenback=1 foo/amd64\n\
-             4 + claim=2 foo/amd64\n\
-             5 + built=2 foo/amd64\n",
-        ),
-        (
-            TWO_LEFT,
-            AFTER_TWO_LEFT,
-            "transdesk journal 2\n\
-             1 + nmu bar/amd64 foo/i386\n\
-             2 + claim=1 foo/i386\n\
-             3 + claim=1 bar/amd64\n\
-             4 - bp=5 foo/amd64\n\
-             5 + givenback=1 bar/amd64\n\
-             6 + givenback=1 foo/i386\n\
-             7 + claim=1 foo/i386\n",
-        ),
-    ] {
-        let found = journal_behind(rt.alloc(), INSTALLED, left, script)?;
-        assert_eq!(rt; found.as_str(), journal);
+    for (left, script, journal) in &LEFT {
+        let found = journal_after(rt.alloc(), INSTALLED, Some(left), script)?;
+        assert_eq!(rt; found.as_str(), *journal);
     }
     Ok(())
 }
 
+// A text, and why it isn't a journal's.
+const REFUSED: [(&str, &str); 3] = [
+    ("", "BadHeader"),
+    ("transdesk journal 1\n\n", "BadLine(2)"),
+    (
+        "transdesk journal 1\n1 - nmu foo/amd64\n2 + dw foo/amd64 : libbar-dev\n",
+        "Unlawful(2)",
+    ),
+];
+
 #[test]
 fn a_text_that_is_no_journal_opens_no_book(rt: HostRuntime) -> Result<(), Fail> {
-    for (text, refusal) in [
-        ("", "BadHeader"),
-        ("transdesk journal 1\n\n", "BadLine(2)"),
-        (
-            "transdesk journal 1\n1 - nmu foo/amd64\n2 + dw foo/amd64 : libbar-dev\n",
-            "Unlawful(2)",
-        ),
-    ] {
+    for (text, refusal) in &REFUSED {
         let found = refusal_of(rt.alloc(), INSTALLED, text)?;
-        assert_eq!(rt; found.as_str(), refusal);
+        assert_eq!(rt; found.as_str(), *refusal);
     }
     Ok(())
 }

@@ -1,17 +1,25 @@
 //! The reader of scripts: a line is a call, and behind `=>` what it is answered.
 use super::desk::{Desk, open_desk};
-use crate::spelling::{key, number};
+use crate::spelling::{key, number, unlike};
 use std::alloc::Global;
+use std::process::Abort;
 use std::test::Fail;
 use td_journal::text;
 use td_rows::Key;
 
-// The rows of words `source/arch=group`, with their groups.
+// The row of a word `source/arch=group`, with its group.
+fn group(alloc: Global, word: &str) -> Result<(Key, usize), Fail> {
+    let Some((name, group)) = word.split_once('=') else {
+        return Err(Fail::from("a group"));
+    };
+    Ok((key(alloc, name)?, number(group) as usize))
+}
+
+// The rows of words, with their groups.
 fn groups(alloc: Global, words: &str) -> Result<Vec<(Key, usize)>, Fail> {
     let mut rows = Vec::new(alloc);
     for word in words.split(' ') {
-        let (name, group) = word.split_once('=').ok_or("a group")?;
-        rows.push((key(alloc, name)?, number(group) as usize))?;
+        rows.push(group(alloc, word)?)?;
     }
     Ok(rows)
 }
@@ -33,24 +41,15 @@ fn build(desk: &mut Desk, word: &str, rest: &str) -> Result<String, Fail> {
     }
 }
 
-// What a call that changes the book is answered.
-fn change(desk: &mut Desk, word: &str, rest: &str) -> Result<String, Fail> {
-    match word {
-        "undo" => desk.undo(number(rest)),
-        "arrive" => desk.arrive(rest),
-        "sweep" => desk.sweep(),
-        "watch" => watch(desk, rest),
-        _ => desk.release(),
-    }
-}
-
-// What a question is answered.
-fn ask(desk: &Desk, word: &str, rest: &str) -> Result<String, Fail> {
+// What a line is answered that asks something, or that is a command.
+fn ask(desk: &mut Desk, line: &str) -> Result<String, Fail> {
+    let (word, rest) = line.split_once(' ').unwrap_or((line, ""));
     match word {
         "row" => desk.row(rest),
         "entry" => desk.entry(number(rest)),
         "installed" => desk.installed(number(rest) as usize),
-        _ => desk.ready(),
+        "ready" => desk.ready(),
+        _ => desk.command(line),
     }
 }
 
@@ -59,20 +58,22 @@ pub(crate) fn answer(desk: &mut Desk, line: &str) -> Result<String, Fail> {
     let (word, rest) = line.split_once(' ').unwrap_or((line, ""));
     match word {
         "claim" | "start" | "finish" => build(desk, word, rest),
-        "gb" | "nmu" | "bp" | "dw" => desk.command(line),
-        "row" | "entry" | "installed" | "ready" => ask(desk, word, rest),
-        _ => change(desk, word, rest),
+        "undo" => desk.undo(number(rest)),
+        "arrive" => desk.arrive(rest),
+        "sweep" => desk.sweep(),
+        "watch" => watch(desk, rest),
+        "release" => desk.release(),
+        _ => ask(desk, line),
     }
 }
 
 // The line of a script that is answered otherwise, with the answer.
 fn otherwise(desk: &mut Desk, line: &str) -> Result<Option<String>, Fail> {
-    let (call, expected) = line.split_once(" => ").ok_or("a call")?;
+    let Some((call, expected)) = line.split_once(" => ") else {
+        return Err(Fail::from("a call"));
+    };
     let told = answer(desk, call)?;
-    if told.as_str() == expected {
-        return Ok(None);
-    }
-    Ok(Some(format!(in desk.alloc; "{line}, but {}", told.as_str())?))
+    unlike(desk.alloc, line, expected, told.as_str())
 }
 
 // The first line of a script that is answered otherwise, with the answer; or the journal.
@@ -85,20 +86,31 @@ fn journal_of(desk: &mut Desk, script: &str) -> Result<String, Fail> {
     Ok(text(desk.alloc, desk.book.journal())?)
 }
 
-// The journal after a script that begins with these rows; or its first line that is answered
-// otherwise, with the answer.
-pub(crate) fn journal_after(alloc: Global, opening: &str, script: &str) -> Result<String, Fail> {
-    let mut desk = open_desk(alloc, opening, None)?;
-    journal_of(&mut desk, script)
-}
-
-// The same, where the desk opens over a journal.
-pub(crate) fn journal_behind(
+// The journal after a script at a desk that opens with these rows, over a journal where one is
+// given; or its first line that is answered otherwise, with the answer.
+pub(crate) fn journal_after(
     alloc: Global,
     opening: &str,
-    journal: &str,
+    journal: Option<&str>,
     script: &str,
 ) -> Result<String, Fail> {
-    let mut desk = open_desk(alloc, opening, Some(journal))?;
-    journal_of(&mut desk, script)
+    match open_desk(alloc, opening, journal) {
+        Ok(mut desk) => {
+            let journal = journal_of(&mut desk, script);
+            drop(desk);
+            journal
+        }
+        Err(fail) => Err(fail),
+    }
+}
+
+// The rows with which a desk opens, a script, and the journal after it.
+pub(crate) type Played = (&'static str, &'static str, &'static str);
+
+pub(crate) fn are_played(rt: &impl Abort, alloc: Global, played: &[Played]) -> Result<(), Fail> {
+    for (opening, script, journal) in played {
+        let found = journal_after(alloc, opening, None, script)?;
+        assert_eq!(rt; found.as_str(), *journal);
+    }
+    Ok(())
 }

@@ -1,6 +1,6 @@
 //! Rows that are watched under groups: their counts as the rows change, and what isn't watched. By
 //! hand from the rows of the example archive whose transition has two levels.
-use super::script::journal_after;
+use super::script::{Played, are_played};
 use std::test::Fail;
 
 // The rows of that archive.
@@ -50,23 +50,26 @@ undo 1 => Ok(())
 installed 0 => Some(2)
 ";
 
+const COUNTED: [Played; 2] = [
+    (
+        TWO_LEVELS,
+        WATCHED,
+        "transdesk journal 2\n\
+         1 - nmu qb/amd64\n\
+         2 + nmu qb/amd64 rc/amd64 te/amd64\n\
+         3 + nmu sd/amd64\n\
+         4 + claim=1 rc/amd64\n\
+         5 + built=1 rc/amd64\n\
+         6 + arrive rc/amd64\n",
+    ),
+    (
+        TWO_LEVELS,
+        WATCHED_ANEW,
+        "transdesk journal 2\n1 - nmu qb/amd64\n",
+    ),
+];
+
 #[test]
 fn installed_rows_are_counted_by_group_as_they_change(rt: HostRuntime) -> Result<(), Fail> {
-    for (script, journal) in [
-        (
-            WATCHED,
-            "transdesk journal 2\n\
-             1 - nmu qb/amd64\n\
-             2 + nmu qb/amd64 rc/amd64 te/amd64\n\
-             3 + nmu sd/amd64\n\
-             4 + claim=1 rc/amd64\n\
-             5 + built=1 rc/amd64\n\
-             6 + arrive rc/amd64\n",
-        ),
-        (WATCHED_ANEW, "transdesk journal 2\n1 - nmu qb/amd64\n"),
-    ] {
-        let found = journal_after(rt.alloc(), TWO_LEVELS, script)?;
-        assert_eq!(rt; found.as_str(), journal);
-    }
-    Ok(())
+    are_played(&rt, rt.alloc(), &COUNTED)
 }
