@@ -1,4 +1,5 @@
 //! Which of two faulty files of a run is told of: the earlier one, in the order of docs/FORMATS.md.
+use crate::trials::empty;
 use std::alloc::{AllocError, Global};
 use std::sync::Wait;
 use std::test::Fail;
@@ -16,21 +17,6 @@ const ROLES: [Role; 7] = [
     Role::Outcomes,
     Role::Journal,
 ];
-
-// An archive without sources, and a builder.
-fn inputs(alloc: Global) -> Inputs {
-    Inputs {
-        archs: String::new(alloc),
-        packages: String::new(alloc),
-        sources: String::new(alloc),
-        state: None,
-        tracker: None,
-        journal: None,
-        suite: String::new(alloc),
-        outcomes: None,
-        builders: 1,
-    }
-}
 
 // Gives the file of a role a text that has none of the seven forms.
 fn spoil(alloc: Global, inputs: &mut Inputs, role: Role) -> Result<(), AllocError> {
@@ -65,7 +51,7 @@ fn told_first(
     first: Role,
     second: Role,
 ) -> Result<Option<Role>, AllocError> {
-    let mut inputs = inputs(alloc);
+    let mut inputs = empty(alloc, 1);
     let spoilt = spoil(alloc, &mut inputs, first).and(spoil(alloc, &mut inputs, second));
     let mut script = "".as_bytes();
     let mut written = Vec::new(alloc);

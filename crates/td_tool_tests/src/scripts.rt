@@ -1,7 +1,7 @@
 //! What no clause can say: that a script is answered where nothing fails, and each fault where it
 //! is due. The scripts and their answers are this project's worked examples, as in `examples/`.
 use crate::streams::{Drip, Narrow};
-use crate::trials::{PLAIN, Trial, inputs, spelled};
+use crate::trials::{PLAIN, Trial, empty, inputs, spelled};
 use std::alloc::{AllocError, Global};
 use std::process::Abort;
 use std::test::Fail;
@@ -252,17 +252,10 @@ fn a_report_is_of_the_rows_as_they_are(rt: HostRuntime) -> Result<(), Fail> {
 // A desk over empty files, with a tracker.
 fn over_nothing(alloc: Global) -> Result<Inputs, AllocError> {
     let tracker = "title = \"T\"; is_affected = true; is_good = false; is_bad = false;";
-    Ok(Inputs {
-        archs: String::new(alloc),
-        packages: String::new(alloc),
-        sources: String::new(alloc),
-        state: None,
-        tracker: Some(String::from_str(alloc, tracker)?),
-        journal: None,
-        suite: String::from_str(alloc, "unstable")?,
-        outcomes: None,
-        builders: 0,
-    })
+    let tracker = String::from_str(alloc, tracker)?;
+    let mut inputs = empty(alloc, 0);
+    inputs.tracker = Some(tracker);
+    Ok(inputs)
 }
 
 // What comes of a script there.

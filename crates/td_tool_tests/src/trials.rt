@@ -36,6 +36,21 @@ fn owned(alloc: Global, text: Option<&str>) -> Result<Option<String>, AllocError
     }
 }
 
+// An archive without sources, with less than 65 builders.
+pub(crate) fn empty(alloc: Global, builders: u8) -> Inputs {
+    Inputs {
+        archs: String::new(alloc),
+        packages: String::new(alloc),
+        sources: String::new(alloc),
+        state: None,
+        tracker: None,
+        journal: None,
+        suite: String::new(alloc),
+        outcomes: None,
+        builders: usize::from(builders % 65),
+    }
+}
+
 fn put_archive(inputs: &mut Inputs) -> Result<(), AllocError> {
     inputs.archs.push_str(ARCHS)?;
     inputs.packages.push_str(PACKAGES)?;
@@ -52,17 +67,7 @@ fn put_trial(alloc: Global, inputs: &mut Inputs, trial: &Trial<'_>) -> Result<()
 }
 
 pub(crate) fn inputs(alloc: Global, trial: &Trial<'_>) -> Result<Inputs, AllocError> {
-    let mut inputs = Inputs {
-        archs: String::new(alloc),
-        packages: String::new(alloc),
-        sources: String::new(alloc),
-        state: None,
-        tracker: None,
-        journal: None,
-        suite: String::new(alloc),
-        outcomes: None,
-        builders: usize::from(trial.builders % 65),
-    };
+    let mut inputs = empty(alloc, trial.builders);
     let put = put_archive(&mut inputs).and(put_trial(alloc, &mut inputs, trial));
     put.and(Ok(inputs))
 }
