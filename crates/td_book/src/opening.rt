@@ -41,9 +41,22 @@ impl<'a> Book<'a> {
               };
             }) }
     {
-        let offers = Offers::new(alloc, desk)?;
-        let books = Books::open(alloc, rows, supply)?;
-        Ok(begin(alloc, board, offers, books))
+        let offers = match Offers::new(alloc, desk) {
+            Ok(offers) => offers,
+            Err(no_memory) => {
+                // (by calls, so that the proof of this body stays short)
+                drop(rows);
+                drop(supply);
+                return Err(no_memory);
+            }
+        };
+        match Books::open(alloc, rows, supply) {
+            Ok(books) => Ok(begin(alloc, board, offers, books)),
+            Err(no_memory) => {
+                drop(offers);
+                Err(no_memory)
+            }
+        }
     }
 }
 

@@ -70,10 +70,24 @@ impl<'a, N: Named, C: Ledger> Desk<'a, N, C> {
         ensures board { IfOk result (λ made. made.0.board ≡ board) }
         ensures opening { IfOk result (λ made. made.0.opening ≡ rows) }
     {
-        let opening = rows.copy()?;
+        let opening = match rows.copy() {
+            Ok(opening) => opening,
+            Err(no_memory) => {
+                // (by calls, so that the proof of this body stays short)
+                drop(board);
+                drop(seat);
+                drop(rows);
+                drop(supply);
+                return Err(no_memory);
+            }
+        };
         match Book::open(alloc, &board, seat, rows, supply) {
             Ok(book) => Ok(begin(alloc, board, opening, book, Vec::new(alloc), blank)),
-            Err(no_memory) => Err(no_memory),
+            Err(no_memory) => {
+                drop(board);
+                drop(opening);
+                Err(no_memory)
+            }
         }
     }
 
@@ -106,11 +120,20 @@ impl<'a, N: Named, C: Ledger> Desk<'a, N, C> {
         ensures fault { IfErr result (FaultOf rows text.now) }
     {
         let Ok(opening) = rows.copy() else {
+            // (by calls, so that the proof of this body stays short)
+            drop(board);
+            drop(seat);
+            drop(rows);
+            drop(supply);
             return Err(ReadError::NoMemory);
         };
         match read_back(alloc, &board, seat, rows, supply, text) {
             Ok((book, ticks)) => Ok(begin(alloc, board, opening, book, ticks, blank)),
-            Err(fault) => Err(fault),
+            Err(fault) => {
+                drop(board);
+                drop(opening);
+                Err(fault)
+            }
         }
     }
 

@@ -100,7 +100,14 @@ impl<'t, 'a> Archive<'t, 'a> {
                 rows,
                 alloc,
             }),
-            Err(fault) => Err(fault),
+            Err(fault) => {
+                // (by calls, so that the proof of this body stays short)
+                drop(packages);
+                drop(source_stanzas);
+                drop(binaries);
+                drop(sources);
+                Err(fault)
+            }
         }
     }
 }
