@@ -1,5 +1,5 @@
-//! The tests of texts, of the crates from the rows to a simulation, and of the board: what no
-//! clause says.
+//! The tests of texts, of the crates from the rows to the core, and of the board: what no clause
+//! says.
 //!
 //! A module a crate. They stand in a crate of their own, over the crates' public calls, so that
 //! none of those is proved a second time with its tests.
@@ -19,7 +19,5 @@ mod journals;
 mod replays;
 #[cfg(test)]
 mod rows;
-#[cfg(test)]
-mod simulations;
 #[cfg(test)]
 mod texts;

@@ -1,6 +1,5 @@
 //! The tests of the crates that read and write: streams, stanzas, versions, relations and what is
-//! on offer, indices, command lines, trackers and waves, the words of the program and its
-//! explanations: what no clause says.
+//! on offer, indices, command lines, trackers, and explanations: what no clause says.
 //!
 //! A module a crate, beside what all of them ask. They stand in a crate of their own, over the
 //! crates' public calls, so that none of those is proved a second time with its tests.
@@ -28,7 +27,3 @@ mod supplies;
 mod trackers;
 #[cfg(test)]
 mod versions;
-#[cfg(test)]
-mod waves;
-#[cfg(test)]
-mod words;

@@ -1,12 +1,14 @@
 //! The program: a desk for the rebuilds of a Debian transition, whose undo is proved.
 //!
 //! Start at `main`: it hands the words, the disk and the three streams to `td_tool::tool`, which
-//! does all the rest and promises it. `td_disk` reads files, of whose bytes no clause knows.
+//! does all the rest and promises it. `disk` reads files, of whose bytes no clause knows.
 #![tactic(auto)]
 
+mod disk;
+
+use crate::disk::Disk;
 use std::process::ExitCode;
 use std::{env, io};
-use td_disk::Disk;
 use td_tool::tool;
 
 fn main(rt: HostRuntime) -> ExitCode {

@@ -5,9 +5,9 @@ use std::io::ErrorKind;
 use td_bytes::{TextFault, read_text};
 use td_tool::Texts;
 
-/// The files of the disk. Clauses know nothing of their bytes.
+// The files of the disk. Clauses know nothing of their bytes.
 #[derive(Drop)]
-pub struct Disk<'a>(pub &'a HostRuntime);
+pub(crate) struct Disk<'a>(pub(crate) &'a HostRuntime);
 
 impl Texts for Disk<'_> {
     ghost use Rattle.std.specs.Prelude.{None, true};

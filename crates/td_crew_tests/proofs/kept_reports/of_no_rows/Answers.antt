@@ -6,7 +6,7 @@ use Rattle.std.proofs.lemmas.Option.{slice_get-get_or}
 use Rattle.td_report.specs.Groups.{AreCounts}
 use Rattle.td_report.specs.TransitionView.{depth_of}
 use Rattle.td_report.specs.declared.transition.Transition.{Transition}
-use Rattle.td_tool_tests.proofs.kept_reports.of_no_rows.Goals as goal
+use Rattle.td_crew_tests.proofs.kept_reports.of_no_rows.Goals as goal
 
 zero_at : (n i : ℕ) → i < n → slice_get {X = ℕ} (replicate n 0) i ≡ Some 0
 zero_at n i lt =

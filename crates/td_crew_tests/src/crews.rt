@@ -1,0 +1,133 @@
+//! What no clause can say: that builders of a crew build at the same time, and that a crew of none
+//! tells its rows too (the program has a script without builders run by itself). The archive and the
+//! answers are this project's worked examples.
+use crate::archive::{ARCHS, PACKAGES, SOURCES};
+use std::alloc::{AllocError, Global};
+use std::fmt::Debug;
+use std::sync::Wait;
+use std::sync::atomic::{AtomicU64, Ordering};
+use std::test::Fail;
+use std::thread::Threads;
+use td_book::Job;
+use td_builder::Builds;
+use td_crew::{run_crew, run_crew_with};
+use td_rows::Outcome;
+use td_script::{Inputs, ScriptEnd};
+
+// The archive and no other file, and less than 65 builders.
+fn inputs(alloc: Global, builders: u8) -> Result<Inputs, AllocError> {
+    let archs = String::from_str(alloc, ARCHS)?;
+    let packages = String::from_str(alloc, PACKAGES)?;
+    let sources = String::from_str(alloc, SOURCES)?;
+    Ok(Inputs {
+        archs,
+        packages,
+        sources,
+        state: None,
+        tracker: None,
+        journal: None,
+        suite: String::new(alloc),
+        outcomes: None,
+        builders: usize::from(builders % 65),
+    })
+}
+
+// How many lines are refused, or the fault, and behind it what is written.
+fn spelled<F: Debug>(
+    alloc: Global,
+    end: &Result<ScriptEnd, F>,
+    written: &[u8],
+) -> Result<String, AllocError> {
+    let text = String::from_utf8_lossy(alloc, written)?;
+    match end {
+        Ok(end) => format!(in alloc; "{} {text}", end.refusals),
+        Err(fault) => format!(in alloc; "{fault:?} {text}"),
+    }
+}
+
+// What comes of a script that a crew runs.
+fn told<R: Threads + Wait + Sync>(
+    rt: &R,
+    alloc: Global,
+    inputs: &Inputs,
+    mut script: &[u8],
+) -> Result<String, AllocError> {
+    let mut writer = Vec::new(alloc);
+    let end = run_crew(rt, alloc, inputs, &mut script, &mut writer);
+    spelled(alloc, &end, writer.as_slice())
+}
+
+const WITHOUT_BUILDERS: &str = "\
+1 entry 1 takes foo/i386
+refused: NoSuchEntry
+rows
+bar/amd64 Installed 0 0
+bar/i386 Installed 0 0
+foo/amd64 Installed 0 0
+foo/i386 Needs-Build 0 2
+";
+
+#[test]
+fn without_builders_the_rows_are_told_too(rt: HostRuntime) -> Result<(), Fail> {
+    let inputs = inputs(rt.alloc(), 0)?;
+    let found = told(&rt, rt.alloc(), &inputs, b"nmu foo . i386\nundo 2\n");
+    drop(inputs);
+    assert_eq!(rt; found?.as_str(), WITHOUT_BUILDERS);
+    Ok(())
+}
+
+// How many turns a build waits for another.
+const MOST_TURNS: u32 = 100_000_000;
+
+// Builds that wait for one another: each is built once two have begun, and else an attempt.
+#[derive(Drop)]
+struct Together {
+    begun: AtomicU64,
+}
+
+impl Builds for Together {
+    ghost may = { λ together job outcome. Unit {0} };
+
+    fn build<R: Wait>(&self, _rt: &R, _job: &Job) -> Outcome {
+        self.begun.fetch_add(1, Ordering::SeqCst);
+        for _ in 0..MOST_TURNS {
+            if self.begun.load(Ordering::SeqCst) > 1 {
+                return Outcome::Built;
+            }
+        }
+        Outcome::Attempted
+    }
+}
+
+// What comes of a script that two builders run whose builds wait for one another.
+fn told_together<R: Threads + Wait + Sync>(
+    rt: &R,
+    alloc: Global,
+    inputs: &Inputs,
+    mut script: &[u8],
+) -> Result<String, AllocError> {
+    let mut writer = Vec::new(alloc);
+    let together = Together {
+        begun: AtomicU64::new(0),
+    };
+    let end = run_crew_with(rt, alloc, inputs, &mut script, &mut writer, &together);
+    spelled(alloc, &end, writer.as_slice())
+}
+
+const BOTH_BUILT: &str = "\
+0 entry 1 takes foo/amd64 foo/i386
+rows
+bar/amd64 Installed 0 0
+bar/i386 Installed 0 0
+foo/amd64 Built 0 1
+foo/i386 Built 0 2
+";
+
+#[test]
+fn two_builds_of_a_crew_overlap(rt: HostRuntime) -> Result<(), Fail> {
+    let inputs = inputs(rt.alloc(), 2)?;
+    let found = told_together(&rt, rt.alloc(), &inputs, b"nmu foo . ANY\n");
+    drop(inputs);
+    assert_eq!(rt; found?.as_str(), BOTH_BUILT);
+    Ok(())
+}
