@@ -49,11 +49,11 @@ key_behind rest = strip (codes " ") rest >>= spaced_key_at
 
 -- a request by its verb, and what follows that
 abbrev pub by_verb : Verb → List ℕ → Option Request
-by_verb verb.Undo rest = strip (codes " ") rest >>= number_at (2 ^ 64 - 1) >>= λ n. Some (Undo n)
-by_verb verb.Arrive rest = strip (codes " ") rest >>= spaced_key_at >>= λ k. Some (Arrive k)
+by_verb verb.Undo rest = number_behind rest >>= λ n. Some (Undo n)
+by_verb verb.Arrive rest = key_behind rest >>= λ k. Some (Arrive k)
 by_verb verb.Sweep rest = alone Sweep rest
-by_verb verb.Row rest = strip (codes " ") rest >>= spaced_key_at >>= λ k. Some (Row k)
-by_verb verb.Entry rest = strip (codes " ") rest >>= number_at (2 ^ 64 - 1) >>= λ n. Some (Entry n)
+by_verb verb.Row rest = key_behind rest >>= λ k. Some (Row k)
+by_verb verb.Entry rest = number_behind rest >>= λ n. Some (Entry n)
 by_verb verb.Report rest = alone Report rest
 by_verb verb.Journal rest = alone Journal rest
 
