@@ -1,7 +1,7 @@
 -- What the desk knows after an arrival, and after a sweep.
 use Rattle.std.proofs.Common.{◌≡◌, Bool, true, false, List, [], ◌∷◌, Some, None, if◌then◌else◌, ap}
 use Rattle.std.proofs.Common.{refl, sym, ◌∙◌}
-use Rattle.std.specs.Prelude.{Result, Ok, Err, OnOk, OnErr}
+use Rattle.std.specs.Prelude.{ℕ, Result, Ok, Err, IfOk, OnErr}
 use Rattle.td_rows.specs.declared.key.Key.{Key}
 use Rattle.td_rows.specs.declared.row.Row.{Row}
 use Rattle.td_rows.specs.declared.kind.Kind.TheVariants.{Arrive, Sweep}
@@ -9,19 +9,18 @@ use Rattle.td_rows.specs.Keys.{same_key, ascending}
 use Rattle.td_rows.specs.Meaning.{applies}
 use Rattle.td_rows.specs.Table.{row_of, fits, AppliesOn, keys_of}
 use Rattle.td_rows.proofs.Keys.{same_key-true}
-use Rattle.td_core.specs.History.{History, rows_of, with_entry}
+use Rattle.td_core.specs.History.{History, rows_of, with_entry, IsAppended}
 use Rattle.td_book.specs.Seen.{seen_off}
 use Rattle.td_book.specs.Desk.{InnerModel}
 use Rattle.td_book.proofs.Seeing.{desks_off, arrive_off, waiting_off}
 use Rattle.td_book.proofs.Steps.{rows_with, up_now}
 
 -- the desk knows as much after an arrival
-pub arrived_view : {A E : Type 0} (a b : InnerModel) (k : Key) (row : Row) (r : Result A E)
+pub arrived_view : {E : Type 0} (a b : InnerModel) (k : Key) (row : Row) (r : Result ℕ E)
     → ascending (keys_of a.books.history.opening) ≡ true
     → row_of (rows_of a.books.history) k ≡ Some row → applies Arrive row ≡ true
     → a.view ≡ seen_off [] (rows_of a.books.history)
-    → OnOk r (b.books.history
-    ≡ with_entry a.books.history (record { kind = Arrive; keys = k ∷ [] }))
+    → IfOk r (IsAppended a.books.history (record { kind = Arrive; keys = k ∷ [] }) b.books.history)
     → OnErr r (b.books.history ≡ a.books.history) → b.view ≡ a.view
     → b.view ≡ seen_off [] (rows_of b.books.history)
 arrived_view a b k row (Ok x) up found fit rest ok err same =
@@ -29,7 +28,7 @@ arrived_view a b k row (Ok x) up found fit rest ok err same =
     let fits_all : AppliesOn t Arrive (k ∷ []) = λ q named. whole q (same_key q k) refl named in
     same ∙ rest ∙ sym (arrive_off (k ∷ []) t (up_now a.books.history up) fits_all)
     ∙ ap (seen_off []) (sym (rows_with a.books.history (record { kind = Arrive; keys = k ∷ [] })))
-    ∙ ap (λ (h : History). seen_off [] (rows_of h)) (sym ok)
+    ∙ ap (λ (h : History). seen_off [] (rows_of h)) (sym ok.history)
   where
     whole : (q : Key) (v : Bool) → same_key q k ≡ v → (if v then true else false) ≡ true
         → fits (rows_of a.books.history) Arrive q ≡ true

@@ -213,7 +213,7 @@ none_some m h = cc
 at_entered : (n : ℕ) (now : History) (counts : List ℕ) (ws : List (Option ℕ))
     (e : IsEntered n now counts ws) → entry_at now.journal n ≡ Some (standing_entry e.entry)
 at_entered n now counts ws e =
-    (λ j. entry_at (e.is j).journal (e.number j))
+    (λ j. entry_at (e.appended.history j).journal (e.appended.number j))
     ∙ entry_at-last e.before.journal (standing_entry e.entry)
 
 entered-is : (n : ℕ) (now : History) (counts : List ℕ) (ws : List (Option ℕ)) (m : Marked)
@@ -224,7 +224,7 @@ entered-is n now counts ws m e got =
 rows_entered : (n : ℕ) (now : History) (counts : List ℕ) (ws : List (Option ℕ))
     (e : IsEntered n now counts ws)
     → rows_of now ≡ applied e.entry.kind e.entry.keys (rows_of e.before)
-rows_entered n now counts ws e = ap rows_of e.is ∙ rows_with e.before e.entry
+rows_entered n now counts ws e = ap rows_of e.appended.history ∙ rows_with e.before e.entry
 
 pub entered-changed : (n : ℕ) (now : History) (counts : List ℕ) (ws : List (Option ℕ)) (m : Marked)
     (there : Bool) (keys : List Key) (t : Table) → IsEntered n now counts ws

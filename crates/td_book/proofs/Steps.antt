@@ -178,7 +178,7 @@ pub spent_more : (keys : List Key) (k : Key) (a b c : WatchedView) → names key
 spent_more keys k a b c apart s t = record {
   spare = let x = s.spare in let y = t.spare in let z = longer keys k in omega arith;
   places = λ q. let x = s.places q in let y = t.places q in
-      subst (λ v. places_in a.places q ≤ places_in c.places q + (if v then 1 else 0))
+      subst (λ v. places_in a.room.places q ≤ places_in c.room.places q + (if v then 1 else 0))
       (sym (names-push keys k q))
       (either q (names keys q) (same_key q k) refl refl x y);
 }
@@ -188,10 +188,10 @@ spent_more keys k a b c apart s t = record {
         let bad : true ≡ false = sym named ∙ ap (names keys) (same_key-true q k same) ∙ apart in cc
 
     either : (q : Key) (u v : Bool) → names keys q ≡ u → same_key q k ≡ v
-        → places_in a.places q ≤ places_in b.places q + (if u then 1 else 0)
-        → places_in b.places q
-        ≤ places_in c.places q + (if (if v then true else false) then 1 else 0)
-        → places_in a.places q ≤ places_in c.places q + (if (if u then true else v) then 1 else 0)
+        → places_in a.room.places q ≤ places_in b.room.places q + (if u then 1 else 0)
+        → places_in b.room.places q
+        ≤ places_in c.room.places q + (if (if v then true else false) then 1 else 0)
+        → places_in a.room.places q ≤ places_in c.room.places q + (if (if u then true else v) then 1 else 0)
     either q true true u v x y = absurd (one_of q u v)
     either q true false u v x y = omega arith
     either q false true u v x y = omega arith

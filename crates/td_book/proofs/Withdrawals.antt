@@ -22,6 +22,7 @@ use Rattle.td_journal.specs.Replay.{Lawful}
 use Rattle.td_journal.specs.Touching.{blocker}
 use Rattle.td_core.specs.Committing.{takes}
 use Rattle.td_core.specs.History.{History, rows_of, with_entry, without_entry}
+use Rattle.td_core.specs.History.{IsAppended}
 use Rattle.td_core.specs.Refusals.{is_queued_at}
 use Rattle.td_core.proofs.Inverse.{undo_has_an_inverse}
 use Rattle.td_core.proofs.Phases.{keys_of-rows_of}
@@ -380,13 +381,13 @@ commands_desks Sweep h = cc
 -- what a commit did, by its answer
 pub entered_of : (h now : History) (kind : Kind) (ts : List Key) (r : Option ℕ)
     → IfNone r ((ts ≡ []) × (now ≡ h)) → IfSome r (λ n. ts ≢ [])
-    → IfSome r (λ n. n ≡ length h.journal + 1)
-    → IfSome r (λ n. now ≡ with_entry h (record { kind = kind; keys = ts }))
+    → IfSome r (IsAppended h (record { kind = kind; keys = ts }) now)
     → (r ≡ entered_no h ts) × (now ≡ entered h kind ts)
-entered_of h now kind ts None none taken number is =
+entered_of h now kind ts None none taken made =
     (sym (ap (entered_no h) none.0), none.1 ∙ sym (ap (entered h kind) none.0))
-entered_of h now kind [] (Some n) none taken number is = absurd (taken refl)
-entered_of h now kind (k ∷ ks) (Some n) none taken number is = (ap (λ (x : ℕ). Some x) number, is)
+entered_of h now kind [] (Some n) none taken made = absurd (taken refl)
+entered_of h now kind (k ∷ ks) (Some n) none taken made =
+    (ap (λ (x : ℕ). Some x) made.number, made.history)
 
 pub entered_off : (h now : History) (kind : Kind) (named off : List Key)
     → ascending (keys_of (rows_of h)) ≡ true → is_desks kind ≡ true

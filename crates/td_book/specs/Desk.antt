@@ -1,14 +1,13 @@
 -- What contracts see of a book, and of its inside while rows are withdrawn. This project's own.
-use Rattle.std.specs.Prelude.{◌≡◌, ℕ, ◌+◌, ◌≤◌, true, List, [], ◌∷◌, length, if◌then◌else◌}
+use Rattle.std.specs.Prelude.{◌≡◌, ℕ, ◌+◌, List, [], ◌∷◌, length}
 use Rattle.atomic_table.specs.Seated.{TableId}
 use Rattle.td_board.specs.declared.views.RowView.{RowView}
 use Rattle.td_rows.specs.declared.key.Key.{Key}
 use Rattle.td_rows.specs.declared.kind.Kind.TheVariants.{Claim}
-use Rattle.td_rows.specs.Keys.{names}
 use Rattle.td_journal.specs.declared.entry.Entry.{Entry}
 use Rattle.td_supply.specs.Supply.{Stock}
 use Rattle.td_core.specs.History.{History}
-use Rattle.td_core.specs.Keeps.{places_in}
+use Rattle.td_core.specs.Keeps.{RoomFor, RoomSpent}
 use Rattle.td_book.specs.Watching.{WatchView, WatchedView}
 
 -- the board's table, what is kept, what the desk knows of each row, how many builders there are,
@@ -58,20 +57,16 @@ pub record Stays (old new : InnerModel) : Type 0 where
   pub watch : new.books.watch ≡ old.books.watch
 
 -- room for an entry on each of the keys, and for one more on all of them
-pub record HasRoom (keys : List Key) (b : WatchedView) : Type 0 where
-  pub spare : length keys + 1 ≤ b.spare
-  pub places : (k : Key) → names keys k ≡ true → 2 ≤ places_in b.places k
+abbrev pub HasRoom : List Key → WatchedView → Type 0
+HasRoom keys b = RoomFor (length keys + 1) 2 keys b.room
 
 -- room for an entry on one of the keys
-pub record HasOne (keys : List Key) (b : WatchedView) : Type 0 where
-  pub spare : 1 ≤ b.spare
-  pub places : (k : Key) → names keys k ≡ true → 1 ≤ places_in b.places k
+abbrev pub HasOne : List Key → WatchedView → Type 0
+HasOne keys b = RoomFor 1 1 keys b.room
 
 -- at most an entry on each of the keys was made
-pub record Spent (keys : List Key) (old new : WatchedView) : Type 0 where
-  pub spare : old.spare ≤ new.spare + length keys
-  pub places : (k : Key)
-      → places_in old.places k ≤ places_in new.places k + (if names keys k then 1 else 0)
+abbrev pub Spent : List Key → WatchedView → WatchedView → Type 0
+Spent keys old new = RoomSpent (length keys) keys old.room new.room
 
 -- the claim of a builder
 abbrev pub claim_of : ℕ → Key → Entry

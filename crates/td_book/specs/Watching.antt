@@ -9,6 +9,7 @@ use Rattle.td_rows.specs.Table.{Table, keys_of}
 use Rattle.td_supply.specs.Supply.{Stock}
 use Rattle.td_core.specs.Books.{BooksView}
 use Rattle.td_core.specs.History.{History}
+use Rattle.td_core.specs.Keeps.{Room}
 
 -- how many groups there are; and of each row, by its number, the group under which it is watched,
 -- none where it isn't
@@ -24,9 +25,12 @@ no_watch = record { groups = 0; of_rows = [] }
 pub record WatchedView : Type 0 where
   pub history : History
   pub stock : Stock
-  pub spare : ℕ
-  pub places : List (Key × ℕ)
+  pub room : Room
   pub watch : WatchView
+
+-- what is kept, whatever is watched
+abbrev pub kept_in : WatchedView → BooksView
+kept_in w = record { history = w.history; stock = w.stock; room = w.room }
 
 -- what is kept, of which no row is watched
 abbrev pub unwatched : BooksView → WatchedView
@@ -34,8 +38,7 @@ unwatched b =
     record {
       history = b.history;
       stock = b.stock;
-      spare = b.spare;
-      places = b.places;
+      room = b.room;
       watch = no_watch;
     }
 

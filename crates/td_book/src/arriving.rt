@@ -55,7 +55,7 @@ impl<'a> Book<'a> {
     {
         // (`rows` says that the keys of the rows rise)
         let _rows = self.inner.books.rows();
-        let keys = self.inner.books.freed(self.alloc)?;
+        let keys = self.inner.books.kept().freed(self.alloc)?;
         if keys.is_empty() {
             return Ok(None);
         }

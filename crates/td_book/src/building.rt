@@ -188,7 +188,7 @@ impl<'a> Inner<'a> {
         let offered = Keys::of_one(alloc, key)?;
         let ended = Keys::of_one(alloc, key)?;
         let kind = Kind::Outcome(builder, outcome);
-        let plan = self.books.plan(kind, ended)?;
+        let plan = self.books.kept().plan(kind, ended)?;
         Ok(Ending {
             claim,
             offered,

@@ -104,7 +104,7 @@ impl<'a> Book<'a> {
         ensures { IfOk result (IsAsked (parts_of command.now) self.now) }
     {
         let rows = self.inner.books.rows();
-        let supply = self.inner.books.supply();
+        let supply = self.inner.books.kept().supply();
         let kind = kind_of(command)?;
         let named = named(self.alloc, rows, command)?;
         let matched = matched(self.alloc, command, supply, rows, &named)?;
@@ -160,6 +160,6 @@ impl<'a> Book<'a> {
             return Ok(None);
         }
         let kind = kind.copy()?;
-        Ok(Some(self.inner.books.plan(kind, Keys::new(matched))?))
+        Ok(Some(self.inner.books.kept().plan(kind, Keys::new(matched))?))
     }
 }

@@ -34,14 +34,14 @@ impl<'a> Book<'a> {
     pub fn entry(&self, n: EntryNo) -> Option<&Marked>
         ensures { option_copied result ≡ entry_at self.now.history.journal n }
     {
-        self.inner.books.journal().entry(n)
+        self.inner.books.kept().journal().entry(n)
     }
 
     /// The entries with their marks.
     pub fn journal(&self) -> &Journal
         ensures { result.now.entries ≡ self.now.history.journal }
     {
-        self.inner.books.journal()
+        self.inner.books.kept().journal()
     }
 
     /// The desk's seat at the board: what it knows of each row, and what it has noted of each
@@ -56,6 +56,6 @@ impl<'a> Book<'a> {
     pub fn supply(&self) -> &Supply<'a>
         ensures { result.now ≡ supply_now self.now.fixed.stock self.now.history }
     {
-        self.inner.books.supply()
+        self.inner.books.kept().supply()
     }
 }

@@ -36,7 +36,7 @@ impl<'a> Book<'a> {
         let Some((key, row)) = self.inner.books.rows().at(row) else {
             unreachable!()
         };
-        let version = match self.inner.books.supply().version(key.source()) {
+        let version = match self.inner.books.kept().supply().version(key.source()) {
             Some(version) => version,
             None => "",
         };

@@ -44,7 +44,7 @@ impl<'a> Book<'a> {
         ensures stands { IfNone result (CanBeUndone self.now.history.journal n) }
         ensures free { IfNone result (blocker self.now.history.journal n ≡ None) }
     {
-        let journal = self.inner.books.journal();
+        let journal = self.inner.books.kept().journal();
         let Some(marked) = journal.entry(n) else {
             return Some(UndoRefusal::NoSuchEntry);
         };
@@ -84,7 +84,7 @@ impl<'a> Book<'a> {
         ensures rising { IfOk result (λ keys. ascending keys.items ≡ true) }
         ensures memory { OnErr result (HasState self.now.history.journal n) }
     {
-        match self.inner.books.journal().entry(n) {
+        match self.inner.books.kept().journal().entry(n) {
             Some(marked) if cells_of(&marked.entry.kind).state => {
                 copies(self.alloc, marked.entry.keys.as_slice())
             }

@@ -11,7 +11,7 @@ use Rattle.td_rows.specs.Table.{Table, row_of, keys_of, AppliesOn}
 use Rattle.td_journal.specs.declared.entry.Entry.{Entry}
 use Rattle.td_journal.specs.declared.entry.Marked.{Marked}
 use Rattle.td_journal.specs.Entries.{entry_at}
-use Rattle.td_core.specs.History.{History, rows_of, with_entry, without_entry}
+use Rattle.td_core.specs.History.{History, rows_of, without_entry, IsAppended}
 use Rattle.td_core.specs.Inverse.{Redone}
 use Rattle.td_book.specs.Watching.{tally, is_there}
 
@@ -62,8 +62,7 @@ made_installed kind = None
 pub record IsEntered (n : ℕ) (now : History) (counts : List ℕ) (ws : List (Option ℕ)) : Type 0 where
   pub before : History
   pub entry : Entry
-  pub is : now ≡ with_entry before entry
-  pub number : n ≡ length before.journal + 1
+  pub appended : IsAppended before entry now n
   pub applies : AppliesOn (rows_of before) entry.kind entry.keys
   pub rising : ascending (keys_of before.opening) ≡ true
   pub tallied : AreTallied is_there counts ws (rows_of before)

@@ -13,11 +13,15 @@ commit-requires-clause-rows c =
     plan_of-itself c.in_ok-planned.planned Gb c.in_ok-keys.keys (rows_of c.reserve.new.self.history)
     c.in_ok-planned.ensures
 
-pub commit-requires-clause-places : goal.commit-requires-clause-places
-commit-requires-clause-places c = λ k named.
+pub commit-requires-clause-room : goal.commit-requires-clause-room
+commit-requires-clause-room c =
     let keys = ap left c.in_ok-planned.ensures
     ∙ left-plan_of Gb c.in_ok-keys.keys (rows_of c.reserve.new.self.history)
     ∙ sym c.as_slice.ensures.keys in
-    let two = c.in_ok-reserve.ensures.places k
-    (subst (λ (ks : List Key). names ks k ≡ true) keys named) in
-    omega (arith, two)
+    let room = c.in_ok-reserve.ensures.room in
+    record {
+      spare = room.spare;
+      places = λ k named.
+          let two = room.places k (subst (λ (ks : List Key). names ks k ≡ true) keys named) in
+          omega (arith, two);
+    }

@@ -23,6 +23,6 @@ invariant_of-self-2 c =
     let fit : applies Arrive row ≡ true = sym c.applies.ensures ∙ c.if-not-applies.false in
     subst (λ (v : WorldView). IsWorld v)
     (λ j. record w {
-      history = sym c.in_ok-arrive.ensures.ok j;
+      history = sym c.in_ok-arrive.ensures.ok.history j;
       supply = sym c.arrive.ensures.stock j;
     }) (IsWorld-arrived w k row c.self.invariant found fit).1

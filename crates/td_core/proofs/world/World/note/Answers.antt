@@ -42,7 +42,7 @@ invariant_of-self-2 c =
     ∙ ap (λ p. Some p) c.in-Some-Held.field-0-is in
     let history : c.append.new.self.history
     ≡ with_entry w.history (record { kind = Claim b; keys = c.args.key.now ∷ [] }) =
-    c.in_ok-n.ensures.ok ∙ ap
+    c.in_ok-n.ensures.ok.history ∙ ap
     (λ (ks : List Key). with_entry w.history (record { kind = Claim b; keys = ks }))
     c.in_ok-keys.ensures in
     let phases = c.put_phase.ensures

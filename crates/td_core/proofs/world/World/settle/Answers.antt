@@ -48,7 +48,7 @@ invariant_of-self-2 c =
     ∙ ap (λ p. Some p) c.in-Some-Done.field-0-is in
     let history : c.append.new.self.history
     ≡ with_entry w.history (record { kind = Ended b o; keys = c.args.key.now ∷ [] }) =
-    c.in_ok-n.ensures.ok ∙ (λ j.
+    c.in_ok-n.ensures.ok.history ∙ (λ j.
     with_entry w.history (record {
       kind = Ended b (c.in_ok-copy-in-Some-Done.ensures j);
       keys = c.in_ok-keys.ensures j;

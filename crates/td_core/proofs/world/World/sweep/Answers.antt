@@ -40,7 +40,7 @@ invariant_of-self-2 c =
       hands = c.self.inside.hands.items;
     } in
     let some : 0 < length c.in_ok-keys.keys.items = search rules in
-    let history = c.in_ok-append.ensures.ok
+    let history = c.in_ok-append.ensures.ok.history
     ∙ ap (λ (ks : List Key). with_entry w.history (record { kind = Sweep; keys = ks }))
     (c.new-keys.ensures ∙ c.in_ok-keys.ensures) in
     subst (λ (v : WorldView). IsWorld v)
