@@ -1,12 +1,14 @@
 -- What the desk does for a builder, over plain values.
 use Rattle.std.proofs.Common.{◌≡◌, IfNone, ℕ, zero, suc, ◌≤◌, ◌==◌, Bool, true, false, ◌&&◌, List}
 use Rattle.std.proofs.Common.{[], ◌∷◌, Option, Some, None, option_map, if◌then◌else◌, slice_get}
-use Rattle.std.proofs.Common.{set, ap, refl, sym, subst, ◌∙◌, arith}
+use Rattle.std.proofs.Common.{◌<◌, length, set, ap, refl, sym, subst, ◌∙◌, arith}
 use Rattle.td_board.specs.declared.views.RowView.{RowView}
 use Rattle.std.proofs.lemmas.Bool.{eqb-true}
 use mathlib.Core.Option.{some}
 use lib.ListN.{get_elem?}
+use Rattle.atomic_table.specs.Seated.{TableId}
 use Rattle.td_board.specs.declared.views.RowView.TheVariants.{In, Known}
+use Rattle.td_board.specs.Seats.{rows_of as board_rows}
 use Rattle.td_rows.specs.declared.key.Key.{Key}
 use Rattle.td_rows.specs.declared.row.Row.{Row}
 use Rattle.td_rows.specs.declared.state.State.{State}
@@ -34,6 +36,7 @@ use Rattle.td_book.specs.Desk.{InnerModel, BookModel, book_of, Stays, HasRoom, H
 use Rattle.td_book.specs.Calls.{is_lost, noting_one, HasOut, OutAt, LostTo}
 use Rattle.td_book.specs.Building.{Knows, is_built_at, Noticed, IsJobAt}
 use Rattle.td_book.proofs.Seeing.{claimed_off, idle_off, views_at, views-each_row, set_views}
+use Rattle.td_book.proofs.Seeing.{length-seen_off}
 use Rattle.td_book.proofs.Steps.{rows_with, is_out_at, stays_none, stays_more, stays_fixed}
 use Rattle.td_book.proofs.Steps.{spent_none, key_of}
 
@@ -251,3 +254,17 @@ ended_off t i k row b o up at =
     then held_as (if (if v then true else false) then means (Ended b o) r else r).state
     else known_as (if (if v then true else false) then means (Ended b o) r else r).state) apart))
     ∙ ap (λ (x : RowView). set (seen_off [] t) i x) here)
+
+-- a row of a seat's board is a row of the book's history: the board and the desk's view of it are
+-- of the book's own rows
+pub board_row : (mid now : InnerModel) (b : BookModel) (t : TableId) (i count : ℕ)
+    → i < board_rows t → count ≡ length mid.view → count ≡ board_rows mid.table → mid ≡ now
+    → now.view ≡ seen_off [] (rows_of now.books.history) → book_of now ≡ b → t ≡ b.fixed.table
+    → i < length (rows_of b.history)
+board_row mid now b t i count within number table same rest is seat =
+    let long = number ∙ ap (λ (m : InnerModel). length m.view) same ∙ ap length rest
+    ∙ length-seen_off [] (rows_of now.books.history) in
+    let wide = table ∙ ap (λ (m : InnerModel). board_rows m.table) same
+    ∙ ap (λ (m : BookModel). board_rows m.fixed.table) is ∙ ap board_rows (sym seat) in
+    let rows = ap (λ (m : BookModel). length (rows_of m.history)) is in
+    omega (arith, within, long, wide, rows)

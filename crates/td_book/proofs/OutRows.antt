@@ -37,6 +37,12 @@ use Rattle.td_book.proofs.Times.{permutation-times_in, place_in, times_in-at, ti
 use Rattle.td_book.proofs.Times.{times_in-filter_above, times_in-push_other, times_in-push_same}
 use Rattle.td_book.proofs.Times.{times_in-swap_remove}
 
+-- what the desk knows of a row, seen through what contracts see of its seat
+pub row_seen : (m now : DeskModel) (i : ℕ) (v : RowView) → m ≡ now
+    → get_elem? now.desk.rows i ≡ some v → get_elem? m.desk.rows i ≡ some v
+row_seen m now i v same known =
+    subst (λ (x : DeskModel). get_elem? x.desk.rows i ≡ some v) (sym same) known
+
 -- ---- 1. whether a row is on offer
 
 abbrev once_if : Bool → ℕ

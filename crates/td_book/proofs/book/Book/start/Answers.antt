@@ -1,35 +1,24 @@
 -- `Book::start`: what it answers and the call of `job`.
-use Rattle.std.proofs.Common.{◌≡◌, ℕ, [], Ok, Err, Result, length, ap, sym, subst, ◌∙◌, arith}
+use Rattle.std.proofs.Common.{◌≡◌, ℕ, Ok, Err, Result, ap, sym, subst}
 use Rattle.td_board.specs.declared.views.Hand.{Hand}
 use Rattle.td_board.specs.declared.views.Hand.TheVariants.{Holding}
-use Rattle.td_board.specs.Seats.{rows_of as board_rows}
 use Rattle.td_rows.specs.declared.key.Key.{Key}
-use Rattle.td_core.specs.History.{rows_of}
 use Rattle.td_book.specs.declared.book.Book.TheInside.{Inside}
 use Rattle.td_book.specs.declared.starting.Job.{Job}
 use Rattle.td_book.specs.declared.starting.StartRefusal.{StartRefusal}
 use Rattle.td_book.specs.declared.starting.StartRefusal.TheVariants.{Mismatch}
 use Rattle.td_book.specs.Desk.{BookModel, book_of}
 use Rattle.td_book.specs.Building.{head_key, Knows, Noticed, IsJobAt, StartOutcome}
-use Rattle.td_book.proofs.Seeing.{length-seen_off}
-use Rattle.td_book.proofs.Builds.{noticed, job_key}
+use Rattle.td_book.proofs.Builds.{board_row, noticed, job_key}
 use Rattle.td_book.proofs.book.Book.start.Goals as goal
 use Rattle.td_book.proofs.book.Book.start.Goals.{then-know, else-know}
 
 pub job-requires : goal.job-requires
 job-requires c =
-    let b = c.self.inside.inner in
-    let within = c.in-Holding.ensures.row in
-    let number = c.rows-rows.ensures.number
-    ∙ ap (λ (s : Inside). length s.inner.view) c.self-inside.view_is ∙ ap length c.self.invariant
-    ∙ length-seen_off [] (rows_of b.books.history) in
-    let table = c.rows-rows.ensures.table
-    ∙ ap (λ (s : Inside). board_rows s.inner.table) c.self-inside.view_is
-    ∙ ap (λ (m : BookModel). board_rows m.fixed.table) c.self.view_is
-    ∙ ap board_rows (sym c.requires.seat) in
-    let rows : length (rows_of b.books.history) ≡ length (rows_of c.args.self.now.history) =
-    ap (λ (m : BookModel). length (rows_of m.history)) c.self.view_is in
-    omega (arith, within, number, table, rows)
+    board_row _ c.self.inside.inner c.args.self.now c.args.seat.now.table _ c.rows-rows.result
+    c.in-Holding.ensures.row c.rows-rows.ensures.number c.rows-rows.ensures.table
+    (ap (λ (s : Inside). s.inner) c.self-inside.view_is) c.self.invariant c.self.view_is
+    c.requires.seat
 
 pub returns : goal.returns
 returns c =

@@ -5,15 +5,14 @@ use lib.ListN.{get_elem?, set}
 use Rattle.td_board.specs.declared.views.RowView.TheVariants.{In}
 use Rattle.td_board.specs.Seats.{DeskModel}
 use Rattle.td_board.proofs.Lists.{at_less}
-use Rattle.td_book.proofs.OutRows.{listed_as, listed-offered, listed-room}
+use Rattle.td_book.proofs.OutRows.{row_seen, listed_as, listed-offered, listed-room}
 use Rattle.td_book.proofs.offers.Offers.offer.Goals as goal
 
 pub index_mut-requires : goal.index_mut-requires
 index_mut-requires c =
     let rows = c.self.inside.seat.desk.rows in
     let known : get_elem? rows c.args.row ≡ some In =
-    subst (λ (m : DeskModel). get_elem? m.desk.rows c.args.row ≡ some In)
-    (sym c.self.view_is) c.requires.row in
+    row_seen _ _ _ _ c.self.view_is c.requires.row in
     let within : c.args.row < length c.self.inside.places.items =
     subst (λ n. c.args.row < n) (sym c.self.invariant.long) (at_less rows c.args.row In known) in
     omega (arith, c.self.inside.places.ok)
@@ -21,8 +20,7 @@ index_mut-requires c =
 pub push_reserved-requires : goal.push_reserved-requires
 push_reserved-requires c =
     let known : get_elem? c.self.inside.seat.desk.rows c.args.row ≡ some In =
-    subst (λ (m : DeskModel). get_elem? m.desk.rows c.args.row ≡ some In)
-    (sym c.self.view_is) c.requires.row in
+    row_seen _ _ _ _ c.self.view_is c.requires.row in
     let room = listed-room _ _ _ _ c.args.row c.self.invariant known in
     omega (arith, c.self.inside.outs.ok)
 
@@ -30,8 +28,7 @@ pub invariant_of-self : goal.invariant_of-self
 invariant_of-self c =
     let outs : List ℕ = c.self.inside.outs.items in
     let known : get_elem? c.self.inside.seat.desk.rows c.args.row ≡ some In =
-    subst (λ (m : DeskModel). get_elem? m.desk.rows c.args.row ≡ some In)
-    (sym c.self.view_is) c.requires.row in
+    row_seen _ _ _ _ c.self.view_is c.requires.row in
     let many : c.len.result ≡ length outs = omega (arith, c.len.ensures, c.self.inside.outs.ok) in
     listed_as _ _ _ _ _ _ _ _ (ap (λ (m : DeskModel). m.desk.rows) c.offer.ensures)
     c.push_reserved.ensures.items (ap (λ n. set c.self.inside.places.items c.args.row n) many)

@@ -6,9 +6,8 @@ use Rattle.std.specs.Prelude.{slice_index}
 use Rattle.std.specs.List.{swap_remove}
 use Rattle.std.proofs.lemmas.List.{get_or_default}
 use Rattle.td_board.specs.declared.views.RowView.TheVariants.{Out}
-use Rattle.td_board.specs.Seats.{DeskModel}
 use Rattle.td_board.proofs.Lists.{at_less}
-use Rattle.td_book.proofs.OutRows.{listed_as, listed-below, listed-place, listed-taken}
+use Rattle.td_book.proofs.OutRows.{row_seen, listed_as, listed-below, listed-place, listed-taken}
 use Rattle.td_book.proofs.OutRows.{withdrawn_rows}
 use Rattle.td_book.proofs.offers.Offers.withdraw.Goals as goal
 
@@ -16,8 +15,7 @@ pub index-place-requires : goal.index-place-requires
 index-place-requires c =
     let rows = c.self.inside.seat.desk.rows in
     let known : get_elem? rows c.args.row ≡ some Out =
-    subst (λ (m : DeskModel). get_elem? m.desk.rows c.args.row ≡ some Out)
-    (sym c.self.view_is) c.requires.row in
+    row_seen _ _ _ _ c.self.view_is c.requires.row in
     let within : c.args.row < length c.self.inside.places.items =
     subst (λ n. c.args.row < n) (sym c.self.invariant.long) (at_less rows c.args.row Out known) in
     omega (arith, c.self.inside.places.ok)
@@ -25,16 +23,14 @@ index-place-requires c =
 pub overflow_sub-len : goal.overflow_sub-len
 overflow_sub-len c =
     let known : get_elem? c.self.inside.seat.desk.rows c.args.row ≡ some Out =
-    subst (λ (m : DeskModel). get_elem? m.desk.rows c.args.row ≡ some Out)
-    (sym c.self.view_is) c.requires.row in
+    row_seen _ _ _ _ c.self.view_is c.requires.row in
     let at = listed-place _ _ _ _ c.args.row c.self.invariant known in
     omega (arith, at.0, c.len.ensures, c.self.inside.outs.ok)
 
 pub index-last-requires : goal.index-last-requires
 index-last-requires c =
     let known : get_elem? c.self.inside.seat.desk.rows c.args.row ≡ some Out =
-    subst (λ (m : DeskModel). get_elem? m.desk.rows c.args.row ≡ some Out)
-    (sym c.self.view_is) c.requires.row in
+    row_seen _ _ _ _ c.self.view_is c.requires.row in
     let at = listed-place _ _ _ _ c.args.row c.self.invariant known in
     omega (arith, at.0, c.len.ensures, c.self.inside.outs.ok)
 
@@ -42,8 +38,7 @@ pub index_mut-requires : goal.index_mut-requires
 index_mut-requires c =
     let outs : List ℕ = c.self.inside.outs.items in
     let known : get_elem? c.self.inside.seat.desk.rows c.args.row ≡ some Out =
-    subst (λ (m : DeskModel). get_elem? m.desk.rows c.args.row ≡ some Out)
-    (sym c.self.view_is) c.requires.row in
+    row_seen _ _ _ _ c.self.view_is c.requires.row in
     let at = listed-place _ _ _ _ c.args.row c.self.invariant known in
     let many : c.len.result ≡ length outs = omega (arith, c.len.ensures, c.self.inside.outs.ok) in
     let end : c.len.result - 1 < length outs = omega (arith, at.0) in
@@ -59,8 +54,7 @@ pub swap_remove-requires : goal.swap_remove-requires
 swap_remove-requires c =
     let places : List ℕ = c.self.inside.places.items in
     let known : get_elem? c.self.inside.seat.desk.rows c.args.row ≡ some Out =
-    subst (λ (m : DeskModel). get_elem? m.desk.rows c.args.row ≡ some Out)
-    (sym c.self.view_is) c.requires.row in
+    row_seen _ _ _ _ c.self.view_is c.requires.row in
     let at = listed-place _ _ _ _ c.args.row c.self.invariant known in
     let within : c.args.row < length places =
     subst (λ n. c.args.row < n) (sym c.self.invariant.long)
@@ -77,8 +71,7 @@ invariant_of-self c =
     let places : List ℕ = c.self.inside.places.items in
     let left : List ℕ = c.swap_remove.new.self.items in
     let known : get_elem? rows row ≡ some Out =
-    subst (λ (m : DeskModel). get_elem? m.desk.rows row ≡ some Out)
-    (sym c.self.view_is) c.requires.row in
+    row_seen _ _ _ _ c.self.view_is c.requires.row in
     let gone = withdrawn_rows c.withdraw-withdrawal.result row c.self.inside.seat
     c.withdraw-withdrawal.new.desk c.withdraw-withdrawal.ensures in
     let at = listed-place _ _ _ _ row c.self.invariant known in
