@@ -1,4 +1,4 @@
--- Two texts have one fault, and none where they are an archive.
+-- Two texts have one fault, and none where they are an archive; what a reading of them comes to.
 use Rattle.std.proofs.Common.{◌≡◌, ◌≢◌, ◌⊎◌, ℕ, ◌≤◌, true, false, List, Result, Ok, Err, nat_lt}
 use Rattle.std.proofs.Common.{if◌then◌else◌, refl, sym, ap, ◌∙◌, inl, inr, arith}
 use Rattle.std.specs.Prelude.{IfOk, IfErr, MatchResult}
@@ -18,7 +18,7 @@ use Rattle.td_indices.specs.declared.archive_fault.ArchiveFault.TheVariants.{Bad
 use Rattle.td_indices.specs.declared.archive_fault.ArchiveFault.TheVariants.{TooManyRows, NoMemory}
 use Rattle.td_indices.specs.declared.archive_fault.IndexFile.TheVariants.{Packages, Sources}
 use Rattle.td_indices.specs.Archive.{Contents, FaultOf, HasTooManyRows, IsArchive, IsRefusedFor}
-use Rattle.td_indices.specs.Archive.{IsStanzaFault}
+use Rattle.td_indices.specs.Archive.{IsRead, IsStanzaFault}
 use Rattle.td_indices.specs.Reading.{binaries_at, sources_at}
 use Rattle.td_indices.specs.Rows.{row_count}
 use Rattle.td_indices.specs.Kept.{KeptBinary}
@@ -138,7 +138,7 @@ module _ (table : List ArchWords) (pl sl : List (List ℕ)) where
       ∙ ap (outcome table x.packages) ss ∙ x.gives in
       cc
 
-  pub refused : (r : Result Contents ArchiveFault) → IfOk r (IsArchive table pl sl)
+  refused : (r : Result Contents ArchiveFault) → IfOk r (IsArchive table pl sl)
       → IfErr r (FaultOf table pl sl) → (fault : ArchiveFault) → fault ≢ NoMemory
       → FaultOf table pl sl fault → IsRefusedFor fault r
   refused (Ok a) h k fault n f = no_fault a h fault (see fault n f)
@@ -190,7 +190,7 @@ module _ (table : List ArchWords) (pl sl : List (List ℕ)) where
       → FaultOf table pl sl e → ⊥
   fine a is e some h = no_fault a is e (see e some h)
 
-  pub read_only : (r : Result Contents ArchiveFault) → IfOk r (IsArchive table pl sl)
+  read_only : (r : Result Contents ArchiveFault) → IfOk r (IsArchive table pl sl)
       → IfErr r (FaultOf table pl sl) → (a : Contents) → IsArchive table pl sl a
       → MatchResult r (λ x. x ≡ a) (λ e. e ≡ NoMemory)
   read_only (Ok x) h k a is = one_archive x a h is
@@ -203,3 +203,10 @@ module _ (table : List ArchWords) (pl sl : List (List ℕ)) where
       absurd (fine a is (BadRelation file number) (λ e. cc) k)
   read_only (Err TooManyRows) h k a is = absurd (fine a is TooManyRows (λ e. cc) k)
   read_only (Err NoMemory) h k a is = refl
+
+  -- ---- so what is found of them, and the fault that they are refused for, say the rest
+
+  pub is_read : (r : Result Contents ArchiveFault) → IfOk r (IsArchive table pl sl)
+      → IfErr r (FaultOf table pl sl) → IsRead table pl sl r
+  is_read r is bad =
+      record { found = is; only = read_only r is bad; fault = bad; refused = refused r is bad }

@@ -1,6 +1,6 @@
 -- What an archive holds, of which texts it is read, and why texts are refused. This project's own.
-use Rattle.std.specs.Prelude.{◌≡◌, ◌⊎◌, ℕ, ◌<◌, ◌≤◌, ◌&&◌, Bool, false, List, Option}
-use Rattle.std.specs.Prelude.{Result, Ok, Err, position, slice_get}
+use Rattle.std.specs.Prelude.{◌≡◌, ◌≢◌, ◌⊎◌, ℕ, ◌<◌, ◌≤◌, ◌&&◌, Bool, false, List, Option}
+use Rattle.std.specs.Prelude.{Result, Ok, Err, IfOk, IfErr, MatchResult, position, slice_get}
 use Rattle.std.specs.List.{find}
 use Rattle.std.specs.Option.{option_map_or}
 use Rattle.std.specs.Str.{bytes_eq}
@@ -121,7 +121,21 @@ abbrev pub IsRefusedFor : {A : Type 0} → ArchiveFault → Result A ArchiveFaul
 IsRefusedFor fault (Ok archive) = ⊥
 IsRefusedFor fault (Err e) = (e ≡ NoMemory) ⊎ (e ≡ fault)
 
--- ---- 4. the parts of the reading
+-- ---- 4. what the reading of two texts comes to
+
+-- it is that of these lines, with the table of architectures: what is read is an archive; an archive
+-- is read, unless memory runs out; a refusal names a fault; and a fault is refused, unless memory
+-- runs out
+pub record IsRead (table : List ArchWords) (package_lines source_lines : List (List ℕ))
+    (read : Result Contents ArchiveFault) : Type 0 where
+  pub found : IfOk read (IsArchive table package_lines source_lines)
+  pub only : (a : Contents) → IsArchive table package_lines source_lines a
+      → MatchResult read (λ archive. archive ≡ a) (λ e. e ≡ NoMemory)
+  pub fault : IfErr read (FaultOf table package_lines source_lines)
+  pub refused : (fault : ArchiveFault) → fault ≢ NoMemory
+      → FaultOf table package_lines source_lines fault → IsRefusedFor fault read
+
+-- ---- 5. the parts of the reading
 
 -- a fault of one of the files as a control file
 abbrev pub in_file : IndexFile → StanzaFault → ArchiveFault

@@ -68,7 +68,6 @@ impl<'t, 'a> Model for Archive<'t, 'a> {
 impl<'t, 'a> Archive<'t, 'a> {
     ghost use Rattle.std.specs.Prelude.{
       ◌≡◌,
-      ◌≢◌,
       ◌+◌,
       ◌≤◌,
       ◌<◌,
@@ -78,10 +77,8 @@ impl<'t, 'a> Archive<'t, 'a> {
       true,
       false,
       IfOk,
-      IfErr,
       IfSome,
       OnOk,
-      MatchResult,
       Some,
       length,
       option_map,
@@ -96,15 +93,7 @@ impl<'t, 'a> Archive<'t, 'a> {
     ghost use Rattle.td_rows.specs.Keys.{ascending};
     ghost use Rattle.td_rows.specs.Table.{keys_of, row_of};
     ghost use Rattle.td_rows.specs.Text.{has_newline};
-    ghost use Rattle.td_indices.specs.declared.archive_fault.ArchiveFault.{ArchiveFault};
-    ghost use Rattle.td_indices.specs.Archive.{
-      Contents,
-      FaultOf,
-      IsArchive,
-      IsRefusedFor,
-      binaries_on,
-      source_named,
-    };
+    ghost use Rattle.td_indices.specs.Archive.{IsRead, binaries_on, source_named};
     ghost use Rattle.td_indices.specs.Opening.{opening_row as opening_row_of};
     ghost use Rattle.td_indices.specs.OpeningRows.{
       IsVersionKnown,
@@ -133,19 +122,7 @@ impl<'t, 'a> Archive<'t, 'a> {
         sources: &'a str,
         archs: &'t Archs<'a>,
     ) -> Result<Archive<'t, 'a>, ArchiveFault>
-        // What is read is an archive.
-        ensures found { IfOk result
-            (IsArchive (table archs.now) (lines_of packages.now) (lines_of sources.now)) }
-        // An archive is read, unless memory runs out.
-        ensures only { (a : Contents)
-            → IsArchive (table archs.now) (lines_of packages.now) (lines_of sources.now) a
-            → MatchResult result (λ archive. archive ≡ a) (λ e. e ≡ ArchiveFault.NoMemory) }
-        ensures fault { IfErr result
-            (FaultOf (table archs.now) (lines_of packages.now) (lines_of sources.now)) }
-        // Two texts with a fault are refused for it, unless memory runs out.
-        ensures refused { (fault : ArchiveFault) → fault ≢ ArchiveFault.NoMemory
-            → FaultOf (table archs.now) (lines_of packages.now) (lines_of sources.now) fault
-            → IsRefusedFor fault result }
+        ensures { IsRead (table archs.now) (lines_of packages.now) (lines_of sources.now) result }
     {
         let packages = read_packages_index(alloc, archs, packages);
         let sources = read_sources_index(alloc, sources);
@@ -160,16 +137,7 @@ impl<'t, 'a> Archive<'t, 'a> {
         sources: &'a str,
         archs: &'t Archs<'a>,
     ) -> Result<Archive<'t, 'a>, ArchiveFault>
-        ensures found { IfOk result
-            (IsArchive (table archs.now) (lines_of packages.now) (lines_of sources.now)) }
-        ensures only { (a : Contents)
-            → IsArchive (table archs.now) (lines_of packages.now) (lines_of sources.now) a
-            → MatchResult result (λ archive. archive ≡ a) (λ e. e ≡ ArchiveFault.NoMemory) }
-        ensures fault { IfErr result
-            (FaultOf (table archs.now) (lines_of packages.now) (lines_of sources.now)) }
-        ensures refused { (fault : ArchiveFault) → fault ≢ ArchiveFault.NoMemory
-            → FaultOf (table archs.now) (lines_of packages.now) (lines_of sources.now) fault
-            → IsRefusedFor fault result }
+        ensures { IsRead (table archs.now) (lines_of packages.now) (lines_of sources.now) result }
     {
         let (packages, sources) = read_indices(rt, alloc, archs, packages, sources);
         Archive::assembled(alloc, archs, packages, sources)
