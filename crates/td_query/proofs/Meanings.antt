@@ -2,12 +2,15 @@
 use Rattle.std.proofs.Common.{◌≡◌, ◌⊎◌, ◌↔◌, ℕ, zero, suc, ◌+◌, ◌-◌, ◌<◌, ◌≤◌, ◌&&◌, ◌||◌, not}
 use Rattle.std.proofs.Common.{Bool, true, false, List, [], ◌∷◌, Option, Some, None, length, get_or}
 use Rattle.std.proofs.Common.{slice_get, refl, sym, ap, ◌∙◌, inl, inr, arith, eqb, leb, ltb}
+use Rattle.std.proofs.Common.{◌++◌, take, drop}
 use Rattle.std.specs.Prelude.{IsTrue, is_some, option_map, slice_range}
 use Rattle.std.specs.List.{Contains, find}
 use Rattle.std.specs.Option.{option_map_or}
 use Rattle.std.specs.Str.{bytes_eq}
+use Rattle.std.specs.Str.Iter.{HasSubslice}
 use Rattle.std.proofs.lemmas.Bool.{false≢true, le-leb, leb-true}
 use Rattle.std.proofs.lemmas.Bool.Decides.{eqb_tells}
+use Rattle.std.proofs.lemmas.List.Edits.{split_between}
 use Rattle.std.proofs.lemmas.Slice.Eq.{bytes_eq-Decides}
 use Rattle.regex.specs.Patterns.{Re, find_str}
 use Rattle.td_text.specs.Words.{is_name_byte}
@@ -182,6 +185,23 @@ from_standing : (t value : List ℕ) (i : ℕ) → 0 < length t → StandsAt t v
     → IsTrue (stands_in t value)
 from_standing t value i some s = found_at t value i some (omega (arith, s.within))
     (from_place t value i s)
+
+-- a value that doesn't have the text at all
+pub has_nowhere : (t value : List ℕ) → ¬ HasSubslice value t → stands_in t value ≡ false
+has_nowhere t value none = by (stands_in t value) refl
+  where
+    by : (b : Bool) → stands_in t value ≡ b → b ≡ false
+    by false e = refl
+    by true e =
+        let q = to_standing t value e in
+        let i = q.1 in
+        let end = i + length t in
+        absurd (none (
+          take i value,
+          drop end value,
+          split_between value i end (omega arith)
+              ∙ ap (λ (l : List ℕ). take i value ++ (l ++ drop end value)) q.2.same,
+        ))
 
 pub texts : TextsMatchWhereTheyStand
 texts patterns fields name t = (

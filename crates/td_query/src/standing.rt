@@ -37,7 +37,7 @@ fn stands_at(text: &[u8], value: &[u8], i: usize) -> bool
 
 /// Whether the text, not empty, stands in the value, bounded by its ends or by what no package's
 /// name has.
-pub fn stands_in(text: &[u8], value: &[u8]) -> bool
+fn stands_in(text: &[u8], value: &[u8]) -> bool
     ensures stands { result ≡ stands_in_of text.now value.now }
 {
     if text.is_empty() {
@@ -49,4 +49,15 @@ pub fn stands_in(text: &[u8], value: &[u8]) -> bool
         }
     }
     false
+}
+
+/// The same. Most values don't have the text at all, and a search tells that sooner than a look at
+/// each place does.
+pub fn stands_bounded(text: &str, value: &str) -> bool
+    ensures stands { result ≡ stands_in_of text.now value.now }
+{
+    if !value.contains(text) {
+        return false;
+    }
+    stands_in(text.as_bytes(), value.as_bytes())
 }

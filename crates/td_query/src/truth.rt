@@ -6,7 +6,7 @@ ghost use Rattle.td_query.specs.Query.{joined, shape_of};
 ghost use Rattle.td_query.specs.Truth.{is_found as is_found_of, truth};
 
 use crate::query::{Joint, Query};
-use crate::standing::stands_in;
+use crate::standing::stands_bounded;
 use regex::{Matcher, Regex};
 use std::alloc::{AllocError, Global};
 use td_indices::value_of;
@@ -35,7 +35,7 @@ pub fn holds(query: &Query, stanza: &Stanza, matchers: &mut Vec<Matcher>) -> boo
         Query::Always(answer) => *answer,
         Query::Text(field, text) => match value_of(stanza, field) {
             None => false,
-            Some(value) => stands_in(text.as_bytes(), value.as_bytes()),
+            Some(value) => stands_bounded(text, value),
         },
         Query::Pattern(field, number) => match value_of(stanza, field) {
             None => false,
