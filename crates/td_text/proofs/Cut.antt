@@ -1,20 +1,26 @@
 -- A text that is cut at a byte.
 use Rattle.std.proofs.Common.{◌≡◌, ◌≢◌, ℕ, suc, ◌<◌, Bool, true, false, not, eqb, All, List, []}
-use Rattle.std.proofs.Common.{◌∷◌, ◌++◌, length, get_or, take, drop, Option, Some, None, option_map}
-use Rattle.std.proofs.Common.{refl, sym, ap, subst, ◌∙◌, arith, inl, inr}
-use Rattle.std.specs.Prelude.{IfSome, IfNone}
-use Rattle.std.specs.Borrow.{Bor}
-use Rattle.std.specs.List.{list_all, AllByRecursion}
+use Rattle.std.proofs.Common.{◌∷◌, ◌++◌, length, get_or, take, drop, Option, Some, None, ◌+◌}
+use Rattle.std.proofs.Common.{refl, sym, ap, subst, ◌∙◌, arith, inl, inr, one-add}
+use Rattle.std.specs.List.{list_all, position_or_len, slice_split, AllByRecursion}
+use Rattle.std.specs.Str.{IsCharBoundary, IsUtf8}
 use Rattle.std.proofs.lemmas.Bool.{eq-eqb, ne_eqb, and_parts}
 use Rattle.std.proofs.lemmas.Bool.Decides.{eqb_tells}
-use Rattle.std.proofs.lemmas.Str.Pattern.{IsSplitOnceResult, split_parts}
-use Rattle.std.proofs.lemmas.List.{append-nil, take-append-drop, length-take, get_or-take}
+use Rattle.std.proofs.lemmas.List.{append-nil}
 use Rattle.std.proofs.lemmas.List.Elements.{All-from_recursion}
-use Rattle.std.proofs.Math.Seq.{drop-cons}
+use Rattle.std.proofs.lemmas.List.Splits.{slice_split_at, slice_split_none}
+use Rattle.std.proofs.lemmas.List.Sums.{prefix_len-le-length, prefix_len_passes, prefix_len_stops}
+use Rattle.std.proofs.lemmas.List.Sums.{split_at_first}
+use Rattle.std.proofs.lemmas.Str.{IsCharBoundary-end, IsCharBoundary-before_ascii}
+use Rattle.std.proofs.lemmas.Str.{IsCharBoundary-after_ascii}
 use Rattle.td_text.specs.Chain.{◌>>=◌}
 use Rattle.td_text.specs.Cut.{Without, cut, part}
 use Rattle.td_text.specs.Exact.{Exact}
 use Rattle.td_text.proofs.Chain.{chained, some_is}
+
+-- where a text first has a byte, or its length
+abbrev pub place_of : ℕ → List ℕ → ℕ
+place_of c t = position_or_len (λ b. eqb b c) t
 
 -- ---- texts without a byte
 
@@ -102,26 +108,6 @@ word_found c read spell Fits exact t p v is r =
     let f = exact.found p.0 v r in
     ((cut_found c t p is).0 ∙ ap (λ (l : List ℕ). l ++ c ∷ p.1) f.0, f.1)
 
--- what `split_once` gives is the text cut
-pub cut-from_split : (c : ℕ) (t : List ℕ) (r : Option (Bor (List ℕ) × Bor (List ℕ))) → c < 128
-    → IsSplitOnceResult c t r → option_map (λ x. (x.0.now, x.1.now)) r ≡ cut c t
-cut-from_split c t None small s =
-    sym (cut_none c t (Without-from_index c t (split_parts c t None s small)))
-cut-from_split c t (Some x) small s =
-    let p = split_parts c t (Some x) s small in
-    sym (ap (cut c) p.0 ∙ cut-at c x.0.now x.1.now (Without-from_index c x.0.now p.1))
-
-pub split_found : (c : ℕ) (t : List ℕ) (r : Option (Bor (List ℕ) × Bor (List ℕ))) → c < 128
-    → IsSplitOnceResult c t r → IfSome r (λ x. (t ≡ x.0.now ++ c ∷ x.1.now) × Without c x.0.now)
-split_found c t None small s = tt
-split_found c t (Some x) small s =
-    let p = split_parts c t (Some x) s small in (p.0, Without-from_index c x.0.now p.1)
-
-pub split_none : (c : ℕ) (t : List ℕ) (r : Option (Bor (List ℕ) × Bor (List ℕ))) → c < 128
-    → IsSplitOnceResult c t r → IfNone r (Without c t)
-split_none c t None small s = Without-from_index c t (split_parts c t None s small)
-split_none c t (Some x) small s = tt
-
 -- ---- the text before a byte, and from there on
 
 pub part_first : (c : ℕ) (a b : List ℕ) → Without c a → part c (a ++ c ∷ b) ≡ (a, c ∷ b)
@@ -173,18 +159,82 @@ pub part_again : (c : ℕ) (a b : List ℕ) → Without c a → Begins c b → p
 part_again c a [] w h = rw append-nil (part_none c a w)
 part_again c a (x ∷ b) w h = rw h (part_first c a b w)
 
--- what `find` gives is where the text parts
-pub part-from_find : (c : ℕ) (t : List ℕ) (k : ℕ)
-    → (k < length t) × (get_or t k 0 ≡ c) × ((i : ℕ) → i < k → get_or t i 0 ≢ c)
-    → (take k t, drop k t) ≡ part c t
-part-from_find c t k h =
-    let rest : drop k t ≡ c ∷ drop (suc k) t =
-    drop-cons t k 0 h.0 ∙ ap (λ (b : ℕ). b ∷ drop (suc k) t) h.1 in
-    let whole : t ≡ take k t ++ c ∷ drop (suc k) t =
-    sym (take-append-drop k t) ∙ ap (λ (l : List ℕ). take k t ++ l) rest in
-    let none : Without c (take k t) =
-    Without-from_index c (take k t)
-    (λ i lt. let low : i < k = omega (arith, length-take k t) in
-    rw (get_or-take k t i 0 low) (h.2 i low)) in
-    sym (ap (part c) whole ∙ part_first c (take k t) (drop (suc k) t) none
-    ∙ ap (λ (l : List ℕ). (take k t, l)) (sym rest))
+-- ---- by the place of the first such byte
+
+-- where the text parts
+pub part-by_place : (c : ℕ) (t : List ℕ)
+    → (take (place_of c t) t, drop (place_of c t) t) ≡ part c t
+unfolding part
+part-by_place c [] = refl
+part-by_place c (x ∷ t) =
+    elim (eqb_tells x c) [
+      | inl is ↦ rw is.0 refl
+      | inr other ↦
+          rw (other.0, one-add)
+          (ap (λ (p : List ℕ × List ℕ). (x ∷ p.0, p.1)) (part-by_place c t))
+    ]
+
+pub place_lacks : (c : ℕ) (t : List ℕ) → Without c (take (place_of c t) t)
+place_lacks c t = part_front c t _ _ (part-by_place c t)
+
+-- the byte is there ..
+pub place_has : (c : ℕ) (t : List ℕ) → place_of c t < length t → get_or t (place_of c t) 0 ≡ c
+place_has c t some =
+    let stops = prefix_len_stops (λ b. not (eqb b c)) t 0 some in
+    elim (eqb_tells (get_or t (place_of c t) 0) c) [
+      | inl is ↦ is.1
+      | inr other ↦ absurd (let bad : not false ≡ false = ap not (sym other.0) ∙ stops in cc)
+    ]
+
+-- .. or nowhere
+pub place_none : (c : ℕ) (t : List ℕ) → place_of c t ≡ length t → Without c t
+place_none c t all =
+    Without-from_index c t (λ i lt.
+    let passes = prefix_len_passes (λ b. not (eqb b c)) t i 0 (omega (arith, all, lt)) in
+    λ is. (let same : eqb (get_or t i 0) c ≡ true = eq-eqb (get_or t i 0) c is in
+    let bad : not true ≡ true = ap not (sym same) ∙ passes in cc))
+
+-- a text may be cut before an ASCII character, and behind it
+pub place_boundary : (c : ℕ) (t : List ℕ) → c < 128 → IsCharBoundary t (place_of c t)
+place_boundary c t small =
+    elim (eqb_tells (place_of c t) (length t)) [
+      | inl is ↦ subst (IsCharBoundary t) (sym is.1) (IsCharBoundary-end t)
+      | inr other ↦
+          (let apart = other.1 in
+          let less : place_of c t < length t =
+          omega (arith, prefix_len-le-length (λ b. not (eqb b c)) t) in
+          IsCharBoundary-before_ascii t (place_of c t) less
+          (subst (λ b. b < 128) (sym (place_has c t less)) small))
+    ]
+
+pub behind_boundary : (c : ℕ) (t : List ℕ) → c < 128 → IsUtf8 t → place_of c t < length t
+    → IsCharBoundary t (place_of c t + 1)
+behind_boundary c t small utf8 less =
+    IsCharBoundary-after_ascii t (place_of c t) utf8 less
+    (subst (λ b. b < 128) (sym (place_has c t less)) small)
+
+-- the text before it, and after it
+pub place_cut : (c : ℕ) (t : List ℕ) → place_of c t < length t
+    → (t ≡ take (place_of c t) t ++ c ∷ drop (place_of c t + 1) t)
+    × Without c (take (place_of c t) t)
+place_cut c t less = (
+  split_at_first (λ b. eqb b c) t 0 less
+      ∙ ap (λ (b : ℕ). take (place_of c t) t ++ b ∷ drop (place_of c t + 1) t)
+      (place_has c t less),
+  place_lacks c t,
+)
+
+pub cut-by_place : (c : ℕ) (t : List ℕ) → place_of c t < length t
+    → cut c t ≡ Some (take (place_of c t) t, drop (place_of c t + 1) t)
+cut-by_place c t less =
+    let p = place_cut c t less in
+    ap (cut c) p.0 ∙ cut-at c (take (place_of c t) t) (drop (place_of c t + 1) t) p.1
+
+-- ---- the pieces between such bytes
+
+pub pieces-cons : (c : ℕ) (a b : List ℕ) → Without c a
+    → slice_split (λ x. eqb x c) (a ++ c ∷ b) ≡ a ∷ slice_split (λ x. eqb x c) b
+pieces-cons c a b w = slice_split_at (λ x. eqb x c) a c b (none_is c a w) (eq-eqb c c refl)
+
+pub pieces-one : (c : ℕ) (a : List ℕ) → Without c a → slice_split (λ x. eqb x c) a ≡ a ∷ []
+pieces-one c a w = slice_split_none (λ x. eqb x c) a (none_is c a w)

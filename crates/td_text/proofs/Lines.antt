@@ -1,22 +1,21 @@
 -- Texts line by line.
-use Rattle.std.proofs.Common.{◌≡◌, ℕ, ◌+◌, eqb, List, [], ◌∷◌, ◌++◌, Option, Some, None, Result, Ok}
+use Rattle.std.proofs.Common.{◌≡◌, ℕ, ◌+◌, List, [], ◌∷◌, ◌++◌, Option, Some, None, Result, Ok}
 use Rattle.std.proofs.Common.{Err, refl, sym, ap, ◌∙◌, append_assoc, lit<}
 use Rattle.std.specs.Borrow.{Bor}
 use Rattle.std.specs.List.{AllByRecursion}
-use Rattle.std.proofs.lemmas.List.Splits.{slice_split_at, slice_split_none}
 use Rattle.std.proofs.lemmas.Str.Pattern.{IsSplitOnceResult, split_parts}
 use Rattle.td_text.specs.Cut.{Without}
 use Rattle.td_text.specs.Lines.{lines_of, text_of, over_lines, lines_left}
-use Rattle.td_text.proofs.Cut.{Without-from_index, none_is}
+use Rattle.td_text.proofs.Cut.{Without-from_index, pieces-cons, pieces-one}
 
 -- ---- the first line and the others
 
 pub lines_of-cons : (line rest : List ℕ) → Without 10 line
     → lines_of (line ++ 10 ∷ rest) ≡ line ∷ lines_of rest
-lines_of-cons line rest w = slice_split_at (λ b. eqb b 10) line 10 rest (none_is 10 line w) refl
+lines_of-cons line rest w = pieces-cons 10 line rest w
 
 pub lines_of-one : (line : List ℕ) → Without 10 line → lines_of line ≡ line ∷ []
-lines_of-one line w = slice_split_none (λ b. eqb b 10) line (none_is 10 line w)
+lines_of-one line w = pieces-one 10 line w
 
 pub next_some : (t : List ℕ) (x : Bor (List ℕ) × Bor (List ℕ)) → IsSplitOnceResult 10 t (Some x)
     → lines_of t ≡ x.0.now ∷ lines_of x.1.now
