@@ -1,14 +1,11 @@
 -- A text piece by piece.
-use Rattle.std.proofs.Common.{◌≡◌, ℕ, suc, ◌<◌, Bool, true, false, cond, not, eqb, ltb, ◌&&◌, ◌||◌}
+use Rattle.std.proofs.Common.{◌≡◌, ℕ, suc, Bool, true, false, cond, not, eqb, ltb, ◌&&◌, ◌||◌}
 use Rattle.std.proofs.Common.{List, [], ◌∷◌, length, Option, Some, None, Result, Ok, Err, refl, sym}
 use Rattle.std.proofs.Common.{ap, ◌∙◌, subst, arith}
 use Rattle.std.specs.Borrow.{Bor}
 use Rattle.std.specs.List.{list_all, list_any, filter}
-use Rattle.std.proofs.lemmas.Bool.{eq-eqb, lt-ltb}
-use Rattle.std.proofs.lemmas.List.Splits.{slice_split_at, slice_split_none}
-use Rattle.std.proofs.lemmas.Str.Pattern.{IsSplitOnceResult, split_parts}
+use Rattle.std.proofs.lemmas.Bool.{lt-ltb}
 use Rattle.td_text.specs.Lines.{on_ok}
-use Rattle.td_text.proofs.Cut.{Without-from_index, none_is}
 use Rattle.td_relation.specs.declared.relation_fault.RelationFault.{RelationFault}
 use Rattle.td_relation.specs.declared.relation_fault.RelationFault.TheVariants.{BadName}
 use Rattle.td_relation.specs.declared.relation_fault.RelationFault.TheVariants.{BadOperator}
@@ -22,18 +19,6 @@ use Rattle.td_relation.specs.ArchList.{is_negated, bare}
 use Rattle.td_relation.specs.RelationGrammar.{over, is_negated_word, is_arch_list, is_profile}
 use Rattle.td_relation.specs.RelationGrammar.{is_profile_list}
 use Rattle.td_relation.specs.RelationViews.{IsFaultOf}
-
-pub next_some : (c : ℕ) (t : List ℕ) (x : Bor (List ℕ) × Bor (List ℕ)) → c < 128
-    → IsSplitOnceResult c t (Some x) → pieces_of c t ≡ x.0.now ∷ pieces_of c x.1.now
-next_some c t x small s =
-    let p = split_parts c t (Some x) s small in
-    ap (pieces_of c) p.0 ∙ slice_split_at (λ b. eqb b c) x.0.now c x.1.now
-    (none_is c x.0.now (Without-from_index c x.0.now p.1)) (eq-eqb c c refl)
-
-pub next_none : (c : ℕ) (t : List ℕ) → c < 128 → IsSplitOnceResult c t None → pieces_of c t ≡ t ∷ []
-next_none c t small s =
-    slice_split_none (λ b. eqb b c) t
-    (none_is c t (Without-from_index c t (split_parts c t None s small)))
 
 -- ---- a reading over pieces
 

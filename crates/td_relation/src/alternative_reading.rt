@@ -1,5 +1,7 @@
 //! How an alternative is read: its name, its version and its lists.
-ghost use Rattle.std.specs.Prelude.{◌≡◌, Bool, List, ℕ, option_map};
+ghost use Rattle.std.specs.Prelude.{◌≡◌, Bool, List, ℕ, option_map, true};
+ghost use Rattle.std.specs.List.{list_all};
+ghost use Rattle.td_text.specs.Words.{is_name as is_name_of, is_name_byte};
 ghost use Rattle.td_version.specs.Reading.{parts_read, reading};
 ghost use Rattle.td_relation.specs.RelationGrammar.{
   alternative_at,
@@ -22,7 +24,7 @@ use crate::profile_reading::read_unprofiled;
 use crate::relation::{Alternative, Operator, Restriction};
 use crate::relation_fault::RelationFault;
 use crate::runs::{operator_run, version_run};
-use td_text::{arch_run, cut_at, is_name, name_run, strip, trimmed};
+use td_text::{arch_run, cut_at, name_run, strip, trimmed};
 use td_version::{Version, VersionFault};
 
 fn ends_a_name(text: &str) -> bool
@@ -53,6 +55,15 @@ fn unqualified(text: &str) -> Option<&str>
     }
 }
 
+// Whether bytes that a name may have are a name.
+fn are_name(run: &str) -> bool
+    requires { list_all is_name_byte run.now ≡ true }
+    ensures { result ≡ is_name_of run.now }
+{
+    let bytes = run.as_bytes();
+    bytes.len() > 1 && matches!(bytes[0], b'a'..=b'z' | b'0'..=b'9')
+}
+
 /// The name, and what follows it and its qualifier.
 #[tactic(auto, unfolding(crate::specs::RelationGrammar::name_at))]
 fn read_name(text: &str) -> Option<(&str, &str)>
@@ -60,7 +71,7 @@ fn read_name(text: &str) -> Option<(&str, &str)>
 {
     let (name, rest) = name_run(trimmed(text));
     let rest = trimmed(unqualified(rest)?);
-    if is_name(name) && ends_a_name(rest) {
+    if are_name(name) && ends_a_name(rest) {
         Some((name, rest))
     } else {
         None

@@ -6,6 +6,8 @@ ghost use Rattle.td_relation.specs.Pieces.{left_len, pieces_left, pieces_of};
 ghost use Rattle.td_relation.specs.RelationGrammar.{is_operator_byte as is_operator_byte_of};
 ghost use Rattle.td_relation.specs.RelationGrammar.{is_version_byte as is_version_byte_of};
 
+use td_text::cut_at;
+
 /// The first piece before a mark, an ASCII character, and what follows that mark; `None` behind the
 /// last piece.
 pub fn next_piece(text: &str, mark: char) -> (&str, Option<&str>)
@@ -13,7 +15,7 @@ pub fn next_piece(text: &str, mark: char) -> (&str, Option<&str>)
     ensures pieces { pieces_of mark text.now ≡ result.0.now ∷ pieces_left mark result.1 }
     ensures shorter { left_len result.1 ≤ length text.now }
 {
-    match text.split_once(mark) {
+    match cut_at(text, mark) {
         Some((piece, rest)) => (piece, Some(rest)),
         None => (text, None),
     }
