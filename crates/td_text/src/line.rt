@@ -5,6 +5,8 @@ ghost use Rattle.std.specs.Borrow.{Bor};
 ghost use Rattle.td_text.specs.Cut.{Without};
 ghost use Rattle.td_text.specs.Lines.{lines_of, lines_left, left_text, left_len, ended};
 
+use memchr::memchr;
+
 /// The first line, without its newline, and what follows that; `None` behind the last line.
 pub fn next_line(text: &str) -> (&str, Option<&str>)
     ensures lines { lines_of text.now ≡ result.0.now ∷ lines_left result.1 }
@@ -12,8 +14,8 @@ pub fn next_line(text: &str) -> (&str, Option<&str>)
     ensures line { Without 10 result.0.now }
     ensures shorter { left_len result.1 ≤ length text.now }
 {
-    match text.split_once('\n') {
-        Some((line, rest)) => (line, Some(rest)),
+    match memchr(b'\n', text.as_bytes()) {
+        Some(place) => (text.split_at(place).0, Some(text.split_at(place + 1).1)),
         None => (text, None),
     }
 }
