@@ -1,7 +1,7 @@
 -- What a command does to the changes of a book, and the keys of its receipt.
 use Rattle.std.proofs.Common.{◌≡◌, ◌≢◌, ℕ, ◌+◌, ◌<◌, Bool, true, false, not, ◌&&◌, List, [], ◌∷◌}
 use Rattle.std.proofs.Common.{length, refl, sym, ap, ◌∙◌, subst, arith, map, filter, Ok, Err}
-use Rattle.std.proofs.Common.{if◌then◌else◌}
+use Rattle.std.proofs.Common.{◌++◌, if◌then◌else◌}
 use Rattle.std.proofs.lemmas.Bool.{and_parts, and_from}
 use Rattle.std.specs.Ordering.{is_lt}
 use Rattle.td_rows.specs.declared.key.Key.{Key}
@@ -29,6 +29,7 @@ use Rattle.td_wbread.specs.Kinds.{kind_with, kind_of}
 use Rattle.td_book.specs.Skips.{skip_at, is_skipped, skips_of}
 use Rattle.td_book.proofs.Calls.{kinds_command, off_short}
 use Rattle.td_book.proofs.Withdrawals.{commands_desks}
+use Rattle.td_desk.specs.declared.receipt.Receipt.{Receipt}
 use Rattle.td_desk.specs.declared.receipt.Receipt.TheVariants.{Made}
 use Rattle.td_desk.specs.Receipts.{made_of}
 use Rattle.td_desk.specs.Calls.{skipped_keys, without, command_receipt}
@@ -225,6 +226,21 @@ told_keys c old new t keys is up done = at done.outcome
     at (choices, chosen, enters) =
         entered_keys c old (noting old.history (off_for (kind_of c) (named_by c old)) choices)
         new.history t keys is up enters
+
+-- the keys that are left of a draft's
+pub told_draft : {c : CommandParts} {old new : BookModel} {t : Taken} {named keys : List Key}
+    {skips : List Skip} → IsDone c old new (Ok t) → ascending (keys_of (rows_of old.history)) ≡ true
+    → named ≡ named_by c old → skips ≡ t.skips → keys ≡ left_out named (skipped_keys skips)
+    → ToldKeys c old t.skips keys
+told_draft {c} {old} {new} {t} {named} {keys} done up are theirs left =
+    told_keys c old new t keys (left ∙ (λ i. left_out (are i) (skipped_keys (theirs i)))) up done
+
+-- a receipt of these keys
+pub told_receipt : {has : List Receipt} {kind due : Kind} {keys left all : List Key}
+    (had : List Receipt) (n : ℕ) → has ≡ had ++ Made n kind keys ∷ [] → kind ≡ due → keys ≡ left
+    → left ≡ all → has ≡ had ++ Made n due all ∷ []
+told_receipt had n is same new whole =
+    is ∙ (λ i. had ++ Made n (same i) ((new ∙ whole) i) ∷ [])
 
 -- ---- 4. the changes
 

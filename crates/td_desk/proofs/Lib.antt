@@ -4,6 +4,7 @@ pub mod Ticking
 pub mod Counting
 pub mod GoingOn
 pub mod Growing
+pub mod Holding
 pub mod Origins
 pub mod Commanding
 pub mod Flooring

@@ -1,7 +1,6 @@
 //! What lies under the lock of a desk.
-ghost use Rattle.std.specs.Prelude.{◌≡◌, ◌||◌, ◌+◌, ◌<◌, vec_len, vec_capacity, ◌∷◌, ◌++◌, [], not};
-ghost use Rattle.std.specs.Prelude.{length, true, false, OnOk, OnErr, IfOk, IsPermutation};
-ghost use Rattle.std.specs.Prelude.{MatchOption};
+ghost use Rattle.std.specs.Prelude.{◌≡◌, ◌||◌, ◌<◌, vec_len, vec_capacity, not};
+ghost use Rattle.std.specs.Prelude.{true, false, OnOk, OnErr, IfOk, MatchOption};
 ghost use Rattle.td_book.specs.Arriving.{ArriveOutcome, SweepOutcome};
 ghost use Rattle.td_book.specs.Building.{StartOutcome};
 ghost use Rattle.td_book.specs.Ready.{is_any_queued};
@@ -11,9 +10,9 @@ ghost use Rattle.td_wbread.specs.Views.{parts_of};
 ghost use Rattle.td_book.specs.Commands.{IsDone};
 ghost use Rattle.td_desk.specs.Calls.{FinishTold, IsOfDesk, UndoTold, arrival_receipt};
 ghost use Rattle.td_desk.specs.Calls.{command_receipt};
-ghost use Rattle.td_desk.specs.Changes.{changes, still_undone};
-ghost use Rattle.td_desk.specs.GoingOn.{Begins};
-ghost use Rattle.td_desk.specs.inner.Ticks.{AreBegun};
+ghost use Rattle.td_desk.specs.Changes.{changes};
+ghost use Rattle.td_desk.specs.inner.Held.{IsHeld};
+ghost use Rattle.td_desk.specs.inner.Telling.{IsTold, IsUntold};
 
 use crate::named::Named;
 use crate::receipt::Receipt;
@@ -40,26 +39,13 @@ pub(crate) struct Locked<'a, N: Named, C: Ledger> {
     pub(crate) ticks: Vec<Tick>,
     shut: bool,
     of: PhantomData<N>,
-    ghost named: { book.fixed.table ≡ N.table },
-    ghost origin: { book.history.opening ≡ N.origin.rows },
-    ghost stocked: { book.fixed.stock ≡ N.origin.stock },
-    ghost began: { Begins N.origin book.history.journal },
-    ghost still: { still_undone book.history.journal N.opened ≡ true },
-    ghost counted: { length (changes N.opened book) ≡ ledger.total },
-    ghost ticked: { AreBegun N.opened (length book.history.journal) ticks.items },
+    ghost held: { IsHeld N.table N.origin N.opened book ledger.total ticks.items },
 }
 
 impl<'a, N: Named, C: Ledger> Locked<'a, N, C> {
-    /// A book without changes, with a ledger of nothing.
+    /// A book with the ledger of its changes, and ticks for its entries.
     pub(crate) fn new(book: Book<'a>, ledger: ledger::Book<C>, ticks: Vec<Tick>) -> Locked<'a, N, C>
-        requires named { book.fixed.table ≡ N.table }
-        requires origin { book.history.opening ≡ N.origin.rows }
-        requires stocked { book.fixed.stock ≡ N.origin.stock }
-        requires began { Begins N.origin book.history.journal }
-        requires still { still_undone book.history.journal N.opened ≡ true }
-        requires book { changes N.opened book ≡ [] }
-        requires ledger { ledger.total ≡ 0 }
-        requires ticks { AreBegun N.opened (length book.history.journal) ticks.items }
+        requires { IsHeld N.table N.origin N.opened book ledger.total ticks.items }
         ensures book { result.book ≡ book.entry }
         ensures open { result.shut ≡ false }
     {
@@ -120,16 +106,13 @@ impl<'a, N: Named, C: Ledger> Locked<'a, N, C> {
         requires board { board.now.table ≡ N.table }
         requires part { 0 < mine.old.parts }
         requires room { vec_len receipts.old < vec_capacity receipts.old }
-        ensures told { IfOk result (λ taken.
-            receipts.new.items ≡ receipts.old.items
-            ++ command_receipt (parts_of command.now) self.old.book taken ∷ []) }
-        ensures untold { OnErr result (receipts.new.items ≡ receipts.old.items) }
+        ensures told { IfOk result (λ taken. IsTold
+            (command_receipt (parts_of command.now) self.old.book taken)
+            receipts.old.items receipts.new.items mine.old.amount mine.new.amount
+            (changes N.opened self.old.book) (changes N.opened self.new.book)) }
+        ensures untold { OnErr result (IsUntold
+            receipts.old.items receipts.new.items mine.old.amount mine.new.amount) }
         ensures parts { mine.new.parts ≡ mine.old.parts }
-        ensures counted { OnOk result (mine.new.amount ≡ mine.old.amount + 1) }
-        ensures uncounted { OnErr result (mine.new.amount ≡ mine.old.amount) }
-        ensures change { IfOk result (λ taken.
-            IsPermutation (command_receipt (parts_of command.now) self.old.book taken
-            ∷ changes N.opened self.old.book) (changes N.opened self.new.book)) }
         ensures shut { self.new.shut ≡ self.old.shut }
         ensures of_desk { IsOfDesk N.table N.origin self.old.book }
         ensures answer { IsDone (parts_of command.now) self.old.book self.new.book result }
@@ -165,15 +148,12 @@ impl<'a, N: Named, C: Ledger> Locked<'a, N, C> {
     ) -> Result<(), UndoRefusal>
         requires board { board.now.table ≡ N.table }
         requires part { 0 < mine.old.parts }
-        ensures told { OnOk result
-            (receipts.new.items ≡ receipts.old.items ++ receipt.Undid n ∷ []) }
-        ensures untold { OnErr result (receipts.new.items ≡ receipts.old.items) }
+        ensures told { OnOk result (IsTold (receipt.Undid n)
+            receipts.old.items receipts.new.items mine.old.amount mine.new.amount
+            (changes N.opened self.old.book) (changes N.opened self.new.book)) }
+        ensures untold { OnErr result (IsUntold
+            receipts.old.items receipts.new.items mine.old.amount mine.new.amount) }
         ensures parts { mine.new.parts ≡ mine.old.parts }
-        ensures counted { OnOk result (mine.new.amount ≡ mine.old.amount + 1) }
-        ensures uncounted { OnErr result (mine.new.amount ≡ mine.old.amount) }
-        ensures change { OnOk result
-            (IsPermutation (receipt.Undid n ∷ changes N.opened self.old.book)
-            (changes N.opened self.new.book)) }
         ensures shut { self.new.shut ≡ self.old.shut }
         ensures of_desk { IsOfDesk N.table N.origin self.old.book }
         ensures answer { UndoTold n self.old.book self.new.book result }
@@ -207,15 +187,12 @@ impl<'a, N: Named, C: Ledger> Locked<'a, N, C> {
         alloc: Global,
     ) -> Result<EntryNo, ArriveRefusal>
         requires part { 0 < mine.old.parts }
-        ensures told { IfOk result (λ n.
-            receipts.new.items ≡ receipts.old.items ++ arrival_receipt key.now n ∷ []) }
-        ensures untold { OnErr result (receipts.new.items ≡ receipts.old.items) }
+        ensures told { IfOk result (λ n. IsTold (arrival_receipt key.now n)
+            receipts.old.items receipts.new.items mine.old.amount mine.new.amount
+            (changes N.opened self.old.book) (changes N.opened self.new.book)) }
+        ensures untold { OnErr result (IsUntold
+            receipts.old.items receipts.new.items mine.old.amount mine.new.amount) }
         ensures parts { mine.new.parts ≡ mine.old.parts }
-        ensures counted { OnOk result (mine.new.amount ≡ mine.old.amount + 1) }
-        ensures uncounted { OnErr result (mine.new.amount ≡ mine.old.amount) }
-        ensures change { IfOk result (λ n.
-            IsPermutation (arrival_receipt key.now n ∷ changes N.opened self.old.book)
-            (changes N.opened self.new.book)) }
         ensures shut { self.new.shut ≡ self.old.shut }
         ensures of_desk { IsOfDesk N.table N.origin self.old.book }
         ensures answer { ArriveOutcome key.now self.old.book self.new.book result }
@@ -253,14 +230,13 @@ impl<'a, N: Named, C: Ledger> Locked<'a, N, C> {
         requires part { 0 < mine.old.parts }
         requires room { vec_len receipts.old < vec_capacity receipts.old }
         ensures told { IfOk result (λ swept. MatchOption swept
-            ((receipts.new.items ≡ receipts.old.items) × (mine.new.amount ≡ mine.old.amount))
-            (λ n. (receipts.new.items ≡ receipts.old.items ++ receipt.Swept n ∷ [])
-            × (mine.new.amount ≡ mine.old.amount + 1)
-            × IsPermutation (receipt.Swept n ∷ changes N.opened self.old.book)
-            (changes N.opened self.new.book))) }
-        ensures untold { OnErr result (receipts.new.items ≡ receipts.old.items) }
+            (IsUntold receipts.old.items receipts.new.items mine.old.amount mine.new.amount)
+            (λ n. IsTold (receipt.Swept n)
+            receipts.old.items receipts.new.items mine.old.amount mine.new.amount
+            (changes N.opened self.old.book) (changes N.opened self.new.book))) }
+        ensures untold { OnErr result (IsUntold
+            receipts.old.items receipts.new.items mine.old.amount mine.new.amount) }
         ensures parts { mine.new.parts ≡ mine.old.parts }
-        ensures uncounted { OnErr result (mine.new.amount ≡ mine.old.amount) }
         ensures shut { self.new.shut ≡ self.old.shut }
         ensures of_desk { IsOfDesk N.table N.origin self.old.book }
         ensures answer { SweepOutcome self.old.book self.new.book result }

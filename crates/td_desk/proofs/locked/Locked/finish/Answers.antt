@@ -1,10 +1,8 @@
--- `Locked::finish`: what its types keep.
-use Rattle.std.proofs.Common.{rules, arith, ◌≤◌, ◌+◌, ◌∙◌, ap, length}
-use Rattle.td_book.specs.Desk.{Fixed}
+-- `Locked::finish`: what its type keeps.
+use Rattle.std.proofs.Common.{◌≡◌, rules, length}
 use Rattle.td_desk.proofs.Growing.{finish_kept}
-use Rattle.td_desk.proofs.GoingOn.{begins-on}
+use Rattle.td_desk.proofs.Holding.{held_kept}
 use Rattle.td_desk.proofs.Origins.{finish_origin}
-use Rattle.td_desk.specs.inner.Ticks.{AreBegun}
 use Rattle.td_desk.proofs.locked.Locked.finish.Goals as goal
 
 pub invariant_of-self-2 : goal.invariant_of-self-2
@@ -12,18 +10,10 @@ invariant_of-self-2 g c =
     let old = c.args.self.now in
     let v = c.args.seat.now.builder in
     let k = finish_kept g.N.Named.opened v.hand c.args.outcome v c.finish.new.seat.builder old.book
-    c.finish.new.self c.finish.result old.still c.finish.ensures.outcome in
-    let room : length old.book.history.journal + 2 ≤ length c.add_ticks.new.ticks.items =
-    search rules in
-    let held : AreBegun g.N.Named.opened c.len.result c.add_ticks.new.ticks.items =
-    c.add_ticks.ensures.begun g.N.Named.opened (search rules) in
+    c.finish.new.self c.finish.result old.held.still c.finish.ensures.outcome in
+    let count : c.len.result ≡ length old.book.history.journal = search rules in
     record {
-      named = ap (λ (f : Fixed). f.table) k.fixed ∙ old.named;
-      origin = finish_origin v.hand c.args.outcome v c.finish.new.seat.builder old.book
-          c.finish.new.self c.finish.result c.finish.ensures.outcome ∙ old.origin;
-      stocked = ap (λ (f : Fixed). f.stock) k.fixed ∙ old.stocked;
-      began = begins-on g.N.Named.origin old.book.history.journal _ old.began k.on;
-      still = k.still;
-      counted = ap length k.same ∙ old.counted;
-      ticked = (held.0, let l = k.long in omega (arith, l, room));
+      held = held_kept old.held count (c.add_ticks.ensures.begun g.N.Named.opened) (search rules)
+          (finish_origin v.hand c.args.outcome v c.finish.new.seat.builder old.book
+          c.finish.new.self c.finish.result c.finish.ensures.outcome) k;
     }
