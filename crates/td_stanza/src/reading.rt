@@ -15,12 +15,12 @@ ghost use Rattle.td_stanza.specs.inner.NotedNames.{AreNoted};
 use crate::entry::Field;
 use crate::fault::StanzaFault;
 use crate::kind::{begins_blank, continues, is_separator};
-use crate::name::is_field_name;
+use crate::name::front_name;
 use crate::names::Names;
 use crate::table::StanzaList;
 use crate::value::trim;
 use std::alloc::{AllocError, Global};
-use td_text::{next_line, part_at};
+use td_text::next_line;
 
 /// What is left after the lines that continue a field.
 fn skip_continuations(after: Option<&str>) -> Option<&str>
@@ -98,8 +98,8 @@ fn name_at<'a>(
     if begins_blank(line) {
         return Err(StanzaFault::ContinuationFirst(line_number(text, here)));
     }
-    let (name, rest) = part_at(line, ':');
-    if !is_field_name(name) {
+    let (name, rest, is_name) = front_name(line);
+    if !is_name {
         return Err(StanzaFault::BadName(line_number(text, here)));
     }
     if rest.is_empty() {
