@@ -1,28 +1,19 @@
 -- The outcomes of lines, one by one.
 use Rattle.std.proofs.Common.{◌≡◌, ℕ, ◌+◌, List, [], ◌∷◌, ◌++◌, map}
-use Rattle.std.proofs.Common.{length, Some, None, refl, sym, ap, subst, ◌∙◌, append_assoc}
+use Rattle.std.proofs.Common.{length, Some, None, sym, ap, subst, ◌∙◌, append_assoc}
 use Rattle.std.specs.Prelude.{Option, Result, Ok, Err, IfOk}
 use Rattle.std.specs.declared.alloc.AllocError.{AllocError}
 use Rattle.std.specs.List.{AllByRecursion}
-use Rattle.std.proofs.lemmas.List.{append-nil}
+use Rattle.std.proofs.lemmas.List.{append-nil, map_push}
 use Rattle.td_rows.specs.declared.key.Key.{Key}
 use Rattle.td_rows.specs.declared.outcome.Outcome.{Outcome}
+use Rattle.td_supply.proofs.SourceLookups.{all_pushed}
 use Rattle.td_builder.specs.declared.fault.OutcomesFault.{OutcomesFault}
 use Rattle.td_builder.specs.declared.fault.OutcomesFault.TheVariants.{BadLine, NoMemory}
 use Rattle.td_builder.specs.OutcomeLines.{outcome_line, OutcomeFits, AreOutcomes, IsFirstBad}
 use Rattle.td_builder.specs.OutcomeLines.{FaultOf}
 use Rattle.td_builder.specs.OutcomeReading.{outcome_line_at, line_told}
 use Rattle.td_builder.proofs.OutcomeTexts.{lines_exact}
-
-all-push : (os : List (Key × Outcome)) (p : Key × Outcome) → AllByRecursion OutcomeFits os
-    → OutcomeFits p → AllByRecursion OutcomeFits (os ++ p ∷ [])
-all-push [] p h fits = (fits, tt)
-all-push (x ∷ os) p h fits = (h.0, all-push os p h.1 fits)
-
-map-push : (os : List (Key × Outcome)) (p : Key × Outcome)
-    → map outcome_line (os ++ p ∷ []) ≡ map outcome_line os ++ outcome_line p ∷ []
-map-push [] p = refl
-map-push (x ∷ os) p = ap (λ (l : List (List ℕ)). outcome_line x ∷ l) (map-push os p)
 
 -- what the outcomes that were read say of the lines, and what is left of these
 pub record AreRead (lines : List (List ℕ)) (os : List (Key × Outcome))
@@ -41,8 +32,8 @@ AreRead-push lines os p line left after h is read =
           ∙ ap (λ (l : List (List ℕ)). map outcome_line os ++ l)
           (is ∙ ap (λ (t : List ℕ). t ∷ after) f.0)
           ∙ sym (append_assoc (map outcome_line os) (outcome_line p ∷ []) after)
-          ∙ ap (λ (l : List (List ℕ)). l ++ after) (sym (map-push os p));
-      fits = all-push os p h.fits f.1;
+          ∙ ap (λ (l : List (List ℕ)). l ++ after) (sym (map_push outcome_line os p));
+      fits = all_pushed OutcomeFits os p h.fits f.1;
     }
 
 -- no line is left
