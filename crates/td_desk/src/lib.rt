@@ -3,7 +3,7 @@
 //! Start at `Desk`. `open` begins one before the first entry, `reopen` over a journal's text. Its
 //! calls are those of the book, each under the lock; `claim`, by which a builder takes a row, needs
 //! no lock. A `Clerk` keeps a receipt of each change that it made, and
-//! `Desk::close` holds the receipts of all clerks against the book.
+//! `Desk::close` holds the receipts of all clerks against the book. `hire` seats builders at it.
 //! Promised: each accepted call of a clerk adds its receipt and counts it in a ledger; a desk is
 //! closed exactly where the receipts handed in are the book's changes, each once; and what a call
 //! answers is what the book's call answers on a book at the named board.
@@ -15,6 +15,7 @@ mod clerking;
 mod closing;
 mod desk;
 mod floor;
+mod hired;
 mod lock;
 mod locked;
 mod matching;
@@ -27,5 +28,6 @@ mod told;
 pub use clerk::Clerk;
 pub use closing::Differ;
 pub use desk::{Desk, PARTS};
+pub use hired::{Hired, hire};
 pub use named::Named;
 pub use receipt::Receipt;

@@ -1,0 +1,39 @@
+//! Builders' seats at a named board.
+ghost use Rattle.std.specs.Prelude.{◌≡◌, All, IfOk, map};
+
+use crate::named::Named;
+use std::alloc::{AllocError, Global};
+use std::marker::PhantomData;
+use td_board::BuilderSeat;
+
+/// A builder's seat at the named board.
+#[derive(Drop)]
+pub struct Hired<N: Named> {
+    pub seat: BuilderSeat,
+    of: PhantomData<N>,
+    ghost at: { seat.table ≡ N.table },
+}
+
+impl<N: Named> Hired<N> {
+    fn new(seat: BuilderSeat) -> Hired<N>
+        requires { seat.table ≡ N.table }
+        ensures { result.seat ≡ seat }
+    {
+        Hired {
+            seat,
+            of: PhantomData,
+        }
+    }
+}
+
+/// The seats, each as one at the named board, in their order.
+pub fn hire<N: Named>(alloc: Global, seats: Vec<BuilderSeat>) -> Result<Vec<Hired<N>>, AllocError>
+    requires { All (λ s. s.table ≡ N.table) seats.items }
+    ensures { IfOk result (λ hired. map (λ h. h.seat) hired.items ≡ seats.items) }
+{
+    let mut hired = Vec::with_capacity(alloc, seats.len())?;
+    for seat in seats {
+        hired.push(Hired::new(seat)).map_err(AllocError::from)?;
+    }
+    Ok(hired)
+}
