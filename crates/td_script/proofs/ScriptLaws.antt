@@ -1,7 +1,9 @@
 -- What is told of the lines so far.
 use Rattle.std.proofs.Common.{◌≡◌, ℕ, ◌+◌, ◌≤◌, ◌<◌, ◌^◌, ◌-◌, List, [], ◌∷◌, length, Option, Some}
-use Rattle.std.proofs.Common.{None, fold, Bor, refl, sym, ap, ◌∙◌, arith}
+use Rattle.std.proofs.Common.{None, fold, Bor, refl, sym, ap, subst, ◌∙◌, arith}
+use Rattle.std.specs.Prelude.{IfSome}
 use Rattle.std.specs.String.{string_bytes}
+use Rattle.atomic_table.specs.Seated.{TableId}
 use Rattle.td_rows.specs.Table.{Table}
 use Rattle.td_text.specs.Lines.{lines_of, lines_left, left_len}
 use Rattle.td_supply.specs.Supply.{Stock}
@@ -9,6 +11,7 @@ use Rattle.td_book.specs.Desk.{BookModel, Fixed}
 use Rattle.td_script.specs.declared.told.Told.{Told as ToldText}
 use Rattle.td_script.specs.Ends.{IsAnswered}
 use Rattle.td_script.specs.Replies.{Setting}
+use Rattle.td_script.specs.Settings.{IsLentTo}
 use Rattle.td_script.proofs.Staying.{opening-stays}
 use Rattle.td_script.specs.Script.{Told, with_line, script, told_of, IsAdded, IsTold}
 
@@ -74,6 +77,19 @@ pub room : (suites : List (List ℕ)) (report : Option (Table → List ℕ)) (al
     → IsSoFar suites report all first now told (Some rest) → length all < 2 ^ 63 - 1
     → told.refused < 2 ^ 63
 room suites report all first now told rest h small = omega (arith, h.counted, small)
+
+-- what is lent to a book stays lent to it
+pub lent_still : {R : Type 0} (Fits : R → Table → Fixed → Type 0) (board : TableId)
+    (reports : Option (Bor R)) (first now : BookModel) → IsLentTo Fits board reports first
+    → now.fixed ≡ first.fixed → now.history.opening ≡ first.history.opening
+    → IsLentTo Fits board reports now
+lent_still Fits board reports first now lent fixed opening = record {
+  board = lent.board ∙ ap (λ (f : Fixed). f.table) (sym fixed);
+  alone = ap (λ (f : Fixed). f.builders) fixed ∙ lent.alone;
+  fits = subst (λ (f : Fixed). IfSome reports (λ r. Fits r.now now.history.opening f)) (sym fixed)
+      (subst (λ (t : Table). IfSome reports (λ r. Fits r.now t first.fixed)) (sym opening)
+      lent.fits);
+}
 
 -- what is told of a whole script answers it
 pub told_answered : (s : Setting) (lines : List ℕ) (old new : BookModel) (told : ToldText)

@@ -1,40 +1,44 @@
 -- What a clerk alone tells of what is asked.
 use Rattle.std.proofs.Common.{◌≡◌, ℕ, List, [], ◌∷◌, Option, Result, Ok, Err, IfOk, IfErr, sym}
-use Rattle.std.proofs.Common.{ap, subst}
+use Rattle.std.proofs.Common.{ap, subst, ◌∙◌}
 use Rattle.std.specs.Prelude.{string_bytes}
-use Rattle.std.specs.Prelude.{MatchResult}
+use Rattle.std.specs.Prelude.{IfSome, MatchResult}
 use Rattle.atomic_table.specs.Seated.{TableId}
 use Rattle.td_rows.specs.Table.{Table}
 use Rattle.td_journal.specs.declared.journal_fault.ReadError.{ReadError}
 use Rattle.td_journal.specs.declared.journal_fault.ReadError.TheVariants.{NoMemory}
 use Rattle.td_journal.specs.declared.journal_fault.ReadError.TheVariants as journal
 use Rattle.td_supply.specs.Supply.{Stock}
-use Rattle.td_core.specs.History.{History}
 use Rattle.td_book.specs.Desk.{BookModel}
 use Rattle.td_indices.specs.Supplying.{supply_of}
+use Rattle.td_report.specs.TransitionView.{IsMade}
 use Rattle.td_script.specs.Asking.{IsToldOf, journal_asked, setting_asked}
 use Rattle.td_script.specs.Ends.{IsAnswered}
 use Rattle.td_script.specs.OpeningInside.{IsBegunBy, IsJournalFault, IsToldFor, IsToldFrom}
 use Rattle.td_script.specs.OpeningInside.{IsUntold, of_input}
 use Rattle.td_script.specs.Openings.{IsJournalIfGiven}
-use Rattle.td_script.specs.Reporting.{report_by}
-use Rattle.td_script.specs.Settings.{setting_lent}
+use Rattle.td_script.specs.Reporting.{made, report_by}
+use Rattle.td_script.specs.Settings.{IsLentTo, setting_lent}
 use Rattle.td_script.specs.Telling.{Telling}
 use Rattle.td_script.specs.declared.input_fault.InputFault.TheVariants as fault
 use Rattle.td_script.specs.declared.running.RunFault.{RunFault}
 use Rattle.td_script.specs.declared.running.RunFault.TheVariants as RunFaults
 use Rattle.td_script.specs.declared.staff.Asked.{Asked}
 use Rattle.td_script.specs.declared.told.Told.{Told}
-use Rattle.td_script.proofs.ScriptLaws.{setting_of}
 
--- of the lines, for one suite
-pub one_suite : (h : History) (stock : Stock) (suites : List (List ℕ)) (suite : List ℕ)
-    (report : Option (Table → List ℕ)) (lines text : List ℕ) (refused : ℕ)
-    → IsAnswered (setting_of stock suites report) h lines text refused → suites ≡ suite ∷ []
-    → IsAnswered (setting_of stock (suite ∷ []) report) h lines text refused
-one_suite h stock suites suite report lines text refused is its =
-    subst (λ (l : List (List ℕ)). IsAnswered (setting_of stock l report) h lines text refused) its
-    is
+-- what is lent at the board of a book that begins so is lent to it
+pub begun_lent : (asked : Asked) (board table : TableId) (builders : ℕ)
+    (begun : Result BookModel ReadError) → board ≡ table → builders ≡ 0
+    → IfOk begun (IsBegunBy (journal_asked asked) asked.rows table (supply_of asked.archive.now)
+    builders)
+    → IfSome asked.reports (λ x. IsMade x.now)
+    → IfOk begun (IsLentTo made board asked.reports)
+begun_lent asked board table builders (Ok book) same none begun fit = record {
+  board = same ∙ sym begun.table_is;
+  alone = begun.builders_are ∙ none;
+  fits = fit;
+}
+begun_lent asked board table builders (Err e) same none begun fit = tt
 
 -- from a book that begins so, or none
 pub told_begun : (asked : Asked) (table : TableId) (builders : ℕ)

@@ -2,12 +2,13 @@
 use Rattle.std.specs.Prelude.{ℕ, List, Option}
 use Rattle.td_text.specs.Lines.{text_of}
 use Rattle.td_rows.specs.Table.{Table}
+use Rattle.td_book.specs.Desk.{Fixed}
 use Rattle.td_indices.specs.Archive.{Contents}
 use Rattle.td_query.specs.Tracking.{Tracking}
 use Rattle.td_waves.specs.declared.level.Level.{Level}
 use Rattle.td_report.specs.Report.{report_lines}
 use Rattle.td_report.specs.Transition.{affected_rows}
-use Rattle.td_report.specs.TransitionView.{contents_of, depth_of, level_of, tracking_of}
+use Rattle.td_report.specs.TransitionView.{IsMade, contents_of, depth_of, level_of, tracking_of}
 use Rattle.td_report.specs.declared.transition.Transition.{Transition}
 
 -- the text of the report of these rows, where sources stand at these levels
@@ -18,3 +19,7 @@ report_with a t level depth rows =
 -- the same, of a transition
 abbrev pub report_by : Transition → Table → List ℕ
 report_by x rows = report_with (contents_of x) (tracking_of x) (level_of x) (depth_of x) rows
+
+-- a transition's reports fit any book
+abbrev pub made : Transition → Table → Fixed → Type 0
+made x opening fixed = IsMade x

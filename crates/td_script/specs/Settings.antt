@@ -1,9 +1,18 @@
 -- By what lines are answered, as the code is lent it. This project's own.
-use Rattle.std.specs.Prelude.{ℕ, List, Option, map, option_map}
+use Rattle.std.specs.Prelude.{◌≡◌, ℕ, List, Option, IfSome, map, option_map}
 use Rattle.std.specs.Borrow.{Bor}
+use Rattle.atomic_table.specs.Seated.{TableId}
 use Rattle.td_rows.specs.Table.{Table}
 use Rattle.td_supply.specs.Supply.{Stock}
+use Rattle.td_book.specs.Desk.{BookModel, Fixed}
 use Rattle.td_script.specs.Replies.{Setting}
+
+-- what is lent belongs to a book without builders: the board is the book's, and the reports fit it
+pub record IsLentTo {R : Type 0} (Fits : R → Table → Fixed → Type 0) (table : TableId)
+    (reports : Option (Bor R)) (book : BookModel) : Type 0 where
+  pub board : table ≡ book.fixed.table
+  pub alone : book.fixed.builders ≡ 0
+  pub fits : IfSome reports (λ r. Fits r.now book.history.opening book.fixed)
 
 -- these offers, with the suites and what tells the report, where it is there
 abbrev pub setting_lent : {R : Type 0} → (R → Table → List ℕ) → Stock → List (Bor (List ℕ))

@@ -16,6 +16,7 @@ mod files;
 mod input_fault;
 mod inputs;
 mod laws;
+mod lent;
 mod line;
 mod opening;
 mod replying;
@@ -33,6 +34,7 @@ pub use dispatch::answer;
 pub use input_fault::InputFault;
 pub use inputs::Inputs;
 pub use laws::cut_scripts_tell_the_same;
+pub use lent::Lent;
 pub use line::{Said, asked_lines_are_requests, read_line};
 pub use opening::put_state_over;
 pub use replying::{

@@ -3,8 +3,7 @@ ghost use Rattle.std.specs.Prelude.{◌≡◌, ℕ, List, IfOk, string_bytes};
 ghost use Rattle.td_rows.specs.Table.{Table};
 ghost use Rattle.td_core.specs.History.{rows_of};
 ghost use Rattle.td_book.specs.Desk.{Fixed};
-ghost use Rattle.td_report.specs.TransitionView.{IsMade};
-ghost use Rattle.td_script.specs.Reporting.{report_by};
+ghost use Rattle.td_script.specs.Reporting.{made, report_by};
 
 use std::alloc::{AllocError, Global};
 use td_book::Book;
@@ -29,7 +28,7 @@ pub trait Reports {
 impl Reports for Transition<'_, '_, '_, '_> {
     ghost text = { λ x rows. report_by x rows };
 
-    ghost fits = { λ x opening fixed. IsMade x };
+    ghost fits = { λ x opening fixed. made x opening fixed };
 
     fn report(&self, alloc: Global, book: &Book<'_>) -> Result<String, AllocError> {
         Transition::report(self, alloc, book.rows())

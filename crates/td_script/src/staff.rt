@@ -1,15 +1,15 @@
 //! Who answers a script, and what they are asked.
-ghost use Rattle.std.specs.Prelude.{◌≡◌, ◌<◌, ◌^◌, ◌-◌, ◌∷◌, [], Err, IfOk, IfSome};
+ghost use Rattle.std.specs.Prelude.{◌≡◌, ◌<◌, ◌^◌, ◌-◌, Err, IfOk};
 ghost use Rattle.std.specs.Prelude.{MatchResult, length};
 ghost use Rattle.td_board.specs.Knowledge.{new_desk};
-ghost use Rattle.td_report.specs.TransitionView.{IsMade};
 ghost use Rattle.td_script.specs.Asking.{IsFit, IsToldOf};
 ghost use Rattle.td_script.specs.Ends.{IsAnswered};
 ghost use Rattle.td_script.specs.OpeningInside.{IsToldFor};
-ghost use Rattle.td_script.specs.Reporting.{report_by};
-ghost use Rattle.td_script.specs.Settings.{setting_lent};
+ghost use Rattle.td_script.specs.Reporting.{made, report_by};
+ghost use Rattle.td_script.specs.Settings.{IsLentTo, setting_lent};
 
 use crate::beginning::begin_over;
+use crate::lent::Lent;
 use crate::told::Told;
 use crate::watched::tell_watched;
 use std::alloc::{AllocError, Global};
@@ -58,21 +58,16 @@ impl Staff for Alone {
 
 // What a clerk alone tells of the lines of a script, from a book.
 fn tell_begun(
-    alloc: Global,
     book: &mut Book<'_>,
-    board: &Board,
-    suite: &str,
-    reports: Option<&Transition<'_, '_, '_, '_>>,
+    lent: &Lent<'_, '_, '_, Transition<'_, '_, '_, '_>>,
     script: &str,
 ) -> Result<Told, ReadError>
-    requires board { board.now.table ≡ book.old.fixed.table }
-    requires alone { book.old.fixed.builders ≡ 0 }
-    requires made { IfSome reports (λ r. IsMade r.now) }
+    requires lent { IsLentTo made lent.now.board.now.table lent.now.reports book.old }
     requires small { length script.now < 2 ^ 63 - 1 }
-    ensures { IsToldFor book.old (setting_lent report_by book.old.fixed.stock (suite.entry ∷ [])
-        reports.entry) script.now result }
+    ensures { IsToldFor book.old (setting_lent report_by book.old.fixed.stock lent.now.suites.now
+        lent.now.reports) script.now result }
 {
-    match tell_watched(alloc, book, board, [suite].as_slice(), reports, script) {
+    match tell_watched(book, lent, script) {
         Ok(told) => Ok(told),
         Err(AllocError) => Err(ReadError::NoMemory),
     }
@@ -80,25 +75,20 @@ fn tell_begun(
 
 // The same from a book, if one was begun.
 fn tell_if_begun(
-    alloc: Global,
     begun: Result<Book<'_>, ReadError>,
-    board: &Board,
-    suite: &str,
-    reports: Option<&Transition<'_, '_, '_, '_>>,
+    lent: &Lent<'_, '_, '_, Transition<'_, '_, '_, '_>>,
     script: &str,
 ) -> Result<Told, ReadError>
-    requires board { IfOk begun (λ book. board.now.table ≡ book.fixed.table) }
-    requires alone { IfOk begun (λ book. book.fixed.builders ≡ 0) }
-    requires made { IfSome reports (λ r. IsMade r.now) }
+    requires lent { IfOk begun (IsLentTo made lent.now.board.now.table lent.now.reports) }
     requires small { length script.now < 2 ^ 63 - 1 }
     ensures { MatchResult begun.entry
-        (λ book. IsToldFor book (setting_lent report_by book.fixed.stock (suite.entry ∷ [])
-        reports.entry) script.now result)
+        (λ book. IsToldFor book (setting_lent report_by book.fixed.stock lent.now.suites.now
+        lent.now.reports) script.now result)
         (λ fault. result ≡ Err fault) }
 {
     match begun {
         Ok(mut book) => {
-            let told = tell_begun(alloc, &mut book, board, suite, reports, script);
+            let told = tell_begun(&mut book, lent, script);
             drop(book);
             told
         }
@@ -121,14 +111,14 @@ fn tell_at(board: &Board, desk: DeskSeat, asked: Asked) -> Result<Told, ReadErro
         asked.archive,
         asked.journal,
     );
-    tell_if_begun(
-        asked.alloc,
-        begun,
+    let suites = [asked.suite];
+    let lent = Lent {
+        alloc: asked.alloc,
         board,
-        asked.suite,
-        asked.reports,
-        asked.script,
-    )
+        suites: suites.as_slice(),
+        reports: asked.reports,
+    };
+    tell_if_begun(begun, &lent, asked.script)
 }
 
 /// What a clerk alone tells of a script.

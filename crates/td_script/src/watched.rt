@@ -1,20 +1,20 @@
 //! Reports by the counts of a book that watches the groups of a transition.
-ghost use Rattle.std.specs.Prelude.{◌≡◌, ◌<◌, ◌^◌, ◌-◌, ℕ, Some, IfOk, IfSome, OnOk, length};
+ghost use Rattle.std.specs.Prelude.{◌≡◌, ◌<◌, ◌^◌, ◌-◌, ℕ, Some, IfOk, OnOk, length};
 ghost use Rattle.std.specs.Prelude.{slice_get, string_bytes};
 ghost use Rattle.td_core.specs.History.{rows_of};
 ghost use Rattle.td_book.specs.Watching.{installed_in};
 ghost use Rattle.td_book.specs.WatchCalls.{with_watch};
 ghost use Rattle.td_report.specs.TransitionView.{IsMade};
 ghost use Rattle.td_script.specs.Ends.{IsAnswered};
-ghost use Rattle.td_script.specs.Reporting.{report_by};
+ghost use Rattle.td_script.specs.Reporting.{made, report_by};
 ghost use Rattle.td_script.specs.Script.{IsTold};
-ghost use Rattle.td_script.specs.Settings.{setting_lent};
+ghost use Rattle.td_script.specs.Settings.{IsLentTo, setting_lent};
 ghost use Rattle.td_script.specs.Watched.{Watches, watch_by};
 
+use crate::lent::Lent;
 use crate::reports::Reports;
 use crate::told::{Told, tell};
 use std::alloc::{AllocError, Global};
-use td_board::Board;
 use td_book::Book;
 use td_report::Transition;
 
@@ -68,50 +68,45 @@ fn watch(
 
 // Answers the lines of a script, one after the other, from a book that watches the groups.
 fn tell_counted(
-    alloc: Global,
     book: &mut Book<'_>,
-    board: &Board,
-    suites: &[&str],
+    lent: &Lent<'_, '_, '_, Transition<'_, '_, '_, '_>>,
     reports: &Watched<'_, '_, '_, '_, '_>,
     script: &str,
 ) -> Result<Told, AllocError>
-    requires board { board.now.table ≡ book.old.fixed.table }
-    requires alone { book.old.fixed.builders ≡ 0 }
-    requires watches { Watches reports.now.transition.now book.old.history.opening book.old.fixed }
+    requires lent { IsLentTo Watches lent.now.board.now.table (Some reports.now.transition)
+        book.old }
     requires small { length script.now < 2 ^ 63 - 1 }
     ensures { IfOk result (IsTold
-        (setting_lent report_by book.old.fixed.stock suites.now (Some reports.now.transition))
-        script.now book.old book.new) }
+        (setting_lent report_by book.old.fixed.stock lent.now.suites.now
+        (Some reports.now.transition)) script.now book.old book.new) }
 {
-    tell(alloc, book, board, suites, Some(reports), script)
+    let lent = Lent {
+        alloc: lent.alloc,
+        board: lent.board,
+        suites: lent.suites,
+        reports: Some(reports),
+    };
+    tell(book, &lent, script)
 }
 
 /// Answers the lines of a script, one after the other, from a book without builders, which watches
 /// the groups of the transition where there is one.
 pub fn tell_watched(
-    alloc: Global,
     book: &mut Book<'_>,
-    board: &Board,
-    suites: &[&str],
-    transition: Option<&Transition<'_, '_, '_, '_>>,
+    lent: &Lent<'_, '_, '_, Transition<'_, '_, '_, '_>>,
     script: &str,
 ) -> Result<Told, AllocError>
-    requires board { board.now.table ≡ book.old.fixed.table }
-    requires alone { book.old.fixed.builders ≡ 0 }
-    requires made { IfSome transition (λ x. IsMade x.now) }
+    requires lent { IsLentTo made lent.now.board.now.table lent.now.reports book.old }
     requires small { length script.now < 2 ^ 63 - 1 }
     ensures { IfOk result (λ told.
-        IsAnswered (setting_lent report_by book.old.fixed.stock suites.now transition.entry)
-        book.old.history script.now (string_bytes told.text) told.refused) }
+        IsAnswered (setting_lent report_by book.old.fixed.stock lent.now.suites.now
+        lent.now.reports) book.old.history script.now (string_bytes told.text) told.refused) }
 {
-    match transition {
+    match lent.reports {
         Some(transition) => {
-            watch(alloc, book, transition)?;
-            tell_counted(alloc, book, board, suites, &Watched { transition }, script)
+            watch(lent.alloc, book, transition)?;
+            tell_counted(book, lent, &Watched { transition }, script)
         }
-        None => {
-            let none = Option::<&Transition<'_, '_, '_, '_>>::None;
-            tell(alloc, book, board, suites, none, script)
-        }
+        None => tell(book, lent, script),
     }
 }

@@ -10,23 +10,23 @@ use Rattle.td_script.proofs.AnswerLaws.{Answers-refuse}
 use Rattle.td_script.proofs.dispatch.type_in.Goals as goal
 
 pub returns-in-Ok : goal.returns-in-Ok
-returns-in-Ok c =
+returns-in-Ok g c =
     let b = c.args.book.now in
     subst (λ (t : List ArchWords). IfOk c.command.result (Answers
     (types b.fixed.stock b.history
-    (command_at t (map (λ s. s.now) c.args.suites.now) c.args.line.now)) b c.command.new.book
-    (string_bytes c.args.out.now) (string_bytes c.command.new.out)))
+    (command_at t (map (λ s. s.now) c.args.lent.now.suites.now) c.args.line.now)) b
+    c.command.new.book (string_bytes c.args.out.now) (string_bytes c.command.new.out)))
     (c.archs.ensures ∙ ap (λ s. s.table) c.supply.ensures)
     (rw c.in-Ok.ensures.found c.command.ensures)
 
 pub returns-in-Err-Wrong : goal.returns-in-Err-Wrong
-returns-in-Err-Wrong c =
+returns-in-Err-Wrong g c =
     let b = c.args.book.now in
     let first = rw c.in-Err-Wrong.field-0-is at c.in-Err-Wrong.ensures.fault in
     let said = rw c.name.ensures at c.refuse.ensures in
     subst (λ (t : List ArchWords). IfOk c.refuse.result (Answers
     (types b.fixed.stock b.history
-    (command_at t (map (λ s. s.now) c.args.suites.now) c.args.line.now)) b b
+    (command_at t (map (λ s. s.now) c.args.lent.now.suites.now) c.args.line.now)) b b
     (string_bytes c.args.out.now) (string_bytes c.refuse.new.out)))
     (c.archs.ensures ∙ ap (λ s. s.table) c.supply.ensures)
     (rw first

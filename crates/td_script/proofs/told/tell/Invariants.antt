@@ -7,8 +7,9 @@ use Rattle.td_script.proofs.told.tell.Given as goal
 -- what is told so far, with the answers to what is left, is the whole
 abbrev pub invariant-loop-rest : goal.invariant-loop-rest
 invariant-loop-rest g l =
-    IsSoFar (map (λ (s : Bor (List ℕ)). s.now) l.suites)
-    (option_map (λ r. g.R.Reports.text r.now) l.reports) l.fn.script l.fn.book l.book l.told l.rest
+    IsSoFar (map (λ (s : Bor (List ℕ)). s.now) l.fn.lent.suites.now)
+    (option_map (λ r. g.R.Reports.text r.now) l.fn.lent.reports) l.fn.script l.fn.book l.book
+    l.told l.rest
 
 abbrev pub decreases-loop-rest : goal.decreases-loop-rest
 decreases-loop-rest g l = left_len l.rest
