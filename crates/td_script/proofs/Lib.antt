@@ -13,4 +13,5 @@ pub mod WithoutJournal
 pub mod CutLaws
 pub mod StaffLaws
 pub mod StateLaws
+pub mod LackingRows
 pub mod Words

@@ -164,7 +164,7 @@ pub stops_run : (x : Texts) (e : RunFault) → Stops x e → MayStop x e
 stops_run x (Input (fault.Table e)) h = h
 stops_run x (Input (fault.Archive e)) h = h
 stops_run x (Input (fault.State e)) h = h
-stops_run x (Input fault.NoSuchRow) h = h
+stops_run x (Input (fault.NoSuchRow number)) h = h
 stops_run x (Input (fault.Tracker e)) h = h
 stops_run x (Input (fault.Journal e)) h = absurd h
 stops_run x Read h = absurd h

@@ -81,7 +81,7 @@ refused_row : (x : Texts) (c : Contents) (opened : Table) (text : List ℕ) → 
 refused_row x c opened text archive are is (fault.Table e) h = absurd h
 refused_row x c opened text archive are is (fault.Archive e) h = absurd h
 refused_row x c opened text archive are is (fault.State e) h = (c, archive, rw is h)
-refused_row x c opened text archive are is fault.NoSuchRow h =
+refused_row x c opened text archive are is (fault.NoSuchRow number) h =
     (c, archive, rw is (opened, are, h))
 refused_row x c opened text archive are is (fault.Tracker e) h = absurd h
 refused_row x c opened text archive are is (fault.Journal e) h = absurd h
@@ -131,7 +131,7 @@ untold : (x : Texts) (c : Contents) (rows : Table) → IsArchiveOf x c → AreRo
 untold x c rows archive are tracker (fault.Table e) h = absurd h
 untold x c rows archive are tracker (fault.Archive e) h = absurd h
 untold x c rows archive are tracker (fault.State e) h = absurd h
-untold x c rows archive are tracker fault.NoSuchRow h = absurd h
+untold x c rows archive are tracker (fault.NoSuchRow number) h = absurd h
 untold x c rows archive are tracker (fault.Tracker e) h = absurd h
 untold x c rows archive are tracker (fault.Journal e) h = (c, archive, (rows, are, tracker, h))
 

@@ -35,7 +35,7 @@ pub state_put : (opened : Table) (text : List ℕ) (read : Result Table StateFau
     (r : Result Table RunFault) → NoneBuilt opened → IfOk read (IsStateFile (lines_of text))
     → ((t : Table) → IsStateFile (lines_of text) t
     → MatchResult read (λ rows. rows ≡ t) (λ e. e ≡ state.NoMemory))
-    → IfErr read (FaultOf (lines_of text)) → IfOk read (λ given. IsPutOver opened given r)
+    → IfErr read (FaultOf (lines_of text)) → IfOk read (λ given. IsPutOver opened text given r)
     → IfErr read (λ f. r ≡ Err (of_input (input.State f))) → IsStatePut opened text r
 state_put opened text (Ok given) (Ok rows) idle found only fault put refused = record {
   rows = record {
@@ -52,8 +52,8 @@ state_put opened text (Ok given) (Ok rows) idle found only fault put refused = r
 state_put opened text (Ok given) (Err e) idle found only fault put refused = record {
   rows = tt;
   idle = tt;
-  refused = subst (IsRefusedIn opened text) (sym put.0) (given, found, put.1);
-  only = λ can. absurd (missing_stops opened given text put.1.0 put.1.1 (λ u is. only u is) can);
+  refused = subst (IsRefusedIn opened text) (sym put.1) (given, found, put.2);
+  only = λ can. absurd (missing_stops opened given text put.3.0 put.3.1 (λ u is. only u is) can);
 }
 state_put opened text (Err f) r idle found only fault put refused =
     subst (IsStatePut opened text) (sym refused) (record {

@@ -33,7 +33,7 @@ input_too : (x : Texts) (e : InputFault) → IsRefused (without_journal x) e →
 input_too x (fault.Table e) h = table_too x e h
 input_too x (fault.Archive e) h = indices_too x e h
 input_too x (fault.State e) h = (h.0, archive_too x h.0 h.1, h.2)
-input_too x fault.NoSuchRow h = (h.0, archive_too x h.0 h.1, h.2)
+input_too x (fault.NoSuchRow number) h = (h.0, archive_too x h.0 h.1, h.2)
 input_too x (fault.Tracker e) h = (h.0, archive_too x h.0 h.1, h.2)
 input_too x (fault.Journal e) h = absurd h.2.3
 

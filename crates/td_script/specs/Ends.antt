@@ -69,7 +69,7 @@ abbrev pub MayStop : Texts → RunFault → Type 0
 MayStop x (Input (fault.Table e)) = ⊥
 MayStop x (Input (fault.Archive e)) = ⊥
 MayStop x (Input (fault.State e)) = ⊥
-MayStop x (Input fault.NoSuchRow) = ⊥
+MayStop x (Input (fault.NoSuchRow number)) = ⊥
 MayStop x (Input (fault.Tracker e)) = IsPatternRefused x.tracker e
 MayStop x (Input (fault.Journal e)) = ⊥
 MayStop x Read = Unit {0}

@@ -45,7 +45,7 @@ abbrev pub role_of : InputFault → Role
 role_of (Table e) = role.Archs
 role_of (Archive e) = role_of_archive e
 role_of (State e) = role.State
-role_of NoSuchRow = role.State
+role_of (NoSuchRow number) = role.State
 role_of (Tracker e) = role.Tracker
 role_of (Journal e) = role.Journal
 
@@ -54,6 +54,6 @@ abbrev pub fault_name : InputFault → List ℕ
 fault_name (Table e) = archs_fault.name_of e
 fault_name (Archive e) = archive_fault.name_of e
 fault_name (State e) = state_fault.name_of e
-fault_name NoSuchRow = codes "NoSuchRow"
+fault_name (NoSuchRow number) = codes "NoSuchRow"
 fault_name (Tracker e) = tracker_fault.fault_name e
 fault_name (Journal e) = journal_fault.name_of e

@@ -16,3 +16,4 @@ pub mod Settings
 pub mod Telling
 pub mod Cutting
 pub mod Limits
+pub mod Lacking

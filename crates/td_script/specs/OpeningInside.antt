@@ -28,6 +28,7 @@ use Rattle.td_script.specs.declared.running.RunFault.TheVariants.{Input, Read, T
 use Rattle.td_script.specs.declared.running.RunFault.TheVariants.{NoMemory}
 use Rattle.td_script.specs.declared.told.Told.{Told as ToldText}
 use Rattle.td_script.specs.Ends.{AreFine, IsAnswered}
+use Rattle.td_script.specs.Lacking.{IsFirstLacking}
 use Rattle.td_script.specs.Openings.{IsBegun, IsNoJournal, IsNoState, IsPatternRefused}
 use Rattle.td_script.specs.Openings.{IsReadableOver, IsRefused, IsSet, Texts}
 use Rattle.td_script.specs.Replies.{Setting}
@@ -70,19 +71,27 @@ pub record IsReplacedIn (opened : Table) (text : List ℕ) (rows : Table) : Type
   pub none_missing : (k : Key) → first_missing opened given ≡ Some k → ⊥
   pub replaced : rows ≡ overlaid given opened
 
--- rows with given ones in the places of their keys, or one of these has no place
-abbrev pub IsPutOver : Table → Table → Result Table RunFault → Type 0
-IsPutOver opened given (Ok rows) =
+-- a row of a state file has no place among these rows
+abbrev pub LacksPlace : Table → List ℕ → Type 0
+LacksPlace opened text =
+    (given : Table) × IsStateFile (lines_of text) given
+    × ((k : Key) × (first_missing opened given ≡ Some k))
+
+-- rows with the given ones of a text in the places of their keys, or one of these has no place
+abbrev pub IsPutOver : Table → List ℕ → Table → Result Table RunFault → Type 0
+IsPutOver opened text given (Ok rows) =
     (rows ≡ overlaid given opened) × ((k : Key) → first_missing opened given ≡ Some k → ⊥)
-IsPutOver opened given (Err e) =
-    (e ≡ Input fault.NoSuchRow) × ((k : Key) × (first_missing opened given ≡ Some k))
+IsPutOver opened text given (Err e) =
+    (number : ℕ) × (e ≡ Input (fault.NoSuchRow number))
+    × IsFirstLacking opened (lines_of text) number
+    × ((k : Key) × (first_missing opened given ≡ Some k))
 
 -- of a text that isn't put over the rows
 abbrev pub IsInputRefusedIn : Table → List ℕ → InputFault → Type 0
 IsInputRefusedIn opened text (fault.State e) = IsNoState (Some text) e
-IsInputRefusedIn opened text fault.NoSuchRow =
+IsInputRefusedIn opened text (fault.NoSuchRow number) =
     (given : Table) × IsStateFile (lines_of text) given
-    × ((k : Key) × (first_missing opened given ≡ Some k))
+    × IsFirstLacking opened (lines_of text) number
 IsInputRefusedIn opened text e = ⊥
 
 -- it is no state file, or has a row that these haven't, or memory runs out

@@ -40,6 +40,7 @@ use Rattle.td_script.specs.declared.files.Files.{Files}
 use Rattle.td_script.specs.declared.input_fault.InputFault.{InputFault}
 use Rattle.td_script.specs.declared.input_fault.InputFault.TheVariants as fault
 use Rattle.td_script.specs.declared.inputs.Inputs.{Inputs}
+use Rattle.td_script.specs.Lacking.{IsFirstLacking}
 use Rattle.td_script.specs.Replies.{Setting}
 use Rattle.td_script.specs.Reporting.{report_with}
 
@@ -174,13 +175,13 @@ IsNoState None e = ⊥
 IsNoState (Some text) state.NoMemory = ⊥
 IsNoState (Some text) e = state_file.FaultOf (lines_of text) e
 
--- it is one, and has a row that the archive hasn't
-abbrev pub LacksRow : Contents → Option (List ℕ) → Type 0
-LacksRow c None = ⊥
-LacksRow c (Some text) =
+-- it is one, and the first line of a row that the archive hasn't has this number
+abbrev pub LacksRowAt : Contents → Option (List ℕ) → ℕ → Type 0
+LacksRowAt c None number = ⊥
+LacksRowAt c (Some text) number =
     (opened : Table) × AreOpened c opened
     × ((given : Table) × IsStateFile (lines_of text) given
-    × ((k : Key) × (first_missing opened given ≡ Some k)))
+    × IsFirstLacking opened (lines_of text) number)
 
 -- a text is given, and is no tracker, or `regex` refuses one of its patterns
 abbrev pub IsNoTracker : Option (List ℕ) → TrackerFault → Type 0
@@ -205,7 +206,7 @@ abbrev pub IsRefusedOver : Contents → Texts → InputFault → Type 0
 IsRefusedOver c x (fault.Table e) = ⊥
 IsRefusedOver c x (fault.Archive e) = ⊥
 IsRefusedOver c x (fault.State e) = IsNoState x.state e
-IsRefusedOver c x fault.NoSuchRow = LacksRow c x.state
+IsRefusedOver c x (fault.NoSuchRow number) = LacksRowAt c x.state number
 IsRefusedOver c x (fault.Tracker e) =
     (rows : Table) × AreRowsOf c x.state rows × IsNoTracker x.tracker e
 IsRefusedOver c x (fault.Journal e) =
@@ -217,7 +218,8 @@ abbrev pub IsRefused : Texts → InputFault → Type 0
 IsRefused x (fault.Table e) = IsNoTable x e
 IsRefused x (fault.Archive e) = AreNoIndices x e
 IsRefused x (fault.State e) = (c : Contents) × IsArchiveOf x c × IsRefusedOver c x (fault.State e)
-IsRefused x fault.NoSuchRow = (c : Contents) × IsArchiveOf x c × IsRefusedOver c x fault.NoSuchRow
+IsRefused x (fault.NoSuchRow number) =
+    (c : Contents) × IsArchiveOf x c × IsRefusedOver c x (fault.NoSuchRow number)
 IsRefused x (fault.Tracker e) =
     (c : Contents) × IsArchiveOf x c × IsRefusedOver c x (fault.Tracker e)
 IsRefused x (fault.Journal e) =

@@ -15,6 +15,7 @@ mod dispatch;
 mod files;
 mod input_fault;
 mod inputs;
+mod lacking;
 mod laws;
 mod lent;
 mod line;

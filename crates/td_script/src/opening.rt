@@ -13,6 +13,7 @@ ghost use Rattle.td_script.specs.Settings.{setting_lent};
 ghost use Rattle.td_script.specs.Openings.{AreReadable, AreRowsOf, IsArchiveOf, IsJournalIfGiven};
 ghost use Rattle.td_script.specs.Openings.{IsReadableOver, texts_lent, texts_of};
 ghost use Rattle.td_query.specs.Tracking.{IsTracker, Tracking, tracking};
+ghost use Rattle.td_rows.specs.StateFile.{IsStateFile};
 ghost use Rattle.td_rows.specs.Table.{Table};
 ghost use Rattle.td_script.specs.OpeningInside.{AreReadableWith, CanReplace, Stops, IsRefusedBy};
 ghost use Rattle.td_script.specs.OpeningInside.{IsPutOver, IsRefusedIn, IsReplacedIn, IsToldFrom};
@@ -21,6 +22,7 @@ ghost use Rattle.td_script.specs.OpeningInside.{IsTrackerOf, IsUntold, TellsOrRe
 use crate::files::Files;
 use crate::input_fault::InputFault;
 use crate::inputs::Inputs;
+use crate::lacking::first_lacking;
 use crate::running::RunFault;
 use crate::staff::{Asked, Staff};
 use crate::told::Told;
@@ -47,15 +49,19 @@ fn fault_of(fault: InputFault) -> RunFault
     }
 }
 
-// The rows with those that were read of a state file in the place of the ones of their keys.
-fn put_over(mut rows: Rows, read: Result<Rows, StateFault>) -> Result<Rows, RunFault>
-    ensures put { IfOk read (λ given. IsPutOver rows given result) }
+// The rows with those that were read of the text in the place of the ones of their keys.
+fn put_over(mut rows: Rows, text: &str, read: Result<Rows, StateFault>) -> Result<Rows, RunFault>
+    requires { IfOk read (IsStateFile (lines_of text.now)) }
+    ensures put { IfOk read (λ given. IsPutOver rows text.now given result) }
     ensures refused { IfErr read (λ fault. result ≡ Err (of_input (InputFault.State fault))) }
 {
     match read {
         Ok(given) => match rows.overlay(given) {
             Ok(()) => Ok(rows),
-            Err(_) => Err(RunFault::Input(InputFault::NoSuchRow)),
+            Err(_) => {
+                let number = first_lacking(&rows, text);
+                Err(RunFault::Input(InputFault::NoSuchRow(number)))
+            }
         },
         Err(fault) => Err(fault_of(InputFault::State(fault))),
     }
@@ -70,7 +76,7 @@ pub fn put_state_over(alloc: Global, rows: Rows, text: &str) -> Result<Rows, Run
     ensures only { IfErr result (λ fault. CanReplace rows text.now → fault ≡ RunFault.NoMemory) }
 {
     let read = read_state(alloc, text);
-    put_over(rows, read)
+    put_over(rows, text, read)
 }
 
 // The rows from which a script starts.

@@ -118,7 +118,7 @@ has_fault files t role (Form (form.Archive archive.TooManyRows)) texts is =
     (is.0, archive_fault files t archive.TooManyRows texts is.1)
 has_fault files t role (Form (form.Archive archive.NoMemory)) texts is = absurd is
 has_fault files t role (Form (form.State e)) texts is = absurd is
-has_fault files t role (Form form.NoSuchRow) texts is = absurd is
+has_fault files t role (Form (form.NoSuchRow n)) texts is = absurd is
 has_fault files t role (Form (form.Tracker e)) texts is = absurd is
 has_fault files t role (BadOutcome n) texts is = absurd is
 has_fault files t role (Form (form.Journal e)) texts is = absurd is

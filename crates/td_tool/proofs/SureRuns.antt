@@ -56,7 +56,7 @@ stop_ends x known (stopped.Input (form.Archive e)) only =
     λ text is fits readable. absurd (only text is fits readable)
 stop_ends x known (stopped.Input (form.State e)) only =
     λ text is fits readable. absurd (only text is fits readable)
-stop_ends x known (stopped.Input form.NoSuchRow) only =
+stop_ends x known (stopped.Input (form.NoSuchRow n)) only =
     λ text is fits readable. absurd (only text is fits readable)
 stop_ends x known (stopped.Input (form.Tracker e)) only =
     λ text is fits readable. bad_pattern x.tracker e (only text is fits readable)

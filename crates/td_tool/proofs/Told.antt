@@ -139,7 +139,7 @@ state_refused : (c : Contents) (rows : Table) (text : List ℕ) → AreOpened c 
 state_refused c rows text opened (form.Table e) is = absurd is
 state_refused c rows text opened (form.Archive e) is = absurd is
 state_refused c rows text opened (form.State e) is = is
-state_refused c rows text opened form.NoSuchRow is = (rows, opened, is)
+state_refused c rows text opened (form.NoSuchRow n) is = (rows, opened, is)
 state_refused c rows text opened (form.Tracker e) is = absurd is
 state_refused c rows text opened (form.Journal e) is = absurd is
 
@@ -192,7 +192,7 @@ state_over : (c : Contents) (x : Texts) (e : FormFault) → IsStateRefused c x.s
 state_over c x (form.Table e) is = absurd is
 state_over c x (form.Archive e) is = absurd is
 state_over c x (form.State e) is = is
-state_over c x form.NoSuchRow is = is
+state_over c x (form.NoSuchRow n) is = is
 state_over c x (form.Tracker e) is = absurd is
 state_over c x (form.Journal e) is = absurd is
 
@@ -365,7 +365,7 @@ refused_over : (x : Texts) (c : Contents) → script.IsArchiveOf (as_script x) c
 refused_over x c is (form.Table e) bad = absurd bad
 refused_over x c is (form.Archive e) bad = absurd bad
 refused_over x c is (form.State e) bad = (c, is, bad)
-refused_over x c is form.NoSuchRow bad = (c, is, bad)
+refused_over x c is (form.NoSuchRow n) bad = (c, is, bad)
 refused_over x c is (form.Tracker e) bad = (c, is, bad)
 refused_over x c is (form.Journal e) bad = (c, is, bad)
 

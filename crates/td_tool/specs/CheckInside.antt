@@ -88,7 +88,7 @@ IsNoArchive a p s (BadInput role (Form (form.Archive e))) =
     × ((t : List ArchWords) × IsTable (lines_of a) t
     × archive_file.FaultOf t (lines_of p) (lines_of s) e)
 IsNoArchive a p s (BadInput role (Form (form.State e))) = ⊥
-IsNoArchive a p s (BadInput role (Form form.NoSuchRow)) = ⊥
+IsNoArchive a p s (BadInput role (Form (form.NoSuchRow n))) = ⊥
 IsNoArchive a p s (BadInput role (Form (form.Tracker e))) = ⊥
 IsNoArchive a p s (BadInput role (Form (form.Journal e))) = ⊥
 IsNoArchive a p s NoMemory = Unit {0}

@@ -82,7 +82,7 @@ abbrev pub place_in_form : FormFault → Place
 place_in_form (form.Table e) = place_in_table e
 place_in_form (form.Archive e) = place_in_index e
 place_in_form (form.State e) = place_in_state e
-place_in_form form.NoSuchRow = Whole
+place_in_form (form.NoSuchRow n) = Line n
 place_in_form (form.Tracker e) = place_in_tracker e
 place_in_form (form.Journal e) = place_in_journal e
 

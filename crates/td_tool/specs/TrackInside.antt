@@ -81,7 +81,7 @@ OrMemory Ends ending = Ends ending ⊎ (ending ≡ NoMemory)
 -- a state file is refused over an archive: it is none, or has a row that the archive hasn't
 abbrev pub IsStateRefused : Contents → Option (List ℕ) → FormFault → Type 0
 IsStateRefused c state (form.State e) = script.IsNoState state e
-IsStateRefused c state form.NoSuchRow = script.LacksRow c state
+IsStateRefused c state (form.NoSuchRow n) = script.LacksRowAt c state n
 IsStateRefused c state e = ⊥
 
 -- there are no rows to look at over an archive, and so it ends: their text is refused, or memory

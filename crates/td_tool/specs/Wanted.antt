@@ -98,7 +98,7 @@ abbrev pub wanted_form : FormFault → List ℕ
 wanted_form (form.Table e) = wanted_table e
 wanted_form (form.Archive e) = wanted_archive e
 wanted_form (form.State e) = wanted_state e
-wanted_form form.NoSuchRow = codes "rows that the indices give"
+wanted_form (form.NoSuchRow n) = codes "a row that the indices give"
 wanted_form (form.Tracker e) = wanted_tracker e
 wanted_form (form.Journal e) = wanted_journal e
 

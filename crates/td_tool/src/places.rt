@@ -112,7 +112,7 @@ fn place_in_form(fault: FormFault) -> Place
         FormFault::Table(fault) => place_in_table(fault),
         FormFault::Archive(fault) => place_in_index(fault),
         FormFault::State(fault) => place_in_state(fault),
-        FormFault::NoSuchRow => Place::Whole,
+        FormFault::NoSuchRow(n) => Place::Line(n),
         FormFault::Tracker(fault) => place_in_tracker(fault),
         FormFault::Journal(fault) => place_in_journal(fault),
     }

@@ -134,7 +134,7 @@ fn wanted_form(fault: FormFault) -> &'static str
         FormFault::Table(fault) => wanted_table(fault),
         FormFault::Archive(fault) => wanted_archive(fault),
         FormFault::State(fault) => wanted_state(fault),
-        FormFault::NoSuchRow => "rows that the indices give",
+        FormFault::NoSuchRow(_) => "a row that the indices give",
         FormFault::Tracker(fault) => wanted_tracker(fault),
         FormFault::Journal(fault) => wanted_journal(fault),
     }
