@@ -79,7 +79,8 @@ wanted_key key.IsBad = codes "a key is_bad"
 
 -- of a tracker
 abbrev pub wanted_tracker : TrackerFault → List ℕ
-wanted_tracker (tracker.Syntax at) = codes "a key and its query, as docs/FORMATS.md has trackers"
+wanted_tracker (tracker.Syntax at) =
+    codes "a key and its query, as docs/FORMATS.md has trackers; at most 100 ( and ! are open"
 wanted_tracker (tracker.MissingKey k) = wanted_key k
 wanted_tracker (tracker.BadPattern at) =
     codes "a pattern that regex takes: no look-around, back reference or open bracket"

@@ -106,7 +106,8 @@ fn wanted_tracker(fault: TrackerFault) -> &'static str
     ensures { result.now ≡ wanted_tracker fault }
 {
     match fault {
-        TrackerFault::Syntax(_) => "a key and its query, as docs/FORMATS.md has trackers",
+        TrackerFault::Syntax(_) =>
+            "a key and its query, as docs/FORMATS.md has trackers; at most 100 ( and ! are open",
         TrackerFault::MissingKey(key) => wanted_key(key),
         TrackerFault::BadPattern(_) =>
             "a pattern that regex takes: no look-around, back reference or open bracket",
