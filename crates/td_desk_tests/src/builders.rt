@@ -1,17 +1,14 @@
 //! Builders at a desk: what their work answers. Expected answers are by hand from the tables of
 //! `docs/FORMATS.md`.
-use crate::shop::{Trial, all_leave};
+use crate::shop::{Played, all_leave};
 use std::alloc::{AllocError, Global};
 use std::test::Fail;
 
-const WORKS: [(Trial<'static>, &str); 4] = [
+const WORKS: [Played<'static>; 4] = [
     (
-        Trial {
-            builders: 1,
-            opening: "foo/amd64 Installed 0 0\n",
-            outcomes: "foo/amd64 waits : libbar-dev\n",
-            script: "nmu foo . amd64 => entry 1\nshut => true\nwork => Some(Ok(1))\n",
-        },
+        "foo/amd64 Installed 0 0\n",
+        "foo/amd64 waits : libbar-dev\n",
+        "nmu foo . amd64 => entry 1\nshut => true\nwork => Some(Ok(1))\n",
         "closed\nreplayed\ntransdesk journal 2\n\
          1 + nmu foo/amd64\n\
          2 + claim=1 foo/amd64\n\
@@ -19,12 +16,9 @@ const WORKS: [(Trial<'static>, &str); 4] = [
          foo/amd64 Dep-Wait 0 1 : libbar-dev\n",
     ),
     (
-        Trial {
-            builders: 1,
-            opening: "foo/amd64 Needs-Build 0 0\n",
-            outcomes: "foo/amd64 givenback\nfoo/amd64 built\n",
-            script: "shut => true\nwork => Some(Ok(2))\nwork => Some(Ok(0))\n",
-        },
+        "foo/amd64 Needs-Build 0 0\n",
+        "foo/amd64 givenback\nfoo/amd64 built\n",
+        "shut => true\nwork => Some(Ok(2))\nwork => Some(Ok(0))\n",
         "closed\nreplayed\ntransdesk journal 2\n\
          1 + claim=1 foo/amd64\n\
          2 + givenback=1 foo/amd64\n\
@@ -33,12 +27,9 @@ const WORKS: [(Trial<'static>, &str); 4] = [
          foo/amd64 Built 0 0\n",
     ),
     (
-        Trial {
-            builders: 1,
-            opening: "foo/amd64 Needs-Build 0 0\nfoo/i386 Needs-Build 7 0\n",
-            outcomes: "foo/i386 attempted\nfoo/amd64 givenback\n",
-            script: "ready => Ok([1, 0])\nshut => true\nwork => Some(Ok(3))\nready => Ok([])\n",
-        },
+        "foo/amd64 Needs-Build 0 0\nfoo/i386 Needs-Build 7 0\n",
+        "foo/i386 attempted\nfoo/amd64 givenback\n",
+        "ready => Ok([1, 0])\nshut => true\nwork => Some(Ok(3))\nready => Ok([])\n",
         "closed\nreplayed\ntransdesk journal 2\n\
          1 + claim=1 foo/i386\n\
          2 + attempted=1 foo/i386\n\
@@ -50,12 +41,9 @@ const WORKS: [(Trial<'static>, &str); 4] = [
          foo/i386 Build-Attempted 7 0\n",
     ),
     (
-        Trial {
-            builders: 1,
-            opening: "",
-            outcomes: "",
-            script: "shut => true\nwork => Some(Ok(0))\n",
-        },
+        "",
+        "",
+        "shut => true\nwork => Some(Ok(0))\n",
         "closed\nreplayed\ntransdesk journal 2\n",
     ),
 ];
@@ -94,11 +82,11 @@ fn thousand_builds(alloc: Global) -> Result<String, Fail> {
 fn a_thousand_lines_are_used_one_by_one(rt: HostRuntime) -> Result<(), Fail> {
     let outcomes = thousand(rt.alloc(), "foo/amd64 givenback\n")?;
     let expected = thousand_builds(rt.alloc())?;
-    let trial = Trial {
-        builders: 1,
-        opening: "foo/amd64 Needs-Build 0 0\n",
-        outcomes: outcomes.as_str(),
-        script: "shut => true\nwork => Some(Ok(1001))\n",
-    };
-    all_leave(&rt, rt.alloc(), &[(trial, expected.as_str())])
+    let played = (
+        "foo/amd64 Needs-Build 0 0\n",
+        outcomes.as_str(),
+        "shut => true\nwork => Some(Ok(1001))\n",
+        expected.as_str(),
+    );
+    all_leave(&rt, rt.alloc(), &[played])
 }

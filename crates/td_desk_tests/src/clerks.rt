@@ -1,7 +1,7 @@
 //! What clerks are told, what they read at the desk, and when it is closed. Expected answers are by
 //! hand from the tables of `docs/FORMATS.md`.
 use crate::sample::INSTALLED;
-use crate::shop::{Trial, all_leave};
+use crate::shop::{Played, all_leave};
 use std::alloc::Global;
 use std::process::Abort;
 use std::sync::Wait;
@@ -41,13 +41,8 @@ fn ends<R: Threads + Wait + Abort + Sync>(
 ) -> Result<(), Fail> {
     let script = format!(in alloc; "{TWO_CLERKS}{end}")?;
     let expected = format!(in alloc; "{front}\n{TWO_CHANGED}")?;
-    let trial = Trial {
-        builders: 1,
-        opening: INSTALLED,
-        outcomes: "",
-        script: script.as_str(),
-    };
-    all_leave(rt, alloc, &[(trial, expected.as_str())])
+    let played = (INSTALLED, "", script.as_str(), expected.as_str());
+    all_leave(rt, alloc, &[played])
 }
 
 // Builds are no clerk's change. What the first clerk has in the end stands before the book.
@@ -107,40 +102,23 @@ row foo/amd64 => foo/amd64 Needs-Build 0 1
 receipts => [1024: made 1 bar/amd64; swept 2;]
 ";
 
-const READ_BACK: [(Trial<'static>, &str); 4] = [
+const UNTOUCHED: &str = "\
+closed
+replayed
+transdesk journal 2
+bar/amd64 Installed 0 0
+bar/i386 Installed 0 0
+foo/amd64 Installed 0 0
+foo/i386 Installed 0 1
+";
+
+const READ_BACK: [Played<'static>; 4] = [
+    (INSTALLED, "", "", UNTOUCHED),
+    (INSTALLED, "", NUMBERED, UNTOUCHED),
     (
-        Trial {
-            builders: 1,
-            opening: INSTALLED,
-            outcomes: "",
-            script: "",
-        },
-        "closed\nreplayed\ntransdesk journal 2\n\
-         bar/amd64 Installed 0 0\n\
-         bar/i386 Installed 0 0\n\
-         foo/amd64 Installed 0 0\n\
-         foo/i386 Installed 0 1\n",
-    ),
-    (
-        Trial {
-            builders: 1,
-            opening: INSTALLED,
-            outcomes: "",
-            script: NUMBERED,
-        },
-        "closed\nreplayed\ntransdesk journal 2\n\
-         bar/amd64 Installed 0 0\n\
-         bar/i386 Installed 0 0\n\
-         foo/amd64 Installed 0 0\n\
-         foo/i386 Installed 0 1\n",
-    ),
-    (
-        Trial {
-            builders: 1,
-            opening: INSTALLED,
-            outcomes: "",
-            script: LOOKED_AT,
-        },
+        INSTALLED,
+        "",
+        LOOKED_AT,
         "closed\nreplayed\ntransdesk journal 2\n\
          1 - nmu=1 foo/amd64\n\
          bar/amd64 Installed 0 0\n\
@@ -149,12 +127,9 @@ const READ_BACK: [(Trial<'static>, &str); 4] = [
          foo/i386 Installed 0 1\n",
     ),
     (
-        Trial {
-            builders: 1,
-            opening: WAITING,
-            outcomes: "",
-            script: SWEPT,
-        },
+        WAITING,
+        "",
+        SWEPT,
         "closed\nreplayed\ntransdesk journal 2\n\
          1 + arrive bar/amd64\n\
          2 + sweep foo/amd64\n\
@@ -169,13 +144,10 @@ fn desk_reads_back(rt: HostRuntime) -> Result<(), Fail> {
 }
 
 // A ledger has 1,024 parts.
-const GIVEN_AWAY: [(Trial<'static>, &str); 1] = [(
-    Trial {
-        builders: 1,
-        opening: "foo/amd64 Installed 0 0\n",
-        outcomes: "",
-        script: "receipts => [1024:]\ngive => 1023\nreceipts => [1:]\ngive => 0\npart => false\n",
-    },
+const GIVEN_AWAY: [Played<'static>; 1] = [(
+    "foo/amd64 Installed 0 0\n",
+    "",
+    "receipts => [1024:]\ngive => 1023\nreceipts => [1:]\ngive => 0\npart => false\n",
     "closed\nreplayed\ntransdesk journal 2\nfoo/amd64 Installed 0 0\n",
 )];
 

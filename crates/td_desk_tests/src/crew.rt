@@ -1,6 +1,6 @@
 //! Builders on threads of their own beside clerks, who command and undo by a fixed sequence of
 //! numbers.
-use crate::people::{Hired, People};
+use crate::people::{People, build, command};
 use crate::sample::{TABLE, next_number};
 use crate::tally::{Answer, Tally};
 use std::alloc::Global;
@@ -10,11 +10,11 @@ use std::test::Fail;
 use std::thread::Threads;
 use std::{mem, thread};
 use td_book::{Book, CommandRefusal, Taken, UndoRefusal};
-use td_desk::{Clerk, Desk, Named, Receipt};
+use td_builder::work;
+use td_desk::{Clerk, Desk, Hired, Named, Receipt};
 use td_journal::EntryNo;
 use td_relation::Archs;
 use td_rows::Key;
-use td_wbread::{Command, read_command};
 
 // How many rows the builders claim.
 const ROWS: usize = 4;
@@ -38,10 +38,10 @@ fn claim_each<N: Named, C: Ledger, R: Wait>(
     tally: &Tally,
 ) {
     for row in 0..ROWS {
-        if !hired.claim(desk, row) {
+        if !desk.claim(row, &mut hired.seat) {
             continue;
         }
-        if hired.build(rt, desk, row, tally.outcome()) {
+        if build(rt, desk, hired, row, tally.outcome()) {
             tally.finish(1);
         } else {
             tally.note(Answer::Wrong);
@@ -75,7 +75,7 @@ fn serve<N: Named, C: Ledger, R: Wait>(
     let mut hired = hired;
     match style {
         Style::Claim => claim_on(rt, desk, &mut hired, tally),
-        Style::Work => match hired.work(rt, desk, tally) {
+        Style::Work => match work(rt, desk, &mut hired.seat, tally) {
             Ok(builds) => tally.finish(builds),
             Err(_) => tally.note(Answer::Wrong),
         },
@@ -157,34 +157,6 @@ fn judged<N: Named, C: Ledger, R: Wait>(
     }
 }
 
-fn take<N: Named, C: Ledger, R: Wait>(
-    rt: &R,
-    desk: &Desk<'static, N, C>,
-    clerk: &mut Clerk<C>,
-    command: &Command<'_>,
-) -> Answer {
-    let told = desk.command(rt, clerk, command);
-    judged(rt, desk, &told)
-}
-
-fn command<N: Named, C: Ledger, R: Wait>(
-    rt: &R,
-    alloc: Global,
-    desk: &Desk<'static, N, C>,
-    clerk: &mut Clerk<C>,
-    archs: &Archs<'_>,
-    line: &str,
-) -> Answer {
-    match read_command(alloc, line, archs, &["unstable"]) {
-        Ok(command) => {
-            let answer = take(rt, desk, clerk, &command);
-            drop(command);
-            answer
-        }
-        Err(_) => Answer::Wrong,
-    }
-}
-
 // The command line for a number.
 fn line(alloc: Global, number: u64) -> Option<String> {
     let verb = VERBS.get((number % 5) as usize)?;
@@ -206,7 +178,7 @@ fn undo_own<N: Named, C: Ledger, R: Wait>(
 }
 
 // The command for a number.
-fn command_by<N: Named, C: Ledger, R: Wait>(
+fn take<N: Named, C: Ledger, R: Wait>(
     rt: &R,
     alloc: Global,
     desk: &Desk<'static, N, C>,
@@ -214,9 +186,12 @@ fn command_by<N: Named, C: Ledger, R: Wait>(
     archs: &Archs<'_>,
     number: u64,
 ) -> Answer {
-    match line(alloc, number) {
-        Some(line) => command(rt, alloc, desk, clerk, archs, line.as_str()),
-        None => Answer::Wrong,
+    let Some(line) = line(alloc, number) else {
+        return Answer::Wrong;
+    };
+    match command(rt, alloc, desk, clerk, archs, line.as_str()) {
+        Ok(told) => judged(rt, desk, &told),
+        Err(_) => Answer::Wrong,
     }
 }
 
@@ -233,7 +208,7 @@ fn call<N: Named, C: Ledger, R: Wait>(
     if number % 3 == 0 {
         undo_own(rt, desk, clerk, rest % 8)
     } else {
-        command_by(rt, alloc, desk, clerk, archs, rest)
+        take(rt, alloc, desk, clerk, archs, rest)
     }
 }
 

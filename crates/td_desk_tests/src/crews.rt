@@ -44,9 +44,9 @@ fn begins<R: Threads + Wait + Abort + Sync>(
 
 #[test]
 fn rows_are_the_replay_of_the_journal_whoever_comes_first(rt: HostRuntime) -> Result<(), Fail> {
-    for (builders, script) in CREWS {
+    for (builders, script) in &CREWS {
         let trial = Trial {
-            builders,
+            builders: *builders,
             opening: FOUR,
             outcomes: "",
             script,

@@ -1,13 +1,11 @@
 //! Desks over journals that are read again. Expected answers are by hand from `docs/FORMATS.md`.
-use crate::sample::INSTALLED;
+use crate::sample::{INSTALLED, LEFT, NO_JOURNALS};
 use crate::shop::{Trial, played_on};
 use std::alloc::Global;
 use std::process::Abort;
 use std::sync::Wait;
 use std::test::Fail;
 use std::thread::Threads;
-
-const LEFT: &str = "transdesk journal 1\n1 + nmu foo/amd64\n2 + claim=1 foo/amd64\n";
 
 const GIVEN_BACK: &str = "closed
 replayed
@@ -110,25 +108,15 @@ fn leaves<R: Threads + Wait + Abort + Sync>(
 
 #[test]
 fn a_desk_goes_on_with_a_journal(rt: HostRuntime) -> Result<(), Fail> {
-    for (journal, script, expected) in JOURNALS {
+    for (journal, script, expected) in &JOURNALS {
         leaves(&rt, rt.alloc(), journal, script, expected)?;
     }
     Ok(())
 }
 
-// A text, and why no desk goes on with it.
-const OTHERS: [(&str, &str); 3] = [
-    ("", "BadHeader"),
-    ("transdesk journal 1\n\n", "BadLine(2)"),
-    (
-        "transdesk journal 1\n1 - nmu foo/amd64\n2 + dw foo/amd64 : libbar-dev\n",
-        "Unlawful(2)",
-    ),
-];
-
 #[test]
 fn a_desk_goes_on_with_no_other_text(rt: HostRuntime) -> Result<(), Fail> {
-    for (journal, fault) in OTHERS {
+    for (journal, fault) in &NO_JOURNALS {
         leaves(&rt, rt.alloc(), journal, "", fault)?;
     }
     Ok(())

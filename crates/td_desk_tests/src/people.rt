@@ -2,73 +2,50 @@
 ghost use Rattle.std.specs.Prelude.{◌≡◌, All};
 
 use std::alloc::{AllocError, Global};
-use std::marker::PhantomData;
 use std::sync::Wait;
 use std::sync::ledger::Ledger;
 use std::test::Fail;
 use td_board::BuilderSeat;
-use td_builder::{Builds, Outcomes, WorkStop, work};
-use td_desk::{Clerk, Desk, Named};
+use td_book::{CommandRefusal, Taken};
+use td_builder::{Outcomes, WorkStop, work};
+use td_desk::{Clerk, Desk, Hired, Named, hire};
+use td_relation::Archs;
 use td_rows::Outcome;
+use td_wbread::{CommandFault, read_command};
 
-// A builder's seat at the named board.
-#[derive(Drop)]
-pub(crate) struct Hired<N: Named> {
-    seat: BuilderSeat,
-    of: PhantomData<N>,
-    ghost at: { seat.table ≡ N.table },
-}
-
-impl<N: Named> Hired<N> {
-    fn new(seat: BuilderSeat) -> Hired<N>
-        requires { seat.table ≡ N.table }
-    {
-        Hired {
-            seat,
-            of: PhantomData,
+// What a clerk's command is answered, by its line.
+pub(crate) fn command<N: Named, C: Ledger, R: Wait>(
+    rt: &R,
+    alloc: Global,
+    desk: &Desk<'static, N, C>,
+    clerk: &mut Clerk<C>,
+    archs: &Archs<'_>,
+    line: &str,
+) -> Result<Result<Taken, CommandRefusal>, CommandFault> {
+    match read_command(alloc, line, archs, &["unstable"]) {
+        Ok(command) => {
+            let told = desk.command(rt, clerk, &command);
+            drop(command);
+            Ok(told)
         }
-    }
-
-    // The builder's work at the desk.
-    pub(crate) fn work<C: Ledger, B: Builds, R: Wait>(
-        &mut self,
-        rt: &R,
-        desk: &Desk<'static, N, C>,
-        builds: &B,
-    ) -> Result<u64, WorkStop> {
-        work(rt, desk, &mut self.seat, builds)
-    }
-
-    // Whether the builder's claim of a row wins.
-    pub(crate) fn claim<C: Ledger>(&mut self, desk: &Desk<'static, N, C>, row: usize) -> bool {
-        desk.claim(row, &mut self.seat)
-    }
-
-    // Builds the row in hand, to this end. Whether the job was that row's, and nothing refused.
-    pub(crate) fn build<C: Ledger, R: Wait>(
-        &mut self,
-        rt: &R,
-        desk: &Desk<'static, N, C>,
-        row: usize,
-        outcome: Outcome,
-    ) -> bool {
-        let is_its_own = match desk.start(rt, &self.seat) {
-            Ok(job) => desk.row_no(&job.key) == Some(row),
-            Err(_) => false,
-        };
-        is_its_own && desk.finish(rt, &mut self.seat, outcome).is_ok()
+        Err(fault) => Err(fault),
     }
 }
 
-// The seats, each as one of the named board.
-fn hire<N: Named>(alloc: Global, seats: Vec<BuilderSeat>) -> Result<Vec<Hired<N>>, AllocError>
-    requires { All (λ s. s.table ≡ N.table) seats.items }
-{
-    let mut hired = Vec::with_capacity(alloc, seats.len())?;
-    for seat in seats {
-        hired.push(Hired::new(seat)).map_err(AllocError::from)?;
-    }
-    Ok(hired)
+// Builds the row in the builder's hand, to this end. Whether the job was that row's, and nothing
+// refused.
+pub(crate) fn build<N: Named, C: Ledger, R: Wait>(
+    rt: &R,
+    desk: &Desk<'static, N, C>,
+    hired: &mut Hired<N>,
+    row: usize,
+    outcome: Outcome,
+) -> bool {
+    let is_its_own = match desk.start(rt, &hired.seat) {
+        Ok(job) => desk.row_no(&job.key) == Some(row),
+        Err(_) => false,
+    };
+    is_its_own && desk.finish(rt, &mut hired.seat, outcome).is_ok()
 }
 
 // Who is at a desk, and how builds end.
@@ -143,7 +120,7 @@ impl<N: Named, C: Ledger> People<N, C> {
         desk: &Desk<'static, N, C>,
     ) -> Option<Result<u64, WorkStop>> {
         match self.builders.first_mut() {
-            Some(first) => Some(first.work(rt, desk, &self.outcomes)),
+            Some(first) => Some(work(rt, desk, &mut first.seat, &self.outcomes)),
             None => None,
         }
     }

@@ -21,6 +21,19 @@ foo/amd64 Installed 0 0
 foo/i386 Installed 0 1
 ";
 
+// A journal that leaves a build of the example archive with its builder.
+pub(crate) const LEFT: &str = "transdesk journal 1\n1 + nmu foo/amd64\n2 + claim=1 foo/amd64\n";
+
+// Texts that are no journals over those rows, and why.
+pub(crate) const NO_JOURNALS: [(&str, &str); 3] = [
+    ("", "BadHeader"),
+    ("transdesk journal 1\n\n", "BadLine(2)"),
+    (
+        "transdesk journal 1\n1 - nmu foo/amd64\n2 + dw foo/amd64 : libbar-dev\n",
+        "Unlawful(2)",
+    ),
+];
+
 // The number behind another in a fixed sequence, by which calls are chosen.
 pub(crate) fn next_number(number: u64) -> u64 {
     number

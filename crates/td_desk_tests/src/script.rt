@@ -1,6 +1,6 @@
 //! The reader of scripts: a line is a call at the desk, and behind `=>` what it is answered.
 use crate::crew::{Style, crew};
-use crate::people::People;
+use crate::people::{People, command};
 use crate::sample::TABLE;
 use crate::spelling::{
     entry_line, key, number, on_one_line, receipts, row_line, shown, spelled, unlike,
@@ -13,7 +13,6 @@ use std::thread::Threads;
 use td_desk::{Clerk, Desk, Named};
 use td_journal::{EntryNo, text};
 use td_relation::Archs;
-use td_wbread::{Command, read_command};
 
 // What a command of a clerk is answered.
 fn take<N: Named, C: Ledger, R: Wait>(
@@ -21,29 +20,11 @@ fn take<N: Named, C: Ledger, R: Wait>(
     alloc: Global,
     desk: &Desk<'static, N, C>,
     clerk: &mut Clerk<C>,
-    command: &Command<'_>,
-) -> Result<String, Fail> {
-    let told = desk.command(rt, clerk, command);
-    spelled(alloc, &told)
-}
-
-// The same of its line.
-fn command<N: Named, C: Ledger, R: Wait>(
-    rt: &R,
-    alloc: Global,
-    desk: &Desk<'static, N, C>,
-    clerk: &mut Clerk<C>,
     line: &str,
 ) -> Result<String, Fail> {
     let archs = Archs::read(alloc, TABLE)?;
-    match read_command(alloc, line, &archs, &["unstable"]) {
-        Ok(command) => {
-            let told = take(rt, alloc, desk, clerk, &command);
-            drop(command);
-            told
-        }
-        Err(fault) => Err(Fail::from(fault)),
-    }
+    let told = command(rt, alloc, desk, clerk, &archs, line)?;
+    spelled(alloc, &told)
 }
 
 // What an arrival that a clerk tells of is answered.
@@ -71,7 +52,7 @@ fn call<N: Named, C: Ledger, R: Wait>(
         "undo" => shown(alloc, &desk.undo(rt, clerk, number(rest))),
         "arrive" => arrive(rt, alloc, desk, clerk, rest),
         "sweep" => shown(alloc, &desk.sweep(rt, clerk)),
-        _ => command(rt, alloc, desk, clerk, line),
+        _ => take(rt, alloc, desk, clerk, line),
     }
 }
 

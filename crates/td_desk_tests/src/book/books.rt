@@ -2,6 +2,8 @@
 //! answers are the project's own worked examples, by hand from the tables of `docs/FORMATS.md`.
 use super::script::{Played, are_played};
 use crate::sample::INSTALLED;
+use std::alloc::Global;
+use std::process::Abort;
 use std::test::Fail;
 
 const TAKES: &str = "\
@@ -34,7 +36,7 @@ row foo/amd64 => foo/amd64 Installed 0 0
 entry 2 => 2 + nmu foo/i386
 ";
 
-const TAKEN: [Played; 4] = [
+const TAKEN: [Played<'static>; 4] = [
     (
         INSTALLED,
         TAKES,
@@ -98,7 +100,7 @@ undo 2 => Ok(())
 row foo/amd64 => foo/amd64 Installed 0 0
 ";
 
-const BLOCKED: [Played; 4] = [
+const BLOCKED: [Played<'static>; 4] = [
     (
         INSTALLED,
         NUMBER_BACK,
@@ -133,68 +135,56 @@ foo/amd64 Installed 0 0
 foo/i386 Built 0 1
 ";
 
-const WON: &str = "\
-nmu foo bar . ANY => entry 1, foo/i386 State(Built)
-claim 1 bar/i386 => true
-undo 1 => Err(Blocked(2))
-claim 2 bar/i386 => false
-claim 2 foo/amd64 => true
-claim 3 bar/amd64 => true
-";
-
-const WON_FIRST: &str = "\
-nmu foo bar . ANY => entry 1, foo/i386 State(Built)
-claim 1 bar/amd64 => true
-undo 1 => Err(Blocked(2))
-claim 2 bar/amd64 => false
-claim 2 foo/amd64 => true
-claim 3 bar/i386 => true
-";
-
-const WON_LAST: &str = "\
-nmu foo bar . ANY => entry 1, foo/i386 State(Built)
-claim 1 foo/amd64 => true
-undo 1 => Err(Blocked(2))
-claim 2 foo/amd64 => false
-claim 2 bar/amd64 => true
-claim 3 bar/i386 => true
-";
-
-const TOO_LATE: &str = "\
-nmu foo bar . ANY => entry 1, foo/i386 State(Built)
-undo 1 => Ok(())
-claim 1 bar/i386 => false
-row bar/amd64 => bar/amd64 Installed 0 0
-row bar/i386 => bar/i386 Installed 0 0
-row foo/amd64 => foo/amd64 Installed 0 0
-";
-
-const CLAIMED: [Played; 4] = [
-    (
-        BUILT_I386,
-        WON,
-        "transdesk journal 2\n1 + nmu bar/amd64 bar/i386 foo/amd64\n2 + claim=1 bar/i386\n",
-    ),
-    (
-        BUILT_I386,
-        WON_FIRST,
-        "transdesk journal 2\n1 + nmu bar/amd64 bar/i386 foo/amd64\n2 + claim=1 bar/amd64\n",
-    ),
-    (
-        BUILT_I386,
-        WON_LAST,
-        "transdesk journal 2\n1 + nmu bar/amd64 bar/i386 foo/amd64\n2 + claim=1 foo/amd64\n",
-    ),
-    (
-        BUILT_I386,
-        TOO_LATE,
-        "transdesk journal 2\n1 - nmu bar/amd64 bar/i386 foo/amd64\n",
-    ),
+// A row that a builder has won, and the two other rows of the entry.
+const WON: [(&str, &str, &str); 3] = [
+    ("bar/i386", "foo/amd64", "bar/amd64"),
+    ("bar/amd64", "foo/amd64", "bar/i386"),
+    ("foo/amd64", "bar/amd64", "bar/i386"),
 ];
+
+// That the claim of a row blocks the undo of its entry, whose other rows stay on offer.
+fn blocks(
+    rt: &impl Abort,
+    alloc: Global,
+    won: &str,
+    second: &str,
+    third: &str,
+) -> Result<(), Fail> {
+    let script = format!(in alloc;
+        "nmu foo bar . ANY => entry 1, foo/i386 State(Built)\n\
+         claim 1 {won} => true\n\
+         undo 1 => Err(Blocked(2))\n\
+         claim 2 {won} => false\n\
+         claim 2 {second} => true\n\
+         claim 3 {third} => true\n"
+    )?;
+    let journal = format!(in alloc;
+        "transdesk journal 2\n1 + nmu bar/amd64 bar/i386 foo/amd64\n2 + claim=1 {won}\n"
+    )?;
+    are_played(
+        rt,
+        alloc,
+        &[(BUILT_I386, script.as_str(), journal.as_str())],
+    )
+}
+
+const TOO_LATE: [Played<'static>; 1] = [(
+    BUILT_I386,
+    "nmu foo bar . ANY => entry 1, foo/i386 State(Built)\n\
+     undo 1 => Ok(())\n\
+     claim 1 bar/i386 => false\n\
+     row bar/amd64 => bar/amd64 Installed 0 0\n\
+     row bar/i386 => bar/i386 Installed 0 0\n\
+     row foo/amd64 => foo/amd64 Installed 0 0\n",
+    "transdesk journal 2\n1 - nmu bar/amd64 bar/i386 foo/amd64\n",
+)];
 
 #[test]
 fn a_claim_that_a_builder_has_won_blocks_an_undo(rt: HostRuntime) -> Result<(), Fail> {
-    are_played(&rt, rt.alloc(), &CLAIMED)
+    for (won, second, third) in &WON {
+        blocks(&rt, rt.alloc(), won, second, third)?;
+    }
+    are_played(&rt, rt.alloc(), &TOO_LATE)
 }
 
 const NEEDS_BUILD: &str = "foo/amd64 Needs-Build 0 1\n";
@@ -252,7 +242,7 @@ claim 3 foo/amd64 => true
 finish 3 built => Ok(7)
 ";
 
-const BUILT: [Played; 5] = [
+const BUILT: [Played<'static>; 5] = [
     (
         INSTALLED,
         WAITS,
@@ -335,7 +325,7 @@ entry 1 => 1 + nmu foo/amd64 ;24 libbar-dev (>= 2.0-1+b1) : Rebuild
 undo 1 => Err(Blocked(4))
 ";
 
-const FREED: [Played; 2] = [
+const FREED: [Played<'static>; 2] = [
     (
         UPLOADED,
         SWEPT,
@@ -375,7 +365,7 @@ ready => Ok([3, 1, 2, 0])
 ";
 
 // The rows have the numbers 0 to 3 in the order of their keys.
-const READY: [Played; 1] = [(
+const READY: [Played<'static>; 1] = [(
     INSTALLED,
     IN_ORDER,
     "transdesk journal 2\n\

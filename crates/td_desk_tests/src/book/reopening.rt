@@ -1,12 +1,10 @@
 //! Books over journals that are read again: what builds are given back, and what texts are refused.
 use super::desk::refusal_of;
 use super::script::journal_after;
-use crate::sample::INSTALLED;
+use crate::sample::{INSTALLED, LEFT, NO_JOURNALS};
 use std::test::Fail;
 
-const ONE_LEFT: &str = "transdesk journal 1\n1 + nmu foo/amd64\n2 + claim=1 foo/amd64\n";
-
-const AFTER_ONE_LEFT: &str = "\
+const AFTER_LEFT: &str = "\
 entry 3 => 3 + givenback=1 foo/amd64
 row foo/amd64 => foo/amd64 Needs-Build 0 1
 ready => Ok([2])
@@ -34,10 +32,10 @@ undo 1 => Err(Blocked(7))
 ";
 
 // A journal, a script at a desk over it, and the journal after that.
-const LEFT: [(&str, &str, &str); 2] = [
+const GIVEN_BACK: [(&str, &str, &str); 2] = [
     (
-        ONE_LEFT,
-        AFTER_ONE_LEFT,
+        LEFT,
+        AFTER_LEFT,
         "transdesk journal 2\n\
          1 + nmu foo/amd64\n\
          2 + claim=1 foo/amd64\n\
@@ -61,26 +59,16 @@ const LEFT: [(&str, &str, &str); 2] = [
 
 #[test]
 fn a_build_that_a_journal_left_is_given_back(rt: HostRuntime) -> Result<(), Fail> {
-    for (left, script, journal) in &LEFT {
+    for (left, script, journal) in &GIVEN_BACK {
         let found = journal_after(rt.alloc(), INSTALLED, Some(left), script)?;
         assert_eq!(rt; found.as_str(), *journal);
     }
     Ok(())
 }
 
-// A text, and why it isn't a journal's.
-const REFUSED: [(&str, &str); 3] = [
-    ("", "BadHeader"),
-    ("transdesk journal 1\n\n", "BadLine(2)"),
-    (
-        "transdesk journal 1\n1 - nmu foo/amd64\n2 + dw foo/amd64 : libbar-dev\n",
-        "Unlawful(2)",
-    ),
-];
-
 #[test]
 fn a_text_that_is_no_journal_opens_no_book(rt: HostRuntime) -> Result<(), Fail> {
-    for (text, refusal) in &REFUSED {
+    for (text, refusal) in &NO_JOURNALS {
         let found = refusal_of(rt.alloc(), INSTALLED, text)?;
         assert_eq!(rt; found.as_str(), *refusal);
     }

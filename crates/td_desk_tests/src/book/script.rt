@@ -105,9 +105,13 @@ pub(crate) fn journal_after(
 }
 
 // The rows with which a desk opens, a script, and the journal after it.
-pub(crate) type Played = (&'static str, &'static str, &'static str);
+pub(crate) type Played<'t> = (&'t str, &'t str, &'t str);
 
-pub(crate) fn are_played(rt: &impl Abort, alloc: Global, played: &[Played]) -> Result<(), Fail> {
+pub(crate) fn are_played(
+    rt: &impl Abort,
+    alloc: Global,
+    played: &[Played<'_>],
+) -> Result<(), Fail> {
     for (opening, script, journal) in played {
         let found = journal_after(alloc, opening, None, script)?;
         assert_eq!(rt; found.as_str(), *journal);

@@ -50,7 +50,7 @@ undo 1 => Ok(())
 installed 0 => Some(2)
 ";
 
-const COUNTED: [Played; 2] = [
+const COUNTED: [Played<'static>; 2] = [
     (
         TWO_LEVELS,
         WATCHED,
