@@ -33,16 +33,19 @@ pub invariant_of-self-2 : goal.invariant_of-self-2
 invariant_of-self-2 g c =
     let old = c.args.self.now in
     let done : SweepOutcome old.book c.sweep.new.self (Ok (Some c.in-Some.n)) = search rules in
-    let k = sweep_grown g.N.Named.opened c.in-Some.n old.book c.sweep.new.self old.held.still done in
+    let k = sweep_grown g.N.Named.opened c.in-Some.n old.book c.sweep.new.self old.held.still
+    done in
     let count : c.len.result ≡ length old.book.history.journal = search rules in
     record {
       held = held_grown old.held count (c.add_ticks.ensures.begun g.N.Named.opened) (search rules)
-          (sweep_origin old.book c.sweep.new.self (Ok (Some c.in-Some.n)) done) k c.add.ensures.total;
+          (sweep_origin old.book c.sweep.new.self (Ok (Some c.in-Some.n)) done) k
+          c.add.ensures.total;
     }
 
 pub returns-clause-told : goal.returns-clause-told
 returns-clause-told g c =
     let old = c.args.self.now in
     let done : SweepOutcome old.book c.sweep.new.self (Ok (Some c.in-Some.n)) = search rules in
-    let k = sweep_grown g.N.Named.opened c.in-Some.n old.book c.sweep.new.self old.held.still done in
+    let k = sweep_grown g.N.Named.opened c.in-Some.n old.book c.sweep.new.self old.held.still
+    done in
     (search rules, search rules, k.one)
