@@ -3,23 +3,14 @@ use Rattle.std.proofs.Common.{◌≡◌, ℕ, ◌+◌, List, [], ◌∷◌, ◌+
 use Rattle.std.proofs.Common.{ap, subst, ◌∙◌, append_assoc}
 use Rattle.std.specs.Prelude.{◌≢◌}
 use Rattle.std.specs.List.{AllByRecursion}
-use Rattle.std.proofs.lemmas.List.{append-nil}
+use Rattle.std.proofs.lemmas.List.{append-nil, map_push}
 use Rattle.td_text.proofs.Chain.{some_is}
+use Rattle.td_supply.proofs.SourceLookups.{all_pushed}
 use Rattle.td_core.specs.declared.step.Step.{Step}
 use Rattle.td_simulate.specs.SimulationText.{AreSteps, IsFirstBad}
 use Rattle.td_simulate.specs.StepLines.{step_line, StepFits}
 use Rattle.td_simulate.specs.StepReading.{step_at}
 use Rattle.td_simulate.proofs.StepWords.{steps_exact}
-
-all-push : (ss : List Step) (s : Step) → AllByRecursion StepFits ss → StepFits s
-    → AllByRecursion StepFits (ss ++ s ∷ [])
-all-push [] s h fits = (fits, tt)
-all-push (x ∷ ss) s h fits = (h.0, all-push ss s h.1 fits)
-
-map-push : (ss : List Step) (s : Step)
-    → map step_line (ss ++ s ∷ []) ≡ map step_line ss ++ step_line s ∷ []
-map-push [] s = refl
-map-push (x ∷ ss) s = ap (λ (l : List (List ℕ)). step_line x ∷ l) (map-push ss s)
 
 -- what the steps that were read say of the lines, and what is left of these
 pub record AreRead (lines : List (List ℕ)) (ss : List Step) (left : List (List ℕ)) : Type 0 where
@@ -41,8 +32,8 @@ AreRead-push lines ss more s line left after h is read pushed =
           (is ∙ ap (λ (t : List ℕ). t ∷ after) f.0)
           ∙ sym (append_assoc (map step_line ss) (step_line s ∷ []) after)
           ∙ ap (λ (l : List (List ℕ)). l ++ after)
-          (sym (map-push ss s) ∙ ap (map step_line) (sym pushed));
-      fits = subst (AllByRecursion StepFits) (sym pushed) (all-push ss s h.fits f.1);
+          (sym (map_push step_line ss s) ∙ ap (map step_line) (sym pushed));
+      fits = subst (AllByRecursion StepFits) (sym pushed) (all_pushed StepFits ss s h.fits f.1);
     }
 
 -- no line is left
