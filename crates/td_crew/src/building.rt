@@ -1,10 +1,9 @@
 //! The builders of a crew, on threads of their own.
-use crate::hired::Hired;
 use crate::shift::Shift;
 use std::sync::Wait;
 use std::sync::ledger::Ledger;
 use td_builder::{Builds, work};
-use td_desk::Named;
+use td_desk::{Hired, Named};
 
 /// One builder, in its thread.
 pub fn build<N: Named, C: Ledger, B: Builds, R: Wait>(

@@ -18,7 +18,6 @@ ghost use Rattle.td_crew.specs.CrewText.{IsClosing, IsShift, IsShort, crew_tells
 ghost use Rattle.td_crew.specs.Lines.{FitAnyBook};
 
 use crate::building::build;
-use crate::hired::{Hired, hire};
 use crate::lines::Lines;
 use crate::shift::Shift;
 use crate::told::tell_lines;
@@ -31,7 +30,7 @@ use std::thread::Threads;
 use td_board::{Board, BuilderSeat, DeskSeat};
 use td_book::Book;
 use td_builder::Builds;
-use td_desk::{Clerk, Desk, Named, PARTS};
+use td_desk::{Clerk, Desk, Hired, Named, PARTS, hire};
 use td_journal::ReadError;
 use td_report::Transition;
 use td_rows::{Rows, rows_text};

@@ -12,7 +12,6 @@ mod answering;
 mod building;
 mod crew;
 mod dispatch;
-mod hired;
 mod lines;
 mod running;
 mod shift;
