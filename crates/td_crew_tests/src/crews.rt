@@ -61,10 +61,8 @@ const WITHOUT_BUILDERS: &str = "\
 1 entry 1 takes foo/i386
 refused: NoSuchEntry
 rows
-bar/amd64 Installed 0 0
-bar/i386 Installed 0 0
 foo/amd64 Installed 0 0
-foo/i386 Needs-Build 0 2
+foo/i386 Needs-Build 0 1
 ";
 
 #[test]
@@ -117,10 +115,8 @@ fn told_together<R: Threads + Wait + Sync>(
 const BOTH_BUILT: &str = "\
 0 entry 1 takes foo/amd64 foo/i386
 rows
-bar/amd64 Installed 0 0
-bar/i386 Installed 0 0
 foo/amd64 Built 0 1
-foo/i386 Built 0 2
+foo/i386 Built 0 1
 ";
 
 #[test]
