@@ -1,5 +1,5 @@
 -- The base of a version is what its text splits into.
-use Rattle.std.proofs.Common.{◌≡◌, ℕ, suc, zero, ◌+◌, ◌<◌, ◌≤◌, Bool, true, false, cond, ltb, List}
+use Rattle.std.proofs.Common.{◌≡◌, ℕ, suc, zero, ◌<◌, ◌≤◌, Bool, true, false, cond, ltb, List}
 use Rattle.std.proofs.Common.{[], ◌∷◌, ◌++◌, length, Option, Some, None, refl, sym, ap, subst, ◌∙◌}
 use Rattle.std.proofs.Common.{append_assoc, arith}
 use Rattle.std.specs.Prelude.{is_some}
@@ -7,12 +7,10 @@ use Rattle.std.specs.List.{list_all}
 use Rattle.std.proofs.lemmas.Bool.{and_parts, ltb-true, ne_eqb}
 use Rattle.std.proofs.lemmas.List.{append-nil, length-append}
 use Rattle.td_version.specs.Base.{rebuilt_from, base_part, upstream_base, base_of, SplitsHaveBases}
-use Rattle.td_version.specs.Grammar.{Written, epoch_front, revision_back, written_text}
+use Rattle.td_version.specs.Grammar.{Written, epoch_front, revision_back}
 use Rattle.td_version.specs.Grammar.{is_upstream_byte, UpstreamFits, epoch_number, parts_written}
 use Rattle.td_version.specs.Grammar.{IsVersion}
-use Rattle.td_version.specs.Reading.{pieces}
 use Rattle.td_version.specs.Rebuild.{rebuild_suffix, rebuild_text, EndsInNoRebuild}
-use Rattle.td_version.specs.Version.{Parts}
 use Rattle.td_version.proofs.Outcomes.{pieces_only}
 use Rattle.td_version.proofs.Rebuilds.{part_again, rebuilt_found}
 use Rattle.td_version.proofs.Suffixed.{extended, extend, parts_are}

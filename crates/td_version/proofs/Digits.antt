@@ -1,24 +1,58 @@
--- Digit runs of any length, compared by length and then byte by byte, are compared as numbers.
+-- Digits: those of a number within a limit; and runs of any length, which are compared as numbers
+-- by length and then byte by byte.
 use Rattle.std.proofs.lemmas.Grind.{common_steps}
 use Rattle.std.proofs.Common.{◌≡◌, ◌≢◌, take, drop, get_or, ℕ, ◌+◌, ◌-◌, ◌*◌, ◌<◌, ◌≤◌, List, []}
-use Rattle.std.proofs.Common.{◌∷◌, length, refl, sym, ap, ◌∙◌, arith, true, inl, inr}
+use Rattle.std.proofs.Common.{◌∷◌, length, refl, sym, ap, ◌∙◌, arith, true, false, inl, inr}
+use Rattle.std.proofs.Common.{◌^◌, ◌&&◌, Bool, Ok, Err, leb, ltb}
 use Rattle.std.specs.Cmp.Lexicographic.{slice_cmp}
 use Rattle.std.specs.Ordering.{nat_cmp, ordering_then}
 use Rattle.std.specs.declared.cmp.Ordering.{Ordering}
 use Rattle.std.specs.declared.cmp.Ordering.TheVariants.{Less, Equal, Greater}
 use Rattle.std.specs.Str.{all_ascii_digits}
 use Rattle.std.specs.Char.{digit_value}
-use Rattle.std.specs.Str.Parse.{digits_value, digits_value_after, AllDigits}
+use Rattle.std.specs.Str.Parse.{digits_value, digits_value_after, AllDigits, ParsesUnsigned}
 use Rattle.std.proofs.lemmas.Bool.Decides.{eqb_tells}
-use Rattle.std.proofs.lemmas.Bool.{cases_order, lt-ltb, le-ltb, ne_eqb, eq-eqb}
+use Rattle.std.proofs.lemmas.Bool.{and_parts, cases_Bool, cases_order, lt-ltb, le-ltb, leb-true}
+use Rattle.std.proofs.lemmas.Bool.{ltb-true, ne_eqb, eq-eqb}
 use Rattle.std.proofs.lemmas.Cmp.{tied_itself, nat_cmp_total}
 use Rattle.std.proofs.lemmas.Str.{digit_value_digit}
-use Rattle.std.proofs.lemmas.Str.Parse.{IsNumeralModel, numerals_by_value, tells_all_ascii_digits}
+use Rattle.std.proofs.lemmas.Str.Parse.{IsNumeralModel, numerals_by_value, parse_plain}
+use Rattle.std.proofs.lemmas.Str.Parse.{tells_all_ascii_digits}
 use Rattle.td_version.specs.Comparing.{without_zeros}
 
 -- the test `all_ascii_digits` and the value `digits_value` belong together
 pub decimal_model : IsNumeralModel (λ ds. all_ascii_digits ds ≡ true) (digits_value 10)
 decimal_model = numerals_by_value (λ ds. all_ascii_digits ds ≡ true) tells_all_ascii_digits
+
+-- ---- digits alone, within a limit
+
+-- whether a text is digits alone, and their number is within the limit
+abbrev pub is_within : ℕ → List ℕ → Bool
+is_within limit t =
+    ltb 0 (length t) && (all_ascii_digits t && leb (digits_value 10 t) limit)
+
+-- where a text is read as a number and has no sign in front, that number decides
+pub is_within-parsed : (limit : ℕ) (t : List ℕ) (n : ℕ) → ParsesUnsigned {E = ℕ} 32 10 t (Ok n)
+    → get_or t 0 0 ≢ 43 → (is_within limit t ≡ leb n limit) × (digits_value 10 t ≡ n)
+is_within-parsed limit t n h sign_free =
+    let p = parse_plain decimal_model {E = ℕ} 32 t (Ok n) h sign_free in
+    (rw (lt-ltb 0 (length t) p.0.1, p.0.0, p.1) refl, sym p.1)
+
+-- where it isn't, it is no such text
+pub is_within-unparsed : (limit : ℕ) (t : List ℕ) → limit < 2 ^ 32
+    → ParsesUnsigned {E = ℕ} 32 10 t (Err 0) → get_or t 0 0 ≢ 43 → is_within limit t ≡ false
+is_within-unparsed limit t small h sign_free =
+    let p = parse_plain decimal_model {E = ℕ} 32 t (Err 0) h sign_free in
+    elim (cases_Bool (is_within limit t)) [
+      | inl met ↦
+          let a = and_parts (ltb 0 (length t)) _ met in
+          let b = and_parts (all_ascii_digits t) (leb (digits_value 10 t) limit) a.1 in
+          let le = leb-true (digits_value 10 t) limit b.1 in
+          absurd (p (b.0, ltb-true 0 (length t) a.0, omega (arith, le, small)))
+      | inr unmet ↦ unmet
+    ]
+
+-- ---- digit runs of any length
 
 pub nat_cmp_less : (m n : ℕ) → m < n → nat_cmp m n ≡ Less
 nat_cmp_less m n lt = rw (lt-ltb m n lt) refl

@@ -1,14 +1,11 @@
 -- An epoch is read where it is written by digits alone.
-use Rattle.std.proofs.Common.{◌≡◌, ◌≢◌, ℕ, cond, ltb, leb, List, [], ◌∷◌, length, get_or, Ok, Err}
-use Rattle.std.proofs.Common.{refl, arith, inl, inr}
-use Rattle.std.specs.Str.{all_ascii_digits}
+use Rattle.std.proofs.Common.{◌≡◌, ◌≢◌, ℕ, cond, leb, List, [], ◌∷◌, length, get_or, Ok, Err, refl}
+use Rattle.std.proofs.Common.{◌∙◌, ap, arith}
 use Rattle.std.specs.Str.Parse.{digits_value, ParsesUnsigned}
-use Rattle.std.proofs.lemmas.Bool.{and_parts, cases_Bool, ltb-true, lt-ltb, leb-true}
-use Rattle.std.proofs.lemmas.Str.Parse.{parse_plain}
+use Rattle.std.proofs.lemmas.Bool.{lt-ltb}
 use Rattle.td_version.specs.declared.version.VersionFault.TheVariants.{BadEpoch}
-use Rattle.td_version.specs.Grammar.{is_epoch}
 use Rattle.td_version.specs.Reading.{digits_at}
-use Rattle.td_version.proofs.Digits.{decimal_model}
+use Rattle.td_version.proofs.Digits.{is_within-parsed, is_within-unparsed}
 
 pub signed : (t : List ℕ) → get_or t 0 0 ≡ 43 → digits_at t ≡ Err BadEpoch
 unfolding digits_at
@@ -19,19 +16,13 @@ pub parsed : (t : List ℕ) (n : ℕ) → ParsesUnsigned {E = ℕ} 32 10 t (Ok n
     → digits_at t ≡ cond (leb n 2147483647) (Ok n) (Err BadEpoch)
 unfolding digits_at
 parsed t n h sign_free =
-    let p = parse_plain decimal_model {E = ℕ} 32 t (Ok n) h sign_free in
-    rw (lt-ltb 0 (length t) p.0.1, p.0.0, p.1) refl
+    let p = is_within-parsed 2147483647 t n h sign_free in
+    ap (λ b. cond b (Ok (digits_value 10 t)) (Err BadEpoch)) p.0
+    ∙ ap (λ v. cond (leb n 2147483647) (Ok v) (Err BadEpoch)) p.1
 
 pub unparsed : (t : List ℕ) → ParsesUnsigned {E = ℕ} 32 10 t (Err 0) → get_or t 0 0 ≢ 43
     → digits_at t ≡ Err BadEpoch
 unfolding digits_at
 unparsed t h sign_free =
-    let p = parse_plain decimal_model {E = ℕ} 32 t (Err 0) h sign_free in
-    elim (cases_Bool (is_epoch t)) [
-      | inl met ↦
-          let a = and_parts (ltb 0 (length t)) _ met in
-          let b = and_parts (all_ascii_digits t) (leb (digits_value 10 t) 2147483647) a.1 in
-          let le = leb-true (digits_value 10 t) 2147483647 b.1 in
-          absurd (p (b.0, ltb-true 0 (length t) a.0, omega arith))
-      | inr unmet ↦ rw unmet refl
-    ]
+    ap (λ b. cond b (Ok (digits_value 10 t)) (Err BadEpoch))
+    (is_within-unparsed 2147483647 t (omega arith) h sign_free)
