@@ -140,14 +140,24 @@ step_found seen p x lacks e = by (is_blank p) refl e
 
 -- ---- lists one behind the other
 
-pub record ArePieces (t : List ℕ) (seen u : Bool) : Type 0 where
+-- lists of which this is asked, in a text which need not be trimmed
+pub record AreAsked (asked : List (List WrittenProfile) → Bool) (t : List ℕ) (u : Bool)
+    : Type 0 where
   pub lists : List SpacedProfiles
   pub back : List ℕ
   pub joined : t ≡ profiles_then lists back
   pub fits : AllByRecursion ProfilesFit (map (λ l. l.list) lists)
   pub spaced : AllByRecursion ProfilesAreSpaced lists
   pub blank : is_blank back ≡ true
-  pub asks : u ≡ (seen || list_any holds (map (λ l. l.list) lists))
+  pub asks : u ≡ asked (map (λ l. l.list) lists)
+
+-- lists behind others, of which one may hold
+abbrev ArePieces : List ℕ → Bool → Bool → Type 0
+ArePieces t seen u = AreAsked (λ lists. seen || list_any holds lists) t u
+
+-- all lists of an alternative
+abbrev pub AreLists : List ℕ → Bool → Type 0
+AreLists t u = AreAsked hold_unprofiled t u
 
 not_ended : (a b : Bool) → ◌≡◌ {A = Bool × Bool} (a, false) (b, true) → ⊥
 not_ended a b e = let bad : false ≡ true = ap (λ (p : Bool × Bool). p.1) e in absurd cc
@@ -201,16 +211,6 @@ pieces_found p (q ∷ qs) seen u lacks e =
           asks = r.asks ∙ or_assoc seen s.holding (list_any holds (map (λ l. l.list) r.lists))
               ∙ ap (λ (b : Bool). seen || (b || list_any holds (map (λ l. l.list) r.lists))) l.asks;
         }
-
--- the lists of a text, which need not be trimmed
-pub record AreLists (t : List ℕ) (u : Bool) : Type 0 where
-  pub lists : List SpacedProfiles
-  pub back : List ℕ
-  pub joined : t ≡ profiles_then lists back
-  pub fits : AllByRecursion ProfilesFit (map (λ l. l.list) lists)
-  pub spaced : AllByRecursion ProfilesAreSpaced lists
-  pub blank : is_blank back ≡ true
-  pub asks : u ≡ hold_unprofiled (map (λ l. l.list) lists)
 
 some_lists : (t : List ℕ) (u : Bool) (lists : List SpacedProfiles) (back : List ℕ)
     → is_blank t ≡ false → t ≡ profiles_then lists back

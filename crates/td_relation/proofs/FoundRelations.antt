@@ -17,12 +17,11 @@ use Rattle.td_relation.specs.RelationGrammar.{alternative_at, alternative_step, 
 use Rattle.td_relation.specs.RelationGrammar.{member_step, name_at, or_fault, over, relation_at}
 use Rattle.td_relation.specs.RelationGrammar.{restriction_at, some_members, unprofiled_at}
 use Rattle.td_relation.specs.RelationWriting.{alternative_asked, bound_asked, marked, operator_text}
-use Rattle.td_relation.specs.RelationWriting.{qualifier_part, ArchsFit, BoundFits, ProfilesFit}
-use Rattle.td_relation.specs.RelationWriting.{hold_unprofiled}
-use Rattle.td_relation.specs.Spacing.{SpacedBound, SpacedArchs, SpacedProfiles, SpacedAlternative}
+use Rattle.td_relation.specs.RelationWriting.{qualifier_part, ArchsFit, BoundFits}
+use Rattle.td_relation.specs.Spacing.{SpacedBound, SpacedArchs, SpacedAlternative}
 use Rattle.td_relation.specs.Spacing.{SpacedMember, Filled, Blank, ArchsAreSpaced, BoundIsSpaced}
-use Rattle.td_relation.specs.Spacing.{IsRelation, IsSpaced, MemberIsSpaced, ProfilesAreSpaced}
-use Rattle.td_relation.specs.Spacing.{RelationsAreExact, archs_then, bound_then, profiles_then}
+use Rattle.td_relation.specs.Spacing.{IsRelation, IsSpaced, MemberIsSpaced}
+use Rattle.td_relation.specs.Spacing.{RelationsAreExact, archs_then, bound_then}
 use Rattle.td_relation.specs.Spacing.{spaced_alternative, spaced_member, spaced_relation, unspaced}
 use Rattle.td_relation.specs.Spacing.{unspaced_members}
 use Rattle.td_relation.proofs.FoundParts.{archs_found, name_found, on_is, or_fault_found}
@@ -42,19 +41,16 @@ inner_right : (a b : List ℕ) → IsInner (a ++ b) → IsInner b
 inner_right a b h =
     record { comma = Without-right 44 a b h.comma; bar = Without-right 124 a b h.bar }
 
+-- an architecture list, if there is one, and build profile lists behind it
 pub record AreArchs (t : List ℕ) (archs : Option (List (List ℕ))) (u : Bool) : Type 0 where
   pub list : Option SpacedArchs
-  pub profiles : List SpacedProfiles
-  pub back : List ℕ
-  pub joined : t ≡ archs_then list (profiles_then profiles back)
+  pub behind : List ℕ
+  pub joined : t ≡ archs_then list behind
   pub fits : ArchsFit (option_map (λ l. l.list) list)
   pub spaced : ArchsAreSpaced list
-  pub profiles_fit : AllByRecursion ProfilesFit (map (λ l. l.list) profiles)
-  pub profiles_spaced : AllByRecursion ProfilesAreSpaced profiles
-  pub blank : is_blank back ≡ true
   pub asks : archs
       ≡ option_map (λ w. map (marked w.negated) w.names) (option_map (λ l. l.list) list)
-  pub asks_profiles : u ≡ hold_unprofiled (map (λ l. l.list) profiles)
+  pub after : AreLists behind u
 
 archs_behind : (space t rest : List ℕ) (archs : Option (List (List ℕ))) (u : Bool)
     → is_blank space ≡ true → IsInner t → archs_at t ≡ Some (archs, rest)
@@ -64,21 +60,16 @@ archs_behind space t rest archs u wide inner e k =
       | inl none ↦ (
           let same : t ≡ rest = none.1 in
           let there = subst IsInner same inner in
-          let r = lists_behind space t u wide
-          (subst (λ (x : List ℕ). AreLists x u) (sym same)
-          (unprofiled_found rest u there.comma there.bar k)) in
           record {
             list = None;
-            profiles = r.lists;
-            back = r.back;
-            joined = r.joined;
+            behind = space ++ t;
+            joined = refl;
             fits = tt;
             spaced = tt;
-            profiles_fit = r.fits;
-            profiles_spaced = r.spaced;
-            blank = r.blank;
             asks = none.0;
-            asks_profiles = r.asks;
+            after = lists_behind space t u wide
+                (subst (λ (x : List ℕ). AreLists x u) (sym same)
+                (unprofiled_found rest u there.comma there.bar k));
           }
           )
       | inr l ↦ (
@@ -89,43 +80,30 @@ archs_behind space t rest archs u wide inner e k =
           let there : IsInner rest =
           inner_right (run is_space l.on) rest
           (subst IsInner on (record { comma = past.comma.1; bar = past.bar.1 })) in
-          let r = lists_behind (run is_space l.on) rest u (space_blank l.on)
-          (unprofiled_found rest u there.comma there.bar k) in
           record {
             list = Some (record { list = l.list; before = space; inside = l.inside });
-            profiles = r.lists;
-            back = r.back;
+            behind = run is_space l.on ++ rest;
             joined = ap (λ (x : List ℕ). space ++ x) l.joined
-                ∙ ap (λ (x : List ℕ). space ++ 91 ∷ (l.inside ++ 93 ∷ x)) (on ∙ r.joined);
+                ∙ ap (λ (x : List ℕ). space ++ 91 ∷ (l.inside ++ 93 ∷ x)) on;
             fits = l.fits;
             spaced = (wide, l.spaced);
-            profiles_fit = r.fits;
-            profiles_spaced = r.spaced;
-            blank = r.blank;
             asks = l.asks;
-            asks_profiles = r.asks;
+            after = lists_behind (run is_space l.on) rest u (space_blank l.on)
+                (unprofiled_found rest u there.comma there.bar k);
           }
           )
     ]
 
+-- a restriction, if there is one, and an architecture list and build profile lists behind it
 pub record IsTail (t : List ℕ) (restriction : Option Bound) (archs : Option (List (List ℕ)))
     (u : Bool) : Type 0 where
   pub bound : Option SpacedBound
-  pub list : Option SpacedArchs
-  pub profiles : List SpacedProfiles
-  pub back : List ℕ
-  pub joined : t ≡ bound_then bound (archs_then list (profiles_then profiles back))
-  pub bound_fits : BoundFits (option_map (λ b. b.bound) bound)
-  pub bound_spaced : BoundIsSpaced bound
-  pub fits : ArchsFit (option_map (λ l. l.list) list)
-  pub spaced : ArchsAreSpaced list
-  pub profiles_fit : AllByRecursion ProfilesFit (map (λ l. l.list) profiles)
-  pub profiles_spaced : AllByRecursion ProfilesAreSpaced profiles
-  pub blank : is_blank back ≡ true
-  pub asks_bound : restriction ≡ option_map bound_asked (option_map (λ b. b.bound) bound)
-  pub asks : archs
-      ≡ option_map (λ w. map (marked w.negated) w.names) (option_map (λ l. l.list) list)
-  pub asks_profiles : u ≡ hold_unprofiled (map (λ l. l.list) profiles)
+  pub behind : List ℕ
+  pub joined : t ≡ bound_then bound behind
+  pub fits : BoundFits (option_map (λ b. b.bound) bound)
+  pub spaced : BoundIsSpaced bound
+  pub asks : restriction ≡ option_map bound_asked (option_map (λ b. b.bound) bound)
+  pub after : AreArchs behind archs u
 
 tail_behind : (space t more rest : List ℕ) (restriction : Option Bound)
     (archs : Option (List (List ℕ))) (u : Bool) → is_blank space ≡ true → IsInner t
@@ -135,23 +113,14 @@ tail_behind space t more rest restriction archs u wide inner e f k =
     elim (restriction_found t (restriction, more) e) [
       | inl none ↦ (
           let same : t ≡ more = none.1 in
-          let a = archs_behind space t rest archs u wide inner (ap archs_at same ∙ f) k in
           record {
             bound = None;
-            list = a.list;
-            profiles = a.profiles;
-            back = a.back;
-            joined = a.joined;
-            bound_fits = tt;
-            bound_spaced = tt;
-            fits = a.fits;
-            spaced = a.spaced;
-            profiles_fit = a.profiles_fit;
-            profiles_spaced = a.profiles_spaced;
-            blank = a.blank;
-            asks_bound = none.0;
-            asks = a.asks;
-            asks_profiles = a.asks_profiles;
+            behind = space ++ t;
+            joined = refl;
+            fits = tt;
+            spaced = tt;
+            asks = none.0;
+            after = archs_behind space t rest archs u wide inner (ap archs_at same ∙ f) k;
           }
           )
       | inr b ↦ (
@@ -171,7 +140,6 @@ tail_behind space t more rest restriction archs u wide inner e f k =
           let there : IsInner more =
           inner_right (run is_space b.on) more
           (subst IsInner on (record { comma = past.comma.1; bar = past.bar.1 })) in
-          let a = archs_behind (run is_space b.on) more rest archs u (space_blank b.on) there f k in
           record {
             bound = Some (record {
               bound = record { operator = b.operator; version = b.version; parts = b.parts };
@@ -180,23 +148,15 @@ tail_behind space t more rest restriction archs u wide inner e f k =
               before_version = b.before_version;
               before_end = b.before_end;
             });
-            list = a.list;
-            profiles = a.profiles;
-            back = a.back;
+            behind = run is_space b.on ++ more;
             joined = ap (λ (x : List ℕ). space ++ x) b.joined
                 ∙ ap (λ (x : List ℕ). space ++ 40
                 ∷ (b.before_operator ++ (operator_text b.operator
-                ++ (b.before_version ++ (b.version ++ (b.before_end ++ 41 ∷ x)))))) (on ∙ a.joined);
-            bound_fits = b.readable;
-            bound_spaced = (wide, b.blank_operator, b.blank_version, b.blank_end);
-            fits = a.fits;
-            spaced = a.spaced;
-            profiles_fit = a.profiles_fit;
-            profiles_spaced = a.profiles_spaced;
-            blank = a.blank;
-            asks_bound = b.asks;
-            asks = a.asks;
-            asks_profiles = a.asks_profiles;
+                ++ (b.before_version ++ (b.version ++ (b.before_end ++ 41 ∷ x)))))) on;
+            fits = b.readable;
+            spaced = (wide, b.blank_operator, b.blank_version, b.blank_end);
+            asks = b.asks;
+            after = archs_behind (run is_space b.on) more rest archs u (space_blank b.on) there f k;
           }
           )
     ]
@@ -229,6 +189,8 @@ alternative_found t x inner e =
     let tail = tail_behind (run is_space n.on) name.0.1 restriction.0.1 archs.0.1 restriction.0.0
     archs.0.0 unprofiled.0 (space_blank n.on) there restriction.1
     (or_fault_found BadArchList (archs_at restriction.0.1) archs.0 archs.1) unprofiled.1 in
+    let list = tail.after in
+    let profiles = list.after in
     let made : Asked = record {
       name = name.0.0;
       restriction = restriction.0.0;
@@ -242,16 +204,16 @@ alternative_found t x inner e =
       name = name.0.0;
       qualifier = n.qualifier;
       bound = tail.bound;
-      archs = tail.list;
-      profiles = tail.profiles;
-      back = tail.back;
+      archs = list.list;
+      profiles = profiles.lists;
+      back = profiles.back;
     } in
     let asks : made ≡ alternative_asked (unspaced written) =
     λ i. record {
       name = name.0.0;
-      restriction = tail.asks_bound i;
-      archs = tail.asks i;
-      unprofiled = tail.asks_profiles i;
+      restriction = tail.asks i;
+      archs = list.asks i;
+      unprofiled = profiles.asks i;
     } in
     record {
       written = written;
@@ -260,19 +222,20 @@ alternative_found t x inner e =
             record {
               name = n.legal;
               qualifier = n.fits;
-              bound = tail.bound_fits;
-              archs = tail.fits;
-              profiles = tail.profiles_fit;
+              bound = tail.fits;
+              archs = list.fits;
+              profiles = profiles.fits;
             };
         front = n.blank;
-        bound = tail.bound_spaced;
-        archs = tail.spaced;
-        profiles = tail.profiles_spaced;
-        back = tail.blank;
+        bound = tail.spaced;
+        archs = list.spaced;
+        profiles = profiles.spaced;
+        back = profiles.blank;
       };
       spelled = n.joined ∙ ap
           (λ (y : List ℕ). n.front ++ (name.0.0 ++ (qualifier_part n.qualifier ++ y)))
-          (on ∙ tail.joined);
+          (on ∙ tail.joined ∙ ap (bound_then tail.bound)
+          (list.joined ∙ ap (archs_then list.list) profiles.joined));
       asks = sym same ∙ asks;
     }
 

@@ -21,19 +21,15 @@ use Rattle.td_text.proofs.RunTexts.{misses}
 
 -- ---- tests that agree, and tests that go on from one another
 
-any_same : {X : Type 0} (test f g : X → Bool) → ((x : X) → test x ≡ false → f x ≡ g x)
-    → (xs : List X) → list_any test xs ≡ false → list_any f xs ≡ list_any g xs
-any_same test f g same [] h = refl
-any_same test f g same (x ∷ xs) h =
+any_and_all_same : {X : Type 0} (test f g : X → Bool) → ((x : X) → test x ≡ false → f x ≡ g x)
+    → (xs : List X) → list_any test xs ≡ false
+    → (list_any f xs ≡ list_any g xs) × (list_all f xs ≡ list_all g xs)
+any_and_all_same test f g same [] h = (refl, refl)
+any_and_all_same test f g same (x ∷ xs) h =
     let p = or_parts (test x) (list_any test xs) h in
-    rw (same x p.0, any_same test f g same xs p.1) refl
-
-all_same : {X : Type 0} (test f g : X → Bool) → ((x : X) → test x ≡ false → f x ≡ g x)
-    → (xs : List X) → list_any test xs ≡ false → list_all f xs ≡ list_all g xs
-all_same test f g same [] h = refl
-all_same test f g same (x ∷ xs) h =
-    let p = or_parts (test x) (list_any test xs) h in
-    rw (same x p.0, all_same test f g same xs p.1) refl
+    let head = same x p.0 in
+    let later = any_and_all_same test f g same xs p.1 in
+    (rw (head, later.0) refl, rw (head, later.1) refl)
 
 any_goes_on : {X : Type 0} (f g : X → Bool) → ((x : X) → f x ≡ true → g x ≡ true) → (xs : List X)
     → list_any f xs ≡ true → list_any g xs ≡ true
@@ -72,15 +68,15 @@ module _ (some other : List ℕ → List Offered) (place : ℕ) (a : ArchWords) 
       → member_met some place a m ≡ member_met other place a m
   member_same m h =
       ap (λ (b : Bool). not (list_any (λ x. active a x) m) || b)
-      (any_same (λ x. active a x && bytes_eq x.name name)
+      (any_and_all_same (λ x. active a x && bytes_eq x.name name)
       (λ x. active a x && alternative_met some place x)
-      (λ x. active a x && alternative_met other place x) alternative_same m h)
+      (λ x. active a x && alternative_met other place x) alternative_same m h).0
 
   pub relation_same : (ms : List (List Asked)) → names a name ms ≡ false
       → met some place a ms ≡ met other place a ms
   relation_same ms h =
-      all_same (λ m. list_any (λ x. active a x && bytes_eq x.name name) m)
-      (λ m. member_met some place a m) (λ m. member_met other place a m) member_same ms h
+      (any_and_all_same (λ m. list_any (λ x. active a x && bytes_eq x.name name) m)
+      (λ m. member_met some place a m) (λ m. member_met other place a m) member_same ms h).1
 
 pub others_make_no_difference : OthersMakeNoDifference
 others_make_no_difference some other place a name ms agree h =

@@ -144,23 +144,18 @@ module _ (ns : List ℕ) (old new : List Alternative) (text : List ℕ) (n : ℕ
 -- a fault of a member's alternatives is the member's
 pub member_fails : (seen : List Asked) (text : List ℕ) (e : RelationFault)
     → IsFaultOf (over alternative_step seen (pieces_of 124 text)) e → IsFaultOf (member_at text) e
-member_fails seen text e is = by e (member_at text) (faulted_same e _ _ (member_added seen text) is)
+member_fails seen text e is = by (member_at text) e (faulted_same e _ _ (member_added seen text) is)
   where
-    by : (f : RelationFault) (r : Result (List Asked) RelationFault)
+    by : (r : Result (List Asked) RelationFault) (f : RelationFault)
         → IsFaultOf (on_ok r (λ m. Ok (seen ++ m))) f → IsFaultOf r f
-    by NoMemory r h = tt
-    by BadName (Ok m) h = absurd cc
-    by BadName (Err x) h = cc
-    by BadOperator (Ok m) h = absurd cc
-    by BadOperator (Err x) h = cc
-    by BadVersion (Ok m) h = absurd cc
-    by BadVersion (Err x) h = cc
-    by BadArchList (Ok m) h = absurd cc
-    by BadArchList (Err x) h = cc
-    by BadProfile (Ok m) h = absurd cc
-    by BadProfile (Err x) h = cc
-    by Empty (Ok m) h = absurd cc
-    by Empty (Err x) h = cc
+    by (Err x) f h = h
+    by (Ok m) NoMemory h = tt
+    by (Ok m) BadName h = absurd cc
+    by (Ok m) BadOperator h = absurd cc
+    by (Ok m) BadVersion h = absurd cc
+    by (Ok m) BadArchList h = absurd cc
+    by (Ok m) BadProfile h = absurd cc
+    by (Ok m) Empty h = absurd cc
 
 -- ---- the members of a relation
 

@@ -247,16 +247,14 @@ version_again o space version end rest bare p blank blank_end v is ends =
     ∙ ap (λ (y : Bool).
     cond y (Ok (Some (record { operator = o; version = p }), bare)) (Err BadArchList)) ends
 
-pub restriction_again : (b : Option SpacedBound) (l : Option SpacedArchs) (ls : List SpacedProfiles)
-    (back : List ℕ) → BoundFits (option_map (λ x. x.bound) b) → BoundIsSpaced b → ArchsAreSpaced l
-    → AllByRecursion ProfilesAreSpaced ls → is_blank back ≡ true
-    → restriction_at (bound_bare b l ls back)
-    ≡ Ok (option_map bound_asked (option_map (λ x. x.bound) b), archs_bare l ls back)
+-- a restriction in its brackets, whatever follows it
+pub bound_again : (b : SpacedBound) (rest bare : List ℕ) → BoundFits (Some b.bound)
+    → BoundIsSpaced (Some b) → trimmed rest ≡ bare → ends_a_restriction bare ≡ true
+    → restriction_at (40 ∷ (b.before_operator ++ (operator_text b.bound.operator
+    ++ (b.before_version ++ (b.bound.version ++ (b.before_end ++ 41 ∷ rest))))))
+    ≡ Ok (Some (bound_asked b.bound), bare)
 unfolding restriction_at
-restriction_again None l ls back fits t s h end =
-    ap (restricted (archs_bare l ls back)) (no_bound l ls back)
-restriction_again (Some b) l ls back fits t s h end =
-    let rest = archs_then l (profiles_then ls back) in
+bound_again b rest bare fits t is ends =
     let on = b.before_version ++ (b.bound.version ++ (b.before_end ++ 41 ∷ rest)) in
     let text = operator_text b.bound.operator in
     let inside = b.before_operator ++ (text ++ on) in
@@ -274,9 +272,20 @@ restriction_again (Some b) l ls back fits t s h end =
     ∙ ap (λ (u : List ℕ). version_at (operator_at text) u)
     (behind_again is_operator_byte text on (operator_bytes b.bound.operator) stops)
     ∙ ap (λ o. version_at o on) (operator_read b.bound.operator)
-    ∙ version_again b.bound.operator b.before_version b.bound.version b.before_end rest
-    (archs_bare l ls back) b.bound.parts t.2 t.3 fits (archs_trimmed l ls back s h end)
-    (restriction_ends l ls back)
+    ∙ version_again b.bound.operator b.before_version b.bound.version b.before_end rest bare
+    b.bound.parts t.2 t.3 fits is ends
+
+pub restriction_again : (b : Option SpacedBound) (l : Option SpacedArchs) (ls : List SpacedProfiles)
+    (back : List ℕ) → BoundFits (option_map (λ x. x.bound) b) → BoundIsSpaced b → ArchsAreSpaced l
+    → AllByRecursion ProfilesAreSpaced ls → is_blank back ≡ true
+    → restriction_at (bound_bare b l ls back)
+    ≡ Ok (option_map bound_asked (option_map (λ x. x.bound) b), archs_bare l ls back)
+unfolding restriction_at
+restriction_again None l ls back fits t s h end =
+    ap (restricted (archs_bare l ls back)) (no_bound l ls back)
+restriction_again (Some b) l ls back fits t s h end =
+    bound_again b (archs_then l (profiles_then ls back)) (archs_bare l ls back) fits t
+    (archs_trimmed l ls back s h end) (restriction_ends l ls back)
 
 -- ---- the architecture list
 

@@ -3,7 +3,8 @@ use Rattle.std.proofs.Common.{◌≡◌, ◌≢◌, ℕ, Bool, true, false, eqb,
 use Rattle.std.proofs.Common.{map, Option, Some, None, option_map, Ok, refl, sym, ap, ◌∙◌}
 use Rattle.std.proofs.Common.{append_assoc, append-nil, arith}
 use Rattle.std.specs.Prelude.{codes}
-use Rattle.std.specs.List.{slice_split, flat_map, AllByRecursion}
+use Rattle.std.specs.List.{slice_split, flat_map, list_any, AllByRecursion}
+use Rattle.std.proofs.lemmas.Bool.{or_parts}
 use Rattle.std.proofs.lemmas.List.Splits.{slice_split_at, slice_split_none}
 use Rattle.td_text.specs.Cut.{Without}
 use Rattle.td_text.specs.Lines.{on_ok}
@@ -38,43 +39,34 @@ use Rattle.td_relation.proofs.WrittenAlternatives.{operator_lacks, qualifier_lac
 
 -- ---- an alternative
 
-outer_name : Outer is_name_byte
-outer_name =
-    record {
-      lacks = record { space = refl; tab = refl; newline = refl };
-      opens = refl;
-      opens_list = refl;
-      less = refl;
-    }
+-- whitespace, and what begins a part
+abbrev outside : List ℕ
+outside = 32 ∷ 9 ∷ 10 ∷ 40 ∷ 91 ∷ 60 ∷ []
 
-outer_arch : Outer is_arch_byte
-outer_arch =
+outer : (test : ℕ → Bool) → list_any test outside ≡ false → Outer test
+outer test out =
+    let space = or_parts (test 32) _ out in
+    let tab = or_parts (test 9) _ space.1 in
+    let newline = or_parts (test 10) _ tab.1 in
+    let opens = or_parts (test 40) _ newline.1 in
+    let opens_list = or_parts (test 91) _ opens.1 in
     record {
-      lacks = record { space = refl; tab = refl; newline = refl };
-      opens = refl;
-      opens_list = refl;
-      less = refl;
-    }
-
-outer_colon : Outer (eqb 58)
-outer_colon =
-    record {
-      lacks = record { space = refl; tab = refl; newline = refl };
-      opens = refl;
-      opens_list = refl;
-      less = refl;
+      lacks = record { space = space.0; tab = tab.0; newline = newline.0 };
+      opens = opens.0;
+      opens_list = opens_list.0;
+      less = (or_parts (test 60) _ opens_list.1).0;
     }
 
 pub alternative_again : (a : SpacedAlternative) → IsSpaced a
     → alternative_at (spaced_alternative a) ≡ Ok (alternative_asked (unspaced a))
 unfolding alternative_at
 alternative_again a h =
-    let stops = λ (test : ℕ → Bool) (o : Outer test).
-    bound_stops test a.bound a.archs a.profiles a.back o h.bound h.archs h.profiles h.back in
+    let stops = λ (test : ℕ → Bool) (out : list_any test outside ≡ false). bound_stops test a.bound
+    a.archs a.profiles a.back (outer test out) h.bound h.archs h.profiles h.back in
     let bare = bound_trimmed a.bound a.archs a.profiles a.back h.bound h.archs h.profiles h.back in
     let name = name_again a.front a.name a.qualifier (behind_name a) h.front h.fits.name
-    h.fits.qualifier (stops is_name_byte outer_name) (stops is_arch_byte outer_arch)
-    (stops (eqb 58) outer_colon) (ap ends_a_name bare ∙ name_ends a.bound a.archs a.profiles a.back)
+    h.fits.qualifier (stops is_name_byte refl) (stops is_arch_byte refl) (stops (eqb 58) refl)
+    (ap ends_a_name bare ∙ name_ends a.bound a.archs a.profiles a.back)
     ∙ ap (λ (t : List ℕ). Some (a.name, t)) bare in
     let restriction = restriction_again a.bound a.archs a.profiles a.back h.fits.bound h.bound
     h.archs h.profiles h.back in

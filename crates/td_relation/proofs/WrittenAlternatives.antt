@@ -1,7 +1,8 @@
 -- An alternative that is written in the canonical way is read again.
 use Rattle.std.proofs.Common.{◌≡◌, ◌≢◌, ℕ, Bool, false, List, [], ◌∷◌, ◌++◌, Option, Some, None, Ok}
-use Rattle.std.proofs.Common.{refl, ap, ◌∙◌, append_assoc, arith}
+use Rattle.std.proofs.Common.{true, eqb, refl, sym, ap, ◌∙◌, append_assoc}
 use Rattle.std.specs.Prelude.{codes, IsTrue}
+use Rattle.std.specs.List.{list_any}
 use Rattle.td_text.specs.Cut.{Without}
 use Rattle.td_text.specs.Words.{is_name_byte, is_arch_byte, is_arch}
 use Rattle.td_text.proofs.Cut.{Without-append, Without-from_test}
@@ -61,43 +62,39 @@ pub record Apart (c : ℕ) : Type 0 where
   pub opens_list : 91 ≢ c
   pub closes_list : 93 ≢ c
 
-pub Apart-bar : Apart 124
-Apart-bar =
+-- the bytes with a meaning of their own
+abbrev is_mark : ℕ → Bool
+is_mark b = list_any (eqb b) (codes " !():<=>[]")
+
+-- a given byte is put to five tests
+Apart-from_tests : (c : ℕ) → is_name_byte c ≡ false → is_arch_byte c ≡ false
+    → is_version_byte c ≡ false → is_profile_byte c ≡ false → is_mark c ≡ false → Apart c
+Apart-from_tests c name arch version profile out =
     record {
-      name = refl;
-      arch = refl;
-      version = refl;
-      profile = refl;
-      space = λ z. omega arith;
-      mark = λ z. omega arith;
-      opens = λ z. omega arith;
-      closes = λ z. omega arith;
-      colon = λ z. omega arith;
-      less = λ z. omega arith;
-      equal = λ z. omega arith;
-      greater = λ z. omega arith;
-      opens_list = λ z. omega arith;
-      closes_list = λ z. omega arith;
+      name = name;
+      arch = arch;
+      version = version;
+      profile = profile;
+      space = other 32 refl;
+      mark = other 33 refl;
+      opens = other 40 refl;
+      closes = other 41 refl;
+      colon = other 58 refl;
+      less = other 60 refl;
+      equal = other 61 refl;
+      greater = other 62 refl;
+      opens_list = other 91 refl;
+      closes_list = other 93 refl;
     }
+  where
+    other : (m : ℕ) → is_mark m ≡ true → m ≢ c
+    other m is e = let bad : true ≡ false = sym is ∙ ap is_mark e ∙ out in cc
+
+pub Apart-bar : Apart 124
+Apart-bar = Apart-from_tests 124 refl refl refl refl refl
 
 pub Apart-comma : Apart 44
-Apart-comma =
-    record {
-      name = refl;
-      arch = refl;
-      version = refl;
-      profile = refl;
-      space = λ z. omega arith;
-      mark = λ z. omega arith;
-      opens = λ z. omega arith;
-      closes = λ z. omega arith;
-      colon = λ z. omega arith;
-      less = λ z. omega arith;
-      equal = λ z. omega arith;
-      greater = λ z. omega arith;
-      opens_list = λ z. omega arith;
-      closes_list = λ z. omega arith;
-    }
+Apart-comma = Apart-from_tests 44 refl refl refl refl refl
 
 module _ (c : ℕ) (apart : Apart c) where
   pub qualifier_lacks : (q : Option (List ℕ)) → QualifierFits q → Without c (qualifier_part q)

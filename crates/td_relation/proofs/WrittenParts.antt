@@ -1,39 +1,28 @@
 -- The parts of an alternative, written in the canonical way one behind the other,
 -- are read again one by one.
-use Rattle.std.proofs.Common.{◌≡◌, ℕ, Bool, true, false, cond, ltb, List, [], ◌∷◌, ◌++◌}
-use Rattle.std.proofs.Common.{length, get_or, map, Option, Some, None, option_map, Ok, Err, refl}
+use Rattle.std.proofs.Common.{◌≡◌, ℕ, Bool, true, false, cond, eqb, List, [], ◌∷◌, ◌++◌}
+use Rattle.std.proofs.Common.{map, Option, Some, None, option_map, Ok, refl}
 use Rattle.std.proofs.Common.{ap, ◌∙◌, append_assoc, arith}
 use Rattle.std.specs.Prelude.{codes, IsTrue}
-use Rattle.std.specs.List.{list_all, flat_map, join_by}
-use Rattle.std.proofs.lemmas.Bool.{and_parts, ltb-true, or_right, and_from}
+use Rattle.std.specs.List.{flat_map, join_by}
+use Rattle.std.proofs.lemmas.Bool.{or_right}
 use Rattle.td_text.specs.Cut.{Without, strip}
-use Rattle.td_text.specs.Words.{is_alphanumeric, is_name_byte, is_arch_byte, is_name, is_arch}
+use Rattle.td_text.specs.Words.{is_name_byte, is_arch_byte, is_name, is_arch}
 use Rattle.td_text.proofs.Cut.{Begins, cut-at}
 use Rattle.td_text.proofs.Prefix.{strip_again}
 use Rattle.td_text.proofs.Words.{Without-arch}
-use Rattle.td_version.specs.Reading.{reading}
-use Rattle.td_version.specs.Version.{Parts}
-use Rattle.td_version.specs.Grammar.{IsVersion}
-use Rattle.td_version.proofs.Outcomes.{read_only}
-use Rattle.td_relation.specs.declared.relation.Operator.{Operator}
-use Rattle.td_relation.specs.declared.relation.Operator.TheVariants.{Earlier, EarlierOrEqual, Equal}
-use Rattle.td_relation.specs.declared.relation.Operator.TheVariants.{LaterOrEqual, Later}
-use Rattle.td_relation.specs.declared.relation_fault.RelationFault.TheVariants.{BadArchList}
 use Rattle.td_relation.specs.ArchList.{words}
-use Rattle.td_relation.specs.RelationGrammar.{ends_a_name, after_colon, unqualified, named, name_at}
-use Rattle.td_relation.specs.RelationGrammar.{is_operator_byte, operator_at, is_version_byte}
-use Rattle.td_relation.specs.RelationGrammar.{ends_a_restriction, closed, version_at, restricted}
+use Rattle.td_relation.specs.RelationGrammar.{ends_a_name, name_at, ends_a_restriction, restricted}
 use Rattle.td_relation.specs.RelationGrammar.{restriction_at, is_arch_list, listed, bracketed}
 use Rattle.td_relation.specs.RelationGrammar.{archs_at}
 use Rattle.td_relation.specs.RelationWriting.{WrittenBound, WrittenArchs, WrittenProfile}
 use Rattle.td_relation.specs.RelationWriting.{operator_text, marked, qualifier_part, bound_part}
 use Rattle.td_relation.specs.RelationWriting.{archs_part, profile_part, QualifierFits, BoundFits}
 use Rattle.td_relation.specs.RelationWriting.{ArchsFit, bound_asked}
-use Rattle.td_text.specs.Runs.{run, behind, trimmed}
-use Rattle.td_text.proofs.RunTexts.{Stops, Stops-at, run_again, behind_again, NoSpace, Stops-front}
-use Rattle.td_text.proofs.RunTexts.{trimmed_same, trimmed_space, gap, Begins-gap, trimmed_gap}
-use Rattle.td_text.proofs.RunTexts.{strip_other}
-use Rattle.td_relation.proofs.VersionBytes.{version_bytes, version_filled}
+use Rattle.td_relation.specs.Spacing.{SpacedBound}
+use Rattle.td_text.specs.Runs.{trimmed, is_blank}
+use Rattle.td_text.proofs.RunTexts.{Stops-at, gap, Begins-gap}
+use Rattle.td_relation.proofs.SpacedParts as spaced
 use Rattle.td_relation.proofs.WordTexts.{each, Without-join, Without-marked, is_arch_list-again}
 use Rattle.td_relation.proofs.WordTexts.{arch_words-again}
 
@@ -96,90 +85,19 @@ no_bound (Some l) ps e = refl
 
 -- ---- the name
 
-name_no_space : NoSpace is_name_byte
-name_no_space = record { space = refl; tab = refl; newline = refl }
-
-version_no_space : NoSpace is_version_byte
-version_no_space = record { space = refl; tab = refl; newline = refl }
-
-unqualified_again : (q : Option (List ℕ)) (rest : List ℕ) → QualifierFits q → Begins 32 rest
-    → unqualified (qualifier_part q ++ rest) ≡ Some rest
-unfolding unqualified
-unqualified_again None rest h s = ap (after_colon rest) (strip_other 58 32 rest refl s)
-unqualified_again (Some word) rest h s =
-    let p = and_parts (ltb 0 (length word)) (list_all is_arch_byte word) h in
-    let stops = Stops-at is_arch_byte 32 rest refl s in
-    ap (after_colon (codes ":" ++ (word ++ rest))) (strip_again (codes ":") (word ++ rest))
-    ∙ ap (λ (w : List ℕ). cond (ltb 0 (length w)) (Some (behind is_arch_byte (word ++ rest))) None)
-    (run_again is_arch_byte word rest p.1 stops)
-    ∙ ap (λ (b : Bool). cond b (Some (behind is_arch_byte (word ++ rest))) None) p.0
-    ∙ ap (λ (t : List ℕ). Some t) (behind_again is_arch_byte word rest p.1 stops)
-
-qualifier_stops : (q : Option (List ℕ)) (rest : List ℕ) → Begins 32 rest
-    → Stops is_name_byte (qualifier_part q ++ rest)
-qualifier_stops None rest s = Stops-at is_name_byte 32 rest refl s
-qualifier_stops (Some word) rest s = refl
+gap_blank : (e : Bool) → is_blank (gap e) ≡ true
+gap_blank true = refl
+gap_blank false = refl
 
 pub name_again : (f : Bool) (name : List ℕ) (q : Option (List ℕ)) (rest : List ℕ)
     → IsTrue (is_name name) → QualifierFits q → Begins 32 rest → ends_a_name (trimmed rest) ≡ true
     → name_at (gap f ++ (name ++ (qualifier_part q ++ rest))) ≡ Some (name, trimmed rest)
-unfolding name_at
 name_again f name q rest h fits s ends =
-    let a = and_parts (ltb 1 (length name)) _ h in
-    let b = and_parts (is_alphanumeric (get_or name 0 0)) (list_all is_name_byte name) a.1 in
-    let long = ltb-true 1 (length name) a.0 in
-    let on = qualifier_part q ++ rest in
-    let stops = qualifier_stops q rest s in
-    ap (λ (t : List ℕ). named (run is_name_byte t) (unqualified (behind is_name_byte t)))
-    (trimmed_gap f (name ++ on)
-    ∙ trimmed_same (name ++ on) (Stops-front is_name_byte name on name_no_space (omega arith) b.1))
-    ∙ ap (λ (n : List ℕ). named n (unqualified (behind is_name_byte (name ++ on))))
-    (run_again is_name_byte name on b.1 stops)
-    ∙ ap (λ (t : List ℕ). named name (unqualified t)) (behind_again is_name_byte name on b.1 stops)
-    ∙ ap (named name) (unqualified_again q rest fits s)
-    ∙ ap (λ (y : Bool). cond y (Some (name, trimmed rest)) None) (and_from _ _ h ends)
+    spaced.name_again (gap f) name q rest (gap_blank f) h fits
+    (Stops-at is_name_byte 32 rest refl s) (Stops-at is_arch_byte 32 rest refl s)
+    (Stops-at (eqb 58) 32 rest refl s) ends
 
 -- ---- the restriction
-
-operator_read : (operator : Operator) (rest : List ℕ) → operator_at
-    (run is_operator_byte (trimmed (operator_text operator ++ 32 ∷ rest))) ≡ Some operator
-unfolding operator_at
-operator_read Earlier rest = refl
-operator_read EarlierOrEqual rest = refl
-operator_read Equal rest = refl
-operator_read LaterOrEqual rest = refl
-operator_read Later rest = refl
-
-operator_behind : (operator : Operator) (rest : List ℕ)
-    → behind is_operator_byte (trimmed (operator_text operator ++ 32 ∷ rest)) ≡ 32 ∷ rest
-operator_behind Earlier rest = refl
-operator_behind EarlierOrEqual rest = refl
-operator_behind Equal rest = refl
-operator_behind LaterOrEqual rest = refl
-operator_behind Later rest = refl
-
-version_again : (operator : Operator) (version : List ℕ) (p : Parts) (rest : List ℕ)
-    → IsVersion version p → ends_a_restriction (trimmed rest) ≡ true
-    → version_at (Some operator) (32 ∷ (version ++ 41 ∷ rest))
-    ≡ Ok (Some (record { operator = operator; version = p }), trimmed rest)
-version_again operator version p rest v ends =
-    let bytes = version_bytes version p v in
-    let front : trimmed (32 ∷ (version ++ 41 ∷ rest)) ≡ version ++ 41 ∷ rest =
-    trimmed_space (version ++ 41 ∷ rest)
-    ∙ trimmed_same (version ++ 41 ∷ rest)
-    (Stops-front is_version_byte version (41 ∷ rest) version_no_space (version_filled version p v)
-    bytes) in
-    ap (λ (t : List ℕ). closed operator (reading (run is_version_byte t))
-    (strip (codes ")") (trimmed (behind is_version_byte t)))) front
-    ∙ ap (λ (t : List ℕ). closed operator (reading t)
-    (strip (codes ")") (trimmed (behind is_version_byte (version ++ 41 ∷ rest)))))
-    (run_again is_version_byte version (41 ∷ rest) bytes refl)
-    ∙ ap (λ (t : List ℕ). closed operator (reading version) (strip (codes ")") (trimmed t)))
-    (behind_again is_version_byte version (41 ∷ rest) bytes refl)
-    ∙ ap (closed operator (reading version)) (strip_again (codes ")") rest)
-    ∙ ap (λ r. closed operator r (Some rest)) (read_only version p v)
-    ∙ ap (λ (y : Bool). cond y
-    (Ok (Some (record { operator = operator; version = p }), trimmed rest)) (Err BadArchList)) ends
 
 pub restriction_again : (b : Option WrittenBound) (l : Option WrittenArchs)
     (ps : List (List WrittenProfile)) (e : Bool) → BoundFits b
@@ -189,17 +107,21 @@ unfolding restriction_at
 restriction_again None l ps e h = ap (restricted (trimmed (archs_on l ps e))) (no_bound l ps e)
 restriction_again (Some b) l ps e h =
     let rest = archs_on l ps e in
-    let inside = operator_text b.operator ++ 32 ∷ (b.version ++ 41 ∷ rest) in
-    let joined : (operator_text b.operator ++ 32 ∷ (b.version ++ 41 ∷ [])) ++ rest ≡ inside =
+    let joined : (operator_text b.operator ++ 32 ∷ (b.version ++ 41 ∷ [])) ++ rest
+    ≡ operator_text b.operator ++ 32 ∷ (b.version ++ 41 ∷ rest) =
     append_assoc (operator_text b.operator) (32 ∷ (b.version ++ 41 ∷ [])) rest
     ∙ ap (λ (t : List ℕ). operator_text b.operator ++ 32 ∷ t)
     (append_assoc b.version (41 ∷ []) rest) in
+    let one_space : SpacedBound = record {
+      bound = b;
+      before = [];
+      before_operator = [];
+      before_version = 32 ∷ [];
+      before_end = [];
+    } in
     ap (λ (t : List ℕ). restriction_at (40 ∷ t)) joined
-    ∙ ap (restricted (40 ∷ inside)) (strip_again (codes "(") inside)
-    ∙ ap (λ o. version_at o (behind is_operator_byte (trimmed inside)))
-    (operator_read b.operator (b.version ++ 41 ∷ rest))
-    ∙ ap (version_at (Some b.operator)) (operator_behind b.operator (b.version ++ 41 ∷ rest))
-    ∙ version_again b.operator b.version b.parts rest h (restriction_ends l ps e)
+    ∙ spaced.bound_again one_space rest (trimmed rest) h (refl, refl, refl, refl) refl
+    (restriction_ends l ps e)
 
 -- ---- the architecture list
 

@@ -1,10 +1,9 @@
 -- Runs that end where a text goes on with something else.
 use Rattle.std.proofs.Common.{◌≡◌, ℕ, ◌<◌, Bool, true, false, eqb, List, [], ◌∷◌, ◌++◌, length}
-use Rattle.std.proofs.Common.{None, refl, sym, ap, ◌∙◌, one-add, arith, inl, inr, take-append-drop}
+use Rattle.std.proofs.Common.{refl, sym, ap, ◌∙◌, one-add, arith, inl, inr, take-append-drop}
 use Rattle.std.specs.List.{list_all, prefix_len}
 use Rattle.std.proofs.lemmas.Bool.{and_parts, ne_eqb, cases_Bool, and_from}
 use Rattle.std.proofs.lemmas.List.{take_at, drop_at}
-use Rattle.td_text.specs.Cut.{strip}
 use Rattle.td_text.proofs.Cut.{Begins}
 use Rattle.td_text.specs.Runs.{is_space, run, behind, trimmed, is_blank}
 
@@ -81,9 +80,6 @@ Stops-front test [] b lacks some h = absurd (omega arith)
 Stops-front test (x ∷ a) b lacks some h =
     not_space test x lacks (and_parts (test x) (list_all test a) h).0
 
-pub trimmed_same : (t : List ℕ) → Stops is_space t → trimmed t ≡ t
-trimmed_same t s = behind_again is_space [] t refl s
-
 pub trimmed_space : (t : List ℕ) → trimmed (32 ∷ t) ≡ trimmed t
 trimmed_space t = rw one-add refl
 
@@ -103,10 +99,3 @@ trimmed_gap false t = refl
 pub is_blank-gap : (b : Bool) (t : List ℕ) → is_blank (gap b ++ t) ≡ is_blank t
 is_blank-gap true t = refl
 is_blank-gap false t = refl
-
--- ---- another byte in front
-
-pub strip_other : (c d : ℕ) (t : List ℕ) → eqb c d ≡ false → Begins d t → strip (c ∷ []) t ≡ None
-unfolding strip
-strip_other c d [] out h = refl
-strip_other c d (x ∷ t) out h = rw (h, out) refl

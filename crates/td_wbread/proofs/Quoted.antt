@@ -6,10 +6,10 @@ use Rattle.td_text.specs.Cut.{cut}
 use Rattle.td_text.proofs.Cut.{cut-at}
 use Rattle.td_rows.specs.Text.{has_newline}
 use Rattle.td_wbread.specs.declared.word.Word.{Word}
-use Rattle.td_wbread.specs.Words.{Mark, marks, word_of, words_from, open_at, placed, end_with}
+use Rattle.td_wbread.specs.Words.{marks, word_of, words_from, open_at, placed, end_with}
 use Rattle.td_wbread.specs.Taking.{IsTaken, closing}
 use Rattle.td_wbread.specs.Laws.{CanBeQuoted, QuotedWordsAreRead, quoted_line}
-use Rattle.td_wbread.proofs.Takes.{IsPiece, between, between_text, is_between}
+use Rattle.td_wbread.proofs.Takes.{between, between_text, is_between}
 use Rattle.td_wbread.proofs.Scans.{front_words, gap_words, gap_open, past}
 
 closes_at : (text after : List ℕ) → CanBeQuoted text
@@ -24,21 +24,10 @@ closes_at text after q =
     by false h = refl
     by true h = absurd cc
 
-taken_piece : (rest : List ℕ) (piece : List Mark) (after : List ℕ) → IsPiece rest piece after
-    → IsTaken rest piece after
-taken_piece rest piece after p =
-    record {
-      marked = p.marked;
-      one = p.one;
-      closed = p.closed;
-      one_line = p.one_line;
-      long = p.long;
-    }
-
 taken_text : (text after : List ℕ) → CanBeQuoted text
     → IsTaken (39 ∷ (text ++ 39 ∷ after)) (between text) after
-taken_text text after q = taken_piece (39 ∷ (text ++ 39 ∷ after)) (between text) after
-    (is_between 39 (text ++ 39 ∷ after) text after refl (closes_at text after q))
+taken_text text after q =
+    is_between 39 (text ++ 39 ∷ after) text after refl (closes_at text after q)
 
 line_of_more : (text : List ℕ) (texts : List (List ℕ))
     → quoted_line (text ∷ texts) ≡ 39 ∷ (text ++ 39 ∷ (32 ∷ quoted_line texts))

@@ -1,12 +1,12 @@
 -- The word at the front of a text, piece by piece.
 use Rattle.std.proofs.Common.{◌≡◌, ◌≢◌, ℕ, suc, ◌+◌, ◌-◌, ◌<◌, ◌≤◌, Bool, true, false, not, cond}
-use Rattle.std.proofs.Common.{eqb, ◌||◌, ◌&&◌, List, [], ◌∷◌, ◌++◌, Option, Some, None, length, map}
-use Rattle.std.proofs.Common.{take, drop, refl, sym, ap, ◌∙◌, subst, arith, append_assoc}
+use Rattle.std.proofs.Common.{eqb, ◌||◌, List, [], ◌∷◌, ◌++◌, Option, Some, None, length, map}
+use Rattle.std.proofs.Common.{drop, refl, sym, ap, ◌∙◌, subst, arith, append_assoc}
 use Rattle.std.proofs.Common.{append-nil, length-append}
 use Rattle.std.specs.List.{prefix_len, list_all, list_any}
 use Rattle.std.proofs.lemmas.Bool.{eqb-true, and_parts}
 use Rattle.std.proofs.lemmas.Bool.Decides.{nat_tests}
-use Rattle.std.proofs.lemmas.List.{take-append-drop, length-map}
+use Rattle.std.proofs.lemmas.List.{length-map}
 use Rattle.std.proofs.lemmas.List.Folds.{list_any-append}
 use Rattle.std.proofs.lemmas.Grind.{flat_map-append}
 use Rattle.std.proofs.Math.Bool.{or-true}
@@ -104,43 +104,19 @@ run_ends b test (x ∷ xs) after h =
 
 -- ---- what marks of one piece are
 
-pub plain_gaps : (text : List ℕ) → list_any is_gap (map plain text) ≡ false
-plain_gaps [] = refl
-plain_gaps (b ∷ text) = plain_gaps text
+-- a test that no byte's mark passes
+list_any-marked : (test : Mark → Bool) (mark : ℕ → Mark) → ((b : ℕ) → test (mark b) ≡ false)
+    → (text : List ℕ) → list_any test (map mark text) ≡ false
+list_any-marked test mark none [] = refl
+list_any-marked test mark none (b ∷ text) = rw (none b, list_any-marked test mark none text) refl
 
-pub plain_unclosed : (text : List ℕ) → list_any is_unclosed (map plain text) ≡ false
-plain_unclosed [] = refl
-plain_unclosed (b ∷ text) = plain_unclosed text
-
-pub plain_bare : (text : List ℕ) → list_any is_quote_mark (map plain text) ≡ false
-plain_bare [] = refl
-plain_bare (b ∷ text) = plain_bare text
-
-pub plain_text : (text : List ℕ) → text_of (map plain text) ≡ text
-plain_text [] = refl
-plain_text (b ∷ text) = ap (λ (t : List ℕ). b ∷ t) (plain_text text)
-
-pub quoted_gaps : (text : List ℕ) → list_any is_gap (map quoted text) ≡ false
-quoted_gaps [] = refl
-quoted_gaps (b ∷ text) = quoted_gaps text
-
-pub quoted_unclosed : (text : List ℕ) → list_any is_unclosed (map quoted text) ≡ false
-quoted_unclosed [] = refl
-quoted_unclosed (b ∷ text) = quoted_unclosed text
-
-pub quoted_text : (text : List ℕ) → text_of (map quoted text) ≡ text
-quoted_text [] = refl
-quoted_text (b ∷ text) = ap (λ (t : List ℕ). b ∷ t) (quoted_text text)
+-- marks that stand for their bytes
+text_of-marked : (mark : ℕ → Mark) → ((b : ℕ) → letter (mark b) ≡ b ∷ []) → (text : List ℕ)
+    → text_of (map mark text) ≡ text
+text_of-marked mark same [] = refl
+text_of-marked mark same (b ∷ text) = rw (same b, text_of-marked mark same text) refl
 
 -- ---- a piece more
-
--- marks that are part of one word
-pub record IsPiece (rest : List ℕ) (piece : List Mark) (after : List ℕ) : Type 0 where
-  pub marked : marks None rest ≡ piece ++ marks None after
-  pub one : list_any is_gap piece ≡ false
-  pub closed : list_any is_unclosed piece ≡ false
-  pub one_line : has_newline (text_of piece) ≡ false
-  pub long : length rest ≡ length piece + length after
 
 pub neither : (a b : Bool) → a ≡ false → b ≡ false → (a || b) ≡ false
 neither false false x y = refl
@@ -155,7 +131,7 @@ joined_text : (front piece : List Mark) → text_of (front ++ piece) ≡ text_of
 joined_text front piece = flat_map-append letter front piece
 
 more : (text : List ℕ) (front : List Mark) (rest : List ℕ) (piece : List Mark) (after : List ℕ)
-    → IsTaken text front rest → IsPiece rest piece after → IsTaken text (front ++ piece) after
+    → IsTaken text front rest → IsTaken rest piece after → IsTaken text (front ++ piece) after
 more text front rest piece after t p = record {
   marked = t.marked ∙ ap (λ (ms : List Mark). front ++ ms) p.marked
       ∙ sym (append_assoc front piece (marks None after));
@@ -174,13 +150,13 @@ plain_line (b ∷ text) h =
     neither _ _ first (plain_line text p.1)
 
 -- a run of bytes that stand for themselves
-pub is_run : (rest : List ℕ) → IsPiece rest (map plain (run is_plain rest)) (behind is_plain rest)
+pub is_run : (rest : List ℕ) → IsTaken rest (map plain (run is_plain rest)) (behind is_plain rest)
 is_run rest = record {
   marked = ap (marks None) (run_joined is_plain rest)
       ∙ plain_marks (run is_plain rest) (behind is_plain rest) (run_passes is_plain rest);
-  one = plain_gaps (run is_plain rest);
-  closed = plain_unclosed (run is_plain rest);
-  one_line = ap has_newline (plain_text (run is_plain rest))
+  one = list_any-marked is_gap plain (λ b. refl) (run is_plain rest);
+  closed = list_any-marked is_unclosed plain (λ b. refl) (run is_plain rest);
+  one_line = ap has_newline (text_of-marked plain (λ b. refl) (run is_plain rest))
       ∙ plain_line (run is_plain rest) (run_passes is_plain rest);
   long = ap length (run_joined is_plain rest)
       ∙ length-append (run is_plain rest) (behind is_plain rest)
@@ -194,7 +170,7 @@ between inside = quote ∷ (map quoted inside ++ quote ∷ [])
 
 pub between_text : (inside : List ℕ) → text_of (between inside) ≡ inside
 between_text inside = joined_text (map quoted inside) (quote ∷ [])
-    ∙ append-nil (text_of (map quoted inside)) ∙ quoted_text inside
+    ∙ append-nil (text_of (map quoted inside)) ∙ text_of-marked quoted (λ b. refl) inside
 
 closing_is : (q : ℕ) (text inside after : List ℕ) → Some (inside, after) ≡ closing (cut q text)
     → (closes q text ≡ true) × (text ≡ inside ++ q ∷ after) × Without q inside
@@ -223,7 +199,7 @@ closing_is q text inside after h = by (cut q text) refl h
     by (Some p) is g = piece p (has_newline p.0) is refl g
 
 pub is_between : (q : ℕ) (text inside after : List ℕ) → is_quote q ≡ true
-    → Some (inside, after) ≡ closing (cut q text) → IsPiece (q ∷ text) (between inside) after
+    → Some (inside, after) ≡ closing (cut q text) → IsTaken (q ∷ text) (between inside) after
 is_between q text inside after is h =
     let c = closing_is q text inside after h in
     record {
@@ -231,9 +207,9 @@ is_between q text inside after is h =
           ∙ ap (λ (ms : List Mark). quote ∷ ms) (quoted_marks q inside after c.2
           ∙ sym (append_assoc (map quoted inside) (quote ∷ []) (marks None after)));
       one = list_any-append is_gap (map quoted inside) (quote ∷ [])
-          ∙ neither _ _ (quoted_gaps inside) refl;
+          ∙ neither _ _ (list_any-marked is_gap quoted (λ b. refl) inside) refl;
       closed = list_any-append is_unclosed (map quoted inside) (quote ∷ [])
-          ∙ neither _ _ (quoted_unclosed inside) refl;
+          ∙ neither _ _ (list_any-marked is_unclosed quoted (λ b. refl) inside) refl;
       one_line = ap has_newline (between_text inside) ∙ c.3;
       long =
           (let a : length text ≡ length inside + suc (length after) = ap length c.1
@@ -265,9 +241,9 @@ run_seen text word is_bare rest s =
       front = s.front ++ map plain r;
       taken = more text s.front rest (map plain r) (behind is_plain rest) s.taken (is_run rest);
       joined = joined_text s.front (map plain r) ∙ ap (λ (t : List ℕ). t ++ text_of (map plain r))
-          s.joined ∙ ap (λ (t : List ℕ). word ++ t) (plain_text r);
+          s.joined ∙ ap (λ (t : List ℕ). word ++ t) (text_of-marked plain (λ b. refl) r);
       bare = ap not (list_any-append is_quote_mark s.front (map plain r)
-          ∙ or_none _ _ (plain_bare r)) ∙ s.bare;
+          ∙ or_none _ _ (list_any-marked is_quote_mark plain (λ b. refl) r)) ∙ s.bare;
     }
 
 pub between_seen : (text word : List ℕ) (is_bare : Bool) (q : ℕ) (rest inside after : List ℕ)
