@@ -211,28 +211,33 @@ pub names-contains : (t : Table) (k : Key) (b : Bool) → b ≡ is_some (lookup 
     → names (keys_of t) k ≡ b
 names-contains t k b is = names-row_of t k ∙ ap is_some (sym (lookup-row_of k t)) ∙ sym is
 
-module _ (n : ℕ) (seen : Table) (line : List ℕ) (p : Key × Row)
-    (is : Some p ≡ row_line_at line) where
-  pub add_row-twice : names (keys_of seen) p.0 ≡ true
-      → add_row n seen (row_line_at line) ≡ Err (Twice n)
-  add_row-twice h = rw (← is, h) refl
+-- a line that is read, and whether its key was found
+module _ (n : ℕ) (seen : Table) (line : List ℕ) (p : Key × Row) (is : Some p ≡ row_line_at line)
+    (key : Key) (same : key ≡ p.0) (has : Bool) (told : has ≡ is_some (lookup (same_key key) seen))
+  where
+    named : names (keys_of seen) p.0 ≡ has
+    named = ap (names (keys_of seen)) (sym same) ∙ names-contains seen key has told
 
-  pub add_row-building : names (keys_of seen) p.0 ≡ false → is_building p.1.state ≡ true
-      → add_row n seen (row_line_at line) ≡ Err (NotOpening n)
-  add_row-building h b = rw (← is, h, b) refl
+    pub add_row-twice : has ≡ true → add_row n seen (row_line_at line) ≡ Err (Twice n)
+    add_row-twice h = let old = named ∙ h in rw (← is, old) refl
 
-  pub add_row-many : names (keys_of seen) p.0 ≡ false → is_building p.1.state ≡ false
-      → length seen ≡ 1048576 → add_row n seen (row_line_at line) ≡ Err TooManyRows
-  add_row-many h b many =
-      let full : eqb (length seen) 1048576 ≡ true = eq-eqb (length seen) 1048576 many in
-      rw (← is, h, b, full) refl
+    pub add_row-building : has ≡ false → is_building p.1.state ≡ true
+        → add_row n seen (row_line_at line) ≡ Err (NotOpening n)
+    add_row-building h b = let new = named ∙ h in rw (← is, new, b) refl
 
-  pub add_row-ok : (q : Key × Row) → q ≡ p → names (keys_of seen) p.0 ≡ false
-      → is_building p.1.state ≡ false → length seen ≢ 1048576
-      → add_row n seen (row_line_at line) ≡ Ok (seen ++ q ∷ [])
-  add_row-ok q same h b few =
-      let below : eqb (length seen) 1048576 ≡ false = ne_eqb (length seen) 1048576 few in
-      rw (← is, h, b, below) (ap (λ (x : Key × Row). Ok (seen ++ x ∷ [])) (sym same))
+    pub add_row-many : has ≡ false → is_building p.1.state ≡ false → length seen ≡ 1048576
+        → add_row n seen (row_line_at line) ≡ Err TooManyRows
+    add_row-many h b many =
+        let new = named ∙ h in
+        let full : eqb (length seen) 1048576 ≡ true = eq-eqb (length seen) 1048576 many in
+        rw (← is, new, b, full) refl
+
+    pub add_row-ok : (row : Row) → row ≡ p.1 → has ≡ false → is_building p.1.state ≡ false
+        → length seen ≢ 1048576 → add_row n seen (row_line_at line) ≡ Ok (seen ++ (key, row) ∷ [])
+    add_row-ok row is_row h b few =
+        let new = named ∙ h in
+        let below : eqb (length seen) 1048576 ≡ false = ne_eqb (length seen) 1048576 few in
+        rw (← is, new, b, below) (λ j. Ok (seen ++ (sym same j, sym is_row j) ∷ []))
 
 -- ---- the loop over lines
 

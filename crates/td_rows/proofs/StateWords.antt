@@ -1,12 +1,15 @@
 -- A state is read exactly from its word.
-use Rattle.std.proofs.Common.{◌≡◌, ℕ, ◌-◌, ◌^◌, List, ◌++◌, Some, refl, ap, subst, ◌∙◌, arith, lit<}
-use Rattle.std.specs.Prelude.{codes, decimal}
+use Rattle.std.proofs.Common.{◌≡◌, ℕ, ◌-◌, ◌^◌, ◌<◌, true, List, ◌++◌, Some, refl, ap, subst, ◌∙◌}
+use Rattle.std.proofs.Common.{arith, lit<}
+use Rattle.std.specs.Prelude.{codes, decimal, nat_lt}
+use Rattle.std.specs.List.{list_all}
+use Rattle.std.proofs.lemmas.Bool.Decides.{nat_tests}
 use Rattle.td_text.specs.Chain.{◌>>=◌}
 use Rattle.td_text.specs.Cut.{Without, strip}
 use Rattle.td_text.specs.Exact.{Exact}
 use Rattle.td_text.specs.Numbers.{number_at}
 use Rattle.td_text.proofs.Chain.{chained, some_is, or_word}
-use Rattle.td_text.proofs.Cut.{Without-append, lacks}
+use Rattle.td_text.proofs.Cut.{Without-append, Without-from_test}
 use Rattle.td_text.proofs.Numbers.{number_exact, Without-decimal}
 use Rattle.td_text.proofs.Prefix.{strip_again, strip_found}
 use Rattle.td_rows.specs.declared.state.State.{State}
@@ -62,30 +65,29 @@ state_again NotForUs h = refl
 pub state_exact : Exact state_at state_word StateFits
 state_exact = record { found = state_found; again = state_again }
 
+-- no byte below the letters, digits and signs of the words stands in a state's word
+state_word_lacks : (c : ℕ) → c < 33 → (s : State) → StateFits s → Without c (state_word s)
+state_word_lacks c low = words
+  where
+    above : (t : List ℕ) → list_all (λ x. nat_lt 32 x) t ≡ true → Without c t
+    above t h = Without-from_test (λ x. nat_lt 32 x) c t (grind (arith, nat_tests)) h
+
+    words : (s : State) → StateFits s → Without c (state_word s)
+    words NeedsBuild h = above (state_word NeedsBuild) refl
+    words (Building n) h =
+        Without-append c (codes "Building=") (decimal n) (above (codes "Building=") refl)
+        (Without-decimal c n (omega arith) h)
+    words Built h = above (state_word Built) refl
+    words Uploaded h = above (state_word Uploaded) refl
+    words Installed h = above (state_word Installed) refl
+    words DepWait h = above (state_word DepWait) refl
+    words BdUninstallable h = above (state_word BdUninstallable) refl
+    words BuildAttempted h = above (state_word BuildAttempted) refl
+    words Failed h = above (state_word Failed) refl
+    words NotForUs h = above (state_word NotForUs) refl
+
 pub state_lacks_space : (s : State) → StateFits s → Without 32 (state_word s)
-state_lacks_space NeedsBuild h = lacks 32 (state_word NeedsBuild) refl
-state_lacks_space (Building n) h =
-    Without-append 32 (codes "Building=") (decimal n) (lacks 32 (codes "Building=") refl)
-    (Without-decimal 32 n (lit< tt) h)
-state_lacks_space Built h = lacks 32 (state_word Built) refl
-state_lacks_space Uploaded h = lacks 32 (state_word Uploaded) refl
-state_lacks_space Installed h = lacks 32 (state_word Installed) refl
-state_lacks_space DepWait h = lacks 32 (state_word DepWait) refl
-state_lacks_space BdUninstallable h = lacks 32 (state_word BdUninstallable) refl
-state_lacks_space BuildAttempted h = lacks 32 (state_word BuildAttempted) refl
-state_lacks_space Failed h = lacks 32 (state_word Failed) refl
-state_lacks_space NotForUs h = lacks 32 (state_word NotForUs) refl
+state_lacks_space = state_word_lacks 32 (omega arith)
 
 pub state_lacks_newline : (s : State) → StateFits s → Without 10 (state_word s)
-state_lacks_newline NeedsBuild h = lacks 10 (state_word NeedsBuild) refl
-state_lacks_newline (Building n) h =
-    Without-append 10 (codes "Building=") (decimal n) (lacks 10 (codes "Building=") refl)
-    (Without-decimal 10 n (lit< tt) h)
-state_lacks_newline Built h = lacks 10 (state_word Built) refl
-state_lacks_newline Uploaded h = lacks 10 (state_word Uploaded) refl
-state_lacks_newline Installed h = lacks 10 (state_word Installed) refl
-state_lacks_newline DepWait h = lacks 10 (state_word DepWait) refl
-state_lacks_newline BdUninstallable h = lacks 10 (state_word BdUninstallable) refl
-state_lacks_newline BuildAttempted h = lacks 10 (state_word BuildAttempted) refl
-state_lacks_newline Failed h = lacks 10 (state_word Failed) refl
-state_lacks_newline NotForUs h = lacks 10 (state_word NotForUs) refl
+state_lacks_newline = state_word_lacks 10 (omega arith)

@@ -14,7 +14,11 @@ pub record KeyFits (k : Key) : Type 0 where
   pub source : IsTrue (is_name k.source)
   pub arch : IsTrue (is_arch k.arch)
 
+-- the key whose source and architecture stand before and behind the first byte c of a text
+abbrev pub key_apart : ℕ → List ℕ → Option Key
+key_apart c text = cut c text >>= λ p.
+    if is_name p.0 && is_arch p.1 then Some (record { source = p.0; arch = p.1 }) else None
+
 -- the key that a text is
 unfoldable pub key_at : List ℕ → Option Key
-key_at text = cut 47 text >>= λ p.
-    if is_name p.0 && is_arch p.1 then Some (record { source = p.0; arch = p.1 }) else None
+key_at text = key_apart 47 text

@@ -1,22 +1,20 @@
 -- The line of a request is read exactly.
-use Rattle.std.proofs.Common.{◌≡◌, ℕ, Bool, ◌<◌, ◌^◌, ◌-◌, ◌&&◌, true, cond, eqb, false, List}
+use Rattle.std.proofs.Common.{◌≡◌, ℕ, Bool, ◌<◌, ◌^◌, ◌-◌, true, cond, eqb, false, List}
 use Rattle.std.proofs.Common.{[], ◌++◌, length, Option, Some, None, refl, sym, ap, subst, ◌∙◌}
 use Rattle.std.proofs.Common.{arith, lit<}
 use Rattle.std.specs.Prelude.{codes, decimal}
-use Rattle.std.proofs.lemmas.Bool.{and_parts}
 use Rattle.td_text.specs.Chain.{◌>>=◌}
 use Rattle.td_text.specs.Cut.{Without, part, strip}
 use Rattle.td_text.specs.Numbers.{number_at}
-use Rattle.td_text.specs.Words.{is_name, is_arch}
 use Rattle.td_text.proofs.Chain.{chained, some_is, when_some, or_word}
-use Rattle.td_text.proofs.Cut.{cut-at, cut_found, lacks, Begins, part_again, part_joined}
+use Rattle.td_text.proofs.Cut.{lacks, Begins, part_again, part_joined}
 use Rattle.td_text.proofs.Numbers.{number_exact}
 use Rattle.td_text.proofs.Empty.{no_text}
 use Rattle.td_text.proofs.Prefix.{strip_found, strip_again}
-use Rattle.td_text.proofs.Words.{Without-name}
 use Rattle.td_rows.specs.declared.key.Key.{Key}
 use Rattle.td_rows.specs.KeyText.{KeyFits}
 use Rattle.td_rows.specs.Text.{has_newline}
+use Rattle.td_rows.proofs.KeyTexts.{key_apart-again, key_apart-found}
 use Rattle.td_rows.proofs.NoteLines.{key_lacks}
 use Rattle.td_script.specs.declared.request.Verb.{Verb}
 use Rattle.td_script.specs.declared.request.Verb.TheVariants as verb
@@ -31,20 +29,11 @@ use Rattle.td_script.specs.Reading.{RequestsAreExact}
 
 spaced_found : (t : List ℕ) (k : Key) → spaced_key_at t ≡ Some k → (t ≡ two_words k) × KeyFits k
 unfolding spaced_key_at
-spaced_found t k e =
-    let a = chained _ _ _ e in
-    let w = when_some (is_name a.0.0 && is_arch a.0.1) (record { source = a.0.0; arch = a.0.1 }) k
-    a.2 in
-    let fit = and_parts (is_name a.0.0) (is_arch a.0.1) w.0 in
-    subst (λ (q : Key). (t ≡ two_words q) × KeyFits q) w.1
-    ((cut_found 32 t a.0 a.1).0, record { source = fit.0; arch = fit.1 })
+spaced_found t k e = key_apart-found 32 t k e
 
 spaced_again : (k : Key) → KeyFits k → spaced_key_at (two_words k) ≡ Some k
 unfolding spaced_key_at
-spaced_again k h =
-    let source = h.source in
-    let arch = h.arch in
-    rw (cut-at 32 k.source k.arch (Without-name 32 k.source refl source), source, arch) refl
+spaced_again k h = key_apart-again 32 k refl h
 
 pub spaced_lacks : (t : List ℕ) (k : Key) → spaced_key_at t ≡ Some k
     → (has_newline k.source ≡ false) × (has_newline k.arch ≡ false)

@@ -1,13 +1,13 @@
 -- What a line of a script is. This project's own.
-use Rattle.std.specs.Prelude.{◌≡◌, ◌↔◌, ℕ, ◌==◌, ◌^◌, ◌-◌, Bool, true, not, ◌&&◌, ◌||◌, List, []}
+use Rattle.std.specs.Prelude.{◌≡◌, ◌↔◌, ℕ, ◌==◌, ◌^◌, ◌-◌, Bool, true, not, ◌||◌, List, []}
 use Rattle.std.specs.Prelude.{◌∷◌, Option, Some, None, length, if◌then◌else◌, codes}
 use Rattle.std.specs.Str.{bytes_eq}
 use Rattle.td_text.specs.Chain.{◌>>=◌}
-use Rattle.td_text.specs.Cut.{cut, part, strip}
+use Rattle.td_text.specs.Cut.{part, strip}
 use Rattle.td_text.specs.Exact.{Exact}
 use Rattle.td_text.specs.Numbers.{number_at}
-use Rattle.td_text.specs.Words.{is_name, is_arch}
 use Rattle.td_rows.specs.declared.key.Key.{Key}
+use Rattle.td_rows.specs.KeyText.{key_apart}
 use Rattle.td_text.specs.Runs.{behind, is_space, run}
 use Rattle.td_script.specs.declared.request.Verb.{Verb}
 use Rattle.td_script.specs.declared.request.Verb.TheVariants as verb
@@ -31,9 +31,7 @@ verb_at word =
 
 -- a source and an architecture, a space between them
 unfoldable pub spaced_key_at : List ℕ → Option Key
-spaced_key_at text =
-    cut 32 text >>= λ p.
-    if is_name p.0 && is_arch p.1 then Some (record { source = p.0; arch = p.1 }) else None
+spaced_key_at text = key_apart 32 text
 
 -- nothing may follow
 abbrev pub alone : Request → List ℕ → Option Request
