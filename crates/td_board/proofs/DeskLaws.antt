@@ -9,7 +9,7 @@ use lib.ListN.{get_elem?, length-replicate}
 use Rattle.atomic_table.proofs.Lists.{set_here, set_else, set_again, at_longer, at_last}
 use Rattle.td_board.specs.declared.outcome.OutcomeCode.{OutcomeCode}
 use Rattle.td_board.specs.declared.views.RowView.{RowView}
-use Rattle.td_board.specs.declared.views.RowView.TheVariants.{In, Out, Seen, Known}
+use Rattle.td_board.specs.declared.views.RowView.TheVariants.{In, Seen, Known}
 use Rattle.td_board.specs.declared.views.Deed.{Deed}
 use Rattle.td_board.specs.declared.views.Deed.TheVariants.{Claim, Finish}
 use Rattle.td_board.specs.declared.views.Hand.{Hand}
@@ -103,36 +103,22 @@ seat_keeps rows phases d views f =
           (at_snoc_or_end vs (Builder v) w (suc k) e);
     }
 
--- the same builders, where neither phase names one
-no_builder : (phases : List Phase) (lists : List (List Deed)) (views : List View) (r₀ : ℕ)
-    (p₀ p₁ : Phase) → get_elem? phases r₀ ≡ some p₀ → builder_of p₀ ≡ 0 → builder_of p₁ ≡ 0
-    → (k : ℕ) (w : View) → get_elem? views (suc k) ≡ some w → BuilderFits phases lists k w
-    → BuilderFits (set phases r₀ p₁) lists k w
-no_builder phases lists views r₀ p₀ p₁ at before after k w _ old = record {
-  view = old.view;
-  known = old.known;
-  is = old.is;
-  at = old.at;
-  number = old.number;
-  listed = untouched phases r₀ p₀ p₁ (suc k) old.view.hand old.known old.view.mine at
-      (λ h. omega arith) (λ h. omega arith) old.listed;
-}
-
--- an offer
-pub offer_keeps : (rows : ℕ) (phases : List Phase) (d : DeskView) (views : List View) (r : ℕ)
-    → Fits rows phases d views → get_elem? phases r ≡ some closed
-    → Fits rows (set phases r opened) (with_row r Out d) (set views 0 (Desk (with_row r Out d)))
-offer_keeps rows phases d views r f at =
-    desk_moves rows phases d views r closed opened Out d.noted f at tt tt refl
-    (no_builder phases d.noted views r closed opened at refl refl)
-
--- a withdrawal, where no builder was faster
-pub withdrawal_keeps : (rows : ℕ) (phases : List Phase) (d : DeskView) (views : List View) (r : ℕ)
-    → Fits rows phases d views → get_elem? phases r ≡ some opened
-    → Fits rows (set phases r closed) (with_row r In d) (set views 0 (Desk (with_row r In d)))
-withdrawal_keeps rows phases d views r f at =
-    desk_moves rows phases d views r opened closed In d.noted f at tt tt refl
-    (no_builder phases d.noted views r opened closed at refl refl)
+-- an offer, and a withdrawal where no builder was faster: neither phase names a builder
+pub unclaimed_keeps : (rows : ℕ) (phases : List Phase) (d : DeskView) (views : List View) (r : ℕ)
+    (p₀ p₁ : Phase) (x : RowView) → builder_of p₀ ≡ 0 → builder_of p₁ ≡ 0 → RowFits x p₁
+    → HandFits views r p₁ → Fits rows phases d views → get_elem? phases r ≡ some p₀
+    → Fits rows (set phases r p₁) (with_row r x d) (set views 0 (Desk (with_row r x d)))
+unclaimed_keeps rows phases d views r p₀ p₁ x before after row hand f at =
+    desk_moves rows phases d views r p₀ p₁ x d.noted f at row hand refl
+    (λ k w _ old. record {
+      view = old.view;
+      known = old.known;
+      is = old.is;
+      at = old.at;
+      number = old.number;
+      listed = untouched phases r p₀ p₁ (suc k) old.view.hand old.known old.view.mine at
+          (λ h. omega arith) (λ h. omega arith) old.listed;
+    })
 
 -- a withdrawal that is lost: the desk sees a claim
 pub sight_keeps : (rows : ℕ) (phases : List Phase) (d : DeskView) (views : List View) (r b : ℕ)

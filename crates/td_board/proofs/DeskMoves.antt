@@ -1,16 +1,16 @@
 -- The table's rule allows each of the desk's kinds of step, and the step tells what it should.
-use Rattle.std.proofs.Common.{◌≡◌, ◌≢◌, ℕ, suc, ◌+◌, List, [], ◌∷◌, ◌++◌, map, length, replicate}
-use Rattle.std.proofs.Common.{get_or, set, sym, refl, ap, ◌∙◌, subst, arith, add-one, eqb}
+use Rattle.std.proofs.Common.{◌≡◌, ◌≢◌, ℕ, suc, ◌+◌, ◌<◌, ◌≤◌, List, [], ◌∷◌, ◌++◌, length}
+use Rattle.std.proofs.Common.{replicate, get_or, set, sym, refl, ap, ◌∙◌, subst, arith, add-one}
+use Rattle.std.proofs.Common.{eqb}
 use mathlib.Core.Logic.{dite}
 use mathlib.Core.Option.{none, some}
 use native.Mathlib.Decide.{ℕ_discrete}
 use lib.ListN.{get_elem?}
-use lib.Seq.{set-get_or}
 use prog.Atomic.{either}
-use Rattle.atomic_table.specs.Table.{State, Act, keeps, Valid, step, carried_after, stepped, Allows}
+use Rattle.atomic_table.specs.Table.{Act, keeps, Valid, step, carried_after, stepped, Allows}
 use Rattle.atomic_table.specs.Table.{Splits, opening}
-use Rattle.atomic_table.proofs.Lists.{set_again}
 use Rattle.td_board.specs.declared.outcome.OutcomeCode.{OutcomeCode}
+use Rattle.td_board.specs.declared.views.RowView.{RowView}
 use Rattle.td_board.specs.declared.views.RowView.TheVariants.{In, Out, Seen, Known}
 use Rattle.td_board.specs.declared.views.Deed.TheVariants.{Claim, Finish}
 use Rattle.td_board.specs.declared.views.DeskView.{DeskView}
@@ -19,8 +19,8 @@ use Rattle.td_board.specs.declared.views.View.TheVariants.{Desk, Builder}
 use Rattle.td_board.specs.Phase.{Phase, closed, opened, held, noted, done, word_of}
 use Rattle.td_board.specs.Knowledge.{with_builder, with_row, with_deed, new_builder}
 use Rattle.td_board.specs.Steps as steps
-use Rattle.td_board.specs.Steps.{Moment, moment_of, Step, Reached}
-use Rattle.td_board.specs.Rule.{Fits}
+use Rattle.td_board.specs.Steps.{Moment, moment_of, Reached}
+use Rattle.td_board.specs.Rule.{RowFits, Fits}
 use Rattle.td_board.specs.Ruled.{Ruled, first_view}
 use Rattle.td_board.specs.Tells.{SeatState, at_desk, desk_half, builder_half, OfferTells}
 use Rattle.td_board.specs.Tells.{WithdrawTells, NoteTells, SettleTells}
@@ -28,31 +28,56 @@ use Rattle.td_board.proofs.Lists.{at_less}
 use Rattle.td_board.proofs.RowLaws.{phase_at, in_closed, seen_held, OutPhase, is_open, is_held}
 use Rattle.td_board.proofs.RowLaws.{out_phase, desk_seat, builder_seat}
 use Rattle.td_board.proofs.Schedules.{rule_stands}
-use Rattle.td_board.proofs.WordLaws.{words_apart, word_at, words_set, words_of_closed, same_finish}
-use Rattle.td_board.proofs.WordLaws.{either_hit, either_miss}
+use Rattle.td_board.proofs.RuledSteps.{TableState, ruled_row, ruled_view, ruled_same, ruled_missed}
+use Rattle.td_board.proofs.WordLaws.{words_apart, word_at, words_of_closed, same_finish}
+use Rattle.td_board.proofs.WordLaws.{either_hit}
 
--- a table's state
-abbrev pub TableState : Type 0
-TableState = State (Unit {0}) View
+-- the desk's seat is the first, and what it knows fits
+desk_fits : (rows : ℕ) (s : TableState) (rule : Ruled rows s) (id : ℕ) (d : DeskView)
+    → get_elem? s.views id ≡ some (Desk d) → (id ≡ 0) × Fits rows rule.phases d s.views
+desk_fits rows s rule id d at =
+    let m : Moment = moment_of rule.phases s.views in
+    let stands = rule_stands rows m rule.reached in
+    let place = desk_seat rows rule.phases stands.0 s.views id d stands.1 at in
+    (place.0, subst (λ x. Fits rows rule.phases x s.views) place.1 stands.1)
 
--- the rule on the words and views that a step leaves
-ruled_after : (rows : ℕ) (s : TableState) (phases : List Phase) (i n id : ℕ) (w : View)
-    → set s.words i n ≡ 0 ∷ map word_of phases → Reached rows (moment_of phases (set s.views id w))
-    → Ruled rows (stepped s i n id [] w keeps)
-ruled_after rows s phases i n id w words reached =
-    record { phases = phases; words_are = words; reached = reached }
+-- what the rule says of the desk's seat, and of a row of which it knows x
+record DeskSees (rows : ℕ) (s : TableState) (phases : List Phase) (id : ℕ) (d : DeskView) (r : ℕ)
+    (x : RowView) : Type 0 where
+  first : id ≡ 0
+  fits : Fits rows phases d s.views
+  phase : Phase
+  here : get_elem? phases r ≡ some phase
+  suits : RowFits x phase
+  word : get_or s.words (r + 1) 0 ≡ word_of phase
 
--- a step that changes nothing
-pub ruled_same : (rows : ℕ) (s : TableState) (i id : ℕ) (w : View) → (rule : Ruled rows s)
-    → get_elem? s.views id ≡ some w
-    → Step (moment_of rule.phases s.views) (moment_of rule.phases s.views)
-    → Ruled rows (stepped s i (get_or s.words i 0) id [] w keeps)
-ruled_same rows s i id w rule at one = record {
-  phases = rule.phases;
-  words_are = set-get_or s.words i 0 ∙ rule.words_are;
-  reached = subst (λ vs. Reached rows (moment_of rule.phases vs)) (sym (set_again s.views id w at))
-      (steps.after rule.reached one);
-}
+desk_sees : (rows : ℕ) (s : TableState) (rule : Ruled rows s) (id : ℕ) (d : DeskView) (r : ℕ)
+    (x : RowView) → get_elem? s.views id ≡ some (Desk d) → get_elem? d.rows r ≡ some x
+    → DeskSees rows s rule.phases id d r x
+desk_sees rows s rule id d r x at shown =
+    let desk = desk_fits rows s rule id d at in
+    let t = phase_at rows rule.phases d s.views r x desk.1 shown in
+    record {
+      first = desk.0;
+      fits = desk.1;
+      phase = t.0;
+      here = t.1;
+      suits = t.2;
+      word = word_at s.words rule.phases r t.0 rule.words_are t.1;
+    }
+
+-- the builder that a held row names is one of the board's
+holder_in : (rows : ℕ) (phases : List Phase) (d : DeskView) (views : List View) (r b : ℕ)
+    → Fits rows phases d views → get_elem? phases r ≡ some (held b)
+    → (0 < b) × (b ≤ length d.noted)
+holder_in rows phases d views r b f at =
+    let has = f.each_hand r (held b) at in
+    let known = builder_seat rows phases d views b has.0 f has.1 in
+    let room = at_less views b (Builder has.0) has.1 in
+    let many = f.many in
+    let k : ℕ = known.0 in
+    let named : b ≡ suc k = known.1 in
+    (omega arith, omega arith)
 
 -- a new board
 pub make_ruled : (rows : ℕ) (words : List ℕ) → words ≡ replicate (rows + 1) 0
@@ -70,11 +95,7 @@ pub seat_allowed : (rows id : ℕ) (v : View) (d : DeskView) → v ≡ Desk d
 seat_allowed rows id v d is =
     subst (λ (x : View). Splits (Ruled rows) id x (desk_half x) (builder_half x)) (sym is)
     (λ s rule at.
-    let m : Moment = moment_of rule.phases s.views in
-    let stands = rule_stands rows m rule.reached in
-    let place = desk_seat rows rule.phases stands.0 s.views id d stands.1 at in
-    let first : get_elem? s.views 0 ≡ some (Desk d) =
-    subst (λ i. get_elem? s.views i ≡ some (Desk d)) place.0 at in
+    let desk = desk_fits rows s rule id d at in
     let n : ℕ = length d.noted in
     record {
       phases = rule.phases;
@@ -83,8 +104,8 @@ seat_allowed rows id v d is =
           subst (λ (z : ℕ × ℕ). Reached rows
           (moment_of rule.phases
           (set s.views z.0 (Desk (with_builder d)) ++ Builder (new_builder z.1) ∷ [])))
-          (λ i. (sym place.0 i, sym (add-one n) i))
-          (steps.after rule.reached (steps.seat d first refl));
+          (λ i. (sym desk.0 i, sym (add-one n) i))
+          (steps.after rule.reached (steps.seat d desk.1.first refl));
     })
 
 -- an offer
@@ -97,22 +118,15 @@ offer_allowed rows slots id r me d is in_here =
     Allows (Ruled rows) slots id m (r + 1) (λ _. 1)
     (λ _. OfferTells (step slots (r + 1) 1 0 none) m 1)) (sym is)
     (λ s rule _ at _.
-    let m : Moment = moment_of rule.phases s.views in
-    let stands = rule_stands rows m rule.reached in
-    let place = desk_seat rows rule.phases stands.0 s.views id d stands.1 at in
-    let f : Fits rows rule.phases d s.views =
-    subst (λ x. Fits rows rule.phases x s.views) place.1 stands.1 in
-    let t = phase_at rows rule.phases d s.views r In f in_here in
-    let here : get_elem? rule.phases r ≡ some closed = t.1 ∙ ap some (in_closed t.0 t.2) in
+    let t = desk_sees rows s rule id d r In at in_here in
+    let here : get_elem? rule.phases r ≡ some closed =
+    t.here ∙ ap some (in_closed t.phase t.suits) in
     let d' : DeskView = with_row r Out d in (
       Desk d',
       keeps,
       tt,
-      ruled_after rows s (set rule.phases r opened) (r + 1) 1 id (Desk d')
-          (words_set s.words rule.phases r 1 opened rule.words_are refl)
-          (subst (λ i. Reached rows
-          (moment_of (set rule.phases r opened) (set s.views i (Desk d')))) (sym place.0)
-          (steps.after rule.reached (steps.offer r d f.first in_here here refl))),
+      ruled_row rows s rule r 1 id 0 opened (Desk d') t.first refl
+          (steps.offer r d t.fits.first in_here here refl),
       (λ q e. let same : r ≡ q = omega arith in ap (λ i. at_desk (with_row i Out d)) same),
     ))
 
@@ -126,68 +140,51 @@ withdrawal_allowed rows slots id r me d is out_here =
     Allows (Ruled rows) slots id m (r + 1) (λ n. either (eqb n 1) 0 n)
     (WithdrawTells (step slots (r + 1) 1 0 none) m)) (sym is)
     (λ s rule _ at _.
-    let m : Moment = moment_of rule.phases s.views in
-    let stands = rule_stands rows m rule.reached in
-    let place = desk_seat rows rule.phases stands.0 s.views id d stands.1 at in
-    let f : Fits rows rule.phases d s.views =
-    subst (λ x. Fits rows rule.phases x s.views) place.1 stands.1 in
-    let t = phase_at rows rule.phases d s.views r Out f out_here in
+    let t = desk_sees rows s rule id d r Out at out_here in
     let n : ℕ = get_or s.words (r + 1) 0 in
-    let found : n ≡ word_of t.0 = word_at s.words rule.phases r t.0 rule.words_are t.1 in
     dite (ℕ_discrete n 1)
     (λ (won : n ≡ 1).
     let here : get_elem? rule.phases r ≡ some opened =
-    t.1 ∙ ap some (words_apart t.0 opened (sym found ∙ won)) in
+    t.here ∙ ap some (words_apart t.phase opened (sym t.word ∙ won)) in
     let d' : DeskView = with_row r In d in (
       Desk d',
       keeps,
       tt,
-      ruled_after rows s (set rule.phases r closed) (r + 1) (either (eqb n 1) 0 n) id (Desk d')
-          (words_set s.words rule.phases r (either (eqb n 1) 0 n) closed rule.words_are
-          (either_hit n 1 0 won))
-          (subst (λ i. Reached rows
-          (moment_of (set rule.phases r closed) (set s.views i (Desk d')))) (sym place.0)
-          (steps.after rule.reached (steps.withdrawal_won r d f.first out_here here refl))),
+      ruled_row rows s rule r (either (eqb n 1) 0 n) id 0 closed (Desk d') t.first
+          (either_hit n 1 0 won) (steps.withdrawal_won r d t.fits.first out_here here refl),
       (λ q e. let same : r ≡ q = omega arith in
           ((λ _. ap (λ i. at_desk (with_row i In d)) same), (λ lost. absurd (lost won)))),
     ))
-    (λ (lost : n ≢ 1). held_case rows slots id r d s rule out_here place.0 f n refl lost t.0 t.1
-    found (out_phase t.0 t.2)))
+    (λ (lost : n ≢ 1). held_case rows slots id r d s rule out_here t lost
+    (out_phase t.phase t.suits)))
   where
     held_case : (rows slots id r : ℕ) (d : DeskView) (s : TableState) (rule : Ruled rows s)
-        → get_elem? d.rows r ≡ some Out → id ≡ 0 → Fits rows rule.phases d s.views
-        → (n : ℕ) → n ≡ get_or s.words (r + 1) 0 → n ≢ 1 → (p : Phase)
-        → get_elem? rule.phases r ≡ some p → n ≡ word_of p → OutPhase p
-        → (w : View) × (a : Act (Unit {0})) × Valid s.homes [] a
+        → get_elem? d.rows r ≡ some Out → (t : DeskSees rows s rule.phases id d r Out)
+        → get_or s.words (r + 1) 0 ≢ 1 → OutPhase t.phase
+        → let n : ℕ = get_or s.words (r + 1) 0 in
+        (w : View) × (a : Act (Unit {0})) × Valid s.homes [] a
         × Ruled rows (stepped s (r + 1) (either (eqb n 1) 0 n) id [] w a)
         × WithdrawTells (step slots (r + 1) 1 0 none) (at_desk d) n (w, carried_after [] a)
-    held_case rows slots id r d s rule out_here first f n is lost p here found (is_open e) =
-        absurd (lost (found ∙ ap word_of e))
-    held_case rows slots id r d s rule out_here first f n is lost p here found (is_held b e) =
-        let holds : get_elem? rule.phases r ≡ some (held b) = here ∙ ap some e in
-        let has = f.each_hand r (held b) holds in
-        let known = builder_seat rows rule.phases d s.views b has.0 f has.1 in
-        let room = at_less s.views b (Builder has.0) has.1 in
-        let many = f.many in
-        let k : ℕ = known.0 in
-        let named : b ≡ suc k = known.1 in
+    held_case rows slots id r d s rule out_here t lost (is_open e) =
+        absurd (lost (t.word ∙ ap word_of e))
+    held_case rows slots id r d s rule out_here t lost (is_held b e) =
+        let holds : get_elem? rule.phases r ≡ some (held b) = t.here ∙ ap some e in
+        let known = holder_in rows rule.phases d s.views r b t.fits holds in
+        let n : ℕ = get_or s.words (r + 1) 0 in
         let d' : DeskView = with_row r (Seen b) d in (
           Desk d',
           keeps,
           tt,
-          ruled_after rows s rule.phases (r + 1) (either (eqb n 1) 0 n) id (Desk d')
-              (ap (set s.words (r + 1)) (either_miss n 1 0 lost ∙ is)
-              ∙ (set-get_or s.words (r + 1) 0 ∙ rule.words_are))
-              (subst (λ i. Reached rows (moment_of rule.phases (set s.views i (Desk d'))))
-              (sym first) (steps.after rule.reached
-              (steps.withdrawal_lost r b d f.first out_here holds refl))),
+          ruled_missed rows s (r + 1) n 1 0 id (Desk d') lost
+              (ruled_view rows s rule (r + 1) id 0 (Desk d') t.first
+              (steps.withdrawal_lost r b d t.fits.first out_here holds refl)),
           (λ q e'. let same : r ≡ q = omega arith in (
             (λ won. absurd (lost won)),
             (λ _. (
               b,
-              found ∙ ap word_of e,
-              omega arith,
-              omega arith,
+              t.word ∙ ap word_of e,
+              known.0,
+              known.1,
               ap (λ i. at_desk (with_row i (Seen b) d)) same,
             )),
           )),
@@ -213,31 +210,19 @@ note_allowed rows slots id r b new me d word is seen =
         (λ _. NoteTells (step slots (r + 1) (word_of (noted b)) 0 none) m (word_of (noted b))))
         (sym is)
         (λ s rule _ at _.
-        let m : Moment = moment_of rule.phases s.views in
-        let stands = rule_stands rows m rule.reached in
-        let place = desk_seat rows rule.phases stands.0 s.views id d stands.1 at in
-        let f : Fits rows rule.phases d s.views =
-        subst (λ x. Fits rows rule.phases x s.views) place.1 stands.1 in
-        let t = phase_at rows rule.phases d s.views r (Seen b) f seen in
-        let here : get_elem? rule.phases r ≡ some (held b) = t.1 ∙ ap some (seen_held b t.0 t.2) in
-        let has = f.each_hand r (held b) here in
-        let known = builder_seat rows rule.phases d s.views b has.0 f has.1 in
-        let room = at_less s.views b (Builder has.0) has.1 in
-        let many = f.many in
-        let k : ℕ = known.0 in
-        let named : b ≡ suc k = known.1 in
+        let t = desk_sees rows s rule id d r (Seen b) at seen in
+        let here : get_elem? rule.phases r ≡ some (held b) =
+        t.here ∙ ap some (seen_held b t.phase t.suits) in
+        let known = holder_in rows rule.phases d s.views r b t.fits here in
         let d' : DeskView = with_deed b (Claim r) (with_row r (Known b) d) in (
           Desk d',
           keeps,
           tt,
-          ruled_after rows s (set rule.phases r (noted b)) (r + 1) (word_of (noted b)) id (Desk d')
-              (words_set s.words rule.phases r (word_of (noted b)) (noted b) rule.words_are refl)
-              (subst (λ i. Reached rows
-              (moment_of (set rule.phases r (noted b)) (set s.views i (Desk d')))) (sym place.0)
-              (steps.after rule.reached (steps.note r b d f.first seen here refl))),
+          ruled_row rows s rule r (word_of (noted b)) id 0 (noted b) (Desk d') t.first refl
+              (steps.note r b d t.fits.first seen here refl),
           (λ q a e e'. let one : r ≡ q = omega arith in let two : b ≡ a = omega arith in (
-            omega arith,
-            omega arith,
+            subst (λ i. 0 < i) two known.0,
+            subst (λ i. i ≤ length d.noted) two known.1,
             λ i. at_desk (with_deed (two i) (Claim (one i)) (with_row (one i) (Known (two i)) d)),
           )),
         ))
@@ -262,28 +247,18 @@ settling_allowed rows slots id r b c old me d word is knows =
         Allows (Ruled rows) slots id m (r + 1) (λ n. either (eqb n old) 0 n)
         (SettleTells (step slots (r + 1) old 0 none) m)) (sym is)
         (λ s rule _ at _.
-        let m : Moment = moment_of rule.phases s.views in
-        let stands = rule_stands rows m rule.reached in
-        let place = desk_seat rows rule.phases stands.0 s.views id d stands.1 at in
-        let f : Fits rows rule.phases d s.views =
-        subst (λ x. Fits rows rule.phases x s.views) place.1 stands.1 in
-        let t = phase_at rows rule.phases d s.views r (Known b) f knows in
+        let t = desk_sees rows s rule id d r (Known b) at knows in
         let n : ℕ = get_or s.words (r + 1) 0 in
-        let found : n ≡ word_of t.0 = word_at s.words rule.phases r t.0 rule.words_are t.1 in
         dite (ℕ_discrete n old)
         (λ (won : n ≡ old).
         let here : get_elem? rule.phases r ≡ some (done b c) =
-        t.1 ∙ ap some (words_apart t.0 (done b c) (sym found ∙ won)) in
+        t.here ∙ ap some (words_apart t.phase (done b c) (sym t.word ∙ won)) in
         let d' : DeskView = with_deed b (Finish r c) (with_row r In d) in (
           Desk d',
           keeps,
           tt,
-          ruled_after rows s (set rule.phases r closed) (r + 1) (either (eqb n old) 0 n) id
-              (Desk d') (words_set s.words rule.phases r (either (eqb n old) 0 n) closed
-              rule.words_are (either_hit n old 0 won))
-              (subst (λ i. Reached rows
-              (moment_of (set rule.phases r closed) (set s.views i (Desk d')))) (sym place.0)
-              (steps.after rule.reached (steps.settle_done r b c d f.first knows here refl))),
+          ruled_row rows s rule r (either (eqb n old) 0 n) id 0 closed (Desk d') t.first
+              (either_hit n old 0 won) (steps.settle_done r b c d t.fits.first knows here refl),
           (λ q a k e e'. let one : r ≡ q = omega arith in let same = same_finish b a c k e' in (
             (λ _ i. at_desk (with_deed (same.0 i) (Finish (one i) (same.1 i))
                 (with_row (one i) In d))),
@@ -294,10 +269,9 @@ settling_allowed rows slots id r b c old me d word is knows =
           Desk d,
           keeps,
           tt,
-          subst (λ k. Ruled rows (stepped s (r + 1) k id [] (Desk d) keeps))
-              (sym (either_miss n old 0 lost))
+          ruled_missed rows s (r + 1) n old 0 id (Desk d) lost
               (ruled_same rows s (r + 1) id (Desk d) rule at
-              (steps.settle_early r b c t.0 d f.first knows t.1
-              (λ (e : t.0 ≡ done b c). lost (found ∙ ap word_of e)) refl)),
+              (steps.settle_early r b c t.phase d t.fits.first knows t.here
+              (λ (e : t.phase ≡ done b c). lost (t.word ∙ ap word_of e)) refl)),
           (λ q a k e e'. ((λ won. absurd (lost won)), (λ _. refl))),
         )))

@@ -7,6 +7,7 @@ pub mod Lists
 pub mod NewSeats
 pub mod PromiseLaws
 pub mod RowLaws
+pub mod RuledSteps
 pub mod Schedules
 pub mod SeatKeeps
 pub mod WordLaws

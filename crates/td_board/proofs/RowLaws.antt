@@ -131,23 +131,13 @@ desk_moves rows phases d views r₀ p₀ p₁ x₁ lists f at row hand same buil
           builders k w was (f.each_builder k w was);
     }
 
--- the view of a builder's seat, or u
-abbrev builder_or : BuilderView → View → BuilderView
-builder_or u (Desk d) = u
-builder_or u (Builder v) = v
-
 -- a builder's view is in its seat's
 pub same_builder : (v u : BuilderView) → Builder v ≡ Builder u → v ≡ u
-same_builder v u e = ap (builder_or v) e
-
--- the view of the desk's seat, or u
-abbrev desk_or : DeskView → View → DeskView
-desk_or u (Desk d) = d
-desk_or u (Builder v) = u
+same_builder v u e = cc
 
 -- the desk's view is in its seat's
 pub same_desk : (d e : DeskView) → Desk d ≡ Desk e → d ≡ e
-same_desk d e h = ap (desk_or d) h
+same_desk d e h = cc
 
 -- a builder has one hand
 pub same_hand : (views : List View) (b : ℕ) (v : BuilderView) (h : Hand)

@@ -1,12 +1,12 @@
 -- The rule stands at every moment of every schedule: each kind of step keeps it.
-use Rattle.std.proofs.Common.{◌≡◌, ℕ, set, sym, ap, ◌∙◌, subst}
+use Rattle.std.proofs.Common.{◌≡◌, ℕ, set, sym, refl, ap, ◌∙◌, subst}
 use mathlib.Core.Option.{some}
 use lib.ListN.{get_elem?}
 use Rattle.td_board.specs.declared.views.Deed.TheVariants.{Claim, Finish}
 use Rattle.td_board.specs.declared.views.RowView.TheVariants.{In, Out, Seen, Known}
 use Rattle.td_board.specs.declared.views.DeskView.{DeskView}
 use Rattle.td_board.specs.declared.views.View.TheVariants.{Builder}
-use Rattle.td_board.specs.Phase.{held, noted, done}
+use Rattle.td_board.specs.Phase.{closed, opened, held, noted, done}
 use Rattle.td_board.specs.Knowledge.{new_desk, with_builder, with_row, with_deed, with_claim}
 use Rattle.td_board.specs.Knowledge.{with_finish, with_free_hand}
 use Rattle.td_board.specs.Steps.{Moment, DeskKnows, Step, made, after, seat, offer, withdrawal_won}
@@ -16,8 +16,8 @@ use Rattle.td_board.specs.Steps.{release_early}
 use Rattle.td_board.specs.Rule.{Fits}
 use Rattle.td_board.specs.Promises.{RuleStands}
 use Rattle.td_board.proofs.RowLaws.{desk_seat, builder_seat}
-use Rattle.td_board.proofs.DeskLaws.{make_keeps, seat_keeps, offer_keeps, withdrawal_keeps}
-use Rattle.td_board.proofs.DeskLaws.{sight_keeps, note_keeps, settling_keeps}
+use Rattle.td_board.proofs.DeskLaws.{make_keeps, seat_keeps, unclaimed_keeps, sight_keeps}
+use Rattle.td_board.proofs.DeskLaws.{note_keeps, settling_keeps}
 use Rattle.td_board.proofs.BuilderLaws.{claim_keeps, finish_keeps, release_keeps}
 
 -- the desk knows something that fits
@@ -36,11 +36,17 @@ stands_after rows m n t (seat d at e) =
     subst (Stands rows) (sym e)
     (with_builder d, seat_keeps rows m.phases d m.views (with_desk rows m d t at))
 stands_after rows m n t (offer r d at _ is e) =
-    subst (Stands rows) (sym e)
-    (with_row r Out d, offer_keeps rows m.phases d m.views r (with_desk rows m d t at) is)
+    subst (Stands rows) (sym e) (
+      with_row r Out d,
+      unclaimed_keeps rows m.phases d m.views r closed opened Out refl refl tt tt
+          (with_desk rows m d t at) is,
+    )
 stands_after rows m n t (withdrawal_won r d at _ is e) =
-    subst (Stands rows) (sym e)
-    (with_row r In d, withdrawal_keeps rows m.phases d m.views r (with_desk rows m d t at) is)
+    subst (Stands rows) (sym e) (
+      with_row r In d,
+      unclaimed_keeps rows m.phases d m.views r opened closed In refl refl tt tt
+          (with_desk rows m d t at) is,
+    )
 stands_after rows m n t (withdrawal_lost r b d at _ is e) =
     subst (Stands rows) (sym e)
     (with_row r (Seen b) d, sight_keeps rows m.phases d m.views r b (with_desk rows m d t at) is)

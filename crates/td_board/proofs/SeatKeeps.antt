@@ -22,7 +22,7 @@ use Rattle.td_board.specs.declared.views.BuilderView.{BuilderView}
 use Rattle.td_board.specs.Knowledge.{new_desk, with_row, with_deed, noted_of}
 use Rattle.td_board.specs.Knowledge.{holder_at}
 use Rattle.td_board.specs.Tells.{SeatState, at_desk, at_builder, desk_in, builder_in}
-use Rattle.td_board.specs.Seats.{IsDesk, KnowsItsBuilders, IsBuilder, HasRow, rows_of, new_seat}
+use Rattle.td_board.specs.Seats.{IsDesk, IsBuilder, HasRow, rows_of, new_seat}
 use Rattle.td_board.specs.Seats.{new_seats, DeskModel, BoardModel, BuilderModel}
 use Rattle.td_board.proofs.Lists.{at_less, at_replicate}
 

@@ -95,7 +95,8 @@ InHand-put hands b x y k (Done c o) hand other h =
 abbrev pub AllInHand : WorldView → List Hand → Type 0
 AllInHand w hands = (k : Key) (p : Phase) → phase_of w k ≡ Some p → InHand hands k p
 
-row-in : (w : WorldView) (k : Key) (p : Phase) → length w.phases ≡ length w.history.opening
+-- a row with a phase is there
+pub row-in : (w : WorldView) (k : Key) (p : Phase) → length w.phases ≡ length w.history.opening
     → phase_of w k ≡ Some p → (row : Row) × (row_of (rows_of w.history) k ≡ Some row)
 row-in w k p sized phase = at (row_of (rows_of w.history) k) refl
   where

@@ -1,5 +1,5 @@
 -- What holds over every list of steps.
-use Rattle.std.proofs.Common.{◌≡◌, ◌↔◌, ℕ, zero, suc, ◌+◌, ◌-◌, ◌≤◌, subst, true, false, not}
+use Rattle.std.proofs.Common.{◌≡◌, ◌↔◌, ℕ, zero, suc, ◌+◌, ◌-◌, ◌≤◌, subst, true, false}
 use Rattle.std.proofs.Common.{◌==◌, List, [], ◌∷◌, length, Option, Some, None}
 use Rattle.std.proofs.Common.{slice_get, ap, refl, sym, ◌∙◌, arith}
 use Rattle.std.proofs.lemmas.Bool.Decides.{nat_tests}
@@ -7,10 +7,9 @@ use Rattle.td_rows.specs.declared.key.Key.{Key}
 use Rattle.td_rows.specs.declared.state.State.{State}
 use Rattle.td_rows.specs.declared.state.State.TheVariants.{NeedsBuild, Building}
 use Rattle.td_journal.specs.declared.entry.Entry.{Entry}
-use Rattle.td_journal.specs.declared.entry.Mark.{Mark}
 use Rattle.td_journal.specs.declared.entry.Mark.TheVariants.{Standing}
 use Rattle.td_journal.specs.declared.entry.Marked.{Marked}
-use Rattle.td_journal.specs.Entries.{is_command, standing_entry}
+use Rattle.td_journal.specs.Entries.{standing_entry}
 use Rattle.td_journal.specs.Replay.{replay}
 use Rattle.td_journal.specs.Touching.{blocker}
 use Rattle.td_journal.specs.IsKeys.{IsKeys}
@@ -24,22 +23,20 @@ use Rattle.td_core.specs.declared.step.Hand.TheVariants.{Holding, Finished}
 use Rattle.td_core.specs.declared.step.Step.{Step}
 use Rattle.td_core.specs.declared.step.Step.TheVariants.{Commit, Undo}
 use Rattle.td_core.specs.declared.step.Refusal.{Refusal}
-use Rattle.td_core.specs.declared.step.Refusal.TheVariants.{Blocked, NotPinned, NotACommand}
-use Rattle.td_core.specs.declared.step.Refusal.TheVariants.{NoSuchEntry}
+use Rattle.td_core.specs.declared.step.Refusal.TheVariants.{Blocked, NotPinned}
 use Rattle.td_core.specs.declared.step.Answer.{Answer}
 use Rattle.td_core.specs.declared.step.Answer.TheVariants.{Undone, Refused}
 use Rattle.td_core.specs.History.{rows_of}
 use Rattle.td_core.specs.Phases.{is_pinned, Suits}
 use Rattle.td_rows.specs.States.{is_building}
 use Rattle.td_core.specs.Worlds.{WorldView, hand_of, journaled, world_of, InHand, IsWorld}
-use Rattle.td_core.specs.Refusals.{refused_if, first_refused, first_unpinned, mark_refusal}
-use Rattle.td_core.specs.Refusals.{undo_refusal}
+use Rattle.td_core.specs.Refusals.{first_refused, first_unpinned, mark_refusal, undo_refusal}
 use Rattle.td_core.specs.Steps.{answer_to, after, after_all}
 use Rattle.td_core.specs.Promises.{EveryWorld, OfferedRowsWait, is_known_by, BuiltExactly}
 use Rattle.td_core.specs.Promises.{HandsFollow, builder_in, BuildersAreThere, EntriesRise}
-use Rattle.td_core.specs.Promises.{UndoneAtOnce, StandingCommand, BlockedExactly, UndoneElse}
+use Rattle.td_core.specs.Promises.{UndoneAtOnce, BlockedExactly, UndoneElse}
 use Rattle.td_core.proofs.Phases.{hand_of-within}
-use Rattle.td_core.proofs.Refusing.{commits}
+use Rattle.td_core.proofs.Refusing.{undo_refusal-standing, undo_refusal-none, commits}
 use Rattle.td_core.proofs.WorldSteps.{IsWorld-open, IsWorld-after, answer_to-refused}
 use Rattle.td_core.proofs.WorldSteps.{answer_to-accepted, after-accepted}
 
@@ -121,39 +118,21 @@ pub entries_rise : EntriesRise
 entries_rise w n m i at =
     keys-at w.history.journal (n - 1) m i.keys (entry_at-place w.history.journal n m at).1
 
--- the refusal of a standing command's undo
-undo_refusal-command : (w : WorldView) (n : ℕ) (m : Marked) → StandingCommand w n m
-    → undo_refusal w n ≡ mark_refusal w m Standing (blocker w.history.journal n)
-undo_refusal-command w n m s =
-    ap (λ (x : Option Marked).
-    elim x as (λ _. Option Refusal) [
-      | Some y ↦
-          refused_if (not (is_command y.entry.kind)) NotACommand
-          (mark_refusal w y y.mark (blocker w.history.journal n))
-      | None ↦ Some NoSuchEntry
-    ]) s.there
-    ∙ ap (λ b. refused_if (not b) NotACommand
-    (mark_refusal w m m.mark (blocker w.history.journal n))) s.command
-    ∙ ap (λ (x : Mark). mark_refusal w m x (blocker w.history.journal n)) s.stands
-
-undo_refusal-none : (w : WorldView) (n : ℕ) (m : Marked) → StandingCommand w n m
-    → blocker w.history.journal n ≡ None → first_unpinned w m.entry.kind m.entry.keys ≡ None
-    → undo_refusal w n ≡ None
-undo_refusal-none w n m s free pinned =
-    undo_refusal-command w n m s ∙ ap (mark_refusal w m Standing) free
-    ∙ ap (λ (o : Option Key). first_refused o (λ k. NotPinned None) None) pinned
-
 pub undone_else : UndoneElse
 undone_else w n m s free pinned =
-    answer_to-accepted w (Undo n) (undo_refusal-none w n m s free pinned)
+    answer_to-accepted w (Undo n)
+    (undo_refusal-none w n m s.there s.command s.stands free pinned)
 
 pub blocked_exactly : BlockedExactly
 blocked_exactly w n m b s = (
   (λ told. back (blocker w.history.journal n) refl told),
-  (λ is. answer_to-refused w (Undo n) (Blocked b)
-      (undo_refusal-command w n m s ∙ ap (mark_refusal w m Standing) is)),
+  (λ is. answer_to-refused w (Undo n) (Blocked b) (refused (Some b) is)),
 )
   where
+    refused : (o : Option ℕ) → blocker w.history.journal n ≡ o
+        → undo_refusal w n ≡ mark_refusal w m Standing o
+    refused o is = undo_refusal-standing w n m o s.there s.command s.stands is
+
     loose : (o : Option Key) (a : Answer) → (elim (first_refused o (λ k. NotPinned None) None) as
         (λ _. Answer) [ Some r ↦ Refused r | None ↦ Undone n ]) ≡ Refused (Blocked b) → ⊥
     loose None a h = cc
@@ -162,15 +141,14 @@ blocked_exactly w n m b s = (
     back : (o : Option ℕ) → blocker w.history.journal n ≡ o
         → answer_to w (Undo n) ≡ Refused (Blocked b) → blocker w.history.journal n ≡ Some b
     back (Some c) is told =
-        let named = sym (answer_to-refused w (Undo n) (Blocked c)
-        (undo_refusal-command w n m s ∙ ap (mark_refusal w m Standing) is)) ∙ told in
+        let named = sym (answer_to-refused w (Undo n) (Blocked c) (refused (Some c) is)) ∙ told in
         let same : c ≡ b = cc in
         is ∙ ap (λ (x : ℕ). Some x) same
     back None is told =
         absurd (loose (first_unpinned w m.entry.kind m.entry.keys) (Undone n)
         (sym (ap (λ (r : Option Refusal).
         elim r as (λ _. Answer) [ Some x ↦ Refused x | None ↦ Undone n ])
-        (undo_refusal-command w n m s ∙ ap (mark_refusal w m Standing) is)) ∙ told))
+        (refused None is)) ∙ told))
 
 pub undone_at_once : UndoneAtOnce
 undone_at_once w kind keys none =
@@ -182,8 +160,8 @@ undone_at_once w kind keys none =
     after-accepted w (Commit kind keys) none in
     let fine : undo_refusal (journaled w kind keys) n ≡ None =
     undo_refusal-none (journaled w kind keys) n (standing_entry e)
-    (record { there = entry_at-last ms (standing_entry e); stands = refl; command = c.command })
-    (blocker-last ms (standing_entry e)) c.none_unpinned in (
+    (entry_at-last ms (standing_entry e)) c.command refl (blocker-last ms (standing_entry e))
+    c.none_unpinned in (
       ap (λ (v : WorldView). answer_to v (Undo n)) next
           ∙ answer_to-accepted (journaled w kind keys) (Undo n) fine,
       ap (λ (v : WorldView). rows_of (after v (Undo n)).history) next

@@ -108,13 +108,11 @@ is_some-first_unpinned w kind keys o is =
           | false ↦ λ h. ap is_some (slice_get_past xs n (grind (arith, nat_tests, h)))
         ] refl
 
--- the refusal of an undo whose entry stands without a blocker
-pub undo_refusal-free : (w : WorldView) (n : ℕ) (m : Marked) (o : Option ℕ)
-    → entry_at w.history.journal n ≡ Some m → is_command m.entry.kind ≡ true
-    → is_standing m.mark ≡ true → blocker w.history.journal n ≡ None
-    → o ≡ (if (cells m.entry.kind).state then position (is_unpinned w) m.entry.keys else None)
-    → undo_refusal w n ≡ (if is_some o then Some (NotPinned None) else None)
-undo_refusal-free w n m o there command stands free is =
+-- the refusal of a standing command's undo, by its blocker
+pub undo_refusal-standing : (w : WorldView) (n : ℕ) (m : Marked) (b : Option ℕ)
+    → entry_at w.history.journal n ≡ Some m → is_command m.entry.kind ≡ true → m.mark ≡ Standing
+    → blocker w.history.journal n ≡ b → undo_refusal w n ≡ mark_refusal w m Standing b
+undo_refusal-standing w n m b there command stands is =
     ap (λ (x : Option Marked).
     elim x as (λ _. Option Refusal) [
       | Some y ↦
@@ -122,9 +120,25 @@ undo_refusal-free w n m o there command stands free is =
           (mark_refusal w y y.mark (blocker w.history.journal n))
       | None ↦ Some NoSuchEntry
     ]) there
-    ∙ ap (λ b. refused_if (not b) NotACommand
-    (mark_refusal w m m.mark (blocker w.history.journal n))) command
-    ∙ (λ j. mark_refusal w m (mark_is m.mark stands j) (free j))
+    ∙ (λ j. refused_if (not (command j)) NotACommand (mark_refusal w m (stands j) (is j)))
+
+-- none, without a blocker and with the rows pinned of which it has the state
+pub undo_refusal-none : (w : WorldView) (n : ℕ) (m : Marked)
+    → entry_at w.history.journal n ≡ Some m → is_command m.entry.kind ≡ true → m.mark ≡ Standing
+    → blocker w.history.journal n ≡ None → first_unpinned w m.entry.kind m.entry.keys ≡ None
+    → undo_refusal w n ≡ None
+undo_refusal-none w n m there command stands free pinned =
+    undo_refusal-standing w n m None there command stands free
+    ∙ ap (λ (o : Option Key). first_refused o (λ k. NotPinned None) None) pinned
+
+-- the refusal of an undo whose entry stands without a blocker
+pub undo_refusal-free : (w : WorldView) (n : ℕ) (m : Marked) (o : Option ℕ)
+    → entry_at w.history.journal n ≡ Some m → is_command m.entry.kind ≡ true
+    → is_standing m.mark ≡ true → blocker w.history.journal n ≡ None
+    → o ≡ (if (cells m.entry.kind).state then position (is_unpinned w) m.entry.keys else None)
+    → undo_refusal w n ≡ (if is_some o then Some (NotPinned None) else None)
+undo_refusal-free w n m o there command stands free is =
+    undo_refusal-standing w n m None there command (mark_is m.mark stands) free
     ∙ loose (first_unpinned w m.entry.kind m.entry.keys)
     (is_some-first_unpinned w m.entry.kind m.entry.keys o is)
   where

@@ -1,8 +1,9 @@
 -- The keys that a command takes.
-use Rattle.std.proofs.Common.{◌≡◌, ℕ, zero, suc, ◌+◌, ◌<◌, ◌≤◌, Bool, true, false, ◌&&◌, List, []}
+use Rattle.std.proofs.Common.{◌≡◌, ℕ, zero, suc, ◌+◌, ◌<◌, ◌≤◌, Bool, true, false, List, []}
 use Rattle.std.proofs.Common.{◌∷◌, ◌++◌, Some, if◌then◌else◌, filter, take, drop, length, get_or}
 use Rattle.std.proofs.Common.{slice_get, ap, refl, sym, ◌∙◌, append_assoc, append-nil, arith}
 use Rattle.std.specs.Prelude.{◌==◌}
+use Rattle.std.proofs.lemmas.Bool.{and_parts, and_from}
 use Rattle.std.proofs.lemmas.Bool.Decides.{nat_tests}
 use Rattle.std.proofs.lemmas.Option.{slice_get-get_or}
 use Rattle.td_rows.proofs.Lists.{take-next, drop-next}
@@ -66,50 +67,25 @@ below_all-filter : (p : Key → Bool) (x : Key) (ks : List Key) → below_all x 
     → below_all x (filter p ks) ≡ true
 below_all-filter p x [] h = refl
 below_all-filter p x (q ∷ ks) h =
-    let rest = below_all-filter p x ks (second (is_lt (key_cmp x q)) (below_all x ks) h) in
+    let parts = and_parts (is_lt (key_cmp x q)) (below_all x ks) h in
+    let rest = below_all-filter p x ks parts.1 in
     elim (p q) as (λ b. below_all x (if b then q ∷ filter p ks else filter p ks) ≡ true) [
-      | true ↦
-          both (is_lt (key_cmp x q)) (below_all x (filter p ks))
-          (first (is_lt (key_cmp x q)) (below_all x ks) h) rest
+      | true ↦ and_from (is_lt (key_cmp x q)) (below_all x (filter p ks)) parts.0 rest
       | false ↦ rest
     ]
-  where
-    first : (a b : Bool) → (a && b) ≡ true → a ≡ true
-    first true b h = refl
-    first false b h = h
-
-    second : (a b : Bool) → (a && b) ≡ true → b ≡ true
-    second true b h = h
-    second false b h = cc
-
-    both : (a b : Bool) → a ≡ true → b ≡ true → (a && b) ≡ true
-    both true b x y = y
-    both false b x y = x
 
 pub ascending-filter : (p : Key → Bool) (ks : List Key) → ascending ks ≡ true
     → ascending (filter p ks) ≡ true
 ascending-filter p [] h = refl
 ascending-filter p (q ∷ ks) h =
-    let below = first (below_all q ks) (ascending ks) h in
-    let rest = ascending-filter p ks (second (below_all q ks) (ascending ks) h) in
+    let parts = and_parts (below_all q ks) (ascending ks) h in
+    let rest = ascending-filter p ks parts.1 in
     elim (p q) as (λ b. ascending (if b then q ∷ filter p ks else filter p ks) ≡ true) [
       | true ↦
-          both (below_all q (filter p ks)) (ascending (filter p ks)) (below_all-filter p q ks below)
-          rest
+          and_from (below_all q (filter p ks)) (ascending (filter p ks))
+          (below_all-filter p q ks parts.0) rest
       | false ↦ rest
     ]
-  where
-    first : (a b : Bool) → (a && b) ≡ true → a ≡ true
-    first true b h = refl
-    first false b h = h
-
-    second : (a b : Bool) → (a && b) ≡ true → b ≡ true
-    second true b h = h
-    second false b h = cc
-
-    both : (a b : Bool) → a ≡ true → b ≡ true → (a && b) ≡ true
-    both true b x y = y
-    both false b x y = x
 
 -- the first key that isn't before it is left out
 pub without-here : (ks rest : List Key) (k : Key) → names ks k ≡ false

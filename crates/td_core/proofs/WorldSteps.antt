@@ -1,7 +1,7 @@
 -- Each accepted step leaves a world in which all holds that holds of every world.
-use Rattle.std.proofs.Common.{◌≡◌, ℕ, zero, suc, Bool, true, false, List, [], ◌∷◌}
+use Rattle.std.proofs.Common.{◌≡◌, ℕ, zero, suc, ◌-◌, Bool, true, false, List, [], ◌∷◌}
 use Rattle.std.proofs.Common.{Option, Some, None, if◌then◌else◌, length}
-use Rattle.std.proofs.Common.{replicate, slice_get, not, ◌==◌, ap, refl, sym, subst}
+use Rattle.std.proofs.Common.{replicate, slice_get, set, not, ◌==◌, ap, refl, sym, subst}
 use Rattle.std.proofs.Common.{◌∙◌, arith}
 use Rattle.std.proofs.lemmas.Bool.Decides.{nat_tests}
 use Rattle.std.proofs.lemmas.List.{length-replicate}
@@ -53,9 +53,9 @@ use Rattle.td_supply.specs.Supply.{Stock}
 use Rattle.td_core.proofs.Freeing.{suits-arrive, suits-sweep, AppliesOn-freed, ascending-freed}
 use Rattle.td_core.proofs.Hands.{NotHis, InHand-moved, InHand-put, hand_in-put}
 use Rattle.td_core.proofs.Hands.{free-not_his, holding-not_his}
-use Rattle.td_core.proofs.Worlds.{IsSuited-with_hand, IsSuited-with_phase, IsWorld-commit}
-use Rattle.td_core.proofs.Worlds.{IsWorld-journaled, IsWorld-moved, IsWorld-undo}
-use Rattle.td_core.proofs.Worlds.{IsWorld-with_phase, one_key, row-there, suited, with_hands}
+use Rattle.td_core.proofs.Worlds.{IsWorld-commit, IsWorld-journaled, IsWorld-moved, IsWorld-undo}
+use Rattle.td_core.proofs.Worlds.{IsWorld-with_hands, IsWorld-with_phase, IsWorld-with_phase_hands}
+use Rattle.td_core.proofs.Worlds.{one_key, row-there}
 
 -- a kind that applies on the row of the one key
 pub AppliesOn-one : (t : Table) (kind : Kind) (k : Key) (row : Row) → row_of t k ≡ Some row
@@ -191,9 +191,8 @@ IsWorld-claim : (w : WorldView) (b : ℕ) (k : Key) → IsWorld w → refusal w 
 IsWorld-claim w b k i none =
     let c = claims (hand_of w b) (phase_of w k) none in
     let here = hand_in-put w.hands b Free (Holding k) c.0 in
-    with_hands (accepted w (Claim b k))
-    (IsSuited-with_hand (with_phase w k (Held b)) b (Holding k)
-    (IsSuited-with_phase w k (Held b) (suited w i) (λ row found. i.suits k Open row c.1 found)))
+    IsWorld-with_phase_hands w k (Held b) (set w.hands (b - 1) (Holding k)) i
+    (λ row found. i.suits k Open row c.1 found)
     (InHand-moved w k (Held b) _ i.sized here (λ q x _ phase.
     InHand-put w.hands b Free (Holding k) q x c.0 (free-not_his b q x) (i.held q x phase)))
 
@@ -222,10 +221,8 @@ pub IsWorld-finished : (w : WorldView) (b : ℕ) (o : Outcome) (k : Key) → IsW
     → IsWorld (with_hand (with_phase w k (Done b o)) b (Finished k o))
 IsWorld-finished w b o k i hand phase =
     let here = hand_in-put w.hands b (Holding k) (Finished k o) hand in
-    with_hands (with_hand (with_phase w k (Done b o)) b (Finished k o))
-    (IsSuited-with_hand (with_phase w k (Done b o)) b (Finished k o)
-    (IsSuited-with_phase w k (Done b o) (suited w i)
-    (λ row found. i.suits k (Noted b) row phase found)))
+    IsWorld-with_phase_hands w k (Done b o) (set w.hands (b - 1) (Finished k o)) i
+    (λ row found. i.suits k (Noted b) row phase found)
     (InHand-moved w k (Done b o) _ i.sized here (λ q x is there.
     InHand-put w.hands b (Holding k) (Finished k o) q x hand (holding-not_his b k q x is)
     (i.held q x there)))
@@ -249,7 +246,7 @@ IsWorld-release w b i none =
     let r = releases w b (hand_of w b) none in
     let k = r.0 in
     let o = r.1.0 in
-    with_hands (with_hand w b Free) (IsSuited-with_hand w b Free (suited w i))
+    IsWorld-with_hands w (set w.hands (b - 1) Free) i
     (λ q p phase. InHand-put w.hands b (Finished k o) Free q p r.1.1.0
     (let_go w b k q o p r.1.1.1 phase) (i.held q p phase))
 

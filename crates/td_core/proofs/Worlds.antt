@@ -1,6 +1,6 @@
 -- What holds of a world holds after every step.
 use Rattle.std.proofs.Common.{◌≡◌, ℕ, suc, ◌-◌, true, false, List, [], ◌∷◌, ◌++◌}
-use Rattle.std.proofs.Common.{Option, Some, None, option_map, unwrap_or, if◌then◌else◌, length}
+use Rattle.std.proofs.Common.{Option, Some, None, option_map, unwrap_or, if◌then◌else◌}
 use Rattle.std.proofs.Common.{take, drop, ap, refl, sym, subst}
 use Rattle.std.proofs.Common.{◌∙◌, arith}
 use Rattle.std.proofs.lemmas.List.{length-set}
@@ -9,10 +9,10 @@ use Rattle.td_rows.specs.declared.row.Row.{Row}
 use Rattle.td_rows.specs.declared.kind.Kind.{Kind}
 use Rattle.td_rows.specs.Blank.{blank}
 use Rattle.td_rows.specs.Cells.{restore}
-use Rattle.td_rows.specs.Keys.{same_key, names, ascending}
+use Rattle.td_rows.specs.Keys.{same_key, names}
 use Rattle.td_rows.specs.Kinds.{cells, written}
 use Rattle.td_rows.specs.Meaning.{applies, means}
-use Rattle.td_rows.specs.Table.{Table, row_of, keys_of, each_row, meant, applied, AppliesOn}
+use Rattle.td_rows.specs.Table.{Table, row_of, each_row, meant, applied, AppliesOn}
 use Rattle.td_rows.proofs.Keys.{same_key-true}
 use Rattle.td_rows.proofs.Tables.{row_of-each_row, applies-fits}
 use Rattle.td_journal.specs.declared.entry.Entry.{Entry}
@@ -22,7 +22,6 @@ use Rattle.td_journal.specs.Replay.{replay, row_after, Lawful}
 use Rattle.td_rows.specs.GivenBack.{row_at}
 use Rattle.td_journal.specs.Undo.{rows_before}
 use Rattle.td_journal.specs.IsKeys.{IsKeys}
-use Rattle.td_journal.specs.Journaled.{EachHasKeys}
 use Rattle.td_journal.proofs.Agreeing.{EachHasKeys-push, EachHasKeys-undone_at}
 use Rattle.td_journal.proofs.Commuting.{row_after-append}
 use Rattle.td_journal.proofs.Undoing.{standing-append, standing-at, entry_at-place}
@@ -32,14 +31,12 @@ use Rattle.td_core.specs.declared.step.Phase.{Phase}
 use Rattle.td_core.specs.declared.step.Hand.{Hand}
 use Rattle.td_core.specs.History.{History, rows_of, with_entry, without_entry}
 use Rattle.td_core.specs.Phases.{Suits}
-use Rattle.td_core.specs.Worlds.{WorldView, phase_of, with_phase, with_hand, journaled}
-use Rattle.td_core.specs.Worlds.{InHand, IsWorld}
+use Rattle.td_core.specs.Worlds.{WorldView, phase_of, with_phase, journaled, InHand, IsWorld}
 use Rattle.td_core.specs.Refusals.{are_keys}
 use Rattle.td_core.proofs.Phases.{phase_of-with_phase, phase_of-other}
-use Rattle.td_core.proofs.Phases.{phase_of-absent}
 use Rattle.td_core.proofs.Refusing.{Commits, Undoes}
 use Rattle.td_core.proofs.Suiting.{suits-command, suits-undone, state-row_after}
-use Rattle.td_core.proofs.Hands.{AllInHand, InHand-moved}
+use Rattle.td_core.proofs.Hands.{AllInHand, row-in, InHand-moved}
 
 -- the rows after one more entry
 pub rows_of-with_entry : (h : History) (e : Entry)
@@ -61,21 +58,10 @@ found-before t f k row h = at (row_of t k) refl (sym (row_of-each_row f t k) ∙
     at None is g = cc
     at (Some r) is g = (r, (is, same (f k r) row g))
 
--- what holds of a world but for its hands
-pub record IsSuited (w : WorldView) : Type 0 where
-  pub rising : ascending (keys_of w.history.opening) ≡ true
-  pub lawful : Lawful w.history.opening (standing w.history.journal)
-  pub sized : length w.phases ≡ length w.history.opening
-  pub suits : (k : Key) (p : Phase) (row : Row) → phase_of w k ≡ Some p
-      → row_of (rows_of w.history) k ≡ Some row → Suits p row.state
-  pub keys : EachHasKeys w.history.journal
-
-pub suited : (w : WorldView) → IsWorld w → IsSuited w
-suited w i =
-    record { rising = i.rising; lawful = i.lawful; sized = i.sized; suits = i.suits; keys = i.keys }
-
-pub with_hands : (w : WorldView) → IsSuited w → AllInHand w w.hands → IsWorld w
-with_hands w i held =
+-- the hands change, and have each row that a builder has
+pub IsWorld-with_hands : (w : WorldView) (hands : List Hand) → IsWorld w → AllInHand w hands
+    → IsWorld (record w { hands = hands })
+IsWorld-with_hands w hands i held =
     record {
       rising = i.rising;
       lawful = i.lawful;
@@ -85,10 +71,11 @@ with_hands w i held =
       held = held;
     }
 
--- one phase changes, and suits its row
-pub IsSuited-with_phase : (w : WorldView) (k : Key) (p : Phase) → IsSuited w → ((row : Row)
-    → row_of (rows_of w.history) k ≡ Some row → Suits p row.state) → IsSuited (with_phase w k p)
-IsSuited-with_phase w k p i suits = record {
+-- with them one phase changes, and suits its row
+pub IsWorld-with_phase_hands : (w : WorldView) (k : Key) (p : Phase) (hands : List Hand)
+    → IsWorld w → ((row : Row) → row_of (rows_of w.history) k ≡ Some row → Suits p row.state)
+    → AllInHand (with_phase w k p) hands → IsWorld (record (with_phase w k p) { hands = hands })
+IsWorld-with_phase_hands w k p hands i suits held = record {
   rising = i.rising;
   lawful = i.lawful;
   keys = i.keys;
@@ -103,20 +90,15 @@ IsSuited-with_phase w k p i suits = record {
             (suits row (subst (λ (y : Key). row_of (rows_of w.history) y ≡ Some row) same found))
         | false ↦ λ is. i.suits q x row (sym (phase_of-other w k q p row found is) ∙ phase) found
       ] refl;
+  held = held;
 }
-
--- hands don't matter
-pub IsSuited-with_hand : (w : WorldView) (b : ℕ) (h : Hand) → IsSuited w
-    → IsSuited (with_hand w b h)
-IsSuited-with_hand w b h i =
-    record { rising = i.rising; lawful = i.lawful; sized = i.sized; suits = i.suits; keys = i.keys }
 
 -- a row whose phase says nothing of a hand
 pub IsWorld-with_phase : (w : WorldView) (k : Key) (p : Phase) → IsWorld w → InHand w.hands k p
     → ((row : Row) → row_of (rows_of w.history) k ≡ Some row → Suits p row.state)
     → IsWorld (with_phase w k p)
 IsWorld-with_phase w k p i here suits =
-    with_hands (with_phase w k p) (IsSuited-with_phase w k p (suited w i) suits)
+    IsWorld-with_phase_hands w k p w.hands i suits
     (InHand-moved w k p w.hands i.sized here (λ q x _ phase. i.held q x phase))
 
 -- the keys of an entry
@@ -282,12 +264,7 @@ IsWorld-undo w n i u =
           ] refl);
     }
 
--- a row with a phase is there
+-- a row of a world with a phase is there
 pub row-there : (w : WorldView) (k : Key) (p : Phase) → IsWorld w → phase_of w k ≡ Some p
     → (row : Row) × (row_of (rows_of w.history) k ≡ Some row)
-row-there w k p i phase = at (row_of (rows_of w.history) k) refl
-  where
-    at : (o : Option Row) → row_of (rows_of w.history) k ≡ o
-        → (row : Row) × (row_of (rows_of w.history) k ≡ Some row)
-    at (Some row) is = (row, is)
-    at None is = absurd (let none = sym phase ∙ phase_of-absent w k i is in cc)
+row-there w k p i phase = row-in w k p i.sized phase

@@ -19,8 +19,7 @@ use Rattle.td_rows.specs.Table.{row_of, AppliesOn}
 use Rattle.td_rows.proofs.Keys.{same_key-refl}
 use Rattle.td_change.specs.Saved.{number_of}
 use Rattle.td_change.proofs.Numbers.{names-more}
-use Rattle.td_journal.specs.declared.entry.Marked.{Marked}
-use Rattle.td_journal.specs.Entries.{is_command, entry_at}
+use Rattle.td_journal.specs.Entries.{entry_at}
 use Rattle.td_journal.specs.Touching.{blocker}
 use Rattle.td_core.specs.declared.step.Phase.{Phase}
 use Rattle.td_core.specs.declared.step.Phase.TheVariants as phases
@@ -28,8 +27,7 @@ use Rattle.td_core.specs.declared.step.Hand.TheVariants as hands
 use Rattle.td_core.specs.declared.step.Answer.TheVariants as answers
 use Rattle.td_core.specs.declared.step.Refusal.{Refusal}
 use Rattle.td_core.specs.declared.step.Refusal.TheVariants.{NotACommand, NoKeys, NoSuchRow}
-use Rattle.td_core.specs.declared.step.Refusal.TheVariants.{DoesNotApply, NotPinned, NoSuchEntry}
-use Rattle.td_core.specs.declared.step.Refusal.TheVariants.{NotOpen}
+use Rattle.td_core.specs.declared.step.Refusal.TheVariants.{DoesNotApply, NotPinned, NotOpen}
 use Rattle.td_core.specs.declared.step.Step.{Step}
 use Rattle.td_core.specs.declared.step.Step.TheVariants as steps
 use Rattle.td_core.specs.History.{History, rows_of, with_entry, without_entry}
@@ -37,12 +35,13 @@ use Rattle.td_core.specs.Offers.{supply_now, freed}
 use Rattle.td_core.specs.Phases.{is_pinned}
 use Rattle.td_core.specs.Refusals.{is_queued_at, offer_refusal, withdraw_refusal, note_refusal}
 use Rattle.td_core.specs.Refusals.{settle_refusal, arrive_refusal, commit_refusal, undo_refusal}
-use Rattle.td_core.specs.Refusals.{mark_refusal, is_missing, is_unfit, is_unpinned, first_unpinned}
+use Rattle.td_core.specs.Refusals.{is_missing, is_unfit, is_unpinned, first_unpinned}
 use Rattle.td_core.specs.Refusals.{refused_if, first_refused}
 use Rattle.td_core.specs.Steps.{refusal, answer_to, sweep_answer, accepted, after, after_all, noted}
 use Rattle.td_core.specs.Steps.{settled, finished, swept, swept_now}
 use Rattle.td_core.specs.Worlds.{WorldView, phase_of, with_phase, hand_of, with_hand, journaled}
 use Rattle.td_core.specs.Worlds.{IsWorld}
+use Rattle.td_core.proofs.Refusing.{undo_refusal-none}
 use Rattle.td_core.proofs.WorldSteps.{IsWorld-after, answer_to-accepted, answer_to-refused}
 use Rattle.td_core.proofs.WorldSteps.{after-accepted, after-refused, claims, finishes}
 use Rattle.td_steps.specs.Sees.{Desk, view_of, with_view, entering, Sees, is_off, Fits, FitAll}
@@ -118,17 +117,7 @@ undo-none w d n i may =
     ap (λ (h : History). blocker h.journal n) i.history ∙ may.free in
     let off : first_unpinned w m.entry.kind m.entry.keys ≡ None =
     none-unpinned w d m.entry.kind m.entry.keys i may.off in
-    ap (λ (x : Option Marked).
-    elim x as (λ _. Option Refusal) [
-      | Some y ↦
-          refused_if (not (is_command y.entry.kind)) NotACommand
-          (mark_refusal w y y.mark (blocker w.history.journal n))
-      | None ↦ Some NoSuchEntry
-    ]) there
-    ∙ ap (λ b. refused_if (not b) NotACommand
-    (mark_refusal w m m.mark (blocker w.history.journal n))) may.stands.command
-    ∙ (λ j. mark_refusal w m (may.stands.stands j) (free j))
-    ∙ ap (λ (o : Option Key). first_refused o (λ k. NotPinned None) None) off
+    undo_refusal-none w n m there may.stands.command may.stands.stands free off
 
 -- ---- 2. each move
 

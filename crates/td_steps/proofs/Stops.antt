@@ -2,7 +2,7 @@
 -- faster; and moves that no builder decides go on.
 use Rattle.std.proofs.Common.{◌≡◌, ℕ, zero, suc, ◌+◌, ◌≤◌, Bool, true, false, List, [], ◌∷◌, ◌++◌}
 use Rattle.std.proofs.Common.{Some, None, Ok, Err, if◌then◌else◌, length, take, slice_get, ap, refl}
-use Rattle.std.proofs.Common.{sym, subst, inl, inr, arith}
+use Rattle.std.proofs.Common.{append_assoc, sym, subst, inl, inr, arith}
 use Rattle.std.specs.Prelude.{◌⊎◌}
 use Rattle.std.proofs.lemmas.Bool.{and_parts}
 use Rattle.td_rows.specs.declared.key.Key.{Key}
@@ -20,7 +20,7 @@ use Rattle.td_book.specs.declared.undoing.UndoRefusal.TheVariants as undos
 use Rattle.td_steps.specs.Sees.{Sees, resting}
 use Rattle.td_steps.specs.Moves.{Move, won, lost, note, undo, step_of, Chosen, arrive, sweep}
 use Rattle.td_steps.specs.Moves.{sweeping}
-use Rattle.td_steps.specs.Parts.{winning, offering}
+use Rattle.td_steps.specs.Parts.{winning, winning_one, offering}
 use Rattle.td_book.specs.Arriving.{freed_now}
 use Rattle.td_steps.specs.Arrivals.{sweep_moves}
 use Rattle.td_steps.specs.Choices.{first_at}
@@ -51,26 +51,39 @@ abbrev Tried : (ℕ → List Step) → WorldView → History → ℕ → List Ke
 Tried turn w h n ks more behind =
     Going turn w (winning (rows_of h) ks ++ more) ⊎ StopsAt turn w h n ks behind
 
+-- what is chosen at the first key, before what goes on at the others
+tried-ahead : (turn turn' : ℕ → List Step) (w w' : WorldView) (h : History) (n : ℕ) (k : Key)
+    (ks : List Key) (more : List Move) (behind : List Key → Key → ℕ → List Move)
+    → ((ms : List Move) → Going turn' w' ms → Going turn w (winning_one (rows_of h) k ++ ms))
+    → Tried turn' w' h n ks more (λ front. behind (k ∷ front)) → Tried turn w h n (k ∷ ks) more behind
+tried-ahead turn turn' w w' h n k ks more behind ahead (inl g) =
+    inl (subst (λ (ms : List Move). Going turn w ms)
+    (sym (append_assoc (winning_one (rows_of h) k) (winning (rows_of h) ks) more))
+    (ahead (winning (rows_of h) ks ++ more) g))
+tried-ahead turn turn' w w' h n k ks more behind ahead (inr s) =
+    let front = winning (rows_of h) (take s.place ks) in
+    let rest = lost s.key s.by ∷ note s.key s.by ∷ behind (k ∷ take s.place ks) s.key s.by in
+    inr (record {
+      place = suc s.place;
+      key = s.key;
+      at = s.at;
+      by = s.by;
+      one = s.one;
+      bound = s.bound;
+      going = subst (λ (ms : List Move). Going turn w ms)
+          (sym (append_assoc (winning_one (rows_of h) k) front rest))
+          (ahead (front ++ rest) s.going);
+    })
+
 -- the first key's row needs no build
 tried-idle : (turn : ℕ → List Step) (w : WorldView) (h : History) (n : ℕ) (k : Key) (ks : List Key)
     (more : List Move) (behind : List Key → Key → ℕ → List Move)
     → is_queued_at (rows_of h) k ≡ false
     → Tried turn w h n ks more (λ front. behind (k ∷ front)) → Tried turn w h n (k ∷ ks) more behind
-tried-idle turn w h n k ks more behind idle (inl g) =
-    inl (subst (λ (one : List Move). Going turn w ((one ++ winning (rows_of h) ks) ++ more))
-    (sym (ap (λ b. if b then won k ∷ [] else []) idle)) g)
-tried-idle turn w h n k ks more behind idle (inr s) = inr (record {
-  place = suc s.place;
-  key = s.key;
-  at = s.at;
-  by = s.by;
-  one = s.one;
-  bound = s.bound;
-  going = subst (λ (one : List Move).
-      Going turn w ((one ++ winning (rows_of h) (take s.place ks))
-      ++ (lost s.key s.by ∷ note s.key s.by ∷ behind (k ∷ take s.place ks) s.key s.by)))
-      (sym (ap (λ b. if b then won k ∷ [] else []) idle)) s.going;
-})
+tried-idle turn w h n k ks more behind idle =
+    tried-ahead turn turn w w h n k ks more behind
+    (λ ms g. subst (λ (b : Bool). Going turn w ((if b then won k ∷ [] else []) ++ ms))
+    (sym idle) g)
 
 -- it is withdrawn
 tried-won : (turn : ℕ → List Step) (w : WorldView) (h : History) (n : ℕ) (k : Key) (ks : List Key)
@@ -78,21 +91,11 @@ tried-won : (turn : ℕ → List Step) (w : WorldView) (h : History) (n : ℕ) (
     → Chosen (after_all w (turn 0)) (won k)
     → Tried (λ i. turn (suc i)) (after (after_all w (turn 0)) (step_of (won k))) h n ks more
     (λ front. behind (k ∷ front)) → Tried turn w h n (k ∷ ks) more behind
-tried-won turn w h n k ks more behind queued chosen (inl g) =
-    inl (subst (λ (one : List Move). Going turn w ((one ++ winning (rows_of h) ks) ++ more))
-    (sym (ap (λ b. if b then won k ∷ [] else []) queued)) (g.0, (chosen, g.1)))
-tried-won turn w h n k ks more behind queued chosen (inr s) = inr (record {
-  place = suc s.place;
-  key = s.key;
-  at = s.at;
-  by = s.by;
-  one = s.one;
-  bound = s.bound;
-  going = subst (λ (one : List Move).
-      Going turn w ((one ++ winning (rows_of h) (take s.place ks))
-      ++ (lost s.key s.by ∷ note s.key s.by ∷ behind (k ∷ take s.place ks) s.key s.by)))
-      (sym (ap (λ b. if b then won k ∷ [] else []) queued)) (s.going.0, (chosen, s.going.1));
-})
+tried-won turn w h n k ks more behind queued chosen =
+    tried-ahead turn (λ i. turn (suc i)) w (after (after_all w (turn 0)) (step_of (won k))) h n k ks
+    more behind
+    (λ ms g. subst (λ (b : Bool). Going turn w ((if b then won k ∷ [] else []) ++ ms))
+    (sym queued) (g.0, (chosen, g.1)))
 
 -- a builder was faster
 tried-lost : (turn : ℕ → List Step) (w : WorldView) (h : History) (n b : ℕ) (k : Key)

@@ -3,6 +3,7 @@ use Rattle.std.proofs.Common.{◌≡◌, Some, true, ap, sym, subst, ◌∙◌}
 use Rattle.td_rows.specs.declared.kind.Kind.TheVariants.{Arrive}
 use Rattle.td_rows.specs.Meaning.{applies}
 use Rattle.td_rows.specs.Table.{Table, row_of}
+use Rattle.td_core.specs.declared.world.World.TheView.{view}
 use Rattle.td_core.specs.History.{rows_of}
 use Rattle.td_core.specs.Worlds.{WorldView, IsWorld}
 use Rattle.td_core.proofs.WorldSteps.{IsWorld-arrived}
@@ -10,12 +11,7 @@ use Rattle.td_core.proofs.world.World.arrive.Goals as goal
 
 pub invariant_of-self-2 : goal.invariant_of-self-2
 invariant_of-self-2 c =
-    let w : WorldView = record {
-      history = c.self.inside.kept.history;
-      supply = c.self.inside.kept.stock;
-      phases = c.self.inside.phases.items;
-      hands = c.self.inside.hands.items;
-    } in
+    let w : WorldView = view c.self.inside in
     let k = c.args.key in
     let row = c.in-Some.row.now in
     let found : row_of (rows_of w.history) k ≡ Some row =

@@ -1,6 +1,7 @@
 -- `World::claim`: its type's invariant.
 use Rattle.std.proofs.Common.{◌≡◌, None, sym, subst, ◌∙◌}
 use Rattle.td_core.specs.declared.step.Step.TheVariants.{Claim}
+use Rattle.td_core.specs.declared.world.World.TheView.{view}
 use Rattle.td_core.specs.Worlds.{WorldView, IsWorld}
 use Rattle.td_core.specs.Steps.{refusal}
 use Rattle.td_core.proofs.WorldSteps.{IsWorld-accepted}
@@ -8,12 +9,7 @@ use Rattle.td_core.proofs.world.World.claim.Goals as goal
 
 pub invariant_of-self : goal.invariant_of-self
 invariant_of-self c =
-    let w : WorldView = record {
-      history = c.self.inside.kept.history;
-      supply = c.self.inside.kept.stock;
-      phases = c.self.inside.phases.items;
-      hands = c.self.inside.hands.items;
-    } in
+    let w : WorldView = view c.self.inside in
     let none = subst (λ (v : WorldView). refusal v (Claim c.args.builder c.args.key) ≡ None)
     (sym c.self.view_is) (sym c.claim_refusal.ensures ∙ c.in_default.is) in
     subst (λ (v : WorldView). IsWorld v)

@@ -6,6 +6,7 @@ use Rattle.td_core.specs.declared.step.Phase.TheVariants.{Done}
 use Rattle.td_core.specs.declared.step.Hand.{Hand}
 use Rattle.td_core.specs.declared.step.Hand.TheVariants.{Free, Holding, Finished}
 use Rattle.td_core.specs.declared.step.Step.TheVariants.{Finish}
+use Rattle.td_core.specs.declared.world.World.TheView.{view}
 use Rattle.td_core.specs.Worlds.{WorldView, held_in, hand_of, IsWorld}
 use Rattle.td_core.specs.Steps.{refusal}
 use Rattle.td_core.proofs.Phases.{slice_get-hand_of, set-set}
@@ -17,12 +18,7 @@ use Rattle.td_core.proofs.world.World.finish.Goals.{in_default-take_held+in-Buil
 
 pub invariant_of-self : goal.invariant_of-self
 invariant_of-self c =
-    let w : WorldView = record {
-      history = c.self.inside.kept.history;
-      supply = c.self.inside.kept.stock;
-      phases = c.self.inside.phases.items;
-      hands = c.self.inside.hands.items;
-    } in
+    let w : WorldView = view c.self.inside in
     let b = c.args.builder in
     let o = c.args.outcome in
     let none = subst (λ (v : WorldView). refusal v (Finish b o) ≡ None) (sym c.self.view_is)
@@ -51,12 +47,7 @@ invariant_of-self c =
 
 pub returns-clause-ok : goal.returns-clause-ok
 returns-clause-ok c =
-    let w : WorldView = record {
-      history = c.self.inside.kept.history;
-      supply = c.self.inside.kept.stock;
-      phases = c.self.inside.phases.items;
-      hands = c.self.inside.hands.items;
-    } in
+    let w : WorldView = view c.self.inside in
     let b = c.args.builder in
     let o = c.args.outcome in
     let none = subst (λ (v : WorldView). refusal v (Finish b o) ≡ None) (sym c.self.view_is)

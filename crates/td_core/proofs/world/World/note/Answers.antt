@@ -5,6 +5,7 @@ use Rattle.td_rows.specs.declared.kind.Kind.TheVariants.{Claim}
 use Rattle.td_rows.specs.Table.{AppliesOn}
 use Rattle.td_change.specs.Saved.{number_of}
 use Rattle.td_core.specs.declared.step.Phase.TheVariants.{Held, Noted}
+use Rattle.td_core.specs.declared.world.World.TheView.{view}
 use Rattle.td_core.specs.History.{History, rows_of, with_entry}
 use Rattle.td_core.specs.Worlds.{WorldView, phase_of, IsWorld}
 use Rattle.td_core.proofs.WorldSteps.{IsWorld-noted}
@@ -12,12 +13,7 @@ use Rattle.td_core.proofs.world.World.note.Goals as goal
 
 pub append-requires : goal.append-requires
 append-requires c =
-    let w : WorldView = record {
-      history = c.self.inside.kept.history;
-      supply = c.self.inside.kept.stock;
-      phases = c.self.inside.phases.items;
-      hands = c.self.inside.hands.items;
-    } in
+    let w : WorldView = view c.self.inside in
     let b = c.in-Some-Held.builder in
     let phase : phase_of w c.args.key.now ≡ Some (Held b) =
     ap (λ (v : WorldView). phase_of v c.args.key.now) c.self.view_is ∙ sym c.in-Some-Held.ensures
@@ -30,12 +26,7 @@ append-requires c =
 
 pub invariant_of-self-2 : goal.invariant_of-self-2
 invariant_of-self-2 c =
-    let w : WorldView = record {
-      history = c.self.inside.kept.history;
-      supply = c.self.inside.kept.stock;
-      phases = c.self.inside.phases.items;
-      hands = c.self.inside.hands.items;
-    } in
+    let w : WorldView = view c.self.inside in
     let b = c.in-Some-Held.builder in
     let phase : phase_of w c.args.key.now ≡ Some (Held b) =
     ap (λ (v : WorldView). phase_of v c.args.key.now) c.self.view_is ∙ sym c.in-Some-Held.ensures

@@ -3,6 +3,7 @@ use Rattle.std.proofs.Common.{List, slice_get, ap, sym, subst, ◌∙◌}
 use Rattle.std.specs.Option.{option_copied}
 use Rattle.td_rows.specs.Table.{Table, IsAt, row_of}
 use Rattle.td_core.specs.declared.step.Phase.{Phase}
+use Rattle.td_core.specs.declared.world.World.TheView.{view}
 use Rattle.td_core.specs.Worlds.{WorldView, phase_of}
 use Rattle.td_core.proofs.Phases.{number_of-IsAt, phase_of-absent, copied-at}
 use Rattle.td_core.proofs.world.World.phase.Goals as goal
@@ -21,12 +22,7 @@ returns c =
 
 pub returns-in_err-number : goal.returns-in_err-number
 returns-in_err-number c =
-    let w : WorldView = record {
-      history = c.self.inside.kept.history;
-      supply = c.self.inside.kept.stock;
-      phases = c.self.inside.phases.items;
-      hands = c.self.inside.hands.items;
-    } in
+    let w : WorldView = view c.self.inside in
     let none = ap (λ (t : Table). row_of t c.args.key.now) (sym c.rows.ensures.rows)
     ∙ c.in_err-number.ensures.absent in
     ap option_copied c.from_residual.ensures

@@ -4,6 +4,7 @@ use Rattle.td_rows.specs.declared.key.Key.{Key}
 use Rattle.td_rows.specs.declared.kind.Kind.TheVariants.{Sweep}
 use Rattle.td_rows.specs.Keys.{ascending}
 use Rattle.td_rows.specs.Table.{AppliesOn}
+use Rattle.td_core.specs.declared.world.World.TheView.{view}
 use Rattle.td_core.specs.History.{rows_of, with_entry}
 use Rattle.td_core.specs.Worlds.{WorldView, IsWorld}
 use Rattle.td_core.specs.Steps.{swept_now}
@@ -12,33 +13,18 @@ use Rattle.td_core.proofs.world.World.sweep.Goals as goal
 
 pub new-keys-requires-clause-rising : goal.new-keys-requires-clause-rising
 new-keys-requires-clause-rising c =
-    let w : WorldView = record {
-      history = c.self.inside.kept.history;
-      supply = c.self.inside.kept.stock;
-      phases = c.self.inside.phases.items;
-      hands = c.self.inside.hands.items;
-    } in
+    let w : WorldView = view c.self.inside in
     ap ascending c.in_ok-keys.ensures ∙ rising-swept_now w c.self.invariant
 
 pub append-requires-clause-applies : goal.append-requires-clause-applies
 append-requires-clause-applies c =
-    let w : WorldView = record {
-      history = c.self.inside.kept.history;
-      supply = c.self.inside.kept.stock;
-      phases = c.self.inside.phases.items;
-      hands = c.self.inside.hands.items;
-    } in
+    let w : WorldView = view c.self.inside in
     subst (λ (ks : List Key). AppliesOn (rows_of w.history) Sweep ks)
     (sym (c.new-keys.ensures ∙ c.in_ok-keys.ensures)) (AppliesOn-swept_now w c.self.invariant)
 
 pub invariant_of-self-2 : goal.invariant_of-self-2
 invariant_of-self-2 c =
-    let w : WorldView = record {
-      history = c.self.inside.kept.history;
-      supply = c.self.inside.kept.stock;
-      phases = c.self.inside.phases.items;
-      hands = c.self.inside.hands.items;
-    } in
+    let w : WorldView = view c.self.inside in
     let some : 0 < length c.in_ok-keys.keys.items = search rules in
     let history = c.in_ok-append.ensures.ok.history
     ∙ ap (λ (ks : List Key). with_entry w.history (record { kind = Sweep; keys = ks }))

@@ -1,6 +1,7 @@
 -- `World::undo`: the call of `undo` and its type's invariant.
 use Rattle.std.proofs.Common.{◌≡◌, ℕ, None, sym, subst, ◌∙◌}
 use Rattle.td_core.specs.declared.step.Step.TheVariants.{Undo}
+use Rattle.td_core.specs.declared.world.World.TheView.{view}
 use Rattle.td_core.specs.Worlds.{WorldView, IsWorld}
 use Rattle.td_core.specs.Steps.{refusal}
 use Rattle.td_core.proofs.Refusing.{Undoes, undoes}
@@ -24,12 +25,7 @@ undo-requires-clause-free c =
 
 pub invariant_of-self : goal.invariant_of-self
 invariant_of-self c =
-    let w : WorldView = record {
-      history = c.self.inside.kept.history;
-      supply = c.self.inside.kept.stock;
-      phases = c.self.inside.phases.items;
-      hands = c.self.inside.hands.items;
-    } in
+    let w : WorldView = view c.self.inside in
     let u = tested w c.args.self.now c.args.n c.self.view_is
     (sym c.undo_refusal.ensures ∙ c.in_default.is) in
     subst (λ (v : WorldView). IsWorld v)
