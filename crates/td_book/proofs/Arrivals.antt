@@ -1,6 +1,6 @@
 -- What the desk knows after an arrival, and after a sweep.
 use Rattle.std.proofs.Common.{◌≡◌, Bool, true, false, List, [], ◌∷◌, Some, None, if◌then◌else◌, ap}
-use Rattle.std.proofs.Common.{refl, sym, ◌∙◌}
+use Rattle.std.proofs.Common.{refl, sym, subst, ◌∙◌}
 use Rattle.std.specs.Prelude.{ℕ, Result, Ok, Err, IfOk, OnErr}
 use Rattle.td_rows.specs.declared.key.Key.{Key}
 use Rattle.td_rows.specs.declared.row.Row.{Row}
@@ -9,11 +9,40 @@ use Rattle.td_rows.specs.Keys.{same_key, ascending}
 use Rattle.td_rows.specs.Meaning.{applies}
 use Rattle.td_rows.specs.Table.{row_of, fits, AppliesOn, keys_of}
 use Rattle.td_rows.proofs.Keys.{same_key-true}
+use Rattle.td_core.specs.Books.{BooksView}
 use Rattle.td_core.specs.History.{History, rows_of, with_entry, IsAppended}
+use Rattle.td_core.specs.Offers.{supply_now, freed}
+use Rattle.td_core.proofs.Freeing.{ascending-freed, AppliesOn-freed}
+use Rattle.td_book.specs.declared.book.Book.TheInside.{Inside}
+use Rattle.td_book.specs.Watching.{kept_in}
 use Rattle.td_book.specs.Seen.{seen_off}
 use Rattle.td_book.specs.Desk.{InnerModel}
 use Rattle.td_book.proofs.Seeing.{desks_off, arrive_off, waiting_off}
 use Rattle.td_book.proofs.Steps.{rows_with, up_now}
+
+-- what was read of a book's inside is so of the inside
+pub rising_inside : (read now : Inside) → read ≡ now
+    → ascending (keys_of read.inner.books.history.opening) ≡ true
+    → ascending (keys_of now.inner.books.history.opening) ≡ true
+rising_inside read now is up =
+    ap (λ (s : Inside). ascending (keys_of s.inner.books.history.opening)) (sym is) ∙ up
+
+-- so the keys that a sweep frees rise, and it applies on all of them
+pub sweeps_inside : (keys : List Key) (kept : BooksView) (read now : Inside) → read ≡ now
+    → ascending (keys_of read.inner.books.history.opening) ≡ true → kept ≡ kept_in read.inner.books
+    → keys ≡ freed (supply_now kept.stock kept.history) (rows_of kept.history)
+    → (ascending keys ≡ true) × AppliesOn (rows_of now.inner.books.history) Sweep keys
+sweeps_inside keys kept read now is up same told =
+    let b = now.inner.books in
+    let s = supply_now b.stock b.history in
+    let t = rows_of b.history in
+    let rising = up_now b.history (rising_inside read now is up) in
+    let are : keys ≡ freed s t =
+    told ∙ ap (λ (k : BooksView). freed (supply_now k.stock k.history) (rows_of k.history))
+    (same ∙ ap (λ (x : Inside). kept_in x.inner.books) is) in (
+      ap ascending are ∙ ascending-freed s t rising,
+      subst (AppliesOn t Sweep) (sym are) (AppliesOn-freed s t rising),
+    )
 
 -- the desk knows as much after an arrival
 pub arrived_view : {E : Type 0} (a b : InnerModel) (k : Key) (row : Row) (r : Result ℕ E)

@@ -1,14 +1,13 @@
 -- What the desk's seat knows of each row at rest, in the words of the rows' states.
 use Rattle.std.proofs.Common.{◌≡◌, ◌↔◌, ℕ, zero, suc, List, [], ◌∷◌, Some, slice_get, ap, refl, sym}
 use Rattle.std.proofs.Common.{subst, ◌∙◌}
+use Rattle.std.proofs.lemmas.Option.{same_Some}
 use Rattle.td_board.specs.declared.views.RowView.{RowView}
 use Rattle.td_board.specs.declared.views.RowView.TheVariants.{Out, Known}
 use Rattle.td_rows.specs.declared.key.Key.{Key}
 use Rattle.td_rows.specs.declared.row.Row.{Row}
 use Rattle.td_rows.specs.declared.state.State.{State}
-use Rattle.td_rows.specs.declared.state.State.TheVariants.{NeedsBuild, Building, Built, Uploaded}
-use Rattle.td_rows.specs.declared.state.State.TheVariants.{Installed, DepWait, BdUninstallable}
-use Rattle.td_rows.specs.declared.state.State.TheVariants.{BuildAttempted, Failed, NotForUs}
+use Rattle.td_rows.specs.declared.state.State.TheVariants.{NeedsBuild, Building}
 use Rattle.td_rows.specs.Table.{Table}
 use Rattle.td_book.specs.AtRest.{AreServed}
 use Rattle.td_book.specs.Seen.{known_as, seen_off}
@@ -16,38 +15,19 @@ use Rattle.td_book.specs.Seen.{known_as, seen_off}
 -- offered exactly where it needs a build
 known-offered : (s : State) → (Some (known_as s) ≡ Some Out) ↔ (s ≡ NeedsBuild)
 known-offered NeedsBuild = (λ e. refl, λ e. refl)
-known-offered (Building a) = (λ e. absurd (cc), λ e. absurd (cc))
-known-offered Built = (λ e. absurd (cc), λ e. absurd (cc))
-known-offered Uploaded = (λ e. absurd (cc), λ e. absurd (cc))
-known-offered Installed = (λ e. absurd (cc), λ e. absurd (cc))
-known-offered DepWait = (λ e. absurd (cc), λ e. absurd (cc))
-known-offered BdUninstallable = (λ e. absurd (cc), λ e. absurd (cc))
-known-offered BuildAttempted = (λ e. absurd (cc), λ e. absurd (cc))
-known-offered Failed = (λ e. absurd (cc), λ e. absurd (cc))
-known-offered NotForUs = (λ e. absurd (cc), λ e. absurd (cc))
+known-offered s = (λ e. absurd (cc), λ e. absurd (cc))
 
 -- known to be a builder's exactly where it is Building by it
 known-built : (s : State) (b : ℕ) → (Some (known_as s) ≡ Some (Known b)) ↔ (s ≡ Building b)
-known-built NeedsBuild b = (λ e. absurd (cc), λ e. absurd (cc))
 known-built (Building a) b = (λ e. cc, λ e. cc)
-known-built Built b = (λ e. absurd (cc), λ e. absurd (cc))
-known-built Uploaded b = (λ e. absurd (cc), λ e. absurd (cc))
-known-built Installed b = (λ e. absurd (cc), λ e. absurd (cc))
-known-built DepWait b = (λ e. absurd (cc), λ e. absurd (cc))
-known-built BdUninstallable b = (λ e. absurd (cc), λ e. absurd (cc))
-known-built BuildAttempted b = (λ e. absurd (cc), λ e. absurd (cc))
-known-built Failed b = (λ e. absurd (cc), λ e. absurd (cc))
-known-built NotForUs b = (λ e. absurd (cc), λ e. absurd (cc))
+known-built s b = (λ e. absurd (cc), λ e. absurd (cc))
 
 -- what is known of the row with a number
 view-at : (t : Table) (i : ℕ) (k : Key) (row : Row) → slice_get t i ≡ Some (k, row)
     → slice_get (seen_off [] t) i ≡ Some (known_as row.state)
 view-at [] i k row at = absurd (cc)
 view-at (p ∷ t) zero k row at =
-    ap (λ (q : Key × Row). Some (known_as q.1.state)) (same_pair p (k, row) at)
-  where
-    same_pair : (a b : Key × Row) → Some a ≡ Some b → a ≡ b
-    same_pair a b e = cc
+    ap (λ (q : Key × Row). Some (known_as q.1.state)) (same_Some p (k, row) at)
 view-at (p ∷ t) (suc i) k row at = view-at t i k row at
 
 -- all rows of a view that follows from them

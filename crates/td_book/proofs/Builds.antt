@@ -1,9 +1,10 @@
 -- What the desk does for a builder, over plain values.
-use Rattle.std.proofs.Common.{◌≡◌, IfNone, ℕ, zero, suc, ◌≤◌, ◌==◌, Bool, true, false, ◌&&◌, List}
+use Rattle.std.proofs.Common.{◌≡◌, IfNone, ℕ, zero, suc, ◌≤◌, ◌==◌, Bool, true, false, List}
 use Rattle.std.proofs.Common.{[], ◌∷◌, Option, Some, None, option_map, if◌then◌else◌, slice_get}
 use Rattle.std.proofs.Common.{◌<◌, length, set, ap, refl, sym, subst, ◌∙◌, arith}
 use Rattle.td_board.specs.declared.views.RowView.{RowView}
 use Rattle.std.proofs.lemmas.Bool.{eqb-true}
+use Rattle.std.proofs.lemmas.Option.{same_Some}
 use mathlib.Core.Option.{some}
 use lib.ListN.{get_elem?}
 use Rattle.atomic_table.specs.Seated.{TableId}
@@ -12,9 +13,7 @@ use Rattle.td_board.specs.Seats.{rows_of as board_rows}
 use Rattle.td_rows.specs.declared.key.Key.{Key}
 use Rattle.td_rows.specs.declared.row.Row.{Row}
 use Rattle.td_rows.specs.declared.state.State.{State}
-use Rattle.td_rows.specs.declared.state.State.TheVariants.{NeedsBuild, Building, Built, Uploaded}
-use Rattle.td_rows.specs.declared.state.State.TheVariants.{Installed, DepWait, BdUninstallable}
-use Rattle.td_rows.specs.declared.state.State.TheVariants.{BuildAttempted, Failed, NotForUs}
+use Rattle.td_rows.specs.declared.state.State.TheVariants.{Building}
 use Rattle.td_rows.specs.declared.kind.Kind.TheVariants.{Claim, Outcome as Ended}
 use Rattle.td_rows.specs.declared.outcome.Outcome.{Outcome}
 use Rattle.td_rows.specs.declared.outcome.Outcome.TheVariants as ends
@@ -26,19 +25,19 @@ use Rattle.td_rows.proofs.Keys.{same_key-refl}
 use Rattle.td_rows.proofs.Tables.{row_of-at, row_of-each_row, keys_of-each_row}
 use Rattle.td_change.specs.Plans.{Planned, plan_of, left}
 use Rattle.td_core.specs.Committing.{takes}
-use Rattle.td_core.specs.History.{History, rows_of, with_entry}
-use Rattle.td_core.specs.Refusals.{is_queued_at}
+use Rattle.td_core.specs.History.{History, rows_of}
 use Rattle.td_book.specs.Seen.{seen_off, seen_as, known_as, held_as}
 use Rattle.td_core.proofs.Phases.{keys_of-rows_of}
 use Rattle.td_book.specs.declared.starting.Job.{Job}
 use Rattle.td_book.specs.Watching.{WatchedView}
 use Rattle.td_book.specs.Desk.{InnerModel, BookModel, book_of, Stays, HasRoom, HasOne, claim_of}
-use Rattle.td_book.specs.Calls.{is_lost, noting_one, HasOut, OutAt, LostTo}
-use Rattle.td_book.specs.Building.{Knows, is_built_at, Noticed, IsJobAt}
+use Rattle.td_book.specs.Calls.{noting_one, HasOut, OutAt, LostTo}
+use Rattle.td_book.specs.Building.{Knows, head_key, is_built_at, Noticed, IsJobAt}
 use Rattle.td_book.proofs.Seeing.{claimed_off, idle_off, views_at, views-each_row, set_views}
 use Rattle.td_book.proofs.Seeing.{length-seen_off}
-use Rattle.td_book.proofs.Steps.{rows_with, is_out_at, stays_none, stays_more, stays_fixed}
-use Rattle.td_book.proofs.Steps.{spent_none, key_of}
+use Rattle.td_book.proofs.Steps.{rising_read, rows_read, rows_with, noting_one-lost}
+use Rattle.td_book.proofs.Steps.{noting_one-opening, noting_one-won, stays_none, stays_more}
+use Rattle.td_book.proofs.Steps.{stays_fixed, spent_none, key_of, up_now}
 
 pub built_at : (t : Table) (k : Key) (i b : ℕ) (row : Row) → ascending (keys_of t) ≡ true
     → slice_get t i ≡ Some (k, row) → is_built_at t k b ≡ is_building_by b row.state
@@ -47,24 +46,8 @@ built_at t k i b row up at =
     (row_of-at t k i row up at)
 
 pub queued-unbuilt : (b : ℕ) (s : State) → is_queued s ≡ true → is_building_by b s ≡ false
-queued-unbuilt b NeedsBuild h = refl
 queued-unbuilt b (Building c) h = cc
-queued-unbuilt b Built h = refl
-queued-unbuilt b Uploaded h = refl
-queued-unbuilt b Installed h = refl
-queued-unbuilt b DepWait h = refl
-queued-unbuilt b BdUninstallable h = refl
-queued-unbuilt b BuildAttempted h = refl
-queued-unbuilt b Failed h = refl
-queued-unbuilt b NotForUs h = refl
-
-and_false : (a : Bool) → (a && false) ≡ false
-and_false true = refl
-and_false false = refl
-
-pos_lost : (b : ℕ) → 1 ≤ b → is_lost b ≡ true
-pos_lost zero h = absurd (omega arith)
-pos_lost (suc b) h = refl
+queued-unbuilt b s h = refl
 
 -- nothing is noted
 pub knows_none : (b : ℕ) (k : Key) (is : Bool) (m n : InnerModel) → n ≡ m
@@ -73,8 +56,7 @@ pub knows_none : (b : ℕ) (k : Key) (is : Bool) (m n : InnerModel) → n ≡ m
 knows_none b k is m n same rest answer = subst (Knows b k is m) (sym same) (record {
   by = 0;
   some_builder = omega arith;
-  history = sym (ap (λ v. if v then with_entry m.books.history (claim_of 0 k) else m.books.history)
-      (and_false (is_queued_at (rows_of m.books.history) k)));
+  history = sym (noting_one-won m.books.history k);
   view = rest;
   stays = stays_none m;
   spent = spent_none (k ∷ []) m.books;
@@ -102,15 +84,10 @@ knows_noted by b k i m n lost out up rest =
     let claimed = row_claimed t k i by out.row up out.at in
     let up_u : ascending (keys_of u) ≡ true =
     ap ascending (keys_of-each_row (meant (Claim by) (k ∷ [])) t) ∙ up in
-    let queued : (is_queued_at t k && is_lost by) ≡ true =
-    ap (λ v. v && is_lost by) (is_out_at t k i out.row up out.at ∙ out.out)
-    ∙ pos_lost by lost.one in
     record {
       by = by;
       some_builder = lost.some_builder;
-      history = lost.history
-          ∙ sym (ap (λ v. if v then with_entry m.books.history (claim_of by k) else m.books.history)
-          queued);
+      history = lost.history ∙ sym (noting_one-lost m.books.history k i by up out lost.one);
       view =
           lost.view ∙ ap (λ (v : List RowView). set v i (Known by)) rest
           ∙ claimed_off [] t i k out.row by up out.at
@@ -129,30 +106,37 @@ knows_noted by b k i m n lost out up rest =
         let is : row ≡ (record out.row { state = Building by }) = cc in
         ap (λ (r : Row). is_queued r.state) is
 
-pub out_of : (t : Table) (i : ℕ) (k : Key) (was : Row) → HasOut t i → slice_get t i ≡ Some (k, was)
-    → OutAt t k i
-out_of t i k was out at =
-    let same = one (out.0, out.1.row) (k, was) (sym out.1.at ∙ at) in
-    record {
-      row = was;
-      at = at;
-      out = ap (λ (p : Key × Row). is_queued p.1.state) (sym same) ∙ out.1.out;
-    }
-  where
-    one : (a b : Key × Row) → Some a ≡ Some b → a ≡ b
-    one a b e = cc
+-- the row with a number is out in the rows that were read, so it is in the history
+pub out_read : (t : Table) (m n : InnerModel) (i : ℕ) (k : Key) (was : Row) → m ≡ n
+    → t ≡ rows_of m.books.history → ascending (keys_of t) ≡ true → HasOut t i
+    → slice_get (rows_of n.books.history) i ≡ Some (k, was)
+    → OutAt (rows_of n.books.history) k i × (ascending (keys_of (rows_of n.books.history)) ≡ true)
+out_read t m n i k was is read up there at =
+    let out = rows_read (λ (u : Table). HasOut u i) t m n is read there in
+    let same = same_Some {A = Key × Row} (out.0, out.1.row) (k, was) (sym out.1.at ∙ at) in (
+      record {
+        row = was;
+        at = at;
+        out = ap (λ (p : Key × Row). is_queued p.1.state) (sym same) ∙ out.1.out;
+      },
+      rising_read t m n is read up,
+    )
 
 -- ---- the end of a build
 
-pub settled_takes : (p : Planned) (t : Table) (by : ℕ) (ended : Outcome) (k : Key) (i : ℕ)
-    (row : Row) → p ≡ plan_of (Ended by ended) (k ∷ []) t → ascending (keys_of t) ≡ true
-    → slice_get t i ≡ Some (k, row) → is_building_by by row.state ≡ true
-    → takes t p.kind (left p) ≡ k ∷ []
-settled_takes p t by ended k i row planned up at built =
+-- (the histories are one, by two names)
+pub settled_takes : (p : Planned) (h g : History) (by : ℕ) (ended : Outcome) (k : Key) (i : ℕ)
+    (row : Row) → g ≡ h → p ≡ plan_of (Ended by ended) (k ∷ []) (rows_of g)
+    → ascending (keys_of h.opening) ≡ true → slice_get (rows_of g) i ≡ Some (k, row)
+    → is_building_by by row.state ≡ true → takes (rows_of h) p.kind (left p) ≡ k ∷ []
+settled_takes p h g by ended k i row same planned up at built =
+    let t = rows_of h in
+    let found : slice_get t i ≡ Some (k, row) =
+    ap (λ (x : History). slice_get (rows_of x) i) (sym same) ∙ at in
     (λ j. takes t (ap (λ (x : Planned). x.kind) planned j) (ap left planned j))
     ∙ ap (λ v. if v then k ∷ [] else [])
     (ap (λ x. elim x as (λ _. Bool) [ Some r ↦ applies (Ended by ended) r | None ↦ false ])
-    (row_of-at t k i row up at) ∙ built)
+    (row_of-at t k i row (up_now h up) found) ∙ built)
 
 pub never_none : (P : Type 0) (X : Type 0) (k : Key) (ts : List Key) → ts ≡ k ∷ [] → (r : Option ℕ)
     → IfNone r ((ts ≡ []) × X) → IfNone r P
@@ -166,6 +150,14 @@ pub job_key : (i : ℕ) (b : BookModel) (job : Job) → IsJobAt i b job
 job_key i b job is =
     ap (λ (ks : List Key). slice_get ks i) (sym (keys_of-rows_of b.history))
     ∙ key_of (rows_of b.history) i job.key is.0 is.1
+
+-- what is known of the first key of a list of one is known of that key
+pub knows_head : (claim : List Key) (key : Key) (n m : ℕ) (is was : Bool) (a z : InnerModel)
+    → claim ≡ key ∷ [] → n ≡ m → is ≡ was → Knows n (head_key claim) is a z → Knows m key was a z
+knows_head claim key n m is was a z one number answer knows =
+    subst (λ (k : Key). Knows m k was a z) (ap head_key one)
+    (subst (λ (x : ℕ). Knows x (head_key claim) was a z) number
+    (subst (λ (b : Bool). Knows n (head_key claim) b a z) answer knows))
 
 pub noticed : (i b : ℕ) (k : Key) (is : Bool) (a m n : InnerModel) → Knows b k is m n
     → m.books.history ≡ a.books.history → Stays a m
@@ -188,10 +180,7 @@ noticed i b k is a m n w same stays at =
 pub at_key_of : (t : Table) (i : ℕ) (k : Key) → slice_get (keys_of t) i ≡ Some k
     → (row : Row) × (slice_get t i ≡ Some (k, row))
 at_key_of [] i k h = absurd (cc)
-at_key_of (p ∷ t) zero k h = (p.1, ap (λ (q : Key). Some (q, p.1)) (one p.0 k h))
-  where
-    one : (a b : Key) → Some a ≡ Some b → a ≡ b
-    one a b e = cc
+at_key_of (p ∷ t) zero k h = (p.1, ap (λ (q : Key). Some (q, p.1)) (same_Some p.0 k h))
 at_key_of (p ∷ t) (suc i) k h = at_key_of t i k h
 
 pub one_of_room : (ks : List Key) (b : WatchedView) → HasRoom ks b → HasOne ks b
@@ -201,29 +190,15 @@ one_of_room ks b room =
       places = λ k named. let p = room.places k named in omega arith;
     }
 
-noted-opening : (v : Bool) (h : History) (k : Key) (b : ℕ)
-    → (if v then with_entry h (claim_of b k) else h).opening ≡ h.opening
-noted-opening true h k b = refl
-noted-opening false h k b = refl
-
 pub noted_keys : (h now : History) (k : Key) (b : ℕ) → now ≡ noting_one h k b
     → keys_of (rows_of h) ≡ keys_of (rows_of now)
 noted_keys h now k b is =
-    keys_of-rows_of h ∙ ap keys_of
-    (sym (noted-opening (is_queued_at (rows_of h) k && is_lost b) h k b))
+    keys_of-rows_of h ∙ ap keys_of (sym (noting_one-opening h k b))
     ∙ ap (λ (x : History). keys_of x.opening) (sym is) ∙ sym (keys_of-rows_of now)
 
 pub known-built : (b : ℕ) (s : State) → is_building_by b s ≡ true → known_as s ≡ Known b
-known-built b NeedsBuild h = cc
 known-built b (Building c) h = ap (λ (x : ℕ). Known x) (eqb-true c b h)
-known-built b Built h = cc
-known-built b Uploaded h = cc
-known-built b Installed h = cc
-known-built b DepWait h = cc
-known-built b BdUninstallable h = cc
-known-built b BuildAttempted h = cc
-known-built b Failed h = cc
-known-built b NotForUs h = cc
+known-built b s h = cc
 
 pub known_at : (t : Table) (k : Key) (i b : ℕ) (row : Row) → slice_get t i ≡ Some (k, row)
     → is_building_by b row.state ≡ true → get_elem? (seen_off [] t) i ≡ some (Known b)
@@ -233,9 +208,7 @@ known_at t k i b row at built =
 
 held-ended : (b : ℕ) (o : Outcome) (row : Row) → held_as (means (Ended b o) row).state ≡ In
 held-ended b ends.Built row = refl
-held-ended b ends.Attempted row = refl
-held-ended b ends.GivenBack row = refl
-held-ended b (ends.Waits t) row = refl
+held-ended b o row = refl
 
 -- a build that ended is settled
 pub ended_off : (t : Table) (i : ℕ) (k : Key) (row : Row) (b : ℕ) (o : Outcome)

@@ -1,5 +1,5 @@
 -- The calls of the book over plain values.
-use Rattle.std.proofs.Common.{◌≡◌, ℕ, ◌≤◌, Bool, true, false, ◌&&◌, List, [], ◌∷◌, Option, Some}
+use Rattle.std.proofs.Common.{◌≡◌, ℕ, ◌≤◌, Bool, true, false, List, [], ◌∷◌, Option, Some}
 use Rattle.std.proofs.Common.{None, Result, IfSome, filter, if◌then◌else◌, length, ap, refl, sym}
 use Rattle.std.proofs.Common.{subst, ◌∙◌, arith}
 use Rattle.td_board.specs.declared.views.RowView.{RowView}
@@ -13,12 +13,10 @@ use Rattle.td_change.proofs.Plans.{left-plan_of, plan_of-itself, plan_of-same_ke
 use Rattle.td_journal.specs.Commands.{is_command}
 use Rattle.td_core.specs.Committing.{takes}
 use Rattle.td_core.specs.History.{History, rows_of, with_entry}
-use Rattle.td_core.specs.Refusals.{is_queued_at}
 use Rattle.td_core.proofs.Phases.{keys_of-rows_of}
 use Rattle.td_book.specs.Watching.{WatchedView}
 use Rattle.td_book.specs.Desk.{InnerModel, BookModel, book_of, fixed_of, Stays, HasOne}
-use Rattle.td_book.specs.Desk.{claim_of}
-use Rattle.td_book.specs.Calls.{is_lost, noting_one, noting, Choices, Withdrew, off_for, plan_takes}
+use Rattle.td_book.specs.Calls.{noting_one, noting, Choices, Withdrew, off_for, plan_takes}
 use Rattle.td_book.specs.Calls.{plan_kind, entered, entered_no, IsPlan, IsPlanOf, PlanIsOff}
 use Rattle.td_book.specs.Calls.{CommandOutcome, IsCommanded, taken_of}
 use Rattle.td_book.specs.declared.commanding.CommandRefusal.{CommandRefusal}
@@ -31,7 +29,7 @@ use Rattle.td_wbread.specs.Command.{CommandParts}
 use Rattle.td_wbread.specs.Kinds.{kind_with, kind_of}
 use Rattle.td_wbread.specs.declared.command.Verb.{Verb}
 use Rattle.td_wbread.specs.declared.command.Verb.TheVariants.{Gb, Nmu, Bp, Dw}
-use Rattle.td_book.proofs.Steps.{stays_more, stays_fixed}
+use Rattle.td_book.proofs.Steps.{noting_one-opening, stays_more, stays_fixed}
 
 -- ---- 1. the keys that are withdrawn
 
@@ -50,18 +48,12 @@ off_short kind keys =
 
 -- ---- 2. the plan
 
-one_opening : (v : Bool) (h : History) (k : Key) (b : ℕ)
-    → (if v then with_entry h (claim_of b k) else h).opening ≡ h.opening
-one_opening true h k b = refl
-one_opening false h k b = refl
-
 pub noting-opening : (h : History) (ks : List Key) (bs : List ℕ)
     → (noting h ks bs).opening ≡ h.opening
 noting-opening h [] bs = refl
 noting-opening h (k ∷ ks) [] = refl
 noting-opening h (k ∷ ks) (b ∷ bs) =
-    noting-opening (noting_one h k b) ks bs
-    ∙ one_opening (is_queued_at (rows_of h) k && is_lost b) h k b
+    noting-opening (noting_one h k b) ks bs ∙ noting_one-opening h k b
 
 pub keys_same : (off : List Key) (h : History) (b w : InnerModel) → b.books.history ≡ h
     → Withdrew off b w → keys_of (rows_of h) ≡ keys_of (rows_of w.books.history)
@@ -70,6 +62,12 @@ keys_same off h b w same done =
     ∙ ap keys_of (sym (noting-opening b.books.history off done.choices))
     ∙ ap (λ (x : History). keys_of x.opening) (sym done.history)
     ∙ sym (keys_of-rows_of w.books.history)
+
+-- a plan over the rows of a book is one over those of an equal book
+pub plan_inside : (kind : Kind) (keys : List Key) (plan : Option Planned) (m n : BookModel) → m ≡ n
+    → IsPlan kind keys (rows_of n.history) plan → IsPlan kind keys (rows_of m.history) plan
+plan_inside kind keys plan m n same is =
+    subst (λ (b : BookModel). IsPlan kind keys (rows_of b.history) plan) (sym same) is
 
 pub is_plan_of : (kind : Kind) (matched : List Key) (t u : Table) (plan : Option Planned)
     → IsPlan kind matched t plan → keys_of t ≡ keys_of u → is_command kind ≡ true → IsPlanOf plan u

@@ -1,7 +1,7 @@
 -- The end of a build over plain values.
 use Rattle.std.proofs.Common.{◌≡◌, ℕ, ◌+◌, ◌<◌, ◌≤◌, Bool, Ok, Err, is_some, if◌then◌else◌, ◌∷◌}
 use Rattle.std.proofs.Common.{List, [], Option, Some, None, true, false, IfSome, IfNone, length}
-use Rattle.std.proofs.Common.{slice_get, ap, refl, sym, subst, ◌∙◌, inr}
+use Rattle.std.proofs.Common.{slice_get, ap, refl, sym, subst, ◌∙◌, inl, inr}
 use Rattle.td_board.specs.Knowledge.{with_finish}
 use Rattle.td_board.specs.declared.views.BuilderView.{BuilderView}
 use Rattle.td_rows.specs.declared.key.Key.{Key}
@@ -13,11 +13,12 @@ use Rattle.td_core.proofs.Phases.{keys_of-rows_of}
 use Rattle.td_book.specs.Desk.{InnerModel, book_of, Stays}
 use Rattle.td_book.specs.Deeds.{code_of}
 use Rattle.td_book.specs.Calls.{noting_one}
-use Rattle.td_book.specs.Building.{Knows, IsEnded, IsUnended, is_built_at}
+use Rattle.td_book.specs.Building.{Knows, IsEndingAt, IsEnded, IsUnended, head_key, is_built_at}
+use Rattle.td_book.specs.declared.building.Ending.{Ending}
 use Rattle.td_book.specs.Finishing.{Finishes, FinishHeld}
 use Rattle.td_book.proofs.Steps.{stays_more, stays_fixed, up_now, key_of, some_at}
 use Rattle.std.specs.Option.{ok_or}
-use Rattle.td_book.proofs.Builds.{noticed, built_at}
+use Rattle.td_book.proofs.Builds.{noticed, built_at, knows_head}
 use Rattle.td_book.specs.declared.finishing.FinishRefusal.TheVariants.{Mismatch}
 use Rattle.td_rows.specs.declared.row.Row.{Row}
 use Rattle.td_rows.specs.Keys.{ascending, names, same_key}
@@ -47,6 +48,20 @@ ended_some i o v w a m z k (Some n) at knows hand number now = record {
   number = number ∙ ap (λ (h : History). length h.journal + 1) knows.history;
   hand = hand;
 }
+
+-- a word of the board wasn't the one that the hand calls for, and the hand stays
+pub unended_kept : (i n b : ℕ) (o : Outcome) (v w : BuilderView) (a m : InnerModel) (e : Ending)
+    (is : Bool) → IsEndingAt i n a.books.history e → b ≡ v.number
+    → Knows b (head_key e.claim) is a m → w ≡ v → IsUnended i o v w a m
+unended_kept i n b o v w a m e is ending number knows kept =
+    let key = ending.closing.key in
+    record {
+      key = key;
+      at = ending.closing.at;
+      is = is;
+      knows = knows_head e.claim key b v.number is is a m ending.claim number refl knows;
+      hand = inl kept;
+    }
 
 -- it wasn't closed
 pub ended_none : (i : ℕ) (o : Outcome) (v w : BuilderView) (a m z : InnerModel) (k : Key)

@@ -8,6 +8,7 @@ use Rattle.std.specs.declared.cmp.Ordering.{Ordering}
 use Rattle.std.specs.declared.cmp.Ordering.TheVariants.{Less, Equal, Greater}
 use Rattle.std.specs.Str.{bytes_eq}
 use Rattle.std.proofs.lemmas.Bool.{and_parts}
+use Rattle.std.proofs.Math.Bool.{and-or_distrib_left, and-or_distrib_right, or_assoc}
 use Rattle.td_rows.specs.declared.key.Key.{Key}
 use Rattle.td_rows.specs.Keys.{key_cmp, same_key, names, below_all, ascending}
 use Rattle.td_rows.specs.Table.{Table, row_of, keys_of}
@@ -185,13 +186,10 @@ adds_one t old new source arch k is there now = λ q.
 
 more_archs : (o s x y r : Bool)
     → ((o || ((s && x) && r)) || ((s && y) && r)) ≡ (o || ((s && (x || y)) && r))
-more_archs true s x y r = refl
-more_archs false false x y r = refl
-more_archs false true true true true = refl
-more_archs false true true true false = refl
-more_archs false true true false true = refl
-more_archs false true true false false = refl
-more_archs false true false y r = refl
+more_archs o s x y r =
+    or_assoc o ((s && x) && r) ((s && y) && r)
+    ∙ ap (λ b. o || b) (sym (and-or_distrib_right (s && x) (s && y) r)
+    ∙ ap (λ b. b && r) (sym (and-or_distrib_left s x y)))
 
 -- one architecture more
 pub adds_arch : (t : Table) (old mid new : List Key) (s x y : Key → Bool) (z : Key → Bool)

@@ -1,17 +1,17 @@
 -- What an entry, and its undo, do to what is Installed.
-use Rattle.std.proofs.Common.{◌≡◌, ℕ, suc, ◌-◌, Bool, true, false, not, List}
-use Rattle.std.proofs.Common.{[], ◌∷◌, Option, Some, None, if◌then◌else◌, option_map}
-use Rattle.std.proofs.Common.{slice_get, ap, refl, sym, subst, ◌∙◌, zero, ◌==◌}
+use Rattle.std.proofs.Common.{◌≡◌, ◌↔◌, ℕ, ◌-◌, Bool, true, false, not, List}
+use Rattle.std.proofs.Common.{Option, Some, None, if◌then◌else◌, option_map}
+use Rattle.std.proofs.Common.{ap, refl, sym, subst, ◌∙◌}
 use Rattle.std.proofs.lemmas.Bool.{and_parts}
+use Rattle.std.proofs.lemmas.Option.{none-some, same_Some}
 use Rattle.td_rows.specs.declared.key.Key.{Key}
 use Rattle.td_rows.specs.declared.row.Row.{Row}
 use Rattle.td_rows.specs.declared.state.State.{State}
-use Rattle.td_rows.specs.declared.state.State.TheVariants.{NeedsBuild, Building, Built, Uploaded}
-use Rattle.td_rows.specs.declared.state.State.TheVariants.{Installed, DepWait, BdUninstallable}
-use Rattle.td_rows.specs.declared.state.State.TheVariants.{BuildAttempted, Failed, NotForUs}
+use Rattle.td_rows.specs.declared.state.State.TheVariants.{Installed}
 use Rattle.td_rows.specs.declared.kind.Kind.{Kind}
 use Rattle.td_rows.specs.declared.kind.Kind.TheVariants.{Gb, Nmu, Bp, Dw, Claim, Outcome as Ended}
 use Rattle.td_rows.specs.declared.kind.Kind.TheVariants.{Arrive, Sweep}
+use Rattle.td_rows.specs.declared.outcome.Outcome.{Outcome}
 use Rattle.td_rows.specs.declared.outcome.Outcome.TheVariants as ends
 use Rattle.td_rows.specs.Keys.{names, ascending}
 use Rattle.td_rows.specs.Meaning.{applies, means}
@@ -22,9 +22,10 @@ use Rattle.td_rows.proofs.Tables.{row_of-each_row, applies-fits}
 use Rattle.td_journal.specs.declared.entry.Entry.{Entry}
 use Rattle.td_journal.specs.declared.entry.Mark.TheVariants.{Undone}
 use Rattle.td_journal.specs.declared.entry.Marked.{Marked}
-use Rattle.td_journal.specs.Entries.{standing_entry, entry_at, undone_at, undone}
+use Rattle.td_journal.specs.Entries.{standing_entry, entry_at, undone}
 use Rattle.td_journal.proofs.LastEntry.{entry_at-last}
 use Rattle.td_core.specs.History.{History, rows_of}
+use Rattle.td_core.proofs.Staying.{entry_at-undone}
 use Rattle.td_book.specs.Watching.{is_there, tally}
 use Rattle.td_book.specs.inner.Tallies.{AreChanged, AreTallied, IsEntered, IsTakenBack}
 use Rattle.td_book.specs.inner.Tallies.{made_installed, was_there}
@@ -33,37 +34,11 @@ use Rattle.td_book.proofs.Tallies.{tally-each_row}
 
 -- ---- 1. states that aren't Installed
 
-given : (s : State) → gives_back s ≡ true → is_installed s ≡ false
-given NeedsBuild h = refl
-given (Building b) h = refl
-given Built h = refl
-given Uploaded h = refl
-given Installed h = cc
-given DepWait h = refl
-given BdUninstallable h = refl
-given BuildAttempted h = refl
-given Failed h = refl
-given NotForUs h = refl
-
-waits : (s : State) → waits_for s ≡ true → is_installed s ≡ false
-waits Installed h = cc
-waits s h = refl
-
-queued : (s : State) → is_queued s ≡ true → is_installed s ≡ false
-queued Installed h = cc
-queued s h = refl
-
-built : (b : ℕ) (s : State) → is_building_by b s ≡ true → is_installed s ≡ false
-built b Installed h = cc
-built b s h = refl
-
-coming : (s : State) → is_coming s ≡ true → is_installed s ≡ false
-coming Installed h = cc
-coming s h = refl
-
-waiting : (s : State) → is_waiting s ≡ true → is_installed s ≡ false
-waiting Installed h = cc
-waiting s h = refl
+-- a row of which a test holds that doesn't hold of an Installed row
+uninstalled-where : (test : State → Bool) → test Installed ≡ false → (s : State) → test s ≡ true
+    → is_installed s ≡ false
+uninstalled-where test other Installed h = absurd (let bad : true ≡ false = sym h ∙ other in cc)
+uninstalled-where test other s h = refl
 
 -- ---- 2. kinds: a rebuild takes Installed away, an arrival gives it, and no other changes it
 
@@ -71,22 +46,24 @@ makes : (kind : Kind) (there : Bool) (row : Row) → made_installed kind ≡ Som
     → applies kind row ≡ true
     → (is_installed row.state ≡ not there) × (is_installed (means kind row).state ≡ there)
 makes (Nmu n e m) false row is a = ((and_parts (is_installed row.state) _ a).0, refl)
-makes Arrive true row is a = (coming row.state a, refl)
+makes Arrive true row is a = (uninstalled-where is_coming refl row.state a, refl)
 makes kind there row is a = absurd (cc)
 
 stays : (kind : Kind) (row : Row) → made_installed kind ≡ None → applies kind row ≡ true
     → is_installed (means kind row).state ≡ is_installed row.state
-stays Gb row none a = sym (given row.state a)
+stays Gb row none a = sym (uninstalled-where gives_back refl row.state a)
 stays (Nmu n e m) row none a = absurd (cc)
 stays (Bp p) row none a = refl
-stays (Dw x) row none a = sym (waits row.state a)
-stays (Claim b) row none a = sym (queued row.state a)
-stays (Ended b ends.Built) row none a = sym (built b row.state a)
-stays (Ended b ends.Attempted) row none a = sym (built b row.state a)
-stays (Ended b ends.GivenBack) row none a = sym (built b row.state a)
-stays (Ended b (ends.Waits x)) row none a = sym (built b row.state a)
+stays (Dw x) row none a = sym (uninstalled-where waits_for refl row.state a)
+stays (Claim b) row none a = sym (uninstalled-where is_queued refl row.state a)
+stays (Ended b o) row none a =
+    ended o ∙ sym (uninstalled-where (is_building_by b) refl row.state a)
+  where
+    ended : (o : Outcome) → is_installed (means (Ended b o) row).state ≡ false
+    ended ends.Built = refl
+    ended o = refl
 stays Arrive row none a = absurd (cc)
-stays Sweep row none a = sym (waiting row.state a)
+stays Sweep row none a = sym (uninstalled-where is_waiting refl row.state a)
 
 -- ---- 3. the counts over an entry, and over an undo
 
@@ -174,41 +151,20 @@ back-changed kind there keys t counts ws is up all tallied = record {
 }
 
 -- a kind that leaves it
-same-tally : (kind : Kind) (keys : List Key) (g : ℕ) (ws : List (Option ℕ)) (t : Table)
-    → made_installed kind ≡ None → ascending (keys_of t) ≡ true → AppliesOn t kind keys
-    → tally is_there g ws (applied kind keys t) ≡ tally is_there g ws t
-same-tally kind keys g ws t none up all =
-    tally-each_row (meant kind keys) is_there is_there g ws t up
+same-tallied : (kind : Kind) (keys : List Key) (counts : List ℕ) (ws : List (Option ℕ))
+    (t u : Table) → u ≡ applied kind keys t → made_installed kind ≡ None
+    → ascending (keys_of t) ≡ true → AppliesOn t kind keys
+    → AreTallied is_there counts ws t ↔ AreTallied is_there counts ws u
+same-tallied kind keys counts ws t u is none up all =
+    let same : (g : ℕ) → tally is_there g ws u ≡ tally is_there g ws t = λ g.
+    ap (tally is_there g ws) is ∙ tally-each_row (meant kind keys) is_there is_there g ws t up
     (λ k r found. same_row (names keys k) (means kind r) r (λ named.
-    stays kind r none (on_row kind keys t k r all found named)))
+    stays kind r none (on_row kind keys t k r all found named))) in (
+      λ h. record { each = λ g lt. h.each g lt ∙ sym (same g) },
+      λ h. record { each = λ g lt. h.each g lt ∙ same g },
+    )
 
--- ---- 6. the entry with its number
-
-slice_get-undone_at : (ms : List Marked) (i : ℕ) (m : Marked) → slice_get ms i ≡ Some m
-    → slice_get (undone_at ms i) i ≡ Some (record m { mark = Undone })
-slice_get-undone_at [] zero m h = cc
-slice_get-undone_at [] (suc i) m h = cc
-slice_get-undone_at (x ∷ ms) zero m h =
-    let same : x ≡ m = cc in ap (λ (y : Marked). Some (record y { mark = Undone })) same
-slice_get-undone_at (x ∷ ms) (suc i) m h = slice_get-undone_at ms i m h
-
-entry_at-undone : (ms : List Marked) (n : ℕ) (m : Marked) → entry_at ms n ≡ Some m
-    → entry_at (undone ms n) n ≡ Some (record m { mark = Undone })
-entry_at-undone ms n m h =
-    elim (n == 0) as (λ b.
-    (if b then None else slice_get ms (n - 1)) ≡ Some m
-    → (if b then None else slice_get (undone ms n) (n - 1)) ≡ Some (record m { mark = Undone })) [
-      | true ↦ λ g. cc
-      | false ↦ λ g. slice_get-undone_at ms (n - 1) m g
-    ] h
-
-marked_same : (a b : Marked) → Some a ≡ Some b → a.entry ≡ b.entry
-marked_same a b h = let same : a ≡ b = cc in ap (λ (m : Marked). m.entry) same
-
-none_some : (m : Marked) → None ≡ Some m → ⊥
-none_some m h = cc
-
--- ---- 7. an entry that was made
+-- ---- 6. an entry that was made
 
 at_entered : (n : ℕ) (now : History) (counts : List ℕ) (ws : List (Option ℕ))
     (e : IsEntered n now counts ws) → entry_at now.journal n ≡ Some (standing_entry e.entry)
@@ -217,44 +173,49 @@ at_entered n now counts ws e =
     ∙ entry_at-last e.before.journal (standing_entry e.entry)
 
 entered-is : (n : ℕ) (now : History) (counts : List ℕ) (ws : List (Option ℕ)) (m : Marked)
-    (e : IsEntered n now counts ws) → Some m ≡ entry_at now.journal n → m.entry ≡ e.entry
-entered-is n now counts ws m e got =
-    marked_same m (standing_entry e.entry) (got ∙ at_entered n now counts ws e)
+    (ms : List Marked) (e : IsEntered n now counts ws) → ms ≡ now.journal → Some m ≡ entry_at ms n
+    → m.entry ≡ e.entry
+entered-is n now counts ws m ms e read got =
+    ap (λ (x : Marked). x.entry)
+    (same_Some m (standing_entry e.entry)
+    (got ∙ ap (λ (xs : List Marked). entry_at xs n) read ∙ at_entered n now counts ws e))
 
 rows_entered : (n : ℕ) (now : History) (counts : List ℕ) (ws : List (Option ℕ))
     (e : IsEntered n now counts ws)
     → rows_of now ≡ applied e.entry.kind e.entry.keys (rows_of e.before)
 rows_entered n now counts ws e = ap rows_of e.appended.history ∙ rows_with e.before e.entry
 
+-- the same of an equal entry's keys, and of equal rows
+changed_as : (there : Bool) (keys : List Key) (counts : List ℕ) (ws : List (Option ℕ)) (t u : Table)
+    (a b : Entry) → a ≡ b → keys ≡ a.keys → t ≡ u → AreChanged there b.keys counts ws u
+    → AreChanged there keys counts ws t
+changed_as there keys counts ws t u a b same are rows h =
+    subst (λ (ks : List Key). AreChanged there ks counts ws t)
+    (sym (are ∙ ap (λ (x : Entry). x.keys) same))
+    (subst (AreChanged there b.keys counts ws) (sym rows) h)
+
 pub entered-changed : (n : ℕ) (now : History) (counts : List ℕ) (ws : List (Option ℕ)) (m : Marked)
-    (there : Bool) (keys : List Key) (t : Table) → IsEntered n now counts ws
-    → Some m ≡ entry_at now.journal n → made_installed m.entry.kind ≡ Some there
+    (ms : List Marked) (there : Bool) (keys : List Key) (t : Table) → IsEntered n now counts ws
+    → ms ≡ now.journal → Some m ≡ entry_at ms n → made_installed m.entry.kind ≡ Some there
     → keys ≡ m.entry.keys → t ≡ rows_of now → AreChanged there keys counts ws t
-entered-changed n now counts ws m there keys t e got made are rows =
-    let same = entered-is n now counts ws m e got in
-    let keys_are : keys ≡ e.entry.keys = are ∙ ap (λ (x : Entry). x.keys) same in
-    subst (λ (ks : List Key). AreChanged there ks counts ws t) (sym keys_are)
-    (subst (AreChanged there e.entry.keys counts ws)
-    (sym (rows ∙ rows_entered n now counts ws e))
+entered-changed n now counts ws m ms there keys t e read got made are rows =
+    let same = entered-is n now counts ws m ms e read got in
+    changed_as there keys counts ws t (applied e.entry.kind e.entry.keys (rows_of e.before)) m.entry
+    e.entry same are (rows ∙ rows_entered n now counts ws e)
     (made-changed e.entry.kind there e.entry.keys (rows_of e.before) counts ws
     (ap (λ (x : Entry). made_installed x.kind) (sym same) ∙ made) (up_now e.before e.rising)
-    e.applies e.tallied))
+    e.applies e.tallied)
 
 pub entered-same : (n : ℕ) (now : History) (counts : List ℕ) (ws : List (Option ℕ)) (m : Marked)
-    → IsEntered n now counts ws → Some m ≡ entry_at now.journal n
+    (ms : List Marked) → IsEntered n now counts ws → ms ≡ now.journal → Some m ≡ entry_at ms n
     → made_installed m.entry.kind ≡ None → AreTallied is_there counts ws (rows_of now)
-entered-same n now counts ws m e got none = record {
-  each =
-      λ g lt.
-      let same = entered-is n now counts ws m e got in
-      e.tallied.each g lt
-      ∙ sym (ap (tally is_there g ws) (rows_entered n now counts ws e)
-      ∙ same-tally e.entry.kind e.entry.keys g ws (rows_of e.before)
-      (ap (λ (x : Entry). made_installed x.kind) (sym same) ∙ none) (up_now e.before e.rising)
-      e.applies);
-}
+entered-same n now counts ws m ms e read got none =
+    let same = entered-is n now counts ws m ms e read got in
+    (same-tallied e.entry.kind e.entry.keys counts ws (rows_of e.before) (rows_of now)
+    (rows_entered n now counts ws e) (ap (λ (x : Entry). made_installed x.kind) (sym same) ∙ none)
+    (up_now e.before e.rising) e.applies).0 e.tallied
 
--- ---- 8. an entry that was undone
+-- ---- 7. an entry that was undone
 
 at_taken : (n : ℕ) (now : History) (counts : List ℕ) (ws : List (Option ℕ))
     (e : IsTakenBack n now counts ws)
@@ -264,14 +225,18 @@ at_taken n now counts ws e =
     ∙ entry_at-undone e.before.journal n e.marked e.there
 
 pub taken-none : (n : ℕ) (now : History) (counts : List ℕ) (ws : List (Option ℕ))
-    → IsTakenBack n now counts ws → None ≡ entry_at now.journal n → ⊥
-taken-none n now counts ws e got =
-    none_some (record e.marked { mark = Undone }) (got ∙ at_taken n now counts ws e)
+    (ms : List Marked) → IsTakenBack n now counts ws → ms ≡ now.journal → None ≡ entry_at ms n → ⊥
+taken-none n now counts ws ms e read got =
+    none-some (record e.marked { mark = Undone })
+    (got ∙ ap (λ (xs : List Marked). entry_at xs n) read ∙ at_taken n now counts ws e)
 
 taken-is : (n : ℕ) (now : History) (counts : List ℕ) (ws : List (Option ℕ)) (m : Marked)
-    (e : IsTakenBack n now counts ws) → Some m ≡ entry_at now.journal n → m.entry ≡ e.marked.entry
-taken-is n now counts ws m e got =
-    marked_same m (record e.marked { mark = Undone }) (got ∙ at_taken n now counts ws e)
+    (ms : List Marked) (e : IsTakenBack n now counts ws) → ms ≡ now.journal → Some m ≡ entry_at ms n
+    → m.entry ≡ e.marked.entry
+taken-is n now counts ws m ms e read got =
+    ap (λ (x : Marked). x.entry)
+    (same_Some m (record e.marked { mark = Undone })
+    (got ∙ ap (λ (xs : List Marked). entry_at xs n) read ∙ at_taken n now counts ws e))
 
 -- the rows now are those that the undo leaves
 on_taken : (n : ℕ) (now : History) (counts : List ℕ) (ws : List (Option ℕ))
@@ -294,28 +259,22 @@ up_taken n now counts ws e =
     up_now now (ap (λ (h : History). ascending (keys_of h.opening)) e.is ∙ e.rising)
 
 pub taken-changed : (n : ℕ) (now : History) (counts : List ℕ) (ws : List (Option ℕ)) (m : Marked)
-    (there : Bool) (keys : List Key) (t : Table) → IsTakenBack n now counts ws
-    → Some m ≡ entry_at now.journal n → made_installed m.entry.kind ≡ Some there
+    (ms : List Marked) (there : Bool) (keys : List Key) (t : Table) → IsTakenBack n now counts ws
+    → ms ≡ now.journal → Some m ≡ entry_at ms n → made_installed m.entry.kind ≡ Some there
     → keys ≡ m.entry.keys → t ≡ rows_of now → AreChanged (not there) keys counts ws t
-taken-changed n now counts ws m there keys t e got made are rows =
-    let same = taken-is n now counts ws m e got in
-    let keys_are : keys ≡ e.marked.entry.keys = are ∙ ap (λ (x : Entry). x.keys) same in
-    subst (λ (ks : List Key). AreChanged (not there) ks counts ws t) (sym keys_are)
-    (subst (AreChanged (not there) e.marked.entry.keys counts ws) (sym rows)
+taken-changed n now counts ws m ms there keys t e read got made are rows =
+    let same = taken-is n now counts ws m ms e read got in
+    changed_as (not there) keys counts ws t (rows_of now) m.entry e.marked.entry same are rows
     (back-changed e.marked.entry.kind there e.marked.entry.keys (rows_of now) counts ws
     (ap (λ (x : Entry). made_installed x.kind) (sym same) ∙ made) (up_taken n now counts ws e)
     (on_taken n now counts ws e)
-    (subst (AreTallied is_there counts ws) (rows_taken n now counts ws e) e.tallied)))
+    (subst (AreTallied is_there counts ws) (rows_taken n now counts ws e) e.tallied))
 
 pub taken-same : (n : ℕ) (now : History) (counts : List ℕ) (ws : List (Option ℕ)) (m : Marked)
-    → IsTakenBack n now counts ws → Some m ≡ entry_at now.journal n
+    (ms : List Marked) → IsTakenBack n now counts ws → ms ≡ now.journal → Some m ≡ entry_at ms n
     → made_installed m.entry.kind ≡ None → AreTallied is_there counts ws (rows_of now)
-taken-same n now counts ws m e got none = record {
-  each =
-      λ g lt.
-      let same = taken-is n now counts ws m e got in
-      e.tallied.each g lt ∙ ap (tally is_there g ws) (rows_taken n now counts ws e)
-      ∙ same-tally e.marked.entry.kind e.marked.entry.keys g ws (rows_of now)
-      (ap (λ (x : Entry). made_installed x.kind) (sym same) ∙ none) (up_taken n now counts ws e)
-      (on_taken n now counts ws e);
-}
+taken-same n now counts ws m ms e read got none =
+    let same = taken-is n now counts ws m ms e read got in
+    (same-tallied e.marked.entry.kind e.marked.entry.keys counts ws (rows_of now) (rows_of e.before)
+    (rows_taken n now counts ws e) (ap (λ (x : Entry). made_installed x.kind) (sym same) ∙ none)
+    (up_taken n now counts ws e) (on_taken n now counts ws e)).1 e.tallied

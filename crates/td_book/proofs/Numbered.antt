@@ -9,6 +9,7 @@ use Rattle.std.specs.Ordering.{is_lt, nat_cmp}
 use Rattle.std.specs.declared.cmp.Ordering.TheVariants.{Less}
 use Rattle.std.specs.Str.{bytes_eq}
 use Rattle.std.proofs.lemmas.Bool.{and_parts, eqb-true}
+use Rattle.std.proofs.lemmas.Option.{same_Some}
 use Rattle.std.proofs.lemmas.Cmp.{ranked}
 use Rattle.std.proofs.lemmas.List.Elements.{filter_map-append}
 use Rattle.std.proofs.lemmas.List.Sorted.{list_any-IsPermutation}
@@ -98,16 +99,13 @@ names_sorted t k old sorted new moved is =
     names_any t new k ∙ ap (list_any (is_key_at t k)) is ∙ any-dedup (is_key_at t k) sorted
     ∙ sym (list_any-IsPermutation (is_key_at t k) old sorted moved) ∙ sym (names_any t old k)
 
-same_key_of : (a b : Key) → Some a ≡ Some b → a ≡ b
-same_key_of a b h = cc
-
 -- of two rows that with the smaller number has the smaller key
 rises_at : (ks : List Key) (n m : ℕ) (a b : Key) → ascending ks ≡ true → slice_get ks n ≡ Some a
     → slice_get ks m ≡ Some b → n < m → is_lt (key_cmp a b) ≡ true
 rises_at [] n m a b up an bm less = absurd (cc)
 rises_at (x ∷ ks) zero zero a b up an bm less = absurd (omega arith)
 rises_at (x ∷ ks) zero (suc m) a b up an bm less =
-    subst (λ (y : Key). is_lt (key_cmp y b) ≡ true) (same_key_of x a an)
+    subst (λ (y : Key). is_lt (key_cmp y b) ≡ true) (same_Some x a an)
     (below_named x b ks (and_parts (below_all x ks) (ascending ks) up).0 (named_at ks m b bm))
 rises_at (x ∷ ks) (suc n) zero a b up an bm less = absurd (omega arith)
 rises_at (x ∷ ks) (suc n) (suc m) a b up an bm less =

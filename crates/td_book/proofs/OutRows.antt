@@ -23,9 +23,7 @@ use Rattle.td_board.specs.Answers.{Withdraws}
 use Rattle.td_board.specs.Seats.{DeskModel}
 use Rattle.td_board.proofs.Lists.{at_less}
 use Rattle.td_rows.specs.declared.state.State.{State}
-use Rattle.td_rows.specs.declared.state.State.TheVariants.{NeedsBuild, Building, Built, Uploaded}
-use Rattle.td_rows.specs.declared.state.State.TheVariants.{Installed, DepWait, BdUninstallable}
-use Rattle.td_rows.specs.declared.state.State.TheVariants.{BuildAttempted, Failed, NotForUs}
+use Rattle.td_rows.specs.declared.state.State.TheVariants.{NeedsBuild}
 use Rattle.td_rows.specs.States.{is_queued}
 use Rattle.td_rows.specs.Table.{Table}
 use Rattle.td_book.specs.Ready.{is_any_queued, is_queued_no, queued_in}
@@ -168,6 +166,12 @@ few_outs view =
     let most = count_by-le-length p all in
     let long = length-range_with_len 0 (length view) in
     omega arith
+
+-- a row has its place
+pub listed-within : (view : List RowView) (outs places : List ℕ) (room r : ℕ) (x : RowView)
+    → IsListed view outs places room → get_elem? view r ≡ some x → r < length places
+listed-within view outs places room r x h known =
+    subst (λ n. r < n) (sym h.long) (at_less view r x known)
 
 -- ---- 3. a row that is no offer before and after
 
@@ -356,15 +360,7 @@ module _ (view : List RowView) (outs places : List ℕ) (room r : ℕ) (x : RowV
 
 known_queued : (s : State) → is_out_view (known_as s) ≡ is_queued s
 known_queued NeedsBuild = refl
-known_queued (Building b) = refl
-known_queued Built = refl
-known_queued Uploaded = refl
-known_queued Installed = refl
-known_queued DepWait = refl
-known_queued BdUninstallable = refl
-known_queued BuildAttempted = refl
-known_queued Failed = refl
-known_queued NotForUs = refl
+known_queued s = refl
 
 is_out_no-rest : (t : Table) (i : ℕ) → is_out_no (seen_off [] t) i ≡ is_queued_no t i
 is_out_no-rest [] i = refl

@@ -1,9 +1,10 @@
 -- The moves of the desk over plain values.
-use Rattle.std.proofs.Common.{◌≡◌, ℕ, zero, suc, ◌+◌, ◌<◌, ◌≤◌, Bool, true, false, List, [], ◌∷◌}
-use Rattle.std.proofs.Common.{◌++◌, Option, Some, None, if◌then◌else◌, length, take, drop, get_or}
-use Rattle.std.proofs.Common.{slice_get, option_map, ap, refl, sym, subst, ◌∙◌, arith}
+use Rattle.std.proofs.Common.{◌≡◌, ℕ, zero, suc, ◌+◌, ◌<◌, ◌≤◌, Bool, true, false, ◌&&◌, List, []}
+use Rattle.std.proofs.Common.{◌∷◌, ◌++◌, Option, Some, None, if◌then◌else◌, length, take, drop}
+use Rattle.std.proofs.Common.{get_or, slice_get, option_map, ap, refl, sym, subst, ◌∙◌, arith}
 use Rattle.std.proofs.lemmas.Bool.{and_parts}
-use Rattle.std.proofs.lemmas.Option.{slice_get_read}
+use Rattle.std.proofs.lemmas.Option.{same_Some, slice_get_read}
+use Rattle.std.proofs.Math.Bool.{and-false}
 use Rattle.td_rows.specs.declared.key.Key.{Key}
 use Rattle.td_rows.specs.declared.row.Row.{Row}
 use Rattle.td_rows.specs.declared.kind.Kind.TheVariants.{Claim}
@@ -24,11 +25,8 @@ use Rattle.td_core.specs.Keeps.{places_in}
 use Rattle.td_core.specs.Refusals.{is_queued_at}
 use Rattle.td_core.proofs.Phases.{keys_of-rows_of}
 use Rattle.td_book.specs.Watching.{WatchedView}
-use Rattle.td_book.specs.Desk.{InnerModel, Stays, Spent, HasRoom, HasOne, fixed_of}
-use Rattle.td_book.specs.Calls.{OutAt}
-
-pub same_key_at : (a b : Key) → Some a ≡ Some b → a ≡ b
-same_key_at a b h = cc
+use Rattle.td_book.specs.Desk.{InnerModel, Stays, Spent, HasRoom, HasOne, fixed_of, claim_of}
+use Rattle.td_book.specs.Calls.{is_lost, noting_one, OutAt}
 
 pub rows_with : (h : History) (e : Entry)
     → rows_of (with_entry h e) ≡ applied e.kind e.keys (rows_of h)
@@ -40,6 +38,16 @@ pub up_now : (h : History) → ascending (keys_of h.opening) ≡ true
     → ascending (keys_of (rows_of h)) ≡ true
 up_now h up = ap ascending (keys_of-rows_of h) ∙ up
 
+-- what holds of the rows that were read holds of those that the inside's history has
+pub rows_read : (P : Table → Type 0) (t : Table) (m n : InnerModel) → m ≡ n
+    → t ≡ rows_of m.books.history → P t → P (rows_of n.books.history)
+rows_read P t m n is read h =
+    subst P (read ∙ ap (λ (x : InnerModel). rows_of x.books.history) is) h
+
+pub rising_read : (t : Table) (m n : InnerModel) → m ≡ n → t ≡ rows_of m.books.history
+    → ascending (keys_of t) ≡ true → ascending (keys_of (rows_of n.books.history)) ≡ true
+rising_read = rows_read (λ (t : Table). ascending (keys_of t) ≡ true)
+
 -- ---- 1. places
 
 -- a key below all of the keys is at no place of them
@@ -47,7 +55,7 @@ below_at : (x k : Key) (ks : List Key) (i : ℕ) → below_all x ks ≡ true →
     → same_key x k ≡ false
 below_at x k [] i h at = absurd (cc)
 below_at x k (q ∷ ks) zero h at =
-    subst (λ (y : Key). same_key x y ≡ false) (same_key_at q k at)
+    subst (λ (y : Key). same_key x y ≡ false) (same_Some q k at)
     (below-apart x q (and_parts _ _ h).0)
 below_at x k (q ∷ ks) (suc i) h at = below_at x k ks i (and_parts _ _ h).1 at
 
@@ -64,7 +72,7 @@ pub unnamed_after : (ks : List Key) (i : ℕ) (k : Key) → ascending ks ≡ tru
     → slice_get ks i ≡ Some k → names (drop (suc i) ks) k ≡ false
 unnamed_after [] i k up at = absurd (cc)
 unnamed_after (x ∷ ks) zero k up at =
-    subst (λ (y : Key). names ks y ≡ false) (same_key_at x k at)
+    subst (λ (y : Key). names ks y ≡ false) (same_Some x k at)
     (names-below x ks (and_parts _ _ up).0)
 unnamed_after (x ∷ ks) (suc i) k up at = unnamed_after ks i k (and_parts _ _ up).1 at
 
@@ -80,7 +88,7 @@ named_here named i k at =
 pub named_at : (ks : List Key) (i : ℕ) (k : Key) → slice_get ks i ≡ Some k → names ks k ≡ true
 named_at [] i k h = absurd (cc)
 named_at (x ∷ ks) zero k h =
-    ap (λ b. if b then true else names ks k) (ap (same_key k) (same_key_at x k h) ∙ same_key-refl k)
+    ap (λ b. if b then true else names ks k) (ap (same_key k) (same_Some x k h) ∙ same_key-refl k)
 named_at (x ∷ ks) (suc i) k h =
     ap (λ b. if same_key k x then true else b) (named_at ks i k h)
     ∙ elim (same_key k x) as (λ b. (if b then true else true) ≡ true) [ true ↦ refl | false ↦ refl ]
@@ -105,25 +113,19 @@ idle_row t k h row found =
 pub out_is : (t : Table) (k : Key) (i : ℕ) (x : Key × Row) (at : IsAt t k i)
     → Some x ≡ slice_get t i → is_queued x.1.state ≡ true → OutAt t k i
 out_is t k i x at got out =
-    let same : x ≡ (k, at.row) = pair x (k, at.row) (got ∙ at.at) in
+    let same : x ≡ (k, at.row) = same_Some x (k, at.row) (got ∙ at.at) in
     record {
       row = at.row;
       at = at.at;
       out = sym (ap (λ (y : Key × Row). is_queued y.1.state) same) ∙ out;
     }
-  where
-    pair : (a b : Key × Row) → Some a ≡ Some b → a ≡ b
-    pair a b h = cc
 
 pub out_is_not : (t : Table) (k : Key) (i : ℕ) (x : Key × Row) (at : IsAt t k i)
     → ascending (keys_of t) ≡ true → Some x ≡ slice_get t i → is_queued x.1.state ≡ false
     → is_queued_at t k ≡ false
 out_is_not t k i x at up got idle =
-    let same : x ≡ (k, at.row) = pair x (k, at.row) (got ∙ at.at) in
+    let same : x ≡ (k, at.row) = same_Some x (k, at.row) (got ∙ at.at) in
     is_out_at t k i at.row up at.at ∙ sym (ap (λ (y : Key × Row). is_queued y.1.state) same) ∙ idle
-  where
-    pair : (a b : Key × Row) → Some a ≡ Some b → a ≡ b
-    pair a b h = cc
 
 pub out_none : (t : Table) (k : Key) → row_of t k ≡ None → is_queued_at t k ≡ false
 out_none t k h = ap (λ x. elim x as (λ _. Bool) [ Some r ↦ is_queued r.state | None ↦ false ]) h
@@ -141,7 +143,35 @@ claim_applies t k i b keys up out one q named =
     whole true h = refl
     whole false h = cc
 
--- ---- 3. room
+-- ---- 3. claims that are noted
+
+pos_lost : (b : ℕ) → 1 ≤ b → is_lost b ≡ true
+pos_lost zero h = absurd (omega arith)
+pos_lost (suc b) h = refl
+
+pub lost_at : (t : Table) (k : Key) (i b : ℕ) → ascending (keys_of t) ≡ true → OutAt t k i → 1 ≤ b
+    → (is_queued_at t k && is_lost b) ≡ true
+lost_at t k i b up out pos =
+    ap (λ v. v && is_lost b) (is_out_at t k i out.row up out.at ∙ out.out) ∙ pos_lost b pos
+
+pub noting_one-lost : (h : History) (k : Key) (i b : ℕ) → ascending (keys_of (rows_of h)) ≡ true
+    → OutAt (rows_of h) k i → 1 ≤ b → noting_one h k b ≡ with_entry h (claim_of b k)
+noting_one-lost h k i b up out pos =
+    ap (λ v. if v then with_entry h (claim_of b k) else h) (lost_at (rows_of h) k i b up out pos)
+
+-- the desk was first
+pub noting_one-won : (h : History) (k : Key) → noting_one h k 0 ≡ h
+noting_one-won h k =
+    ap (λ v. if v then with_entry h (claim_of 0 k) else h) (and-false (is_queued_at (rows_of h) k))
+
+pub noting_one-opening : (h : History) (k : Key) (b : ℕ) → (noting_one h k b).opening ≡ h.opening
+noting_one-opening h k b = either (is_queued_at (rows_of h) k && is_lost b)
+  where
+    either : (v : Bool) → (if v then with_entry h (claim_of b k) else h).opening ≡ h.opening
+    either true = refl
+    either false = refl
+
+-- ---- 4. room
 
 pub stays_none : (m : InnerModel) → Stays m m
 stays_none m = record { table = refl; stock = refl; builders = refl; since = refl; watch = refl }
@@ -191,7 +221,8 @@ spent_more keys k a b c apart s t = record {
         → places_in a.room.places q ≤ places_in b.room.places q + (if u then 1 else 0)
         → places_in b.room.places q
         ≤ places_in c.room.places q + (if (if v then true else false) then 1 else 0)
-        → places_in a.room.places q ≤ places_in c.room.places q + (if (if u then true else v) then 1 else 0)
+        → places_in a.room.places q
+        ≤ places_in c.room.places q + (if (if u then true else v) then 1 else 0)
     either q true true u v x y = absurd (one_of q u v)
     either q true false u v x y = omega arith
     either q false true u v x y = omega arith
@@ -208,7 +239,7 @@ room_end named keys a b room s short = record {
     two true x y = omega arith
     two false x y = omega arith
 
--- ---- 4. rows by their numbers
+-- ---- 5. rows by their numbers
 
 some_key : (p : Key × Row) (o : Option (Key × Row)) → o ≡ Some p
     → option_map (λ (q : Key × Row). q.0) o ≡ Some p.0

@@ -7,6 +7,7 @@ use Rattle.std.specs.Ordering.{is_lt}
 use Rattle.std.proofs.lemmas.Bool.{and_parts}
 use Rattle.std.proofs.lemmas.List.{drop_all}
 use Rattle.std.proofs.lemmas.Option.{some_pair_parts}
+use Rattle.std.proofs.Math.Bool.{and-false, and-true}
 use Rattle.td_rows.specs.declared.key.Key.{Key}
 use Rattle.td_rows.specs.declared.row.Row.{Row}
 use Rattle.td_rows.specs.Keys.{key_cmp, same_key, names, below_all, ascending}
@@ -21,14 +22,6 @@ use Rattle.td_book.specs.inner.Tallies.{group_at, AreTallied, AllAre, IsStep, Ma
 use Rattle.td_book.proofs.Steps.{named_at, named_here, unnamed_after}
 
 -- ---- 1. tests that agree
-
-and_true : (b : Bool) → (b && true) ≡ b
-and_true true = refl
-and_true false = refl
-
-and_false : (b : Bool) → (b && false) ≡ false
-and_false true = refl
-and_false false = refl
 
 -- they agree but at a key that is below those of all rows
 tally-past : (test other : Key × Row → Bool) (k : Key) (g : ℕ) (ws : List (Option ℕ)) (t : Table)
@@ -264,7 +257,7 @@ counted-there i p old new ws t at there len each counted = record {
       let one : (if is_of (group_at ws i) g && is_there p then 1 else 0)
       ≡ (if is_of (group_at ws i) g then 1 else 0) =
       ap (λ (b : Bool). if is_of (group_at ws i) g && b then 1 else 0) there
-      ∙ ap (λ (b : Bool). if b then 1 else 0) (and_true (is_of (group_at ws i) g)) in
+      ∙ ap (λ (b : Bool). if b then 1 else 0) (and-true (is_of (group_at ws i) g)) in
       more (slice_index new g) (slice_index old g) (if is_of (group_at ws i) g then 1 else 0)
       (tally is_there g (drop i ws) (drop i t))
       (tally is_there g (drop (i + 1) ws) (drop (i + 1) t)) (tally is_there g ws t)
@@ -279,7 +272,7 @@ counted-idle i p counts ws t at idle counted = record {
   each = λ g lt.
       let none : (if is_of (group_at ws i) g && is_there p then 1 else 0) ≡ 0 =
       ap (λ (b : Bool). if is_of (group_at ws i) g && b then 1 else 0) idle
-      ∙ ap (λ (b : Bool). if b then 1 else 0) (and_false (is_of (group_at ws i) g)) in
+      ∙ ap (λ (b : Bool). if b then 1 else 0) (and-false (is_of (group_at ws i) g)) in
       more (slice_index counts g) (slice_index counts g) 0 (tally is_there g (drop i ws) (drop i t))
       (tally is_there g (drop (i + 1) ws) (drop (i + 1) t)) (tally is_there g ws t)
       (counted.each g lt) (next_row g i p ws t at

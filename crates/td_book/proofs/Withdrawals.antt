@@ -4,6 +4,8 @@ use Rattle.std.proofs.Common.{[], ◌∷◌, ◌++◌, Option, Some, None, IfSom
 use Rattle.std.proofs.Common.{length, take, drop, map, set, slice_get, option_to_list, ap, refl}
 use Rattle.std.proofs.Common.{sym, subst, ◌∙◌, arith}
 use Rattle.std.proofs.lemmas.Bool.{and_parts}
+use Rattle.std.proofs.lemmas.Option.{same_Some}
+use Rattle.std.proofs.Math.Bool.{and-false}
 use Rattle.td_board.specs.declared.views.RowView.{RowView}
 use Rattle.td_board.specs.declared.views.RowView.TheVariants.{In, Out, Known}
 use Rattle.td_rows.specs.declared.key.Key.{Key}
@@ -35,24 +37,41 @@ use Rattle.td_book.specs.Calls.{IsKeyAt, entered, entered_no}
 use Rattle.td_book.specs.Undoing.{Unlost, LostOne}
 use Rattle.td_book.proofs.Seeing.{withdrawn_off, stays_off, claimed_off, offered_off, idle_off}
 use Rattle.td_book.proofs.Seeing.{desks_off}
-use Rattle.td_book.proofs.Steps.{idle_row, is_out_at, longer, named_at, next, rows_with}
-use Rattle.td_book.proofs.Steps.{same_key_at, spent_more, spent_none, stays_more, stays_none}
+use Rattle.td_book.proofs.Steps.{idle_row, longer, lost_at, named_at, next, noting_one-lost}
+use Rattle.td_book.proofs.Steps.{noting_one-won, rows_with, spent_more, spent_none, stays_more}
+use Rattle.td_book.proofs.Steps.{stays_none}
 use Rattle.td_book.proofs.Steps.{unnamed_after, unnamed_before}
 
 -- ---- 1. withdrawals
-
-and_false : (a : Bool) → (a && false) ≡ false
-and_false true = refl
-and_false false = refl
-
-pos_lost : (b : ℕ) → 1 ≤ b → is_lost b ≡ true
-pos_lost zero h = absurd (omega arith)
-pos_lost (suc b) h = refl
 
 -- what the desk knows, of one named key more
 next_off : (named : List Key) (i : ℕ) (k : Key) (t : Table) → slice_get named i ≡ Some k
     → seen_off (take i named ++ k ∷ []) t ≡ seen_off (take (i + 1) named) t
 next_off named i k t at = ap (λ (ks : List Key). seen_off ks t) (sym (take-next named i k at))
+
+-- a withdrawal that isn't lost: what is kept stays
+unlost_step : (named : List Key) (i : ℕ) (k : Key) (old new : InnerModel) (answer : Option ℕ)
+    → slice_get named i ≡ Some k → new.books ≡ old.books → answer ≡ None
+    → new.view ≡ seen_off (take i named ++ k ∷ []) (rows_of old.books.history) → Stays old new
+    → WithdrewAt named i old new answer
+unlost_step named i k old new answer at same none view stays =
+    let t = rows_of old.books.history in
+    let hist : new.books.history ≡ old.books.history = ap (λ (b : WatchedView). b.history) same in
+    record {
+      key = k;
+      at = at;
+      by = 0;
+      some_builder = omega arith;
+      answers = none ∙ sym
+          (ap (λ b. if b then Some (length old.books.history.journal + 1) else None)
+          (and-false (is_queued_at t k)));
+      history = hist ∙ sym (noting_one-won old.books.history k);
+      view = view ∙ next_off named i k t at
+          ∙ ap (λ (h : History). seen_off (take (i + 1) named) (rows_of h)) (sym hist);
+      stays = stays;
+      spent = subst (Spent (k ∷ []) old.books) (sym same) (spent_none (k ∷ []) old.books);
+      kept = λ _. same;
+    }
 
 -- a withdrawal is won
 pub won_step : (named : List Key) (i n : ℕ) (k : Key) (old new : InnerModel) (answer : Option ℕ)
@@ -61,30 +80,11 @@ pub won_step : (named : List Key) (i n : ℕ) (k : Key) (old new : InnerModel) (
     → OutAt (rows_of old.books.history) k n → new ≡ (record old { view = set old.view n In })
     → answer ≡ None → WithdrewAt named i old new answer
 won_step named i n k old new answer at view up out is none =
-    let t = rows_of old.books.history in
-    let same : new.books ≡ old.books = ap (λ (m : InnerModel). m.books) is in
-    let hist : new.books.history ≡ old.books.history = ap (λ (b : WatchedView). b.history) same in
-    let zero_lost = and_false (is_queued_at t k) in
-    record {
-      key = k;
-      at = at;
-      by = 0;
-      some_builder = omega arith;
-      answers = none ∙ sym
-          (ap (λ b. if b then Some (length old.books.history.journal + 1) else None) zero_lost);
-      history = hist ∙ sym (ap
-          (λ b. if b then with_entry old.books.history (claim_of 0 k) else old.books.history)
-          zero_lost);
-      view =
-          ap (λ (m : InnerModel). m.view) is ∙ ap (λ (v : List RowView). set v n In) view
-          ∙ withdrawn_off (take i named) t n k out.row up out.at out.out
-          ∙ next_off named i k t at
-          ∙ ap (λ (h : History). seen_off (take (i + 1) named) (rows_of h)) (sym hist);
-      stays = subst (Stays old) (sym is)
-          (record { table = refl; stock = refl; builders = refl; since = refl; watch = refl });
-      spent = subst (Spent (k ∷ []) old.books) (sym same) (spent_none (k ∷ []) old.books);
-      kept = λ _. same;
-    }
+    unlost_step named i k old new answer at (ap (λ (m : InnerModel). m.books) is) none
+    (ap (λ (m : InnerModel). m.view) is ∙ ap (λ (v : List RowView). set v n In) view
+    ∙ withdrawn_off (take i named) (rows_of old.books.history) n k out.row up out.at out.out)
+    (subst (Stays old) (sym is)
+    (record { table = refl; stock = refl; builders = refl; since = refl; watch = refl }))
 
 -- a row that is not out is left
 pub idle_step : (named : List Key) (i : ℕ) (k : Key) (old new : InnerModel) (answer : Option ℕ)
@@ -94,28 +94,10 @@ pub idle_step : (named : List Key) (i : ℕ) (k : Key) (old new : InnerModel) (a
     → WithdrewAt named i old new answer
 idle_step named i k old new answer at view up idle is none =
     let t = rows_of old.books.history in
-    let same : new.books ≡ old.books = ap (λ (m : InnerModel). m.books) is in
-    let hist : new.books.history ≡ old.books.history = ap (λ (b : WatchedView). b.history) same in
-    let zero_lost = and_false (is_queued_at t k) in
-    record {
-      key = k;
-      at = at;
-      by = 0;
-      some_builder = omega arith;
-      answers = none ∙ sym
-          (ap (λ b. if b then Some (length old.books.history.journal + 1) else None) zero_lost);
-      history = hist ∙ sym (ap
-          (λ b. if b then with_entry old.books.history (claim_of 0 k) else old.books.history)
-          zero_lost);
-      view =
-          ap (λ (m : InnerModel). m.view) is ∙ view
-          ∙ stays_off (take i named) t k up (idle_row t k idle)
-          ∙ next_off named i k t at
-          ∙ ap (λ (h : History). seen_off (take (i + 1) named) (rows_of h)) (sym hist);
-      stays = subst (Stays old) (sym is) (stays_none old);
-      spent = subst (Spent (k ∷ []) old.books) (sym same) (spent_none (k ∷ []) old.books);
-      kept = λ _. same;
-    }
+    unlost_step named i k old new answer at (ap (λ (m : InnerModel). m.books) is) none
+    (ap (λ (m : InnerModel). m.view) is ∙ view
+    ∙ stays_off (take i named) t k up (idle_row t k idle))
+    (subst (Stays old) (sym is) (stays_none old))
 
 some_not : (o : Option ℕ) (n : ℕ) → o ≡ Some n → o ≡ None → ⊥
 some_not o n some none = absurd (let e : None ≡ Some n = sym none ∙ some in cc)
@@ -132,18 +114,15 @@ lost_step named i n k old new answer at view up out lost told =
     let same : new.books.history ≡ with_entry old.books.history (claim_of b k) = lost.1.history in
     let rows : rows_of new.books.history ≡ applied (Claim b) (k ∷ []) t =
     ap rows_of same ∙ rows_with old.books.history (claim_of b k) in
-    let is : (is_queued_at t k && is_lost b) ≡ true =
-    ap (λ v. v && is_lost b) (is_out_at t k n out.row up out.at ∙ out.out)
-    ∙ pos_lost b lost.1.one in
     record {
       key = k;
       at = at;
       by = b;
       some_builder = lost.1.some_builder;
       answers =
-          told ∙ sym (ap (λ v. if v then Some (length old.books.history.journal + 1) else None) is);
-      history = same ∙ sym (ap
-          (λ v. if v then with_entry old.books.history (claim_of b k) else old.books.history) is);
+          told ∙ sym (ap (λ v. if v then Some (length old.books.history.journal + 1) else None)
+          (lost_at t k n b up out lost.1.one));
+      history = same ∙ sym (noting_one-lost old.books.history k n b up out lost.1.one);
       view =
           lost.1.view ∙ ap (λ (v : List RowView). set v n (Known b)) view
           ∙ claimed_off (take i named) t n k out.row b up out.at
@@ -306,7 +285,7 @@ pass_step named i k old new at up view idle is =
 pub same_claim : (named : List Key) (i : ℕ) (k : Key) (claim : List Key)
     → slice_get named i ≡ Some k → IsKeyAt named i claim → claim ≡ k ∷ []
 same_claim named i k claim at one =
-    one.2 ∙ ap (λ (x : Key). x ∷ []) (same_key_at one.0 k (sym one.1 ∙ at))
+    one.2 ∙ ap (λ (x : Key). x ∷ []) (same_Some one.0 k (sym one.1 ∙ at))
 
 abbrev pub ones : List Key → List (List Key)
 ones ks = map (λ key. key ∷ []) ks
@@ -417,7 +396,7 @@ pub undone_off : (h now : History) (n : ℕ) (off : List Key) (m : Marked) → C
     → seen_off off (rows_of h) ≡ seen_off off (rows_of now)
 undone_off h now n off m c free lawful up there within is =
     let back = undo_has_an_inverse h n c free lawful in
-    let same : m ≡ c.marked = one m c.marked (sym there ∙ c.there) in
+    let same : m ≡ c.marked = same_Some m c.marked (sym there ∙ c.there) in
     let e = c.marked.entry in
     let within' : (cells e.kind).state ≡ true → (k : Key) → names e.keys k ≡ true
     → names off k ≡ true =
@@ -429,6 +408,3 @@ undone_off h now n off m c free lawful up there within is =
     (ap ascending (keys_of-rows_of (without_entry h n)) ∙ up) (commands_desks e.kind c.command)
     back.applies within'
     ∙ ap (λ (x : History). seen_off off (rows_of x)) (sym is)
-  where
-    one : (a b : Marked) → Some a ≡ Some b → a ≡ b
-    one a b e = cc

@@ -1,24 +1,22 @@
 -- `Book::enter`: what it answers and the calls of `commit-entry` and `offer_each`.
-use Rattle.std.proofs.Common.{◌≡◌, List, [], sym, ap, subst, ◌∙◌}
+use Rattle.std.proofs.Common.{◌≡◌, List, [], ap, subst, ◌∙◌}
 use Rattle.td_rows.specs.declared.key.Key.{Key}
 use Rattle.td_core.specs.History.{rows_of}
 use Rattle.td_book.specs.Seen.{seen_off}
 use Rattle.td_book.specs.Desk.{BookModel, book_of}
-use Rattle.td_book.specs.Calls.{Withdrew, IsPlan, IsCommanded, off_for, taken_of}
+use Rattle.td_book.specs.Calls.{Withdrew, IsCommanded, off_for, taken_of}
 use Rattle.td_book.specs.declared.book.Book.TheInside.{Inside}
 use Rattle.td_book.specs.Skips.{left_of}
 use Rattle.td_book.proofs.Steps.{room_end}
 use Rattle.td_book.proofs.Calls.{keys_same, is_plan_of, plan_room, plan_off, off_short_is}
-use Rattle.td_book.proofs.Calls.{commanded}
+use Rattle.td_book.proofs.Calls.{commanded, plan_inside}
 use Rattle.td_book.proofs.book.Book.enter.Goals as goal
 
 pub commit-entry-requires-clause-plan : goal.commit-entry-requires-clause-plan
 commit-entry-requires-clause-plan c =
     let h = c.self.inside.inner.books.history in
-    let planned : IsPlan c.args.kind c.args.matched.items (rows_of h) c.in-Ok.plan =
-    subst (λ (m : BookModel).
-    IsPlan c.args.kind c.args.matched.items (rows_of m.history) c.in-Ok.plan)
-    (sym c.self.view_is) c.in-Ok.ensures in
+    let planned = plan_inside c.args.kind c.args.matched.items c.in-Ok.plan _ _
+    c.self.view_is c.in-Ok.ensures in
     is_plan_of c.args.kind c.args.matched.items (rows_of h)
     (rows_of c.withdraw_each.new.self.books.history) c.in-Ok.plan planned
     (keys_same c.off_for-off.result.now h c.claims.new.self c.withdraw_each.new.self
@@ -27,10 +25,8 @@ commit-entry-requires-clause-plan c =
 pub commit-entry-requires-clause-room : goal.commit-entry-requires-clause-room
 commit-entry-requires-clause-room c =
     let h = c.self.inside.inner.books.history in
-    let planned : IsPlan c.args.kind c.args.matched.items (rows_of h) c.in-Ok.plan =
-    subst (λ (m : BookModel).
-    IsPlan c.args.kind c.args.matched.items (rows_of m.history) c.in-Ok.plan)
-    (sym c.self.view_is) c.in-Ok.ensures in
+    let planned = plan_inside c.args.kind c.args.matched.items c.in-Ok.plan _ _
+    c.self.view_is c.in-Ok.ensures in
     plan_room c.args.kind c.args.named.now c.args.matched.items (rows_of h) c.in-Ok.plan
     c.withdraw_each.new.self.books planned c.requires.among
     (room_end c.args.named.now c.off_for-off.result.now c.claims.new.self.books
@@ -40,10 +36,8 @@ commit-entry-requires-clause-room c =
 pub offer_each-requires-clause-held : goal.offer_each-requires-clause-held
 offer_each-requires-clause-held c =
     let h = c.self.inside.inner.books.history in
-    let planned : IsPlan c.args.kind c.args.matched.items (rows_of h) c.in-Ok.plan =
-    subst (λ (m : BookModel).
-    IsPlan c.args.kind c.args.matched.items (rows_of m.history) c.in-Ok.plan)
-    (sym c.self.view_is) c.in-Ok.ensures in
+    let planned = plan_inside c.args.kind c.args.matched.items c.in-Ok.plan _ _
+    c.self.view_is c.in-Ok.ensures in
     c.commit-entry.ensures.view c.off_for-off.result.now
     (plan_off c.args.kind c.args.named.now c.args.matched.items c.off_for-off.result.now
     (rows_of h) c.in-Ok.plan planned c.requires.among c.off_for-off.ensures)
@@ -55,10 +49,8 @@ returns c =
     let w = c.withdraw_each.new.self in
     let d = c.commit-entry.new.self in
     let e = c.offer_each.new.self in
-    let planned : IsPlan c.args.kind c.args.matched.items (rows_of a.books.history)
-    c.in-Ok.plan =
-    subst (λ (m : BookModel). IsPlan c.args.kind c.args.matched.items
-    (rows_of m.history) c.in-Ok.plan) (sym c.self.view_is) c.in-Ok.ensures in
+    let planned = plan_inside c.args.kind c.args.matched.items c.in-Ok.plan _ _
+    c.self.view_is c.in-Ok.ensures in
     let done : Withdrew (off_for c.args.kind c.args.named.now) c.claims.new.self w =
     subst (λ (ks : List Key). Withdrew ks c.claims.new.self w) c.off_for-off.ensures
     c.withdraw_each.ensures in

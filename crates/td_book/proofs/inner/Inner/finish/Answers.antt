@@ -1,6 +1,7 @@
 -- `Inner::finish`: the clauses `none` and `some` and the calls of `know` and `close`.
-use Rattle.std.proofs.Common.{◌≡◌, ℕ, ◌∷◌, List, [], Some, Bool, IfSome, slice_get, ap, refl, sym}
-use Rattle.std.proofs.Common.{subst, ◌∙◌, arith, rules, inl}
+use Rattle.std.proofs.Common.{◌≡◌, ℕ, ◌∷◌, List, [], Some, true, IfSome, slice_get, ap, refl, sym}
+use Rattle.std.proofs.Common.{subst, ◌∙◌, arith, rules}
+use Rattle.std.proofs.lemmas.Option.{same_Some}
 use Rattle.td_rows.specs.declared.key.Key.{Key}
 use Rattle.td_board.specs.Knowledge.{with_finish}
 use Rattle.td_rows.specs.declared.kind.Kind.{Kind}
@@ -8,10 +9,10 @@ use Rattle.td_rows.specs.declared.kind.Kind.TheVariants.{Outcome as Ended}
 use Rattle.td_change.proofs.Plans.{plan_of-same_keys}
 use Rattle.td_core.specs.History.{rows_of, with_entry}
 use Rattle.td_book.specs.Desk.{HasRoom, HasOne, Spent}
-use Rattle.td_book.specs.Building.{head_key, ended_in, is_built_at, Knows}
-use Rattle.td_book.proofs.Ends.{ended_some, ended_none}
+use Rattle.td_book.specs.Building.{head_key, ended_in, is_built_at}
+use Rattle.td_book.proofs.Ends.{ended_some, ended_none, unended_kept}
 use Rattle.td_book.proofs.Steps.{room_end}
-use Rattle.td_book.proofs.Builds.{at_key_of, one_of_room, noted_keys}
+use Rattle.td_book.proofs.Builds.{at_key_of, knows_head, one_of_room, noted_keys}
 use Rattle.td_book.proofs.inner.Inner.finish.Goals as goal
 
 pub know-requires : goal.know-requires
@@ -65,12 +66,9 @@ close-requires-clause-built c = λ k there.
     let one : Some k ≡ Some e.key =
     sym there ∙ ap (λ (ks : List Key). slice_get ks i) (sym keys) ∙ e.at in
     let same : k ≡ head_key c.args.ending.claim =
-    same_key_of k e.key one ∙ sym (ap head_key c.requires.ending.claim) in
+    same_Some k e.key one ∙ sym (ap head_key c.requires.ending.claim) in
     ap (λ (q : Key). is_built_at (rows_of mid.history) q c.number-number.result) same
     ∙ sym c.know.ensures.answers ∙ c.if-not-know.false
-  where
-    same_key_of : (a b : Key) → Some a ≡ Some b → a ≡ b
-    same_key_of a b e = cc
 
 pub close-requires-clause-room : goal.close-requires-clause-room
 close-requires-clause-room c =
@@ -85,33 +83,17 @@ close-requires-clause-room c =
 
 pub returns-then-not-know-clause-none : goal.returns-then-not-know-clause-none
 returns-then-not-know-clause-none c =
-    let e = c.requires.ending.closing in
-    let same : head_key c.args.ending.claim ≡ e.key = ap head_key c.requires.ending.claim in
-    record {
-      key = e.key;
-      at = e.at;
-      is = c.know.result;
-      knows = subst (λ (k : Key).
-          Knows c.args.seat.now.builder.number k c.know.result c.args.self.now c.know.new.self) same
-          (subst (λ (x : ℕ). Knows x (head_key c.args.ending.claim) c.know.result c.args.self.now
-          c.know.new.self) c.number-number.ensures.number c.know.ensures);
-      hand = inl refl;
-    }
+    let v = c.args.seat.now.builder in
+    unended_kept c.args.row v.number _ (ended_in c.args.ending.plan.kind) v v c.args.self.now
+    c.know.new.self c.args.ending c.know.result c.requires.ending c.number-number.ensures.number
+    c.know.ensures refl
 
 pub returns-then-not-finish-clause-none : goal.returns-then-not-finish-clause-none
 returns-then-not-finish-clause-none c =
-    let e = c.requires.ending.closing in
-    let same : head_key c.args.ending.claim ≡ e.key = ap head_key c.requires.ending.claim in
-    record {
-      key = e.key;
-      at = e.at;
-      is = c.know.result;
-      knows = subst (λ (k : Key).
-          Knows c.args.seat.now.builder.number k c.know.result c.args.self.now c.know.new.self) same
-          (subst (λ (x : ℕ). Knows x (head_key c.args.ending.claim) c.know.result c.args.self.now
-          c.know.new.self) c.number-number.ensures.number c.know.ensures);
-      hand = inl (search rules);
-    }
+    let v = c.args.seat.now.builder in
+    unended_kept c.args.row v.number _ (ended_in c.args.ending.plan.kind) v
+    c.finish.new.seat.builder c.args.self.now c.know.new.self c.args.ending c.know.result
+    c.requires.ending c.number-number.ensures.number c.know.ensures (search rules)
 
 pub returns-clause-some : goal.returns-clause-some
 returns-clause-some c =
@@ -122,11 +104,8 @@ returns-clause-some c =
     let v = c.args.seat.now.builder in
     let i = c.args.row in
     let kind = c.args.ending.plan.kind in
-    let same : head_key c.args.ending.claim ≡ e.key = ap head_key c.requires.ending.claim in
-    let knows : Knows v.number e.key c.know.result a m =
-    subst (λ (k : Key). Knows v.number k c.know.result a m) same
-    (subst (λ (x : ℕ). Knows x (head_key c.args.ending.claim) c.know.result a m)
-    c.number-number.ensures.number c.know.ensures) in
+    let knows = knows_head c.args.ending.claim e.key _ v.number c.know.result true a m
+    c.requires.ending.claim c.number-number.ensures.number c.if-not-know.false c.know.ensures in
     let hand : c.finish.new.seat.builder ≡ with_finish i c.args.code v = search rules in
     let history = subst (λ (k : Kind).
     IfSome c.close.result (λ n.
@@ -135,8 +114,7 @@ returns-clause-some c =
     IfSome c.close.result (λ n.
     z.books.history ≡ with_entry m.books.history (record { kind = kind; keys = ks })))
     (c.as_slice.ensures.keys ∙ e.offered_is) c.close.ensures.history) in
-    ended_some i (ended_in kind) v c.finish.new.seat.builder a m z e.key c.close.result e.at
-    (subst (λ (x : Bool). Knows v.number e.key x a m) c.if-not-know.false knows)
+    ended_some i (ended_in kind) v c.finish.new.seat.builder a m z e.key c.close.result e.at knows
     (hand ∙ ap (λ x. with_finish i x v) c.requires.code) c.close.ensures.number history
 
 pub returns-clause-none : goal.returns-clause-none
@@ -146,13 +124,9 @@ returns-clause-none c =
     let m = c.know.new.self in
     let v = c.args.seat.now.builder in
     let i = c.args.row in
-    let same : head_key c.args.ending.claim ≡ e.key = ap head_key c.requires.ending.claim in
-    let knows : Knows v.number e.key c.know.result a m =
-    subst (λ (k : Key). Knows v.number k c.know.result a m) same
-    (subst (λ (x : ℕ). Knows x (head_key c.args.ending.claim) c.know.result a m)
-    c.number-number.ensures.number c.know.ensures) in
+    let knows = knows_head c.args.ending.claim e.key _ v.number c.know.result true a m
+    c.requires.ending.claim c.number-number.ensures.number c.if-not-know.false c.know.ensures in
     let hand : c.finish.new.seat.builder ≡ with_finish i c.args.code v = search rules in
     ended_none i (ended_in c.args.ending.plan.kind) v c.finish.new.seat.builder a m c.close.new.self
-    e.key c.close.result e.at
-    (subst (λ (x : Bool). Knows v.number e.key x a m) c.if-not-know.false knows)
-    (hand ∙ ap (λ x. with_finish i x v) c.requires.code) c.close.ensures.none
+    e.key c.close.result e.at knows (hand ∙ ap (λ x. with_finish i x v) c.requires.code)
+    c.close.ensures.none

@@ -1,20 +1,17 @@
 -- `Offers::offer`: the row goes to the end of the list.
-use Rattle.std.proofs.Common.{arith, ◌≡◌, ◌<◌, ℕ, List, length, ap, sym, subst}
+use Rattle.std.proofs.Common.{arith, ◌≡◌, ◌<◌, ℕ, List, length, ap}
 use mathlib.Core.Option.{some}
 use lib.ListN.{get_elem?, set}
 use Rattle.td_board.specs.declared.views.RowView.TheVariants.{In}
 use Rattle.td_board.specs.Seats.{DeskModel}
-use Rattle.td_board.proofs.Lists.{at_less}
-use Rattle.td_book.proofs.OutRows.{row_seen, listed_as, listed-offered, listed-room}
+use Rattle.td_book.proofs.OutRows.{row_seen, listed_as, listed-offered, listed-room, listed-within}
 use Rattle.td_book.proofs.offers.Offers.offer.Goals as goal
 
 pub index_mut-requires : goal.index_mut-requires
 index_mut-requires c =
-    let rows = c.self.inside.seat.desk.rows in
-    let known : get_elem? rows c.args.row ≡ some In =
-    row_seen _ _ _ _ c.self.view_is c.requires.row in
     let within : c.args.row < length c.self.inside.places.items =
-    subst (λ n. c.args.row < n) (sym c.self.invariant.long) (at_less rows c.args.row In known) in
+    listed-within _ _ _ _ c.args.row In c.self.invariant
+    (row_seen _ _ _ _ c.self.view_is c.requires.row) in
     omega (arith, c.self.inside.places.ok)
 
 pub push_reserved-requires : goal.push_reserved-requires

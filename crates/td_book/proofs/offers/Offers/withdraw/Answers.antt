@@ -1,45 +1,39 @@
 -- `Offers::withdraw`: the last of the list takes the row's place.
-use Rattle.std.proofs.Common.{arith, ◌≡◌, ◌<◌, ◌-◌, ◌+◌, ℕ, List, length, ap, sym, subst, refl, ◌∙◌}
+use Rattle.std.proofs.Common.{arith, ◌≡◌, ◌<◌, ◌-◌, ◌+◌, ℕ, List, length, ap, sym, refl, ◌∙◌}
 use mathlib.Core.Option.{some}
 use lib.ListN.{get_elem?, get_or, set}
 use Rattle.std.specs.Prelude.{slice_index}
 use Rattle.std.specs.List.{swap_remove}
 use Rattle.std.proofs.lemmas.List.{get_or_default}
 use Rattle.td_board.specs.declared.views.RowView.TheVariants.{Out}
-use Rattle.td_board.proofs.Lists.{at_less}
 use Rattle.td_book.proofs.OutRows.{row_seen, listed_as, listed-below, listed-place, listed-taken}
-use Rattle.td_book.proofs.OutRows.{withdrawn_rows}
+use Rattle.td_book.proofs.OutRows.{listed-within, withdrawn_rows}
 use Rattle.td_book.proofs.offers.Offers.withdraw.Goals as goal
 
 pub index-place-requires : goal.index-place-requires
 index-place-requires c =
-    let rows = c.self.inside.seat.desk.rows in
-    let known : get_elem? rows c.args.row ≡ some Out =
-    row_seen _ _ _ _ c.self.view_is c.requires.row in
     let within : c.args.row < length c.self.inside.places.items =
-    subst (λ n. c.args.row < n) (sym c.self.invariant.long) (at_less rows c.args.row Out known) in
+    listed-within _ _ _ _ c.args.row Out c.self.invariant
+    (row_seen _ _ _ _ c.self.view_is c.requires.row) in
     omega (arith, c.self.inside.places.ok)
 
 pub overflow_sub-len : goal.overflow_sub-len
 overflow_sub-len c =
-    let known : get_elem? c.self.inside.seat.desk.rows c.args.row ≡ some Out =
-    row_seen _ _ _ _ c.self.view_is c.requires.row in
-    let at = listed-place _ _ _ _ c.args.row c.self.invariant known in
+    let at = listed-place _ _ _ _ c.args.row c.self.invariant
+    (row_seen _ _ _ _ c.self.view_is c.requires.row) in
     omega (arith, at.0, c.len.ensures, c.self.inside.outs.ok)
 
 pub index-last-requires : goal.index-last-requires
 index-last-requires c =
-    let known : get_elem? c.self.inside.seat.desk.rows c.args.row ≡ some Out =
-    row_seen _ _ _ _ c.self.view_is c.requires.row in
-    let at = listed-place _ _ _ _ c.args.row c.self.invariant known in
+    let at = listed-place _ _ _ _ c.args.row c.self.invariant
+    (row_seen _ _ _ _ c.self.view_is c.requires.row) in
     omega (arith, at.0, c.len.ensures, c.self.inside.outs.ok)
 
 pub index_mut-requires : goal.index_mut-requires
 index_mut-requires c =
     let outs : List ℕ = c.self.inside.outs.items in
-    let known : get_elem? c.self.inside.seat.desk.rows c.args.row ≡ some Out =
-    row_seen _ _ _ _ c.self.view_is c.requires.row in
-    let at = listed-place _ _ _ _ c.args.row c.self.invariant known in
+    let at = listed-place _ _ _ _ c.args.row c.self.invariant
+    (row_seen _ _ _ _ c.self.view_is c.requires.row) in
     let many : c.len.result ≡ length outs = omega (arith, c.len.ensures, c.self.inside.outs.ok) in
     let end : c.len.result - 1 < length outs = omega (arith, at.0) in
     let last : c.index-last.result.now ≡ slice_index outs (c.len.result - 1) =
@@ -57,8 +51,7 @@ swap_remove-requires c =
     row_seen _ _ _ _ c.self.view_is c.requires.row in
     let at = listed-place _ _ _ _ c.args.row c.self.invariant known in
     let within : c.args.row < length places =
-    subst (λ n. c.args.row < n) (sym c.self.invariant.long)
-    (at_less c.self.inside.seat.desk.rows c.args.row Out known) in
+    listed-within _ _ _ _ c.args.row Out c.self.invariant known in
     let place : c.index-place.result.now ≡ slice_index places c.args.row =
     c.index-place.ensures ∙ get_or_default places c.args.row c.index-place.result.now 0 within in
     omega (arith, at.0, c.self.inside.outs.ok)
@@ -77,8 +70,7 @@ invariant_of-self c =
     let at = listed-place _ _ _ _ row c.self.invariant known in
     let long : c.len.result ≡ length outs = c.len.ensures ∙ c.self.inside.outs.ok.0 in
     let end : length outs - 1 < length outs = omega (arith, at.0) in
-    let within : row < length places =
-    subst (λ n. row < n) (sym c.self.invariant.long) (at_less rows row Out known) in
+    let within : row < length places = listed-within _ _ _ _ row Out c.self.invariant known in
     let place : c.index-place.result.now ≡ slice_index places row =
     c.index-place.ensures ∙ get_or_default places row c.index-place.result.now 0 within in
     let last : c.index-last.result.now ≡ slice_index outs (length outs - 1) =
