@@ -1,7 +1,7 @@
 -- The lines that say how builds end: `KEY WORD`, and ` : TEXT` behind the word `waits`. This
 -- project's own.
-use Rattle.std.specs.Prelude.{◌≡◌, ◌≢◌, ℕ, ◌+◌, List, ◌∷◌, ◌++◌, map, length}
-use Rattle.std.specs.List.{AllByRecursion}
+use Rattle.std.specs.Prelude.{ℕ, List, ◌∷◌, ◌++◌}
+use Rattle.td_text.specs.Spelled.{AreSpelled, IsFirstOther}
 use Rattle.td_rows.specs.declared.key.Key.{Key}
 use Rattle.td_rows.specs.declared.outcome.Outcome.{Outcome}
 use Rattle.td_rows.specs.KeyText.{key_text, KeyFits}
@@ -18,19 +18,12 @@ abbrev pub OutcomeFits : Key × Outcome → Type 0
 OutcomeFits p = KeyFits p.0
 
 -- the lines are those of these ends, in this order
-pub record AreOutcomes (lines : List (List ℕ)) (os : List (Key × Outcome)) : Type 0 where
-  pub spelled : lines ≡ map outcome_line os
-  pub fits : AllByRecursion OutcomeFits os
+abbrev pub AreOutcomes : List (List ℕ) → List (Key × Outcome) → Type 0
+AreOutcomes lines os = AreSpelled outcome_line OutcomeFits lines os
 
 -- the first of the lines that isn't one of a build's end; the lines count from 1
-pub record IsFirstBad (lines : List (List ℕ)) (number : ℕ) : Type 0 where
-  pub before : List (Key × Outcome)
-  pub line : List ℕ
-  pub after : List (List ℕ)
-  pub parts : lines ≡ map outcome_line before ++ line ∷ after
-  pub fits : AllByRecursion OutcomeFits before
-  pub other : (p : Key × Outcome) → OutcomeFits p → line ≢ outcome_line p
-  pub counted : number ≡ 1 + length before
+abbrev pub IsFirstBad : List (List ℕ) → ℕ → Type 0
+IsFirstBad lines number = IsFirstOther outcome_line OutcomeFits 1 lines number
 
 -- a fault is that of the first faulty line; want of memory may stand in place of any answer
 abbrev pub FaultOf : List (List ℕ) → OutcomesFault → Type 0

@@ -1,6 +1,5 @@
 -- What the proofs of this crate share: a file a thing.
 pub mod StepWords
 pub mod StepTexts
-pub mod StepLists
 pub mod TextParts
 pub mod Simulations

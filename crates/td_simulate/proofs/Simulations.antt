@@ -3,6 +3,7 @@ use Rattle.std.proofs.Common.{◌≡◌, ◌<◌, ℕ, List, [], ◌∷◌, ◌+
 use Rattle.std.proofs.Common.{arith}
 use Rattle.td_text.specs.Lines.{lines_of, ended}
 use Rattle.td_text.proofs.Ended.{ended-none}
+use Rattle.td_text.proofs.SpelledLines.{AreSpelled-other}
 use Rattle.td_rows.specs.Table.{Table}
 use Rattle.td_rows.specs.declared.state_file.StateFault.{StateFault}
 use Rattle.td_rows.specs.declared.state_file.StateFault.TheVariants as state
@@ -14,8 +15,7 @@ use Rattle.td_simulate.specs.Faults.{of_opening}
 use Rattle.td_simulate.specs.SimulationText.{opening_text, lines_after, number_after}
 use Rattle.td_simulate.specs.SimulationText.{AreSteps, IsSimulation, IsFirstBad, StepsFault}
 use Rattle.td_simulate.specs.SimulationText.{FaultOf}
-use Rattle.td_simulate.specs.StepLines.{step_line}
-use Rattle.td_simulate.proofs.StepLists.{AreSteps-bad}
+use Rattle.td_simulate.specs.StepLines.{StepFits, step_line}
 
 -- a fault of the opening rows
 pub opening_fault : (text opening : List ℕ) (e : StateFault) → opening
@@ -72,5 +72,6 @@ steps_fault text opening rest t first NoMemory is_opening is_rest is_first file 
 pub no_fault : (first : ℕ) (lines : List (List ℕ)) (ss : List Step) (e : SimulationFault)
     → AreSteps lines ss → StepsFault first lines e → e ≡ NoMemory
 no_fault first lines ss (Opening e) h fault = absurd fault
-no_fault first lines ss (BadStep n) h fault = absurd (AreSteps-bad first n lines ss h fault)
+no_fault first lines ss (BadStep n) h fault =
+    absurd (AreSpelled-other step_line StepFits first n lines ss h fault)
 no_fault first lines ss NoMemory h fault = refl

@@ -1,16 +1,12 @@
 -- No newline stands in the texts of a step that is read from a line.
-use Rattle.std.proofs.Common.{◌≡◌, ℕ, false, List, ◌∷◌, ◌++◌, Some, refl, subst}
+use Rattle.std.proofs.Common.{◌≡◌, ℕ, false, List, ◌∷◌, ◌++◌, Some, subst}
 use Rattle.std.specs.Prelude.{decimal}
-use Rattle.td_text.specs.Cut.{Without, part}
-use Rattle.td_text.proofs.Cut.{Without-right, part_joined}
-use Rattle.td_text.proofs.Words.{Without-name, Without-arch}
-use Rattle.td_rows.specs.declared.key.Key.{Key}
-use Rattle.td_rows.specs.KeyText.{key_at}
+use Rattle.td_text.specs.Cut.{Without}
+use Rattle.td_text.proofs.Cut.{Without-right}
 use Rattle.td_rows.specs.Notes.{notes_at}
 use Rattle.td_rows.specs.Text.{has_newline}
-use Rattle.td_rows.proofs.KeyTexts.{key_exact}
 use Rattle.td_rows.proofs.NoteTexts.{notes_exact}
-use Rattle.td_rows.proofs.NoteLines.{has_newline-Without, notes_lack}
+use Rattle.td_rows.proofs.NoteLines.{notes_lack}
 use Rattle.td_journal.specs.EntryReading.{keys_at}
 use Rattle.td_journal.specs.JournalText.{spaced_keys}
 use Rattle.td_journal.proofs.KeyWords.{keys_found}

@@ -1,16 +1,15 @@
 -- The line of a step is read exactly.
-use Rattle.std.proofs.Common.{◌≡◌, ℕ, suc, ◌<◌, ◌≤◌, ◌^◌, ◌-◌, ◌&&◌, ◌==◌, true, cond, eqb, false}
-use Rattle.std.proofs.Common.{List, [], ◌∷◌, ◌++◌, length, Option, Some, None, refl, sym, ap, subst}
+use Rattle.std.proofs.Common.{◌≡◌, ℕ, ◌<◌, ◌≤◌, ◌^◌, ◌-◌, ◌==◌, true, cond, eqb, false}
+use Rattle.std.proofs.Common.{List, ◌∷◌, ◌++◌, length, Option, Some, None, refl, sym, ap, subst}
 use Rattle.std.proofs.Common.{◌∙◌, arith, lit<}
 use Rattle.std.specs.Prelude.{codes, decimal}
 use Rattle.std.specs.Str.{bytes_eq}
-use Rattle.std.proofs.lemmas.Bool.{eqb-true, and_parts}
 use Rattle.std.proofs.lemmas.Bool.Decides.{nat_tests}
 use Rattle.td_text.specs.Chain.{◌>>=◌}
 use Rattle.td_text.specs.Cut.{Without, cut, part, strip}
 use Rattle.td_text.specs.Numbers.{number_at}
 use Rattle.td_text.proofs.Chain.{chained, some_is, when_some, when_none, or_word}
-use Rattle.td_text.proofs.Cut.{cut-at, lacks, Begins, part_again, part_joined, word_found}
+use Rattle.td_text.proofs.Cut.{cut-at, lacks, part_again, part_joined, word_found}
 use Rattle.td_text.proofs.Numbers.{number_exact, Without-decimal}
 use Rattle.td_text.proofs.Prefix.{strip_found}
 use Rattle.td_rows.specs.declared.key.Key.{Key}
@@ -18,9 +17,8 @@ use Rattle.td_rows.specs.declared.kind.Kind.{Kind}
 use Rattle.td_rows.specs.declared.kind.Kind.TheVariants.{Gb, Nmu, Bp, Dw, Claim as Claimed}
 use Rattle.td_rows.specs.declared.kind.Kind.TheVariants.{Outcome as Ended, Arrive, Sweep}
 use Rattle.td_rows.specs.declared.outcome.Outcome.{Outcome}
-use Rattle.td_rows.specs.declared.outcome.Outcome.TheVariants.{Built, Attempted, GivenBack, Waits}
 use Rattle.td_rows.specs.KeyText.{key_text, KeyFits, key_at}
-use Rattle.td_rows.specs.Notes.{text_part, notes, NotesFit, notes_at}
+use Rattle.td_rows.specs.Notes.{notes, NotesFit}
 use Rattle.td_rows.proofs.KeyTexts.{key_exact}
 use Rattle.td_rows.proofs.NoteTexts.{notes_exact, notes_begin}
 use Rattle.td_journal.specs.Commands.{is_command}

@@ -1,10 +1,10 @@
 -- The text of a simulation: opening rows, a line `steps`, and a line for each step.
 -- This project's own.
-use Rattle.std.specs.Prelude.{◌≡◌, ◌≢◌, ℕ, ◌+◌, Bool, List, [], ◌∷◌, ◌++◌, map, length}
+use Rattle.std.specs.Prelude.{ℕ, ◌+◌, Bool, List, [], ◌∷◌, ◌++◌}
 use Rattle.std.specs.Prelude.{if◌then◌else◌, codes}
-use Rattle.std.specs.List.{AllByRecursion}
 use Rattle.std.specs.Str.{bytes_eq}
 use Rattle.td_text.specs.Lines.{lines_of, ended}
+use Rattle.td_text.specs.Spelled.{AreSpelled, IsFirstOther}
 use Rattle.td_rows.specs.StateFile.{IsStateFile, IsFirstFault}
 use Rattle.td_rows.specs.Table.{Table}
 use Rattle.td_core.specs.declared.step.Step.{Step}
@@ -36,9 +36,8 @@ number_after number (line ∷ lines) = if is_mark line then number + 1
     else number_after (number + 1) lines
 
 -- the lines are those of the steps
-pub record AreSteps (lines : List (List ℕ)) (steps : List Step) : Type 0 where
-  pub spelled : lines ≡ map step_line steps
-  pub fits : AllByRecursion StepFits steps
+abbrev pub AreSteps : List (List ℕ) → List Step → Type 0
+AreSteps lines steps = AreSpelled step_line StepFits lines steps
 
 -- the rows with which a simulation opens, and its steps
 pub record IsSimulation (text : List ℕ) (t : Table) (ss : List Step) : Type 0 where
@@ -46,14 +45,8 @@ pub record IsSimulation (text : List ℕ) (t : Table) (ss : List Step) : Type 0 
   pub steps : AreSteps (lines_after (lines_of text)) ss
 
 -- the first of the lines that isn't a step's; the first of all has the number given
-pub record IsFirstBad (first : ℕ) (lines : List (List ℕ)) (number : ℕ) : Type 0 where
-  pub before : List Step
-  pub line : List ℕ
-  pub after : List (List ℕ)
-  pub parts : lines ≡ map step_line before ++ line ∷ after
-  pub fits : AllByRecursion StepFits before
-  pub other : (s : Step) → StepFits s → line ≢ step_line s
-  pub counted : number ≡ first + length before
+abbrev pub IsFirstBad : ℕ → List (List ℕ) → ℕ → Type 0
+IsFirstBad first lines number = IsFirstOther step_line StepFits first lines number
 
 -- of a fault among the lines of steps
 abbrev pub StepsFault : ℕ → List (List ℕ) → SimulationFault → Type 0

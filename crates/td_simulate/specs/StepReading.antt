@@ -7,7 +7,6 @@ use Rattle.td_text.specs.Cut.{cut, part, strip}
 use Rattle.td_text.specs.Exact.{Exact}
 use Rattle.td_text.specs.Numbers.{number_at}
 use Rattle.td_rows.specs.declared.key.Key.{Key}
-use Rattle.td_rows.specs.declared.kind.Kind.{Kind}
 use Rattle.td_rows.specs.KeyText.{key_at}
 use Rattle.td_rows.specs.Notes.{notes_at}
 use Rattle.td_journal.specs.Commands.{is_command}

@@ -1,5 +1,5 @@
 -- The laws of an arrival.
-use Rattle.std.proofs.Common.{◌≡◌, ℕ, zero, suc, ◌&&◌, Bool, true, false, List, [], ◌∷◌, Option}
+use Rattle.std.proofs.Common.{◌≡◌, ℕ, ◌&&◌, Bool, true, false, List, [], ◌∷◌, Option}
 use Rattle.std.proofs.Common.{Some, Ok, Err, if◌then◌else◌, map, option_map, slice_get, refl, sym}
 use Rattle.std.proofs.Common.{ap, ◌∙◌, inl, inr, eq-eqb}
 use Rattle.std.specs.Option.{option_map_or, option_or}

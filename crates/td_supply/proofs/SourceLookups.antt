@@ -1,5 +1,5 @@
 -- The version of a source in the map of sources.
-use Rattle.std.proofs.Common.{◌≡◌, ℕ, List, [], ◌∷◌, ◌++◌, Option, Some, None, option_map, refl}
+use Rattle.std.proofs.Common.{◌≡◌, ℕ, List, [], ◌∷◌, Option, Some, None, option_map, refl}
 use Rattle.std.proofs.Common.{◌∙◌, inl, inr}
 use Rattle.std.specs.Prelude.{IfSome}
 use Rattle.std.specs.Borrow.{Bor}
@@ -42,9 +42,3 @@ version_has P name (e ∷ es) all =
       | inl is ↦ rw is all.0
       | inr other ↦ rw other (version_has P name es all.1)
     ]
-
--- and of one more, where it holds of it
-pub all_pushed : {A : Type 0} (P : A → Type 0) (xs : List A) (x : A) → AllByRecursion P xs → P x
-    → AllByRecursion P (xs ++ x ∷ [])
-all_pushed P [] x all here = (here, tt)
-all_pushed P (y ∷ xs) x all here = (all.0, all_pushed P xs x all.1 here)

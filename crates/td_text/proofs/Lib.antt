@@ -1,5 +1,6 @@
 -- What the proofs of this crate share: a file a thing.
 pub mod Chain
+pub mod SpelledLines
 pub mod Cut
 pub mod Prefix
 pub mod Numbers

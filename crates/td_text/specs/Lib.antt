@@ -2,6 +2,7 @@
 pub mod Chain
 pub mod Cut
 pub mod Exact
+pub mod Spelled
 pub mod FirstFault
 pub mod Limits
 pub mod Lines

@@ -3,15 +3,17 @@ use Rattle.std.proofs.Common.{◌≡◌, false, true, eqb, ℕ, List, [], ◌∷
 use Rattle.std.proofs.Common.{◌∙◌, rules, arith}
 use Rattle.td_text.proofs.Empty.{some_text, length_some, no_text}
 use Rattle.td_text.proofs.Ended.{ended-next, ended-empty}
+use Rattle.td_text.proofs.SpelledLines.{AreRead-push, AreRead-all, AreRead-other}
 use Rattle.td_journal.specs.Endings.{outcome_text}
 use Rattle.td_book.specs.Deeds.{code_of}
 use Rattle.td_builder.specs.declared.key_line.KeyLine.{KeyLine}
 use Rattle.td_text.specs.Lines.{lines_of, ended}
-use Rattle.td_builder.specs.OutcomeLines.{FaultOf}
+use Rattle.td_builder.specs.OutcomeLines.{FaultOf, OutcomeFits, outcome_line}
+use Rattle.td_builder.specs.OutcomeReading.{outcome_line_at}
 use Rattle.td_builder.specs.Unused.{with_line}
 use Rattle.td_builder.proofs.KeyLists.{numbered-push, texts-push, length-texts, length-push}
-use Rattle.td_builder.proofs.OutcomeLists.{AreRead-push, AreRead-all, AreRead-bad, told-read}
-use Rattle.td_builder.proofs.OutcomeLists.{told-fault}
+use Rattle.td_builder.proofs.OutcomeLists.{told-fault, told-read}
+use Rattle.td_builder.proofs.OutcomeTexts.{lines_exact}
 use Rattle.td_builder.proofs.outcomes.gather.Goals as goal
 
 pub returns-in_err-key-clause-fault : goal.returns-in_err-key-clause-fault
@@ -24,7 +26,8 @@ returns-in_err-key-clause-fault c =
     let fault : FaultOf lines c.in_err-key.field-0.0 =
     told-fault lines c.read_outcome_line-read.result (c.len.result + 1) c.in_err-key.field-0.0 _
     c.read_outcome_line-read.ensures (sym c.told.ensures ∙ c.in_err-key.was)
-    (λ none. AreRead-bad (c.len.result + 1) lines h.os c.next_line.result.0.now _ _ h.read next none
+    (λ none. AreRead-other outcome_line_at outcome_line OutcomeFits lines_exact 1
+    (c.len.result + 1) lines h.os c.next_line.result.0.now _ _ h.read next none
     (omega (arith, c.len.ensures, ap length h.texts, length-texts h.os))) in
     search rules
 
@@ -43,8 +46,8 @@ loop-rest-preserved c =
     } in
     record {
       os = h.os ++ (c.in_ok-key.key, c.in_ok-key.outcome) ∷ [];
-      read = AreRead-push _ h.os (c.in_ok-key.key, c.in_ok-key.outcome) c.next_line.result.0.now _ _
-          h.read (next ∙ ap (λ (l : List (List ℕ)). c.next_line.result.0.now ∷ l)
+      read = AreRead-push outcome_line_at outcome_line OutcomeFits lines_exact _ h.os
+          (c.in_ok-key.key, c.in_ok-key.outcome) c.next_line.result.0.now _ _ h.read (next ∙ ap (λ (l : List (List ℕ)). c.next_line.result.0.now ∷ l)
           (sym c.behind-rest.ensures.lines))
           (told-read c.read_outcome_line-read.result (c.len.result + 1)
           (c.in_ok-key.key, c.in_ok-key.outcome) _ c.read_outcome_line-read.ensures
@@ -71,7 +74,7 @@ returns-clause-found c =
     let h = c.loop-rest.invariant in
     let none : eqb (length c.loop-rest.rest.now) 0 ≡ true = search rules in (
       h.os,
-      AreRead-all _ h.os _ h.read
+      AreRead-all outcome_line_at outcome_line OutcomeFits lines_exact _ h.os _ h.read
           (ended-empty c.loop-rest.rest.now (no_text c.loop-rest.rest.now none)),
       h.texts,
       h.lines,

@@ -1,10 +1,13 @@
 -- `read_simulation`: what it answers.
 use Rattle.std.proofs.Common.{ap, subst, sym, ◌∙◌}
+use Rattle.td_text.proofs.SpelledLines.{AreSpelled-one}
 use Rattle.td_simulate.specs.Faults.{of_opening}
 use Rattle.td_simulate.specs.SimulationText.{FaultOf}
-use Rattle.td_simulate.proofs.StepLists.{AreSteps-one}
+use Rattle.td_simulate.specs.StepLines.{StepFits, step_line}
+use Rattle.td_simulate.specs.StepReading.{step_at}
 use Rattle.td_simulate.proofs.Simulations.{opening_fault, its_opening, its_steps, steps_fault}
 use Rattle.td_simulate.proofs.Simulations.{no_fault}
+use Rattle.td_simulate.proofs.StepWords.{steps_exact}
 use Rattle.td_simulate.proofs.simulation.read_simulation.Goals as goal
 
 pub returns-in-Err : goal.returns-in-Err
@@ -24,8 +27,8 @@ returns-in-Ok-read_steps-clause-only c = λ t ss is. (
   c.in-Ok.ensures.only t
       (its_opening c.args.text.now c.parts_of-parts.result.opening.now t ss
       c.parts_of-parts.ensures.opening is),
-  AreSteps-one _ c.in-Ok-read_steps.steps.items ss c.in-Ok-read_steps.ensures.found
-      (its_steps c.args.text.now c.parts_of-parts.result.steps.now t ss
+  AreSpelled-one step_at step_line StepFits steps_exact _ c.in-Ok-read_steps.steps.items ss
+      c.in-Ok-read_steps.ensures.found (its_steps c.args.text.now c.parts_of-parts.result.steps.now t ss
       c.parts_of-parts.ensures.steps is),
 )
 

@@ -4,11 +4,12 @@ use Rattle.std.specs.Map.{lookup}
 use Rattle.std.specs.Str.{bytes_eq}
 use Rattle.std.proofs.lemmas.List.{map_push}
 use Rattle.indexmap.proofs.CallerLemmas.{insert_entry-new}
+use Rattle.td_text.proofs.SpelledLines.{all_pushed}
 use Rattle.td_relation.specs.TableView.{table}
 use Rattle.td_supply.specs.Supply.{SupplyView, version_of, with_source}
 use Rattle.td_supply.specs.SupplyViews.{item, sources_of}
 use Rattle.td_supply.specs.VersionTexts.{AreVersions, IsVersionText}
-use Rattle.td_supply.proofs.SourceLookups.{all_pushed, no_version}
+use Rattle.td_supply.proofs.SourceLookups.{no_version}
 use Rattle.td_supply.proofs.supply.Supply.push_source.Goals as goal
 
 -- the sources afterwards

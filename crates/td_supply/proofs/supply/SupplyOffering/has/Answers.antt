@@ -1,5 +1,5 @@
 -- `SupplyOffering::has`: what it answers.
-use Rattle.std.proofs.Common.{ℕ, List, option_map, refl, ap, ◌∙◌}
+use Rattle.std.proofs.Common.{ℕ, List, option_map, ap, ◌∙◌}
 use Rattle.std.specs.List.{list_any}
 use Rattle.td_relation.specs.Asked.{restriction_of}
 use Rattle.td_relation.specs.Meeting.{suits}
