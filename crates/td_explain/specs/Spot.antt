@@ -1,6 +1,6 @@
 -- Where in a text a place is: in which of its lines, and how far into it. This project's own; lines
 -- end at their newlines, and stanzas are apart by Debian Policy 5.1.
-use Rattle.std.specs.Prelude.{ℕ, ◌+◌, ◌-◌, nat_le, ◌&&◌, not, Bool, true, false, List, [], ◌∷◌}
+use Rattle.std.specs.Prelude.{ℕ, ◌+◌, ◌-◌, nat_le, ◌&&◌, not, Bool, true, List, [], ◌∷◌}
 use Rattle.std.specs.Prelude.{Option, Some, None, length, if◌then◌else◌}
 use Rattle.td_text.specs.Lines.{lines_of}
 use Rattle.td_stanza.specs.Line.{is_separator}

@@ -1,7 +1,7 @@
 -- A row whose source stands at no level isn't affected.
 use Rattle.std.proofs.Common.{◌≡◌, ◌<◌, ℕ, Bool, true, List, [], ◌∷◌, Option, None, Some, length}
 use Rattle.std.proofs.Common.{filter, get_or, map, option_map, position, slice_get, refl, sym, ap}
-use Rattle.std.proofs.Common.{subst, ◌∙◌, ◌&&◌, inl, inr, arith}
+use Rattle.std.proofs.Common.{subst, ◌∙◌, ◌&&◌, inl, inr}
 use Rattle.std.specs.Prelude.{is_some}
 use Rattle.std.specs.Cmp.Derive.{both_true}
 use Rattle.std.specs.List.{list_any}
@@ -18,7 +18,7 @@ use Rattle.td_indices.specs.Archive.{Contents, number_named}
 use Rattle.td_indices.specs.Sources.{KeptSource}
 use Rattle.td_indices.proofs.Places.{any-filter}
 use Rattle.td_query.specs.declared.status.Status.{Status}
-use Rattle.td_query.specs.Statuses.{affected_names, is_affected, row_status, status_at, status_of}
+use Rattle.td_query.specs.Statuses.{is_affected, row_status, status_at, status_of}
 use Rattle.td_query.specs.Tracking.{Tracking}
 use Rattle.td_query.proofs.AffectedSources.{any-below}
 use Rattle.td_waves.proofs.Passing.{any-map}

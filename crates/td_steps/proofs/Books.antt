@@ -1,12 +1,10 @@
 -- Over any list of calls the opening rows and the entries stay; a command is undone at once.
-use Rattle.std.proofs.Common.{◌≡◌, ℕ, zero, suc, ◌+◌, ◌-◌, ◌≤◌, ◌==◌, Bool, true, false, ◌&&◌, ◌||◌}
+use Rattle.std.proofs.Common.{◌≡◌, ℕ, zero, suc, ◌+◌, ◌-◌, Bool, true, false, ◌&&◌, ◌||◌}
 use Rattle.std.proofs.Common.{List, [], ◌∷◌, ◌++◌, append_assoc, append-nil, filter, map, Option}
-use Rattle.std.proofs.Common.{Some, None, Result, Ok, Err, if◌then◌else◌, length, slice_get, ap}
-use Rattle.std.proofs.Common.{refl, sym, subst, ◌∙◌, arith}
-use Rattle.std.specs.Prelude.{IsSomeAnd, OnOk, nat_lt}
+use Rattle.std.proofs.Common.{Some, None, Result, Ok, Err, if◌then◌else◌, ap}
+use Rattle.std.proofs.Common.{refl, sym, subst, ◌∙◌}
+use Rattle.std.specs.Prelude.{IsSomeAnd, OnOk}
 use Rattle.std.specs.List.{list_any}
-use Rattle.std.specs.Option.{option_or}
-use Rattle.std.proofs.lemmas.Bool.Decides.{nat_tests}
 use Rattle.td_board.specs.declared.views.Hand.{Hand}
 use Rattle.td_board.specs.declared.views.Hand.TheVariants.{Free, Holding, Finished}
 use Rattle.td_board.specs.declared.views.BuilderView.{BuilderView}
@@ -19,10 +17,10 @@ use Rattle.td_journal.specs.declared.entry.Entry.{Entry}
 use Rattle.td_journal.specs.declared.entry.Mark.TheVariants.{Standing, Undone}
 use Rattle.td_journal.specs.declared.entry.Mark.{Mark}
 use Rattle.td_journal.specs.declared.entry.Marked.{Marked}
-use Rattle.td_journal.specs.Entries.{is_command, is_standing, standing, standing_entry, entry_at}
+use Rattle.td_journal.specs.Entries.{is_command, standing, standing_entry, entry_at}
 use Rattle.td_journal.specs.Entries.{undone_at, undone}
 use Rattle.td_journal.specs.Replay.{replay}
-use Rattle.td_journal.specs.Touching.{touches, latest_touching, blocker}
+use Rattle.td_journal.specs.Touching.{blocker}
 use Rattle.td_journal.proofs.LastEntry.{entry_at-last, blocker-last, standing-last}
 use Rattle.td_core.specs.Committing.{takes}
 use Rattle.td_core.specs.History.{History, rows_of, with_entry, without_entry, opened}

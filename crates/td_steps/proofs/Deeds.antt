@@ -1,11 +1,9 @@
 -- A builder's deeds in the journal are its own.
-use Rattle.std.proofs.Common.{◌≡◌, ℕ, zero, suc, ◌-◌, ◌<◌, ◌≤◌, List, [], ◌∷◌, ◌++◌, drop, length}
+use Rattle.std.proofs.Common.{◌≡◌, ℕ, zero, suc, ◌-◌, ◌<◌, ◌≤◌, List, drop, length}
 use Rattle.std.proofs.Common.{ap, subst, ◌∙◌, arith}
 use Rattle.td_board.specs.declared.views.Deed.{Deed}
 use Rattle.td_board.specs.declared.views.DeskView.{DeskView}
-use Rattle.td_board.specs.declared.views.BuilderView.{BuilderView}
 use Rattle.td_board.specs.Knowledge.{list_at, noted_of}
-use Rattle.td_board.specs.Steps.{Moment, DeskKnows, BuilderKnows, Reached}
 use Rattle.td_board.proofs.PromiseLaws.{nothing_invented}
 use Rattle.td_rows.specs.declared.key.Key.{Key}
 use Rattle.td_journal.specs.declared.entry.Marked.{Marked}

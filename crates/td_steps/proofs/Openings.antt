@@ -1,10 +1,9 @@
 -- The moves of an opening lead to the book at rest.
-use Rattle.std.proofs.Common.{◌≡◌, ℕ, zero, suc, true, List, Some, slice_get, length, replicate, ap}
+use Rattle.std.proofs.Common.{◌≡◌, ℕ, zero, suc, List, Some, slice_get, length, replicate, ap}
 use Rattle.std.proofs.Common.{refl, sym, subst, ◌∙◌}
 use Rattle.std.proofs.lemmas.List.{length-replicate}
 use Rattle.td_board.specs.declared.views.RowView.{RowView}
 use Rattle.td_board.specs.declared.views.RowView.TheVariants as views
-use Rattle.td_rows.specs.Keys.{ascending}
 use Rattle.td_rows.specs.Table.{Table, keys_of}
 use Rattle.td_change.specs.Saved.{number_of}
 use Rattle.td_supply.specs.Supply.{Stock}
@@ -24,7 +23,7 @@ use Rattle.td_steps.specs.Sees.{Desk, resting, Sees, Fits, FitAll}
 use Rattle.td_steps.specs.Runs.{LeadsOn}
 use Rattle.td_steps.specs.Parts.{offering}
 use Rattle.td_steps.proofs.Parts.{Leads, leads-on, desk_off, offering-all}
-use Rattle.td_steps.specs.Openings.{first_desk, world_from, desk_from, MayOpen, OpensWith}
+use Rattle.td_steps.specs.Openings.{first_desk, world_from, desk_from, MayOpen}
 use Rattle.td_steps.specs.Openings.{HistoriesOpen, OpeningsAreSteps}
 
 same_of : {A : Type 0} (n i : ℕ) (x y : A) → slice_get (replicate n x) i ≡ Some y → y ≡ x

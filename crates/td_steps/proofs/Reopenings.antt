@@ -19,12 +19,12 @@ use Rattle.td_journal.proofs.Agreeing.{EachHasKeys-push}
 use Rattle.td_journal.proofs.Undoing.{standing-append, Lawful-push}
 use Rattle.td_core.specs.History.{History, rows_of, with_entry, history_of}
 use Rattle.td_book.specs.Desk.{BookModel}
-use Rattle.td_book.specs.Reopening.{return_in, given_back, IsReopened}
+use Rattle.td_book.specs.Reopening.{return_in, given_back}
 use Rattle.td_book.proofs.Returns.{AreLeft, IsLeft, returned, left_first, left_next, left_none}
 use Rattle.td_book.proofs.Returns.{none_left, left_applies, gives_back_one, gives_back_none}
 use Rattle.td_book.proofs.Returns.{length-rows}
 use Rattle.td_book.proofs.Steps.{some_at}
-use Rattle.td_steps.specs.Openings.{MayOpen, OpensWith}
+use Rattle.td_steps.specs.Openings.{MayOpen}
 use Rattle.td_steps.specs.Reopenings.{Reopened, ReopeningsAreSteps, ReopenedBooksAreSteps}
 use Rattle.td_steps.specs.Reopenings.{ReopenedAreReplayed}
 use Rattle.td_steps.proofs.Openings.{histories_open}

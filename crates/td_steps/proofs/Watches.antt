@@ -1,7 +1,6 @@
 -- A watch leaves the history and the seat, and makes no move.
-use Rattle.std.proofs.Common.{◌≡◌, ℕ, List, [], Result, Ok, Err, inl, inr, ap, refl, sym, subst}
+use Rattle.std.proofs.Common.{◌≡◌, [], Ok, Err, inl, inr, ap, refl, sym, subst}
 use Rattle.td_board.specs.Seats.{DeskModel}
-use Rattle.td_rows.specs.declared.key.Key.{Key}
 use Rattle.td_book.specs.declared.watching.WatchRefusal.{WatchRefusal}
 use Rattle.td_book.specs.declared.watching.WatchRefusal.TheVariants.{NoSuchRow, Twice, BadGroup}
 use Rattle.td_book.specs.declared.watching.WatchRefusal.TheVariants.{NoMemory}

@@ -17,8 +17,8 @@ use Rattle.td_journal.specs.Touching.{share_key, touches, latest_touching, block
 use Rattle.td_journal.proofs.Undoing.{entry_at-place}
 use Rattle.td_core.specs.History.{History}
 use Rattle.td_book.specs.Calls.{off_for}
-use Rattle.td_book.specs.Desk.{BookModel, claim_of}
-use Rattle.td_book.specs.Undoing.{undo_stop, UndoAnswer, IsWon}
+use Rattle.td_book.specs.Desk.{claim_of}
+use Rattle.td_book.specs.Undoing.{UndoAnswer, IsWon}
 use Rattle.td_book.specs.declared.undoing.UndoRefusal.{UndoRefusal}
 use Rattle.td_book.specs.declared.undoing.UndoRefusal.TheVariants.{Blocked}
 use Rattle.td_steps.specs.Books.{WonNamesTheLatest}

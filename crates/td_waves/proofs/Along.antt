@@ -1,6 +1,6 @@
 -- Levels of numbers are the levels of what they stand for.
-use Rattle.std.proofs.Common.{◌≡◌, ◌↔◌, ◌⊎◌, ℕ, zero, suc, inl, inr, sym, subst, Option, None, Some}
-use Rattle.td_waves.specs.Levels.{Follows, UpTo, IsOn, IsCyclic, StandsAt}
+use Rattle.std.proofs.Common.{◌≡◌, ◌↔◌, ℕ, zero, suc, inl, inr, sym, subst, Some}
+use Rattle.td_waves.specs.Levels.{UpTo, StandsAt}
 use Rattle.td_waves.specs.declared.level.Level.{Level}
 use Rattle.td_waves.specs.declared.level.Level.TheVariants.{At, Cyclic}
 

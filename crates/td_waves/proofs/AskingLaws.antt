@@ -15,7 +15,7 @@ use Rattle.std.proofs.lemmas.Slice.Eq.{bytes_eq-Decides}
 use Rattle.td_relation.specs.Arch.{ArchWords}
 use Rattle.td_relation.specs.Asked.{Asked}
 use Rattle.td_relation.specs.Meeting.{active, is_on}
-use Rattle.td_indices.specs.Archive.{Contents, has_row_at, is_of, number_named}
+use Rattle.td_indices.specs.Archive.{Contents, is_of, number_named}
 use Rattle.td_indices.specs.Kept.{KeptBinary}
 use Rattle.td_indices.specs.OfferedNames.{offered_names}
 use Rattle.td_indices.proofs.OfferLaws.{has_cases}

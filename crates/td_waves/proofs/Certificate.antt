@@ -1,7 +1,7 @@
 -- Level numbers that fit their neighbours' are the levels.
 use Rattle.std.proofs.Common.{◌≡◌, ◌+◌, ℕ, zero, suc, ◌<◌, ◌≤◌, ◌⊎◌, inl, inr, refl, arith}
 use Rattle.std.proofs.lemmas.Bool.{cases_lt}
-use Rattle.td_waves.specs.Levels.{Follows, UpTo, IsOn, IsCyclic}
+use Rattle.td_waves.specs.Levels.{UpTo, IsOn, IsCyclic}
 
 -- numbers, 0 for none, that fit: what has one builds on lower ones alone,
 -- on the one right below it where it isn't the first; what has none builds on one that has none

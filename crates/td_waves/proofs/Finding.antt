@@ -1,17 +1,16 @@
 -- What is found by names is what an archive holds.
-use Rattle.std.proofs.Common.{◌≡◌, ◌<◌, ◌+◌, ◌==◌, ◌||◌, ◌&&◌, ℕ, zero, suc, Bool, true, false, not}
-use Rattle.std.proofs.Common.{List, [], ◌∷◌, map, Option, Some, None, Result, Ok, Err, length}
-use Rattle.std.proofs.Common.{slice_get, nat_lt, ltb, refl, sym, ap, ◌∙◌, inl, inr, arith}
+use Rattle.std.proofs.Common.{◌≡◌, ◌+◌, ◌==◌, ◌||◌, ◌&&◌, ℕ, zero, suc, Bool, true, false, not}
+use Rattle.std.proofs.Common.{List, [], ◌∷◌, map, Option, Some, Result, Ok, Err, length}
+use Rattle.std.proofs.Common.{nat_lt, ltb, refl, sym, ap, ◌∙◌, inl, inr, arith}
 use Rattle.std.specs.Prelude.{IfOk, slice_index_or}
 use Rattle.std.specs.Borrow.{Bor}
 use Rattle.std.specs.List.{list_any}
 use Rattle.std.specs.Option.{option_map_or}
 use Rattle.std.specs.Str.{bytes_eq}
-use Rattle.std.proofs.lemmas.Bool.{cases_lt, le-ltb, lt-ltb}
+use Rattle.std.proofs.lemmas.Bool.{cases_lt, le-ltb}
 use Rattle.td_relation.specs.Asked.{Asked, asked}
 use Rattle.td_relation.specs.declared.relation.Alternative.{Alternative}
 use Rattle.td_indices.specs.Archive.{Contents, is_of, number_named}
-use Rattle.td_indices.specs.Kept.{KeptBinary}
 use Rattle.td_indices.specs.OfferedNames.{offered_names}
 use Rattle.td_waves.specs.declared.asking.Asker.{Asker}
 use Rattle.td_waves.specs.declared.providers.Provider.{Provider}

@@ -1,5 +1,5 @@
 -- Items by their numbers.
-use Rattle.std.proofs.Common.{◌≡◌, ◌&&◌, ℕ, Bool, false, List, slice_get, refl, ap}
+use Rattle.std.proofs.Common.{◌≡◌, ◌&&◌, Bool, false, List, slice_get, refl, ap}
 use Rattle.std.specs.List.{list_any}
 use Rattle.std.specs.Option.{option_map_or}
 use Rattle.td_indices.specs.Archive.{places_from}

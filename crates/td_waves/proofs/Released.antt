@@ -1,5 +1,5 @@
 -- What becomes of the work where one on which some build is placed at a level.
-use Rattle.std.proofs.Common.{◌≡◌, ◌+◌, ◌-◌, ◌<◌, ◌≤◌, ◌==◌, ℕ, Bool, true, false, eqb, nat_lt}
+use Rattle.std.proofs.Common.{◌≡◌, ◌+◌, ◌-◌, ◌<◌, ◌==◌, ℕ, Bool, true, false, eqb}
 use Rattle.std.proofs.Common.{List, [], ◌∷◌, ◌++◌, length, get_or, set, if◌then◌else◌, refl, sym}
 use Rattle.std.proofs.Common.{ap, ◌∙◌, inl, inr, arith, get_or-set_other}
 use Rattle.std.proofs.lemmas.Bool.{cases_lt}
@@ -7,7 +7,7 @@ use Rattle.std.proofs.lemmas.Bool.Decides.{eqb_tells, nat_tests}
 use Rattle.std.proofs.lemmas.Grind.{get_or-set_at}
 use Rattle.std.proofs.lemmas.List.{get_or_past}
 use Rattle.td_waves.specs.Graph.{uses, raised, freed}
-use Rattle.td_waves.proofs.Uses.{one, uses-push, nothing}
+use Rattle.td_waves.proofs.Uses.{one, uses-push}
 
 -- the work after some of those that build on it were told, each so often
 pub record Released (level : ℕ) (left0 heights0 ready0 : List ℕ) (told : ℕ → ℕ)

@@ -1,8 +1,8 @@
 -- A thing stands in one level at most.
-use Rattle.std.proofs.Common.{◌≡◌, ◌<◌, ◌≤◌, ◌+◌, ◌⊎◌, ℕ, zero, suc, inl, inr, refl, sym, ap, subst}
-use Rattle.std.proofs.Common.{◌∙◌, Option, None, Some, arith}
+use Rattle.std.proofs.Common.{◌≡◌, ◌<◌, ◌≤◌, ℕ, zero, suc, inl, inr, ap, subst}
+use Rattle.std.proofs.Common.{Option, None, Some, arith}
 use Rattle.std.proofs.lemmas.Bool.{cases_lt}
-use Rattle.td_waves.specs.Levels.{Follows, UpTo, IsOn, IsCyclic, StandsAt}
+use Rattle.td_waves.specs.Levels.{UpTo, IsOn, StandsAt}
 use Rattle.td_waves.specs.declared.level.Level.{Level}
 use Rattle.td_waves.specs.declared.level.Level.TheVariants.{At, Cyclic}
 use Rattle.td_waves.proofs.Along.{StandFor, stands-along}

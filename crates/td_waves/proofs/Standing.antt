@@ -1,6 +1,6 @@
 -- Where the numbers of affected sources stand, there stand the sources.
-use Rattle.std.proofs.Common.{◌≡◌, ◌<◌, ◌≤◌, ◌&&◌, ◌↔◌, ℕ, Bool, true, false, List, Option, Some}
-use Rattle.std.proofs.Common.{None, length, nat_lt, refl, sym, ap, subst, ◌∙◌, inl, inr, arith}
+use Rattle.std.proofs.Common.{◌≡◌, ◌&&◌, ℕ, Bool, true, false, List, Option, Some}
+use Rattle.std.proofs.Common.{None, length, nat_lt, sym, ap, subst, ◌∙◌, inl, inr, arith}
 use Rattle.std.specs.Borrow.{Bor}
 use Rattle.std.specs.Global.{Vec}
 use Rattle.std.specs.Option.{option_map_or}
@@ -8,7 +8,7 @@ use Rattle.std.proofs.lemmas.Bool.{cases_Bool, false≢true, lt-ltb}
 use Rattle.std.proofs.lemmas.List.{length-map}
 use Rattle.td_indices.specs.Archive.{Contents}
 use Rattle.td_waves.specs.declared.level.Level.{Level}
-use Rattle.td_waves.specs.declared.level.Level.TheVariants.{At, Cyclic}
+use Rattle.td_waves.specs.declared.level.Level.TheVariants.{At}
 use Rattle.td_waves.specs.declared.placing.Levelling.{Levelling}
 use Rattle.td_waves.specs.Asking.{has}
 use Rattle.td_waves.specs.BuildsOn.{builds_on}

@@ -1,5 +1,5 @@
 -- The levels that were found. This project's own.
-use Rattle.std.specs.Prelude.{◌≡◌, ℕ, ◌==◌, List, slice_index_or, Option, None, Some, slice_get}
+use Rattle.std.specs.Prelude.{◌≡◌, ℕ, ◌==◌, List, slice_index_or, Option, slice_get}
 use Rattle.std.specs.Prelude.{option_map, if◌then◌else◌}
 use Rattle.td_waves.specs.declared.level.Level.{Level}
 use Rattle.td_waves.specs.declared.level.Level.TheVariants.{At, Cyclic}

@@ -1,5 +1,5 @@
 -- Names, each with a number. This project's own.
-use Rattle.std.specs.Prelude.{ℕ, Bool, false, not, List, [], map, Option, None, Some, position}
+use Rattle.std.specs.Prelude.{ℕ, Bool, false, not, List, map, Option, position}
 use Rattle.std.specs.Prelude.{slice_get}
 use Rattle.std.specs.Borrow.{Bor}
 use Rattle.std.specs.List.{list_any}

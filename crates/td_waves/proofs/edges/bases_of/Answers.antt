@@ -1,5 +1,5 @@
 -- `bases_of`: what it answers.
-use Rattle.std.proofs.Common.{sym, ap, ◌∙◌}
+use Rattle.std.proofs.Common.{sym, ◌∙◌}
 use Rattle.td_waves.proofs.Finding.{builds_is, finds_is, ok_then}
 use Rattle.td_waves.proofs.Names.{name_is}
 use Rattle.td_waves.specs.Edges.{name_at}

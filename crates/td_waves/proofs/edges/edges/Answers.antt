@@ -1,5 +1,5 @@
 -- `edges`: the clause `within` and its loop.
-use Rattle.std.proofs.Common.{◌≡◌, ◌&&◌, ℕ, length, nat_lt, ◌∙◌, arith}
+use Rattle.std.proofs.Common.{◌≡◌, ◌&&◌, length, nat_lt, ◌∙◌, arith}
 use Rattle.td_waves.specs.BuildsOn.{builds_on}
 use Rattle.td_waves.specs.Edges.{name_at}
 use Rattle.td_waves.proofs.Graphs.{in_range, node_more}

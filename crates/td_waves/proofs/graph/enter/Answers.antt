@@ -2,7 +2,7 @@
 use Rattle.std.proofs.Common.{◌≡◌, ℕ, ◌+◌, ◌==◌, Bool, true, false, length, length-set, get_or, sym}
 use Rattle.std.proofs.Common.{ap, ◌∙◌, ◌<◌, if◌then◌else◌, arith}
 use Rattle.td_waves.specs.Graph.{bases_of, lists, uses}
-use Rattle.td_waves.proofs.Uses.{one, uses-more, lists-entered}
+use Rattle.td_waves.proofs.Uses.{uses-more, lists-entered}
 use Rattle.td_waves.proofs.graph.enter.Goals as goal
 
 joined : (mine : Bool) (before now start so_far here : ℕ)

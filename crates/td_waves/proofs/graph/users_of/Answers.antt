@@ -1,8 +1,7 @@
 -- `users_of`: the clause `uses` and its loop.
-use Rattle.std.proofs.Common.{◌≡◌, ℕ, [], ◌+◌, ◌<◌, ◌≤◌, ◌==◌, true, false, ltb, eqb, inl, inr}
-use Rattle.std.proofs.Common.{refl, length, nat_lt, sym, ap, ◌∙◌, if◌then◌else◌, arith}
+use Rattle.std.proofs.Common.{◌≡◌, ℕ, [], true, ltb, inl, inr}
+use Rattle.std.proofs.Common.{refl, length, sym, ap, ◌∙◌, arith}
 use Rattle.std.specs.Global.{Vec}
-use Rattle.std.proofs.lemmas.Bool.Decides.{eqb_tells, nat_tests}
 use Rattle.std.proofs.lemmas.Bool.{cases_lt, lt-ltb, le-ltb}
 use Rattle.std.proofs.lemmas.List.{get_or-map, get_or_past, length-map}
 use Rattle.td_waves.specs.Graph.{bases_of, lists, uses}

@@ -1,18 +1,15 @@
 -- `levels`: the clauses `levels` and `depth`, its loop and its calls.
 use Rattle.std.proofs.Common.{◌≡◌, ◌≤◌, ◌<◌, ◌+◌, ◌++◌, ◌∷◌, [], ℕ, List, sym, ap, subst, ◌∙◌, refl}
-use Rattle.std.proofs.Common.{length, replicate, get_or, set, length-set, if◌then◌else◌, ◌==◌}
+use Rattle.std.proofs.Common.{length, replicate, get_or, set, if◌then◌else◌, ◌==◌}
 use Rattle.std.proofs.Common.{arith}
 use Rattle.std.specs.Global.{Vec}
 use Rattle.std.proofs.lemmas.List.{length-map, get_or-map, get_or_default}
 use Rattle.td_waves.specs.Graph.{bases_of, lists, uses, raised}
 use Rattle.td_waves.specs.Levelling.{HasNumber}
-use Rattle.td_waves.proofs.Along.{stands-along}
 use Rattle.td_waves.proofs.Depths.{deep}
-use Rattle.td_waves.proofs.Passing.{any-range}
-use Rattle.td_waves.proofs.SameLevel.{same_level}
 use Rattle.td_waves.proofs.Counting.{closed, fewer}
-use Rattle.td_waves.proofs.Underway.{Underway, Taken, taken, in_list, is_zero, tall, Placed}
-use Rattle.td_waves.proofs.Underway.{placed_next, stands, started, all_in_range, finished}
+use Rattle.td_waves.proofs.Underway.{Underway, taken, in_list, is_zero, tall, Placed}
+use Rattle.td_waves.proofs.Underway.{placed_next, stands, started, all_in_range}
 use Rattle.td_waves.proofs.placing.levels.Goals as goal
 
 pub loop-node-init : goal.loop-node-init

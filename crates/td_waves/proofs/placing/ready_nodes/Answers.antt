@@ -1,6 +1,6 @@
 -- `ready_nodes`: what it answers and its loop.
-use Rattle.std.proofs.Common.{◌≡◌, ℕ, ◌<◌, ◌≤◌, ◌==◌, ◌∙◌, inl, inr, List, get_or, refl, sym, ap}
-use Rattle.std.proofs.Common.{length, if◌then◌else◌, arith}
+use Rattle.std.proofs.Common.{◌≡◌, ℕ, ◌==◌, ◌∙◌, inl, inr, List, get_or, refl, ap}
+use Rattle.std.proofs.Common.{if◌then◌else◌, arith}
 use Rattle.std.proofs.lemmas.Bool.{cases_lt, lt-ltb, le-ltb}
 use Rattle.std.proofs.lemmas.List.{get_or_past, get_or_default}
 use Rattle.td_waves.specs.Graph.{uses}

@@ -1,7 +1,6 @@
 -- `release`: its loop and the call of `free`.
-use Rattle.std.proofs.Common.{◌≡◌, ◌∙◌, ◌+◌, ℕ, ◌<◌, ◌≤◌, take, get_or, length, length-set, ap, sym}
+use Rattle.std.proofs.Common.{◌∙◌, ◌+◌, ℕ, ◌<◌, take, get_or, length, length-set, ap, sym}
 use Rattle.std.proofs.Common.{List, arith}
-use Rattle.std.proofs.lemmas.Grind.{common_steps}
 use Rattle.std.proofs.lemmas.List.Sums.{sum_by-take-le}
 use Rattle.td_waves.specs.Graph.{uses, freed}
 use Rattle.td_waves.proofs.Released.{Released, released_next}

@@ -1,5 +1,4 @@
 -- `Providers::of`: its loop.
-use Rattle.std.proofs.Common.{◌∙◌}
 use Rattle.td_waves.specs.Named.{texts}
 use Rattle.td_waves.proofs.Finding.{below_more}
 use Rattle.td_waves.proofs.Names.{name_is}
