@@ -1,6 +1,6 @@
-//! Builders at a desk: what their work answers. Expected answers are by hand from the tables of
-//! `docs/FORMATS.md`.
-use crate::shop::{Played, all_leave};
+//! Builders at a desk: what their work answers, and that they build at the same time. Expected
+//! answers are by hand from the tables of `docs/FORMATS.md`.
+use crate::shop::{Played, Trial, all_leave, played};
 use std::alloc::{AllocError, Global};
 use std::test::Fail;
 
@@ -89,4 +89,21 @@ fn a_thousand_lines_are_used_one_by_one(rt: HostRuntime) -> Result<(), Fail> {
         expected.as_str(),
     );
     all_leave(&rt, rt.alloc(), &[played])
+}
+
+// Were one build to end before the other begins, its row would be Build-Attempted.
+#[test]
+fn two_builds_overlap(rt: HostRuntime) -> Result<(), Fail> {
+    let trial = Trial {
+        builders: 2,
+        opening: "foo/amd64 Needs-Build 0 0\nfoo/i386 Needs-Build 0 0\n",
+        outcomes: "",
+        script: "shut => true\ntogether => Some((Ok(1), Ok(1)))\n",
+    };
+    let found = played(&rt, rt.alloc(), &trial)?;
+    let left = found.as_str();
+    assert!(rt; left.starts_with("closed\nreplayed\n"), "{}", left);
+    let rows = "\nfoo/amd64 Built 0 0\nfoo/i386 Built 0 0\n";
+    assert!(rt; left.ends_with(rows), "{}", left);
+    Ok(())
 }

@@ -33,3 +33,5 @@ mod shop;
 mod spelling;
 #[cfg(test)]
 mod tally;
+#[cfg(test)]
+mod together;

@@ -5,6 +5,7 @@ use crate::sample::TABLE;
 use crate::spelling::{
     entry_line, key, number, on_one_line, receipts, row_line, shown, spelled, unlike,
 };
+use crate::together::work_together;
 use std::alloc::Global;
 use std::sync::Wait;
 use std::sync::ledger::Ledger;
@@ -177,6 +178,7 @@ fn answer<N: Named + Send + Sync, C: Ledger + Send + Sync, R: Threads + Wait + S
     match word {
         "shut" => shut(rt, people.alloc, desk),
         "work" => shown(people.alloc, &people.work_alone(rt, desk)),
+        "together" => shown(people.alloc, &work_together(rt, desk, people)),
         "beside" => crew(rt, desk, people, Style::Work, number(rest)),
         "against" => crew(rt, desk, people, Style::Claim, number(rest)),
         "second" => call_by(rt, desk, people, 1, rest),
