@@ -16,8 +16,10 @@ use Rattle.td_indices.specs.declared.archive_fault.EntryFault.{EntryFault}
 use Rattle.td_indices.specs.declared.archive_fault.EntryFault.TheVariants.{BadRelation, BadVersion}
 use Rattle.td_indices.specs.declared.archive_fault.EntryFault.TheVariants.{Missing, NoMemory}
 use Rattle.td_indices.specs.declared.archive_fault.IndexField.{IndexField}
-use Rattle.td_indices.specs.declared.archive_fault.IndexField.TheVariants.{Package, Version}
-use Rattle.td_indices.specs.declared.archive_fault.IndexField.TheVariants.{Architecture, Source}
+use Rattle.td_indices.specs.declared.archive_fault.IndexField.TheVariants as index_field
+use Rattle.td_indices.specs.declared.archive_fault.VersionField.{VersionField}
+use Rattle.td_indices.specs.declared.archive_fault.VersionField.TheVariants.{Version, Source}
+use Rattle.td_indices.specs.declared.archive_fault.RelationField.{RelationField}
 use Rattle.td_indices.specs.Binaries.{BinaryPackage, bracketed, front_name, home_of, if_here}
 use Rattle.td_indices.specs.Binaries.{local_at, named_front, origin_of, package_at, source_text}
 use Rattle.td_indices.specs.Binaries.{source_version}
@@ -36,8 +38,8 @@ use Rattle.td_indices.proofs.SourceStanzas.{versioned}
 
 abbrev rank : EntryFault → ℕ
 rank (Missing field) = 0
-rank BadVersion = 1
-rank BadRelation = 2
+rank (BadVersion field) = 1
+rank (BadRelation field) = 2
 rank NoMemory = 3
 
 abbrev FailsBy : {A : Type 0} → ℕ → Result A EntryFault → Type 0
@@ -77,10 +79,10 @@ needed_low : (field : IndexField) (o : Option (List ℕ)) → FailsBy 0 (needed 
 needed_low field None = omega arith
 needed_low field (Some text) = tt
 
-version_low : (text : List ℕ) → FailsBy 1 (version_in text)
-version_low text = by (reading text)
+version_low : (field : VersionField) (text : List ℕ) → FailsBy 1 (version_in field text)
+version_low field text = by (reading text)
   where
-    by : (r : Result Parts VersionFault) → FailsBy 1 (version_or_bad r)
+    by : (r : Result Parts VersionFault) → FailsBy 1 (version_or_bad field r)
     by (Ok parts) = tt
     by (Err fault) = omega arith
 
@@ -92,7 +94,7 @@ source_low : (text : List ℕ) (o : Option (List ℕ × List ℕ)) → FailsBy 0
 source_low text None = by (is_name text)
   where
     by : (b : Bool) → FailsBy {A = List ℕ × Option (List ℕ)} 0
-        (cond b (Ok (text, None)) (Err (Missing Source)))
+        (cond b (Ok (text, None)) (Err (Missing index_field.Source)))
     by true = tt
     by false = omega arith
 source_low text (Some p) = front_low (front_name p.0) p.1
@@ -106,8 +108,8 @@ bracket_low : (o : Option (List ℕ × List ℕ)) → FailsBy 1 (bracketed o)
 bracket_low None = omega arith
 bracket_low (Some p) = by (length p.1 == 0)
   where
-    by : (b : Bool) → FailsBy 1 (cond b (version_in p.0) (Err BadVersion))
-    by true = version_low p.0
+    by : (b : Bool) → FailsBy 1 (cond b (version_in Source p.0) (Err (BadVersion Source)))
+    by true = version_low Source p.0
     by false = omega arith
 
 source_version_low : (own : Parts) (o : Option (List ℕ)) → FailsBy 1 (source_version own o)
@@ -121,7 +123,7 @@ unfolding local_at
 local_low fields name version home =
     chain 1 (origin_of name (value_of fields (codes "Source"))) _
     (later _ (origin_low name (value_of fields (codes "Source")))) (λ origin.
-    chain 1 (version_in version) _ (version_low version) (λ parts.
+    chain 1 (version_in Version version) _ (version_low Version version) (λ parts.
     chain 1 (source_version parts origin.1) _ (source_version_low parts origin.1)
     (λ source_parts. tt)))
 
@@ -137,12 +139,12 @@ behind_low : {A : Type 0} (fields : List Entry)
     → ((name version arch : List ℕ) → FailsBy 1 (next name version arch))
     → FailsBy 1 (needed_then fields next)
 behind_low fields next low =
-    chain 1 (name_in Package (value_of fields (codes "Package"))) _
-    (later _ (name_low Package (value_of fields (codes "Package")))) (λ name.
-    chain 1 (needed Version (value_of fields (codes "Version"))) _
-    (later _ (needed_low Version (value_of fields (codes "Version")))) (λ version.
-    chain 1 (needed Architecture (value_of fields (codes "Architecture"))) _
-    (later _ (needed_low Architecture (value_of fields (codes "Architecture"))))
+    chain 1 (name_in index_field.Package (value_of fields (codes "Package"))) _
+    (later _ (name_low index_field.Package (value_of fields (codes "Package")))) (λ name.
+    chain 1 (needed index_field.Version (value_of fields (codes "Version"))) _
+    (later _ (needed_low index_field.Version (value_of fields (codes "Version")))) (λ version.
+    chain 1 (needed index_field.Architecture (value_of fields (codes "Architecture"))) _
+    (later _ (needed_low index_field.Architecture (value_of fields (codes "Architecture"))))
     (λ arch. low name version arch)))
 
 package_low : (table : List ArchWords) (fields : List Entry) → FailsBy 1 (package_at table fields)
@@ -155,10 +157,11 @@ head_low : (fields : List Entry) → FailsBy 1 (source_at fields)
 unfolding source_at
 head_low fields =
     behind_low fields versioned (λ name version arch.
-    chain 1 (version_in version) _ (version_low version) (λ parts. tt))
+    chain 1 (version_in Version version) _ (version_low Version version) (λ parts. tt))
 
-too_late : {A : Type 0} (r : Result A EntryFault) → FailsBy 1 r → r ≡ Err BadRelation → ⊥
-too_late r low h = let bad = fails 1 r BadRelation low h in omega (arith, bad)
+too_late : {A : Type 0} (field : RelationField) (r : Result A EntryFault) → FailsBy 1 r
+    → r ≡ Err (BadRelation field) → ⊥
+too_late field r low h = let bad = fails 1 r (BadRelation field) low h in omega (arith, bad)
 
 -- ---- packages
 
@@ -168,18 +171,21 @@ NeededHere table fields = (version arch : List ℕ) × (home : Option ℕ)
     × HasNeeded fields version arch × (home_of table arch ≡ Some home)
 
 here_fails : (table : List ArchWords) (fields : List Entry) (name version arch : List ℕ)
-    (o : Option (Option ℕ)) → home_of table arch ≡ o → HasNeeded fields version arch
-    → if_here fields name version o ≡ Err BadVersion → NeededHere table fields
-here_fails table fields name version arch None is has e = absurd cc
-here_fails table fields name version arch (Some home) is has e = (version, arch, home, has, is)
+    (o : Option (Option ℕ)) (field : VersionField) → home_of table arch ≡ o
+    → HasNeeded fields version arch → if_here fields name version o ≡ Err (BadVersion field)
+    → NeededHere table fields
+here_fails table fields name version arch None field is has e = absurd cc
+here_fails table fields name version arch (Some home) field is has e =
+    (version, arch, home, has, is)
 
-package_fails : (table : List ArchWords) (fields : List Entry)
-    → package_at table fields ≡ Err BadVersion → NeededHere table fields
+package_fails : (table : List ArchWords) (fields : List Entry) (field : VersionField)
+    → package_at table fields ≡ Err (BadVersion field) → NeededHere table fields
 unfolding package_at
-package_fails table fields e =
+package_fails table fields field e =
     let p = needed_bad fields
-    (λ name version arch. if_here fields name version (home_of table arch)) e in
-    here_fails table fields p.has.name p.version p.arch (home_of table p.arch) refl p.has p.behind
+    (λ name version arch. if_here fields name version (home_of table arch)) field e in
+    here_fails table fields p.has.name p.version p.arch (home_of table p.arch) field refl p.has
+    p.behind
 
 of_package : (table : List ArchWords) (fields : List Entry) (p : BinaryPackage)
     → IsPackage table fields p → NeededHere table fields
@@ -201,15 +207,15 @@ behind_head table number fields (Some p) e is h = (p, package_found table fields
 pub package_faults : PackageFaultsComeInOrder
 unfolding binary_at
 package_faults table number fields = (
-  λ e. elim (failing (package_at table fields) _ BadVersion e) [
-    | inl head ↦ package_fails table fields head
+  λ field e. elim (failing (package_at table fields) _ (BadVersion field) e) [
+    | inl head ↦ package_fails table fields field head
     | inr p ↦
-        let q = behind_head table number fields p.0 BadVersion p.1 p.2 in
+        let q = behind_head table number fields p.0 (BadVersion field) p.1 p.2 in
         of_package table fields q.0 q.1
   ],
-  λ e. elim (failing (package_at table fields) _ BadRelation e) [
-    | inl head ↦ absurd (too_late _ (package_low table fields) head)
-    | inr p ↦ behind_head table number fields p.0 BadRelation p.1 p.2
+  λ field e. elim (failing (package_at table fields) _ (BadRelation field) e) [
+    | inl head ↦ absurd (too_late field _ (package_low table fields) head)
+    | inr p ↦ behind_head table number fields p.0 (BadRelation field) p.1 p.2
   ],
 )
 
@@ -221,14 +227,15 @@ head_found : (fields : List Entry) (head : SourcePackage) → source_at fields �
 unfolding source_at
 head_found fields head e =
     let p = needed_read fields versioned head e in
-    let parts = on_ok_parts (version_in p.version) _ head p.behind in
-    (p.version, p.arch, parts.0, p.has, version_found p.version parts.0 parts.1)
+    let parts = on_ok_parts (version_in Version p.version) _ head p.behind in
+    (p.version, p.arch, parts.0, p.has, version_found Version p.version parts.0 parts.1)
 
-head_fails : (fields : List Entry) → source_at fields ≡ Err BadVersion
+head_fails : (fields : List Entry) (field : VersionField)
+    → source_at fields ≡ Err (BadVersion field)
     → (version arch : List ℕ) × HasNeeded fields version arch
 unfolding source_at
-head_fails fields e =
-    let p = needed_bad fields versioned e in
+head_fails fields field e =
+    let p = needed_bad fields versioned field e in
     (p.version, p.arch, p.has)
 
 ok_fails : (s : KeptSource) (e : EntryFault)
@@ -259,12 +266,12 @@ whole_fails number fields e h = by (is_extra fields) h
 
 pub source_faults : SourceFaultsComeInOrder
 source_faults number fields = (
-  λ e. elim (whole_fails number fields BadVersion e) [
-    | inl head ↦ head_fails fields head
+  λ field e. elim (whole_fails number fields (BadVersion field) e) [
+    | inl head ↦ head_fails fields field head
     | inr head ↦ (let r = head_found fields head.0 head.1 in (r.0, r.1, r.3))
   ],
-  λ e. elim (whole_fails number fields BadRelation e) [
-    | inl head ↦ absurd (too_late _ (head_low fields) head)
+  λ field e. elim (whole_fails number fields (BadRelation field) e) [
+    | inl head ↦ absurd (too_late field _ (head_low fields) head)
     | inr head ↦ head_found fields head.0 head.1
   ],
 )

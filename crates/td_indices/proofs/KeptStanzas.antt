@@ -9,10 +9,11 @@ use Rattle.td_stanza.specs.Field.{Entry}
 use Rattle.td_relation.specs.Arch.{ArchWords}
 use Rattle.td_relation.specs.Asked.{Asked}
 use Rattle.std.specs.Prelude.{IfOk}
+use Rattle.td_indices.specs.declared.archive_fault.RelationField.{RelationField}
 use Rattle.td_indices.specs.declared.archive_fault.EntryFault.{EntryFault}
 use Rattle.td_indices.specs.Archive.{Contents}
 use Rattle.td_indices.specs.Counting.{AreItems, Counts, consed}
-use Rattle.td_indices.specs.Fields.{relation_in, value_of}
+use Rattle.td_indices.specs.Fields.{relation_of}
 use Rattle.td_indices.specs.Kept.{KeptBinary, binary_at, lower_package, same_package}
 use Rattle.td_indices.specs.Reading.{binaries_at, sources_at}
 use Rattle.td_indices.specs.Sources.{KeptSource, kept_source_at}
@@ -153,17 +154,18 @@ readable_at a n fields kept at =
     )
 
 -- a relation of its stanza is that of the source
-asked_at : (a : Contents) (n : ℕ) (fields : List Entry) (field : List ℕ) → SourceAt a n fields
+asked_at : (a : Contents) (n : ℕ) (fields : List Entry) (field : RelationField)
+    → SourceAt a n fields
     → option_map (λ (s : KeptSource). asked_in a s field) (slice_get a.sources n)
-    ≡ Some (relation_in (value_of fields field))
+    ≡ Some (relation_of fields field)
 asked_at a n fields field at =
     ap (option_map (λ (s : KeptSource). asked_in a s field)) at.got
     ∙ ap (λ (o : Option (List Entry)).
-    Some (relation_in (value_of (option_map_or (λ l. l) o []) field))) at.there
+    Some (relation_of (option_map_or (λ l. l) o []) field)) at.there
 
 pub read_at : {R E : Type 0} (view : R → List (List Asked)) (a : Contents) (n : ℕ)
-    (fields : List Entry) (field : List ℕ) → SourceAt a n fields → (result : Result R E)
-    → IfOk result (λ r. relation_in (value_of fields field) ≡ Ok (view r))
+    (fields : List Entry) (field : RelationField) → SourceAt a n fields → (result : Result R E)
+    → IfOk result (λ r. relation_of fields field ≡ Ok (view r))
     → IfOk result (λ r. option_map (λ (s : KeptSource). asked_in a s field) (slice_get a.sources n)
     ≡ Some (Ok (view r)))
 read_at view a n fields field at (Ok r) h = asked_at a n fields field at ∙ ap Some h
@@ -176,8 +178,8 @@ listed f None = refl
 listed f (Some s) = refl
 
 pub list_at : {R E : Type 0} (view : R → List (List Asked)) (a : Contents) (n : ℕ)
-    (fields : List Entry) (field : List ℕ) → SourceAt a n fields → (result : Result R E)
-    → IfOk result (λ r. relation_in (value_of fields field) ≡ Ok (view r))
+    (fields : List Entry) (field : RelationField) → SourceAt a n fields → (result : Result R E)
+    → IfOk result (λ r. relation_of fields field ≡ Ok (view r))
     → IfOk result (λ r. option_map (λ (s : KeptSource). asked_or_none (asked_in a s field))
     (slice_get a.sources n) ≡ Some (view r))
 list_at view a n fields field at (Ok r) h =

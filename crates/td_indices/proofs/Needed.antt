@@ -5,6 +5,7 @@ use Rattle.std.specs.Prelude.{codes}
 use Rattle.td_text.specs.Lines.{on_ok}
 use Rattle.td_text.specs.Words.{is_name}
 use Rattle.td_stanza.specs.Field.{Entry}
+use Rattle.td_indices.specs.declared.archive_fault.VersionField.{VersionField}
 use Rattle.td_indices.specs.declared.archive_fault.EntryFault.{EntryFault}
 use Rattle.td_indices.specs.declared.archive_fault.EntryFault.TheVariants.{BadVersion, Missing}
 use Rattle.td_indices.specs.declared.archive_fault.IndexField.{IndexField}
@@ -99,9 +100,10 @@ pub needed_read : {A : Type 0} (fields : List Entry)
 needed_read fields next x e = late fields next (Ok x) (λ field bad. cc) e
 
 pub needed_bad : {A : Type 0} (fields : List Entry)
-    (next : List ℕ → List ℕ → List ℕ → Result A EntryFault)
-    → needed_then fields next ≡ Err BadVersion → HasThen fields next (Err BadVersion)
-needed_bad fields next e = late fields next (Err BadVersion) (λ field bad. cc) e
+    (next : List ℕ → List ℕ → List ℕ → Result A EntryFault) (field : VersionField)
+    → needed_then fields next ≡ Err (BadVersion field)
+    → HasThen fields next (Err (BadVersion field))
+needed_bad fields next field e = late fields next (Err (BadVersion field)) (λ other bad. cc) e
 
 -- ---- a stanza that has them is read on
 

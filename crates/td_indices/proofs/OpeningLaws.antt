@@ -15,12 +15,10 @@ use Rattle.td_stanza.specs.Field.{Entry}
 use Rattle.td_supply.specs.Supply.{opened}
 use Rattle.td_supply.specs.VersionTexts.{IsVersionText}
 use Rattle.td_version.specs.Reading.{reading}
-use Rattle.td_version.specs.Version.{Parts}
-use Rattle.td_version.specs.declared.version.VersionFault.{VersionFault}
 use Rattle.td_indices.specs.declared.archive_fault.IndexFile.TheVariants.{Sources}
+use Rattle.td_indices.specs.declared.archive_fault.VersionField.TheVariants.{Version}
 use Rattle.td_indices.specs.Archive.{Contents, source_named}
 use Rattle.td_indices.specs.Fields.{version_in}
-use Rattle.td_indices.specs.Fields.{version_or_bad}
 use Rattle.td_indices.specs.OpeningRows.{IsVersionKnown}
 use Rattle.td_indices.specs.Reading.{sources_at}
 use Rattle.td_indices.specs.Supplying.{AreRead, listed, supply_of}
@@ -30,7 +28,7 @@ use Rattle.td_indices.specs.Rows.{has_row}
 use Rattle.td_indices.specs.Sources.{KeptSource, kept_source_at}
 use Rattle.td_indices.specs.Sources.{lower_source, same_source}
 use Rattle.td_indices.proofs.LegalNames.{all_over}
-use Rattle.td_indices.proofs.PackageStanzas.{version_again}
+use Rattle.td_indices.proofs.PackageStanzas.{version_again, version_read}
 use Rattle.td_indices.proofs.SourceStanzas.{source_found}
 
 free_of : (best : Option ℕ) → is_building (opening_of best).state ≡ false
@@ -69,9 +67,9 @@ free_rows look a (Err e) h = tt
 -- ---- the version of a source that is kept
 
 kept_read : (n : ℕ) (fields : List Entry) (s : KeptSource) → kept_source_at n fields ≡ Ok (Some s)
-    → version_in s.head.version ≡ Ok s.head.parts
+    → version_in Version s.head.version ≡ Ok s.head.parts
 kept_read n fields s e =
-    version_again s.head.version s.head.parts (source_found n fields s e).readable
+    version_again Version s.head.version s.head.parts (source_found n fields s e).readable
 
 found_by : {A : Type 0} (P : A → Type 0) (test : A → Bool) (xs : List A) (x : A)
     → AllByRecursion P xs → find test xs ≡ Some x → P x
@@ -81,11 +79,6 @@ found_by P test (y ∷ xs) x h e =
       | inl is ↦ subst P (some_is y x (sym (rw is refl) ∙ e)) h.0
       | inr other ↦ found_by P test xs x h.1 (sym (rw other refl) ∙ e)
     ]
-
-read_of : (r : Result Parts VersionFault) (parts : Parts) → version_or_bad r ≡ Ok parts
-    → r ≡ Ok parts
-read_of (Ok p) parts e = let same : p ≡ parts = cc in ap Ok same
-read_of (Err f) parts e = absurd cc
 
 -- the versions of the sources that are kept are versions
 pub all_read : (stanzas : List (List Entry)) (sources : List KeptSource)
@@ -111,15 +104,15 @@ known_at : (a : Contents) (name : List ℕ) (s : KeptSource)
     → IsVersionKnown (opened (supply_of a)) name
 known_at a name s kept named =
     let all = all_over same_source lower_source kept_source_at Sources
-    (λ (t : KeptSource). version_in t.head.version ≡ Ok t.head.parts) kept_read 0 []
+    (λ (t : KeptSource). version_in Version t.head.version ≡ Ok t.head.parts) kept_read 0 []
     a.source_stanzas a.sources tt kept in
-    let read = found_by (λ (t : KeptSource). version_in t.head.version ≡ Ok t.head.parts)
+    let read = found_by (λ (t : KeptSource). version_in Version t.head.version ≡ Ok t.head.parts)
     (λ (t : KeptSource). bytes_eq name t.head.name) a.sources s all named in (
       s.head.version,
       s.head.parts,
       ap (option_map (λ (p : List ℕ × List ℕ). p.1))
           (find_listed name a.sources ∙ ap (option_map listed) named),
-      read_of (reading s.head.version) s.head.parts read,
+      version_read Version (reading s.head.version) s.head.parts read,
     )
 
 pub known : (a : Contents) → sources_at a.source_stanzas ≡ Ok a.sources → (k : Key) (row : Row)

@@ -25,7 +25,9 @@ use Rattle.td_text.proofs.RunTexts.{NoSpace, behind_again, run_again}
 use Rattle.td_relation.proofs.VersionBytes.{version_bytes}
 use Rattle.td_indices.specs.declared.archive_fault.EntryFault.{EntryFault}
 use Rattle.td_indices.specs.declared.archive_fault.EntryFault.TheVariants.{Missing, BadVersion}
-use Rattle.td_indices.specs.declared.archive_fault.IndexField.TheVariants.{Source}
+use Rattle.td_indices.specs.declared.archive_fault.IndexField.TheVariants as index_field
+use Rattle.td_indices.specs.declared.archive_fault.VersionField.{VersionField}
+use Rattle.td_indices.specs.declared.archive_fault.VersionField.TheVariants.{Version, Source}
 use Rattle.td_indices.specs.Binaries.{BinaryPackage, bracketed, front_name, home_of, if_here}
 use Rattle.td_indices.specs.Binaries.{local_at, named_front, origin_of, package_at, source_text}
 use Rattle.td_indices.specs.Binaries.{source_version}
@@ -37,18 +39,19 @@ use Rattle.td_indices.proofs.Needed.{needed_again, needed_read}
 
 -- ---- fields
 
-version_read : (r : Result Parts VersionFault) (parts : Parts) → version_or_bad r ≡ Ok parts
-    → r ≡ Ok parts
-version_read (Ok p) parts e = ap (λ (x : Parts). Ok x) (ok_is EntryFault p parts e)
-version_read (Err f) parts e = absurd cc
+pub version_read : (field : VersionField) (r : Result Parts VersionFault) (parts : Parts)
+    → version_or_bad field r ≡ Ok parts → r ≡ Ok parts
+version_read field (Ok p) parts e = ap (λ (x : Parts). Ok x) (ok_is EntryFault p parts e)
+version_read field (Err f) parts e = absurd cc
 
-pub version_found : (text : List ℕ) (parts : Parts) → version_in text ≡ Ok parts
-    → IsVersion text parts
-version_found text parts e = read_found text parts (version_read (reading text) parts e)
+pub version_found : (field : VersionField) (text : List ℕ) (parts : Parts)
+    → version_in field text ≡ Ok parts → IsVersion text parts
+version_found field text parts e =
+    read_found text parts (version_read field (reading text) parts e)
 
-pub version_again : (text : List ℕ) (parts : Parts) → IsVersion text parts
-    → version_in text ≡ Ok parts
-version_again text parts v = ap version_or_bad (read_only text parts v)
+pub version_again : (field : VersionField) (text : List ℕ) (parts : Parts) → IsVersion text parts
+    → version_in field text ≡ Ok parts
+version_again field text parts v = ap (version_or_bad field) (read_only text parts v)
 
 -- ---- the name before a bracket
 
@@ -101,14 +104,15 @@ inside_found : (rest : List ℕ) (parts : Parts) (o : Option (List ℕ × List �
 inside_found rest parts None is e = absurd cc
 inside_found rest parts (Some p) is e = by (eqb (length p.1) 0) refl e
   where
-    by : (b : Bool) → eqb (length p.1) 0 ≡ b → cond b (version_in p.0) (Err BadVersion) ≡ Ok parts
+    by : (b : Bool) → eqb (length p.1) 0 ≡ b
+        → cond b (version_in Source p.0) (Err (BadVersion Source)) ≡ Ok parts
         → IsInside rest parts
     by true ends k =
         let last : p.1 ≡ [] = nil_from_length p.1 (eqb-true (length p.1) 0 ends) in
         record {
           version = p.0;
           joined = (cut_found 41 rest p is).0 ∙ ap (λ (t : List ℕ). p.0 ++ 41 ∷ t) last;
-          readable = version_found p.0 parts k;
+          readable = version_found Source p.0 parts k;
         }
     by false more k = absurd cc
 
@@ -118,7 +122,7 @@ unfolding source_version
 inside_again own version parts v =
     ap bracketed (cut-at 41 version []
     (Without-from_test is_version_byte 41 version refl (version_bytes version parts v)))
-    ∙ version_again version parts v
+    ∙ version_again Source version parts v
 
 -- ---- the Source field
 
@@ -129,7 +133,8 @@ text_found : (own : Parts) (text : List ℕ) (o : Option (List ℕ × List ℕ))
 unfolding source_version
 text_found own text None q parts is e f = by (is_name text) refl e
   where
-    by : (b : Bool) → is_name text ≡ b → cond b (Ok (text, None)) (Err (Missing Source)) ≡ Ok q
+    by : (b : Bool) → is_name text ≡ b
+        → cond b (Ok (text, None)) (Err (Missing index_field.Source)) ≡ Ok q
         → IsName text q.0 own parts ⊎ IsNameWithVersion text q.0 parts
     by true legal k =
         let same : (text, None) ≡ q = ok_is EntryFault (text, None) q k in
@@ -193,7 +198,7 @@ source_again name own (Some text) source parts (inl h) =
     let none : cut 40 source ≡ None = cut_none 40 source (Without-name 40 source refl h.legal) in
     let read : source_text source (cut 40 source) ≡ Ok (source, None) =
     ap (source_text source) none
-    ∙ ap (λ (b : Bool). cond b (Ok (source, None)) (Err (Missing Source))) h.legal in
+    ∙ ap (λ (b : Bool). cond b (Ok (source, None)) (Err (Missing index_field.Source))) h.legal in
     record {
       rest = None;
       origin = ap (λ (t : List ℕ). source_text t (cut 40 t)) h.spelled ∙ read;
@@ -250,7 +255,7 @@ local_found : (table : List ArchWords) (fields : List Entry) (name version arch 
 unfolding local_at
 local_found table fields name version arch home p has_name legal has_version has_arch here e =
     let origin = on_ok_parts (origin_of name (value_of fields (codes "Source"))) _ p e in
-    let parts = on_ok_parts (version_in version) _ p origin.2 in
+    let parts = on_ok_parts (version_in Version version) _ p origin.2 in
     let source_parts = on_ok_parts (source_version parts.0 origin.0.1) _ p parts.2 in
     subst (IsPackage table fields)
     (ok_is EntryFault (record {
@@ -264,7 +269,7 @@ local_found table fields name version arch home p has_name legal has_version has
       name = has_name;
       legal = legal;
       version = has_version;
-      readable = version_found version parts.0 parts.1;
+      readable = version_found Version version parts.0 parts.1;
       arch = arch;
       there = has_arch;
       here = here;
@@ -289,7 +294,7 @@ local_again table fields p h =
     let source = source_again p.name p.parts (value_of fields (codes "Source")) p.source
     p.source_parts h.source in
     let origin = source.origin in
-    let parts = version_again p.version p.parts h.readable in
+    let parts = version_again Version p.version p.parts h.readable in
     let source_parts = source.version in
     rw (origin, parts, source_parts) refl
 

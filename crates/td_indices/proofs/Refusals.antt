@@ -89,8 +89,8 @@ module _ (table : List ArchWords) (pl sl : List (List ℕ)) where
   see (Stanza Sources fault) n h =
       inr (inl (record { packages = h.0; are = h.1; fault = fault; has = h.2; is = refl }))
   see (MissingField file number field) n h = whole (MissingField file number field) h
-  see (BadVersion file number) n h = whole (BadVersion file number) h
-  see (BadRelation file number) n h = whole (BadRelation file number) h
+  see (BadVersion file number field) n h = whole (BadVersion file number field) h
+  see (BadRelation file number field) n h = whole (BadRelation file number field) h
   see TooManyRows n h = many h
   see NoMemory n h = absurd (n refl)
 
@@ -147,12 +147,12 @@ module _ (table : List ArchWords) (pl sl : List (List ℕ)) where
   refused (Err (MissingField file number field)) h k fault n f =
       inr (one (MissingField file number field) fault
       (see (MissingField file number field) (λ e. cc) k) (see fault n f))
-  refused (Err (BadVersion file number)) h k fault n f =
-      inr (one (BadVersion file number) fault (see (BadVersion file number) (λ e. cc) k)
-      (see fault n f))
-  refused (Err (BadRelation file number)) h k fault n f =
-      inr (one (BadRelation file number) fault (see (BadRelation file number) (λ e. cc) k)
-      (see fault n f))
+  refused (Err (BadVersion file number field)) h k fault n f =
+      inr (one (BadVersion file number field) fault
+      (see (BadVersion file number field) (λ e. cc) k) (see fault n f))
+  refused (Err (BadRelation file number field)) h k fault n f =
+      inr (one (BadRelation file number field) fault
+      (see (BadRelation file number field) (λ e. cc) k) (see fault n f))
   refused (Err TooManyRows) h k fault n f =
       inr (one TooManyRows fault (see TooManyRows (λ e. cc) k) (see fault n f))
   refused (Err NoMemory) h k fault n f = inl refl
@@ -197,10 +197,10 @@ module _ (table : List ArchWords) (pl sl : List (List ℕ)) where
   read_only (Err (Stanza file g)) h k a is = absurd (fine a is (Stanza file g) (λ e. cc) k)
   read_only (Err (MissingField file number field)) h k a is =
       absurd (fine a is (MissingField file number field) (λ e. cc) k)
-  read_only (Err (BadVersion file number)) h k a is =
-      absurd (fine a is (BadVersion file number) (λ e. cc) k)
-  read_only (Err (BadRelation file number)) h k a is =
-      absurd (fine a is (BadRelation file number) (λ e. cc) k)
+  read_only (Err (BadVersion file number field)) h k a is =
+      absurd (fine a is (BadVersion file number field) (λ e. cc) k)
+  read_only (Err (BadRelation file number field)) h k a is =
+      absurd (fine a is (BadRelation file number field) (λ e. cc) k)
   read_only (Err TooManyRows) h k a is = absurd (fine a is TooManyRows (λ e. cc) k)
   read_only (Err NoMemory) h k a is = refl
 

@@ -10,9 +10,13 @@ use Rattle.td_text.specs.Lines.{on_ok}
 use Rattle.td_text.proofs.Chain.{ok_is, on_ok_parts, some_is}
 use Rattle.td_stanza.specs.Field.{Entry}
 use Rattle.td_relation.specs.Arch.{ArchWords}
+use Rattle.td_indices.specs.declared.archive_fault.VersionField.TheVariants.{Version}
+use Rattle.td_indices.specs.declared.archive_fault.RelationField.TheVariants.{Depends, PreDepends}
+use Rattle.td_indices.specs.declared.archive_fault.RelationField.TheVariants.{BuildDepends}
+use Rattle.td_indices.specs.declared.archive_fault.RelationField.TheVariants.{BuildDependsArch}
 use Rattle.td_indices.specs.declared.archive_fault.EntryFault.{EntryFault}
 use Rattle.td_indices.specs.Binaries.{BinaryPackage, package_at}
-use Rattle.td_indices.specs.Fields.{relation_in, value_of, version_in}
+use Rattle.td_indices.specs.Fields.{relation_of, value_of, version_in}
 use Rattle.td_indices.specs.Kept.{KeptBinary, binary_at, provides_at, with_relations}
 use Rattle.td_indices.specs.PackageStanzas.{IsKeptPackage, KeptPackagesAreExact}
 use Rattle.td_indices.specs.SourceStanzas.{IsKeptSource, KeptSourcesAreExact}
@@ -44,9 +48,8 @@ binary_found table number fields b e =
         let all = on_ok_parts (provides_at fields)
         (λ provides. Ok (Some (record { head = p; provides = provides; stanza = number })))
         (Some b) k in
-        let depends = on_ok_parts (relation_in (value_of fields (codes "Depends"))) _ all.0 all.1 in
-        let pre_depends =
-        on_ok_parts (relation_in (value_of fields (codes "Pre-Depends"))) _ all.0 depends.2 in
+        let depends = on_ok_parts (relation_of fields Depends) _ all.0 all.1 in
+        let pre_depends = on_ok_parts (relation_of fields PreDepends) _ all.0 depends.2 in
         subst (IsKeptPackage table number fields)
         (kept_some (record { head = p; provides = all.0; stanza = number }) b all.2) (record {
           head = package_found table fields p is;
@@ -96,7 +99,7 @@ yes_again (Some text) h =
 -- the version of a source, and the source
 abbrev pub versioned : List ℕ → List ℕ → List ℕ → Result SourcePackage EntryFault
 versioned name version archs =
-    on_ok (version_in version) (λ parts.
+    on_ok (version_in Version version) (λ parts.
     Ok (record { name = name; version = version; parts = parts; archs = archs }))
 
 own_found : (number : ℕ) (fields : List Entry) (s : KeptSource) → is_extra fields ≡ false
@@ -104,11 +107,10 @@ own_found : (number : ℕ) (fields : List Entry) (s : KeptSource) → is_extra f
 unfolding whole_source_at source_at with_build_relations
 own_found number fields s own e =
     let head = on_ok_parts (source_at fields) _ s e in
-    let depends = on_ok_parts (relation_in (value_of fields (codes "Build-Depends"))) _ s head.2 in
-    let arch_depends =
-    on_ok_parts (relation_in (value_of fields (codes "Build-Depends-Arch"))) _ s depends.2 in
+    let depends = on_ok_parts (relation_of fields BuildDepends) _ s head.2 in
+    let arch_depends = on_ok_parts (relation_of fields BuildDependsArch) _ s depends.2 in
     let at = needed_read fields versioned head.0 head.1 in
-    let parts = on_ok_parts (version_in at.version) _ head.0 at.behind in
+    let parts = on_ok_parts (version_in Version at.version) _ head.0 at.behind in
     let made : SourcePackage =
     record { name = at.has.name; version = at.version; parts = parts.0; archs = at.arch } in
     let same : made ≡ head.0 = ok_is EntryFault made head.0 parts.2 in
@@ -120,7 +122,7 @@ own_found number fields s own e =
       name = at.has.named;
       legal = at.has.legal;
       version = at.has.versioned;
-      readable = version_found at.version parts.0 parts.1;
+      readable = version_found Version at.version parts.0 parts.1;
       archs = at.has.there;
       depends = depends.0;
       arch_depends = arch_depends.0;
@@ -149,7 +151,7 @@ head_again : (number : ℕ) (fields : List Entry) (s : KeptSource) → IsKeptSou
     → source_at fields ≡ Ok s.head
 unfolding source_at
 head_again number fields s h =
-    let parts = version_again s.head.version s.head.parts h.readable in
+    let parts = version_again Version s.head.version s.head.parts h.readable in
     needed_again fields versioned s.head.version s.head.archs (record {
       name = s.head.name;
       named = h.name;

@@ -109,10 +109,10 @@ FaultOf table packages sources (Stanza Sources fault) =
     (stanzas : List (List Entry)) × AreStanzas stanzas packages × HasFault fault sources
 FaultOf table packages sources (MissingField file number field) =
     IsStanzaFault table packages sources (MissingField file number field)
-FaultOf table packages sources (BadVersion file number) =
-    IsStanzaFault table packages sources (BadVersion file number)
-FaultOf table packages sources (BadRelation file number) =
-    IsStanzaFault table packages sources (BadRelation file number)
+FaultOf table packages sources (BadVersion file number field) =
+    IsStanzaFault table packages sources (BadVersion file number field)
+FaultOf table packages sources (BadRelation file number field) =
+    IsStanzaFault table packages sources (BadRelation file number field)
 FaultOf table packages sources TooManyRows = HasTooManyRows table packages sources
 FaultOf table packages sources NoMemory = Unit {0}
 
@@ -150,6 +150,6 @@ abbrev pub StanzaFaultOf : IndexFile → List (List ℕ) → ArchiveFault → Ty
 StanzaFaultOf file lines (Stanza of_file fault) = (of_file ≡ file) × HasFault fault lines
 StanzaFaultOf file lines NoMemory = Unit {0}
 StanzaFaultOf file lines (MissingField of_file number field) = ⊥
-StanzaFaultOf file lines (BadVersion of_file number) = ⊥
-StanzaFaultOf file lines (BadRelation of_file number) = ⊥
+StanzaFaultOf file lines (BadVersion of_file number field) = ⊥
+StanzaFaultOf file lines (BadRelation of_file number field) = ⊥
 StanzaFaultOf file lines TooManyRows = ⊥

@@ -11,8 +11,8 @@ use Rattle.td_version.specs.Version.{Parts, parts_of}
 use Rattle.td_relation.specs.Arch.{ArchWords}
 use Rattle.td_text.specs.Runs.{run, behind, is_blank}
 use Rattle.td_relation.specs.Table.{place_of}
-use Rattle.td_indices.specs.declared.archive_fault.IndexField.TheVariants.{Package, Version}
-use Rattle.td_indices.specs.declared.archive_fault.IndexField.TheVariants.{Architecture, Source}
+use Rattle.td_indices.specs.declared.archive_fault.IndexField.TheVariants as field
+use Rattle.td_indices.specs.declared.archive_fault.VersionField.TheVariants.{Version, Source}
 use Rattle.td_indices.specs.declared.archive_fault.EntryFault.{EntryFault}
 use Rattle.td_indices.specs.declared.archive_fault.EntryFault.TheVariants.{Missing, BadVersion}
 use Rattle.td_indices.specs.declared.packaged.Head.{Head}
@@ -34,13 +34,13 @@ front_name front = if is_name (run is_name_byte front) && is_blank (behind is_na
 
 -- the name, and what stands behind the bracket
 abbrev pub named_front : Option (List ℕ) → List ℕ → Result (List ℕ × Option (List ℕ)) EntryFault
-named_front None rest = Err (Missing Source)
+named_front None rest = Err (Missing field.Source)
 named_front (Some name) rest = Ok (name, Some rest)
 
 -- a Source field: a name, or a name and a bracket
 abbrev pub source_text : List ℕ → Option (List ℕ × List ℕ)
     → Result (List ℕ × Option (List ℕ)) EntryFault
-source_text text None = if is_name text then Ok (text, None) else Err (Missing Source)
+source_text text None = if is_name text then Ok (text, None) else Err (Missing field.Source)
 source_text text (Some p) = named_front (front_name p.0) p.1
 
 -- the source's name, and what stands behind the bracket, if there is one; without the field the
@@ -51,8 +51,8 @@ origin_of name (Some text) = source_text text (cut 40 text)
 
 -- the version up to the closing bracket, behind which nothing stands
 abbrev pub bracketed : Option (List ℕ × List ℕ) → Result Parts EntryFault
-bracketed None = Err BadVersion
-bracketed (Some p) = if length p.1 == 0 then version_in p.0 else Err BadVersion
+bracketed None = Err (BadVersion Source)
+bracketed (Some p) = if length p.1 == 0 then version_in Source p.0 else Err (BadVersion Source)
 
 -- the source's version: the package's own, where none stands in brackets (Debian Policy 5.6.1)
 unfoldable pub source_version : Parts → Option (List ℕ) → Result Parts EntryFault
@@ -75,7 +75,7 @@ pub record BinaryPackage : Type 0 where
 unfoldable pub local_at : List Entry → List ℕ → List ℕ → Option ℕ → Result BinaryPackage EntryFault
 local_at fields name version home =
     on_ok (origin_of name (value_of fields (codes "Source"))) (λ origin.
-    on_ok (version_in version) (λ parts.
+    on_ok (version_in Version version) (λ parts.
     on_ok (source_version parts origin.1) (λ source_parts.
     Ok (record {
       name = name;
@@ -96,9 +96,9 @@ if_here fields name version (Some home) =
 -- the package of a stanza, if it is here: first the fields that it needs, then the versions
 unfoldable pub package_at : List ArchWords → List Entry → Result (Option BinaryPackage) EntryFault
 package_at table fields =
-    on_ok (name_in Package (value_of fields (codes "Package"))) (λ name.
-    on_ok (needed Version (value_of fields (codes "Version"))) (λ version.
-    on_ok (needed Architecture (value_of fields (codes "Architecture"))) (λ arch.
+    on_ok (name_in field.Package (value_of fields (codes "Package"))) (λ name.
+    on_ok (needed field.Version (value_of fields (codes "Version"))) (λ version.
+    on_ok (needed field.Architecture (value_of fields (codes "Architecture"))) (λ arch.
     if_here fields name version (home_of table arch))))
 
 -- ---- what the readers give, without where it lies in memory

@@ -10,7 +10,7 @@ use Rattle.td_indices.specs.declared.archive_fault.ArchiveFault.TheVariants.{Too
 abbrev pub name_of : ArchiveFault → List ℕ
 name_of (Stanza file fault) = codes "Stanza"
 name_of (MissingField file number field) = codes "MissingField"
-name_of (BadVersion file number) = codes "BadVersion"
-name_of (BadRelation file number) = codes "BadRelation"
+name_of (BadVersion file number field) = codes "BadVersion"
+name_of (BadRelation file number field) = codes "BadRelation"
 name_of TooManyRows = codes "TooManyRows"
 name_of NoMemory = codes "NoMemory"

@@ -1,7 +1,7 @@
 -- The fields of a stanza: their values, and what has to stand in some of them (Debian Policy 5.1,
 -- 5.3 and 5.4).
 use Rattle.std.specs.Prelude.{ℕ, Bool, true, false, ◌≡◌, List, [], Option, Some, None, option_map}
-use Rattle.std.specs.Prelude.{Result, Ok, Err, if◌then◌else◌}
+use Rattle.std.specs.Prelude.{Result, Ok, Err, codes, if◌then◌else◌}
 use Rattle.std.specs.Borrow.{Bor}
 use Rattle.std.specs.List.{find}
 use Rattle.td_text.specs.Words.{is_name}
@@ -17,6 +17,12 @@ use Rattle.td_text.specs.Runs.{is_blank}
 use Rattle.td_relation.specs.declared.relation.Relation.{Relation}
 use Rattle.td_relation.specs.declared.relation_fault.RelationFault.{RelationFault}
 use Rattle.td_indices.specs.declared.archive_fault.IndexField.{IndexField}
+use Rattle.td_indices.specs.declared.archive_fault.RelationField.{RelationField}
+use Rattle.td_indices.specs.declared.archive_fault.RelationField.TheVariants.{Depends, PreDepends}
+use Rattle.td_indices.specs.declared.archive_fault.RelationField.TheVariants.{Provides}
+use Rattle.td_indices.specs.declared.archive_fault.RelationField.TheVariants.{BuildDepends}
+use Rattle.td_indices.specs.declared.archive_fault.RelationField.TheVariants.{BuildDependsArch}
+use Rattle.td_indices.specs.declared.archive_fault.VersionField.{VersionField}
 use Rattle.td_indices.specs.declared.archive_fault.EntryFault.{EntryFault}
 use Rattle.td_indices.specs.declared.archive_fault.EntryFault.TheVariants.{Missing, BadVersion}
 use Rattle.td_indices.specs.declared.archive_fault.EntryFault.TheVariants.{BadRelation, NoMemory}
@@ -35,26 +41,39 @@ abbrev pub name_in : IndexField → Option (List ℕ) → Result (List ℕ) Entr
 name_in field None = Err (Missing field)
 name_in field (Some text) = if is_name text then Ok text else Err (Missing field)
 
--- a version, where one has to stand
-abbrev pub version_or_bad : Result Parts VersionFault → Result Parts EntryFault
-version_or_bad (Ok parts) = Ok parts
-version_or_bad (Err fault) = Err BadVersion
+-- a version, where one has to stand in this field
+abbrev pub version_or_bad : VersionField → Result Parts VersionFault → Result Parts EntryFault
+version_or_bad field (Ok parts) = Ok parts
+version_or_bad field (Err fault) = Err (BadVersion field)
 
--- the version that a text is, where one has to stand
-abbrev pub version_in : List ℕ → Result Parts EntryFault
-version_in text = version_or_bad (reading text)
+-- the version that a text is, where one has to stand in this field
+abbrev pub version_in : VersionField → List ℕ → Result Parts EntryFault
+version_in field text = version_or_bad field (reading text)
 
--- a relation, where one has to stand
-abbrev pub relation_or_bad : Result (List (List Asked)) RelationFault
+-- the names of the fields that are relations (Debian Policy 7.2, 7.5 and 7.7)
+abbrev pub relation_field_name : RelationField → List ℕ
+relation_field_name Depends = codes "Depends"
+relation_field_name PreDepends = codes "Pre-Depends"
+relation_field_name Provides = codes "Provides"
+relation_field_name BuildDepends = codes "Build-Depends"
+relation_field_name BuildDependsArch = codes "Build-Depends-Arch"
+
+-- a relation, where one has to stand in this field
+abbrev pub relation_or_bad : RelationField → Result (List (List Asked)) RelationFault
     → Result (List (List Asked)) EntryFault
-relation_or_bad (Ok members) = Ok members
-relation_or_bad (Err fault) = Err BadRelation
+relation_or_bad field (Ok members) = Ok members
+relation_or_bad field (Err fault) = Err (BadRelation field)
 
 -- what a relation field asks: nothing where it isn't there, or has whitespace alone (that it may is
 -- this project's own)
-abbrev pub relation_in : Option (List ℕ) → Result (List (List Asked)) EntryFault
-relation_in None = Ok []
-relation_in (Some text) = if is_blank text then Ok [] else relation_or_bad (relation_at text)
+abbrev pub relation_in : RelationField → Option (List ℕ) → Result (List (List Asked)) EntryFault
+relation_in field None = Ok []
+relation_in field (Some text) =
+    if is_blank text then Ok [] else relation_or_bad field (relation_at text)
+
+-- what a relation field of a stanza asks
+abbrev pub relation_of : List Entry → RelationField → Result (List (List Asked)) EntryFault
+relation_of fields field = relation_in field (value_of fields (relation_field_name field))
 
 -- ---- what the readers give, without where it lies in memory
 

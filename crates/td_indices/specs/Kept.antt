@@ -1,6 +1,6 @@
 -- What is kept of the stanzas. Which stanzas count is this project's own.
 use Rattle.std.specs.Prelude.{ℕ, ◌&&◌, not, Bool, false, List, [], ◌∷◌, Option, Some, None, Result}
-use Rattle.std.specs.Prelude.{Ok, map, codes, if◌then◌else◌}
+use Rattle.std.specs.Prelude.{Ok, map, if◌then◌else◌}
 use Rattle.std.specs.Str.{bytes_eq}
 use Rattle.std.specs.Ordering.{is_lt}
 use Rattle.td_text.specs.Lines.{on_ok}
@@ -9,11 +9,13 @@ use Rattle.td_version.specs.Order.{version_cmp}
 use Rattle.td_version.specs.Version.{Parts, parts_of}
 use Rattle.td_relation.specs.Arch.{ArchWords}
 use Rattle.td_relation.specs.Asked.{Asked}
+use Rattle.td_indices.specs.declared.archive_fault.RelationField.TheVariants.{Depends, PreDepends}
+use Rattle.td_indices.specs.declared.archive_fault.RelationField.TheVariants.{Provides}
 use Rattle.td_indices.specs.declared.archive_fault.EntryFault.{EntryFault}
 use Rattle.td_indices.specs.declared.packaged.PackageKey.{PackageKey}
 use Rattle.td_indices.specs.declared.packaged.Packaged.{Packaged}
 use Rattle.td_indices.specs.PackageKeys.{same_home}
-use Rattle.td_indices.specs.Fields.{value_of, relation_in, asked_by}
+use Rattle.td_indices.specs.Fields.{relation_of, asked_by}
 use Rattle.td_indices.specs.Binaries.{BinaryPackage, package_at}
 
 -- ---- 1. a binary package
@@ -21,9 +23,9 @@ use Rattle.td_indices.specs.Binaries.{BinaryPackage, package_at}
 -- what a stanza of Packages provides, where its relations can be read
 unfoldable pub provides_at : List Entry → Result (List (List Asked)) EntryFault
 provides_at fields =
-    on_ok (relation_in (value_of fields (codes "Depends"))) (λ depends.
-    on_ok (relation_in (value_of fields (codes "Pre-Depends"))) (λ pre_depends.
-    relation_in (value_of fields (codes "Provides"))))
+    on_ok (relation_of fields Depends) (λ depends.
+    on_ok (relation_of fields PreDepends) (λ pre_depends.
+    relation_of fields Provides))
 
 -- a binary package with what it provides and the number of its stanza, from 0
 pub record KeptBinary : Type 0 where

@@ -8,8 +8,10 @@ use Rattle.td_version.specs.Version.{Parts}
 use Rattle.td_relation.specs.Arch.{ArchWords}
 use Rattle.td_relation.specs.Asked.{Asked}
 use Rattle.td_text.specs.Runs.{is_blank}
+use Rattle.td_indices.specs.declared.archive_fault.RelationField.TheVariants.{Depends, PreDepends}
+use Rattle.td_indices.specs.declared.archive_fault.RelationField.TheVariants.{Provides}
 use Rattle.td_indices.specs.Binaries.{BinaryPackage, home_of, package_at}
-use Rattle.td_indices.specs.Fields.{relation_in, value_of}
+use Rattle.td_indices.specs.Fields.{relation_of, value_of}
 use Rattle.td_indices.specs.Kept.{KeptBinary, binary_at}
 use Rattle.td_indices.specs.Needed.{HasNeeded}
 
@@ -62,9 +64,9 @@ pub record IsKeptPackage (table : List ArchWords) (number : ℕ) (fields : List 
   pub head : IsPackage table fields b.head
   pub depends : List (List Asked)
   pub pre_depends : List (List Asked)
-  pub has_depends : relation_in (value_of fields (codes "Depends")) ≡ Ok depends
-  pub has_pre_depends : relation_in (value_of fields (codes "Pre-Depends")) ≡ Ok pre_depends
-  pub has_provides : relation_in (value_of fields (codes "Provides")) ≡ Ok b.provides
+  pub has_depends : relation_of fields Depends ≡ Ok depends
+  pub has_pre_depends : relation_of fields PreDepends ≡ Ok pre_depends
+  pub has_provides : relation_of fields Provides ≡ Ok b.provides
   pub numbered : b.stanza ≡ number
 
 -- a stanza is kept as a package exactly where this is so

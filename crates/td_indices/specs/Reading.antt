@@ -17,8 +17,8 @@ use Rattle.td_indices.specs.Sources.{KeptSource, kept_source_at, same_source, lo
 -- the fault of the stanza with this number, from 0; it is named by its number from 1
 abbrev pub at_stanza : IndexFile → ℕ → EntryFault → ArchiveFault
 at_stanza file number (entry.Missing field) = archive.MissingField file (number + 1) field
-at_stanza file number entry.BadVersion = archive.BadVersion file (number + 1)
-at_stanza file number entry.BadRelation = archive.BadRelation file (number + 1)
+at_stanza file number (entry.BadVersion field) = archive.BadVersion file (number + 1) field
+at_stanza file number (entry.BadRelation field) = archive.BadRelation file (number + 1) field
 at_stanza file number entry.NoMemory = archive.NoMemory
 
 -- what is read of the stanza with this number in a file, or the stanza's fault
@@ -73,7 +73,7 @@ IsFaultOf read fault = is_want fault ≡ false → read ≡ Err fault
 abbrev pub is_entry : ArchiveFault → Bool
 is_entry (archive.Stanza file fault) = false
 is_entry (archive.MissingField file number field) = true
-is_entry (archive.BadVersion file number) = true
-is_entry (archive.BadRelation file number) = true
+is_entry (archive.BadVersion file number field) = true
+is_entry (archive.BadRelation file number field) = true
 is_entry archive.TooManyRows = false
 is_entry archive.NoMemory = true

@@ -5,7 +5,9 @@ use Rattle.td_text.specs.Words.{is_name}
 use Rattle.td_stanza.specs.Field.{Entry}
 use Rattle.td_version.specs.Grammar.{IsVersion}
 use Rattle.td_relation.specs.Asked.{Asked}
-use Rattle.td_indices.specs.Fields.{relation_in, value_of}
+use Rattle.td_indices.specs.declared.archive_fault.RelationField.TheVariants.{BuildDepends}
+use Rattle.td_indices.specs.declared.archive_fault.RelationField.TheVariants.{BuildDependsArch}
+use Rattle.td_indices.specs.Fields.{relation_of, value_of}
 use Rattle.td_indices.specs.Sources.{KeptSource, kept_source_at}
 
 -- the stanza with this number is kept as this source: its name is legal, its version readable, and
@@ -19,9 +21,8 @@ pub record IsKeptSource (number : ℕ) (fields : List Entry) (s : KeptSource) : 
   pub archs : value_of fields (codes "Architecture") ≡ Some s.head.archs
   pub depends : List (List Asked)
   pub arch_depends : List (List Asked)
-  pub has_depends : relation_in (value_of fields (codes "Build-Depends")) ≡ Ok depends
-  pub has_arch_depends : relation_in (value_of fields (codes "Build-Depends-Arch"))
-      ≡ Ok arch_depends
+  pub has_depends : relation_of fields BuildDepends ≡ Ok depends
+  pub has_arch_depends : relation_of fields BuildDependsArch ≡ Ok arch_depends
   pub numbered : s.stanza ≡ number
 
 -- a stanza is kept as a source exactly where this is so

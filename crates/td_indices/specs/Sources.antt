@@ -9,11 +9,13 @@ use Rattle.td_text.specs.Lines.{on_ok}
 use Rattle.td_stanza.specs.Field.{Entry}
 use Rattle.td_version.specs.Order.{version_cmp}
 use Rattle.td_version.specs.Version.{Parts, parts_of}
-use Rattle.td_indices.specs.declared.archive_fault.IndexField.TheVariants.{Package, Version}
-use Rattle.td_indices.specs.declared.archive_fault.IndexField.TheVariants.{Architecture}
+use Rattle.td_indices.specs.declared.archive_fault.IndexField.TheVariants as field
+use Rattle.td_indices.specs.declared.archive_fault.VersionField.TheVariants.{Version}
+use Rattle.td_indices.specs.declared.archive_fault.RelationField.TheVariants.{BuildDepends}
+use Rattle.td_indices.specs.declared.archive_fault.RelationField.TheVariants.{BuildDependsArch}
 use Rattle.td_indices.specs.declared.archive_fault.EntryFault.{EntryFault}
 use Rattle.td_indices.specs.declared.sourced.Sourced.{Sourced}
-use Rattle.td_indices.specs.Fields.{value_of, needed, name_in, version_in, relation_in}
+use Rattle.td_indices.specs.Fields.{value_of, needed, name_in, version_in, relation_of}
 
 -- ---- 1. the stanza
 
@@ -34,10 +36,10 @@ is_extra fields =
 -- the source of a stanza: first the fields that it needs, then the version
 unfoldable pub source_at : List Entry → Result SourcePackage EntryFault
 source_at fields =
-    on_ok (name_in Package (value_of fields (codes "Package"))) (λ name.
-    on_ok (needed Version (value_of fields (codes "Version"))) (λ version.
-    on_ok (needed Architecture (value_of fields (codes "Architecture"))) (λ archs.
-    on_ok (version_in version) (λ parts.
+    on_ok (name_in field.Package (value_of fields (codes "Package"))) (λ name.
+    on_ok (needed field.Version (value_of fields (codes "Version"))) (λ version.
+    on_ok (needed field.Architecture (value_of fields (codes "Architecture"))) (λ archs.
+    on_ok (version_in Version version) (λ parts.
     Ok (record { name = name; version = version; parts = parts; archs = archs })))))
 
 -- a source and the number of its stanza, from 0
@@ -48,8 +50,8 @@ pub record KeptSource : Type 0 where
 -- a source, where what its build asks for can be read
 unfoldable pub with_build_relations : ℕ → List Entry → SourcePackage → Result KeptSource EntryFault
 with_build_relations number fields head =
-    on_ok (relation_in (value_of fields (codes "Build-Depends"))) (λ depends.
-    on_ok (relation_in (value_of fields (codes "Build-Depends-Arch"))) (λ arch_depends.
+    on_ok (relation_of fields BuildDepends) (λ depends.
+    on_ok (relation_of fields BuildDependsArch) (λ arch_depends.
     Ok (record { head = head; stanza = number })))
 
 -- what a stanza of Sources is kept as

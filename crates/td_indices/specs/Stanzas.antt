@@ -1,11 +1,14 @@
 -- The stanzas that packages and sources were kept of, and what a source's build asks for.
-use Rattle.std.specs.Prelude.{◌≡◌, ℕ, List, [], Option, Some, Result, Ok, Err, codes, slice_get}
+use Rattle.std.specs.Prelude.{◌≡◌, ℕ, List, [], Option, Some, Result, Ok, Err, slice_get}
 use Rattle.std.specs.Option.{option_map_or}
 use Rattle.td_stanza.specs.Field.{Entry}
 use Rattle.td_relation.specs.Asked.{Asked}
+use Rattle.td_indices.specs.declared.archive_fault.RelationField.{RelationField}
+use Rattle.td_indices.specs.declared.archive_fault.RelationField.TheVariants.{BuildDepends}
+use Rattle.td_indices.specs.declared.archive_fault.RelationField.TheVariants.{BuildDependsArch}
 use Rattle.td_indices.specs.declared.archive_fault.EntryFault.{EntryFault}
 use Rattle.td_indices.specs.Archive.{Contents}
-use Rattle.td_indices.specs.Fields.{relation_in, value_of}
+use Rattle.td_indices.specs.Fields.{relation_of}
 use Rattle.td_indices.specs.Kept.{KeptBinary}
 use Rattle.td_indices.specs.Sources.{KeptSource}
 
@@ -34,14 +37,14 @@ asked_or_none (Ok members) = members
 asked_or_none (Err fault) = []
 
 -- what a relation field of a source's stanza asks; of a source that is kept it can be read
-abbrev pub asked_in : Contents → KeptSource → List ℕ → Result (List (List Asked)) EntryFault
-asked_in a s field = relation_in (value_of (source_fields a s) field)
+abbrev pub asked_in : Contents → KeptSource → RelationField → Result (List (List Asked)) EntryFault
+asked_in a s field = relation_of (source_fields a s) field
 
 -- what every build of a source asks for, and what those of its packages ask that aren't of `all`
 -- (Debian Policy 7.7)
 abbrev pub build_depends_of : Contents → KeptSource → List (List Asked)
-build_depends_of a s = asked_or_none (asked_in a s (codes "Build-Depends"))
+build_depends_of a s = asked_or_none (asked_in a s BuildDepends)
 
 -- what the builds of its packages that aren't of `all` ask for besides (Debian Policy 7.7)
 abbrev pub build_depends_arch_of : Contents → KeptSource → List (List Asked)
-build_depends_arch_of a s = asked_or_none (asked_in a s (codes "Build-Depends-Arch"))
+build_depends_arch_of a s = asked_or_none (asked_in a s BuildDependsArch)

@@ -16,7 +16,7 @@ ghost use Rattle.td_indices.specs.Binaries.{
 };
 ghost use Rattle.td_indices.specs.Fields.{version_found};
 
-use crate::archive_fault::{EntryFault, IndexField};
+use crate::archive_fault::{EntryFault, IndexField, VersionField};
 use crate::field::{name_in, needed, value_of, version_in};
 use crate::packaged::{Head, PackageKey};
 use td_relation::Archs;
@@ -89,12 +89,12 @@ fn source_version<'a>(own: Version<'a>, bracket: Option<&'a str>) -> Result<Vers
     match cut_at(rest, ')') {
         Some((version, after)) => {
             if after.is_empty() {
-                version_in(version)
+                version_in(VersionField::Source, version)
             } else {
-                Err(EntryFault::BadVersion)
+                Err(EntryFault::BadVersion(VersionField::Source))
             }
         }
-        None => Err(EntryFault::BadVersion),
+        None => Err(EntryFault::BadVersion(VersionField::Source)),
     }
 }
 
@@ -109,7 +109,7 @@ fn local_head<'a>(
     ensures { head_found result ≡ local_at (fields_of stanza.now) name.now version.now arch }
 {
     let (source, bracket) = origin(name, value_of(stanza, "Source"))?;
-    let parts = version_in(version)?;
+    let parts = version_in(VersionField::Version, version)?;
     let source_parts = source_version(parts, bracket)?;
     Ok(Head {
         key: PackageKey { name, arch },

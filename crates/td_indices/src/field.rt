@@ -12,7 +12,7 @@ ghost use Rattle.td_indices.specs.Fields.{
   version_in as version_in_of,
 };
 
-use crate::archive_fault::{EntryFault, IndexField};
+use crate::archive_fault::{EntryFault, IndexField, VersionField};
 use td_stanza::Stanza;
 use td_text::is_name;
 use td_version::{Version, VersionFault};
@@ -56,12 +56,12 @@ fn read_parts(text: &str) -> Result<Version<'_>, VersionFault>
     Version::read(text)
 }
 
-/// The version that a text is.
-pub fn version_in(text: &str) -> Result<Version<'_>, EntryFault>
-    ensures { version_found result ≡ version_in_of text.now }
+/// The version that a text is, which stands in this field.
+pub fn version_in(field: VersionField, text: &str) -> Result<Version<'_>, EntryFault>
+    ensures { version_found result ≡ version_in_of field text.now }
 {
     match read_parts(text) {
         Ok(version) => Ok(version),
-        Err(_) => Err(EntryFault::BadVersion),
+        Err(_) => Err(EntryFault::BadVersion(field)),
     }
 }

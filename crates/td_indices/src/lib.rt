@@ -44,7 +44,7 @@ mod text;
 mod work;
 
 pub use archive::Archive;
-pub use archive_fault::{ArchiveFault, IndexField, IndexFile};
+pub use archive_fault::{ArchiveFault, IndexField, IndexFile, RelationField, VersionField};
 pub use field::value_of;
 pub use laws::{
     faults_of_a_stanza_come_in_order, first_faulty_stanzas_are_named, greatest_versions_are_kept,

@@ -2,6 +2,7 @@
 //! relations of a build, which are read again from their texts.
 
 use crate::archive::Archive;
+use crate::archive_fault::RelationField;
 use crate::offered_names::OfferedNames;
 use crate::relation_field::read_again;
 use crate::rows::has_row;
@@ -19,7 +20,6 @@ impl<'t, 'a> Archive<'t, 'a> {
       IfSome,
       Some,
       Ok,
-      codes,
       length,
       option_map,
       slice_get,
@@ -113,15 +113,19 @@ impl<'t, 'a> Archive<'t, 'a> {
     }
 
     // What builds of the source with a number ask for in one of the two fields for that.
-    fn build_relation(&self, source: usize, field: &str) -> Result<Option<Relation<'a>>, AllocError>
+    fn build_relation(
+        &self,
+        source: usize,
+        field: RelationField,
+    ) -> Result<Option<Relation<'a>>, AllocError>
         requires source { source < length self.now.sources }
-        requires field { (field.now ≡ codes "Build-Depends")
-            ⊎ (field.now ≡ codes "Build-Depends-Arch") }
+        requires field { (field ≡ RelationField.BuildDepends)
+            ⊎ (field ≡ RelationField.BuildDependsArch) }
         ensures read { IfOk result (λ r.
-            option_map (λ s. asked_in self.now s field.now) (slice_get self.now.sources source)
+            option_map (λ s. asked_in self.now s field) (slice_get self.now.sources source)
             ≡ Some (Ok (asked_by r))) }
         ensures asked { IfOk result (λ r.
-            option_map (λ s. asked_or_none (asked_in self.now s field.now))
+            option_map (λ s. asked_or_none (asked_in self.now s field))
             (slice_get self.now.sources source) ≡ Some (asked_by r)) }
     {
         read_again(self.alloc, &self.stanza_of_source(source), field)
@@ -132,25 +136,25 @@ impl<'t, 'a> Archive<'t, 'a> {
     pub fn build_depends(&self, source: usize) -> Result<Option<Relation<'a>>, AllocError>
         requires { source < length self.now.sources }
         ensures read { IfOk result (λ r.
-            option_map (λ s. asked_in self.now s (codes "Build-Depends"))
+            option_map (λ s. asked_in self.now s RelationField.BuildDepends)
             (slice_get self.now.sources source) ≡ Some (Ok (asked_by r))) }
         ensures asked { IfOk result (λ r.
             option_map (build_depends_of self.now) (slice_get self.now.sources source)
             ≡ Some (asked_by r)) }
     {
-        self.build_relation(source, "Build-Depends")
+        self.build_relation(source, RelationField::BuildDepends)
     }
 
     /// The same of what the builds of packages ask for that aren't of `all`.
     pub fn build_depends_arch(&self, source: usize) -> Result<Option<Relation<'a>>, AllocError>
         requires { source < length self.now.sources }
         ensures read { IfOk result (λ r.
-            option_map (λ s. asked_in self.now s (codes "Build-Depends-Arch"))
+            option_map (λ s. asked_in self.now s RelationField.BuildDependsArch)
             (slice_get self.now.sources source) ≡ Some (Ok (asked_by r))) }
         ensures asked { IfOk result (λ r.
             option_map (build_depends_arch_of self.now) (slice_get self.now.sources source)
             ≡ Some (asked_by r)) }
     {
-        self.build_relation(source, "Build-Depends-Arch")
+        self.build_relation(source, RelationField::BuildDependsArch)
     }
 }

@@ -13,9 +13,9 @@ ghost use Rattle.td_indices.specs.Sources.{
   with_build_relations,
 };
 
-use crate::archive_fault::{EntryFault, IndexField};
+use crate::archive_fault::{EntryFault, IndexField, RelationField, VersionField};
 use crate::field::{name_in, needed, value_of, version_in};
-use crate::relation_field::relation_in;
+use crate::relation_field::relation_of;
 use crate::sourced::Sourced;
 use std::alloc::Global;
 use td_stanza::Stanza;
@@ -42,7 +42,7 @@ fn read_head<'a>(
     let name = name_in(IndexField::Package, value_of(stanza, "Package"))?;
     let version = needed(IndexField::Version, value_of(stanza, "Version"))?;
     let archs = needed(IndexField::Architecture, value_of(stanza, "Architecture"))?;
-    let parts = version_in(version)?;
+    let parts = version_in(VersionField::Version, version)?;
     let sourced = Sourced {
         version,
         parts,
@@ -61,11 +61,11 @@ fn check_relations(alloc: Global, stanza: &Stanza<'_, '_>) -> Result<(), EntryFa
     ensures err { IfErr result (λ e. (number : ℕ) (head : SourcePackage)
         → Fails (with_build_relations number (fields_of stanza.now) head) e) }
 {
-    match relation_in(alloc, value_of(stanza, "Build-Depends")) {
+    match relation_of(alloc, stanza, RelationField::BuildDepends) {
         Ok(_) => {}
         Err(fault) => return Err(fault),
     }
-    match relation_in(alloc, value_of(stanza, "Build-Depends-Arch")) {
+    match relation_of(alloc, stanza, RelationField::BuildDependsArch) {
         Ok(_) => Ok(()),
         Err(fault) => Err(fault),
     }

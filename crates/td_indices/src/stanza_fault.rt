@@ -12,8 +12,8 @@ pub fn at_stanza(file: IndexFile, number: usize, fault: EntryFault) -> ArchiveFa
 {
     match fault {
         EntryFault::Missing(field) => ArchiveFault::MissingField(file, number + 1, field),
-        EntryFault::BadVersion => ArchiveFault::BadVersion(file, number + 1),
-        EntryFault::BadRelation => ArchiveFault::BadRelation(file, number + 1),
+        EntryFault::BadVersion(field) => ArchiveFault::BadVersion(file, number + 1, field),
+        EntryFault::BadRelation(field) => ArchiveFault::BadRelation(file, number + 1, field),
         EntryFault::NoMemory => ArchiveFault::NoMemory,
     }
 }

@@ -8,7 +8,7 @@ use crate::statuses;
 use answers::are_answered;
 use std::alloc::{AllocError, Global};
 use std::process::Abort;
-use td_indices::{Archive, ArchiveFault, IndexField, IndexFile};
+use td_indices::{Archive, ArchiveFault, IndexField, IndexFile, RelationField, VersionField};
 use td_relation::Archs;
 use td_stanza::StanzaFault;
 
@@ -313,12 +313,12 @@ const FAULTS: [(&str, &str, ArchiveFault); 7] = [
     (
         "Package: lib\nVersion: 1\nArchitecture: i386\nSource: foo (1_0)\nDepends: F\n",
         "",
-        ArchiveFault::BadVersion(IndexFile::Packages, 1),
+        ArchiveFault::BadVersion(IndexFile::Packages, 1, VersionField::Source),
     ),
     (
         "Package: lib\nVersion: 1\nArchitecture: all\nPre-Depends: F\n",
         "Package: foo\n",
-        ArchiveFault::BadRelation(IndexFile::Packages, 1),
+        ArchiveFault::BadRelation(IndexFile::Packages, 1, RelationField::PreDepends),
     ),
     (
         LIB,

@@ -21,8 +21,8 @@ table_too x table.NoMemory h = h
 indices_too : (x : Texts) (e : ArchiveFault) → AreNoIndices (without_journal x) e → AreNoIndices x e
 indices_too x (archive.Stanza f e) h = h
 indices_too x (archive.MissingField f n field) h = h
-indices_too x (archive.BadVersion f n) h = h
-indices_too x (archive.BadRelation f n) h = h
+indices_too x (archive.BadVersion f n field) h = h
+indices_too x (archive.BadRelation f n field) h = h
 indices_too x archive.TooManyRows h = h
 indices_too x archive.NoMemory h = h
 

@@ -35,8 +35,8 @@ role_of_index file.Sources = role.Sources
 abbrev pub role_of_archive : ArchiveFault → Role
 role_of_archive (archive.Stanza f e) = role_of_index f
 role_of_archive (archive.MissingField f number field) = role_of_index f
-role_of_archive (archive.BadVersion f number) = role_of_index f
-role_of_archive (archive.BadRelation f number) = role_of_index f
+role_of_archive (archive.BadVersion f number field) = role_of_index f
+role_of_archive (archive.BadRelation f number field) = role_of_index f
 role_of_archive archive.TooManyRows = role.Sources
 role_of_archive archive.NoMemory = role.Sources
 

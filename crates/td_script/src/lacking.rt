@@ -23,7 +23,7 @@ pub fn first_lacking(rows: &Rows, text: &str) -> usize
     ensures { IsFirstLacking rows.now (lines_of text.now) result }
 {
     let mut rest = Some(text);
-    // Wide, since a text has a line more than newlines. A line that isn't empty has a `usize`.
+    // A text may have one line more than a `usize` counts: then each of its bytes is a newline.
     let mut number: u128 = 0;
     while let Some(here) = rest {
         let (line, after) = next_line(here);

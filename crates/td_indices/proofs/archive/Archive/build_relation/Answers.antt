@@ -2,7 +2,7 @@
 use Rattle.std.proofs.Common.{◌≡◌, ◌∙◌, Ok, ap, inl, inr, subst}
 use Rattle.td_stanza.specs.Table.{fields_of}
 use Rattle.td_indices.specs.Archive.{Contents}
-use Rattle.td_indices.specs.Fields.{asked_by, relation_in, value_of}
+use Rattle.td_indices.specs.Fields.{asked_by, relation_of}
 use Rattle.td_indices.specs.Reading.{sources_at}
 use Rattle.td_indices.proofs.KeptStanzas.{list_at, read_at, readable_at, source_at}
 use Rattle.td_indices.proofs.archive.Archive.build_relation.Goals as goal
@@ -18,11 +18,11 @@ read_again-requires c =
     elim c.requires.field [
       | inl is ↦ (
         its.1.depends,
-        ap (λ f. relation_in (value_of fields f)) is ∙ its.1.has_depends,
+        ap (relation_of fields) is ∙ its.1.has_depends,
       )
       | inr is ↦ (
         its.1.arch_depends,
-        ap (λ f. relation_in (value_of fields f)) is ∙ its.1.has_arch_depends,
+        ap (relation_of fields) is ∙ its.1.has_arch_depends,
       )
     ]
 
@@ -30,7 +30,7 @@ pub returns-clause-read : goal.returns-clause-read
 returns-clause-read c =
     let a = c.args.self.now in
     let fields = fields_of c.stanza_of_source.result in
-    read_at asked_by a c.args.source fields c.args.field.now
+    read_at asked_by a c.args.source fields c.args.field
     (source_at a c.args.source fields c.stanza_of_source.ensures.there) c.read_again.result
     c.read_again.ensures
 
@@ -38,6 +38,6 @@ pub returns-clause-asked : goal.returns-clause-asked
 returns-clause-asked c =
     let a = c.args.self.now in
     let fields = fields_of c.stanza_of_source.result in
-    list_at asked_by a c.args.source fields c.args.field.now
+    list_at asked_by a c.args.source fields c.args.field
     (source_at a c.args.source fields c.stanza_of_source.ensures.there) c.read_again.result
     c.read_again.ensures
