@@ -1,11 +1,9 @@
 -- What is answered to words, by what they were read as.
-use Rattle.std.proofs.Common.{◌≡◌, ℕ, Bool, true, false, List, [], Option, Result, Ok, Err, IfOk}
+use Rattle.std.proofs.Common.{◌≡◌, ℕ, Bool, List, Option, Result, Ok, Err, IfOk}
 use Rattle.std.proofs.Common.{IfErr, IsOkAnd, MatchResult, None, String, Vec, map, string_bytes}
 use Rattle.std.proofs.Common.{inl, inr, refl, sym, ap, subst, ◌∙◌}
 use Rattle.std.specs.declared.alloc.Global.{Global}
 use Rattle.std.specs.Io.KnownBytes.{Keeps}
-use Rattle.td_bytes.specs.Pieces.{AppendsPrefix}
-use Rattle.td_bytes.proofs.Prefixes.{AppendsPrefix-first}
 use Rattle.td_bytes.specs.declared.text.TextFault.{TextFault}
 use Rattle.td_report.specs.Transition.{IsReport, IsWaves}
 use Rattle.td_words.specs.Asked.{Asks, RequestWords, check_of, report_of, request_words, run_of}
@@ -20,14 +18,14 @@ use Rattle.td_tool.specs.declared.ending.Ending.{Ending}
 use Rattle.td_tool.specs.declared.ending.Ending.TheVariants.{NoMemory}
 use Rattle.td_script.specs.declared.role.Role.{Role}
 use Rattle.td_tool.specs.Checks.{Checks, files_of}
-use Rattle.td_tool.specs.Ending.{line_of}
 use Rattle.td_tool.specs.Ends.{Ends}
-use Rattle.td_tool.specs.Explained.{SaysOf, archive_paths, known_at, known_input, run_paths}
+use Rattle.td_tool.specs.Explained.{archive_paths, known_at, known_input, run_paths}
 use Rattle.td_tool.specs.Explained.{track_paths, waves_paths}
 use Rattle.td_tool.specs.Program.{IsTold, OnlyIfAsked, RanFor, are_explained, files_asked}
 use Rattle.td_tool.specs.Runs.{EndsRun, run_files_asked}
 use Rattle.td_tool.specs.Tracks.{EndsSo, track_files}
 use Rattle.td_tool.specs.Ran.{Ran}
+use Rattle.td_tool.proofs.Explanations.{line_alone}
 use Rattle.td_tool.proofs.Stops.{kept_only}
 use Rattle.td_tool.proofs.SureRuns.{play_only}
 
@@ -42,13 +40,6 @@ of_given AsksFor Done words given lent are same answered asks =
     subst Done
     (ap (λ l. is_explained (options_of (map string_bytes l))) same ∙ sym (ap are_explained are))
     (answered (subst (λ l. AsksFor (map string_bytes l)) (sym same) here))
-
--- want of memory may end each, and is not explained
-memory_said : (explained : Bool) (texts : Role → Option (List ℕ)) (before said : Option (List ℕ))
-    → AppendsPrefix before said (line_of NoMemory) → SaysOf explained texts NoMemory before said
-memory_said false texts before said line = line
-memory_said true texts before said line =
-    ([], tt, AppendsPrefix-first before said (line_of NoMemory) [] line)
 
 module _ (words : List (List ℕ)) (known : Option (List ℕ)) (bytes : List ℕ → Option (List ℕ))
     (can_fail : List ℕ → TextFault → Bool) (old new before said : Option (List ℕ))
@@ -82,7 +73,7 @@ module _ (words : List (List ℕ)) (known : Option (List ℕ)) (bytes : List ℕ
         ending = NoMemory;
         answered = lacking.tells.answered;
         ends = lacks lacking.kept;
-        says = memory_said explained texts before said lacking.tells.line;
+        says = line_alone explained texts NoMemory before said lacking.tells.line;
       }
 
   -- what ran for a request ran for its words

@@ -59,8 +59,8 @@ no_archive : (a p s : List ℕ) (t : List ArchWords) (e : ArchiveFault) → IsTa
     → IsNoArchive a p s (ending_of_form (form.Archive e))
 no_archive a p s t (archive.Stanza f e) is bad = (refl, (t, is, bad))
 no_archive a p s t (archive.MissingField f n field) is bad = (refl, (t, is, bad))
-no_archive a p s t (archive.BadVersion f n) is bad = (refl, (t, is, bad))
-no_archive a p s t (archive.BadRelation f n) is bad = (refl, (t, is, bad))
+no_archive a p s t (archive.BadVersion f n field) is bad = (refl, (t, is, bad))
+no_archive a p s t (archive.BadRelation f n field) is bad = (refl, (t, is, bad))
 no_archive a p s t archive.TooManyRows is bad = (refl, (t, is, bad))
 no_archive a p s t archive.NoMemory is bad = tt
 

@@ -1,4 +1,4 @@
--- The text in which an ending is explained, and what is said of it.
+-- The line that explains an ending, and what is said of it.
 use Rattle.std.proofs.Common.{◌≡◌, ◌⊎◌, ◌≤◌, ℕ, Bool, true, false, List, [], length, Option}
 use Rattle.std.proofs.Common.{Some, None, IfSome, Result, Ok, Err, IfOk, IfErr, MatchResult, OnOk}
 use Rattle.std.proofs.Common.{OnErr, String, string_bytes, append-nil, inl, inr, refl, sym, subst}
@@ -12,10 +12,11 @@ use Rattle.td_explain.specs.declared.spot.Place.{Place}
 use Rattle.td_explain.specs.declared.spot.Place.TheVariants.{Whole, Line, Stanza, Byte}
 use Rattle.td_words.specs.declared.request.Request.{Request}
 use Rattle.td_tool.specs.Ending.{line_of}
-use Rattle.td_tool.specs.Explained.{Explains, HasNone, IsKept, IsLookedAt, IsTextFor, SaysOf}
-use Rattle.td_tool.specs.Explained.{SaysAll, explanation_of, line_if}
+use Rattle.td_tool.specs.Explained.{Explains, HasNone, IsKept, IsLookedAt, SaysAll, SaysOf}
+use Rattle.td_tool.specs.Explained.{fault_line, line_if}
 use Rattle.td_tool.specs.Places.{place_of}
 use Rattle.td_script.specs.declared.role.Role.{Role}
+use Rattle.td_tool.specs.declared.cause.Cause.{Cause}
 use Rattle.td_tool.specs.declared.ending.Ended.{Ended}
 use Rattle.td_tool.specs.declared.ending.Ending.{Ending}
 use Rattle.td_tool.specs.declared.ending.Ending.TheVariants.{Done, Refused, BadInput, NoMemory}
@@ -23,7 +24,7 @@ use Rattle.td_tool.specs.declared.ending.Ending.TheVariants.{CannotRead, CannotW
 use Rattle.td_tool.specs.declared.explaining.Unexplained.{Unexplained}
 use Rattle.td_tool.specs.declared.explaining.Unexplained.TheVariants as unexplained
 
--- ---- some text is the known one
+-- ---- some line explains an ending
 
 known_text : (known : Option (List ℕ)) → (text : List ℕ) × IfSome known (λ all. all ≡ text)
 known_text None = ([], tt)
@@ -36,26 +37,25 @@ looked_at (Line n) known = known_text known
 looked_at (Stanza n) known = known_text known
 looked_at (Byte at) known = known_text known
 
-pub some_text : (ending : Ending) (known : Role → Option (List ℕ))
-    → (text : List ℕ) × IsTextFor ending known text
-some_text Done known = ([], tt)
-some_text Refused known = ([], tt)
-some_text (BadInput r fault) known = looked_at (place_of fault) (known r)
-some_text NoMemory known = ([], tt)
-some_text (CannotRead r) known = ([], tt)
-some_text CannotWrite known = ([], tt)
+some_line : (ending : Ending) (known : Role → Option (List ℕ))
+    → (line : List ℕ) × Explains known ending line
+some_line Done known = ([], refl)
+some_line Refused known = ([], refl)
+some_line (BadInput r fault) known =
+    let seen = looked_at (place_of fault) (known r) in
+    (fault_line r fault seen.0, (seen.0, seen.1, refl))
+some_line NoMemory known = ([], refl)
+some_line (CannotRead r) known = ([], (None, refl))
+some_line CannotWrite known = ([], refl)
 
 -- where only the line of the ending is said, or a front of it
 pub line_alone : (explained : Bool) (known : Role → Option (List ℕ)) (ending : Ending)
     (before said : Option (List ℕ)) → AppendsPrefix before said (line_of ending)
     → SaysOf explained known ending before said
 line_alone false known ending before said line = line
-line_alone true known ending before said line = (
-  (some_text ending known).0,
-  (some_text ending known).1,
-  AppendsPrefix-first before said (line_of ending)
-      (explanation_of ending (some_text ending known).0) line,
-)
+line_alone true known ending before said line =
+    let some = some_line ending known in
+    (some.0, some.1, AppendsPrefix-first before said (line_of ending) some.0 line)
 
 -- what is said is a front of itself
 whole_front : (before said : Option (List ℕ)) (bytes : List ℕ) → Appends before said bytes
@@ -72,24 +72,20 @@ front_said before said bytes (Err e) whole front = front
 -- a front of the explanation is said
 abbrev pub IsSaidOf : (Role → Option (List ℕ)) → Ending → Option (List ℕ) → Option (List ℕ) → Type 0
 IsSaidOf known ending said_before said =
-    (text : List ℕ) × IsTextFor ending known text
-    × AppendsPrefix said_before said (explanation_of ending text)
+    (line : List ℕ) × Explains known ending line × AppendsPrefix said_before said line
 
 -- where there is no line nothing is said
 nothing_said : (known : Role → Option (List ℕ)) (ending : Ending) (before said : Option (List ℕ))
     → Appends before said [] → IsSaidOf known ending before said
-nothing_said known ending before said none = (
-  (some_text ending known).0,
-  (some_text ending known).1,
-  ([], explanation_of ending (some_text ending known).0, refl, none),
-)
+nothing_said known ending before said none =
+    let some = some_line ending known in
+    (some.0, some.1, ([], some.0, refl, none))
 
 -- where there is one a front of it is
 line_said : (known : Role → Option (List ℕ)) (ending : Ending) (line : List ℕ)
     (before said : Option (List ℕ)) → Explains known ending line
     → AppendsPrefix before said line → IsSaidOf known ending before said
-line_said known ending line before said e front =
-    (e.0, e.1, subst (AppendsPrefix before said) e.2 front)
+line_said known ending line before said explains front = (line, explains, front)
 
 -- behind the line of the ending
 both_said : (known : Role → Option (List ℕ)) (ending : Ending)
@@ -98,7 +94,7 @@ both_said : (known : Role → Option (List ℕ)) (ending : Ending)
 both_said known ending before between said line is = (
   is.0,
   is.1,
-  AppendsPrefix-second before between said (line_of ending) (explanation_of ending is.0) line is.2,
+  AppendsPrefix-second before between said (line_of ending) is.0 line is.2,
 )
 
 -- what is kept is kept with nothing behind it
@@ -131,7 +127,7 @@ said_not Fails between said (Err e) q fails put left =
 
 -- behind the line of the ending
 module _ (known : Role → Option (List ℕ)) (ended : Ended) (request : Request)
-    (before between said : Option (List ℕ)) where
+    (can_be : List ℕ → Option Cause → Bool) (before between said : Option (List ℕ)) where
   abbrev Explained : Result (Option (String Global)) Unexplained → Type 0
   Explained r = IfOk r (λ told. IfSome told (λ line.
       Explains known ended.ending (string_bytes line)))
@@ -139,16 +135,15 @@ module _ (known : Role → Option (List ℕ)) (ended : Ended) (request : Request
   -- all of it is
   pub said_whole : (r : Result (Option (String Global)) Unexplained)
       (q : Result (Unit {0}) Unexplained) → Appends before between (line_of ended.ending)
-      → Explained r → IfOk r (λ told. told ≡ None → HasNone ended.ending ended.input request)
+      → Explained r → IfOk r (λ told. told ≡ None
+      → HasNone can_be ended.ending ended.input request)
       → Put between said r q → Left between said r q
-      → OnOk q (SaysAll true known ended request before said)
+      → OnOk q (SaysAll true known can_be ended request before said)
   said_whole (Ok (Some line)) (Ok u) first explained none put left =
       inl (
-        explained.0,
-        explained.1,
-        Appends-trans before between said (line_of ended.ending)
-            (explanation_of ended.ending explained.0) first
-            (subst (Appends between said) explained.2 put),
+        string_bytes line,
+        explained,
+        Appends-trans before between said (line_of ended.ending) (string_bytes line) first put,
       )
   said_whole (Ok None) (Ok u) first explained none put left =
       inr (
@@ -177,12 +172,9 @@ module _ (known : Role → Option (List ℕ)) (ended : Ended) (request : Request
       both_said known ended.ending before between said first
       (nothing_said known ended.ending between said put)
   said_front (Ok None) (Err e) first explained put left =
-      let some = some_text ended.ending known in
-      both_said known ended.ending before between said first (
-        some.0,
-        some.1,
-        AppendsPrefix-first between said [] (explanation_of ended.ending some.0) put.1,
-      )
+      let some = some_line ended.ending known in
+      both_said known ended.ending before between said first
+      (some.0, some.1, AppendsPrefix-first between said [] some.0 put.1)
   said_front (Err e) q first explained put left =
       both_said known ended.ending before between said first
       (nothing_said known ended.ending between said (kept_as_nothing between said left.1))

@@ -110,10 +110,10 @@ has_fault files t role (Form (form.Archive (archive.Stanza f e))) texts is =
     (is.0, archive_fault files t (archive.Stanza f e) texts is.1)
 has_fault files t role (Form (form.Archive (archive.MissingField f n field))) texts is =
     (is.0, archive_fault files t (archive.MissingField f n field) texts is.1)
-has_fault files t role (Form (form.Archive (archive.BadVersion f n))) texts is =
-    (is.0, archive_fault files t (archive.BadVersion f n) texts is.1)
-has_fault files t role (Form (form.Archive (archive.BadRelation f n))) texts is =
-    (is.0, archive_fault files t (archive.BadRelation f n) texts is.1)
+has_fault files t role (Form (form.Archive (archive.BadVersion f n field))) texts is =
+    (is.0, archive_fault files t (archive.BadVersion f n field) texts is.1)
+has_fault files t role (Form (form.Archive (archive.BadRelation f n field))) texts is =
+    (is.0, archive_fault files t (archive.BadRelation f n field) texts is.1)
 has_fault files t role (Form (form.Archive archive.TooManyRows)) texts is =
     (is.0, archive_fault files t archive.TooManyRows texts is.1)
 has_fault files t role (Form (form.Archive archive.NoMemory)) texts is = absurd is

@@ -345,10 +345,10 @@ no_archive x t (archive.Stanza f e) is bad =
     inl (form.Archive (archive.Stanza f e), (t, is, bad), refl)
 no_archive x t (archive.MissingField f n field) is bad =
     inl (form.Archive (archive.MissingField f n field), (t, is, bad), refl)
-no_archive x t (archive.BadVersion f n) is bad =
-    inl (form.Archive (archive.BadVersion f n), (t, is, bad), refl)
-no_archive x t (archive.BadRelation f n) is bad =
-    inl (form.Archive (archive.BadRelation f n), (t, is, bad), refl)
+no_archive x t (archive.BadVersion f n field) is bad =
+    inl (form.Archive (archive.BadVersion f n field), (t, is, bad), refl)
+no_archive x t (archive.BadRelation f n field) is bad =
+    inl (form.Archive (archive.BadRelation f n field), (t, is, bad), refl)
 no_archive x t archive.TooManyRows is bad =
     inl (form.Archive archive.TooManyRows, (t, is, bad), refl)
 no_archive x t archive.NoMemory is bad = inr refl

@@ -15,10 +15,11 @@ use Rattle.td_words.specs.declared.request.Request.TheVariants as asked
 use Rattle.td_tool.specs.Ending.{line_of}
 use Rattle.td_tool.specs.Places.{place_of}
 use Rattle.td_script.specs.Faults.{label_of}
-use Rattle.td_tool.specs.Wanted.{wanted_input}
+use Rattle.td_tool.specs.Wanted.{wanted_file, wanted_input}
 use Rattle.td_script.specs.declared.role.Role.{Role}
 use Rattle.td_script.specs.declared.role.Role.TheVariants.{Input, Archs, Packages, Sources, State}
 use Rattle.td_script.specs.declared.role.Role.TheVariants.{Tracker, Outcomes, Journal}
+use Rattle.td_tool.specs.declared.cause.Cause.{Cause}
 use Rattle.td_tool.specs.declared.input_fault.InputFault.{InputFault}
 use Rattle.td_tool.specs.declared.input_fault.InputFault.TheVariants.{Simulation}
 use Rattle.td_tool.specs.declared.ending.Ended.{Ended}
@@ -125,35 +126,33 @@ IsLookedAt (Line n) known text = IfSome known (λ all. all ≡ text)
 IsLookedAt (Stanza n) known text = IfSome known (λ all. all ≡ text)
 IsLookedAt (Byte at) known text = IfSome known (λ all. all ≡ text)
 
--- the text in which an ending is explained
-abbrev pub IsTextFor : Ending → (Role → Option (List ℕ)) → List ℕ → Type 0
-IsTextFor Done known text = Unit {0}
-IsTextFor Refused known text = Unit {0}
-IsTextFor (BadInput role fault) known text = IsLookedAt (place_of fault) (known role) text
-IsTextFor NoMemory known text = Unit {0}
-IsTextFor (CannotRead role) known text = Unit {0}
-IsTextFor CannotWrite known text = Unit {0}
-
--- the explanation of an ending: of a refused text a line, of any other nothing
-abbrev pub explanation_of : Ending → List ℕ → List ℕ
-explanation_of Done text = []
-explanation_of Refused text = []
-explanation_of (BadInput role fault) text =
+-- the line of a fault in the text of a role
+abbrev pub fault_line : Role → InputFault → List ℕ → List ℕ
+fault_line role fault text =
     explanation (label_of role) (place_of fault) (wanted_input fault) text
-explanation_of NoMemory text = []
-explanation_of (CannotRead role) text = []
-explanation_of CannotWrite text = []
 
--- a line explains the ending, in the known text
+-- the line of a file that isn't read: none where it isn't known why
+abbrev pub unread_line : Role → Option Cause → List ℕ
+unread_line role None = []
+unread_line role (Some cause) = explanation (label_of role) Whole (wanted_file cause) []
+
+-- a line explains the ending: that of a refused text by its fault, in the known text; that of a
+-- file that isn't read by some cause, since no clause knows the disk; that of any other is empty
 abbrev pub Explains : (Role → Option (List ℕ)) → Ending → List ℕ → Type 0
-Explains known ending line =
-    (text : List ℕ) × IsTextFor ending known text × (line ≡ explanation_of ending text)
+Explains known Done line = line ≡ []
+Explains known Refused line = line ≡ []
+Explains known (BadInput role fault) line =
+    (text : List ℕ) × IsLookedAt (place_of fault) (known role) text
+    × (line ≡ fault_line role fault text)
+Explains known NoMemory line = line ≡ []
+Explains known (CannotRead role) line =
+    (cause : Option Cause) × (line ≡ unread_line role cause)
+Explains known CannotWrite line = line ≡ []
 
 -- the same of a fault in one text
 abbrev pub ExplainsFile : Option (List ℕ) → Role → InputFault → List ℕ → Type 0
 ExplainsFile known role fault line =
-    (text : List ℕ) × IfSome known (λ all. all ≡ text)
-    × (line ≡ explanation_of (BadInput role fault) text)
+    (text : List ℕ) × IfSome known (λ all. all ≡ text) × (line ≡ fault_line role fault text)
 
 -- the text that was kept of standard input is the known one
 abbrev pub IsKept : (Role → Option (List ℕ)) → Option (String Global) → Type 0
@@ -170,8 +169,8 @@ abbrev pub SaysOf : Bool → (Role → Option (List ℕ)) → Ending → Option 
     → Type 0
 SaysOf false known ending said_before said = AppendsPrefix said_before said (line_of ending)
 SaysOf true known ending said_before said =
-    (text : List ℕ) × IsTextFor ending known text
-    × AppendsPrefix said_before said (line_of ending ++ explanation_of ending text)
+    (line : List ℕ) × Explains known ending line
+    × AppendsPrefix said_before said (line_of ending ++ line)
 
 -- ---- 3. whether all of it is said
 
@@ -185,21 +184,26 @@ abbrev pub IsUnseen : Place → Role → Option (String Global) → Request → 
 IsUnseen Whole role input request = ⊥
 IsUnseen place role input request = HasNoText role input request
 
--- there is no explanation to say: no text is refused, or that which is isn't at hand
-abbrev pub HasNone : Ending → Option (String Global) → Request → Type 0
-HasNone (BadInput role fault) input request = IsUnseen (place_of fault) role input request
-HasNone ending input request = Unit {0}
+-- there is no explanation to say: no text is refused or unread, that which is refused isn't at
+-- hand, or of that which is unread nothing more may be known
+abbrev pub HasNone : (List ℕ → Option Cause → Bool) → Ending → Option (String Global) → Request
+    → Type 0
+HasNone can_be (BadInput role fault) input request = IsUnseen (place_of fault) role input request
+HasNone can_be (CannotRead role) input request =
+    IfSome (paths_of request role) (λ path. can_be path None ≡ true)
+HasNone can_be ending input request = Unit {0}
 
 -- all is said: the line of the ending, and behind it, where that is asked for, the explanation, or
 -- nothing where there is none
-abbrev pub SaysAll : Bool → (Role → Option (List ℕ)) → Ended → Request → Option (List ℕ)
-    → Option (List ℕ) → Type 0
-SaysAll false known ended request said_before said =
+abbrev pub SaysAll : Bool → (Role → Option (List ℕ)) → (List ℕ → Option Cause → Bool) → Ended
+    → Request → Option (List ℕ) → Option (List ℕ) → Type 0
+SaysAll false known can_be ended request said_before said =
     Appends said_before said (line_of ended.ending)
-SaysAll true known ended request said_before said =
-    ((text : List ℕ) × IsTextFor ended.ending known text
-    × Appends said_before said (line_of ended.ending ++ explanation_of ended.ending text))
-    ⊎ (HasNone ended.ending ended.input request × Appends said_before said (line_of ended.ending))
+SaysAll true known can_be ended request said_before said =
+    ((line : List ℕ) × Explains known ended.ending line
+    × Appends said_before said (line_of ended.ending ++ line))
+    ⊎ (HasNone can_be ended.ending ended.input request
+    × Appends said_before said (line_of ended.ending))
 
 -- why a line isn't made from a file: memory is wanting, or a read of it may fail so
 abbrev pub FailsAgain : (TextFault → Bool) → Unexplained → Type 0
@@ -213,9 +217,11 @@ FailsFor can_fail path (unexplained.Unread why) = IsSomeAnd path (λ p. can_fail
 FailsFor can_fail path unexplained.NoMemory = Unit {0}
 FailsFor can_fail path unexplained.CannotWrite = ⊥
 
--- the same of the refused text, and of nothing else
+-- the same of the refused text; of a file that isn't read memory alone is wanting, and of nothing
+-- else a line
 abbrev pub FailsOf : (List ℕ → TextFault → Bool) → Request → Ending → Unexplained → Type 0
 FailsOf can_fail request (BadInput role fault) e = FailsFor can_fail (paths_of request role) e
+FailsOf can_fail request (CannotRead role) e = e ≡ unexplained.NoMemory
 FailsOf can_fail request ending e = ⊥
 
 -- the bytes of a line, where there is one

@@ -54,8 +54,8 @@ place_in_stanzas stanza.NoMemory = Whole
 abbrev pub place_in_index : ArchiveFault → Place
 place_in_index (archive.Stanza f e) = place_in_stanzas e
 place_in_index (archive.MissingField f n field) = Stanza n
-place_in_index (archive.BadVersion f n) = Stanza n
-place_in_index (archive.BadRelation f n) = Stanza n
+place_in_index (archive.BadVersion f n field) = Stanza n
+place_in_index (archive.BadRelation f n field) = Stanza n
 place_in_index archive.TooManyRows = Whole
 place_in_index archive.NoMemory = Whole
 

@@ -22,10 +22,10 @@ use Rattle.td_tool.specs.declared.input_fault.InputFault.TheVariants.{BadOutcome
 use Rattle.td_tool.specs.declared.ending.Ending.{Ending}
 use Rattle.td_tool.specs.declared.ending.Ending.TheVariants.{Done, Refused, BadInput, NoMemory}
 use Rattle.td_tool.specs.declared.ending.Ending.TheVariants.{CannotRead, CannotWrite}
-use Rattle.td_tool.specs.Ending.{ending_of_file, ending_of_form, ending_of_stop}
+use Rattle.td_tool.specs.Ending.{ending_of_form, ending_of_stop}
 use Rattle.td_tool.specs.Checks.{AreTexts, Files, HasFailed, files_of}
-use Rattle.td_tool.specs.Tracks.{IsKnownIfGiven, IsKnownText, IsTextIfGiven, MayFail, OneFile}
-use Rattle.td_tool.specs.Tracks.{file_at}
+use Rattle.td_tool.specs.Tracks.{IsKnownIfGiven, IsKnownText, IsTextIfGiven, IsUnreadBy, MayFail}
+use Rattle.td_tool.specs.Tracks.{OneFile, file_at}
 
 -- ---- 1. what is read
 
@@ -100,9 +100,7 @@ FailsAt files Journal fault =
 
 -- a file isn't read, and so it ends
 abbrev pub IsUnread : RunFiles → Ending → Type 0
-IsUnread files ending =
-    (role : Role) × (fault : TextFault) × FailsAt files role fault
-    × (ending ≡ ending_of_file role fault)
+IsUnread files ending = IsUnreadBy (FailsAt files) ending
 
 -- ---- 2. how it ends
 

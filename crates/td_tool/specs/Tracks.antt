@@ -97,11 +97,14 @@ FailsAt files Tracker fault =
 FailsAt files Outcomes fault = ⊥
 FailsAt files Journal fault = ⊥
 
+-- a read fails so by a file's role, and so it ends
+abbrev pub IsUnreadBy : (Role → TextFault → Type 0) → Ending → Type 0
+IsUnreadBy Fails ending =
+    (role : Role) × (fault : TextFault) × Fails role fault × (ending ≡ ending_of_file role fault)
+
 -- a file isn't read, and so it ends
 abbrev pub IsUnread : TrackFiles → Ending → Type 0
-IsUnread files ending =
-    (role : Role) × (fault : TextFault) × FailsAt files role fault
-    × (ending ≡ ending_of_file role fault)
+IsUnread files ending = IsUnreadBy (FailsAt files) ending
 
 -- ---- 2. what is found
 

@@ -9,6 +9,10 @@ use Rattle.td_indices.specs.declared.archive_fault.ArchiveFault.{ArchiveFault}
 use Rattle.td_indices.specs.declared.archive_fault.ArchiveFault.TheVariants as archive
 use Rattle.td_indices.specs.declared.archive_fault.IndexField.{IndexField}
 use Rattle.td_indices.specs.declared.archive_fault.IndexField.TheVariants as field
+use Rattle.td_indices.specs.declared.archive_fault.VersionField.{VersionField}
+use Rattle.td_indices.specs.declared.archive_fault.VersionField.TheVariants as version
+use Rattle.td_indices.specs.declared.archive_fault.RelationField.{RelationField}
+use Rattle.td_indices.specs.declared.archive_fault.RelationField.TheVariants as relation
 use Rattle.td_rows.specs.declared.state_file.StateFault.{StateFault}
 use Rattle.td_rows.specs.declared.state_file.StateFault.TheVariants as state
 use Rattle.td_query.specs.declared.tracker_fault.TrackerFault.{TrackerFault}
@@ -21,6 +25,8 @@ use Rattle.td_simulate.specs.declared.fault.SimulationFault.{SimulationFault}
 use Rattle.td_simulate.specs.declared.fault.SimulationFault.TheVariants as simulation
 use Rattle.td_script.specs.declared.input_fault.InputFault.{InputFault as FormFault}
 use Rattle.td_script.specs.declared.input_fault.InputFault.TheVariants as form
+use Rattle.td_tool.specs.declared.cause.Cause.{Cause}
+use Rattle.td_tool.specs.declared.cause.Cause.TheVariants as cause
 use Rattle.td_tool.specs.declared.input_fault.InputFault.{InputFault}
 use Rattle.td_tool.specs.declared.input_fault.InputFault.TheVariants.{TooLong, NotText, Simulation}
 use Rattle.td_tool.specs.declared.input_fault.InputFault.TheVariants.{BadOutcome, Form}
@@ -62,12 +68,28 @@ wanted_field field.Version = codes "a field Version"
 wanted_field field.Architecture = codes "a field Architecture"
 wanted_field field.Source = codes "a field Source that names a package"
 
+-- of a stanza with a version that can't be read
+abbrev pub wanted_version : VersionField → List ℕ
+wanted_version version.Version = codes "a version in Version as deb-version(7) has it"
+wanted_version version.Source =
+    codes "a version in the brackets of Source as deb-version(7) has it"
+
+-- of a stanza with a relation that can't be read
+abbrev pub wanted_relation : RelationField → List ℕ
+wanted_relation relation.Depends = codes "a relation in Depends as Debian Policy 7.1 has it"
+wanted_relation relation.PreDepends = codes "a relation in Pre-Depends as Debian Policy 7.1 has it"
+wanted_relation relation.Provides = codes "a relation in Provides as Debian Policy 7.1 has it"
+wanted_relation relation.BuildDepends =
+    codes "a relation in Build-Depends as Debian Policy 7.1 has it"
+wanted_relation relation.BuildDependsArch =
+    codes "a relation in Build-Depends-Arch as Debian Policy 7.1 has it"
+
 -- of an index
 abbrev pub wanted_archive : ArchiveFault → List ℕ
 wanted_archive (archive.Stanza f e) = wanted_stanza e
 wanted_archive (archive.MissingField f n field) = wanted_field field
-wanted_archive (archive.BadVersion f n) = codes "versions as deb-version(7) has them"
-wanted_archive (archive.BadRelation f n) = codes "relations as Debian Policy 7.1 has them"
+wanted_archive (archive.BadVersion f n field) = wanted_version field
+wanted_archive (archive.BadRelation f n field) = wanted_relation field
 wanted_archive archive.TooManyRows = codes "at most 1048576 rows"
 wanted_archive archive.NoMemory = []
 
@@ -110,3 +132,10 @@ wanted_input NotText = codes "a text in UTF-8"
 wanted_input (Simulation e) = wanted_simulation e
 wanted_input (BadOutcome n) = codes "how a build ends, as KEY OUTCOME"
 wanted_input (Form e) = wanted_form e
+
+-- of a file that can't be read
+abbrev pub wanted_file : Cause → List ℕ
+wanted_file cause.NoSuchFile = codes "the path of a file that is there"
+wanted_file cause.NotPermitted = codes "a file that may be read"
+wanted_file cause.IsFolder = codes "a file, and no folder"
+wanted_file cause.TooLong = codes "a file of at most 1073741824 bytes"

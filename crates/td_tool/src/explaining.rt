@@ -1,6 +1,7 @@
-//! The explanation of a refusal: a second line on standard error, where one is asked for.
+//! The explanation of a refusal, or of a file that can't be read: a second line on standard error,
+//! where one is asked for.
 ghost use Rattle.std.specs.Prelude.{◌≡◌, ◌⊎◌, ◌≤◌, ◌<◌, ◌^◌, ℕ, List, Option, Some, None, Ok, Err};
-ghost use Rattle.std.specs.Prelude.{IfOk, IfErr, IfSome, MatchResult, OnOk, length};
+ghost use Rattle.std.specs.Prelude.{IfOk, IfErr, IfSome, MatchResult, OnOk, length, true};
 ghost use Rattle.std.specs.Prelude.{option_copied, option_map, string_bytes};
 ghost use Rattle.std.specs.Io.KnownBytes.{Appends, Keeps};
 ghost use Rattle.std.specs.Result.{ForOk};
@@ -8,16 +9,17 @@ ghost use Rattle.td_bytes.specs.Pieces.{AppendsPrefix};
 ghost use Rattle.td_tool.specs.Ending.{status_of};
 ghost use Rattle.td_tool.specs.Explained.{Explains, ExplainsFile, FailsAgain, FailsFor, FailsOf};
 ghost use Rattle.td_tool.specs.Explained.{HasNoText, HasNone, IsKept, SaysAll, SaysOf};
-ghost use Rattle.td_tool.specs.Explained.{archive_paths, explanation_of, known_of_request, line_if};
-ghost use Rattle.td_tool.specs.Explained.{paths_of};
+ghost use Rattle.td_tool.specs.Explained.{archive_paths, fault_line, known_of_request, line_if};
+ghost use Rattle.td_tool.specs.Explained.{paths_of, unread_line};
 ghost use Rattle.td_tool.specs.Limits.{file_limit, input_limit};
 
+use crate::cause::Cause;
 use crate::ending::{Ended, Ending};
 use crate::file_texts::FILE_LIMIT;
 use crate::input_fault::InputFault;
 use crate::places::place_of;
 use crate::texts::Texts;
-use crate::wanted::wanted;
+use crate::wanted::{wanted, wanted_of};
 use std::alloc::Global;
 use std::io::Write;
 use td_bytes::{TextFault, write_whole};
@@ -83,7 +85,7 @@ fn explain_text(
 ) -> Result<String, Unexplained>
     requires { length text.now < 2 ^ 63 }
     ensures { MatchResult result
-        (λ line. string_bytes line ≡ explanation_of (Ending.BadInput role fault) text.now)
+        (λ line. string_bytes line ≡ fault_line role fault text.now)
         (λ e. e ≡ Unexplained.NoMemory) }
 {
     match explain(alloc, role.label(), place_of(fault), wanted(fault), text) {
@@ -101,8 +103,7 @@ fn explain_read(
 ) -> Result<String, Unexplained>
     requires { ForOk read (λ text. length (string_bytes text) ≤ file_limit) }
     ensures line { IfOk read (λ text. MatchResult result
-        (λ line. string_bytes line
-        ≡ explanation_of (Ending.BadInput role fault) (string_bytes text))
+        (λ line. string_bytes line ≡ fault_line role fault (string_bytes text))
         (λ e. e ≡ Unexplained.NoMemory)) }
     ensures unread { IfErr read (λ why. result ≡ Err (Unexplained.Unread why)) }
 {
@@ -169,7 +170,45 @@ fn some_line(line: Result<String, Unexplained>) -> Result<Option<String>, Unexpl
     }
 }
 
-// The line that explains how a run ended, where it was refused.
+// The line of a file that can't be read for this cause, where that is known.
+fn explain_cause(
+    alloc: Global,
+    role: Role,
+    cause: Option<Cause>,
+) -> Result<Option<String>, Unexplained>
+    ensures line { IfOk result (λ told. line_if told ≡ unread_line role cause) }
+    ensures none { IfOk result (λ told. told ≡ None → cause ≡ None) }
+    ensures failed { IfErr result (λ e. e ≡ Unexplained.NoMemory) }
+{
+    let Some(cause) = cause else {
+        return Ok(None);
+    };
+    match explain(alloc, role.label(), Place::Whole, wanted_of(cause), "") {
+        Ok(line) => Ok(Some(line)),
+        Err(_) => Err(Unexplained::NoMemory),
+    }
+}
+
+// The same of the file of a role; nothing where it has no path.
+fn explain_unread<T: Texts>(
+    alloc: Global,
+    role: Role,
+    request: &Request,
+    texts: &T,
+) -> Result<Option<String>, Unexplained>
+    ensures line { IfOk result (λ told. IfSome told (λ line.
+        (cause : Option Cause) × (string_bytes line ≡ unread_line role cause))) }
+    ensures none { IfOk result (λ told. told ≡ None
+        → IfSome (paths_of request.now role) (λ path. T.can_be texts.now path None ≡ true)) }
+    ensures failed { IfErr result (λ e. e ≡ Unexplained.NoMemory) }
+{
+    match path_of(request, role) {
+        Some(path) => explain_cause(alloc, role, texts.cause(path.as_str(), FILE_LIMIT)),
+        None => Ok(None),
+    }
+}
+
+// The line that explains how a run ended, where it was refused or a file wasn't read.
 fn explanation<T: Texts>(
     alloc: Global,
     ended: &Ended,
@@ -183,15 +222,16 @@ fn explanation<T: Texts>(
         (known_of_request request.now known (T.bytes texts.now)) ended.now.ending
         (string_bytes line))) }
     ensures none { IfOk result (λ told. told ≡ None
-        → HasNone ended.now.ending ended.now.input request.now) }
+        → HasNone (T.can_be texts.now) ended.now.ending ended.now.input request.now) }
     ensures failed { IfErr result (FailsOf (T.can_fail texts.now) request.now ended.now.ending) }
 {
-    let Ending::BadInput(role, fault) = ended.ending else {
-        return Ok(None);
-    };
-    match place_of(fault) {
-        Place::Whole => some_line(explain_text(alloc, role, fault, "")),
-        _ => explain_place(alloc, role, fault, &ended.input, request, texts),
+    match ended.ending {
+        Ending::BadInput(role, fault) => match place_of(fault) {
+            Place::Whole => some_line(explain_text(alloc, role, fault, "")),
+            _ => explain_place(alloc, role, fault, &ended.input, request, texts),
+        },
+        Ending::CannotRead(role) => explain_unread(alloc, role, request, texts),
+        Ending::Done | Ending::Refused | Ending::NoMemory | Ending::CannotWrite => Ok(None),
     }
 }
 
@@ -232,7 +272,8 @@ fn say<T: Texts, E: Write>(
     ensures whole { (known : Option (List ℕ))
         → IsKept (known_of_request request.now known (T.bytes texts.now)) ended.now.input
         → OnOk result (SaysAll explained (known_of_request request.now known (T.bytes texts.now))
-        ended.now request.now (E.contents faults.old) (E.contents faults.new)) }
+        (T.can_be texts.now) ended.now request.now
+        (E.contents faults.old) (E.contents faults.new)) }
     ensures failed { IfErr result (λ e. (e ≡ Unexplained.CannotWrite)
         ⊎ FailsOf (T.can_fail texts.now) request.now ended.now.ending e) }
     ensures front { (known : Option (List ℕ))

@@ -8,10 +8,11 @@
 //! Promised: what is written is the answer to what was read, and nothing where that is refused; a
 //! write that fails leaves a front of it; the status and the line on standard error say which
 //! (`specs/Ends.antt`, `specs/Checks.antt`, `specs/Tracks.antt`, `specs/Runs.antt`); and a refusal
-//! is explained where that is asked for (`specs/Explained.antt`).
+//! or a file that can't be read is explained where that is asked for (`specs/Explained.antt`).
 #![tactic(auto)]
 
 mod answering;
+mod cause;
 mod checking;
 mod ending;
 mod explaining;
@@ -27,5 +28,6 @@ mod tracking;
 mod wanted;
 
 pub use answering::{BAD_WORDS, tool};
+pub use cause::Cause;
 pub use simulation::simulate;
 pub use texts::Texts;

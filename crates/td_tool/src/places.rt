@@ -68,8 +68,8 @@ fn place_in_index(fault: ArchiveFault) -> Place
     match fault {
         ArchiveFault::Stanza(_, fault) => place_in_stanzas(fault),
         ArchiveFault::MissingField(_, n, _)
-        | ArchiveFault::BadVersion(_, n)
-        | ArchiveFault::BadRelation(_, n) => Place::Stanza(n),
+        | ArchiveFault::BadVersion(_, n, _)
+        | ArchiveFault::BadRelation(_, n, _) => Place::Stanza(n),
         ArchiveFault::TooManyRows | ArchiveFault::NoMemory => Place::Whole,
     }
 }

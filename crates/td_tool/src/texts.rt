@@ -1,4 +1,5 @@
 //! Where the texts of files come from: the disk, or a test's memory.
+use crate::cause::Cause;
 use std::alloc::Global;
 use td_bytes::TextFault;
 
@@ -24,12 +25,16 @@ pub trait Texts {
     ghost use Rattle.std.specs.String.{string_bytes};
     ghost use Rattle.td_bytes.specs.declared.text.TextFault.{TextFault};
     ghost use Rattle.td_bytes.specs.declared.text.TextFault.TheVariants.{NotText, TooLong};
+    ghost use Rattle.td_tool.specs.declared.cause.Cause.{Cause};
 
     // The bytes of the file with this path, where clauses know them.
     ghost bytes: { Self → List ℕ → Option (List ℕ) };
 
     // For which faults a read of the file with this path may fail.
     ghost can_fail: { Self → List ℕ → TextFault → Bool };
+
+    // What may be known of why the file with this path can't be read.
+    ghost can_be: { Self → List ℕ → Option Cause → Bool };
 
     /// Reads a whole file, a text of at most `limit` bytes.
     fn text(&self, alloc: Global, path: &str, limit: usize) -> Result<String, TextFault>
@@ -42,4 +47,9 @@ pub trait Texts {
             → IfSome (bytes self.now path.now) (λ all. limit < length all) }
         // Nobody but a file says that it can't be read.
         ensures fails { IfErr result (λ fault. can_fail self.now path.now fault ≡ true) };
+
+    /// Why the file with this path can't be read, as a text of at most `limit` bytes; `None` where
+    /// that isn't known.
+    fn cause(&self, path: &str, limit: usize) -> Option<Cause>
+        ensures { can_be self.now path.now result ≡ true };
 }

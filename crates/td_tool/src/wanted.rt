@@ -1,12 +1,13 @@
 //! What is wanted in the place of what is refused.
 ghost use Rattle.std.specs.Prelude.{◌≡◌};
-ghost use Rattle.td_tool.specs.Wanted.{wanted_archive, wanted_field, wanted_form, wanted_input};
-ghost use Rattle.td_tool.specs.Wanted.{wanted_journal};
-ghost use Rattle.td_tool.specs.Wanted.{wanted_key, wanted_simulation, wanted_stanza, wanted_state};
-ghost use Rattle.td_tool.specs.Wanted.{wanted_table, wanted_tracker};
+ghost use Rattle.td_tool.specs.Wanted.{wanted_archive, wanted_field, wanted_file, wanted_form};
+ghost use Rattle.td_tool.specs.Wanted.{wanted_input, wanted_journal, wanted_key, wanted_relation};
+ghost use Rattle.td_tool.specs.Wanted.{wanted_simulation, wanted_stanza, wanted_state};
+ghost use Rattle.td_tool.specs.Wanted.{wanted_table, wanted_tracker, wanted_version};
 
+use crate::cause::Cause;
 use crate::input_fault::InputFault;
-use td_indices::{ArchiveFault, IndexField};
+use td_indices::{ArchiveFault, IndexField, RelationField, VersionField};
 use td_journal::ReadError;
 use td_query::{TrackerFault, TrackerKey};
 use td_relation::ArchsFault;
@@ -76,6 +77,30 @@ fn wanted_field(fault: IndexField) -> &'static str
     }
 }
 
+// Of a stanza with a version that can't be read.
+fn wanted_version(field: VersionField) -> &'static str
+    ensures { result.now ≡ wanted_version field }
+{
+    match field {
+        VersionField::Version => "a version in Version as deb-version(7) has it",
+        VersionField::Source => "a version in the brackets of Source as deb-version(7) has it",
+    }
+}
+
+// Of a stanza with a relation that can't be read.
+fn wanted_relation(field: RelationField) -> &'static str
+    ensures { result.now ≡ wanted_relation field }
+{
+    match field {
+        RelationField::Depends => "a relation in Depends as Debian Policy 7.1 has it",
+        RelationField::PreDepends => "a relation in Pre-Depends as Debian Policy 7.1 has it",
+        RelationField::Provides => "a relation in Provides as Debian Policy 7.1 has it",
+        RelationField::BuildDepends => "a relation in Build-Depends as Debian Policy 7.1 has it",
+        RelationField::BuildDependsArch =>
+            "a relation in Build-Depends-Arch as Debian Policy 7.1 has it",
+    }
+}
+
 // Of an index.
 fn wanted_archive(fault: ArchiveFault) -> &'static str
     ensures { result.now ≡ wanted_archive fault }
@@ -83,8 +108,8 @@ fn wanted_archive(fault: ArchiveFault) -> &'static str
     match fault {
         ArchiveFault::Stanza(_, fault) => wanted_stanza(fault),
         ArchiveFault::MissingField(_, _, field) => wanted_field(field),
-        ArchiveFault::BadVersion(_, _) => "versions as deb-version(7) has them",
-        ArchiveFault::BadRelation(_, _) => "relations as Debian Policy 7.1 has them",
+        ArchiveFault::BadVersion(_, _, field) => wanted_version(field),
+        ArchiveFault::BadRelation(_, _, field) => wanted_relation(field),
         ArchiveFault::TooManyRows => "at most 1048576 rows",
         ArchiveFault::NoMemory => "",
     }
@@ -151,5 +176,17 @@ pub fn wanted(fault: InputFault) -> &'static str
         InputFault::Simulation(fault) => wanted_simulation(fault),
         InputFault::BadOutcome(_) => "how a build ends, as KEY OUTCOME",
         InputFault::Form(fault) => wanted_form(fault),
+    }
+}
+
+/// What is wanted where a file can't be read.
+pub fn wanted_of(cause: Cause) -> &'static str
+    ensures { result.now ≡ wanted_file cause }
+{
+    match cause {
+        Cause::NoSuchFile => "the path of a file that is there",
+        Cause::NotPermitted => "a file that may be read",
+        Cause::IsFolder => "a file, and no folder",
+        Cause::TooLong => "a file of at most 1073741824 bytes",
     }
 }

@@ -19,8 +19,8 @@ Exit status:
   3  bad command line, or a call for help
   4  want of memory
   5  a read or a write failed
-With 2, 4 and 5 standard error has one line that says what was wrong; with 2 and --explain a second
-one that says what is wanted, and where, if the fault has a place.
+With 2, 4 and 5 standard error has one line that says what was wrong; with --explain a second one
+that says what is wanted of a text, and where, if the fault has a place, or of a file.
 
 docs/FORMATS.md says exactly what is read and printed.";
 

@@ -1,9 +1,19 @@
 //! The files of the disk.
 use std::alloc::Global;
+use std::fs;
 use std::fs::File;
 use std::io::ErrorKind;
 use td_bytes::{TextFault, read_text};
-use td_tool::Texts;
+use td_tool::{Cause, Texts};
+
+// What an error of this kind says of why a file can't be read.
+fn cause_of(kind: ErrorKind) -> Option<Cause> {
+    match kind {
+        ErrorKind::NotFound | ErrorKind::NotADirectory => Some(Cause::NoSuchFile),
+        ErrorKind::PermissionDenied => Some(Cause::NotPermitted),
+        _ => None,
+    }
+}
 
 // The files of the disk. Clauses know nothing of their bytes.
 #[derive(Drop)]
@@ -16,11 +26,27 @@ impl Texts for Disk<'_> {
 
     ghost can_fail = { λ _ _ _. true };
 
+    ghost can_be = { λ _ _ _. true };
+
     fn text(&self, alloc: Global, path: &str, limit: usize) -> Result<String, TextFault> {
         match File::open(self.0, path) {
             Ok(mut file) => read_text(alloc, &mut file, limit),
             Err(error) if error.kind() == ErrorKind::OutOfMemory => Err(TextFault::NoMemory),
             Err(_) => Err(TextFault::CannotRead),
+        }
+    }
+
+    // Nothing but a file is opened for it: that of a pipe would wait for a writer.
+    fn cause(&self, path: &str, limit: usize) -> Option<Cause> {
+        match fs::metadata(self.0, path) {
+            Err(error) => cause_of(error.kind()),
+            Ok(found) if found.is_dir() => Some(Cause::IsFolder),
+            Ok(found) if found.len() > limit as u64 => Some(Cause::TooLong),
+            Ok(found) if found.is_file() => match File::open(self.0, path) {
+                Ok(_) => None,
+                Err(error) => cause_of(error.kind()),
+            },
+            Ok(_) => None,
         }
     }
 }
