@@ -5,13 +5,10 @@ use crate::archive::{ARCHS, PACKAGES, SOURCES};
 use std::alloc::{AllocError, Global};
 use std::fmt::Debug;
 use std::sync::Wait;
-use std::sync::atomic::{AtomicU64, Ordering};
 use std::test::Fail;
 use std::thread::Threads;
-use td_book::Job;
-use td_builder::Builds;
 use td_crew::{run_crew, run_crew_with};
-use td_rows::Outcome;
+use td_desk_tests::Together;
 use td_script::{Inputs, ScriptEnd};
 
 // The archive and no other file, and less than 65 builders.
@@ -74,29 +71,6 @@ fn without_builders_the_rows_are_told_too(rt: HostRuntime) -> Result<(), Fail> {
     Ok(())
 }
 
-// How many turns a build waits for another.
-const MOST_TURNS: u32 = 100_000_000;
-
-// Builds that wait for one another: each is built once two have begun, and else an attempt.
-#[derive(Drop)]
-struct Together {
-    begun: AtomicU64,
-}
-
-impl Builds for Together {
-    ghost may = { λ together job outcome. Unit {0} };
-
-    fn build<R: Wait>(&self, _rt: &R, _job: &Job) -> Outcome {
-        self.begun.fetch_add(1, Ordering::SeqCst);
-        for _ in 0..MOST_TURNS {
-            if self.begun.load(Ordering::SeqCst) > 1 {
-                return Outcome::Built;
-            }
-        }
-        Outcome::Attempted
-    }
-}
-
 // What comes of a script that two builders run whose builds wait for one another.
 fn told_together<R: Threads + Wait + Sync>(
     rt: &R,
@@ -105,9 +79,7 @@ fn told_together<R: Threads + Wait + Sync>(
     mut script: &[u8],
 ) -> Result<String, AllocError> {
     let mut writer = Vec::new(alloc);
-    let together = Together {
-        begun: AtomicU64::new(0),
-    };
+    let together = Together::new();
     let end = run_crew_with(rt, alloc, inputs, &mut script, &mut writer, &together);
     spelled(alloc, &end, writer.as_slice())
 }

@@ -4,7 +4,7 @@
 //! `journals` and `crews`. `sample` is what all begin with. `shop` opens a desk and closes it,
 //! `script` reads the calls at it, `people` are the clerks and the builders who make them. They
 //! stand in a crate of their own, over public calls, so that neither the book nor the desk nor the
-//! builders are proved a second time with their tests.
+//! builders are proved a second time with their tests. `Together` is for the crew's tests too.
 #![tactic(auto)]
 
 #[cfg(test)]
@@ -22,6 +22,8 @@ mod journals;
 #[cfg(test)]
 mod outcomes;
 #[cfg(test)]
+mod overlap;
+#[cfg(test)]
 mod people;
 #[cfg(test)]
 mod sample;
@@ -33,5 +35,6 @@ mod shop;
 mod spelling;
 #[cfg(test)]
 mod tally;
-#[cfg(test)]
 mod together;
+
+pub use together::Together;

@@ -1,11 +1,11 @@
 //! The reader of scripts: a line is a call at the desk, and behind `=>` what it is answered.
 use crate::crew::{Style, crew};
+use crate::overlap::work_together;
 use crate::people::{People, command};
 use crate::sample::TABLE;
 use crate::spelling::{
     entry_line, key, number, on_one_line, receipts, row_line, shown, spelled, unlike,
 };
-use crate::together::work_together;
 use std::alloc::Global;
 use std::sync::Wait;
 use std::sync::ledger::Ledger;
