@@ -123,9 +123,9 @@ IsRefusedFor fault (Err e) = (e ≡ NoMemory) ⊎ (e ≡ fault)
 
 -- ---- 4. what the reading of two texts comes to
 
--- it is that of these lines, with the table of architectures: what is read is an archive; an archive
--- is read, unless memory runs out; a refusal names a fault; and a fault is refused, unless memory
--- runs out
+-- it is that of these lines, with the table of architectures: what is read is an archive; an
+-- archive is read, unless memory runs out; a refusal names a fault; and a fault is refused, unless
+-- memory runs out
 pub record IsRead (table : List ArchWords) (package_lines source_lines : List (List ℕ))
     (read : Result Contents ArchiveFault) : Type 0 where
   pub found : IfOk read (IsArchive table package_lines source_lines)

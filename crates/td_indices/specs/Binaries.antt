@@ -30,7 +30,9 @@ home_of table arch =
 
 -- the name before a version in brackets; whitespace may stand behind it
 unfoldable pub front_name : List ℕ → Option (List ℕ)
-front_name front = if is_name (run is_name_byte front) && is_blank (behind is_name_byte front) then Some (run is_name_byte front) else None
+front_name front =
+    if is_name (run is_name_byte front) && is_blank (behind is_name_byte front)
+    then Some (run is_name_byte front) else None
 
 -- the name, and what stands behind the bracket
 abbrev pub named_front : Option (List ℕ) → List ℕ → Result (List ℕ × Option (List ℕ)) EntryFault

@@ -55,7 +55,8 @@ Tried turn w h n ks more behind =
 tried-ahead : (turn turn' : ℕ → List Step) (w w' : WorldView) (h : History) (n : ℕ) (k : Key)
     (ks : List Key) (more : List Move) (behind : List Key → Key → ℕ → List Move)
     → ((ms : List Move) → Going turn' w' ms → Going turn w (winning_one (rows_of h) k ++ ms))
-    → Tried turn' w' h n ks more (λ front. behind (k ∷ front)) → Tried turn w h n (k ∷ ks) more behind
+    → Tried turn' w' h n ks more (λ front. behind (k ∷ front))
+    → Tried turn w h n (k ∷ ks) more behind
 tried-ahead turn turn' w w' h n k ks more behind ahead (inl g) =
     inl (subst (λ (ms : List Move). Going turn w ms)
     (sym (append_assoc (winning_one (rows_of h) k) (winning (rows_of h) ks) more))

@@ -28,7 +28,8 @@ ArrivalsAreSteps =
 
 -- a sweep is the step, and the rows that it frees are offered
 abbrev pub sweep_moves : BookModel → List Move
-sweep_moves old = sweep ∷ offering (rows_of (sweeping (resting old) (freed_now old)).history) (freed_now old)
+sweep_moves old =
+    sweep ∷ offering (rows_of (sweeping (resting old) (freed_now old)).history) (freed_now old)
 
 -- it tells the number of its entry, or that nothing is freed; for want of memory there is no move
 abbrev pub SweepMoves : BookModel → Result (Option ℕ) AllocError → List Move → Type 0

@@ -142,4 +142,5 @@ UndoneElse =
 -- number that is told is the blocker's, that of the latest standing entry which touches what the
 -- undo would have given back
 abbrev pub WonNamesTheLatest : Type 0
-WonNamesTheLatest = (n m : ℕ) (old new : BookModel) → undo_stop old.history.journal n ≡ None → Does (undo n (Err (Blocked m))) old new → blocker new.history.journal n ≡ Some m
+WonNamesTheLatest = (n m : ℕ) (old new : BookModel) → undo_stop old.history.journal n ≡ None
+    → Does (undo n (Err (Blocked m))) old new → blocker new.history.journal n ≡ Some m

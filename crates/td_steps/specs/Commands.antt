@@ -27,7 +27,8 @@ entering_moves kind named matched h choices =
     let off = off_for kind named in
     let now = noting h off choices in
     let taken = takes (rows_of now) kind matched in
-    withdrawing h off choices ++ (committing kind taken ++ offering (rows_of (entered now kind taken)) off)
+    withdrawing h off choices
+    ++ (committing kind taken ++ offering (rows_of (entered now kind taken)) off)
 
 -- the keys whose rows a command may withdraw in a book
 abbrev pub off_in : CommandParts → BookModel → List Key

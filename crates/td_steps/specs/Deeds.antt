@@ -29,7 +29,8 @@ JournalsTellDeeds = (rows : ℕ) (m : Moment) → Reached rows m
 
 -- what the journal of a book says of a builder, after the entries of before
 abbrev pub told_of : ℕ → BookModel → List Deed
-told_of b book = deeds_of b (keys_of book.history.opening) (drop book.fixed.since book.history.journal)
+told_of b book =
+    deeds_of b (keys_of book.history.opening) (drop book.fixed.since book.history.journal)
 
 -- so it is of every book at rest: of its seat `Book::seat` ensures this
 abbrev pub BooksTellDeeds : Type 0

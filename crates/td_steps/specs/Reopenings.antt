@@ -53,4 +53,6 @@ pub record AreReplayed (opening : Table) (book : BookModel) : Type 0 where
 -- so it is after whatever calls since the reopening: the entries of the text count with those that
 -- came later
 abbrev pub ReopenedAreReplayed : Type 0
-ReopenedAreReplayed = (opening : Table) (book new : BookModel) (calls : List Call) → ascending (keys_of opening) ≡ true → Reopened opening book → DoAll calls book new → AreReplayed opening new
+ReopenedAreReplayed = (opening : Table) (book new : BookModel) (calls : List Call)
+    → ascending (keys_of opening) ≡ true → Reopened opening book → DoAll calls book new
+    → AreReplayed opening new

@@ -47,7 +47,8 @@ loop-rest-preserved c =
     record {
       os = h.os ++ (c.in_ok-key.key, c.in_ok-key.outcome) ∷ [];
       read = AreRead-push outcome_line_at outcome_line OutcomeFits lines_exact _ h.os
-          (c.in_ok-key.key, c.in_ok-key.outcome) c.next_line.result.0.now _ _ h.read (next ∙ ap (λ (l : List (List ℕ)). c.next_line.result.0.now ∷ l)
+          (c.in_ok-key.key, c.in_ok-key.outcome) c.next_line.result.0.now _ _ h.read
+          (next ∙ ap (λ (l : List (List ℕ)). c.next_line.result.0.now ∷ l)
           (sym c.behind-rest.ensures.lines))
           (told-read c.read_outcome_line-read.result (c.len.result + 1)
           (c.in_ok-key.key, c.in_ok-key.outcome) _ c.read_outcome_line-read.ensures

@@ -28,7 +28,8 @@ returns-in-Ok-read_steps-clause-only c = λ t ss is. (
       (its_opening c.args.text.now c.parts_of-parts.result.opening.now t ss
       c.parts_of-parts.ensures.opening is),
   AreSpelled-one step_at step_line StepFits steps_exact _ c.in-Ok-read_steps.steps.items ss
-      c.in-Ok-read_steps.ensures.found (its_steps c.args.text.now c.parts_of-parts.result.steps.now t ss
+      c.in-Ok-read_steps.ensures.found
+      (its_steps c.args.text.now c.parts_of-parts.result.steps.now t ss
       c.parts_of-parts.ensures.steps is),
 )
 

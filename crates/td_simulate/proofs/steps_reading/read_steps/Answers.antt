@@ -31,7 +31,8 @@ returns-in_default-read-clause-fault c =
     let next = ended-next c.loop-rest.rest.now c.next_line.result.0.now c.next_line.result.1
     c.next_line.ensures.lines c.next_line.ensures.text (some_text c.loop-rest.rest.now filled) in
     AreRead-other step_at step_line StepFits steps_exact c.args.first c.loop-rest.number _
-    c.loop-rest.steps.items c.next_line.result.0.now _ _ c.loop-rest.invariant.read next (sym (sym c.in_default-read.is ∙ c.in-Ok.ensures))
+    c.loop-rest.steps.items c.next_line.result.0.now _ _ c.loop-rest.invariant.read next
+    (sym (sym c.in_default-read.is ∙ c.in-Ok.ensures))
     c.loop-rest.invariant.counted
 
 pub overflow_add-number : goal.overflow_add-number
