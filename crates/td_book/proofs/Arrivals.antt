@@ -1,24 +1,24 @@
 -- What the desk knows after an arrival, and after a sweep.
-use Rattle.std.proofs.Common.{◌≡◌, Bool, true, false, List, [], ◌∷◌, Some, None, if◌then◌else◌, ap}
-use Rattle.std.proofs.Common.{refl, sym, subst, ◌∙◌}
+use Rattle.std.proofs.Common.{◌≡◌, true, List, [], ◌∷◌, Some, ap, refl, sym, subst, ◌∙◌}
 use Rattle.std.specs.Prelude.{ℕ, Result, Ok, Err, IfOk, OnErr}
 use Rattle.td_rows.specs.declared.key.Key.{Key}
 use Rattle.td_rows.specs.declared.row.Row.{Row}
 use Rattle.td_rows.specs.declared.kind.Kind.TheVariants.{Arrive, Sweep}
-use Rattle.td_rows.specs.Keys.{same_key, ascending}
+use Rattle.td_rows.specs.Keys.{ascending}
 use Rattle.td_rows.specs.Meaning.{applies}
-use Rattle.td_rows.specs.Table.{row_of, fits, AppliesOn, keys_of}
-use Rattle.td_rows.proofs.Keys.{same_key-true}
+use Rattle.td_rows.specs.Table.{row_of, AppliesOn, keys_of}
 use Rattle.td_core.specs.Books.{BooksView}
 use Rattle.td_core.specs.History.{History, rows_of, with_entry, IsAppended}
 use Rattle.td_core.specs.Offers.{supply_now, freed}
 use Rattle.td_core.proofs.Freeing.{ascending-freed, AppliesOn-freed}
+use Rattle.td_core.proofs.WorldSteps.{AppliesOn-one}
+use Rattle.td_core.proofs.Worlds.{rows_of-with_entry}
 use Rattle.td_book.specs.declared.book.Book.TheInside.{Inside}
 use Rattle.td_book.specs.Watching.{kept_in}
 use Rattle.td_book.specs.Seen.{seen_off}
 use Rattle.td_book.specs.Desk.{InnerModel}
 use Rattle.td_book.proofs.Seeing.{desks_off, arrive_off, waiting_off}
-use Rattle.td_book.proofs.Steps.{rows_with, up_now}
+use Rattle.td_book.proofs.Steps.{up_now}
 
 -- what was read of a book's inside is so of the inside
 pub rising_inside : (read now : Inside) → read ≡ now
@@ -54,17 +54,11 @@ pub arrived_view : {E : Type 0} (a b : InnerModel) (k : Key) (row : Row) (r : Re
     → b.view ≡ seen_off [] (rows_of b.books.history)
 arrived_view a b k row (Ok x) up found fit rest ok err same =
     let t = rows_of a.books.history in
-    let fits_all : AppliesOn t Arrive (k ∷ []) = λ q named. whole q (same_key q k) refl named in
+    let fits_all : AppliesOn t Arrive (k ∷ []) = AppliesOn-one t Arrive k row found fit in
     same ∙ rest ∙ sym (arrive_off (k ∷ []) t (up_now a.books.history up) fits_all)
-    ∙ ap (seen_off []) (sym (rows_with a.books.history (record { kind = Arrive; keys = k ∷ [] })))
+    ∙ ap (seen_off [])
+    (sym (rows_of-with_entry a.books.history (record { kind = Arrive; keys = k ∷ [] })))
     ∙ ap (λ (h : History). seen_off [] (rows_of h)) (sym ok.history)
-  where
-    whole : (q : Key) (v : Bool) → same_key q k ≡ v → (if v then true else false) ≡ true
-        → fits (rows_of a.books.history) Arrive q ≡ true
-    whole q true is h =
-        ap (fits (rows_of a.books.history) Arrive) (same_key-true q k is)
-        ∙ ap (λ x. elim x as (λ _. Bool) [ Some r ↦ applies Arrive r | None ↦ false ]) found ∙ fit
-    whole q false is h = cc
 arrived_view a b k row (Err x) up found fit rest ok err same =
     same ∙ rest ∙ ap (λ (h : History). seen_off [] (rows_of h)) (sym err)
 
@@ -80,5 +74,6 @@ swept_view a b keys up fit rest ok same =
     let rising = up_now a.books.history up in
     same ∙ rest ∙ waiting_off keys t rising fit
     ∙ sym (desks_off keys keys Sweep t rising refl fit (λ has k named. named))
-    ∙ ap (seen_off keys) (sym (rows_with a.books.history (record { kind = Sweep; keys = keys })))
+    ∙ ap (seen_off keys)
+    (sym (rows_of-with_entry a.books.history (record { kind = Sweep; keys = keys })))
     ∙ ap (λ (h : History). seen_off keys (rows_of h)) (sym ok)

@@ -28,6 +28,7 @@ use Rattle.td_core.specs.Committing.{takes}
 use Rattle.td_core.specs.History.{History, rows_of}
 use Rattle.td_book.specs.Seen.{seen_off, seen_as, known_as, held_as}
 use Rattle.td_core.proofs.Phases.{keys_of-rows_of}
+use Rattle.td_core.proofs.Worlds.{rows_of-with_entry}
 use Rattle.td_book.specs.declared.starting.Job.{Job}
 use Rattle.td_book.specs.Watching.{WatchedView}
 use Rattle.td_book.specs.Desk.{InnerModel, BookModel, book_of, Stays, HasRoom, HasOne, claim_of}
@@ -35,7 +36,7 @@ use Rattle.td_book.specs.Calls.{noting_one, HasOut, OutAt, LostTo}
 use Rattle.td_book.specs.Building.{Knows, head_key, is_built_at, Noticed, IsJobAt}
 use Rattle.td_book.proofs.Seeing.{claimed_off, idle_off, views_at, views-each_row, set_views}
 use Rattle.td_book.proofs.Seeing.{length-seen_off}
-use Rattle.td_book.proofs.Steps.{rising_read, rows_read, rows_with, noting_one-lost}
+use Rattle.td_book.proofs.Steps.{rising_read, rows_read, noting_one-lost}
 use Rattle.td_book.proofs.Steps.{noting_one-opening, noting_one-won, stays_none, stays_more}
 use Rattle.td_book.proofs.Steps.{stays_fixed, spent_none, key_of, up_now}
 
@@ -80,7 +81,7 @@ knows_noted by b k i m n lost out up rest =
     let t = rows_of m.books.history in
     let u = applied (Claim by) (k ∷ []) t in
     let rows : rows_of n.books.history ≡ u =
-    ap rows_of lost.history ∙ rows_with m.books.history (claim_of by k) in
+    ap rows_of lost.history ∙ rows_of-with_entry m.books.history (claim_of by k) in
     let claimed = row_claimed t k i by out.row up out.at in
     let up_u : ascending (keys_of u) ≡ true =
     ap ascending (keys_of-each_row (meant (Claim by) (k ∷ [])) t) ∙ up in

@@ -1,6 +1,6 @@
 -- The rows that a command names, over plain values.
 use Rattle.std.proofs.Common.{◌≡◌, ℕ, Bool, true, false, ◌&&◌, ◌||◌, List, [], ◌∷◌}
-use Rattle.std.proofs.Common.{◌++◌, Option, None, filter, map, is_some, if◌then◌else◌, ap, refl}
+use Rattle.std.proofs.Common.{◌++◌, Option, None, filter, is_some, if◌then◌else◌, ap, refl}
 use Rattle.std.proofs.Common.{sym, subst, ◌∙◌}
 use Rattle.std.specs.List.{list_any}
 use Rattle.std.specs.Ordering.{is_lt, ordering_reverse}
@@ -19,7 +19,6 @@ use Rattle.td_core.proofs.Taking.{passes-filter, names-filter, ascending-filter}
 use Rattle.std.specs.Prelude.{Some, string_bytes}
 use Rattle.std.specs.Option.{option_and_then}
 use Rattle.std.specs.Result.{result_ok}
-use Rattle.std.specs.Borrow.{Bor}
 use Rattle.td_version.specs.Reading.{reading}
 use Rattle.td_version.specs.Version.{Parts}
 use Rattle.td_version.proofs.Outcomes.{read_only}
@@ -27,7 +26,8 @@ use Rattle.td_supply.specs.Supply.{SupplyView}
 use Rattle.td_supply.specs.VersionTexts.{HasVersion}
 use Rattle.td_wbread.specs.declared.command.Command.{Command}
 use Rattle.td_wbread.specs.Naming.{is_named}
-use Rattle.td_wbread.specs.Views.{package_of, parts_of}
+use Rattle.td_wbread.specs.Views.{parts_of}
+use Rattle.td_wbread.proofs.Names.{has_arch, has_source}
 use Rattle.td_book.specs.Naming.{Adds, version_in}
 
 -- ---- 1. lists of keys that rise
@@ -211,19 +211,13 @@ named_all t found sorted p up rising same adds =
     rising_same sorted (filter p (keys_of t)) rising (ascending-filter p (keys_of t) up) (λ k.
     same k ∙ adds k ∙ ap (λ b. p k && b) (is_some-row_of t k) ∙ sym (filter-names p (keys_of t) k))
 
-pub any_map : {A B : Type 0} (f : A → B) (p : B → Bool) (xs : List A)
-    → list_any p (map f xs) ≡ list_any (λ x. p (f x)) xs
-any_map f p [] = refl
-any_map f p (x ∷ xs) = ap (λ b. p (f x) || b) (any_map f p xs)
-
 -- a command names a key by its packages and its architectures
 pub named_same : (command : Command) (source arch : List ℕ)
     → (list_any (λ p. bytes_eq (string_bytes p.source) source) command.packages.items
     && list_any (λ a. bytes_eq a.now arch) command.archs.items)
     ≡ is_named (parts_of command) source arch
 named_same command source arch =
-    λ j. sym (any_map package_of (λ p. bytes_eq p.source source) command.packages.items) j
-    && sym (any_map (λ (a : Bor (List ℕ)). a.now) (λ a. bytes_eq a arch) command.archs.items) j
+    λ j. has_source command source j && has_arch command arch j
 
 pub adds_same : (t : Table) (old new : List Key) (p q : Key → Bool) → ((k : Key) → p k ≡ q k)
     → Adds t old new p → Adds t old new q

@@ -1,12 +1,12 @@
 -- The groups of the rows, as they are set one by one.
 use Rattle.std.proofs.Common.{◌≡◌, ℕ, zero, suc, ◌+◌, ◌<◌, Bool, true, false, List, [], ◌∷◌}
 use Rattle.std.proofs.Common.{◌++◌, Option, Some, None, if◌then◌else◌, length, drop, take, map, set}
-use Rattle.std.proofs.Common.{get_or, slice_get, ap, refl, sym, subst, ◌∙◌, arith}
+use Rattle.std.proofs.Common.{get_or, slice_get, ap, refl, sym, subst, ◌∙◌}
 use Rattle.std.specs.Prelude.{is_some, replicate}
 use Rattle.std.specs.Option.{option_map, option_or}
 use Rattle.std.specs.Ordering.{is_lt}
 use Rattle.std.proofs.lemmas.Bool.{and_parts}
-use Rattle.std.proofs.lemmas.Option.{slice_get_read}
+use Rattle.std.proofs.lemmas.Option.{slice_get_read, slice_get_within}
 use Rattle.td_rows.specs.declared.key.Key.{Key}
 use Rattle.td_rows.specs.declared.row.Row.{Row}
 use Rattle.td_rows.specs.Keys.{key_cmp, same_key, names, below_all, ascending}
@@ -14,6 +14,7 @@ use Rattle.td_rows.specs.Table.{Table, row_of, keys_of, IsAt}
 use Rattle.td_rows.proofs.Keys.{same_key-refl, same_key-apart, below-apart}
 use Rattle.td_rows.proofs.Lists.{drop-next, take-next, slice_get-map}
 use Rattle.td_rows.proofs.Tables.{row_of-at}
+use Rattle.td_core.proofs.Phases.{length-keys_of}
 use Rattle.td_book.specs.declared.watching.WatchRefusal.TheVariants.{NoSuchRow, Twice, BadGroup}
 use Rattle.td_book.specs.Watching.{group_in}
 use Rattle.td_book.specs.WatchCalls.{unknown_in, twice_in, outside_in, watch_stop}
@@ -209,14 +210,10 @@ map-none : (ks : List Key) → map (group_in []) ks ≡ replicate (length ks) No
 map-none [] = refl
 map-none (k ∷ ks) = ap (λ (l : List (Option ℕ)). None ∷ l) (map-none ks)
 
-length-keys : (t : Table) → length (keys_of t) ≡ length t
-length-keys [] = refl
-length-keys (p ∷ t) = ap suc (length-keys t)
-
 pub no_groups-last : (t : Table) (i : ℕ) (l : List (Option ℕ)) → i ≡ length t → l ≡ replicate i None
     → l ≡ map (group_in []) (keys_of t)
 no_groups-last t i l end is =
-    is ∙ ap (λ (n : ℕ). replicate n no_group) (end ∙ sym (length-keys t))
+    is ∙ ap (λ (n : ℕ). replicate n no_group) (end ∙ sym (length-keys_of t))
     ∙ sym (map-none (keys_of t))
 
 -- ---- 5. the pair at a place
@@ -234,17 +231,11 @@ pub row_there : (t : Table) (k : Key) (number : ℕ) → ascending (keys_of t) �
     → (row : Row) × (row_of t k ≡ Some row)
 row_there t k number up at = (at.row, row_of-at t k number at.row up at.at)
 
-less_at : {A : Type 0} (l : List A) (i : ℕ) (x : A) → slice_get l i ≡ Some x → i < length l
-less_at [] zero x at = absurd (cc)
-less_at [] (suc i) x at = absurd (cc)
-less_at (y ∷ l) zero x at = omega arith
-less_at (y ∷ l) (suc i) x at = let h = less_at l i x at in omega arith
-
 -- the row of a key has a place
 pub number-within : (i number : ℕ) (of_rows : List (Option ℕ)) (t : Table) (given : List (Key × ℕ))
     (k : Key) → AreSet i of_rows t given → IsAt t k number → number < length of_rows
 number-within i number of_rows t given k sets at =
-    less_at of_rows number (group_in (take i given) k)
+    slice_get_within of_rows number (group_in (take i given) k)
     (ap (λ (l : List (Option ℕ)). slice_get l number) sets.groups
     ∙ slice_get-map-at (group_in (take i given)) (keys_of t) number k (key_there t k number at))
 

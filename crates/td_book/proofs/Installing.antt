@@ -22,14 +22,15 @@ use Rattle.td_rows.proofs.Tables.{row_of-each_row, applies-fits}
 use Rattle.td_journal.specs.declared.entry.Entry.{Entry}
 use Rattle.td_journal.specs.declared.entry.Mark.TheVariants.{Undone}
 use Rattle.td_journal.specs.declared.entry.Marked.{Marked}
-use Rattle.td_journal.specs.Entries.{standing_entry, entry_at, undone}
+use Rattle.td_journal.specs.Entries.{standing_entry, entry_at}
 use Rattle.td_journal.proofs.LastEntry.{entry_at-last}
 use Rattle.td_core.specs.History.{History, rows_of}
 use Rattle.td_core.proofs.Staying.{entry_at-undone}
+use Rattle.td_core.proofs.Worlds.{rows_of-with_entry}
 use Rattle.td_book.specs.Watching.{is_there, tally}
 use Rattle.td_book.specs.inner.Tallies.{AreChanged, AreTallied, IsEntered, IsTakenBack}
 use Rattle.td_book.specs.inner.Tallies.{made_installed, was_there}
-use Rattle.td_book.proofs.Steps.{rows_with, up_now}
+use Rattle.td_book.proofs.Steps.{up_now}
 use Rattle.td_book.proofs.Tallies.{tally-each_row}
 
 -- ---- 1. states that aren't Installed
@@ -183,7 +184,8 @@ entered-is n now counts ws m ms e read got =
 rows_entered : (n : ℕ) (now : History) (counts : List ℕ) (ws : List (Option ℕ))
     (e : IsEntered n now counts ws)
     → rows_of now ≡ applied e.entry.kind e.entry.keys (rows_of e.before)
-rows_entered n now counts ws e = ap rows_of e.appended.history ∙ rows_with e.before e.entry
+rows_entered n now counts ws e =
+    ap rows_of e.appended.history ∙ rows_of-with_entry e.before e.entry
 
 -- the same of an equal entry's keys, and of equal rows
 changed_as : (there : Bool) (keys : List Key) (counts : List ℕ) (ws : List (Option ℕ)) (t u : Table)

@@ -1,14 +1,9 @@
 -- Numbers of rows that pass a test, over plain values.
-use Rattle.std.proofs.Common.{arith, ◌≡◌, ℕ, zero, suc, ◌+◌, Bool, true, false, List, [], ◌∷◌, ◌++◌}
+use Rattle.std.proofs.Common.{arith, ◌≡◌, ℕ, suc, ◌+◌, Bool, true, false, List, [], ◌∷◌, ◌++◌}
 use Rattle.std.proofs.Common.{filter, if◌then◌else◌, ap, refl, ◌∙◌}
 use Rattle.std.specs.List.{range_with_len}
 use Rattle.std.proofs.lemmas.List.Elements.{filter-append}
-
-range_more : (a n : ℕ) → range_with_len a (suc n) ≡ range_with_len a n ++ (a + n) ∷ []
-range_more a zero = let e : a ≡ a + 0 = omega arith in λ j. e j ∷ []
-range_more a (suc n) =
-    let e : (a + 1) + n ≡ a + suc n = omega arith in
-    λ j. a ∷ (range_more (a + 1) n ∙ ap (λ m. range_with_len (a + 1) n ++ m ∷ []) e) j
+use Rattle.td_text.proofs.Anywhere.{range-more}
 
 filter_one : (p : ℕ → Bool) (xs : List ℕ) (n : ℕ)
     → filter p (xs ++ n ∷ []) ≡ filter p xs ++ (if p n then n ∷ [] else [])
@@ -25,5 +20,5 @@ filter_more p n =
     let more : n + 1 ≡ suc n = omega arith in
     let here : 0 + n ≡ n = omega arith in
     ap (λ m. filter p (range_with_len 0 m)) more
-    ∙ ap (filter p) (range_more 0 n ∙ ap (λ m. range_with_len 0 n ++ m ∷ []) here)
+    ∙ ap (filter p) (range-more 0 n ∙ ap (λ m. range_with_len 0 n ++ m ∷ []) here)
     ∙ filter_one p (range_with_len 0 n) n

@@ -15,6 +15,7 @@ use Rattle.std.proofs.lemmas.List.{get_or_default, get_or_push, length_push}
 use Rattle.std.proofs.lemmas.List.FromFn.{length-range_with_len}
 use Rattle.std.proofs.lemmas.List.Sorted.{length_permutation}
 use Rattle.std.proofs.lemmas.List.Sums.{count_by-le-length, length-filter}
+use Rattle.std.proofs.Math.Bool.{or-true}
 use Rattle.td_board.specs.declared.views.RowView.{RowView}
 use Rattle.td_board.specs.declared.views.RowView.TheVariants.{In, Out, Seen, Known}
 use Rattle.td_board.specs.declared.desk.Withdrawal.{Withdrawal}
@@ -137,11 +138,7 @@ is_any_out-at : (view : List RowView) (n : ℕ) → is_out_no view n ≡ true �
 is_any_out-at [] n e = absurd (true≢false (sym e))
 is_any_out-at (x ∷ xs) zero e = ap (λ b. b || is_any_out xs) e
 is_any_out-at (x ∷ xs) (suc n) e =
-    ap (λ b. is_out_view x || b) (is_any_out-at xs n e) ∙ or_true (is_out_view x)
-  where
-    or_true : (b : Bool) → (b || true) ≡ true
-    or_true true = refl
-    or_true false = refl
+    ap (λ b. is_out_view x || b) (is_any_out-at xs n e) ∙ or-true (is_out_view x)
 
 -- whether the list has any
 pub listed-any : (view : List RowView) (outs places : List ℕ) (room : ℕ)

@@ -9,30 +9,20 @@ use Rattle.td_rows.specs.declared.key.Key.{Key}
 use Rattle.td_rows.specs.declared.row.Row.{Row}
 use Rattle.td_rows.specs.declared.kind.Kind.TheVariants.{Claim}
 use Rattle.td_rows.specs.Keys.{same_key, names, below_all, ascending}
-use Rattle.td_rows.specs.Meaning.{applies}
 use Rattle.td_rows.specs.States.{is_queued}
-use Rattle.td_rows.specs.Table.{Table, row_of, applied, AppliesOn, IsAt, keys_of}
+use Rattle.td_rows.specs.Table.{Table, row_of, AppliesOn, IsAt, keys_of}
 use Rattle.td_rows.proofs.Keys.{same_key-true, same_key-refl, same_key-apart, below-apart}
 use Rattle.td_rows.proofs.Tables.{row_of-at, names-push}
 use Rattle.td_rows.proofs.Lists.{drop-next, slice_get-map}
 use Rattle.td_change.proofs.Numbers.{names-below}
-use Rattle.td_journal.specs.declared.entry.Entry.{Entry}
-use Rattle.td_journal.specs.Entries.{standing, standing_entry}
-use Rattle.td_journal.specs.Replay.{replay}
-use Rattle.td_journal.proofs.Undoing.{standing-append, replay-push}
 use Rattle.td_core.specs.History.{History, rows_of, with_entry}
 use Rattle.td_core.specs.Keeps.{places_in}
 use Rattle.td_core.specs.Refusals.{is_queued_at}
 use Rattle.td_core.proofs.Phases.{keys_of-rows_of}
+use Rattle.td_core.proofs.WorldSteps.{AppliesOn-one}
 use Rattle.td_book.specs.Watching.{WatchedView}
 use Rattle.td_book.specs.Desk.{InnerModel, Stays, Spent, HasRoom, HasOne, fixed_of, claim_of}
 use Rattle.td_book.specs.Calls.{is_lost, noting_one, OutAt}
-
-pub rows_with : (h : History) (e : Entry)
-    → rows_of (with_entry h e) ≡ applied e.kind e.keys (rows_of h)
-rows_with h e =
-    ap (replay h.opening) (standing-append h.journal (standing_entry e ∷ []))
-    ∙ replay-push h.opening (standing h.journal) e
 
 pub up_now : (h : History) → ascending (keys_of h.opening) ≡ true
     → ascending (keys_of (rows_of h)) ≡ true
@@ -75,9 +65,6 @@ unnamed_after (x ∷ ks) zero k up at =
     subst (λ (y : Key). names ks y ≡ false) (same_Some x k at)
     (names-below x ks (and_parts _ _ up).0)
 unnamed_after (x ∷ ks) (suc i) k up at = unnamed_after ks i k (and_parts _ _ up).1 at
-
-pub next : (i : ℕ) → i + 1 ≡ suc i
-next i = omega arith
 
 pub named_here : (named : List Key) (i : ℕ) (k : Key) → slice_get named i ≡ Some k
     → names (drop i named) k ≡ true
@@ -132,16 +119,9 @@ out_none t k h = ap (λ x. elim x as (λ _. Bool) [ Some r ↦ is_queued r.state
 
 pub claim_applies : (t : Table) (k : Key) (i : ℕ) (b : ℕ) (keys : List Key)
     → ascending (keys_of t) ≡ true → OutAt t k i → keys ≡ k ∷ [] → AppliesOn t (Claim b) keys
-claim_applies t k i b keys up out one q named =
-    let named' : (if same_key q k then true else false) ≡ true =
-    subst (λ (u : List Key). names u q ≡ true) one named in
-    let is : same_key q k ≡ true = whole (same_key q k) named' in
-    ap (λ x. elim x as (λ _. Bool) [ Some r ↦ applies (Claim b) r | None ↦ false ])
-    (ap (row_of t) (same_key-true q k is) ∙ row_of-at t k i out.row up out.at) ∙ out.out
-  where
-    whole : (v : Bool) → (if v then true else false) ≡ true → v ≡ true
-    whole true h = refl
-    whole false h = cc
+claim_applies t k i b keys up out one =
+    subst (AppliesOn t (Claim b)) (sym one)
+    (AppliesOn-one t (Claim b) k out.row (row_of-at t k i out.row up out.at) out.out)
 
 -- ---- 3. claims that are noted
 

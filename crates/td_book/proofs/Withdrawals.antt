@@ -2,7 +2,7 @@
 use Rattle.std.proofs.Common.{◌≡◌, ◌≢◌, ℕ, zero, suc, ◌+◌, ◌<◌, ◌≤◌, Bool, true, false, ◌&&◌, List}
 use Rattle.std.proofs.Common.{[], ◌∷◌, ◌++◌, Option, Some, None, IfSome, IfNone, if◌then◌else◌}
 use Rattle.std.proofs.Common.{length, take, drop, map, set, slice_get, option_to_list, ap, refl}
-use Rattle.std.proofs.Common.{sym, subst, ◌∙◌, arith}
+use Rattle.std.proofs.Common.{sym, subst, ◌∙◌, arith, add-one}
 use Rattle.std.proofs.lemmas.Bool.{and_parts}
 use Rattle.std.proofs.lemmas.Option.{same_Some}
 use Rattle.std.proofs.Math.Bool.{and-false}
@@ -29,6 +29,7 @@ use Rattle.td_core.specs.Refusals.{is_queued_at}
 use Rattle.td_core.proofs.Inverse.{undo_has_an_inverse}
 use Rattle.td_core.proofs.Phases.{keys_of-rows_of}
 use Rattle.td_core.proofs.Taking.{AppliesOn-filter, names-filter}
+use Rattle.td_core.proofs.Worlds.{rows_of-with_entry}
 use Rattle.td_book.specs.Seen.{seen_off, is_desks}
 use Rattle.td_book.specs.Watching.{WatchedView}
 use Rattle.td_book.specs.Desk.{InnerModel, Stays, Spent, claim_of}
@@ -37,8 +38,8 @@ use Rattle.td_book.specs.Calls.{IsKeyAt, entered, entered_no}
 use Rattle.td_book.specs.Undoing.{Unlost, LostOne}
 use Rattle.td_book.proofs.Seeing.{withdrawn_off, stays_off, claimed_off, offered_off, idle_off}
 use Rattle.td_book.proofs.Seeing.{desks_off}
-use Rattle.td_book.proofs.Steps.{idle_row, longer, lost_at, named_at, next, noting_one-lost}
-use Rattle.td_book.proofs.Steps.{noting_one-won, rows_with, spent_more, spent_none, stays_more}
+use Rattle.td_book.proofs.Steps.{idle_row, longer, lost_at, named_at, noting_one-lost}
+use Rattle.td_book.proofs.Steps.{noting_one-won, spent_more, spent_none, stays_more}
 use Rattle.td_book.proofs.Steps.{stays_none}
 use Rattle.td_book.proofs.Steps.{unnamed_after, unnamed_before}
 
@@ -113,7 +114,7 @@ lost_step named i n k old new answer at view up out lost told =
     let b = lost.0 in
     let same : new.books.history ≡ with_entry old.books.history (claim_of b k) = lost.1.history in
     let rows : rows_of new.books.history ≡ applied (Claim b) (k ∷ []) t =
-    ap rows_of same ∙ rows_with old.books.history (claim_of b k) in
+    ap rows_of same ∙ rows_of-with_entry old.books.history (claim_of b k) in
     record {
       key = k;
       at = at;
@@ -266,7 +267,7 @@ offer_step named i n k old new at rise up view out is =
     (ap (λ (v : List RowView). set v n Out)
     (view ∙ ap (λ (ks : List Key). seen_off ks t) (drop-next named i k at))
     ∙ offered_off (drop (i + 1) named) t n k out.row up out.at
-    (ap (λ (j : ℕ). names (drop j named) k) (next i) ∙ unnamed_after named i k rise at) out.out)
+    (ap (λ (j : ℕ). names (drop j named) k) (add-one i) ∙ unnamed_after named i k rise at) out.out)
 
 pub pass_step : (named : List Key) (i : ℕ) (k : Key) (old new : InnerModel)
     → slice_get named i ≡ Some k → ascending (keys_of (rows_of old.books.history)) ≡ true
@@ -383,7 +384,7 @@ entered_off h now kind named off up desks within is =
         → seen_off off (rows_of (entered h kind ts)) ≡ seen_off off (rows_of h)
     cases [] fit among = refl
     cases (t ∷ ts) fit among =
-        ap (seen_off off) (rows_with h (record { kind = kind; keys = t ∷ ts }))
+        ap (seen_off off) (rows_of-with_entry h (record { kind = kind; keys = t ∷ ts }))
         ∙ desks_off off (t ∷ ts) kind (rows_of h) up desks fit (λ has k e. within has k (among k e))
 
 -- ---- 6. the undo

@@ -1,5 +1,5 @@
 -- Outcome lines are read exactly.
-use Rattle.std.proofs.Common.{◌≡◌, ℕ, List, ◌∷◌, ◌++◌, Some, refl, subst}
+use Rattle.std.proofs.Common.{◌≡◌, ℕ, List, ◌∷◌, ◌++◌, Some, ap, refl, subst, ◌∙◌}
 use Rattle.td_text.specs.Exact.{Exact}
 use Rattle.td_text.proofs.Chain.{chained, some_is}
 use Rattle.td_text.proofs.Cut.{cut-at, word_found}
@@ -12,9 +12,6 @@ use Rattle.td_journal.proofs.Endings.{ending_found, ending_again}
 use Rattle.td_builder.specs.OutcomeLines.{outcome_line, OutcomeFits}
 use Rattle.td_builder.specs.OutcomeReading.{outcome_line_at}
 
-line_joined : (t key rest end : List ℕ) → t ≡ key ++ 32 ∷ rest → rest ≡ end → t ≡ key ++ 32 ∷ end
-line_joined t key rest end h1 h2 = cc
-
 line_found : (t : List ℕ) (p : Key × Outcome) → outcome_line_at t ≡ Some p
     → (t ≡ outcome_line p) × OutcomeFits p
 unfolding outcome_line_at
@@ -23,10 +20,10 @@ line_found t p e =
     let key = chained _ _ _ a.2 in
     let o = chained _ _ _ key.2 in
     let k = word_found 32 key_at key_text KeyFits key_exact t a.0 key.0 a.1 key.1 in
-    subst (λ (y : Key × Outcome). (t ≡ outcome_line y) × OutcomeFits y) (some_is _ p o.2) (
-      line_joined t (key_text key.0) a.0.1 (ending_text o.0) k.0 (ending_found a.0.1 o.0 o.1),
-      k.1,
-    )
+    let line : t ≡ key_text key.0 ++ 32 ∷ ending_text o.0 =
+    k.0 ∙ ap (λ (r : List ℕ). key_text key.0 ++ 32 ∷ r) (ending_found a.0.1 o.0 o.1) in
+    subst (λ (y : Key × Outcome). (t ≡ outcome_line y) × OutcomeFits y) (some_is _ p o.2)
+    (line, k.1)
 
 line_again : (p : Key × Outcome) → OutcomeFits p → outcome_line_at (outcome_line p) ≡ Some p
 unfolding outcome_line_at

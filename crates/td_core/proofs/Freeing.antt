@@ -1,8 +1,9 @@
 -- The rows that an arrival or a sweep changes: no builder has one, and none is offered.
-use Rattle.std.proofs.Common.{◌≡◌, ℕ, ◌+◌, Bool, true, false, ◌&&◌, List, [], ◌∷◌, ◌++◌, Option}
+use Rattle.std.proofs.Common.{◌≡◌, ℕ, ◌+◌, Bool, true, false, List, [], ◌∷◌, ◌++◌, Option}
 use Rattle.std.proofs.Common.{Some, None, if◌then◌else◌, map, filter, take, slice_get, ap, refl}
 use Rattle.std.proofs.Common.{sym, ◌∙◌}
 use Rattle.std.specs.Ordering.{is_lt}
+use Rattle.std.proofs.lemmas.Bool.{and_parts, and_from}
 use Rattle.td_rows.specs.declared.key.Key.{Key}
 use Rattle.td_rows.specs.declared.row.Row.{Row}
 use Rattle.td_rows.specs.declared.state.State.{State}
@@ -36,22 +37,10 @@ suits-sweep (Held b) s h suits = refl
 suits-sweep (Noted b) s h suits = let bad = sym h ∙ ap is_waiting suits in cc
 suits-sweep (Done b o) s h suits = let bad = sym h ∙ ap is_waiting suits in cc
 
-first : (a b : Bool) → (a && b) ≡ true → a ≡ true
-first true b h = refl
-first false b h = h
-
-pub second : (a b : Bool) → (a && b) ≡ true → b ≡ true
-second true b h = h
-second false b h = cc
-
-both : (a b : Bool) → a ≡ true → b ≡ true → (a && b) ≡ true
-both true b x y = y
-both false b x y = x
-
 -- a freed row waits
 pub waits-freed : (s : SupplyView) (p : Key × Row) → is_freed s p ≡ true
     → is_waiting p.1.state ≡ true
-waits-freed s p h = first (is_waiting p.1.state) _ h
+waits-freed s p h = (and_parts (is_waiting p.1.state) _ h).0
 
 abbrev told : Option Row → Bool
 told o = elim o as (λ _. Bool) [ Some row ↦ applies Sweep row | None ↦ false ]
@@ -61,9 +50,9 @@ pub AppliesOn-freed : (s : SupplyView) (t : Table) → ascending (keys_of t) ≡
     → AppliesOn t Sweep (freed s t)
 AppliesOn-freed s [] up k named = cc
 AppliesOn-freed s (p ∷ t) up k named =
-    let below = first (below_all p.0 (keys_of t)) (ascending (keys_of t)) up in
-    let rest =
-    AppliesOn-freed s t (second (below_all p.0 (keys_of t)) (ascending (keys_of t)) up) k in
+    let parts = and_parts (below_all p.0 (keys_of t)) (ascending (keys_of t)) up in
+    let below = parts.0 in
+    let rest = AppliesOn-freed s t parts.1 k in
     elim (same_key k p.0) as (λ c.
     same_key k p.0 ≡ c → told (if c then Some p.1 else row_of t k) ≡ true) [
       | true ↦
@@ -98,13 +87,12 @@ below_all-freed : (s : SupplyView) (x : Key) (t : Table) → below_all x (keys_o
     → below_all x (freed s t) ≡ true
 below_all-freed s x [] h = refl
 below_all-freed s x (p ∷ t) h =
-    let rest = below_all-freed s x t (second (is_lt (key_cmp x p.0)) (below_all x (keys_of t)) h) in
+    let parts = and_parts (is_lt (key_cmp x p.0)) (below_all x (keys_of t)) h in
+    let rest = below_all-freed s x t parts.1 in
     elim (is_freed s p) as (λ b.
     below_all x (map (λ (y : Key × Row). y.0)
     (if b then p ∷ filter (is_freed s) t else filter (is_freed s) t)) ≡ true) [
-      | true ↦
-          both (is_lt (key_cmp x p.0)) (below_all x (freed s t))
-          (first (is_lt (key_cmp x p.0)) (below_all x (keys_of t)) h) rest
+      | true ↦ and_from (is_lt (key_cmp x p.0)) (below_all x (freed s t)) parts.0 rest
       | false ↦ rest
     ]
 
@@ -113,15 +101,14 @@ pub ascending-freed : (s : SupplyView) (t : Table) → ascending (keys_of t) ≡
     → ascending (freed s t) ≡ true
 ascending-freed s [] up = refl
 ascending-freed s (p ∷ t) up =
-    let below = first (below_all p.0 (keys_of t)) (ascending (keys_of t)) up in
-    let rest =
-    ascending-freed s t (second (below_all p.0 (keys_of t)) (ascending (keys_of t)) up) in
+    let parts = and_parts (below_all p.0 (keys_of t)) (ascending (keys_of t)) up in
+    let rest = ascending-freed s t parts.1 in
     elim (is_freed s p) as (λ b.
     ascending (map (λ (y : Key × Row). y.0)
     (if b then p ∷ filter (is_freed s) t else filter (is_freed s) t)) ≡ true) [
       | true ↦
-          both (below_all p.0 (freed s t)) (ascending (freed s t)) (below_all-freed s p.0 t below)
-          rest
+          and_from (below_all p.0 (freed s t)) (ascending (freed s t))
+          (below_all-freed s p.0 t parts.0) rest
       | false ↦ rest
     ]
 

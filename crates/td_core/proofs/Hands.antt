@@ -1,5 +1,5 @@
 -- Who has a row has it in hand, and so it stays.
-use Rattle.std.proofs.Common.{◌≡◌, ℕ, zero, suc, ◌-◌, true, false, List, [], ◌∷◌, Option, Some}
+use Rattle.std.proofs.Common.{◌≡◌, ℕ, zero, suc, ◌-◌, true, false, List, [], Option, Some}
 use Rattle.std.proofs.Common.{None, if◌then◌else◌, length, set, slice_get, ◌==◌, ap, refl, sym}
 use Rattle.std.proofs.Common.{subst, ◌∙◌, arith}
 use Rattle.std.proofs.lemmas.List.{length-set}
@@ -16,25 +16,9 @@ use Rattle.td_core.specs.declared.step.Hand.TheVariants.{Free, Holding, Finished
 use Rattle.td_core.specs.History.{rows_of}
 use Rattle.td_core.specs.Worlds.{WorldView, phase_of, with_phase, hand_in, InHand}
 use Rattle.td_core.proofs.Phases.{phase_of-with_phase, phase_of-other, phase_of-past}
+use Rattle.td_core.proofs.Phases.{slice_get-set-here, slice_get-set-other}
 
 -- ---- one hand changes
-
-slice_get-set : (xs : List Hand) (i : ℕ) (x y : Hand) → slice_get xs i ≡ Some x
-    → slice_get (set xs i y) i ≡ Some y
-slice_get-set [] zero x y h = cc
-slice_get-set [] (suc i) x y h = cc
-slice_get-set (z ∷ xs) zero x y h = refl
-slice_get-set (z ∷ xs) (suc i) x y h = slice_get-set xs i x y h
-
-slice_get-set_other : (xs : List Hand) (i j : ℕ) (y : Hand) → (i ≡ j → ⊥)
-    → slice_get (set xs i y) j ≡ slice_get xs j
-slice_get-set_other [] zero j y other = refl
-slice_get-set_other [] (suc i) j y other = refl
-slice_get-set_other (z ∷ xs) zero zero y other = absurd (other refl)
-slice_get-set_other (z ∷ xs) zero (suc j) y other = refl
-slice_get-set_other (z ∷ xs) (suc i) zero y other = refl
-slice_get-set_other (z ∷ xs) (suc i) (suc j) y other =
-    slice_get-set_other xs i j y (λ e. other (ap suc e))
 
 no_hand : (hands : List Hand) (x : Hand) → hand_in hands 0 ≡ Some x → ⊥
 no_hand hands x h = cc
@@ -47,7 +31,7 @@ hand_in-put hands b x y h =
     (if z then None else slice_get hands (b - 1)) ≡ Some x
     → (if z then None else slice_get (set hands (b - 1) y) (b - 1)) ≡ Some y) [
       | true ↦ λ g. cc
-      | false ↦ λ g. slice_get-set hands (b - 1) x y g
+      | false ↦ λ g. slice_get-set-here hands (b - 1) x y g
     ] h
 
 -- another builder's
@@ -61,7 +45,7 @@ hand_in-other hands (suc b) (suc c) x y z hb hc apart =
     (if v then None else slice_get hands (suc c - 1)) ≡ Some z
     → (if v then None else slice_get (set hands (suc b - 1) y) (suc c - 1)) ≡ Some z) [
       | true ↦ λ g. cc
-      | false ↦ λ g. slice_get-set_other hands (suc b - 1) (suc c - 1) y far ∙ g
+      | false ↦ λ g. slice_get-set-other hands (suc b - 1) (suc c - 1) y far ∙ g
     ] hc
 
 -- the builder has another thing in hand than what it keeps

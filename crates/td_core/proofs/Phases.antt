@@ -42,7 +42,7 @@ place_of-absent (q ∷ ks) k h =
       | false ↦ λ g. ap suc (place_of-absent ks k g)
     ] h
 
-length-keys_of : (t : Table) → length (keys_of t) ≡ length t
+pub length-keys_of : (t : Table) → length (keys_of t) ≡ length t
 length-keys_of [] = refl
 length-keys_of (p ∷ t) = ap suc (length-keys_of t)
 
@@ -101,14 +101,22 @@ place_of-apart (x ∷ ks) k q named apart same_place =
           ] named
     ] refl same_place
 
-slice_get-set : {A : Type 0} (xs : List A) (i : ℕ) (y x : A) → slice_get (set xs i y) i ≡ Some x
+pub slice_get-set : {A : Type 0} (xs : List A) (i : ℕ) (y x : A) → slice_get (set xs i y) i ≡ Some x
     → y ≡ x
 slice_get-set [] zero y x h = cc
 slice_get-set [] (suc i) y x h = cc
 slice_get-set (z ∷ xs) zero y x h = cc
 slice_get-set (z ∷ xs) (suc i) y x h = slice_get-set xs i y x h
 
-slice_get-set-other : {A : Type 0} (xs : List A) (i j : ℕ) (y : A) → (i ≡ j → ⊥)
+-- what is put where something was
+pub slice_get-set-here : {A : Type 0} (xs : List A) (i : ℕ) (x y : A) → slice_get xs i ≡ Some x
+    → slice_get (set xs i y) i ≡ Some y
+slice_get-set-here [] zero x y h = cc
+slice_get-set-here [] (suc i) x y h = cc
+slice_get-set-here (z ∷ xs) zero x y h = refl
+slice_get-set-here (z ∷ xs) (suc i) x y h = slice_get-set-here xs i x y h
+
+pub slice_get-set-other : {A : Type 0} (xs : List A) (i j : ℕ) (y : A) → (i ≡ j → ⊥)
     → slice_get (set xs i y) j ≡ slice_get xs j
 slice_get-set-other [] zero j y other = refl
 slice_get-set-other [] (suc i) j y other = refl
@@ -131,12 +139,6 @@ set-same [] zero y h = refl
 set-same [] (suc i) y h = refl
 set-same (z ∷ xs) zero y h = let same : y ≡ z = cc in ap (λ x. x ∷ xs) same
 set-same (z ∷ xs) (suc i) y h = ap (λ ys. z ∷ ys) (set-same xs i y h)
-
-pub set-set : {A : Type 0} (xs : List A) (i : ℕ) (x y : A) → set (set xs i x) i y ≡ set xs i y
-set-set [] zero x y = refl
-set-set [] (suc i) x y = refl
-set-set (z ∷ xs) zero x y = refl
-set-set (z ∷ xs) (suc i) x y = ap (λ ys. z ∷ ys) (set-set xs i x y)
 
 -- a builder that has a hand
 pub hand_of-within : (w : WorldView) (b : ℕ) (h : Hand) → hand_of w b ≡ Some h

@@ -1,19 +1,18 @@
 -- What holds over every list of steps.
-use Rattle.std.proofs.Common.{◌≡◌, ◌↔◌, ℕ, zero, suc, ◌+◌, ◌-◌, ◌≤◌, subst, true, false}
-use Rattle.std.proofs.Common.{◌==◌, List, [], ◌∷◌, length, Option, Some, None}
-use Rattle.std.proofs.Common.{slice_get, ap, refl, sym, ◌∙◌, arith}
-use Rattle.std.proofs.lemmas.Bool.Decides.{nat_tests}
+use Rattle.std.proofs.Common.{◌≡◌, ◌↔◌, ℕ, ◌+◌, ◌-◌, ◌≤◌, subst, true, false}
+use Rattle.std.proofs.Common.{List, [], ◌∷◌, length, Option, Some, None}
+use Rattle.std.proofs.Common.{ap, refl, sym, ◌∙◌, arith}
+use Rattle.std.proofs.lemmas.Bool.{eq-eqb, eqb-true}
+use Rattle.td_text.proofs.Chain.{some_is}
 use Rattle.td_rows.specs.declared.key.Key.{Key}
 use Rattle.td_rows.specs.declared.state.State.{State}
 use Rattle.td_rows.specs.declared.state.State.TheVariants.{NeedsBuild, Building}
 use Rattle.td_journal.specs.declared.entry.Entry.{Entry}
 use Rattle.td_journal.specs.declared.entry.Mark.TheVariants.{Standing}
-use Rattle.td_journal.specs.declared.entry.Marked.{Marked}
 use Rattle.td_journal.specs.Entries.{standing_entry}
 use Rattle.td_journal.specs.Replay.{replay}
 use Rattle.td_journal.specs.Touching.{blocker}
-use Rattle.td_journal.specs.IsKeys.{IsKeys}
-use Rattle.td_journal.specs.Journaled.{EachHasKeys}
+use Rattle.td_journal.proofs.Agreeing.{EachHasKeys-at}
 use Rattle.td_journal.proofs.LastEntry.{entry_at-last, blocker-last, standing-last}
 use Rattle.td_journal.proofs.Undoing.{entry_at-place}
 use Rattle.td_core.specs.declared.step.Phase.{Phase}
@@ -59,24 +58,18 @@ pub offered_rows_wait : OfferedRowsWait
 offered_rows_wait w k p row i phase found loose =
     waits p row.state (i.suits k p row phase found) loose
 
-same_number : (b c : ℕ) → (b == c) ≡ true → b ≡ c
-same_number b c h = grind (arith, nat_tests, h)
-
-number_same : (b c : ℕ) → c ≡ b → (b == c) ≡ true
-number_same b c h = grind (arith, nat_tests, h)
-
 built : (p : Phase) (s : State) (b : ℕ) → Suits p s → (s ≡ Building b) ↔ (is_known_by b p ≡ true)
 built Closed s b suits =
     ((λ is. absurd (let bad : true ≡ false = ap is_building (sym is) ∙ suits in cc)), (λ h. cc))
 built Open s b suits = ((λ is. absurd (let bad = sym suits ∙ is in cc)), (λ h. cc))
 built (Held c) s b suits = ((λ is. absurd (let bad = sym suits ∙ is in cc)), (λ h. cc))
 built (Noted c) s b suits = (
-  (λ is. number_same b c (let e = sym suits ∙ is in cc)),
-  (λ h. suits ∙ ap (λ (x : ℕ). Building x) (sym (same_number b c h))),
+  (λ is. eq-eqb b c (let e = sym suits ∙ is in cc)),
+  (λ h. suits ∙ ap (λ (x : ℕ). Building x) (sym (eqb-true b c h))),
 )
 built (Done c o) s b suits = (
-  (λ is. number_same b c (let e = sym suits ∙ is in cc)),
-  (λ h. suits ∙ ap (λ (x : ℕ). Building x) (sym (same_number b c h))),
+  (λ is. eq-eqb b c (let e = sym suits ∙ is in cc)),
+  (λ h. suits ∙ ap (λ (x : ℕ). Building x) (sym (eqb-true b c h))),
 )
 
 pub built_exactly : BuiltExactly
@@ -93,30 +86,20 @@ there w b h is =
 pub builders_are_there : BuildersAreThere
 builders_are_there w k p b i phase is = at p is (i.held k p phase)
   where
-    same : (a c : ℕ) → Some a ≡ Some c → a ≡ c
-    same a c e = cc
-
     at : (x : Phase) → builder_in x ≡ Some b → InHand w.hands k x → (1 ≤ b) × (b ≤ length w.hands)
     at Closed e h = cc
     at Open e h = cc
     at (Held c) e h =
-        subst (λ (n : ℕ). (1 ≤ n) × (n ≤ length w.hands)) (same c b e) (there w c (Holding k) h)
+        subst (λ (n : ℕ). (1 ≤ n) × (n ≤ length w.hands)) (some_is c b e) (there w c (Holding k) h)
     at (Noted c) e h =
-        subst (λ (n : ℕ). (1 ≤ n) × (n ≤ length w.hands)) (same c b e) (there w c (Holding k) h)
+        subst (λ (n : ℕ). (1 ≤ n) × (n ≤ length w.hands)) (some_is c b e) (there w c (Holding k) h)
     at (Done c o) e h =
-        subst (λ (n : ℕ). (1 ≤ n) × (n ≤ length w.hands)) (same c b e) (there w c (Finished k o) h)
-
-keys-at : (ms : List Marked) (i : ℕ) (m : Marked) → EachHasKeys ms → slice_get ms i ≡ Some m
-    → IsKeys m.entry.keys
-keys-at [] zero m h at = cc
-keys-at [] (suc i) m h at = cc
-keys-at (x ∷ ms) zero m h at =
-    let same : x ≡ m = cc in subst (λ (y : Marked). IsKeys y.entry.keys) same h.0
-keys-at (x ∷ ms) (suc i) m h at = keys-at ms i m h.1 at
+        subst (λ (n : ℕ). (1 ≤ n) × (n ≤ length w.hands)) (some_is c b e)
+        (there w c (Finished k o) h)
 
 pub entries_rise : EntriesRise
 entries_rise w n m i at =
-    keys-at w.history.journal (n - 1) m i.keys (entry_at-place w.history.journal n m at).1
+    EachHasKeys-at w.history.journal (n - 1) m i.keys (entry_at-place w.history.journal n m at).1
 
 pub undone_else : UndoneElse
 undone_else w n m s free pinned =

@@ -4,6 +4,7 @@ use Rattle.std.proofs.Common.{Some, None, if◌then◌else◌, cond, find, is_so
 use Rattle.std.proofs.Common.{refl, sym, ◌∙◌, arith}
 use Rattle.std.specs.Prelude.{nat_lt, position}
 use Rattle.std.specs.List.{position_or_len}
+use Rattle.std.proofs.lemmas.Bool.{not-false}
 use Rattle.std.proofs.lemmas.Bool.Decides.{nat_tests}
 use Rattle.std.proofs.lemmas.List.Folds.{find_at}
 use Rattle.std.proofs.lemmas.Option.{slice_get_past}
@@ -38,10 +39,6 @@ pub none_first : (o : Option Key) (r : Key → Refusal) (rest : Option Refusal)
     → first_refused o r rest ≡ None → (o ≡ None) × (rest ≡ None)
 none_first (Some k) r rest h = cc
 none_first None r rest h = (refl, h)
-
-pub not_false : (b : Bool) → not b ≡ false → b ≡ true
-not_false true h = refl
-not_false false h = cc
 
 -- where no key passes, none that is named does
 pub none_found : (p : Key → Bool) (ks : List Key) (k : Key) → find p ks ≡ None → names ks k ≡ true
@@ -162,7 +159,7 @@ pub pinned-first_unpinned : (w : WorldView) (kind : Kind) (keys : List Key)
 pinned-first_unpinned w kind keys none k p named phase state =
     let found : find (is_unpinned w) keys ≡ None =
     ap (λ b. if b then find (is_unpinned w) keys else None) (sym state) ∙ none in
-    not_false (is_pinned p)
+    not-false (is_pinned p)
     (ap (λ (o : Option Phase). elim o as (λ _. Bool) [ Some x ↦ not (is_pinned x) | None ↦ false ])
     (sym phase) ∙ none_found (is_unpinned w) keys k found named)
 
@@ -264,10 +261,10 @@ commits w kind keys h =
     let d = none_first (find (is_unfit t kind) keys) (λ k. DoesNotApply k) _ c.1 in
     let e = none_first (first_unpinned w kind keys) (λ k. NotPinned (Some k)) None d.1 in
     record {
-      command = not_false (is_command kind) a.0;
-      are = not_false (are_keys keys) b.0;
+      command = not-false (is_command kind) a.0;
+      are = not-false (are_keys keys) b.0;
       applies =
-          λ k named. not_false (fits t kind k) (none_found (is_unfit t kind) keys k d.0 named);
+          λ k named. not-false (fits t kind k) (none_found (is_unfit t kind) keys k d.0 named);
       pinned = pinned-first_unpinned w kind keys e.0;
       none_unpinned = e.0;
     }
@@ -310,7 +307,7 @@ undoes w n h = at (entry_at w.history.journal n) refl h
             marked = m;
             there = there;
             stands = b.0;
-            command = not_false (is_command m.entry.kind) a.0;
+            command = not-false (is_command m.entry.kind) a.0;
           };
           free = b.1.0;
           pinned = pinned-first_unpinned w m.entry.kind m.entry.keys b.1.1;

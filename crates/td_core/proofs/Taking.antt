@@ -63,7 +63,7 @@ pub AppliesOn-filter : (t : Table) (kind : Kind) (ks : List Key)
 AppliesOn-filter t kind ks k named = passes-filter (fits t kind) ks k named
 
 -- what is taken of rising keys rises
-below_all-filter : (p : Key → Bool) (x : Key) (ks : List Key) → below_all x ks ≡ true
+pub below_all-filter : (p : Key → Bool) (x : Key) (ks : List Key) → below_all x ks ≡ true
     → below_all x (filter p ks) ≡ true
 below_all-filter p x [] h = refl
 below_all-filter p x (q ∷ ks) h =

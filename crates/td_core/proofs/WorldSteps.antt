@@ -1,9 +1,9 @@
 -- Each accepted step leaves a world in which all holds that holds of every world.
 use Rattle.std.proofs.Common.{◌≡◌, ℕ, zero, suc, ◌-◌, Bool, true, false, List, [], ◌∷◌}
 use Rattle.std.proofs.Common.{Option, Some, None, if◌then◌else◌, length}
-use Rattle.std.proofs.Common.{replicate, slice_get, set, not, ◌==◌, ap, refl, sym, subst}
+use Rattle.std.proofs.Common.{replicate, slice_get, set, not, ap, refl, sym, subst}
 use Rattle.std.proofs.Common.{◌∙◌, arith}
-use Rattle.std.proofs.lemmas.Bool.Decides.{nat_tests}
+use Rattle.std.proofs.lemmas.Bool.{eq-eqb, eqb-true, not-false}
 use Rattle.std.proofs.lemmas.List.{length-replicate}
 use Rattle.td_change.specs.Saved.{number_of}
 use Rattle.td_rows.specs.declared.key.Key.{Key}
@@ -48,7 +48,7 @@ use Rattle.td_core.specs.Refusals.{arrive_refusal, is_noted_by, is_done_by}
 use Rattle.td_core.specs.Steps.{refusal, accepted, noted, settled, finished, swept, swept_now}
 use Rattle.td_core.specs.Steps.{supply_of, done, answer_to, after}
 use Rattle.td_core.proofs.Phases.{keys_of-rows_of}
-use Rattle.td_core.proofs.Refusing.{commits, undoes, not_refused, not_false}
+use Rattle.td_core.proofs.Refusing.{commits, undoes, not_refused}
 use Rattle.td_supply.specs.Supply.{Stock}
 use Rattle.td_core.proofs.Freeing.{suits-arrive, suits-sweep, AppliesOn-freed, ascending-freed}
 use Rattle.td_core.proofs.Hands.{NotHis, InHand-moved, InHand-put, hand_in-put}
@@ -81,12 +81,6 @@ queued-state BdUninstallable h = cc
 queued-state BuildAttempted h = cc
 queued-state Failed h = cc
 queued-state NotForUs h = cc
-
-same_number : (b c : ℕ) → (b == c) ≡ true → b ≡ c
-same_number b c h = grind (arith, nat_tests, h)
-
-same_itself : (b : ℕ) → (b == b) ≡ true
-same_itself b = grind (arith, nat_tests)
 
 offers : (queued : Bool) (p : Option Phase) → offer_refusal queued p ≡ None → queued ≡ true
 offers queued None h = cc
@@ -140,7 +134,7 @@ noted_by b None h = cc
 noted_by b (Some Closed) h = cc
 noted_by b (Some Open) h = cc
 noted_by b (Some (Held c)) h = cc
-noted_by b (Some (Noted c)) h = ap (λ (x : ℕ). Some (Noted x)) (sym (same_number b c h))
+noted_by b (Some (Noted c)) h = ap (λ (x : ℕ). Some (Noted x)) (sym (eqb-true b c h))
 noted_by b (Some (Done c o)) h = cc
 
 pub finishes : (w : WorldView) (b : ℕ) (h : Option Hand) → finish_refusal w b h ≡ None
@@ -153,7 +147,7 @@ finishes w b (Some (Holding k)) e = (
   (
     refl,
     noted_by b (phase_of w k)
-        (not_false (is_noted_by b (phase_of w k))
+        (not-false (is_noted_by b (phase_of w k))
         (not_refused (not (is_noted_by b (phase_of w k))) NotNoted None e).0),
   ),
 )
@@ -213,7 +207,7 @@ pub IsWorld-settled : (w : WorldView) (k : Key) (b : ℕ) (o : Outcome) → IsWo
 IsWorld-settled w k b o i phase =
     let row = row-there w k (Done b o) i phase in
     let applies = AppliesOn-one (rows_of w.history) (Ended b o) k row.0 row.1
-    (ap (is_building_by b) (i.suits k (Done b o) row.0 phase row.1) ∙ same_itself b) in
+    (ap (is_building_by b) (i.suits k (Done b o) row.0 phase row.1) ∙ eq-eqb b b refl) in
     (applies, IsWorld-moved w (Ended b o) k Closed i applies tt (λ r found. idle-ended b o r))
 
 pub IsWorld-finished : (w : WorldView) (b : ℕ) (o : Outcome) (k : Key) → IsWorld w
@@ -236,7 +230,7 @@ let_go w b k q o p settled there = record {
       let same : k ≡ q = cc in
       let done : phase_of w k ≡ Some (Done b x) =
       ap (phase_of w) same ∙ there ∙ ap (λ (y : Phase). Some y) is in
-      let yes : is_done_by b (phase_of w k) ≡ true = ap (is_done_by b) done ∙ same_itself b in
+      let yes : is_done_by b (phase_of w k) ≡ true = ap (is_done_by b) done ∙ eq-eqb b b refl in
       (let no = sym yes ∙ settled in cc);
 }
 
@@ -257,7 +251,7 @@ arrives k (Some row) h = (
   row,
   (
     refl,
-    not_false (applies Arrived row)
+    not-false (applies Arrived row)
         (not_refused (not (applies Arrived row)) (DoesNotApply k) None h).0,
   ),
 )
@@ -334,7 +328,7 @@ IsWorld-after w s i =
       | None ↦ λ none. IsWorld-accepted w s i none
     ] refl
 
-slice_get-replicate : {A : Type 0} (n i : ℕ) (x y : A) → slice_get (replicate n x) i ≡ Some y
+pub slice_get-replicate : {A : Type 0} (n i : ℕ) (x y : A) → slice_get (replicate n x) i ≡ Some y
     → y ≡ x
 slice_get-replicate zero zero x y h = cc
 slice_get-replicate zero (suc i) x y h = cc

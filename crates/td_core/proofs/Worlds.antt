@@ -4,6 +4,7 @@ use Rattle.std.proofs.Common.{Option, Some, None, option_map, unwrap_or, if◌th
 use Rattle.std.proofs.Common.{take, drop, ap, refl, sym, subst}
 use Rattle.std.proofs.Common.{◌∙◌, arith}
 use Rattle.std.proofs.lemmas.List.{length-set}
+use Rattle.td_text.proofs.Chain.{some_is}
 use Rattle.td_rows.specs.declared.key.Key.{Key}
 use Rattle.td_rows.specs.declared.row.Row.{Row}
 use Rattle.td_rows.specs.declared.kind.Kind.{Kind}
@@ -50,13 +51,10 @@ pub found-before : (t : Table) (f : Key → Row → Row) (k : Key) (row : Row)
     → row_of (each_row f t) k ≡ Some row → (r : Row) × ((row_of t k ≡ Some r) × (f k r ≡ row))
 found-before t f k row h = at (row_of t k) refl (sym (row_of-each_row f t k) ∙ h)
   where
-    same : (a b : Row) → Some a ≡ Some b → a ≡ b
-    same a b g = cc
-
     at : (o : Option Row) → row_of t k ≡ o → option_map (f k) o ≡ Some row
         → (r : Row) × ((row_of t k ≡ Some r) × (f k r ≡ row))
     at None is g = cc
-    at (Some r) is g = (r, (is, same (f k r) row g))
+    at (Some r) is g = (r, (is, some_is (f k r) row g))
 
 -- the hands change, and have each row that a builder has
 pub IsWorld-with_hands : (w : WorldView) (hands : List Hand) → IsWorld w → AllInHand w hands

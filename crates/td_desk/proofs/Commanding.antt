@@ -2,7 +2,8 @@
 use Rattle.std.proofs.Common.{◌≡◌, ◌≢◌, ℕ, ◌+◌, ◌<◌, Bool, true, false, not, ◌&&◌, List, [], ◌∷◌}
 use Rattle.std.proofs.Common.{length, refl, sym, ap, ◌∙◌, subst, arith, map, filter, Ok, Err}
 use Rattle.std.proofs.Common.{◌++◌, if◌then◌else◌}
-use Rattle.std.proofs.lemmas.Bool.{and_parts, and_from}
+use Rattle.std.proofs.lemmas.Bool.{and_parts}
+use Rattle.std.proofs.Math.Bool.{and-false}
 use Rattle.std.specs.Ordering.{is_lt}
 use Rattle.td_rows.specs.declared.key.Key.{Key}
 use Rattle.td_rows.specs.declared.kind.Kind.{Kind}
@@ -13,7 +14,7 @@ use Rattle.td_journal.specs.declared.entry.Entry.{Entry}
 use Rattle.td_journal.specs.declared.entry.Mark.{Mark}
 use Rattle.td_core.specs.Committing.{takes}
 use Rattle.td_core.specs.History.{History, rows_of}
-use Rattle.td_core.proofs.Taking.{ascending-filter}
+use Rattle.td_core.proofs.Taking.{ascending-filter, below_all-filter}
 use Rattle.td_wbread.specs.Command.{CommandParts}
 use Rattle.td_wbread.specs.declared.command.Verb.{Verb}
 use Rattle.td_wbread.specs.declared.command.Verb.TheVariants.{Gb, Nmu, Bp, Dw}
@@ -40,17 +41,6 @@ use Rattle.td_desk.proofs.Growing.{Kept, Grown, kept, grown}
 
 -- ---- 1. the keys that aren't skipped
 
-below_filter : (q : Key → Bool) (k : Key) (ks : List Key) → below_all k ks ≡ true
-    → below_all k (filter q ks) ≡ true
-below_filter q k [] h = refl
-below_filter q k (x ∷ ks) h =
-    let p = and_parts (is_lt (key_cmp k x)) (below_all k ks) h in
-    let rest = below_filter q k ks p.1 in
-    elim (q x) as (λ b. below_all k (if b then x ∷ filter q ks else filter q ks) ≡ true) [
-      | true ↦ and_from (is_lt (key_cmp k x)) (below_all k (filter q ks)) p.0 rest
-      | false ↦ rest
-    ]
-
 -- a key below those that are left out stays
 stays_out : (k : Key) (ks ss : List Key) → below_all k ss ≡ true
     → left_out (k ∷ ks) ss ≡ k ∷ left_out ks ss
@@ -73,7 +63,8 @@ left_others q (k ∷ ks) h =
           ap (λ b. if b then left_out ks (filter q ks) else k ∷ left_out ks (k ∷ filter q ks))
           (same_key-refl k) ∙ rest
       | false ↦
-          stays_out k ks (filter q ks) (below_filter q k ks p.0) ∙ ap (λ (l : List Key). k ∷ l) rest
+          stays_out k ks (filter q ks) (below_all-filter q k ks p.0)
+          ∙ ap (λ (l : List Key). k ∷ l) rest
     ]
 
 -- a key is among those that pass where it is among all and passes
@@ -91,7 +82,7 @@ names_passing q (x ∷ ks) k =
           q k ≡ b → names (if b then x ∷ filter q ks else filter q ks) k ≡ q k) [
             | true ↦ λ is. ap (λ c. if c then true else names (filter q ks) k) same ∙ sym is
             | false ↦
-                λ is. rest ∙ (ap (λ c. names ks k && c) is ∙ (and_false (names ks k) ∙ sym is))
+                λ is. rest ∙ (ap (λ c. names ks k && c) is ∙ (and-false (names ks k) ∙ sym is))
           ] at
       | false ↦
           λ other. elim (q x) as (λ b.
@@ -100,10 +91,6 @@ names_passing q (x ∷ ks) k =
             | false ↦ rest
           ]
     ] refl
-  where
-    and_false : (b : Bool) → (b && false) ≡ false
-    and_false true = refl
-    and_false false = refl
 
 -- the keys that aren't among those of the whole that pass
 others : (q : Key → Bool) (whole part : List Key)

@@ -10,6 +10,7 @@ use Rattle.std.proofs.lemmas.List.Sorted.{IsPermutation-refl, IsPermutation-sym}
 use Rattle.std.proofs.lemmas.List.Sorted.{IsPermutation-trans, IsPermutation-middle}
 use Rattle.std.proofs.lemmas.List.Sorted.{IsPermutation-append_right, IsPermutation-to_front}
 use Rattle.std.proofs.lemmas.List.Sorted.{length_permutation}
+use Rattle.std.proofs.Math.Bool.{or-true}
 use Rattle.td_rows.specs.declared.key.Key.{Key}
 use Rattle.td_journal.specs.declared.entry.Entry.{Entry}
 use Rattle.td_journal.specs.declared.entry.Mark.{Mark}
@@ -21,6 +22,7 @@ use Rattle.td_core.specs.Refusals.{is_queued_at}
 use Rattle.td_book.specs.Seen.{is_desks}
 use Rattle.td_book.specs.Desk.{claim_of}
 use Rattle.td_book.specs.Calls.{is_lost, noting_one, noting}
+use Rattle.td_book.proofs.Deeds.{length-undone_at}
 use Rattle.td_desk.specs.declared.receipt.Receipt.{Receipt}
 use Rattle.td_desk.specs.declared.receipt.Receipt.TheVariants.{Undid}
 use Rattle.td_desk.specs.Receipts.{made_of}
@@ -28,21 +30,17 @@ use Rattle.td_desk.specs.Changes.{made_by, undone_since, changes_from, still_und
 
 -- ---- 1. longer journals
 
+still_none : (ms : List Marked) → still_undone ms [] ≡ true
+still_none [] = refl
+still_none (m ∷ ms) = refl
+
 pub still-append : (ms ks : List Marked) (os : List Mark) → still_undone ms os ≡ true
     → still_undone (ms ++ ks) os ≡ true
-still-append ms ks [] h = none (ms ++ ks)
-  where
-    none : (ls : List Marked) → still_undone ls [] ≡ true
-    none [] = refl
-    none (l ∷ ls) = refl
+still-append ms ks [] h = still_none (ms ++ ks)
 still-append [] ks (o ∷ os) h = absurd (cc)
 still-append (m ∷ ms) ks (o ∷ os) h =
     let p = and_parts (is_standing o || not (is_standing m.mark)) (still_undone ms os) h in
     (λ i. p.0 i && still-append ms ks os p.1 i)
-
-still_none : (ms : List Marked) → still_undone ms [] ≡ true
-still_none [] = refl
-still_none (m ∷ ms) = refl
 
 -- the changes of a longer journal
 pub changes-append : (n : ℕ) (ms ks : List Marked) (os : List Mark) → still_undone ms os ≡ true
@@ -226,25 +224,16 @@ changes-undone n (suc i) (x ∷ ms) (o ∷ os) m at up h =
     deeper n i (undone_since n (is_standing o) x.mark) (changes_from (suc n) ms os)
     (changes_from (suc n) (undone_at ms i) os) (changes-undone (suc n) i ms os m at up p.1)
 
-or_true : (b : Bool) → (b || true) ≡ true
-or_true true = refl
-or_true false = refl
-
 still-undone : (ms : List Marked) (i : ℕ) (os : List Mark) → still_undone ms os ≡ true
     → still_undone (undone_at ms i) os ≡ true
 still-undone ms i [] h = still_none (undone_at ms i)
 still-undone [] i (o ∷ os) h = h
 still-undone (m ∷ ms) zero (o ∷ os) h =
     let p = and_parts (is_standing o || not (is_standing m.mark)) (still_undone ms os) h in
-    (λ i. or_true (is_standing o) i && p.1 i)
+    (λ i. or-true (is_standing o) i && p.1 i)
 still-undone (m ∷ ms) (suc i) (o ∷ os) h =
     let p = and_parts (is_standing o || not (is_standing m.mark)) (still_undone ms os) h in
     (λ j. p.0 j && still-undone ms i os p.1 j)
-
-long-undone : (ms : List Marked) (i : ℕ) → length (undone_at ms i) ≡ length ms
-long-undone [] i = refl
-long-undone (m ∷ ms) zero = refl
-long-undone (m ∷ ms) (suc i) = ap suc (long-undone ms i)
 
 pub changes_undid : (os : List Mark) (n : ℕ) (ms : List Marked) → still_undone ms os ≡ true
     → CanBeUndone ms n
@@ -265,7 +254,7 @@ pub still_undid : (os : List Mark) (n : ℕ) (ms : List Marked) → still_undone
 still_undid os n ms still = still-undone ms (n - 1) os still
 
 pub long_undid : (n : ℕ) (ms : List Marked) → length (undone ms n) ≡ length ms
-long_undid n ms = long-undone ms (n - 1)
+long_undid n ms = length-undone_at ms (n - 1)
 
 -- ---- 5. how many there are
 

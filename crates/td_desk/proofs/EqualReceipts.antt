@@ -1,7 +1,7 @@
 -- Receipts that are told to be the same are equal.
-use Rattle.std.proofs.Common.{◌≡◌, ◌≢◌, ℕ, ◌==◌, Bool, true, false, ◌&&◌, List, [], ◌∷◌, length}
+use Rattle.std.proofs.Common.{◌≡◌, ◌≢◌, ℕ, ◌==◌, true, false, ◌&&◌, List, [], ◌∷◌, length}
 use Rattle.std.proofs.Common.{refl, sym, ap, Option, Some, None}
-use Rattle.std.proofs.lemmas.Bool.{and_parts, and_from, eq-eqb, eqb-true}
+use Rattle.std.proofs.lemmas.Bool.{and_parts, and_from, eq-eqb, eqb-true, false_from_ne_true}
 use Rattle.std.proofs.lemmas.Bool.Decides.{Decides-int_eq}
 use Rattle.std.proofs.lemmas.Cmp.{nat_list_eq_equiv, int_eq_equiv}
 use Rattle.std.specs.Cmp.Lexicographic as texts
@@ -160,13 +160,9 @@ same_keys-refl [] = refl
 same_keys-refl (k ∷ ks) =
     and_from (same_key k k) (same_keys ks ks) (same_key-refl k) (same_keys-refl ks)
 
-pub false_of : (b : Bool) → (b ≡ true → ⊥) → false ≡ b
-false_of true h = absurd (h refl)
-false_of false h = refl
-
 pub same_keys-apart : (js ks : List Key) → length js ≢ length ks → false ≡ same_keys js ks
 same_keys-apart js ks apart =
-    false_of (same_keys js ks) (λ h. apart (ap length (same_keys-is js ks h)))
+    sym (false_from_ne_true (same_keys js ks) (λ h. apart (ap length (same_keys-is js ks h))))
 
 -- ---- 4. receipts
 

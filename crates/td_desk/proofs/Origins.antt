@@ -1,6 +1,5 @@
 -- The rows with which a book was opened stay over every call of it.
-use Rattle.std.proofs.Common.{◌≡◌, ℕ, [], ◌∷◌, Option, Some, None, Result, Ok, Err, Bool, ap, ◌∙◌}
-use Rattle.std.proofs.Common.{filter}
+use Rattle.std.proofs.Common.{◌≡◌, ℕ, Option, Some, None, Result, Ok, Err, Bool, ap, ◌∙◌, filter}
 use Rattle.std.specs.Prelude.{IsSomeAnd}
 use Rattle.std.specs.declared.alloc.AllocError.{AllocError}
 use Rattle.td_board.specs.declared.outcome.OutcomeCode.{OutcomeCode}
@@ -28,7 +27,7 @@ use Rattle.td_book.specs.declared.undoing.UndoRefusal.{UndoRefusal}
 use Rattle.td_book.specs.declared.undoing.UndoRefusal.TheVariants as undos
 use Rattle.td_book.specs.Arriving.{ArriveOutcome, SweepOutcome}
 use Rattle.td_book.specs.Building.{StartOutcome, Noticed}
-use Rattle.td_book.specs.Calls.{CommandOutcome, noting_one, off_for}
+use Rattle.td_book.specs.Calls.{CommandOutcome, off_for}
 use Rattle.td_book.specs.Commands.{IsDone, is_matched_in, named_by}
 use Rattle.td_book.specs.Desk.{BookModel}
 use Rattle.td_book.specs.Finishing.{FinishHeld, FinishAgain, FinishOutcome}
@@ -36,16 +35,13 @@ use Rattle.td_wbread.specs.Kinds.{kind_of}
 use Rattle.td_book.specs.Skips.{skips_of}
 use Rattle.td_book.specs.Undoing.{IsWon, UndoAnswer}
 use Rattle.td_book.proofs.Calls.{noting-opening}
+use Rattle.td_book.proofs.Steps.{noting_one-opening}
 
 abbrev origin : BookModel → Table
 origin b = b.history.opening
 
 all : (old new : BookModel) → new ≡ old → origin new ≡ origin old
 all old new same = ap origin same
-
--- a claim more
-noted : (h : History) (k : Key) (b : ℕ) → (noting_one h k b).opening ≡ h.opening
-noted h k b = noting-opening h (k ∷ []) (b ∷ [])
 
 pub arrive_origin : (k : Key) (old new : BookModel) (r : Result ℕ ArriveRefusal)
     → ArriveOutcome k old new r → origin new ≡ origin old
@@ -63,7 +59,7 @@ sweep_origin old new (Err e) is = all old new is
 noticed : (i b : ℕ) (is : Bool) (old new : BookModel) → Noticed i b is old new
     → origin new ≡ origin old
 noticed i b is old new seen =
-    ap (λ (h : History). h.opening) seen.history ∙ noted old.history seen.key seen.by
+    ap (λ (h : History). h.opening) seen.history ∙ noting_one-opening old.history seen.key seen.by
 
 pub start_origin : (b : ℕ) (hand : Hand) (old new : BookModel) (r : Result Job StartRefusal)
     → StartOutcome b hand old new r → origin new ≡ origin old
@@ -77,7 +73,7 @@ start_origin b (Finished i c) old new r is = all old new is.1
 held_origin : (i : ℕ) (o : Outcome) (v w : BuilderView) (old new : BookModel)
     (r : Result ℕ FinishRefusal) → FinishHeld i o v w old new r → origin new ≡ origin old
 held_origin i o v w old new (Ok n) is =
-    ap (λ (h : History). h.opening) is.0.history ∙ noted old.history is.0.key is.0.by
+    ap (λ (h : History). h.opening) is.0.history ∙ noting_one-opening old.history is.0.key is.0.by
 held_origin i o v w old new (Err finishes.NoMemory) is = all old new is.0
 held_origin i o v w old new (Err finishes.Mismatch) (is, seen, hand) =
     noticed i v.number is old new seen

@@ -2,17 +2,18 @@
 use Rattle.std.proofs.Common.{◌≡◌, ◌≢◌, ℕ, zero, suc, ◌+◌, ◌-◌, ◌<◌, ◌≤◌, Bool, true, false, not}
 use Rattle.std.proofs.Common.{◌&&◌, ◌||◌, List, [], ◌∷◌, ◌++◌, length, refl, sym, ap, ◌∙◌, subst}
 use Rattle.std.proofs.Common.{arith, append-nil, append_assoc, length-append, map, if◌then◌else◌}
-use Rattle.std.proofs.Common.{take, drop, set, get_or}
+use Rattle.std.proofs.Common.{take, drop, set, get_or, add_assoc}
 use Rattle.std.specs.Prelude.{IsPermutation, replicate, MatchBool}
 use Rattle.std.proofs.lemmas.List.{take-append-drop, take_all, replicate-append-replicate}
 use Rattle.std.proofs.lemmas.List.{length-replicate}
-use Rattle.std.proofs.lemmas.Bool.{and_parts}
+use Rattle.std.proofs.lemmas.Bool.{and_parts, false_from_ne_true, or_parts}
 use Rattle.std.proofs.lemmas.List.Recursion.{is_sum_by}
 use Rattle.std.proofs.lemmas.List.Sorted.{IsPermutation-refl, IsPermutation-sym}
 use Rattle.std.proofs.lemmas.List.Sorted.{IsPermutation-trans, IsPermutation-middle}
 use Rattle.std.proofs.lemmas.List.Sorted.{IsPermutation-to_front, IsPermutation-append_left}
 use Rattle.std.proofs.lemmas.List.Sorted.{IsPermutation-append_right, length_permutation}
 use Rattle.std.proofs.lemmas.List.Sorted.{sum_by-IsPermutation}
+use Rattle.std.proofs.Math.Bool.{and-false, and-true, or-false, or_assoc}
 use Rattle.td_rows.specs.declared.key.Key.{Key}
 use Rattle.td_rows.specs.declared.kind.Kind.{Kind}
 use Rattle.td_rows.specs.declared.kind.Kind.TheVariants as kinds
@@ -31,39 +32,19 @@ use Rattle.td_desk.specs.inner.Matching.{same_receipt}
 use Rattle.td_desk.specs.inner.Ticks.{unticked, begun_at, AreBegun, is_made_left, is_undo_left, one}
 use Rattle.td_desk.specs.inner.Ticks.{left_at, left_from, is_ticked_at, are_ticked, is_in, is_nil}
 use Rattle.td_desk.specs.inner.Ticks.{times, Takes, TooMany}
-use Rattle.td_desk.proofs.EqualReceipts.{same_receipt-is, same_receipt-refl, false_of}
-
-or_false : (b : Bool) → (b || false) ≡ b
-or_false true = refl
-or_false false = refl
-
-or_assoc : (a b c : Bool) → (a || (b || c)) ≡ ((a || b) || c)
-or_assoc true b c = refl
-or_assoc false b c = refl
-
-or_parts : (a b : Bool) → (a || b) ≡ false → (a ≡ false) × (b ≡ false)
-or_parts true b e = absurd (cc)
-or_parts false b e = (refl, e)
-
-and_false : (b : Bool) → (b && false) ≡ false
-and_false true = refl
-and_false false = refl
-
-and_true : (b : Bool) → (b && true) ≡ b
-and_true true = refl
-and_true false = refl
+use Rattle.td_desk.proofs.EqualReceipts.{same_receipt-is, same_receipt-refl}
 
 -- ---- 1. membership and counts
 
 in_one : (r c : Receipt) (b : Bool) → is_in r (one b c) ≡ (b && same_receipt r c)
-in_one r c true = or_false (same_receipt r c)
+in_one r c true = or-false (same_receipt r c)
 in_one r c false = refl
 
 in_append : (r : Receipt) (xs ys : List Receipt) → is_in r (xs ++ ys) ≡ (is_in r xs || is_in r ys)
 in_append r [] ys = refl
 in_append r (x ∷ xs) ys =
     ap (λ b. same_receipt r x || b) (in_append r xs ys)
-    ∙ or_assoc (same_receipt r x) (is_in r xs) (is_in r ys)
+    ∙ sym (or_assoc (same_receipt r x) (is_in r xs) (is_in r ys))
 
 in_neither : (r : Receipt) (xs ys : List Receipt) → is_in r xs ≡ false → is_in r ys ≡ false
     → is_in r (xs ++ ys) ≡ false
@@ -73,10 +54,7 @@ times_append : (r : Receipt) (xs ys : List Receipt) → times r (xs ++ ys) ≡ t
 times_append r [] ys = omega arith
 times_append r (x ∷ xs) ys =
     ap (λ k. (if same_receipt r x then 1 else 0) + k) (times_append r xs ys)
-    ∙ add_assoc (if same_receipt r x then 1 else 0) (times r xs) (times r ys)
-  where
-    add_assoc : (a b c : ℕ) → a + (b + c) ≡ (a + b) + c
-    add_assoc a b c = omega arith
+    ∙ sym (add_assoc (if same_receipt r x then 1 else 0) (times r xs) (times r ys))
 
 times_none : (r : Receipt) (xs : List Receipt) → is_in r xs ≡ false → times r xs ≡ 0
 times_none r [] h = refl
@@ -103,7 +81,7 @@ tick_made n m t r h =
     let c = made_of n m.entry.kind m.entry.keys in
     let p = and_parts (is_made_left m t) (same_receipt r c) h in
     let is : r ≡ c = same_receipt-is r c p.1 in
-    rw (p.0, and_false (is_desks m.entry.kind), is)
+    rw (p.0, and-false (is_desks m.entry.kind), is)
     (IsPermutation-refl (c ∷ one (is_undo_left m t) (Undid n)))
 
 pub tick_undone : (n : ℕ) (m : Marked) (t : Tick) (r : Receipt)
@@ -113,7 +91,7 @@ tick_undone n m t r h =
     let p = and_parts (is_undo_left m t) (same_receipt r (Undid n)) h in
     let is : r ≡ Undid n = same_receipt-is r (Undid n) p.1 in
     let made = one (is_made_left m t) (made_of n m.entry.kind m.entry.keys) in
-    rw (p.0, and_false (not (is_standing m.mark)), is, append-nil made)
+    rw (p.0, and-false (not (is_standing m.mark)), is, append-nil made)
     (IsPermutation-sym (made ++ Undid n ∷ []) (Undid n ∷ made)
     (IsPermutation-to_front made (Undid n)))
 
@@ -140,7 +118,7 @@ made_number n kinds.Sweep keys = refl
 
 differs : (r c : Receipt) → number_of r ≢ number_of c → same_receipt r c ≡ false
 differs r c other =
-    sym (false_of (same_receipt r c) (λ h. other (ap number_of (same_receipt-is r c h))))
+    false_from_ne_true (same_receipt r c) (λ h. other (ap number_of (same_receipt-is r c h)))
 
 apart : (n : ℕ) (m : Marked) (t : Tick) (r : Receipt) → number_of r ≢ n
     → is_in r (left_at n m t) ≡ false
@@ -149,8 +127,8 @@ apart n m t r other =
     tick_none n m t r
     (ap (λ s. is_made_left m t && s)
     (differs r c (λ e. other (e ∙ made_number n m.entry.kind m.entry.keys)))
-    ∙ and_false (is_made_left m t))
-    (ap (λ s. is_undo_left m t && s) (differs r (Undid n) other) ∙ and_false (is_undo_left m t))
+    ∙ and-false (is_made_left m t))
+    (ap (λ s. is_undo_left m t && s) (differs r (Undid n) other) ∙ and-false (is_undo_left m t))
 
 pub far : (n : ℕ) (ms : List Marked) (ts : List Tick) (r : Receipt)
     → ((i : ℕ) → i < length ms → number_of r ≢ n + i) → is_in r (left_from n ms ts) ≡ false
@@ -211,8 +189,8 @@ at_unticked : (n : ℕ) (m : Marked)
     → left_at n m unticked
     ≡ made_by n m.entry.kind m.entry.keys ++ one (not (is_standing m.mark)) (Undid n)
 at_unticked n m =
-    (λ i. one (and_true (is_desks m.entry.kind) i) (made_of n m.entry.kind m.entry.keys)
-    ++ one (and_true (not (is_standing m.mark)) i) (Undid n))
+    (λ i. one (and-true (is_desks m.entry.kind) i) (made_of n m.entry.kind m.entry.keys)
+    ++ one (and-true (not (is_standing m.mark)) i) (Undid n))
 
 either : (was mark : Mark)
     → (not (is_standing mark) && not (not (is_standing was)))
@@ -226,7 +204,7 @@ at_begun : (n : ℕ) (was : Mark) (m : Marked)
     → left_at n m (begun_at was)
     ≡ (if is_standing was && not (is_standing m.mark) then Undid n ∷ [] else [])
 at_begun n was m =
-    (λ i. one (and_false (is_desks m.entry.kind) i) (made_of n m.entry.kind m.entry.keys)
+    (λ i. one (and-false (is_desks m.entry.kind) i) (made_of n m.entry.kind m.entry.keys)
     ++ one (either was m.mark i) (Undid n))
 
 left_unticked : (n k : ℕ) (ms : List Marked) → length ms ≤ k

@@ -3,18 +3,19 @@ use Rattle.std.proofs.Common.{◌≡◌, ℕ, ◌+◌, Bool, true, false, List, 
 use Rattle.std.proofs.Common.{None, Result, Ok, Err, refl, sym, ap, ◌∙◌, subst, inl, inr}
 use Rattle.std.proofs.Common.{append_assoc, append-nil}
 use Rattle.std.specs.List.{list_any, AllByRecursion}
-use Rattle.std.proofs.lemmas.Bool.{cases_Bool, and_parts, eq-eqb}
+use Rattle.std.proofs.lemmas.Bool.{cases_Bool, and_parts, eq-eqb, or_right}
 use Rattle.std.specs.Ordering.{is_lt, ordering_reverse}
 use Rattle.std.specs.Str.{bytes_eq}
 use Rattle.std.specs.declared.cmp.Ordering.{Ordering}
 use Rattle.std.specs.declared.cmp.Ordering.TheVariants.{Less, Equal, Greater}
 use Rattle.std.proofs.lemmas.Slice.Eq.{bytes_eq-Decides}
-use Rattle.td_text.proofs.Chain.{or_right}
 use Rattle.td_text.specs.Lines.{on_ok}
 use Rattle.td_stanza.specs.Field.{Entry}
 use Rattle.td_version.specs.Order.{version_cmp}
 use Rattle.td_version.specs.Version.{Parts}
 use Rattle.td_version.proofs.Total.{version_total}
+use Rattle.td_relation.proofs.WordTexts.{all-map}
+use Rattle.td_rows.proofs.Rising.{is_less}
 use Rattle.td_indices.specs.declared.archive_fault.ArchiveFault.{ArchiveFault}
 use Rattle.td_indices.specs.declared.archive_fault.EntryFault.{EntryFault}
 use Rattle.td_indices.specs.declared.archive_fault.IndexFile.{IndexFile}
@@ -36,11 +37,6 @@ pub record Orders {A : Type 0} (same lower : A → A → Bool) : Type 0 where
   pub along : (x y z : A) → same x y ≡ true → same y z ≡ true → same x z ≡ true
   pub under : (z y x : A) → lower z y ≡ true → lower y x ≡ true → lower z x ≡ true
   pub not_over : (z y x : A) → lower y z ≡ false → lower y x ≡ true → lower z x ≡ true
-
-all-map : {A : Type 0} (P Q : A → Type 0) → ((x : A) → P x → Q x) → (xs : List A)
-    → AllByRecursion P xs → AllByRecursion Q xs
-all-map P Q f [] h = tt
-all-map P Q f (x ∷ xs) h = (f x h.0, all-map P Q f xs h.1)
 
 all-append : {A : Type 0} (P : A → Type 0) (xs ys : List A) → AllByRecursion P xs
     → AllByRecursion P ys → AllByRecursion P (xs ++ ys)
@@ -281,15 +277,10 @@ module _ {A : Type 0} (same lower : A → A → Bool) (o : Orders same lower)
 
 -- ---- versions
 
-lt_is : (o : Ordering) → is_lt o ≡ true → o ≡ Less
-lt_is Less h = refl
-lt_is Equal h = cc
-lt_is Greater h = cc
-
 below : (a b d : Parts) → is_lt (version_cmp a b) ≡ true → is_lt (version_cmp b d) ≡ true
     → is_lt (version_cmp a d) ≡ true
 below a b d h k =
-    ap is_lt (version_total.trans a b d (lt_is (version_cmp a b) h) (lt_is (version_cmp b d) k))
+    ap is_lt (version_total.trans a b d (is_less (version_cmp a b) h) (is_less (version_cmp b d) k))
 
 not_above : (a b d : Parts) → is_lt (version_cmp b a) ≡ false → is_lt (version_cmp b d) ≡ true
     → is_lt (version_cmp a d) ≡ true
@@ -365,7 +356,7 @@ pub source_keys : SourceKeysAreExact
 source_keys a b = (source_names a b, source_again a b)
 
 pub lower_packages : LowerPackagesAreExact
-lower_packages a b = (lt_is (version_cmp a.head.parts b.head.parts), λ h. ap is_lt h)
+lower_packages a b = (is_less (version_cmp a.head.parts b.head.parts), λ h. ap is_lt h)
 
 pub lower_sources : LowerSourcesAreExact
-lower_sources a b = (lt_is (version_cmp a.head.parts b.head.parts), λ h. ap is_lt h)
+lower_sources a b = (is_less (version_cmp a.head.parts b.head.parts), λ h. ap is_lt h)

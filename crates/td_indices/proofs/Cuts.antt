@@ -1,9 +1,7 @@
 -- The stanzas of a text that is cut at an empty line.
-use Rattle.std.proofs.Common.{◌≡◌, ◌≢◌, ℕ, Bool, true, false, cond, eqb, List, [], ◌∷◌, ◌++◌}
-use Rattle.std.proofs.Common.{length, refl, sym, ap, subst, ◌∙◌, append_assoc, arith}
-use Rattle.std.specs.List.{onto_first}
-use Rattle.std.proofs.lemmas.List.Splits.{length-slice_split}
+use Rattle.std.proofs.Common.{◌≡◌, ℕ, List, [], ◌∷◌, ◌++◌, sym, ap, subst, ◌∙◌, append_assoc}
 use Rattle.td_text.specs.Lines.{lines_of}
+use Rattle.td_text.proofs.CutLines.{lines_of-cut}
 use Rattle.td_stanza.specs.Field.{Entry}
 use Rattle.td_stanza.specs.StanzaGrammar.{AllSeparate, AreStanzas, BeginsApart}
 use Rattle.td_indices.specs.inner.Pieces.{IsCutApart}
@@ -47,31 +45,6 @@ AreStanzas-append (x ∷ xs) ys a b h k apart = (
   apart_first h.2 b h.6 apart,
   AreStanzas-append xs ys h.2 b h.7 k apart,
 )
-
--- ---- the lines of both parts
-
-onto_first-append : (x : ℕ) (a b : List (List ℕ)) → a ≢ []
-    → onto_first x (a ++ b) ≡ onto_first x a ++ b
-onto_first-append x [] b some = absurd (some refl)
-onto_first-append x (l ∷ a) b some = refl
-
-lines_some : (text : List ℕ) → lines_of text ≢ []
-lines_some text = λ e.
-    (let l = length-slice_split (λ b. eqb b 10) text in let none = ap length e in omega arith)
-
-by_first : (t : Bool) (x : ℕ) (all front rest : List (List ℕ)) → all ≡ front ++ rest
-    → front ≢ []
-    → cond t ([] ∷ all) (onto_first x all) ≡ cond t ([] ∷ front) (onto_first x front) ++ rest
-by_first true x all front rest is some = ap (λ (l : List (List ℕ)). [] ∷ l) is
-by_first false x all front rest is some =
-    ap (onto_first x) is ∙ onto_first-append x front rest some
-
-lines_of-cut : (before behind : List ℕ)
-    → lines_of (before ++ 10 ∷ behind) ≡ lines_of before ++ lines_of behind
-lines_of-cut [] behind = refl
-lines_of-cut (x ∷ before) behind =
-    by_first (eqb x 10) x (lines_of (before ++ 10 ∷ behind)) (lines_of before) (lines_of behind)
-    (lines_of-cut before behind) (lines_some before)
 
 cut_between : (before behind : List ℕ) (front rest : List (List Entry))
     → BeginsApart (lines_of behind) → AreStanzas front (lines_of before)

@@ -1,7 +1,8 @@
 -- The opening rows are as many as the pairs of a source and an architecture with a row.
 use Rattle.std.proofs.Common.{◌≡◌, ℕ, zero, suc, ◌+◌, ◌<◌, ◌≤◌, Bool, true, false, ◌&&◌, ◌||◌}
 use Rattle.std.proofs.Common.{nat_lt, List, [], ◌∷◌, ◌++◌, Option, Some, None, Result, Ok, Err}
-use Rattle.std.proofs.Common.{length, slice_get, if◌then◌else◌, refl, sym, ap, ◌∙◌, inl, inr, arith}
+use Rattle.std.proofs.Common.{length, slice_get, add-one, if◌then◌else◌, refl, sym, ap, ◌∙◌, inl}
+use Rattle.std.proofs.Common.{inr, arith}
 use Rattle.std.specs.Prelude.{IfOk, is_some}
 use Rattle.std.specs.Cmp.{IsEquivalence}
 use Rattle.std.specs.List.{AllByRecursion, IsDistinct, find, list_any}
@@ -9,14 +10,13 @@ use Rattle.std.specs.Option.{option_map_or}
 use Rattle.std.specs.Ordering.{is_lt}
 use Rattle.std.specs.Set.{is_member}
 use Rattle.std.specs.Str.{bytes_eq}
-use Rattle.std.proofs.Math.Bool.{and-false}
-use Rattle.std.proofs.lemmas.Bool.{and_parts, cases_Bool}
+use Rattle.std.proofs.Math.Bool.{and-false, or-false}
+use Rattle.std.proofs.lemmas.Bool.{and_parts, cases_Bool, or_parts, or_right}
 use Rattle.std.proofs.lemmas.List.{length-append, length-map}
 use Rattle.std.proofs.lemmas.List.Folds.{list_any-append}
 use Rattle.std.proofs.lemmas.List.Sums.{sum_by-cons}
 use Rattle.std.proofs.lemmas.Map.Made.{length-from_same_keys}
 use Rattle.std.proofs.lemmas.Slice.Eq.{bytes_eq-Decides}
-use Rattle.td_text.proofs.Chain.{or-false, or_right}
 use Rattle.td_relation.specs.Arch.{ArchWords}
 use Rattle.td_relation.specs.Table.{IsApart, place_of}
 use Rattle.td_rows.specs.declared.key.Key.{Key}
@@ -57,7 +57,7 @@ all_apart : (k : Key) (ks : List Key) → list_any (same_key k) ks ≡ false
     → AllByRecursion (λ q. same_key k q ≡ false) ks
 all_apart k [] none = tt
 all_apart k (q ∷ ks) none =
-    let parts = or-false (same_key k q) (list_any (same_key k) ks) none in
+    let parts = or_parts (same_key k q) (list_any (same_key k) ks) none in
     (parts.0, all_apart k ks parts.1)
 
 not_among : (k : Key) (ks : List Key) → AllByRecursion (λ q. same_key k q ≡ false) ks
@@ -162,9 +162,6 @@ among_next : (table : List ArchWords) (source archs : List ℕ) (k : Key) (place
     ≡ (bytes_eq k.source source && has_row_before table archs (suc place) k.arch)
 among_next table source archs k place apart within so_far = by (slice_get table place) refl
   where
-    next : place + 1 ≡ suc place
-    next = omega arith
-
     by : (o : Option ArchWords) → slice_get table place ≡ o
         → list_any (same_key k) (keys_before table source archs (suc place))
         ≡ (bytes_eq k.source source && has_row_before table archs (suc place) k.arch)
@@ -178,7 +175,7 @@ among_next table source archs k place apart within so_far = by (slice_get table 
               (ap (λ (o : Option ArchWords). key_under source (name_at o)) e) in
               let more : has_row_before table archs (suc place) k.arch
               ≡ (has_row_before table archs place k.arch || bytes_eq w.name k.arch) =
-              ap (λ (n : ℕ). has_row_before table archs n k.arch) (sym next)
+              ap (λ (n : ℕ). has_row_before table archs n k.arch) (sym (add-one place))
               ∙ before_next table archs k.arch place w apart e has in
               ap (λ (b : Bool). list_any (same_key k)
               (if b then key_on table source place ∷ keys_before table source archs place
@@ -192,7 +189,7 @@ among_next table source archs k place apart within so_far = by (slice_get table 
           | inr lacks ↦
               let same : has_row_before table archs (suc place) k.arch
               ≡ has_row_before table archs place k.arch =
-              ap (λ (n : ℕ). has_row_before table archs n k.arch) (sym next)
+              ap (λ (n : ℕ). has_row_before table archs n k.arch) (sym (add-one place))
               ∙ before_past table archs k.arch place lacks in
               ap (λ (b : Bool). list_any (same_key k)
               (if b then key_on table source place ∷ keys_before table source archs place
@@ -303,10 +300,6 @@ no_other k test s (t ∷ sources) names is =
     || list_any (λ u. bytes_eq k.source u.head.name && test u) sources) other
     ∙ no_other k test s sources names.1 is
 
-or_none : (b : Bool) → (b || false) ≡ b
-or_none true = refl
-or_none false = refl
-
 -- so the one with the key's decides
 one_named : (k : Key) (test : KeptSource → Bool) (sources : List KeptSource)
     → Apart same_source sources
@@ -315,7 +308,9 @@ one_named : (k : Key) (test : KeptSource → Bool) (sources : List KeptSource)
 one_named k test [] names = refl
 one_named k test (s ∷ sources) names =
     elim (cases_Bool (bytes_eq k.source s.head.name)) [
-      | inl is ↦ let none = no_other k test s sources names.0 is in rw (is, none) (or_none (test s))
+      | inl is ↦
+          let none = no_other k test s sources names.0 is in
+          rw (is, none) (or-false (test s))
       | inr other ↦ rw other (one_named k test sources names.1)
     ]
 

@@ -1,18 +1,21 @@
 -- Opening rows that are put together source by source.
 use Rattle.std.proofs.Common.{◌≡◌, ◌≢◌, ℕ, zero, suc, ◌+◌, ◌<◌, ◌≤◌, Bool, true, false, ◌&&◌, ◌||◌}
-use Rattle.std.proofs.Common.{nat_lt, ◌==◌, List, [], ◌∷◌, ◌++◌, Option, Some, None, option_map}
+use Rattle.std.proofs.Common.{nat_lt, ◌==◌, List, [], ◌∷◌, Option, Some, None, option_map}
 use Rattle.std.proofs.Common.{length, take, drop, get_or, slice_get, add-one, if◌then◌else◌, refl}
 use Rattle.std.proofs.Common.{sym, ap, ◌∙◌, inl, inr, arith}
 use Rattle.std.specs.List.{find, list_any}
 use Rattle.std.specs.Option.{option_map_or, option_or}
 use Rattle.std.specs.Str.{bytes_eq}
+use Rattle.std.proofs.Math.Bool.{and-false, or-false}
 use Rattle.std.proofs.lemmas.Bool.{cases_Bool, and_parts, and_from, eq-eqb, eqb-true, lt-ltb}
+use Rattle.std.proofs.lemmas.Bool.{or_right}
 use Rattle.std.proofs.lemmas.List.{take_all}
 use Rattle.std.proofs.lemmas.List.Quantifiers.{position-Some}
 use Rattle.std.proofs.lemmas.List.Sums.{sum_by-cons}
 use Rattle.std.proofs.lemmas.Slice.Eq.{bytes_eq-Decides}
 use Rattle.indexmap.specs.IndexMap.{insert_entry}
-use Rattle.td_text.proofs.Chain.{some_is, or_right}
+use Rattle.td_text.proofs.Anywhere.{any-push}
+use Rattle.td_text.proofs.Chain.{some_is}
 use Rattle.td_relation.specs.Arch.{ArchWords}
 use Rattle.td_relation.specs.Table.{IsApart, place_of}
 use Rattle.td_rows.specs.declared.key.Key.{Key}
@@ -145,14 +148,6 @@ place_named table arch place w at is =
     let found = position-Some (λ (a : ArchWords). bytes_eq a.name arch) table place w is in
     ap (λ (a : ArchWords). bytes_eq a.name arch) (sym (got table place w at)) ∙ found.1
 
-or_none : (b : Bool) → (b || false) ≡ b
-or_none true = refl
-or_none false = refl
-
-and_none : (b : Bool) → (b && false) ≡ false
-and_none true = refl
-and_none false = refl
-
 -- whether a source with this Architecture field has a row at a place of the table, and before
 -- another
 abbrev before : List ArchWords → List ℕ → ℕ → Option ℕ → Bool
@@ -187,7 +182,7 @@ before_next table archs arch place w apart at has =
           λ e. (let bad : true ≡ false = sym (place_named table arch place w at e) ∙ other in cc) in
           before-none table archs place (place_of table arch) past
           ∙ sym (ap (λ (b : Bool). has_row_before table archs place arch || b) other
-          ∙ or_none (has_row_before table archs place arch))
+          ∙ or-false (has_row_before table archs place arch))
     ]
 
 pub before_past : (table : List ArchWords) (archs arch : List ℕ) (place : ℕ)
@@ -206,9 +201,9 @@ before_past table archs arch place lacks = by (place_of table arch) refl
               let at_place : place_of table arch ≡ Some place = e ∙ ap Some (eqb-true p place is) in
               ap (before table archs (place + 1)) at_place
               ∙ ap (λ (b : Bool). nat_lt place (place + 1) && b) lacks
-              ∙ and_none (nat_lt place (place + 1))
+              ∙ and-false (nat_lt place (place + 1))
               ∙ sym (ap (before table archs place) at_place
-              ∙ ap (λ (b : Bool). nat_lt place place && b) lacks ∙ and_none (nat_lt place place))
+              ∙ ap (λ (b : Bool). nat_lt place place && b) lacks ∙ and-false (nat_lt place place))
           | inr other ↦
               before-none table archs place (place_of table arch)
               (λ h. (let same : p ≡ place = some_is p place (sym e ∙ h) in
@@ -258,7 +253,7 @@ pub opened_none : (a : Contents) (source archs : List ℕ) (k : Key) (row : Opti
 opened_none a source archs k row =
     sym (ap (λ (b : Bool). with_opening b (opening_row a k) row)
     (ap (λ (b : Bool). bytes_eq k.source source && b) (before_first a.table archs k.arch)
-    ∙ and_none (bytes_eq k.source source)))
+    ∙ and-false (bytes_eq k.source source)))
 
 -- the rows before a place, and the one at it
 pub opened_next : (a : Contents) (old mid new : Table) (source archs : List ℕ) (place : ℕ)
@@ -308,15 +303,6 @@ opened_past a source archs place none k row =
 -- whether a key's source is among sources
 abbrev pub among : List KeptSource → Key → Bool
 among sources k = list_any (λ s. bytes_eq k.source s.head.name) sources
-
-any-push : {A : Type 0} (test : A → Bool) (xs : List A) (x : A)
-    → list_any test (xs ++ x ∷ []) ≡ (list_any test xs || test x)
-any-push test [] x = or_none (test x)
-any-push test (y ∷ xs) x =
-    elim (cases_Bool (test y)) [
-      | inl is ↦ rw is refl
-      | inr other ↦ rw other (any-push test xs x)
-    ]
 
 find-first : {A : Type 0} (test : A → Bool) (xs : List A) (n : ℕ) (x : A)
     → list_any test (take n xs) ≡ false → slice_get xs n ≡ Some x → test x ≡ true
@@ -399,7 +385,7 @@ source_opened a old new n s at so_far here k =
       | inr foreign ↦
           let same : among (take (n + 1) a.sources) k ≡ among (take n a.sources) k =
           more ∙ ap (λ (b : Bool). among (take n a.sources) k || b) foreign
-          ∙ or_none (among (take n a.sources) k) in
+          ∙ or-false (among (take n a.sources) k) in
           ap (λ (b : Bool). with_opening (b && has_row_on a.table s.head.archs k.arch)
           (opening_row a k) (row_of old k)) foreign
           ∙ old_row ∙ sym (ap (λ (b : Bool). if b then opening_row a k else None) same)

@@ -21,8 +21,9 @@ use Rattle.td_relation.specs.Arch.{ArchWords}
 use Rattle.td_text.specs.Runs.{is_space, run, behind, is_blank}
 use Rattle.td_relation.specs.RelationGrammar.{is_version_byte}
 use Rattle.td_text.proofs.Blanks.{Stops-back}
-use Rattle.td_text.proofs.RunTexts.{NoSpace, behind_again, run_again}
+use Rattle.td_text.proofs.RunTexts.{behind_again, run_again}
 use Rattle.td_relation.proofs.VersionBytes.{version_bytes}
+use Rattle.td_relation.proofs.WordTexts.{name_no_space}
 use Rattle.td_indices.specs.declared.archive_fault.EntryFault.{EntryFault}
 use Rattle.td_indices.specs.declared.archive_fault.EntryFault.TheVariants.{Missing, BadVersion}
 use Rattle.td_indices.specs.declared.archive_fault.IndexField.TheVariants as index_field
@@ -75,9 +76,6 @@ front_found front name e =
       blank = p.1;
     } in
     subst (IsFront front) w.1 made
-
-name_no_space : NoSpace is_name_byte
-name_no_space = record { space = refl; tab = refl; newline = refl }
 
 front_again : (name space : List ℕ) → is_name name ≡ true → is_blank space ≡ true
     → front_name (name ++ space) ≡ Some name

@@ -2,14 +2,9 @@
 use Rattle.std.proofs.Common.{◌≡◌, Bool, true, false, not, List, [], ◌∷◌, Option, Some, None, map}
 use Rattle.std.proofs.Common.{refl, sym, ap, ◌∙◌, inl, inr}
 use Rattle.std.specs.Map.{lookup}
-use Rattle.std.proofs.lemmas.Bool.{cases_Bool}
+use Rattle.std.proofs.lemmas.Bool.{cases_Bool, not-false, not-true}
 use Rattle.indexmap.specs.IndexMap.{insert_entry}
-use Rattle.td_text.proofs.Chain.{not-true}
 use Rattle.td_indices.specs.Kept.{put}
-
-not-false : (b : Bool) → not b ≡ false → b ≡ true
-not-false true e = refl
-not-false false e = absurd cc
 
 -- `item` is what an entry is kept as; two entries have one key where `same` says so of their keys,
 -- and `alike` of what they are kept as; `stays` says whether an earlier one isn't lower

@@ -1,21 +1,17 @@
 -- A text cut at its first whitespace.
-use Rattle.std.proofs.Common.{◌≡◌, ℕ, ◌+◌, ◌<◌, true, get_or, List, [], ◌∷◌, Some, None, length}
+use Rattle.std.proofs.Common.{◌≡◌, ℕ, ◌+◌, ◌<◌, get_or, List, [], ◌∷◌, Some, None, length}
 use Rattle.std.proofs.Common.{take, drop, position, refl, sym, ap, subst, ◌∙◌, inl, inr, arith}
 use Rattle.std.specs.List.{slice_split, position_or_len}
 use Rattle.std.proofs.lemmas.Bool.{cases_lt, lt-ltb, le-ltb}
 use Rattle.std.proofs.lemmas.List.Splits.{slice_split_none, slice_split_first}
 use Rattle.std.proofs.lemmas.List.Sums.{fails_before_first}
-use Rattle.std.proofs.lemmas.Bool.Decides.{nat_tests}
 use Rattle.std.proofs.lemmas.List.{drop_more}
 use Rattle.std.proofs.lemmas.List.Quantifiers.{position-Some}
 use Rattle.std.specs.Str.{IsUtf8, IsCharBoundary}
 use Rattle.std.proofs.lemmas.Str.{IsCharBoundary-after_ascii, IsUtf8-drop}
 use Rattle.td_text.proofs.Chain.{some_is}
+use Rattle.td_text.proofs.RunLaws.{space_is_ascii}
 use Rattle.td_text.specs.Runs.{is_space}
-
--- whitespace is one byte each
-pub space_is_small : (b : ℕ) → is_space b ≡ true → b < 128
-space_is_small b h = grind (arith, nat_tests)
 
 pub word_some : (t : List ℕ) (i : ℕ) → position is_space t ≡ Some i
     → slice_split is_space t ≡ take i t ∷ slice_split is_space (drop (i + 1) t)
@@ -59,7 +55,7 @@ word_cut t word rest after i h front back behind =
 pub boundary_here : (t : List ℕ) (i : ℕ) → position is_space t ≡ Some i → IsCharBoundary t i
 boundary_here t i h =
     let p = position-Some is_space t i 0 h in
-    let small = space_is_small (get_or t i 0) p.1 in
+    let small = space_is_ascii (get_or t i 0) p.1 in
     let within = p.0 in
     (omega arith, λ low high. omega arith)
 
@@ -68,7 +64,7 @@ pub boundary_behind : (t rest : List ℕ) (i : ℕ) → IsUtf8 t → position is
     → rest ≡ drop i t → IsCharBoundary rest 1
 boundary_behind t rest i utf8 h back =
     let p = position-Some is_space t i 0 h in
-    let small : get_or t i 0 < 128 = space_is_small (get_or t i 0) p.1 in
+    let small : get_or t i 0 < 128 = space_is_ascii (get_or t i 0) p.1 in
     let whole = drop_more t i 0 p.0 in
     let text : IsUtf8 (drop i t) = IsUtf8-drop t i utf8 (boundary_here t i h) in
     let first : get_or (drop i t) 0 0 < 128 = rw whole small in

@@ -1,58 +1,22 @@
 -- The affected sources, place by place and source by source.
-use Rattle.std.proofs.Common.{◌≡◌, ℕ, zero, suc, ◌+◌, ◌<◌, ◌||◌, Bool, true, false, List, [], ◌∷◌}
-use Rattle.std.proofs.Common.{◌++◌, Option, Some, None, filter, length, get_or, option_map, take}
-use Rattle.std.proofs.Common.{map, slice_get, refl, sym, ap, ◌∙◌, inl, inr, arith}
+use Rattle.std.proofs.Common.{◌≡◌, ℕ, ◌+◌, ◌<◌, Bool, true, false, List, [], ◌∷◌, ◌++◌, Option}
+use Rattle.std.proofs.Common.{Some, None, filter, length, option_map, take, map, slice_get, refl}
+use Rattle.std.proofs.Common.{sym, ap, ◌∙◌, inl, inr}
 use Rattle.std.specs.Prelude.{is_some}
 use Rattle.std.specs.Borrow.{Bor}
 use Rattle.std.specs.List.{list_any, range_with_len}
 use Rattle.std.specs.Option.{option_map_or}
 use Rattle.std.proofs.lemmas.Bool.{cases_Bool}
 use Rattle.std.proofs.lemmas.List.{map-append}
-use Rattle.std.proofs.lemmas.List.FromFn.{get_or-range_with_len, length-range_with_len}
 use Rattle.td_indices.specs.Archive.{Contents}
 use Rattle.td_indices.specs.Sources.{KeptSource}
 use Rattle.td_indices.specs.Seen.{seen_source, shown_source}
 use Rattle.td_indices.specs.declared.sourced.Source.{Source}
 use Rattle.td_rows.proofs.Lists.{slice_get-none, take-next}
-use Rattle.td_query.proofs.Gathering.{any-push}
 use Rattle.td_query.specs.Statuses.{is_affected, is_affected_at, row_status, status_at}
 use Rattle.td_query.specs.Tracking.{Tracking}
 
--- ---- 1. numbers below another
-
-range-more : (a n : ℕ) → range_with_len a (suc n) ≡ range_with_len a n ++ (a + n) ∷ []
-range-more a zero = ap (λ k. k ∷ []) (omega arith)
-range-more a (suc n) = ap (λ l. a ∷ l)
-    (range-more (a + 1) n ∙ ap (λ k. range_with_len (a + 1) n ++ k ∷ []) (omega arith))
-
-any-at : (f : ℕ → Bool) (xs : List ℕ) (i : ℕ) → i < length xs → f (get_or xs i 0) ≡ true
-    → list_any f xs ≡ true
-any-at f [] i lt h = absurd (omega arith)
-any-at f (x ∷ xs) zero lt h = rw h refl
-any-at f (x ∷ xs) (suc i) lt h =
-    elim (cases_Bool (f x)) [
-      | inl is ↦ rw is refl
-      | inr other ↦ rw other (any-at f xs i (omega arith) h)
-    ]
-
-pub any-below : (f : ℕ → Bool) (n place : ℕ) → place < n → f place ≡ true
-    → list_any f (range_with_len 0 n) ≡ true
-any-below f n place lt h =
-    let it : 0 + place ≡ place = omega arith in
-    any-at f (range_with_len 0 n) place (omega (arith, lt, length-range_with_len 0 n))
-    (ap f (get_or-range_with_len 0 n place 0 lt ∙ it) ∙ h)
-
-pub none-more : (f : ℕ → Bool) (n : ℕ) → list_any f (range_with_len 0 n) ≡ false → f n ≡ false
-    → list_any f (range_with_len 0 (n + 1)) ≡ false
-none-more f n h g =
-    let one : n + 1 ≡ suc n = omega arith in
-    let it : 0 + n ≡ n = omega arith in
-    ap (λ k. list_any f (range_with_len 0 k)) one
-    ∙ ap (list_any f) (range-more 0 n ∙ ap (λ k. range_with_len 0 n ++ k ∷ []) it)
-    ∙ any-push f (range_with_len 0 n) n
-    ∙ ap (λ b. b || f n) h ∙ g
-
--- ---- 2. whether a source is affected
+-- ---- 1. whether a source is affected
 
 any-none : (xs : List ℕ) → list_any (λ x. false) xs ≡ false
 any-none [] = refl
@@ -69,7 +33,7 @@ pub affected_by_place : (a : Contents) (t : Tracking) (source : ℕ) → list_an
     (status_at a t source place)) (range_with_len 0 (length a.table)) ≡ is_affected_at a t source
 affected_by_place a t source = by_place a t (slice_get a.sources source)
 
--- ---- 3. their names
+-- ---- 2. their names
 
 filter-push : {A : Type 0} (keep : A → Bool) (xs : List A) (x : A) → keep x ≡ true
     → filter keep (xs ++ x ∷ []) ≡ filter keep xs ++ x ∷ []

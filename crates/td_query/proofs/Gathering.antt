@@ -1,17 +1,12 @@
 -- What holds on some of a row's stanzas, one more at a time.
-use Rattle.std.proofs.Common.{◌≡◌, ℕ, ◌+◌, ◌<◌, ◌||◌, Bool, List, [], ◌∷◌, ◌++◌}
-use Rattle.std.proofs.Common.{length, get_or, take, refl, sym, ap, ◌∙◌}
+use Rattle.std.proofs.Common.{◌≡◌, ℕ, ◌+◌, ◌<◌, ◌||◌, Bool, List, length, get_or, take, refl, sym}
+use Rattle.std.proofs.Common.{ap, ◌∙◌}
 use Rattle.std.specs.List.{list_any}
 use Rattle.std.proofs.lemmas.List.{take_more}
-use Rattle.std.proofs.Math.Bool.{or-false, or_assoc}
+use Rattle.std.proofs.Math.Bool.{or_assoc}
+use Rattle.td_text.proofs.Anywhere.{any-push}
 use Rattle.td_query.specs.declared.mark.Mark.{Mark}
 use Rattle.td_query.specs.Marks.{either_mark, gathered}
-
-pub any-push : (f : ℕ → Bool) (ns : List ℕ) (n : ℕ)
-    → list_any f (ns ++ n ∷ []) ≡ (list_any f ns || f n)
-any-push f [] n = or-false (f n)
-any-push f (m ∷ ns) n = ap (λ b. f m || b) (any-push f ns n)
-    ∙ sym (or_assoc (f m) (list_any f ns) (f n))
 
 -- of a flag of a mark, one number more
 one-more : (own : Bool) (f : ℕ → Bool) (ns : List ℕ) (i : ℕ) → i < length ns

@@ -3,7 +3,7 @@ use Rattle.std.proofs.Common.{◌≡◌, ◌↔◌, ℕ, zero, suc, ◌<◌, ◌
 use Rattle.std.proofs.Common.{length, get_or, refl, sym, ap, ◌∙◌, inl, inr, arith}
 use Rattle.std.specs.Prelude.{IsTrue}
 use Rattle.std.specs.List.{Contains, list_any}
-use Rattle.std.proofs.lemmas.Bool.{false≢true}
+use Rattle.std.proofs.lemmas.Bool.{false≢true, or_cases}
 use Rattle.regex.specs.Patterns.{Re}
 use Rattle.td_indices.specs.Archive.{Contents, is_of_on}
 use Rattle.td_indices.specs.Kept.{KeptBinary}
@@ -14,7 +14,7 @@ use Rattle.td_query.specs.Statuses.{row_satisfies, status_where}
 use Rattle.td_query.specs.StatusLaws.{IsGraded, RowsAloneHaveAStatus, RowsAreGradedByTheirStanzas}
 use Rattle.td_query.specs.StatusLaws.{RowsSatisfyByAStanza, SomeSatisfies}
 use Rattle.td_query.specs.Truth.{truth}
-use Rattle.td_query.proofs.Meanings.{and_is, or_from, or_to}
+use Rattle.td_query.proofs.Meanings.{and_is, or_from}
 use Rattle.td_query.proofs.RowStatuses.{status_nowhere}
 
 -- ---- 1. some item
@@ -23,7 +23,7 @@ any_to : {A : Type 0} (f : A → Bool) (xs : List A) → IsTrue (list_any f xs)
     → (x : A) × Contains xs x × IsTrue (f x)
 any_to f [] h = absurd (false≢true h)
 any_to f (x ∷ xs) h =
-    elim (or_to (f x) (list_any f xs) h) [
+    elim (or_cases (f x) (list_any f xs) h) [
       | inl here ↦ (x, (0, omega arith, refl), here)
       | inr later ↦ (let r = any_to f xs later in
           (r.0, (suc r.1.0, omega (arith, r.1.1), r.1.2), r.2))
@@ -45,7 +45,7 @@ module _ (a : Contents) (patterns : List Re) (query : Shape) (s : KeptSource) (p
   to_stanza : IsTrue (row_satisfies a patterns query s place)
       → SomeSatisfies a patterns query s place
   to_stanza h =
-      elim (or_to (truth patterns (source_fields a s) query) (list_any test a.binaries) h) [
+      elim (or_cases (truth patterns (source_fields a s) query) (list_any test a.binaries) h) [
         | inl own ↦ (source_fields a s, inl refl, own)
         | inr some ↦
             (let r = any_to test a.binaries some in

@@ -8,7 +8,7 @@ use Rattle.std.specs.List.{Contains, find}
 use Rattle.std.specs.Option.{option_map_or}
 use Rattle.std.specs.Str.{bytes_eq}
 use Rattle.std.specs.Str.Iter.{HasSubslice}
-use Rattle.std.proofs.lemmas.Bool.{false≢true, le-leb, leb-true}
+use Rattle.std.proofs.lemmas.Bool.{false≢true, le-leb, leb-true, not-true, or_cases}
 use Rattle.std.proofs.lemmas.Bool.Decides.{eqb_tells}
 use Rattle.std.proofs.lemmas.List.Edits.{split_between}
 use Rattle.std.proofs.lemmas.Slice.Eq.{bytes_eq-Decides}
@@ -34,10 +34,6 @@ pub and_is : (a b : Bool) → IsTrue (a && b) ↔ (IsTrue a × IsTrue b)
 and_is true b = (λ h. (refl, h), λ p. p.1)
 and_is false b = (λ h. absurd (false≢true h), λ p. p.0)
 
-pub or_to : (a b : Bool) → IsTrue (a || b) → IsTrue a ⊎ IsTrue b
-or_to true b h = inl refl
-or_to false b h = inr h
-
 pub or_from : (a b : Bool) → IsTrue a ⊎ IsTrue b → IsTrue (a || b)
 or_from true b p = refl
 or_from false b (inl h) = absurd (false≢true h)
@@ -56,7 +52,7 @@ conjunctions patterns fields s t = and_is (truth patterns fields s) (truth patte
 
 pub disjunctions : DisjunctionsAreOr
 disjunctions patterns fields s t = (
-  or_to (truth patterns fields s) (truth patterns fields t),
+  or_cases (truth patterns fields s) (truth patterns fields t),
   or_from (truth patterns fields s) (truth patterns fields t),
 )
 
@@ -94,12 +90,12 @@ absent_fields patterns fields name none =
 before_is : (value : List ℕ) (i : ℕ)
     → IsTrue (is_free_before value i) ↔ ((i ≡ 0) ⊎ (is_name_byte (get_or value (i - 1) 0) ≡ false))
 before_is value i = (
-  λ h. elim (or_to (eqb i 0) (not (is_name_byte (get_or value (i - 1) 0))) h) [
+  λ h. elim (or_cases (eqb i 0) (not (is_name_byte (get_or value (i - 1) 0))) h) [
     | inl start ↦ elim (eqb_tells i 0) [
       | inl is ↦ inl is.1
       | inr other ↦ absurd (false≢true (sym other.0 ∙ start))
     ]
-    | inr apart ↦ inr (not_false (is_name_byte (get_or value (i - 1) 0)) apart)
+    | inr apart ↦ inr (not-true (is_name_byte (get_or value (i - 1) 0)) apart)
   ],
   λ p. or_from (eqb i 0) (not (is_name_byte (get_or value (i - 1) 0))) (elim p [
     | inl start ↦ elim (eqb_tells i 0) [
@@ -109,27 +105,19 @@ before_is value i = (
     | inr apart ↦ inr (rw apart refl)
   ]),
 )
-  where
-    not_false : (b : Bool) → IsTrue (not b) → b ≡ false
-    not_false true h = absurd (false≢true h)
-    not_false false h = refl
 
 after_is : (value : List ℕ) (j : ℕ) → IsTrue (is_free_from value j)
     ↔ ((length value ≤ j) ⊎ (is_name_byte (get_or value j 0) ≡ false))
 after_is value j = (
-  λ h. elim (or_to (leb (length value) j) (not (is_name_byte (get_or value j 0))) h) [
+  λ h. elim (or_cases (leb (length value) j) (not (is_name_byte (get_or value j 0))) h) [
     | inl end ↦ inl (leb-true (length value) j end)
-    | inr apart ↦ inr (not_false (is_name_byte (get_or value j 0)) apart)
+    | inr apart ↦ inr (not-true (is_name_byte (get_or value j 0)) apart)
   ],
   λ p. or_from (leb (length value) j) (not (is_name_byte (get_or value j 0))) (elim p [
     | inl end ↦ inl (le-leb (length value) j end)
     | inr apart ↦ inr (rw apart refl)
   ]),
 )
-  where
-    not_false : (b : Bool) → IsTrue (not b) → b ≡ false
-    not_false true h = absurd (false≢true h)
-    not_false false h = refl
 
 module _ (t value : List ℕ) (i : ℕ) where
   to_place : IsTrue (stands_at t value i) → StandsAt t value i
@@ -168,7 +156,7 @@ some_below : (test : ℕ → Bool) (n : ℕ) → any_below test n ≡ true
 unfolding any_below
 some_below test zero h = absurd (false≢true h)
 some_below test (suc n) h =
-    elim (or_to (any_below test n) (test n) h) [
+    elim (or_cases (any_below test n) (test n) h) [
       | inl earlier ↦ (let r = some_below test n earlier in (r.0, omega (arith, r.1), r.2))
       | inr here ↦ (n, omega arith, here)
     ]

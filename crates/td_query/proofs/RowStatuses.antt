@@ -8,6 +8,7 @@ use Rattle.std.proofs.lemmas.Bool.{cases_Bool}
 use Rattle.std.proofs.lemmas.Option.{slice_get_past}
 use Rattle.std.proofs.Math.Bool.{and_assoc}
 use Rattle.regex.specs.Patterns.{Re}
+use Rattle.td_text.proofs.Anywhere.{any-same}
 use Rattle.td_relation.specs.Arch.{ArchWords}
 use Rattle.td_relation.specs.ArchList.{words}
 use Rattle.td_relation.specs.Meeting.{is_on}
@@ -27,15 +28,7 @@ use Rattle.td_query.specs.Statuses.{row_satisfies, row_status, status_at, status
 use Rattle.td_query.specs.Tracking.{Tracking}
 use Rattle.td_query.specs.Truth.{truth}
 
--- ---- 1. some number's item, and some item
-
-any-same : {A : Type 0} (f g : A → Bool) (xs : List A) → ((x : A) → f x ≡ g x)
-    → list_any f xs ≡ list_any g xs
-any-same f g [] e = refl
-any-same f g (x ∷ xs) e = ap (λ b. b || list_any f xs) (e x)
-    ∙ ap (λ b. g x || b) (any-same f g xs e)
-
--- ---- 2. a query on the stanzas of a row
+-- ---- 1. a query on the stanzas of a row
 
 module _ (a : Contents) (patterns : List Re) (query : Shape) (place : ℕ) where
   -- on the stanza of a package that is there
@@ -54,7 +47,7 @@ module _ (a : Contents) (patterns : List Re) (query : Shape) (place : ℕ) where
       (λ b. sym (and_assoc (is_of s.head.name b) (is_on place b.head.home)
       (truth patterns (package_fields a b) query))))
 
--- ---- 3. the three queries
+-- ---- 2. the three queries
 
 module _ (a : Contents) (t : Tracking) (place : ℕ) where
   flag : (get : Mark → Bool) (query : Shape)
@@ -87,7 +80,7 @@ module _ (a : Contents) (t : Tracking) (place : ℕ) where
         there,
       ) refl
 
--- ---- 4. by number
+-- ---- 3. by number
 
 some_at : (a : Contents) (t : Tracking) (place : ℕ) (o : Option KeptSource)
     → option_map_or (λ s. has_row a.table s.head.archs place) o false ≡ true → (m : Mark)
@@ -113,7 +106,7 @@ pub status_nowhere : (a : Contents) (t : Tracking) (source place : ℕ)
     → has_row_at a source place ≡ false → None ≡ status_at a t source place
 status_nowhere a t source place h = none_at a t place (slice_get a.sources source) h
 
--- ---- 5. past the table
+-- ---- 4. past the table
 
 no_match : (table : List ArchWords) (place : ℕ) → length table ≤ place → (ws : List (List ℕ))
     → list_any (matches_at table place) ws ≡ false
@@ -130,7 +123,7 @@ pub status_past : (a : Contents) (t : Tracking) (source place : ℕ) → length 
 status_past a t source place h =
     status_nowhere a t source place (none_past a place (slice_get a.sources source) h)
 
--- ---- 6. by name
+-- ---- 5. by name
 
 pub status_named : (a : Contents) (t : Tracking) (k : Key) (source place : ℕ)
     → number_named a k.source ≡ Some source → place_of a.table k.arch ≡ Some place

@@ -1,8 +1,8 @@
 -- The truth of several parts.
-use Rattle.std.proofs.Common.{◌≡◌, ℕ, suc, ◌+◌, ◌<◌, ◌≤◌, not, Bool, true, false, ◌&&◌, ◌||◌, List}
-use Rattle.std.proofs.Common.{[]}
-use Rattle.std.proofs.Common.{◌∷◌, length, get_or, drop, map, refl, sym, ap, ◌∙◌, add-one}
+use Rattle.std.proofs.Common.{◌≡◌, ℕ, suc, ◌+◌, ◌<◌, ◌≤◌, not, Bool, ◌&&◌, ◌||◌, List, [], ◌∷◌}
+use Rattle.std.proofs.Common.{length, get_or, drop, map, refl, sym, ap, ◌∙◌, add-one}
 use Rattle.std.proofs.lemmas.List.{drop_all}
+use Rattle.std.proofs.Math.Bool.{and-true, or-false}
 use Rattle.std.proofs.Math.Seq.{drop-cons}
 use Rattle.regex.specs.Patterns.{Re}
 use Rattle.td_stanza.specs.Field.{Entry}
@@ -20,14 +20,6 @@ answered was patterns fields s answer b same e is =
     sym (ap (λ (p : List Re). truth p fields s) same) ∙ sym e ∙ is
 
 module _ (patterns : List Re) (fields : List Entry) where
-  and_true : (b : Bool) → b ≡ (b && true)
-  and_true true = refl
-  and_true false = refl
-
-  or_false : (b : Bool) → b ≡ (b || false)
-  or_false true = refl
-  or_false false = refl
-
   -- a part, and what the parts behind it come to
   abbrev both : Joint → Bool → Bool → Bool
   both And a b = a && b
@@ -36,9 +28,9 @@ module _ (patterns : List Re) (fields : List Entry) where
   first : (joint : Joint) (x : Shape) (xs : List Shape)
       → truth patterns fields (joined joint (x ∷ xs))
       ≡ both joint (truth patterns fields x) (truth patterns fields (joined joint xs))
-  first And x [] = and_true (truth patterns fields x)
+  first And x [] = sym (and-true (truth patterns fields x))
   first And x (y ∷ ys) = refl
-  first Or x [] = or_false (truth patterns fields x)
+  first Or x [] = sym (or-false (truth patterns fields x))
   first Or x (y ∷ ys) = refl
 
   settled : (joint : Joint) (b : Bool) → both joint (settling joint) b ≡ settling joint

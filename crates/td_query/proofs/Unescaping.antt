@@ -1,9 +1,9 @@
 -- A pattern's source, piece by piece.
-use Rattle.std.proofs.Common.{◌≡◌, ◌≢◌, ℕ, zero, suc, ◌+◌, Bool, true, false, eqb, ◌&&◌, List, []}
-use Rattle.std.proofs.Common.{◌∷◌, ◌++◌, length, get_or, take, Option, Some, None, append_assoc}
+use Rattle.std.proofs.Common.{◌≡◌, ◌≢◌, ℕ, zero, suc, ◌+◌, false, eqb, List, [], ◌∷◌, ◌++◌}
+use Rattle.std.proofs.Common.{length, get_or, take, Option, Some, None, append_assoc}
 use Rattle.std.proofs.Common.{refl, sym, ap, ◌∙◌, inl, inr, arith}
 use Rattle.std.specs.Borrow.{Bor}
-use Rattle.std.proofs.lemmas.Bool.{ne_eqb}
+use Rattle.std.proofs.lemmas.Bool.{and_right, ne_eqb}
 use Rattle.std.proofs.lemmas.List.{append-nil}
 use Rattle.std.proofs.lemmas.Bool.Decides.{eqb_tells}
 use Rattle.td_text.specs.Cut.{Without}
@@ -14,9 +14,6 @@ abbrev pub unescaped_left : Option (Bor (List ℕ)) → List ℕ
 unescaped_left None = []
 unescaped_left (Some t) = unescaped t.now
 
-plain : (x : ℕ) (b : Bool) (t : List ℕ) → b ≡ false → (eqb x 92 && b) ≡ false
-plain x b t e = rw e (elim (eqb x 92) as (λ c. (c && false) ≡ false) [ true ↦ refl | false ↦ refl ])
-
 begins_other : (t : List ℕ) → Without 47 t → begins_slash t ≡ false
 begins_other [] w = refl
 begins_other (x ∷ t) w = ne_eqb x 47 w.0
@@ -26,7 +23,7 @@ pub unescaped_plain : (t : List ℕ) → Without 47 t → unescaped t ≡ t
 unfolding unescaped
 unescaped_plain [] w = refl
 unescaped_plain (x ∷ t) w =
-    rw (plain x (begins_slash t) t (begins_other t w.1), unescaped_plain t w.1) refl
+    rw (and_right (eqb x 92) (begins_slash t) (begins_other t w.1), unescaped_plain t w.1) refl
 
 -- before a slash
 pub unescaped_piece : (p b : List ℕ) → Without 47 p
@@ -38,7 +35,8 @@ unescaped_piece (x ∷ []) b w =
       | inl is ↦ rw is.0 refl
       | inr other ↦ rw other.0 refl
     ]
-unescaped_piece (x ∷ y ∷ p) b w = rw (plain x (eqb y 47) p (ne_eqb y 47 w.1.0))
+unescaped_piece (x ∷ y ∷ p) b w =
+    rw (and_right (eqb x 92) (eqb y 47) (ne_eqb y 47 w.1.0))
     (ap (λ (l : List ℕ). x ∷ l) (unescaped_piece (y ∷ p) b w.1))
 
 -- ---- the last byte of a text

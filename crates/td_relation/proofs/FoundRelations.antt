@@ -23,12 +23,11 @@ use Rattle.td_relation.specs.Spacing.{SpacedMember, Filled, Blank, ArchsAreSpace
 use Rattle.td_relation.specs.Spacing.{IsRelation, IsSpaced, MemberIsSpaced}
 use Rattle.td_relation.specs.Spacing.{RelationsAreExact, archs_then, bound_then}
 use Rattle.td_relation.specs.Spacing.{spaced_alternative, spaced_member, spaced_relation, unspaced}
-use Rattle.td_relation.specs.Spacing.{unspaced_members}
 use Rattle.td_relation.proofs.FoundParts.{archs_found, name_found, on_is, or_fault_found}
 use Rattle.td_relation.proofs.FoundParts.{restriction_found, space_blank}
 use Rattle.td_relation.proofs.FoundProfiles.{AreLists, lists_behind, own_lack, pieces_lack}
 use Rattle.td_relation.proofs.FoundProfiles.{unprofiled_found}
-use Rattle.td_relation.proofs.SpacedRelations.{spaced_relations_are_read, one_more}
+use Rattle.td_relation.proofs.SpacedRelations.{asked_of, spaced_relations_are_read, one_more}
 
 -- ---- what follows the name
 
@@ -330,9 +329,6 @@ member_found t m comma e =
         subst (λ (x : List ℕ). IsMember x [] m) whole (alternatives_found p ps [] m inner k)
 
 -- ---- a relation
-
-abbrev asked_of : List SpacedMember → List (List Asked)
-asked_of r = map (λ m. map alternative_asked m) (unspaced_members r)
 
 pub record IsOne (p : List ℕ) (seen more : List (List Asked)) : Type 0 where
   pub member : SpacedMember

@@ -3,7 +3,7 @@ use Rattle.std.proofs.Common.{◌≡◌, ◌≢◌, ℕ, Bool, true, false, cond
 use Rattle.std.proofs.Common.{◌∷◌, ◌++◌, length, map, Some, refl, sym, ap, subst, ◌∙◌, inl, inr}
 use Rattle.std.proofs.Common.{arith}
 use Rattle.std.specs.Prelude.{IsTrue}
-use Rattle.std.specs.List.{list_all, filter, slice_split, onto_first, AllByRecursion}
+use Rattle.std.specs.List.{list_all, slice_split, onto_first, AllByRecursion}
 use Rattle.std.proofs.lemmas.Bool.{cases_Bool, and_parts, and_from, eqb-true, ne_eqb, or_parts}
 use Rattle.td_text.specs.Cut.{Without}
 use Rattle.td_text.specs.Words.{is_arch}
@@ -17,15 +17,13 @@ use Rattle.td_relation.specs.RelationWriting.{WrittenArchs, WrittenProfile, mark
 use Rattle.td_relation.specs.RelationWriting.{is_profile_byte, is_profile_name, ArchsFit}
 use Rattle.td_relation.specs.RelationWriting.{ProfilesFit}
 use Rattle.td_relation.specs.Spacing.{AreWords, EndsAWord}
+use Rattle.td_relation.proofs.WordTexts.{filled}
 
 -- ---- words
 
 -- bytes that aren't whitespace
 abbrev pub Plain : List ℕ → Type 0
 Plain w = AllByRecursion (λ b. is_space b ≡ false) w
-
-abbrev filled : List (List ℕ) → List (List ℕ)
-filled pieces = filter (λ w. not (eqb (length w) 0)) pieces
 
 pub record AreFound (ws : List (List ℕ)) (text : List ℕ) : Type 0 where
   pub spaced : AreWords ws text

@@ -32,7 +32,7 @@ use Rattle.td_text.proofs.RunTexts.{Stops, run_again, behind_again, misses, NoSp
 use Rattle.td_text.proofs.Blanks.{Stops-blank, Stops-back, trimmed_behind, trimmed_all}
 use Rattle.td_relation.proofs.SpacedWords.{arch_words, arch_words-lack}
 use Rattle.td_relation.proofs.VersionBytes.{version_bytes, version_filled}
-use Rattle.td_relation.proofs.WordTexts.{is_arch_list-again}
+use Rattle.td_relation.proofs.WordTexts.{is_arch_list-again, name_no_space}
 
 -- ---- what follows each part, without the whitespace in front of it
 
@@ -130,9 +130,6 @@ no_bound None (p ∷ ls) back = refl
 no_bound (Some l) ls back = refl
 
 -- ---- the name
-
-name_no_space : NoSpace is_name_byte
-name_no_space = record { space = refl; tab = refl; newline = refl }
 
 strip_stops : (c : ℕ) (t : List ℕ) → Stops (eqb c) t → strip (c ∷ []) t ≡ None
 unfolding strip

@@ -202,7 +202,7 @@ member_lacks (Filled m) h =
 member_lacks (Blank space) h = Without-from_test is_space 44 space refl h
 
 -- the members so far, and what this one adds
-abbrev asked_of : List SpacedMember → List (List Asked)
+abbrev pub asked_of : List SpacedMember → List (List Asked)
 asked_of r = map (λ m. map alternative_asked m) (unspaced_members r)
 
 step_again : (seen : List (List Asked)) (m : SpacedMember) → MemberIsSpaced m

@@ -1,8 +1,8 @@
 -- Words with any whitespace around them are read.
-use Rattle.std.proofs.Common.{◌≡◌, ◌≢◌, ℕ, Bool, true, false, not, eqb, List, [], ◌∷◌, ◌++◌, length}
+use Rattle.std.proofs.Common.{◌≡◌, ◌≢◌, ℕ, Bool, true, false, List, [], ◌∷◌, ◌++◌}
 use Rattle.std.proofs.Common.{map, refl, sym, ap, subst, ◌∙◌, append-nil}
 use Rattle.std.specs.Prelude.{IsTrue}
-use Rattle.std.specs.List.{list_all, filter, AllByRecursion}
+use Rattle.std.specs.List.{list_all, AllByRecursion}
 use Rattle.std.proofs.lemmas.Bool.{and_parts, and_from}
 use Rattle.std.proofs.lemmas.List.Elements.{All-from_recursion}
 use Rattle.std.proofs.lemmas.List.Splits.{slice_split_at, slice_split_none}
@@ -15,11 +15,8 @@ use Rattle.td_relation.specs.ArchList.{words}
 use Rattle.td_relation.specs.RelationWriting.{WrittenProfile, marked, profile_text, is_profile_byte}
 use Rattle.td_relation.specs.RelationWriting.{is_profile_name, ProfilesFit}
 use Rattle.td_relation.specs.Spacing.{AreWords, EndsAWord}
-use Rattle.td_text.proofs.RunTexts.{NoSpace}
-use Rattle.td_relation.proofs.WordTexts.{each, IsWord, IsWord-marked, Without-marked}
-
-abbrev filled : List (List ℕ) → List (List ℕ)
-filled pieces = filter (λ w. not (eqb (length w) 0)) pieces
+use Rattle.td_relation.proofs.WordTexts.{all-map, arch_no_space, filled, IsWord, IsWord-marked}
+use Rattle.td_relation.proofs.WordTexts.{profile_no_space, Without-marked}
 
 -- whitespace has no words ..
 pub words_blank : (t : List ℕ) → is_blank t ≡ true → words t ≡ []
@@ -69,12 +66,6 @@ Without-words c (w ∷ ws) text out h (space, rest, joined, blank, ends, more) =
 
 -- ---- the words of lists
 
-arch_no_space : NoSpace is_arch_byte
-arch_no_space = record { space = refl; tab = refl; newline = refl }
-
-profile_no_space : NoSpace is_profile_byte
-profile_no_space = record { space = refl; tab = refl; newline = refl }
-
 over_map : {A B : Type 0} (P : B → Type 0) (f : A → B) (xs : List A)
     → AllByRecursion (λ x. P (f x)) xs → AllByRecursion P (map f xs)
 over_map P f [] h = tt
@@ -85,7 +76,7 @@ pub arch_words : (m : Bool) (ns : List (List ℕ)) (text : List ℕ) → AllByRe
 arch_words m ns text h is =
     words_are (map (marked m) ns) text
     (over_map IsWord (marked m) ns
-    (each (λ n. IsTrue (is_arch n)) (λ n. IsWord (marked m n))
+    (all-map (λ n. IsTrue (is_arch n)) (λ n. IsWord (marked m n))
     (λ n w. IsWord-marked is_arch_byte m n arch_no_space w) ns h)) is
 
 pub arch_words-lack : (c : ℕ) (m : Bool) (ns : List (List ℕ)) (text : List ℕ) → is_space c ≡ false
@@ -94,7 +85,7 @@ pub arch_words-lack : (c : ℕ) (m : Bool) (ns : List (List ℕ)) (text : List �
 arch_words-lack c m ns text out apart mark h is =
     Without-words c (map (marked m) ns) text out
     (over_map (Without c) (marked m) ns
-    (each (λ n. IsTrue (is_arch n)) (λ n. Without c (marked m n))
+    (all-map (λ n. IsTrue (is_arch n)) (λ n. Without c (marked m n))
     (λ n w. Without-marked c m n mark (Without-arch c n apart w)) ns h)) is
 
 pub profile_words : (l : List WrittenProfile) (text : List ℕ) → ProfilesFit l
@@ -102,7 +93,7 @@ pub profile_words : (l : List WrittenProfile) (text : List ℕ) → ProfilesFit 
 profile_words l text h is =
     words_are (map profile_text l) text
     (over_map IsWord profile_text l
-    (each (λ p. IsTrue (is_profile_name p.name)) (λ p. IsWord (profile_text p))
+    (all-map (λ p. IsTrue (is_profile_name p.name)) (λ p. IsWord (profile_text p))
     (λ p w. IsWord-marked is_profile_byte p.negated p.name profile_no_space w) l h.1)) is
 
 pub profile_words-lack : (c : ℕ) (l : List WrittenProfile) (text : List ℕ) → is_space c ≡ false
@@ -111,7 +102,7 @@ pub profile_words-lack : (c : ℕ) (l : List WrittenProfile) (text : List ℕ) �
 profile_words-lack c l text out apart mark h is =
     Without-words c (map profile_text l) text out
     (over_map (Without c) profile_text l
-    (each (λ p. IsTrue (is_profile_name p.name)) (λ p. Without c (profile_text p))
+    (all-map (λ p. IsTrue (is_profile_name p.name)) (λ p. Without c (profile_text p))
     (λ p w. Without-marked c p.negated p.name mark
     (Without-from_test is_profile_byte c p.name apart
     (and_parts _ (list_all is_profile_byte p.name) w).1)) l h.1)) is

@@ -14,11 +14,6 @@ use Rattle.td_version.specs.Grammar.{epoch_front, revision_back, is_revision_byt
 use Rattle.td_version.specs.Grammar.{EpochFits, RevisionFits, IsVersion}
 use Rattle.td_relation.specs.RelationGrammar.{is_version_byte}
 
--- what passes a test in front of it and behind it
-both_pass : (test : ℕ → Bool) (a b : List ℕ) → list_all test a ≡ true → list_all test b ≡ true
-    → list_all test (a ++ b) ≡ true
-both_pass test a b h k = list_all-append test a b ∙ and_from _ _ h k
-
 pass_on : (p q : ℕ → Bool) (t : List ℕ) → ((b : ℕ) → p b ≡ true → q b ≡ true) → list_all p t ≡ true
     → list_all q t ≡ true
 pass_on p q [] f h = refl
@@ -49,7 +44,8 @@ epoch_bytes None h = refl
 epoch_bytes (Some digits) h =
     let a = and_parts (ltb 0 (length digits)) _ h in
     let b = and_parts (all_ascii_digits digits) _ a.1 in
-    both_pass is_version_byte digits (58 ∷ []) (digit_bytes digits b.0) refl
+    list_all-append is_version_byte digits (58 ∷ [])
+    ∙ and_from _ _ (digit_bytes digits b.0) refl
 
 revision_bytes : (revision : Option (List ℕ)) → RevisionFits revision
     → list_all is_version_byte (revision_back revision) ≡ true
@@ -73,10 +69,11 @@ module _ (text : List ℕ) (p : Parts) (v : IsVersion text p) where
   version_bytes =
       let w = v.written in
       ap (list_all is_version_byte) v.cut.joined
-      ∙ both_pass is_version_byte (epoch_front w.epoch) (w.upstream ++ revision_back w.revision)
-      (epoch_bytes w.epoch v.epoch)
-      (both_pass is_version_byte w.upstream (revision_back w.revision) upstream.1
-      (revision_bytes w.revision v.revision))
+      ∙ list_all-append is_version_byte (epoch_front w.epoch)
+      (w.upstream ++ revision_back w.revision)
+      ∙ and_from _ _ (epoch_bytes w.epoch v.epoch)
+      (list_all-append is_version_byte w.upstream (revision_back w.revision)
+      ∙ and_from _ _ upstream.1 (revision_bytes w.revision v.revision))
 
   pub version_filled : 0 < length text
   version_filled =

@@ -7,7 +7,7 @@ use Rattle.std.proofs.lemmas.Bool.{and_parts, and_from, ne_eqb, ltb-true, lt-ltb
 use Rattle.std.proofs.lemmas.List.Elements.{All-from_recursion}
 use Rattle.std.proofs.lemmas.List.Splits.{slice_split_at, slice_split_none}
 use Rattle.td_text.specs.Cut.{Without}
-use Rattle.td_text.specs.Words.{is_arch_byte, is_arch}
+use Rattle.td_text.specs.Words.{is_arch_byte, is_arch, is_name_byte}
 use Rattle.td_text.proofs.Cut.{Without-append}
 use Rattle.td_text.specs.Runs.{is_space}
 use Rattle.td_relation.specs.ArchList.{words, is_negated, bare}
@@ -20,10 +20,10 @@ use Rattle.td_text.proofs.RunTexts.{NoSpace, not_space, misses}
 -- ---- lists of texts
 
 -- what holds of each
-pub each : {X : Type 0} (P Q : X → Type 0) → ((x : X) → P x → Q x) → (xs : List X)
+pub all-map : {X : Type 0} (P Q : X → Type 0) → ((x : X) → P x → Q x) → (xs : List X)
     → AllByRecursion P xs → AllByRecursion Q xs
-each P Q f [] h = tt
-each P Q f (x ∷ xs) h = (f x h.0, each P Q f xs h.1)
+all-map P Q f [] h = tt
+all-map P Q f (x ∷ xs) h = (f x h.0, all-map P Q f xs h.1)
 
 pub Without-flat_map : {X : Type 0} (c : ℕ) (f : X → List ℕ) (xs : List X)
     → AllByRecursion (λ x. Without c (f x)) xs → Without c (flat_map f xs)
@@ -38,7 +38,7 @@ Without-join c f between [] out h = tt
 Without-join c f between (x ∷ xs) out h =
     Without-append c (f x) (flat_map (λ y. between ++ f y) xs) h.0
     (Without-flat_map c (λ y. between ++ f y) xs
-    (each (λ y. Without c (f y)) (λ y. Without c (between ++ f y))
+    (all-map (λ y. Without c (f y)) (λ y. Without c (between ++ f y))
     (λ y w. Without-append c between (f y) out w) xs h.1))
 
 -- ---- words
@@ -68,7 +68,7 @@ IsWord-marked test false w lacks h =
     let some = ltb-true 0 (length w) p.0 in
     record { filled = ne_eqb (length w) 0 (λ e. omega arith); plain = plain_by test w lacks p.1 }
 
-abbrev filled : List (List ℕ) → List (List ℕ)
+abbrev pub filled : List (List ℕ) → List (List ℕ)
 filled pieces = filter (λ w. not (eqb (length w) 0)) pieces
 
 pub words_again : {X : Type 0} (f : X → List ℕ) (x : X) (xs : List X) → IsWord (f x)
@@ -89,10 +89,18 @@ pub Without-marked : (c : ℕ) (m : Bool) (w : List ℕ) → 33 ≢ c → Withou
 Without-marked c true w out h = (out, h)
 Without-marked c false w out h = h
 
--- ---- architecture lists
+-- ---- bytes that are no whitespace
 
-arch_no_space : NoSpace is_arch_byte
+pub name_no_space : NoSpace is_name_byte
+name_no_space = record { space = refl; tab = refl; newline = refl }
+
+pub arch_no_space : NoSpace is_arch_byte
 arch_no_space = record { space = refl; tab = refl; newline = refl }
+
+pub profile_no_space : NoSpace is_profile_byte
+profile_no_space = record { space = refl; tab = refl; newline = refl }
+
+-- ---- architecture lists
 
 plain_archs : (ns : List (List ℕ)) → AllByRecursion (λ n. IsTrue (is_arch n)) ns
     → list_all is_arch (map (marked false) ns) ≡ true
@@ -122,13 +130,10 @@ pub arch_words-again : (m : Bool) (ns : List (List ℕ)) → ns ≢ [] → AllBy
 arch_words-again m [] some h = absurd (some refl)
 arch_words-again m (n ∷ ns) some h =
     words_again (marked m) n ns (IsWord-marked is_arch_byte m n arch_no_space h.0)
-    (each (λ k. IsTrue (is_arch k)) (λ k. IsWord (marked m k))
+    (all-map (λ k. IsTrue (is_arch k)) (λ k. IsWord (marked m k))
     (λ k w. IsWord-marked is_arch_byte m k arch_no_space w) ns h.1)
 
 -- ---- profile lists
-
-profile_no_space : NoSpace is_profile_byte
-profile_no_space = record { space = refl; tab = refl; newline = refl }
 
 pub profile_words-again : (l : List WrittenProfile) → ProfilesFit l
     → words (join_by profile_text (codes " ") l) ≡ map profile_text l
@@ -136,7 +141,7 @@ profile_words-again [] h = absurd (h.0 refl)
 profile_words-again (p ∷ l) h =
     words_again profile_text p l
     (IsWord-marked is_profile_byte p.negated p.name profile_no_space h.1.0)
-    (each (λ q. IsTrue (is_profile_name q.name)) (λ q. IsWord (profile_text q))
+    (all-map (λ q. IsTrue (is_profile_name q.name)) (λ q. IsWord (profile_text q))
     (λ q w. IsWord-marked is_profile_byte q.negated q.name profile_no_space w) l h.1.1)
 
 -- a byte of a profile's name is one of a profile

@@ -19,7 +19,7 @@ use Rattle.td_relation.specs.RelationWriting.{BoundFits, ArchsFit, ProfilesFit, 
 use Rattle.td_relation.specs.RelationWriting.{alternative_asked}
 use Rattle.td_text.proofs.RunTexts.{gap}
 use Rattle.td_relation.proofs.VersionBytes.{version_bytes}
-use Rattle.td_relation.proofs.WordTexts.{each, Without-flat_map, Without-join, Without-marked}
+use Rattle.td_relation.proofs.WordTexts.{all-map, Without-flat_map, Without-join, Without-marked}
 use Rattle.td_relation.proofs.WrittenParts.{bound_on, bound_begins, name_ends, name_again}
 use Rattle.td_relation.proofs.WrittenParts.{restriction_again, archs_again}
 use Rattle.td_relation.proofs.WrittenProfiles.{profiles_lack, unprofiled_again}
@@ -125,7 +125,7 @@ module _ (c : ℕ) (apart : Apart c) where
   archs_lack None h = tt
   archs_lack (Some l) h =
       let names = Without-join c (marked l.negated) (codes " ") l.names (apart.space, tt)
-      (each (λ n. IsTrue (is_arch n)) (λ n. Without c (marked l.negated n))
+      (all-map (λ n. IsTrue (is_arch n)) (λ n. Without c (marked l.negated n))
       (λ n w. Without-marked c l.negated n apart.mark (Without-arch c n apart.arch w)) l.names
       h.1) in
       (apart.space, (apart.opens_list, Without-append c _ (93 ∷ []) names (apart.closes_list, tt)))
@@ -148,5 +148,5 @@ module _ (c : ℕ) (apart : Apart c) where
       (Without-append c (bound_part a.bound) _ (bound_lacks a.bound h.bound)
       (Without-append c (archs_part a.archs) _ (archs_lack a.archs h.archs)
       (Without-flat_map c profile_part a.profiles
-      (each ProfilesFit (λ l. Without c (profile_part l)) profile_part-lacks a.profiles
+      (all-map ProfilesFit (λ l. Without c (profile_part l)) profile_part-lacks a.profiles
       h.profiles)))))

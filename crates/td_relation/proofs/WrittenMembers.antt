@@ -17,8 +17,8 @@ use Rattle.td_relation.specs.RelationWriting.{relation_text, AlternativeFits, Me
 use Rattle.td_relation.specs.RelationWriting.{alternative_asked, RelationsAreReadAgain}
 use Rattle.td_text.specs.Runs.{is_blank}
 use Rattle.td_relation.proofs.MemberTexts.{member_step-filled}
-use Rattle.td_text.proofs.RunTexts.{NoSpace, not_space, gap, is_blank-gap}
-use Rattle.td_relation.proofs.WordTexts.{each, Without-join}
+use Rattle.td_text.proofs.RunTexts.{not_space, gap, is_blank-gap}
+use Rattle.td_relation.proofs.WordTexts.{all-map, name_no_space, Without-join}
 use Rattle.td_relation.proofs.WrittenAlternatives.{Apart-bar, Apart-comma, alternative_again}
 use Rattle.td_relation.proofs.WrittenAlternatives.{alternative_lacks}
 
@@ -90,9 +90,6 @@ member_again f (a ∷ others) h = alternatives_again [] f a others h.1.0 h.1.1
 abbrev is_comma : ℕ → Bool
 is_comma b = eqb b 44
 
-name_no_space : NoSpace is_name_byte
-name_no_space = record { space = refl; tab = refl; newline = refl }
-
 pub name_not_blank : (name rest : List ℕ) → is_name name ≡ true → is_blank (name ++ rest) ≡ false
 name_not_blank [] rest h = absurd cc
 name_not_blank (x ∷ name) rest h =
@@ -115,7 +112,7 @@ member_lacks : (m : List WrittenAlternative) → MemberFits m → Without 44 (me
 member_lacks m h =
     Without-join 44 alternative_text (codes " | ") m
     ((λ z. omega arith), ((λ z. omega arith), ((λ z. omega arith), tt)))
-    (each AlternativeFits (λ a. Without 44 (alternative_text a))
+    (all-map AlternativeFits (λ a. Without 44 (alternative_text a))
     (λ a w. alternative_lacks 44 Apart-comma a w) m h.1)
 
 step_again : (seen : List (List Asked)) (f : Bool) (m : List WrittenAlternative) → MemberFits m

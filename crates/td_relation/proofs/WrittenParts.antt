@@ -23,7 +23,7 @@ use Rattle.td_relation.specs.Spacing.{SpacedBound}
 use Rattle.td_text.specs.Runs.{trimmed, is_blank}
 use Rattle.td_text.proofs.RunTexts.{Stops-at, gap, Begins-gap}
 use Rattle.td_relation.proofs.SpacedParts as spaced
-use Rattle.td_relation.proofs.WordTexts.{each, Without-join, Without-marked, is_arch_list-again}
+use Rattle.td_relation.proofs.WordTexts.{all-map, Without-join, Without-marked, is_arch_list-again}
 use Rattle.td_relation.proofs.WordTexts.{arch_words-again}
 
 -- ---- what follows each part; a space may stand at the end
@@ -136,7 +136,7 @@ archs_again (Some l) ps e h =
     let list = join_by (marked l.negated) (codes " ") l.names in
     let lacks : Without 93 list =
     Without-join 93 (marked l.negated) (codes " ") l.names ((λ z. omega arith), tt)
-    (each (λ n. IsTrue (is_arch n)) (λ n. Without 93 (marked l.negated n))
+    (all-map (λ n. IsTrue (is_arch n)) (λ n. Without 93 (marked l.negated n))
     (λ n w. Without-marked 93 l.negated n (λ z. omega arith) (Without-arch 93 n refl w)) l.names
     h.1) in
     let same : words list ≡ map (marked l.negated) l.names =

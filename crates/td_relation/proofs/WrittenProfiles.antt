@@ -3,7 +3,7 @@ use Rattle.std.proofs.Common.{◌≡◌, ℕ, Bool, true, false, cond, eqb, ◌|
 use Rattle.std.proofs.Common.{Some, None, Ok, refl, sym, ap, ◌∙◌, append_assoc, arith}
 use Rattle.std.specs.Prelude.{codes, IsTrue}
 use Rattle.std.specs.List.{list_all, list_any, slice_split, flat_map, join_by, AllByRecursion}
-use Rattle.std.proofs.Math.Bool.{or_assoc}
+use Rattle.std.proofs.Math.Bool.{or_assoc, or-false}
 use Rattle.std.proofs.lemmas.List.Splits.{slice_split_at}
 use Rattle.std.proofs.lemmas.Bool.{and_parts}
 use Rattle.td_text.specs.Cut.{Without, strip}
@@ -19,7 +19,7 @@ use Rattle.td_relation.specs.RelationWriting.{is_profile_byte, is_profile_name, 
 use Rattle.td_relation.specs.RelationWriting.{hold_unprofiled}
 use Rattle.td_text.specs.Runs.{trimmed}
 use Rattle.td_text.proofs.RunTexts.{gap, trimmed_gap, is_blank-gap}
-use Rattle.td_relation.proofs.WordTexts.{each, Without-join, Without-marked, profile_words-again}
+use Rattle.td_relation.proofs.WordTexts.{all-map, Without-join, Without-marked, profile_words-again}
 use Rattle.td_relation.proofs.WordTexts.{is_profile_list-again, holds-again}
 use Rattle.td_relation.proofs.WrittenParts.{lists_on}
 
@@ -35,7 +35,7 @@ pub profiles_lack : (c : ℕ) → is_profile_byte c ≡ false → ¬ (33 ≡ c) 
     → (l : List WrittenProfile) → ProfilesFit l → Without c (list_text l)
 profiles_lack c out mark space l h =
     Without-join c profile_text (codes " ") l (space, tt)
-    (each (λ p. IsTrue (is_profile_name p.name)) (λ p. Without c (profile_text p))
+    (all-map (λ p. IsTrue (is_profile_name p.name)) (λ p. Without c (profile_text p))
     (λ p w. Without-marked c p.negated p.name mark
     (Without-from_test is_profile_byte c p.name out
     (and_parts _ (list_all is_profile_byte p.name) w).1)) l h.1)
@@ -111,11 +111,7 @@ lists_again seen f l [] e h hs =
     ∙ ap (λ r. on_ok r (λ more. over profile_step more (slice_split is_greater (gap e))))
     (step_again seen f l h)
     ∙ last_again (seen || holds l) e
-    ∙ ap (λ (b : Bool). Ok (b, true)) (ap (λ (b : Bool). seen || b) (none_more (holds l)))
-  where
-    none_more : (b : Bool) → b ≡ (b || false)
-    none_more true = refl
-    none_more false = refl
+    ∙ ap (λ (b : Bool). Ok (b, true)) (ap (λ (b : Bool). seen || b) (sym (or-false (holds l))))
 lists_again seen f l (m ∷ ls) e h hs =
     ap (over profile_step (seen, false)) (first_cut f l (m ∷ ls) e h)
     ∙ ap (λ r. on_ok r (λ more.

@@ -6,9 +6,10 @@ use Rattle.std.specs.Borrow.{Bor}
 use Rattle.std.specs.List.{cons_option, filter_map, list_any}
 use Rattle.std.specs.Option.{option_map_or, option_to_list}
 use Rattle.std.specs.Str.{bytes_eq}
-use Rattle.std.proofs.lemmas.List.{map-append}
+use Rattle.std.proofs.lemmas.List.{append-nil, map-append}
 use Rattle.std.proofs.lemmas.List.Elements.{filter_map-append}
 use Rattle.std.proofs.lemmas.Option.{slice_get_cases}
+use Rattle.td_text.proofs.Chain.{list_any-map}
 use Rattle.td_rows.proofs.Lists.{take-next}
 use Rattle.td_rows.specs.declared.key.Key.{Key}
 use Rattle.td_rows.specs.declared.row.Row.{Row}
@@ -16,7 +17,6 @@ use Rattle.td_rows.specs.Table.{Table}
 use Rattle.td_indices.specs.Archive.{Contents}
 use Rattle.td_query.specs.Statuses.{affected_names}
 use Rattle.td_query.specs.Tracking.{Tracking}
-use Rattle.td_waves.proofs.Passing.{any-map}
 use Rattle.td_waves.specs.declared.level.Level.{Level}
 use Rattle.td_waves.specs.Levels.{IsDepth, StandsAt}
 use Rattle.td_waves.specs.Waves.{BuildsOn}
@@ -61,11 +61,7 @@ pub items-same : (f : Key × Row → Option AffectedRow) (rows : Table) (n : ℕ
     → map seen items ≡ filter_map f (take n rows)
     → map seen items ≡ filter_map f (take (n + 1) rows)
 items-same f rows n items lt is so = so
-    ∙ sym (rows-more f rows n None lt is ∙ nothing (filter_map f (take n rows)))
-  where
-    nothing : (l : List AffectedRow) → l ++ [] ≡ l
-    nothing [] = refl
-    nothing (x ∷ l) = ap (λ k. x ∷ k) (nothing l)
+    ∙ sym (rows-more f rows n None lt is ∙ append-nil (filter_map f (take n rows)))
 
 -- ---- the affected sources
 
@@ -73,7 +69,7 @@ same_names : (a : Contents) (t : Tracking) (names : List (Bor (List ℕ)))
     → map (λ name. name.now) names ≡ affected_names a t → of_waves.IsAffected names ≡ IsAffected a t
 same_names a t names is =
     λ i source. IsTrue
-    ((sym (any-map (bytes_eq source) (λ name. name.now) names)
+    ((sym (list_any-map (bytes_eq source) (λ name. name.now) names)
     ∙ ap (λ (l : List (List ℕ)). list_any (bytes_eq source) l) is) i)
 
 pub are_levels : (a : Contents) (t : Tracking) (names : List (Bor (List ℕ)))

@@ -14,17 +14,17 @@ use Rattle.td_report.specs.Report.{report_lines, waves_lines}
 use Rattle.td_report.specs.Transition.{AreLevels, IsAffected, IsReport, IsWaves, affected_rows}
 
 -- a thing stands at one place
-same_place : {X : Type 0} (A : X → Type 0) (B : X → X → Type 0) (x : X) (o p : Option Level)
+pub stands_once : {X : Type 0} (A : X → Type 0) (B : X → X → Type 0) (x : X) (o p : Option Level)
     → StandsAt A B x o → StandsAt A B x p → o ≡ p
-same_place A B x None None h g = refl
-same_place A B x None (Some (At k)) h g = same_level A B x None k h g
-same_place A B x None (Some Cyclic) h g = absurd (h g.0)
-same_place A B x (Some (At j)) None h g = sym (same_level A B x None j g h)
-same_place A B x (Some (At j)) (Some (At k)) h g = same_level A B x (Some (At j)) k h g
-same_place A B x (Some (At j)) (Some Cyclic) h g = sym (same_level A B x (Some Cyclic) j g h)
-same_place A B x (Some Cyclic) None h g = absurd (g h.0)
-same_place A B x (Some Cyclic) (Some (At k)) h g = same_level A B x (Some Cyclic) k h g
-same_place A B x (Some Cyclic) (Some Cyclic) h g = refl
+stands_once A B x None None h g = refl
+stands_once A B x None (Some (At k)) h g = same_level A B x None k h g
+stands_once A B x None (Some Cyclic) h g = absurd (h g.0)
+stands_once A B x (Some (At j)) None h g = sym (same_level A B x None j g h)
+stands_once A B x (Some (At j)) (Some (At k)) h g = same_level A B x (Some (At j)) k h g
+stands_once A B x (Some (At j)) (Some Cyclic) h g = sym (same_level A B x (Some Cyclic) j g h)
+stands_once A B x (Some Cyclic) None h g = absurd (g h.0)
+stands_once A B x (Some Cyclic) (Some (At k)) h g = same_level A B x (Some Cyclic) k h g
+stands_once A B x (Some Cyclic) (Some Cyclic) h g = refl
 
 no_deeper : (level : List ℕ → Option Level) (d e : ℕ) → IsDepth level d → IsDepth level e
     → d ≤ e
@@ -37,7 +37,7 @@ module _ (a : Contents) (t : Tracking) (level other : List ℕ → Option Level)
     (h : AreLevels a t level d) (g : AreLevels a t other e) where
   pub same_levels : level ≡ other
   same_levels = λ i source.
-      same_place (IsAffected a t) (BuildsOn a) source (level source) (other source)
+      stands_once (IsAffected a t) (BuildsOn a) source (level source) (other source)
       (h.stands source) (g.stands source) i
 
   pub same_depth : d ≡ e

@@ -10,6 +10,8 @@ use Rattle.std.specs.Str.{bytes_eq}
 use Rattle.std.proofs.lemmas.List.Folds.{list_any_at}
 use Rattle.std.proofs.lemmas.List.Quantifiers.{position-Some}
 use Rattle.std.proofs.lemmas.Option.{slice_get_cases}
+use Rattle.td_text.proofs.Anywhere.{any-below}
+use Rattle.td_text.proofs.Chain.{list_any-map}
 use Rattle.td_relation.specs.Arch.{ArchWords}
 use Rattle.td_relation.specs.Table.{place_of}
 use Rattle.td_rows.specs.declared.key.Key.{Key}
@@ -20,8 +22,6 @@ use Rattle.td_indices.proofs.Places.{any-filter}
 use Rattle.td_query.specs.declared.status.Status.{Status}
 use Rattle.td_query.specs.Statuses.{is_affected, row_status, status_at, status_of}
 use Rattle.td_query.specs.Tracking.{Tracking}
-use Rattle.td_query.proofs.AffectedSources.{any-below}
-use Rattle.td_waves.proofs.Passing.{any-map}
 use Rattle.td_waves.specs.declared.level.Level.{Level}
 use Rattle.td_waves.specs.Levels.{StandsAt}
 use Rattle.td_waves.specs.Waves.{BuildsOn}
@@ -50,7 +50,7 @@ among-kept keep name sources n s found at kept = elim (slice_get_cases sources n
       let same : h.0 ≡ s = cc in
       let place = position-Some test sources n s found in
       let here : get_or sources n s ≡ s = ap (get_or sources n) (sym same) ∙ h.3 ∙ same in
-      any-map (bytes_eq name) (λ s. s.head.name) (filter keep sources)
+      list_any-map (bytes_eq name) (λ s. s.head.name) (filter keep sources)
       ∙ sym (any-filter keep test sources)
       ∙ list_any_at (λ x. keep x && test x) sources n s place.0
       (ap (λ x. keep x && test x) here ∙ both_true kept (sym (ap test here) ∙ place.1))

@@ -20,7 +20,7 @@ use Rattle.td_rows.proofs.KeyTexts.{key_exact, key_lacks_space}
 use Rattle.td_rows.proofs.StateWords.{state_exact, state_lacks_space}
 use Rattle.td_rows.proofs.NoteTexts.{notes_exact, notes_begin}
 
-tail_joined : (d f g n w : List ℕ) → d ≡ f ++ g → f ≡ n → g ≡ w → d ≡ n ++ w
+pub tail_joined : (d f g n w : List ℕ) → d ≡ f ++ g → f ≡ n → g ≡ w → d ≡ n ++ w
 tail_joined d f g n w h1 h2 h3 = cc
 
 line_joined : (t a b k d x y z : List ℕ) → t ≡ a ++ 32 ∷ b → b ≡ k ++ 32 ∷ d → d ≡ x ++ 32 ∷ y

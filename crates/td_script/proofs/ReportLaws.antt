@@ -1,5 +1,5 @@
 -- A tracker has one report of the same rows.
-use Rattle.std.proofs.Common.{◌≡◌, ◌≤◌, ℕ, zero, suc, List, [], ◌∷◌, Option, Some, None, option_map}
+use Rattle.std.proofs.Common.{◌≡◌, ◌≤◌, ℕ, zero, suc, List, [], ◌∷◌, Option, option_map}
 use Rattle.std.proofs.Common.{refl, sym, ap, ◌∙◌, arith}
 use Rattle.std.specs.List.{cons_option}
 use Rattle.td_text.specs.Lines.{text_of}
@@ -10,24 +10,12 @@ use Rattle.td_indices.specs.Archive.{Contents}
 use Rattle.td_query.specs.Statuses.{status_of}
 use Rattle.td_query.specs.Tracking.{Tracking}
 use Rattle.td_waves.specs.declared.level.Level.{Level}
-use Rattle.td_waves.specs.declared.level.Level.TheVariants.{At, Cyclic}
-use Rattle.td_waves.specs.Levels.{IsDepth, StandsAt}
+use Rattle.td_waves.specs.Levels.{IsDepth}
 use Rattle.td_waves.specs.Waves.{BuildsOn}
-use Rattle.td_waves.proofs.SameLevel.{is_affected, same_level}
 use Rattle.td_report.specs.Report.{AffectedRow, report_lines}
 use Rattle.td_report.specs.Transition.{AreLevels, IsAffected, IsReport, affected_rows}
+use Rattle.td_report.proofs.OneText.{stands_once}
 use Rattle.td_script.specs.Reporting.{report_with}
-
--- a thing stands in one place
-stands_once : {X : Type 0} (A : X → Type 0) (B : X → X → Type 0) (x : X) (o p : Option Level)
-    → StandsAt A B x o → StandsAt A B x p → o ≡ p
-stands_once A B x None None h g = refl
-stands_once A B x None (Some (At k)) h g = absurd (h (is_affected A B k x g))
-stands_once A B x None (Some Cyclic) h g = absurd (h g.0)
-stands_once A B x (Some (At j)) p h g = sym (same_level A B x p j g h)
-stands_once A B x (Some Cyclic) None h g = absurd (g h.0)
-stands_once A B x (Some Cyclic) (Some (At k)) h g = same_level A B x (Some Cyclic) k h g
-stands_once A B x (Some Cyclic) (Some Cyclic) h g = refl
 
 -- equal levels are equally many
 no_deeper : {X : Type 0} (f g : X → Option Level) (d e : ℕ) → ((x : X) → f x ≡ g x) → IsDepth f d

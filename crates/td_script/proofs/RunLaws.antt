@@ -20,7 +20,7 @@ use Rattle.td_script.specs.Telling.{Telling}
 use Rattle.td_script.proofs.OnlyLaws.{IsLong, IsNoText}
 
 -- the known bytes are those that were read
-all_read : (known : Option (List ℕ)) (t : List ℕ) → IfSome known (λ all. t ≡ all)
+pub all_read : (known : Option (List ℕ)) (t : List ℕ) → IfSome known (λ all. t ≡ all)
     → IfSome known (λ all. all ≡ t)
 all_read None t h = tt
 all_read (Some all) t h = sym h

@@ -6,10 +6,10 @@ use Rattle.std.specs.Prelude.{codes, decimal}
 use Rattle.std.specs.Str.{bytes_eq}
 use Rattle.std.proofs.lemmas.Bool.Decides.{nat_tests}
 use Rattle.td_text.specs.Chain.{◌>>=◌}
-use Rattle.td_text.specs.Cut.{Without, cut, part, strip}
+use Rattle.td_text.specs.Cut.{cut, part, strip}
 use Rattle.td_text.specs.Numbers.{number_at}
 use Rattle.td_text.proofs.Chain.{chained, some_is, when_some, when_none, or_word}
-use Rattle.td_text.proofs.Cut.{cut-at, lacks, part_again, part_joined, word_found}
+use Rattle.td_text.proofs.Cut.{cut-at, part_again, part_joined, word_found}
 use Rattle.td_text.proofs.Numbers.{number_exact, Without-decimal}
 use Rattle.td_text.proofs.Prefix.{strip_found}
 use Rattle.td_rows.specs.declared.key.Key.{Key}
@@ -23,7 +23,7 @@ use Rattle.td_rows.proofs.KeyTexts.{key_exact}
 use Rattle.td_rows.proofs.NoteTexts.{notes_exact, notes_begin}
 use Rattle.td_journal.specs.Commands.{is_command}
 use Rattle.td_journal.specs.Endings.{ending_text}
-use Rattle.td_journal.specs.EntryReading.{keys_at, told}
+use Rattle.td_journal.specs.EntryReading.{keys_at}
 use Rattle.td_journal.specs.JournalText.{kind_word, kind_notes, spaced_keys}
 use Rattle.td_journal.proofs.Endings.{ending_found, ending_again}
 use Rattle.td_journal.proofs.KeyWords.{keys_found, keys_again, spaced_begin, no_key}
@@ -132,10 +132,6 @@ claim_found rest s e =
 
 -- ---- how a build ended
 
-finish_joined : (rest d more end : List ℕ) → rest ≡ d ++ 32 ∷ more → more ≡ end
-    → rest ≡ d ++ 32 ∷ end
-finish_joined rest d more end h1 h2 = cc
-
 finish_found : (rest : List ℕ) (s : Step) → finish_at rest ≡ Some s
     → IsLineOf (codes "finish" ++ 32 ∷ rest) s
 unfolding finish_at
@@ -143,8 +139,8 @@ finish_found rest s e =
     let p = chained _ _ _ e in
     let o = chained _ _ _ p.2 in
     let b = builder_found rest p.0 p.1 in
-    let line = finish_joined rest (decimal p.0.0) p.0.1 (ending_text o.0) b.0
-    (ending_found p.0.1 o.0 o.1) in
+    let line : rest ≡ decimal p.0.0 ++ 32 ∷ ending_text o.0 =
+    b.0 ∙ ap (λ (r : List ℕ). decimal p.0.0 ++ 32 ∷ r) (ending_found p.0.1 o.0 o.1) in
     subst (λ (y : Step). IsLineOf (codes "finish" ++ 32 ∷ rest) y)
     (some_is (steps.Finish p.0.0 o.0) s o.2)
     (ap (λ (t : List ℕ). codes "finish" ++ 32 ∷ t) line, b.1)

@@ -5,14 +5,11 @@ use Rattle.std.specs.Char.{to_ascii_lowercase}
 use Rattle.std.specs.List.{slice_get, find}
 use Rattle.std.proofs.lemmas.Bool.{cases_Bool}
 use Rattle.std.proofs.lemmas.Slice.Eq.{bytes_eq-Decides}
-use Rattle.td_text.proofs.Chain.{or-false}
+use Rattle.td_text.proofs.Chain.{or-false, some_is}
 use Rattle.td_stanza.specs.declared.entry.Field.{Field}
 use Rattle.td_stanza.specs.Field.{Entry, is_same_name}
 use Rattle.td_stanza.specs.StanzaGrammar.{names_of, has_name, AreNew, IsDistinct}
 use Rattle.td_stanza.specs.Table.{shown, HasField}
-
-some_same : {A : Type 0} (x y : A) → Some x ≡ Some y → x ≡ y
-some_same x y e = cc
 
 abbrev lowered : List ℕ → List ℕ
 lowered name = map to_ascii_lowercase name
@@ -40,7 +37,7 @@ find_there name [] f e = absurd cc
 find_there name (g ∷ fs) f e =
     elim (cases_Bool (is_named name g)) [
       | inl is ↦
-          let q : g ≡ f = some_same g f (sym (rw is refl) ∙ e) in
+          let q : g ≡ f = some_is g f (sym (rw is refl) ∙ e) in
           (0, g, refl, is, ap (λ (h : Entry). h.value) q)
       | inr other ↦
           let h = find_there name fs f (sym (rw other refl) ∙ e) in
@@ -76,7 +73,7 @@ later_new : (seen : List (List ℕ)) (fs : List Entry) (i : ℕ) (f : Entry) →
     → slice_get fs i ≡ Some f → has_name seen f.name ≡ false
 later_new seen [] i f h e = absurd cc
 later_new seen (g ∷ fs) zero f h e =
-    ap (λ (k : Entry). has_name seen k.name) (sym (some_same g f e)) ∙ h.0
+    ap (λ (k : Entry). has_name seen k.name) (sym (some_is g f e)) ∙ h.0
 later_new seen (g ∷ fs) (suc i) f h e =
     has_left seen (g.name ∷ []) f.name (later_new (seen ++ g.name ∷ []) fs i f h.1 e)
 
@@ -96,7 +93,7 @@ find_only : (seen : List (List ℕ)) (name : List ℕ) (fs : List Entry) (i : �
     → find (is_named name) fs ≡ Some f
 find_only seen name [] i f h e same = absurd cc
 find_only seen name (g ∷ fs) zero f h e same =
-    let is : g ≡ f = some_same g f e in
+    let is : g ≡ f = some_is g f e in
     let named : is_named name g ≡ true = ap (is_named name) is ∙ same in
     rw named (ap Some is)
 find_only seen name (g ∷ fs) (suc i) f h e same =

@@ -5,11 +5,9 @@ use Rattle.std.proofs.Common.{length-append}
 use Rattle.std.specs.Char.{to_ascii_lowercase}
 use Rattle.std.specs.HashSet.{contains, Updates}
 use Rattle.std.specs.List.{list_any}
-use Rattle.std.specs.Str.{bytes_eq}
-use Rattle.std.proofs.lemmas.Bool.Decides.{same_from_decides}
 use Rattle.std.proofs.lemmas.List.{drop-append-le, drop_all, take-append-drop}
 use Rattle.std.proofs.lemmas.List.Folds.{list_any-append}
-use Rattle.std.proofs.lemmas.Slice.Eq.{bytes_eq-Decides}
+use Rattle.td_text.proofs.SameTexts.{bytes_eq-swap}
 use Rattle.td_stanza.specs.declared.entry.Field.{Field}
 use Rattle.td_stanza.specs.declared.folded.FoldedName.{FoldedName}
 use Rattle.td_stanza.specs.declared.names.Names.{Names}
@@ -24,16 +22,6 @@ pub parted : (test : Field → Bool) (fields : List Field)
 parted test fields =
     sym (list_any-append test (take compared fields) (drop compared fields))
     ∙ ap (list_any test) (take-append-drop compared fields)
-
-bytes_eq-swap : (a b : List ℕ) → bytes_eq a b ≡ bytes_eq b a
-bytes_eq-swap a b =
-    let one = bytes_eq-Decides a b in
-    let other = bytes_eq-Decides b a in
-    same_from_decides {P = a ≡ b} (bytes_eq a b) (bytes_eq b a) one (
-      λ h.
-          sym (other.0 h),
-      λ e. other.1 (sym e),
-    )
 
 same_name-swap : (a b : List ℕ) → is_same_name a b ≡ is_same_name b a
 same_name-swap a b = bytes_eq-swap (map to_ascii_lowercase a) (map to_ascii_lowercase b)

@@ -7,6 +7,7 @@ use Rattle.std.specs.Borrow.{Bor}
 use Rattle.std.specs.Slice.{IsItemAt}
 use Rattle.std.proofs.lemmas.Option.{slice_get_past, slice_get_read}
 use Rattle.std.proofs.lemmas.List.{length-append, length-map}
+use Rattle.td_text.proofs.Chain.{some_is}
 use Rattle.td_stanza.specs.declared.entry.Field.{Field}
 use Rattle.td_stanza.specs.Field.{Entry}
 use Rattle.td_stanza.specs.StanzaGrammar.{IsDistinct}
@@ -21,13 +22,10 @@ pieces_past fs (a ∷ []) (suc i) e = refl
 pieces_past fs (a ∷ b ∷ starts) zero e = absurd cc
 pieces_past fs (a ∷ b ∷ starts) (suc i) e = pieces_past fs (b ∷ starts) i e
 
-some_same : {A : Type 0} (x y : A) → Some x ≡ Some y → x ≡ y
-some_same x y e = cc
-
 pub pieces_last : (fs : List Entry) (starts : List ℕ) (i a : ℕ) → slice_get starts i ≡ Some a
     → slice_get starts (suc i) ≡ None → slice_get (pieces fs starts) i ≡ Some (drop a fs)
 pieces_last fs [] i a e n = absurd cc
-pieces_last fs (x ∷ []) zero a e n = ap (λ (k : ℕ). Some (drop k fs)) (some_same x a e)
+pieces_last fs (x ∷ []) zero a e n = ap (λ (k : ℕ). Some (drop k fs)) (some_is x a e)
 pieces_last fs (x ∷ []) (suc i) a e n = absurd cc
 pieces_last fs (x ∷ y ∷ starts) zero a e n = absurd cc
 pieces_last fs (x ∷ y ∷ starts) (suc i) a e n = pieces_last fs (y ∷ starts) i a e n
@@ -39,7 +37,7 @@ pieces_inner fs [] i a b e n = absurd cc
 pieces_inner fs (x ∷ []) zero a b e n = absurd cc
 pieces_inner fs (x ∷ []) (suc i) a b e n = absurd cc
 pieces_inner fs (x ∷ y ∷ starts) zero a b e n =
-    let is : x ≡ a = some_same x a e in let next : y ≡ b = some_same y b n in rw (is, next) refl
+    let is : x ≡ a = some_is x a e in let next : y ≡ b = some_is y b n in rw (is, next) refl
 pieces_inner fs (x ∷ y ∷ starts) (suc i) a b e n = pieces_inner fs (y ∷ starts) i a b e n
 
 -- ---- where a start lies
@@ -47,7 +45,7 @@ pieces_inner fs (x ∷ y ∷ starts) (suc i) a b e n = pieces_inner fs (y ∷ st
 start_from : (at : ℕ) (ss : List (List Entry)) (i a : ℕ) → slice_get (starts_from at ss) i ≡ Some a
     → (at ≤ a) × (a ≤ at + length (joined ss))
 start_from at [] i a e = absurd cc
-start_from at (s ∷ ss) zero a e = let is : at ≡ a = some_same at a e in (omega arith, omega arith)
+start_from at (s ∷ ss) zero a e = let is : at ≡ a = some_is at a e in (omega arith, omega arith)
 start_from at (s ∷ ss) (suc i) a e =
     let h = start_from (at + length s) ss i a e in
     (omega (arith, h.0), omega (arith, h.1, length-append s (joined ss)))
@@ -57,7 +55,7 @@ start_order : (at : ℕ) (ss : List (List Entry)) (i a b : ℕ)
     → a ≤ b
 start_order at [] i a b e n = absurd cc
 start_order at (s ∷ ss) zero a b e n =
-    let is : at ≡ a = some_same at a e in
+    let is : at ≡ a = some_is at a e in
     let h = start_from (at + length s) ss zero b n in omega (arith, h.0)
 start_order at (s ∷ ss) (suc i) a b e n = start_order (at + length s) ss i a b e n
 
@@ -92,7 +90,7 @@ length-pieces fs (a ∷ b ∷ starts) = ap suc (length-pieces fs (b ∷ starts))
 distinct_at : (ss : List (List Entry)) (i : ℕ) (s : List Entry) → AllByRecursion IsDistinct ss
     → slice_get ss i ≡ Some s → IsDistinct s
 distinct_at [] i s h e = absurd cc
-distinct_at (t ∷ ss) zero s h e = subst IsDistinct (some_same t s e) h.0
+distinct_at (t ∷ ss) zero s h e = subst IsDistinct (some_is t s e) h.0
 distinct_at (t ∷ ss) (suc i) s h e = distinct_at ss i s h.1 e
 
 pub stanza_distinct : (fields : List Field) (starts : List ℕ) (i : ℕ) (s : List Entry)

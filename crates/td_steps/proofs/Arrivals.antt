@@ -15,13 +15,14 @@ use Rattle.td_core.specs.Offers.{supply_now}
 use Rattle.td_core.specs.Worlds.{WorldView}
 use Rattle.td_core.proofs.Freeing.{AppliesOn-freed, ascending-freed}
 use Rattle.td_core.proofs.WorldSteps.{AppliesOn-one}
+use Rattle.td_core.proofs.Worlds.{rows_of-with_entry}
 use Rattle.td_book.specs.Desk.{BookModel}
 use Rattle.td_book.specs.Seen.{seen_off}
 use Rattle.td_book.specs.Arriving.{freed_now}
 use Rattle.td_book.specs.declared.arriving.ArriveRefusal.TheVariants.{NoSuchRow, DoesNotApply}
 use Rattle.td_book.specs.declared.arriving.ArriveRefusal.TheVariants.{NoMemory as NoRoom}
 use Rattle.td_book.proofs.Seeing.{arrive_off, waiting_off, desks_off}
-use Rattle.td_book.proofs.Steps.{rows_with, up_now}
+use Rattle.td_book.proofs.Steps.{up_now}
 use Rattle.td_core.specs.declared.step.Answer.{Answer}
 use Rattle.td_core.specs.declared.step.Answer.TheVariants as answers
 use Rattle.td_steps.specs.Sees.{resting, Sees}
@@ -42,7 +43,7 @@ arrive-leads : (h : History) (st : Stock) (n : ℕ) (k : Key) (row : Row)
 arrive-leads h st n k row up found fit =
     let e : Entry = record { kind = kinds.Arrive; keys = k ∷ [] } in
     let same : seen_off [] (rows_of h) ≡ seen_off [] (rows_of (with_entry h e)) =
-    sym (ap (seen_off []) (rows_with h e)
+    sym (ap (seen_off []) (rows_of-with_entry h e)
     ∙ arrive_off (k ∷ []) (rows_of h) (up_now h up)
     (AppliesOn-one (rows_of h) kinds.Arrive k row found fit)) in
     leads-one (desk_off h st n []) (desk_off (with_entry h e) st n []) (arrive k) (row, found, fit)
@@ -96,7 +97,7 @@ sweep-leads old up = at (freed_now old) refl
         subst (AppliesOn (rows_of old.history) kinds.Sweep) is fit in
         let same : seen_off [] (rows_of old.history) ≡ seen_off (k ∷ keys) (rows_of new) =
         waiting_off (k ∷ keys) (rows_of old.history) (up_now old.history up) fit'
-        ∙ sym (ap (seen_off (k ∷ keys)) (rows_with old.history e)
+        ∙ sym (ap (seen_off (k ∷ keys)) (rows_of-with_entry old.history e)
         ∙ desks_off (k ∷ keys) (k ∷ keys) kinds.Sweep (rows_of old.history)
         (up_now old.history up) refl fit' (λ _ q named. named)) in
         leads-then (resting old) (desk_off new old.fixed.stock old.fixed.builders (k ∷ keys))

@@ -1,10 +1,11 @@
 -- Over any list of calls the opening rows and the entries stay; a command is undone at once.
-use Rattle.std.proofs.Common.{◌≡◌, ℕ, zero, suc, ◌+◌, ◌-◌, Bool, true, false, ◌&&◌, ◌||◌}
+use Rattle.std.proofs.Common.{◌≡◌, ℕ, ◌+◌, ◌-◌, Bool, true, false, ◌&&◌}
 use Rattle.std.proofs.Common.{List, [], ◌∷◌, ◌++◌, append_assoc, append-nil, filter, map, Option}
 use Rattle.std.proofs.Common.{Some, None, Result, Ok, Err, if◌then◌else◌, ap}
 use Rattle.std.proofs.Common.{refl, sym, subst, ◌∙◌}
 use Rattle.std.specs.Prelude.{IsSomeAnd, OnOk}
 use Rattle.std.specs.List.{list_any}
+use Rattle.std.proofs.lemmas.Bool.{or_parts}
 use Rattle.td_board.specs.declared.views.Hand.{Hand}
 use Rattle.td_board.specs.declared.views.Hand.TheVariants.{Free, Holding, Finished}
 use Rattle.td_board.specs.declared.views.BuilderView.{BuilderView}
@@ -14,16 +15,16 @@ use Rattle.td_rows.specs.declared.outcome.Outcome.{Outcome}
 use Rattle.td_rows.specs.Table.{Table}
 use Rattle.td_wbread.specs.Command.{CommandParts}
 use Rattle.td_journal.specs.declared.entry.Entry.{Entry}
-use Rattle.td_journal.specs.declared.entry.Mark.TheVariants.{Standing, Undone}
+use Rattle.td_journal.specs.declared.entry.Mark.TheVariants.{Standing}
 use Rattle.td_journal.specs.declared.entry.Mark.{Mark}
 use Rattle.td_journal.specs.declared.entry.Marked.{Marked}
 use Rattle.td_journal.specs.Entries.{is_command, standing, standing_entry, entry_at}
-use Rattle.td_journal.specs.Entries.{undone_at, undone}
 use Rattle.td_journal.specs.Replay.{replay}
 use Rattle.td_journal.specs.Touching.{blocker}
 use Rattle.td_journal.proofs.LastEntry.{entry_at-last, blocker-last, standing-last}
 use Rattle.td_core.specs.Committing.{takes}
 use Rattle.td_core.specs.History.{History, rows_of, with_entry, without_entry, opened}
+use Rattle.td_core.proofs.Staying.{entries-append, entries-undone_at}
 use Rattle.td_book.specs.declared.arriving.ArriveRefusal.TheVariants as arrivals
 use Rattle.td_book.specs.declared.commanding.CommandRefusal.{CommandRefusal}
 use Rattle.td_book.specs.declared.commanding.CommandRefusal.TheVariants as commands
@@ -71,24 +72,12 @@ grows-none h new same =
           ∙ sym (append-nil (map (λ (m : Marked). m.entry) h.journal));
     }
 
-map-append : (ms ns : List Marked)
-    → map (λ (m : Marked). m.entry) (ms ++ ns)
-    ≡ map (λ (m : Marked). m.entry) ms ++ map (λ (m : Marked). m.entry) ns
-map-append [] ns = refl
-map-append (m ∷ ms) ns = ap (λ (es : List Entry). m.entry ∷ es) (map-append ms ns)
-
-map-undone_at : (ms : List Marked) (i : ℕ)
-    → map (λ (m : Marked). m.entry) (undone_at ms i) ≡ map (λ (m : Marked). m.entry) ms
-map-undone_at [] i = refl
-map-undone_at (m ∷ ms) zero = refl
-map-undone_at (m ∷ ms) (suc i) = ap (λ (es : List Entry). m.entry ∷ es) (map-undone_at ms i)
-
 grows-entry : (h : History) (e : Entry) → Grows h (with_entry h e)
 grows-entry h e =
     record {
       opening = refl;
       added = e ∷ [];
-      entries = map-append h.journal (standing_entry e ∷ []);
+      entries = entries-append h.journal (standing_entry e ∷ []);
     }
 
 grows-undone : (h : History) (n : ℕ) → Grows h (without_entry h n)
@@ -96,7 +85,7 @@ grows-undone h n =
     record {
       opening = refl;
       added = [];
-      entries = map-undone_at h.journal (n - 1)
+      entries = entries-undone_at h.journal (n - 1)
           ∙ sym (append-nil (map (λ (m : Marked). m.entry) h.journal));
     }
 
@@ -309,14 +298,10 @@ entries_stay (c ∷ calls) old new d =
       entries = g.entries;
     }
 
-neither : (a b : Bool) → (a || b) ≡ false → (a ≡ false) × (b ≡ false)
-neither true b e = absurd (cc)
-neither false b e = (refl, e)
-
 pub watched_stay : WatchedStay
 watched_stay [] old new none same = ap (λ (b : BookModel). b.fixed) same
 watched_stay (c ∷ calls) old new none d =
-    let both = neither (is_watch c) (list_any is_watch calls) none in
+    let both = or_parts (is_watch c) (list_any is_watch calls) none in
     watched_stay calls d.0 new both.1 d.2 ∙ (does-keep c old d.0 both.0 d.1).fixed
 
 pub rows_are_replayed : RowsAreReplayed

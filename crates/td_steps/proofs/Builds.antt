@@ -16,6 +16,7 @@ use Rattle.td_supply.specs.Supply.{Stock}
 use Rattle.td_journal.specs.declared.entry.Entry.{Entry}
 use Rattle.td_core.specs.History.{History, rows_of, with_entry}
 use Rattle.td_core.specs.Worlds.{WorldView}
+use Rattle.td_core.proofs.Worlds.{rows_of-with_entry}
 use Rattle.td_book.specs.Calls.{noting_one}
 use Rattle.td_book.specs.Desk.{BookModel}
 use Rattle.td_book.specs.Seen.{seen_off}
@@ -23,7 +24,7 @@ use Rattle.td_book.specs.Building.{Noticed, is_built_at}
 use Rattle.td_book.specs.declared.starting.StartRefusal.TheVariants as starts
 use Rattle.td_book.specs.declared.finishing.FinishRefusal.TheVariants as finishes
 use Rattle.td_book.proofs.Builds.{ended_off, known-built}
-use Rattle.td_book.proofs.Steps.{rows_with, up_now}
+use Rattle.td_book.proofs.Steps.{noting_one-opening, up_now}
 use Rattle.td_core.specs.declared.step.Answer.TheVariants as answers
 use Rattle.td_steps.specs.Sees.{resting, view_of, Sees}
 use Rattle.td_steps.specs.Moves.{Move, settle}
@@ -31,15 +32,12 @@ use Rattle.td_steps.specs.Runs.{LeadsOn}
 use Rattle.td_steps.specs.Parts.{withdrawing, offering, Tells}
 use Rattle.td_steps.proofs.Parts.{Leads, leads-then, leads-one, leads-on, tells-at, desk_off}
 use Rattle.td_steps.proofs.Parts.{view-of-row, row-at, withdrawing-all, offering-all, apart-none}
-use Rattle.td_steps.proofs.Parts.{one_opening, book-is, up-seen, idle-on}
+use Rattle.td_steps.proofs.Parts.{book-is, up-seen, idle-on}
 use Rattle.td_book.specs.Finishing.{Finishes, Settles}
 use Rattle.td_steps.specs.Builds.{notice_moves, Notices, StartsAreSteps, settle_moves, Ends}
 use Rattle.td_steps.specs.Builds.{SettlesAt, FinishesAreSteps}
 
 -- ---- 1. a start
-
-noting_opening : (h : History) (k : Key) (b : ℕ) → (noting_one h k b).opening ≡ h.opening
-noting_opening h k b = one_opening _ h k b
 
 notice-leads : (h : History) (st : Stock) (n by : ℕ) (k : Key)
     → ascending (keys_of h.opening) ≡ true
@@ -49,8 +47,8 @@ notice-leads h st n by k up =
     leads-then (desk_off h st n []) (desk_off new st n (k ∷ [])) (desk_off new st n [])
     (withdrawing h (k ∷ []) (by ∷ [])) (offering (rows_of new) (k ∷ []))
     (withdrawing-all h st n [] (k ∷ []) (by ∷ []) up refl refl (apart-none (k ∷ [])))
-    (offering-all new st n (ap (λ (t : Table). ascending (keys_of t)) (noting_opening h k by) ∙ up)
-    (k ∷ []) refl)
+    (offering-all new st n
+    (ap (λ (t : Table). ascending (keys_of t)) (noting_one-opening h k by) ∙ up) (k ∷ []) refl)
 
 module _ (w : WorldView) (old new : BookModel) (sees : Sees w (resting old)) where
   noticed-on : (i b : ℕ) (is : Bool) → (o : Noticed i b is old new)
@@ -110,7 +108,7 @@ settle-leads h st n b o k up built =
     ∙ ap (λ (v : RowView). Some v) (known-built b r.row.state r.built) in
     let same : set (seen_off [] (rows_of h)) i views.In ≡ seen_off (k ∷ []) (rows_of new) =
     ended_off (rows_of h) i k r.row b o (up_now h up) (row-at h k r.row r.found)
-    ∙ ap (seen_off (k ∷ [])) (sym (rows_with h e)) in
+    ∙ ap (seen_off (k ∷ [])) (sym (rows_of-with_entry h e)) in
     leads-then (desk_off h st n []) (desk_off new st n (k ∷ [])) (desk_off new st n [])
     (settle k b o ∷ []) (offering (rows_of new) (k ∷ []))
     (leads-one (desk_off h st n []) (desk_off new st n (k ∷ [])) (settle k b o) known
@@ -127,7 +125,7 @@ module _ (w : WorldView) (old new : BookModel) (sees : Sees w (resting old)) whe
       let end = with_entry mid (record { kind = kinds.Outcome b o; keys = e.key ∷ [] }) in
       let up = up-seen w old sees in
       let up' : ascending (keys_of mid.opening) ≡ true =
-      ap (λ (t : Table). ascending (keys_of t)) (noting_opening h e.key e.by) ∙ up in
+      ap (λ (t : Table). ascending (keys_of t)) (noting_one-opening h e.key e.by) ∙ up in
       let ms = notice_moves e.key e.by h ++ settle_moves e.key b o mid in
       let first = notice-leads h old.fixed.stock old.fixed.builders e.by e.key up in
       let leads : Leads (resting old) ms (desk_off end old.fixed.stock old.fixed.builders []) =

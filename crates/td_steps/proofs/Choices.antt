@@ -1,7 +1,7 @@
 -- Some choice always fits the world, and with it a command's moves run.
 use Rattle.std.proofs.Common.{◌≡◌, ℕ, zero, suc, ◌≤◌, Bool, true, false, ◌&&◌, List, [], ◌∷◌, ◌++◌}
 use Rattle.std.proofs.Common.{Option, Some, None, option_map, if◌then◌else◌, filter, map, slice_get}
-use Rattle.std.proofs.Common.{ap, refl, sym, subst, ◌∙◌, arith}
+use Rattle.std.proofs.Common.{ap, refl, sym, subst, ◌∙◌, arith, true≢false}
 use Rattle.std.proofs.lemmas.Bool.{and_parts}
 use Rattle.td_rows.specs.declared.key.Key.{Key}
 use Rattle.td_rows.specs.declared.row.Row.{Row}
@@ -25,9 +25,9 @@ use Rattle.td_core.specs.Steps.{after, after_all, noted}
 use Rattle.td_core.specs.Worlds.{WorldView, phase_of, with_phase, journaled}
 use Rattle.td_core.proofs.Phases.{phase_of-other}
 use Rattle.td_core.proofs.WorldSteps.{after-accepted, after-refused}
+use Rattle.td_core.proofs.Worlds.{rows_of-with_entry}
 use Rattle.td_book.specs.Calls.{is_lost, noting_one, noting, off_for, entered}
 use Rattle.td_book.specs.Desk.{BookModel, claim_of}
-use Rattle.td_book.proofs.Steps.{rows_with}
 use Rattle.td_book.specs.Commands.{named_by, is_matched_in}
 use Rattle.td_wbread.specs.Kinds.{kind_of}
 use Rattle.td_steps.specs.Sees.{Sees, resting}
@@ -114,7 +114,7 @@ kept-closed w k p ks apart = record {
 queued-other : (h : History) (k q : Key) (b : ℕ) → same_key q k ≡ false
     → is_queued_at (rows_of (with_entry h (claim_of b k))) q ≡ is_queued_at (rows_of h) q
 queued-other h k q b apart =
-    ap (λ (t : Table). is_queued_at t q) (rows_with h (claim_of b k))
+    ap (λ (t : Table). is_queued_at t q) (rows_of-with_entry h (claim_of b k))
     ∙ ap told (row_of-each_row (meant (kinds.Claim b) (k ∷ [])) (rows_of h) q)
     ∙ at (row_of (rows_of h) q)
   where
@@ -218,16 +218,13 @@ record First (w : WorldView) (n : ℕ) (k : Key) : Type 0 where
   bound : by ≤ n
   is : is_queued_at (rows_of w.history) k ≡ true → phase_of w k ≡ Some (first_at by)
 
-true_false : true ≡ false → ⊥
-true_false h = cc
-
 first-at : (w : WorldView) (old : BookModel) (k : Key) → Sees w (resting old)
     → First w old.fixed.builders k
 first-at w old k i = at (is_queued_at (rows_of w.history) k) refl
   where
     at : (q : Bool) → is_queued_at (rows_of w.history) k ≡ q → First w old.fixed.builders k
     at false queued =
-        record { by = 0; bound = omega arith; is = λ e. absurd (true_false (sym e ∙ queued)) }
+        record { by = 0; bound = omega arith; is = λ e. absurd (true≢false (sym e ∙ queued)) }
     at true queued =
         let there : is_queued_at (rows_of old.history) k ≡ true =
         ap (λ (h : History). is_queued_at (rows_of h) k) (sym i.history) ∙ queued in

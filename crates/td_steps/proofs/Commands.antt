@@ -15,13 +15,14 @@ use Rattle.td_core.specs.History.{History, rows_of, with_entry}
 use Rattle.td_core.specs.Worlds.{WorldView}
 use Rattle.td_core.proofs.Phases.{keys_of-rows_of}
 use Rattle.td_core.proofs.Taking.{AppliesOn-filter, names-filter, ascending-filter}
+use Rattle.td_core.proofs.Worlds.{rows_of-with_entry}
 use Rattle.td_book.specs.Calls.{noting, Choices, off_for, entered, CommandOutcome}
 use Rattle.td_book.specs.Desk.{BookModel}
 use Rattle.td_book.specs.Seen.{seen_off}
 use Rattle.td_book.specs.declared.commanding.CommandRefusal.{CommandRefusal}
 use Rattle.td_book.specs.declared.commanding.CommandRefusal.TheVariants as commands
 use Rattle.td_book.proofs.Seeing.{desks_off}
-use Rattle.td_book.proofs.Steps.{rows_with, up_now}
+use Rattle.td_book.proofs.Steps.{up_now}
 use Rattle.td_book.proofs.Withdrawals.{commands_desks}
 use Rattle.td_book.proofs.Calls.{off_within, noting-opening, kinds_command}
 use Rattle.td_wbread.specs.Command.{CommandParts}
@@ -53,7 +54,7 @@ committing-leads h st n off kind [] up command rise fit within =
 committing-leads h st n off kind (t ∷ ts) up command rise fit within =
     let e : Entry = record { kind = kind; keys = t ∷ ts } in
     let same : seen_off off (rows_of h) ≡ seen_off off (rows_of (with_entry h e)) =
-    sym (ap (seen_off off) (rows_with h e)
+    sym (ap (seen_off off) (rows_of-with_entry h e)
     ∙ desks_off off (t ∷ ts) kind (rows_of h) (up_now h up) (commands_desks kind command) fit
     within) in
     leads-one (desk_off h st n off) (desk_off (with_entry h e) st n off) (commit kind (t ∷ ts))

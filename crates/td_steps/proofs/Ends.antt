@@ -1,7 +1,7 @@
 -- A builder that holds a row may end its build: the moves of its finish run.
 use Rattle.std.proofs.Common.{◌≡◌, ℕ, zero, suc, ◌≤◌, Bool, true, false, not, ◌&&◌, List, [], ◌∷◌}
 use Rattle.std.proofs.Common.{◌++◌, Option, Some, None, if◌then◌else◌, ap, refl, sym, subst, ◌∙◌}
-use Rattle.std.proofs.Common.{inl, inr, arith}
+use Rattle.std.proofs.Common.{inl, inr, arith, eq-eqb}
 use Rattle.td_rows.specs.declared.key.Key.{Key}
 use Rattle.td_rows.specs.declared.row.Row.{Row}
 use Rattle.td_rows.specs.declared.state.State.{State}
@@ -21,6 +21,7 @@ use Rattle.td_core.specs.Refusals.{withdraw_refusal, note_refusal}
 use Rattle.td_core.specs.Steps.{refusal, after, noted}
 use Rattle.td_core.specs.Worlds.{WorldView, IsWorld, phase_of, with_phase, hand_of, with_hand}
 use Rattle.td_core.specs.Worlds.{journaled}
+use Rattle.td_core.proofs.Phases.{slice_get-set-here}
 use Rattle.td_core.proofs.Promises.{builders_are_there}
 use Rattle.td_core.proofs.Worlds.{row-there}
 use Rattle.td_core.proofs.WorldSteps.{IsWorld-after, after-accepted, after-refused, after-finish}
@@ -31,8 +32,6 @@ use Rattle.td_steps.specs.Moves.{Move, offer, won, lost, note}
 use Rattle.td_steps.specs.Runs.{Runs}
 use Rattle.td_steps.specs.Parts.{offering}
 use Rattle.td_steps.specs.Builds.{notice_moves, settle_moves, FinishesRun}
-use Rattle.td_steps.proofs.Sees.{number_same}
-use Rattle.td_steps.proofs.Parts.{set-there}
 use Rattle.td_steps.proofs.Turns.{free-run, free-offering, turns_run}
 
 -- what the row of a key is needs no build, or needs one, by its phase
@@ -68,13 +67,14 @@ settles-on w b k o h hand phase =
     let fine : refusal w (steps.Finish b o) ≡ None =
     ap (finish_refusal w b) hand
     ∙ ap (λ (p : Option Phase). refused_if (not (is_noted_by b p)) NotNoted None) phase
-    ∙ ap (λ v. refused_if (not v) NotNoted None) (number_same b b refl) in
+    ∙ ap (λ v. refused_if (not v) NotNoted None) (eq-eqb b b refl) in
     let u = after w (steps.Finish b o) in
     let to : with_hand (with_phase w k (phases.Done b o)) b (hands.Finished k o) ≡ u =
     after-finish w w b o k refl fine hand in
     let ended : phase_of u k ≡ Some (phases.Done b o) =
     ap (λ (x : WorldView). phase_of x k) (sym to)
-    ∙ set-there w.phases (number_of w.history.opening k) (phases.Noted b) (phases.Done b o) phase in
+    ∙ slice_get-set-here w.phases (number_of w.history.opening k) (phases.Noted b)
+    (phases.Done b o) phase in
     let ms = offering (rows_of (with_entry h (record { kind = kinds.Outcome b o; keys = k ∷ [] })))
     (k ∷ []) in
     let x = after u (steps.Settle k) in
@@ -143,7 +143,8 @@ module _ (w : WorldView) (k : Key) (o : Outcome) (old : BookModel)
       after-accepted w (steps.Note k) (ap note_refusal phase) ∙ ap (noted w k) phase in
       let sound : IsWorld y = subst IsWorld next (IsWorld-after w (steps.Note k) sees.sound) in
       let there : phase_of y k ≡ Some (phases.Noted b) =
-      set-there w.phases (number_of w.history.opening k) (phases.Held b) (phases.Noted b) phase in
+      slice_get-set-here w.phases (number_of w.history.opening k) (phases.Held b)
+      (phases.Noted b) phase in
       let queued : is_queued_at (rows_of h) k ≡ true =
       ap (λ (x : History). is_queued_at (rows_of x) k) (sym sees.history)
       ∙ held-queued w k b sees.sound phase in

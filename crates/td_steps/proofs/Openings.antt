@@ -1,6 +1,5 @@
 -- The moves of an opening lead to the book at rest.
-use Rattle.std.proofs.Common.{◌≡◌, ℕ, zero, suc, List, Some, slice_get, length, replicate, ap}
-use Rattle.std.proofs.Common.{refl, sym, subst, ◌∙◌}
+use Rattle.std.proofs.Common.{◌≡◌, ℕ, List, length, replicate, ap, refl, sym, subst, ◌∙◌}
 use Rattle.std.proofs.lemmas.List.{length-replicate}
 use Rattle.td_board.specs.declared.views.RowView.{RowView}
 use Rattle.td_board.specs.declared.views.RowView.TheVariants as views
@@ -14,6 +13,7 @@ use Rattle.td_core.specs.declared.step.Hand.TheVariants as hands
 use Rattle.td_core.specs.Phases.{Suits, NoneBuilt}
 use Rattle.td_journal.proofs.Undoing.{replay-none}
 use Rattle.td_core.specs.Worlds.{InHand, IsWorld, world_of}
+use Rattle.td_core.proofs.WorldSteps.{slice_get-replicate}
 use Rattle.td_book.specs.Desk.{BookModel}
 use Rattle.td_book.specs.Seen.{seen_off}
 use Rattle.td_book.proofs.Returns.{length-rows}
@@ -26,16 +26,10 @@ use Rattle.td_steps.proofs.Parts.{Leads, leads-on, desk_off, offering-all}
 use Rattle.td_steps.specs.Openings.{first_desk, world_from, desk_from, MayOpen}
 use Rattle.td_steps.specs.Openings.{HistoriesOpen, OpeningsAreSteps}
 
-same_of : {A : Type 0} (n i : ℕ) (x y : A) → slice_get (replicate n x) i ≡ Some y → y ≡ x
-same_of zero zero x y h = cc
-same_of zero (suc i) x y h = cc
-same_of (suc n) zero x y h = cc
-same_of (suc n) (suc i) x y h = same_of n i x y h
-
 fit-replicate : (n : ℕ) → FitAll (replicate n views.In) (replicate n Closed)
 fit-replicate n i v p view phase =
-    subst (λ (x : RowView). Fits x p) (sym (same_of n i views.In v view))
-    (subst (λ (x : Phase). Fits views.In x) (sym (same_of n i Closed p phase)) tt)
+    subst (λ (x : RowView). Fits x p) (sym (slice_get-replicate n i views.In v view))
+    (subst (λ (x : Phase). Fits views.In x) (sym (slice_get-replicate n i Closed p phase)) tt)
 
 sound-from : (h : History) (s : Stock) (n : ℕ) → MayOpen h → IsWorld (world_from h s n)
 sound-from h s n may = record {
@@ -44,11 +38,11 @@ sound-from h s n may = record {
   sized = length-replicate (length h.opening) Closed;
   suits = λ k p row phase found.
       subst (λ (x : Phase). Suits x row.state)
-      (sym (same_of (length h.opening) (number_of h.opening k) Closed p phase))
+      (sym (slice_get-replicate (length h.opening) (number_of h.opening k) Closed p phase))
       (may.idle k row found);
   keys = may.keys;
   held = λ k p phase. subst (InHand (replicate n hands.Free) k)
-      (sym (same_of (length h.opening) (number_of h.opening k) Closed p phase)) tt;
+      (sym (slice_get-replicate (length h.opening) (number_of h.opening k) Closed p phase)) tt;
 }
 
 first-seen : (h : History) (s : Stock) (n : ℕ) → MayOpen h

@@ -1,9 +1,9 @@
 -- Withdrawals and offers lead from desk to desk: no world is spoken of.
 use Rattle.std.proofs.Common.{◌≡◌, ℕ, zero, suc, Bool, true, false, ◌&&◌, List, [], ◌∷◌, ◌++◌}
 use Rattle.std.proofs.Common.{append_assoc, append-nil, Option, Some, None, if◌then◌else◌, length}
-use Rattle.std.proofs.Common.{slice_get, set, ap, refl, sym, subst, ◌∙◌, arith}
+use Rattle.std.proofs.Common.{slice_get, set, ap, refl, sym, subst, ◌∙◌, arith, set-set}
 use Rattle.std.proofs.lemmas.Bool.{and_parts}
-use Rattle.std.proofs.lemmas.Option.{slice_get_past}
+use Rattle.std.proofs.lemmas.Option.{same_Some, slice_get_past}
 use Rattle.td_board.specs.declared.views.RowView.{RowView}
 use Rattle.td_board.specs.declared.views.RowView.TheVariants as views
 use Rattle.td_rows.specs.declared.key.Key.{Key}
@@ -25,13 +25,15 @@ use Rattle.td_supply.specs.Supply.{Stock}
 use Rattle.td_core.specs.History.{History, rows_of, with_entry}
 use Rattle.td_core.specs.Refusals.{is_queued_at}
 use Rattle.td_core.specs.Worlds.{WorldView}
-use Rattle.td_core.proofs.Phases.{keys_of-rows_of, number_of-absent, set-set}
+use Rattle.td_core.proofs.Phases.{keys_of-rows_of, number_of-absent, slice_get-set-here}
+use Rattle.td_core.proofs.Worlds.{rows_of-with_entry}
 use Rattle.td_book.specs.Calls.{is_lost, noting_one, noting, off_for}
 use Rattle.td_book.specs.Desk.{BookModel, claim_of}
 use Rattle.td_book.specs.Seen.{known_as, held_as, seen_as, views as views_by, seen_off}
+use Rattle.td_book.proofs.Returns.{length-rows}
 use Rattle.td_book.proofs.Seeing.{withdrawn_off, stays_off, claimed_off, offered_off, idle_off}
 use Rattle.td_book.proofs.Seeing.{held_in, known_out, length-seen_off}
-use Rattle.td_book.proofs.Steps.{rows_with, up_now, idle_row}
+use Rattle.td_book.proofs.Steps.{noting_one-opening, up_now, idle_row}
 use Rattle.td_core.specs.declared.step.Answer.{Answer}
 use Rattle.td_steps.specs.Sees.{Desk, resting, view_of, Sees, is_off}
 use Rattle.td_steps.specs.Moves.{Move, offer, won, lost, note, answer_of, moved, May}
@@ -103,10 +105,7 @@ row-at h k row found =
 view-at : (f : Key → Row → RowView) (t : Table) (i : ℕ) (k : Key) (row : Row)
     → slice_get t i ≡ Some (k, row) → slice_get (views_by f t) i ≡ Some (f k row)
 view-at f [] i k row h = absurd (cc)
-view-at f (p ∷ t) zero k row h = ap (λ (q : Key × Row). Some (f q.0 q.1)) (same_pair p (k, row) h)
-  where
-    same_pair : (a b : Key × Row) → Some a ≡ Some b → a ≡ b
-    same_pair a b e = cc
+view-at f (p ∷ t) zero k row h = ap (λ (q : Key × Row). Some (f q.0 q.1)) (same_Some p (k, row) h)
 view-at f (p ∷ t) (suc i) k row h = view-at f t i k row h
 
 pub view-of-row : (h : History) (st : Stock) (n : ℕ) (off : List Key) (k : Key) (row : Row)
@@ -115,13 +114,6 @@ pub view-of-row : (h : History) (st : Stock) (n : ℕ) (off : List Key) (k : Key
     ≡ Some (if names off k then held_as row.state else known_as row.state)
 view-of-row h st n off k row found =
     view-at (seen_as off) (rows_of h) (number_of h.opening k) k row (row-at h k row found)
-
-length-rows : (h : History) → length (rows_of h) ≡ length h.opening
-length-rows h = sym (lengths (rows_of h)) ∙ ap length (keys_of-rows_of h) ∙ lengths h.opening
-  where
-    lengths : (t : Table) → length (keys_of t) ≡ length t
-    lengths [] = refl
-    lengths (p ∷ t) = ap suc (lengths t)
 
 held-off : (s : State) → is_off (Some (held_as s)) ≡ true
 held-off NeedsBuild = refl
@@ -179,13 +171,6 @@ view-in h st n off k q named =
     ∙ ap (λ b. Some (if b then held_as q.row.state else known_as q.row.state)) named
     ∙ ap (λ (v : RowView). Some v) (held_in q.row.state q.queued)
 
-pub set-there : {A : Type 0} (xs : List A) (i : ℕ) (x y : A) → slice_get xs i ≡ Some x
-    → slice_get (set xs i y) i ≡ Some y
-set-there [] zero x y h = cc
-set-there [] (suc i) x y h = cc
-set-there (z ∷ xs) zero x y h = refl
-set-there (z ∷ xs) (suc i) x y h = set-there xs i x y h
-
 -- ---- 3. withdrawals
 
 module _ (h : History) (st : Stock) (n : ℕ) (up : ascending (keys_of h.opening) ≡ true) where
@@ -219,9 +204,9 @@ module _ (h : History) (st : Stock) (n : ℕ) (up : ascending (keys_of h.opening
       let e : set (set vs i (views.Seen b)) i (views.Known b) ≡ seen_off (done ++ k ∷ []) t' =
       set-set vs i (views.Seen b) (views.Known b)
       ∙ claimed_off done (rows_of h) i k q.row b (up_now h up) (row-at h k q.row q.found)
-      ∙ ap (seen_off (done ++ k ∷ [])) (sym (rows_with h (claim_of b k))) in
+      ∙ ap (seen_off (done ++ k ∷ [])) (sym (rows_of-with_entry h (claim_of b k))) in
       record {
-        may = (out, (set-there vs i views.Out (views.Seen b) out, tt));
+        may = (out, (slice_get-set-here vs i views.Out (views.Seen b) out, tt));
         to = ap (λ (x : List RowView).
             record (desk_off (with_entry h (claim_of b k)) st n (done ++ k ∷ [])) { view = x }) e;
       }
@@ -301,11 +286,6 @@ apart-rest done k ks below apart q named =
 pub apart-none : (ks : List Key) → Apart [] ks
 apart-none ks k named = refl
 
-pub one_opening : (v : Bool) (h : History) (k : Key) (b : ℕ)
-    → (if v then with_entry h (claim_of b k) else h).opening ≡ h.opening
-one_opening true h k b = refl
-one_opening false h k b = refl
-
 pub withdrawing-all : (h : History) (st : Stock) (n : ℕ) (done ks : List Key) (bs : List ℕ)
     → ascending (keys_of h.opening) ≡ true → length bs ≡ length ks → ascending ks ≡ true
     → Apart done ks
@@ -319,8 +299,7 @@ withdrawing-all h st n done (k ∷ ks) (b ∷ bs) up len rise apart =
     let both = and_parts (below_all k ks) (ascending ks) rise in
     let h' = noting_one h k b in
     let up' : ascending (keys_of h'.opening) ≡ true =
-    ap (λ (t : Table). ascending (keys_of t))
-    (one_opening (is_queued_at (rows_of h) k && is_lost b) h k b) ∙ up in
+    ap (λ (t : Table). ascending (keys_of t)) (noting_one-opening h k b) ∙ up in
     let len' : length bs ≡ length ks =
     (let s : suc (length bs) ≡ suc (length ks) = len in omega (arith, s)) in
     let rest = withdrawing-all h' st n (done ++ k ∷ []) ks bs up' len' both.1

@@ -18,6 +18,7 @@ use Rattle.td_journal.specs.Replay.{replay, Lawful}
 use Rattle.td_journal.proofs.Agreeing.{EachHasKeys-push}
 use Rattle.td_journal.proofs.Undoing.{standing-append, Lawful-push}
 use Rattle.td_core.specs.History.{History, rows_of, with_entry, history_of}
+use Rattle.td_core.proofs.Worlds.{one_key}
 use Rattle.td_book.specs.Desk.{BookModel}
 use Rattle.td_book.specs.Reopening.{return_in, given_back}
 use Rattle.td_book.proofs.Returns.{AreLeft, IsLeft, returned, left_first, left_next, left_none}
@@ -48,9 +49,6 @@ kept-entry h e g applies keys = record {
       (Lawful-push h.opening (standing h.journal) e g.lawful applies);
   keys = EachHasKeys-push h.journal (standing_entry e) g.keys keys;
 }
-
-one_key : (k : Key) → IsKeys (k ∷ [])
-one_key k = record { rising = refl; some = omega arith }
 
 return-keys : (k : Key) (s : State) (e : Entry) → return_in k s ≡ Some e → IsKeys e.keys
 return-keys k s e h = subst (λ (x : Entry). IsKeys x.keys) (sym (returned k s e h).is) (one_key k)

@@ -1,8 +1,9 @@
 -- What the desk sees of a world in which one phase changes.
 use Rattle.std.proofs.Common.{◌≡◌, ℕ, zero, suc, true, false, ◌==◌, List, [], ◌∷◌, Some, length}
-use Rattle.std.proofs.Common.{slice_get, set, ap, refl, sym, subst, ◌∙◌, arith}
-use Rattle.std.proofs.lemmas.Bool.Decides.{nat_tests}
+use Rattle.std.proofs.Common.{slice_get, set, ap, refl, sym, subst, ◌∙◌, arith, true≢false, eq-eqb}
+use Rattle.std.proofs.Common.{eqb-true}
 use Rattle.std.proofs.lemmas.List.{length-set}
+use Rattle.std.proofs.lemmas.Option.{same_Some}
 use Rattle.td_board.specs.declared.views.RowView.{RowView}
 use Rattle.td_board.specs.declared.views.RowView.TheVariants.{In, Out, Seen, Known}
 use Rattle.td_rows.specs.declared.key.Key.{Key}
@@ -14,33 +15,10 @@ use Rattle.td_core.specs.declared.step.Hand.{Hand}
 use Rattle.td_core.specs.History.{History}
 use Rattle.td_core.specs.Phases.{is_pinned}
 use Rattle.td_core.specs.Worlds.{WorldView, phase_of, with_phase, with_hand, IsWorld}
+use Rattle.td_core.proofs.Phases.{slice_get-set, slice_get-set-other}
 use Rattle.td_steps.specs.Sees.{Desk, view_of, with_view, Fits, FitAll, Sees, is_off}
 
 -- ---- 1. views and phases, row by row
-
-same_number : (b c : ℕ) → (b == c) ≡ true → b ≡ c
-same_number b c h = grind (arith, nat_tests, h)
-
-pub number_same : (b c : ℕ) → b ≡ c → (b == c) ≡ true
-number_same b c h = grind (arith, nat_tests, h)
-
-true_false : true ≡ false → ⊥
-true_false h = cc
-
-set-at : {A : Type 0} (xs : List A) (i : ℕ) (y x : A) → slice_get (set xs i y) i ≡ Some x → y ≡ x
-set-at [] zero y x h = cc
-set-at [] (suc i) y x h = cc
-set-at (z ∷ xs) zero y x h = cc
-set-at (z ∷ xs) (suc i) y x h = set-at xs i y x h
-
-set-other : {A : Type 0} (xs : List A) (i j : ℕ) (y : A) → (i ≡ j → ⊥)
-    → slice_get (set xs i y) j ≡ slice_get xs j
-set-other [] zero j y other = refl
-set-other [] (suc i) j y other = refl
-set-other (z ∷ xs) zero zero y other = absurd (other refl)
-set-other (z ∷ xs) zero (suc j) y other = refl
-set-other (z ∷ xs) (suc i) zero y other = refl
-set-other (z ∷ xs) (suc i) (suc j) y other = set-other xs i j y (λ e. other (ap suc e))
 
 -- lists of one length have items at the same places
 pub paired : {A B : Type 0} (xs : List A) (ys : List B) (i : ℕ) (x : A) → length xs ≡ length ys
@@ -56,13 +34,14 @@ pub fit-both : (vs : List RowView) (ps : List Phase) (i : ℕ) (v : RowView) (p 
     → FitAll vs ps → FitAll (set vs i v) (set ps i p)
 fit-both vs ps i v p here all j x q view phase = elim (i == j) as (λ b. (i == j) ≡ b → Fits x q) [
   | true ↦ λ e.
-      let same = same_number i j e in
-      let v_is : v ≡ x = set-at vs i v x (ap (slice_get (set vs i v)) same ∙ view) in
-      let p_is : p ≡ q = set-at ps i p q (ap (slice_get (set ps i p)) same ∙ phase) in
+      let same = eqb-true i j e in
+      let v_is : v ≡ x = slice_get-set vs i v x (ap (slice_get (set vs i v)) same ∙ view) in
+      let p_is : p ≡ q = slice_get-set ps i p q (ap (slice_get (set ps i p)) same ∙ phase) in
       subst (λ (y : Phase). Fits x y) p_is (subst (λ (y : RowView). Fits y p) v_is here)
   | false ↦ λ e.
-      let apart : i ≡ j → ⊥ = λ s. true_false (sym (number_same i j s) ∙ e) in
-      all j x q (sym (set-other vs i j v apart) ∙ view) (sym (set-other ps i j p apart) ∙ phase)
+      let apart : i ≡ j → ⊥ = λ s. true≢false (sym (eq-eqb i j s) ∙ e) in
+      all j x q (sym (slice_get-set-other vs i j v apart) ∙ view)
+      (sym (slice_get-set-other ps i j p apart) ∙ phase)
 ] refl
 
 fit-view : (vs : List RowView) (ps : List Phase) (i : ℕ) (v : RowView) (p : Phase)
@@ -70,30 +49,27 @@ fit-view : (vs : List RowView) (ps : List Phase) (i : ℕ) (v : RowView) (p : Ph
 fit-view vs ps i v p there here all j x q view phase =
     elim (i == j) as (λ b. (i == j) ≡ b → Fits x q) [
       | true ↦ λ e.
-          let same = same_number i j e in
-          let v_is : v ≡ x = set-at vs i v x (ap (slice_get (set vs i v)) same ∙ view) in
-          let p_is : p ≡ q = one p q (sym there ∙ ap (slice_get ps) same ∙ phase) in
+          let same = eqb-true i j e in
+          let v_is : v ≡ x = slice_get-set vs i v x (ap (slice_get (set vs i v)) same ∙ view) in
+          let p_is : p ≡ q = same_Some p q (sym there ∙ ap (slice_get ps) same ∙ phase) in
           subst (λ (y : Phase). Fits x y) p_is (subst (λ (y : RowView). Fits y p) v_is here)
       | false ↦ λ e.
-          let apart : i ≡ j → ⊥ = λ s. true_false (sym (number_same i j s) ∙ e) in
-          all j x q (sym (set-other vs i j v apart) ∙ view) phase
+          let apart : i ≡ j → ⊥ = λ s. true≢false (sym (eq-eqb i j s) ∙ e) in
+          all j x q (sym (slice_get-set-other vs i j v apart) ∙ view) phase
     ] refl
-  where
-    one : (a b : Phase) → Some a ≡ Some b → a ≡ b
-    one a b h = cc
 
 fit-phase : (vs : List RowView) (ps : List Phase) (i : ℕ) (p q : Phase) → slice_get ps i ≡ Some p
     → ((v : RowView) → Fits v p → Fits v q) → FitAll vs ps → FitAll vs (set ps i q)
 fit-phase vs ps i p q there more all j x y view phase =
     elim (i == j) as (λ b. (i == j) ≡ b → Fits x y) [
       | true ↦ λ e.
-          let same = same_number i j e in
-          let q_is : q ≡ y = set-at ps i q y (ap (slice_get (set ps i q)) same ∙ phase) in
+          let same = eqb-true i j e in
+          let q_is : q ≡ y = slice_get-set ps i q y (ap (slice_get (set ps i q)) same ∙ phase) in
           subst (λ (z : Phase). Fits x z) q_is
           (more x (all j x p view (ap (slice_get ps) (sym same) ∙ there)))
       | false ↦ λ e.
-          let apart : i ≡ j → ⊥ = λ s. true_false (sym (number_same i j s) ∙ e) in
-          all j x y view (sym (set-other ps i j q apart) ∙ phase)
+          let apart : i ≡ j → ⊥ = λ s. true≢false (sym (eq-eqb i j s) ∙ e) in
+          all j x y view (sym (slice_get-set-other ps i j q apart) ∙ phase)
     ] refl
 
 -- ---- 2. of a desk and a world

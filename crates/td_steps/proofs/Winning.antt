@@ -1,10 +1,12 @@
 -- The claim that stops an undo is the latest entry that blocks it.
-use Rattle.std.proofs.Common.{◌≡◌, ℕ, zero, suc, ◌+◌, ◌-◌, ◌<◌, ◌==◌, Bool, true, false, ◌&&◌, ◌||◌}
+use Rattle.std.proofs.Common.{◌≡◌, ℕ, ◌+◌, ◌-◌, ◌<◌, true, false, ◌&&◌, ◌||◌}
 use Rattle.std.proofs.Common.{List, [], ◌∷◌, ◌++◌, Option, Some, None, Err, if◌then◌else◌, length}
-use Rattle.std.proofs.Common.{slice_get, ap, refl, subst, ◌∙◌, arith}
+use Rattle.std.proofs.Common.{ap, refl, subst, ◌∙◌, arith}
 use Rattle.std.specs.Prelude.{IsSomeAnd, nat_lt}
 use Rattle.std.specs.Option.{option_or}
+use Rattle.std.proofs.lemmas.Bool.{or_right}
 use Rattle.std.proofs.lemmas.Bool.Decides.{nat_tests}
+use Rattle.std.proofs.lemmas.Option.{slice_get_within}
 use Rattle.td_rows.specs.declared.key.Key.{Key}
 use Rattle.td_rows.specs.declared.kind.Kind.{Kind}
 use Rattle.td_rows.specs.Keys.{same_key, names}
@@ -16,6 +18,7 @@ use Rattle.td_journal.specs.Entries.{is_standing, standing_entry, entry_at}
 use Rattle.td_journal.specs.Touching.{share_key, touches, latest_touching, blocker}
 use Rattle.td_journal.proofs.Undoing.{entry_at-place}
 use Rattle.td_core.specs.History.{History}
+use Rattle.td_core.proofs.Staying.{entry_at-append}
 use Rattle.td_book.specs.Calls.{off_for}
 use Rattle.td_book.specs.Desk.{claim_of}
 use Rattle.td_book.specs.Undoing.{UndoAnswer, IsWon}
@@ -24,31 +27,8 @@ use Rattle.td_book.specs.declared.undoing.UndoRefusal.TheVariants.{Blocked}
 use Rattle.td_steps.specs.Books.{WonNamesTheLatest}
 use Rattle.td_steps.proofs.Undos.{stop-none}
 
--- ---- 1. entries before the last one
+-- ---- 1. the last entry, where it touches
 
-slice_get-front : (ms ns : List Marked) (i : ℕ) (m : Marked) → slice_get ms i ≡ Some m
-    → slice_get (ms ++ ns) i ≡ Some m
-slice_get-front [] ns zero m h = cc
-slice_get-front [] ns (suc i) m h = cc
-slice_get-front (x ∷ ms) ns zero m h = h
-slice_get-front (x ∷ ms) ns (suc i) m h = slice_get-front ms ns i m h
-
-slice_get-inside : (ms : List Marked) (i : ℕ) (m : Marked) → slice_get ms i ≡ Some m → i < length ms
-slice_get-inside [] zero m h = cc
-slice_get-inside [] (suc i) m h = cc
-slice_get-inside (x ∷ ms) zero m h = omega arith
-slice_get-inside (x ∷ ms) (suc i) m h = let rest = slice_get-inside ms i m h in omega (arith, rest)
-
-entry_at-front : (ms ns : List Marked) (n : ℕ) (m : Marked) → entry_at ms n ≡ Some m
-    → entry_at (ms ++ ns) n ≡ Some m
-entry_at-front ms ns n m there =
-    let place = entry_at-place ms n m there in
-    let above : n ≡ suc (n - 1) = place.0 in
-    let not_zero : (n == 0) ≡ false = grind (arith, nat_tests, above) in
-    ap (λ b. if b then None else slice_get (ms ++ ns) (n - 1)) not_zero
-    ∙ slice_get-front ms ns (n - 1) m place.1
-
--- the last one, where it touches
 latest-last : (e c : Entry) (n number q : ℕ) (ms : List Marked) → q ≡ number + length ms → n < q
     → touches e c ≡ true → latest_touching e n number (ms ++ standing_entry c ∷ []) ≡ Some q
 latest-last e c n number q [] is above touch =
@@ -62,10 +42,6 @@ latest-last e c n number q (m ∷ ms) is above touch =
 
 -- ---- 2. what a claim touches
 
-either : (a b : Bool) → b ≡ true → (a || b) ≡ true
-either true b h = refl
-either false b h = h
-
 share-one : (keys : List Key) (k : Key) → names keys k ≡ true → share_key keys (k ∷ []) ≡ true
 share-one [] k named = cc
 share-one (q ∷ keys) k named =
@@ -76,7 +52,7 @@ share-one (q ∷ keys) k named =
           λ same _. ap (λ b. (if b then true else false) || share_key keys (k ∷ []))
           (same_key-sym k q same)
       | false ↦
-          λ _ rest. either (names (k ∷ []) q) (share_key keys (k ∷ [])) (share-one keys k rest)
+          λ _ rest. or_right (names (k ∷ []) q) (share_key keys (k ∷ [])) (share-one keys k rest)
     ] refl named
 
 -- what is withdrawn for an entry is named by it, and its kind has the state
@@ -109,12 +85,12 @@ blocker-last : (ms : List Marked) (c : Entry) (n q : ℕ) (m : Marked) → entry
     → blocker (ms ++ standing_entry c ∷ []) n ≡ Some q
 blocker-last ms c n q m there is touch =
     let place = entry_at-place ms n m there in
-    let inside = slice_get-inside ms (n - 1) m place.1 in
+    let inside = slice_get_within ms (n - 1) m place.1 in
     ap (λ (x : Option Marked).
     elim x as (λ _. Option ℕ) [
       | Some y ↦ latest_touching y.entry n 1 (ms ++ standing_entry c ∷ [])
       | None ↦ None
-    ]) (entry_at-front ms (standing_entry c ∷ []) n m there)
+    ]) (entry_at-append ms (standing_entry c ∷ []) n m there)
     ∙ latest-last m.entry c n 1 q ms (omega (arith, is)) (omega (arith, is, inside, place.0)) touch
 
 pub won_names_the_latest : WonNamesTheLatest

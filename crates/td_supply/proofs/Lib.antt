@@ -1,5 +1,4 @@
 -- What the proofs of this crate share: a file a thing.
-pub mod Texts
 pub mod NumberWrites
 pub mod Places
 pub mod Arrivals

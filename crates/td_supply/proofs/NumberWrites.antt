@@ -8,7 +8,7 @@ use Rattle.std.proofs.lemmas.Bool.{cases_Bool}
 use Rattle.std.proofs.lemmas.Map.Text.{hash_map_updates_str}
 use Rattle.td_supply.specs.declared.numbers.Numbers.{Numbers}
 use Rattle.td_supply.specs.Numbers.{numbers_of}
-use Rattle.td_supply.proofs.Texts.{same_text, bytes_eq-swap}
+use Rattle.td_text.proofs.SameTexts.{same_text, bytes_eq-swap}
 
 -- the numbers of each name after those of one are written
 pub written : (name q : List ℕ) (a b : Numbers) (old new : Vec ℕ Global) (f : List ℕ → List ℕ)

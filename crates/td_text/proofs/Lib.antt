@@ -1,5 +1,8 @@
 -- What the proofs of this crate share: a file a thing.
 pub mod Chain
+pub mod Anywhere
+pub mod SameTexts
+pub mod CutLines
 pub mod SpelledLines
 pub mod Cut
 pub mod Prefix

@@ -16,8 +16,8 @@ use Rattle.td_text.specs.Numbers.{has_spare_front, is_numeral, number_at}
 use Rattle.td_text.specs.Cut.{Without}
 use Rattle.td_text.proofs.Chain.{when_some, not-true, or-false}
 
-pub own : IsNumeralModel (λ ds. all_ascii_digits ds ≡ true) (digits_value 10)
-own = numerals_by_value (λ ds. all_ascii_digits ds ≡ true) tells_all_ascii_digits
+pub decimal_model : IsNumeralModel (λ ds. all_ascii_digits ds ≡ true) (digits_value 10)
+decimal_model = numerals_by_value (λ ds. all_ascii_digits ds ≡ true) tells_all_ascii_digits
 
 zero_alone : (t : List ℕ) → has_spare_front t ≡ false → 0 < length t → get_or t 0 0 ≡ 48
     → length t ≡ 1
@@ -42,7 +42,8 @@ found max small t v e =
     let some = ltb-true 0 (length t) b.0 in
     let le = leb-true (digits_value 10 t) max a.1 in
     let is =
-    decimal-digits_value own t d.1 some (zero_alone t (not-true _ d.0) some) (omega arith) in
+    decimal-digits_value decimal_model t d.1 some (zero_alone t (not-true _ d.0) some)
+    (omega arith) in
     subst (λ (n : ℕ). (t ≡ decimal n) × (n ≤ max)) w.1 (sym is, le)
 
 plain : (n : ℕ) → n < 2 ^ 64 → has_spare_front (decimal n) ≡ false
@@ -61,8 +62,8 @@ again max small n le =
     rw (
       lt-ltb _ _ (decimal_nonempty n lt),
       plain n lt,
-      digits_decimal own n lt,
-      digits_value-decimal own n lt,
+      digits_decimal decimal_model n lt,
+      digits_value-decimal decimal_model n lt,
       le-leb n max le,
     ) refl
 
@@ -83,14 +84,14 @@ pub parsed : (max : ℕ) (t : List ℕ) (n : ℕ) → ParsesUnsigned {E = ℕ} 6
     → has_spare_front t ≡ false → number_at max t ≡ cond (leb n max) (Some n) None
 unfolding number_at
 parsed max t n h front =
-    let p = parse_plain own {E = ℕ} 64 t (Ok n) h (sign_free t front) in
+    let p = parse_plain decimal_model {E = ℕ} 64 t (Ok n) h (sign_free t front) in
     rw (lt-ltb 0 (length t) p.0.1, front, p.0.0, p.1) refl
 
 pub not_parsed : (max : ℕ) (t : List ℕ) → max < 2 ^ 64 → ParsesUnsigned {E = ℕ} 64 10 t (Err 0)
     → has_spare_front t ≡ false → number_at max t ≡ None
 unfolding number_at
 not_parsed max t small h front =
-    let p = parse_plain own {E = ℕ} 64 t (Err 0) h (sign_free t front) in
+    let p = parse_plain decimal_model {E = ℕ} 64 t (Err 0) h (sign_free t front) in
     elim (cases_Bool (is_numeral t && leb (digits_value 10 t) max)) [
       | inl met ↦
           let a = and_parts (is_numeral t) (leb (digits_value 10 t) max) met in
@@ -112,4 +113,5 @@ Without-digits c (x ∷ t) low h =
 
 -- signs, spaces, periods and slashes have codes below those of digits
 pub Without-decimal : (c n : ℕ) → c < 48 → n < 2 ^ 64 → Without c (decimal n)
-Without-decimal c n low small = Without-digits c (decimal n) low (digits_decimal own n small)
+Without-decimal c n low small =
+    Without-digits c (decimal n) low (digits_decimal decimal_model n small)

@@ -15,6 +15,7 @@ use Rattle.td_simulate.specs.declared.fault.SimulationFault.TheVariants as fault
 use Rattle.td_simulate.specs.declared.simulation.Simulated.{Simulated}
 use Rattle.td_simulate.specs.Output.{Tells}
 use Rattle.td_simulate.specs.SimulationText.{IsSimulation, FaultOf}
+use Rattle.td_script.proofs.RunLaws.{all_read}
 use Rattle.td_tool.specs.declared.input_fault.InputFault.{InputFault}
 use Rattle.td_tool.specs.declared.input_fault.InputFault.TheVariants.{TooLong, NotText, Simulation}
 use Rattle.td_tool.specs.declared.input_fault.InputFault.TheVariants as refused
@@ -90,11 +91,6 @@ text_ends text old new (Err e) ending found only bad so none =
 
 -- ---- what was read
 
-flipped : (known : Option (List ℕ)) (text : List ℕ) → IfSome known (λ all. text ≡ all)
-    → IfSome known (λ all. all ≡ text)
-flipped None text same = tt
-flipped (Some all) text same = sym same
-
 played : (known old new : Option (List ℕ)) (text : List ℕ) (ending : Ending)
     → IfSome known (λ all. text ≡ all) → IsText text → PlaysText text old new ending
     → Plays known old new ending
@@ -102,7 +98,7 @@ played known old new text ending same read plays =
     let (rows, steps, is, ends) = plays in (
       rows,
       steps,
-      record { input = text; whole = flipped known text same; text = read; simulation = is },
+      record { input = text; whole = all_read known text same; text = read; simulation = is },
       ends,
     )
 
@@ -168,18 +164,13 @@ ends known old new (Err e) ending same within long other so unread =
 
 -- ---- the text that is kept
 
-same_text : (known : Option (List ℕ)) (text : List ℕ) → IfSome known (λ all. text ≡ all)
-    → IfSome known (λ all. all ≡ text)
-same_text None text same = tt
-same_text (Some all) text same = sym same
-
 pub kept_is : (known : Option (List ℕ)) (read : Result (String Global) TextFault)
     (input : Option (String Global)) → input ≡ kept_of read
     → IfOk read (λ text. IfSome known (λ all. string_bytes text ≡ all))
     → IfSome input (λ kept. IfSome known (λ all. all ≡ string_bytes kept))
 kept_is known (Ok text) input is same =
     subst (λ o. IfSome o (λ kept. IfSome known (λ all. all ≡ string_bytes kept))) (sym is)
-    (same_text known (string_bytes text) same)
+    (all_read known (string_bytes text) same)
 kept_is known (Err fault) input is same =
     subst (λ o. IfSome o (λ kept. IfSome known (λ all. all ≡ string_bytes kept))) (sym is) tt
 

@@ -16,13 +16,9 @@ use Rattle.std.proofs.lemmas.Bool.{and_parts, cases_Bool, cases_order, lt-ltb, l
 use Rattle.std.proofs.lemmas.Bool.{ltb-true, ne_eqb, eq-eqb}
 use Rattle.std.proofs.lemmas.Cmp.{tied_itself, nat_cmp_total}
 use Rattle.std.proofs.lemmas.Str.{digit_value_digit}
-use Rattle.std.proofs.lemmas.Str.Parse.{IsNumeralModel, numerals_by_value, parse_plain}
-use Rattle.std.proofs.lemmas.Str.Parse.{tells_all_ascii_digits}
+use Rattle.std.proofs.lemmas.Str.Parse.{parse_plain, tells_all_ascii_digits}
+use Rattle.td_text.proofs.Numbers.{decimal_model}
 use Rattle.td_version.specs.Comparing.{without_zeros}
-
--- the test `all_ascii_digits` and the value `digits_value` belong together
-pub decimal_model : IsNumeralModel (λ ds. all_ascii_digits ds ≡ true) (digits_value 10)
-decimal_model = numerals_by_value (λ ds. all_ascii_digits ds ≡ true) tells_all_ascii_digits
 
 -- ---- digits alone, within a limit
 

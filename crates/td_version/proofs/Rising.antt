@@ -9,9 +9,10 @@ use Rattle.std.specs.Str.{all_ascii_digits}
 use Rattle.std.proofs.lemmas.Bool.{cases_Bool, and_parts}
 use Rattle.std.proofs.lemmas.Cmp.{tied_itself}
 use Rattle.std.proofs.lemmas.Fmt.{digits_decimal, digits_value-decimal, decimal_nonempty}
+use Rattle.td_text.proofs.Numbers.{decimal_model}
 use Rattle.td_version.specs.Order.{Pair, symbol_onto, digit_onto, pairs, pairs_cmp, part_cmp}
 use Rattle.td_version.specs.Rebuild.{rebuild_suffix}
-use Rattle.td_version.proofs.Digits.{decimal_model, nat_cmp_less}
+use Rattle.td_version.proofs.Digits.{nat_cmp_less}
 use Rattle.td_version.proofs.Comparing.{pairs-digit, pairs-symbol, pairs_cmp-symbols_onto}
 use Rattle.td_version.proofs.Comparing.{digit_before_symbol}
 use Rattle.td_version.proofs.Total.{pair_total}

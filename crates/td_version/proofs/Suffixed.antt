@@ -12,8 +12,10 @@ use Rattle.std.proofs.lemmas.Bool.{and_parts, and_from, or_left, or_right, ltb-t
 use Rattle.std.proofs.lemmas.Cmp.{tied_itself, nat_cmp_total}
 use Rattle.std.proofs.lemmas.Fmt.{digits_decimal}
 use Rattle.std.proofs.lemmas.List.{append-nil, length-append}
+use Rattle.std.proofs.lemmas.List.Folds.{list_all-append}
 use Rattle.td_text.specs.Cut.{Without}
 use Rattle.td_text.proofs.Cut.{Without-append, Without-left, Without-right}
+use Rattle.td_text.proofs.Numbers.{decimal_model}
 use Rattle.td_version.specs.Version.{Parts}
 use Rattle.td_version.specs.Order.{is_letter, version_cmp}
 use Rattle.td_version.specs.Grammar.{Written, epoch_front, revision_back, written_text}
@@ -22,7 +24,6 @@ use Rattle.td_version.specs.Grammar.{is_upstream_byte, is_part, EpochFits, Upstr
 use Rattle.td_version.specs.Grammar.{RevisionFits, epoch_number, parts_written, IsVersion}
 use Rattle.td_version.specs.Rebuild.{rebuild_suffix, rebuild_text}
 use Rattle.td_version.specs.Laws.{RebuildsAreVersions, RebuildsRise}
-use Rattle.td_version.proofs.Digits.{decimal_model}
 use Rattle.td_version.proofs.Outcomes.{pieces_cut, pieces_only}
 use Rattle.td_version.specs.Reading.{pieces}
 use Rattle.td_version.proofs.Total.{part_total}
@@ -120,20 +121,14 @@ all_in_upstream has_epoch (x ∷ t) h =
     let p = and_parts (is_revision_byte x) (list_all is_revision_byte t) h in
     and_from _ _ (or_left (is_revision_byte x) _ p.0) (all_in_upstream has_epoch t p.1)
 
-list_all-append : (may : ℕ → Bool) (a b : List ℕ) → list_all may a ≡ true → list_all may b ≡ true
-    → list_all may (a ++ b) ≡ true
-list_all-append may [] b h k = k
-list_all-append may (x ∷ a) b h k =
-    let p = and_parts (may x) (list_all may a) h in
-    and_from _ _ p.0 (list_all-append may a b p.1 k)
-
 is_part-append : (may : ℕ → Bool) (a b : List ℕ) → is_part may a ≡ true → list_all may b ≡ true
     → is_part may (a ++ b) ≡ true
 is_part-append may a b h k =
     let p = and_parts (ltb 0 (length a)) (list_all may a) h in
     let some = ltb-true 0 (length a) p.0 in
     let longer = length-append a b in
-    and_from _ _ (lt-ltb 0 (length (a ++ b)) (omega arith)) (list_all-append may a b p.1 k)
+    and_from _ _ (lt-ltb 0 (length (a ++ b)) (omega arith))
+    (list_all-append may a b ∙ and_from _ _ p.1 k)
 
 -- ---- the two laws
 

@@ -1,17 +1,17 @@
 -- A source builds on another exactly where it asks for it.
-use Rattle.std.proofs.Common.{◌≡◌, ◌≢◌, ◌⊎◌, ℕ, zero, suc, ◌+◌, ◌<◌, not, Bool, true, false, ◌&&◌}
-use Rattle.std.proofs.Common.{◌||◌}
-use Rattle.std.proofs.Common.{List, [], ◌∷◌, length, get_or, Option, Some, None, refl, sym, ap}
-use Rattle.std.proofs.Common.{subst}
-use Rattle.std.proofs.Common.{◌∙◌, inl, inr, arith}
+use Rattle.std.proofs.Common.{◌≡◌, ◌≢◌, ◌⊎◌, ℕ, suc, not, Bool, true, false, ◌&&◌, List, [], ◌∷◌}
+use Rattle.std.proofs.Common.{length, Option, Some, None, refl, sym, ap, subst, ◌∙◌, inl, inr}
+use Rattle.std.proofs.Common.{arith}
 use Rattle.std.specs.Prelude.{slice_get}
 use Rattle.std.specs.List.{Contains, list_any, range_with_len}
 use Rattle.std.specs.Option.{option_map_or}
 use Rattle.std.specs.Str.{bytes_eq}
-use Rattle.std.proofs.lemmas.Bool.{and_parts, and_from, cases_Bool, eq-eqb}
+use Rattle.std.proofs.lemmas.Bool.{and_parts, and_from, cases_Bool, eq-eqb, or_cases, or_left}
+use Rattle.std.proofs.lemmas.Bool.{or_right}
 use Rattle.std.proofs.lemmas.Bool.Decides.{eqb_tells}
-use Rattle.std.proofs.lemmas.List.FromFn.{get_or-range_with_len, length-range_with_len}
+use Rattle.std.proofs.lemmas.Option.{slice_get_within}
 use Rattle.std.proofs.lemmas.Slice.Eq.{bytes_eq-Decides}
+use Rattle.td_text.proofs.Anywhere.{any-below}
 use Rattle.td_relation.specs.Arch.{ArchWords}
 use Rattle.td_relation.specs.Asked.{Asked}
 use Rattle.td_relation.specs.Meeting.{active, is_on}
@@ -46,39 +46,6 @@ any_again test (y ∷ xs) x h is = elim (has_cases y xs x h) [
     | inr other ↦ rw other (any_again test xs x more is)
   ]
 ]
-
-any_at : (f : ℕ → Bool) (xs : List ℕ) (i : ℕ) → i < length xs → f (get_or xs i 0) ≡ true
-    → list_any f xs ≡ true
-any_at f [] i lt h = absurd (omega arith)
-any_at f (x ∷ xs) zero lt h = rw h refl
-any_at f (x ∷ xs) (suc i) lt h = elim (cases_Bool (f x)) [
-  | inl is ↦ rw is refl
-  | inr other ↦ rw other (any_at f xs i (omega arith) h)
-]
-
-any_below : (f : ℕ → Bool) (n place : ℕ) → place < n → f place ≡ true
-    → list_any f (range_with_len 0 n) ≡ true
-any_below f n place lt h =
-    let it : 0 + place ≡ place = omega arith in
-    any_at f (range_with_len 0 n) place (omega (arith, lt, length-range_with_len 0 n))
-    (ap f (get_or-range_with_len 0 n place 0 lt ∙ it) ∙ h)
-
-got_below : {X : Type 0} (xs : List X) (i : ℕ) (x : X) → slice_get xs i ≡ Some x → i < length xs
-got_below [] i x e = absurd (let bad : None ≡ Some x = e in cc)
-got_below (y ∷ xs) zero x e = omega arith
-got_below (y ∷ xs) (suc i) x e = let low = got_below xs i x e in omega arith
-
-or_cases : (a b : Bool) → (a || b) ≡ true → (a ≡ true) ⊎ (b ≡ true)
-or_cases true b h = inl refl
-or_cases false b h = inr h
-
-or_left : (a b : Bool) → a ≡ true → (a || b) ≡ true
-or_left true b h = refl
-or_left false b h = absurd cc
-
-or_right : (a b : Bool) → b ≡ true → (a || b) ≡ true
-or_right true b h = refl
-or_right false b h = h
 
 apart_found : (s t : List ℕ) → not (bytes_eq s t) ≡ true → s ≢ t
 apart_found s t h e =
@@ -133,8 +100,8 @@ module _ (a : Contents) (source : ℕ) (x : Asked) (b : KeptBinary) where
       let is_on_it : is_active_at a.table place x ≡ true =
       ap (λ (o : Option ArchWords). option_map_or (λ arch. active arch x) o false) h.at
       ∙ h.is_active in
-      any_below (fits_at a source x b.head.home) (length a.table) place
-      (got_below a.table place h.arch h.at)
+      any-below (fits_at a source x b.head.home) (length a.table) place
+      (slice_get_within a.table place h.arch h.at)
       (and_from _ _ (there_again place b.head.home h.there) (and_from _ _ is_on_it h.row))
 
   names_found : names_package a source x b ≡ true

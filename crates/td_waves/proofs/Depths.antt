@@ -1,11 +1,11 @@
 -- The greatest number of a level is how many levels there are.
-use Rattle.std.proofs.Common.{◌≡◌, ◌<◌, ◌≤◌, ℕ, zero, List, [], Option, None, Some}
+use Rattle.std.proofs.Common.{◌≡◌, ◌<◌, ◌≤◌, ℕ, List, [], Option, None, Some}
 use Rattle.std.proofs.Common.{get_or, length, slice_get, inl, inr, refl, sym, ap, ◌∙◌, arith}
 use Rattle.std.proofs.lemmas.Bool.{cases_lt}
 use Rattle.std.proofs.lemmas.Option.{slice_get-get_or, get_or_from_slice_get}
 use Rattle.std.proofs.lemmas.List.{get_or_past}
 use Rattle.std.specs.Option.{option_map}
-use Rattle.td_waves.specs.declared.level.Level.{Level}
+use Rattle.td_text.proofs.Chain.{no_value, some_is}
 use Rattle.td_waves.specs.declared.level.Level.TheVariants.{At, Cyclic}
 use Rattle.td_waves.specs.Graph.{BuildsOn, IsNode}
 use Rattle.td_waves.specs.Levels.{IsDepth}
@@ -27,16 +27,10 @@ its_number n k e = elim (zero_or_more n) [
       (same, omega (arith, same, some))
 ]
 
-some_same : (l m : Level) → ◌≡◌ {A = Option Level} (Some l) (Some m) → l ≡ m
-some_same l m e = cc
-
-no_level : (l : Level) → ◌≡◌ {A = Option Level} None (Some l) → ⊥
-no_level l e = absurd cc
-
 of_some : (o : Option ℕ) (k : ℕ) → option_map numbered o ≡ Some (At k)
     → (n : ℕ) × (o ≡ Some n) × (n ≡ k) × (0 < k)
-of_some None k e = absurd (no_level (At k) e)
-of_some (Some n) k e = let r = its_number n k (some_same (numbered n) (At k) e) in
+of_some None k e = no_value (At k) e
+of_some (Some n) k e = let r = its_number n k (some_is (numbered n) (At k) e) in
     (n, refl, r.0, r.1)
 
 -- a number in a list, where it isn't the one that stands for none

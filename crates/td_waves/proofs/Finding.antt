@@ -1,13 +1,16 @@
 -- What is found by names is what an archive holds.
 use Rattle.std.proofs.Common.{◌≡◌, ◌+◌, ◌==◌, ◌||◌, ◌&&◌, ℕ, zero, suc, Bool, true, false, not}
 use Rattle.std.proofs.Common.{List, [], ◌∷◌, map, Option, Some, Result, Ok, Err, length}
-use Rattle.std.proofs.Common.{nat_lt, ltb, refl, sym, ap, ◌∙◌, inl, inr, arith}
+use Rattle.std.proofs.Common.{nat_lt, refl, sym, ap, ◌∙◌, add-one, inl, inr, arith}
 use Rattle.std.specs.Prelude.{IfOk, slice_index_or}
 use Rattle.std.specs.Borrow.{Bor}
 use Rattle.std.specs.List.{list_any}
 use Rattle.std.specs.Option.{option_map_or}
 use Rattle.std.specs.Str.{bytes_eq}
+use Rattle.std.proofs.Math.Bool.{and-or_distrib_left, and_assoc, or_assoc}
 use Rattle.std.proofs.lemmas.Bool.{cases_lt, le-ltb}
+use Rattle.td_text.proofs.Anywhere.{any-same}
+use Rattle.td_text.proofs.Chain.{list_any-map}
 use Rattle.td_relation.specs.Asked.{Asked, asked}
 use Rattle.td_relation.specs.declared.relation.Alternative.{Alternative}
 use Rattle.td_indices.specs.Archive.{Contents, is_of, number_named}
@@ -22,8 +25,7 @@ use Rattle.td_waves.specs.Edges.{name_at}
 use Rattle.td_waves.specs.Named.{is_other, texts}
 use Rattle.td_waves.specs.Providers.{passes_under, some_below, some_passes, under}
 use Rattle.td_waves.proofs.Names.{other_is}
-use Rattle.td_waves.proofs.Passing.{and-assoc, and-or, any-map, any-same, any-under, next_below}
-use Rattle.td_waves.proofs.Passing.{or-assoc}
+use Rattle.td_waves.proofs.Passing.{any-under, next_below}
 
 pub ok_then : {T E : Type 0} (r : Result T E) (P Q : T → Type 0) → IfOk r P → ((v : T) → P v → Q v)
     → IfOk r Q
@@ -37,14 +39,11 @@ pub taken_asked : (F : Asked → Bool) (old now : Bool) (m : List Alternative)
     || list_any (λ x. F (asked x)) m) → (now || some_asked F rest) ≡ (old || some_asked F left)
 taken_asked F old now m left rest is e =
     ap (λ b. b || some_asked F rest) e
-    ∙ or-assoc old (list_any (λ x. F (asked x)) m) (some_asked F rest)
-    ∙ ap (λ b. old || (b || some_asked F rest)) (sym (any-map F asked m))
+    ∙ or_assoc old (list_any (λ x. F (asked x)) m) (some_asked F rest)
+    ∙ ap (λ b. old || (b || some_asked F rest)) (sym (list_any-map F asked m))
     ∙ ap (λ l. old || some_asked F l) (sym is)
 
 -- ---- one source more
-
-add_one : (n : ℕ) → n + 1 ≡ suc n
-add_one n = omega arith
 
 pub below_more : (a : Contents) (names : List (List ℕ)) (q : List ℕ) (test : Provider → Bool)
     (n : ℕ) (name : List ℕ) (now old : Bool) → slice_index_or names n [] ≡ name
@@ -53,7 +52,7 @@ pub below_more : (a : Contents) (names : List (List ℕ)) (q : List ℕ) (test :
 below_more a names q test n name now old is e h =
     e ∙ ap (λ b. b || some_passes a q test name n) h
     ∙ ap (λ s. some_below a names q test n || some_passes a q test s n) (sym is)
-    ∙ ap (λ k. some_below a names q test k) (sym (add_one n))
+    ∙ ap (λ k. some_below a names q test k) (sym (add-one n))
 
 -- ---- the packages of one source
 
@@ -100,7 +99,7 @@ one_source a q other fit t name j =
     ∙ swap (is_of name b) c (list_any (λ n. bytes_eq q n && fit b.head.home) (offered_names b)))
     ∙ any-under c (λ b. is_of name b && list_any (λ n. bytes_eq q n && fit b.head.home)
     (offered_names b)) a.binaries
-    ∙ and-assoc (j == t) (other j) (some_fits a q fit name)
+    ∙ and_assoc (j == t) (other j) (some_fits a q fit name)
 
 below_is : (a : Contents) (names : List (List ℕ)) (q : List ℕ) (other : ℕ → Bool)
     (fit : Option ℕ → Bool) (t n : ℕ) → some_below a names q (base_test other fit t) n
@@ -114,7 +113,7 @@ below_is a names q other fit t (suc n) =
     ∙ ap (λ b. (nat_lt t n && (other t && some_fits a q fit (slice_index_or names t []))) || b)
     (one_source a q other fit t (slice_index_or names n []) n)
     ∙ next_below t n (λ j. other j && some_fits a q fit (slice_index_or names j []))
-    ∙ ap (λ k. nat_lt t k && (other t && some_fits a q fit (slice_index_or names t []))) (add_one n)
+    ∙ ap (λ k. nat_lt t k && (other t && some_fits a q fit (slice_index_or names t []))) (add-one n)
 
 -- ---- all
 
@@ -126,7 +125,7 @@ other_there : (names : List (Bor (List ℕ))) (own : List ℕ) (t : ℕ) (s : Bo
     → (nat_lt t (length names) && (is_other names own t && s)) ≡ (is_there names own t && s)
 other_there names own t s = elim (cases_lt t (length names)) [
   | inl lt ↦ ap (λ b. nat_lt t (length names) && (b && s)) (other_is names own t lt)
-      ∙ sym (and-assoc (nat_lt t (length names)) (not (bytes_eq own (name_at names t))) s)
+      ∙ sym (and_assoc (nat_lt t (length names)) (not (bytes_eq own (name_at names t))) s)
   | inr le ↦ ap (λ b. b && (is_other names own t && s)) (le-ltb t (length names) le)
       ∙ sym (ap (λ b. (b && not (bytes_eq own (name_at names t))) && s)
       (le-ltb t (length names) le))
@@ -167,13 +166,13 @@ finds_is w t index =
     (some_under c (is_found w t) G first (λ x. found_is w t x index))
     ∙ ap (λ b. (c && some_asked G first) || b)
     (some_under c (is_found w t) G for_arch (λ x. found_is w t x index))
-    ∙ and-or c (some_asked G first) (some_asked G for_arch)
+    ∙ sym (and-or_distrib_left c (some_asked G first) (some_asked G for_arch))
 
 pub builds_is : (a : Contents) (names : List (Bor (List ℕ))) (own s : List ℕ) (number t : ℕ)
     → s ≡ own → number_named a own ≡ Some number → (is_there names own t && asks a
     (name_at names t) number) ≡ (nat_lt t (length names) && builds_on a s (name_at names t))
 builds_is a names own s number t is e =
-    and-assoc (nat_lt t (length names)) (not (bytes_eq own (name_at names t)))
+    and_assoc (nat_lt t (length names)) (not (bytes_eq own (name_at names t)))
     (asks a (name_at names t) number)
     ∙ ap (λ o. nat_lt t (length names) &&
     (not (bytes_eq own (name_at names t)) && option_map_or (asks a (name_at names t)) o false))

@@ -1,10 +1,9 @@
 -- Lists of a graph, one node more.
-use Rattle.std.proofs.Common.{◌≡◌, ◌<◌, ◌+◌, ◌&&◌, ◌==◌, ℕ, zero, suc, Bool, true, false, List}
-use Rattle.std.proofs.Common.{[], ◌∷◌, ◌++◌, length, get_or, nat_lt, ltb, refl, sym, ap, ◌∙◌}
+use Rattle.std.proofs.Common.{◌≡◌, ◌<◌, ◌+◌, ◌&&◌, ◌==◌, ℕ, zero, suc, Bool, true, List}
+use Rattle.std.proofs.Common.{[], ◌∷◌, ◌++◌, length, get_or, nat_lt, refl, sym, ap, ◌∙◌}
 use Rattle.std.proofs.Common.{inl, inr, arith}
 use Rattle.std.specs.Global.{Vec}
-use Rattle.std.proofs.lemmas.Bool.{cases_lt, false≢true, ltb-true}
-use Rattle.std.proofs.lemmas.Bool.Decides.{eqb_tells}
+use Rattle.std.proofs.lemmas.Bool.{and_parts, cases_lt, eq-eqb, ltb-true}
 use Rattle.std.proofs.lemmas.List.{get_or-map}
 use Rattle.td_waves.specs.Asking.{has}
 use Rattle.td_waves.specs.Graph.{bases_of, lists}
@@ -35,13 +34,6 @@ node_more P graph new v n is len before here s t lt = elim (cases_lt s n) [
       (list_last graph v s (omega (arith, last, len))) ∙ here t ∙ ap (λ k. P k t) (sym last)
 ]
 
-and_left : (a b : Bool) → (a && b) ≡ true → a ≡ true
-and_left true b h = refl
-and_left false b h = absurd (false≢true h)
-
-itself : (n : ℕ) → (n == n) ≡ true
-itself n = elim (eqb_tells n n) [ inl p ↦ p.0 | inr p ↦ absurd (p.1 refl) ]
-
 -- what the lists have is in range
 pub in_range : (P : ℕ → ℕ → Bool) (graph : List (Vec ℕ)) (n : ℕ) → length graph ≡ n
     → ((s t : ℕ) → s < n → has t (bases_of (lists graph) s) ≡ (nat_lt t n && P s t))
@@ -51,7 +43,7 @@ in_range P graph n len edges k d lt i e at =
     let xs = (get_or graph k d).items in
     let b = get_or xs i e in
     let its : bases_of (lists graph) k ≡ xs = get_or-map (λ (v : Vec ℕ). v.items) graph k d [] lt in
-    let here : has b xs ≡ true = any-at (λ x. x == b) xs i e at (itself b) in
+    let here : has b xs ≡ true = any-at (λ x. x == b) xs i e at (eq-eqb b b refl) in
     let both : (nat_lt b n && P k b) ≡ true = sym (edges k b (omega (arith, lt, len)))
     ∙ ap (has b) its ∙ here in
-    omega (arith, len, ltb-true b n (and_left (nat_lt b n) (P k b) both))
+    omega (arith, len, ltb-true b n (and_parts (nat_lt b n) (P k b) both).0)

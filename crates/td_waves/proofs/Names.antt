@@ -5,15 +5,15 @@ use Rattle.std.proofs.Common.{slice_get, if◌then◌else◌, refl, sym, ap, sub
 use Rattle.std.specs.Borrow.{Bor}
 use Rattle.std.specs.List.{list_any}
 use Rattle.std.specs.Str.{bytes_eq}
+use Rattle.std.proofs.lemmas.Bool.{or_right}
 use Rattle.std.proofs.lemmas.List.{take_all}
 use Rattle.std.proofs.lemmas.List.Folds.{list_any_more}
 use Rattle.std.proofs.lemmas.Slice.Eq.{bytes_eq-Decides}
+use Rattle.td_text.proofs.Anywhere.{any-push}
+use Rattle.td_text.proofs.SameTexts.{same_text}
 use Rattle.td_waves.specs.Edges.{name_at}
 use Rattle.td_waves.specs.Named.{is_among, is_other, number_among}
-use Rattle.td_waves.proofs.Passing.{any-push, first_place, no_place}
-
-same_text : (a b : List ℕ) → bytes_eq a b ≡ true → a ≡ b
-same_text a b h = (bytes_eq-Decides a b).0 h
+use Rattle.td_waves.proofs.Passing.{first_place, no_place}
 
 itself : (a : List ℕ) → bytes_eq a a ≡ true
 itself a = (bytes_eq-Decides a a).1 refl
@@ -58,12 +58,8 @@ pub among_at : (names : List (Bor (List ℕ))) (n : ℕ) → n < length names
     → is_among names (name_at names n) ≡ true
 among_at [] n lt = absurd (omega arith)
 among_at (x ∷ xs) zero lt = ap (λ b. b || is_among xs x.now) (itself x.now)
-among_at (x ∷ xs) (suc n) lt = behind (bytes_eq (name_at xs n) x.now) (is_among xs (name_at xs n))
-    (among_at xs n (omega arith))
-  where
-    behind : (b c : Bool) → c ≡ true → (b || c) ≡ true
-    behind true c h = refl
-    behind false c h = h
+among_at (x ∷ xs) (suc n) lt = or_right (bytes_eq (name_at xs n) x.now)
+    (is_among xs (name_at xs n)) (among_at xs n (omega arith))
 
 pub other_is : (names : List (Bor (List ℕ))) (own : List ℕ) (n : ℕ) → n < length names
     → is_other names own n ≡ not (bytes_eq own (name_at names n))

@@ -1,70 +1,24 @@
 -- Whether some item of a list passes a test, and which is the first.
 use Rattle.std.proofs.Common.{◌≡◌, ◌<◌, ◌+◌, ◌==◌, ◌||◌, ◌&&◌, ℕ, zero, suc, Bool, true, false}
-use Rattle.std.proofs.Common.{cond, List, [], ◌∷◌, ◌++◌, Some, None, map, length}
-use Rattle.std.proofs.Common.{get_or, slice_get, nat_lt, ltb, eqb, refl, sym, ap, ◌∙◌, inl, inr}
+use Rattle.std.proofs.Common.{cond, List, [], ◌∷◌, Some, None, length}
+use Rattle.std.proofs.Common.{get_or, slice_get, nat_lt, refl, sym, ap, ◌∙◌, inl, inr}
 use Rattle.std.proofs.Common.{arith}
-use Rattle.std.specs.List.{list_any, position, position_from, range_with_len, Contains}
-use Rattle.std.proofs.lemmas.Bool.{cases_Bool, cases_lt, lt-ltb, le-ltb, false≢true}
+use Rattle.std.specs.List.{list_any, position, position_from, Contains}
+use Rattle.std.proofs.Math.Bool.{or-false}
+use Rattle.std.proofs.lemmas.Bool.{cases_Bool, cases_lt, lt-ltb, le-ltb, eq-eqb, false≢true}
+use Rattle.std.proofs.lemmas.Bool.{or_parts}
 use Rattle.std.proofs.lemmas.Bool.Decides.{eqb_tells}
 use Rattle.std.proofs.lemmas.Iterator.Adapters.{position_from-zero}
-use Rattle.std.proofs.lemmas.List.FromFn.{get_or-range_with_len, length-range_with_len}
-
-pub or-assoc : (a b c : Bool) → ((a || b) || c) ≡ (a || (b || c))
-or-assoc true b c = refl
-or-assoc false b c = refl
-
-pub or-false : (a : Bool) → (a || false) ≡ a
-or-false true = refl
-or-false false = refl
-
-pub and-or : (c a b : Bool) → ((c && a) || (c && b)) ≡ (c && (a || b))
-and-or true a b = refl
-and-or false a b = refl
-
-pub and-assoc : (a b c : Bool) → ((a && b) && c) ≡ (a && (b && c))
-and-assoc true b c = refl
-and-assoc false b c = refl
-
-pub any-same : {A : Type 0} (f g : A → Bool) (xs : List A) → ((x : A) → f x ≡ g x)
-    → list_any f xs ≡ list_any g xs
-any-same f g [] e = refl
-any-same f g (x ∷ xs) e = ap (λ b. b || list_any f xs) (e x)
-    ∙ ap (λ b. g x || b) (any-same f g xs e)
 
 pub any-none : {A : Type 0} (f : A → Bool) (xs : List A) → ((x : A) → f x ≡ false)
     → list_any f xs ≡ false
 any-none f [] e = refl
 any-none f (x ∷ xs) e = ap (λ b. b || list_any f xs) (e x) ∙ any-none f xs e
 
-pub any-map : {A B : Type 0} (f : B → Bool) (g : A → B) (xs : List A)
-    → list_any f (map g xs) ≡ list_any (λ x. f (g x)) xs
-any-map f g [] = refl
-any-map f g (x ∷ xs) = ap (λ b. f (g x) || b) (any-map f g xs)
-
 pub any-under : {A : Type 0} (c : Bool) (f : A → Bool) (xs : List A)
     → list_any (λ x. c && f x) xs ≡ (c && list_any f xs)
 any-under true f xs = refl
 any-under false f xs = any-none (λ x. false) xs (λ x. refl)
-
-pub any-push : {A : Type 0} (f : A → Bool) (xs : List A) (x : A)
-    → list_any f (xs ++ x ∷ []) ≡ (list_any f xs || f x)
-any-push f [] x = or-false (f x)
-any-push f (y ∷ ys) x = ap (λ b. f y || b) (any-push f ys x)
-    ∙ sym (or-assoc (f y) (list_any f ys) (f x))
-
-pub range-more : (a n : ℕ) → range_with_len a (suc n) ≡ range_with_len a n ++ (a + n) ∷ []
-range-more a zero = ap (λ k. k ∷ []) (omega arith)
-range-more a (suc n) = ap (λ l. a ∷ l)
-    (range-more (a + 1) n ∙ ap (λ k. range_with_len (a + 1) n ++ k ∷ []) (omega arith))
-
-pub any-range : (f : ℕ → Bool) (n : ℕ)
-    → list_any f (range_with_len 0 (n + 1)) ≡ (list_any f (range_with_len 0 n) || f n)
-any-range f n =
-    let one : n + 1 ≡ suc n = omega arith in
-    let it : 0 + n ≡ n = omega arith in
-    ap (λ k. list_any f (range_with_len 0 k)) one
-    ∙ ap (list_any f) (range-more 0 n ∙ ap (λ k. range_with_len 0 n ++ k ∷ []) it)
-    ∙ any-push f (range_with_len 0 n) n
 
 -- ---- the first that passes
 
@@ -75,10 +29,6 @@ behind_none false c e h = h
 before_none : (b c : Bool) → b ≡ true → (b || c) ≡ false → ⊥
 before_none true c e h = false≢true (sym h)
 before_none false c e h = false≢true e
-
-none_behind : (b c : Bool) → b ≡ false → (b || c) ≡ false → c ≡ false
-none_behind true c e h = absurd (false≢true (sym e))
-none_behind false c e h = h
 
 -- of two, the one that a test that fails leaves
 left : {A : Type 0} (b : Bool) (x y z : A) → b ≡ false → y ≡ z → cond b x y ≡ z
@@ -123,7 +73,7 @@ from_none t n [] h = refl
 from_none t n (x ∷ xs) h = elim (cases_Bool (t x)) [
   | inl is ↦ absurd (before_none (t x) (list_any t xs) is h)
   | inr other ↦ left (t x) (Some n) (position_from t (n + 1) xs) None other
-      (from_none t (n + 1) xs (none_behind (t x) (list_any t xs) other h))
+      (from_none t (n + 1) xs (or_parts (t x) (list_any t xs) h).1)
 ]
 
 pub first_place : {A : Type 0} (t : A → Bool) (xs : List A) → list_any t xs ≡ true
@@ -147,19 +97,6 @@ any-at t (x ∷ xs) (suc i) d lt h = elim (cases_Bool (t x)) [
   | inr other ↦ rw other (any-at t xs i d (omega arith) h)
 ]
 
--- ---- places
-
-pub any-in-range : (f : ℕ → Bool) (n place : ℕ) → place < n → f place ≡ true
-    → list_any f (range_with_len 0 n) ≡ true
-any-in-range f n place lt h =
-    let it : 0 + place ≡ place = omega arith in
-    any-at f (range_with_len 0 n) place 0 (omega (arith, lt, length-range_with_len 0 n))
-    (ap f (get_or-range_with_len 0 n place 0 lt ∙ it) ∙ h)
-
-pub none-more : (f : ℕ → Bool) (n : ℕ) → list_any f (range_with_len 0 n) ≡ false → f n ≡ false
-    → list_any f (range_with_len 0 (n + 1)) ≡ false
-none-more f n h g = any-range f n ∙ ap (λ b. b || f n) h ∙ g
-
 -- ---- numbers in a list
 
 pub has-Contains : (xs : List ℕ) (y : ℕ) → list_any (λ x. x == y) xs ≡ true → Contains xs y
@@ -172,10 +109,7 @@ has-Contains (x ∷ xs) y h = elim (eqb_tells x y) [
 ]
 
 pub Contains-has : (xs : List ℕ) (y : ℕ) → Contains xs y → list_any (λ x. x == y) xs ≡ true
-Contains-has xs y h = any-at (λ x. x == y) xs h.0 y h.1 (ap (λ x. x == y) h.2 ∙ same y)
-  where
-    same : (n : ℕ) → (n == n) ≡ true
-    same n = elim (eqb_tells n n) [ inl p ↦ p.0 | inr p ↦ absurd (p.1 refl) ]
+Contains-has xs y h = any-at (λ x. x == y) xs h.0 y h.1 (ap (λ x. x == y) h.2 ∙ eq-eqb y y refl)
 
 -- ---- at the next number
 

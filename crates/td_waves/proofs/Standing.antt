@@ -1,16 +1,16 @@
 -- Where the numbers of affected sources stand, there stand the sources.
-use Rattle.std.proofs.Common.{◌≡◌, ◌&&◌, ℕ, Bool, true, false, List, Option, Some}
-use Rattle.std.proofs.Common.{None, length, nat_lt, sym, ap, subst, ◌∙◌, inl, inr, arith}
+use Rattle.std.proofs.Common.{◌≡◌, ℕ, true, List, Option, Some}
+use Rattle.std.proofs.Common.{None, length, nat_lt, sym, subst, ◌∙◌, inl, inr, arith}
 use Rattle.std.specs.Borrow.{Bor}
 use Rattle.std.specs.Global.{Vec}
 use Rattle.std.specs.Option.{option_map_or}
-use Rattle.std.proofs.lemmas.Bool.{cases_Bool, false≢true, lt-ltb}
+use Rattle.std.proofs.lemmas.Bool.{and_from, and_parts, cases_Bool, false≢true, lt-ltb}
 use Rattle.std.proofs.lemmas.List.{length-map}
+use Rattle.td_text.proofs.Chain.{no_value}
 use Rattle.td_indices.specs.Archive.{Contents}
 use Rattle.td_waves.specs.declared.level.Level.{Level}
 use Rattle.td_waves.specs.declared.level.Level.TheVariants.{At}
 use Rattle.td_waves.specs.declared.placing.Levelling.{Levelling}
-use Rattle.td_waves.specs.Asking.{has}
 use Rattle.td_waves.specs.BuildsOn.{builds_on}
 use Rattle.td_waves.specs.Edges.{AreEdges, name_at}
 use Rattle.td_waves.specs.Graph.{BuildsOn as GraphBuildsOn, IsNode, bases_of, lists}
@@ -22,14 +22,6 @@ use Rattle.td_waves.proofs.Along.{StandFor}
 use Rattle.td_waves.proofs.Names.{among_at, no_number, number_of}
 use Rattle.td_waves.proofs.SameLevel.{is_affected, same_level, stands-for}
 use Rattle.td_waves.proofs.Passing.{Contains-has, has-Contains}
-
-and_right : (a b : Bool) → (a && b) ≡ true → b ≡ true
-and_right true b h = h
-and_right false b h = absurd (false≢true h)
-
-both : (a b : Bool) → a ≡ true → b ≡ true → (a && b) ≡ true
-both true b h g = g
-both false b h g = absurd (false≢true h)
 
 stand_for : (a : Contents) (affected keys : List (Bor (List ℕ))) (graph : List (Vec ℕ))
     → ((q : List ℕ) → is_among keys q ≡ is_among affected q) → AreEdges a keys graph
@@ -48,10 +40,10 @@ stand_for a affected keys graph same edges =
           let b = builds_on a (name_at keys i) (name_at keys j) in
           let below : nat_lt j (length keys) ≡ true =
           lt-ltb j (length keys) (omega (arith, nj, size)) in (
-            λ h. and_right (nat_lt j (length keys)) b
-                (sym its ∙ Contains-has (bases_of (lists graph) i) j h),
+            λ h. (and_parts (nat_lt j (length keys)) b
+                (sym its ∙ Contains-has (bases_of (lists graph) i) j h)).1,
             λ h. has-Contains (bases_of (lists graph) i) j
-                (its ∙ both (nat_lt j (length keys)) b below h),
+                (its ∙ and_from (nat_lt j (length keys)) b below h),
           );
     }
 
@@ -84,10 +76,7 @@ sources_stand a affected keys graph levels same edges stand source =
 
 of_number : (f : ℕ → Option Level) (o : Option ℕ) (l : Level) → option_map_or f o None ≡ Some l
     → (i : ℕ) × (f i ≡ Some l)
-of_number f None l e = absurd (nothing l e)
-  where
-    nothing : (l : Level) → ◌≡◌ {A = Option Level} None (Some l) → ⊥
-    nothing l e = absurd cc
+of_number f None l e = no_value l e
 of_number f (Some i) l e = (i, e)
 
 pub sources_deep : (a : Contents) (affected keys : List (Bor (List ℕ))) (graph : List (Vec ℕ))

@@ -5,20 +5,13 @@ use Rattle.std.proofs.Common.{arith, string_bytes}
 use Rattle.std.specs.List.{list_any, slice_get}
 use Rattle.std.specs.Str.{bytes_eq}
 use Rattle.std.proofs.lemmas.Bool.{ne_eqb}
-use Rattle.std.proofs.lemmas.Bool.Decides.{same_from_decides}
 use Rattle.std.proofs.lemmas.List.{take_more}
 use Rattle.std.proofs.lemmas.List.Folds.{list_any-append}
-use Rattle.std.proofs.lemmas.Slice.Eq.{bytes_eq-Decides}
+use Rattle.std.proofs.Math.Bool.{or-false}
+use Rattle.td_text.proofs.SameTexts.{bytes_eq-swap}
 use Rattle.td_wbread.specs.declared.command.Package.{Package}
 use Rattle.td_wbread.specs.declared.places.Places.{Places}
 use Rattle.td_wbread.specs.inner.Places.{FindsPackages, places_of}
-
-bytes_eq-swap : (a b : List ℕ) → bytes_eq a b ≡ bytes_eq b a
-bytes_eq-swap a b =
-    let one = bytes_eq-Decides a b in
-    let other = bytes_eq-Decides b a in
-    same_from_decides {P = a ≡ b} (bytes_eq a b) (bytes_eq b a) one
-    (λ h. sym (other.0 h), λ e. other.1 (sym e))
 
 -- the places find the first packages of these
 abbrev pub FindsFirst : ℕ → List Package → Places → Type 0
@@ -29,11 +22,7 @@ FindsFirst count packages places = (source : List ℕ) (test : Option Package �
 either : (test : ℕ → Bool) (old : List ℕ) (place : ℕ) (same : Bool) → list_any test
     (cond same (old ++ place ∷ []) old) ≡ (list_any test old || ((same && test place) || false))
 either test old place true = list_any-append test old (place ∷ [])
-either test old place false = by (list_any test old)
-  where
-    by : (b : Bool) → b ≡ (b || (false || false))
-    by true = refl
-    by false = refl
+either test old place false = sym (or-false (list_any test old))
 
 pub find_more : (packages : List Package) (old new : Places) (place : ℕ) (item : Package) → place
     < length packages → item ≡ get_or packages place item → slice_get packages place ≡ Some item

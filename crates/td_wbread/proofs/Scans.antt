@@ -6,7 +6,7 @@ use Rattle.std.specs.List.{list_all, list_any, slice_split, onto_first}
 use Rattle.std.proofs.lemmas.Bool.Decides.{nat_tests}
 use Rattle.std.proofs.lemmas.List.Folds.{list_any-append}
 use Rattle.std.proofs.Math.Dec.{eqb-suc-zero}
-use Rattle.std.proofs.lemmas.Bool.{and_parts}
+use Rattle.std.proofs.lemmas.Bool.{and_parts, or_from}
 use Rattle.std.proofs.Math.Bool.{or-true}
 use Rattle.td_text.specs.Runs.{is_space, run, trimmed}
 use Rattle.td_text.proofs.RunTexts.{run_passes, run_joined}
@@ -16,7 +16,7 @@ use Rattle.td_wbread.specs.Words.{Mark, gap, plain, quote, unclosed, is_quote, c
 use Rattle.td_wbread.specs.Words.{is_gap, is_unclosed, word_of, words_in, placed, words_from}
 use Rattle.td_wbread.specs.Words.{words_of, open_at, end_with, end_of}
 use Rattle.td_wbread.specs.Taking.{IsTaken, IsSeen, IsOpen, EndsWord}
-use Rattle.td_wbread.proofs.Takes.{neither, run_ends}
+use Rattle.td_wbread.proofs.Takes.{run_ends}
 
 -- ---- gaps
 
@@ -279,7 +279,7 @@ unfolding placed
 open_words place rest quote_place o =
     let piece : List Mark = o.front ++ unclosed ∷ [] in
     let one : list_any is_gap piece ≡ false = list_any-append is_gap o.front (unclosed ∷ [])
-    ∙ neither _ _ o.taken.one refl in
+    ∙ or_from _ _ o.taken.one refl in
     let still : list_any is_unclosed piece ≡ true = list_any-append is_unclosed o.front
     (unclosed ∷ []) ∙ or-true (list_any is_unclosed o.front) in
     ap (λ (ms : List Mark). placed place (slice_split is_gap ms)) (open_marks rest quote_place o)

@@ -4,7 +4,7 @@ use Rattle.std.proofs.Common.{eqb, ◌||◌, List, [], ◌∷◌, ◌++◌, Opti
 use Rattle.std.proofs.Common.{drop, refl, sym, ap, ◌∙◌, subst, arith, append_assoc}
 use Rattle.std.proofs.Common.{append-nil, length-append}
 use Rattle.std.specs.List.{prefix_len, list_all, list_any}
-use Rattle.std.proofs.lemmas.Bool.{eqb-true, and_parts}
+use Rattle.std.proofs.lemmas.Bool.{eqb-true, and_parts, or_from}
 use Rattle.std.proofs.lemmas.Bool.Decides.{nat_tests}
 use Rattle.std.proofs.lemmas.List.{length-map}
 use Rattle.std.proofs.lemmas.List.Folds.{list_any-append}
@@ -118,11 +118,6 @@ text_of-marked mark same (b ∷ text) = rw (same b, text_of-marked mark same tex
 
 -- ---- a piece more
 
-pub neither : (a b : Bool) → a ≡ false → b ≡ false → (a || b) ≡ false
-neither false false x y = refl
-neither true b x y = absurd cc
-neither false true x y = absurd cc
-
 or_none : (a b : Bool) → b ≡ false → (a || b) ≡ a
 or_none true b h = refl
 or_none false b h = h
@@ -135,10 +130,10 @@ more : (text : List ℕ) (front : List Mark) (rest : List ℕ) (piece : List Mar
 more text front rest piece after t p = record {
   marked = t.marked ∙ ap (λ (ms : List Mark). front ++ ms) p.marked
       ∙ sym (append_assoc front piece (marks None after));
-  one = list_any-append is_gap front piece ∙ neither _ _ t.one p.one;
-  closed = list_any-append is_unclosed front piece ∙ neither _ _ t.closed p.closed;
+  one = list_any-append is_gap front piece ∙ or_from _ _ t.one p.one;
+  closed = list_any-append is_unclosed front piece ∙ or_from _ _ t.closed p.closed;
   one_line = ap has_newline (joined_text front piece) ∙ list_any-append (λ b. eqb b 10)
-      (text_of front) (text_of piece) ∙ neither _ _ t.one_line p.one_line;
+      (text_of front) (text_of piece) ∙ or_from _ _ t.one_line p.one_line;
   long = (let l = t.long in let m = p.long in simp length-append (omega arith));
 }
 
@@ -147,7 +142,7 @@ plain_line [] h = refl
 plain_line (b ∷ text) h =
     let p = and_parts (is_plain b) (list_all is_plain text) h in
     let first : eqb b 10 ≡ false = grind (arith, nat_tests, p.0) in
-    neither _ _ first (plain_line text p.1)
+    or_from _ _ first (plain_line text p.1)
 
 -- a run of bytes that stand for themselves
 pub is_run : (rest : List ℕ) → IsTaken rest (map plain (run is_plain rest)) (behind is_plain rest)
@@ -207,9 +202,9 @@ is_between q text inside after is h =
           ∙ ap (λ (ms : List Mark). quote ∷ ms) (quoted_marks q inside after c.2
           ∙ sym (append_assoc (map quoted inside) (quote ∷ []) (marks None after)));
       one = list_any-append is_gap (map quoted inside) (quote ∷ [])
-          ∙ neither _ _ (list_any-marked is_gap quoted (λ b. refl) inside) refl;
+          ∙ or_from _ _ (list_any-marked is_gap quoted (λ b. refl) inside) refl;
       closed = list_any-append is_unclosed (map quoted inside) (quote ∷ [])
-          ∙ neither _ _ (list_any-marked is_unclosed quoted (λ b. refl) inside) refl;
+          ∙ or_from _ _ (list_any-marked is_unclosed quoted (λ b. refl) inside) refl;
       one_line = ap has_newline (between_text inside) ∙ c.3;
       long =
           (let a : length text ≡ length inside + suc (length after) = ap length c.1

@@ -16,7 +16,7 @@ use Rattle.td_text.specs.Chain.{◌>>=◌}
 use Rattle.td_text.specs.Cut.{strip}
 use Rattle.td_text.specs.Numbers.{number_at}
 use Rattle.td_text.proofs.Chain.{chained, guard, ok_is, some_is, when_some}
-use Rattle.td_text.proofs.Numbers.{number_exact, own}
+use Rattle.td_text.proofs.Numbers.{decimal_model, number_exact}
 use Rattle.td_text.proofs.Prefix.{strip_again, strip_found, strip_none}
 use Rattle.td_wbread.specs.declared.command.Verb.{Verb}
 use Rattle.td_wbread.specs.declared.command.Verb.TheVariants.{Gb, Nmu, Bp, Dw}
@@ -213,7 +213,7 @@ number_found end number rest n is on =
     let ge = is.positive in
     let small : n < 2 ^ 64 = omega arith in
     let digits : AreDigits number.text = subst AreDigits (sym is.written)
-    (record { some = decimal_nonempty n small; digits = digits_decimal own n small }) in
+    (record { some = decimal_nonempty n small; digits = digits_decimal decimal_model n small }) in
     let read : number_at 9999 number.text ≡ Some n = ap (number_at 9999) is.written
     ∙ (number_exact 9999 (lit< tt)).again n le in
     rw (digits_found number.text digits, on_found end rest on, read, ne_eqb n 0 (λ e. omega arith))

@@ -12,10 +12,11 @@ use Rattle.td_rows.specs.Table.{keys_of}
 use Rattle.td_change.specs.Plans.{plan_of, left}
 use Rattle.td_change.proofs.Plans.{left-plan_of}
 use Rattle.td_core.specs.History.{rows_of, with_entry}
+use Rattle.td_core.proofs.Worlds.{rows_of-with_entry}
 use Rattle.td_book.specs.Seen.{seen_off}
 use Rattle.td_book.specs.Desk.{InnerModel, HasOne}
 use Rattle.td_book.specs.Building.{head_key, by_in, ended_in}
-use Rattle.td_book.proofs.Steps.{rows_with, up_now}
+use Rattle.td_book.proofs.Steps.{up_now}
 use Rattle.td_book.proofs.Builds.{at_key_of, known_at, built_at, ended_off}
 use Rattle.td_book.proofs.inner.Inner.close.Goals as goal
 
@@ -76,7 +77,8 @@ offer_each-requires-clause-held c =
     up_now old.history (ap (λ (m : InnerModel). ascending (keys_of m.books.history.opening))
     (sym c.self.view_is) ∙ c.rows-rows.ensures.rising) in
     let rows = ap rows_of c.in_ok-n.ensures.history
-    ∙ rows_with old.history (record { kind = Ended (by_in kind) (ended_in kind); keys = k ∷ [] }) in
+    ∙ rows_of-with_entry old.history
+    (record { kind = Ended (by_in kind) (ended_in kind); keys = k ∷ [] }) in
     c.in_ok-n.ensures.view ∙ ap (λ (v : List RowView). set v i In) c.requires.rest
     ∙ ended_off (rows_of old.history) i k at.0 (by_in kind) (ended_in kind) up at.1
     ∙ ap (seen_off (k ∷ [])) (sym rows)

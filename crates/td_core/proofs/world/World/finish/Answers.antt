@@ -1,5 +1,5 @@
 -- `World::finish`: the clause `ok` and its type's invariant.
-use Rattle.std.proofs.Common.{◌≡◌, ◌-◌, List, Some, None, set, ap, sym, subst, ◌∙◌}
+use Rattle.std.proofs.Common.{◌≡◌, ◌-◌, List, Some, None, set, set-set, ap, sym, subst, ◌∙◌}
 use Rattle.td_rows.specs.declared.key.Key.{Key}
 use Rattle.td_change.specs.Saved.{number_of}
 use Rattle.td_core.specs.declared.step.Phase.TheVariants.{Done}
@@ -9,7 +9,7 @@ use Rattle.td_core.specs.declared.step.Step.TheVariants.{Finish}
 use Rattle.td_core.specs.declared.world.World.TheView.{view}
 use Rattle.td_core.specs.Worlds.{WorldView, held_in, hand_of, IsWorld}
 use Rattle.td_core.specs.Steps.{refusal}
-use Rattle.td_core.proofs.Phases.{slice_get-hand_of, set-set}
+use Rattle.td_core.proofs.Phases.{slice_get-hand_of}
 use Rattle.td_core.proofs.WorldSteps.{finishes, after-finish, IsWorld-finished}
 use Rattle.td_core.proofs.world.World.finish.Goals as goal
 use Rattle.td_core.proofs.world.World.finish.Goals.{in-Some-take_held}

@@ -2,8 +2,9 @@
 use Rattle.std.proofs.Common.{◌≡◌, ◌∙◌, ap, sym, true, false, length, rules, arith}
 use Rattle.std.specs.Prelude.{is_some}
 use Rattle.std.specs.List.{list_any, range_with_len}
+use Rattle.td_text.proofs.Anywhere.{any-below, none-more}
 use Rattle.td_query.specs.Statuses.{status_at}
-use Rattle.td_query.proofs.AffectedSources.{affected_by_place, any-below, none-more}
+use Rattle.td_query.proofs.AffectedSources.{affected_by_place}
 use Rattle.td_query.proofs.marks.Marks.is_affected.Goals as goal
 
 pub returns-then-is_some : goal.returns-then-is_some
