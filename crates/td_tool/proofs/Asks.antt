@@ -21,7 +21,8 @@ use Rattle.td_tool.specs.Checks.{Checks, files_of}
 use Rattle.td_tool.specs.Ends.{Ends}
 use Rattle.td_tool.specs.Explained.{archive_paths, known_at, known_input, run_paths}
 use Rattle.td_tool.specs.Explained.{track_paths, waves_paths}
-use Rattle.td_tool.specs.Program.{IsTold, OnlyIfAsked, RanFor, are_explained, files_asked}
+use Rattle.td_tool.specs.Program.{IsTold, LeavesInput, OnlyIfAsked, RanFor, are_explained}
+use Rattle.td_tool.specs.Program.{files_asked}
 use Rattle.td_tool.specs.Runs.{EndsRun, run_files_asked}
 use Rattle.td_tool.specs.Tracks.{EndsSo, track_files}
 use Rattle.td_tool.specs.Ran.{Ran}
@@ -167,16 +168,19 @@ module _ (words : List (List ℕ)) (known : Option (List ℕ)) (bytes : List ℕ
         only = λ x are. play_only w.builders x w.suite known NoMemory tt;
       })
 
-  pub only_asked : (r : Result Call WordsFault) → HasRun r → WasTold r
+  pub only_asked : (r : Result Call WordsFault) (left : Option (List ℕ)) → HasRun r → WasTold r
       → HasFlag (is_explained (options_of words)) r
+      → MatchResult r (λ c. LeavesInput c.request known left) (λ f. Keeps known left)
       → IfOk r (λ c. Asks words (request_words c.request))
-      → OnlyIfAsked words known bytes can_fail old new before said status
-  only_asked (Ok c) ran told flag asks =
+      → OnlyIfAsked words known left bytes can_fail old new before said status
+  only_asked (Ok c) left ran told flag input asks =
       inl (
         c.request,
         asks,
+        input,
         subst (λ b. RanFor c.request b known bytes can_fail old new before said status) flag ran,
       )
-  only_asked (Err (words_fault.Usage text)) ran told flag asks =
-      inr (inl (string_bytes text, told.tells), told.kept)
-  only_asked (Err words_fault.NoMemory) ran told flag asks = inr (inr told.tells, told.kept)
+  only_asked (Err (words_fault.Usage text)) left ran told flag input asks =
+      inr (inl (string_bytes text, told.tells), input, told.kept)
+  only_asked (Err words_fault.NoMemory) left ran told flag input asks =
+      inr (inr told.tells, input, told.kept)

@@ -2,7 +2,7 @@
 use Rattle.std.proofs.Common.{◌≡◌, ◌⊎◌, ◌≤◌, ℕ, Bool, true, false, List, [], length, Option}
 use Rattle.std.proofs.Common.{Some, None, IfSome, Result, Ok, Err, IfOk, IfErr, MatchResult, OnOk}
 use Rattle.std.proofs.Common.{OnErr, String, string_bytes, append-nil, inl, inr, refl, sym, subst}
-use Rattle.std.proofs.Common.{◌∙◌}
+use Rattle.std.proofs.Common.{◌∙◌, IsSomeAnd}
 use Rattle.std.specs.declared.alloc.Global.{Global}
 use Rattle.td_bytes.specs.Pieces.{AppendsPrefix}
 use Rattle.std.specs.Io.KnownBytes.{Appends, Keeps}
@@ -12,11 +12,12 @@ use Rattle.td_explain.specs.declared.spot.Place.{Place}
 use Rattle.td_explain.specs.declared.spot.Place.TheVariants.{Whole, Line, Stanza, Byte}
 use Rattle.td_words.specs.declared.request.Request.{Request}
 use Rattle.td_tool.specs.Ending.{line_of}
-use Rattle.td_tool.specs.Explained.{Explains, HasNone, IsKept, IsLookedAt, SaysAll, SaysOf}
-use Rattle.td_tool.specs.Explained.{fault_line, line_if}
+use Rattle.td_tool.specs.Explained.{Causes, Explains, HasNone, IsKept, IsLookedAt, SaysAll, SaysOf}
+use Rattle.td_tool.specs.Explained.{TellsCause, TellsOwnCause, fault_line, line_if, paths_of}
+use Rattle.td_tool.specs.Explained.{unread_line}
 use Rattle.td_tool.specs.Places.{place_of}
-use Rattle.td_script.specs.declared.role.Role.{Role}
 use Rattle.td_tool.specs.declared.cause.Cause.{Cause}
+use Rattle.td_script.specs.declared.role.Role.{Role}
 use Rattle.td_tool.specs.declared.ending.Ended.{Ended}
 use Rattle.td_tool.specs.declared.ending.Ending.{Ending}
 use Rattle.td_tool.specs.declared.ending.Ending.TheVariants.{Done, Refused, BadInput, NoMemory}
@@ -47,6 +48,24 @@ some_line (BadInput r fault) known =
 some_line NoMemory known = ([], refl)
 some_line (CannotRead r) known = ([], (None, refl))
 some_line CannotWrite known = ([], refl)
+
+-- a cause that a path may have is some cause
+some_cause : (can_be : Causes) (path : Option (List ℕ)) (r : Role) (line : List ℕ)
+    → IsSomeAnd path (λ p. TellsCause can_be p r line)
+    → (cause : Option Cause) × (line ≡ unread_line r cause)
+some_cause can_be None r line told = absurd told
+some_cause can_be (Some p) r line told = (Some told.0, told.2)
+
+-- a line that tells such a cause explains that the file isn't read
+pub own_cause_explains : (can_be : Causes) (known : Role → Option (List ℕ)) (request : Request)
+    (r : Role) (made : Result (Option (String Global)) Unexplained)
+    → IfOk made (λ told. IfSome told (λ line. IsSomeAnd (paths_of request r)
+    (λ path. TellsCause can_be path r (string_bytes line))))
+    → IfOk made (λ told. IfSome told (λ line. Explains known (CannotRead r) (string_bytes line)))
+own_cause_explains can_be known request r (Ok (Some line)) told =
+    some_cause can_be (paths_of request r) r (string_bytes line) told
+own_cause_explains can_be known request r (Ok None) told = tt
+own_cause_explains can_be known request r (Err e) told = tt
 
 -- where only the line of the ending is said, or a front of it
 pub line_alone : (explained : Bool) (known : Role → Option (List ℕ)) (ending : Ending)
@@ -127,34 +146,39 @@ said_not Fails between said (Err e) q fails put left =
 
 -- behind the line of the ending
 module _ (known : Role → Option (List ℕ)) (ended : Ended) (request : Request)
-    (can_be : List ℕ → Option Cause → Bool) (before between said : Option (List ℕ)) where
+    (can_be : Causes) (before between said : Option (List ℕ)) where
   abbrev Explained : Result (Option (String Global)) Unexplained → Type 0
   Explained r = IfOk r (λ told. IfSome told (λ line.
       Explains known ended.ending (string_bytes line)))
 
+  abbrev Caused : Result (Option (String Global)) Unexplained → Type 0
+  Caused r = IfOk r (λ told. IfSome told (λ line.
+      TellsOwnCause can_be request ended.ending (string_bytes line)))
+
   -- all of it is
   pub said_whole : (r : Result (Option (String Global)) Unexplained)
       (q : Result (Unit {0}) Unexplained) → Appends before between (line_of ended.ending)
-      → Explained r → IfOk r (λ told. told ≡ None
+      → Explained r → Caused r → IfOk r (λ told. told ≡ None
       → HasNone can_be ended.ending ended.input request)
       → Put between said r q → Left between said r q
       → OnOk q (SaysAll true known can_be ended request before said)
-  said_whole (Ok (Some line)) (Ok u) first explained none put left =
+  said_whole (Ok (Some line)) (Ok u) first explained caused none put left =
       inl (
         string_bytes line,
         explained,
+        caused,
         Appends-trans before between said (line_of ended.ending) (string_bytes line) first put,
       )
-  said_whole (Ok None) (Ok u) first explained none put left =
+  said_whole (Ok None) (Ok u) first explained caused none put left =
       inr (
         none refl,
         subst (Appends before said) (append-nil (line_of ended.ending))
             (Appends-trans before between said (line_of ended.ending) [] first put),
       )
-  said_whole (Ok told) (Err e) first explained none put left = tt
-  said_whole (Err e) (Ok u) first explained none put left =
+  said_whole (Ok told) (Err e) first explained caused none put left = tt
+  said_whole (Err e) (Ok u) first explained caused none put left =
       (let other : Ok u ≡ Err e = left.0 in absurd cc)
-  said_whole (Err e) (Err f) first explained none put left = tt
+  said_whole (Err e) (Err f) first explained caused none put left = tt
 
   -- a front of it is
   pub said_front : (r : Result (Option (String Global)) Unexplained)

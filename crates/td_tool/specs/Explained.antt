@@ -4,7 +4,6 @@ use Rattle.std.specs.Prelude.{IfSome, IsSome, IsSomeAnd, String, option_and_then
 use Rattle.std.specs.declared.alloc.Global.{Global}
 use Rattle.std.specs.Io.KnownBytes.{Appends}
 use Rattle.td_bytes.specs.Pieces.{AppendsPrefix}
-use Rattle.td_bytes.specs.declared.text.TextFault.{TextFault}
 use Rattle.td_explain.specs.declared.spot.Place.{Place}
 use Rattle.td_explain.specs.declared.spot.Place.TheVariants.{Whole, Line, Stanza, Byte}
 use Rattle.td_explain.specs.Explanation.{explanation}
@@ -13,7 +12,9 @@ use Rattle.td_words.specs.CommandLine.{RunWords, TrackWords}
 use Rattle.td_words.specs.declared.request.Request.{Request}
 use Rattle.td_words.specs.declared.request.Request.TheVariants as asked
 use Rattle.td_tool.specs.Ending.{line_of}
+use Rattle.td_tool.specs.Limits.{file_limit}
 use Rattle.td_tool.specs.Places.{place_of}
+use Rattle.td_tool.specs.Tracks.{MayFail, OneFile}
 use Rattle.td_script.specs.Faults.{label_of}
 use Rattle.td_tool.specs.Wanted.{wanted_file, wanted_input}
 use Rattle.td_script.specs.declared.role.Role.{Role}
@@ -184,45 +185,67 @@ abbrev pub IsUnseen : Place → Role → Option (String Global) → Request → 
 IsUnseen Whole role input request = ⊥
 IsUnseen place role input request = HasNoText role input request
 
+-- what may be known of why the file of a path can't be read, as a text of at most so many bytes
+abbrev pub Causes : Type 0
+Causes = List ℕ → ℕ → Option Cause → Bool
+
 -- there is no explanation to say: no text is refused or unread, that which is refused isn't at
 -- hand, or of that which is unread nothing more may be known
-abbrev pub HasNone : (List ℕ → Option Cause → Bool) → Ending → Option (String Global) → Request
-    → Type 0
+abbrev pub HasNone : Causes → Ending → Option (String Global) → Request → Type 0
 HasNone can_be (BadInput role fault) input request = IsUnseen (place_of fault) role input request
 HasNone can_be (CannotRead role) input request =
-    IfSome (paths_of request role) (λ path. can_be path None ≡ true)
+    IfSome (paths_of request role) (λ path. can_be path file_limit None ≡ true)
 HasNone can_be ending input request = Unit {0}
+
+-- a line tells a cause that there may be why the file of this path can't be read
+abbrev pub TellsCause : Causes → List ℕ → Role → List ℕ → Type 0
+TellsCause can_be path role line =
+    (cause : Cause) × (can_be path file_limit (Some cause) ≡ true)
+    × (line ≡ unread_line role (Some cause))
+
+-- of a file that isn't read a line tells such a cause of its own
+abbrev pub TellsOwnCause : Causes → Request → Ending → List ℕ → Type 0
+TellsOwnCause can_be request (CannotRead role) line =
+    IsSomeAnd (paths_of request role) (λ path. TellsCause can_be path role line)
+TellsOwnCause can_be request ending line = Unit {0}
 
 -- all is said: the line of the ending, and behind it, where that is asked for, the explanation, or
 -- nothing where there is none
-abbrev pub SaysAll : Bool → (Role → Option (List ℕ)) → (List ℕ → Option Cause → Bool) → Ended
-    → Request → Option (List ℕ) → Option (List ℕ) → Type 0
+abbrev pub SaysAll : Bool → (Role → Option (List ℕ)) → Causes → Ended → Request → Option (List ℕ)
+    → Option (List ℕ) → Type 0
 SaysAll false known can_be ended request said_before said =
     Appends said_before said (line_of ended.ending)
 SaysAll true known can_be ended request said_before said =
     ((line : List ℕ) × Explains known ended.ending line
+    × TellsOwnCause can_be request ended.ending line
     × Appends said_before said (line_of ended.ending ++ line))
     ⊎ (HasNone can_be ended.ending ended.input request
     × Appends said_before said (line_of ended.ending))
 
 -- why a line isn't made from a file: memory is wanting, or a read of it may fail so
-abbrev pub FailsAgain : (TextFault → Bool) → Unexplained → Type 0
-FailsAgain can_fail (unexplained.Unread why) = can_fail why ≡ true
-FailsAgain can_fail unexplained.NoMemory = Unit {0}
-FailsAgain can_fail unexplained.CannotWrite = ⊥
+abbrev pub FailsAgain : OneFile → Unexplained → Type 0
+FailsAgain file (unexplained.Unread why) = MayFail file why
+FailsAgain file unexplained.NoMemory = Unit {0}
+FailsAgain file unexplained.CannotWrite = ⊥
 
--- the same of a file that has this path
-abbrev pub FailsFor : (List ℕ → TextFault → Bool) → Option (List ℕ) → Unexplained → Type 0
-FailsFor can_fail path (unexplained.Unread why) = IsSomeAnd path (λ p. can_fail p why ≡ true)
-FailsFor can_fail path unexplained.NoMemory = Unit {0}
-FailsFor can_fail path unexplained.CannotWrite = ⊥
+-- the same of that among these files which has this path
+abbrev pub FailsFor : (List ℕ → OneFile) → Option (List ℕ) → Unexplained → Type 0
+FailsFor files path (unexplained.Unread why) = IsSomeAnd path (λ p. MayFail (files p) why)
+FailsFor files path unexplained.NoMemory = Unit {0}
+FailsFor files path unexplained.CannotWrite = ⊥
+
+-- the same of a fault at a place; where that is none in a text, memory alone may be wanting
+abbrev pub FailsThere : (List ℕ → OneFile) → Place → Option (List ℕ) → Unexplained → Type 0
+FailsThere files Whole path e = e ≡ unexplained.NoMemory
+FailsThere files place path e = FailsFor files path e
 
 -- the same of the refused text; of a file that isn't read memory alone is wanting, and of nothing
 -- else a line
-abbrev pub FailsOf : (List ℕ → TextFault → Bool) → Request → Ending → Unexplained → Type 0
-FailsOf can_fail request (BadInput role fault) e = FailsFor can_fail (paths_of request role) e
-FailsOf can_fail request (CannotRead role) e = e ≡ unexplained.NoMemory
-FailsOf can_fail request ending e = ⊥
+abbrev pub FailsOf : (List ℕ → OneFile) → Request → Ending → Unexplained → Type 0
+FailsOf files request (BadInput role fault) e =
+    FailsThere files (place_of fault) (paths_of request role) e
+FailsOf files request (CannotRead role) e = e ≡ unexplained.NoMemory
+FailsOf files request ending e = ⊥
 
 -- the bytes of a line, where there is one
 abbrev pub line_if : Option (String Global) → List ℕ

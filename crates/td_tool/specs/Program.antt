@@ -1,7 +1,7 @@
 -- What the program does for words: a subcommand that they ask for, or a text that says what is
 -- wrong. This project's own.
-use Rattle.std.specs.Prelude.{◌≡◌, ◌≢◌, ◌⊎◌, ℕ, List, Option, None, Bool, false, Result, Ok, Err}
-use Rattle.std.specs.Prelude.{String, Vec, map, codes, string_bytes}
+use Rattle.std.specs.Prelude.{◌≡◌, ◌≢◌, ◌⊎◌, ℕ, List, Option, None, Bool, true, false}
+use Rattle.std.specs.Prelude.{Result, Ok, Err, String, Vec, map, codes, string_bytes}
 use Rattle.std.specs.declared.alloc.Global.{Global}
 use Rattle.std.specs.declared.io.ErrorKind.{ErrorKind}
 use Rattle.std.specs.declared.io.ErrorKind.TheVariants.{OutOfMemory}
@@ -50,9 +50,19 @@ pub record IsTold (fault : WordsFault) (old new said_before said : Option (List 
   pub tells : TellsFault fault said_before said status
   pub kept : Keeps old new
 
+-- all that is said of it
+abbrev pub fault_text : WordsFault → List ℕ
+fault_text (words_fault.Usage text) = string_bytes text
+fault_text words_fault.NoMemory = line_of NoMemory
+
 -- what is said where a word isn't UTF-8
 abbrev pub no_words : List ℕ
 no_words = codes "error: a word of the command line is not UTF-8\n"
+
+-- all that is said of words that aren't read, for want of memory or else
+abbrev pub unread_text : Bool → List ℕ
+unread_text true = line_of NoMemory
+unread_text false = no_words
 
 -- what is said of words that aren't read, with an error of this kind
 pub record TellsUnread (kind : ErrorKind) (said_before said : Option (List ℕ))
@@ -103,12 +113,20 @@ RanFor request explained known bytes can_fail old new said_before said status =
     Ran (EndsFor request known bytes can_fail old new) explained
     (known_of_request request known bytes) said_before said status
 
--- they ask for this and it ran; all else is told, and writes nothing
-abbrev pub OnlyIfAsked : List (List ℕ) → Option (List ℕ) → (List ℕ → Option (List ℕ))
-    → (List ℕ → TextFault → Bool) → Option (List ℕ) → Option (List ℕ) → Option (List ℕ)
-    → Option (List ℕ) → ℕ → Type 0
-OnlyIfAsked words known bytes can_fail old new said_before said status =
-    ((request : Request) × Asks words (request_words request)
+-- standard input is read for a simulation and for a run alone: for all else it is left as it was
+abbrev pub LeavesInput : Request → Option (List ℕ) → Option (List ℕ) → Type 0
+LeavesInput Simulate known left = Unit {0}
+LeavesInput (Check files) known left = Keeps known left
+LeavesInput (Track r) known left = Keeps known left
+LeavesInput (Waves files tracker) known left = Keeps known left
+LeavesInput (Run r) known left = Unit {0}
+
+-- they ask for this and it ran; all else is told, reads nothing, and writes nothing
+abbrev pub OnlyIfAsked : List (List ℕ) → Option (List ℕ) → Option (List ℕ)
+    → (List ℕ → Option (List ℕ)) → (List ℕ → TextFault → Bool) → Option (List ℕ) → Option (List ℕ)
+    → Option (List ℕ) → Option (List ℕ) → ℕ → Type 0
+OnlyIfAsked words known left bytes can_fail old new said_before said status =
+    ((request : Request) × Asks words (request_words request) × LeavesInput request known left
     × RanFor request (is_explained (options_of words)) known bytes can_fail old new said_before said
     status)
-    ⊎ (TellsSome said_before said status × Keeps old new)
+    ⊎ (TellsSome said_before said status × Keeps known left × Keeps old new)

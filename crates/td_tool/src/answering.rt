@@ -1,8 +1,10 @@
 //! The program: it does what its words ask for, and answers its status.
 ghost use Rattle.std.specs.Prelude.{◌≡◌, ◌≤◌, ℕ, List, length, map, IfSome, codes};
-ghost use Rattle.std.specs.Prelude.{string_bytes, None, IsOkAnd, IfOk, IfErr};
+ghost use Rattle.std.specs.Prelude.{string_bytes, None, IsOkAnd, IfOk, IfErr, MatchResult};
 ghost use Rattle.std.specs.IoError.{error_kind};
-ghost use Rattle.std.specs.Io.KnownBytes.{Keeps};
+ghost use Rattle.std.specs.Prelude.{OnOk, OnErr};
+ghost use Rattle.std.specs.Io.KnownBytes.{Appends, Keeps};
+ghost use Rattle.td_bytes.specs.Pieces.{AppendsPrefix};
 ghost use Rattle.td_report.specs.Transition.{IsReport, IsWaves};
 ghost use Rattle.td_words.specs.CommandLine.{AskFor, AskForCheck, AskForRun, AskForTrack};
 ghost use Rattle.td_words.specs.CommandLine.{AskForWaves, RunWords, TrackWords, is_explained};
@@ -14,8 +16,9 @@ ghost use Rattle.td_tool.specs.Explained.{known_input, known_of_request, run_pat
 ghost use Rattle.td_tool.specs.Explained.{waves_paths};
 ghost use Rattle.td_tool.specs.Limits.{input_limit};
 ghost use Rattle.td_tool.specs.Ran.{Ran};
-ghost use Rattle.td_tool.specs.Program.{EndsFor, IsTold, OnlyIfAsked, RanFor, TellsFault};
-ghost use Rattle.td_tool.specs.Program.{TellsUnread, are_explained, files_asked};
+ghost use Rattle.td_tool.specs.Program.{EndsFor, IsTold, LeavesInput, OnlyIfAsked, RanFor};
+ghost use Rattle.td_tool.specs.Program.{TellsFault, TellsUnread, are_explained, fault_text};
+ghost use Rattle.td_tool.specs.Program.{files_asked, unread_text};
 ghost use Rattle.td_tool.specs.Runs.{EndsRun, run_files_asked};
 ghost use Rattle.td_tool.specs.Tracks.{EndsSo, track_files};
 
@@ -32,34 +35,63 @@ use std::io;
 use std::io::{ErrorKind, Read, Write};
 use std::sync::Wait;
 use std::thread::Threads;
-use td_bytes::write_whole;
+use td_bytes::{WriteFault, write_whole};
 use td_words::{Call, Request, WordsFault, read_words};
 
 /// The status where the words ask for nothing that can be done.
 pub const BAD_WORDS: u8 = 3;
 
-// What is said of words that aren't read: of those that aren't UTF-8, unless memory ran out.
+// Says why words aren't read: memory ran out, or they aren't UTF-8.
+fn say_unread<E: Write>(lacks_memory: bool, faults: &mut E) -> Result<(), WriteFault>
+    ensures whole { OnOk result (Appends (E.contents faults.old) (E.contents faults.new)
+        (unread_text lacks_memory)) }
+    ensures prefix { OnErr result (AppendsPrefix (E.contents faults.old) (E.contents faults.new)
+        (unread_text lacks_memory)) }
+{
+    if lacks_memory {
+        Ending::NoMemory.tell(faults)
+    } else {
+        write_whole(faults, b"error: a word of the command line is not UTF-8\n")
+    }
+}
+
+// The same, and the status. What can't be said is left.
+#[tactic(auto, using(crate::proofs::Explanations::front_said))]
 fn tell_unread<E: Write>(error: &io::Error, faults: &mut E) -> u8
     ensures { TellsUnread (error_kind error.now)
         (E.contents faults.old) (E.contents faults.new) result }
 {
-    if error.kind() == ErrorKind::OutOfMemory {
-        return Ending::NoMemory.answer(faults);
+    let lacks_memory = error.kind() == ErrorKind::OutOfMemory;
+    let _ = say_unread(lacks_memory, faults);
+    if lacks_memory {
+        Ending::NoMemory.status()
+    } else {
+        BAD_WORDS
     }
-    let _ = write_whole(faults, b"error: a word of the command line is not UTF-8\n");
-    BAD_WORDS
 }
 
-// What is said of words that ask for nothing: the text that says why.
+// Says why words ask for nothing.
+fn say_fault<E: Write>(fault: &WordsFault, faults: &mut E) -> Result<(), WriteFault>
+    ensures whole { OnOk result (Appends (E.contents faults.old) (E.contents faults.new)
+        (fault_text fault.now)) }
+    ensures prefix { OnErr result (AppendsPrefix (E.contents faults.old) (E.contents faults.new)
+        (fault_text fault.now)) }
+{
+    match fault {
+        WordsFault::Usage(text) => write_whole(faults, text.as_bytes()),
+        WordsFault::NoMemory => Ending::NoMemory.tell(faults),
+    }
+}
+
+// The same, and the status. What can't be said is left.
+#[tactic(auto, using(crate::proofs::Explanations::front_said))]
 fn tell_fault<E: Write>(fault: &WordsFault, faults: &mut E) -> u8
     ensures { TellsFault fault.now (E.contents faults.old) (E.contents faults.new) result }
 {
+    let _ = say_fault(fault, faults);
     match fault {
-        WordsFault::Usage(text) => {
-            let _ = write_whole(faults, text.as_bytes());
-            BAD_WORDS
-        }
-        WordsFault::NoMemory => Ending::NoMemory.answer(faults),
+        WordsFault::Usage(_) => BAD_WORDS,
+        WordsFault::NoMemory => Ending::NoMemory.status(),
     }
 }
 
@@ -79,6 +111,7 @@ fn do_request<T: Texts + Sync, R: Read, W: Write>(
         (known_of_request request.now (R.remaining reader.old) (T.bytes texts.now)) result.input }
     ensures short { IfSome result.input (λ kept. length (string_bytes kept) ≤ input_limit) }
     ensures text { request.now ≡ Request.Simulate → IsTextKept result.ending result.input }
+    ensures input { LeavesInput request.now (R.remaining reader.old) (R.remaining reader.new) }
 {
     match request {
         Request::Simulate => read_and_play(alloc, reader, output),
@@ -121,6 +154,9 @@ fn act<T: Texts + Sync, R: Read, W: Write, E: Write>(
     ensures fault { IfErr asked (λ fault. IsTold fault
         (W.contents output.old) (W.contents output.new)
         (E.contents faults.old) (E.contents faults.new) result) }
+    ensures input { MatchResult asked
+        (λ call. LeavesInput call.request (R.remaining reader.old) (R.remaining reader.new))
+        (λ _. Keeps (R.remaining reader.old) (R.remaining reader.new)) }
 {
     match asked {
         Ok(call) => {
@@ -174,7 +210,8 @@ fn answer<T: Texts + Sync, R: Read, W: Write, E: Write>(
         (known_at (T.bytes texts.now) (run_paths w))
         (E.contents faults.old) (E.contents faults.new) result }
     ensures others { OnlyIfAsked (map string_bytes words.now)
-        (R.remaining reader.old) (T.bytes texts.now) (T.can_fail texts.now)
+        (R.remaining reader.old) (R.remaining reader.new)
+        (T.bytes texts.now) (T.can_fail texts.now)
         (W.contents output.old) (W.contents output.new)
         (E.contents faults.old) (E.contents faults.new) result }
 {
@@ -235,14 +272,17 @@ pub fn tool<T: Texts + Sync, R: Read, W: Write, E: Write>(
         (R.remaining reader.old) (W.contents output.old) (W.contents output.new))
         (are_explained words) (known_at (T.bytes texts.now) (run_paths w))
         (E.contents faults.old) (E.contents faults.new) result }
-    // Other words are bad, unless memory runs out, and nothing is written.
+    // Other words are bad, unless memory runs out, and nothing is written. Standard input is read
+    // for a simulation and for a run alone.
     ensures others { IfOk words (λ given. OnlyIfAsked (map string_bytes given.items)
-        (R.remaining reader.old) (T.bytes texts.now) (T.can_fail texts.now)
+        (R.remaining reader.old) (R.remaining reader.new)
+        (T.bytes texts.now) (T.can_fail texts.now)
         (W.contents output.old) (W.contents output.new)
         (E.contents faults.old) (E.contents faults.new) result) }
     // So are words that aren't UTF-8.
     ensures unread { IfErr words (λ error. TellsUnread (error_kind error)
         (E.contents faults.old) (E.contents faults.new) result
+        × Keeps (R.remaining reader.old) (R.remaining reader.new)
         × Keeps (W.contents output.old) (W.contents output.new)) }
 {
     match words {

@@ -1,21 +1,22 @@
 //! The explanation of a refusal, or of a file that can't be read: a second line on standard error,
 //! where one is asked for.
 ghost use Rattle.std.specs.Prelude.{◌≡◌, ◌⊎◌, ◌≤◌, ◌<◌, ◌^◌, ℕ, List, Option, Some, None, Ok, Err};
-ghost use Rattle.std.specs.Prelude.{IfOk, IfErr, IfSome, MatchResult, OnOk, length, true};
-ghost use Rattle.std.specs.Prelude.{option_copied, option_map, string_bytes};
+ghost use Rattle.std.specs.Prelude.{IfOk, IfErr, IfSome, IsSomeAnd, MatchResult, OnOk, length};
+ghost use Rattle.std.specs.Prelude.{option_copied, option_map, string_bytes, true};
 ghost use Rattle.std.specs.Io.KnownBytes.{Appends, Keeps};
-ghost use Rattle.std.specs.Result.{ForOk};
 ghost use Rattle.td_bytes.specs.Pieces.{AppendsPrefix};
 ghost use Rattle.td_tool.specs.Ending.{status_of};
 ghost use Rattle.td_tool.specs.Explained.{Explains, ExplainsFile, FailsAgain, FailsFor, FailsOf};
 ghost use Rattle.td_tool.specs.Explained.{HasNoText, HasNone, IsKept, SaysAll, SaysOf};
+ghost use Rattle.td_tool.specs.Explained.{TellsCause, TellsOwnCause};
 ghost use Rattle.td_tool.specs.Explained.{archive_paths, fault_line, known_of_request, line_if};
 ghost use Rattle.td_tool.specs.Explained.{paths_of, unread_line};
 ghost use Rattle.td_tool.specs.Limits.{file_limit, input_limit};
+ghost use Rattle.td_tool.specs.Tracks.{file_at};
 
 use crate::cause::Cause;
 use crate::ending::{Ended, Ending};
-use crate::file_texts::FILE_LIMIT;
+use crate::file_texts::{FILE_LIMIT, read_one};
 use crate::input_fault::InputFault;
 use crate::places::place_of;
 use crate::texts::Texts;
@@ -94,25 +95,6 @@ fn explain_text(
     }
 }
 
-// The same, by what was read again of a file.
-fn explain_read(
-    alloc: Global,
-    role: Role,
-    fault: InputFault,
-    read: Result<String, TextFault>,
-) -> Result<String, Unexplained>
-    requires { ForOk read (λ text. length (string_bytes text) ≤ file_limit) }
-    ensures line { IfOk read (λ text. MatchResult result
-        (λ line. string_bytes line ≡ fault_line role fault (string_bytes text))
-        (λ e. e ≡ Unexplained.NoMemory)) }
-    ensures unread { IfErr read (λ why. result ≡ Err (Unexplained.Unread why)) }
-{
-    match read {
-        Ok(text) => explain_text(alloc, role, fault, text.as_str()),
-        Err(why) => Err(Unexplained::Unread(why)),
-    }
-}
-
 // The same of a file, which is read again.
 fn explain_file<T: Texts>(
     alloc: Global,
@@ -123,10 +105,13 @@ fn explain_file<T: Texts>(
 ) -> Result<String, Unexplained>
     ensures line { IfOk result (λ line.
         ExplainsFile (T.bytes texts.now (string_bytes path.now)) role fault (string_bytes line)) }
-    ensures failed { IfErr result (FailsAgain (T.can_fail texts.now (string_bytes path.now))) }
+    ensures failed { IfErr result (FailsAgain
+        (file_at (T.bytes texts.now) (T.can_fail texts.now) (string_bytes path.now))) }
 {
-    let read = texts.text(alloc, path.as_str(), FILE_LIMIT);
-    explain_read(alloc, role, fault, read)
+    match read_one(alloc, texts, role, path) {
+        Ok(text) => explain_text(alloc, role, fault, text.as_str()),
+        Err(unread) => Err(Unexplained::Unread(unread.fault)),
+    }
 }
 
 // The same where the fault has a place; nothing where no text of its role is at hand.
@@ -145,7 +130,8 @@ fn explain_place<T: Texts>(
         (known_of_request request.now known (T.bytes texts.now) role) role fault
         (string_bytes line))) }
     ensures none { IfOk result (λ told. told ≡ None → HasNoText role input.now request.now) }
-    ensures failed { IfErr result (FailsFor (T.can_fail texts.now) (paths_of request.now role)) }
+    ensures failed { IfErr result (FailsFor
+        (file_at (T.bytes texts.now) (T.can_fail texts.now)) (paths_of request.now role)) }
 {
     match role {
         Role::Input => match input {
@@ -176,7 +162,8 @@ fn explain_cause(
     role: Role,
     cause: Option<Cause>,
 ) -> Result<Option<String>, Unexplained>
-    ensures line { IfOk result (λ told. line_if told ≡ unread_line role cause) }
+    ensures line { IfOk result (λ told. IfSome told (λ line.
+        IsSomeAnd cause (λ c. string_bytes line ≡ unread_line role (Some c)))) }
     ensures none { IfOk result (λ told. told ≡ None → cause ≡ None) }
     ensures failed { IfErr result (λ e. e ≡ Unexplained.NoMemory) }
 {
@@ -197,9 +184,11 @@ fn explain_unread<T: Texts>(
     texts: &T,
 ) -> Result<Option<String>, Unexplained>
     ensures line { IfOk result (λ told. IfSome told (λ line.
-        (cause : Option Cause) × (string_bytes line ≡ unread_line role cause))) }
+        IsSomeAnd (paths_of request.now role)
+        (λ path. TellsCause (T.can_be texts.now) path role (string_bytes line)))) }
     ensures none { IfOk result (λ told. told ≡ None
-        → IfSome (paths_of request.now role) (λ path. T.can_be texts.now path None ≡ true)) }
+        → IfSome (paths_of request.now role)
+        (λ path. T.can_be texts.now path file_limit None ≡ true)) }
     ensures failed { IfErr result (λ e. e ≡ Unexplained.NoMemory) }
 {
     match path_of(request, role) {
@@ -221,9 +210,12 @@ fn explanation<T: Texts>(
         → IfOk result (λ told. IfSome told (λ line. Explains
         (known_of_request request.now known (T.bytes texts.now)) ended.now.ending
         (string_bytes line))) }
+    ensures cause { IfOk result (λ told. IfSome told (λ line.
+        TellsOwnCause (T.can_be texts.now) request.now ended.now.ending (string_bytes line))) }
     ensures none { IfOk result (λ told. told ≡ None
         → HasNone (T.can_be texts.now) ended.now.ending ended.now.input request.now) }
-    ensures failed { IfErr result (FailsOf (T.can_fail texts.now) request.now ended.now.ending) }
+    ensures failed { IfErr result (FailsOf
+        (file_at (T.bytes texts.now) (T.can_fail texts.now)) request.now ended.now.ending) }
 {
     match ended.ending {
         Ending::BadInput(role, fault) => match place_of(fault) {
@@ -275,7 +267,8 @@ fn say<T: Texts, E: Write>(
         (T.can_be texts.now) ended.now request.now
         (E.contents faults.old) (E.contents faults.new)) }
     ensures failed { IfErr result (λ e. (e ≡ Unexplained.CannotWrite)
-        ⊎ FailsOf (T.can_fail texts.now) request.now ended.now.ending e) }
+        ⊎ FailsOf (file_at (T.bytes texts.now) (T.can_fail texts.now)) request.now
+        ended.now.ending e) }
     ensures front { (known : Option (List ℕ))
         → IsKept (known_of_request request.now known (T.bytes texts.now)) ended.now.input
         → SaysOf explained (known_of_request request.now known (T.bytes texts.now)) ended.now.ending

@@ -33,8 +33,9 @@ pub trait Texts {
     // For which faults a read of the file with this path may fail.
     ghost can_fail: { Self → List ℕ → TextFault → Bool };
 
-    // What may be known of why the file with this path can't be read.
-    ghost can_be: { Self → List ℕ → Option Cause → Bool };
+    // What may be known of why the file with this path can't be read, as a text of at most so many
+    // bytes.
+    ghost can_be: { Self → List ℕ → ℕ → Option Cause → Bool };
 
     /// Reads a whole file, a text of at most `limit` bytes.
     fn text(&self, alloc: Global, path: &str, limit: usize) -> Result<String, TextFault>
@@ -51,5 +52,5 @@ pub trait Texts {
     /// Why the file with this path can't be read, as a text of at most `limit` bytes; `None` where
     /// that isn't known.
     fn cause(&self, path: &str, limit: usize) -> Option<Cause>
-        ensures { can_be self.now path.now result ≡ true };
+        ensures { can_be self.now path.now limit result ≡ true };
 }

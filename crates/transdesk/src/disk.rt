@@ -26,7 +26,7 @@ impl Texts for Disk<'_> {
 
     ghost can_fail = { λ _ _ _. true };
 
-    ghost can_be = { λ _ _ _. true };
+    ghost can_be = { λ _ _ _ _. true };
 
     fn text(&self, alloc: Global, path: &str, limit: usize) -> Result<String, TextFault> {
         match File::open(self.0, path) {

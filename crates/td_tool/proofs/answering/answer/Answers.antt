@@ -34,6 +34,7 @@ returns g c =
           (c.read_words.ensures.waves archs packages sources tracker asks);
       run = λ w asks. ran_script words known bytes can_fail old new before said status asked
           explained w ran told flag (c.read_words.ensures.run w asks);
-      others = only_asked words known bytes can_fail old new before said status asked ran told flag
+      others = only_asked words known bytes can_fail old new before said status asked
+          (g.R.Read.remaining c.act.new.reader) ran told flag c.act.ensures.input
           c.read_words.ensures.only;
     }

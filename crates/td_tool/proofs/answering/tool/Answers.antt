@@ -74,6 +74,7 @@ returns-in-Ok-clause-run g c = λ w.
 pub returns-in-Ok-clause-others : goal.returns-in-Ok-clause-others
 returns-in-Ok-clause-others g c =
     let known = g.R.Read.remaining c.args.reader.now in
+    let left = g.R.Read.remaining c.answer.new.reader in
     let bytes = g.T.Texts.bytes c.args.texts.now in
     let can_fail = g.T.Texts.can_fail c.args.texts.now in
     let old = g.W.Write.contents c.args.output.now in
@@ -81,7 +82,7 @@ returns-in-Ok-clause-others g c =
     let before = g.E.Write.contents c.args.faults.now in
     let said = g.E.Write.contents c.answer.new.faults in
     subst (λ r. IfOk r (λ given.
-    OnlyIfAsked (map string_bytes given.items) known bytes can_fail old new before said
+    OnlyIfAsked (map string_bytes given.items) known left bytes can_fail old new before said
     c.answer.result)) (sym c.in-Ok.is)
-    (subst (λ l. OnlyIfAsked (map string_bytes l) known bytes can_fail old new before said
+    (subst (λ l. OnlyIfAsked (map string_bytes l) known left bytes can_fail old new before said
     c.answer.result) c.deref.ensures.value c.answer.ensures.others)

@@ -1,6 +1,7 @@
 -- `say`: its clauses.
 use Rattle.std.proofs.Common.{◌≡◌, OnOk, rules, subst, sym, true}
 use Rattle.td_tool.specs.Explained.{FailsOf, SaysAll, SaysOf, known_of_request}
+use Rattle.td_tool.specs.Tracks.{file_at}
 use Rattle.td_tool.proofs.Explanations.{line_alone, said_front, said_not, said_whole}
 use Rattle.td_tool.proofs.explaining.say.Goals as goal
 
@@ -22,7 +23,8 @@ returns-clause-whole g c = λ known kept.
     (said_whole texts c.args.ended.now c.args.request.now (g.T.Texts.can_be c.args.texts.now)
     before _ said c.explanation.result
     c.put_explanation.result c.in-Ok.ensures.whole (c.explanation.ensures.line known kept)
-    c.explanation.ensures.none c.put_explanation.ensures.line c.put_explanation.ensures.none)
+    c.explanation.ensures.cause c.explanation.ensures.none c.put_explanation.ensures.line
+    c.put_explanation.ensures.none)
 
 pub returns-clause-front : goal.returns-clause-front
 returns-clause-front g c = λ known kept.
@@ -39,6 +41,7 @@ returns-clause-front g c = λ known kept.
 pub returns-clause-failed : goal.returns-clause-failed
 returns-clause-failed g c =
     said_not
-    (FailsOf (g.T.Texts.can_fail c.args.texts.now) c.args.request.now c.args.ended.now.ending) _ _
+    (FailsOf (file_at (g.T.Texts.bytes c.args.texts.now) (g.T.Texts.can_fail c.args.texts.now))
+    c.args.request.now c.args.ended.now.ending) _ _
     c.explanation.result c.put_explanation.result c.explanation.ensures.failed
     c.put_explanation.ensures.line c.put_explanation.ensures.none
