@@ -13,7 +13,8 @@ use Rattle.td_book.specs.declared.skips.SkipReason.TheVariants as why
 abbrev pub state_at : Table → Key → State
 state_at t k = elim (row_of t k) [ Some row ↦ row.state | None ↦ NeedsBuild ]
 
--- the reason: the version doesn't match, or else the kind doesn't apply in the row's state
+-- the reason: the version doesn't match, or else the kind doesn't apply to the row, whose state is
+-- told
 abbrev pub skip_at : (Key → Bool) → Table → Key → Skip
 skip_at matches t k =
     record { key = k; reason = if matches k then why.State (state_at t k) else why.Version }

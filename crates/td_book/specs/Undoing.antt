@@ -74,7 +74,8 @@ UndoOutcome n old new (Err undos.NotACommand) = ⊥
 UndoOutcome n old new (Err undos.AlreadyUndone) = ⊥
 
 -- an undo of a standing command that no later entry touches leaves the book and answers so: what is
--- fixed stays, the history fits the answer, and memory is wanting only where rows are withdrawn
+-- fixed stays, the history fits the answer, and memory is wanting only where the entry's kind has
+-- to do with states
 pub record IsUndone (n : ℕ) (old new : BookModel)
     (result : Result (Unit {0}) UndoRefusal) : Type 0 where
   pub fixed : new.fixed ≡ old.fixed

@@ -12,7 +12,7 @@ use td_rows::{Key, Kind, Rows, State, applies};
 pub enum SkipReason {
     /// The command names another version.
     Version,
-    /// The command doesn't apply in this state.
+    /// The command doesn't apply to the row, which is in this state.
     State(State),
 }
 

@@ -77,7 +77,7 @@ pub enum ArchiveFault {
 }
 
 impl ArchiveFault {
-    /// The name that is printed after `refused: `.
+    /// The name that is printed.
     pub fn name(self) -> &'static str
         ensures { result.now ≡ name_of self }
     {

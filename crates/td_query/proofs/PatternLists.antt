@@ -5,11 +5,12 @@ use Rattle.std.proofs.lemmas.List.{take-append-drop, take_more, map-append}
 use Rattle.std.proofs.Math.Seq.{drop-cons}
 use Rattle.regex.specs.Failures.{IsPattern}
 use Rattle.regex.specs.Patterns.{default_config}
-use Rattle.regex.specs.Strings.{regex_source, regex_config, IsReadFromSource}
+use Rattle.regex.specs.Strings.{regex_source}
 use Rattle.regex.specs.declared.string.regex.Regex.{Regex}
 use Rattle.td_query.specs.declared.read_fault.RawPattern.{RawPattern}
 use Rattle.td_query.specs.QueryGrammar.{Raw, Log}
-use Rattle.td_query.specs.Sources.{source_of, AreDefault, ArePatterns, IsRefusedForCause}
+use Rattle.td_query.specs.Sources.{source_of, AreDefault, ArePatterns, IsDefault}
+use Rattle.td_query.specs.Sources.{IsRefusedForCause}
 use Rattle.td_query.specs.TrackerFaults.{IsFirstRefused}
 use Rattle.td_query.specs.Views.{raw_of}
 
@@ -44,12 +45,12 @@ sources_more log i d rs ss r h pushed so_far here =
 
 -- one that is compiled more
 AreDefault-push : (rs : List Regex) (r : Regex) → AreDefault rs
-    → (regex_config r ≡ default_config) × IsReadFromSource r → AreDefault (rs ++ r ∷ [])
+    → IsDefault r → AreDefault (rs ++ r ∷ [])
 AreDefault-push [] r h p = (p, tt)
 AreDefault-push (x ∷ rs) r h p = (h.0, AreDefault-push rs r h.1 p)
 
 pub compiled_more : (rs ss : List Regex) (r : Regex) → ss ≡ rs ++ r ∷ [] → AreDefault rs
-    → (regex_config r ≡ default_config) × IsReadFromSource r → AreDefault ss
+    → IsDefault r → AreDefault ss
 compiled_more rs ss r pushed h p = rw pushed (AreDefault-push rs r h p)
 
 -- the first that is refused

@@ -1,8 +1,9 @@
 -- The patterns of a tracker, as `regex` is given them. This project's own.
-use Rattle.std.specs.Prelude.{◌≡◌, ℕ, ◌==◌, ◌&&◌, Bool, false, List, [], ◌∷◌, if◌then◌else◌}
+use Rattle.std.specs.Prelude.{◌≡◌, ℕ, ◌+◌, ◌*◌, ◌^◌, ◌≤◌, ◌==◌, ◌&&◌, Bool, false, List, [], ◌∷◌}
+use Rattle.std.specs.Prelude.{if◌then◌else◌}
 use Rattle.std.specs.List.{AllByRecursion}
 use Rattle.regex.specs.Patterns.{Refuses, default_config}
-use Rattle.regex.specs.Strings.{regex_config, IsReadFromSource}
+use Rattle.regex.specs.Strings.{regex_config, regex_size, IsReadFromSource}
 use Rattle.regex.specs.Failures.{IsPattern, IsRightKind}
 use Rattle.regex.specs.declared.error.Error.{Error}
 use Rattle.regex.specs.declared.string.regex.Regex.{Regex}
@@ -44,12 +45,16 @@ IsCause text CompiledTooBig = IsPattern default_config text
 IsCause text Internal = ⊥
 IsCause text OutOfMemory = ⊥
 
--- `regex` refuses the text, and not for want of memory
+-- `regex` may refuse the text, and not for want of memory; of each legal pattern its contract
+-- leaves open that it is too large
 abbrev pub IsRefusedForCause : List ℕ → Type 0
 IsRefusedForCause text = (e : Error) × IsCause text e
 
--- patterns as `Regex::new` gives them:
--- each is what the grammar of `regex` reads in its text, with the default options
+-- a pattern as `Regex::new` gives it: what the grammar of `regex` reads in its text, with the
+-- default options, and within the limit of its size
+abbrev pub IsDefault : Regex → Type 0
+IsDefault r = (regex_config r ≡ default_config) × IsReadFromSource r
+    × (regex_size r ≤ 10 * 2 ^ 20 + 24)
+
 abbrev pub AreDefault : List Regex → Type 0
-AreDefault patterns = AllByRecursion
-    (λ r. (regex_config r ≡ default_config) × IsReadFromSource r) patterns
+AreDefault patterns = AllByRecursion IsDefault patterns

@@ -23,8 +23,8 @@ fault_name (MissingKey key) = codes "MissingKey"
 fault_name (BadPattern place) = codes "BadPattern"
 fault_name NoMemory = codes "NoMemory"
 
--- of these patterns the one whose opening `/` stands at the place is refused,
--- in a text of so many bytes, and those before it are read
+-- of these patterns the one whose opening `/` stands at the place is refused, in a text of so many
+-- bytes, and those before it are read; one that is legal may be told so too, as too large
 pub record IsFirstRefused (size : ℕ) (log : Log) (place : ℕ) : Type 0 where
   pub before : Log
   pub at : Raw

@@ -43,6 +43,6 @@ pub record IsTracker (text : List ℕ) (t : Tracking) : Type 0 where
   pub held : IsSaid says (map source_of says.log) t
   pub are_patterns : ArePatterns says.log
 
--- a tracker's patterns are compiled with the default options, each from its text
+-- a tracker's patterns are compiled with the default options and limit, each from its text
 abbrev pub AreCompiled : Tracker → Type 0
 AreCompiled t = AreDefault t.patterns.items

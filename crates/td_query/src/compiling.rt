@@ -2,9 +2,9 @@
 ghost use Rattle.std.specs.Prelude.{◌≡◌, IfErr, IfOk, IsErrOf, map};
 ghost use Rattle.regex.specs.Failures.{IsPattern};
 ghost use Rattle.regex.specs.Patterns.{default_config};
-ghost use Rattle.regex.specs.Strings.{regex_config, regex_source, IsReadFromSource};
-ghost use Rattle.td_query.specs.Sources.{AreDefault, ArePatterns, IsRefusedForCause, source_of};
-ghost use Rattle.td_query.specs.Sources.{unescaped};
+ghost use Rattle.regex.specs.Strings.{regex_source};
+ghost use Rattle.td_query.specs.Sources.{AreDefault, ArePatterns, IsDefault, IsRefusedForCause};
+ghost use Rattle.td_query.specs.Sources.{source_of, unescaped};
 ghost use Rattle.td_query.specs.TrackerFaults.{IsPatternFault};
 ghost use Rattle.td_query.specs.Views.{raw_of};
 
@@ -25,7 +25,7 @@ enum PatternFault {
 fn pattern_of(alloc: Global, text: &str) -> Result<Regex, PatternFault>
     ensures source { IfOk result (λ r. regex_source r ≡ text.now) }
     ensures read { IfOk result (λ r. IsPattern default_config text.now) }
-    ensures default { IfOk result (λ r. (regex_config r ≡ default_config) × IsReadFromSource r) }
+    ensures default { IfOk result IsDefault }
     ensures bad { IsErrOf result PatternFault.BadPattern → IsRefusedForCause text.now }
 {
     match Regex::new(alloc, text) {
@@ -39,7 +39,7 @@ fn pattern_of(alloc: Global, text: &str) -> Result<Regex, PatternFault>
 fn compiled(alloc: Global, raw: &str) -> Result<Regex, PatternFault>
     ensures source { IfOk result (λ r. regex_source r ≡ unescaped raw.now) }
     ensures read { IfOk result (λ r. IsPattern default_config (unescaped raw.now)) }
-    ensures default { IfOk result (λ r. (regex_config r ≡ default_config) × IsReadFromSource r) }
+    ensures default { IfOk result IsDefault }
     ensures bad { IsErrOf result PatternFault.BadPattern → IsRefusedForCause (unescaped raw.now) }
 {
     match source(alloc, raw) {

@@ -6,10 +6,11 @@
 //! `specs/Tracking.antt` which text is a tracker's, and `specs/TrackerFaults.antt` what the fault
 //! of another is.
 //! Promised: a text is read exactly where it is a tracker's, as that tracker, unless memory runs
-//! out or `regex` finds a pattern too large; else the first fault from the left is named, with its
-//! place.
+//! out or a pattern is told as too large; else the first fault from the left is named, with its
+//! place, or what is missing. Which legal pattern is too large no clause says.
 //! A row's status is what `specs/Statuses.antt` says: `Tracker::status` evaluates the queries on
-//! the row's stanzas, `Marks` does so once for each stanza of an archive and is asked row by row.
+//! the row's stanzas, `Marks` does so once for each stanza that an archive keeps and is asked row
+//! by row.
 //! What queries and statuses mean is said by `specs/QueryLaws.antt` and `specs/StatusLaws.antt`.
 #![tactic(auto)]
 

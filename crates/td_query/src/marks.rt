@@ -1,4 +1,4 @@
-//! The marks of an archive: what a tracker says of each stanza, and of rows by it.
+//! The marks of an archive: what a tracker says of each stanza that it keeps, and of rows by it.
 
 use crate::mark::Mark;
 use crate::marking::mark_stanzas;
@@ -8,8 +8,8 @@ use crate::truth::matchers_of;
 use std::alloc::{AllocError, Global};
 use td_indices::{Archive, IndexFile, is_on};
 
-/// What a tracker says of each stanza of an archive, so that the status of a row takes no memory
-/// and looks at the packages of its own source alone.
+/// What a tracker says of each stanza that an archive keeps, so that the status of a row takes no
+/// memory and looks at the packages of its own source alone.
 #[derive(Drop)]
 pub struct Marks {
     packages: Vec<Mark>,

@@ -100,7 +100,8 @@ impl<'a> Tracker<'a> {
     pub fn read(alloc: Global, text: &'a str) -> Result<Tracker<'a>, TrackerFault>
         // What is read is the tracker of the text.
         ensures found { IfOk result (λ t. IsTracker text.now (tracking t)) }
-        // Its patterns are compiled as they are written, with the default options.
+        // Its patterns are compiled as they are written, with the default options and the default
+        // limit of size.
         ensures compiled { IfOk result AreCompiled }
         // A tracker is read, unless memory runs out, or `regex` refuses a pattern that is one: it
         // may be too large.

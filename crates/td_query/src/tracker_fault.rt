@@ -33,7 +33,7 @@ pub enum TrackerFault {
     Syntax(usize),
     #[error("no key {0:?}")]
     MissingKey(TrackerKey),
-    /// `regex` refuses the pattern whose opening `/` stands at this place.
+    /// `regex` refuses the pattern whose opening `/` stands at this place, or finds it too large.
     #[error("byte {0}: bad pattern")]
     BadPattern(usize),
     #[error("want of memory")]
@@ -41,7 +41,7 @@ pub enum TrackerFault {
 }
 
 impl TrackerFault {
-    /// The name that is printed after `refused: `.
+    /// The name that is printed.
     pub fn name(self) -> &'static str
         ensures name { result.now ≡ fault_name self }
     {

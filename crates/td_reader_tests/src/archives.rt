@@ -70,7 +70,7 @@ fn a_small_archive_is_read_and_its_rows_open_with_the_rebuilds_that_are_there(rt
     are_answered(&rt, rt.alloc(), ARCHS, PACKAGES, SOURCES, &SMALL);
 }
 
-// `1.0` and `1.0-0` are equal in order (deb-version(7)), so the first of them counts; the package
+// `1.0` and `1.0-0` are equal in order (Policy 5.6.12), so the first of them counts; the package
 // of `all` is foo's on both architectures, the one of s390x is nowhere here.
 const SEVERAL: &str = "\
 Package: doc

@@ -108,7 +108,7 @@ const OPERATORS: [Asked<'static>; 7] = [
     ("native(>>1.0~rc1)", (true, false)),
 ];
 
-// Policy 7.1: `<<` is strictly earlier; deb-version(7): 1.0 and 1.0-0 are equal. What they are met
+// Policy 7.1: `<<` is strictly earlier; Policy 5.6.12: 1.0 and 1.0-0 are equal. What they are met
 // by is on offer on amd64 alone.
 #[test]
 fn operators_go_by_the_order_of_versions(rt: HostRuntime) {

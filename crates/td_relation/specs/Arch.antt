@@ -27,7 +27,8 @@ abbrev pub is_reserved : List ℕ → Bool
 is_reserved text = bytes_eq text (codes "all")
     || (bytes_eq text (codes "any") || bytes_eq text (codes "source"))
 
--- a name that the table may give: none that is a wildcard (this project's own)
+-- a name that the table may give: none with `any` as its first or its last part (this project's
+-- own)
 abbrev pub is_table_name : List ℕ → Bool
 is_table_name text =
     is_arch text
@@ -47,7 +48,7 @@ pub record ArchFits (a : ArchWords) : Type 0 where
   pub cpu : IsTrue (is_machine_word a.cpu)
 
 -- the words that match an architecture: its name, `any`, `os-any` and `any-cpu` (Policy 11.1.1;
--- wildcards of three parts match nothing, this project's own)
+-- other wildcards match nothing but a name that is spelled so, this project's own)
 abbrev pub matches : ArchWords → List ℕ → Bool
 matches a word = bytes_eq word a.name || (bytes_eq word (codes "any")
     || (bytes_eq word (a.os ++ codes "-any") || bytes_eq word (codes "any-" ++ a.cpu)))

@@ -37,6 +37,7 @@ impl<'a> Offer<'a> {
 impl<'a> Offers<'a> {
     ghost use Rattle.std.specs.Prelude.{
       ◌≡◌,
+      ◌<◌,
       List,
       ℕ,
       [],
@@ -44,6 +45,8 @@ impl<'a> Offers<'a> {
       ◌++◌,
       OnOk,
       OnErr,
+      IfSome,
+      length,
       map,
       if◌then◌else◌,
     };
@@ -79,14 +82,16 @@ impl<'a> Offers<'a> {
         Ok(())
     }
 
-    /// The offers of a name, in the order in which they came.
+    /// The offers of a name, in the order in which they came; `None` where there are none.
     pub fn named(&self, name: &str) -> Option<&[Offer<'a>]>
-        ensures { option_map_or (λ list. map offered list.now) result []
+        ensures offers { option_map_or (λ list. map offered list.now) result []
             ≡ offers_of self.now name.now }
+        ensures some { IfSome result (λ list. 0 < length list.now) }
     {
         match self.by_name.get(name) {
-            Some(list) => Some(list.as_slice()),
-            None => None,
+            // (a list may be empty: memory was wanting for its first offer)
+            Some(list) if !list.is_empty() => Some(list.as_slice()),
+            _ => None,
         }
     }
 }

@@ -36,7 +36,7 @@ pub struct Restriction<'a> {
 pub struct Alternative<'a> {
     pub name: &'a str,
     pub restriction: Option<Restriction<'a>>,
-    /// What stands between the brackets of the architecture list.
+    /// What stands between the brackets of the architecture list: its words, as they are written.
     pub archs: Option<&'a str>,
     /// Whether the build profile lists hold where no profile is active; so where there are none.
     pub unprofiled: bool,

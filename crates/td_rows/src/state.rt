@@ -2,7 +2,7 @@
 ghost use Rattle.std.specs.Prelude.{◌≡◌};
 ghost use Rattle.td_rows.specs.States.{is_queued, is_building};
 
-/// The number of a builder, from 1.
+/// The number of a builder. Those of a desk are from 1.
 pub type BuilderNo = u64;
 
 /// The largest number of a builder that a journal has.

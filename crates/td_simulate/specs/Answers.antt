@@ -35,7 +35,8 @@ refusal_name NotFinished = codes "NotFinished"
 refusal_name NotSettled = codes "NotSettled"
 refusal_name NoMemory = codes "NoMemory"
 
--- what a refusal names: a command's first key that fails, or the entry that blocks
+-- what a refusal names: the first key of a command or an arrival that fails, or the entry that
+-- blocks
 abbrev pub refusal_place : Refusal → List ℕ
 refusal_place (NoSuchRow (Some k)) = 32 ∷ key_text k
 refusal_place (DoesNotApply k) = 32 ∷ key_text k

@@ -5,7 +5,7 @@ ghost use Rattle.td_simulate.specs.Faults.{fault_name, of_opening};
 use td_rows::StateFault;
 use thiserror::Error;
 
-/// Why a text isn't a simulation: its first faulty line. Lines count from 1.
+/// Why a text isn't a simulation: its first faulty line, or too many rows. Lines count from 1.
 #[derive(Clone, Copy, Debug, PartialEq, Eq, Drop, Error)]
 pub enum SimulationFault {
     /// The opening rows aren't a state file.
@@ -29,7 +29,7 @@ pub fn of_opening(fault: StateFault) -> SimulationFault
 }
 
 impl SimulationFault {
-    /// The name that the program prints.
+    /// The name of the fault. The program prints it, but for want of memory.
     pub fn name(self) -> &'static str
         ensures { result.now ≡ fault_name self }
     {

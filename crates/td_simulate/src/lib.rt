@@ -1,11 +1,11 @@
 //! Simulations: opening rows and steps as a text, their answers and the last rows as a text.
 //!
-//! Start at `simulate_text`; `read_simulation` is its first half. A line of the text is a row's,
-//! the word `steps`, or a step's (`read_step`); a line of the answer is that of a step's answer, or
-//! a row's.
+//! Start at `simulate_text`; `read_simulation` is its first half. A line of the text is a row's or
+//! empty, the word `steps`, or a step's (`read_step`); a line of the answer is that of a step's
+//! answer, the word `rows`, or a row's.
 //! Promised: the text is read exactly where it is opening rows and steps, and else its first
-//! faulty line is named; what is told then is what the core answers to these steps from these
-//! rows, in their order, and the rows after the last of them.
+//! faulty line is named, or that there are too many rows; what is told then is what the core
+//! answers to these steps from these rows, in their order, and the rows after the last of them.
 #![tactic(auto)]
 
 mod answer_line;

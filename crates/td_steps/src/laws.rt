@@ -136,8 +136,8 @@ pub fn an_undo_is_refused_where_blocked()
 
 /// At every moment of every schedule of a board, what the journal of a book at the desk's seat says
 /// of a builder, after the entries that the book opened with, is what that builder did, in order:
-/// no claim and no outcome is invented, dropped or changed, and only the builder's last deed may
-/// not be there yet. (`Book::seat` is such a seat.)
+/// no claim and no outcome's code is invented, dropped or changed, and only the builder's last deed
+/// may not be there yet. (`Book::seat` is such a seat.)
 pub fn journals_tell_the_builders_deeds()
     ensures lists { JournalsTellDeeds }
     ensures books { BooksTellDeeds }

@@ -3,7 +3,7 @@ ghost use Rattle.td_supply.specs.SupplyLaws.{NothingIsMet, OffersOfAllStay, Othe
 ghost use Rattle.td_supply.specs.SupplyLaws.{RebuildsAreOffered, TheLastArrivalStands};
 ghost use Rattle.td_supply.specs.SupplyLaws.{TheStockStays};
 
-/// In an empty supply nothing is met.
+/// In a supply without offers and without architectures nothing is met.
 pub fn nothing_is_met()
     ensures { NothingIsMet }
 {}

@@ -78,7 +78,7 @@ pairs_cmp (p ∷ ps) (q ∷ qs) = ordering_then (pair_cmp p q) (pairs_cmp ps qs)
 abbrev pub part_cmp : List ℕ → List ℕ → Ordering
 part_cmp a b = pairs_cmp (pairs a) (pairs b)
 
--- No revision counts as `0` (deb-version(7)).
+-- No revision counts as `0` (Policy 5.6.12; deb-version(7) has it as the earlier one).
 abbrev pub revision_or_zero : Option (List ℕ) → List ℕ
 revision_or_zero revision = unwrap_or revision (codes "0")
 

@@ -11,8 +11,7 @@ use Rattle.td_indices.specs.Kept.{KeptBinary}
 use Rattle.td_indices.specs.OfferedNames.{offered_names}
 use Rattle.td_indices.specs.Stanzas.{build_depends_of, build_depends_arch_of}
 
--- what the source with a number asks for in Build-Depends,
--- and in Build-Depends-Arch (Debian Policy 7.7)
+-- what the source with a number asks for in Build-Depends (Debian Policy 7.7)
 abbrev pub asked_first : Contents → ℕ → List (List Asked)
 asked_first a source = option_map_or (build_depends_of a) (slice_get a.sources source) []
 

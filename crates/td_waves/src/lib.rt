@@ -3,8 +3,9 @@
 //!
 //! Start at `Waves::of`. Which source builds on which is said by `specs/BuildsOn.antt`, where a
 //! source stands then by `specs/Levels.antt`, which knows no order of work.
-//! Promised: each affected source has the level at which it stands, or is cyclic; a look-up for
-//! each alternative of an affected source's build, and a step for each source and edge, are all.
+//! Promised: each affected source has the level at which it stands, or is cyclic. It takes a
+//! look-up for each alternative of an affected source's build, and a step for each source and edge;
+//! that no clause says.
 #![tactic(auto)]
 
 mod asking;

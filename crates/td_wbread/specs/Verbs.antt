@@ -70,7 +70,7 @@ numbered word words None = Err (Wrong BadNumber word.place)
 numbered word words (Some n) = if n == 0 then Err (Wrong BadNumber word.place)
     else Ok (Nmu (Some n), words)
 
--- a word of digits is the number where the packages follow it
+-- a word of digits is the number where another word than the dot follows it, or an open quote
 abbrev pub rebuild_from : End → Word → List Word → Result (Verb × List Word) CommandFault
 rebuild_from end word words =
     if is_digits word.text && goes_on end words

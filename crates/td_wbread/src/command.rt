@@ -1,4 +1,4 @@
-//! A command, and which rows it takes.
+//! A command, and where its packages stand.
 ghost use Rattle.td_wbread.specs.inner.Places.{FindsPackages, FindsPackages-prop};
 
 use crate::places::Places;

@@ -29,13 +29,14 @@ pub fn choice_is_exact()
 {}
 
 /// What follows the architectures is read exactly where it is the end, a last dot, a suite, a suite
-/// and options, or options, and means these.
+/// and options, or options, with no quote left open, and where `dw` has its relation; and means
+/// these.
 pub fn tails_are_exact()
     ensures { TailsAreExact }
 {}
 
 /// A verb is read exactly where it stands with its own words, and means these: `gb`; `nmu`, or
-/// `nmu` and a number behind which another word comes; `bp` and a priority; `dw`.
+/// `nmu` and a number behind which another word or an open quote comes; `bp` and a priority; `dw`.
 pub fn verbs_are_exact()
     ensures { VerbsAreExact }
 {}

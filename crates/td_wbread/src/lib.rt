@@ -1,7 +1,8 @@
 //! Command lines as Debian's release team writes them to wanna-build: `gb`, `nmu`, `bp` and `dw`.
 //!
 //! Start at `read_command`; `Command::is_named`, `is_matched` and `is_bare` say which rows a
-//! command takes, `kind_of` what it does to them. A caller matches on `&command.verb`.
+//! command names, and with which versions, `kind_of` what it does to them. A caller matches on
+//! `&command.verb`.
 //! `specs/Words.antt` says what the words of a line are, quoted as in a shell, `specs/Command.antt`
 //! which words are a command, and what is wrong first with others, and `specs/Naming.antt` which
 //! rows are named. Quotes have no escapes, and don't go over lines.

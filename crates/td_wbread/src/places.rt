@@ -6,7 +6,7 @@ use crate::command::Package;
 use std::alloc::{AllocError, Global};
 use std::collections::HashMap;
 
-/// Places in a list of packages, found by a source; each source has its own, in rising order.
+/// Places in a list of packages, found by a source.
 #[derive(Drop)]
 pub struct Places {
     by_source: HashMap<String, Vec<usize>>,

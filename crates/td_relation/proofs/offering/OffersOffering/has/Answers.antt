@@ -12,4 +12,4 @@ returns-in-Some c =
     let test =
     λ (o : Offered). suits c.args.place (option_map restriction_of c.args.restriction.now) o in
     c.some_suits.ensures ∙ sym (list_any-map test offered c.in-Some.list.now)
-    ∙ ap (list_any test) c.in-Some.ensures
+    ∙ ap (list_any test) c.in-Some.ensures.offers
