@@ -5,7 +5,7 @@ ghost use Rattle.td_builder.specs.Stops.{start_stop, finish_stop};
 use td_book::{FinishRefusal, StartRefusal};
 use thiserror::Error;
 
-/// Why a builder stopped before its floor was shut.
+/// Why a builder stopped before its floor ended.
 #[derive(Clone, Copy, Debug, PartialEq, Eq, Error)]
 pub enum WorkStop {
     #[error("want of memory")]

@@ -79,8 +79,8 @@ impl Unused {
         Ok(Unused { texts, used })
     }
 
-    /// Uses the next of a key's lines, and answers its outcome; None where the key has none left.
-    /// It takes no memory.
+    /// Uses the next of a key's lines, and answers its outcome; None where the key has none left,
+    /// or where its count or its text isn't there. It takes no memory.
     pub fn next_of(
         &mut self,
         alloc: Global,

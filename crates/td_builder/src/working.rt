@@ -8,9 +8,9 @@ use crate::stop::{WorkStop, finish_stop, start_stop};
 use std::sync::Wait;
 use td_board::{BuilderSeat, Hand};
 
-/// Claims rows of the floor and builds them until the floor is shut, and answers how many builds
-/// were finished. A row that the seat comes with is built first. After a stop the seat says where
-/// the builder stands, and the next `work` goes on from there. It ends at the last `u64`, too.
+/// Claims rows of the floor and builds them until the floor ends, and answers how many builds were
+/// finished. A row that the seat comes with is built first. After a stop the seat says where the
+/// builder stands, and the next `work` goes on from there. It ends at the last `u64`, too.
 pub fn work<F: Floor, B: Builds, R: Wait>(
     rt: &R,
     floor: &F,

@@ -3,7 +3,7 @@
 //!
 //! Start at `read_text` and `write_whole`.
 //! Promised, of any reader and writer whose bytes clauses know: `Ok` is all that remained, within
-//! the limit, and TooLong exactly more than that; a write that fails leaves a front of the bytes.
+//! the limit, and TooLong only where more did; a write that fails leaves a front of the bytes.
 //! std doesn't say when a read or write fails; that each fault comes only then is tested.
 #![tactic(auto)]
 

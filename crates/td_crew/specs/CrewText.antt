@@ -72,10 +72,9 @@ IsClosing receipts found refusals =
     ⊎ ((refusals ≡ 1) × (IsPermutation receipts found → ⊥))
 
 -- the answers to the lines are told, each what some book of the crew's answers, and then the rows
--- of
--- the book with which the desk is closed. What was undone where the script starts is undone in it
--- still. A refusal is a line that is refused, a builder who is missing, and a closing where the
--- receipts of the lines aren't the changes of the book
+-- of a book of the crew's. What was undone where the script starts is undone in it still. A refusal
+-- is a line that is refused, a number that stands for builders who are missing, and a closing where
+-- the receipts of the lines aren't the changes of the book
 pub record EndsWithRows (builders : ℕ) (s : Setting) (begun : History) (script text : List ℕ)
     (refused : ℕ) : Type 0 where
   pub told : Told

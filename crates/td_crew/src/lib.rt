@@ -4,8 +4,9 @@
 //! script is read as `td_script` reads it, and each answer put in the same words; then the desk is
 //! shut, the builders are joined, the desk is closed, and the rows of its book are told.
 //! Promised: the faults of a script, where they are due; that what is written is a reply to each
-//! line, which some book of the desk answers, and then the rows of the book with which the desk is
-//! closed; and the number of refusals. Which book answers a line hangs on who is first.
+//! line, which some book of the desk answers, and then the rows of one, against whose changes the
+//! receipts of the lines are held; and the number of refusals, but for builders who are missing.
+//! Which book answers a line hangs on who is first.
 #![tactic(auto)]
 
 mod answering;

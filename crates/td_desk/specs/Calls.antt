@@ -1,5 +1,5 @@
--- What the calls of a desk answer, each over the locked book as it was when the call had the lock,
--- and what receipt a clerk gets. This project's own.
+-- What the calls of a desk answer, each over some book of the desk, and what receipt a clerk gets.
+-- This project's own.
 use Rattle.std.specs.Prelude.{◌≡◌, ◌≢◌, ◌⊎◌, ℕ, not, List, [], ◌∷◌, Option, None, Result, Err}
 use Rattle.std.specs.Prelude.{IfOk, filter, map}
 use Rattle.std.specs.declared.alloc.AllocError.{AllocError}

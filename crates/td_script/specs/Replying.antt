@@ -1,4 +1,4 @@
--- What is written of the answers of calls, whoever made them. This project's own.
+-- What is written of the answers of a book's calls. This project's own.
 use Rattle.std.specs.Prelude.{◌≡◌, ℕ, Bool, true, false, List, [], ◌++◌, Option, Some, None, Result}
 use Rattle.std.specs.Prelude.{Ok, Err, codes, decimal}
 use Rattle.std.specs.List.{flat_map}

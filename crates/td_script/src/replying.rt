@@ -1,5 +1,5 @@
-//! What is written of the answers of calls, by a clerk alone or beside builders. Each function says
-//! whether the line is refused.
+//! What is written of the answers of a book's calls. Each function says whether the line is
+//! refused.
 ghost use Rattle.std.specs.Prelude.{IfOk};
 ghost use Rattle.std.specs.String.{string_bytes};
 ghost use Rattle.td_script.specs.Replying.{IsArrivalPut, IsArrivalRefused, IsCommandPut};

@@ -22,7 +22,8 @@ use td_simulate::SimulationFault;
 pub enum Ending {
     /// All was done.
     Done,
-    /// All was done, and something was refused, as the output says.
+    /// All was done, and something was refused: as the output says, but for a builder who is
+    /// missing and a closing that differs.
     Refused,
     BadInput(Role, InputFault),
     NoMemory,

@@ -7,8 +7,9 @@
 //! words ask for in `td_words`.
 //! Promised: what is written is the answer to what was read, and nothing where that is refused; a
 //! write that fails leaves a front of it; the status and the line on standard error say which
-//! (`specs/Ends.antt`, `specs/Checks.antt`, `specs/Tracks.antt`, `specs/Runs.antt`); and a refusal
-//! or a file that can't be read is explained where that is asked for (`specs/Explained.antt`).
+//! (`specs/Ends.antt`, `specs/Checks.antt`, `specs/Tracks.antt`, `specs/Runs.antt`); and what
+//! explains a refusal or a file that can't be read, where that is asked for, is the stated line, or
+//! a front of it (`specs/Explained.antt`).
 #![tactic(auto)]
 
 mod answering;

@@ -242,7 +242,7 @@ asking_for_check program archs packages sources =
     program ∷ codes "check" ∷ given (codes "archs") archs ∷ given (codes "packages") packages
     ∷ given (codes "sources") sources ∷ []
 
--- a path that isn't taken for an option: its first byte is no hyphen
+-- a path that isn't taken for an option: there is a first byte, and it is no hyphen
 abbrev pub IsPlainPath : List ℕ → Type 0
 IsPlainPath [] = ⊥
 IsPlainPath (x ∷ xs) = (x == 45) ≡ false

@@ -12,7 +12,7 @@ pub fn words_of_a_simulation_ask_for_it()
 {}
 
 /// The words of a check ask for it: with each path joined to its option, whatever it is; or as a
-/// word of its own, where it doesn't begin like an option.
+/// word of its own, where it is neither empty nor begins with a hyphen.
 pub fn words_of_a_check_ask_for_it()
     ensures joined { JoinedWordsAsk }
     ensures separate { SeparateWordsAsk }
@@ -21,7 +21,7 @@ pub fn words_of_a_check_ask_for_it()
 
 /// The words of a report ask for it, with other rows or without, by chunks or whole: with each
 /// value joined to its option, whatever it is; or as a word of its own, where it is neither empty
-/// nor begins with a hyphen, since `clap` takes such a word for an option.
+/// nor begins with a hyphen.
 pub fn words_of_a_track_ask_for_it()
     ensures joined { TrackWordsAsk }
     ensures separate { SeparateTrackWordsAsk }

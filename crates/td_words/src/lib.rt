@@ -1,10 +1,11 @@
 //! The words of the command line: what they ask for, or what is to be said of them.
 //!
 //! Start at `read_words`. Nothing but this crate knows `clap`, and what it answers is plain data.
-//! Promised: words that name a subcommand with its files ask for just that, unless memory runs out,
-//! and for an explanation exactly where `--explain` is given; and no words ask for anything in
+//! Promised: words without a fault that name a subcommand ask for just that, unless memory runs
+//! out, and for an explanation exactly where `--explain` is given; and no words ask for anything in
 //! which `clap` finds a fault (`specs/CommandLine.antt`, over `clap`'s account of a command
-//! line). What is said of other words, help included, is only tested.
+//! line). What is said of other words, help included, is only tested, but for a wrong number of
+//! `--chunk` or `--builders`.
 #![tactic(auto)]
 
 mod command;
