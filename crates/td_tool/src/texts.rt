@@ -1,10 +1,9 @@
-//! Where the texts of files come from: the disk, or a test's memory.
+//! Where the texts of files come from: the disk, or whatever has them.
 use crate::cause::Cause;
 use std::alloc::Global;
 use td_bytes::TextFault;
 
-/// Files that are texts, by their paths. The program reads those of the disk; tests have theirs in
-/// memory.
+/// Files that are texts, by their paths. The program reads those of the disk.
 pub trait Texts {
     ghost use Rattle.std.specs.Prelude.{
       ◌≡◌,

@@ -16,11 +16,12 @@ Exit status:
   0  done
   1  something was refused; standard output says what, but not of a builder that is missing
   2  bad input
-  3  bad command line, or a call for help
+  3  bad command line, or a call for help or the version
   4  want of memory
   5  a read or a write failed
 With 2, 4 and 5 standard error has one line that says what was wrong; with --explain a second one
-that says what is wanted of a text, and where, if the fault has a place, or of a file.
+says what is wanted of a refused text, and where, if the fault has a place, or of a file that can't
+be read.
 
 docs/FORMATS.md says exactly what is read and printed.";
 
@@ -227,7 +228,7 @@ A line that isn't of its form is refused, and the others are done. Nothing is pr
 isn't of its form, or the script no text or too long; standard error names it.
 With --journal the script goes on with what an earlier one did, as the line `journal` printed it.
 With --builders, builders work beside the script; then the rows are printed as they leave them,
-behind a line `rows`. Their builds end as the lines of --outcomes say (foo/amd64 givenback), and are
+behind a line `rows`. Their builds end as the lines of --outcomes say (foo/amd64 givenback), and as
 built where none is left; without builders that file is read and not looked at.
 
 docs/FORMATS.md says exactly what is read and printed, and lists the lines.";
