@@ -2,8 +2,10 @@
 use Rattle.std.proofs.Common.{◌≡◌, ℕ, List, [], ◌∷◌, ◌++◌, Some, Result, Ok}
 use Rattle.std.proofs.Common.{Err, arith, length, sym, ap, ◌∙◌, subst}
 use Rattle.std.specs.Global.{Vec}
+use Rattle.std.proofs.Common.{append-nil}
 use Rattle.std.proofs.lemmas.List.{map-append, drop_all}
 use Rattle.std.proofs.lemmas.List.Sums.{fold-append}
+use Rattle.std.proofs.lemmas.List.Concat.{flat_map-append}
 use Rattle.td_stanza.specs.Field.{Entry}
 use Rattle.td_relation.specs.Arch.{ArchWords}
 use Rattle.td_indices.specs.declared.archive_fault.ArchiveFault.{ArchiveFault}
@@ -13,7 +15,8 @@ use Rattle.td_indices.specs.Kept.{KeptBinary, binaries_of, binary_at, binary_of,
 use Rattle.td_indices.specs.Kept.{same_package}
 use Rattle.td_indices.specs.Reading.{binary_step, over_stanzas}
 use Rattle.td_indices.specs.inner.IndexReading.{IsOfStanza}
-use Rattle.td_indices.specs.inner.Parts.{IsPartRead, kept_from, put_all}
+use Rattle.td_indices.specs.inner.Parts.{ArePartsRead, IsFaultFrom, IsPartRead, StandFor, kept_from}
+use Rattle.td_indices.specs.inner.Parts.{packages_in, put_all}
 
 -- packages, and others behind them
 pub put_all-append : (seen : List KeptBinary) (xs ys zs : List (PackageKey × Packaged))
@@ -24,29 +27,45 @@ put_all-append seen xs ys zs is =
     ∙ ap (put_all seen) (map-append binary_of xs ys)
     ∙ fold-append (put same_package lower_package) seen (binaries_of xs) (binaries_of ys)
 
+-- the packages of one list
+pub packages_in_one : (parts : List (Vec (PackageKey × Packaged)))
+    (packages : Vec (PackageKey × Packaged)) → parts ≡ packages ∷ []
+    → packages_in parts ≡ packages.items
+packages_in_one parts packages is = rw is (append-nil packages.items)
+
+-- the packages of lists, and of others behind them
+pub packages_in-append : (xs ys zs : List (Vec (PackageKey × Packaged))) → zs ≡ xs ++ ys
+    → packages_in zs ≡ packages_in xs ++ packages_in ys
+packages_in-append xs ys zs is = rw is (flat_map-append (λ v. v.items) xs ys)
+
 module _ (table : List ArchWords) (stanzas : List (List Entry)) where
+  -- a part by itself
+  pub part_alone : (from to : ℕ) (parts : List (Vec (PackageKey × Packaged)))
+      (packages : Vec (PackageKey × Packaged)) → parts ≡ packages ∷ []
+      → StandFor table stanzas from to packages.items
+      → StandFor table stanzas from to (packages_in parts)
+  part_alone from to parts packages is stand =
+      subst (StandFor table stanzas from to) (sym (packages_in_one parts packages is)) stand
+
   -- a part, and another behind it
-  pub part_behind : (from middle to : ℕ) (xs ys zs : List (PackageKey × Packaged)) → zs ≡ xs ++ ys
-      → ((seen : List KeptBinary) → kept_from table stanzas from seen
-      ≡ kept_from table stanzas middle (put_all seen (binaries_of xs)))
-      → ((seen : List KeptBinary) → kept_from table stanzas middle seen
-      ≡ kept_from table stanzas to (put_all seen (binaries_of ys)))
-      → (seen : List KeptBinary) → kept_from table stanzas from seen
-      ≡ kept_from table stanzas to (put_all seen (binaries_of zs))
+  pub part_behind : (from middle to : ℕ) (xs ys zs : List (Vec (PackageKey × Packaged)))
+      → zs ≡ xs ++ ys → StandFor table stanzas from middle (packages_in xs)
+      → StandFor table stanzas middle to (packages_in ys)
+      → StandFor table stanzas from to (packages_in zs)
   part_behind from middle to xs ys zs is front rest seen =
       front seen
-      ∙ rest (put_all seen (binaries_of xs))
-      ∙ ap (kept_from table stanzas to) (sym (put_all-append seen xs ys zs is))
+      ∙ rest (put_all seen (binaries_of (packages_in xs)))
+      ∙ ap (kept_from table stanzas to)
+      (sym (put_all-append seen (packages_in xs) (packages_in ys) (packages_in zs)
+      (packages_in-append xs ys zs is)))
 
   -- a part, and a fault behind it
-  pub fault_behind : (from middle : ℕ) (xs : List (PackageKey × Packaged)) (e : ArchiveFault)
-      → ((seen : List KeptBinary) → kept_from table stanzas from seen
-      ≡ kept_from table stanzas middle (put_all seen (binaries_of xs)))
-      → ((seen : List KeptBinary) → IsOfStanza (kept_from table stanzas middle seen) e)
-      → (seen : List KeptBinary) → IsOfStanza (kept_from table stanzas from seen) e
-  fault_behind from middle xs e front fault seen =
+  pub fault_behind : (from middle : ℕ) (packages : List (PackageKey × Packaged)) (e : ArchiveFault)
+      → StandFor table stanzas from middle packages → IsFaultFrom table stanzas middle e
+      → IsFaultFrom table stanzas from e
+  fault_behind from middle packages e front fault seen =
       subst (λ (r : Result (List KeptBinary) ArchiveFault). IsOfStanza r e) (sym (front seen))
-      (fault (put_all seen (binaries_of xs)))
+      (fault (put_all seen (binaries_of packages)))
 
   -- behind the last stanza nothing is left to read
   pub kept_from-end : (seen : List KeptBinary)
@@ -57,18 +76,29 @@ module _ (table : List ArchWords) (stanzas : List (List Entry)) where
       over_stanzas (binary_step table) (length stanzas) seen l)
       (drop_all (length stanzas) stanzas (omega arith))
 
-  -- what was read of a part, and a part's fault
+  -- what was read of a part, and of parts, and their faults
   pub packages_read : (from to : ℕ) (read : Result (Vec (PackageKey × Packaged)) ArchiveFault)
       (packages : Vec (PackageKey × Packaged)) → read ≡ Ok packages
-      → IsPartRead table stanzas from to read
-      → (seen : List KeptBinary) → kept_from table stanzas from seen
-      ≡ kept_from table stanzas to (put_all seen (binaries_of packages.items))
+      → IsPartRead table stanzas from to read → StandFor table stanzas from to packages.items
   packages_read from to read packages is h = subst (IsPartRead table stanzas from to) is h
 
   pub fault_read : (from to : ℕ) (read : Result (Vec (PackageKey × Packaged)) ArchiveFault)
       (fault : ArchiveFault) → read ≡ Err fault → IsPartRead table stanzas from to read
-      → (seen : List KeptBinary) → IsOfStanza (kept_from table stanzas from seen) fault
+      → IsFaultFrom table stanzas from fault
   fault_read from to read fault is h = subst (IsPartRead table stanzas from to) is h
+
+  pub parts_read : (from to : ℕ)
+      (read : Result (Vec (Vec (PackageKey × Packaged))) ArchiveFault)
+      (parts : Vec (Vec (PackageKey × Packaged))) → read ≡ Ok parts
+      → ArePartsRead table stanzas from to read
+      → StandFor table stanzas from to (packages_in parts.items)
+  parts_read from to read parts is h = subst (ArePartsRead table stanzas from to) is h
+
+  pub parts_fault : (from to : ℕ)
+      (read : Result (Vec (Vec (PackageKey × Packaged))) ArchiveFault) (fault : ArchiveFault)
+      → read ≡ Err fault → ArePartsRead table stanzas from to read
+      → IsFaultFrom table stanzas from fault
+  parts_fault from to read fault is h = subst (ArePartsRead table stanzas from to) is h
 
 -- a stanza that stands for a package
 pub package_more : (table : List ArchWords) (number : ℕ) (fields : List Entry)

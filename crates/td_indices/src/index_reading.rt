@@ -9,7 +9,7 @@ ghost use Rattle.td_indices.specs.inner.IndexReading.{ArePackagesRead, AreSource
 
 use crate::archive_fault::{ArchiveFault, IndexFile};
 use crate::packaged::{PackageKey, Packaged};
-use crate::part_reading::{read_part, read_parts};
+use crate::part_reading::{alone, read_part, read_parts};
 use crate::piece_reading::read_stanzas_beside;
 use crate::sourced::Sourced;
 use crate::stanza_list::read_stanzas;
@@ -48,8 +48,9 @@ pub fn read_packages_index<'a>(
         Ok(stanzas) => stanzas,
         Err(fault) => return Err(fault),
     };
-    let read = read_part(alloc, archs, &stanzas, 0, stanzas.len());
-    let kept = kept_of(alloc, read);
+    let count = stanzas.len();
+    let read = alone(alloc, read_part(alloc, archs, &stanzas, 0, count));
+    let kept = kept_of(alloc, read, count);
     Ok(PackagesIndex { stanzas, kept })
 }
 
@@ -66,8 +67,9 @@ pub fn read_packages_beside<'a, R: Threads + Sync>(
         Ok(stanzas) => stanzas,
         Err(fault) => return Err(fault),
     };
-    let read = read_parts(rt, alloc, archs, &stanzas, 0, stanzas.len(), HALVINGS);
-    let kept = kept_of(alloc, read);
+    let count = stanzas.len();
+    let read = read_parts(rt, alloc, archs, &stanzas, 0, count, HALVINGS);
+    let kept = kept_of(alloc, read, count);
     Ok(PackagesIndex { stanzas, kept })
 }
 

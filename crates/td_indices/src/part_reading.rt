@@ -9,7 +9,7 @@ ghost use Rattle.td_relation.specs.Arch.{ArchWords};
 ghost use Rattle.td_relation.specs.TableView.{table};
 ghost use Rattle.td_indices.specs.Kept.{KeptBinary, binaries_of};
 ghost use Rattle.td_indices.specs.Reading.{IsFaultOf, binary_step, is_entry};
-ghost use Rattle.td_indices.specs.inner.Parts.{IsPartRead, put_all};
+ghost use Rattle.td_indices.specs.inner.Parts.{ArePartsRead, IsPartRead, put_all};
 
 use crate::archive_fault::{ArchiveFault, IndexFile};
 use crate::binary_keeping::read_binary;
@@ -77,22 +77,41 @@ pub fn read_part<'a>(
     Ok(packages)
 }
 
-/// The packages of two parts, one behind the other.
-fn joined<'a>(
-    front: Result<Vec<(PackageKey<'a>, Packaged<'a>)>, ArchiveFault>,
-    rest: Result<Vec<(PackageKey<'a>, Packaged<'a>)>, ArchiveFault>,
-) -> Result<Vec<(PackageKey<'a>, Packaged<'a>)>, ArchiveFault>
-    ensures { (table : List ArchWords) (stanzas : List (List Entry)) (from middle to : ℕ)
-        → IsPartRead table stanzas from middle front.entry
-        → IsPartRead table stanzas middle to rest.entry
-        → IsPartRead table stanzas from to result }
+/// A part by itself, as a list of parts.
+pub fn alone<'a>(
+    alloc: Global,
+    read: Result<Vec<(PackageKey<'a>, Packaged<'a>)>, ArchiveFault>,
+) -> Result<Vec<Vec<(PackageKey<'a>, Packaged<'a>)>>, ArchiveFault>
+    ensures { (table : List ArchWords) (stanzas : List (List Entry)) (from to : ℕ)
+        → IsPartRead table stanzas from to read.entry → ArePartsRead table stanzas from to result }
 {
-    let mut front = match front {
+    let packages = match read {
         Ok(packages) => packages,
         Err(fault) => return Err(fault),
     };
+    let mut parts = Vec::new(alloc);
+    match parts.push(packages) {
+        Ok(()) => Ok(parts),
+        Err(_) => Err(ArchiveFault::NoMemory),
+    }
+}
+
+/// Some parts, and others behind them. No package is moved.
+fn joined<'a>(
+    front: Result<Vec<Vec<(PackageKey<'a>, Packaged<'a>)>>, ArchiveFault>,
+    rest: Result<Vec<Vec<(PackageKey<'a>, Packaged<'a>)>>, ArchiveFault>,
+) -> Result<Vec<Vec<(PackageKey<'a>, Packaged<'a>)>>, ArchiveFault>
+    ensures { (table : List ArchWords) (stanzas : List (List Entry)) (from middle to : ℕ)
+        → ArePartsRead table stanzas from middle front.entry
+        → ArePartsRead table stanzas middle to rest.entry
+        → ArePartsRead table stanzas from to result }
+{
+    let mut front = match front {
+        Ok(parts) => parts,
+        Err(fault) => return Err(fault),
+    };
     let mut rest = match rest {
-        Ok(packages) => packages,
+        Ok(parts) => parts,
         Err(fault) => return Err(fault),
     };
     match front.append(&mut rest) {
@@ -101,7 +120,7 @@ fn joined<'a>(
     }
 }
 
-/// The same as `read_part` gives.
+/// The same as `read_part` gives, by a list for each part.
 #[cycle(parts)]
 pub fn read_parts<'a, R: Threads + Sync>(
     rt: &R,
@@ -111,23 +130,23 @@ pub fn read_parts<'a, R: Threads + Sync>(
     from: usize,
     to: usize,
     halvings: usize,
-) -> Result<Vec<(PackageKey<'a>, Packaged<'a>)>, ArchiveFault>
+) -> Result<Vec<Vec<(PackageKey<'a>, Packaged<'a>)>>, ArchiveFault>
     requires order { from ≤ to }
     requires within { to ≤ length stanzas.now }
-    ensures { IsPartRead (table archs.now) stanzas.now from to result }
+    ensures { ArePartsRead (table archs.now) stanzas.now from to result }
 {
     if halvings == 0 || to - from < LEAST {
-        return read_part(alloc, archs, stanzas, from, to);
+        return alone(alloc, read_part(alloc, archs, stanzas, from, to));
     }
     let middle = from + (to - from) / 2;
     let left = halvings - 1;
-    let of_front = move || -> Result<Vec<(PackageKey, Packaged)>, ArchiveFault>
+    let of_front = move || -> Result<Vec<Vec<(PackageKey, Packaged)>>, ArchiveFault>
         requires { IsSync R.row × (from ≤ middle) × (middle ≤ length stanzas.now) }
-        ensures { IsPartRead (table archs.entry.now) stanzas.entry.now from middle result }
+        ensures { ArePartsRead (table archs.entry.now) stanzas.entry.now from middle result }
     { read_parts(rt, alloc, archs, stanzas, from, middle, left) };
-    let of_rest = move || -> Result<Vec<(PackageKey, Packaged)>, ArchiveFault>
+    let of_rest = move || -> Result<Vec<Vec<(PackageKey, Packaged)>>, ArchiveFault>
         requires { IsSync R.row × (middle ≤ to) × (to ≤ length stanzas.now) }
-        ensures { IsPartRead (table archs.entry.now) stanzas.entry.now middle to result }
+        ensures { ArePartsRead (table archs.entry.now) stanzas.entry.now middle to result }
     { read_parts(rt, alloc, archs, stanzas, middle, to, left) };
     let (front, rest) = thread::join(rt, of_front, of_rest);
     joined(front, rest)

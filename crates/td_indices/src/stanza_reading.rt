@@ -27,7 +27,7 @@ ghost use Rattle.td_indices.specs.Reading.{
   sources_at,
 };
 ghost use Rattle.td_indices.specs.inner.IndexReading.{IsOfStanza};
-ghost use Rattle.td_indices.specs.inner.Parts.{IsPartRead, put_all};
+ghost use Rattle.td_indices.specs.inner.Parts.{ArePartsRead, packages_in, put_all};
 
 use crate::archive_fault::{ArchiveFault, IndexFile};
 use crate::binary_keeping::keep_binary;
@@ -41,36 +41,52 @@ use indexmap::IndexMap;
 use std::alloc::{AllocError, Global};
 use td_stanza::Stanza;
 
-/// Of these packages, those that count.
+/// Keeps those of a part's packages that count.
+fn keep_part<'a>(
+    kept: &mut IndexMap<PackageKey<'a>, Packaged<'a>>,
+    packages: Vec<(PackageKey<'a>, Packaged<'a>)>,
+) -> Result<(), AllocError>
+    ensures { OnOk result (binaries_of kept.new.entries
+        ≡ put_all (binaries_of kept.old.entries) (binaries_of packages.entry.items)) }
+{
+    for (key, packaged) in packages {
+        keep_binary(kept, key, packaged)?;
+    }
+    Ok(())
+}
+
+/// Of the packages of these parts, those that count. There is room for so many from the first.
 fn keep_all<'a>(
     alloc: Global,
-    packages: Vec<(PackageKey<'a>, Packaged<'a>)>,
+    parts: Vec<Vec<(PackageKey<'a>, Packaged<'a>)>>,
+    room: usize,
 ) -> Result<IndexMap<PackageKey<'a>, Packaged<'a>>, AllocError>
     ensures { IfOk result (λ kept.
-        binaries_of kept.entries ≡ put_all [] (binaries_of packages.entry.items)) }
+        binaries_of kept.entries ≡ put_all [] (binaries_of (packages_in parts.entry.items))) }
 {
-    let mut kept = IndexMap::with_capacity(alloc, packages.len())?;
-    for (key, packaged) in packages {
-        keep_binary(&mut kept, key, packaged)?;
+    let mut kept = IndexMap::with_capacity(alloc, room)?;
+    for packages in parts {
+        keep_part(&mut kept, packages)?;
     }
     Ok(kept)
 }
 
-/// Of the packages that all stanzas stand for, those that count.
+/// Of the packages that all stanzas, so many, stand for, those that count.
 pub fn kept_of<'a>(
     alloc: Global,
-    read: Result<Vec<(PackageKey<'a>, Packaged<'a>)>, ArchiveFault>,
+    read: Result<Vec<Vec<(PackageKey<'a>, Packaged<'a>)>>, ArchiveFault>,
+    count: usize,
 ) -> Result<IndexMap<PackageKey<'a>, Packaged<'a>>, ArchiveFault>
     ensures { (table : List ArchWords) (stanzas : List (List Entry))
-        → IsPartRead table stanzas 0 (length stanzas) read.entry
+        → ArePartsRead table stanzas 0 (length stanzas) read.entry
         → MatchResult result (λ kept. binaries_at table stanzas ≡ Ok (binaries_of kept.entries))
         (IsOfStanza (binaries_at table stanzas)) }
 {
-    let packages = match read {
-        Ok(packages) => packages,
+    let parts = match read {
+        Ok(parts) => parts,
         Err(fault) => return Err(fault),
     };
-    match keep_all(alloc, packages) {
+    match keep_all(alloc, parts, count) {
         Ok(kept) => Ok(kept),
         Err(_) => Err(ArchiveFault::NoMemory),
     }
