@@ -1,6 +1,6 @@
 //! What no clause can say: that builders of a crew build at the same time, and that a crew of none
-//! tells its rows too (the program has a script without builders run by itself). The archive and the
-//! answers are this project's worked examples.
+//! tells its rows too (the program has a script without builders run by itself). The archive and
+//! the answers are this project's worked examples.
 use crate::archive::{ARCHS, PACKAGES, SOURCES};
 use std::alloc::{AllocError, Global};
 use std::fmt::Debug;

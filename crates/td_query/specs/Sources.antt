@@ -51,10 +51,11 @@ abbrev pub IsRefusedForCause : List ℕ → Type 0
 IsRefusedForCause text = (e : Error) × IsCause text e
 
 -- a pattern as `Regex::new` gives it: what the grammar of `regex` reads in its text, with the
--- default options, and within the limit of its size
+-- default options, and within the limit of size that its clause `small` names
 abbrev pub IsDefault : Regex → Type 0
 IsDefault r = (regex_config r ≡ default_config) × IsReadFromSource r
     × (regex_size r ≤ 10 * 2 ^ 20 + 24)
 
+-- patterns that all are
 abbrev pub AreDefault : List Regex → Type 0
 AreDefault patterns = AllByRecursion IsDefault patterns
