@@ -1,6 +1,6 @@
 -- What parts of the stanzas of Packages come to, one part behind the other.
 use Rattle.std.proofs.Common.{◌≡◌, ℕ, List, [], ◌∷◌, ◌++◌, Some, Result, Ok}
-use Rattle.std.proofs.Common.{Err, arith, length, sym, ap, ◌∙◌, subst}
+use Rattle.std.proofs.Common.{arith, length, sym, ap, ◌∙◌, subst}
 use Rattle.std.specs.Global.{Vec}
 use Rattle.std.proofs.Common.{append-nil}
 use Rattle.std.proofs.lemmas.List.{map-append, drop_all}
@@ -15,8 +15,7 @@ use Rattle.td_indices.specs.Kept.{KeptBinary, binaries_of, binary_at, binary_of,
 use Rattle.td_indices.specs.Kept.{same_package}
 use Rattle.td_indices.specs.Reading.{binary_step, over_stanzas}
 use Rattle.td_indices.specs.inner.IndexReading.{IsOfStanza}
-use Rattle.td_indices.specs.inner.Parts.{ArePartsRead, IsFaultFrom, IsPartRead, StandFor, kept_from}
-use Rattle.td_indices.specs.inner.Parts.{packages_in, put_all}
+use Rattle.td_indices.specs.inner.Parts.{IsFaultFrom, StandFor, kept_from, packages_in, put_all}
 
 -- packages, and others behind them
 pub put_all-append : (seen : List KeptBinary) (xs ys zs : List (PackageKey × Packaged))
@@ -75,30 +74,6 @@ module _ (table : List ArchWords) (stanzas : List (List Entry)) where
       ap (λ (l : List (List Entry)).
       over_stanzas (binary_step table) (length stanzas) seen l)
       (drop_all (length stanzas) stanzas (omega arith))
-
-  -- what was read of a part, and of parts, and their faults
-  pub packages_read : (from to : ℕ) (read : Result (Vec (PackageKey × Packaged)) ArchiveFault)
-      (packages : Vec (PackageKey × Packaged)) → read ≡ Ok packages
-      → IsPartRead table stanzas from to read → StandFor table stanzas from to packages.items
-  packages_read from to read packages is h = subst (IsPartRead table stanzas from to) is h
-
-  pub fault_read : (from to : ℕ) (read : Result (Vec (PackageKey × Packaged)) ArchiveFault)
-      (fault : ArchiveFault) → read ≡ Err fault → IsPartRead table stanzas from to read
-      → IsFaultFrom table stanzas from fault
-  fault_read from to read fault is h = subst (IsPartRead table stanzas from to) is h
-
-  pub parts_read : (from to : ℕ)
-      (read : Result (Vec (Vec (PackageKey × Packaged))) ArchiveFault)
-      (parts : Vec (Vec (PackageKey × Packaged))) → read ≡ Ok parts
-      → ArePartsRead table stanzas from to read
-      → StandFor table stanzas from to (packages_in parts.items)
-  parts_read from to read parts is h = subst (ArePartsRead table stanzas from to) is h
-
-  pub parts_fault : (from to : ℕ)
-      (read : Result (Vec (Vec (PackageKey × Packaged))) ArchiveFault) (fault : ArchiveFault)
-      → read ≡ Err fault → ArePartsRead table stanzas from to read
-      → IsFaultFrom table stanzas from fault
-  parts_fault from to read fault is h = subst (ArePartsRead table stanzas from to) is h
 
 -- a stanza that stands for a package
 pub package_more : (table : List ArchWords) (number : ℕ) (fields : List Entry)

@@ -29,7 +29,7 @@ StandFor table stanzas from to packages =
     (seen : List KeptBinary) → kept_from table stanzas from seen
     ≡ kept_from table stanzas to (put_all seen (binaries_of packages))
 
--- the first fault of the stanzas from a number on, whatever was kept before
+-- the first fault of the stanzas from a number on, whatever was kept before, or want of memory
 abbrev pub IsFaultFrom : List ArchWords → List (List Entry) → ℕ → ArchiveFault → Type 0
 IsFaultFrom table stanzas from fault =
     (seen : List KeptBinary) → IsOfStanza (kept_from table stanzas from seen) fault
