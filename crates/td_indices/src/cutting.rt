@@ -4,6 +4,9 @@ ghost use Rattle.td_indices.specs.inner.Pieces.{IsCutApart};
 
 use td_text::next_line;
 
+/// How often a text, or a list of stanzas, is halved for threads, at most: into eight parts.
+pub const HALVINGS: usize = 3;
+
 /// The shortest text that is worth a second thread, in bytes.
 const LEAST: usize = 131_072;
 

@@ -8,6 +8,7 @@ ghost use Rattle.td_indices.specs.declared.archive_fault.IndexFile.TheVariants.{
 ghost use Rattle.td_indices.specs.inner.IndexReading.{ArePackagesRead, AreSourcesRead};
 
 use crate::archive_fault::{ArchiveFault, IndexFile};
+use crate::cutting::HALVINGS;
 use crate::packaged::{PackageKey, Packaged};
 use crate::part_reading::{alone, read_part, read_parts};
 use crate::piece_reading::read_stanzas_beside;
@@ -15,7 +16,6 @@ use crate::sourced::Sourced;
 use crate::stanza_list::read_stanzas;
 use crate::stanza_pieces::StanzaPieces;
 use crate::stanza_reading::{kept_of, read_sources};
-use crate::work::HALVINGS;
 use indexmap::IndexMap;
 use std::alloc::Global;
 use std::thread::Threads;

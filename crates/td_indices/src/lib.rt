@@ -41,7 +41,6 @@ mod stanza_pieces;
 mod stanza_reading;
 mod supplying;
 mod text;
-mod work;
 
 pub use archive::Archive;
 pub use archive_fault::{ArchiveFault, IndexField, IndexFile, RelationField, VersionField};

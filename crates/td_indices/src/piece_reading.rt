@@ -7,10 +7,9 @@ ghost use Rattle.td_indices.specs.Archive.{StanzaFaultOf};
 ghost use Rattle.td_indices.specs.inner.Pieces.{IsCutApart};
 
 use crate::archive_fault::{ArchiveFault, IndexFile};
-use crate::cutting::halved;
+use crate::cutting::{HALVINGS, halved};
 use crate::stanza_list::read_stanzas;
 use crate::stanza_pieces::StanzaPieces;
-use crate::work::HALVINGS;
 use std::alloc::Global;
 use std::thread;
 use std::thread::Threads;

@@ -1,4 +1,5 @@
 //! The two files read side by side, each in a thread.
+ghost use denote.Param.Send.{IsSync};
 ghost use Rattle.td_text.specs.Lines.{lines_of};
 ghost use Rattle.td_relation.specs.TableView.{table};
 ghost use Rattle.td_indices.specs.inner.IndexReading.{ArePackagesRead, AreSourcesRead};
@@ -7,59 +8,16 @@ use crate::archive_fault::ArchiveFault;
 use crate::index_reading::{
     PackagesIndex, SourcesIndex, read_packages_beside, read_sources_beside,
 };
-use crate::work::{Work, both};
 use std::alloc::Global;
+use std::thread;
 use std::thread::Threads;
 use td_relation::Archs;
-
-/// Packages, with what it is read by.
-#[derive(Drop)]
-struct PackagesWork<'t, 'a> {
-    alloc: Global,
-    archs: &'t Archs<'a>,
-    text: &'a str,
-}
-
-/// Sources, likewise.
-#[derive(Drop)]
-struct SourcesWork<'a> {
-    alloc: Global,
-    text: &'a str,
-}
-
-impl<'t, 'a> Work for PackagesWork<'t, 'a> {
-    ghost use Rattle.td_text.specs.Lines.{lines_of};
-    ghost use Rattle.td_relation.specs.TableView.{table};
-    ghost use Rattle.td_indices.specs.inner.IndexReading.{ArePackagesRead};
-
-    type Made = Result<PackagesIndex<'a>, ArchiveFault>;
-
-    ghost makes = { λ work made.
-        ArePackagesRead (table work.archs.now) (lines_of work.text.now) made };
-
-    fn make<R: Threads + Sync>(&self, rt: &R) -> Result<PackagesIndex<'a>, ArchiveFault> {
-        read_packages_beside(rt, self.alloc, self.archs, self.text)
-    }
-}
-
-impl<'a> Work for SourcesWork<'a> {
-    ghost use Rattle.td_text.specs.Lines.{lines_of};
-    ghost use Rattle.td_indices.specs.inner.IndexReading.{AreSourcesRead};
-
-    type Made = Result<SourcesIndex<'a>, ArchiveFault>;
-
-    ghost makes = { λ work made. AreSourcesRead (lines_of work.text.now) made };
-
-    fn make<R: Threads + Sync>(&self, rt: &R) -> Result<SourcesIndex<'a>, ArchiveFault> {
-        read_sources_beside(rt, self.alloc, self.text)
-    }
-}
 
 /// Reads both files, each by itself.
 pub fn read_indices<'a, R: Threads + Sync>(
     rt: &R,
     alloc: Global,
-    archs: &Archs<'a>,
+    archs: &Archs<'_>,
     packages: &'a str,
     sources: &'a str,
 ) -> (
@@ -69,14 +27,13 @@ pub fn read_indices<'a, R: Threads + Sync>(
     ensures packages { ArePackagesRead (table archs.now) (lines_of packages.now) result.0 }
     ensures sources { AreSourcesRead (lines_of sources.now) result.1 }
 {
-    let of_packages = PackagesWork {
-        alloc,
-        archs,
-        text: packages,
-    };
-    let of_sources = SourcesWork {
-        alloc,
-        text: sources,
-    };
-    both(rt, &of_packages, &of_sources)
+    let of_packages = move || -> Result<PackagesIndex, ArchiveFault>
+        requires { IsSync R.row }
+        ensures { ArePackagesRead (table archs.entry.now) (lines_of packages.entry.now) result }
+    { read_packages_beside(rt, alloc, archs, packages) };
+    let of_sources = move || -> Result<SourcesIndex, ArchiveFault>
+        requires { IsSync R.row }
+        ensures { AreSourcesRead (lines_of sources.entry.now) result }
+    { read_sources_beside(rt, alloc, sources) };
+    thread::join(rt, of_packages, of_sources)
 }
