@@ -3,7 +3,7 @@ use Rattle.std.proofs.Common.{◌≡◌, ℕ, zero, suc, ◌+◌, ◌-◌, ◌�
 use Rattle.std.proofs.Common.{◌∷◌, ◌++◌, map, length, take, drop, Result, Ok, Err, refl, sym, ap}
 use Rattle.std.proofs.Common.{◌∙◌, append_assoc, arith}
 use Rattle.std.proofs.lemmas.List.{length-append, length-map, append-nil}
-use Rattle.td_text.specs.Lines.{on_ok}
+use Rattle.td_text.specs.Lines.{on_ok, pieces_of}
 use Rattle.td_text.proofs.Chain.{on_ok_parts, ok_is}
 use Rattle.td_relation.specs.declared.relation.Alternative.{Alternative}
 use Rattle.td_relation.specs.declared.relation_fault.RelationFault.{RelationFault}
@@ -15,7 +15,6 @@ use Rattle.td_relation.specs.declared.relation_fault.RelationFault.TheVariants.{
 use Rattle.td_relation.specs.declared.relation_fault.RelationFault.TheVariants.{NoMemory}
 use Rattle.td_relation.specs.Asked.{Asked, asked}
 use Rattle.td_relation.specs.Members.{chunked, total}
-use Rattle.td_relation.specs.Pieces.{pieces_of}
 use Rattle.td_text.specs.Runs.{is_blank}
 use Rattle.td_relation.specs.RelationGrammar.{over, alternative_at, alternative_step, member_at}
 use Rattle.td_relation.specs.RelationGrammar.{member_step, some_members, relation_at}

@@ -5,7 +5,7 @@ use Rattle.std.proofs.Common.{ap, ◌∙◌, subst, arith}
 use Rattle.std.specs.Borrow.{Bor}
 use Rattle.std.specs.List.{list_all, list_any, filter}
 use Rattle.std.proofs.lemmas.Bool.{lt-ltb}
-use Rattle.td_text.specs.Lines.{on_ok}
+use Rattle.td_text.specs.Lines.{on_ok, pieces_of, pieces_left}
 use Rattle.td_relation.specs.declared.relation_fault.RelationFault.{RelationFault}
 use Rattle.td_relation.specs.declared.relation_fault.RelationFault.TheVariants.{BadName}
 use Rattle.td_relation.specs.declared.relation_fault.RelationFault.TheVariants.{BadOperator}
@@ -13,7 +13,6 @@ use Rattle.td_relation.specs.declared.relation_fault.RelationFault.TheVariants.{
 use Rattle.td_relation.specs.declared.relation_fault.RelationFault.TheVariants.{BadArchList}
 use Rattle.td_relation.specs.declared.relation_fault.RelationFault.TheVariants.{BadProfile, Empty}
 use Rattle.td_relation.specs.declared.relation_fault.RelationFault.TheVariants.{NoMemory}
-use Rattle.td_relation.specs.Pieces.{pieces_of, pieces_left}
 use Rattle.td_text.specs.Words.{is_arch}
 use Rattle.td_relation.specs.ArchList.{is_negated, bare}
 use Rattle.td_relation.specs.RelationGrammar.{over, is_negated_word, is_arch_list, is_profile}

@@ -14,7 +14,6 @@ pub mod MembersLeft
 pub mod Meeting
 pub mod Offers
 pub mod RelationGrammar
-pub mod Pieces
 pub mod RelationViews
 pub mod RelationWriting
 pub mod MeetingLaws

@@ -1,15 +1,13 @@
 //! How build profiles are read.
 ghost use Rattle.std.specs.Prelude.{◌≡◌, false};
-ghost use Rattle.td_text.specs.Lines.{on_ok};
-ghost use Rattle.td_relation.specs.Pieces.{pieces_of};
+ghost use Rattle.td_text.specs.Lines.{on_ok, pieces_of};
 ghost use Rattle.td_relation.specs.RelationGrammar.{ended as ended_of, over};
 ghost use Rattle.td_relation.specs.RelationGrammar.{profile_piece as profile_piece_of};
 ghost use Rattle.td_relation.specs.RelationGrammar.{profile_step, unprofiled_at};
 
 use crate::arch_list::{is_profile_list, is_unprofiled};
 use crate::relation_fault::RelationFault;
-use crate::runs::next_piece;
-use td_text::{is_blank, strip, trimmed};
+use td_text::{is_blank, next_piece, strip, trimmed};
 
 /// What stands before a `>`: whether the list holds where no profile is active.
 #[tactic(auto, unfolding(crate::specs::RelationGrammar::profile_piece))]

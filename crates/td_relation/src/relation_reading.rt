@@ -1,9 +1,8 @@
 //! How a relation is read.
 ghost use Rattle.std.specs.Prelude.{◌≡◌, ◌≤◌, [], ◌∷◌, ◌++◌, Ok, IfErr, IfOk, OnOk, length, map};
-ghost use Rattle.td_text.specs.Lines.{on_ok};
+ghost use Rattle.td_text.specs.Lines.{on_ok, pieces_of};
 ghost use Rattle.td_relation.specs.Asked.{asked};
 ghost use Rattle.td_relation.specs.Members.{chunked, members, total};
-ghost use Rattle.td_relation.specs.Pieces.{pieces_of};
 ghost use Rattle.td_relation.specs.RelationGrammar.{alternative_step, member_at, member_step, over};
 ghost use Rattle.td_relation.specs.RelationGrammar.{relation_at};
 ghost use Rattle.td_relation.specs.RelationViews.{IsFaultOf};
@@ -11,9 +10,8 @@ ghost use Rattle.td_relation.specs.RelationViews.{IsFaultOf};
 use crate::alternative_reading::read_alternative;
 use crate::relation::{Alternative, Relation};
 use crate::relation_fault::RelationFault;
-use crate::runs::next_piece;
 use std::alloc::Global;
-use td_text::is_blank;
+use td_text::{is_blank, next_piece};
 
 // Adds the alternative that the piece is.
 fn push_alternative<'a>(

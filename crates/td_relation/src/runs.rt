@@ -1,25 +1,9 @@
-//! Pieces of a text between marks, and the runs of an operator's and of a version's bytes.
-ghost use Rattle.std.specs.Prelude.{◌≡◌, ◌≤◌, ◌+◌, ◌<◌, length, ◌∷◌};
+//! The runs of an operator's and of a version's bytes at the front of a text.
+ghost use Rattle.std.specs.Prelude.{◌≡◌};
 ghost use Rattle.std.specs.List.{prefix_len};
 ghost use Rattle.td_text.specs.Runs.{behind, run};
-ghost use Rattle.td_relation.specs.Pieces.{left_len, pieces_left, pieces_of};
 ghost use Rattle.td_relation.specs.RelationGrammar.{is_operator_byte as is_operator_byte_of};
 ghost use Rattle.td_relation.specs.RelationGrammar.{is_version_byte as is_version_byte_of};
-
-use td_text::cut_at;
-
-/// The first piece before a mark, an ASCII character, and what follows that mark; `None` behind the
-/// last piece.
-pub fn next_piece(text: &str, mark: char) -> (&str, Option<&str>)
-    requires { mark < 128 }
-    ensures pieces { pieces_of mark text.now ≡ result.0.now ∷ pieces_left mark result.1 }
-    ensures shorter { left_len result.1 ≤ length text.now }
-{
-    match cut_at(text, mark) {
-        Some((piece, rest)) => (piece, Some(rest)),
-        None => (text, None),
-    }
-}
 
 fn is_operator_byte(byte: u8) -> bool
     ensures { result ≡ is_operator_byte_of byte }

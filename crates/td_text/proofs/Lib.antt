@@ -5,6 +5,7 @@ pub mod SameTexts
 pub mod CutLines
 pub mod SpelledLines
 pub mod Cut
+pub mod Searched
 pub mod Prefix
 pub mod Numbers
 pub mod SignedNumbers

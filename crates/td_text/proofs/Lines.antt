@@ -1,21 +1,13 @@
 -- Texts line by line.
 use Rattle.std.proofs.Common.{◌≡◌, ℕ, ◌+◌, List, [], ◌∷◌, ◌++◌, Option, Some, None, Result, Ok}
-use Rattle.std.proofs.Common.{Err, refl, sym, ap, ◌∙◌, append_assoc, arith, length, get_or, eqb, not, ◌<◌}
-use Rattle.std.proofs.Common.{Bool, true, false, subst}
-use Rattle.std.specs.Prelude.{MatchOption}
+use Rattle.std.proofs.Common.{Err, refl, sym, ap, ◌∙◌, append_assoc}
 use Rattle.std.specs.Borrow.{Bor}
 use Rattle.std.specs.List.{AllByRecursion}
-use Rattle.std.proofs.lemmas.List.Sums.{prefix_len_is}
-use Rattle.memchr.specs.Find.{IsFirstByte, is_byte}
 use Rattle.td_text.specs.Cut.{Without}
 use Rattle.td_text.specs.Lines.{lines_of, text_of, over_lines, lines_left}
-use Rattle.td_text.proofs.Cut.{pieces-cons, pieces-one, place_none, place_of}
+use Rattle.td_text.proofs.Cut.{pieces-cons, pieces-one}
 
 -- ---- the first line and the others
-
-other : (b : Bool) → ¬ (b ≡ true) → not b ≡ true
-other true out = absurd (out refl)
-other false out = refl
 
 pub lines_of-cons : (line rest : List ℕ) → Without 10 line
     → lines_of (line ++ 10 ∷ rest) ≡ line ∷ lines_of rest
@@ -23,37 +15,6 @@ lines_of-cons line rest w = pieces-cons 10 line rest w
 
 pub lines_of-one : (line : List ℕ) → Without 10 line → lines_of line ≡ line ∷ []
 lines_of-one line w = pieces-one 10 line w
-
--- where a search found the first newline, or none
-newline_place : (t : List ℕ) (found : Option ℕ) → IsFirstByte (is_byte 10) t found
-    → MatchOption found (place_of 10 t ≡ length t)
-    (λ place. (place_of 10 t ≡ place) × (place < length t))
-newline_place t None nowhere =
-    prefix_len_is (λ b. not (eqb b 10)) t (length t) 0 (omega arith)
-    (λ i low. other (eqb (get_or t i 0) 10) (nowhere i (omega arith) low))
-    (λ past. absurd (omega arith))
-newline_place t (Some place) first =
-    let within : place < length t = first.0.high in (
-      prefix_len_is (λ b. not (eqb b 10)) t place 0 (omega arith)
-          (λ i low. other (eqb (get_or t i 0) 10) (first.0.before i (omega arith) low))
-          (λ here. ap not first.1),
-      within,
-    )
-
-pub newline_found : (t bytes : List ℕ) (found : Option ℕ) (place : ℕ) → bytes ≡ t
-    → IsFirstByte (is_byte 10) bytes found → found ≡ Some place
-    → (place_of 10 t ≡ place) × (place < length t)
-newline_found t bytes found place same first is =
-    newline_place t (Some place)
-    (subst (λ (l : List ℕ). IsFirstByte (is_byte 10) l (Some place)) same
-    (subst (IsFirstByte (is_byte 10) bytes) is first))
-
-pub no_newline : (t bytes : List ℕ) (found : Option ℕ) → bytes ≡ t
-    → IsFirstByte (is_byte 10) bytes found → found ≡ None → Without 10 t
-no_newline t bytes found same first is =
-    place_none 10 t (newline_place t None
-    (subst (λ (l : List ℕ). IsFirstByte (is_byte 10) l None) same
-    (subst (IsFirstByte (is_byte 10) bytes) is first)))
 
 -- lines that were written are read again; behind the last newline stands an empty one
 pub lines_of-text_of : (lines : List (List ℕ)) → AllByRecursion (Without 10) lines

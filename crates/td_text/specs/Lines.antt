@@ -1,14 +1,19 @@
--- A text as its lines, and a reading line by line in which the first fault decides.
+-- A text as its pieces between marks, and as its lines, and a reading line by line in which the first
+-- fault decides.
 -- This project's own.
 use Rattle.std.specs.Prelude.{ℕ, ◌+◌, ◌==◌, List, [], ◌∷◌, ◌++◌, Option, Some, None, Result, Ok}
 use Rattle.std.specs.Prelude.{Err, length}
 use Rattle.std.specs.Borrow.{Bor}
 use Rattle.std.specs.List.{slice_split, flat_map}
 
+-- the pieces between the marks
+abbrev pub pieces_of : ℕ → List ℕ → List (List ℕ)
+pieces_of mark text = slice_split (λ b. b == mark) text
+
 -- the lines, without their newlines: the pieces between the newlines, so that a text which ends in
 -- a newline has an empty last one
 abbrev pub lines_of : List ℕ → List (List ℕ)
-lines_of text = slice_split (λ b. b == 10) text
+lines_of text = pieces_of 10 text
 
 -- the text of these lines, a newline after each
 abbrev pub text_of : List (List ℕ) → List ℕ
@@ -33,17 +38,25 @@ over_lines step number seen [] = Ok seen
 over_lines step number seen (line ∷ lines) =
     on_ok (step number seen line) (λ more. over_lines step (number + 1) more lines)
 
--- the lines of what is left of a text; None: not even an empty line
-abbrev pub lines_left : Option (Bor (List ℕ)) → List (List ℕ)
-lines_left None = []
-lines_left (Some rest) = lines_of rest.now
+-- the pieces of what is left of a text; None: not even an empty one
+abbrev pub pieces_left : ℕ → Option (Bor (List ℕ)) → List (List ℕ)
+pieces_left mark None = []
+pieces_left mark (Some rest) = pieces_of mark rest.now
 
--- the text that is left, with the newline before it
-abbrev pub left_text : Option (Bor (List ℕ)) → List ℕ
-left_text None = []
-left_text (Some rest) = 10 ∷ rest.now
+-- the text that is left, with the mark before it
+abbrev pub text_left : ℕ → Option (Bor (List ℕ)) → List ℕ
+text_left mark None = []
+text_left mark (Some rest) = mark ∷ rest.now
 
--- how much is left, one for the line that an empty text has
+-- how much is left, one for the piece that an empty text has
 abbrev pub left_len : Option (Bor (List ℕ)) → ℕ
 left_len None = 0
 left_len (Some rest) = length rest.now + 1
+
+-- the lines of what is left of a text
+abbrev pub lines_left : Option (Bor (List ℕ)) → List (List ℕ)
+lines_left rest = pieces_left 10 rest
+
+-- the text that is left, with the newline before it
+abbrev pub left_text : Option (Bor (List ℕ)) → List ℕ
+left_text rest = text_left 10 rest

@@ -1,7 +1,7 @@
 //! What the readers and writers of text share: cuts at a character, runs of bytes, lines, numbers
 //! as the formats write them, package names and architecture words.
 //!
-//! Start at `cut_at`, `next_line` and `number`. Readers borrow from the text, take no memory, and
+//! Start at `cut_at`, `next_piece` and `number`. Readers borrow from the text, take no memory, and
 //! answer `None` where the text isn't of their form; writers append, or leave the text as it was.
 //! Promised: a cut is at the first place, and a number is read exactly where it is written so.
 //! `specs/Lines.antt` and `specs/FirstFault.antt` say what a reader of lines gives, whatever it
@@ -16,7 +16,7 @@ mod word;
 mod writing;
 
 pub use cutting::{cut_at, part_at, strip};
-pub use line::{behind, next_line};
+pub use line::{behind, next_line, next_piece};
 pub use numeral::{MAX_REBUILD, number, numbers_are_exact, rebuild_number, signed};
 pub use runs::{arch_run, is_blank, is_space, name_run, trimmed};
 pub use word::{are_arch_bytes, is_arch, is_name};

@@ -1,6 +1,6 @@
 -- What the loop of `read_profiles` keeps, and why it ends.
 use Rattle.std.proofs.Common.{◌≡◌, false}
-use Rattle.td_relation.specs.Pieces.{left_len, pieces_left, pieces_of}
+use Rattle.td_text.specs.Lines.{left_len, pieces_left, pieces_of}
 use Rattle.td_relation.specs.RelationGrammar.{over, profile_step}
 use Rattle.td_relation.proofs.profile_reading.read_profiles.Given as goal
 

@@ -2,7 +2,7 @@
 use Rattle.std.proofs.Common.{◌≡◌, [], length, map}
 use Rattle.td_relation.specs.Asked.{asked}
 use Rattle.td_relation.specs.Members.{chunked, total}
-use Rattle.td_relation.specs.Pieces.{left_len, pieces_left, pieces_of}
+use Rattle.td_text.specs.Lines.{left_len, pieces_left, pieces_of}
 use Rattle.td_relation.specs.RelationGrammar.{over, member_step}
 use Rattle.td_relation.proofs.relation_reading.read_members.Given as goal
 
