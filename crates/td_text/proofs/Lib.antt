@@ -6,6 +6,7 @@ pub mod CutLines
 pub mod SpelledLines
 pub mod Cut
 pub mod Searched
+pub mod Tables
 pub mod Prefix
 pub mod Numbers
 pub mod SignedNumbers

@@ -6,6 +6,19 @@ ghost use Rattle.td_text.specs.Words.{is_name_byte as is_name_byte_of};
 ghost use Rattle.td_text.specs.Words.{is_arch_byte as is_arch_byte_of, is_name as is_name_of};
 ghost use Rattle.td_text.specs.Words.{is_arch as is_arch_of};
 
+/// 1 at each byte that a package's name may have, and else 0: one look in the place of up to five
+/// comparisons, for the bytes that are looked at most.
+const NAME_BYTES: [u8; 256] = [
+    0, 0, 0, 0, 0, 0, 0, 0, 0, 0, 0, 0, 0, 0, 0, 0, 0, 0, 0, 0, 0, 0, 0, 0, 0, 0, 0, 0, 0, 0, 0, 0,
+    0, 0, 0, 0, 0, 0, 0, 0, 0, 0, 0, 1, 0, 1, 1, 0, 1, 1, 1, 1, 1, 1, 1, 1, 1, 1, 0, 0, 0, 0, 0, 0,
+    0, 0, 0, 0, 0, 0, 0, 0, 0, 0, 0, 0, 0, 0, 0, 0, 0, 0, 0, 0, 0, 0, 0, 0, 0, 0, 0, 0, 0, 0, 0, 0,
+    0, 1, 1, 1, 1, 1, 1, 1, 1, 1, 1, 1, 1, 1, 1, 1, 1, 1, 1, 1, 1, 1, 1, 1, 1, 1, 1, 0, 0, 0, 0, 0,
+    0, 0, 0, 0, 0, 0, 0, 0, 0, 0, 0, 0, 0, 0, 0, 0, 0, 0, 0, 0, 0, 0, 0, 0, 0, 0, 0, 0, 0, 0, 0, 0,
+    0, 0, 0, 0, 0, 0, 0, 0, 0, 0, 0, 0, 0, 0, 0, 0, 0, 0, 0, 0, 0, 0, 0, 0, 0, 0, 0, 0, 0, 0, 0, 0,
+    0, 0, 0, 0, 0, 0, 0, 0, 0, 0, 0, 0, 0, 0, 0, 0, 0, 0, 0, 0, 0, 0, 0, 0, 0, 0, 0, 0, 0, 0, 0, 0,
+    0, 0, 0, 0, 0, 0, 0, 0, 0, 0, 0, 0, 0, 0, 0, 0, 0, 0, 0, 0, 0, 0, 0, 0, 0, 0, 0, 0, 0, 0, 0, 0,
+];
+
 fn is_alphanumeric(byte: u8) -> bool
     ensures { result ≡ is_alphanumeric_of byte }
 {
@@ -15,7 +28,7 @@ fn is_alphanumeric(byte: u8) -> bool
 pub fn is_name_byte(byte: u8) -> bool
     ensures { result ≡ is_name_byte_of byte }
 {
-    is_alphanumeric(byte) || matches!(byte, b'+' | b'-' | b'.')
+    NAME_BYTES[byte as usize] != 0
 }
 
 pub fn is_arch_byte(byte: u8) -> bool
