@@ -5,6 +5,7 @@ pub mod Cuts
 pub mod Outcomes
 pub mod Epoch
 pub mod Judging
+pub mod Plain
 pub mod Rebuilds
 pub mod Total
 pub mod Rising

@@ -162,12 +162,12 @@ revision_fits start None h = refl
 revision_fits start (Some part) h = part_fits is_revision_byte start part h
 
 -- what the checks answer to these pieces
-abbrev IsOutcome : Written → Result Parts VersionFault → Type 0
+abbrev pub IsOutcome : Written → Result Parts VersionFault → Type 0
 IsOutcome w (Ok p) =
     EpochFits w.epoch × UpstreamFits w × RevisionFits w.revision × (p ≡ parts_written w)
 IsOutcome w (Err fault) = HasFault w fault
 
-judged_only : (w : Written) (r : Result Parts VersionFault) → IsOutcome w r → judged w ≡ r
+pub judged_only : (w : Written) (r : Result Parts VersionFault) → IsOutcome w r → judged w ≡ r
 unfolding judged revision_at
 judged_only w (Ok p) o =
     rw (

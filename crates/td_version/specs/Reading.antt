@@ -1,7 +1,7 @@
 -- What the reader computes. proofs/Outcomes.antt joins it to the grammar and the faults.
 -- This project's own.
-use Rattle.std.specs.Prelude.{ℕ, ◌+◌, ◌==◌, not, Bool, List, [], ◌∷◌, Option, Some, None, is_some}
-use Rattle.std.specs.Prelude.{option_map, Result, Ok, Err, length, position, if◌then◌else◌}
+use Rattle.std.specs.Prelude.{ℕ, ◌+◌, ◌==◌, not, Bool, false, List, [], ◌∷◌, Option, Some, None}
+use Rattle.std.specs.Prelude.{is_some, option_map, Result, Ok, Err, length, position, if◌then◌else◌}
 use Rattle.std.specs.Str.Parse.{digits_value}
 use Rattle.td_text.specs.Cut.{cut}
 use Rattle.td_version.specs.declared.version.Version.{Version}
@@ -78,6 +78,11 @@ part_at may start part = checked part start (position (λ b. not (may b)) part)
 unfoldable pub revision_at : ℕ → Option (List ℕ) → Result Unit VersionFault
 revision_at start None = Ok tt
 revision_at start (Some revision) = part_at is_revision_byte start revision
+
+-- whether a part is written, and is empty
+abbrev pub is_empty_part : Option (List ℕ) → Bool
+is_empty_part None = false
+is_empty_part (Some part) = length part == 0
 
 -- the epoch, then the upstream part, then the revision
 unfoldable pub judged : Written → Result Parts VersionFault

@@ -1,6 +1,7 @@
 //! How a version is read.
 ghost use Rattle.std.specs.Prelude.{◌≡◌, ◌<◌, ◌≤◌, ◌+◌, ◌^◌, IfOk, IfSome, length, not, option_map};
-ghost use Rattle.std.specs.Prelude.{position};
+ghost use Rattle.std.specs.Prelude.{false, position, true};
+ghost use Rattle.std.specs.List.{list_all};
 ghost use Rattle.std.specs.Option.{ForSome};
 ghost use Rattle.td_version.specs.Grammar.{
   is_revision_byte as revision_byte,
@@ -13,6 +14,7 @@ ghost use Rattle.td_version.specs.Reading.{
   cut_last,
   digits_at,
   epoch_at,
+  is_empty_part,
   judged,
   parts_read,
   pieces,
@@ -52,7 +54,43 @@ struct Pieces<'a> {
 pub fn read(text: &str) -> Result<Version<'_>, VersionFault>
     ensures { parts_read result ≡ reading text.now }
 {
-    judge(cut(text))
+    if is_plain(text) {
+        read_plain(text)
+    } else {
+        judge(cut(text))
+    }
+}
+
+/// Whether each byte may stand in an upstream part that has no epoch in front, as in most versions.
+fn is_plain(text: &str) -> bool
+    ensures { result ≡ list_all (upstream_byte false) text.now }
+{
+    text.as_bytes().iter().all(|b| is_upstream_byte(*b, false))
+}
+
+/// A text without an epoch, each of whose bytes may stand where it does. Only a part may be empty.
+fn read_plain(text: &str) -> Result<Version<'_>, VersionFault>
+    requires { list_all (upstream_byte false) text.now ≡ true }
+    ensures { parts_read result ≡ reading text.now }
+{
+    let pieces = cut_revision(None, 0, text);
+    if pieces.upstream.is_empty() || is_empty(pieces.revision) {
+        return Err(VersionFault::Empty);
+    }
+    Ok(Version {
+        epoch: 0,
+        upstream: pieces.upstream,
+        revision: pieces.revision,
+    })
+}
+
+fn is_empty(part: Option<&str>) -> bool
+    ensures { result ≡ is_empty_part (option_map (λ x. x.now) part.entry) }
+{
+    match part {
+        None => false,
+        Some(part) => part.is_empty(),
+    }
 }
 
 /// The version in these pieces, or the first fault.
