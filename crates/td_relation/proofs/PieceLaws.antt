@@ -1,11 +1,13 @@
 -- A text piece by piece.
 use Rattle.std.proofs.Common.{◌≡◌, ℕ, suc, Bool, true, false, cond, not, eqb, ltb, ◌&&◌, ◌||◌}
-use Rattle.std.proofs.Common.{List, [], ◌∷◌, length, Option, Some, None, Result, Ok, Err, refl, sym}
+use Rattle.std.proofs.Common.{List, [], ◌∷◌, ◌++◌, length, Option, Some, None, Result, Ok, Err, refl, sym}
 use Rattle.std.proofs.Common.{ap, ◌∙◌, subst, arith}
 use Rattle.std.specs.Borrow.{Bor}
 use Rattle.std.specs.List.{list_all, list_any, filter}
+use Rattle.std.specs.Prelude.{is_some}
 use Rattle.std.proofs.lemmas.Bool.{lt-ltb}
-use Rattle.td_text.specs.Lines.{on_ok, pieces_of, pieces_left}
+use Rattle.std.proofs.lemmas.List.{append-nil}
+use Rattle.td_text.specs.Lines.{on_ok, pieces_of, pieces_left, text_left}
 use Rattle.td_relation.specs.declared.relation_fault.RelationFault.{RelationFault}
 use Rattle.td_relation.specs.declared.relation_fault.RelationFault.TheVariants.{BadName}
 use Rattle.td_relation.specs.declared.relation_fault.RelationFault.TheVariants.{BadOperator}
@@ -13,6 +15,8 @@ use Rattle.td_relation.specs.declared.relation_fault.RelationFault.TheVariants.{
 use Rattle.td_relation.specs.declared.relation_fault.RelationFault.TheVariants.{BadArchList}
 use Rattle.td_relation.specs.declared.relation_fault.RelationFault.TheVariants.{BadProfile, Empty}
 use Rattle.td_relation.specs.declared.relation_fault.RelationFault.TheVariants.{NoMemory}
+use Rattle.td_text.specs.Cut.{Without}
+use Rattle.td_text.proofs.Cut.{Without-left, Without-right}
 use Rattle.td_text.specs.Words.{is_arch}
 use Rattle.td_relation.specs.ArchList.{is_negated, bare}
 use Rattle.td_relation.specs.RelationGrammar.{over, is_negated_word, is_arch_list, is_profile}
@@ -63,6 +67,42 @@ module _ {S : Type 0} (step : S → List ℕ → Result S RelationFault) where
   faulted BadProfile seen piece after total is h = fails seen piece after total BadProfile is h
   faulted Empty seen piece after total is h = fails seen piece after total Empty is h
   faulted NoMemory seen piece after total is h = tt
+
+  -- one piece alone
+  pub over_one : (seen more : S) (piece : List ℕ) → step seen piece ≡ Ok more
+      → over step seen (piece ∷ []) ≡ Ok more
+  unfolding over
+  over_one seen more piece is = rw is refl
+
+-- ---- what a text lacks, its pieces lack
+
+-- what is left of a text has no byte c
+abbrev pub LeftLacks : ℕ → Option (Bor (List ℕ)) → Type 0
+LeftLacks c None = Unit {0}
+LeftLacks c (Some rest) = Without c rest.now
+
+pub pieces_lack : (c mark : ℕ) (t piece : List ℕ) (o : Option (Bor (List ℕ)))
+    → t ≡ piece ++ text_left mark o → Without c t → Without c piece × LeftLacks c o
+pieces_lack c mark t piece None joined none =
+    (Without-left c piece [] (subst (Without c) joined none), tt)
+pieces_lack c mark t piece (Some rest) joined none =
+    let w = subst (Without c) joined none in
+    (Without-left c piece (mark ∷ rest.now) w, (Without-right c piece (mark ∷ rest.now) w).1)
+
+-- where nothing is left behind its first piece, a text lacks the mark, and only there
+pub lacks_by_left : (mark : ℕ) (t piece : List ℕ) (o : Option (Bor (List ℕ))) (some : Bool)
+    → t ≡ piece ++ text_left mark o → Without mark piece → some ≡ is_some o → some ≡ false
+    → Without mark t
+lacks_by_left mark t piece None some joined none is out =
+    subst (Without mark) (sym (joined ∙ append-nil piece)) none
+lacks_by_left mark t piece (Some rest) some joined none is out =
+    absurd (let bad : true ≡ false = sym is ∙ out in cc)
+
+pub left_by_lacks : (mark : ℕ) (t piece : List ℕ) (o : Option (Bor (List ℕ))) (some : Bool)
+    → t ≡ piece ++ text_left mark o → some ≡ is_some o → Without mark t → some ≡ false
+left_by_lacks mark t piece None some joined is none = is
+left_by_lacks mark t piece (Some rest) some joined is none =
+    absurd ((Without-right mark piece (mark ∷ rest.now) (subst (Without mark) joined none)).0 refl)
 
 -- a fault of a part is that of what goes on from it
 pub faulted_first : {A B : Type 0} (e : RelationFault) (r : Result A RelationFault)

@@ -1,5 +1,7 @@
 //! How a relation is read.
-ghost use Rattle.std.specs.Prelude.{◌≡◌, ◌≤◌, [], ◌∷◌, ◌++◌, Ok, IfErr, IfOk, OnOk, length, map};
+ghost use Rattle.std.specs.Prelude.{◌≡◌, ◌≤◌, [], ◌∷◌, ◌++◌, Ok, IfErr, IfOk, OnOk, false, length};
+ghost use Rattle.std.specs.Prelude.{map};
+ghost use Rattle.td_text.specs.Cut.{Without};
 ghost use Rattle.td_text.specs.Lines.{on_ok, pieces_of};
 ghost use Rattle.td_relation.specs.Asked.{asked};
 ghost use Rattle.td_relation.specs.Members.{chunked, members, total};
@@ -12,6 +14,13 @@ use crate::relation::{Alternative, Relation};
 use crate::relation_fault::RelationFault;
 use std::alloc::Global;
 use td_text::{is_blank, next_piece};
+
+/// As few bytes as a member has in real indices, with its comma. There is room for so many from the
+/// first, since a list that grows is moved as often as it doubles.
+const MEMBER_BYTES: usize = 16;
+
+/// For how many members there is room from the first at most, whatever the text has.
+const MOST_ROOM: usize = 256;
 
 // Adds the alternative that the piece is.
 fn push_alternative<'a>(
@@ -35,7 +44,7 @@ fn push_alternative<'a>(
 }
 
 // Adds the alternatives that stand between the bars of a member.
-fn push_alternatives<'a>(
+fn push_between_bars<'a>(
     list: &mut Vec<Alternative<'a>>,
     text: &'a str,
 ) -> Result<(), RelationFault>
@@ -57,13 +66,35 @@ fn push_alternatives<'a>(
     Ok(())
 }
 
+// Adds the alternatives of a member, which is one where there is no bar.
+fn push_alternatives<'a>(
+    list: &mut Vec<Alternative<'a>>,
+    text: &'a str,
+    barred: bool,
+) -> Result<(), RelationFault>
+    requires { barred ≡ false → Without 124 text.now }
+    ensures ok { OnOk result (over alternative_step (map asked list.old.items)
+        (pieces_of 124 text.now) ≡ Ok (map asked list.new.items)) }
+    ensures longer { OnOk result (length list.old.items ≤ length list.new.items) }
+    ensures err { IfErr result (λ e.
+        IsFaultOf (over alternative_step (map asked list.old.items) (pieces_of 124 text.now)) e) }
+{
+    if barred {
+        push_between_bars(list, text)
+    } else {
+        push_alternative(list, text)
+    }
+}
+
 // Adds a member, and its size.
 fn push_member<'a>(
     alternatives: &mut Vec<Alternative<'a>>,
     sizes: &mut Vec<usize>,
     text: &'a str,
+    barred: bool,
 ) -> Result<(), RelationFault>
-    requires { total sizes.old.items ≡ length alternatives.old.items }
+    requires whole { total sizes.old.items ≡ length alternatives.old.items }
+    requires alone { barred ≡ false → Without 124 text.now }
     ensures ok { OnOk result
         (on_ok (member_at text.now)
         (λ m. Ok (chunked sizes.old.items (map asked alternatives.old.items) ++ m ∷ []))
@@ -72,12 +103,30 @@ fn push_member<'a>(
     ensures err { IfErr result (λ e. IsFaultOf (member_at text.now) e) }
 {
     let before = alternatives.len();
-    match push_alternatives(alternatives, text) {
+    match push_alternatives(alternatives, text, barred) {
         Ok(()) => {}
         Err(fault) => return Err(fault),
     }
     match sizes.push(alternatives.len() - before) {
         Ok(()) => Ok(()),
+        Err(_) => Err(RelationFault::NoMemory),
+    }
+}
+
+// Whether a bar stands somewhere in the text: in most there is none, and no member is searched.
+fn has_bar(text: &str) -> bool
+    ensures none { result ≡ false → Without 124 text.now }
+    ensures some { Without 124 text.now → result ≡ false }
+{
+    next_piece(text, '|').1.is_some()
+}
+
+fn with_room<T: Drop>(alloc: Global, count: usize) -> Result<Vec<T>, RelationFault>
+    ensures ok { IfOk result (λ list. list.items ≡ []) }
+    ensures err { IfErr result (λ e. e ≡ RelationFault.NoMemory) }
+{
+    match Vec::with_capacity(alloc, count) {
+        Ok(list) => Ok(list),
         Err(_) => Err(RelationFault::NoMemory),
     }
 }
@@ -88,14 +137,22 @@ fn read_members(alloc: Global, text: &str) -> Result<Relation<'_>, RelationFault
         ≡ Ok (chunked r.sizes.items (map asked r.alternatives.items))) }
     ensures err { IfErr result (λ e. IsFaultOf (over member_step [] (pieces_of 44 text.now)) e) }
 {
-    let mut alternatives = Vec::new(alloc);
-    let mut sizes = Vec::new(alloc);
+    let count = (text.len() / MEMBER_BYTES + 1).min(MOST_ROOM);
+    let mut alternatives = match with_room(alloc, count) {
+        Ok(list) => list,
+        Err(fault) => return Err(fault),
+    };
+    let mut sizes = match with_room(alloc, count) {
+        Ok(list) => list,
+        Err(fault) => return Err(fault),
+    };
+    let barred = has_bar(text);
     let mut rest = Some(text);
     while let Some(text) = rest {
         let (piece, after) = next_piece(text, ',');
         rest = after;
         if !is_blank(piece) {
-            match push_member(&mut alternatives, &mut sizes, piece) {
+            match push_member(&mut alternatives, &mut sizes, piece, barred) {
                 Ok(()) => {}
                 Err(fault) => return Err(fault),
             }

@@ -1,29 +1,29 @@
--- `push_alternatives`: the clauses `err` and `ok` and its loop.
-use Rattle.std.proofs.Common.{map, arith}
+-- `push_alternatives`: the clauses `err` and `ok`, where no bar stands in the member.
+use Rattle.std.proofs.Common.{◌≡◌, ◌∙◌, List, [], ◌∷◌, ℕ, ap, map, sym, refl, subst}
+use Rattle.std.proofs.lemmas.Result.{IfErr-weaker, on_ok_weaker}
+use Rattle.td_text.proofs.Cut.{pieces-one}
+use Rattle.td_text.specs.Lines.{pieces_of}
 use Rattle.td_relation.specs.Asked.{asked}
-use Rattle.td_relation.specs.RelationGrammar.{alternative_step}
-use Rattle.td_relation.proofs.PieceLaws.{taken, stepped, faulted, ends}
+use Rattle.td_relation.specs.RelationGrammar.{alternative_step, over}
+use Rattle.td_relation.specs.RelationViews.{IsFaultOf}
+use Rattle.td_relation.proofs.PieceLaws.{faulted, over_one}
 use Rattle.td_relation.proofs.relation_reading.push_alternatives.Goals as goal
 
-pub returns-in-Err-clause-err : goal.returns-in-Err-clause-err
-returns-in-Err-clause-err c =
-    let seen = map asked c.loop-rest.list.items in
-    let h = taken alternative_step 124 seen c.loop-rest.rest c.in-Some.text _ _ _ c.in-Some.is
-    c.next_piece.ensures.pieces c.loop-rest.invariant.decides in
-    faulted alternative_step c.in-Err.fault seen c.next_piece.result.0.now _ _ c.in-Err.ensures.err
-    h
+pub returns-else-barred-clause-ok : goal.returns-else-barred-clause-ok
+returns-else-barred-clause-ok c =
+    let t = c.args.text.now in
+    let seen = map asked c.args.list.now.items in
+    let one : pieces_of 124 t ≡ t ∷ [] = pieces-one 124 t (c.requires c.if-barred.false) in
+    on_ok_weaker c.push_alternative.result
+    (λ is. ap (over alternative_step seen) one ∙ over_one alternative_step seen _ t is)
+    c.push_alternative.ensures.ok
 
-pub loop-rest-preserved : goal.loop-rest-preserved
-loop-rest-preserved c =
-    let seen = map asked c.loop-rest.list.items in
-    let h = taken alternative_step 124 seen c.loop-rest.rest c.in-Some.text _ _ _ c.in-Some.is
-    c.next_piece.ensures.pieces c.loop-rest.invariant.decides in
-    record {
-      decides = stepped alternative_step seen _ c.next_piece.result.0.now _ _ c.in-Ok.ensures.ok h;
-      longer = (let more = c.in-Ok.ensures.longer in omega arith);
-    }
-
-pub returns-clause-ok : goal.returns-clause-ok
-returns-clause-ok c =
-    ends alternative_step 124 (map asked c.loop-rest.list.items) c.loop-rest.rest _ c.in_default.is
-    c.loop-rest.invariant.decides
+pub returns-else-barred-clause-err : goal.returns-else-barred-clause-err
+returns-else-barred-clause-err c =
+    let t = c.args.text.now in
+    let seen = map asked c.args.list.now.items in
+    let one : pieces_of 124 t ≡ t ∷ [] = pieces-one 124 t (c.requires c.if-barred.false) in
+    IfErr-weaker c.push_alternative.result _ _
+    (λ e is. subst (λ (l : List (List ℕ)). IsFaultOf (over alternative_step seen l) e) (sym one)
+    (faulted alternative_step e seen t [] _ is refl))
+    c.push_alternative.ensures.err

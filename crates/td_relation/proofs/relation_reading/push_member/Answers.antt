@@ -17,7 +17,7 @@ returns-in-Ok-push-clause-ok c =
     let new = c.push_alternatives.new.list.items in
     let n = c.len.result - c.len-before.result in
     let size : n ≡ length new - length old = omega (arith, c.len.ensures, c.len-before.ensures) in
-    member_pushed ns old new c.args.text.now n c.requires c.in-Ok.ensures.ok size
+    member_pushed ns old new c.args.text.now n c.requires.whole c.in-Ok.ensures.ok size
     ∙ ap (λ (l : List ℕ). Ok (chunked l (map asked new))) (sym c.in-Ok-push.ensures.items)
 
 pub returns-in-Ok-push-clause-whole : goal.returns-in-Ok-push-clause-whole
@@ -28,4 +28,4 @@ returns-in-Ok-push-clause-whole c =
     let n = c.len.result - c.len-before.result in
     let size : n ≡ length new - length old = omega (arith, c.len.ensures, c.len-before.ensures) in
     ap total c.in-Ok-push.ensures.items
-    ∙ total_pushed ns old new c.args.text.now n c.requires c.in-Ok.ensures.ok size
+    ∙ total_pushed ns old new c.args.text.now n c.requires.whole c.in-Ok.ensures.ok size

@@ -1,9 +1,9 @@
--- What the loop of `push_alternatives` keeps, and why it ends.
+-- What the loop of `push_between_bars` keeps, and why it ends.
 use Rattle.std.proofs.Common.{◌≡◌, ◌≤◌, length, map}
 use Rattle.td_relation.specs.Asked.{asked}
 use Rattle.td_text.specs.Lines.{left_len, pieces_left, pieces_of}
 use Rattle.td_relation.specs.RelationGrammar.{over, alternative_step}
-use Rattle.td_relation.proofs.relation_reading.push_alternatives.Given as goal
+use Rattle.td_relation.proofs.relation_reading.push_between_bars.Given as goal
 
 abbrev pub decreases-loop-rest : goal.decreases-loop-rest
 decreases-loop-rest l = left_len l.rest
