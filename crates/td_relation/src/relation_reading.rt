@@ -1,6 +1,7 @@
 //! How a relation is read.
 ghost use Rattle.std.specs.Prelude.{◌≡◌, ◌≤◌, [], ◌∷◌, ◌++◌, Ok, IfErr, IfOk, OnOk, false, length};
-ghost use Rattle.std.specs.Prelude.{map};
+ghost use Rattle.std.specs.Prelude.{◌+◌, map};
+ghost use Rattle.memchr.specs.Find.{is_byte2, places};
 ghost use Rattle.td_text.specs.Cut.{Without};
 ghost use Rattle.td_text.specs.Lines.{on_ok, pieces_of};
 ghost use Rattle.td_relation.specs.Asked.{asked};
@@ -12,15 +13,19 @@ ghost use Rattle.td_relation.specs.RelationViews.{IsFaultOf};
 use crate::alternative_reading::read_alternative;
 use crate::relation::{Alternative, Relation};
 use crate::relation_fault::RelationFault;
+use memchr::memchr2_iter;
 use std::alloc::Global;
 use td_text::{is_blank, next_piece};
 
-/// As few bytes as a member has in real indices, with its comma. There is room for so many from the
-/// first, since a list that grows is moved as often as it doubles.
-const MEMBER_BYTES: usize = 16;
-
-/// For how many members there is room from the first at most, whatever the text has.
+/// For how many alternatives there is room from the first at most, whatever the text has.
 const MOST_ROOM: usize = 256;
+
+// As many alternatives as a relation with this text can have: one more than it has commas and bars.
+fn most_alternatives(text: &str) -> usize
+    ensures { result ≡ length (places (is_byte2 44 124) text.now) + 1 }
+{
+    memchr2_iter(b',', b'|', text.as_bytes()).count() + 1
+}
 
 // Adds the alternative that the piece is.
 fn push_alternative<'a>(
@@ -137,7 +142,7 @@ fn read_members(alloc: Global, text: &str) -> Result<Relation<'_>, RelationFault
         ≡ Ok (chunked r.sizes.items (map asked r.alternatives.items))) }
     ensures err { IfErr result (λ e. IsFaultOf (over member_step [] (pieces_of 44 text.now)) e) }
 {
-    let count = (text.len() / MEMBER_BYTES + 1).min(MOST_ROOM);
+    let count = most_alternatives(text).min(MOST_ROOM);
     let mut alternatives = match with_room(alloc, count) {
         Ok(list) => list,
         Err(fault) => return Err(fault),
