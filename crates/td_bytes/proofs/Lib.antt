@@ -1,3 +1,4 @@
 -- What the proofs of this crate share: a file a thing.
 pub mod Moved
 pub mod Prefixes
+pub mod Utf8

@@ -5,7 +5,7 @@ ghost use Rattle.std.specs.String.{string_bytes};
 ghost use Rattle.std.specs.Io.KnownBytes.{IsAtEnd};
 ghost use Rattle.td_bytes.specs.Pieces.{ConsumesFront};
 
-use crate::reading::{ReadFault, read_whole};
+use crate::reading::{ReadFault, read_pieces};
 use std::alloc::Global;
 use std::io::Read;
 use thiserror::Error;
@@ -41,8 +41,14 @@ impl From<ReadFault> for TextFault {
     }
 }
 
-/// Reads all that remains, a text of at most `limit` bytes. What was read before a fault is lost.
-pub fn read_text<R: Read>(alloc: Global, reader: &mut R, limit: usize) -> Result<String, TextFault>
+/// Reads all that remains, a text of at most `limit` bytes. There is room for `room` bytes from the
+/// first. What was read before a fault is lost.
+pub fn read_text<R: Read>(
+    alloc: Global,
+    reader: &mut R,
+    limit: usize,
+    room: usize,
+) -> Result<String, TextFault>
     ensures text { IfOk result (λ text.
         IfSome (R.remaining reader.old) (λ all. string_bytes text ≡ all)) }
     ensures end { OnOk result (IsAtEnd (R.remaining reader.new)) }
@@ -53,7 +59,10 @@ pub fn read_text<R: Read>(alloc: Global, reader: &mut R, limit: usize) -> Result
         → IfSome (R.remaining reader.old) (λ all. (length all ≤ limit) × ¬ IsUtf8 all) }
     ensures lost { ConsumesFront (R.remaining reader.old) (R.remaining reader.new) }
 {
-    let bytes = read_whole(alloc, reader, limit)?;
+    let (bytes, known) = read_pieces(alloc, reader, limit, room)?;
+    if known == bytes.len() {
+        return Ok(unsafe { String::from_utf8_unchecked(bytes) });
+    }
     match String::from_utf8(bytes) {
         Ok(text) => Ok(text),
         Err(_) => Err(TextFault::NotText),

@@ -100,14 +100,15 @@ impl Write for Narrow {
     }
 }
 
-// Whether what is read is this.
+// Whether what is read, with room for so many bytes from the first, is this.
 fn is_read<R: Read>(
     alloc: Global,
     reader: &mut R,
     limit: usize,
+    room: usize,
     expected: &[u8],
 ) -> Result<bool, ReadFault> {
-    match read_whole(alloc, reader, limit) {
+    match read_whole(alloc, reader, limit, room) {
         Ok(bytes) => Ok(bytes.as_slice() == expected),
         Err(fault) => Err(fault),
     }
@@ -116,7 +117,7 @@ fn is_read<R: Read>(
 // Whether what is read of bytes that drip is all of them.
 fn drips(alloc: Global, bytes: &[u8], limit: usize) -> Result<bool, ReadFault> {
     let mut drip = Drip::new(bytes, 9);
-    is_read(alloc, &mut drip, limit, bytes)
+    is_read(alloc, &mut drip, limit, 0, bytes)
 }
 
 const LIMITS: [(usize, Result<bool, ReadFault>); 4] = [
@@ -145,7 +146,7 @@ const FAULTS: [(&[u8], usize, TextFault); 5] = [
 
 fn fault_of(alloc: Global, bytes: &[u8], room: usize) -> Option<TextFault> {
     let mut drip = Drip::new(bytes, room);
-    read_text(alloc, &mut drip, 5).err()
+    read_text(alloc, &mut drip, 5, 0).err()
 }
 
 #[test]
@@ -155,22 +156,29 @@ fn a_fault_of_reading_has_its_name(rt: HostRuntime) {
         is_same(&rt, &found, &Some(*fault), "a fault is due");
     }
     let mut drip = Drip::new(b"f\xc3\xbc\n", 9);
-    is_told(&rt, read_text(rt.alloc(), &mut drip, 4), "fü\n", "a text");
+    is_told(
+        &rt,
+        read_text(rt.alloc(), &mut drip, 4, 4),
+        "fü\n",
+        "a text",
+    );
 }
 
 // Whether what is read of a slice, which gives as much as there is room for, is all of it.
-fn flows(alloc: Global, bytes: &[u8], limit: usize) -> Result<bool, ReadFault> {
+fn flows(alloc: Global, bytes: &[u8], limit: usize, room: usize) -> Result<bool, ReadFault> {
     let mut reader: &[u8] = bytes;
-    is_read(alloc, &mut reader, limit, bytes)
+    is_read(alloc, &mut reader, limit, room, bytes)
 }
 
-// Two pieces of 4,096 bytes and a little more.
+// Two pieces of 65,536 bytes and a little more, with room for none, for as many, and for more.
 #[test]
 fn a_long_text_is_read_in_pieces(rt: HostRuntime) {
-    let long = made(&rt, vec![in rt.alloc(); b'x'; 9000]);
-    let whole = flows(rt.alloc(), long.as_slice(), 9000);
-    is_same(&rt, &whole, &Ok(true), "9000 bytes");
-    let fault = flows(rt.alloc(), long.as_slice(), 8999);
+    let long = made(&rt, vec![in rt.alloc(); b'x'; 140_000]);
+    for room in &[0, 140_000, usize::MAX] {
+        let whole = flows(rt.alloc(), long.as_slice(), 140_000, *room);
+        is_same(&rt, &whole, &Ok(true), "140,000 bytes");
+    }
+    let fault = flows(rt.alloc(), long.as_slice(), 139_999, 140_000);
     is_same(&rt, &fault, &Err(ReadFault::TooLong), "one too many");
 }
 

@@ -168,7 +168,7 @@ pub fn run_with<S: Staff, F: Fn(Asked) -> Result<Told, ReadError>, R: Read, W: W
         (W.contents writer.old) (W.contents writer.new) result }
     ensures only { Only (texts_of inputs.now) (R.remaining reader.old) result }
 {
-    let read = read_text(alloc, reader, SCRIPT_LIMIT);
+    let read = read_text(alloc, reader, SCRIPT_LIMIT, 0);
     let told = tell_read(rt, alloc, staff, tell, inputs, read)?;
     match write_whole(writer, told.text.as_bytes()) {
         Ok(()) => Ok(ScriptEnd {

@@ -68,7 +68,7 @@ pub(crate) fn read_and_play<R: Read, W: Write>(
     ensures short { IfSome result.input (λ kept. length (string_bytes kept) ≤ input_limit) }
     ensures text { IsTextKept result.ending result.input }
 {
-    let read = read_text(alloc, reader, INPUT_LIMIT);
+    let read = read_text(alloc, reader, INPUT_LIMIT, 0);
     play(alloc, read, output)
 }
 

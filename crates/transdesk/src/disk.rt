@@ -15,6 +15,14 @@ fn cause_of(kind: ErrorKind) -> Option<Cause> {
     }
 }
 
+// How many bytes a file has, where that is known and within the limit, and else 0. It may grow.
+fn length_within(file: &File, limit: usize) -> usize {
+    match file.metadata() {
+        Ok(found) if found.is_file() && found.len() <= limit as u64 => found.len() as usize,
+        _ => 0,
+    }
+}
+
 // The files of the disk. Clauses know nothing of their bytes.
 #[derive(Drop)]
 pub(crate) struct Disk<'a>(pub(crate) &'a HostRuntime);
@@ -30,7 +38,10 @@ impl Texts for Disk<'_> {
 
     fn text(&self, alloc: Global, path: &str, limit: usize) -> Result<String, TextFault> {
         match File::open(self.0, path) {
-            Ok(mut file) => read_text(alloc, &mut file, limit),
+            Ok(mut file) => {
+                let room = length_within(&file, limit);
+                read_text(alloc, &mut file, limit, room)
+            }
             Err(error) if error.kind() == ErrorKind::OutOfMemory => Err(TextFault::NoMemory),
             Err(_) => Err(TextFault::CannotRead),
         }
