@@ -24,12 +24,10 @@ use Rattle.td_rows.specs.Keys.{same_key}
 use Rattle.td_rows.specs.Table.{Table, row_of}
 use Rattle.td_rows.proofs.Keys.{same_key-true, same_key-refl}
 use Rattle.td_rows.proofs.Lists.{drop-next, slice_get-none, take-next}
-use Rattle.td_indices.specs.declared.sourced.Source.{Source}
 use Rattle.td_indices.specs.Archive.{Contents, source_named}
 use Rattle.td_indices.specs.Opening.{opening_on, opening_at, opening_row}
 use Rattle.td_indices.specs.OpeningRows.{is_key_at, has_row_on, has_row_before, with_opening}
 use Rattle.td_indices.specs.Rows.{has_row, row_count, rows_before, rows_of}
-use Rattle.td_indices.specs.Seen.{SourceSeen, seen_source, shown_source}
 use Rattle.td_indices.specs.Sources.{KeptSource}
 use Rattle.td_indices.proofs.OwnPlaces.{place_own}
 
@@ -435,19 +433,6 @@ rows_past table archs place none =
     (ap (λ (b : Bool). rows_before table archs place + (if b then 1 else 0)) none ∙ omega arith)
 
 -- ---- 4. the source with a number
-
-pub source_shown : (x : Source) (o : Option KeptSource)
-    → Some (seen_source x) ≡ option_map shown_source o
-    → (s : KeptSource) × (o ≡ Some s) × (x.name.now ≡ s.head.name) × (x.archs.now ≡ s.head.archs)
-source_shown x None e = absurd cc
-source_shown x (Some s) e =
-    let same : seen_source x ≡ shown_source s = some_is (seen_source x) (shown_source s) e in
-    (s, refl, ap (λ (t : SourceSeen). t.head.name) same, ap (λ (t : SourceSeen). t.head.archs) same)
-
-pub none_shown : (o : Option KeptSource)
-    → ◌≡◌ {A = Option SourceSeen} None (option_map shown_source o) → o ≡ None
-none_shown None e = refl
-none_shown (Some s) e = absurd cc
 
 -- how many rows are left
 pub rows_left : (table : List ArchWords) (sources : List KeptSource) (n : ℕ) (s : KeptSource)

@@ -1,7 +1,7 @@
 -- The place of a name in a table that names no architecture twice.
 use Rattle.std.proofs.Common.{◌≡◌, ℕ, zero, suc, ◌+◌, Bool, true, false, not, ltb, List, [], ◌∷◌}
 use Rattle.std.proofs.Common.{◌++◌, Some, None, length, take, slice_get, refl, sym, ap, ◌∙◌, inl}
-use Rattle.std.proofs.Common.{inr, arith, append_assoc, append-nil}
+use Rattle.std.proofs.Common.{inr, arith, append_assoc, append-nil, Option, option_map}
 use Rattle.std.specs.List.{list_any, prefix_len}
 use Rattle.std.specs.Str.{bytes_eq}
 use Rattle.std.proofs.lemmas.Bool.{cases_Bool, lt-ltb}
@@ -50,3 +50,18 @@ place_own table place w apart at =
     let within : ltb place (length table) ≡ true =
     lt-ltb place (length table) (slice_get_within table place w at) in
     rw (first, within) refl
+
+-- the same by the name that stands there
+pub place_of_named : (table : List ArchWords) (place : ℕ) (name : List ℕ) → IsApart table
+    → option_map (λ (w : ArchWords). w.name) (slice_get table place) ≡ Some name
+    → place_of table name ≡ Some place
+place_of_named table place name apart named = by (slice_get table place) refl
+  where
+    by : (o : Option ArchWords) → slice_get table place ≡ o → place_of table name ≡ Some place
+    by None e =
+        absurd (let bad : None ≡ Some name =
+        sym (ap (option_map (λ (w : ArchWords). w.name)) e) ∙ named in cc)
+    by (Some w) e =
+        let is : w.name ≡ name =
+        some_is w.name name (sym (ap (option_map (λ (b : ArchWords). b.name)) e) ∙ named) in
+        ap (place_of table) (sym is) ∙ place_own table place w apart e

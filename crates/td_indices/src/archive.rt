@@ -4,7 +4,7 @@ ghost use Rattle.td_rows.specs.Limits.{max_rows};
 use crate::archive_fault::ArchiveFault;
 use crate::grouping::those_on;
 use crate::index_reading::{read_packages_index, read_sources_index};
-use crate::opening::opening_on;
+use crate::opening::{greatest_number, opening, opening_on};
 use crate::packaged::{Binary, PackageKey, Packaged};
 use crate::rows::has_row;
 use crate::side_by_side::read_indices;
@@ -102,6 +102,7 @@ impl<'t, 'a> Archive<'t, 'a> {
       with_opening,
     };
     ghost use Rattle.td_indices.specs.Rows.{has_row as has_row_of, row_count, rows_before};
+    ghost use Rattle.td_indices.specs.Sources.{source_of};
     ghost use Rattle.td_indices.specs.Supplying.{supply_of};
     ghost use Rattle.td_supply.specs.Supply.{opened};
     ghost use Rattle.td_indices.specs.Seen.{
@@ -246,32 +247,47 @@ impl<'t, 'a> Archive<'t, 'a> {
             ≡ option_map shown_source (slice_get self.now.sources number) }
         ensures legal { IfSome result (λ s. is_name s.name.now ≡ true) }
     {
-        let (name, sourced) = self.sources.get_index(number)?;
+        let (name, sourced) = self.entry_at(number)?;
         Some(Source::of_entry(name, sourced))
+    }
+
+    // The source with a number, as it is kept under its name.
+    fn entry_at(&self, number: usize) -> Option<(&'a str, &Sourced<'a>)>
+        ensures found { option_map (λ p. source_of (p.0, p.1.now)) result
+            ≡ slice_get self.now.sources number }
+        ensures named { IfSome result (λ p.
+            source_named self.now p.0.now ≡ Some (source_of (p.0, p.1.now))) }
+        ensures legal { IfSome result (λ p. is_name p.0.now ≡ true) }
+    {
+        let (name, sourced) = self.sources.get_index(number)?;
+        Some((*name, sourced))
     }
 
     // Puts the row with which a source opens on the architecture at a place among others.
     fn open_at(
         &self,
         rows: &mut IndexMap<Key, Row>,
-        source: &str,
+        name: &str,
+        sourced: &Sourced<'_>,
         place: usize,
     ) -> Result<(), AllocError>
-        requires source { has_newline source.now ≡ false }
+        requires name { has_newline name.now ≡ false }
+        requires named { source_named self.now name.now ≡ Some (source_of (name, sourced.now)) }
+        requires apart { IsApart self.now.table }
         requires place { place < length self.now.table }
+        requires has { has_row_of self.now.table sourced.now.archs.now place ≡ true }
         ensures rows { OnOk result
             ((k : Key) → row_of rows.new.entries k
-            ≡ with_opening (is_key_at self.now.table source.now place k) (opening_row_of self.now k)
+            ≡ with_opening (is_key_at self.now.table name.now place k) (opening_row_of self.now k)
             (row_of rows.old.entries k)) }
         ensures few { OnOk result (length rows.new.entries ≤ length rows.old.entries + 1) }
     {
-        let key = Key::from_lines(self.alloc, source, self.archs.name(place))?;
-        match self.opening_row(&key) {
-            Some(row) => match rows.insert(key, row) {
-                Ok(_) => Ok(()),
-                Err(_) => Err(AllocError),
-            },
-            None => Ok(()),
+        let key = Key::from_lines(self.alloc, name, self.archs.name(place))?;
+        let numbers = self.groups.of(name);
+        let best = greatest_number(&self.binaries, numbers, &sourced.parts, place);
+        match rows.insert(key, opening(self.alloc, best)) {
+            Ok(_) => Ok(()),
+            Err(_) => Err(AllocError),
         }
     }
 
@@ -279,24 +295,25 @@ impl<'t, 'a> Archive<'t, 'a> {
     fn open_source(
         &self,
         rows: &mut IndexMap<Key, Row>,
-        source: &str,
-        archs: &str,
+        name: &str,
+        sourced: &Sourced<'_>,
     ) -> Result<(), AllocError>
-        requires source { has_newline source.now ≡ false }
+        requires name { has_newline name.now ≡ false }
+        requires named { source_named self.now name.now ≡ Some (source_of (name, sourced.now)) }
         requires apart { IsApart self.now.table }
         ensures rows { OnOk result
             ((k : Key) → row_of rows.new.entries k
-            ≡ with_opening (bytes_eq k.source source.now
-            && has_row_on self.now.table archs.now k.arch) (opening_row_of self.now k)
+            ≡ with_opening (bytes_eq k.source name.now
+            && has_row_on self.now.table sourced.now.archs.now k.arch) (opening_row_of self.now k)
             (row_of rows.old.entries k)) }
         ensures few { OnOk result
             (length rows.new.entries
             ≤ length rows.old.entries
-            + rows_before self.now.table archs.now (length self.now.table)) }
+            + rows_before self.now.table sourced.now.archs.now (length self.now.table)) }
     {
         for place in 0..self.arch_count() {
-            if self.has_row_at(archs, place) {
-                self.open_at(rows, source, place)?;
+            if self.has_row_at(sourced.archs, place) {
+                self.open_at(rows, name, sourced, place)?;
             }
         }
         Ok(())
@@ -310,8 +327,8 @@ impl<'t, 'a> Archive<'t, 'a> {
     {
         let mut rows = IndexMap::with_capacity(self.alloc, self.row_count())?;
         for number in 0..self.source_count() {
-            if let Some(source) = self.source_at(number) {
-                self.open_source(&mut rows, source.name, source.archs)?;
+            if let Some((name, sourced)) = self.entry_at(number) {
+                self.open_source(&mut rows, name, sourced)?;
             }
         }
         Ok(rows)

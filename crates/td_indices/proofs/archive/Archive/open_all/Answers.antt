@@ -1,18 +1,14 @@
 -- `Archive::open_all`: its loop, the clauses `rows` and `few` and the call of `open_source`.
-use Rattle.std.proofs.Common.{◌≡◌, ◌&&◌, ◌<◌, ◌≤◌, ◌+◌, ℕ, List, length, slice_get, subst, ap, ◌∙◌}
+use Rattle.std.proofs.Common.{◌≡◌, ◌<◌, ◌≤◌, ℕ, Some, length, slice_get, subst, sym, ap, ◌∙◌}
 use Rattle.std.proofs.Common.{arith, refl}
 use Rattle.td_relation.specs.Table.{IsApart}
 use Rattle.td_rows.specs.Table.{row_of}
 use Rattle.td_indices.specs.Archive.{Contents}
 use Rattle.td_rows.proofs.NoteLines.{has_newline-Without}
 use Rattle.td_text.proofs.Words.{Without-name}
-use Rattle.td_indices.proofs.OpeningRows.{all_opened, none_shown, rows_left, source_opened}
-use Rattle.td_indices.proofs.OpeningRows.{source_shown}
+use Rattle.td_indices.proofs.OpeningRows.{all_opened, rows_left, source_opened}
 use Rattle.td_rows.proofs.Lists.{slice_get-none}
-use Rattle.std.specs.Str.{bytes_eq}
-use Rattle.td_indices.specs.Opening.{opening_row}
-use Rattle.td_indices.specs.OpeningRows.{has_row_on, with_opening}
-use Rattle.td_indices.specs.Rows.{rows_before}
+use Rattle.td_indices.specs.Sources.{source_of}
 use Rattle.td_indices.proofs.archive.Archive.open_all.Goals as goal
 use Rattle.td_indices.proofs.archive.Archive.open_all.Goals.{in-Some+in_ok-open_source, in_default}
 
@@ -20,36 +16,25 @@ pub open_source-requires-clause-apart : goal.open_source-requires-clause-apart
 open_source-requires-clause-apart c =
     subst (λ (v : Contents). IsApart v.table) c.self.view_is c.self.inside.archs.now.apart
 
-pub open_source-requires-clause-source : goal.open_source-requires-clause-source
-open_source-requires-clause-source c =
-    has_newline-Without c.in-Some.source.name.now
-    (Without-name 10 c.in-Some.source.name.now refl c.in-Some.ensures.legal)
+pub open_source-requires-clause-name : goal.open_source-requires-clause-name
+open_source-requires-clause-name c =
+    has_newline-Without c.in-Some.name.now
+    (Without-name 10 c.in-Some.name.now refl c.in-Some.ensures.legal)
 
 pub loop-number-preserved : goal.loop-number-preserved
-loop-number-preserved c = elim c.match-source_at.branch [
+loop-number-preserved c = elim c.match-entry_at.branch [
   | in-Some+in_ok-open_source w ↦
       let a = c.args.self.now in
       let n = c.loop-number.number in
-      let x = w.in-Some.source in
-      let f = source_shown x (slice_get a.sources n) w.in-Some.ensures.found in
-      let names : x.name.now ≡ f.0.head.name = f.2 in
-      let archs : x.archs.now ≡ f.0.head.archs = f.3 in
-      let own : length w.open_source.new.rows.entries
-      ≤ length c.loop-number.rows.entries + rows_before a.table f.0.head.archs (length a.table) =
-      subst (λ (t : List ℕ).
-      length w.open_source.new.rows.entries
-      ≤ length c.loop-number.rows.entries + rows_before a.table t (length a.table)) archs
-      w.in_ok-open_source.ensures.few in
+      let s = source_of (w.in-Some.name, w.in-Some.sourced.now) in
+      let at : slice_get a.sources n ≡ Some s = sym w.in-Some.ensures.found in
       record {
-        opened =
-            source_opened a c.loop-number.rows.entries c.match-source_at.rows.entries n f.0 f.1
+        opened = source_opened a c.loop-number.rows.entries c.match-entry_at.rows.entries n s at
             c.loop-number.invariant.opened
-            (λ k. ap (λ m. row_of m.entries k) w.rows-is ∙ w.in_ok-open_source.ensures.rows k
-            ∙ (λ i. with_opening (bytes_eq k.source (names i)
-            && has_row_on a.table (archs i) k.arch) (opening_row a k)
-            (row_of c.loop-number.rows.entries k)));
+            (λ k. ap (λ m. row_of m.entries k) w.rows-is ∙ w.in_ok-open_source.ensures.rows k);
         few = (let is = ap (λ m. length m.entries) w.rows-is in
-            let left = rows_left a.table a.sources n f.0 f.1 in
+            let own = w.in_ok-open_source.ensures.few in
+            let left = rows_left a.table a.sources n s at in
             let before = c.loop-number.invariant.few in omega arith);
       }
   | in_default w ↦
@@ -57,8 +42,7 @@ loop-number-preserved c = elim c.match-source_at.branch [
       subst (λ (n : ℕ). c.loop-number.number < n) c.source_count-number-end.ensures
       c.loop-number-test.true in
       absurd (slice_get-none c.args.self.now.sources c.loop-number.number
-      (none_shown (slice_get c.args.self.now.sources c.loop-number.number)
-      w.in_default.ensures.found) within)
+      (sym w.in_default.ensures.found) within)
 ]
 
 pub returns-clause-rows : goal.returns-clause-rows

@@ -14,7 +14,7 @@ use Rattle.td_indices.proofs.archive.Archive.open_source.Goals.{else-has_row_at}
 
 pub loop-place-init : goal.loop-place-init
 loop-place-init c = record {
-  opened = λ k. opened_none c.args.self.now c.args.source.now c.args.archs.now k
+  opened = λ k. opened_none c.args.self.now c.args.name.now c.args.sourced.now.archs.now k
       (row_of c.args.rows.now.entries k);
   few = omega arith;
 }
@@ -27,12 +27,13 @@ loop-place-preserved c =
     c.loop-place-test.true in
     elim c.if-has_row_at.branch [
       | then-has_row_at+in_ok-open_at w ↦
-          let has : has_row a.table c.args.archs.now c.loop-place.place ≡ true =
+          let has : has_row a.table c.args.sourced.now.archs.now c.loop-place.place ≡ true =
           sym c.has_row_at.ensures ∙ w.if-has_row_at.true in
-          let more = rows_next a.table c.args.archs.now c.loop-place.place has in
+          let more = rows_next a.table c.args.sourced.now.archs.now c.loop-place.place has in
           record {
             opened = λ k. opened_next a c.args.rows.now.entries c.loop-place.rows.entries
-                c.if-has_row_at.rows.entries c.args.source.now c.args.archs.now c.loop-place.place
+                c.if-has_row_at.rows.entries c.args.name.now c.args.sourced.now.archs.now
+                c.loop-place.place
                 c.requires.apart within has c.loop-place.invariant.opened
                 (λ q. ap (λ m. row_of m.entries q) w.rows-is ∙ w.in_ok-open_at.ensures.rows q) k;
             few = (let is = ap (λ m. length m.entries) w.rows-is in
@@ -40,12 +41,13 @@ loop-place-preserved c =
                 omega arith);
           }
       | else-has_row_at w ↦
-          let none : has_row a.table c.args.archs.now c.loop-place.place ≡ false =
+          let none : has_row a.table c.args.sourced.now.archs.now c.loop-place.place ≡ false =
           sym c.has_row_at.ensures ∙ w.if-has_row_at.false in
-          let same = rows_past a.table c.args.archs.now c.loop-place.place none in
+          let same = rows_past a.table c.args.sourced.now.archs.now c.loop-place.place none in
           record {
             opened = λ k. ap (λ m. row_of m.entries k) w.rows-is ∙ c.loop-place.invariant.opened k
-                ∙ opened_past a c.args.source.now c.args.archs.now c.loop-place.place none k
+                ∙ opened_past a c.args.name.now c.args.sourced.now.archs.now c.loop-place.place none
+                k
                 (row_of c.args.rows.now.entries k);
             few = (let is = ap (λ m. length m.entries) w.rows-is in
                 let before = c.loop-place.invariant.few in omega arith);
@@ -59,15 +61,16 @@ returns-clause-rows c = λ k.
     let old = row_of c.args.rows.now.entries k in
     c.loop-place.invariant.opened k
     ∙ ap (λ (n : ℕ). with_opening
-    (bytes_eq k.source c.args.source.now && has_row_before a.table c.args.archs.now n k.arch)
+    (bytes_eq k.source c.args.name.now
+    && has_row_before a.table c.args.sourced.now.archs.now n k.arch)
     (opening_row a k) old) end
-    ∙ ap (λ (b : Bool). with_opening (bytes_eq k.source c.args.source.now && b)
-    (opening_row a k) old) (before_end a.table c.args.archs.now k.arch)
+    ∙ ap (λ (b : Bool). with_opening (bytes_eq k.source c.args.name.now && b)
+    (opening_row a k) old) (before_end a.table c.args.sourced.now.archs.now k.arch)
 
 pub returns-clause-few : goal.returns-clause-few
 returns-clause-few c =
     let a = c.args.self.now in
     let end : c.loop-place.place ≡ length a.table = omega arith in
     subst (λ (n : ℕ). length c.loop-place.rows.entries
-    ≤ length c.args.rows.now.entries + rows_before a.table c.args.archs.now n) end
+    ≤ length c.args.rows.now.entries + rows_before a.table c.args.sourced.now.archs.now n) end
     c.loop-place.invariant.few

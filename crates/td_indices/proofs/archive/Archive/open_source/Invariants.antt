@@ -12,8 +12,9 @@ use Rattle.td_indices.proofs.archive.Archive.open_source.Given as goal
 abbrev pub invariant-loop-place : goal.invariant-loop-place
 invariant-loop-place l = record {
   opened : (k : Key) → row_of l.rows.entries k
-      ≡ with_opening (bytes_eq k.source l.source
-      && has_row_before l.self.table l.archs l.place k.arch) (opening_row l.self k)
+      ≡ with_opening (bytes_eq k.source l.name
+      && has_row_before l.self.table l.sourced.archs.now l.place k.arch) (opening_row l.self k)
       (row_of l.fn.rows.entries k);
-  few : length l.rows.entries ≤ length l.fn.rows.entries + rows_before l.self.table l.archs l.place;
+  few : length l.rows.entries
+      ≤ length l.fn.rows.entries + rows_before l.self.table l.sourced.archs.now l.place;
 }
