@@ -1,6 +1,7 @@
 -- What is kept of a tracker's three queries for each stanza,
 -- so that each query is evaluated once on it. This project's own.
-use Rattle.std.specs.Prelude.{◌≡◌, ℕ, ◌||◌, false, List, map, slice_get, if◌then◌else◌}
+use Rattle.std.specs.Prelude.{◌≡◌, ℕ, ◌||◌, ◌++◌, false, List, map, slice_get, take}
+use Rattle.std.specs.Prelude.{if◌then◌else◌}
 use Rattle.std.specs.List.{list_any}
 use Rattle.std.specs.Option.{option_map_or}
 use Rattle.regex.specs.Patterns.{Re}
@@ -31,6 +32,12 @@ mark_on t fields = mark_by t.patterns t fields
 abbrev pub kept_fields : Contents → IndexFile → List (List Entry)
 kept_fields a Packages = map (package_fields a) a.binaries
 kept_fields a Sources = map (source_fields a) a.sources
+
+-- with those of the first ones before them, up to a number, the marks are those of the first ones
+-- up to another
+abbrev pub MarkBetween : (List Entry → Mark) → List (List Entry) → ℕ → ℕ → List Mark → Type 0
+MarkBetween mark stanzas from to marks =
+    map mark (take from stanzas) ++ marks ≡ map mark (take to stanzas)
 
 -- the marks are those of the stanzas that binary packages and sources were kept of
 pub record AreMarks (a : Contents) (t : Tracking) (m : Marks) : Type 0 where

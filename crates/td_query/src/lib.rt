@@ -19,6 +19,7 @@ mod compiling;
 mod laws;
 mod mark;
 mod marking;
+mod marking_beside;
 mod marks;
 mod parse;
 mod query;

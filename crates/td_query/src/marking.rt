@@ -1,8 +1,8 @@
 //! How the marks of an archive are made: each query is evaluated once on each stanza.
-ghost use Rattle.std.specs.Prelude.{◌≡◌, ◌<◌, IfOk, Some, length, map, slice_get};
+ghost use Rattle.std.specs.Prelude.{◌≡◌, ◌<◌, ◌≤◌, IfOk, Some, length, map, slice_get};
 ghost use Rattle.regex.specs.Strings.{matcher_pattern};
 ghost use Rattle.td_stanza.specs.Table.{fields_of};
-ghost use Rattle.td_query.specs.Marks.{kept_fields, mark_by};
+ghost use Rattle.td_query.specs.Marks.{MarkBetween, kept_fields, mark_by};
 ghost use Rattle.td_query.specs.Tracking.{tracking};
 
 use crate::mark::{Mark, mark_of};
@@ -37,7 +37,34 @@ fn kept_stanza<'x, 'a>(
     }
 }
 
-/// Those of the stanzas of a file that binary packages, or sources, were kept of.
+/// The marks of the stanzas of a file, of those that binary packages, or sources, were kept of,
+/// from
+/// one with a number up to another.
+pub fn mark_range(
+    alloc: Global,
+    archive: &Archive<'_, '_>,
+    file: IndexFile,
+    tracker: &Tracker<'_>,
+    matchers: &mut Vec<Matcher>,
+    from: usize,
+    to: usize,
+) -> Result<Vec<Mark>, AllocError>
+    requires order { from ≤ to }
+    requires within { to ≤ length (kept_fields archive.now file) }
+    ensures marks { IfOk result (λ marks.
+        MarkBetween (mark_by (map matcher_pattern matchers.old.items) (tracking tracker.now))
+        (kept_fields archive.now file) from to marks.items) }
+    ensures same { map matcher_pattern matchers.new.items ≡ map matcher_pattern matchers.old.items }
+{
+    let mut marks = Vec::with_capacity(alloc, to - from)?;
+    for number in from..to {
+        let stanza = kept_stanza(archive, file, number);
+        marks.push(mark_of(tracker, &stanza, matchers))?;
+    }
+    Ok(marks)
+}
+
+/// Those of all of them.
 pub fn mark_stanzas(
     alloc: Global,
     archive: &Archive<'_, '_>,
@@ -51,10 +78,8 @@ pub fn mark_stanzas(
     ensures same { map matcher_pattern matchers.new.items ≡ map matcher_pattern matchers.old.items }
 {
     let count = kept_count(archive, file);
-    let mut marks = Vec::with_capacity(alloc, count)?;
-    for number in 0..count {
-        let stanza = kept_stanza(archive, file, number);
-        marks.push(mark_of(tracker, &stanza, matchers))?;
+    match mark_range(alloc, archive, file, tracker, matchers, 0, count) {
+        Ok(marks) => Ok(marks),
+        Err(error) => Err(error),
     }
-    Ok(marks)
 }

@@ -2,10 +2,12 @@
 
 use crate::mark::Mark;
 use crate::marking::mark_stanzas;
+use crate::marking_beside::mark_beside;
 use crate::status::Status;
 use crate::tracker::Tracker;
 use crate::truth::matchers_of;
 use std::alloc::{AllocError, Global};
+use std::thread::Threads;
 use td_indices::{Archive, IndexFile, is_on};
 
 /// What a tracker says of each stanza that an archive keeps, so that the status of a row takes no
@@ -21,7 +23,7 @@ impl Marks {
     ghost use Rattle.td_query.specs.Marks.{AreMarks, mark_there as mark_there_of};
     ghost use Rattle.td_query.specs.Marks.{row_mark as row_mark_of};
     ghost use Rattle.td_query.specs.Statuses.{affected_names, is_affected_at, status_at};
-    ghost use Rattle.td_query.specs.Tracking.{Tracking, tracking};
+    ghost use Rattle.td_query.specs.Tracking.{IsTracker, Tracking, tracking};
 
     /// The marks of an archive: each query is evaluated once on each stanza that was kept.
     pub fn make(
@@ -34,6 +36,25 @@ impl Marks {
         let mut matchers = matchers_of(alloc, tracker.patterns.as_slice())?;
         let packages = mark_stanzas(alloc, archive, IndexFile::Packages, tracker, &mut matchers)?;
         let sources = mark_stanzas(alloc, archive, IndexFile::Sources, tracker, &mut matchers)?;
+        Ok(Marks { packages, sources })
+    }
+
+    /// The same marks. Those of a tracker without patterns are made in two threads, of which one
+    /// reads the tracker anew from its text.
+    pub fn make_beside(
+        rt: &(impl Threads + Sync),
+        alloc: Global,
+        archive: &Archive<'_, '_>,
+        tracker: &Tracker<'_>,
+        text: &str,
+    ) -> Result<Marks, AllocError>
+        requires { IsTracker text.now (tracking tracker.now) }
+        ensures marks { IfOk result (AreMarks archive.now (tracking tracker.now)) }
+    {
+        if !tracker.patterns.is_empty() {
+            return Marks::make(alloc, archive, tracker);
+        }
+        let (packages, sources) = mark_beside(rt, alloc, archive, tracker, text)?;
         Ok(Marks { packages, sources })
     }
 

@@ -4,7 +4,7 @@ ghost use Rattle.std.specs.Result.{ForOk};
 ghost use Rattle.td_relation.specs.TableView.{table};
 ghost use Rattle.td_core.specs.Phases.{NoneBuilt};
 ghost use Rattle.td_query.specs.Marks.{AreMarks};
-ghost use Rattle.td_query.specs.Tracking.{tracking};
+ghost use Rattle.td_query.specs.Tracking.{IsTracker, tracking};
 ghost use Rattle.td_report.specs.Transition.{IsReport};
 ghost use Rattle.td_report.specs.TransitionView as of;
 ghost use Rattle.td_script.specs.OpeningInside.{CanReplace, IsInputRefusedIn, IsReplacedIn};
@@ -24,8 +24,8 @@ use crate::texts::Texts;
 use crate::track_files::{TrackPaths, TrackTexts, read_track_files};
 use std::alloc::{AllocError, Global};
 use std::io::Write;
-use std::thread;
 use std::thread::Threads;
+use std::{mem, thread};
 use td_indices::{Archive, ArchiveFault};
 use td_query::{Marks, Tracker, TrackerFault};
 use td_relation::{Archs, ArchsFault};
@@ -134,7 +134,9 @@ fn rows_beside(
     archive: &Archive<'_, '_>,
     state: &Option<String>,
     tracker: &Tracker<'_>,
+    text: &str,
 ) -> (Result<Rows, Ending>, Result<Marks, AllocError>)
+    requires { IsTracker text.now (tracking tracker.now) }
     ensures rows { IfOk result.0 (AreRowsOf archive.now (option_map string_bytes state.now)) }
     ensures none { IfErr result.0
         (EndsWithoutRows archive.now (option_map string_bytes state.now)) }
@@ -147,8 +149,9 @@ fn rows_beside(
             (EndsWithoutRows archive.entry.now (option_map string_bytes state.entry.now)) }
     { rows_of(alloc, archive, state) };
     let of_marks = move || -> Result<Marks, AllocError>
+        requires { IsTracker text.now (tracking tracker.now) }
         ensures { IfOk result (AreMarks archive.entry.now (tracking tracker.entry.now)) }
-    { Marks::make(alloc, archive, tracker) };
+    { Marks::make_beside(rt, alloc, archive, tracker, text) };
     thread::join(rt, of_rows, of_marks)
 }
 
@@ -200,46 +203,51 @@ fn marks_say(
     told(rt, alloc, &transition, rows, asked)
 }
 
-// The same, of a tracker over an archive and its rows.
+// The same, of a text's tracker over an archive and its rows.
 fn tracker_says(
     rt: &(impl Threads + Sync),
     alloc: Global,
     archive: &Archive<'_, '_>,
     state: &Option<String>,
     tracker: &Tracker<'_>,
+    text: &str,
     asked: Asked,
 ) -> Result<String, Ending>
+    requires { IsTracker text.now (tracking tracker.now) }
     ensures found { IfOk result (λ text.
         RowsAreSaid (saying_of asked) archive.now (option_map string_bytes state.now)
         (tracking tracker.now) (string_bytes text)) }
     ensures none { IfErr result (EndsWithoutRows archive.now (option_map string_bytes state.now)) }
 {
-    let (rows, marks) = rows_beside(rt, alloc, archive, state, tracker);
+    let (rows, marks) = rows_beside(rt, alloc, archive, state, tracker, text);
     match both_made(rows, marks) {
         Ok((rows, marks)) => {
-            or_no_memory(marks_say(rt, alloc, archive, &rows, tracker, marks, asked))
+            let said = marks_say(rt, alloc, archive, &rows, tracker, marks, asked);
+            mem::forget(rows);
+            or_no_memory(said)
         }
         Err(ending) => Err(ending),
     }
 }
 
-// The same text, by what the tracker was read as. Rows that are refused are told of before a
-// tracker that is.
+// The same, by what a text was read as. Rows that are refused are told of before a tracker that is.
 fn tracker_text(
     rt: &(impl Threads + Sync),
     alloc: Global,
     archive: &Archive<'_, '_>,
     state: &Option<String>,
     tracker: Result<Tracker<'_>, TrackerFault>,
+    text: &str,
     asked: Asked,
 ) -> Result<String, Ending>
+    requires { ForOk tracker (λ t. IsTracker text.now (tracking t)) }
     ensures said { IfOk tracker.entry (λ t. TellsTracker (saying_of asked) archive.now
         (option_map string_bytes state.now) (tracking t) result) }
     ensures refused { IfErr tracker.entry (λ fault. TellsNone archive.now
         (option_map string_bytes state.now) (ending_of (FormFault.Tracker fault)) result) }
 {
     match tracker {
-        Ok(read) => tracker_says(rt, alloc, archive, state, &read, asked),
+        Ok(read) => tracker_says(rt, alloc, archive, state, &read, text, asked),
         Err(fault) => {
             let rows = rows_of(alloc, archive, state);
             let refused = ending_of_form(FormFault::Tracker(fault));
@@ -258,8 +266,9 @@ fn archive_text(
 ) -> Result<String, Ending>
     ensures { TellsOver (saying_of asked) archive.now (texts_of texts.now) result }
 {
-    let tracker = Tracker::read(alloc, texts.tracker.as_str());
-    tracker_text(rt, alloc, archive, &texts.state, tracker, asked)
+    let text = texts.tracker.as_str();
+    let tracker = Tracker::read(alloc, text);
+    tracker_text(rt, alloc, archive, &texts.state, tracker, text, asked)
 }
 
 // The same, by what two indices were read as.
@@ -278,7 +287,8 @@ fn indices_text(
     match archive {
         Ok(archive) => {
             let text = archive_text(rt, alloc, &archive, texts, asked);
-            drop(archive);
+            // (the program ends with this: to free each list by itself would only take time)
+            mem::forget(archive);
             text
         }
         Err(fault) => Err(ending_of_form(FormFault::Archive(fault))),

@@ -11,14 +11,15 @@ pub returns-in-Ok-clause-found : goal.returns-in-Ok-clause-found
 returns-in-Ok-clause-found g c =
     let state = option_map string_bytes c.args.state.now in
     rows_are_said (saying_of c.args.asked) c.args.archive.now state c.in-Ok.rows
-    (tracking c.args.tracker.now) c.marks_say.result c.or_no_memory.result
+    (tracking c.args.tracker.now) c.marks_say-said.result c.or_no_memory.result
     (subst (λ r. IfOk r (AreRowsOf c.args.archive.now state)) c.in-Ok.ensures.ok.0
-    c.rows_beside-rows.ensures.rows) c.marks_say.ensures c.or_no_memory.ensures.ok
+    c.rows_beside-rows.ensures.rows) c.marks_say-said.ensures c.or_no_memory.ensures.ok
     c.or_no_memory.ensures.err
 
 pub returns-in-Ok-clause-none : goal.returns-in-Ok-clause-none
 returns-in-Ok-clause-none g c =
-    memory_alone (EndsWithoutRows c.args.archive.now _) c.marks_say.result c.or_no_memory.result
+    memory_alone (EndsWithoutRows c.args.archive.now _) c.marks_say-said.result
+    c.or_no_memory.result
     c.or_no_memory.ensures.ok c.or_no_memory.ensures.err
     (record { refused = inr refl; only = λ rows are. refl })
 
