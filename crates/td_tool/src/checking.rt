@@ -16,6 +16,7 @@ use crate::file_texts::{FileFault, FileTexts, read_files};
 use crate::texts::Texts;
 use std::alloc::{AllocError, Global};
 use std::io::Write;
+use std::mem;
 use std::thread::Threads;
 use td_bytes::write_whole;
 use td_indices::{Archive, ArchiveFault};
@@ -52,7 +53,8 @@ fn counts_of(archive: Result<Archive<'_, '_>, ArchiveFault>) -> Result<Counts, E
     match archive {
         Ok(archive) => {
             let counts = archive_counts(&archive);
-            drop(archive);
+            // (the program ends with this: to free each list by itself would only take time)
+            mem::forget(archive);
             Ok(counts)
         }
         Err(fault) => Err(ending_of_form(FormFault::Archive(fault))),
