@@ -1,13 +1,13 @@
 //! A reader is read to its end, within a limit.
-ghost use Rattle.std.specs.Prelude.{◌≡◌, ◌≤◌, ◌<◌, length, take, IfOk, OnOk, OnErr, IfSome};
+ghost use Rattle.std.specs.Prelude.{◌≡◌, ◌≢◌, ◌≤◌, ◌<◌, ◌+◌, ◌++◌, ℕ, List, length, take, drop, IfOk, OnOk, OnErr, IfSome};
 ghost use Rattle.std.specs.Prelude.{IfErr, IsErrOf, IsUtf8};
 ghost use Rattle.std.specs.Io.{ReadsAtMost};
 ghost use Rattle.std.specs.Io.KnownBytes.{Consumes, IsAtEnd, Keeps};
 ghost use Rattle.td_bytes.specs.Pieces.{ConsumesFront, HasLost};
 
+use simdutf8::compat::from_utf8;
 use std::alloc::{AllocError, Global};
 use std::io::{ErrorKind, Read};
-use std::str::from_utf8;
 use thiserror::Error;
 
 /// Why not all was read.
@@ -57,6 +57,39 @@ fn read_piece<R: Read>(reader: &mut R, buffer: &mut [u8]) -> Result<usize, ReadF
     Err(ReadFault::CannotRead)
 }
 
+// One read into a buffer, from a place on.
+fn read_from<R: Read>(reader: &mut R, buffer: &mut [u8], at: usize) -> Result<usize, ReadFault>
+    requires { at < length buffer.old }
+    ensures front { take at buffer.new ≡ take at buffer.old }
+    ensures fits { IfOk result (λ n. at + n ≤ length buffer.new) }
+    ensures ok { IfOk result (λ n.
+        Consumes (R.remaining reader.old) (R.remaining reader.new) (take n (drop at buffer.new))) }
+    ensures end { IfOk result (λ n. n ≡ 0 → IsAtEnd (R.remaining reader.new)) }
+    ensures err { OnErr result (Keeps (R.remaining reader.old) (R.remaining reader.new)) }
+    ensures fault { OnErr result (IsErrOf result ReadFault.CannotRead) }
+{
+    read_piece(reader, &mut buffer[at..])
+}
+
+// Reads a piece behind what was read before, straight into its place.
+fn read_behind<R: Read>(reader: &mut R, bytes: &mut Vec<u8>) -> Result<usize, ReadFault>
+    ensures ok { IfOk result (λ n. (piece : List ℕ) × (length piece ≡ n)
+        × (bytes.new.items ≡ bytes.old.items ++ piece)
+        × Consumes (R.remaining reader.old) (R.remaining reader.new) piece) }
+    ensures end { IfOk result (λ n. n ≡ 0 → IsAtEnd (R.remaining reader.new)) }
+    ensures err { OnErr result (Keeps (R.remaining reader.old) (R.remaining reader.new)) }
+    ensures fault { IfErr result (λ e. e ≢ ReadFault.TooLong) }
+{
+    let start = bytes.len();
+    let Some(end) = start.checked_add(PIECE) else {
+        return Err(ReadFault::NoMemory);
+    };
+    bytes.resize(end, 0)?;
+    let count = read_from(reader, bytes.as_mut_slice(), start)?;
+    bytes.truncate(start + count);
+    Ok(count)
+}
+
 // How many bytes at the front are UTF-8: all of them, or those before the first fault.
 fn text_len(bytes: &[u8]) -> usize
     ensures within { result ≤ length bytes.now }
@@ -70,8 +103,7 @@ fn text_len(bytes: &[u8]) -> usize
 
 /// Reads all that remains, of at most `limit` bytes, and tells how many of them, from the first,
 /// are known to be UTF-8: each piece is looked at while the caches have it. There is room for
-/// `room`
-/// bytes from the first. What was read before a fault is lost.
+/// `room` bytes from the first. What was read before a fault is lost.
 pub fn read_pieces<R: Read>(
     alloc: Global,
     reader: &mut R,
@@ -89,18 +121,18 @@ pub fn read_pieces<R: Read>(
     ensures lost { ConsumesFront (R.remaining reader.old) (R.remaining reader.new) }
     ensures fault { IfErr result (HasLost limit (R.remaining reader.old) (R.remaining reader.new)) }
 {
-    let mut bytes = Vec::with_capacity(alloc, room.min(limit))?;
-    let mut buffer = [0u8; PIECE];
+    // (with room for a piece more the end is seen before the list would grow)
+    let mut bytes = Vec::with_capacity(alloc, room.min(limit).saturating_add(PIECE))?;
     let mut known = 0;
     loop {
-        let count = read_piece(reader, &mut buffer)?;
+        let before = bytes.len();
+        let count = read_behind(reader, &mut bytes)?;
         if count == 0 {
             return Ok((bytes, known));
         }
-        if limit - bytes.len() < count {
+        if limit - before < count {
             return Err(ReadFault::TooLong);
         }
-        bytes.extend_from_slice(&buffer[..count])?;
         known += text_len(bytes.as_slice().split_at(known).1);
     }
 }
