@@ -130,12 +130,29 @@ fn add<'a>(
     Ok(())
 }
 
+/// How many bytes of a text there are for each field, and for each stanza, that there is room for
+/// from the first. The indices of real archives have more, so that their lists don't grow.
+const FIELD_BYTES: usize = 40;
+
+const STANZA_BYTES: usize = 512;
+
+/// The lists of a text's fields and of its stanzas' starts, with nothing in them yet.
+fn empty_lists<'a>(alloc: Global, text: &str) -> Result<(Vec<Field<'a>>, Vec<usize>), AllocError>
+    ensures fields { IfOk result (λ lists. lists.0.items ≡ []) }
+    ensures starts { IfOk result (λ lists. lists.1.items ≡ []) }
+{
+    let fields = Vec::with_capacity(alloc, text.len() / FIELD_BYTES)?;
+    let starts = Vec::with_capacity(alloc, text.len() / STANZA_BYTES)?;
+    Ok((fields, starts))
+}
+
 fn read<'a>(alloc: Global, text: &'a str) -> Result<StanzaList<'a>, StanzaFault>
     ensures found { IfOk result (λ found. AreStanzas found (lines_of text.now)) }
     ensures fault { IfErr result (IsFaultOf (lines_of text.now)) }
 {
-    let mut fields = Vec::new(alloc);
-    let mut starts = Vec::new(alloc);
+    let Ok((mut fields, mut starts)) = empty_lists(alloc, text) else {
+        return Err(StanzaFault::NoMemory);
+    };
     let mut first = 0;
     let mut names = Names::new(alloc);
     let mut rest = Some(text);

@@ -10,7 +10,7 @@ use Rattle.td_stanza.proofs.reading.read.Goals as goal
 
 pub loop-rest-init : goal.loop-rest-init
 loop-rest-init c =
-    rw (c.new-fields.ensures.items, c.new-starts.ensures.items)
+    rw (c.in-Ok.ensures.fields, c.in-Ok.ensures.starts)
     (read_nothing c.args.text, c.new-names.ensures)
 
 pub loop-rest-preserved-then-is_separator : goal.loop-rest-preserved-then-is_separator
@@ -64,7 +64,7 @@ loop-rest-preserved c =
     )
 
 pub returns-clause-found : goal.returns-clause-found
-returns-clause-found c = read_whole _ c.loop-rest.rest _ _ _ c.loop-rest.invariant.0 c.in_default.is
+returns-clause-found c = read_whole _ c.loop-rest.rest _ _ _ c.loop-rest.invariant.0 c.in_default-rest.is
 
 pub invariant_of-result : goal.invariant_of-result
 invariant_of-result c = table_of _ c.loop-rest.rest _ _ _ c.loop-rest.invariant.0
