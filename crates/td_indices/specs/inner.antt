@@ -2,3 +2,4 @@
 pub mod IndexReading
 pub mod Pieces
 pub mod Parts
+pub mod Sound

@@ -12,6 +12,7 @@ use crate::cutting::HALVINGS;
 use crate::packaged::{PackageKey, Packaged};
 use crate::part_reading::{alone, read_part, read_parts};
 use crate::piece_reading::read_stanzas_beside;
+use crate::soundness::are_sound_beside;
 use crate::sourced::Sourced;
 use crate::stanza_list::read_stanzas;
 use crate::stanza_pieces::StanzaPieces;
@@ -73,24 +74,6 @@ pub fn read_packages_beside<'a, R: Threads + Sync>(
     Ok(PackagesIndex { stanzas, kept })
 }
 
-/// What the stanzas of Sources keep, where it has some.
-fn keep_sources<'a>(
-    alloc: Global,
-    read: Result<StanzaPieces<'a>, ArchiveFault>,
-) -> Result<SourcesIndex<'a>, ArchiveFault>
-    ensures { (lines : List (List ℕ)) → IfOk read.entry (λ list. AreStanzas list lines)
-        → IfErr read.entry (StanzaFaultOf Sources lines)
-        → AreSourcesRead lines result }
-{
-    match read {
-        Ok(stanzas) => {
-            let kept = read_sources(alloc, &stanzas);
-            Ok(SourcesIndex { stanzas, kept })
-        }
-        Err(fault) => Err(fault),
-    }
-}
-
 /// Reads Sources, likewise.
 pub fn read_sources_index<'a>(
     alloc: Global,
@@ -98,10 +81,15 @@ pub fn read_sources_index<'a>(
 ) -> Result<SourcesIndex<'a>, ArchiveFault>
     ensures { AreSourcesRead (lines_of text.now) result }
 {
-    keep_sources(alloc, read_stanzas(alloc, IndexFile::Sources, text))
+    let stanzas = match read_stanzas(alloc, IndexFile::Sources, text) {
+        Ok(stanzas) => stanzas,
+        Err(fault) => return Err(fault),
+    };
+    let kept = read_sources(alloc, &stanzas, false);
+    Ok(SourcesIndex { stanzas, kept })
 }
 
-/// The same, a long text in pieces.
+/// The same, a long text in pieces and parts.
 pub fn read_sources_beside<'a, R: Threads + Sync>(
     rt: &R,
     alloc: Global,
@@ -109,6 +97,12 @@ pub fn read_sources_beside<'a, R: Threads + Sync>(
 ) -> Result<SourcesIndex<'a>, ArchiveFault>
     ensures { AreSourcesRead (lines_of text.now) result }
 {
-    let read = read_stanzas_beside(rt, alloc, IndexFile::Sources, text);
-    keep_sources(alloc, read)
+    let stanzas = match read_stanzas_beside(rt, alloc, IndexFile::Sources, text) {
+        Ok(stanzas) => stanzas,
+        Err(fault) => return Err(fault),
+    };
+    let count = stanzas.len();
+    let sound = are_sound_beside(rt, alloc, &stanzas, 0, count, HALVINGS);
+    let kept = read_sources(alloc, &stanzas, sound);
+    Ok(SourcesIndex { stanzas, kept })
 }

@@ -32,6 +32,7 @@ mod piece_reading;
 mod relation_field;
 mod rows;
 mod side_by_side;
+mod soundness;
 mod source_keeping;
 mod source_reading;
 mod sourced;

@@ -1,7 +1,8 @@
 //! A stanza of Sources is read: its name, its version and its Architecture field.
-ghost use Rattle.std.specs.Prelude.{◌≡◌, ℕ, Ok, IfOk, IfErr, OnOk, option_map};
+ghost use Rattle.std.specs.Prelude.{◌≡◌, ℕ, true, Ok, IfOk, IfErr, OnOk, option_map};
 ghost use Rattle.td_stanza.specs.Table.{fields_of};
 ghost use Rattle.td_indices.specs.Fields.{Fails};
+ghost use Rattle.td_indices.specs.inner.Sound.{IsSound};
 ghost use Rattle.td_indices.specs.Sources.{
   SourcePackage,
   is_extra as is_extra_of,
@@ -54,7 +55,7 @@ fn read_head<'a>(
 
 /// Reads what the builds of a source ask for, for its faults alone.
 #[tactic(auto, unfolding(crate::specs::Sources::with_build_relations))]
-fn check_relations(alloc: Global, stanza: &Stanza<'_, '_>) -> Result<(), EntryFault>
+pub fn check_relations(alloc: Global, stanza: &Stanza<'_, '_>) -> Result<(), EntryFault>
     ensures ok { OnOk result ((number : ℕ) (head : SourcePackage)
         → with_build_relations number (fields_of stanza.now) head
         ≡ Ok (record { head = head; stanza = number })) }
@@ -71,12 +72,15 @@ fn check_relations(alloc: Global, stanza: &Stanza<'_, '_>) -> Result<(), EntryFa
     }
 }
 
+// `sound` says that they were read before, and have none.
 #[tactic(auto, unfolding(crate::specs::Sources::whole_source_at))]
 fn read_whole<'a>(
     alloc: Global,
     stanza: &Stanza<'_, 'a>,
     number: usize,
+    sound: bool,
 ) -> Result<(&'a str, Sourced<'a>), EntryFault>
+    requires { sound ≡ true → IsSound (fields_of stanza.now) }
     ensures ok { IfOk result (λ p.
         whole_source_at number (fields_of stanza.now) ≡ Ok (source_of p)) }
     ensures err { IfErr result (λ e. Fails (whole_source_at number (fields_of stanza.now)) e) }
@@ -85,19 +89,25 @@ fn read_whole<'a>(
         Ok(source) => source,
         Err(fault) => return Err(fault),
     };
+    if sound {
+        return Ok(source);
+    }
     match check_relations(alloc, stanza) {
         Ok(()) => Ok(source),
         Err(fault) => Err(fault),
     }
 }
 
-/// What a stanza of Sources is kept as; `None` where it is extra.
+/// What a stanza of Sources is kept as; `None` where it is extra. Where it is `sound`, what its
+/// builds ask for was read before, without a fault, and isn't read again.
 #[tactic(auto, unfolding(crate::specs::Sources::kept_source_at))]
 pub fn read_source<'a>(
     alloc: Global,
     stanza: &Stanza<'_, 'a>,
     number: usize,
+    sound: bool,
 ) -> Result<Option<(&'a str, Sourced<'a>)>, EntryFault>
+    requires { sound ≡ true → IsSound (fields_of stanza.now) }
     ensures ok { IfOk result (λ o.
         kept_source_at number (fields_of stanza.now) ≡ Ok (option_map source_of o)) }
     ensures err { IfErr result (λ e. Fails (kept_source_at number (fields_of stanza.now)) e) }
@@ -105,7 +115,7 @@ pub fn read_source<'a>(
     if is_extra(stanza) {
         return Ok(None);
     }
-    match read_whole(alloc, stanza, number) {
+    match read_whole(alloc, stanza, number, sound) {
         Ok(source) => Ok(Some(source)),
         Err(fault) => Err(fault),
     }

@@ -28,6 +28,7 @@ ghost use Rattle.td_indices.specs.Reading.{
 };
 ghost use Rattle.td_indices.specs.inner.IndexReading.{IsOfStanza};
 ghost use Rattle.td_indices.specs.inner.Parts.{ArePartsRead, packages_in, put_all};
+ghost use Rattle.td_indices.specs.inner.Sound.{AreSound, IsSound};
 
 use crate::archive_fault::{ArchiveFault, IndexFile};
 use crate::binary_keeping::keep_binary;
@@ -97,8 +98,10 @@ fn take_source<'a>(
     kept: &mut IndexMap<&'a str, Sourced<'a>>,
     stanza: &Stanza<'_, 'a>,
     number: usize,
+    sound: bool,
 ) -> Result<(), ArchiveFault>
-    requires { number + 1 < 2 ^ 64 }
+    requires number { number + 1 < 2 ^ 64 }
+    requires sound { sound ≡ true → IsSound (fields_of stanza.now) }
     ensures ok { OnOk result
         (source_step number (sources_of kept.old.entries) (fields_of stanza.now)
         ≡ Ok (sources_of kept.new.entries)) }
@@ -106,7 +109,7 @@ fn take_source<'a>(
         IsFaultOf (source_step number (sources_of kept.old.entries) (fields_of stanza.now)) e) }
     ensures entry { IfErr result (λ e. is_entry e ≡ true) }
 {
-    match read_source(alloc, stanza, number) {
+    match read_source(alloc, stanza, number, sound) {
         Ok(None) => Ok(()),
         Ok(Some((name, sourced))) => match keep_source(kept, name, sourced) {
             Ok(()) => Ok(()),
@@ -116,11 +119,14 @@ fn take_source<'a>(
     }
 }
 
-/// The sources that the stanzas of Sources keep.
+/// The sources that the stanzas of Sources keep. Where they are `sound`, what their builds ask for
+/// isn't read.
 pub fn read_sources<'a>(
     alloc: Global,
     stanzas: &StanzaPieces<'a>,
+    sound: bool,
 ) -> Result<IndexMap<&'a str, Sourced<'a>>, ArchiveFault>
+    requires { sound ≡ true → AreSound stanzas.now 0 (length stanzas.now) }
     ensures ok { IfOk result (λ kept. sources_at stanzas.now ≡ Ok (sources_of kept.entries)) }
     ensures err { IfErr result (λ e. IsFaultOf (sources_at stanzas.now) e) }
     ensures entry { IfErr result (λ e. is_entry e ≡ true) }
@@ -130,7 +136,7 @@ pub fn read_sources<'a>(
     };
     for number in 0..stanzas.len() {
         if let Some(stanza) = stanzas.stanza(number) {
-            match take_source(alloc, &mut kept, &stanza, number) {
+            match take_source(alloc, &mut kept, &stanza, number, sound) {
                 Ok(()) => {}
                 Err(fault) => return Err(fault),
             }
