@@ -23,6 +23,8 @@ pub mod FirstFaults
 pub mod Refusals
 pub mod OpeningLaws
 pub mod OpeningCounts
+pub mod OpeningTables
+pub mod Chosen
 mod Needed
 pub mod PackageStanzas
 pub mod OfferLaws

@@ -259,7 +259,7 @@ distinct_before table source archs (suc place) apart within =
 abbrev own_keys : List ArchWords → KeptSource → List Key
 own_keys table s = keys_before table s.head.name s.head.archs (length table)
 
-abbrev all_keys : List ArchWords → List KeptSource → List Key
+abbrev pub all_keys : List ArchWords → List KeptSource → List Key
 all_keys table [] = []
 all_keys table (s ∷ sources) = own_keys table s ++ all_keys table sources
 
@@ -353,6 +353,14 @@ opens a k = by (source_named a k.source)
     by None = refl
     by (Some s) = on s (place_of a.table k.arch)
 
+-- a key opens with a row where it is among them
+pub opens_among : (a : Contents) (k : Key) → IsApart a.table → Apart same_source a.sources
+    → list_any (same_key k) (all_keys a.table a.sources) ≡ is_some (opening_row a k)
+opens_among a k apart names =
+    among_all a.table a.sources k apart
+    ∙ one_named k (λ s. has_row_on a.table s.head.archs k.arch) a.sources names
+    ∙ sym (opens a k)
+
 -- a table of the opening rows, each key once
 rows_are : (a : Contents) (t : Table) → IsApart a.table → Apart same_source a.sources
     → ascending (keys_of t) ≡ true → ((k : Key) → row_of t k ≡ opening_row a k)
@@ -366,9 +374,7 @@ rows_are a t apart names up rows =
     same : (k : Key)
         → is_member same_key (keys_of t) k ≡ is_member same_key (all_keys a.table a.sources) k
     same k =
-        among_keys t k ∙ ap is_some (rows k) ∙ opens a k
-        ∙ sym (one_named k (λ s. has_row_on a.table s.head.archs k.arch) a.sources names)
-        ∙ sym (among_all a.table a.sources k apart)
+        among_keys t k ∙ ap is_some (rows k) ∙ sym (opens_among a k apart names)
 
 pub counted_rows : {E : Type 0} (a : Contents) (r : Result Table E) → IsApart a.table
     → Apart same_source a.sources → IfOk r (λ t. ascending (keys_of t) ≡ true)

@@ -1,8 +1,9 @@
 -- Opening rows that are put together source by source.
 use Rattle.std.proofs.Common.{◌≡◌, ◌≢◌, ℕ, zero, suc, ◌+◌, ◌<◌, ◌≤◌, Bool, true, false, ◌&&◌, ◌||◌}
-use Rattle.std.proofs.Common.{nat_lt, ◌==◌, List, [], ◌∷◌, Option, Some, None, option_map}
+use Rattle.std.proofs.Common.{nat_lt, ◌==◌, List, [], ◌∷◌, Option, Some, None, option_map, ◌++◌}
 use Rattle.std.proofs.Common.{length, take, drop, get_or, slice_get, add-one, if◌then◌else◌, refl}
 use Rattle.std.proofs.Common.{sym, ap, ◌∙◌, inl, inr, arith}
+use Rattle.std.specs.Prelude.{Err, IfOk, Ok, Result}
 use Rattle.std.specs.List.{find, list_any}
 use Rattle.std.specs.Option.{option_map_or, option_or}
 use Rattle.std.specs.Str.{bytes_eq}
@@ -25,6 +26,7 @@ use Rattle.td_rows.specs.Table.{Table, row_of}
 use Rattle.td_rows.proofs.Keys.{same_key-true, same_key-refl}
 use Rattle.td_rows.proofs.Lists.{drop-next, slice_get-none, take-next}
 use Rattle.td_indices.specs.Archive.{Contents, source_named}
+use Rattle.td_indices.specs.Choosing.{is_of_one}
 use Rattle.td_indices.specs.Opening.{opening_on, opening_at, opening_row}
 use Rattle.td_indices.specs.OpeningRows.{is_key_at, has_row_on, has_row_before, with_opening}
 use Rattle.td_indices.specs.Rows.{has_row, row_count, rows_before, rows_of}
@@ -298,24 +300,6 @@ opened_past a source archs place none k row =
     ap (λ (b : Bool). with_opening (bytes_eq k.source source && b) (opening_row a k) row)
     (sym (before_past a.table archs k.arch place none))
 
--- whether a key's source is among sources
-abbrev pub among : List KeptSource → Key → Bool
-among sources k = list_any (λ s. bytes_eq k.source s.head.name) sources
-
-find-first : {A : Type 0} (test : A → Bool) (xs : List A) (n : ℕ) (x : A)
-    → list_any test (take n xs) ≡ false → slice_get xs n ≡ Some x → test x ≡ true
-    → find test xs ≡ Some x
-find-first test [] n x none at is = absurd (let bad : None ≡ Some x = at in cc)
-find-first test (y ∷ xs) zero x none at is =
-    let same : y ≡ x = some_is y x at in
-    let passes : test y ≡ true = ap test same ∙ is in
-    rw passes (ap Some same)
-find-first test (y ∷ xs) (suc n) x none at is =
-    elim (cases_Bool (test y)) [
-      | inl bad ↦ absurd (let e : true ≡ false = sym (rw bad refl) ∙ none in cc)
-      | inr other ↦ rw other (find-first test xs n x (sym (rw other refl) ∙ none) at is)
-    ]
-
 find-none : {A : Type 0} (test : A → Bool) (xs : List A) → list_any test xs ≡ false
     → find test xs ≡ None
 find-none test [] none = refl
@@ -327,7 +311,7 @@ find-none test (y ∷ xs) none =
 
 -- the row of a key whose source is gone over
 abbrev pub row_so_far : Contents → List KeptSource → Key → Option Row
-row_so_far a sources k = if among sources k then opening_row a k else None
+row_so_far a sources k = if is_of_one sources k then opening_row a k else None
 
 opened_again : (opening : Option Row) → option_or opening opening ≡ opening
 opened_again None = refl
@@ -338,25 +322,23 @@ opened_new None = refl
 opened_new (Some r) = refl
 
 -- the rows of the sources before one, and its own
-pub source_opened : (a : Contents) (old new : Table) (n : ℕ) (s : KeptSource)
-    → slice_get a.sources n ≡ Some s
-    → ((k : Key) → row_of old k ≡ row_so_far a (take n a.sources) k)
+pub source_opened : (a : Contents) (old new : Table) (gone : List KeptSource) (s : KeptSource)
+    → source_named a s.head.name ≡ Some s
+    → ((k : Key) → row_of old k ≡ row_so_far a gone k)
     → ((k : Key) → row_of new k
     ≡ with_opening (bytes_eq k.source s.head.name && has_row_on a.table s.head.archs k.arch)
     (opening_row a k) (row_of old k))
-    → (k : Key) → row_of new k ≡ row_so_far a (take (n + 1) a.sources) k
-source_opened a old new n s at so_far here k =
-    let more : among (take (n + 1) a.sources) k
-    ≡ (among (take n a.sources) k || bytes_eq k.source s.head.name) =
-    ap (λ (l : List KeptSource). among l k) (take-next a.sources n s at)
-    ∙ any-push (λ (t : KeptSource). bytes_eq k.source t.head.name) (take n a.sources) s in
+    → (k : Key) → row_of new k ≡ row_so_far a (gone ++ s ∷ []) k
+source_opened a old new gone s named so_far here k =
+    let more : is_of_one (gone ++ s ∷ []) k ≡ (is_of_one gone k || bytes_eq k.source s.head.name) =
+    any-push (λ (t : KeptSource). bytes_eq k.source t.head.name) gone s in
     let old_row = so_far k in
     here k ∙ elim (cases_Bool (bytes_eq k.source s.head.name)) [
-      | inl own ↦ elim (cases_Bool (among (take n a.sources) k)) [
+      | inl own ↦ elim (cases_Bool (is_of_one gone k)) [
         | inl seen ↦
             let was : row_of old k ≡ opening_row a k =
             old_row ∙ ap (λ (b : Bool). if b then opening_row a k else None) seen in
-            let now : among (take (n + 1) a.sources) k ≡ true =
+            let now : is_of_one (gone ++ s ∷ []) k ≡ true =
             more ∙ ap (λ (b : Bool). b || bytes_eq k.source s.head.name) seen in
             ap (with_opening (bytes_eq k.source s.head.name
             && has_row_on a.table s.head.archs k.arch) (opening_row a k)) was
@@ -365,13 +347,12 @@ source_opened a old new n s at so_far here k =
         | inr new_one ↦
             let was : row_of old k ≡ None =
             old_row ∙ ap (λ (b : Bool). if b then opening_row a k else None) new_one in
-            let now : among (take (n + 1) a.sources) k ≡ true =
-            more ∙ or_right (among (take n a.sources) k) (bytes_eq k.source s.head.name) own in
-            let named : source_named a k.source ≡ Some s =
-            find-first (λ (t : KeptSource). bytes_eq k.source t.head.name) a.sources n s new_one at
-            own in
+            let now : is_of_one (gone ++ s ∷ []) k ≡ true =
+            more ∙ or_right (is_of_one gone k) (bytes_eq k.source s.head.name) own in
+            let its : source_named a k.source ≡ Some s =
+            ap (source_named a) ((bytes_eq-Decides k.source s.head.name).0 own) ∙ named in
             let opens : opening_row a k ≡ opening_on a s (place_of a.table k.arch) =
-            ap (λ (o : Option KeptSource). opening_at a o k.arch) named in
+            ap (λ (o : Option KeptSource). opening_at a o k.arch) its in
             ap (with_opening (bytes_eq k.source s.head.name
             && has_row_on a.table s.head.archs k.arch) (opening_row a k)) was
             ∙ ap (λ (b : Bool). with_opening (b && has_row_on a.table s.head.archs k.arch)
@@ -381,9 +362,9 @@ source_opened a old new n s at so_far here k =
             ∙ sym (ap (λ (b : Bool). if b then opening_row a k else None) now)
       ]
       | inr foreign ↦
-          let same : among (take (n + 1) a.sources) k ≡ among (take n a.sources) k =
-          more ∙ ap (λ (b : Bool). among (take n a.sources) k || b) foreign
-          ∙ or-false (among (take n a.sources) k) in
+          let same : is_of_one (gone ++ s ∷ []) k ≡ is_of_one gone k =
+          more ∙ ap (λ (b : Bool). is_of_one gone k || b) foreign
+          ∙ or-false (is_of_one gone k) in
           ap (λ (b : Bool). with_opening (b && has_row_on a.table s.head.archs k.arch)
           (opening_row a k) (row_of old k)) foreign
           ∙ old_row ∙ sym (ap (λ (b : Bool). if b then opening_row a k else None) same)
@@ -405,18 +386,21 @@ source_opened a old new n s at so_far here k =
     fresh false o has at_place opens = sym (opens ∙ without (place_of a.table k.arch) has)
 
 -- all sources are gone over
-pub all_opened : (a : Contents) (rows : Table) (n : ℕ) → length a.sources ≤ n
-    → ((k : Key) → row_of rows k ≡ row_so_far a (take n a.sources) k) → (k : Key)
-    → row_of rows k ≡ opening_row a k
-all_opened a rows n past so_far k =
-    so_far k ∙ ap (λ (l : List KeptSource). row_so_far a l k) (take_all n a.sources past)
-    ∙ elim (cases_Bool (among a.sources k)) [
+pub all_opened : (a : Contents) (k : Key) → row_so_far a a.sources k ≡ opening_row a k
+all_opened a k =
+    elim (cases_Bool (is_of_one a.sources k)) [
       | inl seen ↦ ap (λ (b : Bool). if b then opening_row a k else None) seen
       | inr none ↦
           ap (λ (b : Bool). if b then opening_row a k else None) none
           ∙ sym (ap (λ (o : Option KeptSource). opening_at a o k.arch)
           (find-none (λ (t : KeptSource). bytes_eq k.source t.head.name) a.sources none))
     ]
+
+pub rows_opened : {R E : Type 0} (row_in : R → Key → Option Row) (a : Contents) (r : Result R E)
+    → IfOk r (λ t. (k : Key) → row_in t k ≡ row_so_far a a.sources k)
+    → IfOk r (λ t. (k : Key) → row_in t k ≡ opening_row a k)
+rows_opened row_in a (Ok t) rows = λ k. rows k ∙ all_opened a k
+rows_opened row_in a (Err e) rows = tt
 
 -- how many rows there are before the next place
 pub rows_next : (table : List ArchWords) (archs : List ℕ) (place : ℕ)

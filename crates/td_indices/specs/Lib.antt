@@ -12,6 +12,7 @@ pub mod FaultNames
 pub mod Seen
 pub mod Opening
 pub mod OpeningRows
+pub mod Choosing
 pub mod Counting
 pub mod Supplying
 pub mod Stanzas

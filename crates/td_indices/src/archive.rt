@@ -2,6 +2,7 @@
 ghost use Rattle.td_rows.specs.Limits.{max_rows};
 
 use crate::archive_fault::ArchiveFault;
+use crate::choosing::is_chosen;
 use crate::grouping::those_on;
 use crate::index_reading::{read_packages_index, read_sources_index};
 use crate::opening::{greatest_number, opening, opening_on};
@@ -79,10 +80,12 @@ impl<'t, 'a> Archive<'t, 'a> {
       IfOk,
       IfSome,
       OnOk,
+      None,
       Some,
       length,
       option_map,
       slice_get,
+      if◌then◌else◌,
     };
     ghost use Rattle.std.specs.Str.{bytes_eq};
     ghost use Rattle.td_text.specs.Lines.{lines_of};
@@ -94,6 +97,7 @@ impl<'t, 'a> Archive<'t, 'a> {
     ghost use Rattle.td_rows.specs.Table.{keys_of, row_of};
     ghost use Rattle.td_rows.specs.Text.{has_newline};
     ghost use Rattle.td_indices.specs.Archive.{IsRead, binaries_on, source_named};
+    ghost use Rattle.td_indices.specs.Choosing.{AreOpenedOf, chosen, flagged, is_of_one};
     ghost use Rattle.td_indices.specs.Opening.{opening_row as opening_row_of};
     ghost use Rattle.td_indices.specs.OpeningRows.{
       IsVersionKnown,
@@ -102,7 +106,7 @@ impl<'t, 'a> Archive<'t, 'a> {
       with_opening,
     };
     ghost use Rattle.td_indices.specs.Rows.{has_row as has_row_of, row_count, rows_before};
-    ghost use Rattle.td_indices.specs.Sources.{source_of};
+    ghost use Rattle.td_indices.specs.Sources.{KeptSource, source_of};
     ghost use Rattle.td_indices.specs.Supplying.{supply_of};
     ghost use Rattle.td_supply.specs.Supply.{opened};
     ghost use Rattle.td_indices.specs.Seen.{
@@ -319,26 +323,58 @@ impl<'t, 'a> Archive<'t, 'a> {
         Ok(())
     }
 
-    // The rows of all sources, source by source.
-    fn open_all(&self) -> Result<IndexMap<Key, Row>, AllocError>
-        ensures rows { IfOk result (λ rows.
-            (k : Key) → row_of rows.entries k ≡ opening_row_of self.now k) }
+    // The same of the source with a number.
+    fn open_numbered(&self, rows: &mut IndexMap<Key, Row>, number: usize) -> Result<(), AllocError>
+        requires number { number < length self.now.sources }
+        requires apart { IsApart self.now.table }
+        ensures rows { OnOk result ((s : KeptSource) → slice_get self.now.sources number ≡ Some s
+            → (source_named self.now s.head.name ≡ Some s)
+            × ((k : Key) → row_of rows.new.entries k
+            ≡ with_opening (bytes_eq k.source s.head.name
+            && has_row_on self.now.table s.head.archs k.arch) (opening_row_of self.now k)
+            (row_of rows.old.entries k))) }
+        ensures few { OnOk result ((s : KeptSource) → slice_get self.now.sources number ≡ Some s
+            → length rows.new.entries
+            ≤ length rows.old.entries
+            + rows_before self.now.table s.head.archs (length self.now.table)) }
+    {
+        match self.entry_at(number) {
+            Some((name, sourced)) => self.open_source(rows, name, sourced),
+            None => Ok(()),
+        }
+    }
+
+    // How many rows there is room for from the first: for all, or, where there are flags, for none.
+    fn room_of(&self, flags: Option<&[bool]>) -> usize {
+        match flags {
+            None => self.row_count(),
+            Some(_) => 0,
+        }
+    }
+
+    // The rows of the sources that are chosen, source by source.
+    fn open_chosen(&self, flags: Option<&[bool]>) -> Result<IndexMap<Key, Row>, AllocError>
+        ensures rows { IfOk result (λ rows. (k : Key) → row_of rows.entries k
+            ≡ (if is_of_one (chosen (option_map (λ x. x.now) flags.entry) self.now.sources) k
+            then opening_row_of self.now k else None)) }
         ensures few { IfOk result (λ rows. length rows.entries ≤ max_rows) }
     {
-        let mut rows = IndexMap::with_capacity(self.alloc, self.row_count())?;
+        let mut rows = IndexMap::with_capacity(self.alloc, self.room_of(flags))?;
         for number in 0..self.source_count() {
-            if let Some((name, sourced)) = self.entry_at(number) {
-                self.open_source(&mut rows, name, sourced)?;
+            if is_chosen(flags, number) {
+                self.open_numbered(&mut rows, number)?;
             }
         }
         Ok(rows)
     }
 
-    fn sorted_rows(&self) -> Result<Rows, AllocError>
-        ensures rows { IfOk result (λ rows. (k : Key) → row_of rows k ≡ opening_row_of self.now k) }
+    fn sorted_rows(&self, flags: Option<&[bool]>) -> Result<Rows, AllocError>
+        ensures rows { IfOk result (λ rows. (k : Key) → row_of rows k
+            ≡ (if is_of_one (chosen (option_map (λ x. x.now) flags.entry) self.now.sources) k
+            then opening_row_of self.now k else None)) }
         ensures rising { IfOk result (λ rows. ascending (keys_of rows) ≡ true) }
     {
-        let rows = self.open_all()?;
+        let rows = self.open_chosen(flags)?;
         Rows::sorted(self.alloc, rows)
     }
 
@@ -358,7 +394,16 @@ impl<'t, 'a> Archive<'t, 'a> {
             → IsVersionKnown (opened (supply_of self.now)) k.source) }
     {
         let _ = &self.rows;
-        self.sorted_rows()
+        self.sorted_rows(None)
+    }
+
+    /// The same of some sources alone: of those whose flag is set, the first flag being that of the
+    /// first source.
+    pub fn opening_rows_of(&self, flags: &[bool]) -> Result<Rows, AllocError>
+        ensures { IfOk result (AreOpenedOf self.now (flagged flags.now self.now.sources)) }
+    {
+        let _ = &self.rows;
+        self.sorted_rows(Some(flags))
     }
 
     /// What the archive puts on offer: its binary packages, and the names that they provide.

@@ -17,6 +17,7 @@ mod archive_fault;
 mod assembling;
 mod binary_keeping;
 mod binary_reading;
+mod choosing;
 mod cutting;
 mod field;
 mod grouping;
