@@ -1,7 +1,7 @@
 -- Sources that are chosen by flags, one more at a time.
 use Rattle.std.proofs.Common.{◌≡◌, ℕ, zero, suc, ◌+◌, ◌<◌, arith, Bool, true, false, List, [], ◌∷◌, ◌++◌}
-use Rattle.std.proofs.Common.{Option, Some, None, length, slice_get, take, add-one, append-nil}
-use Rattle.std.proofs.Common.{take_all, if◌then◌else◌, refl, sym, ap, ◌∙◌}
+use Rattle.std.proofs.Common.{Option, Some, None, length, slice_get, take, add-one}
+use Rattle.std.proofs.Common.{if◌then◌else◌, refl, ap, ◌∙◌}
 use Rattle.td_text.proofs.Chain.{some_is}
 use Rattle.td_rows.proofs.Lists.{take-next}
 use Rattle.td_indices.specs.Choosing.{chosen, flagged, is_chosen}

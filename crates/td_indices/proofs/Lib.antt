@@ -3,6 +3,7 @@ pub mod WordCuts
 mod FieldValues
 pub mod Putting
 pub mod Keeping
+pub mod PlacedPackages
 pub mod SourceKeeping
 pub mod Steps
 pub mod RowCounts

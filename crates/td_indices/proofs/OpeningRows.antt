@@ -1,7 +1,7 @@
 -- Opening rows that are put together source by source.
-use Rattle.std.proofs.Common.{◌≡◌, ◌≢◌, ℕ, zero, suc, ◌+◌, ◌<◌, ◌≤◌, Bool, true, false, ◌&&◌, ◌||◌}
+use Rattle.std.proofs.Common.{◌≡◌, ◌≢◌, ℕ, zero, suc, ◌+◌, ◌<◌, Bool, true, false, ◌&&◌, ◌||◌}
 use Rattle.std.proofs.Common.{nat_lt, ◌==◌, List, [], ◌∷◌, Option, Some, None, option_map, ◌++◌}
-use Rattle.std.proofs.Common.{length, take, drop, get_or, slice_get, add-one, if◌then◌else◌, refl}
+use Rattle.std.proofs.Common.{length, drop, get_or, slice_get, add-one, if◌then◌else◌, refl}
 use Rattle.std.proofs.Common.{sym, ap, ◌∙◌, inl, inr, arith}
 use Rattle.std.specs.Prelude.{Err, IfOk, Ok, Result}
 use Rattle.std.specs.List.{find, list_any}
@@ -10,7 +10,6 @@ use Rattle.std.specs.Str.{bytes_eq}
 use Rattle.std.proofs.Math.Bool.{and-false, or-false}
 use Rattle.std.proofs.lemmas.Bool.{cases_Bool, and_parts, and_from, eq-eqb, eqb-true, lt-ltb}
 use Rattle.std.proofs.lemmas.Bool.{or_right}
-use Rattle.std.proofs.lemmas.List.{take_all}
 use Rattle.std.proofs.lemmas.List.Quantifiers.{position-Some}
 use Rattle.std.proofs.lemmas.List.Sums.{sum_by-cons}
 use Rattle.std.proofs.lemmas.Slice.Eq.{bytes_eq-Decides}
@@ -24,7 +23,7 @@ use Rattle.td_rows.specs.declared.row.Row.{Row}
 use Rattle.td_rows.specs.Keys.{same_key}
 use Rattle.td_rows.specs.Table.{Table, row_of}
 use Rattle.td_rows.proofs.Keys.{same_key-true, same_key-refl}
-use Rattle.td_rows.proofs.Lists.{drop-next, slice_get-none, take-next}
+use Rattle.td_rows.proofs.Lists.{drop-next, slice_get-none}
 use Rattle.td_indices.specs.Archive.{Contents, source_named}
 use Rattle.td_indices.specs.Choosing.{is_of_one}
 use Rattle.td_indices.specs.Opening.{opening_on, opening_at, opening_row}

@@ -1,5 +1,5 @@
 -- The opening rows of an archive as a table, and those of some of its sources in it.
-use Rattle.std.proofs.Common.{◌≡◌, ◌&&◌, ◌||◌, Bool, true, false, List, [], ◌∷◌, Option, Some, None}
+use Rattle.std.proofs.Common.{◌≡◌, ◌||◌, Bool, true, false, List, [], ◌∷◌, Option, Some, None}
 use Rattle.std.proofs.Common.{filter, if◌then◌else◌, refl, sym, ap, ◌∙◌, inl, inr}
 use Rattle.std.specs.Prelude.{Err, IfOk, Ok, Result, is_some}
 use Rattle.std.specs.List.{list_any}
@@ -13,7 +13,7 @@ use Rattle.td_rows.specs.declared.key.Key.{Key}
 use Rattle.td_rows.specs.declared.row.Row.{Row}
 use Rattle.td_rows.specs.Keys.{ascending, below_all, key_cmp, same_key}
 use Rattle.td_rows.specs.Table.{Table, keys_of, row_of}
-use Rattle.td_rows.proofs.Keys.{below-apart, key_total, same_key-refl, same_key-true}
+use Rattle.td_rows.proofs.Keys.{below-apart, key_total, same_key-true}
 use Rattle.td_rows.proofs.Rising.{is_less}
 use Rattle.td_rows.proofs.Sorting.{key_cmp-equal, table-same}
 use Rattle.td_indices.specs.Archive.{Contents}

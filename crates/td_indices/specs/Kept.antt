@@ -65,7 +65,7 @@ put same lower (y ∷ ys) x =
 
 -- ---- what the maps hold, without where it lies in memory
 
--- a package with its key, as the map holds them
+-- a package with its key
 abbrev pub binary_of : PackageKey × Packaged → KeptBinary
 binary_of p = record {
   head = record {
@@ -80,7 +80,7 @@ binary_of p = record {
   stanza = p.1.stanza;
 }
 
--- all packages that the map holds, in its order
+-- all packages that count, in the map's order
 abbrev pub binaries_of : List (PackageKey × Packaged) → List KeptBinary
 binaries_of entries = map binary_of entries
 

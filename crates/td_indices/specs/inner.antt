@@ -1,5 +1,8 @@
--- What contracts say for the code's sake: how each file is read by itself, and in pieces and parts.
+-- What contracts say for the code's sake: how each file is read by itself, and in pieces and parts,
+-- where the packages that count stand, and what both files keep.
 pub mod IndexReading
 pub mod Pieces
 pub mod Parts
+pub mod Placed
+pub mod Assembling
 pub mod Sound

@@ -2,13 +2,15 @@
 ghost use Rattle.td_rows.specs.Limits.{max_rows};
 
 use crate::archive_fault::ArchiveFault;
+use crate::assembling::kept_of_both;
+use crate::binaries::Binaries;
 use crate::choosing::is_chosen;
-use crate::grouping::those_on;
+use crate::grouping::{grouped_and_counted, those_on};
 use crate::index_reading::{read_packages_index, read_sources_index};
 use crate::opening::{greatest_number, opening, opening_on};
-use crate::packaged::{Binary, PackageKey, Packaged};
+use crate::packaged::Binary;
 use crate::rows::has_row;
-use crate::side_by_side::read_indices;
+use crate::side_by_side::{grouped_and_counted_beside, read_indices};
 use crate::sourced::{Source, Sourced};
 use crate::stanza_pieces::StanzaPieces;
 use crate::supplying::stocked;
@@ -27,7 +29,7 @@ pub struct Archive<'t, 'a> {
     pub(crate) archs: &'t Archs<'a>,
     pub(crate) packages: StanzaPieces<'a>,
     pub(crate) source_stanzas: StanzaPieces<'a>,
-    pub(crate) binaries: IndexMap<PackageKey<'a>, Packaged<'a>>,
+    pub(crate) binaries: Binaries<'a>,
     pub(crate) sources: IndexMap<&'a str, Sourced<'a>>,
     // The numbers of each source's binary packages, by its name.
     pub(crate) groups: Numbers<'a>,
@@ -53,17 +55,17 @@ impl<'t, 'a> Model for Archive<'t, 'a> {
       table = table a.archs.now;
       packages = a.packages;
       source_stanzas = a.source_stanzas;
-      binaries = binaries_of a.binaries.entries;
+      binaries = binaries_of a.binaries;
       sources = sources_of a.sources.entries;
     } };
 
     ghost invariant = { λ a.
         ((q : List ℕ)
-        → numbers_of a.groups q ≡ places_from (is_of q) 0 (binaries_of a.binaries.entries))
+        → numbers_of a.groups q ≡ places_from (is_of q) 0 (binaries_of a.binaries))
         × (a.rows ≡ row_count (table a.archs.now) (sources_of a.sources.entries))
         × (a.rows ≤ max_rows)
         × (sources_at a.source_stanzas ≡ Ok (sources_of a.sources.entries))
-        × (binaries_at (table a.archs.now) a.packages ≡ Ok (binaries_of a.binaries.entries)) };
+        × (binaries_at (table a.archs.now) a.packages ≡ Ok (binaries_of a.binaries)) };
 }
 
 impl<'t, 'a> Archive<'t, 'a> {
@@ -131,7 +133,13 @@ impl<'t, 'a> Archive<'t, 'a> {
     {
         let packages = read_packages_index(alloc, archs, packages);
         let sources = read_sources_index(alloc, sources);
-        Archive::assembled(alloc, archs, packages, sources)
+        match kept_of_both(packages, sources) {
+            Ok(kept) => {
+                let counted = grouped_and_counted(alloc, archs, &kept.binaries, &kept.sources);
+                Archive::of_kept(alloc, archs, kept, counted)
+            }
+            Err(fault) => Err(fault),
+        }
     }
 
     /// Reads them side by side, each in a thread: the same archive, or the same fault.
@@ -145,7 +153,19 @@ impl<'t, 'a> Archive<'t, 'a> {
         ensures { IsRead (table archs.now) (lines_of packages.now) (lines_of sources.now) result }
     {
         let (packages, sources) = read_indices(rt, alloc, archs, packages, sources);
-        Archive::assembled(alloc, archs, packages, sources)
+        match kept_of_both(packages, sources) {
+            Ok(kept) => {
+                let counted = grouped_and_counted_beside(
+                    rt,
+                    alloc,
+                    archs,
+                    &kept.binaries,
+                    &kept.sources,
+                );
+                Archive::of_kept(alloc, archs, kept, counted)
+            }
+            Err(fault) => Err(fault),
+        }
     }
 
     /// How many sources there are.

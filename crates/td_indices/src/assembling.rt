@@ -1,111 +1,125 @@
 //! The archive of two indices that were read.
+ghost use Rattle.std.specs.Prelude.{ℕ, List, IfOk, IfErr};
+ghost use Rattle.td_relation.specs.Arch.{ArchWords};
+ghost use Rattle.td_indices.specs.Archive.{FaultOf};
+ghost use Rattle.td_indices.specs.inner.Assembling.{AreKept};
+ghost use Rattle.td_indices.specs.inner.IndexReading.{ArePackages, ArePackagesRead};
+ghost use Rattle.td_indices.specs.inner.IndexReading.{AreSources, AreSourcesRead};
 
 use crate::archive::Archive;
 use crate::archive_fault::ArchiveFault;
-use crate::grouping::grouped_and_counted;
+use crate::binaries::Binaries;
 use crate::index_reading::{PackagesIndex, SourcesIndex};
-use crate::packaged::{PackageKey, Packaged};
 use crate::pairing::paired;
 use crate::sourced::Sourced;
 use crate::stanza_pieces::StanzaPieces;
 use indexmap::IndexMap;
 use std::alloc::Global;
 use td_relation::Archs;
+use td_supply::Numbers;
+
+/// The stanzas of both files, and what they keep.
+#[derive(Drop)]
+pub struct KeptIndices<'a> {
+    pub packages: StanzaPieces<'a>,
+    pub source_stanzas: StanzaPieces<'a>,
+    pub binaries: Binaries<'a>,
+    pub sources: IndexMap<&'a str, Sourced<'a>>,
+}
+
+/// What two indices keep whose stanzas were found, or the first fault.
+fn kept_of_indices<'a>(
+    packages: PackagesIndex<'a>,
+    sources: SourcesIndex<'a>,
+) -> Result<KeptIndices<'a>, ArchiveFault>
+    ensures found { (table : List ArchWords) (p s : List (List ℕ))
+        → ArePackages table p packages.entry
+        → AreSources s sources.entry → IfOk result (AreKept table p s) }
+    ensures fault { (table : List ArchWords) (p s : List (List ℕ))
+        → ArePackages table p packages.entry
+        → AreSources s sources.entry → IfErr result (FaultOf table p s) }
+{
+    match paired(packages.kept, sources.kept) {
+        Ok((binaries, kept)) => Ok(KeptIndices {
+            packages: packages.stanzas,
+            source_stanzas: sources.stanzas,
+            binaries,
+            sources: kept,
+        }),
+        Err(fault) => Err(fault),
+    }
+}
+
+/// The same of two indices, each as it was read by itself.
+pub fn kept_of_both<'a>(
+    packages: Result<PackagesIndex<'a>, ArchiveFault>,
+    sources: Result<SourcesIndex<'a>, ArchiveFault>,
+) -> Result<KeptIndices<'a>, ArchiveFault>
+    ensures found { (table : List ArchWords) (p s : List (List ℕ))
+        → ArePackagesRead table p packages.entry
+        → AreSourcesRead s sources.entry → IfOk result (AreKept table p s) }
+    ensures fault { (table : List ArchWords) (p s : List (List ℕ))
+        → ArePackagesRead table p packages.entry
+        → AreSourcesRead s sources.entry → IfErr result (FaultOf table p s) }
+{
+    match paired(packages, sources) {
+        Ok((packages, sources)) => kept_of_indices(packages, sources),
+        Err(fault) => Err(fault),
+    }
+}
 
 impl<'t, 'a> Archive<'t, 'a> {
-    ghost use Rattle.std.specs.Prelude.{◌≡◌, ℕ, List, Ok, IfOk, IfErr};
+    ghost use Rattle.std.specs.Prelude.{◌≡◌, ◌⊎◌, ◌≤◌, ◌<◌, ℕ, List, Ok, IfOk, IfErr};
+    ghost use Rattle.td_rows.specs.Limits.{max_rows};
     ghost use Rattle.td_stanza.specs.StanzaGrammar.{AreStanzas};
     ghost use Rattle.td_relation.specs.TableView.{table};
-    ghost use Rattle.td_indices.specs.Archive.{FaultOf, IsArchive};
-    ghost use Rattle.td_indices.specs.inner.IndexReading.{ArePackages, ArePackagesRead};
-    ghost use Rattle.td_indices.specs.inner.IndexReading.{AreSources, AreSourcesRead};
+    ghost use Rattle.td_supply.specs.Numbers.{numbers_of};
+    ghost use Rattle.td_indices.specs.Archive.{FaultOf, IsArchive, is_of, places_from};
     ghost use Rattle.td_indices.specs.Kept.{binaries_of};
     ghost use Rattle.td_indices.specs.Reading.{binaries_at, sources_at};
+    ghost use Rattle.td_indices.specs.Rows.{row_count};
     ghost use Rattle.td_indices.specs.Sources.{sources_of};
 
-    // The archive of the two indices, each as it was read by itself.
-    pub(crate) fn assembled(
+    // The archive of stanzas that all were kept, with the numbers of the packages and how many rows
+    // there are, if they could be counted.
+    pub(crate) fn of_kept(
         alloc: Global,
         archs: &'t Archs<'a>,
-        packages: Result<PackagesIndex<'a>, ArchiveFault>,
-        sources: Result<SourcesIndex<'a>, ArchiveFault>,
+        kept: KeptIndices<'a>,
+        counted: Result<(Numbers<'a>, usize), ArchiveFault>,
     ) -> Result<Archive<'t, 'a>, ArchiveFault>
-        requires packages { (p : List (List ℕ)) × ArePackagesRead (table archs.now) p packages }
-        requires sources { (s : List (List ℕ)) × AreSourcesRead s sources }
-        ensures found { (p s : List (List ℕ)) → ArePackagesRead (table archs.now) p packages.entry
-            → AreSourcesRead s sources.entry → IfOk result (IsArchive (table archs.now) p s) }
-        ensures fault { (p s : List (List ℕ)) → ArePackagesRead (table archs.now) p packages.entry
-            → AreSourcesRead s sources.entry → IfErr result (FaultOf (table archs.now) p s) }
+        requires binaries { binaries_at (table archs.now) kept.packages
+            ≡ Ok (binaries_of kept.binaries) }
+        requires sources { sources_at kept.source_stanzas ≡ Ok (sources_of kept.sources.entries) }
+        requires groups { IfOk counted (λ p. (q : List ℕ)
+            → numbers_of p.0 q ≡ places_from (is_of q) 0 (binaries_of kept.binaries)) }
+        requires rows { IfOk counted (λ p.
+            p.1 ≡ row_count (table archs.now) (sources_of kept.sources.entries)) }
+        requires limited { IfOk counted (λ p. p.1 ≤ max_rows) }
+        requires fault { IfErr counted (λ e. (e ≡ ArchiveFault.NoMemory)
+            ⊎ ((e ≡ ArchiveFault.TooManyRows)
+            × (max_rows < row_count (table archs.now) (sources_of kept.sources.entries)))) }
+        ensures found { (p s : List (List ℕ)) → AreStanzas kept.entry.packages p
+            → AreStanzas kept.entry.source_stanzas s
+            → IfOk result (IsArchive (table archs.now) p s) }
+        ensures fault { (p s : List (List ℕ)) → AreStanzas kept.entry.packages p
+            → AreStanzas kept.entry.source_stanzas s
+            → IfErr result (FaultOf (table archs.now) p s) }
     {
-        match paired(packages, sources) {
-            Ok((packages, sources)) => Archive::of_indices(alloc, archs, packages, sources),
-            Err(fault) => Err(fault),
-        }
-    }
-
-    // The same of two indices whose stanzas were found.
-    fn of_indices(
-        alloc: Global,
-        archs: &'t Archs<'a>,
-        packages: PackagesIndex<'a>,
-        sources: SourcesIndex<'a>,
-    ) -> Result<Archive<'t, 'a>, ArchiveFault>
-        requires packages { (p : List (List ℕ)) × ArePackages (table archs.now) p packages }
-        requires sources { (s : List (List ℕ)) × AreSources s sources }
-        ensures found { (p s : List (List ℕ)) → ArePackages (table archs.now) p packages.entry
-            → AreSources s sources.entry → IfOk result (IsArchive (table archs.now) p s) }
-        ensures fault { (p s : List (List ℕ)) → ArePackages (table archs.now) p packages.entry
-            → AreSources s sources.entry → IfErr result (FaultOf (table archs.now) p s) }
-    {
-        match paired(packages.kept, sources.kept) {
-            Ok((binaries, kept)) => {
-                Archive::of_kept(
-                    alloc,
-                    archs,
-                    packages.stanzas,
-                    sources.stanzas,
-                    binaries,
-                    kept,
-                )
-            }
-            Err(fault) => Err(fault),
-        }
-    }
-
-    // The archive of stanzas that all were kept.
-    fn of_kept(
-        alloc: Global,
-        archs: &'t Archs<'a>,
-        packages: StanzaPieces<'a>,
-        source_stanzas: StanzaPieces<'a>,
-        binaries: IndexMap<PackageKey<'a>, Packaged<'a>>,
-        sources: IndexMap<&'a str, Sourced<'a>>,
-    ) -> Result<Archive<'t, 'a>, ArchiveFault>
-        requires binaries { binaries_at (table archs.now) packages
-            ≡ Ok (binaries_of binaries.entries) }
-        requires sources { sources_at source_stanzas ≡ Ok (sources_of sources.entries) }
-        ensures found { (p s : List (List ℕ)) → AreStanzas packages.entry p
-            → AreStanzas source_stanzas.entry s → IfOk result (IsArchive (table archs.now) p s) }
-        ensures fault { (p s : List (List ℕ)) → AreStanzas packages.entry p
-            → AreStanzas source_stanzas.entry s → IfErr result (FaultOf (table archs.now) p s) }
-    {
-        match grouped_and_counted(alloc, archs, &binaries, &sources) {
+        match counted {
             Ok((groups, rows)) => Ok(Archive {
                 archs,
-                packages,
-                source_stanzas,
-                binaries,
-                sources,
+                packages: kept.packages,
+                source_stanzas: kept.source_stanzas,
+                binaries: kept.binaries,
+                sources: kept.sources,
                 groups,
                 rows,
                 alloc,
             }),
             Err(fault) => {
-                // (by calls, so that the proof of this body stays short)
-                drop(packages);
-                drop(source_stanzas);
-                drop(binaries);
-                drop(sources);
+                // (by a call, so that the proof of this body stays short)
+                drop(kept);
                 Err(fault)
             }
         }

@@ -14,7 +14,8 @@ ghost use Rattle.td_rows.specs.Limits.{max_rows};
 ghost use Rattle.td_supply.specs.Numbers.{numbers_of};
 
 use crate::archive_fault::ArchiveFault;
-use crate::packaged::{PackageKey, Packaged, is_on};
+use crate::binaries::Binaries;
+use crate::packaged::is_on;
 use crate::rows::count_rows;
 use crate::sourced::Sourced;
 use indexmap::IndexMap;
@@ -23,13 +24,10 @@ use td_relation::Archs;
 use td_supply::Numbers;
 
 /// The numbers of the binary packages, by their sources.
-pub fn group_binaries<'a>(
-    alloc: Global,
-    binaries: &IndexMap<PackageKey<'a>, Packaged<'a>>,
-) -> Result<Numbers<'a>, AllocError>
+pub fn group_binaries<'a>(alloc: Global, binaries: &Binaries<'a>) -> Result<Numbers<'a>, AllocError>
     ensures { IfOk result (λ groups.
         (q : List ℕ)
-        → numbers_of groups q ≡ places_from (is_of q) 0 (binaries_of binaries.now.entries)) }
+        → numbers_of groups q ≡ places_from (is_of q) 0 (binaries_of binaries.now)) }
 {
     let mut groups = Numbers::new(alloc);
     for number in 0..binaries.len() {
@@ -44,11 +42,11 @@ pub fn group_binaries<'a>(
 pub fn grouped_and_counted<'a>(
     alloc: Global,
     archs: &Archs<'_>,
-    binaries: &IndexMap<PackageKey<'a>, Packaged<'a>>,
+    binaries: &Binaries<'a>,
     sources: &IndexMap<&str, Sourced<'_>>,
 ) -> Result<(Numbers<'a>, usize), ArchiveFault>
     ensures groups { IfOk result (λ p. (q : List ℕ)
-        → numbers_of p.0 q ≡ places_from (is_of q) 0 (binaries_of binaries.now.entries)) }
+        → numbers_of p.0 q ≡ places_from (is_of q) 0 (binaries_of binaries.now)) }
     ensures rows { IfOk result (λ p.
         p.1 ≡ row_count (table archs.now) (sources_of sources.now.entries)) }
     ensures limited { IfOk result (λ p. p.1 ≤ max_rows) }
@@ -65,13 +63,9 @@ pub fn grouped_and_counted<'a>(
 }
 
 /// Whether the binary package with a number is on the architecture, or on `all`.
-fn is_number_on(
-    binaries: &IndexMap<PackageKey<'_>, Packaged<'_>>,
-    number: usize,
-    arch: usize,
-) -> bool
+fn is_number_on(binaries: &Binaries<'_>, number: usize, arch: usize) -> bool
     ensures { result ≡ option_map_or (λ b. is_on_of arch b.head.home)
-        (slice_get (binaries_of binaries.now.entries) number) false }
+        (slice_get (binaries_of binaries.now) number) false }
 {
     match binaries.get_index(number) {
         Some((key, _)) => is_on(arch, key.arch),
@@ -82,14 +76,14 @@ fn is_number_on(
 /// Of these numbers, those of binary packages on the architecture or on `all`.
 pub fn those_on(
     alloc: Global,
-    binaries: &IndexMap<PackageKey<'_>, Packaged<'_>>,
+    binaries: &Binaries<'_>,
     numbers: &[usize],
     arch: usize,
 ) -> Result<Vec<usize>, AllocError>
     ensures { IfOk result (λ there.
         there.items ≡ filter (λ n.
         option_map_or (λ b. is_on_of arch b.head.home)
-        (slice_get (binaries_of binaries.now.entries) n) false) numbers.now) }
+        (slice_get (binaries_of binaries.now) n) false) numbers.now) }
 {
     let mut there = Vec::new(alloc);
     for number in numbers {

@@ -8,8 +8,8 @@ ghost use Rattle.td_indices.specs.declared.archive_fault.IndexFile.TheVariants.{
 ghost use Rattle.td_indices.specs.inner.IndexReading.{ArePackagesRead, AreSourcesRead};
 
 use crate::archive_fault::{ArchiveFault, IndexFile};
+use crate::binaries::Binaries;
 use crate::cutting::HALVINGS;
-use crate::packaged::{PackageKey, Packaged};
 use crate::part_reading::{alone, read_part, read_parts};
 use crate::piece_reading::read_stanzas_beside;
 use crate::soundness::are_sound_beside;
@@ -27,7 +27,7 @@ use td_relation::Archs;
 #[derive(Drop)]
 pub struct PackagesIndex<'a> {
     pub stanzas: StanzaPieces<'a>,
-    pub kept: Result<IndexMap<PackageKey<'a>, Packaged<'a>>, ArchiveFault>,
+    pub kept: Result<Binaries<'a>, ArchiveFault>,
 }
 
 /// The stanzas of Sources, and the sources that they keep; or the first that can't be kept.

@@ -15,6 +15,7 @@
 mod archive;
 mod archive_fault;
 mod assembling;
+mod binaries;
 mod binary_keeping;
 mod binary_reading;
 mod choosing;
@@ -30,6 +31,7 @@ mod packaged;
 mod pairing;
 mod part_reading;
 mod piece_reading;
+mod placing;
 mod relation_field;
 mod rows;
 mod side_by_side;

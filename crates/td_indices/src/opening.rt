@@ -14,10 +14,10 @@ ghost use Rattle.td_indices.specs.Opening.{
   with_number as with_number_of,
 };
 
+use crate::binaries::Binaries;
 use crate::packaged::{PackageKey, Packaged};
 use crate::rows::has_row;
 use crate::sourced::Sourced;
-use indexmap::IndexMap;
 use std::alloc::Global;
 use td_relation::Archs;
 use td_rows::{Line, Priority, RebuildNumber, Row, State};
@@ -84,13 +84,13 @@ fn number_of(
 
 /// The same of the package with a number.
 fn current_number(
-    binaries: &IndexMap<PackageKey<'_>, Packaged<'_>>,
+    binaries: &Binaries<'_>,
     number: usize,
     parts: &Version<'_>,
     place: usize,
 ) -> Option<RebuildNumber>
     ensures { result ≡ current_number_of (parts_of parts.now) place
-        (slice_get (binaries_of binaries.now.entries) number) }
+        (slice_get (binaries_of binaries.now) number) }
 {
     match binaries.get_index(number) {
         Some((key, packaged)) => number_of(key, packaged, parts, place),
@@ -100,12 +100,12 @@ fn current_number(
 
 /// The greatest rebuild number among such packages.
 pub fn greatest_number(
-    binaries: &IndexMap<PackageKey<'_>, Packaged<'_>>,
+    binaries: &Binaries<'_>,
     numbers: &[usize],
     parts: &Version<'_>,
     place: usize,
 ) -> Option<RebuildNumber>
-    ensures { result ≡ greatest_at (binaries_of binaries.now.entries) (parts_of parts.now) place
+    ensures { result ≡ greatest_at (binaries_of binaries.now) (parts_of parts.now) place
         None numbers.now }
 {
     let mut best = None;
@@ -135,14 +135,14 @@ pub fn opening(alloc: Global, best: Option<RebuildNumber>) -> Row
 pub fn opening_on(
     alloc: Global,
     archs: &Archs<'_>,
-    binaries: &IndexMap<PackageKey<'_>, Packaged<'_>>,
+    binaries: &Binaries<'_>,
     numbers: &[usize],
     sourced: &Sourced<'_>,
     place: usize,
 ) -> Option<Row>
     requires { place < length (table archs.now) }
     ensures { result ≡ (if has_row_of (table archs.now) sourced.now.archs.now place
-        then Some (opening_of (greatest_at (binaries_of binaries.now.entries)
+        then Some (opening_of (greatest_at (binaries_of binaries.now)
         (parts_of sourced.now.parts) place None numbers.now)) else None) }
 {
     if has_row(archs, sourced.archs, place) {

@@ -138,7 +138,7 @@ pub fn read_parts<'a, R: Threads + Sync>(
     if halvings == 0 || to - from < LEAST {
         return alone(alloc, read_part(alloc, archs, stanzas, from, to));
     }
-    let middle = from + (to - from) / 2;
+    let middle = stanzas.middle(from, to);
     let left = halvings - 1;
     let of_front = move || -> Result<Vec<Vec<(PackageKey, Packaged)>>, ArchiveFault>
         requires { IsSync R.row × (from ≤ middle) × (middle ≤ length stanzas.now) }

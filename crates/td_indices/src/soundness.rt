@@ -57,7 +57,7 @@ pub fn are_sound_beside<R: Threads + Sync>(
     if halvings == 0 || to - from < LEAST {
         return are_sound(alloc, stanzas, from, to);
     }
-    let middle = from + (to - from) / 2;
+    let middle = stanzas.middle(from, to);
     let left = halvings - 1;
     let of_front = move || -> bool
         requires { IsSync R.row × (from ≤ middle) × (middle ≤ length stanzas.now) }

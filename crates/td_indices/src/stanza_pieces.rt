@@ -24,7 +24,7 @@ impl<'a> Model for StanzaPieces<'a> {
 }
 
 impl<'a> StanzaPieces<'a> {
-    ghost use Rattle.std.specs.Prelude.{◌≡◌, ◌++◌, IfOk, IfSome, length, option_map, slice_get};
+    ghost use Rattle.std.specs.Prelude.{◌≡◌, ◌≤◌, ◌++◌, IfOk, IfSome, length, option_map, slice_get};
     ghost use Rattle.td_stanza.specs.Table.{fields_of};
 
     /// The stanzas of one list.
@@ -75,5 +75,38 @@ impl<'a> StanzaPieces<'a> {
             left -= count;
         }
         None
+    }
+
+    // Half of how many pieces begin behind one stanza and before another.
+    fn half_the_cuts(&self, from: usize, to: usize) -> usize {
+        let mut start: usize = 0;
+        let mut cuts: usize = 0;
+        for piece in &self.pieces {
+            if from < start && start < to {
+                cuts = cuts.saturating_add(1);
+            }
+            start = start.saturating_add(piece.len());
+        }
+        cuts / 2
+    }
+
+    /// A number in the middle between those of two stanzas: where there are pieces between them the
+    /// first of the piece in their middle, so that each half has about as much text.
+    pub fn middle(&self, from: usize, to: usize) -> usize
+        requires { from ≤ to }
+        ensures { (from ≤ result) × (result ≤ to) }
+    {
+        let mut left = self.half_the_cuts(from, to);
+        let mut start: usize = 0;
+        for piece in &self.pieces {
+            if from < start && start < to {
+                if left == 0 {
+                    return start;
+                }
+                left -= 1;
+            }
+            start = start.saturating_add(piece.len());
+        }
+        from + (to - from) / 2
     }
 }

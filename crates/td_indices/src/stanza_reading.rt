@@ -5,7 +5,6 @@ ghost use Rattle.std.specs.Prelude.{
   ◌<◌,
   ◌^◌,
   true,
-  [],
   List,
   Ok,
   IfOk,
@@ -27,11 +26,11 @@ ghost use Rattle.td_indices.specs.Reading.{
   sources_at,
 };
 ghost use Rattle.td_indices.specs.inner.IndexReading.{IsOfStanza};
-ghost use Rattle.td_indices.specs.inner.Parts.{ArePartsRead, packages_in, put_all};
+ghost use Rattle.td_indices.specs.inner.Parts.{ArePartsRead};
 ghost use Rattle.td_indices.specs.inner.Sound.{AreSound, IsSound};
 
 use crate::archive_fault::{ArchiveFault, IndexFile};
-use crate::binary_keeping::keep_binary;
+use crate::binaries::Binaries;
 use crate::packaged::{PackageKey, Packaged};
 use crate::source_keeping::keep_source;
 use crate::source_reading::read_source;
@@ -39,55 +38,25 @@ use crate::sourced::Sourced;
 use crate::stanza_fault::at_stanza;
 use crate::stanza_pieces::StanzaPieces;
 use indexmap::IndexMap;
-use std::alloc::{AllocError, Global};
+use std::alloc::Global;
 use td_stanza::Stanza;
-
-/// Keeps those of a part's packages that count.
-fn keep_part<'a>(
-    kept: &mut IndexMap<PackageKey<'a>, Packaged<'a>>,
-    packages: Vec<(PackageKey<'a>, Packaged<'a>)>,
-) -> Result<(), AllocError>
-    ensures { OnOk result (binaries_of kept.new.entries
-        ≡ put_all (binaries_of kept.old.entries) (binaries_of packages.entry.items)) }
-{
-    for (key, packaged) in packages {
-        keep_binary(kept, key, packaged)?;
-    }
-    Ok(())
-}
-
-/// Of the packages of these parts, those that count. There is room for so many from the first.
-fn keep_all<'a>(
-    alloc: Global,
-    parts: Vec<Vec<(PackageKey<'a>, Packaged<'a>)>>,
-    room: usize,
-) -> Result<IndexMap<PackageKey<'a>, Packaged<'a>>, AllocError>
-    ensures { IfOk result (λ kept.
-        binaries_of kept.entries ≡ put_all [] (binaries_of (packages_in parts.entry.items))) }
-{
-    let mut kept = IndexMap::with_capacity(alloc, room)?;
-    for packages in parts {
-        keep_part(&mut kept, packages)?;
-    }
-    Ok(kept)
-}
 
 /// Of the packages that all stanzas, so many, stand for, those that count.
 pub fn kept_of<'a>(
     alloc: Global,
     read: Result<Vec<Vec<(PackageKey<'a>, Packaged<'a>)>>, ArchiveFault>,
     count: usize,
-) -> Result<IndexMap<PackageKey<'a>, Packaged<'a>>, ArchiveFault>
+) -> Result<Binaries<'a>, ArchiveFault>
     ensures { (table : List ArchWords) (stanzas : List (List Entry))
         → ArePartsRead table stanzas 0 (length stanzas) read.entry
-        → MatchResult result (λ kept. binaries_at table stanzas ≡ Ok (binaries_of kept.entries))
+        → MatchResult result (λ kept. binaries_at table stanzas ≡ Ok (binaries_of kept))
         (IsOfStanza (binaries_at table stanzas)) }
 {
     let parts = match read {
         Ok(parts) => parts,
         Err(fault) => return Err(fault),
     };
-    match keep_all(alloc, parts, count) {
+    match Binaries::of_parts(alloc, parts, count) {
         Ok(kept) => Ok(kept),
         Err(_) => Err(ArchiveFault::NoMemory),
     }

@@ -21,7 +21,7 @@ pub record ArePackages (table : List ArchWords) (lines : List (List ℕ))
     (index : PackagesIndex) : Type 0 where
   pub stanzas : AreStanzas index.stanzas lines
   pub kept : MatchResult index.kept
-      (λ kept. binaries_at table index.stanzas ≡ Ok (binaries_of kept.entries))
+      (λ kept. binaries_at table index.stanzas ≡ Ok (binaries_of kept))
       (IsOfStanza (binaries_at table index.stanzas))
 
 -- .. and of those of Sources

@@ -17,11 +17,11 @@ use Rattle.td_indices.proofs.grouping.group_binaries.Goals.{in-Some+in_ok-push, 
 pub loop-number-preserved : goal.loop-number-preserved
 loop-number-preserved c = elim c.match-get_index.branch [
   | in-Some+in_ok-push w ↦ λ q.
-      let es = c.args.binaries.now.entries in
+      let es = c.args.binaries.now in
       let p : PackageKey × Packaged = (w.in-Some.field-0-0.now, w.in-Some.packaged.now) in
       let within : c.loop-number.number ≤ length (binaries_of es) =
       omega
-      (arith, c.loop-number-test.true, c.len-number-end.ensures.len, length-map es binary_of) in
+      (arith, c.loop-number-test.true, c.len-number-end.ensures, length-map es binary_of) in
       grouped q w.in-Some.packaged.now.source.now (numbers_of c.loop-number.groups q) _
       c.loop-number.number (binaries_of es) (binary_of p) within
       (slice_get-map binary_of es c.loop-number.number
@@ -29,17 +29,17 @@ loop-number-preserved c = elim c.match-get_index.branch [
       (ap (λ (g : Numbers). numbers_of g q) w.groups-is ∙ w.in_ok-push.ensures.ok q)
       (c.loop-number.invariant q)
   | in_default w ↦
-      let within : c.loop-number.number < length c.args.binaries.now.entries =
-      rw (← c.len-number-end.ensures.len) c.loop-number-test.true in
-      absurd (slice_get-none c.args.binaries.now.entries c.loop-number.number
+      let within : c.loop-number.number < length c.args.binaries.now =
+      rw (← c.len-number-end.ensures) c.loop-number-test.true in
+      absurd (slice_get-none c.args.binaries.now c.loop-number.number
       (sym w.in_default.ensures.entry) within)
 ]
 
 pub returns : goal.returns
 returns c = λ q.
-    let bs = binaries_of c.args.binaries.now.entries in
+    let bs = binaries_of c.args.binaries.now in
     let all : c.loop-number.number ≡ length bs =
-    omega (arith, c.len-number-end.ensures.len, length-map c.args.binaries.now.entries binary_of) in
+    omega (arith, c.len-number-end.ensures, length-map c.args.binaries.now binary_of) in
     c.loop-number.invariant q
     ∙ ap (λ (xs : List KeptBinary). places_from (is_of q) 0 xs)
     (ap (λ k. take k bs) all ∙ take-length bs)

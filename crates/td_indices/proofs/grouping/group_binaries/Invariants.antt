@@ -9,4 +9,4 @@ use Rattle.td_indices.proofs.grouping.group_binaries.Given as goal
 abbrev pub invariant-loop-number : goal.invariant-loop-number
 invariant-loop-number l =
     (q : List ℕ) → numbers_of l.groups q
-    ≡ places_from (is_of q) 0 (take l.number (binaries_of l.binaries.entries))
+    ≡ places_from (is_of q) 0 (take l.number (binaries_of l.binaries))

@@ -10,4 +10,4 @@ abbrev pub invariant-loop-number : goal.invariant-loop-number
 invariant-loop-number l =
     l.there.items ≡ filter
     (λ (n : ℕ). option_map_or (λ (b : KeptBinary). is_on l.arch b.head.home)
-    (slice_get (binaries_of l.binaries.entries) n) false) (take l.number-index l.numbers)
+    (slice_get (binaries_of l.binaries) n) false) (take l.number-index l.numbers)

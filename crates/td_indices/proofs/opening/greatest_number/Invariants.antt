@@ -8,6 +8,6 @@ use Rattle.td_indices.proofs.opening.greatest_number.Given as goal
 -- what is left decides
 abbrev pub invariant-loop-number : goal.invariant-loop-number
 invariant-loop-number l =
-    greatest_at (binaries_of l.binaries.entries) (parts_of l.parts) l.place l.best
+    greatest_at (binaries_of l.binaries) (parts_of l.parts) l.place l.best
     (drop l.number-index l.numbers)
-    ≡ greatest_at (binaries_of l.binaries.entries) (parts_of l.parts) l.place None l.numbers
+    ≡ greatest_at (binaries_of l.binaries) (parts_of l.parts) l.place None l.numbers

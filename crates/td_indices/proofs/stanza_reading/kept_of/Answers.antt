@@ -10,8 +10,8 @@ pub returns-in-Err : goal.returns-in-Err
 returns-in-Err c table stanzas read =
     MatchResult-at_err _ _ c.in-Err.fault c.in-Err.is read []
 
-pub returns-in-Ok-keep_all : goal.returns-in-Ok-keep_all
-returns-in-Ok-keep_all c table stanzas read =
+pub returns-in-Ok-of_parts : goal.returns-in-Ok-of_parts
+returns-in-Ok-of_parts c table stanzas read =
     MatchResult-at_ok _ _ c.in-Ok.parts c.in-Ok.is read []
     ∙ kept_from-end table stanzas (put_all [] (binaries_of (packages_in c.in-Ok.parts.items)))
-    ∙ ap Ok (sym c.in-Ok-keep_all.ensures)
+    ∙ ap Ok (sym c.in-Ok-of_parts.ensures)

@@ -10,6 +10,6 @@ use Rattle.td_indices.proofs.supplying.push_binaries.Given as goal
 abbrev pub invariant-loop-number : goal.invariant-loop-number
 invariant-loop-number l =
     with_offers l.supply (flat_map (offers_by (sources_of l.sources.entries))
-    (drop l.number (binaries_of l.binaries.entries)))
+    (drop l.number (binaries_of l.binaries)))
     ≡ with_offers l.fn.supply
-    (flat_map (offers_by (sources_of l.sources.entries)) (binaries_of l.binaries.entries))
+    (flat_map (offers_by (sources_of l.sources.entries)) (binaries_of l.binaries))

@@ -24,7 +24,7 @@ those bs source group arch is =
 pub returns-in-Ok : goal.returns-in-Ok
 unfolding here
 returns-in-Ok c =
-    let bs = binaries_of c.self.inside.binaries.entries in
+    let bs = binaries_of c.self.inside.binaries in
     c.in-Ok.ensures
     ∙ those bs c.args.source.now c.of-numbers.result.now c.args.arch
     (c.of-numbers.ensures ∙ c.self.invariant.0 c.args.source.now)

@@ -11,7 +11,7 @@ use Rattle.td_indices.proofs.archive.Archive.offered_names.Goals as goal
 
 pub returns : goal.returns
 returns c =
-    let es = c.self.inside.binaries.entries in
+    let es = c.self.inside.binaries in
     let p : PackageKey × Packaged = (c.in-Some.key.now, c.in-Some.packaged.now) in
     let got : slice_get (binaries_of es) c.args.binary ≡ Some (binary_of p) =
     slice_get-map binary_of es c.args.binary

@@ -1,6 +1,6 @@
 -- `Archive::open_chosen`: its loop, and the call of `open_numbered`.
-use Rattle.std.proofs.Common.{◌≡◌, ◌<◌, ℕ, Bool, true, false, Some, ◌++◌, append-nil, length}
-use Rattle.std.proofs.Common.{option_map, slice_get, subst, sym, take, ap, ◌∙◌, arith, refl, rules}
+use Rattle.std.proofs.Common.{◌≡◌, ◌<◌, ℕ, Bool, true, false, ◌++◌, append-nil, length}
+use Rattle.std.proofs.Common.{option_map, subst, sym, take, ap, ◌∙◌, arith, rules}
 use Rattle.td_relation.specs.Table.{IsApart}
 use Rattle.td_rows.specs.Table.{row_of}
 use Rattle.td_indices.specs.Archive.{Contents}

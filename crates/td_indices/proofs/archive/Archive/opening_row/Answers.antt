@@ -16,7 +16,7 @@ returns-in_default c =
       table = table c.self.inside.archs.now;
       packages = c.self.inside.packages;
       source_stanzas = c.self.inside.source_stanzas;
-      binaries = binaries_of c.self.inside.binaries.entries;
+      binaries = binaries_of c.self.inside.binaries;
       sources = sources_of c.self.inside.sources.entries;
     } in
     let gone : source_named a c.args.key.now.source ≡ None =
@@ -32,7 +32,7 @@ returns c =
       table = table c.self.inside.archs.now;
       packages = c.self.inside.packages;
       source_stanzas = c.self.inside.source_stanzas;
-      binaries = binaries_of c.self.inside.binaries.entries;
+      binaries = binaries_of c.self.inside.binaries;
       sources = sources_of c.self.inside.sources.entries;
     } in
     let s : KeptSource = source_of (c.in-Some.name.now, c.in-Some.sourced.now) in

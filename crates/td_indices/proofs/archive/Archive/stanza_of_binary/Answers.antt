@@ -13,7 +13,7 @@ use Rattle.td_indices.proofs.archive.Archive.stanza_of_binary.Goals as goal
 
 pub unwrap-requires-2 : goal.unwrap-requires-2
 unwrap-requires-2 c =
-    let es = c.self.inside.binaries.entries in
+    let es = c.self.inside.binaries in
     let p : PackageKey × Packaged = (c.unwrap.result.0.now, c.unwrap.result.1.now) in
     let at : slice_get es c.args.binary ≡ Some p =
     sym c.get_index.ensures.entry ∙ ap (option_map deref_pair) c.unwrap.ensures in
@@ -25,7 +25,7 @@ unwrap-requires-2 c =
 
 pub returns-clause-there : goal.returns-clause-there
 returns-clause-there c =
-    let es = c.self.inside.binaries.entries in
+    let es = c.self.inside.binaries in
     let p : PackageKey × Packaged = (c.unwrap.result.0.now, c.unwrap.result.1.now) in
     let at : slice_get es c.args.binary ≡ Some p =
     sym c.get_index.ensures.entry ∙ ap (option_map deref_pair) c.unwrap.ensures in

@@ -1,0 +1,16 @@
+-- What the two texts keep, before their rows are counted. This project's own.
+use Rattle.std.specs.Prelude.{◌≡◌, ℕ, List, Ok}
+use Rattle.td_stanza.specs.StanzaGrammar.{AreStanzas}
+use Rattle.td_relation.specs.Arch.{ArchWords}
+use Rattle.td_indices.specs.declared.assembling.KeptIndices.{KeptIndices}
+use Rattle.td_indices.specs.Kept.{binaries_of}
+use Rattle.td_indices.specs.Reading.{binaries_at, sources_at}
+use Rattle.td_indices.specs.Sources.{sources_of}
+
+-- what the stanzas of both keep, and of which lines they are
+pub record AreKept (table : List ArchWords) (package_lines source_lines : List (List ℕ))
+    (kept : KeptIndices) : Type 0 where
+  pub package_stanzas : AreStanzas kept.packages package_lines
+  pub source_stanzas : AreStanzas kept.source_stanzas source_lines
+  pub binaries : binaries_at table kept.packages ≡ Ok (binaries_of kept.binaries)
+  pub sources : sources_at kept.source_stanzas ≡ Ok (sources_of kept.sources.entries)
