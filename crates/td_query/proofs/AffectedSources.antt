@@ -70,7 +70,7 @@ names-same keep name xs i x at h =
     ∙ ap (map name) (filter-drop keep (take i xs) x h))
 
 -- the source that was found
-found : (o : Option KeptSource) (x : Source) → Some (seen_source x) ≡ option_map shown_source o
+pub found : (o : Option KeptSource) (x : Source) → Some (seen_source x) ≡ option_map shown_source o
     → (s : KeptSource) × (o ≡ Some s) × (s.head.name ≡ x.name.now)
 found None x h = absurd (cc)
 found (Some s) x h = (

@@ -11,8 +11,10 @@ pub mod PatternLists
 mod Refusals
 pub mod Gathering
 pub mod KeptMarks
+pub mod PlainTrackers
 pub mod RowStatuses
 pub mod AffectedSources
+pub mod Unmarked
 pub mod Meanings
 pub mod Grades
 pub mod QueryRules

@@ -1,2 +1,3 @@
 -- What contracts cite for the code's sake alone.
 pub mod Settling
+pub mod MarksBeside

@@ -32,6 +32,13 @@ impl Mark {
         }
     }
 
+    /// Whether it is none of them.
+    pub fn is_none(self) -> bool
+        ensures none { (result ≡ true) ↔ (self ≡ no_mark) }
+    {
+        !self.affected && !self.good && !self.bad
+    }
+
     /// Those that hold here or there.
     pub fn or(self, other: Mark) -> Mark
         ensures either { result ≡ either_mark self other }

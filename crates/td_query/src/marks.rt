@@ -1,4 +1,6 @@
 //! The marks of an archive: what a tracker says of each stanza that it keeps, and of rows by it.
+ghost use Rattle.std.specs.Prelude.{◌≡◌, get_or};
+ghost use Rattle.td_query.specs.Marks.{no_mark};
 
 use crate::mark::Mark;
 use crate::marking::mark_stanzas;
@@ -10,6 +12,16 @@ use std::alloc::{AllocError, Global};
 use std::thread::Threads;
 use td_indices::{Archive, IndexFile, is_on};
 
+// The mark with a number, and none past the last.
+fn mark_at(marks: &[Mark], number: usize) -> Mark
+    ensures { result ≡ get_or marks.now number no_mark }
+{
+    match marks.get(number) {
+        Some(mark) => *mark,
+        None => Mark::none(),
+    }
+}
+
 /// What a tracker says of each stanza that an archive keeps, so that the status of a row takes no
 /// memory and looks at the packages of its own source alone.
 #[derive(Drop)]
@@ -19,7 +31,7 @@ pub struct Marks {
 }
 
 impl Marks {
-    ghost use Rattle.std.specs.Prelude.{◌≡◌, IfOk, map};
+    ghost use Rattle.std.specs.Prelude.{◌≡◌, IfOk, false, map};
     ghost use Rattle.td_query.specs.Marks.{AreMarks, mark_there as mark_there_of};
     ghost use Rattle.td_query.specs.Marks.{row_mark as row_mark_of};
     ghost use Rattle.td_query.specs.Statuses.{affected_names, is_affected_at, status_at};
@@ -39,8 +51,8 @@ impl Marks {
         Ok(Marks { packages, sources })
     }
 
-    /// The same marks. Those of a tracker without patterns are made in two threads, of which one
-    /// reads the tracker anew from its text.
+    /// The same marks. Those of a tracker without patterns are made in four threads, of which three
+    /// read the tracker anew from its text.
     pub fn make_beside(
         rt: &(impl Threads + Sync),
         alloc: Global,
@@ -58,16 +70,36 @@ impl Marks {
         Ok(Marks { packages, sources })
     }
 
-    // What holds on the stanza of the package with a number, if it is there.
+    // Whether the source or some package of it, wherever that is, has the mark `affected`.
+    fn may_be_affected(&self, archive: &Archive<'_, '_>, source: usize) -> bool
+        ensures no { (t : Tracking) → AreMarks archive.now t self.now → result ≡ false
+            → is_affected_at archive.now t source ≡ false }
+    {
+        if mark_at(self.sources.as_slice(), source).affected {
+            return true;
+        }
+        let Some(found) = archive.source_at(source) else {
+            return false;
+        };
+        for number in archive.packages_of(found.name) {
+            if mark_at(self.packages.as_slice(), *number).affected {
+                return true;
+            }
+        }
+        false
+    }
+
+    // What holds on the stanza of the package with a number, if it is there; mostly nothing does.
     fn mark_there(&self, archive: &Archive<'_, '_>, number: usize, place: usize) -> Mark
         ensures mark { (t : Tracking) → AreMarks archive.now t self.now
             → result ≡ mark_there_of archive.now t.patterns t place number }
     {
+        let mark = mark_at(self.packages.as_slice(), number);
+        if mark.is_none() {
+            return Mark::none();
+        }
         match archive.binary(number) {
-            Some(binary) if is_on(place, binary.arch) => match self.packages.get(number) {
-                Some(mark) => *mark,
-                None => Mark::none(),
-            },
+            Some(binary) if is_on(place, binary.arch) => mark,
             _ => Mark::none(),
         }
     }
@@ -107,6 +139,9 @@ impl Marks {
         ensures affected { (t : Tracking) → AreMarks archive.now t self.now
             → result ≡ is_affected_at archive.now t source }
     {
+        if !self.may_be_affected(archive, source) {
+            return false;
+        }
         for place in 0..archive.arch_count() {
             if self.status(archive, source, place).is_some() {
                 return true;

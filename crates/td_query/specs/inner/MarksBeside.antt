@@ -1,0 +1,25 @@
+-- The parts of the marks that threads make side by side. This project's own.
+use Rattle.std.specs.Prelude.{◌≡◌, ℕ, List, [], IfOk, Result, length, map}
+use Rattle.std.specs.Global.{Vec}
+use Rattle.std.specs.declared.alloc.AllocError.{AllocError}
+use Rattle.td_indices.specs.declared.archive_fault.IndexFile.TheVariants.{Packages, Sources}
+use Rattle.td_indices.specs.Archive.{Contents}
+use Rattle.td_query.specs.declared.mark.Mark.{Mark}
+use Rattle.td_query.specs.declared.tracker.Tracker.{Tracker}
+use Rattle.td_query.specs.Marks.{MarkBetween, kept_fields, mark_on}
+use Rattle.td_query.specs.Tracking.{IsTracker, Tracking, tracking}
+
+-- those of the packages from one with a number up to another, by any tracker without patterns that
+-- the text is of
+abbrev pub AreMarksByText : Contents → List ℕ → ℕ → ℕ → Result (Vec Mark) AllocError → Type 0
+AreMarksByText a text from to made =
+    (t : Tracker) → IsTracker text (tracking t) → t.patterns.items ≡ []
+    → IfOk made (λ marks.
+    MarkBetween (mark_on (tracking t)) (kept_fields a Packages) from to marks.items)
+
+-- those of the packages from one with a number on, and those of the sources
+abbrev pub AreRestAndSources : Contents → Tracking → ℕ
+    → Result (Vec Mark × Vec Mark) AllocError → Type 0
+AreRestAndSources a t from made = IfOk made (λ p.
+    MarkBetween (mark_on t) (kept_fields a Packages) from (length a.binaries) p.0.items
+    × (p.1.items ≡ map (mark_on t) (kept_fields a Sources)))
