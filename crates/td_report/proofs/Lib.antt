@@ -5,6 +5,7 @@ pub mod Splits
 pub mod SeenRows
 pub mod Items
 pub mod Unaffected
+pub mod Opened
 pub mod OneText
 pub mod Once
 pub mod Counts

@@ -28,7 +28,7 @@ use Rattle.td_waves.specs.Waves.{BuildsOn}
 use Rattle.td_report.specs.Transition.{AreLevels, IsAffected, affected_row}
 
 -- where something was made of what was there
-made_of : {A B : Type 0} (f : A → Option B) (o : Option A) (b : B)
+pub made_of : {A B : Type 0} (f : A → Option B) (o : Option A) (b : B)
     → option_map_or f o None ≡ Some b → (x : A) × (o ≡ Some x) × (f x ≡ Some b)
 made_of f None b is = absurd cc
 made_of f (Some x) b is = (x, refl, is)
@@ -40,7 +40,7 @@ place-below (x ∷ xs) arch place is =
     (position-Some (λ (a : ArchWords). bytes_eq a.name arch) (x ∷ xs) place x is).0
 
 -- a source that has the name of another, and passes a test, is one of those that pass
-among-kept : (keep : KeptSource → Bool) (name : List ℕ) (sources : List KeptSource) (n : ℕ)
+pub among-kept : (keep : KeptSource → Bool) (name : List ℕ) (sources : List KeptSource) (n : ℕ)
     (s : KeptSource) → position (λ s. bytes_eq name s.head.name) sources ≡ Some n
     → slice_get sources n ≡ Some s → keep s ≡ true
     → list_any (bytes_eq name) (map (λ s. s.head.name) (filter keep sources)) ≡ true
@@ -70,7 +70,7 @@ affected-by_status a t k status is =
     (any-below (λ p. is_some (row_status a t row.0 p)) (length a.table) place.0
     (place-below a.table k.arch place.0 place.1) (ap is_some row.2))
 
-no_status : (o : Option Status) → ((s : Status) → o ≡ Some s → ⊥) → o ≡ None
+pub no_status : (o : Option Status) → ((s : Status) → o ≡ Some s → ⊥) → o ≡ None
 no_status None never = refl
 no_status (Some s) never = absurd (never s refl)
 

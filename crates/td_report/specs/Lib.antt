@@ -2,6 +2,7 @@
 pub mod Report
 pub mod Transition
 pub mod TransitionView
+pub mod OpeningRows
 pub mod Groups
 pub mod Laws
 pub mod inner

@@ -18,6 +18,7 @@ mod item;
 mod item_line;
 mod laws;
 mod lines;
+mod opening;
 mod report_text;
 mod splitting;
 mod transition;

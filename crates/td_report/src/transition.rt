@@ -16,7 +16,7 @@ use td_waves::{Level, Waves};
 /// can be rebuilt. The only ways to one are `of` and `with_marks`.
 #[derive(Drop)]
 pub struct Transition<'b, 't, 'a, 'q> {
-    archive: &'b Archive<'t, 'a>,
+    pub(crate) archive: &'b Archive<'t, 'a>,
     tracker: &'b Tracker<'q>,
     marks: Marks,
     waves: Waves<'a>,
