@@ -1,10 +1,10 @@
 -- How `track` and `waves` end by what was read, and by what was found in it.
-use Rattle.std.proofs.Common.{◌≡◌, ◌⊎◌, ℕ, List, length, true, Option, Some, Result, Ok, Err}
+use Rattle.std.proofs.Common.{◌≡◌, ◌⊎◌, ℕ, List, length, true, Option, None, Some, Result, Ok, Err}
 use Rattle.std.proofs.Common.{IfOk, IfErr, MatchResult, String, string_bytes}
-use Rattle.std.proofs.Common.{inl, inr, refl, sym, ap, subst}
+use Rattle.std.proofs.Common.{inl, inr, refl, sym, ap, subst, ◌∙◌}
 use Rattle.std.proofs.lemmas.Result.{IfOk-weaker, IfErr-weaker}
 use Rattle.std.specs.declared.alloc.Global.{Global}
-use Rattle.td_text.specs.Lines.{lines_of}
+use Rattle.td_text.specs.Lines.{lines_of, text_of}
 use Rattle.td_relation.specs.Arch.{ArchWords}
 use Rattle.td_relation.specs.TableFile.{IsTable}
 use Rattle.td_relation.specs.TableFile as table_file
@@ -25,6 +25,10 @@ use Rattle.td_query.specs.TrackerGrammar.{said_in}
 use Rattle.td_query.specs.Tracking.{IsTracker, Tracking}
 use Rattle.td_query.specs.declared.tracker_fault.TrackerFault.{TrackerFault}
 use Rattle.td_query.specs.declared.tracker_fault.TrackerFault.TheVariants as tracker_fault
+use Rattle.td_report.specs.OpeningRows.{StandForAll}
+use Rattle.td_report.specs.Report.{report_lines, waves_lines}
+use Rattle.td_report.specs.TransitionView.{contents_of, tracking_of}
+use Rattle.td_report.specs.declared.transition.Transition.{Transition}
 use Rattle.td_script.specs.OpeningInside.{CanReplace, IsInputRefusedIn, IsRefusedIn, IsReplacedIn}
 use Rattle.td_script.specs.Openings as script
 use Rattle.td_script.specs.Openings.{AreOpened, AreRowsOf}
@@ -45,7 +49,9 @@ use Rattle.td_tool.specs.Tracks.{AreRefused, IsEndedBy, IsPatternRefused, RowsSa
 use Rattle.td_tool.specs.Tracks.{TextsSayIt, as_script}
 use Rattle.td_tool.specs.TrackInside.{AreReadableWith, AreRefusedWith, EndsWithoutRows, IndicesSay}
 use Rattle.td_tool.specs.TrackInside.{IsStateRefused, OrMemory, RowsAreSaid, Tells, TellsNone}
-use Rattle.td_tool.specs.TrackInside.{TellsOver, TellsTracker, TellsWith}
+use Rattle.td_tool.specs.TrackInside.{TellsOver, TellsTracker, TellsWith, saying_of}
+use Rattle.td_tool.specs.declared.tracking.Asked.{Asked}
+use Rattle.td_tool.specs.declared.tracking.Asked.TheVariants.{Report, Waves}
 use Rattle.td_tool.proofs.Counting.{archive_of}
 
 -- ---- a file that wasn't read
@@ -70,6 +76,45 @@ pub told_of : (Says : Saying) (c d : Contents) (t u : Tracking) (rows : Table) (
     → c ≡ d → t ≡ u → Says c t rows text → Says d u rows text
 told_of Says c d t u rows text first second says =
     subst (λ x. Says d x rows text) second (subst (λ x. Says x t rows text) first says)
+
+-- what is told of rows that stand for all opening rows is told of all of them
+all_are_said : (asked : Asked) (x : Transition) (rows : Table) (text : List ℕ)
+    → StandForAll x rows → saying_of asked (contents_of x) (tracking_of x) rows text
+    → RowsAreSaid (saying_of asked) (contents_of x) None (tracking_of x) text
+all_are_said (Report chunk) x rows text stand says = (
+  stand.all,
+  record { same = stand.opened; rising = stand.rising },
+  record {
+    level = says.level;
+    depth = says.depth;
+    levels = says.levels;
+    written = says.written
+        ∙ ap (λ rs. text_of (report_lines (tracking_of x).title says.depth rs))
+        (stand.same says.level);
+  },
+)
+all_are_said Waves x rows text stand says = (
+  stand.all,
+  record { same = stand.opened; rising = stand.rising },
+  record {
+    level = says.level;
+    depth = says.depth;
+    levels = says.levels;
+    written = says.written
+        ∙ ap (λ rs. text_of (waves_lines says.depth rs)) (stand.same says.level);
+  },
+)
+
+pub opening_is_said : {E : Type 0} (asked : Asked) (x : Transition) (c : Contents) (t : Tracking)
+    (rows : Table) (r : Result (String Global) E) → contents_of x ≡ c → tracking_of x ≡ t
+    → StandForAll x rows
+    → IfOk r (λ text. saying_of asked (contents_of x) (tracking_of x) rows (string_bytes text))
+    → IfOk r (λ text. RowsAreSaid (saying_of asked) c None t (string_bytes text))
+opening_is_said asked x c t rows (Ok text) first second stand says =
+    subst (λ u. RowsAreSaid (saying_of asked) c None u (string_bytes text)) second
+    (subst (λ d. RowsAreSaid (saying_of asked) d None (tracking_of x) (string_bytes text)) first
+    (all_are_said asked x rows (string_bytes text) stand says))
+opening_is_said asked x c t rows (Err e) first second stand says = tt
 
 -- ---- what is found, layer by layer
 

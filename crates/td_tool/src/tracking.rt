@@ -1,5 +1,5 @@
 //! The two subcommands that read a tracker: `track` and `waves`.
-ghost use Rattle.std.specs.Prelude.{◌≡◌, ◌⊎◌, Ok, Err, IfOk, IfErr, option_map, string_bytes};
+ghost use Rattle.std.specs.Prelude.{◌≡◌, ◌⊎◌, None, Ok, Err, IfOk, IfErr, option_map, string_bytes};
 ghost use Rattle.std.specs.Result.{ForOk};
 ghost use Rattle.td_relation.specs.TableView.{table};
 ghost use Rattle.td_core.specs.Phases.{NoneBuilt};
@@ -203,8 +203,8 @@ fn marks_say(
     told(rt, alloc, &transition, rows, asked)
 }
 
-// The same, of a text's tracker over an archive and its rows.
-fn tracker_says(
+// The same, of a text's tracker over an archive and its rows, of which some may be those of a file.
+fn rows_say(
     rt: &(impl Threads + Sync),
     alloc: Global,
     archive: &Archive<'_, '_>,
@@ -227,6 +227,49 @@ fn tracker_says(
             or_no_memory(said)
         }
         Err(ending) => Err(ending),
+    }
+}
+
+// The same, over the rows with which a desk opens over the archive: those of the sources that aren't
+// affected say nothing, and aren't made.
+fn opening_says(
+    rt: &(impl Threads + Sync),
+    alloc: Global,
+    archive: &Archive<'_, '_>,
+    tracker: &Tracker<'_>,
+    text: &str,
+    asked: Asked,
+) -> Result<String, AllocError>
+    requires { IsTracker text.now (tracking tracker.now) }
+    ensures { IfOk result (λ said.
+        RowsAreSaid (saying_of asked) archive.now None (tracking tracker.now)
+        (string_bytes said)) }
+{
+    let marks = Marks::make_beside(rt, alloc, archive, tracker, text)?;
+    let transition = Transition::with_marks(alloc, archive, tracker, marks)?;
+    let rows = transition.opening_rows(alloc)?;
+    told(rt, alloc, &transition, &rows, asked)
+}
+
+// The same, with or without a state file.
+fn tracker_says(
+    rt: &(impl Threads + Sync),
+    alloc: Global,
+    archive: &Archive<'_, '_>,
+    state: &Option<String>,
+    tracker: &Tracker<'_>,
+    text: &str,
+    asked: Asked,
+) -> Result<String, Ending>
+    requires { IsTracker text.now (tracking tracker.now) }
+    ensures found { IfOk result (λ text.
+        RowsAreSaid (saying_of asked) archive.now (option_map string_bytes state.now)
+        (tracking tracker.now) (string_bytes text)) }
+    ensures none { IfErr result (EndsWithoutRows archive.now (option_map string_bytes state.now)) }
+{
+    match state {
+        None => or_no_memory(opening_says(rt, alloc, archive, tracker, text, asked)),
+        Some(_) => rows_say(rt, alloc, archive, state, tracker, text, asked),
     }
 }
 

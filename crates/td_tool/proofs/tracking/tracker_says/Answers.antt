@@ -1,30 +1,11 @@
--- `tracker_says`: the clauses `found` and `none`.
-use Rattle.std.proofs.Common.{IfOk, inr, option_map, refl, string_bytes, subst}
-use Rattle.td_query.specs.Tracking.{tracking}
-use Rattle.td_script.specs.Openings.{AreRowsOf}
-use Rattle.td_tool.specs.TrackInside.{EndsWithoutRows, saying_of}
-use Rattle.td_tool.proofs.Told.{memory_alone, rows_are_said}
-use Rattle.td_tool.proofs.Sure.{ended_by}
+-- `tracker_says`: the clauses where there is no state file.
+use Rattle.std.proofs.Common.{inr, refl}
+use Rattle.td_tool.specs.TrackInside.{EndsWithoutRows}
+use Rattle.td_tool.proofs.Told.{memory_alone}
 use Rattle.td_tool.proofs.tracking.tracker_says.Goals as goal
 
-pub returns-in-Ok-clause-found : goal.returns-in-Ok-clause-found
-returns-in-Ok-clause-found g c =
-    let state = option_map string_bytes c.args.state.now in
-    rows_are_said (saying_of c.args.asked) c.args.archive.now state c.in-Ok.rows
-    (tracking c.args.tracker.now) c.marks_say-said.result c.or_no_memory.result
-    (subst (λ r. IfOk r (AreRowsOf c.args.archive.now state)) c.in-Ok.ensures.ok.0
-    c.rows_beside-rows.ensures.rows) c.marks_say-said.ensures c.or_no_memory.ensures.ok
-    c.or_no_memory.ensures.err
-
-pub returns-in-Ok-clause-none : goal.returns-in-Ok-clause-none
-returns-in-Ok-clause-none g c =
-    memory_alone (EndsWithoutRows c.args.archive.now _) c.marks_say-said.result
-    c.or_no_memory.result
-    c.or_no_memory.ensures.ok c.or_no_memory.ensures.err
+pub returns-in-None-clause-none : goal.returns-in-None-clause-none
+returns-in-None-clause-none g c =
+    memory_alone (EndsWithoutRows c.args.archive.now _) c.opening_says.result
+    c.or_no_memory.result c.or_no_memory.ensures.ok c.or_no_memory.ensures.err
     (record { refused = inr refl; only = λ rows are. refl })
-
-pub returns-in-Err-clause-none : goal.returns-in-Err-clause-none
-returns-in-Err-clause-none g c =
-    ended_by (EndsWithoutRows c.args.archive.now _) c.rows_beside-rows.result.0
-    c.rows_beside-rows.result.1 c.in-Err.ending c.rows_beside-rows.ensures.none
-    (record { refused = inr refl; only = λ rows are. refl }) c.in-Err.ensures.err
