@@ -5,12 +5,13 @@ use crate::archive_fault::ArchiveFault;
 use crate::assembling::kept_of_both;
 use crate::binaries::Binaries;
 use crate::choosing::is_chosen;
+use crate::early::{EarlyPackages, EarlySources};
 use crate::grouping::{grouped_and_counted, those_on};
 use crate::index_reading::{read_packages_index, read_sources_index};
 use crate::opening::{greatest_number, opening, opening_on};
 use crate::packaged::Binary;
 use crate::rows::has_row;
-use crate::side_by_side::{grouped_and_counted_beside, read_indices};
+use crate::side_by_side::{keep_indices, read_indices};
 use crate::sourced::{Source, Sourced};
 use crate::stanza_pieces::StanzaPieces;
 use crate::supplying::stocked;
@@ -153,19 +154,22 @@ impl<'t, 'a> Archive<'t, 'a> {
         ensures { IsRead (table archs.now) (lines_of packages.now) (lines_of sources.now) result }
     {
         let (packages, sources) = read_indices(rt, alloc, archs, packages, sources);
-        match kept_of_both(packages, sources) {
-            Ok(kept) => {
-                let counted = grouped_and_counted_beside(
-                    rt,
-                    alloc,
-                    archs,
-                    &kept.binaries,
-                    &kept.sources,
-                );
-                Archive::of_kept(alloc, archs, kept, counted)
-            }
-            Err(fault) => Err(fault),
-        }
+        Archive::of_indices(rt, alloc, archs, packages, sources)
+    }
+
+    /// The same of indices whose stanzas were found before, while their texts came.
+    pub fn of_early(
+        rt: &(impl Threads + Sync),
+        alloc: Global,
+        packages: EarlyPackages<'a>,
+        sources: EarlySources<'a>,
+        archs: &'t Archs<'a>,
+    ) -> Result<Archive<'t, 'a>, ArchiveFault>
+        ensures { IsRead (table archs.now) (lines_of packages.entry) (lines_of sources.entry)
+            result }
+    {
+        let (packages, sources) = keep_indices(rt, alloc, archs, packages, sources);
+        Archive::of_indices(rt, alloc, archs, packages, sources)
     }
 
     /// How many sources there are.
@@ -276,7 +280,7 @@ impl<'t, 'a> Archive<'t, 'a> {
     }
 
     // The source with a number, as it is kept under its name.
-    fn entry_at(&self, number: usize) -> Option<(&'a str, &Sourced<'a>)>
+    pub(crate) fn entry_at(&self, number: usize) -> Option<(&'a str, &Sourced<'a>)>
         ensures found { option_map (λ p. source_of (p.0, p.1.now)) result
             ≡ slice_get self.now.sources number }
         ensures named { IfSome result (λ p.

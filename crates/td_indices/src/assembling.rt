@@ -11,10 +11,12 @@ use crate::archive_fault::ArchiveFault;
 use crate::binaries::Binaries;
 use crate::index_reading::{PackagesIndex, SourcesIndex};
 use crate::pairing::paired;
+use crate::side_by_side::grouped_and_counted_beside;
 use crate::sourced::Sourced;
 use crate::stanza_pieces::StanzaPieces;
 use indexmap::IndexMap;
 use std::alloc::Global;
+use std::thread::Threads;
 use td_relation::Archs;
 use td_supply::Numbers;
 
@@ -74,7 +76,7 @@ impl<'t, 'a> Archive<'t, 'a> {
     ghost use Rattle.td_stanza.specs.StanzaGrammar.{AreStanzas};
     ghost use Rattle.td_relation.specs.TableView.{table};
     ghost use Rattle.td_supply.specs.Numbers.{numbers_of};
-    ghost use Rattle.td_indices.specs.Archive.{FaultOf, IsArchive, is_of, places_from};
+    ghost use Rattle.td_indices.specs.Archive.{FaultOf, IsArchive, IsRead, is_of, places_from};
     ghost use Rattle.td_indices.specs.Kept.{binaries_of};
     ghost use Rattle.td_indices.specs.Reading.{binaries_at, sources_at};
     ghost use Rattle.td_indices.specs.Rows.{row_count};
@@ -122,6 +124,35 @@ impl<'t, 'a> Archive<'t, 'a> {
                 drop(kept);
                 Err(fault)
             }
+        }
+    }
+
+    // The archive of two indices, each as it was read by itself. What they keep is counted in
+    // threads.
+    pub(crate) fn of_indices(
+        rt: &(impl Threads + Sync),
+        alloc: Global,
+        archs: &'t Archs<'a>,
+        packages: Result<PackagesIndex<'a>, ArchiveFault>,
+        sources: Result<SourcesIndex<'a>, ArchiveFault>,
+    ) -> Result<Archive<'t, 'a>, ArchiveFault>
+        requires packages { (p : List (List ℕ)) × ArePackagesRead (table archs.now) p packages }
+        requires sources { (s : List (List ℕ)) × AreSourcesRead s sources }
+        ensures { (p s : List (List ℕ)) → ArePackagesRead (table archs.now) p packages.entry
+            → AreSourcesRead s sources.entry → IsRead (table archs.now) p s result }
+    {
+        match kept_of_both(packages, sources) {
+            Ok(kept) => {
+                let counted = grouped_and_counted_beside(
+                    rt,
+                    alloc,
+                    archs,
+                    &kept.binaries,
+                    &kept.sources,
+                );
+                Archive::of_kept(alloc, archs, kept, counted)
+            }
+            Err(fault) => Err(fault),
         }
     }
 }

@@ -1,18 +1,18 @@
 //! Each of the two files read by itself: its stanzas, and what they keep.
-ghost use Rattle.std.specs.Prelude.{ℕ, List, IfOk, IfErr};
+ghost use Rattle.std.specs.Prelude.{◌≡◌, ℕ, true, List, length};
 ghost use Rattle.td_text.specs.Lines.{lines_of};
 ghost use Rattle.td_stanza.specs.StanzaGrammar.{AreStanzas};
 ghost use Rattle.td_relation.specs.TableView.{table};
-ghost use Rattle.td_indices.specs.Archive.{StanzaFaultOf};
-ghost use Rattle.td_indices.specs.declared.archive_fault.IndexFile.TheVariants.{Sources};
-ghost use Rattle.td_indices.specs.inner.IndexReading.{ArePackagesRead, AreSourcesRead};
+ghost use Rattle.td_indices.specs.inner.IndexReading.{ArePackages, ArePackagesRead};
+ghost use Rattle.td_indices.specs.inner.IndexReading.{AreSources, AreSourcesRead};
+ghost use Rattle.td_indices.specs.inner.Sound.{AreSound};
 
 use crate::archive_fault::{ArchiveFault, IndexFile};
 use crate::binaries::Binaries;
 use crate::cutting::HALVINGS;
 use crate::part_reading::{alone, read_part, read_parts};
 use crate::piece_reading::read_stanzas_beside;
-use crate::soundness::are_sound_beside;
+use crate::soundness::are_all_sound;
 use crate::sourced::Sourced;
 use crate::stanza_list::read_stanzas;
 use crate::stanza_pieces::StanzaPieces;
@@ -55,7 +55,23 @@ pub fn read_packages_index<'a>(
     Ok(PackagesIndex { stanzas, kept })
 }
 
-/// The same, a long text in pieces and parts.
+/// What these stanzas of Packages keep, in parts.
+pub fn kept_packages<'a, R: Threads + Sync>(
+    rt: &R,
+    alloc: Global,
+    archs: &Archs<'_>,
+    stanzas: StanzaPieces<'a>,
+) -> PackagesIndex<'a>
+    ensures { (lines : List (List ℕ)) → AreStanzas stanzas.entry lines
+        → ArePackages (table archs.now) lines result }
+{
+    let count = stanzas.len();
+    let read = read_parts(rt, alloc, archs, &stanzas, 0, count, HALVINGS);
+    let kept = kept_of(alloc, read, count);
+    PackagesIndex { stanzas, kept }
+}
+
+/// The same as `read_packages_index` gives, a long text in pieces and parts.
 pub fn read_packages_beside<'a, R: Threads + Sync>(
     rt: &R,
     alloc: Global,
@@ -64,14 +80,10 @@ pub fn read_packages_beside<'a, R: Threads + Sync>(
 ) -> Result<PackagesIndex<'a>, ArchiveFault>
     ensures { ArePackagesRead (table archs.now) (lines_of text.now) result }
 {
-    let stanzas = match read_stanzas_beside(rt, alloc, IndexFile::Packages, text) {
-        Ok(stanzas) => stanzas,
-        Err(fault) => return Err(fault),
-    };
-    let count = stanzas.len();
-    let read = read_parts(rt, alloc, archs, &stanzas, 0, count, HALVINGS);
-    let kept = kept_of(alloc, read, count);
-    Ok(PackagesIndex { stanzas, kept })
+    match read_stanzas_beside(rt, alloc, IndexFile::Packages, text) {
+        Ok(stanzas) => Ok(kept_packages(rt, alloc, archs, stanzas)),
+        Err(fault) => Err(fault),
+    }
 }
 
 /// Reads Sources, likewise.
@@ -89,7 +101,16 @@ pub fn read_sources_index<'a>(
     Ok(SourcesIndex { stanzas, kept })
 }
 
-/// The same, a long text in pieces and parts.
+/// What these stanzas of Sources keep. Where they are `sound`, what their builds ask for isn't read.
+pub fn kept_sources<'a>(alloc: Global, stanzas: StanzaPieces<'a>, sound: bool) -> SourcesIndex<'a>
+    requires { sound ≡ true → AreSound stanzas 0 (length stanzas) }
+    ensures { (lines : List (List ℕ)) → AreStanzas stanzas.entry lines → AreSources lines result }
+{
+    let kept = read_sources(alloc, &stanzas, sound);
+    SourcesIndex { stanzas, kept }
+}
+
+/// The same as `read_sources_index` gives, a long text in pieces and parts.
 pub fn read_sources_beside<'a, R: Threads + Sync>(
     rt: &R,
     alloc: Global,
@@ -97,12 +118,10 @@ pub fn read_sources_beside<'a, R: Threads + Sync>(
 ) -> Result<SourcesIndex<'a>, ArchiveFault>
     ensures { AreSourcesRead (lines_of text.now) result }
 {
-    let stanzas = match read_stanzas_beside(rt, alloc, IndexFile::Sources, text) {
-        Ok(stanzas) => stanzas,
-        Err(fault) => return Err(fault),
-    };
-    let count = stanzas.len();
-    let sound = are_sound_beside(rt, alloc, &stanzas, 0, count, HALVINGS);
-    let kept = read_sources(alloc, &stanzas, sound);
-    Ok(SourcesIndex { stanzas, kept })
+    let stanzas = read_stanzas_beside(rt, alloc, IndexFile::Sources, text);
+    let sound = are_all_sound(rt, alloc, &stanzas);
+    match stanzas {
+        Ok(stanzas) => Ok(kept_sources(alloc, stanzas, sound)),
+        Err(fault) => Err(fault),
+    }
 }

@@ -2,7 +2,8 @@
 //! count, found by their names, the rows with which a desk opens over them, and what they put on
 //! offer.
 //!
-//! Start at `Archive::read`; `read_beside` gives the same, and reads the two files in threads.
+//! Start at `Archive::read`; `read_beside` gives the same, and reads the two files in threads;
+//! `of_early` too, where the stanzas of each were found while the other still came.
 //! Texts are slices of the files; a look-up goes by hash.
 //! Promised: what is read is an archive as `specs/Archive.antt` says, else the first fault is
 //! named; a stanza is a package or a source exactly where `specs/PackageStanzas.antt` and
@@ -20,6 +21,7 @@ mod binary_keeping;
 mod binary_reading;
 mod choosing;
 mod cutting;
+mod early;
 mod field;
 mod grouping;
 mod index_reading;
@@ -48,6 +50,7 @@ mod text;
 
 pub use archive::Archive;
 pub use archive_fault::{ArchiveFault, IndexField, IndexFile, RelationField, VersionField};
+pub use early::{EarlyPackages, EarlySources};
 pub use field::value_of;
 pub use laws::{
     faults_of_a_stanza_come_in_order, first_faulty_stanzas_are_named, greatest_versions_are_kept,

@@ -15,6 +15,7 @@ ghost use Rattle.td_indices.specs.inner.IndexReading.{ArePackagesRead, AreSource
 
 use crate::archive_fault::ArchiveFault;
 use crate::binaries::Binaries;
+use crate::early::{EarlyPackages, EarlySources};
 use crate::grouping::group_binaries;
 use crate::index_reading::{
     PackagesIndex, SourcesIndex, read_packages_beside, read_sources_beside,
@@ -50,6 +51,30 @@ pub fn read_indices<'a, R: Threads + Sync>(
         requires { IsSync R.row }
         ensures { AreSourcesRead (lines_of sources.entry.now) result }
     { read_sources_beside(rt, alloc, sources) };
+    thread::join(rt, of_packages, of_sources)
+}
+
+/// What the stanzas of both keep that were found before, each in a thread.
+pub fn keep_indices<'a, R: Threads + Sync>(
+    rt: &R,
+    alloc: Global,
+    archs: &Archs<'_>,
+    packages: EarlyPackages<'a>,
+    sources: EarlySources<'a>,
+) -> (
+    Result<PackagesIndex<'a>, ArchiveFault>,
+    Result<SourcesIndex<'a>, ArchiveFault>,
+)
+    ensures packages { ArePackagesRead (table archs.now) (lines_of packages.entry) result.0 }
+    ensures sources { AreSourcesRead (lines_of sources.entry) result.1 }
+{
+    let of_packages = move || -> Result<PackagesIndex, ArchiveFault>
+        requires { IsSync R.row }
+        ensures { ArePackagesRead (table archs.entry.now) (lines_of packages.entry) result }
+    { packages.into_index(rt, alloc, archs) };
+    let of_sources = move || -> Result<SourcesIndex, ArchiveFault>
+        ensures { AreSourcesRead (lines_of sources.entry) result }
+    { sources.into_index(alloc) };
     thread::join(rt, of_packages, of_sources)
 }
 

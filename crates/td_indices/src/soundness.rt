@@ -3,8 +3,11 @@
 ghost use Rattle.std.specs.Prelude.{◌≡◌, ◌≤◌, true, length};
 ghost use denote.Param.Send.{IsSync};
 ghost use Rattle.td_stanza.specs.Table.{fields_of};
+ghost use Rattle.td_indices.specs.inner.IndexReading.{AreSoundIf};
 ghost use Rattle.td_indices.specs.inner.Sound.{AreSound, IsSound};
 
+use crate::archive_fault::ArchiveFault;
+use crate::cutting::HALVINGS;
 use crate::source_reading::check_relations;
 use crate::stanza_pieces::StanzaPieces;
 use std::alloc::Global;
@@ -69,4 +72,18 @@ pub fn are_sound_beside<R: Threads + Sync>(
     { are_sound_beside(rt, alloc, stanzas, middle, to, left) };
     let (front, rest) = thread::join(rt, of_front, of_rest);
     front && rest
+}
+
+/// The same of all stanzas of a text, where they were found.
+pub fn are_all_sound<R: Threads + Sync>(
+    rt: &R,
+    alloc: Global,
+    stanzas: &Result<StanzaPieces<'_>, ArchiveFault>,
+) -> bool
+    ensures { AreSoundIf result stanzas.now }
+{
+    match stanzas {
+        Ok(stanzas) => are_sound_beside(rt, alloc, stanzas, 0, stanzas.len(), HALVINGS),
+        Err(_) => false,
+    }
 }

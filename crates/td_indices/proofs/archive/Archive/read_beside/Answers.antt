@@ -1,36 +1,8 @@
--- `read_beside`: the archive of both texts, as they were read side by side.
-use Rattle.std.proofs.Common.{Err}
+-- `Archive::read_beside`: the archive of both texts, as they were read side by side.
 use Rattle.td_text.specs.Lines.{lines_of}
-use Rattle.td_relation.specs.TableView.{table}
-use Rattle.td_indices.proofs.Refusals.{is_read}
 use Rattle.td_indices.proofs.archive.Archive.read_beside.Goals as goal
 
-pub of_kept-requires-clause-binaries : goal.of_kept-requires-clause-binaries
-of_kept-requires-clause-binaries g c =
-    (c.in-Ok.ensures.found (table c.args.archs.now) (lines_of c.args.packages.now)
-    (lines_of c.args.sources.now) c.read_indices-packages.ensures.packages
-    c.read_indices-packages.ensures.sources).binaries
-
-pub of_kept-requires-clause-sources : goal.of_kept-requires-clause-sources
-of_kept-requires-clause-sources g c =
-    (c.in-Ok.ensures.found (table c.args.archs.now) (lines_of c.args.packages.now)
-    (lines_of c.args.sources.now) c.read_indices-packages.ensures.packages
-    c.read_indices-packages.ensures.sources).sources
-
-pub returns-in-Ok : goal.returns-in-Ok
-returns-in-Ok g c =
-    let pl = lines_of c.args.packages.now in
-    let sl = lines_of c.args.sources.now in
-    let kept = c.in-Ok.ensures.found (table c.args.archs.now) pl sl
-    c.read_indices-packages.ensures.packages c.read_indices-packages.ensures.sources in
-    is_read (table c.args.archs.now) pl sl c.of_kept.result
-    (c.of_kept.ensures.found pl sl kept.package_stanzas kept.source_stanzas)
-    (c.of_kept.ensures.fault pl sl kept.package_stanzas kept.source_stanzas)
-
-pub returns-in-Err : goal.returns-in-Err
-returns-in-Err g c =
-    let pl = lines_of c.args.packages.now in
-    let sl = lines_of c.args.sources.now in
-    is_read (table c.args.archs.now) pl sl (Err c.in-Err.fault) tt
-    (c.in-Err.ensures.fault (table c.args.archs.now) pl sl
-    c.read_indices-packages.ensures.packages c.read_indices-packages.ensures.sources)
+pub returns : goal.returns
+returns g c =
+    c.of_indices.ensures (lines_of c.args.packages.now) (lines_of c.args.sources.now)
+    c.read_indices-packages.ensures.packages c.read_indices-packages.ensures.sources

@@ -1,0 +1,137 @@
+//! The two indices as texts with their stanzas, each found while the other may still come.
+
+use crate::archive_fault::{ArchiveFault, IndexFile};
+use crate::index_reading::{PackagesIndex, SourcesIndex, kept_packages, kept_sources};
+use crate::piece_reading::read_stanzas_beside;
+use crate::soundness::are_all_sound;
+use crate::stanza_pieces::StanzaPieces;
+use std::alloc::Global;
+use std::marker::Model;
+use std::thread::Threads;
+use td_relation::Archs;
+
+/// A text of Packages, and its stanzas. Contracts see the text.
+#[derive(Drop)]
+pub struct EarlyPackages<'a> {
+    text: &'a str,
+    stanzas: Result<StanzaPieces<'a>, ArchiveFault>,
+}
+
+impl<'a> Model for EarlyPackages<'a> {
+    ghost use Rattle.std.specs.Prelude.{ℕ, List};
+    ghost use Rattle.td_text.specs.Lines.{lines_of};
+    ghost use Rattle.td_indices.specs.declared.archive_fault.IndexFile.TheVariants.{Packages};
+    ghost use Rattle.td_indices.specs.inner.IndexReading.{AreStanzasRead};
+
+    ghost Value = { List ℕ };
+
+    ghost view = { λ p. p.text.now };
+
+    ghost invariant = { λ p. AreStanzasRead Packages (lines_of p.text.now) p.stanzas };
+}
+
+impl<'a> EarlyPackages<'a> {
+    ghost use Rattle.std.specs.Prelude.{◌≡◌};
+    ghost use Rattle.td_text.specs.Lines.{lines_of};
+    ghost use Rattle.td_relation.specs.TableView.{table};
+    ghost use Rattle.td_indices.specs.inner.IndexReading.{ArePackagesRead};
+
+    /// Finds the stanzas of a text, of a long one in pieces. A fault is told with the archive.
+    pub fn read_beside(
+        rt: &(impl Threads + Sync),
+        alloc: Global,
+        text: &'a str,
+    ) -> EarlyPackages<'a>
+        ensures { result ≡ text.now }
+    {
+        let stanzas = read_stanzas_beside(rt, alloc, IndexFile::Packages, text);
+        EarlyPackages { text, stanzas }
+    }
+
+    /// The text.
+    pub fn text(&self) -> &'a str
+        ensures { result.now ≡ self.now }
+    {
+        self.text
+    }
+
+    /// What the text is read as.
+    pub(crate) fn into_index<R: Threads + Sync>(
+        self,
+        rt: &R,
+        alloc: Global,
+        archs: &Archs<'_>,
+    ) -> Result<PackagesIndex<'a>, ArchiveFault>
+        ensures { ArePackagesRead (table archs.now) (lines_of self.entry) result }
+    {
+        match self.stanzas {
+            Ok(stanzas) => Ok(kept_packages(rt, alloc, archs, stanzas)),
+            Err(fault) => Err(fault),
+        }
+    }
+}
+
+/// A text of Sources, its stanzas, and whether all that their builds ask for can be read. Contracts
+/// see the text.
+#[derive(Drop)]
+pub struct EarlySources<'a> {
+    text: &'a str,
+    stanzas: Result<StanzaPieces<'a>, ArchiveFault>,
+    sound: bool,
+}
+
+impl<'a> Model for EarlySources<'a> {
+    ghost use Rattle.std.specs.Prelude.{ℕ, List};
+    ghost use Rattle.td_text.specs.Lines.{lines_of};
+    ghost use Rattle.td_indices.specs.declared.archive_fault.IndexFile.TheVariants.{Sources};
+    ghost use Rattle.td_indices.specs.inner.IndexReading.{AreSoundIf, AreStanzasRead};
+
+    ghost Value = { List ℕ };
+
+    ghost view = { λ s. s.text.now };
+
+    ghost invariant = { λ s. AreStanzasRead Sources (lines_of s.text.now) s.stanzas
+        × AreSoundIf s.sound s.stanzas };
+}
+
+impl<'a> EarlySources<'a> {
+    ghost use Rattle.std.specs.Prelude.{◌≡◌};
+    ghost use Rattle.td_text.specs.Lines.{lines_of};
+    ghost use Rattle.td_indices.specs.inner.IndexReading.{AreSourcesRead};
+
+    /// Finds the stanzas of a text, and looks at what their builds ask for, of a long one in pieces
+    /// and parts. A fault is told with the archive.
+    pub fn read_beside(rt: &(impl Threads + Sync), alloc: Global, text: &'a str) -> EarlySources<'a>
+        ensures { result ≡ text.now }
+    {
+        let stanzas = read_stanzas_beside(rt, alloc, IndexFile::Sources, text);
+        let sound = are_all_sound(rt, alloc, &stanzas);
+        EarlySources {
+            text,
+            stanzas,
+            sound,
+        }
+    }
+
+    /// The text.
+    pub fn text(&self) -> &'a str
+        ensures { result.now ≡ self.now }
+    {
+        self.text
+    }
+
+    /// What the text is read as.
+    pub(crate) fn into_index(self, alloc: Global) -> Result<SourcesIndex<'a>, ArchiveFault>
+        ensures { AreSourcesRead (lines_of self.entry) result }
+    {
+        let EarlySources {
+            text: _,
+            stanzas,
+            sound,
+        } = self;
+        match stanzas {
+            Ok(stanzas) => Ok(kept_sources(alloc, stanzas, sound)),
+            Err(fault) => Err(fault),
+        }
+    }
+}
