@@ -9,16 +9,15 @@ use Rattle.td_query.specs.declared.mark.Mark.{Mark}
 use Rattle.td_query.specs.Marks.{MarkBetween, mark_by}
 use Rattle.td_query.specs.Tracking.{Tracking}
 
--- with the mark of one stanza more; the patterns stay what they were
-pub marks-more : {now patterns : List Re} {fields : List Entry} {new : List Mark} {m : Mark}
-    (t : Tracking) (all : List (List Entry)) (from i : ℕ) (old : List Mark) → now ≡ patterns
+-- with the mark of one stanza more
+pub marks-more : {fields : List Entry} {new : List Mark} {m : Mark} (patterns : List Re)
+    (t : Tracking) (all : List (List Entry)) (from i : ℕ) (old : List Mark)
     → slice_get all i ≡ Some fields → MarkBetween (mark_by patterns t) all from i old
-    → new ≡ old ++ m ∷ [] → m ≡ mark_by now t fields
+    → new ≡ old ++ m ∷ [] → m ≡ mark_by patterns t fields
     → MarkBetween (mark_by patterns t) all from (i + 1) new
-marks-more {now} {patterns} {fields} {m = m} t all from i old same at so_far pushed is =
+marks-more {fields} {m = m} patterns t all from i old at so_far pushed is =
     let front = map (mark_by patterns t) (take from all) in
     rw (take-next all i fields at, map-append (mark_by patterns t) (take i all) (fields ∷ []))
     (ap (λ l. front ++ l) pushed ∙ sym (append_assoc front old (m ∷ []))
     ∙ ap (λ l. l ++ m ∷ []) so_far
-    ∙ ap (λ b. map (mark_by patterns t) (take i all) ++ b ∷ [])
-    (is ∙ ap (λ p. mark_by p t fields) same))
+    ∙ ap (λ b. map (mark_by patterns t) (take i all) ++ b ∷ []) is)

@@ -11,7 +11,8 @@ pub mod PatternLists
 mod Refusals
 pub mod Gathering
 pub mod KeptMarks
-pub mod PlainTrackers
+pub mod AlikePatterns
+pub mod SameTrackers
 pub mod RowStatuses
 pub mod AffectedSources
 pub mod Unmarked

@@ -13,12 +13,6 @@ use Rattle.td_query.specs.Query.{Shape, joined, shape_of}
 use Rattle.td_query.specs.Truth.{truth}
 use Rattle.td_query.specs.inner.Settling.{settling}
 
--- with the same patterns, a part has the truth that was answered
-pub answered : (was patterns : List Re) (fields : List Entry) (s : Shape) (answer b : Bool)
-    → was ≡ patterns → answer ≡ truth was fields s → answer ≡ b → truth patterns fields s ≡ b
-answered was patterns fields s answer b same e is =
-    sym (ap (λ (p : List Re). truth p fields s) same) ∙ sym e ∙ is
-
 module _ (patterns : List Re) (fields : List Entry) where
   -- a part, and what the parts behind it come to
   abbrev both : Joint → Bool → Bool → Bool

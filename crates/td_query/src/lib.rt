@@ -14,6 +14,7 @@
 //! What queries and statuses mean is said by `specs/QueryLaws.antt` and `specs/StatusLaws.antt`.
 #![tactic(auto)]
 
+mod affected;
 mod atom;
 mod compiling;
 mod laws;

@@ -1,10 +1,12 @@
 //! What a tracker's three queries say of a stanza, or of a row.
-ghost use Rattle.std.specs.Prelude.{◌≡◌, ◌↔◌, true, false, map, None, Some};
+ghost use Rattle.std.specs.Prelude.{◌≡◌, ◌↔◌, true, false, List, map, None, Some};
+ghost use Rattle.regex.specs.Patterns.{Re};
 ghost use Rattle.regex.specs.Strings.{matcher_pattern};
 ghost use Rattle.td_stanza.specs.Table.{fields_of};
 ghost use Rattle.td_query.specs.Marks.{either_mark, mark_by, no_mark};
 ghost use Rattle.td_query.specs.Statuses.{status_where};
 ghost use Rattle.td_query.specs.Tracking.{tracking};
+ghost use Rattle.td_query.specs.inner.Alike.{AreAlike};
 
 use crate::status::Status;
 use crate::tracker::Tracker;
@@ -79,6 +81,9 @@ impl Mark {
 pub fn mark_of(tracker: &Tracker<'_>, stanza: &Stanza, matchers: &mut Vec<Matcher>) -> Mark
     ensures mark { result ≡ mark_by (map matcher_pattern matchers.old.items)
         (tracking tracker.now) (fields_of stanza.now) }
+    // So they are with any patterns that find alike.
+    ensures alike { (ps : List Re) → AreAlike ps (map matcher_pattern matchers.old.items)
+        → result ≡ mark_by ps (tracking tracker.now) (fields_of stanza.now) }
     ensures same { map matcher_pattern matchers.new.items ≡ map matcher_pattern matchers.old.items }
 {
     let affected = holds(&tracker.affected, stanza, matchers);

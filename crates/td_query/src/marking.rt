@@ -1,9 +1,12 @@
 //! How the marks of an archive are made: each query is evaluated once on each stanza.
-ghost use Rattle.std.specs.Prelude.{◌≡◌, ◌<◌, ◌≤◌, IfOk, Some, length, map, slice_get};
+ghost use Rattle.std.specs.Prelude.{◌≡◌, ◌<◌, ◌≤◌, IfOk, List, Some, length, map};
+ghost use Rattle.std.specs.Prelude.{slice_get};
+ghost use Rattle.regex.specs.Patterns.{Re};
 ghost use Rattle.regex.specs.Strings.{matcher_pattern};
 ghost use Rattle.td_stanza.specs.Table.{fields_of};
 ghost use Rattle.td_query.specs.Marks.{MarkBetween, kept_fields, mark_by};
 ghost use Rattle.td_query.specs.Tracking.{tracking};
+ghost use Rattle.td_query.specs.inner.Alike.{AreAlike};
 
 use crate::mark::{Mark, mark_of};
 use crate::tracker::Tracker;
@@ -38,8 +41,7 @@ fn kept_stanza<'x, 'a>(
 }
 
 /// The marks of the stanzas of a file, of those that binary packages, or sources, were kept of,
-/// from
-/// one with a number up to another.
+/// from one with a number up to another.
 pub fn mark_range(
     alloc: Global,
     archive: &Archive<'_, '_>,
@@ -53,6 +55,10 @@ pub fn mark_range(
     requires within { to ≤ length (kept_fields archive.now file) }
     ensures marks { IfOk result (λ marks.
         MarkBetween (mark_by (map matcher_pattern matchers.old.items) (tracking tracker.now))
+        (kept_fields archive.now file) from to marks.items) }
+    // So they are with any patterns that find alike.
+    ensures alike { (ps : List Re) → AreAlike ps (map matcher_pattern matchers.old.items)
+        → IfOk result (λ marks. MarkBetween (mark_by ps (tracking tracker.now))
         (kept_fields archive.now file) from to marks.items) }
     ensures same { map matcher_pattern matchers.new.items ≡ map matcher_pattern matchers.old.items }
 {

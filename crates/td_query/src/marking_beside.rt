@@ -1,5 +1,5 @@
-//! How the marks of a tracker without patterns are made in four threads.
-ghost use Rattle.std.specs.Prelude.{◌≡◌, ◌≤◌, [], IfOk, length, map};
+//! How the marks of an archive are made in four threads.
+ghost use Rattle.std.specs.Prelude.{◌≡◌, ◌≤◌, IfOk, length, map};
 ghost use denote.Param.Send.{IsSync};
 ghost use Rattle.td_indices.specs.declared.archive_fault.IndexFile.TheVariants.{Packages, Sources};
 ghost use Rattle.td_query.specs.Marks.{kept_fields, mark_on};
@@ -16,7 +16,8 @@ use std::thread::Threads;
 use td_indices::{Archive, IndexFile};
 
 // The marks of the packages from one with a number up to another, by the tracker of a text. It is
-// read anew: a thread may borrow the text, and not what `regex` made of it.
+// read anew: a thread may borrow the text, and not what `regex` made of it. What `regex` makes of
+// the text again finds alike.
 fn between_by_text(
     alloc: Global,
     archive: &Archive<'_, '_>,
@@ -101,7 +102,6 @@ fn rest_beside<R: Threads + Sync>(
     middle: usize,
 ) -> Result<(Vec<Mark>, Vec<Mark>), AllocError>
     requires text { IsTracker text.now (tracking tracker.now) }
-    requires plain { tracker.now.patterns.items ≡ [] }
     requires order { from ≤ middle }
     requires within { middle ≤ length archive.now.binaries }
     ensures { AreRestAndSources archive.now (tracking tracker.now) from result }
@@ -121,8 +121,8 @@ fn rest_beside<R: Threads + Sync>(
     Ok((packages, sources))
 }
 
-/// The marks of packages and of sources by a tracker without patterns, of the text. Each of four
-/// threads has about as many stanzas, one of them the last packages and the sources.
+/// The marks of packages and of sources by a tracker of the text. Each of four threads has about as
+/// many stanzas, one of them the last packages and the sources.
 pub fn mark_beside<R: Threads + Sync>(
     rt: &R,
     alloc: Global,
@@ -131,7 +131,6 @@ pub fn mark_beside<R: Threads + Sync>(
     text: &str,
 ) -> Result<(Vec<Mark>, Vec<Mark>), AllocError>
     requires text { IsTracker text.now (tracking tracker.now) }
-    requires plain { tracker.now.patterns.items ≡ [] }
     ensures packages { IfOk result (λ p. p.0.items
         ≡ map (mark_on (tracking tracker.now)) (kept_fields archive.now Packages)) }
     ensures sources { IfOk result (λ p. p.1.items
@@ -146,7 +145,6 @@ pub fn mark_beside<R: Threads + Sync>(
     { pair_by_text(rt, alloc, archive, text, 0, first, second) };
     let of_rest = move || -> Result<(Vec<Mark>, Vec<Mark>), AllocError>
         requires { IsSync R.row × IsTracker text.now (tracking tracker.now)
-            × (tracker.now.patterns.items ≡ [])
             × (second ≤ third) × (third ≤ length archive.now.binaries) }
         ensures { AreRestAndSources archive.entry.now (tracking tracker.entry.now) second result }
     { rest_beside(rt, alloc, archive, tracker, text, second, third) };

@@ -31,10 +31,10 @@ pub struct Marks {
 }
 
 impl Marks {
-    ghost use Rattle.std.specs.Prelude.{◌≡◌, IfOk, false, map};
+    ghost use Rattle.std.specs.Prelude.{◌≡◌, IfOk, false};
     ghost use Rattle.td_query.specs.Marks.{AreMarks, mark_there as mark_there_of};
     ghost use Rattle.td_query.specs.Marks.{row_mark as row_mark_of};
-    ghost use Rattle.td_query.specs.Statuses.{affected_names, is_affected_at, status_at};
+    ghost use Rattle.td_query.specs.Statuses.{is_affected_at, status_at};
     ghost use Rattle.td_query.specs.Tracking.{IsTracker, Tracking, tracking};
 
     /// The marks of an archive: each query is evaluated once on each stanza that was kept.
@@ -51,8 +51,7 @@ impl Marks {
         Ok(Marks { packages, sources })
     }
 
-    /// The same marks. Those of a tracker without patterns are made in four threads, of which three
-    /// read the tracker anew from its text.
+    /// The same marks, made in four threads, of which three read the tracker anew from its text.
     pub fn make_beside(
         rt: &(impl Threads + Sync),
         alloc: Global,
@@ -63,9 +62,6 @@ impl Marks {
         requires { IsTracker text.now (tracking tracker.now) }
         ensures marks { IfOk result (AreMarks archive.now (tracking tracker.now)) }
     {
-        if !tracker.patterns.is_empty() {
-            return Marks::make(alloc, archive, tracker);
-        }
         let (packages, sources) = mark_beside(rt, alloc, archive, tracker, text)?;
         Ok(Marks { packages, sources })
     }
@@ -148,26 +144,5 @@ impl Marks {
             }
         }
         false
-    }
-
-    /// The names of the affected sources, in the order in which the archive holds them.
-    pub fn affected_sources<'a>(
-        &self,
-        alloc: Global,
-        archive: &Archive<'_, 'a>,
-    ) -> Result<Vec<&'a str>, AllocError>
-        ensures names { (t : Tracking) → AreMarks archive.now t self.now → IfOk result
-            (λ names. map (λ name. name.now) names.items ≡ affected_names archive.now t) }
-    {
-        let mut names = Vec::new(alloc);
-        for number in 0..archive.source_count() {
-            if self.is_affected(archive, number) {
-                match archive.source_at(number) {
-                    Some(source) => names.push(source.name)?,
-                    None => {}
-                }
-            }
-        }
-        Ok(names)
     }
 }

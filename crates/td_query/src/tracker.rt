@@ -1,11 +1,9 @@
 //! A tracker: its queries, and what they make of an archive.
 ghost use Rattle.std.specs.Prelude.{◌≡◌, IfErr, IfOk, Ok, length, map};
 ghost use Rattle.regex.specs.Strings.{regex_source};
-ghost use Rattle.td_query.specs.Statuses.{status_of};
-ghost use Rattle.td_query.specs.TrackerFaults.{FaultOf, IsMissing, IsPatternFault, log_in};
+ghost use Rattle.td_query.specs.TrackerFaults.{FaultOf, IsPatternFault, log_in};
 ghost use Rattle.td_query.specs.Sources.{AreDefault, ArePatterns, source_of};
 ghost use Rattle.td_query.specs.TrackerGrammar.{Said, nothing_said, said_in};
-ghost use Rattle.td_query.specs.Tracking.{AreCompiled, IsSaid, IsTracker, Tracking, tracking};
 ghost use Rattle.td_query.specs.TrackerViews.{said};
 
 use crate::compiling::compile;
@@ -29,38 +27,8 @@ pub struct Tracker<'a> {
     pub(crate) good: Query<'a>,
     pub(crate) bad: Query<'a>,
     pub(crate) patterns: Vec<Regex>,
-}
-
-// The tracker of these keys, if none is missing.
-fn whole<'a>(keys: Keys<'a>, patterns: Vec<Regex>) -> Result<Tracker<'a>, TrackerKey>
-    ensures found { IfOk result
-        (λ t. IsSaid (said keys.entry) (map regex_source patterns.items) (tracking t)) }
-    ensures patterns { IfOk result (λ t. t.patterns.items ≡ patterns.items) }
-    ensures missing { IfErr result (IsMissing (said keys.entry)) }
-{
-    let Keys {
-        title,
-        affected,
-        good,
-        bad,
-        log: _,
-    } = keys;
-    let Some(affected) = affected else {
-        return Err(TrackerKey::IsAffected);
-    };
-    let Some(good) = good else {
-        return Err(TrackerKey::IsGood);
-    };
-    let Some(bad) = bad else {
-        return Err(TrackerKey::IsBad);
-    };
-    Ok(Tracker {
-        title,
-        affected,
-        good,
-        bad,
-        patterns,
-    })
+    // Each is compiled from its text, with the default options: so two of one text find alike.
+    ghost compiled: { ∥ AreDefault patterns.items ∥₁ },
 }
 
 // Reads a text's keys up to its end, and compiles their patterns.
@@ -95,6 +63,43 @@ fn read_patterns<'a>(
 }
 
 impl<'a> Tracker<'a> {
+    ghost use Rattle.td_query.specs.Statuses.{status_of};
+    ghost use Rattle.td_query.specs.TrackerFaults.{IsMissing};
+    ghost use Rattle.td_query.specs.Tracking.{AreCompiled, IsSaid, IsTracker, Tracking, tracking};
+
+    // The tracker of these keys, if none is missing.
+    fn whole(keys: Keys<'a>, patterns: Vec<Regex>) -> Result<Tracker<'a>, TrackerKey>
+        requires compiled { AreDefault patterns.items }
+        ensures found { IfOk result
+            (λ t. IsSaid (said keys.entry) (map regex_source patterns.items) (tracking t)) }
+        ensures patterns { IfOk result (λ t. t.patterns.items ≡ patterns.items) }
+        ensures missing { IfErr result (IsMissing (said keys.entry)) }
+    {
+        let Keys {
+            title,
+            affected,
+            good,
+            bad,
+            log: _,
+        } = keys;
+        let Some(affected) = affected else {
+            return Err(TrackerKey::IsAffected);
+        };
+        let Some(good) = good else {
+            return Err(TrackerKey::IsGood);
+        };
+        let Some(bad) = bad else {
+            return Err(TrackerKey::IsBad);
+        };
+        Ok(Tracker {
+            title,
+            affected,
+            good,
+            bad,
+            patterns,
+        })
+    }
+
     /// Reads a tracker. The first fault from the left decides, and a pattern stands before what
     /// follows it; then the keys that are missing, in the order `is_affected`, `is_good`, `is_bad`.
     pub fn read(alloc: Global, text: &'a str) -> Result<Tracker<'a>, TrackerFault>
@@ -115,7 +120,7 @@ impl<'a> Tracker<'a> {
             Ok(patterns) => patterns,
             Err(fault) => return Err(fault),
         };
-        match whole(keys, patterns) {
+        match Tracker::whole(keys, patterns) {
             Ok(tracker) => Ok(tracker),
             Err(key) => Err(TrackerFault::MissingKey(key)),
         }

@@ -1,9 +1,11 @@
 //! Whether a query holds on a stanza.
-ghost use Rattle.std.specs.Prelude.{◌≡◌, IfOk, length, map, slice_get};
+ghost use Rattle.std.specs.Prelude.{◌≡◌, IfOk, List, length, map, slice_get};
+ghost use Rattle.regex.specs.Patterns.{Re};
 ghost use Rattle.regex.specs.Strings.{matcher_pattern, regex_pattern};
 ghost use Rattle.td_stanza.specs.Table.{fields_of};
 ghost use Rattle.td_query.specs.Query.{joined, shape_of};
 ghost use Rattle.td_query.specs.Truth.{is_found as is_found_of, truth};
+ghost use Rattle.td_query.specs.inner.Alike.{AreAlike};
 
 use crate::query::{Joint, Query};
 use crate::standing::stands_bounded;
@@ -14,8 +16,8 @@ use td_stanza::Stanza;
 
 // Whether the pattern of a number, if there is one, is found in the value.
 fn is_found(matchers: &mut Vec<Matcher>, number: usize, value: &str) -> bool
-    ensures found { result ≡ is_found_of
-        (slice_get (map matcher_pattern matchers.old.items) number) value.now }
+    ensures alike { (ps : List Re) → AreAlike ps (map matcher_pattern matchers.old.items)
+        → result ≡ is_found_of (slice_get ps number) value.now }
     ensures same { map matcher_pattern matchers.new.items ≡ map matcher_pattern matchers.old.items }
 {
     if number >= matchers.len() {
@@ -29,6 +31,9 @@ fn is_found(matchers: &mut Vec<Matcher>, number: usize, value: &str) -> bool
 pub fn holds(query: &Query, stanza: &Stanza, matchers: &mut Vec<Matcher>) -> bool
     ensures truth { result ≡ truth (map matcher_pattern matchers.old.items) (fields_of stanza.now)
         (shape_of query.now) }
+    // So it does with any patterns that find alike.
+    ensures alike { (ps : List Re) → AreAlike ps (map matcher_pattern matchers.old.items)
+        → result ≡ truth ps (fields_of stanza.now) (shape_of query.now) }
     ensures same { map matcher_pattern matchers.new.items ≡ map matcher_pattern matchers.old.items }
 {
     match query {
@@ -50,8 +55,8 @@ pub fn holds(query: &Query, stanza: &Stanza, matchers: &mut Vec<Matcher>) -> boo
 // Whether parts with the mark between them hold: the first that settles it decides.
 #[cycle(holds)]
 fn parts_hold(joint: Joint, parts: &[Query], stanza: &Stanza, matchers: &mut Vec<Matcher>) -> bool
-    ensures truth { result ≡ truth (map matcher_pattern matchers.old.items) (fields_of stanza.now)
-        (joined joint (map shape_of parts.now)) }
+    ensures alike { (ps : List Re) → AreAlike ps (map matcher_pattern matchers.old.items)
+        → result ≡ truth ps (fields_of stanza.now) (joined joint (map shape_of parts.now)) }
     ensures same { map matcher_pattern matchers.new.items ≡ map matcher_pattern matchers.old.items }
 {
     let settles = joint.settles();

@@ -1,5 +1,5 @@
 -- The parts of the marks that threads make side by side. This project's own.
-use Rattle.std.specs.Prelude.{◌≡◌, ℕ, List, [], IfOk, Result, length, map}
+use Rattle.std.specs.Prelude.{◌≡◌, ℕ, List, IfOk, Result, length, map}
 use Rattle.std.specs.Global.{Vec}
 use Rattle.std.specs.declared.alloc.AllocError.{AllocError}
 use Rattle.td_indices.specs.declared.archive_fault.IndexFile.TheVariants.{Packages, Sources}
@@ -9,12 +9,10 @@ use Rattle.td_query.specs.declared.tracker.Tracker.{Tracker}
 use Rattle.td_query.specs.Marks.{MarkBetween, kept_fields, mark_on}
 use Rattle.td_query.specs.Tracking.{IsTracker, Tracking, tracking}
 
--- those of the packages from one with a number up to another, by any tracker without patterns that
--- the text is of
+-- those of the packages from one with a number up to another, by any tracker that the text is of
 abbrev pub AreMarksByText : Contents → List ℕ → ℕ → ℕ → Result (Vec Mark) AllocError → Type 0
 AreMarksByText a text from to made =
-    (t : Tracker) → IsTracker text (tracking t) → t.patterns.items ≡ []
-    → IfOk made (λ marks.
+    (t : Tracker) → IsTracker text (tracking t) → IfOk made (λ marks.
     MarkBetween (mark_on (tracking t)) (kept_fields a Packages) from to marks.items)
 
 -- those of the packages from one with a number on, and those of the sources

@@ -1,4 +1,4 @@
--- `Marks::make_beside`: what it answers where two threads make the marks.
+-- `Marks::make_beside`: what it answers.
 use Rattle.std.proofs.Common.{◌∙◌}
 use Rattle.std.proofs.lemmas.Simd.{map-map}
 use Rattle.td_indices.specs.Stanzas.{package_fields, source_fields}
