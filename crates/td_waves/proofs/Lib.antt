@@ -12,5 +12,6 @@ pub mod Places
 pub mod Names
 pub mod Finding
 pub mod Graphs
+pub mod FirstEdges
 pub mod Standing
 pub mod AskingLaws

@@ -12,9 +12,13 @@ use Rattle.td_waves.specs.Named.{texts}
 abbrev pub name_at : List (Bor (List ℕ)) → ℕ → List ℕ
 name_at names number = slice_index_or (texts names) number []
 
--- for each name the numbers of those on which its source builds
-pub record AreEdges (a : Contents) (names : List (Bor (List ℕ)))
+-- for each of the first so many names the numbers of those on which its source builds
+pub record AreFirstEdges (a : Contents) (names : List (Bor (List ℕ))) (count : ℕ)
     (graph : List (Vec ℕ)) : Type 0 where
-  pub all : length graph ≡ length names
-  pub edges : (s t : ℕ) → s < length names → has t (bases_of (lists graph) s)
+  pub all : length graph ≡ count
+  pub edges : (s t : ℕ) → s < count → has t (bases_of (lists graph) s)
       ≡ (nat_lt t (length names) && builds_on a (name_at names s) (name_at names t))
+
+-- the same for each name
+abbrev pub AreEdges : Contents → List (Bor (List ℕ)) → List (Vec ℕ) → Type 0
+AreEdges a names graph = AreFirstEdges a names (length names) graph

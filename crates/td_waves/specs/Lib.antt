@@ -10,3 +10,4 @@ pub mod Edges
 pub mod Waves
 pub mod WavesView
 pub mod BuildsOnLaws
+pub mod inner

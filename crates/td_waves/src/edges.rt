@@ -1,12 +1,10 @@
 //! Which affected sources build on which.
-ghost use Rattle.std.specs.Prelude.{◌≡◌, ◌&&◌, ◌<◌, Bool, List, ℕ, IfOk, length, nat_lt};
-ghost use Rattle.std.specs.List.{All, list_any};
-ghost use Rattle.td_waves.specs.declared.providers.Provider.{Provider};
+ghost use Rattle.std.specs.Prelude.{◌≡◌, ◌&&◌, ◌<◌, ◌≤◌, ℕ, IfOk, length, nat_lt};
+ghost use Rattle.std.specs.List.{All};
 ghost use Rattle.td_waves.specs.Asking.{has};
 ghost use Rattle.td_waves.specs.BuildsOn.{builds_on};
 ghost use Rattle.td_waves.specs.Edges.{AreEdges, name_at};
-ghost use Rattle.td_waves.specs.Named.{texts};
-ghost use Rattle.td_waves.specs.Providers.{some_below, under};
+ghost use Rattle.td_waves.specs.inner.EdgesBeside.{AreEdgesBetween, AreProviders};
 
 use crate::asking::Asker;
 use crate::providers::Providers;
@@ -23,9 +21,7 @@ fn bases_of<'a>(
     node: usize,
 ) -> Result<Vec<usize>, AllocError>
     requires node { node < length names.now.keys }
-    requires providers { (q : List ℕ) (test : Provider → Bool)
-        → list_any test (under providers.now q)
-        ≡ some_below archive.now (texts names.now.keys) q test (length names.now.keys) }
+    requires providers { AreProviders archive.now names.now.keys providers.now }
     ensures { IfOk result
         (λ bases. (t : ℕ) → has t bases.items ≡ (nat_lt t (length names.now.keys)
         && builds_on archive.now (name_at names.now.keys node) (name_at names.now.keys t))) }
@@ -44,6 +40,29 @@ fn bases_of<'a>(
     asker.bases(alloc)
 }
 
+/// For each of the sources from one with a number up to another, the numbers of those on which it
+/// builds, some of them more than once.
+pub fn edges_between<'a>(
+    alloc: Global,
+    archive: &Archive<'_, 'a>,
+    names: &IndexSet<&str>,
+    providers: &Providers<'a>,
+    from: usize,
+    to: usize,
+) -> Result<Vec<Vec<usize>>, AllocError>
+    requires order { from ≤ to }
+    requires within { to ≤ length names.now.keys }
+    requires providers { AreProviders archive.now names.now.keys providers.now }
+    ensures { IfOk result
+        (λ graph. AreEdgesBetween archive.now names.now.keys from to graph.items) }
+{
+    let mut graph = Vec::with_capacity(alloc, to - from)?;
+    for node in from..to {
+        graph.push(bases_of(alloc, archive, names, providers, node)?)?;
+    }
+    Ok(graph)
+}
+
 /// For each of these sources, the numbers of those among them on which it builds, some of them more
 /// than once.
 pub fn edges(
@@ -56,9 +75,5 @@ pub fn edges(
         (λ graph. All (λ bases. All (λ b. b < length graph.items) bases.items) graph.items) }
 {
     let providers = Providers::of(alloc, archive, names)?;
-    let mut graph = Vec::with_capacity(alloc, names.len())?;
-    for node in 0..names.len() {
-        graph.push(bases_of(alloc, archive, names, &providers, node)?)?;
-    }
-    Ok(graph)
+    edges_between(alloc, archive, names, &providers, 0, names.len())
 }

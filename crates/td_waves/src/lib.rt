@@ -2,7 +2,8 @@
 //! give.
 //!
 //! Start at `Waves::of`. Which source builds on which is said by `specs/BuildsOn.antt`, where a
-//! source stands then by `specs/Levels.antt`, which knows no order of work.
+//! source stands then by `specs/Levels.antt`, which knows no order of work. `Waves::of_beside`
+//! gives the same levels, with the help of several threads.
 //! Promised: each affected source has the level at which it stands, or is cyclic. It takes a
 //! look-up for each alternative of an affected source's build, and a step for each source and edge;
 //! that no clause says.
@@ -10,6 +11,7 @@
 
 mod asking;
 mod edges;
+mod edges_beside;
 mod fitting;
 mod graph;
 mod laws;

@@ -1,10 +1,12 @@
 //! The levels of affected sources, by their names.
 use crate::edges::edges;
+use crate::edges_beside::edges_beside;
 use crate::level::Level;
 use crate::named::each_once;
 use crate::placing::{Levelling, levels};
 use indexmap::IndexSet;
 use std::alloc::{AllocError, Global};
+use std::thread::Threads;
 use td_indices::Archive;
 
 /// The levels of affected sources.
@@ -33,6 +35,24 @@ impl<'n> Waves<'n> {
     {
         let names = each_once(alloc, affected)?;
         let graph = edges(alloc, archive, &names)?;
+        let levels = levels(alloc, &graph)?;
+        Ok(Waves { names, levels })
+    }
+
+    /// The same levels. Which sources build on which is found in several threads, where there are
+    /// many.
+    pub fn of_beside(
+        rt: &(impl Threads + Sync),
+        alloc: Global,
+        archive: &Archive<'_, '_>,
+        affected: &[&'n str],
+    ) -> Result<Waves<'n>, AllocError>
+        ensures levels { IfOk result (λ waves. (source : List ℕ) → StandsAt
+            (IsAffected affected.now) (BuildsOn archive.now) source (level_of waves source)) }
+        ensures depth { IfOk result (λ waves. IsDepth (level_of waves) (depth_of waves)) }
+    {
+        let names = each_once(alloc, affected)?;
+        let graph = edges_beside(rt, alloc, archive, &names)?;
         let levels = levels(alloc, &graph)?;
         Ok(Waves { names, levels })
     }
