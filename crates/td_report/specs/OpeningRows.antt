@@ -1,18 +1,13 @@
 -- The rows that stand for all with which a desk opens. This project's own.
-use Rattle.std.specs.Prelude.{◌≡◌, ℕ, Bool, true, List, Option, is_some}
+use Rattle.std.specs.Prelude.{◌≡◌, ℕ, true, List, Option}
 use Rattle.td_rows.specs.declared.key.Key.{Key}
 use Rattle.td_rows.specs.Keys.{ascending}
 use Rattle.td_rows.specs.Table.{Table, keys_of, row_of}
 use Rattle.td_indices.specs.Opening.{opening_row}
-use Rattle.td_indices.specs.Sources.{KeptSource}
 use Rattle.td_waves.specs.declared.level.Level.{Level}
 use Rattle.td_report.specs.Transition.{affected_rows}
-use Rattle.td_report.specs.TransitionView.{contents_of, level_of, tracking_of}
+use Rattle.td_report.specs.TransitionView.{contents_of, tracking_of}
 use Rattle.td_report.specs.declared.transition.Transition.{Transition}
-
--- whether a source has a level
-abbrev pub has_level : Transition → KeptSource → Bool
-has_level x s = is_some (level_of x s.head.name)
 
 -- of these rows just those are affected that are of all opening rows, wherever their sources stand
 pub record StandForAll (x : Transition) (rows : Table) : Type 0 where

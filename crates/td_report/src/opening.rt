@@ -1,47 +1,82 @@
-//! The rows that a report of all opening rows needs: those of the affected sources.
+//! A transition with the rows that a report of all opening rows needs: those of the affected
+//! sources.
+ghost use Rattle.std.specs.Prelude.{List, ℕ, IfOk};
+ghost use denote.Param.Send.{IsSync};
+ghost use Rattle.td_indices.specs.Choosing.{AreOpenedOf, flagged};
+ghost use Rattle.td_waves.specs.Levels.{IsDepth, StandsAt};
+ghost use Rattle.td_waves.specs.Waves.{BuildsOn, IsAffected};
+ghost use Rattle.td_waves.specs.WavesView.{depth_of, level_of};
 
 use crate::transition::Transition;
 use std::alloc::{AllocError, Global};
+use std::thread;
+use std::thread::Threads;
+use td_indices::Archive;
+use td_query::{Marks, Tracker};
 use td_rows::Rows;
+use td_waves::Waves;
+
+// The rows with which the sources open whose flag is set, in a thread, beside the levels of those
+// with these names.
+fn rows_and_waves<'a, R: Threads + Sync>(
+    rt: &R,
+    alloc: Global,
+    archive: &Archive<'_, 'a>,
+    flags: &[bool],
+    names: &[&'a str],
+) -> (Result<Rows, AllocError>, Result<Waves<'a>, AllocError>)
+    ensures rows { IfOk result.0
+        (AreOpenedOf archive.now (flagged flags.now archive.now.sources)) }
+    ensures levels { IfOk result.1 (λ waves. (source : List ℕ) → StandsAt
+        (IsAffected names.now) (BuildsOn archive.now) source (level_of waves source)) }
+    ensures depth { IfOk result.1 (λ waves. IsDepth (level_of waves) (depth_of waves)) }
+{
+    let of_rows = move || -> Result<Rows, AllocError>
+        ensures { IfOk result (AreOpenedOf archive.entry.now
+            (flagged flags.entry.now archive.entry.now.sources)) }
+    { archive.opening_rows_of(flags) };
+    let of_waves = move || -> Result<Waves, AllocError>
+        requires { IsSync R.row }
+        ensures levels { IfOk result (λ waves. (source : List ℕ) → StandsAt
+            (IsAffected names.entry.now) (BuildsOn archive.entry.now) source
+            (level_of waves source)) }
+        ensures depth { IfOk result (λ waves. IsDepth (level_of waves) (depth_of waves)) }
+    { Waves::of_beside(rt, alloc, archive, names) };
+    thread::join(rt, of_rows, of_waves)
+}
 
 impl<'b, 't, 'a, 'q> Transition<'b, 't, 'a, 'q> {
-    ghost use Rattle.std.specs.Prelude.{◌≡◌, ◌<◌, IfOk, Some, is_some, length, map, option_map};
-    ghost use Rattle.std.specs.Prelude.{slice_get};
-    ghost use Rattle.td_report.specs.OpeningRows.{StandForAll, has_level as has_level_of};
-    ghost use Rattle.td_report.specs.TransitionView.{IsMade, contents_of};
+    ghost use Rattle.std.specs.Prelude.{◌≡◌, IfOk};
+    ghost use Rattle.td_query.specs.Marks.{AreMarks};
+    ghost use Rattle.td_query.specs.Tracking.{tracking};
+    ghost use Rattle.td_report.specs.OpeningRows.{StandForAll};
+    ghost use Rattle.td_report.specs.TransitionView as of;
 
-    // Whether the source with a number has a level, as each affected one has.
-    fn has_level(&self, number: usize) -> bool
-        requires { number < length (contents_of self.now).sources }
-        ensures { option_map (has_level_of self.now)
-            (slice_get (contents_of self.now).sources number) ≡ Some result }
+    /// A tracker's transition over an archive whose marks were made before, and the rows with which
+    /// the affected sources open. What is told of these is told of all with which a desk opens over
+    /// the archive, since no other is affected.
+    pub fn with_opening_rows(
+        rt: &(impl Threads + Sync),
+        alloc: Global,
+        archive: &'b Archive<'t, 'a>,
+        tracker: &'b Tracker<'q>,
+        marks: Marks,
+    ) -> Result<(Transition<'b, 't, 'a, 'q>, Rows), AllocError>
+        requires { AreMarks archive.now (tracking tracker.now) marks }
+        ensures made { IfOk result (λ p. of.IsMade p.0) }
+        ensures archive { IfOk result (λ p. of.contents_of p.0 ≡ archive.now) }
+        ensures tracking { IfOk result (λ p. of.tracking_of p.0 ≡ tracking tracker.now) }
+        ensures rows { IfOk result (λ p. StandForAll p.0 p.1) }
     {
-        match self.archive.source_at(number) {
-            Some(source) => self.level(source.name).is_some(),
-            None => false,
-        }
-    }
-
-    // The same of each source, by their numbers.
-    fn levels_there(&self, alloc: Global) -> Result<Vec<bool>, AllocError>
-        ensures { IfOk result
-            (λ flags. flags.items ≡ map (has_level_of self.now) (contents_of self.now).sources) }
-    {
-        let count = self.archive.source_count();
-        let mut flags = Vec::with_capacity(alloc, count)?;
-        for number in 0..count {
-            flags.push(self.has_level(number))?;
-        }
-        Ok(flags)
-    }
-
-    /// The rows with which the affected sources open. What is told of them is told of all with
-    /// which a desk opens over the archive, since no other is affected.
-    pub fn opening_rows(&self, alloc: Global) -> Result<Rows, AllocError>
-        requires { IsMade self.now }
-        ensures { IfOk result (StandForAll self.now) }
-    {
-        let flags = self.levels_there(alloc)?;
-        self.archive.opening_rows_of(&flags)
+        let flags = marks.affected_flags(alloc, archive)?;
+        let names = archive.names_of(alloc, &flags)?;
+        let (rows, waves) = rows_and_waves(rt, alloc, archive, &flags, &names);
+        let transition = Transition {
+            archive,
+            tracker,
+            marks,
+            waves: waves?,
+        };
+        Ok((transition, rows?))
     }
 }

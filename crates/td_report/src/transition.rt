@@ -13,13 +13,14 @@ use td_rows::{Key, Row, Rows};
 use td_waves::{Level, Waves};
 
 /// What a tracker makes of an archive: which rows are affected, and in which levels their sources
-/// can be rebuilt. The only ways to one are `of` and `with_marks`.
+/// can be rebuilt. The only ways to one are `of`, `with_marks`, `with_marks_beside` and
+/// `with_opening_rows`.
 #[derive(Drop)]
 pub struct Transition<'b, 't, 'a, 'q> {
     pub(crate) archive: &'b Archive<'t, 'a>,
-    tracker: &'b Tracker<'q>,
-    marks: Marks,
-    waves: Waves<'a>,
+    pub(crate) tracker: &'b Tracker<'q>,
+    pub(crate) marks: Marks,
+    pub(crate) waves: Waves<'a>,
 }
 
 impl<'b, 't, 'a, 'q> Transition<'b, 't, 'a, 'q> {
@@ -62,6 +63,29 @@ impl<'b, 't, 'a, 'q> Transition<'b, 't, 'a, 'q> {
     {
         let names = marks.affected_sources(alloc, archive)?;
         let waves = Waves::of(alloc, archive, &names)?;
+        Ok(Transition {
+            archive,
+            tracker,
+            marks,
+            waves,
+        })
+    }
+
+    /// The same, in several threads where many sources are affected.
+    pub fn with_marks_beside(
+        rt: &(impl Threads + Sync),
+        alloc: Global,
+        archive: &'b Archive<'t, 'a>,
+        tracker: &'b Tracker<'q>,
+        marks: Marks,
+    ) -> Result<Transition<'b, 't, 'a, 'q>, AllocError>
+        requires { AreMarks archive.now (tracking tracker.now) marks }
+        ensures made { IfOk result of.IsMade }
+        ensures archive { IfOk result (λ x. of.contents_of x ≡ archive.now) }
+        ensures tracking { IfOk result (λ x. of.tracking_of x ≡ tracking tracker.now) }
+    {
+        let names = marks.affected_sources(alloc, archive)?;
+        let waves = Waves::of_beside(rt, alloc, archive, &names)?;
         Ok(Transition {
             archive,
             tracker,

@@ -199,7 +199,7 @@ fn marks_say(
     ensures { IfOk result (λ text.
         saying_of asked archive.now (tracking tracker.now) rows.now (string_bytes text)) }
 {
-    let transition = Transition::with_marks(alloc, archive, tracker, marks)?;
+    let transition = Transition::with_marks_beside(rt, alloc, archive, tracker, marks)?;
     told(rt, alloc, &transition, rows, asked)
 }
 
@@ -246,8 +246,7 @@ fn opening_says(
         (string_bytes said)) }
 {
     let marks = Marks::make_beside(rt, alloc, archive, tracker, text)?;
-    let transition = Transition::with_marks(alloc, archive, tracker, marks)?;
-    let rows = transition.opening_rows(alloc)?;
+    let (transition, rows) = Transition::with_opening_rows(rt, alloc, archive, tracker, marks)?;
     told(rt, alloc, &transition, &rows, asked)
 }
 

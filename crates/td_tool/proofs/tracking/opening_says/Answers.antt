@@ -6,6 +6,6 @@ use Rattle.td_tool.proofs.tracking.opening_says.Goals as goal
 pub returns : goal.returns
 returns g c =
     opening_is_said c.args.asked c.in_ok-transition.transition c.args.archive.now
-    (tracking c.args.tracker.now) c.in_ok-rows.rows c.told.result
-    c.in_ok-transition.ensures.archive c.in_ok-transition.ensures.tracking c.in_ok-rows.ensures
-    c.told.ensures
+    (tracking c.args.tracker.now) c.in_ok-transition.rows c.told.result
+    c.in_ok-transition.ensures.archive c.in_ok-transition.ensures.tracking
+    c.in_ok-transition.ensures.rows c.told.ensures
