@@ -19,9 +19,12 @@ use Rattle.td_script.specs.declared.input_fault.InputFault.TheVariants as form
 use Rattle.td_tool.specs.Ending.{ending_of_form}
 use Rattle.td_tool.specs.Limits.{file_limit}
 use Rattle.td_script.specs.declared.role.Role.{Role}
+use Rattle.td_tool.specs.declared.early_texts.EarlyTexts.{EarlyTexts}
 use Rattle.td_tool.specs.declared.file_texts.FileFault.{FileFault}
+use Rattle.td_tool.specs.Checks.{AreTexts, Files}
 use Rattle.td_tool.specs.declared.track_files.TrackPaths.{TrackPaths}
 use Rattle.td_tool.specs.declared.track_files.TrackTexts.{TrackTexts}
+use Rattle.td_tool.specs.declared.track_files.TrackerTexts.{TrackerTexts}
 use Rattle.td_tool.specs.declared.tracking.Asked.{Asked}
 use Rattle.td_tool.specs.declared.tracking.Asked.TheVariants.{Report, Waves}
 use Rattle.td_tool.specs.declared.ending.Ending.{Ending}
@@ -43,15 +46,24 @@ files_at bytes can_fail p =
     (string_bytes p.files.now.sources) (option_map string_bytes p.state.now)
     (string_bytes p.tracker.now)
 
+-- those of an archive, and those that were read to be looked at over it
+abbrev pub texts_over : List ℕ → List ℕ → List ℕ → TrackerTexts → Texts
+texts_over archs packages sources over = record {
+  archs = archs;
+  packages = packages;
+  sources = sources;
+  state = option_map string_bytes over.state;
+  tracker = string_bytes over.tracker;
+}
+
 -- the texts that were read
 abbrev pub texts_of : TrackTexts → Texts
-texts_of x = record {
-  archs = string_bytes x.indices.archs;
-  packages = string_bytes x.indices.packages;
-  sources = string_bytes x.indices.sources;
-  state = option_map string_bytes x.state;
-  tracker = string_bytes x.tracker;
-}
+texts_of x =
+    texts_over (string_bytes x.indices.archs) x.indices.packages x.indices.sources x.over
+
+-- the files of an archive hold the texts that were read
+abbrev pub AreEarlyTextsIn : Files → EarlyTexts → Type 0
+AreEarlyTextsIn files t = AreTexts files (string_bytes t.archs) t.packages t.sources
 
 -- the files hold the texts that were read
 abbrev pub AreTextsRead : TrackFiles → TrackTexts → Type 0

@@ -15,6 +15,7 @@
 mod answering;
 mod cause;
 mod checking;
+mod early_texts;
 mod ending;
 mod explaining;
 mod file_texts;

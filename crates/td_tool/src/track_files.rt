@@ -3,7 +3,8 @@ ghost use Rattle.std.specs.Prelude.{IfOk, IfErr, option_map, string_bytes};
 ghost use Rattle.td_tool.specs.Tracks.{IsTextIfGiven, file_at};
 ghost use Rattle.td_tool.specs.TrackInside.{AreTextsRead, HasFailedAt, HasFailedIfGiven, files_at};
 
-use crate::file_texts::{FileFault, FileTexts, read_files, read_one};
+use crate::early_texts::{EarlyTexts, read_early};
+use crate::file_texts::{FileFault, read_one};
 use crate::texts::Texts;
 use std::alloc::Global;
 use std::thread::Threads;
@@ -19,12 +20,18 @@ pub struct TrackPaths<'w> {
     pub tracker: &'w String,
 }
 
+/// What is looked at over an archive: rows, where there are some, and a tracker.
+#[derive(Drop)]
+pub struct TrackerTexts {
+    pub state: Option<String>,
+    pub tracker: String,
+}
+
 /// What they hold.
 #[derive(Drop)]
 pub struct TrackTexts {
-    pub indices: FileTexts,
-    pub state: Option<String>,
-    pub tracker: String,
+    pub indices: EarlyTexts,
+    pub over: TrackerTexts,
 }
 
 /// Reads the file of a role, where one is given.
@@ -51,7 +58,7 @@ pub fn read_given<T: Texts>(
     }
 }
 
-/// Reads all of them, before anything is looked at.
+/// Reads all of them, before any fault of what they say is told.
 pub fn read_track_files<T: Texts + Sync>(
     rt: &(impl Threads + Sync),
     alloc: Global,
@@ -63,12 +70,11 @@ pub fn read_track_files<T: Texts + Sync>(
     ensures failed { IfErr result (HasFailedAt
         (files_at (T.bytes texts.now) (T.can_fail texts.now) paths.now)) }
 {
-    let indices = read_files(rt, alloc, texts, paths.files)?;
+    let indices = read_early(rt, alloc, texts, paths.files)?;
     let state = read_given(alloc, texts, Role::State, paths.state)?;
     let tracker = read_one(alloc, texts, Role::Tracker, paths.tracker)?;
     Ok(TrackTexts {
         indices,
-        state,
-        tracker,
+        over: TrackerTexts { state, tracker },
     })
 }

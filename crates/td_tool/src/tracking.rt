@@ -1,5 +1,6 @@
 //! The two subcommands that read a tracker: `track` and `waves`.
-ghost use Rattle.std.specs.Prelude.{◌≡◌, ◌⊎◌, None, Ok, Err, IfOk, IfErr, option_map, string_bytes};
+ghost use Rattle.std.specs.Prelude.{◌≡◌, ◌⊎◌, ℕ, List, None, Ok, Err, IfOk, IfErr, option_map};
+ghost use Rattle.std.specs.Prelude.{string_bytes};
 ghost use Rattle.std.specs.Result.{ForOk};
 ghost use Rattle.td_relation.specs.TableView.{table};
 ghost use Rattle.td_core.specs.Phases.{NoneBuilt};
@@ -15,18 +16,19 @@ ghost use Rattle.td_tool.specs.Ending.{ending_of_stop as ending_of_stopped};
 ghost use Rattle.td_tool.specs.Tracks.{EndsSo, IsEndedBy};
 ghost use Rattle.td_tool.specs.TrackInside.{EndsWithoutRows, IsTableWithin, OrMemory, RowsAreSaid};
 ghost use Rattle.td_tool.specs.TrackInside.{Tells, TellsNone, TellsOver, TellsTexts, TellsTracker};
-ghost use Rattle.td_tool.specs.TrackInside.{TellsWith, files_at, saying_of, texts_of};
+ghost use Rattle.td_tool.specs.TrackInside.{TellsWith, files_at, saying_of, texts_of, texts_over};
 
 use crate::checking::write;
+use crate::early_texts::EarlyTexts;
 use crate::ending::{Ending, ending_of_file, ending_of_form, ending_of_stop};
 use crate::file_texts::FileFault;
 use crate::texts::Texts;
-use crate::track_files::{TrackPaths, TrackTexts, read_track_files};
+use crate::track_files::{TrackPaths, TrackTexts, TrackerTexts, read_track_files};
 use std::alloc::{AllocError, Global};
 use std::io::Write;
 use std::thread::Threads;
 use std::{mem, thread};
-use td_indices::{Archive, ArchiveFault};
+use td_indices::{Archive, ArchiveFault, EarlyPackages, EarlySources};
 use td_query::{Marks, Tracker, TrackerFault};
 use td_relation::{Archs, ArchsFault};
 use td_report::Transition;
@@ -298,19 +300,20 @@ fn tracker_text(
     }
 }
 
-// The same, over an archive.
+// The same, over an archive, of whatever texts it is.
 fn archive_text(
     rt: &(impl Threads + Sync),
     alloc: Global,
     archive: &Archive<'_, '_>,
-    texts: &TrackTexts,
+    over: &TrackerTexts,
     asked: Asked,
 ) -> Result<String, Ending>
-    ensures { TellsOver (saying_of asked) archive.now (texts_of texts.now) result }
+    ensures { (archs packages sources : List ℕ) → TellsOver (saying_of asked) archive.now
+        (texts_over archs packages sources over.now) result }
 {
-    let text = texts.tracker.as_str();
+    let text = over.tracker.as_str();
     let tracker = Tracker::read(alloc, text);
-    tracker_text(rt, alloc, archive, &texts.state, tracker, text, asked)
+    tracker_text(rt, alloc, archive, &over.state, tracker, text, asked)
 }
 
 // The same, by what two indices were read as.
@@ -318,17 +321,17 @@ fn indices_text(
     rt: &(impl Threads + Sync),
     alloc: Global,
     archive: Result<Archive<'_, '_>, ArchiveFault>,
-    texts: &TrackTexts,
+    over: &TrackerTexts,
     asked: Asked,
 ) -> Result<String, Ending>
-    ensures said { IfOk archive.entry (λ a.
-        TellsOver (saying_of asked) a (texts_of texts.now) result) }
+    ensures said { IfOk archive.entry (λ a. (archs packages sources : List ℕ)
+        → TellsOver (saying_of asked) a (texts_over archs packages sources over.now) result) }
     ensures refused { IfErr archive.entry (λ fault.
         result ≡ Err (ending_of (FormFault.Archive fault))) }
 {
     match archive {
         Ok(archive) => {
-            let text = archive_text(rt, alloc, &archive, texts, asked);
+            let text = archive_text(rt, alloc, &archive, over, asked);
             // (the program ends with this: to free each list by itself would only take time)
             mem::forget(archive);
             text
@@ -342,20 +345,21 @@ fn table_text<'a>(
     rt: &(impl Threads + Sync),
     alloc: Global,
     archs: Result<Archs<'a>, ArchsFault>,
-    texts: &'a TrackTexts,
+    packages: EarlyPackages<'a>,
+    sources: EarlySources<'a>,
+    over: &TrackerTexts,
     asked: Asked,
 ) -> Result<String, Ending>
-    ensures said { IfOk archs.entry (λ archs.
-        TellsWith (saying_of asked) (table archs) (texts_of texts.now) result) }
+    ensures said { IfOk archs.entry (λ table_read. (archs : List ℕ)
+        → TellsWith (saying_of asked) (table table_read)
+        (texts_over archs packages.entry sources.entry over.now) result) }
     ensures refused { IfErr archs.entry (λ fault.
         result ≡ Err (ending_of (FormFault.Table fault))) }
 {
     match archs {
         Ok(archs) => {
-            let packages = texts.indices.packages.as_str();
-            let sources = texts.indices.sources.as_str();
-            let archive = Archive::read_beside(rt, alloc, packages, sources, &archs);
-            indices_text(rt, alloc, archive, texts, asked)
+            let archive = Archive::of_early(rt, alloc, packages, sources, &archs);
+            indices_text(rt, alloc, archive, over, asked)
         }
         Err(fault) => Err(ending_of_form(FormFault::Table(fault))),
     }
@@ -365,14 +369,20 @@ fn table_text<'a>(
 fn whole_text(
     rt: &(impl Threads + Sync),
     alloc: Global,
-    texts: &TrackTexts,
+    texts: TrackTexts,
     asked: Asked,
 ) -> Result<String, Ending>
-    requires { IsTableWithin texts.now }
-    ensures { Tells (saying_of asked) (texts_of texts.now) result }
+    requires { IsTableWithin texts }
+    ensures { Tells (saying_of asked) (texts_of texts) result }
 {
-    let archs = Archs::read(alloc, texts.indices.archs.as_str());
-    table_text(rt, alloc, archs, texts, asked)
+    let TrackTexts { indices, over } = texts;
+    let EarlyTexts {
+        archs,
+        packages,
+        sources,
+    } = indices;
+    let read = Archs::read(alloc, archs.as_str());
+    table_text(rt, alloc, read, packages, sources, &over, asked)
 }
 
 // How a run ends by what was read of the files.
@@ -393,7 +403,7 @@ fn tell<W: Write>(
         Ok(read) => read,
         Err(unread) => return ending_of_file(unread.role, unread.fault),
     };
-    write(whole_text(rt, alloc, &read, asked), output)
+    write(whole_text(rt, alloc, read, asked), output)
 }
 
 /// Tells what the tracker with its path says over the archive. All is read before anything is

@@ -1,0 +1,122 @@
+//! The files of an archive, whose indices are looked at while they come.
+ghost use Rattle.std.specs.Prelude.{◌≡◌, IfOk, IfErr, string_bytes};
+ghost use denote.Param.Send.{IsSync};
+ghost use Rattle.td_tool.specs.Checks.{IsTextOf, archive_files_at};
+ghost use Rattle.td_tool.specs.CheckInside.{HasFailedIn};
+ghost use Rattle.td_tool.specs.TrackInside.{AreEarlyTextsIn, HasFailedFor};
+ghost use Rattle.td_tool.specs.Tracks.{file_at};
+ghost use Rattle.td_script.specs.declared.role.Role.TheVariants.{Packages, Sources};
+
+use crate::file_texts::{FileFault, read_one};
+use crate::texts::Texts;
+use std::alloc::Global;
+use std::thread::Threads;
+use std::{str, thread};
+use td_indices::{EarlyPackages, EarlySources};
+use td_script::Role;
+use td_words::ArchivePaths;
+
+/// The texts of the three files, those of the indices with their stanzas.
+#[derive(Drop)]
+pub struct EarlyTexts {
+    pub archs: String,
+    pub packages: EarlyPackages<'static>,
+    pub sources: EarlySources<'static>,
+}
+
+// A text that stays as long as the program: its memory isn't freed. (The program ends with what it
+// says of an archive, and to free the archive's texts before would only take time.)
+fn lasting(text: String) -> &'static str
+    ensures { result.now ≡ string_bytes text }
+{
+    let bytes = text.into_bytes().leak();
+    unsafe { str::from_utf8_unchecked(bytes) }
+}
+
+// Reads the file of Packages, and finds its stanzas.
+fn read_packages<R: Threads + Sync, T: Texts>(
+    rt: &R,
+    alloc: Global,
+    texts: &T,
+    paths: &ArchivePaths,
+) -> Result<EarlyPackages<'static>, FileFault>
+    ensures packages { IfOk result (λ packages.
+        IsTextOf (T.bytes texts.now (string_bytes paths.now.packages)) packages) }
+    ensures no_packages { IfErr result (HasFailedFor
+        (file_at (T.bytes texts.now) (T.can_fail texts.now) (string_bytes paths.now.packages))
+        Packages) }
+{
+    let text = read_one(alloc, texts, Role::Packages, &paths.packages)?;
+    Ok(EarlyPackages::read_beside(rt, alloc, lasting(text)))
+}
+
+// Reads the file of Sources, likewise.
+fn read_sources<R: Threads + Sync, T: Texts>(
+    rt: &R,
+    alloc: Global,
+    texts: &T,
+    paths: &ArchivePaths,
+) -> Result<EarlySources<'static>, FileFault>
+    ensures sources { IfOk result (λ sources.
+        IsTextOf (T.bytes texts.now (string_bytes paths.now.sources)) sources) }
+    ensures no_sources { IfErr result (HasFailedFor
+        (file_at (T.bytes texts.now) (T.can_fail texts.now) (string_bytes paths.now.sources))
+        Sources) }
+{
+    let text = read_one(alloc, texts, Role::Sources, &paths.sources)?;
+    Ok(EarlySources::read_beside(rt, alloc, lasting(text)))
+}
+
+// Reads the two indices side by side: what is shorter, mostly Sources, is looked at while the other
+// still comes.
+fn read_indices<R: Threads + Sync, T: Texts + Sync>(
+    rt: &R,
+    alloc: Global,
+    texts: &T,
+    paths: &ArchivePaths,
+) -> (
+    Result<EarlyPackages<'static>, FileFault>,
+    Result<EarlySources<'static>, FileFault>,
+)
+    ensures packages { IfOk result.0 (λ packages.
+        IsTextOf (T.bytes texts.now (string_bytes paths.now.packages)) packages) }
+    ensures no_packages { IfErr result.0 (HasFailedFor
+        (file_at (T.bytes texts.now) (T.can_fail texts.now) (string_bytes paths.now.packages))
+        Packages) }
+    ensures sources { IfOk result.1 (λ sources.
+        IsTextOf (T.bytes texts.now (string_bytes paths.now.sources)) sources) }
+    ensures no_sources { IfErr result.1 (HasFailedFor
+        (file_at (T.bytes texts.now) (T.can_fail texts.now) (string_bytes paths.now.sources))
+        Sources) }
+{
+    thread::join(
+        rt,
+        || read_packages(rt, alloc, texts, paths),
+        || read_sources(rt, alloc, texts, paths),
+    )
+}
+
+/// Reads all three, before any fault of what they say is told. What can't be read of Packages is
+/// told before what can't be of Sources.
+#[tactic(auto, using(crate::proofs::FirstFiles::archs_fail, crate::proofs::FirstFiles::packages_fail, crate::proofs::FirstFiles::sources_fail))]
+pub fn read_early<R: Threads + Sync, T: Texts + Sync>(
+    rt: &R,
+    alloc: Global,
+    texts: &T,
+    paths: &ArchivePaths,
+) -> Result<EarlyTexts, FileFault>
+    ensures texts { IfOk result (AreEarlyTextsIn
+        (archive_files_at (T.bytes texts.now) (T.can_fail texts.now) paths.now)) }
+    ensures failed { IfErr result (HasFailedIn
+        (archive_files_at (T.bytes texts.now) (T.can_fail texts.now) paths.now)) }
+{
+    let archs = read_one(alloc, texts, Role::Archs, &paths.archs)?;
+    let (packages, sources) = read_indices(rt, alloc, texts, paths);
+    let packages = packages?;
+    let sources = sources?;
+    Ok(EarlyTexts {
+        archs,
+        packages,
+        sources,
+    })
+}
