@@ -25,6 +25,8 @@ mod early;
 mod field;
 mod grouping;
 mod index_reading;
+mod keeping_beside;
+mod known;
 mod laws;
 mod lookups;
 mod offered_names;
