@@ -2,7 +2,7 @@
 use Rattle.std.proofs.Common.{◌≡◌, ℕ, zero, suc, true, false, List, [], ◌∷◌, ◌++◌, Option}
 use Rattle.std.proofs.Common.{Some, None, drop, length, slice_get, refl, sym, ap, ◌∙◌}
 use Rattle.std.proofs.Common.{inl, inr}
-use Rattle.std.specs.Prelude.{option_and_then, option_map}
+use Rattle.std.specs.Prelude.{Bool, if◌then◌else◌, option_and_then, option_map}
 use Rattle.std.specs.Global.{Vec}
 use Rattle.std.specs.Map.{lookup}
 use Rattle.std.proofs.lemmas.Bool.{cases_Bool}
@@ -17,6 +17,33 @@ use Rattle.td_indices.specs.Kept.{same_package, lower_package, put, stays, binar
 use Rattle.td_indices.specs.Kept.{binaries_of}
 use Rattle.td_indices.specs.inner.Placed.{ArePlaced, packaged_in, placed}
 use Rattle.td_indices.proofs.Keeping.{put_enters, put_stays}
+
+-- what a key had is put back
+insert_entry-back : (k : PackageKey) (place earlier : Place) (es : List (PackageKey × Place))
+    → lookup (same_key k) es ≡ Some earlier
+    → insert_entry same_key (insert_entry same_key es k place) k earlier ≡ es
+insert_entry-back k place earlier [] had = absurd (let bad : None ≡ Some earlier = had in cc)
+insert_entry-back k place earlier (e ∷ es) had =
+    elim (cases_Bool (same_key k e.0)) [
+      | inl is ↦
+          let its : e.1 ≡ earlier = some_is e.1 earlier (sym (ap here is) ∙ had) in
+          rw (is, is) (ap (λ (p : Place). (e.0, p) ∷ es) (sym its))
+      | inr other ↦
+          rw (other, other) (ap (λ (l : List (PackageKey × Place)). e ∷ l)
+          (insert_entry-back k place earlier es (sym (ap here other) ∙ had)))
+    ]
+  where
+    here : Bool → Option Place
+    here b = if b then Some e.1 else lookup (same_key k) es
+
+-- the same of the map in between
+pub put_back : (k : PackageKey) (place earlier : Place) (es between behind : List (PackageKey
+    × Place)) → lookup (same_key k) es ≡ Some earlier
+    → between ≡ insert_entry same_key es k place
+    → behind ≡ insert_entry same_key between k earlier → behind ≡ es
+put_back k place earlier es between behind had first second =
+    second ∙ ap (λ (l : List (PackageKey × Place)). insert_entry same_key l k earlier) first
+    ∙ insert_entry-back k place earlier es had
 
 module _ (parts : List (Vec (PackageKey × Packaged))) where
   -- as many as there are places

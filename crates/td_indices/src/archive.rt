@@ -7,6 +7,7 @@ use crate::binaries::Binaries;
 use crate::choosing::is_chosen;
 use crate::early::{EarlyPackages, EarlySources};
 use crate::grouping::{grouped_and_counted, those_on};
+use crate::groups::Groups;
 use crate::index_reading::{read_packages_index, read_sources_index};
 use crate::opening::{greatest_number, opening, opening_on};
 use crate::packaged::Binary;
@@ -21,7 +22,7 @@ use std::marker::Model;
 use std::thread::Threads;
 use td_relation::Archs;
 use td_rows::{Key, Row, Rows};
-use td_supply::{Numbers, Supply};
+use td_supply::Supply;
 
 /// The binary packages and the sources that count, with the stanzas that they stand in. Contracts
 /// see them as `Contents`.
@@ -33,7 +34,7 @@ pub struct Archive<'t, 'a> {
     pub(crate) binaries: Binaries<'a>,
     pub(crate) sources: IndexMap<&'a str, Sourced<'a>>,
     // The numbers of each source's binary packages, by its name.
-    pub(crate) groups: Numbers<'a>,
+    pub(crate) groups: Groups<'a>,
     // How many rows the sources have.
     pub(crate) rows: usize,
     pub(crate) alloc: Global,
@@ -47,8 +48,8 @@ impl<'t, 'a> Model for Archive<'t, 'a> {
     ghost use Rattle.td_indices.specs.Reading.{binaries_at, sources_at};
     ghost use Rattle.td_indices.specs.Rows.{row_count};
     ghost use Rattle.td_indices.specs.Sources.{sources_of};
+    ghost use Rattle.td_indices.specs.inner.Groups.{grouped_under};
     ghost use Rattle.td_rows.specs.Limits.{max_rows};
-    ghost use Rattle.td_supply.specs.Numbers.{numbers_of};
 
     ghost Value = { Contents };
 
@@ -62,7 +63,7 @@ impl<'t, 'a> Model for Archive<'t, 'a> {
 
     ghost invariant = { λ a.
         ((q : List ℕ)
-        → numbers_of a.groups q ≡ places_from (is_of q) 0 (binaries_of a.binaries))
+        → grouped_under a.groups q ≡ places_from (is_of q) 0 (binaries_of a.binaries))
         × (a.rows ≡ row_count (table a.archs.now) (sources_of a.sources.entries))
         × (a.rows ≤ max_rows)
         × (sources_at a.source_stanzas ≡ Ok (sources_of a.sources.entries))

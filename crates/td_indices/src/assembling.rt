@@ -9,16 +9,16 @@ ghost use Rattle.td_indices.specs.inner.IndexReading.{AreSources, AreSourcesRead
 use crate::archive::Archive;
 use crate::archive_fault::ArchiveFault;
 use crate::binaries::Binaries;
+use crate::grouping_beside::grouped_and_counted_beside;
+use crate::groups::Groups;
 use crate::index_reading::{PackagesIndex, SourcesIndex};
 use crate::pairing::paired;
-use crate::side_by_side::grouped_and_counted_beside;
 use crate::sourced::Sourced;
 use crate::stanza_pieces::StanzaPieces;
 use indexmap::IndexMap;
 use std::alloc::Global;
 use std::thread::Threads;
 use td_relation::Archs;
-use td_supply::Numbers;
 
 /// The stanzas of both files, and what they keep.
 #[derive(Drop)]
@@ -75,12 +75,12 @@ impl<'t, 'a> Archive<'t, 'a> {
     ghost use Rattle.td_rows.specs.Limits.{max_rows};
     ghost use Rattle.td_stanza.specs.StanzaGrammar.{AreStanzas};
     ghost use Rattle.td_relation.specs.TableView.{table};
-    ghost use Rattle.td_supply.specs.Numbers.{numbers_of};
     ghost use Rattle.td_indices.specs.Archive.{FaultOf, IsArchive, IsRead, is_of, places_from};
     ghost use Rattle.td_indices.specs.Kept.{binaries_of};
     ghost use Rattle.td_indices.specs.Reading.{binaries_at, sources_at};
     ghost use Rattle.td_indices.specs.Rows.{row_count};
     ghost use Rattle.td_indices.specs.Sources.{sources_of};
+    ghost use Rattle.td_indices.specs.inner.Groups.{grouped_under};
 
     // The archive of stanzas that all were kept, with the numbers of the packages and how many rows
     // there are, if they could be counted.
@@ -88,13 +88,13 @@ impl<'t, 'a> Archive<'t, 'a> {
         alloc: Global,
         archs: &'t Archs<'a>,
         kept: KeptIndices<'a>,
-        counted: Result<(Numbers<'a>, usize), ArchiveFault>,
+        counted: Result<(Groups<'a>, usize), ArchiveFault>,
     ) -> Result<Archive<'t, 'a>, ArchiveFault>
         requires binaries { binaries_at (table archs.now) kept.packages
             ≡ Ok (binaries_of kept.binaries) }
         requires sources { sources_at kept.source_stanzas ≡ Ok (sources_of kept.sources.entries) }
         requires groups { IfOk counted (λ p. (q : List ℕ)
-            → numbers_of p.0 q ≡ places_from (is_of q) 0 (binaries_of kept.binaries)) }
+            → grouped_under p.0 q ≡ places_from (is_of q) 0 (binaries_of kept.binaries)) }
         requires rows { IfOk counted (λ p.
             p.1 ≡ row_count (table archs.now) (sources_of kept.sources.entries)) }
         requires limited { IfOk counted (λ p. p.1 ≤ max_rows) }

@@ -6,15 +6,16 @@ ghost use Rattle.std.specs.Prelude.{false};
 ghost use Rattle.td_relation.specs.Meeting.{is_on as is_on_of};
 ghost use Rattle.td_indices.specs.Archive.{is_of, is_of_on, places_from};
 ghost use Rattle.td_indices.specs.Kept.{binaries_of};
+ghost use Rattle.td_indices.specs.inner.Groups.{AreOfQuarter, grouped_under};
 ghost use Rattle.td_indices.specs.Rows.{row_count};
 ghost use Rattle.td_indices.specs.Sources.{sources_of};
 ghost use Rattle.td_indices.specs.declared.archive_fault.ArchiveFault.{ArchiveFault};
 ghost use Rattle.td_relation.specs.TableView.{table};
 ghost use Rattle.td_rows.specs.Limits.{max_rows};
-ghost use Rattle.td_supply.specs.Numbers.{numbers_of};
 
 use crate::archive_fault::ArchiveFault;
 use crate::binaries::Binaries;
+use crate::groups::{Groups, Quarter, push_in_quarter};
 use crate::packaged::is_on;
 use crate::rows::count_rows;
 use crate::sourced::Sourced;
@@ -23,19 +24,35 @@ use std::alloc::{AllocError, Global};
 use td_relation::Archs;
 use td_supply::Numbers;
 
-/// The numbers of the binary packages, by their sources.
-pub fn group_binaries<'a>(alloc: Global, binaries: &Binaries<'a>) -> Result<Numbers<'a>, AllocError>
-    ensures { IfOk result (λ groups.
-        (q : List ℕ)
-        → numbers_of groups q ≡ places_from (is_of q) 0 (binaries_of binaries.now)) }
+/// The numbers of the binary packages of those sources whose names are of a quarter.
+pub fn group_quarter<'a>(
+    alloc: Global,
+    binaries: &Binaries<'a>,
+    quarter: Quarter,
+) -> Result<Numbers<'a>, AllocError>
+    ensures { IfOk result (AreOfQuarter quarter (binaries_of binaries.now)) }
 {
-    let mut groups = Numbers::new(alloc);
+    let mut numbers = Numbers::new(alloc);
     for number in 0..binaries.len() {
         if let Some((_, packaged)) = binaries.get_index(number) {
-            groups.push(packaged.source, number)?;
+            push_in_quarter(&mut numbers, quarter, packaged.source, number)?;
         }
     }
-    Ok(groups)
+    Ok(numbers)
+}
+
+/// The numbers of the binary packages, by their sources.
+pub fn group_binaries<'a>(alloc: Global, binaries: &Binaries<'a>) -> Result<Groups<'a>, AllocError>
+    ensures { IfOk result (λ groups.
+        (q : List ℕ)
+        → grouped_under groups q ≡ places_from (is_of q) 0 (binaries_of binaries.now)) }
+{
+    Ok(Groups {
+        first: group_quarter(alloc, binaries, Quarter::First)?,
+        second: group_quarter(alloc, binaries, Quarter::Second)?,
+        third: group_quarter(alloc, binaries, Quarter::Third)?,
+        fourth: group_quarter(alloc, binaries, Quarter::Fourth)?,
+    })
 }
 
 /// The numbers of the binary packages by their sources, and how many rows the sources have.
@@ -44,9 +61,9 @@ pub fn grouped_and_counted<'a>(
     archs: &Archs<'_>,
     binaries: &Binaries<'a>,
     sources: &IndexMap<&str, Sourced<'_>>,
-) -> Result<(Numbers<'a>, usize), ArchiveFault>
+) -> Result<(Groups<'a>, usize), ArchiveFault>
     ensures groups { IfOk result (λ p. (q : List ℕ)
-        → numbers_of p.0 q ≡ places_from (is_of q) 0 (binaries_of binaries.now)) }
+        → grouped_under p.0 q ≡ places_from (is_of q) 0 (binaries_of binaries.now)) }
     ensures rows { IfOk result (λ p.
         p.1 ≡ row_count (table archs.now) (sources_of sources.now.entries)) }
     ensures limited { IfOk result (λ p. p.1 ≤ max_rows) }

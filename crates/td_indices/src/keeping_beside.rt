@@ -18,6 +18,11 @@ use std::alloc::Global;
 use std::thread::Threads;
 use td_relation::Archs;
 
+/// How often the stanzas behind the first are halved, at most: Rust's libraries, which stand side by
+/// side, have relations that are several times as long as those of others, so that of eight parts
+/// the one with them took longer than the rest.
+const REST_HALVINGS: usize = HALVINGS + 1;
+
 // What the stanzas before a number keep. There is room for what all keep.
 fn kept_before<'a, R: Threads + Sync>(
     rt: &R,
@@ -67,7 +72,16 @@ pub fn kept_beside<'a, R: Threads + Sync>(
         before,
         kept: &kept,
     };
-    let rest = match read_parts(rt, alloc, archs, stanzas, known, before, count, HALVINGS) {
+    let rest = match read_parts(
+        rt,
+        alloc,
+        archs,
+        stanzas,
+        known,
+        before,
+        count,
+        REST_HALVINGS,
+    ) {
         Ok(rest) => rest,
         Err(fault) => return Err(fault),
     };

@@ -24,6 +24,8 @@ mod cutting;
 mod early;
 mod field;
 mod grouping;
+mod grouping_beside;
+mod groups;
 mod index_reading;
 mod keeping_beside;
 mod known;

@@ -8,16 +8,13 @@ ghost use Rattle.std.specs.Prelude.{
   OnOk,
   drop,
   length,
-  option_and_then,
   option_copied,
   option_map,
   slice_get,
 };
-ghost use Rattle.indexmap.specs.IndexMap.{get_by};
 ghost use Rattle.td_version.specs.Version.{parts_of};
 ghost use Rattle.td_indices.specs.Kept.{binaries_of, binary_of, lower_package, put};
 ghost use Rattle.td_indices.specs.Kept.{same_package, stays};
-ghost use Rattle.td_indices.specs.PackageKeys.{same_key};
 ghost use Rattle.td_indices.specs.inner.Parts.{packages_in, put_all};
 ghost use Rattle.td_indices.specs.inner.Placed.{ArePlaced, packaged_in, placed};
 
@@ -45,22 +42,16 @@ pub fn packaged_at<'r, 'a>(
     Some(packaged)
 }
 
-/// Whether there is a package of the key with a version that isn't lower.
-fn has_better(
-    parts: &[Vec<(PackageKey<'_>, Packaged<'_>)>],
-    places: &IndexMap<PackageKey<'_>, Place>,
-    key: &PackageKey<'_>,
-    version: &Version<'_>,
+/// Whether the package at a place has a version that isn't lower.
+fn is_better<'a>(
+    parts: &[Vec<(PackageKey<'a>, Packaged<'a>)>],
+    place: Place,
+    version: &Version<'a>,
 ) -> bool
-    ensures { result
-        ≡ stays (option_and_then (packaged_in parts.now) (get_by (same_key key.now) places.now))
-        (parts_of version.now) }
+    ensures { result ≡ stays (packaged_in parts.now place) (parts_of version.now) }
 {
-    let Some(place) = places.get(key) else {
-        return false;
-    };
-    match packaged_at(parts, *place) {
-        Some(earlier) => !cmp_version(&earlier.parts, version).is_lt(),
+    match packaged_at(parts, place) {
+        Some(packaged) => !cmp_version(&packaged.parts, version).is_lt(),
         None => false,
     }
 }
@@ -81,12 +72,18 @@ fn keep_place<'a>(
     ensures placed { OnOk result (ArePlaced parts.now places.new.entries) }
 {
     let (key, packaged) = taken;
-    if has_better(parts, places, key, &packaged.parts) {
-        return Ok(());
-    }
-    match places.insert(*key, place) {
-        Ok(_) => Ok(()),
-        Err(_) => Err(AllocError),
+    let Ok(earlier) = places.insert(*key, place) else {
+        return Err(AllocError);
+    };
+    match earlier {
+        // (few packages have an earlier one, so that one look-up is enough for most)
+        Some(earlier) if is_better(parts, earlier, &packaged.parts) => {
+            match places.insert(*key, earlier) {
+                Ok(_) => Ok(()),
+                Err(_) => Err(AllocError),
+            }
+        }
+        _ => Ok(()),
     }
 }
 
