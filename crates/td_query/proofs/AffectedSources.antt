@@ -1,7 +1,7 @@
 -- Whether a source is affected, place by place, and all that are, by flags.
-use Rattle.std.proofs.Common.{◌≡◌, ℕ, ◌+◌, ◌<◌, Bool, true, false, List, [], ◌∷◌, ◌++◌, Option}
+use Rattle.std.proofs.Common.{◌≡◌, ℕ, ◌+◌, ◌<◌, Bool, false, List, [], ◌∷◌, ◌++◌, Option}
 use Rattle.std.proofs.Common.{Some, None, filter, length, option_map, take, map, slice_get, refl}
-use Rattle.std.proofs.Common.{sym, ap, ◌∙◌, if◌then◌else◌}
+use Rattle.std.proofs.Common.{sym, ap, ◌∙◌, append_assoc, if◌then◌else◌}
 use Rattle.std.specs.Prelude.{is_some}
 use Rattle.std.specs.List.{list_any, range_with_len}
 use Rattle.std.specs.Option.{option_map_or}
@@ -42,18 +42,23 @@ flagged-map test (s ∷ sources) =
     ap (λ (l : List KeptSource). if test s then s ∷ l else l) (flagged-map test sources)
 
 -- one flag more
-pub flags-more : (test : KeptSource → Bool) (sources : List KeptSource) (n : ℕ)
-    (flags : List Bool) (flag : Bool) → n < length sources
+pub flags-more : (test : KeptSource → Bool) (sources : List KeptSource) (from n : ℕ)
+    (old new : List Bool) (flag : Bool) → n < length sources
     → flag ≡ option_map_or test (slice_get sources n) false
-    → flags ≡ map test (take n sources) → flags ++ flag ∷ [] ≡ map test (take (n + 1) sources)
-flags-more test sources n flags flag within is so_far = by (slice_get sources n) refl
+    → map test (take from sources) ++ old ≡ map test (take n sources) → new ≡ old ++ flag ∷ []
+    → map test (take from sources) ++ new ≡ map test (take (n + 1) sources)
+flags-more test sources from n old new flag within is so_far pushed = by (slice_get sources n) refl
   where
+    front : List Bool
+    front = map test (take from sources)
+
     by : (o : Option KeptSource) → slice_get sources n ≡ o
-        → flags ++ flag ∷ [] ≡ map test (take (n + 1) sources)
+        → front ++ new ≡ map test (take (n + 1) sources)
     by None e = absurd (slice_get-none sources n e within)
     by (Some s) e =
         let its : flag ≡ test s = is ∙ ap (λ o. option_map_or test o false) e in
-        ap (λ (l : List Bool). l ++ flag ∷ []) so_far
+        ap (λ (l : List Bool). front ++ l) pushed ∙ sym (append_assoc front old (flag ∷ []))
+        ∙ ap (λ (l : List Bool). l ++ flag ∷ []) so_far
         ∙ ap (λ (b : Bool). map test (take n sources) ++ b ∷ []) its
         ∙ sym (map-append test (take n sources) (s ∷ []))
         ∙ ap (map test) (sym (take-next sources n s e))

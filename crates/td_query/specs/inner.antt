@@ -2,3 +2,4 @@
 pub mod Settling
 pub mod Alike
 pub mod MarksBeside
+pub mod FlagsBetween

@@ -15,6 +15,7 @@
 #![tactic(auto)]
 
 mod affected;
+mod affected_beside;
 mod atom;
 mod compiling;
 mod laws;

@@ -4,10 +4,11 @@ ghost use denote.Param.Send.{IsSync};
 ghost use Rattle.td_indices.specs.declared.archive_fault.IndexFile.TheVariants.{Packages, Sources};
 ghost use Rattle.td_query.specs.Marks.{kept_fields, mark_on};
 ghost use Rattle.td_query.specs.Tracking.{IsTracker, tracking};
-ghost use Rattle.td_query.specs.inner.MarksBeside.{AreMarksByText, AreRestAndSources};
+ghost use Rattle.td_query.specs.inner.MarksBeside.{AreMarksByText, AreRestAndFirst};
+ghost use Rattle.td_query.specs.inner.MarksBeside.{AreRestAndSources};
 
 use crate::mark::Mark;
-use crate::marking::{mark_range, mark_stanzas};
+use crate::marking::mark_range;
 use crate::tracker::Tracker;
 use crate::truth::matchers_of;
 use std::alloc::{AllocError, Global};
@@ -15,29 +16,30 @@ use std::thread;
 use std::thread::Threads;
 use td_indices::{Archive, IndexFile};
 
-// The marks of the packages from one with a number up to another, by the tracker of a text. It is
-// read anew: a thread may borrow the text, and not what `regex` made of it. What `regex` makes of
+// The marks of a file's stanzas from one with a number up to another, by the tracker of a text. It
+// is read anew: a thread may borrow the text, and not what `regex` made of it. What `regex` makes of
 // the text again finds alike.
 fn between_by_text(
     alloc: Global,
     archive: &Archive<'_, '_>,
+    file: IndexFile,
     text: &str,
     from: usize,
     to: usize,
 ) -> Result<Vec<Mark>, AllocError>
     requires order { from ≤ to }
-    requires within { to ≤ length archive.now.binaries }
-    ensures { AreMarksByText archive.now text.now from to result }
+    requires within { to ≤ length (kept_fields archive.now file) }
+    ensures { AreMarksByText archive.now file text.now from to result }
 {
     let Ok(tracker) = Tracker::read(alloc, text) else {
         return Err(AllocError);
     };
     let mut matchers = matchers_of(alloc, tracker.patterns.as_slice())?;
-    let file = IndexFile::Packages;
     mark_range(alloc, archive, file, &tracker, &mut matchers, from, to)
 }
 
-// The same, where two threads make those before a number in the middle and those from it on.
+// Those of the packages, where two threads make those before a number in the middle and those from
+// it on.
 fn pair_by_text<R: Threads + Sync>(
     rt: &R,
     alloc: Global,
@@ -49,16 +51,16 @@ fn pair_by_text<R: Threads + Sync>(
 ) -> Result<Vec<Mark>, AllocError>
     requires order { (from ≤ middle) × (middle ≤ to) }
     requires within { to ≤ length archive.now.binaries }
-    ensures { AreMarksByText archive.now text.now from to result }
+    ensures { AreMarksByText archive.now Packages text.now from to result }
 {
     let of_front = move || -> Result<Vec<Mark>, AllocError>
         requires { (from ≤ middle) × (middle ≤ length archive.now.binaries) }
-        ensures { AreMarksByText archive.entry.now text.entry.now from middle result }
-    { between_by_text(alloc, archive, text, from, middle) };
+        ensures { AreMarksByText archive.entry.now Packages text.entry.now from middle result }
+    { between_by_text(alloc, archive, IndexFile::Packages, text, from, middle) };
     let of_rest = move || -> Result<Vec<Mark>, AllocError>
         requires { (middle ≤ to) × (to ≤ length archive.now.binaries) }
-        ensures { AreMarksByText archive.entry.now text.entry.now middle to result }
-    { between_by_text(alloc, archive, text, middle, to) };
+        ensures { AreMarksByText archive.entry.now Packages text.entry.now middle to result }
+    { between_by_text(alloc, archive, IndexFile::Packages, text, middle, to) };
     let (front, rest) = thread::join(rt, of_front, of_rest);
     let mut marks = front?;
     let mut others = rest?;
@@ -66,32 +68,28 @@ fn pair_by_text<R: Threads + Sync>(
     Ok(marks)
 }
 
-// The marks of the packages from one with a number on, and of the sources.
+// The marks of the packages from one with a number on, and of the sources before another.
 fn rest_by_tracker(
     alloc: Global,
     archive: &Archive<'_, '_>,
     tracker: &Tracker<'_>,
     from: usize,
+    cut: usize,
 ) -> Result<(Vec<Mark>, Vec<Mark>), AllocError>
-    requires { from ≤ length archive.now.binaries }
-    ensures { AreRestAndSources archive.now (tracking tracker.now) from result }
+    requires from { from ≤ length archive.now.binaries }
+    requires cut { cut ≤ length archive.now.sources }
+    ensures { AreRestAndFirst archive.now (tracking tracker.now) from cut result }
 {
     let mut matchers = matchers_of(alloc, tracker.patterns.as_slice())?;
     let to = archive.binary_count();
-    let packages = mark_range(
-        alloc,
-        archive,
-        IndexFile::Packages,
-        tracker,
-        &mut matchers,
-        from,
-        to,
-    )?;
-    let sources = mark_stanzas(alloc, archive, IndexFile::Sources, tracker, &mut matchers)?;
+    let file = IndexFile::Packages;
+    let packages = mark_range(alloc, archive, file, tracker, &mut matchers, from, to)?;
+    let file = IndexFile::Sources;
+    let sources = mark_range(alloc, archive, file, tracker, &mut matchers, 0, cut)?;
     Ok((packages, sources))
 }
 
-// The same, where a thread makes those before a number in the middle by the text.
+// The same, and those of the other sources, which a thread makes by the text.
 fn rest_beside<R: Threads + Sync>(
     rt: &R,
     alloc: Global,
@@ -99,30 +97,32 @@ fn rest_beside<R: Threads + Sync>(
     tracker: &Tracker<'_>,
     text: &str,
     from: usize,
-    middle: usize,
+    cut: usize,
 ) -> Result<(Vec<Mark>, Vec<Mark>), AllocError>
     requires text { IsTracker text.now (tracking tracker.now) }
-    requires order { from ≤ middle }
-    requires within { middle ≤ length archive.now.binaries }
+    requires from { from ≤ length archive.now.binaries }
+    requires cut { cut ≤ length archive.now.sources }
     ensures { AreRestAndSources archive.now (tracking tracker.now) from result }
 {
-    let of_front = move || -> Result<Vec<Mark>, AllocError>
-        requires { (from ≤ middle) × (middle ≤ length archive.now.binaries) }
-        ensures { AreMarksByText archive.entry.now text.entry.now from middle result }
-    { between_by_text(alloc, archive, text, from, middle) };
+    let to = archive.source_count();
+    let of_sources = move || -> Result<Vec<Mark>, AllocError>
+        requires { (cut ≤ to) × (to ≡ length archive.now.sources) }
+        ensures { AreMarksByText archive.entry.now Sources text.entry.now cut
+            (length archive.entry.now.sources) result }
+    { between_by_text(alloc, archive, IndexFile::Sources, text, cut, to) };
     let of_rest = move || -> Result<(Vec<Mark>, Vec<Mark>), AllocError>
-        requires { middle ≤ length archive.now.binaries }
-        ensures { AreRestAndSources archive.entry.now (tracking tracker.entry.now) middle result }
-    { rest_by_tracker(alloc, archive, tracker, middle) };
-    let (front, rest) = thread::join(rt, of_front, of_rest);
-    let mut packages = front?;
-    let (mut behind, sources) = rest?;
-    packages.append(&mut behind)?;
+        requires { (from ≤ length archive.now.binaries) × (cut ≤ length archive.now.sources) }
+        ensures { AreRestAndFirst archive.entry.now (tracking tracker.entry.now) from cut result }
+    { rest_by_tracker(alloc, archive, tracker, from, cut) };
+    let (behind, rest) = thread::join(rt, of_sources, of_rest);
+    let mut behind = behind?;
+    let (packages, mut sources) = rest?;
+    sources.append(&mut behind)?;
     Ok((packages, sources))
 }
 
 /// The marks of packages and of sources by a tracker of the text. Each of four threads has about as
-/// many stanzas, one of them the last packages and the sources.
+/// many stanzas: two of them the first packages, one the last sources, and one all others.
 pub fn mark_beside<R: Threads + Sync>(
     rt: &R,
     alloc: Global,
@@ -136,18 +136,20 @@ pub fn mark_beside<R: Threads + Sync>(
     ensures sources { IfOk result (λ p. p.1.items
         ≡ map (mark_on (tracking tracker.now)) (kept_fields archive.now Sources)) }
 {
-    let count = archive.binary_count();
-    let first = (count / 4 + archive.source_count() / 4).min(count / 3);
-    let (second, third) = (2 * first, 3 * first);
+    let (packages, sources) = (archive.binary_count(), archive.source_count());
+    let share = packages / 4 + sources / 4;
+    let first = share.min(packages / 2);
+    let second = 2 * first;
+    let cut = sources - share.min(sources);
     let of_front = move || -> Result<Vec<Mark>, AllocError>
         requires { IsSync R.row × (first ≤ second) × (second ≤ length archive.now.binaries) }
-        ensures { AreMarksByText archive.entry.now text.entry.now 0 second result }
+        ensures { AreMarksByText archive.entry.now Packages text.entry.now 0 second result }
     { pair_by_text(rt, alloc, archive, text, 0, first, second) };
     let of_rest = move || -> Result<(Vec<Mark>, Vec<Mark>), AllocError>
         requires { IsSync R.row × IsTracker text.now (tracking tracker.now)
-            × (second ≤ third) × (third ≤ length archive.now.binaries) }
+            × (second ≤ length archive.now.binaries) × (cut ≤ length archive.now.sources) }
         ensures { AreRestAndSources archive.entry.now (tracking tracker.entry.now) second result }
-    { rest_beside(rt, alloc, archive, tracker, text, second, third) };
+    { rest_beside(rt, alloc, archive, tracker, text, second, cut) };
     let (front, rest) = thread::join(rt, of_front, of_rest);
     let mut packages = front?;
     let (mut others, sources) = rest?;

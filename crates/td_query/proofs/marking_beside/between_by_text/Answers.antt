@@ -1,7 +1,6 @@
 -- `between_by_text`: its marks are those by any tracker that the text is of.
 use Rattle.std.proofs.Common.{◌≡◌, IfOk, map, subst, rules}
 use Rattle.regex.specs.Strings.{matcher_pattern}
-use Rattle.td_indices.specs.declared.archive_fault.IndexFile.TheVariants.{Packages}
 use Rattle.td_query.specs.Marks.{MarkBetween, kept_fields}
 use Rattle.td_query.specs.Tracking.{tracking}
 use Rattle.td_query.proofs.AlikePatterns.{alike_still}
@@ -15,7 +14,7 @@ returns c t is =
     let own : map matcher_pattern c.in_ok-matchers.matchers.items ≡ (tracking u).patterns =
     search rules in
     subst (λ mark. IfOk c.mark_range.result (λ marks. MarkBetween mark
-    (kept_fields c.args.archive.now Packages) c.args.from c.args.to marks.items))
+    (kept_fields c.args.archive.now c.args.file) c.args.from c.args.to marks.items))
     (same_queries c.args.text.now (tracking t) (tracking u) is c.in-Ok.ensures.found patterns)
     (c.mark_range.ensures.alike patterns (alike_still patterns own
     (alike_patterns c.args.text.now t u is c.in-Ok.ensures.found)))

@@ -3,7 +3,7 @@ use Rattle.std.proofs.Common.{◌∙◌, ap, map}
 use Rattle.std.proofs.lemmas.Result.{IfOk-weaker}
 use Rattle.td_indices.specs.Choosing.{flagged}
 use Rattle.td_indices.specs.Sources.{KeptSource}
-use Rattle.td_query.specs.Statuses.{affected_names, is_affected}
+use Rattle.td_query.specs.Statuses.{is_affected}
 use Rattle.td_query.proofs.AffectedSources.{flagged-map}
 use Rattle.td_query.proofs.marks.Marks.affected_sources.Goals as goal
 
