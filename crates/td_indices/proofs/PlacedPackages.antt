@@ -118,28 +118,38 @@ module _ (parts : List (Vec (PackageKey × Packaged))) where
         | inr other ↦ rw other (h.0, are-placed k place v es at h.1)
       ]
 
-  -- an earlier one of its key isn't lower
-  pub place_stays : (es : List (PackageKey × Place)) (k : PackageKey) (v : Packaged)
-      → ArePlaced parts es
-      → stays (option_and_then (packaged_in parts) (lookup (same_key k) es)) (parts_of v.parts)
-      ≡ true
-      → binaries_of (placed parts es)
-      ≡ put same_package lower_package (binaries_of (placed parts es)) (binary_of (k, v))
-  place_stays es k v are h =
-      put_stays (placed parts es) k v
-      (ap (λ (o : Option Packaged). stays o (parts_of v.parts)) (lookup-placed k es are) ∙ h)
+  -- whether the package that a key has stays, by its place
+  stays-placed : (es : List (PackageKey × Place)) (k : PackageKey) (v : Packaged)
+      (had : Option Place) (b : Bool) → ArePlaced parts es → had ≡ lookup (same_key k) es
+      → stays (option_and_then (packaged_in parts) had) (parts_of v.parts) ≡ b
+      → stays (lookup (same_key k) (placed parts es)) (parts_of v.parts) ≡ b
+  stays-placed es k v had b are is h =
+      ap (λ (o : Option Packaged). stays o (parts_of v.parts)) (lookup-placed k es are)
+      ∙ ap (λ (o : Option Place). stays (option_and_then (packaged_in parts) o) (parts_of v.parts))
+      (sym is) ∙ h
 
-  -- none is, or it is lower
-  pub place_enters : (es : List (PackageKey × Place)) (k : PackageKey) (place : Place)
-      (v : Packaged) → packaged_in parts place ≡ Some v → ArePlaced parts es
-      → stays (option_and_then (packaged_in parts) (lookup (same_key k) es)) (parts_of v.parts)
-      ≡ false
-      → binaries_of (placed parts (insert_entry same_key es k place))
+  -- the one that the key had isn't lower
+  pub place_stays : (es new : List (PackageKey × Place)) (k : PackageKey) (v : Packaged)
+      (had : Option Place) → ArePlaced parts es → had ≡ lookup (same_key k) es
+      → stays (option_and_then (packaged_in parts) had) (parts_of v.parts) ≡ true → new ≡ es
+      → binaries_of (placed parts new)
       ≡ put same_package lower_package (binaries_of (placed parts es)) (binary_of (k, v))
-  place_enters es k place v at are h =
-      ap (λ (l : List (PackageKey × Packaged)). binaries_of l) (insert-placed k place v es at are)
-      ∙ put_enters (placed parts es) k v
-      (ap (λ (o : Option Packaged). stays o (parts_of v.parts)) (lookup-placed k es are) ∙ h)
+  place_stays es new k v had are is h same =
+      ap (λ (l : List (PackageKey × Place)). binaries_of (placed parts l)) same
+      ∙ put_stays (placed parts es) k v (stays-placed es k v had true are is h)
+
+  -- the key had none, or a lower one
+  pub place_enters : (es new : List (PackageKey × Place)) (k : PackageKey) (place : Place)
+      (v : Packaged) (had : Option Place) → packaged_in parts place ≡ Some v → ArePlaced parts es
+      → had ≡ lookup (same_key k) es
+      → stays (option_and_then (packaged_in parts) had) (parts_of v.parts) ≡ false
+      → new ≡ insert_entry same_key es k place
+      → binaries_of (placed parts new)
+      ≡ put same_package lower_package (binaries_of (placed parts es)) (binary_of (k, v))
+  place_enters es new k place v had at are is h put_in =
+      ap (λ (l : List (PackageKey × Place)). binaries_of (placed parts l)) put_in
+      ∙ ap (λ (l : List (PackageKey × Packaged)). binaries_of l) (insert-placed k place v es at are)
+      ∙ put_enters (placed parts es) k v (stays-placed es k v had false are is h)
 
 -- a place has the same package where more parts stand behind
 packaged_in-more : (parts more : List (Vec (PackageKey × Packaged))) (place : Place) (v : Packaged)
