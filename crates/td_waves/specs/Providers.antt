@@ -1,7 +1,7 @@
 -- What is found under a name: the packages of the affected sources that offer it.
 -- This project's own.
-use Rattle.std.specs.Prelude.{ℕ, zero, suc, Bool, false, ◌&&◌, ◌||◌, List, [], Option, slice_get}
-use Rattle.std.specs.Prelude.{slice_index_or}
+use Rattle.std.specs.Prelude.{ℕ, zero, suc, Bool, false, ◌&&◌, ◌||◌, List, [], ◌∷◌, Option}
+use Rattle.std.specs.Prelude.{slice_get, slice_index_or}
 use Rattle.std.specs.List.{list_any}
 use Rattle.std.specs.HashMap.{get_by}
 use Rattle.std.specs.Option.{option_map_or}
@@ -9,12 +9,17 @@ use Rattle.std.specs.Str.{bytes_eq}
 use Rattle.td_indices.specs.Archive.{Contents, is_of}
 use Rattle.td_indices.specs.Kept.{KeptBinary}
 use Rattle.td_indices.specs.OfferedNames.{offered_names}
+use Rattle.td_waves.specs.declared.providers.Found.{Found}
 use Rattle.td_waves.specs.declared.providers.Provider.{Provider}
 use Rattle.td_waves.specs.declared.providers.Providers.{Providers}
 
+-- the first that is found under a name, and the others
+abbrev pub all_found : Found → List Provider
+all_found found = found.first ∷ found.others.items
+
 -- those under a name
 abbrev pub under : Providers → List ℕ → List Provider
-under providers name = option_map_or (λ list. list.items)
+under providers name = option_map_or all_found
     (get_by (λ k. bytes_eq name k.now) providers.by_name) []
 
 -- a package at a place, of the source with a number

@@ -2,7 +2,7 @@
 
 use crate::fitting::fits;
 use crate::named::is_other;
-use crate::providers::{Provider, Providers};
+use crate::providers::{Found, Provider, Providers};
 use indexmap::IndexSet;
 use std::alloc::{AllocError, Global};
 use td_indices::Archive;
@@ -27,23 +27,39 @@ impl<'b, 't, 'a, 'n> Asker<'b, 't, 'a, 'n> {
     ghost use Rattle.td_indices.specs.Fields.{asked_by};
     ghost use Rattle.td_waves.specs.Asking.{finds, has, is_base, is_found};
     ghost use Rattle.td_waves.specs.BuildsOn.{some_asked};
+    ghost use Rattle.td_waves.specs.Providers.{all_found};
 
-    // Adds the sources of those packages that fit.
+    // Adds the source of a package if it fits.
     fn push_fitting(
         &self,
         bases: &mut Vec<usize>,
         alternative: &Alternative<'_>,
-        found: &[Provider],
+        provider: &Provider,
     ) -> Result<(), AllocError>
         ensures { OnOk result ((t : ℕ) → has t bases.new.items ≡ (has t bases.old.items
-            || list_any (is_base self.now t (asked alternative.now)) found.now)) }
+            || is_base self.now t (asked alternative.now) provider.now)) }
     {
-        for provider in found {
-            if is_other(self.names, self.name, provider.owner)
-                && fits(self.archive, self.number, alternative, provider.home)
-            {
-                bases.push(provider.owner)?;
-            }
+        if is_other(self.names, self.name, provider.owner)
+            && fits(self.archive, self.number, alternative, provider.home)
+        {
+            bases.push(provider.owner)?;
+        }
+        Ok(())
+    }
+
+    // Adds the sources of those packages that fit.
+    fn push_found(
+        &self,
+        bases: &mut Vec<usize>,
+        alternative: &Alternative<'_>,
+        found: &Found,
+    ) -> Result<(), AllocError>
+        ensures { OnOk result ((t : ℕ) → has t bases.new.items ≡ (has t bases.old.items
+            || list_any (is_base self.now t (asked alternative.now)) (all_found found.now))) }
+    {
+        self.push_fitting(bases, alternative, &found.first)?;
+        for provider in &found.others {
+            self.push_fitting(bases, alternative, provider)?;
         }
         Ok(())
     }
@@ -57,8 +73,9 @@ impl<'b, 't, 'a, 'n> Asker<'b, 't, 'a, 'n> {
             || list_any (λ x. is_found self.now t (asked x)) member.now)) }
     {
         for alternative in member {
-            let found = self.providers.of_name(alternative.name);
-            self.push_fitting(bases, alternative, found)?;
+            if let Some(found) = self.providers.of_name(alternative.name) {
+                self.push_found(bases, alternative, found)?;
+            }
         }
         Ok(())
     }

@@ -3,6 +3,7 @@
 use indexmap::IndexSet;
 use std::alloc::{AllocError, Global};
 use std::collections::HashMap;
+use std::collections::hash_map::Entry;
 use td_indices::Archive;
 
 /// What is kept of a package under a name: the place of its architecture, `None` for `all`, and the
@@ -13,10 +14,18 @@ pub struct Provider {
     pub owner: usize,
 }
 
+/// What is found under a name: a first package, and the others. Nearly every name has just the
+/// one, for which no list is made.
+#[derive(Drop)]
+pub struct Found {
+    pub first: Provider,
+    pub others: Vec<Provider>,
+}
+
 /// The packages of affected sources, by the names that they offer.
 #[derive(Drop)]
 pub struct Providers<'a> {
-    by_name: HashMap<&'a str, Vec<Provider>>,
+    by_name: HashMap<&'a str, Found>,
 }
 
 impl<'a> Providers<'a> {
@@ -29,29 +38,38 @@ impl<'a> Providers<'a> {
     ghost use Rattle.td_indices.specs.Archive.{is_of};
     ghost use Rattle.td_waves.specs.declared.providers.Provider.{Provider};
     ghost use Rattle.td_waves.specs.Named.{texts};
-    ghost use Rattle.td_waves.specs.Providers.{passes_numbered, some_below, some_passes, under};
+    ghost use Rattle.td_waves.specs.Providers.{all_found, passes_numbered, some_below};
+    ghost use Rattle.td_waves.specs.Providers.{some_passes, under};
 
-    fn new(alloc: Global) -> Providers<'a>
-        ensures { (q : List ℕ) → under result q ≡ [] }
+    // None yet, and room for so many names.
+    fn with_capacity(alloc: Global, names: usize) -> Result<Providers<'a>, AllocError>
+        ensures { IfOk result (λ providers. (q : List ℕ) → under providers q ≡ []) }
     {
-        Providers {
-            by_name: HashMap::new(alloc),
-        }
+        let by_name = HashMap::with_capacity(alloc, names)?;
+        Ok(Providers { by_name })
     }
 
-    fn push(&mut self, name: &'a str, provider: Provider) -> Result<(), AllocError>
+    fn push(&mut self, alloc: Global, name: &'a str, provider: Provider) -> Result<(), AllocError>
         ensures { OnOk result
             ((q : List ℕ) → under self.new q ≡ (if bytes_eq q name.now then under self.old q
             ++ provider ∷ [] else under self.old q)) }
     {
-        let list = self.by_name.entry(name)?.or_default();
-        list.push(provider)?;
+        match self.by_name.entry(name)? {
+            Entry::Occupied(entry) => entry.into_mut().others.push(provider)?,
+            Entry::Vacant(entry) => {
+                entry.insert(Found {
+                    first: provider,
+                    others: Vec::new(alloc),
+                });
+            }
+        }
         Ok(())
     }
 
     // Adds the package with a number under each of its names.
     fn push_package(
         &mut self,
+        alloc: Global,
         archive: &Archive<'_, 'a>,
         number: usize,
         owner: usize,
@@ -69,7 +87,7 @@ impl<'a> Providers<'a> {
             owner,
         };
         for name in archive.offered_names(number) {
-            self.push(name, provider)?;
+            self.push(alloc, name, provider)?;
         }
         Ok(())
     }
@@ -77,6 +95,7 @@ impl<'a> Providers<'a> {
     // Adds the packages of a source.
     fn push_source(
         &mut self,
+        alloc: Global,
         archive: &Archive<'_, 'a>,
         source: &str,
         owner: usize,
@@ -88,7 +107,7 @@ impl<'a> Providers<'a> {
     {
         let numbers = archive.packages_of(source);
         for number in numbers {
-            self.push_package(archive, *number, owner)?;
+            self.push_package(alloc, archive, *number, owner)?;
         }
         Ok(())
     }
@@ -104,21 +123,18 @@ impl<'a> Providers<'a> {
             → list_any test (under providers q)
             ≡ some_below archive.now (texts sources.now.keys) q test (length sources.now.keys)) }
     {
-        let mut providers = Providers::new(alloc);
+        let mut providers = Providers::with_capacity(alloc, sources.len().saturating_mul(2))?;
         for owner in 0..sources.len() {
             let source = sources[owner];
-            providers.push_source(archive, source, owner)?;
+            providers.push_source(alloc, archive, source, owner)?;
         }
         Ok(providers)
     }
 
-    /// Those under a name.
-    pub fn of_name(&self, name: &str) -> &[Provider]
-        ensures { result.now ≡ under self.now name.now }
+    /// What is found under a name.
+    pub fn of_name(&self, name: &str) -> Option<&Found>
+        ensures { option_map_or (λ found. all_found found.now) result [] ≡ under self.now name.now }
     {
-        match self.by_name.get(name) {
-            Some(list) => list.as_slice(),
-            None => &[],
-        }
+        self.by_name.get(name)
     }
 }

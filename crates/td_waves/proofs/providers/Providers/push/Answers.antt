@@ -3,5 +3,8 @@ use Rattle.std.proofs.Common.{arith}
 use Rattle.std.proofs.lemmas.Grind.{text_groups}
 use Rattle.td_waves.proofs.providers.Providers.push.Goals as goal
 
-pub returns : goal.returns
-returns c = λ q. grind (arith, text_groups)
+pub returns-in-Vacant : goal.returns-in-Vacant
+returns-in-Vacant c = λ q. grind (arith, text_groups)
+
+pub returns-in_ok-push-in-Occupied : goal.returns-in_ok-push-in-Occupied
+returns-in_ok-push-in-Occupied c = λ q. grind (arith, text_groups)
