@@ -1,5 +1,5 @@
 -- The opening rows of the affected sources have all that are affected.
-use Rattle.std.proofs.Common.{◌≡◌, ℕ, Bool, true, false, List, [], ◌∷◌, Option, None, filter}
+use Rattle.std.proofs.Common.{◌≡◌, Bool, true, false, List, [], ◌∷◌, Option, None, filter}
 use Rattle.std.proofs.Common.{map, option_map, refl, sym, ap, ◌∙◌, inl, inr}
 use Rattle.std.specs.List.{cons_option, filter_map}
 use Rattle.std.specs.Str.{bytes_eq}

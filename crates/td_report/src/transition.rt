@@ -1,6 +1,7 @@
 //! A tracker over an archive, and what is told of it.
 
-use crate::item::Item;
+use crate::affected::Affected;
+use crate::finding::{Alone, Beside, Finding};
 use crate::lines::{Lines, Whole};
 use crate::report_text::report_text;
 use crate::splitting::Chunks;
@@ -24,15 +25,12 @@ pub struct Transition<'b, 't, 'a, 'q> {
 }
 
 impl<'b, 't, 'a, 'q> Transition<'b, 't, 'a, 'q> {
-    ghost use Rattle.std.specs.Prelude.{◌≡◌, ◌≤◌, None, IfOk, IfSome, map, option_map, slice_get};
-    ghost use Rattle.std.specs.Prelude.{string_bytes};
-    ghost use Rattle.std.specs.Option.{option_map_or};
+    ghost use Rattle.std.specs.Prelude.{◌≡◌, ◌≤◌, IfOk, IfSome, string_bytes};
     ghost use Rattle.td_query.specs.Marks.{AreMarks};
     ghost use Rattle.td_query.specs.Statuses.{status_of};
     ghost use Rattle.td_query.specs.Tracking.{tracking};
     ghost use Rattle.td_report.specs.Groups.{AreCounts};
-    ghost use Rattle.td_report.specs.inner.ItemLines.{seen};
-    ghost use Rattle.td_report.specs.Transition.{IsReport, IsWaves, affected_row, affected_rows};
+    ghost use Rattle.td_report.specs.Transition.{IsReport, IsWaves};
     ghost use Rattle.td_report.specs.TransitionView as of;
 
     /// A tracker's transition over an archive. Each query is evaluated once on each stanza.
@@ -94,15 +92,26 @@ impl<'b, 't, 'a, 'q> Transition<'b, 't, 'a, 'q> {
         })
     }
 
+    // What tells which rows are affected.
+    fn affected(&self) -> Affected<'_, 't, 'a>
+        ensures archive { result.archive.now ≡ of.contents_of self.now }
+        ensures marks { result.marks.now ≡ self.now.marks }
+        ensures waves { result.waves.now ≡ self.now.waves }
+    {
+        Affected {
+            archive: self.archive,
+            marks: &self.marks,
+            waves: &self.waves,
+        }
+    }
+
     /// The status of a key's row, where the archive has such a row and it is affected. It takes no
     /// memory.
     pub fn status(&self, key: &Key) -> Option<Status>
         requires { of.IsMade self.now }
         ensures { result ≡ status_of (of.contents_of self.now) (of.tracking_of self.now) key.now }
     {
-        let source = self.archive.source_number(key.source())?;
-        let place = self.archive.archs().index(key.arch())?;
-        self.marks.status(self.archive, source, place)
+        self.affected().status(key)
     }
 
     /// The level of a source; none where it isn't affected.
@@ -119,55 +128,24 @@ impl<'b, 't, 'a, 'q> Transition<'b, 't, 'a, 'q> {
         self.waves.depth()
     }
 
-    // What is said of the row with a number.
-    fn item_at<'r>(&self, rows: &'r Rows, number: usize) -> Option<Item<'r>>
-        requires { of.IsMade self.now }
-        ensures { option_map seen result ≡ option_map_or (affected_row (of.contents_of self.now)
-            (of.tracking_of self.now) (of.level_of self.now)) (slice_get rows.now number) None }
-    {
-        let (key, row) = rows.at(number)?;
-        // (few sources have a level, and no other is affected)
-        let level = self.level(key.source())?;
-        let status = self.status(key)?;
-        Some(Item {
-            key,
-            row,
-            status,
-            level: Some(level),
-        })
-    }
-
-    // The affected rows, in the order of their keys.
-    fn items<'r>(&self, alloc: Global, rows: &'r Rows) -> Result<Vec<Item<'r>>, AllocError>
-        requires { of.IsMade self.now }
-        ensures { IfOk result (λ items. map seen items.items ≡ affected_rows
-            (of.contents_of self.now) (of.tracking_of self.now) (of.level_of self.now) rows.now) }
-    {
-        let mut items = Vec::new(alloc);
-        for number in 0..rows.len() {
-            if let Some(item) = self.item_at(rows, number) {
-                items.push(item)?;
-            }
-        }
-        Ok(items)
-    }
-
-    // The report of the rows, whose lines are made so, by counts of Installed rows where these are
-    // given.
-    fn text<L: Lines>(
+    // The report of the rows, which are found so and whose lines are made so, by counts of Installed
+    // rows where these are given.
+    fn text<F: Finding, L: Lines>(
         &self,
         alloc: Global,
         rows: &Rows,
         counts: Option<&[usize]>,
+        finding: &F,
         lines: &L,
     ) -> Result<String, AllocError>
         requires made { of.IsMade self.now }
         requires counts { IfSome counts (λ cs. AreCounts self.now rows.now cs.now) }
+        requires found { F.ready finding.now }
         requires ready { L.ready lines.now }
         ensures { IfOk result (λ text. IsReport (of.contents_of self.now)
             (of.tracking_of self.now) rows.now (string_bytes text)) }
     {
-        let items = self.items(alloc, rows)?;
+        let items = finding.items(alloc, &self.affected(), rows)?;
         let depth = self.waves.depth();
         report_text(alloc, self.tracker.title(), depth, &items, counts, lines)
     }
@@ -178,7 +156,21 @@ impl<'b, 't, 'a, 'q> Transition<'b, 't, 'a, 'q> {
         ensures { IfOk result (λ text. IsReport (of.contents_of self.now)
             (of.tracking_of self.now) rows.now (string_bytes text)) }
     {
-        self.text(alloc, rows, None, &Whole)
+        self.text(alloc, rows, None, &Alone, &Whole)
+    }
+
+    /// The same text, of rows that several threads look at where there are many.
+    pub fn report_beside(
+        &self,
+        rt: &(impl Threads + Sync),
+        alloc: Global,
+        rows: &Rows,
+    ) -> Result<String, AllocError>
+        requires { of.IsMade self.now }
+        ensures { IfOk result (λ text. IsReport (of.contents_of self.now)
+            (of.tracking_of self.now) rows.now (string_bytes text)) }
+    {
+        self.text(alloc, rows, None, &Beside { rt }, &Whole)
     }
 
     /// The same text, the rows of each level in chunks of so many, which several threads share.
@@ -194,7 +186,7 @@ impl<'b, 't, 'a, 'q> Transition<'b, 't, 'a, 'q> {
         ensures { IfOk result (λ text. IsReport (of.contents_of self.now)
             (of.tracking_of self.now) rows.now (string_bytes text)) }
     {
-        self.text(alloc, rows, None, &Chunks { rt, size: chunk })
+        self.text(alloc, rows, None, &Beside { rt }, &Chunks { rt, size: chunk })
     }
 
     /// The same text, where it is given how many rows of each group are Installed. They aren't
@@ -210,7 +202,7 @@ impl<'b, 't, 'a, 'q> Transition<'b, 't, 'a, 'q> {
         ensures { IfOk result (λ text. IsReport (of.contents_of self.now)
             (of.tracking_of self.now) rows.now (string_bytes text)) }
     {
-        self.text(alloc, rows, Some(counts), &Whole)
+        self.text(alloc, rows, Some(counts), &Alone, &Whole)
     }
 
     /// The same, in chunks.
@@ -228,7 +220,23 @@ impl<'b, 't, 'a, 'q> Transition<'b, 't, 'a, 'q> {
         ensures { IfOk result (λ text. IsReport (of.contents_of self.now)
             (of.tracking_of self.now) rows.now (string_bytes text)) }
     {
-        self.text(alloc, rows, Some(kept), &Chunks { rt, size: chunk })
+        self.text(alloc, rows, Some(kept), &Beside { rt }, &Chunks { rt, size: chunk })
+    }
+
+    // The affected sources of the rows, which are found so, by level.
+    fn waves_found<F: Finding>(
+        &self,
+        alloc: Global,
+        rows: &Rows,
+        finding: &F,
+    ) -> Result<String, AllocError>
+        requires made { of.IsMade self.now }
+        requires found { F.ready finding.now }
+        ensures { IfOk result (λ text. IsWaves (of.contents_of self.now)
+            (of.tracking_of self.now) rows.now (string_bytes text)) }
+    {
+        let items = finding.items(alloc, &self.affected(), rows)?;
+        waves_text(alloc, self.waves.depth(), &items)
     }
 
     /// The affected sources of the rows, by level.
@@ -237,7 +245,20 @@ impl<'b, 't, 'a, 'q> Transition<'b, 't, 'a, 'q> {
         ensures { IfOk result (λ text. IsWaves (of.contents_of self.now)
             (of.tracking_of self.now) rows.now (string_bytes text)) }
     {
-        let items = self.items(alloc, rows)?;
-        waves_text(alloc, self.waves.depth(), &items)
+        self.waves_found(alloc, rows, &Alone)
+    }
+
+    /// The same text, of rows that several threads look at where there are many.
+    pub fn waves_beside(
+        &self,
+        rt: &(impl Threads + Sync),
+        alloc: Global,
+        rows: &Rows,
+    ) -> Result<String, AllocError>
+        requires { of.IsMade self.now }
+        ensures { IfOk result (λ text. IsWaves (of.contents_of self.now)
+            (of.tracking_of self.now) rows.now (string_bytes text)) }
+    {
+        self.waves_found(alloc, rows, &Beside { rt })
     }
 }

@@ -1,11 +1,12 @@
--- What the loop of `Transition::items` keeps.
-use Rattle.std.proofs.Common.{◌≡◌, map, take}
+-- What the loop of `Affected::items_between` keeps.
+use Rattle.std.proofs.Common.{◌≡◌, ◌++◌, map, take}
+use Rattle.td_query.specs.Tracking.{Tracking}
+use Rattle.td_report.specs.inner.Affected.{IsOf, rows_told}
 use Rattle.td_report.specs.inner.ItemLines.{seen}
-use Rattle.td_report.specs.Transition.{affected_rows}
-use Rattle.td_report.specs.TransitionView.{contents_of, level_of, tracking_of}
-use Rattle.td_report.proofs.transition.Transition.items.Given as goal
+use Rattle.td_report.proofs.affected.Affected.items_between.Given as goal
 
 -- those of the rows so far
 abbrev pub invariant-loop-number : goal.invariant-loop-number
-invariant-loop-number l = map seen l.items.items ≡ affected_rows (contents_of l.self)
-    (tracking_of l.self) (level_of l.self) (take l.number l.rows)
+invariant-loop-number l = (t : Tracking) → IsOf l.self t
+    → rows_told l.self t (take l.from l.rows) ++ map seen l.items.items
+    ≡ rows_told l.self t (take l.number l.rows)

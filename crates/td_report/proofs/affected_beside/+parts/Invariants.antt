@@ -1,0 +1,13 @@
+-- By what `items_in_parts` ends.
+use Rattle.std.proofs.Common.{◌+◌, ◌*◌}
+use Rattle.td_report.proofs.affected_beside.+parts.Given as goal
+
+-- how often the part may be halved still; the two closures stand between that and the next
+abbrev pub decreases-items_in_parts : goal.decreases-items_in_parts
+decreases-items_in_parts g l = 2 * l.halvings
+
+abbrev pub decreases-of_front : goal.decreases-of_front
+decreases-of_front g l = 2 * l.left + 1
+
+abbrev pub decreases-of_rest : goal.decreases-of_rest
+decreases-of_rest g l = 2 * l.left + 1
