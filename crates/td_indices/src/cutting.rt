@@ -1,5 +1,5 @@
 //! A text cut in two at an empty line, so that no stanza crosses the cut.
-ghost use Rattle.std.specs.Prelude.{IfSome};
+ghost use Rattle.std.specs.Prelude.{◌++◌, IfSome};
 ghost use Rattle.td_indices.specs.inner.Pieces.{IsCutApart};
 
 use td_text::next_line;
@@ -37,4 +37,20 @@ pub fn halved(text: &str) -> Option<(&str, &str)>
     let half = text.floor_char_boundary(text.len() / 2);
     let place = text.split_at(half).1.find("\n\n")?;
     cut_at(text, half.checked_add(place)?)
+}
+
+/// What stands before the last newline of a text's front, if an empty line follows: the rest is what
+/// stands behind the newline.
+pub fn front_of<'a>(front: &'a str, rest: &str) -> Option<&'a str>
+    ensures { IfSome result (λ before. IsCutApart (front.now ++ rest.now) before.now rest.now) }
+{
+    let (line, _) = next_line(rest);
+    if !line.is_empty() {
+        return None;
+    }
+    let (before, end) = front.split_at_checked(front.len().checked_sub(1)?)?;
+    if end != "\n" {
+        return None;
+    }
+    Some(before)
 }

@@ -2,7 +2,7 @@
 
 use crate::archive_fault::{ArchiveFault, IndexFile};
 use crate::index_reading::{PackagesIndex, SourcesIndex, kept_packages, kept_sources};
-use crate::piece_reading::read_stanzas_beside;
+use crate::piece_reading::{read_halves, read_stanzas_beside};
 use crate::soundness::are_all_sound;
 use crate::stanza_pieces::StanzaPieces;
 use std::alloc::Global;
@@ -10,28 +10,29 @@ use std::marker::Model;
 use std::thread::Threads;
 use td_relation::Archs;
 
-/// A text of Packages, and its stanzas. Contracts see the text.
+/// A text of Packages, in one part or in two, and its stanzas. Contracts see the whole text.
 #[derive(Drop)]
 pub struct EarlyPackages<'a> {
-    text: &'a str,
+    front: &'a str,
+    rest: &'a str,
     stanzas: Result<StanzaPieces<'a>, ArchiveFault>,
 }
 
 impl<'a> Model for EarlyPackages<'a> {
-    ghost use Rattle.std.specs.Prelude.{ℕ, List};
+    ghost use Rattle.std.specs.Prelude.{ℕ, ◌++◌, List};
     ghost use Rattle.td_text.specs.Lines.{lines_of};
     ghost use Rattle.td_indices.specs.declared.archive_fault.IndexFile.TheVariants.{Packages};
     ghost use Rattle.td_indices.specs.inner.IndexReading.{AreStanzasRead};
 
     ghost Value = { List ℕ };
 
-    ghost view = { λ p. p.text.now };
+    ghost view = { λ p. p.front.now ++ p.rest.now };
 
-    ghost invariant = { λ p. AreStanzasRead Packages (lines_of p.text.now) p.stanzas };
+    ghost invariant = { λ p. AreStanzasRead Packages (lines_of (p.front.now ++ p.rest.now)) p.stanzas };
 }
 
 impl<'a> EarlyPackages<'a> {
-    ghost use Rattle.std.specs.Prelude.{◌≡◌};
+    ghost use Rattle.std.specs.Prelude.{◌≡◌, ◌++◌, IfSome};
     ghost use Rattle.td_text.specs.Lines.{lines_of};
     ghost use Rattle.td_relation.specs.TableView.{table};
     ghost use Rattle.td_indices.specs.inner.IndexReading.{ArePackagesRead};
@@ -45,14 +46,29 @@ impl<'a> EarlyPackages<'a> {
         ensures { result ≡ text.now }
     {
         let stanzas = read_stanzas_beside(rt, alloc, IndexFile::Packages, text);
-        EarlyPackages { text, stanzas }
+        EarlyPackages {
+            front: text,
+            rest: "",
+            stanzas,
+        }
     }
 
-    /// The text.
-    pub fn text(&self) -> &'a str
-        ensures { result.now ≡ self.now }
+    /// The same of a text that came in two parts, the front and the rest, if it is cut before an
+    /// empty line and has stanzas.
+    pub fn of_halves(
+        rt: &(impl Threads + Sync),
+        alloc: Global,
+        front: &'a str,
+        rest: &'a str,
+    ) -> Option<EarlyPackages<'a>>
+        ensures { IfSome result (λ early. early ≡ front.now ++ rest.now) }
     {
-        self.text
+        let stanzas = read_halves(rt, alloc, front, rest)?;
+        Some(EarlyPackages {
+            front,
+            rest,
+            stanzas: Ok(stanzas),
+        })
     }
 
     /// What the text is read as.
@@ -71,31 +87,32 @@ impl<'a> EarlyPackages<'a> {
     }
 }
 
-/// A text of Sources, its stanzas, and whether all that their builds ask for can be read. Contracts
-/// see the text.
+/// A text of Sources, in one part or in two, its stanzas, and whether all that their builds ask for
+/// can be read. Contracts see the whole text.
 #[derive(Drop)]
 pub struct EarlySources<'a> {
-    text: &'a str,
+    front: &'a str,
+    rest: &'a str,
     stanzas: Result<StanzaPieces<'a>, ArchiveFault>,
     sound: bool,
 }
 
 impl<'a> Model for EarlySources<'a> {
-    ghost use Rattle.std.specs.Prelude.{ℕ, List};
+    ghost use Rattle.std.specs.Prelude.{ℕ, ◌++◌, List};
     ghost use Rattle.td_text.specs.Lines.{lines_of};
     ghost use Rattle.td_indices.specs.declared.archive_fault.IndexFile.TheVariants.{Sources};
     ghost use Rattle.td_indices.specs.inner.IndexReading.{AreSoundIf, AreStanzasRead};
 
     ghost Value = { List ℕ };
 
-    ghost view = { λ s. s.text.now };
+    ghost view = { λ s. s.front.now ++ s.rest.now };
 
-    ghost invariant = { λ s. AreStanzasRead Sources (lines_of s.text.now) s.stanzas
+    ghost invariant = { λ s. AreStanzasRead Sources (lines_of (s.front.now ++ s.rest.now)) s.stanzas
         × AreSoundIf s.sound s.stanzas };
 }
 
 impl<'a> EarlySources<'a> {
-    ghost use Rattle.std.specs.Prelude.{◌≡◌};
+    ghost use Rattle.std.specs.Prelude.{◌≡◌, ◌++◌, IfSome};
     ghost use Rattle.td_text.specs.Lines.{lines_of};
     ghost use Rattle.td_indices.specs.inner.IndexReading.{AreSourcesRead};
 
@@ -107,17 +124,31 @@ impl<'a> EarlySources<'a> {
         let stanzas = read_stanzas_beside(rt, alloc, IndexFile::Sources, text);
         let sound = are_all_sound(rt, alloc, &stanzas);
         EarlySources {
-            text,
+            front: text,
+            rest: "",
             stanzas,
             sound,
         }
     }
 
-    /// The text.
-    pub fn text(&self) -> &'a str
-        ensures { result.now ≡ self.now }
+    /// The same of a text that came in two parts, the front and the rest, if it is cut before an
+    /// empty line and has stanzas.
+    pub fn of_halves(
+        rt: &(impl Threads + Sync),
+        alloc: Global,
+        front: &'a str,
+        rest: &'a str,
+    ) -> Option<EarlySources<'a>>
+        ensures { IfSome result (λ early. early ≡ front.now ++ rest.now) }
     {
-        self.text
+        let stanzas = Ok(read_halves(rt, alloc, front, rest)?);
+        let sound = are_all_sound(rt, alloc, &stanzas);
+        Some(EarlySources {
+            front,
+            rest,
+            stanzas,
+            sound,
+        })
     }
 
     /// What the text is read as.
@@ -125,7 +156,8 @@ impl<'a> EarlySources<'a> {
         ensures { AreSourcesRead (lines_of self.entry) result }
     {
         let EarlySources {
-            text: _,
+            front: _,
+            rest: _,
             stanzas,
             sound,
         } = self;

@@ -1,5 +1,5 @@
 //! The stanzas of one of the files, a long text in pieces that are read side by side.
-ghost use Rattle.std.specs.Prelude.{ℕ, List, IfOk, IfErr, IfSome};
+ghost use Rattle.std.specs.Prelude.{ℕ, ◌++◌, List, IfOk, IfErr, IfSome};
 ghost use denote.Param.Send.{IsSync};
 ghost use Rattle.td_text.specs.Lines.{lines_of};
 ghost use Rattle.td_stanza.specs.StanzaGrammar.{AreStanzas};
@@ -7,7 +7,7 @@ ghost use Rattle.td_indices.specs.Archive.{StanzaFaultOf};
 ghost use Rattle.td_indices.specs.inner.Pieces.{IsCutApart};
 
 use crate::archive_fault::{ArchiveFault, IndexFile};
-use crate::cutting::{HALVINGS, halved};
+use crate::cutting::{HALVINGS, front_of, halved};
 use crate::stanza_list::read_stanzas;
 use crate::stanza_pieces::StanzaPieces;
 use std::alloc::Global;
@@ -70,6 +70,30 @@ fn read_pieces<'a, R: Threads + Sync>(
     { read_pieces(rt, alloc, behind, left) };
     let (front, rest) = thread::join(rt, of_front, of_rest);
     joined(front, rest)
+}
+
+/// The stanzas of a text that came as its front and its rest, if it is cut before an empty line, and
+/// has some.
+pub fn read_halves<'a, R: Threads + Sync>(
+    rt: &R,
+    alloc: Global,
+    front: &'a str,
+    rest: &'a str,
+) -> Option<StanzaPieces<'a>>
+    ensures { IfSome result (λ list. AreStanzas list (lines_of (front.now ++ rest.now))) }
+{
+    let before = front_of(front, rest)?;
+    let left = HALVINGS - 1;
+    let of_front = move || -> Option<StanzaPieces>
+        requires { IsSync R.row }
+        ensures { IfSome result (λ list. AreStanzas list (lines_of before.entry.now)) }
+    { read_pieces(rt, alloc, before, left) };
+    let of_rest = move || -> Option<StanzaPieces>
+        requires { IsSync R.row }
+        ensures { IfSome result (λ list. AreStanzas list (lines_of rest.entry.now)) }
+    { read_pieces(rt, alloc, rest, left) };
+    let (those, others) = thread::join(rt, of_front, of_rest);
+    joined(those, others)
 }
 
 /// The same as `read_stanzas` gives. A text that has a fault, or that memory doesn't suffice for,
