@@ -1,5 +1,5 @@
 //! The files of an archive, whose indices are looked at while they come.
-ghost use Rattle.std.specs.Prelude.{◌≡◌, IfOk, IfErr, string_bytes};
+ghost use Rattle.std.specs.Prelude.{◌≡◌, ◌++◌, IfOk, IfErr, IfSome, string_bytes};
 ghost use denote.Param.Send.{IsSync};
 ghost use Rattle.td_tool.specs.Checks.{IsTextOf, archive_files_at};
 ghost use Rattle.td_tool.specs.CheckInside.{HasFailedIn};
@@ -7,7 +7,7 @@ ghost use Rattle.td_tool.specs.TrackInside.{AreEarlyTextsIn, HasFailedFor};
 ghost use Rattle.td_tool.specs.Tracks.{file_at};
 ghost use Rattle.td_script.specs.declared.role.Role.TheVariants.{Packages, Sources};
 
-use crate::file_texts::{FileFault, read_one};
+use crate::file_texts::{FILE_LIMIT, FileFault, read_one};
 use crate::texts::Texts;
 use std::alloc::Global;
 use std::thread::Threads;
@@ -33,6 +33,34 @@ fn lasting(text: String) -> &'static str
     unsafe { str::from_utf8_unchecked(bytes) }
 }
 
+// The front and the rest of a file, if it is read so. Both stay as long as the program.
+fn lasting_halves<R: Threads + Sync, T: Texts>(
+    rt: &R,
+    alloc: Global,
+    texts: &T,
+    path: &String,
+) -> Option<(&'static str, &'static str)>
+    ensures { IfSome result (λ p.
+        IsTextOf (T.bytes texts.now (string_bytes path.now)) (p.0.now ++ p.1.now)) }
+{
+    let (front, rest) = texts.halves(rt, alloc, path.as_str(), FILE_LIMIT)?;
+    Some((lasting(front), lasting(rest)))
+}
+
+// Reads the file of Packages as its front and its rest, and finds its stanzas, if it has some.
+fn packages_of_halves<R: Threads + Sync, T: Texts>(
+    rt: &R,
+    alloc: Global,
+    texts: &T,
+    path: &String,
+) -> Option<EarlyPackages<'static>>
+    ensures { IfSome result (λ packages.
+        IsTextOf (T.bytes texts.now (string_bytes path.now)) packages) }
+{
+    let (front, rest) = lasting_halves(rt, alloc, texts, path)?;
+    EarlyPackages::of_halves(rt, alloc, front, rest)
+}
+
 // Reads the file of Packages, and finds its stanzas.
 fn read_packages<R: Threads + Sync, T: Texts>(
     rt: &R,
@@ -46,8 +74,25 @@ fn read_packages<R: Threads + Sync, T: Texts>(
         (file_at (T.bytes texts.now) (T.can_fail texts.now) (string_bytes paths.now.packages))
         Packages) }
 {
+    if let Some(packages) = packages_of_halves(rt, alloc, texts, &paths.packages) {
+        return Ok(packages);
+    }
     let text = read_one(alloc, texts, Role::Packages, &paths.packages)?;
     Ok(EarlyPackages::read_beside(rt, alloc, lasting(text)))
+}
+
+// Reads the file of Sources as its front and its rest, and finds its stanzas, if it has some.
+fn sources_of_halves<R: Threads + Sync, T: Texts>(
+    rt: &R,
+    alloc: Global,
+    texts: &T,
+    path: &String,
+) -> Option<EarlySources<'static>>
+    ensures { IfSome result (λ sources.
+        IsTextOf (T.bytes texts.now (string_bytes path.now)) sources) }
+{
+    let (front, rest) = lasting_halves(rt, alloc, texts, path)?;
+    EarlySources::of_halves(rt, alloc, front, rest)
 }
 
 // Reads the file of Sources, likewise.
@@ -63,6 +108,9 @@ fn read_sources<R: Threads + Sync, T: Texts>(
         (file_at (T.bytes texts.now) (T.can_fail texts.now) (string_bytes paths.now.sources))
         Sources) }
 {
+    if let Some(sources) = sources_of_halves(rt, alloc, texts, &paths.sources) {
+        return Ok(sources);
+    }
     let text = read_one(alloc, texts, Role::Sources, &paths.sources)?;
     Ok(EarlySources::read_beside(rt, alloc, lasting(text)))
 }

@@ -1,6 +1,7 @@
 //! Where the texts of files come from: the disk, or whatever has them.
 use crate::cause::Cause;
 use std::alloc::Global;
+use std::thread::Threads;
 use td_bytes::TextFault;
 
 /// Files that are texts, by their paths. The program reads those of the disk.
@@ -10,6 +11,7 @@ pub trait Texts {
       ℕ,
       ◌≤◌,
       ◌<◌,
+      ◌++◌,
       Bool,
       true,
       List,
@@ -47,6 +49,20 @@ pub trait Texts {
             → IfSome (bytes self.now path.now) (λ all. limit < length all) }
         // Nobody but a file says that it can't be read.
         ensures fails { IfErr result (λ fault. can_fail self.now path.now fault ≡ true) };
+
+    /// Reads a whole file, a text of at most `limit` bytes, as its front and its rest, side by side;
+    /// `None` where it isn't read so, for whatever reason.
+    fn halves<R: Threads + Sync>(
+        &self,
+        rt: &R,
+        alloc: Global,
+        path: &str,
+        limit: usize,
+    ) -> Option<(String, String)>
+        ensures text { IfSome result (λ p. IfSome (bytes self.now path.now)
+            (λ all. all ≡ string_bytes p.0 ++ string_bytes p.1)) }
+        ensures within { IfSome result (λ p.
+            length (string_bytes p.0 ++ string_bytes p.1) ≤ limit) };
 
     /// Why the file with this path can't be read, as a text of at most `limit` bytes; `None` where
     /// that isn't known.
