@@ -2,4 +2,5 @@
 pub mod Settling
 pub mod Alike
 pub mod MarksBeside
+pub mod Wanted
 pub mod FlagsBetween

@@ -10,7 +10,8 @@
 //! place, or what is missing. Which legal pattern is too large no clause says.
 //! A row's status is what `specs/Statuses.antt` says: `Tracker::status` evaluates the queries on
 //! the row's stanzas, `Marks` does so once for each stanza that an archive keeps and is asked row
-//! by row.
+//! by row. Where nothing but what is affected is asked, `Tracker::affected_alone` saves the two
+//! other queries.
 //! What queries and statuses mean is said by `specs/QueryLaws.antt` and `specs/StatusLaws.antt`.
 #![tactic(auto)]
 
@@ -35,6 +36,7 @@ mod tracker_fault;
 mod tracker_reading;
 mod truth;
 mod unescape;
+mod wanted;
 
 pub use laws::{
     fields_match_by_their_values, keys_say_what_is_read, queries_are_as_in_logic,
