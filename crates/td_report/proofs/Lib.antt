@@ -6,6 +6,7 @@ pub mod SeenRows
 pub mod Items
 pub mod Unaffected
 pub mod Opened
+pub mod AffectedAlone
 pub mod OneText
 pub mod Once
 pub mod Counts

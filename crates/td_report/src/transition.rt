@@ -186,7 +186,13 @@ impl<'b, 't, 'a, 'q> Transition<'b, 't, 'a, 'q> {
         ensures { IfOk result (λ text. IsReport (of.contents_of self.now)
             (of.tracking_of self.now) rows.now (string_bytes text)) }
     {
-        self.text(alloc, rows, None, &Beside { rt }, &Chunks { rt, size: chunk })
+        self.text(
+            alloc,
+            rows,
+            None,
+            &Beside { rt },
+            &Chunks { rt, size: chunk },
+        )
     }
 
     /// The same text, where it is given how many rows of each group are Installed. They aren't
@@ -220,7 +226,13 @@ impl<'b, 't, 'a, 'q> Transition<'b, 't, 'a, 'q> {
         ensures { IfOk result (λ text. IsReport (of.contents_of self.now)
             (of.tracking_of self.now) rows.now (string_bytes text)) }
     {
-        self.text(alloc, rows, Some(kept), &Beside { rt }, &Chunks { rt, size: chunk })
+        self.text(
+            alloc,
+            rows,
+            Some(kept),
+            &Beside { rt },
+            &Chunks { rt, size: chunk },
+        )
     }
 
     // The affected sources of the rows, which are found so, by level.

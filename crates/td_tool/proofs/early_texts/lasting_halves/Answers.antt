@@ -16,7 +16,9 @@ returns g c =
       whole = subst (λ path. IfSome (known path)
           (λ all. all ≡ string_bytes front ++ string_bytes rest)) c.as_str.ensures.value
           c.in_ok-front.ensures.text;
-      read = (c.in_ok-front.ensures.within,
-          IsUtf8-append (string_bytes front) (string_bytes rest) (IsUtf8-string_bytes front)
-          (IsUtf8-string_bytes rest));
+      read = (
+        c.in_ok-front.ensures.within,
+        IsUtf8-append (string_bytes front) (string_bytes rest) (IsUtf8-string_bytes front)
+            (IsUtf8-string_bytes rest),
+      );
     })
