@@ -56,26 +56,40 @@ fn read_pieces<'a, R: Threads + Sync>(
     if halvings == 0 {
         return read_piece(alloc, text);
     }
-    let Some((before, behind)) = halved(text) else {
-        return read_piece(alloc, text);
-    };
-    let left = halvings - 1;
+    match halved(text) {
+        Some((before, behind)) => read_two(rt, alloc, before, behind, halvings - 1),
+        None => read_piece(alloc, text),
+    }
+}
+
+/// The stanzas of a text that is cut in two, if it has some, each part of it in such pieces.
+#[cycle(pieces)]
+fn read_two<'a, R: Threads + Sync>(
+    rt: &R,
+    alloc: Global,
+    before: &'a str,
+    behind: &'a str,
+    halvings: usize,
+) -> Option<StanzaPieces<'a>>
+    ensures { (text : List ℕ) → IsCutApart text before.now behind.now
+        → IfSome result (λ list. AreStanzas list (lines_of text)) }
+{
     let of_front = move || -> Option<StanzaPieces>
         requires { IsSync R.row }
         ensures { IfSome result (λ list. AreStanzas list (lines_of before.entry.now)) }
-    { read_pieces(rt, alloc, before, left) };
+    { read_pieces(rt, alloc, before, halvings) };
     let of_rest = move || -> Option<StanzaPieces>
         requires { IsSync R.row }
         ensures { IfSome result (λ list. AreStanzas list (lines_of behind.entry.now)) }
-    { read_pieces(rt, alloc, behind, left) };
+    { read_pieces(rt, alloc, behind, halvings) };
     let (front, rest) = thread::join(rt, of_front, of_rest);
     joined(front, rest)
 }
 
 /// The stanzas of a text that came as its front and its rest, if it is cut before an empty line, and
 /// has some.
-pub fn read_halves<'a, R: Threads + Sync>(
-    rt: &R,
+pub fn read_halves<'a>(
+    rt: &(impl Threads + Sync),
     alloc: Global,
     front: &'a str,
     rest: &'a str,
@@ -83,17 +97,7 @@ pub fn read_halves<'a, R: Threads + Sync>(
     ensures { IfSome result (λ list. AreStanzas list (lines_of (front.now ++ rest.now))) }
 {
     let before = front_of(front, rest)?;
-    let left = HALVINGS - 1;
-    let of_front = move || -> Option<StanzaPieces>
-        requires { IsSync R.row }
-        ensures { IfSome result (λ list. AreStanzas list (lines_of before.entry.now)) }
-    { read_pieces(rt, alloc, before, left) };
-    let of_rest = move || -> Option<StanzaPieces>
-        requires { IsSync R.row }
-        ensures { IfSome result (λ list. AreStanzas list (lines_of rest.entry.now)) }
-    { read_pieces(rt, alloc, rest, left) };
-    let (those, others) = thread::join(rt, of_front, of_rest);
-    joined(those, others)
+    read_two(rt, alloc, before, rest, HALVINGS - 1)
 }
 
 /// The same as `read_stanzas` gives. A text that has a fault, or that memory doesn't suffice for,
