@@ -1,6 +1,6 @@
 //! The line that explains a refusal.
 ghost use Rattle.std.specs.Prelude.{◌≡◌, ◌++◌, ◌<◌, ◌≤◌, ◌^◌, length, option_map, string_bytes};
-ghost use Rattle.std.specs.Prelude.{OnOk, IfOk, IfSome};
+ghost use Rattle.std.specs.Prelude.{OnOk, IfOk, IfSome, IsOk};
 ghost use Rattle.td_explain.specs.Explanation.{explanation, found_name, place_said, point_name};
 ghost use Rattle.td_explain.specs.Explanation.{said_of, text_at as text_at_of};
 ghost use Rattle.td_explain.specs.Spot.{spot_words};
@@ -79,11 +79,13 @@ fn put_said(out: &mut String, point: Point, spot: Option<Spot<'_>>) -> Result<()
     put_shown(out, text_at(&spot))
 }
 
-// Appends the same, and what parts it from what is wanted.
+// Appends what stands at a place of the text, and what parts it from what is wanted. Nothing is
+// said of the text as a whole, and that takes no memory.
 fn put_where(out: &mut String, place: Place, text: &str) -> Result<(), AllocError>
     requires { length text.now < 2 ^ 63 }
-    ensures { OnOk result (string_bytes out.new
+    ensures said { OnOk result (string_bytes out.new
         ≡ string_bytes out.old ++ place_said place text.now) }
+    ensures whole { place ≡ Place.Whole → IsOk result }
 {
     let Some(point) = point_of(place) else {
         return Ok(());
