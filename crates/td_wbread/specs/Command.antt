@@ -27,6 +27,23 @@ abbrev pub text_or_empty : Option Word → List ℕ
 text_or_empty None = []
 text_or_empty (Some word) = word.text
 
+-- what stands at the head of a command line: its verb with its number, its packages, its
+-- architectures, and the words behind the dot that may follow these
+pub record Head : Type 0 where
+  pub verb : Verb
+  pub packages : List Word
+  pub archs : List Word
+  pub behind : Option (List Word)
+
+-- the head of a command line, or what is wrong first with it: verb and number, packages, dot,
+-- architectures
+abbrev pub head_at : List ArchWords → End → List Word → Result Head CommandFault
+head_at table end words =
+    on_ok (verb_at end words) (λ verb.
+    on_ok (packages_at end verb.1) (λ packages.
+    on_ok (archs_at table end packages.1) (λ archs.
+    Ok (record { verb = verb.0; packages = packages.0; archs = archs.0; behind = archs.1 }))))
+
 -- the words of a command by what they are
 pub record Spoken : Type 0 where
   pub verb : Verb
@@ -34,16 +51,18 @@ pub record Spoken : Type 0 where
   pub archs : List Word
   pub values : Values
 
--- the parts of a command line, or what is wrong first: verb and number, packages, dot,
--- architectures, and what follows these
+-- the parts of a command line, or what is wrong first: its head, and what follows that
 unfoldable pub spoken_at : List ArchWords → List (List ℕ) → End → List Word
     → Result Spoken CommandFault
 spoken_at table suites end words =
-    on_ok (verb_at end words) (λ verb.
-    on_ok (packages_at end verb.1) (λ packages.
-    on_ok (archs_at table end packages.1) (λ archs.
-    on_ok (tail_at verb.0 suites end archs.1) (λ values.
-    Ok (record { verb = verb.0; packages = packages.0; archs = archs.0; values = values })))))
+    on_ok (head_at table end words) (λ head.
+    on_ok (tail_at head.verb suites end head.behind) (λ values.
+    Ok (record {
+      verb = head.verb;
+      packages = head.packages;
+      archs = head.archs;
+      values = values;
+    })))
 
 -- the command that such words are
 abbrev pub command_of : List ArchWords → Spoken → CommandParts

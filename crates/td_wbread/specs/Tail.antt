@@ -5,13 +5,15 @@ use Rattle.std.specs.Prelude.{is_none, is_ok, Result, Ok, Err, codes, if◌then�
 use Rattle.std.specs.List.{list_any}
 use Rattle.std.specs.Str.{bytes_eq}
 use Rattle.td_text.specs.Lines.{on_ok}
+use Rattle.td_relation.specs.declared.relation_fault.RelationFault.{RelationFault}
+use Rattle.td_relation.specs.declared.relation_fault.RelationFault.TheVariants as relation
 use Rattle.td_relation.specs.RelationGrammar.{relation_at}
 use Rattle.td_wbread.specs.declared.command.Verb.{Verb}
 use Rattle.td_wbread.specs.declared.command.Verb.TheVariants.{Gb, Nmu, Bp, Dw}
 use Rattle.td_wbread.specs.declared.option_reading.Flag.{Flag}
 use Rattle.td_wbread.specs.declared.option_reading.Flag.TheVariants.{Message, ExtraDepends}
 use Rattle.td_wbread.specs.declared.fault.CommandFault.{CommandFault}
-use Rattle.td_wbread.specs.declared.fault.CommandFault.TheVariants.{Wrong}
+use Rattle.td_wbread.specs.declared.fault.CommandFault.TheVariants.{Wrong, NoMemory}
 use Rattle.td_wbread.specs.declared.fault.LineFault.{LineFault}
 use Rattle.td_wbread.specs.declared.fault.LineFault.TheVariants.{UnterminatedQuote, UnknownSuite}
 use Rattle.td_wbread.specs.declared.fault.LineFault.TheVariants.{BadRelation, MissingMessage, Extra}
@@ -75,6 +77,11 @@ abbrev pub missing_value : Flag → LineFault
 missing_value Message = MissingMessage
 missing_value ExtraDepends = MissingValue
 
+-- the value of an option and the words that follow it, or that the value is missing
+abbrev pub value_at : End → Flag → List Word → Result (Word × List Word) CommandFault
+value_at end flag [] = Err (missing end (missing_value flag))
+value_at end flag (value ∷ words) = Ok (value, words)
+
 -- a text that is a relation (Debian Policy 7.1)
 abbrev pub is_relation : List ℕ → Bool
 is_relation text = is_ok (relation_at text)
@@ -83,10 +90,21 @@ is_relation text = is_ok (relation_at text)
 abbrev pub relation_checked : Word → Result Unit CommandFault
 relation_checked word = if is_relation word.text then Ok tt else Err (Wrong BadRelation word.place)
 
+-- the fault of a word that can't be read as a relation for this cause: it is no relation, unless
+-- memory ran out
+abbrev pub unread_relation : RelationFault → Word → CommandFault
+unread_relation relation.NoMemory word = NoMemory
+unread_relation fault word = Wrong BadRelation word.place
+
 -- whether the value of an option has to be a relation
 abbrev pub wants_relation : Verb → Flag → Bool
 wants_relation verb Message = needs_relation verb
 wants_relation verb ExtraDepends = true
+
+-- a word that is an option of the verb, with a relation as its value
+abbrev pub asks_relation : Verb → Word → Bool
+asks_relation verb word =
+    (is_message word && needs_relation verb) || (is_extra word && takes_extra verb)
 
 -- with the value of an option
 abbrev pub with_value : Flag → Values → Word → Values

@@ -8,7 +8,8 @@ use Rattle.td_wbread.specs.declared.fault.CommandFault.{CommandFault}
 use Rattle.td_wbread.specs.declared.option_reading.Options.{Options}
 use Rattle.td_wbread.specs.declared.word.Word.{Word}
 use Rattle.td_wbread.specs.declared.building.SpokenWords.{SpokenWords}
-use Rattle.td_wbread.specs.Command.{CommandParts, Spoken}
+use Rattle.td_wbread.specs.declared.reading.HeadWords.{HeadWords}
+use Rattle.td_wbread.specs.Command.{CommandParts, Head, Spoken}
 use Rattle.td_wbread.specs.Packages.{PackageText}
 use Rattle.td_wbread.specs.Tail.{Values}
 
@@ -34,12 +35,32 @@ archs_read (Err fault) = Err fault
 abbrev pub package_text : Bor (List ℕ) × Option (Bor (List ℕ)) → PackageText
 package_text p = record { source = p.0.now; version = option_map (λ x. x.now) p.1 }
 
+-- the value of an option, and the words behind it
+abbrev pub value_read : Result (Bor Word × Bor (List Word)) CommandFault
+    → Result (Word × List Word) CommandFault
+value_read (Ok p) = Ok (p.0.now, p.1.now)
+value_read (Err fault) = Err fault
+
 -- the values of options
 abbrev pub values_of : Options → Values
 values_of o = record {
   message = option_map (λ x. x.now) o.message;
   extra = option_map (λ x. x.now) o.extra;
 }
+
+-- the head of a command line
+abbrev pub head_of : HeadWords → Head
+head_of h = record {
+  verb = h.verb;
+  packages = h.packages.now;
+  archs = h.chosen.now;
+  behind = option_map (λ x. x.now) h.behind;
+}
+
+-- the head of a command line, where it was read
+abbrev pub head_read : Result HeadWords CommandFault → Result Head CommandFault
+head_read (Ok h) = Ok (head_of h)
+head_read (Err fault) = Err fault
 
 -- the words of a command
 abbrev pub spoken_of : SpokenWords → Spoken

@@ -1,9 +1,11 @@
 //! What follows the architectures of a command line: a suite and options.
-ghost use Rattle.std.specs.Prelude.{◌≡◌, ◌&&◌, ◌||◌, Ok, Err, IfErr, IfOk, map, option_map};
+ghost use Rattle.std.specs.Prelude.{◌≡◌, ◌≢◌, ◌&&◌, ◌||◌, false, Ok, Err, IfErr, IfOk, IfSome, IsOk};
+ghost use Rattle.std.specs.Prelude.{map, option_map};
 ghost use Rattle.std.specs.List.{list_any};
 ghost use Rattle.std.specs.Str.{bytes_eq};
 ghost use Rattle.td_wbread.specs.Faults.{IsFaultOf};
 ghost use Rattle.td_wbread.specs.Tail.{
+  asks_relation,
   dot_end,
   finished,
   flag_at,
@@ -18,11 +20,13 @@ ghost use Rattle.td_wbread.specs.Tail.{
   tail_at,
   takes_extra as takes_extra_of,
   takes_message as takes_message_of,
+  unread_relation,
+  value_at,
   valued,
   wants_relation as wants_relation_of,
   with_value as with_value_of,
 };
-ghost use Rattle.td_wbread.specs.Views.{values_of};
+ghost use Rattle.td_wbread.specs.Views.{value_read, values_of};
 
 use crate::command::Verb;
 use crate::fault::{CommandFault, LineFault};
@@ -113,6 +117,16 @@ fn missing_value(flag: Flag) -> LineFault
     }
 }
 
+/// The fault of a word that wasn't read as a relation for this cause.
+fn unread(fault: RelationFault, word: &Word) -> CommandFault
+    ensures { result ≡ unread_relation fault word.now }
+{
+    match fault {
+        RelationFault::NoMemory => CommandFault::NoMemory,
+        _ => word.wrong(LineFault::BadRelation),
+    }
+}
+
 /// Refuses a word that is no relation.
 fn check_relation(alloc: Global, word: &Word) -> Result<(), CommandFault>
     ensures ok { IfOk result (λ _. relation_checked word.now ≡ Ok tt) }
@@ -120,8 +134,7 @@ fn check_relation(alloc: Global, word: &Word) -> Result<(), CommandFault>
 {
     match Relation::read(alloc, word.text.as_str()) {
         Ok(_) => Ok(()),
-        Err(RelationFault::NoMemory) => Err(CommandFault::NoMemory),
-        Err(_) => Err(word.wrong(LineFault::BadRelation)),
+        Err(fault) => Err(unread(fault, word)),
     }
 }
 
@@ -161,6 +174,8 @@ fn read_value<'w>(
         (λ more. valued verb.now flag (values_of seen.now) value.now ≡ Ok (values_of more)) }
     ensures err { IfErr result
         (λ e. IsFaultOf (valued verb.now flag (values_of seen.now) value.now) e) }
+    // A value that needn't be a relation is taken, and no memory is wanted.
+    ensures any { wants_relation_of verb.now flag ≡ false → IsOk result }
 {
     if wants_relation(verb, flag) {
         check_relation(alloc, value)?;
@@ -168,11 +183,26 @@ fn read_value<'w>(
     Ok(with_value(flag, seen, value))
 }
 
+/// The value of an option, and the words that follow it.
+fn split_value<'w>(
+    end: End,
+    flag: Flag,
+    words: &'w [Word],
+) -> Result<(&'w Word, &'w [Word]), CommandFault>
+    ensures { value_read result ≡ value_at end flag words.now }
+{
+    match words.split_first() {
+        None => Err(end.missing(missing_value(flag))),
+        Some((value, behind)) => Ok((value, behind)),
+    }
+}
+
 /// Whether the line may end here.
 fn finish<'w>(verb: &Verb, end: End, seen: &Options<'w>) -> Result<Options<'w>, CommandFault>
     ensures ok { IfOk result
         (λ more. finished verb.now end (values_of seen.now) ≡ Ok (values_of more)) }
     ensures err { IfErr result (λ e. IsFaultOf (finished verb.now end (values_of seen.now)) e) }
+    ensures certain { IfErr result (λ e. e ≢ CommandFault.NoMemory) }
 {
     match end {
         End::Open(place) => Err(CommandFault::Wrong(LineFault::UnterminatedQuote, place)),
@@ -196,16 +226,17 @@ fn read_options<'w>(
     ensures ok { IfOk result
         (λ more. options_at verb.now end no_values words.now ≡ Ok (values_of more)) }
     ensures err { IfErr result (λ e. IsFaultOf (options_at verb.now end no_values words.now) e) }
+    // Without an option whose value is a relation no memory is wanted.
+    ensures certain { list_any (asks_relation verb.now) words.now ≡ false
+        → IfErr result (λ e. e ≢ CommandFault.NoMemory) }
 {
     let mut seen = no_options();
     let mut rest = words;
     while let Some((word, after)) = rest.split_first() {
         let flag = read_flag(verb, &seen, word)?;
-        let Some((value, after)) = after.split_first() else {
-            return Err(end.missing(missing_value(flag)));
-        };
+        let (value, behind) = split_value(end, flag, after)?;
         seen = read_value(alloc, verb, flag, &seen, value)?;
-        rest = after;
+        rest = behind;
     }
     finish(verb, end, &seen)
 }
@@ -219,6 +250,9 @@ fn read_suite_end<'w>(
 ) -> Result<Options<'w>, CommandFault>
     ensures ok { IfOk result (λ more. suite_end verb.now end words.now ≡ Ok (values_of more)) }
     ensures err { IfErr result (λ e. IsFaultOf (suite_end verb.now end words.now) e) }
+    // Without an option whose value is a relation no memory is wanted.
+    ensures certain { list_any (asks_relation verb.now) words.now ≡ false
+        → IfErr result (λ e. e ≢ CommandFault.NoMemory) }
 {
     match words.split_first() {
         None => finish(verb, end, &no_options()),
@@ -256,6 +290,9 @@ fn read_dot_end<'w>(
         dot_end verb.now (map (λ s. s.now) suites.now) end words.now ≡ Ok (values_of more)) }
     ensures err { IfErr result
         (λ e. IsFaultOf (dot_end verb.now (map (λ s. s.now) suites.now) end words.now) e) }
+    // Without an option whose value is a relation no memory is wanted.
+    ensures certain { list_any (asks_relation verb.now) words.now ≡ false
+        → IfErr result (λ e. e ≢ CommandFault.NoMemory) }
 {
     match words.split_first() {
         None => finish(verb, end, &no_options()),
@@ -283,6 +320,10 @@ pub fn read_tail<'w>(
         (option_map (λ x. x.now) behind.entry) ≡ Ok (values_of more)) }
     ensures err { IfErr result (λ e. IsFaultOf (tail_at verb.now (map (λ s. s.now) suites.now) end
         (option_map (λ x. x.now) behind.entry)) e) }
+    // Without an option whose value is a relation no memory is wanted.
+    ensures certain { IfSome behind.entry
+        (λ words. list_any (asks_relation verb.now) words.now ≡ false)
+        → IfErr result (λ e. e ≢ CommandFault.NoMemory) }
 {
     match behind {
         None => finish(verb, end, &no_options()),

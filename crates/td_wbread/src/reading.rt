@@ -1,14 +1,15 @@
 //! A command line, read.
-ghost use Rattle.std.specs.Prelude.{◌≡◌, Ok, Err, IfErr, IfOk, IsErrAnd, MatchResult, map};
+ghost use Rattle.std.specs.Prelude.{◌≡◌, Ok, Err, IfErr, IfOk, IsErrAnd, IsErrOf, MatchResult, map};
 ghost use Rattle.td_relation.specs.TableView.{table};
-ghost use Rattle.td_wbread.specs.Command.{CommandParts, command_at, command_from, spoken_at};
+ghost use Rattle.td_wbread.specs.Command.{CommandParts, command_at, command_from, head_at};
+ghost use Rattle.td_wbread.specs.Command.{spoken_at};
 ghost use Rattle.td_wbread.specs.Faults.{IsFaultOf, IsOrNoMemory};
-ghost use Rattle.td_wbread.specs.Views.{parts_of, spoken_of};
+ghost use Rattle.td_wbread.specs.Views.{head_read, parts_of, spoken_of};
 ghost use Rattle.td_wbread.specs.declared.fault.CommandFault.{CommandFault};
 
 use crate::arch_reading::read_archs;
 use crate::building::{SpokenWords, make_command};
-use crate::command::Command;
+use crate::command::{Command, Verb};
 use crate::fault::CommandFault;
 use crate::option_reading::read_tail;
 use crate::package_reading::read_packages;
@@ -17,6 +18,37 @@ use crate::verb_reading::read_verb;
 use crate::word::{End, Word};
 use std::alloc::Global;
 use td_relation::Archs;
+
+/// The words at the head of a command line by what they are, and those behind them.
+#[derive(Clone, Copy)]
+struct HeadWords<'w> {
+    verb: Verb,
+    packages: &'w [Word],
+    chosen: &'w [Word],
+    behind: Option<&'w [Word]>,
+}
+
+/// The head of a command line. It takes no memory.
+fn read_head<'w>(
+    archs: &Archs<'_>,
+    end: End,
+    words: &'w [Word],
+) -> Result<HeadWords<'w>, CommandFault>
+    ensures { head_read result ≡ head_at (table archs.now) end words.now }
+{
+    let (verb, words) = match read_verb(end, words) {
+        Ok(read) => read,
+        Err(fault) => return Err(fault),
+    };
+    let (packages, words) = read_packages(end, words)?;
+    let (chosen, behind) = read_archs(archs, end, words)?;
+    Ok(HeadWords {
+        verb,
+        packages,
+        chosen,
+        behind,
+    })
+}
 
 /// The parts of a command line.
 #[tactic(auto, unfolding(crate::specs::Command::spoken_at))]
@@ -31,18 +63,19 @@ fn read_spoken<'w>(
         (map (λ s. s.now) suites.now) end words.now ≡ Ok (spoken_of s)) }
     ensures err { IfErr result (λ e.
         IsFaultOf (spoken_at (table archs.now) (map (λ s. s.now) suites.now) end words.now) e) }
+    // What is wrong with the head is said whatever memory there is.
+    ensures head { (fault : CommandFault) → head_at (table archs.now) end words.now ≡ Err fault
+        → IsErrOf result fault }
 {
-    let (verb, words) = match read_verb(end, words) {
-        Ok(read) => read,
+    let head = match read_head(archs, end, words) {
+        Ok(head) => head,
         Err(fault) => return Err(fault),
     };
-    let (packages, words) = read_packages(end, words)?;
-    let (chosen, behind) = read_archs(archs, end, words)?;
-    let options = read_tail(alloc, &verb, suites, end, behind)?;
+    let options = read_tail(alloc, &head.verb, suites, end, head.behind)?;
     Ok(SpokenWords {
-        verb,
-        packages,
-        chosen,
+        verb: head.verb,
+        packages: head.packages,
+        chosen: head.chosen,
         options,
     })
 }
@@ -59,6 +92,9 @@ fn read_from<'a>(
         (map (λ s. s.now) suites.now) end words.now ≡ Ok (parts_of c)) }
     ensures err { IfErr result (λ e. IsFaultOf
         (command_from (table archs.now) (map (λ s. s.now) suites.now) end words.now) e) }
+    // What is wrong with the head is said whatever memory there is.
+    ensures head { (fault : CommandFault) → head_at (table archs.now) end words.now ≡ Err fault
+        → IsErrOf result fault }
 {
     let spoken = match read_spoken(alloc, archs, suites, end, words) {
         Ok(spoken) => spoken,
