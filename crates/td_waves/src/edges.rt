@@ -1,6 +1,7 @@
 //! Which affected sources build on which.
-ghost use Rattle.std.specs.Prelude.{◌≡◌, ◌&&◌, ◌<◌, ◌≤◌, ℕ, IfOk, length, nat_lt};
+ghost use Rattle.std.specs.Prelude.{◌≡◌, ◌&&◌, ◌<◌, ◌≤◌, ℕ, IfOk, IsOk, None, length, nat_lt};
 ghost use Rattle.std.specs.List.{All};
+ghost use Rattle.td_indices.specs.Archive.{number_named};
 ghost use Rattle.td_waves.specs.Asking.{has};
 ghost use Rattle.td_waves.specs.BuildsOn.{builds_on};
 ghost use Rattle.td_waves.specs.Edges.{AreEdges, name_at};
@@ -12,7 +13,8 @@ use indexmap::IndexSet;
 use std::alloc::{AllocError, Global};
 use td_indices::Archive;
 
-// The numbers of the affected sources on which the one with this number builds.
+// The numbers of the affected sources on which the one with this number builds. A name that no
+// source of the archive has builds on none, and that takes no memory.
 fn bases_of<'a>(
     alloc: Global,
     archive: &Archive<'_, 'a>,
@@ -22,9 +24,11 @@ fn bases_of<'a>(
 ) -> Result<Vec<usize>, AllocError>
     requires node { node < length names.now.keys }
     requires providers { AreProviders archive.now names.now.keys providers.now }
-    ensures { IfOk result
+    ensures bases { IfOk result
         (λ bases. (t : ℕ) → has t bases.items ≡ (nat_lt t (length names.now.keys)
         && builds_on archive.now (name_at names.now.keys node) (name_at names.now.keys t))) }
+    ensures sourceless { number_named archive.now (name_at names.now.keys node) ≡ None
+        → IsOk result }
 {
     let name = names[node];
     let Some(number) = archive.source_number(name) else {

@@ -6,4 +6,4 @@ pub loop-node-preserved : goal.loop-node-preserved
 loop-node-preserved c =
     edges_more c.args.archive.now c.args.names.now.keys c.args.from c.loop-node.node
     c.loop-node.graph.items c.push.new.self.items c.in_ok-bases_of.field-0
-    c.in_ok-push.ensures.items c.loop-node.invariant c.in_ok-bases_of.ensures
+    c.in_ok-push.ensures.items c.loop-node.invariant c.in_ok-bases_of.ensures.bases
