@@ -21,3 +21,5 @@ pub mod FoundWords
 pub mod FoundParts
 pub mod FoundProfiles
 pub mod FoundRelations
+pub mod FirstLines
+pub mod EmptyRelations

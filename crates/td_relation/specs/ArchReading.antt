@@ -1,6 +1,7 @@
 -- How a table of architectures is read: line by line, the first fault decides. This project's own.
 use Rattle.std.specs.Prelude.{ℕ, ◌==◌, ◌&&◌, List, [], ◌∷◌, ◌++◌, Option, Some, None, Result, Ok}
-use Rattle.std.specs.Prelude.{Err, length, if◌then◌else◌}
+use Rattle.std.specs.Prelude.{Err, length, not, if◌then◌else◌}
+use Rattle.std.specs.List.{find}
 use Rattle.td_text.specs.Chain.{◌>>=◌}
 use Rattle.td_text.specs.Cut.{cut}
 use Rattle.td_text.specs.Lines.{lines_of, over_lines}
@@ -20,6 +21,10 @@ arch_at line = do
     os = b.0;
     cpu = b.1;
   }) else None
+
+-- the first line that isn't skipped
+abbrev pub first_kept : List (List ℕ) → Option (List ℕ)
+first_kept lines = find (λ line. not (is_skipped line)) lines
 
 -- the architectures seen and that of a line, if it is one
 abbrev pub add_arch : ℕ → List ArchWords → Option ArchWords → Result (List ArchWords) ArchsFault

@@ -19,3 +19,4 @@ pub mod RelationWriting
 pub mod MeetingLaws
 pub mod Props
 pub mod Spacing
+pub mod EmptyRelations

@@ -1,13 +1,14 @@
 //! How a table of architectures is read.
 ghost use Rattle.std.specs.Prelude.{◌≡◌, ◌<◌, ◌≤◌, ◌^◌, ◌+◌, Ok, IfOk, IfErr, OnOk, ◌≢◌, ◌++◌, ◌∷◌};
-ghost use Rattle.std.specs.Prelude.{[], length, map};
+ghost use Rattle.std.specs.Prelude.{[], List, ℕ, None, Some, length, map};
 ghost use Rattle.std.specs.List.{list_any};
 ghost use Rattle.std.specs.Str.{bytes_eq};
 ghost use Rattle.td_relation.specs.Limits.{max_archs};
 ghost use Rattle.td_relation.specs.Arch.{words_of};
-ghost use Rattle.td_relation.specs.ArchReading.{add_arch, arch_at, archs_at};
+ghost use Rattle.td_relation.specs.ArchReading.{add_arch, arch_at, archs_at, first_kept};
 ghost use Rattle.td_relation.specs.Fails.{Fails};
 ghost use Rattle.td_relation.specs.Table.{is_skipped as is_skipped_of};
+ghost use Rattle.td_text.specs.Lines.{lines_of};
 
 use crate::arch::Arch;
 use crate::archs::{ArchsFault, MAX_ARCHS};
@@ -27,13 +28,14 @@ fn is_named(list: &[Arch<'_>], name: &str) -> bool
     list.iter().any(|a| a.name == name)
 }
 
-// The architecture of a line that isn't skipped, behind those that were read.
+// The architecture of a line that isn't skipped, behind those that were read. It takes no memory.
 fn next_arch<'a>(list: &[Arch<'a>], number: usize, line: &'a str) -> Result<Arch<'a>, ArchsFault>
     ensures ok { IfOk result (λ a. add_arch number (map words_of list.now) (arch_at line.now)
         ≡ Ok (map words_of list.now ++ words_of a ∷ [])) }
     ensures room { OnOk result (length list.now ≢ max_archs) }
     ensures err { IfErr result
         (λ e. Fails e (add_arch number (map words_of list.now) (arch_at line.now))) }
+    ensures certain { IfErr result (λ e. e ≢ ArchsFault.NoMemory) }
 {
     let Some(arch) = Arch::read(line) else {
         return Err(ArchsFault::BadLine(number));
@@ -66,6 +68,9 @@ pub fn read_list(alloc: Global, text: &str) -> Result<Vec<Arch<'_>>, ArchsFault>
     ensures ok { IfOk result (λ list. archs_at text.now ≡ Ok (map words_of list.items)) }
     ensures few { IfOk result (λ list. length list.items ≤ max_archs) }
     ensures err { IfErr result (λ e. Fails e (archs_at text.now)) }
+    // A first line that is no architecture's is told whatever memory there is.
+    ensures certain { (line : List ℕ) → first_kept (lines_of text.now) ≡ Some line
+        → arch_at line ≡ None → IfErr result (λ e. e ≢ ArchsFault.NoMemory) }
 {
     let mut list = Vec::new(alloc);
     let mut rest = Some(text);

@@ -67,6 +67,7 @@ impl<'a> Archs<'a> {
       [],
       IfOk,
       IfErr,
+      IsErrOf,
       MatchResult,
       length,
       map,
@@ -104,6 +105,9 @@ impl<'a> Archs<'a> {
         // A text with a fault is refused for it, unless memory runs out.
         ensures refused { (fault : ArchsFault) → IsFirstFault (lines_of text.now) fault
             → IsRefusedFor fault result }
+        // A fault before which no architecture stands is told whatever memory there is.
+        ensures certain { (fault : ArchsFault) → (f : IsFirstFault (lines_of text.now) fault)
+            → f.seen ≡ [] → IsErrOf result fault }
     {
         let list = arch_reading::read_list(alloc, text)?;
         Ok(Archs { list })

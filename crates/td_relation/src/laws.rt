@@ -1,4 +1,5 @@
 //! What is promised of relations as such.
+ghost use Rattle.td_relation.specs.EmptyRelations.{EmptyRelationsAreExact};
 ghost use Rattle.td_relation.specs.MeetingLaws.{ListsCount, MoreStillMeets, OthersMakeNoDifference};
 ghost use Rattle.td_relation.specs.RelationWriting.{RelationsAreReadAgain};
 ghost use Rattle.td_relation.specs.Spacing.{RelationsAreExact, SpacedRelationsAreRead};
@@ -28,4 +29,9 @@ pub fn spaced_relations_are_read()
 /// what its parts ask.
 pub fn relations_are_read_exactly()
     ensures { RelationsAreExact }
+{}
+
+/// A text is refused as empty exactly where it has commas and whitespace alone, or nothing.
+pub fn texts_without_members_are_empty()
+    ensures { EmptyRelationsAreExact }
 {}

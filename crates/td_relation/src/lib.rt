@@ -32,7 +32,7 @@ pub use arch::Arch;
 pub use archs::{Archs, ArchsFault, MAX_ARCHS};
 pub use laws::{
     relations_are_read_exactly, relations_ask_for_what_they_name, spaced_relations_are_read,
-    written_relations_are_read_again,
+    texts_without_members_are_empty, written_relations_are_read_again,
 };
 pub use members::Members;
 pub use offering::Offering;

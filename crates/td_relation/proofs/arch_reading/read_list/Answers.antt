@@ -1,8 +1,8 @@
--- `read_list`: the clauses `err` and `ok` and its loop.
+-- `read_list`: the clauses `err`, `certain` and `ok`, and its loop.
 use Rattle.std.proofs.Common.{◌≡◌, ◌≢◌, ◌+◌, length, subst, ap, arith, rules, sym, ◌∙◌, false, true}
 use Rattle.std.proofs.Common.{map, List, Ok, ◌++◌, ◌∷◌, []}
 use Rattle.std.proofs.lemmas.Result.{err_from_is_err_and}
-use Rattle.td_text.specs.Lines.{left_len}
+use Rattle.td_text.specs.Lines.{left_len, lines_left}
 use Rattle.td_text.proofs.Lines.{taken, stepped, skips, ends}
 use Rattle.td_relation.specs.declared.arch.Arch.{Arch}
 use Rattle.td_relation.specs.Arch.{words_of}
@@ -10,6 +10,7 @@ use Rattle.td_relation.specs.ArchReading.{arch_step, add_arch, arch_at}
 use Rattle.td_relation.specs.Fails.{Fails}
 use Rattle.td_relation.specs.Table.{is_skipped}
 use Rattle.td_relation.proofs.ArchTexts.{arch_step-skipped, arch_step-kept, Fails-over_lines}
+use Rattle.td_relation.proofs.FirstLines.{first_skipped_is, read_first}
 use Rattle.td_relation.proofs.arch_reading.read_list.Goals as goal
 
 pub returns-in_err-arch-clause-err : goal.returns-in_err-arch-clause-err
@@ -44,6 +45,10 @@ loop-rest-preserved-in-Continue-branch-2 c =
           (arch_step-kept _ _ _ kept ∙ added ∙ ap Ok (sym c.in_ok-push_arch.ensures.ok)) h;
       small = omega (arith, ap left_len c.in-Some.is);
       few = (let longer = c.in_ok-push_arch.ensures.longer in omega arith);
+      first = λ line is bad. absurd (read_first (c.loop-rest.number + 1) (map words_of seen)
+          (map words_of seen ++ words_of c.in_ok-arch.arch ∷ []) (lines_left c.loop-rest.rest) _
+          c.next_line.result.0.now line (ap lines_left c.in-Some.is ∙ c.next_line.ensures.lines)
+          kept (c.loop-rest.invariant.first line is bad) bad added);
     }
 
 pub loop-rest-preserved : goal.loop-rest-preserved
@@ -57,8 +62,26 @@ loop-rest-preserved c =
           c.next_line.result.0.now skipped) h;
       small = omega (arith, ap left_len c.in-Some.is);
       few = omega arith;
+      first = λ line is bad. first_skipped_is (lines_left c.loop-rest.rest) _
+          c.next_line.result.0.now line (ap lines_left c.in-Some.is ∙ c.next_line.ensures.lines)
+          skipped (c.loop-rest.invariant.first line is bad);
     }
 
 pub returns-clause-ok : goal.returns-clause-ok
 returns-clause-ok c =
     ends arch_step _ _ c.loop-rest.rest _ c.in_default.is c.loop-rest.invariant.decides
+
+pub returns-in_err-arch-clause-certain : goal.returns-in_err-arch-clause-certain
+returns-in_err-arch-clause-certain c = λ line is bad.
+    let p = err_from_is_err_and c.from_residual.result c.from_residual.ensures.1 in
+    rw (p.1, p.2) c.in_err-arch.ensures.certain
+
+-- a line that is an architecture's was read
+pub returns-in_err-push_arch-clause-certain : goal.returns-in_err-push_arch-clause-certain
+returns-in_err-push_arch-clause-certain c = λ line is bad.
+    let kept : is_skipped c.next_line.result.0.now ≡ false = search rules in
+    let seen = map words_of c.as_slice.result.now in
+    absurd (read_first (c.loop-rest.number + 1) seen (seen ++ words_of c.in_ok-arch.arch ∷ [])
+    (lines_left c.loop-rest.rest) _ c.next_line.result.0.now line
+    (ap lines_left c.in-Some.is ∙ c.next_line.ensures.lines) kept
+    (c.loop-rest.invariant.first line is bad) bad c.in_ok-arch.ensures.ok)

@@ -1,5 +1,5 @@
--- `Archs::read`: the clauses `only`, `fault`, `found` and `refused` and its type's invariant.
-use Rattle.std.proofs.Common.{◌≡◌, true, List, [], ◌∷◌, map, refl}
+-- `Archs::read`: its clauses, and its type's invariant.
+use Rattle.std.proofs.Common.{◌≡◌, true, List, [], ◌∷◌, Err, map, refl, ap, inl, inr}
 use Rattle.std.specs.List.{list_all, AllByRecursion}
 use Rattle.std.proofs.lemmas.Bool.{and_parts, and_from}
 use Rattle.std.proofs.lemmas.Result.{err_from_is_err_and}
@@ -7,8 +7,10 @@ use Rattle.td_text.specs.Lines.{lines_of}
 use Rattle.td_text.specs.Words.{is_arch}
 use Rattle.td_relation.specs.Arch.{ArchFits, words_of}
 use Rattle.td_relation.specs.declared.arch.Arch.{Arch}
+use Rattle.td_relation.specs.declared.archs.ArchsFault.{ArchsFault}
 use Rattle.td_relation.proofs.ArchTexts.{IsTable-read, IsTable-one, IsTable-fails, FaultOf-read}
 use Rattle.td_relation.proofs.ArchTexts.{refused-for, not-refused}
+use Rattle.td_relation.proofs.FirstLines.{first_bad}
 use Rattle.td_relation.proofs.archs.Archs.read.Goals as goal
 
 pub returns-in_err-list-clause-only : goal.returns-in_err-list-clause-only
@@ -68,3 +70,18 @@ pub returns-clause-refused : goal.returns-clause-refused
 returns-clause-refused c =
     λ fault is. not-refused (lines_of c.args.text.now) (map words_of c.in_ok-list.list.items) fault
     c.in_ok-list.ensures.ok is
+
+pub returns-in_err-list-clause-certain : goal.returns-in_err-list-clause-certain
+returns-in_err-list-clause-certain c = λ fault f none.
+    let p = err_from_is_err_and c.from_residual.result c.from_residual.ensures.1 in
+    let first = first_bad (lines_of c.args.text.now) fault f none in
+    rw (p.1, p.2) (elim (refused-for (lines_of c.args.text.now) fault c.in_err-list.field-0.0 f
+    c.in_err-list.ensures.err) [
+      | inl lacks ↦ absurd (c.in_err-list.ensures.certain f.line first.0 first.1 lacks)
+      | inr same ↦ ap (λ (e : ArchsFault). Err e) same
+    ])
+
+pub returns-clause-certain : goal.returns-clause-certain
+returns-clause-certain c =
+    λ fault f none. absurd (not-refused (lines_of c.args.text.now)
+    (map words_of c.in_ok-list.list.items) fault c.in_ok-list.ensures.ok f)
