@@ -20,3 +20,4 @@ pub mod Meanings
 pub mod Grades
 pub mod QueryRules
 pub mod KeyRules
+pub mod OneStatus

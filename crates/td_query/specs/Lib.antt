@@ -17,3 +17,4 @@ pub mod QueryRules
 pub mod StatusLaws
 pub mod inner
 pub mod KeyRules
+pub mod TrackerLaws

@@ -2,13 +2,14 @@
 use Rattle.std.specs.Prelude.{◌≡◌, ℕ, ◌+◌, ◌*◌, ◌^◌, ◌≤◌, ◌==◌, ◌&&◌, Bool, false, List, [], ◌∷◌}
 use Rattle.std.specs.Prelude.{if◌then◌else◌}
 use Rattle.std.specs.List.{AllByRecursion}
-use Rattle.regex.specs.Patterns.{Refuses, default_config}
+use Rattle.regex.specs.Patterns.{Re, Refuses, default_config}
 use Rattle.regex.specs.Strings.{regex_config, regex_size, IsReadFromSource}
 use Rattle.regex.specs.Failures.{IsPattern, IsRightKind}
 use Rattle.regex.specs.declared.error.Error.{Error}
 use Rattle.regex.specs.declared.string.regex.Regex.{Regex}
 use Rattle.regex.specs.declared.error.Error.TheVariants.{CompiledTooBig, Internal, OutOfMemory}
 use Rattle.regex.specs.declared.error.Error.TheVariants.{Syntax}
+use Rattle.regex_hir.specs.Meaning.{meaning}
 use Rattle.td_query.specs.QueryGrammar.{Raw, Log}
 
 -- whether a text begins with a slash
@@ -34,6 +35,10 @@ source_of r = unescaped r.raw
 -- the grammar of `regex` reads these patterns
 abbrev pub ArePatterns : Log → Type 0
 ArePatterns log = AllByRecursion (λ r. IsPattern default_config (source_of r)) log
+
+-- the grammar of `regex` reads this pattern in a text, with the default options
+abbrev pub IsReadAs : List ℕ → Re → Type 0
+IsReadAs text re = (p : IsPattern default_config text) × (re ≡ meaning p.0)
 
 -- what an error of `regex` says of a text. One of syntax: the grammar doesn't read it, or it is
 -- nested deeper than the limit. Too large: it is a pattern, and no more, since the contract of

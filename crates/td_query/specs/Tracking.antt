@@ -1,10 +1,11 @@
 -- A tracker, without where it lies in memory, and which text it is read from. This project's own.
 use Rattle.std.specs.Prelude.{◌≡◌, ℕ, false, List, Some, map, Ok}
+use Rattle.std.specs.List.{AllZip}
 use Rattle.regex.specs.Patterns.{Re}
 use Rattle.regex.specs.Strings.{regex_pattern, regex_source}
 use Rattle.td_query.specs.declared.tracker.Tracker.{Tracker}
 use Rattle.td_query.specs.Query.{Shape, always, shape_of}
-use Rattle.td_query.specs.Sources.{source_of, AreDefault, ArePatterns}
+use Rattle.td_query.specs.Sources.{source_of, AreDefault, ArePatterns, IsReadAs}
 use Rattle.td_query.specs.TrackerGrammar.{Said, said_in}
 
 -- a title, three queries, and the patterns that they name by their numbers: as they are written and
@@ -36,14 +37,16 @@ pub record IsSaid (s : Said) (texts : List (List ℕ)) (t : Tracking) : Type 0 w
   pub bad : s.bad ≡ Some t.bad
   pub sources : t.sources ≡ texts
 
--- a text is the tracker's
+-- a text is the tracker's: the tracker holds what the text's keys say, and each of its patterns is
+-- what the grammar of `regex` reads in the pattern's text
 pub record IsTracker (text : List ℕ) (t : Tracking) : Type 0 where
   pub says : Said
   pub read : said_in text ≡ Ok says
   pub held : IsSaid says (map source_of says.log) t
   pub are_patterns : ArePatterns says.log
+  pub compiled : AllZip IsReadAs t.sources t.patterns
 
--- a tracker's patterns are compiled with the default options and limit, each from its text
+-- a tracker's patterns are compiled with the default options and within the default limit of size
 abbrev pub AreCompiled : Tracker → Type 0
 AreCompiled t = AreDefault t.patterns.items
 

@@ -9,6 +9,8 @@ ghost use Rattle.td_query.specs.QueryRules.{ConjunctionsAreRead, DisjunctionsAre
 ghost use Rattle.td_query.specs.QueryRules.{NegationsAreRead, PartsAreRead};
 ghost use Rattle.td_query.specs.StatusLaws.{RowsAloneHaveAStatus, RowsAreGradedByTheirStanzas};
 ghost use Rattle.td_query.specs.StatusLaws.{RowsSatisfyByAStanza};
+ghost use Rattle.td_query.specs.TrackerLaws.{RowsHaveOneStatus, TrackersAreOne, TrackersAreThere};
+ghost use Rattle.td_query.specs.TrackerLaws.{TrackersHoldAlike};
 
 /// `!`, `&` and `|` are those of logic.
 pub fn queries_are_as_in_logic()
@@ -33,6 +35,16 @@ pub fn queries_are_read_by_their_rules()
 pub fn keys_say_what_is_read()
     ensures queries { QueriesAreSaid }
     ensures titles { TitlesAreSaid }
+{}
+
+/// A text whose keys say the three queries, with patterns that `regex` reads, is a tracker's. Two
+/// trackers of it have the same title, queries and texts of patterns, and their patterns match
+/// alike. So a query holds on a stanza by both or by neither, and a row has one status.
+pub fn trackers_mean_one_thing()
+    ensures there { TrackersAreThere }
+    ensures one { TrackersAreOne }
+    ensures truth { TrackersHoldAlike }
+    ensures status { RowsHaveOneStatus }
 {}
 
 /// A text is found exactly where it stands in a field's value with bounds on both sides, a pattern

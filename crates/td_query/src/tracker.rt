@@ -2,7 +2,8 @@
 ghost use Rattle.std.specs.Prelude.{◌≡◌, IfErr, IfOk, Ok, length, map};
 ghost use Rattle.regex.specs.Strings.{regex_source};
 ghost use Rattle.td_query.specs.TrackerFaults.{FaultOf, IsPatternFault, log_in};
-ghost use Rattle.td_query.specs.Sources.{AreDefault, ArePatterns, source_of};
+ghost use Rattle.std.specs.List.{AllZip};
+ghost use Rattle.td_query.specs.Sources.{AreDefault, ArePatterns, IsReadAs, source_of};
 ghost use Rattle.td_query.specs.TrackerGrammar.{Said, nothing_said, said_in};
 ghost use Rattle.td_query.specs.TrackerViews.{said};
 
@@ -27,8 +28,6 @@ pub struct Tracker<'a> {
     pub(crate) good: Query<'a>,
     pub(crate) bad: Query<'a>,
     pub(crate) patterns: Vec<Regex>,
-    // Each is compiled from its text, with the default options: so two of one text find alike.
-    ghost compiled: { ∥ AreDefault patterns.items ∥₁ },
 }
 
 // Reads a text's keys up to its end, and compiles their patterns.
@@ -74,6 +73,8 @@ impl<'a> Tracker<'a> {
         ensures found { IfOk result
             (λ t. IsSaid (said keys.entry) (map regex_source patterns.items) (tracking t)) }
         ensures patterns { IfOk result (λ t. t.patterns.items ≡ patterns.items) }
+        ensures compiled { IfOk result
+            (λ t. AllZip IsReadAs (tracking t).sources (tracking t).patterns) }
         ensures missing { IfErr result (IsMissing (said keys.entry)) }
     {
         let Keys {
@@ -104,10 +105,9 @@ impl<'a> Tracker<'a> {
     /// Reads a tracker. The first fault from the left decides, and a pattern stands before what
     /// follows it; then the keys that are missing, in the order `is_affected`, `is_good`, `is_bad`.
     pub fn read(alloc: Global, text: &'a str) -> Result<Tracker<'a>, TrackerFault>
-        // What is read is the tracker of the text.
+        // What is read is the tracker of the text, and its patterns are those that `regex` reads.
         ensures found { IfOk result (λ t. IsTracker text.now (tracking t)) }
-        // Its patterns are compiled as they are written, with the default options and the default
-        // limit of size.
+        // Each pattern is compiled with the default options, and within the default limit of size.
         ensures compiled { IfOk result AreCompiled }
         // A tracker is read, unless memory runs out, or `regex` refuses a pattern that is one: it
         // may be too large.

@@ -26,4 +26,4 @@ returns c t is =
     (kept_fields c.args.archive.now c.args.file) c.args.from c.args.to marks.items))
     (same_marks wanted text (tracking t) (tracking u) is also patterns)
     (c.mark_range.ensures.alike patterns (alike_still patterns own
-    (alike_patterns wanted text t u is also)))
+    (alike_patterns wanted text (tracking t) (tracking u) is also)))
