@@ -20,4 +20,5 @@ pub mod Meanings
 pub mod Grades
 pub mod QueryRules
 pub mod KeyRules
+pub mod Beginnings
 pub mod OneStatus

@@ -18,3 +18,4 @@ pub mod StatusLaws
 pub mod inner
 pub mod KeyRules
 pub mod TrackerLaws
+pub mod WantOfMemory

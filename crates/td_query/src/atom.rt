@@ -1,11 +1,13 @@
 //! How the parts of a query without `&`, `|` and `!` are read.
-ghost use Rattle.std.specs.Prelude.{◌<◌, ◌≤◌, ◌≢◌, IfErr, IfOk, List, length, map};
+ghost use Rattle.std.specs.Prelude.{◌<◌, ◌≤◌, ◌≢◌, IfErr, IfOk, IsErrOf, IsSome, IsTrue, List};
+ghost use Rattle.std.specs.Prelude.{length, map};
 ghost use Rattle.td_query.specs.declared.read_fault.ReadFault.{ReadFault};
 ghost use Rattle.td_query.specs.declared.read_fault.RawPattern.{RawPattern};
 ghost use Rattle.td_query.specs.QueryGrammar.{atom, field_atom, slash_atom, tilde_atom};
 ghost use Rattle.td_query.specs.QueryGrammar.{word_atom};
 ghost use Rattle.td_query.specs.Tokens.{pattern_in};
 ghost use Rattle.td_query.specs.Views.{Gives, raw_of};
+ghost use Rattle.td_query.specs.WantOfMemory.{reads_pattern};
 
 use crate::query::Query;
 use crate::read_fault::{RawPattern, ReadFault};
@@ -42,6 +44,7 @@ fn read_slash<'a>(
     ensures gives { Gives result log.new.items
         (slash_atom (map raw_of log.old.items) field.now left (pattern_in text.now)) }
     ensures shorter { IfOk result (λ x. length x.1.now ≤ length text.now) }
+    ensures memory { IsErrOf result ReadFault.NoMemory → IsSome (pattern_in text.now) }
 {
     match read_pattern(text) {
         None => Err(ReadFault::Syntax(0)),
@@ -63,6 +66,8 @@ fn read_tilde<'a>(
     ensures gives { Gives result log.new.items
         (tilde_atom (map raw_of log.old.items) field.now text.now) }
     ensures shorter { IfOk result (λ x. length x.1.now ≤ length text.now) }
+    ensures memory { IsErrOf result ReadFault.NoMemory
+        → IsTrue (reads_pattern (tilde_atom (map raw_of log.old.items) field.now text.now)) }
 {
     let at = skip(text);
     let Some(rest) = strip(at, "~") else {
@@ -89,6 +94,8 @@ fn read_field<'a>(
 ) -> Result<(Query<'a>, &'a str), ReadFault>
     ensures gives { Gives result log.new.items (field_atom (map raw_of log.old.items) text.now) }
     ensures shorter { IfOk result (λ x. length x.1.now ≤ length text.now) }
+    ensures memory { IsErrOf result ReadFault.NoMemory
+        → IsTrue (reads_pattern (field_atom (map raw_of log.old.items) text.now)) }
 {
     let (field, rest) = word_run(text);
     if field.is_empty() {
@@ -105,6 +112,8 @@ pub fn read_atom<'a>(
 ) -> Result<(Query<'a>, &'a str), ReadFault>
     ensures gives { Gives result log.new.items (atom (map raw_of log.old.items) at.now) }
     ensures shorter { IfOk result (λ x. length x.1.now < length at.now) }
+    ensures memory { IsErrOf result ReadFault.NoMemory
+        → IsTrue (reads_pattern (atom (map raw_of log.old.items) at.now)) }
 {
     match strip(at, ".") {
         Some(rest) => read_field(rest, log),

@@ -1,8 +1,9 @@
 //! How the patterns of a tracker are compiled.
-ghost use Rattle.std.specs.Prelude.{◌≡◌, IfErr, IfOk, IsErrOf, map};
+ghost use Rattle.std.specs.Prelude.{◌≡◌, ◌↔◌, IfErr, IfOk, IsErrOf, map};
 ghost use Rattle.regex.specs.Failures.{IsPattern};
 ghost use Rattle.regex.specs.Patterns.{default_config};
 ghost use Rattle.regex.specs.Strings.{regex_source};
+ghost use Rattle.regex.specs.declared.error.Error.TheVariants.{OutOfMemory};
 ghost use Rattle.td_query.specs.Sources.{AreDefault, ArePatterns, IsDefault, IsRefusedForCause};
 ghost use Rattle.td_query.specs.Sources.{source_of, unescaped};
 ghost use Rattle.td_query.specs.TrackerFaults.{IsPatternFault};
@@ -21,6 +22,16 @@ enum PatternFault {
     NoMemory,
 }
 
+// What an error of `regex` is told as: want of memory alone as want of memory.
+fn fault_of(error: Error) -> PatternFault
+    ensures memory { (result ≡ PatternFault.NoMemory) ↔ (error ≡ OutOfMemory) }
+{
+    match error {
+        Error::OutOfMemory => PatternFault::NoMemory,
+        _ => PatternFault::BadPattern,
+    }
+}
+
 // The pattern that a text spells.
 fn pattern_of(alloc: Global, text: &str) -> Result<Regex, PatternFault>
     ensures source { IfOk result (λ r. regex_source r ≡ text.now) }
@@ -30,8 +41,7 @@ fn pattern_of(alloc: Global, text: &str) -> Result<Regex, PatternFault>
 {
     match Regex::new(alloc, text) {
         Ok(pattern) => Ok(pattern),
-        Err(Error::OutOfMemory) => Err(PatternFault::NoMemory),
-        Err(_) => Err(PatternFault::BadPattern),
+        Err(error) => Err(fault_of(error)),
     }
 }
 

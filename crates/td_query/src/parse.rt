@@ -1,5 +1,5 @@
 //! How a query is read: `!` binds before `&`, and `&` before `|`.
-ghost use Rattle.std.specs.Prelude.{◌<◌, ◌≡◌, ◌≢◌, List, length, IfErr, IfOk, IfSome, map};
+ghost use Rattle.std.specs.Prelude.{◌<◌, ◌≡◌, ◌≢◌, List, length, IfErr, IfOk, IfSome, IsErrOf, map};
 ghost use Rattle.std.specs.Prelude.{option_map};
 ghost use Rattle.td_query.specs.declared.read_fault.ReadFault.{ReadFault};
 ghost use Rattle.td_query.specs.declared.read_fault.RawPattern.{RawPattern};
@@ -7,6 +7,7 @@ ghost use Rattle.td_query.specs.Query.{shape_of};
 ghost use Rattle.td_query.specs.QueryGrammar.{behind_mark, closed, not_at, or_at};
 ghost use Rattle.td_query.specs.QueryGrammar.{part_at, parts_at};
 ghost use Rattle.td_query.specs.Views.{Gives, raw_of};
+ghost use Rattle.td_query.specs.WantOfMemory.{IsBegun};
 
 use crate::atom::read_atom;
 use crate::query::{Joint, Query};
@@ -53,6 +54,7 @@ fn read_not<'a>(
 ) -> Result<(Query<'a>, &'a str), ReadFault>
     ensures gives { Gives result log.new.items (not_at depth (map raw_of log.old.items) text.now) }
     ensures shorter { IfOk result (λ x. length x.1.now < length text.now) }
+    ensures memory { IsErrOf result ReadFault.NoMemory → IsBegun depth text.now }
 {
     let at = skip(text);
     if let Some(rest) = strip(at, "!") {
@@ -85,6 +87,7 @@ fn read_part<'a>(
     ensures gives { Gives result log.new.items
         (part_at joint depth (map raw_of log.old.items) text.now) }
     ensures shorter { IfOk result (λ x. length x.1.now < length text.now) }
+    ensures memory { IsErrOf result ReadFault.NoMemory → IsBegun depth text.now }
 {
     match joint {
         Joint::And => read_not(alloc, text, depth, log),
@@ -105,6 +108,7 @@ fn read_parts<'a>(
     ensures gives { Gives result log.new.items
         (parts_at joint depth (map raw_of log.old.items) text.now) }
     ensures shorter { IfOk result (λ x. length x.1.now < length text.now) }
+    ensures memory { IsErrOf result ReadFault.NoMemory → IsBegun depth text.now }
 {
     let (first, mut rest) = read_part(alloc, text, depth, joint, log)?;
     let mut parts = Vec::new(alloc);
@@ -130,6 +134,7 @@ pub fn read_query<'a>(
 ) -> Result<(Query<'a>, &'a str), ReadFault>
     ensures gives { Gives result log.new.items (or_at 100 (map raw_of log.old.items) text.now) }
     ensures shorter { IfOk result (λ x. length x.1.now < length text.now) }
+    ensures memory { IsErrOf result ReadFault.NoMemory → IsBegun 100 text.now }
 {
     read_parts(alloc, text, MAX_NESTING, Joint::Or, log)
 }

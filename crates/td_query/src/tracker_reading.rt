@@ -1,6 +1,6 @@
 //! How a tracker is read.
 ghost use Rattle.std.specs.Prelude.{◌≡◌, ◌≢◌, ◌≤◌, ◌<◌, IfErr, IfOk, IfSome, length, option_map};
-ghost use Rattle.std.specs.Prelude.{codes};
+ghost use Rattle.std.specs.Prelude.{IsErrOf, codes};
 ghost use Rattle.td_query.specs.declared.read_fault.ReadFault.{ReadFault};
 ghost use Rattle.td_text.specs.Cut.{strip as strip_of};
 ghost use Rattle.td_query.specs.Tokens.{skipped};
@@ -8,6 +8,7 @@ ghost use Rattle.td_query.specs.TrackerGrammar.{ended as ended_of, entries, entr
 ghost use Rattle.td_query.specs.TrackerGrammar.{front as front_of, nothing_said, other_value};
 ghost use Rattle.td_query.specs.TrackerGrammar.{title_value, value_at};
 ghost use Rattle.td_query.specs.TrackerViews.{GivesAll, GivesSaid, said};
+ghost use Rattle.td_query.specs.WantOfMemory.{IsBegun, IsEntryBegun};
 
 use crate::parse::read_query;
 use crate::query::Query;
@@ -65,6 +66,7 @@ fn read_other<'a>(alloc: Global, text: &'a str, keys: &mut Keys<'a>) -> Result<&
     ensures gives { GivesSaid result keys.new
         (other_value (said keys.old) text.now (strip_of (codes "\"") (skipped text.now))) }
     ensures shorter { IfOk result (λ x. length x.now ≤ length text.now) }
+    ensures memory { IsErrOf result ReadFault.NoMemory → IsBegun 100 text.now }
 {
     if let Some(quoted) = strip(skip(text), "\"") {
         return match cut_at(quoted, '"') {
@@ -89,6 +91,7 @@ fn read_value<'a>(
 ) -> Result<&'a str, ReadFault>
     ensures gives { GivesSaid result keys.new (value_at key.now (said keys.old) text.now) }
     ensures shorter { IfOk result (λ x. length x.now ≤ length text.now) }
+    ensures memory { IsErrOf result ReadFault.NoMemory → IsBegun 100 text.now }
 {
     match key {
         "title" => read_title(text, keys),
@@ -136,6 +139,7 @@ fn read_end<'a>(text: &'a str, keys: &Keys<'a>) -> Result<&'a str, ReadFault>
 fn read_entry<'a>(alloc: Global, at: &'a str, keys: &mut Keys<'a>) -> Result<&'a str, ReadFault>
     ensures gives { GivesSaid result keys.new (entry_at (said keys.old) at.now) }
     ensures shorter { IfOk result (λ x. length x.now < length at.now) }
+    ensures memory { IsErrOf result ReadFault.NoMemory → IsEntryBegun at.now }
 {
     let (key, rest) = word_run(at);
     if key.is_empty() {
