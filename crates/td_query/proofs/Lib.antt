@@ -21,4 +21,6 @@ pub mod Grades
 pub mod QueryRules
 pub mod KeyRules
 pub mod Beginnings
+pub mod AtomRules
+pub mod TokenRules
 pub mod OneStatus

@@ -1,19 +1,23 @@
 -- The rules of queries.
-use Rattle.std.proofs.Common.{◌≡◌, ℕ, zero, suc, List, [], ◌∷◌, ◌++◌, length, Some, None}
-use Rattle.std.proofs.Common.{Ok, refl, ap, ◌∙◌}
-use Rattle.std.specs.Prelude.{codes}
+use Rattle.std.proofs.Common.{◌≡◌, ℕ, zero, suc, ◌≤◌, Bool, true, false, not, eqb, List, [], ◌∷◌, ◌++◌}
+use Rattle.std.proofs.Common.{length, Some, None, Ok, refl, ap, ◌∙◌, arith}
+use Rattle.std.specs.Prelude.{codes, if◌then◌else◌, is_ok}
+use Rattle.std.proofs.lemmas.Bool.{false≢true}
 use Rattle.td_text.specs.Cut.{strip}
 use Rattle.td_text.specs.Lines.{on_ok}
+use Rattle.td_text.specs.Runs.{is_space}
 use Rattle.td_query.specs.declared.query.Joint.{Joint}
 use Rattle.td_query.specs.declared.query.Joint.TheVariants.{And, Or}
-use Rattle.td_query.specs.Query.{Shape, joined, both}
+use Rattle.td_query.specs.Query.{Shape, joined, both, negated}
 use Rattle.td_query.specs.QueryGrammar.{Log, Read, and_with, atom, behind_mark, closed, closed_by}
 use Rattle.td_query.specs.QueryGrammar.{mark_of, more, negating, next, not_in, or_else}
-use Rattle.td_query.specs.QueryGrammar.{or_with, parts_with}
+use Rattle.td_query.specs.QueryGrammar.{or_with, parts_with, word_atom}
 use Rattle.td_query.specs.QueryRules.{AndBindsBeforeOr, AndBindsBehindOr, BracketsAreRead, Comes}
 use Rattle.td_query.specs.QueryRules.{ConjunctionsAreRead, DisjunctionsAreRead}
-use Rattle.td_query.specs.QueryRules.{NegationsAreRead, PartsAreRead}
-use Rattle.td_query.specs.Tokens.{skipped_in}
+use Rattle.td_query.specs.QueryRules.{LongConjunctionsAreRead, LongDisjunctionsAreRead}
+use Rattle.td_query.specs.QueryRules.{NegationsAreRead, NotBindsBeforeAnd, NotBindsBeforeOr}
+use Rattle.td_query.specs.QueryRules.{PartsAreRead}
+use Rattle.td_query.specs.Tokens.{skipped, skipped_in}
 
 -- ---- marks
 
@@ -143,3 +147,103 @@ and_binds_behind_or depth log one two three t u v w x rest a b c first or second
     (one_part And (not_in depth) log one t u a first (unmarked Or u v or)) (marked Or u v or)
     (two_parts And (not_in depth) one two three v w x rest b c second (marked And w x is) third
     end.0) end.1
+
+-- ---- three parts
+
+if_short : (b : Bool) (u v : List ℕ) (n : ℕ) → length u ≤ n → length v ≤ n
+    → length (if b then u else v) ≤ n
+if_short true u v n p q = p
+if_short false u v n p q = q
+
+skipped_short : (comment : Bool) (t : List ℕ) → length (skipped_in comment t) ≤ length t
+unfolding skipped_in
+skipped_short true [] = omega arith
+skipped_short false [] = omega arith
+skipped_short true (x ∷ t) =
+    let h : length (skipped_in (not (eqb x 10)) t) ≤ length t = skipped_short (not (eqb x 10)) t in
+    omega arith
+skipped_short false (x ∷ t) =
+    let plain : length (skipped_in false t) ≤ length t = skipped_short false t in
+    let behind : length (skipped_in true t) ≤ length t = skipped_short true t in
+    if_short (is_space x) (skipped_in false t) (if eqb x 35 then skipped_in true t else x ∷ t)
+    (suc (length t)) (omega arith)
+    (if_short (eqb x 35) (skipped_in true t) (x ∷ t) (suc (length t)) (omega arith) (omega arith))
+
+-- a part is of some bytes
+nothing_read : (depth : ℕ) (log after : Log) (s : Shape) (rest : List ℕ)
+    → not_in depth log [] ≡ Ok (s, after, rest) → ⊥
+unfolding not_in atom word_atom strip skipped_in
+nothing_read zero log after s rest h = false≢true (ap (λ (r : Read). is_ok r) h)
+nothing_read (suc depth) log after s rest h = false≢true (ap (λ (r : Read). is_ok r) h)
+
+-- so a mark and a part behind it are two at least
+mark_and_part : (mark : ℕ) (depth : ℕ) (log after : Log) (t u rest : List ℕ) (s : Shape)
+    → Comes (mark ∷ []) t u → not_in depth log u ≡ Ok (s, after, rest) → 2 ≤ length t
+mark_and_part mark depth log after t [] rest s here h = absurd (nothing_read depth log after s rest h)
+mark_and_part mark depth log after t (x ∷ u) rest s here h =
+    let short : length (skipped t) ≤ length t = skipped_short false t in
+    let all : length (skipped t) ≡ suc (suc (length u)) = ap length here in
+    omega arith
+
+module _ (joint : Joint) (read : Log → List ℕ → Read) (log one two three : Log)
+    (t u v w x rest : List ℕ) (a b c : Shape) (first : read log t ≡ Ok (a, one, u))
+    (here : behind_mark (mark_of joint) u ≡ Some v) (second : read one v ≡ Ok (b, two, w))
+    (there : behind_mark (mark_of joint) w ≡ Some x) (third : read two x ≡ Ok (c, three, rest))
+    (none : behind_mark (mark_of joint) rest ≡ None) where
+  with_third : (n : ℕ) → more joint read (suc n) (a ∷ b ∷ []) two w
+      ≡ Ok (joined joint (a ∷ b ∷ c ∷ []), three, rest)
+  unfolding more
+  with_third n =
+      ap (next joint read (more joint read n) (a ∷ b ∷ []) two w) there
+      ∙ ap (λ (r : Read). on_ok r (λ y. more joint read n ((a ∷ b ∷ []) ++ y.0 ∷ []) y.1 y.2)) third
+      ∙ over joint read n (a ∷ b ∷ c ∷ []) three rest none
+
+  two_more : (n : ℕ) → more joint read (suc (suc n)) (a ∷ []) one u
+      ≡ Ok (joined joint (a ∷ b ∷ c ∷ []), three, rest)
+  unfolding more
+  two_more n =
+      ap (next joint read (more joint read (suc n)) (a ∷ []) one u) here
+      ∙ ap (λ (r : Read). on_ok r (λ y. more joint read (suc n) ((a ∷ []) ++ y.0 ∷ []) y.1 y.2))
+      second
+      ∙ with_third n
+
+  enough : (n : ℕ) → 2 ≤ n → more joint read n (a ∷ []) one u
+      ≡ Ok (joined joint (a ∷ b ∷ c ∷ []), three, rest)
+  enough zero h = absurd (omega arith)
+  enough (suc zero) h = absurd (omega arith)
+  enough (suc (suc n)) h = two_more n
+
+  three_parts : 2 ≤ length u
+      → parts_with joint read log t ≡ Ok (joined joint (a ∷ b ∷ c ∷ []), three, rest)
+  three_parts h =
+      ap (λ (r : Read). on_ok r (λ y. more joint read (length y.2) (y.0 ∷ []) y.1 y.2)) first
+      ∙ enough (length u) h
+
+pub long_conjunctions : LongConjunctionsAreRead
+unfolding or_with
+long_conjunctions depth log one two three t u v w x rest a b c first is second also third end =
+    one_part Or (and_with (not_in depth)) log three t rest (both a (both b c))
+    (three_parts And (not_in depth) log one two three t u v w x rest a b c first (marked And u v is)
+    second (marked And w x also) third end.0
+    (mark_and_part 38 depth one two u v w b is second)) end.1
+
+pub long_disjunctions : LongDisjunctionsAreRead
+unfolding or_with
+long_disjunctions depth log one two three t u v w x rest a b c first is second or third end =
+    three_parts Or (and_with (not_in depth)) log one two three t u v w x rest a b c
+    (one_part And (not_in depth) log one t u a first (unmarked Or u v is)) (marked Or u v is)
+    (one_part And (not_in depth) one two v w b second (unmarked Or w x or)) (marked Or w x or)
+    (one_part And (not_in depth) two three x rest c third end.0) end.1
+    (mark_and_part 124 depth one two u v w b is second)
+
+-- ---- `!` first
+
+pub not_before_and : NotBindsBeforeAnd
+not_before_and depth log one two t u v w rest a b bang first is second end =
+    conjunctions_are_read (suc depth) log one two t v w rest (negated a) b
+    (negations_are_read depth log one t u v a bang first) is second end
+
+pub not_before_or : NotBindsBeforeOr
+not_before_or depth log one two t u v w rest a b bang first is second end =
+    disjunctions_are_read (suc depth) log one two t v w rest (negated a) b
+    (negations_are_read depth log one t u v a bang first) is second end

@@ -53,7 +53,7 @@ trimmed-space x t e = rw (e, one-add) refl
 trimmed-stop : (x : ℕ) (t : List ℕ) → is_space x ≡ false → trimmed (x ∷ t) ≡ x ∷ t
 trimmed-stop x t e = rw e refl
 
-skipped-space : (x : ℕ) (t : List ℕ) → is_space x ≡ true → skipped (x ∷ t) ≡ skipped t
+pub skipped-space : (x : ℕ) (t : List ℕ) → is_space x ≡ true → skipped (x ∷ t) ≡ skipped t
 unfolding skipped_in
 skipped-space x t e = rw e refl
 

@@ -1,10 +1,12 @@
 -- What the values of a tracker's keys say. This project's own, in the style of ben.
-use Rattle.std.specs.Prelude.{◌≡◌, ℕ, List, ◌++◌, Some, Ok, codes}
+use Rattle.std.specs.Prelude.{◌≡◌, ℕ, ◌<◌, List, ◌++◌, Some, Ok, codes, length}
 use Rattle.td_text.specs.Cut.{cut}
+use Rattle.td_query.specs.AtomRules.{IsWord}
 use Rattle.td_query.specs.Query.{Shape}
 use Rattle.td_query.specs.QueryGrammar.{Log, or_at}
+use Rattle.td_query.specs.QueryRules.{Comes}
 use Rattle.td_query.specs.Tokens.{skipped}
-use Rattle.td_query.specs.TrackerGrammar.{Said, value_at}
+use Rattle.td_query.specs.TrackerGrammar.{Said, entry_at, value_at}
 
 -- a query under a key that needs one is said by it, in place of an earlier one, and nothing else
 -- changes but the patterns
@@ -25,3 +27,9 @@ abbrev pub TitlesAreSaid : Type 0
 TitlesAreSaid = (s : Said) (t u title rest : List ℕ) → skipped t ≡ codes "\"" ++ u
     → cut 34 u ≡ Some (title, rest)
     → value_at (codes "title") s t ≡ Ok (record s { title = title }, rest)
+
+-- `key = value;` says what the value says under the key
+abbrev pub EntriesAreSaid : Type 0
+EntriesAreSaid = (s said : Said) (t key u v w rest : List ℕ) → IsWord key t u → 0 < length key
+    → Comes (codes "=") u v → value_at key s v ≡ Ok (said, w) → Comes (codes ";") w rest
+    → entry_at s t ≡ Ok (said, rest)

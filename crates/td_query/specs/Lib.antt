@@ -19,3 +19,5 @@ pub mod inner
 pub mod KeyRules
 pub mod TrackerLaws
 pub mod WantOfMemory
+pub mod AtomRules
+pub mod TokenRules

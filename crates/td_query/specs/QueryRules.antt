@@ -68,3 +68,37 @@ AndBindsBehindOr = (depth : ℕ) (log one two three : Log) (t u v w x rest : Lis
     → IsPart depth log t a one u → Comes (codes "|") u v → IsPart depth one v b two w
     → Comes (codes "&") w x → IsPart depth two x c three rest → IsOver rest
     → IsWhole depth log t (either a (both b c)) three rest
+
+-- ---- 3. three parts
+
+-- `a & b & c`
+abbrev pub LongConjunctionsAreRead : Type 0
+LongConjunctionsAreRead = (depth : ℕ) (log one two three : Log) (t u v w x rest : List ℕ)
+    (a b c : Shape)
+    → IsPart depth log t a one u → Comes (codes "&") u v → IsPart depth one v b two w
+    → Comes (codes "&") w x → IsPart depth two x c three rest → IsOver rest
+    → IsWhole depth log t (both a (both b c)) three rest
+
+-- `a | b | c`
+abbrev pub LongDisjunctionsAreRead : Type 0
+LongDisjunctionsAreRead = (depth : ℕ) (log one two three : Log) (t u v w x rest : List ℕ)
+    (a b c : Shape)
+    → IsPart depth log t a one u → Comes (codes "|") u v → IsPart depth one v b two w
+    → Comes (codes "|") w x → IsPart depth two x c three rest → IsOver rest
+    → IsWhole depth log t (either a (either b c)) three rest
+
+-- ---- 4. `!` before `&` and `|`
+
+-- `!a & b`: `!` binds before `&`
+abbrev pub NotBindsBeforeAnd : Type 0
+NotBindsBeforeAnd = (depth : ℕ) (log one two : Log) (t u v w rest : List ℕ) (a b : Shape)
+    → Comes (codes "!") t u → IsPart depth log u a one v → Comes (codes "&") v w
+    → IsPart (suc depth) one w b two rest → IsOver rest
+    → IsWhole (suc depth) log t (both (negated a) b) two rest
+
+-- `!a | b` likewise
+abbrev pub NotBindsBeforeOr : Type 0
+NotBindsBeforeOr = (depth : ℕ) (log one two : Log) (t u v w rest : List ℕ) (a b : Shape)
+    → Comes (codes "!") t u → IsPart depth log u a one v → Comes (codes "|") v w
+    → IsPart (suc depth) one w b two rest → IsOver rest
+    → IsWhole (suc depth) log t (either (negated a) b) two rest

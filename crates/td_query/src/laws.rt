@@ -1,14 +1,19 @@
 //! What queries and statuses mean, as laws over their definitions.
-ghost use Rattle.td_query.specs.KeyRules.{QueriesAreSaid, TitlesAreSaid};
+ghost use Rattle.td_query.specs.AtomRules.{FalseIsRead, PatternsAreRead, TextsAreRead, TrueIsRead};
+ghost use Rattle.td_query.specs.KeyRules.{EntriesAreSaid, QueriesAreSaid, TitlesAreSaid};
 ghost use Rattle.td_query.specs.QueryLaws.{AbsentFieldsNeverMatch, ConjunctionsAreAnd};
 ghost use Rattle.td_query.specs.QueryLaws.{ConstantsAreTheirNames, DisjunctionsAreOr};
 ghost use Rattle.td_query.specs.QueryLaws.{NegationsAreNot, PatternsMatchWhereTheyAreFound};
 ghost use Rattle.td_query.specs.QueryLaws.{TextsMatchWhereTheyStand};
 ghost use Rattle.td_query.specs.QueryRules.{AndBindsBeforeOr, AndBindsBehindOr, BracketsAreRead};
 ghost use Rattle.td_query.specs.QueryRules.{ConjunctionsAreRead, DisjunctionsAreRead};
-ghost use Rattle.td_query.specs.QueryRules.{NegationsAreRead, PartsAreRead};
+ghost use Rattle.td_query.specs.QueryRules.{LongConjunctionsAreRead, LongDisjunctionsAreRead};
+ghost use Rattle.td_query.specs.QueryRules.{NegationsAreRead, NotBindsBeforeAnd, NotBindsBeforeOr};
+ghost use Rattle.td_query.specs.QueryRules.{PartsAreRead};
 ghost use Rattle.td_query.specs.StatusLaws.{RowsAloneHaveAStatus, RowsAreGradedByTheirStanzas};
 ghost use Rattle.td_query.specs.StatusLaws.{RowsSatisfyByAStanza};
+ghost use Rattle.td_query.specs.TokenRules.{CommentsAreSkipped, LastCommentsAreSkipped};
+ghost use Rattle.td_query.specs.TokenRules.{OthersAreKept, SpacesAreSkipped};
 ghost use Rattle.td_query.specs.TrackerLaws.{RowsHaveOneStatus, TrackersAreOne, TrackersAreThere};
 ghost use Rattle.td_query.specs.TrackerLaws.{TrackersHoldAlike};
 
@@ -29,12 +34,34 @@ pub fn queries_are_read_by_their_rules()
     ensures disjunction { DisjunctionsAreRead }
     ensures before { AndBindsBeforeOr }
     ensures behind { AndBindsBehindOr }
+    ensures conjunction_of_three { LongConjunctionsAreRead }
+    ensures disjunction_of_three { LongDisjunctionsAreRead }
+    ensures not_before_and { NotBindsBeforeAnd }
+    ensures not_before_or { NotBindsBeforeOr }
 {}
 
-/// Each key says what is read under its own name, in place of what it said before.
+/// An atom is read as it is written: `true`, `false`, a field with a text, a field with a pattern.
+pub fn atoms_are_read_as_written()
+    ensures yes { TrueIsRead }
+    ensures no { FalseIsRead }
+    ensures texts { TextsAreRead }
+    ensures patterns { PatternsAreRead }
+{}
+
+/// Between tokens whitespace and comments are skipped, and nothing else.
+pub fn comments_are_skipped()
+    ensures spaces { SpacesAreSkipped }
+    ensures comments { CommentsAreSkipped }
+    ensures last { LastCommentsAreSkipped }
+    ensures others { OthersAreKept }
+{}
+
+/// Each key says what is read under its own name, in place of what it said before, where an `=`
+/// stands before the value and a `;` behind it.
 pub fn keys_say_what_is_read()
     ensures queries { QueriesAreSaid }
     ensures titles { TitlesAreSaid }
+    ensures entries { EntriesAreSaid }
 {}
 
 /// A text whose keys say the three queries, with patterns that `regex` reads, is a tracker's. Two

@@ -39,8 +39,9 @@ mod unescape;
 mod wanted;
 
 pub use laws::{
-    fields_match_by_their_values, keys_say_what_is_read, queries_are_as_in_logic,
-    queries_are_read_by_their_rules, rows_are_graded_by_their_stanzas, trackers_mean_one_thing,
+    atoms_are_read_as_written, comments_are_skipped, fields_match_by_their_values,
+    keys_say_what_is_read, queries_are_as_in_logic, queries_are_read_by_their_rules,
+    rows_are_graded_by_their_stanzas, trackers_mean_one_thing,
 };
 pub use marks::Marks;
 pub use query::Query;
