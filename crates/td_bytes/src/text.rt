@@ -61,6 +61,8 @@ pub fn read_text<R: Read>(
 {
     let (bytes, known) = read_pieces(alloc, reader, limit, room)?;
     if known == bytes.len() {
+        // SAFETY: what it requires is proved here: the first `known` bytes are UTF-8 (the clause
+        // `text` of `read_pieces`), and these are all.
         return Ok(unsafe { String::from_utf8_unchecked(bytes) });
     }
     match String::from_utf8(bytes) {
