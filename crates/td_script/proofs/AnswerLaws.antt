@@ -2,11 +2,12 @@
 use Rattle.std.proofs.Common.{◌≡◌, ◌≢◌, ℕ, zero, suc, ◌+◌, ◌≤◌, Bool, true, false, List, []}
 use Rattle.std.proofs.Common.{◌∷◌, ◌++◌, length, Some, Ok, refl, sym, ap, subst, ◌∙◌, arith}
 use Rattle.std.proofs.Common.{append_assoc, slice_get, if◌then◌else◌, Option, None, Result, Err}
-use Rattle.std.proofs.Common.{IfOk, OnOk}
+use Rattle.std.proofs.Common.{IfOk, OnOk, OnErr, inl, inr}
 use Rattle.std.specs.Prelude.{◌&&◌, codes, IsSomeAnd}
 use Rattle.std.proofs.lemmas.List.{append-nil}
 use Rattle.std.proofs.lemmas.Result.{IfOk-weaker}
 use Rattle.std.specs.Result.{is_ok, result_and}
+use Rattle.std.specs.declared.alloc.AllocError.{AllocError}
 use Rattle.td_rows.specs.declared.key.Key.{Key}
 use Rattle.td_rows.specs.declared.kind.Kind.TheVariants as kinds
 use Rattle.td_rows.specs.declared.row.Row.{Row}
@@ -30,7 +31,7 @@ use Rattle.td_book.specs.Undoing.{IsWon, UndoAnswer}
 use Rattle.td_script.specs.Replies.{Reply, enters, entry_made, arrives, sweeps, undoes, refuses}
 use Rattle.td_script.specs.Replies.{refusal_line, says, state_refused, undo_name}
 use Rattle.td_script.specs.Replying.{IsPut, IsEntryPut, IsArrivalPut, IsSweepPut, IsUndoPut}
-use Rattle.td_script.specs.Answering.{Answers}
+use Rattle.td_script.specs.Answering.{Answers, IsLeftBy}
 
 -- ---- 1. the last entry
 
@@ -68,6 +69,21 @@ IsEntryPut-and ms n before now (Ok u) said same it =
     })
 IsEntryPut-and ms n before now (Err e) said same it =
     subst (λ r. IfOk r (IsEntryPut ms n [] before now)) (sym same) tt
+
+-- where nothing is put for want of memory, nothing is said
+pub OnErr-and : {E : Type 0} (before now : List ℕ) (is : Bool) (put : Result (Unit {0}) E)
+    (said : Result Bool E) → said ≡ result_and put (Ok is) → OnErr put (now ≡ before)
+    → OnErr said (now ≡ before)
+OnErr-and before now is (Ok u) said same it =
+    subst (λ r. OnErr r (now ≡ before)) (sym same) tt
+OnErr-and before now is (Err e) said same it =
+    subst (λ r. OnErr r (now ≡ before)) (sym same) it
+
+-- where there is no room, nothing is appended
+pub OnErr-pushed : {E : Type 0} (before now text : List ℕ) (put : Result (Unit {0}) E)
+    → now ≡ (if is_ok put then before ++ text else before) → OnErr put (now ≡ before)
+OnErr-pushed before now text (Ok u) is = tt
+OnErr-pushed before now text (Err e) is = is
 
 -- what is appended, if there is room for it
 pub OnOk-pushed : {E : Type 0} (before now text : List ℕ) (put : Result (Unit {0}) E)
@@ -130,15 +146,13 @@ Answers-refuse name book before now said put =
 
 -- ---- 3. calls
 
--- of a refusal, what stands behind it is appended then
-pub IsPut-two : (before mid now first behind : List ℕ) → mid ≡ before ++ first → now ≡ mid ++ behind
-    → IsPut (first ++ behind) true before now true
-IsPut-two before mid now first behind one two =
-    record {
-      text_is = two ∙ ap (λ (l : List ℕ). l ++ behind) one
-          ∙ append_assoc before first behind;
-      refusal = refl;
-    }
+-- what is appended behind a line is appended with it
+pub OnOk-behind : {E : Type 0} (before mid now line behind : List ℕ) (put : Result (Unit {0}) E)
+    → mid ≡ before ++ line → OnOk put (now ≡ mid ++ behind)
+    → OnOk put (now ≡ before ++ (line ++ behind))
+OnOk-behind before mid now line behind (Ok u) one two =
+    two ∙ ap (λ (l : List ℕ). l ++ behind) one ∙ append_assoc before line behind
+OnOk-behind before mid now line behind (Err e) one two = tt
 
 pub Answers-arrival : (k : Key) (old new : BookModel) (ms : List Marked)
     (a : Result ℕ ArriveRefusal) (before now : List ℕ) (refused : Bool) → ms ≡ new.history.journal
@@ -216,7 +230,56 @@ Answers-undo None n old new (Err undos.NotACommand) before now refused none is p
 Answers-undo None n old new (Err undos.AlreadyUndone) before now refused none is put =
     absurd is.outcome
 
--- ---- 4. without builders no withdrawal is lost
+-- ---- 4. what a call leaves, whatever is told of it
+
+-- a book that stays as it was
+pub left_still : (r : Reply) (b : BookModel) → IsLeftBy r b b
+left_still r b = record { history = inl refl; fixed = refl }
+
+pub left_as_it_was : (r : Reply) (old new : BookModel) → new ≡ old → IsLeftBy r old new
+left_as_it_was r old new is = subst (IsLeftBy r old) (sym is) (left_still r old)
+
+left_made : (e : Entry) (behind : List ℕ) (old new : BookModel)
+    → new ≡ record old { history = with_entry old.history e }
+    → IsLeftBy (enters old.history e behind) old new
+left_made e behind old new is = record {
+  history = inr (ap (λ (b : BookModel). b.history) is);
+  fixed = ap (λ (b : BookModel). b.fixed) is;
+}
+
+pub left_arrival : (k : Key) (old new : BookModel) (a : Result ℕ ArriveRefusal)
+    → ArriveOutcome k old new a
+    → IsLeftBy (arrives old.history k (row_of (rows_of old.history) k)) old new
+left_arrival k old new (Ok n) is =
+    subst (λ (r : Reply). IsLeftBy r old new) (sym (arrives-made k old new n is))
+    (left_made (record { kind = kinds.Arrive; keys = k ∷ [] }) [] old new is.3)
+left_arrival k old new (Err arrivals.NoSuchRow) is = left_as_it_was _ old new is.1
+left_arrival k old new (Err (arrivals.DoesNotApply s)) is = left_as_it_was _ old new is.4
+left_arrival k old new (Err arrivals.NoMemory) is = left_as_it_was _ old new is.3
+
+pub left_sweep : (old new : BookModel) (swept : Result (Option ℕ) AllocError)
+    → SweepOutcome old new swept → IsLeftBy (sweeps old.history (freed_now old)) old new
+left_sweep old new (Ok None) is = left_as_it_was _ old new is.1
+left_sweep old new (Ok (Some n)) is =
+    subst (λ (r : Reply). IsLeftBy r old new) (sym (sweeps-made old.history (freed_now old) is.0))
+    (left_made (record { kind = kinds.Sweep; keys = freed_now old }) [] old new is.1)
+left_sweep old new (Err e) is = left_as_it_was _ old new is
+
+pub left_undo : (stop : Option UndoRefusal) (n : ℕ) (old new : BookModel)
+    (a : Result (Unit {0}) UndoRefusal) → old.fixed.builders ≡ 0 → UndoAnswer stop n old new a
+    → IsLeftBy (undoes old.history n stop) old new
+left_undo (Some r) n old new a none is = left_as_it_was _ old new is.1
+left_undo None n old new (Ok u) none is =
+    record { history = inr is.outcome; fixed = is.fixed }
+left_undo None n old new (Err undos.NoMemory) none is =
+    record { history = inl is.outcome; fixed = is.fixed }
+left_undo None n old new (Err (undos.Blocked m)) none is =
+    absurd (none_won old new m (entry_at old.history.journal n) none is.outcome)
+left_undo None n old new (Err undos.NoSuchEntry) none is = absurd is.outcome
+left_undo None n old new (Err undos.NotACommand) none is = absurd is.outcome
+left_undo None n old new (Err undos.AlreadyUndone) none is = absurd is.outcome
+
+-- ---- 5. without builders no withdrawal is lost
 
 noting_one-none : (h : History) (k : Key) → noting_one h k zero ≡ h
 noting_one-none h k =

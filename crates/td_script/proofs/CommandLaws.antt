@@ -1,6 +1,6 @@
 -- The answer to a command, from what the book's call says.
 use Rattle.std.proofs.Common.{◌≡◌, ◌≢◌, ℕ, List, [], ◌∷◌, ◌++◌, Bool, Result, Ok, Err, refl, sym}
-use Rattle.std.proofs.Common.{ap, subst, ◌∙◌, arith, filter, true}
+use Rattle.std.proofs.Common.{ap, subst, ◌∙◌, arith, filter, true, inl, inr}
 use Rattle.std.specs.List.{flat_map}
 use Rattle.std.specs.Prelude.{codes}
 use Rattle.td_rows.specs.declared.key.Key.{Key}
@@ -21,7 +21,7 @@ use Rattle.td_wbread.specs.Kinds.{kind_of}
 use Rattle.td_book.specs.Skips.{skips_of}
 use Rattle.td_script.specs.Replies.{enters, enters_on, commands, refuses, refusal_line, skip_line}
 use Rattle.td_script.specs.Replies.{skipped, taken, Reply}
-use Rattle.td_script.specs.Answering.{Answers}
+use Rattle.td_script.specs.Answering.{Answers, IsLeftBy}
 use Rattle.td_script.specs.Replying.{IsPut, IsEntryPut, IsCommandPut}
 use Rattle.td_script.proofs.AnswerLaws.{Answers-made, noting-none}
 
@@ -98,3 +98,26 @@ Answers-command c old new ms (Ok t) before now refused none same h put =
 Answers-command c old new ms (Err (refusals.NothingApplies s)) before now refused none same h put =
     Answers-nothing c old new s before now refused none h put
 Answers-command c old new ms (Err refusals.NoMemory) before now refused none same h put = absurd put
+
+-- what a command leaves, whatever is told of it
+pub left_command : (c : CommandParts) (old new : BookModel) (a : Result Taken CommandRefusal)
+    → old.fixed.builders ≡ 0 → IsDone c old new a
+    → IsLeftBy (commands old.fixed.stock old.history c) old new
+left_command c old new (Ok t) none h =
+    let off = off_for (kind_of c) (named_by c old) in
+    let out : Enters (kind_of c) (matched old c) (left old c) old.history new.history t =
+    subst (λ (n : History). Enters (kind_of c) (matched old c) (left old c) n new.history t)
+    (alone old off h.outcome.0 none h.outcome.1) h.outcome.2 in
+    let e = entry old c in
+    let behind = flat_map skip_line (skipped old.fixed.stock old.history c) in
+    subst (λ (r : Reply). IsLeftBy r old new)
+    (sym (enters_on-some old.history (kind_of c) e.keys behind out.0))
+    (record { history = inr out.1; fixed = h.fixed })
+left_command c old new (Err (refusals.NothingApplies s)) none h =
+    let off = off_for (kind_of c) (named_by c old) in
+    let out : Nothing (kind_of c) (matched old c) (left old c) old.history new.history s =
+    subst (λ (n : History). Nothing (kind_of c) (matched old c) (left old c) n new.history s)
+    (alone old off h.outcome.0 none h.outcome.1) h.outcome.2 in
+    record { history = inl out.1; fixed = h.fixed }
+left_command c old new (Err refusals.NoMemory) none h =
+    record { history = inl h.outcome; fixed = h.fixed }

@@ -1,8 +1,10 @@
 -- What is told of the lines so far.
 use Rattle.std.proofs.Common.{◌≡◌, ℕ, ◌+◌, ◌≤◌, ◌<◌, ◌^◌, ◌-◌, List, [], ◌∷◌, length, Option, Some}
-use Rattle.std.proofs.Common.{None, fold, Bor, refl, sym, ap, subst, ◌∙◌, arith}
+use Rattle.std.proofs.Common.{None, fold, Bor, refl, sym, ap, subst, ◌∙◌, arith, ◌++◌, append_assoc}
+use Rattle.std.proofs.Common.{inl, inr}
 use Rattle.std.specs.Prelude.{IfSome}
 use Rattle.std.specs.String.{string_bytes}
+use Rattle.std.proofs.lemmas.Grind.{fold-append}
 use Rattle.atomic_table.specs.Seated.{TableId}
 use Rattle.td_rows.specs.Table.{Table}
 use Rattle.td_text.specs.Lines.{lines_of, lines_left, left_len}
@@ -10,13 +12,26 @@ use Rattle.td_supply.specs.Supply.{Stock}
 use Rattle.td_book.specs.Desk.{BookModel, Fixed}
 use Rattle.td_script.specs.declared.told.Told.{Told as ToldText}
 use Rattle.td_script.specs.Ends.{IsAnswered}
-use Rattle.td_script.specs.Replies.{Setting}
+use Rattle.td_core.specs.History.{History}
+use Rattle.td_script.specs.Answering.{IsLeftBy}
+use Rattle.td_script.specs.Replies.{Setting, answer}
 use Rattle.td_script.specs.Settings.{IsLentTo}
 use Rattle.td_script.proofs.Staying.{opening-stays}
-use Rattle.td_script.specs.Script.{Told, with_line, script, told_of, IsAdded, IsTold}
+use Rattle.td_script.specs.Script.{Told, begun, with_line, script, told_of, IsAdded, IsTold}
+use Rattle.td_script.specs.Script.{IsAnsweredUpTo}
 
 abbrev pub setting_of : Stock → List (List ℕ) → Option (Table → List ℕ) → Setting
 setting_of stock suites report = record { stock = stock; suites = suites; report = report }
+
+-- the history behind the first lines
+abbrev behind : Setting → History → List (List ℕ) → History
+behind s h lines = (fold (with_line s) (begun h) lines).after
+
+-- one line more is answered from the history behind those before it
+behind-next : (s : Setting) (h : History) (lines : List (List ℕ)) (line : List ℕ)
+    → behind s h (lines ++ line ∷ []) ≡ (answer s (behind s h lines) line).after
+behind-next s h lines line =
+    ap (λ (t : Told). t.after) (fold-append (with_line s) (begun h) lines (line ∷ []))
 
 -- what is told so far, with the answers to what is left, is the whole
 pub record IsSoFar (suites : List (List ℕ)) (report : Option (Table → List ℕ)) (all : List ℕ)
@@ -26,6 +41,10 @@ pub record IsSoFar (suites : List (List ℕ)) (report : Option (Table → List �
   pub fixed : now.fixed ≡ first.fixed
   pub opening : now.history.opening ≡ first.history.opening
   pub counted : told.refused + left_len rest ≤ length all + 1
+  pub front : List (List ℕ)
+  pub parted : lines_of all ≡ front ++ lines_left rest
+  pub after : now.history
+      ≡ behind (setting_of first.fixed.stock suites report) first.history front
 
 pub IsSoFar-begun : (suites : List (List ℕ)) (report : Option (Table → List ℕ)) (all : Bor (List ℕ))
     (first : BookModel) (told : ToldText) → string_bytes told.text ≡ [] → told.refused ≡ 0
@@ -39,6 +58,9 @@ IsSoFar-begun suites report all first told none zero_ = record {
   fixed = refl;
   opening = refl;
   counted = omega (arith, zero_);
+  front = [];
+  parted = refl;
+  after = refl;
 }
 
 pub IsSoFar-next : (suites : List (List ℕ)) (report : Option (Table → List ℕ)) (all line : List ℕ)
@@ -59,6 +81,12 @@ IsSoFar-next suites report all line first now next before after rest more h line
       opening = ap (λ (t : Told). t.after.opening) added.is
           ∙ opening-stays (setting_of now.fixed.stock suites report) now.history line ∙ h.opening;
       counted = omega (arith, h.counted, shorter, added.counted);
+      front = h.front ++ line ∷ [];
+      parted = h.parted ∙ ap (λ (l : List (List ℕ)). h.front ++ l) lines
+          ∙ sym (append_assoc h.front (line ∷ []) (lines_left more));
+      after = ap (λ (t : Told). t.after) one
+          ∙ ap (λ (x : History). (answer s x line).after) h.after
+          ∙ sym (behind-next s first.history h.front line);
     }
 
 pub IsSoFar-done : (suites : List (List ℕ)) (report : Option (Table → List ℕ)) (all : List ℕ)
@@ -71,6 +99,51 @@ IsSoFar-done suites report all first now told rest h none = record {
       (lines_left r)) none) ∙ h.is;
   fixed = h.fixed;
 }
+
+-- the lines so far are answered
+pub up_to_here : (suites : List (List ℕ)) (report : Option (Table → List ℕ)) (all : List ℕ)
+    (first now : BookModel) (told : ToldText) (rest : Option (Bor (List ℕ)))
+    → IsSoFar suites report all first now told rest
+    → IsAnsweredUpTo (setting_of first.fixed.stock suites report) all first now
+up_to_here suites report all first now told rest h = record {
+  front = h.front;
+  behind = lines_left rest;
+  lines = h.parted;
+  history = h.after;
+  fixed = h.fixed;
+}
+
+-- and so may be the line after them, which isn't told
+pub up_to_next : (suites : List (List ℕ)) (report : Option (Table → List ℕ)) (all line : List ℕ)
+    (first now next : BookModel) (told : ToldText) (rest : Bor (List ℕ))
+    (more : Option (Bor (List ℕ))) → IsSoFar suites report all first now told (Some rest)
+    → lines_of rest.now ≡ line ∷ lines_left more
+    → IsLeftBy (answer (setting_of now.fixed.stock suites report) now.history line) now next
+    → IsAnsweredUpTo (setting_of first.fixed.stock suites report) all first next
+up_to_next suites report all line first now next told rest more h lines left =
+    let s = setting_of first.fixed.stock suites report in
+    let fixed = left.fixed ∙ h.fixed in
+    elim left.history [
+      | inl same ↦ record {
+        front = h.front;
+        behind = lines_of rest.now;
+        lines = h.parted;
+        history = same ∙ h.after;
+        fixed = fixed;
+      }
+      | inr done ↦ record {
+        front = h.front ++ line ∷ [];
+        behind = lines_left more;
+        lines = h.parted ∙ ap (λ (l : List (List ℕ)). h.front ++ l) lines
+            ∙ sym (append_assoc h.front (line ∷ []) (lines_left more));
+        history = done
+            ∙ ap (λ (f : Fixed). (answer (setting_of f.stock suites report) now.history line).after)
+            h.fixed
+            ∙ ap (λ (x : History). (answer s x line).after) h.after
+            ∙ sym (behind-next s first.history h.front line);
+        fixed = fixed;
+      }
+    ]
 
 pub room : (suites : List (List ℕ)) (report : Option (Table → List ℕ)) (all : List ℕ)
     (first now : BookModel) (told : ToldText) (rest : Bor (List ℕ))

@@ -52,3 +52,12 @@ pub record IsTold (s : Setting) (script_text : List ℕ) (old new : BookModel)
     (told : ToldText) : Type 0 where
   pub is : told_of told new.history ≡ script s old.history script_text
   pub fixed : new.fixed ≡ old.fixed
+
+-- the book's history is the one behind the lines before some place in the text, and nothing else
+-- changes
+pub record IsAnsweredUpTo (s : Setting) (script_text : List ℕ) (old new : BookModel) : Type 0 where
+  pub front : List (List ℕ)
+  pub behind : List (List ℕ)
+  pub lines : lines_of script_text ≡ front ++ behind
+  pub history : new.history ≡ (fold (with_line s) (begun old.history) front).after
+  pub fixed : new.fixed ≡ old.fixed

@@ -1,12 +1,13 @@
-//! The answers to requests.
-ghost use Rattle.std.specs.Prelude.{◌≡◌, false, IfOk, IfSome, option_map};
+//! The answers to requests. Where memory runs out nothing is appended, though the book may have
+//! done what was asked for.
+ghost use Rattle.std.specs.Prelude.{◌≡◌, false, IfOk, IfSome, OnErr, option_map};
 ghost use Rattle.std.specs.String.{string_bytes};
 ghost use Rattle.td_rows.specs.Table.{row_of};
 ghost use Rattle.td_journal.specs.JournalText.{journal_text};
 ghost use Rattle.td_core.specs.History.{rows_of};
 ghost use Rattle.td_core.specs.Offers.{freed, supply_now};
 ghost use Rattle.td_book.specs.Undoing.{undo_stop};
-ghost use Rattle.td_script.specs.Answering.{Answers};
+ghost use Rattle.td_script.specs.Answering.{Answers, IsLeftBy};
 ghost use Rattle.td_script.specs.Replies.{undoes, arrives, sweeps, shows_row, shows_entry, says};
 ghost use Rattle.td_script.specs.Replies.{reports as reports_of};
 ghost use Rattle.td_script.specs.Replying.{IsPut};
@@ -29,18 +30,25 @@ pub fn undo(
 ) -> Result<bool, AllocError>
     requires board { board.now.table ≡ book.old.fixed.table }
     requires alone { book.old.fixed.builders ≡ 0 }
-    ensures { IfOk result (Answers
+    ensures ok { IfOk result (Answers
         (undoes book.old.history n (undo_stop book.old.history.journal n)) book.old book.new
         (string_bytes out.old) (string_bytes out.new)) }
+    ensures err { OnErr result (string_bytes out.new ≡ string_bytes out.old) }
+    ensures book { IsLeftBy
+        (undoes book.old.history n (undo_stop book.old.history.journal n)) book.old book.new }
 {
     put_undo(out, n, book.undo(board, n))
 }
 
 /// The key's build has arrived.
 pub fn arrive(book: &mut Book<'_>, key: &Key, out: &mut String) -> Result<bool, AllocError>
-    ensures { IfOk result (Answers
+    ensures ok { IfOk result (Answers
         (arrives book.old.history key.now (row_of (rows_of book.old.history) key.now)) book.old
         book.new (string_bytes out.old) (string_bytes out.new)) }
+    ensures err { OnErr result (string_bytes out.new ≡ string_bytes out.old) }
+    ensures book { IsLeftBy
+        (arrives book.old.history key.now (row_of (rows_of book.old.history) key.now)) book.old
+        book.new }
 {
     let answer = book.arrive(key);
     put_arrival(out, book.journal(), answer)
@@ -49,10 +57,15 @@ pub fn arrive(book: &mut Book<'_>, key: &Key, out: &mut String) -> Result<bool, 
 /// Frees the rows that wait for what is on offer now.
 pub fn sweep(book: &mut Book<'_>, board: &Board, out: &mut String) -> Result<bool, AllocError>
     requires { board.now.table ≡ book.old.fixed.table }
-    ensures { IfOk result (Answers
+    ensures ok { IfOk result (Answers
         (sweeps book.old.history
         (freed (supply_now book.old.fixed.stock book.old.history) (rows_of book.old.history)))
         book.old book.new (string_bytes out.old) (string_bytes out.new)) }
+    ensures err { OnErr result (string_bytes out.new ≡ string_bytes out.old) }
+    ensures book { IsLeftBy
+        (sweeps book.old.history
+        (freed (supply_now book.old.fixed.stock book.old.history) (rows_of book.old.history)))
+        book.old book.new }
 {
     let swept = book.sweep(board)?;
     put_sweep(out, book.journal(), swept)
@@ -60,9 +73,10 @@ pub fn sweep(book: &mut Book<'_>, board: &Board, out: &mut String) -> Result<boo
 
 /// Tells the row of a key.
 pub fn show_row(book: &Book<'_>, key: &Key, out: &mut String) -> Result<bool, AllocError>
-    ensures { IfOk result (Answers
+    ensures ok { IfOk result (Answers
         (shows_row book.now.history key.now (row_of (rows_of book.now.history) key.now)) book.now
         book.now (string_bytes out.old) (string_bytes out.new)) }
+    ensures err { OnErr result (string_bytes out.new ≡ string_bytes out.old) }
 {
     match book.rows().get(key) {
         Some(row) => put_row(out, key, row).and(Ok(false)),
@@ -72,8 +86,9 @@ pub fn show_row(book: &Book<'_>, key: &Key, out: &mut String) -> Result<bool, Al
 
 /// Tells an entry.
 pub fn show_entry(book: &Book<'_>, n: EntryNo, out: &mut String) -> Result<bool, AllocError>
-    ensures { IfOk result (Answers (shows_entry book.now.history n) book.now book.now
+    ensures ok { IfOk result (Answers (shows_entry book.now.history n) book.now book.now
         (string_bytes out.old) (string_bytes out.new)) }
+    ensures err { OnErr result (string_bytes out.new ≡ string_bytes out.old) }
 {
     match book.journal().entry(n) {
         Some(marked) => put_entry(out, n, marked).and(Ok(false)),
@@ -83,8 +98,10 @@ pub fn show_entry(book: &Book<'_>, n: EntryNo, out: &mut String) -> Result<bool,
 
 /// Tells the journal.
 pub fn show_journal(book: &Book<'_>, out: &mut String) -> Result<bool, AllocError>
-    ensures { IfOk result (Answers (says book.now.history (journal_text book.now.history.journal))
-        book.now book.now (string_bytes out.old) (string_bytes out.new)) }
+    ensures ok { IfOk result (Answers
+        (says book.now.history (journal_text book.now.history.journal)) book.now book.now
+        (string_bytes out.old) (string_bytes out.new)) }
+    ensures err { OnErr result (string_bytes out.new ≡ string_bytes out.old) }
 {
     put_journal(out, book.journal())?;
     Ok(false)
@@ -98,8 +115,9 @@ fn put_report<R: Reports>(
     out: &mut String,
 ) -> Result<bool, AllocError>
     requires { R.fits reports.now book.now.history.opening book.now.fixed }
-    ensures { IfOk result (IsPut (R.text reports.now (rows_of book.now.history)) false
+    ensures ok { IfOk result (IsPut (R.text reports.now (rows_of book.now.history)) false
         (string_bytes out.old) (string_bytes out.new)) }
+    ensures err { OnErr result (string_bytes out.new ≡ string_bytes out.old) }
 {
     let text = reports.report(alloc, book)?;
     out.push_str(text.as_str()).and(Ok(false))
@@ -113,9 +131,10 @@ pub fn show_report<R: Reports>(
     out: &mut String,
 ) -> Result<bool, AllocError>
     requires { IfSome reports (λ r. R.fits r.now book.now.history.opening book.now.fixed) }
-    ensures { IfOk result (Answers
+    ensures ok { IfOk result (Answers
         (reports_of book.now.history (option_map (λ r. R.text r.now) reports.entry)) book.now
         book.now (string_bytes out.old) (string_bytes out.new)) }
+    ensures err { OnErr result (string_bytes out.new ≡ string_bytes out.old) }
 {
     match reports {
         Some(reports) => put_report(alloc, book, reports, out),

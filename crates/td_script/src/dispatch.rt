@@ -1,7 +1,7 @@
 //! The answer to a line.
-ghost use Rattle.std.specs.Prelude.{IfOk, map};
+ghost use Rattle.std.specs.Prelude.{◌≡◌, IfOk, OnErr, map};
 ghost use Rattle.std.specs.String.{string_bytes};
-ghost use Rattle.td_script.specs.Answering.{Answers};
+ghost use Rattle.td_script.specs.Answering.{Answers, IsLeftBy};
 ghost use Rattle.td_script.specs.Replies.{answer as answer_to, asks, types};
 ghost use Rattle.td_script.specs.Settings.{IsLentTo, setting_lent};
 ghost use Rattle.td_wbread.specs.Command.{command_at};
@@ -18,6 +18,7 @@ use td_book::Book;
 use td_wbread::{CommandFault, read_command};
 
 // Answers what is asked for.
+#[tactic(auto, using(crate::proofs::AnswerLaws::left_still))]
 fn ask<R: Reports>(
     book: &mut Book<'_>,
     lent: &Lent<'_, '_, '_, R>,
@@ -25,10 +26,14 @@ fn ask<R: Reports>(
     out: &mut String,
 ) -> Result<bool, AllocError>
     requires { IsLentTo R.fits lent.now.board.now.table lent.now.reports book.old }
-    ensures { IfOk result (Answers
+    ensures ok { IfOk result (Answers
         (asks (setting_lent R.text book.old.fixed.stock lent.now.suites.now lent.now.reports)
         book.old.history request.now) book.old book.new (string_bytes out.old)
         (string_bytes out.new)) }
+    ensures err { OnErr result (string_bytes out.new ≡ string_bytes out.old) }
+    ensures book { IsLeftBy
+        (asks (setting_lent R.text book.old.fixed.stock lent.now.suites.now lent.now.reports)
+        book.old.history request.now) book.old book.new }
 {
     match request {
         Request::Undo(n) => undo(book, lent.board, *n, out),
@@ -42,6 +47,7 @@ fn ask<R: Reports>(
 }
 
 // Answers a line that is typed.
+#[tactic(auto, using(crate::proofs::AnswerLaws::left_still))]
 fn type_in<R: Reports>(
     book: &mut Book<'_>,
     lent: &Lent<'_, '_, '_, R>,
@@ -49,10 +55,15 @@ fn type_in<R: Reports>(
     out: &mut String,
 ) -> Result<bool, AllocError>
     requires { IsLentTo R.fits lent.now.board.now.table lent.now.reports book.old }
-    ensures { IfOk result (Answers
+    ensures ok { IfOk result (Answers
         (types book.old.fixed.stock book.old.history
         (command_at book.old.fixed.stock.table (map (λ s. s.now) lent.now.suites.now) line.now))
         book.old book.new (string_bytes out.old) (string_bytes out.new)) }
+    ensures err { OnErr result (string_bytes out.new ≡ string_bytes out.old) }
+    ensures book { IsLeftBy
+        (types book.old.fixed.stock book.old.history
+        (command_at book.old.fixed.stock.table (map (λ s. s.now) lent.now.suites.now) line.now))
+        book.old book.new }
 {
     match read_command(lent.alloc, line, book.supply().archs(), lent.suites) {
         Ok(typed) => command(book, lent.board, &typed, out),
@@ -61,7 +72,9 @@ fn type_in<R: Reports>(
     }
 }
 
-/// Answers a line from a book without builders. Answers whether it is refused.
+/// Answers a line from a book without builders. Answers whether it is refused. Where memory runs
+/// out nothing is appended, though the book may have done what the line says.
+#[tactic(auto, using(crate::proofs::AnswerLaws::left_still))]
 pub fn answer<R: Reports>(
     book: &mut Book<'_>,
     lent: &Lent<'_, '_, '_, R>,
@@ -69,10 +82,14 @@ pub fn answer<R: Reports>(
     out: &mut String,
 ) -> Result<bool, AllocError>
     requires { IsLentTo R.fits lent.now.board.now.table lent.now.reports book.old }
-    ensures { IfOk result (Answers
+    ensures ok { IfOk result (Answers
         (answer_to (setting_lent R.text book.old.fixed.stock lent.now.suites.now lent.now.reports)
         book.old.history line.now) book.old book.new (string_bytes out.old)
         (string_bytes out.new)) }
+    ensures err { OnErr result (string_bytes out.new ≡ string_bytes out.old) }
+    ensures book { IsLeftBy
+        (answer_to (setting_lent R.text book.old.fixed.stock lent.now.suites.now lent.now.reports)
+        book.old.history line.now) book.old book.new }
 {
     match read_line(lent.alloc, line)? {
         Said::Skipped => Ok(false),

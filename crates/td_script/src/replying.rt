@@ -1,12 +1,12 @@
 //! What is written of the answers of a book's calls. Each function says whether the line is
-//! refused.
-ghost use Rattle.std.specs.Prelude.{IfOk};
+//! refused. Where memory runs out, or had run out in the book's call, it appends nothing.
+ghost use Rattle.std.specs.Prelude.{◌≡◌, IfOk, OnErr};
 ghost use Rattle.std.specs.String.{string_bytes};
 ghost use Rattle.td_script.specs.Replying.{IsArrivalPut, IsArrivalRefused, IsCommandPut};
 ghost use Rattle.td_script.specs.Replying.{IsCommandRefused, IsSweepPut, IsUndoPut};
 
 use crate::writing::{
-    put_made, put_refusal, put_skips, put_state_refusal, put_undo_refusal, put_undone, refuse,
+    put_entered, put_made, put_nothing, put_state_refusal, put_undo_refusal, put_undone, refuse,
 };
 use std::alloc::AllocError;
 use td_book::{ArriveRefusal, CommandRefusal, Taken, UndoRefusal};
@@ -18,7 +18,8 @@ pub fn put_undo(
     n: EntryNo,
     answer: Result<(), UndoRefusal>,
 ) -> Result<bool, AllocError>
-    ensures { IfOk result (IsUndoPut n answer (string_bytes out.old) (string_bytes out.new)) }
+    ensures ok { IfOk result (IsUndoPut n answer (string_bytes out.old) (string_bytes out.new)) }
+    ensures err { OnErr result (string_bytes out.new ≡ string_bytes out.old) }
 {
     match answer {
         Ok(()) => put_undone(out, n).and(Ok(false)),
@@ -29,8 +30,9 @@ pub fn put_undo(
 
 /// Appends why an arrival was refused.
 pub fn put_arrival_refusal(out: &mut String, refusal: ArriveRefusal) -> Result<bool, AllocError>
-    ensures { IfOk result
+    ensures ok { IfOk result
         (IsArrivalRefused refusal (string_bytes out.old) (string_bytes out.new)) }
+    ensures err { OnErr result (string_bytes out.new ≡ string_bytes out.old) }
 {
     match refusal {
         ArriveRefusal::NoMemory => Err(AllocError),
@@ -47,8 +49,9 @@ pub fn put_arrival(
     journal: &Journal,
     answer: Result<EntryNo, ArriveRefusal>,
 ) -> Result<bool, AllocError>
-    ensures { IfOk result
+    ensures ok { IfOk result
         (IsArrivalPut journal.now.entries answer (string_bytes out.old) (string_bytes out.new)) }
+    ensures err { OnErr result (string_bytes out.new ≡ string_bytes out.old) }
 {
     match answer {
         Ok(n) => put_made(out, journal, n).and(Ok(false)),
@@ -62,8 +65,9 @@ pub fn put_sweep(
     journal: &Journal,
     swept: Option<EntryNo>,
 ) -> Result<bool, AllocError>
-    ensures { IfOk result
+    ensures ok { IfOk result
         (IsSweepPut journal.now.entries swept (string_bytes out.old) (string_bytes out.new)) }
+    ensures err { OnErr result (string_bytes out.new ≡ string_bytes out.old) }
 {
     match swept {
         Some(n) => put_made(out, journal, n)?,
@@ -74,13 +78,13 @@ pub fn put_sweep(
 
 /// Appends why a command was refused, and the rows that it names.
 pub fn put_command_refusal(out: &mut String, refusal: CommandRefusal) -> Result<bool, AllocError>
-    ensures { IfOk result
+    ensures ok { IfOk result
         (IsCommandRefused refusal (string_bytes out.old) (string_bytes out.new)) }
+    ensures err { OnErr result (string_bytes out.new ≡ string_bytes out.old) }
 {
     match refusal {
         CommandRefusal::NothingApplies(skips) => {
-            put_refusal(out, "NothingApplies")?;
-            put_skips(out, skips.as_slice())?;
+            put_nothing(out, skips.as_slice())?;
             Ok(true)
         }
         CommandRefusal::NoMemory => Err(AllocError),
@@ -93,13 +97,13 @@ pub fn put_command(
     journal: &Journal,
     answer: Result<Taken, CommandRefusal>,
 ) -> Result<bool, AllocError>
-    ensures { IfOk result
+    ensures ok { IfOk result
         (IsCommandPut journal.now.entries answer (string_bytes out.old) (string_bytes out.new)) }
+    ensures err { OnErr result (string_bytes out.new ≡ string_bytes out.old) }
 {
     match answer {
         Ok(taken) => {
-            put_made(out, journal, taken.number)?;
-            put_skips(out, taken.skips.as_slice())?;
+            put_entered(out, journal, taken.number, taken.skips.as_slice())?;
             Ok(false)
         }
         Err(refusal) => put_command_refusal(out, refusal),

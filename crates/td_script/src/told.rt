@@ -1,6 +1,8 @@
 //! What is told of a script: the answers to its lines, one after the other.
 ghost use Rattle.std.specs.Prelude.{◌<◌, ◌^◌, ◌-◌, IfOk, OnOk, length};
-ghost use Rattle.td_script.specs.Script.{IsAdded, IsTold};
+ghost use Rattle.td_script.specs.Answering.{IsLeftBy};
+ghost use Rattle.td_script.specs.Replies.{answer as answer_to};
+ghost use Rattle.td_script.specs.Script.{IsAdded, IsAnsweredUpTo, IsTold};
 ghost use Rattle.td_script.specs.Settings.{IsLentTo, setting_lent};
 
 use crate::dispatch::answer;
@@ -27,9 +29,12 @@ fn add_line<R: Reports>(
 ) -> Result<(), AllocError>
     requires lent { IsLentTo R.fits lent.now.board.now.table lent.now.reports book.old }
     requires room { told.old.refused < 2 ^ 63 }
-    ensures { OnOk result (IsAdded
+    ensures ok { OnOk result (IsAdded
         (setting_lent R.text book.old.fixed.stock lent.now.suites.now lent.now.reports) line.now
         book.old book.new told.old told.new) }
+    ensures book { IsLeftBy
+        (answer_to (setting_lent R.text book.old.fixed.stock lent.now.suites.now lent.now.reports)
+        book.old.history line.now) book.old book.new }
 {
     if answer(book, lent, line, &mut told.text)? {
         told.refused += 1;
@@ -37,7 +42,8 @@ fn add_line<R: Reports>(
     Ok(())
 }
 
-/// Answers the lines of a script, one after the other, from a book without builders.
+/// Answers the lines of a script, one after the other, from a book without builders. Where memory
+/// runs out the book has done what the lines before some place say.
 pub fn tell<R: Reports>(
     book: &mut Book<'_>,
     lent: &Lent<'_, '_, '_, R>,
@@ -45,9 +51,12 @@ pub fn tell<R: Reports>(
 ) -> Result<Told, AllocError>
     requires lent { IsLentTo R.fits lent.now.board.now.table lent.now.reports book.old }
     requires small { length script.now < 2 ^ 63 - 1 }
-    ensures { IfOk result (IsTold
+    ensures told { IfOk result (IsTold
         (setting_lent R.text book.old.fixed.stock lent.now.suites.now lent.now.reports) script.now
         book.old book.new) }
+    ensures book { IsAnsweredUpTo
+        (setting_lent R.text book.old.fixed.stock lent.now.suites.now lent.now.reports) script.now
+        book.old book.new }
 {
     let mut told = Told {
         text: String::new(lent.alloc),

@@ -1,9 +1,13 @@
 -- `put_undo`: what it appends and answers.
 use Rattle.std.specs.Prelude.{false}
-use Rattle.td_script.proofs.AnswerLaws.{IsPut-and}
+use Rattle.td_script.proofs.AnswerLaws.{IsPut-and, OnErr-and}
 use Rattle.td_script.proofs.replying.put_undo.Goals as goal
 
-pub returns-in-Ok : goal.returns-in-Ok
-returns-in-Ok c =
+pub returns-in-Ok-clause-ok : goal.returns-in-Ok-clause-ok
+returns-in-Ok-clause-ok c =
     rw c.in-Ok.is
-    (IsPut-and _ _ _ false c.put_undone.result c.and.result c.and.ensures c.put_undone.ensures)
+    (IsPut-and _ _ _ false c.put_undone.result c.and.result c.and.ensures c.put_undone.ensures.ok)
+
+pub returns-in-Ok-clause-err : goal.returns-in-Ok-clause-err
+returns-in-Ok-clause-err c =
+    OnErr-and _ _ false c.put_undone.result c.and.result c.and.ensures c.put_undone.ensures.err

@@ -1,7 +1,7 @@
 -- `tell`: its loop, what it answers and the call of `add_line`.
 use Rattle.std.proofs.Common.{◌≡◌, subst, refl, rules, None}
 use Rattle.td_script.proofs.ScriptLaws.{IsSoFar, IsSoFar-begun, IsSoFar-next, IsSoFar-done}
-use Rattle.td_script.proofs.ScriptLaws.{lent_still, room}
+use Rattle.td_script.proofs.ScriptLaws.{lent_still, room, up_to_here, up_to_next}
 use Rattle.td_script.proofs.told.tell.Goals as goal
 
 pub loop-rest-init : goal.loop-rest-init
@@ -25,10 +25,23 @@ loop-rest-preserved g c =
     c.in-Some.is c.loop-rest.invariant in
     IsSoFar-next _ _ c.args.script.now _ c.args.book.now c.loop-rest.book c.add_line.new.book
     c.loop-rest.told c.add_line.new.told c.in-Some.lines c.next_line.result.1 h
-    c.next_line.ensures.lines c.next_line.ensures.shorter c.in_ok-add_line.ensures
+    c.next_line.ensures.lines c.next_line.ensures.shorter c.in_ok-add_line.ensures.ok
 
-pub returns : goal.returns
-returns g c =
+pub returns-in_err-add_line-clause-book : goal.returns-in_err-add_line-clause-book
+returns-in_err-add_line-clause-book g c =
+    let h = subst (IsSoFar _ _ c.args.script.now c.args.book.now c.loop-rest.book c.loop-rest.told)
+    c.in-Some.is c.loop-rest.invariant in
+    up_to_next _ _ c.args.script.now _ c.args.book.now c.loop-rest.book c.add_line.new.book
+    c.loop-rest.told c.in-Some.lines c.next_line.result.1 h c.next_line.ensures.lines
+    c.in_err-add_line.ensures.book
+
+pub returns-clause-told : goal.returns-clause-told
+returns-clause-told g c =
     let none : c.loop-rest.rest ≡ None = search rules in
     IsSoFar-done _ _ c.args.script.now c.args.book.now c.loop-rest.book c.loop-rest.told
     c.loop-rest.rest c.loop-rest.invariant none
+
+pub returns-clause-book : goal.returns-clause-book
+returns-clause-book g c =
+    up_to_here _ _ c.args.script.now c.args.book.now c.loop-rest.book c.loop-rest.told
+    c.loop-rest.rest c.loop-rest.invariant

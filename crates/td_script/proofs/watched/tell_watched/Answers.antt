@@ -40,4 +40,4 @@ returns-in_ok-watch-in-Some c =
 pub returns-in-None : goal.returns-in-None
 returns-in-None c =
     IfOk-weaker c.tell.result _ _
-    (told_answered _ c.args.script.now c.args.book.now c.tell.new.book) c.tell.ensures
+    (told_answered _ c.args.script.now c.args.book.now c.tell.new.book) c.tell.ensures.told

@@ -1,9 +1,9 @@
--- What the loop of `put_skips` keeps.
+-- What the loop of `write_skips` keeps.
 use Rattle.std.proofs.Common.{◌≡◌, ◌++◌, take}
 use Rattle.std.specs.List.{flat_map}
 use Rattle.std.specs.String.{string_bytes}
 use Rattle.td_script.specs.Replies.{skip_line}
-use Rattle.td_script.proofs.writing.put_skips.Given as goal
+use Rattle.td_script.proofs.writing.write_skips.Given as goal
 
 -- the lines so far are written
 abbrev pub invariant-loop-skip : goal.invariant-loop-skip
