@@ -1,0 +1,156 @@
+//! What no clause can say: that each call that makes a report, or waves, makes it where there is
+//! memory. The archive, the tracker and the texts are this project's worked examples; behind the
+//! archive 3,000 sources more may stand that the tracker doesn't affect, of which nothing is said.
+ghost use Rattle.td_query.specs.Tracking.{IsTracker, tracking};
+ghost use Rattle.td_report.specs.TransitionView.{IsMade};
+
+use crate::checks::{is_told, made};
+use crate::waves::{ARCHS, LEVELS, PACKAGES, REPORT, SOURCES, TRACKER};
+use std::alloc::{AllocError, Global};
+use std::process::Abort;
+use std::thread::Threads;
+use td_indices::Archive;
+use td_query::{Marks, Tracker};
+use td_relation::Archs;
+use td_report::{Transition, opening_waves};
+use td_rows::Rows;
+
+// The report of these rows, as each call makes it.
+fn are_reported(
+    rt: &(impl Threads + Abort + Sync),
+    alloc: Global,
+    transition: &Transition<'_, '_, '_, '_>,
+    rows: &Rows,
+)
+    requires { IsMade transition.now }
+{
+    is_told(rt, transition.report(alloc, rows), REPORT, "report");
+    let beside = transition.report_beside(rt, alloc, rows);
+    is_told(rt, beside, REPORT, "report_beside");
+    let by_one = transition.report_split(rt, alloc, rows, 1);
+    is_told(rt, by_one, REPORT, "report_split by 1");
+    let by_two = transition.report_split(rt, alloc, rows, 2);
+    is_told(rt, by_two, REPORT, "report_split by 2");
+    let by_five = transition.report_split(rt, alloc, rows, 5);
+    is_told(rt, by_five, REPORT, "report_split by 5");
+}
+
+// The waves of these rows, likewise.
+fn are_in_levels(
+    rt: &(impl Threads + Abort + Sync),
+    alloc: Global,
+    transition: &Transition<'_, '_, '_, '_>,
+    rows: &Rows,
+)
+    requires { IsMade transition.now }
+{
+    is_told(rt, transition.waves(alloc, rows), LEVELS, "waves");
+    let beside = transition.waves_beside(rt, alloc, rows);
+    is_told(rt, beside, LEVELS, "waves_beside");
+}
+
+// A transition over all rows with which a desk opens.
+fn over_all_rows(
+    rt: &(impl Threads + Abort + Sync),
+    alloc: Global,
+    archive: &Archive<'_, '_>,
+    transition: &Transition<'_, '_, '_, '_>,
+)
+    requires { IsMade transition.now }
+{
+    let rows = made(rt, archive.opening_rows());
+    are_reported(rt, alloc, transition, &rows);
+    are_in_levels(rt, alloc, transition, &rows);
+    drop(rows);
+}
+
+// A transition that one thread makes.
+fn by_itself(
+    rt: &(impl Threads + Abort + Sync),
+    alloc: Global,
+    archive: &Archive<'_, '_>,
+    tracker: &Tracker<'_>,
+) {
+    let transition = made(rt, Transition::of(alloc, archive, tracker));
+    over_all_rows(rt, alloc, archive, &transition);
+    drop(transition);
+}
+
+// A transition that several threads make.
+fn beside(
+    rt: &(impl Threads + Abort + Sync),
+    alloc: Global,
+    archive: &Archive<'_, '_>,
+    tracker: &Tracker<'_>,
+    text: &str,
+)
+    requires { IsTracker text.now (tracking tracker.now) }
+{
+    let marks = made(rt, Marks::make_beside(rt, alloc, archive, tracker, text));
+    let with_marks = Transition::with_marks_beside(rt, alloc, archive, tracker, marks);
+    let transition = made(rt, with_marks);
+    over_all_rows(rt, alloc, archive, &transition);
+    drop(transition);
+}
+
+// A transition with the rows of its affected sources alone.
+fn with_opening_rows(
+    rt: &(impl Threads + Abort + Sync),
+    alloc: Global,
+    archive: &Archive<'_, '_>,
+    tracker: &Tracker<'_>,
+    text: &str,
+)
+    requires { IsTracker text.now (tracking tracker.now) }
+{
+    let marks = made(rt, Marks::make_beside(rt, alloc, archive, tracker, text));
+    let with_rows = Transition::with_opening_rows(rt, alloc, archive, tracker, marks);
+    let (transition, rows) = made(rt, with_rows);
+    are_reported(rt, alloc, &transition, &rows);
+    are_in_levels(rt, alloc, &transition, &rows);
+    drop(transition);
+    drop(rows);
+}
+
+// Each transition of the tracker over an archive.
+fn over_archive(rt: &(impl Threads + Abort + Sync), alloc: Global, archive: &Archive<'_, '_>) {
+    let tracker = made(rt, Tracker::read(alloc, TRACKER));
+    by_itself(rt, alloc, archive, &tracker);
+    beside(rt, alloc, archive, &tracker, TRACKER);
+    with_opening_rows(rt, alloc, archive, &tracker, TRACKER);
+    let waves = opening_waves(rt, alloc, archive, tracker, TRACKER);
+    is_told(rt, waves, LEVELS, "opening_waves");
+}
+
+// The same over the archive of these texts.
+fn over_texts(rt: &(impl Threads + Abort + Sync), alloc: Global, packages: &str, sources: &str) {
+    let archs = made(rt, Archs::read(alloc, ARCHS));
+    let read = Archive::read_beside(rt, alloc, packages, sources, &archs);
+    let archive = made(rt, read);
+    over_archive(rt, alloc, &archive);
+    drop(archive);
+}
+
+#[test]
+fn a_report_is_one_text_whichever_call_makes_it(rt: HostRuntime) {
+    over_texts(&rt, rt.alloc(), PACKAGES, SOURCES);
+}
+
+// Behind a text, the stanzas of 3,000 sources that ask for nothing.
+fn lengthened(alloc: Global, text: &str) -> Result<String, AllocError> {
+    let mut long = String::from_str(alloc, text)?;
+    for number in 0..3000 {
+        write!(
+            long,
+            "\nPackage: zz{number}\nVersion: 1\nArchitecture: amd64\n"
+        )?;
+    }
+    Ok(long)
+}
+
+#[test]
+fn what_is_not_affected_adds_nothing_to_a_report(rt: HostRuntime) {
+    let packages = made(&rt, lengthened(rt.alloc(), PACKAGES));
+    let sources = made(&rt, lengthened(rt.alloc(), SOURCES));
+    over_texts(&rt, rt.alloc(), packages.as_str(), sources.as_str());
+}
