@@ -1,7 +1,8 @@
-//! The tests of crews and of reports: what no clause says.
+//! The tests of crews, reports, and the program over files in memory: what no clause says.
 //!
-//! Start at `reports`, then `crews`. `archive` and `waves` are what they run over. They stand in a
-//! crate of their own, over public calls, so that nothing is proved a second time with its tests.
+//! Start at `tools`, which asks the program for each subcommand, then `reports` and `crews`.
+//! `archive` and `waves` are what they run over, `path_texts` are the files in memory. They stand in
+//! a crate of their own, over public calls, so that nothing is proved a second time with its tests.
 #![tactic(auto)]
 
 #[cfg(test)]
@@ -13,6 +14,10 @@ mod crews;
 #[cfg(test)]
 mod kept_reports;
 #[cfg(test)]
+mod path_texts;
+#[cfg(test)]
 mod reports;
+#[cfg(test)]
+mod tools;
 #[cfg(test)]
 mod waves;

@@ -1,0 +1,2 @@
+-- What the contracts of this crate cite: a file a thing.
+pub mod PathTexts

@@ -1,0 +1,11 @@
+-- Files that have their paths as texts. This project's own.
+use Rattle.std.specs.Prelude.{Bool, true, false}
+use Rattle.td_bytes.specs.declared.text.TextFault.{TextFault}
+use Rattle.td_bytes.specs.declared.text.TextFault.TheVariants.{CannotRead, TooLong, NotText, NoMemory}
+
+-- whether a text isn't read for want of room: there is more than the limit, or than the memory
+abbrev pub lacks_room : TextFault → Bool
+lacks_room CannotRead = false
+lacks_room TooLong = true
+lacks_room NotText = false
+lacks_room NoMemory = true
