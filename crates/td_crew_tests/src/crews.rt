@@ -1,7 +1,10 @@
-//! What no clause can say: that builders of a crew build at the same time, and that a crew of none
-//! tells its rows too (the program has a script without builders run by itself). The archive and
-//! the answers are this project's worked examples.
+//! What no clause can say: that builders of a crew build at the same time, that a crew of none tells
+//! its rows too (the program has a script without builders run by itself), and that a writer which
+//! takes one byte a call gets all that a script answers. The archive and the answers are this
+//! project's worked examples.
 use crate::archive::{ARCHS, PACKAGES, SOURCES};
+use crate::checks::{is_told, made};
+use crate::narrow::Narrow;
 use std::alloc::{AllocError, Global};
 use std::fmt::Debug;
 use std::sync::Wait;
@@ -9,7 +12,7 @@ use std::test::Fail;
 use std::thread::Threads;
 use td_crew::{run_crew, run_crew_with};
 use td_desk_tests::Together;
-use td_script::{Inputs, ScriptEnd};
+use td_script::{Inputs, ScriptEnd, run_script};
 
 // The archive and no other file, and less than 65 builders.
 fn inputs(alloc: Global, builders: u8) -> Result<Inputs, AllocError> {
@@ -98,4 +101,32 @@ fn two_builds_of_a_crew_overlap(rt: HostRuntime) -> Result<(), Fail> {
     drop(inputs);
     assert_eq!(rt; found?.as_str(), BOTH_BUILT);
     Ok(())
+}
+
+// What a writer of one byte a call gets of a script.
+fn told_narrowly<R: Threads + Sync>(
+    rt: &R,
+    alloc: Global,
+    inputs: &Inputs,
+    mut script: &[u8],
+) -> Result<String, AllocError> {
+    let taken = Vec::new(alloc);
+    let mut writer = Narrow { taken };
+    let end = run_script(rt, alloc, inputs, &mut script, &mut writer);
+    spelled(alloc, &end, writer.taken.as_slice())
+}
+
+const BYTE_BY_BYTE: &str = "\
+1 entry 1 takes foo/i386
+refused: NoSuchEntry
+foo/i386 Needs-Build 0 1
+";
+
+#[test]
+fn a_writer_of_one_byte_a_call_gets_all_answers(rt: HostRuntime) {
+    let inputs = made(&rt, inputs(rt.alloc(), 0));
+    let script = b"nmu foo . i386\nundo 2\nrow foo i386\n";
+    let found = told_narrowly(&rt, rt.alloc(), &inputs, script);
+    is_told(&rt, found, BYTE_BY_BYTE, "a script");
+    drop(inputs);
 }

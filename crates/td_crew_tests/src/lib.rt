@@ -14,6 +14,8 @@ mod crews;
 #[cfg(test)]
 mod kept_reports;
 #[cfg(test)]
+mod narrow;
+#[cfg(test)]
 mod path_texts;
 #[cfg(test)]
 mod reports;

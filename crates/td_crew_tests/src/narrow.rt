@@ -1,0 +1,27 @@
+//! A writer that takes one byte a call.
+ghost use Rattle.std.specs.Prelude.{Some};
+
+use std::io;
+use std::io::Write;
+
+/// Takes one byte a call.
+#[derive(Drop)]
+pub(crate) struct Narrow {
+    pub(crate) taken: Vec<u8>,
+}
+
+impl Write for Narrow {
+    ghost contents = { λ w. Some w.taken.items };
+
+    fn write(&mut self, bytes: &[u8]) -> io::Result<usize> {
+        let Some(first) = bytes.first() else {
+            return Ok(0);
+        };
+        self.taken.push(*first)?;
+        Ok(1)
+    }
+
+    fn flush(&mut self) -> io::Result<()> {
+        Ok(())
+    }
+}
