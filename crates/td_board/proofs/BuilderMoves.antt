@@ -10,10 +10,12 @@ use Rattle.atomic_table.specs.Table.{keeps, step, Allows}
 use Rattle.td_board.specs.declared.outcome.OutcomeCode.{OutcomeCode}
 use Rattle.td_board.specs.declared.views.Hand.{Hand}
 use Rattle.td_board.specs.declared.views.Hand.TheVariants.{Free, Holding, Finished}
+use Rattle.td_board.specs.declared.views.BuilderTry.TheVariants.{ClaimLost, FinishEarly}
+use Rattle.td_board.specs.declared.views.BuilderTry.TheVariants.{ReleaseEarly}
 use Rattle.td_board.specs.declared.views.BuilderView.{BuilderView}
 use Rattle.td_board.specs.declared.views.View.TheVariants.{Builder}
 use Rattle.td_board.specs.Phase.{Phase, opened, held, noted, done, word_of}
-use Rattle.td_board.specs.Knowledge.{with_claim, with_finish, with_free_hand}
+use Rattle.td_board.specs.Knowledge.{with_claim, with_finish, with_free_hand, builder_tried}
 use Rattle.td_board.specs.Steps as steps
 use Rattle.td_board.specs.Steps.{Moment, moment_of}
 use Rattle.td_board.specs.Ruled.{Ruled}
@@ -22,7 +24,7 @@ use Rattle.td_board.proofs.Lists.{there_is}
 use Rattle.td_board.proofs.RowLaws.{builder_seat}
 use Rattle.td_board.proofs.BuilderLaws.{outcome_of}
 use Rattle.td_board.proofs.Schedules.{rule_stands}
-use Rattle.td_board.proofs.RuledSteps.{TableState, ruled_row, ruled_view, ruled_same, ruled_missed}
+use Rattle.td_board.proofs.RuledSteps.{TableState, ruled_row, ruled_view, ruled_missed}
 use Rattle.td_board.proofs.WordLaws.{words_apart, word_at, same_finish, either_hit}
 
 -- what the rule says of a builder's seat, and of a row
@@ -84,15 +86,19 @@ claim_allowed rows slots id r new me v word is free inside =
           (λ q e. let same : r ≡ q = omega arith in
               ((λ _. ap (λ i. at_builder (with_claim i v)) same), (λ lost. absurd (lost won)))),
         ))
-        (λ (lost : n ≢ 1). (
-          Builder v,
+        (λ (lost : n ≢ 1).
+        let v' : BuilderView = builder_tried (ClaimLost r) v in (
+          Builder v',
           keeps,
           tt,
-          ruled_missed rows s (r + 1) n 1 new id (Builder v) lost
-              (ruled_same rows s (r + 1) id (Builder v) rule at
+          ruled_missed rows s (r + 1) n 1 new id (Builder v') lost
+              (ruled_view rows s rule (r + 1) id id (Builder v') refl
               (steps.claim_lost r id t.phase v at free t.here
               (λ (e : t.phase ≡ opened). lost (t.word ∙ ap word_of e)) refl)),
-          (λ q e. ((λ won. absurd (lost won)), (λ _. refl))),
+          (λ q e. let same : r ≡ q = omega arith in (
+            (λ won. absurd (lost won)),
+            (λ _. ap (λ i. at_builder (builder_tried (ClaimLost i) v)) same),
+          )),
         )))
 
 -- a finish
@@ -135,16 +141,21 @@ finish_allowed rows slots id r c old new me v word word' is holds inside =
               let two = (same_finish v.number v.number c k e').1 in
               ((λ _ i. at_builder (with_finish (one i) (two i) v)), (λ lost. absurd (lost won)))),
         ))
-        (λ (lost : n ≢ old). (
-          Builder v,
+        (λ (lost : n ≢ old).
+        let v' : BuilderView = builder_tried (FinishEarly r c) v in (
+          Builder v',
           keeps,
           tt,
-          ruled_missed rows s (r + 1) n old new id (Builder v) lost
-              (ruled_same rows s (r + 1) id (Builder v) rule at
-              (steps.finish_early r id t.phase v at holds t.here
+          ruled_missed rows s (r + 1) n old new id (Builder v') lost
+              (ruled_view rows s rule (r + 1) id id (Builder v') refl
+              (steps.finish_early r id c t.phase v at holds t.here
               (λ (e : t.phase ≡ noted id). lost
               (t.word ∙ (ap word_of e ∙ ap (λ i. word_of (noted i)) (sym t.number)))) refl)),
-          (λ q k e e'. ((λ won. absurd (lost won)), (λ _. refl))),
+          (λ q k e e'. let one : r ≡ q = omega arith in
+              let two = (same_finish v.number v.number c k e').1 in (
+                (λ won. absurd (lost won)),
+                (λ _ i. at_builder (builder_tried (FinishEarly (one i) (two i)) v)),
+              )),
         )))
 
 -- one hand has one outcome
@@ -169,14 +180,15 @@ release_allowed rows slots id r c me v is ended inside =
     (λ (early : n ≡ old).
     let here : get_elem? rule.phases r ≡ some (done id c) =
     t.here ∙ ap some
-    (words_apart t.phase (done id c) (sym t.word ∙ (early ∙ sym same_word))) in (
-      Builder v,
+    (words_apart t.phase (done id c) (sym t.word ∙ (early ∙ sym same_word))) in
+    let v' : BuilderView = builder_tried (ReleaseEarly r) v in (
+      Builder v',
       keeps,
       tt,
-      ruled_same rows s (r + 1) id (Builder v) rule at
+      ruled_view rows s rule (r + 1) id id (Builder v') refl
           (steps.release_early r id c v at ended here refl),
-      (λ q k e e'. (
-        (λ _. refl),
+      (λ q k e e'. let one : r ≡ q = omega arith in (
+        (λ _. ap (λ i. at_builder (builder_tried (ReleaseEarly i) v)) one),
         (λ late. absurd (late
             (early ∙ ap (λ i. word_of (done v.number i)) (one_outcome v.hand r q c k ended e')))),
       )),

@@ -12,6 +12,8 @@ use Rattle.td_board.specs.declared.views.RowView.{RowView}
 use Rattle.td_board.specs.declared.views.RowView.TheVariants.{In, Seen, Known}
 use Rattle.td_board.specs.declared.views.Deed.{Deed}
 use Rattle.td_board.specs.declared.views.Deed.TheVariants.{Claim, Finish}
+use Rattle.td_board.specs.declared.views.DeskTry.{DeskTry}
+use Rattle.td_board.specs.declared.views.DeskTry.TheVariants.{WithdrawalLost, SettleDone}
 use Rattle.td_board.specs.declared.views.Hand.{Hand}
 use Rattle.td_board.specs.declared.views.Hand.TheVariants.{Holding, Finished}
 use Rattle.td_board.specs.declared.views.DeskView.{DeskView}
@@ -20,7 +22,7 @@ use Rattle.td_board.specs.declared.views.View.{View}
 use Rattle.td_board.specs.declared.views.View.TheVariants.{Desk, Builder}
 use Rattle.td_board.specs.Phase.{Phase, closed, opened, held, noted, done, builder_of}
 use Rattle.td_board.specs.Knowledge.{new_desk, with_builder, with_row, with_deed, list_at}
-use Rattle.td_board.specs.Knowledge.{new_builder}
+use Rattle.td_board.specs.Knowledge.{new_builder, desk_tried}
 use Rattle.td_board.specs.Rule.{RowFits, HasHand, HandFits, ListFits, BuilderFits, Fits}
 use Rattle.td_board.proofs.Lists.{at_less, one_at, there_is, at_replicate, at_snoc_or_end}
 use Rattle.td_board.proofs.Lists.{list_at-at}
@@ -105,11 +107,12 @@ seat_keeps rows phases d views f =
 
 -- an offer, and a withdrawal where no builder was faster: neither phase names a builder
 pub unclaimed_keeps : (rows : ℕ) (phases : List Phase) (d : DeskView) (views : List View) (r : ℕ)
-    (p₀ p₁ : Phase) (x : RowView) → builder_of p₀ ≡ 0 → builder_of p₁ ≡ 0 → RowFits x p₁
+    (p₀ p₁ : Phase) (x : RowView) (tries : List DeskTry) → builder_of p₀ ≡ 0 → builder_of p₁ ≡ 0 → RowFits x p₁
     → HandFits views r p₁ → Fits rows phases d views → get_elem? phases r ≡ some p₀
-    → Fits rows (set phases r p₁) (with_row r x d) (set views 0 (Desk (with_row r x d)))
-unclaimed_keeps rows phases d views r p₀ p₁ x before after row hand f at =
-    desk_moves rows phases d views r p₀ p₁ x d.noted f at row hand refl
+    → let d' : DeskView = record { rows = set d.rows r x; noted = d.noted; tried = tries } in
+    Fits rows (set phases r p₁) d' (set views 0 (Desk d'))
+unclaimed_keeps rows phases d views r p₀ p₁ x tries before after row hand f at =
+    desk_moves rows phases d views r p₀ p₁ x d.noted tries f at row hand refl
     (λ k w _ old. record {
       view = old.view;
       known = old.known;
@@ -123,12 +126,14 @@ unclaimed_keeps rows phases d views r p₀ p₁ x before after row hand f at =
 -- a withdrawal that is lost: the desk sees a claim
 pub sight_keeps : (rows : ℕ) (phases : List Phase) (d : DeskView) (views : List View) (r b : ℕ)
     → Fits rows phases d views → get_elem? phases r ≡ some (held b)
-    → Fits rows phases (with_row r (Seen b) d) (set views 0 (Desk (with_row r (Seen b) d)))
+    → let d' : DeskView = desk_tried (WithdrawalLost r b) (with_row r (Seen b) d) in
+    Fits rows phases d' (set views 0 (Desk d'))
 sight_keeps rows phases d views r b f at =
     let same : set phases r (held b) ≡ phases = set_again phases r (held b) at in
-    let d' : DeskView = with_row r (Seen b) d in
+    let d' : DeskView = desk_tried (WithdrawalLost r b) (with_row r (Seen b) d) in
     subst (λ ps. Fits rows ps d' (set views 0 (Desk d'))) same
-    (desk_moves rows phases d views r (held b) (held b) (Seen b) d.noted f at refl
+    (desk_moves rows phases d views r (held b) (held b) (Seen b) d.noted
+    (d.tried ++ WithdrawalLost r b ∷ []) f at refl
     (f.each_hand r (held b) at) refl
     (λ k w _ old. subst (λ ps. BuilderFits ps d.noted k w) (sym same) old))
 
@@ -209,6 +214,7 @@ note_keeps rows phases d views r b f at =
     record {
       rows = set d.rows r (Known z.0);
       noted = set d.noted z.1 (list_at d.noted z.1 ++ Claim r ∷ []);
+      tried = d.tried;
     } in Fits rows (set phases r (noted z.0)) d' (set views 0 (Desk d')))
     (λ i. (sym named i, place i)) law
   where
@@ -217,6 +223,7 @@ note_keeps rows phases d views r b f at =
         → let d' : DeskView = record {
           rows = set d.rows r (Known (suc k));
           noted = set d.noted k (list_at d.noted k ++ Claim r ∷ []);
+          tried = d.tried;
         } in Fits rows (set phases r (noted (suc k))) d' (set views 0 (Desk d'))
     by_place rows phases d views r k f at =
         let has = f.each_hand r (held (suc k)) at in
@@ -224,7 +231,7 @@ note_keeps rows phases d views r b f at =
         let now : List Deed = list_at d.noted k ++ Claim r ∷ [] in
         let is : list_at d.noted k ≡ mine.known = list_at-at d.noted k mine.known mine.at in
         desk_moves rows phases d views r (held (suc k)) (noted (suc k)) (Known (suc k))
-        (set d.noted k now) f at refl has (length-set d.noted k now)
+        (set d.noted k now) d.tried f at refl has (length-set d.noted k now)
         (noting_builders phases d.noted views r k (held (suc k)) (noted (suc k)) mine.known now at
         mine.at (λ a ne _. ((λ h. ne (sym h)), λ h. ne (sym h)))
         (λ w seat old same.
@@ -241,7 +248,7 @@ note_keeps rows phases d views r b f at =
 -- a settling
 pub settling_keeps : (rows : ℕ) (phases : List Phase) (d : DeskView) (views : List View) (r b : ℕ)
     (c : OutcomeCode) → Fits rows phases d views → get_elem? phases r ≡ some (done b c)
-    → let d' : DeskView = with_deed b (Finish r c) (with_row r In d) in
+    → let d' : DeskView = desk_tried (SettleDone r c) (with_deed b (Finish r c) (with_row r In d)) in
     Fits rows (set phases r closed) d' (set views 0 (Desk d'))
 settling_keeps rows phases d views r b c f at =
     let has = f.each_hand r (done b c) at in
@@ -254,6 +261,7 @@ settling_keeps rows phases d views r b c f at =
     record {
       rows = set d.rows r In;
       noted = set d.noted i (list_at d.noted i ++ Finish r c ∷ []);
+      tried = d.tried ++ SettleDone r c ∷ [];
     } in Fits rows (set phases r closed) d' (set views 0 (Desk d'))) place law
   where
     by_place : (rows : ℕ) (phases : List Phase) (d : DeskView) (views : List View) (r k : ℕ)
@@ -261,13 +269,15 @@ settling_keeps rows phases d views r b c f at =
         → let d' : DeskView = record {
           rows = set d.rows r In;
           noted = set d.noted k (list_at d.noted k ++ Finish r c ∷ []);
+          tried = d.tried ++ SettleDone r c ∷ [];
         } in Fits rows (set phases r closed) d' (set views 0 (Desk d'))
     by_place rows phases d views r k c f at =
         let has = f.each_hand r (done (suc k) c) at in
         let mine = f.each_builder k (Builder has.0) has.1 in
         let now : List Deed = list_at d.noted k ++ Finish r c ∷ [] in
         let is : list_at d.noted k ≡ mine.known = list_at-at d.noted k mine.known mine.at in
-        desk_moves rows phases d views r (done (suc k) c) closed In (set d.noted k now) f at tt tt
+        desk_moves rows phases d views r (done (suc k) c) closed In (set d.noted k now)
+        (d.tried ++ SettleDone r c ∷ []) f at tt tt
         (length-set d.noted k now)
         (noting_builders phases d.noted views r k (done (suc k) c) closed mine.known now at mine.at
         (λ a ne pos. ((λ h. ne (sym h)), λ h. pos (sym h)))

@@ -13,11 +13,13 @@ use Rattle.td_board.specs.declared.outcome.OutcomeCode.{OutcomeCode}
 use Rattle.td_board.specs.declared.views.RowView.{RowView}
 use Rattle.td_board.specs.declared.views.RowView.TheVariants.{In, Out, Seen, Known}
 use Rattle.td_board.specs.declared.views.Deed.TheVariants.{Claim, Finish}
+use Rattle.td_board.specs.declared.views.DeskTry.TheVariants.{WithdrawalWon, WithdrawalLost}
+use Rattle.td_board.specs.declared.views.DeskTry.TheVariants.{SettleDone, SettleEarly}
 use Rattle.td_board.specs.declared.views.DeskView.{DeskView}
 use Rattle.td_board.specs.declared.views.View.{View}
 use Rattle.td_board.specs.declared.views.View.TheVariants.{Desk, Builder}
 use Rattle.td_board.specs.Phase.{Phase, closed, opened, held, noted, done, word_of}
-use Rattle.td_board.specs.Knowledge.{with_builder, with_row, with_deed, new_builder}
+use Rattle.td_board.specs.Knowledge.{with_builder, with_row, with_deed, new_builder, desk_tried}
 use Rattle.td_board.specs.Steps as steps
 use Rattle.td_board.specs.Steps.{Moment, moment_of, Reached}
 use Rattle.td_board.specs.Rule.{RowFits, Fits}
@@ -28,7 +30,7 @@ use Rattle.td_board.proofs.Lists.{at_less}
 use Rattle.td_board.proofs.RowLaws.{phase_at, in_closed, seen_held, OutPhase, is_open, is_held}
 use Rattle.td_board.proofs.RowLaws.{out_phase, desk_seat, builder_seat}
 use Rattle.td_board.proofs.Schedules.{rule_stands}
-use Rattle.td_board.proofs.RuledSteps.{TableState, ruled_row, ruled_view, ruled_same, ruled_missed}
+use Rattle.td_board.proofs.RuledSteps.{TableState, ruled_row, ruled_view, ruled_missed}
 use Rattle.td_board.proofs.WordLaws.{words_apart, word_at, words_of_closed, same_finish}
 use Rattle.td_board.proofs.WordLaws.{either_hit}
 
@@ -146,14 +148,16 @@ withdrawal_allowed rows slots id r me d is out_here =
     (λ (won : n ≡ 1).
     let here : get_elem? rule.phases r ≡ some opened =
     t.here ∙ ap some (words_apart t.phase opened (sym t.word ∙ won)) in
-    let d' : DeskView = with_row r In d in (
+    let d' : DeskView = desk_tried (WithdrawalWon r) (with_row r In d) in (
       Desk d',
       keeps,
       tt,
       ruled_row rows s rule r (either (eqb n 1) 0 n) id 0 closed (Desk d') t.first
           (either_hit n 1 0 won) (steps.withdrawal_won r d t.fits.first out_here here refl),
-      (λ q e. let same : r ≡ q = omega arith in
-          ((λ _. ap (λ i. at_desk (with_row i In d)) same), (λ lost. absurd (lost won)))),
+      (λ q e. let same : r ≡ q = omega arith in (
+        (λ _. ap (λ i. at_desk (desk_tried (WithdrawalWon i) (with_row i In d))) same),
+        (λ lost. absurd (lost won)),
+      )),
     ))
     (λ (lost : n ≢ 1). held_case rows slots id r d s rule out_here t lost
     (out_phase t.phase t.suits)))
@@ -171,7 +175,7 @@ withdrawal_allowed rows slots id r me d is out_here =
         let holds : get_elem? rule.phases r ≡ some (held b) = t.here ∙ ap some e in
         let known = holder_in rows rule.phases d s.views r b t.fits holds in
         let n : ℕ = get_or s.words (r + 1) 0 in
-        let d' : DeskView = with_row r (Seen b) d in (
+        let d' : DeskView = desk_tried (WithdrawalLost r b) (with_row r (Seen b) d) in (
           Desk d',
           keeps,
           tt,
@@ -185,7 +189,7 @@ withdrawal_allowed rows slots id r me d is out_here =
               t.word ∙ ap word_of e,
               known.0,
               known.1,
-              ap (λ i. at_desk (with_row i (Seen b) d)) same,
+              ap (λ i. at_desk (desk_tried (WithdrawalLost i b) (with_row i (Seen b) d))) same,
             )),
           )),
         )
@@ -253,25 +257,30 @@ settling_allowed rows slots id r b c old me d word is knows =
         (λ (won : n ≡ old).
         let here : get_elem? rule.phases r ≡ some (done b c) =
         t.here ∙ ap some (words_apart t.phase (done b c) (sym t.word ∙ won)) in
-        let d' : DeskView = with_deed b (Finish r c) (with_row r In d) in (
+        let d' : DeskView =
+        desk_tried (SettleDone r c) (with_deed b (Finish r c) (with_row r In d)) in (
           Desk d',
           keeps,
           tt,
           ruled_row rows s rule r (either (eqb n old) 0 n) id 0 closed (Desk d') t.first
               (either_hit n old 0 won) (steps.settle_done r b c d t.fits.first knows here refl),
           (λ q a k e e'. let one : r ≡ q = omega arith in let same = same_finish b a c k e' in (
-            (λ _ i. at_desk (with_deed (same.0 i) (Finish (one i) (same.1 i))
-                (with_row (one i) In d))),
+            (λ _ i. at_desk (desk_tried (SettleDone (one i) (same.1 i))
+                (with_deed (same.0 i) (Finish (one i) (same.1 i)) (with_row (one i) In d)))),
             (λ lost. absurd (lost won)),
           )),
         ))
-        (λ (lost : n ≢ old). (
-          Desk d,
+        (λ (lost : n ≢ old).
+        let d' : DeskView = desk_tried (SettleEarly r c) d in (
+          Desk d',
           keeps,
           tt,
-          ruled_missed rows s (r + 1) n old 0 id (Desk d) lost
-              (ruled_same rows s (r + 1) id (Desk d) rule at
+          ruled_missed rows s (r + 1) n old 0 id (Desk d') lost
+              (ruled_view rows s rule (r + 1) id 0 (Desk d') t.first
               (steps.settle_early r b c t.phase d t.fits.first knows t.here
               (λ (e : t.phase ≡ done b c). lost (t.word ∙ ap word_of e)) refl)),
-          (λ q a k e e'. ((λ won. absurd (lost won)), (λ _. refl))),
+          (λ q a k e e'. let one : r ≡ q = omega arith in let same = same_finish b a c k e' in (
+            (λ won. absurd (lost won)),
+            (λ _ i. at_desk (desk_tried (SettleEarly (one i) (same.1 i)) d)),
+          )),
         )))

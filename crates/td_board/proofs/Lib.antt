@@ -1,6 +1,7 @@
 -- What the proofs of this crate share: a file a thing.
 pub mod BuilderLaws
 pub mod BuilderMoves
+pub mod ClaimLaws
 pub mod DeskLaws
 pub mod DeskMoves
 pub mod Lists
@@ -10,4 +11,5 @@ pub mod RowLaws
 pub mod RuledSteps
 pub mod Schedules
 pub mod SeatKeeps
+pub mod TryLaws
 pub mod WordLaws

@@ -11,6 +11,12 @@ use Rattle.td_board.specs.declared.views.Deed.{Deed}
 use Rattle.td_board.specs.declared.views.Deed.TheVariants.{Claim, Finish}
 use Rattle.td_board.specs.declared.views.Hand.{Hand}
 use Rattle.td_board.specs.declared.views.Hand.TheVariants.{Free, Holding, Finished}
+use Rattle.td_board.specs.declared.views.DeskTry.TheVariants.{WithdrawalWon, WithdrawalLost}
+use Rattle.td_board.specs.declared.views.DeskTry.TheVariants.{SettleDone, SettleEarly}
+use Rattle.td_board.specs.declared.views.BuilderTry.{BuilderTry}
+use Rattle.td_board.specs.declared.views.BuilderTry.TheVariants.{ClaimWon, ClaimLost, FinishDone}
+use Rattle.td_board.specs.declared.views.BuilderTry.TheVariants.{FinishEarly, ReleaseDone}
+use Rattle.td_board.specs.declared.views.BuilderTry.TheVariants.{ReleaseEarly}
 use Rattle.td_board.specs.declared.views.DeskView.{DeskView}
 use Rattle.td_board.specs.declared.views.BuilderView.{BuilderView}
 use Rattle.td_board.specs.declared.views.View.{View}
@@ -18,7 +24,9 @@ use Rattle.td_board.specs.declared.views.View.TheVariants.{Desk, Builder}
 use Rattle.td_board.specs.Phase.{Phase, closed, opened, held, noted, done, builder_of}
 use Rattle.td_board.specs.Knowledge.{with_builder, with_row, with_deed, noted_of, list_at}
 use Rattle.td_board.specs.Knowledge.{new_builder, with_claim, with_finish, with_free_hand, row_of}
-use Rattle.td_board.specs.Steps.{Moment, DeskKnows, BuilderKnows, Step, seat, offer, withdrawal_won}
+use Rattle.td_board.specs.Knowledge.{desk_tried, builder_tried}
+use Rattle.td_board.specs.Steps.{Moment, DeskKnows, BuilderKnows, learned, Step, seat, offer}
+use Rattle.td_board.specs.Steps.{withdrawal_won}
 use Rattle.td_board.specs.Steps.{withdrawal_lost, claim_won, claim_lost, note, finish_done}
 use Rattle.td_board.specs.Steps.{finish_early, settle_done, settle_early, release_done}
 use Rattle.td_board.specs.Steps.{release_early}
@@ -100,7 +108,23 @@ still : (m n : Moment) (phases : List Phase) (i : ℕ) (w : View) (b r : ℕ) (v
 still m n phases i w b r v e ne at is =
     subst (λ x. StillHolds x b r) (sym e) (v, set_else m.views i b w ne ∙ at, is)
 
--- by the kind of step: no other step changes that seat,
+-- a builder's try that moved nothing, its own or another's
+still_tried : (m n : Moment) (a : ℕ) (u : BuilderView) (x : BuilderTry) (b r : ℕ) (v : BuilderView)
+    → n ≡ learned a (Builder (builder_tried x u)) m → BuilderKnows m a u → BuilderKnows m b v
+    → v.hand ≡ Holding r → StillHolds n b r
+still_tried m n a u x b r v e knows here is =
+    let u' : BuilderView = builder_tried x u in
+    dite (ℕ_discrete b a)
+    (λ h.
+    let same : u ≡ v = sym (one_view m b a v u here knows h) in
+    let now : get_elem? (set m.views a (Builder u')) b ≡ some (Builder u') =
+    ap (get_elem? (set m.views a (Builder u'))) h
+    ∙ set_here m.views a (Builder u') (at_less m.views a (Builder u) knows) in
+    subst (λ y. StillHolds y b r) (sym e)
+    (u', now, ap (λ (y : BuilderView). y.hand) same ∙ is))
+    (λ ne. still m n m.phases a (Builder u') b r v e ne here is)
+
+-- by the kind of step: no other step changes that seat's hand,
 -- and of its own only a finish comes at a hand that holds a row
 pub hold_lasts : HoldLasts
 hold_lasts rows m n reached (seat d at e) b r v here is =
@@ -123,7 +147,7 @@ hold_lasts rows m n reached (claim_won q a u at free _ e) b r v here is =
     let no : Holding r ≡ Free = sym is ∙ (ap (λ (u : BuilderView). u.hand) same ∙ free) in cc) here
     is)
 hold_lasts rows m n reached (claim_lost q a p u at free _ _ e) b r v here is =
-    inl (subst (λ x. StillHolds x b r) (sym e) (v, here, is))
+    inl (still_tried m n a u (ClaimLost q) b r v e at here is)
 hold_lasts rows m n reached (note q a d at _ _ e) b r v here is =
     inl (still m n _ 0 _ b r v e (not_first m d b v at here) here is)
 hold_lasts rows m n reached (finish_done q a c u at holds word e) b r v here is =
@@ -142,19 +166,19 @@ hold_lasts rows m n reached (finish_done q a c u at holds word e) b r v here is 
       }),
     ))
     (λ ne. inl (still m n _ a _ b r v e ne here is))
-hold_lasts rows m n reached (finish_early q a p u at _ _ _ e) b r v here is =
-    inl (subst (λ x. StillHolds x b r) (sym e) (v, here, is))
+hold_lasts rows m n reached (finish_early q a c p u at _ _ _ e) b r v here is =
+    inl (still_tried m n a u (FinishEarly q c) b r v e at here is)
 hold_lasts rows m n reached (settle_done q a c d at _ _ e) b r v here is =
     inl (still m n _ 0 _ b r v e (not_first m d b v at here) here is)
 hold_lasts rows m n reached (settle_early q a c p d at _ _ _ e) b r v here is =
-    inl (subst (λ x. StillHolds x b r) (sym e) (v, here, is))
+    inl (still m n _ 0 _ b r v e (not_first m d b v at here) here is)
 hold_lasts rows m n reached (release_done q a c p u at ended _ _ e) b r v here is =
     inl (still m n _ a _ b r v e
     (λ h. let same = one_view m b a v u here at h in
     let no : Holding r ≡ Finished q c = sym is ∙ (ap (λ (u : BuilderView). u.hand) same ∙ ended) in
     cc) here is)
 hold_lasts rows m n reached (release_early q a c u at _ _ e) b r v here is =
-    inl (subst (λ x. StillHolds x b r) (sym e) (v, here, is))
+    inl (still_tried m n a u (ReleaseEarly q) b r v e at here is)
 
 -- the noted list, or one deed more
 noted_or_more : (phases : List Phase) (b : ℕ) (h : Hand) (known mine : List Deed)
@@ -188,7 +212,7 @@ nothing_invented rows m reached b d v knows here =
     )
 
 -- a list begins with itself
-same_list : (l : List Deed) → Begins l l
+same_list : {A : Type 0} (l : List A) → Begins l l
 same_list l = ([], sym (append-nil l))
 
 -- one deed more in one of the desk's lists
@@ -210,24 +234,23 @@ list_at-snoc (l ∷ ls) (suc j) = list_at-snoc ls j
 -- builder b goes on from v
 abbrev GoesOn : Moment → ℕ → BuilderView → Type 0
 GoesOn n b v = (w : BuilderView) × BuilderKnows n b w × (w.number ≡ v.number) × Begins w.mine v.mine
+    × Begins w.tried v.tried
 
 -- another seat's step
 goes_on : (m n : Moment) (phases : List Phase) (i : ℕ) (w : View) (b : ℕ) (v : BuilderView)
     → (let n' : Moment = record { phases = phases; views = set m.views i w } in n ≡ n') → b ≢ i
     → BuilderKnows m b v → GoesOn n b v
 goes_on m n phases i w b v e ne at =
-    subst (λ x. GoesOn x b v) (sym e) (v, set_else m.views i b w ne ∙ at, refl, same_list v.mine)
-
--- a step that changes nothing
-goes_on_same : (m n : Moment) (b : ℕ) (v : BuilderView) → n ≡ m → BuilderKnows m b v → GoesOn n b v
-goes_on_same m n b v e at = subst (λ x. GoesOn x b v) (sym e) (v, at, refl, same_list v.mine)
+    subst (λ x. GoesOn x b v) (sym e)
+    (v, set_else m.views i b w ne ∙ at, refl, same_list v.mine, same_list v.tried)
 
 -- its own step, or another builder's, which goes on from u to u'
 goes_on_own : (m n : Moment) (phases : List Phase) (a : ℕ) (u u' : BuilderView) (b : ℕ)
     (v : BuilderView) → (let n' : Moment =
     record { phases = phases; views = set m.views a (Builder u') } in n ≡ n') → BuilderKnows m a u
-    → u'.number ≡ u.number → Begins u'.mine u.mine → BuilderKnows m b v → GoesOn n b v
-goes_on_own m n phases a u u' b v e knows number more at = dite (ℕ_discrete b a)
+    → u'.number ≡ u.number → Begins u'.mine u.mine → Begins u'.tried u.tried → BuilderKnows m b v
+    → GoesOn n b v
+goes_on_own m n phases a u u' b v e knows number more tries at = dite (ℕ_discrete b a)
     (λ h.
     let same : u ≡ v = sym (one_view m b a v u at knows h) in
     let now : get_elem? (set m.views a (Builder u')) b ≡ some (Builder u') =
@@ -238,8 +261,17 @@ goes_on_own m n phases a u u' b v e knows number more at = dite (ℕ_discrete b 
       now,
       number ∙ ap (λ (x : BuilderView). x.number) same,
       subst (λ (x : BuilderView). Begins u'.mine x.mine) same more,
+      subst (λ (x : BuilderView). Begins u'.tried x.tried) same tries,
     ))
     (λ ne. goes_on m n phases a (Builder u') b v e ne at)
+
+-- a builder's try that moved nothing
+goes_on_tried : (m n : Moment) (a : ℕ) (u : BuilderView) (x : BuilderTry) (b : ℕ)
+    (v : BuilderView) → n ≡ learned a (Builder (builder_tried x u)) m → BuilderKnows m a u
+    → BuilderKnows m b v → GoesOn n b v
+goes_on_tried m n a u x b v e knows at =
+    goes_on_own m n m.phases a u (builder_tried x u) b v e knows refl (same_list u.mine)
+    (x ∷ [], refl) at
 
 -- each kind of step, for a builder
 builder_goes_on : (m n : Moment) → Step m n → (b : ℕ) (v : BuilderView) → BuilderKnows m b v
@@ -252,6 +284,7 @@ builder_goes_on m n (seat d at e) b v here =
           (set_else m.views 0 b (Desk (with_builder d)) (not_first m d b v at here) ∙ here),
       refl,
       same_list v.mine,
+      same_list v.tried,
     )
 builder_goes_on m n (offer q d at _ _ e) b v here =
     goes_on m n _ 0 _ b v e (not_first m d b v at here) here
@@ -260,34 +293,43 @@ builder_goes_on m n (withdrawal_won q d at _ _ e) b v here =
 builder_goes_on m n (withdrawal_lost q a d at _ _ e) b v here =
     goes_on m n _ 0 _ b v e (not_first m d b v at here) here
 builder_goes_on m n (claim_won q a u at _ _ e) b v here =
-    goes_on_own m n _ a u (with_claim q u) b v e at refl (Claim q ∷ [], refl) here
-builder_goes_on m n (claim_lost q a p u at _ _ _ e) b v here = goes_on_same m n b v e here
+    goes_on_own m n _ a u (with_claim q u) b v e at refl (Claim q ∷ [], refl)
+    (ClaimWon q ∷ [], refl) here
+builder_goes_on m n (claim_lost q a p u at _ _ _ e) b v here =
+    goes_on_tried m n a u (ClaimLost q) b v e at here
 builder_goes_on m n (note q a d at _ _ e) b v here =
     goes_on m n _ 0 _ b v e (not_first m d b v at here) here
 builder_goes_on m n (finish_done q a c u at _ _ e) b v here =
-    goes_on_own m n _ a u (with_finish q c u) b v e at refl (Finish q c ∷ [], refl) here
-builder_goes_on m n (finish_early q a p u at _ _ _ e) b v here = goes_on_same m n b v e here
+    goes_on_own m n _ a u (with_finish q c u) b v e at refl (Finish q c ∷ [], refl)
+    (FinishDone q c ∷ [], refl) here
+builder_goes_on m n (finish_early q a c p u at _ _ _ e) b v here =
+    goes_on_tried m n a u (FinishEarly q c) b v e at here
 builder_goes_on m n (settle_done q a c d at _ _ e) b v here =
     goes_on m n _ 0 _ b v e (not_first m d b v at here) here
-builder_goes_on m n (settle_early q a c p d at _ _ _ e) b v here = goes_on_same m n b v e here
+builder_goes_on m n (settle_early q a c p d at _ _ _ e) b v here =
+    goes_on m n _ 0 _ b v e (not_first m d b v at here) here
 builder_goes_on m n (release_done q a c p u at _ _ _ e) b v here =
-    goes_on_own m n _ a u (with_free_hand u) b v e at refl (same_list u.mine) here
-builder_goes_on m n (release_early q a c u at _ _ e) b v here = goes_on_same m n b v e here
+    goes_on_own m n _ a u (with_free_hand u) b v e at refl (same_list u.mine)
+    (ReleaseDone (row_of u.hand) ∷ [], refl) here
+builder_goes_on m n (release_early q a c u at _ _ e) b v here =
+    goes_on_tried m n a u (ReleaseEarly q) b v e at here
 
 -- the desk goes on from d
 abbrev DeskGoesOn : Moment → DeskView → Type 0
 DeskGoesOn n d = (e : DeskView) × DeskKnows n e × ((b : ℕ) → Begins (noted_of e b) (noted_of d b))
+    × Begins e.tried d.tried
 
 -- its own step, which goes on from u to u'
 desk_goes_on_own : (m n : Moment) (phases : List Phase) (u u' d : DeskView)
     → (let n' : Moment = record { phases = phases; views = set m.views 0 (Desk u') } in n ≡ n')
     → DeskKnows m u → DeskKnows m d → ((b : ℕ) → Begins (noted_of u' b) (noted_of u b))
-    → DeskGoesOn n d
-desk_goes_on_own m n phases u u' d e knows at more = subst (λ x. DeskGoesOn x d) (sym e) (
+    → Begins u'.tried u.tried → DeskGoesOn n d
+desk_goes_on_own m n phases u u' d e knows at more tries = subst (λ x. DeskGoesOn x d) (sym e) (
   u',
   set_here m.views 0 (Desk u') (at_less m.views 0 (Desk u) knows),
   (λ b. subst (λ (x : DeskView). Begins (noted_of u' b) (noted_of x b))
       (same_desk_at m u d knows at) (more b)),
+  subst (λ (x : DeskView). Begins u'.tried x.tried) (same_desk_at m u d knows at) tries,
 )
   where
     same_desk_at : (m : Moment) (u d : DeskView) → DeskKnows m u → DeskKnows m d → u ≡ d
@@ -302,12 +344,8 @@ desk_goes_on m n phases a u w d e knows at =
       d,
       set_else m.views a 0 w (λ h. not_first m d a u at knows (sym h)) ∙ at,
       (λ b. same_list (noted_of d b)),
+      same_list d.tried,
     )
-
--- a step that changes nothing
-desk_goes_on_same : (m n : Moment) (d : DeskView) → n ≡ m → DeskKnows m d → DeskGoesOn n d
-desk_goes_on_same m n d e at =
-    subst (λ x. DeskGoesOn x d) (sym e) (d, at, (λ b. same_list (noted_of d b)))
 
 -- each kind of step, for the desk
 desk_goes_on_from : (m n : Moment) → Step m n → (d : DeskView) → DeskKnows m d → DeskGoesOn n d
@@ -320,27 +358,36 @@ desk_goes_on_from m n (seat u knows e) d at =
           (Desk u') (set_here m.views 0 (Desk u') (at_less m.views 0 (Desk u) knows)),
       (λ b. subst (λ (x : DeskView). Begins (noted_of u' b) (noted_of x b)) same
           (list_at-snoc u.noted (b - 1))),
+      subst (λ (x : DeskView). Begins u'.tried x.tried) same (same_list u.tried),
     )
 desk_goes_on_from m n (offer q u knows _ _ e) d at =
     desk_goes_on_own m n _ u (with_row q Out u) d e knows at (λ b. same_list (noted_of u b))
+    (same_list u.tried)
 desk_goes_on_from m n (withdrawal_won q u knows _ _ e) d at =
-    desk_goes_on_own m n _ u (with_row q In u) d e knows at (λ b. same_list (noted_of u b))
+    desk_goes_on_own m n _ u (desk_tried (WithdrawalWon q) (with_row q In u)) d e knows at
+    (λ b. same_list (noted_of u b)) (WithdrawalWon q ∷ [], refl)
 desk_goes_on_from m n (withdrawal_lost q a u knows _ _ e) d at =
-    desk_goes_on_own m n _ u (with_row q (Seen a) u) d e knows at (λ b. same_list (noted_of u b))
+    desk_goes_on_own m n _ u (desk_tried (WithdrawalLost q a) (with_row q (Seen a) u)) d e knows at
+    (λ b. same_list (noted_of u b)) (WithdrawalLost q a ∷ [], refl)
 desk_goes_on_from m n (claim_won q a u knows _ _ e) d at = desk_goes_on m n _ a u _ d e knows at
-desk_goes_on_from m n (claim_lost q a p u _ _ _ _ e) d at = desk_goes_on_same m n d e at
+desk_goes_on_from m n (claim_lost q a p u knows _ _ _ e) d at = desk_goes_on m n _ a u _ d e knows at
 desk_goes_on_from m n (note q a u knows _ _ e) d at =
     desk_goes_on_own m n _ u (with_deed a (Claim q) (with_row q (Known a) u)) d e knows at (λ b.
-    list_at-longer u.noted (a - 1) (b - 1) (Claim q))
+    list_at-longer u.noted (a - 1) (b - 1) (Claim q)) (same_list u.tried)
 desk_goes_on_from m n (finish_done q a c u knows _ _ e) d at = desk_goes_on m n _ a u _ d e knows at
-desk_goes_on_from m n (finish_early q a p u _ _ _ _ e) d at = desk_goes_on_same m n d e at
+desk_goes_on_from m n (finish_early q a c p u knows _ _ _ e) d at =
+    desk_goes_on m n _ a u _ d e knows at
 desk_goes_on_from m n (settle_done q a c u knows _ _ e) d at =
-    desk_goes_on_own m n _ u (with_deed a (Finish q c) (with_row q In u)) d e knows at (λ b.
-    list_at-longer u.noted (a - 1) (b - 1) (Finish q c))
-desk_goes_on_from m n (settle_early q a c p u _ _ _ _ e) d at = desk_goes_on_same m n d e at
+    desk_goes_on_own m n _ u
+    (desk_tried (SettleDone q c) (with_deed a (Finish q c) (with_row q In u))) d e knows at (λ b.
+    list_at-longer u.noted (a - 1) (b - 1) (Finish q c)) (SettleDone q c ∷ [], refl)
+desk_goes_on_from m n (settle_early q a c p u knows _ _ _ e) d at =
+    desk_goes_on_own m n _ u (desk_tried (SettleEarly q c) u) d e knows at
+    (λ b. same_list (noted_of u b)) (SettleEarly q c ∷ [], refl)
 desk_goes_on_from m n (release_done q a c p u knows _ _ _ e) d at =
     desk_goes_on m n _ a u _ d e knows at
-desk_goes_on_from m n (release_early q a c u _ _ _ e) d at = desk_goes_on_same m n d e at
+desk_goes_on_from m n (release_early q a c u knows _ _ e) d at =
+    desk_goes_on m n _ a u _ d e knows at
 
 -- both
 pub lists_grow : ListsGrow

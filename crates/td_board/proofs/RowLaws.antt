@@ -9,6 +9,7 @@ use Rattle.atomic_table.proofs.Lists.{at_set, set_here, set_else}
 use Rattle.td_board.specs.declared.views.RowView.{RowView}
 use Rattle.td_board.specs.declared.views.RowView.TheVariants.{In, Out, Seen}
 use Rattle.td_board.specs.declared.views.Deed.{Deed}
+use Rattle.td_board.specs.declared.views.DeskTry.{DeskTry}
 use Rattle.td_board.specs.declared.views.Hand.{Hand}
 use Rattle.td_board.specs.declared.views.Hand.TheVariants.{Free, Holding, Finished}
 use Rattle.td_board.specs.declared.views.DeskView.{DeskView}
@@ -58,7 +59,7 @@ Avoids i (noted b) = b ≢ i
 Avoids i (done b c) = b ≢ i
 
 -- another seat's view changes, and the hand stays
-hand_stays : (views : List View) (i : ℕ) (w : View) (b : ℕ) (h : Hand) → b ≢ i → HasHand views b h
+pub hand_stays : (views : List View) (i : ℕ) (w : View) (b : ℕ) (h : Hand) → b ≢ i → HasHand views b h
     → HasHand (set views i w) b h
 hand_stays views i w b h apart t = (t.0, set_else views i b w apart ∙ t.1, t.2)
 
@@ -92,15 +93,15 @@ not_desk views d r (done b c) at f =
 
 -- a step of the desk on one row
 pub desk_moves : (rows : ℕ) (phases : List Phase) (d : DeskView) (views : List View) (r₀ : ℕ)
-    (p₀ p₁ : Phase) (x₁ : RowView) (lists : List (List Deed))
+    (p₀ p₁ : Phase) (x₁ : RowView) (lists : List (List Deed)) (tries : List DeskTry)
     → Fits rows phases d views → get_elem? phases r₀ ≡ some p₀ → RowFits x₁ p₁
     → HandFits views r₀ p₁ → length lists ≡ length d.noted
     → ((k : ℕ) (w : View) → get_elem? views (suc k) ≡ some w → BuilderFits phases d.noted k w
     → BuilderFits (set phases r₀ p₁) lists k w)
-    → let d' : DeskView = record { rows = set d.rows r₀ x₁; noted = lists } in
+    → let d' : DeskView = record { rows = set d.rows r₀ x₁; noted = lists; tried = tries } in
     Fits rows (set phases r₀ p₁) d' (set views 0 (Desk d'))
-desk_moves rows phases d views r₀ p₀ p₁ x₁ lists f at row hand same builders =
-    let d' : DeskView = record { rows = set d.rows r₀ x₁; noted = lists } in
+desk_moves rows phases d views r₀ p₀ p₁ x₁ lists tries f at row hand same builders =
+    let d' : DeskView = record { rows = set d.rows r₀ x₁; noted = lists; tried = tries } in
     let many = f.many in
     record {
       long = length-set phases r₀ p₁ ∙ f.long;

@@ -1,11 +1,8 @@
 -- The table's rule stands on what a step leaves, over what the step does to a row and a seat.
-use Rattle.std.proofs.Common.{◌≡◌, ◌≢◌, ℕ, ◌+◌, [], get_or, set, sym, refl, ◌∙◌, subst, eqb}
-use mathlib.Core.Option.{some}
-use lib.ListN.{get_elem?}
+use Rattle.std.proofs.Common.{◌≡◌, ◌≢◌, ℕ, ◌+◌, [], get_or, set, sym, ◌∙◌, subst, eqb}
 use lib.Seq.{set-get_or}
 use prog.Atomic.{either}
 use Rattle.atomic_table.specs.Table.{State, keeps, stepped}
-use Rattle.atomic_table.proofs.Lists.{set_again}
 use Rattle.td_board.specs.declared.views.View.{View}
 use Rattle.td_board.specs.Phase.{Phase, word_of}
 use Rattle.td_board.specs.Steps as steps
@@ -40,16 +37,6 @@ ruled_view rows s rule i id seat w is one = record {
   reached = subst (λ x. Reached rows (moment_of rule.phases (set s.views x w))) (sym is)
       (steps.after rule.reached one);
 }
-
--- the rule on what a step leaves that changes nothing
-pub ruled_same : (rows : ℕ) (s : TableState) (i id : ℕ) (w : View) → (rule : Ruled rows s)
-    → get_elem? s.views id ≡ some w
-    → Step (moment_of rule.phases s.views) (moment_of rule.phases s.views)
-    → Ruled rows (stepped s i (get_or s.words i 0) id [] w keeps)
-ruled_same rows s i id w rule at one =
-    ruled_view rows s rule i id id w refl
-    (subst (λ vs. Step (moment_of rule.phases s.views) (moment_of rule.phases vs))
-    (sym (set_again s.views id w at)) one)
 
 -- the rule on what a compare-exchange leaves that finds another word
 pub ruled_missed : (rows : ℕ) (s : TableState) (i n old new id : ℕ) (w : View) → n ≢ old

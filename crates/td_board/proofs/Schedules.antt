@@ -1,14 +1,18 @@
 -- The rule stands at every moment of every schedule: each kind of step keeps it.
-use Rattle.std.proofs.Common.{◌≡◌, ℕ, set, sym, refl, ap, ◌∙◌, subst}
+use Rattle.std.proofs.Common.{◌≡◌, ℕ, [], ◌∷◌, ◌++◌, set, sym, refl, ap, ◌∙◌, subst}
 use mathlib.Core.Option.{some}
 use lib.ListN.{get_elem?}
 use Rattle.td_board.specs.declared.views.Deed.TheVariants.{Claim, Finish}
 use Rattle.td_board.specs.declared.views.RowView.TheVariants.{In, Out, Seen, Known}
+use Rattle.td_board.specs.declared.views.DeskTry.TheVariants.{WithdrawalWon, WithdrawalLost}
+use Rattle.td_board.specs.declared.views.DeskTry.TheVariants.{SettleDone, SettleEarly}
+use Rattle.td_board.specs.declared.views.BuilderTry.TheVariants.{ClaimLost, FinishEarly}
+use Rattle.td_board.specs.declared.views.BuilderTry.TheVariants.{ReleaseEarly}
 use Rattle.td_board.specs.declared.views.DeskView.{DeskView}
 use Rattle.td_board.specs.declared.views.View.TheVariants.{Builder}
 use Rattle.td_board.specs.Phase.{closed, opened, held, noted, done}
 use Rattle.td_board.specs.Knowledge.{new_desk, with_builder, with_row, with_deed, with_claim}
-use Rattle.td_board.specs.Knowledge.{with_finish, with_free_hand}
+use Rattle.td_board.specs.Knowledge.{with_finish, with_free_hand, desk_tried}
 use Rattle.td_board.specs.Steps.{Moment, DeskKnows, Step, made, after, seat, offer, withdrawal_won}
 use Rattle.td_board.specs.Steps.{withdrawal_lost, claim_won, claim_lost, note, finish_done}
 use Rattle.td_board.specs.Steps.{finish_early, settle_done, settle_early, release_done}
@@ -19,6 +23,7 @@ use Rattle.td_board.proofs.RowLaws.{desk_seat, builder_seat}
 use Rattle.td_board.proofs.DeskLaws.{make_keeps, seat_keeps, unclaimed_keeps, sight_keeps}
 use Rattle.td_board.proofs.DeskLaws.{note_keeps, settling_keeps}
 use Rattle.td_board.proofs.BuilderLaws.{claim_keeps, finish_keeps, release_keeps}
+use Rattle.td_board.proofs.TryLaws.{desk_try_keeps, builder_try_keeps}
 
 -- the desk knows something that fits
 abbrev pub Stands : ℕ → Moment → Type 0
@@ -38,18 +43,20 @@ stands_after rows m n t (seat d at e) =
 stands_after rows m n t (offer r d at _ is e) =
     subst (Stands rows) (sym e) (
       with_row r Out d,
-      unclaimed_keeps rows m.phases d m.views r closed opened Out refl refl tt tt
+      unclaimed_keeps rows m.phases d m.views r closed opened Out d.tried refl refl tt tt
           (with_desk rows m d t at) is,
     )
 stands_after rows m n t (withdrawal_won r d at _ is e) =
     subst (Stands rows) (sym e) (
-      with_row r In d,
-      unclaimed_keeps rows m.phases d m.views r opened closed In refl refl tt tt
-          (with_desk rows m d t at) is,
+      desk_tried (WithdrawalWon r) (with_row r In d),
+      unclaimed_keeps rows m.phases d m.views r opened closed In
+          (d.tried ++ WithdrawalWon r ∷ []) refl refl tt tt (with_desk rows m d t at) is,
     )
 stands_after rows m n t (withdrawal_lost r b d at _ is e) =
-    subst (Stands rows) (sym e)
-    (with_row r (Seen b) d, sight_keeps rows m.phases d m.views r b (with_desk rows m d t at) is)
+    subst (Stands rows) (sym e) (
+      desk_tried (WithdrawalLost r b) (with_row r (Seen b) d),
+      sight_keeps rows m.phases d m.views r b (with_desk rows m d t at) is,
+    )
 stands_after rows m n t (claim_won r b v at free is e) =
     let k = builder_seat rows m.phases t.0 m.views b v t.1 at in
     let law = claim_keeps rows m.phases t.0 m.views r k.0 v t.1 is
@@ -59,7 +66,9 @@ stands_after rows m n t (claim_won r b v at free is e) =
       subst (λ i. Fits rows (set m.phases r (held i)) t.0
           (set m.views i (Builder (with_claim r v)))) (sym k.1) law,
     )
-stands_after rows m n t (claim_lost r b p v at free is ne e) = subst (Stands rows) (sym e) t
+stands_after rows m n t (claim_lost r b p v at free is ne e) =
+    subst (Stands rows) (sym e)
+    (t.0, builder_try_keeps rows m.phases t.0 m.views b v (ClaimLost r) t.1 at)
 stands_after rows m n t (note r b d at _ is e) =
     subst (Stands rows) (sym e) (
       with_deed b (Claim r) (with_row r (Known b) d),
@@ -75,13 +84,19 @@ stands_after rows m n t (finish_done r b c v at holds is e) =
       subst (λ i. Fits rows (set m.phases r (done i c)) t.0
           (set m.views i (Builder (with_finish r c v)))) (sym k.1) law,
     )
-stands_after rows m n t (finish_early r b p v at holds is ne e) = subst (Stands rows) (sym e) t
+stands_after rows m n t (finish_early r b c p v at holds is ne e) =
+    subst (Stands rows) (sym e)
+    (t.0, builder_try_keeps rows m.phases t.0 m.views b v (FinishEarly r c) t.1 at)
 stands_after rows m n t (settle_done r b c d at _ is e) =
     subst (Stands rows) (sym e) (
-      with_deed b (Finish r c) (with_row r In d),
+      desk_tried (SettleDone r c) (with_deed b (Finish r c) (with_row r In d)),
       settling_keeps rows m.phases d m.views r b c (with_desk rows m d t at) is,
     )
-stands_after rows m n t (settle_early r b c p d at _ is ne e) = subst (Stands rows) (sym e) t
+stands_after rows m n t (settle_early r b c p d at _ is ne e) =
+    subst (Stands rows) (sym e) (
+      desk_tried (SettleEarly r c) d,
+      desk_try_keeps rows m.phases d m.views (SettleEarly r c) (with_desk rows m d t at),
+    )
 stands_after rows m n t (release_done r b c p v at ended is ne e) =
     let k = builder_seat rows m.phases t.0 m.views b v t.1 at in
     let law = release_keeps rows m.phases t.0 m.views r k.0 c p v t.1 is
@@ -92,7 +107,9 @@ stands_after rows m n t (release_done r b c p v at ended is ne e) =
       subst (λ i. Fits rows m.phases t.0 (set m.views i (Builder (with_free_hand v))))
           (sym k.1) law,
     )
-stands_after rows m n t (release_early r b c v at ended is e) = subst (Stands rows) (sym e) t
+stands_after rows m n t (release_early r b c v at ended is e) =
+    subst (Stands rows) (sym e)
+    (t.0, builder_try_keeps rows m.phases t.0 m.views b v (ReleaseEarly r) t.1 at)
 
 -- by induction on the schedule
 pub rule_stands : RuleStands

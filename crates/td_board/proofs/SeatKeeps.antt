@@ -15,12 +15,14 @@ use Rattle.td_board.specs.declared.outcome.OutcomeCode.{OutcomeCode}
 use Rattle.td_board.specs.declared.views.RowView.{RowView}
 use Rattle.td_board.specs.declared.views.RowView.TheVariants.{In, Out, Seen, Known}
 use Rattle.td_board.specs.declared.views.Deed.{Deed}
+use Rattle.td_board.specs.declared.views.DeskTry.{DeskTry}
+use Rattle.td_board.specs.declared.views.BuilderTry.{BuilderTry}
 use Rattle.td_board.specs.declared.views.Hand.{Hand}
 use Rattle.td_board.specs.declared.views.Hand.TheVariants.{Holding, Finished}
 use Rattle.td_board.specs.declared.views.DeskView.{DeskView}
 use Rattle.td_board.specs.declared.views.BuilderView.{BuilderView}
 use Rattle.td_board.specs.Knowledge.{new_desk, with_row, with_deed, noted_of}
-use Rattle.td_board.specs.Knowledge.{holder_at}
+use Rattle.td_board.specs.Knowledge.{holder_at, desk_tried, builder_tried}
 use Rattle.td_board.specs.Tells.{SeatState, at_desk, at_builder, desk_in, builder_in}
 use Rattle.td_board.specs.Seats.{IsDesk, IsBuilder, HasRow, rows_of, new_seat}
 use Rattle.td_board.specs.Seats.{new_seats, DeskModel, BoardModel, BuilderModel}
@@ -143,6 +145,32 @@ keeps_settling z d hs bs r b e is =
     keeps_row z d (with_deed b e (with_row r In d)) hs bs r In is refl
     (length-set d.noted (b - 1) (noted_of d b ++ e ∷ [])) (λ c h. absurd (cc)) (λ c h. absurd (cc))
     (λ c h. absurd (cc)) (λ c h. absurd (cc))
+
+-- a try is told
+pub keeps_try : (z : TableId) (d : DeskView) (hs : List ℕ) (bs : ℕ) (e : DeskTry)
+    → IsDesk z d hs bs → IsDesk z (desk_tried e d) hs bs
+keeps_try z d hs bs e is = record {
+  words = is.words;
+  size = is.size;
+  long = is.long;
+  small = is.small;
+  count = is.count;
+  few = is.few;
+  seen = is.seen;
+  known = is.known;
+  seated = record { seen = is.seated.seen; known = is.seated.known };
+}
+
+-- a builder's is
+pub keeps_builder_try : (z : TableId) (v : BuilderView) (number : ℕ) (hand : Hand) (e : BuilderTry)
+    → IsBuilder z v number hand → IsBuilder z (builder_tried e v) number hand
+keeps_builder_try z v number hand e is = record {
+  number_is = is.number_is;
+  hand_is = is.hand_is;
+  positive = is.positive;
+  small = is.small;
+  inside = is.inside;
+}
 
 -- the desk's seat of a new board
 pub keeps_new : (z : TableId) (rows : ℕ) → z.words ≡ rows + 1 → rows ≤ max_rows

@@ -54,13 +54,15 @@ NothingInvented = (rows : ℕ) (m : Moment) → Reached rows m
     × ((v.mine ≡ noted_of d b) ⊎ ((e : Deed) × (v.mine ≡ noted_of d b ++ e ∷ [])))
 
 -- a list begins with another
-abbrev pub Begins : List Deed → List Deed → Type 0
-Begins long short = (more : List Deed) × (long ≡ short ++ more)
+abbrev pub Begins : {A : Type 0} → List A → List A → Type 0
+Begins {A} long short = (more : List A) × (long ≡ short ++ more)
 
--- no step drops or changes what a builder did or what the desk noted of it
+-- no step drops or changes what a builder did, what the desk noted of it, or what either tried
 abbrev pub ListsGrow : Type 0
 ListsGrow = (rows : ℕ) (m n : Moment) → Reached rows m → Step m n
     → ((b : ℕ) (v : BuilderView) → BuilderKnows m b v
-    → (w : BuilderView) × BuilderKnows n b w × (w.number ≡ v.number) × Begins w.mine v.mine)
+    → (w : BuilderView) × BuilderKnows n b w × (w.number ≡ v.number) × Begins w.mine v.mine
+    × Begins w.tried v.tried)
     × ((d : DeskView) → DeskKnows m d
-    → (e : DeskView) × DeskKnows n e × ((b : ℕ) → Begins (noted_of e b) (noted_of d b)))
+    → (e : DeskView) × DeskKnows n e × ((b : ℕ) → Begins (noted_of e b) (noted_of d b))
+    × Begins e.tried d.tried)

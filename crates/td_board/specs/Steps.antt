@@ -7,6 +7,10 @@ use Rattle.td_board.specs.declared.outcome.OutcomeCode.{OutcomeCode}
 use Rattle.td_board.specs.declared.views.RowView.{RowView}
 use Rattle.td_board.specs.declared.views.RowView.TheVariants.{In, Out, Seen, Known}
 use Rattle.td_board.specs.declared.views.Deed.TheVariants.{Claim, Finish}
+use Rattle.td_board.specs.declared.views.DeskTry.TheVariants.{WithdrawalWon, WithdrawalLost}
+use Rattle.td_board.specs.declared.views.DeskTry.TheVariants.{SettleDone, SettleEarly}
+use Rattle.td_board.specs.declared.views.BuilderTry.TheVariants.{ClaimLost, FinishEarly}
+use Rattle.td_board.specs.declared.views.BuilderTry.TheVariants.{ReleaseEarly}
 use Rattle.td_board.specs.declared.views.Hand.TheVariants.{Free, Holding, Finished}
 use Rattle.td_board.specs.declared.views.DeskView.{DeskView}
 use Rattle.td_board.specs.declared.views.BuilderView.{BuilderView}
@@ -14,7 +18,8 @@ use Rattle.td_board.specs.declared.views.View.{View}
 use Rattle.td_board.specs.declared.views.View.TheVariants.{Desk, Builder}
 use Rattle.td_board.specs.Phase.{Phase, closed, opened, held, noted, done}
 use Rattle.td_board.specs.Knowledge.{new_desk, with_builder, with_row, with_deed, new_builder}
-use Rattle.td_board.specs.Knowledge.{with_claim, with_finish, with_free_hand}
+use Rattle.td_board.specs.Knowledge.{with_claim, with_finish, with_free_hand, desk_tried}
+use Rattle.td_board.specs.Knowledge.{builder_tried}
 
 -- the board at one moment: the phase of each row, and what each seat knows.
 -- The desk's seat comes first, then that of builder 1, and so on
@@ -63,7 +68,8 @@ abbrev pub moved : ℕ → Phase → ℕ → View → Moment → Moment
 moved r p i w m = record { phases = slice_set m.phases r p; views = slice_set m.views i w }
 
 -- One atomic step of a seat leads from m to n. With the making of the board these are its fourteen
--- kinds: each says when it comes, which phase it changes, and what its own seat knows afterwards
+-- kinds: each says when it comes, which phase it changes, and what its own seat knows afterwards.
+-- A try that moves nothing is among what its seat knows too
 pub data Step (m n : Moment) : Type 0 where
   -- a builder's seat is split off the desk's
   seat : (d : DeskView) → DeskKnows m d → n ≡ seated d m → Step m n
@@ -72,16 +78,17 @@ pub data Step (m n : Moment) : Type 0 where
       → n ≡ moved r opened 0 (Desk (with_row r Out d)) m → Step m n
   -- the desk takes an offer back
   withdrawal_won : (r : ℕ) (d : DeskView) → DeskKnows m d → Shows d r Out → IsAt m r opened
-      → n ≡ moved r closed 0 (Desk (with_row r In d)) m → Step m n
+      → n ≡ moved r closed 0 (Desk (desk_tried (WithdrawalWon r) (with_row r In d))) m → Step m n
   -- a builder was faster, and the desk sees which
   withdrawal_lost : (r b : ℕ) (d : DeskView) → DeskKnows m d → Shows d r Out → IsAt m r (held b)
-      → n ≡ learned 0 (Desk (with_row r (Seen b) d)) m → Step m n
+      → n ≡ learned 0 (Desk (desk_tried (WithdrawalLost r b) (with_row r (Seen b) d))) m → Step m n
   -- a builder with a free hand claims an open row
   claim_won : (r b : ℕ) (v : BuilderView) → BuilderKnows m b v → v.hand ≡ Free → IsAt m r opened
       → n ≡ moved r (held b) b (Builder (with_claim r v)) m → Step m n
   -- the row wasn't open
   claim_lost : (r b : ℕ) (p : Phase) (v : BuilderView) → BuilderKnows m b v → v.hand ≡ Free
-      → IsAt m r p → p ≢ opened → n ≡ m → Step m n
+      → IsAt m r p → p ≢ opened → n ≡ learned b (Builder (builder_tried (ClaimLost r) v)) m
+      → Step m n
   -- the desk notes the claim that it saw
   note : (r b : ℕ) (d : DeskView) → DeskKnows m d → Shows d r (Seen b) → IsAt m r (held b)
       → n ≡ moved r (noted b) 0 (Desk (with_deed b (Claim r) (with_row r (Known b) d))) m → Step m n
@@ -90,22 +97,26 @@ pub data Step (m n : Moment) : Type 0 where
       → v.hand ≡ Holding r → IsAt m r (noted b)
       → n ≡ moved r (done b c) b (Builder (with_finish r c v)) m → Step m n
   -- its claim isn't noted yet
-  finish_early : (r b : ℕ) (p : Phase) (v : BuilderView) → BuilderKnows m b v → v.hand ≡ Holding r
-      → IsAt m r p → p ≢ noted b → n ≡ m → Step m n
+  finish_early : (r b : ℕ) (c : OutcomeCode) (p : Phase) (v : BuilderView) → BuilderKnows m b v
+      → v.hand ≡ Holding r → IsAt m r p → p ≢ noted b
+      → n ≡ learned b (Builder (builder_tried (FinishEarly r c) v)) m → Step m n
   -- the desk closes the row of a finished build, and notes the outcome
   settle_done : (r b : ℕ) (c : OutcomeCode) (d : DeskView) → DeskKnows m d → Shows d r (Known b)
       → IsAt m r (done b c)
-      → n ≡ moved r closed 0 (Desk (with_deed b (Finish r c) (with_row r In d))) m → Step m n
+      → n ≡ moved r closed 0
+      (Desk (desk_tried (SettleDone r c) (with_deed b (Finish r c) (with_row r In d)))) m → Step m n
   -- the build hasn't ended with this outcome
   settle_early : (r b : ℕ) (c : OutcomeCode) (p : Phase) (d : DeskView) → DeskKnows m d
-      → Shows d r (Known b) → IsAt m r p → p ≢ done b c → n ≡ m → Step m n
+      → Shows d r (Known b) → IsAt m r p → p ≢ done b c
+      → n ≡ learned 0 (Desk (desk_tried (SettleEarly r c) d)) m → Step m n
   -- a builder whose finish is settled frees its hand
   release_done : (r b : ℕ) (c : OutcomeCode) (p : Phase) (v : BuilderView) → BuilderKnows m b v
       → v.hand ≡ Finished r c → IsAt m r p → p ≢ done b c
       → n ≡ learned b (Builder (with_free_hand v)) m → Step m n
   -- its finish isn't settled yet
   release_early : (r b : ℕ) (c : OutcomeCode) (v : BuilderView) → BuilderKnows m b v
-      → v.hand ≡ Finished r c → IsAt m r (done b c) → n ≡ m → Step m n
+      → v.hand ≡ Finished r c → IsAt m r (done b c)
+      → n ≡ learned b (Builder (builder_tried (ReleaseEarly r) v)) m → Step m n
 
 -- a board of so many rows is at this moment after some schedule:
 -- a list of steps, one after the other, of whichever seats

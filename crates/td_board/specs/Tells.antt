@@ -1,10 +1,14 @@
--- What each kind of step tells the seat that makes it. Row r has the word r + 1.
--- This project's own.
+-- What each kind of step tells the seat that makes it, also where it moved nothing. Row r has the
+-- word r + 1. This project's own.
 use Rattle.std.specs.Prelude.{◌≡◌, ◌≢◌, ℕ, ◌+◌, ◌<◌, ◌≤◌, [], length}
 use Rattle.atomic_table.specs.Table.{Me, Step}
 use Rattle.td_board.specs.declared.outcome.OutcomeCode.{OutcomeCode}
 use Rattle.td_board.specs.declared.views.RowView.TheVariants.{In, Out, Seen, Known}
 use Rattle.td_board.specs.declared.views.Deed.TheVariants.{Claim, Finish}
+use Rattle.td_board.specs.declared.views.DeskTry.TheVariants.{WithdrawalWon, WithdrawalLost}
+use Rattle.td_board.specs.declared.views.DeskTry.TheVariants.{SettleDone, SettleEarly}
+use Rattle.td_board.specs.declared.views.BuilderTry.TheVariants.{ClaimLost, FinishEarly}
+use Rattle.td_board.specs.declared.views.BuilderTry.TheVariants.{ReleaseEarly}
 use Rattle.td_board.specs.declared.views.Hand.TheVariants.{Finished}
 use Rattle.td_board.specs.declared.views.DeskView.{DeskView}
 use Rattle.td_board.specs.declared.views.BuilderView.{BuilderView}
@@ -12,7 +16,8 @@ use Rattle.td_board.specs.declared.views.View.{View}
 use Rattle.td_board.specs.declared.views.View.TheVariants.{Desk, Builder}
 use Rattle.td_board.specs.Phase.{held, noted, done, word_of}
 use Rattle.td_board.specs.Knowledge.{new_desk, with_builder, with_row, with_deed, new_builder}
-use Rattle.td_board.specs.Knowledge.{with_claim, with_finish, with_free_hand}
+use Rattle.td_board.specs.Knowledge.{with_claim, with_finish, with_free_hand, desk_tried}
+use Rattle.td_board.specs.Knowledge.{builder_tried}
 
 -- a seat, as the table sees it: its view, and the slots that it holds, which are none here
 abbrev pub SeatState : Type 0
@@ -58,15 +63,15 @@ OfferTells st m n m' = (r : ℕ) → st.word ≡ r + 1 → m' ≡ at_desk (with_
 -- else the word names the builder that was faster
 abbrev pub WithdrawTells : AtomicStep → SeatState → ℕ → SeatState → Type 0
 WithdrawTells st m n m' = (r : ℕ) → st.word ≡ r + 1
-    → (n ≡ 1 → m' ≡ at_desk (with_row r In (desk_in m.0)))
+    → (n ≡ 1 → m' ≡ at_desk (desk_tried (WithdrawalWon r) (with_row r In (desk_in m.0))))
     × (n ≢ 1 → (b : ℕ) × (n ≡ word_of (held b)) × (0 < b) × (b ≤ length (desk_in m.0).noted)
-    × (m' ≡ at_desk (with_row r (Seen b) (desk_in m.0))))
+    × (m' ≡ at_desk (desk_tried (WithdrawalLost r b) (with_row r (Seen b) (desk_in m.0)))))
 
--- a claim: where the word found is Open the builder holds the row, else nothing changes
+-- a claim: where the word found is Open the builder holds the row, else it was tried
 abbrev pub ClaimTells : AtomicStep → SeatState → ℕ → SeatState → Type 0
 ClaimTells st m n m' = (r : ℕ) → st.word ≡ r + 1
     → (n ≡ 1 → m' ≡ at_builder (with_claim r (builder_in m.0)))
-    × (n ≢ 1 → m' ≡ m)
+    × (n ≢ 1 → m' ≡ at_builder (builder_tried (ClaimLost r) (builder_in m.0)))
 
 -- a note of the claim of builder b, which is one of the board's
 abbrev pub NoteTells : AtomicStep → SeatState → ℕ → SeatState → Type 0
@@ -74,26 +79,29 @@ NoteTells st m n m' = (r b : ℕ) → st.word ≡ r + 1 → st.first ≡ word_of
     → (0 < b) × (b ≤ length (desk_in m.0).noted)
     × (m' ≡ at_desk (with_deed b (Claim r) (with_row r (Known b) (desk_in m.0))))
 
--- a finish: where the word found is Noted the hand is Finished, else nothing changes
+-- a finish: where the word found is Noted the hand is Finished, else it was tried
 abbrev pub FinishTells : AtomicStep → SeatState → ℕ → SeatState → Type 0
 FinishTells st m n m' = (r : ℕ) (c : OutcomeCode) → st.word ≡ r + 1
     → st.second ≡ word_of (done (builder_in m.0).number c)
     → (n ≡ st.first → m' ≡ at_builder (with_finish r c (builder_in m.0)))
-    × (n ≢ st.first → m' ≡ m)
+    × (n ≢ st.first → m' ≡ at_builder (builder_tried (FinishEarly r c) (builder_in m.0)))
 
 -- a settling: where the word found is Done with this outcome the row is In and the outcome noted,
--- else nothing changes
+-- else it was tried
 abbrev pub SettleTells : AtomicStep → SeatState → ℕ → SeatState → Type 0
 SettleTells st m n m' = (r b : ℕ) (c : OutcomeCode) → st.word ≡ r + 1
     → st.first ≡ word_of (done b c)
-    → (n ≡ st.first → m' ≡ at_desk (with_deed b (Finish r c) (with_row r In (desk_in m.0))))
-    × (n ≢ st.first → m' ≡ m)
+    → (n ≡ st.first
+    → m'
+    ≡ at_desk (desk_tried (SettleDone r c) (with_deed b (Finish r c) (with_row r In (desk_in m.0)))))
+    × (n ≢ st.first → m' ≡ at_desk (desk_tried (SettleEarly r c) (desk_in m.0)))
 
 -- a release: where the word found isn't Done by this builder any more its hand is free,
--- else nothing changes
+-- else it was tried
 abbrev pub ReleaseTells : AtomicStep → SeatState → ℕ → SeatState → Type 0
 ReleaseTells st m n m' = (r : ℕ) (c : OutcomeCode) → st.word ≡ r + 1
     → (builder_in m.0).hand ≡ Finished r c
-    → (n ≡ word_of (done (builder_in m.0).number c) → m' ≡ m)
+    → (n ≡ word_of (done (builder_in m.0).number c)
+    → m' ≡ at_builder (builder_tried (ReleaseEarly r) (builder_in m.0)))
     × (n ≢ word_of (done (builder_in m.0).number c)
     → m' ≡ at_builder (with_free_hand (builder_in m.0)))

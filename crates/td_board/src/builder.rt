@@ -2,8 +2,10 @@
 ghost use Rattle.std.specs.Prelude.{◌≡◌, ℕ, ◌<◌, ◌≤◌, MatchBool};
 ghost use Rattle.td_board.specs.declared.outcome.OutcomeCode as outcome_code;
 ghost use Rattle.td_board.specs.declared.views.Hand.TheVariants.{Free, Holding, Finished};
+ghost use Rattle.td_board.specs.declared.views.BuilderTry.TheVariants.{FinishEarly, ReleaseEarly};
 ghost use Rattle.td_board.specs.Knowledge.{with_claim, with_finish, with_free_hand, row_of};
-ghost use Rattle.td_board.specs.Answers.{IsWon, IsLost};
+ghost use Rattle.td_board.specs.Knowledge.{builder_tried};
+ghost use Rattle.td_board.specs.Answers.{IsWon, IsLost, LostAtOnce};
 
 use crate::board::Board;
 use crate::outcome::OutcomeCode;
@@ -14,13 +16,13 @@ use crate::words::{OPEN, done_word, held_word, noted_word};
 
 impl Board {
     /// Claims a row. A hand that is Finished is released first. True exactly where this seat took
-    /// the row from Open to Held; false too where the hand isn't Free then, or there is no such
-    /// row.
+    /// the row from Open to Held. False where the row was tried and wasn't Open; without a try of
+    /// it only where the hand isn't Free then, or there is no such row.
     pub fn claim(&self, row: usize, seat: &mut BuilderSeat) -> bool
         requires { seat.old.table ≡ self.now.table }
         ensures { MatchBool result
             (IsWon self.now.rows row seat.old seat.new)
-            (IsLost seat.old seat.new) }
+            (IsLost self.now.rows row seat.old seat.new) }
     {
         if let Hand::Finished(_, _) = seat.hand {
             self.release(seat);
@@ -34,7 +36,7 @@ impl Board {
         ensures { MatchBool result
             ((seat.old.builder.hand ≡ Free) × (row < self.now.rows)
             × (seat.new ≡ record seat.old { builder = with_claim row seat.old.builder }))
-            (seat.new ≡ seat.old) }
+            (LostAtOnce self.now.rows row seat.old seat.new) }
     {
         if row >= self.rows {
             return false;
@@ -52,16 +54,15 @@ impl Board {
         true
     }
 
-    /// Ends the build of the row that the builder holds. False where the desk hasn't noted the
-    /// claim yet.
+    /// Ends the build of the row that the builder holds. False where that was tried and the desk
+    /// hadn't noted the claim yet.
     pub fn finish(&self, seat: &mut BuilderSeat, outcome: OutcomeCode) -> bool
         requires table { seat.old.table ≡ self.now.table }
         requires hand { (r : ℕ) × (seat.old.builder.hand ≡ Holding r) }
-        ensures { let held = seat.old.builder in
-            let finished = with_finish (row_of held.hand) outcome held in
+        ensures { let held = seat.old.builder in let row = row_of held.hand in
             MatchBool result
-            (seat.new ≡ record seat.old { builder = finished })
-            (seat.new ≡ seat.old) }
+            (seat.new ≡ record seat.old { builder = with_finish row outcome held })
+            (seat.new ≡ record seat.old { builder = builder_tried (FinishEarly row outcome) held }) }
     {
         let Hand::Holding(row) = seat.hand else {
             unreachable!()
@@ -77,14 +78,15 @@ impl Board {
         true
     }
 
-    /// Frees a hand whose finish is settled. False where it isn't settled yet.
+    /// Frees a hand whose finish is settled. False where that was tried and it wasn't settled yet.
     pub fn release(&self, seat: &mut BuilderSeat) -> bool
         requires table { seat.old.table ≡ self.now.table }
         requires hand { (r : ℕ) × (c : outcome_code.OutcomeCode)
             × (seat.old.builder.hand ≡ Finished r c) }
-        ensures { MatchBool result
-            (seat.new ≡ record seat.old { builder = with_free_hand seat.old.builder })
-            (seat.new ≡ seat.old) }
+        ensures { let ended = seat.old.builder in let row = row_of ended.hand in
+            MatchBool result
+            (seat.new ≡ record seat.old { builder = with_free_hand ended })
+            (seat.new ≡ record seat.old { builder = builder_tried (ReleaseEarly row) ended }) }
     {
         let Hand::Finished(row, outcome) = seat.hand else {
             unreachable!()

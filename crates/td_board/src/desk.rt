@@ -4,7 +4,8 @@ ghost use mathlib.Core.Option.{some};
 ghost use lib.ListN.{get_elem?};
 ghost use Rattle.td_board.specs.declared.views.RowView.TheVariants.{In, Out, Seen, Known};
 ghost use Rattle.td_board.specs.declared.views.Deed.TheVariants as deed;
-ghost use Rattle.td_board.specs.Knowledge.{with_row, with_deed, holder_at};
+ghost use Rattle.td_board.specs.declared.views.DeskTry.TheVariants.{SettleDone, SettleEarly};
+ghost use Rattle.td_board.specs.Knowledge.{with_row, with_deed, desk_tried, holder_at};
 ghost use Rattle.td_board.specs.Answers.{Withdraws};
 
 use crate::board::Board;
@@ -64,7 +65,7 @@ impl Board {
     }
 
     /// Closes a row that is Known, and notes the outcome, where its build ended with this one.
-    /// False where it didn't.
+    /// False where that was tried and it hadn't.
     pub fn settle(&self, desk: &mut DeskSeat, row: usize, outcome: OutcomeCode) -> bool
         requires table { desk.old.table ≡ self.now.table }
         requires row { (b : ℕ) × (get_elem? desk.old.desk.rows row ≡ some (Known b)) }
@@ -72,8 +73,9 @@ impl Board {
             let closed = with_row row In desk.old.desk in
             let settled = with_deed builder (deed.Finish row outcome) closed in
             MatchBool result
-            (desk.new ≡ record desk.old { desk = settled })
-            (desk.new ≡ desk.old) }
+            (desk.new ≡ record desk.old { desk = desk_tried (SettleDone row outcome) settled })
+            (desk.new
+            ≡ record desk.old { desk = desk_tried (SettleEarly row outcome) desk.old.desk }) }
     {
         let done = done_word(desk.holder(row), outcome);
         let shared = &self.table.shared;

@@ -29,12 +29,42 @@ pub enum Hand {
     Finished(usize, OutcomeCode),
 }
 
+/// A try of the desk's at a row, and what became of it. (An offer and a note never fail.)
+pub enum DeskTry {
+    /// The offer of the row was taken back.
+    WithdrawalWon(usize),
+    /// It wasn't: the builder of this number was faster.
+    WithdrawalLost(usize, u64),
+    /// The build of the row had ended with this outcome, and was settled.
+    SettleDone(usize, OutcomeCode),
+    /// It hadn't ended so.
+    SettleEarly(usize, OutcomeCode),
+}
+
+/// A try of a builder's at a row, and what became of it.
+pub enum BuilderTry {
+    /// The row was open, and the builder took it.
+    ClaimWon(usize),
+    /// The row wasn't open.
+    ClaimLost(usize),
+    /// The claim was noted, and the build of the row ended with this outcome.
+    FinishDone(usize, OutcomeCode),
+    /// The claim wasn't noted yet.
+    FinishEarly(usize, OutcomeCode),
+    /// The finish of the row was settled, and the hand freed.
+    ReleaseDone(usize),
+    /// The finish wasn't settled yet.
+    ReleaseEarly(usize),
+}
+
 /// What the desk knows.
 pub struct DeskView {
     /// By the row's number.
     pub rows: LinkedList<RowView>,
     /// What it noted of each builder, in order. Builder 1 comes first.
     pub noted: LinkedList<LinkedList<Deed>>,
+    /// What it tried, in order, also where nothing came of it.
+    pub tried: LinkedList<DeskTry>,
 }
 
 /// What a builder knows.
@@ -44,6 +74,8 @@ pub struct BuilderView {
     pub hand: Hand,
     /// What it did, in order.
     pub mine: LinkedList<Deed>,
+    /// What it tried, in order, also where nothing came of it.
+    pub tried: LinkedList<BuilderTry>,
 }
 
 /// What a seat knows.

@@ -1,10 +1,11 @@
 -- `Board::claim_at_once`: what it answers, the call of `compare_exchange` and its type's invariant.
-use Rattle.std.proofs.Common.{arith, ◌≡◌, ◌+◌, ◌-◌, ◌<◌, refl, sym, ap, ◌∙◌, subst}
+use Rattle.std.proofs.Common.{arith, ◌≡◌, ◌+◌, ◌-◌, ◌<◌, refl, sym, ap, ◌∙◌, subst, inr}
 use Rattle.td_board.specs.Phase.{held, word_of}
-use Rattle.td_board.specs.Knowledge.{with_claim}
+use Rattle.td_board.specs.declared.views.BuilderTry.TheVariants.{ClaimLost}
+use Rattle.td_board.specs.Knowledge.{with_claim, builder_tried}
 use Rattle.td_board.specs.Tells.{SeatState, builder_in}
 use Rattle.td_board.specs.Seats.{BoardModel, BuilderModel}
-use Rattle.td_board.proofs.SeatKeeps.{builder_after}
+use Rattle.td_board.proofs.SeatKeeps.{builder_after, keeps_builder_try}
 use Rattle.td_board.proofs.BuilderMoves.{claim_allowed}
 use Rattle.td_board.proofs.board.Board.claim_at_once.Goals as goal
 
@@ -29,8 +30,9 @@ compare_exchange-found-requires c =
 pub invariant_of-seat : goal.invariant_of-seat
 invariant_of-seat c =
     let told = (c.compare_exchange-found.ensures.2 c.args.row refl).1 c.if-found-ne-OPEN.true in
-    builder_after _ _ _ (builder_in c.seat.inside.seat.me.0) _ _ (told ∙ c.seat.invariant.0)
-    c.compare_exchange-found.ensures.0 c.seat.invariant.1
+    builder_after _ _ _ (builder_tried (ClaimLost c.args.row) (builder_in c.seat.inside.seat.me.0))
+    _ _ told c.compare_exchange-found.ensures.0
+    (keeps_builder_try _ _ _ _ (ClaimLost c.args.row) c.seat.invariant.1)
 
 pub returns-then-found-ne-OPEN : goal.returns-then-found-ne-OPEN
 returns-then-found-ne-OPEN c =
@@ -38,8 +40,16 @@ returns-then-found-ne-OPEN c =
     let table_is =
     c.compare_exchange-found.ensures.0 ∙ ap (λ (m : BuilderModel). m.table) c.seat.view_is in
     let after = ap (λ (m : SeatState). builder_in m.0) told
-    ∙ ap (λ (m : BuilderModel). m.builder) c.seat.view_is in
-    λ i. record { table = table_is i; builder = after i }
+    ∙ ap (λ (m : BuilderModel). builder_tried (ClaimLost c.args.row) m.builder) c.seat.view_is in
+    let free = sym (ap (λ (m : BuilderModel). m.builder.hand) c.seat.view_is)
+    ∙ (sym c.seat.invariant.1.hand_is ∙ c.in-Free.is) in
+    let row : c.args.row < c.self.inside.rows = c.if-row-self.false in
+    let board = ap (λ (m : BoardModel). m.rows) c.self.view_is in
+    inr (inr (
+      free,
+      subst (λ n. c.args.row < n) board row,
+      λ i. record { table = table_is i; builder = after i },
+    ))
 
 -- it was won
 pub invariant_of-seat-2 : goal.invariant_of-seat-2

@@ -1,10 +1,11 @@
 -- `Board::finish`: what it answers, the call of `compare_exchange` and its type's invariant.
 use Rattle.std.proofs.Common.{ℕ, refl, sym, ap, ◌∙◌}
 use Rattle.td_board.specs.Phase.{noted, done, word_of}
-use Rattle.td_board.specs.Knowledge.{with_finish}
+use Rattle.td_board.specs.declared.views.BuilderTry.TheVariants.{FinishEarly}
+use Rattle.td_board.specs.Knowledge.{with_finish, builder_tried, row_of}
 use Rattle.td_board.specs.Tells.{SeatState, builder_in}
 use Rattle.td_board.specs.Seats.{BuilderModel}
-use Rattle.td_board.proofs.SeatKeeps.{builder_use, holding_inside, builder_after}
+use Rattle.td_board.proofs.SeatKeeps.{builder_use, holding_inside, builder_after, keeps_builder_try}
 use Rattle.td_board.proofs.BuilderMoves.{finish_allowed}
 use Rattle.td_board.proofs.board.Board.finish.Goals as goal
 
@@ -29,8 +30,9 @@ invariant_of-seat c =
     let word = c.done_word-done.ensures ∙ ap (λ b. word_of (done b c.args.outcome)) is.number_is in
     let told = (c.compare_exchange-found.ensures.2 c.in-Holding.row c.args.outcome refl word).1
     c.if-found-noted.true in
-    builder_after _ _ _ (builder_in c.seat.inside.seat.me.0) _ _ (told ∙ c.seat.invariant.0)
-    c.compare_exchange-found.ensures.0 is
+    builder_after _ _ _ (builder_tried (FinishEarly c.in-Holding.row c.args.outcome)
+    (builder_in c.seat.inside.seat.me.0)) _ _ told c.compare_exchange-found.ensures.0
+    (keeps_builder_try _ _ _ _ (FinishEarly c.in-Holding.row c.args.outcome) is)
 
 pub returns-then-found-noted : goal.returns-then-found-noted
 returns-then-found-noted c =
@@ -40,8 +42,11 @@ returns-then-found-noted c =
     c.if-found-noted.true in
     let table_is =
     c.compare_exchange-found.ensures.0 ∙ ap (λ (m : BuilderModel). m.table) c.seat.view_is in
+    let seat_is = ap (λ (m : BuilderModel). m.builder) c.seat.view_is in
+    let row = ap row_of (sym c.in-Holding.is
+    ∙ (is.hand_is ∙ ap (λ (m : BuilderModel). m.builder.hand) c.seat.view_is)) in
     let after = ap (λ (m : SeatState). builder_in m.0) told
-    ∙ ap (λ (m : BuilderModel). m.builder) c.seat.view_is in
+    ∙ (λ i. builder_tried (FinishEarly (row i) c.args.outcome) (seat_is i)) in
     λ i. record { table = table_is i; builder = after i }
 
 -- it is

@@ -26,6 +26,7 @@ loop-number-preserved c =
       desk = record {
         rows = rows;
         noted = (replicate-snoc n [] ∙ ap (λ k. replicate k []) (sym (add-one n))) i;
+        tried = c.args.desk.now.desk.tried;
       };
     })) in
     (seats, desk)

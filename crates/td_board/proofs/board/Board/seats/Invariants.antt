@@ -10,5 +10,9 @@ invariant-loop-number l =
     × (l.desk ≡ (let d : DeskModel =
     record {
       table = l.initial.desk.table;
-      desk = record { rows = l.initial.desk.desk.rows; noted = replicate l.number [] };
+      desk = record {
+        rows = l.initial.desk.desk.rows;
+        noted = replicate l.number [];
+        tried = l.initial.desk.desk.tried;
+      };
     } in d))

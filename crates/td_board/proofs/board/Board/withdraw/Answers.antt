@@ -2,10 +2,12 @@
 use Rattle.std.proofs.Common.{arith, ◌≡◌, ℕ, ◌+◌, ◌/◌, ◌<◌, ◌≤◌, length, refl, sym, ap, ◌∙◌, subst}
 use Rattle.std.proofs.Common.{set}
 use Rattle.td_board.specs.declared.views.RowView.TheVariants.{In, Seen}
-use Rattle.td_board.specs.Knowledge.{with_row}
+use Rattle.td_board.specs.declared.views.DeskTry.TheVariants.{WithdrawalWon, WithdrawalLost}
+use Rattle.td_board.specs.Knowledge.{with_row, desk_tried}
 use Rattle.td_board.specs.Tells.{SeatState, desk_in}
 use Rattle.td_board.specs.Seats.{DeskModel, IsDesk}
-use Rattle.td_board.proofs.SeatKeeps.{desk_use, keeps_in, keeps_seen, desk_after, builder_in_held}
+use Rattle.td_board.proofs.SeatKeeps.{desk_use, keeps_in, keeps_seen, keeps_try, desk_after}
+use Rattle.td_board.proofs.SeatKeeps.{builder_in_held}
 use Rattle.td_board.proofs.DeskMoves.{withdrawal_allowed}
 use Rattle.td_board.proofs.board.Board.withdraw.Goals as goal
 
@@ -26,9 +28,10 @@ compare_exchange-found-requires c =
 pub invariant_of-desk : goal.invariant_of-desk
 invariant_of-desk c =
     let told = c.compare_exchange-found.ensures.2 c.args.row refl in
-    desk_after _ _ _ (with_row c.args.row In (desk_in c.desk.inside.seat.me.0)) _ _
-    (told.0 c.if-found-eq-OPEN.true) c.compare_exchange-found.ensures.0
-    (keeps_in _ _ _ _ _ c.desk.invariant.1)
+    desk_after _ _ _ (desk_tried (WithdrawalWon c.args.row)
+    (with_row c.args.row In (desk_in c.desk.inside.seat.me.0))) _ _ (told.0 c.if-found-eq-OPEN.true)
+    c.compare_exchange-found.ensures.0
+    (keeps_try _ _ _ _ (WithdrawalWon c.args.row) (keeps_in _ _ _ _ _ c.desk.invariant.1))
 
 pub index_mut-requires : goal.index_mut-requires
 index_mut-requires c =
@@ -52,11 +55,12 @@ invariant_of-desk-2 c =
     let high : b ≤ length (desk_in c.desk.inside.seat.me.0).noted = told.3 in
     let now =
     keeps_seen _ _ _ _ c.args.row b c.desk.invariant.1 it.less (omega arith) told.2 told.3 in
-    desk_after _ _ _ (with_row c.args.row (Seen b) (desk_in c.desk.inside.seat.me.0)) _ _ told.4
-    c.compare_exchange-found.ensures.0
+    desk_after _ _ _ (desk_tried (WithdrawalLost c.args.row b)
+    (with_row c.args.row (Seen b) (desk_in c.desk.inside.seat.me.0))) _ _ told.4
+    c.compare_exchange-found.ensures.0 (keeps_try _ _ _ _ (WithdrawalLost c.args.row b)
     (subst (λ n. IsDesk c.desk.inside.seat.table_id
     (with_row c.args.row (Seen b) (desk_in c.desk.inside.seat.me.0))
-    (set c.desk.inside.holders.items c.args.row n) c.desk.inside.builders) (sym is) now)
+    (set c.desk.inside.holders.items c.args.row n) c.desk.inside.builders) (sym is) now))
 
 pub returns : goal.returns
 returns c =
@@ -71,5 +75,6 @@ returns c =
     let table_is =
     c.compare_exchange-found.ensures.0 ∙ ap (λ (m : DeskModel). m.table) c.desk.view_is in
     let after = ap (λ (m : SeatState). desk_in m.0) told.4
-    ∙ (λ i. with_row c.args.row (Seen (sym is i)) (desk_is i)) in
+    ∙ (λ i. desk_tried (WithdrawalLost c.args.row (sym is i))
+    (with_row c.args.row (Seen (sym is i)) (desk_is i))) in
     (omega arith, omega arith, λ i. record { table = table_is i; desk = after i })
