@@ -1,6 +1,7 @@
 -- What the desk does for a builder, over plain values.
 use Rattle.std.proofs.Common.{◌≡◌, IfNone, ℕ, zero, suc, ◌≤◌, ◌==◌, Bool, true, false, List}
-use Rattle.std.proofs.Common.{[], ◌∷◌, Option, Some, None, option_map, if◌then◌else◌, slice_get}
+use Rattle.std.proofs.Common.{[], ◌∷◌, ◌++◌, Option, Some, None, option_map, if◌then◌else◌}
+use Rattle.std.proofs.Common.{slice_get, append_assoc}
 use Rattle.std.proofs.Common.{◌<◌, length, set, ap, refl, sym, subst, ◌∙◌, arith}
 use Rattle.td_board.specs.declared.views.RowView.{RowView}
 use Rattle.std.proofs.lemmas.Bool.{eqb-true}
@@ -9,6 +10,7 @@ use mathlib.Core.Option.{some}
 use lib.ListN.{get_elem?}
 use Rattle.atomic_table.specs.Seated.{TableId}
 use Rattle.td_board.specs.declared.views.RowView.TheVariants.{In, Known}
+use Rattle.td_board.specs.declared.views.DeskTry.{DeskTry}
 use Rattle.td_board.specs.Seats.{rows_of as board_rows}
 use Rattle.td_rows.specs.declared.key.Key.{Key}
 use Rattle.td_rows.specs.declared.row.Row.{Row}
@@ -33,12 +35,14 @@ use Rattle.td_book.specs.declared.starting.Job.{Job}
 use Rattle.td_book.specs.Watching.{WatchedView}
 use Rattle.td_book.specs.Desk.{InnerModel, BookModel, book_of, Stays, HasRoom, HasOne, claim_of}
 use Rattle.td_book.specs.Calls.{noting_one, HasOut, OutAt, LostTo}
+use Rattle.td_book.specs.Tries.{tries_at}
 use Rattle.td_book.specs.Building.{Knows, head_key, is_built_at, Noticed, IsJobAt}
 use Rattle.td_book.proofs.Seeing.{claimed_off, idle_off, views_at, views-each_row, set_views}
 use Rattle.td_book.proofs.Seeing.{length-seen_off}
 use Rattle.td_book.proofs.Steps.{rising_read, rows_read, noting_one-lost}
-use Rattle.td_book.proofs.Steps.{noting_one-opening, noting_one-won, stays_none, stays_more}
-use Rattle.td_book.proofs.Steps.{stays_fixed, spent_none, key_of, up_now}
+use Rattle.td_book.proofs.Steps.{noting_one-opening, noting_one-won, stays_more}
+use Rattle.td_book.proofs.Steps.{stays_fixed, spent_none, key_of, up_now, pos_lost}
+use Rattle.td_book.proofs.Tries.{tries_at-out, withdrawal-lost}
 
 pub built_at : (t : Table) (k : Key) (i b : ℕ) (row : Row) → ascending (keys_of t) ≡ true
     → slice_get t i ≡ Some (k, row) → is_built_at t k b ≡ is_building_by b row.state
@@ -51,15 +55,18 @@ queued-unbuilt b (Building c) h = cc
 queued-unbuilt b s h = refl
 
 -- nothing is noted
-pub knows_none : (b : ℕ) (k : Key) (is : Bool) (m n : InnerModel) → n ≡ m
+pub knows_none : (b : ℕ) (k : Key) (is : Bool) (m n : InnerModel) (tries : List DeskTry)
+    → n ≡ (record m { tries = tries })
+    → tries ≡ m.tries ++ tries_at (rows_of m.books.history) k 0
     → m.view ≡ seen_off [] (rows_of m.books.history)
     → is ≡ is_built_at (rows_of m.books.history) k b → Knows b k is m n
-knows_none b k is m n same rest answer = subst (Knows b k is m) (sym same) (record {
+knows_none b k is m n tries same told rest answer = subst (Knows b k is m) (sym same) (record {
   by = 0;
   some_builder = omega arith;
   history = sym (noting_one-won m.books.history k);
   view = rest;
-  stays = stays_none m;
+  tries = told;
+  stays = record { table = refl; stock = refl; builders = refl; since = refl; watch = refl };
   spent = spent_none (k ∷ []) m.books;
   answers = answer;
 })
@@ -94,6 +101,9 @@ knows_noted by b k i m n lost out up rest =
           ∙ claimed_off [] t i k out.row by up out.at
           ∙ idle_off [] u k up_u (λ row found. same_idle row (sym found ∙ claimed))
           ∙ ap (seen_off []) (sym rows);
+      tries = lost.tries ∙ ap (λ (l : List DeskTry). m.tries ++ l)
+          (sym (tries_at-out t k i by up out
+          ∙ ap (λ (e : DeskTry). e ∷ []) (withdrawal-lost i by (pos_lost by lost.one))));
       stays = lost.stays;
       spent = lost.spent;
       answers = sym (ap (λ (x : Table). is_built_at x k b) rows
@@ -160,11 +170,12 @@ knows_head claim key n m is was a z one number answer knows =
     (subst (λ (x : ℕ). Knows x (head_key claim) was a z) number
     (subst (λ (b : Bool). Knows n (head_key claim) b a z) answer knows))
 
-pub noticed : (i b : ℕ) (k : Key) (is : Bool) (a m n : InnerModel) → Knows b k is m n
-    → m.books.history ≡ a.books.history → Stays a m
-    → slice_get (keys_of a.books.history.opening) i ≡ Some k
-    → Noticed i b is (book_of a) (book_of n)
-noticed i b k is a m n w same stays at =
+pub noticed : (i b : ℕ) (k : Key) (is : Bool) (behind : List DeskTry) (a m n : InnerModel)
+    (tries : List DeskTry) → Knows b k is m n
+    → m.books.history ≡ a.books.history → m.tries ≡ a.tries → Stays a m
+    → slice_get (keys_of a.books.history.opening) i ≡ Some k → tries ≡ n.tries ++ behind
+    → Noticed i b is behind (book_of a) (book_of (record n { tries = tries }))
+noticed i b k is behind a m n tries w same untried stays at told =
     let all = stays_more a m n stays w.stays in
     record {
       key = k;
@@ -173,6 +184,9 @@ noticed i b k is a m n w same stays at =
       some_builder = subst (λ (x : ℕ). w.by ≤ x) stays.builders w.some_builder;
       history = w.history ∙ ap (λ (h : History). noting_one h k w.by) same;
       answers = w.answers;
+      tries = told ∙ ap (λ (l : List DeskTry). l ++ behind) w.tries
+          ∙ (λ j. (untried j ++ tries_at (rows_of (same j)) k w.by) ++ behind)
+          ∙ append_assoc a.tries (tries_at (rows_of a.books.history) k w.by) behind;
       fixed = stays_fixed a n all;
     }
 

@@ -1,5 +1,5 @@
 -- The calls of the book over plain values.
-use Rattle.std.proofs.Common.{◌≡◌, ℕ, ◌≤◌, Bool, true, false, List, [], ◌∷◌, Option, Some}
+use Rattle.std.proofs.Common.{◌≡◌, ℕ, ◌≤◌, Bool, true, false, List, [], ◌∷◌, ◌++◌, Option, Some}
 use Rattle.std.proofs.Common.{None, Result, IfSome, filter, if◌then◌else◌, length, ap, refl, sym}
 use Rattle.std.proofs.Common.{subst, ◌∙◌, arith}
 use Rattle.td_board.specs.declared.views.RowView.{RowView}
@@ -18,7 +18,8 @@ use Rattle.td_book.specs.Watching.{WatchedView}
 use Rattle.td_book.specs.Desk.{InnerModel, BookModel, book_of, fixed_of, Stays, HasOne}
 use Rattle.td_book.specs.Calls.{noting_one, noting, Choices, Withdrew, off_for, plan_takes}
 use Rattle.td_book.specs.Calls.{plan_kind, entered, entered_no, IsPlan, IsPlanOf, PlanIsOff}
-use Rattle.td_book.specs.Calls.{CommandOutcome, IsCommanded, taken_of}
+use Rattle.td_book.specs.Calls.{CommandOutcome, CommandTries, IsCommanded, taken_of}
+use Rattle.td_book.specs.Tries.{tries_for}
 use Rattle.td_book.specs.declared.commanding.CommandRefusal.{CommandRefusal}
 use Rattle.td_book.specs.declared.commanding.Taken.{Taken}
 use Rattle.td_book.specs.declared.skips.Skip.{Skip}
@@ -148,20 +149,41 @@ outcome_of kind named matched left old new choices chosen (k ∷ ks) eq now skip
     full : (q : Key) (qs : List Key) → q ∷ qs ≡ [] → ⊥
     full q qs e = cc
 
+tries_of : (kind : Kind) (named matched : List Key) (old new : BookModel) (choices : List ℕ)
+    → Choices old.fixed.builders (off_for kind named) choices
+    → new.tries ≡ old.tries ++ tries_for (rows_of old.history) (off_for kind named) choices
+    → (ts : List Key)
+    → takes (rows_of (noting old.history (off_for kind named) choices)) kind matched ≡ ts
+    → new.history ≡ entered (noting old.history (off_for kind named) choices) kind ts
+    → (skips : List Skip) (result : Result Taken CommandRefusal)
+    → result ≡ taken_of (entered_no (noting old.history (off_for kind named) choices) ts) skips
+    → CommandTries kind named matched old new result
+tries_of kind named matched old new choices chosen told [] eq now skips result is =
+    subst (CommandTries kind named matched old new) (sym is)
+    (record { choices = choices; chosen = chosen; history = now; tries = told })
+tries_of kind named matched old new choices chosen told (k ∷ ks) eq now skips result is =
+    let noted = noting old.history (off_for kind named) choices in
+    subst (CommandTries kind named matched old new) (sym is) (
+      noted,
+      now ∙ ap (λ (u : List Key). with_entry noted (record { kind = kind; keys = u })) (sym eq),
+      record { choices = choices; chosen = chosen; history = refl; tries = told },
+    )
+
 -- room made, rows withdrawn, the entry made, rows offered
 pub commanded : (kind : Kind) (named matched : List Key) (left : Table → List Skip)
     (a b w d e : InnerModel) (plan : Option Planned) (v : List RowView) (skips : List Skip)
     (result : Result Taken CommandRefusal)
     → IsPlan kind matched (rows_of a.books.history) plan → b.books.history ≡ a.books.history
-    → Stays a b → Withdrew (off_for kind named) b w
+    → b.tries ≡ a.tries → Stays a b → Withdrew (off_for kind named) b w
     → d.books.history ≡ entered w.books.history (plan_kind plan)
-    (plan_takes (rows_of w.books.history) plan) → Stays w d → e ≡ (record d { view = v })
+    (plan_takes (rows_of w.books.history) plan) → d.tries ≡ w.tries → Stays w d
+    → e ≡ (record d { view = v })
     → skips ≡ left (rows_of w.books.history)
     → result
     ≡ taken_of (entered_no w.books.history (plan_takes (rows_of w.books.history) plan)) skips
     → IsCommanded kind named matched left (book_of a) (book_of e) result
-commanded kind named matched left a b w d e plan v skips result planned same room done made kept
-    offered told is =
+commanded kind named matched left a b w d e plan v skips result planned same untried room done made
+    untried' kept offered told is =
     let off = off_for kind named in
     let all = stays_more a b d room (stays_more b w d done.stays kept) in
     let hist : w.books.history ≡ noting a.books.history off done.choices =
@@ -169,19 +191,25 @@ commanded kind named matched left a b w d e plan v skips result planned same roo
     let chosen : Choices a.builders off done.choices =
     subst (λ (n : ℕ). Choices n off done.choices) room.builders done.chosen in
     let books : e.books ≡ d.books = ap (λ (m : InnerModel). m.books) offered in
+    let tries : e.tries ≡ a.tries ++ tries_for (rows_of a.books.history) off done.choices =
+    ap (λ (m : InnerModel). m.tries) offered ∙ untried' ∙ done.tries
+    ∙ (λ j. untried j ++ tries_for (rows_of (same j)) off done.choices) in
+    let ts = takes (rows_of (noting a.books.history off done.choices)) kind matched in
+    let now : e.books.history ≡ entered (noting a.books.history off done.choices) kind ts =
+    ap (λ (x : WatchedView). x.history) books ∙ made
+    ∙ entered_is kind matched (rows_of a.books.history) w.books.history plan planned
+    ∙ ap (λ (h : History). entered h kind (takes (rows_of h) kind matched)) hist in
+    let answer : result ≡ taken_of (entered_no (noting a.books.history off done.choices) ts) skips =
+    is ∙ ap (λ (u : List Key). taken_of (entered_no w.books.history u) skips)
+    (takes_is kind matched (rows_of a.books.history) (rows_of w.books.history) plan planned)
+    ∙ ap (λ (h : History). taken_of (entered_no h (takes (rows_of h) kind matched)) skips) hist in
     record {
       fixed = ap fixed_of offered ∙ stays_fixed a d all;
       outcome =
-          outcome_of kind named matched left (book_of a) (book_of e) done.choices chosen
-          (takes (rows_of (noting a.books.history off done.choices)) kind matched) refl
-          (ap (λ (x : WatchedView). x.history) books ∙ made
-          ∙ entered_is kind matched (rows_of a.books.history) w.books.history plan planned
-          ∙ ap (λ (h : History). entered h kind (takes (rows_of h) kind matched)) hist)
-          skips (told ∙ ap (λ (h : History). left (rows_of h)) hist)
-          result (is ∙ ap (λ (u : List Key). taken_of (entered_no w.books.history u) skips)
-          (takes_is kind matched (rows_of a.books.history) (rows_of w.books.history) plan planned)
-          ∙ ap (λ (h : History). taken_of (entered_no h (takes (rows_of h) kind matched)) skips)
-          hist);
+          outcome_of kind named matched left (book_of a) (book_of e) done.choices chosen ts refl now
+          skips (told ∙ ap (λ (h : History). left (rows_of h)) hist) result answer;
+      tries = tries_of kind named matched (book_of a) (book_of e) done.choices chosen tries ts refl
+          now skips result answer;
     }
 
 -- ---- 4. a command that is typed

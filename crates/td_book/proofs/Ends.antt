@@ -1,8 +1,10 @@
 -- The end of a build over plain values.
 use Rattle.std.proofs.Common.{◌≡◌, ℕ, ◌+◌, ◌<◌, ◌≤◌, Bool, Ok, Err, is_some, if◌then◌else◌, ◌∷◌}
-use Rattle.std.proofs.Common.{List, [], Option, Some, None, true, false, IfSome, IfNone, length}
-use Rattle.std.proofs.Common.{slice_get, ap, refl, sym, subst, ◌∙◌, inl, inr}
+use Rattle.std.proofs.Common.{◌++◌, List, [], Option, Some, None, true, false, IfSome, IfNone}
+use Rattle.std.proofs.Common.{length, slice_get, ap, refl, sym, subst, ◌∙◌, inr, append-nil}
 use Rattle.td_board.specs.Knowledge.{with_finish}
+use Rattle.td_board.specs.declared.outcome.OutcomeCode.{OutcomeCode}
+use Rattle.td_board.specs.declared.views.DeskTry.TheVariants.{SettleDone, SettleEarly}
 use Rattle.td_board.specs.declared.views.BuilderView.{BuilderView}
 use Rattle.td_rows.specs.declared.key.Key.{Key}
 use Rattle.td_rows.specs.declared.kind.Kind.TheVariants.{Outcome as Ended}
@@ -13,12 +15,15 @@ use Rattle.td_core.proofs.Phases.{keys_of-rows_of}
 use Rattle.td_book.specs.Desk.{InnerModel, book_of, Stays}
 use Rattle.td_book.specs.Deeds.{code_of}
 use Rattle.td_book.specs.Calls.{noting_one}
-use Rattle.td_book.specs.Building.{Knows, IsEndingAt, IsEnded, IsUnended, head_key, is_built_at}
+use Rattle.td_book.specs.Tries.{tries_at}
+use Rattle.td_book.specs.Building.{Knows, IsEndingAt, IsEnded, IsUnended, EndsShort, head_key}
+use Rattle.td_book.specs.Building.{is_built_at, Noticed}
 use Rattle.td_book.specs.declared.building.Ending.{Ending}
 use Rattle.td_book.specs.Finishing.{Finishes, FinishHeld}
 use Rattle.td_book.proofs.Steps.{stays_more, stays_fixed, up_now, key_of, some_at}
 use Rattle.std.specs.Option.{ok_or}
 use Rattle.td_book.proofs.Builds.{noticed, built_at, knows_head}
+use Rattle.td_book.proofs.Tries.{tries_more}
 use Rattle.td_book.specs.declared.finishing.FinishRefusal.TheVariants.{Mismatch}
 use Rattle.td_rows.specs.declared.row.Row.{Row}
 use Rattle.td_rows.specs.Keys.{ascending, names, same_key}
@@ -34,9 +39,10 @@ pub ended_some : (i : ℕ) (o : Outcome) (v w : BuilderView) (a m z : InnerModel
     → IfSome r (λ n. n ≡ length m.books.history.journal + 1)
     → IfSome r (λ n. z.books.history
     ≡ with_entry m.books.history (record { kind = Ended v.number o; keys = k ∷ [] }))
+    → IfSome r (λ n. z.tries ≡ m.tries ++ SettleDone i (code_of o) ∷ [])
     → IfSome r (IsEnded i o v w a z)
-ended_some i o v w a m z k None at knows hand number now = tt
-ended_some i o v w a m z k (Some n) at knows hand number now = record {
+ended_some i o v w a m z k None at knows hand number now tries = tt
+ended_some i o v w a m z k (Some n) at knows hand number now tries = record {
   key = k;
   at = at;
   by = knows.by;
@@ -46,38 +52,56 @@ ended_some i o v w a m z k (Some n) at knows hand number now = record {
   now = now ∙ ap (λ (h : History). with_entry h (record { kind = Ended v.number o; keys = k ∷ [] }))
       knows.history;
   number = number ∙ ap (λ (h : History). length h.journal + 1) knows.history;
+  tries = tries_more a.tries m.tries z.tries (tries_at (rows_of a.books.history) k knows.by)
+      (SettleDone i (code_of o) ∷ []) knows.tries tries;
   hand = hand;
 }
 
--- a word of the board wasn't the one that the hand calls for, and the hand stays
+-- nothing was tried behind
+none_behind : (m : InnerModel) → m ≡ (record m { tries = m.tries ++ [] })
+none_behind m = λ j. record m { tries = sym (append-nil m.tries) j }
+
+-- a word of the board wasn't the one that the hand calls for, and nothing was settled
 pub unended_kept : (i n b : ℕ) (o : Outcome) (v w : BuilderView) (a m : InnerModel) (e : Ending)
     (is : Bool) → IsEndingAt i n a.books.history e → b ≡ v.number
-    → Knows b (head_key e.claim) is a m → w ≡ v → IsUnended i o v w a m
-unended_kept i n b o v w a m e is ending number knows kept =
+    → Knows b (head_key e.claim) is a m → EndsShort i (code_of o) is [] v w
+    → IsUnended i o v w a m
+unended_kept i n b o v w a m e is ending number knows short =
     let key = ending.closing.key in
     record {
       key = key;
       at = ending.closing.at;
       is = is;
+      known = m;
       knows = knows_head e.claim key b v.number is is a m ending.claim number refl knows;
-      hand = inl kept;
+      behind = [];
+      now = none_behind m;
+      hand = short;
     }
 
 -- it wasn't closed
 pub ended_none : (i : ℕ) (o : Outcome) (v w : BuilderView) (a m z : InnerModel) (k : Key)
-    (r : Option ℕ) → slice_get (keys_of (rows_of a.books.history)) i ≡ Some k
+    (c : OutcomeCode) (r : Option ℕ) → slice_get (keys_of (rows_of a.books.history)) i ≡ Some k
     → Knows v.number k true a m → w ≡ with_finish i (code_of o) v
-    → IfNone r (z ≡ m) → IfNone r (IsUnended i o v w a z)
-ended_none i o v w a m z k (Some n) at knows hand same = tt
-ended_none i o v w a m z k None at knows hand same =
-    subst (IsUnended i o v w a) (sym same)
-    (record { key = k; at = at; is = true; knows = knows; hand = inr (refl, hand) })
+    → c ≡ code_of o → IfNone r (z ≡ (record m { tries = m.tries ++ SettleEarly i c ∷ [] }))
+    → IfNone r (IsUnended i o v w a z)
+ended_none i o v w a m z k c (Some n) at knows hand code same = tt
+ended_none i o v w a m z k c None at knows hand code same = record {
+  key = k;
+  at = at;
+  is = true;
+  known = m;
+  knows = knows;
+  behind = SettleEarly i c ∷ [];
+  now = same;
+  hand = inr (inr (refl, ap (λ (x : OutcomeCode). SettleEarly i x ∷ []) code, hand));
+}
 
 -- what the inside did is what the book did
 pub finishes : (i : ℕ) (o : Outcome) (v w : BuilderView) (a b z : InnerModel) (n : ℕ)
-    → b.books.history ≡ a.books.history → Stays a b → Stays b z → IsEnded i o v w b z n
-    → Finishes i v.number o (book_of a) (book_of z) n
-finishes i o v w a b z n same room kept e = record {
+    → b.books.history ≡ a.books.history → b.tries ≡ a.tries → Stays a b → Stays b z
+    → IsEnded i o v w b z n → Finishes i v.number o (book_of a) (book_of z) n
+finishes i o v w a b z n same untried room kept e = record {
   key = e.key;
   at = ap (λ (h : History). slice_get (keys_of h.opening) i) (sym same)
       ∙ ap (λ (ks : List Key). slice_get ks i) (sym (keys_of-rows_of b.books.history)) ∙ e.at;
@@ -89,22 +113,29 @@ finishes i o v w a b z n same room kept e = record {
       with_entry (noting_one h e.key e.by) (record { kind = Ended v.number o; keys = e.key ∷ [] }))
       same;
   number = e.number ∙ ap (λ (h : History). length (noting_one h e.key e.by).journal + 1) same;
+  tries = e.tries
+      ∙ (λ j. untried j ++ (tries_at (rows_of (same j)) e.key e.by ++ SettleDone i (code_of o) ∷ []));
   fixed = stays_fixed a z (stays_more a b z room kept);
 }
 
 held_ok : (i : ℕ) (o : Outcome) (v w : BuilderView) (a b z : InnerModel) (n : ℕ)
-    → b.books.history ≡ a.books.history → Stays a b → Stays b z → IsEnded i o v w b z n
-    → FinishHeld i o v w (book_of a) (book_of z) (Ok n)
-held_ok i o v w a b z n same room kept e = (finishes i o v w a b z n same room kept e, e.hand)
+    → b.books.history ≡ a.books.history → b.tries ≡ a.tries → Stays a b → Stays b z
+    → IsEnded i o v w b z n → FinishHeld i o v w (book_of a) (book_of z) (Ok n)
+held_ok i o v w a b z n same untried room kept e =
+    (finishes i o v w a b z n same untried room kept e, e.hand)
 
 held_mismatch : (i : ℕ) (o : Outcome) (v w : BuilderView) (a b z : InnerModel)
-    → b.books.history ≡ a.books.history → Stays a b → IsUnended i o v w b z
+    → b.books.history ≡ a.books.history → b.tries ≡ a.tries → Stays a b → IsUnended i o v w b z
     → FinishHeld i o v w (book_of a) (book_of z) (Err Mismatch)
-held_mismatch i o v w a b z same room e = (
+held_mismatch i o v w a b z same untried room e = (
   e.is,
-  noticed i v.number e.key e.is a b z e.knows same room
+  e.behind,
+  subst (λ (m : InnerModel). Noticed i v.number e.is e.behind (book_of a) (book_of m)) (sym e.now)
+      (noticed i v.number e.key e.is e.behind a b e.known (e.known.tries ++ e.behind) e.knows same
+      untried room
       (ap (λ (h : History). slice_get (keys_of h.opening) i) (sym same)
-      ∙ ap (λ (ks : List Key). slice_get ks i) (sym (keys_of-rows_of b.books.history)) ∙ e.at),
+      ∙ ap (λ (ks : List Key). slice_get ks i) (sym (keys_of-rows_of b.books.history)) ∙ e.at)
+      refl),
   e.hand,
 )
 
@@ -153,9 +184,10 @@ built_there h g i b k key same at built there =
 
 -- by whether it was ended
 pub held_of : (i : ℕ) (o : Outcome) (v w : BuilderView) (a b z : InnerModel) (r : Option ℕ)
-    → b.books.history ≡ a.books.history → Stays a b → Stays b z → IfSome r (IsEnded i o v w b z)
-    → IfNone r (IsUnended i o v w b z)
+    → b.books.history ≡ a.books.history → b.tries ≡ a.tries → Stays a b → Stays b z
+    → IfSome r (IsEnded i o v w b z) → IfNone r (IsUnended i o v w b z)
     → FinishHeld i o v w (book_of a) (book_of z) (ok_or r Mismatch)
-held_of i o v w a b z (Some n) same room kept some none =
-    held_ok i o v w a b z n same room kept some
-held_of i o v w a b z None same room kept some none = held_mismatch i o v w a b z same room none
+held_of i o v w a b z (Some n) same untried room kept some none =
+    held_ok i o v w a b z n same untried room kept some
+held_of i o v w a b z None same untried room kept some none =
+    held_mismatch i o v w a b z same untried room none

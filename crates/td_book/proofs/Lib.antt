@@ -3,6 +3,7 @@ pub mod Seeing
 pub mod AtRest
 pub mod Deeds
 pub mod Steps
+pub mod Tries
 pub mod Withdrawals
 pub mod Arrivals
 pub mod Calls

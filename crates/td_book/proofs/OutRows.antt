@@ -192,15 +192,17 @@ listed-kept view view' outs places room r x y is known no_more no_less h =
     subst (λ v. IsListed v outs places room) (sym is) new
 
 -- a row that was settled, or not
-pub listed-settled : (b : Bool) (old closed new : DeskModel) (outs places : List ℕ) (room r by : ℕ)
-    → closed.desk.rows ≡ set old.desk.rows r In → MatchBool b (new ≡ closed) (new ≡ old)
+pub listed-settled : (b : Bool) (old closed kept new : DeskModel) (outs places : List ℕ) (room r by : ℕ)
+    → closed.desk.rows ≡ set old.desk.rows r In → kept.desk.rows ≡ old.desk.rows
+    → MatchBool b (new ≡ closed) (new ≡ kept)
     → get_elem? old.desk.rows r ≡ some (Known by) → IsListed old.desk.rows outs places room
     → IsListed new.desk.rows outs places room
-listed-settled true old closed new outs places room r by is now known h =
+listed-settled true old closed kept new outs places room r by is same now known h =
     listed-kept old.desk.rows new.desk.rows outs places room r (Known by) In
     (ap (λ (m : DeskModel). m.desk.rows) now ∙ is) known refl refl h
-listed-settled false old closed new outs places room r by is now known h =
-    subst (λ (m : DeskModel). IsListed m.desk.rows outs places room) (sym now) h
+listed-settled false old closed kept new outs places room r by is same now known h =
+    subst (λ (m : DeskModel). IsListed m.desk.rows outs places room) (sym now)
+    (subst (λ v. IsListed v outs places room) (sym same) h)
 
 -- a row that was taken back, or that a builder had won
 pub withdrawn_rows : (w : Withdrawal) (r : ℕ) (old new : DeskModel) → Withdraws r old new w

@@ -125,7 +125,7 @@ claim_applies t k i b keys up out one =
 
 -- ---- 3. claims that are noted
 
-pos_lost : (b : ℕ) → 1 ≤ b → is_lost b ≡ true
+pub pos_lost : (b : ℕ) → 1 ≤ b → is_lost b ≡ true
 pos_lost zero h = absurd (omega arith)
 pos_lost (suc b) h = refl
 

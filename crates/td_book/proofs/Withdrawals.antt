@@ -8,6 +8,8 @@ use Rattle.std.proofs.lemmas.Option.{same_Some}
 use Rattle.std.proofs.Math.Bool.{and-false}
 use Rattle.td_board.specs.declared.views.RowView.{RowView}
 use Rattle.td_board.specs.declared.views.RowView.TheVariants.{In, Out, Known}
+use Rattle.td_board.specs.declared.views.DeskTry.{DeskTry}
+use Rattle.td_board.specs.declared.views.DeskTry.TheVariants.{WithdrawalWon, WithdrawalLost}
 use Rattle.td_rows.specs.declared.key.Key.{Key}
 use Rattle.td_rows.specs.declared.kind.Kind.{Kind}
 use Rattle.td_rows.specs.declared.kind.Kind.TheVariants.{Gb, Nmu, Bp, Dw, Claim, Outcome as Ended}
@@ -17,6 +19,7 @@ use Rattle.td_rows.specs.Keys.{same_key, names, below_all, ascending}
 use Rattle.td_rows.specs.Table.{Table, applied, fits, AppliesOn, keys_of}
 use Rattle.td_rows.proofs.Keys.{same_key-true}
 use Rattle.td_rows.proofs.Lists.{take-next, drop-next}
+use Rattle.td_change.specs.Saved.{number_of}
 use Rattle.td_journal.specs.declared.entry.Marked.{Marked}
 use Rattle.td_journal.specs.Commands.{is_command}
 use Rattle.td_journal.specs.Entries.{standing, entry_at, CanBeUndone}
@@ -35,13 +38,17 @@ use Rattle.td_book.specs.Watching.{WatchedView}
 use Rattle.td_book.specs.Desk.{InnerModel, Stays, Spent, claim_of}
 use Rattle.td_book.specs.Calls.{is_lost, noting_one, noting, OutAt, Lost, WithdrewAt, Withdrew}
 use Rattle.td_book.specs.Calls.{IsKeyAt, entered, entered_no}
+use Rattle.td_book.specs.Tries.{tries_at, tries_for, wins_for}
 use Rattle.td_book.specs.Undoing.{Unlost, LostOne}
 use Rattle.td_book.proofs.Seeing.{withdrawn_off, stays_off, claimed_off, offered_off, idle_off}
 use Rattle.td_book.proofs.Seeing.{desks_off}
 use Rattle.td_book.proofs.Steps.{idle_row, longer, lost_at, named_at, noting_one-lost}
 use Rattle.td_book.proofs.Steps.{noting_one-won, spent_more, spent_none, stays_more}
 use Rattle.td_book.proofs.Steps.{stays_none}
-use Rattle.td_book.proofs.Steps.{unnamed_after, unnamed_before}
+use Rattle.td_book.proofs.Steps.{unnamed_after, unnamed_before, pos_lost}
+use Rattle.td_book.proofs.Tries.{tries_at-out, tries_at-won, tries_at-lost, tries_at-noted}
+use Rattle.td_book.proofs.Tries.{withdrawal-lost, none_more, tries_more, tries_for-push}
+use Rattle.td_book.proofs.Tries.{wins_for-push, split_at}
 
 -- ---- 1. withdrawals
 
@@ -53,9 +60,10 @@ next_off named i k t at = ap (λ (ks : List Key). seen_off ks t) (sym (take-next
 -- a withdrawal that isn't lost: what is kept stays
 unlost_step : (named : List Key) (i : ℕ) (k : Key) (old new : InnerModel) (answer : Option ℕ)
     → slice_get named i ≡ Some k → new.books ≡ old.books → answer ≡ None
-    → new.view ≡ seen_off (take i named ++ k ∷ []) (rows_of old.books.history) → Stays old new
+    → new.view ≡ seen_off (take i named ++ k ∷ []) (rows_of old.books.history)
+    → new.tries ≡ old.tries ++ tries_at (rows_of old.books.history) k 0 → Stays old new
     → WithdrewAt named i old new answer
-unlost_step named i k old new answer at same none view stays =
+unlost_step named i k old new answer at same none view tries stays =
     let t = rows_of old.books.history in
     let hist : new.books.history ≡ old.books.history = ap (λ (b : WatchedView). b.history) same in
     record {
@@ -69,6 +77,7 @@ unlost_step named i k old new answer at same none view stays =
       history = hist ∙ sym (noting_one-won old.books.history k);
       view = view ∙ next_off named i k t at
           ∙ ap (λ (h : History). seen_off (take (i + 1) named) (rows_of h)) (sym hist);
+      tries = tries;
       stays = stays;
       spent = subst (Spent (k ∷ []) old.books) (sym same) (spent_none (k ∷ []) old.books);
       kept = λ _. same;
@@ -78,12 +87,16 @@ unlost_step named i k old new answer at same none view stays =
 pub won_step : (named : List Key) (i n : ℕ) (k : Key) (old new : InnerModel) (answer : Option ℕ)
     → slice_get named i ≡ Some k → old.view ≡ seen_off (take i named) (rows_of old.books.history)
     → ascending (keys_of (rows_of old.books.history)) ≡ true
-    → OutAt (rows_of old.books.history) k n → new ≡ (record old { view = set old.view n In })
+    → OutAt (rows_of old.books.history) k n
+    → new ≡ (record old { view = set old.view n In; tries = old.tries ++ WithdrawalWon n ∷ [] })
     → answer ≡ None → WithdrewAt named i old new answer
 won_step named i n k old new answer at view up out is none =
     unlost_step named i k old new answer at (ap (λ (m : InnerModel). m.books) is) none
     (ap (λ (m : InnerModel). m.view) is ∙ ap (λ (v : List RowView). set v n In) view
     ∙ withdrawn_off (take i named) (rows_of old.books.history) n k out.row up out.at out.out)
+    (ap (λ (m : InnerModel). m.tries) is
+    ∙ ap (λ (l : List DeskTry). old.tries ++ l)
+    (sym (tries_at-out (rows_of old.books.history) k n 0 up out)))
     (subst (Stays old) (sym is)
     (record { table = refl; stock = refl; builders = refl; since = refl; watch = refl }))
 
@@ -98,6 +111,7 @@ idle_step named i k old new answer at view up idle is none =
     unlost_step named i k old new answer at (ap (λ (m : InnerModel). m.books) is) none
     (ap (λ (m : InnerModel). m.view) is ∙ view
     ∙ stays_off (take i named) t k up (idle_row t k idle))
+    (ap (λ (m : InnerModel). m.tries) is ∙ none_more old.tries t k 0 idle)
     (subst (Stays old) (sym is) (stays_none old))
 
 some_not : (o : Option ℕ) (n : ℕ) → o ≡ Some n → o ≡ None → ⊥
@@ -129,6 +143,9 @@ lost_step named i n k old new answer at view up out lost told =
           ∙ claimed_off (take i named) t n k out.row b up out.at
           ∙ next_off named i k (applied (Claim b) (k ∷ []) t) at
           ∙ ap (λ (u : Table). seen_off (take (i + 1) named) u) (sym rows);
+      tries = lost.1.tries ∙ ap (λ (l : List DeskTry). old.tries ++ l)
+          (sym (tries_at-out t k n b up out
+          ∙ ap (λ (e : DeskTry). e ∷ []) (withdrawal-lost n b (pos_lost b lost.1.one))));
       stays = lost.1.stays;
       spent = lost.1.spent;
       kept = λ none. absurd (some_not answer (length old.books.history.journal + 1) told none);
@@ -140,7 +157,8 @@ pub withdrew_either : (named : List Key) (i n : ℕ) (k : Key) (keys : List Key)
     → slice_get named i ≡ Some k → old.view ≡ seen_off (take i named) (rows_of old.books.history)
     → ascending (keys_of (rows_of old.books.history)) ≡ true
     → OutAt (rows_of old.books.history) k n → keys ≡ k ∷ []
-    → IfNone answer (new ≡ (record old { view = set old.view n In }))
+    → IfNone answer
+    (new ≡ (record old { view = set old.view n In; tries = old.tries ++ WithdrawalWon n ∷ [] }))
     → IfSome answer (λ m. m ≡ length old.books.history.journal + 1)
     → IfSome answer (λ m. Lost old new n keys)
     → WithdrewAt named i old new answer
@@ -183,6 +201,15 @@ withdrew_more named i first old new answer rise w s =
     let le : s.by ≤ first.builders = subst (λ (n : ℕ). s.by ≤ n) w.stays.builders s.some_builder in
     let len : length (w.choices ++ s.by ∷ []) ≡ length (ks ++ s.key ∷ []) =
     longer_by w.choices s.by ∙ ap (λ (n : ℕ). n + 1) w.chosen.one_each ∙ sym (longer ks s.key) in
+    let apart = unnamed_before named i s.key rise s.at in
+    let t = rows_of first.books.history in
+    let one : tries_at (rows_of old.books.history) s.key s.by ≡ tries_at t s.key s.by =
+    ap (λ (h : History). tries_at (rows_of h) s.key s.by) w.history
+    ∙ tries_at-noted first.books.history ks w.choices s.key s.by apart in
+    let pushed : tries_for t ks w.choices ++ tries_at t s.key s.by
+    ≡ tries_for t (take (i + 1) named) (w.choices ++ s.by ∷ []) =
+    sym (tries_for-push t ks w.choices s.key s.by w.chosen.one_each)
+    ∙ ap (λ (u : List Key). tries_for t u (w.choices ++ s.by ∷ [])) (sym more) in
     record {
       choices = w.choices ++ s.by ∷ [];
       chosen = record {
@@ -193,10 +220,13 @@ withdrew_more named i first old new answer rise w s =
           ∙ sym (noting-push first.books.history ks w.choices s.key s.by w.chosen.one_each)
           ∙ ap (λ (u : List Key). noting first.books.history u (w.choices ++ s.by ∷ [])) (sym more);
       view = s.view;
+      tries = tries_more first.tries old.tries new.tries (tries_for t ks w.choices)
+          (tries_at t s.key s.by) w.tries
+          (s.tries ∙ ap (λ (l : List DeskTry). old.tries ++ l) one)
+          ∙ ap (λ (l : List DeskTry). first.tries ++ l) pushed;
       stays = stays_more first old new w.stays s.stays;
       spent = subst (λ (u : List Key). Spent u first.books new.books) (sym more)
-          (spent_more ks s.key first.books old.books new.books
-          (unnamed_before named i s.key rise s.at) w.spent s.spent);
+          (spent_more ks s.key first.books old.books new.books apart w.spent s.spent);
     }
 
 -- ---- 2. withdrawals up to the first that is lost
@@ -204,11 +234,24 @@ withdrew_more named i first old new answer rise w s =
 pub unlost_more : (named : List Key) (i : ℕ) (first old new : InnerModel) (answer : Option ℕ)
     → Unlost (take i named) first old → WithdrewAt named i old new answer → answer ≡ None
     → Unlost (take (i + 1) named) first new
-unlost_more named i first old new answer u s none = record {
-  books = s.kept none ∙ u.books;
-  view = s.view;
-  stays = stays_more first old new u.stays s.stays;
-}
+unlost_more named i first old new answer u s none =
+    let ks = take i named in
+    let t = rows_of first.books.history in
+    let more : take (i + 1) named ≡ ks ++ s.key ∷ [] = take-next named i s.key s.at in
+    let hist : old.books.history ≡ first.books.history =
+    ap (λ (b : WatchedView). b.history) u.books in
+    let one : tries_at (rows_of old.books.history) s.key s.by ≡ tries_at t s.key 0 =
+    tries_at-won old.books.history s.key s.by (sym none ∙ s.answers)
+    ∙ ap (λ (h : History). tries_at (rows_of h) s.key 0) hist in
+    record {
+      books = s.kept none ∙ u.books;
+      view = s.view;
+      tries = tries_more first.tries old.tries new.tries (wins_for t ks) (tries_at t s.key 0)
+          u.tries (s.tries ∙ ap (λ (l : List DeskTry). old.tries ++ l) one)
+          ∙ ap (λ (l : List DeskTry). first.tries ++ l)
+          (sym (wins_for-push t ks s.key) ∙ ap (wins_for t) (sym more));
+      stays = stays_more first old new u.stays s.stays;
+    }
 
 pos_of : (b : ℕ) → is_lost b ≡ true → 1 ≤ b
 pos_of zero h = cc
@@ -230,22 +273,44 @@ lost_one named i first old new last n u s back =
     ap (λ (b : WatchedView). b.history) u.books in
     let same : last.books.history ≡ new.books.history =
     ap (λ (m : InnerModel). m.books.history) back in
+    let out : is_queued_at (rows_of first.books.history) s.key ≡ true =
+    ap (λ (h : History). is_queued_at (rows_of h) s.key) (sym hist) ∙ both.0 in
+    let now : last.books.history ≡ with_entry first.books.history (claim_of s.by s.key) =
+    same ∙ s.history
+    ∙ ap (λ b. if b then with_entry old.books.history (claim_of s.by s.key)
+    else old.books.history) told.0
+    ∙ ap (λ (h : History). with_entry h (claim_of s.by s.key)) hist in
+    let t = rows_of first.books.history in
+    let one : tries_at (rows_of old.books.history) s.key s.by
+    ≡ WithdrawalLost (number_of t s.key) s.by ∷ [] =
+    ap (λ (h : History). tries_at (rows_of h) s.key s.by) hist
+    ∙ tries_at-lost t s.key s.by out both.1 in
     record {
       won = record {
         key = s.key;
         is_named = named_at named i s.key s.at;
-        out = ap (λ (h : History). is_queued_at (rows_of h) s.key) (sym hist) ∙ both.0;
+        out = out;
         by = s.by;
         one = pos_of s.by both.1;
         some_builder = subst (λ (m : ℕ). s.by ≤ m) u.stays.builders s.some_builder;
-        now = same ∙ s.history
-            ∙ ap (λ b. if b then with_entry old.books.history (claim_of s.by s.key)
-            else old.books.history) told.0
-            ∙ ap (λ (h : History). with_entry h (claim_of s.by s.key)) hist;
+        now = now;
         number = told.1 ∙ ap (λ (h : History). length h.journal + 1) hist;
       };
       view = ap (λ (m : InnerModel). m.view) back
           ∙ ap (λ (h : History). seen_off [] (rows_of h)) (sym same);
+      tries = record {
+        first = take i named;
+        key = s.key;
+        rest = drop (suc i) named;
+        split = split_at named i s.key s.at;
+        out = out;
+        by = s.by;
+        now = now;
+        tries = ap (λ (m : InnerModel). m.tries) back
+            ∙ tries_more first.tries old.tries new.tries (wins_for t (take i named))
+            (WithdrawalLost (number_of t s.key) s.by ∷ []) u.tries
+            (s.tries ∙ ap (λ (l : List DeskTry). old.tries ++ l) one);
+      };
       stays = stays_more first old last u.stays
           (stays_more old new last s.stays
           (subst (Stays new) (sym back)

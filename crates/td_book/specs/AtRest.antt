@@ -21,10 +21,12 @@ AreServed view t =
     × ((b : ℕ) → (slice_get view i ≡ Some (Known b)) ↔ (row.state ≡ Building b))
 
 -- the seat is at the book's board, with a list of each builder; what it knows of the rows follows
--- from them, and what it has noted is what the journal says after the entries of before
+-- from them, what it has noted is what the journal says after the entries of before, and what it
+-- has tried is what the book's calls say
 pub record IsAtRest (seat : DeskModel) (b : BookModel) : Type 0 where
   pub table : seat.table ≡ b.fixed.table
   pub builders : length seat.desk.noted ≡ b.fixed.builders
   pub rows : seat.desk.rows ≡ seen_off [] (rows_of b.history)
   pub served : AreServed seat.desk.rows (rows_of b.history)
   pub noted : IsInside seat.desk.noted (keys_of b.history.opening) b.fixed.since b.history.journal
+  pub tries : seat.desk.tried ≡ b.tries

@@ -1,8 +1,13 @@
 -- What a builder's start and finish do to a book. This project's own.
-use Rattle.std.specs.Prelude.{◌≡◌, ◌⊎◌, ℕ, ◌+◌, ◌≤◌, Bool, true, false, List, [], ◌∷◌, Some, None}
+use Rattle.std.specs.Prelude.{◌≡◌, ◌⊎◌, ℕ, ◌+◌, ◌≤◌, Bool, true, false, List, [], ◌∷◌, ◌++◌, Some}
+use Rattle.std.specs.Prelude.{None}
 use Rattle.std.specs.Prelude.{Result, Ok, Err, length, slice_get, string_bytes}
 use Rattle.std.specs.Prelude.{unwrap_or}
-use Rattle.td_board.specs.Knowledge.{with_finish}
+use Rattle.td_board.specs.Knowledge.{with_finish, builder_tried}
+use Rattle.td_board.specs.declared.outcome.OutcomeCode.{OutcomeCode}
+use Rattle.td_board.specs.declared.views.DeskTry.{DeskTry}
+use Rattle.td_board.specs.declared.views.DeskTry.TheVariants.{SettleDone, SettleEarly}
+use Rattle.td_board.specs.declared.views.BuilderTry.TheVariants.{FinishEarly}
 use Rattle.td_board.specs.declared.views.BuilderView.{BuilderView}
 use Rattle.td_board.specs.declared.views.Hand.{Hand}
 use Rattle.td_board.specs.declared.views.Hand.TheVariants.{Holding}
@@ -26,6 +31,7 @@ use Rattle.td_book.specs.declared.starting.StartRefusal.TheVariants.{NothingHeld
 use Rattle.td_book.specs.declared.starting.StartRefusal.TheVariants.{Mismatch}
 use Rattle.td_book.specs.Seen.{seen_off}
 use Rattle.td_book.specs.Desk.{InnerModel, BookModel, Stays, Spent}
+use Rattle.td_book.specs.Tries.{tries_at}
 use Rattle.td_book.specs.Calls.{noting_one}
 use Rattle.td_book.specs.Deeds.{code_of}
 
@@ -51,6 +57,7 @@ pub record Knows (b : ℕ) (k : Key) (is : Bool) (old new : InnerModel) : Type 0
   pub some_builder : by ≤ old.builders
   pub history : new.books.history ≡ noting_one old.books.history k by
   pub view : new.view ≡ seen_off [] (rows_of new.books.history)
+  pub tries : new.tries ≡ old.tries ++ tries_at (rows_of old.books.history) k by
   pub stays : Stays old new
   pub spent : Spent (k ∷ []) old.books new.books
   pub answers : is ≡ is_built_at (rows_of new.books.history) k b
@@ -70,21 +77,24 @@ IsJobAt i b job =
     × (string_bytes job.version ≡ rebuild_text (version_now b job.key) row.number)
 
 -- the claim of the row with a number is noted, whoever's it is; and whether the builder has the row
--- then
-pub record Noticed (i b : ℕ) (is : Bool) (old new : BookModel) : Type 0 where
+-- then. The row was withdrawn for that where it needed a build, and no other; what was tried behind
+-- it is told
+pub record Noticed (i b : ℕ) (is : Bool) (behind : List DeskTry)
+    (old new : BookModel) : Type 0 where
   pub key : Key
   pub at : slice_get (keys_of old.history.opening) i ≡ Some key
   pub by : ℕ
   pub some_builder : by ≤ old.fixed.builders
   pub history : new.history ≡ noting_one old.history key by
   pub answers : is ≡ is_built_at (rows_of new.history) key b
+  pub tries : new.tries ≡ old.tries ++ (tries_at (rows_of old.history) key by ++ behind)
   pub fixed : new.fixed ≡ old.fixed
 
 -- with no row in hand nothing is started, and no memory is taken; else the builder has the row, and
 -- its job is of the rows as they are then
 abbrev pub StartOutcome : ℕ → Hand → BookModel → BookModel → Result Job StartRefusal → Type 0
-StartOutcome b (Holding i) old new (Ok job) = Noticed i b true old new × IsJobAt i old job
-StartOutcome b (Holding i) old new (Err Mismatch) = Noticed i b false old new
+StartOutcome b (Holding i) old new (Ok job) = Noticed i b true [] old new × IsJobAt i old job
+StartOutcome b (Holding i) old new (Err Mismatch) = Noticed i b false [] old new
 StartOutcome b (Holding i) old new (Err NothingHeld) = ⊥
 StartOutcome b (Holding i) old new (Err NoMemory) = new ≡ old
 StartOutcome b hand old new result = (result ≡ Err NothingHeld) × (new ≡ old)
@@ -132,7 +142,19 @@ pub record IsEnded (i : ℕ) (o : Outcome) (v w : BuilderView) (old new : InnerM
       ≡ with_entry (noting_one old.books.history key by)
       (record { kind = Ended v.number o; keys = key ∷ [] })
   pub number : n ≡ length (noting_one old.books.history key by).journal + 1
+  pub tries : new.tries
+      ≡ old.tries ++ (tries_at (rows_of old.books.history) key by
+      ++ SettleDone i (code_of o) ∷ [])
   pub hand : w ≡ with_finish i (code_of o) v
+
+-- how far an end came that wasn't made, of the row with a number, by whether the builder has the
+-- row: if not, nothing more was tried; else the finish was tried and came too early, or it was done
+-- and the settling came too early
+abbrev pub EndsShort : ℕ → OutcomeCode → Bool → List DeskTry → BuilderView → BuilderView → Type 0
+EndsShort i c is behind v w =
+    ((is ≡ false) × (behind ≡ []) × (w ≡ v))
+    ⊎ ((is ≡ true) × (behind ≡ []) × (w ≡ builder_tried (FinishEarly i c) v))
+    ⊎ ((is ≡ true) × (behind ≡ SettleEarly i c ∷ []) × (w ≡ with_finish i c v))
 
 -- a word of the board wasn't the one that the hand calls for: the claim may be noted, and, where
 -- the builder has the row then, its hand be finished
@@ -140,5 +162,8 @@ pub record IsUnended (i : ℕ) (o : Outcome) (v w : BuilderView) (old new : Inne
   pub key : Key
   pub at : slice_get (keys_of (rows_of old.books.history)) i ≡ Some key
   pub is : Bool
-  pub knows : Knows v.number key is old new
-  pub hand : (w ≡ v) ⊎ ((is ≡ true) × (w ≡ with_finish i (code_of o) v))
+  pub known : InnerModel
+  pub knows : Knows v.number key is old known
+  pub behind : List DeskTry
+  pub now : new ≡ record known { tries = known.tries ++ behind }
+  pub hand : EndsShort i (code_of o) is behind v w

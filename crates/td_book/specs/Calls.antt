@@ -1,8 +1,10 @@
 -- The parts of a command: withdrawals, the entry, its answer. This project's own.
 use Rattle.std.specs.Prelude.{◌≡◌, ◌≢◌, ℕ, zero, suc, ◌+◌, ◌≤◌, Bool, true, false, ◌&&◌, List, []}
-use Rattle.std.specs.Prelude.{◌∷◌, Option, Some, None, Result, Ok, Err, if◌then◌else◌, length}
+use Rattle.std.specs.Prelude.{◌∷◌, ◌++◌, Option, Some, None, Result, Ok, Err, if◌then◌else◌, length}
 use Rattle.std.specs.Prelude.{slice_get, slice_set, take}
 use Rattle.td_board.specs.declared.views.RowView.TheVariants.{Known}
+use Rattle.td_board.specs.declared.views.DeskTry.{DeskTry}
+use Rattle.td_board.specs.declared.views.DeskTry.TheVariants.{WithdrawalLost}
 use Rattle.td_rows.specs.declared.key.Key.{Key}
 use Rattle.td_rows.specs.declared.row.Row.{Row}
 use Rattle.td_rows.specs.declared.kind.Kind.{Kind}
@@ -18,6 +20,7 @@ use Rattle.td_core.specs.History.{History, rows_of, with_entry}
 use Rattle.td_core.specs.Refusals.{is_queued_at}
 use Rattle.td_book.specs.Seen.{seen_off}
 use Rattle.td_book.specs.Desk.{InnerModel, BookModel, Stays, Spent, claim_of}
+use Rattle.td_book.specs.Tries.{tries_at, tries_for}
 use Rattle.td_book.specs.declared.commanding.CommandRefusal.{CommandRefusal}
 use Rattle.td_book.specs.declared.commanding.CommandRefusal.TheVariants.{NothingApplies, NoMemory}
 use Rattle.td_book.specs.declared.commanding.Taken.{Taken}
@@ -68,13 +71,14 @@ pub record Claimable (old : InnerModel) (i : ℕ) (claim : List Key) : Type 0 wh
   pub out : OutAt (rows_of old.books.history) key i
   pub rising : ascending (keys_of (rows_of old.books.history)) ≡ true
 
--- the claim of the row is noted, of this builder
+-- the withdrawal of the row was lost to this builder, whose claim is noted
 pub record LostTo (by : ℕ) (old new : InnerModel) (i : ℕ) (claim : List Key) : Type 0 where
   pub one : 1 ≤ by
   pub some_builder : by ≤ old.builders
   pub history : new.books.history
       ≡ with_entry old.books.history (record { kind = Claim by; keys = claim })
   pub view : new.view ≡ slice_set old.view i (Known by)
+  pub tries : new.tries ≡ old.tries ++ WithdrawalLost i by ∷ []
   pub stays : Stays old new
   pub spent : Spent claim old.books new.books
 
@@ -101,6 +105,7 @@ pub record WithdrewAt (named : List Key) (i : ℕ) (old new : InnerModel)
   pub answers : answer ≡ claim_no old.books.history key by
   pub history : new.books.history ≡ noting_one old.books.history key by
   pub view : new.view ≡ seen_off (take (i + 1) named) (rows_of new.books.history)
+  pub tries : new.tries ≡ old.tries ++ tries_at (rows_of old.books.history) key by
   pub stays : Stays old new
   pub spent : Spent (key ∷ []) old.books new.books
   pub kept : answer ≡ None → new.books ≡ old.books
@@ -111,6 +116,7 @@ pub record Withdrew (named : List Key) (old new : InnerModel) : Type 0 where
   pub chosen : Choices old.builders named choices
   pub history : new.books.history ≡ noting old.books.history named choices
   pub view : new.view ≡ seen_off named (rows_of new.books.history)
+  pub tries : new.tries ≡ old.tries ++ tries_for (rows_of old.books.history) named choices
   pub stays : Stays old new
   pub spent : Spent named old.books new.books
 
@@ -181,12 +187,35 @@ CommandOutcome kind named matched left old new (Ok taken) =
     (choices : List ℕ) × Choices old.fixed.builders (off_for kind named) choices
     × Enters kind matched left (noting old.history (off_for kind named) choices) new.history taken
 
+-- the rows of the keys that needed a build were withdrawn, each once, in the order of the keys: the
+-- claims that are noted are those of the withdrawals that were lost
+pub record AreTried (builders : ℕ) (keys : List Key) (h noted : History)
+    (old new : List DeskTry) : Type 0 where
+  pub choices : List ℕ
+  pub chosen : Choices builders keys choices
+  pub history : noted ≡ noting h keys choices
+  pub tries : new ≡ old ++ tries_for (rows_of h) keys choices
+
+-- what a command tried: nothing where memory was wanting, else the withdrawals of the rows that it
+-- names, where its kind has to do with their states, before its entry if it made one
+abbrev pub CommandTries : Kind → List Key → List Key → BookModel → BookModel
+    → Result Taken CommandRefusal → Type 0
+CommandTries kind named matched old new (Err NoMemory) = new.tries ≡ old.tries
+CommandTries kind named matched old new (Err (NothingApplies skips)) =
+    AreTried old.fixed.builders (off_for kind named) old.history new.history old.tries new.tries
+CommandTries kind named matched old new (Ok taken) =
+    (noted : History)
+    × (new.history
+    ≡ with_entry noted (record { kind = kind; keys = takes (rows_of noted) kind matched }))
+    × AreTried old.fixed.builders (off_for kind named) old.history noted old.tries new.tries
+
 -- what a command does to a book, by its kind, the keys that it names, those whose version matches,
--- and the skips over the rows: what is fixed stays, and the history fits the answer
+-- and the skips over the rows: what is fixed stays, and the history and the tries fit the answer
 pub record IsCommanded (kind : Kind) (named matched : List Key) (left : Table → List Skip)
     (old new : BookModel) (result : Result Taken CommandRefusal) : Type 0 where
   pub fixed : new.fixed ≡ old.fixed
   pub outcome : CommandOutcome kind named matched left old new result
+  pub tries : CommandTries kind named matched old new result
 
 -- what a call answers: the entry's number with the skips, or these alone
 abbrev pub taken_of : Option ℕ → List Skip → Result Taken CommandRefusal

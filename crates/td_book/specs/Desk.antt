@@ -2,6 +2,7 @@
 use Rattle.std.specs.Prelude.{◌≡◌, ℕ, ◌+◌, List, [], ◌∷◌, length}
 use Rattle.atomic_table.specs.Seated.{TableId}
 use Rattle.td_board.specs.declared.views.RowView.{RowView}
+use Rattle.td_board.specs.declared.views.DeskTry.{DeskTry}
 use Rattle.td_rows.specs.declared.key.Key.{Key}
 use Rattle.td_rows.specs.declared.kind.Kind.TheVariants.{Claim}
 use Rattle.td_journal.specs.declared.entry.Entry.{Entry}
@@ -11,13 +12,14 @@ use Rattle.td_core.specs.Keeps.{RoomFor, RoomSpent}
 use Rattle.td_book.specs.Watching.{WatchView, WatchedView}
 
 -- the board's table, what is kept, what the desk knows of each row, how many builders there are,
--- and how many entries the journal had at the opening
+-- how many entries the journal had at the opening, and what the desk has tried
 pub record InnerModel : Type 0 where
   pub table : TableId
   pub books : WatchedView
   pub view : List RowView
   pub builders : ℕ
   pub since : ℕ
+  pub tries : List DeskTry
 
 -- what no call changes: the board's table, what the index offers, how many builders there are, and
 -- how many entries the journal had at the opening; and the watched rows, which only `watch` changes
@@ -32,6 +34,7 @@ pub record Fixed : Type 0 where
 pub record BookModel : Type 0 where
   pub history : History
   pub fixed : Fixed
+  pub tries : List DeskTry
 
 -- what no call changes, of the inside of a book
 abbrev pub fixed_of : InnerModel → Fixed
@@ -46,7 +49,7 @@ fixed_of m =
 
 -- the book at rest that has this inside
 abbrev pub book_of : InnerModel → BookModel
-book_of m = record { history = m.books.history; fixed = fixed_of m }
+book_of m = record { history = m.books.history; fixed = fixed_of m; tries = m.tries }
 
 -- what is fixed stays, part by part
 pub record Stays (old new : InnerModel) : Type 0 where

@@ -1,7 +1,10 @@
 -- What the end of a build does to a book. This project's own.
-use Rattle.std.specs.Prelude.{◌≡◌, ◌⊎◌, ℕ, ◌+◌, ◌≤◌, Bool, true, false, [], ◌∷◌, Some, Result, Ok}
+use Rattle.std.specs.Prelude.{◌≡◌, ◌≢◌, ◌⊎◌, ℕ, ◌+◌, ◌≤◌, Bool, true, false, List, [], ◌∷◌, ◌++◌}
+use Rattle.std.specs.Prelude.{Some, Result, Ok}
 use Rattle.std.specs.Prelude.{Err, length, slice_get}
 use Rattle.td_board.specs.declared.outcome.OutcomeCode.{OutcomeCode}
+use Rattle.td_board.specs.declared.views.DeskTry.{DeskTry}
+use Rattle.td_board.specs.declared.views.DeskTry.TheVariants.{SettleDone, SettleEarly}
 use Rattle.td_board.specs.declared.views.BuilderView.{BuilderView}
 use Rattle.td_board.specs.declared.views.Hand.{Hand}
 use Rattle.td_board.specs.declared.views.Hand.TheVariants.{Free, Holding, Finished}
@@ -16,15 +19,17 @@ use Rattle.td_book.specs.declared.finishing.FinishRefusal.TheVariants.{NothingHe
 use Rattle.td_book.specs.declared.finishing.FinishRefusal.TheVariants.{Mismatch}
 use Rattle.td_book.specs.Desk.{BookModel}
 use Rattle.td_book.specs.Deeds.{code_of}
+use Rattle.td_book.specs.Tries.{tries_at}
 use Rattle.td_book.specs.Calls.{noting_one}
-use Rattle.td_book.specs.Building.{is_built_at, Noticed}
+use Rattle.td_book.specs.Building.{is_built_at, Noticed, EndsShort}
 
 -- the key of the row with a number
 abbrev pub IsKeyOf : BookModel → ℕ → Key → Type 0
 IsKeyOf b i k = slice_get (keys_of b.history.opening) i ≡ Some k
 
 -- the claim is noted where that wasn't done, and then how the build ended: by the builder, on the
--- row that it holds. The last entry has this number
+-- row that it holds. The last entry has this number; the row was withdrawn for the claim if it
+-- needed a build, and settled
 pub record Finishes (i b : ℕ) (o : Outcome) (old new : BookModel) (n : ℕ) : Type 0 where
   pub key : Key
   pub at : IsKeyOf old i key
@@ -34,6 +39,8 @@ pub record Finishes (i b : ℕ) (o : Outcome) (old new : BookModel) (n : ℕ) : 
   pub history : new.history
       ≡ with_entry (noting_one old.history key by) (record { kind = Ended b o; keys = key ∷ [] })
   pub number : n ≡ length (noting_one old.history key by).journal + 1
+  pub tries : new.tries
+      ≡ old.tries ++ (tries_at (rows_of old.history) key by ++ SettleDone i (code_of o) ∷ [])
   pub fixed : new.fixed ≡ old.fixed
 
 -- a finish of the row that is held
@@ -43,8 +50,8 @@ FinishHeld i o v w old new (Ok n) =
     Finishes i v.number o old new n × (w ≡ with_finish i (code_of o) v)
 FinishHeld i o v w old new (Err NoMemory) = (new ≡ old) × (w ≡ v)
 FinishHeld i o v w old new (Err Mismatch) =
-    (is : Bool) × Noticed i v.number is old new
-    × ((w ≡ v) ⊎ ((is ≡ true) × (w ≡ with_finish i (code_of o) v)))
+    (is : Bool) × (behind : List DeskTry) × Noticed i v.number is behind old new
+    × EndsShort i (code_of o) is behind v w
 FinishHeld i o v w old new (Err NothingHeld) = ⊥
 
 -- the build is settled that ended so before, with the text of this call
@@ -54,6 +61,7 @@ pub record Settles (i b : ℕ) (o : Outcome) (old new : BookModel) (n : ℕ) : T
   pub built : is_built_at (rows_of old.history) key b ≡ true
   pub history : new.history ≡ with_entry old.history (record { kind = Ended b o; keys = key ∷ [] })
   pub number : n ≡ length old.history.journal + 1
+  pub tries : new.tries ≡ old.tries ++ SettleDone i (code_of o) ∷ []
   pub fixed : new.fixed ≡ old.fixed
 
 -- whether the row with a number is the builder's
@@ -61,14 +69,18 @@ abbrev pub HasRowOf : Bool → ℕ → ℕ → BookModel → Type 0
 HasRowOf is i b m = (key : Key) × IsKeyOf m i key × (is_built_at (rows_of m.history) key b ≡ is)
 
 -- a finish once more, by a hand whose build ended with this code: a settled one holds nothing, one
--- of another code changes nothing, and memory is taken for one that isn't settled and has the code
+-- of another code changes nothing, and memory is taken for one that isn't settled and has the code.
+-- That one is a mismatch only where the settling was tried and came too early
 abbrev pub FinishAgain : ℕ → OutcomeCode → Outcome → ℕ → BookModel → BookModel
     → Result ℕ FinishRefusal → Type 0
 FinishAgain i c o b old new (Ok n) = (code_of o ≡ c) × Settles i b o old new n
 FinishAgain i c o b old new (Err NothingHeld) = HasRowOf false i b old × (new ≡ old)
 FinishAgain i c o b old new (Err NoMemory) =
     HasRowOf true i b old × (new ≡ old) × (code_of o ≡ c)
-FinishAgain i c o b old new (Err Mismatch) = HasRowOf true i b old × (new ≡ old)
+FinishAgain i c o b old new (Err Mismatch) =
+    HasRowOf true i b old
+    × ((more : List DeskTry) × (new ≡ record old { tries = old.tries ++ more })
+    × (((code_of o ≢ c) × (more ≡ [])) ⊎ ((code_of o ≡ c) × (more ≡ SettleEarly i c ∷ []))))
 
 -- by what the hand has
 abbrev pub FinishOutcome : Hand → Outcome → BuilderView → BuilderView → BookModel → BookModel

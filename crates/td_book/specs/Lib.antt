@@ -2,6 +2,7 @@
 pub mod Seen
 pub mod Deeds
 pub mod Desk
+pub mod Tries
 pub mod AtRest
 pub mod Naming
 pub mod Skips

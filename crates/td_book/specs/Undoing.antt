@@ -1,9 +1,13 @@
 -- What an undo does to a book. This project's own.
-use Rattle.std.specs.Prelude.{◌≡◌, ◌≢◌, ℕ, ◌+◌, ◌≤◌, true, List, [], Option, Some, None, Result, Ok}
+use Rattle.std.specs.Prelude.{◌≡◌, ◌≢◌, ℕ, ◌+◌, ◌≤◌, true, List, [], ◌∷◌, ◌++◌, Option, Some, None}
+use Rattle.std.specs.Prelude.{Result, Ok}
 use Rattle.std.specs.Prelude.{Err, IsSomeAnd, if◌then◌else◌, length}
+use Rattle.td_board.specs.declared.views.DeskTry.{DeskTry}
+use Rattle.td_board.specs.declared.views.DeskTry.TheVariants.{WithdrawalLost}
 use Rattle.td_rows.specs.declared.key.Key.{Key}
 use Rattle.td_rows.specs.Keys.{names}
 use Rattle.td_rows.specs.Kinds.{cells}
+use Rattle.td_change.specs.Saved.{number_of}
 use Rattle.td_journal.specs.declared.entry.Mark.{Mark}
 use Rattle.td_journal.specs.declared.entry.Mark.TheVariants.{Standing, Undone}
 use Rattle.td_journal.specs.declared.entry.Marked.{Marked}
@@ -13,6 +17,7 @@ use Rattle.td_core.specs.History.{History, rows_of, with_entry, without_entry}
 use Rattle.td_core.specs.Refusals.{is_queued_at}
 use Rattle.td_book.specs.Seen.{seen_off}
 use Rattle.td_book.specs.Desk.{InnerModel, BookModel, Stays, claim_of}
+use Rattle.td_book.specs.Tries.{wins_for}
 use Rattle.td_book.specs.Calls.{off_for}
 use Rattle.td_book.specs.declared.undoing.UndoRefusal.{UndoRefusal}
 use Rattle.td_book.specs.declared.undoing.UndoRefusal.TheVariants as undos
@@ -21,6 +26,7 @@ use Rattle.td_book.specs.declared.undoing.UndoRefusal.TheVariants as undos
 pub record Unlost (named : List Key) (old new : InnerModel) : Type 0 where
   pub books : new.books ≡ old.books
   pub view : new.view ≡ seen_off named (rows_of new.books.history)
+  pub tries : new.tries ≡ old.tries ++ wins_for (rows_of old.books.history) named
   pub stays : Stays old new
 
 -- a builder had won a named row that was out, and the entry of its claim has this number
@@ -34,16 +40,33 @@ pub record IsWon (before after : History) (builders : ℕ) (named : List Key) (n
   pub now : after ≡ with_entry before (claim_of by key)
   pub number : n ≡ length before.journal + 1
 
+-- it was the first that the desk lost: the rows before it that were out had been withdrawn, and
+-- none behind it was tried
+pub record IsStopped (before after : History) (named : List Key)
+    (old new : List DeskTry) : Type 0 where
+  pub first : List Key
+  pub key : Key
+  pub rest : List Key
+  pub split : named ≡ first ++ key ∷ rest
+  pub out : is_queued_at (rows_of before) key ≡ true
+  pub by : ℕ
+  pub now : after ≡ with_entry before (claim_of by key)
+  pub tries : new
+      ≡ old ++ (wins_for (rows_of before) first
+      ++ WithdrawalLost (number_of (rows_of before) key) by ∷ [])
+
 -- that, and all rows are as at rest
 pub record LostOne (old new : InnerModel) (named : List Key) (n : ℕ) : Type 0 where
   pub won : IsWon old.books.history new.books.history old.builders named n
   pub view : new.view ≡ seen_off [] (rows_of new.books.history)
+  pub tries : IsStopped old.books.history new.books.history named old.tries new.tries
   pub stays : Stays old new
 
 -- the rows of the keys are withdrawn, and room for a claim may have been made
 pub record AreOff (keys : List Key) (old new : InnerModel) : Type 0 where
   pub history : new.books.history ≡ old.books.history
   pub view : new.view ≡ seen_off keys (rows_of new.books.history)
+  pub tries : new.tries ≡ old.tries ++ wins_for (rows_of old.books.history) keys
   pub stays : Stays old new
 
 -- what the withdrawal of keys answers: they are withdrawn, or a builder had won one; memory is
@@ -52,7 +75,8 @@ abbrev pub WithdrawAnswer : List Key → InnerModel → InnerModel → Result (U
     → Type 0
 WithdrawAnswer keys old new (Ok u) = AreOff keys old new
 WithdrawAnswer keys old new (Err undos.NoMemory) =
-    (keys ≢ []) × (new.books.history ≡ old.books.history) × (new.view ≡ old.view) × Stays old new
+    (keys ≢ []) × (new.books.history ≡ old.books.history) × (new.view ≡ old.view)
+    × (new.tries ≡ old.tries) × Stays old new
 WithdrawAnswer keys old new (Err (undos.Blocked m)) = LostOne old new keys m
 WithdrawAnswer keys old new (Err undos.NoSuchEntry) = ⊥
 WithdrawAnswer keys old new (Err undos.NotACommand) = ⊥
@@ -73,13 +97,28 @@ UndoOutcome n old new (Err undos.NoSuchEntry) = ⊥
 UndoOutcome n old new (Err undos.NotACommand) = ⊥
 UndoOutcome n old new (Err undos.AlreadyUndone) = ⊥
 
+-- what it tried: the withdrawals of the entry's rows that needed a build, in the order of their
+-- keys, up to the first that is lost; nothing where memory was wanting
+abbrev pub UndoTries : ℕ → BookModel → BookModel → Result (Unit {0}) UndoRefusal → Type 0
+UndoTries n old new (Ok u) =
+    IsSomeAnd (entry_at old.history.journal n) (λ e.
+    new.tries ≡ old.tries ++ wins_for (rows_of old.history) (off_for e.entry.kind e.entry.keys))
+UndoTries n old new (Err undos.NoMemory) = new.tries ≡ old.tries
+UndoTries n old new (Err (undos.Blocked m)) =
+    IsSomeAnd (entry_at old.history.journal n) (λ e.
+    IsStopped old.history new.history (off_for e.entry.kind e.entry.keys) old.tries new.tries)
+UndoTries n old new (Err undos.NoSuchEntry) = ⊥
+UndoTries n old new (Err undos.NotACommand) = ⊥
+UndoTries n old new (Err undos.AlreadyUndone) = ⊥
+
 -- an undo of a standing command that no later entry touches leaves the book and answers so: what is
--- fixed stays, the history fits the answer, and memory is wanting only where the entry's kind has
--- to do with states
+-- fixed stays, the history and the tries fit the answer, and memory is wanting only where the
+-- entry's kind has to do with states
 pub record IsUndone (n : ℕ) (old new : BookModel)
     (result : Result (Unit {0}) UndoRefusal) : Type 0 where
   pub fixed : new.fixed ≡ old.fixed
   pub outcome : UndoOutcome n old new result
+  pub tries : UndoTries n old new result
   pub memory : result ≡ Err undos.NoMemory → HasState old.history.journal n
 
 -- why an undo is stopped by an entry's mark, or by its blocker if it has one: it is undone already,

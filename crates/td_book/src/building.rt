@@ -1,9 +1,12 @@
 //! What the desk does for a builder.
-ghost use Rattle.std.specs.Prelude.{◌≡◌, ◌+◌, ◌<◌, ◌≤◌, ◌∷◌, [], true, Some, IfSome, IfNone, IfOk};
+ghost use Rattle.std.specs.Prelude.{◌≡◌, ◌+◌, ◌<◌, ◌≤◌, ◌∷◌, ◌++◌, [], true, Some, IfSome, IfNone};
+ghost use Rattle.std.specs.Prelude.{IfOk};
 ghost use Rattle.std.specs.Prelude.{length, slice_get, slice_set};
 ghost use mathlib.Core.Option.{some};
 ghost use lib.ListN.{get_elem?};
 ghost use Rattle.td_board.specs.declared.views.RowView.TheVariants.{In, Out, Known};
+ghost use Rattle.td_board.specs.declared.views.DeskTry.TheVariants.{WithdrawalWon, SettleDone};
+ghost use Rattle.td_board.specs.declared.views.DeskTry.TheVariants.{SettleEarly};
 ghost use Rattle.td_board.specs.declared.views.Hand.TheVariants.{Holding};
 ghost use Rattle.td_rows.specs.Table.{keys_of};
 ghost use Rattle.td_rows.specs.declared.key.Key.{Key as KeyValue};
@@ -44,7 +47,8 @@ impl<'a> Inner<'a> {
         requires out { get_elem? self.old.view row ≡ some Out }
         requires key { Claimable self.old row claim }
         requires room { HasOne claim self.old.books }
-        ensures none { IfNone result (self.new ≡ self.old) }
+        ensures none { IfNone result (self.new
+            ≡ record self.old { tries = self.old.tries ++ WithdrawalWon row ∷ [] }) }
         ensures noted { IfSome result (λ by. LostTo by self.old self.new row claim) }
     {
         match self.take_back(board, row, claim) {
@@ -98,13 +102,16 @@ impl<'a> Inner<'a> {
         requires at { (was : RowValue)
             × (slice_get (rows_of self.old.books.history) row ≡ Some (told.key, was))
             × (is_building_by told.by was.state ≡ true) }
-        ensures none { IfNone result (self.new ≡ self.old) }
+        ensures none { IfNone result (self.new
+            ≡ record self.old { tries = self.old.tries ++ SettleEarly row code ∷ [] }) }
         ensures number { IfSome result (λ n. n ≡ length self.old.books.history.journal + 1) }
         ensures history { IfSome result (λ n.
             self.new.books.history
             ≡ with_entry self.old.books.history
             (record { kind = Kind.Outcome told.by told.ended; keys = told.key ∷ [] })) }
         ensures view { IfSome result (λ n. self.new.view ≡ slice_set self.old.view row In) }
+        ensures tries { IfSome result (λ n.
+            self.new.tries ≡ self.old.tries ++ SettleDone row code ∷ []) }
         ensures stays { Stays self.old self.new }
     {
         let _rows = self.books.rows();
@@ -134,12 +141,15 @@ impl<'a> Inner<'a> {
         requires code { code ≡ code_of (ended_in plan.kind) }
         requires room { HasOne offered.now self.old.books }
         requires rest { self.old.view ≡ seen_off [] (rows_of self.old.books.history) }
-        ensures none { IfNone result (self.new ≡ self.old) }
+        ensures none { IfNone result (self.new
+            ≡ record self.old { tries = self.old.tries ++ SettleEarly row code ∷ [] }) }
         ensures number { IfSome result (λ n. n ≡ length self.old.books.history.journal + 1) }
         ensures history { IfSome result (λ n.
             self.new.books.history
             ≡ with_entry self.old.books.history (record { kind = plan.kind; keys = offered.now })) }
         ensures rest { self.new.view ≡ seen_off [] (rows_of self.new.books.history) }
+        ensures tries { IfSome result (λ n.
+            self.new.tries ≡ self.old.tries ++ SettleDone row code ∷ []) }
         ensures stays { Stays self.old self.new }
     {
         let _rows = self.books.rows();
@@ -159,6 +169,7 @@ impl<'a> Inner<'a> {
         requires { row < length (rows_of self.old.books.history) }
         ensures history { self.new.books.history ≡ self.old.books.history }
         ensures view { self.new.view ≡ self.old.view }
+        ensures tries { self.new.tries ≡ self.old.tries }
         ensures stays { Stays self.old self.new }
         ensures ending { IfOk result (IsEndingAt row builder self.new.books.history) }
         ensures kind { IfOk result (λ ending. ending.plan.kind ≡ Kind.Outcome builder outcome) }

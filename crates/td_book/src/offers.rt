@@ -5,9 +5,10 @@ ghost use mathlib.Core.Option.{some};
 ghost use lib.ListN.{get_elem?};
 ghost use Rattle.td_board.specs.declared.views.RowView.TheVariants.{In, Out, Seen, Known};
 ghost use Rattle.td_board.specs.declared.views.Deed.TheVariants as deed;
+ghost use Rattle.td_board.specs.declared.views.DeskTry.TheVariants.{SettleDone, SettleEarly};
 ghost use Rattle.td_board.specs.Limits.{max_rows};
 ghost use Rattle.td_board.specs.Seats.{rows_of};
-ghost use Rattle.td_board.specs.Knowledge.{with_row, with_deed, holder_at};
+ghost use Rattle.td_board.specs.Knowledge.{with_row, with_deed, desk_tried, holder_at};
 ghost use Rattle.td_board.specs.Answers.{Withdraws};
 ghost use Rattle.td_book.specs.inner.OutRows.{is_out_no, is_any_out as is_any_out_in, outs_of};
 
@@ -122,7 +123,7 @@ impl Offers {
     }
 
     /// Closes a row that is Known, and notes the outcome, where its build ended with this one.
-    /// False where it didn't.
+    /// False where that was tried and it hadn't.
     pub fn settle(&mut self, board: &Board, row: usize, outcome: OutcomeCode) -> bool
         requires table { board.now.table ≡ self.old.table }
         requires row { (b : ℕ) × (get_elem? self.old.desk.rows row ≡ some (Known b)) }
@@ -130,8 +131,9 @@ impl Offers {
             let closed = with_row row In self.old.desk in
             let settled = with_deed builder (deed.Finish row outcome) closed in
             MatchBool result
-            (self.new ≡ record self.old { desk = settled })
-            (self.new ≡ self.old) }
+            (self.new ≡ record self.old { desk = desk_tried (SettleDone row outcome) settled })
+            (self.new
+            ≡ record self.old { desk = desk_tried (SettleEarly row outcome) self.old.desk }) }
     {
         board.settle(&mut self.seat, row, outcome)
     }

@@ -1,5 +1,5 @@
 //! The opening of a book.
-ghost use Rattle.std.specs.Prelude.{◌≡◌, IfOk, length};
+ghost use Rattle.std.specs.Prelude.{◌≡◌, [], IfOk, length};
 ghost use Rattle.td_board.specs.Knowledge.{new_desk};
 ghost use Rattle.td_supply.specs.Supply.{opened as opened_stock, stock_of};
 ghost use Rattle.td_core.specs.History.{opened, rows_of};
@@ -39,6 +39,7 @@ impl<'a> Book<'a> {
                 since = 0;
                 watch = no_watch;
               };
+              tries = [];
             }) }
     {
         let offers = match Offers::new(alloc, desk) {

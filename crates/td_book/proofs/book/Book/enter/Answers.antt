@@ -67,5 +67,6 @@ returns c =
     (commanded c.args.kind c.args.named.now c.args.matched.items
     (left_of c.args.kind c.args.doubts.items) a c.claims.new.self w d e c.in-Ok.plan
     (seen_off [] (rows_of d.books.history)) c.left-skips.result c.answer.result planned
-    c.claims.ensures.history c.claims.ensures.stays done c.commit-entry.ensures.history
-    c.commit-entry.ensures.stays c.offer_each.ensures skips told)
+    c.claims.ensures.history c.claims.ensures.tries c.claims.ensures.stays done
+    c.commit-entry.ensures.history c.commit-entry.ensures.tries c.commit-entry.ensures.stays
+    c.offer_each.ensures skips told)

@@ -1,9 +1,13 @@
 -- `Book::finish_again`: what it answers and the call of `close`.
-use Rattle.std.proofs.Common.{◌≡◌, ◌+◌, List, length, slice_get, ap, refl, sym, ◌∙◌, rules}
+use Rattle.std.proofs.Common.{◌≡◌, ◌≢◌, ◌+◌, List, [], ◌∷◌, ◌++◌, length, slice_get, ap, refl, sym}
+use Rattle.std.proofs.Common.{◌∙◌, rules, inl, inr, append-nil}
+use Rattle.td_board.specs.declared.views.DeskTry.{DeskTry}
+use Rattle.td_board.specs.declared.views.DeskTry.TheVariants.{SettleDone, SettleEarly}
 use Rattle.td_rows.specs.declared.key.Key.{Key}
 use Rattle.td_rows.specs.Table.{keys_of}
 use Rattle.td_core.specs.History.{History, with_entry}
 use Rattle.td_core.proofs.Phases.{keys_of-rows_of}
+use Rattle.td_book.specs.Deeds.{code_of}
 use Rattle.td_book.specs.Desk.{BookModel, book_of}
 use Rattle.td_book.proofs.Ends.{built_there}
 use Rattle.td_book.proofs.Steps.{stays_more, stays_fixed}
@@ -17,7 +21,11 @@ returns-then-not-has_build c =
 pub returns-then-ne : goal.returns-then-ne
 returns-then-ne c =
     let r = c.has_build.ensures in
-    ((r.0, r.1, r.2 ∙ c.if-not-has_build.false), refl)
+    let other : code_of c.args.outcome ≢ c.args.code = search rules in
+    let old = c.args.self.now in (
+      (r.0, r.1, r.2 ∙ c.if-not-has_build.false),
+      ([], (λ j. record old { tries = sym (append-nil old.tries) j }), inl (other, refl)),
+    )
 
 pub close-requires-clause-built : goal.close-requires-clause-built
 close-requires-clause-built c = λ k there.
@@ -38,8 +46,12 @@ returns-in-Some c =
     let at = ap (λ (g : History). slice_get (keys_of g.opening) i) (sym same)
     ∙ ap (λ (ks : List Key). slice_get ks i)
     (sym (keys_of-rows_of c.prepare.new.self.books.history))
-    ∙ e.at in (
-      search rules,
+    ∙ e.at in
+    let code : code_of c.args.outcome ≡ c.args.code = search rules in
+    let tries : c.close.new.self.tries ≡ c.self.inside.inner.tries ++ SettleDone i c.args.code ∷ [] =
+    c.in-Some.ensures.tries
+    ∙ ap (λ (l : List DeskTry). l ++ SettleDone i c.args.code ∷ []) c.prepare.ensures.tries in (
+      code,
       record {
         key = e.key;
         at = at;
@@ -52,6 +64,9 @@ returns-in-Some c =
               keys = (c.as_slice.ensures.keys ∙ e.offered_is) j;
             }));
         number = c.in-Some.ensures.number ∙ ap (λ (x : History). length x.journal + 1) same;
+        tries = tries
+            ∙ (λ j. (ap (λ (m : BookModel). m.tries) c.self.view_is) j
+            ++ SettleDone i (sym code j) ∷ []);
         fixed = stays_fixed c.self.inside.inner c.close.new.self
             (stays_more c.self.inside.inner c.prepare.new.self c.close.new.self
             c.prepare.ensures.stays c.in-Some.ensures.stays)
@@ -63,11 +78,19 @@ pub returns : goal.returns
 returns c =
     let a = c.self.inside.inner in
     let r = c.has_build.ensures in
+    let code : code_of c.args.outcome ≡ c.args.code = search rules in
+    let settling = SettleEarly c.args.row c.args.code ∷ [] in
+    let tried : BookModel → BookModel = λ m. record m { tries = m.tries ++ settling } in
     let unchanged : book_of c.prepare.new.self ≡ book_of a =
     λ j. record {
       history = c.prepare.ensures.history j;
       fixed = stays_fixed a c.prepare.new.self c.prepare.ensures.stays j;
+      tries = c.prepare.ensures.tries j;
     } in (
       (r.0, r.1, r.2 ∙ c.if-not-has_build.false),
-      ap book_of c.in-None.ensures.none ∙ unchanged ∙ c.self.view_is,
+      (
+        settling,
+        ap book_of c.in-None.ensures.none ∙ ap tried (unchanged ∙ c.self.view_is),
+        inr (code, refl),
+      ),
     )

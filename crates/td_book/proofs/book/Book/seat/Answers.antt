@@ -13,5 +13,6 @@ returns c =
       rows = rows;
       served = served _ _ rows;
       noted = c.seat.ensures.noted;
+      tries = c.seat.ensures.tries;
     } in
     subst (IsAtRest c.seat.result.now) c.self.view_is now

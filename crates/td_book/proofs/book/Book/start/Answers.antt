@@ -1,5 +1,5 @@
 -- `Book::start`: what it answers and the call of `job`.
-use Rattle.std.proofs.Common.{◌≡◌, ℕ, Ok, Err, Result, ap, sym, subst}
+use Rattle.std.proofs.Common.{◌≡◌, ℕ, [], Ok, Err, Result, ap, sym, subst, append-nil}
 use Rattle.td_board.specs.declared.views.Hand.{Hand}
 use Rattle.td_board.specs.declared.views.Hand.TheVariants.{Holding}
 use Rattle.td_rows.specs.declared.key.Key.{Key}
@@ -35,9 +35,10 @@ returns c =
     subst (λ (x : ℕ). Knows x job.key c.know.result c.claim.new.self n) c.number.ensures.number
     (subst (λ (k : Key). Knows c.number.result k c.know.result c.claim.new.self n) key
     c.know.ensures) in
-    let told : Noticed i number c.know.result (book_of a) (book_of n) =
-    noticed i number job.key c.know.result a c.claim.new.self n knows c.claim.ensures.history
-    c.claim.ensures.stays at in
+    let told : Noticed i number c.know.result [] (book_of a) (book_of n) =
+    noticed i number job.key c.know.result [] a c.claim.new.self n n.tries knows
+    c.claim.ensures.history c.claim.ensures.tries c.claim.ensures.stays at
+    (sym (append-nil n.tries)) in
     let all : (r : Result Job StartRefusal)
     → StartOutcome number (Holding i) (book_of a) (book_of n) r → c.if-know.result ≡ r
     → StartOutcome number c.args.seat.now.builder.hand c.args.self.now
@@ -51,10 +52,10 @@ returns c =
     elim c.if-know.branch [
       | then-know w ↦
           all (Ok job) (
-            subst (λ v. Noticed i number v (book_of a) (book_of n)) w.if-know.true told,
+            subst (λ v. Noticed i number v [] (book_of a) (book_of n)) w.if-know.true told,
             is_job,
           ) w.result-is
       | else-know w ↦
-          all (Err Mismatch) (subst (λ v. Noticed i number v (book_of a) (book_of n))
+          all (Err Mismatch) (subst (λ v. Noticed i number v [] (book_of a) (book_of n))
           w.if-know.false told) w.result-is
     ]

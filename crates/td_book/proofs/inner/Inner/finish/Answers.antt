@@ -1,9 +1,12 @@
 -- `Inner::finish`: the clauses `none` and `some` and the calls of `know` and `close`.
 use Rattle.std.proofs.Common.{◌≡◌, ℕ, ◌∷◌, List, [], Some, true, IfSome, slice_get, ap, refl, sym}
-use Rattle.std.proofs.Common.{subst, ◌∙◌, arith, rules}
+use Rattle.std.proofs.Common.{subst, ◌∙◌, arith, rules, inl, inr, [], ◌++◌}
 use Rattle.std.proofs.lemmas.Option.{same_Some}
 use Rattle.td_rows.specs.declared.key.Key.{Key}
-use Rattle.td_board.specs.Knowledge.{with_finish}
+use Rattle.td_board.specs.declared.outcome.OutcomeCode.{OutcomeCode}
+use Rattle.td_board.specs.declared.views.DeskTry.TheVariants.{SettleDone}
+use Rattle.td_board.specs.declared.views.BuilderTry.TheVariants.{FinishEarly}
+use Rattle.td_board.specs.Knowledge.{with_finish, builder_tried}
 use Rattle.td_rows.specs.declared.kind.Kind.{Kind}
 use Rattle.td_rows.specs.declared.kind.Kind.TheVariants.{Outcome as Ended}
 use Rattle.td_change.proofs.Plans.{plan_of-same_keys}
@@ -86,14 +89,21 @@ returns-then-not-know-clause-none c =
     let v = c.args.seat.now.builder in
     unended_kept c.args.row v.number _ (ended_in c.args.ending.plan.kind) v v c.args.self.now
     c.know.new.self c.args.ending c.know.result c.requires.ending c.number-number.ensures.number
-    c.know.ensures refl
+    c.know.ensures (inl (c.if-not-know.true, refl, refl))
 
 pub returns-then-not-finish-clause-none : goal.returns-then-not-finish-clause-none
 returns-then-not-finish-clause-none c =
     let v = c.args.seat.now.builder in
+    let early : c.finish.new.seat.builder ≡ builder_tried (FinishEarly c.args.row c.args.code) v =
+    search rules in
     unended_kept c.args.row v.number _ (ended_in c.args.ending.plan.kind) v
     c.finish.new.seat.builder c.args.self.now c.know.new.self c.args.ending c.know.result
-    c.requires.ending c.number-number.ensures.number c.know.ensures (search rules)
+    c.requires.ending c.number-number.ensures.number c.know.ensures
+    (inr (inl (
+      c.if-not-know.false,
+      refl,
+      early ∙ ap (λ (x : OutcomeCode). builder_tried (FinishEarly c.args.row x) v) c.requires.code,
+    )))
 
 pub returns-clause-some : goal.returns-clause-some
 returns-clause-some c =
@@ -116,6 +126,9 @@ returns-clause-some c =
     (c.as_slice.ensures.keys ∙ e.offered_is) c.close.ensures.history) in
     ended_some i (ended_in kind) v c.finish.new.seat.builder a m z e.key c.close.result e.at knows
     (hand ∙ ap (λ x. with_finish i x v) c.requires.code) c.close.ensures.number history
+    (subst (λ (x : OutcomeCode).
+    IfSome c.close.result (λ n. z.tries ≡ m.tries ++ SettleDone i x ∷ [])) c.requires.code
+    c.close.ensures.tries)
 
 pub returns-clause-none : goal.returns-clause-none
 returns-clause-none c =
@@ -128,5 +141,5 @@ returns-clause-none c =
     c.requires.ending.claim c.number-number.ensures.number c.if-not-know.false c.know.ensures in
     let hand : c.finish.new.seat.builder ≡ with_finish i c.args.code v = search rules in
     ended_none i (ended_in c.args.ending.plan.kind) v c.finish.new.seat.builder a m c.close.new.self
-    e.key c.close.result e.at knows (hand ∙ ap (λ x. with_finish i x v) c.requires.code)
-    c.close.ensures.none
+    e.key c.args.code c.close.result e.at knows
+    (hand ∙ ap (λ x. with_finish i x v) c.requires.code) c.requires.code c.close.ensures.none
