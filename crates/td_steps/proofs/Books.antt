@@ -9,6 +9,7 @@ use Rattle.std.proofs.lemmas.Bool.{or_parts}
 use Rattle.td_board.specs.declared.views.Hand.{Hand}
 use Rattle.td_board.specs.declared.views.Hand.TheVariants.{Free, Holding, Finished}
 use Rattle.td_board.specs.declared.views.BuilderView.{BuilderView}
+use Rattle.td_board.specs.declared.views.DeskTry.{DeskTry}
 use Rattle.td_rows.specs.declared.key.Key.{Key}
 use Rattle.td_rows.specs.declared.kind.Kind.TheVariants as kinds
 use Rattle.td_rows.specs.declared.outcome.Outcome.{Outcome}
@@ -176,7 +177,8 @@ undo-keeps None n old new (Err undos.NoSuchEntry) a = absurd a.outcome
 undo-keeps None n old new (Err undos.NotACommand) a = absurd a.outcome
 undo-keeps None n old new (Err undos.AlreadyUndone) a = absurd a.outcome
 
-noticed-keeps : (i b : ℕ) (is : Bool) (old new : BookModel) → Noticed i b is old new → Keeps old new
+noticed-keeps : {tries : List DeskTry} (i b : ℕ) (is : Bool) (old new : BookModel)
+    → Noticed i b is tries old new → Keeps old new
 noticed-keeps i b is old new o =
     keeps old new (grows-to old.history (noting_one old.history o.key o.by) new.history
     (grows-one old.history o.key o.by) o.history) o.fixed
@@ -200,7 +202,7 @@ finish-keeps (Holding i) o v u old new (Ok n) is =
     (grows-then old.history mid (with_entry mid e) (grows-one old.history f.key f.by)
     (grows-entry mid e)) f.history) f.fixed
 finish-keeps (Holding i) o v u old new (Err finishes.Mismatch) is =
-    noticed-keeps i v.number is.0 old new is.1
+    noticed-keeps i v.number is.0 old new is.2
 finish-keeps (Holding i) o v u old new (Err finishes.NothingHeld) is = absurd is
 finish-keeps (Holding i) o v u old new (Err finishes.NoMemory) is = stays old new is.0
 finish-keeps (Finished i c) o v u old new (Ok n) is =
@@ -208,7 +210,10 @@ finish-keeps (Finished i c) o v u old new (Ok n) is =
     let e : Entry = record { kind = kinds.Outcome v.number o; keys = s.key ∷ [] } in
     keeps old new (grows-to old.history (with_entry old.history e) new.history
     (grows-entry old.history e) s.history) s.fixed
-finish-keeps (Finished i c) o v u old new (Err finishes.Mismatch) is = stays old new is.0.1
+finish-keeps (Finished i c) o v u old new (Err finishes.Mismatch) is =
+    keeps old new
+    (grows-none old.history new.history (ap (λ (b : BookModel). b.history) is.0.1.1))
+    (ap (λ (b : BookModel). b.fixed) is.0.1.1)
 finish-keeps (Finished i c) o v u old new (Err finishes.NothingHeld) is = stays old new is.0.1
 finish-keeps (Finished i c) o v u old new (Err finishes.NoMemory) is = stays old new is.0.1
 finish-keeps Free o v u old new (Ok n) is = stays old new is.1
@@ -307,7 +312,7 @@ watched_stay (c ∷ calls) old new none d =
 pub rows_are_replayed : RowsAreReplayed
 rows_are_replayed t fixed calls new d =
     ap (λ (o : Table). replay o (standing new.history.journal))
-    (entries_stay calls (record { history = opened t; fixed = fixed }) new d).opening
+    (entries_stay calls (record { history = opened t; fixed = fixed; tries = [] }) new d).opening
 
 -- ---- 4. undos
 

@@ -20,6 +20,7 @@ use Rattle.td_core.proofs.Worlds.{rows_of-with_entry}
 use Rattle.td_book.specs.Calls.{noting_one}
 use Rattle.td_book.specs.Desk.{BookModel}
 use Rattle.td_book.specs.Seen.{seen_off}
+use Rattle.td_board.specs.declared.views.DeskTry.{DeskTry}
 use Rattle.td_book.specs.Building.{Noticed, is_built_at}
 use Rattle.td_book.specs.declared.starting.StartRefusal.TheVariants as starts
 use Rattle.td_book.specs.declared.finishing.FinishRefusal.TheVariants as finishes
@@ -32,7 +33,7 @@ use Rattle.td_steps.specs.Runs.{LeadsOn}
 use Rattle.td_steps.specs.Parts.{withdrawing, offering, Tells}
 use Rattle.td_steps.proofs.Parts.{Leads, leads-then, leads-one, leads-on, tells-at, desk_off}
 use Rattle.td_steps.proofs.Parts.{view-of-row, row-at, withdrawing-all, offering-all, apart-none}
-use Rattle.td_steps.proofs.Parts.{book-is, up-seen, idle-on}
+use Rattle.td_steps.proofs.Parts.{book-is, up-seen, idle-on, idle-tried}
 use Rattle.td_book.specs.Finishing.{Finishes, Settles}
 use Rattle.td_steps.specs.Builds.{notice_moves, Notices, StartsAreSteps, settle_moves, Ends}
 use Rattle.td_steps.specs.Builds.{SettlesAt, FinishesAreSteps}
@@ -51,7 +52,7 @@ notice-leads h st n by k up =
     (ap (λ (t : Table). ascending (keys_of t)) (noting_one-opening h k by) ∙ up) (k ∷ []) refl)
 
 module _ (w : WorldView) (old new : BookModel) (sees : Sees w (resting old)) where
-  noticed-on : (i b : ℕ) (is : Bool) → (o : Noticed i b is old new)
+  noticed-on : {tries : List DeskTry} (i b : ℕ) (is : Bool) → (o : Noticed i b is tries old new)
       → LeadsOn w (resting old) (notice_moves o.key o.by old.history) (resting new)
   noticed-on i b is o =
       leads-on w (resting old) (resting new) (notice_moves o.key o.by old.history) sees
@@ -59,7 +60,7 @@ module _ (w : WorldView) (old new : BookModel) (sees : Sees w (resting old)) whe
       (book-is old new (noting_one old.history o.key o.by) o.history o.fixed)
       (notice-leads old.history old.fixed.stock old.fixed.builders o.by o.key (up-seen w old sees)))
 
-  noticed : (i b : ℕ) (is : Bool) → Noticed i b is old new
+  noticed : {tries : List DeskTry} (i b : ℕ) (is : Bool) → Noticed i b is tries old new
       → (moves : List Move) × Notices i old moves × LeadsOn w (resting old) moves (resting new)
   noticed i b is o = (
     notice_moves o.key o.by old.history,
@@ -174,14 +175,14 @@ pub finishes_are_steps : FinishesAreSteps
 finishes_are_steps w (Holding i) o v u old new (Ok n) sees is =
     ended w old new sees i v.number n o is.0
 finishes_are_steps w (Holding i) o v u old new (Err finishes.Mismatch) sees is =
-    noticed w old new sees i v.number is.0 is.1
+    noticed w old new sees i v.number is.0 is.2
 finishes_are_steps w (Holding i) o v u old new (Err finishes.NothingHeld) sees is = absurd is
 finishes_are_steps w (Holding i) o v u old new (Err finishes.NoMemory) sees is =
     ([], refl, idle-on w old new sees is.0)
 finishes_are_steps w (Finished i c) o v u old new (Ok n) sees is =
     settled w old new sees i v.number n o is.0.1
 finishes_are_steps w (Finished i c) o v u old new (Err finishes.Mismatch) sees is =
-    ([], refl, idle-on w old new sees is.0.1)
+    ([], refl, idle-tried w old new sees (ap resting is.0.1.1))
 finishes_are_steps w (Finished i c) o v u old new (Err finishes.NothingHeld) sees is =
     ([], refl, idle-on w old new sees is.0.1)
 finishes_are_steps w (Finished i c) o v u old new (Err finishes.NoMemory) sees is =

@@ -40,5 +40,5 @@ calls_are_steps w (c ∷ calls) old new sees d =
 
 pub books_are_steps : BooksAreSteps
 books_are_steps t fixed calls new up none d v runs =
-    calls_are_steps v calls (record { history = opened t; fixed = fixed }) new
+    calls_are_steps v calls (record { history = opened t; fixed = fixed; tries = [] }) new
     ((openings_are_steps t fixed up none).leads v runs).1 d

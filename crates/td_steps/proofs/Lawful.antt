@@ -3,6 +3,7 @@ use Rattle.std.proofs.Common.{◌≡◌, ℕ, Bool, true, false, ◌&&◌, List,
 use Rattle.std.proofs.Common.{None, Result, Ok, Err, if◌then◌else◌, ap, refl, sym, subst}
 use Rattle.std.specs.Prelude.{IsSomeAnd}
 use Rattle.td_board.specs.declared.views.BuilderView.{BuilderView}
+use Rattle.td_board.specs.declared.views.DeskTry.{DeskTry}
 use Rattle.td_board.specs.declared.views.Hand.{Hand}
 use Rattle.td_board.specs.declared.views.Hand.TheVariants.{Free, Holding, Finished}
 use Rattle.td_rows.specs.declared.key.Key.{Key}
@@ -149,7 +150,8 @@ undo-sound None n old new (Err undos.NoSuchEntry) is a s = absurd a.outcome
 undo-sound None n old new (Err undos.NotACommand) is a s = absurd a.outcome
 undo-sound None n old new (Err undos.AlreadyUndone) is a s = absurd a.outcome
 
-noticed-sound : (i b : ℕ) (is : Bool) (old new : BookModel) → Noticed i b is old new
+noticed-sound : {tries : List DeskTry} (i b : ℕ) (is : Bool) (old new : BookModel)
+    → Noticed i b is tries old new
     → Sound old.history → Sound new.history
 noticed-sound i b is old new o s =
     sound-to (noting_one old.history o.key o.by) new.history (sound-one old.history o.key o.by s)
@@ -174,7 +176,7 @@ finish-sound (Holding i) o v u old new (Ok n) is s =
     new.history (sound-ended mid f.key v.number o f.built (sound-one old.history f.key f.by s))
     f.history
 finish-sound (Holding i) o v u old new (Err finishes.Mismatch) is s =
-    noticed-sound i v.number is.0 old new is.1 s
+    noticed-sound i v.number is.0 old new is.2 s
 finish-sound (Holding i) o v u old new (Err finishes.NothingHeld) is s = absurd is
 finish-sound (Holding i) o v u old new (Err finishes.NoMemory) is s = same-book old new s is.0
 finish-sound (Finished i c) o v u old new (Ok n) is s =
@@ -182,7 +184,8 @@ finish-sound (Finished i c) o v u old new (Ok n) is s =
     sound-to (with_entry old.history
     (record { kind = kinds.Outcome v.number o; keys = f.key ∷ [] })) new.history
     (sound-ended old.history f.key v.number o f.built s) f.history
-finish-sound (Finished i c) o v u old new (Err finishes.Mismatch) is s = same-book old new s is.0.1
+finish-sound (Finished i c) o v u old new (Err finishes.Mismatch) is s =
+    sound-to old.history new.history s (ap (λ (b : BookModel). b.history) is.0.1.1)
 finish-sound (Finished i c) o v u old new (Err finishes.NothingHeld) is s =
     same-book old new s is.0.1
 finish-sound (Finished i c) o v u old new (Err finishes.NoMemory) is s = same-book old new s is.0.1
@@ -233,5 +236,5 @@ all-sound (c ∷ calls) old new d s = all-sound calls d.0 new d.2 (does-sound c 
 
 pub entries_are_lawful : EntriesAreLawful
 entries_are_lawful t fixed calls new up d =
-    (all-sound calls (record { history = opened t; fixed = fixed }) new d
+    (all-sound calls (record { history = opened t; fixed = fixed; tries = [] }) new d
     (record { up = up; lawful = tt })).lawful

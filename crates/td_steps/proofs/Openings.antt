@@ -1,5 +1,5 @@
 -- The moves of an opening lead to the book at rest.
-use Rattle.std.proofs.Common.{◌≡◌, ℕ, List, length, replicate, ap, refl, sym, subst, ◌∙◌}
+use Rattle.std.proofs.Common.{◌≡◌, ℕ, List, [], length, replicate, ap, refl, sym, subst, ◌∙◌}
 use Rattle.std.proofs.lemmas.List.{length-replicate}
 use Rattle.td_board.specs.declared.views.RowView.{RowView}
 use Rattle.td_board.specs.declared.views.RowView.TheVariants as views
@@ -60,7 +60,7 @@ first-seen h s n may = record {
 pub histories_open : HistoriesOpen
 histories_open h fixed may =
     let first = desk_from h fixed.stock fixed.builders in
-    let b : BookModel = record { history = h; fixed = fixed } in
+    let b : BookModel = record { history = h; fixed = fixed; tries = [] } in
     let sees = first-seen h fixed.stock fixed.builders may in
     let ks = keys_of (rows_of h) in
     let rise = up_now h may.rising in
@@ -88,6 +88,6 @@ openings_are_steps t fixed up none =
       sees = o.sees;
       leads = subst (λ (u : Table).
           LeadsOn (world_of t fixed.stock fixed.builders) (first_desk t fixed.stock fixed.builders)
-          (offering u (keys_of u)) (resting (record { history = opened t; fixed = fixed }))) same
+          (offering u (keys_of u)) (resting (record { history = opened t; fixed = fixed; tries = [] }))) same
           o.leads;
     }

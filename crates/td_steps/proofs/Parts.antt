@@ -333,12 +333,20 @@ winning-all h st n done (k ∷ ks) up rise apart =
 -- a book whose history is told, and of which nothing else changed
 pub book-is : (old new : BookModel) (h : History) → new.history ≡ h → new.fixed ≡ old.fixed
     → desk_off h old.fixed.stock old.fixed.builders [] ≡ resting new
-book-is old new h now same = λ j. resting (record { history = sym now j; fixed = sym same j })
+book-is old new h now same =
+    λ j. resting (record { history = sym now j; fixed = sym same j; tries = new.tries })
 
 pub up-seen : (w : WorldView) (old : BookModel) → Sees w (resting old)
     → ascending (keys_of old.history.opening) ≡ true
 up-seen w old sees =
     ap (λ (h : History). ascending (keys_of h.opening)) (sym sees.history) ∙ sees.sound.rising
+
+-- no move, and nothing changed but what was tried
+pub idle-tried : (w : WorldView) (old new : BookModel) → Sees w (resting old)
+    → resting new ≡ resting old → LeadsOn w (resting old) [] (resting new)
+idle-tried w old new sees same =
+    leads-on w (resting old) (resting new) [] sees
+    (leads-none (resting old) (resting new) (sym same))
 
 -- no move, and nothing changed
 pub idle-on : (w : WorldView) (old new : BookModel) → Sees w (resting old) → new ≡ old

@@ -23,6 +23,7 @@ still-rests seat b w rest =
       rows = rest.rows;
       served = rest.served;
       noted = rest.noted;
+      tries = rest.tries;
     }
 
 refused : (old new : BookModel) (r : WatchRefusal) → new ≡ old → IsAside old new (Err r)

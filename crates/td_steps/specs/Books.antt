@@ -94,14 +94,14 @@ WatchedStay =
 abbrev pub RowsAreReplayed : Type 0
 RowsAreReplayed =
     (t : Table) (fixed : Fixed) (calls : List Call) (new : BookModel)
-    → DoAll calls (record { history = opened t; fixed = fixed }) new
+    → DoAll calls (record { history = opened t; fixed = fixed; tries = [] }) new
     → rows_of new.history ≡ replay t (standing new.history.journal)
 
 -- and each of the standing entries applies on the rows that those before it left
 abbrev pub EntriesAreLawful : Type 0
 EntriesAreLawful =
     (t : Table) (fixed : Fixed) (calls : List Call) (new : BookModel) → ascending (keys_of t) ≡ true
-    → DoAll calls (record { history = opened t; fixed = fixed }) new
+    → DoAll calls (record { history = opened t; fixed = fixed; tries = [] }) new
     → Lawful new.history.opening (standing new.history.journal)
 
 -- the command's entry stood behind the claims of builders that it had found, and now every row is

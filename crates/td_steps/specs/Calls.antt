@@ -50,6 +50,6 @@ CallsAreSteps =
 abbrev pub BooksAreSteps : Type 0
 BooksAreSteps =
     (t : Table) (fixed : Fixed) (calls : List Call) (new : BookModel) → ascending (keys_of t) ≡ true
-    → NoneBuilt t → DoAll calls (record { history = opened t; fixed = fixed }) new →
+    → NoneBuilt t → DoAll calls (record { history = opened t; fixed = fixed; tries = [] }) new →
     (v : WorldView) → Runs (world_of t fixed.stock fixed.builders) (offering t (keys_of t)) v
-    → CallsLead v calls (record { history = opened t; fixed = fixed }) new
+    → CallsLead v calls (record { history = opened t; fixed = fixed; tries = [] }) new

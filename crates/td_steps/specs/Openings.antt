@@ -1,5 +1,5 @@
 -- The moves of an opening. This project's own.
-use Rattle.std.specs.Prelude.{◌≡◌, ℕ, true, length, replicate}
+use Rattle.std.specs.Prelude.{◌≡◌, ℕ, true, [], length, replicate}
 use Rattle.td_board.specs.Knowledge.{new_desk}
 use Rattle.td_rows.specs.Keys.{ascending}
 use Rattle.td_rows.specs.Table.{Table, keys_of}
@@ -33,7 +33,7 @@ pub record OpensSo (t : Table) (fixed : Fixed) : Type 0 where
   pub sees : Sees (world_of t fixed.stock fixed.builders) (first_desk t fixed.stock fixed.builders)
   pub leads : LeadsOn (world_of t fixed.stock fixed.builders)
       (first_desk t fixed.stock fixed.builders) (offering t (keys_of t))
-      (resting (record { history = opened t; fixed = fixed }))
+      (resting (record { history = opened t; fixed = fixed; tries = [] }))
 
 -- every table of rows in order, none of which is built, opens so
 abbrev pub OpeningsAreSteps : Type 0
@@ -74,7 +74,7 @@ pub record OpensWith (h : History) (fixed : Fixed) : Type 0 where
   pub sees : Sees (world_from h fixed.stock fixed.builders) (desk_from h fixed.stock fixed.builders)
   pub leads : LeadsOn (world_from h fixed.stock fixed.builders)
       (desk_from h fixed.stock fixed.builders) (offering (rows_of h) (keys_of (rows_of h)))
-      (resting (record { history = h; fixed = fixed }))
+      (resting (record { history = h; fixed = fixed; tries = [] }))
 
 -- every such history opens so; that before the first entry is one of them
 abbrev pub HistoriesOpen : Type 0
