@@ -3,7 +3,8 @@ use Rattle.std.specs.Prelude.{◌≡◌, ◌≢◌, ℕ}
 use Rattle.td_board.specs.declared.outcome.OutcomeCode.{OutcomeCode}
 use Rattle.td_board.specs.declared.views.Hand.TheVariants.{Holding}
 use Rattle.td_board.specs.Seats.{BuilderModel}
-use Rattle.td_board.specs.Knowledge.{with_finish}
+use Rattle.td_board.specs.declared.views.BuilderTry.TheVariants.{FinishEarly}
+use Rattle.td_board.specs.Knowledge.{with_finish, builder_tried}
 use Rattle.td_book.specs.declared.starting.Job.{Job}
 
 -- the seat holds a row
@@ -17,6 +18,13 @@ IsIdle s = (r : ℕ) → s.builder.hand ≢ Holding r
 -- the seat holds a row, for which the job may be answered
 abbrev pub IsStarted : (ℕ → Job → Type 0) → BuilderModel → Job → Type 0
 IsStarted jobs s job = (r : ℕ) × (s.builder.hand ≡ Holding r) × jobs r job
+
+-- the end of the build of the row in hand was tried with an outcome of this code and came too early,
+-- and nothing else changed
+abbrev pub IsEarly : OutcomeCode → BuilderModel → BuilderModel → Type 0
+IsEarly c old new =
+    (r : ℕ) × (old.builder.hand ≡ Holding r)
+    × (new ≡ record old { builder = builder_tried (FinishEarly r c) old.builder })
 
 -- the build of the row in hand ended with an outcome of this code, and nothing else changed
 abbrev pub IsFinished : OutcomeCode → BuilderModel → BuilderModel → Type 0

@@ -2,7 +2,7 @@
 ghost use Rattle.std.specs.Prelude.{◌≡◌, ℕ, false, ◌⊎◌, IfOk, IfErr, OnOk, OnErr, MatchBool};
 ghost use Rattle.td_board.specs.Answers.{IsWon, IsLost};
 ghost use Rattle.td_book.specs.Deeds.{code_of};
-ghost use Rattle.td_builder.specs.Floors.{IsHolding, IsStarted, IsFinished};
+ghost use Rattle.td_builder.specs.Floors.{IsHolding, IsStarted, IsEarly, IsFinished};
 ghost use Rattle.td_builder.specs.Stops.{start_stop, finish_stop};
 
 use crate::stop::WorkStop;
@@ -56,7 +56,7 @@ pub trait Floor {
         requires { seat.old.table ≡ table self.now }
         ensures { MatchBool result
             (IsWon (rows self.now) row seat.old seat.new)
-            (IsLost seat.old seat.new) };
+            (IsLost (rows self.now) row seat.old seat.new) };
 
     /// Starts the build of the row that the builder holds.
     fn start<R: Wait>(&self, rt: &R, seat: &BuilderSeat) -> Result<Job, StartRefusal>
@@ -76,7 +76,8 @@ pub trait Floor {
         requires hand { IsHolding seat.old }
         ensures ok { OnOk result (IsFinished (code_of outcome) seat.old seat.new) }
         ensures seat { OnErr result
-            ((seat.new ≡ seat.old) ⊎ IsFinished (code_of outcome) seat.old seat.new) }
+            ((seat.new ≡ seat.old) ⊎ IsEarly (code_of outcome) seat.old seat.new
+            ⊎ IsFinished (code_of outcome) seat.old seat.new) }
         ensures err { IfErr result (λ e. stopped self.now (finish_stop e)) };
 
     /// Waits until a row waits for a builder, or the floor is shut. False: it is shut, and none
