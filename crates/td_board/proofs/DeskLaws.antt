@@ -107,8 +107,8 @@ seat_keeps rows phases d views f =
 
 -- an offer, and a withdrawal where no builder was faster: neither phase names a builder
 pub unclaimed_keeps : (rows : ℕ) (phases : List Phase) (d : DeskView) (views : List View) (r : ℕ)
-    (p₀ p₁ : Phase) (x : RowView) (tries : List DeskTry) → builder_of p₀ ≡ 0 → builder_of p₁ ≡ 0 → RowFits x p₁
-    → HandFits views r p₁ → Fits rows phases d views → get_elem? phases r ≡ some p₀
+    (p₀ p₁ : Phase) (x : RowView) (tries : List DeskTry) → builder_of p₀ ≡ 0 → builder_of p₁ ≡ 0
+    → RowFits x p₁ → HandFits views r p₁ → Fits rows phases d views → get_elem? phases r ≡ some p₀
     → let d' : DeskView = record { rows = set d.rows r x; noted = d.noted; tried = tries } in
     Fits rows (set phases r p₁) d' (set views 0 (Desk d'))
 unclaimed_keeps rows phases d views r p₀ p₁ x tries before after row hand f at =
@@ -248,7 +248,8 @@ note_keeps rows phases d views r b f at =
 -- a settling
 pub settling_keeps : (rows : ℕ) (phases : List Phase) (d : DeskView) (views : List View) (r b : ℕ)
     (c : OutcomeCode) → Fits rows phases d views → get_elem? phases r ≡ some (done b c)
-    → let d' : DeskView = desk_tried (SettleDone r c) (with_deed b (Finish r c) (with_row r In d)) in
+    → let d' : DeskView =
+    desk_tried (SettleDone r c) (with_deed b (Finish r c) (with_row r In d)) in
     Fits rows (set phases r closed) d' (set views 0 (Desk d'))
 settling_keeps rows phases d views r b c f at =
     let has = f.each_hand r (done b c) at in

@@ -370,7 +370,8 @@ desk_goes_on_from m n (withdrawal_lost q a u knows _ _ e) d at =
     desk_goes_on_own m n _ u (desk_tried (WithdrawalLost q a) (with_row q (Seen a) u)) d e knows at
     (λ b. same_list (noted_of u b)) (WithdrawalLost q a ∷ [], refl)
 desk_goes_on_from m n (claim_won q a u knows _ _ e) d at = desk_goes_on m n _ a u _ d e knows at
-desk_goes_on_from m n (claim_lost q a p u knows _ _ _ e) d at = desk_goes_on m n _ a u _ d e knows at
+desk_goes_on_from m n (claim_lost q a p u knows _ _ _ e) d at =
+    desk_goes_on m n _ a u _ d e knows at
 desk_goes_on_from m n (note q a u knows _ _ e) d at =
     desk_goes_on_own m n _ u (with_deed a (Claim q) (with_row q (Known a) u)) d e knows at (λ b.
     list_at-longer u.noted (a - 1) (b - 1) (Claim q)) (same_list u.tried)

@@ -59,8 +59,8 @@ Avoids i (noted b) = b ≢ i
 Avoids i (done b c) = b ≢ i
 
 -- another seat's view changes, and the hand stays
-pub hand_stays : (views : List View) (i : ℕ) (w : View) (b : ℕ) (h : Hand) → b ≢ i → HasHand views b h
-    → HasHand (set views i w) b h
+pub hand_stays : (views : List View) (i : ℕ) (w : View) (b : ℕ) (h : Hand) → b ≢ i
+    → HasHand views b h → HasHand (set views i w) b h
 hand_stays views i w b h apart t = (t.0, set_else views i b w apart ∙ t.1, t.2)
 
 -- the same for the hand that a phase names

@@ -93,7 +93,8 @@ SettleTells st m n m' = (r b : ℕ) (c : OutcomeCode) → st.word ≡ r + 1
     → st.first ≡ word_of (done b c)
     → (n ≡ st.first
     → m'
-    ≡ at_desk (desk_tried (SettleDone r c) (with_deed b (Finish r c) (with_row r In (desk_in m.0)))))
+    ≡ at_desk (desk_tried (SettleDone r c)
+    (with_deed b (Finish r c) (with_row r In (desk_in m.0)))))
     × (n ≢ st.first → m' ≡ at_desk (desk_tried (SettleEarly r c) (desk_in m.0)))
 
 -- a release: where the word found isn't Done by this builder any more its hand is free,

@@ -62,7 +62,8 @@ impl Board {
         ensures { let held = seat.old.builder in let row = row_of held.hand in
             MatchBool result
             (seat.new ≡ record seat.old { builder = with_finish row outcome held })
-            (seat.new ≡ record seat.old { builder = builder_tried (FinishEarly row outcome) held }) }
+            (seat.new
+            ≡ record seat.old { builder = builder_tried (FinishEarly row outcome) held }) }
     {
         let Hand::Holding(row) = seat.hand else {
             unreachable!()

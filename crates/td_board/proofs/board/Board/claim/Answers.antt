@@ -12,7 +12,8 @@ pub returns : goal.returns
 returns c =
     let old : BuilderModel = c.args.seat.now in
     let rows : ℕ = c.args.self.now.rows in
-    let hand = c.seat.invariant.1.hand_is ∙ ap (λ (m : BuilderModel). m.builder.hand) c.seat.view_is in
+    let hand = c.seat.invariant.1.hand_is
+    ∙ ap (λ (m : BuilderModel). m.builder.hand) c.seat.view_is in
     elim c.match-seat.branch [
       | in-Finished w ↦
           claims_behind w.release.result c.claim_at_once.result rows c.args.row old

@@ -5,7 +5,8 @@ use Rattle.td_board.specs.Phase.{done, word_of}
 use Rattle.td_board.specs.Knowledge.{with_free_hand, builder_tried, row_of}
 use Rattle.td_board.specs.Tells.{SeatState, builder_in}
 use Rattle.td_board.specs.Seats.{BuilderModel}
-use Rattle.td_board.proofs.SeatKeeps.{builder_use, finished_inside, builder_after, keeps_builder_try}
+use Rattle.td_board.proofs.SeatKeeps.{builder_use, finished_inside, builder_after}
+use Rattle.td_board.proofs.SeatKeeps.{keeps_builder_try}
 use Rattle.td_board.proofs.BuilderMoves.{release_allowed}
 use Rattle.td_board.proofs.board.Board.release.Goals as goal
 
@@ -58,8 +59,8 @@ invariant_of-seat-2 c =
     let word = c.done_word-done.ensures ∙ ap (λ b. word_of (done b outcome)) is.number_is in
     let told = (c.load-found.ensures.2 row outcome refl (sym is.hand_is ∙ c.in-Finished.is)).1
     (λ e. c.if-found-done.false (e ∙ sym word)) in
-    builder_after _ c.seat.inside.seat.table_id _ (with_free_hand (builder_in c.seat.inside.seat.me.0))
-    _ _ told c.load-found.ensures.0
+    builder_after _ c.seat.inside.seat.table_id _
+    (with_free_hand (builder_in c.seat.inside.seat.me.0)) _ _ told c.load-found.ensures.0
     record {
       number_is = is.number_is;
       hand_is = refl;
