@@ -114,7 +114,8 @@ finishes i o v w a b z n same untried room kept e = record {
       same;
   number = e.number ∙ ap (λ (h : History). length (noting_one h e.key e.by).journal + 1) same;
   tries = e.tries
-      ∙ (λ j. untried j ++ (tries_at (rows_of (same j)) e.key e.by ++ SettleDone i (code_of o) ∷ []));
+      ∙ (λ j. untried j
+      ++ (tries_at (rows_of (same j)) e.key e.by ++ SettleDone i (code_of o) ∷ []));
   fixed = stays_fixed a z (stays_more a b z room kept);
 }
 

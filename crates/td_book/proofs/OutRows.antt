@@ -192,7 +192,8 @@ listed-kept view view' outs places room r x y is known no_more no_less h =
     subst (λ v. IsListed v outs places room) (sym is) new
 
 -- a row that was settled, or not
-pub listed-settled : (b : Bool) (old closed kept new : DeskModel) (outs places : List ℕ) (room r by : ℕ)
+pub listed-settled : (b : Bool) (old closed kept new : DeskModel) (outs places : List ℕ)
+    (room r by : ℕ)
     → closed.desk.rows ≡ set old.desk.rows r In → kept.desk.rows ≡ old.desk.rows
     → MatchBool b (new ≡ closed) (new ≡ kept)
     → get_elem? old.desk.rows r ≡ some (Known by) → IsListed old.desk.rows outs places room

@@ -1,7 +1,7 @@
 -- What the desk tries, one row after another.
 use Rattle.std.proofs.Common.{◌≡◌, ℕ, zero, suc, ◌+◌, Bool, true, false, ◌&&◌, List, [], ◌∷◌, ◌++◌}
-use Rattle.std.proofs.Common.{Option, Some, None, option_map, if◌then◌else◌, filter, map, length, take, drop}
-use Rattle.std.proofs.Common.{slice_get, ap, refl, sym, ◌∙◌, arith, append-nil, append_assoc}
+use Rattle.std.proofs.Common.{Option, Some, None, option_map, if◌then◌else◌, filter, map, length}
+use Rattle.std.proofs.Common.{take, drop, slice_get, ap, refl, sym, ◌∙◌, arith, append-nil, append_assoc}
 use Rattle.std.proofs.lemmas.Option.{same_Some}
 use Rattle.td_board.specs.declared.views.DeskTry.{DeskTry}
 use Rattle.td_board.specs.declared.views.DeskTry.TheVariants.{WithdrawalWon, WithdrawalLost}

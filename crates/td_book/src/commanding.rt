@@ -74,8 +74,8 @@ fn answer(entry: Option<EntryNo>, skips: Skips) -> Result<Taken, CommandRefusal>
 impl<'a> Book<'a> {
     /// Makes an entry of a command on those of the rows that it names whose version matches and on
     /// which it applies. Named rows are withdrawn first, in the order of their keys, where the
-    /// command has to do with their states, also those that it doesn't take; claims of builders that
-    /// were faster are noted.
+    /// command has to do with their states, also those that it doesn't take; claims of builders
+    /// that were faster are noted.
     pub fn command(&mut self, board: &Board, command: &Command<'_>) -> Result<Taken, CommandRefusal>
         requires { board.now.table ≡ self.old.fixed.table }
         ensures { IsDone (parts_of command.now) self.old self.new result }

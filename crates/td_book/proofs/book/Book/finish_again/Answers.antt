@@ -48,7 +48,8 @@ returns-in-Some c =
     (sym (keys_of-rows_of c.prepare.new.self.books.history))
     ∙ e.at in
     let code : code_of c.args.outcome ≡ c.args.code = search rules in
-    let tries : c.close.new.self.tries ≡ c.self.inside.inner.tries ++ SettleDone i c.args.code ∷ [] =
+    let tries : c.close.new.self.tries
+    ≡ c.self.inside.inner.tries ++ SettleDone i c.args.code ∷ [] =
     c.in-Some.ensures.tries
     ∙ ap (λ (l : List DeskTry). l ++ SettleDone i c.args.code ∷ []) c.prepare.ensures.tries in (
       code,

@@ -24,8 +24,8 @@ returns-clause-outcome c =
     (subst (λ (r : Result ℕ FinishRefusal).
     FinishHeld i (ended_in kind) v w (book_of a) (book_of z) r) (sym c.ok_or.ensures.value)
     (held_of i (ended_in kind) v w a b z c.finish-ended.result c.prepare.ensures.history
-    c.prepare.ensures.tries c.prepare.ensures.stays c.finish-ended.ensures.stays c.finish-ended.ensures.some
-    c.finish-ended.ensures.none)))
+    c.prepare.ensures.tries c.prepare.ensures.stays c.finish-ended.ensures.stays
+    c.finish-ended.ensures.some c.finish-ended.ensures.none)))
 
 pub finish-ended-requires-clause-ending : goal.finish-ended-requires-clause-ending
 finish-ended-requires-clause-ending c =
