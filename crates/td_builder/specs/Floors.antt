@@ -19,8 +19,8 @@ IsIdle s = (r : ℕ) → s.builder.hand ≢ Holding r
 abbrev pub IsStarted : (ℕ → Job → Type 0) → BuilderModel → Job → Type 0
 IsStarted jobs s job = (r : ℕ) × (s.builder.hand ≡ Holding r) × jobs r job
 
--- the end of the build of the row in hand was tried with an outcome of this code and came too early,
--- and nothing else changed
+-- the end of the build of the row in hand was tried with an outcome of this code and came too
+-- early, and nothing else changed
 abbrev pub IsEarly : OutcomeCode → BuilderModel → BuilderModel → Type 0
 IsEarly c old new =
     (r : ℕ) × (old.builder.hand ≡ Holding r)
