@@ -1,10 +1,13 @@
 -- A supply: what the index offers, and what has arrived since. This project's own.
 use Rattle.std.specs.Prelude.{ℕ, Bool, false, List, [], ◌∷◌, ◌++◌, Option, Some, None, Ok, Err}
-use Rattle.std.specs.Prelude.{Result, filter, map, option_map, slice_get, if◌then◌else◌}
+use Rattle.std.specs.Prelude.{Result, alloc_error, filter, map, option_map, slice_get}
+use Rattle.std.specs.Prelude.{if◌then◌else◌}
+use Rattle.std.specs.declared.alloc.AllocError.{AllocError}
 use Rattle.std.specs.List.{find}
 use Rattle.std.specs.Option.{option_map_or, option_or}
 use Rattle.std.specs.Str.{bytes_eq}
 use Rattle.td_relation.specs.declared.relation_fault.RelationFault.{RelationFault}
+use Rattle.td_relation.specs.declared.relation_fault.RelationFault.TheVariants.{NoMemory}
 use Rattle.td_relation.specs.Arch.{ArchWords}
 use Rattle.td_relation.specs.Asked.{Asked}
 use Rattle.td_relation.specs.Meeting.{met}
@@ -94,3 +97,9 @@ meets_read s arch (Err fault) = false
 -- whether a text is a relation that the offers meet on the architecture with this name
 abbrev pub meets : SupplyView → List ℕ → List ℕ → Bool
 meets s text arch = meets_read s arch (relation_at text)
+
+-- whether a text is met that can't be read as a relation for this cause: it isn't, unless memory
+-- ran out
+abbrev pub unread : RelationFault → Result Bool AllocError
+unread NoMemory = Err alloc_error
+unread fault = Ok false

@@ -1,11 +1,13 @@
 //! A supply: the offers of an archive, and the rebuilds that have arrived.
-ghost use Rattle.std.specs.Prelude.{◌≡◌, ◌<◌, ◌≤◌, List, ℕ, [], None, IfOk, IfSome, OnOk, OnErr};
+ghost use Rattle.std.specs.Prelude.{◌≡◌, ◌<◌, ◌≤◌, List, ℕ, [], None, IfOk, IfSome, IsOk, OnOk};
+ghost use Rattle.std.specs.Prelude.{OnErr};
 ghost use Rattle.std.specs.Prelude.{length, map, option_map, slice_get};
 ghost use Rattle.td_text.specs.Limits.{max_rebuild};
 ghost use Rattle.td_version.specs.Version.{parts_of};
+ghost use Rattle.td_relation.specs.Table.{place_of};
 ghost use Rattle.td_relation.specs.TableView.{table};
 ghost use Rattle.td_supply.specs.Supply.{arrived, meets as meets_of, nothing, opened, unstocked};
-ghost use Rattle.td_supply.specs.Supply.{version_of, with_offer, with_source};
+ghost use Rattle.td_supply.specs.Supply.{unread as unread_of, version_of, with_offer, with_source};
 ghost use Rattle.td_supply.specs.SupplyViews.{built};
 ghost use Rattle.td_supply.specs.VersionTexts.{HasVersion, IsVersionText};
 
@@ -52,6 +54,16 @@ impl<'a> Model for Supply<'a> {
         ((q : List ℕ) → numbers_of s.by_name q ≡ places_from (is_under q) 0 s.items.items)
         × ((q : List ℕ) → numbers_of s.by_source q ≡ places_from (is_by q) 0 s.items.items)
         × AreVersions (sources_of s.sources.entries) };
+}
+
+// Whether a text is met that wasn't read as a relation for this cause.
+fn unread(fault: RelationFault) -> Result<bool, AllocError>
+    ensures { result ≡ unread_of fault }
+{
+    match fault {
+        RelationFault::NoMemory => Err(AllocError),
+        _ => Ok(false),
+    }
 }
 
 impl<'a> Supply<'a> {
@@ -130,11 +142,12 @@ impl<'a> Supply<'a> {
 
     /// A rebuild of a source with this number has arrived on an architecture: each of the source's
     /// binary packages of exactly that architecture is offered at the rebuilt version from now on.
-    /// On an architecture that isn't in the table nothing changes.
+    /// On an architecture that isn't in the table nothing changes, and that takes no memory.
     pub fn arrive(&mut self, source: &str, arch: &str, number: u16) -> Result<(), AllocError>
         requires limited { number ≤ max_rebuild }
         ensures ok { OnOk result (self.new ≡ arrived self.old source.now arch.now number) }
         ensures err { OnErr result (self.new ≡ self.old) }
+        ensures elsewhere { place_of self.old.table arch.now ≡ None → IsOk result }
     {
         let Some(place) = self.archs.index(arch) else {
             return Ok(());
@@ -180,18 +193,19 @@ impl<'a> Supply<'a> {
     }
 
     /// Whether a text is a relation (Debian Policy 7.1) that what is on offer now meets on the
-    /// architecture with this name. It takes memory to read the text.
+    /// architecture with this name. It takes memory to read the text, and none for an architecture
+    /// that isn't in the table.
     pub fn meets(&self, text: &str, arch: &str) -> Result<bool, AllocError>
-        ensures { IfOk result (λ is. is ≡ meets_of self.now text.now arch.now) }
+        ensures is { IfOk result (λ is. is ≡ meets_of self.now text.now arch.now) }
+        ensures elsewhere { place_of self.now.table arch.now ≡ None → IsOk result }
     {
-        let relation = match Relation::read(self.alloc, text) {
-            Ok(relation) => relation,
-            Err(RelationFault::NoMemory) => return Err(AllocError),
-            Err(_) => return Ok(false),
+        let place = match self.archs.index(arch) {
+            Some(place) => place,
+            None => return Ok(false),
         };
-        match self.archs.index(arch) {
-            Some(place) => Ok(relation.met_by(self, &self.archs, place)),
-            None => Ok(false),
+        match Relation::read(self.alloc, text) {
+            Ok(relation) => Ok(relation.met_by(self, &self.archs, place)),
+            Err(fault) => unread(fault),
         }
     }
 }

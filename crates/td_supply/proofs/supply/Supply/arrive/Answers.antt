@@ -1,5 +1,5 @@
--- `Supply::arrive`: the clause `ok` and its type's invariant.
-use Rattle.std.proofs.Common.{◌≡◌, ℕ, Bool, List, Some, map, sym, ap, ◌∙◌}
+-- `Supply::arrive`: the clauses `ok` and `elsewhere`, and its type's invariant.
+use Rattle.std.proofs.Common.{◌≡◌, ℕ, Bool, List, Option, Some, None, map, sym, ap, ◌∙◌}
 use Rattle.td_version.specs.Version.{Parts}
 use Rattle.td_relation.specs.Table.{place_of}
 use Rattle.td_relation.specs.TableView.{table}
@@ -62,3 +62,13 @@ returns-clause-ok c =
     record { table = table s.archs; sources = sources_of s.sources.entries; items = l }) (after c)
     ∙ ap (λ (v : SupplyView). arrived v c.args.source.now c.args.arch.now c.args.number)
     c.self.view_is
+
+no_place : (place : ℕ) (o : Option ℕ) → o ≡ Some place → o ≡ None → ⊥
+no_place place o some none = cc
+
+-- the architecture is in the table
+pub returns-in_err-made-clause-elsewhere : goal.returns-in_err-made-clause-elsewhere
+returns-in_err-made-clause-elsewhere c = λ none.
+    absurd (no_place c.in-Some.place (place_of (table c.self.inside.archs) c.args.arch.now)
+    (sym c.index.ensures ∙ c.in-Some.is)
+    (ap (λ (v : SupplyView). place_of v.table c.args.arch.now) c.self.view_is ∙ none))
