@@ -1,7 +1,8 @@
 -- Files that have their paths as texts. This project's own.
 use Rattle.std.specs.Prelude.{Bool, true, false}
 use Rattle.td_bytes.specs.declared.text.TextFault.{TextFault}
-use Rattle.td_bytes.specs.declared.text.TextFault.TheVariants.{CannotRead, TooLong, NotText, NoMemory}
+use Rattle.td_bytes.specs.declared.text.TextFault.TheVariants.{CannotRead, TooLong, NotText}
+use Rattle.td_bytes.specs.declared.text.TextFault.TheVariants.{NoMemory}
 
 -- whether a text isn't read for want of room: there is more than the limit, or than the memory
 abbrev pub lacks_room : TextFault → Bool

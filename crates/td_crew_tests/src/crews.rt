@@ -1,6 +1,6 @@
-//! What no clause can say: that builders of a crew build at the same time, that a crew of none tells
-//! its rows too (the program has a script without builders run by itself), and that a writer which
-//! takes one byte a call gets all that a script answers. The archive and the answers are this
+//! What no clause can say: that builders of a crew build at the same time, that a crew of none
+//! tells its rows too (the program has a script without builders run by itself), and that a writer
+//! which takes one byte a call gets all that a script answers. The archive and the answers are this
 //! project's worked examples.
 use crate::archive::{ARCHS, PACKAGES, SOURCES};
 use crate::checks::{is_told, made};
