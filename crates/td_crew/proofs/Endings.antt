@@ -1,6 +1,6 @@
 -- What a crew tells ends with the rows of the book with which its desk is closed.
-use Rattle.std.proofs.Common.{◌≡◌, ℕ, ◌+◌, true, List, ◌++◌, map, Option, Some, None, Result, Ok}
-use Rattle.std.proofs.Common.{Err, refl, sym, ap, ap₂, append_assoc, subst, ◌∙◌}
+use Rattle.std.proofs.Common.{◌≡◌, ℕ, ◌+◌, true, List, ◌++◌, length, map, Option, Some, None}
+use Rattle.std.proofs.Common.{Result, Ok, Err, refl, sym, ap, ap₂, append_assoc, subst, ◌∙◌}
 use Rattle.std.specs.Prelude.{IfOk, OnOk, codes, string_bytes}
 use Rattle.atomic_table.specs.Seated.{TableId}
 use Rattle.td_text.specs.Lines.{lines_of}
@@ -93,14 +93,17 @@ rows_put told now h front rows lawful text begins is same = record {
 pub rows_closed : (table : TableId) (origin : Origin) (opened : List Mark)
     (receipts : List Receipt) (told mid now : ToldText) (b : BookModel) (closing : ℕ)
     → IsOfDesk table origin b → still_undone b.history.journal opened ≡ true
+    → length receipts ≡ length (changes opened b)
     → IsClosing receipts (changes opened b) closing → string_bytes mid.text ≡ string_bytes told.text
     → mid.refused ≡ told.refused + closing → HasRows mid b.history now
     → IsClosed table origin opened receipts told now
-rows_closed table origin opened receipts told mid now b closing of still closed same more rows =
+rows_closed table origin opened receipts told mid now b closing of still counted closed same more
+    rows =
     record {
       book = b;
       of_desk = of;
       still = still;
+      counted = counted;
       text = rows.text ∙ ap (λ (l : List ℕ). l ++ rows_told (rows_of b.history)) same;
       closing = closing;
       closed = closed;
@@ -132,6 +135,7 @@ ends_closed builders table origin s opened script receipts told now stock marks 
       of_crew = last;
       still = still_told origin.journal origin.rows h ms short is last.on
           (ap (still_undone ms) (sym marks) ∙ closed.still);
+      counted = closed.counted ∙ ap length same;
       text_is = closed.text
           ∙ ap (λ (l : List ℕ). l ++ rows_told (rows_of closed.book.history)) shift.text_is;
       missing = shift.missing;

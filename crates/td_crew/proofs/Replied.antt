@@ -3,7 +3,7 @@ use Rattle.std.proofs.Common.{◌≡◌, ◌⊎◌, ℕ, Bool, true, false, List
 use Rattle.std.proofs.Common.{None, Result, Ok, Err, inl, inr, refl, sym, ap, ◌∙◌, append-nil}
 use Rattle.std.proofs.Common.{append_assoc, subst}
 use Rattle.std.specs.declared.alloc.AllocError.{AllocError}
-use Rattle.std.specs.Prelude.{IfOk, OnErr, OnOk, codes, decimal, string_bytes}
+use Rattle.std.specs.Prelude.{IfOk, MatchOption, OnErr, OnOk, codes, decimal, string_bytes}
 use Rattle.std.specs.List.{flat_map}
 use Rattle.atomic_table.specs.Seated.{TableId}
 use Rattle.td_rows.specs.declared.key.Key.{Key}
@@ -131,6 +131,13 @@ undo_said table origin n (Err (undos.Blocked m)) before now old new refused a ok
     undo_refused table origin n (undos.Blocked m) before now old new refused
     a refl err put
 
+-- an undo takes none of the clerk's parts
+pub parts_undone : (n : ℕ) (answer : Result (Unit {0}) UndoRefusal) (old new : ClerkModel)
+    → OnOk answer (new ≡ with_receipt (Undid n) old) → OnErr answer (new ≡ old)
+    → new.parts ≡ old.parts
+parts_undone n (Ok u) old new ok err = ap (λ (c : ClerkModel). c.parts) ok
+parts_undone n (Err e) old new ok err = ap (λ (c : ClerkModel). c.parts) err
+
 -- what is said to an arrival that is entered
 pub arrival_made : (table : TableId) (origin : Origin) (k : Key) (n : ℕ) (keys : List Key)
     (before now : List ℕ) (old new : ClerkModel)
@@ -144,6 +151,11 @@ arrival_made table origin k n keys before now old new its got own put = (
   made_said n (k ∷ []) [] before now now (arrival_receipt k n) old new
       (put ∙ ap (λ (ks : List Key). before ++ entry_made n ks) own) (sym (append-nil now)) got,
 )
+
+-- a receipt more takes none of the clerk's parts
+pub parts_with : (r : Receipt) (old new : ClerkModel) → new ≡ with_receipt r old
+    → new.parts ≡ old.parts
+parts_with r old new got = ap (λ (c : ClerkModel). c.parts) got
 
 -- and to one that is refused
 pub arrival_refused : (table : TableId) (origin : Origin) (k : Key) (e : ArriveRefusal)
@@ -177,6 +189,13 @@ sweep_made table origin n b before now old new a of got put =
       (a.0, a.1, Some n, a.2, a.3, (b, of, refl)),
       made_said n keys [] before now now (Swept n) old new put (sym (append-nil now)) got,
     )
+
+-- a sweep takes none of the clerk's parts
+pub parts_swept : (swept : Option ℕ) (old new : ClerkModel)
+    → MatchOption swept (new ≡ old) (λ n. new ≡ with_receipt (Swept n) old)
+    → new.parts ≡ old.parts
+parts_swept None old new same = ap (λ (c : ClerkModel). c.parts) same
+parts_swept (Some n) old new got = ap (λ (c : ClerkModel). c.parts) got
 
 -- and to one that finds nothing
 pub sweep_none : (table : TableId) (origin : Origin) (before now : List ℕ) (old new : ClerkModel)
@@ -213,6 +232,15 @@ command_made table origin c t keys before mid now old new a own put behind =
           (command_receipt c its.0 t) old new
           (put ∙ ap (λ (ks : List Key). before ++ entry_made t.number ks) same) behind its.4,
     )
+
+-- and it takes none of the clerk's parts
+pub parts_commanded : (table : TableId) (origin : Origin) (c : CommandParts) (t : Taken)
+    (old new : ClerkModel)
+    → (◌≡◌ {A = Result Taken CommandRefusal} (Ok t) (Err commands.NoMemory)
+    ⊎ Commanding c table origin old new (Ok t))
+    → new.parts ≡ old.parts
+parts_commanded table origin c t old new a =
+    let its = answered (λ none. let h = none in cc) a in ap (λ (x : ClerkModel). x.parts) its.4
 
 -- and to one that is refused
 pub command_refused : (table : TableId) (origin : Origin) (c : CommandParts) (e : CommandRefusal)

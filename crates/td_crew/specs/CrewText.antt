@@ -72,9 +72,10 @@ IsClosing receipts found refusals =
     ⊎ ((refusals ≡ 1) × (IsPermutation receipts found → ⊥))
 
 -- the answers to the lines are told, each what some book of the crew's answers, and then the rows
--- of a book of the crew's. What was undone where the script starts is undone in it still. A refusal
--- is a line that is refused, a number that stands for builders who are missing, and a closing where
--- the receipts of the lines aren't the changes of the book
+-- of a book of the crew's. What was undone where the script starts is undone in it still, and it has
+-- as many changes as the lines have receipts: none was made that no line asks for. A refusal is a
+-- line that is refused, a number that stands for builders who are missing, and a closing where the
+-- receipts of the lines aren't the changes of the book
 pub record EndsWithRows (builders : ℕ) (s : Setting) (begun : History) (script text : List ℕ)
     (refused : ℕ) : Type 0 where
   pub told : Told
@@ -82,6 +83,8 @@ pub record EndsWithRows (builders : ℕ) (s : Setting) (begun : History) (script
   pub book : BookModel
   pub of_crew : IsOfCrew s begun book
   pub still : still_undone book.history.journal (map (λ m. m.mark) begun.journal) ≡ true
+  pub counted : length told.receipts
+      ≡ length (changes (map (λ m. m.mark) begun.journal) book)
   pub text_is : text ≡ told.text ++ rows_told (rows_of book.history)
   pub missing : ℕ
   pub few : missing ≤ builders
@@ -151,6 +154,7 @@ pub record IsClosed (table : TableId) (origin : Origin) (opened : List Mark)
   pub book : BookModel
   pub of_desk : IsOfDesk table origin book
   pub still : still_undone book.history.journal opened ≡ true
+  pub counted : length receipts ≡ length (changes opened book)
   pub text : string_bytes now.text ≡ string_bytes told.text ++ rows_told (rows_of book.history)
   pub closing : ℕ
   pub closed : IsClosing receipts (changes opened book) closing

@@ -38,6 +38,7 @@ fn keys_made<C: Ledger>(clerk: &Clerk<C>) -> &[Key]
 }
 
 /// Appends the answer to a command. Its entry is told by the receipt.
+#[tactic(auto, using(crate::proofs::Replied::parts_commanded))]
 pub fn command<N: Named, C: Ledger, R: Wait>(
     rt: &R,
     desk: &Desk<'_, N, C>,
@@ -45,7 +46,8 @@ pub fn command<N: Named, C: Ledger, R: Wait>(
     command: &Command<'_>,
     out: &mut String,
 ) -> Result<bool, AllocError>
-    ensures { IfOk result (Says (MayCommand (IsOfDesk N.table N.origin) (parts_of command.now))
+    ensures parts { clerk.new.parts ≡ clerk.old.parts }
+    ensures says { IfOk result (Says (MayCommand (IsOfDesk N.table N.origin) (parts_of command.now))
         (string_bytes out.old) (string_bytes out.new) clerk.old.receipts clerk.new.receipts) }
 {
     match desk.command(rt, clerk, command) {
@@ -66,13 +68,15 @@ fn undo<N: Named, C: Ledger, R: Wait>(
     n: EntryNo,
     out: &mut String,
 ) -> Result<bool, AllocError>
-    ensures { IfOk result (Says (MayUndo (IsOfDesk N.table N.origin) n) (string_bytes out.old)
+    ensures parts { clerk.new.parts ≡ clerk.old.parts }
+    ensures says { IfOk result (Says (MayUndo (IsOfDesk N.table N.origin) n) (string_bytes out.old)
         (string_bytes out.new) clerk.old.receipts clerk.new.receipts) }
 {
     put_undo(out, n, desk.undo(rt, clerk, n))
 }
 
 // The answer to an arrival. Its entry is told by the receipt.
+#[tactic(auto, using(crate::proofs::Replied::parts_with))]
 fn arrive<N: Named, C: Ledger, R: Wait>(
     rt: &R,
     desk: &Desk<'_, N, C>,
@@ -80,7 +84,8 @@ fn arrive<N: Named, C: Ledger, R: Wait>(
     key: &Key,
     out: &mut String,
 ) -> Result<bool, AllocError>
-    ensures { IfOk result (Says (MayArrive (IsOfDesk N.table N.origin) key.now)
+    ensures parts { clerk.new.parts ≡ clerk.old.parts }
+    ensures says { IfOk result (Says (MayArrive (IsOfDesk N.table N.origin) key.now)
         (string_bytes out.old) (string_bytes out.new) clerk.old.receipts clerk.new.receipts) }
 {
     match desk.arrive(rt, clerk, key) {
@@ -93,6 +98,7 @@ fn arrive<N: Named, C: Ledger, R: Wait>(
 }
 
 // The answer to a sweep. A receipt of one has no keys, so they are read off the journal.
+#[tactic(auto, using(crate::proofs::Replied::parts_swept))]
 fn sweep<N: Named, C: Ledger, R: Wait>(
     rt: &R,
     desk: &Desk<'_, N, C>,
@@ -100,7 +106,8 @@ fn sweep<N: Named, C: Ledger, R: Wait>(
     alloc: Global,
     out: &mut String,
 ) -> Result<bool, AllocError>
-    ensures { IfOk result (Says (MaySweep (IsOfDesk N.table N.origin)) (string_bytes out.old)
+    ensures parts { clerk.new.parts ≡ clerk.old.parts }
+    ensures says { IfOk result (Says (MaySweep (IsOfDesk N.table N.origin)) (string_bytes out.old)
         (string_bytes out.new) clerk.old.receipts clerk.new.receipts) }
 {
     match desk.sweep(rt, clerk)? {
@@ -119,7 +126,8 @@ fn sweep<N: Named, C: Ledger, R: Wait>(
     Ok(false)
 }
 
-/// Appends the answer to a request.
+/// Appends the answer to a request. The clerk gives none of its parts away: no call is made
+/// besides.
 pub fn ask<N: Named, C: Ledger, T: Reports, R: Wait>(
     rt: &R,
     desk: &Desk<'_, N, C>,
@@ -129,7 +137,8 @@ pub fn ask<N: Named, C: Ledger, T: Reports, R: Wait>(
     out: &mut String,
 ) -> Result<bool, AllocError>
     requires fits { FitAnyBook T.fits lines.now.reports }
-    ensures { IfOk result (Says (MayAnswer (IsOfDesk N.table N.origin)
+    ensures parts { clerk.new.parts ≡ clerk.old.parts }
+    ensures says { IfOk result (Says (MayAnswer (IsOfDesk N.table N.origin)
         (setting_lent T.text N.origin.stock lines.now.suites.now lines.now.reports) request.now)
         (string_bytes out.old) (string_bytes out.new) clerk.old.receipts clerk.new.receipts) }
 {

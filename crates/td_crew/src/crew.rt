@@ -1,7 +1,7 @@
 //! A crew: a clerk beside builders.
 ghost use Rattle.std.specs.Prelude.{◌≡◌, ◌+◌, ◌-◌, ◌≤◌, ◌<◌, ◌^◌, ◌∷◌, [], All, IfErr, IfOk};
 ghost use Rattle.std.specs.Prelude.{OnOk, length, option_map, string_bytes, true};
-ghost use Rattle.td_desk.specs.Clerks.{all_receipts};
+ghost use Rattle.td_desk.specs.Clerks.{all_parts, all_receipts};
 ghost use Rattle.td_board.specs.Knowledge.{new_desk};
 ghost use Rattle.td_board.specs.Limits.{max_builders};
 ghost use Rattle.td_relation.specs.TableView.{table};
@@ -60,6 +60,7 @@ fn tell_all<N: Named, C: Ledger, T: Reports, R: Wait>(
     requires fits { FitAnyBook T.fits lines.now.reports }
     requires archs { table lines.now.archs.now ≡ N.origin.stock.table }
     requires new { clerk.receipts ≡ [] }
+    ensures parts { IfOk result (λ made. made.1.parts ≡ clerk.parts) }
     ensures few { IfOk result (λ made. made.0.refused ≤ length lines.now.script.now + 1) }
     ensures told { IfOk result (λ made. AreAnswered N.table N.origin
         (setting_lent T.text N.origin.stock lines.now.suites.now lines.now.reports)
@@ -83,6 +84,7 @@ fn tell_beside<N: Named + Send + Sync, C: Ledger + Send + Sync, T: Reports>(
     requires fits { FitAnyBook T.fits lines.now.reports }
     requires archs { table lines.now.archs.now ≡ N.origin.stock.table }
     requires new { clerk.receipts ≡ [] }
+    ensures parts { IfOk result (λ made. made.1.parts ≡ clerk.parts) }
     ensures few { IfOk result (λ made. made.0.refused ≤ length lines.now.script.now + 1) }
     ensures told { IfOk result (λ made. AreAnswered N.table N.origin
         (setting_lent T.text N.origin.stock lines.now.suites.now lines.now.reports)
@@ -95,6 +97,7 @@ fn tell_beside<N: Named + Send + Sync, C: Ledger + Send + Sync, T: Reports>(
             requires fits { FitAnyBook T.fits lines.now.reports }
             requires archs { table lines.now.archs.now ≡ N.origin.stock.table }
             requires new { clerk.receipts ≡ [] }
+            ensures parts { IfOk result (λ made. made.1.parts ≡ clerk.parts) }
             ensures few { IfOk result (λ made.
                 made.0.refused ≤ length lines.entry.now.script.now + 1) }
             ensures told { IfOk result (λ made. AreAnswered N.table N.origin
@@ -126,6 +129,7 @@ fn tell_in_shift<N: Named + Send + Sync, C: Ledger + Send + Sync, T: Reports>(
     requires fits { FitAnyBook T.fits lines.now.reports }
     requires archs { table lines.now.archs.now ≡ N.origin.stock.table }
     requires new { clerk.receipts ≡ [] }
+    ensures parts { IfOk result (λ made. made.1.parts ≡ clerk.parts) }
     ensures few { IfOk result (λ made.
         made.0.refused ≤ length lines.now.script.now + length seats.items + 1) }
     ensures told { IfOk result (λ made. IsShift N.table N.origin
@@ -166,6 +170,8 @@ fn closed<'a, N: Named, C: Ledger>(desk: Desk<'a, N, C>, clerks: Vec<Clerk<C>>) 
     ensures of_desk { IsOfDesk N.table N.origin result.0 }
     ensures still { still_undone result.0.history.journal N.opened ≡ true }
     ensures closed { IsClosing (all_receipts clerks.items) (changes N.opened result.0) result.1 }
+    ensures counted { all_parts clerks.items ≡ 1024
+        → length (all_receipts clerks.items) ≡ length (changes N.opened result.0) }
 {
     let (book, refusals) = match desk.close(clerks) {
         Ok(book) => (book, 0),
@@ -184,6 +190,7 @@ fn close<N: Named, C: Ledger>(
     told: Told,
 ) -> Result<Told, AllocError>
     requires room { told.refused < 2 ^ 64 - 1 }
+    requires parts { clerk.parts ≡ 1024 }
     ensures { IfOk result (IsClosed N.table N.origin N.opened clerk.receipts told) }
 {
     let clerks = match alone(alloc, clerk) {
@@ -214,7 +221,7 @@ fn tell_at<N: Named + Send + Sync, C: Ledger + Send + Sync, T: Reports>(
     requires few { length seats.items ≤ max_builders }
     requires fits { FitAnyBook T.fits lines.now.reports }
     requires archs { table lines.now.archs.now ≡ N.origin.stock.table }
-    requires new { clerk.receipts ≡ [] }
+    requires new { clerk ≡ record { parts = 1024; receipts = [] } }
     requires opened { N.opened ≡ marks_begun N.origin.journal }
     requires short { IsShort N.origin.journal }
     ensures { IfOk result (EndsFrom (length seats.items)
@@ -249,7 +256,7 @@ fn begin<'a, N: Named, C: Ledger>(
     requires fresh_supply { supply ≡ opened (stock_of supply) }
     requires ledger { (blank.name ≡ C.name) × (blank.parts ≡ C.parts) × (blank.parts ≡ 1024) }
     ensures begun { OnOk result (HasBegun (option_map (λ s. s.now) journal.entry) rows) }
-    ensures clerk { IfOk result (λ made. made.1.receipts ≡ []) }
+    ensures clerk { IfOk result (λ made. made.1 ≡ record { parts = 1024; receipts = [] }) }
     ensures short { OnOk result (IsShort (option_map (λ s. s.now) journal.entry)) }
     ensures fault { IfErr result (IsJournalFault rows (option_map (λ s. s.now) journal.entry)) }
     ensures only { IfErr result (λ fault.

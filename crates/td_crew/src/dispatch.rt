@@ -25,7 +25,8 @@ fn type_in<N: Named, C: Ledger, T: Reports, R: Wait>(
     line: &str,
     out: &mut String,
 ) -> Result<bool, AllocError>
-    ensures { IfOk result (Says (MayType (IsOfDesk N.table N.origin)
+    ensures parts { clerk.new.parts ≡ clerk.old.parts }
+    ensures says { IfOk result (Says (MayType (IsOfDesk N.table N.origin)
         (command_at (table lines.now.archs.now) (map (λ s. s.now) lines.now.suites.now) line.now))
         (string_bytes out.old) (string_bytes out.new) clerk.old.receipts clerk.new.receipts) }
 {
@@ -50,7 +51,8 @@ pub fn answer<N: Named, C: Ledger, T: Reports, R: Wait>(
 ) -> Result<bool, AllocError>
     requires fits { FitAnyBook T.fits lines.now.reports }
     requires archs { table lines.now.archs.now ≡ N.origin.stock.table }
-    ensures { IfOk result (Says (MayReply (IsOfDesk N.table N.origin)
+    ensures parts { clerk.new.parts ≡ clerk.old.parts }
+    ensures says { IfOk result (Says (MayReply (IsOfDesk N.table N.origin)
         (setting_lent T.text N.origin.stock lines.now.suites.now lines.now.reports) line.now)
         (string_bytes out.old) (string_bytes out.new) clerk.old.receipts clerk.new.receipts) }
 {

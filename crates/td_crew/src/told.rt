@@ -26,6 +26,7 @@ fn add_line<N: Named, C: Ledger, T: Reports, R: Wait>(
     requires fits { FitAnyBook T.fits lines.now.reports }
     requires archs { table lines.now.archs.now ≡ N.origin.stock.table }
     requires room { told.old.refused < 2 ^ 63 }
+    ensures parts { clerk.new.parts ≡ clerk.old.parts }
     ensures few { OnOk result (told.new.refused ≤ told.old.refused + 1) }
     ensures replied { OnOk result (IsReplied N.table N.origin
         (setting_lent T.text N.origin.stock lines.now.suites.now lines.now.reports) line.now
@@ -37,7 +38,8 @@ fn add_line<N: Named, C: Ledger, T: Reports, R: Wait>(
     Ok(())
 }
 
-/// Answers the lines of a script, one after the other.
+/// Answers the lines of a script, one after the other. The clerk has all of its parts still, so
+/// that each change made with them has a receipt that a line tells of.
 pub fn tell_lines<N: Named, C: Ledger, T: Reports, R: Wait>(
     rt: &R,
     desk: &Desk<'_, N, C>,
@@ -47,6 +49,7 @@ pub fn tell_lines<N: Named, C: Ledger, T: Reports, R: Wait>(
     requires fits { FitAnyBook T.fits lines.now.reports }
     requires archs { table lines.now.archs.now ≡ N.origin.stock.table }
     requires new { clerk.old.receipts ≡ [] }
+    ensures parts { clerk.new.parts ≡ clerk.old.parts }
     ensures few { IfOk result (λ told. told.refused ≤ length lines.now.script.now + 1) }
     ensures told { IfOk result (AreAnswered N.table N.origin
         (setting_lent T.text N.origin.stock lines.now.suites.now lines.now.reports)

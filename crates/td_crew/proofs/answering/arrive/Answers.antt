@@ -6,8 +6,8 @@ use Rattle.td_desk.specs.Clerks.{ClerkModel}
 use Rattle.td_crew.proofs.Replied.{arrival_made, arrival_refused}
 use Rattle.td_crew.proofs.answering.arrive.Goals as goal
 
-pub returns-in_ok-put_taken-in-Ok : goal.returns-in_ok-put_taken-in-Ok
-returns-in_ok-put_taken-in-Ok g c =
+pub returns-in_ok-put_taken-in-Ok-clause-says : goal.returns-in_ok-put_taken-in-Ok-clause-says
+returns-in_ok-put_taken-in-Ok-clause-says g c =
     let key = c.args.key.now in
     let got = c.in-Ok.ensures.ok in
     let keys = c.keys_made.ensures c.args.clerk.now.receipts c.in-Ok.n Arrive (key ∷ [])
@@ -15,8 +15,8 @@ returns-in_ok-put_taken-in-Ok g c =
     arrival_made g.N.Named.table g.N.Named.origin key c.in-Ok.n _ _ _ c.args.clerk.now
     c.arrive.new.clerk c.in-Ok.ensures.answer got keys c.in_ok-put_taken-in-Ok.ensures
 
-pub returns-in-Err : goal.returns-in-Err
-returns-in-Err g c =
+pub returns-in-Err-clause-says : goal.returns-in-Err-clause-says
+returns-in-Err-clause-says g c =
     IfOk-weaker c.put_arrival_refusal.result _ _
     (λ refused put. arrival_refused g.N.Named.table g.N.Named.origin c.args.key.now
     c.in-Err.refusal _ _ c.args.clerk.now c.arrive.new.clerk refused c.in-Err.ensures.answer

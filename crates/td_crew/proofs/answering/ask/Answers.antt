@@ -4,32 +4,32 @@ use Rattle.td_script.specs.Settings.{setting_lent}
 use Rattle.td_crew.proofs.Replied.{asked_for}
 use Rattle.td_crew.proofs.answering.ask.Goals as goal
 
-pub returns-in-Row : goal.returns-in-Row
-returns-in-Row g c =
+pub returns-in-Row-clause-says : goal.returns-in-Row-clause-says
+returns-in-Row-clause-says g c =
     asked_for g.N.Named.table g.N.Named.origin
     (setting_lent g.T.Reports.text g.N.Named.origin.stock c.args.lines.now.suites.now
     c.args.lines.now.reports)
     (requests.Row c.in-Row.key) _ c.row.result _ _ c.args.clerk.now.receipts c.in-Row.is
     (c.row.ensures c.args.clerk.now.receipts)
 
-pub returns-in-Entry : goal.returns-in-Entry
-returns-in-Entry g c =
+pub returns-in-Entry-clause-says : goal.returns-in-Entry-clause-says
+returns-in-Entry-clause-says g c =
     asked_for g.N.Named.table g.N.Named.origin
     (setting_lent g.T.Reports.text g.N.Named.origin.stock c.args.lines.now.suites.now
     c.args.lines.now.reports)
     (requests.Entry c.in-Entry.n) _ c.entry.result _ _ c.args.clerk.now.receipts c.in-Entry.is
     (c.entry.ensures c.args.clerk.now.receipts)
 
-pub returns-in-Report : goal.returns-in-Report
-returns-in-Report g c =
+pub returns-in-Report-clause-says : goal.returns-in-Report-clause-says
+returns-in-Report-clause-says g c =
     asked_for g.N.Named.table g.N.Named.origin
     (setting_lent g.T.Reports.text g.N.Named.origin.stock c.args.lines.now.suites.now
     c.args.lines.now.reports)
     requests.Report _ c.report.result _ _ c.args.clerk.now.receipts c.in-Report.is
     (c.report.ensures c.args.clerk.now.receipts)
 
-pub returns-in-Journal : goal.returns-in-Journal
-returns-in-Journal g c =
+pub returns-in-Journal-clause-says : goal.returns-in-Journal-clause-says
+returns-in-Journal-clause-says g c =
     asked_for g.N.Named.table g.N.Named.origin
     (setting_lent g.T.Reports.text g.N.Named.origin.stock c.args.lines.now.suites.now
     c.args.lines.now.reports)

@@ -10,8 +10,8 @@ use Rattle.td_crew.specs.Replies.{keys_at}
 use Rattle.td_crew.proofs.Replied.{sweep_made, sweep_none}
 use Rattle.td_crew.proofs.answering.sweep.Goals as goal
 
-pub returns-in_ok-push_str-in-Some : goal.returns-in_ok-push_str-in-Some
-returns-in_ok-push_str-in-Some g c =
+pub returns-in_ok-push_str-in-Some-clause-says : goal.returns-in_ok-push_str-in-Some-clause-says
+returns-in_ok-push_str-in-Some-clause-says g c =
     let old = c.args.clerk.now in
     let new = c.sweep.new.clerk in
     let n = c.in-Some.n in
@@ -28,8 +28,8 @@ returns-in_ok-push_str-in-Some g c =
     sweep_made g.N.Named.table g.N.Named.origin n seen.0 _ _ old new answer seen.1 got
     (search rules)
 
-pub returns-in_ok-push_str-in-None : goal.returns-in_ok-push_str-in-None
-returns-in_ok-push_str-in-None g c =
+pub returns-in_ok-push_str-in-None-clause-says : goal.returns-in_ok-push_str-in-None-clause-says
+returns-in_ok-push_str-in-None-clause-says g c =
     let old = c.args.clerk.now in
     let new = c.sweep.new.clerk in
     let answer = subst (λ (o : Option ℕ). Sweeping g.N.Named.table g.N.Named.origin (Ok o))

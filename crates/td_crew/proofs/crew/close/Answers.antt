@@ -1,8 +1,8 @@
 -- The rows of a closed desk's book stand over those from which it started.
-use Rattle.std.proofs.Common.{◌+◌, List, append-nil, refl, subst}
+use Rattle.std.proofs.Common.{◌≡◌, ◌+◌, List, append-nil, arith, length, refl, subst}
 use Rattle.std.proofs.lemmas.Result.{IfOk-weaker}
 use Rattle.td_desk.specs.Changes.{changes}
-use Rattle.td_desk.specs.Clerks.{ClerkModel, all_receipts}
+use Rattle.td_desk.specs.Clerks.{ClerkModel, all_parts, all_receipts}
 use Rattle.td_desk.specs.declared.receipt.Receipt.{Receipt}
 use Rattle.td_script.specs.declared.told.Told.{Told}
 use Rattle.td_crew.specs.CrewText.{IsClosing}
@@ -22,8 +22,13 @@ returns g c =
     (append-nil c.args.clerk.receipts)
     (subst (λ (cs : List ClerkModel). IsClosing (all_receipts cs) found more)
     c.in-Ok.ensures c.closed-book.ensures.closed) in
+    let counted = subst (λ (rs : List Receipt). length rs ≡ length found)
+    (append-nil c.args.clerk.receipts)
+    (subst (λ (cs : List ClerkModel).
+    all_parts cs ≡ 1024 → length (all_receipts cs) ≡ length found)
+    c.in-Ok.ensures c.closed-book.ensures.counted (omega (arith, c.requires.parts))) in
     IfOk-weaker c.tell_rows-told.result _ _
     (λ now. rows_closed g.N.Named.table g.N.Named.origin g.N.Named.opened c.args.clerk.receipts
-    c.args.told mid now book more c.closed-book.ensures.of_desk c.closed-book.ensures.still closed
-    refl refl)
+    c.args.told mid now book more c.closed-book.ensures.of_desk c.closed-book.ensures.still
+    counted closed refl refl)
     c.tell_rows-told.ensures

@@ -4,8 +4,8 @@ use Rattle.td_desk.specs.Calls.{IsOfDesk}
 use Rattle.td_crew.proofs.Replied.{fault_said}
 use Rattle.td_crew.proofs.dispatch.type_in.Goals as goal
 
-pub returns-in_ok-put_refusal-in-Err-Wrong : goal.returns-in_ok-put_refusal-in-Err-Wrong
-returns-in_ok-put_refusal-in-Err-Wrong g c =
+pub returns-in_ok-put_refusal-in-Err-Wrong-clause-says : goal.returns-in_ok-put_refusal-in-Err-Wrong-clause-says
+returns-in_ok-put_refusal-in-Err-Wrong-clause-says g c =
     fault_said (IsOfDesk g.N.Named.table g.N.Named.origin) _ c.in-Err-Wrong.field-0
     c.in-Err-Wrong.fault _ _ _ _ c.in-Err-Wrong.ensures.fault c.in-Err-Wrong.field-0-is
     (search rules)
