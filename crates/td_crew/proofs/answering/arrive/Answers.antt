@@ -13,7 +13,7 @@ returns-in_ok-put_taken-in-Ok-clause-says g c =
     let keys = c.keys_made.ensures c.args.clerk.now.receipts c.in-Ok.n Arrive (key ∷ [])
     (ap (λ (x : ClerkModel). x.receipts) got) in
     arrival_made g.N.Named.table g.N.Named.origin key c.in-Ok.n _ _ _ c.args.clerk.now
-    c.arrive.new.clerk c.in-Ok.ensures.answer got keys c.in_ok-put_taken-in-Ok.ensures
+    c.arrive.new.clerk c.in-Ok.ensures.answer got keys c.in_ok-put_taken-in-Ok.ensures.ok
 
 pub returns-in-Err-clause-says : goal.returns-in-Err-clause-says
 returns-in-Err-clause-says g c =
@@ -21,4 +21,4 @@ returns-in-Err-clause-says g c =
     (λ refused put. arrival_refused g.N.Named.table g.N.Named.origin c.args.key.now
     c.in-Err.refusal _ _ c.args.clerk.now c.arrive.new.clerk refused c.in-Err.ensures.answer
     c.in-Err.ensures.err put)
-    c.put_arrival_refusal.ensures
+    c.put_arrival_refusal.ensures.ok

@@ -11,7 +11,7 @@ returns-in_ok-put_skips-in-Ok-clause-says g c =
     command_made g.N.Named.table g.N.Named.origin (parts_of c.args.command.now) c.in-Ok.taken
     c.keys_made.result.now (string_bytes c.args.out.now) (string_bytes c.put_taken.new.out)
     (string_bytes c.put_skips.new.out) c.args.clerk.now c.command.new.clerk
-    c.in-Ok.ensures.answer c.keys_made.ensures c.in_ok-put_taken-in-Ok.ensures (search rules)
+    c.in-Ok.ensures.answer c.keys_made.ensures c.in_ok-put_taken-in-Ok.ensures.ok (search rules)
 
 pub returns-in-Err-clause-says : goal.returns-in-Err-clause-says
 returns-in-Err-clause-says g c =
@@ -19,4 +19,4 @@ returns-in-Err-clause-says g c =
     (λ refused put. command_refused g.N.Named.table g.N.Named.origin
     (parts_of c.args.command.now) c.in-Err.refusal _ _ c.args.clerk.now c.command.new.clerk
     refused c.in-Err.ensures.answer c.in-Err.ensures.err put)
-    c.put_command_refusal.ensures
+    c.put_command_refusal.ensures.ok

@@ -9,7 +9,7 @@ returns-clause-says g c =
     (λ refused put. undo_said g.N.Named.table g.N.Named.origin c.args.n c.undo.result _ _
     c.args.clerk.now c.undo.new.clerk refused c.undo.ensures.answer c.undo.ensures.ok
     c.undo.ensures.err put)
-    c.put_undo.ensures
+    c.put_undo.ensures.ok
 
 pub returns-clause-parts : goal.returns-clause-parts
 returns-clause-parts g c =

@@ -18,4 +18,4 @@ returns-in_ok-put_refusal-in-Bad-clause-says g c =
     (setting_lent g.T.Reports.text g.N.Named.origin.stock c.args.lines.now.suites.now
     c.args.lines.now.reports)
     c.args.line.now _ _ _ c.in_ok-read_line.field-0 c.in_ok-read_line.ensures
-    c.in-Bad.is c.in_ok-put_refusal-in-Bad.ensures
+    c.in-Bad.is c.in_ok-put_refusal-in-Bad.ensures.ok

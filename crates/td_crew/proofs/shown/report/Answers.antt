@@ -6,7 +6,7 @@ use Rattle.td_crew.proofs.shown.report.Goals as goal
 pub returns-in_default : goal.returns-in_default
 returns-in_default g c = λ receipts.
     untracked_said _ _ _ receipts (ap (option_map (λ r. g.T.Reports.text r.now)) c.in_default.is)
-    c.in_ok-put_refusal.ensures
+    c.in_ok-put_refusal.ensures.ok
 
 pub returns : goal.returns
 returns g c = λ receipts.
