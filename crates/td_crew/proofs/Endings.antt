@@ -140,6 +140,7 @@ ends_closed builders table origin s opened script receipts told now stock marks 
           ∙ ap (λ (l : List ℕ). l ++ rows_told (rows_of closed.book.history)) shift.text_is;
       missing = shift.missing;
       few = shift.few;
+      home = λ some. let end = shift.home some in (end.0, of end.0 end.1, end.2);
       closing = closed.closing;
       closed = subst (λ (found : List Receipt). IsClosing receipts found closed.closing) same
           closed.closed;

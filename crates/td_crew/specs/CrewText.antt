@@ -1,6 +1,6 @@
 -- What is told of a script that a clerk answers beside builders. This project's own.
-use Rattle.std.specs.Prelude.{◌≡◌, ◌⊎◌, ℕ, ◌+◌, ◌≤◌, true, List, [], ◌∷◌, ◌++◌, Option, Some, None}
-use Rattle.std.specs.Prelude.{◌<◌, ◌^◌, IfSome, IsPermutation, codes, length, if◌then◌else◌, map}
+use Rattle.std.specs.Prelude.{◌≡◌, ◌⊎◌, ℕ, ◌+◌, ◌≤◌, false, true, List, [], ◌∷◌, ◌++◌, Option}
+use Rattle.std.specs.Prelude.{Some, None, ◌<◌, ◌^◌, IfSome, IsPermutation, codes, length, if◌then◌else◌, map}
 use Rattle.std.specs.Prelude.{string_bytes, zero}
 use Rattle.atomic_table.specs.Seated.{TableId}
 use Rattle.td_text.specs.Lines.{lines_of}
@@ -11,6 +11,7 @@ use Rattle.td_journal.specs.Replay.{Lawful}
 use Rattle.td_core.specs.History.{History, rows_of}
 use Rattle.td_journal.specs.declared.entry.Mark.{Mark}
 use Rattle.td_book.specs.Desk.{BookModel}
+use Rattle.td_book.specs.Ready.{is_any_queued}
 use Rattle.td_desk.specs.declared.receipt.Receipt.{Receipt}
 use Rattle.td_desk.specs.Calls.{IsOfDesk}
 use Rattle.td_desk.specs.Changes.{changes, still_undone}
@@ -21,6 +22,7 @@ use Rattle.td_script.specs.declared.told.Told.{Told as ToldText}
 use Rattle.td_script.specs.Openings.{IsBegun}
 use Rattle.td_script.specs.Replies.{Setting, ended}
 use Rattle.td_script.specs.Telling.{Telling}
+use Rattle.td_crew.specs.Home.{IsAtEnd}
 use Rattle.td_crew.specs.Replies.{DeskReply, MayReply}
 
 -- ---- 1. the lines
@@ -61,6 +63,11 @@ pub record IsOfCrew (s : Setting) (begun : History) (book : BookModel) : Type 0 
   pub on : GoesOn begun.journal book.history.journal
   pub lawful : Lawful book.history.opening (standing book.history.journal)
 
+-- a book of the crew's was seen in which no row waits for a builder
+abbrev pub IsHome : Setting → History → Type 0
+IsHome s begun =
+    (book : BookModel) × IsOfCrew s begun book × (is_any_queued (rows_of book.history) ≡ false)
+
 -- the line `rows`, and the lines of the rows
 abbrev pub rows_told : Table → List ℕ
 rows_told rows = ended (codes "rows") ++ state_text rows
@@ -74,8 +81,8 @@ IsClosing receipts found refusals =
 -- the answers to the lines are told, each what some book of the crew's answers, and then the rows
 -- of a book of the crew's. What was undone where the script starts is undone in it still, and it has
 -- as many changes as the lines have receipts: none was made that no line asks for. A refusal is a
--- line that is refused, a number that stands for builders who are missing, and a closing where the
--- receipts of the lines aren't the changes of the book
+-- line that is refused, a builder who is missing, and a closing where the receipts of the lines
+-- aren't the changes of the book. Builders who aren't missing went home where no row waited for one
 pub record EndsWithRows (builders : ℕ) (s : Setting) (begun : History) (script text : List ℕ)
     (refused : ℕ) : Type 0 where
   pub told : Told
@@ -88,6 +95,7 @@ pub record EndsWithRows (builders : ℕ) (s : Setting) (begun : History) (script
   pub text_is : text ≡ told.text ++ rows_told (rows_of book.history)
   pub missing : ℕ
   pub few : missing ≤ builders
+  pub home : missing < builders → IsHome s begun
   pub closing : ℕ
   pub closed : IsClosing told.receipts (changes (map (λ m. m.mark) begun.journal) book) closing
   pub refused_is : refused ≡ told.refused + missing + closing
@@ -140,6 +148,7 @@ pub record IsShift (table : TableId) (origin : Origin) (s : Setting) (script : L
   pub text_is : string_bytes told.text ≡ string_bytes lines.text
   pub missing : ℕ
   pub few : missing ≤ builders
+  pub home : missing < builders → IsAtEnd table origin
   pub refused_is : told.refused ≡ lines.refused + missing
 
 -- the rows of a history are put behind what was told

@@ -2,4 +2,5 @@
 pub mod Replies
 pub mod CrewEnds
 pub mod CrewText
+pub mod Home
 pub mod Lines

@@ -15,9 +15,10 @@ ghost use Rattle.td_desk.specs.Calls.{IsOfDesk};
 ghost use Rattle.td_desk.specs.Changes.{changes, still_undone};
 ghost use Rattle.td_crew.specs.CrewText.{AreAnswered, EndsFrom, HasBegun, HasRows, IsClosed};
 ghost use Rattle.td_crew.specs.CrewText.{IsClosing, IsShift, IsShort, crew_tells, marks_begun};
+ghost use Rattle.td_crew.specs.Home.{IsAtEnd};
 ghost use Rattle.td_crew.specs.Lines.{FitAnyBook};
 
-use crate::building::build;
+use crate::building::{GoesHome, build, missing_builders};
 use crate::lines::Lines;
 use crate::shift::Shift;
 use crate::told::tell_lines;
@@ -72,15 +73,17 @@ fn tell_all<N: Named, C: Ledger, T: Reports, R: Wait>(
     Ok((told?, clerk))
 }
 
-// The same while builders work on threads of their own; they are joined then.
+// The same while builders work on threads of their own; they are joined then. It says how many of
+// so many are missing.
 fn tell_beside<N: Named + Send + Sync, C: Ledger + Send + Sync, T: Reports>(
     rt: &(impl Threads + Wait + Sync),
     shift: &Shift<'_, '_, N, C>,
     clerk: Clerk<C>,
     hired: Vec<Hired<N>>,
+    builders: u64,
     builds: &(impl Builds + Sync),
     lines: &Lines<'_, '_, T>,
-) -> Result<(Told, Clerk<C>), AllocError>
+) -> Result<(Told, Clerk<C>, u64), AllocError>
     requires fits { FitAnyBook T.fits lines.now.reports }
     requires archs { table lines.now.archs.now ≡ N.origin.stock.table }
     requires new { clerk.receipts ≡ [] }
@@ -89,11 +92,13 @@ fn tell_beside<N: Named + Send + Sync, C: Ledger + Send + Sync, T: Reports>(
     ensures told { IfOk result (λ made. AreAnswered N.table N.origin
         (setting_lent T.text N.origin.stock lines.now.suites.now lines.now.reports)
         lines.now.script.now made.1.receipts made.0) }
+    ensures missing { IfOk result (λ made. made.2 ≤ builders) }
+    ensures home { IfOk result (λ made. made.2 < builders → IsAtEnd N.table N.origin) }
 {
     thread::scope(
         thread::scope_env(),
         rt,
-        |scope| -> Result<(Told, Clerk<C>), AllocError>
+        |scope| -> Result<(Told, Clerk<C>, u64), AllocError>
             requires fits { FitAnyBook T.fits lines.now.reports }
             requires archs { table lines.now.archs.now ≡ N.origin.stock.table }
             requires new { clerk.receipts ≡ [] }
@@ -103,13 +108,27 @@ fn tell_beside<N: Named + Send + Sync, C: Ledger + Send + Sync, T: Reports>(
             ensures told { IfOk result (λ made. AreAnswered N.table N.origin
                 (setting_lent T.text N.origin.stock lines.entry.now.suites.now
                 lines.entry.now.reports) lines.entry.now.script.now made.1.receipts made.0) }
+            ensures missing { IfOk result (λ made. made.2 ≤ builders) }
+            ensures home { IfOk result (λ made. made.2 < builders → IsAtEnd N.table N.origin) }
         {
+            let mut threads = Vec::with_capacity(lines.alloc, hired.len())?;
             for one in hired {
-                if scope.spawn(move || build(rt, shift, one, builds)).is_err() {
-                    shift.miss();
+                // (a builder without a thread is missing)
+                let begun = scope.spawn_with(
+                    GoesHome::<N>::new(),
+                    move || build(rt, shift, one, builds),
+                );
+                let Ok(thread) = begun else {
+                    continue;
+                };
+                if threads.push(thread).is_err() {
+                    shift.desk.shut(rt);
+                    return Err(AllocError);
                 }
             }
-            tell_all(rt, shift.desk, clerk, lines)
+            let (told, clerk) = tell_all(rt, shift.desk, clerk, lines)?;
+            let missing = missing_builders(rt, threads, builders)?;
+            Ok((told, clerk, missing))
         },
     )
 }
@@ -139,8 +158,10 @@ fn tell_in_shift<N: Named + Send + Sync, C: Ledger + Send + Sync, T: Reports>(
     let builders = seats.len() as u64;
     let hired = hire::<N>(lines.alloc, seats)?;
     let shift = Shift::new(desk);
-    let (mut told, clerk) = tell_beside(rt, &shift, clerk, hired, builds, lines)?;
-    told.refused += shift.missed()?.min(builders);
+    let (mut told, clerk, missing) = tell_beside(
+        rt, &shift, clerk, hired, builders, builds, lines,
+    )?;
+    told.refused += missing;
     Ok((told, clerk))
 }
 

@@ -1,11 +1,20 @@
-//! The desk as builders of a crew find it.
+//! The desk as builders of a crew find it: each call answers what the desk's does.
+ghost use Rattle.std.specs.Prelude.{◌≡◌, ◌⊎◌, false, IfErr, IfOk, OnOk, OnErr};
+ghost use Rattle.td_core.specs.History.{rows_of};
+ghost use Rattle.td_book.specs.Deeds.{code_of};
+ghost use Rattle.td_book.specs.Desk.{BookModel};
+ghost use Rattle.td_book.specs.Ready.{IsReady, is_any_queued};
+ghost use Rattle.td_builder.specs.Floors.{IsHolding, IsStarted, IsFinished};
+ghost use Rattle.td_desk.specs.Calls.{IsOfDesk, Starting, Finishing, MayBeJob};
+ghost use Rattle.td_crew.specs.Home.{IsAtEnd};
+
 use std::alloc::AllocError;
 use std::sync::Wait;
-use std::sync::atomic::{AtomicBool, AtomicU64, Ordering};
+use std::sync::atomic::{AtomicBool, Ordering};
 use std::sync::ledger::Ledger;
 use td_board::BuilderSeat;
 use td_book::{FinishRefusal, Job, StartRefusal};
-use td_builder::{Floor, WorkStop};
+use td_builder::Floor;
 use td_desk::{Desk, Named};
 use td_journal::EntryNo;
 use td_rows::Outcome;
@@ -17,8 +26,6 @@ pub struct Shift<'d, 'a, N: Named, C: Ledger> {
     pub desk: &'d Desk<'a, N, C>,
     // Whether a builder stopped for memory.
     wants_memory: AtomicBool,
-    // How many stopped for anything else, or never came.
-    missing: AtomicU64,
 }
 
 impl<'d, 'a, N: Named, C: Ledger> Shift<'d, 'a, N, C> {
@@ -26,34 +33,18 @@ impl<'d, 'a, N: Named, C: Ledger> Shift<'d, 'a, N, C> {
         Shift {
             desk,
             wants_memory: AtomicBool::new(false),
-            missing: AtomicU64::new(0),
         }
     }
 
-    /// A builder stopped.
-    pub fn stopped(&self, stop: WorkStop) {
-        match stop {
-            WorkStop::NoMemory => self.wants_memory.store(true, Ordering::SeqCst),
-            WorkStop::Mismatch => self.miss(),
-        }
-    }
-
-    /// A builder isn't there.
-    pub fn miss(&self) {
-        self.missing.fetch_add(1, Ordering::SeqCst);
-    }
-
-    /// How many builders were missing, in the end; of want of memory none is told.
-    pub fn missed(&self) -> Result<u64, AllocError> {
-        if self.wants_memory.load(Ordering::SeqCst) {
-            return Err(AllocError);
-        }
-        Ok(self.missing.load(Ordering::SeqCst))
+    /// A builder stopped for memory.
+    pub fn want_memory(&self) {
+        self.wants_memory.store(true, Ordering::SeqCst);
     }
 }
 
 impl<'d, 'a, N: Named, C: Ledger> Floor for Shift<'d, 'a, N, C> {
     ghost use Rattle.td_desk.specs.Calls.{MayBeJob};
+    ghost use Rattle.td_crew.specs.Home.{IsAtEnd};
 
     ghost table = { λ s. N.table };
 
@@ -61,11 +52,15 @@ impl<'d, 'a, N: Named, C: Ledger> Floor for Shift<'d, 'a, N, C> {
 
     ghost jobs = { λ s. MayBeJob N.table N.origin };
 
-    ghost ended = { λ s. Unit {0} };
+    ghost ended = { λ s. IsAtEnd N.table N.origin };
 
     ghost stopped = { λ s stop. Unit {0} };
 
-    fn ready<R: Wait>(&self, rt: &R) -> Result<Vec<usize>, AllocError> {
+    fn ready<R: Wait>(&self, rt: &R) -> Result<Vec<usize>, AllocError>
+        ensures answer { IfOk result (λ numbers. (book : BookModel)
+            × IsOfDesk N.table N.origin book × IsReady (rows_of book.history) numbers.items) }
+        ensures err { OnErr result (Unit {0}) }
+    {
         if self.wants_memory.load(Ordering::SeqCst) {
             return Err(AllocError);
         }
@@ -76,7 +71,12 @@ impl<'d, 'a, N: Named, C: Ledger> Floor for Shift<'d, 'a, N, C> {
         self.desk.claim(row, seat)
     }
 
-    fn start<R: Wait>(&self, rt: &R, seat: &BuilderSeat) -> Result<Job, StartRefusal> {
+    fn start<R: Wait>(&self, rt: &R, seat: &BuilderSeat) -> Result<Job, StartRefusal>
+        requires { seat.now.table ≡ N.table }
+        ensures answer { Starting seat.now N.table N.origin result }
+        ensures job { IfOk result (IsStarted (MayBeJob N.table N.origin) seat.now) }
+        ensures err { IfErr result (λ e. Unit {0}) }
+    {
         Floor::start(self.desk, rt, seat)
     }
 
@@ -85,11 +85,23 @@ impl<'d, 'a, N: Named, C: Ledger> Floor for Shift<'d, 'a, N, C> {
         rt: &R,
         seat: &mut BuilderSeat,
         outcome: Outcome,
-    ) -> Result<EntryNo, FinishRefusal> {
+    ) -> Result<EntryNo, FinishRefusal>
+        requires table { seat.old.table ≡ N.table }
+        requires hand { IsHolding seat.old }
+        ensures answer { Finishing outcome seat.old seat.new N.table N.origin result }
+        ensures ok { OnOk result (IsFinished (code_of outcome) seat.old seat.new) }
+        ensures seat { OnErr result
+            ((seat.new ≡ seat.old) ⊎ IsFinished (code_of outcome) seat.old seat.new) }
+        ensures err { IfErr result (λ e. Unit {0}) }
+    {
         Floor::finish(self.desk, rt, seat, outcome)
     }
 
-    fn wait_for_work<R: Wait>(&self, rt: &R) -> bool {
-        self.desk.wait_for_work(rt)
+    fn wait_for_work<R: Wait>(&self, rt: &R) -> bool
+        ensures answer { (book : BookModel) × IsOfDesk N.table N.origin book
+            × (result ≡ is_any_queued (rows_of book.history)) }
+        ensures ended { result ≡ false → IsAtEnd N.table N.origin }
+    {
+        Floor::wait_for_work(self.desk, rt)
     }
 }

@@ -7,7 +7,8 @@ returns-clause-told g c = record {
   lines = c.in_ok-told.told;
   are = c.in_ok-told.ensures.told;
   text_is = refl;
-  missing = c.min.result;
+  missing = c.in_ok-told.missing;
   few = search rules;
+  home = search rules;
   refused_is = refl;
 }
