@@ -2,6 +2,7 @@
 //! texts. Expected by hand from `docs/FORMATS.md`, deb-version(7) and Policy.
 mod answers;
 mod beside;
+mod early;
 
 use crate::checks::{is_same, made};
 use crate::statuses;

@@ -112,7 +112,7 @@ Architecture: i386
 Note: ax x x
 ";
 
-const LIBFOO2: &str = r#"title = "libfoo2";
+pub const LIBFOO2: &str = r#"title = "libfoo2";
 is_affected = .depends ~ "libfoo1" | .depends ~ "libfoo2";
 is_good = .depends ~ "libfoo2";
 is_bad = .depends ~ "libfoo1";
@@ -139,7 +139,7 @@ fn marked(archive: &Archive<'_, '_>, marks: &Marks, source: &str, arch: &str) ->
     marks.status(archive, number, place)
 }
 
-fn status_name(status: Option<Status>) -> &'static str {
+pub fn status_name(status: Option<Status>) -> &'static str {
     match status {
         Some(status) => status.name(),
         None => "-",

@@ -1,0 +1,239 @@
+//! What the program asks of indices and a tracker, in several threads: the stanzas of long texts,
+//! which are found while these come, then marks, flags and levels. What no clause says is that all
+//! of it is answered where memory suffices. The archive is that of `statuses`, and behind its five
+//! sources stand 6,000 that ask for nothing. Expected by hand, from the rules in `docs/FORMATS.md`.
+ghost use Rattle.td_query.specs.Tracking.{IsTracker, tracking};
+
+use super::answers::counts;
+use crate::checks::{is_told, made};
+use crate::statuses::{ARCHS, LIBFOO2, PACKAGES, SOURCES, status_name};
+use std::alloc::{AllocError, Global};
+use std::process::Abort;
+use std::thread::Threads;
+use td_indices::{Archive, EarlyPackages, EarlySources};
+use td_query::{Marks, Tracker};
+use td_relation::Archs;
+use td_waves::{Level, Waves};
+
+// Puts down the stanzas with these numbers, each behind an empty line. 3,000 of them are more bytes
+// than are read as one piece.
+fn put_stanzas(out: &mut String, from: usize, to: usize) -> Result<(), AllocError> {
+    for number in from..to {
+        write!(
+            out,
+            "\nPackage: zz{number}\nVersion: 1\nArchitecture: amd64\n"
+        )?;
+    }
+    Ok(())
+}
+
+// A text with stanzas behind it, up to a number.
+fn lengthened(alloc: Global, text: &str, to: usize) -> Result<String, AllocError> {
+    let mut out = String::from_str(alloc, text)?;
+    put_stanzas(&mut out, 0, to)?;
+    Ok(out)
+}
+
+// What stands behind the first 3,000.
+fn rest(alloc: Global) -> Result<String, AllocError> {
+    let mut out = String::new(alloc);
+    put_stanzas(&mut out, 3000, 6000)?;
+    Ok(out)
+}
+
+fn put_level(out: &mut String, level: Option<Level>) -> Result<(), AllocError> {
+    match level {
+        Some(Level::At(number)) => write!(out, "{number}")?,
+        Some(Level::Cyclic) => out.push_str("cyclic")?,
+        None => out.push_str("-")?,
+    }
+    Ok(())
+}
+
+// Puts down a source's status and its level.
+fn put_source(
+    out: &mut String,
+    archive: &Archive<'_, '_>,
+    marks: &Marks,
+    waves: &Waves<'_>,
+    name: &str,
+) -> Result<(), AllocError> {
+    let number = archive.source_number(name).unwrap_or(usize::MAX);
+    out.push_str(", ")?;
+    out.push_str(status_name(marks.status(archive, number, 0)))?;
+    out.push_str(" ")?;
+    put_level(out, waves.level(name))
+}
+
+const NAMES: [&str; 6] = ["pa", "qb", "rc", "sd", "te", "zz5999"];
+
+// How many levels there are, and the statuses and levels of those names.
+fn told_in_levels(
+    alloc: Global,
+    archive: &Archive<'_, '_>,
+    marks: &Marks,
+    waves: &Waves<'_>,
+) -> Result<String, AllocError> {
+    let mut out = format!(in alloc; "{} levels", waves.depth())?;
+    for name in &NAMES {
+        put_source(&mut out, archive, marks, waves, name)?;
+    }
+    Ok(out)
+}
+
+// The same of the sources whose flag is set.
+fn told_flagged(
+    rt: &(impl Threads + Sync),
+    alloc: Global,
+    archive: &Archive<'_, '_>,
+    marks: &Marks,
+    flags: &[bool],
+) -> Result<String, AllocError> {
+    let names = archive.names_of(alloc, flags)?;
+    match Waves::of_beside(rt, alloc, archive, &names) {
+        Ok(waves) => {
+            let told = told_in_levels(alloc, archive, marks, &waves);
+            drop(waves);
+            told
+        }
+        Err(error) => Err(error),
+    }
+}
+
+// The same of the sources that are marked as affected.
+fn told_marked(
+    rt: &(impl Threads + Sync),
+    alloc: Global,
+    archive: &Archive<'_, '_>,
+    marks: &Marks,
+) -> Result<String, AllocError> {
+    match marks.affected_flags_beside(rt, alloc, archive) {
+        Ok(flags) => told_flagged(rt, alloc, archive, marks, flags.as_slice()),
+        Err(error) => Err(error),
+    }
+}
+
+// The same by marks, if there are some.
+fn told_by(
+    rt: &(impl Threads + Sync),
+    alloc: Global,
+    archive: &Archive<'_, '_>,
+    marks: Result<Marks, AllocError>,
+) -> Result<String, AllocError> {
+    match marks {
+        Ok(marks) => {
+            let told = told_marked(rt, alloc, archive, &marks);
+            drop(marks);
+            told
+        }
+        Err(error) => Err(error),
+    }
+}
+
+// The marks of a text's tracker, or of its affected query alone.
+fn marks_of(
+    rt: &(impl Threads + Sync),
+    alloc: Global,
+    archive: &Archive<'_, '_>,
+    tracker: Tracker<'_>,
+    text: &str,
+    is_alone: bool,
+) -> Result<Marks, AllocError>
+    requires { IsTracker text.now (tracking tracker) }
+{
+    if is_alone {
+        let affected = tracker.affected_alone();
+        Marks::make_affected_beside(rt, alloc, archive, &affected, text)
+    } else {
+        Marks::make_beside(rt, alloc, archive, &tracker, text)
+    }
+}
+
+// What is told by the tracker of a text.
+fn told(
+    rt: &(impl Threads + Sync),
+    alloc: Global,
+    archive: &Archive<'_, '_>,
+    text: &str,
+    is_alone: bool,
+) -> Result<String, AllocError> {
+    match Tracker::read(alloc, text) {
+        Ok(tracker) => {
+            let marks = marks_of(rt, alloc, archive, tracker, text, is_alone);
+            told_by(rt, alloc, archive, marks)
+        }
+        Err(_) => String::from_str(alloc, "no tracker"),
+    }
+}
+
+// A tracker, whether its affected query is asked alone, and what is told.
+const TOLD: [(&str, bool, &str); 4] = [
+    (
+        LIBFOO2,
+        false,
+        "2 levels, good 2, partial 1, bad cyclic, bad cyclic, - -, - -",
+    ),
+    (
+        LIBFOO2,
+        true,
+        "2 levels, unknown 2, unknown 1, unknown cyclic, unknown cyclic, - -, - -",
+    ),
+    (
+        "is_affected = true; is_good = .package ~ /^zz/; is_bad = false;",
+        false,
+        "2 levels, unknown 2, unknown 1, unknown cyclic, unknown cyclic, unknown 1, good 1",
+    ),
+    (
+        "is_affected = .package ~ /^zz/; is_good = true; is_bad = true;",
+        true,
+        "1 levels, - -, - -, - -, - -, - -, unknown 1",
+    ),
+];
+
+// Whether the archive of indices whose stanzas were found early is as it should be.
+fn is_read(
+    rt: &(impl Threads + Abort + Sync),
+    alloc: Global,
+    packages: EarlyPackages<'_>,
+    sources: EarlySources<'_>,
+) {
+    let archs = made(rt, Archs::read(alloc, ARCHS));
+    let read = Archive::of_early(rt, alloc, packages, sources, &archs);
+    let archive = made(rt, read);
+    is_told(rt, counts(alloc, &archive), "6005 6006 6005", "counts");
+    for (text, is_alone, expected) in &TOLD {
+        is_told(
+            rt,
+            told(rt, alloc, &archive, text, *is_alone),
+            expected,
+            text,
+        );
+    }
+    drop(archive);
+}
+
+#[test]
+fn long_indices_that_come_whole_are_asked_in_threads(rt: HostRuntime) {
+    let packages = made(&rt, lengthened(rt.alloc(), PACKAGES, 6000));
+    let sources = made(&rt, lengthened(rt.alloc(), SOURCES, 6000));
+    let early_packages = EarlyPackages::read_beside(&rt, rt.alloc(), packages.as_str());
+    let early_sources = EarlySources::read_beside(&rt, rt.alloc(), sources.as_str());
+    is_read(&rt, rt.alloc(), early_packages, early_sources);
+}
+
+#[test]
+fn long_indices_that_come_in_halves_are_asked_in_threads(rt: HostRuntime) {
+    let packages = made(&rt, lengthened(rt.alloc(), PACKAGES, 3000));
+    let sources = made(&rt, lengthened(rt.alloc(), SOURCES, 3000));
+    let rest = made(&rt, rest(rt.alloc()));
+    let early_packages = EarlyPackages::of_halves(
+        &rt,
+        rt.alloc(),
+        packages.as_str(),
+        rest.as_str(),
+    );
+    let early_sources = EarlySources::of_halves(&rt, rt.alloc(), sources.as_str(), rest.as_str());
+    let packages = made(&rt, early_packages.ok_or("no halves"));
+    let sources = made(&rt, early_sources.ok_or("no halves"));
+    is_read(&rt, rt.alloc(), packages, sources);
+}
