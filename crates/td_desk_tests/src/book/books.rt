@@ -179,11 +179,37 @@ const TOO_LATE: [Played<'static>; 1] = [(
     "transdesk journal 2\n1 - nmu bar/amd64 bar/i386 foo/amd64\n",
 )];
 
+// Two builders have claimed the rows of an entry. Its undo comes to them in the order of the keys,
+// whichever builder has the first, and the other claim is noted when its builder starts.
+const TWO_WON: [Played<'static>; 2] = [
+    (
+        INSTALLED,
+        "nmu foo bar . amd64 => entry 1\n\
+         claim 1 bar/amd64 => true\n\
+         claim 2 foo/amd64 => true\n\
+         undo 1 => Err(Blocked(2))\n\
+         start 2 => foo/amd64 1.2-3+b1 1 ()\n",
+        "transdesk journal 2\n\
+         1 + nmu bar/amd64 foo/amd64\n\
+         2 + claim=1 bar/amd64\n\
+         3 + claim=2 foo/amd64\n",
+    ),
+    (
+        INSTALLED,
+        "nmu foo bar . amd64 => entry 1\n\
+         claim 1 foo/amd64 => true\n\
+         claim 2 bar/amd64 => true\n\
+         undo 1 => Err(Blocked(2))\n",
+        "transdesk journal 2\n1 + nmu bar/amd64 foo/amd64\n2 + claim=2 bar/amd64\n",
+    ),
+];
+
 #[test]
 fn a_claim_that_a_builder_has_won_blocks_an_undo(rt: HostRuntime) -> Result<(), Fail> {
     for (won, second, third) in &WON {
         blocks(&rt, rt.alloc(), won, second, third)?;
     }
+    are_played(&rt, rt.alloc(), &TWO_WON)?;
     are_played(&rt, rt.alloc(), &TOO_LATE)
 }
 
@@ -219,6 +245,16 @@ claim 1 foo/amd64 => true
 dw foo . amd64 . -m libbar-dev => NothingApplies, foo/amd64 State(Building(1))
 ";
 
+const NOTED_BY_A_GB: &str = "\
+claim 1 foo/amd64 => true
+gb foo . amd64 => NothingApplies, foo/amd64 State(Building(1))
+";
+
+const NOTED_OF_ANOTHER_VERSION: &str = "\
+claim 1 foo/amd64 => true
+dw foo_9 . amd64 . unstable . -m libx => NothingApplies, foo/amd64 Version
+";
+
 const PRIORITY_BACK: &str = "\
 bp 5 foo . amd64 => entry 1
 claim 1 foo/amd64 => true
@@ -242,7 +278,7 @@ claim 3 foo/amd64 => true
 finish 3 built => Ok(7)
 ";
 
-const BUILT: [Played<'static>; 5] = [
+const BUILT: [Played<'static>; 7] = [
     (
         INSTALLED,
         WAITS,
@@ -262,6 +298,16 @@ const BUILT: [Played<'static>; 5] = [
     (
         NEEDS_FIRST_BUILD,
         NOTED_BY_A_COMMAND,
+        "transdesk journal 2\n1 + claim=1 foo/amd64\n",
+    ),
+    (
+        NEEDS_BUILD,
+        NOTED_BY_A_GB,
+        "transdesk journal 2\n1 + claim=1 foo/amd64\n",
+    ),
+    (
+        NEEDS_BUILD,
+        NOTED_OF_ANOTHER_VERSION,
         "transdesk journal 2\n1 + claim=1 foo/amd64\n",
     ),
     (
