@@ -8,7 +8,8 @@ use Rattle.td_text.specs.Lines.{on_ok}
 use Rattle.td_text.proofs.Prefix.{strip_found}
 use Rattle.td_query.specs.declared.query.Joint.{Joint}
 use Rattle.td_query.specs.declared.query.Joint.TheVariants.{And, Or}
-use Rattle.td_query.specs.QueryGrammar.{Log, Read, and_with, atom, closed, negating, not_in, or_else}
+use Rattle.td_query.specs.QueryGrammar.{Log, Read, and_with, atom, closed, negating, not_in}
+use Rattle.td_query.specs.QueryGrammar.{or_else}
 use Rattle.td_query.specs.QueryGrammar.{or_with, part_at, quoted, slash_atom, slashed, tested}
 use Rattle.td_query.specs.QueryGrammar.{tilde_atom, tilded}
 use Rattle.td_query.specs.QueryRules.{Comes}
@@ -53,7 +54,8 @@ tilde_pattern log field t u w tilde quote slash closes =
     (strip (codes "\"") (skipped u)))) =
     subst (λ (o : Option (List ℕ)). IsTrue (reads_pattern (quoted log field (skipped u) o)))
     (sym quote) behind_quote in
-    subst (λ (o : Option (List ℕ)). IsTrue (reads_pattern (tilded log field (length (skipped t)) o)))
+    subst (λ (o : Option (List ℕ)).
+    IsTrue (reads_pattern (tilded log field (length (skipped t)) o)))
     (sym tilde) behind_tilde
 
 -- ---- 3. a part

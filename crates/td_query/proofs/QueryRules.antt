@@ -1,5 +1,6 @@
 -- The rules of queries.
-use Rattle.std.proofs.Common.{◌≡◌, ℕ, zero, suc, ◌≤◌, Bool, true, false, not, eqb, List, [], ◌∷◌, ◌++◌}
+use Rattle.std.proofs.Common.{◌≡◌, ℕ, zero, suc, ◌≤◌, Bool, true, false, not, eqb, List, [], ◌∷◌}
+use Rattle.std.proofs.Common.{◌++◌}
 use Rattle.std.proofs.Common.{length, Some, None, Ok, refl, ap, ◌∙◌, arith}
 use Rattle.std.specs.Prelude.{codes, if◌then◌else◌, is_ok}
 use Rattle.std.proofs.lemmas.Bool.{false≢true}
@@ -179,7 +180,8 @@ nothing_read (suc depth) log after s rest h = false≢true (ap (λ (r : Read). i
 -- so a mark and a part behind it are two at least
 mark_and_part : (mark : ℕ) (depth : ℕ) (log after : Log) (t u rest : List ℕ) (s : Shape)
     → Comes (mark ∷ []) t u → not_in depth log u ≡ Ok (s, after, rest) → 2 ≤ length t
-mark_and_part mark depth log after t [] rest s here h = absurd (nothing_read depth log after s rest h)
+mark_and_part mark depth log after t [] rest s here h =
+    absurd (nothing_read depth log after s rest h)
 mark_and_part mark depth log after t (x ∷ u) rest s here h =
     let short : length (skipped t) ≤ length t = skipped_short false t in
     let all : length (skipped t) ≡ suc (suc (length u)) = ap length here in

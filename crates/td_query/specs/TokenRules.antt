@@ -15,7 +15,8 @@ CommentsAreSkipped = (comment t : List ℕ) → Without 10 comment
 
 -- the last line may be a comment without a newline
 abbrev pub LastCommentsAreSkipped : Type 0
-LastCommentsAreSkipped = (comment : List ℕ) → Without 10 comment → skipped (codes "#" ++ comment) ≡ []
+LastCommentsAreSkipped =
+    (comment : List ℕ) → Without 10 comment → skipped (codes "#" ++ comment) ≡ []
 
 -- nothing else is skipped
 abbrev pub OthersAreKept : Type 0

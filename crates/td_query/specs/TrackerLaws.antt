@@ -33,7 +33,7 @@ pub record IsSameTracker (t u : Tracking) : Type 0 where
   pub sources : u.sources ≡ t.sources
   pub patterns : AllZip SameCaptures t.patterns u.patterns
 
--- two trackers of one text are
+-- two trackers of one text are the same so far
 abbrev pub TrackersAreOne : Type 0
 TrackersAreOne = (text : List ℕ) (t u : Tracking) → IsTracker text t → IsTracker text u
     → IsSameTracker t u
@@ -48,7 +48,7 @@ TrackersHoldAlike = (text : List ℕ) (t u : Tracking) → IsTracker text t → 
     → (fields : List Entry) → HaveBytes fields → (query : Shape)
     → truth u.patterns fields query ≡ truth t.patterns fields query
 
--- so are those of an archive's stanzas
+-- the values of the fields of all stanzas of an archive are bytes
 abbrev pub KeepsBytes : Contents → Type 0
 KeepsBytes a = ((s : KeptSource) → HaveBytes (source_fields a s))
     × ((b : KeptBinary) → HaveBytes (package_fields a b))

@@ -1,5 +1,5 @@
--- Where the readers of a tracker may want memory: no sooner than an atom can be read. This project's
--- own.
+-- Where the readers of a tracker may want memory: no sooner than an atom can be read.
+-- This project's own.
 use Rattle.std.specs.Prelude.{◌⊎◌, ℕ, zero, suc, ◌<◌, Bool, true, false, List, Ok, Err, IsOk}
 use Rattle.std.specs.Prelude.{codes, length}
 use Rattle.td_text.specs.Runs.{run, behind}
@@ -26,13 +26,14 @@ reads_pattern (Err e) = false
 abbrev pub IsAtom : List ℕ → Type 0
 IsAtom t = (log : Log) × IsOk (atom log (skipped t))
 
--- an atom can be read in front, or behind the brackets and `!` in front, of which so many may open
+-- an atom can be read in front, or after the `!` and `(` in front, of which there are so many at
+-- most
 unfoldable pub IsBegun : ℕ → List ℕ → Type 0
 IsBegun zero t = IsAtom t
 IsBegun (suc depth) t =
     IsAtom t ⊎ ((u : List ℕ) × (Comes (codes "!") t u ⊎ Comes (codes "(") t u) × IsBegun depth u)
 
--- a key stands in front, and behind its `=` an atom can be read
+-- a key stands in front, and after its `=` the beginning of a query
 abbrev pub IsEntryBegun : List ℕ → Type 0
 IsEntryBegun at =
     (0 < length (run is_key_byte at))
