@@ -7,7 +7,8 @@ use Rattle.td_rows.specs.declared.outcome.Outcome.{Outcome}
 use Rattle.td_board.specs.declared.views.Hand.{Hand}
 use Rattle.td_board.specs.declared.views.Hand.TheVariants.{Free, Holding, Finished}
 use Rattle.td_board.specs.Seats.{BuilderModel}
-use Rattle.td_board.specs.Knowledge.{with_finish}
+use Rattle.td_board.specs.declared.views.BuilderTry.TheVariants.{FinishEarly}
+use Rattle.td_board.specs.Knowledge.{with_finish, builder_tried}
 use Rattle.td_core.specs.History.{rows_of}
 use Rattle.td_book.specs.declared.starting.Job.{Job}
 use Rattle.td_book.specs.declared.starting.StartRefusal.{StartRefusal}
@@ -18,7 +19,7 @@ use Rattle.td_book.specs.Deeds.{code_of}
 use Rattle.td_book.specs.Desk.{BookModel}
 use Rattle.td_book.specs.Finishing.{FinishHeld, FinishOutcome}
 use Rattle.td_book.specs.Ready.{is_any_queued}
-use Rattle.td_builder.specs.Floors.{IsHolding, IsStarted, IsFinished}
+use Rattle.td_builder.specs.Floors.{IsHolding, IsStarted, IsEarly, IsFinished}
 use Rattle.td_desk.specs.Calls.{IsOfDesk, Starting, Finishing, MayBeJob}
 use Rattle.td_desk.specs.Names.{Origin}
 
@@ -52,15 +53,17 @@ finished_held o s t i old new (Err e) hand at is = tt
 
 refused_held : (o : Outcome) (s t : BuilderModel) (i : ℕ) (old new : BookModel)
     (r : Result ℕ FinishRefusal) → s.builder.hand ≡ Holding i → t.table ≡ s.table
-    → FinishHeld i o s.builder t.builder old new r → OnErr r ((t ≡ s) ⊎ IsFinished (code_of o) s t)
+    → FinishHeld i o s.builder t.builder old new r
+    → OnErr r ((t ≡ s) ⊎ IsEarly (code_of o) s t ⊎ IsFinished (code_of o) s t)
 refused_held o s t i old new (Ok n) hand at is = tt
 refused_held o s t i old new (Err finishes.NoMemory) hand at (same, is) = inl (same_seat s t at is)
 refused_held o s t i old new (Err finishes.NothingHeld) hand at is = absurd is
-refused_held o s t i old new (Err finishes.Mismatch) hand at (is, seen, was) = ⊎_elim
-    (λ (same : t.builder ≡ s.builder). inl (same_seat s t at same))
-    (λ (done : (is ≡ true) × (t.builder ≡ with_finish i (code_of o) s.builder)).
-    inr (ended_seat o s t i hand at done.1))
-    was
+refused_held o s t i old new (Err finishes.Mismatch) hand at (is, behind, seen, inl was) =
+    inl (same_seat s t at was.2)
+refused_held o s t i old new (Err finishes.Mismatch) hand at (is, behind, seen, inr (inl was)) =
+    inr (inl (i, hand, (λ j. record { table = at j; builder = was.2 j })))
+refused_held o s t i old new (Err finishes.Mismatch) hand at (is, behind, seen, inr (inr was)) =
+    inr (inr (ended_seat o s t i hand at was.2))
 
 pub finished : (table : TableId) (origin : Origin) (o : Outcome) (s t : BuilderModel)
     (r : Result ℕ FinishRefusal) → IsHolding s → t.table ≡ s.table
@@ -74,9 +77,10 @@ finished table origin o s t r (i, hand) at (old, new, of, inr is) =
 
 pub kept_or_finished : (table : TableId) (origin : Origin) (o : Outcome) (s t : BuilderModel)
     (r : Result ℕ FinishRefusal) → IsHolding s → t.table ≡ s.table
-    → Finishing o s t table origin r → OnErr r ((t ≡ s) ⊎ IsFinished (code_of o) s t)
+    → Finishing o s t table origin r
+    → OnErr r ((t ≡ s) ⊎ IsEarly (code_of o) s t ⊎ IsFinished (code_of o) s t)
 kept_or_finished table origin o s t r (i, hand) at (old, new, of, inl (e, busy, all, same)) =
-    subst (λ x. OnErr x ((t ≡ s) ⊎ IsFinished (code_of o) s t)) (sym e)
+    subst (λ x. OnErr x ((t ≡ s) ⊎ IsEarly (code_of o) s t ⊎ IsFinished (code_of o) s t)) (sym e)
     (inl (same_seat s t at same))
 kept_or_finished table origin o s t r (i, hand) at (old, new, of, inr is) =
     let f : FinishOutcome (Holding i) o s.builder t.builder old new r =

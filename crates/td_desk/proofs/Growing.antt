@@ -5,6 +5,7 @@ use Rattle.std.proofs.Common.{Result, Ok, Err, if◌then◌else◌}
 use Rattle.std.specs.Prelude.{IsPermutation, IsSomeAnd}
 use Rattle.td_board.specs.declared.outcome.OutcomeCode.{OutcomeCode}
 use Rattle.td_board.specs.declared.views.BuilderView.{BuilderView}
+use Rattle.td_board.specs.declared.views.DeskTry.{DeskTry}
 use Rattle.td_board.specs.declared.views.Hand.{Hand}
 use Rattle.td_board.specs.declared.views.Hand.TheVariants.{Free, Holding, Finished}
 use Rattle.td_rows.specs.declared.key.Key.{Key}
@@ -137,8 +138,8 @@ sweep_kept os e old new still is = unchanged os old new 1 still is
 
 -- ---- 2. builders
 
-noticed : (os : List Mark) (i b : ℕ) (is : Bool) (old new : BookModel)
-    → still_undone old.history.journal os ≡ true → Noticed i b is old new → Kept os old new 1
+noticed : {tries : List DeskTry} (os : List Mark) (i b : ℕ) (is : Bool) (old new : BookModel)
+    → still_undone old.history.journal os ≡ true → Noticed i b is tries old new → Kept os old new 1
 noticed os i b is old new still seen =
     kept os old new 1 still seen.fixed
     (subst (λ (h : History). Notes old.history.journal h.journal 1) (sym seen.history)
@@ -177,7 +178,7 @@ held_kept os i o v w old new (Ok n) still is =
     (notes_one old.history f.key f.by)
     (notes_entry h.journal new.history.journal e refl (ap (λ (x : History). x.journal) f.history)))
 held_kept os i o v w old new (Err finishes.NoMemory) still is = unchanged os old new 2 still is.0
-held_kept os i o v w old new (Err finishes.Mismatch) still (is, seen, hand) =
+held_kept os i o v w old new (Err finishes.Mismatch) still (is, behind, seen, hand) =
     more_room os old new (noticed os i v.number is old new still seen)
 held_kept os i o v w old new (Err finishes.NothingHeld) still is = absurd is
 
@@ -193,7 +194,10 @@ again_kept os i c o b old new (Ok n) still is =
 again_kept os i c o b old new (Err finishes.NothingHeld) still is =
     unchanged os old new 2 still is.1
 again_kept os i c o b old new (Err finishes.NoMemory) still is = unchanged os old new 2 still is.1
-again_kept os i c o b old new (Err finishes.Mismatch) still is = unchanged os old new 2 still is.1
+again_kept os i c o b old new (Err finishes.Mismatch) still is =
+    kept os old new 2 still (ap (λ (x : BookModel). x.fixed) is.1.1)
+    (notes_none old.history.journal new.history.journal 2
+    (ap (λ (x : BookModel). x.history.journal) is.1.1))
 
 pub finish_kept : (os : List Mark) (hand : Hand) (o : Outcome) (v w : BuilderView)
     (old new : BookModel) (r : Result ℕ FinishRefusal) → still_undone old.history.journal os ≡ true

@@ -4,6 +4,7 @@ use Rattle.std.specs.Prelude.{IsSomeAnd}
 use Rattle.std.specs.declared.alloc.AllocError.{AllocError}
 use Rattle.td_board.specs.declared.outcome.OutcomeCode.{OutcomeCode}
 use Rattle.td_board.specs.declared.views.BuilderView.{BuilderView}
+use Rattle.td_board.specs.declared.views.DeskTry.{DeskTry}
 use Rattle.td_board.specs.declared.views.Hand.{Hand}
 use Rattle.td_board.specs.declared.views.Hand.TheVariants.{Free, Holding, Finished}
 use Rattle.td_rows.specs.declared.key.Key.{Key}
@@ -56,8 +57,8 @@ sweep_origin old new (Ok None) is = all old new is.1
 sweep_origin old new (Ok (Some n)) is = ap origin is.1
 sweep_origin old new (Err e) is = all old new is
 
-noticed : (i b : ℕ) (is : Bool) (old new : BookModel) → Noticed i b is old new
-    → origin new ≡ origin old
+noticed : {tries : List DeskTry} (i b : ℕ) (is : Bool) (old new : BookModel)
+    → Noticed i b is tries old new → origin new ≡ origin old
 noticed i b is old new seen =
     ap (λ (h : History). h.opening) seen.history ∙ noting_one-opening old.history seen.key seen.by
 
@@ -75,7 +76,7 @@ held_origin : (i : ℕ) (o : Outcome) (v w : BuilderView) (old new : BookModel)
 held_origin i o v w old new (Ok n) is =
     ap (λ (h : History). h.opening) is.0.history ∙ noting_one-opening old.history is.0.key is.0.by
 held_origin i o v w old new (Err finishes.NoMemory) is = all old new is.0
-held_origin i o v w old new (Err finishes.Mismatch) (is, seen, hand) =
+held_origin i o v w old new (Err finishes.Mismatch) (is, behind, seen, hand) =
     noticed i v.number is old new seen
 held_origin i o v w old new (Err finishes.NothingHeld) is = absurd is
 
@@ -84,7 +85,7 @@ again_origin : (i : ℕ) (c : OutcomeCode) (o : Outcome) (b : ℕ) (old new : Bo
 again_origin i c o b old new (Ok n) is = ap (λ (h : History). h.opening) is.1.history
 again_origin i c o b old new (Err finishes.NothingHeld) is = all old new is.1
 again_origin i c o b old new (Err finishes.NoMemory) is = all old new is.1
-again_origin i c o b old new (Err finishes.Mismatch) is = all old new is.1
+again_origin i c o b old new (Err finishes.Mismatch) is = ap origin is.1.1
 
 pub finish_origin : (hand : Hand) (o : Outcome) (v w : BuilderView) (old new : BookModel)
     (r : Result ℕ FinishRefusal) → FinishOutcome hand o v w old new r → origin new ≡ origin old

@@ -175,7 +175,7 @@ impl<'a, N: Named, C: Ledger> Desk<'a, N, C> {
         requires { seat.old.table ≡ N.table }
         ensures { MatchBool result
             (IsWon self.now.board.rows row seat.old seat.new)
-            (IsLost seat.old seat.new) }
+            (IsLost self.now.board.rows row seat.old seat.new) }
     {
         self.board.claim(row, seat)
     }
