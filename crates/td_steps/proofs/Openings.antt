@@ -88,6 +88,6 @@ openings_are_steps t fixed up none =
       sees = o.sees;
       leads = subst (λ (u : Table).
           LeadsOn (world_of t fixed.stock fixed.builders) (first_desk t fixed.stock fixed.builders)
-          (offering u (keys_of u)) (resting (record { history = opened t; fixed = fixed; tries = [] }))) same
-          o.leads;
+          (offering u (keys_of u))
+          (resting (record { history = opened t; fixed = fixed; tries = [] }))) same o.leads;
     }
