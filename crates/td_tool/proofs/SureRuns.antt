@@ -1,6 +1,6 @@
 -- A run ends as it says, and a script over readable texts is answered.
 use Rattle.std.proofs.Common.{◌≡◌, ℕ, ◌==◌, List, Option, Bool, true, false, Result, Ok, Err}
-use Rattle.std.proofs.Common.{IfOk, IfErr, if◌then◌else◌, inl, inr, refl, sym, ap, subst, ◌∙◌}
+use Rattle.std.proofs.Common.{if◌then◌else◌, inl, inr, refl, sym, ap, subst, ◌∙◌}
 use Rattle.std.specs.Io.KnownBytes.{Keeps}
 use Rattle.td_bytes.specs.declared.text.TextFault.{TextFault}
 use Rattle.td_bytes.specs.declared.text.TextFault.TheVariants as text_fault
@@ -18,8 +18,6 @@ use Rattle.td_script.specs.declared.running.RunFault.{RunFault}
 use Rattle.td_script.specs.declared.running.RunFault.TheVariants as stopped
 use Rattle.td_script.specs.declared.running.ScriptEnd.{ScriptEnd}
 use Rattle.td_script.specs.declared.input_fault.InputFault.TheVariants as form
-use Rattle.td_tool.specs.declared.file_texts.FileFault.{FileFault}
-use Rattle.td_tool.specs.declared.run_files.RunTexts.{RunTexts}
 use Rattle.td_script.specs.declared.role.Role.{Role}
 use Rattle.td_script.specs.declared.role.Role.TheVariants.{Input, Archs, Packages, Sources, State}
 use Rattle.td_script.specs.declared.role.Role.TheVariants.{Tracker, Outcomes, Journal}
@@ -29,9 +27,7 @@ use Rattle.td_tool.specs.Ending.{ending_of_file, ending_of_form, ending_of_stop}
 use Rattle.td_tool.specs.Runs.{AreKnownTexts, AreTextsOf, EndsRun, FailsAt, MayEnd, OnlyCrewEnds}
 use Rattle.td_tool.specs.Runs.{OnlyEnds, OnlyPlayEnds, RunFiles, Texts, ending_of_crew}
 use Rattle.td_tool.specs.Runs.{crew_size, ending_of_script, outcome_lines, script_texts}
-use Rattle.td_tool.specs.CheckInside.{EndsUnwritten, FileUnread}
-use Rattle.td_tool.specs.RunInside.{AreInputsOf, AreRunTexts, HasRunFailed, Plays, PlaysInputs}
-use Rattle.td_tool.specs.RunInside.{PlaysTexts, run_texts_of}
+use Rattle.td_tool.specs.RunInside.{AreInputsFor, AreInputsOf, HasNoInputs, Plays, PlaysInputs}
 use Rattle.td_tool.proofs.Sure.{given_same, given_text, known_same, one_text}
 
 -- ---- a script over readable texts
@@ -218,42 +214,30 @@ unread_ends files x role text_fault.NotText failed known =
     absurd (no_such_text files role x failed known)
 unread_ends files x role text_fault.NoMemory failed known = tt
 
-run_unread : (files : RunFiles) (suite : List ℕ) (f : FileFault)
-    (known old new : Option (List ℕ)) (ending : Ending) → HasRunFailed files f
-    → ending ≡ ending_of_file f.role f.fault → Keeps old new
+-- where a file isn't read, or memory is wanting for the inputs, nothing is written
+pub run_without_inputs : (files : RunFiles) (suite : List ℕ) (known old new : Option (List ℕ))
+    (ending : Ending) → HasNoInputs files ending → Keeps old new
     → EndsRun files suite known old new ending
-run_unread files suite f known old new ending failed is kept = record {
-  says = inr (inl ((f.role, f.fault, failed, is), kept));
+run_without_inputs files suite known old new ending (inl lacks) kept = record {
+  says = inl (lacks, kept);
   only = λ x files-are. play_only files.builders x suite known ending
-      (subst (MayEnd x.tracker) (sym is) (unread_ends files x f.role f.fault failed files-are));
+      (subst (MayEnd x.tracker) (sym lacks) tt);
+}
+run_without_inputs files suite known old new ending (inr (role, fault, failed, is)) kept = record {
+  says = inr (inl ((role, fault, failed, is), kept));
+  only = λ x files-are. play_only files.builders x suite known ending
+      (subst (MayEnd x.tracker) (sym is) (unread_ends files x role fault failed files-are));
 }
 
--- memory may be wanting for the inputs
-pub texts_played : {E : Type 0} (n : ℕ) (x : Texts) (suite : List ℕ)
-    (known old new : Option (List ℕ)) (r : Result Inputs E) (ending : Ending)
-    → IfOk r (AreInputsOf x suite n) → IfOk r (λ i. PlaysInputs n i known old new ending)
-    → IfErr r (λ e. EndsUnwritten NoMemory old new ending)
-    → PlaysTexts n x suite known old new ending
-texts_played n x suite known old new (Ok inputs) ending are plays lacks =
+-- over its inputs the script ends the run
+pub run_over_inputs : (files : RunFiles) (suite : List ℕ) (inputs : Inputs)
+    (known old new : Option (List ℕ)) (ending : Ending) → AreInputsFor files suite inputs
+    → PlaysInputs files.builders inputs known old new ending
+    → EndsRun files suite known old new ending
+run_over_inputs files suite inputs known old new ending (x, texts, are) plays =
     let played = plays x suite are in
-    record { says = inr played.says; only = played.only }
-texts_played n x suite known old new (Err e) ending are plays lacks = record {
-  says = inl (lacks.ends, lacks.kept);
-  only = play_only n x suite known ending (subst (MayEnd x.tracker) (sym lacks.ends) tt);
-}
-
-pub run_ends : (files : RunFiles) (suite : List ℕ) (known old new : Option (List ℕ))
-    (r : Result RunTexts FileFault) (ending : Ending) → IfOk r (AreRunTexts files)
-    → IfErr r (HasRunFailed files)
-    → IfOk r (λ x. PlaysTexts files.builders (run_texts_of x) suite known old new ending)
-    → IfErr r (λ f. FileUnread f old new ending) → EndsRun files suite known old new ending
-run_ends files suite known old new (Ok read) ending texts failed plays unread = record {
-  says = elim plays.says [
-    | inl lacks ↦ inl lacks
-    | inr ends ↦ inr (inr (run_texts_of read, texts, ends))
-  ];
-  only = λ y files-are. subst (λ z. OnlyPlayEnds files.builders z suite known ending)
-      (sym (same_texts files y (run_texts_of read) files-are texts)) plays.only;
-}
-run_ends files suite known old new (Err f) ending texts failed plays unread =
-    run_unread files suite f known old new ending failed unread.ends unread.kept
+    record {
+      says = inr (inr (x, texts, played.says));
+      only = λ y files-are. subst (λ z. OnlyPlayEnds files.builders z suite known ending)
+          (sym (same_texts files y x files-are texts)) played.only;
+    }

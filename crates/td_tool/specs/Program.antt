@@ -113,6 +113,14 @@ RanFor request explained known bytes can_fail old new said_before said status =
     Ran (EndsFor request known bytes can_fail old new) explained
     (known_of_request request known bytes) said_before said status
 
+-- builders are asked for by nothing but a run with some: all else waits for nobody
+abbrev pub HasNoBuilders : Request → Type 0
+HasNoBuilders Simulate = Unit {0}
+HasNoBuilders (Check files) = Unit {0}
+HasNoBuilders (Track r) = Unit {0}
+HasNoBuilders (Waves files tracker) = Unit {0}
+HasNoBuilders (Run r) = r.builders ≡ 0
+
 -- standard input is read for a simulation and for a run alone: for all else it is left as it was
 abbrev pub LeavesInput : Request → Option (List ℕ) → Option (List ℕ) → Type 0
 LeavesInput Simulate known left = Unit {0}

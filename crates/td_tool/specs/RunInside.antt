@@ -1,7 +1,6 @@
 -- What the inner functions of `run` answer. This project's own.
 use Rattle.std.specs.Prelude.{◌≡◌, ◌⊎◌, ℕ, ◌≤◌, Bool, List, Option, length, option_map}
 use Rattle.std.specs.Prelude.{string_bytes}
-use Rattle.std.specs.Io.KnownBytes.{Keeps}
 use Rattle.td_bytes.specs.declared.text.TextFault.{TextFault}
 use Rattle.td_script.specs.Openings as script
 use Rattle.td_script.specs.declared.inputs.Inputs.{Inputs}
@@ -13,7 +12,8 @@ use Rattle.td_tool.specs.Limits.{file_limit}
 use Rattle.td_crew.specs.CrewEnds.{outcomes_of}
 use Rattle.td_tool.specs.declared.ending.Ending.{Ending}
 use Rattle.td_tool.specs.declared.ending.Ending.TheVariants.{NoMemory}
-use Rattle.td_tool.specs.Runs.{AreTextsOf, FailsAt, OnlyPlayEnds, PlayEnds, RunFiles, Texts}
+use Rattle.td_tool.specs.Runs.{AreTextsOf, FailsAt, IsUnread, OnlyPlayEnds, PlayEnds, RunFiles}
+use Rattle.td_tool.specs.Runs.{Texts}
 use Rattle.td_tool.specs.Runs.{crew_size, outcome_lines, run_files_asked, script_texts}
 
 -- the files that are asked for
@@ -64,8 +64,11 @@ PlaysInputs n inputs known old new ending =
     (x : Texts) (suite : List ℕ) → AreInputsOf x suite n inputs
     → Plays n x suite known old new ending
 
--- so it is over the texts that were read, or memory runs out and nothing is written
-pub record PlaysTexts (n : ℕ) (x : Texts) (suite : List ℕ) (known old new : Option (List ℕ))
-    (ending : Ending) : Type 0 where
-  pub says : ((ending ≡ NoMemory) × Keeps old new) ⊎ PlayEnds n x suite known old new ending
-  pub only : OnlyPlayEnds n x suite known ending
+-- the files hold texts, and the inputs are made of them
+abbrev pub AreInputsFor : RunFiles → List ℕ → Inputs → Type 0
+AreInputsFor files suite inputs =
+    (x : Texts) × AreTextsOf files x × AreInputsOf x suite files.builders inputs
+
+-- a run that has no inputs ends so: memory has run out, or a file isn't read
+abbrev pub HasNoInputs : RunFiles → Ending → Type 0
+HasNoInputs files ending = (ending ≡ NoMemory) ⊎ IsUnread files ending

@@ -1,5 +1,5 @@
 //! The program: it does what its words ask for, and answers its status.
-ghost use Rattle.std.specs.Prelude.{◌≡◌, ◌≤◌, ℕ, List, length, map, IfSome, codes};
+ghost use Rattle.std.specs.Prelude.{◌≡◌, ◌≢◌, ◌≤◌, ℕ, List, length, map, IfSome, IfNone, codes};
 ghost use Rattle.std.specs.Prelude.{string_bytes, None, IsOkAnd, IfOk, IfErr, MatchResult};
 ghost use Rattle.std.specs.IoError.{error_kind};
 ghost use Rattle.std.specs.Prelude.{OnOk, OnErr};
@@ -16,7 +16,8 @@ ghost use Rattle.td_tool.specs.Explained.{known_input, known_of_request, run_pat
 ghost use Rattle.td_tool.specs.Explained.{waves_paths};
 ghost use Rattle.td_tool.specs.Limits.{input_limit};
 ghost use Rattle.td_tool.specs.Ran.{Ran};
-ghost use Rattle.td_tool.specs.Program.{EndsFor, IsTold, LeavesInput, OnlyIfAsked, RanFor};
+ghost use Rattle.td_tool.specs.Program.{EndsFor, HasNoBuilders, IsTold, LeavesInput, OnlyIfAsked};
+ghost use Rattle.td_tool.specs.Program.{RanFor};
 ghost use Rattle.td_tool.specs.Program.{TellsFault, TellsUnread, are_explained, fault_text};
 ghost use Rattle.td_tool.specs.Program.{files_asked, unread_text};
 ghost use Rattle.td_tool.specs.Runs.{EndsRun, run_files_asked};
@@ -25,7 +26,7 @@ ghost use Rattle.td_tool.specs.Tracks.{EndsSo, track_files};
 use crate::checking::check;
 use crate::ending::{Ended, Ending};
 use crate::explaining::finish;
-use crate::running::run;
+use crate::running::{run_alone, run_beside};
 use crate::simulation::read_and_play;
 use crate::texts::Texts;
 use crate::track_files::TrackPaths;
@@ -36,7 +37,7 @@ use std::io::{ErrorKind, Read, Write};
 use std::sync::Wait;
 use std::thread::Threads;
 use td_bytes::{WriteFault, write_whole};
-use td_words::{Call, Request, WordsFault, read_words};
+use td_words::{Call, Request, RunRequest, WordsFault, read_words};
 
 /// The status where the words ask for nothing that can be done.
 pub const BAD_WORDS: u8 = 3;
@@ -95,15 +96,33 @@ fn tell_fault<E: Write>(fault: &WordsFault, faults: &mut E) -> u8
     }
 }
 
-// Does what was asked for.
-fn do_request<T: Texts + Sync, R: Read, W: Write>(
-    rt: &(impl Threads + Wait + Sync),
+/// The run with builders that is asked for, if one is.
+pub fn crew_of(request: &Request) -> Option<&RunRequest>
+    ensures crew { IfSome result (λ run.
+        (request.now ≡ Request.Run run.now) × (run.now.builders ≢ 0)) }
+    ensures alone { IfNone result (HasNoBuilders request.now) }
+{
+    match request {
+        Request::Run(run) => {
+            if run.builders == 0 {
+                return None;
+            }
+            Some(run)
+        }
+        Request::Simulate | Request::Check(_) | Request::Track(_) | Request::Waves { .. } => None,
+    }
+}
+
+// Does what was asked for, where no builders are.
+fn do_alone<T: Texts + Sync, R: Read, W: Write>(
+    rt: &(impl Threads + Sync),
     alloc: Global,
     request: &Request,
     texts: &T,
     reader: &mut R,
     output: &mut W,
 ) -> Ended
+    requires { HasNoBuilders request.now }
     ensures ends { EndsFor request.now
         (R.remaining reader.old) (T.bytes texts.now) (T.can_fail texts.now)
         (W.contents output.old) (W.contents output.new) result.ending }
@@ -133,8 +152,78 @@ fn do_request<T: Texts + Sync, R: Read, W: Write>(
             };
             track(rt, alloc, texts, &paths, Asked::Waves, output).alone()
         }
-        Request::Run(request) => run(rt, alloc, texts, request, reader, output).alone(),
+        Request::Run(request) => run_alone(rt, alloc, texts, request, reader, output).alone(),
     }
+}
+
+/// Does what a call asks for, where that is no run with builders (`crew_of`), and answers the
+/// program's status. It waits for nobody. What can't be written to `faults` is left.
+pub fn answer_alone<T: Texts + Sync, R: Read, W: Write, E: Write>(
+    rt: &(impl Threads + Sync),
+    alloc: Global,
+    call: &Call,
+    texts: &T,
+    reader: &mut R,
+    output: &mut W,
+    faults: &mut E,
+) -> u8
+    requires { HasNoBuilders call.now.request }
+    ensures request { RanFor call.now.request call.now.explained
+        (R.remaining reader.old) (T.bytes texts.now) (T.can_fail texts.now)
+        (W.contents output.old) (W.contents output.new)
+        (E.contents faults.old) (E.contents faults.new) result }
+    ensures input { LeavesInput call.now.request
+        (R.remaining reader.old) (R.remaining reader.new) }
+{
+    let ended = do_alone(rt, alloc, &call.request, texts, reader, output);
+    finish(alloc, call.explained, &ended, &call.request, texts, faults)
+}
+
+// Does the run with builders that was asked for.
+fn do_beside<T: Texts + Sync, R: Read, W: Write>(
+    rt: &(impl Threads + Wait + Sync),
+    alloc: Global,
+    request: &Request,
+    run: &RunRequest,
+    texts: &T,
+    reader: &mut R,
+    output: &mut W,
+) -> Ended
+    requires run { request.now ≡ Request.Run run.now }
+    requires builders { run.now.builders ≢ 0 }
+    ensures ends { EndsFor request.now
+        (R.remaining reader.old) (T.bytes texts.now) (T.can_fail texts.now)
+        (W.contents output.old) (W.contents output.new) result.ending }
+    ensures kept { IsKept
+        (known_of_request request.now (R.remaining reader.old) (T.bytes texts.now)) result.input }
+    ensures short { IfSome result.input (λ kept. length (string_bytes kept) ≤ input_limit) }
+    ensures input { LeavesInput request.now (R.remaining reader.old) (R.remaining reader.new) }
+{
+    run_beside(rt, alloc, texts, run, reader, output).alone()
+}
+
+// The same, and answers the program's status.
+fn answer_beside<T: Texts + Sync, R: Read, W: Write, E: Write>(
+    rt: &(impl Threads + Wait + Sync),
+    alloc: Global,
+    call: &Call,
+    run: &RunRequest,
+    texts: &T,
+    reader: &mut R,
+    output: &mut W,
+    faults: &mut E,
+) -> u8
+    requires run { call.now.request ≡ Request.Run run.now }
+    requires builders { run.now.builders ≢ 0 }
+    ensures request { RanFor call.now.request call.now.explained
+        (R.remaining reader.old) (T.bytes texts.now) (T.can_fail texts.now)
+        (W.contents output.old) (W.contents output.new)
+        (E.contents faults.old) (E.contents faults.new) result }
+    ensures input { LeavesInput call.now.request
+        (R.remaining reader.old) (R.remaining reader.new) }
+{
+    let done = do_beside(rt, alloc, &call.request, run, texts, reader, output);
+    finish(alloc, call.explained, &done, &call.request, texts, faults)
 }
 
 // Does what the words were read as.
@@ -159,10 +248,10 @@ fn act<T: Texts + Sync, R: Read, W: Write, E: Write>(
         (λ _. Keeps (R.remaining reader.old) (R.remaining reader.new)) }
 {
     match asked {
-        Ok(call) => {
-            let ended = do_request(rt, alloc, &call.request, texts, reader, output);
-            finish(alloc, call.explained, &ended, &call.request, texts, faults)
-        }
+        Ok(call) => match crew_of(&call.request) {
+            None => answer_alone(rt, alloc, &call, texts, reader, output, faults),
+            Some(run) => answer_beside(rt, alloc, &call, run, texts, reader, output, faults),
+        },
         Err(fault) => tell_fault(&fault, faults),
     }
 }

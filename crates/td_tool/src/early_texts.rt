@@ -30,6 +30,7 @@ fn lasting(text: String) -> &'static str
     ensures { result.now ≡ string_bytes text }
 {
     let bytes = text.into_bytes().leak();
+    // SAFETY: what it requires is proved (`proofs/early_texts/lasting`): these are a text's bytes.
     unsafe { str::from_utf8_unchecked(bytes) }
 }
 

@@ -1,6 +1,7 @@
 //! What the program does, over any reader, files and writers: its words, and its subcommands.
 //!
-//! Start at `tool`: it does what the words ask for. `simulate` is that subcommand by itself.
+//! Start at `tool`: it does what the words ask for, and may wait where that is a run with builders.
+//! `answer_alone` does all else, `simulate` is that subcommand by itself; these wait for nobody.
 //! `Texts` is where `tool` finds files. Its subcommands are `simulation`, `checking`, `tracking`
 //! for the two that read a tracker, and `running`. How a simulation is read and played stands in
 //! `td_simulate`, how indices are read in `td_indices`, what a script says in `td_script`, what the
@@ -29,7 +30,7 @@ mod track_files;
 mod tracking;
 mod wanted;
 
-pub use answering::{BAD_WORDS, tool};
+pub use answering::{BAD_WORDS, answer_alone, crew_of, tool};
 pub use cause::Cause;
 pub use simulation::simulate;
 pub use texts::Texts;

@@ -1,14 +1,11 @@
 //! The subcommand `run`: a script over the rows of an archive.
-ghost use Rattle.std.specs.Prelude.{◌≡◌, IfOk, IfErr, string_bytes};
-ghost use Rattle.std.specs.Result.{ForOk};
-ghost use Rattle.td_tool.specs.CheckInside.{EndsUnwritten, FileUnread};
+ghost use Rattle.std.specs.Prelude.{◌≡◌, ◌≢◌, ℕ, IfOk, IfErr, string_bytes};
 ghost use Rattle.td_tool.specs.Runs.{EndsRun, ending_of_crew as ending_of_crew_as};
 ghost use Rattle.td_tool.specs.Runs.{ending_of_script as ending_of_script_as};
-ghost use Rattle.td_tool.specs.RunInside.{AreInputsOf, IsWithinLimit, PlaysInputs, PlaysTexts};
-ghost use Rattle.td_tool.specs.RunInside.{run_files_at, run_texts_of};
+ghost use Rattle.td_tool.specs.RunInside.{AreInputsFor, AreInputsOf, HasNoInputs, IsWithinLimit};
+ghost use Rattle.td_tool.specs.RunInside.{PlaysInputs, run_files_at, run_texts_of};
 
 use crate::ending::{Ending, ending_of_file, ending_of_stop};
-use crate::file_texts::FileFault;
 use crate::input_fault::InputFault;
 use crate::run_files::{RunTexts, read_run_files};
 use crate::texts::Texts;
@@ -64,74 +61,84 @@ fn inputs_of(alloc: Global, texts: RunTexts, request: &RunRequest) -> Result<Inp
     })
 }
 
-// How the script ends that the reader has, over its inputs.
-fn play_over<R: Read, W: Write>(
-    rt: &(impl Threads + Wait + Sync),
+// The inputs that the files of a run hold, or how the run ends without them.
+fn inputs_for<T: Texts + Sync>(
+    rt: &(impl Threads + Sync),
     alloc: Global,
-    inputs: &Inputs,
-    builders: usize,
-    reader: &mut R,
-    output: &mut W,
-) -> Ending
-    ensures { PlaysInputs builders inputs.now
-        (R.remaining reader.old) (W.contents output.old) (W.contents output.new) result }
+    texts: &T,
+    request: &RunRequest,
+) -> Result<Inputs, Ending>
+    ensures inputs { IfOk result (AreInputsFor
+        (run_files_at (T.bytes texts.now) (T.can_fail texts.now) request.now)
+        (string_bytes request.now.suite)) }
+    ensures none { IfErr result (HasNoInputs
+        (run_files_at (T.bytes texts.now) (T.can_fail texts.now) request.now)) }
 {
-    if builders == 0 {
-        ending_of_script(run_script(rt, alloc, inputs, reader, output))
-    } else {
-        ending_of_crew(run_crew(rt, alloc, inputs, reader, output))
+    let read = match read_run_files(rt, alloc, texts, request) {
+        Ok(read) => read,
+        Err(unread) => return Err(ending_of_file(unread.role, unread.fault)),
+    };
+    match inputs_of(alloc, read, request) {
+        Ok(inputs) => Ok(inputs),
+        Err(_) => Err(Ending::NoMemory),
     }
 }
 
-// The same, where memory sufficed for the inputs.
-fn play<R: Read, W: Write>(
-    rt: &(impl Threads + Wait + Sync),
+// How the script ends that the reader has, over its inputs. Nobody builds beside it.
+fn play_alone<R: Read, W: Write>(
+    rt: &(impl Threads + Sync),
     alloc: Global,
-    inputs: Result<Inputs, AllocError>,
-    builders: usize,
+    inputs: &Inputs,
     reader: &mut R,
     output: &mut W,
 ) -> Ending
-    ensures played { IfOk inputs (λ inputs. PlaysInputs builders inputs
-        (R.remaining reader.old) (W.contents output.old) (W.contents output.new) result) }
-    ensures memory { IfErr inputs (λ _. EndsUnwritten Ending.NoMemory
-        (W.contents output.old) (W.contents output.new) result) }
+    ensures { PlaysInputs 0 inputs.now
+        (R.remaining reader.old) (W.contents output.old) (W.contents output.new) result }
 {
-    let Ok(inputs) = inputs else {
-        return Ending::NoMemory;
-    };
-    let ending = play_over(rt, alloc, &inputs, builders, reader, output);
-    drop(inputs);
-    ending
+    ending_of_script(run_script(rt, alloc, inputs, reader, output))
 }
 
-// The same, by what was read of the files.
-fn play_texts<R: Read, W: Write>(
+// How it ends beside builders.
+fn play_beside<R: Read, W: Write>(
     rt: &(impl Threads + Wait + Sync),
     alloc: Global,
-    read: Result<RunTexts, FileFault>,
+    inputs: &Inputs,
+    reader: &mut R,
+    output: &mut W,
+) -> Ending
+    ensures { (builders : ℕ) → builders ≢ 0 → PlaysInputs builders inputs.now
+        (R.remaining reader.old) (W.contents output.old) (W.contents output.new) result }
+{
+    ending_of_crew(run_crew(rt, alloc, inputs, reader, output))
+}
+
+/// Answers the script that the reader has, over the files that are asked for, without builders.
+/// They are read before the script, and all of it before anything is written. It waits for nobody.
+pub fn run_alone<T: Texts + Sync, R: Read, W: Write>(
+    rt: &(impl Threads + Sync),
+    alloc: Global,
+    texts: &T,
     request: &RunRequest,
     reader: &mut R,
     output: &mut W,
 ) -> Ending
-    requires { ForOk read IsWithinLimit }
-    ensures texts { IfOk read (λ texts. PlaysTexts request.now.builders (run_texts_of texts)
+    requires { request.now.builders ≡ 0 }
+    ensures { EndsRun
+        (run_files_at (T.bytes texts.now) (T.can_fail texts.now) request.now)
         (string_bytes request.now.suite)
-        (R.remaining reader.old) (W.contents output.old) (W.contents output.new) result) }
-    ensures unread { IfErr read (λ fault.
-        FileUnread fault (W.contents output.old) (W.contents output.new) result) }
+        (R.remaining reader.old) (W.contents output.old) (W.contents output.new) result }
 {
-    let read = match read {
-        Ok(read) => read,
-        Err(unread) => return ending_of_file(unread.role, unread.fault),
+    let inputs = match inputs_for(rt, alloc, texts, request) {
+        Ok(inputs) => inputs,
+        Err(ending) => return ending,
     };
-    let inputs = inputs_of(alloc, read, request);
-    play(rt, alloc, inputs, request.builders, reader, output)
+    let ending = play_alone(rt, alloc, &inputs, reader, output);
+    drop(inputs);
+    ending
 }
 
-/// Answers the script that the reader has, over the files that are asked for. They are read before
-/// the script, and all of it before anything is written.
-pub fn run<T: Texts + Sync, R: Read, W: Write>(
+/// The same beside as many builders as are asked for, for whom it may wait.
+pub fn run_beside<T: Texts + Sync, R: Read, W: Write>(
     rt: &(impl Threads + Wait + Sync),
     alloc: Global,
     texts: &T,
@@ -139,11 +146,17 @@ pub fn run<T: Texts + Sync, R: Read, W: Write>(
     reader: &mut R,
     output: &mut W,
 ) -> Ending
+    requires { request.now.builders ≢ 0 }
     ensures { EndsRun
         (run_files_at (T.bytes texts.now) (T.can_fail texts.now) request.now)
         (string_bytes request.now.suite)
         (R.remaining reader.old) (W.contents output.old) (W.contents output.new) result }
 {
-    let read = read_run_files(rt, alloc, texts, request);
-    play_texts(rt, alloc, read, request, reader, output)
+    let inputs = match inputs_for(rt, alloc, texts, request) {
+        Ok(inputs) => inputs,
+        Err(unread) => return unread,
+    };
+    let ending = play_beside(rt, alloc, &inputs, reader, output);
+    drop(inputs);
+    ending
 }

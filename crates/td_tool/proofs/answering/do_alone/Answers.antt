@@ -1,11 +1,11 @@
--- `do_request`: the clauses `ends`, `kept` and `short`.
-use Rattle.std.proofs.Common.{sym, subst}
+-- `do_alone`: the clauses `ends`, `kept` and `short`.
+use Rattle.std.proofs.Common.{rules, sym, subst}
 use Rattle.td_words.specs.declared.request.Request.{Request}
 use Rattle.td_tool.specs.declared.ending.Ending.{Ending}
 use Rattle.td_tool.specs.Explained.{known_of_request}
-use Rattle.td_tool.specs.Program.{EndsFor}
+use Rattle.td_tool.specs.Program.{EndsFor, HasNoBuilders}
 use Rattle.td_tool.proofs.Explanations.{ends_alone, kept_alone, short_alone}
-use Rattle.td_tool.proofs.answering.do_request.Goals as goal
+use Rattle.td_tool.proofs.answering.do_alone.Goals as goal
 
 pub returns-in-Check-clause-ends : goal.returns-in-Check-clause-ends
 returns-in-Check-clause-ends g c =
@@ -69,16 +69,21 @@ returns-in-Run-clause-ends g c =
     let Says : Request → Ending → Type 0 =
     λ q ending. EndsFor q (g.R.Read.remaining c.args.reader.now) (g.T.Texts.bytes c.args.texts.now)
     (g.T.Texts.can_fail c.args.texts.now) (g.W.Write.contents c.args.output.now)
-    (g.W.Write.contents c.run.new.output) ending in
-    ends_alone (Says c.args.request.now) c.run.result c.alone-in-Run.result
+    (g.W.Write.contents c.run_alone.new.output) ending in
+    ends_alone (Says c.args.request.now) c.run_alone.result c.alone-in-Run.result
     c.alone-in-Run.ensures
-    (subst (λ q. Says q c.run.result) (sym c.in-Run.is) c.run.ensures)
+    (subst (λ q. Says q c.run_alone.result) (sym c.in-Run.is) c.run_alone.ensures)
 
 pub returns-in-Run-clause-kept : goal.returns-in-Run-clause-kept
 returns-in-Run-clause-kept g c =
     kept_alone (known_of_request c.args.request.now (g.R.Read.remaining c.args.reader.now)
-    (g.T.Texts.bytes c.args.texts.now)) c.run.result c.alone-in-Run.result c.alone-in-Run.ensures
+    (g.T.Texts.bytes c.args.texts.now)) c.run_alone.result c.alone-in-Run.result
+    c.alone-in-Run.ensures
 
 pub returns-in-Run-clause-short : goal.returns-in-Run-clause-short
 returns-in-Run-clause-short g c =
-    short_alone _ c.run.result c.alone-in-Run.result c.alone-in-Run.ensures
+    short_alone _ c.run_alone.result c.alone-in-Run.result c.alone-in-Run.ensures
+
+pub run_alone-requires : goal.run_alone-requires
+run_alone-requires g c =
+    let none = subst HasNoBuilders c.in-Run.is c.requires in search rules

@@ -1,0 +1,30 @@
+-- `do_beside`: its clauses.
+use Rattle.std.proofs.Common.{sym, subst}
+use Rattle.td_words.specs.declared.request.Request.{Request}
+use Rattle.td_tool.specs.declared.ending.Ending.{Ending}
+use Rattle.td_tool.specs.Explained.{known_of_request}
+use Rattle.td_tool.specs.Program.{EndsFor, LeavesInput}
+use Rattle.td_tool.proofs.Explanations.{ends_alone, kept_alone, short_alone}
+use Rattle.td_tool.proofs.answering.do_beside.Goals as goal
+
+pub returns-clause-ends : goal.returns-clause-ends
+returns-clause-ends g c =
+    let Says : Request → Ending → Type 0 =
+    λ q ending. EndsFor q (g.R.Read.remaining c.args.reader.now) (g.T.Texts.bytes c.args.texts.now)
+    (g.T.Texts.can_fail c.args.texts.now) (g.W.Write.contents c.args.output.now)
+    (g.W.Write.contents c.run_beside.new.output) ending in
+    ends_alone (Says c.args.request.now) c.run_beside.result c.alone.result c.alone.ensures
+    (subst (λ q. Says q c.run_beside.result) (sym c.requires.run) c.run_beside.ensures)
+
+pub returns-clause-kept : goal.returns-clause-kept
+returns-clause-kept g c =
+    kept_alone (known_of_request c.args.request.now (g.R.Read.remaining c.args.reader.now)
+    (g.T.Texts.bytes c.args.texts.now)) c.run_beside.result c.alone.result c.alone.ensures
+
+pub returns-clause-short : goal.returns-clause-short
+returns-clause-short g c = short_alone _ c.run_beside.result c.alone.result c.alone.ensures
+
+pub returns-clause-input : goal.returns-clause-input
+returns-clause-input g c =
+    subst (λ q. LeavesInput q (g.R.Read.remaining c.args.reader.now)
+    (g.R.Read.remaining c.run_beside.new.reader)) (sym c.requires.run) tt
