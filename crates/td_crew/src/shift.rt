@@ -4,7 +4,7 @@ ghost use Rattle.td_core.specs.History.{rows_of};
 ghost use Rattle.td_book.specs.Deeds.{code_of};
 ghost use Rattle.td_book.specs.Desk.{BookModel};
 ghost use Rattle.td_book.specs.Ready.{IsReady, is_any_queued};
-ghost use Rattle.td_builder.specs.Floors.{IsHolding, IsStarted, IsFinished};
+ghost use Rattle.td_builder.specs.Floors.{IsHolding, IsStarted, IsEarly, IsFinished};
 ghost use Rattle.td_desk.specs.Calls.{IsOfDesk, Starting, Finishing, MayBeJob};
 ghost use Rattle.td_crew.specs.Home.{IsAtEnd};
 
@@ -91,7 +91,8 @@ impl<'d, 'a, N: Named, C: Ledger> Floor for Shift<'d, 'a, N, C> {
         ensures answer { Finishing outcome seat.old seat.new N.table N.origin result }
         ensures ok { OnOk result (IsFinished (code_of outcome) seat.old seat.new) }
         ensures seat { OnErr result
-            ((seat.new ≡ seat.old) ⊎ IsFinished (code_of outcome) seat.old seat.new) }
+            ((seat.new ≡ seat.old) ⊎ IsEarly (code_of outcome) seat.old seat.new
+            ⊎ IsFinished (code_of outcome) seat.old seat.new) }
         ensures err { IfErr result (λ e. Unit {0}) }
     {
         Floor::finish(self.desk, rt, seat, outcome)
