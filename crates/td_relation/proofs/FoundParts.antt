@@ -112,7 +112,7 @@ name_found t p e = by (unqualified (behind is_name_byte (trimmed t))) refl e
 
 -- ---- the restriction
 
-operator_found : (t : List ℕ) (o : Operator) → operator_at t ≡ Some o → t ≡ operator_text o
+pub operator_found : (t : List ℕ) (o : Operator) → operator_at t ≡ Some o → t ≡ operator_text o
 unfolding operator_at
 operator_found t o e =
     (or_word operator_text (λ _. Unit {0}) t o Earlier _ tt

@@ -168,7 +168,7 @@ pub record IsAlternative (t : List ℕ) (x : Asked) : Type 0 where
   pub spelled : t ≡ spaced_alternative written
   pub asks : x ≡ alternative_asked (unspaced written)
 
-alternative_found : (t : List ℕ) (x : Asked) → IsInner t → alternative_at t ≡ Ok x
+pub alternative_found : (t : List ℕ) (x : Asked) → IsInner t → alternative_at t ≡ Ok x
     → IsAlternative t x
 unfolding alternative_at
 alternative_found t x inner e =
@@ -300,7 +300,7 @@ alternatives_found p (q ∷ qs) seen total inner e =
           asks = asks;
         }
 
-inner_all : (ps : List (List ℕ)) → AllByRecursion (λ p. Without 44 p) ps
+pub inner_all : (ps : List (List ℕ)) → AllByRecursion (λ p. Without 44 p) ps
     → AllByRecursion (λ p. Without 124 p) ps → AllByRecursion IsInner ps
 inner_all [] a b = tt
 inner_all (p ∷ ps) a b = (record { comma = a.0; bar = b.0 }, inner_all ps a.1 b.1)
@@ -336,7 +336,7 @@ pub record IsOne (p : List ℕ) (seen more : List (List Asked)) : Type 0 where
   pub spelled : p ≡ spaced_member member
   pub asks : more ≡ seen ++ asked_of (member ∷ [])
 
-one_found : (p : List ℕ) (seen more : List (List Asked)) → Without 44 p
+pub one_found : (p : List ℕ) (seen more : List (List Asked)) → Without 44 p
     → member_step seen p ≡ Ok more → IsOne p seen more
 one_found p seen more comma e = by (is_blank p) refl e
   where

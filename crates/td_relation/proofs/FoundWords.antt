@@ -131,7 +131,7 @@ filled_list : {A : Type 0} (xs : List A) → ltb 0 (length xs) ≡ true → xs �
 filled_list [] h = absurd cc
 filled_list (x ∷ xs) h = λ e. (let low = ap length e in omega arith)
 
-or_second : (a b : Bool) → (a || b) ≡ true → a ≡ false → b ≡ true
+pub or_second : (a b : Bool) → (a || b) ≡ true → a ≡ false → b ≡ true
 or_second true b h k = absurd cc
 or_second false b h k = h
 

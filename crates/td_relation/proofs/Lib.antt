@@ -23,3 +23,6 @@ pub mod FoundProfiles
 pub mod FoundRelations
 pub mod FirstLines
 pub mod EmptyRelations
+pub mod FaultParts
+pub mod AlternativeFaults
+pub mod FirstFaults

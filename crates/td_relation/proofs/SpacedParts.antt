@@ -23,9 +23,11 @@ use Rattle.td_relation.specs.RelationGrammar.{is_operator_byte, operator_at, is_
 use Rattle.td_relation.specs.RelationGrammar.{ends_a_restriction, closed, version_at, restricted}
 use Rattle.td_relation.specs.RelationGrammar.{restriction_at, is_arch_list, listed, bracketed}
 use Rattle.td_relation.specs.RelationGrammar.{archs_at}
-use Rattle.td_relation.specs.RelationWriting.{operator_text, marked, qualifier_part, QualifierFits}
+use Rattle.td_relation.specs.RelationWriting.{WrittenArchs, operator_text, marked, qualifier_part}
+use Rattle.td_relation.specs.RelationWriting.{QualifierFits}
 use Rattle.td_relation.specs.RelationWriting.{BoundFits, ArchsFit, bound_asked}
-use Rattle.td_relation.specs.Spacing.{SpacedBound, SpacedArchs, SpacedProfiles, bound_then}
+use Rattle.td_relation.specs.Spacing.{AreWords, SpacedBound, SpacedArchs, SpacedProfiles}
+use Rattle.td_relation.specs.Spacing.{bound_then}
 use Rattle.td_relation.specs.Spacing.{archs_then, profiles_then, BoundIsSpaced, ArchsAreSpaced}
 use Rattle.td_relation.specs.Spacing.{ProfilesAreSpaced}
 use Rattle.td_text.proofs.RunTexts.{Stops, run_again, behind_again, misses, NoSpace, Stops-front}
@@ -183,21 +185,21 @@ operator_no_space = record { space = refl; tab = refl; newline = refl }
 version_no_space : NoSpace is_version_byte
 version_no_space = record { space = refl; tab = refl; newline = refl }
 
-operator_bytes : (o : Operator) → list_all is_operator_byte (operator_text o) ≡ true
+pub operator_bytes : (o : Operator) → list_all is_operator_byte (operator_text o) ≡ true
 operator_bytes Earlier = refl
 operator_bytes EarlierOrEqual = refl
 operator_bytes Equal = refl
 operator_bytes LaterOrEqual = refl
 operator_bytes Later = refl
 
-operator_first : (o : Operator) (t : List ℕ) → Stops is_space (operator_text o ++ t)
+pub operator_first : (o : Operator) (t : List ℕ) → Stops is_space (operator_text o ++ t)
 operator_first Earlier t = refl
 operator_first EarlierOrEqual t = refl
 operator_first Equal t = refl
 operator_first LaterOrEqual t = refl
 operator_first Later t = refl
 
-operator_read : (o : Operator) → operator_at (operator_text o) ≡ Some o
+pub operator_read : (o : Operator) → operator_at (operator_text o) ≡ Some o
 unfolding operator_at
 operator_read Earlier = refl
 operator_read EarlierOrEqual = refl
@@ -216,12 +218,13 @@ version_stops (x ∷ version) t some h =
     let greater : eqb x 62 ≡ false = misses is_version_byte 62 x refl is in
     rw (less, equal, greater) refl
 
-version_again : (o : Operator) (space version end rest bare : List ℕ) (p : Parts)
-    → is_blank space ≡ true → is_blank end ≡ true → IsVersion version p → trimmed rest ≡ bare
-    → ends_a_restriction bare ≡ true
+-- a version and its `)`, whatever follows them
+pub version_reads : (o : Operator) (space version end rest : List ℕ) (p : Parts)
+    → is_blank space ≡ true → is_blank end ≡ true → IsVersion version p
     → version_at (Some o) (space ++ (version ++ (end ++ 41 ∷ rest)))
-    ≡ Ok (Some (record { operator = o; version = p }), bare)
-version_again o space version end rest bare p blank blank_end v is ends =
+    ≡ cond (ends_a_restriction (trimmed rest))
+    (Ok (Some (record { operator = o; version = p }), trimmed rest)) (Err BadArchList)
+version_reads o space version end rest p blank blank_end v =
     let bytes = version_bytes version p v in
     let on = end ++ 41 ∷ rest in
     let stops : Stops is_version_byte on =
@@ -239,6 +242,14 @@ version_again o space version end rest bare p blank blank_end v is ends =
     (trimmed_behind end (41 ∷ rest) blank_end refl)
     ∙ ap (closed o (reading version)) (strip_again (codes ")") rest)
     ∙ ap (λ r. closed o r (Some rest)) (read_only version p v)
+
+version_again : (o : Operator) (space version end rest bare : List ℕ) (p : Parts)
+    → is_blank space ≡ true → is_blank end ≡ true → IsVersion version p → trimmed rest ≡ bare
+    → ends_a_restriction bare ≡ true
+    → version_at (Some o) (space ++ (version ++ (end ++ 41 ∷ rest)))
+    ≡ Ok (Some (record { operator = o; version = p }), bare)
+version_again o space version end rest bare p blank blank_end v is ends =
+    version_reads o space version end rest p blank blank_end v
     ∙ ap (λ (t : List ℕ). cond (ends_a_restriction t)
     (Ok (Some (record { operator = o; version = p }), t)) (Err BadArchList)) is
     ∙ ap (λ (y : Bool).
@@ -286,6 +297,23 @@ restriction_again (Some b) l ls back fits t s h end =
 
 -- ---- the architecture list
 
+-- an architecture list in its brackets, whatever follows it
+pub list_again : (l : WrittenArchs) (inside rest : List ℕ) → ArchsFit (Some l)
+    → AreWords (map (marked l.negated) l.names) inside
+    → archs_at (91 ∷ (inside ++ 93 ∷ rest))
+    ≡ Some (Some (map (marked l.negated) l.names), trimmed rest)
+unfolding archs_at
+list_again l inside rest fits words =
+    let names = map (marked l.negated) l.names in
+    let lacks : Without 93 inside =
+    arch_words-lack 93 l.negated l.names inside refl refl (λ z. omega arith) fits.1 words in
+    ap (bracketed (91 ∷ (inside ++ 93 ∷ rest))) (strip_again (codes "[") (inside ++ 93 ∷ rest))
+    ∙ ap listed (cut-at 93 inside rest lacks)
+    ∙ ap (λ (w : List (List ℕ)). cond (is_arch_list w) (Some (Some w, trimmed rest)) None)
+    (arch_words l.negated l.names inside fits.1 words)
+    ∙ ap (λ (y : Bool). cond y (Some (Some names, trimmed rest)) None)
+    (is_arch_list-again l.negated l.names fits.0 fits.1)
+
 pub archs_again : (l : Option SpacedArchs) (ls : List SpacedProfiles) (back : List ℕ)
     → ArchsFit (option_map (λ x. x.list) l) → ArchsAreSpaced l → AllByRecursion ProfilesAreSpaced ls
     → is_blank back ≡ true
@@ -297,15 +325,6 @@ pub archs_again : (l : Option SpacedArchs) (ls : List SpacedProfiles) (back : Li
 unfolding archs_at
 archs_again None ls back fits s h end = ap (bracketed (lists_bare ls back)) (no_list ls back)
 archs_again (Some l) ls back fits s h end =
-    let rest = profiles_then ls back in
     let names = map (marked l.list.negated) l.list.names in
-    let lacks : Without 93 l.inside =
-    arch_words-lack 93 l.list.negated l.list.names l.inside refl refl (λ z. omega arith) fits.1
-    s.1 in
-    ap (bracketed (91 ∷ (l.inside ++ 93 ∷ rest))) (strip_again (codes "[") (l.inside ++ 93 ∷ rest))
-    ∙ ap listed (cut-at 93 l.inside rest lacks)
-    ∙ ap (λ (w : List (List ℕ)). cond (is_arch_list w) (Some (Some w, trimmed rest)) None)
-    (arch_words l.list.negated l.list.names l.inside fits.1 s.1)
-    ∙ ap (λ (y : Bool). cond y (Some (Some names, trimmed rest)) None)
-    (is_arch_list-again l.list.negated l.list.names fits.0 fits.1)
+    list_again l.list l.inside (profiles_then ls back) fits s.1
     ∙ ap (λ (t : List ℕ). Some (Some names, t)) (lists_trimmed ls back h end)

@@ -144,7 +144,7 @@ next_piece : (c : ℕ) (t rest : List ℕ) → eqb c c ≡ true → Without c t
     → slice_split (λ b. eqb b c) (t ++ c ∷ rest) ≡ t ∷ slice_split (λ b. eqb b c) rest
 next_piece c t rest same h = slice_split_at (λ b. eqb b c) t c rest (none_is c t h) same
 
-piece_again : (seen : List Asked) (a : SpacedAlternative) → IsSpaced a → alternative_step seen
+pub piece_again : (seen : List Asked) (a : SpacedAlternative) → IsSpaced a → alternative_step seen
     (spaced_alternative a) ≡ Ok (seen ++ alternative_asked (unspaced a) ∷ [])
 piece_again seen a h = ap (λ r. on_ok r (λ x. Ok (seen ++ x ∷ []))) (alternative_again a h)
 
@@ -205,7 +205,7 @@ member_lacks (Blank space) h = Without-from_test is_space 44 space refl h
 abbrev pub asked_of : List SpacedMember → List (List Asked)
 asked_of r = map (λ m. map alternative_asked m) (unspaced_members r)
 
-step_again : (seen : List (List Asked)) (m : SpacedMember) → MemberIsSpaced m
+pub step_again : (seen : List (List Asked)) (m : SpacedMember) → MemberIsSpaced m
     → member_step seen (spaced_member m) ≡ Ok (seen ++ asked_of (m ∷ []))
 step_again seen (Filled m) h =
     member_step-filled seen (spaced_member (Filled m)) (member_not_blank m h.0 h.1)

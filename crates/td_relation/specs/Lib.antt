@@ -20,3 +20,4 @@ pub mod MeetingLaws
 pub mod Props
 pub mod Spacing
 pub mod EmptyRelations
+pub mod RelationFaults

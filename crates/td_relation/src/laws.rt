@@ -1,6 +1,8 @@
 //! What is promised of relations as such.
 ghost use Rattle.td_relation.specs.EmptyRelations.{EmptyRelationsAreExact};
 ghost use Rattle.td_relation.specs.MeetingLaws.{ListsCount, MoreStillMeets, OthersMakeNoDifference};
+ghost use Rattle.td_relation.specs.RelationFaults.{FirstFaultsAreExact, FirstFaultsAreOne};
+ghost use Rattle.td_relation.specs.RelationFaults.{RelationOrFault, RelationsHaveNoFault};
 ghost use Rattle.td_relation.specs.RelationWriting.{RelationsAreReadAgain};
 ghost use Rattle.td_relation.specs.Spacing.{RelationsAreExact, SpacedRelationsAreRead};
 ghost use Rattle.td_relation.specs.Spacing.{WhitespaceMakesNoDifference};
@@ -34,4 +36,13 @@ pub fn relations_are_read_exactly()
 /// A text is refused as empty exactly where it has commas and whitespace alone, or nothing.
 pub fn texts_without_members_are_empty()
     ensures { EmptyRelationsAreExact }
+{}
+
+/// A text is refused as a relation with its first fault from the left, and with nothing else. Each
+/// text is a relation or has one first fault, and none is both.
+pub fn relations_are_refused_exactly()
+    ensures exact { FirstFaultsAreExact }
+    ensures one { FirstFaultsAreOne }
+    ensures each { RelationOrFault }
+    ensures apart { RelationsHaveNoFault }
 {}

@@ -6,7 +6,7 @@
 //! asks. All of them hold slices of the texts, and nothing but reading, `Offers::push` and
 //! `Archs::copy` takes memory.
 //! Promised: a table is read exactly where it is one, a relation exactly where it is one as
-//! `specs/Spacing.antt` says, else the first fault is named as `specs/RelationGrammar.antt` says;
+//! `specs/Spacing.antt` says, else its first fault is named, as `specs/RelationFaults.antt` says;
 //! what is written as `specs/RelationWriting.antt` says is read again; and a relation is met as
 //! `specs/Meeting.antt` says.
 #![tactic(auto)]
@@ -31,8 +31,8 @@ mod suiting;
 pub use arch::Arch;
 pub use archs::{Archs, ArchsFault, MAX_ARCHS};
 pub use laws::{
-    relations_are_read_exactly, relations_ask_for_what_they_name, spaced_relations_are_read,
-    texts_without_members_are_empty, written_relations_are_read_again,
+    relations_are_read_exactly, relations_are_refused_exactly, relations_ask_for_what_they_name,
+    spaced_relations_are_read, texts_without_members_are_empty, written_relations_are_read_again,
 };
 pub use members::Members;
 pub use offering::Offering;

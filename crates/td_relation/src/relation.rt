@@ -80,7 +80,8 @@ impl<'a> Relation<'a> {
     ghost use Rattle.td_relation.specs.Arch.{words_of};
 
     /// Reads a relation: members between commas, alternatives between bars. A member of whitespace
-    /// alone is skipped. The first fault from the left decides.
+    /// alone is skipped. The first fault from the left decides: `relations_are_refused_exactly`
+    /// says which that is, and `relations_are_read_exactly` which texts are read.
     pub fn read(alloc: Global, text: &'a str) -> Result<Relation<'a>, RelationFault>
         // What is read is what the text asks.
         ensures found { IfOk result (λ r. relation_at text.now ≡ Ok (members_of r)) }
