@@ -2,3 +2,5 @@
 pub mod Spots
 pub mod Showing
 pub mod Tails
+pub mod LineSpots
+pub mod StanzaSpots

@@ -2,3 +2,4 @@
 pub mod Spot
 pub mod Shown
 pub mod Explanation
+pub mod SpotLaws
