@@ -122,7 +122,7 @@ fn over_archive(rt: &(impl Threads + Abort + Sync), alloc: Global, archive: &Arc
     is_told(rt, waves, LEVELS, "opening_waves");
 }
 
-// The same over the archive of these texts.
+// Each transition of the tracker over the archive of these two indices.
 fn over_texts(rt: &(impl Threads + Abort + Sync), alloc: Global, packages: &str, sources: &str) {
     let archs = made(rt, Archs::read(alloc, ARCHS));
     let read = Archive::read_beside(rt, alloc, packages, sources, &archs);

@@ -33,7 +33,7 @@ fn work_both<N: Named + Send + Sync, C: Ledger + Send + Sync, R: Threads + Wait 
     )
 }
 
-// The same of the first two builders.
+// What the work of the first two builders is answered, at the same time; nothing without two.
 pub(crate) fn work_together<
     N: Named + Send + Sync,
     C: Ledger + Send + Sync,

@@ -277,7 +277,7 @@ fn offer_first(board: &Board, desk: &mut DeskSeat)
     board.offer(desk, 0);
 }
 
-// The same at a new board.
+// Whether the claim of the one row of a new board was won, and whether its withdrawal was.
 fn claimed_or_withdrawn<R: Threads + Sync>(rt: &R, alloc: Global) -> Result<(bool, bool), Fail> {
     let (board, mut desk, mut seats) = Board::make(alloc, 1, 1)?;
     let Some(seat) = seats.pop() else {

@@ -162,7 +162,7 @@ fn rows_run(
     }
 }
 
-// The same from the rows that are read.
+// What `rows_run` tells, from the rows of a state file.
 fn rows_stepped(
     alloc: Global,
     supply: Supply<'_>,
@@ -182,7 +182,7 @@ fn rows_stepped(
     }
 }
 
-// The same by the table alone.
+// What `rows_run` tells of the steps of a table, from the rows of a state file.
 fn rows_after(
     alloc: Global,
     supply: Supply<'_>,

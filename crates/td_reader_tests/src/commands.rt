@@ -203,7 +203,8 @@ fn takes_foo(command: &Command<'_>) -> bool {
         && command.is_matched("foo", &version, number)
 }
 
-// The same of the command for these packages on i386.
+// Whether the command for these packages on i386 names foo/i386 and not foo/amd64, and its version
+// matches.
 fn takes(rt: &impl Abort, alloc: Global, archs: &Archs<'_>, packages: &str) -> bool {
     let line = made(rt, format!(in alloc; "gb {packages} . ANY -amd64"));
     let command = command(rt, alloc, archs, line.as_str());

@@ -55,7 +55,8 @@ fn met_on(relation: &Relation<'_>, offers: &Offers<'_>, archs: &Archs<'_>) -> Op
     Some((there, relation.met_by(offers, archs, 1)))
 }
 
-/// The same of the relation of a text; nothing where it isn't read.
+/// Whether these offers meet the relation of a text on the table's first architecture, and on its
+/// second; nothing where the text isn't read.
 fn met(alloc: Global, text: &str, offers: &Offers<'_>, archs: &Archs<'_>) -> Option<(bool, bool)> {
     match Relation::read(alloc, text) {
         Ok(relation) => met_on(&relation, offers, archs),

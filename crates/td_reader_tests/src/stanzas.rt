@@ -235,7 +235,7 @@ fn has_all(stanza: &Stanza<'_, '_>, count: usize, fields: &[Held]) -> bool {
     stanza.len() == count
 }
 
-/// The same of the first stanza.
+/// Whether the first stanza has so many fields, these among them.
 fn first_has_all(list: &StanzaList<'_>, count: usize, fields: &[Held]) -> bool {
     match list.stanza(0) {
         Some(first) => has_all(&first, count, fields),

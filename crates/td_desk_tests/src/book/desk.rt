@@ -137,7 +137,7 @@ fn refusal_at(alloc: Global, shop: Shop, journal: &str) -> Result<String, Fail> 
     told
 }
 
-// The same over these rows.
+// Why a text isn't a journal's over these rows; or the journal that a book has with it.
 pub(crate) fn refusal_of(alloc: Global, opening: &str, journal: &str) -> Result<String, Fail> {
     match furnished(alloc, opening, 3) {
         Ok(shop) => refusal_at(alloc, shop, journal),
@@ -152,7 +152,7 @@ impl Desk {
         spelled(self.alloc, &told)
     }
 
-    // The same of its line.
+    // What the command of a line is answered.
     pub(crate) fn command(&mut self, line: &str) -> Result<String, Fail> {
         let archs = Archs::read(self.alloc, TABLE)?;
         match read_command(self.alloc, line, &archs, &["unstable"]) {

@@ -143,7 +143,7 @@ fn depends(alloc: Global, archive: &Archive<'_, '_>) -> Result<String, AllocErro
     }
 }
 
-// The same of the builds of packages that aren't of `all`.
+// Whether the builds of the first source's packages that aren't of `all` ask for something.
 fn depends_arch(alloc: Global, archive: &Archive<'_, '_>) -> Result<String, AllocError> {
     if archive.source_count() == 0 {
         return String::from_str(alloc, "no source");

@@ -81,7 +81,7 @@ fn told_in_levels(
     Ok(out)
 }
 
-// The same of the sources whose flag is set.
+// How many levels the sources have whose flag is set, and the statuses and levels of those names.
 fn told_flagged(
     rt: &(impl Threads + Sync),
     alloc: Global,
@@ -100,7 +100,7 @@ fn told_flagged(
     }
 }
 
-// The same of the sources that are marked as affected.
+// How many levels the affected sources have, and the statuses and levels of those names.
 fn told_marked(
     rt: &(impl Threads + Sync),
     alloc: Global,
@@ -113,7 +113,8 @@ fn told_marked(
     }
 }
 
-// The same by marks, if there are some.
+// How many levels the affected sources have by these marks, if there are some, and the statuses
+// and levels of those names.
 fn told_by(
     rt: &(impl Threads + Sync),
     alloc: Global,
