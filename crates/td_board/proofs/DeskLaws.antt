@@ -14,6 +14,7 @@ use Rattle.td_board.specs.declared.views.Deed.{Deed}
 use Rattle.td_board.specs.declared.views.Deed.TheVariants.{Claim, Finish}
 use Rattle.td_board.specs.declared.views.DeskTry.{DeskTry}
 use Rattle.td_board.specs.declared.views.DeskTry.TheVariants.{WithdrawalLost, SettleDone}
+use Rattle.td_board.specs.declared.views.DeskTry.TheVariants.{ClaimNoted}
 use Rattle.td_board.specs.declared.views.Hand.{Hand}
 use Rattle.td_board.specs.declared.views.Hand.TheVariants.{Holding, Finished}
 use Rattle.td_board.specs.declared.views.DeskView.{DeskView}
@@ -201,7 +202,8 @@ hand_of views k h phases lists w t seat old =
 -- a note
 pub note_keeps : (rows : ℕ) (phases : List Phase) (d : DeskView) (views : List View) (r b : ℕ)
     → Fits rows phases d views → get_elem? phases r ≡ some (held b)
-    → let d' : DeskView = with_deed b (Claim r) (with_row r (Known b) d) in
+    → let d' : DeskView =
+    desk_tried (ClaimNoted r b) (with_deed b (Claim r) (with_row r (Known b) d)) in
     Fits rows (set phases r (noted b)) d' (set views 0 (Desk d'))
 note_keeps rows phases d views r b f at =
     let has = f.each_hand r (held b) at in
@@ -214,7 +216,7 @@ note_keeps rows phases d views r b f at =
     record {
       rows = set d.rows r (Known z.0);
       noted = set d.noted z.1 (list_at d.noted z.1 ++ Claim r ∷ []);
-      tried = d.tried;
+      tried = d.tried ++ ClaimNoted r z.0 ∷ [];
     } in Fits rows (set phases r (noted z.0)) d' (set views 0 (Desk d')))
     (λ i. (sym named i, place i)) law
   where
@@ -223,7 +225,7 @@ note_keeps rows phases d views r b f at =
         → let d' : DeskView = record {
           rows = set d.rows r (Known (suc k));
           noted = set d.noted k (list_at d.noted k ++ Claim r ∷ []);
-          tried = d.tried;
+          tried = d.tried ++ ClaimNoted r (suc k) ∷ [];
         } in Fits rows (set phases r (noted (suc k))) d' (set views 0 (Desk d'))
     by_place rows phases d views r k f at =
         let has = f.each_hand r (held (suc k)) at in
@@ -231,7 +233,8 @@ note_keeps rows phases d views r b f at =
         let now : List Deed = list_at d.noted k ++ Claim r ∷ [] in
         let is : list_at d.noted k ≡ mine.known = list_at-at d.noted k mine.known mine.at in
         desk_moves rows phases d views r (held (suc k)) (noted (suc k)) (Known (suc k))
-        (set d.noted k now) d.tried f at refl has (length-set d.noted k now)
+        (set d.noted k now) (d.tried ++ ClaimNoted r (suc k) ∷ []) f at refl has
+        (length-set d.noted k now)
         (noting_builders phases d.noted views r k (held (suc k)) (noted (suc k)) mine.known now at
         mine.at (λ a ne _. ((λ h. ne (sym h)), λ h. ne (sym h)))
         (λ w seat old same.

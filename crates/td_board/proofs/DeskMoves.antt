@@ -15,6 +15,7 @@ use Rattle.td_board.specs.declared.views.RowView.TheVariants.{In, Out, Seen, Kno
 use Rattle.td_board.specs.declared.views.Deed.TheVariants.{Claim, Finish}
 use Rattle.td_board.specs.declared.views.DeskTry.TheVariants.{WithdrawalWon, WithdrawalLost}
 use Rattle.td_board.specs.declared.views.DeskTry.TheVariants.{SettleDone, SettleEarly}
+use Rattle.td_board.specs.declared.views.DeskTry.TheVariants.{Offered, ClaimNoted}
 use Rattle.td_board.specs.declared.views.DeskView.{DeskView}
 use Rattle.td_board.specs.declared.views.View.{View}
 use Rattle.td_board.specs.declared.views.View.TheVariants.{Desk, Builder}
@@ -123,13 +124,14 @@ offer_allowed rows slots id r me d is in_here =
     let t = desk_sees rows s rule id d r In at in_here in
     let here : get_elem? rule.phases r ≡ some closed =
     t.here ∙ ap some (in_closed t.phase t.suits) in
-    let d' : DeskView = with_row r Out d in (
+    let d' : DeskView = desk_tried (Offered r) (with_row r Out d) in (
       Desk d',
       keeps,
       tt,
       ruled_row rows s rule r 1 id 0 opened (Desk d') t.first refl
           (steps.offer r d t.fits.first in_here here refl),
-      (λ q e. let same : r ≡ q = omega arith in ap (λ i. at_desk (with_row i Out d)) same),
+      (λ q e. let same : r ≡ q = omega arith in
+          ap (λ i. at_desk (desk_tried (Offered i) (with_row i Out d))) same),
     ))
 
 -- a withdrawal
@@ -218,7 +220,8 @@ note_allowed rows slots id r b new me d word is seen =
         let here : get_elem? rule.phases r ≡ some (held b) =
         t.here ∙ ap some (seen_held b t.phase t.suits) in
         let known = holder_in rows rule.phases d s.views r b t.fits here in
-        let d' : DeskView = with_deed b (Claim r) (with_row r (Known b) d) in (
+        let d' : DeskView =
+        desk_tried (ClaimNoted r b) (with_deed b (Claim r) (with_row r (Known b) d)) in (
           Desk d',
           keeps,
           tt,
@@ -227,7 +230,8 @@ note_allowed rows slots id r b new me d word is seen =
           (λ q a e e'. let one : r ≡ q = omega arith in let two : b ≡ a = omega arith in (
             subst (λ i. 0 < i) two known.0,
             subst (λ i. i ≤ length d.noted) two known.1,
-            λ i. at_desk (with_deed (two i) (Claim (one i)) (with_row (one i) (Known (two i)) d)),
+            λ i. at_desk (desk_tried (ClaimNoted (one i) (two i))
+                (with_deed (two i) (Claim (one i)) (with_row (one i) (Known (two i)) d))),
           )),
         ))
 

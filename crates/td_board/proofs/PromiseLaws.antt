@@ -13,6 +13,7 @@ use Rattle.td_board.specs.declared.views.Hand.{Hand}
 use Rattle.td_board.specs.declared.views.Hand.TheVariants.{Free, Holding, Finished}
 use Rattle.td_board.specs.declared.views.DeskTry.TheVariants.{WithdrawalWon, WithdrawalLost}
 use Rattle.td_board.specs.declared.views.DeskTry.TheVariants.{SettleDone, SettleEarly}
+use Rattle.td_board.specs.declared.views.DeskTry.TheVariants.{Offered, ClaimNoted}
 use Rattle.td_board.specs.declared.views.BuilderTry.{BuilderTry}
 use Rattle.td_board.specs.declared.views.BuilderTry.TheVariants.{ClaimWon, ClaimLost, FinishDone}
 use Rattle.td_board.specs.declared.views.BuilderTry.TheVariants.{FinishEarly, ReleaseDone}
@@ -361,8 +362,8 @@ desk_goes_on_from m n (seat u knows e) d at =
       subst (λ (x : DeskView). Begins u'.tried x.tried) same (same_list u.tried),
     )
 desk_goes_on_from m n (offer q u knows _ _ e) d at =
-    desk_goes_on_own m n _ u (with_row q Out u) d e knows at (λ b. same_list (noted_of u b))
-    (same_list u.tried)
+    desk_goes_on_own m n _ u (desk_tried (Offered q) (with_row q Out u)) d e knows at
+    (λ b. same_list (noted_of u b)) (Offered q ∷ [], refl)
 desk_goes_on_from m n (withdrawal_won q u knows _ _ e) d at =
     desk_goes_on_own m n _ u (desk_tried (WithdrawalWon q) (with_row q In u)) d e knows at
     (λ b. same_list (noted_of u b)) (WithdrawalWon q ∷ [], refl)
@@ -373,8 +374,9 @@ desk_goes_on_from m n (claim_won q a u knows _ _ e) d at = desk_goes_on m n _ a 
 desk_goes_on_from m n (claim_lost q a p u knows _ _ _ e) d at =
     desk_goes_on m n _ a u _ d e knows at
 desk_goes_on_from m n (note q a u knows _ _ e) d at =
-    desk_goes_on_own m n _ u (with_deed a (Claim q) (with_row q (Known a) u)) d e knows at (λ b.
-    list_at-longer u.noted (a - 1) (b - 1) (Claim q)) (same_list u.tried)
+    desk_goes_on_own m n _ u
+    (desk_tried (ClaimNoted q a) (with_deed a (Claim q) (with_row q (Known a) u))) d e knows at (λ b.
+    list_at-longer u.noted (a - 1) (b - 1) (Claim q)) (ClaimNoted q a ∷ [], refl)
 desk_goes_on_from m n (finish_done q a c u knows _ _ e) d at = desk_goes_on m n _ a u _ d e knows at
 desk_goes_on_from m n (finish_early q a c p u knows _ _ _ e) d at =
     desk_goes_on m n _ a u _ d e knows at

@@ -6,6 +6,7 @@ use Rattle.td_board.specs.declared.views.Deed.TheVariants.{Claim, Finish}
 use Rattle.td_board.specs.declared.views.RowView.TheVariants.{In, Out, Seen, Known}
 use Rattle.td_board.specs.declared.views.DeskTry.TheVariants.{WithdrawalWon, WithdrawalLost}
 use Rattle.td_board.specs.declared.views.DeskTry.TheVariants.{SettleDone, SettleEarly}
+use Rattle.td_board.specs.declared.views.DeskTry.TheVariants.{Offered, ClaimNoted}
 use Rattle.td_board.specs.declared.views.BuilderTry.TheVariants.{ClaimLost, FinishEarly}
 use Rattle.td_board.specs.declared.views.BuilderTry.TheVariants.{ReleaseEarly}
 use Rattle.td_board.specs.declared.views.DeskView.{DeskView}
@@ -42,9 +43,9 @@ stands_after rows m n t (seat d at e) =
     (with_builder d, seat_keeps rows m.phases d m.views (with_desk rows m d t at))
 stands_after rows m n t (offer r d at _ is e) =
     subst (Stands rows) (sym e) (
-      with_row r Out d,
-      unclaimed_keeps rows m.phases d m.views r closed opened Out d.tried refl refl tt tt
-          (with_desk rows m d t at) is,
+      desk_tried (Offered r) (with_row r Out d),
+      unclaimed_keeps rows m.phases d m.views r closed opened Out (d.tried ++ Offered r ∷ []) refl
+          refl tt tt (with_desk rows m d t at) is,
     )
 stands_after rows m n t (withdrawal_won r d at _ is e) =
     subst (Stands rows) (sym e) (
@@ -71,7 +72,7 @@ stands_after rows m n t (claim_lost r b p v at free is ne e) =
     (t.0, builder_try_keeps rows m.phases t.0 m.views b v (ClaimLost r) t.1 at)
 stands_after rows m n t (note r b d at _ is e) =
     subst (Stands rows) (sym e) (
-      with_deed b (Claim r) (with_row r (Known b) d),
+      desk_tried (ClaimNoted r b) (with_deed b (Claim r) (with_row r (Known b) d)),
       note_keeps rows m.phases d m.views r b (with_desk rows m d t at) is,
     )
 stands_after rows m n t (finish_done r b c v at holds is e) =

@@ -30,7 +30,7 @@ with_builder d = record { rows = d.rows; noted = d.noted ++ [] ∷ []; tried = d
 abbrev pub with_row : ℕ → RowView → DeskView → DeskView
 with_row r x d = record { rows = slice_set d.rows r x; noted = d.noted; tried = d.tried }
 
--- the desk, which tried one thing more
+-- the desk, which made one step more
 abbrev pub desk_tried : DeskTry → DeskView → DeskView
 desk_tried e d = record { rows = d.rows; noted = d.noted; tried = d.tried ++ e ∷ [] }
 

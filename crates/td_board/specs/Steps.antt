@@ -9,6 +9,7 @@ use Rattle.td_board.specs.declared.views.RowView.TheVariants.{In, Out, Seen, Kno
 use Rattle.td_board.specs.declared.views.Deed.TheVariants.{Claim, Finish}
 use Rattle.td_board.specs.declared.views.DeskTry.TheVariants.{WithdrawalWon, WithdrawalLost}
 use Rattle.td_board.specs.declared.views.DeskTry.TheVariants.{SettleDone, SettleEarly}
+use Rattle.td_board.specs.declared.views.DeskTry.TheVariants.{Offered, ClaimNoted}
 use Rattle.td_board.specs.declared.views.BuilderTry.TheVariants.{ClaimLost, FinishEarly}
 use Rattle.td_board.specs.declared.views.BuilderTry.TheVariants.{ReleaseEarly}
 use Rattle.td_board.specs.declared.views.Hand.TheVariants.{Free, Holding, Finished}
@@ -69,13 +70,13 @@ moved r p i w m = record { phases = slice_set m.phases r p; views = slice_set m.
 
 -- One atomic step of a seat leads from m to n. With the making of the board these are its fourteen
 -- kinds: each says when it comes, which phase it changes, and what its own seat knows afterwards.
--- A try that moves nothing is among what its seat knows too
+-- Each but the split of a seat is told in its own seat's list, also a try that moves nothing
 pub data Step (m n : Moment) : Type 0 where
   -- a builder's seat is split off the desk's
   seat : (d : DeskView) → DeskKnows m d → n ≡ seated d m → Step m n
   -- the desk offers a row
   offer : (r : ℕ) (d : DeskView) → DeskKnows m d → Shows d r In → IsAt m r closed
-      → n ≡ moved r opened 0 (Desk (with_row r Out d)) m → Step m n
+      → n ≡ moved r opened 0 (Desk (desk_tried (Offered r) (with_row r Out d))) m → Step m n
   -- the desk takes an offer back
   withdrawal_won : (r : ℕ) (d : DeskView) → DeskKnows m d → Shows d r Out → IsAt m r opened
       → n ≡ moved r closed 0 (Desk (desk_tried (WithdrawalWon r) (with_row r In d))) m → Step m n
@@ -91,7 +92,9 @@ pub data Step (m n : Moment) : Type 0 where
       → Step m n
   -- the desk notes the claim that it saw
   note : (r b : ℕ) (d : DeskView) → DeskKnows m d → Shows d r (Seen b) → IsAt m r (held b)
-      → n ≡ moved r (noted b) 0 (Desk (with_deed b (Claim r) (with_row r (Known b) d))) m → Step m n
+      → n ≡ moved r (noted b) 0
+      (Desk (desk_tried (ClaimNoted r b) (with_deed b (Claim r) (with_row r (Known b) d)))) m
+      → Step m n
   -- a builder finishes the row that it holds
   finish_done : (r b : ℕ) (c : OutcomeCode) (v : BuilderView) → BuilderKnows m b v
       → v.hand ≡ Holding r → IsAt m r (noted b)

@@ -7,6 +7,7 @@ use Rattle.td_board.specs.declared.views.RowView.TheVariants.{In, Out, Seen, Kno
 use Rattle.td_board.specs.declared.views.Deed.TheVariants.{Claim, Finish}
 use Rattle.td_board.specs.declared.views.DeskTry.TheVariants.{WithdrawalWon, WithdrawalLost}
 use Rattle.td_board.specs.declared.views.DeskTry.TheVariants.{SettleDone, SettleEarly}
+use Rattle.td_board.specs.declared.views.DeskTry.TheVariants.{Offered, ClaimNoted}
 use Rattle.td_board.specs.declared.views.BuilderTry.TheVariants.{ClaimLost, FinishEarly}
 use Rattle.td_board.specs.declared.views.BuilderTry.TheVariants.{ReleaseEarly}
 use Rattle.td_board.specs.declared.views.Hand.TheVariants.{Finished}
@@ -57,7 +58,8 @@ builder_half (Builder v) = Builder v
 
 -- an offer: the row is Out
 abbrev pub OfferTells : AtomicStep → SeatState → ℕ → SeatState → Type 0
-OfferTells st m n m' = (r : ℕ) → st.word ≡ r + 1 → m' ≡ at_desk (with_row r Out (desk_in m.0))
+OfferTells st m n m' = (r : ℕ) → st.word ≡ r + 1
+    → m' ≡ at_desk (desk_tried (Offered r) (with_row r Out (desk_in m.0)))
 
 -- a withdrawal: where the word found is Open the row is In again,
 -- else the word names the builder that was faster
@@ -77,7 +79,9 @@ ClaimTells st m n m' = (r : ℕ) → st.word ≡ r + 1
 abbrev pub NoteTells : AtomicStep → SeatState → ℕ → SeatState → Type 0
 NoteTells st m n m' = (r b : ℕ) → st.word ≡ r + 1 → st.first ≡ word_of (noted b)
     → (0 < b) × (b ≤ length (desk_in m.0).noted)
-    × (m' ≡ at_desk (with_deed b (Claim r) (with_row r (Known b) (desk_in m.0))))
+    × (m'
+    ≡ at_desk (desk_tried (ClaimNoted r b)
+    (with_deed b (Claim r) (with_row r (Known b) (desk_in m.0)))))
 
 -- a finish: where the word found is Noted the hand is Finished, else it was tried
 abbrev pub FinishTells : AtomicStep → SeatState → ℕ → SeatState → Type 0

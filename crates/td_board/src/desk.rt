@@ -4,6 +4,7 @@ ghost use mathlib.Core.Option.{some};
 ghost use lib.ListN.{get_elem?};
 ghost use Rattle.td_board.specs.declared.views.RowView.TheVariants.{In, Out, Seen, Known};
 ghost use Rattle.td_board.specs.declared.views.Deed.TheVariants as deed;
+ghost use Rattle.td_board.specs.declared.views.DeskTry.TheVariants.{Offered, ClaimNoted};
 ghost use Rattle.td_board.specs.declared.views.DeskTry.TheVariants.{SettleDone, SettleEarly};
 ghost use Rattle.td_board.specs.Knowledge.{with_row, with_deed, desk_tried, holder_at};
 ghost use Rattle.td_board.specs.Answers.{Withdraws};
@@ -27,7 +28,8 @@ impl Board {
     pub fn offer(&self, desk: &mut DeskSeat, row: usize)
         requires table { desk.old.table ≡ self.now.table }
         requires row { get_elem? desk.old.desk.rows row ≡ some In }
-        ensures { desk.new ≡ record desk.old { desk = with_row row Out desk.old.desk } }
+        ensures { desk.new
+            ≡ record desk.old { desk = desk_tried (Offered row) (with_row row Out desk.old.desk) } }
     {
         let shared = &self.table.shared;
         shared.store::<Offer>(&mut desk.seat, row + 1, OPEN);
@@ -56,7 +58,8 @@ impl Board {
         ensures builder { get_elem? desk.old.desk.rows row ≡ some (Seen result) }
         ensures one_of_the_boards { (0 < result) × (result ≤ length desk.old.desk.noted) }
         ensures desk { let known = with_row row (Known result) desk.old.desk in
-            desk.new ≡ record desk.old { desk = with_deed result (deed.Claim row) known } }
+            let told = with_deed result (deed.Claim row) known in
+            desk.new ≡ record desk.old { desk = desk_tried (ClaimNoted row result) told } }
     {
         let builder = desk.holder(row);
         let shared = &self.table.shared;

@@ -29,12 +29,16 @@ pub enum Hand {
     Finished(usize, OutcomeCode),
 }
 
-/// A try of the desk's at a row, and what became of it. (An offer and a note never fail.)
+/// A step of the desk's at a row, and what became of it. An offer and a note never fail.
 pub enum DeskTry {
+    /// The row was offered.
+    Offered(usize),
     /// The offer of the row was taken back.
     WithdrawalWon(usize),
     /// It wasn't: the builder of this number was faster.
     WithdrawalLost(usize, u64),
+    /// The claim of this builder on the row was noted.
+    ClaimNoted(usize, u64),
     /// The build of the row had ended with this outcome, and was settled.
     SettleDone(usize, OutcomeCode),
     /// It hadn't ended so.
@@ -63,7 +67,7 @@ pub struct DeskView {
     pub rows: LinkedList<RowView>,
     /// What it noted of each builder, in order. Builder 1 comes first.
     pub noted: LinkedList<LinkedList<Deed>>,
-    /// What it tried, in order, also where nothing came of it.
+    /// Its steps at the rows, in order, also where nothing came of one.
     pub tried: LinkedList<DeskTry>,
 }
 

@@ -1,9 +1,10 @@
 -- `Board::offer`: the call of `store`, its type's invariant and its sums.
 use Rattle.std.proofs.Common.{arith, ◌+◌, ◌≤◌, refl}
 use Rattle.td_board.specs.declared.views.RowView.TheVariants.{Out}
-use Rattle.td_board.specs.Knowledge.{with_row}
+use Rattle.td_board.specs.declared.views.DeskTry.TheVariants.{Offered}
+use Rattle.td_board.specs.Knowledge.{with_row, desk_tried}
 use Rattle.td_board.specs.Tells.{desk_in}
-use Rattle.td_board.proofs.SeatKeeps.{desk_use, keeps_out, desk_after}
+use Rattle.td_board.proofs.SeatKeeps.{desk_use, keeps_out, keeps_try, desk_after}
 use Rattle.td_board.proofs.DeskMoves.{offer_allowed}
 use Rattle.td_board.proofs.board.Board.offer.Goals as goal
 
@@ -22,5 +23,7 @@ store-requires c =
 
 pub invariant_of-desk : goal.invariant_of-desk
 invariant_of-desk c =
-    desk_after _ _ _ (with_row c.args.row Out (desk_in c.desk.inside.seat.me.0)) _ _
-    (c.store.ensures.2 c.args.row refl) c.store.ensures.0 (keeps_out _ _ _ _ _ c.desk.invariant.1)
+    desk_after _ _ _
+    (desk_tried (Offered c.args.row) (with_row c.args.row Out (desk_in c.desk.inside.seat.me.0)))
+    _ _ (c.store.ensures.2 c.args.row refl) c.store.ensures.0
+    (keeps_try _ _ _ _ (Offered c.args.row) (keeps_out _ _ _ _ _ c.desk.invariant.1))
