@@ -1,5 +1,7 @@
 -- What the desk knows after an arrival, and after a sweep.
-use Rattle.std.proofs.Common.{◌≡◌, true, List, [], ◌∷◌, Some, ap, refl, sym, subst, ◌∙◌}
+use Rattle.std.proofs.Common.{◌≡◌, ◌≢◌, true, List, [], ◌∷◌, ◌++◌, Some, ap, refl, sym, subst}
+use Rattle.std.proofs.Common.{◌∙◌}
+use Rattle.td_board.specs.declared.views.RowView.{RowView}
 use Rattle.std.specs.Prelude.{ℕ, Result, Ok, Err, IfOk, OnErr}
 use Rattle.td_rows.specs.declared.key.Key.{Key}
 use Rattle.td_rows.specs.declared.row.Row.{Row}
@@ -16,9 +18,11 @@ use Rattle.td_core.proofs.Worlds.{rows_of-with_entry}
 use Rattle.td_book.specs.declared.book.Book.TheInside.{Inside}
 use Rattle.td_book.specs.Watching.{kept_in}
 use Rattle.td_book.specs.Seen.{seen_off}
-use Rattle.td_book.specs.Desk.{InnerModel}
+use Rattle.td_book.specs.Arriving.{freed_now, swept_now, SweepOutcome}
+use Rattle.td_book.specs.Desk.{InnerModel, book_of, Stays}
+use Rattle.td_book.specs.Tries.{offers_for}
 use Rattle.td_book.proofs.Seeing.{desks_off, arrive_off, waiting_off}
-use Rattle.td_book.proofs.Steps.{up_now}
+use Rattle.td_book.proofs.Steps.{up_now, stays_fixed}
 
 -- what was read of a book's inside is so of the inside
 pub rising_inside : (read now : Inside) → read ≡ now
@@ -27,7 +31,16 @@ pub rising_inside : (read now : Inside) → read ≡ now
 rising_inside read now is up =
     ap (λ (s : Inside). ascending (keys_of s.inner.books.history.opening)) (sym is) ∙ up
 
--- so the keys that a sweep frees rise, and it applies on all of them
+-- so the keys that were found are those that a sweep of the book frees
+pub freed_inside : (keys : List Key) (kept : BooksView) (read now : Inside) → read ≡ now
+    → kept ≡ kept_in read.inner.books
+    → keys ≡ freed (supply_now kept.stock kept.history) (rows_of kept.history)
+    → keys ≡ freed_now (book_of now.inner)
+freed_inside keys kept read now is same told =
+    told ∙ ap (λ (k : BooksView). freed (supply_now k.stock k.history) (rows_of k.history))
+    (same ∙ ap (λ (x : Inside). kept_in x.inner.books) is)
+
+-- they rise, and it applies on all of them
 pub sweeps_inside : (keys : List Key) (kept : BooksView) (read now : Inside) → read ≡ now
     → ascending (keys_of read.inner.books.history.opening) ≡ true → kept ≡ kept_in read.inner.books
     → keys ≡ freed (supply_now kept.stock kept.history) (rows_of kept.history)
@@ -37,9 +50,7 @@ sweeps_inside keys kept read now is up same told =
     let s = supply_now b.stock b.history in
     let t = rows_of b.history in
     let rising = up_now b.history (rising_inside read now is up) in
-    let are : keys ≡ freed s t =
-    told ∙ ap (λ (k : BooksView). freed (supply_now k.stock k.history) (rows_of k.history))
-    (same ∙ ap (λ (x : Inside). kept_in x.inner.books) is) in (
+    let are : keys ≡ freed s t = freed_inside keys kept read now is same told in (
       ap ascending are ∙ ascending-freed s t rising,
       subst (AppliesOn t Sweep) (sym are) (AppliesOn-freed s t rising),
     )
@@ -77,3 +88,26 @@ swept_view a b keys up fit rest ok same =
     ∙ ap (seen_off keys)
     (sym (rows_of-with_entry a.books.history (record { kind = Sweep; keys = keys })))
     ∙ ap (λ (h : History). seen_off keys (rows_of h)) (sym ok)
+
+-- a sweep's entry, and then the offers
+pub swept_so : (a b e : InnerModel) (keys offered : List Key) (n : ℕ) (v : List RowView)
+    → keys ≡ freed_now (book_of a) → keys ≢ []
+    → IsAppended a.books.history (record { kind = Sweep; keys = keys }) b.books.history n
+    → Stays a b → b.tries ≡ a.tries → offered ≡ keys
+    → e ≡ (record b {
+      view = v;
+      tries = b.tries ++ offers_for (rows_of b.books.history) offered;
+    }) → SweepOutcome (book_of a) (book_of e) (Ok (Some n))
+swept_so a b e keys offered n v are some made stays untried same is =
+    let now : b.books.history ≡ swept_now (book_of a) =
+    made.history
+    ∙ ap (λ (ks : List Key). with_entry a.books.history (record { kind = Sweep; keys = ks }))
+    are in (
+      (λ none. some (are ∙ none)),
+      ap book_of is ∙ (λ j. record {
+        history = now j;
+        fixed = stays_fixed a b stays j;
+        tries = untried j ++ offers_for (rows_of (now j)) ((same ∙ are) j);
+      }),
+      made.number,
+    )

@@ -35,14 +35,14 @@ use Rattle.td_book.specs.declared.starting.Job.{Job}
 use Rattle.td_book.specs.Watching.{WatchedView}
 use Rattle.td_book.specs.Desk.{InnerModel, BookModel, book_of, Stays, HasRoom, HasOne, claim_of}
 use Rattle.td_book.specs.Calls.{noting_one, HasOut, OutAt, LostTo}
-use Rattle.td_book.specs.Tries.{tries_at}
+use Rattle.td_book.specs.Tries.{look_at}
 use Rattle.td_book.specs.Building.{Knows, head_key, is_built_at, Noticed, IsJobAt}
 use Rattle.td_book.proofs.Seeing.{claimed_off, idle_off, views_at, views-each_row, set_views}
 use Rattle.td_book.proofs.Seeing.{length-seen_off}
 use Rattle.td_book.proofs.Steps.{rising_read, rows_read, noting_one-lost}
 use Rattle.td_book.proofs.Steps.{noting_one-opening, noting_one-won, stays_more}
 use Rattle.td_book.proofs.Steps.{stays_fixed, spent_none, key_of, up_now, pos_lost}
-use Rattle.td_book.proofs.Tries.{tries_at-out, withdrawal-lost}
+use Rattle.td_book.proofs.Tries.{look_at-out, look-lost}
 
 pub built_at : (t : Table) (k : Key) (i b : ℕ) (row : Row) → ascending (keys_of t) ≡ true
     → slice_get t i ≡ Some (k, row) → is_built_at t k b ≡ is_building_by b row.state
@@ -57,7 +57,7 @@ queued-unbuilt b s h = refl
 -- nothing is noted
 pub knows_none : (b : ℕ) (k : Key) (is : Bool) (m n : InnerModel) (tries : List DeskTry)
     → n ≡ (record m { tries = tries })
-    → tries ≡ m.tries ++ tries_at (rows_of m.books.history) k 0
+    → tries ≡ m.tries ++ look_at (rows_of m.books.history) k 0
     → m.view ≡ seen_off [] (rows_of m.books.history)
     → is ≡ is_built_at (rows_of m.books.history) k b → Knows b k is m n
 knows_none b k is m n tries same told rest answer = subst (Knows b k is m) (sym same) (record {
@@ -102,8 +102,7 @@ knows_noted by b k i m n lost out up rest =
           ∙ idle_off [] u k up_u (λ row found. same_idle row (sym found ∙ claimed))
           ∙ ap (seen_off []) (sym rows);
       tries = lost.tries ∙ ap (λ (l : List DeskTry). m.tries ++ l)
-          (sym (tries_at-out t k i by up out
-          ∙ ap (λ (e : DeskTry). e ∷ []) (withdrawal-lost i by (pos_lost by lost.one))));
+          (sym (look_at-out t k i by up out ∙ look-lost i by (pos_lost by lost.one)));
       stays = lost.stays;
       spent = lost.spent;
       answers = sym (ap (λ (x : Table). is_built_at x k b) rows
@@ -185,8 +184,8 @@ noticed i b k is behind a m n tries w same untried stays at told =
       history = w.history ∙ ap (λ (h : History). noting_one h k w.by) same;
       answers = w.answers;
       tries = told ∙ ap (λ (l : List DeskTry). l ++ behind) w.tries
-          ∙ (λ j. (untried j ++ tries_at (rows_of (same j)) k w.by) ++ behind)
-          ∙ append_assoc a.tries (tries_at (rows_of a.books.history) k w.by) behind;
+          ∙ (λ j. (untried j ++ look_at (rows_of (same j)) k w.by) ++ behind)
+          ∙ append_assoc a.tries (look_at (rows_of a.books.history) k w.by) behind;
       fixed = stays_fixed a n all;
     }
 

@@ -1,8 +1,10 @@
 -- The calls of the book over plain values.
 use Rattle.std.proofs.Common.{◌≡◌, ℕ, ◌≤◌, Bool, true, false, List, [], ◌∷◌, ◌++◌, Option, Some}
 use Rattle.std.proofs.Common.{None, Result, IfSome, filter, if◌then◌else◌, length, ap, refl, sym}
-use Rattle.std.proofs.Common.{subst, ◌∙◌, arith}
+use Rattle.std.proofs.Common.{Ok, subst, ◌∙◌, arith, append_assoc}
+use Rattle.std.specs.Prelude.{IsSomeAnd}
 use Rattle.td_board.specs.declared.views.RowView.{RowView}
+use Rattle.td_board.specs.declared.views.DeskTry.{DeskTry}
 use Rattle.td_rows.specs.declared.key.Key.{Key}
 use Rattle.td_rows.specs.declared.kind.Kind.{Kind}
 use Rattle.td_rows.specs.Keys.{names}
@@ -10,16 +12,19 @@ use Rattle.td_rows.specs.Kinds.{cells}
 use Rattle.td_rows.specs.Table.{Table, keys_of}
 use Rattle.td_change.specs.Plans.{Planned, plan_of, left}
 use Rattle.td_change.proofs.Plans.{left-plan_of, plan_of-itself, plan_of-same_keys}
+use Rattle.td_journal.specs.declared.entry.Marked.{Marked}
 use Rattle.td_journal.specs.Commands.{is_command}
+use Rattle.td_journal.specs.Entries.{entry_at}
 use Rattle.td_core.specs.Committing.{takes}
-use Rattle.td_core.specs.History.{History, rows_of, with_entry}
+use Rattle.td_core.specs.History.{History, rows_of, with_entry, without_entry}
 use Rattle.td_core.proofs.Phases.{keys_of-rows_of}
 use Rattle.td_book.specs.Watching.{WatchedView}
 use Rattle.td_book.specs.Desk.{InnerModel, BookModel, book_of, fixed_of, Stays, HasOne}
 use Rattle.td_book.specs.Calls.{noting_one, noting, Choices, Withdrew, off_for, plan_takes}
 use Rattle.td_book.specs.Calls.{plan_kind, entered, entered_no, IsPlan, IsPlanOf, PlanIsOff}
 use Rattle.td_book.specs.Calls.{CommandOutcome, CommandTries, IsCommanded, taken_of}
-use Rattle.td_book.specs.Tries.{tries_for}
+use Rattle.td_book.specs.Tries.{tries_for, wins_for, offers_for}
+use Rattle.td_book.specs.Undoing.{AreOff, IsUndone}
 use Rattle.td_book.specs.declared.commanding.CommandRefusal.{CommandRefusal}
 use Rattle.td_book.specs.declared.commanding.Taken.{Taken}
 use Rattle.td_book.specs.declared.skips.Skip.{Skip}
@@ -151,7 +156,8 @@ outcome_of kind named matched left old new choices chosen (k ∷ ks) eq now skip
 
 tries_of : (kind : Kind) (named matched : List Key) (old new : BookModel) (choices : List ℕ)
     → Choices old.fixed.builders (off_for kind named) choices
-    → new.tries ≡ old.tries ++ tries_for (rows_of old.history) (off_for kind named) choices
+    → new.tries ≡ old.tries ++ (tries_for (rows_of old.history) (off_for kind named) choices
+    ++ offers_for (rows_of new.history) (off_for kind named))
     → (ts : List Key)
     → takes (rows_of (noting old.history (off_for kind named) choices)) kind matched ≡ ts
     → new.history ≡ entered (noting old.history (off_for kind named) choices) kind ts
@@ -177,7 +183,10 @@ pub commanded : (kind : Kind) (named matched : List Key) (left : Table → List 
     → b.tries ≡ a.tries → Stays a b → Withdrew (off_for kind named) b w
     → d.books.history ≡ entered w.books.history (plan_kind plan)
     (plan_takes (rows_of w.books.history) plan) → d.tries ≡ w.tries → Stays w d
-    → e ≡ (record d { view = v })
+    → e ≡ (record d {
+      view = v;
+      tries = d.tries ++ offers_for (rows_of d.books.history) (off_for kind named);
+    })
     → skips ≡ left (rows_of w.books.history)
     → result
     ≡ taken_of (entered_no w.books.history (plan_takes (rows_of w.books.history) plan)) skips
@@ -191,9 +200,15 @@ commanded kind named matched left a b w d e plan v skips result planned same unt
     let chosen : Choices a.builders off done.choices =
     subst (λ (n : ℕ). Choices n off done.choices) room.builders done.chosen in
     let books : e.books ≡ d.books = ap (λ (m : InnerModel). m.books) offered in
-    let tries : e.tries ≡ a.tries ++ tries_for (rows_of a.books.history) off done.choices =
-    ap (λ (m : InnerModel). m.tries) offered ∙ untried' ∙ done.tries
-    ∙ (λ j. untried j ++ tries_for (rows_of (same j)) off done.choices) in
+    let took : List DeskTry = tries_for (rows_of a.books.history) off done.choices in
+    let again : List DeskTry = offers_for (rows_of d.books.history) off in
+    let tries : e.tries ≡ a.tries ++ (took ++ offers_for (rows_of e.books.history) off) =
+    ap (λ (m : InnerModel). m.tries) offered
+    ∙ ap (λ (l : List DeskTry). l ++ again) (untried' ∙ done.tries
+    ∙ (λ j. untried j ++ tries_for (rows_of (same j)) off done.choices))
+    ∙ append_assoc a.tries took again
+    ∙ ap (λ (b : WatchedView).
+    a.tries ++ (took ++ offers_for (rows_of b.history) off)) (sym books) in
     let ts = takes (rows_of (noting a.books.history off done.choices)) kind matched in
     let now : e.books.history ≡ entered (noting a.books.history off done.choices) kind ts =
     ap (λ (x : WatchedView). x.history) books ∙ made
@@ -212,7 +227,42 @@ commanded kind named matched left a b w d e plan v skips result planned same unt
           now skips result answer;
     }
 
--- ---- 4. a command that is typed
+-- ---- 4. an undo
+
+-- rows withdrawn, the entry undone, rows offered
+pub undone_so : (n : ℕ) (a u d e : InnerModel) (off offered : List Key) (m : Marked)
+    (v : List RowView) → entry_at a.books.history.journal n ≡ Some m
+    → off ≡ off_for m.entry.kind m.entry.keys → AreOff off a u
+    → d.books.history ≡ without_entry u.books.history n → Stays u d → d.tries ≡ u.tries
+    → offered ≡ off
+    → e ≡ (record d {
+      view = v;
+      tries = d.tries ++ offers_for (rows_of d.books.history) offered;
+    }) → IsUndone n (book_of a) (book_of e) (Ok tt)
+undone_so n a u d e off offered m v there off_is offs undone kept untried same is =
+    let wins : List DeskTry = wins_for (rows_of a.books.history) off in
+    let again : List DeskTry = offers_for (rows_of d.books.history) offered in
+    let hist : e.books.history ≡ d.books.history = ap (λ (x : InnerModel). x.books.history) is in
+    let told : e.tries
+    ≡ a.tries ++ (wins_for (rows_of a.books.history) (off_for m.entry.kind m.entry.keys)
+    ++ offers_for (rows_of e.books.history) (off_for m.entry.kind m.entry.keys)) =
+    ap (λ (x : InnerModel). x.tries) is
+    ∙ ap (λ (l : List DeskTry). l ++ again) (untried ∙ offs.tries)
+    ∙ append_assoc a.tries wins again
+    ∙ (λ j. a.tries ++ (wins_for (rows_of a.books.history) (off_is j)
+    ++ offers_for (rows_of (sym hist j)) ((same ∙ off_is) j))) in
+    record {
+      fixed = ap fixed_of is ∙ stays_fixed a d (stays_more a u d offs.stays kept);
+      outcome = hist ∙ undone ∙ ap (λ (h : History). without_entry h n) offs.history;
+      tries = subst (λ (x : Option Marked).
+          IsSomeAnd x (λ (k : Marked). e.tries
+          ≡ a.tries ++ (wins_for (rows_of a.books.history) (off_for k.entry.kind k.entry.keys)
+          ++ offers_for (rows_of e.books.history) (off_for k.entry.kind k.entry.keys))))
+          (sym there) told;
+      memory = λ bad. absurd (cc);
+    }
+
+-- ---- 5. a command that is typed
 
 pub kinds_command : (c : CommandParts) → is_command (kind_of c) ≡ true
 kinds_command c = by c.verb c.extra c.message

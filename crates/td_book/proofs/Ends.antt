@@ -15,7 +15,7 @@ use Rattle.td_core.proofs.Phases.{keys_of-rows_of}
 use Rattle.td_book.specs.Desk.{InnerModel, book_of, Stays}
 use Rattle.td_book.specs.Deeds.{code_of}
 use Rattle.td_book.specs.Calls.{noting_one}
-use Rattle.td_book.specs.Tries.{tries_at}
+use Rattle.td_book.specs.Tries.{look_at, offers_for}
 use Rattle.td_book.specs.Building.{Knows, IsEndingAt, IsEnded, IsUnended, EndsShort, head_key}
 use Rattle.td_book.specs.Building.{is_built_at, Noticed}
 use Rattle.td_book.specs.declared.building.Ending.{Ending}
@@ -39,7 +39,8 @@ pub ended_some : (i : ℕ) (o : Outcome) (v w : BuilderView) (a m z : InnerModel
     → IfSome r (λ n. n ≡ length m.books.history.journal + 1)
     → IfSome r (λ n. z.books.history
     ≡ with_entry m.books.history (record { kind = Ended v.number o; keys = k ∷ [] }))
-    → IfSome r (λ n. z.tries ≡ m.tries ++ SettleDone i (code_of o) ∷ [])
+    → IfSome r (λ n. z.tries ≡ m.tries
+    ++ SettleDone i (code_of o) ∷ offers_for (rows_of z.books.history) (k ∷ []))
     → IfSome r (IsEnded i o v w a z)
 ended_some i o v w a m z k None at knows hand number now tries = tt
 ended_some i o v w a m z k (Some n) at knows hand number now tries = record {
@@ -52,8 +53,8 @@ ended_some i o v w a m z k (Some n) at knows hand number now tries = record {
   now = now ∙ ap (λ (h : History). with_entry h (record { kind = Ended v.number o; keys = k ∷ [] }))
       knows.history;
   number = number ∙ ap (λ (h : History). length h.journal + 1) knows.history;
-  tries = tries_more a.tries m.tries z.tries (tries_at (rows_of a.books.history) k knows.by)
-      (SettleDone i (code_of o) ∷ []) knows.tries tries;
+  tries = tries_more a.tries m.tries z.tries (look_at (rows_of a.books.history) k knows.by)
+      (SettleDone i (code_of o) ∷ offers_for (rows_of z.books.history) (k ∷ [])) knows.tries tries;
   hand = hand;
 }
 
@@ -115,7 +116,8 @@ finishes i o v w a b z n same untried room kept e = record {
   number = e.number ∙ ap (λ (h : History). length (noting_one h e.key e.by).journal + 1) same;
   tries = e.tries
       ∙ (λ j. untried j
-      ++ (tries_at (rows_of (same j)) e.key e.by ++ SettleDone i (code_of o) ∷ []));
+      ++ (look_at (rows_of (same j)) e.key e.by
+      ++ SettleDone i (code_of o) ∷ offers_for (rows_of z.books.history) (e.key ∷ [])));
   fixed = stays_fixed a z (stays_more a b z room kept);
 }
 

@@ -5,6 +5,7 @@ pub mod Deeds
 pub mod Steps
 pub mod Tries
 pub mod Withdrawals
+pub mod Offering
 pub mod Arrivals
 pub mod Calls
 pub mod Builds

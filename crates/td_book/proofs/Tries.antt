@@ -1,10 +1,14 @@
 -- What the desk tries, one row after another.
 use Rattle.std.proofs.Common.{◌≡◌, ℕ, zero, suc, ◌+◌, Bool, true, false, ◌&&◌, List, [], ◌∷◌, ◌++◌}
 use Rattle.std.proofs.Common.{Option, Some, None, option_map, if◌then◌else◌, filter, map, length}
-use Rattle.std.proofs.Common.{take, drop, slice_get, ap, refl, sym, ◌∙◌, arith, append-nil, append_assoc}
+use Rattle.std.proofs.Common.{take, drop, slice_get, ap, refl, sym, ◌∙◌, arith, append-nil}
+use Rattle.std.proofs.Common.{append_assoc}
+use Rattle.std.proofs.lemmas.List.{map-append}
+use Rattle.std.proofs.lemmas.List.Elements.{filter-append}
 use Rattle.std.proofs.lemmas.Option.{same_Some}
 use Rattle.td_board.specs.declared.views.DeskTry.{DeskTry}
 use Rattle.td_board.specs.declared.views.DeskTry.TheVariants.{WithdrawalWon, WithdrawalLost}
+use Rattle.td_board.specs.declared.views.DeskTry.TheVariants.{Offered, ClaimNoted}
 use Rattle.td_rows.specs.declared.key.Key.{Key}
 use Rattle.td_rows.specs.declared.row.Row.{Row}
 use Rattle.td_rows.specs.declared.kind.Kind.TheVariants.{Claim}
@@ -21,22 +25,46 @@ use Rattle.td_core.proofs.Phases.{keys_of-rows_of}
 use Rattle.td_core.proofs.Worlds.{rows_of-with_entry}
 use Rattle.td_book.specs.Desk.{claim_of}
 use Rattle.td_book.specs.Calls.{is_lost, noting_one, noting, OutAt, claim_no}
-use Rattle.td_book.specs.Tries.{withdrawal, tries_at, tries_for, wins_for}
+use Rattle.td_book.specs.Tries.{withdrawal, tries_at, tries_for, wins_for, offers_for, look}
+use Rattle.td_book.specs.Tries.{look_at}
 use Rattle.td_book.proofs.Steps.{is_out_at, noting_one-opening}
 
 -- ---- 1. at one row
 
--- the row of a key is out: one try
+-- the row of a key is out: it is tried
 pub tries_at-out : (t : Table) (k : Key) (i b : ℕ) → ascending (keys_of t) ≡ true → OutAt t k i
-    → tries_at t k b ≡ withdrawal i b ∷ []
+    → tries_at t k b ≡ withdrawal i b
 tries_at-out t k i b up out =
-    ap (λ v. if v then withdrawal (number_of t k) b ∷ [] else [])
+    ap (λ v. if v then withdrawal (number_of t k) b else [])
     (is_out_at t k i out.row up out.at ∙ out.out)
-    ∙ ap (λ (n : ℕ). withdrawal n b ∷ []) (sym (number_of-at t k i out.row up out.at))
+    ∙ ap (λ (n : ℕ). withdrawal n b) (sym (number_of-at t k i out.row up out.at))
 
--- it isn't: none
+-- so it is where it is looked at
+pub look_at-out : (t : Table) (k : Key) (i b : ℕ) → ascending (keys_of t) ≡ true → OutAt t k i
+    → look_at t k b ≡ look i b
+look_at-out t k i b up out =
+    ap (λ v. if v then look (number_of t k) b else [])
+    (is_out_at t k i out.row up out.at ∙ out.out)
+    ∙ ap (λ (n : ℕ). look n b) (sym (number_of-at t k i out.row up out.at))
+
+-- and where it is offered
+pub offers_for-out : (t : Table) (k : Key) (i : ℕ) → ascending (keys_of t) ≡ true → OutAt t k i
+    → offers_for t (k ∷ []) ≡ Offered i ∷ []
+offers_for-out t k i up out =
+    ap (λ v. map (λ (q : Key). Offered (number_of t q)) (if v then k ∷ [] else []))
+    (is_out_at t k i out.row up out.at ∙ out.out)
+    ∙ ap (λ (n : ℕ). Offered n ∷ []) (sym (number_of-at t k i out.row up out.at))
+
+-- it isn't: nothing
 pub tries_at-idle : (t : Table) (k : Key) (b : ℕ) → is_queued_at t k ≡ false → tries_at t k b ≡ []
-tries_at-idle t k b idle = ap (λ v. if v then withdrawal (number_of t k) b ∷ [] else []) idle
+tries_at-idle t k b idle = ap (λ v. if v then withdrawal (number_of t k) b else []) idle
+
+pub look_at-idle : (t : Table) (k : Key) (b : ℕ) → is_queued_at t k ≡ false → look_at t k b ≡ []
+look_at-idle t k b idle = ap (λ v. if v then look (number_of t k) b else []) idle
+
+pub offers_for-idle : (t : Table) (k : Key) → is_queued_at t k ≡ false → offers_for t (k ∷ []) ≡ []
+offers_for-idle t k idle =
+    ap (λ v. map (λ (q : Key). Offered (number_of t q)) (if v then k ∷ [] else [])) idle
 
 -- nothing is added
 pub none_more : (tries : List DeskTry) (t : Table) (k : Key) (b : ℕ) → is_queued_at t k ≡ false
@@ -44,10 +72,21 @@ pub none_more : (tries : List DeskTry) (t : Table) (k : Key) (b : ℕ) → is_qu
 none_more tries t k b idle =
     sym (append-nil tries) ∙ ap (λ (l : List DeskTry). tries ++ l) (sym (tries_at-idle t k b idle))
 
+pub none_looked : (tries : List DeskTry) (t : Table) (k : Key) (b : ℕ) → is_queued_at t k ≡ false
+    → tries ≡ tries ++ look_at t k b
+none_looked tries t k b idle =
+    sym (append-nil tries) ∙ ap (λ (l : List DeskTry). tries ++ l) (sym (look_at-idle t k b idle))
+
 -- a withdrawal that is lost names its builder
-pub withdrawal-lost : (i b : ℕ) → is_lost b ≡ true → withdrawal i b ≡ WithdrawalLost i b
+pub withdrawal-lost : (i b : ℕ) → is_lost b ≡ true
+    → withdrawal i b ≡ WithdrawalLost i b ∷ ClaimNoted i b ∷ []
 withdrawal-lost i zero h = absurd (let bad : false ≡ true = h in cc)
 withdrawal-lost i (suc b) h = refl
+
+pub look-lost : (i b : ℕ) → is_lost b ≡ true
+    → look i b ≡ WithdrawalLost i b ∷ ClaimNoted i b ∷ []
+look-lost i zero h = absurd (let bad : false ≡ true = h in cc)
+look-lost i (suc b) h = refl
 
 -- one that notes no claim is won, or there is none
 pub tries_at-won : (h : History) (k : Key) (b : ℕ) → None ≡ claim_no h k b
@@ -56,17 +95,20 @@ tries_at-won h k zero none = refl
 tries_at-won h k (suc b) none = either (is_queued_at (rows_of h) k) none
   where
     either : (v : Bool) → None ≡ (if v && true then Some (length h.journal + 1) else None)
-        → (if v then WithdrawalLost (number_of (rows_of h) k) (suc b) ∷ [] else [])
+        → (if v
+        then WithdrawalLost (number_of (rows_of h) k) (suc b)
+        ∷ ClaimNoted (number_of (rows_of h) k) (suc b) ∷ []
+        else [])
         ≡ (if v then WithdrawalWon (number_of (rows_of h) k) ∷ [] else [])
     either true bad = absurd (cc)
     either false e = refl
 
 -- one that notes a claim is lost
 pub tries_at-lost : (t : Table) (k : Key) (b : ℕ) → is_queued_at t k ≡ true → is_lost b ≡ true
-    → tries_at t k b ≡ WithdrawalLost (number_of t k) b ∷ []
+    → tries_at t k b ≡ WithdrawalLost (number_of t k) b ∷ ClaimNoted (number_of t k) b ∷ []
 tries_at-lost t k b out lost =
-    ap (λ v. if v then withdrawal (number_of t k) b ∷ [] else []) out
-    ∙ ap (λ (e : DeskTry). e ∷ []) (withdrawal-lost (number_of t k) b lost)
+    ap (λ v. if v then withdrawal (number_of t k) b else []) out
+    ∙ withdrawal-lost (number_of t k) b lost
 
 -- ---- 2. one row more
 
@@ -101,6 +143,13 @@ wins_for-push t (q ∷ ks) k =
       | true ↦ ap (λ (l : List DeskTry). f q ∷ l) (wins_for-push t ks k)
       | false ↦ wins_for-push t ks k
     ]
+
+pub offers_for-append : (t : Table) (ks ls : List Key)
+    → offers_for t (ks ++ ls) ≡ offers_for t ks ++ offers_for t ls
+offers_for-append t ks ls =
+    ap (map (λ (k : Key). Offered (number_of t k))) (filter-append (is_queued_at t) ks ls)
+    ∙ map-append (λ (k : Key). Offered (number_of t k)) (filter (is_queued_at t) ks)
+    (filter (is_queued_at t) ls)
 
 -- what was tried before, and what is tried then
 pub tries_more : (first old new a b : List DeskTry) → old ≡ first ++ a → new ≡ old ++ b
@@ -162,7 +211,7 @@ pub tries_at-noted : (h : History) (ks : List Key) (bs : List ℕ) (k : Key) (b 
 tries_at-noted h ks bs k b off =
     let out = queued-noted h ks bs k off in
     let keys = keys-noted h ks bs in
-    λ j. if out j then withdrawal (place_of (keys j) k) b ∷ [] else []
+    λ j. if out j then withdrawal (place_of (keys j) k) b else []
 
 -- ---- 4. the keys before and behind one
 

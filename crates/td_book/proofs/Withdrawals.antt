@@ -1,15 +1,16 @@
--- Withdrawals, offers and entries, one row after another.
+-- Withdrawals and entries, one row after another.
 use Rattle.std.proofs.Common.{◌≡◌, ◌≢◌, ℕ, zero, suc, ◌+◌, ◌<◌, ◌≤◌, Bool, true, false, ◌&&◌, List}
 use Rattle.std.proofs.Common.{[], ◌∷◌, ◌++◌, Option, Some, None, IfSome, IfNone, if◌then◌else◌}
 use Rattle.std.proofs.Common.{length, take, drop, map, set, slice_get, option_to_list, ap, refl}
-use Rattle.std.proofs.Common.{sym, subst, ◌∙◌, arith, add-one}
+use Rattle.std.proofs.Common.{sym, subst, ◌∙◌, arith, append_assoc}
 use Rattle.std.proofs.lemmas.Bool.{and_parts}
 use Rattle.std.proofs.lemmas.Option.{same_Some}
 use Rattle.std.proofs.Math.Bool.{and-false}
 use Rattle.td_board.specs.declared.views.RowView.{RowView}
-use Rattle.td_board.specs.declared.views.RowView.TheVariants.{In, Out, Known}
+use Rattle.td_board.specs.declared.views.RowView.TheVariants.{In, Known}
 use Rattle.td_board.specs.declared.views.DeskTry.{DeskTry}
 use Rattle.td_board.specs.declared.views.DeskTry.TheVariants.{WithdrawalWon, WithdrawalLost}
+use Rattle.td_board.specs.declared.views.DeskTry.TheVariants.{ClaimNoted}
 use Rattle.td_rows.specs.declared.key.Key.{Key}
 use Rattle.td_rows.specs.declared.kind.Kind.{Kind}
 use Rattle.td_rows.specs.declared.kind.Kind.TheVariants.{Gb, Nmu, Bp, Dw, Claim, Outcome as Ended}
@@ -18,7 +19,7 @@ use Rattle.td_rows.specs.Kinds.{cells}
 use Rattle.td_rows.specs.Keys.{same_key, names, below_all, ascending}
 use Rattle.td_rows.specs.Table.{Table, applied, fits, AppliesOn, keys_of}
 use Rattle.td_rows.proofs.Keys.{same_key-true}
-use Rattle.td_rows.proofs.Lists.{take-next, drop-next}
+use Rattle.td_rows.proofs.Lists.{take-next}
 use Rattle.td_change.specs.Saved.{number_of}
 use Rattle.td_journal.specs.declared.entry.Marked.{Marked}
 use Rattle.td_journal.specs.Commands.{is_command}
@@ -38,14 +39,14 @@ use Rattle.td_book.specs.Watching.{WatchedView}
 use Rattle.td_book.specs.Desk.{InnerModel, Stays, Spent, claim_of}
 use Rattle.td_book.specs.Calls.{is_lost, noting_one, noting, OutAt, Lost, WithdrewAt, Withdrew}
 use Rattle.td_book.specs.Calls.{IsKeyAt, entered, entered_no}
-use Rattle.td_book.specs.Tries.{tries_at, tries_for, wins_for}
+use Rattle.td_book.specs.Tries.{tries_at, tries_for, wins_for, offers_for}
 use Rattle.td_book.specs.Undoing.{Unlost, LostOne}
-use Rattle.td_book.proofs.Seeing.{withdrawn_off, stays_off, claimed_off, offered_off, idle_off}
+use Rattle.td_book.proofs.Seeing.{withdrawn_off, stays_off, claimed_off}
 use Rattle.td_book.proofs.Seeing.{desks_off}
 use Rattle.td_book.proofs.Steps.{idle_row, longer, lost_at, named_at, noting_one-lost}
 use Rattle.td_book.proofs.Steps.{noting_one-won, spent_more, spent_none, stays_more}
 use Rattle.td_book.proofs.Steps.{stays_none}
-use Rattle.td_book.proofs.Steps.{unnamed_after, unnamed_before, pos_lost}
+use Rattle.td_book.proofs.Steps.{unnamed_before, pos_lost}
 use Rattle.td_book.proofs.Tries.{tries_at-out, tries_at-won, tries_at-lost, tries_at-noted}
 use Rattle.td_book.proofs.Tries.{withdrawal-lost, none_more, tries_more, tries_for-push}
 use Rattle.td_book.proofs.Tries.{wins_for-push, split_at}
@@ -145,7 +146,7 @@ lost_step named i n k old new answer at view up out lost told =
           ∙ ap (λ (u : Table). seen_off (take (i + 1) named) u) (sym rows);
       tries = lost.1.tries ∙ ap (λ (l : List DeskTry). old.tries ++ l)
           (sym (tries_at-out t k n b up out
-          ∙ ap (λ (e : DeskTry). e ∷ []) (withdrawal-lost n b (pos_lost b lost.1.one))));
+          ∙ withdrawal-lost n b (pos_lost b lost.1.one)));
       stays = lost.1.stays;
       spent = lost.1.spent;
       kept = λ none. absurd (some_not answer (length old.books.history.journal + 1) told none);
@@ -263,8 +264,10 @@ some_is false a n e = cc
 
 pub lost_one : (named : List Key) (i : ℕ) (first old new last : InnerModel) (n : ℕ)
     → Unlost (take i named) first old → WithdrewAt named i old new (Some n)
-    → last ≡ (record new { view = seen_off [] (rows_of new.books.history) })
-    → LostOne first last named n
+    → last ≡ (record new {
+      view = seen_off [] (rows_of new.books.history);
+      tries = new.tries ++ offers_for (rows_of new.books.history) (take (i + 1) named);
+    }) → LostOne first last named n
 lost_one named i first old new last n u s back =
     let told = some_is (is_queued_at (rows_of old.books.history) s.key && is_lost s.by)
     (length old.books.history.journal + 1) n s.answers in
@@ -281,10 +284,17 @@ lost_one named i first old new last n u s back =
     else old.books.history) told.0
     ∙ ap (λ (h : History). with_entry h (claim_of s.by s.key)) hist in
     let t = rows_of first.books.history in
-    let one : tries_at (rows_of old.books.history) s.key s.by
-    ≡ WithdrawalLost (number_of t s.key) s.by ∷ [] =
+    let at : ℕ = number_of t s.key in
+    let held : List DeskTry = WithdrawalLost at s.by ∷ ClaimNoted at s.by ∷ [] in
+    let one : tries_at (rows_of old.books.history) s.key s.by ≡ held =
     ap (λ (h : History). tries_at (rows_of h) s.key s.by) hist
     ∙ tries_at-lost t s.key s.by out both.1 in
+    let offered : List DeskTry =
+    offers_for (rows_of new.books.history) (take (i + 1) named) in
+    let wins : List DeskTry = wins_for t (take i named) in
+    let again : offered
+    ≡ offers_for (rows_of last.books.history) (take i named ++ s.key ∷ []) =
+    λ j. offers_for (rows_of (sym same j)) (take-next named i s.key s.at j) in
     record {
       won = record {
         key = s.key;
@@ -305,11 +315,16 @@ lost_one named i first old new last n u s back =
         split = split_at named i s.key s.at;
         out = out;
         by = s.by;
+        one = pos_of s.by both.1;
+        some_builder = subst (λ (m : ℕ). s.by ≤ m) u.stays.builders s.some_builder;
         now = now;
         tries = ap (λ (m : InnerModel). m.tries) back
-            ∙ tries_more first.tries old.tries new.tries (wins_for t (take i named))
-            (WithdrawalLost (number_of t s.key) s.by ∷ []) u.tries
-            (s.tries ∙ ap (λ (l : List DeskTry). old.tries ++ l) one);
+            ∙ ap (λ (l : List DeskTry). l ++ offered)
+            (tries_more first.tries old.tries new.tries wins held u.tries
+            (s.tries ∙ ap (λ (l : List DeskTry). old.tries ++ l) one))
+            ∙ append_assoc first.tries (wins ++ held) offered
+            ∙ ap (λ (l : List DeskTry). first.tries ++ l) (append_assoc wins held offered)
+            ∙ ap (λ (l : List DeskTry). first.tries ++ (wins ++ (held ++ l))) again;
       };
       stays = stays_more first old last u.stays
           (stays_more old new last s.stays
@@ -317,36 +332,7 @@ lost_one named i first old new last n u s back =
           (record { table = refl; stock = refl; builders = refl; since = refl; watch = refl })));
     }
 
--- ---- 3. offers
-
--- the row of the key at a place is offered again
-pub offer_step : (named : List Key) (i n : ℕ) (k : Key) (old new : InnerModel)
-    → slice_get named i ≡ Some k → ascending named ≡ true
-    → ascending (keys_of (rows_of old.books.history)) ≡ true
-    → old.view ≡ seen_off (drop i named) (rows_of old.books.history)
-    → OutAt (rows_of old.books.history) k n → new ≡ (record old { view = set old.view n Out })
-    → new ≡ (record old { view = seen_off (drop (i + 1) named) (rows_of old.books.history) })
-offer_step named i n k old new at rise up view out is =
-    let t = rows_of old.books.history in
-    is ∙ ap (λ (v : List RowView). let m : InnerModel = record old { view = v } in m)
-    (ap (λ (v : List RowView). set v n Out)
-    (view ∙ ap (λ (ks : List Key). seen_off ks t) (drop-next named i k at))
-    ∙ offered_off (drop (i + 1) named) t n k out.row up out.at
-    (ap (λ (j : ℕ). names (drop j named) k) (add-one i) ∙ unnamed_after named i k rise at) out.out)
-
-pub pass_step : (named : List Key) (i : ℕ) (k : Key) (old new : InnerModel)
-    → slice_get named i ≡ Some k → ascending (keys_of (rows_of old.books.history)) ≡ true
-    → old.view ≡ seen_off (drop i named) (rows_of old.books.history)
-    → is_queued_at (rows_of old.books.history) k ≡ false → new ≡ old
-    → new ≡ (record old { view = seen_off (drop (i + 1) named) (rows_of old.books.history) })
-pass_step named i k old new at up view idle is =
-    let t = rows_of old.books.history in
-    is ∙ (λ j. record old {
-      view = (view ∙ ap (λ (ks : List Key). seen_off ks t) (drop-next named i k at)
-          ∙ idle_off (drop (i + 1) named) t k up (idle_row t k idle)) j;
-    })
-
--- ---- 4. the lists of one key that are handed out
+-- ---- 3. the lists of one key that are handed out
 
 pub same_claim : (named : List Key) (i : ℕ) (k : Key) (claim : List Key)
     → slice_get named i ≡ Some k → IsKeyAt named i claim → claim ≡ k ∷ []
@@ -411,7 +397,7 @@ one_named named i key claim k at one is =
     whole true same h = ap (names named) (same_key-true k key same) ∙ named_at named i key at
     whole false same h = cc
 
--- ---- 5. the entry
+-- ---- 4. the entry
 
 pub commands_desks : (kind : Kind) → is_command kind ≡ true → is_desks kind ≡ true
 commands_desks Gb h = refl
@@ -452,7 +438,7 @@ entered_off h now kind named off up desks within is =
         ap (seen_off off) (rows_of-with_entry h (record { kind = kind; keys = t ∷ ts }))
         ∙ desks_off off (t ∷ ts) kind (rows_of h) up desks fit (λ has k e. within has k (among k e))
 
--- ---- 6. the undo
+-- ---- 5. the undo
 
 pub undone_off : (h now : History) (n : ℕ) (off : List Key) (m : Marked) → CanBeUndone h.journal n
     → blocker h.journal n ≡ None → Lawful h.opening (standing h.journal)

@@ -1,5 +1,6 @@
 -- What an arrival and a sweep do to a book. This project's own.
-use Rattle.std.specs.Prelude.{◌≡◌, ◌≢◌, ℕ, ◌+◌, true, false, List, [], ◌∷◌, Option, Some, None}
+use Rattle.std.specs.Prelude.{◌≡◌, ◌≢◌, ℕ, ◌+◌, true, false, List, [], ◌∷◌, ◌++◌, Option, Some}
+use Rattle.std.specs.Prelude.{None}
 use Rattle.std.specs.Prelude.{Result, Ok, Err, length}
 use Rattle.std.specs.declared.alloc.AllocError.{AllocError}
 use Rattle.td_rows.specs.declared.key.Key.{Key}
@@ -7,9 +8,10 @@ use Rattle.td_rows.specs.declared.row.Row.{Row}
 use Rattle.td_rows.specs.declared.kind.Kind.TheVariants.{Arrive, Sweep}
 use Rattle.td_rows.specs.Meaning.{applies}
 use Rattle.td_rows.specs.Table.{row_of}
-use Rattle.td_core.specs.History.{rows_of, with_entry}
+use Rattle.td_core.specs.History.{History, rows_of, with_entry}
 use Rattle.td_core.specs.Offers.{freed, supply_now}
 use Rattle.td_book.specs.Desk.{BookModel}
+use Rattle.td_book.specs.Tries.{offers_for}
 use Rattle.td_book.specs.declared.arriving.ArriveRefusal.{ArriveRefusal}
 use Rattle.td_book.specs.declared.arriving.ArriveRefusal.TheVariants.{NoSuchRow, DoesNotApply}
 use Rattle.td_book.specs.declared.arriving.ArriveRefusal.TheVariants.{NoMemory}
@@ -42,12 +44,18 @@ ArriveOutcome k old new (Err NoMemory) =
 abbrev pub freed_now : BookModel → List Key
 freed_now b = freed (supply_now b.fixed.stock b.history) (rows_of b.history)
 
--- the entry on all of them, if there are any
+-- the history with an entry that frees them
+abbrev pub swept_now : BookModel → History
+swept_now b = with_entry b.history (record { kind = Sweep; keys = freed_now b })
+
+-- the entry on all of them, if there are any, and then the offers of those that need a build
 abbrev pub SweepOutcome : BookModel → BookModel → Result (Option ℕ) AllocError → Type 0
 SweepOutcome old new (Ok None) = (freed_now old ≡ []) × (new ≡ old)
 SweepOutcome old new (Ok (Some n)) =
     (freed_now old ≢ [])
-    × (new ≡ record old
-    { history = with_entry old.history (record { kind = Sweep; keys = freed_now old }) })
+    × (new ≡ record old {
+      history = swept_now old;
+      tries = old.tries ++ offers_for (rows_of (swept_now old)) (freed_now old);
+    })
     × (n ≡ length old.history.journal + 1)
 SweepOutcome old new (Err e) = new ≡ old

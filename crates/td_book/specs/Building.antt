@@ -31,7 +31,7 @@ use Rattle.td_book.specs.declared.starting.StartRefusal.TheVariants.{NothingHeld
 use Rattle.td_book.specs.declared.starting.StartRefusal.TheVariants.{Mismatch}
 use Rattle.td_book.specs.Seen.{seen_off}
 use Rattle.td_book.specs.Desk.{InnerModel, BookModel, Stays, Spent}
-use Rattle.td_book.specs.Tries.{tries_at}
+use Rattle.td_book.specs.Tries.{look_at, offers_for}
 use Rattle.td_book.specs.Calls.{noting_one}
 use Rattle.td_book.specs.Deeds.{code_of}
 
@@ -57,7 +57,7 @@ pub record Knows (b : ℕ) (k : Key) (is : Bool) (old new : InnerModel) : Type 0
   pub some_builder : by ≤ old.builders
   pub history : new.books.history ≡ noting_one old.books.history k by
   pub view : new.view ≡ seen_off [] (rows_of new.books.history)
-  pub tries : new.tries ≡ old.tries ++ tries_at (rows_of old.books.history) k by
+  pub tries : new.tries ≡ old.tries ++ look_at (rows_of old.books.history) k by
   pub stays : Stays old new
   pub spent : Spent (k ∷ []) old.books new.books
   pub answers : is ≡ is_built_at (rows_of new.books.history) k b
@@ -77,8 +77,8 @@ IsJobAt i b job =
     × (string_bytes job.version ≡ rebuild_text (version_now b job.key) row.number)
 
 -- the claim of the row with a number is noted, whoever's it is; and whether the builder has the row
--- then. The row was withdrawn for that where it needed a build, and no other; what was tried behind
--- it is told
+-- then. The row was withdrawn for that where it needed a build, and no other, and offered again
+-- where no claim was there; what was tried behind it is told
 pub record Noticed (i b : ℕ) (is : Bool) (behind : List DeskTry)
     (old new : BookModel) : Type 0 where
   pub key : Key
@@ -87,7 +87,7 @@ pub record Noticed (i b : ℕ) (is : Bool) (behind : List DeskTry)
   pub some_builder : by ≤ old.fixed.builders
   pub history : new.history ≡ noting_one old.history key by
   pub answers : is ≡ is_built_at (rows_of new.history) key b
-  pub tries : new.tries ≡ old.tries ++ (tries_at (rows_of old.history) key by ++ behind)
+  pub tries : new.tries ≡ old.tries ++ (look_at (rows_of old.history) key by ++ behind)
   pub fixed : new.fixed ≡ old.fixed
 
 -- with no row in hand nothing is started, and no memory is taken; else the builder has the row, and
@@ -143,8 +143,8 @@ pub record IsEnded (i : ℕ) (o : Outcome) (v w : BuilderView) (old new : InnerM
       (record { kind = Ended v.number o; keys = key ∷ [] })
   pub number : n ≡ length (noting_one old.books.history key by).journal + 1
   pub tries : new.tries
-      ≡ old.tries ++ (tries_at (rows_of old.books.history) key by
-      ++ SettleDone i (code_of o) ∷ [])
+      ≡ old.tries ++ (look_at (rows_of old.books.history) key by
+      ++ SettleDone i (code_of o) ∷ offers_for (rows_of new.books.history) (key ∷ []))
   pub hand : w ≡ with_finish i (code_of o) v
 
 -- how far an end came that wasn't made, of the row with a number, by whether the builder has the

@@ -4,7 +4,7 @@ use Rattle.std.specs.Prelude.{◌∷◌, ◌++◌, Option, Some, None, Result, O
 use Rattle.std.specs.Prelude.{slice_get, slice_set, take}
 use Rattle.td_board.specs.declared.views.RowView.TheVariants.{Known}
 use Rattle.td_board.specs.declared.views.DeskTry.{DeskTry}
-use Rattle.td_board.specs.declared.views.DeskTry.TheVariants.{WithdrawalLost}
+use Rattle.td_board.specs.declared.views.DeskTry.TheVariants.{WithdrawalLost, ClaimNoted}
 use Rattle.td_rows.specs.declared.key.Key.{Key}
 use Rattle.td_rows.specs.declared.row.Row.{Row}
 use Rattle.td_rows.specs.declared.kind.Kind.{Kind}
@@ -20,7 +20,7 @@ use Rattle.td_core.specs.History.{History, rows_of, with_entry}
 use Rattle.td_core.specs.Refusals.{is_queued_at}
 use Rattle.td_book.specs.Seen.{seen_off}
 use Rattle.td_book.specs.Desk.{InnerModel, BookModel, Stays, Spent, claim_of}
-use Rattle.td_book.specs.Tries.{tries_at, tries_for}
+use Rattle.td_book.specs.Tries.{tries_at, tries_for, offers_for}
 use Rattle.td_book.specs.declared.commanding.CommandRefusal.{CommandRefusal}
 use Rattle.td_book.specs.declared.commanding.CommandRefusal.TheVariants.{NothingApplies, NoMemory}
 use Rattle.td_book.specs.declared.commanding.Taken.{Taken}
@@ -78,7 +78,7 @@ pub record LostTo (by : ℕ) (old new : InnerModel) (i : ℕ) (claim : List Key)
   pub history : new.books.history
       ≡ with_entry old.books.history (record { kind = Claim by; keys = claim })
   pub view : new.view ≡ slice_set old.view i (Known by)
-  pub tries : new.tries ≡ old.tries ++ WithdrawalLost i by ∷ []
+  pub tries : new.tries ≡ old.tries ++ WithdrawalLost i by ∷ ClaimNoted i by ∷ []
   pub stays : Stays old new
   pub spent : Spent claim old.books new.books
 
@@ -188,26 +188,30 @@ CommandOutcome kind named matched left old new (Ok taken) =
     × Enters kind matched left (noting old.history (off_for kind named) choices) new.history taken
 
 -- the rows of the keys that needed a build were withdrawn, each once, in the order of the keys: the
--- claims that are noted are those of the withdrawals that were lost
+-- claims that are noted are those of the withdrawals that were lost; what was done behind it is
+-- told
 pub record AreTried (builders : ℕ) (keys : List Key) (h noted : History)
-    (old new : List DeskTry) : Type 0 where
+    (behind old new : List DeskTry) : Type 0 where
   pub choices : List ℕ
   pub chosen : Choices builders keys choices
   pub history : noted ≡ noting h keys choices
-  pub tries : new ≡ old ++ tries_for (rows_of h) keys choices
+  pub tries : new ≡ old ++ (tries_for (rows_of h) keys choices ++ behind)
 
--- what a command tried: nothing where memory was wanting, else the withdrawals of the rows that it
--- names, where its kind has to do with their states, before its entry if it made one
+-- what a command did at the board: nothing where memory was wanting, else the withdrawals of the
+-- rows that it names, where its kind has to do with their states, before its entry if it made one,
+-- and the offers of those of them that need a build then
 abbrev pub CommandTries : Kind → List Key → List Key → BookModel → BookModel
     → Result Taken CommandRefusal → Type 0
 CommandTries kind named matched old new (Err NoMemory) = new.tries ≡ old.tries
 CommandTries kind named matched old new (Err (NothingApplies skips)) =
-    AreTried old.fixed.builders (off_for kind named) old.history new.history old.tries new.tries
+    AreTried old.fixed.builders (off_for kind named) old.history new.history
+    (offers_for (rows_of new.history) (off_for kind named)) old.tries new.tries
 CommandTries kind named matched old new (Ok taken) =
     (noted : History)
     × (new.history
     ≡ with_entry noted (record { kind = kind; keys = takes (rows_of noted) kind matched }))
-    × AreTried old.fixed.builders (off_for kind named) old.history noted old.tries new.tries
+    × AreTried old.fixed.builders (off_for kind named) old.history noted
+    (offers_for (rows_of new.history) (off_for kind named)) old.tries new.tries
 
 -- what a command does to a book, by its kind, the keys that it names, those whose version matches,
 -- and the skips over the rows: what is fixed stays, and the history and the tries fit the answer

@@ -12,7 +12,7 @@ use Rattle.td_core.specs.Keeps.{RoomFor, RoomSpent}
 use Rattle.td_book.specs.Watching.{WatchView, WatchedView}
 
 -- the board's table, what is kept, what the desk knows of each row, how many builders there are,
--- how many entries the journal had at the opening, and what the desk has tried
+-- how many entries the journal had at the opening, and what the desk has done at the board
 pub record InnerModel : Type 0 where
   pub table : TableId
   pub books : WatchedView

@@ -19,7 +19,7 @@ use Rattle.td_book.specs.declared.finishing.FinishRefusal.TheVariants.{NothingHe
 use Rattle.td_book.specs.declared.finishing.FinishRefusal.TheVariants.{Mismatch}
 use Rattle.td_book.specs.Desk.{BookModel}
 use Rattle.td_book.specs.Deeds.{code_of}
-use Rattle.td_book.specs.Tries.{tries_at}
+use Rattle.td_book.specs.Tries.{look_at, offers_for}
 use Rattle.td_book.specs.Calls.{noting_one}
 use Rattle.td_book.specs.Building.{is_built_at, Noticed, EndsShort}
 
@@ -29,7 +29,7 @@ IsKeyOf b i k = slice_get (keys_of b.history.opening) i ≡ Some k
 
 -- the claim is noted where that wasn't done, and then how the build ended: by the builder, on the
 -- row that it holds. The last entry has this number; the row was withdrawn for the claim if it
--- needed a build, and settled
+-- needed a build, settled, and offered if it needs one then
 pub record Finishes (i b : ℕ) (o : Outcome) (old new : BookModel) (n : ℕ) : Type 0 where
   pub key : Key
   pub at : IsKeyOf old i key
@@ -40,7 +40,8 @@ pub record Finishes (i b : ℕ) (o : Outcome) (old new : BookModel) (n : ℕ) : 
       ≡ with_entry (noting_one old.history key by) (record { kind = Ended b o; keys = key ∷ [] })
   pub number : n ≡ length (noting_one old.history key by).journal + 1
   pub tries : new.tries
-      ≡ old.tries ++ (tries_at (rows_of old.history) key by ++ SettleDone i (code_of o) ∷ [])
+      ≡ old.tries ++ (look_at (rows_of old.history) key by
+      ++ SettleDone i (code_of o) ∷ offers_for (rows_of new.history) (key ∷ []))
   pub fixed : new.fixed ≡ old.fixed
 
 -- a finish of the row that is held
@@ -61,7 +62,8 @@ pub record Settles (i b : ℕ) (o : Outcome) (old new : BookModel) (n : ℕ) : T
   pub built : is_built_at (rows_of old.history) key b ≡ true
   pub history : new.history ≡ with_entry old.history (record { kind = Ended b o; keys = key ∷ [] })
   pub number : n ≡ length old.history.journal + 1
-  pub tries : new.tries ≡ old.tries ++ SettleDone i (code_of o) ∷ []
+  pub tries : new.tries
+      ≡ old.tries ++ SettleDone i (code_of o) ∷ offers_for (rows_of new.history) (key ∷ [])
   pub fixed : new.fixed ≡ old.fixed
 
 -- whether the row with a number is the builder's

@@ -3,7 +3,7 @@ use Rattle.std.specs.Prelude.{◌≡◌, ◌≢◌, ℕ, ◌+◌, ◌≤◌, tru
 use Rattle.std.specs.Prelude.{Result, Ok}
 use Rattle.std.specs.Prelude.{Err, IsSomeAnd, if◌then◌else◌, length}
 use Rattle.td_board.specs.declared.views.DeskTry.{DeskTry}
-use Rattle.td_board.specs.declared.views.DeskTry.TheVariants.{WithdrawalLost}
+use Rattle.td_board.specs.declared.views.DeskTry.TheVariants.{WithdrawalLost, ClaimNoted}
 use Rattle.td_rows.specs.declared.key.Key.{Key}
 use Rattle.td_rows.specs.Keys.{names}
 use Rattle.td_rows.specs.Kinds.{cells}
@@ -17,7 +17,7 @@ use Rattle.td_core.specs.History.{History, rows_of, with_entry, without_entry}
 use Rattle.td_core.specs.Refusals.{is_queued_at}
 use Rattle.td_book.specs.Seen.{seen_off}
 use Rattle.td_book.specs.Desk.{InnerModel, BookModel, Stays, claim_of}
-use Rattle.td_book.specs.Tries.{wins_for}
+use Rattle.td_book.specs.Tries.{wins_for, offers_for}
 use Rattle.td_book.specs.Calls.{off_for}
 use Rattle.td_book.specs.declared.undoing.UndoRefusal.{UndoRefusal}
 use Rattle.td_book.specs.declared.undoing.UndoRefusal.TheVariants as undos
@@ -40,9 +40,9 @@ pub record IsWon (before after : History) (builders : ℕ) (named : List Key) (n
   pub now : after ≡ with_entry before (claim_of by key)
   pub number : n ≡ length before.journal + 1
 
--- it was the first that the desk lost: the rows before it that were out had been withdrawn, and
--- none behind it was tried
-pub record IsStopped (before after : History) (named : List Key)
+-- it was the first that the desk lost: the rows before it that were out had been withdrawn, and are
+-- offered again once its claim is noted, and none behind it was tried
+pub record IsStopped (before after : History) (builders : ℕ) (named : List Key)
     (old new : List DeskTry) : Type 0 where
   pub first : List Key
   pub key : Key
@@ -50,16 +50,20 @@ pub record IsStopped (before after : History) (named : List Key)
   pub split : named ≡ first ++ key ∷ rest
   pub out : is_queued_at (rows_of before) key ≡ true
   pub by : ℕ
+  pub one : 1 ≤ by
+  pub some_builder : by ≤ builders
   pub now : after ≡ with_entry before (claim_of by key)
   pub tries : new
       ≡ old ++ (wins_for (rows_of before) first
-      ++ WithdrawalLost (number_of (rows_of before) key) by ∷ [])
+      ++ WithdrawalLost (number_of (rows_of before) key) by
+      ∷ ClaimNoted (number_of (rows_of before) key) by
+      ∷ offers_for (rows_of after) (first ++ key ∷ []))
 
 -- that, and all rows are as at rest
 pub record LostOne (old new : InnerModel) (named : List Key) (n : ℕ) : Type 0 where
   pub won : IsWon old.books.history new.books.history old.builders named n
   pub view : new.view ≡ seen_off [] (rows_of new.books.history)
-  pub tries : IsStopped old.books.history new.books.history named old.tries new.tries
+  pub tries : IsStopped old.books.history new.books.history old.builders named old.tries new.tries
   pub stays : Stays old new
 
 -- the rows of the keys are withdrawn, and room for a claim may have been made
@@ -97,16 +101,19 @@ UndoOutcome n old new (Err undos.NoSuchEntry) = ⊥
 UndoOutcome n old new (Err undos.NotACommand) = ⊥
 UndoOutcome n old new (Err undos.AlreadyUndone) = ⊥
 
--- what it tried: the withdrawals of the entry's rows that needed a build, in the order of their
--- keys, up to the first that is lost; nothing where memory was wanting
+-- what an undo did at the board: the withdrawals of the entry's rows that needed a build, in the
+-- order of their keys, up to the first that is lost, and then the offers of those rows that need a
+-- build; nothing where memory was wanting
 abbrev pub UndoTries : ℕ → BookModel → BookModel → Result (Unit {0}) UndoRefusal → Type 0
 UndoTries n old new (Ok u) =
     IsSomeAnd (entry_at old.history.journal n) (λ e.
-    new.tries ≡ old.tries ++ wins_for (rows_of old.history) (off_for e.entry.kind e.entry.keys))
+    new.tries ≡ old.tries ++ (wins_for (rows_of old.history) (off_for e.entry.kind e.entry.keys)
+    ++ offers_for (rows_of new.history) (off_for e.entry.kind e.entry.keys)))
 UndoTries n old new (Err undos.NoMemory) = new.tries ≡ old.tries
 UndoTries n old new (Err (undos.Blocked m)) =
     IsSomeAnd (entry_at old.history.journal n) (λ e.
-    IsStopped old.history new.history (off_for e.entry.kind e.entry.keys) old.tries new.tries)
+    IsStopped old.history new.history old.fixed.builders (off_for e.entry.kind e.entry.keys)
+    old.tries new.tries)
 UndoTries n old new (Err undos.NoSuchEntry) = ⊥
 UndoTries n old new (Err undos.NotACommand) = ⊥
 UndoTries n old new (Err undos.AlreadyUndone) = ⊥

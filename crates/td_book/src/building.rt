@@ -5,8 +5,8 @@ ghost use Rattle.std.specs.Prelude.{length, slice_get, slice_set};
 ghost use mathlib.Core.Option.{some};
 ghost use lib.ListN.{get_elem?};
 ghost use Rattle.td_board.specs.declared.views.RowView.TheVariants.{In, Out, Known};
-ghost use Rattle.td_board.specs.declared.views.DeskTry.TheVariants.{WithdrawalWon, SettleDone};
-ghost use Rattle.td_board.specs.declared.views.DeskTry.TheVariants.{SettleEarly};
+ghost use Rattle.td_board.specs.declared.views.DeskTry.TheVariants.{Offered, WithdrawalWon};
+ghost use Rattle.td_board.specs.declared.views.DeskTry.TheVariants.{SettleDone, SettleEarly};
 ghost use Rattle.td_board.specs.declared.views.Hand.TheVariants.{Holding};
 ghost use Rattle.td_rows.specs.Table.{keys_of};
 ghost use Rattle.td_rows.specs.declared.key.Key.{Key as KeyValue};
@@ -18,6 +18,7 @@ ghost use Rattle.td_book.specs.Seen.{seen_off};
 ghost use Rattle.td_book.specs.Deeds.{code_of};
 ghost use Rattle.td_book.specs.Desk.{HasOne, HasRoom, Stays};
 ghost use Rattle.td_book.specs.Calls.{Claimable, LostTo};
+ghost use Rattle.td_book.specs.Tries.{offers_for};
 ghost use Rattle.td_book.specs.Building.{Knows, Settling, IsClosing, IsEndingAt, IsEnded};
 ghost use Rattle.td_book.specs.Building.{IsUnended, ended_in, is_built_at};
 
@@ -48,7 +49,7 @@ impl<'a> Inner<'a> {
         requires key { Claimable self.old row claim }
         requires room { HasOne claim self.old.books }
         ensures none { IfNone result (self.new
-            ≡ record self.old { tries = self.old.tries ++ WithdrawalWon row ∷ [] }) }
+            ≡ record self.old { tries = self.old.tries ++ WithdrawalWon row ∷ Offered row ∷ [] }) }
         ensures noted { IfSome result (λ by. LostTo by self.old self.new row claim) }
     {
         match self.take_back(board, row, claim) {
@@ -148,8 +149,8 @@ impl<'a> Inner<'a> {
             self.new.books.history
             ≡ with_entry self.old.books.history (record { kind = plan.kind; keys = offered.now })) }
         ensures rest { self.new.view ≡ seen_off [] (rows_of self.new.books.history) }
-        ensures tries { IfSome result (λ n.
-            self.new.tries ≡ self.old.tries ++ SettleDone row code ∷ []) }
+        ensures tries { IfSome result (λ n. self.new.tries ≡ self.old.tries
+            ++ SettleDone row code ∷ offers_for (rows_of self.new.books.history) offered.now) }
         ensures stays { Stays self.old self.new }
     {
         let _rows = self.books.rows();

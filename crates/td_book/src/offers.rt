@@ -5,6 +5,7 @@ ghost use mathlib.Core.Option.{some};
 ghost use lib.ListN.{get_elem?};
 ghost use Rattle.td_board.specs.declared.views.RowView.TheVariants.{In, Out, Seen, Known};
 ghost use Rattle.td_board.specs.declared.views.Deed.TheVariants as deed;
+ghost use Rattle.td_board.specs.declared.views.DeskTry.TheVariants.{Offered, ClaimNoted};
 ghost use Rattle.td_board.specs.declared.views.DeskTry.TheVariants.{SettleDone, SettleEarly};
 ghost use Rattle.td_board.specs.Limits.{max_rows};
 ghost use Rattle.td_board.specs.Seats.{rows_of};
@@ -89,7 +90,8 @@ impl Offers {
     pub fn offer(&mut self, board: &Board, row: usize)
         requires table { board.now.table ≡ self.old.table }
         requires row { get_elem? self.old.desk.rows row ≡ some In }
-        ensures { self.new ≡ record self.old { desk = with_row row Out self.old.desk } }
+        ensures { self.new
+            ≡ record self.old { desk = desk_tried (Offered row) (with_row row Out self.old.desk) } }
     {
         board.offer(&mut self.seat, row);
         self.places[row] = self.outs.len();
@@ -117,7 +119,8 @@ impl Offers {
         ensures builder { get_elem? self.old.desk.rows row ≡ some (Seen result) }
         ensures one_of_the_boards { (0 < result) × (result ≤ length self.old.desk.noted) }
         ensures desk { let known = with_row row (Known result) self.old.desk in
-            self.new ≡ record self.old { desk = with_deed result (deed.Claim row) known } }
+            let told = with_deed result (deed.Claim row) known in
+            self.new ≡ record self.old { desk = desk_tried (ClaimNoted row result) told } }
     {
         board.note(&mut self.seat, row)
     }

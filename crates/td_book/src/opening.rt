@@ -1,10 +1,11 @@
 //! The opening of a book.
-ghost use Rattle.std.specs.Prelude.{◌≡◌, [], IfOk, length};
+ghost use Rattle.std.specs.Prelude.{◌≡◌, IfOk, length};
 ghost use Rattle.td_board.specs.Knowledge.{new_desk};
 ghost use Rattle.td_supply.specs.Supply.{opened as opened_stock, stock_of};
 ghost use Rattle.td_core.specs.History.{opened, rows_of};
 ghost use Rattle.td_core.specs.Phases.{NoneBuilt};
 ghost use Rattle.td_book.specs.Reopening.{book_from};
+ghost use Rattle.td_book.specs.Tries.{first_offers};
 ghost use Rattle.td_book.specs.Watching.{no_watch};
 
 use crate::book::Book;
@@ -39,7 +40,7 @@ impl<'a> Book<'a> {
                 since = 0;
                 watch = no_watch;
               };
-              tries = [];
+              tries = first_offers (opened rows);
             }) }
     {
         let offers = match Offers::new(alloc, desk) {

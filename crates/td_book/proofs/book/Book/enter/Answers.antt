@@ -1,9 +1,10 @@
 -- `Book::enter`: what it answers and the calls of `commit-entry` and `offer_each`.
-use Rattle.std.proofs.Common.{◌≡◌, List, [], ap, subst, ◌∙◌}
+use Rattle.std.proofs.Common.{◌≡◌, List, [], ◌++◌, ap, subst, ◌∙◌}
 use Rattle.td_rows.specs.declared.key.Key.{Key}
 use Rattle.td_core.specs.History.{rows_of}
 use Rattle.td_book.specs.Seen.{seen_off}
-use Rattle.td_book.specs.Desk.{BookModel, book_of}
+use Rattle.td_book.specs.Desk.{InnerModel, BookModel, book_of}
+use Rattle.td_book.specs.Tries.{offers_for}
 use Rattle.td_book.specs.Calls.{Withdrew, IsCommanded, off_for, taken_of}
 use Rattle.td_book.specs.declared.book.Book.TheInside.{Inside}
 use Rattle.td_book.specs.Skips.{left_of}
@@ -61,6 +62,13 @@ returns c =
     c.left-skips.ensures ∙ (λ j. left_of c.args.kind c.args.doubts.items (rows j)) in
     let told =
     c.answer.ensures ∙ ap (λ o. taken_of o c.left-skips.result) c.commit-entry.ensures.number in
+    let offered = c.offer_each.ensures
+    ∙ ap (λ (ks : List Key).
+    let m : InnerModel =
+    record d {
+      view = seen_off [] (rows_of d.books.history);
+      tries = d.tries ++ offers_for (rows_of d.books.history) ks;
+    } in m) c.off_for-off.ensures in
     subst (λ (m : BookModel).
     IsCommanded c.args.kind c.args.named.now c.args.matched.items
     (left_of c.args.kind c.args.doubts.items) m (book_of e) c.answer.result) c.self.view_is
@@ -69,4 +77,4 @@ returns c =
     (seen_off [] (rows_of d.books.history)) c.left-skips.result c.answer.result planned
     c.claims.ensures.history c.claims.ensures.tries c.claims.ensures.stays done
     c.commit-entry.ensures.history c.commit-entry.ensures.tries c.commit-entry.ensures.stays
-    c.offer_each.ensures skips told)
+    offered skips told)

@@ -1,14 +1,14 @@
 -- `Book::finish_again`: what it answers and the call of `close`.
 use Rattle.std.proofs.Common.{◌≡◌, ◌≢◌, ◌+◌, List, [], ◌∷◌, ◌++◌, length, slice_get, ap, refl, sym}
 use Rattle.std.proofs.Common.{◌∙◌, rules, inl, inr, append-nil}
-use Rattle.td_board.specs.declared.views.DeskTry.{DeskTry}
 use Rattle.td_board.specs.declared.views.DeskTry.TheVariants.{SettleDone, SettleEarly}
 use Rattle.td_rows.specs.declared.key.Key.{Key}
 use Rattle.td_rows.specs.Table.{keys_of}
-use Rattle.td_core.specs.History.{History, with_entry}
+use Rattle.td_core.specs.History.{History, rows_of, with_entry}
 use Rattle.td_core.proofs.Phases.{keys_of-rows_of}
 use Rattle.td_book.specs.Deeds.{code_of}
 use Rattle.td_book.specs.Desk.{BookModel, book_of}
+use Rattle.td_book.specs.Tries.{offers_for}
 use Rattle.td_book.proofs.Ends.{built_there}
 use Rattle.td_book.proofs.Steps.{stays_more, stays_fixed}
 use Rattle.td_book.proofs.book.Book.finish_again.Goals as goal
@@ -48,10 +48,14 @@ returns-in-Some c =
     (sym (keys_of-rows_of c.prepare.new.self.books.history))
     ∙ e.at in
     let code : code_of c.args.outcome ≡ c.args.code = search rules in
+    let now = c.close.new.self.books.history in
     let tries : c.close.new.self.tries
-    ≡ c.self.inside.inner.tries ++ SettleDone i c.args.code ∷ [] =
+    ≡ c.self.inside.inner.tries
+    ++ SettleDone i c.args.code ∷ offers_for (rows_of now) (e.key ∷ []) =
     c.in-Some.ensures.tries
-    ∙ ap (λ (l : List DeskTry). l ++ SettleDone i c.args.code ∷ []) c.prepare.ensures.tries in (
+    ∙ (λ j. c.prepare.ensures.tries j
+    ++ SettleDone i c.args.code
+    ∷ offers_for (rows_of now) ((c.as_slice.ensures.keys ∙ e.offered_is) j)) in (
       code,
       record {
         key = e.key;
@@ -67,7 +71,7 @@ returns-in-Some c =
         number = c.in-Some.ensures.number ∙ ap (λ (x : History). length x.journal + 1) same;
         tries = tries
             ∙ (λ j. (ap (λ (m : BookModel). m.tries) c.self.view_is) j
-            ++ SettleDone i (sym code j) ∷ []);
+            ++ SettleDone i (sym code j) ∷ offers_for (rows_of now) (e.key ∷ []));
         fixed = stays_fixed c.self.inside.inner c.close.new.self
             (stays_more c.self.inside.inner c.prepare.new.self c.close.new.self
             c.prepare.ensures.stays c.in-Some.ensures.stays)

@@ -1,9 +1,12 @@
 -- `Inner::close`: the clause `history` and the calls of `settle` and `offer_each`.
-use Rattle.std.proofs.Common.{◌≡◌, ℕ, ◌≤◌, ◌∷◌, List, [], Some, true, set, ap, sym, subst, ◌∙◌}
+use Rattle.std.proofs.Common.{◌≡◌, ℕ, ◌≤◌, ◌∷◌, ◌++◌, List, [], Some, true, set, ap, sym, subst}
+use Rattle.std.proofs.Common.{◌∙◌, append_assoc}
 use mathlib.Core.Option.{some}
 use lib.ListN.{get_elem?}
 use Rattle.td_board.specs.declared.views.RowView.{RowView}
 use Rattle.td_board.specs.declared.views.RowView.TheVariants.{In, Known}
+use Rattle.td_board.specs.declared.views.DeskTry.{DeskTry}
+use Rattle.td_board.specs.declared.views.DeskTry.TheVariants.{SettleDone}
 use Rattle.td_rows.specs.declared.key.Key.{Key}
 use Rattle.td_rows.specs.declared.kind.Kind.TheVariants.{Outcome as Ended}
 use Rattle.td_rows.specs.Keys.{ascending}
@@ -16,6 +19,7 @@ use Rattle.td_core.proofs.Worlds.{rows_of-with_entry}
 use Rattle.td_book.specs.Seen.{seen_off}
 use Rattle.td_book.specs.Desk.{InnerModel, HasOne}
 use Rattle.td_book.specs.Building.{head_key, by_in, ended_in}
+use Rattle.td_book.specs.Tries.{offers_for}
 use Rattle.td_book.proofs.Steps.{up_now}
 use Rattle.td_book.proofs.Builds.{at_key_of, known_at, built_at, ended_off}
 use Rattle.td_book.proofs.inner.Inner.close.Goals as goal
@@ -84,6 +88,20 @@ offer_each-requires-clause-held c =
     ∙ ap (seen_off (k ∷ [])) (sym rows)
     ∙ ap (λ (ks : List Key). seen_off ks (rows_of c.settle.new.self.books.history))
     (ap (λ (q : Key). q ∷ []) plain ∙ sym e.offered_is)
+
+pub returns-clause-tries : goal.returns-clause-tries
+returns-clause-tries c =
+    let old = c.args.self.now in
+    let settled = c.settle.new.self in
+    let done : List DeskTry = SettleDone c.args.row c.args.code ∷ [] in
+    let offered : List DeskTry =
+    offers_for (rows_of settled.books.history) c.args.offered.now in
+    ap (λ (m : InnerModel). m.tries) c.offer_each.ensures
+    ∙ ap (λ (l : List DeskTry). l ++ offered) c.in_ok-n.ensures.tries
+    ∙ append_assoc old.tries done offered
+    ∙ ap (λ (m : InnerModel).
+    old.tries ++ (done ++ offers_for (rows_of m.books.history) c.args.offered.now))
+    (sym c.offer_each.ensures)
 
 pub returns-clause-history : goal.returns-clause-history
 returns-clause-history c =

@@ -13,6 +13,7 @@ use Rattle.td_change.proofs.Plans.{plan_of-same_keys}
 use Rattle.td_core.specs.History.{rows_of, with_entry}
 use Rattle.td_book.specs.Desk.{HasRoom, HasOne, Spent}
 use Rattle.td_book.specs.Building.{head_key, ended_in, is_built_at}
+use Rattle.td_book.specs.Tries.{offers_for}
 use Rattle.td_book.proofs.Ends.{ended_some, ended_none, unended_kept}
 use Rattle.td_book.proofs.Steps.{room_end}
 use Rattle.td_book.proofs.Builds.{at_key_of, knows_head, one_of_room, noted_keys}
@@ -127,8 +128,12 @@ returns-clause-some c =
     ended_some i (ended_in kind) v c.finish.new.seat.builder a m z e.key c.close.result e.at knows
     (hand ∙ ap (λ x. with_finish i x v) c.requires.code) c.close.ensures.number history
     (subst (λ (x : OutcomeCode).
-    IfSome c.close.result (λ n. z.tries ≡ m.tries ++ SettleDone i x ∷ [])) c.requires.code
-    c.close.ensures.tries)
+    IfSome c.close.result (λ n. z.tries ≡ m.tries
+    ++ SettleDone i x ∷ offers_for (rows_of z.books.history) (e.key ∷ []))) c.requires.code
+    (subst (λ (ks : List Key).
+    IfSome c.close.result (λ n. z.tries ≡ m.tries
+    ++ SettleDone i c.args.code ∷ offers_for (rows_of z.books.history) ks))
+    (c.as_slice.ensures.keys ∙ e.offered_is) c.close.ensures.tries))
 
 pub returns-clause-none : goal.returns-clause-none
 returns-clause-none c =
