@@ -240,19 +240,17 @@ pub left_as_it_was : (r : Reply) (old new : BookModel) → new ≡ old → IsLef
 left_as_it_was r old new is = subst (IsLeftBy r old) (sym is) (left_still r old)
 
 left_made : (e : Entry) (behind : List ℕ) (old new : BookModel)
-    → new ≡ record old { history = with_entry old.history e }
+    → new.history ≡ with_entry old.history e → new.fixed ≡ old.fixed
     → IsLeftBy (enters old.history e behind) old new
-left_made e behind old new is = record {
-  history = inr (ap (λ (b : BookModel). b.history) is);
-  fixed = ap (λ (b : BookModel). b.fixed) is;
-}
+left_made e behind old new now fixed = record { history = inr now; fixed = fixed }
 
 pub left_arrival : (k : Key) (old new : BookModel) (a : Result ℕ ArriveRefusal)
     → ArriveOutcome k old new a
     → IsLeftBy (arrives old.history k (row_of (rows_of old.history) k)) old new
 left_arrival k old new (Ok n) is =
     subst (λ (r : Reply). IsLeftBy r old new) (sym (arrives-made k old new n is))
-    (left_made (record { kind = kinds.Arrive; keys = k ∷ [] }) [] old new is.3)
+    (left_made (record { kind = kinds.Arrive; keys = k ∷ [] }) [] old new
+    (ap (λ (b : BookModel). b.history) is.3) (ap (λ (b : BookModel). b.fixed) is.3))
 left_arrival k old new (Err arrivals.NoSuchRow) is = left_as_it_was _ old new is.1
 left_arrival k old new (Err (arrivals.DoesNotApply s)) is = left_as_it_was _ old new is.4
 left_arrival k old new (Err arrivals.NoMemory) is = left_as_it_was _ old new is.3
@@ -262,7 +260,8 @@ pub left_sweep : (old new : BookModel) (swept : Result (Option ℕ) AllocError)
 left_sweep old new (Ok None) is = left_as_it_was _ old new is.1
 left_sweep old new (Ok (Some n)) is =
     subst (λ (r : Reply). IsLeftBy r old new) (sym (sweeps-made old.history (freed_now old) is.0))
-    (left_made (record { kind = kinds.Sweep; keys = freed_now old }) [] old new is.1)
+    (left_made (record { kind = kinds.Sweep; keys = freed_now old }) [] old new
+    (ap (λ (b : BookModel). b.history) is.1) (ap (λ (b : BookModel). b.fixed) is.1))
 left_sweep old new (Err e) is = left_as_it_was _ old new is
 
 pub left_undo : (stop : Option UndoRefusal) (n : ℕ) (old new : BookModel)
