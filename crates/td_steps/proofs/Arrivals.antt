@@ -1,6 +1,6 @@
 -- The moves of an arrival and of a sweep lead from the book at rest to the book at rest.
 use Rattle.std.proofs.Common.{◌≡◌, ◌≢◌, ℕ, ◌+◌, true, List, [], ◌∷◌, Some, None, Ok, Err, length}
-use Rattle.std.proofs.Common.{ap, refl, sym, subst, ◌∙◌}
+use Rattle.std.proofs.Common.{Option, Result, ap, refl, sym, subst, ◌∙◌}
 use Rattle.td_board.specs.declared.views.RowView.{RowView}
 use Rattle.td_rows.specs.declared.key.Key.{Key}
 use Rattle.td_rows.specs.declared.row.Row.{Row}
@@ -14,11 +14,15 @@ use Rattle.td_core.specs.History.{History, rows_of, with_entry}
 use Rattle.td_core.specs.Offers.{supply_now}
 use Rattle.td_core.specs.Worlds.{WorldView}
 use Rattle.td_core.proofs.Freeing.{AppliesOn-freed, ascending-freed}
+use Rattle.td_core.proofs.Phases.{keys_of-rows_of}
 use Rattle.td_core.proofs.WorldSteps.{AppliesOn-one}
 use Rattle.td_core.proofs.Worlds.{rows_of-with_entry}
 use Rattle.td_book.specs.Desk.{BookModel}
 use Rattle.td_book.specs.Seen.{seen_off}
-use Rattle.td_book.specs.Arriving.{freed_now}
+use Rattle.td_book.specs.Arriving.{ArriveOutcome, freed_now, swept_now, SweepOutcome}
+use Rattle.td_book.specs.declared.arriving.ArriveRefusal.{ArriveRefusal}
+use Rattle.std.specs.declared.alloc.AllocError.{AllocError}
+use Rattle.td_book.specs.Tries.{offers_for}
 use Rattle.td_book.specs.declared.arriving.ArriveRefusal.TheVariants.{NoSuchRow, DoesNotApply}
 use Rattle.td_book.specs.declared.arriving.ArriveRefusal.TheVariants.{NoMemory as NoRoom}
 use Rattle.td_book.proofs.Seeing.{arrive_off, waiting_off, desks_off}
@@ -27,11 +31,13 @@ use Rattle.td_core.specs.declared.step.Answer.{Answer}
 use Rattle.td_core.specs.declared.step.Answer.TheVariants as answers
 use Rattle.td_steps.specs.Sees.{resting, Sees}
 use Rattle.td_steps.specs.Moves.{Move, arrive, sweep, sweeping, swept_as}
-use Rattle.td_steps.specs.Runs.{LeadsOn}
 use Rattle.td_steps.specs.Parts.{offering, Tells}
-use Rattle.td_steps.proofs.Parts.{Leads, leads-then, leads-one, leads-on, tells-at, desk_off}
-use Rattle.td_steps.proofs.Parts.{offering-all, up-seen, idle-on}
-use Rattle.td_steps.specs.Arrivals.{ArrivalsAreSteps, sweep_moves, SweepsAreSteps}
+use Rattle.td_steps.specs.Tries.{tried_in, done_in, AreMade}
+use Rattle.td_steps.proofs.Tries.{done-offering, made-by, made-none, same-made, still}
+use Rattle.td_steps.proofs.Parts.{Leads, leads-then, leads-one, tells-at, desk_off, Moved}
+use Rattle.td_steps.proofs.Parts.{offering-all, up-seen, moved-on}
+use Rattle.td_steps.specs.Arrivals.{ArriveMoves, ArrivalsAreSteps, sweep_moves, SweepMoves}
+use Rattle.td_steps.specs.Arrivals.{SweepsAreSteps}
 
 -- ---- 1. arrivals
 
@@ -49,24 +55,32 @@ arrive-leads h st n k row up found fit =
     leads-one (desk_off h st n []) (desk_off (with_entry h e) st n []) (arrive k) (row, found, fit)
     (ap (λ (x : List RowView). record (desk_off (with_entry h e) st n []) { view = x }) same)
 
-pub arrivals_are_steps : ArrivalsAreSteps
-arrivals_are_steps w k old new (Ok n) sees o = (
-  arrive k ∷ [],
-  (
+pub arrive-moved : (w : WorldView) (k : Key) (old new : BookModel) (result : Result ℕ ArriveRefusal)
+    → Sees w (resting old) → ArriveOutcome k old new result
+    → Moved old new (ArriveMoves k old result)
+arrive-moved w k old new (Ok n) sees o = record {
+  moves = arrive k ∷ [];
+  are = (
     refl,
     subst (λ (x : ℕ). Tells (resting old) (arrive k ∷ []) (answers.Entry x)) (sym o.4)
         (tells-at (resting old) (resting old) [] [] (arrive k)
         (answers.Entry (length old.history.journal + 1)) refl refl),
-  ),
-  leads-on w (resting old) (resting new) (arrive k ∷ []) sees
-      (subst (Leads (resting old) (arrive k ∷ [])) (ap resting (sym o.3))
+  );
+  made = made-none old new (ap (λ (b : BookModel). b.tries) o.3);
+  leads = subst (Leads (resting old) (arrive k ∷ [])) (ap resting (sym o.3))
       (arrive-leads old.history old.fixed.stock old.fixed.builders k o.0 (up-seen w old sees) o.1
-      o.2)),
-)
-arrivals_are_steps w k old new (Err NoSuchRow) sees o = ([], refl, idle-on w old new sees o.1)
-arrivals_are_steps w k old new (Err (DoesNotApply s)) sees o =
-    ([], refl, idle-on w old new sees o.4)
-arrivals_are_steps w k old new (Err NoRoom) sees o = ([], refl, idle-on w old new sees o.3)
+      o.2);
+}
+arrive-moved w k old new (Err NoSuchRow) sees o =
+    still old new (ArriveMoves k old (Err NoSuchRow)) refl o.1
+arrive-moved w k old new (Err (DoesNotApply s)) sees o =
+    still old new (ArriveMoves k old (Err (DoesNotApply s))) refl o.4
+arrive-moved w k old new (Err NoRoom) sees o =
+    still old new (ArriveMoves k old (Err NoRoom)) refl o.3
+
+pub arrivals_are_steps : ArrivalsAreSteps
+arrivals_are_steps w k old new result sees o =
+    moved-on w old new (ArriveMoves k old result) sees (arrive-moved w k old new result sees o)
 
 -- ---- 2. sweeps
 
@@ -130,35 +144,65 @@ swept-told-some old [] some = absurd (some refl)
 swept-told-some old (k ∷ keys) some = refl
 
 module _ (w : WorldView) (old new : BookModel) (sees : Sees w (resting old)) where
-  swept-on : new ≡ record old { history = (sweeping (resting old) (freed_now old)).history }
-      → LeadsOn w (resting old) (sweep_moves old) (resting new)
+  swept-on : resting new
+      ≡ resting (record old { history = (sweeping (resting old) (freed_now old)).history })
+      → Leads (resting old) (sweep_moves old) (resting new)
   swept-on is =
-      leads-on w (resting old) (resting new) (sweep_moves old) sees
-      (subst (Leads (resting old) (sweep_moves old)) (ap resting (sym is))
-      (sweep-leads old (up-seen w old sees)))
+      subst (Leads (resting old) (sweep_moves old)) (sym is)
+      (sweep-leads old (up-seen w old sees))
 
-pub sweeps_are_steps : SweepsAreSteps
-sweeps_are_steps w old new (Ok None) sees o =
-    let is : new ≡ record old { history = (sweeping (resting old) (freed_now old)).history } =
-    o.1 ∙ ap (λ (h : History). record old { history = h }) (swept-none old (freed_now old) o.0) in (
-      sweep_moves old,
-      (
+-- what a sweep offers
+swept-made : (old : BookModel) (h : History) (keys : List Key)
+    → h ≡ (sweeping (resting old) keys).history
+    → done_in (offers_for (rows_of h) keys)
+    ≡ tried_in old.history.opening
+    (sweep ∷ offering (rows_of (sweeping (resting old) keys).history) keys)
+swept-made old h [] is = refl
+swept-made old h (k ∷ keys) is =
+    ap (λ (x : History). done_in (offers_for (rows_of x) (k ∷ keys))) is
+    ∙ done-offering old.history.opening
+    (rows_of (with_entry old.history (record { kind = kinds.Sweep; keys = k ∷ keys }))) (k ∷ keys)
+    (keys_of-rows_of (with_entry old.history (record { kind = kinds.Sweep; keys = k ∷ keys })))
+
+pub sweep-moved : (w : WorldView) (old new : BookModel) (result : Result (Option ℕ) AllocError)
+    → Sees w (resting old) → SweepOutcome old new result → Moved old new (SweepMoves old result)
+sweep-moved w old new (Ok None) sees o =
+    let is : resting new
+    ≡ resting (record old { history = (sweeping (resting old) (freed_now old)).history }) =
+    ap resting o.1 ∙ ap (λ (h : History). resting (record old { history = h }))
+    (swept-none old (freed_now old) o.0) in
+    record {
+      moves = sweep_moves old;
+      are = (
         refl,
         tells-sweep old (offering (rows_of (sweeping (resting old) (freed_now old)).history)
             (freed_now old)) answers.Nothing (ap (swept_as (resting old)) o.0),
-      ),
-      swept-on w old new sees is,
-    )
-sweeps_are_steps w old new (Ok (Some n)) sees o =
-    let is : new ≡ record old { history = (sweeping (resting old) (freed_now old)).history } =
-    o.1 ∙ ap (λ (h : History). record old { history = h }) (swept-some old (freed_now old) o.0) in (
-      sweep_moves old,
-      (
+      );
+      made = subst (λ (keys : List Key). AreMade old new
+          (sweep ∷ offering (rows_of (sweeping (resting old) keys).history) keys)) (sym o.0)
+          (same-made old new o.1);
+      leads = swept-on w old new sees is;
+    }
+sweep-moved w old new (Ok (Some n)) sees o =
+    let now = swept-some old (freed_now old) o.0 in
+    let is : resting new
+    ≡ resting (record old { history = (sweeping (resting old) (freed_now old)).history }) =
+    ap resting o.1 ∙ ap (λ (h : History). resting (record old { history = h })) now in
+    record {
+      moves = sweep_moves old;
+      are = (
         refl,
         tells-sweep old (offering (rows_of (sweeping (resting old) (freed_now old)).history)
             (freed_now old)) (answers.Entry n)
             (swept-told-some old (freed_now old) o.0 ∙ ap (λ (x : ℕ). answers.Entry x) (sym o.2)),
-      ),
-      swept-on w old new sees is,
-    )
-sweeps_are_steps w old new (Err e) sees o = ([], refl, idle-on w old new sees o)
+      );
+      made = made-by old new (offers_for (rows_of (swept_now old)) (freed_now old))
+          (sweep_moves old) (ap (λ (b : BookModel). b.tries) o.1)
+          (swept-made old (swept_now old) (freed_now old) now);
+      leads = swept-on w old new sees is;
+    }
+sweep-moved w old new (Err e) sees o = still old new (SweepMoves old (Err e)) refl o
+
+pub sweeps_are_steps : SweepsAreSteps
+sweeps_are_steps w old new result sees o =
+    moved-on w old new (SweepMoves old result) sees (sweep-moved w old new result sees o)

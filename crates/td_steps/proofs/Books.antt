@@ -55,6 +55,7 @@ use Rattle.td_steps.specs.Commands.{off_in}
 use Rattle.td_steps.specs.Books.{Call, command, undo, start, finish, arrive, sweep, watch, is_watch}
 use Rattle.td_steps.specs.Books.{Does, entries_in, Follows, EntriesStay, WatchedStay}
 use Rattle.td_steps.specs.Books.{RowsAreReplayed, IsBack, UndoneAtOnce, BlockedExactly, UndoneElse}
+use Rattle.td_steps.specs.Openings.{begun}
 
 -- ---- 1. of histories
 
@@ -222,11 +223,10 @@ finish-keeps Free o v u old new (Err finishes.NothingHeld) is = stays old new is
 finish-keeps Free o v u old new (Err finishes.NoMemory) is = stays old new is.1
 
 entered-keeps : (old new : BookModel) (e : Entry)
-    → new ≡ record old { history = with_entry old.history e } → Keeps old new
-entered-keeps old new e is =
+    → new.history ≡ with_entry old.history e → new.fixed ≡ old.fixed → Keeps old new
+entered-keeps old new e now fixed =
     keeps old new (grows-to old.history (with_entry old.history e) new.history
-    (grows-entry old.history e) (ap (λ (b : BookModel). b.history) is))
-    (ap (λ (b : BookModel). b.fixed) is)
+    (grows-entry old.history e) now) fixed
 
 does-keep : (call : Call) (old new : BookModel) → is_watch call ≡ false → Does call old new
     → Keeps old new
@@ -235,13 +235,15 @@ does-keep (undo n r) old new other d = undo-keeps (undo_stop old.history.journal
 does-keep (start b hand r) old new other d = start-keeps b hand old new r d
 does-keep (finish o v u r) old new other d = finish-keeps v.hand o v u old new r d
 does-keep (arrive k (Ok n)) old new other d =
-    entered-keeps old new (record { kind = kinds.Arrive; keys = k ∷ [] }) d.3
+    entered-keeps old new (record { kind = kinds.Arrive; keys = k ∷ [] })
+    (ap (λ (b : BookModel). b.history) d.3) (ap (λ (b : BookModel). b.fixed) d.3)
 does-keep (arrive k (Err arrivals.NoSuchRow)) old new other d = stays old new d.1
 does-keep (arrive k (Err (arrivals.DoesNotApply s))) old new other d = stays old new d.4
 does-keep (arrive k (Err arrivals.NoMemory)) old new other d = stays old new d.3
 does-keep (sweep (Ok None)) old new other d = stays old new d.1
 does-keep (sweep (Ok (Some n))) old new other d =
-    entered-keeps old new (record { kind = kinds.Sweep; keys = freed_now old }) d.1
+    entered-keeps old new (record { kind = kinds.Sweep; keys = freed_now old })
+    (ap (λ (b : BookModel). b.history) d.1) (ap (λ (b : BookModel). b.fixed) d.1)
 does-keep (sweep (Err e)) old new other d = stays old new d
 does-keep (watch groups given r) old new other d = absurd (cc)
 
@@ -312,7 +314,7 @@ watched_stay (c ∷ calls) old new none d =
 pub rows_are_replayed : RowsAreReplayed
 rows_are_replayed t fixed calls new d =
     ap (λ (o : Table). replay o (standing new.history.journal))
-    (entries_stay calls (record { history = opened t; fixed = fixed; tries = [] }) new d).opening
+    (entries_stay calls (begun (opened t) fixed) new d).opening
 
 -- ---- 4. undos
 

@@ -9,14 +9,16 @@ use Rattle.td_rows.specs.Kinds.{cells}
 use Rattle.td_rows.specs.Table.{Table, keys_of, fits, AppliesOn}
 use Rattle.td_supply.specs.Supply.{Stock}
 use Rattle.td_journal.specs.declared.entry.Entry.{Entry}
-use Rattle.td_journal.specs.Entries.{is_command}
+use Rattle.td_journal.specs.declared.entry.Marked.{Marked}
+use Rattle.td_journal.specs.Entries.{is_command, standing_entry}
 use Rattle.td_core.specs.Committing.{takes}
 use Rattle.td_core.specs.History.{History, rows_of, with_entry}
 use Rattle.td_core.specs.Worlds.{WorldView}
 use Rattle.td_core.proofs.Phases.{keys_of-rows_of}
 use Rattle.td_core.proofs.Taking.{AppliesOn-filter, names-filter, ascending-filter}
 use Rattle.td_core.proofs.Worlds.{rows_of-with_entry}
-use Rattle.td_book.specs.Calls.{noting, Choices, off_for, entered, CommandOutcome}
+use Rattle.td_book.specs.Calls.{noting, Choices, off_for, entered, CommandOutcome, CommandTries}
+use Rattle.td_book.specs.Tries.{tries_for, offers_for}
 use Rattle.td_book.specs.Desk.{BookModel}
 use Rattle.td_book.specs.Seen.{seen_off}
 use Rattle.td_book.specs.declared.commanding.CommandRefusal.{CommandRefusal}
@@ -28,19 +30,22 @@ use Rattle.td_book.proofs.Calls.{off_within, noting-opening, kinds_command}
 use Rattle.td_wbread.specs.Command.{CommandParts}
 use Rattle.td_wbread.specs.Naming.{is_named}
 use Rattle.td_core.specs.declared.step.Answer.TheVariants as answers
-use Rattle.td_book.specs.Commands.{named_by, is_matched_in}
+use Rattle.td_book.specs.Commands.{named_by, is_matched_in, IsDone}
 use Rattle.td_wbread.specs.Kinds.{kind_of}
 use Rattle.td_book.specs.Skips.{skips_of}
 use Rattle.td_book.specs.declared.commanding.Taken.{Taken}
 use Rattle.td_steps.specs.Sees.{Desk, resting, Sees}
 use Rattle.td_steps.specs.Moves.{Move, commit, next_no}
-use Rattle.td_steps.specs.Runs.{moved_all, LeadsOn}
+use Rattle.td_steps.specs.Runs.{moved_all}
 use Rattle.td_steps.specs.Parts.{withdrawing, offering, committing, Tells}
 use Rattle.td_steps.specs.Commands.{entering_moves, off_in, command_moves, CommandMoves}
 use Rattle.td_steps.specs.Commands.{CommandsAreSteps}
-use Rattle.td_steps.proofs.Parts.{Leads, leads-none, leads-then, leads-one, leads-on, tells-at}
+use Rattle.td_steps.proofs.Parts.{Leads, leads-none, leads-then, leads-one, tells-at, Moved}
 use Rattle.td_steps.proofs.Parts.{desk_off, named-off, withdrawing-all, offering-all, apart-none}
-use Rattle.td_steps.proofs.Parts.{book-is, up-seen, off-rise}
+use Rattle.td_steps.proofs.Parts.{book-is, up-seen, off-rise, moved-on}
+use Rattle.td_steps.specs.Tries.{AreMade}
+use Rattle.td_steps.proofs.Tries.{made-by, made-none, both, done-withdrawing, done-committing}
+use Rattle.td_steps.proofs.Tries.{done-offering}
 
 -- ---- 1. the entry
 
@@ -116,6 +121,27 @@ tells-entry d x before behind kind (t ∷ ts) to some =
 
 -- ---- 2. a command
 
+ends : (a : List Marked) (x : Marked) → [] ≡ a ++ x ∷ [] → ⊥
+ends [] x e = cc
+ends (p ∷ a) x e = cc
+
+before : (a b : List Marked) (x y : Marked) → a ++ x ∷ [] ≡ b ++ y ∷ [] → a ≡ b
+before [] [] x y e = refl
+before [] (q ∷ b) x y e = absurd (ends b y (let rest : [] ≡ b ++ y ∷ [] = cc in rest))
+before (p ∷ a) [] x y e = absurd (ends a x (let rest : [] ≡ a ++ x ∷ [] = cc in rest))
+before (p ∷ a) (q ∷ b) x y e =
+    let rest : a ++ x ∷ [] ≡ b ++ y ∷ [] = cc in
+    let head : p ≡ q = cc in
+    let same = before a b x y rest in
+    λ j. head j ∷ same j
+
+-- what was before the last entry
+with_entry-before : (g h : History) (d e : Entry) → with_entry g d ≡ with_entry h e → g ≡ h
+with_entry-before g h d e is =
+    let journal = before g.journal h.journal (standing_entry d) (standing_entry e)
+    (ap (λ (x : History). x.journal) is) in
+    λ j. record { opening = (ap (λ (x : History). x.opening) is) j; journal = journal j }
+
 entered-none : (h : History) (kind : Kind) (ts : List Key) → ts ≡ [] → h ≡ entered h kind ts
 entered-none h kind ts e = sym (ap (entered h kind) e)
 
@@ -144,7 +170,7 @@ module _ (w : WorldView) (c : CommandParts) (old new : BookModel) (sees : Sees w
   off : List Key
   off = off_in c old
 
-  matched : List Key
+  abbrev matched : List Key
   matched = filter (is_matched_in c old) (named_by c old)
 
   abbrev now_of : List ℕ → History
@@ -159,13 +185,12 @@ module _ (w : WorldView) (c : CommandParts) (old new : BookModel) (sees : Sees w
 
   leads : (bs : List ℕ) → Choices old.fixed.builders (off_in c old) bs
       → new.history ≡ entered (now_of bs) (kind_of c) (taken_of bs)
-      → LeadsOn w (resting old) (command_moves c old bs) (resting new)
+      → Leads (resting old) (command_moves c old bs) (resting new)
   leads bs chosen now =
-      leads-on w (resting old) (resting new) (command_moves c old bs) sees
-      (subst (Leads (resting old) (command_moves c old bs))
+      subst (Leads (resting old) (command_moves c old bs))
       (book-is old new (entered (now_of bs) (kind_of c) (taken_of bs)) now fixed)
       (entering-leads (kind_of c) (named_by c old) (filter (is_matched_in c old) (named_by c old))
-      old.history old.fixed.stock old.fixed.builders bs up (asks c old up) chosen.one_each))
+      old.history old.fixed.stock old.fixed.builders bs up (asks c old up) chosen.one_each)
 
   tells : (bs : List ℕ) → Choices old.fixed.builders (off_in c old) bs → taken_of bs ≢ []
       → Tells (resting old) (command_moves c old bs)
@@ -180,35 +205,92 @@ module _ (w : WorldView) (c : CommandParts) (old new : BookModel) (sees : Sees w
       (offering (rows_of (entered (now_of bs) (kind_of c) (taken_of bs))) (off_in c old))
       (kind_of c) (taken_of bs) out.to some
 
+  tried-moves : (bs : List ℕ) → Choices old.fixed.builders (off_in c old) bs
+      → new.tries ≡ old.tries ++ (tries_for (rows_of old.history) (off_in c old) bs
+      ++ offers_for (rows_of new.history) (off_in c old))
+      → new.history ≡ entered (now_of bs) (kind_of c) (taken_of bs)
+      → AreMade old new (command_moves c old bs)
+  tried-moves bs chosen told now =
+      let o = old.history.opening in
+      let end = entered (now_of bs) (kind_of c) (taken_of bs) in
+      let took = tries_for (rows_of old.history) (off_in c old) bs in
+      let again = offers_for (rows_of end) (off_in c old) in
+      let keys : keys_of (rows_of end) ≡ keys_of o =
+      keys_of-rows_of end
+      ∙ ap (λ (t : Table). keys_of t) (entered-opening (now_of bs) (kind_of c) (taken_of bs)
+      ∙ noting-opening old.history (off_in c old) bs) in
+      made-by old new (took ++ again) (command_moves c old bs)
+      (told ∙ ap (λ (h : History). old.tries ++ (took ++ offers_for (rows_of h) (off_in c old)))
+      now)
+      (both o took again (withdrawing old.history (off_in c old) bs)
+      (committing (kind_of c) (taken_of bs) ++ offering (rows_of end) (off_in c old))
+      (done-withdrawing o old.history (off_in c old) bs (keys_of-rows_of old.history)
+      (off-rise (kind_of c) (named_by c old) (named-rise c old up)))
+      (both o [] again (committing (kind_of c) (taken_of bs))
+      (offering (rows_of end) (off_in c old))
+      (done-committing o (kind_of c) (taken_of bs))
+      (done-offering o (rows_of end) (off_in c old) keys)))
+
   made : (r : Result Taken CommandRefusal)
       → CommandOutcome (kind_of c) (named_by c old) (filter (is_matched_in c old) (named_by c old))
       (skips_of (is_matched_in c old) (kind_of c) (named_by c old)) old new r
-      → (moves : List Move) × CommandMoves c old r moves
-      × LeadsOn w (resting old) moves (resting new)
-  made (Err commands.NoMemory) o = (
-    [],
-    refl,
-    leads-on w (resting old) (resting new) [] sees
-        (leads-none (resting old) (resting new) (book-is old new old.history o fixed)),
-  )
-  made (Err (commands.NothingApplies skips)) o =
-      let bs = o.0 in (
-        command_moves c old bs,
-        (bs, o.1, refl),
-        leads bs o.1 (o.2.1 ∙ entered-none (now_of bs) (kind_of c) (taken_of bs) o.2.0),
-      )
-  made (Ok taken) o =
-      let bs = o.0 in (
-        command_moves c old bs,
-        (
+      → CommandTries (kind_of c) (named_by c old) (filter (is_matched_in c old) (named_by c old))
+      old new r
+      → Moved old new (CommandMoves c old r)
+  made (Err commands.NoMemory) o tried = record {
+    moves = [];
+    are = refl;
+    made = made-none old new tried;
+    leads = leads-none (resting old) (resting new) (book-is old new old.history o fixed);
+  }
+  made (Err (commands.NothingApplies skips)) o tried =
+      let bs = tried.choices in
+      let same : now_of o.0 ≡ now_of bs = sym o.2.1 ∙ tried.history in
+      let none : taken_of bs ≡ [] =
+      ap (λ (h : History). takes (rows_of h) (kind_of c) matched) (sym same) ∙ o.2.0 in
+      let now = tried.history ∙ entered-none (now_of bs) (kind_of c) (taken_of bs) none in
+      record {
+        moves = command_moves c old bs;
+        are = (bs, tried.chosen, refl);
+        made = tried-moves bs tried.chosen tried.tries now;
+        leads = leads bs tried.chosen now;
+      }
+  made (Ok taken) o tried =
+      let bs = tried.2.choices in
+      let noted = tried.0 in
+      let same : now_of o.0 ≡ now_of bs =
+      with_entry-before (now_of o.0) noted
+      (record { kind = kind_of c; keys = taken_of o.0 })
+      (record { kind = kind_of c; keys = takes (rows_of noted) (kind_of c) matched })
+      (sym o.2.1 ∙ tried.1) ∙ tried.2.history in
+      let some : taken_of bs ≢ [] =
+      subst (λ (h : History). takes (rows_of h) (kind_of c) matched ≢ []) same o.2.0 in
+      let made_so : new.history
+      ≡ with_entry (now_of bs) (record { kind = kind_of c; keys = taken_of bs }) =
+      o.2.1 ∙ ap (λ (h : History).
+      with_entry h (record { kind = kind_of c; keys = takes (rows_of h) (kind_of c) matched }))
+      same in
+      let now = made_so ∙ entered-some (now_of bs) (kind_of c) (taken_of bs) some in
+      record {
+        moves = command_moves c old bs;
+        are = (
           bs,
-          o.1,
+          tried.2.chosen,
           refl,
           subst (λ (n : ℕ). Tells (resting old) (command_moves c old bs) (answers.Entry n))
-              (sym o.2.2) (tells bs o.1 o.2.0),
-        ),
-        leads bs o.1 (o.2.1 ∙ entered-some (now_of bs) (kind_of c) (taken_of bs) o.2.0),
-      )
+              (ap (λ (h : History). length h.journal + 1) (sym same) ∙ sym o.2.2)
+              (tells bs tried.2.chosen some),
+        );
+        made = tried-moves bs tried.2.chosen tried.2.tries now;
+        leads = leads bs tried.2.chosen now;
+      }
+
+pub command-moved : (w : WorldView) (c : CommandParts) (old new : BookModel)
+    (result : Result Taken CommandRefusal) → Sees w (resting old) → IsDone c old new result
+    → Moved old new (CommandMoves c old result)
+command-moved w c old new result sees is =
+    made w c old new sees is.fixed result is.outcome is.tries
 
 pub commands_are_steps : CommandsAreSteps
-commands_are_steps w c old new result sees is = made w c old new sees is.fixed result is.outcome
+commands_are_steps w c old new result sees is =
+    moved-on w old new (CommandMoves c old result) sees (command-moved w c old new result sees is)

@@ -52,6 +52,7 @@ use Rattle.td_steps.specs.Books.{DoAll, EntriesAreLawful}
 use Rattle.td_steps.proofs.Parts.{queued-row}
 use Rattle.td_steps.proofs.Builds.{built-row}
 use Rattle.td_steps.proofs.Undos.{stop-none}
+use Rattle.td_steps.specs.Openings.{begun}
 
 -- ---- 1. of histories
 
@@ -195,11 +196,10 @@ finish-sound Free o v u old new (Err finishes.NothingHeld) is s = same-book old 
 finish-sound Free o v u old new (Err finishes.NoMemory) is s = same-book old new s is.1
 
 entry-sound : (old new : BookModel) (e : Entry)
-    → new ≡ record old { history = with_entry old.history e }
+    → new.history ≡ with_entry old.history e
     → AppliesOn (rows_of old.history) e.kind e.keys → Sound old.history → Sound new.history
-entry-sound old new e is applies s =
-    sound-to (with_entry old.history e) new.history (sound-entry old.history e s applies)
-    (ap (λ (b : BookModel). b.history) is)
+entry-sound old new e now applies s =
+    sound-to (with_entry old.history e) new.history (sound-entry old.history e s applies) now
 
 does-sound : (call : Call) (old new : BookModel) → Does call old new → Sound old.history
     → Sound new.history
@@ -209,14 +209,16 @@ does-sound (undo n r) old new d s =
 does-sound (start b hand r) old new d s = start-sound b hand old new r d s
 does-sound (finish o v u r) old new d s = finish-sound v.hand o v u old new r d s
 does-sound (arrive k (Ok n)) old new d s =
-    entry-sound old new (record { kind = kinds.Arrive; keys = k ∷ [] }) d.3
+    entry-sound old new (record { kind = kinds.Arrive; keys = k ∷ [] })
+    (ap (λ (b : BookModel). b.history) d.3)
     (AppliesOn-one (rows_of old.history) kinds.Arrive k d.0 d.1 d.2) s
 does-sound (arrive k (Err arrivals.NoSuchRow)) old new d s = same-book old new s d.1
 does-sound (arrive k (Err (arrivals.DoesNotApply why))) old new d s = same-book old new s d.4
 does-sound (arrive k (Err arrivals.NoMemory)) old new d s = same-book old new s d.3
 does-sound (sweep (Ok None)) old new d s = same-book old new s d.1
 does-sound (sweep (Ok (Some n))) old new d s =
-    entry-sound old new (record { kind = kinds.Sweep; keys = freed_now old }) d.1
+    entry-sound old new (record { kind = kinds.Sweep; keys = freed_now old })
+    (ap (λ (b : BookModel). b.history) d.1)
     (AppliesOn-freed (supply_now old.fixed.stock old.history) (rows_of old.history)
     (up_now old.history s.up)) s
 does-sound (sweep (Err e)) old new d s = same-book old new s d
@@ -236,5 +238,5 @@ all-sound (c ∷ calls) old new d s = all-sound calls d.0 new d.2 (does-sound c 
 
 pub entries_are_lawful : EntriesAreLawful
 entries_are_lawful t fixed calls new up d =
-    (all-sound calls (record { history = opened t; fixed = fixed; tries = [] }) new d
+    (all-sound calls (begun (opened t) fixed) new d
     (record { up = up; lawful = tt })).lawful

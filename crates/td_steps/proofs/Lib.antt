@@ -2,6 +2,7 @@
 pub mod Sees
 pub mod Moves
 pub mod Parts
+pub mod Tries
 pub mod Commands
 pub mod Undos
 pub mod Arrivals

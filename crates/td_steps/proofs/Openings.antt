@@ -1,5 +1,5 @@
 -- The moves of an opening lead to the book at rest.
-use Rattle.std.proofs.Common.{◌≡◌, ℕ, List, [], length, replicate, ap, refl, sym, subst, ◌∙◌}
+use Rattle.std.proofs.Common.{◌≡◌, ℕ, List, length, replicate, ap, refl, sym, subst, ◌∙◌}
 use Rattle.std.proofs.lemmas.List.{length-replicate}
 use Rattle.td_board.specs.declared.views.RowView.{RowView}
 use Rattle.td_board.specs.declared.views.RowView.TheVariants as views
@@ -12,6 +12,7 @@ use Rattle.td_core.specs.declared.step.Phase.TheVariants.{Closed}
 use Rattle.td_core.specs.declared.step.Hand.TheVariants as hands
 use Rattle.td_core.specs.Phases.{Suits, NoneBuilt}
 use Rattle.td_journal.proofs.Undoing.{replay-none}
+use Rattle.td_core.proofs.Phases.{keys_of-rows_of}
 use Rattle.td_core.specs.Worlds.{InHand, IsWorld, world_of}
 use Rattle.td_core.proofs.WorldSteps.{slice_get-replicate}
 use Rattle.td_book.specs.Desk.{BookModel}
@@ -24,7 +25,8 @@ use Rattle.td_steps.specs.Runs.{LeadsOn}
 use Rattle.td_steps.specs.Parts.{offering}
 use Rattle.td_steps.proofs.Parts.{Leads, leads-on, desk_off, offering-all}
 use Rattle.td_steps.specs.Openings.{first_desk, world_from, desk_from, MayOpen}
-use Rattle.td_steps.specs.Openings.{HistoriesOpen, OpeningsAreSteps}
+use Rattle.td_steps.specs.Openings.{HistoriesOpen, OpeningsAreSteps, begun}
+use Rattle.td_steps.proofs.Tries.{done-offering}
 
 fit-replicate : (n : ℕ) → FitAll (replicate n views.In) (replicate n Closed)
 fit-replicate n i v p view phase =
@@ -60,7 +62,7 @@ first-seen h s n may = record {
 pub histories_open : HistoriesOpen
 histories_open h fixed may =
     let first = desk_from h fixed.stock fixed.builders in
-    let b : BookModel = record { history = h; fixed = fixed; tries = [] } in
+    let b : BookModel = begun h fixed in
     let sees = first-seen h fixed.stock fixed.builders may in
     let ks = keys_of (rows_of h) in
     let rise = up_now h may.rising in
@@ -76,6 +78,7 @@ histories_open h fixed may =
       sees = sees;
       leads = leads-on (world_from h fixed.stock fixed.builders) first (resting b)
           (offering (rows_of h) ks) sees leads;
+      made = done-offering h.opening (rows_of h) ks (keys_of-rows_of h);
     }
 
 -- the history before the first entry
@@ -89,5 +92,5 @@ openings_are_steps t fixed up none =
       leads = subst (λ (u : Table).
           LeadsOn (world_of t fixed.stock fixed.builders) (first_desk t fixed.stock fixed.builders)
           (offering u (keys_of u))
-          (resting (record { history = opened t; fixed = fixed; tries = [] }))) same o.leads;
+          (resting (begun (opened t) fixed))) same o.leads;
     }

@@ -40,6 +40,7 @@ use Rattle.td_steps.specs.Moves.{Move, offer, won, lost, note, answer_of, moved,
 use Rattle.td_steps.specs.Runs.{MayAll, moved_all, LeadsOn}
 use Rattle.td_steps.specs.Parts.{withdrawing_one, withdrawing, winning_one, winning, offering_one}
 use Rattle.td_steps.specs.Parts.{offering, Tells}
+use Rattle.td_steps.specs.Tries.{AreMade}
 use Rattle.td_steps.proofs.Moves.{runs_are_seen}
 
 -- ---- 1. lists of moves
@@ -341,19 +342,24 @@ pub up-seen : (w : WorldView) (old : BookModel) → Sees w (resting old)
 up-seen w old sees =
     ap (λ (h : History). ascending (keys_of h.opening)) (sym sees.history) ∙ sees.sound.rising
 
--- no move, and nothing changed but what was tried
-pub idle-tried : (w : WorldView) (old new : BookModel) → Sees w (resting old)
-    → resting new ≡ resting old → LeadsOn w (resting old) [] (resting new)
-idle-tried w old new sees same =
-    leads-on w (resting old) (resting new) [] sees
-    (leads-none (resting old) (resting new) (sym same))
-
 -- no move, and nothing changed
-pub idle-on : (w : WorldView) (old new : BookModel) → Sees w (resting old) → new ≡ old
-    → LeadsOn w (resting old) [] (resting new)
-idle-on w old new sees same =
-    leads-on w (resting old) (resting new) [] sees
-    (leads-none (resting old) (resting new) (ap resting (sym same)))
+pub idle-on : (old new : BookModel) → new ≡ old → Leads (resting old) [] (resting new)
+idle-on old new same = leads-none (resting old) (resting new) (ap resting (sym same))
+
+-- the moves of a call, which are what the desk did at the board, lead from book to book
+pub record Moved (old new : BookModel) (Are : List Move → Type 0) : Type 0 where
+  pub moves : List Move
+  pub are : Are moves
+  pub made : AreMade old new moves
+  pub leads : Leads (resting old) moves (resting new)
+
+-- so they lead on from each world that the book sees
+pub moved-on : (w : WorldView) (old new : BookModel) (Are : List Move → Type 0)
+    → Sees w (resting old) → Moved old new Are
+    → (moves : List Move) × Are moves × AreMade old new moves
+    × LeadsOn w (resting old) moves (resting new)
+moved-on w old new Are sees m =
+    (m.moves, m.are, m.made, leads-on w (resting old) (resting new) m.moves sees m.leads)
 
 pub off-rise : (kind : Kind) (keys : List Key) → ascending keys ≡ true
     → ascending (off_for kind keys) ≡ true

@@ -1,16 +1,18 @@
 -- The moves of an undo lead from the book at rest to the book at rest.
-use Rattle.std.proofs.Common.{◌≡◌, ℕ, suc, ◌+◌, Bool, true, false, List, [], ◌∷◌, ◌++◌}
+use Rattle.std.proofs.Common.{◌≡◌, ℕ, ◌+◌, Bool, true, false, List, [], ◌∷◌, ◌++◌}
 use Rattle.std.proofs.Common.{append_assoc, ◌≤◌, Option, Some, None, Result, Ok, Err, if◌then◌else◌}
 use Rattle.std.proofs.Common.{length, take, drop, slice_get, ap, refl, sym, subst, ◌∙◌}
 use Rattle.std.specs.Prelude.{IsSomeAnd}
 use Rattle.std.proofs.lemmas.List.{take-append-drop}
 use Rattle.td_board.specs.declared.views.RowView.{RowView}
+use Rattle.td_board.specs.declared.views.DeskTry.{DeskTry}
+use Rattle.td_board.specs.declared.views.DeskTry.TheVariants.{WithdrawalLost, ClaimNoted}
 use Rattle.td_rows.specs.declared.key.Key.{Key}
-use Rattle.td_rows.specs.Keys.{same_key, names, ascending}
+use Rattle.td_rows.specs.Keys.{names, ascending}
 use Rattle.td_rows.specs.Kinds.{cells}
 use Rattle.td_rows.specs.Table.{keys_of}
-use Rattle.td_rows.proofs.Keys.{same_key-true}
 use Rattle.td_rows.proofs.Lists.{take-next, drop-next}
+use Rattle.td_change.specs.Saved.{place_of, number_of}
 use Rattle.td_supply.specs.Supply.{Stock}
 use Rattle.td_journal.specs.declared.entry.Mark.{Mark}
 use Rattle.td_journal.specs.declared.entry.Mark.TheVariants.{Standing, Undone}
@@ -24,23 +26,28 @@ use Rattle.td_core.specs.Worlds.{WorldView}
 use Rattle.td_book.specs.Calls.{off_for}
 use Rattle.td_book.specs.Desk.{BookModel, claim_of}
 use Rattle.td_book.specs.Seen.{seen_off}
-use Rattle.td_book.specs.Undoing.{undo_stop, mark_stop, UndoAnswer, UndoOutcome, IsWon}
+use Rattle.td_book.specs.Undoing.{undo_stop, mark_stop, UndoAnswer, UndoOutcome, UndoTries, IsWon}
+use Rattle.td_book.specs.Undoing.{IsStopped}
+use Rattle.td_book.specs.Tries.{wins_for, offers_for}
 use Rattle.td_book.specs.declared.undoing.UndoRefusal.{UndoRefusal}
 use Rattle.td_book.specs.declared.undoing.UndoRefusal.TheVariants as undos
 use Rattle.td_book.proofs.Steps.{unnamed_before}
 use Rattle.td_book.proofs.Withdrawals.{undone_off, ascending_take}
 use Rattle.td_book.proofs.Calls.{off_within}
 use Rattle.td_core.specs.declared.step.Answer.TheVariants as answers
+use Rattle.td_core.proofs.Phases.{keys_of-rows_of}
 use Rattle.td_core.proofs.Promises.{entries_rise}
 use Rattle.td_steps.specs.Sees.{Desk, resting, Sees}
 use Rattle.td_steps.specs.Moves.{Move, lost, note, undo, moved}
-use Rattle.td_steps.specs.Runs.{moved_all, LeadsOn}
+use Rattle.td_steps.specs.Runs.{moved_all}
 use Rattle.td_steps.specs.Parts.{winning, offering, Tells}
 use Rattle.td_steps.specs.Undos.{undo_moves, blocked_moves, LostAt, UndoMoves, UndosAreSteps}
-use Rattle.td_steps.proofs.Parts.{Leads, leads-none, leads-then, leads-one, leads-on, tells-at}
+use Rattle.td_steps.proofs.Parts.{Leads, leads-none, leads-then, leads-one, tells-at, Moved}
 use Rattle.td_steps.proofs.Parts.{moved_all-append, desk_off, queued-row, lost-leads, named-off}
-use Rattle.td_steps.proofs.Parts.{winning-all, offering-all, apart-none, book-is, up-seen, idle-on}
-use Rattle.td_steps.proofs.Parts.{off-rise}
+use Rattle.td_steps.proofs.Parts.{winning-all, offering-all, apart-none, book-is, up-seen}
+use Rattle.td_steps.proofs.Parts.{off-rise, moved-on}
+use Rattle.td_steps.specs.Tries.{tried_in, done_in, AreMade}
+use Rattle.td_steps.proofs.Tries.{made-by, made-none, both, done-winning, done-offering, still}
 
 -- ---- 1. from desk to desk
 
@@ -71,22 +78,6 @@ undo-leads h st b n c free lawful up rises =
     })
     (ap (λ (x : List RowView). record (desk_off new st b off) { view = x }) same))
     (offering-all new st b up off rise))
-
--- the place of a named key
-record Placed (ks : List Key) (k : Key) : Type 0 where
-  place : ℕ
-  at : slice_get ks place ≡ Some k
-
-placed : (ks : List Key) (k : Key) → names ks k ≡ true → Placed ks k
-placed [] k named = cc
-placed (q ∷ ks) k named =
-    elim (same_key k q) as (λ b.
-    same_key k q ≡ b → (if b then true else names ks k) ≡ true → Placed (q ∷ ks) k) [
-      | true ↦
-          λ same _.
-          record { place = 0; at = ap (λ (x : Key). Some x) (sym (same_key-true k q same)) }
-      | false ↦ λ _ rest. let r = placed ks k rest in record { place = suc r.place; at = r.at }
-    ] refl named
 
 blocked-leads : (h : History) (st : Stock) (n i b : ℕ) (off : List Key) (k : Key)
     → ascending (keys_of h.opening) ≡ true → ascending off ≡ true → slice_get off i ≡ Some k
@@ -163,6 +154,40 @@ tells-claim h st n i b off k up rise =
     (tells-at (desk_off h st n []) (moved (desk_off h st n first) (lost k b))
     (before ++ lost k b ∷ []) ms (note k b) (answers.Entry (length h.journal + 1)) to refl)
 
+behind-first : (first : List Key) (k : Key) (rest : List Key)
+    → slice_get (first ++ k ∷ rest) (length first) ≡ Some k
+behind-first [] k rest = refl
+behind-first (q ∷ first) k rest = behind-first first k rest
+
+first-of : (first rest : List Key) → take (length first) (first ++ rest) ≡ first
+first-of [] rest = refl
+first-of (q ∷ first) rest = ap (λ (ks : List Key). q ∷ ks) (first-of first rest)
+
+-- what an undo does that stops is what its moves are
+blocked-made : (old new : BookModel) (first : List Key) (k : Key) (by : ℕ)
+    → (let h = old.history in
+    new.tries ≡ old.tries ++ (wins_for (rows_of h) first
+    ++ WithdrawalLost (number_of (rows_of h) k) by ∷ ClaimNoted (number_of (rows_of h) k) by
+    ∷ offers_for (rows_of (with_entry h (claim_of by k))) (first ++ k ∷ [])))
+    → AreMade old new (blocked_moves first k by old.history)
+blocked-made old new first k by told =
+    let h = old.history in
+    let o = h.opening in
+    let end = with_entry h (claim_of by k) in
+    let at : number_of (rows_of h) k ≡ number_of o k =
+    ap (λ (ks : List Key). place_of ks k) (keys_of-rows_of h) in
+    let again : done_in (offers_for (rows_of end) (first ++ k ∷ []))
+    ≡ tried_in o (offering (rows_of end) (first ++ k ∷ [])) =
+    done-offering o (rows_of end) (first ++ k ∷ []) (keys_of-rows_of end) in
+    let more : List DeskTry = WithdrawalLost (number_of (rows_of h) k) by
+    ∷ ClaimNoted (number_of (rows_of h) k) by
+    ∷ offers_for (rows_of end) (first ++ k ∷ []) in
+    made-by old new (wins_for (rows_of h) first ++ more) (blocked_moves first k by h) told
+    (both o (wins_for (rows_of h) first) more (winning (rows_of h) first)
+    (lost k by ∷ note k by ∷ offering (rows_of end) (first ++ k ∷ []))
+    (done-winning o (rows_of h) first (keys_of-rows_of h))
+    (λ j. WithdrawalLost (at j) by ∷ ClaimNoted (at j) by ∷ again j))
+
 module _ (w : WorldView) (n : ℕ) (old : BookModel) (sees : Sees w (resting old))
     (s : Stands old.history.journal n) where
   pub rises : ascending s.can.marked.entry.keys ≡ true
@@ -227,26 +252,44 @@ module _ (w : WorldView) (n : ℕ) (old : BookModel) (sees : Sees w (resting old
       )
 
   made : (new : BookModel) → new.fixed ≡ old.fixed → (r : Result (Unit {0}) UndoRefusal)
-      → UndoOutcome n old new r
-      → (moves : List Move) × UndoMoves None n old r moves
-      × LeadsOn w (resting old) moves (resting new)
-  made new fixed (Ok u) o =
+      → UndoOutcome n old new r → UndoTries n old new r
+      → Moved old new (UndoMoves None n old r)
+  made new fixed (Ok u) o tried =
       let e = s.can.marked.entry in
-      let ms = undo_moves n e.kind e.keys old.history in (
-        ms,
-        undone-moves u,
-        leads-on w (resting old) (resting new) ms sees
-            (subst (Leads (resting old) ms) (book-is old new (without_entry old.history n) o fixed)
+      let h = old.history in
+      let off = off_for e.kind e.keys in
+      let end = without_entry h n in
+      let ms = undo_moves n e.kind e.keys h in
+      let told : new.tries
+      ≡ old.tries ++ (wins_for (rows_of h) off ++ offers_for (rows_of new.history) off) =
+      subst (λ (x : Option Marked).
+      IsSomeAnd x (λ (m : Marked).
+      new.tries
+      ≡ old.tries ++ (wins_for (rows_of h) (off_for m.entry.kind m.entry.keys)
+      ++ offers_for (rows_of new.history) (off_for m.entry.kind m.entry.keys)))) s.can.there
+      tried in
+      record {
+        moves = ms;
+        are = undone-moves u;
+        made = made-by old new (wins_for (rows_of h) off ++ offers_for (rows_of end) off) ms
+            (told ∙ ap (λ (x : History).
+            old.tries ++ (wins_for (rows_of h) off ++ offers_for (rows_of x) off)) o)
+            (both h.opening (wins_for (rows_of h) off) (offers_for (rows_of end) off)
+            (winning (rows_of h) off) (undo n ∷ offering (rows_of end) off)
+            (done-winning h.opening (rows_of h) off (keys_of-rows_of h))
+            (done-offering h.opening (rows_of end) off (keys_of-rows_of end)));
+        leads = subst (Leads (resting old) ms)
+            (book-is old new (without_entry old.history n) o fixed)
             (undo-leads old.history old.fixed.stock old.fixed.builders n s.can s.free lawful
-            (up-seen w old sees) rises)),
-      )
-  made new fixed (Err undos.NoMemory) o = (
-    [],
-    refl,
-    leads-on w (resting old) (resting new) [] sees
-        (leads-none (resting old) (resting new) (book-is old new old.history o fixed)),
-  )
-  made new fixed (Err (undos.Blocked b)) o =
+            (up-seen w old sees) rises);
+      }
+  made new fixed (Err undos.NoMemory) o tried = record {
+    moves = [];
+    are = refl;
+    made = made-none old new tried;
+    leads = leads-none (resting old) (resting new) (book-is old new old.history o fixed);
+  }
+  made new fixed (Err (undos.Blocked b)) o tried =
       let e = s.can.marked.entry in
       let h = old.history in
       let off = off_for e.kind e.keys in
@@ -255,30 +298,58 @@ module _ (w : WorldView) (n : ℕ) (old : BookModel) (sees : Sees w (resting old
       IsSomeAnd x (λ (m : Marked).
       IsWon h new.history old.fixed.builders (off_for m.entry.kind m.entry.keys) b)) s.can.there
       o in
-      let p = placed off won_by.key won_by.is_named in
-      let ms = blocked_moves (take p.place off) won_by.key won_by.by h in (
-        ms,
-        subst (λ (x : ℕ). UndoMoves None n old (Err (undos.Blocked x)) ms) (sym won_by.number)
-            (stopped-moves p.place won_by.by won_by.key p.at won_by.one won_by.some_builder),
-        leads-on w (resting old) (resting new) ms sees
-            (subst (Leads (resting old) ms)
-            (book-is old new (with_entry h (claim_of won_by.by won_by.key)) won_by.now fixed)
-            (blocked-leads h old.fixed.stock old.fixed.builders p.place won_by.by off won_by.key
-            (up-seen w old sees) off-rises p.at won_by.out)),
-      )
-  made new fixed (Err undos.NoSuchEntry) o = absurd o
-  made new fixed (Err undos.NotACommand) o = absurd o
-  made new fixed (Err undos.AlreadyUndone) o = absurd o
+      let stop : IsStopped h new.history old.fixed.builders off old.tries new.tries =
+      subst (λ (x : Option Marked).
+      IsSomeAnd x (λ (m : Marked).
+      IsStopped h new.history old.fixed.builders (off_for m.entry.kind m.entry.keys) old.tries
+      new.tries)) s.can.there tried in
+      let place = length stop.first in
+      let k = stop.key in
+      let by = stop.by in
+      let end = with_entry h (claim_of by k) in
+      let at : slice_get off place ≡ Some k =
+      ap (λ (ks : List Key). slice_get ks place) stop.split ∙ behind-first stop.first k stop.rest in
+      let front : take place off ≡ stop.first =
+      ap (take place) stop.split ∙ first-of stop.first (k ∷ stop.rest) in
+      let ms = blocked_moves (take place off) k by h in
+      let moves : blocked_moves stop.first k by h ≡ ms =
+      ap (λ (ks : List Key). blocked_moves ks k by h) (sym front) in
+      record {
+        moves = ms;
+        are = subst (λ (x : ℕ). UndoMoves None n old (Err (undos.Blocked x)) ms) (sym won_by.number)
+            (stopped-moves place by k at stop.one stop.some_builder);
+        made = subst (AreMade old new) moves
+            (blocked-made old new stop.first k by
+            (stop.tries
+            ∙ ap (λ (x : History). old.tries ++ (wins_for (rows_of h) stop.first
+            ++ WithdrawalLost (number_of (rows_of h) k) by
+            ∷ ClaimNoted (number_of (rows_of h) k) by
+            ∷ offers_for (rows_of x) (stop.first ++ k ∷ []))) stop.now));
+        leads = subst (Leads (resting old) ms) (book-is old new end stop.now fixed)
+            (blocked-leads h old.fixed.stock old.fixed.builders place by off k
+            (up-seen w old sees) off-rises at stop.out);
+      }
+  made new fixed (Err undos.NoSuchEntry) o tried = absurd o
+  made new fixed (Err undos.NotACommand) o tried = absurd o
+  made new fixed (Err undos.AlreadyUndone) o tried = absurd o
 
 stopped : (w : WorldView) (n : ℕ) (old new : BookModel) (sees : Sees w (resting old))
     (x : Option UndoRefusal) (result : Result (Unit {0}) UndoRefusal)
     → undo_stop old.history.journal n ≡ x → UndoAnswer x n old new result
-    → (moves : List Move) × UndoMoves x n old result moves
-    × LeadsOn w (resting old) moves (resting new)
-stopped w n old new sees (Some r) result is a = ([], refl, idle-on w old new sees a.1)
+    → Moved old new (UndoMoves x n old result)
+stopped w n old new sees (Some r) result is a =
+    still old new (UndoMoves (Some r) n old result) refl a.1
 stopped w n old new sees None result is a =
-    made w n old sees (stop-none old.history.journal n is) new a.fixed result a.outcome
+    made w n old sees (stop-none old.history.journal n is) new a.fixed result a.outcome a.tries
+
+pub undo-moved : (w : WorldView) (n : ℕ) (old new : BookModel)
+    (result : Result (Unit {0}) UndoRefusal) → Sees w (resting old)
+    → UndoAnswer (undo_stop old.history.journal n) n old new result
+    → Moved old new (UndoMoves (undo_stop old.history.journal n) n old result)
+undo-moved w n old new result sees answer =
+    stopped w n old new sees (undo_stop old.history.journal n) result refl answer
 
 pub undos_are_steps : UndosAreSteps
 undos_are_steps w n old new result sees answer =
-    stopped w n old new sees (undo_stop old.history.journal n) result refl answer
+    moved-on w old new (UndoMoves (undo_stop old.history.journal n) n old result) sees
+    (undo-moved w n old new result sees answer)

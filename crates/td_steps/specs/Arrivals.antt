@@ -12,6 +12,7 @@ use Rattle.td_steps.specs.Sees.{Sees, resting}
 use Rattle.td_steps.specs.Moves.{Move, arrive, sweep, sweeping}
 use Rattle.td_steps.specs.Runs.{LeadsOn}
 use Rattle.td_steps.specs.Parts.{offering, Tells}
+use Rattle.td_steps.specs.Tries.{AreMade}
 
 -- an arrival is the step itself; a refused one is none
 abbrev pub ArriveMoves : Key → BookModel → Result ℕ ArriveRefusal → List Move → Type 0
@@ -23,7 +24,7 @@ abbrev pub ArrivalsAreSteps : Type 0
 ArrivalsAreSteps =
     (w : WorldView) (k : Key) (old new : BookModel) (result : Result ℕ ArriveRefusal) →
     Sees w (resting old) → ArriveOutcome k old new result
-    → (moves : List Move) × ArriveMoves k old result moves
+    → (moves : List Move) × ArriveMoves k old result moves × AreMade old new moves
     × LeadsOn w (resting old) moves (resting new)
 
 -- a sweep is the step, and the rows that it frees are offered
@@ -41,5 +42,5 @@ SweepMoves old (Err e) moves = moves ≡ []
 abbrev pub SweepsAreSteps : Type 0
 SweepsAreSteps = (w : WorldView) (old new : BookModel) (result : Result (Option ℕ) AllocError) →
     Sees w (resting old) → SweepOutcome old new result
-    → (moves : List Move) × SweepMoves old result moves
+    → (moves : List Move) × SweepMoves old result moves × AreMade old new moves
     × LeadsOn w (resting old) moves (resting new)

@@ -34,6 +34,7 @@ use Rattle.td_book.specs.Finishing.{FinishOutcome}
 use Rattle.td_book.specs.Undoing.{undo_stop, UndoAnswer, UndoOutcome}
 use Rattle.td_book.specs.WatchCalls.{WatchOutcome}
 use Rattle.td_steps.specs.Commands.{off_in}
+use Rattle.td_steps.specs.Openings.{begun}
 
 -- a call with what it was given and what it answered; of a finish, what the builder's seat was
 -- before and behind it
@@ -94,14 +95,14 @@ WatchedStay =
 abbrev pub RowsAreReplayed : Type 0
 RowsAreReplayed =
     (t : Table) (fixed : Fixed) (calls : List Call) (new : BookModel)
-    → DoAll calls (record { history = opened t; fixed = fixed; tries = [] }) new
+    → DoAll calls (begun (opened t) fixed) new
     → rows_of new.history ≡ replay t (standing new.history.journal)
 
 -- and each of the standing entries applies on the rows that those before it left
 abbrev pub EntriesAreLawful : Type 0
 EntriesAreLawful =
     (t : Table) (fixed : Fixed) (calls : List Call) (new : BookModel) → ascending (keys_of t) ≡ true
-    → DoAll calls (record { history = opened t; fixed = fixed; tries = [] }) new
+    → DoAll calls (begun (opened t) fixed) new
     → Lawful new.history.opening (standing new.history.journal)
 
 -- the command's entry stood behind the claims of builders that it had found, and now every row is

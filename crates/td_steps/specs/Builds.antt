@@ -24,6 +24,7 @@ use Rattle.td_steps.specs.Sees.{Sees, resting}
 use Rattle.td_steps.specs.Moves.{Move, settle}
 use Rattle.td_steps.specs.Runs.{Runs, LeadsOn}
 use Rattle.td_steps.specs.Parts.{withdrawing, offering, Tells}
+use Rattle.td_steps.specs.Tries.{AreMade}
 
 -- ---- 1. a start
 
@@ -52,7 +53,7 @@ abbrev pub StartsAreSteps : Type 0
 StartsAreSteps =
     (w : WorldView) (b : ℕ) (hand : Hand) (old new : BookModel) (result : Result Job StartRefusal) →
     Sees w (resting old) → StartOutcome b hand old new result
-    → (moves : List Move) × StartMoves hand old result moves
+    → (moves : List Move) × StartMoves hand old result moves × AreMade old new moves
     × LeadsOn w (resting old) moves (resting new)
 
 -- ---- 2. a finish
@@ -100,7 +101,7 @@ FinishesAreSteps =
     (result : Result ℕ FinishRefusal) →
     Sees w (resting old) → FinishOutcome hand o before behind old new result
     → (moves : List Move) × FinishMoves hand before.number o old result moves
-    × LeadsOn w (resting old) moves (resting new)
+    × AreMade old new moves × LeadsOn w (resting old) moves (resting new)
 
 -- ---- 3. such runs exist
 

@@ -19,6 +19,8 @@ use Rattle.td_steps.specs.Watches.{WatchMoves}
 use Rattle.td_steps.specs.Builds.{StartMoves, FinishMoves}
 use Rattle.td_steps.specs.Books.{Call, command, undo, start, finish, arrive, sweep, watch, Does}
 use Rattle.td_steps.specs.Books.{DoAll}
+use Rattle.td_steps.specs.Tries.{AreMade}
+use Rattle.td_steps.specs.Openings.{begun}
 
 -- the moves that a call may have made
 abbrev pub MovesOf : Call → BookModel → List Move → Type 0
@@ -31,13 +33,14 @@ MovesOf (arrive k result) old moves = ArriveMoves k old result moves
 MovesOf (sweep result) old moves = SweepMoves old result moves
 MovesOf (watch groups given result) old moves = WatchMoves moves
 
--- each call is a list of moves; from every world to which a run of them leads the calls behind it
--- are so, and the book sees the world at the end
+-- each call is a list of moves, and these are what the desk did for it at the board; from every
+-- world to which a run of them leads the calls behind it are so, and the book sees the world at the
+-- end
 abbrev pub CallsLead : WorldView → List Call → BookModel → BookModel → Type 0
 CallsLead w [] old new = Sees w (resting new)
 CallsLead w (c ∷ calls) old new =
     (between : BookModel) × Does c old between × (moves : List Move) × MovesOf c old moves
-    × ((v : WorldView) → Runs w moves v
+    × AreMade old between moves × ((v : WorldView) → Runs w moves v
     → Goes w (resting old) moves v × Sees v (resting between) × CallsLead v calls between new)
 
 -- so it is of any list of calls, from any world that the book sees
@@ -50,6 +53,6 @@ CallsAreSteps =
 abbrev pub BooksAreSteps : Type 0
 BooksAreSteps =
     (t : Table) (fixed : Fixed) (calls : List Call) (new : BookModel) → ascending (keys_of t) ≡ true
-    → NoneBuilt t → DoAll calls (record { history = opened t; fixed = fixed; tries = [] }) new →
+    → NoneBuilt t → DoAll calls (begun (opened t) fixed) new →
     (v : WorldView) → Runs (world_of t fixed.stock fixed.builders) (offering t (keys_of t)) v
-    → CallsLead v calls (record { history = opened t; fixed = fixed; tries = [] }) new
+    → CallsLead v calls (begun (opened t) fixed) new

@@ -18,6 +18,7 @@ use Rattle.td_steps.specs.Sees.{Sees, resting}
 use Rattle.td_steps.specs.Moves.{Move}
 use Rattle.td_steps.specs.Runs.{LeadsOn}
 use Rattle.td_steps.specs.Parts.{withdrawing, offering, committing, Tells}
+use Rattle.td_steps.specs.Tries.{AreMade}
 
 -- the named rows are withdrawn, where the kind has their state, or the claims of faster builders
 -- noted; an entry on those of the matched keys on which the kind applies then, if there are any;
@@ -59,5 +60,5 @@ CommandsAreSteps =
     (w : WorldView) (c : CommandParts) (old new : BookModel)
     (result : Result Taken CommandRefusal) →
     Sees w (resting old) → IsDone c old new result
-    → (moves : List Move) × CommandMoves c old result moves
+    → (moves : List Move) × CommandMoves c old result moves × AreMade old new moves
     × LeadsOn w (resting old) moves (resting new)

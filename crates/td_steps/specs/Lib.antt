@@ -4,6 +4,7 @@ pub mod Moves
 pub mod Runs
 pub mod Laws
 pub mod Parts
+pub mod Tries
 pub mod Commands
 pub mod Undos
 pub mod Arrivals

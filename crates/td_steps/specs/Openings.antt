@@ -1,5 +1,5 @@
 -- The moves of an opening. This project's own.
-use Rattle.std.specs.Prelude.{◌≡◌, ℕ, true, [], length, replicate}
+use Rattle.std.specs.Prelude.{◌≡◌, ℕ, true, length, replicate}
 use Rattle.td_board.specs.Knowledge.{new_desk}
 use Rattle.td_rows.specs.Keys.{ascending}
 use Rattle.td_rows.specs.Table.{Table, keys_of}
@@ -12,10 +12,12 @@ use Rattle.td_core.specs.declared.step.Hand.TheVariants.{Free}
 use Rattle.td_core.specs.History.{History, rows_of, opened}
 use Rattle.td_core.specs.Phases.{NoneBuilt}
 use Rattle.td_core.specs.Worlds.{WorldView, world_of}
-use Rattle.td_book.specs.Desk.{Fixed}
+use Rattle.td_book.specs.Desk.{Fixed, BookModel}
+use Rattle.td_book.specs.Tries.{first_offers}
 use Rattle.td_steps.specs.Sees.{Desk, Sees, resting}
 use Rattle.td_steps.specs.Runs.{LeadsOn}
 use Rattle.td_steps.specs.Parts.{offering}
+use Rattle.td_steps.specs.Tries.{tried_in, done_in}
 
 -- the desk before that, at a new board
 abbrev pub first_desk : Table → Stock → ℕ → Desk
@@ -27,13 +29,17 @@ first_desk t stock builders =
       builders = builders;
     }
 
+-- the book that begins with a history: every row that needs a build is offered
+abbrev pub begun : History → Fixed → BookModel
+begun h fixed = record { history = h; fixed = fixed; tries = first_offers h }
+
 -- it sees the world at its opening, in which no row is built, and offers each row that needs a
 -- build; then the book is at rest
 pub record OpensSo (t : Table) (fixed : Fixed) : Type 0 where
   pub sees : Sees (world_of t fixed.stock fixed.builders) (first_desk t fixed.stock fixed.builders)
   pub leads : LeadsOn (world_of t fixed.stock fixed.builders)
       (first_desk t fixed.stock fixed.builders) (offering t (keys_of t))
-      (resting (record { history = opened t; fixed = fixed; tries = [] }))
+      (resting (begun (opened t) fixed))
 
 -- every table of rows in order, none of which is built, opens so
 abbrev pub OpeningsAreSteps : Type 0
@@ -68,13 +74,15 @@ pub record MayOpen (h : History) : Type 0 where
   pub keys : EachHasKeys h.journal
   pub idle : NoneBuilt (rows_of h)
 
--- the desk sees that world, which is sound, and offers each row that needs a build; then the book
--- is at rest
+-- the desk sees that world, which is sound, and offers each row that needs a build, which is all
+-- that it has done at the board then; and the book is at rest
 pub record OpensWith (h : History) (fixed : Fixed) : Type 0 where
   pub sees : Sees (world_from h fixed.stock fixed.builders) (desk_from h fixed.stock fixed.builders)
   pub leads : LeadsOn (world_from h fixed.stock fixed.builders)
       (desk_from h fixed.stock fixed.builders) (offering (rows_of h) (keys_of (rows_of h)))
-      (resting (record { history = h; fixed = fixed; tries = [] }))
+      (resting (begun h fixed))
+  pub made : done_in (begun h fixed).tries
+      ≡ tried_in h.opening (offering (rows_of h) (keys_of (rows_of h)))
 
 -- every such history opens so; that before the first entry is one of them
 abbrev pub HistoriesOpen : Type 0

@@ -16,6 +16,7 @@ use Rattle.td_steps.specs.Sees.{Sees, resting}
 use Rattle.td_steps.specs.Moves.{Move, lost, note, undo}
 use Rattle.td_steps.specs.Runs.{LeadsOn}
 use Rattle.td_steps.specs.Parts.{winning, offering, Tells}
+use Rattle.td_steps.specs.Tries.{AreMade}
 
 -- entry n, of the kind on these keys, is undone: its rows are withdrawn first, where its kind has
 -- their state, and what needs a build then is offered
@@ -63,4 +64,4 @@ UndosAreSteps =
     (w : WorldView) (n : ℕ) (old new : BookModel) (result : Result (Unit {0}) UndoRefusal) →
     Sees w (resting old) → UndoAnswer (undo_stop old.history.journal n) n old new result
     → (moves : List Move) × UndoMoves (undo_stop old.history.journal n) n old result moves
-    × LeadsOn w (resting old) moves (resting new)
+    × AreMade old new moves × LeadsOn w (resting old) moves (resting new)

@@ -12,6 +12,7 @@ use Rattle.td_book.specs.declared.watching.WatchRefusal.TheVariants.{NoMemory}
 use Rattle.td_steps.specs.Sees.{Sees, resting}
 use Rattle.td_steps.specs.Moves.{Move}
 use Rattle.td_steps.specs.Runs.{LeadsOn}
+use Rattle.td_steps.specs.Tries.{AreMade}
 
 -- the history stays, and so does the seat; where the watch is refused the former one stays too
 pub record IsAside (old new : BookModel)
@@ -51,4 +52,5 @@ WatchesAreSteps =
     (w : WorldView) (groups : ℕ) (given : List (Key × ℕ)) (old new : BookModel)
     (result : Result (Unit {0}) WatchRefusal) →
     Sees w (resting old) → WatchOutcome groups given old new result
-    → (moves : List Move) × WatchMoves moves × LeadsOn w (resting old) moves (resting new)
+    → (moves : List Move) × WatchMoves moves × AreMade old new moves
+    × LeadsOn w (resting old) moves (resting new)
