@@ -19,3 +19,11 @@ pub mod Lawful
 pub mod Winning
 pub mod Reopenings
 pub mod Deeds
+pub mod RunLists
+pub mod Showing
+pub mod DeskShows
+pub mod BuilderShows
+pub mod Simulation
+pub mod Earlier
+pub mod Growth
+pub mod Schedules

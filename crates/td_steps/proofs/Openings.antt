@@ -15,7 +15,7 @@ use Rattle.td_journal.proofs.Undoing.{replay-none}
 use Rattle.td_core.proofs.Phases.{keys_of-rows_of}
 use Rattle.td_core.specs.Worlds.{InHand, IsWorld, world_of}
 use Rattle.td_core.proofs.WorldSteps.{slice_get-replicate}
-use Rattle.td_book.specs.Desk.{BookModel}
+use Rattle.td_book.specs.Desk.{Fixed}
 use Rattle.td_book.specs.Seen.{seen_off}
 use Rattle.td_book.proofs.Returns.{length-rows}
 use Rattle.td_book.proofs.Seeing.{unbuilt_off}
@@ -59,11 +59,11 @@ first-seen h s n may = record {
   fits = fit-replicate (length h.opening);
 }
 
-pub histories_open : HistoriesOpen
-histories_open h fixed may =
+pub opens-leads : (h : History) (fixed : Fixed) → MayOpen h
+    → Leads (desk_from h fixed.stock fixed.builders) (offering (rows_of h) (keys_of (rows_of h)))
+    (resting (begun h fixed))
+opens-leads h fixed may =
     let first = desk_from h fixed.stock fixed.builders in
-    let b : BookModel = begun h fixed in
-    let sees = first-seen h fixed.stock fixed.builders may in
     let ks = keys_of (rows_of h) in
     let rise = up_now h may.rising in
     let view : replicate (length h.opening) views.In ≡ seen_off ks (rows_of h) =
@@ -71,13 +71,18 @@ histories_open h fixed may =
     ∙ unbuilt_off (rows_of h) rise may.idle in
     let start : first ≡ desk_off h fixed.stock fixed.builders ks =
     ap (λ (x : List RowView). record first { view = x }) view in
-    let leads : Leads first (offering (rows_of h) ks) (resting b) =
-    subst (λ (x : Desk). Leads x (offering (rows_of h) ks) (resting b)) (sym start)
-    (offering-all h fixed.stock fixed.builders may.rising ks rise) in
+    subst (λ (x : Desk). Leads x (offering (rows_of h) ks) (resting (begun h fixed))) (sym start)
+    (offering-all h fixed.stock fixed.builders may.rising ks rise)
+
+pub histories_open : HistoriesOpen
+histories_open h fixed may =
+    let ks = keys_of (rows_of h) in
+    let sees = first-seen h fixed.stock fixed.builders may in
     record {
       sees = sees;
-      leads = leads-on (world_from h fixed.stock fixed.builders) first (resting b)
-          (offering (rows_of h) ks) sees leads;
+      leads = leads-on (world_from h fixed.stock fixed.builders)
+          (desk_from h fixed.stock fixed.builders) (resting (begun h fixed))
+          (offering (rows_of h) ks) sees (opens-leads h fixed may);
       made = done-offering h.opening (rows_of h) ks (keys_of-rows_of h);
     }
 

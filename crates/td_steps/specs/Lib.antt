@@ -17,3 +17,4 @@ pub mod Books
 pub mod Calls
 pub mod Reopenings
 pub mod Deeds
+pub mod Schedules

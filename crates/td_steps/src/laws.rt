@@ -11,6 +11,7 @@ ghost use Rattle.td_steps.specs.Laws.{MovesAreSteps, BuildersChangeNothing, Runs
 ghost use Rattle.td_steps.specs.Openings.{OpeningsAreSteps, HistoriesOpen};
 ghost use Rattle.td_steps.specs.Reopenings.{ReopeningsAreSteps, ReopenedBooksAreSteps};
 ghost use Rattle.td_steps.specs.Reopenings.{ReopenedAreReplayed};
+ghost use Rattle.td_steps.specs.Schedules.{SchedulesRun};
 ghost use Rattle.td_steps.specs.Turns.{CommandsGoOn, StartsGoOn, UndosGoOn, OthersGoOn, TurnsRun};
 ghost use Rattle.td_steps.specs.Undos.{UndosAreSteps};
 ghost use Rattle.td_steps.specs.Watches.{WatchesStayAside, WatchesAreRefusedForReasons};
@@ -141,4 +142,13 @@ pub fn an_undo_is_refused_where_blocked()
 pub fn journals_tell_the_builders_deeds()
     ensures lists { JournalsTellDeeds }
     ensures books { BooksTellDeeds }
+{}
+
+/// At every moment of every schedule of a board at whose desk's seat a book is at rest: the run of
+/// the world that begins with the book's first history is there which has the desk's steps at the
+/// board, in their order, with the entries of the book's calls and builders' steps between them. It
+/// is answered as the calls answer, and leads to the book's history and to the board's phases and
+/// hands. No choice is left free, and no run is asked for.
+pub fn schedules_are_runs()
+    ensures { SchedulesRun }
 {}
