@@ -1,6 +1,5 @@
--- Every schedule of a board at whose desk's seat a book is kept is a run of a world: the one that
--- has
--- the schedule's steps, in their order. This project's own.
+-- Every schedule of a board at whose desk's seat a book is kept is a run of a world, with the
+-- desk's steps in their order and steps of builders between them. This project's own.
 use Rattle.std.specs.Prelude.{◌≡◌, ℕ, suc, List, [], ◌∷◌, ◌++◌, length, slice_get, Some}
 use Rattle.td_board.specs.declared.views.BuilderView.{BuilderView}
 use Rattle.td_board.specs.declared.views.Hand.{Hand as BoardHand}
@@ -65,11 +64,10 @@ AreCalls (c ∷ calls) old new moves =
     × (moves ≡ first ++ rest)
 
 -- At every moment of every schedule of a board: where the desk's seat is a book's at rest, after
--- any
--- calls since the book began with a history, there is a run of the world that begins with it. Its
--- moves are the first offers and then those of the calls, the ones that the desk made at the board;
--- each is answered as told of it; and it leads to a world with the book's history that is as the
--- board is. No choice is free, and that there be a run is no premise
+-- any calls since the book began with a history, there is a run of the world that begins with it.
+-- Its moves are the first offers and then those of the calls, the ones that the desk made at the
+-- board; each is answered as told of it; and it leads to a world with the book's history that is as
+-- the board is. No choice of moves is free, and that there be a run is no premise
 abbrev pub SchedulesRun : Type 0
 SchedulesRun =
     (rows : ℕ) (m : Moment) → Reached rows m → (seat : DeskModel) → DeskKnows m seat.desk
