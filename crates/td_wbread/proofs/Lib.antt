@@ -14,3 +14,4 @@ pub mod Chosen
 pub mod Tails
 pub mod PackagePlaces
 pub mod VerbShapes
+pub mod Written

@@ -47,11 +47,11 @@ one_word place text texts q =
     ∙ ap (λ (ws : List Word). word_of place (between text) ∷ ws)
     (gap_words (place + length (between text)) 32 (quoted_line texts) refl)
 
-no_words : (place : ℕ) → words_from place [] ≡ []
+pub no_words : (place : ℕ) → words_from place [] ≡ []
 unfolding placed marks
 no_words place = refl
 
-no_quote : (place : ℕ) → open_at place (marks None []) ≡ None
+pub no_quote : (place : ℕ) → open_at place (marks None []) ≡ None
 unfolding open_at marks
 no_quote place = refl
 

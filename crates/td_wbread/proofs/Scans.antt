@@ -48,7 +48,7 @@ pub gap_open : (place b : ℕ) (text : List ℕ) → is_space b ≡ true
 unfolding open_at
 gap_open place b text h = ap (open_at place) (gap_mark b text h)
 
-skip_words : (place : ℕ) (front back : List ℕ) → list_all is_space front ≡ true
+pub skip_words : (place : ℕ) (front back : List ℕ) → list_all is_space front ≡ true
     → words_from place (front ++ back) ≡ words_from (place + length front) back
 skip_words place [] back h = let e : place ≡ place + 0 = omega arith in
     ap (λ (n : ℕ). words_from n back) e
@@ -58,7 +58,7 @@ skip_words place (b ∷ front) back h =
     gap_words place b (front ++ back) p.0 ∙ skip_words (place + 1) front back p.1
     ∙ ap (λ (n : ℕ). words_from n back) e
 
-skip_open : (place : ℕ) (front back : List ℕ) → list_all is_space front ≡ true
+pub skip_open : (place : ℕ) (front back : List ℕ) → list_all is_space front ≡ true
     → open_at place (marks None (front ++ back)) ≡ open_at (place + length front) (marks None back)
 skip_open place [] back h = let e : place ≡ place + 0 = omega arith in
     ap (λ (n : ℕ). open_at n (marks None back)) e
@@ -273,7 +273,7 @@ open_marks : (rest : List ℕ) (quote_place : ℕ) → (o : IsOpen rest quote_pl
 open_marks rest quote_place o = o.taken.marked
     ∙ ap (λ (ms : List Mark). o.front ++ ms) o.unclosed_after
 
-open_words : (place : ℕ) (rest : List ℕ) (quote_place : ℕ) → IsOpen rest quote_place
+pub open_words : (place : ℕ) (rest : List ℕ) (quote_place : ℕ) → IsOpen rest quote_place
     → words_from place rest ≡ []
 unfolding placed
 open_words place rest quote_place o =

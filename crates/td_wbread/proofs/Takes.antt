@@ -105,13 +105,13 @@ run_ends b test (x ∷ xs) after h =
 -- ---- what marks of one piece are
 
 -- a test that no byte's mark passes
-list_any-marked : (test : Mark → Bool) (mark : ℕ → Mark) → ((b : ℕ) → test (mark b) ≡ false)
+pub list_any-marked : (test : Mark → Bool) (mark : ℕ → Mark) → ((b : ℕ) → test (mark b) ≡ false)
     → (text : List ℕ) → list_any test (map mark text) ≡ false
 list_any-marked test mark none [] = refl
 list_any-marked test mark none (b ∷ text) = rw (none b, list_any-marked test mark none text) refl
 
 -- marks that stand for their bytes
-text_of-marked : (mark : ℕ → Mark) → ((b : ℕ) → letter (mark b) ≡ b ∷ []) → (text : List ℕ)
+pub text_of-marked : (mark : ℕ → Mark) → ((b : ℕ) → letter (mark b) ≡ b ∷ []) → (text : List ℕ)
     → text_of (map mark text) ≡ text
 text_of-marked mark same [] = refl
 text_of-marked mark same (b ∷ text) = rw (same b, text_of-marked mark same text) refl
@@ -122,10 +122,10 @@ or_none : (a b : Bool) → b ≡ false → (a || b) ≡ a
 or_none true b h = refl
 or_none false b h = h
 
-joined_text : (front piece : List Mark) → text_of (front ++ piece) ≡ text_of front ++ text_of piece
+pub joined_text : (front piece : List Mark) → text_of (front ++ piece) ≡ text_of front ++ text_of piece
 joined_text front piece = flat_map-append letter front piece
 
-more : (text : List ℕ) (front : List Mark) (rest : List ℕ) (piece : List Mark) (after : List ℕ)
+pub more : (text : List ℕ) (front : List Mark) (rest : List ℕ) (piece : List Mark) (after : List ℕ)
     → IsTaken text front rest → IsTaken rest piece after → IsTaken text (front ++ piece) after
 more text front rest piece after t p = record {
   marked = t.marked ∙ ap (λ (ms : List Mark). front ++ ms) p.marked
@@ -137,7 +137,7 @@ more text front rest piece after t p = record {
   long = (let l = t.long in let m = p.long in simp length-append (omega arith));
 }
 
-plain_line : (text : List ℕ) → list_all is_plain text ≡ true → has_newline text ≡ false
+pub plain_line : (text : List ℕ) → list_all is_plain text ≡ true → has_newline text ≡ false
 plain_line [] h = refl
 plain_line (b ∷ text) h =
     let p = and_parts (is_plain b) (list_all is_plain text) h in
@@ -167,7 +167,7 @@ pub between_text : (inside : List ℕ) → text_of (between inside) ≡ inside
 between_text inside = joined_text (map quoted inside) (quote ∷ [])
     ∙ append-nil (text_of (map quoted inside)) ∙ text_of-marked quoted (λ b. refl) inside
 
-closing_is : (q : ℕ) (text inside after : List ℕ) → Some (inside, after) ≡ closing (cut q text)
+pub closing_is : (q : ℕ) (text inside after : List ℕ) → Some (inside, after) ≡ closing (cut q text)
     → (closes q text ≡ true) × (text ≡ inside ++ q ∷ after) × Without q inside
     × (has_newline inside ≡ false)
 closing_is q text inside after h = by (cut q text) refl h

@@ -18,3 +18,4 @@ pub mod Views
 pub mod Words
 pub mod VerbLaws
 pub mod inner
+pub mod WordLaws

@@ -5,10 +5,17 @@ ghost use Rattle.td_wbread.specs.Laws.{QuotedWordsAreRead};
 ghost use Rattle.td_wbread.specs.PackageLaws.{PackagesAreExact};
 ghost use Rattle.td_wbread.specs.TailLaws.{TailsAreExact};
 ghost use Rattle.td_wbread.specs.VerbLaws.{VerbsAreExact};
+ghost use Rattle.td_wbread.specs.WordLaws.{WordsAreExact};
 
 /// Any texts without a newline and without `'` can be written as the words of a line.
 pub fn quoted_words_are_read()
     ensures { QuotedWordsAreRead }
+{}
+
+/// A line has these words, each at its place, and this end exactly where it is written so: pieces
+/// without quotes or between two of them that touch, and whitespace between words.
+pub fn words_are_exact()
+    ensures { WordsAreExact }
 {}
 
 /// Words are read as packages exactly where each is one, and a dot stands behind them.

@@ -3,9 +3,9 @@
 //! Start at `read_command`; `Command::is_named`, `is_matched` and `is_bare` say which rows a
 //! command names, and with which versions, `kind_of` what it does to them. A caller matches on
 //! `&command.verb`.
-//! `specs/Words.antt` says what the words of a line are, quoted as in a shell, `specs/Command.antt`
-//! which words are a command, and what is wrong first with others, and `specs/Naming.antt` which
-//! rows are named. Quotes have no escapes, and don't go over lines.
+//! `specs/WordLaws.antt` says what the words of a line are, quoted as in a shell,
+//! `specs/Command.antt` which words are a command, and what is wrong first with others, and
+//! `specs/Naming.antt` which rows are named. Quotes have no escapes, and don't go over lines.
 //! Promised: a line is read exactly where it is a command, as that command, else the first fault
 //! from the left is named, with its place.
 #![tactic(auto)]
@@ -31,7 +31,7 @@ pub use fault::{CommandFault, LineFault};
 pub use kind::kind_of;
 pub use laws::{
     archs_are_exact, choice_is_exact, packages_are_exact, quoted_words_are_read, tails_are_exact,
-    verbs_are_exact,
+    verbs_are_exact, words_are_exact,
 };
 pub use package_reading::read_version;
 pub use reading::read_command;
