@@ -198,7 +198,7 @@ packages_found end words front rest h =
               ≡ true) f all;
         }
 
-packages_read : (end : End) (front rest : List Word) (dot : Word) → is_dot dot ≡ true
+pub packages_read : (end : End) (front rest : List Word) (dot : Word) → is_dot dot ≡ true
     → list_any is_dot front ≡ false → 0 < length front
     → list_all (λ (w : Word). is_package w.text) front ≡ true
     → packages_at end (front ++ dot ∷ rest) ≡ Ok (front, rest)

@@ -15,3 +15,8 @@ pub mod Tails
 pub mod PackagePlaces
 pub mod VerbShapes
 pub mod Written
+pub mod ListFaults
+pub mod VerbFaults
+pub mod HeadOrder
+pub mod TailFaults
+pub mod CommandFaults

@@ -71,7 +71,7 @@ FlagIs verb seen word Message = (is_message word ≡ true) × (takes_message ver
 FlagIs verb seen word ExtraDepends = (is_extra word ≡ true) × (takes_extra verb ≡ true)
     × (is_none seen.extra ≡ true)
 
-flag_is : (verb : Verb) (seen : Values) (word : Word) (flag : Flag)
+pub flag_is : (verb : Verb) (seen : Values) (word : Word) (flag : Flag)
     → flag_at verb seen word ≡ Ok flag → FlagIs verb seen word flag
 flag_is verb seen word flag h = by (is_message word && (takes_message verb && is_none seen.message))
     (is_extra word && (takes_extra verb && is_none seen.extra)) refl refl h
@@ -93,8 +93,8 @@ flag_is verb seen word flag h = by (is_message word && (takes_message verb && is
     by false false is other g = absurd cc
 
 -- a word isn't both
-not_both : (word : Word) → is_extra word ≡ true → is_message word ≡ false
-not_both word is =
+pub extra_alone : (word : Word) → is_extra word ≡ true → is_message word ≡ false
+extra_alone word is =
     let p = and_parts word.is_bare (bytes_eq word.text (codes "--extra-depends")) is in
     let text : word.text ≡ codes "--extra-depends" =
     (bytes_eq-Decides word.text (codes "--extra-depends")).0 p.1 in
@@ -112,7 +112,7 @@ relation_is value x h = by (is_relation value.text) h
     by true g = refl
     by false g = absurd cc
 
-value_is : (verb : Verb) (flag : Flag) (seen more : Values) (value : Word)
+pub value_is : (verb : Verb) (flag : Flag) (seen more : Values) (value : Word)
     → valued verb flag seen value ≡ Ok more
     → (with_value flag seen value ≡ more) × ValueFits verb flag value
 value_is verb flag seen more value h = by (wants_relation verb flag) refl h
@@ -213,7 +213,7 @@ module _ (verb : Verb) (end : End) where
       → is_none seen.extra ≡ true → flag_at verb seen word ≡ Ok ExtraDepends
   extra_flag seen word value x none =
       ap (λ (a : Bool). picked word (a && (takes_message verb && is_none seen.message))
-      (is_extra word && (takes_extra verb && is_none seen.extra))) (not_both word x.sign)
+      (is_extra word && (takes_extra verb && is_none seen.extra))) (extra_alone word x.sign)
       ∙ ap (picked word false)
       (and_from (is_extra word) (takes_extra verb && is_none seen.extra) x.sign
       (and_from (takes_extra verb) (is_none seen.extra) x.taken none))
@@ -344,14 +344,14 @@ module _ (verb : Verb) (end : End) where
   ended values is may = subst (λ v. finished verb end no_values ≡ Ok v) (sym is)
       (end_found verb end no_values (subst (MayEnd verb end) is may))
 
-  push_message : (seen : Values) (word value : Word) (words : List Word) → IsMessage verb word value
+  pub push_message : (seen : Values) (word value : Word) (words : List Word) → IsMessage verb word value
       → is_none seen.message ≡ true
       → options_at verb end seen (word ∷ value ∷ words) ≡ options_at verb end
       (with_value Message seen value) words
   push_message seen word value words m none =
       push seen word value words Message (message_flag seen word value m none) m.relation
 
-  push_extra : (seen : Values) (word value : Word) (words : List Word) → IsExtra verb word value
+  pub push_extra : (seen : Values) (word value : Word) (words : List Word) → IsExtra verb word value
       → is_none seen.extra ≡ true
       → options_at verb end seen (word ∷ value ∷ words) ≡ options_at verb end
       (with_value ExtraDepends seen value) words

@@ -34,11 +34,11 @@ all_before (x ∷ front) none =
     by true g later = absurd cc
     by false g later = let e = later g in omega arith
 
-before_all : (front : List Word) → list_any is_dot front ≡ false → before_dot front ≡ front
+pub before_all : (front : List Word) → list_any is_dot front ≡ false → before_dot front ≡ front
 before_all front none = let e = all_before front none in
     take_all (position_or_len is_dot front) front (omega arith)
 
-behind_all : (front : List Word) → list_any is_dot front ≡ false → behind_dot front ≡ None
+pub behind_all : (front : List Word) → list_any is_dot front ≡ false → behind_dot front ≡ None
 behind_all front none = by (ltb (position_or_len is_dot front) (length front))
     (le-ltb _ _ (let e = all_before front none in omega arith))
   where

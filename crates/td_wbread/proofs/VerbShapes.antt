@@ -39,12 +39,12 @@ all_digits : (text : List ℕ) → list_all is_ascii_digit text ≡ all_ascii_di
 all_digits [] = refl
 all_digits (x ∷ text) = ap (λ b. is_ascii_digit x && b) (all_digits text)
 
-digits_are : (text : List ℕ) → is_digits text ≡ true → AreDigits text
+pub digits_are : (text : List ℕ) → is_digits text ≡ true → AreDigits text
 digits_are text h =
     let p = and_parts (ltb 0 (length text)) (list_all is_ascii_digit text) h in
     record { some = ltb-true 0 (length text) p.0; digits = sym (all_digits text) ∙ p.1 }
 
-digits_found : (text : List ℕ) → AreDigits text → is_digits text ≡ true
+pub digits_found : (text : List ℕ) → AreDigits text → is_digits text ≡ true
 digits_found text d = rw (lt-ltb 0 (length text) d.some, all_digits text, d.digits) refl
 
 size_is : (text : List ℕ) (n : ℕ) → size_at text ≡ Some n → IsSize text n
@@ -69,7 +69,7 @@ size_found text n s = rw (
   le-leb n 9999 s.bounded,
 ) refl
 
-priority_is : (text : List ℕ) (priority : ℤ) → priority_at text ≡ Some priority
+pub priority_is : (text : List ℕ) (priority : ℤ) → priority_at text ≡ Some priority
     → IsPriority text priority
 unfolding priority_at
 priority_is text priority h = by (strip (codes "-") text) refl h
@@ -95,7 +95,7 @@ unsigned : (size rest : List ℕ) → all_ascii_digits size ≡ true → size �
 unsigned size rest digits is = let bad : all_ascii_digits (45 ∷ rest) ≡ true =
     ap all_ascii_digits (sym is) ∙ digits in cc
 
-priority_found : (text : List ℕ) (priority : ℤ) → IsPriority text priority
+pub priority_found : (text : List ℕ) (priority : ℤ) → IsPriority text priority
     → priority_at text ≡ Some priority
 unfolding priority_at
 priority_found text priority (size, n, is, inl (written, value)) =
@@ -136,7 +136,7 @@ dot_found : (word : Word) → IsDot word → is_dot word ≡ true
 dot_found word d = and_from word.is_bare (bytes_eq word.text (codes ".")) d.0
     ((bytes_eq-Decides word.text (codes ".")).1 d.1)
 
-on_is : (end : End) (words : List Word) → goes_on end words ≡ true → GoesOn end words
+pub on_is : (end : End) (words : List Word) → goes_on end words ≡ true → GoesOn end words
 on_is (Closed place) [] h = absurd cc
 on_is (Open place) [] h = tt
 on_is (Closed place) (word ∷ words) h = λ dot. let e = ap not (dot_found word dot) in cc
@@ -146,7 +146,7 @@ other_word : (word : Word) (b : Bool) → is_dot word ≡ b → (IsDot word → 
 other_word word true e other = absurd (other (dot_is word e))
 other_word word false e other = refl
 
-on_found : (end : End) (words : List Word) → GoesOn end words → goes_on end words ≡ true
+pub on_found : (end : End) (words : List Word) → GoesOn end words → goes_on end words ≡ true
 on_found (Closed place) [] h = absurd h
 on_found (Open place) [] h = refl
 on_found (Closed place) (word ∷ words) h = other_word word (is_dot word) refl h

@@ -19,3 +19,5 @@ pub mod Words
 pub mod VerbLaws
 pub mod inner
 pub mod WordLaws
+pub mod HeadFaults
+pub mod TailFaults

@@ -1,8 +1,11 @@
 //! Laws of the definitions, for one who doubts them.
 ghost use Rattle.td_wbread.specs.ArchLaws.{ArchsAreExact};
 ghost use Rattle.td_wbread.specs.ChoiceLaws.{ChoiceIsExact};
+ghost use Rattle.td_wbread.specs.HeadFaults.{ArchFaultsAreExact, HeadFaultsAreExact};
+ghost use Rattle.td_wbread.specs.HeadFaults.{PackageFaultsAreExact, VerbFaultsAreExact};
 ghost use Rattle.td_wbread.specs.Laws.{QuotedWordsAreRead};
 ghost use Rattle.td_wbread.specs.PackageLaws.{PackagesAreExact};
+ghost use Rattle.td_wbread.specs.TailFaults.{CommandFaultsAreExact, TailFaultsAreExact};
 ghost use Rattle.td_wbread.specs.TailLaws.{TailsAreExact};
 ghost use Rattle.td_wbread.specs.VerbLaws.{VerbsAreExact};
 ghost use Rattle.td_wbread.specs.WordLaws.{WordsAreExact};
@@ -46,4 +49,20 @@ pub fn tails_are_exact()
 /// `nmu` and a number behind which another word or an open quote comes; `bp` and a priority; `dw`.
 pub fn verbs_are_exact()
     ensures { VerbsAreExact }
+{}
+
+/// The head of a line is refused with a fault exactly where that is what is wrong first: with the
+/// verb or its number; with the packages or their dot; or with the architectures.
+pub fn head_faults_are_exact()
+    ensures verbs { VerbFaultsAreExact }
+    ensures packages { PackageFaultsAreExact }
+    ensures archs { ArchFaultsAreExact }
+    ensures heads { HeadFaultsAreExact }
+{}
+
+/// A line is refused with a fault exactly where that is what is wrong first, at its place: with the
+/// head of its words, or with what follows the architectures.
+pub fn command_faults_are_exact()
+    ensures tails { TailFaultsAreExact }
+    ensures commands { CommandFaultsAreExact }
 {}
