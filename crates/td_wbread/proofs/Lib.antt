@@ -20,3 +20,4 @@ pub mod VerbFaults
 pub mod HeadOrder
 pub mod TailFaults
 pub mod CommandFaults
+pub mod Within

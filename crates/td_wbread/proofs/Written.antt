@@ -189,7 +189,7 @@ first_open place text word rest f =
     ∙ ap (λ (n : ℕ). open_at n (marks None rest)) next
 
 -- how many bytes the first word takes
-first_long : (place : ℕ) (text : List ℕ) (word : Word) (rest : List ℕ)
+pub first_long : (place : ℕ) (text : List ℕ) (word : Word) (rest : List ℕ)
     → (f : IsFirstWord place text word rest)
     → word.place + length (written f.pieces) + length rest ≡ place + length text
 first_long place text word rest f =

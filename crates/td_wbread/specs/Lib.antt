@@ -21,3 +21,4 @@ pub mod inner
 pub mod WordLaws
 pub mod HeadFaults
 pub mod TailFaults
+pub mod PlaceLaws

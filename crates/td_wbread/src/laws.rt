@@ -5,6 +5,7 @@ ghost use Rattle.td_wbread.specs.HeadFaults.{ArchFaultsAreExact, HeadFaultsAreEx
 ghost use Rattle.td_wbread.specs.HeadFaults.{PackageFaultsAreExact, VerbFaultsAreExact};
 ghost use Rattle.td_wbread.specs.Laws.{QuotedWordsAreRead};
 ghost use Rattle.td_wbread.specs.PackageLaws.{PackagesAreExact};
+ghost use Rattle.td_wbread.specs.PlaceLaws.{PlacesLieWithin};
 ghost use Rattle.td_wbread.specs.TailFaults.{CommandFaultsAreExact, TailFaultsAreExact};
 ghost use Rattle.td_wbread.specs.TailLaws.{TailsAreExact};
 ghost use Rattle.td_wbread.specs.VerbLaws.{VerbsAreExact};
@@ -65,4 +66,9 @@ pub fn head_faults_are_exact()
 pub fn command_faults_are_exact()
     ensures tails { TailFaultsAreExact }
     ensures commands { CommandFaultsAreExact }
+{}
+
+/// The place of a line's fault is a byte of the line, or its length.
+pub fn places_lie_within()
+    ensures { PlacesLieWithin }
 {}

@@ -31,7 +31,8 @@ pub use fault::{CommandFault, LineFault};
 pub use kind::kind_of;
 pub use laws::{
     archs_are_exact, choice_is_exact, command_faults_are_exact, head_faults_are_exact,
-    packages_are_exact, quoted_words_are_read, tails_are_exact, verbs_are_exact, words_are_exact,
+    packages_are_exact, places_lie_within, quoted_words_are_read, tails_are_exact, verbs_are_exact,
+    words_are_exact,
 };
 pub use package_reading::read_version;
 pub use reading::read_command;

@@ -107,6 +107,7 @@ fn read_from<'a>(
 }
 
 /// Reads a command line; `suites` are the names that may stand behind the architectures.
+/// `command_faults_are_exact` says which fault is the first, and `places_lie_within` where it lies.
 pub fn read_command<'a>(
     alloc: Global,
     line: &str,
