@@ -95,6 +95,7 @@ fn put_where(out: &mut String, place: Place, text: &str) -> Result<(), AllocErro
 }
 
 /// The line that says what stands at a place of the text with this role, and what is wanted there.
+/// `places_are_found` says which line, stanza or byte a place is.
 pub fn explain(
     alloc: Global,
     role: &str,

@@ -1,6 +1,5 @@
 -- What is wrong with a text that is no relation: its first fault from the left. The parts are those
--- of Debian Policy 7.1 and 7.5 and of deb-src-control(5); the order of faults is this project's
--- own.
+-- of Debian Policy 7.1 and 7.5 and deb-src-control(5); the faults' order is this project's own.
 use Rattle.std.specs.Prelude.{◌≡◌, ◌↔◌, ◌⊎◌, ℕ, ◌==◌, Bool, false, IsTrue, List, [], ◌∷◌, ◌++◌}
 use Rattle.std.specs.Prelude.{Option, Some, Err, map}
 use Rattle.std.specs.List.{list_all, AllByRecursion}
@@ -27,15 +26,15 @@ use Rattle.td_relation.specs.Spacing.{AreWords, SpacedProfiles, SpacedAlternativ
 use Rattle.td_relation.specs.Spacing.{profiles_then, spaced_alternative, spaced_member}
 use Rattle.td_relation.specs.Spacing.{ProfilesAreSpaced, IsSpaced, MemberIsSpaced, IsRelation}
 
--- ---- 1. the parts of an alternative, and what stands behind each
+-- ---- 1. the parts of an alternative, and what follows each
 
 -- the text doesn't go on with a byte of this kind
 abbrev pub GoesOnWithout : (ℕ → Bool) → List ℕ → Type 0
 GoesOnWithout kind [] = Unit {0}
 GoesOnWithout kind (b ∷ text) = kind b ≡ false
 
--- A package's name stands at the front, with a qualifier or none. Behind it and whitespace stands
--- the rest: nothing, or a `(`, `[` or `<`, and what follows it.
+-- The text begins with a package's name, with a qualifier or none. After it and whitespace comes
+-- the rest: nothing, or a `(`, `[` or `<` and more.
 pub record HasName (text rest : List ℕ) : Type 0 where
   pub front : List ℕ
   pub name : List ℕ
@@ -48,7 +47,7 @@ pub record HasName (text rest : List ℕ) : Type 0 where
   pub apart : IsTrue (is_blank space)
   pub ends : IsTrue (ends_a_name rest)
 
--- Behind a `(` stands an operator, and then the rest, which doesn't make it longer.
+-- What follows a `(` is an operator, and then the rest, which doesn't make the operator longer.
 pub record HasOperator (text rest : List ℕ) : Type 0 where
   pub operator : Operator
   pub space : List ℕ
@@ -56,7 +55,7 @@ pub record HasOperator (text rest : List ℕ) : Type 0 where
   pub blank : IsTrue (is_blank space)
   pub ends : GoesOnWithout is_operator_byte rest
 
--- Behind an operator stand a version and a `)`, and then the rest.
+-- What follows an operator is a version, a `)`, and then the rest.
 pub record HasVersion (text rest : List ℕ) : Type 0 where
   pub version : List ℕ
   pub parts : Parts
@@ -67,7 +66,7 @@ pub record HasVersion (text rest : List ℕ) : Type 0 where
   pub blank_end : IsTrue (is_blank end)
   pub legal : IsVersion version parts
 
--- Behind a `)` and whitespace stands the rest: nothing, or a `[` or `<`, and what follows it.
+-- What follows a `)` is whitespace, and then the rest: nothing, or a `[` or `<` and more.
 pub record IsFollowed (text rest : List ℕ) : Type 0 where
   pub space : List ℕ
   pub joined : text ≡ space ++ rest
@@ -89,7 +88,7 @@ abbrev pub MayBeRestricted : List ℕ → List ℕ → Type 0
 MayBeRestricted text rest =
     (GoesOnWithout (λ b. b == 40) text × (text ≡ rest)) ⊎ HasRestriction text rest
 
--- Behind a `[` stand the words of an architecture list and a `]`, and then the rest.
+-- What follows a `[` is the words of an architecture list, a `]`, and then the rest.
 pub record HasArchs (text rest : List ℕ) : Type 0 where
   pub list : WrittenArchs
   pub inside : List ℕ
@@ -114,7 +113,7 @@ pub record AreProfiles (text : List ℕ) : Type 0 where
 
 -- ---- 2. the fault of an alternative
 
--- The fault of an alternative's text: the parts in front are there, and the next one isn't.
+-- The fault of an alternative's text: the parts before it are there, and the next one isn't.
 abbrev pub HasFault : List ℕ → RelationFault → Type 0
 HasFault text BadName = (rest : List ℕ) → ¬ HasName text rest
 HasFault text BadOperator =
@@ -167,7 +166,7 @@ IsFirstFault text fault =
 
 -- ---- 4. the laws
 
--- a text is refused with a fault exactly where that is its first fault
+-- a text is refused with a fault if and only if that is its first fault
 abbrev pub FirstFaultsAreExact : Type 0
 FirstFaultsAreExact = (text : List ℕ) (fault : RelationFault)
     → (relation_at text ≡ Err fault) ↔ IsFirstFault text fault
@@ -177,13 +176,13 @@ abbrev pub FirstFaultsAreOne : Type 0
 FirstFaultsAreOne = (text : List ℕ) (fault other : RelationFault)
     → IsFirstFault text fault → IsFirstFault text other → fault ≡ other
 
--- each text is a relation or has a first fault ..
+-- each text is a relation or has a first fault
 abbrev pub RelationOrFault : Type 0
 RelationOrFault = (text : List ℕ)
     → ((asked : List (List Asked)) × IsRelation text asked)
     ⊎ ((fault : RelationFault) × IsFirstFault text fault)
 
--- .. and none is both
+-- no text is a relation and has a first fault
 abbrev pub RelationsHaveNoFault : Type 0
 RelationsHaveNoFault = (text : List ℕ) (asked : List (List Asked)) (fault : RelationFault)
     → IsRelation text asked → ¬ IsFirstFault text fault

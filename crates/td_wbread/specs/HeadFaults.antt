@@ -28,22 +28,22 @@ abbrev pub IsVerbWord : Word → Type 0
 IsVerbWord word = (word.text ≡ codes "gb") ⊎ ((word.text ≡ codes "nmu")
     ⊎ ((word.text ≡ codes "bp") ⊎ (word.text ≡ codes "dw")))
 
--- No word stands there, or one that is no verb.
+-- There is no word, or the first one is no verb.
 abbrev pub IsNoVerb : End → List Word → CommandFault → Type 0
 IsNoVerb end words fault =
     ((words ≡ []) × (fault ≡ missing end UnknownCommand))
     ⊎ ((word : Word) × (rest : List Word) × (words ≡ word ∷ rest) × (¬ IsVerbWord word)
     × (fault ≡ Wrong UnknownCommand word.place))
 
--- Behind `bp` stands no word, or one that is no priority.
+-- After `bp` comes no word, or one that is no priority.
 abbrev pub IsNoPriority : End → List Word → CommandFault → Type 0
 IsNoPriority end words fault =
     (Follows (codes "bp") words [] × (fault ≡ missing end BadNumber))
     ⊎ ((number : Word) × (rest : List Word) × Follows (codes "bp") words (number ∷ rest)
     × ((priority : ℤ) → ¬ IsPriority number.text priority) × (fault ≡ Wrong BadNumber number.place))
 
--- Behind `nmu` stands a word of digits, which is its number since another follows, and it is none
--- that a rebuild has.
+-- After `nmu` comes a word of digits, which is its number since another word follows, and no
+-- rebuild has that number.
 abbrev pub IsNoRebuild : End → List Word → CommandFault → Type 0
 IsNoRebuild end words fault = (number : Word) × (rest : List Word)
     × Follows (codes "nmu") words (number ∷ rest) × BeginsWithNumber end (number ∷ rest)
@@ -61,7 +61,7 @@ pub record AllPass (test : List ℕ → Bool) (words : List Word) : Type 0 where
   pub no_dot : list_any is_dot words ≡ false
   pub all : list_all (λ w. test w.text) words ≡ true
 
--- Of the words up to a dot or the end this is the first that doesn't pass the test.
+-- The word is the first, up to a dot or the end, that doesn't pass the test.
 pub record IsFirstOther (test : List ℕ → Bool) (words : List Word) (word : Word) : Type 0 where
   pub front : List Word
   pub rest : List Word
@@ -70,7 +70,7 @@ pub record IsFirstOther (test : List ℕ → Bool) (words : List Word) (word : W
   pub no_dot : is_dot word ≡ false
   pub other : test word.text ≡ false
 
--- no word stands there, or the dot is the first
+-- there is no word, or the first one is the dot
 abbrev pub IsUnfilled : End → LineFault → List Word → CommandFault → Type 0
 IsUnfilled end what words fault =
     ((words ≡ []) × (fault ≡ missing end what))
@@ -79,7 +79,7 @@ IsUnfilled end what words fault =
 
 -- ---- 3. packages
 
--- what is wrong with the packages: there is none; a word is none; or no dot stands behind them
+-- what is wrong with the packages: there is none; a word is no package; or no dot follows them
 abbrev pub IsPackageFault : End → List Word → CommandFault → Type 0
 IsPackageFault end words fault =
     IsUnfilled end NoPackage words fault
@@ -112,23 +112,23 @@ IsHeadFault table end words fault =
     × IsVerb end words verb rest × ArePackages rest packages behind
     × IsArchFault table end behind fault))
 
--- a verb is refused with a fault exactly where that is what is wrong with it
+-- a verb is refused with a fault if and only if that is what is wrong with it
 abbrev pub VerbFaultsAreExact : Type 0
 VerbFaultsAreExact = (end : End) (words : List Word) (fault : CommandFault)
     → (verb_at end words ≡ Err fault) ↔ IsVerbFault end words fault
 
--- so are packages ..
+-- packages are refused with a fault if and only if that is what is wrong with them
 abbrev pub PackageFaultsAreExact : Type 0
 PackageFaultsAreExact = (end : End) (words : List Word) (fault : CommandFault)
     → (packages_at end words ≡ Err fault) ↔ IsPackageFault end words fault
 
--- .. architectures ..
+-- architectures are refused with a fault if and only if that is what is wrong with them
 abbrev pub ArchFaultsAreExact : Type 0
 ArchFaultsAreExact = (table : List ArchWords) (end : End) (words : List Word)
     (fault : CommandFault)
     → (archs_at table end words ≡ Err fault) ↔ IsArchFault table end words fault
 
--- .. and a head as a whole
+-- a head is refused with a fault if and only if that is what is wrong first with it
 abbrev pub HeadFaultsAreExact : Type 0
 HeadFaultsAreExact = (table : List ArchWords) (end : End) (words : List Word)
     (fault : CommandFault)

@@ -43,35 +43,35 @@ MayStand verb seen word Message =
 MayStand verb seen word ExtraDepends =
     (is_extra word ≡ true) × (takes_extra verb ≡ true) × (seen.extra ≡ None)
 
--- what is wrong behind an option: its value is missing, or isn't the relation that it has to be
+-- what is wrong after an option: its value is missing, or isn't the relation that it has to be
 abbrev pub IsValueFault : Verb → End → Flag → List Word → CommandFault → Type 0
 IsValueFault verb end flag [] fault = fault ≡ missing end (missing_value flag)
 IsValueFault verb end flag (value ∷ words) fault = (wants_relation verb flag ≡ true)
     × (is_relation value.text ≡ false) × (fault ≡ Wrong BadRelation value.place)
 
--- what is wrong where the options before it have these values: the end; a word that is no option
--- there; or what follows an option
+-- what is wrong after options with these values: the end; a word that is no option there; or what
+-- follows an option
 abbrev pub IsNextFault : Verb → End → Values → List Word → CommandFault → Type 0
 IsNextFault verb end seen [] fault = IsEndFault verb end seen fault
 IsNextFault verb end seen (word ∷ words) fault =
     (((flag : Flag) → ¬ MayStand verb seen word flag) × (fault ≡ Wrong Extra word.place))
     ⊎ ((flag : Flag) × MayStand verb seen word flag × IsValueFault verb end flag words fault)
 
--- what is wrong first with words that should be options: those before it are options
+-- what is wrong first with words that should be options: the words before it are options
 abbrev pub IsOptionFault : Verb → End → List Word → CommandFault → Type 0
 IsOptionFault verb end words fault = (front : List Word) × (rest : List Word) × (seen : Values)
     × (words ≡ front ++ rest) × AreOptions verb front seen × IsNextFault verb end seen rest fault
 
 -- ---- 3. what follows the architectures
 
--- behind a suite
+-- what is wrong first after a suite
 abbrev pub IsSuiteFault : Verb → End → List Word → CommandFault → Type 0
 IsSuiteFault verb end [] fault = IsEndFault verb end no_values fault
 IsSuiteFault verb end (word ∷ words) fault =
     ((is_dot word ≡ false) × (fault ≡ Wrong Extra word.place))
     ⊎ ((is_dot word ≡ true) × IsOptionFault verb end words fault)
 
--- behind the dot that follows the architectures
+-- what is wrong first after the dot that follows the architectures
 abbrev pub IsDotFault : Verb → List (List ℕ) → End → List Word → CommandFault → Type 0
 IsDotFault verb suites end [] fault = IsEndFault verb end no_values fault
 IsDotFault verb suites end (word ∷ words) fault =
@@ -81,7 +81,7 @@ IsDotFault verb suites end (word ∷ words) fault =
     ⊎ ((is_option word ≡ false) × (is_suite suites word.text ≡ false)
     × (fault ≡ Wrong UnknownSuite word.place)))
 
--- behind the architectures
+-- what is wrong first after the architectures
 abbrev pub IsTailFault : Verb → List (List ℕ) → End → Option (List Word) → CommandFault → Type 0
 IsTailFault verb suites end None fault = IsEndFault verb end no_values fault
 IsTailFault verb suites end (Some words) fault = IsDotFault verb suites end words fault
@@ -102,13 +102,13 @@ IsCommandFault table suites line fault = (words : List Word) × (end : End)
     × AreWords 0 words end line
     × (IsHeadFault table end words fault ⊎ IsLateFault table suites end words fault)
 
--- what follows the architectures is refused with a fault exactly where that is what is wrong first
+-- what follows the architectures is refused with a fault if and only if that is wrong first
 abbrev pub TailFaultsAreExact : Type 0
 TailFaultsAreExact = (verb : Verb) (suites : List (List ℕ)) (end : End)
     (behind : Option (List Word)) (fault : CommandFault)
     → (tail_at verb suites end behind ≡ Err fault) ↔ IsTailFault verb suites end behind fault
 
--- and so is a line
+-- a line is refused with a fault, at its place, if and only if that is wrong first with it
 abbrev pub CommandFaultsAreExact : Type 0
 CommandFaultsAreExact = (table : List ArchWords) (suites : List (List ℕ)) (line : List ℕ)
     (fault : CommandFault)

@@ -18,9 +18,8 @@ pub data Piece : Type 0 where
   Bare : List ℕ → Piece
   Quoted : ℕ → List ℕ → Piece
 
--- outside quotes stands neither whitespace nor a quote; between two quotes, `"` or `'`, neither
--- that
--- quote nor a newline
+-- a piece without quotes has no whitespace and no quote; one between two quotes, `"` or `'`, has
+-- neither that quote nor a newline
 abbrev pub PieceFits : Piece → Type 0
 PieceFits (Bare text) = IsTrue (list_all is_plain text)
 PieceFits (Quoted q text) = IsTrue (is_quote q) × Without q text × (has_newline text ≡ false)
@@ -44,8 +43,8 @@ is_unquoted (Quoted q text) = false
 abbrev pub written : List Piece → List ℕ
 written pieces = flat_map piece_text pieces
 
--- Behind whitespace at the front of the text stands this word, and behind it the rest: nothing, or
--- whitespace. The text begins at this place of its line, and the word where its first piece does.
+-- The text, which begins at this place of its line, is whitespace, this word, and the rest:
+-- nothing, or whitespace and more. The word's place is that of its first piece.
 pub record IsFirstWord (place : ℕ) (text : List ℕ) (word : Word) (rest : List ℕ) : Type 0 where
   pub space : List ℕ
   pub pieces : List Piece
@@ -63,7 +62,7 @@ abbrev pub StaysOpen : ℕ → List ℕ → Type 0
 StaysOpen q text = (inside after : List ℕ) → text ≡ inside ++ q ∷ after → Without q inside
     → has_newline inside ≡ true
 
--- Behind whitespace and pieces of a word, or none, stands a quote that isn't closed.
+-- The text is whitespace, pieces of a word or none, and then a quote that isn't closed.
 pub record EndsOpen (place : ℕ) (text : List ℕ) (quote_place : ℕ) : Type 0 where
   pub space : List ℕ
   pub pieces : List Piece
@@ -76,8 +75,8 @@ pub record EndsOpen (place : ℕ) (text : List ℕ) (quote_place : ℕ) : Type 0
   pub stays : StaysOpen q inside
   pub stands : quote_place ≡ place + length space + length (written pieces)
 
--- what may stand behind the last word: whitespace up to the line's end, or a quote that isn't
--- closed; the text begins at this place of its line
+-- what may follow the last word: whitespace up to the line's end, or a quote that isn't closed; the
+-- text begins at this place of its line
 abbrev pub EndsLine : ℕ → End → List ℕ → Type 0
 EndsLine place (Closed len) text = IsTrue (is_blank text) × (len ≡ place + length text)
 EndsLine place (Open quote_place) text = EndsOpen place text quote_place
@@ -89,7 +88,7 @@ AreWords place (word ∷ words) end text =
     (rest : List ℕ) × (first : IsFirstWord place text word rest)
     × AreWords (word.place + length (written first.pieces)) words end rest
 
--- a line has these words and this end exactly where they are written so
+-- a line has these words and this end if and only if it is written so
 abbrev pub WordsAreExact : Type 0
 WordsAreExact = (line : List ℕ) (words : List Word) (end : End)
     → ((words_of line ≡ words) × (end_of line ≡ end)) ↔ AreWords 0 words end line
