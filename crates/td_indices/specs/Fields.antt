@@ -16,6 +16,7 @@ use Rattle.td_relation.specs.RelationGrammar.{relation_at}
 use Rattle.td_text.specs.Runs.{is_blank}
 use Rattle.td_relation.specs.declared.relation.Relation.{Relation}
 use Rattle.td_relation.specs.declared.relation_fault.RelationFault.{RelationFault}
+use Rattle.td_relation.specs.declared.relation_fault.RelationFault.TheVariants as relation
 use Rattle.td_indices.specs.declared.archive_fault.IndexField.{IndexField}
 use Rattle.td_indices.specs.declared.archive_fault.RelationField.{RelationField}
 use Rattle.td_indices.specs.declared.archive_fault.RelationField.TheVariants.{Depends, PreDepends}
@@ -63,6 +64,12 @@ abbrev pub relation_or_bad : RelationField → Result (List (List Asked)) Relati
     → Result (List (List Asked)) EntryFault
 relation_or_bad field (Ok members) = Ok members
 relation_or_bad field (Err fault) = Err (BadRelation field)
+
+-- the fault of a field that can't be read as a relation for this cause: a bad relation, unless
+-- memory ran out
+abbrev pub unread_relation : RelationField → RelationFault → EntryFault
+unread_relation field relation.NoMemory = NoMemory
+unread_relation field fault = BadRelation field
 
 -- what a relation field asks: nothing where it isn't there, or has whitespace alone (that it may is
 -- this project's own)

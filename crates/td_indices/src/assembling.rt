@@ -2,7 +2,7 @@
 ghost use Rattle.std.specs.Prelude.{ℕ, List, IfOk, IfErr};
 ghost use Rattle.td_relation.specs.Arch.{ArchWords};
 ghost use Rattle.td_indices.specs.Archive.{FaultOf};
-ghost use Rattle.td_indices.specs.inner.Assembling.{AreKept};
+ghost use Rattle.td_indices.specs.inner.Assembling.{AreKept, IsFirstOf, IsOfOne};
 ghost use Rattle.td_indices.specs.inner.IndexReading.{ArePackages, ArePackagesRead};
 ghost use Rattle.td_indices.specs.inner.IndexReading.{AreSources, AreSourcesRead};
 
@@ -40,6 +40,8 @@ fn kept_of_indices<'a>(
     ensures fault { (table : List ArchWords) (p s : List (List ℕ))
         → ArePackages table p packages.entry
         → AreSources s sources.entry → IfErr result (FaultOf table p s) }
+    // A fault is told as it came.
+    ensures told { IfErr result (IsFirstOf packages.entry.kept sources.entry.kept) }
 {
     match paired(packages.kept, sources.kept) {
         Ok((binaries, kept)) => Ok(KeptIndices {
@@ -63,6 +65,8 @@ pub fn kept_of_both<'a>(
     ensures fault { (table : List ArchWords) (p s : List (List ℕ))
         → ArePackagesRead table p packages.entry
         → AreSourcesRead s sources.entry → IfErr result (FaultOf table p s) }
+    // A fault is told as it came.
+    ensures told { IfErr result (IsOfOne packages.entry sources.entry) }
 {
     match paired(packages, sources) {
         Ok((packages, sources)) => kept_of_indices(packages, sources),
@@ -71,7 +75,7 @@ pub fn kept_of_both<'a>(
 }
 
 impl<'t, 'a> Archive<'t, 'a> {
-    ghost use Rattle.std.specs.Prelude.{◌≡◌, ◌⊎◌, ◌≤◌, ◌<◌, ℕ, List, Ok, IfOk, IfErr};
+    ghost use Rattle.std.specs.Prelude.{◌≡◌, ◌⊎◌, ◌≤◌, ◌<◌, ℕ, List, Ok, Err, IfOk, IfErr};
     ghost use Rattle.td_rows.specs.Limits.{max_rows};
     ghost use Rattle.td_stanza.specs.StanzaGrammar.{AreStanzas};
     ghost use Rattle.td_relation.specs.TableView.{table};
@@ -107,6 +111,8 @@ impl<'t, 'a> Archive<'t, 'a> {
         ensures fault { (p s : List (List ℕ)) → AreStanzas kept.entry.packages p
             → AreStanzas kept.entry.source_stanzas s
             → IfErr result (FaultOf (table archs.now) p s) }
+        // A fault is told as it came.
+        ensures told { IfErr result (λ e. counted.entry ≡ Err e) }
     {
         match counted {
             Ok((groups, rows)) => Ok(Archive {

@@ -6,6 +6,7 @@ ghost use Rattle.td_relation.specs.Members.{members};
 ghost use Rattle.td_relation.specs.RelationGrammar.{relation_at};
 ghost use Rattle.td_indices.specs.Fields.{Fails, asked_by, relation_in as relation_in_of};
 ghost use Rattle.td_indices.specs.Fields.{relation_of as relation_of_in, relation_or_bad};
+ghost use Rattle.td_indices.specs.Fields.{unread_relation};
 ghost use Rattle.td_indices.specs.Kept.{provides_at};
 
 use crate::archive_fault::{EntryFault, RelationField};
@@ -14,6 +15,16 @@ use std::alloc::{AllocError, Global};
 use td_relation::{Relation, RelationFault};
 use td_stanza::Stanza;
 use td_text::is_blank;
+
+// The fault of a field whose text wasn't read as a relation for this cause.
+fn unread(field: RelationField, fault: RelationFault) -> EntryFault
+    ensures { result ≡ unread_relation field fault }
+{
+    match fault {
+        RelationFault::NoMemory => EntryFault::NoMemory,
+        _ => EntryFault::BadRelation(field),
+    }
+}
 
 fn read_relation(
     alloc: Global,
@@ -26,8 +37,7 @@ fn read_relation(
 {
     match Relation::read(alloc, text) {
         Ok(relation) => Ok(relation),
-        Err(RelationFault::NoMemory) => Err(EntryFault::NoMemory),
-        Err(_) => Err(EntryFault::BadRelation(field)),
+        Err(fault) => Err(unread(field, fault)),
     }
 }
 
