@@ -36,17 +36,18 @@ use Rattle.td_indices.proofs.SourceStanzas.{versioned}
 
 -- ---- how late a fault comes
 
-abbrev rank : EntryFault → ℕ
+abbrev pub rank : EntryFault → ℕ
 rank (Missing field) = 0
 rank (BadVersion field) = 1
 rank (BadRelation field) = 2
 rank NoMemory = 3
 
-abbrev FailsBy : {A : Type 0} → ℕ → Result A EntryFault → Type 0
+abbrev pub FailsBy : {A : Type 0} → ℕ → Result A EntryFault → Type 0
 FailsBy k (Ok x) = Unit {0}
 FailsBy k (Err e) = rank e ≤ k
 
-fails : {A : Type 0} (k : ℕ) (r : Result A EntryFault) (e : EntryFault) → FailsBy k r → r ≡ Err e
+pub fails : {A : Type 0} (k : ℕ) (r : Result A EntryFault) (e : EntryFault) → FailsBy k r
+    → r ≡ Err e
     → rank e ≤ k
 fails {A} k r e low h = subst (λ (x : Result A EntryFault). FailsBy k x) h low
 
@@ -60,7 +61,8 @@ later (Ok x) low = tt
 later (Err e) low = omega (arith, low)
 
 -- a chain fails at its first step, or behind it
-failing : {A B : Type 0} (r : Result A EntryFault) (f : A → Result B EntryFault) (e : EntryFault)
+pub failing : {A B : Type 0} (r : Result A EntryFault) (f : A → Result B EntryFault)
+    (e : EntryFault)
     → on_ok r f ≡ Err e → (r ≡ Err e) ⊎ ((x : A) × (r ≡ Ok x) × (f x ≡ Err e))
 failing (Ok x) f e h = inr (x, refl, h)
 failing {A} {B} (Err d) f e h =
@@ -99,7 +101,7 @@ source_low text None = by (is_name text)
     by false = omega arith
 source_low text (Some p) = front_low (front_name p.0) p.1
 
-origin_low : (name : List ℕ) (o : Option (List ℕ)) → FailsBy 0 (origin_of name o)
+pub origin_low : (name : List ℕ) (o : Option (List ℕ)) → FailsBy 0 (origin_of name o)
 unfolding origin_of
 origin_low name None = tt
 origin_low name (Some text) = source_low text (cut 40 text)
@@ -147,19 +149,20 @@ behind_low fields next low =
     (later _ (needed_low index_field.Architecture (value_of fields (codes "Architecture"))))
     (λ arch. low name version arch)))
 
-package_low : (table : List ArchWords) (fields : List Entry) → FailsBy 1 (package_at table fields)
+pub package_low : (table : List ArchWords) (fields : List Entry)
+    → FailsBy 1 (package_at table fields)
 unfolding package_at
 package_low table fields =
     behind_low fields (λ name version arch. if_here fields name version (home_of table arch))
     (λ name version arch. here_low fields name version (home_of table arch))
 
-head_low : (fields : List Entry) → FailsBy 1 (source_at fields)
+pub head_low : (fields : List Entry) → FailsBy 1 (source_at fields)
 unfolding source_at
 head_low fields =
     behind_low fields versioned (λ name version arch.
     chain 1 (version_in Version version) _ (version_low Version version) (λ parts. tt))
 
-too_late : {A : Type 0} (field : RelationField) (r : Result A EntryFault) → FailsBy 1 r
+pub too_late : {A : Type 0} (field : RelationField) (r : Result A EntryFault) → FailsBy 1 r
     → r ≡ Err (BadRelation field) → ⊥
 too_late field r low h = let bad = fails 1 r (BadRelation field) low h in omega (arith, bad)
 
@@ -221,7 +224,7 @@ package_faults table number fields = (
 
 -- ---- sources
 
-head_found : (fields : List Entry) (head : SourcePackage) → source_at fields ≡ Ok head
+pub head_found : (fields : List Entry) (head : SourcePackage) → source_at fields ≡ Ok head
     → (version arch : List ℕ) × (parts : Parts) × HasNeeded fields version arch
     × IsVersion version parts
 unfolding source_at

@@ -37,3 +37,5 @@ pub mod Parts
 pub mod Cuts
 pub mod OpeningNumbers
 pub mod FaultOrder
+pub mod MissingFields
+pub mod BadFields

@@ -62,7 +62,7 @@ pub record IsFront (front name : List ℕ) : Type 0 where
   pub legal : is_name name ≡ true
   pub blank : is_blank space ≡ true
 
-front_found : (front name : List ℕ) → front_name front ≡ Some name → IsFront front name
+pub front_found : (front name : List ℕ) → front_name front ≡ Some name → IsFront front name
 unfolding front_name
 front_found front name e =
     let w = when_some _ (run is_name_byte front) name e in
@@ -77,7 +77,7 @@ front_found front name e =
     } in
     subst (IsFront front) w.1 made
 
-front_again : (name space : List ℕ) → is_name name ≡ true → is_blank space ≡ true
+pub front_again : (name space : List ℕ) → is_name name ≡ true → is_blank space ≡ true
     → front_name (name ++ space) ≡ Some name
 unfolding front_name
 front_again name space legal blank =

@@ -79,14 +79,14 @@ kept_packages_are_exact table number fields b =
 
 -- ---- sources
 
-yes_found : (o : Option (List ℕ))
+pub yes_found : (o : Option (List ℕ))
     → option_map_or (λ value. bytes_eq value (codes "yes")) o false ≡ false → o ≢ Some (codes "yes")
 yes_found None h e = absurd (let bad : None ≡ Some (codes "yes") = e in cc)
 yes_found (Some text) h e =
     absurd (let bad : false ≡ true =
     sym h ∙ (bytes_eq-Decides text (codes "yes")).1 (some_is text (codes "yes") e) in cc)
 
-yes_again : (o : Option (List ℕ)) → o ≢ Some (codes "yes")
+pub yes_again : (o : Option (List ℕ)) → o ≢ Some (codes "yes")
     → option_map_or (λ value. bytes_eq value (codes "yes")) o false ≡ false
 yes_again None h = refl
 yes_again (Some text) h =

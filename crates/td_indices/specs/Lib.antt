@@ -25,3 +25,5 @@ pub mod SourceStanzas
 pub mod inner
 pub mod OpeningLaws
 pub mod FaultLaws
+pub mod MissingFields
+pub mod BadFields

@@ -1,4 +1,7 @@
 //! What is read and kept of the indices' stanzas, and what an archive offers, as theorems.
+ghost use Rattle.td_indices.specs.BadFields.{BadPackageRelationsAreExact};
+ghost use Rattle.td_indices.specs.BadFields.{BadSourceRelationsAreExact};
+ghost use Rattle.td_indices.specs.BadFields.{PackageVersionsComeInOrder};
 ghost use Rattle.td_indices.specs.Counting.{
   GreatestPackagesAreKept,
   GreatestSourcesAreKept,
@@ -9,6 +12,8 @@ ghost use Rattle.td_indices.specs.Counting.{
 };
 ghost use Rattle.td_indices.specs.FaultLaws.{PackageFaultsComeInOrder, SourceFaultsComeInOrder};
 ghost use Rattle.td_indices.specs.FirstFaults.{FirstFaultyPackageIsNamed, FirstFaultySourceIsNamed};
+ghost use Rattle.td_indices.specs.MissingFields.{MissingPackageFieldsAreExact};
+ghost use Rattle.td_indices.specs.MissingFields.{MissingSourceFieldsAreExact};
 ghost use Rattle.td_indices.specs.OfferLaws.{OffersAreExact};
 ghost use Rattle.td_indices.specs.OpeningLaws.{OpeningRowsAreExact};
 ghost use Rattle.td_indices.specs.OfferedNames.{NamesAreThoseOfOffers};
@@ -75,4 +80,20 @@ pub fn opening_rows_are_by_what_was_built()
 pub fn faults_of_a_stanza_come_in_order()
     ensures packages { PackageFaultsComeInOrder }
     ensures sources { SourceFaultsComeInOrder }
+{}
+
+/// A field of a stanza is told as missing exactly where it is the first that is: of Package,
+/// Version, Architecture and, in a package that is here, Source.
+pub fn missing_fields_are_told_in_order()
+    ensures packages { MissingPackageFieldsAreExact }
+    ensures sources { MissingSourceFieldsAreExact }
+{}
+
+/// A relation of a stanza is told as bad exactly where all before it can be read: of a package
+/// Depends, Pre-Depends and Provides, of a source Build-Depends and Build-Depends-Arch. A package's
+/// own version is told as bad before its source's.
+pub fn bad_fields_are_told_in_order()
+    ensures versions { PackageVersionsComeInOrder }
+    ensures packages { BadPackageRelationsAreExact }
+    ensures sources { BadSourceRelationsAreExact }
 {}

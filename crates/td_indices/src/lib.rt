@@ -57,9 +57,10 @@ pub use archive_fault::{ArchiveFault, IndexField, IndexFile, RelationField, Vers
 pub use early::{EarlyPackages, EarlySources};
 pub use field::value_of;
 pub use laws::{
-    faults_of_a_stanza_come_in_order, first_faulty_stanzas_are_named, greatest_versions_are_kept,
-    keys_and_versions_decide, offered_names_are_those_of_offers, offers_come_of_packages,
-    opening_rows_are_by_what_was_built, package_stanzas_are_read_exactly, stanzas_are_kept_exactly,
+    bad_fields_are_told_in_order, faults_of_a_stanza_come_in_order, first_faulty_stanzas_are_named,
+    greatest_versions_are_kept, keys_and_versions_decide, missing_fields_are_told_in_order,
+    offered_names_are_those_of_offers, offers_come_of_packages, opening_rows_are_by_what_was_built,
+    package_stanzas_are_read_exactly, stanzas_are_kept_exactly,
 };
 pub use offered_names::OfferedNames;
 pub use packaged::{Binary, is_on};
