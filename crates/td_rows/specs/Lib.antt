@@ -3,7 +3,6 @@ pub mod Text
 pub mod Appending
 pub mod KeyModel
 pub mod Keys
-pub mod OutcomeCodes
 pub mod Cells
 pub mod Blank
 pub mod Kinds

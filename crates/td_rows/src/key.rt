@@ -54,7 +54,7 @@ impl Key {
         }
     }
 
-    /// The same of texts in which no newline stands.
+    /// The key of two texts in which no newline stands.
     pub fn from_lines(alloc: Global, source: &str, arch: &str) -> Result<Key, AllocError>
         requires source { has_newline source.now ≡ false }
         requires arch { has_newline arch.now ≡ false }
