@@ -1,5 +1,5 @@
--- The desk's steps at the rows for a call, by the rows as they were before it or after it: rows that
--- need a build are taken back, and are offered. This project's own.
+-- The desk's steps at the rows for a call, by the rows as they were before it or after it: rows
+-- that need a build are taken back, and are offered. This project's own.
 use Rattle.std.specs.Prelude.{ℕ, zero, suc, List, [], ◌∷◌, ◌++◌, filter, map, if◌then◌else◌}
 use Rattle.td_board.specs.declared.views.DeskTry.{DeskTry}
 use Rattle.td_board.specs.declared.views.DeskTry.TheVariants.{WithdrawalWon, WithdrawalLost}
