@@ -1,10 +1,12 @@
 -- What a floor's calls say of a builder's seat. This project's own.
 use Rattle.std.specs.Prelude.{◌≡◌, ◌≢◌, ℕ}
+use Rattle.td_rows.specs.declared.outcome.Outcome.{Outcome}
 use Rattle.td_board.specs.declared.outcome.OutcomeCode.{OutcomeCode}
 use Rattle.td_board.specs.declared.views.Hand.TheVariants.{Holding}
 use Rattle.td_board.specs.Seats.{BuilderModel}
 use Rattle.td_board.specs.declared.views.BuilderTry.TheVariants.{FinishEarly}
 use Rattle.td_board.specs.Knowledge.{with_finish, builder_tried}
+use Rattle.td_book.specs.Deeds.{code_of}
 use Rattle.td_book.specs.declared.starting.Job.{Job}
 
 -- the seat holds a row
@@ -26,8 +28,9 @@ IsEarly c old new =
     (r : ℕ) × (old.builder.hand ≡ Holding r)
     × (new ≡ record old { builder = builder_tried (FinishEarly r c) old.builder })
 
--- the build of the row in hand ended with an outcome of this code, and nothing else changed
-abbrev pub IsFinished : OutcomeCode → BuilderModel → BuilderModel → Type 0
-IsFinished c old new =
-    (r : ℕ) × (old.builder.hand ≡ Holding r)
-    × (new ≡ record old { builder = with_finish r c old.builder })
+-- the build of the row in hand ended with this outcome, with which it may end, and nothing else
+-- changed
+abbrev pub IsFinished : (ℕ → Outcome → Type 0) → Outcome → BuilderModel → BuilderModel → Type 0
+IsFinished ends o old new =
+    (r : ℕ) × (old.builder.hand ≡ Holding r) × ends r o
+    × (new ≡ record old { builder = with_finish r (code_of o) old.builder })

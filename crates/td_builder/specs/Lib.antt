@@ -2,6 +2,7 @@
 pub mod Stops
 pub mod Floors
 pub mod Turns
+pub mod Rounds
 pub mod OutcomeLines
 pub mod OutcomeReading
 pub mod Unused

@@ -22,16 +22,19 @@ Turns fits h (Claim r ∷ ds) n k = ((s : ℕ) → h ≢ Holding s) × Turns fit
 Turns fits h (Finish r c ∷ ds) n k =
     (h ≡ Holding r) × fits r c × ((m : ℕ) × (n ≡ suc m) × Turns fits (Finished r c) ds m k)
 
--- an outcome of this code may be answered to a job that may be answered for the row
-abbrev pub Fits : (ℕ → Job → Type 0) → (Job → Outcome → Type 0) → ℕ → OutcomeCode → Type 0
-Fits jobs may r c =
-    (job : Job) × (outcome : Outcome) × jobs r job × may job outcome × (c ≡ code_of outcome)
+-- an outcome of this code, with which a build of the row may end, may be answered to a job that may
+-- be answered for the row
+abbrev pub Fits : (ℕ → Job → Type 0) → (Job → Outcome → Type 0) → (ℕ → Outcome → Type 0) → ℕ
+    → OutcomeCode → Type 0
+Fits jobs may ends r c =
+    (job : Job) × (outcome : Outcome) × jobs r job × may job outcome × ends r outcome
+    × (c ≡ code_of outcome)
 
 -- the seat's list grew by claims and finishes in turn, with so many finishes, each of which fits;
 -- its table and number stay
-abbrev pub Worked : (ℕ → Job → Type 0) → (Job → Outcome → Type 0) → ℕ → BuilderModel → BuilderModel
-    → Type 0
-Worked jobs may n old new =
+abbrev pub Worked : (ℕ → Job → Type 0) → (Job → Outcome → Type 0) → (ℕ → Outcome → Type 0) → ℕ
+    → BuilderModel → BuilderModel → Type 0
+Worked jobs may ends n old new =
     (new.table ≡ old.table) × (new.builder.number ≡ old.builder.number)
     × ((deeds : List Deed) × (new.builder.mine ≡ old.builder.mine ++ deeds)
-    × Turns (Fits jobs may) old.builder.hand deeds n new.builder.hand)
+    × Turns (Fits jobs may ends) old.builder.hand deeds n new.builder.hand)

@@ -1,5 +1,6 @@
 //! Where builders find rows, and how a row is built.
-ghost use Rattle.std.specs.Prelude.{◌≡◌, ℕ, false, ◌⊎◌, IfOk, IfErr, OnOk, OnErr, MatchBool};
+ghost use Rattle.std.specs.Prelude.{◌≡◌, ℕ, List, false, ◌⊎◌, IfOk, IfErr, OnOk, OnErr};
+ghost use Rattle.std.specs.Prelude.{MatchBool};
 ghost use Rattle.td_board.specs.Answers.{IsWon, IsLost};
 ghost use Rattle.td_book.specs.Deeds.{code_of};
 ghost use Rattle.td_builder.specs.Floors.{IsHolding, IsStarted, IsEarly, IsFinished};
@@ -13,7 +14,7 @@ use td_book::{FinishRefusal, Job, StartRefusal};
 use td_journal::EntryNo;
 use td_rows::Outcome;
 
-/// A way to build.
+/// A way to build. A job is handed over to it, and so is built once.
 pub trait Builds {
     ghost use Rattle.td_book.specs.declared.starting.Job.{Job as JobValue};
     ghost use Rattle.td_rows.specs.declared.outcome.Outcome.{Outcome as OutcomeValue};
@@ -22,14 +23,15 @@ pub trait Builds {
     ghost may: { Self → JobValue → OutcomeValue → Type 0 };
 
     /// Builds what the job says, and answers how that ended.
-    fn build<R: Wait>(&self, rt: &R, job: &Job) -> Outcome
-        ensures { may self.now job.now result };
+    fn build<R: Wait>(&self, rt: &R, job: Job) -> Outcome
+        ensures { may self.now job result };
 }
 
 /// Where builders find rows. Many builders' threads share one.
 pub trait Floor {
     ghost use Rattle.atomic_table.specs.Seated.{TableId};
     ghost use Rattle.td_book.specs.declared.starting.Job.{Job as JobValue};
+    ghost use Rattle.td_rows.specs.declared.outcome.Outcome.{Outcome as OutcomeValue};
     ghost use Rattle.td_builder.specs.declared.stop.WorkStop.{WorkStop as WorkStopValue};
 
     /// The table of the board at which its builders sit.
@@ -38,8 +40,15 @@ pub trait Floor {
     /// How many rows the board has.
     ghost rows: { Self → ℕ };
 
+    /// Which numbers `ready` may answer, in which order.
+    ghost offers: { Self → List ℕ → Type 0 };
+
     /// Which jobs `start` may answer for a row.
     ghost jobs: { Self → ℕ → JobValue → Type 0 };
+
+    /// What is known of a row and an outcome once the build of the row ended with it, text
+    /// included.
+    ghost ends: { Self → ℕ → OutcomeValue → Type 0 };
 
     /// What is known once `wait_for_work` has said that nothing more comes.
     ghost ended: { Self → Type 0 };
@@ -49,7 +58,8 @@ pub trait Floor {
 
     /// The numbers of the rows that wait for a builder, in the order in which they are to be tried.
     fn ready<R: Wait>(&self, rt: &R) -> Result<Vec<usize>, AllocError>
-        ensures { OnErr result (stopped self.now WorkStop.NoMemory) };
+        ensures offered { IfOk result (λ numbers. offers self.now numbers.items) }
+        ensures err { OnErr result (stopped self.now WorkStop.NoMemory) };
 
     /// Claims a row, as a board does.
     fn claim(&self, row: usize, seat: &mut BuilderSeat) -> bool
@@ -74,10 +84,10 @@ pub trait Floor {
     ) -> Result<EntryNo, FinishRefusal>
         requires table { seat.old.table ≡ table self.now }
         requires hand { IsHolding seat.old }
-        ensures ok { OnOk result (IsFinished (code_of outcome) seat.old seat.new) }
+        ensures ok { OnOk result (IsFinished (ends self.now) outcome seat.old seat.new) }
         ensures seat { OnErr result
             ((seat.new ≡ seat.old) ⊎ IsEarly (code_of outcome) seat.old seat.new
-            ⊎ IsFinished (code_of outcome) seat.old seat.new) }
+            ⊎ IsFinished (ends self.now) outcome seat.old seat.new) }
         ensures err { IfErr result (λ e. stopped self.now (finish_stop e)) };
 
     /// Waits until a row waits for a builder, or the floor is shut. False: it is shut, and none

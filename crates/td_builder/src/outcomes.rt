@@ -8,7 +8,8 @@ ghost use Rattle.td_journal.specs.Endings.{outcome_text};
 ghost use Rattle.td_book.specs.Deeds.{code_of};
 ghost use Rattle.td_builder.specs.OutcomeLines.{AreOutcomes, FaultOf};
 ghost use Rattle.td_builder.specs.OutcomeReading.{line_told};
-ghost use Rattle.td_builder.specs.Unused.{lines_of_key, numbered, with_line, codes_in, codes_of};
+ghost use Rattle.td_builder.specs.Unused.{MayAnswer, lines_of_key, numbered, with_line, codes_in};
+ghost use Rattle.td_builder.specs.Unused.{codes_of};
 
 use crate::fault::OutcomesFault;
 use crate::floor::Builds;
@@ -117,6 +118,17 @@ impl Outcomes {
             unused,
         })
     }
+
+    // How the next build of a key ends.
+    fn next_end<R: Wait>(&self, rt: &R, key: &Key) -> Outcome
+        ensures { MayAnswer (codes_of self.now key.now) (code_of result) }
+    {
+        let mut unused = self.unused.lock(rt);
+        match unused.next_of(self.alloc, &self.lines, key) {
+            Some(outcome) => outcome,
+            None => Outcome::Built,
+        }
+    }
 }
 
 impl Builds for Outcomes {
@@ -125,11 +137,7 @@ impl Builds for Outcomes {
 
     ghost may = { λ o job outcome. MayAnswer (codes_of o job.key) (code_of outcome) };
 
-    fn build<R: Wait>(&self, rt: &R, job: &Job) -> Outcome {
-        let mut unused = self.unused.lock(rt);
-        match unused.next_of(self.alloc, &self.lines, &job.key) {
-            Some(outcome) => outcome,
-            None => Outcome::Built,
-        }
+    fn build<R: Wait>(&self, rt: &R, job: Job) -> Outcome {
+        self.next_end(rt, &job.key)
     }
 }

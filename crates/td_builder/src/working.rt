@@ -1,6 +1,8 @@
 //! A builder's work.
-ghost use Rattle.std.specs.Prelude.{◌≡◌, ◌≤◌, ◌⊎◌, ◌^◌, ◌-◌, ℕ, IfOk, IfErr, OnOk, OnErr};
+ghost use Rattle.std.specs.Prelude.{◌≡◌, ◌≤◌, ◌<◌, ◌⊎◌, ◌^◌, ◌-◌, ℕ, List, [], IfOk, IfErr, OnOk};
+ghost use Rattle.std.specs.Prelude.{OnErr};
 ghost use Rattle.td_builder.specs.Floors.{IsHolding, IsIdle};
+ghost use Rattle.td_builder.specs.Rounds.{Asks, AsksInRounds, Claims, IsAsked};
 ghost use Rattle.td_builder.specs.Turns.{Worked};
 
 use crate::floor::{Builds, Floor};
@@ -8,9 +10,10 @@ use crate::stop::{WorkStop, finish_stop, start_stop};
 use std::sync::Wait;
 use td_board::{BuilderSeat, Hand};
 
-/// Claims rows of the floor and builds them until the floor ends, and answers how many builds were
-/// finished. A row that the seat comes with is built first. After a stop the seat says where the
-/// builder stands, and the next `work` goes on from there. It ends at the last `u64`, too.
+/// Claims rows of the floor, in the order in which it offers them, and builds them until the floor
+/// ends, and answers how many builds were finished. A row that the seat comes with is built first.
+/// After a stop the seat says where the builder stands, and the next `work` goes on from there. It
+/// ends at the last `u64`, too.
 pub fn work<F: Floor, B: Builds, R: Wait>(
     rt: &R,
     floor: &F,
@@ -18,12 +21,18 @@ pub fn work<F: Floor, B: Builds, R: Wait>(
     builds: &B,
 ) -> Result<u64, WorkStop>
     requires { seat.old.table ≡ F.table floor.now }
-    ensures worked { IfOk result (λ n.
-        Worked (F.jobs floor.now) (B.may builds.now) n seat.old seat.new) }
+    ensures worked { IfOk result (λ n. Worked (F.jobs floor.now) (B.may builds.now)
+        (F.ends floor.now) n seat.old seat.new) }
+    // All that is offered is asked for, but at the last `u64`.
+    ensures asked { IfOk result (λ n. (left : List ℕ)
+        × AsksInRounds (F.rows floor.now) (F.offers floor.now) left seat.old seat.new
+        × (n < 2 ^ 64 - 1 → left ≡ [])) }
     ensures idle { OnOk result (IsIdle seat.new) }
     ensures ended { IfOk result (λ n. F.ended floor.now ⊎ (n ≡ 2 ^ 64 - 1)) }
-    ensures meanwhile { OnErr result ((n : ℕ)
-        × Worked (F.jobs floor.now) (B.may builds.now) n seat.old seat.new) }
+    ensures meanwhile { OnErr result ((n : ℕ) × Worked (F.jobs floor.now) (B.may builds.now)
+        (F.ends floor.now) n seat.old seat.new) }
+    ensures asked_meanwhile { OnErr result ((left : List ℕ)
+        × AsksInRounds (F.rows floor.now) (F.offers floor.now) left seat.old seat.new) }
     ensures stopped { IfErr result (F.stopped floor.now) }
 {
     let mut built = 0u64;
@@ -55,17 +64,21 @@ fn build_each<F: Floor, B: Builds, R: Wait>(
 ) -> Result<u64, WorkStop>
     requires table { seat.old.table ≡ F.table floor.now }
     requires idle { IsIdle seat.old }
-    ensures worked { IfOk result (λ n.
-        Worked (F.jobs floor.now) (B.may builds.now) n seat.old seat.new × (n ≤ most)) }
+    ensures worked { IfOk result (λ n. Worked (F.jobs floor.now) (B.may builds.now)
+        (F.ends floor.now) n seat.old seat.new × (n ≤ most)) }
+    ensures asked { IfOk result (λ n. (left : List ℕ)
+        × Asks (F.rows floor.now) rows.now left seat.old seat.new × (n < most → left ≡ [])) }
     ensures idle { OnOk result (IsIdle seat.new) }
-    ensures meanwhile { OnErr result ((n : ℕ)
-        × Worked (F.jobs floor.now) (B.may builds.now) n seat.old seat.new) }
+    ensures meanwhile { OnErr result ((n : ℕ) × Worked (F.jobs floor.now) (B.may builds.now)
+        (F.ends floor.now) n seat.old seat.new) }
+    ensures asked_meanwhile { OnErr result ((left : List ℕ)
+        × Asks (F.rows floor.now) rows.now left seat.old seat.new) }
     ensures stopped { IfErr result (F.stopped floor.now) }
 {
     let mut built = 0u64;
     for row in rows {
         if built == most {
-            break;
+            return Ok(built);
         }
         built += claim_and_build(rt, floor, *row, seat, builds)?;
     }
@@ -82,11 +95,12 @@ fn claim_and_build<F: Floor, B: Builds, R: Wait>(
 ) -> Result<u64, WorkStop>
     requires table { seat.old.table ≡ F.table floor.now }
     requires idle { IsIdle seat.old }
-    ensures worked { IfOk result (λ n.
-        Worked (F.jobs floor.now) (B.may builds.now) n seat.old seat.new × (n ≤ 1)) }
+    ensures worked { IfOk result (λ n. Worked (F.jobs floor.now) (B.may builds.now)
+        (F.ends floor.now) n seat.old seat.new × (n ≤ 1)) }
+    ensures asked { Claims (IsAsked (F.rows floor.now) row) seat.old seat.new }
     ensures idle { OnOk result (IsIdle seat.new) }
-    ensures meanwhile { OnErr result ((n : ℕ)
-        × Worked (F.jobs floor.now) (B.may builds.now) n seat.old seat.new) }
+    ensures meanwhile { OnErr result ((n : ℕ) × Worked (F.jobs floor.now) (B.may builds.now)
+        (F.ends floor.now) n seat.old seat.new) }
     ensures stopped { IfErr result (F.stopped floor.now) }
 {
     if !floor.claim(row, seat) {
@@ -105,18 +119,19 @@ fn build_held<F: Floor, B: Builds, R: Wait>(
 ) -> Result<(), WorkStop>
     requires table { seat.old.table ≡ F.table floor.now }
     requires hand { IsHolding seat.old }
-    ensures worked { OnOk result
-        (Worked (F.jobs floor.now) (B.may builds.now) 1 seat.old seat.new) }
+    ensures worked { OnOk result (Worked (F.jobs floor.now) (B.may builds.now)
+        (F.ends floor.now) 1 seat.old seat.new) }
+    ensures unasked { Claims (λ claims. claims ≡ []) seat.old seat.new }
     ensures idle { OnOk result (IsIdle seat.new) }
-    ensures meanwhile { OnErr result ((n : ℕ)
-        × Worked (F.jobs floor.now) (B.may builds.now) n seat.old seat.new) }
+    ensures meanwhile { OnErr result ((n : ℕ) × Worked (F.jobs floor.now) (B.may builds.now)
+        (F.ends floor.now) n seat.old seat.new) }
     ensures stopped { IfErr result (F.stopped floor.now) }
 {
     let job = match floor.start(rt, seat) {
         Ok(job) => job,
         Err(refusal) => return Err(start_stop(refusal)),
     };
-    let outcome = builds.build(rt, &job);
+    let outcome = builds.build(rt, job);
     match floor.finish(rt, seat, outcome) {
         Ok(_) => Ok(()),
         Err(refusal) => Err(finish_stop(refusal)),

@@ -1,0 +1,195 @@
+-- Rows that are asked for, one after the other and round after round.
+use Rattle.std.proofs.Common.{◌≡◌, ◌≢◌, ◌<◌, ◌⊎◌, inl, inr, ℕ, ◌+◌, List, [], ◌∷◌, ◌++◌, refl}
+use Rattle.std.proofs.Common.{sym, ap, ◌∙◌, subst, append-nil, append_assoc, take, drop, length}
+use Rattle.std.proofs.Common.{get_or, Option, Some, None, Bool, true, false}
+use Rattle.std.specs.Prelude.{MatchBool}
+use Rattle.std.proofs.lemmas.List.{take_more, take-append-drop}
+use Rattle.td_board.specs.declared.outcome.OutcomeCode.{OutcomeCode}
+use Rattle.td_board.specs.declared.views.Hand.{Hand}
+use Rattle.td_board.specs.declared.views.Hand.TheVariants.{Free, Holding, Finished}
+use Rattle.td_board.specs.declared.views.BuilderTry.{BuilderTry}
+use Rattle.td_board.specs.declared.views.BuilderTry.TheVariants.{ClaimWon, ClaimLost}
+use Rattle.td_board.specs.declared.views.BuilderTry.TheVariants.{ReleaseDone, ReleaseEarly}
+use Rattle.td_board.specs.declared.views.BuilderTry.TheVariants.{FinishDone, FinishEarly}
+use Rattle.td_board.specs.Answers.{IsWon, IsLost, LostFree, LostWith, released}
+use Rattle.td_board.specs.Seats.{BuilderModel}
+use Rattle.td_rows.specs.declared.outcome.Outcome.{Outcome}
+use Rattle.td_book.specs.Deeds.{code_of}
+use Rattle.td_builder.specs.Floors.{IsEarly, IsFinished, IsIdle}
+use Rattle.td_builder.specs.Rounds.{AreAsked, AreRounds, Asks, AsksInRounds, Claims, IsAsked}
+use Rattle.td_builder.specs.Rounds.{claims_in}
+
+-- ---- 1. claims among tries
+
+claims_append : (xs ys : List BuilderTry) → claims_in (xs ++ ys) ≡ claims_in xs ++ claims_in ys
+claims_append [] ys = refl
+claims_append (ClaimWon r ∷ xs) ys =
+    ap (λ (l : List (Option ℕ)). Some r ∷ l) (claims_append xs ys)
+claims_append (ClaimLost r ∷ xs) ys =
+    ap (λ (l : List (Option ℕ)). Some r ∷ l) (claims_append xs ys)
+claims_append (ReleaseDone r ∷ xs) ys = claims_append xs ys
+claims_append (ReleaseEarly r ∷ xs) ys =
+    ap (λ (l : List (Option ℕ)). None ∷ l) (claims_append xs ys)
+claims_append (FinishDone r c ∷ xs) ys = claims_append xs ys
+claims_append (FinishEarly r c ∷ xs) ys = claims_append xs ys
+
+-- claims, and then others
+pub claims_more : (P Q R : List (Option ℕ) → Type 0)
+    → ((xs ys : List (Option ℕ)) → P xs → Q ys → R (xs ++ ys)) → (a b c : BuilderModel)
+    → Claims P a b → Claims Q b c → Claims R a c
+claims_more P Q R so a b c (xs, e, p) (ys, f, q) = (
+  xs ++ ys,
+  f ∙ (ap (λ (l : List BuilderTry). l ++ ys) e ∙ append_assoc a.builder.tried xs ys),
+  subst R (sym (claims_append xs ys)) (so (claims_in xs) (claims_in ys) p q),
+)
+
+-- what is no claim leaves those before
+pub claims_same : (P : List (Option ℕ) → Type 0) (a b c : BuilderModel) → Claims P a b
+    → Claims (λ claims. claims ≡ []) b c → Claims P a c
+claims_same P a b c first none =
+    claims_more P (λ claims. claims ≡ []) P
+    (λ xs ys p q. subst P (sym (ap (λ (l : List (Option ℕ)). xs ++ l) q ∙ append-nil xs)) p) a b c
+    first none
+
+-- a seat that is as it was
+pub claims_still : (a b : BuilderModel) → b ≡ a → Claims (λ claims. claims ≡ []) a b
+claims_still a b same = (
+  [],
+  ap (λ (s : BuilderModel). s.builder.tried) same ∙ sym (append-nil a.builder.tried),
+  refl,
+)
+
+-- the end of a build claims nothing
+pub claims_finished : (ends : ℕ → Outcome → Type 0) (o : Outcome) (a b : BuilderModel)
+    → IsFinished ends o a b → Claims (λ claims. claims ≡ []) a b
+claims_finished ends o a b (r, held, end, at) =
+    (FinishDone r (code_of o) ∷ [], ap (λ (s : BuilderModel). s.builder.tried) at, refl)
+
+pub claims_early : (c : OutcomeCode) (a b : BuilderModel) → IsEarly c a b
+    → Claims (λ claims. claims ≡ []) a b
+claims_early c a b (r, held, at) =
+    (FinishEarly r c ∷ [], ap (λ (s : BuilderModel). s.builder.tried) at, refl)
+
+-- ---- 2. a row that is asked for
+
+won_asked : (row : ℕ) (h : Hand) → claims_in (released h ++ ClaimWon row ∷ []) ≡ Some row ∷ []
+won_asked row Free = refl
+won_asked row (Holding r) = refl
+won_asked row (Finished r c) = refl
+
+asked_won : (rows row : ℕ) (a b : BuilderModel) → IsWon rows row a b
+    → Claims (IsAsked rows row) a b
+asked_won rows row a b (fits, none, at) = (
+  released a.builder.hand ++ ClaimWon row ∷ [],
+  ap (λ (s : BuilderModel). s.builder.tried) at,
+  inr (inl (won_asked row a.builder.hand)),
+)
+
+free_asked : (rows row : ℕ) (more : List BuilderTry) → LostFree rows row more
+    → IsAsked rows row (claims_in more)
+free_asked rows row more (inl (beyond, none)) = inl (beyond, ap claims_in none)
+free_asked rows row more (inr (within, one)) = inr (inl (ap claims_in one))
+
+lost_asked : (rows row : ℕ) (h k : Hand) (more : List BuilderTry) → ((r : ℕ) → h ≢ Holding r)
+    → LostWith rows row h k more → IsAsked rows row (claims_in more)
+lost_asked rows row Free k more idle lost = free_asked rows row more lost.1
+lost_asked rows row (Holding r) k more idle lost = absurd (idle r refl)
+lost_asked rows row (Finished r c) k more idle (inl early) = inr (inr (ap claims_in early.1))
+lost_asked rows row (Finished r c) k more idle (inr (free, (rest, is, lost))) =
+    subst (λ (l : List BuilderTry). IsAsked rows row (claims_in l)) (sym is)
+    (free_asked rows row rest lost)
+
+asked_lost : (rows row : ℕ) (a b : BuilderModel) → IsIdle a → IsLost rows row a b
+    → Claims (IsAsked rows row) a b
+asked_lost rows row a b idle (hand, more, how, at) = (
+  more,
+  ap (λ (s : BuilderModel). s.builder.tried) at,
+  lost_asked rows row a.builder.hand hand more idle how,
+)
+
+-- by the answer to the claim
+pub asked_by : (t : Bool) (rows row : ℕ) (a b : BuilderModel) → IsIdle a
+    → MatchBool t (IsWon rows row a b) (IsLost rows row a b) → Claims (IsAsked rows row) a b
+asked_by true rows row a b idle won = asked_won rows row a b won
+asked_by false rows row a b idle lost = asked_lost rows row a b idle lost
+
+-- ---- 3. rows that are asked for one after the other
+
+asked_append : (rows : ℕ) (xs ys : List ℕ) (p q : List (Option ℕ)) → AreAsked rows xs p
+    → AreAsked rows ys q → AreAsked rows (xs ++ ys) (p ++ q)
+asked_append rows [] ys p q none more =
+    subst (λ (l : List (Option ℕ)). AreAsked rows ys (l ++ q)) (sym none) more
+asked_append rows (x ∷ xs) ys p q (one, rest, e, is, more) next = (
+  one,
+  rest ++ q,
+  ap (λ (l : List (Option ℕ)). l ++ q) e ∙ append_assoc one rest q,
+  is,
+  asked_append rows xs ys rest q more next,
+)
+
+asked_one : (rows row : ℕ) (p : List (Option ℕ)) → IsAsked rows row p → AreAsked rows (row ∷ []) p
+asked_one rows row p is = (p, [], sym (append-nil p), is, refl)
+
+-- the next row of those that are offered
+pub asked_next : (rows : ℕ) (xs : List ℕ) (i : ℕ) (a b c : BuilderModel) → i < length xs
+    → Claims (AreAsked rows (take i xs)) a b → Claims (IsAsked rows (get_or xs i 0)) b c
+    → Claims (AreAsked rows (take (i + 1) xs)) a c
+asked_next rows xs i a b c within first later =
+    let x = get_or xs i 0 in
+    subst (λ (l : List ℕ). Claims (AreAsked rows l) a c) (sym (take_more xs i 0 within))
+    (claims_more (AreAsked rows (take i xs)) (IsAsked rows x) (AreAsked rows (take i xs ++ x ∷ []))
+    (λ p q f t. asked_append rows (take i xs) (x ∷ []) p q f (asked_one rows x q t)) a b c first
+    later)
+
+-- those in front of a place, and those behind it
+pub asks_front : (rows : ℕ) (xs : List ℕ) (i : ℕ) (a b : BuilderModel)
+    → Claims (AreAsked rows (take i xs)) a b → Asks rows xs (drop i xs) a b
+asks_front rows xs i a b claims = (take i xs, sym (take-append-drop i xs), claims)
+
+pub asks_all : (rows : ℕ) (xs : List ℕ) (a b : BuilderModel) → Claims (AreAsked rows xs) a b
+    → Asks rows xs [] a b
+asks_all rows xs a b claims = (xs, sym (append-nil xs), claims)
+
+-- ---- 4. rounds
+
+rounds_more : (offers : List ℕ → Type 0) (rounds : List (List ℕ)) (xs ys : List ℕ)
+    → AreRounds offers rounds xs → offers ys → AreRounds offers (rounds ++ ys ∷ []) (xs ++ ys)
+rounds_more offers [] xs ys none may =
+    ([], ap (λ (l : List ℕ). l ++ ys) none ∙ sym (append-nil ys), may, refl)
+rounds_more offers (round ∷ rounds) xs ys (rest, e, offered, more) may = (
+  rest ++ ys,
+  ap (λ (l : List ℕ). l ++ ys) e ∙ append_assoc round rest ys,
+  offered,
+  rounds_more offers rounds rest ys more may,
+)
+
+-- before the first round
+pub rounds_none : (rows : ℕ) (offers : List ℕ → Type 0) (a b : BuilderModel)
+    → Claims (λ claims. claims ≡ []) a b → AsksInRounds rows offers [] a b
+rounds_none rows offers a b none = ([], [], refl, ([], refl, none))
+
+-- a round more, behind rounds of which nothing is left
+pub round_more : (rows : ℕ) (offers : List ℕ → Type 0) (xs left : List ℕ) (a b c : BuilderModel)
+    → AsksInRounds rows offers [] a b → offers xs → Asks rows xs left b c
+    → AsksInRounds rows offers left a c
+round_more rows offers xs left a b c (rounds, offered, are, (before, e, first)) may
+    (asked, f, later) = (
+      rounds ++ xs ∷ [],
+      offered ++ xs,
+      rounds_more offers rounds offered xs are may,
+      (
+        before ++ asked,
+        ap (λ (l : List ℕ). l ++ xs) (e ∙ append-nil before)
+            ∙ (ap (λ (l : List ℕ). before ++ l) f ∙ sym (append_assoc before asked left)),
+        claims_more (AreAsked rows before) (AreAsked rows asked) (AreAsked rows (before ++ asked))
+            (asked_append rows before asked) a b c first later,
+      ),
+    )
+
+-- where nothing is left of it, nothing is left of all
+pub round_whole : (rows : ℕ) (offers : List ℕ → Type 0) (xs left : List ℕ) (a b c : BuilderModel)
+    → AsksInRounds rows offers [] a b → offers xs → Asks rows xs left b c → left ≡ []
+    → AsksInRounds rows offers [] a c
+round_whole rows offers xs left a b c before may asks none =
+    subst (λ (l : List ℕ). AsksInRounds rows offers l a c) none
+    (round_more rows offers xs left a b c before may asks)
