@@ -20,7 +20,7 @@ use Rattle.td_book.specs.Desk.{BookModel}
 use Rattle.td_book.specs.Finishing.{FinishHeld, FinishOutcome}
 use Rattle.td_book.specs.Ready.{is_any_queued}
 use Rattle.td_builder.specs.Floors.{IsHolding, IsStarted, IsEarly, IsFinished}
-use Rattle.td_desk.specs.Calls.{IsOfDesk, Starting, Finishing, MayBeJob}
+use Rattle.td_desk.specs.Calls.{IsOfDesk, Starting, Finishing, MayBeJob, MayEnd}
 use Rattle.td_desk.specs.Names.{Origin}
 
 by_hand : (table : TableId) (origin : Origin) (b : ℕ) (hand : Hand) (old new : BookModel)
@@ -39,53 +39,71 @@ started table origin s (Err e) w = tt
 same_seat : (s t : BuilderModel) → t.table ≡ s.table → t.builder ≡ s.builder → t ≡ s
 same_seat s t at is = (λ j. record { table = at j; builder = is j })
 
-ended_seat : (o : Outcome) (s t : BuilderModel) (i : ℕ) → s.builder.hand ≡ Holding i
-    → t.table ≡ s.table → t.builder ≡ with_finish i (code_of o) s.builder
-    → IsFinished (code_of o) s t
-ended_seat o s t i hand at is = (i, hand, (λ j. record { table = at j; builder = is j }))
+ended_seat : (ends : ℕ → Outcome → Type 0) (o : Outcome) (s t : BuilderModel) (i : ℕ) → ends i o
+    → s.builder.hand ≡ Holding i → t.table ≡ s.table
+    → t.builder ≡ with_finish i (code_of o) s.builder → IsFinished ends o s t
+ended_seat ends o s t i may hand at is =
+    (i, hand, may, (λ j. record { table = at j; builder = is j }))
 
 -- by the answer, of a row that is held
-finished_held : (o : Outcome) (s t : BuilderModel) (i : ℕ) (old new : BookModel)
-    (r : Result ℕ FinishRefusal) → s.builder.hand ≡ Holding i → t.table ≡ s.table
-    → FinishHeld i o s.builder t.builder old new r → OnOk r (IsFinished (code_of o) s t)
-finished_held o s t i old new (Ok n) hand at (f, is) = ended_seat o s t i hand at is
-finished_held o s t i old new (Err e) hand at is = tt
-
-refused_held : (o : Outcome) (s t : BuilderModel) (i : ℕ) (old new : BookModel)
-    (r : Result ℕ FinishRefusal) → s.builder.hand ≡ Holding i → t.table ≡ s.table
+finished_held : (table : TableId) (origin : Origin) (o : Outcome) (s t : BuilderModel) (i : ℕ)
+    (old new : BookModel) (r : Result ℕ FinishRefusal) → IsOfDesk table origin old
+    → s.builder.hand ≡ Holding i → t.table ≡ s.table
     → FinishHeld i o s.builder t.builder old new r
-    → OnErr r ((t ≡ s) ⊎ IsEarly (code_of o) s t ⊎ IsFinished (code_of o) s t)
-refused_held o s t i old new (Ok n) hand at is = tt
-refused_held o s t i old new (Err finishes.NoMemory) hand at (same, is) = inl (same_seat s t at is)
-refused_held o s t i old new (Err finishes.NothingHeld) hand at is = absurd is
-refused_held o s t i old new (Err finishes.Mismatch) hand at (is, behind, seen, inl was) =
-    inl (same_seat s t at was.2)
-refused_held o s t i old new (Err finishes.Mismatch) hand at (is, behind, seen, inr (inl was)) =
+    → OnOk r (IsFinished (MayEnd table origin) o s t)
+finished_held table origin o s t i old new (Ok n) of hand at (f, is) =
+    ended_seat (MayEnd table origin) o s t i
+    (old, new, s.builder, t.builder, Ok n, of, (f, is), is) hand at is
+finished_held table origin o s t i old new (Err e) of hand at is = tt
+
+refused_held : (table : TableId) (origin : Origin) (o : Outcome) (s t : BuilderModel) (i : ℕ)
+    (old new : BookModel) (r : Result ℕ FinishRefusal) → IsOfDesk table origin old
+    → s.builder.hand ≡ Holding i → t.table ≡ s.table
+    → FinishHeld i o s.builder t.builder old new r
+    → OnErr r ((t ≡ s) ⊎ IsEarly (code_of o) s t ⊎ IsFinished (MayEnd table origin) o s t)
+refused_held table origin o s t i old new (Ok n) of hand at is = tt
+refused_held table origin o s t i old new (Err finishes.NoMemory) of hand at (same, is) =
+    inl (same_seat s t at is)
+refused_held table origin o s t i old new (Err finishes.NothingHeld) of hand at is = absurd is
+refused_held table origin o s t i old new (Err finishes.Mismatch) of hand at
+    (is, behind, seen, inl was) = inl (same_seat s t at was.2)
+refused_held table origin o s t i old new (Err finishes.Mismatch) of hand at
+    (is, behind, seen, inr (inl was)) =
     inr (inl (i, hand, (λ j. record { table = at j; builder = was.2 j })))
-refused_held o s t i old new (Err finishes.Mismatch) hand at (is, behind, seen, inr (inr was)) =
-    inr (inr (ended_seat o s t i hand at was.2))
+refused_held table origin o s t i old new (Err finishes.Mismatch) of hand at
+    (is, behind, seen, inr (inr was)) =
+    inr (inr (ended_seat (MayEnd table origin) o s t i (
+      old,
+      new,
+      s.builder,
+      t.builder,
+      Err finishes.Mismatch,
+      of,
+      (is, behind, seen, inr (inr was)),
+      was.2,
+    ) hand at was.2))
 
 pub finished : (table : TableId) (origin : Origin) (o : Outcome) (s t : BuilderModel)
     (r : Result ℕ FinishRefusal) → IsHolding s → t.table ≡ s.table
-    → Finishing o s t table origin r → OnOk r (IsFinished (code_of o) s t)
+    → Finishing o s t table origin r → OnOk r (IsFinished (MayEnd table origin) o s t)
 finished table origin o s t r (i, hand) at (old, new, of, inl (e, busy, all, same)) =
-    subst (λ x. OnOk x (IsFinished (code_of o) s t)) (sym e) tt
+    subst (λ x. OnOk x (IsFinished (MayEnd table origin) o s t)) (sym e) tt
 finished table origin o s t r (i, hand) at (old, new, of, inr is) =
     let f : FinishOutcome (Holding i) o s.builder t.builder old new r =
     subst (λ h. FinishOutcome h o s.builder t.builder old new r) hand is in
-    finished_held o s t i old new r hand at f
+    finished_held table origin o s t i old new r of hand at f
 
 pub kept_or_finished : (table : TableId) (origin : Origin) (o : Outcome) (s t : BuilderModel)
     (r : Result ℕ FinishRefusal) → IsHolding s → t.table ≡ s.table
     → Finishing o s t table origin r
-    → OnErr r ((t ≡ s) ⊎ IsEarly (code_of o) s t ⊎ IsFinished (code_of o) s t)
+    → OnErr r ((t ≡ s) ⊎ IsEarly (code_of o) s t ⊎ IsFinished (MayEnd table origin) o s t)
 kept_or_finished table origin o s t r (i, hand) at (old, new, of, inl (e, busy, all, same)) =
-    subst (λ x. OnErr x ((t ≡ s) ⊎ IsEarly (code_of o) s t ⊎ IsFinished (code_of o) s t)) (sym e)
-    (inl (same_seat s t at same))
+    subst (λ x. OnErr x ((t ≡ s) ⊎ IsEarly (code_of o) s t
+    ⊎ IsFinished (MayEnd table origin) o s t)) (sym e) (inl (same_seat s t at same))
 kept_or_finished table origin o s t r (i, hand) at (old, new, of, inr is) =
     let f : FinishOutcome (Holding i) o s.builder t.builder old new r =
     subst (λ h. FinishOutcome h o s.builder t.builder old new r) hand is in
-    refused_held o s t i old new r hand at f
+    refused_held table origin o s t i old new r of hand at f
 
 pub at_end : (table : TableId) (origin : Origin) (b : Bool)
     → (book : BookModel) × IsOfDesk table origin book × (b ≡ is_any_queued (rows_of book.history))

@@ -10,11 +10,13 @@ use Rattle.td_rows.specs.declared.outcome.Outcome.{Outcome}
 use Rattle.td_rows.specs.Keys.{names}
 use Rattle.td_journal.specs.Entries.{standing}
 use Rattle.td_journal.specs.Replay.{Lawful}
+use Rattle.td_core.specs.History.{rows_of}
 use Rattle.td_wbread.specs.Command.{CommandParts}
 use Rattle.td_wbread.specs.Kinds.{kind_of}
 use Rattle.td_board.specs.Seats.{BuilderModel}
 use Rattle.td_board.specs.declared.views.BuilderView.{BuilderView}
 use Rattle.td_board.specs.declared.views.Hand.TheVariants.{Free}
+use Rattle.td_board.specs.Knowledge.{with_finish}
 use Rattle.td_book.specs.declared.arriving.ArriveRefusal.{ArriveRefusal}
 use Rattle.td_book.specs.declared.commanding.CommandRefusal.{CommandRefusal}
 use Rattle.td_book.specs.declared.commanding.Taken.{Taken}
@@ -28,8 +30,10 @@ use Rattle.td_book.specs.declared.skips.Skip.{Skip}
 use Rattle.td_book.specs.Arriving.{ArriveOutcome, SweepOutcome}
 use Rattle.td_book.specs.Building.{IsJobAt, StartOutcome}
 use Rattle.td_book.specs.Commands.{IsDone, named_by}
+use Rattle.td_book.specs.Deeds.{code_of}
 use Rattle.td_book.specs.Desk.{BookModel}
-use Rattle.td_book.specs.Finishing.{FinishOutcome}
+use Rattle.td_book.specs.Finishing.{FinishHeld, FinishOutcome}
+use Rattle.td_book.specs.Ready.{IsReady}
 use Rattle.td_book.specs.Undoing.{UndoAnswer, undo_stop}
 use Rattle.td_desk.specs.declared.receipt.Receipt.{Receipt}
 use Rattle.td_desk.specs.declared.receipt.Receipt.TheVariants.{Made}
@@ -118,8 +122,22 @@ Finishing outcome seat after table origin result =
     (old : BookModel) × (new : BookModel) × IsOfDesk table origin old
     × FinishTold outcome seat.builder after.builder old new result
 
--- ---- 3. jobs
+-- ---- 3. what builders are told
+
+-- which numbers may be offered to builders: those of the rows that need a build in a book of the
+-- desk, in their order
+abbrev pub MayBeReady : TableId → Origin → List ℕ → Type 0
+MayBeReady table origin numbers =
+    (b : BookModel) × IsOfDesk table origin b × IsReady (rows_of b.history) numbers
 
 -- which jobs may be answered for the row with a number: those of a book of the desk
 abbrev pub MayBeJob : TableId → Origin → ℕ → Job → Type 0
 MayBeJob table origin row job = (b : BookModel) × IsOfDesk table origin b × IsJobAt row b job
+
+-- with which outcomes the build of the row with a number may end: a book of the desk was told this
+-- outcome, text included, by a builder who held the row, and the builder's build ended
+abbrev pub MayEnd : TableId → Origin → ℕ → Outcome → Type 0
+MayEnd table origin row outcome =
+    (old : BookModel) × (new : BookModel) × (v : BuilderView) × (w : BuilderView)
+    × (answer : Result ℕ FinishRefusal) × IsOfDesk table origin old
+    × FinishHeld row outcome v w old new answer × (w ≡ with_finish row (code_of outcome) v)

@@ -2,8 +2,8 @@
 ghost use Rattle.std.specs.Prelude.{◌≡◌, IfOk};
 ghost use Rattle.td_core.specs.History.{rows_of};
 ghost use Rattle.td_book.specs.Desk.{BookModel};
-ghost use Rattle.td_book.specs.Ready.{IsReady, is_any_queued};
-ghost use Rattle.td_desk.specs.Calls.{IsOfDesk, Starting, Finishing};
+ghost use Rattle.td_book.specs.Ready.{is_any_queued};
+ghost use Rattle.td_desk.specs.Calls.{IsOfDesk, MayBeReady, Starting, Finishing};
 
 use crate::desk::Desk;
 use crate::named::Named;
@@ -18,8 +18,7 @@ use td_rows::Outcome;
 impl<'a, N: Named, C: Ledger> Desk<'a, N, C> {
     /// The numbers of the rows that wait for a builder, in the order in which they are to be tried.
     pub fn ready<R: Wait>(&self, rt: &R) -> Result<Vec<usize>, AllocError>
-        ensures { IfOk result (λ numbers. (book : BookModel) × IsOfDesk N.table N.origin book
-            × IsReady (rows_of book.history) numbers.items) }
+        ensures { IfOk result (λ numbers. MayBeReady N.table N.origin numbers.items) }
     {
         let locked = self.locked.lock(rt);
         locked.book().ready()

@@ -3,9 +3,10 @@ ghost use Rattle.std.specs.Prelude.{◌≡◌, ◌⊎◌, false, IfErr, IfOk, On
 ghost use Rattle.td_core.specs.History.{rows_of};
 ghost use Rattle.td_book.specs.Deeds.{code_of};
 ghost use Rattle.td_book.specs.Desk.{BookModel};
-ghost use Rattle.td_book.specs.Ready.{IsReady, is_any_queued};
+ghost use Rattle.td_book.specs.Ready.{is_any_queued};
 ghost use Rattle.td_builder.specs.Floors.{IsHolding, IsStarted, IsEarly, IsFinished};
-ghost use Rattle.td_desk.specs.Calls.{IsOfDesk, Starting, Finishing, MayBeJob};
+ghost use Rattle.td_desk.specs.Calls.{IsOfDesk, Starting, Finishing, MayBeJob, MayBeReady};
+ghost use Rattle.td_desk.specs.Calls.{MayEnd};
 
 use crate::desk::Desk;
 use crate::named::Named;
@@ -23,13 +24,17 @@ impl<'a, N: Named, C: Ledger> Floor for Desk<'a, N, C> {
     ghost use Rattle.td_core.specs.History.{rows_of};
     ghost use Rattle.td_book.specs.Desk.{BookModel};
     ghost use Rattle.td_book.specs.Ready.{is_any_queued};
-    ghost use Rattle.td_desk.specs.Calls.{IsOfDesk, MayBeJob};
+    ghost use Rattle.td_desk.specs.Calls.{IsOfDesk, MayBeJob, MayBeReady, MayEnd};
 
     ghost table = { λ d. N.table };
 
     ghost rows = { λ d. d.board.rows };
 
+    ghost offers = { λ d. MayBeReady N.table N.origin };
+
     ghost jobs = { λ d. MayBeJob N.table N.origin };
+
+    ghost ends = { λ d. MayEnd N.table N.origin };
 
     ghost ended = { λ d. (book : BookModel) × IsOfDesk N.table N.origin book
         × (is_any_queued (rows_of book.history) ≡ false) };
@@ -37,8 +42,7 @@ impl<'a, N: Named, C: Ledger> Floor for Desk<'a, N, C> {
     ghost stopped = { λ d stop. Unit {0} };
 
     fn ready<R: Wait>(&self, rt: &R) -> Result<Vec<usize>, AllocError>
-        ensures answer { IfOk result (λ numbers. (book : BookModel)
-            × IsOfDesk N.table N.origin book × IsReady (rows_of book.history) numbers.items) }
+        ensures offered { IfOk result (λ numbers. MayBeReady N.table N.origin numbers.items) }
         ensures err { OnErr result (Unit {0}) }
     {
         Desk::ready(self, rt)
@@ -68,10 +72,11 @@ impl<'a, N: Named, C: Ledger> Floor for Desk<'a, N, C> {
         requires table { seat.old.table ≡ N.table }
         requires hand { IsHolding seat.old }
         ensures answer { Finishing outcome seat.old seat.new N.table N.origin result }
-        ensures ok { OnOk result (IsFinished (code_of outcome) seat.old seat.new) }
+        ensures ok { OnOk result
+            (IsFinished (MayEnd N.table N.origin) outcome seat.old seat.new) }
         ensures seat { OnErr result
             ((seat.new ≡ seat.old) ⊎ IsEarly (code_of outcome) seat.old seat.new
-            ⊎ IsFinished (code_of outcome) seat.old seat.new) }
+            ⊎ IsFinished (MayEnd N.table N.origin) outcome seat.old seat.new) }
         ensures err { IfErr result (λ e. Unit {0}) }
     {
         Desk::finish(self, rt, seat, outcome)
