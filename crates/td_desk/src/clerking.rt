@@ -43,12 +43,14 @@ impl<'a, N: Named, C: Ledger> Desk<'a, N, C> {
         answer
     }
 
-    /// An undo by a clerk.
+    /// An undo by a clerk. Room for its receipt is made before the lock is taken. That there is
+    /// none is told after the marks were asked.
     pub fn undo<R: Wait>(&self, rt: &R, clerk: &mut Clerk<C>, n: EntryNo) -> Result<(), UndoRefusal>
         ensures ok { OnOk result (clerk.new ≡ with_receipt (receipt.Undid n) clerk.old) }
         ensures err { OnErr result (clerk.new ≡ clerk.old) }
         ensures answer { Undoing n N.table N.origin result }
     {
+        let _ = clerk.receipts.reserve(1);
         let answer = self
             .locked
             .lock(rt)
@@ -57,7 +59,8 @@ impl<'a, N: Named, C: Ledger> Desk<'a, N, C> {
         answer
     }
 
-    /// An arrival that a clerk tells of.
+    /// An arrival that a clerk tells of. Room for its receipt is made before the lock is taken. That
+    /// there is none is told after the row was asked for.
     pub fn arrive<R: Wait>(
         &self,
         rt: &R,
@@ -69,6 +72,7 @@ impl<'a, N: Named, C: Ledger> Desk<'a, N, C> {
         ensures err { OnErr result (clerk.new ≡ clerk.old) }
         ensures answer { Arriving key.now N.table N.origin result }
     {
+        let _ = clerk.receipts.reserve(1);
         let answer = self
             .locked
             .lock(rt)

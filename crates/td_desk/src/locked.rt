@@ -15,7 +15,7 @@ ghost use Rattle.td_desk.specs.inner.Held.{IsHeld};
 ghost use Rattle.td_desk.specs.inner.Telling.{IsTold, IsUntold};
 
 use crate::named::Named;
-use crate::receipt::Receipt;
+use crate::receipt::{Receipt, has_room};
 use crate::tick::{Tick, add_ticks};
 use crate::told::{Draft, left_out};
 use std::alloc::{AllocError, Global};
@@ -113,6 +113,7 @@ impl<'a, N: Named, C: Ledger> Locked<'a, N, C> {
         ensures untold { OnErr result (IsUntold
             receipts.old.items receipts.new.items mine.old.amount mine.new.amount) }
         ensures parts { mine.new.parts ≡ mine.old.parts }
+        ensures no_growth { vec_capacity receipts.new ≡ vec_capacity receipts.old }
         ensures shut { self.new.shut ≡ self.old.shut }
         ensures of_desk { IsOfDesk N.table N.origin self.old.book }
         ensures answer { IsDone (parts_of command.now) self.old.book self.new.book result }
@@ -138,7 +139,8 @@ impl<'a, N: Named, C: Ledger> Locked<'a, N, C> {
         Ok(taken)
     }
 
-    /// An undo, with its receipt. One that the marks refuse is told so before memory is taken.
+    /// An undo, with its receipt. One that the marks refuse is told so also if its receipt has no
+    /// room.
     pub(crate) fn undo(
         &mut self,
         board: &Board,
@@ -154,6 +156,7 @@ impl<'a, N: Named, C: Ledger> Locked<'a, N, C> {
         ensures untold { OnErr result (IsUntold
             receipts.old.items receipts.new.items mine.old.amount mine.new.amount) }
         ensures parts { mine.new.parts ≡ mine.old.parts }
+        ensures no_growth { vec_capacity receipts.new ≡ vec_capacity receipts.old }
         ensures shut { self.new.shut ≡ self.old.shut }
         ensures of_desk { IsOfDesk N.table N.origin self.old.book }
         ensures answer { UndoTold n self.old.book self.new.book result }
@@ -168,7 +171,7 @@ impl<'a, N: Named, C: Ledger> Locked<'a, N, C> {
         if let Some(refusal) = book.undo_refusal(n) {
             return Err(refusal);
         }
-        if receipts.reserve(1).is_err() || add_ticks(ticks, book.journal().len(), 1).is_err() {
+        if !has_room(receipts) || add_ticks(ticks, book.journal().len(), 1).is_err() {
             return Err(UndoRefusal::NoMemory);
         }
         book.undo_standing(board, n)?;
@@ -177,8 +180,8 @@ impl<'a, N: Named, C: Ledger> Locked<'a, N, C> {
         Ok(())
     }
 
-    /// An arrival, with its receipt. One without a row on which it applies is told so before memory
-    /// is taken.
+    /// An arrival, with its receipt. One without a row on which it applies is told so also if its
+    /// receipt has no room.
     pub(crate) fn arrive(
         &mut self,
         mine: &mut Share<C>,
@@ -193,6 +196,7 @@ impl<'a, N: Named, C: Ledger> Locked<'a, N, C> {
         ensures untold { OnErr result (IsUntold
             receipts.old.items receipts.new.items mine.old.amount mine.new.amount) }
         ensures parts { mine.new.parts ≡ mine.old.parts }
+        ensures no_growth { vec_capacity receipts.new ≡ vec_capacity receipts.old }
         ensures shut { self.new.shut ≡ self.old.shut }
         ensures of_desk { IsOfDesk N.table N.origin self.old.book }
         ensures answer { ArriveOutcome key.now self.old.book self.new.book result }
@@ -210,7 +214,7 @@ impl<'a, N: Named, C: Ledger> Locked<'a, N, C> {
         let Ok(keys) = Keys::of_one(alloc, key) else {
             return Err(ArriveRefusal::NoMemory);
         };
-        if receipts.reserve(1).is_err() || add_ticks(ticks, book.journal().len(), 1).is_err() {
+        if !has_room(receipts) || add_ticks(ticks, book.journal().len(), 1).is_err() {
             return Err(ArriveRefusal::NoMemory);
         }
         let n = book.arrive(key)?;
@@ -237,6 +241,7 @@ impl<'a, N: Named, C: Ledger> Locked<'a, N, C> {
         ensures untold { OnErr result (IsUntold
             receipts.old.items receipts.new.items mine.old.amount mine.new.amount) }
         ensures parts { mine.new.parts ≡ mine.old.parts }
+        ensures no_growth { vec_capacity receipts.new ≡ vec_capacity receipts.old }
         ensures shut { self.new.shut ≡ self.old.shut }
         ensures of_desk { IsOfDesk N.table N.origin self.old.book }
         ensures answer { SweepOutcome self.old.book self.new.book result }

@@ -1,5 +1,5 @@
 //! Receipts of changes.
-ghost use Rattle.std.specs.Prelude.{◌≡◌};
+ghost use Rattle.std.specs.Prelude.{◌≡◌, ◌<◌, ◌↔◌, IsTrue, vec_capacity, vec_len};
 ghost use Rattle.td_desk.specs.declared.receipt.Receipt.TheVariants as receipt;
 ghost use Rattle.td_desk.specs.Receipts.{number_of};
 ghost use Rattle.td_desk.specs.inner.Matching.{same_receipt, change_of};
@@ -57,4 +57,11 @@ impl Receipt {
             _ => false,
         }
     }
+}
+
+/// Whether there is room for a receipt more.
+pub(crate) fn has_room(receipts: &Vec<Receipt>) -> bool
+    ensures { IsTrue result ↔ (vec_len receipts.now < vec_capacity receipts.now) }
+{
+    receipts.len() < receipts.capacity()
 }
