@@ -20,7 +20,7 @@ ghost use Rattle.td_desk.specs.inner.Ticks.{AreBegun};
 
 use crate::clerk::Clerk;
 use crate::lock::Lock;
-use crate::locked::Locked;
+use crate::locked::{Locked, Shut};
 use crate::named::Named;
 use crate::place::set_ticks;
 use crate::tick::Tick;
@@ -165,9 +165,11 @@ impl<'a, N: Named, C: Ledger> Desk<'a, N, C> {
         f(locked.book())
     }
 
-    /// Says that nothing more comes: builders whom no row waits for go home.
-    pub fn shut<R: Wait>(&self, rt: &R) {
-        self.locked.shut(rt);
+    /// Says that nothing more comes: builders whom no row waits for go home. No other call says so.
+    pub fn shut<R: Wait>(&self, rt: &R) -> Shut<N>
+        requires { N.may_shut ≡ true }
+    {
+        self.locked.shut(rt)
     }
 
     /// A builder's claim of a row, without the lock.

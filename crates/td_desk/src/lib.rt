@@ -5,8 +5,8 @@
 //! no lock. A `Clerk` keeps a receipt of each change that it made, and
 //! `Desk::close` holds the receipts of all clerks against the book. `hire` seats builders at it.
 //! Promised: each accepted call of a clerk adds its receipt and counts it in a ledger; a desk is
-//! closed exactly where the receipts handed in are the book's changes, each once; and what a call
-//! answers is what the book's call answers on a book at the named board.
+//! closed exactly where the receipts handed in are the book's changes, each once; what a call
+//! answers is what the book's call answers on a book at the named board; and `shut` alone shuts it.
 #![tactic(auto)]
 
 mod building;
@@ -29,5 +29,6 @@ pub use clerk::Clerk;
 pub use closing::Differ;
 pub use desk::{Desk, PARTS};
 pub use hired::{Hired, hire};
+pub use locked::Shut;
 pub use named::Named;
 pub use receipt::Receipt;

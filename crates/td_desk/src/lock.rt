@@ -4,7 +4,7 @@ ghost use Rattle.std.specs.Sync.Mutex.{mutex_guard_value};
 ghost use Rattle.td_core.specs.History.{rows_of};
 ghost use Rattle.td_book.specs.Ready.{is_any_queued};
 
-use crate::locked::Locked;
+use crate::locked::{Locked, Shut};
 use crate::named::Named;
 use std::sync::ledger::Ledger;
 use std::sync::{Condvar, Mutex, MutexGuard, Wait};
@@ -39,9 +39,12 @@ impl<'a, N: Named, C: Ledger> Lock<'a, N, C> {
     }
 
     /// Shuts the desk, and wakes those who wait.
-    pub(crate) fn shut<R: Wait>(&self, rt: &R) {
-        self.locked.lock(rt).shut();
+    pub(crate) fn shut<R: Wait>(&self, rt: &R) -> Shut<N>
+        requires { N.may_shut ≡ true }
+    {
+        let shut = self.locked.lock(rt).shut();
         self.wake();
+        shut
     }
 
     /// Waits until a row waits for a builder, or the desk is shut, and takes the lock.

@@ -30,6 +30,22 @@ use td_journal::{EntryNo, Keys};
 use td_rows::{Key, Kind, Outcome};
 use td_wbread::Command;
 
+/// That a desk is shut. It is made of what lies under the lock while that is shut, and nothing
+/// opens a desk again.
+#[derive(Drop)]
+pub struct Shut<N: Named> {
+    of: PhantomData<N>,
+}
+
+impl<N: Named> Shut<N> {
+    fn of<C: Ledger>(locked: &Locked<'_, N, C>) -> Shut<N>
+        requires { locked.now.shut ≡ true }
+    {
+        let _shut = locked;
+        Shut { of: PhantomData }
+    }
+}
+
 /// The book, the ledger whose total is the number of its changes, and ticks for its entries, so
 /// that closing takes no memory.
 #[derive(Drop)]
@@ -69,11 +85,13 @@ impl<'a, N: Named, C: Ledger> Locked<'a, N, C> {
     }
 
     /// Shuts the desk.
-    pub(crate) fn shut(&mut self)
+    pub(crate) fn shut(&mut self) -> Shut<N>
+        requires { N.may_shut ≡ true }
         ensures shut { self.new.shut ≡ true }
         ensures book { self.new.book ≡ self.old.book }
     {
         self.shut = true;
+        Shut::of(self)
     }
 
     /// Whether who asks for work has to wait: the desk is open, and no row waits for a builder.

@@ -1,10 +1,11 @@
 //! Names of boards.
 use std::marker::Brand;
 
-/// Names one board, what its book starts from, and the marks of the journal with which it was
-/// opened. A function over a name is called with `Brand`, and the call picks what it names.
+/// Names one board, what its book starts from, the marks of the journal with which it was opened,
+/// and whether its desk may be shut. A function over a name is called with `Brand`, and the call
+/// picks what it names.
 pub trait Named {
-    ghost use Rattle.std.specs.Prelude.{List};
+    ghost use Rattle.std.specs.Prelude.{Bool, List};
     ghost use Rattle.atomic_table.specs.Seated.{TableId};
     ghost use Rattle.td_journal.specs.declared.entry.Mark.{Mark};
     ghost use Rattle.td_desk.specs.Names.{Origin};
@@ -14,10 +15,12 @@ pub trait Named {
     ghost origin: { Origin };
 
     ghost opened: { List Mark };
+
+    ghost may_shut: { Bool };
 }
 
 impl Named for Brand {
-    ghost use Rattle.std.specs.Prelude.{[]};
+    ghost use Rattle.std.specs.Prelude.{[], true};
     ghost use Rattle.td_desk.specs.Names.{no_origin, no_table};
 
     ghost table = { no_table };
@@ -25,4 +28,6 @@ impl Named for Brand {
     ghost origin = { no_origin };
 
     ghost opened = { [] };
+
+    ghost may_shut = { true };
 }
