@@ -3,9 +3,10 @@ ghost use Rattle.std.specs.Prelude.{◌≡◌, ◌⊎◌, false, IfErr, IfOk, On
 ghost use Rattle.td_core.specs.History.{rows_of};
 ghost use Rattle.td_book.specs.Deeds.{code_of};
 ghost use Rattle.td_book.specs.Desk.{BookModel};
-ghost use Rattle.td_book.specs.Ready.{IsReady, is_any_queued};
+ghost use Rattle.td_book.specs.Ready.{is_any_queued};
 ghost use Rattle.td_builder.specs.Floors.{IsHolding, IsStarted, IsEarly, IsFinished};
-ghost use Rattle.td_desk.specs.Calls.{IsOfDesk, Starting, Finishing, MayBeJob};
+ghost use Rattle.td_desk.specs.Calls.{IsOfDesk, Starting, Finishing, MayBeJob, MayBeReady};
+ghost use Rattle.td_desk.specs.Calls.{MayEnd};
 ghost use Rattle.td_crew.specs.Home.{IsAtEnd};
 
 use std::alloc::AllocError;
@@ -43,22 +44,25 @@ impl<'d, 'a, N: Named, C: Ledger> Shift<'d, 'a, N, C> {
 }
 
 impl<'d, 'a, N: Named, C: Ledger> Floor for Shift<'d, 'a, N, C> {
-    ghost use Rattle.td_desk.specs.Calls.{MayBeJob};
+    ghost use Rattle.td_desk.specs.Calls.{MayBeJob, MayBeReady, MayEnd};
     ghost use Rattle.td_crew.specs.Home.{IsAtEnd};
 
     ghost table = { λ s. N.table };
 
     ghost rows = { λ s. s.desk.now.board.rows };
 
+    ghost offers = { λ s. MayBeReady N.table N.origin };
+
     ghost jobs = { λ s. MayBeJob N.table N.origin };
+
+    ghost ends = { λ s. MayEnd N.table N.origin };
 
     ghost ended = { λ s. IsAtEnd N.table N.origin };
 
     ghost stopped = { λ s stop. Unit {0} };
 
     fn ready<R: Wait>(&self, rt: &R) -> Result<Vec<usize>, AllocError>
-        ensures answer { IfOk result (λ numbers. (book : BookModel)
-            × IsOfDesk N.table N.origin book × IsReady (rows_of book.history) numbers.items) }
+        ensures offered { IfOk result (λ numbers. MayBeReady N.table N.origin numbers.items) }
         ensures err { OnErr result (Unit {0}) }
     {
         if self.wants_memory.load(Ordering::SeqCst) {
@@ -89,10 +93,11 @@ impl<'d, 'a, N: Named, C: Ledger> Floor for Shift<'d, 'a, N, C> {
         requires table { seat.old.table ≡ N.table }
         requires hand { IsHolding seat.old }
         ensures answer { Finishing outcome seat.old seat.new N.table N.origin result }
-        ensures ok { OnOk result (IsFinished (code_of outcome) seat.old seat.new) }
+        ensures ok { OnOk result
+            (IsFinished (MayEnd N.table N.origin) outcome seat.old seat.new) }
         ensures seat { OnErr result
             ((seat.new ≡ seat.old) ⊎ IsEarly (code_of outcome) seat.old seat.new
-            ⊎ IsFinished (code_of outcome) seat.old seat.new) }
+            ⊎ IsFinished (MayEnd N.table N.origin) outcome seat.old seat.new) }
         ensures err { IfErr result (λ e. Unit {0}) }
     {
         Floor::finish(self.desk, rt, seat, outcome)
