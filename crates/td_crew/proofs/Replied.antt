@@ -9,7 +9,6 @@ use Rattle.atomic_table.specs.Seated.{TableId}
 use Rattle.td_rows.specs.declared.key.Key.{Key}
 use Rattle.td_rows.specs.declared.kind.Kind.{Kind}
 use Rattle.td_rows.specs.StateWord.{state_word}
-use Rattle.td_rows.specs.Table.{Table}
 use Rattle.td_core.specs.History.{History}
 use Rattle.td_wbread.specs.declared.fault.CommandFault.{CommandFault}
 use Rattle.td_wbread.specs.declared.fault.CommandFault.TheVariants.{Wrong}
@@ -44,7 +43,7 @@ use Rattle.td_script.specs.Replying.{IsArrivalRefused, IsCommandRefused, IsPut, 
 use Rattle.td_crew.specs.declared.shown.Shown.{Shown}
 use Rattle.td_crew.specs.Replies.{DeskReply, IsOfSweep, IsOfUndo, IsSaid, IsShown, MayAnswer}
 use Rattle.td_crew.specs.Replies.{MayArrive}
-use Rattle.td_crew.specs.Replies.{MayCommand, MayReply, MayReport, MaySay, MayShow, MaySweep}
+use Rattle.td_crew.specs.Replies.{MayCommand, MayReply, MaySay, MayShow, MaySweep}
 use Rattle.td_crew.specs.Replies.{MayType, MayUndo, Says}
 use Rattle.td_crew.specs.Replies.{declines, keys_at, makes, tells}
 use Rattle.td_crew.specs.CrewText.{AreTold, Told, with_reply}
@@ -303,26 +302,6 @@ refusal_said May name before now receipts may put = (
       refl,
 )
 
--- a report is said, whichever it is
-pub report_said : (report : Option (Table → List ℕ)) (with : Table → List ℕ)
-    (before text now : List ℕ) (receipts : List Receipt) → report ≡ Some with
-    → now ≡ before ++ text → Says (MayReport report) before now receipts receipts false
-report_said report with before text now receipts is put = (
-  tells text,
-  subst (λ (o : Option (Table → List ℕ)). MayReport o (tells text)) (sym is) (text, refl),
-  record { text_is = put; receipts_are = sym (append-nil receipts); refusal = refl },
-)
-
--- and that there is none
-pub untracked_said : (report : Option (Table → List ℕ)) (before now : List ℕ)
-    (receipts : List Receipt) → report ≡ None
-    → now ≡ before ++ refusal_line (codes "NoTracker")
-    → Says (MayReport report) before now receipts receipts true
-untracked_said report before now receipts is put =
-    refusal_said (MayReport report) (codes "NoTracker") before now receipts
-    (subst (λ (o : Option (Table → List ℕ)). MayReport o (declines (codes "NoTracker") [])) (sym is)
-    refl) put
-
 -- what is said to a line that is typed and has a fault
 pub fault_said : (Of : BookModel → Type 0) (read : Result CommandParts CommandFault)
     (e : CommandFault) (what : LineFault) (place : ℕ) (before now : List ℕ)
@@ -373,7 +352,7 @@ answer_more Of Also f s requests.Sweep r m =
     (m.0, m.1, m.2, f m.0 m.3, m.4, swept_more Of Also f m.2 r m.5)
 answer_more Of Also f s (requests.Row k) r m = (m.0, f m.0 m.1, m.2)
 answer_more Of Also f s (requests.Entry n) r m = (m.0, f m.0 m.1, m.2)
-answer_more Of Also f s requests.Report r m = m
+answer_more Of Also f s requests.Report r m = (m.0, f m.0 m.1, m.2)
 answer_more Of Also f s requests.Journal r m = (m.0, f m.0 m.1, m.2)
 
 type_more : (Of Also : BookModel → Type 0) → ((b : BookModel) → Of b → Also b)

@@ -24,8 +24,7 @@ use Rattle.td_desk.specs.declared.receipt.Receipt.{Receipt}
 use Rattle.td_desk.specs.declared.receipt.Receipt.TheVariants.{Swept, Undid}
 use Rattle.td_desk.specs.Calls.{UndoTold, arrival_receipt, command_receipt, without}
 use Rattle.td_script.specs.declared.request.Request.{Request}
-use Rattle.td_rows.specs.Table.{Table}
-use Rattle.td_script.specs.declared.request.Request.TheVariants.{Undo, Arrive, Sweep, Report}
+use Rattle.td_script.specs.declared.request.Request.TheVariants.{Undo, Arrive, Sweep}
 use Rattle.td_script.specs.declared.line.Said.{Said}
 use Rattle.td_script.specs.declared.line.Said.TheVariants.{Skipped, Asked, Bad, Typed}
 use Rattle.td_script.specs.Reading.{said_at}
@@ -135,17 +134,11 @@ MayShow Of reply r =
       receipts = [];
     })
 
--- to `report`: that there is no tracker, or some text
-abbrev pub MayReport : Option (Table → List ℕ) → DeskReply → Type 0
-MayReport None r = r ≡ declines (codes "NoTracker") []
-MayReport (Some report) r = (text : List ℕ) × (r ≡ tells text)
-
 -- to a request
 abbrev pub MayAnswer : (BookModel → Type 0) → Setting → Request → DeskReply → Type 0
 MayAnswer Of s (Undo n) r = MayUndo Of n r
 MayAnswer Of s (Arrive k) r = MayArrive Of k r
 MayAnswer Of s Sweep r = MaySweep Of r
-MayAnswer Of s Report r = MayReport s.report r
 MayAnswer Of s q r = MayShow Of (λ h. asks s h q) r
 
 -- to what is typed: to the command that it is, or its first fault

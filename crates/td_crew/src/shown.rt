@@ -5,19 +5,20 @@ ghost use Rattle.td_journal.specs.JournalText.{journal_text};
 ghost use Rattle.td_core.specs.History.{rows_of};
 ghost use Rattle.td_desk.specs.declared.receipt.Receipt.{Receipt as ReceiptValue};
 ghost use Rattle.td_desk.specs.Calls.{IsOfDesk};
-ghost use Rattle.td_script.specs.Replies.{entry_made, says, shows_entry, shows_row};
+ghost use Rattle.td_script.specs.Replies.{entry_made, reports as reports_of, says, shows_entry};
+ghost use Rattle.td_script.specs.Replies.{shows_row};
 ghost use Rattle.td_crew.specs.Lines.{FitAnyBook};
-ghost use Rattle.td_crew.specs.Replies.{IsShown, MayReport, MayShow, Says, keys_at};
+ghost use Rattle.td_crew.specs.Replies.{IsShown, MayShow, Says, keys_at};
 
 use crate::lines::Lines;
 use std::alloc::{AllocError, Global};
 use std::sync::Wait;
 use std::sync::ledger::Ledger;
 use td_book::Book;
-use td_desk::{Desk, Named};
+use td_desk::{Desk, Looks, Named};
 use td_journal::EntryNo;
 use td_rows::Key;
-use td_script::{Reports, put_refusal, put_taken, show_entry, show_journal, show_report, show_row};
+use td_script::{Reports, put_taken, show_entry, show_journal, show_report, show_row};
 
 /// What a book shows, and whether that is a refusal.
 #[derive(Drop)]
@@ -130,6 +131,31 @@ pub fn journal<N: Named, C: Ledger, R: Wait>(
     put_shown(out, shown)
 }
 
+// What tells the report of a book's rows, where there is a tracker.
+#[derive(Drop)]
+struct Reporter<'r, T: Reports> {
+    alloc: Global,
+    reports: Option<&'r T>,
+}
+
+impl<T: Reports> Looks<Result<Shown, AllocError>> for Reporter<'_, T> {
+    ghost use Rattle.std.specs.Prelude.{IfOk, option_map};
+    ghost use Rattle.td_script.specs.Replies.{reports as reports_of};
+    ghost use Rattle.td_crew.specs.Lines.{FitAnyBook};
+    ghost use Rattle.td_crew.specs.Replies.{IsShown};
+
+    ghost asks = { λ x. FitAnyBook T.fits x.reports };
+
+    ghost sees = { λ x book result. IfOk result
+        (IsShown (reports_of book.history (option_map (λ r. T.text r.now) x.reports))) };
+
+    fn see(&self, book: &Book<'_>) -> Result<Shown, AllocError> {
+        let mut text = String::new(self.alloc);
+        let refused = show_report(self.alloc, book, self.reports, &mut text)?;
+        Ok(Shown { text, refused })
+    }
+}
+
 /// Appends the report of the rows, where there is a tracker. The reports fit any book.
 pub fn report<N: Named, C: Ledger, T: Reports, R: Wait>(
     rt: &R,
@@ -139,35 +165,16 @@ pub fn report<N: Named, C: Ledger, T: Reports, R: Wait>(
 ) -> Result<bool, AllocError>
     requires fits { FitAnyBook T.fits lines.now.reports }
     ensures { (receipts : List ReceiptValue) → IfOk result (Says
-        (MayReport (option_map (λ r. T.text r.now) lines.now.reports)) (string_bytes out.old)
-        (string_bytes out.new) receipts receipts) }
+        (MayShow (IsOfDesk N.table N.origin)
+        (λ h. reports_of h (option_map (λ r. T.text r.now) lines.now.reports)))
+        (string_bytes out.old) (string_bytes out.new) receipts receipts) }
 {
-    let (alloc, reports) = (lines.alloc, lines.reports);
-    let Some(_) = reports else {
-        put_refusal(out, "NoTracker")?;
-        return Ok(true);
+    let reporter = Reporter {
+        alloc: lines.alloc,
+        reports: lines.reports,
     };
-    let text = desk.look(
-        rt,
-        |book| -> Result<String, AllocError>
-            requires { FitAnyBook T.fits reports }
-        { report_in(alloc, book, reports) },
-    )?;
-    out.push_str(text.as_str())?;
-    Ok(false)
-}
-
-// The report of a book's rows, where there is a tracker.
-fn report_in<T: Reports>(
-    alloc: Global,
-    book: &Book<'_>,
-    reports: Option<&T>,
-) -> Result<String, AllocError>
-    requires fits { FitAnyBook T.fits reports }
-{
-    let mut text = String::new(alloc);
-    show_report(alloc, book, reports, &mut text)?;
-    Ok(text)
+    let shown = desk.show::<Result<Shown, AllocError>, _, _>(rt, &reporter)?;
+    put_shown(out, shown)
 }
 
 /// The line of an entry that a sweep made, by the journal of a book behind it.

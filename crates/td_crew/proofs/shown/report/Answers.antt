@@ -1,14 +1,15 @@
--- What is said where there is a tracker, and where there is none.
-use Rattle.std.proofs.Common.{ap, option_map}
-use Rattle.td_crew.proofs.Replied.{report_said, untracked_said}
+-- The report that is told is that of a book of the desk.
+use Rattle.std.proofs.Common.{option_map, refl}
+use Rattle.std.proofs.lemmas.Result.{IfOk-weaker}
+use Rattle.td_script.specs.Replies.{reports}
+use Rattle.td_crew.proofs.Replied.{shown_said}
 use Rattle.td_crew.proofs.shown.report.Goals as goal
-
-pub returns-in_default : goal.returns-in_default
-returns-in_default g c = λ receipts.
-    untracked_said _ _ _ receipts (ap (option_map (λ r. g.T.Reports.text r.now)) c.in_default.is)
-    c.in_ok-put_refusal.ensures.ok
 
 pub returns : goal.returns
 returns g c = λ receipts.
-    report_said _ (g.T.Reports.text c.in-Some.field-0.now) _ c.as_str.result.now _ receipts
-    (ap (option_map (λ r. g.T.Reports.text r.now)) c.in-Some.is) c.in_ok-push_str.ensures.bytes
+    let seen = c.in_ok-shown.ensures in
+    let report = option_map (λ r. g.T.Reports.text r.now) c.args.lines.now.reports in
+    IfOk-weaker c.put_shown.result _ _
+    (λ refused put. shown_said g.N.Named.table g.N.Named.origin (λ h. reports h report) seen.0
+    seen.0 c.in_ok-shown.shown _ _ receipts refused seen.1 refl seen.2 put.0 put.1)
+    c.put_shown.ensures
