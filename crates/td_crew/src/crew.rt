@@ -31,7 +31,7 @@ use std::thread::Threads;
 use td_board::{Board, BuilderSeat, DeskSeat};
 use td_book::Book;
 use td_builder::Builds;
-use td_desk::{Clerk, Desk, Hired, Named, PARTS, hire};
+use td_desk::{Clerk, Desk, Hired, Named, PARTS, Shut, hire};
 use td_journal::ReadError;
 use td_report::Transition;
 use td_rows::{Rows, rows_text};
@@ -51,30 +51,35 @@ impl Staff for Crew {
     ghost tells = { λ crew. crew_tells crew.builders };
 }
 
-// What is told of the lines, and the clerk with the receipts of them; then the desk is shut.
+// What is told of the lines, and the clerk with the receipts of them; and that the desk is shut
+// then, also if memory ran out.
 fn tell_all<N: Named, C: Ledger, T: Reports, R: Wait>(
     rt: &R,
     desk: &Desk<'_, N, C>,
     clerk: Clerk<C>,
     lines: &Lines<'_, '_, T>,
-) -> Result<(Told, Clerk<C>), AllocError>
+) -> (Result<(Told, Clerk<C>), AllocError>, Shut<N>)
     requires fits { FitAnyBook T.fits lines.now.reports }
     requires archs { table lines.now.archs.now ≡ N.origin.stock.table }
     requires new { clerk.receipts ≡ [] }
-    ensures parts { IfOk result (λ made. made.1.parts ≡ clerk.parts) }
-    ensures few { IfOk result (λ made. made.0.refused ≤ length lines.now.script.now + 1) }
-    ensures told { IfOk result (λ made. AreAnswered N.table N.origin
+    requires may_shut { N.may_shut ≡ true }
+    ensures parts { IfOk result.0 (λ made. made.1.parts ≡ clerk.parts) }
+    ensures few { IfOk result.0 (λ made. made.0.refused ≤ length lines.now.script.now + 1) }
+    ensures told { IfOk result.0 (λ made. AreAnswered N.table N.origin
         (setting_lent T.text N.origin.stock lines.now.suites.now lines.now.reports)
         lines.now.script.now made.1.receipts made.0) }
 {
     let mut clerk = clerk;
     let told = tell_lines(rt, desk, &mut clerk, lines);
-    desk.shut(rt);
-    Ok((told?, clerk))
+    let shut = desk.shut(rt);
+    match told {
+        Ok(told) => (Ok((told, clerk)), shut),
+        Err(AllocError) => (Err(AllocError), shut),
+    }
 }
 
-// The same while builders work on threads of their own; they are joined then. It says how many of
-// so many are missing.
+// What is told of the lines while builders work on threads of their own, who are joined then, and
+// how many of so many are missing. The desk is shut, whatever came of it.
 fn tell_beside<N: Named + Send + Sync, C: Ledger + Send + Sync, T: Reports>(
     rt: &(impl Threads + Wait + Sync),
     shift: &Shift<'_, '_, N, C>,
@@ -83,35 +88,39 @@ fn tell_beside<N: Named + Send + Sync, C: Ledger + Send + Sync, T: Reports>(
     builders: u64,
     builds: &(impl Builds + Sync),
     lines: &Lines<'_, '_, T>,
-) -> Result<(Told, Clerk<C>, u64), AllocError>
+) -> (Result<(Told, Clerk<C>, u64), AllocError>, Shut<N>)
     requires fits { FitAnyBook T.fits lines.now.reports }
     requires archs { table lines.now.archs.now ≡ N.origin.stock.table }
     requires new { clerk.receipts ≡ [] }
-    ensures parts { IfOk result (λ made. made.1.parts ≡ clerk.parts) }
-    ensures few { IfOk result (λ made. made.0.refused ≤ length lines.now.script.now + 1) }
-    ensures told { IfOk result (λ made. AreAnswered N.table N.origin
+    requires may_shut { N.may_shut ≡ true }
+    ensures parts { IfOk result.0 (λ made. made.1.parts ≡ clerk.parts) }
+    ensures few { IfOk result.0 (λ made. made.0.refused ≤ length lines.now.script.now + 1) }
+    ensures told { IfOk result.0 (λ made. AreAnswered N.table N.origin
         (setting_lent T.text N.origin.stock lines.now.suites.now lines.now.reports)
         lines.now.script.now made.1.receipts made.0) }
-    ensures missing { IfOk result (λ made. made.2 ≤ builders) }
-    ensures home { IfOk result (λ made. made.2 < builders → IsAtEnd N.table N.origin) }
+    ensures missing { IfOk result.0 (λ made. made.2 ≤ builders) }
+    ensures home { IfOk result.0 (λ made. made.2 < builders → IsAtEnd N.table N.origin) }
 {
     thread::scope(
         thread::scope_env(),
         rt,
-        |scope| -> Result<(Told, Clerk<C>, u64), AllocError>
+        |scope| -> (Result<(Told, Clerk<C>, u64), AllocError>, Shut<N>)
             requires fits { FitAnyBook T.fits lines.now.reports }
             requires archs { table lines.now.archs.now ≡ N.origin.stock.table }
             requires new { clerk.receipts ≡ [] }
-            ensures parts { IfOk result (λ made. made.1.parts ≡ clerk.parts) }
-            ensures few { IfOk result (λ made.
+            requires may_shut { N.may_shut ≡ true }
+            ensures parts { IfOk result.0 (λ made. made.1.parts ≡ clerk.parts) }
+            ensures few { IfOk result.0 (λ made.
                 made.0.refused ≤ length lines.entry.now.script.now + 1) }
-            ensures told { IfOk result (λ made. AreAnswered N.table N.origin
+            ensures told { IfOk result.0 (λ made. AreAnswered N.table N.origin
                 (setting_lent T.text N.origin.stock lines.entry.now.suites.now
                 lines.entry.now.reports) lines.entry.now.script.now made.1.receipts made.0) }
-            ensures missing { IfOk result (λ made. made.2 ≤ builders) }
-            ensures home { IfOk result (λ made. made.2 < builders → IsAtEnd N.table N.origin) }
+            ensures missing { IfOk result.0 (λ made. made.2 ≤ builders) }
+            ensures home { IfOk result.0 (λ made. made.2 < builders → IsAtEnd N.table N.origin) }
         {
-            let mut threads = Vec::with_capacity(lines.alloc, hired.len())?;
+            let Ok(mut threads) = Vec::with_capacity(lines.alloc, hired.len()) else {
+                return (Err(AllocError), shift.desk.shut(rt));
+            };
             for one in hired {
                 // (a builder without a thread is missing)
                 let begun = scope.spawn_with(
@@ -122,13 +131,17 @@ fn tell_beside<N: Named + Send + Sync, C: Ledger + Send + Sync, T: Reports>(
                     continue;
                 };
                 if threads.push(thread).is_err() {
-                    shift.desk.shut(rt);
-                    return Err(AllocError);
+                    return (Err(AllocError), shift.desk.shut(rt));
                 }
             }
-            let (told, clerk) = tell_all(rt, shift.desk, clerk, lines)?;
-            let missing = missing_builders(rt, threads, builders)?;
-            Ok((told, clerk, missing))
+            let (told, shut) = tell_all(rt, shift.desk, clerk, lines);
+            match told {
+                Ok((told, clerk)) => match missing_builders(rt, threads, builders) {
+                    Ok(missing) => (Ok((told, clerk, missing)), shut),
+                    Err(AllocError) => (Err(AllocError), shut),
+                },
+                Err(AllocError) => (Err(AllocError), shut),
+            }
         },
     )
 }
@@ -148,6 +161,7 @@ fn tell_in_shift<N: Named + Send + Sync, C: Ledger + Send + Sync, T: Reports>(
     requires fits { FitAnyBook T.fits lines.now.reports }
     requires archs { table lines.now.archs.now ≡ N.origin.stock.table }
     requires new { clerk.receipts ≡ [] }
+    requires may_shut { N.may_shut ≡ true }
     ensures parts { IfOk result (λ made. made.1.parts ≡ clerk.parts) }
     ensures few { IfOk result (λ made.
         made.0.refused ≤ length lines.now.script.now + length seats.items + 1) }
@@ -158,9 +172,8 @@ fn tell_in_shift<N: Named + Send + Sync, C: Ledger + Send + Sync, T: Reports>(
     let builders = seats.len() as u64;
     let hired = hire::<N>(lines.alloc, seats)?;
     let shift = Shift::new(desk);
-    let (mut told, clerk, missing) = tell_beside(
-        rt, &shift, clerk, hired, builders, builds, lines,
-    )?;
+    let (told, _shut) = tell_beside(rt, &shift, clerk, hired, builders, builds, lines);
+    let (mut told, clerk, missing) = told?;
     told.refused += missing;
     Ok((told, clerk))
 }
@@ -245,6 +258,7 @@ fn tell_at<N: Named + Send + Sync, C: Ledger + Send + Sync, T: Reports>(
     requires new { clerk ≡ record { parts = 1024; receipts = [] } }
     requires opened { N.opened ≡ marks_begun N.origin.journal }
     requires short { IsShort N.origin.journal }
+    requires may_shut { N.may_shut ≡ true }
     ensures { IfOk result (EndsFrom (length seats.items)
         (setting_lent T.text N.origin.stock lines.now.suites.now lines.now.reports)
         N.origin.journal N.origin.rows lines.now.script.now) }
@@ -326,6 +340,7 @@ fn tell_named<N: Named + Send + Sync, C: Ledger + Send + Sync, T: Reports>(
     requires ledger { (blank.name ≡ C.name) × (blank.parts ≡ C.parts) × (blank.parts ≡ 1024) }
     requires fits { FitAnyBook T.fits lines.now.reports }
     requires archs { table lines.now.archs.now ≡ (stock_of supply).table }
+    requires may_shut { N.may_shut ≡ true }
     ensures begun { OnOk result (HasBegun (option_map (λ s. s.now) lines.now.journal) rows) }
     ensures told { IfOk result (EndsFrom (length seats.items)
         (setting_lent T.text (stock_of supply.entry) lines.now.suites.now lines.now.reports)

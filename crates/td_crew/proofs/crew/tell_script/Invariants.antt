@@ -1,5 +1,5 @@
 -- What `tell_script` calls its callees with, for their ghost members.
-use Rattle.std.specs.Prelude.{option_map}
+use Rattle.std.specs.Prelude.{option_map, true}
 use Rattle.td_supply.specs.Supply.{stock_of}
 use Rattle.td_crew.specs.CrewText.{marks_begun}
 use Rattle.td_crew.proofs.crew.tell_script.Given as goal
@@ -14,6 +14,7 @@ ghosts-tell_named-N-Named g a =
         journal = option_map (λ s. s.now) a.lines.now.journal;
       };
       opened = marks_begun (option_map (λ s. s.now) a.lines.now.journal);
+      may_shut = true;
     }
 
 abbrev pub ghosts-tell_named-C-Ledger : goal.ghosts-tell_named-C-Ledger
