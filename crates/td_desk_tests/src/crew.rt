@@ -1,5 +1,7 @@
 //! Builders on threads of their own beside clerks, who command and undo by a fixed sequence of
 //! numbers.
+ghost use Rattle.std.specs.Prelude.{◌≡◌, true};
+
 use crate::people::{People, build, command};
 use crate::sample::{TABLE, next_number};
 use crate::tally::{Answer, Tally};
@@ -279,20 +281,28 @@ fn call_beside<N: Named + Send + Sync, C: Ledger + Send + Sync, R: Threads + Wai
     style: Style,
     calls: u64,
     tally: &Tally,
-) {
-    thread::scope(thread::scope_env(), rt, |scope| {
-        for one in builders {
-            if scope
-                .spawn(move || serve(rt, desk, one, style, tally))
-                .is_err()
-            {
-                tally.note(Answer::Wrong);
+)
+    requires { N.may_shut ≡ true }
+{
+    thread::scope(
+        thread::scope_env(),
+        rt,
+        |scope|
+            requires { N.may_shut ≡ true }
+        {
+            for one in builders {
+                if scope
+                    .spawn(move || serve(rt, desk, one, style, tally))
+                    .is_err()
+                {
+                    tally.note(Answer::Wrong);
+                }
             }
-        }
-        call_all(rt, alloc, desk, clerks, calls, tally);
-        tally.end();
-        desk.shut(rt);
-    });
+            call_all(rt, alloc, desk, clerks, calls, tally);
+            tally.end();
+            desk.shut(rt);
+        },
+    );
 }
 
 // So many calls of each clerk while all builders build, who are gone then. What was counted.
@@ -302,7 +312,9 @@ pub(crate) fn crew<N: Named + Send + Sync, C: Ledger + Send + Sync, R: Threads +
     people: &mut People<N, C>,
     style: Style,
     calls: u64,
-) -> Result<String, Fail> {
+) -> Result<String, Fail>
+    requires { N.may_shut ≡ true }
+{
     let alloc = people.alloc;
     let builders = mem::replace(&mut people.builders, Vec::new(alloc));
     let tally = Tally::new();

@@ -91,7 +91,7 @@ fn built_as<R: Wait>(
     key: &str,
 ) -> Result<String, Fail> {
     let job = job(alloc, key)?;
-    spelled(alloc, &outcomes.build(rt, &job))
+    spelled(alloc, &outcomes.build(rt, job))
 }
 
 const LINES: &str = "\

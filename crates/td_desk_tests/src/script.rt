@@ -1,4 +1,6 @@
 //! The reader of scripts: a line is a call at the desk, and behind `=>` what it is answered.
+ghost use Rattle.std.specs.Prelude.{◌≡◌, true};
+
 use crate::crew::{Style, crew};
 use crate::overlap::work_together;
 use crate::people::{People, command};
@@ -162,7 +164,9 @@ fn shut<N: Named, C: Ledger, R: Wait>(
     rt: &R,
     alloc: Global,
     desk: &Desk<'static, N, C>,
-) -> Result<String, Fail> {
+) -> Result<String, Fail>
+    requires { N.may_shut ≡ true }
+{
     desk.shut(rt);
     shown(alloc, &true)
 }
@@ -173,7 +177,9 @@ fn answer<N: Named + Send + Sync, C: Ledger + Send + Sync, R: Threads + Wait + S
     desk: &Desk<'static, N, C>,
     people: &mut People<N, C>,
     line: &str,
-) -> Result<String, Fail> {
+) -> Result<String, Fail>
+    requires { N.may_shut ≡ true }
+{
     let (word, rest) = line.split_once(' ').unwrap_or((line, ""));
     match word {
         "shut" => shut(rt, people.alloc, desk),
@@ -192,7 +198,9 @@ fn otherwise<N: Named + Send + Sync, C: Ledger + Send + Sync, R: Threads + Wait 
     desk: &Desk<'static, N, C>,
     people: &mut People<N, C>,
     line: &str,
-) -> Result<Option<String>, Fail> {
+) -> Result<Option<String>, Fail>
+    requires { N.may_shut ≡ true }
+{
     let Some((call, expected)) = line.split_once(" => ") else {
         return Err(Fail::from("a call"));
     };
@@ -210,7 +218,9 @@ pub(crate) fn first_otherwise<
     desk: &Desk<'static, N, C>,
     people: &mut People<N, C>,
     script: &str,
-) -> Result<Option<String>, Fail> {
+) -> Result<Option<String>, Fail>
+    requires { N.may_shut ≡ true }
+{
     for line in script.lines() {
         if let Some(other) = otherwise(rt, desk, people, line)? {
             return Ok(Some(other));

@@ -98,7 +98,7 @@ impl Tally {
 impl Builds for Tally {
     ghost may = { λ tally job outcome. Unit {0} };
 
-    fn build<R: Wait>(&self, _rt: &R, _job: &Job) -> Outcome {
+    fn build<R: Wait>(&self, _rt: &R, _job: Job) -> Outcome {
         self.outcome()
     }
 }
