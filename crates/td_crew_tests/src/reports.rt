@@ -5,6 +5,7 @@ ghost use Rattle.td_query.specs.Tracking.{IsTracker, tracking};
 ghost use Rattle.td_report.specs.TransitionView.{IsMade};
 
 use crate::checks::{is_told, made};
+use crate::kept_reports;
 use crate::waves::{ARCHS, LEVELS, PACKAGES, REPORT, SOURCES, TRACKER};
 use std::alloc::{AllocError, Global};
 use std::process::Abort;
@@ -60,6 +61,7 @@ fn over_all_rows(
 {
     let rows = made(rt, archive.opening_rows());
     are_reported(rt, alloc, transition, &rows);
+    kept_reports::are_reported(rt, alloc, transition, &rows);
     are_in_levels(rt, alloc, transition, &rows);
     drop(rows);
 }
