@@ -1,12 +1,15 @@
 //! The tests of crews, reports, and the program over files in memory: what no clause says.
 //!
 //! Start at `tools`, which asks the program for each subcommand, then `reports` and `crews`.
-//! `archive` and `waves` are what they run over, `path_texts` the files in memory. They stand in a
-//! crate of their own, over public calls, so that nothing is proved a second time with its tests.
+//! `archive` and `waves` are what they run over, `path_texts` the files in memory, `at_once` builds
+//! that wait for one another. They stand in a crate of their own, over public calls, so that
+//! nothing is proved a second time with its tests.
 #![tactic(auto)]
 
 #[cfg(test)]
 mod archive;
+#[cfg(test)]
+mod at_once;
 #[cfg(test)]
 mod checks;
 #[cfg(test)]

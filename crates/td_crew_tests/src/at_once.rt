@@ -1,0 +1,28 @@
+//! Builds of which so many end at once.
+use std::sync::{Barrier, Wait};
+use td_book::Job;
+use td_builder::Builds;
+use td_rows::Outcome;
+
+/// Builds that wait until so many are under way: none ends before. With fewer they wait for good.
+#[derive(Drop)]
+pub(crate) struct AtOnce {
+    all_under_way: Barrier,
+}
+
+impl AtOnce {
+    pub(crate) fn of(count: usize) -> AtOnce {
+        AtOnce {
+            all_under_way: Barrier::new(count),
+        }
+    }
+}
+
+impl Builds for AtOnce {
+    ghost may = { λ at_once job outcome. Unit {0} };
+
+    fn build<R: Wait>(&self, rt: &R, _job: &Job) -> Outcome {
+        let _last = self.all_under_way.wait(rt);
+        Outcome::Built
+    }
+}
