@@ -1,6 +1,7 @@
 //! Builders at a desk: what their work answers, and that they build at the same time. Expected
 //! answers are by hand from the tables of `docs/FORMATS.md`.
 use crate::shop::{Played, Trial, all_leave, played};
+use crate::tries::Tries;
 use std::alloc::{AllocError, Global};
 use std::test::Fail;
 
@@ -99,6 +100,7 @@ fn two_builds_overlap(rt: HostRuntime) -> Result<(), Fail> {
         opening: "foo/amd64 Needs-Build 0 0\nfoo/i386 Needs-Build 0 0\n",
         outcomes: "",
         script: "shut => true\ntogether => Some((Ok(1), Ok(1)))\n",
+        tries: Tries::One,
     };
     let found = played(&rt, rt.alloc(), &trial)?;
     let left = found.as_str();

@@ -1,7 +1,8 @@
 //! What clerks are told, what they read at the desk, and when it is closed. Expected answers are by
 //! hand from the tables of `docs/FORMATS.md`.
 use crate::sample::INSTALLED;
-use crate::shop::{Played, all_leave};
+use crate::shop::{Played, all_leave, all_leave_with};
+use crate::tries::Tries;
 use std::alloc::Global;
 use std::process::Abort;
 use std::sync::Wait;
@@ -141,6 +142,13 @@ const READ_BACK: [Played<'static>; 4] = [
 #[test]
 fn desk_reads_back(rt: HostRuntime) -> Result<(), Fail> {
     all_leave(&rt, rt.alloc(), &READ_BACK)
+}
+
+// `tools/fail-memory-calls` runs it once for each of its allocations, which is refused. With memory
+// each call succeeds the first time, as above.
+#[test]
+fn a_clerk_who_lacks_memory_changes_nothing(rt: HostRuntime) -> Result<(), Fail> {
+    all_leave_with(&rt, rt.alloc(), &READ_BACK, Tries::Two)
 }
 
 // A ledger has 1,024 parts.

@@ -1,6 +1,7 @@
 //! Clerks and builders at one desk, each on a thread: the rows are a replay of the journal,
 //! whatever the order was in which they came.
 use crate::shop::{Trial, played};
+use crate::tries::Tries;
 use std::alloc::Global;
 use std::process::Abort;
 use std::sync::Wait;
@@ -50,6 +51,7 @@ fn rows_are_the_replay_of_the_journal_whoever_comes_first(rt: HostRuntime) -> Re
             opening: FOUR,
             outcomes: "",
             script,
+            tries: Tries::One,
         };
         begins(&rt, rt.alloc(), &trial, "closed\nreplayed")?;
     }

@@ -1,6 +1,7 @@
 //! Desks over journals that are read again. Expected answers are by hand from `docs/FORMATS.md`.
 use crate::sample::{INSTALLED, LEFT, NO_JOURNALS};
 use crate::shop::{Trial, played_on};
+use crate::tries::Tries;
 use std::alloc::Global;
 use std::process::Abort;
 use std::sync::Wait;
@@ -100,6 +101,7 @@ fn leaves<R: Threads + Wait + Abort + Sync>(
         opening: INSTALLED,
         outcomes: "",
         script,
+        tries: Tries::One,
     };
     let left = played_on(rt, alloc, journal, &trial)?;
     assert_eq!(rt; left.as_str(), expected);

@@ -36,5 +36,7 @@ mod spelling;
 #[cfg(test)]
 mod tally;
 mod together;
+#[cfg(test)]
+mod tries;
 
 pub use together::Together;

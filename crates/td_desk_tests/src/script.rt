@@ -6,8 +6,9 @@ use crate::overlap::work_together;
 use crate::people::{People, command};
 use crate::sample::TABLE;
 use crate::spelling::{
-    entry_line, key, number, on_one_line, receipts, row_line, shown, spelled, unlike,
+    book_text, entry_line, key, number, on_one_line, receipts, row_line, shown, spelled, unlike,
 };
+use crate::tries::{CHANGED, Tries, lacks_memory};
 use std::alloc::Global;
 use std::sync::Wait;
 use std::sync::ledger::Ledger;
@@ -192,19 +193,76 @@ fn answer<N: Named + Send + Sync, C: Ledger + Send + Sync, R: Threads + Wait + S
     }
 }
 
+// The journal, the rows, and what each clerk has.
+fn whole<N: Named, C: Ledger, R: Wait>(
+    rt: &R,
+    desk: &Desk<'static, N, C>,
+    people: &People<N, C>,
+) -> Result<String, Fail> {
+    let alloc = people.alloc;
+    let clerks = receipts(alloc, &people.clerks)?;
+    let book = desk.look(rt, |book| book_text(alloc, book))?;
+    Ok(format!(in alloc; "{clerks}{book}")?)
+}
+
+// What a line is answered that is asked once more, since its call lacked memory the first time. All
+// has to be as it was before that call.
+fn answer_again<N: Named + Send + Sync, C: Ledger + Send + Sync, R: Threads + Wait + Sync>(
+    rt: &R,
+    desk: &Desk<'static, N, C>,
+    people: &mut People<N, C>,
+    before: &str,
+    line: &str,
+) -> Result<String, Fail> {
+    let now = whole(rt, desk, people)?;
+    if now.as_str() != before {
+        return Ok(String::from_str(people.alloc, CHANGED)?);
+    }
+    answer(rt, desk, people, line)
+}
+
+// What a line is answered, and where its call lacks memory, what it is answered the second time.
+fn answer_with_memory<N: Named + Send + Sync, C: Ledger + Send + Sync, R: Threads + Wait + Sync>(
+    rt: &R,
+    desk: &Desk<'static, N, C>,
+    people: &mut People<N, C>,
+    line: &str,
+) -> Result<String, Fail> {
+    let before = whole(rt, desk, people)?;
+    let told = answer(rt, desk, people, line)?;
+    if lacks_memory(told.as_str()) {
+        return answer_again(rt, desk, people, before.as_str(), line);
+    }
+    Ok(told)
+}
+
+fn answer_by<N: Named + Send + Sync, C: Ledger + Send + Sync, R: Threads + Wait + Sync>(
+    rt: &R,
+    desk: &Desk<'static, N, C>,
+    people: &mut People<N, C>,
+    line: &str,
+    tries: Tries,
+) -> Result<String, Fail> {
+    match tries {
+        Tries::One => answer(rt, desk, people, line),
+        Tries::Two => answer_with_memory(rt, desk, people, line),
+    }
+}
+
 // The line of a script that is answered otherwise, with the answer.
 fn otherwise<N: Named + Send + Sync, C: Ledger + Send + Sync, R: Threads + Wait + Sync>(
     rt: &R,
     desk: &Desk<'static, N, C>,
     people: &mut People<N, C>,
     line: &str,
+    tries: Tries,
 ) -> Result<Option<String>, Fail>
     requires { N.may_shut ≡ true }
 {
     let Some((call, expected)) = line.split_once(" => ") else {
         return Err(Fail::from("a call"));
     };
-    let told = answer(rt, desk, people, call)?;
+    let told = answer_by(rt, desk, people, call, tries)?;
     unlike(people.alloc, line, expected, told.as_str())
 }
 
@@ -218,11 +276,12 @@ pub(crate) fn first_otherwise<
     desk: &Desk<'static, N, C>,
     people: &mut People<N, C>,
     script: &str,
+    tries: Tries,
 ) -> Result<Option<String>, Fail>
     requires { N.may_shut ≡ true }
 {
     for line in script.lines() {
-        if let Some(other) = otherwise(rt, desk, people, line)? {
+        if let Some(other) = otherwise(rt, desk, people, line, tries)? {
             return Ok(Some(other));
         }
     }

@@ -3,10 +3,10 @@ use std::alloc::{AllocError, Global};
 use std::fmt::Debug;
 use std::sync::ledger::Ledger;
 use std::test::Fail;
-use td_book::{CommandRefusal, Job, Skips, StartRefusal, Taken, WatchRefusal};
+use td_book::{Book, CommandRefusal, Job, Skips, StartRefusal, Taken, WatchRefusal};
 use td_desk::{Clerk, Receipt};
-use td_journal::{Marked, put_entry_line};
-use td_rows::{Key, Line, Outcome, Row, put_row_line, read_key};
+use td_journal::{Marked, put_entry_line, text};
+use td_rows::{Key, Line, Outcome, Row, put_row_line, read_key, rows_text};
 
 pub(crate) fn number(digits: &str) -> u64 {
     digits.parse::<u64>().unwrap_or(0)
@@ -125,6 +125,13 @@ pub(crate) fn row_line(alloc: Global, key: &Key, row: Option<&Row>) -> Result<St
         None => out.push_str("none")?,
     }
     Ok(out)
+}
+
+// The journal of a book, and its rows.
+pub(crate) fn book_text(alloc: Global, book: &Book<'_>) -> Result<String, AllocError> {
+    let journal = text(alloc, book.journal())?;
+    let rows = rows_text(alloc, book.rows())?;
+    format!(in alloc; "{journal}{rows}")
 }
 
 // The lines of a text as one, each before a bar.

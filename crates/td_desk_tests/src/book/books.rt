@@ -1,7 +1,8 @@
 //! That calls succeed with ample memory, and what they answer over the example archive. Expected
 //! answers are the project's own worked examples, by hand from the tables of `docs/FORMATS.md`.
-use super::script::{Played, are_played};
+use super::script::{Played, are_played, are_played_with};
 use crate::sample::INSTALLED;
+use crate::tries::Tries;
 use std::alloc::Global;
 use std::process::Abort;
 use std::test::Fail;
@@ -149,6 +150,7 @@ fn blocks(
     won: &str,
     second: &str,
     third: &str,
+    tries: Tries,
 ) -> Result<(), Fail> {
     let script = format!(in alloc;
         "nmu foo bar . ANY => entry 1, foo/i386 State(Built)\n\
@@ -161,10 +163,11 @@ fn blocks(
     let journal = format!(in alloc;
         "transdesk journal 2\n1 + nmu bar/amd64 bar/i386 foo/amd64\n2 + claim=1 {won}\n"
     )?;
-    are_played(
+    are_played_with(
         rt,
         alloc,
         &[(BUILT_I386, script.as_str(), journal.as_str())],
+        tries,
     )
 }
 
@@ -207,7 +210,7 @@ const TWO_WON: [Played<'static>; 2] = [
 #[test]
 fn a_claim_that_a_builder_has_won_blocks_an_undo(rt: HostRuntime) -> Result<(), Fail> {
     for (won, second, third) in &WON {
-        blocks(&rt, rt.alloc(), won, second, third)?;
+        blocks(&rt, rt.alloc(), won, second, third, Tries::One)?;
     }
     are_played(&rt, rt.alloc(), &TWO_WON)?;
     are_played(&rt, rt.alloc(), &TOO_LATE)
@@ -425,4 +428,19 @@ const READY: [Played<'static>; 1] = [(
 #[test]
 fn rows_are_ready_by_priority_and_then_by_key(rt: HostRuntime) -> Result<(), Fail> {
     are_played(&rt, rt.alloc(), &READY)
+}
+
+// `tools/fail-memory-calls` runs these two once for each of their allocations, which is refused.
+// With memory each call succeeds the first time, as in the tests above.
+#[test]
+fn an_undo_that_lacks_memory_changes_nothing(rt: HostRuntime) -> Result<(), Fail> {
+    let (won, second, third) = WON[0];
+    blocks(&rt, rt.alloc(), won, second, third, Tries::Two)?;
+    are_played_with(&rt, rt.alloc(), &TWO_WON, Tries::Two)
+}
+
+#[test]
+fn a_build_that_lacks_memory_changes_nothing(rt: HostRuntime) -> Result<(), Fail> {
+    are_played_with(&rt, rt.alloc(), &BUILT, Tries::Two)?;
+    are_played_with(&rt, rt.alloc(), &FREED, Tries::Two)
 }

@@ -7,7 +7,7 @@ ghost use Rattle.td_supply.specs.Supply.{opened, stock_of};
 use crate::sample::TABLE;
 use crate::shop::{Shop, furnished};
 use crate::spelling::{
-    entry_line, key, outcome, row_line, shown, spelled, spelled_job, spelled_watch,
+    book_text, entry_line, key, outcome, row_line, shown, spelled, spelled_job, spelled_watch,
 };
 use std::alloc::Global;
 use std::test::Fail;
@@ -263,5 +263,16 @@ impl Desk {
 
     pub(crate) fn entry(&self, n: EntryNo) -> Result<String, Fail> {
         Ok(entry_line(self.alloc, self.book.entry(n), n)?)
+    }
+
+    // The journal, the rows, and what each builder has in hand.
+    pub(crate) fn whole(&self) -> Result<String, Fail> {
+        let book = book_text(self.alloc, &self.book)?;
+        Ok(format!(in self.alloc;
+            "{book}{:?} {:?} {:?}",
+            self.one.hand(),
+            self.two.hand(),
+            self.three.hand()
+        )?)
     }
 }

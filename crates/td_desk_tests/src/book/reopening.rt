@@ -2,6 +2,7 @@
 use super::desk::refusal_of;
 use super::script::journal_after;
 use crate::sample::{INSTALLED, LEFT, NO_JOURNALS};
+use crate::tries::Tries;
 use std::test::Fail;
 
 const AFTER_LEFT: &str = "\
@@ -60,7 +61,7 @@ const GIVEN_BACK: [(&str, &str, &str); 2] = [
 #[test]
 fn a_build_that_a_journal_left_is_given_back(rt: HostRuntime) -> Result<(), Fail> {
     for (left, script, journal) in &GIVEN_BACK {
-        let found = journal_after(rt.alloc(), INSTALLED, Some(left), script)?;
+        let found = journal_after(rt.alloc(), INSTALLED, Some(left), script, Tries::One)?;
         assert_eq!(rt; found.as_str(), *journal);
     }
     Ok(())
