@@ -213,7 +213,9 @@ fn answer_again<N: Named + Send + Sync, C: Ledger + Send + Sync, R: Threads + Wa
     people: &mut People<N, C>,
     before: &str,
     line: &str,
-) -> Result<String, Fail> {
+) -> Result<String, Fail>
+    requires { N.may_shut ≡ true }
+{
     let now = whole(rt, desk, people)?;
     if now.as_str() != before {
         return Ok(String::from_str(people.alloc, CHANGED)?);
@@ -227,7 +229,9 @@ fn answer_with_memory<N: Named + Send + Sync, C: Ledger + Send + Sync, R: Thread
     desk: &Desk<'static, N, C>,
     people: &mut People<N, C>,
     line: &str,
-) -> Result<String, Fail> {
+) -> Result<String, Fail>
+    requires { N.may_shut ≡ true }
+{
     let before = whole(rt, desk, people)?;
     let told = answer(rt, desk, people, line)?;
     if lacks_memory(told.as_str()) {
@@ -242,7 +246,9 @@ fn answer_by<N: Named + Send + Sync, C: Ledger + Send + Sync, R: Threads + Wait 
     people: &mut People<N, C>,
     line: &str,
     tries: Tries,
-) -> Result<String, Fail> {
+) -> Result<String, Fail>
+    requires { N.may_shut ≡ true }
+{
     match tries {
         Tries::One => answer(rt, desk, people, line),
         Tries::Two => answer_with_memory(rt, desk, people, line),
