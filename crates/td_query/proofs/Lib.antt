@@ -24,3 +24,4 @@ pub mod Beginnings
 pub mod AtomRules
 pub mod TokenRules
 pub mod OneStatus
+pub mod PatternEnds

@@ -1,8 +1,9 @@
--- What may stand between the tokens of a tracker. This project's own, in the style of ben.
-use Rattle.std.specs.Prelude.{◌≡◌, ◌≢◌, ℕ, IsTrue, IsFalse, List, [], ◌∷◌, ◌++◌, codes}
+-- What may stand between the tokens of a tracker, and where a pattern ends. This project's own, in
+-- the style of ben.
+use Rattle.std.specs.Prelude.{◌≡◌, ◌≢◌, ◌↔◌, ℕ, IsTrue, IsFalse, List, [], ◌∷◌, ◌++◌, Some, codes}
 use Rattle.td_text.specs.Cut.{Without}
 use Rattle.td_text.specs.Runs.{is_space}
-use Rattle.td_query.specs.Tokens.{skipped}
+use Rattle.td_query.specs.Tokens.{pattern_in, skipped}
 
 -- a space, a tab or a newline is skipped
 abbrev pub SpacesAreSkipped : Type 0
@@ -21,3 +22,19 @@ LastCommentsAreSkipped =
 -- nothing else is skipped
 abbrev pub OthersAreKept : Type 0
 OthersAreKept = (x : ℕ) (t : List ℕ) → IsFalse (is_space x) → x ≢ 35 → skipped (x ∷ t) ≡ x ∷ t
+
+-- a backslash stands last
+abbrev pub EndsInBackslash : List ℕ → Type 0
+EndsInBackslash t = (front : List ℕ) × (t ≡ front ++ 92 ∷ [])
+
+-- what may stand between two slashes: right before each slash in it stands a backslash, and none
+-- stands at its end
+abbrev pub IsBetweenSlashes : List ℕ → Type 0
+IsBetweenSlashes raw =
+    ((front back : List ℕ) → raw ≡ front ++ 47 ∷ back → EndsInBackslash front)
+    × (¬ EndsInBackslash raw)
+
+-- a pattern ends at a slash if and only if what stands before it may stand between two slashes
+abbrev pub PatternsEndAtTheirSlash : Type 0
+PatternsEndAtTheirSlash = (t raw rest : List ℕ) →
+    (pattern_in t ≡ Some (raw, rest)) ↔ ((t ≡ raw ++ 47 ∷ rest) × IsBetweenSlashes raw)

@@ -13,7 +13,8 @@ ghost use Rattle.td_query.specs.QueryRules.{PartsAreRead};
 ghost use Rattle.td_query.specs.StatusLaws.{RowsAloneHaveAStatus, RowsAreGradedByTheirStanzas};
 ghost use Rattle.td_query.specs.StatusLaws.{RowsSatisfyByAStanza};
 ghost use Rattle.td_query.specs.TokenRules.{CommentsAreSkipped, LastCommentsAreSkipped};
-ghost use Rattle.td_query.specs.TokenRules.{OthersAreKept, SpacesAreSkipped};
+ghost use Rattle.td_query.specs.TokenRules.{OthersAreKept, PatternsEndAtTheirSlash};
+ghost use Rattle.td_query.specs.TokenRules.{SpacesAreSkipped};
 ghost use Rattle.td_query.specs.TrackerLaws.{RowsHaveOneStatus, TrackersAreOne, TrackersAreThere};
 ghost use Rattle.td_query.specs.TrackerLaws.{TrackersHoldAlike};
 
@@ -54,6 +55,11 @@ pub fn comments_are_skipped()
     ensures comments { CommentsAreSkipped }
     ensures last { LastCommentsAreSkipped }
     ensures others { OthersAreKept }
+{}
+
+/// A pattern goes up to the first slash without a backslash right before it.
+pub fn patterns_end_at_their_slash()
+    ensures { PatternsEndAtTheirSlash }
 {}
 
 /// Each key says what is read under its own name, in place of what it said before, where an `=`
