@@ -25,3 +25,7 @@ pub mod AtomRules
 pub mod TokenRules
 pub mod OneStatus
 pub mod PatternEnds
+pub mod Gaps
+pub mod SpelledAtoms
+pub mod SpelledQueries
+pub mod SpelledTrackers

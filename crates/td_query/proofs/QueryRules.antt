@@ -27,7 +27,7 @@ abbrev other : Joint → Joint
 other And = Or
 other Or = And
 
-marked : (joint : Joint) (t u : List ℕ) → Comes (mark_of joint) t u
+pub marked : (joint : Joint) (t u : List ℕ) → Comes (mark_of joint) t u
     → behind_mark (mark_of joint) t ≡ Some u
 unfolding behind_mark strip
 marked And t u h = ap (strip (codes "&")) h
@@ -47,7 +47,7 @@ none_marked Or u e = let bad : None ≡ Some u = e in cc
 -- ---- parts with a mark between them
 
 module _ (joint : Joint) (read : Log → List ℕ → Read) where
-  over : (n : ℕ) (parts : List Shape) (log : Log) (t : List ℕ)
+  pub over : (n : ℕ) (parts : List Shape) (log : Log) (t : List ℕ)
       → behind_mark (mark_of joint) t ≡ None
       → more joint read n parts log t ≡ Ok (joined joint parts, log, t)
   unfolding more
@@ -156,7 +156,7 @@ if_short : (b : Bool) (u v : List ℕ) (n : ℕ) → length u ≤ n → length v
 if_short true u v n p q = p
 if_short false u v n p q = q
 
-skipped_short : (comment : Bool) (t : List ℕ) → length (skipped_in comment t) ≤ length t
+pub skipped_short : (comment : Bool) (t : List ℕ) → length (skipped_in comment t) ≤ length t
 unfolding skipped_in
 skipped_short true [] = omega arith
 skipped_short false [] = omega arith

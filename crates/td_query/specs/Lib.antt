@@ -21,3 +21,6 @@ pub mod TrackerLaws
 pub mod WantOfMemory
 pub mod AtomRules
 pub mod TokenRules
+pub mod QuerySpelling
+pub mod TrackerSpelling
+pub mod SpellingLaws

@@ -10,6 +10,8 @@ ghost use Rattle.td_query.specs.QueryRules.{ConjunctionsAreRead, DisjunctionsAre
 ghost use Rattle.td_query.specs.QueryRules.{LongConjunctionsAreRead, LongDisjunctionsAreRead};
 ghost use Rattle.td_query.specs.QueryRules.{NegationsAreRead, NotBindsBeforeAnd, NotBindsBeforeOr};
 ghost use Rattle.td_query.specs.QueryRules.{PartsAreRead};
+ghost use Rattle.td_query.specs.SpellingLaws.{GapsAreExact, LastGapsAreExact, PartsAreExact};
+ghost use Rattle.td_query.specs.SpellingLaws.{QueriesAreExact, TrackersAreExact};
 ghost use Rattle.td_query.specs.StatusLaws.{RowsAloneHaveAStatus, RowsAreGradedByTheirStanzas};
 ghost use Rattle.td_query.specs.StatusLaws.{RowsSatisfyByAStanza};
 ghost use Rattle.td_query.specs.TokenRules.{CommentsAreSkipped, LastCommentsAreSkipped};
@@ -68,6 +70,16 @@ pub fn keys_say_what_is_read()
     ensures queries { QueriesAreSaid }
     ensures titles { TitlesAreSaid }
     ensures entries { EntriesAreSaid }
+{}
+
+/// A text is read exactly as it is spelled: what the rules of spelling say of its keys, and nothing
+/// else. So is a part of a query, and a query with no mark behind it.
+pub fn trackers_are_read_as_spelled()
+    ensures gaps { GapsAreExact }
+    ensures last_gaps { LastGapsAreExact }
+    ensures parts { PartsAreExact }
+    ensures queries { QueriesAreExact }
+    ensures trackers { TrackersAreExact }
 {}
 
 /// A text whose keys say the three queries, with patterns that `regex` reads, is a tracker's. Two
