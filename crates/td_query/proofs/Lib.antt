@@ -29,3 +29,8 @@ pub mod Gaps
 pub mod SpelledAtoms
 pub mod SpelledQueries
 pub mod SpelledTrackers
+pub mod Fronts
+pub mod FrontWords
+pub mod FrontAtoms
+pub mod FrontQueries
+pub mod FrontTrackers

@@ -24,3 +24,4 @@ pub mod TokenRules
 pub mod QuerySpelling
 pub mod TrackerSpelling
 pub mod SpellingLaws
+pub mod FaultPlaces

@@ -1,5 +1,6 @@
 //! What queries and statuses mean, as laws over their definitions.
 ghost use Rattle.td_query.specs.AtomRules.{FalseIsRead, PatternsAreRead, TextsAreRead, TrueIsRead};
+ghost use Rattle.td_query.specs.FaultPlaces.{WrongBytesAreFinal, WrongBytesAreThere};
 ghost use Rattle.td_query.specs.KeyRules.{EntriesAreSaid, QueriesAreSaid, TitlesAreSaid};
 ghost use Rattle.td_query.specs.QueryLaws.{AbsentFieldsNeverMatch, ConjunctionsAreAnd};
 ghost use Rattle.td_query.specs.QueryLaws.{ConstantsAreTheirNames, DisjunctionsAreOr};
@@ -106,4 +107,11 @@ pub fn rows_are_graded_by_their_stanzas()
     ensures stanzas { RowsSatisfyByAStanza }
     ensures graded { RowsAreGradedByTheirStanzas }
     ensures alone { RowsAloneHaveAStatus }
+{}
+
+/// A wrong byte is wrong whatever comes after it: each text that begins with the bytes up to it and
+/// with it is refused at its place.
+pub fn wrong_bytes_are_final()
+    ensures there { WrongBytesAreThere }
+    ensures always { WrongBytesAreFinal }
 {}
