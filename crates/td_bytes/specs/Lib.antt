@@ -1,3 +1,4 @@
 -- What the contracts of this crate cite: a file a thing.
+pub mod Failures
 pub mod Pieces
 pub mod TextFault

@@ -4,13 +4,17 @@
 //! Start at `read_text` and `write_whole`.
 //! Promised, of any reader and writer whose bytes clauses know: `Ok` is all that remained, within
 //! the limit, and TooLong only where more did; a write that fails leaves a front of the bytes.
-//! std doesn't say when a read or write fails; that each fault comes only then is tested.
+//! Of a stream that can't fail no call says that it did: `Reader` and `Writer` say which can.
 #![tactic(auto)]
 
+mod files;
+mod memory;
 mod reading;
+mod streams;
 mod text;
 mod writing;
 
 pub use reading::{ReadFault, read_whole};
+pub use streams::{Reader, Writer};
 pub use text::{TextFault, read_text};
 pub use writing::{WriteFault, write_whole};

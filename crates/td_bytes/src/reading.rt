@@ -1,13 +1,17 @@
 //! A reader is read to its end, within a limit.
-ghost use Rattle.std.specs.Prelude.{◌≡◌, ◌≢◌, ◌≤◌, ◌<◌, ◌+◌, ◌++◌, ℕ, List, length, take, drop, IfOk, OnOk, OnErr, IfSome};
-ghost use Rattle.std.specs.Prelude.{IfErr, IsErrOf, IsUtf8};
+ghost use Rattle.std.specs.Prelude.{◌≡◌, ◌≢◌, ◌≤◌, ◌<◌, ◌+◌, ◌++◌, ℕ, List, length, take, drop};
+ghost use Rattle.std.specs.Prelude.{IfOk, OnOk, OnErr, IfSome};
+ghost use Rattle.std.specs.Prelude.{◌↔◌, true, IfErr, IsErrOf, IsTrue, IsUtf8};
+ghost use Rattle.std.specs.IoError.{error_kind};
 ghost use Rattle.std.specs.Io.{ReadsAtMost};
 ghost use Rattle.std.specs.Io.KnownBytes.{Consumes, IsAtEnd, Keeps};
 ghost use Rattle.td_bytes.specs.Pieces.{ConsumesFront, HasLost};
 
+use crate::streams::Reader;
 use simdutf8::compat::from_utf8;
 use std::alloc::{AllocError, Global};
-use std::io::{ErrorKind, Read};
+use std::io;
+use std::io::ErrorKind;
 use thiserror::Error;
 
 /// Why not all was read.
@@ -37,8 +41,15 @@ impl From<AllocError> for ReadFault {
 /// The most bytes that one read gives. In larger pieces a long file is read no faster.
 const PIECE: usize = 65_536;
 
+// Whether a call failed by a signal.
+pub(crate) fn is_interrupted(error: &io::Error) -> bool
+    ensures { IsTrue result ↔ (error_kind error.now ≡ ErrorKind.Interrupted) }
+{
+    error.kind() == ErrorKind::Interrupted
+}
+
 // One read, tried again where a signal interrupts it: as std does, at most 2^64 times.
-fn read_piece<R: Read>(reader: &mut R, buffer: &mut [u8]) -> Result<usize, ReadFault>
+fn read_piece<R: Reader>(reader: &mut R, buffer: &mut [u8]) -> Result<usize, ReadFault>
     ensures bound { ReadsAtMost result buffer.new }
     ensures ok { IfOk result (λ n.
         Consumes (R.remaining reader.old) (R.remaining reader.new) (take n buffer.new)) }
@@ -46,11 +57,13 @@ fn read_piece<R: Read>(reader: &mut R, buffer: &mut [u8]) -> Result<usize, ReadF
         n ≡ 0 → 0 < length buffer.old → IsAtEnd (R.remaining reader.new)) }
     ensures err { OnErr result (Keeps (R.remaining reader.old) (R.remaining reader.new)) }
     ensures fault { OnErr result (IsErrOf result ReadFault.CannotRead) }
+    ensures due { OnErr result (R.can_fail reader.old ≡ true) }
+    ensures steady { OnOk result (R.can_fail reader.new ≡ R.can_fail reader.old) }
 {
-    for _ in 0..u64::MAX {
-        match reader.read(buffer) {
+    for tries in 0..u64::MAX {
+        match reader.read_once(buffer) {
             Ok(count) => return Ok(count),
-            Err(error) if error.kind() == ErrorKind::Interrupted => {}
+            Err(error) if is_interrupted(&error) => {}
             Err(_) => return Err(ReadFault::CannotRead),
         }
     }
@@ -58,7 +71,7 @@ fn read_piece<R: Read>(reader: &mut R, buffer: &mut [u8]) -> Result<usize, ReadF
 }
 
 // One read into a buffer, from a place on.
-fn read_from<R: Read>(reader: &mut R, buffer: &mut [u8], at: usize) -> Result<usize, ReadFault>
+fn read_from<R: Reader>(reader: &mut R, buffer: &mut [u8], at: usize) -> Result<usize, ReadFault>
     requires { at < length buffer.old }
     ensures front { take at buffer.new ≡ take at buffer.old }
     ensures fits { IfOk result (λ n. at + n ≤ length buffer.new) }
@@ -67,18 +80,22 @@ fn read_from<R: Read>(reader: &mut R, buffer: &mut [u8], at: usize) -> Result<us
     ensures end { IfOk result (λ n. n ≡ 0 → IsAtEnd (R.remaining reader.new)) }
     ensures err { OnErr result (Keeps (R.remaining reader.old) (R.remaining reader.new)) }
     ensures fault { OnErr result (IsErrOf result ReadFault.CannotRead) }
+    ensures due { OnErr result (R.can_fail reader.old ≡ true) }
+    ensures steady { OnOk result (R.can_fail reader.new ≡ R.can_fail reader.old) }
 {
     read_piece(reader, &mut buffer[at..])
 }
 
 // Reads a piece behind what was read before, straight into its place.
-fn read_behind<R: Read>(reader: &mut R, bytes: &mut Vec<u8>) -> Result<usize, ReadFault>
+fn read_behind<R: Reader>(reader: &mut R, bytes: &mut Vec<u8>) -> Result<usize, ReadFault>
     ensures ok { IfOk result (λ n. (piece : List ℕ) × (length piece ≡ n)
         × (bytes.new.items ≡ bytes.old.items ++ piece)
         × Consumes (R.remaining reader.old) (R.remaining reader.new) piece) }
     ensures end { IfOk result (λ n. n ≡ 0 → IsAtEnd (R.remaining reader.new)) }
     ensures err { OnErr result (Keeps (R.remaining reader.old) (R.remaining reader.new)) }
     ensures fault { IfErr result (λ e. e ≢ ReadFault.TooLong) }
+    ensures due { IsErrOf result ReadFault.CannotRead → R.can_fail reader.old ≡ true }
+    ensures steady { OnOk result (R.can_fail reader.new ≡ R.can_fail reader.old) }
 {
     let start = bytes.len();
     let Some(end) = start.checked_add(PIECE) else {
@@ -104,7 +121,7 @@ fn text_len(bytes: &[u8]) -> usize
 /// Reads all that remains, of at most `limit` bytes, and tells how many of them, from the first,
 /// are known to be UTF-8: each piece is looked at while the caches have it. There is room for
 /// `room` bytes from the first. What was read before a fault is lost.
-pub fn read_pieces<R: Read>(
+pub fn read_pieces<R: Reader>(
     alloc: Global,
     reader: &mut R,
     limit: usize,
@@ -120,6 +137,8 @@ pub fn read_pieces<R: Read>(
         → IfSome (R.remaining reader.old) (λ all. limit < length all) }
     ensures lost { ConsumesFront (R.remaining reader.old) (R.remaining reader.new) }
     ensures fault { IfErr result (HasLost limit (R.remaining reader.old) (R.remaining reader.new)) }
+    ensures due { IsErrOf result ReadFault.CannotRead → R.can_fail reader.old ≡ true }
+    ensures steady { OnOk result (R.can_fail reader.new ≡ R.can_fail reader.old) }
 {
     // (with room for a piece more the end is seen before the list would grow)
     let mut bytes = Vec::with_capacity(alloc, room.min(limit).saturating_add(PIECE))?;
@@ -139,7 +158,7 @@ pub fn read_pieces<R: Read>(
 
 /// Reads all that remains, of at most `limit` bytes. There is room for `room` bytes from the first:
 /// where that is how many remain, no byte is moved again. What was read before a fault is lost.
-pub fn read_whole<R: Read>(
+pub fn read_whole<R: Reader>(
     alloc: Global,
     reader: &mut R,
     limit: usize,
@@ -153,6 +172,8 @@ pub fn read_whole<R: Read>(
         → IfSome (R.remaining reader.old) (λ all. limit < length all) }
     ensures lost { ConsumesFront (R.remaining reader.old) (R.remaining reader.new) }
     ensures fault { IfErr result (HasLost limit (R.remaining reader.old) (R.remaining reader.new)) }
+    ensures due { IsErrOf result ReadFault.CannotRead → R.can_fail reader.old ≡ true }
+    ensures steady { OnOk result (R.can_fail reader.new ≡ R.can_fail reader.old) }
 {
     match read_pieces(alloc, reader, limit, room) {
         Ok((bytes, _)) => Ok(bytes),

@@ -1,13 +1,13 @@
 //! A reader is read to its end, as a text.
 ghost use Rattle.std.specs.Prelude.{◌≡◌, ◌≤◌, ◌<◌, length, IfOk, OnOk, OnErr, IfSome, IsErrOf};
-ghost use Rattle.std.specs.Prelude.{IsUtf8};
+ghost use Rattle.std.specs.Prelude.{true, IsUtf8};
 ghost use Rattle.std.specs.String.{string_bytes};
 ghost use Rattle.std.specs.Io.KnownBytes.{IsAtEnd};
 ghost use Rattle.td_bytes.specs.Pieces.{ConsumesFront};
 
 use crate::reading::{ReadFault, read_pieces};
+use crate::streams::Reader;
 use std::alloc::Global;
-use std::io::Read;
 use thiserror::Error;
 
 /// Why no text was read. What is both too long and no text is too long.
@@ -43,7 +43,7 @@ impl From<ReadFault> for TextFault {
 
 /// Reads all that remains, a text of at most `limit` bytes. There is room for `room` bytes from the
 /// first. What was read before a fault is lost.
-pub fn read_text<R: Read>(
+pub fn read_text<R: Reader>(
     alloc: Global,
     reader: &mut R,
     limit: usize,
@@ -58,6 +58,8 @@ pub fn read_text<R: Read>(
     ensures not_text { IsErrOf result TextFault.NotText
         → IfSome (R.remaining reader.old) (λ all. (length all ≤ limit) × ¬ IsUtf8 all) }
     ensures lost { ConsumesFront (R.remaining reader.old) (R.remaining reader.new) }
+    ensures due { IsErrOf result TextFault.CannotRead → R.can_fail reader.old ≡ true }
+    ensures steady { OnOk result (R.can_fail reader.new ≡ R.can_fail reader.old) }
 {
     let (bytes, known) = read_pieces(alloc, reader, limit, room)?;
     if known == bytes.len() {

@@ -11,10 +11,10 @@ ghost use Rattle.td_crew.specs.CrewText.{crew_tells};
 
 use crate::crew::{Crew, tell_script};
 use std::alloc::Global;
-use std::io::{Read, Write};
 use std::sync::Wait;
 use std::thread::Threads;
 use td_builder::{Builds, Outcomes, OutcomesFault};
+use td_bytes::{Reader, Writer};
 use td_journal::ReadError;
 use td_script::{Asked, Inputs, RunFault, ScriptEnd, Told, judge_files, run_with};
 
@@ -31,7 +31,7 @@ pub enum CrewFault {
 /// they say, each of whom builds in this way. Then the desk is shut, the builders are joined, and
 /// the rows are told.
 /// All is read and answered before anything is written.
-pub fn run_crew_with<R: Read, W: Write, B: Builds + Sync, H: Threads + Wait + Sync>(
+pub fn run_crew_with<R: Reader, W: Writer, B: Builds + Sync, H: Threads + Wait + Sync>(
     rt: &H,
     alloc: Global,
     inputs: &Inputs,
@@ -94,7 +94,7 @@ fn no_outcomes(
 }
 
 /// The same where builds end as the lines of the outcomes say.
-pub fn run_crew<R: Read, W: Write, H: Threads + Wait + Sync>(
+pub fn run_crew<R: Reader, W: Writer, H: Threads + Wait + Sync>(
     rt: &H,
     alloc: Global,
     inputs: &Inputs,

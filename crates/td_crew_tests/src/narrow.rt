@@ -1,8 +1,9 @@
 //! A writer that takes one byte a call.
-ghost use Rattle.std.specs.Prelude.{Some};
+ghost use Rattle.std.specs.Prelude.{Some, true};
 
 use std::io;
 use std::io::Write;
+use td_bytes::Writer;
 
 /// Takes one byte a call.
 #[derive(Drop)]
@@ -23,5 +24,18 @@ impl Write for Narrow {
 
     fn flush(&mut self) -> io::Result<()> {
         Ok(())
+    }
+}
+
+// It fails where memory runs out.
+impl Writer for Narrow {
+    ghost can_fail = { λ _. true };
+
+    fn write_once(&mut self, bytes: &[u8]) -> io::Result<usize> {
+        self.write(bytes)
+    }
+
+    fn flush_once(&mut self) -> io::Result<()> {
+        self.flush()
     }
 }

@@ -1,13 +1,15 @@
 //! What no clause can say: that calls succeed where nothing fails, and each fault where it is due.
 //! Readers and writers here move one byte a call, are interrupted now and then, and fail after a
 //! number of bytes. Expected values follow from the texts and these numbers.
-ghost use Rattle.std.specs.Prelude.{Some};
+ghost use Rattle.std.specs.Prelude.{Some, true};
 
 use crate::checks::{holds, is_same, is_told, made};
 use std::alloc::Global;
 use std::io;
 use std::io::{ErrorKind, Read, Write};
-use td_bytes::{ReadFault, TextFault, WriteFault, read_text, read_whole, write_whole};
+use td_bytes::{
+    ReadFault, Reader, TextFault, WriteFault, Writer, read_text, read_whole, write_whole,
+};
 
 // Gives one byte a call, is interrupted before each, and fails where its room is used up.
 #[derive(Drop)]
@@ -44,6 +46,14 @@ impl Read for Drip<'_> {
         self.left = rest;
         self.room -= 1;
         Ok(1)
+    }
+}
+
+impl Reader for Drip<'_> {
+    ghost can_fail = { λ _. true };
+
+    fn read_once(&mut self, buffer: &mut [u8]) -> io::Result<usize> {
+        self.read(buffer)
     }
 }
 
@@ -100,8 +110,20 @@ impl Write for Narrow {
     }
 }
 
+impl Writer for Narrow {
+    ghost can_fail = { λ _. true };
+
+    fn write_once(&mut self, bytes: &[u8]) -> io::Result<usize> {
+        self.write(bytes)
+    }
+
+    fn flush_once(&mut self) -> io::Result<()> {
+        self.flush()
+    }
+}
+
 // Whether what is read, with room for so many bytes from the first, is this.
-fn is_read<R: Read>(
+fn is_read<R: Reader>(
     alloc: Global,
     reader: &mut R,
     limit: usize,

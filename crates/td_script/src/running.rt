@@ -16,9 +16,8 @@ use crate::opening::{Run, tell_over};
 use crate::staff::{Alone, Asked, Staff, tell_alone};
 use crate::told::Told;
 use std::alloc::Global;
-use std::io::{Read, Write};
 use std::thread::Threads;
-use td_bytes::{TextFault, read_text, write_whole};
+use td_bytes::{Reader, TextFault, Writer, read_text, write_whole};
 use td_journal::ReadError;
 
 /// The longest script, in bytes.
@@ -154,7 +153,7 @@ fn tell_read<S: Staff, F: Fn(Asked) -> Result<Told, ReadError>>(
 
 /// Answers the script that the reader has, over what the inputs say, as the staff tells it.
 /// All is read and answered before anything is written.
-pub fn run_with<S: Staff, F: Fn(Asked) -> Result<Told, ReadError>, R: Read, W: Write>(
+pub fn run_with<S: Staff, F: Fn(Asked) -> Result<Told, ReadError>, R: Reader, W: Writer>(
     rt: &(impl Threads + Sync),
     alloc: Global,
     staff: &S,
@@ -179,7 +178,7 @@ pub fn run_with<S: Staff, F: Fn(Asked) -> Result<Told, ReadError>, R: Read, W: W
 }
 
 /// The same in a world without builders.
-pub fn run_script<R: Read, W: Write>(
+pub fn run_script<R: Reader, W: Writer>(
     rt: &(impl Threads + Sync),
     alloc: Global,
     inputs: &Inputs,

@@ -33,17 +33,17 @@ use crate::track_files::TrackPaths;
 use crate::tracking::{Asked, track};
 use std::alloc::Global;
 use std::io;
-use std::io::{ErrorKind, Read, Write};
+use std::io::ErrorKind;
 use std::sync::Wait;
 use std::thread::Threads;
-use td_bytes::{WriteFault, write_whole};
+use td_bytes::{Reader, WriteFault, Writer, write_whole};
 use td_words::{Call, Request, RunRequest, WordsFault, read_words};
 
 /// The status where the words ask for nothing that can be done.
 pub const BAD_WORDS: u8 = 3;
 
 // Says why words aren't read: memory ran out, or they aren't UTF-8.
-fn say_unread<E: Write>(lacks_memory: bool, faults: &mut E) -> Result<(), WriteFault>
+fn say_unread<E: Writer>(lacks_memory: bool, faults: &mut E) -> Result<(), WriteFault>
     ensures whole { OnOk result (Appends (E.contents faults.old) (E.contents faults.new)
         (unread_text lacks_memory)) }
     ensures prefix { OnErr result (AppendsPrefix (E.contents faults.old) (E.contents faults.new)
@@ -58,7 +58,7 @@ fn say_unread<E: Write>(lacks_memory: bool, faults: &mut E) -> Result<(), WriteF
 
 // The same, and the status. What can't be said is left.
 #[tactic(auto, using(crate::proofs::Explanations::front_said))]
-fn tell_unread<E: Write>(error: &io::Error, faults: &mut E) -> u8
+fn tell_unread<E: Writer>(error: &io::Error, faults: &mut E) -> u8
     ensures { TellsUnread (error_kind error.now)
         (E.contents faults.old) (E.contents faults.new) result }
 {
@@ -72,7 +72,7 @@ fn tell_unread<E: Write>(error: &io::Error, faults: &mut E) -> u8
 }
 
 // Says why words ask for nothing.
-fn say_fault<E: Write>(fault: &WordsFault, faults: &mut E) -> Result<(), WriteFault>
+fn say_fault<E: Writer>(fault: &WordsFault, faults: &mut E) -> Result<(), WriteFault>
     ensures whole { OnOk result (Appends (E.contents faults.old) (E.contents faults.new)
         (fault_text fault.now)) }
     ensures prefix { OnErr result (AppendsPrefix (E.contents faults.old) (E.contents faults.new)
@@ -86,7 +86,7 @@ fn say_fault<E: Write>(fault: &WordsFault, faults: &mut E) -> Result<(), WriteFa
 
 // The same, and the status. What can't be said is left.
 #[tactic(auto, using(crate::proofs::Explanations::front_said))]
-fn tell_fault<E: Write>(fault: &WordsFault, faults: &mut E) -> u8
+fn tell_fault<E: Writer>(fault: &WordsFault, faults: &mut E) -> u8
     ensures { TellsFault fault.now (E.contents faults.old) (E.contents faults.new) result }
 {
     let _ = say_fault(fault, faults);
@@ -114,7 +114,7 @@ pub fn crew_of(request: &Request) -> Option<&RunRequest>
 }
 
 // Does what was asked for, where no builders are.
-fn do_alone<T: Texts + Sync, R: Read, W: Write>(
+fn do_alone<T: Texts + Sync, R: Reader, W: Writer>(
     rt: &(impl Threads + Sync),
     alloc: Global,
     request: &Request,
@@ -158,7 +158,7 @@ fn do_alone<T: Texts + Sync, R: Read, W: Write>(
 
 /// Does what a call asks for, where that is no run with builders (`crew_of`), and answers the
 /// program's status. It waits for nobody. What can't be written to `faults` is left.
-pub fn answer_alone<T: Texts + Sync, R: Read, W: Write, E: Write>(
+pub fn answer_alone<T: Texts + Sync, R: Reader, W: Writer, E: Writer>(
     rt: &(impl Threads + Sync),
     alloc: Global,
     call: &Call,
@@ -180,7 +180,7 @@ pub fn answer_alone<T: Texts + Sync, R: Read, W: Write, E: Write>(
 }
 
 // Does the run with builders that was asked for.
-fn do_beside<T: Texts + Sync, R: Read, W: Write>(
+fn do_beside<T: Texts + Sync, R: Reader, W: Writer>(
     rt: &(impl Threads + Wait + Sync),
     alloc: Global,
     request: &Request,
@@ -203,7 +203,7 @@ fn do_beside<T: Texts + Sync, R: Read, W: Write>(
 }
 
 // The same, and answers the program's status.
-fn answer_beside<T: Texts + Sync, R: Read, W: Write, E: Write>(
+fn answer_beside<T: Texts + Sync, R: Reader, W: Writer, E: Writer>(
     rt: &(impl Threads + Wait + Sync),
     alloc: Global,
     call: &Call,
@@ -227,7 +227,7 @@ fn answer_beside<T: Texts + Sync, R: Read, W: Write, E: Write>(
 }
 
 // Does what the words were read as.
-fn act<T: Texts + Sync, R: Read, W: Write, E: Write>(
+fn act<T: Texts + Sync, R: Reader, W: Writer, E: Writer>(
     rt: &(impl Threads + Wait + Sync),
     alloc: Global,
     asked: Result<Call, WordsFault>,
@@ -257,7 +257,7 @@ fn act<T: Texts + Sync, R: Read, W: Write, E: Write>(
 }
 
 // Does what the words ask for.
-fn answer<T: Texts + Sync, R: Read, W: Write, E: Write>(
+fn answer<T: Texts + Sync, R: Reader, W: Writer, E: Writer>(
     rt: &(impl Threads + Wait + Sync),
     alloc: Global,
     words: &[String],
@@ -317,7 +317,7 @@ fn answer<T: Texts + Sync, R: Read, W: Write, E: Write>(
 
 /// Does what the words ask for, and answers the program's status. The first word is the program's
 /// own name. What can't be written to `faults` is left.
-pub fn tool<T: Texts + Sync, R: Read, W: Write, E: Write>(
+pub fn tool<T: Texts + Sync, R: Reader, W: Writer, E: Writer>(
     rt: &(impl Threads + Wait + Sync),
     alloc: Global,
     words: io::Result<Vec<String>>,

@@ -15,10 +15,9 @@ use crate::ending::{Ending, ending_of_file, ending_of_form};
 use crate::file_texts::{FileFault, FileTexts, read_files};
 use crate::texts::Texts;
 use std::alloc::{AllocError, Global};
-use std::io::Write;
 use std::mem;
 use std::thread::Threads;
-use td_bytes::write_whole;
+use td_bytes::{Writer, write_whole};
 use td_indices::{Archive, ArchiveFault};
 use td_relation::{Archs, ArchsFault};
 use td_script::InputFault as FormFault;
@@ -125,7 +124,7 @@ fn line_of(alloc: Global, counted: Result<Counts, Ending>) -> Result<String, End
 }
 
 /// How a run ends by what is to be written.
-pub fn write<W: Write>(line: Result<String, Ending>, output: &mut W) -> Ending
+pub fn write<W: Writer>(line: Result<String, Ending>, output: &mut W) -> Ending
     ensures line { IfOk line (λ line.
         WritesSo (string_bytes line) (W.contents output.old) (W.contents output.new) result) }
     ensures refused { IfErr line (λ ending.
@@ -142,7 +141,7 @@ pub fn write<W: Write>(line: Result<String, Ending>, output: &mut W) -> Ending
 }
 
 // How a check ends by what was read of the files.
-fn count<W: Write>(
+fn count<W: Writer>(
     rt: &(impl Threads + Sync),
     alloc: Global,
     read: Result<FileTexts, FileFault>,
@@ -169,7 +168,7 @@ fn count<W: Write>(
 }
 
 /// Counts what the indices hold that have these paths. All is read before anything is written.
-pub fn check<T: Texts + Sync, W: Write>(
+pub fn check<T: Texts + Sync, W: Writer>(
     rt: &(impl Threads + Sync),
     alloc: Global,
     texts: &T,

@@ -7,8 +7,7 @@ ghost use Rattle.td_tool.specs.Ending.{ending_of_stop, ending_of_text, line_of, 
 ghost use Rattle.td_tool.specs.Ending.{status_of};
 
 use crate::input_fault::InputFault;
-use std::io::Write;
-use td_bytes::{TextFault, WriteFault, write_whole};
+use td_bytes::{TextFault, WriteFault, Writer, write_whole};
 use td_indices::ArchiveFault;
 use td_journal::ReadError;
 use td_query::TrackerFault;
@@ -124,7 +123,7 @@ impl Ending {
     }
 
     /// Writes the one line that says what went wrong, where something did.
-    pub fn tell<E: Write>(self, faults: &mut E) -> Result<(), WriteFault>
+    pub fn tell<E: Writer>(self, faults: &mut E) -> Result<(), WriteFault>
         ensures whole { OnOk result
             (Appends (E.contents faults.old) (E.contents faults.new) (line_of self)) }
         ensures prefix { OnErr result
@@ -144,7 +143,7 @@ impl Ending {
     }
 
     /// `tell`, and the status. What can't be told is left.
-    pub fn answer<E: Write>(self, faults: &mut E) -> u8
+    pub fn answer<E: Writer>(self, faults: &mut E) -> u8
         ensures status { result ≡ status_of self }
         ensures line { AppendsPrefix (E.contents faults.old) (E.contents faults.new)
             (line_of self) }
@@ -155,7 +154,7 @@ impl Ending {
 }
 
 // Writes the program's name, the part of it that is meant, and what went wrong there.
-fn write_line<E: Write>(faults: &mut E, place: &[u8], what: &[u8]) -> Result<(), WriteFault>
+fn write_line<E: Writer>(faults: &mut E, place: &[u8], what: &[u8]) -> Result<(), WriteFault>
     ensures whole { OnOk result (Appends (E.contents faults.old) (E.contents faults.new)
         (line_with place.now what.now)) }
     ensures prefix { OnErr result (AppendsPrefix (E.contents faults.old) (E.contents faults.new)

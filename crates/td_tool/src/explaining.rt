@@ -22,8 +22,7 @@ use crate::places::place_of;
 use crate::texts::Texts;
 use crate::wanted::{wanted, wanted_of};
 use std::alloc::Global;
-use std::io::Write;
-use td_bytes::{TextFault, write_whole};
+use td_bytes::{TextFault, Writer, write_whole};
 use td_explain::{Place, explain};
 use td_script::Role;
 use td_words::{ArchivePaths, Request};
@@ -228,7 +227,7 @@ fn explanation<T: Texts>(
 }
 
 // Writes the explanation, where there is one.
-fn put_explanation<E: Write>(
+fn put_explanation<E: Writer>(
     explanation: Result<Option<String>, Unexplained>,
     faults: &mut E,
 ) -> Result<(), Unexplained>
@@ -252,7 +251,7 @@ fn put_explanation<E: Write>(
 
 // Writes the line of the ending, and behind it the explanation where one is asked for, or answers
 // why not all is written.
-fn say<T: Texts, E: Write>(
+fn say<T: Texts, E: Writer>(
     alloc: Global,
     explained: bool,
     ended: &Ended,
@@ -285,7 +284,7 @@ fn say<T: Texts, E: Write>(
 
 /// Says on `faults` how a run of this request ended, with an explanation or without, and answers
 /// the status. What can't be said is left.
-pub fn finish<T: Texts, E: Write>(
+pub fn finish<T: Texts, E: Writer>(
     alloc: Global,
     explained: bool,
     ended: &Ended,

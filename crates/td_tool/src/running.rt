@@ -10,10 +10,10 @@ use crate::input_fault::InputFault;
 use crate::run_files::{RunTexts, read_run_files};
 use crate::texts::Texts;
 use std::alloc::{AllocError, Global};
-use std::io::{Read, Write};
 use std::sync::Wait;
 use std::thread::Threads;
 use td_board::MAX_BUILDERS;
+use td_bytes::{Reader, Writer};
 use td_crew::{CrewFault, run_crew};
 use td_script::{Inputs, Role, RunFault, ScriptEnd, run_script};
 use td_words::RunRequest;
@@ -85,7 +85,7 @@ fn inputs_for<T: Texts + Sync>(
 }
 
 // How the script ends that the reader has, over its inputs. Nobody builds beside it.
-fn play_alone<R: Read, W: Write>(
+fn play_alone<R: Reader, W: Writer>(
     rt: &(impl Threads + Sync),
     alloc: Global,
     inputs: &Inputs,
@@ -99,7 +99,7 @@ fn play_alone<R: Read, W: Write>(
 }
 
 // How it ends beside builders.
-fn play_beside<R: Read, W: Write>(
+fn play_beside<R: Reader, W: Writer>(
     rt: &(impl Threads + Wait + Sync),
     alloc: Global,
     inputs: &Inputs,
@@ -114,7 +114,7 @@ fn play_beside<R: Read, W: Write>(
 
 /// Answers the script that the reader has, over the files that are asked for, without builders.
 /// They are read before the script, and all of it before anything is written. It waits for nobody.
-pub fn run_alone<T: Texts + Sync, R: Read, W: Write>(
+pub fn run_alone<T: Texts + Sync, R: Reader, W: Writer>(
     rt: &(impl Threads + Sync),
     alloc: Global,
     texts: &T,
@@ -138,7 +138,7 @@ pub fn run_alone<T: Texts + Sync, R: Read, W: Write>(
 }
 
 /// The same beside as many builders as are asked for, for whom it may wait.
-pub fn run_beside<T: Texts + Sync, R: Read, W: Write>(
+pub fn run_beside<T: Texts + Sync, R: Reader, W: Writer>(
     rt: &(impl Threads + Wait + Sync),
     alloc: Global,
     texts: &T,

@@ -9,15 +9,14 @@ ghost use Rattle.td_tool.specs.Ran.{Ran};
 
 use crate::ending::{Ended, Ending, ending_of_simulation, ending_of_text};
 use std::alloc::Global;
-use std::io::{Read, Write};
-use td_bytes::{TextFault, read_text, write_whole};
+use td_bytes::{Reader, TextFault, Writer, read_text, write_whole};
 use td_simulate::{Simulated, SimulationFault, simulate_text};
 
 /// The longest standard input, in bytes.
 pub const INPUT_LIMIT: usize = 1_048_576;
 
 // How a run ends by what was told.
-fn tell<W: Write>(told: Result<Simulated, SimulationFault>, output: &mut W) -> Ending
+fn tell<W: Writer>(told: Result<Simulated, SimulationFault>, output: &mut W) -> Ending
     ensures told { IfOk told (λ t.
         TellsSo t (W.contents output.old) (W.contents output.new) result) }
     ensures untold { IfErr told (λ fault.
@@ -35,7 +34,7 @@ fn tell<W: Write>(told: Result<Simulated, SimulationFault>, output: &mut W) -> E
 }
 
 // How a run ends by what was read of standard input. The text is kept.
-fn play<W: Write>(alloc: Global, read: Result<String, TextFault>, output: &mut W) -> Ended
+fn play<W: Writer>(alloc: Global, read: Result<String, TextFault>, output: &mut W) -> Ended
     requires { ForOk read (λ text. length (string_bytes text) ≤ input_limit) }
     ensures text { IfOk read (λ text.
         TextEnds (string_bytes text) (W.contents output.old)
@@ -56,7 +55,7 @@ fn play<W: Write>(alloc: Global, read: Result<String, TextFault>, output: &mut W
 }
 
 // Plays the simulation that the reader has. All is read before anything is written, and kept.
-pub(crate) fn read_and_play<R: Read, W: Write>(
+pub(crate) fn read_and_play<R: Reader, W: Writer>(
     alloc: Global,
     reader: &mut R,
     output: &mut W,
@@ -74,7 +73,7 @@ pub(crate) fn read_and_play<R: Read, W: Write>(
 
 /// The subcommand by itself: it plays the simulation that the reader has, and answers the program's
 /// status. It takes no words, waits for nobody, and explains no refusal.
-pub fn simulate<R: Read, W: Write, E: Write>(
+pub fn simulate<R: Reader, W: Writer, E: Writer>(
     alloc: Global,
     reader: &mut R,
     output: &mut W,

@@ -25,9 +25,9 @@ use crate::file_texts::FileFault;
 use crate::texts::Texts;
 use crate::track_files::{TrackPaths, TrackTexts, TrackerTexts, read_track_files};
 use std::alloc::{AllocError, Global};
-use std::io::Write;
 use std::thread::Threads;
 use std::{mem, thread};
+use td_bytes::Writer;
 use td_indices::{Archive, ArchiveFault, EarlyPackages, EarlySources};
 use td_query::{Marks, Tracker, TrackerFault};
 use td_relation::{Archs, ArchsFault};
@@ -405,7 +405,7 @@ fn whole_text(
 }
 
 // How a run ends by what was read of the files.
-fn tell<W: Write>(
+fn tell<W: Writer>(
     rt: &(impl Threads + Sync),
     alloc: Global,
     read: Result<TrackTexts, FileFault>,
@@ -427,7 +427,7 @@ fn tell<W: Write>(
 
 /// Tells what the tracker with its path says over the archive. All is read before anything is
 /// written.
-pub fn track<T: Texts + Sync, W: Write>(
+pub fn track<T: Texts + Sync, W: Writer>(
     rt: &(impl Threads + Sync),
     alloc: Global,
     texts: &T,

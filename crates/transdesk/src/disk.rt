@@ -5,7 +5,7 @@ use std::io::{ErrorKind, Read};
 use std::os::unix::fs::FileExt;
 use std::thread::Threads;
 use std::{fs, io, thread};
-use td_bytes::{TextFault, read_text};
+use td_bytes::{Reader, TextFault, read_text};
 use td_tool::{Cause, Texts};
 
 // What an error of this kind says of why a file can't be read.
@@ -55,6 +55,16 @@ impl Read for Behind<'_> {
         let count = self.file.read_at(buffer, self.place)?;
         self.place = self.place.saturating_add(count as u64);
         Ok(count)
+    }
+}
+
+impl Reader for Behind<'_> {
+    ghost use Rattle.std.specs.Prelude.{true};
+
+    ghost can_fail = { λ _. true };
+
+    fn read_once(&mut self, buffer: &mut [u8]) -> io::Result<usize> {
+        self.read(buffer)
     }
 }
 

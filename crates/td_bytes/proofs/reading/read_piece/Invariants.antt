@@ -1,10 +1,14 @@
 -- What the loop of `read_piece` keeps.
 use Rattle.std.proofs.Common.{◌≡◌, length}
 use Rattle.std.specs.Io.KnownBytes.{Keeps}
+use Rattle.td_bytes.proofs.Failures.{AreBorne}
 use Rattle.td_bytes.proofs.reading.read_piece.Given as goal
 
--- an interrupted read loses nothing
-abbrev pub invariant-loop : goal.invariant-loop
-invariant-loop g l =
+-- an interrupted read loses nothing, and so many were
+abbrev pub invariant-loop-tries : goal.invariant-loop-tries
+invariant-loop-tries g l =
     (length l.buffer ≡ length l.initial.buffer)
     × Keeps (g.R.Read.remaining l.initial.reader) (g.R.Read.remaining l.reader)
+    × (g.R.Reader.can_fail l.reader ≡ g.R.Reader.can_fail l.initial.reader)
+    × AreBorne (g.R.Reader.can_fail l.initial.reader) l.tries
+    (g.R.Reader.interruptions l.initial.reader) (g.R.Reader.interruptions l.reader)

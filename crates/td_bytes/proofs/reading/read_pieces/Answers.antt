@@ -32,4 +32,5 @@ loop-bytes-preserved g c =
       subst (λ xs. IsUtf8 (take (n + k) xs)) (sym is)
           (IsUtf8-further bs more n k c.loop-bytes.invariant.2 c.loop-bytes.invariant.3
           (subst (λ xs. IsUtf8 (take k (drop n xs))) is found)),
+      c.in_ok-count.ensures.steady ∙ c.loop-bytes.invariant.4,
     )

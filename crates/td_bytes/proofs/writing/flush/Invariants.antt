@@ -1,7 +1,13 @@
 -- What the loop of `flush` keeps.
+use Rattle.std.proofs.Common.{◌≡◌}
 use Rattle.std.specs.Io.KnownBytes.{Keeps}
+use Rattle.td_bytes.proofs.Failures.{AreBorne}
 use Rattle.td_bytes.proofs.writing.flush.Given as goal
 
--- a flush takes nothing
-abbrev pub invariant-loop : goal.invariant-loop
-invariant-loop g l = Keeps (g.W.Write.contents l.initial.writer) (g.W.Write.contents l.writer)
+-- a flush takes nothing, and so many were interrupted
+abbrev pub invariant-loop-tries : goal.invariant-loop-tries
+invariant-loop-tries g l =
+    Keeps (g.W.Write.contents l.initial.writer) (g.W.Write.contents l.writer)
+    × (g.W.Writer.can_fail l.writer ≡ g.W.Writer.can_fail l.initial.writer)
+    × AreBorne (g.W.Writer.can_fail l.initial.writer) l.tries
+    (g.W.Writer.interruptions l.initial.writer) (g.W.Writer.interruptions l.writer)
