@@ -1,8 +1,10 @@
 //! Files and streams, of whose failures nobody knows.
+use crate::positioned::Positioned;
 use crate::streams::{Reader, Writer};
 use std::fs::File;
 use std::io;
 use std::io::{Print, Printer, Read, Stderr, Stdin, Take, Write};
+use std::os::unix::fs::FileExt;
 
 impl Reader for File {
     ghost use Rattle.std.specs.Prelude.{true};
@@ -59,5 +61,15 @@ impl Writer for Stderr {
 
     fn flush_once(&mut self) -> io::Result<()> {
         self.flush()
+    }
+}
+
+impl Positioned for File {
+    ghost use Rattle.std.specs.Prelude.{None};
+
+    ghost bytes = { λ _. None };
+
+    fn read_at(&self, buffer: &mut [u8], place: u64) -> io::Result<usize> {
+        FileExt::read_at(self, buffer, place)
     }
 }

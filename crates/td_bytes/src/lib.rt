@@ -1,19 +1,23 @@
 //! Bytes in and bytes out: a reader is read to its end, up to a limit, and a writer is written to
 //! until it has taken all, whatever pieces they move.
 //!
-//! Start at `read_text` and `write_whole`.
+//! Start at `read_text` and `write_whole`; a file is read as two texts by `halves_of`.
 //! Promised, of any reader and writer whose bytes clauses know: `Ok` is all that remained, within
 //! the limit, and TooLong only where more did; a write that fails leaves a front of the bytes.
 //! Of a stream that can't fail no call says that it did: `Reader` and `Writer` say which can.
 #![tactic(auto)]
 
 mod files;
+mod halves;
 mod memory;
+mod positioned;
 mod reading;
 mod streams;
 mod text;
 mod writing;
 
+pub use halves::halves_of;
+pub use positioned::Positioned;
 pub use reading::{ReadFault, read_whole};
 pub use streams::{Reader, Writer};
 pub use text::{TextFault, read_text};
