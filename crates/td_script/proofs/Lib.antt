@@ -8,6 +8,7 @@ pub mod ScriptLaws
 pub mod WatchLaws
 pub mod OpeningLaws
 pub mod RunLaws
+pub mod StreamLaws
 pub mod OnlyLaws
 pub mod WithoutJournal
 pub mod CutLaws

@@ -1,6 +1,6 @@
 //! The run of a script: from the texts of files and the bytes of a reader to those of a writer.
 ghost use Rattle.std.specs.Prelude.{◌≡◌, ◌⊎◌, ◌≤◌, Ok, Err, IfOk, IfErr, MatchResult, length};
-ghost use Rattle.std.specs.Prelude.{string_bytes};
+ghost use Rattle.std.specs.Prelude.{true, IsErrOf, string_bytes};
 ghost use Rattle.std.specs.Result.{ForOk};
 ghost use Rattle.td_script.specs.Asking.{CanAnswer};
 ghost use Rattle.td_script.specs.Limits.{script_limit};
@@ -166,6 +166,8 @@ pub fn run_with<S: Staff, F: Fn(Asked) -> Result<Told, ReadError>, R: Reader, W:
     ensures says { SaysBy (S.tells staff.now) (texts_of inputs.now) (R.remaining reader.old)
         (W.contents writer.old) (W.contents writer.new) result }
     ensures only { Only (texts_of inputs.now) (R.remaining reader.old) result }
+    ensures unread { IsErrOf result RunFault.Read → R.can_fail reader.old ≡ true }
+    ensures unwritten { IsErrOf result RunFault.Write → W.can_fail writer.old ≡ true }
 {
     let read = read_text(alloc, reader, SCRIPT_LIMIT, 0);
     let told = tell_read(rt, alloc, staff, tell, inputs, read)?;
@@ -188,6 +190,8 @@ pub fn run_script<R: Reader, W: Writer>(
     ensures says { Says (texts_of inputs.now) (R.remaining reader.old) (W.contents writer.old)
         (W.contents writer.new) result }
     ensures only { Only (texts_of inputs.now) (R.remaining reader.old) result }
+    ensures unread { IsErrOf result RunFault.Read → R.can_fail reader.old ≡ true }
+    ensures unwritten { IsErrOf result RunFault.Write → W.can_fail writer.old ≡ true }
 {
     run_with(rt, alloc, &Alone, &tell_alone, inputs, reader, writer)
 }

@@ -1,11 +1,14 @@
--- `run_with`: the clauses `says` and `only`.
-use Rattle.std.proofs.Common.{◌≡◌, Err, refl, rules, subst, sym}
+-- `run_with`: its clauses.
+use Rattle.std.proofs.Common.{◌≡◌, ◌∙◌, Err, ap, refl, rules, subst, sym}
 use Rattle.std.specs.Io.KnownBytes.{Appends}
 use Rattle.td_bytes.specs.Pieces.{AppendsPrefix}
+use Rattle.td_script.specs.declared.running.RunFault.{RunFault}
+use Rattle.td_script.specs.declared.running.RunFault.TheVariants.{Read, Write}
 use Rattle.td_script.specs.Openings.{texts_of}
 use Rattle.td_script.specs.Ends.{Only, SaysBy}
 use Rattle.td_script.proofs.OnlyLaws.{run_only}
 use Rattle.td_script.proofs.RunLaws.{plays, stopped}
+use Rattle.td_script.proofs.StreamLaws.{never_unwritten, unread_due}
 use Rattle.td_script.proofs.running.run_with.Goals as goal
 
 pub returns-in-Ok-clause-says : goal.returns-in-Ok-clause-says
@@ -58,3 +61,20 @@ returns-in_err-told-clause-says g c =
     (stopped May x known old c.read_text-read.result c.tell_read.result c.in_err-told.field-0.0
     c.in_err-told.was c.tell_read.ensures.read c.tell_read.ensures.unread
     c.read_text-read.ensures.long c.read_text-read.ensures.not_text)
+
+pub returns-in_err-told-clause-unread : goal.returns-in_err-told-clause-unread
+returns-in_err-told-clause-unread g c = λ is.
+    let same : c.from_residual.result ≡ Err c.in_err-told.field-0.0 = search rules in
+    let failed : c.in_err-told.field-0.0 ≡ Read = cc in
+    unread_due (g.S.Staff.tells c.args.staff.now) (texts_of c.args.inputs.now)
+    c.read_text-read.result c.tell_read.result (g.R.Reader.can_fail c.args.reader.now)
+    c.tell_read.ensures.read c.tell_read.ensures.unread c.read_text-read.ensures.due
+    (c.in_err-told.was ∙ ap (λ (e : RunFault). Err e) failed)
+
+pub returns-in_err-told-clause-unwritten : goal.returns-in_err-told-clause-unwritten
+returns-in_err-told-clause-unwritten g c = λ is.
+    let same : c.from_residual.result ≡ Err c.in_err-told.field-0.0 = search rules in
+    let failed : c.in_err-told.field-0.0 ≡ Write = cc in
+    absurd (never_unwritten (g.S.Staff.tells c.args.staff.now) (texts_of c.args.inputs.now)
+    c.read_text-read.result c.tell_read.result
+    c.tell_read.ensures.read c.tell_read.ensures.unread (c.in_err-told.was ∙ ap (λ (e : RunFault). Err e) failed))
