@@ -1,5 +1,5 @@
 -- How a crew's run ends that is refused.
-use Rattle.std.proofs.Common.{ℕ, List, Option, Err, inr}
+use Rattle.std.proofs.Common.{◌≡◌, ℕ, List, Option, Err, inr, subst}
 use Rattle.std.specs.Io.KnownBytes.{Keeps}
 use Rattle.td_text.proofs.SpelledLines.{AreSpelled-other}
 use Rattle.td_builder.specs.OutcomeLines.{IsFirstBad, OutcomeFits, outcome_line}
@@ -41,3 +41,12 @@ unread_stops x (Run e) stops = stops_run x e stops
 pub bad_unread : (lines : List (List ℕ)) (n : ℕ) → IsFirstBad lines n → AreRead lines → ⊥
 bad_unread lines n bad read =
     AreSpelled-other outcome_line OutcomeFits 1 n lines read.0 read.1 bad
+
+-- nor is a stream to blame where they aren't read
+pub unread_calm : (x : Texts) (lines : List (List ℕ)) (f : CrewFault) → IsNoOutcomes x lines f
+    → f ≡ Run fault.Read → ⊥
+unread_calm x lines f is same = subst (IsNoOutcomes x lines) same is
+
+pub unwritten_calm : (x : Texts) (lines : List (List ℕ)) (f : CrewFault) → IsNoOutcomes x lines f
+    → f ≡ Run fault.Write → ⊥
+unwritten_calm x lines f is same = subst (IsNoOutcomes x lines) same is

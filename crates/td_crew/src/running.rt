@@ -1,6 +1,6 @@
 //! The run of a script by a crew: from the texts of files and the bytes of a reader to those of a
 //! writer.
-ghost use Rattle.std.specs.Prelude.{◌≡◌, [], option_map, string_bytes, unwrap_or};
+ghost use Rattle.std.specs.Prelude.{◌≡◌, [], true, IsErrOf, option_map, string_bytes, unwrap_or};
 ghost use Rattle.td_builder.specs.OutcomeLines.{FaultOf};
 ghost use Rattle.td_script.specs.Asking.{IsFit, IsToldOf};
 ghost use Rattle.td_script.specs.Ends.{Only, SaysBy};
@@ -42,6 +42,8 @@ pub fn run_crew_with<R: Reader, W: Writer, B: Builds + Sync, H: Threads + Wait +
     ensures says { SaysBy (crew_tells inputs.now.builders) (texts_of inputs.now)
         (R.remaining reader.old) (W.contents writer.old) (W.contents writer.new) result }
     ensures only { Only (texts_of inputs.now) (R.remaining reader.old) result }
+    ensures unread { IsErrOf result RunFault.Read → R.can_fail reader.old ≡ true }
+    ensures unwritten { IsErrOf result RunFault.Write → W.can_fail writer.old ≡ true }
 {
     let crew = Crew {
         builders: inputs.builders,
@@ -106,6 +108,10 @@ pub fn run_crew<R: Reader, W: Writer, H: Threads + Wait + Sync>(
         (W.contents writer.new) result }
     ensures only { CrewOnly (texts_of inputs.now) (outcomes_of inputs.now) (R.remaining reader.old)
         result }
+    ensures unread { IsErrOf result (CrewFault.Run RunFault.Read)
+        → R.can_fail reader.old ≡ true }
+    ensures unwritten { IsErrOf result (CrewFault.Run RunFault.Write)
+        → W.can_fail writer.old ≡ true }
 {
     let outcomes = match Outcomes::read(alloc, lines_in(inputs)) {
         Ok(outcomes) => outcomes,
