@@ -26,6 +26,7 @@ use Rattle.td_tool.specs.Program.{files_asked}
 use Rattle.td_tool.specs.Runs.{EndsRun, run_files_asked}
 use Rattle.td_tool.specs.Tracks.{EndsSo, track_files}
 use Rattle.td_tool.specs.Ran.{Ran}
+use Rattle.td_tool.specs.Streams.{DueTo}
 use Rattle.td_tool.proofs.Explanations.{line_alone}
 use Rattle.td_tool.proofs.Stops.{kept_only}
 use Rattle.td_tool.proofs.SureRuns.{play_only}
@@ -43,12 +44,12 @@ of_given AsksFor Done words given lent are same answered asks =
     (answered (subst (λ l. AsksFor (map string_bytes l)) (sym same) here))
 
 module _ (words : List (List ℕ)) (known : Option (List ℕ)) (bytes : List ℕ → Option (List ℕ))
-    (can_fail : List ℕ → TextFault → Bool) (old new before said : Option (List ℕ))
-    (status : ℕ) where
+    (can_fail : List ℕ → TextFault → Bool) (reads writes : Bool)
+    (old new before said : Option (List ℕ)) (status : ℕ) where
   -- what was answered, as the functions below have it
   abbrev HasRun : Result Call WordsFault → Type 0
   HasRun r =
-      IfOk r (λ c. RanFor c.request c.explained known bytes can_fail old new before said status)
+      IfOk r (λ c. RanFor c.request c.explained known bytes can_fail reads writes old new before said status)
 
   abbrev WasTold : Result Call WordsFault → Type 0
   WasTold r = IfErr r (λ f. IsTold f old new before said status)
@@ -61,7 +62,7 @@ module _ (words : List (List ℕ)) (known : Option (List ℕ)) (bytes : List ℕ
   answered : (Did : Ending → Type 0) (texts : Role → Option (List ℕ)) (Is : Request → Type 0)
       (r : Result Call WordsFault) (explained : Bool)
       → ((q : Request) (b : Bool)
-      → RanFor q b known bytes can_fail old new before said status → Is q
+      → RanFor q b known bytes can_fail reads writes old new before said status → Is q
       → Ran Did b texts before said status)
       → (Keeps old new → Did NoMemory) → HasRun r → WasTold r → HasFlag explained r
       → MatchResult r (λ c. Is c.request) (λ e. e ≡ words_fault.NoMemory)
@@ -79,21 +80,21 @@ module _ (words : List (List ℕ)) (known : Option (List ℕ)) (bytes : List ℕ
 
   -- what ran for a request ran for its words
   abbrev RanWords : RequestWords → Bool → Type 0
-  RanWords simulation b = Ran (Ends known old new) b (known_input known) before said status
+  RanWords simulation b = Ran (DueTo reads writes (Ends known old new)) b (known_input known) before said status
   RanWords (check_of archs packages sources) b =
-      Ran (Checks (files_of bytes can_fail archs packages sources) old new) b
+      Ran (DueTo reads writes (Checks (files_of bytes can_fail archs packages sources) old new)) b
       (known_at bytes (archive_paths archs packages sources)) before said status
   RanWords (report_of w) b =
-      Ran (EndsSo IsReport (files_asked bytes can_fail w) old new) b
+      Ran (DueTo reads writes (EndsSo IsReport (files_asked bytes can_fail w) old new)) b
       (known_at bytes (track_paths w)) before said status
   RanWords (waves_of archs packages sources tracker) b =
-      Ran (EndsSo IsWaves (track_files bytes can_fail archs packages sources None tracker) old new)
+      Ran (DueTo reads writes (EndsSo IsWaves (track_files bytes can_fail archs packages sources None tracker) old new))
       b (known_at bytes (waves_paths archs packages sources tracker)) before said status
   RanWords (run_of w) b =
-      Ran (EndsRun (run_files_asked bytes can_fail w) w.suite known old new) b
+      Ran (DueTo reads writes (EndsRun (run_files_asked bytes can_fail w) w.suite known old new)) b
       (known_at bytes (run_paths w)) before said status
 
-  ran_words : (q : Request) (b : Bool) → RanFor q b known bytes can_fail old new before said status
+  ran_words : (q : Request) (b : Bool) → RanFor q b known bytes can_fail reads writes old new before said status
       → RanWords (request_words q) b
   ran_words Simulate b ran = ran
   ran_words (Check p) b ran = ran
@@ -102,83 +103,86 @@ module _ (words : List (List ℕ)) (known : Option (List ℕ)) (bytes : List ℕ
   ran_words (Run r) b ran = ran
 
   ran_same : (w : RequestWords) (q : Request) (b : Bool)
-      → RanFor q b known bytes can_fail old new before said status → request_words q ≡ w
+      → RanFor q b known bytes can_fail reads writes old new before said status → request_words q ≡ w
       → RanWords w b
   ran_same w q b ran is = subst (λ v. RanWords v b) is (ran_words q b ran)
 
   pub simulated : (r : Result Call WordsFault) (explained : Bool) → HasRun r → WasTold r
       → HasFlag explained r
       → MatchResult r (λ c. c.request ≡ Simulate) (λ e. e ≡ words_fault.NoMemory)
-      → Ran (Ends known old new) explained (known_input known) before said status
+      → Ran (DueTo reads writes (Ends known old new)) explained (known_input known) before said status
   simulated r explained =
-      answered (Ends known old new) (known_input known) (λ q. q ≡ Simulate) r explained
-      (λ q b ran is. subst (λ x. RanFor x b known bytes can_fail old new before said status) is ran)
-      (λ kept. record { says = kept; only = kept_only known old new kept })
+      answered (DueTo reads writes (Ends known old new)) (known_input known) (λ q. q ≡ Simulate) r explained
+      (λ q b ran is. subst (λ x. RanFor x b known bytes can_fail reads writes old new before said status) is ran)
+      (λ kept. (record { says = kept; only = kept_only known old new kept }, tt))
 
   pub checked : (r : Result Call WordsFault) (explained : Bool) (archs packages sources : List ℕ)
       → HasRun r → WasTold r → HasFlag explained r
       → MatchResult r (λ c. request_words c.request ≡ check_of archs packages sources)
       (λ e. e ≡ words_fault.NoMemory)
-      → Ran (Checks (files_of bytes can_fail archs packages sources) old new)
+      → Ran (DueTo reads writes (Checks (files_of bytes can_fail archs packages sources) old new))
       explained (known_at bytes (archive_paths archs packages sources)) before said status
   checked r explained archs packages sources =
-      answered (Checks (files_of bytes can_fail archs packages sources) old new)
+      answered (DueTo reads writes (Checks (files_of bytes can_fail archs packages sources) old new))
       (known_at bytes (archive_paths archs packages sources))
       (λ q. request_words q ≡ check_of archs packages sources) r
       explained (ran_same (check_of archs packages sources))
-      (λ kept. record { says = kept; only = λ c is. kept })
+      (λ kept. (record { says = kept; only = λ c is. kept }, tt))
 
   pub tracked : (r : Result Call WordsFault) (explained : Bool) (w : TrackWords) → HasRun r
       → WasTold r → HasFlag explained r
       → MatchResult r (λ c. request_words c.request ≡ report_of w) (λ e. e ≡ words_fault.NoMemory)
-      → Ran (EndsSo IsReport (files_asked bytes can_fail w) old new)
+      → Ran (DueTo reads writes (EndsSo IsReport (files_asked bytes can_fail w) old new))
       explained (known_at bytes (track_paths w)) before said status
   tracked r explained w =
-      answered (EndsSo IsReport (files_asked bytes can_fail w) old new)
+      answered (DueTo reads writes (EndsSo IsReport (files_asked bytes can_fail w) old new))
       (known_at bytes (track_paths w)) (λ q. request_words q ≡ report_of w) r explained
       (ran_same (report_of w))
-      (λ kept. record { says = inl (refl, kept); only = λ x are readable. kept })
+      (λ kept. (record { says = inl (refl, kept); only = λ x are readable. kept }, tt))
 
   pub waved : (r : Result Call WordsFault) (explained : Bool)
       (archs packages sources tracker : List ℕ) → HasRun r → WasTold r → HasFlag explained r
       → MatchResult r (λ c. request_words c.request ≡ waves_of archs packages sources tracker)
       (λ e. e ≡ words_fault.NoMemory)
-      → Ran (EndsSo IsWaves (track_files bytes can_fail archs packages sources None tracker)
-      old new) explained (known_at bytes (waves_paths archs packages sources tracker)) before said
+      → Ran (DueTo reads writes (EndsSo IsWaves (track_files bytes can_fail archs packages sources None tracker)
+      old new)) explained (known_at bytes (waves_paths archs packages sources tracker)) before said
       status
   waved r explained archs packages sources tracker =
       answered
-      (EndsSo IsWaves (track_files bytes can_fail archs packages sources None tracker) old new)
+      (DueTo reads writes (EndsSo IsWaves (track_files bytes can_fail archs packages sources None tracker) old new))
       (known_at bytes (waves_paths archs packages sources tracker))
       (λ q. request_words q ≡ waves_of archs packages sources tracker) r explained
       (ran_same (waves_of archs packages sources tracker))
-      (λ kept. record { says = inl (refl, kept); only = λ x are readable. kept })
+      (λ kept. (record { says = inl (refl, kept); only = λ x are readable. kept }, tt))
 
   pub ran_script : (r : Result Call WordsFault) (explained : Bool) (w : RunWords) → HasRun r
       → WasTold r → HasFlag explained r
       → MatchResult r (λ c. request_words c.request ≡ run_of w) (λ e. e ≡ words_fault.NoMemory)
-      → Ran (EndsRun (run_files_asked bytes can_fail w) w.suite known old new)
+      → Ran (DueTo reads writes (EndsRun (run_files_asked bytes can_fail w) w.suite known old new))
       explained (known_at bytes (run_paths w)) before said status
   ran_script r explained w =
-      answered (EndsRun (run_files_asked bytes can_fail w) w.suite known old new)
+      answered (DueTo reads writes (EndsRun (run_files_asked bytes can_fail w) w.suite known old new))
       (known_at bytes (run_paths w)) (λ q. request_words q ≡ run_of w) r explained
       (ran_same (run_of w))
-      (λ kept. record {
-        says = inl (refl, kept);
-        only = λ x are. play_only w.builders x w.suite known NoMemory tt;
-      })
+      (λ kept. (
+        record {
+          says = inl (refl, kept);
+          only = λ x are. play_only w.builders x w.suite known NoMemory tt;
+        },
+        tt,
+      ))
 
   pub only_asked : (r : Result Call WordsFault) (left : Option (List ℕ)) → HasRun r → WasTold r
       → HasFlag (is_explained (options_of words)) r
       → MatchResult r (λ c. LeavesInput c.request known left) (λ f. Keeps known left)
       → IfOk r (λ c. Asks words (request_words c.request))
-      → OnlyIfAsked words known left bytes can_fail old new before said status
+      → OnlyIfAsked words known left bytes can_fail reads writes old new before said status
   only_asked (Ok c) left ran told flag input asks =
       inl (
         c.request,
         asks,
         input,
-        subst (λ b. RanFor c.request b known bytes can_fail old new before said status) flag ran,
+        subst (λ b. RanFor c.request b known bytes can_fail reads writes old new before said status) flag ran,
       )
   only_asked (Err (words_fault.Usage text)) left ran told flag input asks =
       inr (inl (string_bytes text, told.tells), input, told.kept)

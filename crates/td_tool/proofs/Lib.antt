@@ -11,3 +11,6 @@ pub mod Told
 pub mod Sure
 pub mod UnreadRuns
 pub mod SureRuns
+pub mod FormEndings
+pub mod FileEndings
+pub mod Dues

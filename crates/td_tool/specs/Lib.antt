@@ -14,4 +14,5 @@ pub mod Tracks
 pub mod TrackInside
 pub mod Runs
 pub mod RunInside
+pub mod Streams
 pub mod Program

@@ -24,6 +24,7 @@ use Rattle.td_tool.specs.Tracks.{EndsSo, TrackFiles, track_files}
 use Rattle.td_tool.specs.Runs.{EndsRun, run_files_asked}
 use Rattle.td_tool.specs.Explained.{known_of_request}
 use Rattle.td_tool.specs.Ran.{Ran}
+use Rattle.td_tool.specs.Streams.{DueTo}
 
 -- ---- 1. words that ask for nothing
 
@@ -105,12 +106,13 @@ EndsFor (Run r) known bytes can_fail old new ending =
     EndsRun (run_files_asked bytes can_fail (run_words r)) (string_bytes r.suite) known old new
     ending
 
--- it ran, and is explained or not
+-- it ran, and is explained or not. It tells of a failed read or write of a stream only where that
+-- may fail
 abbrev pub RanFor : Request → Bool → Option (List ℕ) → (List ℕ → Option (List ℕ))
-    → (List ℕ → TextFault → Bool) → Option (List ℕ) → Option (List ℕ) → Option (List ℕ)
-    → Option (List ℕ) → ℕ → Type 0
-RanFor request explained known bytes can_fail old new said_before said status =
-    Ran (EndsFor request known bytes can_fail old new) explained
+    → (List ℕ → TextFault → Bool) → Bool → Bool → Option (List ℕ) → Option (List ℕ)
+    → Option (List ℕ) → Option (List ℕ) → ℕ → Type 0
+RanFor request explained known bytes can_fail reads writes old new said_before said status =
+    Ran (DueTo reads writes (EndsFor request known bytes can_fail old new)) explained
     (known_of_request request known bytes) said_before said status
 
 -- builders are asked for by nothing but a run with some: all else waits for nobody
@@ -131,10 +133,10 @@ LeavesInput (Run r) known left = Unit {0}
 
 -- they ask for this and it ran; all else is told, reads nothing, and writes nothing
 abbrev pub OnlyIfAsked : List (List ℕ) → Option (List ℕ) → Option (List ℕ)
-    → (List ℕ → Option (List ℕ)) → (List ℕ → TextFault → Bool) → Option (List ℕ) → Option (List ℕ)
-    → Option (List ℕ) → Option (List ℕ) → ℕ → Type 0
-OnlyIfAsked words known left bytes can_fail old new said_before said status =
+    → (List ℕ → Option (List ℕ)) → (List ℕ → TextFault → Bool) → Bool → Bool → Option (List ℕ)
+    → Option (List ℕ) → Option (List ℕ) → Option (List ℕ) → ℕ → Type 0
+OnlyIfAsked words known left bytes can_fail reads writes old new said_before said status =
     ((request : Request) × Asks words (request_words request) × LeavesInput request known left
-    × RanFor request (is_explained (options_of words)) known bytes can_fail old new said_before said
-    status)
+    × RanFor request (is_explained (options_of words)) known bytes can_fail reads writes old new
+    said_before said status)
     ⊎ (TellsSome said_before said status × Keeps known left × Keeps old new)

@@ -2,7 +2,7 @@
 ghost use Rattle.std.specs.Prelude.{◌≡◌, ◌≢◌, ◌≤◌, ℕ, List, length, map, IfSome, IfNone, codes};
 ghost use Rattle.std.specs.Prelude.{string_bytes, None, IsOkAnd, IfOk, IfErr, MatchResult};
 ghost use Rattle.std.specs.IoError.{error_kind};
-ghost use Rattle.std.specs.Prelude.{OnOk, OnErr};
+ghost use Rattle.std.specs.Prelude.{OnOk, OnErr, OnSome};
 ghost use Rattle.std.specs.Io.KnownBytes.{Appends, Keeps};
 ghost use Rattle.td_bytes.specs.Pieces.{AppendsPrefix};
 ghost use Rattle.td_report.specs.Transition.{IsReport, IsWaves};
@@ -21,6 +21,7 @@ ghost use Rattle.td_tool.specs.Program.{RanFor};
 ghost use Rattle.td_tool.specs.Program.{TellsFault, TellsUnread, are_explained, fault_text};
 ghost use Rattle.td_tool.specs.Program.{files_asked, unread_text};
 ghost use Rattle.td_tool.specs.Runs.{EndsRun, run_files_asked};
+ghost use Rattle.td_tool.specs.Streams.{DueTo, IsDue};
 ghost use Rattle.td_tool.specs.Tracks.{EndsSo, track_files};
 
 use crate::checking::check;
@@ -126,10 +127,12 @@ fn do_alone<T: Texts + Sync, R: Reader, W: Writer>(
     ensures ends { EndsFor request.now
         (R.remaining reader.old) (T.bytes texts.now) (T.can_fail texts.now)
         (W.contents output.old) (W.contents output.new) result.ending }
+    ensures due { IsDue (R.can_fail reader.old) (W.can_fail output.old) result.ending }
     ensures kept { IsKept
         (known_of_request request.now (R.remaining reader.old) (T.bytes texts.now)) result.input }
     ensures short { IfSome result.input (λ kept. length (string_bytes kept) ≤ input_limit) }
     ensures text { request.now ≡ Request.Simulate → IsTextKept result.ending result.input }
+    ensures steady { OnSome result.input (R.can_fail reader.new ≡ R.can_fail reader.old) }
     ensures input { LeavesInput request.now (R.remaining reader.old) (R.remaining reader.new) }
 {
     match request {
@@ -170,6 +173,7 @@ pub fn answer_alone<T: Texts + Sync, R: Reader, W: Writer, E: Writer>(
     requires { HasNoBuilders call.now.request }
     ensures request { RanFor call.now.request call.now.explained
         (R.remaining reader.old) (T.bytes texts.now) (T.can_fail texts.now)
+        (R.can_fail reader.old) (W.can_fail output.old)
         (W.contents output.old) (W.contents output.new)
         (E.contents faults.old) (E.contents faults.new) result }
     ensures input { LeavesInput call.now.request
@@ -194,6 +198,7 @@ fn do_beside<T: Texts + Sync, R: Reader, W: Writer>(
     ensures ends { EndsFor request.now
         (R.remaining reader.old) (T.bytes texts.now) (T.can_fail texts.now)
         (W.contents output.old) (W.contents output.new) result.ending }
+    ensures due { IsDue (R.can_fail reader.old) (W.can_fail output.old) result.ending }
     ensures kept { IsKept
         (known_of_request request.now (R.remaining reader.old) (T.bytes texts.now)) result.input }
     ensures short { IfSome result.input (λ kept. length (string_bytes kept) ≤ input_limit) }
@@ -217,6 +222,7 @@ fn answer_beside<T: Texts + Sync, R: Reader, W: Writer, E: Writer>(
     requires builders { run.now.builders ≢ 0 }
     ensures request { RanFor call.now.request call.now.explained
         (R.remaining reader.old) (T.bytes texts.now) (T.can_fail texts.now)
+        (R.can_fail reader.old) (W.can_fail output.old)
         (W.contents output.old) (W.contents output.new)
         (E.contents faults.old) (E.contents faults.new) result }
     ensures input { LeavesInput call.now.request
@@ -238,6 +244,7 @@ fn act<T: Texts + Sync, R: Reader, W: Writer, E: Writer>(
 ) -> u8
     ensures request { IfOk asked (λ call. RanFor call.request call.explained
         (R.remaining reader.old) (T.bytes texts.now) (T.can_fail texts.now)
+        (R.can_fail reader.old) (W.can_fail output.old)
         (W.contents output.old) (W.contents output.new)
         (E.contents faults.old) (E.contents faults.new) result) }
     ensures fault { IfErr asked (λ fault. IsTold fault
@@ -267,40 +274,46 @@ fn answer<T: Texts + Sync, R: Reader, W: Writer, E: Writer>(
     faults: &mut E,
 ) -> u8
     ensures simulate { AskFor (codes "simulate") (map string_bytes words.now)
-        → Ran (Ends (R.remaining reader.old) (W.contents output.old) (W.contents output.new))
+        → Ran (DueTo (R.can_fail reader.old) (W.can_fail output.old)
+        (Ends (R.remaining reader.old) (W.contents output.old) (W.contents output.new)))
         (is_explained (options_of (map string_bytes words.now)))
         (known_input (R.remaining reader.old))
         (E.contents faults.old) (E.contents faults.new) result }
     ensures check { (archs packages sources : List ℕ)
         → AskForCheck (map string_bytes words.now) archs packages sources
-        → Ran (Checks (files_of (T.bytes texts.now) (T.can_fail texts.now) archs packages sources)
-        (W.contents output.old) (W.contents output.new))
+        → Ran (DueTo (R.can_fail reader.old) (W.can_fail output.old)
+        (Checks (files_of (T.bytes texts.now) (T.can_fail texts.now) archs packages sources)
+        (W.contents output.old) (W.contents output.new)))
         (is_explained (options_of (map string_bytes words.now)))
         (known_at (T.bytes texts.now) (archive_paths archs packages sources))
         (E.contents faults.old) (E.contents faults.new) result }
     ensures track { (w : TrackWords) → AskForTrack (map string_bytes words.now) w
-        → Ran (EndsSo IsReport (files_asked (T.bytes texts.now) (T.can_fail texts.now) w)
-        (W.contents output.old) (W.contents output.new))
+        → Ran (DueTo (R.can_fail reader.old) (W.can_fail output.old)
+        (EndsSo IsReport (files_asked (T.bytes texts.now) (T.can_fail texts.now) w)
+        (W.contents output.old) (W.contents output.new)))
         (is_explained (options_of (map string_bytes words.now)))
         (known_at (T.bytes texts.now) (track_paths w))
         (E.contents faults.old) (E.contents faults.new) result }
     ensures waves { (archs packages sources tracker : List ℕ)
         → AskForWaves (map string_bytes words.now) archs packages sources tracker
-        → Ran (EndsSo IsWaves
+        → Ran (DueTo (R.can_fail reader.old) (W.can_fail output.old)
+        (EndsSo IsWaves
         (track_files (T.bytes texts.now) (T.can_fail texts.now) archs packages sources None tracker)
-        (W.contents output.old) (W.contents output.new))
+        (W.contents output.old) (W.contents output.new)))
         (is_explained (options_of (map string_bytes words.now)))
         (known_at (T.bytes texts.now) (waves_paths archs packages sources tracker))
         (E.contents faults.old) (E.contents faults.new) result }
     ensures run { (w : RunWords) → AskForRun (map string_bytes words.now) w
-        → Ran (EndsRun (run_files_asked (T.bytes texts.now) (T.can_fail texts.now) w) w.suite
-        (R.remaining reader.old) (W.contents output.old) (W.contents output.new))
+        → Ran (DueTo (R.can_fail reader.old) (W.can_fail output.old)
+        (EndsRun (run_files_asked (T.bytes texts.now) (T.can_fail texts.now) w) w.suite
+        (R.remaining reader.old) (W.contents output.old) (W.contents output.new)))
         (is_explained (options_of (map string_bytes words.now)))
         (known_at (T.bytes texts.now) (run_paths w))
         (E.contents faults.old) (E.contents faults.new) result }
     ensures others { OnlyIfAsked (map string_bytes words.now)
         (R.remaining reader.old) (R.remaining reader.new)
         (T.bytes texts.now) (T.can_fail texts.now)
+        (R.can_fail reader.old) (W.can_fail output.old)
         (W.contents output.old) (W.contents output.new)
         (E.contents faults.old) (E.contents faults.new) result }
 {
@@ -329,36 +342,41 @@ pub fn tool<T: Texts + Sync, R: Reader, W: Writer, E: Writer>(
     // What asks for the simulation is answered by it, and explained where that is asked for.
     ensures simulate { IsOkAnd words (λ given.
         AskFor (codes "simulate") (map string_bytes given.items))
-        → Ran (Ends (R.remaining reader.old) (W.contents output.old) (W.contents output.new))
+        → Ran (DueTo (R.can_fail reader.old) (W.can_fail output.old)
+        (Ends (R.remaining reader.old) (W.contents output.old) (W.contents output.new)))
         (are_explained words) (known_input (R.remaining reader.old))
         (E.contents faults.old) (E.contents faults.new) result }
     // What asks for the check of three files is answered by it.
     ensures check { (archs packages sources : List ℕ) → IsOkAnd words (λ given.
         AskForCheck (map string_bytes given.items) archs packages sources)
-        → Ran (Checks (files_of (T.bytes texts.now) (T.can_fail texts.now) archs packages sources)
-        (W.contents output.old) (W.contents output.new))
+        → Ran (DueTo (R.can_fail reader.old) (W.can_fail output.old)
+        (Checks (files_of (T.bytes texts.now) (T.can_fail texts.now) archs packages sources)
+        (W.contents output.old) (W.contents output.new)))
         (are_explained words) (known_at (T.bytes texts.now) (archive_paths archs packages sources))
         (E.contents faults.old) (E.contents faults.new) result }
     // What asks for a report, or for waves, is answered by them.
     ensures track { (w : TrackWords) → IsOkAnd words (λ given.
         AskForTrack (map string_bytes given.items) w)
-        → Ran (EndsSo IsReport (files_asked (T.bytes texts.now) (T.can_fail texts.now) w)
-        (W.contents output.old) (W.contents output.new))
+        → Ran (DueTo (R.can_fail reader.old) (W.can_fail output.old)
+        (EndsSo IsReport (files_asked (T.bytes texts.now) (T.can_fail texts.now) w)
+        (W.contents output.old) (W.contents output.new)))
         (are_explained words) (known_at (T.bytes texts.now) (track_paths w))
         (E.contents faults.old) (E.contents faults.new) result }
     ensures waves { (archs packages sources tracker : List ℕ) → IsOkAnd words (λ given.
         AskForWaves (map string_bytes given.items) archs packages sources tracker)
-        → Ran (EndsSo IsWaves
+        → Ran (DueTo (R.can_fail reader.old) (W.can_fail output.old)
+        (EndsSo IsWaves
         (track_files (T.bytes texts.now) (T.can_fail texts.now) archs packages sources None tracker)
-        (W.contents output.old) (W.contents output.new))
+        (W.contents output.old) (W.contents output.new)))
         (are_explained words)
         (known_at (T.bytes texts.now) (waves_paths archs packages sources tracker))
         (E.contents faults.old) (E.contents faults.new) result }
     // What asks for a run is answered by it.
     ensures run { (w : RunWords) → IsOkAnd words (λ given.
         AskForRun (map string_bytes given.items) w)
-        → Ran (EndsRun (run_files_asked (T.bytes texts.now) (T.can_fail texts.now) w) w.suite
-        (R.remaining reader.old) (W.contents output.old) (W.contents output.new))
+        → Ran (DueTo (R.can_fail reader.old) (W.can_fail output.old)
+        (EndsRun (run_files_asked (T.bytes texts.now) (T.can_fail texts.now) w) w.suite
+        (R.remaining reader.old) (W.contents output.old) (W.contents output.new)))
         (are_explained words) (known_at (T.bytes texts.now) (run_paths w))
         (E.contents faults.old) (E.contents faults.new) result }
     // Other words are bad, unless memory runs out, and nothing is written. Standard input is read
@@ -366,6 +384,7 @@ pub fn tool<T: Texts + Sync, R: Reader, W: Writer, E: Writer>(
     ensures others { IfOk words (λ given. OnlyIfAsked (map string_bytes given.items)
         (R.remaining reader.old) (R.remaining reader.new)
         (T.bytes texts.now) (T.can_fail texts.now)
+        (R.can_fail reader.old) (W.can_fail output.old)
         (W.contents output.old) (W.contents output.new)
         (E.contents faults.old) (E.contents faults.new) result) }
     // So are words that aren't UTF-8.

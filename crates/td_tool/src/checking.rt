@@ -1,6 +1,6 @@
 //! The subcommand `check`: sources, binary packages and rows of two indices are counted.
 ghost use Rattle.std.specs.Prelude.{◌≡◌, ◌≤◌, length, string_bytes, Ok, Err, IfOk, IfErr};
-ghost use Rattle.std.specs.Prelude.{IsOkAnd, MatchResult};
+ghost use Rattle.std.specs.Prelude.{◌≢◌, true, IsOkAnd, MatchResult};
 ghost use Rattle.std.specs.Result.{ForOk};
 ghost use Rattle.td_relation.specs.TableView.{table};
 ghost use Rattle.td_tool.specs.Checks.{Checks, archive_files_at};
@@ -129,6 +129,8 @@ pub fn write<W: Writer>(line: Result<String, Ending>, output: &mut W) -> Ending
         WritesSo (string_bytes line) (W.contents output.old) (W.contents output.new) result) }
     ensures refused { IfErr line (λ ending.
         EndsUnwritten ending (W.contents output.old) (W.contents output.new) result) }
+    ensures due { IfErr line (λ ending. ending ≢ Ending.CannotWrite)
+        → result ≡ Ending.CannotWrite → W.can_fail output.old ≡ true }
 {
     let line = match line {
         Ok(line) => line,
@@ -152,6 +154,7 @@ fn count<W: Writer>(
         FileTextsEnd texts (W.contents output.old) (W.contents output.new) result) }
     ensures unread { IfErr read (λ fault.
         FileUnread fault (W.contents output.old) (W.contents output.new) result) }
+    ensures due { result ≡ Ending.CannotWrite → W.can_fail output.old ≡ true }
 {
     let read = match read {
         Ok(read) => read,
@@ -175,9 +178,10 @@ pub fn check<T: Texts + Sync, W: Writer>(
     paths: &ArchivePaths,
     output: &mut W,
 ) -> Ending
-    ensures { Checks
+    ensures checks { Checks
         (archive_files_at (T.bytes texts.now) (T.can_fail texts.now) paths.now)
         (W.contents output.old) (W.contents output.new) result }
+    ensures due { result ≡ Ending.CannotWrite → W.can_fail output.old ≡ true }
 {
     let read = read_files(rt, alloc, texts, paths);
     count(rt, alloc, read, output)

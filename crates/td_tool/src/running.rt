@@ -1,9 +1,12 @@
 //! The subcommand `run`: a script over the rows of an archive.
-ghost use Rattle.std.specs.Prelude.{◌≡◌, ◌≢◌, ℕ, IfOk, IfErr, string_bytes};
+ghost use Rattle.std.specs.Prelude.{◌≡◌, ◌≢◌, ℕ, true, false, IfOk, IfErr, string_bytes};
+ghost use Rattle.std.specs.Io.KnownBytes.{Keeps};
 ghost use Rattle.td_tool.specs.Runs.{EndsRun, ending_of_crew as ending_of_crew_as};
 ghost use Rattle.td_tool.specs.Runs.{ending_of_script as ending_of_script_as};
 ghost use Rattle.td_tool.specs.RunInside.{AreInputsFor, AreInputsOf, HasNoInputs, IsWithinLimit};
 ghost use Rattle.td_tool.specs.RunInside.{PlaysInputs, run_files_at, run_texts_of};
+ghost use Rattle.td_tool.specs.RunInside.{tells_of_unread_file};
+ghost use Rattle.td_tool.specs.Streams.{IsDue};
 
 use crate::ending::{Ending, ending_of_file, ending_of_stop};
 use crate::input_fault::InputFault;
@@ -92,8 +95,10 @@ fn play_alone<R: Reader, W: Writer>(
     reader: &mut R,
     output: &mut W,
 ) -> Ending
-    ensures { PlaysInputs 0 inputs.now
+    ensures plays { PlaysInputs 0 inputs.now
         (R.remaining reader.old) (W.contents output.old) (W.contents output.new) result }
+    ensures due { IsDue (R.can_fail reader.old) (W.can_fail output.old) result }
+    ensures told { tells_of_unread_file result ≡ false }
 {
     ending_of_script(run_script(rt, alloc, inputs, reader, output))
 }
@@ -106,8 +111,10 @@ fn play_beside<R: Reader, W: Writer>(
     reader: &mut R,
     output: &mut W,
 ) -> Ending
-    ensures { (builders : ℕ) → builders ≢ 0 → PlaysInputs builders inputs.now
+    ensures plays { (builders : ℕ) → builders ≢ 0 → PlaysInputs builders inputs.now
         (R.remaining reader.old) (W.contents output.old) (W.contents output.new) result }
+    ensures due { IsDue (R.can_fail reader.old) (W.can_fail output.old) result }
+    ensures told { tells_of_unread_file result ≡ false }
 {
     ending_of_crew(run_crew(rt, alloc, inputs, reader, output))
 }
@@ -123,10 +130,13 @@ pub fn run_alone<T: Texts + Sync, R: Reader, W: Writer>(
     output: &mut W,
 ) -> Ending
     requires { request.now.builders ≡ 0 }
-    ensures { EndsRun
+    ensures ends { EndsRun
         (run_files_at (T.bytes texts.now) (T.can_fail texts.now) request.now)
         (string_bytes request.now.suite)
         (R.remaining reader.old) (W.contents output.old) (W.contents output.new) result }
+    ensures due { IsDue (R.can_fail reader.old) (W.can_fail output.old) result }
+    ensures input { tells_of_unread_file result ≡ true
+        → Keeps (R.remaining reader.old) (R.remaining reader.new) }
 {
     let inputs = match inputs_for(rt, alloc, texts, request) {
         Ok(inputs) => inputs,
@@ -147,10 +157,13 @@ pub fn run_beside<T: Texts + Sync, R: Reader, W: Writer>(
     output: &mut W,
 ) -> Ending
     requires { request.now.builders ≢ 0 }
-    ensures { EndsRun
+    ensures ends { EndsRun
         (run_files_at (T.bytes texts.now) (T.can_fail texts.now) request.now)
         (string_bytes request.now.suite)
         (R.remaining reader.old) (W.contents output.old) (W.contents output.new) result }
+    ensures due { IsDue (R.can_fail reader.old) (W.can_fail output.old) result }
+    ensures input { tells_of_unread_file result ≡ true
+        → Keeps (R.remaining reader.old) (R.remaining reader.new) }
 {
     let inputs = match inputs_for(rt, alloc, texts, request) {
         Ok(inputs) => inputs,

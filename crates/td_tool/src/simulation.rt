@@ -1,11 +1,13 @@
 //! The subcommand `simulate`: the steps on standard input are played, and their answers written.
 ghost use Rattle.std.specs.Prelude.{◌≡◌, ◌≤◌, false, length, string_bytes, IfOk, IfErr, IfSome};
+ghost use Rattle.std.specs.Prelude.{OnOk, OnSome};
 ghost use Rattle.std.specs.Result.{ForOk};
 ghost use Rattle.td_tool.specs.Ends.{Ends};
 ghost use Rattle.td_tool.specs.Explained.{IsTextKept, known_input};
 ghost use Rattle.td_tool.specs.Limits.{input_limit};
 ghost use Rattle.td_tool.specs.Played.{IsUnread, IsUntold, TellsSo, TextEnds, kept_of};
 ghost use Rattle.td_tool.specs.Ran.{Ran};
+ghost use Rattle.td_tool.specs.Streams.{DueTo, IsDue};
 
 use crate::ending::{Ended, Ending, ending_of_simulation, ending_of_text};
 use std::alloc::Global;
@@ -21,6 +23,7 @@ fn tell<W: Writer>(told: Result<Simulated, SimulationFault>, output: &mut W) -> 
         TellsSo t (W.contents output.old) (W.contents output.new) result) }
     ensures untold { IfErr told (λ fault.
         IsUntold fault (W.contents output.old) (W.contents output.new) result) }
+    ensures due { IsDue false (W.can_fail output.old) result }
 {
     let told = match told {
         Ok(told) => told,
@@ -41,6 +44,7 @@ fn play<W: Writer>(alloc: Global, read: Result<String, TextFault>, output: &mut 
         (W.contents output.new) result.ending) }
     ensures unread { IfErr read (λ fault.
         IsUnread fault (W.contents output.old) (W.contents output.new) result.ending) }
+    ensures due { OnOk read (IsDue false (W.can_fail output.old) result.ending) }
     ensures kept { result.input ≡ kept_of read }
 {
     let text = match read {
@@ -62,6 +66,8 @@ pub(crate) fn read_and_play<R: Reader, W: Writer>(
 ) -> Ended
     ensures ends { Ends (R.remaining reader.old) (W.contents output.old) (W.contents output.new)
         result.ending }
+    ensures due { IsDue (R.can_fail reader.old) (W.can_fail output.old) result.ending }
+    ensures steady { OnSome result.input (R.can_fail reader.new ≡ R.can_fail reader.old) }
     ensures kept { IfSome result.input (λ kept.
         IfSome (R.remaining reader.old) (λ all. all ≡ string_bytes kept)) }
     ensures short { IfSome result.input (λ kept. length (string_bytes kept) ≤ input_limit) }
@@ -79,8 +85,8 @@ pub fn simulate<R: Reader, W: Writer, E: Writer>(
     output: &mut W,
     faults: &mut E,
 ) -> u8
-    ensures { Ran
-        (Ends (R.remaining reader.old) (W.contents output.old) (W.contents output.new)) false
+    ensures { Ran (DueTo (R.can_fail reader.old) (W.can_fail output.old)
+        (Ends (R.remaining reader.old) (W.contents output.old) (W.contents output.new))) false
         (known_input (R.remaining reader.old)) (E.contents faults.old) (E.contents faults.new)
         result }
 {

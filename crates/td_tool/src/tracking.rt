@@ -1,6 +1,6 @@
 //! The two subcommands that read a tracker: `track` and `waves`.
 ghost use Rattle.std.specs.Prelude.{◌≡◌, ◌⊎◌, ℕ, List, None, Ok, Err, IfOk, IfErr, option_map};
-ghost use Rattle.std.specs.Prelude.{string_bytes};
+ghost use Rattle.std.specs.Prelude.{true, string_bytes};
 ghost use Rattle.std.specs.Result.{ForOk};
 ghost use Rattle.td_relation.specs.TableView.{table};
 ghost use Rattle.td_core.specs.Phases.{NoneBuilt};
@@ -417,6 +417,7 @@ fn tell<W: Writer>(
         (W.contents output.old) (W.contents output.new) result) }
     ensures unread { IfErr read (λ fault.
         FileUnread fault (W.contents output.old) (W.contents output.new) result) }
+    ensures due { result ≡ Ending.CannotWrite → W.can_fail output.old ≡ true }
 {
     let read = match read {
         Ok(read) => read,
@@ -435,9 +436,10 @@ pub fn track<T: Texts + Sync, W: Writer>(
     asked: Asked,
     output: &mut W,
 ) -> Ending
-    ensures { EndsSo (saying_of asked)
+    ensures ends { EndsSo (saying_of asked)
         (files_at (T.bytes texts.now) (T.can_fail texts.now) paths.now)
         (W.contents output.old) (W.contents output.new) result }
+    ensures due { result ≡ Ending.CannotWrite → W.can_fail output.old ≡ true }
 {
     let read = read_track_files(rt, alloc, texts, paths);
     tell(rt, alloc, read, asked, output)

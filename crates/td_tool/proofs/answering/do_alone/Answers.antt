@@ -1,9 +1,11 @@
--- `do_alone`: the clauses `ends`, `kept` and `short`.
-use Rattle.std.proofs.Common.{rules, sym, subst}
+-- `do_alone`: its clauses.
+use Rattle.std.proofs.Common.{◌≡◌, rules, string_bytes, sym, subst}
 use Rattle.td_words.specs.declared.request.Request.{Request}
 use Rattle.td_tool.specs.declared.ending.Ending.{Ending}
 use Rattle.td_tool.specs.Explained.{known_of_request}
 use Rattle.td_tool.specs.Program.{EndsFor, HasNoBuilders}
+use Rattle.td_tool.specs.Streams.{IsDue}
+use Rattle.td_tool.proofs.Dues.{check_due, steady_alone, track_due}
 use Rattle.td_tool.proofs.Explanations.{ends_alone, kept_alone, short_alone}
 use Rattle.td_tool.proofs.answering.do_alone.Goals as goal
 
@@ -14,7 +16,7 @@ returns-in-Check-clause-ends g c =
     (g.T.Texts.can_fail c.args.texts.now) (g.W.Write.contents c.args.output.now)
     (g.W.Write.contents c.check.new.output) ending in
     ends_alone (Says c.args.request.now) c.check.result c.alone.result c.alone.ensures
-    (subst (λ q. Says q c.check.result) (sym c.in-Check.is) c.check.ensures)
+    (subst (λ q. Says q c.check.result) (sym c.in-Check.is) c.check.ensures.checks)
 
 pub returns-in-Check-clause-kept : goal.returns-in-Check-clause-kept
 returns-in-Check-clause-kept g c =
@@ -32,7 +34,7 @@ returns-in-Track-clause-ends g c =
     (g.W.Write.contents c.track.new.output) ending in
     ends_alone (Says c.args.request.now) c.track.result c.alone-in-Track.result
     c.alone-in-Track.ensures
-    (subst (λ q. Says q c.track.result) (sym c.in-Track.is) c.track.ensures)
+    (subst (λ q. Says q c.track.result) (sym c.in-Track.is) c.track.ensures.ends)
 
 pub returns-in-Track-clause-kept : goal.returns-in-Track-clause-kept
 returns-in-Track-clause-kept g c =
@@ -52,7 +54,7 @@ returns-in-Waves-clause-ends g c =
     (g.W.Write.contents c.track-in-Waves.new.output) ending in
     ends_alone (Says c.args.request.now) c.track-in-Waves.result c.alone-in-Waves.result
     c.alone-in-Waves.ensures
-    (subst (λ q. Says q c.track-in-Waves.result) (sym c.in-Waves.is) c.track-in-Waves.ensures)
+    (subst (λ q. Says q c.track-in-Waves.result) (sym c.in-Waves.is) c.track-in-Waves.ensures.ends)
 
 pub returns-in-Waves-clause-kept : goal.returns-in-Waves-clause-kept
 returns-in-Waves-clause-kept g c =
@@ -72,7 +74,7 @@ returns-in-Run-clause-ends g c =
     (g.W.Write.contents c.run_alone.new.output) ending in
     ends_alone (Says c.args.request.now) c.run_alone.result c.alone-in-Run.result
     c.alone-in-Run.ensures
-    (subst (λ q. Says q c.run_alone.result) (sym c.in-Run.is) c.run_alone.ensures)
+    (subst (λ q. Says q c.run_alone.result) (sym c.in-Run.is) c.run_alone.ensures.ends)
 
 pub returns-in-Run-clause-kept : goal.returns-in-Run-clause-kept
 returns-in-Run-clause-kept g c =
@@ -87,3 +89,61 @@ returns-in-Run-clause-short g c =
 pub run_alone-requires : goal.run_alone-requires
 run_alone-requires g c =
     let none = subst HasNoBuilders c.in-Run.is c.requires in search rules
+
+-- the clauses `due` and `steady`
+
+pub returns-in-Check-clause-due : goal.returns-in-Check-clause-due
+returns-in-Check-clause-due g c =
+    let input = g.R.Reader.can_fail c.args.reader.now in
+    let output = g.W.Writer.can_fail c.args.output.now in
+    let files = c.in-Check.files.now in
+    ends_alone (IsDue input output) c.check.result c.alone.result c.alone.ensures
+    (check_due input output (g.T.Texts.bytes c.args.texts.now)
+    (g.T.Texts.can_fail c.args.texts.now) (string_bytes files.archs)
+    (string_bytes files.packages) (string_bytes files.sources)
+    (g.W.Write.contents c.args.output.now) (g.W.Write.contents c.check.new.output) c.check.result
+    c.check.ensures.checks.says c.check.ensures.due)
+
+pub returns-in-Track-clause-due : goal.returns-in-Track-clause-due
+returns-in-Track-clause-due g c =
+    let input = g.R.Reader.can_fail c.args.reader.now in
+    let output = g.W.Writer.can_fail c.args.output.now in
+    ends_alone (IsDue input output) c.track.result c.alone-in-Track.result
+    c.alone-in-Track.ensures
+    (track_due input output _ _ _ _ c.track.result c.track.ensures.ends c.track.ensures.due)
+
+pub returns-in-Waves-clause-due : goal.returns-in-Waves-clause-due
+returns-in-Waves-clause-due g c =
+    let input = g.R.Reader.can_fail c.args.reader.now in
+    let output = g.W.Writer.can_fail c.args.output.now in
+    ends_alone (IsDue input output) c.track-in-Waves.result c.alone-in-Waves.result
+    c.alone-in-Waves.ensures
+    (track_due input output _ _ _ _ c.track-in-Waves.result c.track-in-Waves.ensures.ends
+    c.track-in-Waves.ensures.due)
+
+pub returns-in-Run-clause-due : goal.returns-in-Run-clause-due
+returns-in-Run-clause-due g c =
+    let input = g.R.Reader.can_fail c.args.reader.now in
+    let output = g.W.Writer.can_fail c.args.output.now in
+    ends_alone (IsDue input output) c.run_alone.result c.alone-in-Run.result
+    c.alone-in-Run.ensures c.run_alone.ensures.due
+
+pub returns-in-Check-clause-steady : goal.returns-in-Check-clause-steady
+returns-in-Check-clause-steady g c =
+    steady_alone (g.R.Reader.can_fail c.args.reader.now ≡ g.R.Reader.can_fail c.args.reader.now)
+    c.check.result c.alone.result c.alone.ensures
+
+pub returns-in-Track-clause-steady : goal.returns-in-Track-clause-steady
+returns-in-Track-clause-steady g c =
+    steady_alone (g.R.Reader.can_fail c.args.reader.now ≡ g.R.Reader.can_fail c.args.reader.now)
+    c.track.result c.alone-in-Track.result c.alone-in-Track.ensures
+
+pub returns-in-Waves-clause-steady : goal.returns-in-Waves-clause-steady
+returns-in-Waves-clause-steady g c =
+    steady_alone (g.R.Reader.can_fail c.args.reader.now ≡ g.R.Reader.can_fail c.args.reader.now)
+    c.track-in-Waves.result c.alone-in-Waves.result c.alone-in-Waves.ensures
+
+pub returns-in-Run-clause-steady : goal.returns-in-Run-clause-steady
+returns-in-Run-clause-steady g c =
+    steady_alone (g.R.Reader.can_fail c.run_alone.new.reader ≡ g.R.Reader.can_fail c.args.reader.now)
+    c.run_alone.result c.alone-in-Run.result c.alone-in-Run.ensures

@@ -4,6 +4,7 @@ use Rattle.td_words.specs.declared.request.Request.{Request}
 use Rattle.td_tool.specs.declared.ending.Ending.{Ending}
 use Rattle.td_tool.specs.Explained.{known_of_request}
 use Rattle.td_tool.specs.Program.{EndsFor, LeavesInput}
+use Rattle.td_tool.specs.Streams.{IsDue}
 use Rattle.td_tool.proofs.Explanations.{ends_alone, kept_alone, short_alone}
 use Rattle.td_tool.proofs.answering.do_beside.Goals as goal
 
@@ -14,7 +15,7 @@ returns-clause-ends g c =
     (g.T.Texts.can_fail c.args.texts.now) (g.W.Write.contents c.args.output.now)
     (g.W.Write.contents c.run_beside.new.output) ending in
     ends_alone (Says c.args.request.now) c.run_beside.result c.alone.result c.alone.ensures
-    (subst (λ q. Says q c.run_beside.result) (sym c.requires.run) c.run_beside.ensures)
+    (subst (λ q. Says q c.run_beside.result) (sym c.requires.run) c.run_beside.ensures.ends)
 
 pub returns-clause-kept : goal.returns-clause-kept
 returns-clause-kept g c =
@@ -28,3 +29,9 @@ pub returns-clause-input : goal.returns-clause-input
 returns-clause-input g c =
     subst (λ q. LeavesInput q (g.R.Read.remaining c.args.reader.now)
     (g.R.Read.remaining c.run_beside.new.reader)) (sym c.requires.run) tt
+
+pub returns-clause-due : goal.returns-clause-due
+returns-clause-due g c =
+    ends_alone
+    (IsDue (g.R.Reader.can_fail c.args.reader.now) (g.W.Writer.can_fail c.args.output.now))
+    c.run_beside.result c.alone.result c.alone.ensures c.run_beside.ensures.due

@@ -9,6 +9,7 @@ use Rattle.td_tool.specs.Explained.{waves_paths}
 use Rattle.td_tool.specs.Program.{OnlyIfAsked, files_asked}
 use Rattle.td_tool.specs.Ran.{Ran}
 use Rattle.td_tool.specs.Runs.{EndsRun, run_files_asked}
+use Rattle.td_tool.specs.Streams.{DueTo}
 use Rattle.td_tool.specs.Tracks.{EndsSo, track_files}
 use Rattle.td_tool.proofs.Asks.{of_given}
 use Rattle.td_tool.proofs.answering.tool.Goals as goal
@@ -16,8 +17,9 @@ use Rattle.td_tool.proofs.answering.tool.Goals as goal
 pub returns-in-Ok-clause-simulate : goal.returns-in-Ok-clause-simulate
 returns-in-Ok-clause-simulate g c =
     of_given (AskFor (codes "simulate")) (λ b. Ran
+    (DueTo (g.R.Reader.can_fail c.args.reader.now) (g.W.Writer.can_fail c.args.output.now)
     (Ends (g.R.Read.remaining c.args.reader.now) (g.W.Write.contents c.args.output.now)
-    (g.W.Write.contents c.answer.new.output))
+    (g.W.Write.contents c.answer.new.output)))
     b (known_input (g.R.Read.remaining c.args.reader.now)) (g.E.Write.contents c.args.faults.now)
     (g.E.Write.contents c.answer.new.faults) c.answer.result)
     c.args.words c.in-Ok.words c.deref.result.now c.in-Ok.is c.deref.ensures.value
@@ -26,9 +28,10 @@ returns-in-Ok-clause-simulate g c =
 pub returns-in-Ok-clause-check : goal.returns-in-Ok-clause-check
 returns-in-Ok-clause-check g c = λ archs packages sources.
     of_given (λ l. AskForCheck l archs packages sources) (λ b. Ran
+    (DueTo (g.R.Reader.can_fail c.args.reader.now) (g.W.Writer.can_fail c.args.output.now)
     (Checks (files_of (g.T.Texts.bytes c.args.texts.now) (g.T.Texts.can_fail c.args.texts.now)
     archs packages sources) (g.W.Write.contents c.args.output.now)
-    (g.W.Write.contents c.answer.new.output))
+    (g.W.Write.contents c.answer.new.output)))
     b (known_at (g.T.Texts.bytes c.args.texts.now) (archive_paths archs packages sources))
     (g.E.Write.contents c.args.faults.now) (g.E.Write.contents c.answer.new.faults)
     c.answer.result)
@@ -38,9 +41,10 @@ returns-in-Ok-clause-check g c = λ archs packages sources.
 pub returns-in-Ok-clause-track : goal.returns-in-Ok-clause-track
 returns-in-Ok-clause-track g c = λ w.
     of_given (λ l. AskForTrack l w) (λ b. Ran
+    (DueTo (g.R.Reader.can_fail c.args.reader.now) (g.W.Writer.can_fail c.args.output.now)
     (EndsSo IsReport (files_asked (g.T.Texts.bytes c.args.texts.now)
     (g.T.Texts.can_fail c.args.texts.now) w) (g.W.Write.contents c.args.output.now)
-    (g.W.Write.contents c.answer.new.output))
+    (g.W.Write.contents c.answer.new.output)))
     b (known_at (g.T.Texts.bytes c.args.texts.now) (track_paths w))
     (g.E.Write.contents c.args.faults.now) (g.E.Write.contents c.answer.new.faults)
     c.answer.result)
@@ -50,9 +54,10 @@ returns-in-Ok-clause-track g c = λ w.
 pub returns-in-Ok-clause-waves : goal.returns-in-Ok-clause-waves
 returns-in-Ok-clause-waves g c = λ archs packages sources tracker.
     of_given (λ l. AskForWaves l archs packages sources tracker) (λ b. Ran
+    (DueTo (g.R.Reader.can_fail c.args.reader.now) (g.W.Writer.can_fail c.args.output.now)
     (EndsSo IsWaves (track_files (g.T.Texts.bytes c.args.texts.now)
     (g.T.Texts.can_fail c.args.texts.now) archs packages sources None tracker)
-    (g.W.Write.contents c.args.output.now) (g.W.Write.contents c.answer.new.output))
+    (g.W.Write.contents c.args.output.now) (g.W.Write.contents c.answer.new.output)))
     b (known_at (g.T.Texts.bytes c.args.texts.now) (waves_paths archs packages sources tracker))
     (g.E.Write.contents c.args.faults.now) (g.E.Write.contents c.answer.new.faults)
     c.answer.result)
@@ -62,9 +67,10 @@ returns-in-Ok-clause-waves g c = λ archs packages sources tracker.
 pub returns-in-Ok-clause-run : goal.returns-in-Ok-clause-run
 returns-in-Ok-clause-run g c = λ w.
     of_given (λ l. AskForRun l w) (λ b. Ran
+    (DueTo (g.R.Reader.can_fail c.args.reader.now) (g.W.Writer.can_fail c.args.output.now)
     (EndsRun (run_files_asked (g.T.Texts.bytes c.args.texts.now)
     (g.T.Texts.can_fail c.args.texts.now) w) w.suite (g.R.Read.remaining c.args.reader.now)
-    (g.W.Write.contents c.args.output.now) (g.W.Write.contents c.answer.new.output))
+    (g.W.Write.contents c.args.output.now) (g.W.Write.contents c.answer.new.output)))
     b (known_at (g.T.Texts.bytes c.args.texts.now) (run_paths w))
     (g.E.Write.contents c.args.faults.now) (g.E.Write.contents c.answer.new.faults)
     c.answer.result)
@@ -77,12 +83,14 @@ returns-in-Ok-clause-others g c =
     let left = g.R.Read.remaining c.answer.new.reader in
     let bytes = g.T.Texts.bytes c.args.texts.now in
     let can_fail = g.T.Texts.can_fail c.args.texts.now in
+    let reads = g.R.Reader.can_fail c.args.reader.now in
+    let writes = g.W.Writer.can_fail c.args.output.now in
     let old = g.W.Write.contents c.args.output.now in
     let new = g.W.Write.contents c.answer.new.output in
     let before = g.E.Write.contents c.args.faults.now in
     let said = g.E.Write.contents c.answer.new.faults in
     subst (λ r. IfOk r (λ given.
-    OnlyIfAsked (map string_bytes given.items) known left bytes can_fail old new before said
+    OnlyIfAsked (map string_bytes given.items) known left bytes can_fail reads writes old new before said
     c.answer.result)) (sym c.in-Ok.is)
-    (subst (λ l. OnlyIfAsked (map string_bytes l) known left bytes can_fail old new before said
+    (subst (λ l. OnlyIfAsked (map string_bytes l) known left bytes can_fail reads writes old new before said
     c.answer.result) c.deref.ensures.value c.answer.ensures.others)

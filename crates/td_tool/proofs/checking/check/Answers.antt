@@ -2,7 +2,7 @@
 use Rattle.td_tool.proofs.Files.{checks}
 use Rattle.td_tool.proofs.checking.check.Goals as goal
 
-pub returns : goal.returns
-returns g c =
+pub returns-clause-checks : goal.returns-clause-checks
+returns-clause-checks g c =
     checks _ _ _ c.read_files-read.result c.count.result c.read_files-read.ensures.texts
     c.read_files-read.ensures.failed c.count.ensures.texts c.count.ensures.unread

@@ -1,4 +1,6 @@
 -- `read_and_play`: its clauses.
+use Rattle.std.proofs.Common.{◌≡◌}
+use Rattle.td_tool.proofs.Dues.{kept_steady, play_due}
 use Rattle.td_tool.proofs.Plays.{ends, kept_is, kept_within, text_kept}
 use Rattle.td_tool.proofs.simulation.read_and_play.Goals as goal
 
@@ -22,3 +24,17 @@ pub returns-clause-text : goal.returns-clause-text
 returns-clause-text g c =
     text_kept c.read_text-read.result c.play.result.input _ _ c.play.result.ending
     c.play.ensures.kept c.play.ensures.unread
+
+pub returns-clause-due : goal.returns-clause-due
+returns-clause-due g c =
+    play_due (g.R.Reader.can_fail c.args.reader.now) (g.W.Writer.can_fail c.args.output.now)
+    c.read_text-read.result (g.W.Write.contents c.args.output.now)
+    (g.W.Write.contents c.play.new.output) c.play.result.ending c.read_text-read.ensures.due
+    c.play.ensures.due c.play.ensures.unread
+
+pub returns-clause-steady : goal.returns-clause-steady
+returns-clause-steady g c =
+    kept_steady
+    (g.R.Reader.can_fail c.read_text-read.new.reader ≡ g.R.Reader.can_fail c.args.reader.now)
+    c.read_text-read.result c.play.result.input c.play.ensures.kept
+    c.read_text-read.ensures.steady

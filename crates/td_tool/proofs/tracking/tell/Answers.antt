@@ -1,6 +1,7 @@
--- `tell`: the clause `texts`.
-use Rattle.std.proofs.Common.{IfOk, sym, subst}
+-- `tell`: its clauses.
+use Rattle.std.proofs.Common.{◌∙◌, IfOk, sym, subst}
 use Rattle.td_tool.specs.TrackInside.{TellsTexts, saying_of, texts_of}
+use Rattle.td_tool.proofs.Dues.{file_unwritten, texts_unwritten}
 use Rattle.td_tool.proofs.Sure.{tells_texts}
 use Rattle.td_tool.proofs.tracking.tell.Goals as goal
 
@@ -13,3 +14,13 @@ returns-clause-texts g c =
     (sym c.in-Ok.is)
     (tells_texts (saying_of c.args.asked) (texts_of c.in-Ok.read) c.whole_text.result old new
     c.write.result c.whole_text.ensures c.write.ensures.line c.write.ensures.refused)
+
+pub returns-in-Err-clause-due : goal.returns-in-Err-clause-due
+returns-in-Err-clause-due g c = λ is.
+    absurd (file_unwritten c.in-Err.unread.role c.in-Err.unread.fault
+    (sym c.ending_of_file.ensures ∙ is))
+
+pub returns-clause-due : goal.returns-clause-due
+returns-clause-due g c =
+    c.write.ensures.due
+    (texts_unwritten (texts_of c.in-Ok.read) c.whole_text.result c.whole_text.ensures.refused)
