@@ -1,5 +1,5 @@
 -- Over any list of calls the opening rows and the entries stay; a command is undone at once.
-use Rattle.std.proofs.Common.{◌≡◌, ℕ, ◌+◌, ◌-◌, Bool, true, false, ◌&&◌}
+use Rattle.std.proofs.Common.{◌≡◌, ℕ, ◌-◌, Bool, true, false, ◌&&◌}
 use Rattle.std.proofs.Common.{List, [], ◌∷◌, ◌++◌, append_assoc, append-nil, filter, map, Option}
 use Rattle.std.proofs.Common.{Some, None, Result, Ok, Err, if◌then◌else◌, ap}
 use Rattle.std.proofs.Common.{refl, sym, subst, ◌∙◌}

@@ -1,9 +1,8 @@
 -- A builder's step in a world that is as the board is.
-use Rattle.std.proofs.Common.{◌≡◌, ◌≢◌, ℕ, ◌<◌, true, false, not, List, Option, Some, None, length}
+use Rattle.std.proofs.Common.{◌≡◌, ◌≢◌, ℕ, ◌<◌, true, false, not, List, Some, None, length}
 use Rattle.std.proofs.Common.{set, slice_get, ap, refl, sym, subst, ◌∙◌, arith, eq-eqb, ne_eqb}
 use Rattle.td_board.specs.declared.outcome.OutcomeCode.{OutcomeCode}
 use Rattle.td_board.specs.declared.views.BuilderView.{BuilderView}
-use Rattle.td_board.specs.declared.views.Hand.{Hand as BoardHand}
 use Rattle.td_board.specs.declared.views.Hand.TheVariants as board
 use Rattle.td_board.specs.declared.views.View.TheVariants.{Builder}
 use Rattle.td_board.specs.Phase.{Phase as BoardPhase, closed, opened, held, noted, done}
@@ -15,7 +14,7 @@ use Rattle.td_rows.specs.declared.outcome.Outcome.{Outcome}
 use Rattle.td_rows.specs.Keys.{ascending}
 use Rattle.td_rows.specs.Table.{Table, keys_of}
 use Rattle.td_change.specs.Saved.{number_of}
-use Rattle.td_core.specs.declared.step.Phase.TheVariants.{Open, Held, Noted, Done}
+use Rattle.td_core.specs.declared.step.Phase.TheVariants.{Held, Done}
 use Rattle.td_core.specs.declared.step.Hand.{Hand}
 use Rattle.td_core.specs.declared.step.Hand.TheVariants.{Free, Holding, Finished}
 use Rattle.td_core.specs.declared.step.Refusal.TheVariants.{NotNoted, NotSettled}
@@ -59,8 +58,8 @@ module _ (o : Table) (n : ℕ) (g : ℕ → Outcome) (m : Moment) (v : WorldView
   -- ---- 2. a claim
 
   pub claim-shows : length v.phases ≡ length o → y.hand ≡ board.Free → IsAt m r opened
-      → (k : Key) × Agrees o n g (moved r (held b) b (Builder (with_claim r y)) m)
-      (after v (steps.Claim b k))
+      → (k : Key) × (slice_get (keys_of o) r ≡ Some k)
+      × Agrees o n g (moved r (held b) b (Builder (with_claim r y)) m) (after v (steps.Claim b k))
   claim-shows sized free at =
       let within : r < length m.phases = at_less m.phases r opened at in
       let inside : r < length o = omega (arith, within, a.sized, sized) in
@@ -76,6 +75,7 @@ module _ (o : Table) (n : ℕ) (g : ℕ → Outcome) (m : Moment) (v : WorldView
       let none : refusal v (steps.Claim b k) ≡ None = λ j. claim_refusal (hand j) (phase j) in
       let u : WorldView = with_hand (with_phase v k (Held b)) b (Holding k) in (
         k,
+        there,
         subst (Agrees o n g (moved r (held b) b (Builder (with_claim r y)) m))
             (sym (after-accepted v (steps.Claim b k) none))
             (builder-moved o n g m v u a a.opening b y (with_claim r y) one seat Free (Holding k)

@@ -3,7 +3,8 @@ use Rattle.std.proofs.Common.{◌≡◌, ◌≢◌, ℕ, true, List, [], ◌∷�
 use Rattle.std.proofs.Common.{ap, refl, sym, subst, ◌∙◌}
 use Rattle.td_board.specs.declared.outcome.OutcomeCode.{OutcomeCode}
 use Rattle.td_board.specs.declared.views.RowView.TheVariants as views
-use Rattle.td_board.specs.declared.views.DeskTry.TheVariants.{Offered, WithdrawalWon, WithdrawalLost}
+use Rattle.td_board.specs.declared.views.DeskTry.TheVariants.{Offered, WithdrawalWon}
+use Rattle.td_board.specs.declared.views.DeskTry.TheVariants.{WithdrawalLost}
 use Rattle.td_board.specs.declared.views.DeskTry.TheVariants.{ClaimNoted, SettleDone}
 use Rattle.td_board.specs.declared.views.DeskView.{DeskView}
 use Rattle.td_board.specs.declared.views.View.TheVariants.{Desk as DeskSeat}
@@ -14,7 +15,7 @@ use Rattle.td_rows.specs.declared.kind.Kind.TheVariants as kinds
 use Rattle.td_rows.specs.declared.outcome.Outcome.{Outcome}
 use Rattle.td_rows.specs.Table.{Table}
 use Rattle.td_change.specs.Saved.{number_of}
-use Rattle.td_core.specs.declared.step.Phase.TheVariants.{Closed, Open, Held, Noted, Done}
+use Rattle.td_core.specs.declared.step.Phase.TheVariants.{Closed, Open, Noted, Done}
 use Rattle.td_core.specs.declared.step.Refusal.{Refusal}
 use Rattle.td_core.specs.declared.step.Refusal.TheVariants.{NotOpen}
 use Rattle.td_core.specs.declared.step.Step.{Step}
@@ -66,7 +67,8 @@ pub is-lost : (o : Table) (x : Move) (r a : ℕ) → tries_of o x ≡ Withdrawal
 is-lost o (offer k) r a h = absurd (cc)
 is-lost o (won k) r a h = absurd (cc)
 is-lost o (lost k b) r a h =
-    let e : WithdrawalLost (number_of o k) b ∷ [] ≡ WithdrawalLost r a ∷ [] = h in let same : b ≡ a = cc in (k, ap (lost k) same, cc)
+    let e : WithdrawalLost (number_of o k) b ∷ [] ≡ WithdrawalLost r a ∷ [] = h in
+    let same : b ≡ a = cc in (k, ap (lost k) same, cc)
 is-lost o (note k b) r a h = absurd (cc)
 is-lost o (commit kind keys) r a h = absurd (cc)
 is-lost o (undo n) r a h = absurd (cc)
@@ -80,14 +82,16 @@ is-note o (offer k) r a h = absurd (cc)
 is-note o (won k) r a h = absurd (cc)
 is-note o (lost k b) r a h = absurd (cc)
 is-note o (note k b) r a h =
-    let e : ClaimNoted (number_of o k) b ∷ [] ≡ ClaimNoted r a ∷ [] = h in let same : b ≡ a = cc in (k, ap (note k) same, cc)
+    let e : ClaimNoted (number_of o k) b ∷ [] ≡ ClaimNoted r a ∷ [] = h in let same : b ≡ a = cc in
+    (k, ap (note k) same, cc)
 is-note o (commit kind keys) r a h = absurd (cc)
 is-note o (undo n) r a h = absurd (cc)
 is-note o (settle k b e) r a h = absurd (cc)
 is-note o (arrive k) r a h = absurd (cc)
 is-note o sweep r a h = absurd (cc)
 
-pub is-settle : (o : Table) (x : Move) (r : ℕ) (c : OutcomeCode) → tries_of o x ≡ SettleDone r c ∷ []
+pub is-settle : (o : Table) (x : Move) (r : ℕ) (c : OutcomeCode)
+    → tries_of o x ≡ SettleDone r c ∷ []
     → (k : Key) × (a : ℕ) × (end : Outcome) × (x ≡ settle k a end) × (number_of o k ≡ r)
     × (code_of end ≡ c)
 is-settle o (offer k) r c h = absurd (cc)
@@ -97,20 +101,23 @@ is-settle o (note k b) r c h = absurd (cc)
 is-settle o (commit kind keys) r c h = absurd (cc)
 is-settle o (undo n) r c h = absurd (cc)
 is-settle o (settle k b e) r c h =
-    let s : SettleDone (number_of o k) (code_of e) ∷ [] ≡ SettleDone r c ∷ [] = h in (k, b, e, refl, cc, cc)
+    let s : SettleDone (number_of o k) (code_of e) ∷ [] ≡ SettleDone r c ∷ [] = h in
+    (k, b, e, refl, cc, cc)
 is-settle o (arrive k) r c h = absurd (cc)
 is-settle o sweep r c h = absurd (cc)
 
 -- ---- 2. what it does
 
-pub phase-there : (o : Table) (n : ℕ) (g : ℕ → Outcome) (m : Moment) (v : WorldView) (k : Key) (r : ℕ)
+pub phase-there : (o : Table) (n : ℕ) (g : ℕ → Outcome) (m : Moment) (v : WorldView) (k : Key)
+    (r : ℕ)
     (p : BoardPhase) → Agrees o n g m v → number_of o k ≡ r → IsAt m r p
     → phase_of v k ≡ Some (phase_as (g r) p)
 phase-there o n g m v k r p a num at =
     ap (λ (t : Table). slice_get v.phases (number_of t k)) a.opening
     ∙ ap (slice_get v.phases) num ∙ a.phases r p at
 
-pub number-there : (o : Table) (n : ℕ) (g : ℕ → Outcome) (m : Moment) (v : WorldView) (k : Key) (r : ℕ)
+pub number-there : (o : Table) (n : ℕ) (g : ℕ → Outcome) (m : Moment) (v : WorldView) (k : Key)
+    (r : ℕ)
     → Agrees o n g m v → number_of o k ≡ r → number_of v.history.opening k ≡ r
 number-there o n g m v k r a num = ap (λ (t : Table). number_of t k) a.opening ∙ num
 

@@ -1,5 +1,5 @@
 -- Of what the desk has done at the board each beginning was all that it had done at some moment.
-use Rattle.std.proofs.Common.{◌≡◌, ◌⊎◌, ℕ, suc, ◌+◌, ◌-◌, ◌<◌, ◌≤◌, List, [], ◌∷◌, ◌++◌, length, set}
+use Rattle.std.proofs.Common.{◌≡◌, ◌⊎◌, ℕ, suc, ◌-◌, ◌<◌, ◌≤◌, List, [], ◌∷◌, ◌++◌, length, set}
 use Rattle.std.proofs.Common.{ap, refl, sym, subst, ◌∙◌, inl, inr, ⊎_elim, arith, append-nil}
 use Rattle.std.proofs.Common.{length-set, length-append}
 use mathlib.Core.Option.{some}
@@ -8,7 +8,8 @@ use Rattle.atomic_table.proofs.Lists.{set_here, set_else, at_longer}
 use Rattle.td_board.specs.declared.views.RowView.TheVariants.{In, Out, Seen, Known}
 use Rattle.td_board.specs.declared.views.Deed.TheVariants as deed
 use Rattle.td_board.specs.declared.views.DeskTry.{DeskTry}
-use Rattle.td_board.specs.declared.views.DeskTry.TheVariants.{Offered, WithdrawalWon, WithdrawalLost}
+use Rattle.td_board.specs.declared.views.DeskTry.TheVariants.{Offered, WithdrawalWon}
+use Rattle.td_board.specs.declared.views.DeskTry.TheVariants.{WithdrawalLost}
 use Rattle.td_board.specs.declared.views.DeskTry.TheVariants.{ClaimNoted, SettleDone, SettleEarly}
 use Rattle.td_board.specs.declared.views.DeskView.{DeskView}
 use Rattle.td_board.specs.declared.views.BuilderView.{BuilderView}
@@ -112,7 +113,8 @@ before rows m m' reached (board.withdrawal_lost r b d at _ _ e) d' at' =
     (WithdrawalLost r b) at (subst (λ (x : Moment). DeskKnows x d') e at') refl
     (done_in-append d.tried (WithdrawalLost r b ∷ []))
 before rows m m' reached (board.note r b d at _ _ e) d' at' =
-    before-own m d (desk_tried (ClaimNoted r b) (with_deed b (deed.Claim r) (with_row r (Known b) d)))
+    before-own m d
+    (desk_tried (ClaimNoted r b) (with_deed b (deed.Claim r) (with_row r (Known b) d)))
     d' (ClaimNoted r b) at (subst (λ (x : Moment). DeskKnows x d') e at')
     (length-set d.noted (b - 1) (noted_of d b ++ deed.Claim r ∷ []))
     (done_in-append d.tried (ClaimNoted r b ∷ []))

@@ -23,6 +23,7 @@ pub mod RunLists
 pub mod Showing
 pub mod DeskShows
 pub mod BuilderShows
+pub mod Theirs
 pub mod Simulation
 pub mod Earlier
 pub mod Growth

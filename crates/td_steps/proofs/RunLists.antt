@@ -1,6 +1,6 @@
 -- Runs that go on, and moves that are split at a step at the board.
 use Rattle.std.proofs.Common.{◌≡◌, ◌⊎◌, true, ◌&&◌, List, [], ◌∷◌, ◌++◌, ap, refl, sym}
-use Rattle.std.proofs.Common.{◌∙◌, inl, inr, ⊎_elim}
+use Rattle.std.proofs.Common.{◌∙◌, inl, inr, ⊎_elim, append-nil, append_assoc}
 use Rattle.std.proofs.lemmas.Bool.{and_parts}
 use Rattle.td_board.specs.declared.views.DeskTry.{DeskTry}
 use Rattle.td_rows.specs.Table.{Table}
@@ -12,6 +12,7 @@ use Rattle.td_steps.specs.Moves.{Move, offer, won, lost, note, commit, undo, set
 use Rattle.td_steps.specs.Moves.{step_of, moved, Chosen}
 use Rattle.td_steps.specs.Runs.{MayAll, moved_all, is_builders, are_builders, Meanwhile, Runs}
 use Rattle.td_steps.specs.Tries.{tries_of, tried_in}
+use Rattle.td_steps.specs.Theirs.{theirs_in}
 
 -- ---- 1. runs that go on
 
@@ -27,7 +28,7 @@ builders-push (x ∷ ss) s all one =
     let parts = and_parts (is_builders x) (are_builders ss) all in
     (λ j. parts.0 j && builders-push ss s parts.1 one j)
 
-pub meanwhile-none : (w : WorldView) → Meanwhile w w
+abbrev pub meanwhile-none : (w : WorldView) → Meanwhile w w
 meanwhile-none w = record { theirs = []; all = refl; to = refl }
 
 -- a builder's step at the end
@@ -47,6 +48,28 @@ pub runs-move : (w v : WorldView) (ms : List Move) (m : Move) → Runs w ms v �
 runs-move w v [] m runs chosen = (v, runs, chosen, meanwhile-none (after v (step_of m)))
 runs-move w v (x ∷ ms) m runs chosen =
     (runs.0, runs.1, runs.2, runs-move (after runs.0 (step_of x)) v ms m runs.3 chosen)
+
+-- a builder's step at the end is the last of theirs
+pub theirs-more : (w v : WorldView) (ms : List Move) (s : Step) (theirs : is_builders s ≡ true)
+    (run : Runs w ms v)
+    → theirs_in w (after v s) ms (runs-more w v ms s theirs run) ≡ theirs_in w v ms run ++ s ∷ []
+unfolding runs-more
+theirs-more w v [] s theirs run = refl
+theirs-more w v (m ∷ ms) s theirs run =
+    let u = after run.0 (step_of m) in
+    ap (λ (l : List Step). run.1.theirs ++ l) (theirs-more u v ms s theirs run.3)
+    ∙ sym (append_assoc run.1.theirs (theirs_in u v ms run.3) (s ∷ []))
+
+-- a move at the end is none of theirs
+pub theirs-move : (w v : WorldView) (ms : List Move) (m : Move) (run : Runs w ms v)
+    (chosen : Chosen v m)
+    → theirs_in w (after v (step_of m)) (ms ++ m ∷ []) (runs-move w v ms m run chosen)
+    ≡ theirs_in w v ms run
+unfolding runs-move
+theirs-move w v [] m run chosen = append-nil run.theirs
+theirs-move w v (x ∷ ms) m run chosen =
+    ap (λ (l : List Step). run.1.theirs ++ l)
+    (theirs-move (after run.0 (step_of x)) v ms m run.3 chosen)
 
 pub may-parts : (d : Desk) (a b : List Move) → MayAll d (a ++ b)
     → MayAll d a × MayAll (moved_all d a) b

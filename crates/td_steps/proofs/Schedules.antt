@@ -1,10 +1,9 @@
 -- Every schedule of a board at whose desk's seat a book is kept is a run of a world.
-use Rattle.std.proofs.Common.{◌≡◌, ℕ, zero, suc, ◌<◌, ◌≤◌, true, List, [], ◌∷◌, ◌++◌, Some, length}
+use Rattle.std.proofs.Common.{◌≡◌, ℕ, zero, suc, ◌<◌, ◌≤◌, List, [], ◌∷◌, ◌++◌, Some, length}
 use Rattle.std.proofs.Common.{replicate, slice_get, ap, refl, sym, subst, ◌∙◌, arith, append-nil}
 use Rattle.std.proofs.Common.{append_assoc, None, if◌then◌else◌, ◌-◌, ne_eqb}
 use Rattle.std.proofs.lemmas.List.{length-replicate}
 use mathlib.Core.Option.{some, some-ne-none}
-use lib.ListN.{get_elem?}
 use Rattle.td_board.specs.declared.outcome.OutcomeCode.{OutcomeCode}
 use Rattle.td_board.specs.declared.outcome.OutcomeCode.TheVariants as codes
 use Rattle.td_board.specs.declared.views.DeskTry.{DeskTry}
@@ -13,34 +12,28 @@ use Rattle.td_board.specs.declared.views.BuilderView.{BuilderView}
 use Rattle.td_board.specs.declared.views.View.TheVariants.{Desk as DeskSeat, Builder}
 use Rattle.td_board.specs.Phase.{Phase as BoardPhase, closed, opened, held, noted, done}
 use Rattle.td_board.specs.Knowledge.{new_desk}
-use Rattle.td_board.specs.Seats.{DeskModel}
-use Rattle.td_board.specs.Steps.{Moment, IsAt, DeskKnows, BuilderKnows, new_board, Reached}
+use Rattle.td_board.specs.Steps.{Moment, DeskKnows, BuilderKnows, new_board, Reached}
 use Rattle.td_board.proofs.Lists.{at_less, one_at, at_replicate}
 use Rattle.td_board.proofs.RowLaws.{not_both}
 use Rattle.td_board.proofs.Schedules.{with_desk, rule_stands}
 use Rattle.td_rows.specs.declared.outcome.Outcome.{Outcome}
 use Rattle.td_rows.specs.declared.outcome.Outcome.TheVariants as ends
-use Rattle.td_rows.specs.Keys.{ascending}
 use Rattle.td_rows.specs.Table.{Table, keys_of}
 use Rattle.td_supply.specs.Supply.{Stock}
-use Rattle.td_core.specs.declared.step.Phase.{Phase}
 use Rattle.td_core.specs.declared.step.Phase.TheVariants.{Closed}
-use Rattle.td_core.specs.declared.step.Hand.{Hand}
 use Rattle.td_core.specs.declared.step.Hand.TheVariants.{Free}
 use Rattle.td_core.specs.History.{History, rows_of}
 use Rattle.td_core.specs.Worlds.{WorldView, hand_in}
-use Rattle.td_book.specs.AtRest.{IsAtRest}
 use Rattle.td_book.specs.Deeds.{code_of}
 use Rattle.td_book.specs.Desk.{Fixed, BookModel}
 use Rattle.td_book.proofs.Returns.{length-rows}
 use Rattle.td_book.proofs.Seeing.{length-seen_off}
 use Rattle.td_steps.specs.Sees.{Desk, Sees, resting}
 use Rattle.td_steps.specs.Moves.{Move}
-use Rattle.td_steps.specs.Runs.{MayAll, moved_all}
+use Rattle.td_steps.specs.Runs.{MayAll}
 use Rattle.td_steps.specs.Parts.{offering}
 use Rattle.td_steps.specs.Openings.{world_from, desk_from, MayOpen, begun}
 use Rattle.td_steps.specs.Books.{Call, DoAll}
-use Rattle.td_steps.specs.Calls.{MovesOf}
 use Rattle.td_steps.specs.Tries.{tried_in, done_in}
 use Rattle.td_steps.specs.Schedules.{SamePhase, SameHand, Shows, AreCalls, SchedulesRun}
 use Rattle.td_steps.proofs.Books.{entries_stay}
@@ -101,7 +94,8 @@ starts : (h : History) (st : Stock) (n rows : ℕ) (g : ℕ → Outcome) → row
     → Agrees h.opening n g (new_board rows) (world_from h st n)
 starts h st n rows g many = record {
   opening = refl;
-  sized = length-replicate (length h.opening) Closed ∙ sym many ∙ sym (length-replicate rows closed);
+  sized =
+      length-replicate (length h.opening) Closed ∙ sym many ∙ sym (length-replicate rows closed);
   crew = length-replicate n Free;
   phases = λ r p at.
       let is : closed ≡ p = at_replicate rows r closed p at in
@@ -116,7 +110,8 @@ starts h st n rows g many = record {
     nobody : (b : ℕ) (v : BuilderView) → BuilderKnows (new_board rows) b v → ⊥
     nobody zero v at =
         not_both (new_desk rows 0) v
-        (one_at (DeskSeat (new_desk rows 0) ∷ []) 0 (DeskSeat (new_desk rows 0)) (Builder v) refl at)
+        (one_at (DeskSeat (new_desk rows 0) ∷ []) 0 (DeskSeat (new_desk rows 0))
+        (Builder v) refl at)
     nobody (suc b) v at = some-ne-none (Builder v) (sym at)
 
 -- ---- 3. the calls
@@ -256,7 +251,7 @@ schedules_run rows m reached seat at h fixed calls new may did rest =
       all.moves,
       all.are,
       r.world,
-      (r.runs, seen.0),
+      (r.runs, r.taken, seen.0),
       end.history,
       shows h.opening fixed.builders m r.world r.agrees views,
     )

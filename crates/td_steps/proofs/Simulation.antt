@@ -1,5 +1,6 @@
 -- A schedule of the board runs in the world, with the moves that the desk's steps are.
-use Rattle.std.proofs.Common.{◌≡◌, ◌≢◌, ℕ, suc, ◌<◌, ◌≤◌, true, List, [], ◌∷◌, ◌++◌, length, set}
+use Rattle.std.proofs.Common.{◌≡◌, ◌≢◌, ℕ, suc, ◌<◌, ◌≤◌, true, false, List, [], ◌∷◌, ◌++◌, length}
+use Rattle.std.proofs.Common.{set}
 use Rattle.std.proofs.Common.{ap, refl, sym, subst, ◌∙◌, arith, append-nil, append_assoc}
 use Rattle.std.proofs.Common.{length-set, length-append, eq-eqb, ne_eqb, if◌then◌else◌, ◌==◌, ◌-◌}
 use mathlib.Core.Logic.{dite}
@@ -9,12 +10,14 @@ use lib.ListN.{get_elem?}
 use Rattle.atomic_table.proofs.Lists.{set_here, set_else, at_longer}
 use Rattle.td_board.specs.declared.outcome.OutcomeCode.{OutcomeCode}
 use Rattle.td_board.specs.declared.views.RowView.TheVariants.{In, Out, Seen, Known}
-use Rattle.td_board.specs.declared.views.Deed.{Deed}
 use Rattle.td_board.specs.declared.views.Deed.TheVariants as deed
 use Rattle.td_board.specs.declared.views.DeskTry.{DeskTry}
-use Rattle.td_board.specs.declared.views.DeskTry.TheVariants.{Offered, WithdrawalWon, WithdrawalLost}
+use Rattle.td_board.specs.declared.views.DeskTry.TheVariants.{Offered, WithdrawalWon}
+use Rattle.td_board.specs.declared.views.DeskTry.TheVariants.{WithdrawalLost}
 use Rattle.td_board.specs.declared.views.DeskTry.TheVariants.{ClaimNoted, SettleDone, SettleEarly}
-use Rattle.td_board.specs.declared.views.BuilderTry.TheVariants.{ClaimLost, FinishEarly}
+use Rattle.td_board.specs.declared.views.BuilderTry.{BuilderTry}
+use Rattle.td_board.specs.declared.views.BuilderTry.TheVariants.{ClaimWon, ClaimLost, FinishDone}
+use Rattle.td_board.specs.declared.views.BuilderTry.TheVariants.{FinishEarly, ReleaseDone}
 use Rattle.td_board.specs.declared.views.BuilderTry.TheVariants.{ReleaseEarly}
 use Rattle.td_board.specs.declared.views.DeskView.{DeskView}
 use Rattle.td_board.specs.declared.views.BuilderView.{BuilderView}
@@ -22,11 +25,10 @@ use Rattle.td_board.specs.declared.views.View.TheVariants.{Desk as DeskSeat, Bui
 use Rattle.td_board.specs.Phase.{Phase as BoardPhase, closed, opened, held, noted, done}
 use Rattle.td_board.specs.Knowledge.{new_desk, with_builder, with_row, with_deed, noted_of}
 use Rattle.td_board.specs.Knowledge.{new_builder, with_claim, with_finish, with_free_hand}
-use Rattle.td_board.specs.Knowledge.{desk_tried, builder_tried}
+use Rattle.td_board.specs.Knowledge.{desk_tried, builder_tried, row_of}
 use Rattle.td_board.specs.Steps as board
 use Rattle.td_board.specs.Steps.{Moment, IsAt, DeskKnows, BuilderKnows, new_board, learned, moved}
 use Rattle.td_board.specs.Steps.{seated, Reached}
-use Rattle.td_board.specs.Rule.{Fits}
 use Rattle.td_board.proofs.Lists.{at_less, one_at}
 use Rattle.td_board.proofs.RowLaws.{same_desk, builder_seat}
 use Rattle.td_board.proofs.Schedules.{with_desk, rule_stands}
@@ -42,22 +44,28 @@ use Rattle.td_steps.specs.Sees.{Desk, Sees}
 use Rattle.td_steps.specs.Moves.{Move, step_of}
 use Rattle.td_steps.specs.Runs.{MayAll, moved_all, is_builders, Runs}
 use Rattle.td_steps.specs.Tries.{tries_of, tried_in, done_in}
+use Rattle.td_steps.specs.Theirs.{theirs_in, is_by, steps_in, IsStep, AreTaken}
 use Rattle.td_steps.proofs.Moves.{runs_are_seen}
 use Rattle.td_steps.proofs.Tries.{done_in-append}
-use Rattle.td_steps.proofs.RunLists.{meanwhile-none, runs-more, runs-move, may-parts, split}
+use Rattle.td_steps.proofs.RunLists.{meanwhile-none, runs-more, runs-move, theirs-more}
+use Rattle.td_steps.proofs.RunLists.{theirs-move, may-parts, split}
 use Rattle.td_steps.proofs.Showing.{Agrees, agrees-learned, agrees-quiet, agrees-tried}
 use Rattle.td_steps.proofs.Showing.{agrees-seated}
 use Rattle.td_steps.proofs.DeskShows.{is-offer, is-won, is-lost, is-note, is-settle, Simulates}
 use Rattle.td_steps.proofs.DeskShows.{offer-shows, won-shows, lost-shows, note-shows, settle-shows}
 use Rattle.td_steps.proofs.DeskShows.{quiet}
 use Rattle.td_steps.proofs.BuilderShows.{claim-shows, finish-shows, release-shows}
+use Rattle.td_steps.proofs.Theirs.{steps_in-append, taken-new}
+use Rattle.td_steps.proofs.Theirs.{taken-desk, taken-seated, taken-builder}
 
--- a run of the moves to a world that is as the board is
+-- a run of the moves to a world that is as the board is, with the steps of builders that these took
+-- at the board
 pub record Reaches (w : WorldView) (o : Table) (n : ℕ) (ms : List Move) (g : ℕ → Outcome)
     (m : Moment) : Type 0 where
   pub world : WorldView
   pub runs : Runs w ms world
   pub agrees : Agrees o n g m world
+  pub taken : AreTaken (keys_of o) m (theirs_in w world ms runs)
 
 -- the outcomes have the codes that the board has of builds that have ended
 abbrev pub Fitting : (ℕ → Outcome) → List BoardPhase → Type 0
@@ -81,28 +89,31 @@ fitting-before g g' ps r p₀ p there beside here fits s b c at =
     (λ (ne : s ≢ r). ap code_of (beside s ne) ∙ fits s b c (set_else ps r s p ne ∙ at))
 
 module _ (w : WorldView) (o : Table) (n : ℕ) where
-  run-quiet : (g : ℕ → Outcome) (m : Moment) (v : WorldView) (ms us : List Move) → Runs w ms v
-      → tried_in o us ≡ [] → Agrees o n g m v → Reaches w o n (ms ++ us) g m
-  run-quiet g m v ms [] runs none a =
+  run-quiet : (g : ℕ → Outcome) (m : Moment) (v : WorldView) (ms us : List Move)
+      (runs : Runs w ms v) → tried_in o us ≡ [] → Agrees o n g m v
+      → AreTaken (keys_of o) m (theirs_in w v ms runs) → Reaches w o n (ms ++ us) g m
+  run-quiet g m v ms [] runs none a own =
       subst (λ (l : List Move). Reaches w o n l g m) (sym (append-nil ms))
-      (record { world = v; runs = runs; agrees = a })
-  run-quiet g m v ms (x ∷ us) runs none a =
+      (record { world = v; runs = runs; agrees = a; taken = own })
+  run-quiet g m v ms (x ∷ us) runs none a own =
       let parts = empties (tries_of o x) (tried_in o us) none in
       let q = quiet o x v parts.0 in
       let u = after v (step_of x) in
       subst (λ (l : List Move). Reaches w o n l g m) (append_assoc ms (x ∷ []) us)
       (run-quiet g m u (ms ++ x ∷ []) us (runs-move w v ms x runs q.0) parts.1
-      (agrees-quiet o n g g m v u a (q.1.opening ∙ a.opening) (λ s. refl) q.1.phases q.1.hands))
+      (agrees-quiet o n g g m v u a (q.1.opening ∙ a.opening) (λ s. refl) q.1.phases q.1.hands)
+      (subst (AreTaken (keys_of o) m) (sym (theirs-move w v ms x runs q.0)) own))
 
 module _ (w : WorldView) (o : Table) (n : ℕ) (d0 : Desk) (sees0 : Sees w d0) where
   desk-step : (g : ℕ → Outcome) (m m' : Moment) (front : List DeskTry) (e : DeskTry)
       (ms : List Move) → MayAll d0 ms → tried_in o ms ≡ front ++ e ∷ []
+      → ((ss : List Step) → AreTaken (keys_of o) m ss → AreTaken (keys_of o) m' ss)
       → ((x : Move) → tries_of o x ≡ e ∷ [] → (g' : ℕ → Outcome)
       × ((before : List Move) → MayAll d0 before → tried_in o before ≡ front
       → Reaches w o n before g' m)
       × Simulates o n g' g m m' x)
       → Reaches w o n ms g m'
-  desk-step g m m' front e ms may told sim =
+  desk-step g m m' front e ms may told keeps sim =
       let s = split o ms front e told in
       let all = may-parts d0 s.before (s.move ∷ s.behind)
       (subst (λ (l : List Move). MayAll d0 l) s.parts may) in
@@ -113,12 +124,15 @@ module _ (w : WorldView) (o : Table) (n : ℕ) (d0 : Desk) (sees0 : Sees w d0) w
       subst (λ (l : List Move). Reaches w o n l g m')
       (append_assoc s.before (s.move ∷ []) s.behind ∙ sym s.parts)
       (run-quiet w o n g m' (after r.world (step_of s.move)) (s.before ++ s.move ∷ []) s.behind
-      (runs-move w r.world s.before s.move r.runs made.0) s.rest made.1)
+      (runs-move w r.world s.before s.move r.runs made.0) s.rest made.1
+      (subst (AreTaken (keys_of o) m') (sym (theirs-move w r.world s.before s.move r.runs made.0))
+      (keeps (theirs_in w r.world s.before r.runs) r.taken)))
 
   builder-step : (g : ℕ → Outcome) (m m' : Moment) (ms : List Move) → MayAll d0 ms
       → Reaches w o n ms g m
       → ((v : WorldView) → IsWorld v → Agrees o n g m v
-      → (s : Step) × (is_builders s ≡ true) × Agrees o n g m' (after v s))
+      → (s : Step) × (is_builders s ≡ true) × Agrees o n g m' (after v s)
+      × ((ss : List Step) → AreTaken (keys_of o) m ss → AreTaken (keys_of o) m' (ss ++ s ∷ [])))
       → Reaches w o n ms g m'
   builder-step g m m' ms may r sim =
       let sees = (runs_are_seen w d0 ms sees0 may r.world r.runs).1 in
@@ -127,6 +141,8 @@ module _ (w : WorldView) (o : Table) (n : ℕ) (d0 : Desk) (sees0 : Sees w d0) w
         world = after r.world t.0;
         runs = runs-more w r.world ms t.0 t.1 r.runs;
         agrees = t.2;
+        taken = subst (AreTaken (keys_of o) m') (sym (theirs-more w r.world ms t.0 t.1 r.runs))
+            (t.3 (theirs_in w r.world ms r.runs) r.taken);
       }
 
   -- ---- 2. what holds at each moment
@@ -161,7 +177,9 @@ module _ (w : WorldView) (o : Table) (n : ℕ) (d0 : Desk) (sees0 : Sees w d0) w
         told ∙ ap (λ (x : DeskView). done_in x.tried) (sym same) ∙ adds in
         let few' : length d.noted ≤ n =
         subst (λ i. i ≤ n) (ap (λ (x : DeskView). length x.noted) (sym same) ∙ lists) few in
-        desk-step g m (moved r p 0 (DeskSeat d1) m) (done_in d.tried) e ms may told' (λ x one.
+        let m' = moved r p 0 (DeskSeat d1) m in
+        desk-step g m m' (done_in d.tried) e ms may told'
+        (λ ss own. taken-desk (keys_of o) ss m m' d d1 at refl own) (λ x one.
         let t = sim g x one in (
           t.0,
           (λ before mayb first.
@@ -182,7 +200,9 @@ module _ (w : WorldView) (o : Table) (n : ℕ) (d0 : Desk) (sees0 : Sees w d0) w
         told ∙ ap (λ (x : DeskView). done_in x.tried) (sym same) ∙ adds in
         let few' : length d.noted ≤ n =
         subst (λ i. i ≤ n) (ap (λ (x : DeskView). length x.noted) (sym same) ∙ lists) few in
-        desk-step g m (learned 0 (DeskSeat d1) m) (done_in d.tried) e ms may told'
+        let m' = learned 0 (DeskSeat d1) m in
+        desk-step g m m' (done_in d.tried) e ms may told'
+        (λ ss own. taken-desk (keys_of o) ss m m' d d1 at refl own)
         (λ x one. (g, (λ before mayb first. ih d at few' before mayb first g fit), sim g x one))
 
     -- a settling came too early
@@ -199,6 +219,8 @@ module _ (w : WorldView) (o : Table) (n : ℕ) (d0 : Desk) (sees0 : Sees w d0) w
           runs = r.runs;
           agrees = agrees-learned o n g g m r.world r.world r.agrees r.agrees.opening d1 (λ s. refl)
               refl refl;
+          taken = taken-desk (keys_of o) (theirs_in w r.world ms r.runs) m
+              (learned 0 (DeskSeat d1) m) d d1 at refl r.taken;
         }
 
     -- a builder changes a phase
@@ -207,7 +229,9 @@ module _ (w : WorldView) (o : Table) (n : ℕ) (d0 : Desk) (sees0 : Sees w d0) w
         → ((g : ℕ → Outcome) → Fitting g (set m.phases r p) → (v : WorldView) → IsWorld v
         → Agrees o n g m v
         → (s : Step) × (is_builders s ≡ true)
-        × Agrees o n g (moved r p b (Builder y) m) (after v s))
+        × Agrees o n g (moved r p b (Builder y) m) (after v s)
+        × ((ss : List Step) → AreTaken (keys_of o) m ss
+        → AreTaken (keys_of o) (moved r p b (Builder y) m) (ss ++ s ∷ [])))
         → Runnable (moved r p b (Builder y) m)
     builder-moves b y r p₀ p one there never sim d at few ms may told g fit =
         let seat : DeskKnows m d =
@@ -222,7 +246,9 @@ module _ (w : WorldView) (o : Table) (n : ℕ) (d0 : Desk) (sees0 : Sees w d0) w
     builder-learns : (b : ℕ) (y : BuilderView) → 0 < b
         → ((g : ℕ → Outcome) → Fitting g m.phases → (v : WorldView) → IsWorld v
         → Agrees o n g m v
-        → (s : Step) × (is_builders s ≡ true) × Agrees o n g (learned b (Builder y) m) (after v s))
+        → (s : Step) × (is_builders s ≡ true) × Agrees o n g (learned b (Builder y) m) (after v s)
+        × ((ss : List Step) → AreTaken (keys_of o) m ss
+        → AreTaken (keys_of o) (learned b (Builder y) m) (ss ++ s ∷ [])))
         → Runnable (learned b (Builder y) m)
     builder-learns b y one sim d at few ms may told g fit =
         let seat : DeskKnows m d =
@@ -232,8 +258,8 @@ module _ (w : WorldView) (o : Table) (n : ℕ) (d0 : Desk) (sees0 : Sees w d0) w
 
     -- a builder's try moves nothing
     builder-waits : (b : ℕ) (v y : BuilderView) → 0 < b → BuilderKnows m b v → y.hand ≡ v.hand
-        → Runnable (learned b (Builder y) m)
-    builder-waits b v y one seat hand d at few ms may told g fit =
+        → steps_in y.tried ≡ steps_in v.tried → Runnable (learned b (Builder y) m)
+    builder-waits b v y one seat hand same d at few ms may told g fit =
         let seat0 : DeskKnows m d =
         sym (set_else m.views b 0 (Builder y) (λ e. omega (arith, e, one))) ∙ at in
         let r = ih d seat0 few ms may told g fit in
@@ -241,6 +267,11 @@ module _ (w : WorldView) (o : Table) (n : ℕ) (d0 : Desk) (sees0 : Sees w d0) w
           world = r.world;
           runs = r.runs;
           agrees = agrees-tried o n g m r.world b v y r.agrees seat hand;
+          taken = subst (AreTaken (keys_of o) (learned b (Builder y) m))
+              (append-nil (theirs_in w r.world ms r.runs))
+              (taken-builder (keys_of o) (theirs_in w r.world ms r.runs) m
+              (learned b (Builder y) m) b v y seat refl [] [] tt refl (λ c apart. refl)
+              (same ∙ sym (append-nil (steps_in v.tried))) r.taken);
         }
 
   -- ---- 3. each kind of step
@@ -262,6 +293,17 @@ module _ (w : WorldView) (o : Table) (n : ℕ) (d0 : Desk) (sees0 : Sees w d0) w
       let k = builder_seat rows m.phases stands.0 m.views b v stands.1 at in
       let named : b ≡ suc k.0 = k.1 in omega (arith, named)
 
+  -- a builder's step is the last of what it did
+  took : {m : Moment} (m' : Moment) (b : ℕ) (y y' : BuilderView) → BuilderKnows m b y
+      → m'.views ≡ set m.views b (Builder y') → (t : BuilderTry) (s : Step)
+      → IsStep (keys_of o) t s → is_by b s ≡ true → ((c : ℕ) → c ≢ b → is_by c s ≡ false)
+      → steps_in y'.tried ≡ steps_in y.tried ++ t ∷ []
+      → (ss : List Step) → AreTaken (keys_of o) m ss → AreTaken (keys_of o) m' (ss ++ s ∷ [])
+  took {m} m' b y y' seat is t s step his not_theirs adds ss own =
+      taken-builder (keys_of o) ss m m' b y y' seat is (t ∷ []) (s ∷ []) (step, tt)
+      (ap (λ z. if z then s ∷ [] else []) his)
+      (λ c apart. ap (λ z. if z then s ∷ [] else []) (not_theirs c apart)) adds own
+
   stepped : ascending (keys_of o) ≡ true → (rows : ℕ) (m m' : Moment) → Reached rows m
       → Runnable m → board.Step m m' → Runnable m'
   stepped up rows m m' reached ih (board.seat d at e) =
@@ -278,6 +320,7 @@ module _ (w : WorldView) (o : Table) (n : ℕ) (d0 : Desk) (sees0 : Sees w d0) w
         world = r.world;
         runs = r.runs;
         agrees = agrees-seated o n g m r.world d r.agrees at (omega (arith, few', longer, many));
+        taken = taken-seated (keys_of o) (theirs_in w r.world ms r.runs) m d at r.taken;
       })
   stepped up rows m m' reached ih (board.offer r d at shown is e) =
       let d1 : DeskView = desk_tried (Offered r) (with_row r Out d) in
@@ -354,26 +397,39 @@ module _ (w : WorldView) (o : Table) (n : ℕ) (d0 : Desk) (sees0 : Sees w d0) w
       subst Runnable (sym e)
       (builder-moves m ih b (with_claim r v) r opened (held b) one is
       (λ i c no. absurd (let bad : opened ≡ done i c = no in cc)) (λ g fit u sound a.
-      let t = claim-shows o n g m u r b v a up one at (sound.sized ∙ ap length a.opening) free is in
-      (steps.Claim b t.0, refl, t.1)))
+      let t =
+      claim-shows o n g m u r b v a up one at (sound.sized ∙ ap length a.opening) free is in (
+        steps.Claim b t.0,
+        refl,
+        t.2,
+        took (moved r (held b) b (Builder (with_claim r v)) m) b v (with_claim r v) at refl
+            (ClaimWon r) (steps.Claim b t.0) t.1 (eq-eqb b b refl) (λ c apart. ne_eqb c b apart)
+            (steps_in-append v.tried (ClaimWon r ∷ [])),
+      )))
   stepped up rows m m' reached ih (board.claim_lost r b p v at free is ne e) =
       subst Runnable (sym e)
       (builder-waits m ih b v (builder_tried (ClaimLost r) v)
-      (numbered-from-one rows m b v reached at) at refl)
+      (numbered-from-one rows m b v reached at) at refl
+      (steps_in-append v.tried (ClaimLost r ∷ []) ∙ append-nil (steps_in v.tried)))
   stepped up rows m m' reached ih (board.finish_done r b c v at holds is e) =
       let one = numbered-from-one rows m b v reached at in
+      let code : (g : ℕ → Outcome) → Fitting g (set m.phases r (done b c)) → code_of (g r) ≡ c =
+      λ g fit. fit r b c (set_here m.phases r (done b c) (at_less m.phases r (noted b) is)) in
       subst Runnable (sym e)
       (builder-moves m ih b (with_finish r c v) r (noted b) (done b c) one is
       (λ i z no. absurd (let bad : noted b ≡ done i z = no in cc)) (λ g fit u sound a. (
         steps.Finish b (g r),
         refl,
-        finish-shows o n g m u r b v a up one at c holds is
-            (fit r b c (set_here m.phases r (done b c) (at_less m.phases r (noted b) is))),
+        finish-shows o n g m u r b v a up one at c holds is (code g fit),
+        took (moved r (done b c) b (Builder (with_finish r c v)) m) b v (with_finish r c v) at refl
+            (FinishDone r c) (steps.Finish b (g r)) (code g fit) (eq-eqb b b refl)
+            (λ i apart. ne_eqb i b apart) (steps_in-append v.tried (FinishDone r c ∷ [])),
       )))
   stepped up rows m m' reached ih (board.finish_early r b c p v at holds is ne e) =
       subst Runnable (sym e)
       (builder-waits m ih b v (builder_tried (FinishEarly r c) v)
-      (numbered-from-one rows m b v reached at) at refl)
+      (numbered-from-one rows m b v reached at) at refl
+      (steps_in-append v.tried (FinishEarly r c ∷ []) ∙ append-nil (steps_in v.tried)))
   stepped up rows m m' reached ih (board.release_done r b c p v at ended is ne e) =
       let one = numbered-from-one rows m b v reached at in
       subst Runnable (sym e)
@@ -382,11 +438,16 @@ module _ (w : WorldView) (o : Table) (n : ℕ) (d0 : Desk) (sees0 : Sees w d0) w
         refl,
         release-shows o n g m u r b v a up one at c p sound ended is ne
             (λ i z there. fit r i z there),
+        took (learned b (Builder (with_free_hand v)) m) b v (with_free_hand v) at refl
+            (ReleaseDone (row_of v.hand)) (steps.Release b) tt (eq-eqb b b refl)
+            (λ i apart. ne_eqb i b apart)
+            (steps_in-append v.tried (ReleaseDone (row_of v.hand) ∷ [])),
       )))
   stepped up rows m m' reached ih (board.release_early r b c v at ended is e) =
       subst Runnable (sym e)
       (builder-waits m ih b v (builder_tried (ReleaseEarly r) v)
-      (numbered-from-one rows m b v reached at) at refl)
+      (numbered-from-one rows m b v reached at) at refl
+      (steps_in-append v.tried (ReleaseEarly r ∷ []) ∙ append-nil (steps_in v.tried)))
 
   -- ---- 4. every schedule
 
@@ -402,5 +463,6 @@ module _ (w : WorldView) (o : Table) (n : ℕ) (d0 : Desk) (sees0 : Sees w d0) w
       let none : tried_in o ms ≡ [] =
       told ∙ ap (λ (x : DeskView). done_in x.tried) (sym same) in
       run-quiet w o n g (new_board rows) w [] ms (meanwhile-none w) none (start g)
+      (taken-new (keys_of o) [] rows)
   simulated up rows start m' (board.after {m} reached step) =
       stepped up rows m m' reached (simulated up rows start m reached) step

@@ -1,7 +1,7 @@
 -- Whatever builders do, an undo goes on to its end, or stops at a row at which a builder was
 -- faster; and moves that no builder decides go on.
 use Rattle.std.proofs.Common.{◌≡◌, ℕ, zero, suc, ◌+◌, ◌≤◌, Bool, true, false, List, [], ◌∷◌, ◌++◌}
-use Rattle.std.proofs.Common.{Some, None, Ok, Err, if◌then◌else◌, length, take, slice_get, ap, refl}
+use Rattle.std.proofs.Common.{Some, None, Ok, Err, if◌then◌else◌, length, take, slice_get, refl}
 use Rattle.std.proofs.Common.{append_assoc, sym, subst, inl, inr, arith}
 use Rattle.std.specs.Prelude.{◌⊎◌}
 use Rattle.std.proofs.lemmas.Bool.{and_parts}

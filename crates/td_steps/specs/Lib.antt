@@ -17,4 +17,5 @@ pub mod Books
 pub mod Calls
 pub mod Reopenings
 pub mod Deeds
+pub mod Theirs
 pub mod Schedules

@@ -1,5 +1,5 @@
--- Every schedule of a board at whose desk's seat a book is kept is a run of a world, with the
--- desk's steps in their order and steps of builders between them. This project's own.
+-- Every schedule of a board at whose desk's seat a book is kept is a run of a world: with the
+-- desk's steps in their order, and each builder's in its own. This project's own.
 use Rattle.std.specs.Prelude.{◌≡◌, ℕ, suc, List, [], ◌∷◌, ◌++◌, length, slice_get, Some}
 use Rattle.td_board.specs.declared.views.BuilderView.{BuilderView}
 use Rattle.td_board.specs.declared.views.Hand.{Hand as BoardHand}
@@ -25,6 +25,7 @@ use Rattle.td_steps.specs.Openings.{world_from, desk_from, MayOpen, begun}
 use Rattle.td_steps.specs.Books.{Call, Does, DoAll}
 use Rattle.td_steps.specs.Calls.{MovesOf}
 use Rattle.td_steps.specs.Tries.{AreMade}
+use Rattle.td_steps.specs.Theirs.{theirs_in, AreTaken}
 
 -- a row's phase at the board is this one in a world. The board has how a build ended without its
 -- text
@@ -66,8 +67,9 @@ AreCalls (c ∷ calls) old new moves =
 -- At every moment of every schedule of a board: where the desk's seat is a book's at rest, after
 -- any calls since the book began with a history, there is a run of the world that begins with it.
 -- Its moves are the first offers and then those of the calls, the ones that the desk made at the
--- board; each is answered as told of it; and it leads to a world with the book's history that is as
--- the board is. No choice of moves is free, and that there be a run is no premise
+-- board; the builders' steps between them are those that these took at the board; each move is
+-- answered as told of it; and the run leads to a world with the book's history that is as the board
+-- is. No choice of moves is free, and that there be a run is no premise
 abbrev pub SchedulesRun : Type 0
 SchedulesRun =
     (rows : ℕ) (m : Moment) → Reached rows m → (seat : DeskModel) → DeskKnows m seat.desk
@@ -75,6 +77,8 @@ SchedulesRun =
     → DoAll calls (begun h fixed) new → IsAtRest seat new →
     (moves : List Move) × AreCalls calls (begun h fixed) new moves × (v : WorldView)
     × (let all = offering (rows_of h) (keys_of (rows_of h)) ++ moves in
-    Runs (world_from h fixed.stock fixed.builders) all v
+    (run : Runs (world_from h fixed.stock fixed.builders) all v)
+    × AreTaken (keys_of h.opening) m
+    (theirs_in (world_from h fixed.stock fixed.builders) v all run)
     × Goes (world_from h fixed.stock fixed.builders) (desk_from h fixed.stock fixed.builders) all v)
     × (v.history ≡ new.history) × Shows m v

@@ -146,9 +146,10 @@ pub fn journals_tell_the_builders_deeds()
 
 /// At every moment of every schedule of a board at whose desk's seat a book is at rest: the run of
 /// the world that begins with the book's first history is there which has the desk's steps at the
-/// board, in their order, with the entries of the book's calls and steps of builders between them.
-/// It is answered as the calls answer, and leads to the book's history and to the board's phases
-/// and hands. No choice of the desk's moves is left free, and no run is asked for.
+/// board, in their order, with the entries of the book's calls. The steps of builders between them
+/// are those that each took at the board, in its order. The run is answered as the calls answer,
+/// and leads to the book's history and to the board's phases and hands. No choice of the desk's
+/// moves is left free, and no run is asked for.
 pub fn schedules_are_runs()
     ensures { SchedulesRun }
 {}
