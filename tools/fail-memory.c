@@ -1,27 +1,33 @@
-/* Fails the Nth allocation of a program, N being FAIL_AT: loaded before the program by LD_PRELOAD.
-   Where there was an Nth one, a file FAIL_HIT names is made, and where FAIL_TELL is set a line
-   `refused` is written to standard error. */
+/* Fails the Nth allocation of a program, N being FAIL_AT, or the Nth file that it opens, N being
+   FAIL_OPEN, for want of memory: loaded before the program by LD_PRELOAD. Where there was an Nth one,
+   a file FAIL_HIT names is made, and where FAIL_TELL is set a line `refused` is written to standard
+   error. */
 #define _GNU_SOURCE
 #include <dlfcn.h>
 #include <errno.h>
 #include <fcntl.h>
+#include <stdarg.h>
 #include <stdlib.h>
 #include <unistd.h>
 
-static long fail_at = -1;
-static long asked = 0;
+/* Which call fails, where that is known, and how many there were. */
+struct calls {
+    const char *name;
+    long fails;
+    long asked;
+};
 
-static int fails(void) {
-    if (fail_at == -1) {
-        const char *text = getenv("FAIL_AT");
-        fail_at = text ? atol(text) : 0;
+static int fails(struct calls *calls) {
+    if (calls->fails == -1) {
+        const char *text = getenv(calls->name);
+        calls->fails = text ? atol(text) : 0;
     }
-    if (__atomic_add_fetch(&asked, 1, __ATOMIC_SEQ_CST) != fail_at) {
+    if (__atomic_add_fetch(&calls->asked, 1, __ATOMIC_SEQ_CST) != calls->fails) {
         return 0;
     }
     const char *hit = getenv("FAIL_HIT");
     if (hit) {
-        close(open(hit, O_CREAT | O_WRONLY, 0600));
+        close(creat(hit, 0600));
     }
     if (getenv("FAIL_TELL") && write(2, "refused\n", 8) != 8) {
         _exit(9);
@@ -30,12 +36,27 @@ static int fails(void) {
     return 1;
 }
 
+static struct calls allocations = {"FAIL_AT", -1, 0};
+static struct calls openings = {"FAIL_OPEN", -1, 0};
+
+int open(const char *path, int flags, ...) {
+    static int (*real)(const char *, int, mode_t);
+    va_list rest;
+    va_start(rest, flags);
+    mode_t mode = flags & O_CREAT ? va_arg(rest, mode_t) : 0;
+    va_end(rest);
+    if (!real) {
+        real = dlsym(RTLD_NEXT, "open");
+    }
+    return fails(&openings) ? -1 : real(path, flags, mode);
+}
+
 void *malloc(size_t size) {
     static void *(*real)(size_t);
     if (!real) {
         real = dlsym(RTLD_NEXT, "malloc");
     }
-    return fails() ? 0 : real(size);
+    return fails(&allocations) ? 0 : real(size);
 }
 
 void *calloc(size_t count, size_t size) {
@@ -43,7 +64,7 @@ void *calloc(size_t count, size_t size) {
     if (!real) {
         real = dlsym(RTLD_NEXT, "calloc");
     }
-    return fails() ? 0 : real(count, size);
+    return fails(&allocations) ? 0 : real(count, size);
 }
 
 void *realloc(void *old, size_t size) {
@@ -51,7 +72,7 @@ void *realloc(void *old, size_t size) {
     if (!real) {
         real = dlsym(RTLD_NEXT, "realloc");
     }
-    return fails() ? 0 : real(old, size);
+    return fails(&allocations) ? 0 : real(old, size);
 }
 
 void *aligned_alloc(size_t alignment, size_t size) {
@@ -59,7 +80,7 @@ void *aligned_alloc(size_t alignment, size_t size) {
     if (!real) {
         real = dlsym(RTLD_NEXT, "aligned_alloc");
     }
-    return fails() ? 0 : real(alignment, size);
+    return fails(&allocations) ? 0 : real(alignment, size);
 }
 
 int posix_memalign(void **place, size_t alignment, size_t size) {
@@ -67,5 +88,5 @@ int posix_memalign(void **place, size_t alignment, size_t size) {
     if (!real) {
         real = dlsym(RTLD_NEXT, "posix_memalign");
     }
-    return fails() ? ENOMEM : real(place, alignment, size);
+    return fails(&allocations) ? ENOMEM : real(place, alignment, size);
 }
