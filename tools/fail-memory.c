@@ -1,11 +1,12 @@
-/* Fails the Nth allocation of a program, N being FAIL_AT, or the Nth file that it opens, N being
-   FAIL_OPEN, for want of memory: loaded before the program by LD_PRELOAD. Where there was an Nth one,
-   a file FAIL_HIT names is made, and where FAIL_TELL is set a line `refused` is written to standard
-   error. */
+/* Fails the Nth allocation of a program, N being FAIL_AT, the Nth file that it opens, N being
+   FAIL_OPEN, or the Nth thread that it makes, N being FAIL_THREAD, for want of memory: loaded before
+   the program by LD_PRELOAD. Where there was an Nth one, a file FAIL_HIT names is made, and where
+   FAIL_TELL is set a line `refused` is written to standard error. */
 #define _GNU_SOURCE
 #include <dlfcn.h>
 #include <errno.h>
 #include <fcntl.h>
+#include <pthread.h>
 #include <stdarg.h>
 #include <stdlib.h>
 #include <unistd.h>
@@ -38,6 +39,7 @@ static int fails(struct calls *calls) {
 
 static struct calls allocations = {"FAIL_AT", -1, 0};
 static struct calls openings = {"FAIL_OPEN", -1, 0};
+static struct calls threads = {"FAIL_THREAD", -1, 0};
 
 int open(const char *path, int flags, ...) {
     static int (*real)(const char *, int, mode_t);
@@ -49,6 +51,14 @@ int open(const char *path, int flags, ...) {
         real = dlsym(RTLD_NEXT, "open");
     }
     return fails(&openings) ? -1 : real(path, flags, mode);
+}
+
+int pthread_create(pthread_t *made, const pthread_attr_t *how, void *(*runs)(void *), void *given) {
+    static int (*real)(pthread_t *, const pthread_attr_t *, void *(*)(void *), void *);
+    if (!real) {
+        real = dlsym(RTLD_NEXT, "pthread_create");
+    }
+    return fails(&threads) ? EAGAIN : real(made, how, runs, given);
 }
 
 void *malloc(size_t size) {
