@@ -77,4 +77,5 @@ returns-in_err-told-clause-unwritten g c = λ is.
     let failed : c.in_err-told.field-0.0 ≡ Write = cc in
     absurd (never_unwritten (g.S.Staff.tells c.args.staff.now) (texts_of c.args.inputs.now)
     c.read_text-read.result c.tell_read.result
-    c.tell_read.ensures.read c.tell_read.ensures.unread (c.in_err-told.was ∙ ap (λ (e : RunFault). Err e) failed))
+    c.tell_read.ensures.read c.tell_read.ensures.unread
+    (c.in_err-told.was ∙ ap (λ (e : RunFault). Err e) failed))
