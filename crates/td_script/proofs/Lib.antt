@@ -1,5 +1,6 @@
 -- What the proofs of this crate share: a file a thing.
 pub mod RequestTexts
+pub mod KeyLaws
 pub mod AnswerLaws
 pub mod CommandLaws
 pub mod ReportLaws

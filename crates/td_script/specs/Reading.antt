@@ -96,6 +96,17 @@ said_at line =
     if is_skipped line then Skipped
     else elim (request_at line) [ Some r ↦ Asked r | None ↦ unasked line ]
 
+-- a request with a key: to read its line takes memory, which no other line does
+abbrev pub HasKey : Request → Type 0
+HasKey (Arrive k) = Unit {0}
+HasKey (Row k) = Unit {0}
+HasKey r = ⊥
+
+-- a line that is such a request
+abbrev pub AsksByKey : Said → Type 0
+AsksByKey (Asked r) = HasKey r
+AsksByKey said = ⊥
+
 -- a line is said to be a request exactly where it is that request's
 abbrev pub LinesAreSaid : Type 0
 LinesAreSaid =

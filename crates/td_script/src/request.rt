@@ -1,9 +1,9 @@
 //! The lines of a script that are no commands.
-ghost use Rattle.std.specs.Prelude.{◌≡◌, option_map, IfOk};
+ghost use Rattle.std.specs.Prelude.{◌≡◌, option_map, IsSome, IsSomeAnd, MatchResult};
 ghost use Rattle.td_script.specs.Reading.{verb_at, spaced_key_at, by_verb, request_at};
 ghost use Rattle.td_script.specs.Reading.{alone as alone_at, key_behind as key_behind_at};
 ghost use Rattle.td_script.specs.Reading.{number_behind as number_behind_at};
-ghost use Rattle.td_script.specs.Reading.{RequestsAreExact};
+ghost use Rattle.td_script.specs.Reading.{HasKey, RequestsAreExact};
 
 use std::alloc::{AllocError, Global};
 use td_journal::EntryNo;
@@ -69,7 +69,8 @@ fn read_spaced(text: &str) -> Option<(&str, &str)>
 
 // The same, in memory of its own.
 fn read_own_key(alloc: Global, text: &str) -> Result<Option<Key>, AllocError>
-    ensures { IfOk result (λ key. key ≡ spaced_key_at text.now) }
+    ensures { MatchResult result (λ key. key ≡ spaced_key_at text.now)
+        (λ _. IsSome (spaced_key_at text.now)) }
 {
     let Some((source, arch)) = read_spaced(text) else {
         return Ok(None);
@@ -93,7 +94,8 @@ fn number_behind(rest: &str) -> Option<EntryNo>
 
 // The key behind a space, in memory of its own.
 fn key_behind(alloc: Global, rest: &str) -> Result<Option<Key>, AllocError>
-    ensures { IfOk result (λ key. key ≡ key_behind_at rest.now) }
+    ensures { MatchResult result (λ key. key ≡ key_behind_at rest.now)
+        (λ _. IsSome (key_behind_at rest.now)) }
 {
     match strip(rest, " ") {
         Some(text) => read_own_key(alloc, text),
@@ -103,7 +105,8 @@ fn key_behind(alloc: Global, rest: &str) -> Result<Option<Key>, AllocError>
 
 // A request by its verb, and what follows that.
 fn read_by_verb(alloc: Global, verb: Verb, rest: &str) -> Result<Option<Request>, AllocError>
-    ensures { IfOk result (λ request. request ≡ by_verb verb rest.now) }
+    ensures { MatchResult result (λ request. request ≡ by_verb verb rest.now)
+        (λ _. IsSomeAnd (by_verb verb rest.now) HasKey) }
 {
     match verb {
         Verb::Undo => Ok(number_behind(rest).map(|n| Request::Undo(n))),
@@ -116,10 +119,11 @@ fn read_by_verb(alloc: Global, verb: Verb, rest: &str) -> Result<Option<Request>
     }
 }
 
-/// The request whose line it is.
+/// The request whose line it is. Memory is taken for a key alone.
 #[tactic(auto, unfolding(crate::specs::Reading::request_at))]
 pub fn read_request(alloc: Global, line: &str) -> Result<Option<Request>, AllocError>
-    ensures { IfOk result (λ request. request ≡ request_at line.now) }
+    ensures { MatchResult result (λ request. request ≡ request_at line.now)
+        (λ _. IsSomeAnd (request_at line.now) HasKey) }
 {
     let (word, rest) = part_at(line, ' ');
     match read_verb(word) {
