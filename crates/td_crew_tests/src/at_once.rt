@@ -21,7 +21,7 @@ impl AtOnce {
 impl Builds for AtOnce {
     ghost may = { λ at_once job outcome. Unit {0} };
 
-    fn build<R: Wait>(&self, rt: &R, _job: &Job) -> Outcome {
+    fn build<R: Wait>(&self, rt: &R, _job: Job) -> Outcome {
         let _last = self.all_under_way.wait(rt);
         Outcome::Built
     }
