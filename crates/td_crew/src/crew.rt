@@ -58,23 +58,21 @@ fn tell_all<N: Named, C: Ledger, T: Reports, R: Wait>(
     desk: &Desk<'_, N, C>,
     clerk: Clerk<C>,
     lines: &Lines<'_, '_, T>,
-) -> (Result<(Told, Clerk<C>), AllocError>, Shut<N>)
+) -> Result<(Told, Clerk<C>, Shut<N>), Shut<N>>
     requires fits { FitAnyBook T.fits lines.now.reports }
     requires archs { table lines.now.archs.now ≡ N.origin.stock.table }
     requires new { clerk.receipts ≡ [] }
     requires may_shut { N.may_shut ≡ true }
-    ensures parts { IfOk result.0 (λ made. made.1.parts ≡ clerk.parts) }
-    ensures few { IfOk result.0 (λ made. made.0.refused ≤ length lines.now.script.now + 1) }
-    ensures told { IfOk result.0 (λ made. AreAnswered N.table N.origin
+    ensures parts { IfOk result (λ made. made.1.parts ≡ clerk.parts) }
+    ensures few { IfOk result (λ made. made.0.refused ≤ length lines.now.script.now + 1) }
+    ensures told { IfOk result (λ made. AreAnswered N.table N.origin
         (setting_lent T.text N.origin.stock lines.now.suites.now lines.now.reports)
         lines.now.script.now made.1.receipts made.0) }
 {
     let mut clerk = clerk;
-    let told = tell_lines(rt, desk, &mut clerk, lines);
-    let shut = desk.shut(rt);
-    match told {
-        Ok(told) => (Ok((told, clerk)), shut),
-        Err(AllocError) => (Err(AllocError), shut),
+    match tell_lines(rt, desk, &mut clerk, lines) {
+        Ok(told) => Ok((told, clerk, desk.shut(rt))),
+        Err(AllocError) => Err(desk.shut(rt)),
     }
 }
 
@@ -88,38 +86,38 @@ fn tell_beside<N: Named + Send + Sync, C: Ledger + Send + Sync, T: Reports>(
     builders: u64,
     builds: &(impl Builds + Sync),
     lines: &Lines<'_, '_, T>,
-) -> (Result<(Told, Clerk<C>, u64), AllocError>, Shut<N>)
+) -> Result<(Told, Clerk<C>, u64, Shut<N>), Shut<N>>
     requires fits { FitAnyBook T.fits lines.now.reports }
     requires archs { table lines.now.archs.now ≡ N.origin.stock.table }
     requires new { clerk.receipts ≡ [] }
     requires may_shut { N.may_shut ≡ true }
-    ensures parts { IfOk result.0 (λ made. made.1.parts ≡ clerk.parts) }
-    ensures few { IfOk result.0 (λ made. made.0.refused ≤ length lines.now.script.now + 1) }
-    ensures told { IfOk result.0 (λ made. AreAnswered N.table N.origin
+    ensures parts { IfOk result (λ made. made.1.parts ≡ clerk.parts) }
+    ensures few { IfOk result (λ made. made.0.refused ≤ length lines.now.script.now + 1) }
+    ensures told { IfOk result (λ made. AreAnswered N.table N.origin
         (setting_lent T.text N.origin.stock lines.now.suites.now lines.now.reports)
         lines.now.script.now made.1.receipts made.0) }
-    ensures missing { IfOk result.0 (λ made. made.2 ≤ builders) }
-    ensures home { IfOk result.0 (λ made. made.2 < builders → IsAtEnd N.table N.origin) }
+    ensures missing { IfOk result (λ made. made.2 ≤ builders) }
+    ensures home { IfOk result (λ made. made.2 < builders → IsAtEnd N.table N.origin) }
 {
     thread::scope(
         thread::scope_env(),
         rt,
-        |scope| -> (Result<(Told, Clerk<C>, u64), AllocError>, Shut<N>)
+        |scope| -> Result<(Told, Clerk<C>, u64, Shut<N>), Shut<N>>
             requires fits { FitAnyBook T.fits lines.now.reports }
             requires archs { table lines.now.archs.now ≡ N.origin.stock.table }
             requires new { clerk.receipts ≡ [] }
             requires may_shut { N.may_shut ≡ true }
-            ensures parts { IfOk result.0 (λ made. made.1.parts ≡ clerk.parts) }
-            ensures few { IfOk result.0 (λ made.
+            ensures parts { IfOk result (λ made. made.1.parts ≡ clerk.parts) }
+            ensures few { IfOk result (λ made.
                 made.0.refused ≤ length lines.entry.now.script.now + 1) }
-            ensures told { IfOk result.0 (λ made. AreAnswered N.table N.origin
+            ensures told { IfOk result (λ made. AreAnswered N.table N.origin
                 (setting_lent T.text N.origin.stock lines.entry.now.suites.now
                 lines.entry.now.reports) lines.entry.now.script.now made.1.receipts made.0) }
-            ensures missing { IfOk result.0 (λ made. made.2 ≤ builders) }
-            ensures home { IfOk result.0 (λ made. made.2 < builders → IsAtEnd N.table N.origin) }
+            ensures missing { IfOk result (λ made. made.2 ≤ builders) }
+            ensures home { IfOk result (λ made. made.2 < builders → IsAtEnd N.table N.origin) }
         {
             let Ok(mut threads) = Vec::with_capacity(lines.alloc, hired.len()) else {
-                return (Err(AllocError), shift.desk.shut(rt));
+                return Err(shift.desk.shut(rt));
             };
             for one in hired {
                 // (a builder without a thread is missing)
@@ -131,16 +129,13 @@ fn tell_beside<N: Named + Send + Sync, C: Ledger + Send + Sync, T: Reports>(
                     continue;
                 };
                 if threads.push(thread).is_err() {
-                    return (Err(AllocError), shift.desk.shut(rt));
+                    return Err(shift.desk.shut(rt));
                 }
             }
-            let (told, shut) = tell_all(rt, shift.desk, clerk, lines);
-            match told {
-                Ok((told, clerk)) => match missing_builders(rt, threads, builders) {
-                    Ok(missing) => (Ok((told, clerk, missing)), shut),
-                    Err(AllocError) => (Err(AllocError), shut),
-                },
-                Err(AllocError) => (Err(AllocError), shut),
+            let (told, clerk, shut) = tell_all(rt, shift.desk, clerk, lines)?;
+            match missing_builders(rt, threads, builders) {
+                Ok(missing) => Ok((told, clerk, missing, shut)),
+                Err(AllocError) => Err(shut),
             }
         },
     )
@@ -172,10 +167,13 @@ fn tell_in_shift<N: Named + Send + Sync, C: Ledger + Send + Sync, T: Reports>(
     let builders = seats.len() as u64;
     let hired = hire::<N>(lines.alloc, seats)?;
     let shift = Shift::new(desk);
-    let (told, _shut) = tell_beside(rt, &shift, clerk, hired, builders, builds, lines);
-    let (mut told, clerk, missing) = told?;
-    told.refused += missing;
-    Ok((told, clerk))
+    match tell_beside(rt, &shift, clerk, hired, builders, builds, lines) {
+        Ok((mut told, clerk, missing, _shut)) => {
+            told.refused += missing;
+            Ok((told, clerk))
+        }
+        Err(_shut) => Err(AllocError),
+    }
 }
 
 // Puts the rows of a book behind what was told.

@@ -1,9 +1,9 @@
 -- Where the outcomes aren't read nothing is written, and no stream has failed.
 use Rattle.std.proofs.Common.{◌≡◌, rules}
+use Rattle.td_script.specs.declared.running.RunFault.TheVariants as fault
 use Rattle.td_script.specs.Openings.{texts_of}
 use Rattle.td_crew.specs.CrewEnds.{outcomes_of}
 use Rattle.td_crew.specs.CrewText.{crew_tells}
-use Rattle.td_script.specs.declared.running.RunFault.TheVariants as fault
 use Rattle.td_crew.specs.declared.running.CrewFault.TheVariants.{Run}
 use Rattle.td_crew.proofs.CrewRuns.{unread_calm, unread_says, unread_stops, unwritten_calm}
 use Rattle.td_crew.proofs.running.run_crew.Goals as goal
@@ -28,11 +28,14 @@ pub returns-in-Err-clause-unread : goal.returns-in-Err-clause-unread
 returns-in-Err-clause-unread g c = λ is.
     let inputs = c.args.inputs.now in
     let same : c.no_outcomes.result ≡ Run fault.Read = cc in
-    absurd (unread_calm (texts_of inputs) (outcomes_of inputs) c.no_outcomes.result c.no_outcomes.ensures.says same)
+    absurd
+    (unread_calm (texts_of inputs) (outcomes_of inputs) c.no_outcomes.result
+    c.no_outcomes.ensures.says same)
 
 pub returns-in-Err-clause-unwritten : goal.returns-in-Err-clause-unwritten
 returns-in-Err-clause-unwritten g c = λ is.
     let inputs = c.args.inputs.now in
     let same : c.no_outcomes.result ≡ Run fault.Write = cc in
     absurd
-    (unwritten_calm (texts_of inputs) (outcomes_of inputs) c.no_outcomes.result c.no_outcomes.ensures.says same)
+    (unwritten_calm (texts_of inputs) (outcomes_of inputs) c.no_outcomes.result
+    c.no_outcomes.ensures.says same)
