@@ -11,6 +11,7 @@ pub mod Told
 pub mod Sure
 pub mod UnreadRuns
 pub mod SureRuns
+pub mod RunInputs
 pub mod FormEndings
 pub mod FileEndings
 pub mod Dues

@@ -1,6 +1,8 @@
 //! The subcommand `run`: a script over the rows of an archive.
-ghost use Rattle.std.specs.Prelude.{◌≡◌, ◌≢◌, ℕ, true, false, IfOk, IfErr, string_bytes};
+ghost use Rattle.std.specs.Prelude.{◌≡◌, ◌≢◌, ℕ, true, false, Err, IfOk, IfErr, string_bytes};
+ghost use Rattle.std.specs.Result.{ForOk};
 ghost use Rattle.std.specs.Io.KnownBytes.{Keeps};
+ghost use Rattle.td_tool.specs.Ending.{ending_of_file as ending_of_file_as};
 ghost use Rattle.td_tool.specs.Runs.{EndsRun, ending_of_crew as ending_of_crew_as};
 ghost use Rattle.td_tool.specs.Runs.{ending_of_script as ending_of_script_as};
 ghost use Rattle.td_tool.specs.RunInside.{AreInputsFor, AreInputsOf, HasNoInputs, IsWithinLimit};
@@ -9,6 +11,7 @@ ghost use Rattle.td_tool.specs.RunInside.{tells_of_unread_file};
 ghost use Rattle.td_tool.specs.Streams.{IsDue};
 
 use crate::ending::{Ending, ending_of_file, ending_of_stop};
+use crate::file_texts::FileFault;
 use crate::input_fault::InputFault;
 use crate::run_files::{RunTexts, read_run_files};
 use crate::texts::Texts;
@@ -64,6 +67,29 @@ fn inputs_of(alloc: Global, texts: RunTexts, request: &RunRequest) -> Result<Inp
     })
 }
 
+// The inputs that were read, or how a run ends without them.
+fn inputs_by(
+    alloc: Global,
+    read: Result<RunTexts, FileFault>,
+    request: &RunRequest,
+) -> Result<Inputs, Ending>
+    requires { ForOk read IsWithinLimit }
+    ensures inputs { IfOk read (λ texts.
+        IfOk result (AreInputsOf (run_texts_of texts) (string_bytes request.now.suite)
+        request.now.builders)) }
+    ensures memory { IfOk read (λ _. IfErr result (λ ending. ending ≡ Ending.NoMemory)) }
+    ensures unread { IfErr read (λ f. result ≡ Err (ending_of_file_as f.role f.fault)) }
+{
+    let read = match read {
+        Ok(read) => read,
+        Err(unread) => return Err(ending_of_file(unread.role, unread.fault)),
+    };
+    match inputs_of(alloc, read, request) {
+        Ok(inputs) => Ok(inputs),
+        Err(_) => Err(Ending::NoMemory),
+    }
+}
+
 // The inputs that the files of a run hold, or how the run ends without them.
 fn inputs_for<T: Texts + Sync>(
     rt: &(impl Threads + Sync),
@@ -77,14 +103,8 @@ fn inputs_for<T: Texts + Sync>(
     ensures none { IfErr result (HasNoInputs
         (run_files_at (T.bytes texts.now) (T.can_fail texts.now) request.now)) }
 {
-    let read = match read_run_files(rt, alloc, texts, request) {
-        Ok(read) => read,
-        Err(unread) => return Err(ending_of_file(unread.role, unread.fault)),
-    };
-    match inputs_of(alloc, read, request) {
-        Ok(inputs) => Ok(inputs),
-        Err(_) => Err(Ending::NoMemory),
-    }
+    let read = read_run_files(rt, alloc, texts, request);
+    inputs_by(alloc, read, request)
 }
 
 // How the script ends that the reader has, over its inputs. Nobody builds beside it.

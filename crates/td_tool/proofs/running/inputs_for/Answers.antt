@@ -1,17 +1,26 @@
 -- `inputs_for`: the inputs, and why there are none.
-use Rattle.std.proofs.Common.{inr}
-use Rattle.td_tool.specs.RunInside.{run_texts_of}
+use Rattle.std.proofs.Common.{string_bytes}
+use Rattle.td_tool.specs.RunInside.{run_files_at}
+use Rattle.td_tool.proofs.RunInputs.{inputs_are, no_inputs, within_limit}
 use Rattle.td_tool.proofs.running.inputs_for.Goals as goal
 
-pub returns-in-Err-clause-none : goal.returns-in-Err-clause-none
-returns-in-Err-clause-none g c =
-    inr (
-      c.in-Err.unread.role,
-      c.in-Err.unread.fault,
-      c.in-Err.ensures.failed,
-      c.ending_of_file.ensures,
-    )
+pub inputs_by-requires : goal.inputs_by-requires
+inputs_by-requires g c =
+    within_limit
+    (run_files_at (g.T.Texts.bytes c.args.texts.now) (g.T.Texts.can_fail c.args.texts.now)
+    c.args.request.now) c.read_run_files-read.result c.read_run_files-read.ensures.texts
 
-pub returns-in-Ok-inputs_of-clause-inputs : goal.returns-in-Ok-inputs_of-clause-inputs
-returns-in-Ok-inputs_of-clause-inputs g c =
-    (run_texts_of c.in-Ok.read, c.in-Ok.ensures.texts, c.in-Ok-inputs_of.ensures)
+pub returns-clause-inputs : goal.returns-clause-inputs
+returns-clause-inputs g c =
+    inputs_are
+    (run_files_at (g.T.Texts.bytes c.args.texts.now) (g.T.Texts.can_fail c.args.texts.now)
+    c.args.request.now) (string_bytes c.args.request.now.suite) c.read_run_files-read.result
+    c.inputs_by.result c.read_run_files-read.ensures.texts c.inputs_by.ensures.inputs
+    c.inputs_by.ensures.unread
+
+pub returns-clause-none : goal.returns-clause-none
+returns-clause-none g c =
+    no_inputs
+    (run_files_at (g.T.Texts.bytes c.args.texts.now) (g.T.Texts.can_fail c.args.texts.now)
+    c.args.request.now) c.read_run_files-read.result c.inputs_by.result
+    c.read_run_files-read.ensures.failed c.inputs_by.ensures.memory c.inputs_by.ensures.unread
