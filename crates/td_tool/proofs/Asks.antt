@@ -1,7 +1,7 @@
 -- What is answered to words, by what they were read as.
 use Rattle.std.proofs.Common.{◌≡◌, ℕ, Bool, List, Option, Result, Ok, Err, IfOk}
 use Rattle.std.proofs.Common.{IfErr, IsOkAnd, MatchResult, None, String, Vec, map, string_bytes}
-use Rattle.std.proofs.Common.{inl, inr, refl, sym, ap, subst, ◌∙◌}
+use Rattle.std.proofs.Common.{true, false, inl, inr, refl, sym, ap, subst, ◌∙◌}
 use Rattle.std.specs.declared.alloc.Global.{Global}
 use Rattle.std.specs.Io.KnownBytes.{Keeps}
 use Rattle.td_bytes.specs.declared.text.TextFault.{TextFault}
@@ -43,13 +43,13 @@ of_given AsksFor Done words given lent are same answered asks =
     (ap (λ l. is_explained (options_of (map string_bytes l))) same ∙ sym (ap are_explained are))
     (answered (subst (λ l. AsksFor (map string_bytes l)) (sym same) here))
 
-module _ (words : List (List ℕ)) (known : Option (List ℕ)) (bytes : List ℕ → Option (List ℕ))
-    (can_fail : List ℕ → TextFault → Bool) (reads writes : Bool)
-    (old new before said : Option (List ℕ)) (status : ℕ) where
+module _ (words : List (List ℕ)) (known left : Option (List ℕ))
+    (bytes : List ℕ → Option (List ℕ)) (can_fail : List ℕ → TextFault → Bool)
+    (reads writes : Bool) (old new before said : Option (List ℕ)) (status : ℕ) where
   -- what was answered, as the functions below have it
   abbrev HasRun : Result Call WordsFault → Type 0
   HasRun r =
-      IfOk r (λ c. RanFor c.request c.explained known bytes can_fail reads writes old new before said status)
+      IfOk r (λ c. RanFor c.request c.explained known left bytes can_fail reads writes old new before said status)
 
   abbrev WasTold : Result Call WordsFault → Type 0
   WasTold r = IfErr r (λ f. IsTold f old new before said status)
@@ -62,7 +62,7 @@ module _ (words : List (List ℕ)) (known : Option (List ℕ)) (bytes : List ℕ
   answered : (Did : Ending → Type 0) (texts : Role → Option (List ℕ)) (Is : Request → Type 0)
       (r : Result Call WordsFault) (explained : Bool)
       → ((q : Request) (b : Bool)
-      → RanFor q b known bytes can_fail reads writes old new before said status → Is q
+      → RanFor q b known left bytes can_fail reads writes old new before said status → Is q
       → Ran Did b texts before said status)
       → (Keeps old new → Did NoMemory) → HasRun r → WasTold r → HasFlag explained r
       → MatchResult r (λ c. Is c.request) (λ e. e ≡ words_fault.NoMemory)
@@ -91,10 +91,10 @@ module _ (words : List (List ℕ)) (known : Option (List ℕ)) (bytes : List ℕ
       Ran (DueTo reads writes (EndsSo IsWaves (track_files bytes can_fail archs packages sources None tracker) old new))
       b (known_at bytes (waves_paths archs packages sources tracker)) before said status
   RanWords (run_of w) b =
-      Ran (DueTo reads writes (EndsRun (run_files_asked bytes can_fail w) w.suite known old new)) b
+      Ran (DueTo reads writes (EndsRun (run_files_asked bytes can_fail w) w.suite known left old new)) b
       (known_at bytes (run_paths w)) before said status
 
-  ran_words : (q : Request) (b : Bool) → RanFor q b known bytes can_fail reads writes old new before said status
+  ran_words : (q : Request) (b : Bool) → RanFor q b known left bytes can_fail reads writes old new before said status
       → RanWords (request_words q) b
   ran_words Simulate b ran = ran
   ran_words (Check p) b ran = ran
@@ -103,7 +103,7 @@ module _ (words : List (List ℕ)) (known : Option (List ℕ)) (bytes : List ℕ
   ran_words (Run r) b ran = ran
 
   ran_same : (w : RequestWords) (q : Request) (b : Bool)
-      → RanFor q b known bytes can_fail reads writes old new before said status → request_words q ≡ w
+      → RanFor q b known left bytes can_fail reads writes old new before said status → request_words q ≡ w
       → RanWords w b
   ran_same w q b ran is = subst (λ v. RanWords v b) is (ran_words q b ran)
 
@@ -113,7 +113,7 @@ module _ (words : List (List ℕ)) (known : Option (List ℕ)) (bytes : List ℕ
       → Ran (DueTo reads writes (Ends known old new)) explained (known_input known) before said status
   simulated r explained =
       answered (DueTo reads writes (Ends known old new)) (known_input known) (λ q. q ≡ Simulate) r explained
-      (λ q b ran is. subst (λ x. RanFor x b known bytes can_fail reads writes old new before said status) is ran)
+      (λ q b ran is. subst (λ x. RanFor x b known left bytes can_fail reads writes old new before said status) is ran)
       (λ kept. (record { says = kept; only = kept_only known old new kept }, tt))
 
   pub checked : (r : Result Call WordsFault) (explained : Bool) (archs packages sources : List ℕ)
@@ -158,33 +158,34 @@ module _ (words : List (List ℕ)) (known : Option (List ℕ)) (bytes : List ℕ
   pub ran_script : (r : Result Call WordsFault) (explained : Bool) (w : RunWords) → HasRun r
       → WasTold r → HasFlag explained r
       → MatchResult r (λ c. request_words c.request ≡ run_of w) (λ e. e ≡ words_fault.NoMemory)
-      → Ran (DueTo reads writes (EndsRun (run_files_asked bytes can_fail w) w.suite known old new))
+      → Ran (DueTo reads writes (EndsRun (run_files_asked bytes can_fail w) w.suite known left old new))
       explained (known_at bytes (run_paths w)) before said status
   ran_script r explained w =
-      answered (DueTo reads writes (EndsRun (run_files_asked bytes can_fail w) w.suite known old new))
+      answered (DueTo reads writes (EndsRun (run_files_asked bytes can_fail w) w.suite known left old new))
       (known_at bytes (run_paths w)) (λ q. request_words q ≡ run_of w) r explained
       (ran_same (run_of w))
       (λ kept. (
         record {
           says = inl (refl, kept);
           only = λ x are. play_only w.builders x w.suite known NoMemory tt;
+          untouched = λ tells. (let other : false ≡ true = tells in absurd cc);
         },
         tt,
       ))
 
-  pub only_asked : (r : Result Call WordsFault) (left : Option (List ℕ)) → HasRun r → WasTold r
+  pub only_asked : (r : Result Call WordsFault) → HasRun r → WasTold r
       → HasFlag (is_explained (options_of words)) r
       → MatchResult r (λ c. LeavesInput c.request known left) (λ f. Keeps known left)
       → IfOk r (λ c. Asks words (request_words c.request))
       → OnlyIfAsked words known left bytes can_fail reads writes old new before said status
-  only_asked (Ok c) left ran told flag input asks =
+  only_asked (Ok c) ran told flag input asks =
       inl (
         c.request,
         asks,
         input,
-        subst (λ b. RanFor c.request b known bytes can_fail reads writes old new before said status) flag ran,
+        subst (λ b. RanFor c.request b known left bytes can_fail reads writes old new before said status) flag ran,
       )
-  only_asked (Err (words_fault.Usage text)) left ran told flag input asks =
+  only_asked (Err (words_fault.Usage text)) ran told flag input asks =
       inr (inl (string_bytes text, told.tells), input, told.kept)
-  only_asked (Err words_fault.NoMemory) left ran told flag input asks =
+  only_asked (Err words_fault.NoMemory) ran told flag input asks =
       inr (inr told.tells, input, told.kept)

@@ -10,7 +10,7 @@ use Rattle.td_crew.specs.declared.running.CrewFault.TheVariants as crew
 use Rattle.td_tool.specs.declared.ending.Ending.TheVariants.{Done, Refused}
 use Rattle.td_tool.specs.Ending.{ending_of_form, ending_of_stop}
 use Rattle.td_tool.specs.Runs.{ending_of_crew, ending_of_script}
-use Rattle.td_tool.specs.RunInside.{tells_of_unread_file}
+use Rattle.td_tool.specs.UnreadFiles.{tells_of_unread_file}
 use Rattle.td_tool.proofs.FormEndings.{form_ends}
 
 of_form : (e : InputFault) → tells_of_unread_file (ending_of_form e) ≡ false

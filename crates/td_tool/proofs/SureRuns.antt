@@ -28,6 +28,7 @@ use Rattle.td_tool.specs.Runs.{AreKnownTexts, AreTextsOf, EndsRun, FailsAt, MayE
 use Rattle.td_tool.specs.Runs.{OnlyEnds, OnlyPlayEnds, RunFiles, Texts, ending_of_crew}
 use Rattle.td_tool.specs.Runs.{crew_size, ending_of_script, outcome_lines, script_texts}
 use Rattle.td_tool.specs.RunInside.{AreInputsFor, AreInputsOf, HasNoInputs, Plays, PlaysInputs}
+use Rattle.td_tool.specs.UnreadFiles.{tells_of_unread_file}
 use Rattle.td_tool.proofs.Sure.{given_same, given_text, known_same, one_text}
 
 -- ---- a script over readable texts
@@ -215,29 +216,33 @@ unread_ends files x role text_fault.NotText failed known =
 unread_ends files x role text_fault.NoMemory failed known = tt
 
 -- where a file isn't read, or memory is wanting for the inputs, nothing is written
-pub run_without_inputs : (files : RunFiles) (suite : List ℕ) (known old new : Option (List ℕ))
-    (ending : Ending) → HasNoInputs files ending → Keeps old new
-    → EndsRun files suite known old new ending
-run_without_inputs files suite known old new ending (inl lacks) kept = record {
+pub run_without_inputs : (files : RunFiles) (suite : List ℕ) (known left old new : Option (List ℕ))
+    (ending : Ending) → HasNoInputs files ending → Keeps known left → Keeps old new
+    → EndsRun files suite known left old new ending
+run_without_inputs files suite known left old new ending (inl lacks) same kept = record {
   says = inl (lacks, kept);
   only = λ x files-are. play_only files.builders x suite known ending
       (subst (MayEnd x.tracker) (sym lacks) tt);
+  untouched = λ tells. same;
 }
-run_without_inputs files suite known old new ending (inr (role, fault, failed, is)) kept = record {
+run_without_inputs files suite known left old new ending (inr (role, fault, failed, is)) same
+    kept = record {
   says = inr (inl ((role, fault, failed, is), kept));
   only = λ x files-are. play_only files.builders x suite known ending
       (subst (MayEnd x.tracker) (sym is) (unread_ends files x role fault failed files-are));
+  untouched = λ tells. same;
 }
 
 -- over its inputs the script ends the run
 pub run_over_inputs : (files : RunFiles) (suite : List ℕ) (inputs : Inputs)
-    (known old new : Option (List ℕ)) (ending : Ending) → AreInputsFor files suite inputs
+    (known left old new : Option (List ℕ)) (ending : Ending) → AreInputsFor files suite inputs
     → PlaysInputs files.builders inputs known old new ending
-    → EndsRun files suite known old new ending
-run_over_inputs files suite inputs known old new ending (x, texts, are) plays =
+    → tells_of_unread_file ending ≡ false → EndsRun files suite known left old new ending
+run_over_inputs files suite inputs known left old new ending (x, texts, are) plays told =
     let played = plays x suite are in
     record {
       says = inr (inr (x, texts, played.says));
       only = λ y files-are. subst (λ z. OnlyPlayEnds files.builders z suite known ending)
           (sym (same_texts files y x files-are texts)) played.only;
+      untouched = λ tells. (let other : true ≡ false = sym tells ∙ told in absurd cc);
     }

@@ -11,6 +11,7 @@ pub mod Counted
 pub mod Checks
 pub mod CheckInside
 pub mod Tracks
+pub mod UnreadFiles
 pub mod TrackInside
 pub mod Runs
 pub mod RunInside

@@ -91,28 +91,28 @@ files_asked bytes can_fail w =
     track_files bytes can_fail w.archs w.packages w.sources w.state w.tracker
 
 -- what was asked for ends so
-abbrev pub EndsFor : Request → Option (List ℕ) → (List ℕ → Option (List ℕ))
+abbrev pub EndsFor : Request → Option (List ℕ) → Option (List ℕ) → (List ℕ → Option (List ℕ))
     → (List ℕ → TextFault → Bool) → Option (List ℕ) → Option (List ℕ) → Ending → Type 0
-EndsFor Simulate known bytes can_fail old new ending = Ends known old new ending
-EndsFor (Check files) known bytes can_fail old new ending =
+EndsFor Simulate known left bytes can_fail old new ending = Ends known old new ending
+EndsFor (Check files) known left bytes can_fail old new ending =
     Checks (archive_files_at bytes can_fail files) old new ending
-EndsFor (Track r) known bytes can_fail old new ending =
+EndsFor (Track r) known left bytes can_fail old new ending =
     EndsSo IsReport (files_asked bytes can_fail (track_words r)) old new ending
-EndsFor (Waves files tracker) known bytes can_fail old new ending =
+EndsFor (Waves files tracker) known left bytes can_fail old new ending =
     EndsSo IsWaves (track_files bytes can_fail (string_bytes files.archs)
     (string_bytes files.packages) (string_bytes files.sources) None (string_bytes tracker)) old new
     ending
-EndsFor (Run r) known bytes can_fail old new ending =
-    EndsRun (run_files_asked bytes can_fail (run_words r)) (string_bytes r.suite) known old new
-    ending
+EndsFor (Run r) known left bytes can_fail old new ending =
+    EndsRun (run_files_asked bytes can_fail (run_words r)) (string_bytes r.suite) known left old
+    new ending
 
 -- it ran, and is explained or not. It tells of a failed read or write of a stream only where that
 -- may fail
-abbrev pub RanFor : Request → Bool → Option (List ℕ) → (List ℕ → Option (List ℕ))
-    → (List ℕ → TextFault → Bool) → Bool → Bool → Option (List ℕ) → Option (List ℕ)
-    → Option (List ℕ) → Option (List ℕ) → ℕ → Type 0
-RanFor request explained known bytes can_fail reads writes old new said_before said status =
-    Ran (DueTo reads writes (EndsFor request known bytes can_fail old new)) explained
+abbrev pub RanFor : Request → Bool → Option (List ℕ) → Option (List ℕ)
+    → (List ℕ → Option (List ℕ)) → (List ℕ → TextFault → Bool) → Bool → Bool → Option (List ℕ)
+    → Option (List ℕ) → Option (List ℕ) → Option (List ℕ) → ℕ → Type 0
+RanFor request explained known left bytes can_fail reads writes old new said_before said status =
+    Ran (DueTo reads writes (EndsFor request known left bytes can_fail old new)) explained
     (known_of_request request known bytes) said_before said status
 
 -- builders are asked for by nothing but a run with some: all else waits for nobody
@@ -123,7 +123,8 @@ HasNoBuilders (Track r) = Unit {0}
 HasNoBuilders (Waves files tracker) = Unit {0}
 HasNoBuilders (Run r) = r.builders ≡ 0
 
--- standard input is read for a simulation and for a run alone: for all else it is left as it was
+-- standard input is read for a simulation and for a run alone: for all else it is left as it was.
+-- When a run leaves it, `EndsRun` says
 abbrev pub LeavesInput : Request → Option (List ℕ) → Option (List ℕ) → Type 0
 LeavesInput Simulate known left = Unit {0}
 LeavesInput (Check files) known left = Keeps known left
@@ -137,6 +138,6 @@ abbrev pub OnlyIfAsked : List (List ℕ) → Option (List ℕ) → Option (List 
     → Option (List ℕ) → Option (List ℕ) → Option (List ℕ) → ℕ → Type 0
 OnlyIfAsked words known left bytes can_fail reads writes old new said_before said status =
     ((request : Request) × Asks words (request_words request) × LeavesInput request known left
-    × RanFor request (is_explained (options_of words)) known bytes can_fail reads writes old new
-    said_before said status)
+    × RanFor request (is_explained (options_of words)) known left bytes can_fail reads writes old
+    new said_before said status)
     ⊎ (TellsSome said_before said status × Keeps known left × Keeps old new)

@@ -1,5 +1,5 @@
 -- What the inner functions of `run` answer. This project's own.
-use Rattle.std.specs.Prelude.{◌≡◌, ◌⊎◌, ◌&&◌, ℕ, ◌≤◌, Bool, true, false, List, Option, length}
+use Rattle.std.specs.Prelude.{◌≡◌, ◌⊎◌, ℕ, ◌≤◌, Bool, List, Option, length}
 use Rattle.std.specs.Prelude.{option_map}
 use Rattle.std.specs.Prelude.{string_bytes}
 use Rattle.td_bytes.specs.declared.text.TextFault.{TextFault}
@@ -12,13 +12,7 @@ use Rattle.td_tool.specs.declared.run_files.RunTexts.{RunTexts}
 use Rattle.td_tool.specs.Limits.{file_limit}
 use Rattle.td_crew.specs.CrewEnds.{outcomes_of}
 use Rattle.td_tool.specs.declared.ending.Ending.{Ending}
-use Rattle.td_script.specs.declared.role.Role.{Role}
-use Rattle.td_script.specs.declared.role.Role.TheVariants.{Input}
-use Rattle.td_tool.specs.declared.input_fault.InputFault.{InputFault}
-use Rattle.td_tool.specs.declared.input_fault.InputFault.TheVariants.{NotText, TooLong, Simulation}
-use Rattle.td_tool.specs.declared.input_fault.InputFault.TheVariants.{BadOutcome, Form}
-use Rattle.td_tool.specs.declared.ending.Ending.TheVariants.{Done, Refused, BadInput, NoMemory}
-use Rattle.td_tool.specs.declared.ending.Ending.TheVariants.{CannotRead, CannotWrite}
+use Rattle.td_tool.specs.declared.ending.Ending.TheVariants.{NoMemory}
 use Rattle.td_tool.specs.Runs.{AreTextsOf, FailsAt, IsUnread, OnlyPlayEnds, PlayEnds, RunFiles}
 use Rattle.td_tool.specs.Runs.{Texts}
 use Rattle.td_tool.specs.Runs.{crew_size, outcome_lines, run_files_asked, script_texts}
@@ -79,27 +73,3 @@ AreInputsFor files suite inputs =
 -- a run that has no inputs ends so: memory has run out, or a file isn't read
 abbrev pub HasNoInputs : RunFiles → Ending → Type 0
 HasNoInputs files ending = (ending ≡ NoMemory) ⊎ IsUnread files ending
-
--- ---- what is told of a file that isn't read
-
--- a role is that of a file, and not of standard input
-abbrev pub is_of_file : Role → Bool
-is_of_file Input = false
-is_of_file role = true
-
--- a text isn't UTF-8
-abbrev pub is_no_text : InputFault → Bool
-is_no_text TooLong = false
-is_no_text NotText = true
-is_no_text (Simulation e) = false
-is_no_text (BadOutcome n) = false
-is_no_text (Form e) = false
-
--- an ending tells that a file isn't read, or isn't UTF-8
-abbrev pub tells_of_unread_file : Ending → Bool
-tells_of_unread_file Done = false
-tells_of_unread_file Refused = false
-tells_of_unread_file (BadInput role e) = is_no_text e && is_of_file role
-tells_of_unread_file NoMemory = false
-tells_of_unread_file (CannotRead role) = is_of_file role
-tells_of_unread_file CannotWrite = false

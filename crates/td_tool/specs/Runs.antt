@@ -1,6 +1,6 @@
 -- What `run` leaves on standard output, as it ends. This project's own.
-use Rattle.std.specs.Prelude.{◌≡◌, ◌⊎◌, ℕ, ◌==◌, min, Bool, List, [], Option, Result, Ok, Err, Some}
-use Rattle.std.specs.Prelude.{MatchBool, option_map, unwrap_or, if◌then◌else◌}
+use Rattle.std.specs.Prelude.{◌≡◌, ◌⊎◌, ℕ, ◌==◌, min, Bool, true, List, [], Option, Result, Ok, Err}
+use Rattle.std.specs.Prelude.{Some, MatchBool, option_map, unwrap_or, if◌then◌else◌}
 use Rattle.std.specs.Io.KnownBytes.{Keeps}
 use Rattle.td_bytes.specs.declared.text.TextFault.{TextFault}
 use Rattle.td_text.specs.Lines.{lines_of, ended}
@@ -26,6 +26,7 @@ use Rattle.td_tool.specs.Ending.{ending_of_form, ending_of_stop}
 use Rattle.td_tool.specs.Checks.{AreTexts, Files, HasFailed, files_of}
 use Rattle.td_tool.specs.Tracks.{IsKnownIfGiven, IsKnownText, IsTextIfGiven, IsUnreadBy, MayFail}
 use Rattle.td_tool.specs.Tracks.{OneFile, file_at}
+use Rattle.td_tool.specs.UnreadFiles.{tells_of_unread_file}
 
 -- ---- 1. what is read
 
@@ -208,9 +209,10 @@ OnlyPlayEnds n x suite known ending =
     MatchBool (n == 0) (OnlyEnds (script_texts x suite) known ending)
     (OnlyCrewEnds (script_texts x suite) (outcome_lines x) known ending)
 
--- a run over these files ends so: the ending is as it says, and a script over readable texts is
--- answered
-pub record EndsRun (files : RunFiles) (suite : List ℕ) (known old new : Option (List ℕ))
+-- a run over these files ends so: the ending is as it says, a script over readable texts is
+-- answered, and where a file isn't read, standard input is left as it was
+pub record EndsRun (files : RunFiles) (suite : List ℕ) (known left old new : Option (List ℕ))
     (ending : Ending) : Type 0 where
   pub says : RunSays files suite known old new ending
   pub only : (x : Texts) → AreKnownTexts files x → OnlyPlayEnds files.builders x suite known ending
+  pub untouched : tells_of_unread_file ending ≡ true → Keeps known left

@@ -125,7 +125,8 @@ fn do_alone<T: Texts + Sync, R: Reader, W: Writer>(
 ) -> Ended
     requires { HasNoBuilders request.now }
     ensures ends { EndsFor request.now
-        (R.remaining reader.old) (T.bytes texts.now) (T.can_fail texts.now)
+        (R.remaining reader.old) (R.remaining reader.new)
+        (T.bytes texts.now) (T.can_fail texts.now)
         (W.contents output.old) (W.contents output.new) result.ending }
     ensures due { IsDue (R.can_fail reader.old) (W.can_fail output.old) result.ending }
     ensures kept { IsKept
@@ -172,7 +173,8 @@ pub fn answer_alone<T: Texts + Sync, R: Reader, W: Writer, E: Writer>(
 ) -> u8
     requires { HasNoBuilders call.now.request }
     ensures request { RanFor call.now.request call.now.explained
-        (R.remaining reader.old) (T.bytes texts.now) (T.can_fail texts.now)
+        (R.remaining reader.old) (R.remaining reader.new)
+        (T.bytes texts.now) (T.can_fail texts.now)
         (R.can_fail reader.old) (W.can_fail output.old)
         (W.contents output.old) (W.contents output.new)
         (E.contents faults.old) (E.contents faults.new) result }
@@ -196,7 +198,8 @@ fn do_beside<T: Texts + Sync, R: Reader, W: Writer>(
     requires run { request.now ≡ Request.Run run.now }
     requires builders { run.now.builders ≢ 0 }
     ensures ends { EndsFor request.now
-        (R.remaining reader.old) (T.bytes texts.now) (T.can_fail texts.now)
+        (R.remaining reader.old) (R.remaining reader.new)
+        (T.bytes texts.now) (T.can_fail texts.now)
         (W.contents output.old) (W.contents output.new) result.ending }
     ensures due { IsDue (R.can_fail reader.old) (W.can_fail output.old) result.ending }
     ensures kept { IsKept
@@ -221,7 +224,8 @@ fn answer_beside<T: Texts + Sync, R: Reader, W: Writer, E: Writer>(
     requires run { call.now.request ≡ Request.Run run.now }
     requires builders { run.now.builders ≢ 0 }
     ensures request { RanFor call.now.request call.now.explained
-        (R.remaining reader.old) (T.bytes texts.now) (T.can_fail texts.now)
+        (R.remaining reader.old) (R.remaining reader.new)
+        (T.bytes texts.now) (T.can_fail texts.now)
         (R.can_fail reader.old) (W.can_fail output.old)
         (W.contents output.old) (W.contents output.new)
         (E.contents faults.old) (E.contents faults.new) result }
@@ -243,7 +247,8 @@ fn act<T: Texts + Sync, R: Reader, W: Writer, E: Writer>(
     faults: &mut E,
 ) -> u8
     ensures request { IfOk asked (λ call. RanFor call.request call.explained
-        (R.remaining reader.old) (T.bytes texts.now) (T.can_fail texts.now)
+        (R.remaining reader.old) (R.remaining reader.new)
+        (T.bytes texts.now) (T.can_fail texts.now)
         (R.can_fail reader.old) (W.can_fail output.old)
         (W.contents output.old) (W.contents output.new)
         (E.contents faults.old) (E.contents faults.new) result) }
@@ -306,7 +311,8 @@ fn answer<T: Texts + Sync, R: Reader, W: Writer, E: Writer>(
     ensures run { (w : RunWords) → AskForRun (map string_bytes words.now) w
         → Ran (DueTo (R.can_fail reader.old) (W.can_fail output.old)
         (EndsRun (run_files_asked (T.bytes texts.now) (T.can_fail texts.now) w) w.suite
-        (R.remaining reader.old) (W.contents output.old) (W.contents output.new)))
+        (R.remaining reader.old) (R.remaining reader.new)
+        (W.contents output.old) (W.contents output.new)))
         (is_explained (options_of (map string_bytes words.now)))
         (known_at (T.bytes texts.now) (run_paths w))
         (E.contents faults.old) (E.contents faults.new) result }
@@ -376,7 +382,8 @@ pub fn tool<T: Texts + Sync, R: Reader, W: Writer, E: Writer>(
         AskForRun (map string_bytes given.items) w)
         → Ran (DueTo (R.can_fail reader.old) (W.can_fail output.old)
         (EndsRun (run_files_asked (T.bytes texts.now) (T.can_fail texts.now) w) w.suite
-        (R.remaining reader.old) (W.contents output.old) (W.contents output.new)))
+        (R.remaining reader.old) (R.remaining reader.new)
+        (W.contents output.old) (W.contents output.new)))
         (are_explained words) (known_at (T.bytes texts.now) (run_paths w))
         (E.contents faults.old) (E.contents faults.new) result }
     // Other words are bad, unless memory runs out, and nothing is written. Standard input is read

@@ -1,14 +1,13 @@
 //! The subcommand `run`: a script over the rows of an archive.
-ghost use Rattle.std.specs.Prelude.{◌≡◌, ◌≢◌, ℕ, true, false, Err, IfOk, IfErr, string_bytes};
+ghost use Rattle.std.specs.Prelude.{◌≡◌, ◌≢◌, ℕ, false, Err, IfOk, IfErr, string_bytes};
 ghost use Rattle.std.specs.Result.{ForOk};
-ghost use Rattle.std.specs.Io.KnownBytes.{Keeps};
 ghost use Rattle.td_tool.specs.Ending.{ending_of_file as ending_of_file_as};
 ghost use Rattle.td_tool.specs.Runs.{EndsRun, ending_of_crew as ending_of_crew_as};
 ghost use Rattle.td_tool.specs.Runs.{ending_of_script as ending_of_script_as};
 ghost use Rattle.td_tool.specs.RunInside.{AreInputsFor, AreInputsOf, HasNoInputs, IsWithinLimit};
 ghost use Rattle.td_tool.specs.RunInside.{PlaysInputs, run_files_at, run_texts_of};
-ghost use Rattle.td_tool.specs.RunInside.{tells_of_unread_file};
 ghost use Rattle.td_tool.specs.Streams.{IsDue};
+ghost use Rattle.td_tool.specs.UnreadFiles.{tells_of_unread_file};
 
 use crate::ending::{Ending, ending_of_file, ending_of_stop};
 use crate::file_texts::FileFault;
@@ -153,10 +152,9 @@ pub fn run_alone<T: Texts + Sync, R: Reader, W: Writer>(
     ensures ends { EndsRun
         (run_files_at (T.bytes texts.now) (T.can_fail texts.now) request.now)
         (string_bytes request.now.suite)
-        (R.remaining reader.old) (W.contents output.old) (W.contents output.new) result }
+        (R.remaining reader.old) (R.remaining reader.new)
+        (W.contents output.old) (W.contents output.new) result }
     ensures due { IsDue (R.can_fail reader.old) (W.can_fail output.old) result }
-    ensures input { tells_of_unread_file result ≡ true
-        → Keeps (R.remaining reader.old) (R.remaining reader.new) }
 {
     let inputs = match inputs_for(rt, alloc, texts, request) {
         Ok(inputs) => inputs,
@@ -180,10 +178,9 @@ pub fn run_beside<T: Texts + Sync, R: Reader, W: Writer>(
     ensures ends { EndsRun
         (run_files_at (T.bytes texts.now) (T.can_fail texts.now) request.now)
         (string_bytes request.now.suite)
-        (R.remaining reader.old) (W.contents output.old) (W.contents output.new) result }
+        (R.remaining reader.old) (R.remaining reader.new)
+        (W.contents output.old) (W.contents output.new) result }
     ensures due { IsDue (R.can_fail reader.old) (W.can_fail output.old) result }
-    ensures input { tells_of_unread_file result ≡ true
-        → Keeps (R.remaining reader.old) (R.remaining reader.new) }
 {
     let inputs = match inputs_for(rt, alloc, texts, request) {
         Ok(inputs) => inputs,

@@ -8,6 +8,7 @@ pub returns : goal.returns
 returns g c =
     let words = map string_bytes c.args.words.now in
     let known = g.R.Read.remaining c.args.reader.now in
+    let left = g.R.Read.remaining c.act.new.reader in
     let bytes = g.T.Texts.bytes c.args.texts.now in
     let can_fail = g.T.Texts.can_fail c.args.texts.now in
     let reads = g.R.Reader.can_fail c.args.reader.now in
@@ -23,20 +24,19 @@ returns g c =
     let told = c.act.ensures.fault in
     let flag = c.read_words.ensures.explained in
     record {
-      simulate = λ asks. simulated words known bytes can_fail reads writes old new before said status asked
+      simulate = λ asks. simulated words known left bytes can_fail reads writes old new before said status asked
           explained ran told flag (c.read_words.ensures.simulate asks);
       check = λ archs packages sources asks.
-          checked words known bytes can_fail reads writes old new before said status asked explained archs
+          checked words known left bytes can_fail reads writes old new before said status asked explained archs
           packages sources ran told flag (c.read_words.ensures.check archs packages sources asks);
-      track = λ w asks. tracked words known bytes can_fail reads writes old new before said status asked
+      track = λ w asks. tracked words known left bytes can_fail reads writes old new before said status asked
           explained w ran told flag (c.read_words.ensures.track w asks);
       waves = λ archs packages sources tracker asks.
-          waved words known bytes can_fail reads writes old new before said status asked explained archs packages
+          waved words known left bytes can_fail reads writes old new before said status asked explained archs packages
           sources tracker ran told flag
           (c.read_words.ensures.waves archs packages sources tracker asks);
-      run = λ w asks. ran_script words known bytes can_fail reads writes old new before said status asked
+      run = λ w asks. ran_script words known left bytes can_fail reads writes old new before said status asked
           explained w ran told flag (c.read_words.ensures.run w asks);
-      others = only_asked words known bytes can_fail reads writes old new before said status asked
-          (g.R.Read.remaining c.act.new.reader) ran told flag c.act.ensures.input
-          c.read_words.ensures.only;
+      others = only_asked words known left bytes can_fail reads writes old new before said status asked
+          ran told flag c.act.ensures.input c.read_words.ensures.only;
     }

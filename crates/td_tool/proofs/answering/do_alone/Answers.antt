@@ -12,7 +12,8 @@ use Rattle.td_tool.proofs.answering.do_alone.Goals as goal
 pub returns-in-Check-clause-ends : goal.returns-in-Check-clause-ends
 returns-in-Check-clause-ends g c =
     let Says : Request → Ending → Type 0 =
-    λ q ending. EndsFor q (g.R.Read.remaining c.args.reader.now) (g.T.Texts.bytes c.args.texts.now)
+    λ q ending. EndsFor q (g.R.Read.remaining c.args.reader.now)
+    (g.R.Read.remaining c.args.reader.now) (g.T.Texts.bytes c.args.texts.now)
     (g.T.Texts.can_fail c.args.texts.now) (g.W.Write.contents c.args.output.now)
     (g.W.Write.contents c.check.new.output) ending in
     ends_alone (Says c.args.request.now) c.check.result c.alone.result c.alone.ensures
@@ -29,7 +30,8 @@ returns-in-Check-clause-short g c = short_alone _ c.check.result c.alone.result 
 pub returns-in-Track-clause-ends : goal.returns-in-Track-clause-ends
 returns-in-Track-clause-ends g c =
     let Says : Request → Ending → Type 0 =
-    λ q ending. EndsFor q (g.R.Read.remaining c.args.reader.now) (g.T.Texts.bytes c.args.texts.now)
+    λ q ending. EndsFor q (g.R.Read.remaining c.args.reader.now)
+    (g.R.Read.remaining c.args.reader.now) (g.T.Texts.bytes c.args.texts.now)
     (g.T.Texts.can_fail c.args.texts.now) (g.W.Write.contents c.args.output.now)
     (g.W.Write.contents c.track.new.output) ending in
     ends_alone (Says c.args.request.now) c.track.result c.alone-in-Track.result
@@ -49,7 +51,8 @@ returns-in-Track-clause-short g c =
 pub returns-in-Waves-clause-ends : goal.returns-in-Waves-clause-ends
 returns-in-Waves-clause-ends g c =
     let Says : Request → Ending → Type 0 =
-    λ q ending. EndsFor q (g.R.Read.remaining c.args.reader.now) (g.T.Texts.bytes c.args.texts.now)
+    λ q ending. EndsFor q (g.R.Read.remaining c.args.reader.now)
+    (g.R.Read.remaining c.args.reader.now) (g.T.Texts.bytes c.args.texts.now)
     (g.T.Texts.can_fail c.args.texts.now) (g.W.Write.contents c.args.output.now)
     (g.W.Write.contents c.track-in-Waves.new.output) ending in
     ends_alone (Says c.args.request.now) c.track-in-Waves.result c.alone-in-Waves.result
@@ -69,7 +72,8 @@ returns-in-Waves-clause-short g c =
 pub returns-in-Run-clause-ends : goal.returns-in-Run-clause-ends
 returns-in-Run-clause-ends g c =
     let Says : Request → Ending → Type 0 =
-    λ q ending. EndsFor q (g.R.Read.remaining c.args.reader.now) (g.T.Texts.bytes c.args.texts.now)
+    λ q ending. EndsFor q (g.R.Read.remaining c.args.reader.now)
+    (g.R.Read.remaining c.run_alone.new.reader) (g.T.Texts.bytes c.args.texts.now)
     (g.T.Texts.can_fail c.args.texts.now) (g.W.Write.contents c.args.output.now)
     (g.W.Write.contents c.run_alone.new.output) ending in
     ends_alone (Says c.args.request.now) c.run_alone.result c.alone-in-Run.result
@@ -145,5 +149,6 @@ returns-in-Waves-clause-steady g c =
 
 pub returns-in-Run-clause-steady : goal.returns-in-Run-clause-steady
 returns-in-Run-clause-steady g c =
-    steady_alone (g.R.Reader.can_fail c.run_alone.new.reader ≡ g.R.Reader.can_fail c.args.reader.now)
+    steady_alone
+    (g.R.Reader.can_fail c.run_alone.new.reader ≡ g.R.Reader.can_fail c.args.reader.now)
     c.run_alone.result c.alone-in-Run.result c.alone-in-Run.ensures

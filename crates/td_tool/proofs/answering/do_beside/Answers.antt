@@ -11,7 +11,8 @@ use Rattle.td_tool.proofs.answering.do_beside.Goals as goal
 pub returns-clause-ends : goal.returns-clause-ends
 returns-clause-ends g c =
     let Says : Request → Ending → Type 0 =
-    λ q ending. EndsFor q (g.R.Read.remaining c.args.reader.now) (g.T.Texts.bytes c.args.texts.now)
+    λ q ending. EndsFor q (g.R.Read.remaining c.args.reader.now)
+    (g.R.Read.remaining c.run_beside.new.reader) (g.T.Texts.bytes c.args.texts.now)
     (g.T.Texts.can_fail c.args.texts.now) (g.W.Write.contents c.args.output.now)
     (g.W.Write.contents c.run_beside.new.output) ending in
     ends_alone (Says c.args.request.now) c.run_beside.result c.alone.result c.alone.ensures

@@ -70,7 +70,8 @@ returns-in-Ok-clause-run g c = λ w.
     (DueTo (g.R.Reader.can_fail c.args.reader.now) (g.W.Writer.can_fail c.args.output.now)
     (EndsRun (run_files_asked (g.T.Texts.bytes c.args.texts.now)
     (g.T.Texts.can_fail c.args.texts.now) w) w.suite (g.R.Read.remaining c.args.reader.now)
-    (g.W.Write.contents c.args.output.now) (g.W.Write.contents c.answer.new.output)))
+    (g.R.Read.remaining c.answer.new.reader) (g.W.Write.contents c.args.output.now)
+    (g.W.Write.contents c.answer.new.output)))
     b (known_at (g.T.Texts.bytes c.args.texts.now) (run_paths w))
     (g.E.Write.contents c.args.faults.now) (g.E.Write.contents c.answer.new.faults)
     c.answer.result)
@@ -90,7 +91,9 @@ returns-in-Ok-clause-others g c =
     let before = g.E.Write.contents c.args.faults.now in
     let said = g.E.Write.contents c.answer.new.faults in
     subst (λ r. IfOk r (λ given.
-    OnlyIfAsked (map string_bytes given.items) known left bytes can_fail reads writes old new before said
+    OnlyIfAsked (map string_bytes given.items) known left bytes can_fail reads writes old new before
+    said
     c.answer.result)) (sym c.in-Ok.is)
-    (subst (λ l. OnlyIfAsked (map string_bytes l) known left bytes can_fail reads writes old new before said
+    (subst (λ l.
+    OnlyIfAsked (map string_bytes l) known left bytes can_fail reads writes old new before said
     c.answer.result) c.deref.ensures.value c.answer.ensures.others)

@@ -1,6 +1,6 @@
 -- `play_alone`: what it answers.
 use Rattle.std.proofs.Common.{◌≡◌, false, subst, sym, refl}
-use Rattle.td_tool.specs.RunInside.{tells_of_unread_file}
+use Rattle.td_tool.specs.UnreadFiles.{tells_of_unread_file}
 use Rattle.td_tool.proofs.Dues.{script_due}
 use Rattle.td_tool.proofs.FileEndings.{of_script}
 use Rattle.td_tool.proofs.SureRuns.{plays_alone}
@@ -15,7 +15,8 @@ returns-clause-plays g c = λ x suite are.
 
 pub returns-clause-told : goal.returns-clause-told
 returns-clause-told g c =
-    subst (λ e. tells_of_unread_file e ≡ false) (sym c.ending_of_script.ensures) (of_script c.run_script.result)
+    subst (λ e. tells_of_unread_file e ≡ false) (sym c.ending_of_script.ensures)
+    (of_script c.run_script.result)
 
 pub returns-clause-due : goal.returns-clause-due
 returns-clause-due g c =

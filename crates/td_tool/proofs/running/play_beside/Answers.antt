@@ -1,6 +1,6 @@
 -- `play_beside`: what it answers.
 use Rattle.std.proofs.Common.{◌≡◌, false, subst, sym, ne_eqb}
-use Rattle.td_tool.specs.RunInside.{tells_of_unread_file}
+use Rattle.td_tool.specs.UnreadFiles.{tells_of_unread_file}
 use Rattle.td_tool.proofs.Dues.{crew_due}
 use Rattle.td_tool.proofs.FileEndings.{of_crew}
 use Rattle.td_tool.proofs.SureRuns.{plays_crew}
@@ -16,7 +16,8 @@ returns-clause-plays g c = λ builders some x suite are.
 
 pub returns-clause-told : goal.returns-clause-told
 returns-clause-told g c =
-    subst (λ e. tells_of_unread_file e ≡ false) (sym c.ending_of_crew.ensures) (of_crew c.run_crew.result)
+    subst (λ e. tells_of_unread_file e ≡ false) (sym c.ending_of_crew.ensures)
+    (of_crew c.run_crew.result)
 
 pub returns-clause-due : goal.returns-clause-due
 returns-clause-due g c =

@@ -7,14 +7,16 @@ use Rattle.td_tool.proofs.running.run_alone.Goals as goal
 
 pub returns-in-Err-clause-ends : goal.returns-in-Err-clause-ends
 returns-in-Err-clause-ends g c =
-    run_without_inputs _ _ _ _ _ c.in-Err.ending c.in-Err.ensures.none (search rules)
+    run_without_inputs _ _ _ _ _ _ c.in-Err.ending c.in-Err.ensures.none (search rules)
+    (search rules)
 
 pub returns-clause-ends : goal.returns-clause-ends
 returns-clause-ends g c =
-    run_over_inputs _ _ c.in-Ok.inputs _ _ _ c.play_alone-ending.result c.in-Ok.ensures.inputs
+    run_over_inputs _ _ c.in-Ok.inputs _ _ _ _ c.play_alone-ending.result c.in-Ok.ensures.inputs
     (subst (λ n. PlaysInputs n c.in-Ok.inputs (g.R.Read.remaining c.args.reader.now)
     (g.W.Write.contents c.args.output.now) (g.W.Write.contents c.play_alone-ending.new.output)
     c.play_alone-ending.result) (sym c.requires) c.play_alone-ending.ensures.plays)
+    c.play_alone-ending.ensures.told
 
 pub returns-in-Err-clause-due : goal.returns-in-Err-clause-due
 returns-in-Err-clause-due g c =

@@ -7,12 +7,13 @@ use Rattle.td_tool.proofs.running.run_beside.Goals as goal
 
 pub returns-in-Err-clause-ends : goal.returns-in-Err-clause-ends
 returns-in-Err-clause-ends g c =
-    run_without_inputs _ _ _ _ _ c.in-Err.unread c.in-Err.ensures.none (search rules)
+    run_without_inputs _ _ _ _ _ _ c.in-Err.unread c.in-Err.ensures.none (search rules)
+    (search rules)
 
 pub returns-clause-ends : goal.returns-clause-ends
 returns-clause-ends g c =
-    run_over_inputs _ _ c.in-Ok.inputs _ _ _ c.play_beside-ending.result c.in-Ok.ensures.inputs
-    (c.play_beside-ending.ensures.plays _ c.requires)
+    run_over_inputs _ _ c.in-Ok.inputs _ _ _ _ c.play_beside-ending.result c.in-Ok.ensures.inputs
+    (c.play_beside-ending.ensures.plays _ c.requires) c.play_beside-ending.ensures.told
 
 pub returns-in-Err-clause-due : goal.returns-in-Err-clause-due
 returns-in-Err-clause-due g c =
