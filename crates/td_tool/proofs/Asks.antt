@@ -1,14 +1,16 @@
 -- What is answered to words, by what they were read as.
 use Rattle.std.proofs.Common.{◌≡◌, ℕ, Bool, List, Option, Result, Ok, Err, IfOk}
 use Rattle.std.proofs.Common.{IfErr, IsOkAnd, MatchResult, None, String, Vec, map, string_bytes}
+use Rattle.std.specs.Prelude.{codes}
 use Rattle.std.proofs.Common.{true, false, inl, inr, refl, sym, ap, subst, ◌∙◌}
 use Rattle.std.specs.declared.alloc.Global.{Global}
 use Rattle.std.specs.Io.KnownBytes.{Keeps}
 use Rattle.td_bytes.specs.declared.text.TextFault.{TextFault}
 use Rattle.td_report.specs.Transition.{IsReport, IsWaves}
-use Rattle.td_words.specs.Asked.{Asks, RequestWords, check_of, report_of, request_words, run_of}
-use Rattle.td_words.specs.Asked.{simulation, waves_of}
-use Rattle.td_words.specs.CommandLine.{RunWords, TrackWords, is_explained, options_of}
+use Rattle.td_words.specs.Asked.{Asks, IsUsage, RequestWords, builders_said, check_of, chunk_said}
+use Rattle.td_words.specs.Asked.{report_of, request_words, run_of, simulation, waves_of}
+use Rattle.td_words.specs.CommandLine.{AskFor, HasFiles, HasTracker, RunWords, TrackWords}
+use Rattle.td_words.specs.CommandLine.{is_explained, options_of}
 use Rattle.td_words.specs.declared.request.Call.{Call}
 use Rattle.td_words.specs.declared.request.Request.{Request}
 use Rattle.td_words.specs.declared.request.Request.TheVariants.{Simulate, Check, Track, Waves, Run}
@@ -49,7 +51,8 @@ module _ (words : List (List ℕ)) (known left : Option (List ℕ))
   -- what was answered, as the functions below have it
   abbrev HasRun : Result Call WordsFault → Type 0
   HasRun r =
-      IfOk r (λ c. RanFor c.request c.explained known left bytes can_fail reads writes old new before said status)
+      IfOk r (λ c. RanFor c.request c.explained known left bytes can_fail reads writes old new
+      before said status)
 
   abbrev WasTold : Result Call WordsFault → Type 0
   WasTold r = IfErr r (λ f. IsTold f old new before said status)
@@ -80,7 +83,8 @@ module _ (words : List (List ℕ)) (known left : Option (List ℕ))
 
   -- what ran for a request ran for its words
   abbrev RanWords : RequestWords → Bool → Type 0
-  RanWords simulation b = Ran (DueTo reads writes (Ends known old new)) b (known_input known) before said status
+  RanWords simulation b =
+      Ran (DueTo reads writes (Ends known old new)) b (known_input known) before said status
   RanWords (check_of archs packages sources) b =
       Ran (DueTo reads writes (Checks (files_of bytes can_fail archs packages sources) old new)) b
       (known_at bytes (archive_paths archs packages sources)) before said status
@@ -88,13 +92,16 @@ module _ (words : List (List ℕ)) (known left : Option (List ℕ))
       Ran (DueTo reads writes (EndsSo IsReport (files_asked bytes can_fail w) old new)) b
       (known_at bytes (track_paths w)) before said status
   RanWords (waves_of archs packages sources tracker) b =
-      Ran (DueTo reads writes (EndsSo IsWaves (track_files bytes can_fail archs packages sources None tracker) old new))
+      Ran (DueTo reads writes
+      (EndsSo IsWaves (track_files bytes can_fail archs packages sources None tracker) old new))
       b (known_at bytes (waves_paths archs packages sources tracker)) before said status
   RanWords (run_of w) b =
-      Ran (DueTo reads writes (EndsRun (run_files_asked bytes can_fail w) w.suite known left old new)) b
+      Ran (DueTo reads writes
+      (EndsRun (run_files_asked bytes can_fail w) w.suite known left old new)) b
       (known_at bytes (run_paths w)) before said status
 
-  ran_words : (q : Request) (b : Bool) → RanFor q b known left bytes can_fail reads writes old new before said status
+  ran_words : (q : Request) (b : Bool)
+      → RanFor q b known left bytes can_fail reads writes old new before said status
       → RanWords (request_words q) b
   ran_words Simulate b ran = ran
   ran_words (Check p) b ran = ran
@@ -103,17 +110,21 @@ module _ (words : List (List ℕ)) (known left : Option (List ℕ))
   ran_words (Run r) b ran = ran
 
   ran_same : (w : RequestWords) (q : Request) (b : Bool)
-      → RanFor q b known left bytes can_fail reads writes old new before said status → request_words q ≡ w
+      → RanFor q b known left bytes can_fail reads writes old new before said status
+      → request_words q ≡ w
       → RanWords w b
   ran_same w q b ran is = subst (λ v. RanWords v b) is (ran_words q b ran)
 
   pub simulated : (r : Result Call WordsFault) (explained : Bool) → HasRun r → WasTold r
       → HasFlag explained r
       → MatchResult r (λ c. c.request ≡ Simulate) (λ e. e ≡ words_fault.NoMemory)
-      → Ran (DueTo reads writes (Ends known old new)) explained (known_input known) before said status
+      → Ran (DueTo reads writes (Ends known old new)) explained (known_input known) before said
+      status
   simulated r explained =
-      answered (DueTo reads writes (Ends known old new)) (known_input known) (λ q. q ≡ Simulate) r explained
-      (λ q b ran is. subst (λ x. RanFor x b known left bytes can_fail reads writes old new before said status) is ran)
+      answered (DueTo reads writes (Ends known old new)) (known_input known)
+      (λ q. q ≡ Simulate) r explained
+      (λ q b ran is. subst (λ x.
+      RanFor x b known left bytes can_fail reads writes old new before said status) is ran)
       (λ kept. (record { says = kept; only = kept_only known old new kept }, tt))
 
   pub checked : (r : Result Call WordsFault) (explained : Bool) (archs packages sources : List ℕ)
@@ -123,7 +134,8 @@ module _ (words : List (List ℕ)) (known left : Option (List ℕ))
       → Ran (DueTo reads writes (Checks (files_of bytes can_fail archs packages sources) old new))
       explained (known_at bytes (archive_paths archs packages sources)) before said status
   checked r explained archs packages sources =
-      answered (DueTo reads writes (Checks (files_of bytes can_fail archs packages sources) old new))
+      answered
+      (DueTo reads writes (Checks (files_of bytes can_fail archs packages sources) old new))
       (known_at bytes (archive_paths archs packages sources))
       (λ q. request_words q ≡ check_of archs packages sources) r
       explained (ran_same (check_of archs packages sources))
@@ -144,12 +156,14 @@ module _ (words : List (List ℕ)) (known left : Option (List ℕ))
       (archs packages sources tracker : List ℕ) → HasRun r → WasTold r → HasFlag explained r
       → MatchResult r (λ c. request_words c.request ≡ waves_of archs packages sources tracker)
       (λ e. e ≡ words_fault.NoMemory)
-      → Ran (DueTo reads writes (EndsSo IsWaves (track_files bytes can_fail archs packages sources None tracker)
+      → Ran (DueTo reads writes
+      (EndsSo IsWaves (track_files bytes can_fail archs packages sources None tracker)
       old new)) explained (known_at bytes (waves_paths archs packages sources tracker)) before said
       status
   waved r explained archs packages sources tracker =
       answered
-      (DueTo reads writes (EndsSo IsWaves (track_files bytes can_fail archs packages sources None tracker) old new))
+      (DueTo reads writes
+      (EndsSo IsWaves (track_files bytes can_fail archs packages sources None tracker) old new))
       (known_at bytes (waves_paths archs packages sources tracker))
       (λ q. request_words q ≡ waves_of archs packages sources tracker) r explained
       (ran_same (waves_of archs packages sources tracker))
@@ -158,10 +172,12 @@ module _ (words : List (List ℕ)) (known left : Option (List ℕ))
   pub ran_script : (r : Result Call WordsFault) (explained : Bool) (w : RunWords) → HasRun r
       → WasTold r → HasFlag explained r
       → MatchResult r (λ c. request_words c.request ≡ run_of w) (λ e. e ≡ words_fault.NoMemory)
-      → Ran (DueTo reads writes (EndsRun (run_files_asked bytes can_fail w) w.suite known left old new))
+      → Ran (DueTo reads writes
+      (EndsRun (run_files_asked bytes can_fail w) w.suite known left old new))
       explained (known_at bytes (run_paths w)) before said status
   ran_script r explained w =
-      answered (DueTo reads writes (EndsRun (run_files_asked bytes can_fail w) w.suite known left old new))
+      answered (DueTo reads writes
+      (EndsRun (run_files_asked bytes can_fail w) w.suite known left old new))
       (known_at bytes (run_paths w)) (λ q. request_words q ≡ run_of w) r explained
       (ran_same (run_of w))
       (λ kept. (
@@ -177,15 +193,26 @@ module _ (words : List (List ℕ)) (known left : Option (List ℕ))
       → HasFlag (is_explained (options_of words)) r
       → MatchResult r (λ c. LeavesInput c.request known left) (λ f. Keeps known left)
       → IfOk r (λ c. Asks words (request_words c.request))
+      → ((archs packages sources tracker : List ℕ) → AskFor (codes "track") words
+      → HasTracker (options_of words) archs packages sources tracker
+      → IfErr r (λ e. IsUsage e chunk_said))
+      → ((archs packages sources : List ℕ) → AskFor (codes "run") words
+      → HasFiles (options_of words) archs packages sources
+      → IfErr r (λ e. IsUsage e builders_said))
       → OnlyIfAsked words known left bytes can_fail reads writes old new before said status
-  only_asked (Ok c) ran told flag input asks =
+  only_asked (Ok c) ran told flag input asks chunk builders =
       inl (
         c.request,
         asks,
         input,
-        subst (λ b. RanFor c.request b known left bytes can_fail reads writes old new before said status) flag ran,
+        subst (λ b. RanFor c.request b known left bytes can_fail reads writes old new before said
+            status) flag ran,
       )
-  only_asked (Err (words_fault.Usage text)) ran told flag input asks =
-      inr (inl (string_bytes text, told.tells), input, told.kept)
-  only_asked (Err words_fault.NoMemory) ran told flag input asks =
+  only_asked (Err (words_fault.Usage text)) ran told flag input asks chunk builders =
+      inr (
+        inl (string_bytes text, record { chunk = chunk; builders = builders }, told.tells),
+        input,
+        told.kept,
+      )
+  only_asked (Err words_fault.NoMemory) ran told flag input asks chunk builders =
       inr (inr told.tells, input, told.kept)

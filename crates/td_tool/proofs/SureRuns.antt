@@ -227,11 +227,11 @@ run_without_inputs files suite known left old new ending (inl lacks) same kept =
 }
 run_without_inputs files suite known left old new ending (inr (role, fault, failed, is)) same
     kept = record {
-  says = inr (inl ((role, fault, failed, is), kept));
-  only = λ x files-are. play_only files.builders x suite known ending
-      (subst (MayEnd x.tracker) (sym is) (unread_ends files x role fault failed files-are));
-  untouched = λ tells. same;
-}
+      says = inr (inl ((role, fault, failed, is), kept));
+      only = λ x files-are. play_only files.builders x suite known ending
+          (subst (MayEnd x.tracker) (sym is) (unread_ends files x role fault failed files-are));
+      untouched = λ tells. same;
+    }
 
 -- over its inputs the script ends the run
 pub run_over_inputs : (files : RunFiles) (suite : List ℕ) (inputs : Inputs)

@@ -13,8 +13,10 @@ use Rattle.td_words.specs.declared.request.Request.TheVariants.{Simulate, Check,
 use Rattle.td_words.specs.declared.request.WordsFault.{WordsFault}
 use Rattle.td_words.specs.declared.request.WordsFault.TheVariants as words_fault
 use Rattle.td_report.specs.Transition.{IsReport, IsWaves}
-use Rattle.td_words.specs.Asked.{Asks, request_words, run_words, track_words}
-use Rattle.td_words.specs.CommandLine.{TrackWords, is_explained, options_of}
+use Rattle.td_words.specs.Asked.{Asks, builders_said, chunk_said, request_words, run_words}
+use Rattle.td_words.specs.Asked.{track_words}
+use Rattle.td_words.specs.CommandLine.{AskFor, HasFiles, HasTracker, TrackWords, is_explained}
+use Rattle.td_words.specs.CommandLine.{options_of}
 use Rattle.td_tool.specs.declared.ending.Ending.{Ending}
 use Rattle.td_tool.specs.declared.ending.Ending.TheVariants.{NoMemory}
 use Rattle.td_tool.specs.Ending.{line_of}
@@ -71,10 +73,18 @@ pub record TellsUnread (kind : ErrorKind) (said_before said : Option (List ℕ))
   pub memory : kind ≡ OutOfMemory → LacksMemory said_before said status
   pub other : kind ≢ OutOfMemory → IsBadWords no_words said_before said status
 
--- some text says that the words are bad, or memory has run out
-abbrev pub TellsSome : Option (List ℕ) → Option (List ℕ) → ℕ → Type 0
-TellsSome said_before said status =
-    ((text : List ℕ) × IsBadWords text said_before said status)
+-- what is said of words with which nothing can be wrong but the number of a chunk, or of builders:
+-- which numbers there may be. All other texts are `clap`'s, and no clause of it says what they are
+pub record SaysWhich (words : List (List ℕ)) (text : List ℕ) : Type 0 where
+  pub chunk : (archs packages sources tracker : List ℕ) → AskFor (codes "track") words
+      → HasTracker (options_of words) archs packages sources tracker → text ≡ chunk_said
+  pub builders : (archs packages sources : List ℕ) → AskFor (codes "run") words
+      → HasFiles (options_of words) archs packages sources → text ≡ builders_said
+
+-- such a text says that the words are bad, or memory has run out
+abbrev pub TellsWhy : List (List ℕ) → Option (List ℕ) → Option (List ℕ) → ℕ → Type 0
+TellsWhy words said_before said status =
+    ((text : List ℕ) × SaysWhich words text × IsBadWords text said_before said status)
     ⊎ LacksMemory said_before said status
 
 -- ---- 2. words that ask for a subcommand
@@ -140,4 +150,4 @@ OnlyIfAsked words known left bytes can_fail reads writes old new said_before sai
     ((request : Request) × Asks words (request_words request) × LeavesInput request known left
     × RanFor request (is_explained (options_of words)) known left bytes can_fail reads writes old
     new said_before said status)
-    ⊎ (TellsSome said_before said status × Keeps known left × Keeps old new)
+    ⊎ (TellsWhy words said_before said status × Keeps known left × Keeps old new)

@@ -24,19 +24,29 @@ returns g c =
     let told = c.act.ensures.fault in
     let flag = c.read_words.ensures.explained in
     record {
-      simulate = λ asks. simulated words known left bytes can_fail reads writes old new before said status asked
+      simulate =
+          λ asks. simulated words known left bytes can_fail reads writes old new before said status
+          asked
           explained ran told flag (c.read_words.ensures.simulate asks);
       check = λ archs packages sources asks.
-          checked words known left bytes can_fail reads writes old new before said status asked explained archs
+          checked words known left bytes can_fail reads writes old new before said status asked
+          explained archs
           packages sources ran told flag (c.read_words.ensures.check archs packages sources asks);
-      track = λ w asks. tracked words known left bytes can_fail reads writes old new before said status asked
+      track =
+          λ w asks.
+          tracked words known left bytes can_fail reads writes old new before said status asked
           explained w ran told flag (c.read_words.ensures.track w asks);
       waves = λ archs packages sources tracker asks.
-          waved words known left bytes can_fail reads writes old new before said status asked explained archs packages
+          waved words known left bytes can_fail reads writes old new before said status asked
+          explained archs packages
           sources tracker ran told flag
           (c.read_words.ensures.waves archs packages sources tracker asks);
-      run = λ w asks. ran_script words known left bytes can_fail reads writes old new before said status asked
+      run =
+          λ w asks. ran_script words known left bytes can_fail reads writes old new before said
+          status asked
           explained w ran told flag (c.read_words.ensures.run w asks);
-      others = only_asked words known left bytes can_fail reads writes old new before said status asked
-          ran told flag c.act.ensures.input c.read_words.ensures.only;
+      others =
+          only_asked words known left bytes can_fail reads writes old new before said status asked
+          ran told flag c.act.ensures.input c.read_words.ensures.only
+          c.read_words.ensures.track_said c.read_words.ensures.run_said;
     }

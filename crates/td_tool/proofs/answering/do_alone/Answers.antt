@@ -100,7 +100,7 @@ pub returns-in-Check-clause-due : goal.returns-in-Check-clause-due
 returns-in-Check-clause-due g c =
     let input = g.R.Reader.can_fail c.args.reader.now in
     let output = g.W.Writer.can_fail c.args.output.now in
-    let files = c.in-Check.files.now in
+    let files = c.in-Check.files in
     ends_alone (IsDue input output) c.check.result c.alone.result c.alone.ensures
     (check_due input output (g.T.Texts.bytes c.args.texts.now)
     (g.T.Texts.can_fail c.args.texts.now) (string_bytes files.archs)
