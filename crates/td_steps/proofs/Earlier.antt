@@ -41,10 +41,6 @@ all-but-last (t ∷ a) (f ∷ front) e x xs is =
     let rest : a ++ e ∷ [] ≡ front ++ x ∷ xs = cc in
     let more = all-but-last a front e x xs rest in (more.0, (λ j. same j ∷ more.1 j))
 
-first-none : (a b : List DeskTry) → [] ≡ a ++ b → [] ≡ a
-first-none [] b is = refl
-first-none (t ∷ a) b is = absurd (cc)
-
 -- ---- 2. a step back
 
 -- what the desk knew before a step: it has done the same, or one thing less

@@ -43,7 +43,7 @@ use Rattle.td_steps.proofs.Growth.{all-grown}
 use Rattle.td_steps.proofs.Moves.{runs_are_seen}
 use Rattle.td_steps.proofs.Openings.{histories_open, opens-leads}
 use Rattle.td_steps.proofs.Parts.{Leads, leads-then}
-use Rattle.td_steps.proofs.Showing.{phase_as, Agrees}
+use Rattle.td_steps.proofs.Showing.{phase_as, Agrees, nobody}
 use Rattle.td_steps.proofs.Simulation.{Reaches, Fitting, simulated}
 use Rattle.td_steps.proofs.Tries.{done_in-append, tried_in-append}
 
@@ -103,16 +103,9 @@ starts h st n rows g many = record {
       let long = length-replicate rows closed in
       replicated (length h.opening) r Closed (omega (arith, within, long, many))
       ∙ ap (λ (x : BoardPhase). Some (phase_as (g r) x)) is;
-  hands = λ b v at. absurd (nobody b v at);
+  hands = λ b v at. absurd (nobody rows b v at);
   spare = λ b long one few. free_all n b one few;
 }
-  where
-    nobody : (b : ℕ) (v : BuilderView) → BuilderKnows (new_board rows) b v → ⊥
-    nobody zero v at =
-        not_both (new_desk rows 0) v
-        (one_at (DeskSeat (new_desk rows 0) ∷ []) 0 (DeskSeat (new_desk rows 0))
-        (Builder v) refl at)
-    nobody (suc b) v at = some-ne-none (Builder v) (sym at)
 
 -- ---- 3. the calls
 

@@ -2,7 +2,7 @@
 use Rattle.std.proofs.Common.{◌≡◌, ◌≢◌, ℕ, zero, suc, ◌-◌, ◌==◌, ◌<◌, ◌≤◌, List, [], ◌∷◌, ◌++◌}
 use Rattle.std.proofs.Common.{Option, Some, None, if◌then◌else◌, length, set, slice_get, ap, refl}
 use Rattle.std.proofs.Common.{sym, subst, ◌∙◌, ⊎_elim, arith, length-set, length-append}
-use mathlib.Core.Option.{some}
+use mathlib.Core.Option.{some, some-ne-none}
 use lib.ListN.{get_elem?}
 use Rattle.atomic_table.proofs.Lists.{at_set, at_longer}
 use Rattle.td_board.specs.declared.views.BuilderView.{BuilderView}
@@ -10,8 +10,9 @@ use Rattle.td_board.specs.declared.views.DeskView.{DeskView}
 use Rattle.td_board.specs.declared.views.View.{View}
 use Rattle.td_board.specs.declared.views.View.TheVariants.{Desk as DeskSeat, Builder}
 use Rattle.td_board.specs.Phase.{Phase as BoardPhase, closed, opened, held, noted, done}
-use Rattle.td_board.specs.Knowledge.{with_builder, new_builder}
-use Rattle.td_board.specs.Steps.{Moment, IsAt, DeskKnows, BuilderKnows, seated, learned, moved}
+use Rattle.td_board.specs.Knowledge.{new_desk, with_builder, new_builder}
+use Rattle.td_board.specs.Steps.{Moment, IsAt, DeskKnows, BuilderKnows, new_board, seated, learned}
+use Rattle.td_board.specs.Steps.{moved}
 use Rattle.td_board.proofs.Lists.{at_less, one_at, there_is, at_snoc_or_end}
 use Rattle.td_board.proofs.RowLaws.{not_both, same_builder}
 use Rattle.td_rows.specs.Table.{Table, keys_of}
@@ -66,8 +67,15 @@ phases-put xs ps g g' r p₀ p q old at beside is s x e =
     ∙ ap (λ (y : Outcome). Some (phase_as y x)) (beside s t.0))
     (at_set ps r s p x e)
 
--- the hands of builders after a step of the desk
-desk-hands : (P : ℕ → BuilderView → Type 0) (views : List View) (d : DeskView)
+-- on a new board no builder has a seat
+pub nobody : (rows b : ℕ) (v : BuilderView) → BuilderKnows (new_board rows) b v → ⊥
+nobody rows zero v at =
+    not_both (new_desk rows 0) v
+    (one_at (DeskSeat (new_desk rows 0) ∷ []) 0 (DeskSeat (new_desk rows 0)) (Builder v) refl at)
+nobody rows (suc b) v at = some-ne-none (Builder v) (sym at)
+
+-- what holds of each builder's view holds after a step of the desk
+pub desk-hands : (P : ℕ → BuilderView → Type 0) (views : List View) (d : DeskView)
     → ((b : ℕ) (v : BuilderView) → get_elem? views b ≡ some (Builder v) → P b v)
     → (b : ℕ) (v : BuilderView) → get_elem? (set views 0 (DeskSeat d)) b ≡ some (Builder v) → P b v
 desk-hands P views d old b v e =

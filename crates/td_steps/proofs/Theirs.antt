@@ -1,9 +1,9 @@
 -- The steps of builders in a run that grows, against what their seats at the board tell.
-use Rattle.std.proofs.Common.{◌≡◌, ◌≢◌, ℕ, zero, suc, ◌<◌, List, [], ◌∷◌, ◌++◌}
+use Rattle.std.proofs.Common.{◌≡◌, ◌≢◌, ℕ, suc, ◌<◌, List, [], ◌∷◌, ◌++◌}
 use Rattle.std.proofs.Common.{length, set, ap, refl, sym, subst}
 use Rattle.std.proofs.Common.{◌∙◌, ⊎_elim, arith, length-set, append-nil}
 use Rattle.std.proofs.lemmas.List.Elements.{filter-append}
-use mathlib.Core.Option.{some, some-ne-none}
+use mathlib.Core.Option.{some}
 use lib.ListN.{get_elem?}
 use Rattle.atomic_table.proofs.Lists.{at_set, at_longer, set_here, set_else}
 use Rattle.td_board.specs.declared.views.BuilderTry.{BuilderTry}
@@ -14,13 +14,14 @@ use Rattle.td_board.specs.declared.views.BuilderView.{BuilderView}
 use Rattle.td_board.specs.declared.views.DeskView.{DeskView}
 use Rattle.td_board.specs.declared.views.View.{View}
 use Rattle.td_board.specs.declared.views.View.TheVariants.{Desk as DeskSeat, Builder}
-use Rattle.td_board.specs.Knowledge.{new_desk, new_builder, with_builder}
+use Rattle.td_board.specs.Knowledge.{new_builder, with_builder}
 use Rattle.td_board.specs.Steps.{Moment, DeskKnows, BuilderKnows, new_board, seated}
 use Rattle.td_board.proofs.Lists.{at_less, one_at, there_is, at_snoc_or_end}
 use Rattle.td_board.proofs.RowLaws.{not_both, same_builder}
 use Rattle.td_rows.specs.declared.key.Key.{Key}
 use Rattle.td_core.specs.declared.step.Step.{Step}
 use Rattle.td_steps.specs.Theirs.{is_by, steps_by, steps_in, AreSteps, AreTaken}
+use Rattle.td_steps.proofs.Showing.{desk-hands, nobody}
 
 -- ---- 1. lists
 
@@ -49,27 +50,10 @@ are-then keys (t ∷ ts) us (s ∷ ss) rs first rest =
 module _ (keys : List Key) (ss : List Step) where
   -- on a new board nobody has done anything
   pub taken-new : (rows : ℕ) → AreTaken keys (new_board rows) []
-  taken-new rows = record { own = λ b v at. absurd (nobody b v at); others = λ b none. refl }
-    where
-      nobody : (b : ℕ) (v : BuilderView) → BuilderKnows (new_board rows) b v → ⊥
-      nobody zero v at =
-          not_both (new_desk rows 0) v
-          (one_at (DeskSeat (new_desk rows 0) ∷ []) 0 (DeskSeat (new_desk rows 0)) (Builder v) refl
-          at)
-      nobody (suc b) v at = some-ne-none (Builder v) (sym at)
+  taken-new rows =
+      record { own = λ b v at. absurd (nobody rows b v at); others = λ b none. refl }
 
-  -- the desk's view changes
-  desk-own : (views : List View) (d : DeskView) → (P : ℕ → BuilderView → Type 0)
-      → ((b : ℕ) (v : BuilderView) → get_elem? views b ≡ some (Builder v) → P b v)
-      → (b : ℕ) (v : BuilderView) → get_elem? (set views 0 (DeskSeat d)) b ≡ some (Builder v)
-      → P b v
-  desk-own views d P old b v at =
-      ⊎_elim
-      (λ (t : (b ≡ 0) × (DeskSeat d ≡ Builder v)). absurd (not_both d v t.1))
-      (λ (t : (b ≢ 0) × (get_elem? views b ≡ some (Builder v))). old b v t.1)
-      (at_set views 0 b (DeskSeat d) (Builder v) at)
-
-  -- and each builder's stays
+  -- each builder's view stays where the desk's changes
   stays : (views : List View) (d d1 : DeskView) → get_elem? views 0 ≡ some (DeskSeat d)
       → (b : ℕ) (v : BuilderView) → get_elem? views b ≡ some (Builder v)
       → get_elem? (set views 0 (DeskSeat d1)) b ≡ some (Builder v)
@@ -84,7 +68,7 @@ module _ (keys : List Key) (ss : List Step) where
       → m'.views ≡ set m.views 0 (DeskSeat d1) → AreTaken keys m ss → AreTaken keys m' ss
   taken-desk m m' d d1 seat is a = record {
     own = λ b v at.
-        desk-own m.views d1 (λ c u. AreSteps keys (steps_in u.tried) (steps_by c ss)) a.own b v
+        desk-hands (λ c u. AreSteps keys (steps_in u.tried) (steps_by c ss)) m.views d1 a.own b v
         (ap (λ (l : List View). get_elem? l b) (sym is) ∙ at);
     others = λ b none. a.others b (λ v at.
         none v (ap (λ (l : List View). get_elem? l b) is ∙ stays m.views d d1 seat b v at));
@@ -105,7 +89,8 @@ module _ (keys : List Key) (ss : List Step) where
             let t = there_is vs b h in
             let is : Builder v ≡ t.0 = one_at (vs ++ Builder new ∷ []) b (Builder v) t.0 at
             (at_longer vs (Builder new ∷ []) b t.0 t.1) in
-            desk-own m.views d' (λ c u. AreSteps keys (steps_in u.tried) (steps_by c ss)) a.own b v
+            desk-hands (λ c u. AreSteps keys (steps_in u.tried) (steps_by c ss)) m.views d' a.own b
+            v
             (t.1 ∙ ap some (sym is)))
             (λ (t : (b ≡ length vs) × (Builder new ≡ Builder v)).
             let none : steps_by b ss ≡ [] = a.others b (λ u there.

@@ -44,7 +44,8 @@ steps_in (ReleaseDone r ∷ ts) = ReleaseDone r ∷ steps_in ts
 steps_in (ReleaseEarly r ∷ ts) = steps_in ts
 
 -- what a builder did at the board is this step of a world. The board has a row's number for its
--- key, and how a build ended without its text
+-- key, and how a build ended without its text. In a world a finish and a release name no row: they
+-- are of the one that the builder has in hand
 abbrev pub IsStep : List Key → BuilderTry → Step → Type 0
 IsStep keys (ClaimWon r) (Claim b k) = slice_get keys r ≡ Some k
 IsStep keys (FinishDone r c) (Finish b o) = code_of o ≡ c
