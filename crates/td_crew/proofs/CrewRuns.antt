@@ -1,19 +1,24 @@
--- How a crew's run ends that is refused.
-use Rattle.std.proofs.Common.{◌≡◌, ℕ, List, Option, Err, inr, subst}
+-- How a crew's run ends: one that is refused, and one whose outcomes are read.
+use Rattle.std.proofs.Common.{◌≡◌, ℕ, List, Option, Some, Result, Ok, Err, inl, inr, subst, sym}
+use Rattle.std.specs.Prelude.{IfErr, IsErrOf, MatchResult}
 use Rattle.std.specs.Io.KnownBytes.{Keeps}
 use Rattle.td_text.proofs.SpelledLines.{AreSpelled-other}
-use Rattle.td_builder.specs.OutcomeLines.{IsFirstBad, OutcomeFits, outcome_line}
+use Rattle.td_builder.specs.declared.fault.OutcomesFault.{OutcomesFault}
+use Rattle.td_builder.specs.declared.fault.OutcomesFault.TheVariants as bad
+use Rattle.td_builder.specs.OutcomeLines.{FaultOf, IsFirstBad, OutcomeFits, outcome_line}
 use Rattle.td_script.specs.declared.running.RunFault.{RunFault}
 use Rattle.td_script.specs.declared.running.RunFault.TheVariants as fault
-use Rattle.td_script.specs.Ends.{SaysBy}
-use Rattle.td_script.specs.OpeningInside.{IsRefusedBy}
-use Rattle.td_script.specs.Openings.{Texts}
+use Rattle.td_script.specs.declared.running.ScriptEnd.{ScriptEnd}
+use Rattle.td_script.specs.Ends.{AreFine, Only, SaysBy}
+use Rattle.td_script.specs.OpeningInside.{IsRefusedBy, Stops}
+use Rattle.td_script.specs.Openings.{AreReadable, Texts, without_journal}
 use Rattle.td_script.specs.Telling.{Telling}
 use Rattle.td_script.proofs.OnlyLaws.{stops_run}
-use Rattle.td_script.proofs.WithoutJournal.{refused_too}
+use Rattle.td_script.proofs.WithoutJournal.{readable_without, refused_too}
 use Rattle.td_crew.specs.declared.running.CrewFault.{CrewFault}
 use Rattle.td_crew.specs.declared.running.CrewFault.TheVariants.{BadOutcome, Run}
-use Rattle.td_crew.specs.CrewEnds.{AreRead, CrewMayStop, CrewSays, IsNoOutcomes, StopsSo}
+use Rattle.td_crew.specs.CrewEnds.{AreRead, CrewMayStop, CrewOnly, CrewSays, IsNoOutcomes}
+use Rattle.td_crew.specs.CrewEnds.{StopsSo, UnreadMayStop, crew_end, unread_fault}
 
 -- nothing is written where a text is refused
 untouched : (May : Telling) (x : Texts) (known old new : Option (List ℕ)) (e : RunFault)
@@ -50,3 +55,65 @@ unread_calm x lines f is same = subst (IsNoOutcomes x lines) same is
 pub unwritten_calm : (x : Texts) (lines : List (List ℕ)) (f : CrewFault) → IsNoOutcomes x lines f
     → f ≡ Run fault.Write → ⊥
 unwritten_calm x lines f is same = subst (IsNoOutcomes x lines) same is
+
+-- what is told of outcomes that aren't read: the fault of a file in front of them, or theirs
+pub unread_is : (x : Texts) (lines : List (List ℕ)) (judged : Result (Unit {0}) RunFault)
+    (f : OutcomesFault) (told : CrewFault) → FaultOf lines f
+    → MatchResult judged (λ _. AreFine (without_journal x)) (IsRefusedBy (without_journal x))
+    → told ≡ unread_fault judged f → IsNoOutcomes x lines told
+unread_is x lines (Err e) f told first is same = subst (IsNoOutcomes x lines) (sym same) is
+unread_is x lines (Ok u) (bad.BadLine n) told first is same =
+    subst (IsNoOutcomes x lines) (sym same) (first, is)
+unread_is x lines (Ok u) bad.NoMemory told first is same =
+    subst (IsNoOutcomes x lines) (sym same) tt
+
+-- where all is read but memory runs out
+pub unread_only : (x : Texts) (lines : List (List ℕ)) (judged : Result (Unit {0}) RunFault)
+    (f : OutcomesFault) (told : CrewFault) → FaultOf lines f
+    → IfErr judged (λ e. AreReadable (without_journal x) → Stops (without_journal x) e)
+    → told ≡ unread_fault judged f → AreRead lines → AreReadable x → StopsSo x told
+unread_only x lines (Err e) f told first only same read fits =
+    subst (StopsSo x) (sym same) (only (readable_without x fits))
+unread_only x lines (Ok u) (bad.BadLine n) told first only same read fits =
+    absurd (bad_unread lines n first read)
+unread_only x lines (Ok u) bad.NoMemory told first only same read fits =
+    subst (StopsSo x) (sym same) tt
+
+-- and where the files in front of them are read
+pub unread_may : (x : Texts) (judged : Result (Unit {0}) RunFault) (f : OutcomesFault)
+    (told : CrewFault) → IfErr judged (λ e. AreReadable x → Stops x e)
+    → told ≡ unread_fault judged f → AreReadable x → UnreadMayStop x told
+unread_may x (Err e) f told only same fits = subst (UnreadMayStop x) (sym same) (only fits)
+unread_may x (Ok u) (bad.BadLine n) told only same fits = subst (UnreadMayStop x) (sym same) tt
+unread_may x (Ok u) bad.NoMemory told only same fits = subst (UnreadMayStop x) (sym same) tt
+
+-- ---- where the outcomes are read
+
+pub says_read : (May : Telling) (x : Texts) (lines : List (List ℕ))
+    (known old new : Option (List ℕ)) (end : Result ScriptEnd RunFault)
+    (told : Result ScriptEnd CrewFault) → AreRead lines → SaysBy May x known old new end
+    → told ≡ crew_end end → CrewSays May x lines known old new told
+says_read May x lines known old new (Ok end) told read says same =
+    subst (CrewSays May x lines known old new) (sym same) (read, says)
+says_read May x lines known old new (Err e) told read says same =
+    subst (CrewSays May x lines known old new) (sym same) (inl read, says)
+
+pub only_read : (x : Texts) (lines : List (List ℕ)) (known : Option (List ℕ))
+    (end : Result ScriptEnd RunFault) (told : Result ScriptEnd CrewFault) → AreRead lines
+    → Only x known end → told ≡ crew_end end → CrewOnly x lines known told
+only_read x lines known (Ok end) told read only same =
+    subst (CrewOnly x lines known) (sym same) (record {
+      read = λ text is fits all readable. tt;
+      unread = λ unread readable. tt;
+    })
+only_read x lines known (Err e) told read only same =
+    subst (CrewOnly x lines known) (sym same) (record {
+      read = λ text is fits all readable. only text is fits readable;
+      unread = λ unread readable. absurd (unread read);
+    })
+
+-- it stops for what the script's run stops for
+pub stops_read : (end : Result ScriptEnd RunFault) (told : Result ScriptEnd CrewFault)
+    (e : RunFault) → told ≡ crew_end end → IsErrOf told (Run e) → IsErrOf end e
+stops_read (Ok end) told e same is = absurd (let h = same in cc)
+stops_read (Err f) told e same is = let h = same in cc

@@ -1,7 +1,7 @@
 -- What a crew tells ends with the rows of the book with which its desk is closed.
 use Rattle.std.proofs.Common.{◌≡◌, ℕ, ◌+◌, true, List, ◌++◌, length, map, Option, Some, None}
 use Rattle.std.proofs.Common.{Result, Ok, Err, refl, sym, ap, ap₂, append_assoc, subst, ◌∙◌}
-use Rattle.std.specs.Prelude.{IfOk, OnOk, codes, string_bytes}
+use Rattle.std.specs.Prelude.{IfErr, IfOk, OnOk, codes, string_bytes}
 use Rattle.atomic_table.specs.Seated.{TableId}
 use Rattle.td_text.specs.Lines.{lines_of}
 use Rattle.td_rows.specs.StateWriting.{state_text}
@@ -10,6 +10,7 @@ use Rattle.td_journal.specs.Entries.{standing}
 use Rattle.td_journal.specs.Replay.{Lawful}
 use Rattle.td_journal.specs.declared.entry.Mark.{Mark}
 use Rattle.td_journal.specs.declared.journal_fault.ReadError.{ReadError}
+use Rattle.td_journal.specs.declared.journal_fault.ReadError.TheVariants.{NoMemory}
 use Rattle.td_core.specs.History.{History, history_of, opened, rows_of}
 use Rattle.td_book.specs.Reopening.{given_back}
 use Rattle.td_book.specs.Desk.{BookModel}
@@ -154,3 +155,22 @@ pub told_ok : (builders : ℕ) (s : Setting) (given : Option (List ℕ)) (rows :
 told_ok builders s given rows lines (Ok told) begun ends =
     (begun.0, begun.1, ends begun.0 begun.1)
 told_ok builders s given rows lines (Err e) begun ends = tt
+
+-- ---- 3. where none is begun
+
+-- what is told was begun
+pub told_begun : {A : Type 0} (P : Type 0) (begun : Result A ReadError)
+    (r : Result ToldText ReadError) → OnOk begun P → IfErr begun (λ e. r ≡ Err e) → OnOk r P
+told_begun P (Ok a) (Ok told) is same = is
+told_begun P (Ok a) (Err e) is same = tt
+told_begun P (Err e) (Ok told) is same = absurd (let h = same in cc)
+told_begun P (Err e) (Err f) is same = tt
+
+-- where nothing is told, nothing was begun, or memory ran out
+pub untold_begun : {A : Type 0} (P : ReadError → Type 0) (begun : Result A ReadError)
+    (r : Result ToldText ReadError) → P NoMemory → IfErr begun P
+    → IfErr begun (λ e. r ≡ Err e) → OnOk begun (IfErr r (λ e. e ≡ NoMemory)) → IfErr r P
+untold_begun P begun (Ok told) none is same memory = tt
+untold_begun P (Ok a) (Err e) none is same memory = subst P (sym memory) none
+untold_begun P (Err f) (Err e) none is same memory =
+    let h : f ≡ e = (let k = same in cc) in subst P h is

@@ -5,8 +5,12 @@ use Rattle.std.specs.Io.KnownBytes.{Keeps}
 use Rattle.td_text.specs.Lines.{lines_of, ended}
 use Rattle.td_rows.specs.declared.key.Key.{Key}
 use Rattle.td_rows.specs.declared.outcome.Outcome.{Outcome}
+use Rattle.td_builder.specs.declared.fault.OutcomesFault.{OutcomesFault}
+use Rattle.td_builder.specs.declared.fault.OutcomesFault.TheVariants as bad
 use Rattle.td_builder.specs.OutcomeLines.{AreOutcomes, IsFirstBad}
 use Rattle.td_script.specs.declared.inputs.Inputs.{Inputs}
+use Rattle.td_script.specs.declared.running.RunFault.{RunFault}
+use Rattle.td_script.specs.declared.running.RunFault.TheVariants as run
 use Rattle.td_script.specs.declared.running.ScriptEnd.{ScriptEnd}
 use Rattle.td_script.specs.Ends.{AreFine, IsScriptText, MayStop, SaysBy}
 use Rattle.td_script.specs.OpeningInside.{IsRefusedBy, Stops}
@@ -65,3 +69,14 @@ IsNoOutcomes x outcomes (Run e) = IsRefusedBy (without_journal x) e
 abbrev pub StopsSo : Texts → CrewFault → Type 0
 StopsSo x (BadOutcome n) = ⊥
 StopsSo x (Run e) = Stops x e
+
+-- why no outcomes are read: the fault of a file in front of them comes first
+abbrev pub unread_fault : Result (Unit {0}) RunFault → OutcomesFault → CrewFault
+unread_fault (Err e) fault = Run e
+unread_fault (Ok u) (bad.BadLine n) = BadOutcome n
+unread_fault (Ok u) bad.NoMemory = Run run.NoMemory
+
+-- the end of a run whose outcomes are read is that of the script
+abbrev pub crew_end : Result ScriptEnd RunFault → Result ScriptEnd CrewFault
+crew_end (Ok end) = Ok end
+crew_end (Err e) = Err (Run e)

@@ -1,5 +1,5 @@
 //! A crew: a clerk beside builders.
-ghost use Rattle.std.specs.Prelude.{◌≡◌, ◌+◌, ◌-◌, ◌≤◌, ◌<◌, ◌^◌, ◌∷◌, [], All, IfErr, IfOk};
+ghost use Rattle.std.specs.Prelude.{◌≡◌, ◌+◌, ◌-◌, ◌≤◌, ◌<◌, ◌^◌, ◌∷◌, [], All, Err, IfErr, IfOk};
 ghost use Rattle.std.specs.Prelude.{OnOk, length, option_map, string_bytes, true};
 ghost use Rattle.td_desk.specs.Clerks.{all_parts, all_receipts};
 ghost use Rattle.td_board.specs.Knowledge.{new_desk};
@@ -309,6 +309,37 @@ fn begin<'a, N: Named, C: Ledger>(
     }
 }
 
+// What a crew tells of a script at a desk, if one was begun.
+fn tell_if_begun<N: Named + Send + Sync, C: Ledger + Send + Sync, T: Reports>(
+    rt: &(impl Threads + Wait + Sync),
+    begun: Result<(Desk<'_, N, C>, Clerk<C>), ReadError>,
+    seats: Vec<BuilderSeat>,
+    builds: &(impl Builds + Sync),
+    lines: &Lines<'_, '_, T>,
+) -> Result<Told, ReadError>
+    requires seats { All (λ s. s.table ≡ N.table) seats.items }
+    requires few { length seats.items ≤ max_builders }
+    requires fits { FitAnyBook T.fits lines.now.reports }
+    requires archs { table lines.now.archs.now ≡ N.origin.stock.table }
+    requires new { IfOk begun (λ made. made.1 ≡ record { parts = 1024; receipts = [] }) }
+    requires opened { N.opened ≡ marks_begun N.origin.journal }
+    requires short { OnOk begun (IsShort N.origin.journal) }
+    requires may_shut { N.may_shut ≡ true }
+    ensures told { IfOk result (EndsFrom (length seats.items)
+        (setting_lent T.text N.origin.stock lines.now.suites.now lines.now.reports)
+        N.origin.journal N.origin.rows lines.now.script.now) }
+    ensures refused { IfErr begun.entry (λ fault. result ≡ Err fault) }
+    ensures memory { OnOk begun.entry (IfErr result (λ fault. fault ≡ ReadError.NoMemory)) }
+{
+    match begun {
+        Ok((desk, clerk)) => match tell_at(rt, desk, clerk, seats, builds, lines) {
+            Ok(told) => Ok(told),
+            Err(AllocError) => Err(ReadError::NoMemory),
+        },
+        Err(fault) => Err(fault),
+    }
+}
+
 // What a crew at the named board tells of a script.
 fn tell_named<N: Named + Send + Sync, C: Ledger + Send + Sync, T: Reports>(
     rt: &(impl Threads + Wait + Sync),
@@ -348,13 +379,8 @@ fn tell_named<N: Named + Send + Sync, C: Ledger + Send + Sync, T: Reports>(
         IsJournalIfGiven rows (option_map (λ s. s.now) lines.now.journal)
         → fault ≡ ReadError.NoMemory) }
 {
-    match begin::<N, C>(lines.alloc, board, seat, rows, supply, blank, lines.journal) {
-        Ok((desk, clerk)) => match tell_at(rt, desk, clerk, seats, builds, lines) {
-            Ok(told) => Ok(told),
-            Err(AllocError) => Err(ReadError::NoMemory),
-        },
-        Err(fault) => Err(fault),
-    }
+    let begun = begin::<N, C>(lines.alloc, board, seat, rows, supply, blank, lines.journal);
+    tell_if_begun(rt, begun, seats, builds, lines)
 }
 
 /// What a crew tells of a script from these rows, or from the journal over them that is gone on

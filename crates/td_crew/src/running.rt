@@ -6,7 +6,7 @@ ghost use Rattle.td_script.specs.Asking.{IsFit, IsToldOf};
 ghost use Rattle.td_script.specs.Ends.{Only, SaysBy};
 ghost use Rattle.td_script.specs.Openings.{AreReadable, texts_of, without_journal};
 ghost use Rattle.td_crew.specs.CrewEnds.{AreRead, CrewOnly, CrewSays, IsNoOutcomes, StopsSo};
-ghost use Rattle.td_crew.specs.CrewEnds.{UnreadMayStop, outcomes_of};
+ghost use Rattle.td_crew.specs.CrewEnds.{UnreadMayStop, crew_end, outcomes_of, unread_fault};
 ghost use Rattle.td_crew.specs.CrewText.{crew_tells};
 
 use crate::crew::{Crew, tell_script};
@@ -72,6 +72,19 @@ fn lines_in(inputs: &Inputs) -> &str
     }
 }
 
+// Why no outcomes are read, by what is told of the files before them.
+fn why_unread(judged: Result<(), RunFault>, fault: OutcomesFault) -> CrewFault
+    ensures { result ≡ unread_fault judged fault }
+{
+    match judged {
+        Err(refused) => CrewFault::Run(refused),
+        Ok(()) => match fault {
+            OutcomesFault::BadLine(line) => CrewFault::BadOutcome(line),
+            OutcomesFault::NoMemory => CrewFault::Run(RunFault::NoMemory),
+        },
+    }
+}
+
 // Why no outcomes are read. The other files come before them, and the journal behind.
 fn no_outcomes(
     rt: &(impl Threads + Sync),
@@ -86,12 +99,16 @@ fn no_outcomes(
     ensures unread { AreReadable (without_journal (texts_of inputs.now))
         → UnreadMayStop (without_journal (texts_of inputs.now)) result }
 {
-    match judge_files(rt, alloc, inputs) {
-        Err(refused) => CrewFault::Run(refused),
-        Ok(()) => match fault {
-            OutcomesFault::BadLine(line) => CrewFault::BadOutcome(line),
-            OutcomesFault::NoMemory => CrewFault::Run(RunFault::NoMemory),
-        },
+    why_unread(judge_files(rt, alloc, inputs), fault)
+}
+
+// How a run ends whose outcomes are read.
+fn ended(end: Result<ScriptEnd, RunFault>) -> Result<ScriptEnd, CrewFault>
+    ensures { result ≡ crew_end end }
+{
+    match end {
+        Ok(end) => Ok(end),
+        Err(fault) => Err(CrewFault::Run(fault)),
     }
 }
 
@@ -117,8 +134,7 @@ pub fn run_crew<R: Reader, W: Writer, H: Threads + Wait + Sync>(
         Ok(outcomes) => outcomes,
         Err(fault) => return Err(no_outcomes(rt, alloc, inputs, fault)),
     };
-    match run_crew_with(rt, alloc, inputs, reader, writer, &outcomes) {
-        Ok(end) => Ok(end),
-        Err(fault) => Err(CrewFault::Run(fault)),
-    }
+    ended(run_crew_with(
+        rt, alloc, inputs, reader, writer, &outcomes,
+    ))
 }

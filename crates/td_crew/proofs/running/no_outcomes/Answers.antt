@@ -1,21 +1,20 @@
--- Outcomes that are read have no first bad line.
-use Rattle.std.proofs.Common.{subst}
-use Rattle.td_builder.specs.OutcomeLines.{FaultOf}
-use Rattle.td_builder.specs.declared.fault.OutcomesFault.{OutcomesFault}
-use Rattle.td_script.specs.Openings.{texts_of}
-use Rattle.td_script.proofs.WithoutJournal.{readable_without}
+-- A file that is refused comes before the outcomes, and what is told of them is their first bad line.
+use Rattle.td_script.specs.Openings.{texts_of, without_journal}
 use Rattle.td_crew.specs.CrewEnds.{outcomes_of}
-use Rattle.td_crew.proofs.CrewRuns.{bad_unread}
+use Rattle.td_crew.proofs.CrewRuns.{unread_is, unread_may, unread_only}
 use Rattle.td_crew.proofs.running.no_outcomes.Goals as goal
 
-pub returns-in-Err-clause-only : goal.returns-in-Err-clause-only
-returns-in-Err-clause-only g c =
-    λ read readable.
-    c.in-Err.ensures.only (readable_without (texts_of c.args.inputs.now) readable)
+pub returns-clause-says : goal.returns-clause-says
+returns-clause-says g c =
+    unread_is (texts_of c.args.inputs.now) (outcomes_of c.args.inputs.now) c.judge_files.result
+    c.args.fault c.why_unread.result c.requires c.judge_files.ensures.fine c.why_unread.ensures
 
-pub returns-in-BadLine-clause-only : goal.returns-in-BadLine-clause-only
-returns-in-BadLine-clause-only g c =
-    λ read readable. absurd
-    (bad_unread (outcomes_of c.args.inputs.now) c.in-BadLine.line
-    (subst (λ (e : OutcomesFault). FaultOf (outcomes_of c.args.inputs.now) e) c.in-BadLine.is
-    c.requires) read)
+pub returns-clause-only : goal.returns-clause-only
+returns-clause-only g c =
+    unread_only (texts_of c.args.inputs.now) (outcomes_of c.args.inputs.now) c.judge_files.result
+    c.args.fault c.why_unread.result c.requires c.judge_files.ensures.only c.why_unread.ensures
+
+pub returns-clause-unread : goal.returns-clause-unread
+returns-clause-unread g c =
+    unread_may (without_journal (texts_of c.args.inputs.now)) c.judge_files.result c.args.fault
+    c.why_unread.result c.judge_files.ensures.only c.why_unread.ensures

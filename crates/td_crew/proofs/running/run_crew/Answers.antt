@@ -5,7 +5,8 @@ use Rattle.td_script.specs.Openings.{texts_of}
 use Rattle.td_crew.specs.CrewEnds.{outcomes_of}
 use Rattle.td_crew.specs.CrewText.{crew_tells}
 use Rattle.td_crew.specs.declared.running.CrewFault.TheVariants.{Run}
-use Rattle.td_crew.proofs.CrewRuns.{unread_calm, unread_says, unread_stops, unwritten_calm}
+use Rattle.td_crew.proofs.CrewRuns.{only_read, says_read, stops_read, unread_calm, unread_says}
+use Rattle.td_crew.proofs.CrewRuns.{unread_stops, unwritten_calm}
 use Rattle.td_crew.proofs.running.run_crew.Goals as goal
 
 pub returns-in-Err-clause-says : goal.returns-in-Err-clause-says
@@ -39,3 +40,29 @@ returns-in-Err-clause-unwritten g c = λ is.
     absurd
     (unwritten_calm (texts_of inputs) (outcomes_of inputs) c.no_outcomes.result
     c.no_outcomes.ensures.says same)
+
+-- where they are read, the run ends as the script's
+pub returns-clause-says : goal.returns-clause-says
+returns-clause-says g c =
+    let inputs = c.args.inputs.now in
+    says_read (crew_tells inputs.builders) (texts_of inputs) (outcomes_of inputs)
+    (g.R.Read.remaining c.args.reader.now) (g.W.Write.contents c.args.writer.now)
+    (g.W.Write.contents c.run_crew_with.new.writer) c.run_crew_with.result c.ended.result
+    (search rules) c.run_crew_with.ensures.says c.ended.ensures
+
+pub returns-clause-only : goal.returns-clause-only
+returns-clause-only g c =
+    let inputs = c.args.inputs.now in
+    only_read (texts_of inputs) (outcomes_of inputs) (g.R.Read.remaining c.args.reader.now)
+    c.run_crew_with.result c.ended.result (search rules) c.run_crew_with.ensures.only
+    c.ended.ensures
+
+pub returns-clause-unread : goal.returns-clause-unread
+returns-clause-unread g c = λ is.
+    c.run_crew_with.ensures.unread
+    (stops_read c.run_crew_with.result c.ended.result fault.Read c.ended.ensures is)
+
+pub returns-clause-unwritten : goal.returns-clause-unwritten
+returns-clause-unwritten g c = λ is.
+    c.run_crew_with.ensures.unwritten
+    (stops_read c.run_crew_with.result c.ended.result fault.Write c.ended.ensures is)
