@@ -1,5 +1,5 @@
 //! Where builders find rows, and how a row is built.
-ghost use Rattle.std.specs.Prelude.{◌≡◌, ℕ, List, false, ◌⊎◌, IfOk, IfErr, OnOk, OnErr};
+ghost use Rattle.std.specs.Prelude.{◌≡◌, ℕ, List, ◌⊎◌, IfOk, IfErr, OnOk, OnErr, OnSome};
 ghost use Rattle.std.specs.Prelude.{MatchBool};
 ghost use Rattle.td_board.specs.Answers.{IsWon, IsLost};
 ghost use Rattle.td_book.specs.Deeds.{code_of};
@@ -33,6 +33,9 @@ pub trait Floor {
     ghost use Rattle.td_book.specs.declared.starting.Job.{Job as JobValue};
     ghost use Rattle.td_rows.specs.declared.outcome.Outcome.{Outcome as OutcomeValue};
     ghost use Rattle.td_builder.specs.declared.stop.WorkStop.{WorkStop as WorkStopValue};
+
+    /// What it gives a builder to go home with: none goes home without it.
+    type Home;
 
     /// The table of the board at which its builders sit.
     ghost table: { Self → TableId };
@@ -90,8 +93,8 @@ pub trait Floor {
             ⊎ IsFinished (ends self.now) outcome seat.old seat.new) }
         ensures err { IfErr result (λ e. stopped self.now (finish_stop e)) };
 
-    /// Waits until a row waits for a builder, or the floor is shut. False: it is shut, and none
-    /// waits.
-    fn wait_for_work<R: Wait>(&self, rt: &R) -> bool
-        ensures { result ≡ false → ended self.now };
+    /// Waits until a row waits for a builder, or the floor is shut. Where it is shut, and none
+    /// waits, the builder gets what it goes home with.
+    fn wait_for_work<R: Wait>(&self, rt: &R) -> Option<Self::Home>
+        ensures { OnSome result (ended self.now) };
 }

@@ -1,6 +1,6 @@
 //! A builder's work.
 ghost use Rattle.std.specs.Prelude.{◌≡◌, ◌≤◌, ◌<◌, ◌⊎◌, ◌^◌, ◌-◌, ℕ, List, [], IfOk, IfErr, OnOk};
-ghost use Rattle.std.specs.Prelude.{OnErr};
+ghost use Rattle.std.specs.Prelude.{IsSome, OnErr, OnSome};
 ghost use Rattle.td_builder.specs.Floors.{IsHolding, IsIdle};
 ghost use Rattle.td_builder.specs.Rounds.{Asks, AsksInRounds, Claims, IsAsked};
 ghost use Rattle.td_builder.specs.Turns.{Worked};
@@ -11,24 +11,25 @@ use std::sync::Wait;
 use td_board::{BuilderSeat, Hand};
 
 /// Claims rows of the floor, in the order in which it offers them, and builds them until the floor
-/// ends, and answers how many builds were finished. A row that the seat comes with is built first.
-/// After a stop the seat says where the builder stands, and the next `work` goes on from there. It
-/// ends at the last `u64`, too.
+/// ends, and answers how many builds were finished, and with what the builder goes home. A row that
+/// the seat comes with is built first. After a stop the seat says where the builder stands, and the
+/// next `work` goes on from there. It ends at the last `u64`, too, without going home.
 pub fn work<F: Floor, B: Builds, R: Wait>(
     rt: &R,
     floor: &F,
     seat: &mut BuilderSeat,
     builds: &B,
-) -> Result<u64, WorkStop>
+) -> Result<(u64, Option<F::Home>), WorkStop>
     requires { seat.old.table ≡ F.table floor.now }
-    ensures worked { IfOk result (λ n. Worked (F.jobs floor.now) (B.may builds.now)
-        (F.ends floor.now) n seat.old seat.new) }
+    ensures worked { IfOk result (λ done. Worked (F.jobs floor.now) (B.may builds.now)
+        (F.ends floor.now) done.0 seat.old seat.new) }
     // All that is offered is asked for, but at the last `u64`.
-    ensures asked { IfOk result (λ n. (left : List ℕ)
+    ensures asked { IfOk result (λ done. (left : List ℕ)
         × AsksInRounds (F.rows floor.now) (F.offers floor.now) left seat.old seat.new
-        × (n < 2 ^ 64 - 1 → left ≡ [])) }
+        × (done.0 < 2 ^ 64 - 1 → left ≡ [])) }
     ensures idle { OnOk result (IsIdle seat.new) }
-    ensures ended { IfOk result (λ n. F.ended floor.now ⊎ (n ≡ 2 ^ 64 - 1)) }
+    ensures ended { IfOk result (λ done. OnSome done.1 (F.ended floor.now)) }
+    ensures home { IfOk result (λ done. IsSome done.1 ⊎ (done.0 ≡ 2 ^ 64 - 1)) }
     ensures meanwhile { OnErr result ((n : ℕ) × Worked (F.jobs floor.now) (B.may builds.now)
         (F.ends floor.now) n seat.old seat.new) }
     ensures asked_meanwhile { OnErr result ((left : List ℕ)
@@ -45,11 +46,14 @@ pub fn work<F: Floor, B: Builds, R: Wait>(
             return Err(WorkStop::NoMemory);
         };
         built += build_each(rt, floor, ready.as_slice(), u64::MAX - built, seat, builds)?;
-        if built == u64::MAX || !floor.wait_for_work(rt) {
-            return Ok(built);
+        if built == u64::MAX {
+            return Ok((built, None));
+        }
+        if let Some(home) = floor.wait_for_work(rt) {
+            return Ok((built, Some(home)));
         }
     }
-    Ok(built)
+    Ok((built, None))
 }
 
 // Claims each row, and builds those whose claims are won, so many at most. Answers how many builds

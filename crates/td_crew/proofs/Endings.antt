@@ -2,6 +2,7 @@
 use Rattle.std.proofs.Common.{◌≡◌, ℕ, ◌+◌, true, List, ◌++◌, length, map, Option, Some, None}
 use Rattle.std.proofs.Common.{Result, Ok, Err, refl, sym, ap, ap₂, append_assoc, subst, ◌∙◌}
 use Rattle.std.specs.Prelude.{IfErr, IfOk, OnOk, codes, string_bytes}
+use Rattle.std.proofs.Math.Logic.{∥∥₁_map}
 use Rattle.atomic_table.specs.Seated.{TableId}
 use Rattle.td_text.specs.Lines.{lines_of}
 use Rattle.td_rows.specs.StateWriting.{state_text}
@@ -114,12 +115,12 @@ rows_closed table origin opened receipts told mid now b closing of still counted
 -- what is told of the lines, of those who are missing and of the closing is what a crew may tell
 pub ends_closed : (builders : ℕ) (table : TableId) (origin : Origin) (s : Setting)
     (opened : List Mark) (script : List ℕ) (receipts : List Receipt) (told now : ToldText)
-    → s.stock ≡ origin.stock → opened ≡ marks_begun origin.journal → IsShort origin.journal
-    → IsShift table origin s script builders receipts told
+    (missing : ℕ) → s.stock ≡ origin.stock → opened ≡ marks_begun origin.journal
+    → IsShort origin.journal → IsShift table origin s script builders missing receipts told
     → IsClosed table origin opened receipts told now
     → EndsFrom builders s origin.journal origin.rows script now
-ends_closed builders table origin s opened script receipts told now stock marks short shift closed =
-    λ h is.
+ends_closed builders table origin s opened script receipts told now missing stock marks short shift
+    closed = λ h is.
     let of =
     λ (b : BookModel) (o : IsOfDesk table origin b). crew_book table origin s h b stock is o in
     let last = of closed.book closed.of_desk in
@@ -139,9 +140,9 @@ ends_closed builders table origin s opened script receipts told now stock marks 
       counted = closed.counted ∙ ap length same;
       text_is = closed.text
           ∙ ap (λ (l : List ℕ). l ++ rows_told (rows_of closed.book.history)) shift.text_is;
-      missing = shift.missing;
+      missing = missing;
       few = shift.few;
-      home = λ some. let end = shift.home some in (end.0, of end.0 end.1, end.2);
+      home = λ some. ∥∥₁_map (shift.home some) (λ end. (end.0, of end.0 end.1, end.2));
       closing = closed.closing;
       closed = subst (λ (found : List Receipt). IsClosing receipts found closed.closing) same
           closed.closed;

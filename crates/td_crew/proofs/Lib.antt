@@ -2,7 +2,6 @@
 mod Heads
 pub mod CrewRuns
 pub mod Endings
-pub mod Homes
 pub mod BegunMarks
 pub mod Replied
 pub mod ToldSoFar

@@ -13,7 +13,7 @@ use Rattle.td_journal.specs.declared.entry.Mark.{Mark}
 use Rattle.td_book.specs.Desk.{BookModel}
 use Rattle.td_book.specs.Ready.{is_any_queued}
 use Rattle.td_desk.specs.declared.receipt.Receipt.{Receipt}
-use Rattle.td_desk.specs.Calls.{IsOfDesk}
+use Rattle.td_desk.specs.Calls.{IsAtEnd, IsOfDesk}
 use Rattle.td_desk.specs.Changes.{changes, still_undone}
 use Rattle.td_desk.specs.GoingOn.{GoesOn}
 use Rattle.td_desk.specs.Marks.{marks_in}
@@ -22,7 +22,6 @@ use Rattle.td_script.specs.declared.told.Told.{Told as ToldText}
 use Rattle.td_script.specs.Openings.{IsBegun}
 use Rattle.td_script.specs.Replies.{Setting, ended}
 use Rattle.td_script.specs.Telling.{Telling}
-use Rattle.td_crew.specs.Home.{IsAtEnd}
 use Rattle.td_crew.specs.Replies.{DeskReply, MayReply}
 
 -- ---- 1. the lines
@@ -95,7 +94,7 @@ pub record EndsWithRows (builders : ℕ) (s : Setting) (begun : History) (script
   pub text_is : text ≡ told.text ++ rows_told (rows_of book.history)
   pub missing : ℕ
   pub few : missing ≤ builders
-  pub home : missing < builders → IsHome s begun
+  pub home : missing < builders → ∥ IsHome s begun ∥₁
   pub closing : ℕ
   pub closed : IsClosing told.receipts (changes (map (λ m. m.mark) begun.journal) book) closing
   pub refused_is : refused ≡ told.refused + missing + closing
@@ -140,15 +139,14 @@ abbrev pub AreAnswered : TableId → Origin → Setting → List ℕ → List Re
 AreAnswered table origin s script receipts told =
     AreTold (MayReply (IsOfDesk table origin) s) (lines_of script) untold (told_with told receipts)
 
--- and so many builders are missing at most
+-- and so many of the builders are missing
 pub record IsShift (table : TableId) (origin : Origin) (s : Setting) (script : List ℕ)
-    (builders : ℕ) (receipts : List Receipt) (told : ToldText) : Type 0 where
+    (builders missing : ℕ) (receipts : List Receipt) (told : ToldText) : Type 0 where
   pub lines : ToldText
   pub are : AreAnswered table origin s script receipts lines
   pub text_is : string_bytes told.text ≡ string_bytes lines.text
-  pub missing : ℕ
   pub few : missing ≤ builders
-  pub home : missing < builders → IsAtEnd table origin
+  pub home : missing < builders → ∥ IsAtEnd table origin ∥₁
   pub refused_is : told.refused ≡ lines.refused + missing
 
 -- the rows of a history are put behind what was told

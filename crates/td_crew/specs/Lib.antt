@@ -2,5 +2,4 @@
 pub mod Replies
 pub mod CrewEnds
 pub mod CrewText
-pub mod Home
 pub mod Lines

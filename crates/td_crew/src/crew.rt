@@ -15,10 +15,9 @@ ghost use Rattle.td_desk.specs.Calls.{IsOfDesk};
 ghost use Rattle.td_desk.specs.Changes.{changes, still_undone};
 ghost use Rattle.td_crew.specs.CrewText.{AreAnswered, EndsFrom, HasBegun, HasRows, IsClosed};
 ghost use Rattle.td_crew.specs.CrewText.{IsClosing, IsShift, IsShort, crew_tells, marks_begun};
-ghost use Rattle.td_crew.specs.Home.{IsAtEnd};
 ghost use Rattle.td_crew.specs.Lines.{FitAnyBook};
 
-use crate::building::{GoesHome, build, missing_builders};
+use crate::building::serve;
 use crate::lines::Lines;
 use crate::shift::Shift;
 use crate::told::tell_lines;
@@ -31,7 +30,7 @@ use std::thread::Threads;
 use td_board::{Board, BuilderSeat, DeskSeat};
 use td_book::Book;
 use td_builder::Builds;
-use td_desk::{Clerk, Desk, Hired, Named, PARTS, Shut, hire};
+use td_desk::{Clerk, Desk, Hired, Homes, Named, PARTS, Shut, hire};
 use td_journal::ReadError;
 use td_report::Transition;
 use td_rows::{Rows, rows_text};
@@ -76,17 +75,16 @@ fn tell_all<N: Named, C: Ledger, T: Reports, R: Wait>(
     }
 }
 
-// What is told of the lines while builders work on threads of their own, who are joined then, and
-// how many of so many are missing. The desk is shut, whatever came of it.
+// What is told of the lines while builders work on threads of their own, who are joined then. The
+// desk is shut, whatever came of it.
 fn tell_beside<N: Named + Send + Sync, C: Ledger + Send + Sync, T: Reports>(
     rt: &(impl Threads + Wait + Sync),
     shift: &Shift<'_, '_, N, C>,
     clerk: Clerk<C>,
     hired: Vec<Hired<N>>,
-    builders: u64,
     builds: &(impl Builds + Sync),
     lines: &Lines<'_, '_, T>,
-) -> Result<(Told, Clerk<C>, u64, Shut<N>), Shut<N>>
+) -> Result<(Told, Clerk<C>, Shut<N>), Shut<N>>
     requires fits { FitAnyBook T.fits lines.now.reports }
     requires archs { table lines.now.archs.now ≡ N.origin.stock.table }
     requires new { clerk.receipts ≡ [] }
@@ -96,13 +94,11 @@ fn tell_beside<N: Named + Send + Sync, C: Ledger + Send + Sync, T: Reports>(
     ensures told { IfOk result (λ made. AreAnswered N.table N.origin
         (setting_lent T.text N.origin.stock lines.now.suites.now lines.now.reports)
         lines.now.script.now made.1.receipts made.0) }
-    ensures missing { IfOk result (λ made. made.2 ≤ builders) }
-    ensures home { IfOk result (λ made. made.2 < builders → IsAtEnd N.table N.origin) }
 {
     thread::scope(
         thread::scope_env(),
         rt,
-        |scope| -> Result<(Told, Clerk<C>, u64, Shut<N>), Shut<N>>
+        |scope| -> Result<(Told, Clerk<C>, Shut<N>), Shut<N>>
             requires fits { FitAnyBook T.fits lines.now.reports }
             requires archs { table lines.now.archs.now ≡ N.origin.stock.table }
             requires new { clerk.receipts ≡ [] }
@@ -113,36 +109,18 @@ fn tell_beside<N: Named + Send + Sync, C: Ledger + Send + Sync, T: Reports>(
             ensures told { IfOk result (λ made. AreAnswered N.table N.origin
                 (setting_lent T.text N.origin.stock lines.entry.now.suites.now
                 lines.entry.now.reports) lines.entry.now.script.now made.1.receipts made.0) }
-            ensures missing { IfOk result (λ made. made.2 ≤ builders) }
-            ensures home { IfOk result (λ made. made.2 < builders → IsAtEnd N.table N.origin) }
         {
-            let Ok(mut threads) = Vec::with_capacity(lines.alloc, hired.len()) else {
-                return Err(shift.desk.shut(rt));
-            };
             for one in hired {
                 // (a builder without a thread is missing)
-                let begun = scope.spawn_with(
-                    GoesHome::<N>::new(),
-                    move || build(rt, shift, one, builds),
-                );
-                let Ok(thread) = begun else {
-                    continue;
-                };
-                if threads.push(thread).is_err() {
-                    return Err(shift.desk.shut(rt));
-                }
+                let _ = scope.spawn(move || serve(rt, shift, one, builds));
             }
-            let (told, clerk, shut) = tell_all(rt, shift.desk, clerk, lines)?;
-            match missing_builders(rt, threads, builders) {
-                Ok(missing) => Ok((told, clerk, missing, shut)),
-                Err(AllocError) => Err(shut),
-            }
+            tell_all(rt, shift.desk, clerk, lines)
         },
     )
 }
 
-// What is told of the lines beside builders on these seats, and the clerk with the receipts of
-// them. Each builder who is missing is a refusal.
+// What is told of the lines beside builders on these seats, the clerk with the receipts of them, and
+// who went home. Each builder who is missing is a refusal.
 fn tell_in_shift<N: Named + Send + Sync, C: Ledger + Send + Sync, T: Reports>(
     rt: &(impl Threads + Wait + Sync),
     desk: &Desk<'_, N, C>,
@@ -150,7 +128,7 @@ fn tell_in_shift<N: Named + Send + Sync, C: Ledger + Send + Sync, T: Reports>(
     seats: Vec<BuilderSeat>,
     builds: &(impl Builds + Sync),
     lines: &Lines<'_, '_, T>,
-) -> Result<(Told, Clerk<C>), AllocError>
+) -> Result<(Told, Clerk<C>, Homes<N>), AllocError>
     requires seats { All (λ s. s.table ≡ N.table) seats.items }
     requires few { length seats.items ≤ max_builders }
     requires fits { FitAnyBook T.fits lines.now.reports }
@@ -162,15 +140,17 @@ fn tell_in_shift<N: Named + Send + Sync, C: Ledger + Send + Sync, T: Reports>(
         made.0.refused ≤ length lines.now.script.now + length seats.items + 1) }
     ensures told { IfOk result (λ made. IsShift N.table N.origin
         (setting_lent T.text N.origin.stock lines.now.suites.now lines.now.reports)
-        lines.now.script.now (length seats.items) made.1.receipts made.0) }
+        lines.now.script.now (length seats.items) (length seats.items - made.2.count)
+        made.1.receipts made.0) }
 {
     let builders = seats.len() as u64;
-    let hired = hire::<N>(lines.alloc, seats)?;
-    let shift = Shift::new(desk);
-    match tell_beside(rt, &shift, clerk, hired, builders, builds, lines) {
-        Ok((mut told, clerk, missing, _shut)) => {
-            told.refused += missing;
-            Ok((told, clerk))
+    let (hired, homes) = hire::<N>(lines.alloc, seats)?;
+    let shift = Shift::new(desk, homes);
+    match tell_beside(rt, &shift, clerk, hired, builds, lines) {
+        Ok((mut told, clerk, _shut)) => {
+            let homes = shift.end()?;
+            told.refused += homes.missing(builders);
+            Ok((told, clerk, homes))
         }
         Err(_shut) => Err(AllocError),
     }
@@ -261,7 +241,7 @@ fn tell_at<N: Named + Send + Sync, C: Ledger + Send + Sync, T: Reports>(
         (setting_lent T.text N.origin.stock lines.now.suites.now lines.now.reports)
         N.origin.journal N.origin.rows lines.now.script.now) }
 {
-    let (told, clerk) = tell_in_shift(rt, &desk, clerk, seats, builds, lines)?;
+    let (told, clerk, _homes) = tell_in_shift(rt, &desk, clerk, seats, builds, lines)?;
     close(lines.alloc, desk, clerk, told)
 }
 

@@ -1,22 +1,21 @@
 //! The desk as builders of a crew find it: each call answers what the desk's does.
-ghost use Rattle.std.specs.Prelude.{◌≡◌, ◌⊎◌, false, IfErr, IfOk, OnOk, OnErr};
+ghost use Rattle.std.specs.Prelude.{◌≡◌, ◌⊎◌, IfErr, IfOk, OnOk, OnErr, OnSome, is_none};
 ghost use Rattle.td_core.specs.History.{rows_of};
 ghost use Rattle.td_book.specs.Deeds.{code_of};
 ghost use Rattle.td_book.specs.Desk.{BookModel};
 ghost use Rattle.td_book.specs.Ready.{is_any_queued};
 ghost use Rattle.td_builder.specs.Floors.{IsHolding, IsStarted, IsEarly, IsFinished};
 ghost use Rattle.td_desk.specs.Calls.{IsOfDesk, Starting, Finishing, MayBeJob, MayBeReady};
-ghost use Rattle.td_desk.specs.Calls.{MayEnd};
-ghost use Rattle.td_crew.specs.Home.{IsAtEnd};
+ghost use Rattle.td_desk.specs.Calls.{IsAtEnd, MayEnd};
 
 use std::alloc::AllocError;
-use std::sync::Wait;
 use std::sync::atomic::{AtomicBool, Ordering};
 use std::sync::ledger::Ledger;
+use std::sync::{Mutex, Wait};
 use td_board::BuilderSeat;
 use td_book::{FinishRefusal, Job, StartRefusal};
 use td_builder::Floor;
-use td_desk::{Desk, Named};
+use td_desk::{Desk, Home, Homes, Named};
 use td_journal::EntryNo;
 use td_rows::Outcome;
 
@@ -27,13 +26,16 @@ pub struct Shift<'d, 'a, N: Named, C: Ledger> {
     pub desk: &'d Desk<'a, N, C>,
     // Whether a builder stopped for memory.
     wants_memory: AtomicBool,
+    // Who has gone home.
+    homes: Mutex<Homes<N>>,
 }
 
 impl<'d, 'a, N: Named, C: Ledger> Shift<'d, 'a, N, C> {
-    pub fn new(desk: &'d Desk<'a, N, C>) -> Shift<'d, 'a, N, C> {
+    pub fn new(desk: &'d Desk<'a, N, C>, homes: Homes<N>) -> Shift<'d, 'a, N, C> {
         Shift {
             desk,
             wants_memory: AtomicBool::new(false),
+            homes: Mutex::new(homes),
         }
     }
 
@@ -41,11 +43,25 @@ impl<'d, 'a, N: Named, C: Ledger> Shift<'d, 'a, N, C> {
     pub fn want_memory(&self) {
         self.wants_memory.store(true, Ordering::SeqCst);
     }
+
+    /// A builder goes home.
+    pub fn go_home<R: Wait>(&self, rt: &R, home: Home<N>) {
+        self.homes.lock(rt).add(home);
+    }
+
+    /// Who has gone home, once no builder has a thread any more. Of want of memory none is told.
+    pub fn end(self) -> Result<Homes<N>, AllocError> {
+        if self.wants_memory.load(Ordering::SeqCst) {
+            return Err(AllocError);
+        }
+        Ok(self.homes.into_inner())
+    }
 }
 
 impl<'d, 'a, N: Named, C: Ledger> Floor for Shift<'d, 'a, N, C> {
-    ghost use Rattle.td_desk.specs.Calls.{MayBeJob, MayBeReady, MayEnd};
-    ghost use Rattle.td_crew.specs.Home.{IsAtEnd};
+    ghost use Rattle.td_desk.specs.Calls.{IsAtEnd, MayBeJob, MayBeReady, MayEnd};
+
+    type Home = Home<N>;
 
     ghost table = { λ s. N.table };
 
@@ -103,10 +119,10 @@ impl<'d, 'a, N: Named, C: Ledger> Floor for Shift<'d, 'a, N, C> {
         Floor::finish(self.desk, rt, seat, outcome)
     }
 
-    fn wait_for_work<R: Wait>(&self, rt: &R) -> bool
+    fn wait_for_work<R: Wait>(&self, rt: &R) -> Option<Home<N>>
         ensures answer { (book : BookModel) × IsOfDesk N.table N.origin book
-            × (result ≡ is_any_queued (rows_of book.history)) }
-        ensures ended { result ≡ false → IsAtEnd N.table N.origin }
+            × (is_none result ≡ is_any_queued (rows_of book.history)) }
+        ensures ended { OnSome result (IsAtEnd N.table N.origin) }
     {
         Floor::wait_for_work(self.desk, rt)
     }

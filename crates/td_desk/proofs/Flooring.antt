@@ -1,7 +1,7 @@
 -- What the calls of builders say of their seats.
-use Rattle.std.proofs.Common.{◌≡◌, ◌⊎◌, inl, inr, ⊎_elim, ℕ, Bool, true, false, refl, sym, subst}
-use Rattle.std.proofs.Common.{◌∙◌, Result, Ok, Err}
-use Rattle.std.specs.Prelude.{IfOk, OnOk, OnErr}
+use Rattle.std.proofs.Common.{◌≡◌, ◌⊎◌, inl, inr, ⊎_elim, ℕ, refl, sym, subst}
+use Rattle.std.proofs.Common.{Option, Some, None, Result, Ok, Err}
+use Rattle.std.specs.Prelude.{IfOk, OnOk, OnErr, OnSome, is_none}
 use Rattle.atomic_table.specs.Seated.{TableId}
 use Rattle.td_rows.specs.declared.outcome.Outcome.{Outcome}
 use Rattle.td_board.specs.declared.views.Hand.{Hand}
@@ -20,7 +20,7 @@ use Rattle.td_book.specs.Desk.{BookModel}
 use Rattle.td_book.specs.Finishing.{FinishHeld, FinishOutcome}
 use Rattle.td_book.specs.Ready.{is_any_queued}
 use Rattle.td_builder.specs.Floors.{IsHolding, IsStarted, IsEarly, IsFinished}
-use Rattle.td_desk.specs.Calls.{IsOfDesk, Starting, Finishing, MayBeJob, MayEnd}
+use Rattle.td_desk.specs.Calls.{IsAtEnd, IsOfDesk, Starting, Finishing, MayBeJob, MayEnd}
 use Rattle.td_desk.specs.Names.{Origin}
 
 by_hand : (table : TableId) (origin : Origin) (b : ℕ) (hand : Hand) (old new : BookModel)
@@ -105,8 +105,10 @@ kept_or_finished table origin o s t r (i, hand) at (old, new, of, inr is) =
     subst (λ h. FinishOutcome h o s.builder t.builder old new r) hand is in
     refused_held table origin o s t i old new r of hand at f
 
-pub at_end : (table : TableId) (origin : Origin) (b : Bool)
-    → (book : BookModel) × IsOfDesk table origin book × (b ≡ is_any_queued (rows_of book.history))
-    → b ≡ false → (book : BookModel) × IsOfDesk table origin book
-    × (is_any_queued (rows_of book.history) ≡ false)
-at_end table origin b (book, of, is) h = (book, of, sym is ∙ h)
+-- one who gets what it goes home with has seen the end
+pub at_end : {A : Type 0} (table : TableId) (origin : Origin) (home : Option A)
+    → (book : BookModel) × IsOfDesk table origin book
+    × (is_none home ≡ is_any_queued (rows_of book.history))
+    → OnSome home (IsAtEnd table origin)
+at_end table origin None seen = tt
+at_end table origin (Some home) (book, of, is) = (book, of, sym is)

@@ -1,6 +1,6 @@
 -- What the calls of a desk answer, each over some book of the desk, and what receipt a clerk gets.
 -- This project's own.
-use Rattle.std.specs.Prelude.{◌≡◌, ◌≢◌, ◌⊎◌, ℕ, not, List, [], ◌∷◌, Option, None, Result, Err}
+use Rattle.std.specs.Prelude.{◌≡◌, ◌≢◌, ◌⊎◌, ℕ, false, not, List, [], ◌∷◌, Option, None, Result, Err}
 use Rattle.std.specs.Prelude.{IfOk, filter, map}
 use Rattle.std.specs.declared.alloc.AllocError.{AllocError}
 use Rattle.atomic_table.specs.Seated.{TableId}
@@ -33,7 +33,7 @@ use Rattle.td_book.specs.Commands.{IsDone, named_by}
 use Rattle.td_book.specs.Deeds.{code_of}
 use Rattle.td_book.specs.Desk.{BookModel}
 use Rattle.td_book.specs.Finishing.{FinishHeld, FinishOutcome}
-use Rattle.td_book.specs.Ready.{IsReady}
+use Rattle.td_book.specs.Ready.{IsReady, is_any_queued}
 use Rattle.td_book.specs.Undoing.{UndoAnswer, undo_stop}
 use Rattle.td_desk.specs.declared.receipt.Receipt.{Receipt}
 use Rattle.td_desk.specs.declared.receipt.Receipt.TheVariants.{Made}
@@ -141,3 +141,8 @@ MayEnd table origin row outcome =
     (old : BookModel) × (new : BookModel) × (v : BuilderView) × (w : BuilderView)
     × (answer : Result ℕ FinishRefusal) × IsOfDesk table origin old
     × FinishHeld row outcome v w old new answer × (w ≡ with_finish row (code_of outcome) v)
+
+-- a book of the desk was seen in which no row waits for a builder
+abbrev pub IsAtEnd : TableId → Origin → Type 0
+IsAtEnd table origin =
+    (b : BookModel) × IsOfDesk table origin b × (is_any_queued (rows_of b.history) ≡ false)

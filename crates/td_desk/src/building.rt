@@ -1,11 +1,12 @@
 //! The calls of builders.
-ghost use Rattle.std.specs.Prelude.{◌≡◌, IfOk};
+ghost use Rattle.std.specs.Prelude.{◌≡◌, IfOk, is_none};
 ghost use Rattle.td_core.specs.History.{rows_of};
 ghost use Rattle.td_book.specs.Desk.{BookModel};
 ghost use Rattle.td_book.specs.Ready.{is_any_queued};
 ghost use Rattle.td_desk.specs.Calls.{IsOfDesk, MayBeReady, Starting, Finishing};
 
 use crate::desk::Desk;
+use crate::home::Home;
 use crate::named::Named;
 use std::alloc::AllocError;
 use std::sync::Wait;
@@ -48,12 +49,12 @@ impl<'a, N: Named, C: Ledger> Desk<'a, N, C> {
         answer
     }
 
-    /// Waits until a row waits for a builder, or the desk is shut. False: it is shut, and none
-    /// waits.
-    pub fn wait_for_work<R: Wait>(&self, rt: &R) -> bool
+    /// Waits until a row waits for a builder, or the desk is shut. Where it is shut, and none waits,
+    /// the builder gets what it goes home with.
+    pub fn wait_for_work<R: Wait>(&self, rt: &R) -> Option<Home<N>>
         ensures { (book : BookModel) × IsOfDesk N.table N.origin book
-            × (result ≡ is_any_queued (rows_of book.history)) }
+            × (is_none result ≡ is_any_queued (rows_of book.history)) }
     {
-        self.locked.lock_awake(rt).has_work()
+        self.locked.lock_awake(rt).home()
     }
 }

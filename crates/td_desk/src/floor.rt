@@ -1,14 +1,15 @@
 //! The desk as a floor on which builders find rows: each call answers what the desk's does.
-ghost use Rattle.std.specs.Prelude.{◌≡◌, ◌⊎◌, false, IfErr, IfOk, OnOk, OnErr};
+ghost use Rattle.std.specs.Prelude.{◌≡◌, ◌⊎◌, IfErr, IfOk, OnOk, OnErr, OnSome, is_none};
 ghost use Rattle.td_core.specs.History.{rows_of};
 ghost use Rattle.td_book.specs.Deeds.{code_of};
 ghost use Rattle.td_book.specs.Desk.{BookModel};
 ghost use Rattle.td_book.specs.Ready.{is_any_queued};
 ghost use Rattle.td_builder.specs.Floors.{IsHolding, IsStarted, IsEarly, IsFinished};
 ghost use Rattle.td_desk.specs.Calls.{IsOfDesk, Starting, Finishing, MayBeJob, MayBeReady};
-ghost use Rattle.td_desk.specs.Calls.{MayEnd};
+ghost use Rattle.td_desk.specs.Calls.{IsAtEnd, MayEnd};
 
 use crate::desk::Desk;
+use crate::home::Home;
 use crate::named::Named;
 use std::alloc::AllocError;
 use std::sync::Wait;
@@ -20,11 +21,9 @@ use td_journal::EntryNo;
 use td_rows::Outcome;
 
 impl<'a, N: Named, C: Ledger> Floor for Desk<'a, N, C> {
-    ghost use Rattle.std.specs.Prelude.{◌≡◌, false};
-    ghost use Rattle.td_core.specs.History.{rows_of};
-    ghost use Rattle.td_book.specs.Desk.{BookModel};
-    ghost use Rattle.td_book.specs.Ready.{is_any_queued};
-    ghost use Rattle.td_desk.specs.Calls.{IsOfDesk, MayBeJob, MayBeReady, MayEnd};
+    ghost use Rattle.td_desk.specs.Calls.{IsAtEnd, MayBeJob, MayBeReady, MayEnd};
+
+    type Home = Home<N>;
 
     ghost table = { λ d. N.table };
 
@@ -36,8 +35,7 @@ impl<'a, N: Named, C: Ledger> Floor for Desk<'a, N, C> {
 
     ghost ends = { λ d. MayEnd N.table N.origin };
 
-    ghost ended = { λ d. (book : BookModel) × IsOfDesk N.table N.origin book
-        × (is_any_queued (rows_of book.history) ≡ false) };
+    ghost ended = { λ d. IsAtEnd N.table N.origin };
 
     ghost stopped = { λ d stop. Unit {0} };
 
@@ -83,11 +81,10 @@ impl<'a, N: Named, C: Ledger> Floor for Desk<'a, N, C> {
     }
 
     #[tactic(auto, using(crate::proofs::Flooring::at_end))]
-    fn wait_for_work<R: Wait>(&self, rt: &R) -> bool
+    fn wait_for_work<R: Wait>(&self, rt: &R) -> Option<Home<N>>
         ensures answer { (book : BookModel) × IsOfDesk N.table N.origin book
-            × (result ≡ is_any_queued (rows_of book.history)) }
-        ensures ended { result ≡ false → (book : BookModel) × IsOfDesk N.table N.origin book
-            × (is_any_queued (rows_of book.history) ≡ false) }
+            × (is_none result ≡ is_any_queued (rows_of book.history)) }
+        ensures ended { OnSome result (IsAtEnd N.table N.origin) }
     {
         Desk::wait_for_work(self, rt)
     }

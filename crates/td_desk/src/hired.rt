@@ -1,6 +1,7 @@
 //! Builders' seats at a named board.
 ghost use Rattle.std.specs.Prelude.{◌≡◌, All, IfOk, map};
 
+use crate::home::Homes;
 use crate::named::Named;
 use std::alloc::{AllocError, Global};
 use std::marker::PhantomData;
@@ -26,14 +27,18 @@ impl<N: Named> Hired<N> {
     }
 }
 
-/// The seats, each as one at the named board, in their order.
-pub fn hire<N: Named>(alloc: Global, seats: Vec<BuilderSeat>) -> Result<Vec<Hired<N>>, AllocError>
+/// The seats, each as one at the named board, in their order, and that no builder has gone home.
+pub fn hire<N: Named>(
+    alloc: Global,
+    seats: Vec<BuilderSeat>,
+) -> Result<(Vec<Hired<N>>, Homes<N>), AllocError>
     requires { All (λ s. s.table ≡ N.table) seats.items }
-    ensures { IfOk result (λ hired. map (λ h. h.seat) hired.items ≡ seats.items) }
+    ensures hired { IfOk result (λ made. map (λ h. h.seat) made.0.items ≡ seats.items) }
+    ensures none { IfOk result (λ made. made.1.count ≡ 0) }
 {
     let mut hired = Vec::with_capacity(alloc, seats.len())?;
     for seat in seats {
         hired.push(Hired::new(seat)).map_err(AllocError::from)?;
     }
-    Ok(hired)
+    Ok((hired, Homes::none()))
 }

@@ -6,7 +6,8 @@
 //! `Desk::close` holds the receipts of all clerks against the book. `hire` seats builders at it.
 //! Promised: each accepted call of a clerk adds its receipt and counts it in a ledger; a desk is
 //! closed exactly where the receipts handed in are the book's changes, each once; what a call
-//! answers is what the book's call answers on a book at the named board; and `shut` alone shuts it.
+//! answers is what the book's call answers on a book at the named board; `shut` alone shuts it, and
+//! a builder gets a `Home` where it is shut and no row waits.
 #![tactic(auto)]
 
 mod building;
@@ -16,6 +17,7 @@ mod closing;
 mod desk;
 mod floor;
 mod hired;
+mod home;
 mod lock;
 mod locked;
 mod looking;
@@ -30,6 +32,7 @@ pub use clerk::Clerk;
 pub use closing::Differ;
 pub use desk::{Desk, PARTS};
 pub use hired::{Hired, hire};
+pub use home::{Home, Homes};
 pub use locked::Shut;
 pub use looking::Looks;
 pub use named::Named;

@@ -1,6 +1,6 @@
 //! What lies under the lock of a desk.
 ghost use Rattle.std.specs.Prelude.{◌≡◌, ◌||◌, ◌<◌, vec_len, vec_capacity, not};
-ghost use Rattle.std.specs.Prelude.{true, false, OnOk, OnErr, IfOk, MatchOption};
+ghost use Rattle.std.specs.Prelude.{true, false, OnOk, OnErr, OnSome, IfOk, MatchOption, is_none};
 ghost use Rattle.td_book.specs.Arriving.{ArriveOutcome, SweepOutcome};
 ghost use Rattle.td_book.specs.Building.{StartOutcome};
 ghost use Rattle.td_book.specs.Ready.{is_any_queued};
@@ -14,6 +14,7 @@ ghost use Rattle.td_desk.specs.Changes.{changes};
 ghost use Rattle.td_desk.specs.inner.Held.{IsHeld};
 ghost use Rattle.td_desk.specs.inner.Telling.{IsTold, IsUntold};
 
+use crate::home::Home;
 use crate::named::Named;
 use crate::receipt::{Receipt, has_room};
 use crate::tick::{Tick, add_ticks};
@@ -102,14 +103,18 @@ impl<'a, N: Named, C: Ledger> Locked<'a, N, C> {
         !self.shut && !self.book.waits()
     }
 
-    /// Whether a row waits for a builder. It is asked of a desk that is shut, or where one does.
-    pub(crate) fn has_work(&self) -> bool
+    /// What a builder goes home with, if no row waits for one. It is asked of a desk that is shut,
+    /// or where one does.
+    pub(crate) fn home(&self) -> Option<Home<N>>
         requires { (self.now.shut || is_any_queued (rows_of self.now.book.history)) ≡ true }
-        ensures work { result ≡ is_any_queued (rows_of self.now.book.history) }
-        ensures shut { result ≡ false → self.now.shut ≡ true }
+        ensures work { is_none result ≡ is_any_queued (rows_of self.now.book.history) }
+        ensures shut { OnSome result (self.now.shut ≡ true) }
         ensures of_desk { IsOfDesk N.table N.origin self.now.book }
     {
-        self.book().waits()
+        if self.book().waits() {
+            return None;
+        }
+        Some(Home::of(self))
     }
 
     /// A command, with its receipt, for which there is room.

@@ -2,18 +2,17 @@
 //! numbers.
 ghost use Rattle.std.specs.Prelude.{◌≡◌, true};
 
-use crate::people::{People, build, command};
+use crate::people::{People, build, command, work_of};
 use crate::sample::{TABLE, next_number};
 use crate::tally::{Answer, Tally};
 use std::alloc::Global;
-use std::sync::Wait;
 use std::sync::ledger::Ledger;
+use std::sync::{Mutex, Wait};
 use std::test::Fail;
 use std::thread::Threads;
 use std::{mem, thread};
 use td_book::{Book, CommandRefusal, Taken, UndoRefusal};
-use td_builder::work;
-use td_desk::{Clerk, Desk, Hired, Named, Receipt};
+use td_desk::{Clerk, Desk, Hired, Homes, Named, Receipt};
 use td_journal::EntryNo;
 use td_relation::Archs;
 use td_rows::Key;
@@ -73,11 +72,12 @@ fn serve<N: Named, C: Ledger, R: Wait>(
     hired: Hired<N>,
     style: Style,
     tally: &Tally,
+    homes: &Mutex<Homes<N>>,
 ) {
     let mut hired = hired;
     match style {
         Style::Claim => claim_on(rt, desk, &mut hired, tally),
-        Style::Work => match work(rt, desk, &mut hired.seat, tally) {
+        Style::Work => match work_of(rt, desk, &mut hired, tally, homes) {
             Ok(builds) => tally.finish(builds),
             Err(_) => tally.note(Answer::Wrong),
         },
@@ -281,6 +281,7 @@ fn call_beside<N: Named + Send + Sync, C: Ledger + Send + Sync, R: Threads + Wai
     style: Style,
     calls: u64,
     tally: &Tally,
+    homes: &Mutex<Homes<N>>,
 )
     requires { N.may_shut ≡ true }
 {
@@ -292,7 +293,7 @@ fn call_beside<N: Named + Send + Sync, C: Ledger + Send + Sync, R: Threads + Wai
         {
             for one in builders {
                 if scope
-                    .spawn(move || serve(rt, desk, one, style, tally))
+                    .spawn(move || serve(rt, desk, one, style, tally, homes))
                     .is_err()
                 {
                     tally.note(Answer::Wrong);
@@ -327,6 +328,7 @@ pub(crate) fn crew<N: Named + Send + Sync, C: Ledger + Send + Sync, R: Threads +
         style,
         calls,
         &tally,
+        &people.homes,
     );
     tally.told(alloc, calls)
 }

@@ -1,22 +1,12 @@
 //! What two builders are answered whose builds wait for one another.
-use crate::people::People;
+use crate::people::{People, work_of};
 use crate::together::Together;
-use std::sync::Wait;
 use std::sync::ledger::Ledger;
+use std::sync::{Mutex, Wait};
 use std::thread;
 use std::thread::Threads;
-use td_builder::{WorkStop, work};
-use td_desk::{Desk, Hired, Named};
-
-// What a builder's work is answered.
-fn work_of<N: Named, C: Ledger, R: Wait>(
-    rt: &R,
-    desk: &Desk<'static, N, C>,
-    hired: &mut Hired<N>,
-    builds: &Together,
-) -> Result<u64, WorkStop> {
-    work(rt, desk, &mut hired.seat, builds)
-}
+use td_builder::WorkStop;
+use td_desk::{Desk, Hired, Homes, Named};
 
 // What the work of these two is answered, at the same time.
 fn work_both<N: Named + Send + Sync, C: Ledger + Send + Sync, R: Threads + Wait + Sync>(
@@ -24,12 +14,13 @@ fn work_both<N: Named + Send + Sync, C: Ledger + Send + Sync, R: Threads + Wait 
     desk: &Desk<'static, N, C>,
     one: &mut Hired<N>,
     two: &mut Hired<N>,
+    homes: &Mutex<Homes<N>>,
 ) -> (Result<u64, WorkStop>, Result<u64, WorkStop>) {
     let together = Together::new();
     thread::join(
         rt,
-        || work_of(rt, desk, one, &together),
-        || work_of(rt, desk, two, &together),
+        || work_of(rt, desk, one, &together, homes),
+        || work_of(rt, desk, two, &together, homes),
     )
 }
 
@@ -45,5 +36,5 @@ pub(crate) fn work_together<
 ) -> Option<(Result<u64, WorkStop>, Result<u64, WorkStop>)> {
     let (one, rest) = people.builders.split_first_mut()?;
     let two = rest.first_mut()?;
-    Some(work_both(rt, desk, one, two))
+    Some(work_both(rt, desk, one, two, &people.homes))
 }

@@ -2,13 +2,13 @@
 ghost use Rattle.std.specs.Prelude.{◌≡◌, All};
 
 use std::alloc::{AllocError, Global};
-use std::sync::Wait;
 use std::sync::ledger::Ledger;
+use std::sync::{Mutex, Wait};
 use std::test::Fail;
 use td_board::BuilderSeat;
 use td_book::{CommandRefusal, Taken};
-use td_builder::{Outcomes, WorkStop, work};
-use td_desk::{Clerk, Desk, Hired, Named, hire};
+use td_builder::{Builds, Outcomes, WorkStop, work};
+use td_desk::{Clerk, Desk, Hired, Homes, Named, hire};
 use td_relation::Archs;
 use td_rows::Outcome;
 use td_wbread::{CommandFault, read_command};
@@ -48,12 +48,28 @@ pub(crate) fn build<N: Named, C: Ledger, R: Wait>(
     is_its_own && desk.finish(rt, &mut hired.seat, outcome).is_ok()
 }
 
-// Who is at a desk, and how builds end.
+// What a builder's work is answered. Where it goes home, it is counted among those who did.
+pub(crate) fn work_of<N: Named, C: Ledger, B: Builds, R: Wait>(
+    rt: &R,
+    desk: &Desk<'static, N, C>,
+    hired: &mut Hired<N>,
+    builds: &B,
+    homes: &Mutex<Homes<N>>,
+) -> Result<u64, WorkStop> {
+    let (built, home) = work(rt, desk, &mut hired.seat, builds)?;
+    if let Some(home) = home {
+        homes.lock(rt).add(home);
+    }
+    Ok(built)
+}
+
+// Who is at a desk, who has gone home, and how builds end.
 #[derive(Drop)]
 pub(crate) struct People<N: Named, C: Ledger> {
     pub(crate) alloc: Global,
     pub(crate) outcomes: Outcomes,
     pub(crate) builders: Vec<Hired<N>>,
+    pub(crate) homes: Mutex<Homes<N>>,
     pub(crate) clerks: Vec<Clerk<C>>,
 }
 
@@ -76,11 +92,12 @@ impl<N: Named, C: Ledger> People<N, C> {
     {
         let outcomes = Outcomes::read(alloc, outcomes)?;
         let clerks = alone(alloc, clerk)?;
-        let builders = hire(alloc, seats)?;
+        let (builders, homes) = hire(alloc, seats)?;
         Ok(People {
             alloc,
             outcomes,
             builders,
+            homes: Mutex::new(homes),
             clerks,
         })
     }
@@ -120,7 +137,7 @@ impl<N: Named, C: Ledger> People<N, C> {
         desk: &Desk<'static, N, C>,
     ) -> Option<Result<u64, WorkStop>> {
         match self.builders.first_mut() {
-            Some(first) => Some(work(rt, desk, &mut first.seat, &self.outcomes)),
+            Some(first) => Some(work_of(rt, desk, first, &self.outcomes, &self.homes)),
             None => None,
         }
     }
