@@ -16,7 +16,7 @@ use Rattle.td_core.specs.History.{History, history_of, opened, rows_of}
 use Rattle.td_book.specs.Reopening.{given_back}
 use Rattle.td_book.specs.Desk.{BookModel}
 use Rattle.td_desk.specs.declared.receipt.Receipt.{Receipt}
-use Rattle.td_desk.specs.Calls.{IsOfDesk}
+use Rattle.td_desk.specs.Calls.{IsMetBy, IsOfDesk}
 use Rattle.td_desk.specs.Changes.{changes, still_undone}
 use Rattle.td_desk.specs.GoingOn.{Begins, GoesOn}
 use Rattle.td_desk.specs.Marks.{IsNamedJournal}
@@ -26,6 +26,7 @@ use Rattle.td_script.specs.Openings.{IsBegun}
 use Rattle.td_script.specs.Replies.{Setting, ended}
 use Rattle.td_script.specs.declared.told.Told.{Told as ToldText}
 use Rattle.td_crew.specs.CrewText.{EndsFrom, HasBegun, HasRows, IsClosed, IsClosing, IsOfCrew}
+use Rattle.td_crew.specs.CrewText.{IsOfCrewAt}
 use Rattle.td_crew.specs.CrewText.{IsShift, IsShort, crew_tells, marks_begun, rows_told, told_with}
 use Rattle.td_crew.specs.CrewText.{untold}
 use Rattle.td_crew.proofs.BegunMarks.{changes_told, still_told}
@@ -77,6 +78,26 @@ crew_book table origin s h b stock is of = record {
   lawful = of.lawful;
 }
 
+-- its changes since the desk's opening are those since the script's start
+changes_begun : (origin : Origin) (opened : List Mark) (s : Setting) (h : History) (b : BookModel)
+    → opened ≡ marks_begun origin.journal → IsShort origin.journal
+    → IsBegun origin.journal origin.rows h → IsOfCrew s h b
+    → changes opened b ≡ changes (map (λ m. m.mark) h.journal) b
+changes_begun origin opened s h b marks short is of =
+    ap (λ (os : List Mark). changes os b) marks
+    ∙ changes_told origin.journal origin.rows h b.history.journal short is of.on
+
+-- one that a clerk with all parts meets has as many as the clerk has receipts
+crew_book_at : (table : TableId) (origin : Origin) (opened : List Mark) (parts : ℕ) (s : Setting)
+    (h : History) (had : List Receipt) (b : BookModel) → parts ≡ 1024
+    → opened ≡ marks_begun origin.journal → IsShort origin.journal
+    → IsBegun origin.journal origin.rows h → IsOfCrew s h b
+    → IsMetBy table origin opened parts had b → IsOfCrewAt s h had b
+crew_book_at table origin opened parts s h had b whole marks short is of m = record {
+  of_crew = of;
+  counted = m.counted whole ∙ ap length (changes_begun origin opened s h b marks short is of);
+}
+
 -- ---- 2. where it ends
 
 -- the line `rows` and the rows stand behind what was told
@@ -115,24 +136,25 @@ rows_closed table origin opened receipts told mid now b closing of still counted
 -- what is told of the lines, of those who are missing and of the closing is what a crew may tell
 pub ends_closed : (builders : ℕ) (table : TableId) (origin : Origin) (s : Setting)
     (opened : List Mark) (script : List ℕ) (receipts : List Receipt) (told now : ToldText)
-    (missing : ℕ) → s.stock ≡ origin.stock → opened ≡ marks_begun origin.journal
-    → IsShort origin.journal → IsShift table origin s script builders missing receipts told
+    (parts missing : ℕ) → parts ≡ 1024 → s.stock ≡ origin.stock
+    → opened ≡ marks_begun origin.journal → IsShort origin.journal
+    → IsShift table origin opened parts s script builders missing receipts told
     → IsClosed table origin opened receipts told now
     → EndsFrom builders s origin.journal origin.rows script now
-ends_closed builders table origin s opened script receipts told now missing stock marks short shift
-    closed = λ h is.
+ends_closed builders table origin s opened script receipts told now parts missing whole stock marks
+    short shift closed = λ h is.
     let of =
     λ (b : BookModel) (o : IsOfDesk table origin b). crew_book table origin s h b stock is o in
+    let met = λ (had : List Receipt) (b : BookModel) (m : IsMetBy table origin opened parts had b).
+    crew_book_at table origin opened parts s h had b whole marks short is (of b m.of_desk) m in
     let last = of closed.book closed.of_desk in
     let ms = closed.book.history.journal in
     let begun = map (λ m. m.mark) h.journal in
-    let same : changes opened closed.book ≡ changes begun closed.book =
-    ap (λ (os : List Mark). changes os closed.book) marks
-    ∙ changes_told origin.journal origin.rows h ms short is last.on in
+    let same = changes_begun origin opened s h closed.book marks short is last in
     record {
       told = told_with shift.lines receipts;
-      lines = told_more (IsOfDesk table origin) (IsOfCrew s h) of s (lines_of script) untold
-          (told_with shift.lines receipts) shift.are;
+      lines = told_more (IsMetBy table origin opened parts) (IsOfCrewAt s h) met s
+          (lines_of script) untold (told_with shift.lines receipts) shift.are;
       book = closed.book;
       of_crew = last;
       still = still_told origin.journal origin.rows h ms short is last.on

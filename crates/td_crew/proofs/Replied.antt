@@ -9,6 +9,7 @@ use Rattle.atomic_table.specs.Seated.{TableId}
 use Rattle.td_rows.specs.declared.key.Key.{Key}
 use Rattle.td_rows.specs.declared.kind.Kind.{Kind}
 use Rattle.td_rows.specs.StateWord.{state_word}
+use Rattle.td_journal.specs.declared.entry.Mark.{Mark}
 use Rattle.td_core.specs.History.{History}
 use Rattle.td_wbread.specs.declared.fault.CommandFault.{CommandFault}
 use Rattle.td_wbread.specs.declared.fault.CommandFault.TheVariants.{Wrong}
@@ -28,7 +29,7 @@ use Rattle.td_book.specs.Commands.{named_by}
 use Rattle.td_book.specs.Desk.{BookModel}
 use Rattle.td_desk.specs.declared.receipt.Receipt.{Receipt}
 use Rattle.td_desk.specs.declared.receipt.Receipt.TheVariants.{Made, Swept, Undid}
-use Rattle.td_desk.specs.Calls.{Arriving, Commanding, IsOfDesk, Sweeping, Undoing, arrival_receipt}
+use Rattle.td_desk.specs.Calls.{Arriving, Commanding, IsMetBy, Sweeping, Undoing, arrival_receipt}
 use Rattle.td_desk.specs.Calls.{command_receipt, without}
 use Rattle.td_desk.specs.Clerks.{ClerkModel, with_receipt}
 use Rattle.td_desk.specs.Names.{Origin}
@@ -84,12 +85,12 @@ answered other (inr b) = b
 -- ---- 2. calls
 
 -- an undo is refused by a book
-undo_refused : (table : TableId) (origin : Origin) (n : ℕ) (e : UndoRefusal) (before now : List ℕ)
-    (old new : ClerkModel) (refused : Bool) → Undoing n table origin (Err e)
+undo_refused : (Of : BookModel → Type 0) (n : ℕ) (e : UndoRefusal) (before now : List ℕ)
+    (old new : ClerkModel) (refused : Bool) → Undoing n Of (Err e)
     → IsOfUndo n (Err e) (declines (undo_name e) []) → new ≡ old
     → IsPut (refusal_line (undo_name e)) true before now refused
-    → Says (MayUndo (IsOfDesk table origin) n) before now old.receipts new.receipts refused
-undo_refused table origin n e before now old new refused a of same put = (
+    → Says (MayUndo Of n) before now old.receipts new.receipts refused
+undo_refused Of n e before now old new refused a of same put = (
   declines (undo_name e) [],
   (a.0, a.1, Err e, a.2, a.3, of),
   said_refused (undo_name e) before now old.receipts new.receipts refused put
@@ -97,13 +98,13 @@ undo_refused table origin n e before now old new refused a of same put = (
 )
 
 -- what is said to an undo
-pub undo_said : (table : TableId) (origin : Origin) (n : ℕ)
+pub undo_said : (Of : BookModel → Type 0) (n : ℕ)
     (answer : Result (Unit {0}) UndoRefusal) (before now : List ℕ) (old new : ClerkModel)
-    (refused : Bool) → Undoing n table origin answer
+    (refused : Bool) → Undoing n Of answer
     → OnOk answer (new ≡ with_receipt (Undid n) old) → OnErr answer (new ≡ old)
     → IsUndoPut n answer before now refused
-    → Says (MayUndo (IsOfDesk table origin) n) before now old.receipts new.receipts refused
-undo_said table origin n (Ok u) before now old new refused its ok err put = (
+    → Says (MayUndo Of n) before now old.receipts new.receipts refused
+undo_said Of n (Ok u) before now old new refused its ok err put = (
   record {
     text = ended (codes "undone " ++ decimal n);
     refused = false;
@@ -116,18 +117,18 @@ undo_said table origin n (Ok u) before now old new refused its ok err put = (
     refusal = put.refusal;
   },
 )
-undo_said table origin n (Err undos.NoMemory) before now old new refused a ok err put = absurd put
-undo_said table origin n (Err undos.NoSuchEntry) before now old new refused a ok err put =
-    undo_refused table origin n undos.NoSuchEntry before now old new refused
+undo_said Of n (Err undos.NoMemory) before now old new refused a ok err put = absurd put
+undo_said Of n (Err undos.NoSuchEntry) before now old new refused a ok err put =
+    undo_refused Of n undos.NoSuchEntry before now old new refused
     a refl err put
-undo_said table origin n (Err undos.NotACommand) before now old new refused a ok err put =
-    undo_refused table origin n undos.NotACommand before now old new refused
+undo_said Of n (Err undos.NotACommand) before now old new refused a ok err put =
+    undo_refused Of n undos.NotACommand before now old new refused
     a refl err put
-undo_said table origin n (Err undos.AlreadyUndone) before now old new refused a ok err put =
-    undo_refused table origin n undos.AlreadyUndone before now old new refused
+undo_said Of n (Err undos.AlreadyUndone) before now old new refused a ok err put =
+    undo_refused Of n undos.AlreadyUndone before now old new refused
     a refl err put
-undo_said table origin n (Err (undos.Blocked m)) before now old new refused a ok err put =
-    undo_refused table origin n (undos.Blocked m) before now old new refused
+undo_said Of n (Err (undos.Blocked m)) before now old new refused a ok err put =
+    undo_refused Of n (undos.Blocked m) before now old new refused
     a refl err put
 
 -- an undo takes none of the clerk's parts
@@ -138,13 +139,13 @@ parts_undone n (Ok u) old new ok err = ap (λ (c : ClerkModel). c.parts) ok
 parts_undone n (Err e) old new ok err = ap (λ (c : ClerkModel). c.parts) err
 
 -- what is said to an arrival that is entered
-pub arrival_made : (table : TableId) (origin : Origin) (k : Key) (n : ℕ) (keys : List Key)
+pub arrival_made : (Of : BookModel → Type 0) (k : Key) (n : ℕ) (keys : List Key)
     (before now : List ℕ) (old new : ClerkModel)
-    → Arriving k table origin (Ok n)
+    → Arriving k Of (Ok n)
     → new ≡ with_receipt (arrival_receipt k n) old → keys ≡ k ∷ []
     → now ≡ before ++ entry_made n keys
-    → Says (MayArrive (IsOfDesk table origin) k) before now old.receipts new.receipts false
-arrival_made table origin k n keys before now old new its got own put = (
+    → Says (MayArrive Of k) before now old.receipts new.receipts false
+arrival_made Of k n keys before now old new its got own put = (
   makes n (k ∷ []) [] (arrival_receipt k n),
   (its.0, its.1, Ok n, its.2, its.3, refl),
   made_said n (k ∷ []) [] before now now (arrival_receipt k n) old new
@@ -157,36 +158,45 @@ pub parts_with : (r : Receipt) (old new : ClerkModel) → new ≡ with_receipt r
 parts_with r old new got = ap (λ (c : ClerkModel). c.parts) got
 
 -- and to one that is refused
-pub arrival_refused : (table : TableId) (origin : Origin) (k : Key) (e : ArriveRefusal)
+pub arrival_refused : (Of : BookModel → Type 0) (k : Key) (e : ArriveRefusal)
     (before now : List ℕ) (old new : ClerkModel) (refused : Bool)
-    → Arriving k table origin (Err e)
+    → Arriving k Of (Err e)
     → new ≡ old → IsArrivalRefused e before now refused
-    → Says (MayArrive (IsOfDesk table origin) k) before now old.receipts new.receipts refused
-arrival_refused table origin k arrivals.NoSuchRow before now old new refused its same put = (
+    → Says (MayArrive Of k) before now old.receipts new.receipts refused
+arrival_refused Of k arrivals.NoSuchRow before now old new refused its same put = (
   declines (codes "NoSuchRow") [],
   (its.0, its.1, Err arrivals.NoSuchRow, its.2, its.3, refl),
   said_refused (codes "NoSuchRow") before now old.receipts new.receipts refused put
       (ap (λ (c : ClerkModel). c.receipts) same),
 )
-arrival_refused table origin k (arrivals.DoesNotApply s) before now old new refused its same put = (
+arrival_refused Of k (arrivals.DoesNotApply s) before now old new refused its same put = (
   declines (codes "DoesNotApply " ++ state_word s) [],
   (its.0, its.1, Err (arrivals.DoesNotApply s), its.2, its.3, refl),
   said_refused (codes "DoesNotApply " ++ state_word s) before now old.receipts new.receipts
       refused put (ap (λ (c : ClerkModel). c.receipts) same),
 )
-arrival_refused table origin k arrivals.NoMemory before now old new refused a same put = absurd put
+arrival_refused Of k arrivals.NoMemory before now old new refused a same put = absurd put
 
--- what is said to a sweep that finds something
-pub sweep_made : (table : TableId) (origin : Origin) (n : ℕ) (b : BookModel)
-    (before now : List ℕ) (old new : ClerkModel) → Sweeping table origin (Ok (Some n))
-    → IsOfDesk table origin b → new ≡ with_receipt (Swept n) old
+-- what is said to a sweep that finds something: the clerk has its receipt when its entry is read
+pub sweep_made : (Of : ℕ → List Receipt → BookModel → Type 0) (n : ℕ) (b : BookModel)
+    (before now : List ℕ) (old mid new : ClerkModel)
+    → Sweeping (Of old.parts old.receipts) (Ok (Some n)) → Of mid.parts mid.receipts b
+    → mid ≡ with_receipt (Swept n) old → new ≡ mid
     → now ≡ before ++ entry_made n (keys_at b.history.journal n)
-    → Says (MaySweep (IsOfDesk table origin)) before now old.receipts new.receipts false
-sweep_made table origin n b before now old new a of got put =
+    → Says (MaySweep (Of old.parts) old.receipts) before now old.receipts new.receipts false
+sweep_made Of n b before now old mid new a of got still put =
     let keys = keys_at b.history.journal n in (
       makes n keys [] (Swept n),
-      (a.0, a.1, Some n, a.2, a.3, (b, of, refl)),
-      made_said n keys [] before now now (Swept n) old new put (sym (append-nil now)) got,
+      (
+        a.0,
+        a.1,
+        Some n,
+        a.2,
+        a.3,
+        (b, subst (λ (c : ClerkModel). Of c.parts c.receipts b) got of, refl),
+      ),
+      made_said n keys [] before now now (Swept n) old new put (sym (append-nil now))
+          (still ∙ got),
     )
 
 -- a sweep takes none of the clerk's parts
@@ -197,11 +207,11 @@ parts_swept None old new same = ap (λ (c : ClerkModel). c.parts) same
 parts_swept (Some n) old new got = ap (λ (c : ClerkModel). c.parts) got
 
 -- and to one that finds nothing
-pub sweep_none : (table : TableId) (origin : Origin) (before now : List ℕ) (old new : ClerkModel)
-    → Sweeping table origin (Ok None) → new ≡ old
+pub sweep_none : (Of : List Receipt → BookModel → Type 0) (before now : List ℕ)
+    (old new : ClerkModel) → Sweeping (Of old.receipts) (Ok None) → new ≡ old
     → now ≡ before ++ ended (codes "nothing to sweep")
-    → Says (MaySweep (IsOfDesk table origin)) before now old.receipts new.receipts false
-sweep_none table origin before now old new a same put = (
+    → Says (MaySweep Of old.receipts) before now old.receipts new.receipts false
+sweep_none Of before now old new a same put = (
   tells (ended (codes "nothing to sweep")),
   (a.0, a.1, None, a.2, a.3, refl),
   record {
@@ -212,15 +222,15 @@ sweep_none table origin before now old new a same put = (
 )
 
 -- what is said to a command that is entered: the keys are those of its receipt
-pub command_made : (table : TableId) (origin : Origin) (c : CommandParts) (t : Taken)
+pub command_made : (Of : BookModel → Type 0) (c : CommandParts) (t : Taken)
     (keys : List Key) (before mid now : List ℕ) (old new : ClerkModel)
     → (◌≡◌ {A = Result Taken CommandRefusal} (Ok t) (Err commands.NoMemory)
-    ⊎ Commanding c table origin old new (Ok t))
+    ⊎ Commanding c Of old new (Ok t))
     → ((front : List Receipt) (n : ℕ) (kind : Kind) (own : List Key)
     → new.receipts ≡ front ++ Made n kind own ∷ [] → keys ≡ own)
     → mid ≡ before ++ entry_made t.number keys → now ≡ mid ++ flat_map skip_line t.skips
-    → Says (MayCommand (IsOfDesk table origin) c) before now old.receipts new.receipts false
-command_made table origin c t keys before mid now old new a own put behind =
+    → Says (MayCommand Of c) before now old.receipts new.receipts false
+command_made Of c t keys before mid now old new a own put behind =
     let its = answered (λ none. let h = none in cc) a in
     let kept = without (named_by c its.0) t.skips in
     let same = own old.receipts t.number (kind_of c) kept
@@ -233,22 +243,22 @@ command_made table origin c t keys before mid now old new a own put behind =
     )
 
 -- and it takes none of the clerk's parts
-pub parts_commanded : (table : TableId) (origin : Origin) (c : CommandParts) (t : Taken)
-    (old new : ClerkModel)
+pub parts_commanded : (table : TableId) (origin : Origin) (opened : List Mark) (parts : ℕ)
+    (had : List Receipt) (c : CommandParts) (t : Taken) (old new : ClerkModel)
     → (◌≡◌ {A = Result Taken CommandRefusal} (Ok t) (Err commands.NoMemory)
-    ⊎ Commanding c table origin old new (Ok t))
+    ⊎ Commanding c (IsMetBy table origin opened parts had) old new (Ok t))
     → new.parts ≡ old.parts
-parts_commanded table origin c t old new a =
+parts_commanded table origin opened parts had c t old new a =
     let its = answered (λ none. let h = none in cc) a in ap (λ (x : ClerkModel). x.parts) its.4
 
 -- and to one that is refused
-pub command_refused : (table : TableId) (origin : Origin) (c : CommandParts) (e : CommandRefusal)
+pub command_refused : (Of : BookModel → Type 0) (c : CommandParts) (e : CommandRefusal)
     (before now : List ℕ) (old new : ClerkModel) (refused : Bool)
     → (◌≡◌ {A = Result Taken CommandRefusal} (Err e) (Err commands.NoMemory)
-    ⊎ Commanding c table origin old new (Err e))
+    ⊎ Commanding c Of old new (Err e))
     → new ≡ old → IsCommandRefused e before now refused
-    → Says (MayCommand (IsOfDesk table origin) c) before now old.receipts new.receipts refused
-command_refused table origin c (commands.NothingApplies skips) before now old new refused a same
+    → Says (MayCommand Of c) before now old.receipts new.receipts refused
+command_refused Of c (commands.NothingApplies skips) before now old new refused a same
     put =
     let its = answered (λ none. let h = none in cc) a in (
       declines (codes "NothingApplies") (flat_map skip_line skips),
@@ -259,15 +269,15 @@ command_refused table origin c (commands.NothingApplies skips) before now old ne
         refusal = put.refusal;
       },
     )
-command_refused table origin c commands.NoMemory before now old new refused a same put = absurd put
+command_refused Of c commands.NoMemory before now old new refused a same put = absurd put
 
 -- what is said to what changes nothing
-pub shown_said : (table : TableId) (origin : Origin) (reply : History → Reply) (b seen : BookModel)
+pub shown_said : (Of : BookModel → Type 0) (reply : History → Reply) (b seen : BookModel)
     (shown : Shown) (before now : List ℕ) (receipts : List Receipt) (refused : Bool)
-    → IsOfDesk table origin b → seen ≡ b → IsShown (reply seen.history) shown
+    → Of b → seen ≡ b → IsShown (reply seen.history) shown
     → now ≡ before ++ string_bytes shown.text → refused ≡ shown.refused
-    → Says (MayShow (IsOfDesk table origin) reply) before now receipts receipts refused
-shown_said table origin reply b seen shown before now receipts refused of same is put said =
+    → Says (MayShow Of reply) before now receipts receipts refused
+shown_said Of reply b seen shown before now receipts refused of same is put said =
     let its = subst (λ (x : BookModel). IsShown (reply x.history) shown) same is in (
       record {
         text = (reply b.history).text;
@@ -283,14 +293,18 @@ shown_said table origin reply b seen shown before now receipts refused of same i
     )
 
 -- by which request it was asked for
-pub asked_for : (table : TableId) (origin : Origin) (s : Setting) (q request : Request)
-    (r : Result Bool AllocError) (before now : List ℕ) (receipts : List Receipt) → request ≡ q
-    → IfOk r (Says (MayAnswer (IsOfDesk table origin) s q) before now receipts receipts)
-    → IfOk r (Says (MayAnswer (IsOfDesk table origin) s request) before now receipts receipts)
-asked_for table origin s q request r before now receipts is said =
-    subst (λ (x : Request).
-    IfOk r (Says (MayAnswer (IsOfDesk table origin) s x) before now receipts receipts))
-    (sym is) said
+pub asked_for : (Of : List Receipt → BookModel → Type 0) (s : Setting) (q request : Request)
+    (r : Result Bool AllocError) (before now : List ℕ) (old new : ClerkModel) → request ≡ q
+    → new ≡ old
+    → IfOk r (Says (MayAnswer Of s old.receipts q) before now old.receipts old.receipts)
+    → IfOk r (Says (MayAnswer Of s old.receipts request) before now old.receipts new.receipts)
+asked_for Of s q request r before now old new is same said =
+    subst (λ (c : ClerkModel).
+    IfOk r (Says (MayAnswer Of s old.receipts request) before now old.receipts c.receipts))
+    (sym same)
+    (subst (λ (x : Request).
+    IfOk r (Says (MayAnswer Of s old.receipts x) before now old.receipts old.receipts)) (sym is)
+    said)
 
 pub refusal_said : (May : DeskReply → Type 0) (name before now : List ℕ) (receipts : List Receipt)
     → May (declines name []) → now ≡ before ++ refusal_line name
@@ -314,12 +328,12 @@ fault_said Of read e what place before now receipts is same put =
     (refusal_said (MayType Of (Err (Wrong what place))) (name_of what) before now receipts refl put)
 
 -- what is said to a line that says nothing
-pub skipped_said : (Of : BookModel → Type 0) (s : Setting) (line text : List ℕ)
+pub skipped_said : (Of : List Receipt → BookModel → Type 0) (s : Setting) (line text : List ℕ)
     (receipts : List Receipt) (said : Said) → said ≡ said_at line → said ≡ Skipped
-    → Says (MayReply Of s line) text text receipts receipts false
+    → Says (MayReply Of s receipts line) text text receipts receipts false
 skipped_said Of s line text receipts said at is = (
   tells [],
-  subst (λ (w : Said). MaySay Of s line w (tells [])) (sym is ∙ at) refl,
+  subst (λ (w : Said). MaySay Of s receipts line w (tells [])) (sym is ∙ at) refl,
   record {
     text_is = sym (append-nil text);
     receipts_are = sym (append-nil receipts);
@@ -328,54 +342,66 @@ skipped_said Of s line text receipts said at is = (
 )
 
 -- and to one that can't be read
-pub bad_said : (Of : BookModel → Type 0) (s : Setting) (line before now : List ℕ)
+pub bad_said : (Of : List Receipt → BookModel → Type 0) (s : Setting) (line before now : List ℕ)
     (receipts : List Receipt) (said : Said) → said ≡ said_at line → said ≡ Bad
     → now ≡ before ++ refusal_line (codes "BadLine")
-    → Says (MayReply Of s line) before now receipts receipts true
+    → Says (MayReply Of s receipts line) before now receipts receipts true
 bad_said Of s line before now receipts said at is put =
-    refusal_said (MayReply Of s line) (codes "BadLine") before now receipts
-    (subst (λ (w : Said). MaySay Of s line w (declines (codes "BadLine") [])) (sym is ∙ at) refl)
+    refusal_said (MayReply Of s receipts line) (codes "BadLine") before now receipts
+    (subst (λ (w : Said). MaySay Of s receipts line w (declines (codes "BadLine") []))
+    (sym is ∙ at) refl)
     put
 
 -- ---- 3. from some books to others
 
-swept_more : (Of Also : BookModel → Type 0) → ((b : BookModel) → Of b → Also b)
+swept_more : (Of Also : ℕ → BookModel → Type 0) → ((n : ℕ) (b : BookModel) → Of n b → Also n b)
     → (swept : Option ℕ) (r : DeskReply) → IsOfSweep Of swept r → IsOfSweep Also swept r
 swept_more Of Also f None r m = m
-swept_more Of Also f (Some n) r m = (m.0, f m.0 m.1, m.2)
+swept_more Of Also f (Some n) r m = (m.0, f n m.0 m.1, m.2)
 
-answer_more : (Of Also : BookModel → Type 0) → ((b : BookModel) → Of b → Also b) → (s : Setting)
-    (q : Request) (r : DeskReply) → MayAnswer Of s q r → MayAnswer Also s q r
-answer_more Of Also f s (requests.Undo n) r m = (m.0, m.1, m.2, f m.0 m.3, m.4, m.5)
-answer_more Of Also f s (requests.Arrive k) r m = (m.0, m.1, m.2, f m.0 m.3, m.4, m.5)
-answer_more Of Also f s requests.Sweep r m =
-    (m.0, m.1, m.2, f m.0 m.3, m.4, swept_more Of Also f m.2 r m.5)
-answer_more Of Also f s (requests.Row k) r m = (m.0, f m.0 m.1, m.2)
-answer_more Of Also f s (requests.Entry n) r m = (m.0, f m.0 m.1, m.2)
-answer_more Of Also f s requests.Report r m = (m.0, f m.0 m.1, m.2)
-answer_more Of Also f s requests.Journal r m = (m.0, f m.0 m.1, m.2)
+answer_more : (Of Also : List Receipt → BookModel → Type 0)
+    → ((had : List Receipt) (b : BookModel) → Of had b → Also had b) → (s : Setting)
+    (had : List Receipt) (q : Request) (r : DeskReply) → MayAnswer Of s had q r
+    → MayAnswer Also s had q r
+answer_more Of Also f s had (requests.Undo n) r m = (m.0, m.1, m.2, f had m.0 m.3, m.4, m.5)
+answer_more Of Also f s had (requests.Arrive k) r m = (m.0, m.1, m.2, f had m.0 m.3, m.4, m.5)
+answer_more Of Also f s had requests.Sweep r m =
+    let behind = λ (n : ℕ). had ++ Swept n ∷ [] in (
+      m.0,
+      m.1,
+      m.2,
+      f had m.0 m.3,
+      m.4,
+      swept_more (λ n. Of (behind n)) (λ n. Also (behind n)) (λ n. f (behind n)) m.2 r m.5,
+    )
+answer_more Of Also f s had (requests.Row k) r m = (m.0, f had m.0 m.1, m.2)
+answer_more Of Also f s had (requests.Entry n) r m = (m.0, f had m.0 m.1, m.2)
+answer_more Of Also f s had requests.Report r m = (m.0, f had m.0 m.1, m.2)
+answer_more Of Also f s had requests.Journal r m = (m.0, f had m.0 m.1, m.2)
 
 type_more : (Of Also : BookModel → Type 0) → ((b : BookModel) → Of b → Also b)
     → (c : Result CommandParts CommandFault) (r : DeskReply) → MayType Of c r → MayType Also c r
 type_more Of Also f (Ok c) r m = (m.0, m.1, m.2, f m.0 m.3, m.4, m.5)
 type_more Of Also f (Err e) r m = m
 
-say_more : (Of Also : BookModel → Type 0) → ((b : BookModel) → Of b → Also b) → (s : Setting)
-    (line : List ℕ) (said : Said) (r : DeskReply) → MaySay Of s line said r
-    → MaySay Also s line said r
-say_more Of Also f s line Skipped r m = m
-say_more Of Also f s line (Asked q) r m = answer_more Of Also f s q r m
-say_more Of Also f s line Bad r m = m
-say_more Of Also f s line Typed r m =
-    type_more Of Also f (command_at s.stock.table s.suites line) r m
+say_more : (Of Also : List Receipt → BookModel → Type 0)
+    → ((had : List Receipt) (b : BookModel) → Of had b → Also had b) → (s : Setting)
+    (had : List Receipt) (line : List ℕ) (said : Said) (r : DeskReply)
+    → MaySay Of s had line said r → MaySay Also s had line said r
+say_more Of Also f s had line Skipped r m = m
+say_more Of Also f s had line (Asked q) r m = answer_more Of Also f s had q r m
+say_more Of Also f s had line Bad r m = m
+say_more Of Also f s had line Typed r m =
+    type_more (Of had) (Also had) (f had) (command_at s.stock.table s.suites line) r m
 
 -- lines that are told over books are told over whatever these books are
-pub told_more : (Of Also : BookModel → Type 0) → ((b : BookModel) → Of b → Also b) → (s : Setting)
+pub told_more : (Of Also : List Receipt → BookModel → Type 0)
+    → ((had : List Receipt) (b : BookModel) → Of had b → Also had b) → (s : Setting)
     (lines : List (List ℕ)) (t last : Told) → AreTold (MayReply Of s) lines t last
     → AreTold (MayReply Also s) lines t last
 told_more Of Also f s [] t last m = m
 told_more Of Also f s (line ∷ lines) t last m = (
   m.0,
-  say_more Of Also f s line (said_at line) m.0 m.1,
+  say_more Of Also f s t.receipts line (said_at line) m.0 m.1,
   told_more Of Also f s lines (with_reply t m.0) last m.2,
 )

@@ -4,8 +4,9 @@ use Rattle.std.proofs.Common.{None, Some, Bor, refl, sym, subst, arith}
 use Rattle.std.specs.Prelude.{string_bytes}
 use Rattle.atomic_table.specs.Seated.{TableId}
 use Rattle.td_text.specs.Lines.{left_len, lines_left, lines_of}
+use Rattle.td_journal.specs.declared.entry.Mark.{Mark}
 use Rattle.td_desk.specs.declared.receipt.Receipt.{Receipt}
-use Rattle.td_desk.specs.Calls.{IsOfDesk}
+use Rattle.td_desk.specs.Calls.{IsMetBy}
 use Rattle.td_desk.specs.Names.{Origin}
 use Rattle.td_script.specs.declared.told.Told.{Told as ToldText}
 use Rattle.td_script.specs.Replies.{Setting}
@@ -13,35 +14,42 @@ use Rattle.td_crew.specs.Replies.{MayReply}
 use Rattle.td_crew.specs.CrewText.{AreAnswered, AreTold, IsReplied, Told, told_with, untold}
 
 -- whatever is told of what is left, with what was told so far it is told of the whole
-pub record IsSoFar (table : TableId) (origin : Origin) (s : Setting) (script : List ℕ)
+pub record IsSoFar (table : TableId) (origin : Origin) (opened : List Mark) (parts : ℕ)
+    (s : Setting) (script : List ℕ)
     (receipts : List Receipt) (told : ToldText) (rest : Option (Bor (List ℕ))) : Type 0 where
   pub whole : (last : Told)
-      → AreTold (MayReply (IsOfDesk table origin) s) (lines_left rest) (told_with told receipts)
+      → AreTold (MayReply (IsMetBy table origin opened parts) s) (lines_left rest)
+      (told_with told receipts)
       last
-      → AreTold (MayReply (IsOfDesk table origin) s) (lines_of script) untold last
+      → AreTold (MayReply (IsMetBy table origin opened parts) s) (lines_of script) untold last
   pub counted : told.refused + left_len rest ≤ length script + 1
 
-pub so_far-begun : (table : TableId) (origin : Origin) (s : Setting) (script : Bor (List ℕ))
+pub so_far-begun : (table : TableId) (origin : Origin) (opened : List Mark) (parts : ℕ)
+    (s : Setting) (script : Bor (List ℕ))
     (receipts : List Receipt) (told : ToldText) → string_bytes told.text ≡ [] → told.refused ≡ 0
-    → receipts ≡ [] → IsSoFar table origin s script.now receipts told (Some script)
-so_far-begun table origin s script receipts told text none got =
+    → receipts ≡ [] → IsSoFar table origin opened parts s script.now receipts told (Some script)
+so_far-begun table origin opened parts s script receipts told text none got =
     let same : told_with told receipts ≡ untold =
     (λ i. record { text = text i; refused = none i; receipts = got i }) in
     record {
       whole = λ last. subst (λ (t : Told).
-          AreTold (MayReply (IsOfDesk table origin) s) (lines_of script.now) t last) same;
+          AreTold (MayReply (IsMetBy table origin opened parts) s) (lines_of script.now) t last)
+          same;
       counted = omega (arith, none);
     }
 
-pub so_far-next : (table : TableId) (origin : Origin) (s : Setting) (script line : List ℕ)
+pub so_far-next : (table : TableId) (origin : Origin) (opened : List Mark) (parts : ℕ) (s : Setting)
+    (script line : List ℕ)
     (old new : List Receipt) (before after : ToldText) (rest : Bor (List ℕ))
-    (more : Option (Bor (List ℕ))) → IsSoFar table origin s script old before (Some rest)
+    (more : Option (Bor (List ℕ)))
+    → IsSoFar table origin opened parts s script old before (Some rest)
     → lines_of rest.now ≡ line ∷ lines_left more → left_len more ≤ length rest.now
     → after.refused ≤ before.refused + 1
-    → IsReplied table origin s line (told_with before old) (told_with after new)
-    → IsSoFar table origin s script new after more
-so_far-next table origin s script line old new before after rest more h lines shorter few replied =
-    let May = MayReply (IsOfDesk table origin) s in
+    → IsReplied table origin opened parts s line (told_with before old) (told_with after new)
+    → IsSoFar table origin opened parts s script new after more
+so_far-next table origin opened parts s script line old new before after rest more h lines shorter
+    few replied =
+    let May = MayReply (IsMetBy table origin opened parts) s in
     record {
       whole = λ last told. h.whole last
           (subst (λ (ls : List (List ℕ)). AreTold May ls (told_with before old) last) (sym lines) (
@@ -52,12 +60,14 @@ so_far-next table origin s script line old new before after rest more h lines sh
       counted = omega (arith, h.counted, shorter, few);
     }
 
-pub so_far-done : (table : TableId) (origin : Origin) (s : Setting) (script : List ℕ)
+pub so_far-done : (table : TableId) (origin : Origin) (opened : List Mark) (parts : ℕ) (s : Setting)
+    (script : List ℕ)
     (receipts : List Receipt) (told : ToldText) (rest : Option (Bor (List ℕ)))
-    → IsSoFar table origin s script receipts told rest → rest ≡ None
-    → AreAnswered table origin s script receipts told
-so_far-done table origin s script receipts told rest h none =
+    → IsSoFar table origin opened parts s script receipts told rest → rest ≡ None
+    → AreAnswered table origin opened parts s script receipts told
+so_far-done table origin opened parts s script receipts told rest h none =
     h.whole (told_with told receipts)
     (subst (λ (r : Option (Bor (List ℕ))).
-    AreTold (MayReply (IsOfDesk table origin) s) (lines_left r) (told_with told receipts)
+    AreTold (MayReply (IsMetBy table origin opened parts) s) (lines_left r)
+    (told_with told receipts)
     (told_with told receipts)) (sym none) refl)

@@ -1,6 +1,7 @@
 -- What is told of a script that a clerk answers beside builders. This project's own.
 use Rattle.std.specs.Prelude.{◌≡◌, ◌⊎◌, ℕ, ◌+◌, ◌≤◌, false, true, List, [], ◌∷◌, ◌++◌, Option}
-use Rattle.std.specs.Prelude.{Some, None, ◌<◌, ◌^◌, IfSome, IsPermutation, codes, length, if◌then◌else◌, map}
+use Rattle.std.specs.Prelude.{Some, None, ◌<◌, ◌^◌, IfSome, IsPermutation, codes, length}
+use Rattle.std.specs.Prelude.{if◌then◌else◌, map}
 use Rattle.std.specs.Prelude.{string_bytes, zero}
 use Rattle.atomic_table.specs.Seated.{TableId}
 use Rattle.td_text.specs.Lines.{lines_of}
@@ -13,7 +14,7 @@ use Rattle.td_journal.specs.declared.entry.Mark.{Mark}
 use Rattle.td_book.specs.Desk.{BookModel}
 use Rattle.td_book.specs.Ready.{is_any_queued}
 use Rattle.td_desk.specs.declared.receipt.Receipt.{Receipt}
-use Rattle.td_desk.specs.Calls.{IsAtEnd, IsOfDesk}
+use Rattle.td_desk.specs.Calls.{IsAtEnd, IsMetBy, IsOfDesk}
 use Rattle.td_desk.specs.Changes.{changes, still_undone}
 use Rattle.td_desk.specs.GoingOn.{GoesOn}
 use Rattle.td_desk.specs.Marks.{marks_in}
@@ -45,11 +46,13 @@ with_reply t r =
       receipts = t.receipts ++ r.receipts;
     }
 
--- lines are told one after the other, each by a reply that may be made to it
-abbrev pub AreTold : (List ℕ → DeskReply → Type 0) → List (List ℕ) → Told → Told → Type 0
+-- lines are told one after the other, each by a reply that may be made to it by a clerk who has the
+-- receipts of those before it
+abbrev pub AreTold : (List Receipt → List ℕ → DeskReply → Type 0) → List (List ℕ) → Told → Told
+    → Type 0
 AreTold May [] t last = last ≡ t
 AreTold May (line ∷ lines) t last =
-    (r : DeskReply) × May line r × AreTold May lines (with_reply t r) last
+    (r : DeskReply) × May t.receipts line r × AreTold May lines (with_reply t r) last
 
 -- ---- 2. the whole
 
@@ -61,6 +64,12 @@ pub record IsOfCrew (s : Setting) (begun : History) (book : BookModel) : Type 0 
   pub stocked : book.fixed.stock ≡ s.stock
   pub on : GoesOn begun.journal book.history.journal
   pub lawful : Lawful book.history.opening (standing book.history.journal)
+
+-- one with as many changes since the script's start as these receipts of lines
+pub record IsOfCrewAt (s : Setting) (begun : History) (receipts : List Receipt)
+    (book : BookModel) : Type 0 where
+  pub of_crew : IsOfCrew s begun book
+  pub counted : length receipts ≡ length (changes (map (λ m. m.mark) begun.journal) book)
 
 -- a book of the crew's was seen in which no row waits for a builder
 abbrev pub IsHome : Setting → History → Type 0
@@ -77,15 +86,16 @@ IsClosing receipts found refusals =
     ((refusals ≡ 0) × IsPermutation receipts found)
     ⊎ ((refusals ≡ 1) × (IsPermutation receipts found → ⊥))
 
--- the answers to the lines are told, each what some book of the crew's answers, and then the rows
--- of a book of the crew's. What was undone where the script starts is undone in it still, and it has
+-- the answers to the lines are told, each what some book of the crew's answers that has the changes
+-- of the lines before it, and then the rows of a book of the crew's. What was undone where the
+-- script starts is undone in it still, and it has
 -- as many changes as the lines have receipts: none was made that no line asks for. A refusal is a
 -- line that is refused, a builder who is missing, and a closing where the receipts of the lines
 -- aren't the changes of the book. Builders who aren't missing went home where no row waited for one
 pub record EndsWithRows (builders : ℕ) (s : Setting) (begun : History) (script text : List ℕ)
     (refused : ℕ) : Type 0 where
   pub told : Told
-  pub lines : AreTold (MayReply (IsOfCrew s begun) s) (lines_of script) untold told
+  pub lines : AreTold (MayReply (IsOfCrewAt s begun) s) (lines_of script) untold told
   pub book : BookModel
   pub of_crew : IsOfCrew s begun book
   pub still : still_undone book.history.journal (map (λ m. m.mark) begun.journal) ≡ true
@@ -129,21 +139,25 @@ abbrev pub told_with : ToldText → List Receipt → Told
 told_with t receipts =
     record { text = string_bytes t.text; refused = t.refused; receipts = receipts }
 
--- a reply more, which a book of the desk may make
-abbrev pub IsReplied : TableId → Origin → Setting → List ℕ → Told → Told → Type 0
-IsReplied table origin s line old new =
-    (r : DeskReply) × MayReply (IsOfDesk table origin) s line r × (new ≡ with_reply old r)
+-- a reply more, which a book of the desk may make to a clerk of so many parts
+abbrev pub IsReplied : TableId → Origin → List Mark → ℕ → Setting → List ℕ → Told → Told → Type 0
+IsReplied table origin opened parts s line old new =
+    (r : DeskReply) × MayReply (IsMetBy table origin opened parts) s old.receipts line r
+    × (new ≡ with_reply old r)
 
--- the lines are told so by a clerk who has no receipts before
-abbrev pub AreAnswered : TableId → Origin → Setting → List ℕ → List Receipt → ToldText → Type 0
-AreAnswered table origin s script receipts told =
-    AreTold (MayReply (IsOfDesk table origin) s) (lines_of script) untold (told_with told receipts)
+-- the lines are told so by a clerk of so many parts, who has no receipts before
+abbrev pub AreAnswered : TableId → Origin → List Mark → ℕ → Setting → List ℕ → List Receipt
+    → ToldText → Type 0
+AreAnswered table origin opened parts s script receipts told =
+    AreTold (MayReply (IsMetBy table origin opened parts) s) (lines_of script) untold
+    (told_with told receipts)
 
 -- and so many of the builders are missing
-pub record IsShift (table : TableId) (origin : Origin) (s : Setting) (script : List ℕ)
-    (builders missing : ℕ) (receipts : List Receipt) (told : ToldText) : Type 0 where
+pub record IsShift (table : TableId) (origin : Origin) (opened : List Mark) (parts : ℕ)
+    (s : Setting) (script : List ℕ) (builders missing : ℕ) (receipts : List Receipt)
+    (told : ToldText) : Type 0 where
   pub lines : ToldText
-  pub are : AreAnswered table origin s script receipts lines
+  pub are : AreAnswered table origin opened parts s script receipts lines
   pub text_is : string_bytes told.text ≡ string_bytes lines.text
   pub few : missing ≤ builders
   pub home : missing < builders → ∥ IsAtEnd table origin ∥₁

@@ -84,10 +84,10 @@ keys_at ms n =
     ]
 
 -- to a sweep: the keys are those of its entry in a book that is looked at behind it
-abbrev pub IsOfSweep : (BookModel → Type 0) → Option ℕ → DeskReply → Type 0
-IsOfSweep Of None r = r ≡ tells (ended (codes "nothing to sweep"))
-IsOfSweep Of (Some n) r =
-    (b : BookModel) × Of b × (r ≡ makes n (keys_at b.history.journal n) [] (Swept n))
+abbrev pub IsOfSweep : (ℕ → BookModel → Type 0) → Option ℕ → DeskReply → Type 0
+IsOfSweep Behind None r = r ≡ tells (ended (codes "nothing to sweep"))
+IsOfSweep Behind (Some n) r =
+    (b : BookModel) × Behind n b × (r ≡ makes n (keys_at b.history.journal n) [] (Swept n))
 
 -- to a command: its entry is on the rows that it names in the book without those that are skipped
 abbrev pub IsOfCommand : CommandParts → BookModel → Result Taken CommandRefusal → DeskReply → Type 0
@@ -98,7 +98,8 @@ IsOfCommand c b (Err (commands.NothingApplies skips)) r =
     r ≡ declines (codes "NothingApplies") (flat_map skip_line skips)
 IsOfCommand c b (Err commands.NoMemory) r = ⊥
 
--- ---- 3. what may be said, where some books may lie under the desk's lock
+-- ---- 3. what may be said, where some books may lie under the desk's lock. Which ones hangs on the
+-- receipts that the clerk has, since the book has as many changes
 
 -- to an undo of entry n
 abbrev pub MayUndo : (BookModel → Type 0) → ℕ → DeskReply → Type 0
@@ -112,11 +113,11 @@ MayArrive Of k r =
     (old : BookModel) × (new : BookModel) × (answer : Result ℕ ArriveRefusal) × Of old
     × ArriveOutcome k old new answer × IsOfArrival k answer r
 
--- to a sweep
-abbrev pub MaySweep : (BookModel → Type 0) → DeskReply → Type 0
-MaySweep Of r =
-    (old : BookModel) × (new : BookModel) × (swept : Option ℕ) × Of old
-    × SweepOutcome old new (Ok swept) × IsOfSweep Of swept r
+-- to a sweep: behind it the clerk has its receipt, too
+abbrev pub MaySweep : (List Receipt → BookModel → Type 0) → List Receipt → DeskReply → Type 0
+MaySweep Of had r =
+    (old : BookModel) × (new : BookModel) × (swept : Option ℕ) × Of had old
+    × SweepOutcome old new (Ok swept) × IsOfSweep (λ n. Of (had ++ Swept n ∷ [])) swept r
 
 -- to a command
 abbrev pub MayCommand : (BookModel → Type 0) → CommandParts → DeskReply → Type 0
@@ -135,11 +136,12 @@ MayShow Of reply r =
     })
 
 -- to a request
-abbrev pub MayAnswer : (BookModel → Type 0) → Setting → Request → DeskReply → Type 0
-MayAnswer Of s (Undo n) r = MayUndo Of n r
-MayAnswer Of s (Arrive k) r = MayArrive Of k r
-MayAnswer Of s Sweep r = MaySweep Of r
-MayAnswer Of s q r = MayShow Of (λ h. asks s h q) r
+abbrev pub MayAnswer : (List Receipt → BookModel → Type 0) → Setting → List Receipt → Request
+    → DeskReply → Type 0
+MayAnswer Of s had (Undo n) r = MayUndo (Of had) n r
+MayAnswer Of s had (Arrive k) r = MayArrive (Of had) k r
+MayAnswer Of s had Sweep r = MaySweep Of had r
+MayAnswer Of s had q r = MayShow (Of had) (λ h. asks s h q) r
 
 -- to what is typed: to the command that it is, or its first fault
 abbrev pub MayType : (BookModel → Type 0) → Result CommandParts CommandFault → DeskReply → Type 0
@@ -147,15 +149,17 @@ MayType Of (Ok c) r = MayCommand Of c r
 MayType Of (Err fault) r = r ≡ declines (fault_name fault) []
 
 -- to a line, by what it is
-abbrev pub MaySay : (BookModel → Type 0) → Setting → List ℕ → Said → DeskReply → Type 0
-MaySay Of s line Skipped r = r ≡ tells []
-MaySay Of s line (Asked q) r = MayAnswer Of s q r
-MaySay Of s line Bad r = r ≡ declines (codes "BadLine") []
-MaySay Of s line Typed r = MayType Of (command_at s.stock.table s.suites line) r
+abbrev pub MaySay : (List Receipt → BookModel → Type 0) → Setting → List Receipt → List ℕ → Said
+    → DeskReply → Type 0
+MaySay Of s had line Skipped r = r ≡ tells []
+MaySay Of s had line (Asked q) r = MayAnswer Of s had q r
+MaySay Of s had line Bad r = r ≡ declines (codes "BadLine") []
+MaySay Of s had line Typed r = MayType (Of had) (command_at s.stock.table s.suites line) r
 
--- to a line
-abbrev pub MayReply : (BookModel → Type 0) → Setting → List ℕ → DeskReply → Type 0
-MayReply Of s line r = MaySay Of s line (said_at line) r
+-- to a line, by a clerk who has these receipts of the lines before it
+abbrev pub MayReply : (List Receipt → BookModel → Type 0) → Setting → List Receipt → List ℕ
+    → DeskReply → Type 0
+MayReply Of s had line r = MaySay Of s had line (said_at line) r
 
 -- ---- as the code has it
 

@@ -6,7 +6,7 @@ ghost use Rattle.td_rows.specs.declared.kind.Kind.{Kind};
 ghost use Rattle.td_wbread.specs.Views.{parts_of};
 ghost use Rattle.td_desk.specs.declared.receipt.Receipt.{Receipt as ReceiptValue};
 ghost use Rattle.td_desk.specs.declared.receipt.Receipt.TheVariants.{Made};
-ghost use Rattle.td_desk.specs.Calls.{IsOfDesk};
+ghost use Rattle.td_desk.specs.Calls.{IsMetBy};
 ghost use Rattle.td_script.specs.Replies.{entry_made};
 ghost use Rattle.td_script.specs.Settings.{setting_lent};
 ghost use Rattle.td_crew.specs.Lines.{FitAnyBook};
@@ -47,8 +47,10 @@ pub fn command<N: Named, C: Ledger, R: Wait>(
     out: &mut String,
 ) -> Result<bool, AllocError>
     ensures parts { clerk.new.parts ≡ clerk.old.parts }
-    ensures says { IfOk result (Says (MayCommand (IsOfDesk N.table N.origin) (parts_of command.now))
-        (string_bytes out.old) (string_bytes out.new) clerk.old.receipts clerk.new.receipts) }
+    ensures says { IfOk result (Says (MayCommand
+        (IsMetBy N.table N.origin N.opened clerk.old.parts clerk.old.receipts)
+        (parts_of command.now)) (string_bytes out.old) (string_bytes out.new)
+        clerk.old.receipts clerk.new.receipts) }
 {
     match desk.command(rt, clerk, command) {
         Ok(taken) => {
@@ -69,8 +71,9 @@ fn undo<N: Named, C: Ledger, R: Wait>(
     out: &mut String,
 ) -> Result<bool, AllocError>
     ensures parts { clerk.new.parts ≡ clerk.old.parts }
-    ensures says { IfOk result (Says (MayUndo (IsOfDesk N.table N.origin) n) (string_bytes out.old)
-        (string_bytes out.new) clerk.old.receipts clerk.new.receipts) }
+    ensures says { IfOk result (Says (MayUndo
+        (IsMetBy N.table N.origin N.opened clerk.old.parts clerk.old.receipts) n)
+        (string_bytes out.old) (string_bytes out.new) clerk.old.receipts clerk.new.receipts) }
 {
     put_undo(out, n, desk.undo(rt, clerk, n))
 }
@@ -85,7 +88,8 @@ fn arrive<N: Named, C: Ledger, R: Wait>(
     out: &mut String,
 ) -> Result<bool, AllocError>
     ensures parts { clerk.new.parts ≡ clerk.old.parts }
-    ensures says { IfOk result (Says (MayArrive (IsOfDesk N.table N.origin) key.now)
+    ensures says { IfOk result (Says (MayArrive
+        (IsMetBy N.table N.origin N.opened clerk.old.parts clerk.old.receipts) key.now)
         (string_bytes out.old) (string_bytes out.new) clerk.old.receipts clerk.new.receipts) }
 {
     match desk.arrive(rt, clerk, key) {
@@ -107,13 +111,15 @@ fn sweep<N: Named, C: Ledger, R: Wait>(
     out: &mut String,
 ) -> Result<bool, AllocError>
     ensures parts { clerk.new.parts ≡ clerk.old.parts }
-    ensures says { IfOk result (Says (MaySweep (IsOfDesk N.table N.origin)) (string_bytes out.old)
-        (string_bytes out.new) clerk.old.receipts clerk.new.receipts) }
+    ensures says { IfOk result (Says (MaySweep
+        (IsMetBy N.table N.origin N.opened clerk.old.parts) clerk.old.receipts)
+        (string_bytes out.old) (string_bytes out.new) clerk.old.receipts clerk.new.receipts) }
 {
     match desk.sweep(rt, clerk)? {
         Some(n) => {
-            let text = desk.look(
+            let text = desk.look_as(
                 rt,
+                clerk,
                 |book| -> Result<String, AllocError>
                     ensures { IfOk result (λ text. string_bytes text
                         ≡ entry_made n (keys_at book.now.history.journal n)) }
@@ -138,17 +144,19 @@ pub fn ask<N: Named, C: Ledger, T: Reports, R: Wait>(
 ) -> Result<bool, AllocError>
     requires fits { FitAnyBook T.fits lines.now.reports }
     ensures parts { clerk.new.parts ≡ clerk.old.parts }
-    ensures says { IfOk result (Says (MayAnswer (IsOfDesk N.table N.origin)
-        (setting_lent T.text N.origin.stock lines.now.suites.now lines.now.reports) request.now)
+    ensures says { IfOk result (Says (MayAnswer
+        (IsMetBy N.table N.origin N.opened clerk.old.parts)
+        (setting_lent T.text N.origin.stock lines.now.suites.now lines.now.reports)
+        clerk.old.receipts request.now)
         (string_bytes out.old) (string_bytes out.new) clerk.old.receipts clerk.new.receipts) }
 {
     match request {
         Request::Undo(n) => undo(rt, desk, clerk, *n, out),
         Request::Arrive(key) => arrive(rt, desk, clerk, key, out),
         Request::Sweep => sweep(rt, desk, clerk, lines.alloc, out),
-        Request::Row(key) => row(rt, desk, lines.alloc, key, out),
-        Request::Entry(n) => entry(rt, desk, lines.alloc, *n, out),
-        Request::Report => report(rt, desk, lines, out),
-        Request::Journal => journal(rt, desk, lines.alloc, out),
+        Request::Row(key) => row(rt, desk, clerk, lines.alloc, key, out),
+        Request::Entry(n) => entry(rt, desk, clerk, lines.alloc, *n, out),
+        Request::Report => report(rt, desk, clerk, lines, out),
+        Request::Journal => journal(rt, desk, clerk, lines.alloc, out),
     }
 }

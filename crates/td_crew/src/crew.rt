@@ -64,7 +64,7 @@ fn tell_all<N: Named, C: Ledger, T: Reports, R: Wait>(
     requires may_shut { N.may_shut ≡ true }
     ensures parts { IfOk result (λ made. made.1.parts ≡ clerk.parts) }
     ensures few { IfOk result (λ made. made.0.refused ≤ length lines.now.script.now + 1) }
-    ensures told { IfOk result (λ made. AreAnswered N.table N.origin
+    ensures told { IfOk result (λ made. AreAnswered N.table N.origin N.opened clerk.parts
         (setting_lent T.text N.origin.stock lines.now.suites.now lines.now.reports)
         lines.now.script.now made.1.receipts made.0) }
 {
@@ -91,7 +91,7 @@ fn tell_beside<N: Named + Send + Sync, C: Ledger + Send + Sync, T: Reports>(
     requires may_shut { N.may_shut ≡ true }
     ensures parts { IfOk result (λ made. made.1.parts ≡ clerk.parts) }
     ensures few { IfOk result (λ made. made.0.refused ≤ length lines.now.script.now + 1) }
-    ensures told { IfOk result (λ made. AreAnswered N.table N.origin
+    ensures told { IfOk result (λ made. AreAnswered N.table N.origin N.opened clerk.parts
         (setting_lent T.text N.origin.stock lines.now.suites.now lines.now.reports)
         lines.now.script.now made.1.receipts made.0) }
 {
@@ -106,7 +106,7 @@ fn tell_beside<N: Named + Send + Sync, C: Ledger + Send + Sync, T: Reports>(
             ensures parts { IfOk result (λ made. made.1.parts ≡ clerk.parts) }
             ensures few { IfOk result (λ made.
                 made.0.refused ≤ length lines.entry.now.script.now + 1) }
-            ensures told { IfOk result (λ made. AreAnswered N.table N.origin
+            ensures told { IfOk result (λ made. AreAnswered N.table N.origin N.opened clerk.parts
                 (setting_lent T.text N.origin.stock lines.entry.now.suites.now
                 lines.entry.now.reports) lines.entry.now.script.now made.1.receipts made.0) }
         {
@@ -119,8 +119,8 @@ fn tell_beside<N: Named + Send + Sync, C: Ledger + Send + Sync, T: Reports>(
     )
 }
 
-// What is told of the lines beside builders on these seats, the clerk with the receipts of them, and
-// who went home. Each builder who is missing is a refusal.
+// What is told of the lines beside builders on these seats, the clerk with the receipts of them,
+// and who went home. Each builder who is missing is a refusal.
 fn tell_in_shift<N: Named + Send + Sync, C: Ledger + Send + Sync, T: Reports>(
     rt: &(impl Threads + Wait + Sync),
     desk: &Desk<'_, N, C>,
@@ -138,7 +138,7 @@ fn tell_in_shift<N: Named + Send + Sync, C: Ledger + Send + Sync, T: Reports>(
     ensures parts { IfOk result (λ made. made.1.parts ≡ clerk.parts) }
     ensures few { IfOk result (λ made.
         made.0.refused ≤ length lines.now.script.now + length seats.items + 1) }
-    ensures told { IfOk result (λ made. IsShift N.table N.origin
+    ensures told { IfOk result (λ made. IsShift N.table N.origin N.opened clerk.parts
         (setting_lent T.text N.origin.stock lines.now.suites.now lines.now.reports)
         lines.now.script.now (length seats.items) (length seats.items - made.2.count)
         made.1.receipts made.0) }

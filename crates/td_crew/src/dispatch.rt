@@ -2,7 +2,7 @@
 ghost use Rattle.std.specs.Prelude.{◌≡◌, IfOk, map, string_bytes};
 ghost use Rattle.td_relation.specs.TableView.{table};
 ghost use Rattle.td_wbread.specs.Command.{command_at};
-ghost use Rattle.td_desk.specs.Calls.{IsOfDesk};
+ghost use Rattle.td_desk.specs.Calls.{IsMetBy};
 ghost use Rattle.td_script.specs.Settings.{setting_lent};
 ghost use Rattle.td_crew.specs.Lines.{FitAnyBook};
 ghost use Rattle.td_crew.specs.Replies.{MayReply, MayType, Says};
@@ -26,7 +26,8 @@ fn type_in<N: Named, C: Ledger, T: Reports, R: Wait>(
     out: &mut String,
 ) -> Result<bool, AllocError>
     ensures parts { clerk.new.parts ≡ clerk.old.parts }
-    ensures says { IfOk result (Says (MayType (IsOfDesk N.table N.origin)
+    ensures says { IfOk result (Says (MayType
+        (IsMetBy N.table N.origin N.opened clerk.old.parts clerk.old.receipts)
         (command_at (table lines.now.archs.now) (map (λ s. s.now) lines.now.suites.now) line.now))
         (string_bytes out.old) (string_bytes out.new) clerk.old.receipts clerk.new.receipts) }
 {
@@ -52,8 +53,10 @@ pub fn answer<N: Named, C: Ledger, T: Reports, R: Wait>(
     requires fits { FitAnyBook T.fits lines.now.reports }
     requires archs { table lines.now.archs.now ≡ N.origin.stock.table }
     ensures parts { clerk.new.parts ≡ clerk.old.parts }
-    ensures says { IfOk result (Says (MayReply (IsOfDesk N.table N.origin)
-        (setting_lent T.text N.origin.stock lines.now.suites.now lines.now.reports) line.now)
+    ensures says { IfOk result (Says (MayReply
+        (IsMetBy N.table N.origin N.opened clerk.old.parts)
+        (setting_lent T.text N.origin.stock lines.now.suites.now lines.now.reports)
+        clerk.old.receipts line.now)
         (string_bytes out.old) (string_bytes out.new) clerk.old.receipts clerk.new.receipts) }
 {
     match read_line(lines.alloc, line)? {

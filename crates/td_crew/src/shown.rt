@@ -1,10 +1,9 @@
 //! What is read off the book of a desk, put in the words of scripts.
-ghost use Rattle.std.specs.Prelude.{◌≡◌, ◌++◌, List, IfOk, option_map, string_bytes};
+ghost use Rattle.std.specs.Prelude.{◌≡◌, ◌++◌, IfOk, option_map, string_bytes};
 ghost use Rattle.td_rows.specs.Table.{row_of};
 ghost use Rattle.td_journal.specs.JournalText.{journal_text};
 ghost use Rattle.td_core.specs.History.{rows_of};
-ghost use Rattle.td_desk.specs.declared.receipt.Receipt.{Receipt as ReceiptValue};
-ghost use Rattle.td_desk.specs.Calls.{IsOfDesk};
+ghost use Rattle.td_desk.specs.Calls.{IsMetBy};
 ghost use Rattle.td_script.specs.Replies.{entry_made, reports as reports_of, says, shows_entry};
 ghost use Rattle.td_script.specs.Replies.{shows_row};
 ghost use Rattle.td_crew.specs.Lines.{FitAnyBook};
@@ -15,7 +14,7 @@ use std::alloc::{AllocError, Global};
 use std::sync::Wait;
 use std::sync::ledger::Ledger;
 use td_book::Book;
-use td_desk::{Desk, Looks, Named};
+use td_desk::{Clerk, Desk, Looks, Named};
 use td_journal::EntryNo;
 use td_rows::Key;
 use td_script::{Reports, put_taken, show_entry, show_journal, show_report, show_row};
@@ -51,17 +50,20 @@ fn row_in(alloc: Global, book: &Book<'_>, key: &Key) -> Result<Shown, AllocError
 pub fn row<N: Named, C: Ledger, R: Wait>(
     rt: &R,
     desk: &Desk<'_, N, C>,
+    clerk: &mut Clerk<C>,
     alloc: Global,
     key: &Key,
     out: &mut String,
 ) -> Result<bool, AllocError>
-    ensures { (receipts : List ReceiptValue) → IfOk result (Says
-        (MayShow (IsOfDesk N.table N.origin)
+    ensures same { clerk.new ≡ clerk.old }
+    ensures says { IfOk result (Says
+        (MayShow (IsMetBy N.table N.origin N.opened clerk.old.parts clerk.old.receipts)
         (λ h. shows_row h key.now (row_of (rows_of h) key.now)))
-        (string_bytes out.old) (string_bytes out.new) receipts receipts) }
+        (string_bytes out.old) (string_bytes out.new) clerk.old.receipts clerk.old.receipts) }
 {
-    let shown = desk.look(
+    let shown = desk.look_as(
         rt,
+        clerk,
         |book| -> Result<Shown, AllocError>
             ensures { IfOk result (IsShown (shows_row book.now.history key.entry.now
                 (row_of (rows_of book.now.history) key.entry.now))) }
@@ -83,16 +85,20 @@ fn entry_in(alloc: Global, book: &Book<'_>, n: EntryNo) -> Result<Shown, AllocEr
 pub fn entry<N: Named, C: Ledger, R: Wait>(
     rt: &R,
     desk: &Desk<'_, N, C>,
+    clerk: &mut Clerk<C>,
     alloc: Global,
     n: EntryNo,
     out: &mut String,
 ) -> Result<bool, AllocError>
-    ensures { (receipts : List ReceiptValue) → IfOk result (Says
-        (MayShow (IsOfDesk N.table N.origin) (λ h. shows_entry h n)) (string_bytes out.old)
-        (string_bytes out.new) receipts receipts) }
+    ensures same { clerk.new ≡ clerk.old }
+    ensures says { IfOk result (Says
+        (MayShow (IsMetBy N.table N.origin N.opened clerk.old.parts clerk.old.receipts)
+        (λ h. shows_entry h n))
+        (string_bytes out.old) (string_bytes out.new) clerk.old.receipts clerk.old.receipts) }
 {
-    let shown = desk.look(
+    let shown = desk.look_as(
         rt,
+        clerk,
         |book| -> Result<Shown, AllocError>
             ensures { IfOk result (IsShown (shows_entry book.now.history n)) }
         { entry_in(alloc, book, n) },
@@ -114,15 +120,19 @@ fn journal_in(alloc: Global, book: &Book<'_>) -> Result<Shown, AllocError>
 pub fn journal<N: Named, C: Ledger, R: Wait>(
     rt: &R,
     desk: &Desk<'_, N, C>,
+    clerk: &mut Clerk<C>,
     alloc: Global,
     out: &mut String,
 ) -> Result<bool, AllocError>
-    ensures { (receipts : List ReceiptValue) → IfOk result (Says
-        (MayShow (IsOfDesk N.table N.origin) (λ h. says h (journal_text h.journal)))
-        (string_bytes out.old) (string_bytes out.new) receipts receipts) }
+    ensures same { clerk.new ≡ clerk.old }
+    ensures says { IfOk result (Says
+        (MayShow (IsMetBy N.table N.origin N.opened clerk.old.parts clerk.old.receipts)
+        (λ h. says h (journal_text h.journal)))
+        (string_bytes out.old) (string_bytes out.new) clerk.old.receipts clerk.old.receipts) }
 {
-    let shown = desk.look(
+    let shown = desk.look_as(
         rt,
+        clerk,
         |book| -> Result<Shown, AllocError>
             ensures { IfOk result (IsShown
                 (says book.now.history (journal_text book.now.history.journal))) }
@@ -160,20 +170,22 @@ impl<T: Reports> Looks<Result<Shown, AllocError>> for Reporter<'_, T> {
 pub fn report<N: Named, C: Ledger, T: Reports, R: Wait>(
     rt: &R,
     desk: &Desk<'_, N, C>,
+    clerk: &mut Clerk<C>,
     lines: &Lines<'_, '_, T>,
     out: &mut String,
 ) -> Result<bool, AllocError>
     requires fits { FitAnyBook T.fits lines.now.reports }
-    ensures { (receipts : List ReceiptValue) → IfOk result (Says
-        (MayShow (IsOfDesk N.table N.origin)
+    ensures same { clerk.new ≡ clerk.old }
+    ensures says { IfOk result (Says
+        (MayShow (IsMetBy N.table N.origin N.opened clerk.old.parts clerk.old.receipts)
         (λ h. reports_of h (option_map (λ r. T.text r.now) lines.now.reports)))
-        (string_bytes out.old) (string_bytes out.new) receipts receipts) }
+        (string_bytes out.old) (string_bytes out.new) clerk.old.receipts clerk.old.receipts) }
 {
     let reporter = Reporter {
         alloc: lines.alloc,
         reports: lines.reports,
     };
-    let shown = desk.show::<Result<Shown, AllocError>, _, _>(rt, &reporter)?;
+    let shown = desk.show_as::<Result<Shown, AllocError>, _, _>(rt, clerk, &reporter)?;
     put_shown(out, shown)
 }
 

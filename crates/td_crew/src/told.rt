@@ -28,7 +28,7 @@ fn add_line<N: Named, C: Ledger, T: Reports, R: Wait>(
     requires room { told.old.refused < 2 ^ 63 }
     ensures parts { clerk.new.parts ≡ clerk.old.parts }
     ensures few { OnOk result (told.new.refused ≤ told.old.refused + 1) }
-    ensures replied { OnOk result (IsReplied N.table N.origin
+    ensures replied { OnOk result (IsReplied N.table N.origin N.opened clerk.old.parts
         (setting_lent T.text N.origin.stock lines.now.suites.now lines.now.reports) line.now
         (told_with told.old clerk.old.receipts) (told_with told.new clerk.new.receipts)) }
 {
@@ -51,7 +51,7 @@ pub fn tell_lines<N: Named, C: Ledger, T: Reports, R: Wait>(
     requires new { clerk.old.receipts ≡ [] }
     ensures parts { clerk.new.parts ≡ clerk.old.parts }
     ensures few { IfOk result (λ told. told.refused ≤ length lines.now.script.now + 1) }
-    ensures told { IfOk result (AreAnswered N.table N.origin
+    ensures told { IfOk result (AreAnswered N.table N.origin N.opened clerk.old.parts
         (setting_lent T.text N.origin.stock lines.now.suites.now lines.now.reports)
         lines.now.script.now clerk.new.receipts) }
 {

@@ -1,20 +1,39 @@
--- What a command answers over the locked book, with the clerk's receipt.
-use Rattle.std.proofs.Common.{◌≡◌, ◌⊎◌, inr, Result, Err}
+-- What the calls of a clerk answer over the locked book, with the clerk's receipts.
+use Rattle.std.proofs.Common.{◌≡◌, ◌⊎◌, inr, ℕ, List, length, Result, Err, ap, sym, ◌∙◌}
 use Rattle.std.specs.Prelude.{IfOk}
 use Rattle.atomic_table.specs.Seated.{TableId}
+use Rattle.td_journal.specs.declared.entry.Mark.{Mark}
 use Rattle.td_wbread.specs.Command.{CommandParts}
 use Rattle.td_book.specs.declared.commanding.CommandRefusal.{CommandRefusal}
 use Rattle.td_book.specs.declared.commanding.CommandRefusal.TheVariants as commands
 use Rattle.td_book.specs.declared.commanding.Taken.{Taken}
 use Rattle.td_book.specs.Commands.{IsDone}
 use Rattle.td_book.specs.Desk.{BookModel}
+use Rattle.td_desk.specs.declared.receipt.Receipt.{Receipt}
+use Rattle.td_desk.specs.Changes.{changes}
 use Rattle.td_desk.specs.Clerks.{ClerkModel, with_receipt}
-use Rattle.td_desk.specs.Calls.{Commanding, IsOfDesk, command_receipt}
+use Rattle.td_desk.specs.Calls.{Commanding, IsMetBy, IsOfDesk, command_receipt}
 use Rattle.td_desk.specs.Names.{Origin}
 
-pub commanded : (c : CommandParts) (table : TableId) (origin : Origin) (clerk after : ClerkModel)
-    (r : Result Taken CommandRefusal) (old new : BookModel) → IsOfDesk table origin old
-    → IsDone c old new r
+-- a clerk whose share counts its receipts meets a book with as many changes, where it has all parts
+pub met : (table : TableId) (origin : Origin) (opened : List Mark) (clerk : ClerkModel)
+    (book locked : BookModel) (share amount all parts : ℕ) (receipts : List Receipt)
+    → IsOfDesk table origin book → book ≡ locked
+    → (share ≡ all → amount ≡ length (changes opened locked))
+    → share ≡ parts → all ≡ 1024 → amount ≡ length receipts
+    → record { parts = parts; receipts = receipts } ≡ clerk
+    → IsMetBy table origin opened clerk.parts clerk.receipts book
+met table origin opened clerk book locked share amount all parts receipts of is whole own every
+    count same = record {
+      of_desk = of;
+      counted = λ has.
+          ap (λ (c : ClerkModel). length c.receipts) (sym same) ∙ sym count
+          ∙ whole (own ∙ ap (λ (c : ClerkModel). c.parts) same ∙ has ∙ sym every)
+          ∙ ap (λ (b : BookModel). length (changes opened b)) (sym is);
+    }
+
+pub commanded : (c : CommandParts) (Met : BookModel → Type 0) (clerk after : ClerkModel)
+    (r : Result Taken CommandRefusal) (old new : BookModel) → Met old → IsDone c old new r
     → IfOk r (λ t. after ≡ with_receipt (command_receipt c old t) clerk)
-    → (r ≡ Err commands.NoMemory) ⊎ Commanding c table origin clerk after r
-commanded c table origin clerk after r old new of is told = inr (old, new, of, is, told)
+    → (r ≡ Err commands.NoMemory) ⊎ Commanding c Met clerk after r
+commanded c Met clerk after r old new of is told = inr (old, new, of, is, told)

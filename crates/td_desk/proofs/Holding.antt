@@ -1,5 +1,5 @@
 -- What is kept of the book under the lock, over each call.
-use Rattle.std.proofs.Common.{◌≡◌, ℕ, ◌+◌, ◌≤◌, List, true, length, ap, sym, ◌∙◌, arith}
+use Rattle.std.proofs.Common.{◌≡◌, ℕ, ◌+◌, ◌≤◌, List, true, length, ap, sym, subst, ◌∙◌, arith}
 use Rattle.atomic_table.specs.Seated.{TableId}
 use Rattle.td_journal.specs.declared.entry.Mark.{Mark}
 use Rattle.td_book.specs.Desk.{BookModel, Fixed}
@@ -54,3 +54,10 @@ pub held_grown : {table : TableId} {origin : Origin} {opened : List Mark} {old n
 held_grown h count more room same k added =
     held_on _ h count more room same k.fixed k.still k.long k.on
     (one_more _ _ _ k.one ∙ (ap (λ n. n + 1) h.counted ∙ sym added))
+
+-- the ledger is read, and counts as much
+pub held_audited : (table : TableId) (origin : Origin) (opened : List Mark) (book : BookModel)
+    (total sum : ℕ) (ticks : List Tick) → IsHeld table origin opened book total ticks
+    → sum ≡ total → IsHeld table origin opened book sum ticks
+held_audited table origin opened book total sum ticks h same =
+    subst (λ (n : ℕ). IsHeld table origin opened book n ticks) (sym same) h

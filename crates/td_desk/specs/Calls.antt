@@ -1,13 +1,15 @@
 -- What the calls of a desk answer, each over some book of the desk, and what receipt a clerk gets.
 -- This project's own.
-use Rattle.std.specs.Prelude.{◌≡◌, ◌≢◌, ◌⊎◌, ℕ, false, not, List, [], ◌∷◌, Option, None, Result, Err}
-use Rattle.std.specs.Prelude.{IfOk, filter, map}
+use Rattle.std.specs.Prelude.{◌≡◌, ◌≢◌, ◌⊎◌, ℕ, false, not, List, [], ◌∷◌, Option, None, Result}
+use Rattle.std.specs.Prelude.{Err}
+use Rattle.std.specs.Prelude.{IfOk, filter, length, map}
 use Rattle.std.specs.declared.alloc.AllocError.{AllocError}
 use Rattle.atomic_table.specs.Seated.{TableId}
 use Rattle.td_rows.specs.declared.key.Key.{Key}
 use Rattle.td_rows.specs.declared.kind.Kind.TheVariants as kinds
 use Rattle.td_rows.specs.declared.outcome.Outcome.{Outcome}
 use Rattle.td_rows.specs.Keys.{names}
+use Rattle.td_journal.specs.declared.entry.Mark.{Mark}
 use Rattle.td_journal.specs.Entries.{standing}
 use Rattle.td_journal.specs.Replay.{Lawful}
 use Rattle.td_core.specs.History.{rows_of}
@@ -37,6 +39,7 @@ use Rattle.td_book.specs.Ready.{IsReady, is_any_queued}
 use Rattle.td_book.specs.Undoing.{UndoAnswer, undo_stop}
 use Rattle.td_desk.specs.declared.receipt.Receipt.{Receipt}
 use Rattle.td_desk.specs.declared.receipt.Receipt.TheVariants.{Made}
+use Rattle.td_desk.specs.Changes.{changes}
 use Rattle.td_desk.specs.Clerks.{ClerkModel, with_receipt}
 use Rattle.td_desk.specs.GoingOn.{Begins}
 use Rattle.td_desk.specs.Names.{Origin}
@@ -71,11 +74,19 @@ pub record IsOfDesk (table : TableId) (origin : Origin) (book : BookModel) : Typ
   pub began : Begins origin book.history.journal
   pub lawful : Lawful book.history.opening (standing book.history.journal)
 
--- a command's, and the clerk's receipt where it is accepted
-abbrev pub Commanding : CommandParts → TableId → Origin → ClerkModel → ClerkModel
+-- a book that a clerk of so many parts of the ledger may meet, with these receipts: one of the
+-- desk,
+-- with as many changes since its opening as the clerk has receipts, where the clerk has all parts
+pub record IsMetBy (table : TableId) (origin : Origin) (opened : List Mark) (parts : ℕ)
+    (receipts : List Receipt) (book : BookModel) : Type 0 where
+  pub of_desk : IsOfDesk table origin book
+  pub counted : parts ≡ 1024 → length receipts ≡ length (changes opened book)
+
+-- a command's, where some books may be met, and the clerk's receipt where it is accepted
+abbrev pub Commanding : CommandParts → (BookModel → Type 0) → ClerkModel → ClerkModel
     → Result Taken CommandRefusal → Type 0
-Commanding c table origin clerk after result =
-    (old : BookModel) × (new : BookModel) × IsOfDesk table origin old × IsDone c old new result
+Commanding c Met clerk after result =
+    (old : BookModel) × (new : BookModel) × Met old × IsDone c old new result
     × IfOk result (λ t. after ≡ with_receipt (command_receipt c old t) clerk)
 
 -- what a book answers to the undo of entry n; but where memory is wanting before it is undone, an
@@ -86,20 +97,18 @@ UndoTold n old new result =
     ⊎ UndoAnswer (undo_stop old.history.journal n) n old new result
 
 -- an undo's: what such a book answers to it so
-abbrev pub Undoing : ℕ → TableId → Origin → Result (Unit {0}) UndoRefusal → Type 0
-Undoing n table origin result =
-    (old : BookModel) × (new : BookModel) × IsOfDesk table origin old × UndoTold n old new result
+abbrev pub Undoing : ℕ → (BookModel → Type 0) → Result (Unit {0}) UndoRefusal → Type 0
+Undoing n Met result =
+    (old : BookModel) × (new : BookModel) × Met old × UndoTold n old new result
 
 -- an arrival's: what such a book answers to the arrival of this key's build
-abbrev pub Arriving : Key → TableId → Origin → Result ℕ ArriveRefusal → Type 0
-Arriving k table origin result =
-    (old : BookModel) × (new : BookModel) × IsOfDesk table origin old
-    × ArriveOutcome k old new result
+abbrev pub Arriving : Key → (BookModel → Type 0) → Result ℕ ArriveRefusal → Type 0
+Arriving k Met result =
+    (old : BookModel) × (new : BookModel) × Met old × ArriveOutcome k old new result
 
 -- a sweep's: what such a book answers to it
-abbrev pub Sweeping : TableId → Origin → Result (Option ℕ) AllocError → Type 0
-Sweeping table origin result =
-    (old : BookModel) × (new : BookModel) × IsOfDesk table origin old × SweepOutcome old new result
+abbrev pub Sweeping : (BookModel → Type 0) → Result (Option ℕ) AllocError → Type 0
+Sweeping Met result = (old : BookModel) × (new : BookModel) × Met old × SweepOutcome old new result
 
 -- a start's: what such a book answers to the builder of this seat, by its hand
 abbrev pub Starting : BuilderModel → TableId → Origin → Result Job StartRefusal → Type 0

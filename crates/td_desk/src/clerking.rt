@@ -2,7 +2,8 @@
 ghost use Rattle.std.specs.Prelude.{◌≡◌, ◌⊎◌, ◌∷◌, [], Err, IfOk, OnOk, OnErr, MatchOption};
 ghost use Rattle.td_wbread.specs.Views.{parts_of};
 ghost use Rattle.td_desk.specs.declared.receipt.Receipt.TheVariants as receipt;
-ghost use Rattle.td_desk.specs.Calls.{Commanding, Undoing, Arriving, Sweeping, arrival_receipt};
+ghost use Rattle.td_desk.specs.Calls.{Commanding, Undoing, Arriving, Sweeping, IsMetBy};
+ghost use Rattle.td_desk.specs.Calls.{arrival_receipt};
 ghost use Rattle.td_desk.specs.Clerks.{with_receipt};
 
 use crate::clerk::Clerk;
@@ -18,7 +19,8 @@ use td_wbread::Command;
 
 impl<'a, N: Named, C: Ledger> Desk<'a, N, C> {
     /// A command by a clerk. The receipt has the rows that the command names, without those that
-    /// the answer skips.
+    /// the answer skips. If the clerk has all parts, the book that answers has as many changes as
+    /// the clerk has receipts, here and at its other calls.
     pub fn command<R: Wait>(
         &self,
         rt: &R,
@@ -26,13 +28,15 @@ impl<'a, N: Named, C: Ledger> Desk<'a, N, C> {
         command: &Command<'_>,
     ) -> Result<Taken, CommandRefusal>
         ensures answer { (result ≡ Err CommandRefusal.NoMemory)
-            ⊎ Commanding (parts_of command.now) N.table N.origin clerk.old clerk.new result }
+            ⊎ Commanding (parts_of command.now)
+            (IsMetBy N.table N.origin N.opened clerk.old.parts clerk.old.receipts)
+            clerk.old clerk.new result }
         ensures err { OnErr result (clerk.new ≡ clerk.old) }
     {
         if clerk.receipts.reserve(1).is_err() {
             return Err(CommandRefusal::NoMemory);
         }
-        let answer = self.locked.lock(rt).command(
+        let answer = self.locked.lock_as(rt, &mut clerk.share).command(
             self.alloc,
             &self.board,
             &mut clerk.share,
@@ -48,12 +52,13 @@ impl<'a, N: Named, C: Ledger> Desk<'a, N, C> {
     pub fn undo<R: Wait>(&self, rt: &R, clerk: &mut Clerk<C>, n: EntryNo) -> Result<(), UndoRefusal>
         ensures ok { OnOk result (clerk.new ≡ with_receipt (receipt.Undid n) clerk.old) }
         ensures err { OnErr result (clerk.new ≡ clerk.old) }
-        ensures answer { Undoing n N.table N.origin result }
+        ensures answer { Undoing n
+            (IsMetBy N.table N.origin N.opened clerk.old.parts clerk.old.receipts) result }
     {
         let _ = clerk.receipts.reserve(1);
         let answer = self
             .locked
-            .lock(rt)
+            .lock_as(rt, &mut clerk.share)
             .undo(&self.board, &mut clerk.share, &mut clerk.receipts, n);
         self.locked.wake();
         answer
@@ -70,12 +75,13 @@ impl<'a, N: Named, C: Ledger> Desk<'a, N, C> {
         ensures ok { IfOk result (λ n.
             clerk.new ≡ with_receipt (arrival_receipt key.now n) clerk.old) }
         ensures err { OnErr result (clerk.new ≡ clerk.old) }
-        ensures answer { Arriving key.now N.table N.origin result }
+        ensures answer { Arriving key.now
+            (IsMetBy N.table N.origin N.opened clerk.old.parts clerk.old.receipts) result }
     {
         let _ = clerk.receipts.reserve(1);
         let answer = self
             .locked
-            .lock(rt)
+            .lock_as(rt, &mut clerk.share)
             .arrive(&mut clerk.share, &mut clerk.receipts, key, self.alloc);
         self.locked.wake();
         answer
@@ -91,12 +97,13 @@ impl<'a, N: Named, C: Ledger> Desk<'a, N, C> {
             (clerk.new ≡ clerk.old)
             (λ n. clerk.new ≡ with_receipt (receipt.Swept n) clerk.old)) }
         ensures err { OnErr result (clerk.new ≡ clerk.old) }
-        ensures answer { OnOk result (Sweeping N.table N.origin result) }
+        ensures answer { OnOk result (Sweeping
+            (IsMetBy N.table N.origin N.opened clerk.old.parts clerk.old.receipts) result) }
     {
         clerk.receipts.reserve(1)?;
         let swept = self
             .locked
-            .lock(rt)
+            .lock_as(rt, &mut clerk.share)
             .sweep(&self.board, &mut clerk.share, &mut clerk.receipts)?;
         let Some(n) = swept else {
             return Ok(None);

@@ -1,12 +1,13 @@
 //! The lock of a desk, and who waits at it for work.
-ghost use Rattle.std.specs.Prelude.{◌≡◌, ◌||◌, false, not, true};
+ghost use Rattle.std.specs.Prelude.{◌≡◌, ◌||◌, false, length, not, true};
 ghost use Rattle.std.specs.Sync.Mutex.{mutex_guard_value};
 ghost use Rattle.td_core.specs.History.{rows_of};
 ghost use Rattle.td_book.specs.Ready.{is_any_queued};
+ghost use Rattle.td_desk.specs.Changes.{changes};
 
 use crate::locked::{Locked, Shut};
 use crate::named::Named;
-use std::sync::ledger::Ledger;
+use std::sync::ledger::{Ledger, Share};
 use std::sync::{Condvar, Mutex, MutexGuard, Wait};
 
 /// What lies under the lock. It is made open, and `shut` alone shuts it: the fields are seen here
@@ -31,6 +32,23 @@ impl<'a, N: Named, C: Ledger> Lock<'a, N, C> {
     /// Waits for the lock, and takes it.
     pub(crate) fn lock<R: Wait>(&self, rt: &R) -> MutexGuard<'_, Locked<'a, N, C>> {
         self.locked.lock(rt)
+    }
+
+    /// Waits for the lock, and takes it for a clerk with this share of the ledger. A share with all
+    /// parts counts as much as the book has changes.
+    pub(crate) fn lock_as<R: Wait>(
+        &self,
+        rt: &R,
+        mine: &mut Share<C>,
+    ) -> MutexGuard<'_, Locked<'a, N, C>>
+        ensures parts { mine.new.parts ≡ mine.old.parts }
+        ensures amount { mine.new.amount ≡ mine.old.amount }
+        ensures whole { mine.old.parts ≡ C.parts
+            → mine.old.amount ≡ length (changes N.opened (mutex_guard_value result).book) }
+    {
+        let mut locked = self.locked.lock(rt);
+        locked.audit(mine);
+        locked
     }
 
     /// Wakes those who wait for work.

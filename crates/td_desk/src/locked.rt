@@ -1,5 +1,5 @@
 //! What lies under the lock of a desk.
-ghost use Rattle.std.specs.Prelude.{◌≡◌, ◌||◌, ◌<◌, vec_len, vec_capacity, not};
+ghost use Rattle.std.specs.Prelude.{◌≡◌, ◌||◌, ◌<◌, length, vec_len, vec_capacity, not};
 ghost use Rattle.std.specs.Prelude.{true, false, OnOk, OnErr, OnSome, IfOk, MatchOption, is_none};
 ghost use Rattle.td_book.specs.Arriving.{ArriveOutcome, SweepOutcome};
 ghost use Rattle.td_book.specs.Building.{StartOutcome};
@@ -83,6 +83,19 @@ impl<'a, N: Named, C: Ledger> Locked<'a, N, C> {
         // (`rows` says that the history is lawful)
         let _lawful = self.book.rows();
         &self.book
+    }
+
+    /// Reads the ledger: a share with all parts counts as much as the book has changes.
+    #[tactic(auto, using(crate::proofs::Holding::held_audited))]
+    pub(crate) fn audit(&mut self, mine: &mut Share<C>)
+        ensures book { self.new.book ≡ self.old.book }
+        ensures shut { self.new.shut ≡ self.old.shut }
+        ensures parts { mine.new.parts ≡ mine.old.parts }
+        ensures amount { mine.new.amount ≡ mine.old.amount }
+        ensures whole { mine.old.parts ≡ C.parts
+            → mine.old.amount ≡ length (changes N.opened self.new.book) }
+    {
+        self.ledger.audit(mine);
     }
 
     /// Shuts the desk.

@@ -1,8 +1,10 @@
 //! What looks at the book of a desk, if a closure can't say what it saw: `look` learns nothing of a
 //! closure that captures a value of a type parameter.
+ghost use Rattle.std.specs.Prelude.{◌≡◌};
 ghost use Rattle.td_book.specs.Desk.{BookModel};
-ghost use Rattle.td_desk.specs.Calls.{IsOfDesk};
+ghost use Rattle.td_desk.specs.Calls.{IsMetBy, IsOfDesk};
 
+use crate::clerk::Clerk;
 use crate::desk::Desk;
 use crate::named::Named;
 use std::sync::Wait;
@@ -31,6 +33,19 @@ impl<'a, N: Named, C: Ledger> Desk<'a, N, C> {
         ensures { (book : BookModel) × IsOfDesk N.table N.origin book × L.sees to.now book result }
     {
         let locked = self.locked.lock(rt);
+        to.see(locked.book())
+    }
+
+    /// Lends the locked book to what looks at it for a clerk. If the clerk has all parts, the book
+    /// has as many changes as the clerk has receipts.
+    pub fn show_as<T, L: Looks<T>, R: Wait>(&self, rt: &R, clerk: &mut Clerk<C>, to: &L) -> T
+        requires { L.asks to.now }
+        ensures same { clerk.new ≡ clerk.old }
+        ensures seen { (book : BookModel)
+            × IsMetBy N.table N.origin N.opened clerk.old.parts clerk.old.receipts book
+            × L.sees to.now book result }
+    {
+        let locked = self.locked.lock_as(rt, &mut clerk.share);
         to.see(locked.book())
     }
 }

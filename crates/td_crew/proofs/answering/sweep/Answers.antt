@@ -1,9 +1,10 @@
 -- What is said to a sweep is what a book of the desk answers.
-use Rattle.std.proofs.Common.{◌≡◌, Ok, Option, ℕ, rules, subst}
+use Rattle.std.proofs.Common.{◌≡◌, List, Ok, Option, ℕ, rules, subst}
 use Rattle.std.specs.Prelude.{MatchOption, string_bytes}
 use Rattle.td_book.specs.Desk.{BookModel}
+use Rattle.td_desk.specs.declared.receipt.Receipt.{Receipt}
 use Rattle.td_desk.specs.declared.receipt.Receipt.TheVariants.{Swept}
-use Rattle.td_desk.specs.Calls.{Sweeping}
+use Rattle.td_desk.specs.Calls.{IsMetBy, Sweeping}
 use Rattle.td_desk.specs.Clerks.{with_receipt}
 use Rattle.td_script.specs.Replies.{entry_made}
 use Rattle.td_crew.specs.Replies.{keys_at}
@@ -13,28 +14,32 @@ use Rattle.td_crew.proofs.answering.sweep.Goals as goal
 pub returns-in_ok-push_str-in-Some-clause-says : goal.returns-in_ok-push_str-in-Some-clause-says
 returns-in_ok-push_str-in-Some-clause-says g c =
     let old = c.args.clerk.now in
-    let new = c.sweep.new.clerk in
+    let mid = c.sweep.new.clerk in
     let n = c.in-Some.n in
-    let seen = c.in_ok-text-in-Some.ensures in
-    let answer = subst (λ (o : Option ℕ). Sweeping g.N.Named.table g.N.Named.origin (Ok o))
+    let Of = λ (parts : ℕ) (had : List Receipt) (b : BookModel).
+    IsMetBy g.N.Named.table g.N.Named.origin g.N.Named.opened parts had b in
+    let seen = c.in_ok-text-in-Some.ensures.seen in
+    let answer = subst (λ (o : Option ℕ). Sweeping (Of old.parts old.receipts) (Ok o))
     c.in-Some.is c.in_ok-n.ensures.answer in
     let got = subst (λ (o : Option ℕ).
-    MatchOption o (new ≡ old) (λ m. new ≡ with_receipt (Swept m) old)) c.in-Some.is
+    MatchOption o (mid ≡ old) (λ m. mid ≡ with_receipt (Swept m) old)) c.in-Some.is
     c.in_ok-n.ensures.ok in
     let text = subst (λ (x : BookModel).
     string_bytes c.in_ok-text-in-Some.text ≡ entry_made n (keys_at x.history.journal n)) seen.2.2
     seen.2.1
     in
-    sweep_made g.N.Named.table g.N.Named.origin n seen.0 _ _ old new answer seen.1 got
+    sweep_made Of n seen.0 _ _ old mid _ answer seen.1 got c.in_ok-text-in-Some.ensures.same
     (search rules)
 
 pub returns-in_ok-push_str-in-None-clause-says : goal.returns-in_ok-push_str-in-None-clause-says
 returns-in_ok-push_str-in-None-clause-says g c =
     let old = c.args.clerk.now in
     let new = c.sweep.new.clerk in
-    let answer = subst (λ (o : Option ℕ). Sweeping g.N.Named.table g.N.Named.origin (Ok o))
+    let Of = λ (had : List Receipt) (b : BookModel).
+    IsMetBy g.N.Named.table g.N.Named.origin g.N.Named.opened old.parts had b in
+    let answer = subst (λ (o : Option ℕ). Sweeping (Of old.receipts) (Ok o))
     c.in-None.is c.in_ok-n.ensures.answer in
     let same = subst (λ (o : Option ℕ).
     MatchOption o (new ≡ old) (λ m. new ≡ with_receipt (Swept m) old)) c.in-None.is
     c.in_ok-n.ensures.ok in
-    sweep_none g.N.Named.table g.N.Named.origin _ _ old new answer same (search rules)
+    sweep_none Of _ _ old new answer same (search rules)

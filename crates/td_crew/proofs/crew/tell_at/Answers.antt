@@ -1,6 +1,7 @@
 -- What a crew tells at a desk ends with the rows of its book.
-use Rattle.std.proofs.Common.{length, refl}
+use Rattle.std.proofs.Common.{ap, length, refl}
 use Rattle.std.proofs.lemmas.Result.{IfOk-weaker}
+use Rattle.td_desk.specs.Clerks.{ClerkModel}
 use Rattle.td_crew.proofs.Endings.{ends_closed}
 use Rattle.td_crew.proofs.crew.tell_at.Goals as goal
 
@@ -8,5 +9,6 @@ pub returns : goal.returns
 returns g c =
     IfOk-weaker c.close.result _ _
     (λ now closed. ends_closed (length c.args.seats.items) g.N.Named.table g.N.Named.origin _
-    g.N.Named.opened c.args.lines.now.script.now _ c.in_ok-told.told now _ refl c.requires.opened
+    g.N.Named.opened c.args.lines.now.script.now _ c.in_ok-told.told now _ _
+    (ap (λ (x : ClerkModel). x.parts) c.requires.new) refl c.requires.opened
     c.requires.short c.in_ok-told.ensures.told closed) c.close.ensures

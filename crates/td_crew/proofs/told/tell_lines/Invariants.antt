@@ -8,7 +8,7 @@ use Rattle.td_crew.proofs.told.tell_lines.Given as goal
 -- what is told so far, with what is told of the rest, is the whole; and the clerk has its parts
 abbrev pub invariant-loop-rest : goal.invariant-loop-rest
 invariant-loop-rest g l =
-    IsSoFar g.N.Named.table g.N.Named.origin
+    IsSoFar g.N.Named.table g.N.Named.origin g.N.Named.opened l.fn.clerk.parts
     (setting_lent g.T.Reports.text g.N.Named.origin.stock l.fn.lines.suites.now l.fn.lines.reports)
     l.fn.lines.script.now l.clerk.receipts l.told l.rest
     × (l.clerk.parts ≡ l.fn.clerk.parts)

@@ -1,0 +1,15 @@
+-- `Desk::undo`: the clause `answer`.
+use Rattle.std.proofs.Common.{ap}
+use Rattle.td_desk.proofs.Commanded.{met}
+use Rattle.td_desk.proofs.desk.Desk.undo.Goals as goal
+
+pub returns-clause-answer : goal.returns-clause-answer
+returns-clause-answer g c = (
+  _,
+  _,
+  met g.N.Named.table g.N.Named.origin g.N.Named.opened c.args.clerk.now _ _ _ _ _ _ _
+      c.undo-answer.ensures.of_desk (ap (λ l. l.book) c.deref_mut.ensures.value)
+      c.lock_as.ensures.whole c.clerk.invariant.0 c.clerk.invariant.2 c.clerk.invariant.3
+      c.clerk.view_is,
+  c.undo-answer.ensures.answer,
+)
