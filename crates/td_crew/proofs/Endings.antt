@@ -57,21 +57,24 @@ begun-on origin (Some text) h now at (before, reads, is) began =
 -- what is known of the book with which a desk is closed
 pub desk_book : (table : TableId) (origin : Origin) (b made : BookModel) → b ≡ made
     → made.fixed.table ≡ table → made.history.opening ≡ origin.rows
-    → made.fixed.stock ≡ origin.stock → Begins origin made.history.journal
+    → made.fixed.stock ≡ origin.stock → made.fixed.builders ≡ origin.builders
+    → Begins origin made.history.journal
     → Lawful b.history.opening (standing b.history.journal) → IsOfDesk table origin b
-desk_book table origin b made same at over stocked began lawful = record {
+desk_book table origin b made same at over stocked staffed began lawful = record {
   at = ap (λ (x : BookModel). x.fixed.table) same ∙ at;
   over = ap (λ (x : BookModel). x.history.opening) same ∙ over;
   stocked = ap (λ (x : BookModel). x.fixed.stock) same ∙ stocked;
+  staffed = ap (λ (x : BookModel). x.fixed.builders) same ∙ staffed;
   began = subst (λ (x : BookModel). Begins origin x.history.journal) (sym same) began;
   lawful = lawful;
 }
 
 -- a book of the desk is one of the crew's
-pub crew_book : (table : TableId) (origin : Origin) (s : Setting) (h : History) (b : BookModel)
-    → s.stock ≡ origin.stock → IsBegun origin.journal origin.rows h → IsOfDesk table origin b
-    → IsOfCrew s h b
-crew_book table origin s h b stock is of = record {
+pub crew_book : (builders : ℕ) (table : TableId) (origin : Origin) (s : Setting) (h : History)
+    (b : BookModel) → origin.builders ≡ builders → s.stock ≡ origin.stock
+    → IsBegun origin.journal origin.rows h → IsOfDesk table origin b → IsOfCrew builders s h b
+crew_book builders table origin s h b staff stock is of = record {
+  staffed = of.staffed ∙ staff;
   opening = of.over ∙ sym (opening_begun origin.journal origin.rows h is);
   stocked = of.stocked ∙ sym stock;
   on = begun-on origin origin.journal h b.history refl is of.began;
@@ -79,23 +82,25 @@ crew_book table origin s h b stock is of = record {
 }
 
 -- its changes since the desk's opening are those since the script's start
-changes_begun : (origin : Origin) (opened : List Mark) (s : Setting) (h : History) (b : BookModel)
+changes_begun : (builders : ℕ) (origin : Origin) (opened : List Mark) (s : Setting) (h : History)
+    (b : BookModel)
     → opened ≡ marks_begun origin.journal → IsShort origin.journal
-    → IsBegun origin.journal origin.rows h → IsOfCrew s h b
+    → IsBegun origin.journal origin.rows h → IsOfCrew builders s h b
     → changes opened b ≡ changes (map (λ m. m.mark) h.journal) b
-changes_begun origin opened s h b marks short is of =
+changes_begun builders origin opened s h b marks short is of =
     ap (λ (os : List Mark). changes os b) marks
     ∙ changes_told origin.journal origin.rows h b.history.journal short is of.on
 
 -- one that a clerk with all parts meets has as many as the clerk has receipts
-crew_book_at : (table : TableId) (origin : Origin) (opened : List Mark) (parts : ℕ) (s : Setting)
-    (h : History) (had : List Receipt) (b : BookModel) → parts ≡ 1024
+crew_book_at : (builders : ℕ) (table : TableId) (origin : Origin) (opened : List Mark) (parts : ℕ)
+    (s : Setting) (h : History) (had : List Receipt) (b : BookModel) → parts ≡ 1024
     → opened ≡ marks_begun origin.journal → IsShort origin.journal
-    → IsBegun origin.journal origin.rows h → IsOfCrew s h b
-    → IsMetBy table origin opened parts had b → IsOfCrewAt s h had b
-crew_book_at table origin opened parts s h had b whole marks short is of m = record {
+    → IsBegun origin.journal origin.rows h → IsOfCrew builders s h b
+    → IsMetBy table origin opened parts had b → IsOfCrewAt builders s h had b
+crew_book_at builders table origin opened parts s h had b whole marks short is of m = record {
   of_crew = of;
-  counted = m.counted whole ∙ ap length (changes_begun origin opened s h b marks short is of);
+  counted = m.counted whole
+      ∙ ap length (changes_begun builders origin opened s h b marks short is of);
 }
 
 -- ---- 2. where it ends
@@ -136,24 +141,26 @@ rows_closed table origin opened receipts told mid now b closing of still counted
 -- what is told of the lines, of those who are missing and of the closing is what a crew may tell
 pub ends_closed : (builders : ℕ) (table : TableId) (origin : Origin) (s : Setting)
     (opened : List Mark) (script : List ℕ) (receipts : List Receipt) (told now : ToldText)
-    (parts missing : ℕ) → parts ≡ 1024 → s.stock ≡ origin.stock
+    (parts missing : ℕ) → parts ≡ 1024 → origin.builders ≡ builders → s.stock ≡ origin.stock
     → opened ≡ marks_begun origin.journal → IsShort origin.journal
     → IsShift table origin opened parts s script builders missing receipts told
     → IsClosed table origin opened receipts told now
     → EndsFrom builders s origin.journal origin.rows script now
-ends_closed builders table origin s opened script receipts told now parts missing whole stock marks
-    short shift closed = λ h is.
+ends_closed builders table origin s opened script receipts told now parts missing whole staff stock
+    marks short shift closed = λ h is.
     let of =
-    λ (b : BookModel) (o : IsOfDesk table origin b). crew_book table origin s h b stock is o in
+    λ (b : BookModel) (o : IsOfDesk table origin b).
+    crew_book builders table origin s h b staff stock is o in
     let met = λ (had : List Receipt) (b : BookModel) (m : IsMetBy table origin opened parts had b).
-    crew_book_at table origin opened parts s h had b whole marks short is (of b m.of_desk) m in
+    crew_book_at builders table origin opened parts s h had b whole marks short is
+        (of b m.of_desk) m in
     let last = of closed.book closed.of_desk in
     let ms = closed.book.history.journal in
     let begun = map (λ m. m.mark) h.journal in
-    let same = changes_begun origin opened s h closed.book marks short is last in
+    let same = changes_begun builders origin opened s h closed.book marks short is last in
     record {
       told = told_with shift.lines receipts;
-      lines = told_more (IsMetBy table origin opened parts) (IsOfCrewAt s h) met s
+      lines = told_more (IsMetBy table origin opened parts) (IsOfCrewAt builders s h) met s
           (lines_of script) untold (told_with shift.lines receipts) shift.are;
       book = closed.book;
       of_crew = last;

@@ -56,25 +56,28 @@ AreTold May (line ∷ lines) t last =
 
 -- ---- 2. the whole
 
--- a book that may lie under the lock of the crew's desk: its history goes on with the one from
--- which
--- the script starts, over the same offers, and each entry that stands applies where it stands
-pub record IsOfCrew (s : Setting) (begun : History) (book : BookModel) : Type 0 where
+-- a book that may lie under the lock of the crew's desk: it has the crew's builders, its history
+-- goes on with the one from which the script starts, over the same offers, and each entry that
+-- stands applies where it stands
+pub record IsOfCrew (builders : ℕ) (s : Setting) (begun : History) (book : BookModel)
+    : Type 0 where
+  pub staffed : book.fixed.builders ≡ builders
   pub opening : book.history.opening ≡ begun.opening
   pub stocked : book.fixed.stock ≡ s.stock
   pub on : GoesOn begun.journal book.history.journal
   pub lawful : Lawful book.history.opening (standing book.history.journal)
 
 -- one with as many changes since the script's start as these receipts of lines
-pub record IsOfCrewAt (s : Setting) (begun : History) (receipts : List Receipt)
+pub record IsOfCrewAt (builders : ℕ) (s : Setting) (begun : History) (receipts : List Receipt)
     (book : BookModel) : Type 0 where
-  pub of_crew : IsOfCrew s begun book
+  pub of_crew : IsOfCrew builders s begun book
   pub counted : length receipts ≡ length (changes (map (λ m. m.mark) begun.journal) book)
 
 -- a book of the crew's was seen in which no row waits for a builder
-abbrev pub IsHome : Setting → History → Type 0
-IsHome s begun =
-    (book : BookModel) × IsOfCrew s begun book × (is_any_queued (rows_of book.history) ≡ false)
+abbrev pub IsHome : ℕ → Setting → History → Type 0
+IsHome builders s begun =
+    (book : BookModel) × IsOfCrew builders s begun book
+    × (is_any_queued (rows_of book.history) ≡ false)
 
 -- the line `rows`, and the lines of the rows
 abbrev pub rows_told : Table → List ℕ
@@ -95,16 +98,16 @@ IsClosing receipts found refusals =
 pub record EndsWithRows (builders : ℕ) (s : Setting) (begun : History) (script text : List ℕ)
     (refused : ℕ) : Type 0 where
   pub told : Told
-  pub lines : AreTold (MayReply (IsOfCrewAt s begun) s) (lines_of script) untold told
+  pub lines : AreTold (MayReply (IsOfCrewAt builders s begun) s) (lines_of script) untold told
   pub book : BookModel
-  pub of_crew : IsOfCrew s begun book
+  pub of_crew : IsOfCrew builders s begun book
   pub still : still_undone book.history.journal (map (λ m. m.mark) begun.journal) ≡ true
   pub counted : length told.receipts
       ≡ length (changes (map (λ m. m.mark) begun.journal) book)
   pub text_is : text ≡ told.text ++ rows_told (rows_of book.history)
   pub missing : ℕ
   pub few : missing ≤ builders
-  pub home : missing < builders → ∥ IsHome s begun ∥₁
+  pub home : missing < builders → ∥ IsHome builders s begun ∥₁
   pub closing : ℕ
   pub closed : IsClosing told.receipts (changes (map (λ m. m.mark) begun.journal) book) closing
   pub refused_is : refused ≡ told.refused + missing + closing

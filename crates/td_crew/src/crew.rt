@@ -231,6 +231,7 @@ fn tell_at<N: Named + Send + Sync, C: Ledger + Send + Sync, T: Reports>(
 ) -> Result<Told, AllocError>
     requires seats { All (λ s. s.table ≡ N.table) seats.items }
     requires few { length seats.items ≤ max_builders }
+    requires staffed { N.origin.builders ≡ length seats.items }
     requires fits { FitAnyBook T.fits lines.now.reports }
     requires archs { table lines.now.archs.now ≡ N.origin.stock.table }
     requires new { clerk ≡ record { parts = 1024; receipts = [] } }
@@ -261,6 +262,7 @@ fn begin<'a, N: Named, C: Ledger>(
         ≡ record {
           rows = rows;
           stock = stock_of supply;
+          builders = length seat.desk.noted;
           journal = option_map (λ s. s.now) journal;
         } }
     requires opened { N.opened ≡ marks_begun (option_map (λ s. s.now) journal) }
@@ -299,6 +301,7 @@ fn tell_if_begun<N: Named + Send + Sync, C: Ledger + Send + Sync, T: Reports>(
 ) -> Result<Told, ReadError>
     requires seats { All (λ s. s.table ≡ N.table) seats.items }
     requires few { length seats.items ≤ max_builders }
+    requires staffed { N.origin.builders ≡ length seats.items }
     requires fits { FitAnyBook T.fits lines.now.reports }
     requires archs { table lines.now.archs.now ≡ N.origin.stock.table }
     requires new { IfOk begun (λ made. made.1 ≡ record { parts = 1024; receipts = [] }) }
@@ -336,10 +339,12 @@ fn tell_named<N: Named + Send + Sync, C: Ledger + Send + Sync, T: Reports>(
     requires seat { seat.table ≡ N.table }
     requires seats { All (λ s. s.table ≡ N.table) seats.items }
     requires few { length seats.items ≤ max_builders }
+    requires staffed { length seat.desk.noted ≡ length seats.items }
     requires origin { N.origin
         ≡ record {
           rows = rows;
           stock = stock_of supply;
+          builders = length seat.desk.noted;
           journal = option_map (λ s. s.now) lines.now.journal;
         } }
     requires opened { N.opened ≡ marks_begun (option_map (λ s. s.now) lines.now.journal) }

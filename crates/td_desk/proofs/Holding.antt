@@ -29,6 +29,7 @@ held_on {table} {origin} {opened} {old} {new} most h count more room same fixed 
       at = ap (λ (f : Fixed). f.table) fixed ∙ h.at;
       over = same ∙ h.over;
       stocked = ap (λ (f : Fixed). f.stock) fixed ∙ h.stocked;
+      staffed = ap (λ (f : Fixed). f.builders) fixed ∙ h.staffed;
       began = begins-on origin old.history.journal new.history.journal h.began on;
       still = still;
       counted = counted;

@@ -161,7 +161,8 @@ begun_with h =
 
 pub begun_book : (opening : Table) (text : List ℕ) (table : TableId) (stock : Stock) (builders : ℕ)
     (b : BookModel) → length text < 2 ^ 64 → IsReopened opening text table stock builders b
-    → IsBegun table (record { rows = opening; stock = stock; journal = Some text })
+    → IsBegun table
+    (record { rows = opening; stock = stock; builders = builders; journal = Some text })
     (marks_in text) b
 begun_book opening text table stock builders b small r =
     let os = marks_told opening text r.journal small r.reads in
@@ -173,6 +174,7 @@ begun_book opening text table stock builders b small r =
       at = ap (λ (x : BookModel). x.fixed.table) r.is;
       over = ap (λ (x : BookModel). x.history.opening) r.is;
       stocked = ap (λ (x : BookModel). x.fixed.stock) r.is;
+      staffed = ap (λ (x : BookModel). x.fixed.builders) r.is;
       began = λ other before is reads.
           subst (λ ms. GoesOn (given_back (history_of opening ms)).journal b.history.journal)
           (texts_are_one opening text r.journal before small r.reads

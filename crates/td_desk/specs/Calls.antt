@@ -65,12 +65,14 @@ arrival_receipt k n = Made n kinds.Arrive (k ∷ [])
 
 -- ---- 2. answers, over a book of the desk
 
--- a book that may lie under the desk's lock: at its board, with a lawful history over the rows with
--- which the desk was opened, with the offers of then, and with the entries of then before its own
+-- a book that may lie under the desk's lock: at its board, with the builders of that, with a lawful
+-- history over the rows with which the desk was opened, with the offers of then, and with the
+-- entries of then before its own
 pub record IsOfDesk (table : TableId) (origin : Origin) (book : BookModel) : Type 0 where
   pub at : book.fixed.table ≡ table
   pub over : book.history.opening ≡ origin.rows
   pub stocked : book.fixed.stock ≡ origin.stock
+  pub staffed : book.fixed.builders ≡ origin.builders
   pub began : Begins origin book.history.journal
   pub lawful : Lawful book.history.opening (standing book.history.journal)
 

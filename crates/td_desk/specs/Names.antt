@@ -5,19 +5,21 @@ use Rattle.atomic_table.specs.Seated.{TableId}
 use Rattle.td_rows.specs.Table.{Table}
 use Rattle.td_supply.specs.Supply.{Stock}
 
--- what a desk is opened with, and no call changes: the rows, what the index offers, and the text
--- of the journal that is gone on with, if any
+-- what a desk is opened with, and no call changes: the rows, what the index offers, how many
+-- builders its board has, and the text of the journal that is gone on with, if any
 pub record Origin : Type 0 where
   pub rows : Table
   pub stock : Stock
+  pub builders : ℕ
   pub journal : Option (List ℕ)
 
--- what no desk is opened with: no rows, no offers, and no journal
+-- what no desk is opened with: no rows, no offers, no builders, and no journal
 abbrev pub no_origin : Origin
 no_origin =
     record {
       rows = [];
       stock = record { table = []; sources = []; offers = [] };
+      builders = 0;
       journal = None;
     }
 

@@ -39,6 +39,9 @@ impl<'a, N: Named, C: Ledger> Desk<'a, N, C> {
         ensures origin_err { IfErr result (λ differ. differ.book.history.opening ≡ N.origin.rows) }
         ensures stock_ok { IfOk result (λ book. book.fixed.stock ≡ N.origin.stock) }
         ensures stock_err { IfErr result (λ differ. differ.book.fixed.stock ≡ N.origin.stock) }
+        ensures staff_ok { IfOk result (λ book. book.fixed.builders ≡ N.origin.builders) }
+        ensures staff_err { IfErr result (λ differ.
+            differ.book.fixed.builders ≡ N.origin.builders) }
         ensures began_ok { IfOk result (λ book. Begins N.origin book.history.journal) }
         ensures began_err { IfErr result (λ differ.
             Begins N.origin differ.book.history.journal) }

@@ -60,7 +60,12 @@ impl<'a, N: Named, C: Ledger> Desk<'a, N, C> {
         requires board { board.table ≡ N.table }
         requires seat { seat.table ≡ N.table }
         requires origin { N.origin
-            ≡ record { rows = rows; stock = stock_of supply; journal = None } }
+            ≡ record {
+              rows = rows;
+              stock = stock_of supply;
+              builders = length seat.desk.noted;
+              journal = None;
+            } }
         requires opened { N.opened ≡ [] }
         requires fresh_seat { seat.desk ≡ new_desk (length rows) (length seat.desk.noted) }
         requires idle { NoneBuilt rows }
@@ -106,7 +111,12 @@ impl<'a, N: Named, C: Ledger> Desk<'a, N, C> {
         requires board { board.table ≡ N.table }
         requires seat { seat.table ≡ N.table }
         requires origin { N.origin
-            ≡ record { rows = rows; stock = stock_of supply; journal = Some text.now } }
+            ≡ record {
+              rows = rows;
+              stock = stock_of supply;
+              builders = length seat.desk.noted;
+              journal = Some text.now;
+            } }
         requires opened { N.opened ≡ marks_in text.now }
         requires fresh_seat { seat.desk ≡ new_desk (length rows) (length seat.desk.noted) }
         requires fresh_supply { supply ≡ opened_stock (stock_of supply) }
@@ -215,7 +225,12 @@ fn read_back<'a>(
     requires fresh_supply { supply ≡ opened_stock (stock_of supply) }
     ensures begun { IfOk result (λ made.
         IsBegun seat.table
-        (record { rows = rows; stock = stock_of supply.entry; journal = Some text.now })
+        (record {
+          rows = rows;
+          stock = stock_of supply.entry;
+          builders = length seat.desk.noted;
+          journal = Some text.now;
+        })
         (marks_in text.now) made.0) }
     ensures named { OnOk result (IsNamedJournal (marks_in text.now) rows text.now) }
     ensures ticks { IfOk result (λ made.
@@ -265,6 +280,7 @@ fn begin<'a, N: Named, C: Ledger>(
     requires book { book.fixed.table ≡ N.table }
     requires origin { book.history.opening ≡ N.origin.rows }
     requires stocked { book.fixed.stock ≡ N.origin.stock }
+    requires staffed { book.fixed.builders ≡ N.origin.builders }
     requires began { Begins N.origin book.history.journal }
     requires still { still_undone book.history.journal N.opened ≡ true }
     requires none { changes N.opened book ≡ [] }

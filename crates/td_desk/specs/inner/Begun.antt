@@ -7,14 +7,15 @@ use Rattle.td_desk.specs.Changes.{changes, still_undone}
 use Rattle.td_desk.specs.GoingOn.{Begins}
 use Rattle.td_desk.specs.Names.{Origin}
 
--- a book at this board over the opening rows, with the offers and the entries of the opening: the
--- first of its entries have these marks, what was undone is undone still, and no change was made
--- since
+-- a book at this board with its builders over the opening rows, with the offers and the entries of
+-- the opening: the first of its entries have these marks, what was undone is undone still, and no
+-- change was made since
 pub record IsBegun (table : TableId) (origin : Origin) (opened : List Mark)
     (book : BookModel) : Type 0 where
   pub at : book.fixed.table ≡ table
   pub over : book.history.opening ≡ origin.rows
   pub stocked : book.fixed.stock ≡ origin.stock
+  pub staffed : book.fixed.builders ≡ origin.builders
   pub began : Begins origin book.history.journal
   pub still : still_undone book.history.journal opened ≡ true
   pub none : changes opened book ≡ []

@@ -9,14 +9,15 @@ use Rattle.td_desk.specs.GoingOn.{Begins}
 use Rattle.td_desk.specs.Names.{Origin}
 use Rattle.td_desk.specs.inner.Ticks.{AreBegun}
 
--- a book at this board over the opening rows, with the offers and the entries of the opening: what
--- was undone then is undone still, the ledger's total is the number of the changes since, and each
--- entry has its tick
+-- a book at this board with its builders over the opening rows, with the offers and the entries of
+-- the opening: what was undone then is undone still, the ledger's total is the number of the changes
+-- since, and each entry has its tick
 pub record IsHeld (table : TableId) (origin : Origin) (opened : List Mark) (book : BookModel)
     (total : ℕ) (ticks : List Tick) : Type 0 where
   pub at : book.fixed.table ≡ table
   pub over : book.history.opening ≡ origin.rows
   pub stocked : book.fixed.stock ≡ origin.stock
+  pub staffed : book.fixed.builders ≡ origin.builders
   pub began : Begins origin book.history.journal
   pub still : still_undone book.history.journal opened ≡ true
   pub counted : length (changes opened book) ≡ total

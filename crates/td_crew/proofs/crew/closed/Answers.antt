@@ -12,12 +12,12 @@ returns-clause-of_desk g c =
     elim c.match-close.branch [
       | in-Ok w ↦ desk_book g.N.Named.table g.N.Named.origin c.match-close.book.0 w.in-Ok.book
           (ap (λ (p : BookModel × ℕ). p.0) w.book-is) w.in-Ok.ensures.table_ok
-          w.in-Ok.ensures.origin_ok w.in-Ok.ensures.stock_ok w.in-Ok.ensures.began_ok
-          c.rows-lawful.ensures.lawful
+          w.in-Ok.ensures.origin_ok w.in-Ok.ensures.stock_ok w.in-Ok.ensures.staff_ok
+          w.in-Ok.ensures.began_ok c.rows-lawful.ensures.lawful
       | in-Err w ↦ desk_book g.N.Named.table g.N.Named.origin c.match-close.book.0
           w.in-Err.differ.book (ap (λ (p : BookModel × ℕ). p.0) w.book-is)
           w.in-Err.ensures.table_err w.in-Err.ensures.origin_err w.in-Err.ensures.stock_err
-          w.in-Err.ensures.began_err c.rows-lawful.ensures.lawful
+          w.in-Err.ensures.staff_err w.in-Err.ensures.began_err c.rows-lawful.ensures.lawful
     ]
 
 -- a permutation is as long; where the receipts differ the ledger counts them

@@ -1,7 +1,9 @@
 -- The seats of a new board are those of its builders, as many as the crew has.
 use Rattle.std.proofs.Common.{◌≡◌, ◌≤◌, ℕ, List, [], ◌∷◌, Bor, IfOk, length, map, option_map}
-use Rattle.std.proofs.Common.{rules, subst, sym}
+use Rattle.std.proofs.Common.{ap, rules, subst, sym, ◌∙◌}
+use Rattle.std.proofs.lemmas.List.{length-replicate}
 use Rattle.td_board.specs.Limits.{max_builders}
+use Rattle.td_board.specs.Seats.{DeskModel}
 use Rattle.td_board.proofs.NewSeats.{desk_at, length-seats, seats_at}
 use Rattle.td_supply.specs.Supply.{Stock, stock_of}
 use Rattle.td_script.proofs.OpeningLaws.{fresh_supply, stock-opened}
@@ -22,6 +24,13 @@ tell_named-requires-clause-few g c κs within =
     subst (λ (n : ℕ). n ≤ max_builders)
     (sym (length-seats c.in-Ok.board.table 1 c.args.crew.builders c.in-Ok.seats.items
     c.in-Ok.ensures.ok.builder_seats)) c.args.crew.few
+
+pub tell_named-requires-clause-staffed : goal.tell_named-requires-clause-staffed
+tell_named-requires-clause-staffed g c κs within =
+    ap (λ (s : DeskModel). length s.desk.noted) c.in-Ok.ensures.ok.desk_seat
+    ∙ length-replicate c.args.crew.builders []
+    ∙ sym (length-seats c.in-Ok.board.table 1 c.args.crew.builders c.in-Ok.seats.items
+    c.in-Ok.ensures.ok.builder_seats)
 
 pub tell_named-requires-clause-fresh_seat : goal.tell_named-requires-clause-fresh_seat
 tell_named-requires-clause-fresh_seat g c κs within =

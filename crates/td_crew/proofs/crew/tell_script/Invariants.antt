@@ -1,5 +1,5 @@
 -- What `tell_script` calls its callees with, for their ghost members.
-use Rattle.std.specs.Prelude.{option_map, true}
+use Rattle.std.specs.Prelude.{length, option_map, true}
 use Rattle.td_supply.specs.Supply.{stock_of}
 use Rattle.td_crew.specs.CrewText.{marks_begun}
 use Rattle.td_crew.proofs.crew.tell_script.Given as goal
@@ -11,6 +11,7 @@ ghosts-tell_named-N-Named g a =
       origin = record {
         rows = a.rows;
         stock = stock_of a.supply;
+        builders = length a.seat.desk.noted;
         journal = option_map (λ s. s.now) a.lines.now.journal;
       };
       opened = marks_begun (option_map (λ s. s.now) a.lines.now.journal);

@@ -1,5 +1,5 @@
 -- `read_back`: the clauses `begun`, `named` and `ticks`.
-use Rattle.std.proofs.Common.{Some, subst, sym, arith}
+use Rattle.std.proofs.Common.{Some, length, subst, sym, arith}
 use Rattle.td_supply.specs.Supply.{stock_of}
 use Rattle.td_desk.specs.Marks.{marks_in}
 use Rattle.td_desk.specs.inner.Begun.{IsBegun}
@@ -12,6 +12,7 @@ returns-in-Ok-with_ticks-clause-begun c =
     (record {
       rows = c.args.rows;
       stock = stock_of c.args.supply;
+      builders = length c.args.seat.desk.noted;
       journal = Some c.args.text.now;
     }) (marks_in c.args.text.now))
     (sym c.in-Ok-with_ticks.ensures.book)
