@@ -90,11 +90,11 @@ IsClosing receipts found refusals =
     ⊎ ((refusals ≡ 1) × (IsPermutation receipts found → ⊥))
 
 -- the answers to the lines are told, each what some book of the crew's answers that has the changes
--- of the lines before it, and then the rows of a book of the crew's. What was undone where the
--- script starts is undone in it still, and it has
--- as many changes as the lines have receipts: none was made that no line asks for. A refusal is a
--- line that is refused, a builder who is missing, and a closing where the receipts of the lines
--- aren't the changes of the book. Builders who aren't missing went home where no row waited for one
+-- of the lines before it, and then the rows of a book of the crew's. What was undone when the script
+-- started is undone in it still, and it has as many changes as the lines have receipts: none was
+-- made that no line asks for. A refusal is a line that is refused, a builder who is missing, and a
+-- closing if the receipts of the lines aren't the changes of the book. Builders who aren't missing
+-- went home when no row waited for one
 pub record EndsWithRows (builders : ℕ) (s : Setting) (begun : History) (script text : List ℕ)
     (refused : ℕ) : Type 0 where
   pub told : Told

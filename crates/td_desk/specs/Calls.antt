@@ -76,9 +76,8 @@ pub record IsOfDesk (table : TableId) (origin : Origin) (book : BookModel) : Typ
   pub began : Begins origin book.history.journal
   pub lawful : Lawful book.history.opening (standing book.history.journal)
 
--- a book that a clerk of so many parts of the ledger may meet, with these receipts: one of the
--- desk,
--- with as many changes since its opening as the clerk has receipts, where the clerk has all parts
+-- a book that a clerk of so many parts of the ledger may meet, with these receipts: one of the desk.
+-- If the clerk has all parts, it has as many changes since its opening as the clerk has receipts
 pub record IsMetBy (table : TableId) (origin : Origin) (opened : List Mark) (parts : ℕ)
     (receipts : List Receipt) (book : BookModel) : Type 0 where
   pub of_desk : IsOfDesk table origin book

@@ -49,8 +49,7 @@ impl<'a, N: Named, C: Ledger> Desk<'a, N, C> {
         answer
     }
 
-    /// Waits until a row waits for a builder, or the desk is shut. Where it is shut, and none
-    /// waits,
+    /// Waits until a row waits for a builder, or the desk is shut. If it is shut, and none waits,
     /// the builder gets what it goes home with.
     pub fn wait_for_work<R: Wait>(&self, rt: &R) -> Option<Home<N>>
         ensures { (book : BookModel) × IsOfDesk N.table N.origin book
