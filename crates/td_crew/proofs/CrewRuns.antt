@@ -1,5 +1,5 @@
 -- How a crew's run ends: one that is refused, and one whose outcomes are read.
-use Rattle.std.proofs.Common.{◌≡◌, ℕ, List, Option, Some, Result, Ok, Err, inl, inr, subst, sym}
+use Rattle.std.proofs.Common.{◌≡◌, ℕ, List, Option, Result, Ok, Err, inl, inr, subst, sym}
 use Rattle.std.specs.Prelude.{IfErr, IsErrOf, MatchResult}
 use Rattle.std.specs.Io.KnownBytes.{Keeps}
 use Rattle.td_text.proofs.SpelledLines.{AreSpelled-other}

@@ -153,7 +153,7 @@ ends_closed builders table origin s opened script receipts told now parts missin
     crew_book builders table origin s h b staff stock is o in
     let met = λ (had : List Receipt) (b : BookModel) (m : IsMetBy table origin opened parts had b).
     crew_book_at builders table origin opened parts s h had b whole marks short is
-        (of b m.of_desk) m in
+    (of b m.of_desk) m in
     let last = of closed.book closed.of_desk in
     let ms = closed.book.history.journal in
     let begun = map (λ m. m.mark) h.journal in

@@ -134,7 +134,5 @@ pub fn run_crew<R: Reader, W: Writer, H: Threads + Wait + Sync>(
         Ok(outcomes) => outcomes,
         Err(fault) => return Err(no_outcomes(rt, alloc, inputs, fault)),
     };
-    ended(run_crew_with(
-        rt, alloc, inputs, reader, writer, &outcomes,
-    ))
+    ended(run_crew_with(rt, alloc, inputs, reader, writer, &outcomes))
 }
