@@ -279,10 +279,10 @@ row foo/amd64 => foo/amd64 Build-Attempted 0 1
 gb foo . amd64 => entry 5
 claim 3 foo/amd64 => true
 finish 3 built => Ok(7)
-nmu foo . amd64 => entry 8
+gb foo . amd64 => entry 8
 claim 1 foo/amd64 => true
 finish 1 waits libx => Ok(10)
-row foo/amd64 => foo/amd64 Dep-Wait 0 2 : libx
+row foo/amd64 => foo/amd64 Dep-Wait 0 1 : libx
 ";
 
 const BUILT: [Played<'static>; 7] = [
@@ -336,7 +336,7 @@ const BUILT: [Played<'static>; 7] = [
          5 + gb foo/amd64\n\
          6 + claim=3 foo/amd64\n\
          7 + built=3 foo/amd64\n\
-         8 + nmu foo/amd64\n\
+         8 + gb foo/amd64\n\
          9 + claim=1 foo/amd64\n\
          10 + waits=1 foo/amd64 : libx\n",
     ),
