@@ -38,5 +38,7 @@ mod tally;
 mod together;
 #[cfg(test)]
 mod tries;
+#[cfg(test)]
+mod turns;
 
 pub use together::Together;

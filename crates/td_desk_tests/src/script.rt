@@ -9,6 +9,7 @@ use crate::spelling::{
     book_text, entry_line, key, number, on_one_line, receipts, row_line, shown, spelled, unlike,
 };
 use crate::tries::{CHANGED, Tries, lacks_memory};
+use crate::turns::work_in_turn;
 use std::alloc::Global;
 use std::sync::Wait;
 use std::sync::ledger::Ledger;
@@ -185,6 +186,7 @@ fn answer<N: Named + Send + Sync, C: Ledger + Send + Sync, R: Threads + Wait + S
     match word {
         "shut" => shut(rt, people.alloc, desk),
         "work" => shown(people.alloc, &people.work_alone(rt, desk)),
+        "turns" => work_in_turn(rt, desk, people, rest),
         "together" => shown(people.alloc, &work_together(rt, desk, people)),
         "beside" => crew(rt, desk, people, Style::Work, number(rest)),
         "against" => crew(rt, desk, people, Style::Claim, number(rest)),

@@ -90,15 +90,20 @@ pub(crate) fn spelled_watch(
     Ok(format!(in alloc; "{word}{key}")?)
 }
 
+// What a job says.
+pub(crate) fn job_text(alloc: Global, job: &Job) -> Result<String, AllocError> {
+    format!(in alloc;
+        "{} {} {} ({})",
+        job.key.as_str(),
+        job.version.as_str(),
+        job.number.get(),
+        job.extra.as_str()
+    )
+}
+
 pub(crate) fn spelled_job(alloc: Global, told: &Result<Job, StartRefusal>) -> Result<String, Fail> {
     match told {
-        Ok(job) => Ok(format!(in alloc;
-            "{} {} {} ({})",
-            job.key.as_str(),
-            job.version.as_str(),
-            job.number.get(),
-            job.extra.as_str()
-        )?),
+        Ok(job) => Ok(job_text(alloc, job)?),
         Err(refusal) => shown(alloc, refusal),
     }
 }
