@@ -16,9 +16,7 @@ use Rattle.td_query.specs.QueryGrammar.{Log, begun}
 use Rattle.td_query.specs.QueryGrammar.{word_atom}
 use Rattle.td_query.specs.Tokens.{common_len, is_key_byte, skipped}
 use Rattle.td_query.proofs.Fronts.{Ahead, Follow}
-use Rattle.td_query.proofs.Fronts.{goes}
 use Rattle.td_query.proofs.Fronts.{goes_near, left_in, past, skip_less, wrong_at}
-use Rattle.td_query.proofs.PatternEnds.{more, parts}
 use Rattle.td_query.proofs.SpelledAtoms.{Given}
 
 -- what follows what was read
@@ -166,7 +164,7 @@ common_less (z ∷ t) (y ∷ word) =
       | inr other ↦ rw other.0 (omega arith)
     ]
 
-begun_less : (t : List ℕ) → begun t ≤ length t
+pub begun_less : (t : List ℕ) → begun t ≤ length t
 begun_less t =
     let one = common_less t (codes "true") in
     let other = common_less t (codes "false") in

@@ -71,7 +71,7 @@ none_left x None e = refl
 none_left x (Some p) e =
     absurd (let bad : ◌≡◌ {A = Cut} (Some (x ∷ p.0, p.1)) None = e in cc)
 
-cut_lacks : (c : ℕ) (t : List ℕ) → cut c t ≡ None → Without c t
+pub cut_lacks : (c : ℕ) (t : List ℕ) → cut c t ≡ None → Without c t
 unfolding cut
 cut_lacks c [] e = tt
 cut_lacks c (x ∷ t) e =

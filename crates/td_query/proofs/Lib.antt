@@ -34,3 +34,9 @@ pub mod FrontWords
 pub mod FrontAtoms
 pub mod FrontQueries
 pub mod FrontTrackers
+pub mod Continued
+pub mod ContinuedWords
+pub mod ContinuedAtoms
+pub mod ContinuedQueries
+pub mod ContinuedValues
+pub mod ContinuedTrackers

@@ -31,7 +31,7 @@ mark_comes : (joint : Joint) (t u : List ℕ) → Stands (mark_of joint) t u →
 mark_comes And t u h = stands_comes 38 [] t u refl (λ e. omega arith) h
 mark_comes Or t u h = stands_comes 124 [] t u refl (λ e. omega arith) h
 
-mark_stands : (joint : Joint) (t u : List ℕ) → behind_mark (mark_of joint) t ≡ Some u
+pub mark_stands : (joint : Joint) (t u : List ℕ) → behind_mark (mark_of joint) t ≡ Some u
     → Stands (mark_of joint) t u
 unfolding behind_mark
 mark_stands And t u e = comes_stands 38 [] t u (strip_found (codes "&") (skipped t) u e)

@@ -233,11 +233,11 @@ keys_read {after} n (one_key s one t rest entry later) short =
 
 -- ---- 3. what is read is spelled
 
-not_word : (key word : List ℕ) → bytes_eq key word ≡ false → key ≢ word
+pub not_word : (key word : List ℕ) → bytes_eq key word ≡ false → key ≢ word
 not_word key word is same =
     (let bad : false ≡ true = sym is ∙ (bytes_eq-Decides key word).1 same in cc)
 
-is_word : (key word : List ℕ) → bytes_eq key word ≡ true → key ≡ word
+pub is_word : (key word : List ℕ) → bytes_eq key word ≡ true → key ≡ word
 is_word key word is = (bytes_eq-Decides key word).0 is
 
 module _ (key : List ℕ) (s : Said) (t : List ℕ) (y : Told) where
@@ -341,7 +341,7 @@ module _ (key : List ℕ) (s : Said) (t : List ℕ) (y : Told) where
       by_keys (bytes_eq key (codes "title")) (bytes_eq key (codes "is_affected"))
       (bytes_eq key (codes "is_good")) (bytes_eq key (codes "is_bad")) refl refl refl refl e
 
-stands_word : (word t rest : List ℕ) → word ≢ [] → skipped t ≡ word ++ rest → Stands word t rest
+pub stands_word : (word t rest : List ℕ) → word ≢ [] → skipped t ≡ word ++ rest → Stands word t rest
 stands_word [] t rest some e = absurd (some refl)
 stands_word (x ∷ word) t rest some e = comes_stands x word t rest e
 

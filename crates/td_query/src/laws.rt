@@ -1,5 +1,6 @@
 //! What queries and statuses mean, as laws over their definitions.
 ghost use Rattle.td_query.specs.AtomRules.{FalseIsRead, PatternsAreRead, TextsAreRead, TrueIsRead};
+ghost use Rattle.td_query.specs.FaultPlaces.{RightBytesAreOfTrackers, RightBytesGoOn};
 ghost use Rattle.td_query.specs.FaultPlaces.{WrongBytesAreFinal, WrongBytesAreThere};
 ghost use Rattle.td_query.specs.KeyRules.{EntriesAreSaid, QueriesAreSaid, TitlesAreSaid};
 ghost use Rattle.td_query.specs.QueryLaws.{AbsentFieldsNeverMatch, ConjunctionsAreAnd};
@@ -114,4 +115,11 @@ pub fn rows_are_graded_by_their_stanzas()
 pub fn wrong_bytes_are_final()
     ensures there { WrongBytesAreThere }
     ensures always { WrongBytesAreFinal }
+{}
+
+/// What stands before a wrong byte can go on: some text that begins with it is read, with all three
+/// queries, and is a tracker's. Of a text that ends in an open pattern only the first is promised.
+pub fn right_bytes_go_on()
+    ensures read { RightBytesGoOn }
+    ensures trackers { RightBytesAreOfTrackers }
 {}

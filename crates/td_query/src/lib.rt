@@ -41,7 +41,7 @@ mod wanted;
 pub use laws::{
     atoms_are_read_as_written, comments_are_skipped, fields_match_by_their_values,
     keys_say_what_is_read, patterns_end_at_their_slash, queries_are_as_in_logic,
-    queries_are_read_by_their_rules, rows_are_graded_by_their_stanzas,
+    queries_are_read_by_their_rules, right_bytes_go_on, rows_are_graded_by_their_stanzas,
     trackers_are_read_as_spelled, trackers_mean_one_thing, wrong_bytes_are_final,
 };
 pub use marks::Marks;
