@@ -15,9 +15,10 @@ use Rattle.td_query.specs.QuerySpelling.{EndsWord, IsKey, SpellsAtom, SpellsFiel
 use Rattle.td_query.specs.QuerySpelling.{field_pattern, field_text}
 use Rattle.td_query.specs.TokenRules.{IsBetweenSlashes}
 use Rattle.td_query.specs.Tokens.{is_key_byte, pattern_in, skipped}
-use Rattle.td_query.proofs.Continued.{Stopped, here_stands, is_filled, led, led_stands, prefixed}
-use Rattle.td_query.proofs.Continued.{stands_again, stands_ends, stands_front, stands_more}
-use Rattle.td_query.proofs.ContinuedWords.{Closes, Fine, ReadFate, closes_in, fine_front, fine_last}
+use Rattle.td_query.proofs.Continued.{Stopped, prefixed}
+use Rattle.td_query.proofs.ContinuedMarks.{here_stands, is_filled, led, led_stands, stands_again}
+use Rattle.td_query.proofs.ContinuedMarks.{stands_ends, stands_front, stands_more}
+use Rattle.td_query.proofs.ContinuedWords.{Fine, ReadFate, fine_front, fine_last}
 use Rattle.td_query.proofs.ContinuedWords.{fine_more, left_over, logged, word_fate}
 use Rattle.td_query.proofs.Gaps.{comes_stands, cut_lacks}
 use Rattle.td_query.proofs.PatternEnds.{Parts, at_end, more, parts, patterns_end}
@@ -44,7 +45,7 @@ parts_closed escaped (x ∷ q) r e =
     by true e later = absurd (let bad : ◌≡◌ {A = Parts} (Some ([], q)) None = e in cc)
     by false e later = ap (more x) (later (none_more x (parts (eqb x 92) q) e))
 
-between_closed : (q : List ℕ) → pattern_in q ≡ None → IsBetweenSlashes (q ++ 120 ∷ [])
+pub between_closed : (q : List ℕ) → pattern_in q ≡ None → IsBetweenSlashes (q ++ 120 ∷ [])
 between_closed q e =
     ((patterns_end (q ++ 120 ∷ 47 ∷ []) (q ++ 120 ∷ []) []).0
     (at_end false (q ++ 120 ∷ 47 ∷ []) ∙ parts_closed false q [] (sym (at_end false q) ∙ e))).1
@@ -94,9 +95,12 @@ module _ (P : List ℕ → Type 0) (name : List ℕ) (log : Log) (t : List ℕ) 
     back = [];
     is = sym (append-nil t);
     there = refl;
-    more = λ u. 34 ∷ 10 ∷ u;
+    inside = None;
+    opened = tt;
+    more = λ bytes u. 34 ∷ 10 ∷ u;
+    closed = λ bytes u. tt;
     before = λ good. good;
-    goes = λ legal closing r u ok. record {
+    goes = λ legal bytes asked r u ok. record {
       meaning = text name q;
       after = r;
       spelled = test_text q (stands_more (codes "\"") t q h (34 ∷ 10 ∷ u)) (cut_lacks 34 q is) refl
@@ -127,23 +131,27 @@ module _ (P : List ℕ → Type 0) (name : List ℕ) (log : Log) (t : List ℕ) 
     back = [];
     is = sym (append-nil t);
     there = refl;
-    more = λ u. 120 ∷ 47 ∷ 10 ∷ u;
+    inside = Some q;
+    opened = (refl, h.gap, h.spelled, is);
+    more = λ bytes u. bytes ++ 47 ∷ 10 ∷ u;
+    closed = λ bytes u. (10 ∷ u, refl);
     before = λ good. good;
-    goes = λ legal closing r u ok.
-        (let raw : List ℕ = q ++ 120 ∷ [] in
+    goes = λ legal bytes asked r u ok.
+        (let raw : List ℕ = q ++ bytes in
         let here : Raw = record {
           left = length (codes "/" ++ (raw ++ (codes "/" ++ 10 ∷ u)));
           raw = raw;
         } in
-        let there : Stands (codes "/") (t ++ 120 ∷ 47 ∷ 10 ∷ u) (raw ++ (codes "/" ++ 10 ∷ u)) =
-        subst (λ (l : List ℕ). Stands (codes "/") (t ++ 120 ∷ 47 ∷ 10 ∷ u) l)
-        (sym (append_assoc q (120 ∷ []) (47 ∷ 10 ∷ u)))
-        (stands_more (codes "/") t q h (120 ∷ 47 ∷ 10 ∷ u)) in
+        let there : Stands (codes "/") (t ++ (bytes ++ 47 ∷ 10 ∷ u))
+        (raw ++ (codes "/" ++ 10 ∷ u)) =
+        subst (λ (l : List ℕ). Stands (codes "/") (t ++ (bytes ++ 47 ∷ 10 ∷ u)) l)
+        (sym (append_assoc q bytes (47 ∷ 10 ∷ u)))
+        (stands_more (codes "/") t q h (bytes ++ 47 ∷ 10 ∷ u)) in
         record {
           meaning = pattern name (length r);
           after = r ++ here ∷ [];
-          spelled = test_pattern raw there (between_closed q is) refl refl;
-          good = fine_more P r here ok (closing refl h.gap q h.spelled is);
+          spelled = test_pattern raw there asked.0 refl refl;
+          good = fine_more P r here ok asked.1;
         });
   }
   slash_fate q h left (Some p) is =
@@ -173,9 +181,12 @@ module _ (P : List ℕ → Type 0) (name : List ℕ) (log : Log) (t : List ℕ) 
     back = skipped t;
     is = (led t).is;
     there = refl;
-    more = λ u. 10 ∷ 34 ∷ 34 ∷ 10 ∷ u;
+    inside = None;
+    opened = tt;
+    more = λ bytes u. 10 ∷ 34 ∷ 34 ∷ 10 ∷ u;
+    closed = λ bytes u. tt;
     before = λ good. good;
-    goes = λ legal closing r u ok. record {
+    goes = λ legal bytes asked r u ok. record {
       meaning = text name [];
       after = r;
       spelled = test_text [] (led_stands t (codes "\"") (34 ∷ 10 ∷ u)) tt refl refl;
@@ -217,9 +228,12 @@ module _ (P : List ℕ → Type 0) (name : List ℕ) (log : Log) (t : List ℕ) 
     back = skipped t;
     is = (led t).is;
     there = refl;
-    more = λ u. 10 ∷ 126 ∷ 34 ∷ 34 ∷ 10 ∷ u;
+    inside = None;
+    opened = tt;
+    more = λ bytes u. 10 ∷ 126 ∷ 34 ∷ 34 ∷ 10 ∷ u;
+    closed = λ bytes u. tt;
     before = λ good. good;
-    goes = λ legal closing r u ok. record {
+    goes = λ legal bytes asked r u ok. record {
       meaning = text name [];
       after = r;
       spelled = (
@@ -232,7 +246,7 @@ module _ (P : List ℕ → Type 0) (name : List ℕ) (log : Log) (t : List ℕ) 
   }
   tilded_fate (Some w) is =
       let h = comes_stands 126 [] t w (strip_found (codes "~") (skipped t) w is) in
-      prefixed (Fine P) EndsWord (Fine P) (Closes P) (closes_in P) (SpellsTest name)
+      prefixed (Fine P) EndsWord (Fine P) P (SpellsTest name)
       (SpellsTilde name) logged left_over (h.gap ++ codes "~") t w
       (stands_front (codes "~") t w h)
       (λ s after x end m k. (m, (x, stands_again (codes "~") t w h x, k)))
@@ -261,15 +275,18 @@ module _ (P : List ℕ → Type 0) (log : Log) (t u : List ℕ) (dot : Stands (c
       by (test_pattern raw there between is same) =
           field_pattern name raw x field there between is same
 
-  nameless : Stopped (Fine P) (Fine P) (Closes P) SpellsAtom log t (length u, log)
+  nameless : Stopped (Fine P) (Fine P) P SpellsAtom log t (length u, log)
   nameless = record {
     front = dot.gap ++ codes ".";
     back = u;
     is = stands_front (codes ".") t u dot;
     there = refl;
-    more = λ v. 97 ∷ 126 ∷ 34 ∷ 34 ∷ 10 ∷ v;
+    inside = None;
+    opened = tt;
+    more = λ bytes v. 97 ∷ 126 ∷ 34 ∷ 34 ∷ 10 ∷ v;
+    closed = λ bytes v. tt;
     before = λ good. good;
-    goes = λ legal closing r v ok.
+    goes = λ legal bytes asked r v ok.
         (let spelled = tilde_spelled (97 ∷ []) (is_filled 97 [], refl) r r
         (126 ∷ 34 ∷ 34 ∷ 10 ∷ v) (10 ∷ v) (text (97 ∷ []) []) (
           34 ∷ 34 ∷ 10 ∷ v,
@@ -297,7 +314,7 @@ module _ (P : List ℕ → Type 0) (log : Log) (t u : List ℕ) (dot : Stands (c
       stands_front (codes ".") t u dot
       ∙ ap (λ (l : List ℕ). (dot.gap ++ codes ".") ++ l) (run_joined is_key_byte u)
       ∙ sym (append_assoc (dot.gap ++ codes ".") name w) in
-      prefixed (Fine P) EndsWord (Fine P) (Closes P) (closes_in P) (SpellsTilde name)
+      prefixed (Fine P) EndsWord (Fine P) P (SpellsTilde name)
       SpellsAtom logged left_over ((dot.gap ++ codes ".") ++ name) t w whole
       (tilde_spelled name (filled name is, run_passes is_key_byte u)) log
       (tilde_atom log name w) (tilded_fate P name log w (strip (codes "~") (skipped w)) refl)

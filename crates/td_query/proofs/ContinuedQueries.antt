@@ -16,11 +16,11 @@ use Rattle.td_query.specs.QuerySpelling.{EndsWord, Rule, SpellsAll, SpellsAny, S
 use Rattle.td_query.specs.QuerySpelling.{SpellsJoined, SpellsMore, SpellsPart, SpellsQuery, Stands}
 use Rattle.td_query.specs.QuerySpelling.{constant}
 use Rattle.td_query.specs.Tokens.{skipped}
-use Rattle.td_query.proofs.Continued.{Marked, Moved, chain_fate, here_stands, line_gap}
-use Rattle.td_query.proofs.Continued.{mark_missing, mark_moved, prefixed, stands_again}
-use Rattle.td_query.proofs.Continued.{stands_ends, stands_front}
+use Rattle.td_query.proofs.Continued.{Moved, chain_fate, prefixed}
+use Rattle.td_query.proofs.ContinuedMarks.{Marked, here_stands, line_gap, mark_missing, mark_moved}
+use Rattle.td_query.proofs.ContinuedMarks.{stands_again, stands_ends, stands_front}
 use Rattle.td_query.proofs.ContinuedAtoms.{atom_fate}
-use Rattle.td_query.proofs.ContinuedWords.{Closes, Fine, ReadFate, closes_in, left_over, logged}
+use Rattle.td_query.proofs.ContinuedWords.{Fine, ReadFate, left_over, logged}
 use Rattle.td_query.proofs.ContinuedWords.{true_missing}
 use Rattle.td_query.proofs.Gaps.{comes_stands}
 use Rattle.td_query.proofs.SpelledAtoms.{Given}
@@ -69,7 +69,7 @@ module _ (P : List ℕ → Type 0) (joint : Joint) (read : Log → List ℕ → 
       → ReadFate P (SpellsParts joint Part) log t
       (on_ok (read log t) (λ x. more joint read n (f x) x.1 x.2))
   parts_fate_with n later f log t =
-      chain_fate (Fine P) EndsWord EndsWord (Fine P) (Closes P) (closes_in P) Part
+      chain_fate (Fine P) EndsWord EndsWord (Fine P) P Part
       (SpellsTail joint Part) (SpellsParts joint Part)
       (λ s one after t v rest m k p q. ((m, k), (one, v, p, q)))
       tail_ends (λ u. refl) (λ u. u)
@@ -86,7 +86,7 @@ module _ (P : List ℕ → Type 0) (joint : Joint) (read : Log → List ℕ → 
   next_fate n later parts log t None is = no_tail log t
   next_fate n later parts log t (Some u) is =
       let h = mark_stands joint t u is in
-      prefixed (Fine P) EndsWord (Fine P) (Closes P) (closes_in P) (SpellsParts joint Part)
+      prefixed (Fine P) EndsWord (Fine P) P (SpellsParts joint Part)
       (SpellsTail joint Part) logged left_over (h.gap ++ mark_of joint) t u
       (stands_front (mark_of joint) t u h)
       (λ s after w end m k. (
@@ -109,7 +109,7 @@ module _ (P : List ℕ → Type 0) (joint : Joint) (read : Log → List ℕ → 
   some_parts : (log : Log) (t : List ℕ)
       → ReadFate P (SpellsParts joint Part) log t (parts_with joint read log t)
   some_parts log t =
-      chain_fate (Fine P) EndsWord EndsWord (Fine P) (Closes P) (closes_in P) Part
+      chain_fate (Fine P) EndsWord EndsWord (Fine P) P Part
       (SpellsTail joint Part) (SpellsParts joint Part)
       (λ s one after t v rest m k p q. ((m, k), (one, v, p, q)))
       (tail_ends P joint read Part fate) (λ u. refl) (λ u. u)
@@ -121,7 +121,7 @@ module _ (P : List ℕ → Type 0) (joint : Joint) (read : Log → List ℕ → 
   joined_fate : (log : Log) (t : List ℕ)
       → ReadFate P (SpellsJoined joint Part) log t (parts_with joint read log t)
   joined_fate log t =
-      prefixed (Fine P) EndsWord (Fine P) (Closes P) (closes_in P) (SpellsParts joint Part)
+      prefixed (Fine P) EndsWord (Fine P) P (SpellsParts joint Part)
       (SpellsJoined joint Part) logged left_over [] t t refl
       (λ s after w end m k. (
         joined joint (m.0 ∷ m.1),
@@ -186,7 +186,7 @@ module _ (P : List ℕ → Type 0) where
   as_part : (depth : ℕ) (log : Log) (t : List ℕ) (r : Read) → ReadFate P SpellsAtom log t r
       → ReadFate P (SpellsPart depth) log t r
   as_part depth log t r a =
-      prefixed (Fine P) EndsWord (Fine P) (Closes P) (closes_in P) SpellsAtom (SpellsPart depth)
+      prefixed (Fine P) EndsWord (Fine P) P SpellsAtom (SpellsPart depth)
       logged left_over [] t t refl
       (λ s after w end m k. (m, atom_part depth s after w end m k)) log r a
 
@@ -194,7 +194,7 @@ module _ (P : List ℕ → Type 0) where
       → strip (codes ")") (skipped t) ≡ o
       → ReadFate P (Marked Log (codes ")")) log t (closed_by s log (length (skipped t)) o)
   closed_by_fate s log t None is =
-      mark_missing Log (Fine P) (codes ")") (Fine P) (Closes P) log t log (λ good. good)
+      mark_missing Log (Fine P) (codes ")") (Fine P) P log t log (λ good. good)
   closed_by_fate s log t (Some u) is =
       mark_moved Log (Fine P) (codes ")") EndsWord log t u
       (comes_stands 41 [] t u (strip_found (codes ")") (skipped t) u is))
@@ -215,7 +215,7 @@ module _ (P : List ℕ → Type 0) where
       bracket_fate : (log : Log) (t : List ℕ)
           → ReadFate P (SpellsClosed depth) log t (on_ok (or_with (not_in depth) log t) closed)
       bracket_fate log t =
-          chain_fate (Fine P) EndsWord EndsWord (Fine P) (Closes P) (closes_in P)
+          chain_fate (Fine P) EndsWord EndsWord (Fine P) P
           (SpellsAny (SpellsPart depth)) (Marked Log (codes ")")) (SpellsClosed depth)
           (λ s one after t v rest m k p q. (
             m,
@@ -243,7 +243,7 @@ module _ (P : List ℕ → Type 0) where
           (or_else p (λ u. on_ok (or_with (not_in depth) log u) closed) (atom log (skipped t))))
       level_fate log t (Some u) p bang opens =
           let h = comes_stands 33 [] t u (strip_found (codes "!") (skipped t) u bang) in
-          prefixed (Fine P) EndsWord (Fine P) (Closes P) (closes_in P) (SpellsPart depth)
+          prefixed (Fine P) EndsWord (Fine P) P (SpellsPart depth)
           (SpellsPart (suc depth)) logged left_over (h.gap ++ codes "!") t u
           (stands_front (codes "!") t u h)
           (λ s after w end m k. (
@@ -255,7 +255,7 @@ module _ (P : List ℕ → Type 0) where
           (negating_fate depth log u (not_in depth log u) (fate log u))
       level_fate log t None (Some u) bang opens =
           let h = comes_stands 40 [] t u (strip_found (codes "(") (skipped t) u opens) in
-          prefixed (Fine P) EndsWord (Fine P) (Closes P) (closes_in P) (SpellsClosed depth)
+          prefixed (Fine P) EndsWord (Fine P) P (SpellsClosed depth)
           (SpellsPart (suc depth)) logged left_over (h.gap ++ codes "(") t u
           (stands_front (codes "(") t u h)
           (λ s after w end m k. (

@@ -19,11 +19,11 @@ use Rattle.td_query.specs.TrackerGrammar.{with_good}
 use Rattle.td_query.specs.TrackerSpelling.{IsOtherKey, SpellsText, SpellsValue, affected_query}
 use Rattle.td_query.specs.TrackerSpelling.{bad_query, good_query, other_query, other_text}
 use Rattle.td_query.specs.TrackerSpelling.{title_text}
-use Rattle.td_query.proofs.Continued.{Fate, Moved, Spelled, Stopped, here_stands, led, led_stands}
-use Rattle.td_query.proofs.Continued.{stands_more}
-use Rattle.td_query.proofs.ContinuedAtoms.{enclosed_again, enclosed_front}
+use Rattle.td_query.proofs.Continued.{Asked, Fate, Moved, Opened, Spelled, Stopped}
+use Rattle.td_query.proofs.ContinuedMarks.{here_stands, led, led_stands, stands_more}
+use Rattle.td_query.proofs.ContinuedAtoms.{between_closed, enclosed_again, enclosed_front}
 use Rattle.td_query.proofs.ContinuedQueries.{query_fate, true_query}
-use Rattle.td_query.proofs.ContinuedWords.{Closes, Fine, ReadFate}
+use Rattle.td_query.proofs.ContinuedWords.{Fine, ReadFate}
 use Rattle.td_query.proofs.Gaps.{comes_stands, cut_lacks}
 use Rattle.td_query.proofs.SpelledAtoms.{Given}
 use Rattle.td_query.proofs.SpelledTrackers.{Told, is_word, not_word}
@@ -43,7 +43,7 @@ told_rest y = y.1
 abbrev pub SaidFate : {M : Type 0} → (List ℕ → Type 0) → (List ℕ → Type 0)
     → (Said → List ℕ → M → Said → List ℕ → Type 0) → Said → List ℕ → SaidRead → Type 0
 SaidFate P Free Part s t r =
-    Fate (Kept P) Free (Fine P) (Closes P) Part told_said told_rest s t r
+    Fate (Kept P) Free (Fine P) P Part told_said told_rest s t r
 
 -- a value of a key
 abbrev pub SpellsOf : List ℕ → Said → List ℕ → Unit {0} → Said → List ℕ → Type 0
@@ -58,15 +58,18 @@ module _ (P : List ℕ → Type 0) (key : List ℕ) (put : Said → List ℕ →
     (keeps : (s : Said) (value : List ℕ) → Kept P s → Kept P (put s value))
     (kept : (s : Said) (value : List ℕ) → Kept P (put s value) → Kept P s) (s : Said)
     (t : List ℕ) where
-  text_missing : Stopped (Kept P) (Fine P) (Closes P) (SpellsOf key) s t (length (skipped t), s.log)
+  text_missing : Stopped (Kept P) (Fine P) P (SpellsOf key) s t (length (skipped t), s.log)
   text_missing = record {
     front = (led t).front;
     back = skipped t;
     is = (led t).is;
     there = refl;
-    more = λ u. 10 ∷ 34 ∷ 34 ∷ 10 ∷ u;
+    inside = None;
+    opened = tt;
+    more = λ bytes u. 10 ∷ 34 ∷ 34 ∷ 10 ∷ u;
+    closed = λ bytes u. tt;
     before = λ good. good;
-    goes = λ legal closing r u ok. record {
+    goes = λ legal bytes asked r u ok. record {
       meaning = tt;
       after = put r [];
       spelled = says r [] ((led t).front ++ 10 ∷ 34 ∷ 34 ∷ 10 ∷ u) (10 ∷ u)
@@ -76,15 +79,18 @@ module _ (P : List ℕ → Type 0) (key : List ℕ) (put : Said → List ℕ →
   }
 
   text_open : (q : List ℕ) → Stands (codes "\"") t q → cut 34 q ≡ None
-      → Stopped (Kept P) (Fine P) (Closes P) (SpellsOf key) s t (0, s.log)
+      → Stopped (Kept P) (Fine P) P (SpellsOf key) s t (0, s.log)
   text_open q h is = record {
     front = t;
     back = [];
     is = sym (append-nil t);
     there = refl;
-    more = λ u. 34 ∷ 10 ∷ u;
+    inside = None;
+    opened = tt;
+    more = λ bytes u. 34 ∷ 10 ∷ u;
+    closed = λ bytes u. tt;
     before = λ good. good;
-    goes = λ legal closing r u ok. record {
+    goes = λ legal bytes asked r u ok. record {
       meaning = tt;
       after = put r q;
       spelled = says r q (t ++ 34 ∷ 10 ∷ u) (10 ∷ u)
@@ -136,21 +142,25 @@ module _ (P : List ℕ → Type 0) (key : List ℕ) (put : Said → Given → Sa
   }
 
   query_stopped : (s : Said) (t : List ℕ) (e : ℕ × Log)
-      → Stopped (Fine P) (Fine P) (Closes P) (SpellsQuery 100) s.log t e
-      → Stopped (Kept P) (Fine P) (Closes P) (SpellsOf key) s t e
+      → Stopped (Fine P) (Fine P) P (SpellsQuery 100) s.log t e
+      → Stopped (Kept P) (Fine P) P (SpellsOf key) s t e
   query_stopped s t e a = record {
     front = a.front;
     back = a.back;
     is = a.is;
     there = a.there;
+    inside = a.inside;
+    opened = a.opened;
     more = a.more;
+    closed = a.closed;
     before = a.before;
-    goes = λ legal closing r u ok.
-        (let first = a.goes legal closing r.log u ok in
+    goes = λ legal bytes asked r u ok.
+        (let first = a.goes legal bytes asked r.log u ok in
         record {
           meaning = tt;
           after = put r (first.meaning, first.after, 10 ∷ u);
-          spelled = says r first.meaning first.after (a.front ++ a.more u) (10 ∷ u) first.spelled;
+          spelled = says r first.meaning first.after (a.front ++ a.more bytes u) (10 ∷ u)
+              first.spelled;
           good = keeps r (first.meaning, first.after, 10 ∷ u) first.good;
         });
   }
@@ -187,12 +197,18 @@ module _ (P : List ℕ → Type 0) (key : List ℕ) (s : Said) (t : List ℕ) wh
 -- ---- 4. titles, and other keys
 
 -- each pattern is something
-abbrev Any : List ℕ → Type 0
+abbrev pub Any : List ℕ → Type 0
 Any raw = Unit {0}
 
-any_fine : (log : Log) → Fine Any log
+pub any_fine : (log : Log) → Fine Any log
 any_fine [] = tt
 any_fine (r ∷ log) = (tt, any_fine log)
+
+-- so a byte and a slash close an open one
+pub any_asked : (o : Option (List ℕ)) (t : List ℕ) (left : ℕ) → Opened o t left
+    → Asked Any o (120 ∷ [])
+any_asked None t left h = tt
+any_asked (Some raw) t left h = (between_closed raw h.3, tt)
 
 module _ (P : List ℕ → Type 0) (key : List ℕ) (s : Said) (t : List ℕ) where
   titled_fate : key ≡ codes "title" → (q : List ℕ) → Stands (codes "\"") t q
@@ -246,10 +262,14 @@ module _ (P : List ℕ → Type 0) (key : List ℕ) (s : Said) (t : List ℕ) wh
     back = a.back;
     is = a.is;
     there = a.there;
-    more = a.more;
+    inside = None;
+    opened = tt;
+    more = λ bytes u. a.more (120 ∷ []) u;
+    closed = λ bytes u. tt;
     before = λ good. good;
-    goes = λ legal closing r u ok.
-        (let first = a.goes (any_fine e.1) (λ none before raw at lacks. tt) [] u tt in
+    goes = λ legal bytes asked r u ok.
+        (let first = a.goes (any_fine e.1) (120 ∷ []) (any_asked a.inside t e.0 a.opened) [] u
+        tt in
         record {
           meaning = tt;
           after = r;

@@ -16,9 +16,10 @@ use Rattle.td_query.specs.Query.{always}
 use Rattle.td_query.specs.QueryGrammar.{Log, Raw, Read, begun, word_atom}
 use Rattle.td_query.specs.QuerySpelling.{EndsWord, IsGap, SpellsAtom, Stands, constant}
 use Rattle.td_query.specs.QuerySpelling.{constant_text}
-use Rattle.td_query.specs.Tokens.{common_len, is_key_byte, pattern_in, skipped}
-use Rattle.td_query.proofs.Continued.{Fate, Moved, Stopped, gap_stands, led, led_stands}
-use Rattle.td_query.proofs.Continued.{open_ended, stands_again, stands_front}
+use Rattle.td_query.specs.Tokens.{common_len, is_key_byte, skipped}
+use Rattle.td_query.proofs.Continued.{Fate, Moved, Stopped}
+use Rattle.td_query.proofs.ContinuedMarks.{gap_stands, led, led_stands, open_ended, stands_again}
+use Rattle.td_query.proofs.ContinuedMarks.{stands_front}
 use Rattle.td_query.proofs.FrontWords.{begun_less}
 use Rattle.td_query.proofs.Gaps.{comes_stands, front_of}
 use Rattle.td_query.proofs.SpelledAtoms.{Given}
@@ -42,17 +43,6 @@ pub fine_more : (P : List ℕ → Type 0) (log : Log) (r : Raw) → Fine P log �
 fine_more P [] r h last = (last, tt)
 fine_more P (x ∷ log) r h last = (h.0, fine_more P log r h.1 last)
 
--- at the end of a text a pattern that is open is such once it has a byte more
-abbrev pub Closes : (List ℕ → Type 0) → List ℕ → ℕ → Type 0
-Closes P t left = left ≡ 0 → (before raw : List ℕ) → t ≡ before ++ 47 ∷ raw
-    → pattern_in raw ≡ None → P (raw ++ 120 ∷ [])
-
-pub closes_in : (P : List ℕ → Type 0) (pre t u : List ℕ) (left : ℕ) → t ≡ pre ++ u
-    → Closes P t left → Closes P u left
-closes_in P pre t u left is h = λ none before raw at lacks.
-    h none (pre ++ before) raw
-    (is ∙ ap (λ (l : List ℕ). pre ++ l) at ∙ sym (append_assoc pre before (47 ∷ raw))) lacks
-
 -- the patterns after what was read, and what follows it
 abbrev pub logged : Given → Log
 logged y = y.1
@@ -63,7 +53,7 @@ left_over y = y.2
 abbrev pub ReadFate : {M : Type 0} → (List ℕ → Type 0)
     → (Log → List ℕ → M → Log → List ℕ → Type 0) → Log → List ℕ → Read → Type 0
 ReadFate P Part log t r =
-    Fate (Fine P) EndsWord (Fine P) (Closes P) Part logged left_over log t r
+    Fate (Fine P) EndsWord (Fine P) P Part logged left_over log t r
 
 -- ---- 2. `true` and `false`
 
@@ -124,15 +114,18 @@ module _ (P : List ℕ → Type 0) (log : Log) (t : List ℕ) where
   }
 
   -- where no atom may stand, or none does, `true` may
-  pub true_missing : Stopped (Fine P) (Fine P) (Closes P) SpellsAtom log t (length (skipped t), log)
+  pub true_missing : Stopped (Fine P) (Fine P) P SpellsAtom log t (length (skipped t), log)
   true_missing = record {
     front = (led t).front;
     back = skipped t;
     is = (led t).is;
     there = refl;
-    more = λ u. 10 ∷ (codes "true" ++ 10 ∷ u);
+    inside = None;
+    opened = tt;
+    more = λ bytes u. 10 ∷ (codes "true" ++ 10 ∷ u);
+    closed = λ bytes u. tt;
     before = λ good. good;
-    goes = λ legal closing r u ok. record {
+    goes = λ legal bytes asked r u ok. record {
       meaning = always true;
       after = r;
       spelled = constant true (led_stands t (codes "true") (10 ∷ u)) refl refl refl;
@@ -141,7 +134,7 @@ module _ (P : List ℕ → Type 0) (log : Log) (t : List ℕ) where
   }
 
   module _ (word v : List ℕ) (whole : skipped t ≡ word ++ v) where
-    word_stopped : Stopped (Fine P) (Fine P) (Closes P) SpellsAtom log t
+    word_stopped : Stopped (Fine P) (Fine P) P SpellsAtom log t
         (length (skipped t) - begun word, log)
     word_stopped =
         elim (front_of t) [
@@ -165,12 +158,16 @@ module _ (P : List ℕ → Type 0) (log : Log) (t : List ℕ) where
                     ∙ ap (λ (l : List ℕ). h.gap ++ (l ++ v)) (sym (take-append-drop n word))
                     ∙ split;
                 there = omega arith;
-                more = λ u. drop n (constant_text begins.answer) ++ 10 ∷ u;
+                inside = None;
+                opened = tt;
+                more = λ bytes u. drop n (constant_text begins.answer) ++ 10 ∷ u;
+                closed = λ bytes u. tt;
                 before = λ good. good;
-                goes = λ legal closing r u ok. record {
+                goes = λ legal bytes asked r u ok. record {
                   meaning = always begins.answer;
                   after = r;
-                  spelled = constant begins.answer (goes_on h.gap h.between begins u) refl refl refl;
+                  spelled = constant begins.answer (goes_on h.gap h.between begins u) refl refl
+                      refl;
                   good = ok;
                 };
               })
@@ -181,9 +178,12 @@ module _ (P : List ℕ → Type 0) (log : Log) (t : List ℕ) where
                 back = [];
                 is = sym (append-nil t);
                 there = omega arith;
-                more = λ u. 10 ∷ (codes "true" ++ 10 ∷ u);
+                inside = None;
+                opened = tt;
+                more = λ bytes u. 10 ∷ (codes "true" ++ 10 ∷ u);
+                closed = λ bytes u. tt;
                 before = λ good. good;
-                goes = λ legal closing r u ok. record {
+                goes = λ legal bytes asked r u ok. record {
                   meaning = always true;
                   after = r;
                   spelled = constant true (gap_stands t (codes "true") (10 ∷ u) (open_ended t h))

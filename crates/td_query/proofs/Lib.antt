@@ -35,8 +35,10 @@ pub mod FrontAtoms
 pub mod FrontQueries
 pub mod FrontTrackers
 pub mod Continued
+pub mod ContinuedMarks
 pub mod ContinuedWords
 pub mod ContinuedAtoms
 pub mod ContinuedQueries
 pub mod ContinuedValues
+pub mod ContinuedEntries
 pub mod ContinuedTrackers

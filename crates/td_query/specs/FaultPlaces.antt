@@ -2,8 +2,12 @@
 -- before it can go on. So it is the first byte that no continuation allows. This project's own.
 use Rattle.std.specs.Prelude.{◌≡◌, ◌⊎◌, ℕ, suc, ◌≤◌, IsSome, List, [], ◌∷◌, ◌++◌, None, Ok, Err}
 use Rattle.std.specs.Prelude.{codes, length}
+use Rattle.regex.specs.Failures.{IsPattern}
+use Rattle.regex.specs.Patterns.{default_config}
 use Rattle.td_query.specs.declared.tracker_fault.TrackerFault.TheVariants.{Syntax}
 use Rattle.td_query.specs.QueryGrammar.{Log}
+use Rattle.td_query.specs.Sources.{unescaped}
+use Rattle.td_query.specs.TokenRules.{IsBetweenSlashes}
 use Rattle.td_query.specs.Tokens.{pattern_in}
 use Rattle.td_query.specs.TrackerFaults.{FaultOf}
 use Rattle.td_query.specs.TrackerGrammar.{Said, said_in}
@@ -35,14 +39,21 @@ RightBytesGoOn = (front rest : List ℕ) (log : Log)
     → said_in (front ++ rest) ≡ Err (length rest, log)
     → (other : List ℕ) × (s : Said) × (said_in (front ++ other) ≡ Ok s) × SaysAll s
 
--- behind some `/` of a text stands no `/` that closes a pattern
-abbrev pub EndsInPattern : List ℕ → Type 0
-EndsInPattern text = (before : List ℕ) × (raw : List ℕ) × (text ≡ before ++ (codes "/" ++ raw))
-    × (pattern_in raw ≡ None)
+-- A text ends inside a pattern: behind the pattern's opening `/` stands this much of it, and no `/`
+-- that closes it. Whatever makes it a pattern that `regex` reads makes the text go on to a tracker
+pub record IsInPattern (text : List ℕ) : Type 0 where
+  pub before : List ℕ
+  pub raw : List ℕ
+  pub is : text ≡ before ++ (codes "/" ++ raw)
+  pub stays : pattern_in raw ≡ None
+  pub goes : (bytes : List ℕ) → IsBetweenSlashes (raw ++ bytes)
+      → IsPattern default_config (unescaped (raw ++ bytes))
+      → (other : List ℕ) × (t : Tracking)
+      × IsTracker (text ++ (bytes ++ (codes "/" ++ other))) t
 
--- where a text is refused at a byte, what stands before it begins a tracker; but of a text that ends
--- in an open pattern nobody knows whether it can become one that `regex` reads
+-- what stands before a wrong byte begins a tracker. So does a text that ends too early, if it
+-- doesn't end inside a pattern; there it depends on the pattern
 abbrev pub RightBytesAreOfTrackers : Type 0
 RightBytesAreOfTrackers = (front rest : List ℕ) → FaultOf (front ++ rest) (Syntax (length front))
     → ((other : List ℕ) × (t : Tracking) × IsTracker (front ++ other) t)
-    ⊎ ((rest ≡ []) × EndsInPattern front)
+    ⊎ ((rest ≡ []) × IsInPattern front)

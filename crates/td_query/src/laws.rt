@@ -117,8 +117,8 @@ pub fn wrong_bytes_are_final()
     ensures always { WrongBytesAreFinal }
 {}
 
-/// What stands before a wrong byte can go on: some text that begins with it is read, with all three
-/// queries, and is a tracker's. Of a text that ends in an open pattern only the first is promised.
+/// What stands before a wrong byte can go on: it begins a text that is read and says all three
+/// queries. That text is a tracker's, too, unless the wrong one ends inside a pattern.
 pub fn right_bytes_go_on()
     ensures read { RightBytesGoOn }
     ensures trackers { RightBytesAreOfTrackers }
