@@ -1,13 +1,36 @@
 -- How a text that goes wrong at some byte can go on: what stands before the byte, with something
 -- else behind it, is spelled. Here is what all rules share.
-use Rattle.std.proofs.Common.{◌≡◌, ℕ, List, ◌∷◌, ◌++◌, length, Option, Some, None, Result, Ok, Err}
-use Rattle.std.proofs.Common.{sym, ap, subst, ◌∙◌, append_assoc}
+use Rattle.std.proofs.Common.{◌≡◌, ℕ, List, [], ◌∷◌, ◌++◌, length, Option, Some, None, Result, Ok}
+use Rattle.std.proofs.Common.{Err, sym, ap, subst, ◌∙◌, append_assoc, append-nil}
+use Rattle.std.specs.Str.{IsUtf8}
+use Rattle.std.proofs.lemmas.Str.{IsUtf8-append, IsUtf8-nil}
 use Rattle.td_text.specs.Lines.{on_ok}
 use Rattle.td_query.specs.QueryGrammar.{Log}
 use Rattle.td_query.specs.TokenRules.{IsBetweenSlashes}
 use Rattle.td_query.specs.Tokens.{pattern_in}
 
 -- ---- 1. what is read, and what stops
+
+-- a text of characters is cut between two of them
+abbrev pub Cuts : List ℕ → List ℕ → Type 0
+Cuts front back = IsUtf8 (front ++ back) → IsUtf8 front × IsUtf8 back
+
+pub cuts_none : (t : List ℕ) → Cuts [] t
+cuts_none t h = (IsUtf8-nil, h)
+
+pub cuts_all : (t : List ℕ) → Cuts t []
+cuts_all t h = (subst (λ (l : List ℕ). IsUtf8 l) (append-nil t) h, IsUtf8-nil)
+
+pub cuts_join : (a b c : List ℕ) → Cuts a (b ++ c) → Cuts b c → Cuts (a ++ b) c
+cuts_join a b c one two h =
+    let first = one (subst (λ (l : List ℕ). IsUtf8 l) (append_assoc a b c) h) in
+    let second = two first.1 in
+    (IsUtf8-append a b first.0 second.0, second.1)
+
+-- behind some front
+pub cuts_behind : (a b c d : List ℕ) → d ≡ b ++ c → Cuts a d → Cuts b c → Cuts (a ++ b) c
+cuts_behind a b c d is one two =
+    cuts_join a b c (subst (λ (l : List ℕ). Cuts a l) is one) two
 
 -- a text is spelled by a rule, from what was said before it to what is said after it, which is good
 pub record Spelled {S M : Type 0} (Good : S → Type 0)
@@ -24,6 +47,7 @@ pub record Moved {S M : Type 0} (Good : S → Type 0) (Free : List ℕ → Type 
     (rest : List ℕ) : Type 0 where
   pub front : List ℕ
   pub is : t ≡ front ++ rest
+  pub cut : Cuts front rest
   pub before : Good one → Good s
   pub moves : Good one → (r : S) (u : List ℕ) → Good r → Free u
       → Spelled Good Part r (front ++ u) u
@@ -39,10 +63,11 @@ abbrev pub Asked : (List ℕ → Type 0) → Option (List ℕ) → List ℕ → 
 Asked P None bytes = Unit {0}
 Asked P (Some raw) bytes = IsBetweenSlashes (raw ++ bytes) × P (raw ++ bytes)
 
--- a text begins with these bytes and the slash behind them
+-- a text begins with these bytes and the slash behind them, where a pattern is open, and what
+-- follows is of characters
 abbrev pub Closed : Option (List ℕ) → List ℕ → List ℕ → Type 0
-Closed None bytes t = Unit {0}
-Closed (Some raw) bytes t = (rest : List ℕ) × (t ≡ bytes ++ 47 ∷ rest)
+Closed None bytes t = IsUtf8 t
+Closed (Some raw) bytes t = (rest : List ℕ) × (t ≡ bytes ++ 47 ∷ rest) × IsUtf8 rest
 
 -- what stands before the wrong byte goes on, up to a newline and whatever follows it; first with
 -- the bytes that close an open pattern, if there is one
@@ -52,11 +77,12 @@ pub record Stopped {S M : Type 0} (Good : S → Type 0) (Legal : Log → Type 0)
   pub front : List ℕ
   pub back : List ℕ
   pub is : t ≡ front ++ back
+  pub cut : Cuts front back
   pub there : length back ≡ e.0
   pub inside : Option (List ℕ)
   pub opened : Opened inside t e.0
   pub more : List ℕ → List ℕ → List ℕ
-  pub closed : (bytes u : List ℕ) → Closed inside bytes (more bytes u)
+  pub closed : (bytes u : List ℕ) → IsUtf8 u → Closed inside bytes (more bytes u)
   pub before : Legal e.1 → Good s
   pub goes : Legal e.1 → (bytes : List ℕ) → Asked P inside bytes → (r : S) (u : List ℕ) → Good r
       → Spelled Good Part r (front ++ more bytes u) (10 ∷ u)
@@ -87,14 +113,15 @@ module _ {S M K Y : Type 0} (Good : S → Type 0) (Free : List ℕ → Type 0) (
     (One : S → List ℕ → M → S → List ℕ → Type 0) (Both : S → List ℕ → K → S → List ℕ → Type 0)
     (state : Y → S) (rest : Y → List ℕ) where
   -- behind what stands in front
-  pub prefixed : (pre t u : List ℕ) → t ≡ pre ++ u
+  pub prefixed : (pre t u : List ℕ) → t ≡ pre ++ u → Cuts pre u
       → ((s after : S) (w end : List ℕ) (m : M) → One s w m after end
       → (k : K) × Both s (pre ++ w) k after end)
       → (s : S) (r : Result Y (ℕ × Log)) → Fate Good Free Legal P One state rest s u r
       → Fate Good Free Legal P Both state rest s t r
-  prefixed pre t u is adds s (Ok y) a = record {
+  prefixed pre t u is cut adds s (Ok y) a = record {
     front = pre ++ a.front;
     is = is ∙ ap (λ (l : List ℕ). pre ++ l) a.is ∙ sym (append_assoc pre a.front (rest y));
+    cut = cuts_behind pre a.front (rest y) u a.is cut a.cut;
     before = a.before;
     moves = λ good r v ok free.
         (let first = a.moves good r v ok free in
@@ -107,10 +134,11 @@ module _ {S M K Y : Type 0} (Good : S → Type 0) (Free : List ℕ → Type 0) (
           good = first.good;
         }));
   }
-  prefixed pre t u is adds s (Err e) a = record {
+  prefixed pre t u is cut adds s (Err e) a = record {
     front = pre ++ a.front;
     back = a.back;
     is = is ∙ ap (λ (l : List ℕ). pre ++ l) a.is ∙ sym (append_assoc pre a.front a.back);
+    cut = cuts_behind pre a.front a.back u a.is cut a.cut;
     there = a.there;
     inside = a.inside;
     opened = opened_in a.inside pre t u e.0 is a.opened;
@@ -139,7 +167,7 @@ module _ {S M N K Y Z : Type 0} (Good : S → Type 0) (Free Later : List ℕ →
     → Two one v n after rest → (k : K) × Both s t k after rest)
     (ends : (s after : S) (t rest : List ℕ) (n : N) → Two s t n after rest → Later rest → Free t)
     (newline : (u : List ℕ) → Later (10 ∷ u))
-    (close : List ℕ → List ℕ)
+    (close : List ℕ → List ℕ) (shut : (u : List ℕ) → IsUtf8 u → IsUtf8 (close u))
     (closes : (s : S) (u : List ℕ) → Good s → Spelled Good Two s (10 ∷ close u) (10 ∷ u))
     (state : Y → S) (rest : Y → List ℕ) (last : Z → S) (end : Z → List ℕ) where
   moved_on : (s : S) (t : List ℕ) (one : S) (v : List ℕ) → Moved Good Free One s t one v
@@ -149,6 +177,7 @@ module _ {S M N K Y Z : Type 0} (Good : S → Type 0) (Free Later : List ℕ →
     front = a.front ++ b.front;
     is = a.is ∙ ap (λ (l : List ℕ). a.front ++ l) b.is
         ∙ sym (append_assoc a.front b.front (end z));
+    cut = cuts_behind a.front b.front (end z) v b.is a.cut b.cut;
     before = λ good. a.before (b.before good);
     moves = λ good r u ok free.
         (let inner = b.before good in
@@ -171,6 +200,7 @@ module _ {S M N K Y Z : Type 0} (Good : S → Type 0) (Free Later : List ℕ →
     back = b.back;
     is = a.is ∙ ap (λ (l : List ℕ). a.front ++ l) b.is
         ∙ sym (append_assoc a.front b.front b.back);
+    cut = cuts_behind a.front b.front b.back v b.is a.cut b.cut;
     there = b.there;
     inside = b.inside;
     opened = opened_in b.inside a.front t v e.0 a.is b.opened;
@@ -206,11 +236,12 @@ module _ {S M N K Y Z : Type 0} (Good : S → Type 0) (Free Later : List ℕ →
     front = a.front;
     back = a.back;
     is = a.is;
+    cut = a.cut;
     there = a.there;
     inside = a.inside;
     opened = a.opened;
     more = λ bytes u. a.more bytes (close u);
-    closed = λ bytes u. a.closed bytes (close u);
+    closed = λ bytes u h. a.closed bytes (close u) (shut u h);
     before = a.before;
     goes = λ legal bytes asked r u ok.
         (let first = a.goes legal bytes asked r (close u) ok in

@@ -1,10 +1,10 @@
 -- How an atom that goes wrong at some byte can go on.
-use Rattle.std.proofs.Common.{◌≡◌, ℕ, Bool, true, false, cond, not, eqb, ◌&&◌, List, [], ◌∷◌, ◌++◌}
-use Rattle.std.proofs.Common.{length, Option, Some, None, Err, refl, sym, ap, subst, ◌∙◌}
-use Rattle.std.proofs.Common.{append_assoc, append-nil}
+use Rattle.std.proofs.Common.{◌≡◌, ℕ, ◌<◌, Bool, true, false, cond, not, eqb, ◌&&◌, List, [], ◌∷◌}
+use Rattle.std.proofs.Common.{◌++◌, length, Option, Some, None, Err, refl, sym, ap, subst, ◌∙◌}
+use Rattle.std.proofs.Common.{append_assoc, append-nil, arith}
 use Rattle.std.specs.Prelude.{codes, if◌then◌else◌}
 use Rattle.td_text.specs.Cut.{Without, cut, strip}
-use Rattle.td_text.specs.Runs.{run, behind}
+use Rattle.td_text.specs.Runs.{behind, run}
 use Rattle.td_text.proofs.Cut.{cut_found}
 use Rattle.td_text.proofs.Prefix.{strip_found}
 use Rattle.td_text.proofs.RunTexts.{run_joined, run_passes}
@@ -15,11 +15,12 @@ use Rattle.td_query.specs.QuerySpelling.{EndsWord, IsKey, SpellsAtom, SpellsFiel
 use Rattle.td_query.specs.QuerySpelling.{field_pattern, field_text}
 use Rattle.td_query.specs.TokenRules.{IsBetweenSlashes}
 use Rattle.td_query.specs.Tokens.{is_key_byte, pattern_in, skipped}
-use Rattle.td_query.proofs.Continued.{Stopped, prefixed}
+use Rattle.td_query.proofs.Continued.{Cuts, Stopped, cuts_all, cuts_join, prefixed}
+use Rattle.td_query.proofs.ContinuedCuts.{ascii_cuts, cut_after, key_ascii, utf8_after}
 use Rattle.td_query.proofs.ContinuedMarks.{here_stands, is_filled, led, led_stands, stands_again}
-use Rattle.td_query.proofs.ContinuedMarks.{stands_ends, stands_front, stands_more}
-use Rattle.td_query.proofs.ContinuedWords.{Fine, ReadFate, fine_front, fine_last}
-use Rattle.td_query.proofs.ContinuedWords.{fine_more, left_over, logged, word_fate}
+use Rattle.td_query.proofs.ContinuedMarks.{stands_cut, stands_ends, stands_front, stands_more}
+use Rattle.td_query.proofs.ContinuedWords.{Fine, ReadFate, fine_front, fine_last, fine_more}
+use Rattle.td_query.proofs.ContinuedWords.{left_over, logged, word_fate}
 use Rattle.td_query.proofs.Gaps.{comes_stands, cut_lacks}
 use Rattle.td_query.proofs.PatternEnds.{Parts, at_end, more, parts, patterns_end}
 use Rattle.td_query.proofs.SpelledAtoms.{filled}
@@ -79,6 +80,12 @@ pub enclosed_front : (x : ℕ) (t q : List ℕ) (h : Stands (x ∷ []) t q) (raw
 enclosed_front x t q h raw y rest is =
     h.spelled ∙ ap (λ (l : List ℕ). h.gap ++ (x ∷ l)) is ∙ sym (enclosed h.gap x raw y rest)
 
+pub enclosed_cut : (gap : List ℕ) (x : ℕ) (raw : List ℕ) (y : ℕ) (rest : List ℕ) → y < 128
+    → Cuts ((gap ++ x ∷ []) ++ (raw ++ y ∷ [])) rest
+enclosed_cut gap x raw y rest small =
+    subst (λ (l : List ℕ). Cuts l rest) (append_assoc (gap ++ x ∷ []) raw (y ∷ []))
+    (cut_after ((gap ++ x ∷ []) ++ raw) y rest small)
+
 pub enclosed_again : (x : ℕ) (t q : List ℕ) (h : Stands (x ∷ []) t q) (raw : List ℕ) (y : ℕ)
     (u : List ℕ) → Stands (x ∷ []) (((h.gap ++ x ∷ []) ++ (raw ++ y ∷ [])) ++ u) (raw ++ y ∷ u)
 enclosed_again x t q h raw y u = record {
@@ -94,11 +101,12 @@ module _ (P : List ℕ → Type 0) (name : List ℕ) (log : Log) (t : List ℕ) 
     front = t;
     back = [];
     is = sym (append-nil t);
+    cut = cuts_all t;
     there = refl;
     inside = None;
     opened = tt;
     more = λ bytes u. 34 ∷ 10 ∷ u;
-    closed = λ bytes u. tt;
+    closed = λ bytes u h. utf8_after (34 ∷ 10 ∷ []) u refl h;
     before = λ good. good;
     goes = λ legal bytes asked r u ok. record {
       meaning = text name q;
@@ -113,6 +121,7 @@ module _ (P : List ℕ → Type 0) (name : List ℕ) (log : Log) (t : List ℕ) 
       record {
         front = (h.gap ++ codes "\"") ++ (p.0 ++ 34 ∷ []);
         is = enclosed_front 34 t q h p.0 34 p.1 found.0;
+        cut = enclosed_cut h.gap 34 p.0 34 p.1 (omega arith);
         before = λ good. good;
         moves = λ good r u ok ends. record {
           meaning = text name p.0;
@@ -130,11 +139,12 @@ module _ (P : List ℕ → Type 0) (name : List ℕ) (log : Log) (t : List ℕ) 
     front = t;
     back = [];
     is = sym (append-nil t);
+    cut = cuts_all t;
     there = refl;
     inside = Some q;
     opened = (refl, h.gap, h.spelled, is);
     more = λ bytes u. bytes ++ 47 ∷ 10 ∷ u;
-    closed = λ bytes u. (10 ∷ u, refl);
+    closed = λ bytes u h. (10 ∷ u, refl, utf8_after (10 ∷ []) u refl h);
     before = λ good. good;
     goes = λ legal bytes asked r u ok.
         (let raw : List ℕ = q ++ bytes in
@@ -160,6 +170,7 @@ module _ (P : List ℕ → Type 0) (name : List ℕ) (log : Log) (t : List ℕ) 
       record {
         front = (h.gap ++ codes "/") ++ (p.0 ++ 47 ∷ []);
         is = enclosed_front 47 t q h p.0 47 p.1 found.0;
+        cut = enclosed_cut h.gap 47 p.0 47 p.1 (omega arith);
         before = λ good. fine_front P log one good;
         moves = λ good r u ok ends.
             (let here : Raw = record {
@@ -180,11 +191,12 @@ module _ (P : List ℕ → Type 0) (name : List ℕ) (log : Log) (t : List ℕ) 
     front = (led t).front;
     back = skipped t;
     is = (led t).is;
+    cut = (led t).cut;
     there = refl;
     inside = None;
     opened = tt;
     more = λ bytes u. 10 ∷ 34 ∷ 34 ∷ 10 ∷ u;
-    closed = λ bytes u. tt;
+    closed = λ bytes u h. utf8_after (10 ∷ 34 ∷ 34 ∷ 10 ∷ []) u refl h;
     before = λ good. good;
     goes = λ legal bytes asked r u ok. record {
       meaning = text name [];
@@ -227,11 +239,12 @@ module _ (P : List ℕ → Type 0) (name : List ℕ) (log : Log) (t : List ℕ) 
     front = (led t).front;
     back = skipped t;
     is = (led t).is;
+    cut = (led t).cut;
     there = refl;
     inside = None;
     opened = tt;
     more = λ bytes u. 10 ∷ 126 ∷ 34 ∷ 34 ∷ 10 ∷ u;
-    closed = λ bytes u. tt;
+    closed = λ bytes u h. utf8_after (10 ∷ 126 ∷ 34 ∷ 34 ∷ 10 ∷ []) u refl h;
     before = λ good. good;
     goes = λ legal bytes asked r u ok. record {
       meaning = text name [];
@@ -248,7 +261,7 @@ module _ (P : List ℕ → Type 0) (name : List ℕ) (log : Log) (t : List ℕ) 
       let h = comes_stands 126 [] t w (strip_found (codes "~") (skipped t) w is) in
       prefixed (Fine P) EndsWord (Fine P) P (SpellsTest name)
       (SpellsTilde name) logged left_over (h.gap ++ codes "~") t w
-      (stands_front (codes "~") t w h)
+      (stands_front (codes "~") t w h) (stands_cut (codes "~") t w h refl)
       (λ s after x end m k. (m, (x, stands_again (codes "~") t w h x, k)))
       log (tested log name w) (tested_fate P name log w)
 
@@ -280,11 +293,12 @@ module _ (P : List ℕ → Type 0) (log : Log) (t u : List ℕ) (dot : Stands (c
     front = dot.gap ++ codes ".";
     back = u;
     is = stands_front (codes ".") t u dot;
+    cut = stands_cut (codes ".") t u dot refl;
     there = refl;
     inside = None;
     opened = tt;
     more = λ bytes v. 97 ∷ 126 ∷ 34 ∷ 34 ∷ 10 ∷ v;
-    closed = λ bytes v. tt;
+    closed = λ bytes v h. utf8_after (97 ∷ 126 ∷ 34 ∷ 34 ∷ 10 ∷ []) v refl h;
     before = λ good. good;
     goes = λ legal bytes asked r v ok.
         (let spelled = tilde_spelled (97 ∷ []) (is_filled 97 [], refl) r r
@@ -314,8 +328,11 @@ module _ (P : List ℕ → Type 0) (log : Log) (t u : List ℕ) (dot : Stands (c
       stands_front (codes ".") t u dot
       ∙ ap (λ (l : List ℕ). (dot.gap ++ codes ".") ++ l) (run_joined is_key_byte u)
       ∙ sym (append_assoc (dot.gap ++ codes ".") name w) in
-      prefixed (Fine P) EndsWord (Fine P) P (SpellsTilde name)
-      SpellsAtom logged left_over ((dot.gap ++ codes ".") ++ name) t w whole
+      prefixed (Fine P) EndsWord (Fine P) P (SpellsTilde name) SpellsAtom logged left_over
+      ((dot.gap ++ codes ".") ++ name) t w whole
+      (cuts_join (dot.gap ++ codes ".") name w
+      (cut_after dot.gap 46 (name ++ w) (omega arith))
+      (ascii_cuts name w (key_ascii name (run_passes is_key_byte u))))
       (tilde_spelled name (filled name is, run_passes is_key_byte u)) log
       (tilde_atom log name w) (tilded_fate P name log w (strip (codes "~") (skipped w)) refl)
 

@@ -1,28 +1,23 @@
 -- How a key and its value that go wrong at some byte can go on.
-use Rattle.std.proofs.Common.{◌≡◌, ℕ, Bool, true, false, cond, eqb}
-use Rattle.std.proofs.Common.{List, [], ◌∷◌, ◌++◌, length, Option, Some, None}
-use Rattle.std.proofs.Common.{Err, refl, sym, ap, subst, ◌∙◌}
+use Rattle.std.proofs.Common.{◌≡◌, ℕ, Bool, true, false, cond, eqb, List, [], ◌∷◌, ◌++◌, length}
+use Rattle.std.proofs.Common.{Option, Some, None, Err, refl, sym, ap, subst, ◌∙◌}
 use Rattle.std.specs.Prelude.{codes}
 use Rattle.td_text.specs.Cut.{strip}
 use Rattle.td_text.specs.Lines.{on_ok}
-use Rattle.td_text.specs.Runs.{run, behind}
+use Rattle.td_text.specs.Runs.{behind, run}
 use Rattle.td_text.proofs.Prefix.{strip_found}
 use Rattle.td_text.proofs.RunTexts.{run_joined, run_passes}
 use Rattle.td_query.specs.QuerySpelling.{EndsWord, IsKey, Stands}
 use Rattle.td_query.specs.Tokens.{is_key_byte, skipped}
-use Rattle.td_query.specs.TrackerGrammar.{Said, ended, ended_by}
-use Rattle.td_query.specs.TrackerGrammar.{entry_at, equalled}
-use Rattle.td_query.specs.TrackerGrammar.{value_at}
-use Rattle.td_query.specs.TrackerSpelling.{IsOtherKey, SpellsEntry, SpellsValue}
-use Rattle.td_query.specs.TrackerSpelling.{other_text}
-use Rattle.td_query.proofs.Continued.{Stopped, chain_fate}
-use Rattle.td_query.proofs.Continued.{prefixed}
+use Rattle.td_query.specs.TrackerGrammar.{Said, ended, ended_by, entry_at, equalled, value_at}
+use Rattle.td_query.specs.TrackerSpelling.{IsOtherKey, SpellsEntry, SpellsValue, other_text}
+use Rattle.td_query.proofs.Continued.{Stopped, chain_fate, prefixed}
+use Rattle.td_query.proofs.ContinuedCuts.{key_ascii, utf8_after}
 use Rattle.td_query.proofs.ContinuedMarks.{Marked, here_stands, is_filled, led, led_stands}
 use Rattle.td_query.proofs.ContinuedMarks.{line_gap, mark_missing, mark_moved, stands_again}
-use Rattle.td_query.proofs.ContinuedMarks.{stands_ends, stands_front}
+use Rattle.td_query.proofs.ContinuedMarks.{stands_cut, stands_ends, stands_front}
 use Rattle.td_query.proofs.ContinuedValues.{Kept, SaidFate, SpellsOf, has_value, told_rest}
-use Rattle.td_query.proofs.ContinuedValues.{told_said}
-use Rattle.td_query.proofs.ContinuedValues.{value_fate}
+use Rattle.td_query.proofs.ContinuedValues.{told_said, value_fate}
 use Rattle.td_query.proofs.ContinuedWords.{Fine}
 use Rattle.td_query.proofs.Gaps.{comes_stands}
 use Rattle.td_query.proofs.SpelledAtoms.{filled}
@@ -68,9 +63,9 @@ module _ (P : List ℕ → Type 0) where
   ended_by_fate : (s : Said) (t : List ℕ) (o : Option (List ℕ)) → strip (codes ";") (skipped t) ≡ o
       → SaidFate P Anything (Marked Said (codes ";")) s t (ended_by s (length (skipped t)) o)
   ended_by_fate s t None is =
-      mark_missing Said (Kept P) (codes ";") (Fine P) P s t s.log (λ good. good)
+      mark_missing Said (Kept P) (codes ";") refl (Fine P) P s t s.log (λ good. good)
   ended_by_fate s t (Some u) is =
-      mark_moved Said (Kept P) (codes ";") Anything s t u
+      mark_moved Said (Kept P) (codes ";") refl Anything s t u
       (comes_stands 59 [] t u (strip_found (codes ";") (skipped t) u is))
 
   ended_fate : (y : Told) → SaidFate P Anything (Marked Said (codes ";")) y.0 y.1 (ended y)
@@ -91,7 +86,7 @@ module _ (P : List ℕ → Type 0) where
         ),
       ))
       (λ s after t rest n q free. stands_ends 59 [] t rest refl q.0) (λ u. tt)
-      (λ u. 59 ∷ 10 ∷ u)
+      (λ u. 59 ∷ 10 ∷ u) (λ u h. utf8_after (59 ∷ 10 ∷ []) u refl h)
       (λ s u ok. record {
         meaning = tt;
         after = s;
@@ -110,11 +105,15 @@ module _ (P : List ℕ → Type 0) where
         front = (led t).front;
         back = skipped t;
         is = (led t).is;
+        cut = (led t).cut;
         there = refl;
         inside = None;
         opened = tt;
         more = λ bytes u. 10 ∷ 61 ∷ (some.value ++ 10 ∷ 59 ∷ 10 ∷ u);
-        closed = λ bytes u. tt;
+        closed = λ bytes u h.
+            utf8_after (10 ∷ 61 ∷ []) (some.value ++ 10 ∷ 59 ∷ 10 ∷ u) refl
+            (utf8_after some.value (10 ∷ 59 ∷ 10 ∷ u) some.small
+            (utf8_after (10 ∷ 59 ∷ 10 ∷ []) u refl h));
         before = λ good. good;
         goes = λ legal bytes asked r u ok.
             (let says = some.says r (59 ∷ 10 ∷ u) ok in
@@ -135,7 +134,7 @@ module _ (P : List ℕ → Type 0) where
       let h = comes_stands 61 [] t w (strip_found (codes "=") (skipped t) w is) in
       prefixed (Kept P) Anything (Fine P) P (SpellsEnded key)
       (SpellsEqualled key) told_said told_rest (h.gap ++ codes "=") t w
-      (stands_front (codes "=") t w h)
+      (stands_front (codes "=") t w h) (stands_cut (codes "=") t w h refl)
       (λ s after x end m k. (tt, (x, stands_again (codes "=") t w h x, k.0, k.1, k.2)))
       s (on_ok (value_at key s w) ended) (valued_fate key s w)
 
@@ -145,11 +144,12 @@ module _ (P : List ℕ → Type 0) where
     front = (led t).front;
     back = skipped t;
     is = (led t).is;
+    cut = (led t).cut;
     there = refl;
     inside = None;
     opened = tt;
     more = λ bytes u. 10 ∷ 120 ∷ 61 ∷ 34 ∷ 34 ∷ 59 ∷ 10 ∷ u;
-    closed = λ bytes u. tt;
+    closed = λ bytes u h. utf8_after (10 ∷ 120 ∷ 61 ∷ 34 ∷ 34 ∷ 59 ∷ 10 ∷ []) u refl h;
     before = λ good. good;
     goes = λ legal bytes asked r u ok. record {
       meaning = tt;
@@ -185,6 +185,7 @@ module _ (P : List ℕ → Type 0) where
       let h = stands_word key t w some (run_joined is_key_byte (skipped t)) in
       prefixed (Kept P) Anything (Fine P) P (SpellsEqualled key) SpellsOne
       told_said told_rest (h.gap ++ key) t w (stands_front key t w h)
+      (stands_cut key t w h (key_ascii key (run_passes is_key_byte (skipped t))))
       (λ s after x end m k. (
         tt,
         record {

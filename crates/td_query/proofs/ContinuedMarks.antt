@@ -1,6 +1,7 @@
 -- Where bytes stand in a text that goes on, with whitespace and comments between.
-use Rattle.std.proofs.Common.{◌≡◌, ◌≢◌, ℕ, true, false, List, [], ◌∷◌, ◌++◌, length, None}
-use Rattle.std.proofs.Common.{refl, sym, ap, subst, ◌∙◌, inl, inr, append_assoc, append-nil}
+use Rattle.std.proofs.Common.{◌≡◌, ◌≢◌, ℕ, true, false, List, [], ◌∷◌, ◌++◌, length, None, refl}
+use Rattle.std.proofs.Common.{sym, ap, subst, ◌∙◌, inl, inr, append_assoc, append-nil}
+use Rattle.std.specs.List.{list_all}
 use Rattle.std.proofs.lemmas.Bool.{cases_Bool}
 use Rattle.td_text.specs.Cut.{Without}
 use Rattle.td_text.specs.Runs.{is_space}
@@ -8,7 +9,8 @@ use Rattle.td_text.proofs.RunTexts.{not_space}
 use Rattle.td_query.specs.QueryGrammar.{Log}
 use Rattle.td_query.specs.QuerySpelling.{EndsWord, IsGap, Stands, comment_gap, no_gap, space_gap}
 use Rattle.td_query.specs.Tokens.{is_key_byte, skipped}
-use Rattle.td_query.proofs.Continued.{Moved, Stopped}
+use Rattle.td_query.proofs.Continued.{Cuts, Moved, Stopped, cuts_all, cuts_join}
+use Rattle.td_query.proofs.ContinuedCuts.{ascii_cuts, gap_cuts, is_small, utf8_after}
 use Rattle.td_query.proofs.Gaps.{IsOpen, front_of}
 
 -- ---- 1. between tokens
@@ -40,6 +42,7 @@ pub record Led (t : List ℕ) : Type 0 where
   pub front : List ℕ
   pub is : t ≡ front ++ skipped t
   pub gap : IsGap (front ++ 10 ∷ [])
+  pub cut : Cuts front (skipped t)
 
 pub led : (t : List ℕ) → Led t
 led t =
@@ -48,11 +51,13 @@ led t =
         front = h.gap;
         is = h.spelled;
         gap = gap_more (10 ∷ []) h.between line_gap;
+        cut = gap_cuts (skipped t) h.between;
       }
       | inr h ↦ record {
         front = t;
         is = sym (ap (λ (l : List ℕ). t ++ l) h.none ∙ append-nil t);
         gap = open_ended t h;
+        cut = subst (λ (l : List ℕ). Cuts t l) (sym h.none) (cuts_all t);
       }
     ]
 
@@ -85,6 +90,11 @@ stands_again bytes t v h u = record {
 
 pub stands_front : (bytes t v : List ℕ) (h : Stands bytes t v) → t ≡ (h.gap ++ bytes) ++ v
 stands_front bytes t v h = h.spelled ∙ sym (append_assoc h.gap bytes v)
+
+pub stands_cut : (bytes t v : List ℕ) (h : Stands bytes t v) → list_all is_small bytes ≡ true
+    → Cuts (h.gap ++ bytes) v
+stands_cut bytes t v h all =
+    cuts_join h.gap bytes v (gap_cuts (bytes ++ v) h.between) (ascii_cuts bytes v all)
 
 -- with more at the end
 pub stands_more : (bytes t v : List ℕ) → Stands bytes t v → (u : List ℕ)
@@ -129,12 +139,14 @@ stands_ends x word t rest out h =
 abbrev pub Marked : (S : Type 0) → List ℕ → S → List ℕ → Unit {0} → S → List ℕ → Type 0
 Marked S bytes s t one after rest = Stands bytes t rest × (after ≡ s)
 
-module _ (S : Type 0) (Good : S → Type 0) (bytes : List ℕ) where
+module _ (S : Type 0) (Good : S → Type 0) (bytes : List ℕ)
+    (all : list_all is_small bytes ≡ true) where
   pub mark_moved : (Free : List ℕ → Type 0) (s : S) (t v : List ℕ) → Stands bytes t v
       → Moved Good Free (Marked S bytes) s t s v
   mark_moved Free s t v h = record {
     front = h.gap ++ bytes;
     is = stands_front bytes t v h;
+    cut = stands_cut bytes t v h all;
     before = λ good. good;
     moves = λ good r u ok free. record {
       meaning = tt;
@@ -151,11 +163,14 @@ module _ (S : Type 0) (Good : S → Type 0) (bytes : List ℕ) where
     front = (led t).front;
     back = skipped t;
     is = (led t).is;
+    cut = (led t).cut;
     there = refl;
     inside = None;
     opened = tt;
     more = λ c u. 10 ∷ (bytes ++ 10 ∷ u);
-    closed = λ c u. tt;
+    closed = λ c u h.
+        utf8_after (10 ∷ []) (bytes ++ 10 ∷ u) refl
+        (utf8_after bytes (10 ∷ u) all (utf8_after (10 ∷ []) u refl h));
     before = good;
     goes = λ legal c asked r u ok. record {
       meaning = tt;

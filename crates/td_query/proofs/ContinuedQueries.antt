@@ -1,7 +1,6 @@
 -- How a query that goes wrong at some byte can go on.
 use Rattle.std.proofs.Common.{◌≡◌, ℕ, zero, suc, true, List, [], ◌∷◌, ◌++◌, length, Option, Some}
-use Rattle.std.proofs.Common.{None}
-use Rattle.std.proofs.Common.{Ok, Err, refl, sym, subst, inl, inr}
+use Rattle.std.proofs.Common.{None, Ok, Err, refl, sym, subst, inl, inr}
 use Rattle.std.specs.Prelude.{codes}
 use Rattle.td_text.specs.Cut.{strip}
 use Rattle.td_text.specs.Lines.{on_ok}
@@ -16,12 +15,12 @@ use Rattle.td_query.specs.QuerySpelling.{EndsWord, Rule, SpellsAll, SpellsAny, S
 use Rattle.td_query.specs.QuerySpelling.{SpellsJoined, SpellsMore, SpellsPart, SpellsQuery, Stands}
 use Rattle.td_query.specs.QuerySpelling.{constant}
 use Rattle.td_query.specs.Tokens.{skipped}
-use Rattle.td_query.proofs.Continued.{Moved, chain_fate, prefixed}
-use Rattle.td_query.proofs.ContinuedMarks.{Marked, here_stands, line_gap, mark_missing, mark_moved}
-use Rattle.td_query.proofs.ContinuedMarks.{stands_again, stands_ends, stands_front}
+use Rattle.td_query.proofs.Continued.{Cuts, Moved, chain_fate, cuts_none, prefixed}
 use Rattle.td_query.proofs.ContinuedAtoms.{atom_fate}
-use Rattle.td_query.proofs.ContinuedWords.{Fine, ReadFate, left_over, logged}
-use Rattle.td_query.proofs.ContinuedWords.{true_missing}
+use Rattle.td_query.proofs.ContinuedCuts.{utf8_after}
+use Rattle.td_query.proofs.ContinuedMarks.{Marked, here_stands, line_gap, mark_missing, mark_moved}
+use Rattle.td_query.proofs.ContinuedMarks.{stands_again, stands_cut, stands_ends, stands_front}
+use Rattle.td_query.proofs.ContinuedWords.{Fine, ReadFate, left_over, logged, true_missing}
 use Rattle.td_query.proofs.Gaps.{comes_stands}
 use Rattle.td_query.proofs.SpelledAtoms.{Given}
 use Rattle.td_query.proofs.SpelledQueries.{mark_stands}
@@ -42,6 +41,11 @@ mark_ends : (joint : Joint) (t u : List ℕ) → Stands (mark_of joint) t u → 
 mark_ends And t u h = stands_ends 38 [] t u refl h
 mark_ends Or t u h = stands_ends 124 [] t u refl h
 
+mark_cut : (joint : Joint) (t u : List ℕ) (h : Stands (mark_of joint) t u)
+    → Cuts (h.gap ++ mark_of joint) u
+mark_cut And t u h = stands_cut (codes "&") t u h refl
+mark_cut Or t u h = stands_cut (codes "|") t u h refl
+
 module _ (P : List ℕ → Type 0) (joint : Joint) (read : Log → List ℕ → Read) (Part : Rule)
     (fate : (log : Log) (t : List ℕ) → ReadFate P Part log t (read log t)) where
   tail_ends : (log after : Log) (t rest : List ℕ) (shapes : List Shape)
@@ -53,6 +57,7 @@ module _ (P : List ℕ → Type 0) (joint : Joint) (read : Log → List ℕ → 
   no_tail log t = record {
     front = [];
     is = refl;
+    cut = cuts_none t;
     before = λ good. good;
     moves = λ good r u ok ends. record {
       meaning = [];
@@ -72,7 +77,7 @@ module _ (P : List ℕ → Type 0) (joint : Joint) (read : Log → List ℕ → 
       chain_fate (Fine P) EndsWord EndsWord (Fine P) P Part
       (SpellsTail joint Part) (SpellsParts joint Part)
       (λ s one after t v rest m k p q. ((m, k), (one, v, p, q)))
-      tail_ends (λ u. refl) (λ u. u)
+      tail_ends (λ u. refl) (λ u. u) (λ u h. h)
       (λ s u ok. record { meaning = []; after = s; spelled = (refl, refl); good = ok })
       logged left_over logged left_over log t (read log t) (fate log t)
       (λ x. more joint read n (f x) x.1 x.2) (λ y. later (f y) y.1 y.2)
@@ -88,7 +93,7 @@ module _ (P : List ℕ → Type 0) (joint : Joint) (read : Log → List ℕ → 
       let h = mark_stands joint t u is in
       prefixed (Fine P) EndsWord (Fine P) P (SpellsParts joint Part)
       (SpellsTail joint Part) logged left_over (h.gap ++ mark_of joint) t u
-      (stands_front (mark_of joint) t u h)
+      (stands_front (mark_of joint) t u h) (mark_cut joint t u h)
       (λ s after w end m k. (
         m.0 ∷ m.1,
         (w, k.1, k.0, stands_again (mark_of joint) t u h w, k.2, k.3),
@@ -112,7 +117,7 @@ module _ (P : List ℕ → Type 0) (joint : Joint) (read : Log → List ℕ → 
       chain_fate (Fine P) EndsWord EndsWord (Fine P) P Part
       (SpellsTail joint Part) (SpellsParts joint Part)
       (λ s one after t v rest m k p q. ((m, k), (one, v, p, q)))
-      (tail_ends P joint read Part fate) (λ u. refl) (λ u. u)
+      (tail_ends P joint read Part fate) (λ u. refl) (λ u. u) (λ u h. h)
       (λ s u ok. record { meaning = []; after = s; spelled = (refl, refl); good = ok })
       logged left_over logged left_over log t (read log t) (fate log t)
       (λ x. more joint read (length x.2) (x.0 ∷ []) x.1 x.2)
@@ -122,7 +127,7 @@ module _ (P : List ℕ → Type 0) (joint : Joint) (read : Log → List ℕ → 
       → ReadFate P (SpellsJoined joint Part) log t (parts_with joint read log t)
   joined_fate log t =
       prefixed (Fine P) EndsWord (Fine P) P (SpellsParts joint Part)
-      (SpellsJoined joint Part) logged left_over [] t t refl
+      (SpellsJoined joint Part) logged left_over [] t t refl (cuts_none t)
       (λ s after w end m k. (
         joined joint (m.0 ∷ m.1),
         record {
@@ -187,16 +192,16 @@ module _ (P : List ℕ → Type 0) where
       → ReadFate P (SpellsPart depth) log t r
   as_part depth log t r a =
       prefixed (Fine P) EndsWord (Fine P) P SpellsAtom (SpellsPart depth)
-      logged left_over [] t t refl
+      logged left_over [] t t refl (cuts_none t)
       (λ s after w end m k. (m, atom_part depth s after w end m k)) log r a
 
   closed_by_fate : (s : Shape) (log : Log) (t : List ℕ) (o : Option (List ℕ))
       → strip (codes ")") (skipped t) ≡ o
       → ReadFate P (Marked Log (codes ")")) log t (closed_by s log (length (skipped t)) o)
   closed_by_fate s log t None is =
-      mark_missing Log (Fine P) (codes ")") (Fine P) P log t log (λ good. good)
+      mark_missing Log (Fine P) (codes ")") refl (Fine P) P log t log (λ good. good)
   closed_by_fate s log t (Some u) is =
-      mark_moved Log (Fine P) (codes ")") EndsWord log t u
+      mark_moved Log (Fine P) (codes ")") refl EndsWord log t u
       (comes_stands 41 [] t u (strip_found (codes ")") (skipped t) u is))
 
   closed_fate : (y : Given) → ReadFate P (Marked Log (codes ")")) y.1 y.2 (closed y)
@@ -226,7 +231,7 @@ module _ (P : List ℕ → Type 0) where
             ),
           ))
           (λ s after t rest k q ends. stands_ends 41 [] t rest refl q.0) (λ u. refl)
-          (λ u. 41 ∷ 10 ∷ u)
+          (λ u. 41 ∷ 10 ∷ u) (λ u h. utf8_after (41 ∷ 10 ∷ []) u refl h)
           (λ s u ok. record {
             meaning = tt;
             after = s;
@@ -245,7 +250,7 @@ module _ (P : List ℕ → Type 0) where
           let h = comes_stands 33 [] t u (strip_found (codes "!") (skipped t) u bang) in
           prefixed (Fine P) EndsWord (Fine P) P (SpellsPart depth)
           (SpellsPart (suc depth)) logged left_over (h.gap ++ codes "!") t u
-          (stands_front (codes "!") t u h)
+          (stands_front (codes "!") t u h) (stands_cut (codes "!") t u h refl)
           (λ s after w end m k. (
             negated m,
             not_part depth s after ((h.gap ++ codes "!") ++ w) w end m
@@ -257,7 +262,7 @@ module _ (P : List ℕ → Type 0) where
           let h = comes_stands 40 [] t u (strip_found (codes "(") (skipped t) u opens) in
           prefixed (Fine P) EndsWord (Fine P) P (SpellsClosed depth)
           (SpellsPart (suc depth)) logged left_over (h.gap ++ codes "(") t u
-          (stands_front (codes "(") t u h)
+          (stands_front (codes "(") t u h) (stands_cut (codes "(") t u h refl)
           (λ s after w end m k. (
             m,
             brackets_part depth s after ((h.gap ++ codes "(") ++ w) w end m

@@ -1,37 +1,38 @@
 -- How a tracker that goes wrong at some byte can go on: what stands before the byte begins another.
-use Rattle.std.proofs.Common.{◌≡◌, ◌⊎◌, ℕ, zero, suc, true}
-use Rattle.std.proofs.Common.{List, [], ◌∷◌, ◌++◌, length, length-append, Option, Some, None}
-use Rattle.std.proofs.Common.{Result}
-use Rattle.std.proofs.Common.{Ok, Err, refl, sym, ap, subst, ◌∙◌, inl, inr, append_assoc}
-use Rattle.std.proofs.Common.{append-nil, arith}
+use Rattle.std.proofs.Common.{◌≡◌, ◌⊎◌, ℕ, zero, suc, true, List, [], ◌∷◌, ◌++◌, length}
+use Rattle.std.proofs.Common.{length-append, Option, Some, None, Result, Ok, Err, refl, sym, ap}
+use Rattle.std.proofs.Common.{subst, ◌∙◌, inl, inr, append_assoc, append-nil, arith}
 use Rattle.std.specs.Prelude.{IsSome, codes}
+use Rattle.std.specs.List.{list_all}
+use Rattle.std.specs.Str.{IsUtf8}
 use Rattle.std.proofs.lemmas.Bool.{false≢true}
+use Rattle.std.proofs.lemmas.Str.{IsUtf8-nil}
 use Rattle.regex.specs.Failures.{IsPattern}
 use Rattle.regex.specs.Patterns.{default_config}
 use Rattle.td_text.specs.Lines.{on_ok}
-use Rattle.td_query.specs.FaultPlaces.{IsInPattern, RightBytesAreOfTrackers, RightBytesGoOn}
-use Rattle.td_query.specs.FaultPlaces.{SaysAll}
+use Rattle.td_query.specs.FaultPlaces.{IsInPattern, RightBytesAreOfTrackers, RightBytesAreText}
+use Rattle.td_query.specs.FaultPlaces.{RightBytesGoOn, SaysAll}
 use Rattle.td_query.specs.Query.{Shape, always}
 use Rattle.td_query.specs.QueryGrammar.{Log}
 use Rattle.td_query.specs.QuerySpelling.{IsKey, Stands, closed_gap, no_gap}
 use Rattle.td_query.specs.Sources.{unescaped}
 use Rattle.td_query.specs.TokenRules.{IsBetweenSlashes}
 use Rattle.td_query.specs.Tokens.{skipped}
-use Rattle.td_query.specs.TrackerGrammar.{Said, SaidRead, entries, entries_next}
-use Rattle.td_query.specs.TrackerGrammar.{entry_at, front, nothing_said, said_in}
-use Rattle.td_query.specs.TrackerSpelling.{SpellsEntry, SpellsKeys, SpellsValue}
-use Rattle.td_query.specs.TrackerSpelling.{affected_query, bad_query, good_query, no_key, one_key}
+use Rattle.td_query.specs.TrackerGrammar.{Said, SaidRead, entries, entries_next, entry_at, front}
+use Rattle.td_query.specs.TrackerGrammar.{nothing_said, said_in}
+use Rattle.td_query.specs.TrackerSpelling.{SpellsEntry, SpellsKeys, SpellsValue, affected_query}
+use Rattle.td_query.specs.TrackerSpelling.{bad_query, good_query, no_key, one_key}
 use Rattle.td_query.specs.Tracking.{IsTracker, Tracking}
-use Rattle.td_query.proofs.Continued.{Asked, Closed, Moved, Opened, opened_in}
+use Rattle.td_query.proofs.Continued.{Asked, Closed, Cuts, Moved, Opened, cuts_behind, opened_in}
+use Rattle.td_query.proofs.ContinuedCuts.{is_small, utf8_after}
+use Rattle.td_query.proofs.ContinuedEntries.{Anything, SpellsOne, entry_fate, line_stands}
 use Rattle.td_query.proofs.ContinuedMarks.{here_stands, is_filled}
 use Rattle.td_query.proofs.ContinuedQueries.{true_query}
-use Rattle.td_query.proofs.ContinuedValues.{Any, any_asked, any_fine}
-use Rattle.td_query.proofs.ContinuedValues.{Kept, SaidFate}
+use Rattle.td_query.proofs.ContinuedValues.{Any, Kept, SaidFate, any_asked, any_fine, closed_utf8}
 use Rattle.td_query.proofs.ContinuedWords.{Fine}
 use Rattle.td_query.proofs.FrontTrackers.{wrong_bytes_are_there}
 use Rattle.td_query.proofs.SameTrackers.{trackers_are_there}
 use Rattle.td_query.proofs.SpelledTrackers.{Told, front_is, trackers_are_exact}
-use Rattle.td_query.proofs.ContinuedEntries.{Anything, SpellsOne, entry_fate, line_stands}
 
 -- ---- 1. the keys that a tracker needs
 
@@ -74,6 +75,15 @@ last_good = codes "is_good" ++ true_behind last_bad
 last_keys : List ℕ
 last_keys = codes "is_affected" ++ true_behind last_good
 
+last_small : list_all is_small last_keys ≡ true
+unfolding last_keys last_good last_bad true_behind
+last_small = refl
+
+last_utf8 : IsUtf8 last_keys
+last_utf8 =
+    subst (λ (l : List ℕ). IsUtf8 l) (append-nil last_keys)
+    (utf8_after last_keys [] last_small IsUtf8-nil)
+
 keys_last : (P : List ℕ → Type 0) (s : Said) → Kept P s → AllSaid P s (10 ∷ last_keys)
 unfolding last_keys last_good last_bad
 keys_last P s ok =
@@ -114,6 +124,7 @@ record Finished (P : List ℕ → Type 0) (s : Said) (t : List ℕ) (e : ℕ × 
   begin : List ℕ
   back : List ℕ
   is : t ≡ begin ++ back
+  cut : Cuts begin back
   there : length back ≡ e.0
   inside : Option (List ℕ)
   opened : Opened inside t e.0
@@ -136,6 +147,7 @@ module _ (P : List ℕ → Type 0) where
     begin = a.front ++ b.begin;
     back = b.back;
     is = a.is ∙ ap (λ (l : List ℕ). a.front ++ l) b.is ∙ sym (append_assoc a.front b.begin b.back);
+    cut = cuts_behind a.front b.begin b.back v b.is a.cut b.cut;
     there = b.there;
     inside = b.inside;
     opened = opened_in b.inside a.front t v e.0 a.is b.opened;
@@ -163,11 +175,12 @@ module _ (P : List ℕ → Type 0) where
     begin = a.front;
     back = a.back;
     is = a.is;
+    cut = a.cut;
     there = a.there;
     inside = a.inside;
     opened = a.opened;
     other = λ bytes. a.more bytes last_keys;
-    closed = λ bytes. a.closed bytes last_keys;
+    closed = λ bytes. a.closed bytes last_keys last_utf8;
     before = a.before;
     goes = λ legal bytes asked r ok.
         (let first = a.goes legal bytes asked r last_keys ok in
@@ -239,10 +252,18 @@ right_bytes_go_on first rest log e =
     let all = goes_on Any first rest (length rest, log) refl h (any_fine log) (120 ∷ [])
     (any_asked h.inside (first ++ rest) (length rest) h.opened) in (
       h.other (120 ∷ []),
+      closed_utf8 h.inside (h.other (120 ∷ [])) (h.closed (120 ∷ [])),
       all.after,
       said_read Any (first ++ h.other (120 ∷ [])) all,
       all.all,
     )
+
+pub right_bytes_are_text : RightBytesAreText
+right_bytes_are_text first rest log e text =
+    let h = finished Any (first ++ rest) (length rest, log) e in
+    let parts = h.cut (subst (λ (l : List ℕ). IsUtf8 l) h.is text) in
+    subst (λ (l : List ℕ). IsUtf8 l)
+    (same_front h.begin h.back first rest (sym h.is) h.there) parts.0
 
 -- `regex` reads a pattern
 abbrev IsLegal : List ℕ → Type 0
@@ -272,23 +293,24 @@ module _ (first rest : List ℕ) (left : ℕ) (there : length rest ≡ left)
       → ((bytes : List ℕ) → Closed o bytes (other bytes))
       → ((bytes : List ℕ) → Asked IsLegal o bytes
       → AllSaid IsLegal nothing_said (first ++ other bytes))
-      → ((more : List ℕ) × (t : Tracking) × IsTracker (first ++ more) t)
+      → ((more : List ℕ) × (t : Tracking) × IsUtf8 more × IsTracker (first ++ more) t)
       ⊎ ((rest ≡ []) × IsInPattern first)
   by_pattern None opened closed goes =
       let t = tracker_there (first ++ other []) (goes [] tt) in
-      inl (other [], t.0, t.1)
+      inl (other [], t.0, closed [], t.1)
   by_pattern (Some raw) opened closed goes =
       let none : rest ≡ [] = no_rest rest (there ∙ opened.0) in
       let whole : first ≡ opened.1 ++ (codes "/" ++ raw) =
       sym (ap (λ (l : List ℕ). first ++ l) none ∙ append-nil first) ∙ opened.2 in
       let goes_on : (bytes : List ℕ) → IsBetweenSlashes (raw ++ bytes) → IsLegal (raw ++ bytes)
-      → (more : List ℕ) × (t : Tracking)
+      → (more : List ℕ) × (t : Tracking) × IsUtf8 more
       × IsTracker (first ++ (bytes ++ (codes "/" ++ more))) t =
       λ bytes between legal.
       (let t = tracker_there (first ++ other bytes) (goes bytes (between, legal)) in
       let shut = closed bytes in (
         shut.0,
         t.0,
+        shut.2,
         subst (λ (l : List ℕ). IsTracker (first ++ l) t.0) shut.1 t.1,
       )) in
       inr (

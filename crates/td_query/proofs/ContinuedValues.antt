@@ -1,9 +1,9 @@
 -- How the value of a key that goes wrong at some byte can go on.
-use Rattle.std.proofs.Common.{◌≡◌, ℕ, Bool, true, false, cond, List, [], ◌∷◌, ◌++◌, length}
-use Rattle.std.proofs.Common.{Option, Some, None, Ok, Err, refl, sym, inl, inr}
-use Rattle.std.proofs.Common.{append-nil}
+use Rattle.std.proofs.Common.{◌≡◌, ℕ, Bool, true, false, cond, List, [], ◌∷◌, ◌++◌, length, Option}
+use Rattle.std.proofs.Common.{Some, None, Ok, Err, refl, sym, subst, inl, inr, append-nil, arith}
 use Rattle.std.specs.Prelude.{codes}
-use Rattle.std.specs.Str.{bytes_eq}
+use Rattle.std.specs.List.{list_all}
+use Rattle.std.specs.Str.{IsUtf8, bytes_eq}
 use Rattle.std.proofs.lemmas.Bool.{cases_Bool}
 use Rattle.td_text.specs.Cut.{cut, strip}
 use Rattle.td_text.specs.Lines.{on_ok}
@@ -19,9 +19,12 @@ use Rattle.td_query.specs.TrackerGrammar.{with_good}
 use Rattle.td_query.specs.TrackerSpelling.{IsOtherKey, SpellsText, SpellsValue, affected_query}
 use Rattle.td_query.specs.TrackerSpelling.{bad_query, good_query, other_query, other_text}
 use Rattle.td_query.specs.TrackerSpelling.{title_text}
-use Rattle.td_query.proofs.Continued.{Asked, Fate, Moved, Opened, Spelled, Stopped}
+use Rattle.td_query.proofs.Continued.{Asked, Closed, Fate, Moved, Opened, Spelled, Stopped}
+use Rattle.td_query.proofs.Continued.{cuts_all}
+use Rattle.td_query.proofs.ContinuedAtoms.{between_closed, enclosed_again, enclosed_cut}
+use Rattle.td_query.proofs.ContinuedAtoms.{enclosed_front}
+use Rattle.td_query.proofs.ContinuedCuts.{is_small, utf8_after}
 use Rattle.td_query.proofs.ContinuedMarks.{here_stands, led, led_stands, stands_more}
-use Rattle.td_query.proofs.ContinuedAtoms.{between_closed, enclosed_again, enclosed_front}
 use Rattle.td_query.proofs.ContinuedQueries.{query_fate, true_query}
 use Rattle.td_query.proofs.ContinuedWords.{Fine, ReadFate}
 use Rattle.td_query.proofs.Gaps.{comes_stands, cut_lacks}
@@ -63,11 +66,12 @@ module _ (P : List ℕ → Type 0) (key : List ℕ) (put : Said → List ℕ →
     front = (led t).front;
     back = skipped t;
     is = (led t).is;
+    cut = (led t).cut;
     there = refl;
     inside = None;
     opened = tt;
     more = λ bytes u. 10 ∷ 34 ∷ 34 ∷ 10 ∷ u;
-    closed = λ bytes u. tt;
+    closed = λ bytes u h. utf8_after (10 ∷ 34 ∷ 34 ∷ 10 ∷ []) u refl h;
     before = λ good. good;
     goes = λ legal bytes asked r u ok. record {
       meaning = tt;
@@ -84,11 +88,12 @@ module _ (P : List ℕ → Type 0) (key : List ℕ) (put : Said → List ℕ →
     front = t;
     back = [];
     is = sym (append-nil t);
+    cut = cuts_all t;
     there = refl;
     inside = None;
     opened = tt;
     more = λ bytes u. 34 ∷ 10 ∷ u;
-    closed = λ bytes u. tt;
+    closed = λ bytes u h. utf8_after (34 ∷ 10 ∷ []) u refl h;
     before = λ good. good;
     goes = λ legal bytes asked r u ok. record {
       meaning = tt;
@@ -107,6 +112,7 @@ module _ (P : List ℕ → Type 0) (key : List ℕ) (put : Said → List ℕ →
       record {
         front = (h.gap ++ codes "\"") ++ (p.0 ++ 34 ∷ []);
         is = enclosed_front 34 t q h p.0 34 p.1 found.0;
+        cut = enclosed_cut h.gap 34 p.0 34 p.1 (omega arith);
         before = λ good. kept s p.0 good;
         moves = λ good r u ok ends. record {
           meaning = tt;
@@ -130,6 +136,7 @@ module _ (P : List ℕ → Type 0) (key : List ℕ) (put : Said → Given → Sa
   query_moved s t y a = record {
     front = a.front;
     is = a.is;
+    cut = a.cut;
     before = λ good. a.before (kept s y good);
     moves = λ good r u ok ends.
         (let first = a.moves (kept s y good) r.log u ok ends in
@@ -148,6 +155,7 @@ module _ (P : List ℕ → Type 0) (key : List ℕ) (put : Said → Given → Sa
     front = a.front;
     back = a.back;
     is = a.is;
+    cut = a.cut;
     there = a.there;
     inside = a.inside;
     opened = a.opened;
@@ -210,6 +218,11 @@ pub any_asked : (o : Option (List ℕ)) (t : List ℕ) (left : ℕ) → Opened o
 any_asked None t left h = tt
 any_asked (Some raw) t left h = (between_closed raw h.3, tt)
 
+pub closed_utf8 : (o : Option (List ℕ)) (t : List ℕ) → Closed o (120 ∷ []) t → IsUtf8 t
+closed_utf8 None t h = h
+closed_utf8 (Some raw) t h =
+    subst (λ (l : List ℕ). IsUtf8 l) (sym h.1) (utf8_after (120 ∷ 47 ∷ []) h.0 refl h.2)
+
 module _ (P : List ℕ → Type 0) (key : List ℕ) (s : Said) (t : List ℕ) where
   titled_fate : key ≡ codes "title" → (q : List ℕ) → Stands (codes "\"") t q
       → (o : Option (List ℕ × List ℕ)) → cut 34 q ≡ o
@@ -247,6 +260,7 @@ module _ (P : List ℕ → Type 0) (key : List ℕ) (s : Said) (t : List ℕ) wh
   ignored_fate other (Ok y) a = record {
     front = a.front;
     is = a.is;
+    cut = a.cut;
     before = λ good. good;
     moves = λ good r u ok ends.
         (let first = a.moves (any_fine y.1) [] u tt ends in
@@ -261,11 +275,12 @@ module _ (P : List ℕ → Type 0) (key : List ℕ) (s : Said) (t : List ℕ) wh
     front = a.front;
     back = a.back;
     is = a.is;
+    cut = a.cut;
     there = a.there;
     inside = None;
     opened = tt;
     more = λ bytes u. a.more (120 ∷ []) u;
-    closed = λ bytes u. tt;
+    closed = λ bytes u h. closed_utf8 a.inside (a.more (120 ∷ []) u) (a.closed (120 ∷ []) u h);
     before = λ good. good;
     goes = λ legal bytes asked r u ok.
         (let first = a.goes (any_fine e.1) (120 ∷ []) (any_asked a.inside t e.0 a.opened) [] u
@@ -327,6 +342,7 @@ module _ (P : List ℕ → Type 0) (key : List ℕ) (s : Said) (t : List ℕ) wh
 -- each key has a value that may stand behind its `=`
 pub record HasValue (P : List ℕ → Type 0) (key : List ℕ) : Type 0 where
   pub value : List ℕ
+  pub small : list_all is_small value ≡ true
   pub says : (s : Said) (u : List ℕ) → Kept P s
       → Spelled (Kept P) (SpellsOf key) s (value ++ 10 ∷ u) (10 ∷ u)
 
@@ -336,6 +352,7 @@ module _ (P : List ℕ → Type 0) (key : List ℕ) where
       → bytes_eq key (codes "title") ≡ false → HasValue P key
   true_value true b c p q r o = record {
     value = codes "true";
+    small = refl;
     says = λ s u ok. record {
       meaning = tt;
       after = record s { affected = Some (always true) };
@@ -346,6 +363,7 @@ module _ (P : List ℕ → Type 0) (key : List ℕ) where
   }
   true_value false true c p q r o = record {
     value = codes "true";
+    small = refl;
     says = λ s u ok. record {
       meaning = tt;
       after = record s { good = Some (always true) };
@@ -356,6 +374,7 @@ module _ (P : List ℕ → Type 0) (key : List ℕ) where
   }
   true_value false false true p q r o = record {
     value = codes "true";
+    small = refl;
     says = λ s u ok. record {
       meaning = tt;
       after = record s { bad = Some (always true) };
@@ -366,6 +385,7 @@ module _ (P : List ℕ → Type 0) (key : List ℕ) where
   }
   true_value false false false p q r o = record {
     value = codes "true";
+    small = refl;
     says = λ s u ok. record {
       meaning = tt;
       after = s;
@@ -384,6 +404,7 @@ module _ (P : List ℕ → Type 0) (key : List ℕ) where
       elim (cases_Bool (bytes_eq key (codes "title"))) [
         | inl is ↦ record {
           value = 34 ∷ 34 ∷ [];
+          small = refl;
           says = λ s u ok. record {
             meaning = tt;
             after = record s { title = [] };

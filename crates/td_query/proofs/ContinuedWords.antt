@@ -1,25 +1,26 @@
 -- How a word that goes wrong at some byte can go on, and what is known of each reading of a query.
-use Rattle.std.proofs.Common.{◌≡◌, ℕ, ◌-◌, Bool, true, false, cond, leb, leb-true, leb-false}
-use Rattle.std.proofs.Common.{List, [], ◌∷◌, ◌++◌, length, take, drop}
-use Rattle.std.proofs.Common.{length-append, length-drop, take-append-drop, None}
-use Rattle.std.proofs.Common.{Ok, Err, refl, sym, ap, subst, ◌∙◌, inl, inr, one-add}
-use Rattle.std.proofs.Common.{append_assoc, append-nil, arith}
+use Rattle.std.proofs.Common.{◌≡◌, ℕ, ◌-◌, Bool, true, false, cond, leb, leb-true, leb-false, List}
+use Rattle.std.proofs.Common.{[], ◌∷◌, ◌++◌, length, take, drop, length-append, length-drop}
+use Rattle.std.proofs.Common.{take-append-drop, None, Ok, Err, refl, sym, ap, subst, ◌∙◌, inl, inr}
+use Rattle.std.proofs.Common.{one-add, append_assoc, append-nil, arith}
 use Rattle.std.specs.Prelude.{codes}
-use Rattle.std.specs.List.{AllByRecursion}
+use Rattle.std.specs.List.{AllByRecursion, list_all}
 use Rattle.std.specs.Str.{bytes_eq}
 use Rattle.std.proofs.lemmas.Bool.{cases_Bool}
 use Rattle.std.proofs.lemmas.Bool.Decides.{eqb_tells}
 use Rattle.std.proofs.lemmas.Slice.Eq.{bytes_eq-Decides}
-use Rattle.td_text.specs.Runs.{run, behind}
+use Rattle.td_text.specs.Runs.{behind, run}
 use Rattle.td_text.proofs.RunTexts.{run_joined}
 use Rattle.td_query.specs.Query.{always}
 use Rattle.td_query.specs.QueryGrammar.{Log, Raw, Read, begun, word_atom}
 use Rattle.td_query.specs.QuerySpelling.{EndsWord, IsGap, SpellsAtom, Stands, constant}
 use Rattle.td_query.specs.QuerySpelling.{constant_text}
 use Rattle.td_query.specs.Tokens.{common_len, is_key_byte, skipped}
-use Rattle.td_query.proofs.Continued.{Fate, Moved, Stopped}
+use Rattle.td_query.proofs.Continued.{Fate, Moved, Stopped, cuts_all, cuts_join}
+use Rattle.td_query.proofs.ContinuedCuts.{ascii_back, ascii_cuts, ascii_front, gap_cuts, is_small}
+use Rattle.td_query.proofs.ContinuedCuts.{utf8_after}
 use Rattle.td_query.proofs.ContinuedMarks.{gap_stands, led, led_stands, open_ended, stands_again}
-use Rattle.td_query.proofs.ContinuedMarks.{stands_front}
+use Rattle.td_query.proofs.ContinuedMarks.{stands_cut, stands_front}
 use Rattle.td_query.proofs.FrontWords.{begun_less}
 use Rattle.td_query.proofs.Gaps.{comes_stands, front_of}
 use Rattle.td_query.proofs.SpelledAtoms.{Given}
@@ -98,12 +99,17 @@ begun_word word =
           })
     ]
 
+constant_ascii : (answer : Bool) → list_all is_small (constant_text answer) ≡ true
+constant_ascii true = refl
+constant_ascii false = refl
+
 module _ (P : List ℕ → Type 0) (log : Log) (t : List ℕ) where
   constant_moved : (answer : Bool) (v : List ℕ) → Stands (constant_text answer) t v
       → Moved (Fine P) EndsWord SpellsAtom log t log v
   constant_moved answer v h = record {
     front = h.gap ++ constant_text answer;
     is = stands_front (constant_text answer) t v h;
+    cut = stands_cut (constant_text answer) t v h (constant_ascii answer);
     before = λ good. good;
     moves = λ good r u ok ends. record {
       meaning = always answer;
@@ -119,11 +125,12 @@ module _ (P : List ℕ → Type 0) (log : Log) (t : List ℕ) where
     front = (led t).front;
     back = skipped t;
     is = (led t).is;
+    cut = (led t).cut;
     there = refl;
     inside = None;
     opened = tt;
     more = λ bytes u. 10 ∷ (codes "true" ++ 10 ∷ u);
-    closed = λ bytes u. tt;
+    closed = λ bytes u h. utf8_after (10 ∷ (codes "true" ++ 10 ∷ [])) u refl h;
     before = λ good. good;
     goes = λ legal bytes asked r u ok. record {
       meaning = always true;
@@ -142,6 +149,14 @@ module _ (P : List ℕ → Type 0) (log : Log) (t : List ℕ) where
               (let n : ℕ = begun word in
               let less = begun_less word in
               let begins = begun_word word in
+              let all : list_all is_small (take (begun word) word
+              ++ drop (begun word) (constant_text begins.answer)) ≡ true =
+              subst (λ (l : List ℕ). list_all is_small l ≡ true) (sym begins.is)
+              (constant_ascii begins.answer) in
+              let small = ascii_front (take (begun word) word)
+              (drop (begun word) (constant_text begins.answer)) all in
+              let rest_small = ascii_back (take (begun word) word)
+              (drop (begun word) (constant_text begins.answer)) all in
               let first = length-append (drop n word) v in
               let second = length-drop n word in
               let all : length (skipped t) ≡ length (word ++ v) =
@@ -157,11 +172,16 @@ module _ (P : List ℕ → Type 0) (log : Log) (t : List ℕ) where
                 is = h.spelled ∙ ap (λ (l : List ℕ). h.gap ++ l) whole
                     ∙ ap (λ (l : List ℕ). h.gap ++ (l ++ v)) (sym (take-append-drop n word))
                     ∙ split;
+                cut = cuts_join h.gap (take n word) (drop n word ++ v)
+                    (gap_cuts (take n word ++ (drop n word ++ v)) h.between)
+                    (ascii_cuts (take n word) (drop n word ++ v) small);
                 there = omega arith;
                 inside = None;
                 opened = tt;
                 more = λ bytes u. drop n (constant_text begins.answer) ++ 10 ∷ u;
-                closed = λ bytes u. tt;
+                closed = λ bytes u h.
+                    utf8_after (drop n (constant_text begins.answer)) (10 ∷ u) rest_small
+                    (utf8_after (10 ∷ []) u refl h);
                 before = λ good. good;
                 goes = λ legal bytes asked r u ok. record {
                   meaning = always begins.answer;
@@ -177,11 +197,12 @@ module _ (P : List ℕ → Type 0) (log : Log) (t : List ℕ) where
                 front = t;
                 back = [];
                 is = sym (append-nil t);
+                cut = cuts_all t;
                 there = omega arith;
                 inside = None;
                 opened = tt;
                 more = λ bytes u. 10 ∷ (codes "true" ++ 10 ∷ u);
-                closed = λ bytes u. tt;
+                closed = λ bytes u h. utf8_after (10 ∷ (codes "true" ++ 10 ∷ [])) u refl h;
                 before = λ good. good;
                 goes = λ legal bytes asked r u ok. record {
                   meaning = always true;

@@ -35,6 +35,7 @@ pub mod FrontAtoms
 pub mod FrontQueries
 pub mod FrontTrackers
 pub mod Continued
+pub mod ContinuedCuts
 pub mod ContinuedMarks
 pub mod ContinuedWords
 pub mod ContinuedAtoms

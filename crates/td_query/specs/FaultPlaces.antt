@@ -1,7 +1,7 @@
 -- What the place of a wrong byte says: that no text which begins so is read, and that what stands
 -- before it can go on. So it is the first byte that no continuation allows. This project's own.
-use Rattle.std.specs.Prelude.{◌≡◌, ◌⊎◌, ℕ, suc, ◌≤◌, IsSome, List, [], ◌∷◌, ◌++◌, None, Ok, Err}
-use Rattle.std.specs.Prelude.{codes, length}
+use Rattle.std.specs.Prelude.{◌≡◌, ◌⊎◌, ℕ, suc, ◌≤◌, IsSome, IsUtf8, List, [], ◌∷◌, ◌++◌, None, Ok}
+use Rattle.std.specs.Prelude.{Err, codes, length}
 use Rattle.regex.specs.Failures.{IsPattern}
 use Rattle.regex.specs.Patterns.{default_config}
 use Rattle.td_query.specs.declared.tracker_fault.TrackerFault.TheVariants.{Syntax}
@@ -32,12 +32,18 @@ WrongBytesAreFinal = (front rest other : List ℕ) (x : ℕ) (log : Log)
 abbrev pub SaysAll : Said → Type 0
 SaysAll s = IsSome s.affected × IsSome s.good × IsSome s.bad
 
+-- a wrong byte never stands inside a character: what stands before it is of characters, if the text
+-- is
+abbrev pub RightBytesAreText : Type 0
+RightBytesAreText = (front rest : List ℕ) (log : Log)
+    → said_in (front ++ rest) ≡ Err (length rest, log) → IsUtf8 (front ++ rest) → IsUtf8 front
+
 -- what stands before a wrong byte, or before the end of a text that ends too early, begins a text
--- that is read and says all three queries
+-- that is read and says all three queries; it goes on with characters
 abbrev pub RightBytesGoOn : Type 0
 RightBytesGoOn = (front rest : List ℕ) (log : Log)
     → said_in (front ++ rest) ≡ Err (length rest, log)
-    → (other : List ℕ) × (s : Said) × (said_in (front ++ other) ≡ Ok s) × SaysAll s
+    → (other : List ℕ) × IsUtf8 other × (s : Said) × (said_in (front ++ other) ≡ Ok s) × SaysAll s
 
 -- A text ends inside a pattern: behind the pattern's opening `/` stands this much of it, and no `/`
 -- that closes it. Whatever makes it a pattern that `regex` reads makes the text go on to a tracker
@@ -48,12 +54,12 @@ pub record IsInPattern (text : List ℕ) : Type 0 where
   pub stays : pattern_in raw ≡ None
   pub goes : (bytes : List ℕ) → IsBetweenSlashes (raw ++ bytes)
       → IsPattern default_config (unescaped (raw ++ bytes))
-      → (other : List ℕ) × (t : Tracking)
+      → (other : List ℕ) × (t : Tracking) × IsUtf8 other
       × IsTracker (text ++ (bytes ++ (codes "/" ++ other))) t
 
 -- what stands before a wrong byte begins a tracker. So does a text that ends too early, if it
 -- doesn't end inside a pattern; there it depends on the pattern
 abbrev pub RightBytesAreOfTrackers : Type 0
 RightBytesAreOfTrackers = (front rest : List ℕ) → FaultOf (front ++ rest) (Syntax (length front))
-    → ((other : List ℕ) × (t : Tracking) × IsTracker (front ++ other) t)
+    → ((other : List ℕ) × (t : Tracking) × IsUtf8 other × IsTracker (front ++ other) t)
     ⊎ ((rest ≡ []) × IsInPattern front)

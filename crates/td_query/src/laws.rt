@@ -1,6 +1,7 @@
 //! What queries and statuses mean, as laws over their definitions.
 ghost use Rattle.td_query.specs.AtomRules.{FalseIsRead, PatternsAreRead, TextsAreRead, TrueIsRead};
-ghost use Rattle.td_query.specs.FaultPlaces.{RightBytesAreOfTrackers, RightBytesGoOn};
+ghost use Rattle.td_query.specs.FaultPlaces.{RightBytesAreOfTrackers, RightBytesAreText};
+ghost use Rattle.td_query.specs.FaultPlaces.{RightBytesGoOn};
 ghost use Rattle.td_query.specs.FaultPlaces.{WrongBytesAreFinal, WrongBytesAreThere};
 ghost use Rattle.td_query.specs.KeyRules.{EntriesAreSaid, QueriesAreSaid, TitlesAreSaid};
 ghost use Rattle.td_query.specs.QueryLaws.{AbsentFieldsNeverMatch, ConjunctionsAreAnd};
@@ -120,6 +121,7 @@ pub fn wrong_bytes_are_final()
 /// What stands before a wrong byte can go on: it begins a text that is read and says all three
 /// queries. That text is a tracker's, too, unless the wrong one ends inside a pattern.
 pub fn right_bytes_go_on()
+    ensures text { RightBytesAreText }
     ensures read { RightBytesGoOn }
     ensures trackers { RightBytesAreOfTrackers }
 {}
