@@ -13,6 +13,7 @@
 //! by row. Where nothing but what is affected is asked, `Tracker::affected_alone` saves the two
 //! other queries.
 //! What queries and statuses mean is said by `specs/QueryLaws.antt` and `specs/StatusLaws.antt`.
+//! The place of a wrong byte is the first that no continuation allows: `specs/FaultPlaces.antt`.
 #![tactic(auto)]
 
 mod affected;
