@@ -74,7 +74,7 @@ fn both(front: Option<String>, rest: Option<String>, limit: usize) -> Option<(St
 /// Reads a file of about `size` bytes as two texts, which together have at most `limit` bytes. It
 /// is cut between two newlines behind its middle; `None` where it isn't read so, for whatever
 /// reason.
-pub fn halves_of<F: Positioned + Sync, R: Threads + Sync>(
+pub fn halves_of<F: Positioned + Sync, R: Threads>(
     rt: &R,
     alloc: Global,
     file: &F,
