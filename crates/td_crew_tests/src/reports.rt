@@ -13,7 +13,7 @@ use std::thread::Threads;
 use td_indices::Archive;
 use td_query::{Marks, Tracker};
 use td_relation::Archs;
-use td_report::{Transition, opening_waves};
+use td_report::Transition;
 use td_rows::Rows;
 
 // The report of these rows, as each call makes it.
@@ -120,8 +120,6 @@ fn over_archive(rt: &(impl Threads + Abort + Sync), alloc: Global, archive: &Arc
     by_itself(rt, alloc, archive, &tracker);
     beside(rt, alloc, archive, &tracker, TRACKER);
     with_opening_rows(rt, alloc, archive, &tracker, TRACKER);
-    let waves = opening_waves(rt, alloc, archive, tracker, TRACKER);
-    is_told(rt, waves, LEVELS, "opening_waves");
 }
 
 // Each transition of the tracker over the archive of these two indices.

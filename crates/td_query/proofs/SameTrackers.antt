@@ -7,8 +7,6 @@ use Rattle.regex.specs.Patterns.{Re, SameCaptures}
 use Rattle.regex_hir.specs.Meaning.{meaning}
 use Rattle.td_stanza.specs.Field.{Entry}
 use Rattle.td_indices.specs.Fields.{value_of}
-use Rattle.td_query.specs.declared.wanted.Wanted.{Wanted}
-use Rattle.td_query.specs.declared.wanted.Wanted.TheVariants.{All, Affected}
 use Rattle.td_query.specs.Marks.{mark_by}
 use Rattle.td_query.specs.Query.{Shape, always, text, pattern, negated, both, either}
 use Rattle.td_query.specs.QueryGrammar.{Log}
@@ -19,8 +17,7 @@ use Rattle.td_query.specs.TrackerLaws.{TrackersHoldAlike}
 use Rattle.td_query.specs.Tracking.{IsTracker, Tracking}
 use Rattle.td_query.specs.Truth.{is_found, truth}
 use Rattle.td_query.specs.inner.Alike.{AreAlike, AreBytes}
-use Rattle.td_query.specs.inner.Wanted.{IsWanted, wanted_of}
-use Rattle.td_query.proofs.AlikePatterns.{alike_all, alike_still, same_patterns}
+use Rattle.td_query.proofs.AlikePatterns.{alike_all, same_patterns}
 
 -- ---- 1. a text is of one tracker
 
@@ -117,49 +114,17 @@ trackers_hold_alike file t u is also fields bytes query =
     sym (hold_alike t.patterns u.patterns
     (alike_all t.patterns u.patterns (match_alike file t u is also)) fields bytes query)
 
--- ---- 4. what is wanted of a tracker is so too
+-- ---- 4. they mark alike
 
 -- with the same patterns, they mark each stanza alike
-same_queries : (file : List ℕ) (t u : Tracking) → IsTracker file t → IsTracker file u
+pub same_marks : (file : List ℕ) (t u : Tracking) → IsTracker file t → IsTracker file u
     → (patterns : List Re) → mark_by patterns u ≡ mark_by patterns t
-same_queries file t u is also patterns =
+same_marks file t u is also patterns =
     let same : IsSameTracker t u = trackers_are_one file t u is also in
     rw (same.affected, same.good, same.bad) refl
 
--- what is wanted of them does too
-pub same_wanted : (wanted : Wanted) (file : List ℕ) (t u : Tracking) → IsTracker file t
-    → IsTracker file u → (patterns : List Re)
-    → mark_by patterns (wanted_of wanted u) ≡ mark_by patterns (wanted_of wanted t)
-same_wanted All file t u is also patterns = same_queries file t u is also patterns
-same_wanted Affected file t u is also patterns = λ i fields. record {
-  affected = (same_queries file t u is also patterns i fields).affected;
-  good = false;
-  bad = false;
-}
-
--- the patterns are the tracker's own
-wanted_patterns : (wanted : Wanted) (t : Tracking) → (wanted_of wanted t).patterns ≡ t.patterns
-wanted_patterns All t = refl
-wanted_patterns Affected t = refl
-
-own_patterns : (wanted : Wanted) (file : List ℕ) (t : Tracking) (is : IsWanted wanted file t)
-    → t.patterns ≡ is.whole.patterns
-own_patterns wanted file t is =
-    ap (λ (s : Tracking). s.patterns) is.part ∙ wanted_patterns wanted is.whole
-
--- two trackers that are what is wanted of one text's mark alike
-pub same_marks : (wanted : Wanted) (file : List ℕ) (t u : Tracking) → IsWanted wanted file t
-    → IsWanted wanted file u → (patterns : List Re) → mark_by patterns u ≡ mark_by patterns t
-same_marks wanted file t u is also patterns =
-    ap (mark_by patterns) also.part
-    ∙ same_wanted wanted file is.whole also.whole is.is also.is patterns
-    ∙ ap (mark_by patterns) (sym is.part)
-
 -- and their patterns are found alike
-pub alike_patterns : (wanted : Wanted) (file : List ℕ) (t u : Tracking)
-    → IsWanted wanted file t → IsWanted wanted file u → AreAlike t.patterns u.patterns
-alike_patterns wanted file t u is also =
-    subst (λ (ps : List Re). AreAlike ps u.patterns) (sym (own_patterns wanted file t is))
-    (alike_still is.whole.patterns (own_patterns wanted file u also)
-    (alike_all is.whole.patterns also.whole.patterns
-    (match_alike file is.whole also.whole is.is also.is)))
+pub alike_patterns : (file : List ℕ) (t u : Tracking) → IsTracker file t → IsTracker file u
+    → AreAlike t.patterns u.patterns
+alike_patterns file t u is also =
+    alike_all t.patterns u.patterns (match_alike file t u is also)

@@ -1,10 +1,10 @@
 -- A tracker, without where it lies in memory, and which text it is read from. This project's own.
-use Rattle.std.specs.Prelude.{◌≡◌, ℕ, false, List, Some, map, Ok}
+use Rattle.std.specs.Prelude.{◌≡◌, ℕ, List, Some, map, Ok}
 use Rattle.std.specs.List.{AllZip}
 use Rattle.regex.specs.Patterns.{Re}
 use Rattle.regex.specs.Strings.{regex_pattern, regex_source}
 use Rattle.td_query.specs.declared.tracker.Tracker.{Tracker}
-use Rattle.td_query.specs.Query.{Shape, always, shape_of}
+use Rattle.td_query.specs.Query.{Shape, shape_of}
 use Rattle.td_query.specs.Sources.{source_of, AreDefault, ArePatterns, IsReadAs}
 use Rattle.td_query.specs.TrackerGrammar.{Said, said_in}
 
@@ -49,18 +49,3 @@ pub record IsTracker (text : List ℕ) (t : Tracking) : Type 0 where
 -- a tracker's patterns are compiled with the default options and within the default limit of size
 abbrev pub AreCompiled : Tracker → Type 0
 AreCompiled t = AreDefault t.patterns.items
-
--- the tracker whose affected query is another's, and by which nothing is good or bad
-abbrev pub affected_alone : Tracking → Tracking
-affected_alone t = record {
-  title = t.title;
-  affected = t.affected;
-  good = always false;
-  bad = always false;
-  sources = t.sources;
-  patterns = t.patterns;
-}
-
--- so the tracker is made of one that the text is of
-abbrev pub IsAffectedAlone : List ℕ → Tracking → Type 0
-IsAffectedAlone text made = (t : Tracking) × IsTracker text t × (made ≡ affected_alone t)

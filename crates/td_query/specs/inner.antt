@@ -2,5 +2,4 @@
 pub mod Settling
 pub mod Alike
 pub mod MarksBeside
-pub mod Wanted
 pub mod FlagsBetween

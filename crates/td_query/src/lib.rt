@@ -10,8 +10,7 @@
 //! place, or what is missing. Which legal pattern is too large no clause says.
 //! A row's status is what `specs/Statuses.antt` says: `Tracker::status` evaluates the queries on
 //! the row's stanzas, `Marks` does so once for each stanza that an archive keeps and is asked row
-//! by row. Where nothing but what is affected is asked, `Tracker::affected_alone` saves the two
-//! other queries.
+//! by row.
 //! What queries and statuses mean is said by `specs/QueryLaws.antt` and `specs/StatusLaws.antt`.
 //! The place of a wrong byte is the first that no continuation allows: `specs/FaultPlaces.antt`.
 #![tactic(auto)]
@@ -37,7 +36,6 @@ mod tracker_fault;
 mod tracker_reading;
 mod truth;
 mod unescape;
-mod wanted;
 
 pub use laws::{
     atoms_are_read_as_written, comments_are_skipped, fields_match_by_their_values,

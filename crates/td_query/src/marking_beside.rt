@@ -3,41 +3,37 @@ ghost use Rattle.std.specs.Prelude.{◌≡◌, ◌≤◌, IfOk, length, map};
 ghost use denote.Param.Send.{IsSync};
 ghost use Rattle.td_indices.specs.declared.archive_fault.IndexFile.TheVariants.{Packages, Sources};
 ghost use Rattle.td_query.specs.Marks.{kept_fields, mark_on};
-ghost use Rattle.td_query.specs.Tracking.{tracking};
+ghost use Rattle.td_query.specs.Tracking.{IsTracker, tracking};
 ghost use Rattle.td_query.specs.inner.MarksBeside.{AreMarksByText, AreRestAndFirst};
 ghost use Rattle.td_query.specs.inner.MarksBeside.{AreRestAndSources};
-ghost use Rattle.td_query.specs.inner.Wanted.{IsWanted};
 
 use crate::mark::Mark;
 use crate::marking::mark_range;
 use crate::tracker::Tracker;
 use crate::truth::matchers_of;
-use crate::wanted::Wanted;
 use std::alloc::{AllocError, Global};
 use std::thread;
 use std::thread::Threads;
 use td_indices::{Archive, IndexFile};
 
-// The marks of a file's stanzas from one with a number up to another, by what is wanted of the
-// tracker of a text. It is read anew: a thread may borrow the text, and not what `regex` made of
-// it. What `regex` makes of the text again finds alike.
+// The marks of a file's stanzas from one with a number up to another, by the tracker of a text. It
+// is read anew: a thread may borrow the text, and not what `regex` made of it. What `regex` makes of
+// the text again finds alike.
 fn between_by_text(
     alloc: Global,
     archive: &Archive<'_, '_>,
     file: IndexFile,
     text: &str,
-    wanted: Wanted,
     from: usize,
     to: usize,
 ) -> Result<Vec<Mark>, AllocError>
     requires order { from ≤ to }
     requires within { to ≤ length (kept_fields archive.now file) }
-    ensures { AreMarksByText archive.now file wanted text.now from to result }
+    ensures { AreMarksByText archive.now file text.now from to result }
 {
     let Ok(tracker) = Tracker::read(alloc, text) else {
         return Err(AllocError);
     };
-    let tracker = wanted.of(tracker);
     let mut matchers = matchers_of(alloc, tracker.patterns.as_slice())?;
     mark_range(alloc, archive, file, &tracker, &mut matchers, from, to)
 }
@@ -49,25 +45,24 @@ fn pair_by_text<R: Threads + Sync>(
     alloc: Global,
     archive: &Archive<'_, '_>,
     text: &str,
-    wanted: Wanted,
     from: usize,
     middle: usize,
     to: usize,
 ) -> Result<Vec<Mark>, AllocError>
     requires order { (from ≤ middle) × (middle ≤ to) }
     requires within { to ≤ length archive.now.binaries }
-    ensures { AreMarksByText archive.now Packages wanted text.now from to result }
+    ensures { AreMarksByText archive.now Packages text.now from to result }
 {
     let packages = IndexFile::Packages;
     let of_front = move || -> Result<Vec<Mark>, AllocError>
         requires { (from ≤ middle) × (middle ≤ length (kept_fields archive.now packages)) }
-        ensures { AreMarksByText archive.entry.now packages wanted text.entry.now from middle
+        ensures { AreMarksByText archive.entry.now packages text.entry.now from middle
             result }
-    { between_by_text(alloc, archive, packages, text, wanted, from, middle) };
+    { between_by_text(alloc, archive, packages, text, from, middle) };
     let of_rest = move || -> Result<Vec<Mark>, AllocError>
         requires { (middle ≤ to) × (to ≤ length (kept_fields archive.now packages)) }
-        ensures { AreMarksByText archive.entry.now packages wanted text.entry.now middle to result }
-    { between_by_text(alloc, archive, packages, text, wanted, middle, to) };
+        ensures { AreMarksByText archive.entry.now packages text.entry.now middle to result }
+    { between_by_text(alloc, archive, packages, text, middle, to) };
     let (front, rest) = thread::join(rt, of_front, of_rest);
     let mut marks = front?;
     let mut others = rest?;
@@ -103,11 +98,10 @@ fn rest_beside<R: Threads + Sync>(
     archive: &Archive<'_, '_>,
     tracker: &Tracker<'_>,
     text: &str,
-    wanted: Wanted,
     from: usize,
     cut: usize,
 ) -> Result<(Vec<Mark>, Vec<Mark>), AllocError>
-    requires text { IsWanted wanted text.now (tracking tracker.now) }
+    requires text { IsTracker text.now (tracking tracker.now) }
     requires from { from ≤ length archive.now.binaries }
     requires cut { cut ≤ length archive.now.sources }
     ensures { AreRestAndSources archive.now (tracking tracker.now) from result }
@@ -115,9 +109,9 @@ fn rest_beside<R: Threads + Sync>(
     let to = archive.source_count();
     let of_sources = move || -> Result<Vec<Mark>, AllocError>
         requires { (cut ≤ to) × (to ≡ length archive.now.sources) }
-        ensures { AreMarksByText archive.entry.now Sources wanted text.entry.now cut
+        ensures { AreMarksByText archive.entry.now Sources text.entry.now cut
             (length archive.entry.now.sources) result }
-    { between_by_text(alloc, archive, IndexFile::Sources, text, wanted, cut, to) };
+    { between_by_text(alloc, archive, IndexFile::Sources, text, cut, to) };
     let of_rest = move || -> Result<(Vec<Mark>, Vec<Mark>), AllocError>
         requires { (from ≤ length archive.now.binaries) × (cut ≤ length archive.now.sources) }
         ensures { AreRestAndFirst archive.entry.now (tracking tracker.entry.now) from cut result }
@@ -129,18 +123,16 @@ fn rest_beside<R: Threads + Sync>(
     Ok((packages, sources))
 }
 
-/// The marks of packages and of sources by what is wanted of a tracker of the text. Each of four
-/// threads has about as many stanzas: two of them the first packages, one the last sources, and one
-/// all others.
+/// The marks of packages and of sources by a tracker of the text. Each of four threads has about as
+/// many stanzas: two of them the first packages, one the last sources, and one all others.
 pub fn mark_beside<R: Threads + Sync>(
     rt: &R,
     alloc: Global,
     archive: &Archive<'_, '_>,
     tracker: &Tracker<'_>,
     text: &str,
-    wanted: Wanted,
 ) -> Result<(Vec<Mark>, Vec<Mark>), AllocError>
-    requires text { IsWanted wanted text.now (tracking tracker.now) }
+    requires text { IsTracker text.now (tracking tracker.now) }
     ensures packages { IfOk result (λ p. p.0.items
         ≡ map (mark_on (tracking tracker.now)) (kept_fields archive.now Packages)) }
     ensures sources { IfOk result (λ p. p.1.items
@@ -153,13 +145,13 @@ pub fn mark_beside<R: Threads + Sync>(
     let cut = sources - share.min(sources);
     let of_front = move || -> Result<Vec<Mark>, AllocError>
         requires { IsSync R.row × (first ≤ second) × (second ≤ length archive.now.binaries) }
-        ensures { AreMarksByText archive.entry.now Packages wanted text.entry.now 0 second result }
-    { pair_by_text(rt, alloc, archive, text, wanted, 0, first, second) };
+        ensures { AreMarksByText archive.entry.now Packages text.entry.now 0 second result }
+    { pair_by_text(rt, alloc, archive, text, 0, first, second) };
     let of_rest = move || -> Result<(Vec<Mark>, Vec<Mark>), AllocError>
-        requires { IsSync R.row × IsWanted wanted text.now (tracking tracker.now)
+        requires { IsSync R.row × IsTracker text.now (tracking tracker.now)
             × (second ≤ length archive.now.binaries) × (cut ≤ length archive.now.sources) }
         ensures { AreRestAndSources archive.entry.now (tracking tracker.entry.now) second result }
-    { rest_beside(rt, alloc, archive, tracker, text, wanted, second, cut) };
+    { rest_beside(rt, alloc, archive, tracker, text, second, cut) };
     let (front, rest) = thread::join(rt, of_front, of_rest);
     let mut packages = front?;
     let (mut others, sources) = rest?;

@@ -8,7 +8,6 @@ use crate::marking_beside::mark_beside;
 use crate::status::Status;
 use crate::tracker::Tracker;
 use crate::truth::matchers_of;
-use crate::wanted::Wanted;
 use std::alloc::{AllocError, Global};
 use std::thread::Threads;
 use td_indices::{Archive, IndexFile, is_on};
@@ -36,7 +35,7 @@ impl Marks {
     ghost use Rattle.td_query.specs.Marks.{AreMarks, mark_there as mark_there_of};
     ghost use Rattle.td_query.specs.Marks.{row_mark as row_mark_of};
     ghost use Rattle.td_query.specs.Statuses.{is_affected_at, status_at};
-    ghost use Rattle.td_query.specs.Tracking.{IsAffectedAlone, IsTracker, Tracking, tracking};
+    ghost use Rattle.td_query.specs.Tracking.{IsTracker, Tracking, tracking};
 
     /// The marks of an archive: each query is evaluated once on each stanza that was kept.
     pub fn make(
@@ -63,25 +62,7 @@ impl Marks {
         requires { IsTracker text.now (tracking tracker.now) }
         ensures marks { IfOk result (AreMarks archive.now (tracking tracker.now)) }
     {
-        let all = Wanted::All;
-        let (packages, sources) = mark_beside(rt, alloc, archive, tracker, text, all)?;
-        Ok(Marks { packages, sources })
-    }
-
-    /// The marks of a tracker whose affected query is alone, made so from that of a text: no other
-    /// query is evaluated in any of the threads.
-    pub fn make_affected_beside(
-        rt: &(impl Threads + Sync),
-        alloc: Global,
-        archive: &Archive<'_, '_>,
-        tracker: &Tracker<'_>,
-        text: &str,
-    ) -> Result<Marks, AllocError>
-        requires { IsAffectedAlone text.now (tracking tracker.now) }
-        ensures marks { IfOk result (AreMarks archive.now (tracking tracker.now)) }
-    {
-        let affected = Wanted::Affected;
-        let (packages, sources) = mark_beside(rt, alloc, archive, tracker, text, affected)?;
+        let (packages, sources) = mark_beside(rt, alloc, archive, tracker, text)?;
         Ok(Marks { packages, sources })
     }
 

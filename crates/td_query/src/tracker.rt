@@ -64,8 +64,7 @@ fn read_patterns<'a>(
 impl<'a> Tracker<'a> {
     ghost use Rattle.td_query.specs.Statuses.{status_of};
     ghost use Rattle.td_query.specs.TrackerFaults.{IsMissing};
-    ghost use Rattle.td_query.specs.Tracking.{AreCompiled, IsSaid, IsTracker, Tracking};
-    ghost use Rattle.td_query.specs.Tracking.{affected_alone, tracking};
+    ghost use Rattle.td_query.specs.Tracking.{AreCompiled, IsSaid, IsTracker, Tracking, tracking};
 
     // The tracker of these keys, if none is missing.
     fn whole(keys: Keys<'a>, patterns: Vec<Regex>) -> Result<Tracker<'a>, TrackerKey>
@@ -125,15 +124,6 @@ impl<'a> Tracker<'a> {
             Ok(tracker) => Ok(tracker),
             Err(key) => Err(TrackerFault::MissingKey(key)),
         }
-    }
-
-    /// The same, so that its affected query alone takes time: nothing is good or bad by it.
-    pub fn affected_alone(mut self) -> Tracker<'a>
-        ensures alone { tracking result ≡ affected_alone (tracking self.entry) }
-    {
-        self.good = Query::Always(false);
-        self.bad = Query::Always(false);
-        self
     }
 
     /// The title; empty where none was given.

@@ -6,7 +6,6 @@ pub mod SeenRows
 pub mod Items
 pub mod Unaffected
 pub mod Opened
-pub mod AffectedAlone
 pub mod OneText
 pub mod Once
 pub mod Counts

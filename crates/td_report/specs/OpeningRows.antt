@@ -3,11 +3,9 @@ use Rattle.std.specs.Prelude.{◌≡◌, ℕ, true, List, Option}
 use Rattle.td_rows.specs.declared.key.Key.{Key}
 use Rattle.td_rows.specs.Keys.{ascending}
 use Rattle.td_rows.specs.Table.{Table, keys_of, row_of}
-use Rattle.td_indices.specs.Archive.{Contents}
 use Rattle.td_indices.specs.Opening.{opening_row}
-use Rattle.td_query.specs.Tracking.{Tracking}
 use Rattle.td_waves.specs.declared.level.Level.{Level}
-use Rattle.td_report.specs.Transition.{IsWaves, affected_rows}
+use Rattle.td_report.specs.Transition.{affected_rows}
 use Rattle.td_report.specs.TransitionView.{contents_of, tracking_of}
 use Rattle.td_report.specs.declared.transition.Transition.{Transition}
 
@@ -19,10 +17,3 @@ pub record StandForAll (x : Transition) (rows : Table) : Type 0 where
   pub same : (level : List ℕ → Option Level)
       → affected_rows (contents_of x) (tracking_of x) level rows
       ≡ affected_rows (contents_of x) (tracking_of x) level all
-
--- a text is that of the waves of a tracker over the rows with which a desk opens over an archive
-pub record IsOpeningWaves (a : Contents) (t : Tracking) (text : List ℕ) : Type 0 where
-  pub all : Table
-  pub opened : (k : Key) → row_of all k ≡ opening_row a k
-  pub rising : ascending (keys_of all) ≡ true
-  pub says : IsWaves a t all text

@@ -1,8 +1,7 @@
 //! The report of a transition: the affected rows by the levels of their sources.
 //!
 //! Start at `Transition::of`, which asks a tracker about an archive; `Transition::report` is the
-//! text, `groups` the rows to watch for one whose counts are kept. `opening_waves` is the text of
-//! the waves with which a desk opens.
+//! text, `groups` the rows to watch for one whose counts are kept.
 //! `specs/Report.antt` says what its lines are, `specs/Transition.antt` of which rows,
 //! `specs/Groups.antt` which rows are counted together.
 //! Promised: the text is that of these lines, made in one piece, by chunks in several
@@ -12,7 +11,6 @@
 
 mod affected;
 mod affected_beside;
-mod affected_waves;
 mod block;
 mod blocks;
 mod counting;
@@ -30,7 +28,6 @@ mod transition;
 mod waves_text;
 mod writing;
 
-pub use affected_waves::opening_waves;
 pub use groups::Groups;
 pub use laws::reports_are_one_text;
 pub use transition::Transition;

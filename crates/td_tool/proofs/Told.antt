@@ -25,9 +25,8 @@ use Rattle.td_query.specs.TrackerGrammar.{said_in}
 use Rattle.td_query.specs.Tracking.{IsTracker, Tracking}
 use Rattle.td_query.specs.declared.tracker_fault.TrackerFault.{TrackerFault}
 use Rattle.td_query.specs.declared.tracker_fault.TrackerFault.TheVariants as tracker_fault
-use Rattle.td_report.specs.OpeningRows.{IsOpeningWaves, StandForAll}
-use Rattle.td_report.specs.Report.{report_lines}
-use Rattle.td_report.specs.Transition.{IsReport, IsWaves}
+use Rattle.td_report.specs.OpeningRows.{StandForAll}
+use Rattle.td_report.specs.Report.{report_lines, waves_lines}
 use Rattle.td_report.specs.TransitionView.{contents_of, tracking_of}
 use Rattle.td_report.specs.declared.transition.Transition.{Transition}
 use Rattle.td_script.specs.OpeningInside.{CanReplace, IsInputRefusedIn, IsRefusedIn, IsReplacedIn}
@@ -50,7 +49,9 @@ use Rattle.td_tool.specs.Tracks.{AreRefused, IsEndedBy, IsPatternRefused, RowsSa
 use Rattle.td_tool.specs.Tracks.{TextsSayIt, as_script}
 use Rattle.td_tool.specs.TrackInside.{AreReadableWith, AreRefusedWith, EndsWithoutRows, IndicesSay}
 use Rattle.td_tool.specs.TrackInside.{IsStateRefused, OrMemory, RowsAreSaid, Tells, TellsNone}
-use Rattle.td_tool.specs.TrackInside.{TellsOver, TellsTracker, TellsWith}
+use Rattle.td_tool.specs.TrackInside.{TellsOver, TellsTracker, TellsWith, saying_of}
+use Rattle.td_tool.specs.declared.tracking.Asked.{Asked}
+use Rattle.td_tool.specs.declared.tracking.Asked.TheVariants.{Report, Waves}
 use Rattle.td_tool.proofs.Counting.{archive_of}
 
 -- ---- a file that wasn't read
@@ -76,11 +77,11 @@ pub told_of : (Says : Saying) (c d : Contents) (t u : Tracking) (rows : Table) (
 told_of Says c d t u rows text first second says =
     subst (λ x. Says d x rows text) second (subst (λ x. Says x t rows text) first says)
 
--- what is reported of rows that stand for all opening rows is reported of all of them
-all_are_reported : (x : Transition) (rows : Table) (text : List ℕ) → StandForAll x rows
-    → IsReport (contents_of x) (tracking_of x) rows text
-    → RowsAreSaid IsReport (contents_of x) None (tracking_of x) text
-all_are_reported x rows text stand says = (
+-- what is told of rows that stand for all opening rows is told of all of them
+all_are_said : (asked : Asked) (x : Transition) (rows : Table) (text : List ℕ)
+    → StandForAll x rows → saying_of asked (contents_of x) (tracking_of x) rows text
+    → RowsAreSaid (saying_of asked) (contents_of x) None (tracking_of x) text
+all_are_said (Report chunk) x rows text stand says = (
   stand.all,
   record { same = stand.opened; rising = stand.rising },
   record {
@@ -92,25 +93,28 @@ all_are_reported x rows text stand says = (
         (stand.same says.level);
   },
 )
+all_are_said Waves x rows text stand says = (
+  stand.all,
+  record { same = stand.opened; rising = stand.rising },
+  record {
+    level = says.level;
+    depth = says.depth;
+    levels = says.levels;
+    written = says.written
+        ∙ ap (λ rs. text_of (waves_lines says.depth rs)) (stand.same says.level);
+  },
+)
 
-pub opening_is_reported : {E : Type 0} (x : Transition) (c : Contents) (t : Tracking)
+pub opening_is_said : {E : Type 0} (asked : Asked) (x : Transition) (c : Contents) (t : Tracking)
     (rows : Table) (r : Result (String Global) E) → contents_of x ≡ c → tracking_of x ≡ t
     → StandForAll x rows
-    → IfOk r (λ text. IsReport (contents_of x) (tracking_of x) rows (string_bytes text))
-    → IfOk r (λ text. RowsAreSaid IsReport c None t (string_bytes text))
-opening_is_reported x c t rows (Ok text) first second stand says =
-    subst (λ u. RowsAreSaid IsReport c None u (string_bytes text)) second
-    (subst (λ d. RowsAreSaid IsReport d None (tracking_of x) (string_bytes text)) first
-    (all_are_reported x rows (string_bytes text) stand says))
-opening_is_reported x c t rows (Err e) first second stand says = tt
-
--- waves over the opening rows are said of these
-pub opening_waves_are_said : {E : Type 0} (c : Contents) (t : Tracking)
-    (r : Result (String Global) E) → IfOk r (λ text. IsOpeningWaves c t (string_bytes text))
-    → IfOk r (λ text. RowsAreSaid IsWaves c None t (string_bytes text))
-opening_waves_are_said c t (Ok text) waves =
-    (waves.all, record { same = waves.opened; rising = waves.rising }, waves.says)
-opening_waves_are_said c t (Err e) waves = tt
+    → IfOk r (λ text. saying_of asked (contents_of x) (tracking_of x) rows (string_bytes text))
+    → IfOk r (λ text. RowsAreSaid (saying_of asked) c None t (string_bytes text))
+opening_is_said asked x c t rows (Ok text) first second stand says =
+    subst (λ u. RowsAreSaid (saying_of asked) c None u (string_bytes text)) second
+    (subst (λ d. RowsAreSaid (saying_of asked) d None (tracking_of x) (string_bytes text)) first
+    (all_are_said asked x rows (string_bytes text) stand says))
+opening_is_said asked x c t rows (Err e) first second stand says = tt
 
 -- ---- what is found, layer by layer
 

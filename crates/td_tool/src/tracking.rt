@@ -31,7 +31,7 @@ use td_bytes::Writer;
 use td_indices::{Archive, ArchiveFault, EarlyPackages, EarlySources};
 use td_query::{Marks, Tracker, TrackerFault};
 use td_relation::{Archs, ArchsFault};
-use td_report::{Transition, opening_waves};
+use td_report::Transition;
 use td_rows::Rows;
 use td_script::{InputFault as FormFault, RunFault, put_state_over};
 
@@ -232,64 +232,45 @@ fn rows_say(
     }
 }
 
-// The report over the rows with which a desk opens over the archive: those of the sources that aren't
-// affected say nothing, and aren't made.
-fn opening_report(
+// What is asked, over the rows with which a desk opens over the archive: those of the sources that
+// aren't affected say nothing, and aren't made.
+fn opening_says(
     rt: &(impl Threads + Sync),
     alloc: Global,
     archive: &Archive<'_, '_>,
     tracker: &Tracker<'_>,
     text: &str,
-    chunk: Option<usize>,
+    asked: Asked,
 ) -> Result<String, AllocError>
     requires { IsTracker text.now (tracking tracker.now) }
     ensures { IfOk result (λ said.
-        RowsAreSaid IsReport archive.now None (tracking tracker.now) (string_bytes said)) }
+        RowsAreSaid (saying_of asked) archive.now None (tracking tracker.now)
+        (string_bytes said)) }
 {
     let marks = Marks::make_beside(rt, alloc, archive, tracker, text)?;
     let (transition, rows) = Transition::with_opening_rows(rt, alloc, archive, tracker, marks)?;
-    reported(rt, alloc, &transition, &rows, chunk)
+    told(rt, alloc, &transition, &rows, asked)
 }
 
-// What is asked, over the same rows.
-fn opening_says(
-    rt: &(impl Threads + Sync),
-    alloc: Global,
-    archive: &Archive<'_, '_>,
-    tracker: Tracker<'_>,
-    text: &str,
-    asked: Asked,
-) -> Result<String, AllocError>
-    requires { IsTracker text.now (tracking tracker) }
-    ensures { IfOk result (λ said.
-        RowsAreSaid (saying_of asked) archive.now None (tracking tracker.entry)
-        (string_bytes said)) }
-{
-    match asked {
-        Asked::Report(chunk) => opening_report(rt, alloc, archive, &tracker, text, chunk),
-        Asked::Waves => opening_waves(rt, alloc, archive, tracker, text),
-    }
-}
-
-// The same, with or without a state file.
+// What is asked of a text's tracker over an archive, with or without a state file.
 fn tracker_says(
     rt: &(impl Threads + Sync),
     alloc: Global,
     archive: &Archive<'_, '_>,
     state: &Option<String>,
-    tracker: Tracker<'_>,
+    tracker: &Tracker<'_>,
     text: &str,
     asked: Asked,
 ) -> Result<String, Ending>
-    requires { IsTracker text.now (tracking tracker) }
+    requires { IsTracker text.now (tracking tracker.now) }
     ensures found { IfOk result (λ text.
         RowsAreSaid (saying_of asked) archive.now (option_map string_bytes state.now)
-        (tracking tracker.entry) (string_bytes text)) }
+        (tracking tracker.now) (string_bytes text)) }
     ensures none { IfErr result (EndsWithoutRows archive.now (option_map string_bytes state.now)) }
 {
     match state {
         None => or_no_memory(opening_says(rt, alloc, archive, tracker, text, asked)),
-        Some(_) => rows_say(rt, alloc, archive, state, &tracker, text, asked),
+        Some(_) => rows_say(rt, alloc, archive, state, tracker, text, asked),
     }
 }
 
@@ -310,7 +291,7 @@ fn tracker_text(
         (option_map string_bytes state.now) (ending_of (FormFault.Tracker fault)) result) }
 {
     match tracker {
-        Ok(read) => tracker_says(rt, alloc, archive, state, read, text, asked),
+        Ok(read) => tracker_says(rt, alloc, archive, state, &read, text, asked),
         Err(fault) => {
             let rows = rows_of(alloc, archive, state);
             let refused = ending_of_form(FormFault::Tracker(fault));

@@ -8,16 +8,14 @@ use Rattle.td_indices.specs.Archive.{Contents}
 use Rattle.td_query.specs.declared.mark.Mark.{Mark}
 use Rattle.td_query.specs.declared.tracker.Tracker.{Tracker}
 use Rattle.td_query.specs.Marks.{MarkBetween, kept_fields, mark_on}
-use Rattle.td_query.specs.declared.wanted.Wanted.{Wanted}
-use Rattle.td_query.specs.Tracking.{Tracking, tracking}
-use Rattle.td_query.specs.inner.Wanted.{IsWanted}
+use Rattle.td_query.specs.Tracking.{IsTracker, Tracking, tracking}
 
--- those of a file's stanzas from one with a number up to another, by what is wanted of any tracker
--- that the text is of
-abbrev pub AreMarksByText : Contents → IndexFile → Wanted → List ℕ → ℕ → ℕ
+-- those of a file's stanzas from one with a number up to another, by any tracker that the text is
+-- of
+abbrev pub AreMarksByText : Contents → IndexFile → List ℕ → ℕ → ℕ
     → Result (Vec Mark) AllocError → Type 0
-AreMarksByText a file wanted text from to made =
-    (t : Tracker) → IsWanted wanted text (tracking t) → IfOk made (λ marks.
+AreMarksByText a file text from to made =
+    (t : Tracker) → IsTracker text (tracking t) → IfOk made (λ marks.
     MarkBetween (mark_on (tracking t)) (kept_fields a file) from to marks.items)
 
 -- those of the packages from one with a number on, and those of the sources before another

@@ -2,7 +2,6 @@
 //! which are found while these come, then marks, flags and levels. What no clause says is that all
 //! of it is answered where memory suffices. The archive is that of `statuses`, and behind its five
 //! sources stand 6,000 that ask for nothing. Expected by hand, from the rules in `docs/FORMATS.md`.
-ghost use Rattle.td_query.specs.Tracking.{IsTracker, tracking};
 
 use super::answers::counts;
 use crate::checks::{is_told, made};
@@ -131,63 +130,35 @@ fn told_by(
     }
 }
 
-// The marks of a text's tracker, or of its affected query alone.
-fn marks_of(
-    rt: &(impl Threads + Sync),
-    alloc: Global,
-    archive: &Archive<'_, '_>,
-    tracker: Tracker<'_>,
-    text: &str,
-    is_alone: bool,
-) -> Result<Marks, AllocError>
-    requires { IsTracker text.now (tracking tracker) }
-{
-    if is_alone {
-        let affected = tracker.affected_alone();
-        Marks::make_affected_beside(rt, alloc, archive, &affected, text)
-    } else {
-        Marks::make_beside(rt, alloc, archive, &tracker, text)
-    }
-}
-
 // What is told by the tracker of a text.
 fn told(
     rt: &(impl Threads + Sync),
     alloc: Global,
     archive: &Archive<'_, '_>,
     text: &str,
-    is_alone: bool,
 ) -> Result<String, AllocError> {
     match Tracker::read(alloc, text) {
         Ok(tracker) => {
-            let marks = marks_of(rt, alloc, archive, tracker, text, is_alone);
+            let marks = Marks::make_beside(rt, alloc, archive, &tracker, text);
             told_by(rt, alloc, archive, marks)
         }
         Err(_) => String::from_str(alloc, "no tracker"),
     }
 }
 
-// A tracker, whether its affected query is asked alone, and what is told.
-const TOLD: [(&str, bool, &str); 4] = [
+// A tracker, and what is told.
+const TOLD: [(&str, &str); 3] = [
     (
         LIBFOO2,
-        false,
         "2 levels, good 2, partial 1, bad cyclic, bad cyclic, - -, - -",
     ),
     (
-        LIBFOO2,
-        true,
-        "2 levels, unknown 2, unknown 1, unknown cyclic, unknown cyclic, - -, - -",
-    ),
-    (
         "is_affected = true; is_good = .package ~ /^zz/; is_bad = false;",
-        false,
         "2 levels, unknown 2, unknown 1, unknown cyclic, unknown cyclic, unknown 1, good 1",
     ),
     (
         "is_affected = .package ~ /^zz/; is_good = true; is_bad = true;",
-        true,
-        "1 levels, - -, - -, - -, - -, - -, unknown 1",
+        "1 levels, - -, - -, - -, - -, - -, partial 1",
     ),
 ];
 
@@ -202,13 +173,8 @@ fn is_read(
     let read = Archive::of_early(rt, alloc, packages, sources, &archs);
     let archive = made(rt, read);
     is_told(rt, counts(alloc, &archive), "6005 6006 6005", "counts");
-    for (text, is_alone, expected) in &TOLD {
-        is_told(
-            rt,
-            told(rt, alloc, &archive, text, *is_alone),
-            expected,
-            text,
-        );
+    for (text, expected) in &TOLD {
+        is_told(rt, told(rt, alloc, &archive, text), expected, text);
     }
     drop(archive);
 }
