@@ -26,8 +26,6 @@ fn are_reported(
     requires { IsMade transition.now }
 {
     is_told(rt, transition.report(alloc, rows), REPORT, "report");
-    let beside = transition.report_beside(rt, alloc, rows);
-    is_told(rt, beside, REPORT, "report_beside");
     let by_one = transition.report_split(rt, alloc, rows, 1);
     is_told(rt, by_one, REPORT, "report_split by 1");
     let by_two = transition.report_split(rt, alloc, rows, 2);
@@ -36,9 +34,9 @@ fn are_reported(
     is_told(rt, by_five, REPORT, "report_split by 5");
 }
 
-// The waves of these rows, likewise.
+// The waves of these rows.
 fn are_in_levels(
-    rt: &(impl Threads + Abort + Sync),
+    rt: &impl Abort,
     alloc: Global,
     transition: &Transition<'_, '_, '_, '_>,
     rows: &Rows,
@@ -46,8 +44,6 @@ fn are_in_levels(
     requires { IsMade transition.now }
 {
     is_told(rt, transition.waves(alloc, rows), LEVELS, "waves");
-    let beside = transition.waves_beside(rt, alloc, rows);
-    is_told(rt, beside, LEVELS, "waves_beside");
 }
 
 // A transition over all rows with which a desk opens.

@@ -1,6 +1,6 @@
 -- The affected rows among the first so many, and where their sources stand.
 use Rattle.std.proofs.Common.{◌≡◌, ◌<◌, ◌+◌, ◌++◌, ◌∷◌, [], ℕ, List, Option, None, Some, map, take}
-use Rattle.std.proofs.Common.{length, slice_get, inl, inr, refl, sym, ap, append_assoc, subst, ◌∙◌}
+use Rattle.std.proofs.Common.{length, slice_get, inl, inr, refl, sym, ap, subst, ◌∙◌}
 use Rattle.std.proofs.Common.{arith}
 use Rattle.std.specs.Prelude.{IsTrue}
 use Rattle.std.specs.Borrow.{Bor}
@@ -10,7 +10,6 @@ use Rattle.std.specs.Str.{bytes_eq}
 use Rattle.std.proofs.lemmas.List.{append-nil, map-append}
 use Rattle.std.proofs.lemmas.List.Elements.{filter_map-append}
 use Rattle.std.proofs.lemmas.Option.{slice_get_cases}
-use Rattle.std.proofs.Math.Seq.{take-length}
 use Rattle.td_text.proofs.Chain.{list_any-map}
 use Rattle.td_rows.proofs.Lists.{take-next}
 use Rattle.td_rows.specs.declared.key.Key.{Key}
@@ -23,17 +22,11 @@ use Rattle.td_waves.specs.declared.level.Level.{Level}
 use Rattle.td_waves.specs.Levels.{IsDepth, StandsAt}
 use Rattle.td_waves.specs.Waves.{BuildsOn}
 use Rattle.td_waves.specs.Waves as of_waves
-use Rattle.td_waves.specs.WavesView as of_view
-use Rattle.td_query.specs.Marks.{AreMarks}
-use Rattle.td_report.specs.declared.affected.Affected.{Affected}
 use Rattle.td_report.specs.declared.item.Item.{Item}
-use Rattle.td_report.specs.declared.transition.Transition.{Transition}
 use Rattle.td_text.specs.Lines.{text_of}
-use Rattle.td_report.specs.inner.Affected.{IsOf, rows_told}
 use Rattle.td_report.specs.inner.ItemLines.{seen}
 use Rattle.td_report.specs.Report.{AffectedRow, report_lines, waves_lines}
 use Rattle.td_report.specs.Transition.{AreLevels, IsAffected, IsReport, IsWaves, affected_rows}
-use Rattle.td_report.specs.TransitionView.{IsMade, contents_of, depth_of, level_of, tracking_of}
 
 -- ---- one row more
 
@@ -55,14 +48,12 @@ rows-more {B} f rows n o lt e = elim (slice_get_cases rows n).1 [
 ]
 
 -- with one that is affected, behind what is told of others
-pub items-more : (f : Key × Row → Option AffectedRow) (rows : Table) (n : ℕ)
-    (first : List AffectedRow) (items : List Item) (item : Item) → n < length rows
-    → Some (seen item) ≡ option_map_or f (slice_get rows n) None
-    → first ++ map seen items ≡ filter_map f (take n rows)
-    → first ++ map seen (items ++ item ∷ []) ≡ filter_map f (take (n + 1) rows)
-items-more f rows n first items item lt is so =
-    ap (λ (l : List AffectedRow). first ++ l) (map-append seen items (item ∷ []))
-    ∙ sym (append_assoc first (map seen items) (seen item ∷ []))
+pub items-more : (f : Key × Row → Option AffectedRow) (rows : Table) (n : ℕ) (items : List Item)
+    (item : Item) → n < length rows → Some (seen item) ≡ option_map_or f (slice_get rows n) None
+    → map seen items ≡ filter_map f (take n rows)
+    → map seen (items ++ item ∷ []) ≡ filter_map f (take (n + 1) rows)
+items-more f rows n items item lt is so =
+    map-append seen items (item ∷ [])
     ∙ ap (λ (l : List AffectedRow). l ++ seen item ∷ []) so
     ∙ sym (rows-more f rows n (Some (seen item)) lt is)
 
@@ -91,34 +82,6 @@ are_levels a t names level depth is stands deep = record {
       → StandsAt P (BuildsOn a) source (level source)) (same_names a t names is) stands;
   deep = deep;
 }
-
--- ---- what is told of a transition's rows
-
--- what tells which rows are affected is the transition's own
-is_of : (x : Transition) (told : Affected) → told.archive.now ≡ contents_of x
-    → told.marks.now ≡ x.marks → told.waves.now ≡ x.waves → IsMade x → IsOf told (tracking_of x)
-is_of x told archive marks waves made =
-    let t = tracking_of x in
-    record {
-      marked = subst (λ m. AreMarks told.archive.now t m) (sym marks)
-          (subst (λ a. AreMarks a t x.marks) (sym archive) made.marked);
-      leveled = subst (λ w. AreLevels told.archive.now t (of_view.level_of w) (of_view.depth_of w))
-          (sym waves)
-          (subst (λ a. AreLevels a t (level_of x) (depth_of x)) (sym archive) made.leveled);
-    }
-
--- so what is told of all rows are the transition's affected ones
-pub items-told : (x : Transition) (told : Affected) (rows : Table) (items : List Item)
-    → told.archive.now ≡ contents_of x → told.marks.now ≡ x.marks → told.waves.now ≡ x.waves
-    → IsMade x
-    → ((t : Tracking) → IsOf told t → map seen items ≡ rows_told told t (take (length rows) rows))
-    → map seen items ≡ affected_rows (contents_of x) (tracking_of x) (level_of x) rows
-items-told x told rows items archive marks waves made found =
-    let t = tracking_of x in
-    found t (is_of x told archive marks waves made)
-    ∙ ap (λ l. rows_told told t l) (take-length rows)
-    ∙ ap (λ a. affected_rows a t (of_view.level_of told.waves.now) rows) archive
-    ∙ ap (λ w. affected_rows (contents_of x) t (of_view.level_of w) rows) waves
 
 -- ---- the texts
 

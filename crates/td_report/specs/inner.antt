@@ -4,4 +4,3 @@ pub mod ItemLines
 pub mod Grouped
 pub mod Blocks
 pub mod LinesText
-pub mod Affected

@@ -9,16 +9,14 @@
 //! affected row stands under the level of its source, in the order of the keys.
 #![tactic(auto)]
 
-mod affected;
-mod affected_beside;
 mod block;
 mod blocks;
 mod counting;
-mod finding;
 mod grouping;
 mod groups;
 mod item;
 mod item_line;
+mod items;
 mod laws;
 mod lines;
 mod opening;

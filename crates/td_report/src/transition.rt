@@ -1,7 +1,5 @@
 //! A tracker over an archive, and what is told of it.
 
-use crate::affected::Affected;
-use crate::finding::{Alone, Beside, Finding};
 use crate::lines::{Lines, Whole};
 use crate::report_text::report_text;
 use crate::splitting::Chunks;
@@ -92,26 +90,15 @@ impl<'b, 't, 'a, 'q> Transition<'b, 't, 'a, 'q> {
         })
     }
 
-    // What tells which rows are affected.
-    fn affected(&self) -> Affected<'_, 't, 'a>
-        ensures archive { result.archive.now ≡ of.contents_of self.now }
-        ensures marks { result.marks.now ≡ self.now.marks }
-        ensures waves { result.waves.now ≡ self.now.waves }
-    {
-        Affected {
-            archive: self.archive,
-            marks: &self.marks,
-            waves: &self.waves,
-        }
-    }
-
     /// The status of a key's row, where the archive has such a row and it is affected. It takes no
     /// memory.
     pub fn status(&self, key: &Key) -> Option<Status>
         requires { of.IsMade self.now }
         ensures { result ≡ status_of (of.contents_of self.now) (of.tracking_of self.now) key.now }
     {
-        self.affected().status(key)
+        let source = self.archive.source_number(key.source())?;
+        let place = self.archive.archs().index(key.arch())?;
+        self.marks.status(self.archive, source, place)
     }
 
     /// The level of a source; none where it isn't affected.
@@ -128,24 +115,22 @@ impl<'b, 't, 'a, 'q> Transition<'b, 't, 'a, 'q> {
         self.waves.depth()
     }
 
-    // The report of the rows, which are found so and whose lines are made so, by counts of Installed
-    // rows where these are given.
-    fn text<F: Finding, L: Lines>(
+    // The report of the rows, whose lines are made so, by counts of Installed rows where these are
+    // given.
+    fn text<L: Lines>(
         &self,
         alloc: Global,
         rows: &Rows,
         counts: Option<&[usize]>,
-        finding: &F,
         lines: &L,
     ) -> Result<String, AllocError>
         requires made { of.IsMade self.now }
         requires counts { IfSome counts (λ cs. AreCounts self.now rows.now cs.now) }
-        requires found { F.ready finding.now }
         requires ready { L.ready lines.now }
         ensures { IfOk result (λ text. IsReport (of.contents_of self.now)
             (of.tracking_of self.now) rows.now (string_bytes text)) }
     {
-        let items = finding.items(alloc, &self.affected(), rows)?;
+        let items = self.items(alloc, rows)?;
         let depth = self.waves.depth();
         report_text(alloc, self.tracker.title(), depth, &items, counts, lines)
     }
@@ -156,24 +141,11 @@ impl<'b, 't, 'a, 'q> Transition<'b, 't, 'a, 'q> {
         ensures { IfOk result (λ text. IsReport (of.contents_of self.now)
             (of.tracking_of self.now) rows.now (string_bytes text)) }
     {
-        self.text(alloc, rows, None, &Alone, &Whole)
+        self.text(alloc, rows, None, &Whole)
     }
 
-    /// The same text, of rows that several threads look at where there are many.
-    pub fn report_beside(
-        &self,
-        rt: &(impl Threads + Sync),
-        alloc: Global,
-        rows: &Rows,
-    ) -> Result<String, AllocError>
-        requires { of.IsMade self.now }
-        ensures { IfOk result (λ text. IsReport (of.contents_of self.now)
-            (of.tracking_of self.now) rows.now (string_bytes text)) }
-    {
-        self.text(alloc, rows, None, &Beside { rt }, &Whole)
-    }
-
-    /// The same text, the rows of each level in chunks of so many, which several threads share.
+    /// The report of the rows, made of those of each level in chunks of so many, which several
+    /// threads share.
     pub fn report_split(
         &self,
         rt: &(impl Threads + Sync),
@@ -186,17 +158,11 @@ impl<'b, 't, 'a, 'q> Transition<'b, 't, 'a, 'q> {
         ensures { IfOk result (λ text. IsReport (of.contents_of self.now)
             (of.tracking_of self.now) rows.now (string_bytes text)) }
     {
-        self.text(
-            alloc,
-            rows,
-            None,
-            &Beside { rt },
-            &Chunks { rt, size: chunk },
-        )
+        self.text(alloc, rows, None, &Chunks { rt, size: chunk })
     }
 
-    /// The same text, where it is given how many rows of each group are Installed. They aren't
-    /// counted anew.
+    /// The report of the rows, where it is given how many rows of each group are Installed. They
+    /// aren't counted anew.
     pub fn report_counted(
         &self,
         alloc: Global,
@@ -208,10 +174,10 @@ impl<'b, 't, 'a, 'q> Transition<'b, 't, 'a, 'q> {
         ensures { IfOk result (λ text. IsReport (of.contents_of self.now)
             (of.tracking_of self.now) rows.now (string_bytes text)) }
     {
-        self.text(alloc, rows, Some(counts), &Alone, &Whole)
+        self.text(alloc, rows, Some(counts), &Whole)
     }
 
-    /// The same, in chunks.
+    /// The report of the rows by such counts, made in chunks as `report_split` makes it.
     pub fn report_kept(
         &self,
         rt: &(impl Threads + Sync),
@@ -226,29 +192,7 @@ impl<'b, 't, 'a, 'q> Transition<'b, 't, 'a, 'q> {
         ensures { IfOk result (λ text. IsReport (of.contents_of self.now)
             (of.tracking_of self.now) rows.now (string_bytes text)) }
     {
-        self.text(
-            alloc,
-            rows,
-            Some(kept),
-            &Beside { rt },
-            &Chunks { rt, size: chunk },
-        )
-    }
-
-    // The affected sources of the rows, which are found so, by level.
-    fn waves_found<F: Finding>(
-        &self,
-        alloc: Global,
-        rows: &Rows,
-        finding: &F,
-    ) -> Result<String, AllocError>
-        requires made { of.IsMade self.now }
-        requires found { F.ready finding.now }
-        ensures { IfOk result (λ text. IsWaves (of.contents_of self.now)
-            (of.tracking_of self.now) rows.now (string_bytes text)) }
-    {
-        let items = finding.items(alloc, &self.affected(), rows)?;
-        waves_text(alloc, self.waves.depth(), &items)
+        self.text(alloc, rows, Some(kept), &Chunks { rt, size: chunk })
     }
 
     /// The affected sources of the rows, by level.
@@ -257,20 +201,7 @@ impl<'b, 't, 'a, 'q> Transition<'b, 't, 'a, 'q> {
         ensures { IfOk result (λ text. IsWaves (of.contents_of self.now)
             (of.tracking_of self.now) rows.now (string_bytes text)) }
     {
-        self.waves_found(alloc, rows, &Alone)
-    }
-
-    /// The same text, of rows that several threads look at where there are many.
-    pub fn waves_beside(
-        &self,
-        rt: &(impl Threads + Sync),
-        alloc: Global,
-        rows: &Rows,
-    ) -> Result<String, AllocError>
-        requires { of.IsMade self.now }
-        ensures { IfOk result (λ text. IsWaves (of.contents_of self.now)
-            (of.tracking_of self.now) rows.now (string_bytes text)) }
-    {
-        self.waves_found(alloc, rows, &Beside { rt })
+        let items = self.items(alloc, rows)?;
+        waves_text(alloc, self.waves.depth(), &items)
     }
 }

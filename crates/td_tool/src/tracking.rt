@@ -59,7 +59,7 @@ fn reported(
 {
     match chunk {
         Some(chunk) => transition.report_split(rt, alloc, rows, chunk.max(1)),
-        None => transition.report_beside(rt, alloc, rows),
+        None => transition.report(alloc, rows),
     }
 }
 
@@ -78,7 +78,7 @@ fn told(
 {
     match asked {
         Asked::Report(chunk) => reported(rt, alloc, transition, rows, chunk),
-        Asked::Waves => transition.waves_beside(rt, alloc, rows),
+        Asked::Waves => transition.waves(alloc, rows),
     }
 }
 

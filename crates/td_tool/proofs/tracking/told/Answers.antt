@@ -14,6 +14,6 @@ returns-in-Report g c =
 pub returns-in-Waves : goal.returns-in-Waves
 returns-in-Waves g c =
     let x = c.args.transition.now in
-    subst (λ a. IfOk c.waves_beside.result
+    subst (λ a. IfOk c.waves.result
     (λ text. saying_of a (contents_of x) (tracking_of x) c.args.rows.now (string_bytes text)))
-    (sym c.in-Waves.is) c.waves_beside.ensures
+    (sym c.in-Waves.is) c.waves.ensures

@@ -7,7 +7,7 @@ use Rattle.td_report.specs.Report.{report_lines}
 use Rattle.td_report.specs.Transition.{IsReport}
 use Rattle.td_report.specs.TransitionView.{contents_of, depth_of, level_of, tracking_of}
 use Rattle.td_report.proofs.Counts.{counts_read}
-use Rattle.td_report.proofs.Items.{is_report, items-told}
+use Rattle.td_report.proofs.Items.{is_report}
 use Rattle.td_report.proofs.transition.Transition.text.Goals as goal
 
 pub returns : goal.returns
@@ -21,15 +21,11 @@ returns g c =
     (depth_of self) c.args.rows.now c.in_ok-items.items.items c.deref.result.now
     c.title.result.now c.depth-depth.result (string_bytes text)
     c.requires.made.leveled written c.title.ensures.title c.depth-depth.ensures
-    c.deref.ensures.value (items-told self c.affected.result
-    c.args.rows.now c.in_ok-items.items.items c.affected.ensures.archive c.affected.ensures.marks
-    c.affected.ensures.waves c.requires.made c.in_ok-items.ensures))
+    c.deref.ensures.value c.in_ok-items.ensures)
     c.report_text.ensures
 
 pub report_text-requires-clause-counts : goal.report_text-requires-clause-counts
 report_text-requires-clause-counts g c =
     counts_read c.args.self.now c.args.rows.now c.in_ok-items.items.items c.deref.result.now
-    c.depth-depth.result c.args.counts c.requires.made.leveled.deep (items-told c.args.self.now
-    c.affected.result c.args.rows.now c.in_ok-items.items.items c.affected.ensures.archive
-    c.affected.ensures.marks c.affected.ensures.waves c.requires.made c.in_ok-items.ensures)
+    c.depth-depth.result c.args.counts c.requires.made.leveled.deep c.in_ok-items.ensures
     c.deref.ensures.value c.depth-depth.ensures c.requires.counts
