@@ -62,20 +62,23 @@ fn over_all_rows(
     drop(rows);
 }
 
-// A transition that one thread makes.
+// A transition whose marks it makes itself.
 fn by_itself(
     rt: &(impl Threads + Abort + Sync),
     alloc: Global,
     archive: &Archive<'_, '_>,
     tracker: &Tracker<'_>,
-) {
-    let transition = made(rt, Transition::of(alloc, archive, tracker));
+    text: &str,
+)
+    requires { IsTracker text.now (tracking tracker.now) }
+{
+    let transition = made(rt, Transition::of(rt, alloc, archive, tracker, text));
     over_all_rows(rt, alloc, archive, &transition);
     drop(transition);
 }
 
-// A transition that several threads make.
-fn beside(
+// A transition by marks that were made before.
+fn with_marks(
     rt: &(impl Threads + Abort + Sync),
     alloc: Global,
     archive: &Archive<'_, '_>,
@@ -85,8 +88,8 @@ fn beside(
     requires { IsTracker text.now (tracking tracker.now) }
 {
     let marks = made(rt, Marks::make_beside(rt, alloc, archive, tracker, text));
-    let with_marks = Transition::with_marks_beside(rt, alloc, archive, tracker, marks);
-    let transition = made(rt, with_marks);
+    let of_marks = Transition::with_marks(rt, alloc, archive, tracker, marks);
+    let transition = made(rt, of_marks);
     over_all_rows(rt, alloc, archive, &transition);
     drop(transition);
 }
@@ -113,8 +116,8 @@ fn with_opening_rows(
 // Each transition of the tracker over an archive.
 fn over_archive(rt: &(impl Threads + Abort + Sync), alloc: Global, archive: &Archive<'_, '_>) {
     let tracker = made(rt, Tracker::read(alloc, TRACKER));
-    by_itself(rt, alloc, archive, &tracker);
-    beside(rt, alloc, archive, &tracker, TRACKER);
+    by_itself(rt, alloc, archive, &tracker, TRACKER);
+    with_marks(rt, alloc, archive, &tracker, TRACKER);
     with_opening_rows(rt, alloc, archive, &tracker, TRACKER);
 }
 

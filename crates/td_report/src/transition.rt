@@ -12,8 +12,7 @@ use td_rows::{Key, Row, Rows};
 use td_waves::{Level, Waves};
 
 /// What a tracker makes of an archive: which rows are affected, and in which levels their sources
-/// can be rebuilt. The only ways to one are `of`, `with_marks`, `with_marks_beside` and
-/// `with_opening_rows`.
+/// can be rebuilt. The only ways to one are `of`, `with_marks` and `with_opening_rows`.
 #[derive(Drop)]
 pub struct Transition<'b, 't, 'a, 'q> {
     pub(crate) archive: &'b Archive<'t, 'a>,
@@ -26,49 +25,31 @@ impl<'b, 't, 'a, 'q> Transition<'b, 't, 'a, 'q> {
     ghost use Rattle.std.specs.Prelude.{◌≡◌, ◌≤◌, IfOk, IfSome, string_bytes};
     ghost use Rattle.td_query.specs.Marks.{AreMarks};
     ghost use Rattle.td_query.specs.Statuses.{status_of};
-    ghost use Rattle.td_query.specs.Tracking.{tracking};
+    ghost use Rattle.td_query.specs.Tracking.{IsTracker, tracking};
     ghost use Rattle.td_report.specs.Groups.{AreCounts};
     ghost use Rattle.td_report.specs.Transition.{IsReport, IsWaves};
     ghost use Rattle.td_report.specs.TransitionView as of;
 
-    /// A tracker's transition over an archive. Each query is evaluated once on each stanza.
+    /// The transition of a text's tracker over an archive. Each query is evaluated once on each
+    /// stanza, by several threads, of which some read the tracker anew from the text.
     pub fn of(
+        rt: &(impl Threads + Sync),
         alloc: Global,
         archive: &'b Archive<'t, 'a>,
         tracker: &'b Tracker<'q>,
+        text: &str,
     ) -> Result<Transition<'b, 't, 'a, 'q>, AllocError>
+        requires { IsTracker text.now (tracking tracker.now) }
         ensures made { IfOk result of.IsMade }
         ensures archive { IfOk result (λ x. of.contents_of x ≡ archive.now) }
         ensures tracking { IfOk result (λ x. of.tracking_of x ≡ tracking tracker.now) }
     {
-        let marks = Marks::make(alloc, archive, tracker)?;
-        Transition::with_marks(alloc, archive, tracker, marks)
+        let marks = Marks::make_beside(rt, alloc, archive, tracker, text)?;
+        Transition::with_marks(rt, alloc, archive, tracker, marks)
     }
 
-    /// The same, where the marks of the archive were made before.
+    /// A tracker's transition over an archive whose marks were made before.
     pub fn with_marks(
-        alloc: Global,
-        archive: &'b Archive<'t, 'a>,
-        tracker: &'b Tracker<'q>,
-        marks: Marks,
-    ) -> Result<Transition<'b, 't, 'a, 'q>, AllocError>
-        requires { AreMarks archive.now (tracking tracker.now) marks }
-        ensures made { IfOk result of.IsMade }
-        ensures archive { IfOk result (λ x. of.contents_of x ≡ archive.now) }
-        ensures tracking { IfOk result (λ x. of.tracking_of x ≡ tracking tracker.now) }
-    {
-        let names = marks.affected_sources(alloc, archive)?;
-        let waves = Waves::of(alloc, archive, &names)?;
-        Ok(Transition {
-            archive,
-            tracker,
-            marks,
-            waves,
-        })
-    }
-
-    /// The same, in several threads where many sources are affected.
-    pub fn with_marks_beside(
         rt: &(impl Threads + Sync),
         alloc: Global,
         archive: &'b Archive<'t, 'a>,

@@ -17,7 +17,7 @@ ghost use Rattle.td_rows.specs.StateFile.{IsStateFile};
 ghost use Rattle.td_rows.specs.Table.{Table};
 ghost use Rattle.td_script.specs.OpeningInside.{AreReadableWith, CanReplace, Stops, IsRefusedBy};
 ghost use Rattle.td_script.specs.OpeningInside.{IsPutOver, IsRefusedIn, IsReplacedIn, IsToldFrom};
-ghost use Rattle.td_script.specs.OpeningInside.{IsTrackerOf, IsUntold, TellsOrRefuses, of_input};
+ghost use Rattle.td_script.specs.OpeningInside.{IsUntold, TellsOrRefuses, of_input};
 
 use crate::files::Files;
 use crate::input_fault::InputFault;
@@ -157,18 +157,21 @@ impl<S: Staff, F: Fn(Asked) -> Result<Told, ReadError>> Run<'_, S, F> {
         told_or_refused((self.tell)(asked))
     }
 
-    // The same, with the reports of a tracker.
+    // What is told from these rows with the reports of the tracker of a text.
     fn tell_tracked(
         &self,
+        rt: &(impl Threads + Sync),
         archive: &Archive<'_, '_>,
-        tracker: &Tracker<'_>,
         rows: Rows,
+        tracker: &Tracker<'_>,
+        text: &str,
     ) -> Result<Told, RunFault>
         requires answers { CanAnswer (S.tells self.now.staff.now) (F.pre self.now.tell.now)
             (F.post self.now.tell.now) }
         requires archive { IsArchiveOf (texts_lent self.now.files) archive.now }
         requires rows { AreRowsOf archive.now (texts_lent self.now.files).state rows }
-        requires tracker { IsTrackerOf (texts_lent self.now.files) (tracking tracker.now) }
+        requires given { (texts_lent self.now.files).tracker ≡ Some text.now }
+        requires tracker { IsTracker text.now (tracking tracker.now) }
         requires idle { NoneBuilt rows }
         ensures tells { TellsOrRefuses (S.tells self.now.staff.now) (texts_lent self.now.files)
             self.now.script.now result }
@@ -176,7 +179,7 @@ impl<S: Staff, F: Fn(Asked) -> Result<Told, ReadError>> Run<'_, S, F> {
             IsJournalIfGiven rows (texts_lent self.now.files).journal
             → fault ≡ RunFault.NoMemory) }
     {
-        match Transition::of(self.alloc, archive, tracker) {
+        match Transition::of(rt, self.alloc, archive, tracker, text) {
             Ok(transition) => {
                 let told = self.tell_from(archive, rows, Some(&transition));
                 drop(transition);
@@ -186,9 +189,10 @@ impl<S: Staff, F: Fn(Asked) -> Result<Told, ReadError>> Run<'_, S, F> {
         }
     }
 
-    // The same, with the reports of the tracker of a text.
+    // What is told from these rows, by what the text of a tracker is read as.
     fn tell_with_tracker(
         &self,
+        rt: &(impl Threads + Sync),
         archive: &Archive<'_, '_>,
         rows: Rows,
         text: &str,
@@ -208,7 +212,7 @@ impl<S: Staff, F: Fn(Asked) -> Result<Told, ReadError>> Run<'_, S, F> {
     {
         match Tracker::read(self.alloc, text) {
             Ok(tracker) => {
-                let told = self.tell_tracked(archive, &tracker, rows);
+                let told = self.tell_tracked(rt, archive, rows, &tracker, text);
                 drop(tracker);
                 told
             }
@@ -216,7 +220,7 @@ impl<S: Staff, F: Fn(Asked) -> Result<Told, ReadError>> Run<'_, S, F> {
         }
     }
 
-    // The same without reports.
+    // What is told from these rows without reports.
     fn tell_untracked(&self, archive: &Archive<'_, '_>, rows: Rows) -> Result<Told, RunFault>
         requires answers { CanAnswer (S.tells self.now.staff.now) (F.pre self.now.tell.now)
             (F.post self.now.tell.now) }
@@ -234,7 +238,11 @@ impl<S: Staff, F: Fn(Asked) -> Result<Told, ReadError>> Run<'_, S, F> {
     }
 
     // What is told over an archive.
-    fn tell_over_archive(&self, archive: &Archive<'_, '_>) -> Result<Told, RunFault>
+    fn tell_over_archive(
+        &self,
+        rt: &(impl Threads + Sync),
+        archive: &Archive<'_, '_>,
+    ) -> Result<Told, RunFault>
         requires answers { CanAnswer (S.tells self.now.staff.now) (F.pre self.now.tell.now)
             (F.post self.now.tell.now) }
         requires archive { IsArchiveOf (texts_lent self.now.files) archive.now }
@@ -249,7 +257,7 @@ impl<S: Staff, F: Fn(Asked) -> Result<Told, ReadError>> Run<'_, S, F> {
             Err(fault) => return Err(fault),
         };
         match self.files.tracker {
-            Some(text) => self.tell_with_tracker(archive, rows, text),
+            Some(text) => self.tell_with_tracker(rt, archive, rows, text),
             None => self.tell_untracked(archive, rows),
         }
     }
@@ -276,7 +284,7 @@ impl<S: Staff, F: Fn(Asked) -> Result<Told, ReadError>> Run<'_, S, F> {
         } = self.files;
         match Archive::read_beside(rt, self.alloc, packages, sources, archs) {
             Ok(archive) => {
-                let told = self.tell_over_archive(&archive);
+                let told = self.tell_over_archive(rt, &archive);
                 drop(archive);
                 told
             }

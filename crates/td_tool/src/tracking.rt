@@ -201,7 +201,7 @@ fn marks_say(
     ensures { IfOk result (λ text.
         saying_of asked archive.now (tracking tracker.now) rows.now (string_bytes text)) }
 {
-    let transition = Transition::with_marks_beside(rt, alloc, archive, tracker, marks)?;
+    let transition = Transition::with_marks(rt, alloc, archive, tracker, marks)?;
     told(rt, alloc, &transition, rows, asked)
 }
 

@@ -6,7 +6,7 @@ use Rattle.td_report.proofs.Items.{are_levels}
 use Rattle.td_report.proofs.transition.Transition.with_marks.Goals as goal
 
 pub returns-clause-made : goal.returns-clause-made
-returns-clause-made c =
+returns-clause-made g c =
     let t = tracking c.args.tracker.now in
     let w = c.in_ok-waves.waves in
     record {

@@ -1,4 +1,4 @@
--- `Run::tell_with_tracker`: its clauses and the tracker of the call of `tell_tracked`.
+-- `Run::tell_with_tracker`: its clauses.
 use Rattle.std.proofs.Common.{sym, subst}
 use Rattle.std.proofs.lemmas.Result.{IfErr-weaker}
 use Rattle.td_script.specs.OpeningInside.{IsRefusedBy, Stops}
@@ -6,10 +6,6 @@ use Rattle.td_script.specs.Openings.{texts_lent}
 use Rattle.td_script.proofs.OnlyLaws.{memory_stops, tracker_stops}
 use Rattle.td_script.proofs.OpeningLaws.{tracker_refused}
 use Rattle.td_script.proofs.opening.Run.tell_with_tracker.Goals as goal
-
-pub tell_tracked-told-requires-clause-tracker : goal.tell_tracked-told-requires-clause-tracker
-tell_tracked-told-requires-clause-tracker g c =
-    (c.args.text.now, c.requires.tracker, c.in-Ok.ensures.found)
 
 pub returns-in-Ok-clause-tells : goal.returns-in-Ok-clause-tells
 returns-in-Ok-clause-tells g c = c.tell_tracked-told.ensures.tells
