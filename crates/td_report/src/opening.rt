@@ -41,7 +41,7 @@ fn rows_and_waves<'a, R: Threads + Sync>(
             (IsAffected names.entry.now) (BuildsOn archive.entry.now) source
             (level_of waves source)) }
         ensures depth { IfOk result (λ waves. IsDepth (level_of waves) (depth_of waves)) }
-    { Waves::of_beside(rt, alloc, archive, names) };
+    { Waves::of(rt, alloc, archive, names) };
     thread::join(rt, of_rows, of_waves)
 }
 

@@ -62,7 +62,7 @@ impl<'b, 't, 'a, 'q> Transition<'b, 't, 'a, 'q> {
         ensures tracking { IfOk result (λ x. of.tracking_of x ≡ tracking tracker.now) }
     {
         let names = marks.affected_sources(alloc, archive)?;
-        let waves = Waves::of_beside(rt, alloc, archive, &names)?;
+        let waves = Waves::of(rt, alloc, archive, &names)?;
         Ok(Transition {
             archive,
             tracker,

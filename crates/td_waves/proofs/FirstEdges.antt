@@ -11,7 +11,7 @@ use Rattle.td_indices.specs.Archive.{Contents}
 use Rattle.td_waves.specs.Asking.{has}
 use Rattle.td_waves.specs.BuildsOn.{builds_on}
 use Rattle.td_waves.specs.Edges.{AreEdges, AreFirstEdges, name_at}
-use Rattle.td_waves.specs.inner.EdgesBeside.{AreEdgesBetween}
+use Rattle.td_waves.specs.inner.EdgesBetween.{AreEdgesBetween}
 use Rattle.td_waves.proofs.Graphs.{in_range, node_more}
 
 module _ (a : Contents) (names : List (Bor (List ℕ))) where

@@ -1,2 +1,2 @@
 -- What contracts say for the code's sake: what each thread is lent, and what it makes of it.
-pub mod EdgesBeside
+pub mod EdgesBetween

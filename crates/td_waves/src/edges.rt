@@ -1,17 +1,26 @@
 //! Which affected sources build on which.
 ghost use Rattle.std.specs.Prelude.{◌≡◌, ◌&&◌, ◌<◌, ◌≤◌, ℕ, IfOk, IsOk, None, length, nat_lt};
 ghost use Rattle.std.specs.List.{All};
+ghost use denote.Param.Send.{IsSync};
 ghost use Rattle.td_indices.specs.Archive.{number_named};
 ghost use Rattle.td_waves.specs.Asking.{has};
 ghost use Rattle.td_waves.specs.BuildsOn.{builds_on};
 ghost use Rattle.td_waves.specs.Edges.{AreEdges, name_at};
-ghost use Rattle.td_waves.specs.inner.EdgesBeside.{AreEdgesBetween, AreProviders};
+ghost use Rattle.td_waves.specs.inner.EdgesBetween.{AreEdgesBetween, AreProviders};
 
 use crate::asking::Asker;
 use crate::providers::Providers;
 use indexmap::IndexSet;
 use std::alloc::{AllocError, Global};
+use std::thread;
+use std::thread::Threads;
 use td_indices::Archive;
+
+/// The fewest sources that are worth a second thread.
+const LEAST: usize = 256;
+
+/// How often the sources are halved for threads, at most: into eight parts.
+const HALVINGS: usize = 3;
 
 // The numbers of the affected sources on which the one with this number builds. A name that no
 // source of the archive has builds on none, and that takes no memory.
@@ -44,9 +53,9 @@ fn bases_of<'a>(
     asker.bases(alloc)
 }
 
-/// For each of the sources from one with a number up to another, the numbers of those on which it
-/// builds, some of them more than once.
-pub fn edges_between<'a>(
+// For each of the sources from one with a number up to another, the numbers of those on which it
+// builds, some of them more than once.
+fn edges_between<'a>(
     alloc: Global,
     archive: &Archive<'_, 'a>,
     names: &IndexSet<&str>,
@@ -67,9 +76,53 @@ pub fn edges_between<'a>(
     Ok(graph)
 }
 
+// The lists that `edges_between` gives, in parts that are halved so often, each in a thread. No list
+// is copied.
+#[cycle(parts)]
+fn edges_in_parts<'a, R: Threads + Sync>(
+    rt: &R,
+    alloc: Global,
+    archive: &Archive<'_, 'a>,
+    names: &IndexSet<&str>,
+    providers: &Providers<'a>,
+    from: usize,
+    to: usize,
+    halvings: usize,
+) -> Result<Vec<Vec<usize>>, AllocError>
+    requires order { from ≤ to }
+    requires within { to ≤ length names.now.keys }
+    requires providers { AreProviders archive.now names.now.keys providers.now }
+    ensures { IfOk result
+        (λ graph. AreEdgesBetween archive.now names.now.keys from to graph.items) }
+{
+    if halvings == 0 || to - from < LEAST {
+        return edges_between(alloc, archive, names, providers, from, to);
+    }
+    let middle = from + (to - from) / 2;
+    let left = halvings - 1;
+    let of_front = move || -> Result<Vec<Vec<usize>>, AllocError>
+        requires { IsSync R.row × (from ≤ middle) × (middle ≤ length names.now.keys)
+            × AreProviders archive.now names.now.keys providers.now }
+        ensures { IfOk result (λ graph.
+            AreEdgesBetween archive.entry.now names.entry.now.keys from middle graph.items) }
+    { edges_in_parts(rt, alloc, archive, names, providers, from, middle, left) };
+    let of_rest = move || -> Result<Vec<Vec<usize>>, AllocError>
+        requires { IsSync R.row × (middle ≤ to) × (to ≤ length names.now.keys)
+            × AreProviders archive.now names.now.keys providers.now }
+        ensures { IfOk result (λ graph.
+            AreEdgesBetween archive.entry.now names.entry.now.keys middle to graph.items) }
+    { edges_in_parts(rt, alloc, archive, names, providers, middle, to, left) };
+    let (front, rest) = thread::join(rt, of_front, of_rest);
+    let mut graph = front?;
+    let mut others = rest?;
+    graph.append(&mut others)?;
+    Ok(graph)
+}
+
 /// For each of these sources, the numbers of those among them on which it builds, some of them more
-/// than once.
-pub fn edges(
+/// than once. Of many sources each thread finds the lists of some.
+pub fn edges<R: Threads + Sync>(
+    rt: &R,
     alloc: Global,
     archive: &Archive<'_, '_>,
     names: &IndexSet<&str>,
@@ -79,5 +132,14 @@ pub fn edges(
         (λ graph. All (λ bases. All (λ b. b < length graph.items) bases.items) graph.items) }
 {
     let providers = Providers::of(alloc, archive, names)?;
-    edges_between(alloc, archive, names, &providers, 0, names.len())
+    edges_in_parts(
+        rt,
+        alloc,
+        archive,
+        names,
+        &providers,
+        0,
+        names.len(),
+        HALVINGS,
+    )
 }

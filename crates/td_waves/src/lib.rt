@@ -2,8 +2,7 @@
 //! give.
 //!
 //! Start at `Waves::of`. Which source builds on which is said by `specs/BuildsOn.antt`, where a
-//! source stands then by `specs/Levels.antt`, which knows no order of work. `Waves::of_beside`
-//! gives the same levels, with the help of several threads.
+//! source stands then by `specs/Levels.antt`, which knows no order of work and no threads.
 //! Promised: each affected source has the level at which it stands, or is cyclic. It takes a
 //! look-up for each alternative of an affected source's build, and a step for each source and edge;
 //! that no clause says.
@@ -11,7 +10,6 @@
 
 mod asking;
 mod edges;
-mod edges_beside;
 mod fitting;
 mod graph;
 mod laws;

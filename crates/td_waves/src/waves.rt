@@ -1,6 +1,5 @@
 //! The levels of affected sources, by their names.
 use crate::edges::edges;
-use crate::edges_beside::edges_beside;
 use crate::level::Level;
 use crate::named::each_once;
 use crate::placing::{Levelling, levels};
@@ -23,25 +22,8 @@ impl<'n> Waves<'n> {
     ghost use Rattle.td_waves.specs.WavesView.{depth_of, level_of};
 
     /// The levels of the sources with these names. A name that the archive has no source of builds
-    /// on nothing.
+    /// on nothing. Which sources build on which is found in several threads, where there are many.
     pub fn of(
-        alloc: Global,
-        archive: &Archive<'_, '_>,
-        affected: &[&'n str],
-    ) -> Result<Waves<'n>, AllocError>
-        ensures levels { IfOk result (λ waves. (source : List ℕ) → StandsAt
-            (IsAffected affected.now) (BuildsOn archive.now) source (level_of waves source)) }
-        ensures depth { IfOk result (λ waves. IsDepth (level_of waves) (depth_of waves)) }
-    {
-        let names = each_once(alloc, affected)?;
-        let graph = edges(alloc, archive, &names)?;
-        let levels = levels(alloc, &graph)?;
-        Ok(Waves { names, levels })
-    }
-
-    /// The same levels. Which sources build on which is found in several threads, where there are
-    /// many.
-    pub fn of_beside(
         rt: &(impl Threads + Sync),
         alloc: Global,
         archive: &Archive<'_, '_>,
@@ -52,7 +34,7 @@ impl<'n> Waves<'n> {
         ensures depth { IfOk result (λ waves. IsDepth (level_of waves) (depth_of waves)) }
     {
         let names = each_once(alloc, affected)?;
-        let graph = edges_beside(rt, alloc, archive, &names)?;
+        let graph = edges(rt, alloc, archive, &names)?;
         let levels = levels(alloc, &graph)?;
         Ok(Waves { names, levels })
     }

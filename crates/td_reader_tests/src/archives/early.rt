@@ -89,7 +89,7 @@ fn told_flagged(
     flags: &[bool],
 ) -> Result<String, AllocError> {
     let names = archive.names_of(alloc, flags)?;
-    match Waves::of_beside(rt, alloc, archive, &names) {
+    match Waves::of(rt, alloc, archive, &names) {
         Ok(waves) => {
             let told = told_in_levels(alloc, archive, marks, &waves);
             drop(waves);

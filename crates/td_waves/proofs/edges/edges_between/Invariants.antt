@@ -1,5 +1,5 @@
 -- What the loop of `edges_between` keeps.
-use Rattle.td_waves.specs.inner.EdgesBeside.{AreEdgesBetween}
+use Rattle.td_waves.specs.inner.EdgesBetween.{AreEdgesBetween}
 use Rattle.td_waves.proofs.edges.edges_between.Given as goal
 
 -- the lists up to the number

@@ -5,7 +5,7 @@ use Rattle.td_waves.proofs.Standing.{sources_deep, sources_stand}
 use Rattle.td_waves.proofs.waves.Waves.of.Goals as goal
 
 pub returns-clause-levels : goal.returns-clause-levels
-returns-clause-levels c =
+returns-clause-levels g c =
     let a = c.args.archive.now in
     let keys = c.in_ok-names.names.keys in
     let graph = c.deref.result.now in
@@ -15,7 +15,7 @@ returns-clause-levels c =
     c.in_ok-levels.ensures.levels
 
 pub returns-clause-depth : goal.returns-clause-depth
-returns-clause-depth c =
+returns-clause-depth g c =
     let a = c.args.archive.now in
     let keys = c.in_ok-names.names.keys in
     let graph = c.deref.result.now in

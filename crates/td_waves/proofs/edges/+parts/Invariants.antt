@@ -1,6 +1,6 @@
 -- By what `edges_in_parts` ends.
 use Rattle.std.proofs.Common.{◌+◌, ◌*◌}
-use Rattle.td_waves.proofs.edges_beside.+parts.Given as goal
+use Rattle.td_waves.proofs.edges.+parts.Given as goal
 
 -- how often the part may be halved still; the two closures stand between that and the next
 abbrev pub decreases-edges_in_parts : goal.decreases-edges_in_parts
