@@ -87,7 +87,7 @@ fn with_marks(
 )
     requires { IsTracker text.now (tracking tracker.now) }
 {
-    let marks = made(rt, Marks::make_beside(rt, alloc, archive, tracker, text));
+    let marks = made(rt, Marks::make(rt, alloc, archive, tracker, text));
     let of_marks = Transition::with_marks(rt, alloc, archive, tracker, marks);
     let transition = made(rt, of_marks);
     over_all_rows(rt, alloc, archive, &transition);
@@ -104,7 +104,7 @@ fn with_opening_rows(
 )
     requires { IsTracker text.now (tracking tracker.now) }
 {
-    let marks = made(rt, Marks::make_beside(rt, alloc, archive, tracker, text));
+    let marks = made(rt, Marks::make(rt, alloc, archive, tracker, text));
     let with_rows = Transition::with_opening_rows(rt, alloc, archive, tracker, marks);
     let (transition, rows) = made(rt, with_rows);
     are_reported(rt, alloc, &transition, &rows);

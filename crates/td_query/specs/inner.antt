@@ -1,5 +1,5 @@
 -- What contracts cite for the code's sake alone.
 pub mod Settling
 pub mod Alike
-pub mod MarksBeside
+pub mod MarkParts
 pub mod FlagsBetween

@@ -16,13 +16,11 @@
 #![tactic(auto)]
 
 mod affected;
-mod affected_beside;
 mod atom;
 mod compiling;
 mod laws;
 mod mark;
 mod marking;
-mod marking_beside;
 mod marks;
 mod parse;
 mod query;

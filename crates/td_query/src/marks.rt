@@ -4,13 +4,11 @@ ghost use Rattle.td_query.specs.Marks.{no_mark};
 
 use crate::mark::Mark;
 use crate::marking::mark_stanzas;
-use crate::marking_beside::mark_beside;
 use crate::status::Status;
 use crate::tracker::Tracker;
-use crate::truth::matchers_of;
 use std::alloc::{AllocError, Global};
 use std::thread::Threads;
-use td_indices::{Archive, IndexFile, is_on};
+use td_indices::{Archive, is_on};
 
 // The mark with a number, and none past the last.
 fn mark_at(marks: &[Mark], number: usize) -> Mark
@@ -37,22 +35,9 @@ impl Marks {
     ghost use Rattle.td_query.specs.Statuses.{is_affected_at, status_at};
     ghost use Rattle.td_query.specs.Tracking.{IsTracker, Tracking, tracking};
 
-    /// The marks of an archive: each query is evaluated once on each stanza that was kept.
+    /// The marks of an archive by the tracker of a text: each query is evaluated once on each stanza
+    /// that was kept. Four threads make them, of which three read the tracker anew from the text.
     pub fn make(
-        alloc: Global,
-        archive: &Archive<'_, '_>,
-        tracker: &Tracker<'_>,
-    ) -> Result<Marks, AllocError>
-        ensures marks { IfOk result (AreMarks archive.now (tracking tracker.now)) }
-    {
-        let mut matchers = matchers_of(alloc, tracker.patterns.as_slice())?;
-        let packages = mark_stanzas(alloc, archive, IndexFile::Packages, tracker, &mut matchers)?;
-        let sources = mark_stanzas(alloc, archive, IndexFile::Sources, tracker, &mut matchers)?;
-        Ok(Marks { packages, sources })
-    }
-
-    /// The same marks, made in four threads, of which three read the tracker anew from its text.
-    pub fn make_beside(
         rt: &(impl Threads + Sync),
         alloc: Global,
         archive: &Archive<'_, '_>,
@@ -62,7 +47,7 @@ impl Marks {
         requires { IsTracker text.now (tracking tracker.now) }
         ensures marks { IfOk result (AreMarks archive.now (tracking tracker.now)) }
     {
-        let (packages, sources) = mark_beside(rt, alloc, archive, tracker, text)?;
+        let (packages, sources) = mark_stanzas(rt, alloc, archive, tracker, text)?;
         Ok(Marks { packages, sources })
     }
 

@@ -1,7 +1,10 @@
 //! Statuses over two small archives. Expected by hand, from the rules in `docs/FORMATS.md`.
+ghost use Rattle.td_query.specs.Tracking.{IsTracker, tracking};
+
 use crate::checks::{is_told, made};
 use std::alloc::{AllocError, Global};
 use std::process::Abort;
+use std::thread::Threads;
 use td_indices::Archive;
 use td_query::{Marks, Status, Tracker};
 use td_relation::Archs;
@@ -180,14 +183,18 @@ fn statuses_marked(
     Ok(out)
 }
 
-/// The statuses of these rows by a tracker.
+/// The statuses of these rows by the tracker of a text.
 fn statuses_by(
+    rt: &(impl Threads + Sync),
     alloc: Global,
     archive: &Archive<'_, '_>,
     tracker: &Tracker<'_>,
+    text: &str,
     rows: &str,
-) -> Result<String, AllocError> {
-    match Marks::make(alloc, archive, tracker) {
+) -> Result<String, AllocError>
+    requires { IsTracker text.now (tracking tracker.now) }
+{
+    match Marks::make(rt, alloc, archive, tracker, text) {
         Ok(marks) => {
             let told = statuses_marked(alloc, archive, tracker, &marks, rows);
             drop(marks);
@@ -197,16 +204,17 @@ fn statuses_by(
     }
 }
 
-/// The statuses of these rows by the tracker of a text.
+/// The statuses of these rows by what a text is read as.
 fn statuses(
+    rt: &(impl Threads + Sync),
     alloc: Global,
     archive: &Archive<'_, '_>,
-    tracker: &str,
+    text: &str,
     rows: &str,
 ) -> Result<String, AllocError> {
-    match Tracker::read(alloc, tracker) {
+    match Tracker::read(alloc, text) {
         Ok(tracker) => {
-            let told = statuses_by(alloc, archive, &tracker, rows);
+            let told = statuses_by(rt, alloc, archive, &tracker, text, rows);
             drop(tracker);
             told
         }
@@ -219,7 +227,7 @@ type Asked = (&'static str, &'static str, &'static str);
 
 /// Asks each tracker for the statuses of its rows over the archive of these texts.
 fn are_graded<'x>(
-    rt: &impl Abort,
+    rt: &(impl Threads + Abort + Sync),
     alloc: Global,
     table: &'x str,
     packages: &'x str,
@@ -229,7 +237,7 @@ fn are_graded<'x>(
     let archs = made(rt, Archs::read(alloc, table));
     let archive = made(rt, Archive::read(alloc, packages, sources, &archs));
     for (tracker, rows, expected) in asked {
-        is_told(rt, statuses(alloc, &archive, tracker, rows), expected, rows);
+        is_told(rt, statuses(rt, alloc, &archive, tracker, rows), expected, rows);
     }
     drop(archive);
 }
@@ -296,25 +304,30 @@ fn spaced(alloc: Global, names: &[&str]) -> Result<String, AllocError> {
 
 /// The sources that are marked as affected.
 fn affected_marked(
+    rt: &(impl Threads + Sync),
     alloc: Global,
     archive: &Archive<'_, '_>,
     marks: &Marks,
 ) -> Result<String, AllocError> {
-    match marks.affected_sources(alloc, archive) {
+    match marks.affected_sources(rt, alloc, archive) {
         Ok(names) => spaced(alloc, names.as_slice()),
         Err(error) => Err(error),
     }
 }
 
-/// The sources that a tracker affects.
+/// The sources that the tracker of a text affects.
 fn affected_by(
+    rt: &(impl Threads + Sync),
     alloc: Global,
     archive: &Archive<'_, '_>,
     tracker: &Tracker<'_>,
-) -> Result<String, AllocError> {
-    match Marks::make(alloc, archive, tracker) {
+    text: &str,
+) -> Result<String, AllocError>
+    requires { IsTracker text.now (tracking tracker.now) }
+{
+    match Marks::make(rt, alloc, archive, tracker, text) {
         Ok(marks) => {
-            let told = affected_marked(alloc, archive, &marks);
+            let told = affected_marked(rt, alloc, archive, &marks);
             drop(marks);
             told
         }
@@ -322,11 +335,16 @@ fn affected_by(
     }
 }
 
-/// The sources that the tracker of a text affects.
-fn affected(alloc: Global, archive: &Archive<'_, '_>, tracker: &str) -> Result<String, AllocError> {
-    match Tracker::read(alloc, tracker) {
+/// The sources that are affected by what a text is read as.
+fn affected(
+    rt: &(impl Threads + Sync),
+    alloc: Global,
+    archive: &Archive<'_, '_>,
+    text: &str,
+) -> Result<String, AllocError> {
+    match Tracker::read(alloc, text) {
         Ok(tracker) => {
-            let told = affected_by(alloc, archive, &tracker);
+            let told = affected_by(rt, alloc, archive, &tracker, text);
             drop(tracker);
             told
         }
@@ -335,7 +353,7 @@ fn affected(alloc: Global, archive: &Archive<'_, '_>, tracker: &str) -> Result<S
 }
 
 fn is_affecting(
-    rt: &impl Abort,
+    rt: &(impl Threads + Abort + Sync),
     alloc: Global,
     archive: &Archive<'_, '_>,
     query: &str,
@@ -343,11 +361,15 @@ fn is_affecting(
 ) {
     let text = format!(in alloc; "is_affected = {query}; is_good = true; is_bad = true;");
     let tracker = made(rt, text);
-    let told = affected(alloc, archive, tracker.as_str());
+    let told = affected(rt, alloc, archive, tracker.as_str());
     is_told(rt, told, expected, query);
 }
 
-fn are_affecting(rt: &impl Abort, alloc: Global, archive: &Archive<'_, '_>) {
+fn are_affecting(
+    rt: &(impl Threads + Abort + Sync),
+    alloc: Global,
+    archive: &Archive<'_, '_>,
+) {
     for row in QUERIES.split('\n') {
         if let Some((query, expected)) = row.split_once(" →") {
             is_affecting(rt, alloc, archive, query, expected);

@@ -68,7 +68,7 @@ impl<'b, 't, 'a, 'q> Transition<'b, 't, 'a, 'q> {
         ensures tracking { IfOk result (λ p. of.tracking_of p.0 ≡ tracking tracker.now) }
         ensures rows { IfOk result (λ p. StandForAll p.0 p.1) }
     {
-        let flags = marks.affected_flags_beside(rt, alloc, archive)?;
+        let flags = marks.affected_flags(rt, alloc, archive)?;
         let names = archive.names_of(alloc, &flags)?;
         let (rows, waves) = rows_and_waves(rt, alloc, archive, &flags, &names);
         let transition = Transition {

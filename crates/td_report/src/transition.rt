@@ -44,7 +44,7 @@ impl<'b, 't, 'a, 'q> Transition<'b, 't, 'a, 'q> {
         ensures archive { IfOk result (λ x. of.contents_of x ≡ archive.now) }
         ensures tracking { IfOk result (λ x. of.tracking_of x ≡ tracking tracker.now) }
     {
-        let marks = Marks::make_beside(rt, alloc, archive, tracker, text)?;
+        let marks = Marks::make(rt, alloc, archive, tracker, text)?;
         Transition::with_marks(rt, alloc, archive, tracker, marks)
     }
 
@@ -61,7 +61,7 @@ impl<'b, 't, 'a, 'q> Transition<'b, 't, 'a, 'q> {
         ensures archive { IfOk result (λ x. of.contents_of x ≡ archive.now) }
         ensures tracking { IfOk result (λ x. of.tracking_of x ≡ tracking tracker.now) }
     {
-        let names = marks.affected_sources(alloc, archive)?;
+        let names = marks.affected_sources(rt, alloc, archive)?;
         let waves = Waves::of(rt, alloc, archive, &names)?;
         Ok(Transition {
             archive,

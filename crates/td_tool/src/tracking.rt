@@ -153,7 +153,7 @@ fn rows_beside(
     let of_marks = move || -> Result<Marks, AllocError>
         requires { IsTracker text.now (tracking tracker.now) }
         ensures { IfOk result (AreMarks archive.entry.now (tracking tracker.entry.now)) }
-    { Marks::make_beside(rt, alloc, archive, tracker, text) };
+    { Marks::make(rt, alloc, archive, tracker, text) };
     thread::join(rt, of_rows, of_marks)
 }
 
@@ -247,7 +247,7 @@ fn opening_says(
         RowsAreSaid (saying_of asked) archive.now None (tracking tracker.now)
         (string_bytes said)) }
 {
-    let marks = Marks::make_beside(rt, alloc, archive, tracker, text)?;
+    let marks = Marks::make(rt, alloc, archive, tracker, text)?;
     let (transition, rows) = Transition::with_opening_rows(rt, alloc, archive, tracker, marks)?;
     told(rt, alloc, &transition, &rows, asked)
 }

@@ -106,7 +106,7 @@ fn told_marked(
     archive: &Archive<'_, '_>,
     marks: &Marks,
 ) -> Result<String, AllocError> {
-    match marks.affected_flags_beside(rt, alloc, archive) {
+    match marks.affected_flags(rt, alloc, archive) {
         Ok(flags) => told_flagged(rt, alloc, archive, marks, flags.as_slice()),
         Err(error) => Err(error),
     }
@@ -139,7 +139,7 @@ fn told(
 ) -> Result<String, AllocError> {
     match Tracker::read(alloc, text) {
         Ok(tracker) => {
-            let marks = Marks::make_beside(rt, alloc, archive, &tracker, text);
+            let marks = Marks::make(rt, alloc, archive, &tracker, text);
             told_by(rt, alloc, archive, marks)
         }
         Err(_) => String::from_str(alloc, "no tracker"),

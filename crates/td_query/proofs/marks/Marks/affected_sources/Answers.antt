@@ -8,7 +8,7 @@ use Rattle.td_query.proofs.AffectedSources.{flagged-map}
 use Rattle.td_query.proofs.marks.Marks.affected_sources.Goals as goal
 
 pub returns : goal.returns
-returns c =
+returns g c =
     let a = c.args.archive.now in
     record {
       names = λ t of. IfOk-weaker c.names_of.result _ _

@@ -5,7 +5,7 @@ use Rattle.td_query.specs.Marks.{MarkBetween, kept_fields}
 use Rattle.td_query.specs.Tracking.{tracking}
 use Rattle.td_query.proofs.AlikePatterns.{alike_still}
 use Rattle.td_query.proofs.SameTrackers.{alike_patterns, same_marks}
-use Rattle.td_query.proofs.marking_beside.between_by_text.Goals as goal
+use Rattle.td_query.proofs.marking.between_by_text.Goals as goal
 
 pub returns : goal.returns
 returns c t is =

@@ -1,6 +1,6 @@
 -- By what `flags_in_parts` ends.
 use Rattle.std.proofs.Common.{◌+◌, ◌*◌}
-use Rattle.td_query.proofs.affected_beside.+parts.Given as goal
+use Rattle.td_query.proofs.affected.+parts.Given as goal
 
 -- how often the part may be halved still; the two closures stand between that and the next
 abbrev pub decreases-flags_in_parts : goal.decreases-flags_in_parts
