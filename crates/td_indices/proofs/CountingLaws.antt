@@ -81,14 +81,14 @@ module _ {A : Type 0} (same lower : A → A → Bool) (o : Orders same lower) wh
       (all-append Low h.before (y ∷ h.after) earlier ((λ e. less), later))
 
   -- where two have one key, a third that has another than the one has another than the other too
-  pub foreign : (x y w : A) → same x y ≡ true → same y w ≡ false → same x w ≡ false
+  foreign : (x y w : A) → same x y ≡ true → same y w ≡ false → same x w ≡ false
   foreign x y w is other =
       elim (cases_Bool (same x w)) [
         | inl bad ↦ absurd (let e = sym other ∙ o.along y x w (o.back x y is) bad in cc)
         | inr fine ↦ fine
       ]
 
-  pub turned : (x y : A) → same x y ≡ false → same y x ≡ false
+  turned : (x y : A) → same x y ≡ false → same y x ≡ false
   turned x y other =
       elim (cases_Bool (same y x)) [
         | inl bad ↦ absurd (let e = sym other ∙ o.back y x bad in cc)
@@ -314,7 +314,7 @@ package_again a b names homes =
     subst (λ (h : Option ℕ). same_home a.head.home h ≡ true) homes (same_home-refl a.head.home) in
     rw (first, second) refl
 
-pub package_orders : Orders same_package lower_package
+package_orders : Orders same_package lower_package
 package_orders = record {
   itself = λ x. package_again x x refl refl;
   back = λ x y h. (let p = package_parts x y h in package_again y x (sym p.0) (sym p.1));

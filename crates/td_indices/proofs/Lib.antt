@@ -17,7 +17,6 @@ pub mod CountingLaws
 pub mod LegalNames
 pub mod OpeningRows
 pub mod Filling
-pub mod KeptAgain
 pub mod KeptStanzas
 pub mod Names
 pub mod OwnPlaces

@@ -15,9 +15,7 @@ use Rattle.td_indices.specs.Kept.{KeptBinary, binaries_of, binary_at, binary_of,
 use Rattle.td_indices.specs.Kept.{same_package}
 use Rattle.td_indices.specs.Reading.{binary_step, over_stanzas}
 use Rattle.td_indices.specs.inner.IndexReading.{IsOfStanza}
-use Rattle.td_indices.specs.inner.Parts.{AreKeptIn, IsFaultFrom, StandFor, kept_from, packages_in}
-use Rattle.td_indices.specs.inner.Parts.{put_all}
-use Rattle.td_indices.proofs.KeptAgain.{kept_behind, kept_still}
+use Rattle.td_indices.specs.inner.Parts.{IsFaultFrom, StandFor, kept_from, packages_in, put_all}
 
 -- packages, and others behind them
 pub put_all-append : (seen : List KeptBinary) (xs ys zs : List (PackageKey × Packaged))
@@ -39,49 +37,35 @@ pub packages_in-append : (xs ys zs : List (Vec (PackageKey × Packaged))) → zs
     → packages_in zs ≡ packages_in xs ++ packages_in ys
 packages_in-append xs ys zs is = rw is (flat_map-append (λ v. v.items) xs ys)
 
-module _ (table : List ArchWords) (stanzas : List (List Entry)) (known : ℕ) where
+module _ (table : List ArchWords) (stanzas : List (List Entry)) where
   -- a part by itself
   pub part_alone : (from to : ℕ) (parts : List (Vec (PackageKey × Packaged)))
       (packages : Vec (PackageKey × Packaged)) → parts ≡ packages ∷ []
-      → StandFor table stanzas known from to packages.items
-      → StandFor table stanzas known from to (packages_in parts)
+      → StandFor table stanzas from to packages.items
+      → StandFor table stanzas from to (packages_in parts)
   part_alone from to parts packages is stand =
-      subst (StandFor table stanzas known from to) (sym (packages_in_one parts packages is)) stand
+      subst (StandFor table stanzas from to) (sym (packages_in_one parts packages is)) stand
 
   -- a part, and another behind it
   pub part_behind : (from middle to : ℕ) (xs ys zs : List (Vec (PackageKey × Packaged)))
-      → zs ≡ xs ++ ys → StandFor table stanzas known from middle (packages_in xs)
-      → StandFor table stanzas known middle to (packages_in ys)
-      → StandFor table stanzas known from to (packages_in zs)
-  part_behind from middle to xs ys zs is front rest seen holds =
-      let before : List KeptBinary = put_all seen (binaries_of (packages_in xs)) in
-      let first = front seen holds in
-      let second = rest before
-      (kept_still table stanzas 0 known seen (binaries_of (packages_in xs)) holds) in
-      let all : put_all seen (binaries_of (packages_in zs))
-      ≡ put_all before (binaries_of (packages_in ys)) =
-      put_all-append seen (packages_in xs) (packages_in ys) (packages_in zs)
-      (packages_in-append xs ys zs is) in (
-        first.0 ∙ second.0 ∙ ap (kept_from table stanzas to) (sym all),
-        subst (AreKeptIn table stanzas from to) (sym all)
-            (kept_behind table stanzas from middle to
-            (put_all before (binaries_of (packages_in ys)))
-            (kept_still table stanzas from middle before (binaries_of (packages_in ys)) first.1)
-            second.1),
-      )
+      → zs ≡ xs ++ ys → StandFor table stanzas from middle (packages_in xs)
+      → StandFor table stanzas middle to (packages_in ys)
+      → StandFor table stanzas from to (packages_in zs)
+  part_behind from middle to xs ys zs is front rest seen =
+      front seen
+      ∙ rest (put_all seen (binaries_of (packages_in xs)))
+      ∙ ap (kept_from table stanzas to)
+      (sym (put_all-append seen (packages_in xs) (packages_in ys) (packages_in zs)
+      (packages_in-append xs ys zs is)))
 
   -- a part, and a fault behind it
   pub fault_behind : (from middle : ℕ) (packages : List (PackageKey × Packaged)) (e : ArchiveFault)
-      → StandFor table stanzas known from middle packages
-      → IsFaultFrom table stanzas known middle e
-      → IsFaultFrom table stanzas known from e
-  fault_behind from middle packages e front fault seen holds =
-      subst (λ (r : Result (List KeptBinary) ArchiveFault). IsOfStanza r e)
-      (sym (front seen holds).0)
-      (fault (put_all seen (binaries_of packages))
-      (kept_still table stanzas 0 known seen (binaries_of packages) holds))
+      → StandFor table stanzas from middle packages → IsFaultFrom table stanzas middle e
+      → IsFaultFrom table stanzas from e
+  fault_behind from middle packages e front fault seen =
+      subst (λ (r : Result (List KeptBinary) ArchiveFault). IsOfStanza r e) (sym (front seen))
+      (fault (put_all seen (binaries_of packages)))
 
-module _ (table : List ArchWords) (stanzas : List (List Entry)) where
   -- behind the last stanza nothing is left to read
   pub kept_from-end : (seen : List KeptBinary)
       → kept_from table stanzas (length stanzas) seen ≡ Ok seen

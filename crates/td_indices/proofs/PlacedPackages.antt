@@ -1,6 +1,6 @@
 -- A map of places, by the packages that stand there: looked up, and after one more.
-use Rattle.std.proofs.Common.{◌≡◌, ℕ, zero, suc, true, false, List, [], ◌∷◌, ◌++◌, Option}
-use Rattle.std.proofs.Common.{Some, None, drop, length, slice_get, refl, sym, ap, ◌∙◌}
+use Rattle.std.proofs.Common.{◌≡◌, ℕ, zero, suc, true, false, List, [], ◌∷◌, Option}
+use Rattle.std.proofs.Common.{Some, None, length, slice_get, refl, sym, ap, ◌∙◌}
 use Rattle.std.proofs.Common.{inl, inr}
 use Rattle.std.specs.Prelude.{Bool, if◌then◌else◌, option_and_then, option_map}
 use Rattle.std.specs.Global.{Vec}
@@ -150,50 +150,3 @@ module _ (parts : List (Vec (PackageKey × Packaged))) where
       ap (λ (l : List (PackageKey × Place)). binaries_of (placed parts l)) put_in
       ∙ ap (λ (l : List (PackageKey × Packaged)). binaries_of l) (insert-placed k place v es at are)
       ∙ put_enters (placed parts es) k v (stays-placed es k v had false are is h)
-
--- a place has the same package where more parts stand behind
-packaged_in-more : (parts more : List (Vec (PackageKey × Packaged))) (place : Place) (v : Packaged)
-    → packaged_in parts place ≡ Some v → packaged_in (parts ++ more) place ≡ Some v
-packaged_in-more parts more place v is = by parts place.part is
-  where
-    by : (ps : List (Vec (PackageKey × Packaged))) (n : ℕ)
-        → option_and_then (λ packages. option_map (λ p. p.1) (slice_get packages.items place.at))
-        (slice_get ps n) ≡ Some v
-        → option_and_then (λ packages. option_map (λ p. p.1) (slice_get packages.items place.at))
-        (slice_get (ps ++ more) n) ≡ Some v
-    by [] n h = absurd (let bad : None ≡ Some v = h in cc)
-    by (p ∷ ps) zero h = h
-    by (p ∷ ps) (suc n) h = by ps n h
-
-module _ (parts more : List (Vec (PackageKey × Packaged))) where
-  -- so has each place of a map
-  pub placed-more : (es : List (PackageKey × Place)) → ArePlaced parts es
-      → placed (parts ++ more) es ≡ placed parts es
-  placed-more [] h = refl
-  placed-more (e ∷ es) h =
-      rw (h.0.1, packaged_in-more parts more e.1 h.0.0 h.0.1)
-      (ap (λ (l : List (PackageKey × Packaged)). (e.0, h.0.0) ∷ l) (placed-more es h.1))
-
-  pub are_placed-more : (es : List (PackageKey × Place)) → ArePlaced parts es
-      → ArePlaced (parts ++ more) es
-  are_placed-more [] h = tt
-  are_placed-more (e ∷ es) h =
-      ((h.0.0, packaged_in-more parts more e.1 h.0.0 h.0.1), are_placed-more es h.1)
-
--- what a map's place leads to is what is shown under the key
-pub looked_up : (parts : List (Vec (PackageKey × Packaged))) (k : PackageKey)
-    (es : List (PackageKey × Place)) (shown : List (PackageKey × Packaged)) (place : Option Place)
-    (v : Option Packaged) → ArePlaced parts es → placed parts es ≡ shown
-    → place ≡ lookup (same_key k) es → v ≡ option_and_then (packaged_in parts) place
-    → v ≡ lookup (same_key k) shown
-looked_up parts k es shown place v h view at is =
-    is
-    ∙ ap (option_and_then (packaged_in parts)) at
-    ∙ sym (lookup-placed parts k es h)
-    ∙ ap (lookup (same_key k)) view
-
--- what stands behind some parts
-pub parts_behind : (parts more : List (Vec (PackageKey × Packaged)))
-    → drop (length parts) (parts ++ more) ≡ more
-parts_behind [] more = refl
-parts_behind (p ∷ ps) more = parts_behind ps more

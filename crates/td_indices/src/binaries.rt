@@ -1,7 +1,7 @@
 //! The binary packages that count, where they were read.
 
 use crate::packaged::{PackageKey, Packaged};
-use crate::placing::{Place, keep_parts, packaged_at};
+use crate::placing::{Place, packaged_at, places_of};
 use indexmap::IndexMap;
 use std::alloc::{AllocError, Global};
 use std::marker::Model;
@@ -30,9 +30,7 @@ impl<'a> Model for Binaries<'a> {
 impl<'a> Binaries<'a> {
     ghost use Rattle.std.specs.Prelude.{◌≡◌, [], IfOk, length, option_map, slice_get};
     ghost use Rattle.std.specs.Map.Iter.{deref_pair};
-    ghost use Rattle.std.specs.Map.{lookup};
     ghost use Rattle.td_indices.specs.Kept.{binaries_of};
-    ghost use Rattle.td_indices.specs.PackageKeys.{same_key};
     ghost use Rattle.td_indices.specs.inner.Parts.{packages_in, put_all};
 
     /// Of the packages of these parts, those that count. There is room for so many from the first.
@@ -44,48 +42,8 @@ impl<'a> Binaries<'a> {
         ensures { IfOk result (λ kept.
             binaries_of kept ≡ put_all [] (binaries_of (packages_in parts.entry.items))) }
     {
-        let mut places = IndexMap::with_capacity(alloc, room)?;
-        keep_parts(&parts, &mut places, 0)?;
+        let places = places_of(alloc, &parts, room)?;
         Ok(Binaries { parts, places })
-    }
-
-    /// Of these and of the packages of other parts behind them, those that count.
-    pub fn with_parts(
-        self,
-        others: Vec<Vec<(PackageKey<'a>, Packaged<'a>)>>,
-    ) -> Result<Binaries<'a>, AllocError>
-        ensures { IfOk result (λ kept. binaries_of kept
-            ≡ put_all (binaries_of self.entry) (binaries_of (packages_in others.entry.items))) }
-    {
-        let Binaries {
-            mut parts,
-            mut places,
-        } = self;
-        let mut others = others;
-        let first = parts.len();
-        parts.append(&mut others)?;
-        keep_parts(&parts, &mut places, first)?;
-        Ok(Binaries { parts, places })
-    }
-
-    /// None. It takes no memory.
-    pub fn none(alloc: Global) -> Binaries<'a>
-        ensures { result ≡ [] }
-    {
-        Binaries {
-            parts: Vec::new(alloc),
-            places: IndexMap::new(alloc),
-        }
-    }
-
-    /// The number of the stanza of the package with a key, if there is one.
-    pub fn stanza_of(&self, key: &PackageKey<'_>) -> Option<usize>
-        ensures { result ≡ option_map (λ packaged. packaged.stanza)
-            (lookup (same_key key.now) self.now) }
-    {
-        let place = self.places.get(key)?;
-        let kept = packaged_at(&self.parts, *place)?;
-        Some(kept.stanza)
     }
 
     /// How many there are.

@@ -9,9 +9,7 @@ ghost use Rattle.td_indices.specs.inner.Sound.{AreSound};
 
 use crate::archive_fault::{ArchiveFault, IndexFile};
 use crate::binaries::Binaries;
-use crate::keeping_beside::kept_beside;
-use crate::known::Known;
-use crate::part_reading::{alone, read_part};
+use crate::part_reading::{HALVINGS, alone, read_part, read_parts};
 use crate::piece_reading::read_stanzas_beside;
 use crate::soundness::are_all_sound;
 use crate::sourced::Sourced;
@@ -51,12 +49,7 @@ pub fn read_packages_index<'a>(
         Err(fault) => return Err(fault),
     };
     let count = stanzas.len();
-    let none = Binaries::none(alloc);
-    let known = Known {
-        before: 0,
-        kept: &none,
-    };
-    let read = alone(alloc, read_part(alloc, archs, &stanzas, known, 0, count));
+    let read = alone(alloc, read_part(alloc, archs, &stanzas, 0, count));
     let kept = kept_of(alloc, read, count);
     Ok(PackagesIndex { stanzas, kept })
 }
@@ -71,7 +64,9 @@ pub fn kept_packages<'a, R: Threads + Sync>(
     ensures { (lines : List (List ℕ)) → AreStanzas stanzas.entry lines
         → ArePackages (table archs.now) lines result }
 {
-    let kept = kept_beside(rt, alloc, archs, &stanzas);
+    let count = stanzas.len();
+    let read = read_parts(rt, alloc, archs, &stanzas, 0, count, HALVINGS);
+    let kept = kept_of(alloc, read, count);
     PackagesIndex { stanzas, kept }
 }
 

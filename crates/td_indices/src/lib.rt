@@ -27,8 +27,6 @@ mod grouping;
 mod grouping_beside;
 mod groups;
 mod index_reading;
-mod keeping_beside;
-mod known;
 mod laws;
 mod lookups;
 mod offered_names;

@@ -13,7 +13,6 @@ ghost use Rattle.td_indices.specs.inner.Parts.{ArePartsRead, IsPartRead, put_all
 
 use crate::archive_fault::{ArchiveFault, IndexFile};
 use crate::binary_keeping::read_binary;
-use crate::known::Known;
 use crate::packaged::{PackageKey, Packaged};
 use crate::stanza_fault::at_stanza;
 use crate::stanza_pieces::StanzaPieces;
@@ -25,6 +24,11 @@ use td_stanza::Stanza;
 
 /// The fewest stanzas that are worth a second thread.
 const LEAST: usize = 512;
+
+/// How often the stanzas are halved, at most: Rust's libraries, which stand side by side, have
+/// relations that are several times as long as those of others, so that of eight parts the one with
+/// them took longer than the rest.
+pub const HALVINGS: usize = 4;
 
 /// Takes the package of a stanza, if it has one, behind others.
 fn take_binary<'a>(
@@ -52,30 +56,26 @@ fn take_binary<'a>(
     }
 }
 
-/// The packages of the stanzas from a number up to another, but for those that say what one before
-/// `known` says.
+/// The packages of the stanzas from a number up to another.
 pub fn read_part<'a>(
     alloc: Global,
     archs: &Archs<'_>,
     stanzas: &StanzaPieces<'a>,
-    known: Known<'_, '_>,
     from: usize,
     to: usize,
 ) -> Result<Vec<(PackageKey<'a>, Packaged<'a>)>, ArchiveFault>
     requires order { from ≤ to }
     requires within { to ≤ length stanzas.now }
-    ensures { IsPartRead (table archs.now) stanzas.now known.entry.before from to result }
+    ensures { IsPartRead (table archs.now) stanzas.now from to result }
 {
     let Ok(mut packages) = Vec::with_capacity(alloc, to - from) else {
         return Err(ArchiveFault::NoMemory);
     };
     for number in from..to {
         if let Some(stanza) = stanzas.stanza(number) {
-            if !known.has(stanzas, &stanza) {
-                match take_binary(alloc, &mut packages, archs, &stanza, number) {
-                    Ok(()) => {}
-                    Err(fault) => return Err(fault),
-                }
+            match take_binary(alloc, &mut packages, archs, &stanza, number) {
+                Ok(()) => {}
+                Err(fault) => return Err(fault),
             }
         }
     }
@@ -87,9 +87,8 @@ pub fn alone<'a>(
     alloc: Global,
     read: Result<Vec<(PackageKey<'a>, Packaged<'a>)>, ArchiveFault>,
 ) -> Result<Vec<Vec<(PackageKey<'a>, Packaged<'a>)>>, ArchiveFault>
-    ensures { (table : List ArchWords) (stanzas : List (List Entry)) (known from to : ℕ)
-        → IsPartRead table stanzas known from to read.entry
-        → ArePartsRead table stanzas known from to result }
+    ensures { (table : List ArchWords) (stanzas : List (List Entry)) (from to : ℕ)
+        → IsPartRead table stanzas from to read.entry → ArePartsRead table stanzas from to result }
 {
     let packages = match read {
         Ok(packages) => packages,
@@ -107,10 +106,10 @@ fn joined<'a>(
     front: Result<Vec<Vec<(PackageKey<'a>, Packaged<'a>)>>, ArchiveFault>,
     rest: Result<Vec<Vec<(PackageKey<'a>, Packaged<'a>)>>, ArchiveFault>,
 ) -> Result<Vec<Vec<(PackageKey<'a>, Packaged<'a>)>>, ArchiveFault>
-    ensures { (table : List ArchWords) (stanzas : List (List Entry)) (known from middle to : ℕ)
-        → ArePartsRead table stanzas known from middle front.entry
-        → ArePartsRead table stanzas known middle to rest.entry
-        → ArePartsRead table stanzas known from to result }
+    ensures { (table : List ArchWords) (stanzas : List (List Entry)) (from middle to : ℕ)
+        → ArePartsRead table stanzas from middle front.entry
+        → ArePartsRead table stanzas middle to rest.entry
+        → ArePartsRead table stanzas from to result }
 {
     let mut front = match front {
         Ok(parts) => parts,
@@ -133,30 +132,27 @@ pub fn read_parts<'a, R: Threads + Sync>(
     alloc: Global,
     archs: &Archs<'_>,
     stanzas: &StanzaPieces<'a>,
-    known: Known<'_, '_>,
     from: usize,
     to: usize,
     halvings: usize,
 ) -> Result<Vec<Vec<(PackageKey<'a>, Packaged<'a>)>>, ArchiveFault>
     requires order { from ≤ to }
     requires within { to ≤ length stanzas.now }
-    ensures { ArePartsRead (table archs.now) stanzas.now known.entry.before from to result }
+    ensures { ArePartsRead (table archs.now) stanzas.now from to result }
 {
     if halvings == 0 || to - from < LEAST {
-        return alone(alloc, read_part(alloc, archs, stanzas, known, from, to));
+        return alone(alloc, read_part(alloc, archs, stanzas, from, to));
     }
     let middle = stanzas.middle(from, to);
     let left = halvings - 1;
     let of_front = move || -> Result<Vec<Vec<(PackageKey, Packaged)>>, ArchiveFault>
         requires { IsSync R.row × (from ≤ middle) × (middle ≤ length stanzas.now) }
-        ensures { ArePartsRead (table archs.entry.now) stanzas.entry.now known.entry.before from middle
-            result }
-    { read_parts(rt, alloc, archs, stanzas, known, from, middle, left) };
+        ensures { ArePartsRead (table archs.entry.now) stanzas.entry.now from middle result }
+    { read_parts(rt, alloc, archs, stanzas, from, middle, left) };
     let of_rest = move || -> Result<Vec<Vec<(PackageKey, Packaged)>>, ArchiveFault>
         requires { IsSync R.row × (middle ≤ to) × (to ≤ length stanzas.now) }
-        ensures { ArePartsRead (table archs.entry.now) stanzas.entry.now known.entry.before middle to
-            result }
-    { read_parts(rt, alloc, archs, stanzas, known, middle, to, left) };
+        ensures { ArePartsRead (table archs.entry.now) stanzas.entry.now middle to result }
+    { read_parts(rt, alloc, archs, stanzas, middle, to, left) };
     let (front, rest) = thread::join(rt, of_front, of_rest);
     joined(front, rest)
 }

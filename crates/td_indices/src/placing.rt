@@ -3,10 +3,10 @@
 ghost use Rattle.std.specs.Prelude.{
   ◌≡◌,
   ◌<◌,
-  ◌≤◌,
+  [],
   Some,
+  IfOk,
   OnOk,
-  drop,
   length,
   option_copied,
   option_map,
@@ -107,21 +107,19 @@ fn keep_part<'a>(
     Ok(())
 }
 
-/// Keeps the places of those of the packages of some parts, from one with a number on, that count.
-pub fn keep_parts<'a>(
+/// The places of those packages that count. There is room for so many from the first.
+pub fn places_of<'a>(
+    alloc: Global,
     parts: &[Vec<(PackageKey<'a>, Packaged<'a>)>],
-    places: &mut IndexMap<PackageKey<'a>, Place>,
-    first: usize,
-) -> Result<(), AllocError>
-    requires first { first ≤ length parts.now }
-    requires placed { ArePlaced parts.now places.old.entries }
-    ensures kept { OnOk result (binaries_of (placed parts.now places.new.entries)
-        ≡ put_all (binaries_of (placed parts.now places.old.entries))
-        (binaries_of (packages_in (drop first parts.now)))) }
-    ensures placed { OnOk result (ArePlaced parts.now places.new.entries) }
+    room: usize,
+) -> Result<IndexMap<PackageKey<'a>, Place>, AllocError>
+    ensures kept { IfOk result (λ places. binaries_of (placed parts.now places.entries)
+        ≡ put_all [] (binaries_of (packages_in parts.now))) }
+    ensures placed { IfOk result (λ places. ArePlaced parts.now places.entries) }
 {
-    for part in first..parts.len() {
-        keep_part(parts, places, &parts[part], part)?;
+    let mut places = IndexMap::with_capacity(alloc, room)?;
+    for part in 0..parts.len() {
+        keep_part(parts, &mut places, &parts[part], part)?;
     }
-    Ok(())
+    Ok(places)
 }

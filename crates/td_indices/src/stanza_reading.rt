@@ -48,7 +48,7 @@ pub fn kept_of<'a>(
     count: usize,
 ) -> Result<Binaries<'a>, ArchiveFault>
     ensures { (table : List ArchWords) (stanzas : List (List Entry))
-        → ArePartsRead table stanzas 0 0 (length stanzas) read.entry
+        → ArePartsRead table stanzas 0 (length stanzas) read.entry
         → MatchResult result (λ kept. binaries_at table stanzas ≡ Ok (binaries_of kept))
         (IsOfStanza (binaries_at table stanzas)) }
 {

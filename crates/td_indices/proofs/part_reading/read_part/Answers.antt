@@ -9,42 +9,30 @@ use Rattle.td_indices.specs.declared.packaged.Packaged.{Packaged}
 use Rattle.td_indices.specs.Kept.{binaries_of}
 use Rattle.td_indices.specs.Reading.{binary_step}
 use Rattle.td_indices.specs.inner.Parts.{put_all}
-use Rattle.td_indices.proofs.KeptAgain.{known_again, read_on}
-use Rattle.td_indices.proofs.Steps.{faulted}
+use Rattle.td_indices.proofs.Steps.{stepped, faulted}
 use Rattle.td_indices.proofs.part_reading.read_part.Goals as goal
-use Rattle.td_indices.proofs.part_reading.read_part.Goals.{in-Some+then-not-has+in-Ok-take_binary, in-Some+else-not-has}
+use Rattle.td_indices.proofs.part_reading.read_part.Goals.{in-Some+in-Ok-take_binary}
 use Rattle.td_indices.proofs.part_reading.read_part.Goals.{in_default-stanza}
 
 pub returns-in-Err : goal.returns-in-Err
-returns-in-Err c seen holds =
+returns-in-Err c seen =
     let before = put_all seen (binaries_of c.loop-number.packages.items) in (
       faulted (binary_step (table c.args.archs.now)) c.args.stanzas.now c.loop-number.number before
           (fields_of c.in-Some.stanza) c.in-Err.fault _ (sym c.in-Some.ensures.value)
-          (c.in-Err.ensures.err before) (c.loop-number.invariant seen holds).0,
+          (c.in-Err.ensures.err before) (c.loop-number.invariant seen),
       c.in-Err.ensures.entry,
     )
 
 pub loop-number-preserved : goal.loop-number-preserved
-loop-number-preserved c seen holds = elim c.match-stanza.branch [
-  | in-Some+then-not-has+in-Ok-take_binary w ↦
-      read_on (table c.args.archs.now) c.args.stanzas.now c.args.from c.loop-number.number seen
+loop-number-preserved c seen = elim c.match-stanza.branch [
+  | in-Some+in-Ok-take_binary w ↦
+      stepped (binary_step (table c.args.archs.now)) c.args.stanzas.now c.loop-number.number
       (put_all seen (binaries_of c.loop-number.packages.items))
-      (put_all seen (binaries_of c.match-stanza.packages.items)) (fields_of w.in-Some.stanza)
-      (sym w.in-Some.ensures.value)
+      (put_all seen (binaries_of c.match-stanza.packages.items))
+      (fields_of w.in-Some.stanza) _ (sym w.in-Some.ensures.value)
       (w.in-Ok-take_binary.ensures.ok seen
       ∙ ap (λ (v : Vec (PackageKey × Packaged)). Ok (put_all seen (binaries_of v.items)))
-      (sym w.packages-is)) (c.loop-number.invariant seen holds)
-  | in-Some+else-not-has w ↦
-      let one = w.has.ensures w.if-not-has.false in
-      read_on (table c.args.archs.now) c.args.stanzas.now c.args.from c.loop-number.number seen
-      (put_all seen (binaries_of c.loop-number.packages.items))
-      (put_all seen (binaries_of c.match-stanza.packages.items)) (fields_of w.in-Some.stanza)
-      (sym w.in-Some.ensures.value)
-      (known_again (table c.args.archs.now) c.args.stanzas.now c.args.known.before one.0
-      c.loop-number.number seen (binaries_of c.loop-number.packages.items)
-      (fields_of w.in-Some.stanza) holds one.1 one.2
-      ∙ ap (λ (v : Vec (PackageKey × Packaged)). Ok (put_all seen (binaries_of v.items)))
-      (sym w.packages-is)) (c.loop-number.invariant seen holds)
+      (sym w.packages-is)) (c.loop-number.invariant seen)
   | in_default-stanza w ↦
       let within : c.loop-number.number < length c.args.stanzas.now =
       omega (arith, c.loop-number-test.true, c.requires.within) in
