@@ -124,7 +124,7 @@ fn over_archive(rt: &(impl Threads + Abort + Sync), alloc: Global, archive: &Arc
 // Each transition of the tracker over the archive of these two indices.
 fn over_texts(rt: &(impl Threads + Abort + Sync), alloc: Global, packages: &str, sources: &str) {
     let archs = made(rt, Archs::read(alloc, ARCHS));
-    let read = Archive::read_beside(rt, alloc, packages, sources, &archs);
+    let read = Archive::read(rt, alloc, packages, sources, &archs);
     let archive = made(rt, read);
     over_archive(rt, alloc, &archive);
     drop(archive);

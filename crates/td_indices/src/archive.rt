@@ -2,17 +2,15 @@
 ghost use Rattle.td_rows.specs.Limits.{max_rows};
 
 use crate::archive_fault::ArchiveFault;
-use crate::assembling::kept_of_both;
 use crate::binaries::Binaries;
 use crate::choosing::is_chosen;
-use crate::early::{EarlyPackages, EarlySources};
-use crate::grouping::{grouped_and_counted, those_on};
+use crate::grouping::those_on;
 use crate::groups::Groups;
-use crate::index_reading::{read_packages_index, read_sources_index};
+use crate::index_reading::read_indices;
+use crate::index_text::IndexText;
 use crate::opening::{greatest_number, opening, opening_on};
 use crate::packaged::Binary;
 use crate::rows::has_row;
-use crate::side_by_side::{keep_indices, read_indices};
 use crate::sourced::{Source, Sourced};
 use crate::stanza_pieces::StanzaPieces;
 use crate::supplying::stocked;
@@ -122,30 +120,10 @@ impl<'t, 'a> Archive<'t, 'a> {
       shown_source,
     };
 
-    /// Reads the two indices. All faults of the stanzas as such come first, those of Packages
-    /// before those of Sources; then each stanza in order, Packages first; then the rows are
-    /// counted.
+    /// Reads the texts of Packages and of Sources. All faults of the stanzas as such come first,
+    /// those of Packages before those of Sources; then each stanza in order, Packages first; then
+    /// the rows are counted.
     pub fn read(
-        alloc: Global,
-        packages: &'a str,
-        sources: &'a str,
-        archs: &'t Archs<'a>,
-    ) -> Result<Archive<'t, 'a>, ArchiveFault>
-        ensures { IsRead (table archs.now) (lines_of packages.now) (lines_of sources.now) result }
-    {
-        let packages = read_packages_index(alloc, archs, packages);
-        let sources = read_sources_index(alloc, sources);
-        match kept_of_both(packages, sources) {
-            Ok(kept) => {
-                let counted = grouped_and_counted(alloc, archs, &kept.binaries, &kept.sources);
-                Archive::of_kept(alloc, archs, kept, counted)
-            }
-            Err(fault) => Err(fault),
-        }
-    }
-
-    /// Reads them side by side, each in a thread: the same archive, or the same fault.
-    pub fn read_beside(
         rt: &(impl Threads + Sync),
         alloc: Global,
         packages: &'a str,
@@ -154,22 +132,24 @@ impl<'t, 'a> Archive<'t, 'a> {
     ) -> Result<Archive<'t, 'a>, ArchiveFault>
         ensures { IsRead (table archs.now) (lines_of packages.now) (lines_of sources.now) result }
     {
-        let (packages, sources) = read_indices(rt, alloc, archs, packages, sources);
-        Archive::of_indices(rt, alloc, archs, packages, sources)
+        let packages = IndexText::read(rt, alloc, packages);
+        let sources = IndexText::read(rt, alloc, sources);
+        Archive::of_texts(rt, alloc, packages, sources, archs)
     }
 
-    /// The same of indices whose stanzas were found before, while their texts came.
-    pub fn of_early(
+    /// The archive of texts whose stanzas were found before, while the other text came, or their
+    /// first fault.
+    pub fn of_texts(
         rt: &(impl Threads + Sync),
         alloc: Global,
-        packages: EarlyPackages<'a>,
-        sources: EarlySources<'a>,
+        packages: IndexText<'a>,
+        sources: IndexText<'a>,
         archs: &'t Archs<'a>,
     ) -> Result<Archive<'t, 'a>, ArchiveFault>
         ensures { IsRead (table archs.now) (lines_of packages.entry) (lines_of sources.entry)
             result }
     {
-        let (packages, sources) = keep_indices(rt, alloc, archs, packages, sources);
+        let (packages, sources) = read_indices(rt, alloc, archs, packages, sources);
         Archive::of_indices(rt, alloc, archs, packages, sources)
     }
 

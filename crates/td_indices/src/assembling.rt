@@ -9,7 +9,7 @@ ghost use Rattle.td_indices.specs.inner.IndexReading.{AreSources, AreSourcesRead
 use crate::archive::Archive;
 use crate::archive_fault::ArchiveFault;
 use crate::binaries::Binaries;
-use crate::grouping_beside::grouped_and_counted_beside;
+use crate::grouping::grouped_and_counted;
 use crate::groups::Groups;
 use crate::index_reading::{PackagesIndex, SourcesIndex};
 use crate::pairing::paired;
@@ -54,8 +54,8 @@ fn kept_of_indices<'a>(
     }
 }
 
-/// The same of two indices, each as it was read by itself.
-pub fn kept_of_both<'a>(
+/// What two indices keep, each as it was read by itself, or the first fault.
+fn kept_of_both<'a>(
     packages: Result<PackagesIndex<'a>, ArchiveFault>,
     sources: Result<SourcesIndex<'a>, ArchiveFault>,
 ) -> Result<KeptIndices<'a>, ArchiveFault>
@@ -88,7 +88,7 @@ impl<'t, 'a> Archive<'t, 'a> {
 
     // The archive of stanzas that all were kept, with the numbers of the packages and how many rows
     // there are, if they could be counted.
-    pub(crate) fn of_kept(
+    fn of_kept(
         alloc: Global,
         archs: &'t Archs<'a>,
         kept: KeptIndices<'a>,
@@ -149,7 +149,7 @@ impl<'t, 'a> Archive<'t, 'a> {
     {
         match kept_of_both(packages, sources) {
             Ok(kept) => {
-                let counted = grouped_and_counted_beside(
+                let counted = grouped_and_counted(
                     rt,
                     alloc,
                     archs,

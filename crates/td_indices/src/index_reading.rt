@@ -1,5 +1,6 @@
-//! Each of the two files read by itself: its stanzas, and what they keep.
+//! Each of the two files read by itself, beside the other: its stanzas, and what they keep.
 ghost use Rattle.std.specs.Prelude.{◌≡◌, ℕ, true, List, length};
+ghost use denote.Param.Send.{IsSync};
 ghost use Rattle.td_text.specs.Lines.{lines_of};
 ghost use Rattle.td_stanza.specs.StanzaGrammar.{AreStanzas};
 ghost use Rattle.td_relation.specs.TableView.{table};
@@ -9,15 +10,15 @@ ghost use Rattle.td_indices.specs.inner.Sound.{AreSound};
 
 use crate::archive_fault::{ArchiveFault, IndexFile};
 use crate::binaries::Binaries;
-use crate::part_reading::{HALVINGS, alone, read_part, read_parts};
-use crate::piece_reading::read_stanzas_beside;
+use crate::index_text::IndexText;
+use crate::part_reading::{HALVINGS, read_parts};
 use crate::soundness::are_all_sound;
 use crate::sourced::Sourced;
-use crate::stanza_list::read_stanzas;
 use crate::stanza_pieces::StanzaPieces;
-use crate::stanza_reading::{kept_of, read_sources};
+use crate::stanza_reading::{keep_sources, kept_of};
 use indexmap::IndexMap;
 use std::alloc::Global;
+use std::thread;
 use std::thread::Threads;
 use td_relation::Archs;
 
@@ -36,26 +37,8 @@ pub struct SourcesIndex<'a> {
     pub kept: Result<IndexMap<&'a str, Sourced<'a>>, ArchiveFault>,
 }
 
-/// Reads Packages, or tells the first fault of the text as a control file.
-pub fn read_packages_index<'a>(
-    alloc: Global,
-    archs: &Archs<'_>,
-    text: &'a str,
-) -> Result<PackagesIndex<'a>, ArchiveFault>
-    ensures { ArePackagesRead (table archs.now) (lines_of text.now) result }
-{
-    let stanzas = match read_stanzas(alloc, IndexFile::Packages, text) {
-        Ok(stanzas) => stanzas,
-        Err(fault) => return Err(fault),
-    };
-    let count = stanzas.len();
-    let read = alone(alloc, read_part(alloc, archs, &stanzas, 0, count));
-    let kept = kept_of(alloc, read, count);
-    Ok(PackagesIndex { stanzas, kept })
-}
-
-/// What these stanzas of Packages keep, in parts.
-pub fn kept_packages<'a, R: Threads + Sync>(
+// What these stanzas of Packages keep, in parts.
+fn kept_packages<'a, R: Threads + Sync>(
     rt: &R,
     alloc: Global,
     archs: &Archs<'_>,
@@ -70,57 +53,68 @@ pub fn kept_packages<'a, R: Threads + Sync>(
     PackagesIndex { stanzas, kept }
 }
 
-/// The same as `read_packages_index` gives, a long text in pieces and parts.
-pub fn read_packages_beside<'a, R: Threads + Sync>(
+// What a text of Packages is read as.
+fn read_packages<'a, R: Threads + Sync>(
     rt: &R,
     alloc: Global,
     archs: &Archs<'_>,
-    text: &'a str,
+    text: IndexText<'a>,
 ) -> Result<PackagesIndex<'a>, ArchiveFault>
-    ensures { ArePackagesRead (table archs.now) (lines_of text.now) result }
+    ensures { ArePackagesRead (table archs.now) (lines_of text.entry) result }
 {
-    match read_stanzas_beside(rt, alloc, IndexFile::Packages, text) {
+    match text.into_stanzas(IndexFile::Packages) {
         Ok(stanzas) => Ok(kept_packages(rt, alloc, archs, stanzas)),
         Err(fault) => Err(fault),
     }
 }
 
-/// Reads Sources, likewise.
-pub fn read_sources_index<'a>(
-    alloc: Global,
-    text: &'a str,
-) -> Result<SourcesIndex<'a>, ArchiveFault>
-    ensures { AreSourcesRead (lines_of text.now) result }
-{
-    let stanzas = match read_stanzas(alloc, IndexFile::Sources, text) {
-        Ok(stanzas) => stanzas,
-        Err(fault) => return Err(fault),
-    };
-    let kept = read_sources(alloc, &stanzas, false);
-    Ok(SourcesIndex { stanzas, kept })
-}
-
-/// What these stanzas of Sources keep. Where they are `sound`, what their builds ask for isn't read.
-pub fn kept_sources<'a>(alloc: Global, stanzas: StanzaPieces<'a>, sound: bool) -> SourcesIndex<'a>
+// What these stanzas of Sources keep. Where they are `sound`, what their builds ask for isn't read.
+fn kept_sources<'a>(alloc: Global, stanzas: StanzaPieces<'a>, sound: bool) -> SourcesIndex<'a>
     requires { sound ≡ true → AreSound stanzas 0 (length stanzas) }
     ensures { (lines : List (List ℕ)) → AreStanzas stanzas.entry lines → AreSources lines result }
 {
-    let kept = read_sources(alloc, &stanzas, sound);
+    let kept = keep_sources(alloc, &stanzas, sound);
     SourcesIndex { stanzas, kept }
 }
 
-/// The same as `read_sources_index` gives, a long text in pieces and parts.
-pub fn read_sources_beside<'a, R: Threads + Sync>(
+// What a text of Sources is read as. What its builds ask for is looked at in parts.
+fn read_sources<'a, R: Threads + Sync>(
     rt: &R,
     alloc: Global,
-    text: &'a str,
+    text: IndexText<'a>,
 ) -> Result<SourcesIndex<'a>, ArchiveFault>
-    ensures { AreSourcesRead (lines_of text.now) result }
+    ensures { AreSourcesRead (lines_of text.entry) result }
 {
-    let stanzas = read_stanzas_beside(rt, alloc, IndexFile::Sources, text);
-    let sound = are_all_sound(rt, alloc, &stanzas);
-    match stanzas {
-        Ok(stanzas) => Ok(kept_sources(alloc, stanzas, sound)),
+    match text.into_stanzas(IndexFile::Sources) {
+        Ok(stanzas) => {
+            let sound = are_all_sound(rt, alloc, &stanzas);
+            Ok(kept_sources(alloc, stanzas, sound))
+        }
         Err(fault) => Err(fault),
     }
+}
+
+/// What both texts are read as, each by itself and in a thread.
+pub fn read_indices<'a, R: Threads + Sync>(
+    rt: &R,
+    alloc: Global,
+    archs: &Archs<'_>,
+    packages: IndexText<'a>,
+    sources: IndexText<'a>,
+) -> (
+    Result<PackagesIndex<'a>, ArchiveFault>,
+    Result<SourcesIndex<'a>, ArchiveFault>,
+)
+    ensures packages { ArePackagesRead (table archs.now) (lines_of packages.entry) result.0 }
+    ensures sources { AreSourcesRead (lines_of sources.entry) result.1 }
+{
+    let of_packages = move || -> Result<PackagesIndex, ArchiveFault>
+        requires { IsSync R.row }
+        ensures { ArePackagesRead (table archs.entry.now) (lines_of packages.entry) result }
+    { read_packages(rt, alloc, archs, packages) };
+    let of_sources = move || -> Result<SourcesIndex, ArchiveFault>
+        requires { IsSync R.row }
+        ensures { AreSourcesRead (lines_of sources.entry) result }
+    { read_sources(rt, alloc, sources) };
+    thread::join(rt, of_packages, of_sources)
 }

@@ -2,8 +2,8 @@
 //! count, found by their names, the rows with which a desk opens over them, and what they put on
 //! offer.
 //!
-//! Start at `Archive::read`; `read_beside` gives the same, and reads the two files in threads;
-//! `of_early` too, where the stanzas of each were found while the other still came.
+//! Start at `Archive::read`. An `IndexText` is a text with its stanzas; `Archive::of_texts` takes two
+//! that were found while the texts came. Threads share the work, and no clause speaks of them.
 //! Texts are slices of the files; a look-up goes by hash.
 //! Promised: what is read is an archive as `specs/Archive.antt` says, else the first fault is
 //! named; a stanza is a package or a source exactly where `specs/PackageStanzas.antt` and
@@ -21,12 +21,11 @@ mod binary_keeping;
 mod binary_reading;
 mod choosing;
 mod cutting;
-mod early;
 mod field;
 mod grouping;
-mod grouping_beside;
 mod groups;
 mod index_reading;
+mod index_text;
 mod laws;
 mod lookups;
 mod offered_names;
@@ -38,13 +37,11 @@ mod piece_reading;
 mod placing;
 mod relation_field;
 mod rows;
-mod side_by_side;
 mod soundness;
 mod source_keeping;
 mod source_reading;
 mod sourced;
 mod stanza_fault;
-mod stanza_list;
 mod stanza_pieces;
 mod stanza_reading;
 mod supplying;
@@ -52,8 +49,8 @@ mod text;
 
 pub use archive::Archive;
 pub use archive_fault::{ArchiveFault, IndexField, IndexFile, RelationField, VersionField};
-pub use early::{EarlyPackages, EarlySources};
 pub use field::value_of;
+pub use index_text::IndexText;
 pub use laws::{
     bad_fields_are_told_in_order, faults_of_a_stanza_come_in_order, first_faulty_stanzas_are_named,
     greatest_versions_are_kept, keys_and_versions_decide, missing_fields_are_told_in_order,

@@ -56,8 +56,8 @@ fn take_binary<'a>(
     }
 }
 
-/// The packages of the stanzas from a number up to another.
-pub fn read_part<'a>(
+// The packages of the stanzas from a number up to another.
+fn read_part<'a>(
     alloc: Global,
     archs: &Archs<'_>,
     stanzas: &StanzaPieces<'a>,
@@ -82,8 +82,8 @@ pub fn read_part<'a>(
     Ok(packages)
 }
 
-/// A part by itself, as a list of parts.
-pub fn alone<'a>(
+// A part by itself, as a list of parts.
+fn alone<'a>(
     alloc: Global,
     read: Result<Vec<(PackageKey<'a>, Packaged<'a>)>, ArchiveFault>,
 ) -> Result<Vec<Vec<(PackageKey<'a>, Packaged<'a>)>>, ArchiveFault>
@@ -125,7 +125,8 @@ fn joined<'a>(
     }
 }
 
-/// The same as `read_part` gives, by a list for each part.
+/// The packages of the stanzas from a number up to another, in parts that are halved so often, each
+/// in a thread: a list for each part.
 #[cycle(parts)]
 pub fn read_parts<'a, R: Threads + Sync>(
     rt: &R,

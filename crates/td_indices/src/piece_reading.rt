@@ -1,26 +1,30 @@
-//! The stanzas of one of the files, a long text in pieces that are read side by side.
+//! The stanzas of a text, of a long one in pieces that are read side by side.
 ghost use Rattle.std.specs.Prelude.{ℕ, ◌++◌, List, IfOk, IfErr, IfSome};
 ghost use denote.Param.Send.{IsSync};
 ghost use Rattle.td_text.specs.Lines.{lines_of};
+ghost use Rattle.td_stanza.specs.StanzaFaults.{IsFaultOf};
 ghost use Rattle.td_stanza.specs.StanzaGrammar.{AreStanzas};
-ghost use Rattle.td_indices.specs.Archive.{StanzaFaultOf};
 ghost use Rattle.td_indices.specs.inner.Pieces.{IsCutApart};
 
-use crate::archive_fault::{ArchiveFault, IndexFile};
 use crate::cutting::{HALVINGS, front_of, halved};
-use crate::stanza_list::read_stanzas;
 use crate::stanza_pieces::StanzaPieces;
 use std::alloc::Global;
 use std::thread;
 use std::thread::Threads;
-use td_stanza::stanzas;
+use td_stanza::{StanzaFault, stanzas};
 
-/// The stanzas of a text as one piece, if it has some.
-fn read_piece<'a>(alloc: Global, text: &'a str) -> Option<StanzaPieces<'a>>
-    ensures { IfSome result (λ list. AreStanzas list (lines_of text.now)) }
+/// The stanzas of a text as one piece, or its first fault as a control file.
+fn read_whole<'a>(alloc: Global, text: &'a str) -> Result<StanzaPieces<'a>, StanzaFault>
+    ensures found { IfOk result (λ list. AreStanzas list (lines_of text.now)) }
+    ensures fault { IfErr result (IsFaultOf (lines_of text.now)) }
 {
-    let list = stanzas(alloc, text).ok()?;
-    StanzaPieces::whole(alloc, list).ok()
+    match stanzas(alloc, text) {
+        Ok(list) => match StanzaPieces::whole(alloc, list) {
+            Ok(pieces) => Ok(pieces),
+            Err(_) => Err(StanzaFault::NoMemory),
+        },
+        Err(fault) => Err(fault),
+    }
 }
 
 /// The stanzas of two pieces, as those of the text that they were cut from.
@@ -54,11 +58,11 @@ fn read_pieces<'a, R: Threads + Sync>(
     ensures { IfSome result (λ list. AreStanzas list (lines_of text.now)) }
 {
     if halvings == 0 {
-        return read_piece(alloc, text);
+        return read_whole(alloc, text).ok();
     }
     match halved(text) {
         Some((before, behind)) => read_two(rt, alloc, before, behind, halvings - 1),
-        None => read_piece(alloc, text),
+        None => read_whole(alloc, text).ok(),
     }
 }
 
@@ -100,19 +104,19 @@ pub fn read_halves<'a>(
     read_two(rt, alloc, before, rest, HALVINGS - 1)
 }
 
-/// The same as `read_stanzas` gives. A text that has a fault, or that memory doesn't suffice for,
-/// is read again as a whole, so that its lines are counted from its first.
-pub fn read_stanzas_beside<'a, R: Threads + Sync>(
+/// The stanzas of a text, of a long one in pieces, or its first fault as a control file. A text that
+/// has a fault, or that memory doesn't suffice for, is read again as a whole, so that its lines are
+/// counted from its first.
+pub fn read_stanzas<'a, R: Threads + Sync>(
     rt: &R,
     alloc: Global,
-    file: IndexFile,
     text: &'a str,
-) -> Result<StanzaPieces<'a>, ArchiveFault>
+) -> Result<StanzaPieces<'a>, StanzaFault>
     ensures found { IfOk result (λ list. AreStanzas list (lines_of text.now)) }
-    ensures fault { IfErr result (StanzaFaultOf file (lines_of text.now)) }
+    ensures fault { IfErr result (IsFaultOf (lines_of text.now)) }
 {
     match read_pieces(rt, alloc, text, HALVINGS) {
         Some(list) => Ok(list),
-        None => read_stanzas(alloc, file, text),
+        None => read_whole(alloc, text),
     }
 }

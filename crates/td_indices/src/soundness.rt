@@ -3,10 +3,8 @@
 ghost use Rattle.std.specs.Prelude.{◌≡◌, ◌≤◌, true, length};
 ghost use denote.Param.Send.{IsSync};
 ghost use Rattle.td_stanza.specs.Table.{fields_of};
-ghost use Rattle.td_indices.specs.inner.IndexReading.{AreSoundIf};
 ghost use Rattle.td_indices.specs.inner.Sound.{AreSound, IsSound};
 
-use crate::archive_fault::ArchiveFault;
 use crate::cutting::HALVINGS;
 use crate::source_reading::check_relations;
 use crate::stanza_pieces::StanzaPieces;
@@ -43,9 +41,9 @@ fn are_sound(alloc: Global, stanzas: &StanzaPieces<'_>, from: usize, to: usize) 
     true
 }
 
-/// Whether that of the stanzas from a number up to another can, in parts that are halved so often.
+// Whether that of the stanzas from a number up to another can, in parts that are halved so often.
 #[cycle(sound)]
-pub fn are_sound_beside<R: Threads + Sync>(
+fn are_sound_in_parts<R: Threads + Sync>(
     rt: &R,
     alloc: Global,
     stanzas: &StanzaPieces<'_>,
@@ -65,25 +63,22 @@ pub fn are_sound_beside<R: Threads + Sync>(
     let of_front = move || -> bool
         requires { IsSync R.row × (from ≤ middle) × (middle ≤ length stanzas.now) }
         ensures { result ≡ true → AreSound stanzas.entry.now from middle }
-    { are_sound_beside(rt, alloc, stanzas, from, middle, left) };
+    { are_sound_in_parts(rt, alloc, stanzas, from, middle, left) };
     let of_rest = move || -> bool
         requires { IsSync R.row × (middle ≤ to) × (to ≤ length stanzas.now) }
         ensures { result ≡ true → AreSound stanzas.entry.now middle to }
-    { are_sound_beside(rt, alloc, stanzas, middle, to, left) };
+    { are_sound_in_parts(rt, alloc, stanzas, middle, to, left) };
     let (front, rest) = thread::join(rt, of_front, of_rest);
     front && rest
 }
 
-/// The same of all stanzas of a text, where they were found.
+/// Whether that of all stanzas can.
 pub fn are_all_sound<R: Threads + Sync>(
     rt: &R,
     alloc: Global,
-    stanzas: &Result<StanzaPieces<'_>, ArchiveFault>,
+    stanzas: &StanzaPieces<'_>,
 ) -> bool
-    ensures { AreSoundIf result stanzas.now }
+    ensures { result ≡ true → AreSound stanzas.now 0 (length stanzas.now) }
 {
-    match stanzas {
-        Ok(stanzas) => are_sound_beside(rt, alloc, stanzas, 0, stanzas.len(), HALVINGS),
-        Err(_) => false,
-    }
+    are_sound_in_parts(rt, alloc, stanzas, 0, stanzas.len(), HALVINGS)
 }

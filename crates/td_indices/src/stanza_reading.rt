@@ -90,7 +90,7 @@ fn take_source<'a>(
 
 /// The sources that the stanzas of Sources keep. Where they are `sound`, what their builds ask for
 /// isn't read.
-pub fn read_sources<'a>(
+pub fn keep_sources<'a>(
     alloc: Global,
     stanzas: &StanzaPieces<'a>,
     sound: bool,

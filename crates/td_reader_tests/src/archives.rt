@@ -1,14 +1,15 @@
 //! What no clause says: that calls succeed with ample memory, and what the definitions make of
 //! texts. Expected by hand from `docs/FORMATS.md`, deb-version(7) and Policy.
 mod answers;
-mod beside;
-mod early;
+mod asked;
+mod long;
 
 use crate::checks::{is_same, made};
 use crate::statuses;
 use answers::are_answered;
 use std::alloc::{AllocError, Global};
 use std::process::Abort;
+use std::thread::Threads;
 use td_indices::{Archive, ArchiveFault, IndexField, IndexFile, RelationField, VersionField};
 use td_relation::Archs;
 use td_stanza::StanzaFault;
@@ -210,9 +211,14 @@ fn packages_and_sources_are_asked_by_their_numbers(rt: HostRuntime) {
     are_answered(&rt, rt.alloc(), ARCHS, ASKED, SOURCES, &NUMBERED);
 }
 
-fn fault_of(rt: &impl Abort, alloc: Global, packages: &str, sources: &str) -> Option<ArchiveFault> {
+fn fault_of(
+    rt: &(impl Threads + Abort + Sync),
+    alloc: Global,
+    packages: &str,
+    sources: &str,
+) -> Option<ArchiveFault> {
     let archs = made(rt, Archs::read(alloc, ARCHS));
-    Archive::read(alloc, packages, sources, &archs).err()
+    Archive::read(rt, alloc, packages, sources, &archs).err()
 }
 
 // These many stanzas of Packages, and behind them one without what it needs.
@@ -255,13 +261,13 @@ fn table_of(alloc: Global, count: usize) -> Result<String, AllocError> {
 }
 
 fn rows_of(
-    rt: &impl Abort,
+    rt: &(impl Threads + Abort + Sync),
     alloc: Global,
     table: &str,
     sources: &str,
 ) -> Result<usize, ArchiveFault> {
     let archs = made(rt, Archs::read(alloc, table));
-    match Archive::read(alloc, "", sources, &archs) {
+    match Archive::read(rt, alloc, "", sources, &archs) {
         Ok(archive) => {
             let count = archive.row_count();
             drop(archive);

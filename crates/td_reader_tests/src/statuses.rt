@@ -235,7 +235,7 @@ fn are_graded<'x>(
     asked: &[Asked],
 ) {
     let archs = made(rt, Archs::read(alloc, table));
-    let archive = made(rt, Archive::read(alloc, packages, sources, &archs));
+    let archive = made(rt, Archive::read(rt, alloc, packages, sources, &archs));
     for (tracker, rows, expected) in asked {
         is_told(rt, statuses(rt, alloc, &archive, tracker, rows), expected, rows);
     }
@@ -380,7 +380,7 @@ fn are_affecting(
 #[test]
 fn queries_affect_the_sources_that_they_should(rt: HostRuntime) {
     let archs = made(&rt, Archs::read(rt.alloc(), TWO_ARCHS));
-    let read = Archive::read(rt.alloc(), TWO_PACKAGES, TWO_SOURCES, &archs);
+    let read = Archive::read(&rt, rt.alloc(), TWO_PACKAGES, TWO_SOURCES, &archs);
     let archive = made(&rt, read);
     are_affecting(&rt, rt.alloc(), &archive);
     drop(archive);

@@ -282,7 +282,7 @@ impl<S: Staff, F: Fn(Asked) -> Result<Told, ReadError>> Run<'_, S, F> {
             sources,
             ..
         } = self.files;
-        match Archive::read_beside(rt, self.alloc, packages, sources, archs) {
+        match Archive::read(rt, self.alloc, packages, sources, archs) {
             Ok(archive) => {
                 let told = self.tell_over_archive(rt, &archive);
                 drop(archive);

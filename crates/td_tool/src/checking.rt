@@ -74,7 +74,7 @@ fn counts_with<'a>(
         result ≡ Err (ending_of (FormFault.Table fault))) }
 {
     match archs {
-        Ok(archs) => counts_of(Archive::read_beside(rt, alloc, packages, sources, &archs)),
+        Ok(archs) => counts_of(Archive::read(rt, alloc, packages, sources, &archs)),
         Err(fault) => Err(ending_of_form(FormFault::Table(fault))),
     }
 }

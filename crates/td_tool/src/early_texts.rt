@@ -12,7 +12,7 @@ use crate::texts::Texts;
 use std::alloc::Global;
 use std::thread::Threads;
 use std::{str, thread};
-use td_indices::{EarlyPackages, EarlySources};
+use td_indices::IndexText;
 use td_script::Role;
 use td_words::ArchivePaths;
 
@@ -20,8 +20,8 @@ use td_words::ArchivePaths;
 #[derive(Drop)]
 pub struct EarlyTexts {
     pub archs: String,
-    pub packages: EarlyPackages<'static>,
-    pub sources: EarlySources<'static>,
+    pub packages: IndexText<'static>,
+    pub sources: IndexText<'static>,
 }
 
 // A text that stays as long as the program: its memory isn't freed. (The program ends with what it
@@ -48,72 +48,38 @@ fn lasting_halves<R: Threads + Sync, T: Texts>(
     Some((lasting(front), lasting(rest)))
 }
 
-// Reads the file of Packages as its front and its rest, and finds its stanzas, if it has some.
-fn packages_of_halves<R: Threads + Sync, T: Texts>(
+// Reads the file of an index as its front and its rest, and finds its stanzas, if it has some.
+fn read_in_halves<R: Threads + Sync, T: Texts>(
     rt: &R,
     alloc: Global,
     texts: &T,
     path: &String,
-) -> Option<EarlyPackages<'static>>
-    ensures { IfSome result (λ packages.
-        IsTextOf (T.bytes texts.now (string_bytes path.now)) packages) }
+) -> Option<IndexText<'static>>
+    ensures { IfSome result (λ text.
+        IsTextOf (T.bytes texts.now (string_bytes path.now)) text) }
 {
     let (front, rest) = lasting_halves(rt, alloc, texts, path)?;
-    EarlyPackages::of_halves(rt, alloc, front, rest)
+    IndexText::of_halves(rt, alloc, front, rest)
 }
 
-// Reads the file of Packages, and finds its stanzas.
-fn read_packages<R: Threads + Sync, T: Texts>(
+// Reads the file of an index, and finds its stanzas.
+fn read_index<R: Threads + Sync, T: Texts>(
     rt: &R,
     alloc: Global,
     texts: &T,
-    paths: &ArchivePaths,
-) -> Result<EarlyPackages<'static>, FileFault>
-    ensures packages { IfOk result (λ packages.
-        IsTextOf (T.bytes texts.now (string_bytes paths.now.packages)) packages) }
-    ensures no_packages { IfErr result (HasFailedFor
-        (file_at (T.bytes texts.now) (T.can_fail texts.now) (string_bytes paths.now.packages))
-        Packages) }
-{
-    if let Some(packages) = packages_of_halves(rt, alloc, texts, &paths.packages) {
-        return Ok(packages);
-    }
-    let text = read_one(alloc, texts, Role::Packages, &paths.packages)?;
-    Ok(EarlyPackages::read_beside(rt, alloc, lasting(text)))
-}
-
-// Reads the file of Sources as its front and its rest, and finds its stanzas, if it has some.
-fn sources_of_halves<R: Threads + Sync, T: Texts>(
-    rt: &R,
-    alloc: Global,
-    texts: &T,
+    role: Role,
     path: &String,
-) -> Option<EarlySources<'static>>
-    ensures { IfSome result (λ sources.
-        IsTextOf (T.bytes texts.now (string_bytes path.now)) sources) }
+) -> Result<IndexText<'static>, FileFault>
+    ensures text { IfOk result (λ text.
+        IsTextOf (T.bytes texts.now (string_bytes path.now)) text) }
+    ensures failed { IfErr result (HasFailedFor
+        (file_at (T.bytes texts.now) (T.can_fail texts.now) (string_bytes path.now)) role) }
 {
-    let (front, rest) = lasting_halves(rt, alloc, texts, path)?;
-    EarlySources::of_halves(rt, alloc, front, rest)
-}
-
-// Reads the file of Sources, likewise.
-fn read_sources<R: Threads + Sync, T: Texts>(
-    rt: &R,
-    alloc: Global,
-    texts: &T,
-    paths: &ArchivePaths,
-) -> Result<EarlySources<'static>, FileFault>
-    ensures sources { IfOk result (λ sources.
-        IsTextOf (T.bytes texts.now (string_bytes paths.now.sources)) sources) }
-    ensures no_sources { IfErr result (HasFailedFor
-        (file_at (T.bytes texts.now) (T.can_fail texts.now) (string_bytes paths.now.sources))
-        Sources) }
-{
-    if let Some(sources) = sources_of_halves(rt, alloc, texts, &paths.sources) {
-        return Ok(sources);
+    if let Some(text) = read_in_halves(rt, alloc, texts, path) {
+        return Ok(text);
     }
-    let text = read_one(alloc, texts, Role::Sources, &paths.sources)?;
-    Ok(EarlySources::read_beside(rt, alloc, lasting(text)))
+    let text = read_one(alloc, texts, role, path)?;
+    Ok(IndexText::read(rt, alloc, lasting(text)))
 }
 
 // Reads the two indices side by side: what is shorter, mostly Sources, is looked at while the other
@@ -124,8 +90,8 @@ fn read_indices<R: Threads + Sync, T: Texts + Sync>(
     texts: &T,
     paths: &ArchivePaths,
 ) -> (
-    Result<EarlyPackages<'static>, FileFault>,
-    Result<EarlySources<'static>, FileFault>,
+    Result<IndexText<'static>, FileFault>,
+    Result<IndexText<'static>, FileFault>,
 )
     ensures packages { IfOk result.0 (λ packages.
         IsTextOf (T.bytes texts.now (string_bytes paths.now.packages)) packages) }
@@ -140,8 +106,8 @@ fn read_indices<R: Threads + Sync, T: Texts + Sync>(
 {
     thread::join(
         rt,
-        || read_packages(rt, alloc, texts, paths),
-        || read_sources(rt, alloc, texts, paths),
+        || read_index(rt, alloc, texts, Role::Packages, &paths.packages),
+        || read_index(rt, alloc, texts, Role::Sources, &paths.sources),
     )
 }
 

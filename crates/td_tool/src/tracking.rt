@@ -28,7 +28,7 @@ use std::alloc::{AllocError, Global};
 use std::thread::Threads;
 use std::{mem, thread};
 use td_bytes::Writer;
-use td_indices::{Archive, ArchiveFault, EarlyPackages, EarlySources};
+use td_indices::{Archive, ArchiveFault, IndexText};
 use td_query::{Marks, Tracker, TrackerFault};
 use td_relation::{Archs, ArchsFault};
 use td_report::Transition;
@@ -345,8 +345,8 @@ fn table_text<'a>(
     rt: &(impl Threads + Sync),
     alloc: Global,
     archs: Result<Archs<'a>, ArchsFault>,
-    packages: EarlyPackages<'a>,
-    sources: EarlySources<'a>,
+    packages: IndexText<'a>,
+    sources: IndexText<'a>,
     over: &TrackerTexts,
     asked: Asked,
 ) -> Result<String, Ending>
@@ -358,7 +358,7 @@ fn table_text<'a>(
 {
     match archs {
         Ok(archs) => {
-            let archive = Archive::of_early(rt, alloc, packages, sources, &archs);
+            let archive = Archive::of_texts(rt, alloc, packages, sources, &archs);
             indices_text(rt, alloc, archive, over, asked)
         }
         Err(fault) => Err(ending_of_form(FormFault::Table(fault))),

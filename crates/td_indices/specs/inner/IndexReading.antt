@@ -1,6 +1,6 @@
 -- What each of the two texts is read as by itself, before the other is looked at. This project's
 -- own.
-use Rattle.std.specs.Prelude.{◌≡◌, ℕ, Bool, true, List, length, Result, Ok, IfOk, MatchResult}
+use Rattle.std.specs.Prelude.{◌≡◌, ℕ, true, List, Result, Ok, MatchResult}
 use Rattle.td_stanza.specs.Field.{Entry}
 use Rattle.td_stanza.specs.StanzaGrammar.{AreStanzas}
 use Rattle.td_relation.specs.Arch.{ArchWords}
@@ -13,17 +13,12 @@ use Rattle.td_indices.specs.Archive.{StanzaFaultOf}
 use Rattle.td_indices.specs.Kept.{binaries_of}
 use Rattle.td_indices.specs.Reading.{IsFaultOf, binaries_at, is_entry, sources_at}
 use Rattle.td_indices.specs.Sources.{sources_of}
-use Rattle.td_indices.specs.inner.Sound.{AreSound}
 
 -- the stanzas of a text's lines were found, or it has this fault as a control file
 abbrev pub AreStanzasRead : IndexFile → List (List ℕ) → Result (List (List Entry)) ArchiveFault
     → Type 0
 AreStanzasRead file lines read =
     MatchResult read (λ list. AreStanzas list lines) (StanzaFaultOf file lines)
-
--- where they are called sound, what their builds ask for can be read
-abbrev pub AreSoundIf : Bool → Result (List (List Entry)) ArchiveFault → Type 0
-AreSoundIf sound read = IfOk read (λ list. sound ≡ true → AreSound list 0 (length list))
 
 -- the fault is that of the first stanza that can't be kept, or want of memory
 abbrev pub IsOfStanza : {A : Type 0} → Result A ArchiveFault → ArchiveFault → Type 0

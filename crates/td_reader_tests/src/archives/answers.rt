@@ -4,6 +4,7 @@ use crate::checks::{is_told, made};
 use std::alloc::{AllocError, Global};
 use std::fmt::Debug;
 use std::process::Abort;
+use std::thread::Threads;
 use td_indices::{Archive, Binary};
 use td_relation::Archs;
 use td_rows::{Key, read_key, rows_text};
@@ -194,7 +195,7 @@ fn answer(alloc: Global, archive: &Archive<'_, '_>, asked: &str) -> Result<Strin
 
 /// Asks the archive of these texts each question; behind it stands what is expected.
 pub(super) fn are_answered<'x>(
-    rt: &impl Abort,
+    rt: &(impl Threads + Abort + Sync),
     alloc: Global,
     table: &'x str,
     packages: &'x str,
@@ -202,7 +203,7 @@ pub(super) fn are_answered<'x>(
     questions: &[(&'static str, &'static str)],
 ) {
     let archs = made(rt, Archs::read(alloc, table));
-    let archive = made(rt, Archive::read(alloc, packages, sources, &archs));
+    let archive = made(rt, Archive::read(rt, alloc, packages, sources, &archs));
     for (asked, expected) in questions {
         is_told(rt, answer(alloc, &archive, asked), expected, asked);
     }

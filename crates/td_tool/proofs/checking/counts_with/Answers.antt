@@ -10,7 +10,7 @@ returns-in-Ok-clause-counted g c =
     subst (λ r. IfOk r (λ archs.
     IsCountedWith (table archs) c.args.packages.now c.args.sources.now c.counts_of.result))
     (sym c.in-Ok.is)
-    (counted_with (table c.in-Ok.archs) c.args.packages.now c.args.sources.now c.read_beside.result
+    (counted_with (table c.in-Ok.archs) c.args.packages.now c.args.sources.now c.read.result
     c.counts_of.result
-    c.read_beside.ensures.found c.read_beside.ensures.only c.read_beside.ensures.fault
+    c.read.ensures.found c.read.ensures.only c.read.ensures.fault
     c.counts_of.ensures.counts c.counts_of.ensures.refused)

@@ -17,10 +17,10 @@ returns-in-Ok-clause-said g c =
     (sym c.in-Ok.is)
     (λ archs.
     let x = texts_over archs packages sources over in
-    tells_with Says (table c.in-Ok.archs) x packages sources c.of_early-archive.result
-    c.indices_text.result refl refl c.of_early-archive.ensures.found
-    c.of_early-archive.ensures.only c.of_early-archive.ensures.fault
-    (IfOk-weaker c.of_early-archive.result
+    tells_with Says (table c.in-Ok.archs) x packages sources c.of_texts-archive.result
+    c.indices_text.result refl refl c.of_texts-archive.ensures.found
+    c.of_texts-archive.ensures.only c.of_texts-archive.ensures.fault
+    (IfOk-weaker c.of_texts-archive.result
     (λ a. (r p s : List ℕ) → TellsOver Says a (texts_over r p s over) c.indices_text.result)
     (λ a. TellsOver Says a x c.indices_text.result) (λ a tells. tells archs packages sources)
     c.indices_text.ensures.said)

@@ -28,7 +28,7 @@ fn found(
     sources: &str,
 ) -> Result<String, AllocError> {
     let archs = made(rt, Archs::read(alloc, "amd64 linux amd64\n"));
-    match Archive::read_beside(rt, alloc, packages, sources, &archs) {
+    match Archive::read(rt, alloc, packages, sources, &archs) {
         Ok(archive) => {
             let counts = counts(alloc, &archive);
             drop(archive);

@@ -1,4 +1,4 @@
--- `read_sources`: its loop and the clauses `err` and `ok`.
+-- `keep_sources`: its loop and the clauses `err` and `ok`.
 use Rattle.std.proofs.Common.{ℕ, List, Bor, ◌<◌, Ok, length, ap, sym, ◌∙◌, arith}
 use Rattle.std.specs.declared.hash.FoldHasher.{FoldHasher}
 use Rattle.std.specs.declared.hash.BuildHasherDefault.{BuildHasherDefault}
@@ -9,9 +9,9 @@ use Rattle.td_stanza.specs.Table.{fields_of}
 use Rattle.td_indices.specs.Sources.{sources_of}
 use Rattle.td_indices.specs.Reading.{source_step}
 use Rattle.td_indices.proofs.Steps.{stepped, faulted, ended}
-use Rattle.td_indices.proofs.stanza_reading.read_sources.Goals as goal
-use Rattle.td_indices.proofs.stanza_reading.read_sources.Goals.{in-Some+in-Ok-take_source}
-use Rattle.td_indices.proofs.stanza_reading.read_sources.Goals.{in_default-stanza}
+use Rattle.td_indices.proofs.stanza_reading.keep_sources.Goals as goal
+use Rattle.td_indices.proofs.stanza_reading.keep_sources.Goals.{in-Some+in-Ok-take_source}
+use Rattle.td_indices.proofs.stanza_reading.keep_sources.Goals.{in_default-stanza}
 
 pub returns-in-Err-clause-err : goal.returns-in-Err-clause-err
 returns-in-Err-clause-err c =

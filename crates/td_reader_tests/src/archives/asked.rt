@@ -9,7 +9,7 @@ use crate::statuses::{ARCHS, LIBFOO2, PACKAGES, SOURCES, status_name};
 use std::alloc::{AllocError, Global};
 use std::process::Abort;
 use std::thread::Threads;
-use td_indices::{Archive, EarlyPackages, EarlySources};
+use td_indices::{Archive, IndexText};
 use td_query::{Marks, Tracker};
 use td_relation::Archs;
 use td_waves::{Level, Waves};
@@ -166,11 +166,11 @@ const TOLD: [(&str, &str); 3] = [
 fn is_read(
     rt: &(impl Threads + Abort + Sync),
     alloc: Global,
-    packages: EarlyPackages<'_>,
-    sources: EarlySources<'_>,
+    packages: IndexText<'_>,
+    sources: IndexText<'_>,
 ) {
     let archs = made(rt, Archs::read(alloc, ARCHS));
-    let read = Archive::of_early(rt, alloc, packages, sources, &archs);
+    let read = Archive::of_texts(rt, alloc, packages, sources, &archs);
     let archive = made(rt, read);
     is_told(rt, counts(alloc, &archive), "6005 6006 6005", "counts");
     for (text, expected) in &TOLD {
@@ -183,9 +183,9 @@ fn is_read(
 fn long_indices_that_come_whole_are_asked_in_threads(rt: HostRuntime) {
     let packages = made(&rt, lengthened(rt.alloc(), PACKAGES, 6000));
     let sources = made(&rt, lengthened(rt.alloc(), SOURCES, 6000));
-    let early_packages = EarlyPackages::read_beside(&rt, rt.alloc(), packages.as_str());
-    let early_sources = EarlySources::read_beside(&rt, rt.alloc(), sources.as_str());
-    is_read(&rt, rt.alloc(), early_packages, early_sources);
+    let of_packages = IndexText::read(&rt, rt.alloc(), packages.as_str());
+    let of_sources = IndexText::read(&rt, rt.alloc(), sources.as_str());
+    is_read(&rt, rt.alloc(), of_packages, of_sources);
 }
 
 #[test]
@@ -193,14 +193,9 @@ fn long_indices_that_come_in_halves_are_asked_in_threads(rt: HostRuntime) {
     let packages = made(&rt, lengthened(rt.alloc(), PACKAGES, 3000));
     let sources = made(&rt, lengthened(rt.alloc(), SOURCES, 3000));
     let rest = made(&rt, rest(rt.alloc()));
-    let early_packages = EarlyPackages::of_halves(
-        &rt,
-        rt.alloc(),
-        packages.as_str(),
-        rest.as_str(),
-    );
-    let early_sources = EarlySources::of_halves(&rt, rt.alloc(), sources.as_str(), rest.as_str());
-    let packages = made(&rt, early_packages.ok_or("no halves"));
-    let sources = made(&rt, early_sources.ok_or("no halves"));
-    is_read(&rt, rt.alloc(), packages, sources);
+    let of_packages = IndexText::of_halves(&rt, rt.alloc(), packages.as_str(), rest.as_str());
+    let of_sources = IndexText::of_halves(&rt, rt.alloc(), sources.as_str(), rest.as_str());
+    let of_packages = made(&rt, of_packages.ok_or("no halves"));
+    let of_sources = made(&rt, of_sources.ok_or("no halves"));
+    is_read(&rt, rt.alloc(), of_packages, of_sources);
 }
