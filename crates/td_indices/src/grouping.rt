@@ -1,5 +1,5 @@
-//! The binary packages are put under their sources in four threads, beside the count of the rows, and
-//! found there by architecture.
+//! The binary packages are put under their sources in four threads, beside the count of the rows,
+//! and found there by architecture.
 ghost use Rattle.std.specs.Prelude.{◌≡◌, ◌⊎◌, ◌≤◌, ◌<◌, ℕ, List, Some, IfOk, IfErr, IsErrOf};
 ghost use Rattle.std.specs.Prelude.{filter, slice_get};
 ghost use Rattle.std.specs.Option.{option_map_or};

@@ -2,8 +2,8 @@
 //! count, found by their names, the rows with which a desk opens over them, and what they put on
 //! offer.
 //!
-//! Start at `Archive::read`. An `IndexText` is a text with its stanzas; `Archive::of_texts` takes two
-//! that were found while the texts came. Threads share the work, and no clause speaks of them.
+//! Start at `Archive::read`. An `IndexText` is a text with its stanzas; `Archive::of_texts` takes
+//! two that were found while the texts came. Threads share the work, and no clause speaks of them.
 //! Texts are slices of the files; a look-up goes by hash.
 //! Promised: what is read is an archive as `specs/Archive.antt` says, else the first fault is
 //! named; a stanza is a package or a source exactly where `specs/PackageStanzas.antt` and

@@ -104,9 +104,9 @@ pub fn read_halves<'a>(
     read_two(rt, alloc, before, rest, HALVINGS - 1)
 }
 
-/// The stanzas of a text, of a long one in pieces, or its first fault as a control file. A text that
-/// has a fault, or that memory doesn't suffice for, is read again as a whole, so that its lines are
-/// counted from its first.
+/// The stanzas of a text, of a long one in pieces, or its first fault as a control file. A text
+/// that has a fault, or that memory doesn't suffice for, is read again as a whole, so that its lines
+/// are counted from its first.
 pub fn read_stanzas<'a, R: Threads + Sync>(
     rt: &R,
     alloc: Global,

@@ -68,8 +68,8 @@ fn mark_range(
 }
 
 // The marks of a file's stanzas from one with a number up to another, by the tracker of a text. It
-// is read anew: a thread may borrow the text, and not what `regex` made of it. What `regex` makes of
-// the text again finds alike.
+// is read anew: a thread may borrow the text, and not what `regex` made of it. What `regex` makes
+// of the text again finds alike.
 fn between_by_text(
     alloc: Global,
     archive: &Archive<'_, '_>,
@@ -142,9 +142,9 @@ fn rest_by_tracker(
     Ok((packages, sources))
 }
 
-// The marks of the packages from one with a number on, and of all sources: those from another number
-// on a thread makes by the text.
-fn rest_beside<R: Threads + Sync>(
+// The marks of the packages from one with a number on, and of all sources: those from another
+// number on a thread makes by the text.
+fn rest_and_sources<R: Threads + Sync>(
     rt: &R,
     alloc: Global,
     archive: &Archive<'_, '_>,
@@ -203,7 +203,7 @@ pub fn mark_stanzas<R: Threads + Sync>(
         requires { IsSync R.row × IsTracker text.now (tracking tracker.now)
             × (second ≤ length archive.now.binaries) × (cut ≤ length archive.now.sources) }
         ensures { AreRestAndSources archive.entry.now (tracking tracker.entry.now) second result }
-    { rest_beside(rt, alloc, archive, tracker, text, second, cut) };
+    { rest_and_sources(rt, alloc, archive, tracker, text, second, cut) };
     let (front, rest) = thread::join(rt, of_front, of_rest);
     let mut packages = front?;
     let (mut others, sources) = rest?;

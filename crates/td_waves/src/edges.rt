@@ -76,8 +76,8 @@ fn edges_between<'a>(
     Ok(graph)
 }
 
-// The lists that `edges_between` gives, in parts that are halved so often, each in a thread. No list
-// is copied.
+// The lists that `edges_between` gives, in parts that are halved so often, each in a thread. No
+// list is copied.
 #[cycle(parts)]
 fn edges_in_parts<'a, R: Threads + Sync>(
     rt: &R,
