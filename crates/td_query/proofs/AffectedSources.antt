@@ -1,17 +1,16 @@
 -- Whether a source is affected, place by place, and all that are, by flags.
-use Rattle.std.proofs.Common.{◌≡◌, ℕ, ◌+◌, ◌<◌, Bool, false, List, [], ◌∷◌, ◌++◌, Option}
-use Rattle.std.proofs.Common.{Some, None, filter, length, option_map, take, map, slice_get, refl}
-use Rattle.std.proofs.Common.{sym, ap, ◌∙◌, append_assoc, if◌then◌else◌}
+use Rattle.std.proofs.Common.{◌≡◌, ℕ, suc, ◌+◌, Bool, false, List, [], ◌∷◌, Option}
+use Rattle.std.proofs.Common.{Some, None, filter, length, option_map, map, slice_get, refl}
+use Rattle.std.proofs.Common.{sym, ap, ◌∙◌, arith, if◌then◌else◌}
 use Rattle.std.specs.Prelude.{is_some}
-use Rattle.std.specs.List.{list_any, range_with_len}
+use Rattle.std.specs.List.{AllZip, list_any, range_with_len}
 use Rattle.std.specs.Option.{option_map_or}
-use Rattle.std.proofs.lemmas.List.{map-append}
+use Rattle.std.proofs.lemmas.Slice.Zip.{AllZip-map}
 use Rattle.td_indices.specs.Archive.{Contents}
 use Rattle.td_indices.specs.Choosing.{flagged}
 use Rattle.td_indices.specs.Sources.{KeptSource}
 use Rattle.td_indices.specs.Seen.{seen_source, shown_source}
 use Rattle.td_indices.specs.declared.sourced.Source.{Source}
-use Rattle.td_rows.proofs.Lists.{slice_get-none, take-next}
 use Rattle.td_query.specs.Statuses.{is_affected, is_affected_at, row_status, status_at}
 use Rattle.td_query.specs.Tracking.{Tracking}
 
@@ -41,27 +40,36 @@ flagged-map test [] = refl
 flagged-map test (s ∷ sources) =
     ap (λ (l : List KeptSource). if test s then s ∷ l else l) (flagged-map test sources)
 
--- one flag more
-pub flags-more : (test : KeptSource → Bool) (sources : List KeptSource) (from n : ℕ)
-    (old new : List Bool) (flag : Bool) → n < length sources
-    → flag ≡ option_map_or test (slice_get sources n) false
-    → map test (take from sources) ++ old ≡ map test (take n sources) → new ≡ old ++ flag ∷ []
-    → map test (take from sources) ++ new ≡ map test (take (n + 1) sources)
-flags-more test sources from n old new flag within is so_far pushed = by (slice_get sources n) refl
-  where
-    front : List Bool
-    front = map test (take from sources)
+-- a test of the sources with the numbers from one on, one after the other, is that of the sources
+by_number : (test : KeptSource → Bool) (at : ℕ → Bool) (first : ℕ) (sources : List KeptSource)
+    → ((i : ℕ) → at (first + i) ≡ option_map_or test (slice_get sources i) false)
+    → map at (range_with_len first (length sources)) ≡ map test sources
+by_number test at first [] is = refl
+by_number test at first (s ∷ sources) is =
+    let here : first ≡ first + 0 = omega arith in
+    let next : (i : ℕ) → first + 1 + i ≡ first + suc i = λ i. omega arith in
+    ap (λ (b : Bool). b ∷ map at (range_with_len (first + 1) (length sources)))
+    (ap at here ∙ is 0)
+    ∙ ap (λ (bs : List Bool). test s ∷ bs)
+    (by_number test at (first + 1) sources (λ i. ap at (next i) ∙ is (suc i)))
 
-    by : (o : Option KeptSource) → slice_get sources n ≡ o
-        → front ++ new ≡ map test (take (n + 1) sources)
-    by None e = absurd (slice_get-none sources n e within)
-    by (Some s) e =
-        let its : flag ≡ test s = is ∙ ap (λ o. option_map_or test o false) e in
-        ap (λ (l : List Bool). front ++ l) pushed ∙ sym (append_assoc front old (flag ∷ []))
-        ∙ ap (λ (l : List Bool). l ++ flag ∷ []) so_far
-        ∙ ap (λ (b : Bool). map test (take n sources) ++ b ∷ []) its
-        ∙ sym (map-append test (take n sources) (s ∷ []))
-        ∙ ap (map test) (sym (take-next sources n s e))
+answers : (P Q : ℕ → Bool → Type 0) → ((n : ℕ) (b : Bool) → P n b → Q n b) → (ns : List ℕ)
+    (bs : List Bool) → AllZip P ns bs → AllZip Q ns bs
+answers P Q so [] [] all = tt
+answers P Q so [] (b ∷ bs) all = absurd all
+answers P Q so (n ∷ ns) [] all = absurd all
+answers P Q so (n ∷ ns) (b ∷ bs) all = (so n b all.0, answers P Q so ns bs all.1)
+
+-- flags that were made number by number are those of all sources
+pub flags_made : (test : KeptSource → Bool) (sources : List KeptSource) (P : ℕ → Bool → Type 0)
+    (numbers : List ℕ) (flags : List Bool) → numbers ≡ range_with_len 0 (length sources)
+    → ((n : ℕ) (b : Bool) → P n b → b ≡ option_map_or test (slice_get sources n) false)
+    → AllZip P numbers flags → flags ≡ map test sources
+flags_made test sources P numbers flags all so made =
+    let at : ℕ → Bool = λ n. option_map_or test (slice_get sources n) false in
+    let same : (i : ℕ) → 0 + i ≡ i = λ i. omega arith in
+    AllZip-map at numbers flags (answers P (λ n b. b ≡ at n) so numbers flags made)
+    ∙ ap (map at) all ∙ by_number test at 0 sources (λ i. ap at (same i))
 
 -- the source that was found
 pub found : (o : Option KeptSource) (x : Source) → Some (seen_source x) ≡ option_map shown_source o

@@ -2,4 +2,3 @@
 pub mod Settling
 pub mod Alike
 pub mod MarkParts
-pub mod FlagsBetween
