@@ -12,6 +12,6 @@ pub mod Places
 pub mod Names
 pub mod Finding
 pub mod Graphs
-pub mod FirstEdges
+pub mod MadeEdges
 pub mod Standing
 pub mod AskingLaws

@@ -36,7 +36,7 @@ stand_for a affected keys graph same edges =
           let r = number_of keys x (same x ∙ ax) in
           (r.number, omega (arith, r.within, size), r.named);
       same = λ i j ni nj.
-          let its = edges.edges i j (omega (arith, ni, size)) in
+          let its = edges.edges i (omega (arith, ni, size)) j in
           let b = builds_on a (name_at keys i) (name_at keys j) in
           let below : nat_lt j (length keys) ≡ true =
           lt-ltb j (length keys) (omega (arith, nj, size)) in (

@@ -12,13 +12,13 @@ use Rattle.td_waves.specs.Named.{texts}
 abbrev pub name_at : List (Bor (List ℕ)) → ℕ → List ℕ
 name_at names number = slice_index_or (texts names) number []
 
--- for each of the first so many names the numbers of those on which its source builds
-pub record AreFirstEdges (a : Contents) (names : List (Bor (List ℕ))) (count : ℕ)
-    (graph : List (Vec ℕ)) : Type 0 where
-  pub all : length graph ≡ count
-  pub edges : (s t : ℕ) → s < count → has t (bases_of (lists graph) s)
-      ≡ (nat_lt t (length names) && builds_on a (name_at names s) (name_at names t))
+-- numbers are those of the names on whose sources the source of the name with a number builds
+abbrev pub AreBases : Contents → List (Bor (List ℕ)) → ℕ → List ℕ → Type 0
+AreBases a names number bases = (t : ℕ) → has t bases
+    ≡ (nat_lt t (length names) && builds_on a (name_at names number) (name_at names t))
 
--- the same for each name
-abbrev pub AreEdges : Contents → List (Bor (List ℕ)) → List (Vec ℕ) → Type 0
-AreEdges a names graph = AreFirstEdges a names (length names) graph
+-- a graph has for each name the numbers of those on whose sources its source builds
+pub record AreEdges (a : Contents) (names : List (Bor (List ℕ)))
+    (graph : List (Vec ℕ)) : Type 0 where
+  pub all : length graph ≡ length names
+  pub edges : (s : ℕ) → s < length names → AreBases a names s (bases_of (lists graph) s)

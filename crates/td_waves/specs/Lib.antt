@@ -10,4 +10,3 @@ pub mod Edges
 pub mod Waves
 pub mod WavesView
 pub mod BuildsOnLaws
-pub mod inner

@@ -1,7 +1,8 @@
 -- What is found under a name: the packages of the affected sources that offer it.
 -- This project's own.
-use Rattle.std.specs.Prelude.{ℕ, zero, suc, Bool, false, ◌&&◌, ◌||◌, List, [], ◌∷◌, Option}
-use Rattle.std.specs.Prelude.{slice_get, slice_index_or}
+use Rattle.std.specs.Prelude.{◌≡◌, ℕ, zero, suc, Bool, false, ◌&&◌, ◌||◌, List, [], ◌∷◌, Option}
+use Rattle.std.specs.Prelude.{length, slice_get, slice_index_or}
+use Rattle.std.specs.Borrow.{Bor}
 use Rattle.std.specs.List.{list_any}
 use Rattle.std.specs.HashMap.{get_by}
 use Rattle.std.specs.Option.{option_map_or}
@@ -12,6 +13,7 @@ use Rattle.td_indices.specs.OfferedNames.{offered_names}
 use Rattle.td_waves.specs.declared.providers.Found.{Found}
 use Rattle.td_waves.specs.declared.providers.Provider.{Provider}
 use Rattle.td_waves.specs.declared.providers.Providers.{Providers}
+use Rattle.td_waves.specs.Named.{texts}
 
 -- the first that is found under a name, and the others
 abbrev pub all_found : Found → List Provider
@@ -46,3 +48,9 @@ abbrev pub some_below : Contents → List (List ℕ) → List ℕ → (Provider 
 some_below a names q test zero = false
 some_below a names q test (suc n) = some_below a names q test n
     || some_passes a q test (slice_index_or names n []) n
+
+-- what is found under each name are the packages of the affected sources that offer it
+abbrev pub AreProviders : Contents → List (Bor (List ℕ)) → Providers → Type 0
+AreProviders a names providers =
+    (q : List ℕ) (test : Provider → Bool)
+    → list_any test (under providers q) ≡ some_below a (texts names) q test (length names)
