@@ -1,5 +1,5 @@
 //! Each of the two files read by itself, beside the other: its stanzas, and what they keep.
-ghost use Rattle.std.specs.Prelude.{◌≡◌, ℕ, true, List, length};
+ghost use Rattle.std.specs.Prelude.{◌≡◌, ℕ, true, List};
 ghost use denote.Param.Send.{IsSync};
 ghost use Rattle.td_text.specs.Lines.{lines_of};
 ghost use Rattle.td_stanza.specs.StanzaGrammar.{AreStanzas};
@@ -12,7 +12,7 @@ use crate::archive_fault::{ArchiveFault, IndexFile};
 use crate::binaries::Binaries;
 use crate::index_text::IndexText;
 use crate::part_reading::{HALVINGS, read_parts};
-use crate::soundness::are_all_sound;
+use crate::soundness::are_sound;
 use crate::sourced::Sourced;
 use crate::stanza_pieces::StanzaPieces;
 use crate::stanza_reading::{keep_sources, kept_of};
@@ -70,7 +70,7 @@ fn read_packages<'a, R: Threads + Sync>(
 
 // What these stanzas of Sources keep. Where they are `sound`, what their builds ask for isn't read.
 fn kept_sources<'a>(alloc: Global, stanzas: StanzaPieces<'a>, sound: bool) -> SourcesIndex<'a>
-    requires { sound ≡ true → AreSound stanzas 0 (length stanzas) }
+    requires { sound ≡ true → AreSound stanzas }
     ensures { (lines : List (List ℕ)) → AreStanzas stanzas.entry lines → AreSources lines result }
 {
     let kept = keep_sources(alloc, &stanzas, sound);
@@ -87,7 +87,7 @@ fn read_sources<'a, R: Threads + Sync>(
 {
     match text.into_stanzas(IndexFile::Sources) {
         Ok(stanzas) => {
-            let sound = are_all_sound(rt, alloc, &stanzas);
+            let sound = are_sound(rt, alloc, &stanzas);
             Ok(kept_sources(alloc, stanzas, sound))
         }
         Err(fault) => Err(fault),

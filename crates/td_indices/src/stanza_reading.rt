@@ -95,7 +95,7 @@ pub fn keep_sources<'a>(
     stanzas: &StanzaPieces<'a>,
     sound: bool,
 ) -> Result<IndexMap<&'a str, Sourced<'a>>, ArchiveFault>
-    requires { sound ≡ true → AreSound stanzas.now 0 (length stanzas.now) }
+    requires { sound ≡ true → AreSound stanzas.now }
     ensures ok { IfOk result (λ kept. sources_at stanzas.now ≡ Ok (sources_of kept.entries)) }
     ensures err { IfErr result (λ e. IsFaultOf (sources_at stanzas.now) e) }
     ensures entry { IfErr result (λ e. is_entry e ≡ true) }
