@@ -11,7 +11,7 @@ use std::alloc::{AllocError, Global};
 use std::process::Abort;
 use std::thread::Threads;
 use td_indices::Archive;
-use td_query::{Marks, Tracker};
+use td_query::Tracker;
 use td_relation::Archs;
 use td_report::Transition;
 use td_rows::Rows;
@@ -62,8 +62,8 @@ fn over_all_rows(
     drop(rows);
 }
 
-// A transition whose marks it makes itself.
-fn by_itself(
+// A transition over all rows with which a desk opens.
+fn of_all_rows(
     rt: &(impl Threads + Abort + Sync),
     alloc: Global,
     archive: &Archive<'_, '_>,
@@ -73,23 +73,6 @@ fn by_itself(
     requires { IsTracker text.now (tracking tracker.now) }
 {
     let transition = made(rt, Transition::of(rt, alloc, archive, tracker, text));
-    over_all_rows(rt, alloc, archive, &transition);
-    drop(transition);
-}
-
-// A transition by marks that were made before.
-fn with_marks(
-    rt: &(impl Threads + Abort + Sync),
-    alloc: Global,
-    archive: &Archive<'_, '_>,
-    tracker: &Tracker<'_>,
-    text: &str,
-)
-    requires { IsTracker text.now (tracking tracker.now) }
-{
-    let marks = made(rt, Marks::make(rt, alloc, archive, tracker, text));
-    let of_marks = Transition::with_marks(rt, alloc, archive, tracker, marks);
-    let transition = made(rt, of_marks);
     over_all_rows(rt, alloc, archive, &transition);
     drop(transition);
 }
@@ -104,8 +87,7 @@ fn with_opening_rows(
 )
     requires { IsTracker text.now (tracking tracker.now) }
 {
-    let marks = made(rt, Marks::make(rt, alloc, archive, tracker, text));
-    let with_rows = Transition::with_opening_rows(rt, alloc, archive, tracker, marks);
+    let with_rows = Transition::with_opening_rows(rt, alloc, archive, tracker, text);
     let (transition, rows) = made(rt, with_rows);
     are_reported(rt, alloc, &transition, &rows);
     are_in_levels(rt, alloc, &transition, &rows);
@@ -116,8 +98,7 @@ fn with_opening_rows(
 // Each transition of the tracker over an archive.
 fn over_archive(rt: &(impl Threads + Abort + Sync), alloc: Global, archive: &Archive<'_, '_>) {
     let tracker = made(rt, Tracker::read(alloc, TRACKER));
-    by_itself(rt, alloc, archive, &tracker, TRACKER);
-    with_marks(rt, alloc, archive, &tracker, TRACKER);
+    of_all_rows(rt, alloc, archive, &tracker, TRACKER);
     with_opening_rows(rt, alloc, archive, &tracker, TRACKER);
 }
 

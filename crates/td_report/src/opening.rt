@@ -47,27 +47,27 @@ fn rows_and_waves<'a, R: Threads + Sync>(
 
 impl<'b, 't, 'a, 'q> Transition<'b, 't, 'a, 'q> {
     ghost use Rattle.std.specs.Prelude.{◌≡◌, IfOk};
-    ghost use Rattle.td_query.specs.Marks.{AreMarks};
-    ghost use Rattle.td_query.specs.Tracking.{tracking};
+    ghost use Rattle.td_query.specs.Tracking.{IsTracker, tracking};
     ghost use Rattle.td_report.specs.OpeningRows.{StandForAll};
     ghost use Rattle.td_report.specs.TransitionView as of;
 
-    /// A tracker's transition over an archive whose marks were made before, and the rows with which
-    /// the affected sources open. What is told of these is told of all with which a desk opens over
-    /// the archive, since no other is affected.
+    /// The transition of a text's tracker over an archive, and the rows with which the affected
+    /// sources open. What is told of these is told of all with which a desk opens over the archive,
+    /// since no other is affected.
     pub fn with_opening_rows(
         rt: &(impl Threads + Sync),
         alloc: Global,
         archive: &'b Archive<'t, 'a>,
         tracker: &'b Tracker<'q>,
-        marks: Marks,
+        text: &str,
     ) -> Result<(Transition<'b, 't, 'a, 'q>, Rows), AllocError>
-        requires { AreMarks archive.now (tracking tracker.now) marks }
+        requires { IsTracker text.now (tracking tracker.now) }
         ensures made { IfOk result (λ p. of.IsMade p.0) }
         ensures archive { IfOk result (λ p. of.contents_of p.0 ≡ archive.now) }
         ensures tracking { IfOk result (λ p. of.tracking_of p.0 ≡ tracking tracker.now) }
         ensures rows { IfOk result (λ p. StandForAll p.0 p.1) }
     {
+        let marks = Marks::make(rt, alloc, archive, tracker, text)?;
         let flags = marks.affected_flags(rt, alloc, archive)?;
         let names = archive.names_of(alloc, &flags)?;
         let (rows, waves) = rows_and_waves(rt, alloc, archive, &flags, &names);

@@ -12,7 +12,7 @@ use td_rows::{Key, Row, Rows};
 use td_waves::{Level, Waves};
 
 /// What a tracker makes of an archive: which rows are affected, and in which levels their sources
-/// can be rebuilt. The only ways to one are `of`, `with_marks` and `with_opening_rows`.
+/// can be rebuilt. The only ways to one are `of` and `with_opening_rows`.
 #[derive(Drop)]
 pub struct Transition<'b, 't, 'a, 'q> {
     pub(crate) archive: &'b Archive<'t, 'a>,
@@ -23,7 +23,6 @@ pub struct Transition<'b, 't, 'a, 'q> {
 
 impl<'b, 't, 'a, 'q> Transition<'b, 't, 'a, 'q> {
     ghost use Rattle.std.specs.Prelude.{◌≡◌, ◌≤◌, IfOk, IfSome, string_bytes};
-    ghost use Rattle.td_query.specs.Marks.{AreMarks};
     ghost use Rattle.td_query.specs.Statuses.{status_of};
     ghost use Rattle.td_query.specs.Tracking.{IsTracker, tracking};
     ghost use Rattle.td_report.specs.Groups.{AreCounts};
@@ -31,7 +30,7 @@ impl<'b, 't, 'a, 'q> Transition<'b, 't, 'a, 'q> {
     ghost use Rattle.td_report.specs.TransitionView as of;
 
     /// The transition of a text's tracker over an archive. Each query is evaluated once on each
-    /// stanza, by several threads, of which some read the tracker anew from the text.
+    /// stanza.
     pub fn of(
         rt: &(impl Threads + Sync),
         alloc: Global,
@@ -45,22 +44,6 @@ impl<'b, 't, 'a, 'q> Transition<'b, 't, 'a, 'q> {
         ensures tracking { IfOk result (λ x. of.tracking_of x ≡ tracking tracker.now) }
     {
         let marks = Marks::make(rt, alloc, archive, tracker, text)?;
-        Transition::with_marks(rt, alloc, archive, tracker, marks)
-    }
-
-    /// A tracker's transition over an archive whose marks were made before.
-    pub fn with_marks(
-        rt: &(impl Threads + Sync),
-        alloc: Global,
-        archive: &'b Archive<'t, 'a>,
-        tracker: &'b Tracker<'q>,
-        marks: Marks,
-    ) -> Result<Transition<'b, 't, 'a, 'q>, AllocError>
-        requires { AreMarks archive.now (tracking tracker.now) marks }
-        ensures made { IfOk result of.IsMade }
-        ensures archive { IfOk result (λ x. of.contents_of x ≡ archive.now) }
-        ensures tracking { IfOk result (λ x. of.tracking_of x ≡ tracking tracker.now) }
-    {
         let names = marks.affected_sources(rt, alloc, archive)?;
         let waves = Waves::of(rt, alloc, archive, &names)?;
         Ok(Transition {

@@ -29,15 +29,6 @@ use Rattle.td_tool.specs.TrackInside.{AreTextsRead, HasFailedAt, Tells, TellsTex
 
 -- ---- what ends first
 
--- what holds of how the first may end, and of want of memory, holds of how both end
-pub ended_by : {A B E : Type 0} (Holds : Ending → Type 0) (first : Result A Ending)
-    (second : Result B E) (ending : Ending) → IfErr first Holds → Holds NoMemory
-    → (first ≡ Err ending)
-    ⊎ ((a : A) × (e : E) × (first ≡ Ok a) × (second ≡ Err e) × (ending ≡ NoMemory))
-    → Holds ending
-ended_by Holds first second ending bad memory (inl is) = subst (λ x. IfErr x Holds) is bad
-ended_by Holds first second ending bad memory (inr is) = subst Holds (sym is.4) memory
-
 -- ---- known files
 
 -- a known text is the one that was read

@@ -4,7 +4,6 @@ ghost use Rattle.std.specs.Prelude.{true, string_bytes};
 ghost use Rattle.std.specs.Result.{ForOk};
 ghost use Rattle.td_relation.specs.TableView.{table};
 ghost use Rattle.td_core.specs.Phases.{NoneBuilt};
-ghost use Rattle.td_query.specs.Marks.{AreMarks};
 ghost use Rattle.td_query.specs.Tracking.{IsTracker, tracking};
 ghost use Rattle.td_report.specs.Transition.{IsReport};
 ghost use Rattle.td_report.specs.TransitionView as of;
@@ -26,10 +25,10 @@ use crate::texts::Texts;
 use crate::track_files::{TrackPaths, TrackTexts, TrackerTexts, read_track_files};
 use std::alloc::{AllocError, Global};
 use std::thread::Threads;
-use std::{mem, thread};
+use std::mem;
 use td_bytes::Writer;
 use td_indices::{Archive, ArchiveFault, IndexText};
-use td_query::{Marks, Tracker, TrackerFault};
+use td_query::{Tracker, TrackerFault};
 use td_relation::{Archs, ArchsFault};
 use td_report::Transition;
 use td_rows::Rows;
@@ -129,53 +128,6 @@ fn rows_of(alloc: Global, archive: &Archive<'_, '_>, state: &Option<String>) -> 
     }
 }
 
-// The rows of an archive, in a thread of their own, beside what a tracker marks in it.
-fn rows_beside(
-    rt: &(impl Threads + Sync),
-    alloc: Global,
-    archive: &Archive<'_, '_>,
-    state: &Option<String>,
-    tracker: &Tracker<'_>,
-    text: &str,
-) -> (Result<Rows, Ending>, Result<Marks, AllocError>)
-    requires { IsTracker text.now (tracking tracker.now) }
-    ensures rows { IfOk result.0 (AreRowsOf archive.now (option_map string_bytes state.now)) }
-    ensures none { IfErr result.0
-        (EndsWithoutRows archive.now (option_map string_bytes state.now)) }
-    ensures marks { IfOk result.1 (AreMarks archive.now (tracking tracker.now)) }
-{
-    let of_rows = move || -> Result<Rows, Ending>
-        ensures rows { IfOk result
-            (AreRowsOf archive.entry.now (option_map string_bytes state.entry.now)) }
-        ensures none { IfErr result
-            (EndsWithoutRows archive.entry.now (option_map string_bytes state.entry.now)) }
-    { rows_of(alloc, archive, state) };
-    let of_marks = move || -> Result<Marks, AllocError>
-        requires { IsTracker text.now (tracking tracker.now) }
-        ensures { IfOk result (AreMarks archive.entry.now (tracking tracker.entry.now)) }
-    { Marks::make(rt, alloc, archive, tracker, text) };
-    thread::join(rt, of_rows, of_marks)
-}
-
-// Both of what was made side by side, or how the first of the two ends it.
-fn both_made<A: Drop, B: Drop>(
-    first: Result<A, Ending>,
-    second: Result<B, AllocError>,
-) -> Result<(A, B), Ending>
-    ensures ok { IfOk result (λ p. (first ≡ Ok p.0) × (second ≡ Ok p.1)) }
-    ensures err { IfErr result (λ ending. (first ≡ Err ending)
-        ⊎ ((a : A) × (e : AllocError) × (first ≡ Ok a) × (second ≡ Err e)
-        × (ending ≡ Ending.NoMemory))) }
-{
-    match first {
-        Ok(first) => match second {
-            Ok(second) => Ok((first, second)),
-            Err(_) => Err(Ending::NoMemory),
-        },
-        Err(ending) => Err(ending),
-    }
-}
-
 // How a run ends: as the first does where that failed, and else so.
 fn first_told<A: Drop>(first: Result<A, Ending>, second: Ending) -> Ending
     ensures ok { IfOk first (λ _. result ≡ second) }
@@ -187,25 +139,26 @@ fn first_told<A: Drop>(first: Result<A, Ending>, second: Ending) -> Ending
     }
 }
 
-// The text that is told, by what a tracker marks in an archive.
-fn marks_say(
+// What is asked of a text's tracker over an archive and these rows.
+fn transition_says(
     rt: &(impl Threads + Sync),
     alloc: Global,
     archive: &Archive<'_, '_>,
     rows: &Rows,
     tracker: &Tracker<'_>,
-    marks: Marks,
+    text: &str,
     asked: Asked,
 ) -> Result<String, AllocError>
-    requires { AreMarks archive.now (tracking tracker.now) marks }
-    ensures { IfOk result (λ text.
-        saying_of asked archive.now (tracking tracker.now) rows.now (string_bytes text)) }
+    requires { IsTracker text.now (tracking tracker.now) }
+    ensures { IfOk result (λ said.
+        saying_of asked archive.now (tracking tracker.now) rows.now (string_bytes said)) }
 {
-    let transition = Transition::with_marks(rt, alloc, archive, tracker, marks)?;
+    let transition = Transition::of(rt, alloc, archive, tracker, text)?;
     told(rt, alloc, &transition, rows, asked)
 }
 
-// The same, of a text's tracker over an archive and its rows, of which some may be those of a file.
+// What is asked of a text's tracker over an archive and its rows, of which some may be those of a
+// file.
 fn rows_say(
     rt: &(impl Threads + Sync),
     alloc: Global,
@@ -221,10 +174,9 @@ fn rows_say(
         (tracking tracker.now) (string_bytes text)) }
     ensures none { IfErr result (EndsWithoutRows archive.now (option_map string_bytes state.now)) }
 {
-    let (rows, marks) = rows_beside(rt, alloc, archive, state, tracker, text);
-    match both_made(rows, marks) {
-        Ok((rows, marks)) => {
-            let said = marks_say(rt, alloc, archive, &rows, tracker, marks, asked);
+    match rows_of(alloc, archive, state) {
+        Ok(rows) => {
+            let said = transition_says(rt, alloc, archive, &rows, tracker, text, asked);
             mem::forget(rows);
             or_no_memory(said)
         }
@@ -247,8 +199,7 @@ fn opening_says(
         RowsAreSaid (saying_of asked) archive.now None (tracking tracker.now)
         (string_bytes said)) }
 {
-    let marks = Marks::make(rt, alloc, archive, tracker, text)?;
-    let (transition, rows) = Transition::with_opening_rows(rt, alloc, archive, tracker, marks)?;
+    let (transition, rows) = Transition::with_opening_rows(rt, alloc, archive, tracker, text)?;
     told(rt, alloc, &transition, &rows, asked)
 }
 

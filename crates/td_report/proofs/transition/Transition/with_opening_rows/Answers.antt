@@ -19,11 +19,11 @@ returns-clause-made g c =
     let names = c.deref-3.result.now in
     let w = c.in_ok-waves.field-0 in
     record {
-      marked = c.requires;
+      marked = c.in_ok-marks.ensures.marks;
       leveled = are_levels a t names (level_of w) (depth_of w)
           (ap (map (λ name. name.now)) c.deref-3.ensures.value ∙ c.in_ok-names.ensures
           ∙ ap (λ fs. map (λ (s : KeptSource). s.head.name) (flagged fs a.sources))
-          (c.deref.ensures.value ∙ c.in_ok-flags.ensures.flags t c.requires)
+          (c.deref.ensures.value ∙ c.in_ok-flags.ensures.flags t c.in_ok-marks.ensures.marks)
           ∙ ap (map (λ (s : KeptSource). s.head.name)) (flagged-map (is_affected a t) a.sources))
           (subst (λ r. IfOk r (λ v. (source : List ℕ) → StandsAt (IsAffected names) (BuildsOn a)
           source (level_of v source))) c.in_ok-waves.was c.rows_and_waves-rows.ensures.levels)
@@ -37,6 +37,6 @@ returns-clause-rows g c =
     let t = tracking c.args.tracker.now in
     let flags = c.deref-2.result.now in
     opened_stand _ c.in_ok-rows.field-0 flags
-    (c.deref-2.ensures.value ∙ c.in_ok-flags.ensures.flags t c.requires)
+    (c.deref-2.ensures.value ∙ c.in_ok-flags.ensures.flags t c.in_ok-marks.ensures.marks)
     (subst (λ r. IfOk r (AreOpenedOf a (flagged flags a.sources))) c.in_ok-rows.was
     c.rows_and_waves-rows.ensures.rows)

@@ -1,11 +1,11 @@
--- `marks_say`: what it answers.
+-- `transition_says`: what it answers.
 use Rattle.std.proofs.Common.{string_bytes}
 use Rattle.std.proofs.lemmas.Result.{IfOk-weaker}
 use Rattle.td_query.specs.Tracking.{tracking}
 use Rattle.td_report.specs.TransitionView.{contents_of, tracking_of}
 use Rattle.td_tool.specs.TrackInside.{saying_of}
 use Rattle.td_tool.proofs.Told.{told_of}
-use Rattle.td_tool.proofs.tracking.marks_say.Goals as goal
+use Rattle.td_tool.proofs.tracking.transition_says.Goals as goal
 
 pub returns : goal.returns
 returns g c =
