@@ -27,8 +27,6 @@ use Rattle.td_tool.specs.Tracks.{EndsTold, FailsAt, IsKnownIfGiven, IsKnownText,
 use Rattle.td_tool.specs.Tracks.{OneFile, Saying, Texts, TextsSayIt, TrackFiles}
 use Rattle.td_tool.specs.TrackInside.{AreTextsRead, HasFailedAt, Tells, TellsTexts, texts_of}
 
--- ---- what ends first
-
 -- ---- known files
 
 -- a known text is the one that was read
