@@ -14,7 +14,7 @@ use td_stanza::Stanza;
 /// The fewest stanzas that are worth a second thread.
 const LEAST: usize = 512;
 
-// Whether that of one stanza can; not, where memory is wanting.
+// Whether what the builds of a stanza's source ask for can be read; not, if memory runs out.
 fn is_sound(alloc: Global, stanza: &Stanza<'_, '_>) -> bool
     ensures { result ≡ true → IsSound (fields_of stanza.now) }
 {
@@ -24,7 +24,7 @@ fn is_sound(alloc: Global, stanza: &Stanza<'_, '_>) -> bool
     }
 }
 
-// Whether that of the stanza with a number can.
+// Whether what the builds of the source of the stanza with a number ask for can be read.
 fn is_sound_at(alloc: Global, stanzas: &StanzaPieces<'_>, number: usize) -> bool
     ensures { result ≡ true → IsSoundAt stanzas.now number }
 {
@@ -34,7 +34,8 @@ fn is_sound_at(alloc: Global, stanzas: &StanzaPieces<'_>, number: usize) -> bool
     }
 }
 
-/// Whether that of all stanzas can. Of many stanzas each thread looks at some.
+/// Whether what the builds of the sources of all stanzas ask for can be read. Of many stanzas each
+/// thread looks at some.
 pub fn are_sound(
     rt: &(impl Threads + Sync),
     alloc: Global,
