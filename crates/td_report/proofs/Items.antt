@@ -47,7 +47,7 @@ rows-more {B} f rows n o lt e = elim (slice_get_cases rows n).1 [
   | inr h ↦ absurd (omega (arith, h.0, lt))
 ]
 
--- with one that is affected, behind what is told of others
+-- with a row that is affected
 pub items-more : (f : Key × Row → Option AffectedRow) (rows : Table) (n : ℕ) (items : List Item)
     (item : Item) → n < length rows → Some (seen item) ≡ option_map_or f (slice_get rows n) None
     → map seen items ≡ filter_map f (take n rows)
@@ -57,7 +57,7 @@ items-more f rows n items item lt is so =
     ∙ ap (λ (l : List AffectedRow). l ++ seen item ∷ []) so
     ∙ sym (rows-more f rows n (Some (seen item)) lt is)
 
--- with one that isn't
+-- with a row that isn't
 pub items-same : (f : Key × Row → Option AffectedRow) (rows : Table) (n : ℕ)
     (told : List AffectedRow) → n < length rows → None ≡ option_map_or f (slice_get rows n) None
     → told ≡ filter_map f (take n rows) → told ≡ filter_map f (take (n + 1) rows)

@@ -12,11 +12,11 @@
 mod block;
 mod blocks;
 mod counting;
+mod finding;
 mod grouping;
 mod groups;
 mod item;
 mod item_line;
-mod items;
 mod laws;
 mod lines;
 mod opening;
