@@ -1,5 +1,5 @@
 -- A run of `track` or `waves` ends as it says, and readable texts are told.
-use Rattle.std.proofs.Common.{◌≡◌, ◌⊎◌, ℕ, List, length, Option, Some, None, IfSome}
+use Rattle.std.proofs.Common.{◌≡◌, ℕ, List, length, Option, Some, None, IfSome}
 use Rattle.std.proofs.Common.{Result, Ok, Err, IfOk, IfErr, String}
 use Rattle.std.proofs.Common.{string_bytes, inl, inr, refl, sym, ap, subst, ◌∙◌}
 use Rattle.std.specs.declared.alloc.Global.{Global}

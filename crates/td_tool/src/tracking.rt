@@ -1,5 +1,5 @@
 //! The two subcommands that read a tracker: `track` and `waves`.
-ghost use Rattle.std.specs.Prelude.{◌≡◌, ◌⊎◌, ℕ, List, None, Ok, Err, IfOk, IfErr, option_map};
+ghost use Rattle.std.specs.Prelude.{◌≡◌, ℕ, List, None, Ok, Err, IfOk, IfErr, option_map};
 ghost use Rattle.std.specs.Prelude.{true, string_bytes};
 ghost use Rattle.std.specs.Result.{ForOk};
 ghost use Rattle.td_relation.specs.TableView.{table};
@@ -24,8 +24,8 @@ use crate::file_texts::FileFault;
 use crate::texts::Texts;
 use crate::track_files::{TrackPaths, TrackTexts, TrackerTexts, read_track_files};
 use std::alloc::{AllocError, Global};
-use std::thread::Threads;
 use std::mem;
+use std::thread::Threads;
 use td_bytes::Writer;
 use td_indices::{Archive, ArchiveFault, IndexText};
 use td_query::{Tracker, TrackerFault};
