@@ -46,7 +46,7 @@ fn are_in_levels(
     is_told(rt, transition.waves(alloc, rows), LEVELS, "waves");
 }
 
-// A transition over all rows with which a desk opens.
+// What a transition says of all rows with which a desk opens.
 fn over_all_rows(
     rt: &(impl Threads + Abort + Sync),
     alloc: Global,
@@ -62,7 +62,7 @@ fn over_all_rows(
     drop(rows);
 }
 
-// A transition over all rows with which a desk opens.
+// The transition of a text's tracker, over all rows with which a desk opens.
 fn of_all_rows(
     rt: &(impl Threads + Abort + Sync),
     alloc: Global,

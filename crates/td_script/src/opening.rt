@@ -262,7 +262,7 @@ impl<S: Staff, F: Fn(Asked) -> Result<Told, ReadError>> Run<'_, S, F> {
         }
     }
 
-    // The same, over the indices and a table.
+    // What is told over the indices with a table of architectures.
     fn tell_over_table(
         &self,
         rt: &(impl Threads + Sync),
