@@ -1,6 +1,6 @@
 -- A run stops for a stream only where that may fail.
-use Rattle.std.proofs.Common.{◌≡◌, ◌∙◌, List, ℕ, Bool, true, Result, Ok, Err, IfOk, IfErr, String}
-use Rattle.std.proofs.Common.{ap, refl, string_bytes, subst, sym}
+use Rattle.std.proofs.Common.{◌≡◌, Bool, true, Result, Ok, Err, IfOk, IfErr, String}
+use Rattle.std.proofs.Common.{ap, refl, string_bytes, subst}
 use Rattle.std.specs.Prelude.{IsErrOf}
 use Rattle.std.specs.declared.alloc.Global.{Global}
 use Rattle.td_bytes.specs.declared.text.TextFault.{TextFault}

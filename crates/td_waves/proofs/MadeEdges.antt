@@ -1,6 +1,6 @@
 -- The lists of the affected sources, made number by number.
 use Rattle.std.proofs.Common.{◌≡◌, ◌&&◌, ◌<◌, ◌+◌, ◌∷◌, ℕ, zero, suc, List, [], length, map, nat_lt}
-use Rattle.std.proofs.Common.{IfOk, Result, Ok, Err, MatchResult, refl, sym, ap, ◌∙◌, arith}
+use Rattle.std.proofs.Common.{IfOk, Result, Ok, Err, MatchResult, refl, ap, ◌∙◌, arith}
 use Rattle.std.specs.Prelude.{slice_index_or}
 use Rattle.std.specs.Borrow.{Bor}
 use Rattle.std.specs.Global.{Vec}
@@ -9,7 +9,6 @@ use Rattle.std.specs.declared.alloc.AllocError.{AllocError}
 use Rattle.std.proofs.lemmas.List.FromFn.{get_or-range_with_len, length-range_with_len}
 use Rattle.std.proofs.lemmas.Result.{IfOk-weaker}
 use Rattle.td_indices.specs.Archive.{Contents}
-use Rattle.td_waves.specs.Asking.{has}
 use Rattle.td_waves.specs.BuildsOn.{builds_on}
 use Rattle.td_waves.specs.Edges.{AreBases, AreEdges, name_at}
 use Rattle.td_waves.specs.Graph.{bases_of, lists}

@@ -1,6 +1,6 @@
 -- The work on the levels, while it goes on.
-use Rattle.std.proofs.Common.{◌≡◌, ◌+◌, ◌-◌, ◌<◌, ◌≤◌, ◌==◌, ◌⊎◌, ℕ, zero, suc}
-use Rattle.std.proofs.Common.{if◌then◌else◌, true, false, eqb, List, [], ◌∷◌, ◌++◌, length}
+use Rattle.std.proofs.Common.{◌≡◌, ◌+◌, ◌<◌, ◌≤◌, ◌==◌, ◌⊎◌, ℕ, zero, suc}
+use Rattle.std.proofs.Common.{if◌then◌else◌, true, false, List, [], ◌∷◌, ◌++◌, length}
 use Rattle.std.proofs.Common.{get_or, set, map, replicate, Some, option_map, slice_get}
 use Rattle.std.proofs.Common.{subst, refl, sym, ap, ◌∙◌, inl, inr, arith, count_by}
 use Rattle.std.proofs.Common.{get_or-set_other, length-set}

@@ -1,6 +1,6 @@
 -- `users_of`: the clause `uses` and its loop.
-use Rattle.std.proofs.Common.{◌≡◌, ℕ, [], true, ltb, inl, inr}
-use Rattle.std.proofs.Common.{refl, length, sym, ap, ◌∙◌, arith}
+use Rattle.std.proofs.Common.{◌≡◌, ℕ, [], inl, inr}
+use Rattle.std.proofs.Common.{refl, sym, ap, ◌∙◌, arith}
 use Rattle.std.specs.Global.{Vec}
 use Rattle.std.proofs.lemmas.Bool.{cases_lt, lt-ltb, le-ltb}
 use Rattle.std.proofs.lemmas.List.{get_or-map, get_or_past, length-map}
