@@ -41,7 +41,8 @@ use Rattle.td_book.proofs.Seeing.{claimed_off, idle_off, views_at, views-each_ro
 use Rattle.td_book.proofs.Seeing.{length-seen_off}
 use Rattle.td_book.proofs.Steps.{rising_read, rows_read, noting_one-lost}
 use Rattle.td_book.proofs.Steps.{noting_one-opening, noting_one-won, stays_more}
-use Rattle.td_book.proofs.Steps.{stays_fixed, spent_none, key_of, up_now, pos_lost}
+use Rattle.td_book.proofs.Steps.{stays_fixed, spent_none, up_now, pos_lost}
+use Rattle.td_naming.proofs.Numbered.{key_of}
 use Rattle.td_book.proofs.Tries.{look_at-out, look-lost}
 
 pub built_at : (t : Table) (k : Key) (i b : ℕ) (row : Row) → ascending (keys_of t) ≡ true

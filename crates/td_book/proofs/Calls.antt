@@ -27,7 +27,7 @@ use Rattle.td_book.specs.Tries.{tries_for, wins_for, offers_for}
 use Rattle.td_book.specs.Undoing.{AreOff, IsUndone}
 use Rattle.td_book.specs.declared.commanding.CommandRefusal.{CommandRefusal}
 use Rattle.td_book.specs.declared.commanding.Taken.{Taken}
-use Rattle.td_book.specs.declared.skips.Skip.{Skip}
+use Rattle.td_naming.specs.declared.skips.Skip.{Skip}
 use Rattle.td_change.specs.Saved.{HaveRows}
 use Rattle.td_change.proofs.Numbers.{is_some-row_of}
 use Rattle.td_core.proofs.Taking.{names-filter}

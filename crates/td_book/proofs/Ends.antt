@@ -20,7 +20,8 @@ use Rattle.td_book.specs.Building.{Knows, IsEndingAt, IsEnded, IsUnended, EndsSh
 use Rattle.td_book.specs.Building.{is_built_at, Noticed}
 use Rattle.td_book.specs.declared.building.Ending.{Ending}
 use Rattle.td_book.specs.Finishing.{Finishes, FinishHeld}
-use Rattle.td_book.proofs.Steps.{stays_more, stays_fixed, up_now, key_of, some_at}
+use Rattle.td_book.proofs.Steps.{stays_more, stays_fixed, up_now, some_at}
+use Rattle.td_naming.proofs.Numbered.{key_of}
 use Rattle.std.specs.Option.{ok_or}
 use Rattle.td_book.proofs.Builds.{noticed, built_at, knows_head}
 use Rattle.td_book.proofs.Tries.{tries_more}

@@ -9,13 +9,10 @@ pub mod Offering
 pub mod Arrivals
 pub mod Calls
 pub mod Builds
-pub mod Finding
-pub mod Skipping
 pub mod Ends
 pub mod Fixed
 pub mod Numbers
 pub mod Returns
-pub mod Numbered
 pub mod Times
 pub mod OutRows
 pub mod Tallies

@@ -72,14 +72,6 @@ named_here named i k at =
     ap (λ (ks : List Key). names ks k) (drop-next named i k at)
     ∙ ap (λ b. if b then true else names (drop (i + 1) named) k) (same_key-refl k)
 
-pub named_at : (ks : List Key) (i : ℕ) (k : Key) → slice_get ks i ≡ Some k → names ks k ≡ true
-named_at [] i k h = absurd (cc)
-named_at (x ∷ ks) zero k h =
-    ap (λ b. if b then true else names ks k) (ap (same_key k) (same_Some x k h) ∙ same_key-refl k)
-named_at (x ∷ ks) (suc i) k h =
-    ap (λ b. if same_key k x then true else b) (named_at ks i k h)
-    ∙ elim (same_key k x) as (λ b. (if b then true else true) ≡ true) [ true ↦ refl | false ↦ refl ]
-
 pub key_at : (ks : List Key) (i : ℕ) (k : Key) → i < length ks → k ≡ get_or ks i k
     → slice_get ks i ≡ Some k
 key_at ks i k within is = slice_get_read ks (length ks) i k refl within is
@@ -220,15 +212,6 @@ room_end named keys a b room s short = record {
     two false x y = omega arith
 
 -- ---- 5. rows by their numbers
-
-some_key : (p : Key × Row) (o : Option (Key × Row)) → o ≡ Some p
-    → option_map (λ (q : Key × Row). q.0) o ≡ Some p.0
-some_key p o h = ap (option_map (λ (q : Key × Row). q.0)) h
-
-pub key_of : (t : Table) (i : ℕ) (k : Key) (row : Row) → slice_get t i ≡ Some (k, row)
-    → slice_get (keys_of t) i ≡ Some k
-key_of t i k row at =
-    slice_get-map (λ (q : Key × Row). q.0) t i ∙ some_key (k, row) (slice_get t i) at
 
 pub some_at : (t : Table) (i : ℕ) → i < length t
     → (k : Key) × (row : Row) × (slice_get t i ≡ Some (k, row))

@@ -19,7 +19,8 @@ use Rattle.td_rows.proofs.Lists.{drop-next}
 use Rattle.td_rows.proofs.Tables.{row_of-at, row_of-later, head-apart}
 use Rattle.td_book.specs.Watching.{is_of, tally, is_there}
 use Rattle.td_book.specs.inner.Tallies.{group_at, AreTallied, AllAre, IsStep, MayStep, was_there}
-use Rattle.td_book.proofs.Steps.{named_at, named_here, unnamed_after}
+use Rattle.td_book.proofs.Steps.{named_here, unnamed_after}
+use Rattle.td_naming.proofs.Numbered.{named_at}
 
 -- ---- 1. tests that agree
 

@@ -43,7 +43,8 @@ use Rattle.td_book.specs.Tries.{tries_at, tries_for, wins_for, offers_for}
 use Rattle.td_book.specs.Undoing.{Unlost, LostOne}
 use Rattle.td_book.proofs.Seeing.{withdrawn_off, stays_off, claimed_off}
 use Rattle.td_book.proofs.Seeing.{desks_off}
-use Rattle.td_book.proofs.Steps.{idle_row, longer, lost_at, named_at, noting_one-lost}
+use Rattle.td_book.proofs.Steps.{idle_row, longer, lost_at, noting_one-lost}
+use Rattle.td_naming.proofs.Numbered.{named_at}
 use Rattle.td_book.proofs.Steps.{noting_one-won, spent_more, spent_none, stays_more}
 use Rattle.td_book.proofs.Steps.{stays_none}
 use Rattle.td_book.proofs.Steps.{unnamed_before, pos_lost}

@@ -24,7 +24,7 @@ use Rattle.td_book.specs.Tries.{tries_at, tries_for, offers_for}
 use Rattle.td_book.specs.declared.commanding.CommandRefusal.{CommandRefusal}
 use Rattle.td_book.specs.declared.commanding.CommandRefusal.TheVariants.{NothingApplies, NoMemory}
 use Rattle.td_book.specs.declared.commanding.Taken.{Taken}
-use Rattle.td_book.specs.declared.skips.Skip.{Skip}
+use Rattle.td_naming.specs.declared.skips.Skip.{Skip}
 
 -- ---- 1. withdrawals
 

@@ -12,8 +12,8 @@ use Rattle.td_book.specs.declared.commanding.CommandRefusal.{CommandRefusal}
 use Rattle.td_book.specs.declared.commanding.Taken.{Taken}
 use Rattle.td_book.specs.Calls.{IsCommanded}
 use Rattle.td_book.specs.Desk.{BookModel}
-use Rattle.td_book.specs.Naming.{named_in, is_matched_at}
-use Rattle.td_book.specs.Skips.{doubt, skips_of}
+use Rattle.td_naming.specs.Naming.{named_in, is_matched_at}
+use Rattle.td_naming.specs.Skips.{doubt, skips_of}
 
 -- the rows that it names in a book
 abbrev pub named_by : CommandParts → BookModel → List Key

@@ -4,8 +4,6 @@ pub mod Deeds
 pub mod Desk
 pub mod Tries
 pub mod AtRest
-pub mod Naming
-pub mod Skips
 pub mod Calls
 pub mod Commands
 pub mod Undoing

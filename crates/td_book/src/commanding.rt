@@ -9,15 +9,14 @@ ghost use Rattle.td_core.specs.History.{rows_of};
 ghost use Rattle.td_wbread.specs.Views.{parts_of};
 ghost use Rattle.td_book.specs.Calls.{IsCommanded, IsPlan, off_for as off_keys, taken_of};
 ghost use Rattle.td_book.specs.Commands.{IsAsked, IsDone, named_by};
-ghost use Rattle.td_book.specs.Skips.{left_of};
+ghost use Rattle.td_naming.specs.Skips.{left_of};
 
 use crate::book::Book;
-use crate::naming::{doubts, matched, named};
-use crate::skips::{Skip, Skips};
 use std::alloc::AllocError;
 use td_board::Board;
 use td_core::PlannedCommand;
 use td_journal::{EntryNo, Keys};
+use td_naming::{Skip, Skips, doubts, matched, named};
 use td_rows::{Key, Kind, cells_of};
 use td_wbread::{Command, kind_of};
 

@@ -22,12 +22,12 @@ use Rattle.td_wbread.specs.Naming.{is_named}
 use Rattle.td_book.specs.declared.commanding.CommandRefusal.{CommandRefusal}
 use Rattle.td_book.specs.declared.commanding.CommandRefusal.TheVariants as commands
 use Rattle.td_book.specs.declared.commanding.Taken.{Taken}
-use Rattle.td_book.specs.declared.skips.Skip.{Skip}
+use Rattle.td_naming.specs.declared.skips.Skip.{Skip}
 use Rattle.td_book.specs.Calls.{off_for, noting, Enters, CommandOutcome}
 use Rattle.td_book.specs.Commands.{IsDone, named_by, is_matched_in}
 use Rattle.td_book.specs.Desk.{BookModel}
 use Rattle.td_wbread.specs.Kinds.{kind_with, kind_of}
-use Rattle.td_book.specs.Skips.{skip_at, is_skipped, skips_of}
+use Rattle.td_naming.specs.Skips.{skip_at, is_skipped, skips_of}
 use Rattle.td_book.proofs.Calls.{kinds_command, off_short}
 use Rattle.td_book.proofs.Withdrawals.{commands_desks}
 use Rattle.td_desk.specs.declared.receipt.Receipt.{Receipt}

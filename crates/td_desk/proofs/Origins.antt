@@ -33,7 +33,7 @@ use Rattle.td_book.specs.Commands.{IsDone, is_matched_in, named_by}
 use Rattle.td_book.specs.Desk.{BookModel}
 use Rattle.td_book.specs.Finishing.{FinishHeld, FinishAgain, FinishOutcome}
 use Rattle.td_wbread.specs.Kinds.{kind_of}
-use Rattle.td_book.specs.Skips.{skips_of}
+use Rattle.td_naming.specs.Skips.{skips_of}
 use Rattle.td_book.specs.Undoing.{IsWon, UndoAnswer}
 use Rattle.td_book.proofs.Calls.{noting-opening}
 use Rattle.td_book.proofs.Steps.{noting_one-opening}

@@ -28,7 +28,7 @@ use Rattle.td_book.specs.declared.starting.Job.{Job}
 use Rattle.td_book.specs.declared.starting.StartRefusal.{StartRefusal}
 use Rattle.td_book.specs.declared.finishing.FinishRefusal.{FinishRefusal}
 use Rattle.td_book.specs.declared.finishing.FinishRefusal.TheVariants as finishes
-use Rattle.td_book.specs.declared.skips.Skip.{Skip}
+use Rattle.td_naming.specs.declared.skips.Skip.{Skip}
 use Rattle.td_book.specs.Arriving.{ArriveOutcome, SweepOutcome}
 use Rattle.td_book.specs.Building.{IsJobAt, StartOutcome}
 use Rattle.td_book.specs.Commands.{IsDone, named_by}

@@ -10,7 +10,8 @@ ghost use Rattle.td_desk.specs.Calls.{skipped_keys};
 ghost use Rattle.td_desk.specs.inner.Matching.{is_next as is_next_of, left_out as left_out_of};
 
 use std::alloc::{AllocError, Global};
-use td_book::{Book, Skip};
+use td_book::Book;
+use td_naming::Skip;
 use td_rows::{Key, Kind};
 use td_wbread::{Command, kind_of};
 

@@ -3,9 +3,10 @@ use std::alloc::{AllocError, Global};
 use std::fmt::Debug;
 use std::sync::ledger::Ledger;
 use std::test::Fail;
-use td_book::{Book, CommandRefusal, Job, Skips, StartRefusal, Taken, WatchRefusal};
+use td_book::{Book, CommandRefusal, Job, StartRefusal, Taken, WatchRefusal};
 use td_desk::{Clerk, Receipt};
 use td_journal::{Marked, put_entry_line, text};
+use td_naming::Skips;
 use td_rows::{Key, Line, Outcome, Row, put_row_line, read_key, rows_text};
 
 pub(crate) fn number(digits: &str) -> u64 {

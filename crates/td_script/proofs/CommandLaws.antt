@@ -13,12 +13,12 @@ use Rattle.td_wbread.specs.Command.{CommandParts}
 use Rattle.td_book.specs.declared.commanding.CommandRefusal.{CommandRefusal}
 use Rattle.td_book.specs.declared.commanding.CommandRefusal.TheVariants as refusals
 use Rattle.td_book.specs.declared.commanding.Taken.{Taken}
-use Rattle.td_book.specs.declared.skips.Skip.{Skip}
+use Rattle.td_naming.specs.declared.skips.Skip.{Skip}
 use Rattle.td_book.specs.Desk.{BookModel}
 use Rattle.td_book.specs.Calls.{noting, off_for, Enters, Nothing, Choices}
 use Rattle.td_book.specs.Commands.{IsDone, is_matched_in, named_by}
 use Rattle.td_wbread.specs.Kinds.{kind_of}
-use Rattle.td_book.specs.Skips.{skips_of}
+use Rattle.td_naming.specs.Skips.{skips_of}
 use Rattle.td_script.specs.Replies.{enters, enters_on, commands, refuses, refusal_line, skip_line}
 use Rattle.td_script.specs.Replies.{skipped, taken, Reply}
 use Rattle.td_script.specs.Answering.{Answers, IsLeftBy}

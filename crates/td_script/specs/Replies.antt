@@ -23,13 +23,13 @@ use Rattle.td_wbread.specs.declared.fault.CommandFault.TheVariants as faults
 use Rattle.td_wbread.specs.Command.{CommandParts, command_at}
 use Rattle.td_wbread.specs.FaultNames.{name_of}
 use Rattle.td_wbread.specs.Kinds.{kind_of}
-use Rattle.td_book.specs.declared.skips.Skip.{Skip}
-use Rattle.td_book.specs.declared.skips.SkipReason.{SkipReason}
-use Rattle.td_book.specs.declared.skips.SkipReason.TheVariants as why
+use Rattle.td_naming.specs.declared.skips.Skip.{Skip}
+use Rattle.td_naming.specs.declared.skips.SkipReason.{SkipReason}
+use Rattle.td_naming.specs.declared.skips.SkipReason.TheVariants as why
 use Rattle.td_book.specs.declared.undoing.UndoRefusal.{UndoRefusal}
 use Rattle.td_book.specs.declared.undoing.UndoRefusal.TheVariants as undos
-use Rattle.td_book.specs.Naming.{is_matched_at, named_in}
-use Rattle.td_book.specs.Skips.{skips_of}
+use Rattle.td_naming.specs.Naming.{is_matched_at, named_in}
+use Rattle.td_naming.specs.Skips.{skips_of}
 use Rattle.td_book.specs.Undoing.{undo_stop}
 use Rattle.td_script.specs.declared.request.Request.{Request}
 use Rattle.td_script.specs.declared.request.Request.TheVariants.{Undo, Arrive, Sweep}

@@ -14,8 +14,9 @@ ghost use Rattle.td_script.specs.Replies.{undo_name};
 ghost use Rattle.td_script.specs.Replying.{IsPut};
 
 use std::alloc::AllocError;
-use td_book::{Skip, SkipReason, UndoRefusal};
+use td_book::UndoRefusal;
 use td_journal::{EntryNo, Journal, Marked, put_entry_line, put_keys};
+use td_naming::{Skip, SkipReason};
 use td_rows::{Key, Row, State, put_key, put_row_line, put_state_word};
 use td_text::put_number;
 

@@ -25,7 +25,8 @@ use Rattle.td_core.specs.Steps.{refusal, after, finished}
 use Rattle.td_core.specs.Worlds.{WorldView, phase_of, with_phase, hand_of, with_hand, IsWorld}
 use Rattle.td_core.proofs.WorldSteps.{after-accepted}
 use Rattle.td_book.specs.Deeds.{code_of}
-use Rattle.td_book.proofs.Steps.{key_of, some_at}
+use Rattle.td_book.proofs.Steps.{some_at}
+use Rattle.td_naming.proofs.Numbered.{key_of}
 use Rattle.td_steps.specs.Schedules.{SameHand}
 use Rattle.td_steps.proofs.Tries.{numbered}
 use Rattle.td_steps.proofs.Showing.{phase_as, Agrees, builder-moved, builder-learned}

@@ -32,7 +32,7 @@ use Rattle.td_wbread.specs.Naming.{is_named}
 use Rattle.td_core.specs.declared.step.Answer.TheVariants as answers
 use Rattle.td_book.specs.Commands.{named_by, is_matched_in, IsDone}
 use Rattle.td_wbread.specs.Kinds.{kind_of}
-use Rattle.td_book.specs.Skips.{skips_of}
+use Rattle.td_naming.specs.Skips.{skips_of}
 use Rattle.td_book.specs.declared.commanding.Taken.{Taken}
 use Rattle.td_steps.specs.Sees.{Desk, resting, Sees}
 use Rattle.td_steps.specs.Moves.{Move, commit, next_no}

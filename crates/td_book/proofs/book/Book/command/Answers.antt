@@ -9,9 +9,9 @@ use Rattle.td_wbread.specs.Naming.{is_named}
 use Rattle.td_wbread.specs.Views.{parts_of}
 use Rattle.td_book.specs.Commands.{named_by, is_matched_in}
 use Rattle.td_wbread.specs.Kinds.{kind_of}
-use Rattle.td_book.specs.Skips.{left_of, skips_of}
+use Rattle.td_naming.specs.Skips.{left_of, skips_of}
 use Rattle.td_book.proofs.Calls.{commanded_as, named_rows}
-use Rattle.td_book.proofs.Skipping.{left_skips}
+use Rattle.td_naming.proofs.Skipping.{left_skips}
 use Rattle.td_book.proofs.book.Book.command.Goals as goal
 
 pub enter-requires-clause-named : goal.enter-requires-clause-named

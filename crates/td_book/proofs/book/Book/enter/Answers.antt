@@ -7,7 +7,7 @@ use Rattle.td_book.specs.Desk.{InnerModel, BookModel, book_of}
 use Rattle.td_book.specs.Tries.{offers_for}
 use Rattle.td_book.specs.Calls.{Withdrew, IsCommanded, off_for, taken_of}
 use Rattle.td_book.specs.declared.book.Book.TheInside.{Inside}
-use Rattle.td_book.specs.Skips.{left_of}
+use Rattle.td_naming.specs.Skips.{left_of}
 use Rattle.td_book.proofs.Steps.{room_end}
 use Rattle.td_book.proofs.Calls.{keys_same, is_plan_of, plan_room, plan_off, off_short_is}
 use Rattle.td_book.proofs.Calls.{commanded, plan_inside}

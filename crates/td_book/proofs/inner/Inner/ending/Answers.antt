@@ -9,7 +9,7 @@ use Rattle.td_core.specs.History.{rows_of}
 use Rattle.td_book.specs.Building.{ended_in}
 use Rattle.td_book.specs.Desk.{InnerModel}
 use Rattle.td_book.proofs.Ends.{have_one}
-use Rattle.td_book.proofs.Steps.{key_of}
+use Rattle.td_naming.proofs.Numbered.{key_of}
 use Rattle.td_book.proofs.inner.Inner.ending.Goals as goal
 
 pub plan-requires : goal.plan-requires

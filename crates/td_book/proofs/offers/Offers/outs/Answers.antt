@@ -3,7 +3,7 @@ use Rattle.std.proofs.Common.{◌≡◌, ◌∙◌, List, ℕ, subst, sym}
 use Rattle.std.specs.List.Sorted.{IsPermutation}
 use Rattle.td_board.specs.Seats.{DeskModel}
 use Rattle.td_book.specs.inner.OutRows.{outs_of}
-use Rattle.td_book.proofs.Numbered.{ok_more}
+use Rattle.td_naming.proofs.Numbered.{ok_more}
 use Rattle.td_book.proofs.OutRows.{listed-all}
 use Rattle.td_book.proofs.offers.Offers.outs.Goals as goal
 

@@ -1,9 +1,0 @@
--- What the loop of `renew_each` keeps.
-use Rattle.std.proofs.Common.{◌≡◌, ◌++◌, map, take, drop}
-use Rattle.td_book.specs.Skips.{renewed}
-use Rattle.td_book.proofs.skips.renew_each.Given as goal
-
-abbrev pub invariant-loop-skip : goal.invariant-loop-skip
-invariant-loop-skip l =
-    l.skip-items ≡ map (renewed l.rows) (take l.skip-index l.fn.skips.items)
-    ++ drop l.skip-index l.fn.skips.items
