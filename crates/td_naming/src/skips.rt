@@ -1,7 +1,8 @@
 //! The rows that a command names and doesn't take.
-ghost use Rattle.std.specs.Prelude.{◌≡◌, filter, map};
+ghost use Rattle.std.specs.Prelude.{◌≡◌, Bool, List, filter, map};
+ghost use Rattle.td_rows.specs.declared.key.Key.{Key as KeyValue};
 ghost use Rattle.td_rows.specs.Table.{fits as fits_in};
-ghost use Rattle.td_naming.specs.Skips.{is_left as is_left_in, left_of, renewed};
+ghost use Rattle.td_naming.specs.Skips.{doubt, is_left as is_left_in, left_of, renewed, skips_of};
 ghost use Rattle.td_naming.specs.Skips.{state_at as state_in};
 
 use std::marker::Model;
@@ -89,7 +90,10 @@ impl Skips {
     /// Of the doubts about the named rows those that are left just before the entry: the rows
     /// that aren't taken. It takes no memory.
     pub fn left(rows: &Rows, kind: &Kind, mut doubts: Vec<Skip>) -> Skips
-        ensures { result ≡ left_of kind.now doubts.items rows.now }
+        ensures left { result ≡ left_of kind.now doubts.items rows.now }
+        ensures skips { (matches : KeyValue → Bool) (named : List KeyValue)
+            → doubts.items ≡ map (doubt matches) named
+            → result ≡ skips_of matches kind.now named rows.now }
     {
         doubts.retain(|skip| is_left(rows, kind, skip));
         renew_each(rows, &mut doubts);

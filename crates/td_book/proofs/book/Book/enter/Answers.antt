@@ -59,7 +59,7 @@ returns c =
     c.rows.ensures.rows
     ∙ ap (λ (s : Inside). rows_of s.inner.books.history) c.self-inside.view_is in
     let skips =
-    c.left-skips.ensures ∙ (λ j. left_of c.args.kind c.args.doubts.items (rows j)) in
+    c.left-skips.ensures.left ∙ (λ j. left_of c.args.kind c.args.doubts.items (rows j)) in
     let told =
     c.answer.ensures ∙ ap (λ o. taken_of o c.left-skips.result) c.commit-entry.ensures.number in
     let offered = c.offer_each.ensures
