@@ -181,7 +181,7 @@ impl<'a> Inner<'a> {
         room.and(Ok(ending))
     }
 
-    // The same, but for room.
+    // What ends a build: the plan of its entry, and the keys that it takes, before room is made.
     fn ending(
         &self,
         alloc: Global,

@@ -43,7 +43,7 @@ pub struct Asked {
     pub kind: Kind,
     /// The keys of the rows that it names.
     pub named: Vec<Key>,
-    /// Those of them whose version matches.
+    /// The keys of those named rows whose version matches.
     pub matched: Vec<Key>,
     /// A skip of each of them, should it not be taken.
     pub doubts: Vec<Skip>,

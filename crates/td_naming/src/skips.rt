@@ -87,8 +87,8 @@ fn renew_each(rows: &Rows, skips: &mut Vec<Skip>)
 }
 
 impl Skips {
-    /// Of the doubts about the named rows those that are left just before the entry: the rows
-    /// that aren't taken. It takes no memory.
+    /// The skips just before the entry: the doubts about the named rows that aren't taken, with
+    /// the states that these rows have now. It takes no memory.
     pub fn left(rows: &Rows, kind: &Kind, mut doubts: Vec<Skip>) -> Skips
         ensures left { result ≡ left_of kind.now doubts.items rows.now }
         ensures skips { (matches : KeyValue → Bool) (named : List KeyValue)

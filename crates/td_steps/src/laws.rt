@@ -28,7 +28,8 @@ pub fn builders_change_nothing()
     ensures { BuildersChangeNothing }
 {}
 
-/// So it is of a list of moves, whatever builders do before, between and after them.
+/// The world that a list of moves leads to is seen by the book after them, whatever builders do
+/// before, between and after.
 pub fn runs_are_seen()
     ensures { RunsAreSeen }
 {}
@@ -38,8 +39,8 @@ pub fn openings_are_steps()
     ensures { OpeningsAreSteps }
 {}
 
-/// So it is with any lawful history in which no builder has a row, and with the one that a
-/// reopening leaves: it begins a world that the reopened book sees.
+/// Any lawful history in which no builder has a row begins a world, and the history that a
+/// reopening leaves begins one that the reopened book sees.
 pub fn reopenings_are_steps()
     ensures histories { HistoriesOpen }
     ensures books { ReopeningsAreSteps }
@@ -51,13 +52,14 @@ pub fn commands_are_steps()
     ensures { CommandsAreSteps }
 {}
 
-/// The same of an undo: withdrawals, the undo and offers, or a claim that was faster.
+/// Whatever an undo answers, some list of moves does it: withdrawals, the undo and offers, or the
+/// withdrawals up to a claim that was faster.
 pub fn undos_are_steps()
     ensures { UndosAreSteps }
 {}
 
-/// The same of a builder's start and finish, of an arrival and of a sweep; and a watch is no move
-/// at all.
+/// A builder's start and finish, an arrival and a sweep are each done by some list of moves; a watch
+/// makes no move.
 pub fn other_calls_are_steps()
     ensures starts { StartsAreSteps }
     ensures finishes { FinishesAreSteps }
@@ -73,8 +75,8 @@ pub fn watches_stay_aside()
     ensures reasons { WatchesAreRefusedForReasons }
 {}
 
-/// So it is of any list of calls, whatever they answer, and of any since the opening or a
-/// reopening: call by call the book sees each world to which a run of the moves leads.
+/// Any list of calls, whatever they answer, is done by some list of moves, and so is any since the
+/// opening or a reopening: call by call the book sees each world to which a run of the moves leads.
 pub fn calls_are_steps()
     ensures calls { CallsAreSteps }
     ensures opening { BooksAreSteps }
@@ -96,7 +98,7 @@ pub fn finishes_can_run()
 
 /// Whatever builders do between them, the moves of a command go on to the end, with choices that
 /// the worlds on the way decide; and so do those of a start, and of an undo up to a faster claim.
-/// Those of the other calls of the desk are decided by no builder.
+/// No builder decides the moves of the desk's other calls.
 pub fn commands_go_on()
     ensures on { CommandsGoOn }
     ensures starts { StartsGoOn }
