@@ -149,13 +149,7 @@ impl<'t, 'a> Archive<'t, 'a> {
     {
         match kept_of_both(packages, sources) {
             Ok(kept) => {
-                let counted = grouped_and_counted(
-                    rt,
-                    alloc,
-                    archs,
-                    &kept.binaries,
-                    &kept.sources,
-                );
+                let counted = grouped_and_counted(rt, alloc, archs, &kept.binaries, &kept.sources);
                 Archive::of_kept(alloc, archs, kept, counted)
             }
             Err(fault) => Err(fault),

@@ -36,11 +36,7 @@ fn is_sound_at(alloc: Global, stanzas: &StanzaPieces<'_>, number: usize) -> bool
 
 /// Whether what the builds of the sources of all stanzas ask for can be read. Of many stanzas each
 /// thread looks at some.
-pub fn are_sound(
-    rt: &(impl Threads + Sync),
-    alloc: Global,
-    stanzas: &StanzaPieces<'_>,
-) -> bool
+pub fn are_sound(rt: &(impl Threads + Sync), alloc: Global, stanzas: &StanzaPieces<'_>) -> bool
     ensures { result ≡ true → AreSound stanzas.now }
 {
     (0..stanzas.len()).into_par_iter().with_min_len(LEAST).all(

@@ -237,7 +237,12 @@ fn are_graded<'x>(
     let archs = made(rt, Archs::read(alloc, table));
     let archive = made(rt, Archive::read(rt, alloc, packages, sources, &archs));
     for (tracker, rows, expected) in asked {
-        is_told(rt, statuses(rt, alloc, &archive, tracker, rows), expected, rows);
+        is_told(
+            rt,
+            statuses(rt, alloc, &archive, tracker, rows),
+            expected,
+            rows,
+        );
     }
     drop(archive);
 }
@@ -365,11 +370,7 @@ fn is_affecting(
     is_told(rt, told, expected, query);
 }
 
-fn are_affecting(
-    rt: &(impl Threads + Abort + Sync),
-    alloc: Global,
-    archive: &Archive<'_, '_>,
-) {
+fn are_affecting(rt: &(impl Threads + Abort + Sync), alloc: Global, archive: &Archive<'_, '_>) {
     for row in QUERIES.split('\n') {
         if let Some((query, expected)) = row.split_once(" →") {
             is_affecting(rt, alloc, archive, query, expected);

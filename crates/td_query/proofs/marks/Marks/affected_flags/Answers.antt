@@ -23,5 +23,5 @@ returns g c =
           ∙ (λ i. nat_range (ends.0 i) (ends.1 i))
           ∙ ap (range_with_len 0) (whole ∙ c.source_count.ensures) in
           h.2 ∙ flags_made (is_affected a t) a.sources _ chain.0 h.0 places
-              (λ n b is. is t met ∙ ap (λ f. is_affected_at f.1.now t n) same) chain.2);
+          (λ n b is. is t met ∙ ap (λ f. is_affected_at f.1.now t n) same) chain.2);
     }
