@@ -102,11 +102,7 @@ fn keys_of(alloc: Global, rows: &Rows, numbers: &[usize]) -> Result<Vec<Key>, Al
 /// The keys of the rows that a command names. Each package is looked up on each chosen
 /// architecture, so that a command on one source takes no longer where there are more rows; a key
 /// is copied once, however often the command names it.
-pub fn named(
-    alloc: Global,
-    rows: &Rows,
-    command: &Command<'_>,
-) -> Result<Vec<Key>, AllocError>
+pub fn named(alloc: Global, rows: &Rows, command: &Command<'_>) -> Result<Vec<Key>, AllocError>
     ensures keys { IfOk result (λ keys. keys.items ≡ named_in (parts_of command.now) rows.now) }
     ensures rising { ascending (every_key rows.now) ≡ true }
 {
