@@ -1,5 +1,5 @@
 -- Rows that are asked for, one after the other and round after round.
-use Rattle.std.proofs.Common.{◌≡◌, ◌≢◌, ◌<◌, ◌⊎◌, inl, inr, ℕ, ◌+◌, List, [], ◌∷◌, ◌++◌, refl}
+use Rattle.std.proofs.Common.{◌≡◌, ◌≢◌, ◌<◌, inl, inr, ℕ, ◌+◌, List, [], ◌∷◌, ◌++◌, refl}
 use Rattle.std.proofs.Common.{sym, ap, ◌∙◌, subst, append-nil, append_assoc, take, drop, length}
 use Rattle.std.proofs.Common.{get_or, Option, Some, None, Bool, true, false}
 use Rattle.std.specs.Prelude.{MatchBool}
@@ -15,7 +15,7 @@ use Rattle.td_board.specs.Answers.{IsWon, IsLost, LostFree, LostWith, released}
 use Rattle.td_board.specs.Seats.{BuilderModel}
 use Rattle.td_rows.specs.declared.outcome.Outcome.{Outcome}
 use Rattle.td_book.specs.Deeds.{code_of}
-use Rattle.td_builder.specs.Floors.{IsEarly, IsFinished, IsIdle}
+use Rattle.td_builder.specs.Floors.{IsEarly, IsFinished, IsIdle, IsRefused}
 use Rattle.td_builder.specs.Rounds.{AreAsked, AreRounds, Asks, AsksInRounds, Claims, IsAsked}
 use Rattle.td_builder.specs.Rounds.{claims_in}
 
@@ -60,15 +60,22 @@ claims_still a b same = (
 )
 
 -- the end of a build claims nothing
-pub claims_finished : (ends : ℕ → Outcome → Type 0) (o : Outcome) (a b : BuilderModel)
+pub claims_finished : (ends : BuilderModel → Outcome → Type 0) (o : Outcome) (a b : BuilderModel)
     → IsFinished ends o a b → Claims (λ claims. claims ≡ []) a b
 claims_finished ends o a b (r, held, end, at) =
     (FinishDone r (code_of o) ∷ [], ap (λ (s : BuilderModel). s.builder.tried) at, refl)
 
-pub claims_early : (c : OutcomeCode) (a b : BuilderModel) → IsEarly c a b
+claims_early : (c : OutcomeCode) (a b : BuilderModel) → IsEarly c a b
     → Claims (λ claims. claims ≡ []) a b
 claims_early c a b (r, held, at) =
     (FinishEarly r c ∷ [], ap (λ (s : BuilderModel). s.builder.tried) at, refl)
+
+-- nor does one that is refused
+pub claims_refused : (breaks_off : BuilderModel → Outcome → Type 0) (o : Outcome)
+    (a b : BuilderModel) → IsRefused breaks_off o a b → Claims (λ claims. claims ≡ []) a b
+claims_refused breaks_off o a b (inl still) = claims_still a b still
+claims_refused breaks_off o a b (inr (inl early)) = claims_early (code_of o) a b early
+claims_refused breaks_off o a b (inr (inr done)) = claims_finished breaks_off o a b done
 
 -- ---- 2. a row that is asked for
 

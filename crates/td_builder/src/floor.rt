@@ -1,9 +1,7 @@
 //! Where builders find rows, and how a row is built.
-ghost use Rattle.std.specs.Prelude.{◌≡◌, ℕ, List, ◌⊎◌, IfOk, IfErr, OnOk, OnErr, OnSome};
-ghost use Rattle.std.specs.Prelude.{MatchBool};
+ghost use Rattle.std.specs.Prelude.{◌≡◌, ℕ, List, IfOk, IfErr, OnOk, OnErr, OnSome, MatchBool};
 ghost use Rattle.td_board.specs.Answers.{IsWon, IsLost};
-ghost use Rattle.td_book.specs.Deeds.{code_of};
-ghost use Rattle.td_builder.specs.Floors.{IsHolding, IsStarted, IsEarly, IsFinished};
+ghost use Rattle.td_builder.specs.Floors.{IsHolding, IsFinished, IsRefused};
 ghost use Rattle.td_builder.specs.Stops.{start_stop, finish_stop};
 
 use crate::stop::WorkStop;
@@ -14,22 +12,24 @@ use td_book::{FinishRefusal, Job, StartRefusal};
 use td_journal::EntryNo;
 use td_rows::Outcome;
 
-/// A way to build. A job is handed over to it, and so is built once.
+/// A way to build, as one builder has it: builders who share one have a reference each. A job is
+/// handed over to it, and so is built once.
 pub trait Builds {
     ghost use Rattle.td_book.specs.declared.starting.Job.{Job as JobValue};
     ghost use Rattle.td_rows.specs.declared.outcome.Outcome.{Outcome as OutcomeValue};
 
-    /// Which outcomes it may answer to a job.
-    ghost may: { Self → JobValue → OutcomeValue → Type 0 };
+    /// How it goes on by a build: from what it is, by a job and how that ended, to what it is then.
+    ghost goes_on: { Self → JobValue → OutcomeValue → Self → Type 0 };
 
     /// Builds what the job says, and answers how that ended.
-    fn build<R: Wait>(&self, rt: &R, job: Job) -> Outcome
-        ensures { may self.now job result };
+    fn build<R: Wait>(&mut self, rt: &R, job: Job) -> Outcome
+        ensures { goes_on self.old job result self.new };
 }
 
 /// Where builders find rows. Many builders' threads share one.
 pub trait Floor {
     ghost use Rattle.atomic_table.specs.Seated.{TableId};
+    ghost use Rattle.td_board.specs.Seats.{BuilderModel};
     ghost use Rattle.td_book.specs.declared.starting.Job.{Job as JobValue};
     ghost use Rattle.td_rows.specs.declared.outcome.Outcome.{Outcome as OutcomeValue};
     ghost use Rattle.td_builder.specs.declared.stop.WorkStop.{WorkStop as WorkStopValue};
@@ -46,12 +46,15 @@ pub trait Floor {
     /// Which numbers `ready` may answer, in which order.
     ghost offers: { Self → List ℕ → Type 0 };
 
-    /// Which jobs `start` may answer for a row.
-    ghost jobs: { Self → ℕ → JobValue → Type 0 };
+    /// Which jobs `start` may answer to the builder of a seat, as it stands.
+    ghost jobs: { Self → BuilderModel → JobValue → Type 0 };
 
-    /// What is known of a row and an outcome once the build of the row ended with it, text
-    /// included.
-    ghost ends: { Self → ℕ → OutcomeValue → Type 0 };
+    /// What is known of a builder's seat, as it stood, and an outcome once `finish` has answered
+    /// that the build of the row in hand ended with it, text included.
+    ghost ends: { Self → BuilderModel → OutcomeValue → Type 0 };
+
+    /// The same where `finish` was refused, though the build ended.
+    ghost breaks_off: { Self → BuilderModel → OutcomeValue → Type 0 };
 
     /// What is known once `wait_for_work` has said that nothing more comes.
     ghost ended: { Self → Type 0 };
@@ -74,7 +77,7 @@ pub trait Floor {
     /// Starts the build of the row that the builder holds.
     fn start<R: Wait>(&self, rt: &R, seat: &BuilderSeat) -> Result<Job, StartRefusal>
         requires { seat.now.table ≡ table self.now }
-        ensures job { IfOk result (IsStarted (jobs self.now) seat.now) }
+        ensures job { IfOk result (jobs self.now seat.now) }
         ensures err { IfErr result (λ e. stopped self.now (start_stop e)) };
 
     /// Ends the build of the row that the builder holds. Where that is refused it may have ended
@@ -88,9 +91,7 @@ pub trait Floor {
         requires table { seat.old.table ≡ table self.now }
         requires hand { IsHolding seat.old }
         ensures ok { OnOk result (IsFinished (ends self.now) outcome seat.old seat.new) }
-        ensures seat { OnErr result
-            ((seat.new ≡ seat.old) ⊎ IsEarly (code_of outcome) seat.old seat.new
-            ⊎ IsFinished (ends self.now) outcome seat.old seat.new) }
+        ensures seat { OnErr result (IsRefused (breaks_off self.now) outcome seat.old seat.new) }
         ensures err { IfErr result (λ e. stopped self.now (finish_stop e)) };
 
     /// Waits until a row waits for a builder, or the floor is shut. Where it is shut, and none

@@ -2,9 +2,10 @@
 //!
 //! Start at `work`. `Floor` is where builders find rows, `Builds` a way to build; `Outcomes` is
 //! one, by lines of a text.
-//! Promised: a builder claims and finishes in turn; each build that it counts is one finish, with
-//! the code of an outcome that the way to build may answer to a job of that row; and it ends, or
-//! stops, only where the floor says so, or at the last `u64`.
+//! Promised: a builder works in turns. In each the job that the floor gives for the row in hand is
+//! built, once, and the floor takes its own outcome as the end of the row; nothing else is built,
+//! and the turns are counted. It ends, or stops, only where the floor says so, or at the last
+//! `u64`.
 #![tactic(auto)]
 
 mod fault;

@@ -24,8 +24,8 @@ use td_rows::{Key, Line, Outcome};
 use td_text::{behind, next_line};
 
 /// A way to build that has no need to: each build of a key ends as the next unused line of it
-/// says, and is built where no line is left. Builders' threads share it, and no line is used
-/// twice.
+/// says, and is built where no line is left. Builders' threads share it, by a reference each, and
+/// no line is used twice.
 #[derive(Drop)]
 pub struct Outcomes {
     alloc: Global,
@@ -131,13 +131,15 @@ impl Outcomes {
     }
 }
 
-impl Builds for Outcomes {
+impl Builds for &Outcomes {
+    ghost use Rattle.std.specs.Prelude.{◌≡◌};
     ghost use Rattle.td_book.specs.Deeds.{code_of};
     ghost use Rattle.td_builder.specs.Unused.{MayAnswer, codes_of};
 
-    ghost may = { λ o job outcome. MayAnswer (codes_of o job.key) (code_of outcome) };
+    ghost goes_on = { λ lines job outcome after. (after ≡ lines)
+        × MayAnswer (codes_of lines.now job.key) (code_of outcome) };
 
-    fn build<R: Wait>(&self, rt: &R, job: Job) -> Outcome {
-        self.next_end(rt, &job.key)
+    fn build<R: Wait>(&mut self, rt: &R, job: Job) -> Outcome {
+        (**self).next_end(rt, &job.key)
     }
 }

@@ -3,7 +3,7 @@ ghost use Rattle.std.specs.Prelude.{◌≡◌, ◌≤◌, ◌<◌, ◌⊎◌, �
 ghost use Rattle.std.specs.Prelude.{IsSome, OnErr, OnSome};
 ghost use Rattle.td_builder.specs.Floors.{IsHolding, IsIdle};
 ghost use Rattle.td_builder.specs.Rounds.{Asks, AsksInRounds, Claims, IsAsked};
-ghost use Rattle.td_builder.specs.Turns.{Worked};
+ghost use Rattle.td_builder.specs.Turns.{Worked, WorkedUntil};
 
 use crate::floor::{Builds, Floor};
 use crate::stop::{WorkStop, finish_stop, start_stop};
@@ -18,11 +18,12 @@ pub fn work<F: Floor, B: Builds, R: Wait>(
     rt: &R,
     floor: &F,
     seat: &mut BuilderSeat,
-    builds: &B,
+    builds: &mut B,
 ) -> Result<(u64, Option<F::Home>), WorkStop>
     requires { seat.old.table ≡ F.table floor.now }
-    ensures worked { IfOk result (λ done. Worked (F.jobs floor.now) (B.may builds.now)
-        (F.ends floor.now) done.0 seat.old seat.new) }
+    ensures worked { IfOk result (λ done. Worked (F.jobs floor.now) (F.ends floor.now) B.goes_on
+        done.0 seat.old builds.old seat.new builds.new) }
+    ensures table { seat.new.table ≡ seat.old.table }
     // All that is offered is asked for, but at the last `u64`.
     ensures asked { IfOk result (λ done. (left : List ℕ)
         × AsksInRounds (F.rows floor.now) (F.offers floor.now) left seat.old seat.new
@@ -30,8 +31,8 @@ pub fn work<F: Floor, B: Builds, R: Wait>(
     ensures idle { OnOk result (IsIdle seat.new) }
     ensures ended { IfOk result (λ done. OnSome done.1 (F.ended floor.now)) }
     ensures home { IfOk result (λ done. IsSome done.1 ⊎ (done.0 ≡ 2 ^ 64 - 1)) }
-    ensures meanwhile { OnErr result ((n : ℕ) × Worked (F.jobs floor.now) (B.may builds.now)
-        (F.ends floor.now) n seat.old seat.new) }
+    ensures meanwhile { OnErr result (WorkedUntil (F.jobs floor.now) (F.ends floor.now)
+        (F.breaks_off floor.now) B.goes_on seat.old builds.old seat.new builds.new) }
     ensures asked_meanwhile { OnErr result ((left : List ℕ)
         × AsksInRounds (F.rows floor.now) (F.offers floor.now) left seat.old seat.new) }
     ensures stopped { IfErr result (F.stopped floor.now) }
@@ -64,17 +65,17 @@ fn build_each<F: Floor, B: Builds, R: Wait>(
     rows: &[usize],
     most: u64,
     seat: &mut BuilderSeat,
-    builds: &B,
+    builds: &mut B,
 ) -> Result<u64, WorkStop>
     requires table { seat.old.table ≡ F.table floor.now }
     requires idle { IsIdle seat.old }
-    ensures worked { IfOk result (λ n. Worked (F.jobs floor.now) (B.may builds.now)
-        (F.ends floor.now) n seat.old seat.new × (n ≤ most)) }
+    ensures worked { IfOk result (λ n. Worked (F.jobs floor.now) (F.ends floor.now) B.goes_on n
+        seat.old builds.old seat.new builds.new × (n ≤ most)) }
     ensures asked { IfOk result (λ n. (left : List ℕ)
         × Asks (F.rows floor.now) rows.now left seat.old seat.new × (n < most → left ≡ [])) }
     ensures idle { OnOk result (IsIdle seat.new) }
-    ensures meanwhile { OnErr result ((n : ℕ) × Worked (F.jobs floor.now) (B.may builds.now)
-        (F.ends floor.now) n seat.old seat.new) }
+    ensures meanwhile { OnErr result (WorkedUntil (F.jobs floor.now) (F.ends floor.now)
+        (F.breaks_off floor.now) B.goes_on seat.old builds.old seat.new builds.new) }
     ensures asked_meanwhile { OnErr result ((left : List ℕ)
         × Asks (F.rows floor.now) rows.now left seat.old seat.new) }
     ensures stopped { IfErr result (F.stopped floor.now) }
@@ -95,16 +96,16 @@ fn claim_and_build<F: Floor, B: Builds, R: Wait>(
     floor: &F,
     row: usize,
     seat: &mut BuilderSeat,
-    builds: &B,
+    builds: &mut B,
 ) -> Result<u64, WorkStop>
     requires table { seat.old.table ≡ F.table floor.now }
     requires idle { IsIdle seat.old }
-    ensures worked { IfOk result (λ n. Worked (F.jobs floor.now) (B.may builds.now)
-        (F.ends floor.now) n seat.old seat.new × (n ≤ 1)) }
+    ensures worked { IfOk result (λ n. Worked (F.jobs floor.now) (F.ends floor.now) B.goes_on n
+        seat.old builds.old seat.new builds.new × (n ≤ 1)) }
     ensures asked { Claims (IsAsked (F.rows floor.now) row) seat.old seat.new }
     ensures idle { OnOk result (IsIdle seat.new) }
-    ensures meanwhile { OnErr result ((n : ℕ) × Worked (F.jobs floor.now) (B.may builds.now)
-        (F.ends floor.now) n seat.old seat.new) }
+    ensures meanwhile { OnErr result (WorkedUntil (F.jobs floor.now) (F.ends floor.now)
+        (F.breaks_off floor.now) B.goes_on seat.old builds.old seat.new builds.new) }
     ensures stopped { IfErr result (F.stopped floor.now) }
 {
     if !floor.claim(row, seat) {
@@ -119,16 +120,16 @@ fn build_held<F: Floor, B: Builds, R: Wait>(
     rt: &R,
     floor: &F,
     seat: &mut BuilderSeat,
-    builds: &B,
+    builds: &mut B,
 ) -> Result<(), WorkStop>
     requires table { seat.old.table ≡ F.table floor.now }
     requires hand { IsHolding seat.old }
-    ensures worked { OnOk result (Worked (F.jobs floor.now) (B.may builds.now)
-        (F.ends floor.now) 1 seat.old seat.new) }
+    ensures worked { OnOk result (Worked (F.jobs floor.now) (F.ends floor.now) B.goes_on 1
+        seat.old builds.old seat.new builds.new) }
     ensures unasked { Claims (λ claims. claims ≡ []) seat.old seat.new }
     ensures idle { OnOk result (IsIdle seat.new) }
-    ensures meanwhile { OnErr result ((n : ℕ) × Worked (F.jobs floor.now) (B.may builds.now)
-        (F.ends floor.now) n seat.old seat.new) }
+    ensures meanwhile { OnErr result (WorkedUntil (F.jobs floor.now) (F.ends floor.now)
+        (F.breaks_off floor.now) B.goes_on seat.old builds.old seat.new builds.new) }
     ensures stopped { IfErr result (F.stopped floor.now) }
 {
     let job = match floor.start(rt, seat) {

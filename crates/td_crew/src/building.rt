@@ -11,7 +11,7 @@ fn build<N: Named, C: Ledger, B: Builds, R: Wait>(
     rt: &R,
     shift: &Shift<'_, '_, N, C>,
     hired: Hired<N>,
-    builds: &B,
+    builds: &mut B,
 ) -> Result<Home<N>, WorkStop> {
     let Hired { mut seat, .. } = hired;
     for _ in rt.forever() {
@@ -24,13 +24,14 @@ fn build<N: Named, C: Ledger, B: Builds, R: Wait>(
 }
 
 /// One builder, in its thread: it builds, and then goes home, or says that memory is wanting.
-pub fn serve<N: Named, C: Ledger, B: Builds, R: Wait>(
+pub fn serve<N: Named, C: Ledger, B: Builds + Copy, R: Wait>(
     rt: &R,
     shift: &Shift<'_, '_, N, C>,
     hired: Hired<N>,
-    builds: &B,
+    builds: B,
 ) {
-    match build(rt, shift, hired, builds) {
+    let mut builds = builds;
+    match build(rt, shift, hired, &mut builds) {
         Ok(home) => shift.go_home(rt, home),
         Err(WorkStop::NoMemory) => shift.want_memory(),
         Err(WorkStop::Mismatch) => {}

@@ -82,7 +82,7 @@ fn tell_beside<N: Named + Send + Sync, C: Ledger + Send + Sync, T: Reports>(
     shift: &Shift<'_, '_, N, C>,
     clerk: Clerk<C>,
     hired: Vec<Hired<N>>,
-    builds: &(impl Builds + Sync),
+    builds: impl Builds + Copy + Send + Sync,
     lines: &Lines<'_, '_, T>,
 ) -> Result<(Told, Clerk<C>, Shut<N>), Shut<N>>
     requires fits { FitAnyBook T.fits lines.now.reports }
@@ -126,7 +126,7 @@ fn tell_in_shift<N: Named + Send + Sync, C: Ledger + Send + Sync, T: Reports>(
     desk: &Desk<'_, N, C>,
     clerk: Clerk<C>,
     seats: Vec<BuilderSeat>,
-    builds: &(impl Builds + Sync),
+    builds: impl Builds + Copy + Send + Sync,
     lines: &Lines<'_, '_, T>,
 ) -> Result<(Told, Clerk<C>, Homes<N>), AllocError>
     requires seats { All (λ s. s.table ≡ N.table) seats.items }
@@ -226,7 +226,7 @@ fn tell_at<N: Named + Send + Sync, C: Ledger + Send + Sync, T: Reports>(
     desk: Desk<'_, N, C>,
     clerk: Clerk<C>,
     seats: Vec<BuilderSeat>,
-    builds: &(impl Builds + Sync),
+    builds: impl Builds + Copy + Send + Sync,
     lines: &Lines<'_, '_, T>,
 ) -> Result<Told, AllocError>
     requires seats { All (λ s. s.table ≡ N.table) seats.items }
@@ -296,7 +296,7 @@ fn tell_if_begun<N: Named + Send + Sync, C: Ledger + Send + Sync, T: Reports>(
     rt: &(impl Threads + Wait + Sync),
     begun: Result<(Desk<'_, N, C>, Clerk<C>), ReadError>,
     seats: Vec<BuilderSeat>,
-    builds: &(impl Builds + Sync),
+    builds: impl Builds + Copy + Send + Sync,
     lines: &Lines<'_, '_, T>,
 ) -> Result<Told, ReadError>
     requires seats { All (λ s. s.table ≡ N.table) seats.items }
@@ -332,7 +332,7 @@ fn tell_named<N: Named + Send + Sync, C: Ledger + Send + Sync, T: Reports>(
     rows: Rows,
     supply: Supply<'_>,
     blank: Blank,
-    builds: &(impl Builds + Sync),
+    builds: impl Builds + Copy + Send + Sync,
     lines: &Lines<'_, '_, T>,
 ) -> Result<Told, ReadError>
     requires board { board.table ≡ N.table }
@@ -369,11 +369,11 @@ fn tell_named<N: Named + Send + Sync, C: Ledger + Send + Sync, T: Reports>(
 }
 
 /// What a crew tells of a script from these rows, or from the journal over them that is gone on
-/// with. Each of its builders builds in this way.
-pub fn tell_script<B: Builds + Sync, R: Threads + Wait + Sync>(
+/// with. Each of its builders builds in this way, which is its own.
+pub fn tell_script<B: Builds + Copy + Send + Sync, R: Threads + Wait + Sync>(
     rt: &R,
     crew: Crew,
-    builds: &B,
+    builds: B,
     asked: Asked,
 ) -> Result<Told, ReadError>
     requires { IsFit asked }

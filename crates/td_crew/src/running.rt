@@ -31,13 +31,18 @@ pub enum CrewFault {
 /// they say, each of whom builds in this way. Then the desk is shut, the builders are joined, and
 /// the rows are told.
 /// All is read and answered before anything is written.
-pub fn run_crew_with<R: Reader, W: Writer, B: Builds + Sync, H: Threads + Wait + Sync>(
+pub fn run_crew_with<
+    R: Reader,
+    W: Writer,
+    B: Builds + Copy + Send + Sync,
+    H: Threads + Wait + Sync,
+>(
     rt: &H,
     alloc: Global,
     inputs: &Inputs,
     reader: &mut R,
     writer: &mut W,
-    builds: &B,
+    builds: B,
 ) -> Result<ScriptEnd, RunFault>
     ensures says { SaysBy (crew_tells inputs.now.builders) (texts_of inputs.now)
         (R.remaining reader.old) (W.contents writer.old) (W.contents writer.new) result }

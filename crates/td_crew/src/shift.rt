@@ -1,12 +1,11 @@
 //! The desk as builders of a crew find it: each call answers what the desk's does.
-ghost use Rattle.std.specs.Prelude.{◌≡◌, ◌⊎◌, IfErr, IfOk, OnOk, OnErr, OnSome, is_none};
+ghost use Rattle.std.specs.Prelude.{◌≡◌, IfErr, IfOk, OnOk, OnErr, OnSome, is_none};
 ghost use Rattle.td_core.specs.History.{rows_of};
-ghost use Rattle.td_book.specs.Deeds.{code_of};
 ghost use Rattle.td_book.specs.Desk.{BookModel};
 ghost use Rattle.td_book.specs.Ready.{is_any_queued};
-ghost use Rattle.td_builder.specs.Floors.{IsHolding, IsStarted, IsEarly, IsFinished};
-ghost use Rattle.td_desk.specs.Calls.{IsOfDesk, Starting, Finishing, MayBeJob, MayBeReady};
-ghost use Rattle.td_desk.specs.Calls.{IsAtEnd, MayEnd};
+ghost use Rattle.td_builder.specs.Floors.{IsHolding, IsFinished, IsRefused};
+ghost use Rattle.td_desk.specs.Calls.{IsOfDesk, Starting, Finishing, MayStart, MayBeReady};
+ghost use Rattle.td_desk.specs.Calls.{IsAtEnd, MayEnd, MayBreakOff};
 
 use std::alloc::AllocError;
 use std::sync::atomic::{AtomicBool, Ordering};
@@ -59,7 +58,7 @@ impl<'d, 'a, N: Named, C: Ledger> Shift<'d, 'a, N, C> {
 }
 
 impl<'d, 'a, N: Named, C: Ledger> Floor for Shift<'d, 'a, N, C> {
-    ghost use Rattle.td_desk.specs.Calls.{IsAtEnd, MayBeJob, MayBeReady, MayEnd};
+    ghost use Rattle.td_desk.specs.Calls.{IsAtEnd, MayBeReady, MayBreakOff, MayEnd, MayStart};
 
     type Home = Home<N>;
 
@@ -69,9 +68,11 @@ impl<'d, 'a, N: Named, C: Ledger> Floor for Shift<'d, 'a, N, C> {
 
     ghost offers = { λ s. MayBeReady N.table N.origin };
 
-    ghost jobs = { λ s. MayBeJob N.table N.origin };
+    ghost jobs = { λ s. MayStart N.table N.origin };
 
     ghost ends = { λ s. MayEnd N.table N.origin };
+
+    ghost breaks_off = { λ s. MayBreakOff N.table N.origin };
 
     ghost ended = { λ s. IsAtEnd N.table N.origin };
 
@@ -94,7 +95,7 @@ impl<'d, 'a, N: Named, C: Ledger> Floor for Shift<'d, 'a, N, C> {
     fn start<R: Wait>(&self, rt: &R, seat: &BuilderSeat) -> Result<Job, StartRefusal>
         requires { seat.now.table ≡ N.table }
         ensures answer { Starting seat.now N.table N.origin result }
-        ensures job { IfOk result (IsStarted (MayBeJob N.table N.origin) seat.now) }
+        ensures job { IfOk result (MayStart N.table N.origin seat.now) }
         ensures err { IfErr result (λ e. Unit {0}) }
     {
         Floor::start(self.desk, rt, seat)
@@ -112,8 +113,7 @@ impl<'d, 'a, N: Named, C: Ledger> Floor for Shift<'d, 'a, N, C> {
         ensures ok { OnOk result
             (IsFinished (MayEnd N.table N.origin) outcome seat.old seat.new) }
         ensures seat { OnErr result
-            ((seat.new ≡ seat.old) ⊎ IsEarly (code_of outcome) seat.old seat.new
-            ⊎ IsFinished (MayEnd N.table N.origin) outcome seat.old seat.new) }
+            (IsRefused (MayBreakOff N.table N.origin) outcome seat.old seat.new) }
         ensures err { IfErr result (λ e. Unit {0}) }
     {
         Floor::finish(self.desk, rt, seat, outcome)

@@ -18,10 +18,10 @@ impl AtOnce {
     }
 }
 
-impl Builds for AtOnce {
-    ghost may = { λ at_once job outcome. Unit {0} };
+impl Builds for &AtOnce {
+    ghost goes_on = { λ at_once job outcome after. Unit {0} };
 
-    fn build<R: Wait>(&self, rt: &R, _job: Job) -> Outcome {
+    fn build<R: Wait>(&mut self, rt: &R, _job: Job) -> Outcome {
         let _last = self.all_under_way.wait(rt);
         Outcome::Built
     }

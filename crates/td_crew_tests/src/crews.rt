@@ -93,7 +93,7 @@ fn told_by<R: Threads + Wait + Sync>(
     alloc: Global,
     inputs: &Inputs,
     mut script: &[u8],
-    builds: &(impl Builds + Sync),
+    builds: impl Builds + Copy + Send + Sync,
 ) -> Result<String, AllocError> {
     let mut writer = Vec::new(alloc);
     let end = run_crew_with(rt, alloc, inputs, &mut script, &mut writer, builds);

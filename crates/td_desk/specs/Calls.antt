@@ -1,7 +1,7 @@
 -- What the calls of a desk answer, each over some book of the desk, and what receipt a clerk gets.
 -- This project's own.
 use Rattle.std.specs.Prelude.{◌≡◌, ◌≢◌, ◌⊎◌, ℕ, false, not, List, [], ◌∷◌, Option, None, Result}
-use Rattle.std.specs.Prelude.{Err}
+use Rattle.std.specs.Prelude.{Ok, Err}
 use Rattle.std.specs.Prelude.{IfOk, filter, length, map}
 use Rattle.std.specs.declared.alloc.AllocError.{AllocError}
 use Rattle.atomic_table.specs.Seated.{TableId}
@@ -17,7 +17,7 @@ use Rattle.td_wbread.specs.Command.{CommandParts}
 use Rattle.td_wbread.specs.Kinds.{kind_of}
 use Rattle.td_board.specs.Seats.{BuilderModel}
 use Rattle.td_board.specs.declared.views.BuilderView.{BuilderView}
-use Rattle.td_board.specs.declared.views.Hand.TheVariants.{Free}
+use Rattle.td_board.specs.declared.views.Hand.TheVariants.{Free, Holding}
 use Rattle.td_board.specs.Knowledge.{with_finish}
 use Rattle.td_book.specs.declared.arriving.ArriveRefusal.{ArriveRefusal}
 use Rattle.td_book.specs.declared.commanding.CommandRefusal.{CommandRefusal}
@@ -140,17 +140,30 @@ abbrev pub MayBeReady : TableId → Origin → List ℕ → Type 0
 MayBeReady table origin numbers =
     (b : BookModel) × IsOfDesk table origin b × IsReady (rows_of b.history) numbers
 
--- which jobs may be answered for the row with a number: those of a book of the desk
-abbrev pub MayBeJob : TableId → Origin → ℕ → Job → Type 0
-MayBeJob table origin row job = (b : BookModel) × IsOfDesk table origin b × IsJobAt row b job
+-- which jobs may be answered to the builder of a seat: those of a book of the desk, for the row in
+-- hand
+abbrev pub MayStart : TableId → Origin → BuilderModel → Job → Type 0
+MayStart table origin s job =
+    (row : ℕ) × (b : BookModel) × (s.builder.hand ≡ Holding row) × IsOfDesk table origin b
+    × IsJobAt row b job
 
--- with which outcomes the build of the row with a number may end: a book of the desk was told this
--- outcome, text included, by a builder who held the row, and the builder's build ended
-abbrev pub MayEnd : TableId → Origin → ℕ → Outcome → Type 0
-MayEnd table origin row outcome =
-    (old : BookModel) × (new : BookModel) × (v : BuilderView) × (w : BuilderView)
-    × (answer : Result ℕ FinishRefusal) × IsOfDesk table origin old
-    × FinishHeld row outcome v w old new answer × (w ≡ with_finish row (code_of outcome) v)
+-- a book of the desk was told by the builder of a seat, as it stood, that the build of the row in
+-- hand ended with this outcome, text included, and the builder's build ended; it answered so
+abbrev pub IsToldEnd : TableId → Origin → BuilderModel → Outcome → Result ℕ FinishRefusal → Type 0
+IsToldEnd table origin s outcome answer =
+    (row : ℕ) × (old : BookModel) × (new : BookModel) × (s.builder.hand ≡ Holding row)
+    × IsOfDesk table origin old
+    × FinishHeld row outcome s.builder (with_finish row (code_of outcome) s.builder) old new answer
+
+-- with which outcomes the build of the row in a seat's hand may end: a book of the desk was told so,
+-- and journalled it
+abbrev pub MayEnd : TableId → Origin → BuilderModel → Outcome → Type 0
+MayEnd table origin s outcome = (n : ℕ) × IsToldEnd table origin s outcome (Ok n)
+
+-- with which it may break off: a book of the desk was told so, and refused it
+abbrev pub MayBreakOff : TableId → Origin → BuilderModel → Outcome → Type 0
+MayBreakOff table origin s outcome =
+    (refusal : FinishRefusal) × IsToldEnd table origin s outcome (Err refusal)
 
 -- a book of the desk was seen in which no row waits for a builder
 abbrev pub IsAtEnd : TableId → Origin → Type 0

@@ -1,12 +1,11 @@
 //! The desk as a floor on which builders find rows: each call answers what the desk's does.
-ghost use Rattle.std.specs.Prelude.{◌≡◌, ◌⊎◌, IfErr, IfOk, OnOk, OnErr, OnSome, is_none};
+ghost use Rattle.std.specs.Prelude.{◌≡◌, IfErr, IfOk, OnOk, OnErr, OnSome, is_none};
 ghost use Rattle.td_core.specs.History.{rows_of};
-ghost use Rattle.td_book.specs.Deeds.{code_of};
 ghost use Rattle.td_book.specs.Desk.{BookModel};
 ghost use Rattle.td_book.specs.Ready.{is_any_queued};
-ghost use Rattle.td_builder.specs.Floors.{IsHolding, IsStarted, IsEarly, IsFinished};
-ghost use Rattle.td_desk.specs.Calls.{IsOfDesk, Starting, Finishing, MayBeJob, MayBeReady};
-ghost use Rattle.td_desk.specs.Calls.{IsAtEnd, MayEnd};
+ghost use Rattle.td_builder.specs.Floors.{IsHolding, IsFinished, IsRefused};
+ghost use Rattle.td_desk.specs.Calls.{IsOfDesk, Starting, Finishing, MayStart, MayBeReady};
+ghost use Rattle.td_desk.specs.Calls.{IsAtEnd, MayEnd, MayBreakOff};
 
 use crate::desk::Desk;
 use crate::home::Home;
@@ -21,7 +20,7 @@ use td_journal::EntryNo;
 use td_rows::Outcome;
 
 impl<'a, N: Named, C: Ledger> Floor for Desk<'a, N, C> {
-    ghost use Rattle.td_desk.specs.Calls.{IsAtEnd, MayBeJob, MayBeReady, MayEnd};
+    ghost use Rattle.td_desk.specs.Calls.{IsAtEnd, MayBeReady, MayBreakOff, MayEnd, MayStart};
 
     type Home = Home<N>;
 
@@ -31,9 +30,11 @@ impl<'a, N: Named, C: Ledger> Floor for Desk<'a, N, C> {
 
     ghost offers = { λ d. MayBeReady N.table N.origin };
 
-    ghost jobs = { λ d. MayBeJob N.table N.origin };
+    ghost jobs = { λ d. MayStart N.table N.origin };
 
     ghost ends = { λ d. MayEnd N.table N.origin };
+
+    ghost breaks_off = { λ d. MayBreakOff N.table N.origin };
 
     ghost ended = { λ d. IsAtEnd N.table N.origin };
 
@@ -54,7 +55,7 @@ impl<'a, N: Named, C: Ledger> Floor for Desk<'a, N, C> {
     fn start<R: Wait>(&self, rt: &R, seat: &BuilderSeat) -> Result<Job, StartRefusal>
         requires { seat.now.table ≡ N.table }
         ensures answer { Starting seat.now N.table N.origin result }
-        ensures job { IfOk result (IsStarted (MayBeJob N.table N.origin) seat.now) }
+        ensures job { IfOk result (MayStart N.table N.origin seat.now) }
         ensures err { IfErr result (λ e. Unit {0}) }
     {
         Desk::start(self, rt, seat)
@@ -73,8 +74,7 @@ impl<'a, N: Named, C: Ledger> Floor for Desk<'a, N, C> {
         ensures ok { OnOk result
             (IsFinished (MayEnd N.table N.origin) outcome seat.old seat.new) }
         ensures seat { OnErr result
-            ((seat.new ≡ seat.old) ⊎ IsEarly (code_of outcome) seat.old seat.new
-            ⊎ IsFinished (MayEnd N.table N.origin) outcome seat.old seat.new) }
+            (IsRefused (MayBreakOff N.table N.origin) outcome seat.old seat.new) }
         ensures err { IfErr result (λ e. Unit {0}) }
     {
         Desk::finish(self, rt, seat, outcome)

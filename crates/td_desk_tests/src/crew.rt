@@ -74,11 +74,11 @@ fn serve<N: Named, C: Ledger, R: Wait>(
     tally: &Tally,
     homes: &Mutex<Homes<N>>,
 ) {
-    let mut hired = hired;
+    let (mut hired, mut builds) = (hired, tally);
     match style {
         Style::Claim => claim_on(rt, desk, &mut hired, tally),
-        Style::Work => match work_of(rt, desk, &mut hired, tally, homes) {
-            Ok(builds) => tally.finish(builds),
+        Style::Work => match work_of(rt, desk, &mut hired, &mut builds, homes) {
+            Ok(built) => tally.finish(built),
             Err(_) => tally.note(Answer::Wrong),
         },
     }

@@ -17,10 +17,11 @@ fn work_both<N: Named + Send + Sync, C: Ledger + Send + Sync, R: Threads + Wait 
     homes: &Mutex<Homes<N>>,
 ) -> (Result<u64, WorkStop>, Result<u64, WorkStop>) {
     let together = Together::new();
+    let (mut first, mut second) = (&together, &together);
     thread::join(
         rt,
-        || work_of(rt, desk, one, &together, homes),
-        || work_of(rt, desk, two, &together, homes),
+        || work_of(rt, desk, one, &mut first, homes),
+        || work_of(rt, desk, two, &mut second, homes),
     )
 }
 

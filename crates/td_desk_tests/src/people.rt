@@ -53,7 +53,7 @@ pub(crate) fn work_of<N: Named, C: Ledger, B: Builds, R: Wait>(
     rt: &R,
     desk: &Desk<'static, N, C>,
     hired: &mut Hired<N>,
-    builds: &B,
+    builds: &mut B,
     homes: &Mutex<Homes<N>>,
 ) -> Result<u64, WorkStop> {
     let (built, home) = work(rt, desk, &mut hired.seat, builds)?;
@@ -136,8 +136,9 @@ impl<N: Named, C: Ledger> People<N, C> {
         rt: &R,
         desk: &Desk<'static, N, C>,
     ) -> Option<Result<u64, WorkStop>> {
+        let mut outcomes = &self.outcomes;
         match self.builders.first_mut() {
-            Some(first) => Some(work_of(rt, desk, first, &self.outcomes, &self.homes)),
+            Some(first) => Some(work_of(rt, desk, first, &mut outcomes, &self.homes)),
             None => None,
         }
     }

@@ -95,10 +95,10 @@ impl Tally {
     }
 }
 
-impl Builds for Tally {
-    ghost may = { λ tally job outcome. Unit {0} };
+impl Builds for &Tally {
+    ghost goes_on = { λ tally job outcome after. Unit {0} };
 
-    fn build<R: Wait>(&self, _rt: &R, _job: Job) -> Outcome {
-        self.outcome()
+    fn build<R: Wait>(&mut self, _rt: &R, _job: Job) -> Outcome {
+        (**self).outcome()
     }
 }

@@ -23,10 +23,10 @@ impl Together {
     }
 }
 
-impl Builds for Together {
-    ghost may = { λ together job outcome. Unit {0} };
+impl Builds for &Together {
+    ghost goes_on = { λ together job outcome after. Unit {0} };
 
-    fn build<R: Wait>(&self, _rt: &R, _job: Job) -> Outcome {
+    fn build<R: Wait>(&mut self, _rt: &R, _job: Job) -> Outcome {
         self.begun.fetch_add(1, Ordering::SeqCst);
         for _ in 0..MOST_TURNS {
             if self.begun.load(Ordering::SeqCst) > 1 {

@@ -1,9 +1,8 @@
 //! A builder and a clerk in turn, on one thread: each time the builder has tried what was ready,
 //! the clerk makes the next call. Behind the last the desk is shut, and the builder goes home.
-ghost use Rattle.std.specs.Prelude.{◌≡◌, ◌⊎◌, true, IfErr, IfOk, OnErr, OnOk, OnSome};
-ghost use Rattle.td_book.specs.Deeds.{code_of};
-ghost use Rattle.td_builder.specs.Floors.{IsHolding, IsStarted, IsEarly, IsFinished};
-ghost use Rattle.td_desk.specs.Calls.{IsAtEnd, MayBeJob, MayBeReady, MayEnd};
+ghost use Rattle.std.specs.Prelude.{◌≡◌, true, IfErr, IfOk, OnErr, OnOk, OnSome};
+ghost use Rattle.td_builder.specs.Floors.{IsHolding, IsFinished, IsRefused};
+ghost use Rattle.td_desk.specs.Calls.{IsAtEnd, MayBeReady, MayEnd, MayStart};
 
 use crate::people::{People, command};
 use crate::sample::TABLE;
@@ -151,14 +150,14 @@ impl<'d, N: Named, C: Ledger> Jobs<'d, N, C> {
 }
 
 impl<'d, N: Named, C: Ledger> Builds for Jobs<'d, N, C> {
-    ghost may = { λ jobs job outcome. Unit {0} };
+    ghost goes_on = { λ jobs job outcome after. Unit {0} };
 
-    fn build<R: Wait>(&self, rt: &R, job: Job) -> Outcome {
+    fn build<R: Wait>(&mut self, rt: &R, job: Job) -> Outcome {
         // (what lacks memory isn't told, and is missing then)
         if let Ok(text) = self.text(rt, &job) {
             let _ = self.told.lock(rt).push_str(text.as_str());
         }
-        self.outcomes.build(rt, job)
+        Builds::build(&mut self.outcomes, rt, job)
     }
 }
 
@@ -182,7 +181,7 @@ impl<'d, 't, N: Named, C: Ledger> Turns<'d, 't, N, C> {
 }
 
 impl<'d, 't, N: Named, C: Ledger> Floor for Turns<'d, 't, N, C> {
-    ghost use Rattle.td_desk.specs.Calls.{IsAtEnd, MayBeJob, MayBeReady, MayEnd};
+    ghost use Rattle.td_desk.specs.Calls.{IsAtEnd, MayBeReady, MayEnd, MayStart};
 
     type Home = Home<N>;
 
@@ -192,9 +191,11 @@ impl<'d, 't, N: Named, C: Ledger> Floor for Turns<'d, 't, N, C> {
 
     ghost offers = { λ turns. MayBeReady N.table N.origin };
 
-    ghost jobs = { λ turns. MayBeJob N.table N.origin };
+    ghost jobs = { λ turns. MayStart N.table N.origin };
 
     ghost ends = { λ turns. MayEnd N.table N.origin };
+
+    ghost breaks_off = { λ turns seat outcome. Unit {0} };
 
     ghost ended = { λ turns. IsAtEnd N.table N.origin };
 
@@ -213,7 +214,7 @@ impl<'d, 't, N: Named, C: Ledger> Floor for Turns<'d, 't, N, C> {
 
     fn start<R: Wait>(&self, rt: &R, seat: &BuilderSeat) -> Result<Job, StartRefusal>
         requires { seat.now.table ≡ N.table }
-        ensures job { IfOk result (IsStarted (MayBeJob N.table N.origin) seat.now) }
+        ensures job { IfOk result (MayStart N.table N.origin seat.now) }
         ensures err { IfErr result (λ e. Unit {0}) }
     {
         Floor::start(self.desk, rt, seat)
@@ -230,8 +231,7 @@ impl<'d, 't, N: Named, C: Ledger> Floor for Turns<'d, 't, N, C> {
         ensures ok { OnOk result
             (IsFinished (MayEnd N.table N.origin) outcome seat.old seat.new) }
         ensures seat { OnErr result
-            ((seat.new ≡ seat.old) ⊎ IsEarly (code_of outcome) seat.old seat.new
-            ⊎ IsFinished (MayEnd N.table N.origin) outcome seat.old seat.new) }
+            (IsRefused (λ seat outcome. Unit {0}) outcome seat.old seat.new) }
         ensures err { IfErr result (λ e. Unit {0}) }
     {
         let refuses = self.day.lock(rt).refuses;
@@ -261,7 +261,7 @@ fn work_of<N: Named, C: Ledger, R: Wait>(
     rt: &R,
     turns: &Turns<'_, '_, N, C>,
     hired: &mut Hired<N>,
-    jobs: &Jobs<'_, N, C>,
+    jobs: &mut Jobs<'_, N, C>,
     homes: &Mutex<Homes<N>>,
 ) -> Result<u64, WorkStop> {
     let (built, home) = work(rt, turns, &mut hired.seat, jobs)?;
@@ -291,7 +291,7 @@ fn work_beside<N: Named, C: Ledger, R: Wait>(
     let alloc = *alloc;
     let first = builders.first_mut()?;
     let clerk = clerks.pop()?;
-    let jobs = Jobs {
+    let mut jobs = Jobs {
         alloc,
         desk,
         outcomes,
@@ -308,7 +308,7 @@ fn work_beside<N: Named, C: Ledger, R: Wait>(
         told,
         day: Mutex::new(day),
     };
-    let end = work_of(rt, &turns, first, &jobs, homes);
+    let end = work_of(rt, &turns, first, &mut jobs, homes);
     let _ = clerks.push(turns.into_clerk());
     Some(end)
 }

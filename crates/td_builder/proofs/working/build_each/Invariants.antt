@@ -7,6 +7,6 @@ use Rattle.td_builder.proofs.working.build_each.Given as goal
 
 abbrev pub invariant-loop-row : goal.invariant-loop-row
 invariant-loop-row g l =
-    Worked (g.F.Floor.jobs l.floor) (g.B.Builds.may l.builds) (g.F.Floor.ends l.floor) l.built
-    l.fn.seat l.seat × (l.built ≤ l.most) × IsIdle l.seat
+    Worked (g.F.Floor.jobs l.floor) (g.F.Floor.ends l.floor) g.B.Builds.goes_on l.built l.fn.seat
+    l.fn.builds l.seat l.builds × (l.built ≤ l.most) × IsIdle l.seat
     × Claims (AreAsked (g.F.Floor.rows l.floor) (take l.row-index l.rows)) l.fn.seat l.seat
