@@ -285,7 +285,19 @@ finish 1 waits libx => Ok(10)
 row foo/amd64 => foo/amd64 Dep-Wait 0 1 : libx
 ";
 
-const BUILT: [Played<'static>; 7] = [
+const ENDED_AT_THE_BOARD: &str = "\
+claim 1 foo/amd64 => true
+end => false
+start 1 => foo/amd64 1.2-3+b1 1 ()
+end => true
+row foo/amd64 => foo/amd64 Building=1 0 1
+finish 1 built => Err(Mismatch)
+finish 1 attempted => Ok(2)
+row foo/amd64 => foo/amd64 Build-Attempted 0 1
+finish 1 attempted => Err(NothingHeld)
+";
+
+const BUILT: [Played<'static>; 8] = [
     (
         INSTALLED,
         WAITS,
@@ -339,6 +351,13 @@ const BUILT: [Played<'static>; 7] = [
          8 + gb foo/amd64\n\
          9 + claim=1 foo/amd64\n\
          10 + waits=1 foo/amd64 : libx\n",
+    ),
+    (
+        NEEDS_BUILD,
+        ENDED_AT_THE_BOARD,
+        "transdesk journal 2\n\
+         1 + claim=1 foo/amd64\n\
+         2 + attempted=1 foo/amd64\n",
     ),
 ];
 

@@ -11,7 +11,7 @@ use crate::spelling::{
 };
 use std::alloc::Global;
 use std::test::Fail;
-use td_board::{Board, BuilderSeat, DeskSeat, Hand};
+use td_board::{Board, BuilderSeat, DeskSeat, Hand, OutcomeCode};
 use td_book::Book;
 use td_journal::{EntryNo, ReadError, text};
 use td_relation::Archs;
@@ -215,6 +215,15 @@ impl Desk {
     fn finish_three(&mut self, outcome: Outcome) -> Result<String, Fail> {
         let finished = self.book.finish(&self.board, &mut self.three, outcome);
         shown(self.alloc, &finished)
+    }
+
+    // Whether the first builder's build ends at the board alone, as an attempt.
+    pub(crate) fn end(&mut self) -> Result<String, Fail> {
+        let ended = match self.one.hand() {
+            Hand::Holding(_) => self.board.finish(&mut self.one, OutcomeCode::Attempted),
+            _ => false,
+        };
+        shown(self.alloc, &ended)
     }
 
     // Whether the first builder's hand is released.

@@ -63,6 +63,7 @@ pub(crate) fn answer(desk: &mut Desk, line: &str) -> Result<String, Fail> {
         "arrive" => desk.arrive(rest),
         "sweep" => desk.sweep(),
         "watch" => watch(desk, rest),
+        "end" => desk.end(),
         "release" => desk.release(),
         _ => ask(desk, line),
     }
