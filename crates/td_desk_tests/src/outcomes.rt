@@ -87,7 +87,7 @@ fn spelled(alloc: Global, outcome: &Outcome) -> Result<String, Fail> {
 fn built_as<R: Wait>(
     rt: &R,
     alloc: Global,
-    outcomes: &Outcomes,
+    mut outcomes: &Outcomes,
     key: &str,
 ) -> Result<String, Fail> {
     let job = job(alloc, key)?;
