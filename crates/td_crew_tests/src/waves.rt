@@ -1,5 +1,5 @@
-//! The archive of `examples/waves.*`, its tracker, and what is told of them: five sources that
-//! build on one another. This project's own worked example.
+//! The archive in `examples/archives/waves`, its tracker, and what is told of them: five sources
+//! that build on one another. This project's own worked example.
 
 pub(crate) const ARCHS: &str = "amd64 linux amd64\n";
 

@@ -14,7 +14,7 @@ use td_indices::{Archive, ArchiveFault, IndexField, IndexFile, RelationField, Ve
 use td_relation::Archs;
 use td_stanza::StanzaFault;
 
-// The archive of examples/foobar.archs, foobar.packages and foobar.sources.
+// The archive in examples/archives/foobar.
 const ARCHS: &str = "amd64 linux amd64\ni386 linux i386\n";
 
 const PACKAGES: &str = "\
@@ -155,7 +155,7 @@ fn a_package_and_what_it_provides_are_on_offer(rt: HostRuntime) {
     are_answered(&rt, rt.alloc(), ARCHS, PROVIDING, SOURCES, &OFFERED);
 }
 
-// The opening rows of the archive of examples/waves.*.
+// The opening rows of the archive in examples/archives/waves.
 const WAVES_OPENING: &str = "\
 pa/amd64 Installed 0 0
 qb/amd64 Installed 0 0

@@ -10,7 +10,7 @@ use td_query::{Marks, Status, Tracker};
 use td_relation::Archs;
 use td_rows::Key;
 
-// The archive of examples/waves.archs, waves.packages and waves.sources.
+// The archive in examples/archives/waves.
 pub const ARCHS: &str = "amd64 linux amd64\n";
 
 pub const PACKAGES: &str = "\

@@ -1,0 +1,255 @@
+"""Files with faults, made here: what is said of each, by each subcommand that reads it."""
+
+import os
+
+import cases
+from runs import TOO_LONG
+
+COMMANDS = ("check", "track", "waves", "run")
+WAVES = cases.archive("waves", cases.OF_ARCHIVE)
+# A text that isn't UTF-8.
+NO_TEXT = cases.Case("simulate", "latin-1").path("input")
+LONG = 1_000_000
+# What is shown of a long line.
+SHOWN = "z" * 60
+AMD64 = "Package: yy\nVersion: 1\nArchitecture: amd64\n"
+OPEN = "a key and its query, as docs/FORMATS.md has trackers; at most 100 ( and ! are open"
+NO_ARCH = "an architecture, as NAME OS CPU"
+# Files with faults: role, text, refusal, and what --explain says behind the role.
+MADE = [
+    ("tracker", "", "MissingKey", "wanted: a key is_affected"),
+    ("tracker", "is_affected = true; is_bad = true;", "MissingKey", "wanted: a key is_good"),
+    ("tracker", "is_affected", "Syntax", f'byte 11, line 1, column 12 has ""; wanted: {OPEN}'),
+    ("tracker", 'title = "x";\n\n\0', "Syntax",
+     f'byte 14, line 3, column 1 has "\\x00"; wanted: {OPEN}'),
+    ("tracker", f"is_affected = {'(' * 100}(true", "Syntax",
+     f'byte 114, line 1, column 115 has "(true"; wanted: {OPEN}'),
+    ("archs", "\ufeffamd64 linux amd64\n", "BadLine",
+     f'line 1 has "\ufeffamd64 linux amd64"; wanted: {NO_ARCH}'),
+    ("archs", "# one\r\namd64\r\n", "BadLine", f'line 2 has "amd64\\x0d"; wanted: {NO_ARCH}'),
+    ("sources",
+     "Package: qb\nVersion: 1\nArchitecture: any\n\n \t\n\n"
+     "Package: rc\nDescription: one\n .\n two\nArchitecture: any\n",
+     "MissingField", 'stanza 2, line 7 has "Package: rc"; wanted: a field Version'),
+    ("packages", " x\n", "Stanza",
+     'line 1 has " x"; wanted: a field, since none is above that could go on here'),
+    ("packages", f"{AMD64}Source: bb (1_0)\n", "BadVersion",
+     'stanza 1, line 1 has "Package: yy"; wanted: '
+     "a version in the brackets of Source as deb-version(7) has it"),
+]
+# The fields that have relations.
+RELATIONS = {
+    "packages": ("Pre-Depends", "Provides", "Depends"),
+    "sources": ("Build-Depends-Arch", "Build-Depends"),
+}
+# What is said of an index that has one line `Package: foo`, of a file of each role.
+UNFIT = {"packages": "MissingField", "sources": "MissingField", "tracker": "Syntax",
+         "journal": "BadHeader"}
+AFFECTS_NOTHING = 'title = "T"; is_affected = false; is_good = true; is_bad = true;\n'
+
+
+def words_of(command, changed, *others):
+    """The words of a subcommand over the archive `waves`, with other files for some roles."""
+    files = {**WAVES, **changed}
+    return [command, *others, *cases.options({r: files[r] for r in cases.READ_BY[command] if r in files})]
+
+
+def said_of(role, fault, *more):
+    """The lines on standard error."""
+    return "".join(f"{line}\n" for line in (f"transdesk: {role}: {fault}", *more)).encode()
+
+
+def by_each(runs, name, role, path, said):
+    """A file is refused, and explained, by each subcommand that reads its role."""
+    for command in COMMANDS:
+        if role in cases.READ_BY[command]:
+            found = runs.end(words_of(command, {role: path}, "--explain"))
+            runs.compare(f"{name}, explained by {command}", found, 2, stderr=said)
+
+
+def made(runs):
+    """Files with faults that are too odd, or too short, for examples/refused/."""
+    for role, text, fault, why in MADE:
+        said = said_of(role, fault, f"{role}: {why}")
+        by_each(runs, f"{role} {text[:20]!r}", role, runs.put("made", text), said)
+    for role, fields in RELATIONS.items():
+        for field in fields:
+            path = runs.put("made", f"{AMD64}{field}: xx (\n")
+            why = f"a relation in {field} as Debian Policy 7.1 has it"
+            why = f'{role}: stanza 1, line 1 has "Package: yy"; wanted: {why}'
+            by_each(runs, f"{field} of {role}", role, path, said_of(role, "BadRelation", why))
+
+
+def journals(runs):
+    """Journals of examples that are refused, explained."""
+    header = "a journal's header line with its newline, as transdesk journal 2"
+    entry = "an entry that applies on the rows, or an undone command"
+    for name, why in (
+        ("empty-journal", f'line 1 has ""; wanted: {header}'),
+        ("unlawful-journal", f'line 3 has "2 + dw foo/amd64 : libbar-dev"; wanted: {entry}'),
+    ):
+        case = cases.Case("run", name)
+        found = runs.end([*case.words(), "--explain"], case.input())
+        said = case.read("stderr") + f"journal: {why}\n".encode()
+        runs.compare(f"the journal of {name}, explained", found, 2, stderr=said)
+
+
+def long_texts(runs):
+    """A line of a million bytes, as an input and as an index, and an input that is too long."""
+    path = runs.put("long", b"z" * LONG)
+    row = f'input: line 1 has "{SHOWN}"...; wanted: a row, as KEY STATE PRIORITY NUMBER'
+    found = runs.end(["simulate", "--explain"], path)
+    runs.compare("a line of 1000000 bytes, explained", found, 2,
+                 stderr=said_of("input", "BadLine", row))
+    for role in ("packages", "sources"):
+        what = f"{role} of 1000000 bytes without a colon"
+        found = runs.end(words_of("check", {role: path}))
+        runs.compare(what, found, 2, stderr=said_of(role, "Stanza"))
+    field = f'packages: line 1 has "{SHOWN}"...; wanted: a colon behind the name of the field'
+    found = runs.end(words_of("check", {"packages": path}, "--explain"))
+    runs.compare("packages of 1000000 bytes without a colon, explained", found, 2,
+                 stderr=said_of("packages", "Stanza", field))
+    most = "input: wanted: standard input of at most 1048576 bytes\n"
+    found = runs.end(["simulate", "--explain"], runs.put("too-long", bytes(1_048_577)))
+    runs.compare("an input too long, explained", found, 2, stderr=TOO_LONG + most.encode())
+
+
+def unread(role, why=None):
+    """What is said of a file that can't be read, and of why, if that is known."""
+    more = [f"{role}: wanted: {why}"] if why else []
+    return said_of(role, "cannot read", *more)
+
+
+NOWHERE = "the path of a file that is there"
+
+
+def not_read(runs):
+    """Tables of architectures that can't be read, explained. The last four have no reason that is
+    said: a device without an end, a file whose reads fail, a link to itself, a name too long."""
+    with open(runs.put("endless", b""), "wb") as it:
+        it.truncate(1_073_741_825)
+    os.chmod(runs.put("secret", "amd64 linux amd64\n"), 0)
+    os.symlink("loop", f"{runs.room}/loop")
+    reasons = {
+        runs.room: "a file, and no folder",
+        "nowhere": NOWHERE,
+        "secret/in": NOWHERE,
+        "endless": "a file of at most 1073741824 bytes",
+        "secret": "a file that may be read",
+        "/dev/zero": None,
+        "/proc/self/mem": None,
+        "loop": None,
+        "0" * 300: None,
+    }
+    if os.access(f"{runs.room}/secret", os.R_OK):
+        # (root may read each; run-streams asks as somebody else)
+        del reasons["secret"]
+    for path, why in reasons.items():
+        changed = {"archs": path, "packages": "nowhere", "sources": "nowhere"}
+        found = runs.end(words_of("check", changed, "--explain"))
+        runs.compare(f"{path[:20]}, not read and explained", found, 5, stderr=unread("archs", why))
+
+
+def missing(runs):
+    """Files that aren't there, or are no text, explained."""
+    for role in ("packages", "sources"):
+        for command in COMMANDS:
+            found = runs.end(words_of(command, {role: "nowhere"}, "--explain"))
+            runs.compare(f"{command} without {role}, explained", found, 5,
+                         stderr=unread(role, NOWHERE))
+    no_text = runs.put("no-text", b"\xff")
+    for role in ("state", "tracker", "outcomes", "journal"):
+        builders = ["--builders", "1"] if role == "outcomes" else []
+        found = runs.end(words_of("run", {role: "nowhere"}, "--explain", *builders))
+        runs.compare(f"a {role} that isn't there, explained", found, 5,
+                     stderr=unread(role, NOWHERE))
+        if role in ("journal", "outcomes"):
+            found = runs.end(words_of("run", {role: no_text}, "--explain", *builders))
+            said = said_of(role, "NotText", f"{role}: wanted: a text in UTF-8")
+            runs.compare(f"a {role} that is no text, explained", found, 2, stderr=said)
+
+
+def two_faults(runs, command, roles, first, second, fit):
+    """Two files of a subcommand are faulty: which is named."""
+    unfit, folder = fit["unfit"], runs.room
+    ends = [
+        (2, f"{first}: {UNFIT.get(first, 'BadLine')}", unfit, unfit),
+        (2, f"{first}: NotText", NO_TEXT, folder),
+        (5, f"{first}: cannot read", "nowhere", NO_TEXT),
+    ]
+    if first != second:
+        ends.append((2, f"{second}: NotText", unfit, NO_TEXT))
+    builders = ["--builders", "1"] if command == "run" else []
+    for status, line, of_first, of_second in ends:
+        files = {role: fit.get(role) or WAVES[role] for role in roles}
+        files.update({second: of_second})
+        files.update({first: of_first})
+        found = runs.end([command, *builders, *cases.options(files)])
+        said = f"transdesk: {line}\n".encode()
+        runs.compare(f"{line}, of {first} and {second} of {command}", found, status, stderr=said)
+
+
+def first_of_two(runs):
+    """Of two faulty files the first is named: those that can't be read or are no text, in the order
+    in which files are read, and after all of these the unfit ones, in the order in which they are
+    looked at. All of that comes before standard input, which is a folder here."""
+    empty = runs.put("empty", b"")
+    fit = {
+        "state": empty,
+        "outcomes": empty,
+        "journal": runs.put("fit-journal", "transdesk journal 2\n"),
+        "unfit": runs.put("unfit", "Package: foo\n"),
+    }
+    for command, roles in (
+        ("check", cases.INDICES),
+        ("track", (*cases.INDICES, "state", "tracker")),
+        ("run", (*cases.INDICES, "state", "tracker", "outcomes", "journal")),
+    ):
+        for at, first in enumerate(roles):
+            for second in roles[at:]:
+                two_faults(runs, command, roles, first, second, fit)
+
+
+def of_the_wrong_kind(runs):
+    """A file stands where that of another role belongs."""
+    lines = cases.read(WAVES["sources"]).splitlines(keepends=True)
+    versionless = b"".join(line for line in lines if not line.startswith(b"Version"))
+    versionless = runs.put("versionless", versionless)
+    archs, sources = WAVES["archs"], WAVES["sources"]
+    for what, command, changed, role, fault in (
+        ("a table that is none", "check", {"archs": sources}, "archs", "BadLine"),
+        ("a Packages index that is none", "check", {"packages": archs, "sources": archs},
+         "packages", "Stanza"),
+        ("sources without their versions", "check", {"sources": versionless},
+         "sources", "MissingField"),
+        ("sources that are no text", "check", {"sources": NO_TEXT}, "sources", "NotText"),
+        ("a tracker that is none", "waves", {"tracker": sources}, "tracker", "Syntax"),
+    ):
+        found = runs.end(words_of(command, changed))
+        runs.compare(what, found, 2, stderr=said_of(role, fault))
+
+
+def strange_rows(runs):
+    """Rows that the archive doesn't have come before the tracker and before standard input."""
+    strange = runs.put("strange", "zz/amd64 Installed 0 0\n")
+    lines = "\nte/amd64 Failed 0 0\nzz/amd64 Installed 0 0\naa/amd64 Installed 0 0\n"
+    strangers = runs.put("strangers", lines)
+    found = runs.end(words_of("track", {"state": strange}))
+    refused = said_of("state", "NoSuchRow")
+    runs.compare("a row that the archive hasn't", found, 2, stderr=refused)
+    why = 'state: line 3 has "zz/amd64 Installed 0 0"; wanted: a row that the indices give\n'
+    found = runs.end(words_of("track", {"state": strangers}, "--explain"))
+    runs.compare("the first line of a row that the archive hasn't", found, 2,
+                 stderr=refused + why.encode())
+    foobar = cases.options(cases.archive("foobar"))
+    found = runs.end(["run", *foobar, "--state", strange])
+    runs.compare("a row that the archive of a run hasn't", found, 2, stderr=refused)
+    # Outcomes are read without builders too, but not looked at.
+    found = runs.end(["run", *foobar, "--outcomes", NO_TEXT], runs.put("row", "row foo amd64\n"))
+    runs.compare("outcomes that are no text", found, 2, stderr=said_of("outcomes", "NotText"))
+
+
+def run_all(runs):
+    for group in (made, journals, long_texts, not_read, missing, first_of_two, of_the_wrong_kind,
+                  strange_rows):
+        group(runs)
